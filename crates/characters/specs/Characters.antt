@@ -1,0 +1,40 @@
+-- "Characters" of document 01: the 61 characters, their ranks and classes, and the order of two words.
+use mathlib.Core.Bool.{Bool, true, false, cond, _&&_, _||_}
+use mathlib.Core.List.{List, [], _∷_}
+use Prim.Native.Nat.{ℕ, suc}
+use lib.Dec.{leb, ltb, eqb}
+use Rattle.lists.specs.Lists.{ahead, among}
+
+-- "61 characters, in the order of Appendix A's columns, without ◊ and CS": a character of rank k is element k - 1
+abbrev pub ranked : List ℕ
+ranked =
+    32 ∷ 46 ∷ 40 ∷ 43 ∷ 42 ∷ 41 ∷ 59 ∷ 45 ∷ 47 ∷ 44 ∷ 58 ∷ 39 ∷ 61 ∷ 91 ∷ 93 ∷ 60 ∷ 62 ∷ 63 ∷ 27 ∷ 14
+    ∷ 65 ∷ 66 ∷ 67 ∷ 68 ∷ 69 ∷ 70 ∷ 71 ∷ 72 ∷ 73 ∷ 74 ∷ 75 ∷ 76 ∷ 77 ∷ 78 ∷ 79 ∷ 80 ∷ 81 ∷ 82 ∷ 83 ∷ 84 ∷ 85 ∷ 86 ∷ 87 ∷ 88 ∷ 89 ∷ 90
+    ∷ 15 ∷ 48 ∷ 49 ∷ 50 ∷ 51 ∷ 52 ∷ 53 ∷ 54 ∷ 55 ∷ 56 ∷ 57 ∷ 10 ∷ 12 ∷ 13 ∷ 127 ∷ []
+
+-- one of the 61
+unfoldable pub known : ℕ → Bool
+known b = among b ranked
+
+-- "Ranks run from 1 to 61"; a byte that is none of the 61 has 62
+abbrev pub rank : ℕ → ℕ
+rank b = suc (ahead (eqb b) ranked)
+
+abbrev pub between : ℕ → ℕ → ℕ → Bool
+between a b x = leb a x && leb x b
+
+abbrev pub isLetter : ℕ → Bool
+isLetter b = between 65 90 b
+
+abbrev pub isDigit : ℕ → Bool
+isDigit b = between 48 57 b
+
+-- "Classes: L letters, D digits, B space, R the rest": the class's letter, 76, 68, 66 or 82
+abbrev pub classOf : ℕ → ℕ
+classOf b = cond (isLetter b) 76 (cond (isDigit b) 68 (cond (eqb b 32) 66 82))
+
+-- "The order of two words compares the first characters and then the rest; a missing character comes before any other."
+abbrev pub precedes : List ℕ → List ℕ → Bool
+precedes xs [] = false
+precedes [] (y ∷ ys) = true
+precedes (x ∷ xs) (y ∷ ys) = ltb (rank x) (rank y) || (eqb x y && precedes xs ys)

@@ -1,0 +1,95 @@
+-- The one table of the 41 instructions: number, word, flow, and the arguments listed for each place (5.1 to 5.10). The loader (01, 02, 10),
+-- the check of a table (62) and of a state (63), and the machine all use it.
+use mathlib.Core.Bool.{Bool, true, false}
+use mathlib.Core.List.{List, [], _∷_}
+use Prim.Native.Nat.{ℕ, pred}
+use Prim.Native.String.{String}
+use lib.ListN.{getD}
+use Rattle.language.specs.Program.{Op}
+use Rattle.language.specs.Program.Op.{PRZESLIJ, CZYTAJ, PISZ, KOPIUJ, WSTAW, POBIERZ, SCHOWAJ, USTAW, ZAMIEN, UMIESC, USUN, SKRESL, RW, WK, MN, PP, NS, RZ, SKOCZ, WYKONAJ, SKOMI, SKOPL, WYMI, WYPL, SKONA, SKOIN, WYNA, WYIN, WROC, DODAJ, ODEJMIJ, MNOZ, DZIEL, SLOWO, LICZBA, ZBIJ, ROZBIJ, SZUKAJ, OMIN, COFNIJ, STOP}
+
+-- A form is a character: a letter of an indexed letter, t a text, n a number, c a class, l a label, x an INDEKS switch, w a NAZWA switch,
+-- - nothing. A list of forms has the three places of an instruction
+abbrev pub Forms : Type 0
+Forms = String × String × String
+
+-- whether an instruction falls through to the following one, calls, or never goes on to the following one
+pub data Flow : Type 0 where
+  through calls ends : Flow
+
+-- an instruction has one or two lists of forms
+pub record Operation : Type 0 where
+  pub number : ℕ
+  pub name : String
+  pub flow : Flow
+  pub forms : List Forms
+
+abbrev row : ℕ → String → Flow → List Forms → Operation
+row n w f fs = record { number = n; name = w; flow = f; forms = fs }
+
+abbrev pub operation : Op → Operation
+operation PRZESLIJ = row 1 "PRZESLIJ" through (("AB", "ABYZ", "-nNctBT") ∷ [])
+operation CZYTAJ = row 2 "CZYTAJ" through (("I", "ABYZ", "-nNctBT") ∷ [])
+operation PISZ = row 3 "PISZ" through (("AB", "Q", "-nNctBT") ∷ [])
+operation KOPIUJ = row 4 "KOPIUJ" through (("CD", "CD", "-nNtBTE") ∷ [])
+operation WSTAW = row 5 "WSTAW" through (("AB", "CD", "-") ∷ [])
+operation POBIERZ = row 6 "POBIERZ" through (("CD", "ABYZ", "-") ∷ [])
+operation SCHOWAJ = row 7 "SCHOWAJ" through (("P", "ABYZ", "-") ∷ [])
+operation USTAW = row 8 "USTAW" through (("AB", "P", "-") ∷ [])
+operation ZAMIEN = row 9 "ZAMIEN" through (("E", "E", "-") ∷ ("P", "P", "-") ∷ [])
+operation UMIESC = row 10 "UMIESC" through (("nt", "ABYZCD", "-") ∷ ("t", "Q", "-") ∷ [])
+operation USUN = row 11 "USUN" through (("AI", "-nNctBT", "-") ∷ [])
+operation SKRESL = row 12 "SKRESL" through (("C", "-nNtBTE", "-") ∷ [])
+operation RW = row 13 "RW" through (("ABT", "nN", "-") ∷ ("ABTI", "tcBT", "-") ∷ [])
+operation WK = row 14 "WK" through (("B", "nB", "-") ∷ [])
+operation MN = row 15 "MN" through (("B", "nB", "-") ∷ [])
+operation PP = row 16 "PP" through (("B", "tB", "-") ∷ [])
+operation NS = row 17 "NS" through (("B", "tB", "-") ∷ [])
+operation RZ = row 18 "RZ" through (("P", "ntBENT", "-") ∷ [])
+operation SKOCZ = row 19 "SKOCZ" ends (("l", "-", "-") ∷ [])
+operation WYKONAJ = row 20 "WYKONAJ" calls (("l", "-", "-") ∷ [])
+operation SKOMI = row 21 "SKOMI" through (("l", "-", "-") ∷ [])
+operation SKOPL = row 22 "SKOPL" through (("l", "-", "-") ∷ [])
+operation WYMI = row 23 "WYMI" calls (("l", "-", "-") ∷ [])
+operation WYPL = row 24 "WYPL" calls (("l", "-", "-") ∷ [])
+operation SKONA = row 25 "SKONA" through (("AB", "w", "-") ∷ [])
+operation SKOIN = row 26 "SKOIN" through (("AB", "x", "-") ∷ [])
+operation WYNA = row 27 "WYNA" calls (("AB", "w", "-") ∷ [])
+operation WYIN = row 28 "WYIN" calls (("AB", "x", "-") ∷ [])
+operation WROC = row 29 "WROC" ends (("-", "-", "-") ∷ [])
+operation DODAJ = row 30 "DODAJ" through (("A", "nB", "-") ∷ [])
+operation ODEJMIJ = row 31 "ODEJMIJ" through (("A", "nB", "-") ∷ [])
+operation MNOZ = row 32 "MNOZ" through (("A", "nB", "-") ∷ [])
+operation DZIEL = row 33 "DZIEL" through (("A", "nB", "-") ∷ [])
+operation SLOWO = row 34 "SLOWO" through (("AB", "-", "-") ∷ [])
+operation LICZBA = row 35 "LICZBA" through (("AB", "-", "-") ∷ [])
+operation ZBIJ = row 36 "ZBIJ" through (("AB", "-nNctBT", "-") ∷ [])
+operation ROZBIJ = row 37 "ROZBIJ" through (("AB", "-nNctBT", "-") ∷ [])
+operation SZUKAJ = row 38 "SZUKAJ" through (("AB", "w", "-") ∷ [])
+operation OMIN = row 39 "OMIN" through (("P", "-nNtBTE", "-") ∷ [])
+operation COFNIJ = row 40 "COFNIJ" through (("P", "-", "-") ∷ [])
+operation STOP = row 41 "STOP" ends (("-", "-", "-") ∷ [])
+
+-- all of them, by their numbers from 1
+abbrev pub operators : List Op
+operators =
+    PRZESLIJ ∷ CZYTAJ ∷ PISZ ∷ KOPIUJ ∷ WSTAW ∷ POBIERZ ∷ SCHOWAJ ∷ USTAW ∷ ZAMIEN ∷ UMIESC ∷ USUN ∷ SKRESL
+    ∷ RW ∷ WK ∷ MN ∷ PP ∷ NS ∷ RZ
+    ∷ SKOCZ ∷ WYKONAJ ∷ SKOMI ∷ SKOPL ∷ WYMI ∷ WYPL ∷ SKONA ∷ SKOIN ∷ WYNA ∷ WYIN ∷ WROC
+    ∷ DODAJ ∷ ODEJMIJ ∷ MNOZ ∷ DZIEL ∷ SLOWO ∷ LICZBA ∷ ZBIJ ∷ ROZBIJ
+    ∷ SZUKAJ ∷ OMIN ∷ COFNIJ ∷ STOP ∷ []
+
+-- the instruction of a number, STOP where there is none
+abbrev pub operator-of : ℕ → Op
+operator-of n = getD operators (pred n) STOP
+
+abbrev pub is-call : Flow → Bool
+is-call through = false
+is-call calls = true
+is-call ends = false
+
+-- "the last of them STOP, SKOCZ or WROC"
+abbrev pub is-end : Flow → Bool
+is-end through = false
+is-end calls = false
+is-end ends = true

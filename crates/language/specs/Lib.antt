@@ -1,0 +1,5 @@
+pub mod Limits
+pub mod Letters
+pub mod Values
+pub mod Program
+pub mod Instructions

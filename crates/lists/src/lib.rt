@@ -1,0 +1,1 @@
+// Lists and quoted texts: definitions and laws for the specification; no code.

@@ -1,0 +1,220 @@
+-- What the arguments of an instruction mean: the values they offer, what they ask, and the tests of moves.
+use mathlib.Core.Bool.{Bool, true, false, not, cond, _&&_, _||_}
+use mathlib.Core.List.{List, [], _∷_, _++_, map, reverse}
+use Prim.Native.Nat.{ℕ, zero, suc, pred, _+_, _*_, _-_, min}
+use lib.Dec.{leb, ltb, eqb}
+use lib.ListN.{length, getD, take, drop, set}
+use lib.IntN.{ℤ, pos, negsuc, _+ℤ_, _-ℤ_, _*ℤ_, natAbs}
+use lib.Signed.{ltZ, nonNeg, quotZ, remZ}
+use Rattle.language.specs.Letters.{Var, Reading, Use, use-of}
+use Rattle.language.specs.Letters.Letter.{B}
+use Rattle.language.specs.Letters.Var.{expression, input, output, file}
+use Rattle.language.specs.Letters.Reading.{one, count, any-of, whole}
+use Rattle.language.specs.Program.{Arg}
+use Rattle.language.specs.Program.Arg.{nothing, letter, label, switch, class, text}
+use Rattle.language.specs.Values.{Component, Record, File, Store, Inputs, empty-file, value, kind, same, ofClass}
+use Rattle.language.specs.Values.Component.{word, address}
+use Rattle.lists.specs.Lists.{all, any, ahead, filled, headOr, ifAny, sameList}
+
+-- An argument's index, or its label's or switch's place; its letter's use
+abbrev pub place : Arg → ℕ
+place nothing = 0
+place (letter l n) = n
+place (label n) = n
+place (switch n) = n
+place (class cs) = 0
+place (text t) = 0
+place (Arg.number z) = 0
+
+abbrev pub use-by : Arg → Use
+use-by nothing = use-of B
+use-by (letter l n) = use-of l
+use-by (label n) = use-of B
+use-by (switch n) = use-of B
+use-by (class cs) = use-of B
+use-by (text t) = use-of B
+use-by (Arg.number z) = use-of B
+
+-- Reading the state (4.2.1.1)
+
+abbrev pub at : {X : Type 0} → X → List X → Arg → X
+at d xs a = getD xs (pred (place a)) d
+
+abbrev pub expr : Store → Arg → List Component
+expr s a = at [] (s .exprs) a
+
+abbrev pub file-of : Store → Arg → File
+file-of s a = at empty-file (s .files) a
+
+abbrev pub records : File → List Record
+records f = f .before ++ f .after
+
+abbrev pub next-parts : File → List Component
+next-parts f = ifAny [] (λ r. r .parts) (f .after)
+
+-- what is not yet read of an input
+abbrev pub unread : Inputs → Store → Arg → List ℕ
+unread ins s a = drop (at 0 (s .places) a) (at [] ins a)
+
+abbrev pub first : List Component → Component
+first xs = headOr (word []) xs
+
+abbrev pub char : ℕ → Component
+char x = word (x ∷ [])
+
+-- the components that an argument offers for comparison and use; of one that is asked for a single component, at most one
+abbrev pub read-by : Inputs → Store → Arg → Var → Reading → List Component
+read-by ins s a expression one = take 1 (expr s a)
+read-by ins s a expression count = take 1 (expr s a)
+read-by ins s a expression any-of = expr s a
+read-by ins s a expression whole = expr s a
+read-by ins s a input r = map char (take 1 (unread ins s a))
+read-by ins s a output r = []
+read-by ins s a file r = take 1 (next-parts (file-of s a))
+
+abbrev pub side : Inputs → Store → Arg → List Component
+side ins s nothing = []
+side ins s (letter l n) = read-by ins s (letter l n) (use-of l .var) (use-of l .reading)
+side ins s (label n) = []
+side ins s (switch n) = []
+side ins s (class cs) = []
+side ins s (text t) = word t ∷ []
+side ins s (Arg.number z) = Component.number z ∷ []
+
+-- whether a single component is asked for
+abbrev pub is-one : Reading → Bool
+is-one one = true
+is-one count = true
+is-one any-of = false
+is-one whole = false
+
+abbrev pub is-count : Reading → Bool
+is-count one = false
+is-count count = true
+is-count any-of = false
+is-count whole = false
+
+abbrev pub is-whole : Reading → Bool
+is-whole one = false
+is-whole count = false
+is-whole any-of = false
+is-whole whole = true
+
+abbrev pub single : Arg → Bool
+single nothing = false
+single (letter l n) = is-one (use-of l .reading)
+single (label n) = false
+single (switch n) = false
+single (class cs) = false
+single (text t) = true
+single (Arg.number z) = true
+
+-- Questions on a step ("A step. .."): the answer to each number. What an instruction does not ask is answered yes
+
+abbrev pub Asks : Type 0
+Asks = ℕ → Bool
+
+abbrev pub none : Asks
+none n = true
+
+abbrev pub ask : ℕ → Bool → Asks
+ask k b n = cond (eqb n k) b true
+
+infixl 40 _&_
+abbrev pub _&_ : Asks → Asks → Asks
+_&_ x y n = x n && y n
+
+-- the component is there (52); the first one, if any, is of the kind (53); two are of one kind
+abbrev pub present : List Component → Asks
+present xs = ask 52 (filled xs)
+
+abbrev pub is : ℕ → List Component → Asks
+is k xs = ask 53 (all (λ x. eqb (kind x) k) (take 1 xs))
+
+abbrev pub alike : List Component → List Component → Asks
+alike xs ys = ask 53 (all (λ x. all (λ y. eqb (kind x) (kind y)) (take 1 ys)) (take 1 xs))
+
+abbrev pub when : Bool → Asks → Asks
+when b x = cond b x none
+
+abbrev pub needs : ℕ → List Component → Asks
+needs k xs = present xs & is k xs
+
+-- Tests (5.1): how many elements a move takes, and whether its test was reached. "A count is 0 or more. Equal to what is there, it is reached."
+
+pub data Until (X : Type 0) : Type 0 where
+  everything : Until X
+  number-of : ℕ → Until X
+  up-to : (X → Bool) → Until X
+
+abbrev pub taken : {X : Type 0} → Until X → List X → ℕ × Bool
+taken everything xs = (length xs, true)
+taken (number-of n) xs = (min n (length xs), leb n (length xs))
+taken (up-to p) xs = (ahead p xs, any p xs)
+
+-- whether a component is one that an argument of a test or relation means; `trim` cuts what it is compared with
+abbrev pub matches : (Component → Component) → Inputs → Store → Arg → Component → Bool
+matches trim ins s nothing x = false
+matches trim ins s (letter l n) x = any (same x) (map trim (side ins s (letter l n)))
+matches trim ins s (label n) x = false
+matches trim ins s (switch n) x = false
+matches trim ins s (class cs) x = ofClass cs x
+matches trim ins s (text t) x = same x (trim (word t))
+matches trim ins s (Arg.number z) x = same x (Component.number z)
+
+-- a count that is negative takes nothing
+abbrev pub taking : ℤ → ℕ
+taking (pos n) = n
+taking (negsuc n) = 0
+
+-- The test of an argument on elements, by their key. "Tests of KOPIUJ, SKRESL and OMIN compare a record's first component, with E the whole
+-- record." "Tests of moves, and T, treat another kind as not equal."
+module _ {X : Type 0} (key : X → Component) (trim : Component → Component) (parts : X → List Component) (ins : Inputs) (s : Store) where
+  abbrev pub by-reading : Reading → Arg → Until X
+  by-reading one a = up-to (λ x. matches trim ins s a (key x))
+  by-reading count a = number-of (taking (value (first (side ins s a))))
+  by-reading any-of a = up-to (λ x. matches trim ins s a (key x))
+  by-reading whole a = up-to (λ x. sameList same (parts x) (expr s a))
+
+  abbrev pub test : Arg → Until X
+  test nothing = everything
+  test (letter l n) = by-reading (use-of l .reading) (letter l n)
+  test (label n) = everything
+  test (switch n) = everything
+  test (class cs) = up-to (λ x. ofClass cs (key x))
+  test (text t) = up-to (λ x. same (key x) (trim (word t)))
+  test (Arg.number z) = number-of (taking z)
+
+-- "In tests of characters only the first character of a text or component counts."
+abbrev pub cut : Component → Component
+cut (word w) = word (take 1 w)
+cut (Component.number z) = Component.number z
+cut (address n) = address n
+
+abbrev pub on-parts : Inputs → Store → Arg → Until Component
+on-parts ins s c = test (λ x. x) (λ x. x) (λ x. x ∷ []) ins s c
+
+abbrev pub on-chars : Inputs → Store → Arg → Until ℕ
+on-chars ins s c = test char cut (λ x. char x ∷ []) ins s c
+
+abbrev pub on-records : Inputs → Store → Arg → Until Record
+on-records ins s c = test (λ r. first (r .parts)) (λ x. x) (λ r. r .parts) ins s c
+
+-- how many elements of the variable of a the test c takes, and whether it was reached
+abbrev pub reach : Inputs → Store → Var → Arg → Arg → ℕ × Bool
+reach ins s expression a c = taken (on-parts ins s c) (expr s a)
+reach ins s input a c = taken (on-chars ins s c) (unread ins s a)
+reach ins s output a c = (0, true)
+reach ins s file a c = taken (on-records ins s c) (file-of s a .after)
+
+-- what a test asks: a component by B or N, of N a number, and a count that is not negative
+abbrev pub test-asks : Inputs → Store → Arg → Asks
+test-asks ins s nothing = none
+test-asks ins s (letter l n) =
+    let xs = side ins s (letter l n) in
+    when (single (letter l n)) (present xs) & when (is-count (use-of l .reading)) (is 1 xs & ask 54 (nonNeg (value (first xs))))
+test-asks ins s (label n) = none
+test-asks ins s (switch n) = none
+test-asks ins s (class cs) = none
+test-asks ins s (text t) = none
+test-asks ins s (Arg.number z) = ask 54 (nonNeg z)
