@@ -1,0 +1,5 @@
+pub mod Cells
+pub mod Table
+pub mod Components
+pub mod Strings
+pub mod Memory
