@@ -1,6 +1,7 @@
 -- Components and records in bytes. A word is its length (1 to 255) and its characters; a number is 0, 1 and its code in three cells; an address
--- is 0, 2 and three cells. A record is its address in three cells, the length of its components in two, and the components. So equal components
--- have equal bytes, and the first cell tells how many cells a component takes.
+-- is 0, 2 and three cells. A record is its address in three cells, the length of its components in two, the components, and the length again, so
+-- that the last record of a string is found from its end. Equal components have equal bytes, and the first cell tells how many cells a component
+-- takes.
 use mathlib.Core.Bool.{Bool, true, false, cond}
 use mathlib.Core.List.{List, [], _∷_, _++_}
 use Prim.Native.Nat.{ℕ, zero, suc, _+_}
@@ -20,7 +21,9 @@ components-bytes [] = []
 components-bytes (x ∷ xs) = component-bytes x ++ components-bytes xs
 
 unfoldable pub record-bytes : Record → List ℕ
-record-bytes r = three (r .addr) ++ (two (length (components-bytes (r .parts))) ++ components-bytes (r .parts))
+record-bytes r =
+    let l = components-bytes (r .parts) in
+    three (r .addr) ++ (two (length l) ++ (l ++ two (length l)))
 
 unfoldable pub records-bytes : List Record → List ℕ
 records-bytes [] = []
@@ -51,7 +54,7 @@ record-in l = record { addr = three-at 0 l; parts = components-in (take (two-at 
 unfoldable pub records-from : ℕ → List ℕ → List Record
 records-from zero l = []
 records-from (suc n) [] = []
-records-from (suc n) (x ∷ l) = record-in (x ∷ l) ∷ records-from n (drop (5 + two-at 3 (x ∷ l)) (x ∷ l))
+records-from (suc n) (x ∷ l) = record-in (x ∷ l) ∷ records-from n (drop (7 + two-at 3 (x ∷ l)) (x ∷ l))
 
 unfoldable pub records-in : List ℕ → List Record
 records-in l = records-from (length l) l

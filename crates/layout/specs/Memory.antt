@@ -48,8 +48,10 @@ state-cells s = each three (scalars s) ++ string-cells (strings s)
 
 -- ---- reading
 
-abbrev pub scalar : ℕ → List ℕ → ℕ
-scalar k m = three-at (3 * k) m
+-- n numbers of three cells
+unfoldable pub threes-in : ℕ → List ℕ → List ℕ
+threes-in zero m = []
+threes-in (suc n) m = three-at 0 m ∷ threes-in n (drop 3 m)
 
 unfoldable pub files-in : ℕ → List (List ℕ) → List File
 files-in zero vs = []
@@ -60,21 +62,24 @@ twos-in [] = []
 twos-in (x ∷ []) = []
 twos-in (x ∷ y ∷ l) = (x + 256 * y) ∷ twos-in l
 
-unfoldable pub state-in : List ℕ → State
-state-in m =
-    let vs = strings-in (drop 24 m) in
+-- the state of 99 strings and eight scalars
+unfoldable pub state-by : List (List ℕ) → List ℕ → State
+state-by vs ns =
     record {
       store = record {
         exprs = map components-in (take limit.expressions vs);
         files = files-in limit.files (drop 32 vs);
-        plus = eqb (scalar 0 m) 1;
+        plus = eqb (getD ns 0 0) 1;
         outputs = drop 97 vs;
-        places = scalar 1 m ∷ scalar 2 m ∷ [];
-        last = scalar 4 m;
+        places = getD ns 1 0 ∷ getD ns 2 0 ∷ [];
+        last = getD ns 4 0;
       };
-      next = scalar 3 m;
+      next = getD ns 3 0;
       stack = twos-in (getD vs 96 []);
     }
+
+unfoldable pub state-in : List ℕ → State
+state-in m = state-by (strings-in (drop 24 m)) (threes-in 8 m)
 
 -- ---- question 63
 
