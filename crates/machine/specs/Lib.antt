@@ -4,4 +4,14 @@ pub mod Effects
 pub mod Runs
 pub mod Steps
 pub mod WellFormed
+pub mod Addresses
+pub mod Keeps
+pub mod RunLaws
+pub mod SumLaws
+pub mod ValueLaws
+pub mod AddressLaws
+pub mod KeepLaws
+pub mod ChangeLaws
+pub mod CleanLaws
+pub mod EffectLaws
 pub mod Examples

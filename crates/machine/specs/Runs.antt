@@ -1,6 +1,6 @@
 -- Runs of any step under a budget ("takes at most the budget of steps").
 use mathlib.Core.Path.{_≡_}
-use Prim.Native.Nat.{ℕ, zero, suc, _<_}
+use Prim.Native.Nat.{ℕ, zero, suc, _+_, _<_}
 
 -- a step stops with a number, or goes on to a state
 pub data Outcome (S : Type 0) : Type 0 where
@@ -31,6 +31,14 @@ module _ {S : Type 0} (step : S → Outcome S) where
   abbrev pub run : ℕ → S → Run S
   run zero s = ran pause 0 s
   run (suc k) s = after s (run k) (step s)
+
+  -- where a run paused, it goes on for a budget of b
+  abbrev pub goes-on : ℕ → S → ℕ → Answer → Run S
+  goes-on b s c pause = let r = run b s in ran (r .answer) (c + r .count) (r .state)
+  goes-on b s c (stopped n) = ran (stopped n) c s
+
+  abbrev pub resumed : ℕ → Run S → Run S
+  resumed b r = goes-on b (r .state) (r .count) (r .answer)
 
   -- s becomes t in n steps
   pub data Goes : ℕ → S → S → Type 0 where
