@@ -1,11 +1,12 @@
 -- Laws of addresses: what the count of a number says of a list whose elements are different, or all pass a test.
-use mathlib.Core.Path.{_≡_, refl, ap, sym, _∙_, subst}
+use mathlib.Core.Path.{_≡_, refl}
 use mathlib.Core.Bool.{Bool, true, false, not, cond, _&&_, _||_}
 use mathlib.Core.List.{List, [], _∷_, _++_, map}
 use Prim.Native.Nat.{ℕ, zero, suc, _+_, _≤_, _<_}
 use native.Mathlib.Omega.{arith}
 use native.Mathlib.Decide.{decLe}
-use lib.Dec.{T, eqb, eqb→eq, eqb-refl, T-not, not-T}
+use lib.Dec.{T, eqb, eqb-refl, T-not, not-T}
+use borrow.Author.Tests.{eqb-true}
 use Rattle.lists.specs.Lists.{total, all, among}
 use Rattle.lists.specs.ListLaws.{T-left, T-right, T-both, all-among, all-cons, total-append, total-map}
 use Rattle.language.specs.Values.{File, Store}
@@ -23,6 +24,10 @@ equal-self n = go (eqb n n) (eqb-refl n)
     go false h = absurd h
 
 -- Addresses still to be given
+
+pub ungiven-le : (l n : ℕ) → ungiven l n ≤ 1
+unfolding ungiven
+ungiven-le l n = omega arith
 
 pub ungiven-0 : (l : ℕ) → ungiven l 0 ≡ 0
 unfolding ungiven
@@ -42,7 +47,7 @@ unfolding equal-count ungiven
 ungiven-next l n = go (eqb n (suc l)) refl
   where
     go : (b : Bool) → eqb n (suc l) ≡ b → cond b 1 0 + ungiven (suc l) n ≤ ungiven l n
-    go true e = let q : n ≡ suc l = eqb→eq n (suc l) (subst T (sym e) tt) in omega arith
+    go true e = let q : n ≡ suc l = eqb-true n (suc l) e in omega arith
     go false e = omega arith
 
 -- Lists of numbers: what is among them is counted
@@ -80,7 +85,7 @@ different-once n (x ∷ ns) h = go (eqb n x) refl (decLe 1 (count-of n ns)) (dif
   where
     go : (b : Bool) → eqb n x ≡ b → Dec (1 ≤ count-of n ns) → count-of n ns ≤ 1 → cond b 1 0 + count-of n ns ≤ 1
     go true e (yes k) l =
-        let q : n ≡ x = eqb→eq n x (subst T (sym e) tt) in
+        let q : n ≡ x = eqb-true n x e in
         absurd (T-not (among x ns) (T-left (not (among x ns)) (different eqb ns) h) (rw q at (counted-among n ns k)))
     go true e (no k) l = omega arith
     go false e d l = omega arith

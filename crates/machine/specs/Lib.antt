@@ -6,6 +6,7 @@ pub mod Steps
 pub mod WellFormed
 pub mod Addresses
 pub mod Keeps
+pub mod Facts
 pub mod RunLaws
 pub mod SumLaws
 pub mod ValueLaws
@@ -14,4 +15,7 @@ pub mod KeepLaws
 pub mod ChangeLaws
 pub mod CleanLaws
 pub mod EffectLaws
+pub mod WellFormedLaws
+pub mod ControlLaws
+pub mod StepLaws
 pub mod Examples

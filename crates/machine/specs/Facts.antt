@@ -1,0 +1,54 @@
+-- What the tests of well-formed programs and states say, as facts with names.
+use mathlib.Core.Path.{_≡_}
+use Prim.Native.Nat.{ℕ, pred, _≤_, _<_}
+use lib.Dec.{T}
+use lib.ListN.{length}
+use Rattle.lists.specs.Lists.{total, all}
+use Rattle.language.specs.Limits as limit
+use Rattle.language.specs.Instructions.{operation, is-end}
+use Rattle.language.specs.Program.{Instr, Label, Program, instr-at}
+use Rattle.language.specs.Values.{Store, State, Inputs}
+use Rattle.machine.specs.Changes.{fits}
+use Rattle.machine.specs.WellFormed.{identifier, ranged, listed, good-instr, good-label, good-switch, good-return, good-store}
+use Rattle.machine.specs.Keeps.{Sound}
+
+pub record InstrFacts (p : Program) (i : Instr) : Type 0 where
+  pub forms : T (listed p i)
+  pub first : T (ranged p (i .first))
+  pub second : T (ranged p (i .second))
+  pub third : T (ranged p (i .third))
+  pub line-from : 0 < i .line
+  pub line-to : i .line ≤ limit.text
+
+pub record LabelFacts (p : Program) (l : Label) : Type 0 where
+  pub name : T (identifier (l .name))
+  pub short : length (l .name) ≤ limit.item
+  pub target : l .target < length (p .code)
+
+pub record ProgramFacts (p : Program) : Type 0 where
+  pub filled : 0 < length (p .code)
+  pub code-short : length (p .code) ≤ limit.instructions
+  pub labels-few : length (p .labels) ≤ limit.labels
+  pub switches-few : length (p .switches) ≤ limit.switches
+  pub entries-few : total (λ w. length (w .entries)) (p .switches) ≤ limit.entries
+  pub texts-few : length (p .texts) ≤ limit.texts
+  pub numbers-few : length (p .numbers) ≤ limit.numbers
+  pub instructions : T (all (good-instr p) (p .code))
+  pub labels : T (all (good-label p) (p .labels))
+  pub switches : T (all (good-switch p) (p .switches))
+  pub ends : T (is-end (operation (instr-at p (pred (length (p .code))) .op) .flow))
+
+pub record StoreFacts (ins : Inputs) (s : Store) : Type 0 where
+  pub exprs : length (s .exprs) ≡ limit.expressions
+  pub files : length (s .files) ≡ limit.files
+  pub outputs : length (s .outputs) ≡ limit.outputs
+  pub places : length (s .places) ≡ limit.inputs
+  pub limits : T (fits s)
+  pub given : s .last ≤ limit.addresses
+  pub sound : Sound ins s
+
+pub record StateFacts (p : Program) (ins : Inputs) (s : State) : Type 0 where
+  pub store : T (good-store ins (s .store))
+  pub next : s .next < length (p .code)
+  pub depth : length (s .stack) ≤ limit.stack
+  pub returns : T (all (good-return p) (s .stack))
