@@ -18,4 +18,6 @@ pub mod EffectLaws
 pub mod WellFormedLaws
 pub mod ControlLaws
 pub mod StepLaws
+pub mod Notation
 pub mod Examples
+pub mod Manual
