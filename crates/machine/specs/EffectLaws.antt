@@ -123,10 +123,10 @@ module _ (ins : Inputs) (p : Program) (s : Store) where
     row-keeps RZ y = relation-keeps i h _ _ a
     row-keeps SKOCZ y = keeps-refl ins s
     row-keeps WYKONAJ y = keeps-refl ins s
-    row-keeps SKOMI y = with-plus-keeps ins true s
-    row-keeps SKOPL y = with-plus-keeps ins true s
-    row-keeps WYMI y = with-plus-keeps ins true s
-    row-keeps WYPL y = with-plus-keeps ins true s
+    row-keeps SKOMI y = with-plus-keeps ins _ s
+    row-keeps SKOPL y = with-plus-keeps ins _ s
+    row-keeps WYMI y = with-plus-keeps ins _ s
+    row-keeps WYPL y = with-plus-keeps ins _ s
     row-keeps SKONA y = by-name-keeps i h jump s a b (keeps-refl ins s)
     row-keeps SKOIN y = used-keeps ins a s h
     row-keeps WYNA y = by-name-keeps i h call (minus s) a b (minus-keeps ins s)

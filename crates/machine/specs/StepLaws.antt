@@ -111,8 +111,8 @@ module _ (p : Program) (ins : Inputs) where
             let goes = T-left (can-go (r .2) (s .stack)) true (T-left (can-go (r .2) (s .stack) && true) true (after-asks 57 tt)) in
             shut-state p ins t
             (
-              record {
-                store = shut-store ins (t .store) (
+            record {
+              store = shut-store ins (t .store) (
                   record {
                     exprs = k .exprs ∙ f .exprs;
                     files = k .files ∙ f .files;
@@ -122,11 +122,11 @@ module _ (p : Program) (ins : Inputs) where
                     given = leb→le (t .store .last) limit.addresses (after-asks 60 tt);
                     sound = keeps-sound ins made-keeps state-sound;
                   }
-                );
-                next = gone-in p program (s .next) (s .stack) (state .next) (state .returns) (r .2) made-allowed goes;
-                depth = leb→le (length (t .stack)) limit.stack (T-right (fits (t .store)) (leb (length (t .stack)) limit.stack) limits);
-                returns = gone-returns p program (s .next) (s .stack) (state .returns) (r .2) made-allowed;
-              }
+                  );
+              next = gone-in p program (s .next) (s .stack) (state .next) (state .returns) (r .2) made-allowed goes;
+              depth = leb→le (length (t .stack)) limit.stack (T-right (fits (t .store)) (leb (length (t .stack)) limit.stack) limits);
+              returns = gone-returns p program (s .next) (s .stack) (state .returns) (r .2) made-allowed;
+            }
             )
 
         pub step-keeps : Keeps ins (s .store) (t .store)
