@@ -1,4 +1,4 @@
--- What the arguments of an instruction mean: the values they offer, what they ask, and the tests of moves.
+-- What the arguments of an instruction mean (4.2): the values that they offer, what they ask, and the tests of moves (5.1).
 use mathlib.Core.Bool.{Bool, true, false, not, cond, _&&_, _||_}
 use mathlib.Core.List.{List, [], _∷_, _++_, map, reverse}
 use Prim.Native.Nat.{ℕ, zero, suc, pred, _+_, _*_, _-_, min}
@@ -16,7 +16,7 @@ use Rattle.language.specs.Values.{Component, Record, File, Store, Inputs, empty
 use Rattle.language.specs.Values.Component.{word, address}
 use Rattle.lists.specs.Lists.{all, any, ahead, filled, headOr, ifAny, sameList}
 
--- An argument's index, or its label's or switch's place; its letter's use
+-- an argument's index, or its label's or switch's place
 abbrev pub place : Arg → ℕ
 place nothing = 0
 place (letter l n) = n
@@ -26,6 +26,7 @@ place (class cs) = 0
 place (text t) = 0
 place (Arg.number z) = 0
 
+-- its letter's use
 abbrev pub use-by : Arg → Use
 use-by nothing = use-of B
 use-by (letter l n) = use-of l
@@ -35,7 +36,7 @@ use-by (class cs) = use-of B
 use-by (text t) = use-of B
 use-by (Arg.number z) = use-of B
 
--- Reading the state (4.2.1.1)
+-- Reading the state (4.2.1.1, 4.2.1.3). Variables are counted from 1
 
 abbrev pub at : {X : Type 0} → X → List X → Arg → X
 at d xs a = getD xs (pred (place a)) d
@@ -49,6 +50,7 @@ file-of s a = at empty-file (s .files) a
 abbrev pub records : File → List Record
 records f = f .before ++ f .after
 
+-- the components of the record after the pointer
 abbrev pub next-parts : File → List Component
 next-parts f = ifAny [] (λ r. r .parts) (f .after)
 
@@ -59,10 +61,12 @@ unread ins s a = drop (at 0 (s .places) a) (at [] ins a)
 abbrev pub first : List Component → Component
 first xs = headOr (word []) xs
 
+-- a character as a word
 abbrev pub char : ℕ → Component
 char x = word (x ∷ [])
 
--- the components that an argument offers for comparison and use; of one that is asked for a single component, at most one
+-- The components that an argument offers for comparison and use: A, B and N the first of an expression, T and E all of them, I the first
+-- character, P the first of the record after the pointer ("RZ looks at the record after the pointer.")
 abbrev pub read-by : Inputs → Store → Arg → Var → Reading → List Component
 read-by ins s a expression one = take 1 (expr s a)
 read-by ins s a expression count = take 1 (expr s a)
@@ -72,6 +76,7 @@ read-by ins s a input r = map char (take 1 (unread ins s a))
 read-by ins s a output r = []
 read-by ins s a file r = take 1 (next-parts (file-of s a))
 
+-- "a text or number argument counts as a component"
 abbrev pub side : Inputs → Store → Arg → List Component
 side ins s nothing = []
 side ins s (letter l n) = read-by ins s (letter l n) (use-of l .var) (use-of l .reading)
@@ -109,7 +114,7 @@ single (class cs) = false
 single (text t) = true
 single (Arg.number z) = true
 
--- Questions on a step ("A step. .."): the answer to each number. What an instruction does not ask is answered yes
+-- Questions on a step ("A step. .."): the answer to each number, true for yes. What an instruction does not ask is answered yes
 
 abbrev pub Asks : Type 0
 Asks = ℕ → Bool
@@ -124,10 +129,11 @@ infixl 40 _&_
 abbrev pub _&_ : Asks → Asks → Asks
 _&_ x y n = x n && y n
 
--- the component is there (52); the first one, if any, is of the kind (53); two are of one kind
+-- "Has each expression, and for RZ the file, the component asked for .. ? 52"
 abbrev pub present : List Component → Asks
 present xs = ask 52 (filled xs)
 
+-- "Is it of the right kind .. ? 53": the first component, if any, is of kind k; two first components are of one kind
 abbrev pub is : ℕ → List Component → Asks
 is k xs = ask 53 (all (λ x. eqb (kind x) k) (take 1 xs))
 
@@ -140,7 +146,8 @@ when b x = cond b x none
 abbrev pub needs : ℕ → List Component → Asks
 needs k xs = present xs & is k xs
 
--- Tests (5.1): how many elements a move takes, and whether its test was reached. "A count is 0 or more. Equal to what is there, it is reached."
+-- Tests (5.1.1): up to which element a move takes, how many that are, and whether the test was reached. "A count is 0 or more. Equal to what is
+-- there, it is reached."
 
 pub data Until (X : Type 0) : Type 0 where
   everything : Until X
@@ -152,7 +159,8 @@ taken everything xs = (length xs, true)
 taken (number-of n) xs = (min n (length xs), leb n (length xs))
 taken (up-to p) xs = (ahead p xs, any p xs)
 
--- whether a component is one that an argument of a test or relation means; `trim` cuts what it is compared with
+-- Whether a component is one that the argument of a test or relation means; `trim` cuts what it is compared with. "Tests of moves, and T, treat
+-- another kind as not equal. T on an empty expression never holds."
 abbrev pub matches : (Component → Component) → Inputs → Store → Arg → Component → Bool
 matches trim ins s nothing x = false
 matches trim ins s (letter l n) x = any (same x) (map trim (side ins s (letter l n)))
@@ -162,13 +170,13 @@ matches trim ins s (class cs) x = ofClass cs x
 matches trim ins s (text t) x = same x (trim (word t))
 matches trim ins s (Arg.number z) x = same x (Component.number z)
 
--- a count that is negative takes nothing
+-- a count as a length; a negative one is refused (54)
 abbrev pub taking : ℤ → ℕ
 taking (pos n) = n
 taking (negsuc n) = 0
 
--- The test of an argument on elements, by their key. "Tests of KOPIUJ, SKRESL and OMIN compare a record's first component, with E the whole
--- record." "Tests of moves, and T, treat another kind as not equal."
+-- The test that an argument makes on elements: an element is compared by its key, with E by all its parts. "Tests of KOPIUJ, SKRESL and OMIN
+-- compare a record's first component, with E the whole record."
 module _ {X : Type 0} (key : X → Component) (trim : Component → Component) (parts : X → List Component) (ins : Inputs) (s : Store) where
   abbrev pub by-reading : Reading → Arg → Until X
   by-reading one a = up-to (λ x. matches trim ins s a (key x))
@@ -191,6 +199,7 @@ cut (word w) = word (take 1 w)
 cut (Component.number z) = Component.number z
 cut (address n) = address n
 
+-- on components, characters, records
 abbrev pub on-parts : Inputs → Store → Arg → Until Component
 on-parts ins s c = test (λ x. x) (λ x. x) (λ x. x ∷ []) ins s c
 
@@ -207,7 +216,7 @@ reach ins s input a c = taken (on-chars ins s c) (unread ins s a)
 reach ins s output a c = (0, true)
 reach ins s file a c = taken (on-records ins s c) (file-of s a .after)
 
--- what a test asks: a component by B or N, of N a number, and a count that is not negative
+-- what a test asks: a component "by B as a test" and "by N" (52), which for N is a number (53) and not negative ("Counts not negative", 54)
 abbrev pub test-asks : Inputs → Store → Arg → Asks
 test-asks ins s nothing = none
 test-asks ins s (letter l n) =

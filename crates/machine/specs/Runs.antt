@@ -1,4 +1,4 @@
--- Runs of any step under a budget ("takes at most the budget of steps").
+-- Runs of any step under a budget: run "takes at most the budget of steps".
 use mathlib.Core.Path.{_≡_}
 use Prim.Native.Nat.{ℕ, zero, suc, _+_, _<_}
 
@@ -21,18 +21,18 @@ module _ {S : Type 0} where
   abbrev pub ran : Answer → ℕ → S → Run S
   ran x n s = record { answer = x; count = n; state = s }
 
-  -- one step before the rest of a run; a stop leaves the state before the step
+  -- One step before the rest of a run. "STOP and failing instructions count none"; "A stop leaves the state before the step."
   abbrev pub after : S → (S → Run S) → Outcome S → Run S
   after s k (stop n) = ran (stopped n) 0 s
   after s k (went t) = let r = k t in ran (r .answer) (suc (r .count)) (r .state)
 
 module _ {S : Type 0} (step : S → Outcome S) where
-  -- "It pauses as soon as the count equals the budget, before the next instruction is looked at"
+  -- "It pauses as soon as the count equals the budget, before the next instruction is looked at, so a budget of 0 always pauses."
   abbrev pub run : ℕ → S → Run S
   run zero s = ran pause 0 s
   run (suc k) s = after s (run k) (step s)
 
-  -- where a run paused, it goes on for a budget of b
+  -- a run that paused goes on for a budget of b; one that stopped does not
   abbrev pub goes-on : ℕ → S → ℕ → Answer → Run S
   goes-on b s c pause = let r = run b s in ran (r .answer) (c + r .count) (r .state)
   goes-on b s c (stopped n) = ran (stopped n) c s

@@ -1,4 +1,4 @@
--- A step: the questions in order, of which the first answered no names the stop, else the effect.
+-- "A step.": its questions in order, of which the first answered no names the stop; where there is none, its effect.
 use mathlib.Core.Bool.{Bool, true, false, cond, _&&_}
 use mathlib.Core.List.{List, [], _∷_, map}
 use Prim.Native.Nat.{ℕ, suc}
@@ -19,19 +19,21 @@ use Rattle.machine.specs.Runs.Outcome.{stop, went}
 unfoldable pub meaning : Program → Inputs → State → Row
 meaning p ins s = let i = instr-at p (s .next) in row p ins (s .store) (i .first) (i .second) (i .third) (i .op)
 
--- the next instruction and the stack after it
+-- the next instruction and the return stack after one at n: a call keeps the place just after itself
 abbrev pub gone : Go → ℕ → List ℕ → ℕ × List ℕ
 gone on n st = (suc n, st)
 gone (jump t) n st = (t, st)
 gone (call t) n st = (t, suc n ∷ st)
 gone back n st = (headOr 0 st, drop 1 st)
 
+-- "WROC with a filled stack? 57"
 abbrev pub can-go : Go → List ℕ → Bool
 can-go on st = true
 can-go (jump t) st = true
 can-go (call t) st = true
 can-go back st = filled st
 
+-- the state that a row makes
 abbrev pub made : Row → State → State
 made r s = let g = gone (r .2) (s .next) (s .stack) in record { store = r .1; next = g .0; stack = g .1 }
 
@@ -39,16 +41,18 @@ made r s = let g = gone (r .2) (s .next) (s .stack) in record { store = r .1; ne
 abbrev pub Question : Type 0
 Question = ℕ × Bool
 
--- "A step." and its questions, in order
+-- the numbers of the questions, in order
 abbrev pub numbers : List ℕ
 numbers = 50 ∷ 52 ∷ 53 ∷ 54 ∷ 55 ∷ 56 ∷ 57 ∷ 58 ∷ 59 ∷ 60 ∷ []
 
--- what every instruction asks: "WROC with a filled stack? 57", "Result within the limits? 59", "At most 8,388,607 addresses given? 60"
+-- What every instruction asks. "Limits are judged on the state after the instruction, so freed places count as free." "Result within the limits?
+-- 59" "the return stack 64" "At most 8,388,607 addresses given? 60"
 abbrev pub asks-after : Row → State → Asks
 asks-after r s =
     let t = made r s in
     ask 57 (can-go (r .2) (s .stack)) & ask 59 (fits (t .store) && leb (length (t .stack)) limit.stack) & ask 60 (leb (t .store .last) limit.addresses)
 
+-- "Is it other than STOP? 50" and all that follows
 unfoldable pub questions : Program → Inputs → State → List Question
 questions p ins s = let r = meaning p ins s in map (λ n. (n, r .0 n && asks-after r s n)) numbers
 
@@ -57,7 +61,7 @@ abbrev pub refusals : List Question → List ℕ
 refusals [] = []
 refusals (q ∷ qs) = cond (q .1) (refusals qs) (q .0 ∷ refusals qs)
 
--- "the first no decides"
+-- "As in all lists here, the first no decides"
 unfoldable pub step : Program → Inputs → State → Outcome State
 step p ins s = ifAny (went (made (meaning p ins s) s)) stop (refusals (questions p ins s))
 

@@ -18,7 +18,8 @@ use Rattle.lists.specs.Quoted.{bytes}
 use Rattle.machine.specs.Arguments.{records}
 use Rattle.machine.specs.Changes.{fits, in-range}
 
--- Question 62. "every field in its range": every limit that an accepted text keeps, also those of names, texts, numbers and lines
+-- Question 62. "Table well formed (every field in its range, unused cells zero, all targets in the table, last instruction as above)?" Every limit
+-- that an accepted text keeps is a range, also those of names, texts, numbers and lines; the cells are the layout's matter
 
 -- a word: not empty, of the 61 characters
 abbrev pub good-word : List ℕ → Bool
@@ -91,6 +92,7 @@ module _ (p : Program) where
   unfoldable pub good-switch : Switch → Bool
   good-switch w = filled (w .entries) && all (good-entry (w .byName)) (w .entries)
 
+  -- the limits, then every instruction, label, switch, text and number, then the last instruction
   abbrev pub program-tests : List Bool
   program-tests =
       ltb 0 (length (p .code))
@@ -121,21 +123,26 @@ module _ (p : Program) where
 unfoldable pub good-inputs : Inputs → Bool
 good-inputs ins = eqb (length ins) limit.inputs && all (λ w. leb (length w) limit.input && all known w) ins
 
--- Question 63, of what the state says
+-- Question 63, of what the state says: "fields in range, .. limits kept, words and records not empty, next instruction in the table, records'
+-- addresses from 1 and distinct, every address, in components too, no greater than the last given, read places within the inputs, stack entries
+-- just after a call". What may be at fault in many places is counted
 
+-- 1 for an empty list
 abbrev pub void : {X : Type 0} → List X → ℕ
 void [] = 1
 void (x ∷ xs) = 0
 
--- how many faults a component has where l is the last address given: an empty word, a character beyond the 61, a number out of range, an address not given
+-- 1 for a byte that is none of the 61
 abbrev pub strange : ℕ → ℕ
 strange x = cond (known x) 0 1
 
+-- the faults of a component where l is the last address given: an empty word, strange characters, a number out of range, an address not given
 abbrev pub faults : ℕ → Component → ℕ
 faults l (word w) = void w + total strange w
 faults l (Component.number z) = natAbs z - limit.size
 faults l (address n) = n - l
 
+-- of a record's components
 abbrev pub parts-faults : ℕ → List Component → ℕ
 parts-faults l xs = void xs + total (faults l) xs
 
@@ -152,6 +159,7 @@ unfoldable pub store-faults : Inputs → ℕ → Store → ℕ
 store-faults ins l s =
     total (total (faults l)) (s .exprs) + total (λ f. total (record-faults l) (records f)) (s .files) + total (total strange) (s .outputs) + overrun (s .places) ins
 
+-- the records of all files, and their addresses
 abbrev pub all-records : List File → List Record
 all-records [] = []
 all-records (f ∷ fs) = records f ++ all-records fs
@@ -178,7 +186,6 @@ good-store ins s = every (store-tests ins s)
 abbrev pub state-tests : Program → Inputs → State → List Bool
 state-tests p ins s = good-store ins (s .store) ∷ ltb (s .next) (length (p .code)) ∷ leb (length (s .stack)) limit.stack ∷ all (good-return p) (s .stack) ∷ []
 
--- "next instruction in the table"
 unfoldable pub good-state : Program → Inputs → State → Bool
 good-state p ins s = every (state-tests p ins s)
 
