@@ -6,3 +6,6 @@ pub mod Memory
 pub mod Bounds
 pub mod CellLaws
 pub mod StringLaws
+pub mod ComponentLaws
+pub mod FineLaws
+pub mod MemoryLaws

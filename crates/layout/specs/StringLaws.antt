@@ -7,7 +7,7 @@ use native.Mathlib.Omega.{arith}
 use lib.ListN.{length, getD, take, drop, replicate, length-append, length-replicate}
 use lib.Seq.{take-append-seam, drop-append-seam, drop-at}
 use Rattle.layout.specs.Bounds.{Each, Below}
-use Rattle.layout.specs.CellLaws.{below-append, below-zeros, two-back, two-below}
+use Rattle.layout.specs.CellLaws.{twice, twice-one, below-append, below-zeros, two-back, two-below}
 use Rattle.layout.specs.Cells.{two}
 use Rattle.layout.specs.Strings.{lengths, used, string-cells, lengths-in, cut-by, strings-in}
 use Rattle.lists.specs.Lists.{joined}
@@ -46,13 +46,12 @@ pub used-cons : (v : List ℕ) (vs : List (List ℕ)) → used (v ∷ vs) ≡ le
 unfolding used
 used-cons v vs = length-append v (joined vs)
 
+-- each string is shorter than any number beyond them all
+pub strings-short : (vs : List (List ℕ)) (n : ℕ) → used vs < n → Each (λ v. length v < n) vs
+strings-short [] n h = tt
+strings-short (v ∷ vs) n h = (omega (arith, used-cons v vs), strings-short vs n (omega (arith, used-cons v vs)))
+
 -- ---- the lengths
-
-twice : (i : ℕ) → 2 * suc i ≡ suc (suc (2 * i))
-twice i = omega arith
-
-twice-one : (i : ℕ) → 2 * suc i + 1 ≡ suc (suc (2 * i + 1))
-twice-one i = omega arith
 
 pub length-lengths : (vs : List (List ℕ)) → length (lengths vs) ≡ 2 * length vs
 unfolding lengths
