@@ -1,11 +1,13 @@
 -- A program, as load makes it of a text and as the machine runs it.
-use mathlib.Core.Bool.{Bool, true, false, cond}
+use mathlib.Core.Bool.{Bool, true, false, cond, _&&_, _||_}
 use mathlib.Core.List.{List, [], _∷_}
 use Prim.Native.Nat.{ℕ}
 use lib.ListN.{getD}
 use lib.IntN.{ℤ}
-use Rattle.lists.specs.Lists.{filled}
+use Rattle.characters.specs.Characters.{isLetter, isDigit}
 use Rattle.language.specs.Letters.{Letter}
+use Rattle.lists.specs.Lists.{all, filled, keep, among}
+use Rattle.lists.specs.Quoted.{bytes}
 
 -- "An argument is an indexed letter, a label, a class, a text, a number or nothing." A label and a switch stand for their places in the
 -- program's lists; a class for those of its letters L, D, B, R that stand in it, in this order
@@ -17,6 +19,15 @@ pub data Arg : Type 0 where
   class : List ℕ → Arg
   text : List ℕ → Arg
   number : ℤ → Arg
+
+-- an identifier (4.1): a letter, then letters and digits
+abbrev pub identifier : List ℕ → Bool
+identifier [] = false
+identifier (b ∷ w) = isLetter b && all (λ x. isLetter x || isDigit x) w
+
+-- the letters L, D, B, R that stand in a class, in this order
+abbrev pub classes : List ℕ → List ℕ
+classes w = keep (λ b. among b w) (bytes "LDBR")
 
 -- "Instructions (41)"
 pub data Op : Type 0 where

@@ -2,11 +2,12 @@
 use mathlib.Core.Bool.{Bool, true, false, cond, _&&_, _||_}
 use mathlib.Core.List.{List, [], _∷_, _++_}
 use Prim.Native.Nat.{ℕ, zero, suc, _+_, _*_, _-_, _/_, _%_}
-use lib.Dec.{ltb, eqb}
-use lib.IntN.{ℤ, pos, negsuc, negℤ}
+use lib.Dec.{leb, ltb, eqb}
+use lib.IntN.{ℤ, pos, negsuc, negℤ, natAbs}
 use lib.Signed.{leZ}
+use Rattle.language.specs.Limits as limit
+use Rattle.characters.specs.Characters.{isDigit, classOf}
 use Rattle.lists.specs.Lists.{all, every, sameBytes, among}
-use Rattle.characters.specs.Characters.{classOf, isDigit}
 
 -- a component: a word (its bytes), a number, a record's address
 pub data Component : Type 0 where
@@ -106,3 +107,7 @@ numeral (x ∷ xs) = cond (eqb x 43 || eqb x 45) (unsigned xs) (unsigned (x ∷ 
 abbrev pub valueOf : List ℕ → ℤ
 valueOf [] = pos 0
 valueOf (x ∷ xs) = cond (eqb x 45) (negℤ (pos (amount 0 xs))) (cond (eqb x 43) (pos (amount 0 xs)) (pos (amount 0 (x ∷ xs))))
+
+-- "Numbers lie within ±8,388,607."
+abbrev pub in-range : ℤ → Bool
+in-range z = leb (natAbs z) limit.size

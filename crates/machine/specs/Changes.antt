@@ -134,7 +134,3 @@ fits s =
     && leb (held (λ x. cond (leb (length (chars x)) limit.word) 0 1) s) 0
     && leb (recorded (λ r. 1) s) limit.records
     && all (λ q. leb (length q) limit.output) (s .outputs)
-
--- "Numbers lie within ±8,388,607."
-abbrev pub in-range : ℤ → Bool
-in-range z = leb (natAbs z) limit.size

@@ -18,11 +18,11 @@ use Rattle.language.specs.Letters.Var.{expression, input, output, file}
 use Rattle.language.specs.Letters.Reading.{one, count, any-of, whole}
 use Rattle.language.specs.Program.{Arg, Program}
 use Rattle.language.specs.Program.Arg.{nothing, letter, label, switch, class, text}
-use Rattle.language.specs.Values.{Component, Record, Store, Inputs, empty-file, chars, digits, decimal}
+use Rattle.language.specs.Values.{Component, Record, Store, Inputs, empty-file, chars, digits, decimal, in-range}
 use Rattle.language.specs.Values.Component.{word, address}
 use Rattle.machine.specs.Arguments.{place, expr, file-of, records, next-parts, unread, first, char, read-by, side, Until, taken, on-chars, reach}
 use Rattle.machine.specs.Arguments.Until.{everything, number-of, up-to}
-use Rattle.machine.specs.Changes.{address-of-last, recorded, in-range}
+use Rattle.machine.specs.Changes.{address-of-last, recorded}
 use Rattle.machine.specs.WellFormed.{good-word, good-text, kept-text, kept-number, ranged, void, strange, faults, parts-faults, record-faults, store-faults}
 use Rattle.machine.specs.Addresses.{equal-count}
 use Rattle.machine.specs.Keeps.{Clean, Faultless, Sound}

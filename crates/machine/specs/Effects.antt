@@ -12,11 +12,11 @@ use Rattle.language.specs.Letters.Var.{expression, input, output, file}
 use Rattle.language.specs.Program.{Arg, Op, Entry, Program, no-entry, label-at, switch-at, target-of, key-of}
 use Rattle.language.specs.Program.Arg.{nothing}
 use Rattle.language.specs.Program.Op.{PRZESLIJ, CZYTAJ, PISZ, KOPIUJ, WSTAW, POBIERZ, SCHOWAJ, USTAW, ZAMIEN, UMIESC, USUN, SKRESL, RW, WK, MN, PP, NS, RZ, SKOCZ, WYKONAJ, SKOMI, SKOPL, WYMI, WYPL, SKONA, SKOIN, WYNA, WYIN, WROC, DODAJ, ODEJMIJ, MNOZ, DZIEL, SLOWO, LICZBA, ZBIJ, ROZBIJ, SZUKAJ, OMIN, COFNIJ, STOP}
-use Rattle.language.specs.Values.{Component, Store, Inputs, chars, value, link, kind, same, decimal, numeral, valueOf}
+use Rattle.language.specs.Values.{Component, Store, Inputs, chars, value, link, kind, same, decimal, numeral, valueOf, in-range}
 use Rattle.language.specs.Values.Component.{word, address}
 use Rattle.lists.specs.Lists.{all, any, filled, ifAny, keep, joined, sameList, sameBytes}
 use Rattle.machine.specs.Arguments.{place, use-by, expr, file-of, records, next-parts, unread, first, char, side, is-count, is-whole, single, Asks, none, ask, _&_, present, is, alike, when, needs, taken, matches, cut, on-chars, reach, test-asks}
-use Rattle.machine.specs.Changes.{with-plus, put-expr, put-file, minus, minus-unless, into, front, printed, stored, past, used, pointed, address-of-last, in-range}
+use Rattle.machine.specs.Changes.{with-plus, put-expr, put-file, minus, minus-unless, into, front, printed, stored, past, used, pointed, address-of-last}
 
 -- where an instruction goes on: the following one, a place, a place with the way back kept (5.5.1), or back (5.5.4)
 pub data Go : Type 0 where

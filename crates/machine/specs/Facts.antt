@@ -6,10 +6,10 @@ use lib.ListN.{length}
 use Rattle.lists.specs.Lists.{total, all}
 use Rattle.language.specs.Limits as limit
 use Rattle.language.specs.Instructions.{operation, is-end}
-use Rattle.language.specs.Program.{Instr, Label, Program, instr-at}
+use Rattle.language.specs.Program.{Instr, Label, Program, instr-at, identifier}
 use Rattle.language.specs.Values.{Store, State, Inputs}
 use Rattle.machine.specs.Changes.{fits}
-use Rattle.machine.specs.WellFormed.{identifier, ranged, listed, good-instr, good-label, good-switch, good-return, good-store}
+use Rattle.machine.specs.WellFormed.{ranged, listed, good-instr, good-label, good-switch, good-return, good-store}
 use Rattle.machine.specs.Keeps.{Sound}
 
 pub record InstrFacts (p : Program) (i : Instr) : Type 0 where

@@ -6,17 +6,17 @@ use lib.Dec.{leb, ltb, eqb}
 use lib.ListN.{length, getD, replicate}
 use lib.IntN.{ℤ, natAbs}
 use Rattle.language.specs.Limits as limit
-use Rattle.characters.specs.Characters.{known, isLetter, isDigit}
+use Rattle.characters.specs.Characters.{known}
 use Rattle.language.specs.Instructions.{operation, is-call, is-end}
 use Rattle.language.specs.Letters.{letter-code, indices, use-of}
-use Rattle.language.specs.Program.{Arg, Instr, Label, Entry, Switch, Program, instr-at, switch-at}
+use Rattle.language.specs.Program.{Arg, identifier, classes, Instr, Label, Entry, Switch, Program, instr-at, switch-at}
 use Rattle.language.specs.Program.Arg.{nothing, letter, label, switch, class, text}
-use Rattle.language.specs.Values.{Component, Record, File, Store, State, Inputs, empty-file, sameNumber, same}
+use Rattle.language.specs.Values.{Component, Record, File, Store, State, Inputs, empty-file, sameNumber, same, in-range}
 use Rattle.language.specs.Values.Component.{word, address}
-use Rattle.lists.specs.Lists.{total, all, any, filled, keep, every, sameBytes, among}
+use Rattle.lists.specs.Lists.{total, all, any, filled, every, sameBytes, among}
 use Rattle.lists.specs.Quoted.{bytes}
 use Rattle.machine.specs.Arguments.{records}
-use Rattle.machine.specs.Changes.{fits, in-range}
+use Rattle.machine.specs.Changes.{fits}
 
 -- Question 62. "Table well formed (every field in its range, unused cells zero, all targets in the table, last instruction as above)?" Every limit
 -- that an accepted text keeps is a range, also those of names, texts, numbers and lines; the cells are the layout's matter
@@ -28,15 +28,6 @@ good-word w = filled w && all known w
 -- a text of a program: at most 60 characters
 abbrev pub good-text : List ℕ → Bool
 good-text t = good-word t && leb (length t) limit.item
-
--- an identifier (4.1): a letter, then letters and digits
-abbrev pub identifier : List ℕ → Bool
-identifier [] = false
-identifier (b ∷ w) = isLetter b && all (λ x. isLetter x || isDigit x) w
-
--- the letters L, D, B, R that stand in a class, in this order
-abbrev pub classes : List ℕ → List ℕ
-classes w = keep (λ b. among b w) (bytes "LDBR")
 
 -- no two elements are the same
 module _ {X : Type 0} (same : X → X → Bool) where

@@ -11,10 +11,10 @@ use Rattle.lists.specs.Lists.{total, all}
 use Rattle.lists.specs.ListLaws.{T-left, T-right, T-both, part, parts, all-head, all-tail, none-fail}
 use Rattle.characters.specs.Characters.{known}
 use Rattle.language.specs.Limits as limit
-use Rattle.language.specs.Program.{Instr, Label, Program}
+use Rattle.language.specs.Program.{Instr, Label, Program, identifier}
 use Rattle.language.specs.Values.{Store, State, Inputs}
 use Rattle.machine.specs.Changes.{held, recorded, fits}
-use Rattle.machine.specs.WellFormed.{identifier, ranged, listed, good-instr, good-label, program-tests, good-program, good-return, good-inputs, strange, overrun, store-faults, addresses, store-tests, good-store, state-tests, good-state, started}
+use Rattle.machine.specs.WellFormed.{ranged, listed, good-instr, good-label, program-tests, good-program, good-return, good-inputs, strange, overrun, store-faults, addresses, store-tests, good-store, state-tests, good-state, started}
 use Rattle.machine.specs.Addresses.{count-of, times, uses}
 use Rattle.machine.specs.Keeps.{Sound}
 use Rattle.machine.specs.Facts.{InstrFacts, LabelFacts, ProgramFacts, StoreFacts, StateFacts}

@@ -1,0 +1,80 @@
+-- Load, computed at a few texts.
+use mathlib.Core.Path.{_≡_, refl}
+use mathlib.Core.Bool.{Bool, true, false}
+use mathlib.Core.List.{List, [], _∷_}
+use lib.ListN.{replicate}
+use Rattle.lists.specs.Quoted.{bytes}
+use Rattle.language.specs.Letters.{Letter}
+use Rattle.language.specs.Program.{Arg, Op}
+use Rattle.syntax.specs.Load.{Loaded, loadIn, loadOf, opened}
+use Rattle.syntax.specs.Load.Loaded.{refused, accepted}
+
+-- document 01's sample
+sample : loadOf (bytes "SEKCJA S\nUMIESC 'AB',A1\nPISZ A1,Q1\nSTOP\nKONS\nKONP S\n")
+    ≡ accepted (record {
+      code =
+          record { op = Op.UMIESC; line = 2; first = Arg.text (bytes "AB"); second = Arg.letter Letter.A 1; third = Arg.nothing }
+          ∷ record { op = Op.PISZ; line = 3; first = Arg.letter Letter.A 1; second = Arg.letter Letter.Q 1; third = Arg.nothing }
+          ∷ record { op = Op.STOP; line = 4; first = Arg.nothing; second = Arg.nothing; third = Arg.nothing }
+          ∷ [];
+      labels = [];
+      switches = [];
+      texts = bytes "AB" ∷ [];
+      numbers = [];
+    })
+unfolding opened
+sample = refl
+
+-- labels alone belong to the next statement, a switch may follow the last instruction, a class has each letter once, in order
+switched : loadOf (bytes "SEKCJA S;A: B:\n\nSKONA A1,X;USUN I2,DLL;SKOCZ B\nX: NAZWA A,B:'*U-';KONS;KONP S")
+    ≡ accepted (record {
+      code =
+          record { op = Op.SKONA; line = 3; first = Arg.letter Letter.A 1; second = Arg.switch 0; third = Arg.nothing }
+          ∷ record { op = Op.USUN; line = 3; first = Arg.letter Letter.I 2; second = Arg.class (bytes "LD"); third = Arg.nothing }
+          ∷ record { op = Op.SKOCZ; line = 3; first = Arg.label 1; second = Arg.nothing; third = Arg.nothing }
+          ∷ [];
+      labels = record { name = bytes "A"; target = 0 } ∷ record { name = bytes "B"; target = 0 } ∷ [];
+      switches = record { byName = true; entries = record { label = 0; text = [] } ∷ record { label = 1; text = bytes "[-" } ∷ [] } ∷ [];
+      texts = bytes "[-" ∷ [];
+      numbers = [];
+    })
+unfolding opened
+switched = refl
+
+-- each question is asked of the whole statement before the next, and 14 comes before 15
+late : loadOf (bytes "SEKCJA S\nUMIESC 'a' /*\n*/ #\nSTOP\nKONS\nKONP S\n") ≡ refused 14 3
+unfolding opened
+late = refl
+
+-- the star of `/*` closes no comment
+open-comment : loadOf (bytes "SEKCJA S\n/*/ STOP\nSTOP\nKONS\nKONP S\n") ≡ refused 14 2
+unfolding opened
+open-comment = refl
+
+-- the lowest line counts
+lowest-line : loadOf (bytes "SEKCJA S\nPRZESLIJ /*\n*/ 5\nSTOP\nKONS\nKONP S\n") ≡ refused 2 2
+unfolding opened
+lowest-line = refl
+
+-- an absent statement's line is the last byte's
+nothing-there : loadOf [] ≡ refused 0 1
+unfolding opened
+nothing-there = refl
+
+no-end : loadOf (bytes "SEKCJA S\nSTOP\nKONP S\n\n\n") ≡ refused 25 5
+unfolding opened
+no-end = refl
+
+-- 12 comes before 13 over the whole text
+undeclared : loadOf (bytes "SEKCJA S\nSKONA A1,X\nSKOCZ Y\nKONS\nKONP S\n") ≡ refused 12 3
+unfolding opened
+undeclared = refl
+
+-- a table that is too short and a text that is too long come before everything
+too-short : loadIn 8191 [] ≡ refused 40 0
+unfolding opened
+too-short = refl
+
+too-long : loadOf (replicate 32769 32) ≡ refused 40 0
+unfolding opened
+too-long = refl

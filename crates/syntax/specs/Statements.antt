@@ -1,0 +1,95 @@
+-- A statement's parts: labels, operator, what follows it; and the list of a switch.
+use mathlib.Core.Bool.{Bool, true, false, cond, not, _&&_, _||_}
+use mathlib.Core.List.{List, [], _∷_, _++_, map}
+use Prim.Native.Nat.{ℕ}
+use Prim.Native.String.{String}
+use lib.Dec.{eqb}
+use lib.ListN.{getD, take, drop}
+use Rattle.language.specs.Instructions.{operation, operators}
+use Rattle.language.specs.Letters.Letter.{A}
+use Rattle.language.specs.Program.{identifier, Op, Entry}
+use Rattle.lists.specs.Lists.{ahead, filled, ifAny, keep, sameBytes}
+use Rattle.lists.specs.Quoted.{bytes}
+use Rattle.syntax.specs.Items.{Item, is, places}
+use Rattle.syntax.specs.Items.Sort.{word, colon, text}
+
+-- What an operator is. A switch by name is NAZWA, otherwise INDEKS; labels alone have none
+pub data Keyword : Type 0 where
+  none unknown SEKCJA KONS KONP : Keyword
+  switch : Bool → Keyword
+  instr : Op → Keyword
+
+abbrev pub keywords : List (String × Keyword)
+keywords =
+    ("SEKCJA", SEKCJA) ∷ ("KONS", KONS) ∷ ("KONP", KONP) ∷ ("INDEKS", switch false) ∷ ("NAZWA", switch true)
+    ∷ map (λ o. (operation o .name, instr o)) operators
+
+abbrev pub keyword-number : Keyword → ℕ
+keyword-number none = 0
+keyword-number unknown = 1
+keyword-number SEKCJA = 2
+keyword-number KONS = 3
+keyword-number KONP = 4
+keyword-number (switch byName) = 5
+keyword-number (instr op) = 6
+
+abbrev pub same-keyword : Keyword → Keyword → Bool
+same-keyword k l = eqb (keyword-number k) (keyword-number l)
+
+-- an answer for instructions, one for switches, and one for the rest
+unfoldable pub by-keyword : {A : Type 0} → (Op → A) → (Bool → A) → A → Keyword → A
+by-keyword f g z none = z
+by-keyword f g z unknown = z
+by-keyword f g z SEKCJA = z
+by-keyword f g z KONS = z
+by-keyword f g z KONP = z
+by-keyword f g z (switch byName) = g byName
+by-keyword f g z (instr op) = f op
+
+-- the keyword that an item is
+unfoldable pub keyword-of : Item → Keyword
+keyword-of i = cond (is word i) (getD keywords (ahead (λ k. sameBytes (i .chars) (bytes (k .0))) keywords) ("", unknown) .1) unknown
+
+-- "A statement may carry labels (`NAME:`)": what stands in front up to the operator, the first item that is no `NAME:` and no `:`
+abbrev pub is-operator : Item → Bool
+is-operator i = not (is colon i || filled (i .colon))
+
+abbrev pub front : List Item → List Item
+front x = take (ahead is-operator x) x
+
+abbrev pub labels-in : List Item → List Item
+labels-in x = keep (is word) (front x)
+
+-- the operator, as a row of one or none; its place; what it is; and the items after it
+abbrev pub operator : List Item → List Item
+operator x = take 1 (drop (ahead is-operator x) x)
+
+abbrev pub operator-at : List Item → ℕ
+operator-at x = ifAny 0 (λ i. i .at) (operator x)
+
+unfoldable pub keyword-in : List Item → Keyword
+keyword-in x = ifAny none keyword-of (operator x)
+
+abbrev pub rest : List Item → List Item
+rest x = drop 1 (drop (ahead is-operator x) x)
+
+-- `KEYWORD name`: what is at fault after the keyword at a place, where `right` tells the name
+unfoldable pub one-name : (List ℕ → Bool) → ℕ → List Item → List ℕ
+one-name right at [] = at ∷ []
+one-name right at (i ∷ js) = cond (is word i && right (i .chars)) (i .colon) (i .at ∷ []) ++ places js
+
+-- A switch's list: "an entry being a label or `LABEL:'text'`", the latter in NAZWA. A word's colon and a text are right only together:
+-- `before` a `LABEL:` stands before the item, `after` a text stands after it
+unfoldable pub entry-faults : Bool → Bool → Bool → Item → List ℕ
+entry-faults byName before after i =
+    cond (is word i && identifier (i .chars)) (cond (byName && after) [] (i .colon)) (cond (is text i && byName && before) [] (i .at ∷ []))
+
+unfoldable pub list-faults : Bool → Bool → List Item → List ℕ
+list-faults byName before [] = []
+list-faults byName before (i ∷ js) = entry-faults byName before (ifAny false (is text) js) i ++ list-faults byName (filled (i .colon)) js
+
+-- its entries, with the labels' places by `place`: each word is a label, and the text right after it is its text
+unfoldable pub entries-in : (List ℕ → ℕ) → List Item → List Entry
+entries-in place [] = []
+entries-in place (i ∷ js) =
+    cond (is word i) (record { label = place (i .chars); text = ifAny [] (λ j. cond (is text j) (j .chars) []) js } ∷ []) [] ++ entries-in place js

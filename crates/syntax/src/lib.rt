@@ -1,0 +1,1 @@
+// The loader's specification: from a text to its program or its refusal; no code.
