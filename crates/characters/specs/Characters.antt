@@ -3,6 +3,7 @@ use mathlib.Core.Bool.{Bool, true, false, cond, _&&_, _||_}
 use mathlib.Core.List.{List, [], _∷_}
 use Prim.Native.Nat.{ℕ, suc}
 use lib.Dec.{leb, ltb, eqb}
+use lib.ListN.{getD}
 use Rattle.lists.specs.Lists.{ahead, among}
 
 -- "61 characters, in the order of Appendix A's columns, without ◊ and CS": a character of rank k is element k - 1
@@ -19,6 +20,10 @@ known b = among b ranked
 -- "Ranks run from 1 to 61"; a byte that is none of the 61 has 62
 abbrev pub rank : ℕ → ℕ
 rank b = suc (ahead (eqb b) ranked)
+
+-- the character of a rank; a number that is none of the ranks has 0
+abbrev pub byteOf : ℕ → ℕ
+byteOf r = getD (0 ∷ ranked) r 0
 
 abbrev pub between : ℕ → ℕ → ℕ → Bool
 between a b x = leb a x && leb x b

@@ -1,3 +1,4 @@
+pub mod TableLaws
 pub mod Lists
 pub mod Quoted
 pub mod ListLaws

@@ -1,0 +1,50 @@
+-- Laws of the ranks: rank and byte are inverse to each other on the 61 characters, and every other byte has 62.
+use mathlib.Core.Path.{_≡_, refl, ap, sym, _∙_}
+use mathlib.Core.Bool.{Bool, true, false, _||_}
+use mathlib.Core.List.{List, [], _∷_}
+use Prim.Native.Nat.{ℕ, suc, _≤_, _<_}
+use native.Mathlib.Omega.{arith}
+use lib.Dec.{T, ltb, eqb, eqb→eq, ltb→lt}
+use lib.ListN.{length}
+use borrow.Author.Tests.{ne-eqb}
+use Rattle.lists.specs.Lists.{ahead, among}
+use Rattle.lists.specs.ListLaws.{all-among, ahead-le}
+use Rattle.lists.specs.TableLaws.{below-unless}
+use Rattle.characters.specs.Characters.{ranked, known, rank, byteOf}
+
+pub byte-rank : (b : ℕ) → T (known b) → byteOf (rank b) ≡ b
+unfolding known
+byte-rank b h = eqb→eq (byteOf (rank b)) b (all-among (λ (k : ℕ). eqb (byteOf (rank k)) k) ranked tt b h)
+
+pub rank-byte : (r : ℕ) → 0 < r → r < 62 → rank (byteOf r) ≡ r
+rank-byte r l h =
+    eqb→eq (rank (byteOf r)) r
+    (below-unless (λ k. eqb k 0) (λ k. eqb (rank (byteOf k)) k) 62 tt r h (ne-eqb r 0 (λ e. omega arith)))
+
+pub rank-same : (a b : ℕ) → T (known a) → T (known b) → rank a ≡ rank b → a ≡ b
+rank-same a b h k e = sym (byte-rank a h) ∙ ap byteOf e ∙ byte-rank b k
+
+pub known-rank : (b : ℕ) → T (known b) → rank b < 62
+unfolding known
+known-rank b h = ltb→lt (rank b) 62 (all-among (λ (k : ℕ). ltb (rank k) 62) ranked tt b h)
+
+pub known-byte : (b : ℕ) → T (known b) → b < 128
+unfolding known
+known-byte b h = ltb→lt b 128 (all-among (λ (k : ℕ). ltb k 128) ranked tt b h)
+
+pub rank-most : (b : ℕ) → rank b ≤ 62
+rank-most b = omega (arith, ahead-le (eqb b) ranked)
+
+-- no number of the list is x: all of it stands ahead
+none-ahead : (x : ℕ) (xs : List ℕ) → among x xs ≡ false → ahead (eqb x) xs ≡ length xs
+none-ahead x [] h = refl
+none-ahead x (y ∷ xs) h = go (eqb x y) h (none-ahead x xs)
+  where
+    go : (t : Bool) → (t || among x xs) ≡ false → (among x xs ≡ false → ahead (eqb x) xs ≡ length xs)
+        → elim t [ true ↦ 0 | false ↦ suc (ahead (eqb x) xs) ] ≡ suc (length xs)
+    go true h k = cc
+    go false h k = ap suc (k h)
+
+pub unknown-rank : (b : ℕ) → known b ≡ false → rank b ≡ 62
+unfolding known
+unknown-rank b h = ap suc (none-ahead b ranked h)
