@@ -1,8 +1,8 @@
 -- Laws of addresses: what the count of a number says of a list whose elements are different, or all pass a test.
 use mathlib.Core.Path.{_≡_, refl}
-use mathlib.Core.Bool.{Bool, true, false, not, cond, _&&_, _||_}
+use mathlib.Core.Bool.{Bool, true, false, not, cond, _||_}
 use mathlib.Core.List.{List, [], _∷_, _++_, map}
-use Prim.Native.Nat.{ℕ, zero, suc, _+_, _≤_, _<_}
+use Prim.Native.Nat.{ℕ, suc, _+_, _≤_, _<_}
 use native.Mathlib.Omega.{arith}
 use native.Mathlib.Decide.{decLe}
 use lib.Dec.{T, eqb, eqb-refl, T-not, not-T}
@@ -101,7 +101,13 @@ once-different (x ∷ ns) h =
 counted-records : (g : ℕ → ℕ) (fs : List File) → total (λ f. total (λ r. g (r .addr)) (records f)) fs ≡ total g (map (λ r. r .addr) (all-records fs))
 counted-records g [] = refl
 counted-records g (f ∷ fs) =
-    omega (arith, counted-records g fs, total-map g (λ r. r .addr) (records f ++ all-records fs), total-map g (λ r. r .addr) (all-records fs), total-append (λ r. g (r .addr)) (records f) (all-records fs))
+    omega (
+      arith,
+      counted-records g fs,
+      total-map g (λ r. r .addr) (records f ++ all-records fs),
+      total-map g (λ r. r .addr) (all-records fs),
+      total-append (λ r. g (r .addr)) (records f) (all-records fs),
+    )
 
 pub times-is : (n : ℕ) (s : Store) → times n s ≡ count-of n (addresses s)
 unfolding recorded

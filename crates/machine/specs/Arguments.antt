@@ -1,11 +1,11 @@
 -- What the arguments of an instruction mean (4.2): the values that they offer, what they ask, and the tests of moves (5.1).
-use mathlib.Core.Bool.{Bool, true, false, not, cond, _&&_, _||_}
-use mathlib.Core.List.{List, [], _∷_, _++_, map, reverse}
-use Prim.Native.Nat.{ℕ, zero, suc, pred, _+_, _*_, _-_, min}
-use lib.Dec.{leb, ltb, eqb}
-use lib.ListN.{length, getD, take, drop, set}
-use lib.IntN.{ℤ, pos, negsuc, _+ℤ_, _-ℤ_, _*ℤ_, natAbs}
-use lib.Signed.{ltZ, nonNeg, quotZ, remZ}
+use mathlib.Core.Bool.{Bool, true, false, cond, _&&_}
+use mathlib.Core.List.{List, [], _∷_, _++_, map}
+use Prim.Native.Nat.{ℕ, pred, min}
+use lib.Dec.{leb, eqb}
+use lib.ListN.{length, getD, take, drop}
+use lib.IntN.{ℤ, pos, negsuc}
+use lib.Signed.{nonNeg}
 use Rattle.language.specs.Letters.{Var, Reading, Use, use-of}
 use Rattle.language.specs.Letters.Letter.{B}
 use Rattle.language.specs.Letters.Var.{expression, input, output, file}

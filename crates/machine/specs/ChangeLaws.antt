@@ -5,7 +5,7 @@ use mathlib.Core.List.{List, [], _∷_, _++_, reverse}
 use Prim.Native.Nat.{ℕ, suc, pred, _+_, _-_, _≤_}
 use native.Mathlib.Nat.{add-zero, suc-add, add-suc}
 use native.Mathlib.Omega.{arith}
-use lib.ListN.{length, getD, take, drop, set, length-set, length-drop}
+use lib.ListN.{length, getD, take, drop, length-set, length-drop}
 use Rattle.lists.specs.Lists.{total}
 use Rattle.lists.specs.ListLaws.{total-append, total-reverse, total-split, total-put, total-at, total-mono, total-exchange}
 use Rattle.language.specs.Letters.{Var, Use}
@@ -17,7 +17,7 @@ use Rattle.machine.specs.Arguments.{place, use-by, expr, file-of, record
 use Rattle.machine.specs.Changes.{with-exprs, with-files, with-plus, with-outputs, with-places, put, put-expr, put-file, minus, minus-unless, placed, into, front, printed, stamped, stored, past-file, past-by, past, used-by, used, records-to, pointed, recorded}
 use Rattle.machine.specs.WellFormed.{strange, faults, parts-faults, record-faults, overrun, store-faults}
 use Rattle.machine.specs.Addresses.{equal-count, ungiven}
-use Rattle.machine.specs.Keeps.{Shape, Clean, Faultless, Keeps}
+use Rattle.machine.specs.Keeps.{Clean, Faultless, Keeps}
 use Rattle.machine.specs.AddressLaws.{ungiven-next}
 use Rattle.machine.specs.KeepLaws.{keeps-refl}
 use Rattle.machine.specs.SumLaws.{overrun-set, overrun-at}
@@ -48,7 +48,11 @@ module _ (ins : Inputs) where
   store-mono : (s : Store) {l m : ℕ} → l ≤ m → store-faults ins m s ≤ store-faults ins l s
   unfolding store-faults
   store-mono s {l} {m} h =
-      omega (arith, total-mono (total (faults m)) (total (faults l)) (parts-mono h) (s .exprs), total-mono (λ f. total (record-faults m) (records f)) (λ f. total (record-faults l) (records f)) in-file (s .files))
+      omega (
+        arith,
+        total-mono (total (faults m)) (total (faults l)) (parts-mono h) (s .exprs),
+        total-mono (λ f. total (record-faults m) (records f)) (λ f. total (record-faults l) (records f)) in-file (s .files),
+      )
     where
       in-file : (f : File) → total (record-faults m) (records f) ≤ total (record-faults l) (records f)
       in-file f = total-mono (record-faults m) (record-faults l) (λ r. omega (arith, parts-mono h (r .parts))) (records f)
@@ -59,7 +63,12 @@ module _ (ins : Inputs) where
       → Keeps ins s (record { exprs = s .exprs; files = s .files; plus = b; outputs = o; places = r; last = s .last })
   unfolding store-faults recorded
   beside s b o r p q c =
-      record { shape = record { exprs = refl; files = refl; outputs = p; places = q }; later = omega arith; counts = λ n. omega arith; no-faults = λ h. omega (arith, c h) }
+      record {
+        shape = record { exprs = refl; files = refl; outputs = p; places = q };
+        later = omega arith;
+        counts = λ n. omega arith;
+        no-faults = λ h. omega (arith, c h);
+      }
 
   pub with-plus-keeps : (b : Bool) (s : Store) → Keeps ins s (with-plus b s)
   unfolding with-plus
@@ -136,14 +145,20 @@ module _ (ins : Inputs) where
         later = l;
         counts = λ n. omega (arith, c n, total-put (λ f. having n (records f)) empty-file refl (s .files) (pred (place a)) g);
         no-faults =
-            λ h. omega (arith, store-mono (with-files (put (s .files) a g) m s) l, total-put (λ f. total (record-faults (s .last)) (records f)) empty-file refl (s .files) (pred (place a)) g);
+            λ h. omega (
+              arith,
+              store-mono (with-files (put (s .files) a g) m s) l,
+              total-put (λ f. total (record-faults (s .last)) (records f)) empty-file refl (s .files) (pred (place a)) g,
+            );
       }
 
   -- records that count no more than the file's, whatever is counted
-  pub put-file-keeps : (a : Arg) (xs ys : List Record) (s : Store) → ((g : Record → ℕ) → total g (xs ++ ys) ≤ total g (records (file-of s a))) → Keeps ins s (put-file a xs ys s)
+  pub put-file-keeps : (a : Arg) (xs ys : List Record) (s : Store)
+      → ((g : Record → ℕ) → total g (xs ++ ys) ≤ total g (records (file-of s a))) → Keeps ins s (put-file a xs ys s)
   unfolding put-file
   put-file-keeps a xs ys s c =
-      replaced-keeps a (record { before = xs; after = ys }) (s .last) s (omega arith) (λ n. omega (arith, c (λ r. equal-count n (r .addr)))) (c (record-faults (s .last)))
+      let f : File = record { before = xs; after = ys } in
+      replaced-keeps a f (s .last) s (omega arith) (λ n. omega (arith, c (λ r. equal-count n (r .addr)))) (c (record-faults (s .last)))
 
   -- new records: addresses that were still to be given, once each
   stamped-new : (n l : ℕ) (xs : List (List Component)) → having n (stamped l xs) + ungiven (l + length xs) n ≤ ungiven l n
@@ -171,8 +186,21 @@ module _ (ins : Inputs) where
       made b = cond b (record { before = f .before; after = reverse new ++ f .after }) (record { before = f .before ++ new; after = f .after })
 
       adds : (g : Record → ℕ) (b : Bool) → total g (records (made b)) ≡ total g (records f) + total g new
-      adds g true = omega (arith, total-append g (f .before) (reverse new ++ f .after), total-append g (reverse new) (f .after), total-reverse g new, total-append g (f .before) (f .after))
-      adds g false = omega (arith, total-append g (f .before ++ new) (f .after), total-append g (f .before) new, total-append g (f .before) (f .after))
+      adds g true =
+          omega (
+            arith,
+            total-append g (f .before) (reverse new ++ f .after),
+            total-append g (reverse new) (f .after),
+            total-reverse g new,
+            total-append g (f .before) (f .after),
+          )
+      adds g false =
+          omega (
+            arith,
+            total-append g (f .before ++ new) (f .after),
+            total-append g (f .before) new,
+            total-append g (f .before) (f .after),
+          )
 
       go : (b : Bool) → Keeps ins s (with-files (put (s .files) a (made b)) (s .last + length xs) s)
       go b =
@@ -187,17 +215,22 @@ module _ (ins : Inputs) where
       let k = records-to n rs in
       put-file-keeps a _ _ s (λ g. omega (arith, total-append g (take k rs) (drop k rs), total-split g k rs))
 
-  pub exchange-keeps : (a b : Arg) (s : Store) → let f = file-of s a in let g = file-of s b in Keeps ins s (put-file b (f .before) (f .after) (put-file a (g .before) (g .after) s))
+  pub exchange-keeps : (a b : Arg) (s : Store)
+      → let f = file-of s a in let g = file-of s b in Keeps ins s (put-file b (f .before) (f .after) (put-file a (g .before) (g .after) s))
   unfolding put-file with-files store-faults recorded
   exchange-keeps a b s =
       record {
-        shape = record { exprs = refl; files = length-set (put (s .files) a (file-of s b)) (pred (place b)) (file-of s a) ∙ length-set (s .files) (pred (place a)) (file-of s b); outputs = refl; places = refl };
+        shape = record { exprs = refl; files = as-many; outputs = refl; places = refl };
         later = omega arith;
         counts = λ n. omega (arith, swap (λ r. equal-count n (r .addr)));
         no-faults = λ h. omega (arith, swap (record-faults (s .last)));
       }
     where
-      swap : (g : Record → ℕ) → total (λ f. total g (records f)) (put (put (s .files) a (file-of s b)) b (file-of s a)) ≤ total (λ f. total g (records f)) (s .files)
+      as-many : length (put (put (s .files) a (file-of s b)) b (file-of s a)) ≡ length (s .files)
+      as-many = length-set (put (s .files) a (file-of s b)) (pred (place b)) (file-of s a) ∙ length-set (s .files) (pred (place a)) (file-of s b)
+
+      swap : (g : Record → ℕ)
+          → total (λ f. total g (records f)) (put (put (s .files) a (file-of s b)) b (file-of s a)) ≤ total (λ f. total g (records f)) (s .files)
       swap g = total-exchange empty-file (λ f. total g (records f)) refl (s .files) (pred (place a)) (pred (place b))
 
   -- Reading past elements, and using the first component
@@ -206,11 +239,23 @@ module _ (ins : Inputs) where
   unfolding past-file
   past-file-keeps true a k s =
       let f = file-of s a in
-      put-file-keeps a _ _ s (λ g. omega (arith, total-append g (f .before) (drop k (f .after)), total-append g (f .before) (f .after), total-split g k (f .after)))
+      put-file-keeps a _ _ s
+      (λ g. omega (
+        arith,
+        total-append g (f .before) (drop k (f .after)),
+        total-append g (f .before) (f .after),
+        total-split g k (f .after),
+      ))
   past-file-keeps false a k s =
       let f = file-of s a in
       put-file-keeps a _ _ s
-      (λ g. omega (arith, total-append g (f .before ++ take k (f .after)) (drop k (f .after)), total-append g (f .before) (take k (f .after)), total-append g (f .before) (f .after), total-split g k (f .after)))
+      (λ g. omega (
+        arith,
+        total-append g (f .before ++ take k (f .after)) (drop k (f .after)),
+        total-append g (f .before) (take k (f .after)),
+        total-append g (f .before) (f .after),
+        total-split g k (f .after),
+      ))
 
   past-by-keeps : (v : Var) (a : Arg) (k : ℕ) (s : Store) → Faultless ins s → Enough v s a k → Keeps ins s (past-by v a k s)
   unfolding past-by with-places

@@ -1,11 +1,10 @@
 -- What instructions do to a store: reading past elements and writing (4.2.1.1, 4.2.1.2), records and their addresses, limits.
-use mathlib.Core.Bool.{Bool, true, false, not, cond, _&&_, _||_}
-use mathlib.Core.List.{List, [], _∷_, _++_, map, reverse}
-use Prim.Native.Nat.{ℕ, zero, suc, pred, _+_, _*_, _-_, min}
-use lib.Dec.{leb, ltb, eqb}
-use lib.ListN.{length, getD, take, drop, set}
-use lib.IntN.{ℤ, pos, negsuc, _+ℤ_, _-ℤ_, _*ℤ_, natAbs}
-use lib.Signed.{ltZ, nonNeg, quotZ, remZ}
+use mathlib.Core.Bool.{Bool, true, false, cond, _&&_}
+use mathlib.Core.List.{List, [], _∷_, _++_, reverse}
+use Prim.Native.Nat.{ℕ, suc, pred, _+_}
+use lib.Dec.{leb, eqb}
+use lib.ListN.{length, take, drop, set}
+use lib.IntN.{ℤ, natAbs}
 use Rattle.language.specs.Limits as limit
 use Rattle.language.specs.Letters.{Var, Use}
 use Rattle.language.specs.Letters.Var.{expression, input, output, file}
@@ -13,7 +12,6 @@ use Rattle.language.specs.Program.{Arg}
 use Rattle.language.specs.Values.{Component, Record, File, Store, chars}
 use Rattle.lists.specs.Lists.{total, all, ahead}
 use Rattle.machine.specs.Arguments.{place, use-by, at, expr, file-of, records}
-use Rattle.machine.specs.Runs.{after}
 
 -- One field replaced; files together with the last address given
 
@@ -74,7 +72,9 @@ unfoldable pub stored : Arg → List (List Component) → Store → Store
 stored a xs s =
     let new = stamped (s .last) xs in
     let f = file-of s a in
-    let g : File = cond (use-by a .reverses) (record { before = f .before; after = reverse new ++ f .after }) (record { before = f .before ++ new; after = f .after }) in
+    let after-pointer : File = record { before = f .before; after = reverse new ++ f .after } in
+    let before-pointer : File = record { before = f .before ++ new; after = f .after } in
+    let g = cond (use-by a .reverses) after-pointer before-pointer in
     with-files (put (s .files) a g) (s .last + length xs) s
 
 -- reading past k elements (4.2.1.1): A, I and C remove them, B leaves them, D and P move the pointer

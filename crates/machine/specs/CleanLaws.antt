@@ -1,16 +1,16 @@
 -- What is read of a store without faults has none: components, characters, decimal words, and the address before a pointer.
-use mathlib.Core.Path.{_≡_, refl, ap, sym, _∙_, subst}
-use mathlib.Core.Bool.{Bool, true, false, cond, _&&_}
+use mathlib.Core.Path.{_≡_, refl}
+use mathlib.Core.Bool.{Bool, true, false}
 use mathlib.Core.List.{List, [], _∷_, _++_, map}
 use Prim.Native.Nat.{ℕ, zero, suc, pred, _+_, _-_, _≤_, _<_, _/_, _%_}
 use native.Mathlib.Omega.{arith}
 use native.Mathlib.Decide.{decLt}
 use lib.Dec.{T, leb, ltb, leb→le}
 use borrow.Author.Tests.{ltb-true}
-use lib.ListN.{length, getD, take, drop}
+use lib.ListN.{length, getD, take}
 use lib.IntN.{ℤ, pos, negsuc, natAbs}
-use Rattle.lists.specs.Lists.{total, all, filled, ifAny, joined}
-use Rattle.lists.specs.ListLaws.{T-left, T-right, all-head, all-tail, ahead-le, none-fail, total-append, total-split, total-at, total-map}
+use Rattle.lists.specs.Lists.{total, all, ifAny, joined}
+use Rattle.lists.specs.ListLaws.{T-left, all-head, all-tail, ahead-le, none-fail, total-append, total-split, total-at, total-map}
 use Rattle.characters.specs.Characters.{known}
 use Rattle.language.specs.Limits as limit
 use Rattle.language.specs.Letters.{Var, Reading, use-of}
@@ -143,7 +143,11 @@ module _ (ins : Inputs) where
   unfolding store-faults
   clean-after s a h =
       let g : Record → ℕ = record-faults (s .last) in
-      omega (arith, total-append g (file-of s a .before) (file-of s a .after), total-at (λ f. total g (records f)) empty-file refl (s .files) (pred (place a)))
+      omega (
+        arith,
+        total-append g (file-of s a .before) (file-of s a .after),
+        total-at (λ f. total g (records f)) empty-file refl (s .files) (pred (place a)),
+      )
 
   -- inputs of the 61 characters
   pub unread-known : (s : Store) (a : Arg) → total (total strange) ins ≡ 0 → total strange (unread ins s a) ≡ 0
@@ -192,4 +196,9 @@ module _ (ins : Inputs) where
       inside : (n : ℕ) → s .last < n → total (λ r. equal-count n (r .addr)) (file-of s a .before) ≡ 0
       inside n k =
           let g : Record → ℕ = λ r. equal-count n (r .addr) in
-          omega (arith, sound-given ins h n k, total-append g (file-of s a .before) (file-of s a .after), total-at (λ f. total g (records f)) empty-file refl (s .files) (pred (place a)))
+          omega (
+            arith,
+            sound-given ins h n k,
+            total-append g (file-of s a .before) (file-of s a .after),
+            total-at (λ f. total g (records f)) empty-file refl (s .files) (pred (place a)),
+          )

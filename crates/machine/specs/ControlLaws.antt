@@ -69,7 +69,8 @@ module _ (p : Program) where
   Allowed o back = Unit {0}
 
   -- the entries of a switch, a missing one too, are good
-  entries-good : (ws : List Switch) → T (all (good-switch p) ws) → (k : ℕ) → let w = getD ws k no-switch in T (all (good-entry p (w .byName)) (w .entries))
+  entries-good : (ws : List Switch) → T (all (good-switch p) ws) → (k : ℕ)
+      → let w = getD ws k no-switch in T (all (good-entry p (w .byName)) (w .entries))
   unfolding good-switch
   entries-good [] h k = tt
   entries-good (w ∷ ws) h zero = T-right (filled (w .entries)) (all (good-entry p (w .byName)) (w .entries)) (all-head (good-switch p) w ws h)
@@ -80,7 +81,8 @@ module _ (p : Program) where
     label-in : (k : ℕ) → T (ltb k (length (p .labels))) → InTable (label-at p k .target)
     label-in k h =
         let l = label-at p k in
-        lt→ltb (l .target) (length (p .code)) (open-label p l (all-at (good-label p) (p .labels) labels k no-label (ltb→lt k (length (p .labels)) h)) .target)
+        let good = all-at (good-label p) (p .labels) labels k no-label (ltb→lt k (length (p .labels)) h) in
+        lt→ltb (l .target) (length (p .code)) (open-label p l good .target)
 
     entry-in : (b : Bool) (e : Entry) → T (good-entry p b e) → InTable (target-of p e)
     entry-in b e h = label-in (e .label) (T-left (ltb (e .label) (length (p .labels))) _ h)
@@ -95,9 +97,11 @@ module _ (p : Program) where
       goal-in (text t) f r = absurd f
       goal-in (Arg.number z) f r = absurd f
 
-      by-name-goes : (o : Op) (to : ℕ → Go) (missed : Store) (a b : Arg) → ((t : ℕ) → InTable t → Allowed o (to t)) → Allowed o on → Allowed o (by-name p ins s to missed a b .2)
+      by-name-goes : (o : Op) (to : ℕ → Go) (missed : Store) (a b : Arg) → ((t : ℕ) → InTable t → Allowed o (to t)) → Allowed o on
+          → Allowed o (by-name p ins s to missed a b .2)
       unfolding by-name
-      by-name-goes o to missed a b h n = go (named p ins s a b) (all-keep good _ (entries-of p ins s b) (entries-good (p .switches) switches (place b)))
+      by-name-goes o to missed a b h n =
+          go (named p ins s a b) (all-keep good _ (entries-of p ins s b) (entries-good (p .switches) switches (place b)))
         where
           good : Entry → Bool
           good e = good-entry p (switch-at p (place b) .byName) e
@@ -106,13 +110,15 @@ module _ (p : Program) where
           go [] t = n
           go (e ∷ es) t = h (target-of p e) (entry-in (switch-at p (place b) .byName) e (all-head good e es t))
 
-      by-index-goes : (o : Op) (to : ℕ → Go) (a b : Arg) → ((t : ℕ) → InTable t → Allowed o (to t)) → T (by-index p ins s to a b .0 56) → Allowed o (by-index p ins s to a b .2)
+      by-index-goes : (o : Op) (to : ℕ → Go) (a b : Arg) → ((t : ℕ) → InTable t → Allowed o (to t)) → T (by-index p ins s to a b .0 56)
+          → Allowed o (by-index p ins s to a b .2)
       unfolding by-index
       by-index-goes o to a b h y =
           let es = entries-of p ins s b in
           let z = value (first (side ins s a)) in
           let n = switch-at p (place b) .byName in
-          h _ (entry-in n (getD es (pred (natAbs z)) no-entry) (all-at (good-entry p n) es (entries-good (p .switches) switches (place b)) (pred (natAbs z)) no-entry (index-in z (length es) y)))
+          let good = entries-good (p .switches) switches (place b) in
+          h _ (entry-in n (getD es (pred (natAbs z)) no-entry) (all-at (good-entry p n) es good (pred (natAbs z)) no-entry (index-in z (length es) y)))
 
       jump-if-goes : (o : Op) (b : Bool) (go : Go) → Allowed o on → Allowed o go → Allowed o (jump-if p ins s b go .2)
       unfolding jump-if
@@ -124,12 +130,14 @@ module _ (p : Program) where
         instr o = record { op = o; line = line; first = a; second = b; third = c }
 
         -- of the operators whose one argument is a label
-        to-label : (o : Op) → T (good-instr p (instr o)) → (x y : Bool) → listed p (instr o) ≡ (((eqb (form p a) 108 || false) && x && y) || false) → InTable (goal p ins s a)
+        to-label : (o : Op) → T (good-instr p (instr o)) → (x y : Bool)
+            → listed p (instr o) ≡ (((eqb (form p a) 108 || false) && x && y) || false) → InTable (goal p ins s a)
         to-label o g x y e =
             let f = open-instr p (instr o) g in
             goal-in a (only (eqb (form p a) 108) x y (subst T e (f .forms))) (f .first)
 
-        pub row-goes : (o : Op) → T (good-instr p (instr o)) → ((n : ℕ) → T (among n numbers) → T (row p ins s a b c o .0 n)) → Allowed o (row p ins s a b c o .2)
+        pub row-goes : (o : Op) → T (good-instr p (instr o)) → ((n : ℕ) → T (among n numbers) → T (row p ins s a b c o .0 n))
+            → Allowed o (row p ins s a b c o .2)
         unfolding row equality ordered changed relation computed listed
         row-goes PRZESLIJ g y = tt
         row-goes CZYTAJ g y = tt
@@ -206,14 +214,17 @@ module _ (p : Program) (f : ProgramFacts p) where
       go (no k) (yes d) =
           let q : pred e ≡ pred (length (p .code)) = omega (arith, f .filled) in
           absurd (call-not-end (flow-at (pred e)) c (rw q (f .ends)))
-      go (no k) (no d) = absurd (subst (λ (i : Instr). T (is-call (operation (i .op) .flow))) (List·getD-eq-default (p .code) no-instr {n = pred e} (omega arith)) c)
+      go (no k) (no d) =
+          let q : instr-at p (pred e) ≡ no-instr = List·getD-eq-default (p .code) no-instr {n = pred e} (omega arith) in
+          absurd (subst (λ (i : Instr). T (is-call (operation (i .op) .flow))) q c)
 
   after-call : (n : ℕ) → T (is-call (flow-at n)) → T (good-return p (suc n))
   unfolding good-return
   after-call n h = T-both (ltb 0 (suc n)) (is-call (flow-at n)) (lt→ltb 0 (suc n) (omega arith)) h
 
   -- the next instruction is in the table
-  pub gone-in : (n : ℕ) (st : List ℕ) → n < length (p .code) → T (all (good-return p) st) → (g : Go) → Allowed p (instr-at p n .op) g → T (can-go g st) → gone g n st .0 < length (p .code)
+  pub gone-in : (n : ℕ) (st : List ℕ) → n < length (p .code) → T (all (good-return p) st) → (g : Go) → Allowed p (instr-at p n .op) g
+      → T (can-go g st) → gone g n st .0 < length (p .code)
   gone-in n st l r on a c = on-in n l a
   gone-in n st l r (jump t) a c = ltb→lt t (length (p .code)) a
   gone-in n st l r (call t) a c = ltb→lt t (length (p .code)) (a .0)
@@ -221,7 +232,8 @@ module _ (p : Program) (f : ProgramFacts p) where
   gone-in n (e ∷ st) l r back a c = return-in e (all-head (good-return p) e st r)
 
   -- the ways back stay just after calls
-  pub gone-returns : (n : ℕ) (st : List ℕ) → T (all (good-return p) st) → (g : Go) → Allowed p (instr-at p n .op) g → T (all (good-return p) (gone g n st .1))
+  pub gone-returns : (n : ℕ) (st : List ℕ) → T (all (good-return p) st) → (g : Go) → Allowed p (instr-at p n .op) g
+      → T (all (good-return p) (gone g n st .1))
   gone-returns n st r on a = r
   gone-returns n st r (jump t) a = r
   gone-returns n st r (call t) a = all-cons (good-return p) (suc n) st (after-call n (a .1)) r

@@ -1,6 +1,6 @@
 -- Every instruction keeps what a step keeps, once its questions are answered yes.
 use mathlib.Core.Path.{_≡_, refl}
-use mathlib.Core.Bool.{Bool, true, false, cond, _&&_}
+use mathlib.Core.Bool.{Bool, cond}
 use mathlib.Core.List.{List, [], _∷_, map}
 use Prim.Native.Nat.{ℕ}
 use native.Mathlib.Omega.{arith}
@@ -32,7 +32,8 @@ module _ (ins : Inputs) (p : Program) (s : Store) where
 
   module _ (i : total (total strange) ins ≡ 0) (h : Faultless ins s) where
     -- a move: the sequence is passed, then written
-    moved-keeps : (a c : Arg) (write : ℕ → Store → Store) → ((k : ℕ) (t : Store) → t .last ≡ s .last → Faultless ins t → Keeps ins t (write k t)) → Keeps ins s (moved p ins s a c write)
+    moved-keeps : (a c : Arg) (write : ℕ → Store → Store)
+        → ((k : ℕ) (t : Store) → t .last ≡ s .last → Faultless ins t → Keeps ins t (write k t)) → Keeps ins s (moved p ins s a c write)
     unfolding moved
     moved-keeps a c write hw =
         let r = reach ins s (use-by a .var) a c in
@@ -83,14 +84,17 @@ module _ (ins : Inputs) (p : Program) (s : Store) where
     read-front : (b : Arg) (xs : List Component) → Clean (s .last) xs → (t : Store) → t .last ≡ s .last → Faultless ins t → Keeps ins t (front b xs t)
     read-front b xs c t e k = front-keeps ins b xs t k (rw e c)
 
-    read-stored : (b : Arg) (xs : List (List Component)) → total (parts-faults (s .last)) xs ≡ 0 → (t : Store) → t .last ≡ s .last → Faultless ins t → Keeps ins t (stored b xs t)
+    read-stored : (b : Arg) (xs : List (List Component)) → total (parts-faults (s .last)) xs ≡ 0 → (t : Store) → t .last ≡ s .last
+        → Faultless ins t → Keeps ins t (stored b xs t)
     read-stored b xs c t e k = stored-keeps ins b xs t (rw e c)
 
-    wstaw-keeps : (a b : Arg) (xs : List Component) → Clean (s .last) xs → Keeps ins s (cond (filled xs) (moved p ins s a nothing (λ k. stored b (xs ∷ []))) (minus s))
+    wstaw-keeps : (a b : Arg) (xs : List Component) → Clean (s .last) xs
+        → Keeps ins s (cond (filled xs) (moved p ins s a nothing (λ k. stored b (xs ∷ []))) (minus s))
     wstaw-keeps a b [] e = minus-keeps ins s
     wstaw-keeps a b (x ∷ xs) e = moved-keeps a nothing _ (λ k. read-stored b ((x ∷ xs) ∷ []) (omega arith))
 
-    pobierz-keeps : (a b : Arg) (rs : List Record) → total (record-faults (s .last)) rs ≡ 0 → Keeps ins s (ifAny (minus s) (λ r. moved p ins s a (Arg.number (pos 1)) (λ k. into b (r .parts))) rs)
+    pobierz-keeps : (a b : Arg) (rs : List Record) → total (record-faults (s .last)) rs ≡ 0
+        → Keeps ins s (ifAny (minus s) (λ r. moved p ins s a (Arg.number (pos 1)) (λ k. into b (r .parts))) rs)
     pobierz-keeps a b [] e = minus-keeps ins s
     pobierz-keeps a b (r ∷ rs) e = moved-keeps a (Arg.number (pos 1)) _ (λ k. read-into b (r .parts) (omega arith))
 
@@ -101,11 +105,16 @@ module _ (ins : Inputs) (p : Program) (s : Store) where
     abbrev clean-parts : (a : Arg) (k : ℕ) → Clean (s .last) (take k (expr s a))
     clean-parts a k = clean-take (s .last) k (expr s a) (clean-expr ins s a h)
 
+    abbrev words-known : (a : Arg) (k : ℕ) → total strange (joined (map chars (take k (expr s a)))) ≡ 0
+    words-known a k = joined-known (s .last) (take k (expr s a)) (clean-parts a k)
+
     pub row-keeps : (o : Op) → ((n : ℕ) → T (among n numbers) → T (row p ins s a b c o .0 n)) → Keeps ins s (row p ins s a b c o .1)
     unfolding row equality ordered changed jump-if by-index
     row-keeps PRZESLIJ y = moved-keeps i h a c _ (λ k. read-into i h b _ (clean-parts a k))
-    row-keeps CZYTAJ y = moved-keeps i h a c _ (λ k. read-into i h b _ (clean-a-word (take k (unread ins s a)) (take-known k (unread ins s a) (unread-known ins s a i))))
-    row-keeps PISZ y = moved-keeps i h a c _ (λ k t e g. printed-keeps ins b _ t (joined-known (s .last) (take k (expr s a)) (clean-parts a k)))
+    row-keeps CZYTAJ y =
+        let w = unread ins s a in
+        moved-keeps i h a c _ (λ k. read-into i h b _ (clean-a-word (take k w) (take-known k w (unread-known ins s a i))))
+    row-keeps PISZ y = moved-keeps i h a c _ (λ k t e g. printed-keeps ins b _ t (words-known a k))
     row-keeps KOPIUJ y = moved-keeps i h a c _ (λ k. read-stored i h b _ (copied-faults (s .last) k (file-of s a .after) (clean-after ins s a h)))
     row-keeps WSTAW y = wstaw-keeps i h a b (expr s a) (clean-expr ins s a h)
     row-keeps POBIERZ y = pobierz-keeps i h a b (file-of s a .after) (clean-after ins s a h)
@@ -138,11 +147,12 @@ module _ (ins : Inputs) (p : Program) (s : Store) where
     row-keeps DZIEL y = computed-keeps i h a b _ (y 54 tt)
     row-keeps SLOWO y = front-used-keeps i h a _ (clean-decimal (s .last) (value (first (side ins s a))))
     row-keeps LICZBA y = front-used-keeps i h a _ (clean-number (s .last) (valueOf (chars (first (side ins s a)))) (y 54 tt))
-    row-keeps ZBIJ y = moved-keeps i h a b _ (λ k. read-front i h a _ (clean-a-word (joined (map chars (take k (expr s a)))) (joined-known (s .last) (take k (expr s a)) (clean-parts a k))))
+    row-keeps ZBIJ y = moved-keeps i h a b _ (λ k. read-front i h a _ (clean-a-word (joined (map chars (take k (expr s a)))) (words-known a k)))
     row-keeps ROZBIJ y =
         let w = chars (first (side ins s a)) in
         let k = taken (on-chars ins s b) w .0 in
-        keeps-trans ins (front-used-keeps i h a _ (clean-chars (s .last) (take k w) (take-known k w (first-known (s .last) (side ins s a) (clean-side ins p i s h a ga))))) (minus-unless-keeps ins _ _)
+        let w-known = first-known (s .last) (side ins s a) (clean-side ins p i s h a ga) in
+        keeps-trans ins (front-used-keeps i h a _ (clean-chars (s .last) (take k w) (take-known k w w-known))) (minus-unless-keeps ins _ _)
     row-keeps SZUKAJ y = relation-keeps i h _ _ a
     row-keeps OMIN y = moved-keeps i h a b _ (λ k t e g. keeps-refl ins t)
     row-keeps COFNIJ y = pointed-keeps ins a 0 s

@@ -1,11 +1,11 @@
 -- Chapter 5: what each of the 41 instructions asks and what it makes of the state.
 use mathlib.Core.Bool.{Bool, true, false, not, cond, _&&_, _||_}
-use mathlib.Core.List.{List, [], _∷_, _++_, map, reverse}
-use Prim.Native.Nat.{ℕ, zero, suc, pred, _+_, _*_, _-_, min}
-use lib.Dec.{leb, ltb, eqb}
-use lib.ListN.{length, getD, take, drop, set}
-use lib.IntN.{ℤ, pos, negsuc, _+ℤ_, _-ℤ_, _*ℤ_, natAbs}
-use lib.Signed.{ltZ, nonNeg, quotZ, remZ}
+use mathlib.Core.List.{List, [], _∷_, map}
+use Prim.Native.Nat.{ℕ, pred}
+use lib.Dec.{leb, eqb}
+use lib.ListN.{length, getD, take}
+use lib.IntN.{ℤ, pos, _+ℤ_, _-ℤ_, _*ℤ_, natAbs}
+use lib.Signed.{ltZ, quotZ, remZ}
 use Rattle.characters.specs.Characters.{precedes}
 use Rattle.language.specs.Letters.{Var}
 use Rattle.language.specs.Letters.Var.{expression, input, output, file}
@@ -75,7 +75,8 @@ module _ (p : Program) (ins : Inputs) (s : Store) where
   equal expression a b = any (matches (λ x. x) ins s b) (side ins s a)
   equal input a b = any (matches cut ins s b) (side ins s a)
   equal output a b = false
-  equal file a b = cond (is-whole (use-by b .reading)) (sameList same (next-parts (file-of s a)) (expr s b)) (any (matches (λ x. x) ins s b) (side ins s a))
+  equal file a b =
+      cond (is-whole (use-by b .reading)) (sameList same (next-parts (file-of s a)) (expr s b)) (any (matches (λ x. x) ins s b) (side ins s a))
 
   unfoldable pub equality : Arg → Arg → Row
   equality a b = relation (equal-asks a b) (equal (use-by a .var) a b) a

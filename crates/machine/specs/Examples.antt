@@ -40,7 +40,9 @@ examples =
     -- 7. WK B9,1 on empty E9: 52
     ∷ example WK (letter B 9) (num 1) nothing start (stops-with 52 start)
     -- 8. E8: 8, 3. RW A8,10: E8 unchanged, H minus
-    ∷ example RW (letter A 8) (num 10) nothing (E-is 8 (n (pos 8) ∷ n (pos 3) ∷ []) start) (on-to (H-minus (E-is 8 (n (pos 8) ∷ n (pos 3) ∷ []) start)))
+    ∷ example RW (letter A 8) (num 10) nothing
+    (E-is 8 (n (pos 8) ∷ n (pos 3) ∷ []) start)
+    (on-to (H-minus (E-is 8 (n (pos 8) ∷ n (pos 3) ∷ []) start)))
     -- 9. 8,388,607 DODAJ 1: 54
     ∷ example DODAJ (letter A 1) (num 1) nothing (E-is 1 (n (pos 8388607) ∷ []) start) (stops-with 54 (E-is 1 (n (pos 8388607) ∷ []) start))
     -- 10. USTAW to a deleted record: 58

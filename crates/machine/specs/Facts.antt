@@ -1,6 +1,6 @@
 -- What the tests of well-formed programs and states say, as facts with names.
 use mathlib.Core.Path.{_≡_}
-use Prim.Native.Nat.{ℕ, pred, _≤_, _<_}
+use Prim.Native.Nat.{pred, _≤_, _<_}
 use lib.Dec.{T}
 use lib.ListN.{length}
 use Rattle.lists.specs.Lists.{total, all}

@@ -3,10 +3,9 @@ use mathlib.Core.Path.{_≡_, refl}
 use mathlib.Core.List.{List, [], _∷_, map}
 use lib.IntN.{pos}
 use Rattle.lists.specs.Quoted.{bytes}
-use Rattle.language.specs.Letters.Letter.{A, B, C, D, E, I, P, Q, T, Y}
-use Rattle.language.specs.Program.{Arg}
+use Rattle.language.specs.Letters.Letter.{A, B, C, D, I, P, Q, T, Y}
 use Rattle.language.specs.Program.Arg.{nothing, letter, label, switch, class}
-use Rattle.language.specs.Program.Op.{PRZESLIJ, CZYTAJ, PISZ, KOPIUJ, ZAMIEN, UMIESC, SKRESL, RZ, SKOPL, WYMI, SKONA, SKOIN, ZBIJ, SZUKAJ, OMIN}
+use Rattle.language.specs.Program.Op.{PRZESLIJ, CZYTAJ, PISZ, KOPIUJ, UMIESC, SKRESL, RZ, SKOPL, WYMI, SKOIN, ZBIJ, SZUKAJ, OMIN}
 use Rattle.machine.specs.Runs.{ran}
 use Rattle.machine.specs.Runs.Answer.{pause}
 use Rattle.machine.specs.Steps.{opened}
@@ -16,7 +15,9 @@ use Rattle.machine.specs.Notation.{w, n, rec, num, txt, start, E-is, P-i
 abbrev pub worked : List Example
 worked =
     -- 5.1.1: into the expression that it is taken from; the class R is not met
-    example PRZESLIJ (letter A 3) (letter Y 3) (class (bytes "R")) (E-is 3 (w "ALFA" ∷ w " " ∷ []) start) (on-to (H-minus (E-is 3 (w " " ∷ w "ALFA" ∷ []) start)))
+    example PRZESLIJ (letter A 3) (letter Y 3) (class (bytes "R"))
+    (E-is 3 (w "ALFA" ∷ w " " ∷ []) start)
+    (on-to (H-minus (E-is 3 (w " " ∷ w "ALFA" ∷ []) start)))
     -- 5.1.2: up to a digit, as one word at the end
     ∷ record {
       code = does CZYTAJ (letter I 1) (letter Y 3) (class (bytes "D")) ∷ [];
@@ -51,7 +52,8 @@ worked =
     -- 5.5.3: the second label of LX
     ∷ example SKOIN (letter B 1) (switch 0) nothing (E-is 1 (n (pos 2) ∷ w "A" ∷ []) start) (jumps-to 5 [] (E-is 1 (n (pos 2) ∷ w "A" ∷ []) start))
     -- 5.7.3: no component is ;
-    ∷ example ZBIJ (letter A 2) (txt ";") nothing (E-is 2 (w "ALFA" ∷ w "=" ∷ w "X" ∷ w "+" ∷ w "3" ∷ []) start) (on-to (H-minus (E-is 2 (w "ALFA=X+3" ∷ []) start)))
+    ∷ example ZBIJ (letter A 2) (txt ";") nothing
+    (E-is 2 (w "ALFA" ∷ w "=" ∷ w "X" ∷ w "+" ∷ w "3" ∷ []) start) (on-to (H-minus (E-is 2 (w "ALFA=X+3" ∷ []) start)))
     -- 5.8.1: an entry's text is met, so A removes the word
     ∷ example SZUKAJ (letter A 3) (switch 1) nothing (E-is 3 (w "+" ∷ w "A" ∷ []) start) (on-to (E-is 3 (w "A" ∷ []) start))
     -- 5.8.2: up to the record that begins with ALFA

@@ -1,5 +1,5 @@
 -- Ways to write an example down: a few instructions, a store before them, and the run that they give.
-use mathlib.Core.Bool.{Bool, true, false}
+use mathlib.Core.Bool.{true, false}
 use mathlib.Core.List.{List, [], _∷_, _++_}
 use Prim.Native.Nat.{ℕ}
 use Prim.Native.String.{String}
@@ -7,11 +7,11 @@ use lib.ListN.{length, replicate}
 use lib.IntN.{ℤ, pos, negℤ}
 use Rattle.lists.specs.Quoted.{bytes}
 use Rattle.language.specs.Letters.Letter.{E, P}
-use Rattle.language.specs.Program.{Arg, Op, Instr, Label, Entry, Switch, Program, no-instr}
+use Rattle.language.specs.Program.{Arg, Op, Instr, Label, Entry, Program, no-instr}
 use Rattle.language.specs.Program.Arg.{letter}
 use Rattle.language.specs.Values.{Component, Record, Store, State, Inputs}
 use Rattle.language.specs.Values.Component.{word}
-use Rattle.machine.specs.Changes.{with-exprs, with-files, with-plus, with-outputs, with-places, put-expr, put-file}
+use Rattle.machine.specs.Changes.{with-files, with-plus, with-outputs, with-places, put-expr, put-file}
 use Rattle.machine.specs.Runs.{Run, ran, run}
 use Rattle.machine.specs.Runs.Answer.{pause, stopped}
 use Rattle.machine.specs.Steps.{step}

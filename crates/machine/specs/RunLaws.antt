@@ -14,7 +14,8 @@ module _ {S : Type 0} (step : S → Outcome S) where
   says-after (used-up e) = used-up (ap suc e)
   says-after (halted l e) = halted (suc-le-suc l) e
 
-  lawful-after : (b : ℕ) (s : S) (k : S → Run S) → ((t : S) → Lawful step b t (k t)) → (o : Outcome S) → step s ≡ o → Lawful step (suc b) s (after s k o)
+  lawful-after : (b : ℕ) (s : S) (k : S → Run S) → ((t : S) → Lawful step b t (k t)) → (o : Outcome S) → step s ≡ o
+      → Lawful step (suc b) s (after s k o)
   lawful-after b s k h (stop n) e = record { goes = here; says = halted (omega arith) e }
   lawful-after b s k h (went t) e = record { goes = on e (h t .goes); says = says-after (h t .says) }
 
@@ -23,11 +24,13 @@ module _ {S : Type 0} (step : S → Outcome S) where
   run-lawful zero s = record { goes = here; says = used-up refl }
   run-lawful (suc b) s = lawful-after b s (run step b) (run-lawful b) (step s) refl
 
-  counted-on : (b c : ℕ) (s : S) (x : Answer) → let r = goes-on step b s c x in ran (r .answer) (suc (r .count)) (r .state) ≡ goes-on step b s (suc c) x
+  counted-on : (b c : ℕ) (s : S) (x : Answer)
+      → let r = goes-on step b s c x in ran (r .answer) (suc (r .count)) (r .state) ≡ goes-on step b s (suc c) x
   counted-on b c s pause = let r = run step b s in ap (λ n. ran (r .answer) n (r .state)) (sym (suc-add c (r .count)))
   counted-on b c s (stopped n) = refl
 
-  add-after : (b : ℕ) (s : S) (k l : S → Run S) → ((t : S) → l t ≡ resumed step b (k t)) → (o : Outcome S) → after s l o ≡ resumed step b (after s k o)
+  add-after : (b : ℕ) (s : S) (k l : S → Run S) → ((t : S) → l t ≡ resumed step b (k t)) → (o : Outcome S)
+      → after s l o ≡ resumed step b (after s k o)
   add-after b s k l h (stop n) = refl
   add-after b s k l h (went t) =
       ap (λ r. ran (r .answer) (suc (r .count)) (r .state)) (h t) ∙ counted-on b (k t .count) (k t .state) (k t .answer)

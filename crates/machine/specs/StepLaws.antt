@@ -12,7 +12,7 @@ use Rattle.language.specs.Limits as limit
 use Rattle.language.specs.Program.{Program, no-instr, instr-at}
 use Rattle.language.specs.Values.{State, Inputs}
 use Rattle.machine.specs.Changes.{fits}
-use Rattle.machine.specs.Runs.{Outcome, Goes, run}
+use Rattle.machine.specs.Runs.{Goes, run}
 use Rattle.machine.specs.Runs.Outcome.{stop, went}
 use Rattle.machine.specs.Runs.Goes.{here, on}
 use Rattle.machine.specs.Steps.{meaning, can-go, made, numbers, asks-after, questions, refusals, step}
@@ -53,7 +53,8 @@ module _ (p : Program) (ins : Inputs) where
   step-made s e = went-to (refusals (questions p ins s)) e
 
   -- and all its questions are answered yes
-  pub step-asks : (s : State) {t : State} → step p ins s ≡ went t → (n : ℕ) → T (among n numbers) → T (meaning p ins s .0 n && asks-after (meaning p ins s) s n)
+  pub step-asks : (s : State) {t : State} → step p ins s ≡ went t → (n : ℕ) → T (among n numbers)
+      → T (meaning p ins s .0 n && asks-after (meaning p ins s) s n)
   unfolding step questions
   step-asks s {t} e =
       let r = meaning p ins s in
@@ -89,51 +90,56 @@ module _ (p : Program) (ins : Inputs) where
         after-asks : (n : ℕ) → T (among n numbers) → T (asks-after (meaning p ins s) s n)
         after-asks n m = T-right (meaning p ins s .0 n) (asks-after (meaning p ins s) s n) (step-asks s e n m)
 
-        made-keeps : Keeps ins (s .store) (made (meaning p ins s) s .store)
-        unfolding meaning
-        made-keeps =
-            let i = instr-at p (s .next) in
-            row-keeps ins p (s .store) (open-inputs ins gi) state-sound (i .first) (i .second) (i .third) (open-instr p i instr-good .first) (i .op) row-asks
+        -- the state that the row makes
+        abbrev after : State
+        after = made (meaning p ins s) s
 
-        made-allowed : Allowed p (instr-at p (s .next) .op) (meaning p ins s .2)
+        after-keeps : Keeps ins (s .store) (after .store)
         unfolding meaning
-        made-allowed =
+        after-keeps =
+            let i = instr-at p (s .next) in
+            let ranged = open-instr p i instr-good .first in
+            row-keeps ins p (s .store) (open-inputs ins gi) state-sound (i .first) (i .second) (i .third) ranged (i .op) row-asks
+
+        after-allowed : Allowed p (instr-at p (s .next) .op) (meaning p ins s .2)
+        unfolding meaning
+        after-allowed =
             let i = instr-at p (s .next) in
             row-goes p (program .labels) (program .switches) ins (s .store) (i .line) (i .first) (i .second) (i .third) (i .op) instr-good row-asks
 
-        made-good : T (good-state p ins (made (meaning p ins s) s))
-        made-good =
-            let r = meaning p ins s in
-            let t = made r s in
+        after-limits : T (fits (after .store) && leb (length (after .stack)) limit.stack)
+        after-limits = T-left (fits (after .store) && leb (length (after .stack)) limit.stack) true (after-asks 59 tt)
+
+        after-store : StoreFacts ins (after .store)
+        after-store =
             let f = stored-facts in
-            let k = made-keeps .shape in
-            let limits = T-left (fits (t .store) && leb (length (t .stack)) limit.stack) true (after-asks 59 tt) in
-            let goes = T-left (can-go (r .2) (s .stack)) true (T-left (can-go (r .2) (s .stack) && true) true (after-asks 57 tt)) in
-            shut-state p ins t
-            (
+            let k = after-keeps .shape in
             record {
-              store = shut-store ins (t .store) (
-                  record {
-                    exprs = k .exprs ∙ f .exprs;
-                    files = k .files ∙ f .files;
-                    outputs = k .outputs ∙ f .outputs;
-                    places = k .places ∙ f .places;
-                    limits = T-left (fits (t .store)) (leb (length (t .stack)) limit.stack) limits;
-                    given = leb→le (t .store .last) limit.addresses (after-asks 60 tt);
-                    sound = keeps-sound ins made-keeps state-sound;
-                  }
-                  );
-              next = gone-in p program (s .next) (s .stack) (state .next) (state .returns) (r .2) made-allowed goes;
-              depth = leb→le (length (t .stack)) limit.stack (T-right (fits (t .store)) (leb (length (t .stack)) limit.stack) limits);
-              returns = gone-returns p program (s .next) (s .stack) (state .returns) (r .2) made-allowed;
+              exprs = k .exprs ∙ f .exprs;
+              files = k .files ∙ f .files;
+              outputs = k .outputs ∙ f .outputs;
+              places = k .places ∙ f .places;
+              limits = T-left (fits (after .store)) (leb (length (after .stack)) limit.stack) after-limits;
+              given = leb→le (after .store .last) limit.addresses (after-asks 60 tt);
+              sound = keeps-sound ins after-keeps state-sound;
             }
-            )
+
+        after-state : StateFacts p ins after
+        after-state =
+            let g = meaning p ins s .2 in
+            let goes = T-left (can-go g (s .stack)) true (T-left (can-go g (s .stack) && true) true (after-asks 57 tt)) in
+            record {
+              store = shut-store ins (after .store) after-store;
+              next = gone-in p program (s .next) (s .stack) (state .next) (state .returns) g after-allowed goes;
+              depth = leb→le (length (after .stack)) limit.stack (T-right (fits (after .store)) (leb (length (after .stack)) limit.stack) after-limits);
+              returns = gone-returns p program (s .next) (s .stack) (state .returns) g after-allowed;
+            }
 
         pub step-keeps : Keeps ins (s .store) (t .store)
-        step-keeps = subst (λ (u : State). Keeps ins (s .store) (u .store)) (step-made s e) made-keeps
+        step-keeps = subst (λ (u : State). Keeps ins (s .store) (u .store)) (step-made s e) after-keeps
 
         pub step-good : T (good-state p ins t)
-        step-good = subst (λ (u : State). T (good-state p ins u)) (step-made s e) made-good
+        step-good = subst (λ (u : State). T (good-state p ins u)) (step-made s e) (shut-state p ins after after-state)
 
         -- an address that was given and that no record has, no record gets
         pub step-deleted : (n : ℕ) → n ≤ s .store .last → times n (s .store) ≡ 0 → times n (t .store) ≡ 0

@@ -1,8 +1,8 @@
 -- "A step.": its questions in order, of which the first answered no names the stop; where there is none, its effect.
-use mathlib.Core.Bool.{Bool, true, false, cond, _&&_}
+use mathlib.Core.Bool.{Bool, true, cond, _&&_}
 use mathlib.Core.List.{List, [], _∷_, map}
 use Prim.Native.Nat.{ℕ, suc}
-use lib.Dec.{leb, eqb}
+use lib.Dec.{leb}
 use lib.ListN.{length, drop}
 use Rattle.language.specs.Limits as limit
 use Rattle.language.specs.Program.{Program, instr-at}
@@ -50,7 +50,9 @@ numbers = 50 ∷ 52 ∷ 53 ∷ 54 ∷ 55 ∷ 56 ∷ 57 ∷ 58 ∷ 59 ∷ 60 ∷ 
 abbrev pub asks-after : Row → State → Asks
 asks-after r s =
     let t = made r s in
-    ask 57 (can-go (r .2) (s .stack)) & ask 59 (fits (t .store) && leb (length (t .stack)) limit.stack) & ask 60 (leb (t .store .last) limit.addresses)
+    ask 57 (can-go (r .2) (s .stack))
+    & ask 59 (fits (t .store) && leb (length (t .stack)) limit.stack)
+    & ask 60 (leb (t .store .last) limit.addresses)
 
 -- "Is it other than STOP? 50" and all that follows
 unfoldable pub questions : Program → Inputs → State → List Question

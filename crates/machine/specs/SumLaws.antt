@@ -1,6 +1,5 @@
 -- What every limit counts, after one expression, file or output is replaced: each rests on `total-set`, the one fact over the index.
 use mathlib.Core.Path.{_≡_, refl}
-use mathlib.Core.Bool.{Bool}
 use mathlib.Core.List.{List, [], _∷_, _++_}
 use Prim.Native.Nat.{ℕ, zero, suc, pred, _+_, _-_, _≤_, _<_}
 use native.Mathlib.Omega.{arith}
@@ -27,7 +26,10 @@ module _ (a : Arg) (s : Store) where
       → held g (put-file a xs ys s) + total (λ r. total g (r .parts)) (records (file-of s a)) ≡ held g s + total (λ r. total g (r .parts)) (xs ++ ys)
   unfolding held put-file with-files
   held-put-file g xs ys l =
-      omega (arith, total-set (λ f. total (λ r. total g (r .parts)) (records f)) empty-file (s .files) (pred (place a)) (record { before = xs; after = ys }) l)
+      omega (
+        arith,
+        total-set (λ f. total (λ r. total g (r .parts)) (records f)) empty-file (s .files) (pred (place a)) (record { before = xs; after = ys }) l,
+      )
 
   -- records
   pub recorded-put-expr : (g : Record → ℕ) (xs : List Component) → recorded g (put-expr a xs s) ≡ recorded g s

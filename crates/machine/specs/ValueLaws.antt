@@ -1,6 +1,5 @@
 -- Laws of components: `same` is equality.
 use mathlib.Core.Path.{_≡_, ap}
-use Prim.Native.Nat.{ℕ}
 use native.Mathlib.Nat.{le-antisymm}
 use lib.Dec.{T, eqb→eq, eqb-refl, leb→le}
 use lib.IntN.{ℤ, pos, negsuc}

@@ -1,9 +1,9 @@
 -- Well-formed programs, inputs and states: questions 62, 61 and 63; and the state that start makes.
 use mathlib.Core.Bool.{Bool, true, false, not, cond, _&&_, _||_}
 use mathlib.Core.List.{List, [], _∷_, _++_, map}
-use Prim.Native.Nat.{ℕ, zero, suc, pred, _+_, _-_}
+use Prim.Native.Nat.{ℕ, pred, _+_, _-_}
 use lib.Dec.{leb, ltb, eqb}
-use lib.ListN.{length, getD, replicate}
+use lib.ListN.{length, replicate}
 use lib.IntN.{ℤ, natAbs}
 use Rattle.language.specs.Limits as limit
 use Rattle.characters.specs.Characters.{known}
@@ -148,7 +148,10 @@ overrun (n ∷ ns) (w ∷ ws) = (n - length w) + overrun ns ws
 
 unfoldable pub store-faults : Inputs → ℕ → Store → ℕ
 store-faults ins l s =
-    total (total (faults l)) (s .exprs) + total (λ f. total (record-faults l) (records f)) (s .files) + total (total strange) (s .outputs) + overrun (s .places) ins
+    total (total (faults l)) (s .exprs)
+    + total (λ f. total (record-faults l) (records f)) (s .files)
+    + total (total strange) (s .outputs)
+    + overrun (s .places) ins
 
 -- the records of all files, and their addresses
 abbrev pub all-records : List File → List Record
@@ -175,7 +178,12 @@ unfoldable pub good-store : Inputs → Store → Bool
 good-store ins s = every (store-tests ins s)
 
 abbrev pub state-tests : Program → Inputs → State → List Bool
-state-tests p ins s = good-store ins (s .store) ∷ ltb (s .next) (length (p .code)) ∷ leb (length (s .stack)) limit.stack ∷ all (good-return p) (s .stack) ∷ []
+state-tests p ins s =
+    good-store ins (s .store)
+    ∷ ltb (s .next) (length (p .code))
+    ∷ leb (length (s .stack)) limit.stack
+    ∷ all (good-return p) (s .stack)
+    ∷ []
 
 unfoldable pub good-state : Program → Inputs → State → Bool
 good-state p ins s = every (state-tests p ins s)

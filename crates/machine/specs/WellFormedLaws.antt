@@ -1,20 +1,20 @@
 -- From the tests of well-formed programs, inputs and states to the facts that proofs use, and back; and `started` is well formed.
-use mathlib.Core.Path.{_≡_, refl, _∙_, subst}
-use mathlib.Core.Bool.{Bool, true, false, _&&_}
+use mathlib.Core.Path.{_≡_, refl}
+use mathlib.Core.Bool.{Bool, _&&_}
 use mathlib.Core.List.{List, [], _∷_}
-use Prim.Native.Nat.{ℕ, zero, suc, _+_, _≤_, _<_}
+use Prim.Native.Nat.{ℕ, zero, suc, _≤_, _<_}
 use native.Mathlib.Omega.{arith}
 use native.Mathlib.Decide.{decLe}
 use lib.Dec.{T, leb, ltb, eqb, leb→le, ltb→lt, eqb→eq, eqb-refl, le→leb, lt→ltb}
-use lib.ListN.{length, getD}
+use lib.ListN.{length, drop}
 use Rattle.lists.specs.Lists.{total, all}
-use Rattle.lists.specs.ListLaws.{T-left, T-right, T-both, part, parts, all-head, all-tail, none-fail}
+use Rattle.lists.specs.ListLaws.{T-left, T-right, T-both, part, Passed, parts, all-head, all-tail, none-fail}
 use Rattle.characters.specs.Characters.{known}
 use Rattle.language.specs.Limits as limit
 use Rattle.language.specs.Program.{Instr, Label, Program, identifier}
 use Rattle.language.specs.Values.{Store, State, Inputs}
 use Rattle.machine.specs.Changes.{held, recorded, fits}
-use Rattle.machine.specs.WellFormed.{ranged, listed, good-instr, good-label, program-tests, good-program, good-return, good-inputs, strange, overrun, store-faults, addresses, store-tests, good-store, state-tests, good-state, started}
+use Rattle.machine.specs.WellFormed.{ranged, listed, good-instr, good-label, program-tests, good-program, good-inputs, strange, overrun, store-faults, addresses, store-tests, good-store, state-tests, good-state, started}
 use Rattle.machine.specs.Addresses.{count-of, times, uses}
 use Rattle.machine.specs.Keeps.{Sound}
 use Rattle.machine.specs.Facts.{InstrFacts, LabelFacts, ProgramFacts, StoreFacts, StateFacts}
@@ -91,7 +91,11 @@ module _ (ins : Inputs) (s : Store) where
   open-sound : T (good-store ins s) → Sound ins s
   unfolding good-store
   open-sound h =
-      record { once = λ n. once n (decLe 1 (times n s)); from-1 = zero-none (decLe 1 (times 0 s)); no-faults = eqb→eq (store-faults ins (s .last) s) 0 (part (store-tests ins s) h 6) }
+      record {
+        once = λ n. once n (decLe 1 (times n s));
+        from-1 = zero-none (decLe 1 (times 0 s));
+        no-faults = eqb→eq (store-faults ins (s .last) s) 0 (part (store-tests ins s) h 6);
+      }
     where
       within : (n : ℕ) → 1 ≤ times n s → T (ltb 0 n && leb n (s .last))
       within n k = counted-all (λ m. ltb 0 m && leb m (s .last)) (addresses s) (part (store-tests ins s) h 7) n (omega (arith, times-is n s))
@@ -102,7 +106,12 @@ module _ (ins : Inputs) (s : Store) where
 
       once : (n : ℕ) → Dec (1 ≤ times n s) → uses n s ≤ 1
       once n (yes k) =
-          omega (arith, times-is n s, different-once n (addresses s) (part (store-tests ins s) h 8), ungiven-old (leb→le n (s .last) (T-right (ltb 0 n) (leb n (s .last)) (within n k))))
+          omega (
+            arith,
+            times-is n s,
+            different-once n (addresses s) (part (store-tests ins s) h 8),
+            ungiven-old (leb→le n (s .last) (T-right (ltb 0 n) (leb n (s .last)) (within n k))),
+          )
       once n (no k) = omega (arith, ungiven-le (s .last) n)
 
   pub open-store : T (good-store ins s) → StoreFacts ins s
@@ -122,8 +131,9 @@ module _ (ins : Inputs) (s : Store) where
   pub shut-store : StoreFacts ins s → T (good-store ins s)
   unfolding good-store
   shut-store f =
-      parts (store-tests ins s)
-      (same (f .exprs), (same (f .files), (same (f .outputs), (same (f .places), (f .limits, (le→leb (s .last) limit.addresses (f .given), (same (f .sound .no-faults), (within, (once-different (addresses s) once, tt)))))))))
+      let records-parts : Passed (drop 6 (store-tests ins s)) = (same (f .sound .no-faults), (within, (once-different (addresses s) once, tt))) in
+      let limits-parts : Passed (drop 4 (store-tests ins s)) = (f .limits, (le→leb (s .last) limit.addresses (f .given), records-parts)) in
+      parts (store-tests ins s) (same (f .exprs), (same (f .files), (same (f .outputs), (same (f .places), limits-parts))))
     where
       same : {m n : ℕ} → m ≡ n → T (eqb m n)
       same {m} {n} e = rw e (eqb-refl n)
@@ -136,13 +146,16 @@ module _ (ins : Inputs) (s : Store) where
       below n k (yes l) = l
       below n k (no l) = absurd (omega (arith, f .sound .once n, ungiven-new {l = s .last} {n = n} (omega arith)))
 
+      given : (n : ℕ) → 1 ≤ times n s → T (ltb 0 n && leb n (s .last))
+      given n k = T-both (ltb 0 n) (leb n (s .last)) (lt→ltb 0 n (positive n k)) (le→leb n (s .last) (below n k (decLe n (s .last))))
+
       once : (n : ℕ) → count-of n (addresses s) ≤ 1
       once n = omega (arith, times-is n s, f .sound .once n)
 
       within : T (all (λ n. ltb 0 n && leb n (s .last)) (addresses s))
       within =
           all-counted (λ n. ltb 0 n && leb n (s .last)) (addresses s)
-          (λ n h. let k : 1 ≤ times n s = omega (arith, times-is n s) in T-both (ltb 0 n) (leb n (s .last)) (lt→ltb 0 n (positive n k)) (le→leb n (s .last) (below n k (decLe n (s .last)))))
+          (λ n h. given n (omega (arith, times-is n s)))
 
 module _ (p : Program) (ins : Inputs) (s : State) where
   pub open-state : T (good-state p ins s) → StateFacts p ins s
