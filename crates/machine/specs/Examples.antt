@@ -2,6 +2,7 @@
 use mathlib.Core.Path.{_≡_, refl}
 use mathlib.Core.List.{List, [], _∷_, map}
 use lib.IntN.{pos}
+use Rattle.characters.specs.Characters.{rank}
 use Rattle.language.specs.Letters.Letter.{A, B, C, P}
 use Rattle.language.specs.Program.Arg.{nothing, letter}
 use Rattle.language.specs.Program.Op.{PRZESLIJ, KOPIUJ, USTAW, SKRESL, RW, WK, DODAJ, DZIEL, SLOWO, LICZBA, ROZBIJ}
@@ -63,3 +64,7 @@ examples =
 pub marked : map result examples ≡ map (λ x. x .gives) examples
 unfolding opened started
 marked = refl
+
+-- "A is 21, Z 46, SI 47, 0 is 48, LF 58."
+pub ranks : map rank (65 ∷ 90 ∷ 15 ∷ 48 ∷ 10 ∷ []) ≡ 21 ∷ 46 ∷ 47 ∷ 48 ∷ 58 ∷ []
+ranks = refl

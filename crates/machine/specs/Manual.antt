@@ -1,4 +1,4 @@
--- Examples of chapter 5 of the manual, one of each kind, as a second checked table.
+-- Examples of chapter 5 of the manual, one of each kind and some shortened, as a second checked table.
 use mathlib.Core.Path.{_≡_, refl}
 use mathlib.Core.List.{List, [], _∷_, map}
 use lib.IntN.{pos}
@@ -21,7 +21,7 @@ worked =
     -- 5.1.2: up to a digit, as one word at the end
     ∷ record {
       code = does CZYTAJ (letter I 1) (letter Y 3) (class (bytes "D")) ∷ [];
-      inputs = bytes "X1=28; " ∷ [] ∷ [];
+      inputs = bytes "X1=28;\n " ∷ [] ∷ [];
       before = E-is 3 (w "PQ" ∷ []) start;
       gives = on-to (I1-at 1 (E-is 3 (w "PQ" ∷ w "X" ∷ []) start));
     }
