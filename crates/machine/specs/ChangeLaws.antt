@@ -17,7 +17,7 @@ use Rattle.machine.specs.Arguments.{place, use-by, expr, file-of, record
 use Rattle.machine.specs.Changes.{with-exprs, with-files, with-plus, with-outputs, with-places, put, put-expr, put-file, minus, minus-unless, placed, into, front, printed, stamped, stored, past-file, past-by, past, used-by, used, records-to, pointed, recorded}
 use Rattle.machine.specs.WellFormed.{strange, faults, parts-faults, record-faults, overrun, store-faults}
 use Rattle.machine.specs.Addresses.{equal-count, ungiven}
-use Rattle.machine.specs.Keeps.{Clean, Faultless, Keeps}
+use Rattle.machine.specs.Keeps.{Clean, Faultless, Enough, Keeps}
 use Rattle.machine.specs.AddressLaws.{ungiven-next}
 use Rattle.machine.specs.KeepLaws.{keeps-refl}
 use Rattle.machine.specs.SumLaws.{overrun-set, overrun-at}
@@ -88,13 +88,6 @@ module _ (ins : Inputs) where
       let old = getD (s .outputs) (pred (place a)) [] in
       beside s _ _ _ (length-set (s .outputs) (pred (place a)) (old ++ w)) refl
       (λ h. omega (arith, total-append strange old w, total-put (total strange) [] refl (s .outputs) (pred (place a)) (old ++ w)))
-
-  -- as many as there are to read
-  abbrev pub Enough : Var → Store → Arg → ℕ → Type 0
-  Enough expression s a k = Unit {0}
-  Enough input s a k = k ≤ length (unread ins s a)
-  Enough output s a k = Unit {0}
-  Enough file s a k = Unit {0}
 
   places-within : (s : Store) (a : Arg) (k : ℕ) → Faultless ins s → k ≤ length (unread ins s a)
       → overrun (put (s .places) a (getD (s .places) (pred (place a)) 0 + k)) ins ≡ 0
@@ -257,7 +250,7 @@ module _ (ins : Inputs) where
         total-split g k (f .after),
       ))
 
-  past-by-keeps : (v : Var) (a : Arg) (k : ℕ) (s : Store) → Faultless ins s → Enough v s a k → Keeps ins s (past-by v a k s)
+  past-by-keeps : (v : Var) (a : Arg) (k : ℕ) (s : Store) → Faultless ins s → Enough ins v s a k → Keeps ins s (past-by v a k s)
   unfolding past-by with-places
   past-by-keeps expression a k s h e = go (use-by a .removes)
     where
@@ -268,7 +261,7 @@ module _ (ins : Inputs) where
   past-by-keeps output a k s h e = keeps-refl ins s
   past-by-keeps file a k s h e = past-file-keeps (use-by a .removes) a k s
 
-  pub past-keeps : (a : Arg) (k : ℕ) (s : Store) → Faultless ins s → Enough (use-by a .var) s a k → Keeps ins s (past a k s)
+  pub past-keeps : (a : Arg) (k : ℕ) (s : Store) → Faultless ins s → Enough ins (use-by a .var) s a k → Keeps ins s (past a k s)
   unfolding past
   past-keeps a k s h e = past-by-keeps (use-by a .var) a k s h e
 

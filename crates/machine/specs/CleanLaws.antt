@@ -25,10 +25,10 @@ use Rattle.machine.specs.Arguments.Until.{everything, number-of, up-to}
 use Rattle.machine.specs.Changes.{address-of-last, recorded}
 use Rattle.machine.specs.WellFormed.{good-word, good-text, kept-text, kept-number, ranged, void, strange, faults, parts-faults, record-faults, store-faults}
 use Rattle.machine.specs.Addresses.{equal-count}
-use Rattle.machine.specs.Keeps.{Clean, Faultless, Sound}
+use Rattle.machine.specs.Keeps.{Clean, Faultless, Enough, Sound}
 use Rattle.machine.specs.AddressLaws.{equal-self}
 use Rattle.machine.specs.KeepLaws.{sound-given}
-use Rattle.machine.specs.ChangeLaws.{Enough, clean-expr}
+use Rattle.machine.specs.ChangeLaws.{clean-expr}
 
 -- Characters
 

@@ -24,7 +24,7 @@ use Rattle.machine.specs.Effects.{Go, jump-if, relation, equality, order
 use Rattle.machine.specs.Effects.Go.{on, jump, call, back}
 use Rattle.machine.specs.Steps.{numbers, gone, can-go}
 use Rattle.machine.specs.WellFormed.{form, ranged, listed, good-instr, good-label, good-entry, good-switch, good-return}
-use Rattle.machine.specs.Facts.{ProgramFacts}
+use Rattle.machine.specs.Facts.{ProgramFacts, InTable, Allowed}
 use Rattle.machine.specs.WellFormedLaws.{open-instr, open-label}
 
 -- Forms: of the arguments only a label has the form 108
@@ -58,16 +58,6 @@ index-in (pos k) n h = omega (arith, ltb→lt 0 k (T-left (ltb 0 k) (leb k n) h)
 index-in (negsuc k) n h = absurd h
 
 module _ (p : Program) where
-  abbrev pub InTable : ℕ → Type 0
-  InTable t = T (ltb t (length (p .code)))
-
-  -- what an operator may do next
-  abbrev pub Allowed : Op → Go → Type 0
-  Allowed o on = T (not (is-end (operation o .flow)))
-  Allowed o (jump t) = InTable t
-  Allowed o (call t) = InTable t × T (is-call (operation o .flow))
-  Allowed o back = Unit {0}
-
   -- the entries of a switch, a missing one too, are good
   entries-good : (ws : List Switch) → T (all (good-switch p) ws) → (k : ℕ)
       → let w = getD ws k no-switch in T (all (good-entry p (w .byName)) (w .entries))
@@ -78,17 +68,17 @@ module _ (p : Program) where
 
   module _ (labels : T (all (good-label p) (p .labels))) where
     -- a declared label leads into the table
-    label-in : (k : ℕ) → T (ltb k (length (p .labels))) → InTable (label-at p k .target)
+    label-in : (k : ℕ) → T (ltb k (length (p .labels))) → InTable p (label-at p k .target)
     label-in k h =
         let l = label-at p k in
         let good = all-at (good-label p) (p .labels) labels k no-label (ltb→lt k (length (p .labels)) h) in
         lt→ltb (l .target) (length (p .code)) (open-label p l good .target)
 
-    entry-in : (b : Bool) (e : Entry) → T (good-entry p b e) → InTable (target-of p e)
+    entry-in : (b : Bool) (e : Entry) → T (good-entry p b e) → InTable p (target-of p e)
     entry-in b e h = label-in (e .label) (T-left (ltb (e .label) (length (p .labels))) _ h)
 
     module _ (switches : T (all (good-switch p) (p .switches))) (ins : Inputs) (s : Store) where
-      goal-in : (a : Arg) → T (eqb (form p a) 108) → T (ranged p a) → InTable (goal p ins s a)
+      goal-in : (a : Arg) → T (eqb (form p a) 108) → T (ranged p a) → InTable p (goal p ins s a)
       goal-in nothing f r = absurd f
       goal-in (letter l n) f r = absurd (no-letter l f)
       goal-in (label n) f r = label-in n r
@@ -97,8 +87,8 @@ module _ (p : Program) where
       goal-in (text t) f r = absurd f
       goal-in (Arg.number z) f r = absurd f
 
-      by-name-goes : (o : Op) (to : ℕ → Go) (missed : Store) (a b : Arg) → ((t : ℕ) → InTable t → Allowed o (to t)) → Allowed o on
-          → Allowed o (by-name p ins s to missed a b .2)
+      by-name-goes : (o : Op) (to : ℕ → Go) (missed : Store) (a b : Arg) → ((t : ℕ) → InTable p t → Allowed p o (to t)) → Allowed p o on
+          → Allowed p o (by-name p ins s to missed a b .2)
       unfolding by-name
       by-name-goes o to missed a b h n =
           go (named p ins s a b) (all-keep good _ (entries-of p ins s b) (entries-good (p .switches) switches (place b)))
@@ -106,12 +96,12 @@ module _ (p : Program) where
           good : Entry → Bool
           good e = good-entry p (switch-at p (place b) .byName) e
 
-          go : (es : List Entry) → T (all good es) → Allowed o (ifAny on (λ e. to (target-of p e)) es)
+          go : (es : List Entry) → T (all good es) → Allowed p o (ifAny on (λ e. to (target-of p e)) es)
           go [] t = n
           go (e ∷ es) t = h (target-of p e) (entry-in (switch-at p (place b) .byName) e (all-head good e es t))
 
-      by-index-goes : (o : Op) (to : ℕ → Go) (a b : Arg) → ((t : ℕ) → InTable t → Allowed o (to t)) → T (by-index p ins s to a b .0 56)
-          → Allowed o (by-index p ins s to a b .2)
+      by-index-goes : (o : Op) (to : ℕ → Go) (a b : Arg) → ((t : ℕ) → InTable p t → Allowed p o (to t)) → T (by-index p ins s to a b .0 56)
+          → Allowed p o (by-index p ins s to a b .2)
       unfolding by-index
       by-index-goes o to a b h y =
           let es = entries-of p ins s b in
@@ -120,7 +110,7 @@ module _ (p : Program) where
           let good = entries-good (p .switches) switches (place b) in
           h _ (entry-in n (getD es (pred (natAbs z)) no-entry) (all-at (good-entry p n) es good (pred (natAbs z)) no-entry (index-in z (length es) y)))
 
-      jump-if-goes : (o : Op) (b : Bool) (go : Go) → Allowed o on → Allowed o go → Allowed o (jump-if p ins s b go .2)
+      jump-if-goes : (o : Op) (b : Bool) (go : Go) → Allowed p o on → Allowed p o go → Allowed p o (jump-if p ins s b go .2)
       unfolding jump-if
       jump-if-goes o true go n g = g
       jump-if-goes o false go n g = n
@@ -131,13 +121,13 @@ module _ (p : Program) where
 
         -- of the operators whose one argument is a label
         to-label : (o : Op) → T (good-instr p (instr o)) → (x y : Bool)
-            → listed p (instr o) ≡ (((eqb (form p a) 108 || false) && x && y) || false) → InTable (goal p ins s a)
+            → listed p (instr o) ≡ (((eqb (form p a) 108 || false) && x && y) || false) → InTable p (goal p ins s a)
         to-label o g x y e =
             let f = open-instr p (instr o) g in
             goal-in a (only (eqb (form p a) 108) x y (subst T e (f .forms))) (f .first)
 
         pub row-goes : (o : Op) → T (good-instr p (instr o)) → ((n : ℕ) → T (among n numbers) → T (row p ins s a b c o .0 n))
-            → Allowed o (row p ins s a b c o .2)
+            → Allowed p o (row p ins s a b c o .2)
         unfolding row equality ordered changed relation computed listed
         row-goes PRZESLIJ g y = tt
         row-goes CZYTAJ g y = tt

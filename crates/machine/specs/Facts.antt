@@ -1,14 +1,17 @@
 -- What the tests of well-formed programs and states say, as facts with names.
 use mathlib.Core.Path.{_≡_}
-use Prim.Native.Nat.{pred, _≤_, _<_}
-use lib.Dec.{T}
+use mathlib.Core.Bool.{not}
+use Prim.Native.Nat.{ℕ, pred, _≤_, _<_}
+use lib.Dec.{T, ltb}
 use lib.ListN.{length}
 use Rattle.lists.specs.Lists.{total, all}
 use Rattle.language.specs.Limits as limit
-use Rattle.language.specs.Instructions.{operation, is-end}
-use Rattle.language.specs.Program.{Instr, Label, Program, instr-at, identifier}
+use Rattle.language.specs.Instructions.{operation, is-call, is-end}
+use Rattle.language.specs.Program.{Op, Instr, Label, Program, instr-at, identifier}
 use Rattle.language.specs.Values.{Store, State, Inputs}
 use Rattle.machine.specs.Changes.{fits}
+use Rattle.machine.specs.Effects.{Go}
+use Rattle.machine.specs.Effects.Go.{on, jump, call, back}
 use Rattle.machine.specs.WellFormed.{ranged, listed, good-instr, good-label, good-switch, good-return, good-store}
 use Rattle.machine.specs.Keeps.{Sound}
 
@@ -52,3 +55,16 @@ pub record StateFacts (p : Program) (ins : Inputs) (s : State) : Type 0 where
   pub next : s .next < length (p .code)
   pub depth : length (s .stack) ≤ limit.stack
   pub returns : T (all (good-return p) (s .stack))
+
+-- Where an instruction may go on
+
+module _ (p : Program) where
+  abbrev pub InTable : ℕ → Type 0
+  InTable t = T (ltb t (length (p .code)))
+
+  -- only an operator that does not end goes on to the following instruction; only a call keeps a way back
+  abbrev pub Allowed : Op → Go → Type 0
+  Allowed o on = T (not (is-end (operation o .flow)))
+  Allowed o (jump t) = InTable t
+  Allowed o (call t) = InTable t × T (is-call (operation o .flow))
+  Allowed o back = Unit {0}

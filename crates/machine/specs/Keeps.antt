@@ -4,7 +4,11 @@ use mathlib.Core.List.{List}
 use Prim.Native.Nat.{ℕ, _≤_}
 use lib.ListN.{length}
 use Rattle.lists.specs.Lists.{total}
+use Rattle.language.specs.Letters.{Var}
+use Rattle.language.specs.Letters.Var.{expression, input, output, file}
+use Rattle.language.specs.Program.{Arg}
 use Rattle.language.specs.Values.{Component, Store, Inputs}
+use Rattle.machine.specs.Arguments.{unread}
 use Rattle.machine.specs.WellFormed.{faults, store-faults}
 use Rattle.machine.specs.Addresses.{times, uses}
 
@@ -22,6 +26,13 @@ Clean l xs = total (faults l) xs ≡ 0
 module _ (ins : Inputs) where
   abbrev pub Faultless : Store → Type 0
   Faultless s = store-faults ins (s .last) s ≡ 0
+
+  -- there are k elements to read
+  abbrev pub Enough : Var → Store → Arg → ℕ → Type 0
+  Enough expression s a k = Unit {0}
+  Enough input s a k = k ≤ length (unread ins s a)
+  Enough output s a k = Unit {0}
+  Enough file s a k = Unit {0}
 
   -- records' addresses are distinct, from 1 and given; nothing else in the store is at fault
   pub record Sound (s : Store) : Type 0 where

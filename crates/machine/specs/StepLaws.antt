@@ -19,12 +19,12 @@ use Rattle.machine.specs.Steps.{meaning, can-go, made, numbers, asks-aft
 use Rattle.machine.specs.WellFormed.{good-instr, good-program, good-inputs, good-state}
 use Rattle.machine.specs.Addresses.{times}
 use Rattle.machine.specs.Keeps.{Sound, Keeps}
-use Rattle.machine.specs.Facts.{ProgramFacts, StoreFacts, StateFacts}
+use Rattle.machine.specs.Facts.{ProgramFacts, StoreFacts, StateFacts, Allowed}
 use Rattle.machine.specs.RunLaws.{run-lawful}
 use Rattle.machine.specs.KeepLaws.{keeps-refl, keeps-trans, keeps-sound, keeps-deleted, sound-once}
 use Rattle.machine.specs.WellFormedLaws.{open-instr, open-program, open-inputs, open-store, shut-store, open-state, shut-state}
 use Rattle.machine.specs.EffectLaws.{row-keeps}
-use Rattle.machine.specs.ControlLaws.{Allowed, row-goes, gone-in, gone-returns}
+use Rattle.machine.specs.ControlLaws.{row-goes, gone-in, gone-returns}
 
 -- the first refused question, where there is one
 went-to : {s t : State} (ns : List ℕ) → ifAny (went s) stop ns ≡ went t → s ≡ t
