@@ -27,7 +27,7 @@ use Rattle.machine.specs.WellFormed.{form, ranged, listed, good-instr, g
 use Rattle.machine.specs.Facts.{ProgramFacts, InTable, Allowed}
 use Rattle.machine.specs.WellFormedLaws.{open-instr, open-label}
 
--- Forms: of the arguments only a label has the form 108
+-- Forms: of all arguments only a label has the form l, which is 108
 
 no-letter : (l : Letter) → T (eqb (letter-code l) 108) → ⊥
 no-letter A t = t
