@@ -4,7 +4,6 @@ use mathlib.Core.List.{List, [], _∷_, _++_, reverse}
 use Prim.Native.Nat.{ℕ, suc, pred, _+_}
 use lib.Dec.{leb, eqb}
 use lib.ListN.{length, take, drop, set}
-use lib.IntN.{ℤ, natAbs}
 use Rattle.language.specs.Limits as limit
 use Rattle.language.specs.Letters.{Var, Use}
 use Rattle.language.specs.Letters.Var.{expression, input, output, file}

@@ -1,5 +1,5 @@
 -- Well-formed programs, inputs and states: questions 62, 61 and 63; and the state that start makes.
-use mathlib.Core.Bool.{Bool, true, false, not, cond, _&&_, _||_}
+use mathlib.Core.Bool.{Bool, true, not, cond, _&&_, _||_}
 use mathlib.Core.List.{List, [], _∷_, _++_, map}
 use Prim.Native.Nat.{ℕ, pred, _+_, _-_}
 use lib.Dec.{leb, ltb, eqb}
