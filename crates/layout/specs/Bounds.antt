@@ -1,18 +1,21 @@
--- What the layout asks of components, records, files and a state, and cells that are the bytes of whole components or records.
+-- What the layouts ask of a program and of a state, and cells that are the bytes of whole components or records.
 use mathlib.Core.Path.{_≡_}
+use mathlib.Core.Bool.{not, _&&_, _||_}
 use mathlib.Core.List.{List, [], _∷_, _++_}
 use Prim.Native.Nat.{ℕ, _+_, _-_, _≤_, _<_}
 use lib.Dec.{T}
 use lib.ListN.{length, take, drop}
 use lib.IntN.{natAbs}
 use Rattle.language.specs.Limits as limit
-use Rattle.language.specs.Program.{Program}
+use Rattle.language.specs.Program.{Instr, Label, Entry, Program}
 use Rattle.language.specs.Values.{Component, Record, File, State, Inputs}
 use Rattle.language.specs.Values.Component.{word, address}
 use Rattle.layout.specs.Cells.{cell, two-at}
 use Rattle.layout.specs.Components.{component-bytes, components-bytes, record-bytes, records-bytes, component-size, component-in, components-in, record-in, records-in}
+use Rattle.layout.specs.Table.{all-entries, table-cells, program-of}
+use Rattle.lists.specs.Lists.{filled}
 use Rattle.layout.specs.Memory.{components-held, chars-held, records-held, state-cells, state-of}
-use Rattle.machine.specs.WellFormed.{good-state}
+use Rattle.machine.specs.WellFormed.{good-text, kept-text, ranged, good-program, good-state}
 
 -- every element has P
 abbrev pub Each : {X : Type 0} → (X → Type 0) → List X → Type 0
@@ -23,7 +26,55 @@ Each P (x ∷ xs) = P x × Each P xs
 abbrev pub Below : ℕ → List ℕ → Type 0
 Below n l = Each (λ x. x < n) l
 
--- ---- what has a place in the layout
+-- ---- what has a place in the table of a program
+
+pub record InstrOk (p : Program) (i : Instr) : Type 0 where
+  pub first-ranged : T (ranged p (i .first))
+  pub second-ranged : T (ranged p (i .second))
+  pub third-ranged : T (ranged p (i .third))
+  pub line-some : 0 < i .line
+  pub line-most : i .line ≤ limit.text
+
+pub record LabelOk (p : Program) (l : Label) : Type 0 where
+  pub name-some : 0 < length (l .name)
+  pub name-most : length (l .name) ≤ limit.item
+  pub name-below : Below 256 (l .name)
+  pub target-below : l .target < length (p .code)
+
+pub record TextOk (t : List ℕ) : Type 0 where
+  pub long : 1 < length t
+  pub most : length t ≤ limit.item
+  pub below : Below 256 t
+
+-- no text, or one of the program's
+abbrev pub KeptText : Program → List ℕ → Type 0
+KeptText p t = T (not (filled t) || (good-text t && kept-text p t))
+
+pub record EntryOk (p : Program) (e : Entry) : Type 0 where
+  pub label-below : e .label < length (p .labels)
+  pub text-kept : KeptText p (e .text)
+
+pub record ProgramOk (p : Program) : Type 0 where
+  pub code-some : 0 < length (p .code)
+  pub code-most : length (p .code) ≤ limit.instructions
+  pub labels-most : length (p .labels) ≤ limit.labels
+  pub switches-most : length (p .switches) ≤ limit.switches
+  pub entries-most : length (all-entries p) ≤ limit.entries
+  pub texts-most : length (p .texts) ≤ limit.texts
+  pub numbers-most : length (p .numbers) ≤ limit.numbers
+  pub code-ok : Each (InstrOk p) (p .code)
+  pub labels-ok : Each (LabelOk p) (p .labels)
+  pub entries-ok : Each (EntryOk p) (all-entries p)
+  pub texts-ok : Each TextOk (p .texts)
+  pub numbers-ok : Each (λ z. natAbs z ≤ limit.size) (p .numbers)
+
+-- a well-formed table
+pub record Tabled (c : List ℕ) : Type 0 where
+  pub long : limit.table ≤ length c
+  pub cells : table-cells (program-of c) ≡ take limit.table c
+  pub good : T (good-program (program-of c))
+
+-- ---- what has a place in a state at rest
 
 abbrev pub Ok : Component → Type 0
 Ok (word w) = (0 < length w) × (length w ≤ limit.word)

@@ -9,3 +9,6 @@ pub mod StringLaws
 pub mod ComponentLaws
 pub mod FineLaws
 pub mod MemoryLaws
+pub mod ProgramLaws
+pub mod ArgumentLaws
+pub mod TableLaws
