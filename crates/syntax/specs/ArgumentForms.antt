@@ -1,5 +1,5 @@
 -- How an argument is read by its place, from the forms listed there (the table of instructions).
-use mathlib.Core.Bool.{Bool, true, false, cond, not, _&&_, _||_}
+use mathlib.Core.Bool.{Bool, cond, not, _&&_}
 use mathlib.Core.List.{List, [], _∷_, map}
 use Prim.Native.Nat.{ℕ}
 use Prim.Native.String.{String}
@@ -15,6 +15,7 @@ use Rattle.lists.specs.Quoted.{bytes}
 use Rattle.syntax.specs.Items.{Item, is}
 use Rattle.syntax.specs.Items.Sort.{colon, text}
 
+-- a form is one of those in a row
 abbrev pub form-in : String → ℕ → Bool
 form-in t f = among f (bytes t)
 
@@ -68,7 +69,11 @@ arguments-in js = keep (λ i. not (is colon i)) js
 abbrev pub arguments : Op → List Item → List Argument
 arguments op js = read-by (alternatives op) (arguments-in js)
 
--- how many arguments an instruction takes at most, and at least
+-- those of some forms
+abbrev pub of-form : String → List Argument → List Item
+of-form fs args = map (λ a. a .item) (keep (λ a. form-in fs (a .form)) args)
+
+-- how many arguments an instruction takes at most, and at least, by any of its lists
 abbrev pub most : Op → ℕ
 most op = length (keep (λ f. not (sameBytes f (bytes "-"))) (headOr [] (alternatives op)))
 

@@ -1,12 +1,12 @@
 -- The questions asked of the whole text at its end: 25, 12, 13.
-use mathlib.Core.Bool.{Bool, true, false, cond, not, _&&_, _||_, Bool·beq}
-use mathlib.Core.List.{List, [], _∷_, _++_, map}
+use mathlib.Core.Bool.{Bool, true, false, cond, not, _&&_, Bool·beq}
+use mathlib.Core.List.{List, [], _∷_, _++_}
 use Prim.Native.Nat.{ℕ, pred}
 use Prim.Native.String.{String}
 use lib.ListN.{length, drop}
 use Rattle.language.specs.Instructions.{operation, is-end}
 use Rattle.lists.specs.Lists.{any, filled, keep, each, sameBytes}
-use Rattle.syntax.specs.ArgumentForms.{form-in}
+use Rattle.syntax.specs.ArgumentForms.{of-form}
 use Rattle.syntax.specs.Items.{Item, is, places}
 use Rattle.syntax.specs.Items.Sort.{word}
 use Rattle.syntax.specs.Tables.{Tables, Draft, is-first}
@@ -30,9 +30,9 @@ end-faults last d =
     ++ each (λ i. cond (is-end (operation (i .op) .flow)) [] (i .at ∷ [])) (drop (pred (length code)) code)
     ++ places (d .waiting)
 
--- the arguments of some forms
+-- all arguments of some forms
 abbrev pub given-as : String → Tables → List Item
-given-as fs t = each (λ i. map (λ a. a .item) (keep (λ a. form-in fs (a .form)) (i .args))) (t .code)
+given-as fs t = each (λ i. of-form fs (i .args)) (t .code)
 
 -- 12. Every entry of a switch is a use
 abbrev pub used-labels : Tables → List Item

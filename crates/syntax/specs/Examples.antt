@@ -1,12 +1,12 @@
 -- Load, computed at a few texts.
 use mathlib.Core.Path.{_≡_, refl}
-use mathlib.Core.Bool.{Bool, true, false}
-use mathlib.Core.List.{List, [], _∷_}
+use mathlib.Core.Bool.{true}
+use mathlib.Core.List.{[], _∷_}
 use lib.ListN.{replicate}
 use Rattle.lists.specs.Quoted.{bytes}
 use Rattle.language.specs.Letters.{Letter}
 use Rattle.language.specs.Program.{Arg, Op}
-use Rattle.syntax.specs.Load.{Loaded, loadIn, loadOf, opened}
+use Rattle.syntax.specs.Load.{loadIn, loadOf, opened}
 use Rattle.syntax.specs.Load.Loaded.{refused, accepted}
 
 -- document 01's sample

@@ -1,13 +1,14 @@
 -- How faults decide, how a word meets its colon, how statements part: for proofs of code that goes from item to item.
-use mathlib.Core.Path.{_≡_, refl, _∙_, ap}
-use mathlib.Core.Bool.{Bool, true, false, cond, _&&_}
+use mathlib.Core.Path.{_≡_, refl}
+use mathlib.Core.Bool.{Bool, true, false}
 use mathlib.Core.List.{List, [], _∷_, _++_}
 use Prim.Native.Nat.{ℕ, min}
-use lib.ListN.{take, drop}
+use lib.ListN.{drop}
 use Rattle.language.specs.Values.{chars}
 use Rattle.lists.specs.Lists.{headOr, ifAny}
 use Rattle.syntax.specs.Items.{Sort, Item, is, a-word, a-mark, attach, named, parted, statements}
 use Rattle.syntax.specs.Items.Sort.{separator, word, colon, end, text, wrong}
+use Rattle.syntax.specs.Statements.{is-operator, front, behind}
 use Rattle.syntax.specs.Verdict.{Question, ask, lowest, decide, first-no}
 use Rattle.syntax.specs.Verdict.Verdict.{refuse}
 
@@ -55,6 +56,15 @@ named-leads (i ∷ js) = still-leads (i .sort) _ i (named js) refl refl
 pub word-alone : (p : ℕ) (w : List ℕ) (js : List Item) → ifAny false (is colon) js ≡ false → named (a-word p w ∷ js) ≡ a-word p w ∷ named js
 unfolding named attach
 word-alone p w js h = rw (named-leads js, h) refl
+
+-- what stands in front of the operator, and from it on, item by item
+pub leads : (i : Item) (js : List Item) → is-operator i ≡ false → (front (i ∷ js) ≡ i ∷ front js) × (behind (i ∷ js) ≡ behind js)
+unfolding front behind
+leads i js h = (rw h refl, rw h refl)
+
+pub operates : (i : Item) (js : List Item) → is-operator i ≡ true → (front (i ∷ js) ≡ []) × (behind (i ∷ js) ≡ i ∷ js)
+unfolding front behind
+operates i js h = (rw h refl, rw h refl)
 
 -- an end parts two statements, and no other item does
 pub end-parts : (p : ℕ) (js : List Item) → statements (named (a-mark end p ∷ js)) ≡ [] ∷ statements (named js)

@@ -1,16 +1,16 @@
 -- The questions asked of each statement, in document 01's order.
-use mathlib.Core.Bool.{Bool, true, false, cond, not, _&&_, _||_}
-use mathlib.Core.List.{List, [], _∷_, _++_, map}
+use mathlib.Core.Bool.{Bool, false, cond, not, _&&_, _||_}
+use mathlib.Core.List.{List, [], _∷_, _++_}
 use Prim.Native.Nat.{ℕ, _-_}
-use lib.Dec.{ltb, eqb}
+use lib.Dec.{ltb}
 use lib.ListN.{length, drop}
 use Rattle.language.specs.Limits as limit
 use Rattle.language.specs.Program.{identifier, Op}
 use Rattle.lists.specs.Lists.{any, filled, keep, each, sameBytes}
-use Rattle.syntax.specs.ArgumentForms.{form-in, arguments-in, arguments, most, least}
+use Rattle.syntax.specs.ArgumentForms.{arguments-in, arguments, of-form, most, least}
 use Rattle.syntax.specs.Items.{Item, is, places}
 use Rattle.syntax.specs.Items.Sort.{word, colon, text, wrong}
-use Rattle.syntax.specs.Statements.{same-keyword, by-keyword, keyword-of, front, labels-in, operator, keyword-in, rest, one-name, list-faults}
+use Rattle.syntax.specs.Statements.{same-keyword, by-keyword, keyword-of, front, labels-in, operator, keyword-in, rest, is-name, one-name, list-faults}
 use Rattle.syntax.specs.Statements.Keyword.{unknown, SEKCJA}
 use Rattle.syntax.specs.Tables.{Tables, Draft, is-first, all-labels, new-texts, new-numbers}
 use Rattle.syntax.specs.Verdict.{Question, ask}
@@ -24,7 +24,7 @@ first-faults (i ∷ js) =
 -- 10. "an item or `:` of no listed form brings 02, before the arguments 10"
 unfoldable pub operator-faults : List Item → List ℕ
 operator-faults x =
-    places (keep (λ i. not (is word i && identifier (i .chars))) (front x))
+    places (keep (λ i. not (is-name i)) (front x))
     ++ places (keep (λ i. same-keyword unknown (keyword-of i) || same-keyword SEKCJA (keyword-of i)) (operator x))
 
 -- 08. Without a label the operator is at fault, otherwise each label in excess
@@ -45,7 +45,7 @@ unfoldable pub instr-faults : List Item → Op → List ℕ
 instr-faults x op =
     each (λ i. cond (is colon i) (i .at ∷ []) (i .colon)) (rest x)
     ++ cond (ltb (length (arguments-in (rest x))) (least op)) (places (operator x)) []
-    ++ each (λ a. cond (form-in "-" (a .form)) (a .item .at ∷ []) []) (arguments op (rest x))
+    ++ places (of-form "-" (arguments op (rest x)))
 
 unfoldable pub switch-faults : List Item → Bool → List ℕ
 switch-faults x byName = cond (filled (rest x)) (list-faults byName false (rest x)) (places (operator x))

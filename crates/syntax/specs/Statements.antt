@@ -6,7 +6,6 @@ use Prim.Native.String.{String}
 use lib.Dec.{eqb}
 use lib.ListN.{getD, take, drop}
 use Rattle.language.specs.Instructions.{operation, operators}
-use Rattle.language.specs.Letters.Letter.{A}
 use Rattle.language.specs.Program.{identifier, Op, Entry}
 use Rattle.lists.specs.Lists.{ahead, filled, ifAny, keep, sameBytes}
 use Rattle.lists.specs.Quoted.{bytes}
@@ -37,7 +36,7 @@ abbrev pub same-keyword : Keyword → Keyword → Bool
 same-keyword k l = eqb (keyword-number k) (keyword-number l)
 
 -- an answer for instructions, one for switches, and one for the rest
-unfoldable pub by-keyword : {A : Type 0} → (Op → A) → (Bool → A) → A → Keyword → A
+unfoldable pub by-keyword : {X : Type 0} → (Op → X) → (Bool → X) → X → Keyword → X
 by-keyword f g z none = z
 by-keyword f g z unknown = z
 by-keyword f g z SEKCJA = z
@@ -50,28 +49,36 @@ by-keyword f g z (instr op) = f op
 unfoldable pub keyword-of : Item → Keyword
 keyword-of i = cond (is word i) (getD keywords (ahead (λ k. sameBytes (i .chars) (bytes (k .0))) keywords) ("", unknown) .1) unknown
 
--- "A statement may carry labels (`NAME:`)": what stands in front up to the operator, the first item that is no `NAME:` and no `:`
+-- "A statement may carry labels (`NAME:`)": the operator is the first item that is no `NAME:` and no `:`. What stands in front of it, and from it on
 abbrev pub is-operator : Item → Bool
 is-operator i = not (is colon i || filled (i .colon))
 
-abbrev pub front : List Item → List Item
-front x = take (ahead is-operator x) x
+unfoldable pub front : List Item → List Item
+front [] = []
+front (i ∷ js) = cond (is-operator i) [] (i ∷ front js)
+
+unfoldable pub behind : List Item → List Item
+behind [] = []
+behind (i ∷ js) = cond (is-operator i) (i ∷ js) (behind js)
 
 abbrev pub labels-in : List Item → List Item
 labels-in x = keep (is word) (front x)
 
 -- the operator, as a row of one or none; its place; what it is; and the items after it
 abbrev pub operator : List Item → List Item
-operator x = take 1 (drop (ahead is-operator x) x)
+operator x = take 1 (behind x)
 
 abbrev pub operator-at : List Item → ℕ
-operator-at x = ifAny 0 (λ i. i .at) (operator x)
+operator-at x = ifAny 0 (λ i. i .at) (behind x)
 
 unfoldable pub keyword-in : List Item → Keyword
-keyword-in x = ifAny none keyword-of (operator x)
+keyword-in x = ifAny none keyword-of (behind x)
 
 abbrev pub rest : List Item → List Item
-rest x = drop 1 (drop (ahead is-operator x) x)
+rest x = drop 1 (behind x)
+
+abbrev pub is-name : Item → Bool
+is-name i = is word i && identifier (i .chars)
 
 -- `KEYWORD name`: what is at fault after the keyword at a place, where `right` tells the name
 unfoldable pub one-name : (List ℕ → Bool) → ℕ → List Item → List ℕ
@@ -82,7 +89,7 @@ one-name right at (i ∷ js) = cond (is word i && right (i .chars)) (i .colon) (
 -- `before` a `LABEL:` stands before the item, `after` a text stands after it
 unfoldable pub entry-faults : Bool → Bool → Bool → Item → List ℕ
 entry-faults byName before after i =
-    cond (is word i && identifier (i .chars)) (cond (byName && after) [] (i .colon)) (cond (is text i && byName && before) [] (i .at ∷ []))
+    cond (is-name i) (cond (byName && after) [] (i .colon)) (cond (is text i && byName && before) [] (i .at ∷ []))
 
 unfoldable pub list-faults : Bool → Bool → List Item → List ℕ
 list-faults byName before [] = []

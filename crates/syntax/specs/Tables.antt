@@ -1,6 +1,6 @@
 -- What is known after some statements: the section's name, all labels, the tables, and how the section ends. Labels and switches are named, and
 -- lines are places.
-use mathlib.Core.Bool.{Bool, true, false, cond, not, _&&_, _||_}
+use mathlib.Core.Bool.{Bool, false, cond, not, _&&_, _||_}
 use mathlib.Core.List.{List, [], _∷_, _++_, map}
 use Prim.Native.Nat.{ℕ}
 use lib.Dec.{ltb}
