@@ -14,19 +14,18 @@ use Rattle.language.specs.Instructions.{operation, operators, operator-of}
 use Rattle.language.specs.Letters.{Letter, letters, letter-code, Var, indices, use-of}
 use Rattle.language.specs.Letters.Var.{expression, input, output, file}
 use Rattle.language.specs.Letters.Letter.{A, B, C, D, E, I, N, P, Q, T as T-letter, Y, Z}
-use Rattle.language.specs.Program.{Arg, Op, Program}
+use Rattle.language.specs.Program.{Arg, Op, Program, classes}
 use Rattle.language.specs.Program.Arg.{nothing, letter, label, switch, class, text}
 use Rattle.language.specs.Program.Op.{PRZESLIJ, CZYTAJ, PISZ, KOPIUJ, WSTAW, POBIERZ, SCHOWAJ, USTAW, ZAMIEN, UMIESC, USUN, SKRESL, RW, WK, MN, PP, NS, RZ, SKOCZ, WYKONAJ, SKOMI, SKOPL, WYMI, WYPL, SKONA, SKOIN, WYNA, WYIN, WROC, DODAJ, ODEJMIJ, MNOZ, DZIEL, SLOWO, LICZBA, ZBIJ, ROZBIJ, SZUKAJ, OMIN, COFNIJ, STOP}
-use Rattle.language.specs.Values.{sameNumber}
+use Rattle.language.specs.Values.{sameNumber, in-range}
 use Rattle.layout.specs.Bounds.{KeptText, ProgramOk}
 use Rattle.layout.specs.CellLaws.{code-below, uncode-code, found}
 use Rattle.layout.specs.Cells.{cell, code, uncode}
 use Rattle.layout.specs.Table.{letter-place, class-bit, class-mask, text-ref, number-ref, arg-cell, text-in, number-in, text-by, number-by, class-by, arg-by}
 use Rattle.lists.specs.Lists.{any, ahead, filled, all, sameBytes, among}
 use Rattle.lists.specs.ListLaws.{T-left, T-right, all-head, all-tail, all-among, ahead-le, sameBytes-eq}
-use Rattle.machine.specs.Changes.{in-range}
 use Rattle.machine.specs.ValueLaws.{sameNumber-eq}
-use Rattle.machine.specs.WellFormed.{good-text, classes, kept-text, kept-number, ranged}
+use Rattle.machine.specs.WellFormed.{good-text, kept-text, kept-number, ranged}
 
 -- ---- operators and letters by their numbers
 

@@ -7,16 +7,16 @@ use native.Mathlib.Omega.{arith}
 use lib.Dec.{T, leb, ltb, leb→le, ltb→lt}
 use lib.ListN.{length, getD, length-append}
 use lib.IntN.{ℤ, natAbs}
+use Rattle.language.specs.Values.{in-range}
 use Rattle.language.specs.Limits as limit
 use Rattle.characters.specs.Characters.{ranked, known, isLetter, isDigit}
-use Rattle.language.specs.Program.{Instr, Label, Entry, Switch, Program}
+use Rattle.language.specs.Program.{Instr, Label, Entry, Switch, Program, identifier}
 use Rattle.layout.specs.Bounds.{Each, Below, InstrOk, LabelOk, TextOk, EntryOk, ProgramOk}
 use Rattle.layout.specs.CellLaws.{each-append}
 use Rattle.layout.specs.Table.{all-entries}
 use Rattle.lists.specs.Lists.{total, all, filled, each}
 use Rattle.lists.specs.ListLaws.{part, all-head, all-tail, all-among, T-left, T-right}
-use Rattle.machine.specs.Changes.{in-range}
-use Rattle.machine.specs.WellFormed.{good-word, good-text, identifier, kept-text, ranged, listed, good-instr, good-label, good-entry, good-switch, program-tests, good-program}
+use Rattle.machine.specs.WellFormed.{good-word, good-text, kept-text, ranged, listed, good-instr, good-label, good-entry, good-switch, program-tests, good-program}
 
 -- ---- characters are bytes
 
