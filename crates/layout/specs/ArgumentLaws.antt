@@ -1,31 +1,32 @@
 -- Laws of a program's arguments in cells: each is read back from its kind and value.
 use mathlib.Core.Path.{_≡_, refl, sym, ap, _∙_, subst}
 use mathlib.Core.Bool.{Bool, true, false, not, cond, _&&_, _||_}
-use mathlib.Core.List.{List, [], _∷_, _++_}
+use mathlib.Core.List.{List, [], _∷_}
 use Prim.Native.Nat.{ℕ, zero, suc, pred, _+_, _*_, _-_, _/_, _%_, _≤_, _<_}
 use native.Mathlib.Omega.{arith}
 use lib.Dec.{T, leb, ltb, eqb, leb→le, ltb→lt}
 use lib.ListN.{length, getD}
 use lib.IntN.{ℤ, pos, negsuc, natAbs}
-use borrow.Author.Tests.{le-leb, lt-leb, lt-ltb, le-ltb, ne-eqb, leb-true, leb-false}
+use borrow.Author.Tests.{lt-leb, lt-ltb, le-ltb, ne-eqb, leb-true}
 use Rattle.language.specs.Limits as limit
+use Rattle.lists.specs.ListLaws.{T-left, T-right, all-among, all-head, all-tail, ahead-le, sameBytes-eq}
+use Rattle.lists.specs.Lists.{any, ahead, filled, all, sameBytes, among}
+use Rattle.characters.specs.CharacterLaws.{known-byte}
 use Rattle.characters.specs.Characters.{ranked, known}
 use Rattle.language.specs.Instructions.{operation, operators, operator-of}
 use Rattle.language.specs.Letters.{Letter, letters, letter-code, Var, indices, use-of}
-use Rattle.language.specs.Letters.Var.{expression, input, output, file}
 use Rattle.language.specs.Letters.Letter.{A, B, C, D, E, I, N, P, Q, T as T-letter, Y, Z}
-use Rattle.language.specs.Program.{Arg, Op, Program, classes}
+use Rattle.language.specs.Letters.Var.{expression, input, output, file}
+use Rattle.language.specs.Program.{Arg, classes, Op, Program}
 use Rattle.language.specs.Program.Arg.{nothing, letter, label, switch, class, text}
 use Rattle.language.specs.Program.Op.{PRZESLIJ, CZYTAJ, PISZ, KOPIUJ, WSTAW, POBIERZ, SCHOWAJ, USTAW, ZAMIEN, UMIESC, USUN, SKRESL, RW, WK, MN, PP, NS, RZ, SKOCZ, WYKONAJ, SKOMI, SKOPL, WYMI, WYPL, SKONA, SKOIN, WYNA, WYIN, WROC, DODAJ, ODEJMIJ, MNOZ, DZIEL, SLOWO, LICZBA, ZBIJ, ROZBIJ, SZUKAJ, OMIN, COFNIJ, STOP}
 use Rattle.language.specs.Values.{sameNumber, in-range}
-use Rattle.layout.specs.Bounds.{KeptText, ProgramOk}
-use Rattle.layout.specs.CellLaws.{code-below, uncode-code, found}
-use Rattle.layout.specs.Cells.{cell, code, uncode}
-use Rattle.layout.specs.Table.{letter-place, class-bit, class-mask, text-ref, number-ref, arg-cell, text-in, number-in, text-by, number-by, class-by, arg-by}
-use Rattle.lists.specs.Lists.{any, ahead, filled, all, sameBytes, among}
-use Rattle.lists.specs.ListLaws.{T-left, T-right, all-head, all-tail, all-among, ahead-le, sameBytes-eq}
 use Rattle.machine.specs.ValueLaws.{sameNumber-eq}
 use Rattle.machine.specs.WellFormed.{good-text, kept-text, kept-number, ranged}
+use Rattle.layout.specs.Bounds.{KeptText, ProgramOk}
+use Rattle.layout.specs.CellLaws.{uncode-code, found}
+use Rattle.layout.specs.Cells.{code}
+use Rattle.layout.specs.Table.{letter-place, class-mask, text-ref, number-ref, arg-cell, text-in, number-in, text-by, number-by, class-by, arg-by}
 
 -- ---- operators and letters by their numbers
 
@@ -151,12 +152,14 @@ unfolding code
 code-small (pos n) h = omega arith
 code-small (negsuc n) h = omega arith
 
-known-byte : (b : ℕ) → T (known b) → (0 < b) × (b < 256)
+known-some : (b : ℕ) → T (known b) → 0 < b
 unfolding known
-known-byte b h = (ltb→lt 0 b (all-among (λ n. ltb 0 n) ranked tt b h), ltb→lt b 256 (all-among (λ n. ltb n 256) ranked tt b h))
+known-some b h = ltb→lt 0 b (all-among (λ n. ltb 0 n) ranked tt b h)
 
 one-byte : (p : Program) (b : ℕ) → T (good-text (b ∷ []) && kept-text p (b ∷ [])) → (0 < b) × (b < 256)
-one-byte p b h = known-byte b (T-left (known b) true (T-left (known b && true) (leb 1 limit.item) (T-left (good-text (b ∷ [])) (kept-text p (b ∷ [])) h)))
+one-byte p b h =
+    let k = T-left (known b) true (T-left (known b && true) (leb 1 limit.item) (T-left (good-text (b ∷ [])) (kept-text p (b ∷ [])) h)) in
+    (known-some b k, omega (arith, known-byte b k))
 
 module _ (c : List ℕ) where
   text-by-place : (n : ℕ) → text-by c (256 + n) ≡ text-in c n
@@ -250,8 +253,8 @@ module _ (p : Program) where
       let m : ℕ = indices (use-of l .var) in
       let b : n ≤ m = leb→le n m (T-right (ltb 0 n) (leb n m) h) in
       omega (arith, index-most (use-of l .var), letter-most l)
-  arg-cell-below k (label j) h = omega (arith, k .labels-most, ltb→lt j (length (p .labels)) h)
-  arg-cell-below k (switch j) h = omega (arith, k .switches-most, ltb→lt j (length (p .switches)) h)
+  arg-cell-below k (label j) h = omega (arith, k .facts .labels-few, ltb→lt j (length (p .labels)) h)
+  arg-cell-below k (switch j) h = omega (arith, k .facts .switches-few, ltb→lt j (length (p .switches)) h)
   arg-cell-below k (class cs) h = omega (arith, class-mask-most cs)
-  arg-cell-below k (text t) h = omega (arith, k .texts-most, text-ref-most t (T-or (not (filled t)) (good-text t && kept-text p t) h))
-  arg-cell-below k (Arg.number z) h = omega (arith, k .numbers-most, number-ref-most z)
+  arg-cell-below k (text t) h = omega (arith, k .facts .texts-few, text-ref-most t (T-or (not (filled t)) (good-text t && kept-text p t) h))
+  arg-cell-below k (Arg.number z) h = omega (arith, k .facts .numbers-few, number-ref-most z)

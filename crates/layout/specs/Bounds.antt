@@ -7,15 +7,16 @@ use lib.Dec.{T}
 use lib.ListN.{length, take, drop}
 use lib.IntN.{natAbs}
 use Rattle.language.specs.Limits as limit
-use Rattle.language.specs.Program.{Instr, Label, Entry, Program}
+use Rattle.lists.specs.Lists.{filled}
+use Rattle.language.specs.Program.{Entry, Program}
 use Rattle.language.specs.Values.{Component, Record, File, State, Inputs}
 use Rattle.language.specs.Values.Component.{word, address}
+use Rattle.machine.specs.Facts.{InstrFacts, LabelFacts, ProgramFacts}
+use Rattle.machine.specs.WellFormed.{good-text, kept-text, good-program, good-state}
 use Rattle.layout.specs.Cells.{cell, two-at}
 use Rattle.layout.specs.Components.{component-bytes, components-bytes, record-bytes, records-bytes, component-size, component-in, components-in, record-in, records-in}
-use Rattle.layout.specs.Table.{all-entries, table-cells, program-of}
-use Rattle.lists.specs.Lists.{filled}
 use Rattle.layout.specs.Memory.{components-held, chars-held, records-held, state-cells, state-of}
-use Rattle.machine.specs.WellFormed.{good-text, kept-text, ranged, good-program, good-state}
+use Rattle.layout.specs.Table.{all-entries, table-cells, program-of}
 
 -- every element has P
 abbrev pub Each : {X : Type 0} → (X → Type 0) → List X → Type 0
@@ -27,19 +28,6 @@ abbrev pub Below : ℕ → List ℕ → Type 0
 Below n l = Each (λ x. x < n) l
 
 -- ---- what has a place in the table of a program
-
-pub record InstrOk (p : Program) (i : Instr) : Type 0 where
-  pub first-ranged : T (ranged p (i .first))
-  pub second-ranged : T (ranged p (i .second))
-  pub third-ranged : T (ranged p (i .third))
-  pub line-some : 0 < i .line
-  pub line-most : i .line ≤ limit.text
-
-pub record LabelOk (p : Program) (l : Label) : Type 0 where
-  pub name-some : 0 < length (l .name)
-  pub name-most : length (l .name) ≤ limit.item
-  pub name-below : Below 256 (l .name)
-  pub target-below : l .target < length (p .code)
 
 pub record TextOk (t : List ℕ) : Type 0 where
   pub long : 1 < length t
@@ -55,15 +43,10 @@ pub record EntryOk (p : Program) (e : Entry) : Type 0 where
   pub text-kept : KeptText p (e .text)
 
 pub record ProgramOk (p : Program) : Type 0 where
-  pub code-some : 0 < length (p .code)
-  pub code-most : length (p .code) ≤ limit.instructions
-  pub labels-most : length (p .labels) ≤ limit.labels
-  pub switches-most : length (p .switches) ≤ limit.switches
+  pub facts : ProgramFacts p
   pub entries-most : length (all-entries p) ≤ limit.entries
-  pub texts-most : length (p .texts) ≤ limit.texts
-  pub numbers-most : length (p .numbers) ≤ limit.numbers
-  pub code-ok : Each (InstrOk p) (p .code)
-  pub labels-ok : Each (LabelOk p) (p .labels)
+  pub code-ok : Each (InstrFacts p) (p .code)
+  pub labels-ok : Each (LabelFacts p) (p .labels)
   pub entries-ok : Each (EntryOk p) (all-entries p)
   pub texts-ok : Each TextOk (p .texts)
   pub numbers-ok : Each (λ z. natAbs z ≤ limit.size) (p .numbers)
@@ -99,7 +82,7 @@ pub record Fine (s : State) : Type 0 where
   pub files-ok : Each FileOk (s .store .files)
   pub outputs-ok : Each (λ q. length q ≤ limit.output) (s .store .outputs)
   pub places-ok : Each (λ n. n ≤ limit.input) (s .store .places)
-  pub stack-ok : Each (λ n. n ≤ limit.instructions) (s .stack)
+  pub stack-ok : Below limit.instructions (s .stack)
   pub stack-most : length (s .stack) ≤ limit.stack
   pub next-below : s .next < limit.instructions
   pub last-most : s .store .last ≤ limit.addresses

@@ -1,20 +1,31 @@
 -- Laws of numbers in cells and of lists by their index.
 use mathlib.Core.Path.{_≡_, refl, sym, ap, _∙_, subst}
-use mathlib.Core.Bool.{Bool, true, false, cond, _||_}
+use mathlib.Core.Bool.{Bool, true, false, _||_}
 use mathlib.Core.List.{List, [], _∷_, _++_, map, append-assoc}
 use Prim.Native.Nat.{ℕ, zero, suc, _+_, _*_, _-_, _/_, _%_, _≤_, _<_}
 use native.Mathlib.Nat.{not-suc-le-zero, le-of-suc-le-suc}
 use native.Mathlib.Omega.{arith}
-use lib.Dec.{T, leb}
+use lib.Dec.{T}
 use lib.ListN.{length, getD, take, drop, replicate, length-append, length-replicate, List·getD-append}
 use lib.IntN.{ℤ, pos, negsuc, natAbs}
-use lib.Seq.{drop-at, drop-drop, drop-append-add, getD-drop, getD-append-add, getD-append-seam}
+use lib.Seq.{drop-drop, drop-append-add, getD-drop, getD-append-add, getD-append-seam}
 use borrow.Author.Tests.{le-leb, lt-leb}
+use Rattle.lists.specs.ListLaws.{all-head, all-tail}
+use Rattle.lists.specs.Lists.{total, all, any, ahead, each}
 use Rattle.layout.specs.Bounds.{Each, Below}
 use Rattle.layout.specs.Cells.{cell, two, two-at, three, four, fours, unfours, code, uncode, tab, padded}
-use Rattle.lists.specs.Lists.{total, any, ahead, each}
 
 -- ---- every element
+
+-- what all pass, each has
+pub each-of : {X : Type 0} (q : X → Bool) (P : X → Type 0) → ((x : X) → T (q x) → P x) → (xs : List X) → T (all q xs) → Each P xs
+each-of q P f [] h = tt
+each-of q P f (x ∷ xs) h = (f x (all-head q x xs h), each-of q P f xs (all-tail q x xs h))
+
+-- where a sum is 0, so is each of its parts
+pub each-zero : {X : Type 0} (f : X → ℕ) (P : X → Type 0) → ((x : X) → f x ≡ 0 → P x) → (xs : List X) → total f xs ≡ 0 → Each P xs
+each-zero f P g [] h = tt
+each-zero f P g (x ∷ xs) h = (g x (omega (arith, h)), each-zero f P g xs (omega (arith, h)))
 
 module _ {X : Type 0} (P : X → Type 0) where
   pub each-append : (xs ys : List X) → Each P xs → Each P ys → Each P (xs ++ ys)

@@ -1,5 +1,5 @@
 -- Numbers in cells: of two and three cells of a byte each, the lowest first; four bytes in a cell of 32 bits; and lists by their index.
-use mathlib.Core.Bool.{Bool, true, false, cond}
+use mathlib.Core.Bool.{cond}
 use mathlib.Core.List.{List, [], _∷_, _++_}
 use Prim.Native.Nat.{ℕ, zero, suc, _+_, _*_, _-_, _/_, _%_}
 use lib.Dec.{leb}

@@ -1,23 +1,23 @@
 -- Laws of components and records in bytes: they are read back, in front of anything, and equal bytes are equal components.
 use mathlib.Core.Path.{_≡_, refl, sym, ap, _∙_, subst}
-use mathlib.Core.Bool.{Bool, true, false, cond}
+use mathlib.Core.Bool.{Bool, true, false}
 use mathlib.Core.List.{List, [], _∷_, _++_, append-assoc, append-nil}
 use Prim.Native.Nat.{ℕ, zero, suc, _+_, _*_, _-_, _/_, _%_, _≤_, _<_}
-use native.Mathlib.Nat.{not-suc-le-zero, le-of-suc-le-suc}
+use native.Mathlib.Nat.{not-suc-le-zero}
 use native.Mathlib.Omega.{arith}
-use lib.Dec.{T, eqb}
-use lib.ListN.{length, getD, take, drop, length-append, length-drop}
-use lib.Seq.{take-append-seam, drop-append-seam, take-at, drop-at}
+use lib.Dec.{T}
+use lib.ListN.{length, take, drop, length-append, length-drop}
+use lib.Seq.{take-append-seam, drop-append-seam}
 use borrow.Author.Tests.{ne-eqb}
+use Rattle.lists.specs.ListLaws.{sameBytes-eq, sameBytes-refl}
+use Rattle.lists.specs.Lists.{total, sameBytes}
 use Rattle.language.specs.Values.{Component, Record, chars, same}
 use Rattle.language.specs.Values.Component.{word, address}
+use Rattle.machine.specs.ValueLaws.{same-eq, same-refl}
 use Rattle.layout.specs.Bounds.{Each, Below, Ok, RecordOk, EncodedOne, Encoded, EncodedRecords, OneComponent, WholeComponents, WholeRecords, last-size, NextComponent, NextRecord, LastRecord}
 use Rattle.layout.specs.CellLaws.{each-left, each-right, below-append, three-back, three-below, two-back, two-at-end, two-below, code-below, uncode-code}
-use Rattle.layout.specs.Cells.{cell, two, two-at, three, three-at, code, uncode}
-use Rattle.layout.specs.Components.{component-bytes, components-bytes, record-bytes, records-bytes, component-size, short-component, component-in, components-from, components-in, record-in, records-from, records-in}
-use Rattle.lists.specs.Lists.{total, sameBytes}
-use Rattle.lists.specs.ListLaws.{sameBytes-eq, sameBytes-refl}
-use Rattle.machine.specs.ValueLaws.{same-eq, same-refl}
+use Rattle.layout.specs.Cells.{cell, two, two-at, three, code}
+use Rattle.layout.specs.Components.{component-bytes, components-bytes, record-bytes, records-bytes, component-size, component-in, components-from, components-in, record-in, records-from, records-in}
 
 -- ---- one component in front of anything
 

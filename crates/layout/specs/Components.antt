@@ -2,7 +2,7 @@
 -- is 0, 2 and three cells. A record is its address in three cells, the length of its components in two, the components, and the length again, so
 -- that the last record of a string is found from its end. Equal components have equal bytes, and the first cell tells how many cells a component
 -- takes.
-use mathlib.Core.Bool.{Bool, true, false, cond}
+use mathlib.Core.Bool.{cond}
 use mathlib.Core.List.{List, [], _∷_, _++_}
 use Prim.Native.Nat.{ℕ, zero, suc, _+_}
 use lib.Dec.{eqb}

@@ -2,31 +2,34 @@
 use mathlib.Core.Path.{_≡_, refl, sym, subst}
 use mathlib.Core.Bool.{Bool, true, false, cond, _&&_}
 use mathlib.Core.List.{List, [], _∷_, _++_, map}
-use Prim.Native.Nat.{ℕ, zero, suc, pred, _+_, _-_, _*_, _≤_, _<_}
-use native.Mathlib.Decide.{decLt}
+use Prim.Native.Nat.{ℕ, _+_, _*_, _≤_, _<_}
 use native.Mathlib.Omega.{arith}
-use lib.Dec.{T, leb, ltb, eqb, leb→le, ltb→lt, eqb→eq}
-use lib.ListN.{length, getD, length-append, List·getD-eq-default}
+use lib.Dec.{T, leb, ltb, eqb, leb→le, ltb→lt}
+use lib.ListN.{length, length-append}
 use borrow.Author.Tests.{leb-true}
 use Rattle.language.specs.Limits as limit
-use Rattle.characters.specs.Characters.{ranked, known}
-use Rattle.language.specs.Instructions.{operation, is-call}
-use Rattle.language.specs.Program.{Instr, Program, no-instr}
+use Rattle.lists.specs.ListLaws.{all-total, part, all-head, all-tail, total-append, T-left, T-right}
+use Rattle.lists.specs.Lists.{total, all, each}
+use Rattle.characters.specs.Characters.{known}
+use Rattle.language.specs.Program.{Program}
 use Rattle.language.specs.Values.{Component, Record, File, Store, State, Inputs, chars}
 use Rattle.language.specs.Values.Component.{word, address}
+use Rattle.machine.specs.Arguments.{records}
+use Rattle.machine.specs.Changes.{held, recorded, fits}
+use Rattle.machine.specs.CleanLaws.{chars-known}
+use Rattle.machine.specs.ControlLaws.{returns-in}
+use Rattle.machine.specs.Facts.{StoreFacts, StateFacts}
+use Rattle.machine.specs.WellFormed.{good-program, good-return, good-inputs, void, strange, faults, record-faults, overrun, store-faults, all-records, store-tests, good-store, good-state}
+use Rattle.machine.specs.WellFormedLaws.{open-program, open-store, open-state}
 use Rattle.layout.specs.Bounds.{Each, Below, Ok, RecordOk, FileOk, Fine}
-use Rattle.layout.specs.CellLaws.{each-append, each-left, each-right, below-append, two-below, length-each}
+use Rattle.layout.specs.CellLaws.{each-of, each-zero, each-append, each-left, each-right, each-below, two-below, length-each}
 use Rattle.layout.specs.Cells.{two}
 use Rattle.layout.specs.ComponentLaws.{components-most, components-below, records-most, records-below}
 use Rattle.layout.specs.Components.{components-bytes}
 use Rattle.layout.specs.Memory.{file-strings, strings}
+use Rattle.layout.specs.ProgramLaws.{known-below}
 use Rattle.layout.specs.StringLaws.{used-append, used-cons}
 use Rattle.layout.specs.Strings.{used}
-use Rattle.lists.specs.Lists.{total, all, each}
-use Rattle.lists.specs.ListLaws.{part, all-head, all-tail, all-among, total-append, T-left, T-right}
-use Rattle.machine.specs.Arguments.{records}
-use Rattle.machine.specs.Changes.{held, recorded, fits}
-use Rattle.machine.specs.WellFormed.{program-tests, good-program, good-return, good-inputs, void, strange, faults, record-faults, overrun, store-faults, all-records, store-tests, good-store, state-tests, good-state}
 
 -- 1 for a word that is too long
 abbrev over : Component → ℕ
@@ -53,14 +56,14 @@ five true true false d e h = absurd h
 five true true true false e h = absurd h
 five true true true true false h = absurd h
 
-record Limited (s : Store) : Type 0 where
+record WithinLimits (s : Store) : Type 0 where
   components-most : held (λ x. 1) s ≤ limit.components
   chars-most : held (λ x. length (chars x)) s ≤ limit.characters
   words-short : held over s ≤ 0
   records-most : recorded (λ r. 1) s ≤ limit.records
   outputs-short : T (all (λ q. leb (length q) limit.output) (s .outputs))
 
-limited : (s : Store) → T (fits s) → Limited s
+limited : (s : Store) → T (fits s) → WithinLimits s
 unfolding fits
 limited s h =
     let q = five (leb (held (λ x. 1) s) limit.components) (leb (held (λ x. length (chars x)) s) limit.characters) (leb (held over s) 0)
@@ -73,11 +76,6 @@ limited s h =
       outputs-short = q .4;
     }
 
-outputs-of : (os : List (List ℕ)) → T (all (λ q. leb (length q) limit.output) os) → Each (λ q. length q ≤ limit.output) os
-outputs-of [] h = tt
-outputs-of (o ∷ os) h =
-    (leb→le (length o) limit.output (all-head (λ q. leb (length q) limit.output) o os h), outputs-of os (all-tail (λ q. leb (length q) limit.output) o os h))
-
 -- ---- components, records and files without faults, where l is the last address given
 
 module _ (l : ℕ) (hl : l ≤ limit.addresses) where
@@ -86,6 +84,7 @@ module _ (l : ℕ) (hl : l ≤ limit.addresses) where
   ok-of (Component.number z) f o = omega (arith, f)
   ok-of (address n) f o = omega (arith, f)
 
+  -- of components, of expressions
   oks-of : (xs : List Component) → total (faults l) xs ≡ 0 → total over xs ≡ 0 → Each Ok xs
   oks-of [] f o = tt
   oks-of (x ∷ xs) f o = (ok-of x (omega (arith, f)) (omega (arith, o)), oks-of xs (omega (arith, f)) (omega (arith, o)))
@@ -94,17 +93,17 @@ module _ (l : ℕ) (hl : l ≤ limit.addresses) where
   exprs-of [] f o = tt
   exprs-of (e ∷ es) f o = (oks-of e (omega (arith, f)) (omega (arith, o)), exprs-of es (omega (arith, f)) (omega (arith, o)))
 
-  abbrev Given : Record → Type 0
-  Given r = r .addr ≤ l
+  abbrev AddressGiven : Record → Type 0
+  AddressGiven r = r .addr ≤ l
 
-  given-of : (rs : List Record) → T (all (λ n. ltb 0 n && leb n l) (map (λ r. r .addr) rs)) → Each Given rs
+  given-of : (rs : List Record) → T (all (λ n. ltb 0 n && leb n l) (map (λ r. r .addr) rs)) → Each AddressGiven rs
   given-of [] h = tt
   given-of (r ∷ rs) h =
       let p : ℕ → Bool = λ n. ltb 0 n && leb n l in
       let ns : List ℕ = map (λ r. r .addr) rs in
       (leb→le (r .addr) l (T-right (ltb 0 (r .addr)) (leb (r .addr) l) (all-head p (r .addr) ns h)), given-of rs (all-tail p (r .addr) ns h))
 
-  records-of : (rs : List Record) → total (record-faults l) rs ≡ 0 → total (λ r. total over (r .parts)) rs ≡ 0 → Each Given rs
+  records-of : (rs : List Record) → total (record-faults l) rs ≡ 0 → total (λ r. total over (r .parts)) rs ≡ 0 → Each AddressGiven rs
       → total (λ r. total (λ x. 1) (r .parts)) rs ≤ limit.components → total (λ r. total (λ x. length (chars x)) (r .parts)) rs ≤ limit.characters → Each RecordOk rs
   records-of [] f o g a b = tt
   records-of (r ∷ rs) f o g a b = (
@@ -117,39 +116,23 @@ module _ (l : ℕ) (hl : l ≤ limit.addresses) where
   )
 
   files-of : (fs : List File) → total (λ f. total (record-faults l) (records f)) fs ≡ 0 → total (λ f. total (λ r. total over (r .parts)) (records f)) fs ≡ 0
-      → Each Given (all-records fs) → total (λ f. total (λ r. total (λ x. 1) (r .parts)) (records f)) fs ≤ limit.components
+      → Each AddressGiven (all-records fs) → total (λ f. total (λ r. total (λ x. 1) (r .parts)) (records f)) fs ≤ limit.components
       → total (λ f. total (λ r. total (λ x. length (chars x)) (r .parts)) (records f)) fs ≤ limit.characters → Each FileOk fs
   files-of [] f o g a b = tt
   files-of (x ∷ fs) f o g a b =
-      let g₁ = each-left Given (records x) (all-records fs) g in
+      let g₁ = each-left AddressGiven (records x) (all-records fs) g in
       let f₁ = total-append (record-faults l) (x .before) (x .after) in
       let o₁ = total-append (λ r. total over (r .parts)) (x .before) (x .after) in
       let a₁ = total-append (λ r. total (λ y. 1) (r .parts)) (x .before) (x .after) in
       let b₁ = total-append (λ r. total (λ y. length (chars y)) (r .parts)) (x .before) (x .after) in (
         record {
-          before-ok = records-of (x .before) (omega (arith, f)) (omega (arith, o)) (each-left Given (x .before) (x .after) g₁) (omega arith) (omega arith);
-          after-ok = records-of (x .after) (omega (arith, f)) (omega (arith, o)) (each-right Given (x .before) (x .after) g₁) (omega arith) (omega arith);
+          before-ok = records-of (x .before) (omega (arith, f)) (omega (arith, o)) (each-left AddressGiven (x .before) (x .after) g₁) (omega arith) (omega arith);
+          after-ok = records-of (x .after) (omega (arith, f)) (omega (arith, o)) (each-right AddressGiven (x .before) (x .after) g₁) (omega arith) (omega arith);
         },
-        files-of fs (omega (arith, f)) (omega (arith, o)) (each-right Given (records x) (all-records fs) g) (omega arith) (omega arith),
+        files-of fs (omega (arith, f)) (omega (arith, o)) (each-right AddressGiven (records x) (all-records fs) g) (omega arith) (omega arith),
       )
 
--- ---- the return stack and the read places
-
-return-most : (p : Program) (n : ℕ) → T (good-return p n) → n ≤ length (p .code)
-unfolding good-return
-return-most p zero h = omega arith
-return-most p (suc n) h = go (decLt n (length (p .code)))
-  where
-    go : Dec (n < length (p .code)) → suc n ≤ length (p .code)
-    go (yes b) = b
-    go (no b) =
-        let e : getD (p .code) n no-instr ≡ no-instr = List·getD-eq-default (p .code) no-instr (omega arith) in
-        let t = T-right (ltb 0 (suc n)) (is-call (operation (getD (p .code) n no-instr .op) .flow)) h in
-        absurd (subst (λ i. T (is-call (operation (i .op) .flow))) e t)
-
-stack-of : (p : Program) (ns : List ℕ) → length (p .code) ≤ limit.instructions → T (all (good-return p) ns) → Each (λ n. n ≤ limit.instructions) ns
-stack-of p [] b h = tt
-stack-of p (n ∷ ns) b h = (omega (arith, return-most p n (all-head (good-return p) n ns h)), stack-of p ns b (all-tail (good-return p) n ns h))
+-- ---- the read places
 
 abbrev short-input : List ℕ → Bool
 short-input w = leb (length w) limit.input && all known w
@@ -167,20 +150,14 @@ module _ (p : Program) (ins : Inputs) (s : State) (gp : T (good-program p)) (gi 
   abbrev st : Store
   st = s .store
 
-  state-part : (i : ℕ) → T (getD (state-tests p ins s) i true)
-  unfolding good-state
-  state-part i = part (state-tests p ins s) g i
+  state-facts : StateFacts p ins s
+  state-facts = open-state p ins s g
 
-  store-part : (i : ℕ) → T (getD (store-tests ins st) i true)
-  unfolding good-store
-  store-part i = part (store-tests ins st) (state-part 0) i
+  facts : StoreFacts ins st
+  facts = open-store ins st (state-facts .store)
 
-  limits : Limited st
-  limits = limited st (store-part 4)
-
-  code-most : length (p .code) ≤ limit.instructions
-  unfolding good-program
-  code-most = leb→le (length (p .code)) limit.instructions (part (program-tests p) gp 1)
+  limits : WithinLimits st
+  limits = limited st (facts .limits)
 
   abbrev fault-sum : ℕ
   fault-sum =
@@ -188,7 +165,11 @@ module _ (p : Program) (ins : Inputs) (s : State) (gp : T (good-program p)) (gi 
 
   no-faults : fault-sum ≡ 0
   unfolding store-faults
-  no-faults = eqb→eq (store-faults ins (st .last) st) 0 (store-part 6)
+  no-faults = facts .sound .no-faults
+
+  given : Each (λ r. r .addr ≤ st .last) (all-records (st .files))
+  unfolding good-store
+  given = given-of (st .last) (facts .given) (all-records (st .files)) (part (store-tests ins st) (state-facts .store) 7)
 
   sums : (f : Component → ℕ) → total (total f) (st .exprs) + total (λ x. total (λ r. total f (r .parts)) (records x)) (st .files) ≡ held f st
   unfolding held
@@ -207,21 +188,22 @@ module _ (p : Program) (ins : Inputs) (s : State) (gp : T (good-program p)) (gi 
       let o₁ = sums over in
       let a₁ = sums (λ x. 1) in
       let b₁ = sums (λ x. length (chars x)) in
-      let last : st .last ≤ limit.addresses = leb→le (st .last) limit.addresses (store-part 5) in
-      let next : s .next < length (p .code) = ltb→lt (s .next) (length (p .code)) (state-part 1) in
-      let given = given-of (st .last) last (all-records (st .files)) (store-part 7) in
+      let last = facts .given in
+      let code-short = open-program p gp .code-short in
+      let inside : ℕ → Bool = λ e. ltb e (length (p .code)) && good-return p e in
+      let returns = returns-in p (open-program p gp) (s .stack) (state-facts .returns) in
       record {
-        exprs-is = eqb→eq (length (st .exprs)) limit.expressions (store-part 0);
-        files-is = eqb→eq (length (st .files)) limit.files (store-part 1);
-        outputs-is = eqb→eq (length (st .outputs)) limit.outputs (store-part 2);
-        places-is = eqb→eq (length (st .places)) limit.inputs (store-part 3);
+        exprs-is = facts .exprs;
+        files-is = facts .files;
+        outputs-is = facts .outputs;
+        places-is = facts .places;
         exprs-ok = exprs-of (st .last) last (st .exprs) (omega (arith, z)) (omega (arith, o, o₁));
         files-ok = files-of (st .last) last (st .files) (omega (arith, z)) (omega (arith, o, o₁)) given (omega (arith, a, a₁)) (omega (arith, b, b₁));
-        outputs-ok = outputs-of (st .outputs) (limits .outputs-short);
+        outputs-ok = each-of (λ q. leb (length q) limit.output) (λ q. length q ≤ limit.output) (λ q. leb→le (length q) limit.output) (st .outputs) (limits .outputs-short);
         places-ok = places-of (st .places) ins (omega (arith, z)) inputs-short;
-        stack-ok = stack-of p (s .stack) code-most (state-part 3);
-        stack-most = leb→le (length (s .stack)) limit.stack (state-part 2);
-        next-below = omega (arith, next, code-most);
+        stack-ok = each-of inside (λ n. n < limit.instructions) (λ n t. omega (arith, ltb→lt n (length (p .code)) (T-left (ltb n (length (p .code))) (good-return p n) t))) (s .stack) returns;
+        stack-most = state-facts .depth;
+        next-below = omega (arith, state-facts .next);
         last-most = last;
         components-most = a;
         chars-most = b;
@@ -230,45 +212,25 @@ module _ (p : Program) (ins : Inputs) (s : State) (gp : T (good-program p)) (gi 
 
 -- ---- characters are bytes
 
-known-below : (x : ℕ) → T (known x) → x < 256
-unfolding known
-known-below x h = ltb→lt x 256 (all-among (λ n. ltb n 256) ranked tt x h)
-
-strange-below : (x : ℕ) → strange x ≡ 0 → x < 256
-strange-below x h = go (known x) refl h
-  where
-    go : (b : Bool) → known x ≡ b → _≡_ {A = ℕ} (cond b 0 1) 0 → x < 256
-    go true e q = known-below x (subst T (sym e) tt)
-    go false e q = absurd (omega (arith, q))
-
 word-below : (w : List ℕ) → total strange w ≡ 0 → Below 256 w
-word-below [] h = tt
-word-below (x ∷ w) h = (strange-below x (omega (arith, h)), word-below w (omega (arith, h)))
-
-words-below : (ws : List (List ℕ)) → total (total strange) ws ≡ 0 → Each (Below 256) ws
-words-below [] h = tt
-words-below (w ∷ ws) h = (word-below w (omega (arith, h)), words-below ws (omega (arith, h)))
+word-below w h = known-below w (subst T (sym (all-total known w)) (rw h tt))
 
 module _ (l : ℕ) where
   chars-below : (x : Component) → faults l x ≡ 0 → Below 256 (chars x)
-  chars-below (word w) h = word-below w (omega (arith, h))
-  chars-below (Component.number z) h = tt
-  chars-below (address n) h = tt
+  chars-below x h = word-below (chars x) (chars-known l x h)
 
-  abbrev Bytes : List Component → Type 0
-  Bytes xs = Each (λ x. Below 256 (chars x)) xs
+  abbrev CharsBelow : List Component → Type 0
+  CharsBelow xs = Each (λ x. Below 256 (chars x)) xs
 
-  parts-below : (xs : List Component) → total (faults l) xs ≡ 0 → Bytes xs
-  parts-below [] h = tt
-  parts-below (x ∷ xs) h = (chars-below x (omega (arith, h)), parts-below xs (omega (arith, h)))
+  parts-below : (xs : List Component) → total (faults l) xs ≡ 0 → CharsBelow xs
+  parts-below xs h = each-zero (faults l) (λ x. Below 256 (chars x)) chars-below xs h
 
   exprs-below : (es : List (List Component)) → Each (Each Ok) es → total (total (faults l)) es ≡ 0 → Each (Below 256) (map components-bytes es)
   exprs-below [] k h = tt
   exprs-below (e ∷ es) k h = (components-below e (k .0) (parts-below e (omega (arith, h))), exprs-below es (k .1) (omega (arith, h)))
 
-  recs-below : (rs : List Record) → total (record-faults l) rs ≡ 0 → Each (λ r. Bytes (r .parts)) rs
-  recs-below [] h = tt
-  recs-below (r ∷ rs) h = (parts-below (r .parts) (omega (arith, h)), recs-below rs (omega (arith, h)))
+  recs-below : (rs : List Record) → total (record-faults l) rs ≡ 0 → Each (λ r. CharsBelow (r .parts)) rs
+  recs-below rs h = each-zero (record-faults l) (λ r. CharsBelow (r .parts)) (λ r z. parts-below (r .parts) (omega (arith, z))) rs h
 
   files-below : (fs : List File) → Each FileOk fs → total (λ f. total (record-faults l) (records f)) fs ≡ 0 → Each (Below 256) (file-strings fs)
   unfolding file-strings
@@ -279,9 +241,8 @@ module _ (l : ℕ) where
         (records-below (f .after) (k .0 .after-ok) (recs-below (f .after) (omega (arith, h))), files-below fs (k .1) (omega (arith, h))),
       )
 
-stack-below : (ns : List ℕ) → Each (λ n. n ≤ limit.instructions) ns → Below 256 (each two ns)
-stack-below [] h = tt
-stack-below (n ∷ ns) h = below-append 256 (two n) (each two ns) (two-below n (omega (arith, h .0))) (stack-below ns (h .1))
+stack-below : (ns : List ℕ) → Below limit.instructions ns → Below 256 (each two ns)
+stack-below ns h = each-below 256 two (λ n. n < limit.instructions) (λ n b. two-below n (omega arith)) ns h
 
 pub good-strings-below : (p : Program) (ins : Inputs) (s : State) → T (good-program p) → T (good-inputs ins) → T (good-state p ins s) → Each (Below 256) (strings s)
 unfolding strings
@@ -294,7 +255,7 @@ good-strings-below p ins s gp gi g =
     let R : List (List ℕ) = each two (s .stack) ∷ st .outputs in
     each-append (Below 256) E (F ++ R) (exprs-below (st .last) (st .exprs) (f .exprs-ok) (omega (arith, z)))
     (each-append (Below 256) F R (files-below (st .last) (st .files) (f .files-ok) (omega (arith, z)))
-    (stack-below (s .stack) (f .stack-ok), words-below (st .outputs) (omega (arith, z))))
+    (stack-below (s .stack) (f .stack-ok), each-zero (total strange) (Below 256) word-below (st .outputs) (omega (arith, z))))
 
 -- ---- the strings leave room
 

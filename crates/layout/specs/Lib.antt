@@ -7,8 +7,9 @@ pub mod Bounds
 pub mod CellLaws
 pub mod StringLaws
 pub mod ComponentLaws
+pub mod ProgramLaws
 pub mod FineLaws
 pub mod MemoryLaws
-pub mod ProgramLaws
 pub mod ArgumentLaws
 pub mod TableLaws
+pub mod Examples

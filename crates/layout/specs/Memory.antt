@@ -1,19 +1,18 @@
 -- The state at rest: the 40,960 bytes of a state, and the state that bytes read as (docs/LAYOUT.md has the same in words).
-use mathlib.Core.Bool.{Bool, true, false, cond, _&&_}
+use mathlib.Core.Bool.{Bool, cond, _&&_}
 use mathlib.Core.List.{List, [], _∷_, _++_, map}
 use Prim.Native.Nat.{ℕ, zero, suc, _+_, _*_}
 use lib.Dec.{leb, eqb}
 use lib.ListN.{length, getD, take, drop}
 use Rattle.language.specs.Limits as limit
+use Rattle.lists.specs.Lists.{each, sameBytes}
 use Rattle.language.specs.Program.{Program}
 use Rattle.language.specs.Values.{File, Store, State, Inputs, chars}
+use Rattle.machine.specs.Changes.{held, recorded}
+use Rattle.machine.specs.WellFormed.{good-state}
 use Rattle.layout.specs.Cells.{two, three, three-at}
 use Rattle.layout.specs.Components.{components-bytes, records-bytes, components-in, records-in}
 use Rattle.layout.specs.Strings.{string-cells, strings-in}
-use Rattle.lists.specs.Lists.{each, sameBytes}
-use Rattle.machine.specs.Changes.{held, recorded}
-use Rattle.machine.specs.Runs.{after}
-use Rattle.machine.specs.WellFormed.{good-state}
 
 -- ---- writing
 

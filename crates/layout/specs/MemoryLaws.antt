@@ -1,27 +1,28 @@
 -- Laws of the state at rest: what is written is read back, what is well formed is written in one way only, and where each part stands.
-use mathlib.Core.Path.{_≡_, refl, sym, ap, _∙_, subst}
+use mathlib.Core.Path.{_≡_, refl, sym, ap, _∙_}
 use mathlib.Core.Bool.{Bool, true, false, cond, _&&_}
 use mathlib.Core.List.{List, [], _∷_, _++_, map, append-assoc}
-use Prim.Native.Nat.{ℕ, zero, suc, _+_, _*_, _-_, _≤_, _<_}
+use Prim.Native.Nat.{ℕ, zero, suc, _+_, _*_, _≤_, _<_}
 use native.Mathlib.Omega.{arith}
-use lib.Dec.{T, leb, eqb, leb→le, le→leb}
+use lib.Dec.{T, eqb, leb→le, le→leb}
 use lib.ListN.{length, getD, take, drop, replicate, length-append, length-drop, length-map, take-append-drop, List·getD-append, List·getD-map}
 use lib.Seq.{take-at, drop-at, drop-drop, getD-drop}
 use Rattle.language.specs.Limits as limit
+use Rattle.lists.specs.ListLaws.{T-left, T-right, T-both, sameBytes-eq, sameBytes-refl}
+use Rattle.lists.specs.Lists.{each, sameBytes}
 use Rattle.language.specs.Program.{Program}
-use Rattle.language.specs.Values.{Component, File, Store, State, Inputs, empty-file}
-use Rattle.layout.specs.Bounds.{Each, Below, Ok, RecordOk, FileOk, Fine, Encoded, EncodedRecords, AtRest}
-use Rattle.layout.specs.CellLaws.{twice, twice-one, each-at, below-append, two-back, three-back, three-below, length-each}
-use Rattle.layout.specs.Cells.{two, three, three-at}
+use Rattle.language.specs.Values.{Component, File, State, Inputs, empty-file}
+use Rattle.machine.specs.Changes.{held, recorded}
+use Rattle.machine.specs.WellFormed.{good-program, good-inputs, good-state, started}
+use Rattle.layout.specs.Bounds.{Each, Below, Ok, FileOk, Fine, Encoded, EncodedRecords, AtRest}
+use Rattle.layout.specs.CellLaws.{twice, twice-one, each-at, below-append, each-below, two-back, three-back, three-below, length-each}
+use Rattle.layout.specs.Cells.{two, three}
 use Rattle.layout.specs.ComponentLaws.{components-back, records-back}
-use Rattle.layout.specs.Components.{components-bytes, records-bytes, components-in, records-in}
+use Rattle.layout.specs.Components.{components-bytes, records-bytes, components-in}
 use Rattle.layout.specs.FineLaws.{good-fine, good-strings-below, fine-room}
 use Rattle.layout.specs.Memory.{scalars, file-strings, strings, state-cells, threes-in, files-in, twos-in, state-by, state-in, state-of, long-enough, good-memory, written}
 use Rattle.layout.specs.StringLaws.{strings-short, strings-back, length-string-cells, string-cells-below}
-use Rattle.layout.specs.Strings.{used, string-cells, strings-in}
-use Rattle.lists.specs.Lists.{each, joined, sameBytes}
-use Rattle.lists.specs.ListLaws.{T-left, T-right, T-both, sameBytes-eq, sameBytes-refl}
-use Rattle.machine.specs.WellFormed.{good-program, good-inputs, good-state}
+use Rattle.layout.specs.Strings.{lengths, used, string-cells, strings-in}
 
 -- ---- numbers and strings, read back
 
@@ -80,8 +81,7 @@ sign-below true = omega arith
 sign-below false = omega arith
 
 threes-below : (ns : List ℕ) → Below 16777216 ns → Below 256 (each three ns)
-threes-below [] h = tt
-threes-below (n ∷ ns) h = below-append 256 (three n) (each three ns) (three-below n (h .0)) (threes-below ns (h .1))
+threes-below ns h = each-below 256 three (λ n. n < 16777216) three-below ns h
 
 -- ---- the strings of a state
 
@@ -222,33 +222,38 @@ module _ (s : State) (f : Fine s) where
 -- ---- a well-formed state
 
 module _ (p : Program) (ins : Inputs) (s : State) (gp : T (good-program p)) (gi : T (good-inputs ins)) (g : T (good-state p ins s)) where
-  abbrev fine : Fine s
-  fine = good-fine p ins s gp gi g
+  abbrev state-fine : Fine s
+  state-fine = good-fine p ins s gp gi g
 
   -- its cells are bytes
   pub state-cells-below : Below 256 (state-cells s)
   unfolding state-cells
   state-cells-below =
-      let short : Each (λ v. length v < 65536) (strings s) = strings-short (strings s) 65536 (omega (arith, fine-room s fine)) in
-      below-append 256 (each three (scalars s)) (string-cells (strings s)) (threes-below (scalars s) (scalars-below s fine))
+      let short : Each (λ v. length v < 65536) (strings s) = strings-short (strings s) 65536 (omega (arith, fine-room s state-fine)) in
+      below-append 256 (each three (scalars s)) (string-cells (strings s)) (threes-below (scalars s) (scalars-below s state-fine))
       (string-cells-below (strings s) short (good-strings-below p ins s gp gi g))
 
   pub written-good : (m : List ℕ) → T (good-memory p ins (written s m))
   unfolding good-memory
   written-good m =
       let w : List ℕ = written s m in
-      let back : state-of w ≡ s = written-back s fine m in
-      let front : take limit.state w ≡ state-cells s = unfold written in take-at (state-cells s) (drop limit.state m) limit.state (length-state-cells s fine) in
-      let long : limit.state ≤ length w = unfold written in simp length-append (omega (arith, length-state-cells s fine)) in
+      let back : state-of w ≡ s = written-back s state-fine m in
+      let front : take limit.state w ≡ state-cells s = unfold written in take-at (state-cells s) (drop limit.state m) limit.state (length-state-cells s state-fine) in
+      let long : limit.state ≤ length w = unfold written in simp length-append (omega (arith, length-state-cells s state-fine)) in
       T-both (long-enough w && sameBytes (state-cells (state-of w)) (take limit.state w)) (good-state p ins (state-of w))
       (T-both (long-enough w) (sameBytes (state-cells (state-of w)) (take limit.state w)) (le→leb limit.state (length w) long)
       (rw (back, front) (sameBytes-refl (state-cells s)))) (rw back g)
 
+-- the state that start makes is a 1 and zeros
+pub started-cells : state-cells started ≡ 1 ∷ replicate 40959 0
+unfolding started state-cells strings file-strings components-bytes records-bytes lengths used string-cells held recorded
+started-cells = refl
+
 -- ---- a well-formed memory
 
-pub at-rest : (p : Program) (ins : Inputs) (m : List ℕ) → T (good-memory p ins m) → AtRest p ins m
+pub memory-facts : (p : Program) (ins : Inputs) (m : List ℕ) → T (good-memory p ins m) → AtRest p ins m
 unfolding good-memory
-at-rest p ins m h =
+memory-facts p ins m h =
     let a : Bool = long-enough m in
     let b : Bool = sameBytes (state-cells (state-of m)) (take limit.state m) in
     let c : Bool = good-state p ins (state-of m) in
@@ -261,20 +266,20 @@ at-rest p ins m h =
 -- what is well formed is written in one way only
 pub memory-one-form : (p q : Program) (ins jns : Inputs) (m n : List ℕ) → T (good-memory p ins m) → T (good-memory q jns n)
     → state-of m ≡ state-of n → take limit.state m ≡ take limit.state n
-memory-one-form p q ins jns m n h k e = sym (at-rest p ins m h .cells) ∙ ap state-cells e ∙ at-rest q jns n k .cells
+memory-one-form p q ins jns m n h k e = sym (memory-facts p ins m h .cells) ∙ ap state-cells e ∙ memory-facts q jns n k .cells
 
 -- a call that leaves the state leaves the memory
 pub written-same : (p : Program) (ins : Inputs) (m : List ℕ) → T (good-memory p ins m) → written (state-of m) m ≡ m
 unfolding written
-written-same p ins m h = rw (at-rest p ins m h .cells) (take-append-drop limit.state m)
+written-same p ins m h = rw (memory-facts p ins m h .cells) (take-append-drop limit.state m)
 
 -- the strings and scalars of a well-formed memory are those of its state
 module _ (p : Program) (ins : Inputs) (m : List ℕ) (gp : T (good-program p)) (gi : T (good-inputs ins)) (h : T (good-memory p ins m)) where
   pub memory-fine : Fine (state-of m)
-  memory-fine = good-fine p ins (state-of m) gp gi (at-rest p ins m h .good)
+  memory-fine = good-fine p ins (state-of m) gp gi (memory-facts p ins m h .good)
 
   pub memory-strings : strings-in (drop 24 (take limit.state m)) ≡ strings (state-of m)
-  memory-strings = rw (← at-rest p ins m h .cells) (strings-in-cells (state-of m) memory-fine)
+  memory-strings = rw (← memory-facts p ins m h .cells) (strings-in-cells (state-of m) memory-fine)
 
   pub memory-scalars : threes-in 8 (take limit.state m) ≡ scalars (state-of m)
-  memory-scalars = rw (← at-rest p ins m h .cells) (scalars-in-cells (state-of m) memory-fine)
+  memory-scalars = rw (← memory-facts p ins m h .cells) (scalars-in-cells (state-of m) memory-fine)

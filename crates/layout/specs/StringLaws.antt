@@ -6,11 +6,11 @@ use native.Mathlib.Nat.{not-suc-le-zero, le-of-suc-le-suc}
 use native.Mathlib.Omega.{arith}
 use lib.ListN.{length, getD, take, drop, replicate, length-append, length-replicate}
 use lib.Seq.{take-append-seam, drop-append-seam, drop-at}
+use Rattle.lists.specs.Lists.{joined}
 use Rattle.layout.specs.Bounds.{Each, Below}
 use Rattle.layout.specs.CellLaws.{twice, twice-one, below-append, below-zeros, two-back, two-below}
 use Rattle.layout.specs.Cells.{two}
 use Rattle.layout.specs.Strings.{lengths, used, string-cells, lengths-in, cut-by, strings-in}
-use Rattle.lists.specs.Lists.{joined}
 
 -- ---- the strings end to end
 

@@ -1,22 +1,20 @@
 -- The program table: the 8,192 cells of a program, and the program that cells read as (docs/LAYOUT.md has the same in words).
-use mathlib.Core.Bool.{Bool, true, false, cond, _&&_}
+use mathlib.Core.Bool.{Bool, cond, _&&_}
 use mathlib.Core.List.{List, [], _∷_, _++_, map}
-use Prim.Native.Nat.{ℕ, zero, suc, _+_, _*_, _-_, _/_, _%_}
+use Prim.Native.Nat.{ℕ, _+_, _*_, _-_, _/_, _%_}
 use lib.Dec.{leb, ltb, eqb}
 use lib.ListN.{length, getD, take, drop, replicate}
-use lib.IntN.{ℤ, pos, _-ℤ_, natAbs}
+use lib.IntN.{ℤ, natAbs}
 use Rattle.language.specs.Limits as limit
+use Rattle.lists.specs.Lists.{ahead, each, sameBytes, among}
 use Rattle.language.specs.Instructions.{operation, operator-of}
 use Rattle.language.specs.Letters.{Letter, letters, letter-code}
 use Rattle.language.specs.Letters.Letter.{A}
 use Rattle.language.specs.Program.{Arg, Instr, Label, Entry, Switch, Program}
 use Rattle.language.specs.Program.Arg.{nothing, letter, label, switch, class, text}
-use Rattle.language.specs.Values.{kind, sameNumber}
-use Rattle.layout.specs.Cells.{cell, fours, unfours, code, uncode, tab, padded}
-use Rattle.lists.specs.Lists.{ahead, each, sameBytes, among}
-use Rattle.machine.specs.Arguments.{at, first}
-use Rattle.machine.specs.Steps.{numbers}
+use Rattle.language.specs.Values.{sameNumber}
 use Rattle.machine.specs.WellFormed.{good-program}
+use Rattle.layout.specs.Cells.{cell, fours, unfours, code, uncode, tab, padded}
 
 -- ---- writing
 

@@ -1,8 +1,8 @@
 -- Laws of the program table: what is written is read back, and what is well formed is written in one way only.
-use mathlib.Core.Path.{_≡_, refl, sym, ap, _∙_, subst}
+use mathlib.Core.Path.{_≡_, refl, sym, ap, _∙_}
 use mathlib.Core.Bool.{Bool, true, false, cond, _&&_}
-use mathlib.Core.List.{List, [], _∷_, _++_, map, append-assoc}
-use Prim.Native.Nat.{ℕ, zero, suc, _+_, _*_, _-_, _/_, _%_, _≤_, _<_}
+use mathlib.Core.List.{List, [], _∷_, _++_, map}
+use Prim.Native.Nat.{ℕ, zero, suc, _+_, _*_, _/_, _%_, _≤_, _<_}
 use native.Mathlib.Nat.{not-suc-le-zero, le-of-suc-le-suc}
 use native.Mathlib.Omega.{arith}
 use lib.Dec.{T, leb, eqb, leb→le, le→leb}
@@ -11,17 +11,18 @@ use lib.Seq.{take-at, drop-at, drop-drop}
 use borrow.Author.Tests.{eq-eqb, ne-eqb}
 use lib.IntN.{ℤ, pos, natAbs}
 use Rattle.language.specs.Limits as limit
+use Rattle.lists.specs.ListLaws.{T-left, T-right, T-both, sameBytes-eq, sameBytes-refl}
+use Rattle.lists.specs.Lists.{total, each, sameBytes}
 use Rattle.language.specs.Instructions.{operation, operator-of}
 use Rattle.language.specs.Program.{Arg, Instr, Label, Entry, Switch, Program, no-instr, no-label, no-switch, no-entry}
-use Rattle.layout.specs.ArgumentLaws.{bit-most, operator-back, operator-below, text-back, arg-back, arg-cell-below, text-ref-most}
-use Rattle.layout.specs.Bounds.{Each, Below, InstrOk, LabelOk, TextOk, EntryOk, ProgramOk, Tabled}
-use Rattle.layout.specs.CellLaws.{each-in, below-append, below-zeros, each-below, map-below, code-below, uncode-code, length-each, length-fours, fours-below, take-unfours, tab-ext, length-padded, padded-below, block-at, first-cell, next-cell, padded-at, getD-map-at, getD-each, each-within, each-most}
-use Rattle.layout.specs.Cells.{cell, fours, unfours, code, uncode, tab, padded}
-use Rattle.layout.specs.ProgramLaws.{program-ok, length-each-total}
-use Rattle.layout.specs.Table.{text-ref, arg-cell, instr-cells, label-cells, text-cells, switch-cell, switch-cells, entry-cell, all-entries, counts, table-cells, chars-in, text-in, number-in, text-by, arg-in, instr-in, label-in, entry-in, switch-in, program-in, program-of, good-table}
-use Rattle.lists.specs.Lists.{total, each, sameBytes}
-use Rattle.lists.specs.ListLaws.{T-left, T-right, T-both, sameBytes-eq, sameBytes-refl}
+use Rattle.machine.specs.Facts.{InstrFacts, LabelFacts}
 use Rattle.machine.specs.WellFormed.{ranged, good-program}
+use Rattle.layout.specs.ArgumentLaws.{bit-most, operator-back, operator-below, text-back, arg-back, arg-cell-below, text-ref-most}
+use Rattle.layout.specs.Bounds.{Below, TextOk, EntryOk, ProgramOk, Tabled}
+use Rattle.layout.specs.CellLaws.{each-in, below-append, below-zeros, each-below, map-below, code-below, uncode-code, length-each, length-fours, fours-below, take-unfours, tab-ext, length-padded, padded-below, block-at, first-cell, next-cell, padded-at, getD-map-at, getD-each, each-within, each-most}
+use Rattle.layout.specs.Cells.{cell, fours, code, tab, padded}
+use Rattle.layout.specs.ProgramLaws.{identifier-below, program-ok, length-each-total}
+use Rattle.layout.specs.Table.{text-ref, arg-cell, instr-cells, label-cells, text-cells, switch-cell, switch-cells, entry-cell, all-entries, counts, table-cells, chars-in, text-in, number-in, text-by, arg-in, instr-in, label-in, entry-in, switch-in, program-in, program-of, good-table}
 
 -- ---- blocks of the table
 
@@ -104,22 +105,22 @@ module _ (p : Program) (h : ProgramOk p) where
   behind-1 = part-2 ++ behind-2
 
   length-1 : length part-1 ≡ 2048
-  length-1 = length-padded 2048 (each (instr-cells p) (p .code)) (omega (arith, length-each 4 (instr-cells p) (λ i. refl) (p .code), h .code-most))
+  length-1 = length-padded 2048 (each (instr-cells p) (p .code)) (omega (arith, length-each 4 (instr-cells p) (λ i. refl) (p .code), h .facts .code-short))
 
   length-2 : length part-2 ≡ 2048
-  length-2 = length-padded 2048 (each label-cells (p .labels)) (omega (arith, length-each 16 label-cells length-label-cells (p .labels), h .labels-most))
+  length-2 = length-padded 2048 (each label-cells (p .labels)) (omega (arith, length-each 16 label-cells length-label-cells (p .labels), h .facts .labels-few))
 
   length-3 : length part-3 ≡ 2048
-  length-3 = length-padded 2048 (each text-cells (p .texts)) (omega (arith, length-each 16 text-cells length-text-cells (p .texts), h .texts-most))
+  length-3 = length-padded 2048 (each text-cells (p .texts)) (omega (arith, length-each 16 text-cells length-text-cells (p .texts), h .facts .texts-few))
 
   length-4 : length part-4 ≡ 32
-  length-4 = length-padded 32 (switch-cells 0 (p .switches)) (omega (arith, length-switch-cells 0 (p .switches), h .switches-most))
+  length-4 = length-padded 32 (switch-cells 0 (p .switches)) (omega (arith, length-switch-cells 0 (p .switches), h .facts .switches-few))
 
   length-5 : length part-5 ≡ 128
   length-5 = length-padded 128 (map (entry-cell p) (all-entries p)) (omega (arith, length-map (all-entries p) (entry-cell p), h .entries-most))
 
   length-6 : length part-6 ≡ 128
-  length-6 = length-padded 128 (map code (p .numbers)) (omega (arith, length-map (p .numbers) code, h .numbers-most))
+  length-6 = length-padded 128 (map code (p .numbers)) (omega (arith, length-map (p .numbers) code, h .facts .numbers-few))
 
   pub length-table-cells : length (table-cells p) ≡ limit.table
   unfolding table-cells
@@ -174,13 +175,13 @@ module _ (p : Program) (h : ProgramOk p) where
       let q = block-at 4 (instr-cells p) (λ i. refl) c behind-1 8 2048 no-instr (p .code) i at-1 b in
       let at : (j : ℕ) → j < 4 → cell c (j + k) ≡ cell (instr-cells p x) j = next-cell c (instr-cells p x) (q .0) k (q .1) in
       let first : cell c k ≡ operation (x .op) .number + 64 * x .line = first-cell c (instr-cells p x) (q .0) k (q .1) (omega arith) in
-      let ok : InstrOk p x = each-in (InstrOk p) (p .code) (h .code-ok) i no-instr b in
+      let ok : InstrFacts p x = each-in (InstrFacts p) (p .code) (h .code-ok) i no-instr b in
       let e1 : cell c k % 64 ≡ operation (x .op) .number = rw first (omega (arith, operator-below (x .op))) in
       let o : operator-of (cell c k % 64) ≡ x .op = rw e1 (operator-back (x .op)) in
       let l : cell c k / 64 ≡ x .line = rw first (omega (arith, operator-below (x .op))) in
-      let a1 = arg-read (1 + k) (x .first) (ok .first-ranged) (at 1 (omega arith)) in
-      let a2 = arg-read (2 + k) (x .second) (ok .second-ranged) (at 2 (omega arith)) in
-      let a3 = arg-read (3 + k) (x .third) (ok .third-ranged) (at 3 (omega arith)) in
+      let a1 = arg-read (1 + k) (x .first) (ok .first) (at 1 (omega arith)) in
+      let a2 = arg-read (2 + k) (x .second) (ok .second) (at 2 (omega arith)) in
+      let a3 = arg-read (3 + k) (x .third) (ok .third) (at 3 (omega arith)) in
       λ j. record { op = o j; line = l j; first = a1 j; second = a2 j; third = a3 j }
 
   label-read : (i : ℕ) → i < length (p .labels) → label-in c i ≡ getD (p .labels) i no-label
@@ -189,12 +190,12 @@ module _ (p : Program) (h : ProgramOk p) where
       let k : ℕ = 2056 + 16 * i in
       let q = block-at 16 label-cells length-label-cells c behind-2 2056 2048 no-label (p .labels) i at-2 b in
       let first : cell c k ≡ length (x .name) + 64 * x .target = first-cell c (label-cells x) (q .0) k (q .1) (omega arith) in
-      let ok : LabelOk p x = each-in (LabelOk p) (p .labels) (h .labels-ok) i no-label b in
-      let m = ok .name-most in
+      let ok : LabelFacts p x = each-in (LabelFacts p) (p .labels) (h .labels-ok) i no-label b in
+      let m = ok .short in
       let e1 : cell c k % 64 ≡ length (x .name) = rw first (omega arith) in
       let e2 : cell c k / 64 ≡ x .target = rw first (omega arith) in
       let d = next-place c (fours 15 (x .name)) (q .0) (length (x .name) + 64 * x .target) k (q .1) in
-      let n : chars-in c (cell c k % 64) (1 + k) ≡ x .name = rw e1 (chars-back c (x .name) (q .0) (1 + k) d m (ok .name-below)) in
+      let n : chars-in c (cell c k % 64) (1 + k) ≡ x .name = rw e1 (chars-back c (x .name) (q .0) (1 + k) d m (identifier-below (x .name) (ok .name))) in
       λ j. record { name = n j; target = e2 j }
 
   -- ---- switches and entries
@@ -205,8 +206,8 @@ module _ (p : Program) (h : ProgramOk p) where
       let e : cell c (6184 + k) ≡ entry-cell p x =
       padded-at c (map (entry-cell p) (all-entries p)) behind-5 6184 128 at-5 k (rw length-map b) ∙ getD-map-at (entry-cell p) (all-entries p) k no-entry 0 b in
       let ok : EntryOk p x = each-in (EntryOk p) (all-entries p) (h .entries-ok) k no-entry b in
-      let l : cell c (6184 + k) % 128 ≡ x .label = rw e (omega (arith, ok .label-below, h .labels-most)) in
-      let r : cell c (6184 + k) / 128 ≡ text-ref p (x .text) = rw e (omega (arith, ok .label-below, h .labels-most)) in
+      let l : cell c (6184 + k) % 128 ≡ x .label = rw e (omega (arith, ok .label-below, h .facts .labels-few)) in
+      let r : cell c (6184 + k) / 128 ≡ text-ref p (x .text) = rw e (omega (arith, ok .label-below, h .facts .labels-few)) in
       let t : text-by c (cell c (6184 + k) / 128) ≡ x .text = rw r (text-back p c texts-read numbers-read (x .text) (ok .text-kept)) in
       λ j. record { label = l j; text = t j }
 
@@ -242,19 +243,19 @@ module _ (p : Program) (h : ProgramOk p) where
 
   -- ---- the cells are below 2³²
 
-  instr-below : (i : Instr) → InstrOk p i → Below 4294967296 (instr-cells p i)
+  instr-below : (i : Instr) → InstrFacts p i → Below 4294967296 (instr-cells p i)
   instr-below i k =
       let a : (x : Arg) → T (ranged p x) → arg-cell p x < 4294967296 = λ x r. omega (arith, arg-cell-below p h x r) in
-      (omega (arith, k .line-most, operator-below (i .op)), (a (i .first) (k .first-ranged), (a (i .second) (k .second-ranged), (a (i .third) (k .third-ranged), tt))))
+      (omega (arith, k .line-to, operator-below (i .op)), (a (i .first) (k .first), (a (i .second) (k .second), (a (i .third) (k .third), tt))))
 
-  label-below : (l : Label) → LabelOk p l → Below 4294967296 (label-cells l)
-  label-below l k = (omega (arith, k .name-most, k .target-below, h .code-most), fours-below 15 (l .name) (k .name-below))
+  label-below : (l : Label) → LabelFacts p l → Below 4294967296 (label-cells l)
+  label-below l k = (omega (arith, k .short, k .target, h .facts .code-short), fours-below 15 (l .name) (identifier-below (l .name) (k .name)))
 
   text-below : (t : List ℕ) → TextOk t → Below 4294967296 (text-cells t)
   text-below t k = (omega (arith, k .most), fours-below 15 t (k .below))
 
   entry-below : (e : Entry) → EntryOk p e → entry-cell p e < 4294967296
-  entry-below e k = omega (arith, k .label-below, h .labels-most, h .texts-most, text-ref-most p (e .text) (k .text-kept))
+  entry-below e k = omega (arith, k .label-below, h .facts .labels-few, h .facts .texts-few, text-ref-most p (e .text) (k .text-kept))
 
   number-below : (z : ℤ) → natAbs z ≤ limit.size → code z < 4294967296
   number-below z k = omega (arith, code-below z k)
@@ -267,9 +268,9 @@ module _ (p : Program) (h : ProgramOk p) where
       let joins : (x y : List ℕ) → Below n x → Below n y → Below n (x ++ y) = below-append n in
       let switches : Below n (switch-cells 0 (p .switches)) = switch-cells-below 0 (p .switches) (omega (arith, length-each-total (λ w. w .entries) (p .switches), h .entries-most)) in
       joins (counts p) (part-1 ++ behind-1)
-      (omega (arith, h .code-most, h .labels-most, h .switches-most, h .entries-most, h .texts-most, h .numbers-most))
-      (joins part-1 behind-1 (padded-below n 2048 (each (instr-cells p) (p .code)) some (each-below n (instr-cells p) (InstrOk p) instr-below (p .code) (h .code-ok)))
-      (joins part-2 behind-2 (padded-below n 2048 (each label-cells (p .labels)) some (each-below n label-cells (LabelOk p) label-below (p .labels) (h .labels-ok)))
+      (omega (arith, h .facts .code-short, h .facts .labels-few, h .facts .switches-few, h .entries-most, h .facts .texts-few, h .facts .numbers-few))
+      (joins part-1 behind-1 (padded-below n 2048 (each (instr-cells p) (p .code)) some (each-below n (instr-cells p) (InstrFacts p) instr-below (p .code) (h .code-ok)))
+      (joins part-2 behind-2 (padded-below n 2048 (each label-cells (p .labels)) some (each-below n label-cells (LabelFacts p) label-below (p .labels) (h .labels-ok)))
       (joins part-3 behind-3 (padded-below n 2048 (each text-cells (p .texts)) some (each-below n text-cells TextOk text-below (p .texts) (h .texts-ok)))
       (joins part-4 behind-4 (padded-below n 32 (switch-cells 0 (p .switches)) some switches)
       (joins part-5 behind-5 (padded-below n 128 (map (entry-cell p) (all-entries p)) some (map-below n (entry-cell p) (EntryOk p) entry-below (all-entries p) (h .entries-ok)))
@@ -296,9 +297,9 @@ module _ (p : Program) (g : T (good-program p)) (rest : List ℕ) where
       T-both (a && b) (good-program (program-of c))
       (T-both a b (le→leb limit.table (length c) long) (rw (program-of-cells, front) (sameBytes-refl (table-cells p)))) (rw program-of-cells g)
 
-pub tabled : (c : List ℕ) → T (good-table c) → Tabled c
+pub table-facts : (c : List ℕ) → T (good-table c) → Tabled c
 unfolding good-table
-tabled c h =
+table-facts c h =
     let a : Bool = leb limit.table (length c) in
     let b : Bool = sameBytes (table-cells (program-of c)) (take limit.table c) in
     let g : Bool = good-program (program-of c) in
@@ -310,4 +311,4 @@ tabled c h =
 
 -- what is well formed is written in one way only
 pub table-one-form : (c d : List ℕ) → T (good-table c) → T (good-table d) → program-of c ≡ program-of d → take limit.table c ≡ take limit.table d
-table-one-form c d h k e = sym (tabled c h .cells) ∙ ap table-cells e ∙ tabled d k .cells
+table-one-form c d h k e = sym (table-facts c h .cells) ∙ ap table-cells e ∙ table-facts d k .cells
