@@ -4,14 +4,13 @@ use mathlib.Core.Bool.{Bool, true, false, cond, _||_, Bool·beq}
 use mathlib.Core.List.{List, [], _∷_}
 use Prim.Native.Nat.{ℕ, zero, suc, _-_, _≤_, _<_}
 use native.Mathlib.Omega.{arith}
-use mathlib.Core.Logic.{_⊎_, ⊎-elim}
-use lib.Dec.{T, ltb, eqb, eqb→eq}
+use lib.Dec.{ltb, eqb, eqb→eq}
 use lib.ListN.{getD, List·getD-eq-default}
-use borrow.Author.Tests.{ne-eqb, le-ltb, le-leb, lt-leb}
+use borrow.Author.Tests.{ne-eqb, lt-ltb, le-ltb}
 use Rattle.lists.specs.Lists.{among}
 use Rattle.lists.specs.Quoted.{bytes}
 use Rattle.lists.specs.TableLaws.{beq-eq, below, below-unless, Missed, missed}
-use Rattle.characters.specs.Characters.{ranked, known, rank, byteOf, between, isLetter, classOf}
+use Rattle.characters.specs.Characters.{ranked, known, rank, byteOf, between, classOf}
 
 -- past the last rank
 pub past : (r : ℕ) → 61 < r → byteOf r ≡ 0
@@ -30,7 +29,7 @@ class-by-rank r n h =
     (below-unless (λ k. eqb k 0) (λ k. eqb (getD classes (k - 1) 0) (classOf (byteOf k))) 62 tt r (omega arith) (ne-eqb r 0 n))
 
 abbrev pub lowRank : ℕ → ℕ
-lowRank b = cond (ltb b 64) (rank b) 62
+lowRank b = cond (ltb b 65) (rank b) 62
 
 -- the numbers of the arms of `low_rank`
 abbrev pub low-arms : List ℕ
@@ -42,23 +41,23 @@ low-arm e = ap lowRank (sym e)
 pub low-rest : (b : ℕ) → b < 256 → Missed (Unit {0}) low-arms b → 62 ≡ lowRank b
 low-rest b h m = eqb→eq 62 (lowRank b) (below-unless (λ k. among k low-arms) (λ k. eqb 62 (lowRank k)) 256 tt b h (missed low-arms b m))
 
-pub letter : (b : ℕ) → 65 ≤ b → b < 91 → b - 44 ≡ rank b
-letter b l h = eqb→eq (b - 44) (rank b) (below-unless (λ k. ltb k 65) (λ k. eqb (k - 44) (rank k)) 91 tt b h (le-ltb b 65 l))
+pub low : (b : ℕ) → b < 65 → lowRank b ≡ rank b
+low b h = rw (lt-ltb b 65 h)
 
--- the numbers of the other arms of `rank`
-abbrev pub arms : List ℕ
-arms = 91 ∷ 93 ∷ 127 ∷ []
+pub letter : (b : ℕ) → 65 ≤ b → b ≤ 90 → b - 44 ≡ rank b
+letter b l h = eqb→eq (b - 44) (rank b) (below-unless (λ k. ltb k 65) (λ k. eqb (k - 44) (rank k)) 91 tt b (omega arith) (le-ltb b 65 l))
 
-pub arm : {b k : ℕ} → b ≡ k → rank k ≡ rank b
-arm e = ap rank (sym e)
+-- the numbers of the arms of `rank`
+abbrev pub high-arms : List ℕ
+high-arms = 91 ∷ 93 ∷ 127 ∷ []
 
-pub rest : (b : ℕ) → b < 256 → Missed (Unit {0}) arms b → (b < 65) ⊎ (91 ≤ b) → lowRank b ≡ rank b
-rest b h m o =
-    let n : (among b arms || isLetter b) ≡ false =
-    rw (missed arms b m) (⊎-elim (λ l. simp (lt-leb 65 b l)) (λ l. simp (le-leb 65 b (omega arith), lt-leb b 90 l)) o)
-    in
-    eqb→eq (lowRank b) (rank b)
-    (below-unless (λ k. among k arms || isLetter k) (λ k. eqb (lowRank k) (rank k)) 256 tt b h n)
+pub high-arm : {b k : ℕ} → b ≡ k → rank k ≡ rank b
+high-arm e = ap rank (sym e)
+
+pub high-rest : (b : ℕ) → b < 256 → 90 < b → Missed (Unit {0}) high-arms b → 62 ≡ rank b
+high-rest b h l m =
+    let n : (ltb b 91 || among b high-arms) ≡ false = rw (le-ltb b 91 l) (missed high-arms b m) in
+    eqb→eq 62 (rank b) (below-unless (λ k. ltb k 91 || among k high-arms) (λ k. eqb 62 (rank k)) 256 tt b h n)
 
 -- the ranges of `is_known`
 abbrev pub ranges : ℕ → Bool

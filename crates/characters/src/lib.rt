@@ -36,9 +36,27 @@ pub fn class_at(r: u8) -> u8
     CLASSES[(r - 1) as usize]
 }
 
+pub fn between(a: u8, z: u8, b: u8) -> bool
+    ensures { λ r. ⌜ r ≡ between a z b ⌝ }
+{
+    (a <= b) & (b <= z)
+}
+
+pub fn is_letter(b: u8) -> bool
+    ensures { λ r. ⌜ r ≡ isLetter b ⌝ }
+{
+    between(b'A', b'Z', b)
+}
+
+pub fn is_digit(b: u8) -> bool
+    ensures { λ r. ⌜ r ≡ isDigit b ⌝ }
+{
+    between(b'0', b'9', b)
+}
+
 // The ranks below A, by a `match`, which is compiled to a table.
 fn low_rank(b: u8) -> u8
-    ensures { λ r. ⌜ r ≡ cond (ltb b 64) (rank b) 62 ⌝ }
+    ensures { λ r. ⌜ r ≡ cond (ltb b 65) (rank b) 62 ⌝ }
 {
     match b {
         b' ' => 1,
@@ -81,31 +99,18 @@ fn low_rank(b: u8) -> u8
 pub fn rank(b: u8) -> u8
     ensures { λ r. ⌜ r ≡ rank b ⌝ }
 {
+    if b < b'A' {
+        return low_rank(b);
+    }
+    if b <= b'Z' {
+        return b - 44;
+    }
     match b {
-        b'A'..=b'Z' => b - 44,
         b'[' => 14,
         b']' => 15,
         127 => 61,
-        _ => low_rank(b),
+        _ => 62,
     }
-}
-
-pub fn between(a: u8, z: u8, b: u8) -> bool
-    ensures { λ r. ⌜ r ≡ between a z b ⌝ }
-{
-    (a <= b) & (b <= z)
-}
-
-pub fn is_letter(b: u8) -> bool
-    ensures { λ r. ⌜ r ≡ isLetter b ⌝ }
-{
-    between(b'A', b'Z', b)
-}
-
-pub fn is_digit(b: u8) -> bool
-    ensures { λ r. ⌜ r ≡ isDigit b ⌝ }
-{
-    between(b'0', b'9', b)
 }
 
 // By ranges of bytes and without a branch, so that a loop over bytes takes many at once.
