@@ -1,3 +1,4 @@
+-- `characters::precedes` meets its contract. It ends since the second word grows shorter with each call.
 use mathlib.Core.Path.{_≡_, sym, _∙_}
 use lib.ListN.{length}
 use Rattle.characters.proofs.Steps.{before-none, none-before, same-first, other-first}
@@ -22,7 +23,6 @@ abbrev precedes-below : ℕ → In 2 precedes-kinds.ps
 precedes-below t =
     and 2 precedes-kinds.ps (falls 2 precedes-kinds.ps _<_ μ-precedes t) precedes.Pre
 
--- src/lib.rt:158:9
 precedes-returns : (t : ℕ) → precedes-lts.Need-returns (
   precedes-below t,
   precedes.Post,
@@ -31,7 +31,6 @@ precedes-returns : (t : ℕ) → precedes-lts.Need-returns (
 ) (precedes-at t) precedes.Post
 precedes-returns t c = let a = c .before .before .before .args in sym (before-none (a .v .now) (a .w .now) (c .if1 .taken))
 
--- src/lib.rt:161:9
 precedes-returns-2 : (t : ℕ) → precedes-lts.Need-returns-2 (
   precedes-below t,
   precedes.Post,
@@ -40,7 +39,6 @@ precedes-returns-2 : (t : ℕ) → precedes-lts.Need-returns-2 (
 ) (precedes-at t) precedes.Post
 precedes-returns-2 t c = let a = c .before .before .before .before .args in sym (none-before (a .v .now) (a .w .now) (c .if2 .taken) (c .before .if1 .left))
 
--- src/lib.rt:163:13
 precedes-shared-slice-read-x : (t : ℕ) → precedes-lts.Need-shared-slice-read-x (
   precedes-below t,
   precedes.Post,
@@ -49,7 +47,6 @@ precedes-shared-slice-read-x : (t : ℕ) → precedes-lts.Need-shared-slice-read
 ) (precedes-at t) precedes.Post
 precedes-shared-slice-read-x t c = search needs
 
--- src/lib.rt:164:13
 precedes-shared-slice-read-y : (t : ℕ) → precedes-lts.Need-shared-slice-read-y (
   precedes-below t,
   precedes.Post,
@@ -58,7 +55,6 @@ precedes-shared-slice-read-y : (t : ℕ) → precedes-lts.Need-shared-slice-read
 ) (precedes-at t) precedes.Post
 precedes-shared-slice-read-y t c = search needs
 
--- src/lib.rt:166:25
 precedes-sub-precedes : (t : ℕ) → precedes-lts.Need-sub-precedes (
   precedes-below t,
   precedes.Post,
@@ -67,7 +63,6 @@ precedes-sub-precedes : (t : ℕ) → precedes-lts.Need-sub-precedes (
 ) (precedes-at t) precedes.Post
 precedes-sub-precedes t c = search needs
 
--- src/lib.rt:166:25
 precedes-part-precedes-start : (t : ℕ) → precedes-lts.Need-part-precedes-start (
   precedes-below t,
   precedes.Post,
@@ -76,7 +71,6 @@ precedes-part-precedes-start : (t : ℕ) → precedes-lts.Need-part-precedes-sta
 ) (precedes-at t) precedes.Post
 precedes-part-precedes-start t c = search needs
 
--- src/lib.rt:166:25
 precedes-part-precedes-end : (t : ℕ) → precedes-lts.Need-part-precedes-end (
   precedes-below t,
   precedes.Post,
@@ -85,7 +79,6 @@ precedes-part-precedes-end : (t : ℕ) → precedes-lts.Need-part-precedes-end (
 ) (precedes-at t) precedes.Post
 precedes-part-precedes-end t c = search needs
 
--- src/lib.rt:166:34
 precedes-sub-precedes-2 : (t : ℕ) → precedes-lts.Need-sub-precedes-2 (
   precedes-below t,
   precedes.Post,
@@ -94,7 +87,6 @@ precedes-sub-precedes-2 : (t : ℕ) → precedes-lts.Need-sub-precedes-2 (
 ) (precedes-at t) precedes.Post
 precedes-sub-precedes-2 t c = search needs
 
--- src/lib.rt:166:34
 precedes-part-precedes-start-2 : (t : ℕ) → precedes-lts.Need-part-precedes-start-2 (
   precedes-below t,
   precedes.Post,
@@ -103,7 +95,6 @@ precedes-part-precedes-start-2 : (t : ℕ) → precedes-lts.Need-part-precedes-s
 ) (precedes-at t) precedes.Post
 precedes-part-precedes-start-2 t c = search needs
 
--- src/lib.rt:166:34
 precedes-part-precedes-end-2 : (t : ℕ) → precedes-lts.Need-part-precedes-end-2 (
   precedes-below t,
   precedes.Post,
@@ -112,7 +103,6 @@ precedes-part-precedes-end-2 : (t : ℕ) → precedes-lts.Need-part-precedes-end
 ) (precedes-at t) precedes.Post
 precedes-part-precedes-end-2 t c = search needs
 
--- src/lib.rt:166:9
 precedes-precedes-requires : (t : ℕ) → precedes-lts.Need-precedes-requires (
   precedes-below t,
   precedes.Post,
@@ -121,7 +111,6 @@ precedes-precedes-requires : (t : ℕ) → precedes-lts.Need-precedes-requires (
 ) (precedes-at t) precedes.Post
 precedes-precedes-requires t c κs = search needs
 
--- src/lib.rt:166:9
 precedes-returns-3 : (t : ℕ) → precedes-lts.Need-returns-3 (
   precedes-below t,
   precedes.Post,
@@ -130,7 +119,6 @@ precedes-returns-3 : (t : ℕ) → precedes-lts.Need-returns-3 (
 ) (precedes-at t) precedes.Post
 precedes-returns-3 t c = let a = c .before .before .before .before .before .before .before .before .before .before .args in c .precedes .ensures ∙ same-first (a .v .now) (a .w .now) (c .before .before .before .before .before .before .if2 .left) (c .before .before .before .before .before .before .before .if1 .left) (c .before .before .before .if3 .taken)
 
--- src/lib.rt:168:5
 precedes-rank-requires : (t : ℕ) → precedes-lts.Need-rank-requires (
   precedes-below t,
   precedes.Post,
@@ -139,7 +127,6 @@ precedes-rank-requires : (t : ℕ) → precedes-lts.Need-rank-requires (
 ) (precedes-at t) precedes.Post
 precedes-rank-requires t c κs = search needs
 
--- src/lib.rt:168:15
 precedes-rank-requires-2 : (t : ℕ) → precedes-lts.Need-rank-requires-2 (
   precedes-below t,
   precedes.Post,
@@ -148,7 +135,6 @@ precedes-rank-requires-2 : (t : ℕ) → precedes-lts.Need-rank-requires-2 (
 ) (precedes-at t) precedes.Post
 precedes-rank-requires-2 t c κs = search needs
 
--- src/lib.rt:154:1
 precedes-returns-4 : (t : ℕ) → precedes-lts.Need-returns-4 (
   precedes-below t,
   precedes.Post,

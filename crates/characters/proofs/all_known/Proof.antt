@@ -1,3 +1,4 @@
+-- `characters::all_known` meets its contract. The invariant: what was found of the first i bytes, and all of the rest known, is all of them known.
 use mathlib.Core.Path.{_≡_, refl, sym, _∙_}
 use mathlib.Core.Bool.{_&&_}
 use Prim.Native.Nat.{_≤_, _-_}
@@ -8,9 +9,6 @@ use Rattle.characters.proofs.Steps.{known-next, known-end}
 use borrow.Author.Needs.{needs}
 use Rattle.characters.proofs.all_known.Statement.{statement}
 use Rattle.characters.proofs.all_known.Tie as tie
-use Rattle.characters.proofs.all_known.Reads as reads
-use Rattle.characters.proofs.all_known.Lts as lts
-use Rattle.characters.proofs.is_known.Reads as is-known-reads
 
 abbrev Inv-loop : tie.InvT-loop
 Inv-loop s good₀ i₀ good i = (i ≤ length s) × (good && all known (drop i s) ≡ all known s)
@@ -18,31 +16,24 @@ Inv-loop s good₀ i₀ good i = (i ≤ length s) × (good && all known (drop i 
 abbrev μ-loop : tie.MeasureT-loop
 μ-loop s good₀ i₀ good i = length s - i
 
--- src/lib.rt:130:5
 loop-holds : tie.Need-loop-holds Inv-loop μ-loop
 loop-holds c = (search needs, refl)
 
--- src/lib.rt:131:32
 shared-slice-read-is-known : tie.Need-shared-slice-read-is-known Inv-loop μ-loop
 shared-slice-read-is-known c = search needs
 
--- src/lib.rt:131:23
 is-known-requires : tie.Need-is-known-requires Inv-loop μ-loop
 is-known-requires c κs = search needs
 
--- src/lib.rt:132:9
 add-i : tie.Need-add-i Inv-loop μ-loop
 add-i c = search needs
 
--- src/lib.rt:130:5
 loop-less : tie.Need-loop-less Inv-loop μ-loop
 loop-less c = search needs
 
--- src/lib.rt:130:5
 loop-again : tie.Need-loop-again Inv-loop μ-loop
 loop-again c = let h = c .before .before .before .loop in (search needs, rw (c .is-known .ensures) (known-next _ (h .i) (h .good) (search needs) ∙ h .inv .1))
 
--- src/lib.rt:125:1
 returns : tie.Need-returns Inv-loop μ-loop
 returns c = let h = c .before .loop in sym (known-end _ (h .i) (h .good) (c .loop-test .left) (h .inv .0)) ∙ h .inv .1
 

@@ -1,24 +1,18 @@
+-- `characters::is_known` meets its contract: its ranges are the 61 characters.
 use Rattle.characters.proofs.Tables.{ranges-known}
 use borrow.Author.Needs.{needs}
 use Rattle.characters.proofs.is_known.Statement.{statement}
 use Rattle.characters.proofs.is_known.Tie as tie
-use Rattle.characters.proofs.is_known.Reads as reads
-use Rattle.characters.proofs.is_known.Lts as lts
-use Rattle.characters.proofs.between.Reads as between-reads
 
--- src/lib.rt:116:11
 between-requires : tie.Need-between-requires
 between-requires c κs = search needs
 
--- src/lib.rt:119:11
 between-requires-2 : tie.Need-between-requires-2
 between-requires-2 c κs = search needs
 
--- src/lib.rt:120:11
 between-requires-3 : tie.Need-between-requires-3
 between-requires-3 c κs = search needs
 
--- src/lib.rt:112:1
 returns : tie.Need-returns
 returns c = rw (c .before .before .between .ensures, c .before .between2 .ensures, c .between3 .ensures) (ranges-known (c .before .before .before .args .b) (search needs))
 

@@ -1,139 +1,105 @@
+-- `characters::low_rank` meets its contract, arm by arm.
 use Rattle.characters.proofs.Tables.{low-arm, low-rest}
 use borrow.Author.Needs.{needs}
 use Rattle.characters.proofs.low_rank.Statement.{statement}
 use Rattle.characters.proofs.low_rank.Tie as tie
-use Rattle.characters.proofs.low_rank.Reads as reads
-use Rattle.characters.proofs.low_rank.Lts as lts
 
--- src/lib.rt:40:1
 returns : tie.Need-returns
 returns c = low-arm (c .match .keys1)
 
--- src/lib.rt:40:1
 returns-2 : tie.Need-returns-2
 returns-2 c = low-arm (c .match .keys2)
 
--- src/lib.rt:40:1
 returns-3 : tie.Need-returns-3
 returns-3 c = low-arm (c .match .keys3)
 
--- src/lib.rt:40:1
 returns-4 : tie.Need-returns-4
 returns-4 c = low-arm (c .match .keys4)
 
--- src/lib.rt:40:1
 returns-5 : tie.Need-returns-5
 returns-5 c = low-arm (c .match .keys5)
 
--- src/lib.rt:40:1
 returns-6 : tie.Need-returns-6
 returns-6 c = low-arm (c .match .keys6)
 
--- src/lib.rt:40:1
 returns-7 : tie.Need-returns-7
 returns-7 c = low-arm (c .match .keys7)
 
--- src/lib.rt:40:1
 returns-8 : tie.Need-returns-8
 returns-8 c = low-arm (c .match .keys8)
 
--- src/lib.rt:40:1
 returns-9 : tie.Need-returns-9
 returns-9 c = low-arm (c .match .keys9)
 
--- src/lib.rt:40:1
 returns-10 : tie.Need-returns-10
 returns-10 c = low-arm (c .match .keys10)
 
--- src/lib.rt:40:1
 returns-11 : tie.Need-returns-11
 returns-11 c = low-arm (c .match .keys11)
 
--- src/lib.rt:40:1
 returns-12 : tie.Need-returns-12
 returns-12 c = low-arm (c .match .keys12)
 
--- src/lib.rt:40:1
 returns-13 : tie.Need-returns-13
 returns-13 c = low-arm (c .match .keys13)
 
--- src/lib.rt:40:1
 returns-14 : tie.Need-returns-14
 returns-14 c = low-arm (c .match .keys14)
 
--- src/lib.rt:40:1
 returns-15 : tie.Need-returns-15
 returns-15 c = low-arm (c .match .keys15)
 
--- src/lib.rt:40:1
 returns-16 : tie.Need-returns-16
 returns-16 c = low-arm (c .match .keys16)
 
--- src/lib.rt:40:1
 returns-17 : tie.Need-returns-17
 returns-17 c = low-arm (c .match .keys17)
 
--- src/lib.rt:40:1
 returns-18 : tie.Need-returns-18
 returns-18 c = low-arm (c .match .keys18)
 
--- src/lib.rt:40:1
 returns-19 : tie.Need-returns-19
 returns-19 c = low-arm (c .match .keys19)
 
--- src/lib.rt:40:1
 returns-20 : tie.Need-returns-20
 returns-20 c = low-arm (c .match .keys20)
 
--- src/lib.rt:40:1
 returns-21 : tie.Need-returns-21
 returns-21 c = low-arm (c .match .keys21)
 
--- src/lib.rt:40:1
 returns-22 : tie.Need-returns-22
 returns-22 c = low-arm (c .match .keys22)
 
--- src/lib.rt:40:1
 returns-23 : tie.Need-returns-23
 returns-23 c = low-arm (c .match .keys23)
 
--- src/lib.rt:40:1
 returns-24 : tie.Need-returns-24
 returns-24 c = low-arm (c .match .keys24)
 
--- src/lib.rt:40:1
 returns-25 : tie.Need-returns-25
 returns-25 c = low-arm (c .match .keys25)
 
--- src/lib.rt:40:1
 returns-26 : tie.Need-returns-26
 returns-26 c = low-arm (c .match .keys26)
 
--- src/lib.rt:40:1
 returns-27 : tie.Need-returns-27
 returns-27 c = low-arm (c .match .keys27)
 
--- src/lib.rt:40:1
 returns-28 : tie.Need-returns-28
 returns-28 c = low-arm (c .match .keys28)
 
--- src/lib.rt:40:1
 returns-29 : tie.Need-returns-29
 returns-29 c = low-arm (c .match .keys29)
 
--- src/lib.rt:40:1
 returns-30 : tie.Need-returns-30
 returns-30 c = low-arm (c .match .keys30)
 
--- src/lib.rt:40:1
 returns-31 : tie.Need-returns-31
 returns-31 c = low-arm (c .match .keys31)
 
--- src/lib.rt:40:1
 returns-32 : tie.Need-returns-32
 returns-32 c = low-arm (c .match .keys32)
 
--- src/lib.rt:40:1
 returns-33 : tie.Need-returns-33
 returns-33 c = low-rest (c .before .args .b) (search needs) (c .match .rest)
 
