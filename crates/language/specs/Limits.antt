@@ -1,4 +1,5 @@
 -- The limits of document 01, each number once. The same numbers are constants of the machine's type in src/, and `limits` there ties the two.
+use mathlib.Core.List.{List, [], _∷_}
 use Prim.Native.Nat.{ℕ}
 
 -- "Limits: text 32,768 bytes; 512 instructions; 128 labels of instructions; 32 switches, 128 entries in all; 128 different texts longer than
@@ -78,3 +79,7 @@ table = 8192
 
 abbrev pub state : ℕ
 state = 40960
+
+-- all of them, in the order above
+abbrev pub listed : List ℕ
+listed = text ∷ instructions ∷ labels ∷ switches ∷ entries ∷ texts ∷ numbers ∷ small ∷ item ∷ expressions ∷ files ∷ inputs ∷ outputs ∷ input ∷ components ∷ characters ∷ records ∷ word ∷ output ∷ stack ∷ size ∷ addresses ∷ table ∷ state ∷ []
