@@ -50,6 +50,11 @@ module _ {X : Type 0} (P : X → Type 0) where
   each-in (x ∷ xs) h zero d b = h .0
   each-in (x ∷ xs) h (suc i) d b = each-in xs (h .1) i d (le-of-suc-le-suc b)
 
+  pub each-drop : (n : ℕ) (xs : List X) → Each P xs → Each P (drop n xs)
+  each-drop zero xs h = h
+  each-drop (suc n) [] h = tt
+  each-drop (suc n) (x ∷ xs) h = each-drop n xs (h .1)
+
   pub each-replicate : (n : ℕ) (x : X) → P x → Each P (replicate n x)
   each-replicate zero x h = tt
   each-replicate (suc n) x h = (h, each-replicate n x h)
@@ -125,11 +130,6 @@ pub four-below : (l : List ℕ) → Below 256 l → four l < 4294967296
 four-below l h =
     let at : (k : ℕ) → cell l k < 256 = each-at (λ x. x < 256) 0 (omega arith) l h in
     omega (arith, at 0, at 1, at 2, at 3)
-
-pub each-drop : {X : Type 0} (P : X → Type 0) (n : ℕ) (xs : List X) → Each P xs → Each P (drop n xs)
-each-drop P zero xs h = h
-each-drop P (suc n) [] h = tt
-each-drop P (suc n) (x ∷ xs) h = each-drop P n xs (h .1)
 
 pub fours-below : (n : ℕ) (l : List ℕ) → Below 256 l → Below 4294967296 (fours n l)
 unfolding fours
