@@ -1,0 +1,4 @@
+pub mod Index
+pub mod Parts
+pub mod Laws
+pub mod Spread

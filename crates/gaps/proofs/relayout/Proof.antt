@@ -1,0 +1,114 @@
+-- `gaps::relayout` meets its contract. The invariant: the first j strings are laid out in `scratch`.
+use Prim.Native.Nat.{_-_}
+use lib.ListN.{length-take}
+use Rattle.gaps.proofs.Spread.{Moving, moving-none, moving-more, moved, carriable, at-fits}
+use borrow.Author.Needs.{needs}
+use native.Mathlib.Omega.{arith}
+use Rattle.gaps.proofs.relayout.Statement.{statement}
+use Rattle.gaps.proofs.relayout.Tie as tie
+use Rattle.cells.proofs.put.Reads as put-reads
+
+abbrev Inv-loop : tie.InvT-loop
+Inv-loop pool ends₀ scratch₀ i n at₀ j₀ ends scratch at j = Moving pool ends₀ scratch₀ i n ends scratch at j
+
+abbrev μ-loop : tie.MeasureT-loop
+μ-loop pool ends₀ scratch₀ i n at₀ j₀ ends scratch at j = 99 - j
+
+loop-holds : tie.Need-loop-holds Inv-loop μ-loop
+loop-holds c =
+    let pre = c .before .before .before .pre in
+    moving-none _ _ _ _ _ (pre .fine .ordered .cells)
+
+add-to : tie.Need-add-to Inv-loop μ-loop
+add-to c =
+    let pre = c .before .before .before .before .before .pre in
+    omega (arith, at-fits pre (c .before .loop .inv))
+
+extra-requires : tie.Need-extra-requires Inv-loop μ-loop
+extra-requires c κs = search needs
+
+add-to-2 : tie.Need-add-to-2 Inv-loop μ-loop
+add-to-2 c =
+    let pre = c .before .before .before .before .before .before .pre in
+    let loop = c .before .before .loop in
+    omega (arith, carriable pre (loop .inv) (c .before .loop-test .taken) (c .extra .ensures) (pre .spare))
+
+carry-requires : tie.Need-carry-requires Inv-loop μ-loop
+carry-requires c κs =
+    let pre = c .before .before .before .before .before .before .before .before .before .pre in
+    let loop = c .before .before .before .before .before .loop in
+    let loop-test = c .before .before .before .before .loop-test in
+    let extra = c .before .before .before .extra in
+    carriable pre (loop .inv) (loop-test .taken) (extra .ensures) (pre .spare)
+
+add-j : tie.Need-add-j Inv-loop μ-loop
+add-j c = search needs
+
+loop-less : tie.Need-loop-less Inv-loop μ-loop
+loop-less c = search needs
+
+loop-again : tie.Need-loop-again Inv-loop μ-loop
+loop-again c =
+    let pre = c .before .before .before .before .before .before .before .before .before .before .before .before .before .before .pre in
+    let loop = c .before .before .before .before .before .before .before .before .before .before .loop in
+    let loop-test = c .before .before .before .before .before .before .before .before .before .loop-test in
+    let extra = c .before .before .before .before .before .before .before .before .extra in
+    let carry = c .before .before .before .before .carry in
+    moving-more pre (loop .inv) (loop-test .taken) (extra .ensures) (pre .spare) (carry .ensures) (carry .kept .1 .1 .0)
+
+slice-reshare-prefix-put : tie.Need-slice-reshare-prefix-put Inv-loop μ-loop
+slice-reshare-prefix-put c =
+    let pre = c .before .before .before .before .before .before .pre in
+    let loop = c .before .before .loop in
+    omega (arith, at-fits pre (loop .inv), loop .inv .long, pre .spare)
+
+slice-aggregate-put : tie.Need-slice-aggregate-put Inv-loop μ-loop
+slice-aggregate-put c =
+    let pre = c .before .before .before .before .before .before .before .pre in
+    let loop = c .before .before .before .loop in
+    simp length-take (omega (arith, at-fits pre (loop .inv), loop .inv .long, pre .spare))
+
+put-requires : tie.Need-put-requires Inv-loop μ-loop
+put-requires c κs =
+    let pre = c .before .before .before .before .before .before .before .pre in
+    let loop = c .before .before .before .loop in
+    simp length-take (omega (arith, at-fits pre (loop .inv), pre .fine .size))
+
+same-length : tie.Need-same-length Inv-loop μ-loop
+same-length c = search needs
+
+same-length-2 : tie.Need-same-length-2 Inv-loop μ-loop
+same-length-2 c = search needs
+
+same-length-3 : tie.Need-same-length-3 Inv-loop μ-loop
+same-length-3 c = search needs
+
+returns : tie.Need-returns Inv-loop μ-loop
+returns c =
+    let pre = c .before .before .before .before .before .before .before .before .before .before .pre in
+    let loop = c .before .before .before .before .before .before .loop in
+    let loop-test = c .before .before .before .before .before .loop-test in
+    let put = c .before .before .put in
+    moved pre (loop .inv) (loop-test .left) (pre .spare) (put .ensures)
+
+pub relayout-spec : {M : Type 1} → statement M
+relayout-spec =
+    tie.close
+    (tie.spec
+    Inv-loop
+    μ-loop
+    loop-holds
+    add-to
+    extra-requires
+    add-to-2
+    carry-requires
+    add-j
+    loop-less
+    loop-again
+    slice-reshare-prefix-put
+    slice-aggregate-put
+    put-requires
+    same-length
+    same-length-2
+    same-length-3
+    returns)

@@ -1,0 +1,54 @@
+-- The working memory of 99 strings: a pool of 65,536 bytes, and for each string the two cells where it starts and ends there. The cells
+-- never fall; the gaps between the strings hold anything. `abs` is the list of strings that pool and cells hold: 32,768 bytes at most.
+use mathlib.Core.Path.{_≡_}
+use mathlib.Core.List.{List, [], _∷_}
+use Prim.Native.Nat.{ℕ, zero, suc, _+_, _-_, _*_, _≤_, _<_}
+use lib.ListN.{length, take, drop, getD}
+use Rattle.lists.specs.Lists.{total}
+
+-- the list of f 0 to f (n - 1)
+unfoldable pub listed : ℕ → (ℕ → List ℕ) → List (List ℕ)
+listed zero f = []
+listed (suc n) f = f zero ∷ listed n (λ (i : ℕ). f (suc i))
+
+-- where string i starts and ends
+abbrev pub lo : List ℕ → ℕ → ℕ
+lo e i = getD e (2 * i) 0
+
+abbrev pub hi : List ℕ → ℕ → ℕ
+hi e i = getD e (2 * i + 1) 0
+
+unfoldable pub str : List ℕ → List ℕ → ℕ → List ℕ
+str p e i = take (hi e i - lo e i) (drop (lo e i) p)
+
+-- the strings
+unfoldable pub abs : List ℕ → List ℕ → List (List ℕ)
+abs p e = listed 99 (λ (i : ℕ). str p e i)
+
+-- string i of a list
+abbrev pub string : ℕ → List (List ℕ) → List ℕ
+string i s = getD s i []
+
+-- how many bytes the strings have in all, and the first j of them
+unfoldable pub used : List (List ℕ) → ℕ
+used s = total length s
+
+unfoldable pub offset : ℕ → List (List ℕ) → ℕ
+offset j s = used (take j s)
+
+pub record Ordered (e : List ℕ) : Type 0 where
+  pub cells : length e ≡ 198
+  pub order : (j k : ℕ) → j ≤ k → k < 198 → getD e j 0 ≤ getD e k 0
+  pub last : (k : ℕ) → k < 198 → getD e k 0 ≤ 65536
+
+-- pool and cells hold strings
+pub record Fine (p e : List ℕ) : Type 0 where
+  pub size : length p ≡ 65536
+  pub ordered : Ordered e
+  pub fits : used (abs p e) ≤ 32768
+
+-- pool and cells hold the strings s
+pub record Holds (p e : List ℕ) (s : List (List ℕ)) : Type 0 where
+  pub fine : Fine p e
+  pub is : abs p e ≡ s
+  pub fits : used s ≤ 32768
