@@ -6,7 +6,7 @@ use native.Mathlib.Numerals.{add-one}
 use native.Mathlib.Omega.{arith}
 use lib.ListN.{length, take, drop, getD, set, replicate, length-append, length-take, length-drop, length-set, length-replicate, getD-replicate, drop-of-length-le, take-append-drop}
 use lib.Seq.{paste, paste-suc, take-length, take-at, drop-drop, drop-append-add, sets, sets-eq}
-use Rattle.cells.specs.Cells.{pasted, cleared, two, three, two-at, three-at}
+use Rattle.cells.specs.Cells.{pasted, cleared}
 
 -- one turn of the loop that copies, from what the invariant says of dst, and its end
 pub put-turn : (dst d : List ℕ) (at : ℕ) (s : List ℕ) (j : ℕ) → dst ≡ paste d at s j → at + length s ≤ length d → j < length s → set dst (at + j) (getD s j 0) ≡ paste d at s (j + 1)
@@ -66,10 +66,3 @@ pub set-three : (d : List ℕ) (at x y z : ℕ) → at + 3 ≤ length d → set 
 set-three d at x y z h =
     let q : at + 2 ≡ suc (suc at) = omega arith in
     rw (q, add-one) (sets-eq (x ∷ y ∷ z ∷ []) d at h ∙ append-assoc (take at d) (x ∷ y ∷ z ∷ []) (drop (at + 3) d))
-
--- the number in the cells that hold it
-pub two-again : (n : ℕ) (t : List ℕ) → two-at 0 (two n ++ t) ≡ n
-two-again n t = omega arith
-
-pub three-again : (n : ℕ) (t : List ℕ) → three-at 0 (three n ++ t) ≡ n
-three-again n t = omega arith

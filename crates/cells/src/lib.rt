@@ -41,7 +41,7 @@ pub fn two_at(cells: &[u8], at: usize) -> usize
     ensures { λ r. ⌜ Number (two-at at (now (cells .entry))) 65536 r ⌝ }
 {
     let low = wide(cells[at]);
-    let high = wide(cells[at + 1]);
+    let high = wide(cells[1 + at]);
     low + 256 * high
 }
 
@@ -51,8 +51,8 @@ pub fn three_at(cells: &[u8], at: usize) -> usize
     ensures { λ r. ⌜ Number (three-at at (now (cells .entry))) 16777216 r ⌝ }
 {
     let low = wide(cells[at]);
-    let middle = wide(cells[at + 1]);
-    let high = wide(cells[at + 2]);
+    let middle = wide(cells[1 + at]);
+    let high = wide(cells[2 + at]);
     low + 256 * middle + 65536 * high
 }
 

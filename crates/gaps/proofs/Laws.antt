@@ -8,20 +8,22 @@ use lib.ListN.{length, take, drop, getD, set, length-append, length-take, length
 use lib.Seq.{getD-set-same, getD-set-other}
 use Rattle.cells.specs.Cells.{pasted}
 use Rattle.cells.proofs.Laws.{length-pasted}
-use Rattle.gaps.specs.Pool.{listed, lo, hi, str, abs, string, used, Ordered, Fine, Holds}
+use Rattle.layout.specs.CellLaws.{length-tab, getD-tab, tab-ext}
+use Rattle.layout.specs.Strings.{used}
+use Rattle.gaps.specs.Pool.{lo, hi, str, abs, string, Ordered, Fine, Holds}
 use Rattle.gaps.specs.Gaps.{Before, After, Gap, Roomy, pushedFront, pushedBack, Made}
-use Rattle.gaps.proofs.Index.{length-listed, getD-listed, listed-is, used-set}
+use Rattle.gaps.proofs.Index.{used-set}
 use Rattle.gaps.proofs.Parts.{below-or, same-or, part-before, part-behind, part-front, part-back}
 
 -- the strings
 
 pub length-abs : (p e : List ℕ) → length (abs p e) ≡ 99
 unfolding abs
-length-abs p e = length-listed 99 (λ (i : ℕ). str p e i)
+length-abs p e = length-tab 99 (λ (i : ℕ). str p e i)
 
 pub string-is : (p e : List ℕ) (i : ℕ) → i < 99 → string i (abs p e) ≡ str p e i
 unfolding abs
-string-is p e i h = getD-listed 99 (λ (k : ℕ). str p e k) i h
+string-is p e i h = getD-tab 99 (λ (k : ℕ). str p e k) i [] h
 
 pub string-part : (p e : List ℕ) (i : ℕ) → i < 99 → string i (abs p e) ≡ take (hi e i - lo e i) (drop (lo e i) p)
 unfolding str
@@ -30,7 +32,7 @@ string-part p e i b = string-is p e i b
 pub hold : {p e : List ℕ} {s : List (List ℕ)} → length p ≡ 65536 → Ordered e → length s ≡ 99 → used s ≤ 32768 → ((j : ℕ) → j < 99 → str p e j ≡ string j s) → Holds p e s
 unfolding abs
 hold {p} {e} {s} z o l u h =
-    let q : abs p e ≡ s = listed-is 99 (λ (i : ℕ). str p e i) s l h in
+    let q : abs p e ≡ s = rw l at (tab-ext [] s (λ (i : ℕ). str p e i) (λ i b. h i (rw l at b))) in
     record { fine = record { size = z; ordered = o; fits = rw q u }; is = q; fits = u }
 
 -- the three laws of `Holds`: what it holds, that it is fine, and a second step f, stated of what the pool held, stated of s

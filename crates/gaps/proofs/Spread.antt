@@ -8,7 +8,8 @@ use lib.ListN.{length, take, drop, getD, set, length-append, length-take, length
 use lib.Seq.{getD-set-same, getD-set-other, drop-at, length-take-le, take-append-seam}
 use Rattle.cells.specs.Cells.{pasted}
 use Rattle.cells.proofs.Laws.{length-pasted}
-use Rattle.gaps.specs.Pool.{lo, hi, str, abs, string, used, offset, Ordered, Fine, Holds}
+use Rattle.layout.specs.Strings.{used}
+use Rattle.gaps.specs.Pool.{lo, hi, str, abs, string, offset, Ordered, Fine, Holds}
 use Rattle.gaps.specs.Gaps.{Before, After, Gap, LaidOne, Carriable, Carried, Extra, Spreadable, Made}
 use Rattle.gaps.proofs.Index.{offset-zero, offset-next, offset-within, offset-all}
 use Rattle.gaps.proofs.Parts.{below-or, same-or, in-front, part-of-take, part-before}

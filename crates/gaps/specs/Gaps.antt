@@ -4,7 +4,8 @@ use mathlib.Core.List.{List, _++_}
 use Prim.Native.Nat.{ℕ, _+_, _-_, _*_, _≤_, _<_}
 use lib.ListN.{length, getD, set}
 use Rattle.cells.specs.Cells.{pasted}
-use Rattle.gaps.specs.Pool.{lo, hi, str, abs, string, used, Ordered, Fine, Holds}
+use Rattle.layout.specs.Strings.{used}
+use Rattle.gaps.specs.Pool.{lo, hi, str, abs, string, Ordered, Fine, Holds}
 
 -- no cell before the gap i is more than r, and none behind it is less
 pub record Before (e : List ℕ) (i r : ℕ) : Type 0 where

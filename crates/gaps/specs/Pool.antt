@@ -1,15 +1,11 @@
 -- The working memory of 99 strings: a pool of 65,536 bytes, and for each string the two cells where it starts and ends there. The cells
 -- never fall; the gaps between the strings hold anything. `abs` is the list of strings that pool and cells hold: 32,768 bytes at most.
 use mathlib.Core.Path.{_≡_}
-use mathlib.Core.List.{List, [], _∷_}
-use Prim.Native.Nat.{ℕ, zero, suc, _+_, _-_, _*_, _≤_, _<_}
+use mathlib.Core.List.{List, []}
+use Prim.Native.Nat.{ℕ, _+_, _-_, _*_, _≤_, _<_}
 use lib.ListN.{length, take, drop, getD}
-use Rattle.lists.specs.Lists.{total}
-
--- the list of f 0 to f (n - 1)
-unfoldable pub listed : ℕ → (ℕ → List ℕ) → List (List ℕ)
-listed zero f = []
-listed (suc n) f = f zero ∷ listed n (λ (i : ℕ). f (suc i))
+use Rattle.layout.specs.Cells.{tab}
+use Rattle.layout.specs.Strings.{used}
 
 -- where string i starts and ends
 abbrev pub lo : List ℕ → ℕ → ℕ
@@ -23,16 +19,13 @@ str p e i = take (hi e i - lo e i) (drop (lo e i) p)
 
 -- the strings
 unfoldable pub abs : List ℕ → List ℕ → List (List ℕ)
-abs p e = listed 99 (λ (i : ℕ). str p e i)
+abs p e = tab 99 (λ (i : ℕ). str p e i)
 
 -- string i of a list
 abbrev pub string : ℕ → List (List ℕ) → List ℕ
 string i s = getD s i []
 
--- how many bytes the strings have in all, and the first j of them
-unfoldable pub used : List (List ℕ) → ℕ
-used s = total length s
-
+-- how many bytes the first j strings have
 unfoldable pub offset : ℕ → List (List ℕ) → ℕ
 offset j s = used (take j s)
 

@@ -1,8 +1,9 @@
 // Ninety-nine strings in a pool with gaps between them: where each lies, how one is laid in, and how room is made.
 ghost use mathlib.Core.Path.{_≡_};
-ghost use Prim.Native.Nat.{_+_, _*_, _≤_, _<_};
+ghost use Prim.Native.Nat.{_+_};
 ghost use lib.ListN.{length};
-ghost use Rattle.gaps.specs.Pool.{abs, used, Ordered, Fine, Holds};
+ghost use Rattle.layout.specs.Strings.{used};
+ghost use Rattle.gaps.specs.Pool.{abs, Fine, Holds};
 ghost use Rattle.gaps.specs.Gaps.{Before, After, Edge, Roomy, pushedFront, pushedBack, Layable, LaidOne, Carriable, Carried, Extra, Spreadable, Wanted, Made};
 
 // How many strings there are, how many bytes the pool has, and how far apart strings are laid.

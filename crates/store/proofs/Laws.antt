@@ -6,7 +6,8 @@ use Prim.Native.Nat.{ℕ, _+_, _-_, _*_, _≤_, _<_}
 use native.Mathlib.Omega.{arith}
 use lib.ListN.{length, take, drop, getD, set, length-append, length-take, length-drop, length-set}
 use lib.Seq.{take-take, take-all, drop-drop, drop-length}
-use Rattle.gaps.specs.Pool.{lo, hi, str, abs, string, used, Ordered, Fine, Holds}
+use Rattle.layout.specs.Strings.{used}
+use Rattle.gaps.specs.Pool.{lo, hi, str, abs, string, Ordered, Fine, Holds}
 use Rattle.gaps.specs.Gaps.{pushedFront, pushedBack}
 use Rattle.gaps.proofs.Index.{used-set, offset-within}
 use Rattle.gaps.proofs.Parts.{drop-take}

@@ -1,14 +1,15 @@
 -- The laws of moves between strings: the bytes wait in a buffer, are taken away, and pushed.
 use mathlib.Core.Path.{_≡_, refl, sym, ap, _∙_}
 use mathlib.Core.List.{List, [], _++_, append-nil}
-use mathlib.Core.Logic.{⊎-elim}
+use mathlib.Core.Logic.{_⊎_, ⊎-elim}
 use Prim.Native.Nat.{ℕ, _+_, _-_, _≤_, _<_}
 use native.Mathlib.Omega.{arith}
 use lib.ListN.{length, take, drop, getD, set, length-append, length-take, length-drop, length-set, take-append-drop}
 use lib.Seq.{take-all, take-append-seam, drop-append-seam, getD-set-same, getD-set-other, set-set, set-comm, set-getD}
 use Rattle.cells.specs.Cells.{pasted}
 use Rattle.cells.proofs.Laws.{pasted-front}
-use Rattle.gaps.specs.Pool.{abs, string, used, Fine, Holds}
+use Rattle.layout.specs.Strings.{used}
+use Rattle.gaps.specs.Pool.{abs, string, Fine, Holds}
 use Rattle.gaps.specs.Gaps.{pushedFront, pushedBack}
 use Rattle.gaps.proofs.Parts.{same-or}
 use Rattle.gaps.proofs.Laws.{length-abs, after, holds}
@@ -42,16 +43,16 @@ module _ {p e : List ℕ} {i j n sc hd : ℕ} (pre : Movable p e i j n sc hd) wh
   front-length : length (take n (string i (abs p e))) ≡ n
   front-length = simp length-take (omega (arith, pre .within))
 
-  pub front-moved : {e₁ p₂ e₂ hold hold′ : List ℕ} (f : List ℕ → List (List ℕ) → List (List ℕ)) → Holds p e₁ (droppedFront i n (abs p e))
+  pub front-moved : {e₁ p₂ e₂ hold′ : List ℕ} (hold : List ℕ) (f : List ℕ → List (List ℕ) → List (List ℕ)) → Holds p e₁ (droppedFront i n (abs p e))
       → hold′ ≡ pasted hold 0 (take n (drop 0 (string i (abs p e)))) → Holds p₂ e₂ (f (take n hold′) (abs p e₁)) → Holds p₂ e₂ (f (take n (string i (abs p e))) (droppedFront i n (abs p e)))
-  front-moved {hold = hold} {hold′ = hold′} f h q k =
+  front-moved {hold′ = hold′} hold f h q k =
       let x : take n hold′ ≡ take n (string i (abs p e)) = rw q (pasted-front hold (take n (string i (abs p e))) n front-length) in
       rw x at (after h (f (take n hold′)) k)
 
-  pub back-moved : {len : ℕ} {e₁ p₂ e₂ hold hold′ : List ℕ} (f : List ℕ → List (List ℕ) → List (List ℕ)) → Long p e i len → Holds p e₁ (droppedBack i n (abs p e))
+  pub back-moved : {len : ℕ} {e₁ p₂ e₂ hold′ : List ℕ} (hold : List ℕ) (f : List ℕ → List (List ℕ) → List (List ℕ)) → Long p e i len → Holds p e₁ (droppedBack i n (abs p e))
       → hold′ ≡ pasted hold 0 (take n (drop (len - n) (string i (abs p e)))) → Holds p₂ e₂ (f (take n hold′) (abs p e₁))
       → Holds p₂ e₂ (f (drop (length (string i (abs p e)) - n) (string i (abs p e))) (droppedBack i n (abs p e)))
-  back-moved {len} {hold = hold} {hold′ = hold′} f l h q k =
+  back-moved {len} {hold′ = hold′} hold f l h q k =
       let v : List ℕ = string i (abs p e) in
       let d : List ℕ = drop (length v - n) v in
       let ld : length d ≡ n = rw length-drop (omega (arith, pre .within)) in
@@ -107,7 +108,7 @@ module _ (s : List (List ℕ)) (i j : ℕ) (bi : i < length s) (bj : j < length 
       rw (q, front-same s i bi (length (string i s)), back-same s i bi (length (string i s)) refl, set-getD s i []) (sym (set-getD s i []))
 
   exchange-is : movedBackToFront j i (length (string j s)) (movedFront i j (length (string i s)) s) ≡ exchanged i j s
-  exchange-is = ⊎-elim together (λ w. apart (λ q. ⊎-elim (λ k. omega arith) (λ k. omega arith) w)) (same-or j i)
+  exchange-is = ⊎-elim together (λ (w : (j < i) ⊎ (i < j)). apart (λ q. ⊎-elim (λ k. omega arith) (λ k. omega arith) w)) (same-or j i)
 
 module _ {p e : List ℕ} {i j n m sc hd : ℕ} (pre : Exchangeable p e i j sc hd) (ln : Long p e i n) (lm : Long p e j m) where
   pub first-movable : {sc′ hd′ : ℕ} → 65536 ≤ sc′ → 32768 ≤ hd′ → Movable p e i j n sc′ hd′
@@ -116,8 +117,8 @@ module _ {p e : List ℕ} {i j n m sc hd : ℕ} (pre : Exchangeable p e i j sc h
   -- what was j is still the end of j
   still : m ≤ length (string j (movedFront i j n (abs p e)))
   still = ⊎-elim
-      (λ q. rw (q, front-same (abs p e) i (rw (length-abs p e) (pre .source)) n) (omega (arith, lm .is, ap (λ (k : ℕ). length (string k (abs p e))) q)))
-      (λ w. let ne : (j ≡ i → ⊥) = λ q. ⊎-elim (λ k. omega arith) (λ k. omega arith) w in
+      (λ (q : j ≡ i). rw (q, front-same (abs p e) i (rw (length-abs p e) (pre .source)) n) (omega (arith, lm .is, ap (λ (k : ℕ). length (string k (abs p e))) q)))
+      (λ (w : (j < i) ⊎ (i < j)). let ne : (j ≡ i → ⊥) = λ q. ⊎-elim (λ k. omega arith) (λ k. omega arith) w in
       let v : List ℕ = take n (string i (abs p e)) in
       let t : List (List ℕ) = set (abs p e) i (drop n (string i (abs p e))) in
       let l : length v ≡ n = simp length-take (omega (arith, ln .is)) in

@@ -4,7 +4,8 @@ use mathlib.Core.Path.{_≡_}
 use mathlib.Core.List.{List, []}
 use Prim.Native.Nat.{ℕ, _+_, _-_, _≤_, _<_}
 use lib.ListN.{length, take, drop, set}
-use Rattle.gaps.specs.Pool.{abs, string, used, Fine}
+use Rattle.layout.specs.Strings.{used}
+use Rattle.gaps.specs.Pool.{abs, string, Fine}
 use Rattle.gaps.specs.Gaps.{pushedFront, pushedBack}
 
 -- reading
