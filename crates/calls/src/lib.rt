@@ -1,0 +1,1 @@
+// What load, start and run answer and leave: definitions and laws for the three exported calls; no code.

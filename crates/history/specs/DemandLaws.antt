@@ -1,0 +1,113 @@
+-- Demand 3 holds.
+use mathlib.Core.Path.{_≡_, refl, sym, subst}
+use mathlib.Core.List.{List, [], _∷_}
+use Prim.Native.Nat.{ℕ}
+use native.Mathlib.Omega.{arith}
+use lib.Dec.{T}
+use lib.ListN.{drop}
+use Rattle.language.specs.Limits as limit
+use Rattle.language.specs.Program.{Program}
+use Rattle.language.specs.Values.{Inputs}
+use Rattle.machine.specs.Runs.{Answer, run}
+use Rattle.machine.specs.Runs.Answer.{pause, stopped}
+use Rattle.machine.specs.Steps.{step}
+use Rattle.machine.specs.WellFormed.{good-program, good-inputs, started}
+use Rattle.machine.specs.WellFormedLaws.{started-good}
+use Rattle.layout.specs.Bounds.{Each}
+use Rattle.layout.specs.Memory.{state-of, written}
+use Rattle.layout.specs.Table.{program-of, good-table}
+use Rattle.layout.specs.TableLaws.{program-of-cells, table-good, table-facts}
+use Rattle.syntax.specs.Load.Loaded.{accepted}
+use Rattle.calls.specs.Calls.{table-after, Call, call-inputs, reply-count, Result, memory-passes, run-reply, accepted-result, result-of}
+use Rattle.calls.specs.Calls.Call.{start-on, run-on}
+use Rattle.calls.specs.Answers.{RunEnds}
+use Rattle.calls.specs.CallLaws.{Decided, decided, refused-by, refused-same, good-not-62, start-left, handed-good, run-ends, accepted-run, again-not-63}
+use Rattle.calls.specs.CallLaws.Decided.{answered-no, answered-yes}
+use Rattle.history.specs.History.{visit, trail-on, begun, Past, Moment, past-on, past-after, moments, history}
+use Rattle.history.specs.Demand.{Demand3}
+use Rattle.history.specs.TrailLaws.{Followed, followed-none, followed-from, followed-run, run-begun}
+
+each-map : {X : Type 0} (P Q : X → Type 0) → ((x : X) → P x → Q x) → (xs : List X) → Each P xs → Each Q xs
+each-map P Q f [] h = tt
+each-map P Q f (x ∷ xs) h = (f x (h .0), each-map P Q f xs (h .1))
+
+-- what holds before and after each call: the memory m holds what the past says, and is the first one, a, until a call is accepted
+record Ready (p : Program) (a m : List ℕ) (h : Past) : Type 0 where
+  followed : Followed p (h .base) (h .count) (h .trail) (state-of m)
+  first : h .trail ≡ [] → m ≡ a
+
+module _ (p : Program) where
+  past-run : (x : Call) (m : List ℕ) (a : Answer) (n : ℕ) (h : Past)
+      → past-after p x m (run-reply a n) h ≡ past-on p (call-inputs x) (reply-count (run-reply a n)) m h
+  past-run x m pause n h = refl
+  past-run x m (stopped k) n h = refl
+
+module _ (c : List ℕ) (tc : T (good-table c)) (a : List ℕ) where
+  abbrev p : Program
+  p = program-of c
+
+  start-ready : (ins : Inputs) → T (good-inputs ins) → (m : List ℕ) (h : Past)
+      → Ready p a (written started m) (record { base = started; count = 0; trail = visit ins started ∷ [] })
+  start-ready ins gi m h =
+      let gp = table-facts c tc .good in
+      record {
+        followed = rw (start-left c m tc ins gi) (followed-from p gp ins gi started (started-good p ins gp));
+        first = λ e. absurd (let z : _≡_ {A = ℕ} 0 1 = cc in omega arith);
+      }
+
+  run-ready : (ins : Inputs) (budget : ℕ) → T (good-inputs ins) → (m : List ℕ) → T (memory-passes c (run-on ins budget) m) → (h : Past) → Ready p a m h
+      → let r = accepted-result c (run-on ins budget) m in Ready p a (r .cells) (past-on p ins (reply-count (r .reply)) m h)
+  run-ready ins budget gi m k h rd =
+      let r = accepted-result c (run-on ins budget) m in
+      record {
+        followed = followed-run p (table-facts c tc .good) ins gi (run-ends c m tc ins gi k budget .counts) (handed-good c m tc ins gi k) (rd .followed);
+        first = λ e. absurd (run-begun p ins (reply-count (r .reply)) (state-of m) (h .trail) e);
+      }
+
+  accepted-ready : (x : Call) → T (good-inputs (call-inputs x)) → (m : List ℕ) → T (memory-passes c x m) → (h : Past) → Ready p a m h
+      → let r = accepted-result c x m in Ready p a (r .cells) (past-after p x m (r .reply) h)
+  accepted-ready (start-on ins) gi m k h rd = start-ready ins gi m h
+  accepted-ready (run-on ins budget) gi m k h rd =
+      let r = run (step p ins) budget (state-of m) in
+      rw (past-run p (run-on ins budget) m (r .answer) (r .count) h) (run-ready ins budget gi m k h rd)
+
+  one-call : (x : Call) (m : List ℕ) (h : Past) → Ready p a m h → let r = result-of c x m in Ready p a (r .cells) (past-after p x m (r .reply) h)
+  one-call x m h rd = go (result-of c x m) (decided c m x)
+    where
+      go : (r : Result) → Decided c m x r → Ready p a (r .cells) (past-after p x m (r .reply) h)
+      go r (answered-no n) = rd
+      go r (answered-yes q tc gi k) = accepted-ready x gi m k h rd
+
+  all-ready : (xs : List Call) (m : List ℕ) (h : Past) → Ready p a m h → Each (λ x. Ready p a (x .result .cells) (x .past)) (moments p c xs m h)
+  all-ready [] m h rd = tt
+  all-ready (x ∷ xs) m h rd =
+      let r = result-of c x m in
+      let after = one-call x m h rd in
+      (after, all-ready xs (r .cells) (past-after p x m (r .reply) h) after)
+
+-- of every well-formed table, with the program that it reads as
+pub table-demand3 : (c : List ℕ) → T (good-table c) → (xs : List Call) (m : List ℕ) → Demand3 (program-of c) c xs m
+table-demand3 c tc xs m =
+    let h = history (program-of c) c xs m in
+    let ready = all-ready c tc m xs m (record { base = state-of m; count = 0; trail = [] }) (record { followed = followed-none (program-of c) (state-of m); first = λ e. refl }) in
+    record {
+      same-program = refl;
+      met = each-map _ _ (λ x rd. rd .followed .met) h ready;
+      distinct = each-map _ _ (λ x rd. rd .followed .distinct) h ready;
+      never-again = each-map _ _ (λ x rd. rd .followed .never-again) h ready;
+      state-after = each-map _ _ (λ x rd. rd .followed .steps) h ready;
+      untouched = each-map _ _ (λ x rd. rd .first) h ready;
+      run-ends = λ d n. accepted-run d n;
+      refused = λ d n x. refused-by d n x;
+      unchanged = λ d n x. refused-same d n x;
+      never-62 = λ n x. good-not-62 c n x tc;
+      never-63 = λ n x y. again-not-63 c n x y;
+    }
+
+-- of the table of every well-formed program
+pub program-demand3 : (p : Program) → T (good-program p) → (c : List ℕ) (xs : List Call) (m : List ℕ) → Demand3 p (table-after (accepted p) c) xs m
+unfolding table-after
+program-demand3 p g c xs m =
+    let rest = drop limit.table c in
+    subst (λ (q : Program). Demand3 q (table-after (accepted p) c) xs m) (program-of-cells p g rest)
+    (table-demand3 (table-after (accepted p) c) (table-good p g rest) xs m)

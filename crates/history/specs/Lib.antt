@@ -1,0 +1,4 @@
+pub mod History
+pub mod Demand
+pub mod TrailLaws
+pub mod DemandLaws
