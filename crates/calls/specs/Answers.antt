@@ -3,13 +3,13 @@ use mathlib.Core.Path.{_≡_}
 use mathlib.Core.Logic.{_↔_, _≢_}
 use mathlib.Core.List.{List, _∷_}
 use Prim.Native.Nat.{ℕ, _<_}
-use Rattle.calls.specs.Calls.{Reply, reply-number, reply-count, Result}
-use Rattle.calls.specs.Calls.Reply.{refusal}
 use Rattle.language.specs.Program.{Program}
 use Rattle.language.specs.Values.{Inputs}
-use Rattle.layout.specs.Memory.{state-of}
 use Rattle.machine.specs.Runs.{Goes}
 use Rattle.machine.specs.Steps.{Question, questions, refusals, step}
+use Rattle.layout.specs.Memory.{state-of}
+use Rattle.calls.specs.Calls.{Reply, reply-number, reply-count, Result}
+use Rattle.calls.specs.Calls.Reply.{refusal}
 
 -- a start or run is accepted: "(80, pause or stop)"
 abbrev pub Accepted : Reply → Type 0

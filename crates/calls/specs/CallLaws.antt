@@ -1,106 +1,46 @@
--- Laws of single calls: how the questions decide, how a run ends, what an accepted call leaves; every answer is a listed number.
-use mathlib.Core.Path.{_≡_, refl, ap, sym, _∙_, subst}
+-- Laws of single calls: how one is decided, how a run ends, and what an accepted call leaves.
+use mathlib.Core.Path.{_≡_, refl, ap, sym, subst}
 use mathlib.Core.Logic.{_↔_, _≢_}
-use mathlib.Core.Bool.{Bool, true, false, not, cond, _&&_, _||_}
-use mathlib.Core.List.{List, [], _∷_, map}
-use Prim.Native.Nat.{ℕ, _+_, _*_, _/_, _%_, _≤_, _<_}
+use mathlib.Core.Bool.{Bool, true, false, _&&_}
+use mathlib.Core.List.{List, [], _∷_}
+use Prim.Native.Nat.{ℕ}
 use native.Mathlib.Omega.{arith}
-use lib.Dec.{T, leb, eqb, leb→le, le→leb, eqb-refl, T-not}
+use lib.Dec.{T, le→leb}
 use lib.ListN.{length}
-use Rattle.lists.specs.Lists.{all, any, ifAny, among}
-use Rattle.lists.specs.ListLaws.{T-left, T-right, all-among}
+use Rattle.lists.specs.Lists.{among}
+use Rattle.lists.specs.ListLaws.{T-left, T-right}
 use Rattle.language.specs.Limits as limit
 use Rattle.language.specs.Program.{Program}
 use Rattle.language.specs.Values.{State, Inputs}
-use Rattle.machine.specs.Runs.{Outcome, Answer, Run, run, Goes, Says, Lawful}
-use Rattle.machine.specs.Runs.Outcome.{stop, went}
+use Rattle.machine.specs.Runs.{Answer, run, Goes, Says}
+use Rattle.machine.specs.Runs.Outcome.{stop}
 use Rattle.machine.specs.Runs.Answer.{pause, stopped}
 use Rattle.machine.specs.Runs.Says.{used-up, halted}
-use Rattle.machine.specs.Steps.{Question, numbers, questions, refusals, step}
+use Rattle.machine.specs.Steps.{numbers, refusals, step}
 use Rattle.machine.specs.WellFormed.{good-program, good-inputs, good-state, started}
 use Rattle.machine.specs.RunLaws.{run-lawful}
 use Rattle.machine.specs.WellFormedLaws.{started-good}
 use Rattle.machine.specs.StepLaws.{step-first, run-good}
-use Rattle.layout.specs.Bounds.{Fine, Tabled, AtRest}
-use Rattle.layout.specs.Memory.{state-of, long-enough, good-memory, written}
+use Rattle.layout.specs.Memory.{state-of, good-memory, written}
 use Rattle.layout.specs.Table.{program-of, good-table}
 use Rattle.layout.specs.FineLaws.{good-fine}
 use Rattle.layout.specs.MemoryLaws.{written-back, written-good, memory-facts}
 use Rattle.layout.specs.TableLaws.{table-facts}
-use Rattle.calls.specs.Calls.{packed, Call, call-inputs, Reply, reply-number, reply-count, Result, memory-passes, call-questions, run-reply, run-result, accepted-result, refused-or, result-of, startOf, runOf}
-use Rattle.calls.specs.Calls.Reply.{refusal, start-accepted, run-paused, run-stopped}
+use Rattle.calls.specs.Calls.{Call, call-inputs, Result, memory-passes, call-questions, run-reply, accepted-result, refused-or, result-of, startOf, runOf}
+use Rattle.calls.specs.Calls.Reply.{refusal, start-accepted}
 use Rattle.calls.specs.Calls.Call.{start-on, run-on}
 use Rattle.calls.specs.Answers.{Accepted, FirstNo, RunEnds}
-
--- ---- questions in order
-
--- where no question is answered no, all are answered yes
-none-no : (qs : List Question) → refusals qs ≡ [] → T (all (λ q. q .1) qs)
-none-no [] e = tt
-none-no (q ∷ qs) e = go (q .1) e (none-no qs)
-  where
-    go : (b : Bool) → cond b (refusals qs) (q .0 ∷ refusals qs) ≡ [] → (refusals qs ≡ [] → T (all (λ q. q .1) qs)) → T (b && all (λ q. q .1) qs)
-    go true e k = k e
-    go false e k = absurd (let z : _≡_ {A = ℕ} 0 1 = cc in omega arith)
-
--- the first no is one of the questions, answered no
-abbrev no-at : ℕ → List Question → Bool
-no-at number qs = any (λ q. not (q .1) && eqb number (q .0)) qs
-
-T-first : (a b : Bool) → T a → T (a || b)
-T-first true b h = tt
-T-first false b h = absurd h
-
-first-at : (number : ℕ) (qs : List Question) → FirstNo number qs → T (no-at number qs)
-first-at number [] h = let e = h .1 in absurd (let z : _≡_ {A = ℕ} 0 1 = cc in omega arith)
-first-at number (q ∷ qs) h = go (q .1) (h .1) (first-at number qs)
-  where
-    go : (b : Bool) → cond b (refusals qs) (q .0 ∷ refusals qs) ≡ number ∷ h .0 → (FirstNo number qs → T (no-at number qs))
-        → T ((not b && eqb number (q .0)) || no-at number qs)
-    go true e k = k (h .0, e)
-    go false e k = let z : q .0 ≡ number = cc in rw z (T-first (eqb number number) (no-at number qs) (eqb-refl number))
-
--- and has the number of one of them
-asked-among : (number : ℕ) (qs : List Question) → T (no-at number qs) → T (among number (map (λ q. q .0) qs))
-asked-among number [] h = h
-asked-among number (q ∷ qs) h = go (q .1) (eqb number (q .0)) h (asked-among number qs)
-  where
-    go : (b c : Bool) → T ((not b && c) || no-at number qs) → (T (no-at number qs) → T (among number (map (λ q. q .0) qs)))
-        → T (c || among number (map (λ q. q .0) qs))
-    go b true h k = tt
-    go true false h k = k h
-    go false false h k = k h
-
-first-among : (number : ℕ) (qs : List Question) → FirstNo number qs → T (among number (map (λ q. q .0) qs))
-first-among number qs h = asked-among number qs (first-at number qs h)
-
-pub step-number : (p : Program) (ins : Inputs) (s : State) (number : ℕ) → FirstNo number (questions p ins s) → T (among number numbers)
-unfolding questions
-step-number p ins s number h = first-among number (questions p ins s) h
-
-no-62 : (a b d : Bool) → T a → T (no-at 62 ((62, a) ∷ (61, b) ∷ (63, d) ∷ [])) → ⊥
-no-62 true true true t h = h
-no-62 true true false t h = h
-no-62 true false true t h = h
-no-62 true false false t h = h
-no-62 false b d t h = t
-
-no-63 : (a b d : Bool) → T d → T (no-at 63 ((62, a) ∷ (61, b) ∷ (63, d) ∷ [])) → ⊥
-no-63 true true true t h = h
-no-63 true false true t h = h
-no-63 false true true t h = h
-no-63 false false true t h = h
-no-63 a b false t h = t
+use Rattle.calls.specs.QuestionLaws.{none-no, first-at, step-number, no-62, no-63}
 
 -- ---- how a call is decided
 
 -- by the first question answered no, or each is answered yes
-pub data Decided (c m : List ℕ) (x : Call) : Result → Type 0 where
-  answered-no : {number : ℕ} → FirstNo number (call-questions c x m) → Decided c m x (record { reply = refusal number; cells = m })
+pub data Decision (c m : List ℕ) (x : Call) : Result → Type 0 where
+  answered-no : {number : ℕ} → FirstNo number (call-questions c x m) → Decision c m x (record { reply = refusal number; cells = m })
   answered-yes : refusals (call-questions c x m) ≡ [] → T (good-table c) → T (good-inputs (call-inputs x)) → T (memory-passes c x m)
-      → Decided c m x (accepted-result c x m)
+      → Decision c m x (accepted-result c x m)
 
-pub decided : (c m : List ℕ) (x : Call) → Decided c m x (result-of c x m)
+pub decided : (c m : List ℕ) (x : Call) → Decision c m x (result-of c x m)
 unfolding result-of
 decided c m x = go (refusals (call-questions c x m)) refl
   where
@@ -113,7 +53,7 @@ decided c m x = go (refusals (call-questions c x m)) refl
     d : Bool
     d = memory-passes c x m
 
-    go : (ns : List ℕ) → refusals (call-questions c x m) ≡ ns → Decided c m x (refused-or (accepted-result c x m) m ns)
+    go : (ns : List ℕ) → refusals (call-questions c x m) ≡ ns → Decision c m x (refused-or (accepted-result c x m) m ns)
     go [] e =
         let h = none-no (call-questions c x m) e in
         let k = T-right a (b && (d && true)) h in
@@ -144,7 +84,7 @@ module _ (c m : List ℕ) (x : Call) where
   pub refused-by : (number : ℕ) → (result-of c x m .reply ≡ refusal number) ↔ FirstNo number (call-questions c x m)
   refused-by number = go (result-of c x m) (decided c m x)
     where
-      go : (r : Result) → Decided c m x r → (r .reply ≡ refusal number) ↔ FirstNo number (call-questions c x m)
+      go : (r : Result) → Decision c m x r → (r .reply ≡ refusal number) ↔ FirstNo number (call-questions c x m)
       go r (answered-no {number = n} h) =
           (λ e. subst (λ (k : ℕ). FirstNo k (call-questions c x m)) (same-refusal e) h, λ h′. ap refusal (same-first h h′))
       go r (answered-yes q a b d) = (λ e. absurd (yes-accepted c m x number e), λ h. absurd (none-first q h))
@@ -153,9 +93,22 @@ module _ (c m : List ℕ) (x : Call) where
   pub refused-same : (number : ℕ) → result-of c x m .reply ≡ refusal number → result-of c x m .cells ≡ m
   refused-same number = go (result-of c x m) (decided c m x)
     where
-      go : (r : Result) → Decided c m x r → r .reply ≡ refusal number → r .cells ≡ m
+      go : (r : Result) → Decision c m x r → r .reply ≡ refusal number → r .cells ≡ m
       go r (answered-no h) e = refl
       go r (answered-yes q a b d) e = absurd (yes-accepted c m x number e)
+
+  -- "Run checks the table, then the inputs, then the state", and so does start
+  pub table-first : good-table c ≡ false → result-of c x m .reply ≡ refusal 62
+  unfolding result-of
+  table-first e = rw e
+
+  pub inputs-second : good-table c ≡ true → good-inputs (call-inputs x) ≡ false → result-of c x m .reply ≡ refusal 61
+  unfolding result-of
+  inputs-second e f = rw (e, f)
+
+  pub memory-third : good-table c ≡ true → good-inputs (call-inputs x) ≡ true → memory-passes c x m ≡ false → result-of c x m .reply ≡ refusal 63
+  unfolding result-of
+  memory-third e f h = rw (e, f, h)
 
   -- a well-formed table does not bring 62, a memory that passes does not bring 63
   pub good-not-62 : T (good-table c) → result-of c x m .reply ≢ refusal 62
@@ -220,9 +173,18 @@ module _ (c m : List ℕ) where
   pub accepted-run : (ins : Inputs) (budget : ℕ) → Accepted (runOf c ins budget m .reply) → RunEnds (program-of c) ins budget m (runOf c ins budget m)
   accepted-run ins budget = go (runOf c ins budget m) (decided c m (run-on ins budget))
     where
-      go : (r : Result) → Decided c m (run-on ins budget) r → Accepted (r .reply) → RunEnds (program-of c) ins budget m r
+      go : (r : Result) → Decision c m (run-on ins budget) r → Accepted (r .reply) → RunEnds (program-of c) ins budget m r
       go r (answered-no {number = n} h) a = absurd (a n refl)
       go r (answered-yes q tc gi h) a = run-ends c m tc ins gi h budget
+
+  -- an accepted start answers 80 and leaves the state that start makes
+  pub accepted-start : (ins : Inputs) → Accepted (startOf c ins m .reply)
+      → (startOf c ins m .reply ≡ start-accepted) × (state-of (startOf c ins m .cells) ≡ started)
+  accepted-start ins = go (startOf c ins m) (decided c m (start-on ins))
+    where
+      go : (r : Result) → Decision c m (start-on ins) r → Accepted (r .reply) → (r .reply ≡ start-accepted) × (state-of (r .cells) ≡ started)
+      go r (answered-no {number = n} h) a = absurd (a n refl)
+      go r (answered-yes q tc gi h) a = (refl, start-left c m tc ins gi)
 
   still-passes : (y : Call) → T (good-memory (program-of c) (call-inputs y) m) → T (memory-passes c y m)
   still-passes (start-on ins) h = le→leb limit.state (length m) (memory-facts (program-of c) ins m h .long)
@@ -233,70 +195,8 @@ pub again-not-63 : (c m : List ℕ) (x y : Call) → Accepted (result-of c x m .
     → result-of c y (result-of c x m .cells) .reply ≢ refusal 63
 again-not-63 c m x y = go (result-of c x m) (decided c m x)
   where
-    go : (r : Result) → Decided c m x r → Accepted (r .reply) → call-inputs y ≡ call-inputs x → result-of c y (r .cells) .reply ≢ refusal 63
+    go : (r : Result) → Decision c m x r → Accepted (r .reply) → call-inputs y ≡ call-inputs x → result-of c y (r .cells) .reply ≢ refusal 63
     go r (answered-no {number = n} h) a e = absurd (a n refl)
     go r (answered-yes q tc gi h) a e =
         let w : List ℕ = accepted-result c x m .cells in
         good-not-63 c w y (still-passes c w y (subst (λ (ins : Inputs). T (good-memory (program-of c) ins w)) (sym e) (good-left c m x tc gi h)))
-
--- ---- every answer is a listed number, and a count no greater than the budget
-
--- the numbers of start and run
-abbrev pub call-numbers : List ℕ
-call-numbers = 62 ∷ 61 ∷ 63 ∷ 80 ∷ 81 ∷ numbers
-
-among-all : (ns : List ℕ) → T (all (λ n. among n call-numbers) ns) → (number : ℕ) → T (among number ns) → T (among number call-numbers)
-among-all ns h number k = all-among (λ n. among n call-numbers) ns h number k
-
-run-number : (p : Program) (ins : Inputs) (budget n : ℕ) (t : State) (a : Answer) → Says (step p ins) budget n t a
-    → T (among (reply-number (run-reply a n)) call-numbers)
-run-number p ins budget n t pause (used-up e) = tt
-run-number p ins budget n t (stopped k) (halted l e) = among-all numbers tt k (step-number p ins t k (step-first p ins t e))
-
-run-count : (p : Program) (ins : Inputs) (budget n : ℕ) (t : State) (a : Answer) → Says (step p ins) budget n t a → reply-count (run-reply a n) ≤ budget
-run-count p ins budget n t pause (used-up e) = omega arith
-run-count p ins budget n t (stopped k) (halted l e) = omega arith
-
-module _ (c m : List ℕ) where
-  pub number-listed : (x : Call) → T (among (reply-number (result-of c x m .reply)) call-numbers)
-  number-listed x = go (result-of c x m) (decided c m x)
-    where
-      yes-listed : (x : Call) → T (among (reply-number (accepted-result c x m .reply)) call-numbers)
-      yes-listed (start-on ins) = tt
-      yes-listed (run-on ins budget) =
-          let p = program-of c in
-          let r = run (step p ins) budget (state-of m) in
-          run-number p ins budget (r .count) (r .state) (r .answer) (run-lawful (step p ins) budget (state-of m) .says)
-
-      go : (r : Result) → Decided c m x r → T (among (reply-number (r .reply)) call-numbers)
-      go r (answered-no {number = n} h) = among-all (62 ∷ 61 ∷ 63 ∷ []) tt n (first-among n (call-questions c x m) h)
-      go r (answered-yes q a b d) = yes-listed x
-
-  pub number-most : (x : Call) → reply-number (result-of c x m .reply) ≤ 81
-  number-most x =
-      let n = reply-number (result-of c x m .reply) in
-      leb→le n 81 (all-among (λ n. leb n 81) call-numbers tt n (number-listed x))
-
-  pub count-within : (ins : Inputs) (budget : ℕ) → reply-count (runOf c ins budget m .reply) ≤ budget
-  count-within ins budget = go (runOf c ins budget m) (decided c m (run-on ins budget))
-    where
-      go : (r : Result) → Decided c m (run-on ins budget) r → reply-count (r .reply) ≤ budget
-      go r (answered-no h) = omega arith
-      go r (answered-yes q a b d) =
-          let p = program-of c in
-          let r = run (step p ins) budget (state-of m) in
-          run-count p ins budget (r .count) (r .state) (r .answer) (run-lawful (step p ins) budget (state-of m) .says)
-
-  pub start-count : (ins : Inputs) → reply-count (startOf c ins m .reply) ≡ 0
-  start-count ins = go (startOf c ins m) (decided c m (start-on ins))
-    where
-      go : (r : Result) → Decided c m (start-on ins) r → reply-count (r .reply) ≡ 0
-      go r (answered-no h) = refl
-      go r (answered-yes q a b d) = refl
-
--- number and value are read back from the answer
-pub packed-number : (number value : ℕ) → value < 4294967296 → packed number value / 4294967296 ≡ number
-packed-number number value h = omega arith
-
-pub packed-value : (number value : ℕ) → value < 4294967296 → packed number value % 4294967296 ≡ value
-packed-value number value h = omega arith

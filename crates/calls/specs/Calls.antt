@@ -5,14 +5,14 @@ use Prim.Native.Nat.{ℕ, _+_, _*_}
 use lib.Dec.{eqb}
 use lib.ListN.{drop, replicate}
 use Rattle.language.specs.Limits as limit
-use Rattle.language.specs.Values.{State, Inputs}
-use Rattle.layout.specs.Memory.{state-of, long-enough, good-memory, written}
-use Rattle.layout.specs.Table.{table-cells, program-of, good-table}
 use Rattle.lists.specs.Lists.{ifAny}
+use Rattle.language.specs.Values.{State, Inputs}
 use Rattle.machine.specs.Runs.{Answer, Run, run}
 use Rattle.machine.specs.Runs.Answer.{pause, stopped}
 use Rattle.machine.specs.Steps.{Question, refusals, step}
 use Rattle.machine.specs.WellFormed.{good-inputs, started}
+use Rattle.layout.specs.Memory.{state-of, long-enough, good-memory, written}
+use Rattle.layout.specs.Table.{table-cells, program-of, good-table}
 use Rattle.syntax.specs.Load.{Loaded}
 use Rattle.syntax.specs.Load.Loaded.{refused, accepted}
 
@@ -20,7 +20,7 @@ use Rattle.syntax.specs.Load.Loaded.{refused, accepted}
 abbrev pub packed : ℕ → ℕ → ℕ
 packed number value = number * 4294967296 + value
 
--- ---- load
+-- ---- load: what `loadIn` makes of the count of the table's cells and the text
 
 -- "Accepted is 80 (load: line 0)"
 abbrev pub load-number : Loaded → ℕ
@@ -34,14 +34,14 @@ load-line (accepted p) = 0
 abbrev pub load-answer : Loaded → ℕ
 load-answer x = packed (load-number x) (load-line x)
 
--- The table c after load. "After 40 the table stays, after other refusals its 8,192 cells are zeros." "cells beyond are neither read nor written"
+-- The cells c of the table after load. "After 40 the table stays, after other refusals its 8,192 cells are zeros." "cells beyond are neither read nor written"
 unfoldable pub table-after : Loaded → List ℕ → List ℕ
 table-after (refused number line) c = cond (eqb number 40) c (replicate limit.table 0 ++ drop limit.table c)
 table-after (accepted p) c = table-cells p ++ drop limit.table c
 
--- ---- start and run
+-- ---- start and run, on the cells c of a table and the cells m of a state memory
 
--- a call of start, or of run with a budget
+-- a call of start, or of run with a budget; I1 and I2 are the list of the two
 pub data Call : Type 0 where
   start-on : Inputs → Call
   run-on : Inputs → ℕ → Call
@@ -78,8 +78,7 @@ pub record Result : Type 0 where
   pub reply : Reply
   pub cells : List ℕ
 
--- The questions on a call, on the cells c of a table and the cells m of a state memory. "Table well formed? 62. Inputs short enough and of the 61
--- characters? 61. State long enough, and for run well formed? 63."
+-- "Table well formed? 62. Inputs short enough and of the 61 characters? 61. State long enough, and for run well formed? 63."
 abbrev pub memory-passes : List ℕ → Call → List ℕ → Bool
 memory-passes c (start-on ins) m = long-enough m
 memory-passes c (run-on ins budget) m = good-memory (program-of c) ins m

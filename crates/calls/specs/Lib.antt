@@ -1,3 +1,5 @@
 pub mod Calls
 pub mod Answers
+pub mod QuestionLaws
 pub mod CallLaws
+pub mod AnswerLaws

@@ -8,7 +8,6 @@ use lib.ListN.{length}
 use Rattle.language.specs.Program.{Arg, Instr, Program, instr-at, label-at, switch-at}
 use Rattle.language.specs.Program.Arg.{nothing, letter, label, switch, class, text}
 use Rattle.language.specs.Values.{Store, State, Inputs}
-use Rattle.machine.specs.Runs.{Outcome}
 use Rattle.machine.specs.Runs.Outcome.{went}
 use Rattle.machine.specs.Steps.{step}
 use Rattle.machine.specs.WellFormed.{ranged, listed}
@@ -16,10 +15,10 @@ use Rattle.machine.specs.Addresses.{times}
 use Rattle.layout.specs.Bounds.{Each}
 use Rattle.layout.specs.Memory.{state-of}
 use Rattle.layout.specs.Table.{program-of}
-use Rattle.calls.specs.Calls.{Call, call-inputs, call-questions, Result, result-of, runOf}
+use Rattle.calls.specs.Calls.{Call, call-inputs, call-questions, result-of, runOf}
 use Rattle.calls.specs.Calls.Reply.{refusal}
 use Rattle.calls.specs.Answers.{Accepted, FirstNo, RunEnds}
-use Rattle.history.specs.History.{Visit, visit, Trail, Past, Moment, history}
+use Rattle.history.specs.History.{Visit, visit, Trail, Moment, history}
 
 -- ---- what a step meets
 
@@ -91,7 +90,8 @@ pub data Stepped (p : Program) (s : State) : ℕ → Trail → State → Type 0 
 abbrev pub EachState : (State → Type 0) → Moment → Type 0
 EachState P x = Each (λ v. P (v .state)) (x .past .trail)
 
--- Of the program p of an accepted text, the cells c of its table, the cells m of the state memory, and a list of calls
+-- Of the program p of an accepted text, the cells c of its table, a list of calls, and the cells m of the state memory. What is said of single calls is
+-- said of all on any memory m′ and, with c′, on any table
 pub record Demand3 (p : Program) (c : List ℕ) (xs : List Call) (m : List ℕ) : Type 0 where
   -- the table is the text's
   pub same-program : program-of c ≡ p
@@ -108,14 +108,14 @@ pub record Demand3 (p : Program) (c : List ℕ) (xs : List Call) (m : List ℕ) 
   pub untouched : Each (λ x. x .past .trail ≡ [] → x .result .cells ≡ m) (history p c xs m)
   -- "An accepted run, on any other table too, pauses exactly when its count equals its budget; else, with a lower count, it stops in the state before the
   -- failing step and names the first of our questions on a step whose answer there is no."
-  pub run-ends : (d n : List ℕ) (ins : Inputs) (budget : ℕ) → Accepted (runOf d ins budget n .reply)
-      → RunEnds (program-of d) ins budget n (runOf d ins budget n)
+  pub run-ends : (c′ m′ : List ℕ) (ins : Inputs) (budget : ℕ) → Accepted (runOf c′ ins budget m′ .reply)
+      → RunEnds (program-of c′) ins budget m′ (runOf c′ ins budget m′)
   -- "A start or run is refused just when one of our questions on the call itself is answered no, with the first one's number."
-  pub refused : (d n : List ℕ) (x : Call) (number : ℕ) → (result-of d x n .reply ≡ refusal number) ↔ FirstNo number (call-questions d x n)
+  pub refused : (c′ m′ : List ℕ) (x : Call) (number : ℕ) → (result-of c′ x m′ .reply ≡ refusal number) ↔ FirstNo number (call-questions c′ x m′)
   -- "Refused calls change nothing."
-  pub unchanged : (d n : List ℕ) (x : Call) (number : ℕ) → result-of d x n .reply ≡ refusal number → result-of d x n .cells ≡ n
+  pub unchanged : (c′ m′ : List ℕ) (x : Call) (number : ℕ) → result-of c′ x m′ .reply ≡ refusal number → result-of c′ x m′ .cells ≡ m′
   -- "No table of an accepted text brings 62"
-  pub never-62 : (n : List ℕ) (x : Call) → result-of c x n .reply ≢ refusal 62
+  pub never-62 : (m′ : List ℕ) (x : Call) → result-of c x m′ .reply ≢ refusal 62
   -- "no state from an accepted start or run, with the same table and inputs, brings 63"
-  pub never-63 : (n : List ℕ) (x y : Call) → Accepted (result-of c x n .reply) → call-inputs y ≡ call-inputs x
-      → result-of c y (result-of c x n .cells) .reply ≢ refusal 63
+  pub never-63 : (m′ : List ℕ) (x y : Call) → Accepted (result-of c x m′ .reply) → call-inputs y ≡ call-inputs x
+      → result-of c y (result-of c x m′ .cells) .reply ≢ refusal 63

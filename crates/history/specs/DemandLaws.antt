@@ -1,10 +1,10 @@
 -- Demand 3 holds.
-use mathlib.Core.Path.{_≡_, refl, sym, subst}
+use mathlib.Core.Path.{_≡_, refl, subst}
 use mathlib.Core.List.{List, [], _∷_}
 use Prim.Native.Nat.{ℕ}
 use native.Mathlib.Omega.{arith}
 use lib.Dec.{T}
-use lib.ListN.{drop}
+use lib.ListN.{length, drop}
 use Rattle.language.specs.Limits as limit
 use Rattle.language.specs.Program.{Program}
 use Rattle.language.specs.Values.{Inputs}
@@ -17,13 +17,13 @@ use Rattle.layout.specs.Bounds.{Each}
 use Rattle.layout.specs.Memory.{state-of, written}
 use Rattle.layout.specs.Table.{program-of, good-table}
 use Rattle.layout.specs.TableLaws.{program-of-cells, table-good, table-facts}
+use Rattle.syntax.specs.Load.{loadIn}
 use Rattle.syntax.specs.Load.Loaded.{accepted}
 use Rattle.calls.specs.Calls.{table-after, Call, call-inputs, reply-count, Result, memory-passes, run-reply, accepted-result, result-of}
 use Rattle.calls.specs.Calls.Call.{start-on, run-on}
-use Rattle.calls.specs.Answers.{RunEnds}
-use Rattle.calls.specs.CallLaws.{Decided, decided, refused-by, refused-same, good-not-62, start-left, handed-good, run-ends, accepted-run, again-not-63}
-use Rattle.calls.specs.CallLaws.Decided.{answered-no, answered-yes}
-use Rattle.history.specs.History.{visit, trail-on, begun, Past, Moment, past-on, past-after, moments, history}
+use Rattle.calls.specs.CallLaws.{Decision, decided, refused-by, refused-same, good-not-62, start-left, handed-good, run-ends, accepted-run, again-not-63}
+use Rattle.calls.specs.CallLaws.Decision.{answered-no, answered-yes}
+use Rattle.history.specs.History.{visit, Past, past-on, past-after, moments, history}
 use Rattle.history.specs.Demand.{Demand3}
 use Rattle.history.specs.TrailLaws.{Followed, followed-none, followed-from, followed-run, run-begun}
 
@@ -36,19 +36,18 @@ record Ready (p : Program) (a m : List ℕ) (h : Past) : Type 0 where
   followed : Followed p (h .base) (h .count) (h .trail) (state-of m)
   first : h .trail ≡ [] → m ≡ a
 
-module _ (p : Program) where
-  past-run : (x : Call) (m : List ℕ) (a : Answer) (n : ℕ) (h : Past)
-      → past-after p x m (run-reply a n) h ≡ past-on p (call-inputs x) (reply-count (run-reply a n)) m h
-  past-run x m pause n h = refl
-  past-run x m (stopped k) n h = refl
+past-run : (p : Program) (x : Call) (m : List ℕ) (a : Answer) (n : ℕ) (h : Past)
+    → past-after p x m (run-reply a n) h ≡ past-on p (call-inputs x) (reply-count (run-reply a n)) m h
+past-run p x m pause n h = refl
+past-run p x m (stopped k) n h = refl
 
 module _ (c : List ℕ) (tc : T (good-table c)) (a : List ℕ) where
   abbrev p : Program
   p = program-of c
 
-  start-ready : (ins : Inputs) → T (good-inputs ins) → (m : List ℕ) (h : Past)
+  start-ready : (ins : Inputs) → T (good-inputs ins) → (m : List ℕ)
       → Ready p a (written started m) (record { base = started; count = 0; trail = visit ins started ∷ [] })
-  start-ready ins gi m h =
+  start-ready ins gi m =
       let gp = table-facts c tc .good in
       record {
         followed = rw (start-left c m tc ins gi) (followed-from p gp ins gi started (started-good p ins gp));
@@ -66,7 +65,7 @@ module _ (c : List ℕ) (tc : T (good-table c)) (a : List ℕ) where
 
   accepted-ready : (x : Call) → T (good-inputs (call-inputs x)) → (m : List ℕ) → T (memory-passes c x m) → (h : Past) → Ready p a m h
       → let r = accepted-result c x m in Ready p a (r .cells) (past-after p x m (r .reply) h)
-  accepted-ready (start-on ins) gi m k h rd = start-ready ins gi m h
+  accepted-ready (start-on ins) gi m k h rd = start-ready ins gi m
   accepted-ready (run-on ins budget) gi m k h rd =
       let r = run (step p ins) budget (state-of m) in
       rw (past-run p (run-on ins budget) m (r .answer) (r .count) h) (run-ready ins budget gi m k h rd)
@@ -74,7 +73,7 @@ module _ (c : List ℕ) (tc : T (good-table c)) (a : List ℕ) where
   one-call : (x : Call) (m : List ℕ) (h : Past) → Ready p a m h → let r = result-of c x m in Ready p a (r .cells) (past-after p x m (r .reply) h)
   one-call x m h rd = go (result-of c x m) (decided c m x)
     where
-      go : (r : Result) → Decided c m x r → Ready p a (r .cells) (past-after p x m (r .reply) h)
+      go : (r : Result) → Decision c m x r → Ready p a (r .cells) (past-after p x m (r .reply) h)
       go r (answered-no n) = rd
       go r (answered-yes q tc gi k) = accepted-ready x gi m k h rd
 
@@ -89,7 +88,8 @@ module _ (c : List ℕ) (tc : T (good-table c)) (a : List ℕ) where
 pub table-demand3 : (c : List ℕ) → T (good-table c) → (xs : List Call) (m : List ℕ) → Demand3 (program-of c) c xs m
 table-demand3 c tc xs m =
     let h = history (program-of c) c xs m in
-    let ready = all-ready c tc m xs m (record { base = state-of m; count = 0; trail = [] }) (record { followed = followed-none (program-of c) (state-of m); first = λ e. refl }) in
+    let h₀ : Past = record { base = state-of m; count = 0; trail = [] } in
+    let ready = all-ready c tc m xs m h₀ (record { followed = followed-none (program-of c) (state-of m); first = λ e. refl }) in
     record {
       same-program = refl;
       met = each-map _ _ (λ x rd. rd .followed .met) h ready;
@@ -97,11 +97,11 @@ table-demand3 c tc xs m =
       never-again = each-map _ _ (λ x rd. rd .followed .never-again) h ready;
       state-after = each-map _ _ (λ x rd. rd .followed .steps) h ready;
       untouched = each-map _ _ (λ x rd. rd .first) h ready;
-      run-ends = λ d n. accepted-run d n;
-      refused = λ d n x. refused-by d n x;
-      unchanged = λ d n x. refused-same d n x;
-      never-62 = λ n x. good-not-62 c n x tc;
-      never-63 = λ n x y. again-not-63 c n x y;
+      run-ends = accepted-run;
+      refused = refused-by;
+      unchanged = refused-same;
+      never-62 = λ m′ x. good-not-62 c m′ x tc;
+      never-63 = again-not-63 c;
     }
 
 -- of the table of every well-formed program
@@ -111,3 +111,8 @@ program-demand3 p g c xs m =
     let rest = drop limit.table c in
     subst (λ (q : Program). Demand3 q (table-after (accepted p) c) xs m) (program-of-cells p g rest)
     (table-demand3 (table-after (accepted p) c) (table-good p g rest) xs m)
+
+-- of the table that load leaves of an accepted text, where the text's program is well formed
+pub text-demand3 : (text c : List ℕ) (p : Program) → loadIn (length c) text ≡ accepted p → T (good-program p)
+    → (xs : List Call) (m : List ℕ) → Demand3 p (table-after (loadIn (length c) text) c) xs m
+text-demand3 text c p e g xs m = rw e (program-demand3 p g c xs m)

@@ -46,10 +46,8 @@ pub record Past : Type 0 where
   pub count : ℕ
   pub trail : Trail
 
--- One call: the memory that it was handed, what it answered and left, and what is followed after it
+-- A call of the list: what it answered and left, and what is followed after it
 pub record Moment : Type 0 where
-  pub call : Call
-  pub before : List ℕ
   pub result : Result
   pub past : Past
 
@@ -72,7 +70,7 @@ module _ (p : Program) where
   moments c (x ∷ xs) m h =
       let r = result-of c x m in
       let k = past-after x m (r .reply) h in
-      record { call = x; before = m; result = r; past = k } ∷ moments c xs (r .cells) k
+      record { result = r; past = k } ∷ moments c xs (r .cells) k
 
   abbrev pub history : List ℕ → List Call → List ℕ → List Moment
   history c xs m = moments c xs m (record { base = state-of m; count = 0; trail = [] })

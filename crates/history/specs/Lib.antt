@@ -2,3 +2,4 @@ pub mod History
 pub mod Demand
 pub mod TrailLaws
 pub mod DemandLaws
+pub mod Examples

@@ -1,8 +1,8 @@
 -- Laws of trails: what holds of one goes on to hold when a step, or a whole run, is added.
-use mathlib.Core.Path.{_≡_, refl, ap, sym, _∙_, subst}
+use mathlib.Core.Path.{_≡_, refl, sym, subst}
 use mathlib.Core.Logic.{_≢_}
 use mathlib.Core.Bool.{Bool, _&&_}
-use mathlib.Core.List.{List, [], _∷_}
+use mathlib.Core.List.{[], _∷_}
 use Prim.Native.Nat.{ℕ, zero, suc, _+_, _≤_, _<_}
 use native.Mathlib.Nat.{add-zero, add-suc, suc-add, le-trans}
 use native.Mathlib.Omega.{arith}
@@ -10,7 +10,7 @@ use native.Mathlib.Decide.{decLe}
 use lib.Dec.{T, ltb, ltb→lt}
 use lib.ListN.{length}
 use Rattle.lists.specs.Lists.{all, filled}
-use Rattle.lists.specs.ListLaws.{T-left, T-right, all-at, all-head, all-tail}
+use Rattle.lists.specs.ListLaws.{T-left, T-right, all-at}
 use Rattle.language.specs.Program.{Arg, Instr, Entry, Program, no-label, no-switch, instr-at, label-at, switch-at}
 use Rattle.language.specs.Program.Arg.{nothing, letter, label, switch, class, text}
 use Rattle.language.specs.Values.{Store, State, Inputs}
@@ -20,9 +20,8 @@ use Rattle.machine.specs.Runs.Goes.{here, on}
 use Rattle.machine.specs.Steps.{step}
 use Rattle.machine.specs.WellFormed.{ranged, good-label, good-entry, good-switch, good-return, good-program, good-inputs, good-state}
 use Rattle.machine.specs.Addresses.{times}
-use Rattle.machine.specs.Keeps.{Sound, Keeps}
-use Rattle.machine.specs.Facts.{InstrFacts, ProgramFacts, StateFacts}
-use Rattle.machine.specs.AddressLaws.{ungiven-old}
+use Rattle.machine.specs.Keeps.{Keeps}
+use Rattle.machine.specs.Facts.{InstrFacts, ProgramFacts}
 use Rattle.machine.specs.KeepLaws.{sound-given, keeps-deleted}
 use Rattle.machine.specs.WellFormedLaws.{open-instr, open-label, open-program, open-state}
 use Rattle.machine.specs.ControlLaws.{returns-in}
@@ -30,7 +29,7 @@ use Rattle.machine.specs.StepLaws.{instr-good, state-sound, state-once, step-go
 use Rattle.layout.specs.Bounds.{Each}
 use Rattle.layout.specs.CellLaws.{each-of}
 use Rattle.history.specs.History.{Visit, visit, Trail, stepped-to, trail-on, begun}
-use Rattle.history.specs.Demand.{LabelDeclared, Declared, InstructionMet, Met, Distinct, Deleted, NoneBack, NeverAgain, Stepped}
+use Rattle.history.specs.Demand.{LabelDeclared, Declared, InstructionMet, Met, Distinct, NoneBack, NeverAgain, Stepped}
 use Rattle.history.specs.Demand.Stepped.{not-begun, begun-at, then-step}
 
 -- ---- what a step meets
@@ -53,14 +52,14 @@ module _ (p : Program) (g : T (good-program p)) where
       each-of (good-entry p (w .byName)) (λ e. LabelDeclared p (e .label)) (entry-declared (w .byName)) (w .entries)
       (T-right (filled (w .entries)) (all (good-entry p (w .byName)) (w .entries)) t)
 
-  declared : (a : Arg) → T (ranged p a) → Declared p a
-  declared nothing h = tt
-  declared (letter l n) h = tt
-  declared (label k) h = label-declared k (ltb→lt k (length (p .labels)) h)
-  declared (switch k) h = let l = ltb→lt k (length (p .switches)) h in (l, switch-declared k l)
-  declared (class cs) h = tt
-  declared (text t) h = tt
-  declared (Arg.number z) h = tt
+  arg-declared : (a : Arg) → T (ranged p a) → Declared p a
+  arg-declared nothing h = tt
+  arg-declared (letter l n) h = tt
+  arg-declared (label k) h = label-declared k (ltb→lt k (length (p .labels)) h)
+  arg-declared (switch k) h = let l = ltb→lt k (length (p .switches)) h in (l, switch-declared k l)
+  arg-declared (class cs) h = tt
+  arg-declared (text t) h = tt
+  arg-declared (Arg.number z) h = tt
 
   instruction-met : (i : Instr) → InstrFacts p i → InstructionMet p i
   instruction-met i h =
@@ -69,9 +68,9 @@ module _ (p : Program) (g : T (good-program p)) where
         first-ranged = h .first;
         second-ranged = h .second;
         third-ranged = h .third;
-        first-declared = declared (i .first) (h .first);
-        second-declared = declared (i .second) (h .second);
-        third-declared = declared (i .third) (h .third);
+        first-declared = arg-declared (i .first) (h .first);
+        second-declared = arg-declared (i .second) (h .second);
+        third-declared = arg-declared (i .third) (h .third);
       }
 
   -- ---- one state

@@ -1,0 +1,64 @@
+-- A history, computed: document 01's sample is loaded, and called with a memory that holds no state at first.
+use mathlib.Core.Path.{_≡_, refl}
+use mathlib.Core.List.{List, [], _∷_, map}
+use Prim.Native.Nat.{ℕ}
+use lib.ListN.{length, replicate}
+use Rattle.lists.specs.Quoted.{bytes}
+use Rattle.characters.specs.Characters.{known}
+use Rattle.language.specs.Letters.Letter.{A, Q}
+use Rattle.language.specs.Program.{Program}
+use Rattle.language.specs.Program.Arg.{nothing, letter, text}
+use Rattle.language.specs.Program.Op.{PISZ, UMIESC, STOP}
+use Rattle.language.specs.Values.{Inputs}
+use Rattle.machine.specs.Steps.{opened}
+use Rattle.machine.specs.WellFormed.{listed, good-instr, good-label, good-switch, good-return, good-program, good-inputs, store-faults, good-store, good-state, started}
+use Rattle.layout.specs.Cells.{fours, unfours, code, uncode, tab, padded}
+use Rattle.layout.specs.Components.{component-bytes, components-bytes, record-bytes, records-bytes, component-in, components-from, components-in, record-in, records-from, records-in}
+use Rattle.layout.specs.Memory.{file-strings, strings, state-cells, threes-in, files-in, twos-in, state-by, state-in, state-of, good-memory, written}
+use Rattle.layout.specs.Strings.{lengths, used, string-cells, lengths-in, cut-by, strings-in}
+use Rattle.layout.specs.Table.{switch-cells, table-cells, program-in, program-of, good-table}
+use Rattle.syntax.specs.Load.{Loaded, loadIn}
+use Rattle.syntax.specs.Load.{opened as opened-load}
+use Rattle.syntax.specs.Load.Loaded.{accepted}
+use Rattle.calls.specs.Calls.{table-after, Call, reply-number, reply-count, result-of}
+use Rattle.calls.specs.Calls.Call.{start-on, run-on}
+use Rattle.history.specs.History.{Moment, history}
+
+abbrev sample : Program
+sample =
+    record {
+      code =
+          record { op = UMIESC; line = 2; first = text (bytes "AB"); second = letter A 1; third = nothing }
+          ∷ record { op = PISZ; line = 3; first = letter A 1; second = letter Q 1; third = nothing }
+          ∷ record { op = STOP; line = 4; first = nothing; second = nothing; third = nothing }
+          ∷ [];
+      labels = [];
+      switches = [];
+      texts = bytes "AB" ∷ [];
+      numbers = [];
+    }
+
+-- a table of eight cells more than needed
+abbrev lent : List ℕ
+lent = replicate 8200 9
+
+abbrev loaded : Loaded
+loaded = loadIn (length lent) (bytes "SEKCJA S\nUMIESC 'AB',A1\nPISZ A1,Q1\nSTOP\nKONS\nKONP S\n")
+
+abbrev none : Inputs
+none = [] ∷ [] ∷ []
+
+abbrev calls : List Call
+calls = run-on none 5 ∷ start-on ((1 ∷ []) ∷ [] ∷ []) ∷ start-on none ∷ run-on none 1 ∷ run-on none 5 ∷ run-on none 0 ∷ []
+
+abbrev answers : List Moment → List (ℕ × ℕ)
+answers h = map (λ x. (reply-number (x .result .reply), reply-count (x .result .reply))) h
+
+pub record Sample : Type 0 where
+  pub program : loaded ≡ accepted sample
+  pub answers : answers (history sample (table-after loaded lent) calls (7 ∷ replicate 40959 0))
+      ≡ (63, 0) ∷ (61, 0) ∷ (80, 0) ∷ (81, 1) ∷ (50, 1) ∷ (81, 0) ∷ []
+
+pub sample-holds : Sample
+unfolding opened-load opened table-after result-of good-table table-cells padded switch-cells fours unfours code uncode tab program-in program-of good-program good-instr listed good-label good-switch good-return good-inputs store-faults good-store good-state started known file-strings strings state-cells threes-in files-in twos-in state-by state-in state-of good-memory written lengths used string-cells lengths-in cut-by strings-in component-bytes components-bytes record-bytes records-bytes component-in components-from components-in record-in records-from records-in
+sample-holds = record { program = refl; answers = refl }
