@@ -111,7 +111,8 @@ pub record Demand3 (p : Program) (c : List ℕ) (xs : List Call) (m : List ℕ) 
   pub run-ends : (c′ m′ : List ℕ) (ins : Inputs) (budget : ℕ) → Accepted (runOf c′ ins budget m′ .reply)
       → RunEnds (program-of c′) ins budget m′ (runOf c′ ins budget m′)
   -- "A start or run is refused just when one of our questions on the call itself is answered no, with the first one's number."
-  pub refused : (c′ m′ : List ℕ) (x : Call) (number : ℕ) → (result-of c′ x m′ .reply ≡ refusal number) ↔ FirstNo number (call-questions c′ x m′)
+  pub refused : (c′ m′ : List ℕ) (x : Call) (number : ℕ)
+      → (result-of c′ x m′ .reply ≡ refusal number) ↔ FirstNo number (call-questions c′ x m′)
   -- "Refused calls change nothing."
   pub unchanged : (c′ m′ : List ℕ) (x : Call) (number : ℕ) → result-of c′ x m′ .reply ≡ refusal number → result-of c′ x m′ .cells ≡ m′
   -- "No table of an accepted text brings 62"

@@ -80,9 +80,11 @@ module _ (p : Program) (g : T (good-program p)) where
     good-met s h =
         let c = length (p .code) in
         let f = open-state p ins s h in
+        let return-in : (n : ℕ) → T (ltb n c && good-return p n) → n < c = λ n t. ltb→lt n c (T-left (ltb n c) (good-return p n) t) in
+        let returns = returns-in p facts (s .stack) (f .returns) in
         record {
           next-in-table = f .next;
-          returns-in-table = each-of (λ n. ltb n c && good-return p n) (λ n. n < c) (λ n t. ltb→lt n c (T-left (ltb n c) (good-return p n) t)) (s .stack) (returns-in p facts (s .stack) (f .returns));
+          returns-in-table = each-of (λ n. ltb n c && good-return p n) (λ n. n < c) return-in (s .stack) returns;
           instruction = instruction-met (instr-at p (s .next)) (open-instr p (instr-at p (s .next)) (instr-good p ins g gi s h));
         }
 
@@ -97,7 +99,7 @@ module _ (p : Program) (g : T (good-program p)) where
 -- ---- a trail
 
 -- every record of the trail has an address up to l
-abbrev Given : ℕ → Trail → Type 0
+abbrev pub Given : ℕ → Trail → Type 0
 Given l tr = Each (λ v. (n : ℕ) → times n (v .state .store) ≢ 0 → n ≤ l) tr
 
 given-later : {l m : ℕ} → l ≤ m → (tr : Trail) → Given l tr → Given m tr
