@@ -6,3 +6,4 @@ pub mod Stamps
 pub mod Contents
 pub mod Walking
 pub mod Pointers
+pub mod Arguments
