@@ -100,7 +100,7 @@ pub fn among(x: &[u8], given: &[u8]) -> bool
 }
 
 // Whether a test ends the sequence before component `x`, which stands at place `k`.
-fn stops(test: Test, k: usize, x: &[u8], given: &[u8]) -> bool
+pub fn stops(test: Test, k: usize, x: &[u8], given: &[u8]) -> bool
     requires { ⌜ Stoppable test (now x) (now given) ⌝ }
     ensures { λ r. ⌜ r ≡ stops-before (until test (now (given .entry))) k (component-in (now (x .entry))) ⌝ }
 {
@@ -113,7 +113,7 @@ fn stops(test: Test, k: usize, x: &[u8], given: &[u8]) -> bool
 }
 
 // Whether a test that met no end is reached after `k` components.
-fn reached(test: Test, k: usize) -> bool
+pub fn reached(test: Test, k: usize) -> bool
     ensures { λ r. ⌜ r ≡ reached-by test k ⌝ }
 {
     match test {
