@@ -1,4 +1,4 @@
-// Records in cells: where one ends, its address and its contents, the last address, the record of an address, and new records.
+// Records in cells: where one ends, its address and contents, the record of an address, what a test takes, totals, and new records.
 ghost use mathlib.Core.Path.{_≡_};
 ghost use mathlib.Core.List.{map, reverse};
 ghost use Prim.Native.Nat.{_+_};
