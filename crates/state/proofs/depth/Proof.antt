@@ -1,0 +1,19 @@
+-- `state::depth` meets its contract.
+use Rattle.state.proofs.Standing.{named}
+use Rattle.state.proofs.Control.{deep}
+use native.Mathlib.Omega.{arith}
+use Rattle.state.proofs.depth.Statement.{statement}
+use Rattle.state.proofs.depth.Tie as tie
+
+len-of-requires : tie.Need-len-of-requires
+len-of-requires c κs =
+    let pre = c .before .before .before .pre in
+    named pre 96 (omega arith)
+
+returns : tie.Need-returns
+returns c =
+    let pre = c .before .before .before .before .pre in
+    deep pre (c .len-of .ensures .is)
+
+pub depth-spec : {M : Type 1} → statement M
+depth-spec = tie.close (tie.spec len-of-requires returns)

@@ -1,0 +1,24 @@
+-- `state::go_to` meets its contract.
+use Rattle.state.proofs.Standing.{numbers-long}
+use Rattle.state.proofs.Control.{jumped}
+use borrow.Author.Needs.{needs}
+use native.Mathlib.Omega.{arith}
+use Rattle.state.proofs.go_to.Statement.{statement}
+use Rattle.state.proofs.go_to.Tie as tie
+
+write-requires : tie.Need-write-requires
+write-requires c κs =
+    let pre = c .before .before .before .before .pre in
+    omega (arith, numbers-long (pre .stands), pre .below)
+
+same-length : tie.Need-same-length
+same-length c = search needs
+
+returns : tie.Need-returns
+returns c =
+    let pre = c .before .before .before .before .before .before .before .pre in
+    let write = c .before .before .write in
+    jumped pre (write .ensures)
+
+pub go-to-spec : {M : Type 1} → statement M
+go-to-spec = tie.close (tie.spec write-requires same-length returns)

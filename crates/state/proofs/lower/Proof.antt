@@ -1,0 +1,48 @@
+-- `state::lower` meets its contract.
+use Rattle.state.specs.Blocks.{totalled}
+use borrow.Author.Needs.{needs}
+use Rattle.state.proofs.lower.Statement.{statement}
+use Rattle.state.proofs.lower.Tie as tie
+
+read-requires : tie.Need-read-requires
+read-requires c κs = search needs
+
+read-requires-2 : tie.Need-read-requires-2
+read-requires-2 c κs = search needs
+
+sub-write : tie.Need-sub-write
+sub-write c = search needs
+
+write-requires : tie.Need-write-requires
+write-requires c κs = search needs
+
+sub-write-2 : tie.Need-sub-write-2
+sub-write-2 c = search needs
+
+write-requires-2 : tie.Need-write-requires-2
+write-requires-2 c κs = search needs
+
+same-length : tie.Need-same-length
+same-length c = search needs
+
+returns : tie.Need-returns
+unfolding totalled
+returns c =
+    let write2 = c .before .before .write2 in
+    let write = c .before .before .before .before .before .before .write in
+    let read = c .before .before .before .before .before .before .before .before .before .before .read in
+    let read2 = c .before .before .before .before .before .before .before .before .read2 in
+    rw (write2 .ensures, write .ensures, read .ensures .is, read2 .ensures .is)
+
+pub lower-spec : {M : Type 1} → statement M
+lower-spec =
+    tie.close
+    (tie.spec
+    read-requires
+    read-requires-2
+    sub-write
+    write-requires
+    sub-write-2
+    write-requires-2
+    same-length
+    returns)
