@@ -1,0 +1,23 @@
+use denote.Ref.{now}
+use lib.ListN.{List·getD-eq-default}
+use mathlib.Core.Path.{sym}
+use borrow.Author.Needs.{needs}
+use Rattle.scanner.proofs.peek.Statement.{statement}
+use Rattle.scanner.proofs.peek.Tie as tie
+use Rattle.scanner.proofs.peek.Reads as reads
+use Rattle.scanner.proofs.peek.Lts as lts
+
+-- src/lib.rt:116:25
+shared-slice-read-result : tie.Need-shared-slice-read-result
+shared-slice-read-result c = search needs
+
+-- src/lib.rt:113:1
+returns : tie.Need-returns
+returns c = search needs
+
+-- src/lib.rt:113:1
+returns-2 : tie.Need-returns-2
+returns-2 c = sym (List·getD-eq-default (now (c .before .args .text)) 0 (c .if1 .left))
+
+pub peek-spec : {M : Type 1} → statement M
+peek-spec = tie.close (tie.spec shared-slice-read-result returns returns-2)
