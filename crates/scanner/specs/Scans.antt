@@ -26,11 +26,13 @@ gap-at s n = gap-from outside n (drop n s)
 pub record Passed (s : List ℕ) (n : ℕ) (g : Gap) : Type 0 where
   pub from : n ≤ g .at
   pub most : g .at ≤ length s
+  pub opening : g .open ≡ true → g .at < length s
   pub is : gap-at s n ≡ cond (g .open) (unclosed (g .at)) (cond (eqb (g .at) n) (clear n) (gap-at s (g .at)))
 
 pub record Skipped (s : List ℕ) (n : ℕ) (g : Gap) : Type 0 where
   pub from : n ≤ g .at
   pub most : g .at ≤ length s
+  pub opening : g .open ≡ true → g .at < length s
   pub is : gap-at s n ≡ cond (g .open) (unclosed (g .at)) (clear (g .at))
 
 pub record Word-end (s : List ℕ) (n e : ℕ) : Type 0 where

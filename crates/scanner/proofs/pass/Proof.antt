@@ -1,3 +1,4 @@
+use mathlib.Core.Bool.{true≢false, false≢true}
 use Prim.Native.Nat.{ℕ, _+_, _-_, _≤_, _<_}
 use mathlib.Core.Path.{_≡_, refl, sym, _∙_}
 use native.Mathlib.Omega.{arith}
@@ -27,14 +28,14 @@ returns : tie.Need-returns
 returns c = 
     let s = now (c .before .before .before .args .text) in
     let n = c .before .before .before .args .n in
-    record { from = omega arith; most = omega arith; is = rw (ne-eqb (n + 1) n (λ e. omega arith)) (pass-separator s n (c .before .before .before .pre) (omega (arith, c .before .shared-slice-known2 .given n)) (c .if1 .taken)) }
+    record { from = omega arith; most = omega arith; opening = λ e. absurd (false≢true e); is = rw (ne-eqb (n + 1) n (λ e. omega arith)) (pass-separator s n (c .before .before .before .pre) (omega (arith, c .before .shared-slice-known2 .given n)) (c .if1 .taken)) }
 
 -- src/lib.rt:161:9
 returns-2 : tie.Need-returns-2
 returns-2 c = 
     let s = now (c .before .before .before .before .args .text) in
     let n = c .before .before .before .before .args .n in
-    record { from = omega arith; most = omega arith; is = rw (eq-eqb n n refl) (pass-none s n (c .before .before .before .before .pre) (omega (arith, c .before .before .shared-slice-known2 .given n)) (c .before .if1 .left) (rw (ne-eqb _ _ (c .if2 .taken)) refl)) }
+    record { from = omega arith; most = omega arith; opening = λ e. absurd (false≢true e); is = rw (eq-eqb n n refl) (pass-none s n (c .before .before .before .before .pre) (omega (arith, c .before .before .shared-slice-known2 .given n)) (c .before .if1 .left) (rw (ne-eqb _ _ (c .if2 .taken)) refl)) }
 
 -- src/lib.rt:163:19
 add-peek : tie.Need-add-peek
@@ -49,7 +50,7 @@ returns-3 : tie.Need-returns-3
 returns-3 c = 
     let s = now (c .before .before .before .before .before .before .args .text) in
     let n = c .before .before .before .before .before .before .args .n in
-    record { from = omega arith; most = omega arith; is = rw (eq-eqb n n refl) (pass-none s n (c .before .before .before .before .before .before .pre) (omega (arith, c .before .before .before .before .shared-slice-known2 .given n)) (c .before .before .before .if1 .left) (rw (eq-eqb _ _ (c .before .before .if2 .left), ← c .before .peek .ensures, ne-eqb _ _ (c .if3 .taken)) refl)) }
+    record { from = omega arith; most = omega arith; opening = λ e. absurd (false≢true e); is = rw (eq-eqb n n refl) (pass-none s n (c .before .before .before .before .before .before .pre) (omega (arith, c .before .before .before .before .shared-slice-known2 .given n)) (c .before .before .before .if1 .left) (rw (eq-eqb _ _ (c .before .before .if2 .left), ← c .before .peek .ensures, ne-eqb _ _ (c .if3 .taken)) refl)) }
 
 -- src/lib.rt:166:32
 add-past-comment : tie.Need-add-past-comment
@@ -67,7 +68,7 @@ returns-4 c =
     let n = c .before .before .before .before .before .before .before .before .args .n in
     let e = c .before .past-comment .ensures in
     let inner = pass-comment s n (c .before .before .before .before .before .before .before .before .pre) (c .before .before .before .before .if2 .left) (sym (c .before .before .before .peek .ensures) ∙ c .before .before .if3 .left) in
-    record { from = omega arith; most = omega arith; is = inner .1 ∙ e .is n ∙ rw (c .if4 .taken) refl }
+    record { from = omega arith; most = omega arith; opening = λ e. c .before .before .before .before .before .before .before .before .pre; is = inner .1 ∙ e .is n ∙ rw (c .if4 .taken) refl }
 
 -- src/lib.rt:149:1
 returns-5 : tie.Need-returns-5
@@ -76,7 +77,7 @@ returns-5 c =
     let n = c .before .before .before .before .before .before .before .before .args .n in
     let e = c .before .past-comment .ensures in
     let inner = pass-comment s n (c .before .before .before .before .before .before .before .before .pre) (c .before .before .before .before .if2 .left) (sym (c .before .before .before .peek .ensures) ∙ c .before .before .if3 .left) in
-    record { from = omega arith; most = omega arith; is = inner .1 ∙ e .is n ∙ rw (c .if4 .left, ne-eqb (c .before .past-comment .result .at) n (λ q. omega arith)) refl }
+    record { from = omega arith; most = omega arith; opening = λ e. absurd (true≢false (sym e ∙ c .if4 .left)); is = inner .1 ∙ e .is n ∙ rw (c .if4 .left, ne-eqb (c .before .past-comment .result .at) n (λ q. omega arith)) refl }
 
 pub pass-spec : {M : Type 1} → statement M
 pass-spec =

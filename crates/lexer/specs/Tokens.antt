@@ -1,0 +1,105 @@
+-- Tokens: what the lexer gives of the items of Items.antt, with places of the text s in place of characters. And what its functions promise.
+use mathlib.Core.Path.{_≡_}
+use mathlib.Core.Bool.{Bool, true, false, cond}
+use mathlib.Core.List.{List, [], _∷_}
+use Prim.Native.Nat.{ℕ, _+_, _-_, _≤_, _<_}
+use lib.Dec.{eqb}
+use lib.ListN.{length, getD, take, drop}
+use Rattle.lists.specs.Lists.{ifAny}
+use Rattle.syntax.specs.Items.{Sort, Item, is, a-mark, read, named, line-of}
+use Rattle.syntax.specs.Items.Sort.{separator, word, colon, end, text, wrong}
+use Rattle.syntax.specs.Items.Mode.{outside}
+use Rattle.syntax.specs.Scan.{text-chars, Found, found-here, item-at}
+use Rattle.syntax.specs.Scan.Found.{no-item, found}
+use Rattle.lexer.specs.declared.Token.{Token}
+
+-- the bytes from place a to place e
+abbrev pub part : List ℕ → ℕ → ℕ → List ℕ
+part s a e = take (e - a) (drop a s)
+
+-- the sort of a number
+abbrev pub sort-at : ℕ → Sort
+sort-at k = getD (separator ∷ word ∷ colon ∷ end ∷ text ∷ wrong ∷ []) k wrong
+
+-- the characters of a word and of a text
+abbrev pub word-of : List ℕ → Token → List ℕ
+word-of s t = part s (t .at) (t .end)
+
+abbrev pub text-of : List ℕ → Token → List ℕ
+text-of s t = text-chars false (part s (t .at + 1) (t .end))
+
+unfoldable pub chars-of : List ℕ → Token → List ℕ
+chars-of s t = cond (eqb (t .sort) 1) (word-of s t) (cond (eqb (t .sort) 4) (text-of s t) [])
+
+-- no colon behind a word stands at place 0
+abbrev pub colon-of : Token → List ℕ
+colon-of t = cond (eqb (t .colon) 0) [] (t .colon ∷ [])
+
+abbrev pub item-of : List ℕ → Token → Item
+item-of s t = record { at = t .at; sort = sort-at (t .sort); chars = chars-of s t; good = t .good; colon = colon-of t }
+
+-- Where a token stands in s, and the count of its characters. A token of sort 0 is no item
+pub record Stands (s : List ℕ) (t : Token) : Type 0 where
+  pub sorted : t .sort < 6
+  pub own : t .at + t .len ≤ t .end
+  pub behind : t .end ≤ t .next
+  pub most : t .next ≤ length s
+  pub colon-most : t .colon ≤ t .next
+  pub some : (t .sort ≡ 0 → ⊥) → t .at < t .end
+  pub ending : t .sort ≡ 3 → t .next ≡ t .at + 1
+  pub fine : (t .sort ≡ 4 → ⊥) → t .good ≡ true
+  pub count : length (chars-of s t) ≡ t .len
+
+-- an item without characters: a colon, an end, what may not stand there, or none
+abbrev pub a-token : ℕ → ℕ → ℕ → Token
+a-token k at e = record { sort = k; at = at; end = e; next = e; len = 0; good = true; colon = 0 }
+
+-- what is found, as Scan.antt says it
+abbrev pub found-by : List ℕ → Token → Found
+found-by s t = cond (eqb (t .sort) 0) no-item (found (item-of s t) (t .next))
+
+-- t is what is found from place n on; no colon is sought
+pub record Finds (s : List ℕ) (n : ℕ) (what : Found) (t : Token) : Type 0 where
+  pub from : n ≤ t .at
+  pub stands : Stands s t
+  pub bare : t .colon ≡ 0
+  pub is : what ≡ found-by s t
+
+-- an item of the sort k that begins at place n
+abbrev pub Begins : Sort → List ℕ → ℕ → Token → Type 0
+Begins k s n t = Finds s n (found-here k n (getD s n 0) (drop (n + 1) s)) t
+
+abbrev pub Word-at : List ℕ → ℕ → Token → Type 0
+Word-at s n t = Begins word s n t
+
+abbrev pub Text-at : List ℕ → ℕ → Token → Type 0
+Text-at s n t = Begins text s n t
+
+abbrev pub Token-at : List ℕ → ℕ → Token → Type 0
+Token-at s n t = Finds s n (item-at s n) t
+
+-- the next item from place n on is a colon at place r
+pub record Colon-at (s : List ℕ) (n r : ℕ) : Type 0 where
+  pub from : n ≤ r
+  pub most : r < length s
+  pub is : read outside n (drop n s) ≡ a-mark colon r ∷ read outside (r + 1) (drop (r + 1) s)
+
+-- it is, or r is 0
+pub record Colon-after (s : List ℕ) (n r : ℕ) : Type 0 where
+  pub some : (r ≡ 0 → ⊥) → Colon-at s n r
+  pub none : r ≡ 0 → ifAny false (is colon) (read outside n (drop n s)) ≡ false
+
+-- the items from place n on, each word with its colon
+abbrev pub items-from : List ℕ → ℕ → List Item
+items-from s n = named (read outside n (drop n s))
+
+-- one step from item to item: there is none, or t is the first, and the others follow from t .next on
+pub record Next-token (s : List ℕ) (n : ℕ) (t : Token) : Type 0 where
+  pub from : n ≤ t .at
+  pub stands : Stands s t
+  pub is : items-from s n ≡ cond (eqb (t .sort) 0) [] (item-of s t ∷ items-from s (t .next))
+
+-- the place e is r lines behind the place a
+pub record Lines (s : List ℕ) (a e r : ℕ) : Type 0 where
+  pub most : r + a ≤ e
+  pub is : line-of s e ≡ line-of s a + r

@@ -1,0 +1,147 @@
+// From a place in a text to the item that stands there and the place behind it.
+ghost use mathlib.Core.Path.{_≡_};
+ghost use Prim.Native.Nat.{_≤_, _<_};
+ghost use lib.ListN.{length};
+ghost use Rattle.lexer.specs.Tokens.{a-token, Word-at, Text-at, Token-at, Colon-after, Next-token, Lines};
+
+use scanner::{NOTHING, TEXT, WORD, WRONG, one_if, scan_text, skip, sort_of, word_end};
+
+// An item: its sort; the place where it begins, the place where its own bytes end, which of a text is that of its closing
+// apostrophe, and the place from which the next item is sought; the count of its characters; of a text whether it is closed
+// and allowed; of a word the place of the colon that follows it, or 0.
+pub struct Token {
+    pub sort: u8,
+    pub at: usize,
+    pub end: usize,
+    pub next: usize,
+    pub len: usize,
+    pub good: bool,
+    pub colon: usize,
+}
+
+fn mark(sort: u8, at: usize, end: usize) -> Token
+    ensures { λ r. ⌜ r ≡ a-token sort at end ⌝ }
+{
+    Token {
+        sort: sort,
+        at: at,
+        end: end,
+        next: end,
+        len: 0,
+        good: true,
+        colon: 0,
+    }
+}
+
+fn word_at(text: &[u8], at: usize) -> Token
+    requires { ⌜ at < length (now text) ⌝ }
+    ensures { λ r. ⌜ Word-at (now (text .entry)) at r ⌝ }
+{
+    let end = word_end(text, at + 1);
+    Token {
+        sort: WORD,
+        at: at,
+        end: end,
+        next: end,
+        len: end - at,
+        good: true,
+        colon: 0,
+    }
+}
+
+fn text_at(text: &[u8], at: usize) -> Token
+    requires { ⌜ at < length (now text) ⌝ }
+    ensures { λ r. ⌜ Text-at (now (text .entry)) at r ⌝ }
+{
+    let x = scan_text(text, at + 1);
+    Token {
+        sort: TEXT,
+        at: at,
+        end: x.end,
+        next: x.end + one_if(x.closed),
+        len: x.count,
+        good: x.good & x.closed,
+        colon: 0,
+    }
+}
+
+// The item that stands at place `n` or behind separators and comments there.
+pub fn item_at(text: &[u8], n: usize) -> Token
+    requires { ⌜ n ≤ length (now text) ⌝ }
+    ensures { λ r. ⌜ Token-at (now (text .entry)) n r ⌝ }
+{
+    let g = skip(text, n);
+    let at = g.at;
+    if g.open {
+        return mark(WRONG, at, text.len());
+    }
+    if text.len() <= at {
+        return mark(NOTHING, at, at);
+    }
+    let sort = sort_of(text[at]);
+    if sort == WORD {
+        return word_at(text, at);
+    }
+    if sort == TEXT {
+        return text_at(text, at);
+    }
+    mark(sort, at, at + 1)
+}
+
+// The place of the colon that is the next item, or 0.
+fn colon_after(text: &[u8], n: usize) -> usize
+    requires { ⌜ (0 < n) × (n ≤ length (now text)) ⌝ }
+    ensures { λ r. ⌜ Colon-after (now (text .entry)) n r ⌝ }
+{
+    let g = skip(text, n);
+    let at = g.at;
+    if g.open {
+        return 0;
+    }
+    if text.len() <= at {
+        return 0;
+    }
+    if text[at] != b':' {
+        return 0;
+    }
+    at
+}
+
+// The next item from place `n` on. A word and the colon after it are one.
+pub fn next_item(text: &[u8], n: usize) -> Token
+    requires { ⌜ n ≤ length (now text) ⌝ }
+    ensures { λ r. ⌜ Next-token (now (text .entry)) n r ⌝ }
+{
+    let t = item_at(text, n);
+    if t.sort != WORD {
+        return t;
+    }
+    let next = t.next;
+    let colon = colon_after(text, next);
+    if colon == 0 {
+        return t;
+    }
+    Token {
+        sort: WORD,
+        at: t.at,
+        end: t.end,
+        next: colon + 1,
+        len: t.len,
+        good: t.good,
+        colon: colon,
+    }
+}
+
+// How many lines the place `to` is behind the place `from`.
+pub fn count_lines(text: &[u8], from: usize, to: usize) -> usize
+    requires { ⌜ (from ≤ to) × (to ≤ length (now text)) ⌝ }
+    ensures { λ r. ⌜ Lines (now (text .entry)) from to r ⌝ }
+{
+    let mut lines: usize = 0;
+    let mut i = from;
+    while i < to {
+        lines = lines + one_if(b'\n' == text[i]);
+        i += 1;
+    }
+    lines
+}
