@@ -1,5 +1,5 @@
 -- What the loops that write components have written so far.
-use mathlib.Core.Path.{_≡_, refl, ap, _∙_}
+use mathlib.Core.Path.{_≡_, refl, sym, ap, _∙_}
 use mathlib.Core.List.{List, [], _∷_, _++_, map, append-assoc, append-nil, reverse, reverseAux}
 use Prim.Native.Nat.{ℕ, _+_, _-_, _*_, _≤_, _<_}
 use native.Mathlib.Nat.{sub-zero}
@@ -7,14 +7,14 @@ use native.Mathlib.Numerals.{add-one}
 use native.Mathlib.Omega.{arith}
 use lib.ListN.{length, getD, take, drop, set, length-append, drop-of-length-le}
 use lib.Seq.{length-take-le, drop-at, drop-cons, set-split}
-use Rattle.cells.proofs.Laws.{length-pasted, pasted-none, pasted-pasted, set-two}
+use Rattle.cells.proofs.Laws.{length-pasted, pasted-none, pasted-pasted, pasted-front, set-two}
 use Rattle.cells.specs.Cells.{pasted}
-use Rattle.language.specs.Values.{Component}
+use Rattle.language.specs.Values.{Component, chars}
 use Rattle.layout.specs.Bounds.{WholeComponents}
 use Rattle.layout.specs.Components.{component-bytes, components-bytes, component-in, components-in}
-use Rattle.lists.specs.Lists.{joined}
+use Rattle.lists.specs.Lists.{total, joined}
 use Rattle.machine.specs.Arguments.{char}
-use Rattle.components.specs.Parts.{Written}
+use Rattle.components.specs.Parts.{spelled, Written}
 use Rattle.components.proofs.Walks.{Step, none-left, part-long, bytes-at}
 
 -- ---- the components in reverse order, written from the end to the front
@@ -179,3 +179,14 @@ behind-one d at x s h =
 
 pub behind-two : (d : List ℕ) (at x y : ℕ) (s : List ℕ) → at + 2 + length s ≤ length d → pasted (set (set d at x) (at + 1) y) (at + 2) s ≡ pasted d at (x ∷ y ∷ s)
 behind-two d at x y s h = rw (set-two d at x y (omega arith)) (pasted-pasted d at (x ∷ y ∷ []) s (omega arith))
+
+-- ---- what a caller finds
+
+-- the list in front
+pub written-front : {d l e : List ℕ} {r : ℕ} → Written d l e r → take r e ≡ l
+written-front {d} {l} {e} {r} w = rw (w .is) (pasted-front d l r (sym (w .count)))
+
+-- how many characters words have
+pub spelled-long : (xs : List Component) → length (spelled xs) ≡ total (λ x. length (chars x)) xs
+spelled-long [] = refl
+spelled-long (x ∷ xs) = simp length-append (omega (arith, spelled-long xs))

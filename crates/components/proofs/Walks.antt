@@ -1,8 +1,8 @@
 -- Walks over the components of a string: the cells from `at` on are whole components.
 use mathlib.Core.Path.{_≡_, refl, sym, ap, _∙_}
-use mathlib.Core.Bool.{not}
+use mathlib.Core.Bool.{cond, not}
 use mathlib.Core.List.{List, [], _∷_, _++_}
-use Prim.Native.Nat.{ℕ, _+_, _-_, _≤_, _<_}
+use Prim.Native.Nat.{ℕ, zero, suc, _+_, _-_, _≤_, _<_}
 use native.Mathlib.Nat.{add-zero}
 use native.Mathlib.Omega.{arith}
 use lib.Dec.{eqb}
@@ -16,7 +16,9 @@ use Rattle.layout.specs.Bounds.{Each, Ok, EncodedOne, Encoded, WholeComponents}
 use Rattle.layout.specs.CellLaws.{each-left, each-right}
 use Rattle.layout.specs.Cells.{cell}
 use Rattle.layout.specs.Components.{component-bytes, components-bytes, component-size, component-in, components-in}
-use Rattle.layout.specs.ComponentLaws.{next-component, components-none, components-bytes-append}
+use Rattle.layout.specs.ComponentLaws.{next-component, components-none, components-bytes-append, components-bytes-one}
+use Rattle.machine.specs.Arguments.{first}
+use Rattle.components.specs.Parts.{first-size}
 
 -- the step of a walk, in the places that the code has: `at`, and e behind the component there
 pub record Step (l : List ℕ) (at e : ℕ) : Type 0 where
@@ -90,3 +92,25 @@ cut {l} {xs} h k n e =
       front = record { is = rw (whole, e) (take-append-seam a b); all-ok = each-left Ok (take k xs) (drop k xs) ok };
       rest = record { is = rw (whole, e) (drop-append-seam a b); all-ok = each-right Ok (take k xs) (drop k xs) ok };
     }
+
+-- ---- the first of whole components
+
+module _ {l : List ℕ} (w : WholeComponents l) where
+  pub front-is : 0 < length l → component-in l ≡ first (components-in l)
+  front-is h = rw (next-component w h .is)
+
+  pub first-is : first-size l ≡ length (components-bytes (take 1 (components-in l)))
+  unfolding components-bytes
+  first-is = go (length l) refl
+    where
+      go : (n : ℕ) → length l ≡ n → cond (eqb n 0) 0 (component-size (cell l 0)) ≡ length (components-bytes (take 1 (components-in l)))
+      go zero e = rw (components-none l e)
+      go (suc n) e =
+          let m = next-component w (omega arith) in
+          let x : Component = component-in l in
+          let long : length (component-bytes x) ≡ component-size (cell l 0) = sym (ap length (m .first)) ∙ length-take-le (component-size (cell l 0)) l (m .fits) in
+          rw (ne-eqb (suc n) 0 (λ q. omega (arith, q)), m .is, components-bytes-one x) (sym long)
+
+  -- n is what the code was told of its size
+  pub first-cut : {n : ℕ} → Number (first-size l) 257 n → Cut l (components-in l) 1 n
+  first-cut {n} q = cut w 1 n (q .is ∙ first-is)

@@ -2,7 +2,7 @@
 use mathlib.Core.Path.{_≡_, refl, sym, _∙_}
 use mathlib.Core.Bool.{Bool, true, false, cond, _&&_}
 use mathlib.Core.List.{List, [], _∷_, _++_, append-nil}
-use Prim.Native.Nat.{ℕ, _/_, _%_, _^_}
+use Prim.Native.Nat.{ℕ, _/_, _%_, _^_, _<_}
 use native.Mathlib.Omega.{arith}
 use lib.Dec.{eqb}
 use borrow.Author.Tests.{eq-eqb, ne-eqb}
@@ -47,6 +47,15 @@ module _ (l d b r : Bool) where
       another 66 76 l rest-d refl ∙ another 66 68 d rest-b refl ∙ this 66 66 b rest-r refl (another 66 82 r [] refl)
   among-listed false false false =
       another 82 76 l rest-d refl ∙ another 82 68 d rest-b refl ∙ another 82 66 b rest-r refl ∙ this 82 82 r [] refl refl
+
+pub place-most : (b : ℕ) → class-place b < 4
+place-most b = go (isLetter b) (isDigit b) (eqb b 32)
+  where
+    go : (x y z : Bool) → cond x 0 (cond y 1 (cond z 2 3)) < 4
+    go true y z = omega arith
+    go false true z = omega arith
+    go false false true = omega arith
+    go false false false = omega arith
 
 -- the bit of the character's class tells it
 module _ (mask b : ℕ) where

@@ -3,4 +3,5 @@ pub mod Classes
 pub mod Counting
 pub mod Equals
 pub mod OnChars
+pub mod OnParts
 pub mod Firsts

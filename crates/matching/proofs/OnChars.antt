@@ -21,10 +21,6 @@ and-true : (b : Bool) → (b && true) ≡ b
 and-true true = refl
 and-true false = refl
 
-or-false : (b : Bool) → (b || false) ≡ b
-or-false true = refl
-or-false false = refl
-
 -- a character and what is left of a component
 same-cut : (b : ℕ) (x : Component) → same (char b) (cut x) ≡ among b (take 1 (chars x))
 same-cut b (word []) = refl
@@ -54,11 +50,11 @@ class-met mask b = and-true (in-class mask b)
 
 module _ (ins : Inputs) (s : Store) where
   -- the tests of characters, as the code has them
-  pub on-class : (mask : ℕ) (g : List ℕ) → on-chars ins s (class (class-by [] mask)) ≡ until-chars (Class mask) g
-  on-class mask g = ap up-to (fun-ext (class-met mask))
+  pub chars-class : (mask : ℕ) (g : List ℕ) → on-chars ins s (class (class-by [] mask)) ≡ until-chars (Class mask) g
+  chars-class mask g = ap up-to (fun-ext (class-met mask))
 
-  pub on-text : (t : List ℕ) → on-chars ins s (text t) ≡ until-chars Among (take 1 t)
-  on-text t = ap up-to (fun-ext (λ b. same-cut b (word t)))
+  pub chars-text : (t : List ℕ) → on-chars ins s (text t) ≡ until-chars Among (take 1 t)
+  chars-text t = ap up-to (fun-ext (λ b. same-cut b (word t)))
 
   module _ (l : Letter) (n : ℕ) where
     abbrev given : List ℕ
@@ -68,11 +64,11 @@ module _ (ins : Inputs) (s : Store) where
     by r = by-reading char cut (λ x. char x ∷ []) ins s r (letter l n)
 
     -- where the letter reads one component, and where it reads any of several
-    pub on-one : by one ≡ until-chars Among given
-    on-one = ap up-to (fun-ext (λ b. first-met b (side ins s (letter l n))))
+    pub chars-one : by one ≡ until-chars Among given
+    chars-one = ap up-to (fun-ext (λ b. first-met b (side ins s (letter l n))))
 
-    pub on-any : by any-of ≡ until-chars Among given
-    on-any = on-one
+    pub chars-any : by any-of ≡ until-chars Among given
+    chars-any = chars-one
 
 -- there are no more first characters than components
 pub firsts-most : (xs : List Component) → length (first-chars xs) ≤ length xs

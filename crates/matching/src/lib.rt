@@ -1,6 +1,6 @@
 // Tests of components and characters in bytes, and how much of a sequence a test takes.
 ghost use mathlib.Core.Path.{_≡_};
-ghost use mathlib.Core.Bool.{not, _&&_};
+ghost use mathlib.Core.Bool.{cond};
 ghost use mathlib.Core.List.{[]};
 ghost use lib.Dec.{eqb};
 ghost use lib.ListN.{length};
@@ -35,20 +35,19 @@ pub struct CharsTaken {
     pub reached: bool,
 }
 
-// Which bit of a mask is that of a character's class.
+fn pick(t: bool, a: u8, b: u8) -> u8
+    ensures { λ r. ⌜ r ≡ cond t a b ⌝ }
+{
+    if t { a } else { b }
+}
+
+// Which bit of a mask is that of a character's class, found without a branch.
 fn class_place(b: u8) -> u8
     ensures { λ r. ⌜ Number (class-place b) 4 r ⌝ }
 {
-    if characters::is_letter(b) {
-        return 0;
-    }
-    if characters::is_digit(b) {
-        return 1;
-    }
-    if b == b' ' {
-        return 2;
-    }
-    3
+    let letter = characters::is_letter(b);
+    let digit = characters::is_digit(b);
+    pick(letter, 0, pick(digit, 1, pick(b == b' ', 2, 3)))
 }
 
 // Whether a character is of a class.
@@ -124,16 +123,6 @@ pub fn reached(test: Test, k: usize) -> bool
     }
 }
 
-// Whether all were words, and the one with first cell `b` is one.
-fn still(words: bool, b: u8) -> bool
-    ensures { λ r. ⌜ r ≡ words && not (eqb b 0) ⌝ }
-{
-    if words {
-        return b != 0;
-    }
-    false
-}
-
 // How much of the components of `s` a test takes.
 pub fn count(s: &[u8], test: Test, given: &[u8]) -> Taken
     requires { ⌜ Countable (now s) test (now given) ⌝ }
@@ -156,7 +145,7 @@ pub fn count(s: &[u8], test: Test, given: &[u8]) -> Taken
             };
         }
         chars += cells::wide(b);
-        words = still(words, b);
+        words = words & (b != 0);
         at = e;
         k += 1;
     }

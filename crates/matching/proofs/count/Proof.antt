@@ -1,8 +1,9 @@
 -- `matching::count` meets its contract.
-use Prim.Native.Nat.{_-_}
-use native.Mathlib.Omega.{arith}
-use lib.ListN.{length}
 use borrow.Author.Needs.{needs}
+use native.Mathlib.Omega.{arith}
+use mathlib.Core.Path.{ap}
+use Prim.Native.Nat.{ℕ, _-_, _+_}
+use lib.ListN.{length}
 use Rattle.layout.specs.ComponentLaws.{one-component}
 use Rattle.components.proofs.Walks.{step}
 use Rattle.matching.specs.Tests.{until}
@@ -58,22 +59,19 @@ wide-requires c κs = search needs
 add-chars : tie.Need-add-chars Inv-loop μ-loop
 add-chars c = search needs
 
-still-requires : tie.Need-still-requires Inv-loop μ-loop
-still-requires c κs = search needs
-
 add-k : tie.Need-add-k Inv-loop μ-loop
 add-k c = search needs
 
 loop-less : tie.Need-loop-less Inv-loop μ-loop
 loop-less c =
-    let s = step (c .before .before .before .before .before .before .before .before .loop .inv .rest) (c .before .before .before .before .before .before .before .loop-test .taken) (c .before .before .before .before .before .size-by .ensures) in
+    let s = step (c .before .before .before .before .before .before .before .loop .inv .rest) (c .before .before .before .before .before .before .loop-test .taken) (c .before .before .before .before .size-by .ensures) in
     omega (arith, s .more, s .fits)
 
 loop-again : tie.Need-loop-again Inv-loop μ-loop
 loop-again c =
-    let h = c .before .before .before .before .before .before .before .before .loop in
-    let s = step (h .inv .rest) (c .before .before .before .before .before .before .before .loop-test .taken) (c .before .before .before .before .before .size-by .ensures) in
-    rw (c .before .wide .ensures .is, c .still .ensures) (going-next (h .inv) s (c .before .before .before .stops .ensures) (c .before .before .if1 .left))
+    let h = c .before .before .before .before .before .before .before .loop in
+    let s = step (h .inv .rest) (c .before .before .before .before .before .before .loop-test .taken) (c .before .before .before .before .size-by .ensures) in
+    rw (c .wide .ensures .is) (going-next (h .inv) s (c .before .before .stops .ensures) (c .before .if1 .left))
 
 reached-requires : tie.Need-reached-requires Inv-loop μ-loop
 reached-requires c κs = search needs
@@ -101,7 +99,6 @@ count-spec =
     returns
     wide-requires
     add-chars
-    still-requires
     add-k
     loop-less
     loop-again
