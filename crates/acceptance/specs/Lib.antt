@@ -1,2 +1,5 @@
 pub mod RowLaws
 pub mod ReaderLaws
+pub mod FreshLaws
+pub mod Reading
+pub mod ReadingLaws

@@ -128,6 +128,44 @@ module _ {X : Type 0} where
       go true h k = omega arith
       go false h k = omega (arith, k h)
 
+  pub any-found : (q : X → Bool) (xs : List X) (d : X) → T (any q xs) → T (q (getD xs (ahead q xs) d))
+  any-found q [] d h = absurd h
+  any-found q (x ∷ xs) d h = go (q x) refl h (any-found q xs d)
+    where
+      go : (b : Bool) → q x ≡ b → T (b || any q xs) → (T (any q xs) → T (q (getD xs (ahead q xs) d)))
+          → T (q (getD (x ∷ xs) (elim b [ true ↦ 0 | false ↦ suc (ahead q xs) ]) d))
+      go true e h k = subst T (sym e) tt
+      go false e h k = k h
+
+  pub any-mapped : {Y : Type 0} (q : Y → Bool) (f : X → Y) (xs : List X) → T (any q (map f xs)) → T (any (λ x. q (f x)) xs)
+  any-mapped q f [] h = h
+  any-mapped q f (x ∷ xs) h = go (q (f x)) h (any-mapped q f xs)
+    where
+      go : (b : Bool) → T (b || any q (map f xs)) → (T (any q (map f xs)) → T (any (λ x. q (f x)) xs)) → T (b || any (λ x. q (f x)) xs)
+      go true h k = tt
+      go false h k = k h
+
+  -- where each that passes the one test passes the other
+  pub any-more : (p q : X → Bool) (xs : List X) → Each (λ x. T (p x) → T (q x)) xs → T (any p xs) → T (any q xs)
+  any-more p q [] e h = h
+  any-more p q (x ∷ xs) e h = go (p x) h (e .0) (any-more p q xs (e .1))
+    where
+      go : (b : Bool) → T (b || any p xs) → (T b → T (q x)) → (T (any p xs) → T (any q xs)) → T (q x || any q xs)
+      go true h f k = or-left (q x) (any q xs) (f tt)
+      go false h f k = or-right (q x) (any q xs) (k h)
+
+  pub any-unkeep : (p q : X → Bool) (xs : List X) → T (any p (keep q xs)) → T (any p xs)
+  any-unkeep p q [] h = h
+  any-unkeep p q (x ∷ xs) h = go (q x) h (any-unkeep p q xs)
+    where
+      go : (b : Bool) → T (any p (cond b (x ∷ keep q xs) (keep q xs))) → (T (any p (keep q xs)) → T (any p xs)) → T (p x || any p xs)
+      go true h k = more (p x) h
+        where
+          more : (c : Bool) → T (c || any p (keep q xs)) → T (c || any p xs)
+          more true h = tt
+          more false h = k h
+      go false h k = or-right (p x) (any p xs) (k h)
+
   pub keep-few : (q : X → Bool) (xs : List X) → length (keep q xs) ≤ length xs
   keep-few q [] = omega arith
   keep-few q (x ∷ xs) = go (q x) (keep-few q xs)
