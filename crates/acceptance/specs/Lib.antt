@@ -3,3 +3,5 @@ pub mod ReaderLaws
 pub mod FreshLaws
 pub mod Reading
 pub mod ReadingLaws
+pub mod Drafts
+pub mod ArgumentRules
