@@ -5,3 +5,5 @@ pub mod Reading
 pub mod ReadingLaws
 pub mod Drafts
 pub mod ArgumentRules
+pub mod StatementLaws
+pub mod DraftLaws

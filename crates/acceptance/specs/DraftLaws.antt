@@ -1,0 +1,187 @@
+-- A statement without faults keeps what holds of the draft.
+use mathlib.Core.Path.{_≡_, refl, ap, sym, _∙_, subst}
+use mathlib.Core.Bool.{Bool, true, false, cond, not, _&&_, _||_}
+use mathlib.Core.List.{List, [], _∷_, _++_, map, map-append, append-assoc, append-nil}
+use Prim.Native.Nat.{ℕ, zero, suc, _+_, _-_, _≤_, _<_}
+use native.Mathlib.Omega.{arith}
+use lib.Dec.{T, T-not, leb, ltb, nltb→le}
+use lib.ListN.{length, take, drop, length-append, length-map}
+use borrow.Author.Tests.{ltb-false}
+use lib.IntN.{ℤ, natAbs}
+use Rattle.lists.specs.Lists.{total, any, filled, headOr, ifAny, keep, each, sameBytes}
+use Rattle.lists.specs.ListLaws.{T-left, T-right, T-both, total-append, sameBytes-refl}
+use Rattle.language.specs.Limits as limit
+use Rattle.language.specs.Program.{identifier, Op, Label}
+use Rattle.language.specs.Values.{sameNumber, numeral, in-range}
+use Rattle.machine.specs.WellFormed.{different}
+use Rattle.layout.specs.Bounds.{Each}
+use Rattle.layout.specs.CellLaws.{each-append, each-left, each-right, each-drop}
+use Rattle.layout.specs.ProgramLaws.{length-each-total}
+use Rattle.syntax.specs.ArgumentForms.{form-in, reads, Argument, read-by, alternatives, arguments-in, arguments, of-form, most, least}
+use Rattle.syntax.specs.Items.{Item, is, places}
+use Rattle.syntax.specs.Items.Sort.{word, colon, text}
+use Rattle.syntax.specs.Questions.{label-faults, repeated, count-faults, instr-faults, switch-faults, beyond, instr-beyond, switch-beyond, questions}
+use Rattle.syntax.specs.Statements.{Keyword, by-keyword, behind, labels-in, operator, operator-at, keyword-of, keyword-in, rest, is-name, list-faults}
+use Rattle.syntax.specs.Statements.Keyword.{none, unknown, SEKCJA, KONS, KONP, switch, instr}
+use Rattle.syntax.specs.Tables.{Written, Choice, Tables, Draft, blank, is-first, all-labels, contents, new-texts, new-numbers, number-in, with-instr, with-switch, draft-after}
+use Rattle.acceptance.specs.RowLaws.{or-left, or-right, append-none, map-none, cond-none, drop-none, keep-none, each-map, each-both, each-keep, each-mapped, each-unmapped, each-unkeep, any-left, any-right, Answered}
+use Rattle.acceptance.specs.ReaderLaws.{Sound-item}
+use Rattle.acceptance.specs.FreshLaws.{none-each, each-none-passes, different-left, different-append}
+use Rattle.acceptance.specs.ReadingLaws.{No-dash, arguments-fit, arguments-read, arguments-of, of-arguments, arguments-count}
+use Rattle.acceptance.specs.Drafts.{Fine-item, in-texts, in-numbers, Kept, Sound-argument, Sound-written, Sound-choice, Sound-label, Sound-tables, Sound-name, own-names, Sound-draft}
+use Rattle.acceptance.specs.ArgumentRules.{word-apart, Readable-item, number-range}
+use Rattle.acceptance.specs.StatementLaws.{fine-items, each-behind, front-names, label-names, sameBytes-sym, texts-after, texts-kept, texts-apart, numbers-after, numbers-kept, numbers-apart, within}
+
+-- What is kept stays kept in longer tables
+
+in-texts-more : (texts new : List (List ℕ)) (w : List ℕ) → T (in-texts texts w) → T (in-texts (texts ++ new) w)
+in-texts-more texts new w h = go (leb (length w) 1) h
+  where
+    go : (b : Bool) → T (b || any (sameBytes w) texts) → T (b || any (sameBytes w) (texts ++ new))
+    go true h = tt
+    go false h = any-left (sameBytes w) texts new h
+
+in-numbers-more : (numbers new : List ℤ) (z : ℤ) → T (in-numbers numbers z) → T (in-numbers (numbers ++ new) z)
+in-numbers-more numbers new z h = go (leb (natAbs z) limit.small) h
+  where
+    go : (b : Bool) → T (b || any (sameNumber z) numbers) → T (b || any (sameNumber z) (numbers ++ new))
+    go true h = tt
+    go false h = any-left (sameNumber z) numbers new h
+
+module _ (n : ℕ) (texts texts′ : List (List ℕ)) (numbers numbers′ : List ℤ)
+    (f : (w : List ℕ) → T (in-texts texts w) → T (in-texts texts′ w)) (g : (z : ℤ) → T (in-numbers numbers z) → T (in-numbers numbers′ z)) where
+  argument-more : (a : Argument) → Sound-argument n texts numbers a → Sound-argument n texts′ numbers′ a
+  argument-more a h =
+      record {
+        as-form = h .as-form;
+        fine = h .fine;
+        kept = record { text-kept = λ k. f (a .item .chars) (h .kept .text-kept k); number-kept = λ k l. g (number-in (a .item)) (h .kept .number-kept k l) };
+      }
+
+  written-more : (i : Written) → Sound-written n texts numbers i → Sound-written n texts′ numbers′ i
+  written-more i h =
+      record { place = h .place; few = h .few; fit = h .fit; each-argument = each-map _ _ argument-more (i .args) (h .each-argument) }
+
+choice-more : (n : ℕ) (texts texts′ : List (List ℕ)) → ((w : List ℕ) → T (in-texts texts w) → T (in-texts texts′ w)) → (c : Choice) → Sound-choice n texts c → Sound-choice n texts′ c
+choice-more n texts texts′ f c h =
+    record { some = h .some; faultless = h .faultless; fine = h .fine; kept = each-map _ _ (λ i e k. f (i .chars) (e k)) (c .list) (h .kept) }
+
+-- An instruction
+
+module _ (n : ℕ) (t : Tables) (ls x : List Item) (op : Op) (fine : Each (Fine-item n) x) where
+  abbrev after-it : List Item
+  after-it = rest x
+
+  rest-fine : Each (Fine-item n) after-it
+  rest-fine = each-drop (Fine-item n) 1 (behind x) (each-behind (Fine-item n) x fine)
+
+  abbrev texts-then : List (List ℕ)
+  texts-then = t .texts ++ contents (new-texts t after-it)
+
+  abbrev numbers-then : List ℤ
+  numbers-then = t .numbers ++ map number-in (new-numbers t after-it)
+
+  module _ (counted : places (drop (most op) (arguments-in after-it)) ≡ []) (faultless : instr-faults x op ≡ []) where
+    abbrev js : List Item
+    js = arguments-in after-it
+
+    record Instr-facts : Type 0 where
+      enough : cond (ltb (length js) (least op)) (places (operator x)) [] ≡ []
+      no-dash : No-dash (arguments op after-it)
+
+    instr-facts : Instr-facts
+    unfolding instr-faults
+    instr-facts =
+        let a = each (λ i. cond (is colon i) (i .at ∷ []) (i .colon)) after-it in
+        let b = cond (ltb (length js) (least op)) (places (operator x)) [] in
+        let c = places (of-form "-" (arguments op after-it)) in
+        let h = append-none (a ++ b) c faultless in
+        let q : Argument → Bool = λ a. form-in "-" (a .form) in
+        record {
+          enough = append-none a b (h .0) .1;
+          no-dash = keep-none q (arguments op after-it) (map-none (λ a. a .item) (keep q (arguments op after-it)) (map-none (λ i. i .at) (of-form "-" (arguments op after-it)) (h .1)));
+        }
+
+    readable : Each (λ i. T (not (is colon i)) → Readable-item i) after-it
+    readable =
+        each-unkeep Readable-item (λ i. not (is colon i)) after-it
+        (of-arguments Readable-item js (alternatives op) (each-map _ _ (λ a h. record { form-of = a .form; as-form = h }) (arguments op after-it) (arguments-read js (alternatives op) (instr-facts .no-dash))))
+
+    numbers-in-range : Each (λ z. T (ltb limit.small (natAbs z) && in-range z)) (t .numbers) → Each (λ z. T (ltb limit.small (natAbs z) && in-range z)) numbers-then
+    numbers-in-range h =
+        numbers-after n t after-it rest-fine (each-map _ _ (λ i r k l. number-range i k l (r (word-apart i k .1))) after-it readable) h
+
+    all-kept : Each (Kept texts-then numbers-then) after-it
+    all-kept =
+        each-map _ _ (λ i e. record { text-kept = e .0; number-kept = e .1 }) after-it
+        (each-both (λ i. T (is text i) → T (in-texts texts-then (i .chars))) (λ i. T (is word i) → T (numeral (i .chars)) → T (in-numbers numbers-then (number-in i))) after-it (texts-kept n t after-it rest-fine) (numbers-kept n t after-it rest-fine))
+
+    arguments-sound : Each (Sound-argument n texts-then numbers-then) (arguments op after-it)
+    arguments-sound =
+        let args = arguments op after-it in
+        let both : Item → Type 0 = λ i. Fine-item n i × Kept texts-then numbers-then i in
+        let items : Each both js = each-keep both (λ i. not (is colon i)) after-it (each-both (Fine-item n) (Kept texts-then numbers-then) after-it rest-fine all-kept) in
+        each-map _ _ (λ a e. record { as-form = e .0; fine = e .1 .0; kept = e .1 .1 }) args
+        (each-both (λ a. T (reads (a .item) (a .form))) (λ a. both (a .item)) args (arguments-read js (alternatives op) (instr-facts .no-dash)) (arguments-of both js (alternatives op) items))
+
+    module _ (there : T (filled (behind x))) where
+      at-operator : operator-at x < n
+      at-operator = go (behind x) there (each-behind (Fine-item n) x fine)
+        where
+          go : (ys : List Item) → T (filled ys) → Each (Fine-item n) ys → ifAny 0 (λ i. i .at) ys < n
+          go [] h k = absurd h
+          go (y ∷ ys) h k = k .0 .sound .place
+
+      not-less : least op ≤ length js
+      not-less = go (behind x) there (ltb (length js) (least op)) refl (instr-facts .enough)
+        where
+          go : (ys : List Item) → T (filled ys) → (b : Bool) → ltb (length js) (least op) ≡ b → cond b (places (take 1 ys)) [] ≡ [] → least op ≤ length js
+          go [] h b e k = absurd h
+          go (y ∷ ys) h true e k = absurd (let z : _≡_ {A = ℕ} 0 1 = cc in omega arith)
+          go (y ∷ ys) h false e k = ltb-false (length js) (least op) e
+
+      written-sound : Sound-written n texts-then numbers-then (record { op = op; at = operator-at x; args = arguments op after-it })
+      written-sound =
+          let fit = arguments-fit op js (drop-none (most op) js (map-none (λ i. i .at) (drop (most op) js) counted)) not-less (instr-facts .no-dash) in
+          record {
+            place = at-operator;
+            few = omega (arith, arguments-count js (alternatives op), fit .1);
+            fit = fit .0;
+            each-argument = arguments-sound;
+          }
+
+      instr-sound : Each (Sound-name n) ls → instr-beyond t ls x ≡ [] → Sound-tables n t → Sound-tables n (with-instr t ls x op)
+      unfolding instr-beyond with-instr
+      instr-sound names few h =
+          let a = beyond limit.instructions (length (t .code)) (places (operator x)) in
+          let b = beyond limit.labels (length (t .labels)) (places ls) in
+          let c = beyond limit.texts (length (t .texts)) (places (new-texts t after-it)) in
+          let d = beyond limit.numbers (length (t .numbers)) (places (new-numbers t after-it)) in
+          let h₁ = append-none (a ++ b ++ c) d few in
+          let h₂ = append-none (a ++ b) c (h₁ .0) in
+          let h₃ = append-none a b (h₂ .0) in
+          let w : Written = record { op = op; at = operator-at x; args = arguments op after-it } in
+          let mk : Item → Label = λ l. record { name = l .chars; target = length (t .code) } in
+          let longer = length-append (t .code) (w ∷ []) in
+          record {
+            code = each-append (Sound-written n texts-then numbers-then) (t .code) (w ∷ [])
+                (each-map _ _ (written-more n (t .texts) texts-then (t .numbers) numbers-then (in-texts-more (t .texts) _) (in-numbers-more (t .numbers) _)) (t .code) (h .code)) (written-sound, tt);
+            labels = each-append (Sound-label (length (t .code ++ (w ∷ [])))) (t .labels) _
+                (each-map _ _ (λ l e. record { name = e .name; short = e .short; target = omega (arith, longer, e .target) }) (t .labels) (h .labels))
+                (each-mapped (Sound-label (length (t .code ++ (w ∷ [])))) _ ls (each-map _ _ (λ l e. record { name = T-right (is word l) (identifier (l .chars)) (e .name); short = e .fine .short; target = omega (arith, longer) }) ls names));
+            switches = each-map _ _ (choice-more n (t .texts) texts-then (in-texts-more (t .texts) _)) (t .switches) (h .switches);
+            texts = texts-after n t after-it rest-fine (h .texts);
+            numbers = numbers-in-range (h .numbers);
+            texts-different = texts-apart n t after-it rest-fine (h .texts-different);
+            numbers-different = numbers-apart n t after-it rest-fine (h .numbers-different);
+            code-few = omega (arith, longer, within limit.instructions (length (t .code)) (operator x) (h₃ .0) (h .code-few), one (behind x) there);
+            labels-few = omega (arith, length-append (t .labels) (map mk ls), length-map ls mk, within limit.labels (length (t .labels)) ls (h₃ .1) (h .labels-few));
+            switches-few = h .switches-few;
+            entries-few = h .entries-few;
+            texts-few = omega (arith, length-append (t .texts) (contents (new-texts t after-it)), length-map (new-texts t after-it) (λ i. i .chars), within limit.texts (length (t .texts)) (new-texts t after-it) (h₂ .1) (h .texts-few));
+            numbers-few = omega (arith, length-append (t .numbers) (map number-in (new-numbers t after-it)), length-map (new-numbers t after-it) number-in, within limit.numbers (length (t .numbers)) (new-numbers t after-it) (h₁ .1) (h .numbers-few));
+          }
+        where
+          one : (ys : List Item) → T (filled ys) → length (take 1 ys) ≡ 1
+          one [] h = absurd h
+          one (y ∷ ys) h = refl
