@@ -21,7 +21,7 @@ use Rattle.syntax.specs.ArgumentForms.{form-in, reads, Argument, read-by, alter
 use Rattle.syntax.specs.Items.{Item, is, places}
 use Rattle.syntax.specs.Items.Sort.{word, colon, text}
 use Rattle.syntax.specs.Questions.{label-faults, repeated, count-faults, instr-faults, switch-faults, beyond, instr-beyond, switch-beyond, questions}
-use Rattle.syntax.specs.Statements.{Keyword, by-keyword, behind, labels-in, operator, operator-at, keyword-of, keyword-in, rest, is-name, list-faults}
+use Rattle.syntax.specs.Statements.{Keyword, same-keyword, by-keyword, behind, labels-in, operator, operator-at, keyword-of, keyword-in, rest, is-name, list-faults}
 use Rattle.syntax.specs.Statements.Keyword.{none, unknown, SEKCJA, KONS, KONP, switch, instr}
 use Rattle.syntax.specs.Tables.{Written, Choice, Tables, Draft, blank, is-first, all-labels, contents, new-texts, new-numbers, number-in, with-instr, with-switch, draft-after}
 use Rattle.acceptance.specs.RowLaws.{or-left, or-right, append-none, map-none, cond-none, drop-none, keep-none, each-map, each-both, each-keep, each-mapped, each-unmapped, each-unkeep, any-left, any-right, Answered}
@@ -185,3 +185,131 @@ module _ (n : ℕ) (t : Tables) (ls x : List Item) (op : Op) (fine : Each (Fine-
           one : (ys : List Item) → T (filled ys) → length (take 1 ys) ≡ 1
           one [] h = absurd h
           one (y ∷ ys) h = refl
+
+-- A switch
+
+module _ (n : ℕ) (t : Tables) (l : Item) (x : List Item) (byName : Bool) (fine : Each (Fine-item n) x) (there : T (filled (behind x))) where
+  abbrev items : List Item
+  items = rest x
+
+  items-fine : Each (Fine-item n) items
+  items-fine = each-drop (Fine-item n) 1 (behind x) (each-behind (Fine-item n) x fine)
+
+  abbrev kept-texts : List (List ℕ)
+  kept-texts = t .texts ++ contents (new-texts t items)
+
+  choice-sound : switch-faults x byName ≡ [] → Sound-choice n kept-texts (record { name = l .chars; byName = byName; list = items })
+  unfolding switch-faults
+  choice-sound h = let k = go (filled items) (behind x) there h in
+      record { some = k .0; faultless = k .1; fine = items-fine; kept = texts-kept n t items items-fine }
+    where
+      go : (b : Bool) (ys : List Item) → T (filled ys) → cond b (list-faults byName false items) (places (take 1 ys)) ≡ [] → T b × (list-faults byName false items ≡ [])
+      go true ys f h = (tt, h)
+      go false [] f h = absurd f
+      go false (y ∷ ys) f h = absurd (let z : _≡_ {A = ℕ} 0 1 = cc in omega arith)
+
+  switch-sound : switch-faults x byName ≡ [] → switch-beyond t x ≡ [] → Sound-tables n t → Sound-tables n (with-switch t (l ∷ []) x byName)
+  unfolding switch-beyond with-switch
+  switch-sound faultless few h =
+      let a = beyond limit.switches (length (t .switches)) (places (operator x)) in
+      let b = beyond limit.entries (length (each (λ c. keep (is word) (c .list)) (t .switches))) (places (keep (is word) items)) in
+      let d = beyond limit.texts (length (t .texts)) (places (new-texts t items)) in
+      let h₁ = append-none (a ++ b) d few in
+      let h₂ = append-none a b (h₁ .0) in
+      let c : Choice = record { name = l .chars; byName = byName; list = items } in
+      let count : Choice → ℕ = λ c. length (keep (is word) (c .list)) in
+      let counted = length-each-total (λ (c : Choice). keep (is word) (c .list)) (t .switches) in
+      record {
+        code = each-map _ _ (written-more n (t .texts) kept-texts (t .numbers) (t .numbers) (in-texts-more (t .texts) _) (λ z k. k)) (t .code) (h .code);
+        labels = h .labels;
+        switches = each-append (Sound-choice n kept-texts) (t .switches) (c ∷ [])
+            (each-map _ _ (choice-more n (t .texts) kept-texts (in-texts-more (t .texts) _)) (t .switches) (h .switches)) (choice-sound faultless, tt);
+        texts = texts-after n t items items-fine (h .texts);
+        numbers = h .numbers;
+        texts-different = texts-apart n t items items-fine (h .texts-different);
+        numbers-different = h .numbers-different;
+        code-few = h .code-few;
+        labels-few = h .labels-few;
+        switches-few = omega (arith, length-append (t .switches) (c ∷ []), within limit.switches (length (t .switches)) (operator x) (h₂ .0) (h .switches-few), one (behind x) there);
+        entries-few = omega (arith, total-append count (t .switches) (c ∷ []), counted, within limit.entries (length (each (λ c. keep (is word) (c .list)) (t .switches))) (keep (is word) items) (h₂ .1) (omega (arith, counted, h .entries-few)));
+        texts-few = omega (arith, length-append (t .texts) (contents (new-texts t items)), length-map (new-texts t items) (λ i. i .chars), within limit.texts (length (t .texts)) (new-texts t items) (h₁ .1) (h .texts-few));
+        numbers-few = h .numbers-few;
+      }
+    where
+      one : (ys : List Item) → T (filled ys) → length (take 1 ys) ≡ 1
+      one [] h = absurd h
+      one (y ∷ ys) h = refl
+
+-- Any statement
+
+-- a keyword that is one stands in the operator
+operator-there : (x : List Item) (k : Keyword) → keyword-in x ≡ k → T (not (same-keyword none k)) → T (filled (behind x))
+unfolding keyword-in
+operator-there x k e h = go (behind x) e
+  where
+    go : (ys : List Item) → ifAny none keyword-of ys ≡ k → T (filled ys)
+    go [] e = absurd (subst (λ (l : Keyword). T (not (same-keyword none l))) (sym e) h)
+    go (y ∷ ys) e = tt
+
+-- 08: a switch has exactly one label
+one-label : (ls ys : List Item) → T (filled ys) → cond (filled ls) (places (drop 1 ls)) (places (take 1 ys)) ≡ [] → (l : Item) × (ls ≡ l ∷ [])
+one-label [] [] f h = absurd f
+one-label [] (y ∷ ys) f h = absurd (let z : _≡_ {A = ℕ} 0 1 = cc in omega arith)
+one-label (l ∷ []) ys f h = (l, refl)
+one-label (l ∷ m ∷ ls) ys f h = absurd (let z : _≡_ {A = ℕ} 0 1 = cc in omega arith)
+
+module _ (n : ℕ) (t : Tables) (ls x : List Item) (fine : Each (Fine-item n) x) (names : Each (Sound-name n) ls) (h : Sound-tables n t) where
+  -- the answers to 08, 01, 02 and 11 by the keyword
+  record Faultless (k : Keyword) : Type 0 where
+    labelled : by-keyword (λ op. []) (λ byName. cond (filled ls) (places (drop 1 ls)) (places (operator x))) [] k ≡ []
+    counted : by-keyword (λ op. places (drop (most op) (arguments-in (rest x)))) (λ byName. []) [] k ≡ []
+    right : by-keyword (instr-faults x) (switch-faults x) [] k ≡ []
+    few : by-keyword (λ op. instr-beyond t ls x) (λ byName. switch-beyond t x) [] k ≡ []
+
+  abbrev tables-by : Keyword → Tables
+  tables-by k = by-keyword (with-instr t ls x) (with-switch t ls x) t k
+
+  tables-sound : (k : Keyword) → keyword-in x ≡ k → Faultless k → Sound-tables n (tables-by k)
+  unfolding by-keyword
+  tables-sound none e f = h
+  tables-sound unknown e f = h
+  tables-sound SEKCJA e f = h
+  tables-sound KONS e f = h
+  tables-sound KONP e f = h
+  tables-sound (switch byName) e f =
+      let there = operator-there x (switch byName) e tt in
+      let l = one-label ls (behind x) there (f .labelled) in
+      subst (λ (ks : List Item). Sound-tables n (with-switch t ks x byName)) (sym (l .1)) (switch-sound n t (l .0) x byName fine there (f .right) (f .few) h)
+  tables-sound (instr op) e f = instr-sound n t ls x op fine (f .counted) (f .right) (operator-there x (instr op) e tt) names (f .few) h
+
+  -- the names of the switches and of the labels that wait, then: those of before and the new labels, or the first of them
+  abbrev names-of : Tables → List (List ℕ)
+  names-of u = map (λ c. c .name) (u .switches)
+
+  names-next : (P : List (List ℕ) → Type 0) → ((v w : List (List ℕ)) → P (v ++ w) → P v) → P (names-of t ++ contents ls)
+      → (k : Keyword) → keyword-in x ≡ k → Faultless k → P (names-of (tables-by k) ++ contents (cond (filled (operator x)) [] ls))
+  unfolding by-keyword with-instr with-switch
+  names-next P left p k e f = go k e f
+    where
+      waits : (b : Bool) → P (names-of t ++ contents (cond b [] ls))
+      waits true = rw (append-nil (names-of t)) (left (names-of t) (contents ls) p)
+      waits false = p
+
+      filled-first : (ys : List Item) → T (filled ys) → filled (take 1 ys) ≡ true
+      filled-first [] h = absurd h
+      filled-first (y ∷ ys) h = refl
+
+      go : (k : Keyword) → keyword-in x ≡ k → Faultless k → P (names-of (tables-by k) ++ contents (cond (filled (operator x)) [] ls))
+      go none e f = waits (filled (operator x))
+      go unknown e f = waits (filled (operator x))
+      go SEKCJA e f = waits (filled (operator x))
+      go KONS e f = waits (filled (operator x))
+      go KONP e f = waits (filled (operator x))
+      go (switch byName) e f =
+          let there = operator-there x (switch byName) e tt in
+          let l = one-label ls (behind x) there (f .labelled) in
+          let c : Choice = record { name = headOr [] (contents ls); byName = byName; list = rest x } in
+          let q : names-of t ++ contents ls ≡ names-of (with-switch t ls x byName) =
+              rw (l .1) (sym (map-append (λ (c : Choice). c .name) (t .switches) (record { name = l .0 .chars; byName = byName; list = rest x } ∷ []))) in
+          rw (filled-first (behind x) there, append-nil (names-of (with-switch t ls x byName))) (subst P q p)
+      go (instr op) e f = waits (filled (operator x))
