@@ -9,7 +9,7 @@ use lib.ListN.{length, take, drop, length-append, length-map}
 use borrow.Author.Tests.{ltb-false}
 use lib.IntN.{ℤ, natAbs}
 use Rattle.lists.specs.Lists.{total, any, filled, headOr, ifAny, keep, each, sameBytes}
-use Rattle.lists.specs.ListLaws.{T-left, T-right, T-both, total-append, sameBytes-refl}
+use Rattle.lists.specs.ListLaws.{T-left, T-right, T-both, total-append, sameBytes-eq, sameBytes-refl}
 use Rattle.language.specs.Limits as limit
 use Rattle.language.specs.Program.{identifier, Op, Label}
 use Rattle.language.specs.Values.{sameNumber, numeral, in-range}
@@ -313,3 +313,109 @@ module _ (n : ℕ) (t : Tables) (ls x : List Item) (fine : Each (Fine-item n) x)
               rw (l .1) (sym (map-append (λ (c : Choice). c .name) (t .switches) (record { name = l .0 .chars; byName = byName; list = rest x } ∷ []))) in
           rw (filled-first (behind x) there, append-nil (names-of (with-switch t ls x byName))) (subst P q p)
       go (instr op) e f = waits (filled (operator x))
+
+-- 06: the new labels differ from all names of before and from each other
+
+fresh-name : (names : List (List ℕ)) (l : Item) (m : List ℕ) → T (not (any (sameBytes m) (names ++ (l .chars ∷ [])))) → T (not (any (sameBytes m) names)) × T (not (sameBytes (l .chars) m))
+fresh-name names l m h =
+    let k = none-each (sameBytes m) (names ++ (l .chars ∷ [])) h in
+    (each-none-passes (sameBytes m) names (each-left (λ w. T (not (sameBytes m w))) names (l .chars ∷ []) k),
+    subst (λ (b : Bool). T (not b)) (sameBytes-sym m (l .chars)) (each-right (λ w. T (not (sameBytes m w))) names (l .chars ∷ []) k .0))
+
+unrepeated : (names : List (List ℕ)) (ls : List Item) → repeated names ls ≡ [] → Each (λ l. T (not (any (sameBytes l) names))) (contents ls) × T (different sameBytes (contents ls))
+unfolding repeated
+unrepeated names [] h = (tt, tt)
+unrepeated names (l ∷ ls) h =
+    let b = any (sameBytes (l .chars)) names in
+    let k = append-none (cond b (l .at ∷ []) []) (repeated (names ++ (l .chars ∷ [])) ls) h in
+    let r = unrepeated (names ++ (l .chars ∷ [])) ls (k .1) in
+    let s = each-map _ (λ m. T (not (any (sameBytes m) names)) × T (not (sameBytes (l .chars) m))) (fresh-name names l) (contents ls) (r .0) in
+    ((absent b (k .0), each-map _ _ (λ m e. e .0) (contents ls) s),
+    T-both (not (any (sameBytes (l .chars)) (contents ls))) (different sameBytes (contents ls)) (each-none-passes (sameBytes (l .chars)) (contents ls) (each-map _ _ (λ m e. e .1) (contents ls) s)) (r .1))
+  where
+    absent : (b : Bool) → cond b (l .at ∷ []) [] ≡ [] → T (not b)
+    absent true h = absurd (let z : _≡_ {A = ℕ} 0 1 = cc in omega arith)
+    absent false h = tt
+
+each-itself : (ws : List (List ℕ)) → Each (λ w. T (any (sameBytes w) ws)) ws
+each-itself [] = tt
+each-itself (w ∷ ws) = (or-left (sameBytes w w) (any (sameBytes w) ws) (sameBytes-refl w), each-map _ _ (λ v h. or-right (sameBytes v w) (any (sameBytes v) ws) h) ws (each-itself ws))
+
+unknown-names : (names own : List (List ℕ)) (m : List ℕ) → Each (λ w. T (any (sameBytes w) names)) own → T (not (any (sameBytes m) names)) → T (not (any (sameBytes m) own))
+unknown-names names own m h k = each-none-passes (sameBytes m) own (each-map _ _ (λ w e. go w e (sameBytes m w) refl) own h)
+  where
+    go : (w : List ℕ) → T (any (sameBytes w) names) → (b : Bool) → sameBytes m w ≡ b → T (not b)
+    go w e true q = absurd (T-not (any (sameBytes m) names) k (subst (λ (v : List ℕ). T (any (sameBytes v) names)) (sym (sameBytes-eq m w (subst T (sym q) tt))) e))
+    go w e false q = tt
+
+-- The draft after a statement
+
+module _ (n : ℕ) (d : Draft) (x : List Item) (h : Sound-draft n d) (sound : Each (Sound-item n) x) (a : Answered (questions d x)) where
+  abbrev new-names : List (List ℕ)
+  new-names = contents (labels-in x)
+
+  fine-here : Each (Fine-item n) x
+  unfolding questions
+  fine-here = fine-items n x sound (a .1 .0) (a .1 .1 .0)
+
+  names-here : Each (Sound-name n) (all-labels d x)
+  unfolding questions
+  names-here =
+      each-append (Sound-name n) (d .waiting) (labels-in x) (h .waiting)
+      (label-names n x fine-here (front-names (is-first d) x (a .1 .1 .1 .0) (a .1 .1 .1 .1 .0)))
+
+  faultless-here : Faultless n (d .tables) (all-labels d x) x fine-here names-here (h .tables) (keyword-in x)
+  unfolding questions label-faults count-faults
+  faultless-here =
+      let b = a .1 .1 .1 .1 .1 in
+      record { labelled = b .0; counted = b .1 .1 .0; right = b .1 .1 .1 .0; few = b .1 .1 .1 .1 .0 }
+
+  new-here : Each (λ l. T (not (any (sameBytes l) (d .names)))) new-names × T (different sameBytes new-names)
+  unfolding questions
+  new-here = unrepeated (d .names) (labels-in x) (a .1 .1 .1 .1 .1 .1 .0)
+
+  abbrev switch-names : List (List ℕ)
+  switch-names = map (λ c. c .name) (d .tables .switches)
+
+  regrouped : own-names d ++ new-names ≡ switch-names ++ contents (all-labels d x)
+  regrouped = append-assoc switch-names (contents (d .waiting)) new-names ∙ ap (λ (w : List (List ℕ)). switch-names ++ w) (sym (map-append (λ (i : Item). i .chars) (d .waiting) (labels-in x)))
+
+  all-different : T (different sameBytes (switch-names ++ contents (all-labels d x)))
+  all-different =
+      subst (λ (w : List (List ℕ)). T (different sameBytes w)) regrouped
+      (different-append sameBytes sameBytes-sym (own-names d) new-names (h .own-different) (new-here .1) (each-map _ _ (λ m k. unknown-names (d .names) (own-names d) m (h .own-known) k) new-names (new-here .0)))
+
+  abbrev Known : List ℕ → Type 0
+  Known w = T (any (sameBytes w) (d .names ++ new-names))
+
+  all-known : Each Known (switch-names ++ contents (all-labels d x))
+  all-known =
+      subst (λ (w : List (List ℕ)). Each Known w) regrouped
+      (each-append Known (own-names d) new-names (each-map _ _ (λ w k. any-left (sameBytes w) (d .names) new-names k) (own-names d) (h .own-known)) (each-map _ _ (λ w k. any-right (sameBytes w) (d .names) new-names k) new-names (each-itself new-names)))
+
+  pub draft-sound : Sound-draft n (draft-after d x)
+  unfolding draft-after
+  draft-sound =
+      let next = names-next n (d .tables) (all-labels d x) x fine-here names-here (h .tables) in
+      record {
+        tables = tables-sound n (d .tables) (all-labels d x) x fine-here names-here (h .tables) (keyword-in x) refl faultless-here;
+        waiting = go (filled (operator x));
+        own-different = next (λ w. T (different sameBytes w)) (different-left sameBytes sameBytes-sym) all-different (keyword-in x) refl faultless-here;
+        own-known = next (λ w. Each Known w) (each-left Known) all-known (keyword-in x) refl faultless-here;
+      }
+    where
+      go : (b : Bool) → Each (Sound-name n) (cond b [] (all-labels d x))
+      go true = tt
+      go false = names-here
+
+pub blank-sound : (n : ℕ) → Sound-draft n blank
+blank-sound n =
+    record {
+      tables = record {
+        code = tt; labels = tt; switches = tt; texts = tt; numbers = tt; texts-different = tt; numbers-different = tt;
+        code-few = omega arith; labels-few = omega arith; switches-few = omega arith; entries-few = omega arith; texts-few = omega arith; numbers-few = omega arith;
+      };
+      waiting = tt;
+      own-different = tt;
+      own-known = tt;
+    }

@@ -9,6 +9,7 @@ use lib.ListN.{length, getD, take, drop, length-drop}
 use Rattle.lists.specs.Lists.{all, any, ahead, keep, each}
 use Rattle.lists.specs.ListLaws.{T-both}
 use Rattle.layout.specs.Bounds.{Each}
+use Rattle.layout.specs.CellLaws.{each-left, each-right}
 use Rattle.syntax.specs.Verdict.{Question, Verdict, decide, first-no}
 use Rattle.syntax.specs.Verdict.Verdict.{refuse}
 
@@ -105,6 +106,14 @@ module _ {X : Type 0} where
   pub each-unmapped : {Y : Type 0} (P : Y → Type 0) (f : X → Y) (xs : List X) → Each P (map f xs) → Each (λ x. P (f x)) xs
   each-unmapped P f [] h = tt
   each-unmapped P f (x ∷ xs) h = (h .0, each-unmapped P f xs (h .1))
+
+  pub each-every : (P : X → Type 0) → ((x : X) → P x) → (xs : List X) → Each P xs
+  each-every P f [] = tt
+  each-every P f (x ∷ xs) = (f x, each-every P f xs)
+
+  pub each-each : {Y : Type 0} (P : Y → Type 0) (f : X → List Y) (xs : List X) → Each P (each f xs) → Each (λ x. Each P (f x)) xs
+  each-each P f [] h = tt
+  each-each P f (x ∷ xs) h = (each-left P (f x) (each f xs) h, each-each P f xs (each-right P (f x) (each f xs) h))
 
   -- Searches
 
