@@ -7,3 +7,4 @@ pub mod Drafts
 pub mod ArgumentRules
 pub mod StatementLaws
 pub mod DraftLaws
+pub mod ProgramRules
