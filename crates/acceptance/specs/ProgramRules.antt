@@ -123,3 +123,154 @@ module _ (s : List ℕ) (t : Tables) where
       (T-both (listed p i && b && c) e (T-both (listed p i && b) c (T-both (listed p i) b (k .in-forms) (k .first-ranged)) (k .second-ranged)) (k .third-ranged))
       (lt→ltb 0 (i .line) (omega (arith, l, line-least s (w .at)))))
       (le→leb (i .line) limit.text (omega (arith, l, short, line-most s (w .at) (h .place))))
+
+-- Switches
+
+text-apart : (k : Sort) → T (same-sort text k) → same-sort word k ≡ false
+text-apart separator h = absurd h
+text-apart word h = absurd h
+text-apart colon h = absurd h
+text-apart end h = absurd h
+text-apart text h = refl
+text-apart wrong h = absurd h
+
+-- a text in a list without faults stands in a switch by name, after an entry
+text-there : (byName before after : Bool) (i : Item) → entry-faults byName before after i ≡ [] → T (is text i) → T (byName && before)
+unfolding entry-faults
+text-there byName before after i h k = go (is text i) (rw (text-apart (i .sort) k) at h) k
+  where
+    go : (b : Bool) → cond (b && byName && before) [] (i .at ∷ []) ≡ [] → T b → T (byName && before)
+    go true h k = cond-none (byName && before) (i .at) [] h
+    go false h k = absurd k
+
+-- what an entry's word or text needs
+record Entered (t : Tables) (i : Item) : Type 0 where
+  text-good : T (is text i) → T (good-text (i .chars))
+  text-held : T (is text i) → T (in-texts (t .texts) (i .chars))
+  label-held : T (is word i) → T (any (λ l. sameBytes (i .chars) (l .name)) (t .labels))
+
+entries-count : (place : List ℕ → ℕ) (js : List Item) → length (entries-in place js) ≡ length (keep (is word) js)
+unfolding entries-in
+entries-count place [] = refl
+entries-count place (i ∷ js) = go (is word i) (entries-count place js)
+  where
+    go : (b : Bool) → length (entries-in place js) ≡ length (keep (is word) js)
+        → length (cond b (record { label = place (i .chars); text = ifAny [] (λ j. cond (is text j) (j .chars) []) js } ∷ []) [] ++ entries-in place js) ≡ length (cond b (i ∷ keep (is word) js) (keep (is word) js))
+    go true h = ap suc h
+    go false h = h
+
+entries-there : (byName : Bool) (place : List ℕ → ℕ) (js : List Item) → T (filled js) → list-faults byName false js ≡ [] → T (filled (entries-in place js))
+unfolding list-faults entry-faults entries-in
+entries-there byName place [] h k = absurd h
+entries-there byName place (i ∷ js) h k =
+    go (is word i) (is text i) _ (append-none (entry-faults byName false (ifAny false (is text) js) i) (list-faults byName (filled (i .colon)) js) k .0)
+  where
+    go : (a b c : Bool) → cond (a && identifier (i .chars)) (cond (byName && c) [] (i .colon)) (cond (b && byName && false) [] (i .at ∷ [])) ≡ []
+        → T (filled (cond a (record { label = place (i .chars); text = ifAny [] (λ j. cond (is text j) (j .chars) []) js } ∷ []) [] ++ entries-in place js))
+    go true b c h = tt
+    go false true c h = absurd (never byName h)
+      where
+        never : (b : Bool) → cond (b && false) [] (i .at ∷ []) ≡ [] → ⊥
+        never true h = let z : _≡_ {A = ℕ} 0 1 = cc in omega arith
+        never false h = let z : _≡_ {A = ℕ} 0 1 = cc in omega arith
+    go false false c h = absurd (let z : _≡_ {A = ℕ} 0 1 = cc in omega arith)
+
+module _ (s : List ℕ) (t : Tables) (byName : Bool) where
+  abbrev entry-of : Item → List Item → Entry
+  entry-of i js = record { label = label-place t (i .chars); text = ifAny [] (λ j. cond (is text j) (j .chars) []) js }
+
+  entry-text-good : (before : Bool) (js : List Item) → list-faults byName before js ≡ [] → Each (Entered t) js
+      → let w = ifAny [] (λ j. cond (is text j) (j .chars) []) js in T (not (filled w) || (byName && good-text w && in-texts (t .texts) w))
+  unfolding list-faults
+  entry-text-good before [] h k = tt
+  entry-text-good before (j ∷ js) h k =
+      go (is text j) refl (append-none (entry-faults byName before (ifAny false (is text) js) j) (list-faults byName (filled (j .colon)) js) h .0)
+    where
+      go : (b : Bool) → is text j ≡ b → entry-faults byName before (ifAny false (is text) js) j ≡ [] → T (not (filled (cond b (j .chars) [])) || (byName && good-text (cond b (j .chars) []) && in-texts (t .texts) (cond b (j .chars) [])))
+      go true e f =
+          let there : T (is text j) = subst T (sym e) tt in
+          let w = j .chars in
+          or-right (not (filled w)) (byName && good-text w && in-texts (t .texts) w)
+          (T-both (byName && good-text w) (in-texts (t .texts) w) (T-both byName (good-text w) (T-left byName before (text-there byName before (ifAny false (is text) js) j f there)) (k .0 .text-good there)) (k .0 .text-held there))
+      go false e f = tt
+
+  entries-good : (before : Bool) (js : List Item) → list-faults byName before js ≡ [] → Each (Entered t) js → T (all (good-entry (program-of s t) byName) (entries-in (label-place t) js))
+  unfolding list-faults entries-in program-of
+  entries-good before [] h k = tt
+  entries-good before (i ∷ js) h k =
+      go (is word i) (k .0 .label-held) (entries-good (filled (i .colon)) js rest (k .1))
+    where
+      rest : list-faults byName (filled (i .colon)) js ≡ []
+      rest = append-none (entry-faults byName before (ifAny false (is text) js) i) (list-faults byName (filled (i .colon)) js) h .1
+
+      go : (b : Bool) → (T b → T (any (λ l. sameBytes (i .chars) (l .name)) (t .labels))) → T (all (good-entry (program-of s t) byName) (entries-in (label-place t) js))
+          → T (all (good-entry (program-of s t) byName) (cond b (entry-of i js ∷ []) [] ++ entries-in (label-place t) js))
+      go true f r =
+          T-both (good-entry (program-of s t) byName (entry-of i js)) (all (good-entry (program-of s t) byName) (entries-in (label-place t) js))
+          (T-both (ltb (label-place t (i .chars)) (length (t .labels))) _
+          (lt→ltb (label-place t (i .chars)) (length (t .labels)) (any-ahead (λ l. sameBytes (i .chars) (l .name)) (t .labels) (f tt)))
+          (entry-text-good (filled (i .colon)) js rest (k .1))) r
+      go false f r = r
+
+switch-good : (s : List ℕ) (t : Tables) (n : ℕ) (c : Choice) → Sound-choice n (t .texts) c → Each (λ i. T (any (λ l. sameBytes (i .chars) (l .name)) (t .labels))) (keep (is word) (c .list))
+    → T (good-switch (program-of s t) (record { byName = c .byName; entries = entries-in (label-place t) (c .list) }))
+unfolding good-switch
+switch-good s t n c h d =
+    let entered : Each (Entered t) (c .list) =
+        each-map _ _ (λ i e. record { text-good = e .0 .good; text-held = e .1 .0; label-held = e .1 .1 }) (c .list)
+        (each-both (Fine-item n) _ (c .list) (h .fine) (each-both (λ i. T (is text i) → T (in-texts (t .texts) (i .chars))) (λ i. T (is word i) → T (any (λ l. sameBytes (i .chars) (l .name)) (t .labels))) (c .list) (h .kept) (each-unkeep _ (is word) (c .list) d))) in
+    T-both (filled (entries-in (label-place t) (c .list))) (all (good-entry (program-of s t) (c .byName)) (entries-in (label-place t) (c .list)))
+    (entries-there (c .byName) (label-place t) (c .list) (h .some) (h .faultless))
+    (entries-good s t (c .byName) false (c .list) (h .faultless) entered)
+
+-- Labels
+
+label-good : (s : List ℕ) (t : Tables) (l : Label) → Sound-label (length (t .code)) l → T (good-label (program-of s t) l)
+unfolding good-label program-of
+label-good s t l h =
+    let b = identifier (l .name) in
+    let c = leb (length (l .name)) limit.item in
+    T-both (b && c) (ltb (l .target) (length (map (instr-of s t) (t .code)))) (T-both b c (h .name) (le→leb (length (l .name)) limit.item (h .short)))
+    (lt→ltb (l .target) (length (map (instr-of s t) (t .code))) (omega (arith, length-map (t .code) (instr-of s t), h .target)))
+
+-- The end of the text: 25, 12 and 13
+
+used : (t : Tables) (fs : String) (q : Item → Bool) → Each (λ i. T (q i)) (given-as fs t) → Each (λ w. Each (λ a. T (form-in fs (a .form)) → T (q (a .item))) (w .args)) (t .code)
+used t fs q h =
+    each-map _ _ (λ w e. each-unkeep (λ a. T (q (a .item))) (λ a. form-in fs (a .form)) (w .args) (each-unmapped (λ i. T (q i)) (λ a. a .item) (keep (λ a. form-in fs (a .form)) (w .args)) e)) (t .code)
+    (each-each (λ i. T (q i)) (λ w. of-form fs (w .args)) (t .code) h)
+
+none-missing : (q : Item → Bool) (js : List Item) → places (keep (λ i. not (q i)) js) ≡ [] → Each (λ i. T (q i)) js
+none-missing q js h = each-map _ _ (λ i e. not-not (q i) e) js (keep-none (λ i. not (q i)) js (map-none (λ i. i .at) (keep (λ i. not (q i)) js) h))
+
+abbrev is-label : Tables → Item → Bool
+is-label t i = any (λ l. sameBytes (i .chars) (l .name)) (t .labels)
+
+abbrev is-switch : Tables → Bool → Item → Bool
+is-switch t byName i = any (λ c. sameBytes (i .chars) (c .name) && Bool·beq byName (c .byName)) (t .switches)
+
+module _ (t : Tables) (labels-there : undeclared-labels t ≡ []) (named-there : undeclared-switches true t ≡ []) (indexed-there : undeclared-switches false t ≡ []) where
+  labels-used : Each (λ i. T (is-label t i)) (used-labels t)
+  unfolding undeclared-labels
+  labels-used = none-missing (is-label t) (used-labels t) labels-there
+
+  switches-used : (b : Bool) → undeclared-switches b t ≡ [] → Each (λ i. T (is-switch t b i)) (given-as (cond b "w" "x") t)
+  unfolding undeclared-switches
+  switches-used b h = none-missing (is-switch t b) (given-as (cond b "w" "x") t) h
+
+  all-declared : Each (λ w. Each (Declared t) (w .args)) (t .code)
+  all-declared =
+      let l = used t "l" (is-label t) (each-left (λ i. T (is-label t i)) (given-as "l" t) (each (λ c. keep (is word) (c .list)) (t .switches)) labels-used) in
+      let w = used t "w" (is-switch t true) (switches-used true named-there) in
+      let x = used t "x" (is-switch t false) (switches-used false indexed-there) in
+      each-map _ _ (λ i e. each-map _ _ (λ a u. record { label-there = u .0; switch-there = by a (u .1 .0) (u .1 .1) }) (i .args) (each-both _ _ (i .args) (e .0) (each-both _ _ (i .args) (e .1 .0) (e .1 .1)))) (t .code)
+      (each-both _ _ (t .code) l (each-both _ _ (t .code) w x))
+    where
+      by : (a : Argument) → (T (form-in "w" (a .form)) → T (is-switch t true (a .item))) → (T (form-in "x" (a .form)) → T (is-switch t false (a .item)))
+          → (b : Bool) → T (form-in (cond b "w" "x") (a .form)) → T (is-switch t b (a .item))
+      by a f g true = f
+      by a f g false = g
+
+  entries-declared : Each (λ c. Each (λ i. T (is-label t i)) (keep (is word) (c .list))) (t .switches)
+  entries-declared =
+      each-each (λ i. T (is-label t i)) (λ c. keep (is word) (c .list)) (t .switches) (each-right (λ i. T (is-label t i)) (given-as "l" t) (each (λ c. keep (is word) (c .list)) (t .switches)) labels-used)
