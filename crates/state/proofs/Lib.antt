@@ -6,3 +6,6 @@ pub mod Expressions
 pub mod Exchanges
 pub mod Beside
 pub mod Control
+pub mod Ties
+pub mod Fits
+pub mod Freed

@@ -1,2 +1,3 @@
 pub mod Working
 pub mod Blocks
+pub mod Limited

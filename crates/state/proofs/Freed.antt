@@ -1,0 +1,217 @@
+-- Reading past elements, using, pointing and exchanging keep a store within the limits; the totals after components or records are removed.
+use mathlib.Core.Path.{_≡_, refl, sym, ap, _∙_}
+use mathlib.Core.Bool.{Bool, true, false, cond, _&&_}
+use mathlib.Core.List.{List, [], _++_}
+use Prim.Native.Nat.{ℕ, pred, _+_, _≤_, _<_}
+use native.Mathlib.Omega.{arith}
+use lib.ListN.{length, getD, take, drop, set, length-set}
+use Rattle.language.specs.Letters.Letter.{E, P}
+use Rattle.language.specs.Letters.{Var}
+use Rattle.language.specs.Letters.Var.{expression, input, output, file}
+use Rattle.language.specs.Program.{Arg, Program}
+use Rattle.language.specs.Values.{Component, Record, File, Store, Inputs, chars, empty-file}
+use Rattle.lists.specs.Lists.{total}
+use Rattle.lists.specs.ListLaws.{failing, total-append, total-split, total-put, total-exchange}
+use Rattle.machine.specs.Arguments.{place, use-by, expr, file-of, records}
+use Rattle.machine.specs.Changes.{with-exprs, with-files, with-plus, with-places, put, put-expr, put-file, minus-unless, past-file, past-by, past, used-by, used, records-to, pointed, held, recorded}
+use Rattle.machine.specs.Effects.{exchanged}
+use Rattle.machine.specs.SumLaws.{held-put-expr, recorded-put-expr, held-put-file, recorded-put-file}
+use Rattle.layout.specs.Memory.{components-held, chars-held, records-held}
+use Rattle.state.specs.Limited.{short-word, Limited}
+use Rattle.state.specs.Working.{nth, removing, filing}
+
+module _ (s : Store) (h : Limited s) where
+  -- expressions that count no more
+  limited-exprs : (es : List (List Component)) → length es ≡ length (s .exprs)
+      → ((g : Component → ℕ) → total (total g) es ≤ total (total g) (s .exprs)) → Limited (with-exprs es s)
+  unfolding with-exprs held recorded
+  limited-exprs es q c =
+      record {
+        exprs-is = q ∙ h .exprs-is;
+        files-is = h .files-is;
+        outputs-is = h .outputs-is;
+        components-most = omega (arith, h .components-most, c (λ x. 1));
+        chars-most = omega (arith, h .chars-most, c (λ x. length (chars x)));
+        words-short = omega (arith, h .words-short, c (failing short-word));
+        records-most = h .records-most;
+        outputs-short = h .outputs-short;
+      }
+
+  -- files that count no more
+  limited-files : (fs : List File) (m : ℕ) → length fs ≡ length (s .files)
+      → ((g : Record → ℕ) → total (λ f. total g (records f)) fs ≤ total (λ f. total g (records f)) (s .files)) → Limited (with-files fs m s)
+  unfolding with-files held recorded
+  limited-files fs m q c =
+      record {
+        exprs-is = h .exprs-is;
+        files-is = q ∙ h .files-is;
+        outputs-is = h .outputs-is;
+        components-most = omega (arith, h .components-most, c (λ r. total (λ x. 1) (r .parts)));
+        chars-most = omega (arith, h .chars-most, c (λ r. total (λ x. length (chars x)) (r .parts)));
+        words-short = omega (arith, h .words-short, c (λ r. total (failing short-word) (r .parts)));
+        records-most = omega (arith, h .records-most, c (λ r. 1));
+        outputs-short = h .outputs-short;
+      }
+
+  limited-put-expr : (a : Arg) (xs : List Component) → ((g : Component → ℕ) → total g xs ≤ total g (expr s a)) → Limited (put-expr a xs s)
+  unfolding put-expr
+  limited-put-expr a xs c =
+      limited-exprs (put (s .exprs) a xs) (length-set (s .exprs) (pred (place a)) xs)
+      (λ g. omega (arith, c g, total-put (total g) [] refl (s .exprs) (pred (place a)) xs))
+
+  limited-put-file : (a : Arg) (xs ys : List Record) → ((g : Record → ℕ) → total g (xs ++ ys) ≤ total g (records (file-of s a))) → Limited (put-file a xs ys s)
+  unfolding put-file
+  limited-put-file a xs ys c =
+      let f : File = record { before = xs; after = ys } in
+      limited-files (put (s .files) a f) (s .last) (length-set (s .files) (pred (place a)) f)
+      (λ g. omega (arith, c g, total-put (λ f. total g (records f)) empty-file refl (s .files) (pred (place a)) f))
+
+  -- H and read places
+  pub limited-plus : (b : Bool) → Limited (with-plus b s)
+  unfolding with-plus held recorded
+  limited-plus b =
+      record {
+        exprs-is = h .exprs-is;
+        files-is = h .files-is;
+        outputs-is = h .outputs-is;
+        components-most = h .components-most;
+        chars-most = h .chars-most;
+        words-short = h .words-short;
+        records-most = h .records-most;
+        outputs-short = h .outputs-short;
+      }
+
+  pub limited-minus-unless : (b : Bool) → Limited (minus-unless b s)
+  unfolding minus-unless
+  limited-minus-unless b = limited-plus (b && s .plus)
+
+  limited-places : (ps : List ℕ) → Limited (with-places ps s)
+  unfolding with-places held recorded
+  limited-places ps =
+      record {
+        exprs-is = h .exprs-is;
+        files-is = h .files-is;
+        outputs-is = h .outputs-is;
+        components-most = h .components-most;
+        chars-most = h .chars-most;
+        words-short = h .words-short;
+        records-most = h .records-most;
+        outputs-short = h .outputs-short;
+      }
+
+  -- ---- reading past, using, pointing, exchanging
+
+  limited-off : (b : Bool) (a : Arg) (k : ℕ) → Limited (cond b (put-expr a (drop k (expr s a)) s) s)
+  limited-off true a k = limited-put-expr a (drop k (expr s a)) (λ g. omega (arith, total-split g k (expr s a)))
+  limited-off false a k = h
+
+  limited-past-file : (b : Bool) (a : Arg) (k : ℕ) → Limited (past-file b a k s)
+  unfolding past-file
+  limited-past-file true a k =
+      let f = file-of s a in
+      limited-put-file a (f .before) (drop k (f .after))
+      (λ g. omega (arith, total-append g (f .before) (drop k (f .after)), total-append g (f .before) (f .after), total-split g k (f .after)))
+  limited-past-file false a k =
+      let f = file-of s a in
+      limited-put-file a (f .before ++ take k (f .after)) (drop k (f .after))
+      (λ g. omega (arith, total-append g (f .before ++ take k (f .after)) (drop k (f .after)), total-append g (f .before) (take k (f .after)), total-append g (f .before) (f .after), total-split g k (f .after)))
+
+  limited-past-by : (v : Var) (a : Arg) (k : ℕ) → Limited (past-by v a k s)
+  unfolding past-by
+  limited-past-by expression a k = limited-off (use-by a .removes) a k
+  limited-past-by input a k = limited-places (put (s .places) a (getD (s .places) (pred (place a)) 0 + k))
+  limited-past-by output a k = h
+  limited-past-by file a k = limited-past-file (use-by a .removes) a k
+
+  pub limited-past : (a : Arg) (k : ℕ) → Limited (past a k s)
+  unfolding past
+  limited-past a k = limited-past-by (use-by a .var) a k
+
+  limited-used-by : (v : Var) (a : Arg) → Limited (used-by v a s)
+  unfolding used-by
+  limited-used-by expression a = limited-past-by expression a 1
+  limited-used-by input a = h
+  limited-used-by output a = h
+  limited-used-by file a = h
+
+  pub limited-used : (a : Arg) → Limited (used a s)
+  unfolding used
+  limited-used a = limited-used-by (use-by a .var) a
+
+  pub limited-pointed : (a : Arg) (n : ℕ) → Limited (pointed a n s)
+  unfolding pointed
+  limited-pointed a n =
+      let rs = records (file-of s a) in
+      let k = records-to n rs in
+      limited-put-file a (take k rs) (drop k rs) (λ g. omega (arith, total-append g (take k rs) (drop k rs), total-split g k rs))
+
+  pub limited-exchanged : (p : Program) (ins : Inputs) (v : Var) (a b : Arg) → Limited (exchanged p ins s v a b)
+  unfolding exchanged put-expr put-file with-exprs with-files
+  limited-exchanged p ins expression a b =
+      limited-exprs (put (put (s .exprs) a (expr s b)) b (expr s a))
+      (length-set (put (s .exprs) a (expr s b)) (pred (place b)) (expr s a) ∙ length-set (s .exprs) (pred (place a)) (expr s b))
+      (λ g. total-exchange [] (total g) refl (s .exprs) (pred (place a)) (pred (place b)))
+  limited-exchanged p ins input a b = h
+  limited-exchanged p ins output a b = h
+  limited-exchanged p ins file a b =
+      limited-files (put (put (s .files) a (file-of s b)) b (file-of s a)) (s .last)
+      (length-set (put (s .files) a (file-of s b)) (pred (place b)) (file-of s a) ∙ length-set (s .files) (pred (place a)) (file-of s b))
+      (λ g. total-exchange empty-file (λ f. total g (records f)) refl (s .files) (pred (place a)) (pred (place b)))
+
+-- ---- the totals after components or records are removed, and after the pointer moves
+
+module _ (s : Store) (i k : ℕ) where
+  module _ (l : i < length (s .exprs)) where
+    pub held-off : (g : Component → ℕ) → held g (past (nth removing i) k s) + total g (take k (expr s (nth E i))) ≡ held g s
+    unfolding past past-by
+    held-off g = omega (arith, held-put-expr (nth removing i) s g (drop k (expr s (nth E i))) l, total-split g k (expr s (nth E i)))
+
+    pub recorded-off : (g : Record → ℕ) → recorded g (past (nth removing i) k s) ≡ recorded g s
+    unfolding past past-by
+    recorded-off g = recorded-put-expr (nth removing i) s g (drop k (expr s (nth E i)))
+
+  module _ (l : i < length (s .files)) where
+    abbrev f : File
+    f = file-of s (nth P i)
+
+    split-off : (g : Record → ℕ) → total g (f .before ++ drop k (f .after)) + total g (take k (f .after)) ≡ total g (records f)
+    split-off g = omega (arith, total-append g (f .before) (drop k (f .after)), total-append g (f .before) (f .after), total-split g k (f .after))
+
+    pub held-records-off : (g : Component → ℕ)
+        → held g (past (nth (filing true) i) k s) + total (λ r. total g (r .parts)) (take k (f .after)) ≡ held g s
+    unfolding past past-by past-file
+    held-records-off g =
+        omega (arith, held-put-file (nth (filing true) i) s g (f .before) (drop k (f .after)) l, split-off (λ r. total g (r .parts)))
+
+    pub recorded-records-off : (g : Record → ℕ) → recorded g (past (nth (filing true) i) k s) + total g (take k (f .after)) ≡ recorded g s
+    unfolding past past-by past-file
+    recorded-records-off g = omega (arith, recorded-put-file (nth (filing true) i) s g (f .before) (drop k (f .after)) l, split-off g)
+
+    -- the pointer moves past them
+    split-on : (g : Record → ℕ) → total g ((f .before ++ take k (f .after)) ++ drop k (f .after)) ≡ total g (records f)
+    split-on g =
+        omega (
+          arith,
+          total-append g (f .before ++ take k (f .after)) (drop k (f .after)),
+          total-append g (f .before) (take k (f .after)),
+          total-append g (f .before) (f .after),
+          total-split g k (f .after),
+        )
+
+    pub held-records-on : (g : Component → ℕ) → held g (past (nth (filing false) i) k s) ≡ held g s
+    unfolding past past-by past-file
+    held-records-on g =
+        omega (
+          arith,
+          held-put-file (nth (filing false) i) s g (f .before ++ take k (f .after)) (drop k (f .after)) l,
+          split-on (λ r. total g (r .parts)),
+        )
+
+    pub recorded-records-on : (g : Record → ℕ) → recorded g (past (nth (filing false) i) k s) ≡ recorded g s
+    unfolding past past-by past-file
+    recorded-records-on g =
+        omega (
+          arith,
+          recorded-put-file (nth (filing false) i) s g (f .before ++ take k (f .after)) (drop k (f .after)) l,
+          split-on g,
+        )
