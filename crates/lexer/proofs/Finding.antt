@@ -11,7 +11,7 @@ use lib.ListN.{length, getD, take, drop, length-take, length-drop, drop-of-lengt
 use lib.Seq.{drop-drop}
 use borrow.Author.Tests.{eqb-true, ne-eqb}
 use Rattle.lists.specs.TableLaws.{below}
-use Rattle.syntax.specs.Items.{Sort, sort-of, sort-number, Item, a-text}
+use Rattle.syntax.specs.Items.{Sort, sort-of, sort-number, Item, is, a-text}
 use Rattle.syntax.specs.Items.Sort.{separator, word, colon, end, text, wrong}
 use Rattle.syntax.specs.Scan.{word-length, text-length, text-chars, text-allowed, is-closed, Found, text-found, found-here, found-in, found-after}
 use Rattle.syntax.specs.Scan.Found.{no-item, found}
@@ -32,6 +32,10 @@ sort-of-number wrong = refl
 
 pub number-of-sort : (k : ℕ) → k < 6 → sort-number (sort-at k) ≡ k
 number-of-sort k h = eqb→eq (sort-number (sort-at k)) k (below (λ j. eqb (sort-number (sort-at j)) j) 6 tt k h)
+
+-- the sort of a token's item
+pub is-sort : (q : Sort) (s : List ℕ) (t : Token) → t .sort < 6 → is q (item-of s t) ≡ eqb (sort-number q) (t .sort)
+is-sort q s t h = rw (number-of-sort (t .sort) h) refl
 
 number-most : (k : Sort) → sort-number k < 6
 number-most separator = omega arith

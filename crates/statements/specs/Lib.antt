@@ -1,0 +1,3 @@
+pub mod StatementAt
+pub mod StatementLaws
+pub mod PlaceLaws

@@ -1,0 +1,160 @@
+-- The places of a statement's items ascend: no item stands before the place where the reader began.
+use mathlib.Core.Path.{_≡_, refl, ap, sym, subst, _∙_}
+use mathlib.Core.Bool.{Bool, true, false, cond, _&&_, _||_}
+use mathlib.Core.List.{List, [], _∷_, _++_}
+use Prim.Native.Nat.{ℕ, _+_, _≤_, _<_, min}
+use native.Mathlib.Nat.{min-eq-left}
+use native.Mathlib.Omega.{arith}
+use lib.Dec.{T, leb, eqb, leb→le, le→leb}
+use lib.ListN.{length, getD, take, drop}
+use Rattle.lists.specs.Lists.{all, headOr, ifAny, keep}
+use Rattle.lists.specs.ListLaws.{T-both, T-left, T-right, all-head, all-tail, all-keep}
+use Rattle.syntax.specs.Items.{Sort, sort-of, same-sort, Item, is, places, ends-text, Mode, opens, closes, begins, itself, mode-after, items-at, left-over, read, attach, named, parted, statements}
+use Rattle.syntax.specs.Items.Sort.{separator, word, colon, end, text, wrong}
+use Rattle.syntax.specs.Items.Stage.{first-star, inside, last-slash}
+use Rattle.syntax.specs.Items.Mode.{outside, in-word, in-comment, in-text}
+use Rattle.syntax.specs.Verdict.{lowest}
+use Rattle.lexer.specs.declared.Token.{Token}
+use Rattle.lexer.specs.Tokens.{item-of, items-from, Next-token}
+use Rattle.statements.specs.declared.Fault.{Fault}
+use Rattle.statements.specs.declared.Fault.the-variants.{Clear, At}
+use Rattle.statements.specs.StatementAt.{statement-at, stops, fault-of, faults-at}
+use Rattle.statements.specs.StatementLaws.{at-stop, at-item}
+
+abbrev pub stands-from : ℕ → Item → Bool
+stands-from p i = leb p (i .at)
+
+abbrev pub all-from : ℕ → List Item → Bool
+all-from p js = all (stands-from p) js
+
+all-joined : (p : ℕ) (xs ys : List Item) → T (all-from p xs) → T (all-from p ys) → T (all-from p (xs ++ ys))
+all-joined p [] ys h k = k
+all-joined p (x ∷ xs) ys h k = T-both (stands-from p x) (all-from p (xs ++ ys)) (all-head (stands-from p) x xs h) (all-joined p xs ys (all-tail (stands-from p) x xs h) k)
+
+-- what the reader has begun, it began at p or later
+abbrev began : ℕ → Mode → Type 0
+began p outside = Unit {0}
+began p (in-word at w) = p ≤ at
+began p (in-comment at k) = p ≤ at
+began p (in-text at star cs good) = p ≤ at
+
+one : (p n : ℕ) → p ≤ n → T (leb p n && true)
+one p n h = T-both (leb p n) true (le→leb p n h) tt
+
+itself-from : (k : Sort) (p n b next : ℕ) → p ≤ n → T (all-from p (itself k n b next))
+unfolding itself
+itself-from separator p n b next h = tt
+itself-from word p n b next h = tt
+itself-from colon p n b next h = one p n h
+itself-from end p n b next h = one p n h
+itself-from text p n b next h = tt
+itself-from wrong p n b next h = go (opens b next)
+  where
+    go : (t : Bool) → T (all-from p (cond t [] (Rattle.syntax.specs.Items.a-mark wrong n ∷ [])))
+    go true = tt
+    go false = one p n h
+
+begins-from : (k : Sort) (p n b next : ℕ) → p ≤ n → began p (begins k n b next)
+unfolding begins
+begins-from separator p n b next h = tt
+begins-from word p n b next h = h
+begins-from colon p n b next h = tt
+begins-from end p n b next h = tt
+begins-from text p n b next h = h
+begins-from wrong p n b next h = go (opens b next)
+  where
+    go : (t : Bool) → began p (cond t (in-comment n first-star) outside)
+    go true = h
+    go false = tt
+
+abbrev Step : ℕ → Mode → ℕ → ℕ → ℕ → Type 0
+Step p m n b next = T (all-from p (items-at m n b next)) × began p (mode-after m n b next)
+
+step-from : (m : Mode) (p n b next : ℕ) → p ≤ n → began p m → Step p m n b next
+unfolding items-at mode-after
+step-from outside p n b next h g = (itself-from (sort-of b) p n b next h, begins-from (sort-of b) p n b next h)
+step-from (in-word at w) p n b next h g = go (same-sort word (sort-of b)) refl
+  where
+    go : (t : Bool) → same-sort word (sort-of b) ≡ t → Step p (in-word at w) n b next
+    go true e = rw e (tt, g)
+    go false e = rw e (T-both (leb p at) (all-from p (itself (sort-of b) n b next)) (le→leb p at g) (itself-from (sort-of b) p n b next h), begins-from (sort-of b) p n b next h)
+step-from (in-comment at first-star) p n b next h g = (tt, g)
+step-from (in-comment at inside) p n b next h g = (tt, g)
+step-from (in-comment at last-slash) p n b next h g = (tt, tt)
+step-from (in-text at star cs good) p n b next h g = go (ends-text star b) refl
+  where
+    rest : (t : Bool) → T (all-from p (cond t [] (Rattle.syntax.specs.Items.a-mark end n ∷ [])))
+    rest true = tt
+    rest false = one p n h
+
+    go : (t : Bool) → ends-text star b ≡ t → Step p (in-text at star cs good) n b next
+    go true e = rw e (T-both (leb p at) (all-from p (cond (eqb b 39) [] (Rattle.syntax.specs.Items.a-mark end n ∷ []))) (le→leb p at g) (rest (eqb b 39)), tt)
+    go false e = rw e (tt, g)
+
+left-from : (m : Mode) (p : ℕ) → began p m → T (all-from p (left-over m))
+unfolding left-over
+left-from outside p g = tt
+left-from (in-word at w) p g = one p at g
+left-from (in-comment at k) p g = one p at g
+left-from (in-text at star cs good) p g = one p at g
+
+read-from : (m : Mode) (p n : ℕ) (r : List ℕ) → p ≤ n → began p m → T (all-from p (read m n r))
+unfolding read
+read-from m p n [] h g = left-from m p g
+read-from m p n (b ∷ r) h g =
+    let next : ℕ = getD r 0 0 in
+    let q = step-from m p n b next h g in
+    all-joined p (items-at m n b next) (read (mode-after m n b next) (n + 1) r) (q .0) (read-from (mode-after m n b next) p (n + 1) r (omega arith) (q .1))
+
+all-drop : (p k : ℕ) (js : List Item) → T (all-from p js) → T (all-from p (drop 1 js))
+all-drop p k [] h = tt
+all-drop p k (j ∷ js) h = all-tail (stands-from p) j js h
+
+attach-from : (p : ℕ) (i : Item) (js : List Item) → T (leb p (i .at)) → T (all-from p js) → T (all-from p (attach i js))
+unfolding attach
+attach-from p i js h k = go (is word i && ifAny false (is colon) js)
+  where
+    go : (t : Bool) → T (all-from p (cond t (record { at = i .at; sort = word; chars = i .chars; good = i .good; colon = places (take 1 js) } ∷ drop 1 js) (i ∷ js)))
+    go true = T-both (leb p (i .at)) (all-from p (drop 1 js)) h (all-drop p 1 js k)
+    go false = T-both (leb p (i .at)) (all-from p js) h k
+
+named-from : (p : ℕ) (js : List Item) → T (all-from p js) → T (all-from p (named js))
+unfolding named
+named-from p [] h = tt
+named-from p (i ∷ js) h = attach-from p i (named js) (all-head (stands-from p) i js h) (named-from p js (all-tail (stands-from p) i js h))
+
+first-from : (p : ℕ) (js : List Item) → T (all-from p js) → T (all-from p (headOr [] (statements js)))
+unfolding statements parted
+first-from p [] h = tt
+first-from p (i ∷ js) h = go (is end i) (first-from p js (all-tail (stands-from p) i js h))
+  where
+    go : (t : Bool) → T (all-from p (headOr [] (statements js))) → T (all-from p (headOr [] (cond t ([] ∷ statements js) ((i ∷ headOr [] (statements js)) ∷ drop 1 (statements js)))))
+    go true k = tt
+    go false k = T-both (leb p (i .at)) (all-from p (headOr [] (statements js))) (all-head (stands-from p) i js h) k
+
+-- all items of the statement at n stand at n or later
+pub statement-from : (s : List ℕ) (n p : ℕ) → p ≤ n → T (all-from p (statement-at s n))
+unfolding statement-at
+statement-from s n p h = first-from p (items-from s n) (named-from p _ (read-from outside p n (drop n s) h tt))
+
+-- so the first at fault is the lowest
+lowest-first : (p : ℕ) (js : List Item) → T (all-from p js) → lowest p (places js) ≡ p
+unfolding lowest
+lowest-first p [] h = refl
+lowest-first p (j ∷ js) h =
+    let e : min p (j .at) ≡ p = min-eq-left (leb→le p (j .at) (all-head (stands-from p) j js h)) in
+    ap (λ (m : ℕ). lowest m (places js)) e ∙ lowest-first p js (all-tail (stands-from p) j js h)
+
+pub first-fault : (q : Item → Bool) (s : List ℕ) (p n : ℕ) → p ≤ n → fault-of (p ∷ faults-at q s n) ≡ At p
+first-fault q s p n h = ap At (lowest-first p (keep q (statement-at s n)) (all-keep (stands-from p) q (statement-at s n) (statement-from s n p h)))
+
+-- A question of each item, from token to token: there are no more; this one is at fault; or it is not, and the rest decides
+module _ (q : Item → Bool) (s : List ℕ) (n : ℕ) (t : Token) (k : Next-token s n t) where
+  pub none-at-fault : stops (t .sort) ≡ true → fault-of (faults-at q s n) ≡ Clear
+  none-at-fault z = rw (at-stop s n t k z) refl
+
+  pub at-fault : stops (t .sort) ≡ false → q (item-of s t) ≡ true → fault-of (faults-at q s n) ≡ At (t .at)
+  at-fault z e = rw (at-item s n t k z, e) (first-fault q s (t .at) (t .next) (omega (arith, k .stands .own, k .stands .behind)))
+
+  pub not-at-fault : stops (t .sort) ≡ false → q (item-of s t) ≡ false → faults-at q s n ≡ faults-at q s (t .next)
+  not-at-fault z e = rw (at-item s n t k z, e) refl

@@ -1,0 +1,53 @@
+-- The statement that begins at a place of the text s, and the place behind its end. And what its readers promise.
+use mathlib.Core.Path.{_≡_}
+use mathlib.Core.Bool.{Bool, true, false, cond, _||_}
+use mathlib.Core.List.{List, [], _∷_}
+use Prim.Native.Nat.{ℕ, _+_, _≤_, _<_}
+use lib.Dec.{eqb}
+use lib.ListN.{length, drop}
+use Rattle.lists.specs.Lists.{headOr, keep}
+use Rattle.syntax.specs.Items.{Item, is, places, statements, statements-from}
+use Rattle.syntax.specs.Items.Sort.{end, wrong}
+use Rattle.syntax.specs.Verdict.{lowest}
+use Rattle.lexer.specs.declared.Token.{Token}
+use Rattle.lexer.specs.Tokens.{items-from}
+use Rattle.statements.specs.declared.Fault.{Fault}
+use Rattle.statements.specs.declared.Fault.the-variants.{Clear, At}
+use Rattle.statements.specs.declared.Ending.{Ending}
+
+-- the statements from place n on, and the first of them
+abbrev pub statements-at : List ℕ → ℕ → List (List Item)
+statements-at s n = statements-from n (drop n s)
+
+unfoldable pub statement-at : List ℕ → ℕ → List Item
+statement-at s n = headOr [] (statements-at s n)
+
+-- a token's sort that ends a statement: none, or an end
+abbrev pub stops : ℕ → Bool
+stops k = eqb k 0 || eqb k 3
+
+-- the place behind the first end, if there is one
+unfoldable pub behind-end : List Item → List ℕ
+behind-end [] = []
+behind-end (i ∷ js) = cond (is end i) ((i .at + 1) ∷ []) (behind-end js)
+
+-- The statement at n is the last one, or the next begins at e .next
+pub record Ended (s : List ℕ) (n : ℕ) (e : Ending) : Type 0 where
+  pub from : n ≤ e .next
+  pub most : e .next ≤ length s
+  pub more : e .last ≡ false → n < e .next
+  pub place : behind-end (items-from s n) ≡ cond (e .last) [] (e .next ∷ [])
+  pub is : statements-at s n ≡ statement-at s n ∷ cond (e .last) [] (statements-at s (e .next))
+
+-- the places at fault: none, or the lowest of them
+abbrev pub fault-of : List ℕ → Fault
+fault-of [] = Clear
+fault-of (p ∷ ps) = At (lowest p ps)
+
+-- the places of the statement's items that q finds at fault
+abbrev pub faults-at : (Item → Bool) → List ℕ → ℕ → List ℕ
+faults-at q s n = places (keep q (statement-at s n))
+
+-- 14: a byte that may not stand there, or an open comment
+abbrev pub wrong-at : List ℕ → ℕ → List ℕ
+wrong-at s n = faults-at (is wrong) s n
