@@ -92,10 +92,16 @@ all-getD q d z [] h k = z
 all-getD q d z (x ∷ xs) h zero = all-head q x xs h
 all-getD q d z (x ∷ xs) h (suc k) = all-getD q d z xs (all-tail q x xs h) k
 
+-- "Instructions (41)", numbered from 1
+pub operator-range : (o : Op) → (0 < operation o .number) × (operation o .number ≤ 41)
+operator-range o =
+    let n : ℕ = operation o .number in
+    let numbered : Op → Bool = λ x. ltb 0 (operation x .number) && leb (operation x .number) 41 in
+    let h : T (numbered o) = subst (λ x. T (numbered x)) (operator-back o) (all-getD numbered STOP tt operators tt (pred n)) in
+    (ltb→lt 0 n (T-left (ltb 0 n) (leb n 41) h), leb→le n 41 (T-right (ltb 0 n) (leb n 41) h))
+
 pub operator-below : (o : Op) → operation o .number < 64
-operator-below o =
-    let small : Op → Bool = λ x. ltb (operation x .number) 64 in
-    ltb→lt (operation o .number) 64 (subst (λ x. T (small x)) (operator-back o) (all-getD small STOP tt operators tt (pred (operation o .number))))
+operator-below o = omega (arith, operator-range o)
 
 pub letter-most : (l : Letter) → letter-place l ≤ 12
 letter-most l = ahead-le (λ x. eqb (letter-code l) (letter-code x)) letters
@@ -141,7 +147,7 @@ kind-of k v h = omega arith
 value-of : (k v : ℕ) → k < 8 → (k + 8 * v) / 8 ≡ v
 value-of k v h = omega arith
 
-T-or : (a b : Bool) → T b → T (a || b)
+pub T-or : (a b : Bool) → T b → T (a || b)
 T-or true b h = tt
 T-or false b h = h
 
@@ -233,12 +239,14 @@ pub class-mask-most : (cs : List ℕ) → class-mask cs ≤ 15
 class-mask-most cs = omega (arith, bit-most (among 76 cs) 1, bit-most (among 68 cs) 2, bit-most (among 66 cs) 4, bit-most (among 82 cs) 8)
 
 module _ (p : Program) where
-  pub text-ref-most : (t : List ℕ) → KeptText p t → text-ref p t ≤ 256 + length (p .texts)
-  text-ref-most [] h = omega arith
-  text-ref-most (b ∷ []) h = omega (arith, one-byte p b h)
-  text-ref-most (a ∷ b ∷ t) h =
+  pub text-ref-below : (t : List ℕ) → KeptText p t → text-ref p t < 256 + length (p .texts)
+  text-ref-below [] h = omega arith
+  text-ref-below (b ∷ []) h = omega (arith, one-byte p b h)
+  text-ref-below (a ∷ b ∷ t) h =
       let w : List ℕ = a ∷ b ∷ t in
-      rw (lt-leb (length w) 1 (omega arith)) (omega (arith, ahead-le (sameBytes w) (p .texts)))
+      let long : leb (length w) 1 ≡ false = lt-leb (length w) 1 (omega arith) in
+      let k : T (leb (length w) 1 || any (sameBytes w) (p .texts)) = T-right (good-text w) (kept-text p w) h in
+      rw long (omega (arith, found (sameBytes w) [] (p .texts) (subst (λ x. T (x || any (sameBytes w) (p .texts))) long k) .1))
 
   pub number-ref-most : (z : ℤ) → number-ref p z ≤ 31 + length (p .numbers)
   number-ref-most z = go (leb (natAbs z) limit.small) refl
@@ -256,5 +264,5 @@ module _ (p : Program) where
   arg-cell-below k (label j) h = omega (arith, k .facts .labels-few, ltb→lt j (length (p .labels)) h)
   arg-cell-below k (switch j) h = omega (arith, k .facts .switches-few, ltb→lt j (length (p .switches)) h)
   arg-cell-below k (class cs) h = omega (arith, class-mask-most cs)
-  arg-cell-below k (text t) h = omega (arith, k .facts .texts-few, text-ref-most t (T-or (not (filled t)) (good-text t && kept-text p t) h))
+  arg-cell-below k (text t) h = omega (arith, k .facts .texts-few, text-ref-below t (T-or (not (filled t)) (good-text t && kept-text p t) h))
   arg-cell-below k (Arg.number z) h = omega (arith, k .facts .numbers-few, number-ref-most z)

@@ -17,7 +17,7 @@ use Rattle.language.specs.Instructions.{operation, operator-of}
 use Rattle.language.specs.Program.{Arg, Instr, Label, Entry, Switch, Program, no-instr, no-label, no-switch, no-entry}
 use Rattle.machine.specs.Facts.{InstrFacts, LabelFacts}
 use Rattle.machine.specs.WellFormed.{ranged, good-program}
-use Rattle.layout.specs.ArgumentLaws.{bit-most, operator-back, operator-below, text-back, arg-back, arg-cell-below, text-ref-most}
+use Rattle.layout.specs.ArgumentLaws.{bit-most, operator-back, operator-below, text-back, arg-back, arg-cell-below, text-ref-below}
 use Rattle.layout.specs.Bounds.{Below, TextOk, EntryOk, ProgramOk, Tabled}
 use Rattle.layout.specs.CellLaws.{each-in, below-append, below-zeros, each-below, map-below, code-below, uncode-code, length-each, length-fours, fours-below, take-unfours, tab-ext, length-padded, padded-below, block-at, first-cell, next-cell, padded-at, getD-map-at, getD-each, each-within, each-most}
 use Rattle.layout.specs.Cells.{cell, fours, code, tab, padded}
@@ -57,7 +57,7 @@ switch-cells-below from [] h = tt
 switch-cells-below from (w ∷ ws) h =
     (omega (arith, h, bit-most (w .byName) 1), switch-cells-below (from + length (w .entries)) ws (omega (arith, h)))
 
-switch-parts : (b : Bool) (m n : ℕ) → m < 256
+pub switch-parts : (b : Bool) (m n : ℕ) → m < 256
     → let x : ℕ = cond b 1 0 + 2 * m + 512 * n in (eqb (x % 2) 1 ≡ b) × (x / 2 % 256 ≡ m) × (x / 512 ≡ n)
 switch-parts true m n h = (eq-eqb ((1 + 2 * m + 512 * n) % 2) 1 (omega arith), omega arith, omega arith)
 switch-parts false m n h = (ne-eqb ((0 + 2 * m + 512 * n) % 2) 1 (λ e. omega (arith, e)), omega arith, omega arith)
@@ -168,13 +168,26 @@ module _ (p : Program) (h : ProgramOk p) where
   arg-read : (k : ℕ) (a : Arg) → T (ranged p a) → cell c k ≡ arg-cell p a → arg-in c k ≡ a
   arg-read k a r e = rw e (arg-back p c texts-read numbers-read a r)
 
+  -- the cells of instruction i
+  pub instr-at-cell : (i : ℕ) → i < length (p .code)
+      → let x : Instr = getD (p .code) i no-instr in cell c (8 + 4 * i) ≡ operation (x .op) .number + 64 * x .line
+  instr-at-cell i b =
+      let x : Instr = getD (p .code) i no-instr in
+      let q = block-at 4 (instr-cells p) (λ i. refl) c behind-1 8 2048 no-instr (p .code) i at-1 b in
+      first-cell c (instr-cells p x) (q .0) (8 + 4 * i) (q .1) (omega arith)
+
+  pub arg-at-cell : (i : ℕ) → i < length (p .code) → (j : ℕ) → j < 4 → cell c (j + (8 + 4 * i)) ≡ cell (instr-cells p (getD (p .code) i no-instr)) j
+  arg-at-cell i b =
+      let x : Instr = getD (p .code) i no-instr in
+      let q = block-at 4 (instr-cells p) (λ i. refl) c behind-1 8 2048 no-instr (p .code) i at-1 b in
+      next-cell c (instr-cells p x) (q .0) (8 + 4 * i) (q .1)
+
   instr-read : (i : ℕ) → i < length (p .code) → instr-in c i ≡ getD (p .code) i no-instr
   instr-read i b =
       let x : Instr = getD (p .code) i no-instr in
       let k : ℕ = 8 + 4 * i in
-      let q = block-at 4 (instr-cells p) (λ i. refl) c behind-1 8 2048 no-instr (p .code) i at-1 b in
-      let at : (j : ℕ) → j < 4 → cell c (j + k) ≡ cell (instr-cells p x) j = next-cell c (instr-cells p x) (q .0) k (q .1) in
-      let first : cell c k ≡ operation (x .op) .number + 64 * x .line = first-cell c (instr-cells p x) (q .0) k (q .1) (omega arith) in
+      let at : (j : ℕ) → j < 4 → cell c (j + k) ≡ cell (instr-cells p x) j = arg-at-cell i b in
+      let first : cell c k ≡ operation (x .op) .number + 64 * x .line = instr-at-cell i b in
       let ok : InstrFacts p x = each-in (InstrFacts p) (p .code) (h .code-ok) i no-instr b in
       let e1 : cell c k % 64 ≡ operation (x .op) .number = rw first (omega (arith, operator-below (x .op))) in
       let o : operator-of (cell c k % 64) ≡ x .op = rw e1 (operator-back (x .op)) in
@@ -200,11 +213,13 @@ module _ (p : Program) (h : ProgramOk p) where
 
   -- ---- switches and entries
 
+  pub entry-at-cell : (k : ℕ) → k < length (all-entries p) → cell c (6184 + k) ≡ entry-cell p (getD (all-entries p) k no-entry)
+  entry-at-cell k b = padded-at c (map (entry-cell p) (all-entries p)) behind-5 6184 128 at-5 k (rw length-map b) ∙ getD-map-at (entry-cell p) (all-entries p) k no-entry 0 b
+
   entry-read : (k : ℕ) → k < length (all-entries p) → entry-in c k ≡ getD (all-entries p) k no-entry
   entry-read k b =
       let x : Entry = getD (all-entries p) k no-entry in
-      let e : cell c (6184 + k) ≡ entry-cell p x =
-      padded-at c (map (entry-cell p) (all-entries p)) behind-5 6184 128 at-5 k (rw length-map b) ∙ getD-map-at (entry-cell p) (all-entries p) k no-entry 0 b in
+      let e : cell c (6184 + k) ≡ entry-cell p x = entry-at-cell k b in
       let ok : EntryOk p x = each-in (EntryOk p) (all-entries p) (h .entries-ok) k no-entry b in
       let l : cell c (6184 + k) % 128 ≡ x .label = rw e (omega (arith, ok .label-below, h .facts .labels-few)) in
       let r : cell c (6184 + k) / 128 ≡ text-ref p (x .text) = rw e (omega (arith, ok .label-below, h .facts .labels-few)) in
@@ -214,13 +229,18 @@ module _ (p : Program) (h : ProgramOk p) where
   abbrev entries-of : Switch → List Entry
   entries-of w = w .entries
 
+  pub switch-at-cell : (i : ℕ) → i < length (p .switches)
+      → cell c (6152 + i) ≡ switch-cell (total (λ x. length (x .entries)) (take i (p .switches))) (getD (p .switches) i no-switch)
+  switch-at-cell i b =
+      let n : ℕ = total (λ x. length (entries-of x)) (take i (p .switches)) in
+      padded-at c (switch-cells 0 (p .switches)) behind-4 6152 32 at-4 i (rw length-switch-cells b) ∙ switch-cells-at (p .switches) 0 n i b (omega arith)
+
   switch-read : (i : ℕ) → i < length (p .switches) → switch-in c i ≡ getD (p .switches) i no-switch
   switch-read i b =
       let w : Switch = getD (p .switches) i no-switch in
       let n : ℕ = total (λ x. length (entries-of x)) (take i (p .switches)) in
       let len : ℕ = length (w .entries) in
-      let e : cell c (6152 + i) ≡ switch-cell n w =
-      padded-at c (switch-cells 0 (p .switches)) behind-4 6152 32 at-4 i (rw length-switch-cells b) ∙ switch-cells-at (p .switches) 0 n i b (omega arith) in
+      let e : cell c (6152 + i) ≡ switch-cell n w = switch-at-cell i b in
       let most : len < 256 = omega (arith, each-most entries-of no-switch (p .switches) i b, h .entries-most) in
       let q = switch-parts (w .byName) len n most in
       let s : eqb (cell c (6152 + i) % 2) 1 ≡ w .byName = rw e (q .0) in
@@ -255,7 +275,7 @@ module _ (p : Program) (h : ProgramOk p) where
   text-below t k = (omega (arith, k .most), fours-below 15 t (k .below))
 
   entry-below : (e : Entry) → EntryOk p e → entry-cell p e < 4294967296
-  entry-below e k = omega (arith, k .label-below, h .facts .labels-few, h .facts .texts-few, text-ref-most p (e .text) (k .text-kept))
+  entry-below e k = omega (arith, k .label-below, h .facts .labels-few, h .facts .texts-few, text-ref-below p (e .text) (k .text-kept))
 
   number-below : (z : ℤ) → natAbs z ≤ limit.size → code z < 4294967296
   number-below z k = omega (arith, code-below z k)
