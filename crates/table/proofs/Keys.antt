@@ -1,0 +1,169 @@
+-- Names, texts by their references, and the keys of entries.
+use mathlib.Core.Path.{_≡_, refl, sym, ap, _∙_, subst}
+use mathlib.Core.Bool.{Bool, true, false, cond, _&&_}
+use mathlib.Core.List.{List, [], _∷_, _++_}
+use Prim.Native.Nat.{ℕ, zero, suc, _+_, _-_, _*_, _/_, _%_, _≤_, _<_, min}
+use native.Mathlib.Omega.{arith}
+use lib.Dec.{T, eqb}
+use native.Mathlib.Numerals.{add-one}
+use lib.ListN.{length, getD, take, drop, drop-of-length-le}
+use lib.Seq.{getD-take, getD-drop, drop-cons}
+use borrow.Author.Tests.{eq-eqb, ne-eqb, lt-ltb, le-ltb}
+use Rattle.language.specs.Program.{Label, Entry, no-entry, key-of, label-at}
+use Rattle.layout.specs.CellLaws.{length-tab, getD-tab}
+use Rattle.layout.specs.Cells.{cell, unfours}
+use Rattle.layout.specs.Table.{chars-in, text-in, text-by, label-in, entry-in, program-in, program-of}
+use Rattle.lists.specs.Lists.{ahead, filled, sameBytes}
+use Rattle.packed.specs.Packed.{table-of, Is, Copied}
+use Rattle.table.specs.Reads.{entries-from, met}
+use Rattle.table.specs.ReadLaws.{label-is}
+use Rattle.packed.proofs.Bytes.{fifteen, fifteen-long, chars-length, and-true, other-length}
+
+-- a text by its reference
+module _ (t : List ℕ) (v : ℕ) where
+  pub text-none : v ≡ 0 → text-by t v ≡ []
+  text-none e = rw (eq-eqb v 0 e)
+
+  pub text-one : (v ≡ 0 → ⊥) → v < 256 → text-by t v ≡ v ∷ []
+  text-one e h = rw (ne-eqb v 0 e, lt-ltb v 256 h)
+
+  pub text-many : 256 ≤ v → text-by t v ≡ text-in t (v - 256)
+  text-many h = rw (ne-eqb v 0 (λ e. omega (arith, e)), le-ltb v 256 h)
+
+-- lengths
+module _ (c : List ℕ) (long : 8192 ≤ length c) where
+  chars-size : (n at r : ℕ) → at + 15 ≤ 8192 → r ≡ min n 60 → Is (length (chars-in (table-of c) n at)) 61 r
+  chars-size n at r h e = record { is = e ∙ sym (chars-length c at h long n); most = omega arith }
+
+  pub name-size : (k x r : ℕ) → k < 128 → x ≡ cell (table-of c) (2056 + 16 * k) → r ≡ min (x % 64) 60 → Is (length (label-in (table-of c) k .name)) 61 r
+  name-size k x r h e f =
+      subst (λ (y : ℕ). Is (length (chars-in (table-of c) (y % 64) (1 + (2056 + 16 * k)))) 61 r) e (chars-size (x % 64) (1 + (2056 + 16 * k)) r (omega arith) f)
+
+  pub text-size : (v x r : ℕ) → v < 384 → 256 ≤ v → x ≡ cell (table-of c) (4104 + 16 * (v - 256)) → r ≡ min x 60 → Is (length (text-by (table-of c) v)) 61 r
+  text-size v x r h k e f =
+      subst (λ (l : List ℕ). Is (length l) 61 r) (sym (text-many (table-of c) v k))
+      (subst (λ (y : ℕ). Is (length (chars-in (table-of c) y (4105 + 16 * (v - 256)))) 61 r) e (chars-size x (4105 + 16 * (v - 256)) r (omega arith) f))
+
+-- a name and a text compared with a word: x is what was read where the length stands
+module _ (c w : List ℕ) (x : ℕ) (r : Bool) where
+  pub name-spelled : (k : ℕ) → x ≡ cell (table-of c) (2056 + 16 * k) → r ≡ sameBytes (chars-in (table-of c) (x % 64) (1 + (2056 + 16 * k))) w
+      → r ≡ sameBytes (label-in (table-of c) k .name) w
+  name-spelled k e h = subst (λ (y : ℕ). r ≡ sameBytes (chars-in (table-of c) (y % 64) (1 + (2056 + 16 * k))) w) e h
+
+  pub text-spelled : (v : ℕ) → 256 ≤ v → x ≡ cell (table-of c) (4104 + 16 * (v - 256)) → r ≡ sameBytes (chars-in (table-of c) x (4105 + 16 * (v - 256))) w
+      → r ≡ sameBytes (text-by (table-of c) v) w
+  text-spelled v k e h =
+      subst (λ (l : List ℕ). r ≡ sameBytes l w) (sym (text-many (table-of c) v k)) (subst (λ (y : ℕ). r ≡ sameBytes (chars-in (table-of c) y (4105 + 16 * (v - 256))) w) e h)
+
+-- and copied
+module _ (c o z : List ℕ) (x r : ℕ) where
+  pub name-copied : (k : ℕ) → x ≡ cell (table-of c) (2056 + 16 * k) → Copied (chars-in (table-of c) (x % 64) (1 + (2056 + 16 * k))) o z r
+      → Copied (label-in (table-of c) k .name) o z r
+  name-copied k e h = subst (λ (y : ℕ). Copied (chars-in (table-of c) (y % 64) (1 + (2056 + 16 * k))) o z r) e h
+
+  pub text-copied : (v : ℕ) → 256 ≤ v → x ≡ cell (table-of c) (4104 + 16 * (v - 256)) → Copied (chars-in (table-of c) x (4105 + 16 * (v - 256))) o z r
+      → Copied (text-by (table-of c) v) o z r
+  text-copied v k e h =
+      subst (λ (l : List ℕ). Copied l o z r) (sym (text-many (table-of c) v k)) (subst (λ (y : ℕ). Copied (chars-in (table-of c) y (4105 + 16 * (v - 256))) o z r) e h)
+
+-- a word of one character
+pub one-other : (b : ℕ) (w : List ℕ) → (length w ≡ 1 → ⊥) → false ≡ sameBytes (b ∷ []) w
+one-other b w h = sym (other-length (b ∷ []) w (λ e. h (sym e)))
+
+pub one-same : (b : ℕ) (w : List ℕ) → length w ≡ 1 → eqb b (getD w 0 0) ≡ sameBytes (b ∷ []) w
+one-same b [] h = absurd (omega (arith, h))
+one-same b (x ∷ []) h = and-true (eqb b x)
+one-same b (x ∷ y ∷ w) h = absurd (omega (arith, h))
+
+pub none-same : (w : List ℕ) → eqb (length w) 0 ≡ sameBytes [] w
+none-same [] = refl
+none-same (x ∷ w) = ne-eqb (suc (length w)) 0 (λ e. omega (arith, e))
+
+-- the first character of a text
+pub head-small : (t : List ℕ) (v : ℕ) → v < 256 → v ≡ cell (text-by t v) 0
+head-small t zero h = refl
+head-small t (suc v) h = sym (ap (λ (l : List ℕ). cell l 0) (text-one t (suc v) (λ e. omega (arith, e)) h))
+
+head-of : (l : List ℕ) (n : ℕ) → (n ≡ 0 → ⊥) → 0 < length l → cell l 0 % 256 ≡ cell (take n (unfours l)) 0
+unfolding unfours
+head-of l zero h k = absurd (h refl)
+head-of [] (suc n) h k = absurd (omega (arith, k))
+head-of (x ∷ l) (suc n) h k = refl
+
+module _ (c : List ℕ) (v : ℕ) (low : 256 ≤ v) (high : v < 384) (x : ℕ) (e : x ≡ cell (table-of c) (4104 + 16 * (v - 256))) where
+  pub head-none : x ≡ 0 → 0 ≡ cell (text-by (table-of c) v) 0
+  head-none z =
+      let q : cell (table-of c) (4104 + 16 * (v - 256)) ≡ 0 = sym e ∙ z in
+      sym (ap (λ (l : List ℕ). cell l 0) (text-many (table-of c) v low ∙ ap (λ (n : ℕ). chars-in (table-of c) n (4105 + 16 * (v - 256))) q))
+
+  pub head-some : 8192 ≤ length c → (x ≡ 0 → ⊥) → (y r : ℕ) → y ≡ cell (table-of c) (4105 + 16 * (v - 256)) → r ≡ y % 256 → r ≡ cell (text-by (table-of c) v) 0
+  head-some long z y r f g =
+      let at : ℕ = 4105 + 16 * (v - 256) in
+      let a : cell (fifteen c at) 0 ≡ cell (table-of c) at =
+      getD-take 15 (drop at (table-of c)) 0 0 (omega arith) ∙ getD-drop at (table-of c) 0 0 ∙ ap (cell (table-of c)) (let p : at + 0 ≡ at = omega arith in p) in
+      g ∙ ap (λ (n : ℕ). n % 256) (f ∙ sym a) ∙ head-of (fifteen c at) x z (rw (fifteen-long c at (omega arith) long) (omega arith))
+      ∙ ap (λ (n : ℕ). cell (chars-in (table-of c) n at) 0) e ∙ sym (ap (λ (l : List ℕ). cell l 0) (text-many (table-of c) v low))
+
+-- the key of an entry
+module _ (c : List ℕ) (e x : ℕ) (is : x ≡ cell (table-of c) (6184 + e)) where
+  pub key-by-name : x / 128 ≡ 0 → x % 128 < cell (table-of c) 1 → label-in (table-of c) (x % 128) .name ≡ key-of (program-of c) (entry-in (table-of c) e)
+  key-by-name z h =
+      ap (λ (l : Label). l .name) (sym (label-is c (x % 128) h))
+      ∙ ap (λ (l : List ℕ). cond (filled l) l (label-at (program-of c) (x % 128) .name)) (sym (text-none (table-of c) (x / 128) z))
+      ∙ ap (λ (y : ℕ). cond (filled (text-by (table-of c) (y / 128))) (text-by (table-of c) (y / 128)) (label-at (program-of c) (y % 128) .name)) is
+
+  some : (b : Bool) (l m : List ℕ) → T b → l ≡ cond b l m
+  some true l m h = refl
+  some false l m h = absurd h
+
+  pub key-by-text : T (filled (text-by (table-of c) (x / 128))) → text-by (table-of c) (x / 128) ≡ key-of (program-of c) (entry-in (table-of c) e)
+  key-by-text h =
+      some (filled (text-by (table-of c) (x / 128))) (text-by (table-of c) (x / 128)) (label-at (program-of c) (x % 128) .name) h
+      ∙ ap (λ (y : ℕ). cond (filled (text-by (table-of c) (y / 128))) (text-by (table-of c) (y / 128)) (label-at (program-of c) (y % 128) .name)) is
+
+-- the first entry that is met: one turn of the search, its success and its end
+module _ {X : Type 0} (q : X → Bool) (d : X) (xs : List X) (k : ℕ) where
+  abbrev at-or-after : ℕ
+  at-or-after = k + ahead q (drop k xs)
+
+  ahead-by : (b : Bool) → k < length xs → q (getD xs k d) ≡ b → ahead q (drop k xs) ≡ elim b [ true ↦ 0 | false ↦ suc (ahead q (drop (suc k) xs)) ]
+  ahead-by b h e = ap (ahead q) (drop-cons xs k d h) ∙ ap (λ (z : Bool). elim z as (λ y. ℕ) [ true ↦ 0 | false ↦ suc (ahead q (drop (suc k) xs)) ]) e
+
+  ahead-here : k < length xs → q (getD xs k d) ≡ true → at-or-after ≡ k
+  ahead-here h e = omega (arith, ahead-by true h e)
+
+  ahead-later : k < length xs → q (getD xs k d) ≡ false → at-or-after ≡ k + 1 + ahead q (drop (k + 1) xs)
+  ahead-later h e = omega (arith, ahead-by false h e, ap (λ (n : ℕ). ahead q (drop n xs)) (add-one k))
+
+  ahead-last : length xs ≤ k → at-or-after ≡ k
+  ahead-last h = rw (drop-of-length-le xs h) (omega arith)
+
+module _ (c w : List ℕ) (e n k : ℕ) where
+  abbrev entries : List Entry
+  entries = entries-from (table-of c) e n
+
+  abbrev is-met : Entry → Bool
+  is-met x = sameBytes (key-of (program-of c) x) w
+
+  -- where the search stands before entry k
+  abbrev pub Searched : Type 0
+  Searched = met c w entries ≡ k + ahead is-met (drop k entries)
+
+  long-enough : length entries ≡ n
+  long-enough = length-tab n (λ j. entry-in (table-of c) (e + j))
+
+  met-here : k < n → (b : Bool) → b ≡ is-met (entry-in (table-of c) (e + k)) → is-met (getD entries k no-entry) ≡ b
+  met-here h b f = ap is-met (getD-tab n (λ j. entry-in (table-of c) (e + j)) k no-entry h) ∙ sym f
+
+  pub search-found : Searched → k < n → true ≡ is-met (entry-in (table-of c) (e + k)) → k ≡ met c w entries
+  search-found s h f = sym (s ∙ ahead-here is-met no-entry entries k (rw long-enough h) (met-here h true f))
+
+  pub search-end : Searched → k ≡ n → n ≡ met c w entries
+  search-end s h = sym h ∙ sym (s ∙ ahead-last is-met no-entry entries k (omega (arith, long-enough)))
+
+pub search-start : (c w : List ℕ) (e n : ℕ) → Searched c w e n 0
+search-start c w e n = omega arith
+
+pub search-on : (c w : List ℕ) (e n k : ℕ) → Searched c w e n k → k < n → false ≡ sameBytes (key-of (program-of c) (entry-in (table-of c) (e + k))) w → Searched c w e n (k + 1)
+search-on c w e n k s h f =
+    s ∙ ahead-later (is-met c w e n k) no-entry (entries c w e n k) k (rw (long-enough c w e n k) h) (met-here c w e n k h false f)

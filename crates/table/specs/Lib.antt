@@ -1,0 +1,7 @@
+pub mod Denote
+pub mod Reads
+pub mod ReadLaws
+pub mod Good
+pub mod GoodLaws
+pub mod FormLaws
+pub mod MetLaws
