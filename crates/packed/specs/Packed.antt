@@ -9,11 +9,6 @@ use Rattle.language.specs.Limits as limit
 abbrev pub table-of : List ℕ → List ℕ
 table-of c = take limit.table c
 
--- r is the number n, which is below top
-pub record Is (n top r : ℕ) : Type 0 where
-  pub is : r ≡ n
-  pub most : r < top
-
 -- the 15 cells from cell at on are in the table
 pub record Fifteen (c : List ℕ) (at : ℕ) : Type 0 where
   pub long : limit.table ≤ length c

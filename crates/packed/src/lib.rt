@@ -3,14 +3,15 @@ ghost use mathlib.Core.Path.{_≡_};
 ghost use mathlib.Core.List.{[], _∷_, _++_};
 ghost use Prim.Native.Nat.{_+_, _-_, _≤_, _<_, min};
 ghost use lib.ListN.{length, take, drop};
+ghost use Rattle.cells.specs.Cells.{Number};
 ghost use Rattle.layout.specs.Cells.{four, unfours};
 ghost use Rattle.layout.specs.Table.{chars-in};
 ghost use Rattle.lists.specs.Lists.{sameBytes};
-ghost use Rattle.packed.specs.Packed.{table-of, Is, Fifteen, Spelling, Rest, Copyable, RestRoom, Copied};
+ghost use Rattle.packed.specs.Packed.{table-of, Fifteen, Spelling, Rest, Copyable, RestRoom, Copied};
 use language::Machine;
 
 fn wide(b: u8) -> u32
-    ensures { λ r. ⌜ Is b 256 r ⌝ }
+    ensures { λ r. ⌜ Number b 256 r ⌝ }
 {
     b as u32
 }

@@ -14,7 +14,8 @@ use Rattle.layout.specs.CellLaws.{length-tab, getD-tab}
 use Rattle.layout.specs.Cells.{cell, unfours}
 use Rattle.layout.specs.Table.{chars-in, text-in, text-by, label-in, entry-in, program-in, program-of}
 use Rattle.lists.specs.Lists.{ahead, filled, sameBytes}
-use Rattle.packed.specs.Packed.{table-of, Is, Copied}
+use Rattle.cells.specs.Cells.{Number}
+use Rattle.packed.specs.Packed.{table-of, Copied}
 use Rattle.table.specs.Reads.{entries-from, met}
 use Rattle.table.specs.ReadLaws.{label-is}
 use Rattle.packed.proofs.Bytes.{fifteen, fifteen-long, chars-length, and-true, other-length}
@@ -32,17 +33,17 @@ module _ (t : List ℕ) (v : ℕ) where
 
 -- lengths
 module _ (c : List ℕ) (long : 8192 ≤ length c) where
-  chars-size : (n at r : ℕ) → at + 15 ≤ 8192 → r ≡ min n 60 → Is (length (chars-in (table-of c) n at)) 61 r
+  chars-size : (n at r : ℕ) → at + 15 ≤ 8192 → r ≡ min n 60 → Number (length (chars-in (table-of c) n at)) 61 r
   chars-size n at r h e = record { is = e ∙ sym (chars-length c at h long n); most = omega arith }
 
-  pub name-size : (k x r : ℕ) → k < 128 → x ≡ cell (table-of c) (2056 + 16 * k) → r ≡ min (x % 64) 60 → Is (length (label-in (table-of c) k .name)) 61 r
+  pub name-size : (k x r : ℕ) → k < 128 → x ≡ cell (table-of c) (2056 + 16 * k) → r ≡ min (x % 64) 60 → Number (length (label-in (table-of c) k .name)) 61 r
   name-size k x r h e f =
-      subst (λ (y : ℕ). Is (length (chars-in (table-of c) (y % 64) (1 + (2056 + 16 * k)))) 61 r) e (chars-size (x % 64) (1 + (2056 + 16 * k)) r (omega arith) f)
+      subst (λ (y : ℕ). Number (length (chars-in (table-of c) (y % 64) (1 + (2056 + 16 * k)))) 61 r) e (chars-size (x % 64) (1 + (2056 + 16 * k)) r (omega arith) f)
 
-  pub text-size : (v x r : ℕ) → v < 384 → 256 ≤ v → x ≡ cell (table-of c) (4104 + 16 * (v - 256)) → r ≡ min x 60 → Is (length (text-by (table-of c) v)) 61 r
+  pub text-size : (v x r : ℕ) → v < 384 → 256 ≤ v → x ≡ cell (table-of c) (4104 + 16 * (v - 256)) → r ≡ min x 60 → Number (length (text-by (table-of c) v)) 61 r
   text-size v x r h k e f =
-      subst (λ (l : List ℕ). Is (length l) 61 r) (sym (text-many (table-of c) v k))
-      (subst (λ (y : ℕ). Is (length (chars-in (table-of c) y (4105 + 16 * (v - 256)))) 61 r) e (chars-size x (4105 + 16 * (v - 256)) r (omega arith) f))
+      subst (λ (l : List ℕ). Number (length l) 61 r) (sym (text-many (table-of c) v k))
+      (subst (λ (y : ℕ). Number (length (chars-in (table-of c) y (4105 + 16 * (v - 256)))) 61 r) e (chars-size x (4105 + 16 * (v - 256)) r (omega arith) f))
 
 -- a name and a text compared with a word: x is what was read where the length stands
 module _ (c w : List ℕ) (x : ℕ) (r : Bool) where

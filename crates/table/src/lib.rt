@@ -5,10 +5,11 @@ ghost use Prim.Native.Nat.{_+_, _*_, _/_, _%_, _≤_, _<_};
 ghost use lib.ListN.{length, getD};
 ghost use Rattle.language.specs.Program.{key-of};
 ghost use Rattle.lists.specs.Lists.{sameBytes};
+ghost use Rattle.cells.specs.Cells.{Number};
 ghost use Rattle.layout.specs.Cells.{cell, uncode};
 ghost use Rattle.layout.specs.Table.{number-by, text-by, instr-in, label-in, switch-in, entry-in, program-of};
 ghost use Rattle.table.specs.Denote.{letter-of, letter-at, arg-of};
-ghost use Rattle.packed.specs.Packed.{table-of, Is, Copied};
+ghost use Rattle.packed.specs.Packed.{table-of, Copied};
 ghost use Rattle.table.specs.Reads.{Place, IsArgument, Into, switch-first, switch-size, entry-ref, Keyed, Entries, entries-from, met};
 use language::Machine;
 
@@ -52,14 +53,14 @@ const FIRST_ENTRY: usize = 6184;
 const FIRST_NUMBER: usize = 6312;
 
 fn wide(x: u32) -> usize
-    ensures { λ r. ⌜ Is x 4294967296 r ⌝ }
+    ensures { λ r. ⌜ Number x 4294967296 r ⌝ }
 {
     x as usize
 }
 
 fn narrow(x: u32) -> u8
     requires { ⌜ x < 256 ⌝ }
-    ensures { λ r. ⌜ Is x 256 r ⌝ }
+    ensures { λ r. ⌜ Number x 256 r ⌝ }
 {
     x as u8
 }
@@ -144,50 +145,50 @@ fn argument_at(table: &[u32], k: usize) -> Argument
 // A number in cell `k`.
 fn read(table: &[u32], k: usize) -> usize
     requires { ⌜ Place (now table) k 8192 ⌝ }
-    ensures { λ r. ⌜ Is (cell (table-of (now (table .entry))) k) 4294967296 r ⌝ }
+    ensures { λ r. ⌜ Number (cell (table-of (now (table .entry))) k) 4294967296 r ⌝ }
 {
-    wide(table[k])
+    cells::read(table, k)
 }
 
 // How many instructions, labels, switches, entries, texts and numbers the program has.
 pub fn instructions(table: &[u32]) -> usize
     requires { ⌜ 8192 ≤ length (now table) ⌝ }
-    ensures { λ r. ⌜ Is (cell (table-of (now (table .entry))) 0) 4294967296 r ⌝ }
+    ensures { λ r. ⌜ Number (cell (table-of (now (table .entry))) 0) 4294967296 r ⌝ }
 {
     read(table, 0)
 }
 
 pub fn labels(table: &[u32]) -> usize
     requires { ⌜ 8192 ≤ length (now table) ⌝ }
-    ensures { λ r. ⌜ Is (cell (table-of (now (table .entry))) 1) 4294967296 r ⌝ }
+    ensures { λ r. ⌜ Number (cell (table-of (now (table .entry))) 1) 4294967296 r ⌝ }
 {
     read(table, 1)
 }
 
 pub fn switches(table: &[u32]) -> usize
     requires { ⌜ 8192 ≤ length (now table) ⌝ }
-    ensures { λ r. ⌜ Is (cell (table-of (now (table .entry))) 2) 4294967296 r ⌝ }
+    ensures { λ r. ⌜ Number (cell (table-of (now (table .entry))) 2) 4294967296 r ⌝ }
 {
     read(table, 2)
 }
 
 pub fn entries(table: &[u32]) -> usize
     requires { ⌜ 8192 ≤ length (now table) ⌝ }
-    ensures { λ r. ⌜ Is (cell (table-of (now (table .entry))) 3) 4294967296 r ⌝ }
+    ensures { λ r. ⌜ Number (cell (table-of (now (table .entry))) 3) 4294967296 r ⌝ }
 {
     read(table, 3)
 }
 
 pub fn texts(table: &[u32]) -> usize
     requires { ⌜ 8192 ≤ length (now table) ⌝ }
-    ensures { λ r. ⌜ Is (cell (table-of (now (table .entry))) 4) 4294967296 r ⌝ }
+    ensures { λ r. ⌜ Number (cell (table-of (now (table .entry))) 4) 4294967296 r ⌝ }
 {
     read(table, 4)
 }
 
 pub fn numbers(table: &[u32]) -> usize
     requires { ⌜ 8192 ≤ length (now table) ⌝ }
-    ensures { λ r. ⌜ Is (cell (table-of (now (table .entry))) 5) 4294967296 r ⌝ }
+    ensures { λ r. ⌜ Number (cell (table-of (now (table .entry))) 5) 4294967296 r ⌝ }
 {
     read(table, 5)
 }
@@ -195,7 +196,7 @@ pub fn numbers(table: &[u32]) -> usize
 // The number of instruction `i`'s operator.
 pub fn operator(table: &[u32], i: usize) -> usize
     requires { ⌜ Place (now table) i 512 ⌝ }
-    ensures { λ r. ⌜ Is (cell (table-of (now (table .entry))) (8 + 4 * i) % 64) 64 r ⌝ }
+    ensures { λ r. ⌜ Number (cell (table-of (now (table .entry))) (8 + 4 * i) % 64) 64 r ⌝ }
 {
     read(table, FIRST_INSTRUCTION + 4 * i) % 64
 }
@@ -203,7 +204,7 @@ pub fn operator(table: &[u32], i: usize) -> usize
 // The line of instruction `i`.
 pub fn line(table: &[u32], i: usize) -> usize
     requires { ⌜ Place (now table) i 512 ⌝ }
-    ensures { λ r. ⌜ Is (instr-in (table-of (now (table .entry))) i .line) 67108864 r ⌝ }
+    ensures { λ r. ⌜ Number (instr-in (table-of (now (table .entry))) i .line) 67108864 r ⌝ }
 {
     read(table, FIRST_INSTRUCTION + 4 * i) / 64
 }
@@ -233,7 +234,7 @@ pub fn third(table: &[u32], i: usize) -> Argument
 // The instruction that label `k` stands at.
 pub fn target(table: &[u32], k: usize) -> usize
     requires { ⌜ Place (now table) k 128 ⌝ }
-    ensures { λ r. ⌜ Is (label-in (table-of (now (table .entry))) k .target) 67108864 r ⌝ }
+    ensures { λ r. ⌜ Number (label-in (table-of (now (table .entry))) k .target) 67108864 r ⌝ }
 {
     read(table, FIRST_LABEL + 16 * k) / 64
 }
@@ -241,7 +242,7 @@ pub fn target(table: &[u32], k: usize) -> usize
 // How many characters the name of label `k` has.
 pub fn name_length(table: &[u32], k: usize) -> usize
     requires { ⌜ Place (now table) k 128 ⌝ }
-    ensures { λ r. ⌜ Is (length (label-in (table-of (now (table .entry))) k .name)) 61 r ⌝ }
+    ensures { λ r. ⌜ Number (length (label-in (table-of (now (table .entry))) k .name)) 61 r ⌝ }
 {
     packed::cut(read(table, FIRST_LABEL + 16 * k) % 64)
 }
@@ -267,7 +268,7 @@ pub fn put_name(table: &[u32], k: usize, out: &mut [u8]) -> usize
 // A text goes by a reference: 0 for none, its byte for one character, otherwise 256 and its place in the table of texts. How many characters it has.
 pub fn text_length(table: &[u32], v: usize) -> usize
     requires { ⌜ Place (now table) v 384 ⌝ }
-    ensures { λ r. ⌜ Is (length (text-by (table-of (now (table .entry))) v)) 61 r ⌝ }
+    ensures { λ r. ⌜ Number (length (text-by (table-of (now (table .entry))) v)) 61 r ⌝ }
 {
     if v == 0 {
         return 0;
@@ -344,14 +345,14 @@ pub fn switch_by_name(table: &[u32], k: usize) -> bool
 
 pub fn switch_first(table: &[u32], k: usize) -> usize
     requires { ⌜ Place (now table) k 32 ⌝ }
-    ensures { λ r. ⌜ Is (switch-first (table-of (now (table .entry))) k) 8388608 r ⌝ }
+    ensures { λ r. ⌜ Number (switch-first (table-of (now (table .entry))) k) 8388608 r ⌝ }
 {
     read(table, FIRST_SWITCH + k) / 512
 }
 
 pub fn switch_count(table: &[u32], k: usize) -> usize
     requires { ⌜ Place (now table) k 32 ⌝ }
-    ensures { λ r. ⌜ Is (switch-size (table-of (now (table .entry))) k) 256 r ⌝ }
+    ensures { λ r. ⌜ Number (switch-size (table-of (now (table .entry))) k) 256 r ⌝ }
 {
     read(table, FIRST_SWITCH + k) / 2 % 256
 }
@@ -359,14 +360,14 @@ pub fn switch_count(table: &[u32], k: usize) -> usize
 // The label of entry `e`, and the reference of its text.
 pub fn entry_label(table: &[u32], e: usize) -> usize
     requires { ⌜ Place (now table) e 128 ⌝ }
-    ensures { λ r. ⌜ Is (entry-in (table-of (now (table .entry))) e .label) 128 r ⌝ }
+    ensures { λ r. ⌜ Number (entry-in (table-of (now (table .entry))) e .label) 128 r ⌝ }
 {
     read(table, FIRST_ENTRY + e) % 128
 }
 
 pub fn entry_text(table: &[u32], e: usize) -> usize
     requires { ⌜ Place (now table) e 128 ⌝ }
-    ensures { λ r. ⌜ Is (entry-ref (table-of (now (table .entry))) e) 33554432 r ⌝ }
+    ensures { λ r. ⌜ Number (entry-ref (table-of (now (table .entry))) e) 33554432 r ⌝ }
 {
     read(table, FIRST_ENTRY + e) / 128
 }
