@@ -2,14 +2,14 @@
 use mathlib.Core.Path.{_≡_, refl, ap, sym, _∙_, subst}
 use mathlib.Core.Bool.{Bool, true, false, cond, not, _&&_, _||_}
 use mathlib.Core.List.{List, [], _∷_, _++_, map, map-append, append-assoc, append-nil}
-use Prim.Native.Nat.{ℕ, zero, suc, _+_, _-_, _≤_, _<_}
+use Prim.Native.Nat.{ℕ, _≤_, _<_}
 use native.Mathlib.Omega.{arith}
-use lib.Dec.{T, T-not, leb, ltb, nltb→le}
+use lib.Dec.{T, T-not, leb, ltb}
 use lib.ListN.{length, take, drop, length-append, length-map}
 use borrow.Author.Tests.{ltb-false}
 use lib.IntN.{ℤ, natAbs}
-use Rattle.lists.specs.Lists.{total, any, filled, headOr, ifAny, keep, each, sameBytes}
-use Rattle.lists.specs.ListLaws.{T-left, T-right, T-both, total-append, sameBytes-eq, sameBytes-refl}
+use Rattle.lists.specs.Lists.{any, filled, headOr, ifAny, keep, each, sameBytes}
+use Rattle.lists.specs.ListLaws.{T-right, T-both, total-append, sameBytes-eq, sameBytes-refl}
 use Rattle.language.specs.Limits as limit
 use Rattle.language.specs.Program.{identifier, Op, Label}
 use Rattle.language.specs.Values.{sameNumber, numeral, in-range}
@@ -17,19 +17,18 @@ use Rattle.machine.specs.WellFormed.{different}
 use Rattle.layout.specs.Bounds.{Each}
 use Rattle.layout.specs.CellLaws.{each-append, each-left, each-right, each-drop}
 use Rattle.layout.specs.ProgramLaws.{length-each-total}
-use Rattle.syntax.specs.ArgumentForms.{form-in, reads, Argument, read-by, alternatives, arguments-in, arguments, of-form, most, least}
+use Rattle.syntax.specs.ArgumentForms.{form-in, reads, Argument, alternatives, arguments-in, arguments, of-form, most, least}
 use Rattle.syntax.specs.Items.{Item, is, places}
 use Rattle.syntax.specs.Items.Sort.{word, colon, text}
 use Rattle.syntax.specs.Questions.{label-faults, repeated, count-faults, instr-faults, switch-faults, beyond, instr-beyond, switch-beyond, questions}
-use Rattle.syntax.specs.Statements.{Keyword, same-keyword, by-keyword, behind, labels-in, operator, operator-at, keyword-of, keyword-in, rest, is-name, list-faults}
+use Rattle.syntax.specs.Statements.{Keyword, same-keyword, by-keyword, behind, labels-in, operator, operator-at, keyword-of, keyword-in, rest, list-faults}
 use Rattle.syntax.specs.Statements.Keyword.{none, unknown, SEKCJA, KONS, KONP, switch, instr}
 use Rattle.syntax.specs.Tables.{Written, Choice, Tables, Draft, blank, is-first, all-labels, contents, new-texts, new-numbers, number-in, with-instr, with-switch, draft-after}
-use Rattle.acceptance.specs.RowLaws.{or-left, or-right, append-none, map-none, cond-none, drop-none, keep-none, each-map, each-both, each-keep, each-mapped, each-unmapped, each-unkeep, any-left, any-right, Answered}
-use Rattle.acceptance.specs.ReaderLaws.{Sound-item}
+use Rattle.acceptance.specs.RowLaws.{or-left, or-right, append-none, map-none, drop-none, keep-none, each-map, each-both, each-keep, each-mapped, each-unkeep, any-left, any-right, Answered}
 use Rattle.acceptance.specs.FreshLaws.{none-each, each-none-passes, different-left, different-append}
 use Rattle.acceptance.specs.ReadingLaws.{No-dash, arguments-fit, arguments-read, arguments-of, of-arguments, arguments-count}
-use Rattle.acceptance.specs.Drafts.{Fine-item, in-texts, in-numbers, Kept, Sound-argument, Sound-written, Sound-choice, Sound-label, Sound-tables, Sound-name, own-names, Sound-draft}
-use Rattle.acceptance.specs.ArgumentRules.{word-apart, Readable-item, number-range}
+use Rattle.acceptance.specs.Drafts.{Sound-item, Fine-item, in-texts, in-numbers, Kept, Sound-argument, Sound-written, Sound-choice, Sound-label, Sound-tables, Sound-name, own-names, Sound-draft}
+use Rattle.acceptance.specs.ArgumentLaws.{word-apart, Readable-item, number-range}
 use Rattle.acceptance.specs.StatementLaws.{fine-items, each-behind, front-names, label-names, sameBytes-sym, texts-after, texts-kept, texts-apart, numbers-after, numbers-kept, numbers-apart, within}
 
 -- What is kept stays kept in longer tables
@@ -310,7 +309,7 @@ module _ (n : ℕ) (t : Tables) (ls x : List Item) (fine : Each (Fine-item n) x)
           let l = one-label ls (behind x) there (f .labelled) in
           let c : Choice = record { name = headOr [] (contents ls); byName = byName; list = rest x } in
           let q : names-of t ++ contents ls ≡ names-of (with-switch t ls x byName) =
-              rw (l .1) (sym (map-append (λ (c : Choice). c .name) (t .switches) (record { name = l .0 .chars; byName = byName; list = rest x } ∷ []))) in
+          rw (l .1) (sym (map-append (λ (c : Choice). c .name) (t .switches) (record { name = l .0 .chars; byName = byName; list = rest x } ∷ []))) in
           rw (filled-first (behind x) there, append-nil (names-of (with-switch t ls x byName))) (subst P q p)
       go (instr op) e f = waits (filled (operator x))
 
@@ -318,9 +317,10 @@ module _ (n : ℕ) (t : Tables) (ls x : List Item) (fine : Each (Fine-item n) x)
 
 fresh-name : (names : List (List ℕ)) (l : Item) (m : List ℕ) → T (not (any (sameBytes m) (names ++ (l .chars ∷ [])))) → T (not (any (sameBytes m) names)) × T (not (sameBytes (l .chars) m))
 fresh-name names l m h =
-    let k = none-each (sameBytes m) (names ++ (l .chars ∷ [])) h in
-    (each-none-passes (sameBytes m) names (each-left (λ w. T (not (sameBytes m w))) names (l .chars ∷ []) k),
-    subst (λ (b : Bool). T (not b)) (sameBytes-sym m (l .chars)) (each-right (λ w. T (not (sameBytes m w))) names (l .chars ∷ []) k .0))
+    let k = none-each (sameBytes m) (names ++ (l .chars ∷ [])) h in (
+      each-none-passes (sameBytes m) names (each-left (λ w. T (not (sameBytes m w))) names (l .chars ∷ []) k),
+      subst (λ (b : Bool). T (not b)) (sameBytes-sym m (l .chars)) (each-right (λ w. T (not (sameBytes m w))) names (l .chars ∷ []) k .0),
+    )
 
 unrepeated : (names : List (List ℕ)) (ls : List Item) → repeated names ls ≡ [] → Each (λ l. T (not (any (sameBytes l) names))) (contents ls) × T (different sameBytes (contents ls))
 unfolding repeated
@@ -329,9 +329,10 @@ unrepeated names (l ∷ ls) h =
     let b = any (sameBytes (l .chars)) names in
     let k = append-none (cond b (l .at ∷ []) []) (repeated (names ++ (l .chars ∷ [])) ls) h in
     let r = unrepeated (names ++ (l .chars ∷ [])) ls (k .1) in
-    let s = each-map _ (λ m. T (not (any (sameBytes m) names)) × T (not (sameBytes (l .chars) m))) (fresh-name names l) (contents ls) (r .0) in
-    ((absent b (k .0), each-map _ _ (λ m e. e .0) (contents ls) s),
-    T-both (not (any (sameBytes (l .chars)) (contents ls))) (different sameBytes (contents ls)) (each-none-passes (sameBytes (l .chars)) (contents ls) (each-map _ _ (λ m e. e .1) (contents ls) s)) (r .1))
+    let s = each-map _ (λ m. T (not (any (sameBytes m) names)) × T (not (sameBytes (l .chars) m))) (fresh-name names l) (contents ls) (r .0) in (
+      (absent b (k .0), each-map _ _ (λ m e. e .0) (contents ls) s),
+      T-both (not (any (sameBytes (l .chars)) (contents ls))) (different sameBytes (contents ls)) (each-none-passes (sameBytes (l .chars)) (contents ls) (each-map _ _ (λ m e. e .1) (contents ls) s)) (r .1),
+    )
   where
     absent : (b : Bool) → cond b (l .at ∷ []) [] ≡ [] → T (not b)
     absent true h = absurd (let z : _≡_ {A = ℕ} 0 1 = cc in omega arith)
@@ -412,8 +413,19 @@ pub blank-sound : (n : ℕ) → Sound-draft n blank
 blank-sound n =
     record {
       tables = record {
-        code = tt; labels = tt; switches = tt; texts = tt; numbers = tt; texts-different = tt; numbers-different = tt;
-        code-few = omega arith; labels-few = omega arith; switches-few = omega arith; entries-few = omega arith; texts-few = omega arith; numbers-few = omega arith;
+        code = tt;
+        labels = tt;
+        switches = tt;
+        texts = tt;
+        numbers = tt;
+        texts-different = tt;
+        numbers-different = tt;
+        code-few = omega arith;
+        labels-few = omega arith;
+        switches-few = omega arith;
+        entries-few = omega arith;
+        texts-few = omega arith;
+        numbers-few = omega arith;
       };
       waiting = tt;
       own-different = tt;

@@ -1,12 +1,12 @@
 -- What holds of the tables while a text has no fault: each argument reads as its form, the texts and numbers are kept, the limits hold.
 use mathlib.Core.Path.{_≡_}
-use mathlib.Core.Bool.{Bool, true, false, cond, not, _&&_, _||_, Bool·beq}
-use mathlib.Core.List.{List, [], _∷_, _++_, map}
+use mathlib.Core.Bool.{Bool, false, cond, not, _&&_, _||_, Bool·beq}
+use mathlib.Core.List.{List, [], _++_, map}
 use Prim.Native.Nat.{ℕ, _≤_, _<_}
 use lib.Dec.{T, leb, ltb}
 use lib.ListN.{length}
 use lib.IntN.{ℤ, natAbs}
-use Rattle.lists.specs.Lists.{total, any, filled, keep, sameBytes}
+use Rattle.lists.specs.Lists.{total, all, any, filled, keep, sameBytes}
 use Rattle.language.specs.Limits as limit
 use Rattle.language.specs.Program.{identifier, Label}
 use Rattle.language.specs.Values.{sameNumber, numeral, in-range}
@@ -17,8 +17,14 @@ use Rattle.syntax.specs.Items.{Item, is}
 use Rattle.syntax.specs.Items.Sort.{word, text}
 use Rattle.syntax.specs.Statements.{is-name, list-faults}
 use Rattle.syntax.specs.Tables.{Written, Choice, Tables, Draft, contents, number-in}
-use Rattle.acceptance.specs.ReaderLaws.{Sound-item}
+use Rattle.characters.specs.Characters.{known}
 use Rattle.acceptance.specs.Reading.{fits}
+
+-- an item of a text of n bytes
+pub record Sound-item (n : ℕ) (i : Item) : Type 0 where
+  pub place : i .at < n
+  pub plain : T (is word i || is text i || not (filled (i .chars)))
+  pub of-known : T (is text i) → T (i .good) → T (all known (i .chars))
 
 -- an item of a statement that has no fault in 15 and 16
 pub record Fine-item (n : ℕ) (i : Item) : Type 0 where

@@ -1,6 +1,6 @@
 -- What `fresh` adds to a table: every value then stands in it, and its values stay different.
 use mathlib.Core.Path.{_≡_, refl, ap, sym, _∙_, subst}
-use mathlib.Core.Bool.{Bool, true, false, cond, not, _&&_, _||_}
+use mathlib.Core.Bool.{Bool, true, false, cond, not, _||_}
 use mathlib.Core.List.{List, [], _∷_, _++_, map, map-append, append-assoc, append-nil}
 use lib.Dec.{T}
 use Rattle.lists.specs.Lists.{any}
@@ -10,7 +10,7 @@ use Rattle.layout.specs.CellLaws.{each-append, each-left}
 use Rattle.machine.specs.WellFormed.{different}
 use Rattle.syntax.specs.Items.{Item}
 use Rattle.syntax.specs.Tables.{fresh}
-use Rattle.acceptance.specs.RowLaws.{or-left, or-right, any-left, any-right, each-map}
+use Rattle.acceptance.specs.RowLaws.{or-left, any-left, any-right, each-map}
 
 -- none passes: each fails
 split-not : (a b : Bool) → T (not (a || b)) → T (not a) × T (not b)

@@ -1,10 +1,14 @@
+-- The program of an accepted text is well formed. What holds of the draft while no question has a fault (Drafts), from the reader's items
+-- (ReaderLaws), the arguments' forms (Reading, ReadingLaws, ArgumentLaws), the tables' new entries (FreshLaws) and a statement's parts
+-- (StatementLaws): every statement without faults keeps it (DraftLaws). Then the program's parts (ProgramLaws) and the theorem (AcceptanceLaws).
 pub mod RowLaws
+pub mod Reading
+pub mod Drafts
 pub mod ReaderLaws
 pub mod FreshLaws
-pub mod Reading
 pub mod ReadingLaws
-pub mod Drafts
-pub mod ArgumentRules
+pub mod ArgumentLaws
 pub mod StatementLaws
 pub mod DraftLaws
-pub mod ProgramRules
+pub mod ProgramLaws
+pub mod AcceptanceLaws

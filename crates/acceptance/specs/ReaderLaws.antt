@@ -1,12 +1,11 @@
 -- What the reader's items are: their places lie in the text, their characters are known, and only words and texts have any.
-use mathlib.Core.Path.{_≡_, refl, sym}
 use mathlib.Core.Bool.{Bool, true, false, cond, not, _&&_, _||_}
 use mathlib.Core.List.{List, [], _∷_, _++_}
-use Prim.Native.Nat.{ℕ, suc, _+_, _≤_, _<_}
+use Prim.Native.Nat.{ℕ, _+_, _≤_, _<_}
 use native.Mathlib.Omega.{arith}
 use lib.Dec.{T, eqb}
 use lib.ListN.{length, getD, take, drop, length-take}
-use Rattle.lists.specs.Lists.{all, any, ahead, filled, headOr, ifAny, keep, among}
+use Rattle.lists.specs.Lists.{all, ahead, headOr, ifAny, among}
 use Rattle.lists.specs.Quoted.{bytes}
 use Rattle.lists.specs.ListLaws.{T-left, T-right, T-both, all-at}
 use Rattle.characters.specs.Characters.{known}
@@ -16,13 +15,8 @@ use Rattle.syntax.specs.Items.{Sort, sort-of, same-sort, Item, places, is, a-wo
 use Rattle.syntax.specs.Items.Sort.{separator, word, colon, end, text, wrong}
 use Rattle.syntax.specs.Items.Stage.{first-star, inside, last-slash}
 use Rattle.syntax.specs.Items.Mode.{outside, in-word, in-comment, in-text}
+use Rattle.acceptance.specs.Drafts.{Sound-item}
 use Rattle.acceptance.specs.RowLaws.{any-ahead, keep-few}
-
--- an item of a text of n bytes
-pub record Sound-item (n : ℕ) (i : Item) : Type 0 where
-  pub place : i .at < n
-  pub plain : T (is word i || is text i || not (filled (i .chars)))
-  pub of-known : T (is text i) → T (i .good) → T (all known (i .chars))
 
 module _ (n : ℕ) where
   abbrev Sound-mode : Mode → Type 0

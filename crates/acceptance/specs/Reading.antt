@@ -1,13 +1,12 @@
 -- How the arguments of an instruction stand in one list of its forms.
-use mathlib.Core.Bool.{Bool, true, false, not, _&&_, _||_}
+use mathlib.Core.Bool.{Bool, true, not, _&&_, _||_}
 use mathlib.Core.List.{List, [], _∷_}
 use Prim.Native.Nat.{ℕ, zero, suc}
-use lib.Dec.{T, leb, ltb, eqb}
-use lib.ListN.{length, drop}
+use lib.Dec.{leb, ltb, eqb}
+use lib.ListN.{drop}
 use Rattle.lists.specs.Lists.{all, filled, headOr, among}
 use Rattle.lists.specs.TableLaws.{upTo}
 use Rattle.language.specs.Program.{Op}
-use Rattle.layout.specs.Bounds.{Each}
 use Rattle.syntax.specs.ArgumentForms.{form-in, Argument, alternatives, most, least}
 
 -- each argument's form is listed for its place, and the places after them may be empty

@@ -1,8 +1,8 @@
 -- The arguments of an accepted instruction stand in one list of its forms, and each reads as its form.
 use mathlib.Core.Path.{_≡_, refl, ap, sym, _∙_, subst}
 use mathlib.Core.Bool.{Bool, true, false, cond, not, _&&_, _||_}
-use mathlib.Core.List.{List, [], _∷_, _++_, map}
-use Prim.Native.Nat.{ℕ, zero, suc, _+_, _≤_, _<_}
+use mathlib.Core.List.{List, [], _∷_, map}
+use Prim.Native.Nat.{ℕ, suc, _≤_}
 use native.Mathlib.Omega.{arith}
 use lib.Dec.{T, T-not, leb, ltb, eqb, eqb→eq, leb→le, eqb-refl}
 use lib.ListN.{length, getD, drop}
@@ -18,11 +18,11 @@ use Rattle.language.specs.Program.{Op}
 use Rattle.language.specs.Program.Op.{PRZESLIJ, CZYTAJ, PISZ, KOPIUJ, WSTAW, POBIERZ, SCHOWAJ, USTAW, ZAMIEN, UMIESC, USUN, SKRESL, RW, WK, MN, PP, NS, RZ, SKOCZ, WYKONAJ, SKOMI, SKOPL, WYMI, WYPL, SKONA, SKOIN, WYNA, WYIN, WROC, DODAJ, ODEJMIJ, MNOZ, DZIEL, SLOWO, LICZBA, ZBIJ, ROZBIJ, SZUKAJ, OMIN, COFNIJ, STOP}
 use Rattle.layout.specs.Bounds.{Each}
 use Rattle.layout.specs.CellLaws.{each-of}
-use Rattle.syntax.specs.ArgumentForms.{form-in, is-indexed, word-reads, reads, Argument, accepting, read-by, alternatives, arguments-in, arguments, of-form, most, least}
+use Rattle.syntax.specs.ArgumentForms.{form-in, is-indexed, word-reads, reads, Argument, accepting, read-by, alternatives, most, least}
 use Rattle.syntax.specs.Items.{Item, is}
 use Rattle.syntax.specs.Items.Sort.{text}
 use Rattle.acceptance.specs.Reading.{fits, apart, agree, agreed, may-end, right-number, right-forms}
-use Rattle.acceptance.specs.RowLaws.{or-left, or-right, or-not, any-found, any-more, any-unkeep, any-mapped, map-none, keep-none, each-map, each-keep, each-kept, each-mapped, each-both}
+use Rattle.acceptance.specs.RowLaws.{or-left, or-right, or-not, any-found, any-more, any-unkeep, any-mapped, each-map, each-keep, each-kept, each-mapped, each-both}
 
 pub forms-right : (op : Op) → T (right-forms op)
 forms-right PRZESLIJ = tt
@@ -164,8 +164,8 @@ apart-never i x y a h k = go (is text i) (sym (text-reads i x h)) (sym (text-rea
     letters-differ t =
         let u = T-left (form-in "ABCDEINPQTYZ" x && form-in "ABCDEINPQTYZ" y) (not (eqb x y)) t in
         let e : x ≡ y =
-            sym (head-letter i x (T-left (form-in "ABCDEINPQTYZ" x) (form-in "ABCDEINPQTYZ" y) u) h)
-            ∙ head-letter i y (T-right (form-in "ABCDEINPQTYZ" x) (form-in "ABCDEINPQTYZ" y) u) k in
+        sym (head-letter i x (T-left (form-in "ABCDEINPQTYZ" x) (form-in "ABCDEINPQTYZ" y) u) h)
+        ∙ head-letter i y (T-right (form-in "ABCDEINPQTYZ" x) (form-in "ABCDEINPQTYZ" y) u) k in
         T-not (eqb x y) (T-right (form-in "ABCDEINPQTYZ" x && form-in "ABCDEINPQTYZ" y) (not (eqb x y)) t) (subst (λ (z : ℕ). T (eqb x z)) e (eqb-refl x))
 
     go : (b : Bool) → eqb x 116 ≡ b → eqb y 116 ≡ b → T (apart x y) → ⊥
@@ -249,10 +249,10 @@ more-fits (j ∷ js) i alts (a ∷ live) e g k d ih =
     let tails = map (drop 1) (a ∷ live) in
     let rest = read-by tails (j ∷ js) in
     let r : Readable (suc n) tails = record {
-          some = tt;
-          ends = each-mapped (λ b. T (all (among 45) (drop (suc n) b))) (drop 1) (a ∷ live) (each-map _ _ (λ b h. subst (λ (l : List (List ℕ)). T (all (among 45) l)) (sym (drop-again (suc n) b)) h) (a ∷ live) e);
-          agrees = tails-agree n (a ∷ live) g;
-        } in
+      some = tt;
+      ends = each-mapped (λ b. T (all (among 45) (drop (suc n) b))) (drop 1) (a ∷ live) (each-map _ _ (λ b h. subst (λ (l : List (List ℕ)). T (all (among 45) l)) (sym (drop-again (suc n) b)) h) (a ∷ live) e);
+      agrees = tails-agree n (a ∷ live) g;
+    } in
     any-more (λ b. fits rest (drop 1 b)) (λ b. among f (headOr [] b) && fits rest (drop 1 b)) (a ∷ live)
     (each-map _ _ (λ b h u. T-both (among f (headOr [] b)) (fits rest (drop 1 b)) (same-form n i f a b (h .0) (t .0) (t .1) (h .1)) u) (a ∷ live) (each-both (λ b. T (agree (suc (suc n)) a b)) (λ b. T (any (reads i) (headOr [] b))) (a ∷ live) (g .0) k))
     (any-mapped (fits rest) (drop 1) (a ∷ live) (ih tails r (d .1)))
@@ -281,10 +281,10 @@ arguments-fit op js h k d =
     let t : T (may-end n alts && agreed n alts) = or-not (ltb (most op) n) _ (or-not (ltb n (least op)) _ right not-less) not-more in
     let u = T-left (may-end n alts) (agreed n alts) t in
     let r : Readable n alts = record {
-          some = T-left (filled alts) (all (λ a. all (among 45) (drop n a)) alts) u;
-          ends = each-of (λ a. all (among 45) (drop n a)) (λ a. T (all (among 45) (drop n a))) (λ a x. x) alts (T-right (filled alts) (all (λ a. all (among 45) (drop n a)) alts) u);
-          agrees = each-of (λ a. all (agree n a) alts) (λ a. Each (λ b. T (agree n a b)) alts) (λ a x. each-of (agree n a) (λ b. T (agree n a b)) (λ b y. y) alts x) alts (T-right (may-end n alts) (agreed n alts) t);
-        } in
+      some = T-left (filled alts) (all (λ a. all (among 45) (drop n a)) alts) u;
+      ends = each-of (λ a. all (among 45) (drop n a)) (λ a. T (all (among 45) (drop n a))) (λ a x. x) alts (T-right (filled alts) (all (λ a. all (among 45) (drop n a)) alts) u);
+      agrees = each-of (λ a. all (agree n a) alts) (λ a. Each (λ b. T (agree n a b)) alts) (λ a x. each-of (agree n a) (λ b. T (agree n a b)) (λ b y. y) alts x) alts (T-right (may-end n alts) (agreed n alts) t);
+    } in
     (all-fit js alts r d, omega arith)
 
 -- each of them reads as its form

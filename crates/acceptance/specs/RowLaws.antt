@@ -1,17 +1,16 @@
 -- Rows without faults and what then holds of each element; searches that succeed; and what a yes to all questions says.
-use mathlib.Core.Path.{_≡_, refl, ap, sym, _∙_, subst}
-use mathlib.Core.Bool.{Bool, true, false, cond, not, _&&_, _||_}
+use mathlib.Core.Path.{_≡_, refl, ap, sym, subst}
+use mathlib.Core.Bool.{Bool, true, false, cond, not, _||_}
 use mathlib.Core.List.{List, [], _∷_, _++_, map}
-use Prim.Native.Nat.{ℕ, zero, suc, _+_, _≤_, _<_}
+use Prim.Native.Nat.{ℕ, suc, _≤_, _<_}
 use native.Mathlib.Omega.{arith}
 use lib.Dec.{T}
-use lib.ListN.{length, getD, take, drop, length-drop}
+use lib.ListN.{length, getD, drop, length-drop}
 use Rattle.lists.specs.Lists.{all, any, ahead, keep, each}
 use Rattle.lists.specs.ListLaws.{T-both}
 use Rattle.layout.specs.Bounds.{Each}
 use Rattle.layout.specs.CellLaws.{each-left, each-right}
 use Rattle.syntax.specs.Verdict.{Question, Verdict, decide, first-no}
-use Rattle.syntax.specs.Verdict.Verdict.{refuse}
 
 -- Tests
 
@@ -61,7 +60,7 @@ module _ {X : Type 0} where
   each-none f [] h = tt
   each-none f (x ∷ xs) h = let p = append-none (f x) (each f xs) h in (p .0, each-none f xs (p .1))
 
--- Each element
+  -- Each element
 
   pub each-map : (P Q : X → Type 0) → ((x : X) → P x → Q x) → (xs : List X) → Each P xs → Each Q xs
   each-map P Q f [] h = tt

@@ -1,15 +1,15 @@
 -- What a statement without faults brings: fine items, names, texts and numbers.
-use mathlib.Core.Path.{_≡_, refl, ap, sym, _∙_, subst}
+use mathlib.Core.Path.{_≡_, refl, sym, subst}
 use mathlib.Core.Bool.{Bool, true, false, cond, not, _&&_, _||_}
 use mathlib.Core.List.{List, [], _∷_, _++_, map}
-use Prim.Native.Nat.{ℕ, zero, suc, _+_, _-_, _≤_, _<_}
+use Prim.Native.Nat.{ℕ, _+_, _-_, _≤_}
 use native.Mathlib.Omega.{arith}
-use lib.Dec.{T, leb, ltb, eqb, eqb→eq, leb→le, ltb→lt, lt→ltb, le→leb, eqb-refl, nltb→le}
-use lib.ListN.{length, drop, length-map}
+use lib.Dec.{T, leb, ltb, lt→ltb, le→leb, nltb→le}
+use lib.ListN.{length, length-map}
 use lib.IntN.{ℤ, pos, negsuc, natAbs}
 use lib.Signed.{leZ}
 use borrow.Author.Tests.{leb-false}
-use Rattle.lists.specs.Lists.{all, any, filled, headOr, keep, sameBytes}
+use Rattle.lists.specs.Lists.{all, any, filled, keep, sameBytes}
 use Rattle.lists.specs.ListLaws.{T-left, T-right, T-both, sameBytes-eq, sameBytes-refl}
 use Rattle.characters.specs.Characters.{known}
 use Rattle.language.specs.Limits as limit
@@ -21,14 +21,13 @@ use Rattle.layout.specs.CellLaws.{each-append}
 use Rattle.syntax.specs.Items.{Item, is, places}
 use Rattle.syntax.specs.Items.Sort.{word, colon, text}
 use Rattle.syntax.specs.Questions.{first-faults, operator-faults, beyond}
-use Rattle.syntax.specs.Statements.{Keyword, same-keyword, keyword-of, is-operator, front, behind, labels-in, operator, is-name, one-name}
+use Rattle.syntax.specs.Statements.{Keyword, same-keyword, keyword-of, is-operator, front, behind, labels-in, is-name, one-name}
 use Rattle.syntax.specs.Statements.Keyword.{unknown, SEKCJA}
-use Rattle.syntax.specs.Tables.{Tables, contents, fresh, new-texts, new-numbers, number-in}
-use Rattle.acceptance.specs.RowLaws.{or-left, or-right, not-not, append-none, map-none, drop-none, keep-none, each-map, each-both, each-keep, each-kept, each-unkeep, each-mapped}
-use Rattle.acceptance.specs.ReaderLaws.{Sound-item}
-use Rattle.acceptance.specs.ArgumentRules.{word-apart}
+use Rattle.syntax.specs.Tables.{Tables, contents, new-texts, new-numbers, number-in}
+use Rattle.acceptance.specs.RowLaws.{not-not, append-none, map-none, drop-none, keep-none, each-map, each-both, each-keep, each-kept, each-unkeep, each-mapped}
+use Rattle.acceptance.specs.ArgumentLaws.{word-apart}
 use Rattle.acceptance.specs.FreshLaws.{fresh-holds, fresh-different, fresh-from}
-use Rattle.acceptance.specs.Drafts.{Fine-item, in-texts, in-numbers, Sound-name}
+use Rattle.acceptance.specs.Drafts.{Sound-item, Fine-item, in-texts, in-numbers, Sound-name}
 
 -- 15 and 16
 
@@ -154,8 +153,8 @@ module _ (n : ℕ) (t : Tables) (js : List Item) (fine : Each (Fine-item n) js) 
   texts-after h =
       let P : Item → Type 0 = λ i. T (ltb 1 (length (i .chars)) && good-text (i .chars)) in
       let new : Each P (keep long-text js) =
-          each-map _ _ (λ i e. T-both (ltb 1 (length (i .chars))) (good-text (i .chars)) (T-right (is text i) (ltb 1 (length (i .chars))) (e .1)) (e .0 .good (T-left (is text i) (ltb 1 (length (i .chars))) (e .1)))) (keep long-text js)
-          (each-both (Fine-item n) (λ i. T (long-text i)) (keep long-text js) (each-keep (Fine-item n) long-text js fine) (each-kept long-text js)) in
+      each-map _ _ (λ i e. T-both (ltb 1 (length (i .chars))) (good-text (i .chars)) (T-right (is text i) (ltb 1 (length (i .chars))) (e .1)) (e .0 .good (T-left (is text i) (ltb 1 (length (i .chars))) (e .1)))) (keep long-text js)
+      (each-both (Fine-item n) (λ i. T (long-text i)) (keep long-text js) (each-keep (Fine-item n) long-text js fine) (each-kept long-text js)) in
       each-append _ (t .texts) (contents (new-texts t js)) h
       (each-mapped _ (λ i. i .chars) (new-texts t js) (fresh-from sameBytes sameBytes-sym sameBytes-refl (λ i. i .chars) P (t .texts) (keep long-text js) new))
 
@@ -176,13 +175,13 @@ module _ (n : ℕ) (t : Tables) (js : List Item) (fine : Each (Fine-item n) js) 
       let P : Item → Type 0 = λ i. T (ltb limit.small (natAbs (number-in i)) && in-range (number-in i)) in
       let R : Item → Type 0 = λ i. T (is word i) → T (numeral (i .chars)) → T (in-range (number-in i)) in
       let new : Each P (keep large-number js) =
-          each-map _ _ (λ i e.
-            let a = is word i in
-            let b = numeral (i .chars) in
-            let c = ltb limit.small (natAbs (number-in i)) in
-            let k = T-left (a && b) c (e .1) in
-            T-both c (in-range (number-in i)) (T-right (a && b) c (e .1)) (e .0 (T-left a b k) (T-right a b k))) (keep large-number js)
-          (each-both R (λ i. T (large-number i)) (keep large-number js) (each-keep R large-number js r) (each-kept large-number js)) in
+      each-map _ _ (λ i e.
+      let a = is word i in
+      let b = numeral (i .chars) in
+      let c = ltb limit.small (natAbs (number-in i)) in
+      let k = T-left (a && b) c (e .1) in
+      T-both c (in-range (number-in i)) (T-right (a && b) c (e .1)) (e .0 (T-left a b k) (T-right a b k))) (keep large-number js)
+      (each-both R (λ i. T (large-number i)) (keep large-number js) (each-keep R large-number js r) (each-kept large-number js)) in
       each-append _ (t .numbers) (map number-in (new-numbers t js)) h
       (each-mapped _ number-in (new-numbers t js) (fresh-from sameNumber sameNumber-sym sameNumber-refl number-in P (t .numbers) (keep large-number js) new))
 

@@ -1,31 +1,29 @@
 -- The argument that load makes of a read item has its form and is in range.
 use mathlib.Core.Path.{_≡_, refl, ap, sym, _∙_, subst}
 use mathlib.Core.Bool.{Bool, true, false, cond, not, _&&_, _||_, Bool·beq}
-use mathlib.Core.List.{List, [], _∷_, _++_, map}
-use Prim.Native.Nat.{ℕ, zero, suc, _+_, _*_, _-_, _≤_, _<_}
-use native.Mathlib.Nat.{not-suc-le-zero}
+use mathlib.Core.List.{List, [], _∷_, map}
+use Prim.Native.Nat.{ℕ, suc, _+_, _*_, _-_, _≤_, _<_}
 use native.Mathlib.Omega.{arith}
-use lib.Dec.{T, T-not, leb, ltb, eqb, eqb→eq, leb→le, ltb→lt, lt→ltb, le→leb, eqb-refl}
+use lib.Dec.{T, leb, ltb, eqb, eqb→eq, leb→le, ltb→lt, lt→ltb, eqb-refl}
 use lib.ListN.{length, getD, drop, length-map}
 use borrow.Author.Tests.{eqb-true}
-use Rattle.lists.specs.Lists.{all, any, ahead, filled, headOr, keep, sameBytes, among}
+use Rattle.lists.specs.Lists.{all, any, ahead, filled, headOr, sameBytes, among}
 use Rattle.lists.specs.Quoted.{bytes}
-use Rattle.lists.specs.ListLaws.{T-left, T-right, T-both, all-among, all-head, sameBytes-eq, sameBytes-refl}
+use Rattle.lists.specs.ListLaws.{T-left, T-right, T-both, all-among, all-head, sameBytes-eq}
 use Rattle.lists.specs.TableLaws.{beq-eq}
 use Rattle.characters.specs.Characters.{isLetter, isDigit}
-use Rattle.language.specs.Letters.{Letter, letters, letter-code, indices, use-of}
+use Rattle.language.specs.Letters.{Letter, letter-code, indices, use-of}
 use Rattle.language.specs.Letters.Letter.{A, B, C, D, E, I, N, P, Q, T as letter-T, Y, Z}
-use Rattle.language.specs.Program.{Arg, identifier, classes, Switch, Program, no-switch}
+use Rattle.language.specs.Program.{Arg, identifier, classes, Switch, no-switch}
 use Rattle.language.specs.Values.{amount, unsigned, numeral, valueOf, in-range}
 use Rattle.machine.specs.WellFormed.{good-text, form, ranged, different}
-use Rattle.layout.specs.Bounds.{Each}
-use Rattle.syntax.specs.ArgumentForms.{form-in, is-index, is-indexed, letter-of, word-reads, reads, Argument}
+use Rattle.syntax.specs.ArgumentForms.{is-index, letter-of, word-reads, reads, Argument}
 use Rattle.syntax.specs.Items.{Sort, same-sort, Item, is}
 use Rattle.syntax.specs.Items.Sort.{separator, word, colon, end, text, wrong}
 use Rattle.syntax.specs.Load.{arg-of, program-of, switch-place, label-place}
 use Rattle.syntax.specs.Statements.{entries-in}
 use Rattle.syntax.specs.Tables.{Choice, Tables, number-in}
-use Rattle.acceptance.specs.RowLaws.{or-left, or-right, or-not, any-ahead}
+use Rattle.acceptance.specs.RowLaws.{or-left, or-right, any-ahead}
 use Rattle.acceptance.specs.Drafts.{in-texts, in-numbers, Sound-argument, Declared}
 use Rattle.acceptance.specs.ReadingLaws.{Other, by-form, Lettered, other-reads, text-reads, as-word}
 
@@ -131,7 +129,6 @@ index-ranged most (x ∷ w) h =
     let c = leb (amount 0 (x ∷ w)) most in
     let digit : 48 < x = ltb→lt 48 x (T-right a b (T-left (a && b) c h)) in
     T-both (ltb 0 (amount 0 (x ∷ w))) c (lt→ltb 0 (amount 0 (x ∷ w)) (omega (arith, amount-most (0 * 10 + (x - 48)) w))) (T-right (a && b) c h)
-
 
 -- the classes of a word of class letters, from which of the four stand in it
 abbrev classes-by : Bool → Bool → Bool → Bool → List ℕ
@@ -256,9 +253,11 @@ module _ (s : List ℕ) (t : Tables) (n : ℕ) (i : Item) where
   made-number a =
       let w = i .chars in
       let r = as-word i 110 refl (a .as-form) in
-      let k : T (numeral w) = T-left (numeral w) (in-range (valueOf w)) r in
-      (refl, T-both (in-range (valueOf w)) (in-numbers (t .numbers) (valueOf w)) (T-right (numeral w) (in-range (valueOf w)) r)
-      (a .kept .number-kept (is-word (a .fine .sound .plain) (text-reads i 110 (a .as-form)) (numeral-filled w k)) k))
+      let k : T (numeral w) = T-left (numeral w) (in-range (valueOf w)) r in (
+        refl,
+        T-both (in-range (valueOf w)) (in-numbers (t .numbers) (valueOf w)) (T-right (numeral w) (in-range (valueOf w)) r)
+            (a .kept .number-kept (is-word (a .fine .sound .plain) (text-reads i 110 (a .as-form)) (numeral-filled w k)) k),
+      )
 
   made-class : Sound-argument n (t .texts) (t .numbers) (record { item = i; form = 99 }) → right 99
   unfolding arg-of program-of word-reads
