@@ -19,6 +19,8 @@ use Rattle.layout.specs.Table.{program-of, good-table}
 use Rattle.layout.specs.TableLaws.{program-of-cells, table-good, table-facts}
 use Rattle.syntax.specs.Load.{loadIn}
 use Rattle.syntax.specs.Load.Loaded.{accepted}
+use Rattle.acceptance.specs.RowLaws.{each-map}
+use Rattle.acceptance.specs.AcceptanceLaws.{accepted-good}
 use Rattle.calls.specs.Calls.{table-after, Call, call-inputs, reply-count, Result, memory-passes, run-reply, accepted-result, result-of}
 use Rattle.calls.specs.Calls.Call.{start-on, run-on}
 use Rattle.calls.specs.CallLaws.{Decision, decided, refused-by, refused-same, good-not-62, start-left, handed-good, run-ends, accepted-run, again-not-63}
@@ -26,10 +28,6 @@ use Rattle.calls.specs.CallLaws.Decision.{answered-no, answered-yes}
 use Rattle.history.specs.History.{visit, Past, past-on, past-after, moments, history}
 use Rattle.history.specs.Demand.{Demand3}
 use Rattle.history.specs.TrailLaws.{Followed, followed-none, followed-from, followed-run, run-begun}
-
-each-map : {X : Type 0} (P Q : X → Type 0) → ((x : X) → P x → Q x) → (xs : List X) → Each P xs → Each Q xs
-each-map P Q f [] h = tt
-each-map P Q f (x ∷ xs) h = (f x (h .0), each-map P Q f xs (h .1))
 
 -- what holds before and after each call: the memory m holds what the past says, and is the first one, a, until a call is accepted
 record Ready (p : Program) (a m : List ℕ) (h : Past) : Type 0 where
@@ -112,7 +110,6 @@ program-demand3 p g c xs m =
     subst (λ (q : Program). Demand3 q (table-after (accepted p) c) xs m) (program-of-cells p g rest)
     (table-demand3 (table-after (accepted p) c) (table-good p g rest) xs m)
 
--- of the table that load leaves of an accepted text, where the text's program is well formed
-pub text-demand3 : (text c : List ℕ) (p : Program) → loadIn (length c) text ≡ accepted p → T (good-program p)
-    → (xs : List Call) (m : List ℕ) → Demand3 p (table-after (loadIn (length c) text) c) xs m
-text-demand3 text c p e g xs m = rw e (program-demand3 p g c xs m)
+-- of the table that load leaves of an accepted text
+pub text-demand3 : (text c : List ℕ) (p : Program) → loadIn (length c) text ≡ accepted p → (xs : List Call) (m : List ℕ) → Demand3 p (table-after (loadIn (length c) text) c) xs m
+text-demand3 text c p e xs m = rw e (program-demand3 p (accepted-good (length c) text p e) c xs m)
