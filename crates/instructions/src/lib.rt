@@ -1,0 +1,1 @@
+// What the function of an instruction promises: definitions and laws; no code.
