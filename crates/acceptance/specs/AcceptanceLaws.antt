@@ -41,9 +41,12 @@ use Rattle.acceptance.specs.ProgramLaws.{instr-good, entries-count, swit
 
 -- The end of the text: 25, 12 and 13
 
-used : (t : Tables) (fs : String) (q : Item → Bool) → Each (λ i. T (q i)) (given-as fs t) → Each (λ w. Each (λ a. T (form-in fs (a .form)) → T (q (a .item))) (w .args)) (t .code)
+used : (t : Tables) (fs : String) (q : Item → Bool) → Each (λ i. T (q i)) (given-as fs t)
+    → Each (λ w. Each (λ a. T (form-in fs (a .form)) → T (q (a .item))) (w .args)) (t .code)
 used t fs q h =
-    each-map _ _ (λ w e. each-unkeep (λ a. T (q (a .item))) (λ a. form-in fs (a .form)) (w .args) (each-unmapped (λ i. T (q i)) (λ a. a .item) (keep (λ a. form-in fs (a .form)) (w .args)) e)) (t .code)
+    each-map _ _
+    (λ w e. each-unkeep (λ a. T (q (a .item))) (λ a. form-in fs (a .form)) (w .args) (each-unmapped (λ i. T (q i)) (λ a. a .item) (keep (λ a. form-in fs (a .form)) (w .args)) e))
+    (t .code)
     (each-each (λ i. T (q i)) (λ w. of-form fs (w .args)) (t .code) h)
 
 none-missing : (q : Item → Bool) (js : List Item) → places (keep (λ i. not (q i)) js) ≡ [] → Each (λ i. T (q i)) js
@@ -69,7 +72,9 @@ module _ (t : Tables) (labels-there : undeclared-labels t ≡ []) (named-there :
       let l = used t "l" (is-label t) (each-left (λ i. T (is-label t i)) (given-as "l" t) (each (λ c. keep (is word) (c .list)) (t .switches)) labels-used) in
       let w = used t "w" (is-switch t true) (switches-used true named-there) in
       let x = used t "x" (is-switch t false) (switches-used false indexed-there) in
-      each-map _ _ (λ i e. each-map _ _ (λ a u. record { label-there = u .0; switch-there = by a (u .1 .0) (u .1 .1) }) (i .args) (each-both _ _ (i .args) (e .0) (each-both _ _ (i .args) (e .1 .0) (e .1 .1)))) (t .code)
+      each-map _ _
+      (λ i e. each-map _ _ (λ a u. record { label-there = u .0; switch-there = by a (u .1 .0) (u .1 .1) }) (i .args) (each-both _ _ (i .args) (e .0) (each-both _ _ (i .args) (e .1 .0) (e .1 .1))))
+      (t .code)
       (each-both _ _ (t .code) l (each-both _ _ (t .code) w x))
     where
       by : (a : Argument) → (T (form-in "w" (a .form)) → T (is-switch t true (a .item))) → (T (form-in "x" (a .form)) → T (is-switch t false (a .item)))
@@ -79,7 +84,8 @@ module _ (t : Tables) (labels-there : undeclared-labels t ≡ []) (named-there :
 
   entries-declared : Each (λ c. Each (λ i. T (is-label t i)) (keep (is word) (c .list))) (t .switches)
   entries-declared =
-      each-each (λ i. T (is-label t i)) (λ c. keep (is word) (c .list)) (t .switches) (each-right (λ i. T (is-label t i)) (given-as "l" t) (each (λ c. keep (is word) (c .list)) (t .switches)) labels-used)
+      each-each (λ i. T (is-label t i)) (λ c. keep (is word) (c .list)) (t .switches)
+      (each-right (λ i. T (is-label t i)) (given-as "l" t) (each (λ c. keep (is word) (c .list)) (t .switches)) labels-used)
 
 getD-mapped : {X Y : Type 0} (f : X → Y) (xs : List X) (k : ℕ) (d : X) (e : Y) → k < length xs → getD (map f xs) k e ≡ f (getD xs k d)
 getD-mapped f [] k d e h = absurd (not-suc-le-zero h)
@@ -101,7 +107,8 @@ module _ (s : List ℕ) (t : Tables) where
       let inside : k < length (t .code) = before (length (t .code)) some in
       let w = getD (t .code) k no-written in
       let ended : T (ends w) =
-      cond-none (ends w) (w .at) [] (each-none (λ w. cond (ends w) [] (w .at ∷ [])) (w ∷ drop (suc k) (t .code)) (subst (λ (ws : List Written). each (λ w. cond (ends w) [] (w .at ∷ [])) ws ≡ []) (drop-cons (t .code) k no-written inside) h) .0) in
+      cond-none (ends w) (w .at) []
+      (each-none (λ w. cond (ends w) [] (w .at ∷ [])) (w ∷ drop (suc k) (t .code)) (subst (λ (ws : List Written). each (λ w. cond (ends w) [] (w .at ∷ [])) ws ≡ []) (drop-cons (t .code) k no-written inside) h) .0) in
       subst (λ (j : ℕ). T (is-end (operation (getD (map (instr-of s t) (t .code)) (pred j) no-instr .op) .flow))) (sym (length-map (t .code) (instr-of s t)))
       (subst (λ (i : Instr). T (is-end (operation (i .op) .flow))) (sym (getD-mapped (instr-of s t) (t .code) k no-written no-instr inside)) ended)
     where

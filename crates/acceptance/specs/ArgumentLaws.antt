@@ -87,7 +87,8 @@ letter-of-code Y = refl
 letter-of-code Z = refl
 
 first-is : (w : List ℕ) (f : ℕ) (r : Lettered w f) → headOr 0 w ≡ letter-code (r .by)
-first-is w f r = eqb→eq (headOr 0 w) (letter-code (r .by)) (T-left (eqb (headOr 0 w) (letter-code (r .by))) (is-index (indices (use-of (r .by) .var)) (drop 1 w)) (r .indexed))
+first-is w f r =
+    eqb→eq (headOr 0 w) (letter-code (r .by)) (T-left (eqb (headOr 0 w) (letter-code (r .by))) (is-index (indices (use-of (r .by) .var)) (drop 1 w)) (r .indexed))
 
 -- a word that is a number reads only as a number
 number-reads : (w : List ℕ) → T (numeral w) → (f : ℕ) → T (word-reads w f) → T (in-range (valueOf w))
@@ -195,7 +196,8 @@ choice-switch place c = record { byName = c .byName; entries = entries-in place 
 abbrev pub by-names : List Choice → List (List ℕ)
 by-names cs = map (λ c. c .name) cs
 
-named-none : (w : List ℕ) (b : Bool) (cs : List Choice) → T (not (any (sameBytes w) (by-names cs))) → T (any (λ c. sameBytes w (c .name) && Bool·beq b (c .byName)) cs) → ⊥
+named-none : (w : List ℕ) (b : Bool) (cs : List Choice) → T (not (any (sameBytes w) (by-names cs))) → T (any (λ c. sameBytes w (c .name) && Bool·beq b (c .byName)) cs)
+    → ⊥
 named-none w b [] h k = k
 named-none w b (c ∷ cs) h k = go (sameBytes w (c .name)) h k (named-none w b cs)
   where
@@ -204,7 +206,8 @@ named-none w b (c ∷ cs) h k = go (sameBytes w (c .name)) h k (named-none w b c
     go true h k r = h
     go false h k r = r h k
 
-switch-type : (place : List ℕ → ℕ) (w : List ℕ) (b : Bool) (cs : List Choice) → T (different sameBytes (by-names cs)) → T (any (λ c. sameBytes w (c .name) && Bool·beq b (c .byName)) cs)
+switch-type : (place : List ℕ → ℕ) (w : List ℕ) (b : Bool) (cs : List Choice) → T (different sameBytes (by-names cs))
+    → T (any (λ c. sameBytes w (c .name) && Bool·beq b (c .byName)) cs)
     → (getD (map (choice-switch place) cs) (ahead (λ c. sameBytes w (c .name)) cs) no-switch .byName ≡ b) × T (any (λ c. sameBytes w (c .name)) cs)
 switch-type place w b [] h k = absurd k
 switch-type place w b (c ∷ cs) h k =
@@ -217,7 +220,8 @@ switch-type place w b (c ∷ cs) h k =
     go true e true f k r = (sym (beq-eq b (c .byName) (subst T (sym f) tt)), tt)
     go true e false f k r =
         let q = sameBytes-eq w (c .name) (subst T (sym e) tt) in
-        absurd (named-none w b cs (subst (λ (v : List ℕ). T (not (any (sameBytes v) (by-names cs)))) (sym q) (T-left (not (any (sameBytes (c .name)) (by-names cs))) (different sameBytes (by-names cs)) h)) k)
+        absurd
+        (named-none w b cs (subst (λ (v : List ℕ). T (not (any (sameBytes v) (by-names cs)))) (sym q) (T-left (not (any (sameBytes (c .name)) (by-names cs))) (different sameBytes (by-names cs)) h)) k)
     go false e u f k r = r k
 
 -- The argument that load makes
@@ -277,10 +281,15 @@ module _ (s : List ℕ) (t : Tables) (n : ℕ) (i : Item) where
       found true d = switch-type (label-place t) (i .chars) true (t .switches) u (d .switch-there true tt)
       found false d = switch-type (label-place t) (i .chars) false (t .switches) u (d .switch-there false tt)
 
-      in-list : T (any (λ c. sameBytes (i .chars) (c .name)) (t .switches)) → T (ltb (switch-place t (i .chars)) (length (map (choice-switch (label-place t)) (t .switches))))
-      in-list k = lt→ltb (switch-place t (i .chars)) (length (map (choice-switch (label-place t)) (t .switches))) (omega (arith, length-map (t .switches) (choice-switch (label-place t)), any-ahead (λ c. sameBytes (i .chars) (c .name)) (t .switches) k))
+      in-list : T (any (λ c. sameBytes (i .chars) (c .name)) (t .switches))
+          → T (ltb (switch-place t (i .chars)) (length (map (choice-switch (label-place t)) (t .switches))))
+      in-list k =
+          lt→ltb (switch-place t (i .chars)) (length (map (choice-switch (label-place t)) (t .switches)))
+          (omega (arith, length-map (t .switches) (choice-switch (label-place t)), any-ahead (λ c. sameBytes (i .chars) (c .name)) (t .switches) k))
 
-      go : (b : Bool) → (getD (map (choice-switch (label-place t)) (t .switches)) (switch-place t (i .chars)) no-switch .byName ≡ b) × T (any (λ c. sameBytes (i .chars) (c .name)) (t .switches)) → right (cond b 119 120)
+      go : (b : Bool)
+          → (getD (map (choice-switch (label-place t)) (t .switches)) (switch-place t (i .chars)) no-switch .byName ≡ b) × T (any (λ c. sameBytes (i .chars) (c .name)) (t .switches))
+          → right (cond b 119 120)
       go true k = (ap (λ (c : Bool). cond c 119 120) (k .0), in-list (k .1))
       go false k = (ap (λ (c : Bool). cond c 119 120) (k .0), in-list (k .1))
 
@@ -290,14 +299,17 @@ module _ (s : List ℕ) (t : Tables) (n : ℕ) (i : Item) where
       let w = i .chars in
       let r = other-reads w f o (as-word i f (o .no-t) (a .as-form)) in
       let l : letter-of (headOr 0 w) ≡ r .by = ap letter-of (first-is w f r) ∙ letter-of-code (r .by) in
-      rw (o .no-t, o .no-n, o .no-c, o .no-l, o .no-w, o .no-x, l) (sym (r .form-is), index-ranged (indices (use-of (r .by) .var)) (drop 1 w) (T-right (eqb (headOr 0 w) (letter-code (r .by))) (is-index (indices (use-of (r .by) .var)) (drop 1 w)) (r .indexed)))
+      rw (o .no-t, o .no-n, o .no-c, o .no-l, o .no-w, o .no-x, l)
+      (sym (r .form-is), index-ranged (indices (use-of (r .by) .var)) (drop 1 w) (T-right (eqb (headOr 0 w) (letter-code (r .by))) (is-index (indices (use-of (r .by) .var)) (drop 1 w)) (r .indexed)))
 
-  made-right : T (different sameBytes (by-names (t .switches))) → (f : ℕ) → Sound-argument n (t .texts) (t .numbers) (record { item = i; form = f }) → Declared t (record { item = i; form = f }) → right f
+  made-right : T (different sameBytes (by-names (t .switches))) → (f : ℕ) → Sound-argument n (t .texts) (t .numbers) (record { item = i; form = f })
+      → Declared t (record { item = i; form = f }) → right f
   made-right u =
       by-form (λ f. Sound-argument n (t .texts) (t .numbers) (record { item = i; form = f }) → Declared t (record { item = i; form = f }) → right f)
       (λ a d. made-text a) (λ a d. made-number a) (λ a d. made-class a) (λ a d. made-label d) (λ a d. made-switch true u d) (λ a d. made-switch false u d)
       (λ f o a d. made-letter f o a)
 
-pub argument-right : (s : List ℕ) (t : Tables) (n : ℕ) → T (different sameBytes (by-names (t .switches))) → (a : Argument) → Sound-argument n (t .texts) (t .numbers) a → Declared t a
+pub argument-right : (s : List ℕ) (t : Tables) (n : ℕ) → T (different sameBytes (by-names (t .switches))) → (a : Argument) → Sound-argument n (t .texts) (t .numbers) a
+    → Declared t a
     → (form (program-of s t) (arg-of t a) ≡ a .form) × T (ranged (program-of s t) (arg-of t a))
 argument-right s t n u a h d = made-right s t n (a .item) u (a .form) h d

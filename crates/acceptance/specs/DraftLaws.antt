@@ -61,7 +61,8 @@ module _ (n : ℕ) (texts texts′ : List (List ℕ)) (numbers numbers′ : List
   written-more i h =
       record { place = h .place; few = h .few; fit = h .fit; each-argument = each-map _ _ argument-more (i .args) (h .each-argument) }
 
-choice-more : (n : ℕ) (texts texts′ : List (List ℕ)) → ((w : List ℕ) → T (in-texts texts w) → T (in-texts texts′ w)) → (c : Choice) → Sound-choice n texts c → Sound-choice n texts′ c
+choice-more : (n : ℕ) (texts texts′ : List (List ℕ)) → ((w : List ℕ) → T (in-texts texts w) → T (in-texts texts′ w)) → (c : Choice) → Sound-choice n texts c
+    → Sound-choice n texts′ c
 choice-more n texts texts′ f c h =
     record { some = h .some; faultless = h .faultless; fine = h .fine; kept = each-map _ _ (λ i e k. f (i .chars) (e k)) (c .list) (h .kept) }
 
@@ -98,7 +99,9 @@ module _ (n : ℕ) (t : Tables) (ls x : List Item) (op : Op) (fine : Each (Fine-
         let q : Argument → Bool = λ a. form-in "-" (a .form) in
         record {
           enough = append-none a b (h .0) .1;
-          no-dash = keep-none q (arguments op after-it) (map-none (λ a. a .item) (keep q (arguments op after-it)) (map-none (λ i. i .at) (of-form "-" (arguments op after-it)) (h .1)));
+          no-dash =
+              keep-none q (arguments op after-it)
+              (map-none (λ a. a .item) (keep q (arguments op after-it)) (map-none (λ i. i .at) (of-form "-" (arguments op after-it)) (h .1)));
         }
 
     readable : Each (λ i. T (not (is colon i)) → Readable-item i) after-it
@@ -177,8 +180,12 @@ module _ (n : ℕ) (t : Tables) (ls x : List Item) (op : Op) (fine : Each (Fine-
             labels-few = omega (arith, length-append (t .labels) (map mk ls), length-map ls mk, within limit.labels (length (t .labels)) ls (h₃ .1) (h .labels-few));
             switches-few = h .switches-few;
             entries-few = h .entries-few;
-            texts-few = omega (arith, length-append (t .texts) (contents (new-texts t after-it)), length-map (new-texts t after-it) (λ i. i .chars), within limit.texts (length (t .texts)) (new-texts t after-it) (h₂ .1) (h .texts-few));
-            numbers-few = omega (arith, length-append (t .numbers) (map number-in (new-numbers t after-it)), length-map (new-numbers t after-it) number-in, within limit.numbers (length (t .numbers)) (new-numbers t after-it) (h₁ .1) (h .numbers-few));
+            texts-few =
+                omega
+                (arith, length-append (t .texts) (contents (new-texts t after-it)), length-map (new-texts t after-it) (λ i. i .chars), within limit.texts (length (t .texts)) (new-texts t after-it) (h₂ .1) (h .texts-few));
+            numbers-few =
+                omega
+                (arith, length-append (t .numbers) (map number-in (new-numbers t after-it)), length-map (new-numbers t after-it) number-in, within limit.numbers (length (t .numbers)) (new-numbers t after-it) (h₁ .1) (h .numbers-few));
           }
         where
           one : (ys : List Item) → T (filled ys) → length (take 1 ys) ≡ 1
@@ -229,9 +236,15 @@ module _ (n : ℕ) (t : Tables) (l : Item) (x : List Item) (byName : Bool) (fine
         numbers-different = h .numbers-different;
         code-few = h .code-few;
         labels-few = h .labels-few;
-        switches-few = omega (arith, length-append (t .switches) (c ∷ []), within limit.switches (length (t .switches)) (operator x) (h₂ .0) (h .switches-few), one (behind x) there);
-        entries-few = omega (arith, total-append count (t .switches) (c ∷ []), counted, within limit.entries (length (each (λ c. keep (is word) (c .list)) (t .switches))) (keep (is word) items) (h₂ .1) (omega (arith, counted, h .entries-few)));
-        texts-few = omega (arith, length-append (t .texts) (contents (new-texts t items)), length-map (new-texts t items) (λ i. i .chars), within limit.texts (length (t .texts)) (new-texts t items) (h₁ .1) (h .texts-few));
+        switches-few =
+            omega
+            (arith, length-append (t .switches) (c ∷ []), within limit.switches (length (t .switches)) (operator x) (h₂ .0) (h .switches-few), one (behind x) there);
+        entries-few =
+            omega
+            (arith, total-append count (t .switches) (c ∷ []), counted, within limit.entries (length (each (λ c. keep (is word) (c .list)) (t .switches))) (keep (is word) items) (h₂ .1) (omega (arith, counted, h .entries-few)));
+        texts-few =
+            omega
+            (arith, length-append (t .texts) (contents (new-texts t items)), length-map (new-texts t items) (λ i. i .chars), within limit.texts (length (t .texts)) (new-texts t items) (h₁ .1) (h .texts-few));
         numbers-few = h .numbers-few;
       }
     where
@@ -315,14 +328,16 @@ module _ (n : ℕ) (t : Tables) (ls x : List Item) (fine : Each (Fine-item n) x)
 
 -- 06: the new labels differ from all names of before and from each other
 
-fresh-name : (names : List (List ℕ)) (l : Item) (m : List ℕ) → T (not (any (sameBytes m) (names ++ (l .chars ∷ [])))) → T (not (any (sameBytes m) names)) × T (not (sameBytes (l .chars) m))
+fresh-name : (names : List (List ℕ)) (l : Item) (m : List ℕ) → T (not (any (sameBytes m) (names ++ (l .chars ∷ []))))
+    → T (not (any (sameBytes m) names)) × T (not (sameBytes (l .chars) m))
 fresh-name names l m h =
     let k = none-each (sameBytes m) (names ++ (l .chars ∷ [])) h in (
       each-none-passes (sameBytes m) names (each-left (λ w. T (not (sameBytes m w))) names (l .chars ∷ []) k),
       subst (λ (b : Bool). T (not b)) (sameBytes-sym m (l .chars)) (each-right (λ w. T (not (sameBytes m w))) names (l .chars ∷ []) k .0),
     )
 
-unrepeated : (names : List (List ℕ)) (ls : List Item) → repeated names ls ≡ [] → Each (λ l. T (not (any (sameBytes l) names))) (contents ls) × T (different sameBytes (contents ls))
+unrepeated : (names : List (List ℕ)) (ls : List Item) → repeated names ls ≡ []
+    → Each (λ l. T (not (any (sameBytes l) names))) (contents ls) × T (different sameBytes (contents ls))
 unfolding repeated
 unrepeated names [] h = (tt, tt)
 unrepeated names (l ∷ ls) h =
@@ -331,7 +346,8 @@ unrepeated names (l ∷ ls) h =
     let r = unrepeated (names ++ (l .chars ∷ [])) ls (k .1) in
     let s = each-map _ (λ m. T (not (any (sameBytes m) names)) × T (not (sameBytes (l .chars) m))) (fresh-name names l) (contents ls) (r .0) in (
       (absent b (k .0), each-map _ _ (λ m e. e .0) (contents ls) s),
-      T-both (not (any (sameBytes (l .chars)) (contents ls))) (different sameBytes (contents ls)) (each-none-passes (sameBytes (l .chars)) (contents ls) (each-map _ _ (λ m e. e .1) (contents ls) s)) (r .1),
+      T-both (not (any (sameBytes (l .chars)) (contents ls))) (different sameBytes (contents ls))
+          (each-none-passes (sameBytes (l .chars)) (contents ls) (each-map _ _ (λ m e. e .1) (contents ls) s)) (r .1),
     )
   where
     absent : (b : Bool) → cond b (l .at ∷ []) [] ≡ [] → T (not b)
@@ -340,9 +356,11 @@ unrepeated names (l ∷ ls) h =
 
 each-itself : (ws : List (List ℕ)) → Each (λ w. T (any (sameBytes w) ws)) ws
 each-itself [] = tt
-each-itself (w ∷ ws) = (or-left (sameBytes w w) (any (sameBytes w) ws) (sameBytes-refl w), each-map _ _ (λ v h. or-right (sameBytes v w) (any (sameBytes v) ws) h) ws (each-itself ws))
+each-itself (w ∷ ws) =
+    (or-left (sameBytes w w) (any (sameBytes w) ws) (sameBytes-refl w), each-map _ _ (λ v h. or-right (sameBytes v w) (any (sameBytes v) ws) h) ws (each-itself ws))
 
-unknown-names : (names own : List (List ℕ)) (m : List ℕ) → Each (λ w. T (any (sameBytes w) names)) own → T (not (any (sameBytes m) names)) → T (not (any (sameBytes m) own))
+unknown-names : (names own : List (List ℕ)) (m : List ℕ) → Each (λ w. T (any (sameBytes w) names)) own → T (not (any (sameBytes m) names))
+    → T (not (any (sameBytes m) own))
 unknown-names names own m h k = each-none-passes (sameBytes m) own (each-map _ _ (λ w e. go w e (sameBytes m w) refl) own h)
   where
     go : (w : List ℕ) → T (any (sameBytes w) names) → (b : Bool) → sameBytes m w ≡ b → T (not b)

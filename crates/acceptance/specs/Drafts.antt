@@ -97,4 +97,5 @@ pub record Sound-draft (n : ℕ) (d : Draft) : Type 0 where
 -- a used label or switch is declared
 pub record Declared (t : Tables) (a : Argument) : Type 0 where
   pub label-there : T (form-in "l" (a .form)) → T (any (λ l. sameBytes (a .item .chars) (l .name)) (t .labels))
-  pub switch-there : (byName : Bool) → T (form-in (cond byName "w" "x") (a .form)) → T (any (λ c. sameBytes (a .item .chars) (c .name) && Bool·beq byName (c .byName)) (t .switches))
+  pub switch-there : (byName : Bool) → T (form-in (cond byName "w" "x") (a .form))
+      → T (any (λ c. sameBytes (a .item .chars) (c .name) && Bool·beq byName (c .byName)) (t .switches))

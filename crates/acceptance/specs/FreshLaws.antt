@@ -70,7 +70,8 @@ module _ {X : Type 0} (equal : X → X → Bool) (symmetric : (x y : X) → equa
         let u = t ++ map value-of (cond (any (equal (value-of i)) t) [] (i ∷ [])) in
         rw (after-step t i js) (any-left (equal (value-of i)) u (map value-of (fresh equal value-of u js)) (held (any (equal (value-of i)) t) t i refl), fresh-holds u js)
 
-    still-different : (b : Bool) (t : List X) (i : Item) → any (equal (value-of i)) t ≡ b → T (different equal t) → T (different equal (t ++ map value-of (cond b [] (i ∷ []))))
+    still-different : (b : Bool) (t : List X) (i : Item) → any (equal (value-of i)) t ≡ b → T (different equal t)
+        → T (different equal (t ++ map value-of (cond b [] (i ∷ []))))
     still-different true t i e h = rw (append-nil t) h
     still-different false t i e h = different-append t (value-of i ∷ []) h tt (subst (λ b. T (not b)) (sym e) tt, tt)
 
@@ -78,7 +79,8 @@ module _ {X : Type 0} (equal : X → X → Bool) (symmetric : (x y : X) → equa
     unfolding fresh
     fresh-different t [] h = rw (append-nil t) h
     fresh-different t (i ∷ js) h =
-        rw (after-step t i js) (fresh-different (t ++ map value-of (cond (any (equal (value-of i)) t) [] (i ∷ []))) js (still-different (any (equal (value-of i)) t) t i refl h))
+        rw (after-step t i js)
+        (fresh-different (t ++ map value-of (cond (any (equal (value-of i)) t) [] (i ∷ []))) js (still-different (any (equal (value-of i)) t) t i refl h))
 
     pub fresh-from : (P : Item → Type 0) (t : List X) (js : List Item) → Each P js → Each P (fresh equal value-of t js)
     unfolding fresh

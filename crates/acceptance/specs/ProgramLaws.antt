@@ -74,7 +74,8 @@ module _ (s : List ℕ) (t : Tables) where
           let args = map (arg-of t) xs in
           record { op = w .op; line = line-of s (w .at); first = getD args 0 Arg.nothing; second = getD args 1 Arg.nothing; third = getD args 2 Arg.nothing }
 
-      go : (xs : List Argument) → length xs ≤ 3 → Each Right xs → T (any (λ f. fits xs (bytes (f .0) ∷ bytes (f .1) ∷ bytes (f .2) ∷ [])) (operation (w .op) .forms)) → Placed (made xs)
+      go : (xs : List Argument) → length xs ≤ 3 → Each Right xs → T (any (λ f. fits xs (bytes (f .0) ∷ bytes (f .1) ∷ bytes (f .2) ∷ [])) (operation (w .op) .forms))
+          → Placed (made xs)
       go [] n r f = record { in-forms = listed-by (made []) f; first-ranged = tt; second-ranged = tt; third-ranged = tt }
       go (a ∷ []) n r f =
           record {
@@ -103,11 +104,15 @@ module _ (s : List ℕ) (t : Tables) where
   unfolding instr-of
   line-is w = refl
 
-  pub instr-good : length s ≤ limit.text → T (different sameBytes (by-names (t .switches))) → (w : Written) → Sound-written (length s) (t .texts) (t .numbers) w → Each (Declared t) (w .args) → T (good-instr p (instr-of s t w))
+  pub instr-good : length s ≤ limit.text → T (different sameBytes (by-names (t .switches))) → (w : Written) → Sound-written (length s) (t .texts) (t .numbers) w
+      → Each (Declared t) (w .args) → T (good-instr p (instr-of s t w))
   unfolding good-instr
   instr-good short u w h d =
       let i = instr-of s t w in
-      let k = placed w (h .few) (each-map _ _ (λ a e. argument-right s t (length s) u a (e .0) (e .1)) (w .args) (each-both (Sound-argument (length s) (t .texts) (t .numbers)) (Declared t) (w .args) (h .each-argument) d)) (h .fit) in
+      let k =
+      placed w (h .few)
+      (each-map _ _ (λ a e. argument-right s t (length s) u a (e .0) (e .1)) (w .args) (each-both (Sound-argument (length s) (t .texts) (t .numbers)) (Declared t) (w .args) (h .each-argument) d))
+      (h .fit) in
       let b = ranged p (i .first) in
       let c = ranged p (i .second) in
       let e = ranged p (i .third) in
@@ -180,7 +185,8 @@ module _ (s : List ℕ) (t : Tables) (byName : Bool) where
   entry-text-good before (j ∷ js) h k =
       go (is text j) refl (append-none (entry-faults byName before (ifAny false (is text) js) j) (list-faults byName (filled (j .colon)) js) h .0)
     where
-      go : (b : Bool) → is text j ≡ b → entry-faults byName before (ifAny false (is text) js) j ≡ [] → T (not (filled (cond b (j .chars) [])) || (byName && good-text (cond b (j .chars) []) && in-texts (t .texts) (cond b (j .chars) [])))
+      go : (b : Bool) → is text j ≡ b → entry-faults byName before (ifAny false (is text) js) j ≡ []
+          → T (not (filled (cond b (j .chars) [])) || (byName && good-text (cond b (j .chars) []) && in-texts (t .texts) (cond b (j .chars) [])))
       go true e f =
           let there : T (is text j) = subst T (sym e) tt in
           let w = j .chars in
@@ -188,7 +194,8 @@ module _ (s : List ℕ) (t : Tables) (byName : Bool) where
           (T-both (byName && good-text w) (in-texts (t .texts) w) (T-both byName (good-text w) (T-left byName before (text-there byName before (ifAny false (is text) js) j f there)) (k .0 .text-good there)) (k .0 .text-held there))
       go false e f = tt
 
-  entries-good : (before : Bool) (js : List Item) → list-faults byName before js ≡ [] → Each (Entered t) js → T (all (good-entry (program-of s t) byName) (entries-in (label-place t) js))
+  entries-good : (before : Bool) (js : List Item) → list-faults byName before js ≡ [] → Each (Entered t) js
+      → T (all (good-entry (program-of s t) byName) (entries-in (label-place t) js))
   unfolding list-faults entries-in program-of
   entries-good before [] h k = tt
   entries-good before (i ∷ js) h k =
@@ -206,7 +213,8 @@ module _ (s : List ℕ) (t : Tables) (byName : Bool) where
           (entry-text-good (filled (i .colon)) js rest (k .1))) r
       go false f r = r
 
-pub switch-good : (s : List ℕ) (t : Tables) (n : ℕ) (c : Choice) → Sound-choice n (t .texts) c → Each (λ i. T (any (λ l. sameBytes (i .chars) (l .name)) (t .labels))) (keep (is word) (c .list))
+pub switch-good : (s : List ℕ) (t : Tables) (n : ℕ) (c : Choice) → Sound-choice n (t .texts) c
+    → Each (λ i. T (any (λ l. sameBytes (i .chars) (l .name)) (t .labels))) (keep (is word) (c .list))
     → T (good-switch (program-of s t) (record { byName = c .byName; entries = entries-in (label-place t) (c .list) }))
 unfolding good-switch
 switch-good s t n c h d =

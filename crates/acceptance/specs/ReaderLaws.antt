@@ -128,7 +128,8 @@ module _ (n : ℕ) where
   unfolding attach
   attach-sound i js h k = go (is word i && ifAny false (is colon) js)
     where
-      go : (t : Bool) → Each (Sound-item n) (cond t (record { at = i .at; sort = word; chars = i .chars; good = i .good; colon = places (take 1 js) } ∷ drop 1 js) (i ∷ js))
+      go : (t : Bool)
+          → Each (Sound-item n) (cond t (record { at = i .at; sort = word; chars = i .chars; good = i .good; colon = places (take 1 js) } ∷ drop 1 js) (i ∷ js))
       go true = (record { place = h .place; plain = tt; of-known = λ a g. absurd a }, each-drop (Sound-item n) 1 js k)
       go false = (h, k)
 

@@ -191,7 +191,8 @@ each-among (n ∷ ns) = (or-left (eqb n n) (among n ns) (eqb-refl n), each-map _
 taken : (q : ℕ → Bool) (fs : List ℕ) → T (not (form-in "-" (headOr 45 (keep q fs)))) → T (q (headOr 45 (keep q fs))) × T (among (headOr 45 (keep q fs)) fs)
 taken q fs h = go (keep q fs) (each-kept q fs) (each-keep (λ n. T (among n fs)) q fs (each-among fs)) h
   where
-    go : (ks : List ℕ) → Each (λ n. T (q n)) ks → Each (λ n. T (among n fs)) ks → T (not (form-in "-" (headOr 45 ks))) → T (q (headOr 45 ks)) × T (among (headOr 45 ks) fs)
+    go : (ks : List ℕ) → Each (λ n. T (q n)) ks → Each (λ n. T (among n fs)) ks → T (not (form-in "-" (headOr 45 ks)))
+        → T (q (headOr 45 ks)) × T (among (headOr 45 ks) fs)
     go [] a b h = absurd h
     go (k ∷ ks) a b h = (a .0, b .0)
 
@@ -211,7 +212,8 @@ abbrev argument-by : Item → List (List (List ℕ)) → Argument
 argument-by i live = record { item = i; form = headOr 45 (keep (reads i) (headOr [] (headOr [] live))) }
 
 -- what the first list takes, every list that takes the item takes in the same form
-same-form : (n : ℕ) (i : Item) (f : ℕ) (a b : List (List ℕ)) → T (agree (suc (suc n)) a b) → T (reads i f) → T (among f (headOr [] a)) → T (any (reads i) (headOr [] b)) → T (among f (headOr [] b))
+same-form : (n : ℕ) (i : Item) (f : ℕ) (a b : List (List ℕ)) → T (agree (suc (suc n)) a b) → T (reads i f) → T (among f (headOr [] a)) → T (any (reads i) (headOr [] b))
+    → T (among f (headOr [] b))
 same-form n i f a b g h m k = go (among f (headOr [] b)) (all-among q (headOr [] a) (T-left (all q (headOr [] a)) (agree (suc n) (drop 1 a) (drop 1 b)) g) f m)
   where
     q : ℕ → Bool
@@ -241,7 +243,8 @@ unfolding Fits-by read-by
 more-fits js i alts [] e g k d ih = absurd (d .0)
 more-fits [] i alts (a ∷ live) e g k d ih =
     let t = taken (reads i) (headOr [] a) (d .0) in
-    or-left (among (argument-by i (a ∷ live) .form) (headOr [] a) && all (among 45) (drop 1 a)) _ (T-both (among (argument-by i (a ∷ live) .form) (headOr [] a)) (all (among 45) (drop 1 a)) (t .1) (e .0))
+    or-left (among (argument-by i (a ∷ live) .form) (headOr [] a) && all (among 45) (drop 1 a)) _
+    (T-both (among (argument-by i (a ∷ live) .form) (headOr [] a)) (all (among 45) (drop 1 a)) (t .1) (e .0))
 more-fits (j ∷ js) i alts (a ∷ live) e g k d ih =
     let n = length js in
     let f = argument-by i (a ∷ live) .form in
@@ -250,7 +253,9 @@ more-fits (j ∷ js) i alts (a ∷ live) e g k d ih =
     let rest = read-by tails (j ∷ js) in
     let r : Readable (suc n) tails = record {
       some = tt;
-      ends = each-mapped (λ b. T (all (among 45) (drop (suc n) b))) (drop 1) (a ∷ live) (each-map _ _ (λ b h. subst (λ (l : List (List ℕ)). T (all (among 45) l)) (sym (drop-again (suc n) b)) h) (a ∷ live) e);
+      ends =
+          each-mapped (λ b. T (all (among 45) (drop (suc n) b))) (drop 1) (a ∷ live)
+          (each-map _ _ (λ b h. subst (λ (l : List (List ℕ)). T (all (among 45) l)) (sym (drop-again (suc n) b)) h) (a ∷ live) e);
       agrees = tails-agree n (a ∷ live) g;
     } in
     any-more (λ b. fits rest (drop 1 b)) (λ b. among f (headOr [] b) && fits rest (drop 1 b)) (a ∷ live)
@@ -269,7 +274,8 @@ all-fit (i ∷ js) alts r d =
     (more-fits js i alts live (each-keep _ q alts (r .ends)) (each-keep _ q alts (each-map _ _ (λ a h. each-keep (λ b. T (agree n a b)) q alts h) alts (r .agrees))) (each-kept q alts) d (all-fit js))
 
 -- the arguments of an instruction, as many as it takes, none left out: they stand in one list of its forms
-pub arguments-fit : (op : Op) (js : List Item) → length js ≤ most op → least op ≤ length js → No-dash (read-by (alternatives op) js) → T (any (fits (read-by (alternatives op) js)) (alternatives op)) × (length js ≤ 3)
+pub arguments-fit : (op : Op) (js : List Item) → length js ≤ most op → least op ≤ length js → No-dash (read-by (alternatives op) js)
+    → T (any (fits (read-by (alternatives op) js)) (alternatives op)) × (length js ≤ 3)
 unfolding Fits-by
 arguments-fit op js h k d =
     let n = length js in
@@ -282,8 +288,12 @@ arguments-fit op js h k d =
     let u = T-left (may-end n alts) (agreed n alts) t in
     let r : Readable n alts = record {
       some = T-left (filled alts) (all (λ a. all (among 45) (drop n a)) alts) u;
-      ends = each-of (λ a. all (among 45) (drop n a)) (λ a. T (all (among 45) (drop n a))) (λ a x. x) alts (T-right (filled alts) (all (λ a. all (among 45) (drop n a)) alts) u);
-      agrees = each-of (λ a. all (agree n a) alts) (λ a. Each (λ b. T (agree n a b)) alts) (λ a x. each-of (agree n a) (λ b. T (agree n a b)) (λ b y. y) alts x) alts (T-right (may-end n alts) (agreed n alts) t);
+      ends =
+          each-of (λ a. all (among 45) (drop n a)) (λ a. T (all (among 45) (drop n a))) (λ a x. x) alts
+          (T-right (filled alts) (all (λ a. all (among 45) (drop n a)) alts) u);
+      agrees =
+          each-of (λ a. all (agree n a) alts) (λ a. Each (λ b. T (agree n a b)) alts) (λ a x. each-of (agree n a) (λ b. T (agree n a b)) (λ b y. y) alts x) alts
+          (T-right (may-end n alts) (agreed n alts) t);
     } in
     (all-fit js alts r d, omega arith)
 

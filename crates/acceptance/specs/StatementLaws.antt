@@ -92,7 +92,8 @@ unfolding first-faults front
 first-front [] h = refl
 first-front (i ∷ js) h = go (filled (i .colon)) refl (same-keyword SEKCJA (keyword-of i)) refl h
   where
-    go : (a : Bool) → filled (i .colon) ≡ a → (b : Bool) → same-keyword SEKCJA (keyword-of i) ≡ b → cond (not a && b) (one-name identifier (i .at) js) (i .at ∷ []) ≡ [] → cond (is-operator i) [] (i ∷ front js) ≡ []
+    go : (a : Bool) → filled (i .colon) ≡ a → (b : Bool) → same-keyword SEKCJA (keyword-of i) ≡ b → cond (not a && b) (one-name identifier (i .at) js) (i .at ∷ []) ≡ []
+        → cond (is-operator i) [] (i ∷ front js) ≡ []
     go true e b f h = absurd (let z : _≡_ {A = ℕ} 0 1 = cc in omega arith)
     go false e false f h = absurd (let z : _≡_ {A = ℕ} 0 1 = cc in omega arith)
     go false e true f h = rw (opposite (is colon i) (word-apart i (sekcja-word i (subst T (sym f) tt)) .1), e) refl
@@ -106,7 +107,8 @@ unfolding operator-faults
 front-names true x h k = rw (first-front x h) tt
 front-names false x h k =
     let q : Item → Bool = λ i. not (is-name i) in
-    each-map _ _ (λ i e. not-not (is-name i) e) (front x) (keep-none q (front x) (map-none (λ i. i .at) (keep q (front x)) (append-none (places (keep q (front x))) _ k .0)))
+    each-map _ _ (λ i e. not-not (is-name i) e) (front x)
+    (keep-none q (front x) (map-none (λ i. i .at) (keep q (front x)) (append-none (places (keep q (front x))) _ k .0)))
 
 pub label-names : (n : ℕ) (x : List Item) → Each (Fine-item n) x → Each (λ i. T (is-name i)) (front x) → Each (Sound-name n) (labels-in x)
 label-names n x h k =
@@ -153,7 +155,9 @@ module _ (n : ℕ) (t : Tables) (js : List Item) (fine : Each (Fine-item n) js) 
   texts-after h =
       let P : Item → Type 0 = λ i. T (ltb 1 (length (i .chars)) && good-text (i .chars)) in
       let new : Each P (keep long-text js) =
-      each-map _ _ (λ i e. T-both (ltb 1 (length (i .chars))) (good-text (i .chars)) (T-right (is text i) (ltb 1 (length (i .chars))) (e .1)) (e .0 .good (T-left (is text i) (ltb 1 (length (i .chars))) (e .1)))) (keep long-text js)
+      each-map _ _
+      (λ i e. T-both (ltb 1 (length (i .chars))) (good-text (i .chars)) (T-right (is text i) (ltb 1 (length (i .chars))) (e .1)) (e .0 .good (T-left (is text i) (ltb 1 (length (i .chars))) (e .1))))
+      (keep long-text js)
       (each-both (Fine-item n) (λ i. T (long-text i)) (keep long-text js) (each-keep (Fine-item n) long-text js fine) (each-kept long-text js)) in
       each-append _ (t .texts) (contents (new-texts t js)) h
       (each-mapped _ (λ i. i .chars) (new-texts t js) (fresh-from sameBytes sameBytes-sym sameBytes-refl (λ i. i .chars) P (t .texts) (keep long-text js) new))
@@ -169,7 +173,8 @@ module _ (n : ℕ) (t : Tables) (js : List Item) (fine : Each (Fine-item n) js) 
   abbrev large-number : Item → Bool
   large-number i = is word i && numeral (i .chars) && ltb limit.small (natAbs (number-in i))
 
-  pub numbers-after : Each (λ i. T (is word i) → T (numeral (i .chars)) → T (in-range (number-in i))) js → Each (λ z. T (ltb limit.small (natAbs z) && in-range z)) (t .numbers)
+  pub numbers-after : Each (λ i. T (is word i) → T (numeral (i .chars)) → T (in-range (number-in i))) js
+      → Each (λ z. T (ltb limit.small (natAbs z) && in-range z)) (t .numbers)
       → Each (λ z. T (ltb limit.small (natAbs z) && in-range z)) (t .numbers ++ map number-in (new-numbers t js))
   numbers-after r h =
       let P : Item → Type 0 = λ i. T (ltb limit.small (natAbs (number-in i)) && in-range (number-in i)) in
@@ -187,7 +192,8 @@ module _ (n : ℕ) (t : Tables) (js : List Item) (fine : Each (Fine-item n) js) 
 
   pub numbers-kept : Each (λ i. T (is word i) → T (numeral (i .chars)) → T (in-numbers (t .numbers ++ map number-in (new-numbers t js)) (number-in i))) js
   numbers-kept =
-      each-map _ _ (λ i e k l. small-or limit.small (natAbs (number-in i)) _ (λ m. e (T-both (is word i && numeral (i .chars)) (ltb limit.small (natAbs (number-in i))) (T-both (is word i) (numeral (i .chars)) k l) m))) js
+      each-map _ _
+      (λ i e k l. small-or limit.small (natAbs (number-in i)) _ (λ m. e (T-both (is word i && numeral (i .chars)) (ltb limit.small (natAbs (number-in i))) (T-both (is word i) (numeral (i .chars)) k l) m))) js
       (each-unkeep (λ i. T (any (sameNumber (number-in i)) (t .numbers ++ map number-in (new-numbers t js)))) large-number js (fresh-holds sameNumber sameNumber-sym sameNumber-refl number-in (t .numbers) (keep large-number js)))
 
   pub numbers-apart : T (different sameNumber (t .numbers)) → T (different sameNumber (t .numbers ++ map number-in (new-numbers t js)))
