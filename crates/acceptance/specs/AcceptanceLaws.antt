@@ -108,7 +108,8 @@ module _ (s : List ℕ) (t : Tables) where
       let w = getD (t .code) k no-written in
       let ended : T (ends w) =
       cond-none (ends w) (w .at) []
-      (each-none (λ w. cond (ends w) [] (w .at ∷ [])) (w ∷ drop (suc k) (t .code)) (subst (λ (ws : List Written). each (λ w. cond (ends w) [] (w .at ∷ [])) ws ≡ []) (drop-cons (t .code) k no-written inside) h) .0) in
+      (each-none (λ w. cond (ends w) [] (w .at ∷ [])) (w ∷ drop (suc k) (t .code))
+      (subst (λ (ws : List Written). each (λ w. cond (ends w) [] (w .at ∷ [])) ws ≡ []) (drop-cons (t .code) k no-written inside) h) .0) in
       subst (λ (j : ℕ). T (is-end (operation (getD (map (instr-of s t) (t .code)) (pred j) no-instr .op) .flow))) (sym (length-map (t .code) (instr-of s t)))
       (subst (λ (i : Instr). T (is-end (operation (i .op) .flow))) (sym (getD-mapped (instr-of s t) (t .code) k no-written no-instr inside)) ended)
     where
@@ -177,7 +178,8 @@ module _ (s : List ℕ) (short : length s ≤ limit.text) (d : Draft) (h : Sound
       each-all (good-switch program) (map switch-of (tables .switches))
       (each-mapped (λ w. T (good-switch program w)) switch-of (tables .switches)
       (each-map _ _ (λ c e. switch-good s tables (length s) c (e .0) (e .1)) (tables .switches)
-      (each-both (Sound-choice (length s) (tables .texts)) (λ c. Each (λ i. T (is-label tables i)) (keep (is word) (c .list))) (tables .switches) (h .tables .switches) (declarations .switches-declared))))
+      (each-both (Sound-choice (length s) (tables .texts)) (λ c. Each (λ i. T (is-label tables i)) (keep (is word) (c .list))) (tables .switches) (h .tables .switches)
+      (declarations .switches-declared))))
 
   entries-total : (cs : List Choice) → total (λ w. length (w .entries)) (map switch-of cs) ≡ total (λ c. length (keep (is word) (c .list))) cs
   entries-total [] = refl

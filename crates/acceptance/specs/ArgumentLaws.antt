@@ -221,7 +221,8 @@ switch-type place w b (c ∷ cs) h k =
     go true e false f k r =
         let q = sameBytes-eq w (c .name) (subst T (sym e) tt) in
         absurd
-        (named-none w b cs (subst (λ (v : List ℕ). T (not (any (sameBytes v) (by-names cs)))) (sym q) (T-left (not (any (sameBytes (c .name)) (by-names cs))) (different sameBytes (by-names cs)) h)) k)
+        (named-none w b cs
+        (subst (λ (v : List ℕ). T (not (any (sameBytes v) (by-names cs)))) (sym q) (T-left (not (any (sameBytes (c .name)) (by-names cs))) (different sameBytes (by-names cs)) h)) k)
     go false e u f k r = r k
 
 -- The argument that load makes
@@ -299,8 +300,11 @@ module _ (s : List ℕ) (t : Tables) (n : ℕ) (i : Item) where
       let w = i .chars in
       let r = other-reads w f o (as-word i f (o .no-t) (a .as-form)) in
       let l : letter-of (headOr 0 w) ≡ r .by = ap letter-of (first-is w f r) ∙ letter-of-code (r .by) in
-      rw (o .no-t, o .no-n, o .no-c, o .no-l, o .no-w, o .no-x, l)
-      (sym (r .form-is), index-ranged (indices (use-of (r .by) .var)) (drop 1 w) (T-right (eqb (headOr 0 w) (letter-code (r .by))) (is-index (indices (use-of (r .by) .var)) (drop 1 w)) (r .indexed)))
+      rw (o .no-t, o .no-n, o .no-c, o .no-l, o .no-w, o .no-x, l) (
+        sym (r .form-is),
+        index-ranged (indices (use-of (r .by) .var)) (drop 1 w)
+            (T-right (eqb (headOr 0 w) (letter-code (r .by))) (is-index (indices (use-of (r .by) .var)) (drop 1 w)) (r .indexed)),
+      )
 
   made-right : T (different sameBytes (by-names (t .switches))) → (f : ℕ) → Sound-argument n (t .texts) (t .numbers) (record { item = i; form = f })
       → Declared t (record { item = i; form = f }) → right f

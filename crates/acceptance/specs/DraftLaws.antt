@@ -31,6 +31,10 @@ use Rattle.acceptance.specs.Drafts.{Sound-item, Fine-item, in-texts, in-
 use Rattle.acceptance.specs.ArgumentLaws.{word-apart, Readable-item, number-range}
 use Rattle.acceptance.specs.StatementLaws.{fine-items, each-behind, front-names, label-names, sameBytes-sym, texts-after, texts-kept, texts-apart, numbers-after, numbers-kept, numbers-apart, within}
 
+one-operator : (ys : List Item) → T (filled ys) → length (take 1 ys) ≡ 1
+one-operator [] h = absurd h
+one-operator (y ∷ ys) h = refl
+
 -- What is kept stays kept in longer tables
 
 in-texts-more : (texts new : List (List ℕ)) (w : List ℕ) → T (in-texts texts w) → T (in-texts (texts ++ new) w)
@@ -107,7 +111,8 @@ module _ (n : ℕ) (t : Tables) (ls x : List Item) (op : Op) (fine : Each (Fine-
     readable : Each (λ i. T (not (is colon i)) → Readable-item i) after-it
     readable =
         each-unkeep Readable-item (λ i. not (is colon i)) after-it
-        (of-arguments Readable-item js (alternatives op) (each-map _ _ (λ a h. record { form-of = a .form; as-form = h }) (arguments op after-it) (arguments-read js (alternatives op) (instr-facts .no-dash))))
+        (of-arguments Readable-item js (alternatives op)
+        (each-map _ _ (λ a h. record { form-of = a .form; as-form = h }) (arguments op after-it) (arguments-read js (alternatives op) (instr-facts .no-dash))))
 
     numbers-in-range : Each (λ z. T (ltb limit.small (natAbs z) && in-range z)) (t .numbers) → Each (λ z. T (ltb limit.small (natAbs z) && in-range z)) numbers-then
     numbers-in-range h =
@@ -116,7 +121,8 @@ module _ (n : ℕ) (t : Tables) (ls x : List Item) (op : Op) (fine : Each (Fine-
     all-kept : Each (Kept texts-then numbers-then) after-it
     all-kept =
         each-map _ _ (λ i e. record { text-kept = e .0; number-kept = e .1 }) after-it
-        (each-both (λ i. T (is text i) → T (in-texts texts-then (i .chars))) (λ i. T (is word i) → T (numeral (i .chars)) → T (in-numbers numbers-then (number-in i))) after-it (texts-kept n t after-it rest-fine) (numbers-kept n t after-it rest-fine))
+        (each-both (λ i. T (is text i) → T (in-texts texts-then (i .chars))) (λ i. T (is word i) → T (numeral (i .chars)) → T (in-numbers numbers-then (number-in i))) after-it
+        (texts-kept n t after-it rest-fine) (numbers-kept n t after-it rest-fine))
 
     arguments-sound : Each (Sound-argument n texts-then numbers-then) (arguments op after-it)
     arguments-sound =
@@ -124,7 +130,8 @@ module _ (n : ℕ) (t : Tables) (ls x : List Item) (op : Op) (fine : Each (Fine-
         let both : Item → Type 0 = λ i. Fine-item n i × Kept texts-then numbers-then i in
         let items : Each both js = each-keep both (λ i. not (is colon i)) after-it (each-both (Fine-item n) (Kept texts-then numbers-then) after-it rest-fine all-kept) in
         each-map _ _ (λ a e. record { as-form = e .0; fine = e .1 .0; kept = e .1 .1 }) args
-        (each-both (λ a. T (reads (a .item) (a .form))) (λ a. both (a .item)) args (arguments-read js (alternatives op) (instr-facts .no-dash)) (arguments-of both js (alternatives op) items))
+        (each-both (λ a. T (reads (a .item) (a .form))) (λ a. both (a .item)) args (arguments-read js (alternatives op) (instr-facts .no-dash))
+        (arguments-of both js (alternatives op) items))
 
     module _ (there : T (filled (behind x))) where
       at-operator : operator-at x < n
@@ -167,30 +174,38 @@ module _ (n : ℕ) (t : Tables) (ls x : List Item) (op : Op) (fine : Each (Fine-
           let longer = length-append (t .code) (w ∷ []) in
           record {
             code = each-append (Sound-written n texts-then numbers-then) (t .code) (w ∷ [])
-                (each-map _ _ (written-more n (t .texts) texts-then (t .numbers) numbers-then (in-texts-more (t .texts) _) (in-numbers-more (t .numbers) _)) (t .code) (h .code)) (written-sound, tt);
+                (each-map _ _ (written-more n (t .texts) texts-then (t .numbers) numbers-then (in-texts-more (t .texts) _) (in-numbers-more (t .numbers) _)) (t .code)
+                (h .code)) (written-sound, tt);
             labels = each-append (Sound-label (length (t .code ++ (w ∷ [])))) (t .labels) _
                 (each-map _ _ (λ l e. record { name = e .name; short = e .short; target = omega (arith, longer, e .target) }) (t .labels) (h .labels))
-                (each-mapped (Sound-label (length (t .code ++ (w ∷ [])))) _ ls (each-map _ _ (λ l e. record { name = T-right (is word l) (identifier (l .chars)) (e .name); short = e .fine .short; target = omega (arith, longer) }) ls names));
+                (each-mapped (Sound-label (length (t .code ++ (w ∷ [])))) _ ls
+                (each-map _ _ (λ l e. record { name = T-right (is word l) (identifier (l .chars)) (e .name); short = e .fine .short; target = omega (arith, longer) }) ls names));
             switches = each-map _ _ (choice-more n (t .texts) texts-then (in-texts-more (t .texts) _)) (t .switches) (h .switches);
             texts = texts-after n t after-it rest-fine (h .texts);
             numbers = numbers-in-range (h .numbers);
             texts-different = texts-apart n t after-it rest-fine (h .texts-different);
             numbers-different = numbers-apart n t after-it rest-fine (h .numbers-different);
-            code-few = omega (arith, longer, within limit.instructions (length (t .code)) (operator x) (h₃ .0) (h .code-few), one (behind x) there);
+            code-few = omega (arith, longer, within limit.instructions (length (t .code)) (operator x) (h₃ .0) (h .code-few), one-operator (behind x) there);
             labels-few = omega (arith, length-append (t .labels) (map mk ls), length-map ls mk, within limit.labels (length (t .labels)) ls (h₃ .1) (h .labels-few));
             switches-few = h .switches-few;
             entries-few = h .entries-few;
             texts-few =
-                omega
-                (arith, length-append (t .texts) (contents (new-texts t after-it)), length-map (new-texts t after-it) (λ i. i .chars), within limit.texts (length (t .texts)) (new-texts t after-it) (h₂ .1) (h .texts-few));
+                omega (
+                  arith,
+                  length-append (t .texts) (contents (new-texts t after-it)),
+                  length-map (new-texts t after-it) (λ i. i .chars),
+                  within limit.texts (length (t .texts))
+                      (new-texts t after-it) (h₂ .1) (h .texts-few),
+                );
             numbers-few =
-                omega
-                (arith, length-append (t .numbers) (map number-in (new-numbers t after-it)), length-map (new-numbers t after-it) number-in, within limit.numbers (length (t .numbers)) (new-numbers t after-it) (h₁ .1) (h .numbers-few));
+                omega (
+                  arith,
+                  length-append (t .numbers) (map number-in (new-numbers t after-it)),
+                  length-map (new-numbers t after-it) number-in,
+                  within limit.numbers (length (t .numbers))
+                      (new-numbers t after-it) (h₁ .1) (h .numbers-few),
+                );
           }
-        where
-          one : (ys : List Item) → T (filled ys) → length (take 1 ys) ≡ 1
-          one [] h = absurd h
-          one (y ∷ ys) h = refl
 
 -- A switch
 
@@ -238,19 +253,25 @@ module _ (n : ℕ) (t : Tables) (l : Item) (x : List Item) (byName : Bool) (fine
         labels-few = h .labels-few;
         switches-few =
             omega
-            (arith, length-append (t .switches) (c ∷ []), within limit.switches (length (t .switches)) (operator x) (h₂ .0) (h .switches-few), one (behind x) there);
+            (arith, length-append (t .switches) (c ∷ []), within limit.switches (length (t .switches)) (operator x) (h₂ .0) (h .switches-few), one-operator (behind x) there);
         entries-few =
-            omega
-            (arith, total-append count (t .switches) (c ∷ []), counted, within limit.entries (length (each (λ c. keep (is word) (c .list)) (t .switches))) (keep (is word) items) (h₂ .1) (omega (arith, counted, h .entries-few)));
+            omega (
+              arith,
+              total-append count (t .switches) (c ∷ []),
+              counted,
+              within limit.entries (length (each (λ c. keep (is word) (c .list)) (t .switches))) (keep (is word) items) (h₂ .1)
+                  (omega (arith, counted, h .entries-few)),
+            );
         texts-few =
-            omega
-            (arith, length-append (t .texts) (contents (new-texts t items)), length-map (new-texts t items) (λ i. i .chars), within limit.texts (length (t .texts)) (new-texts t items) (h₁ .1) (h .texts-few));
+            omega (
+              arith,
+              length-append (t .texts) (contents (new-texts t items)),
+              length-map (new-texts t items) (λ i. i .chars),
+              within limit.texts (length (t .texts)) (new-texts t items)
+                  (h₁ .1) (h .texts-few),
+            );
         numbers-few = h .numbers-few;
       }
-    where
-      one : (ys : List Item) → T (filled ys) → length (take 1 ys) ≡ 1
-      one [] h = absurd h
-      one (y ∷ ys) h = refl
 
 -- Any statement
 
@@ -402,7 +423,8 @@ module _ (n : ℕ) (d : Draft) (x : List Item) (h : Sound-draft n d) (sound : Ea
   all-different : T (different sameBytes (switch-names ++ contents (all-labels d x)))
   all-different =
       subst (λ (w : List (List ℕ)). T (different sameBytes w)) regrouped
-      (different-append sameBytes sameBytes-sym (own-names d) new-names (h .own-different) (new-here .1) (each-map _ _ (λ m k. unknown-names (d .names) (own-names d) m (h .own-known) k) new-names (new-here .0)))
+      (different-append sameBytes sameBytes-sym (own-names d) new-names (h .own-different) (new-here .1)
+      (each-map _ _ (λ m k. unknown-names (d .names) (own-names d) m (h .own-known) k) new-names (new-here .0)))
 
   abbrev Known : List ℕ → Type 0
   Known w = T (any (sameBytes w) (d .names ++ new-names))
@@ -410,7 +432,8 @@ module _ (n : ℕ) (d : Draft) (x : List Item) (h : Sound-draft n d) (sound : Ea
   all-known : Each Known (switch-names ++ contents (all-labels d x))
   all-known =
       subst (λ (w : List (List ℕ)). Each Known w) regrouped
-      (each-append Known (own-names d) new-names (each-map _ _ (λ w k. any-left (sameBytes w) (d .names) new-names k) (own-names d) (h .own-known)) (each-map _ _ (λ w k. any-right (sameBytes w) (d .names) new-names k) new-names (each-itself new-names)))
+      (each-append Known (own-names d) new-names (each-map _ _ (λ w k. any-left (sameBytes w) (d .names) new-names k) (own-names d) (h .own-known))
+      (each-map _ _ (λ w k. any-right (sameBytes w) (d .names) new-names k) new-names (each-itself new-names)))
 
   pub draft-sound : Sound-draft n (draft-after d x)
   unfolding draft-after

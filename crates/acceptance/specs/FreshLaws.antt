@@ -43,7 +43,8 @@ module _ {X : Type 0} (equal : X → X → Bool) (symmetric : (x y : X) → equa
   different-append [] ys h k e = k
   different-append (x ∷ xs) ys h k e =
       T-both (not (any (equal x) (xs ++ ys))) (different equal (xs ++ ys))
-      (each-none-passes (equal x) (xs ++ ys) (each-append (λ y. T (not (equal x y))) xs ys (none-each (equal x) xs (T-left (not (any (equal x) xs)) (different equal xs) h)) (each-map _ _ other ys e)))
+      (each-none-passes (equal x) (xs ++ ys)
+      (each-append (λ y. T (not (equal x y))) xs ys (none-each (equal x) xs (T-left (not (any (equal x) xs)) (different equal xs) h)) (each-map _ _ other ys e)))
       (different-append xs ys (T-right (not (any (equal x) xs)) (different equal xs) h) k (each-map _ _ (λ y n. split-not (equal y x) (any (equal y) xs) n .1) ys e))
     where
       other : (y : X) → T (not (equal y x || any (equal y) xs)) → T (not (equal x y))

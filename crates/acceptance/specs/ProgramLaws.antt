@@ -111,7 +111,8 @@ module _ (s : List ℕ) (t : Tables) where
       let i = instr-of s t w in
       let k =
       placed w (h .few)
-      (each-map _ _ (λ a e. argument-right s t (length s) u a (e .0) (e .1)) (w .args) (each-both (Sound-argument (length s) (t .texts) (t .numbers)) (Declared t) (w .args) (h .each-argument) d))
+      (each-map _ _ (λ a e. argument-right s t (length s) u a (e .0) (e .1)) (w .args)
+      (each-both (Sound-argument (length s) (t .texts) (t .numbers)) (Declared t) (w .args) (h .each-argument) d))
       (h .fit) in
       let b = ranged p (i .first) in
       let c = ranged p (i .second) in
@@ -191,7 +192,8 @@ module _ (s : List ℕ) (t : Tables) (byName : Bool) where
           let there : T (is text j) = subst T (sym e) tt in
           let w = j .chars in
           or-right (not (filled w)) (byName && good-text w && in-texts (t .texts) w)
-          (T-both (byName && good-text w) (in-texts (t .texts) w) (T-both byName (good-text w) (T-left byName before (text-there byName before (ifAny false (is text) js) j f there)) (k .0 .text-good there)) (k .0 .text-held there))
+          (T-both (byName && good-text w) (in-texts (t .texts) w)
+          (T-both byName (good-text w) (T-left byName before (text-there byName before (ifAny false (is text) js) j f there)) (k .0 .text-good there)) (k .0 .text-held there))
       go false e f = tt
 
   entries-good : (before : Bool) (js : List Item) → list-faults byName before js ≡ [] → Each (Entered t) js
@@ -220,7 +222,9 @@ unfolding good-switch
 switch-good s t n c h d =
     let entered : Each (Entered t) (c .list) =
     each-map _ _ (λ i e. record { text-good = e .0 .good; text-held = e .1 .0; label-held = e .1 .1 }) (c .list)
-    (each-both (Fine-item n) _ (c .list) (h .fine) (each-both (λ i. T (is text i) → T (in-texts (t .texts) (i .chars))) (λ i. T (is word i) → T (any (λ l. sameBytes (i .chars) (l .name)) (t .labels))) (c .list) (h .kept) (each-unkeep _ (is word) (c .list) d))) in
+    (each-both (Fine-item n) _ (c .list) (h .fine)
+    (each-both (λ i. T (is text i) → T (in-texts (t .texts) (i .chars))) (λ i. T (is word i) → T (any (λ l. sameBytes (i .chars) (l .name)) (t .labels))) (c .list) (h .kept)
+    (each-unkeep _ (is word) (c .list) d))) in
     T-both (filled (entries-in (label-place t) (c .list))) (all (good-entry (program-of s t) (c .byName)) (entries-in (label-place t) (c .list)))
     (entries-there (c .byName) (label-place t) (c .list) (h .some) (h .faultless))
     (entries-good s t (c .byName) false (c .list) (h .faultless) entered)

@@ -22,7 +22,7 @@ use Rattle.syntax.specs.ArgumentForms.{form-in, is-indexed, word-reads, reads, 
 use Rattle.syntax.specs.Items.{Item, is}
 use Rattle.syntax.specs.Items.Sort.{text}
 use Rattle.acceptance.specs.Reading.{fits, apart, agree, agreed, may-end, right-number, right-forms}
-use Rattle.acceptance.specs.RowLaws.{or-left, or-right, or-not, any-found, any-more, any-unkeep, any-mapped, each-map, each-keep, each-kept, each-mapped, each-both}
+use Rattle.acceptance.specs.RowLaws.{fails, or-left, or-right, or-not, any-found, any-more, any-unkeep, any-mapped, each-map, each-keep, each-kept, each-mapped, each-both}
 
 pub forms-right : (op : Op) → T (right-forms op)
 forms-right PRZESLIJ = tt
@@ -144,12 +144,8 @@ letter-form : (f : ℕ) → T (form-in "ABCDEINPQTYZ" f) → Other f
 letter-form f h =
     record { no-t = differs 116 tt; no-n = differs 110 tt; no-c = differs 99 tt; no-l = differs 108 tt; no-w = differs 119 tt; no-x = differs 120 tt }
   where
-    opposite : (b : Bool) → T (not b) → b ≡ false
-    opposite true h = absurd h
-    opposite false h = refl
-
     differs : (k : ℕ) → T (all (λ g. not (eqb g k)) (bytes "ABCDEINPQTYZ")) → eqb f k ≡ false
-    differs k t = opposite (eqb f k) (all-among (λ g. not (eqb g k)) (bytes "ABCDEINPQTYZ") t f h)
+    differs k t = fails (eqb f k) (all-among (λ g. not (eqb g k)) (bytes "ABCDEINPQTYZ") t f h)
 
 head-letter : (i : Item) (f : ℕ) → T (form-in "ABCDEINPQTYZ" f) → T (reads i f) → headOr 0 (i .chars) ≡ f
 head-letter i f h k =
@@ -227,7 +223,8 @@ tails-agree : (n : ℕ) (live : List (List (List ℕ))) → Each (λ a. Each (λ
     → Each (λ a. Each (λ b. T (agree (suc n) a b)) (map (drop 1) live)) (map (drop 1) live)
 tails-agree n live h =
     each-mapped (λ a. Each (λ b. T (agree (suc n) a b)) (map (drop 1) live)) (drop 1) live
-    (each-map _ _ (λ a k. each-mapped (λ b. T (agree (suc n) (drop 1 a) b)) (drop 1) live (each-map _ _ (λ b t. T-right (all (λ x. among x (headOr [] b) || all (apart x) (headOr [] b)) (headOr [] a)) (agree (suc n) (drop 1 a) (drop 1 b)) t) live k)) live h)
+    (each-map _ _
+    (λ a k. each-mapped (λ b. T (agree (suc n) (drop 1 a) b)) (drop 1) live (each-map _ _ (λ b t. T-right (all (λ x. among x (headOr [] b) || all (apart x) (headOr [] b)) (headOr [] a)) (agree (suc n) (drop 1 a) (drop 1 b)) t) live k)) live h)
 
 Fits-by : List Item → Type 0
 Fits-by js = (alts : List (List (List ℕ))) → Readable (length js) alts → No-dash (read-by alts js) → T (any (fits (read-by alts js)) alts)
@@ -259,7 +256,8 @@ more-fits (j ∷ js) i alts (a ∷ live) e g k d ih =
       agrees = tails-agree n (a ∷ live) g;
     } in
     any-more (λ b. fits rest (drop 1 b)) (λ b. among f (headOr [] b) && fits rest (drop 1 b)) (a ∷ live)
-    (each-map _ _ (λ b h u. T-both (among f (headOr [] b)) (fits rest (drop 1 b)) (same-form n i f a b (h .0) (t .0) (t .1) (h .1)) u) (a ∷ live) (each-both (λ b. T (agree (suc (suc n)) a b)) (λ b. T (any (reads i) (headOr [] b))) (a ∷ live) (g .0) k))
+    (each-map _ _ (λ b h u. T-both (among f (headOr [] b)) (fits rest (drop 1 b)) (same-form n i f a b (h .0) (t .0) (t .1) (h .1)) u) (a ∷ live)
+    (each-both (λ b. T (agree (suc (suc n)) a b)) (λ b. T (any (reads i) (headOr [] b))) (a ∷ live) (g .0) k))
     (any-mapped (fits rest) (drop 1) (a ∷ live) (ih tails r (d .1)))
 
 all-fit : (js : List Item) → Fits-by js
@@ -271,7 +269,8 @@ all-fit (i ∷ js) alts r d =
     let live = keep q alts in
     let n = suc (length js) in
     any-unkeep (fits (argument-by i live ∷ read-by (map (drop 1) (cond (filled live) live alts)) js)) q alts
-    (more-fits js i alts live (each-keep _ q alts (r .ends)) (each-keep _ q alts (each-map _ _ (λ a h. each-keep (λ b. T (agree n a b)) q alts h) alts (r .agrees))) (each-kept q alts) d (all-fit js))
+    (more-fits js i alts live (each-keep _ q alts (r .ends)) (each-keep _ q alts (each-map _ _ (λ a h. each-keep (λ b. T (agree n a b)) q alts h) alts (r .agrees))) (each-kept q alts) d
+    (all-fit js))
 
 -- the arguments of an instruction, as many as it takes, none left out: they stand in one list of its forms
 pub arguments-fit : (op : Op) (js : List Item) → length js ≤ most op → least op ≤ length js → No-dash (read-by (alternatives op) js)

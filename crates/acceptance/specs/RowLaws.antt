@@ -30,6 +30,10 @@ pub not-not : (a : Bool) → T (not (not a)) → T a
 not-not true h = tt
 not-not false h = h
 
+pub fails : (a : Bool) → T (not a) → a ≡ false
+fails true h = absurd h
+fails false h = refl
+
 -- No element is left
 
 pub append-none : {X : Type 0} (xs ys : List X) → xs ++ ys ≡ [] → (xs ≡ []) × (ys ≡ [])

@@ -24,7 +24,7 @@ use Rattle.syntax.specs.Questions.{first-faults, operator-faults, beyond}
 use Rattle.syntax.specs.Statements.{Keyword, same-keyword, keyword-of, is-operator, front, behind, labels-in, is-name, one-name}
 use Rattle.syntax.specs.Statements.Keyword.{unknown, SEKCJA}
 use Rattle.syntax.specs.Tables.{Tables, contents, new-texts, new-numbers, number-in}
-use Rattle.acceptance.specs.RowLaws.{not-not, append-none, map-none, drop-none, keep-none, each-map, each-both, each-keep, each-kept, each-unkeep, each-mapped}
+use Rattle.acceptance.specs.RowLaws.{fails, not-not, append-none, map-none, drop-none, keep-none, each-map, each-both, each-keep, each-kept, each-unkeep, each-mapped}
 use Rattle.acceptance.specs.ArgumentLaws.{word-apart}
 use Rattle.acceptance.specs.FreshLaws.{fresh-holds, fresh-different, fresh-from}
 use Rattle.acceptance.specs.Drafts.{Sound-item, Fine-item, in-texts, in-numbers, Sound-name}
@@ -96,11 +96,7 @@ first-front (i ∷ js) h = go (filled (i .colon)) refl (same-keyword SEKCJA (key
         → cond (is-operator i) [] (i ∷ front js) ≡ []
     go true e b f h = absurd (let z : _≡_ {A = ℕ} 0 1 = cc in omega arith)
     go false e false f h = absurd (let z : _≡_ {A = ℕ} 0 1 = cc in omega arith)
-    go false e true f h = rw (opposite (is colon i) (word-apart i (sekcja-word i (subst T (sym f) tt)) .1), e) refl
-      where
-        opposite : (b : Bool) → T (not b) → b ≡ false
-        opposite true h = absurd h
-        opposite false h = refl
+    go false e true f h = rw (fails (is colon i) (word-apart i (sekcja-word i (subst T (sym f) tt)) .1), e) refl
 
 pub front-names : (first : Bool) (x : List Item) → cond first (first-faults x) [] ≡ [] → cond first [] (operator-faults x) ≡ [] → Each (λ i. T (is-name i)) (front x)
 unfolding operator-faults
@@ -165,7 +161,8 @@ module _ (n : ℕ) (t : Tables) (js : List Item) (fine : Each (Fine-item n) js) 
   pub texts-kept : Each (λ i. T (is text i) → T (in-texts (t .texts ++ contents (new-texts t js)) (i .chars))) js
   texts-kept =
       each-map _ _ (λ i e k. small-or 1 (length (i .chars)) _ (λ l. e (T-both (is text i) (ltb 1 (length (i .chars))) k l))) js
-      (each-unkeep (λ i. T (any (sameBytes (i .chars)) (t .texts ++ contents (new-texts t js)))) long-text js (fresh-holds sameBytes sameBytes-sym sameBytes-refl (λ i. i .chars) (t .texts) (keep long-text js)))
+      (each-unkeep (λ i. T (any (sameBytes (i .chars)) (t .texts ++ contents (new-texts t js)))) long-text js
+      (fresh-holds sameBytes sameBytes-sym sameBytes-refl (λ i. i .chars) (t .texts) (keep long-text js)))
 
   pub texts-apart : T (different sameBytes (t .texts)) → T (different sameBytes (t .texts ++ contents (new-texts t js)))
   texts-apart h = fresh-different sameBytes sameBytes-sym sameBytes-refl (λ i. i .chars) (t .texts) (keep long-text js) h
@@ -194,7 +191,8 @@ module _ (n : ℕ) (t : Tables) (js : List Item) (fine : Each (Fine-item n) js) 
   numbers-kept =
       each-map _ _
       (λ i e k l. small-or limit.small (natAbs (number-in i)) _ (λ m. e (T-both (is word i && numeral (i .chars)) (ltb limit.small (natAbs (number-in i))) (T-both (is word i) (numeral (i .chars)) k l) m))) js
-      (each-unkeep (λ i. T (any (sameNumber (number-in i)) (t .numbers ++ map number-in (new-numbers t js)))) large-number js (fresh-holds sameNumber sameNumber-sym sameNumber-refl number-in (t .numbers) (keep large-number js)))
+      (each-unkeep (λ i. T (any (sameNumber (number-in i)) (t .numbers ++ map number-in (new-numbers t js)))) large-number js
+      (fresh-holds sameNumber sameNumber-sym sameNumber-refl number-in (t .numbers) (keep large-number js)))
 
   pub numbers-apart : T (different sameNumber (t .numbers)) → T (different sameNumber (t .numbers ++ map number-in (new-numbers t js)))
   numbers-apart h = fresh-different sameNumber sameNumber-sym sameNumber-refl number-in (t .numbers) (keep large-number js) h
