@@ -1,0 +1,5 @@
+pub mod Replaced
+pub mod Removed
+pub mod Pointers
+pub mod Stored
+pub mod Swapped
