@@ -1,0 +1,42 @@
+// Writes a line of 64 bytes: the characters of EOL-2 that can be seen, in the order of their ranks, and spaces.
+ghost use Prim.Native.Nat.{_≤_};
+
+pub struct Line {
+    pub bytes: [u8; 64],
+    pub len: usize,
+}
+
+impl Line {
+    // With one character more, where it can be seen and there is room.
+    pub fn with(self, b: u8) -> Line {
+        let at = self.len;
+        if 63 <= at {
+            return self;
+        }
+        if !characters::between(b' ', b'~', b) {
+            return self;
+        }
+        let mut next = self;
+        next.bytes[at] = b;
+        next.len = at + 1;
+        next
+    }
+}
+
+fn characters_seen() -> Line {
+    let mut line = Line {
+        bytes: [b' '; 64],
+        len: 0,
+    };
+    for rank in 1..62 {
+        line = line.with(characters::byte_of(rank));
+    }
+    line
+}
+
+fn main() {
+    let line = characters_seen();
+    let mut bytes = line.bytes;
+    bytes[63] = b'\n';
+    io::write_all(1, &bytes);
+}
