@@ -3,17 +3,17 @@ use mathlib.Core.Path.{_≡_, refl, sym, ap, ap₂, _∙_}
 use mathlib.Core.Bool.{Bool, true, false, _&&_}
 use mathlib.Core.List.{List, [], _∷_, _++_, append-assoc}
 use Prim.Native.Nat.{ℕ, zero, suc, _+_, _-_, _*_, _/_, _%_, _≤_, _<_, min}
-use native.Mathlib.Nat.{add-mul-mod-self-left, mod-eq-of-lt, sub-zero, sub-self}
+use native.Mathlib.Nat.{add-mul-mod-self-left, mod-eq-of-lt, sub-zero}
 use native.Mathlib.Numerals.{add-one, add-two, add-three}
 use native.Mathlib.Decide.{ℕ-discrete, decLe}
 use native.Mathlib.Omega.{arith}
 use lib.Dec.{eqb}
-use lib.ListN.{length, getD, take, drop, set, take-append-drop, drop-of-length-le, length-take, length-drop, length-append}
-use lib.Seq.{take-all, take-at, take-add, drop-at, drop-nil, drop-drop, drop-cons, getD-take, getD-drop, take-append-le, length-take-le, sets, sets-eq}
+use lib.ListN.{length, getD, take, drop, set, take-append-drop, drop-of-length-le, length-take, length-drop}
+use lib.Seq.{take-all, take-at, take-add, drop-at, drop-nil, drop-drop, drop-cons, getD-take, getD-drop, take-append-le, length-take-le, sets-eq}
 use borrow.Author.Tests.{eq-eqb, ne-eqb}
-use Rattle.layout.specs.Cells.{cell, four, unfours}
-use Rattle.layout.specs.Table.{chars-in}
 use Rattle.lists.specs.Lists.{sameBytes}
+use Rattle.layout.specs.Cells.{four, unfours}
+use Rattle.layout.specs.Table.{chars-in}
 use Rattle.packed.specs.Packed.{table-of, Copied}
 
 -- ---- a cell and bytes

@@ -1,12 +1,10 @@
 -- What the cell of an argument says, for each kind.
 use mathlib.Core.Path.{_≡_, refl, sym, ap, _∙_}
-use mathlib.Core.Bool.{cond}
-use mathlib.Core.List.{List, [], _∷_, _++_}
+use mathlib.Core.List.{List}
 use Prim.Native.Nat.{ℕ, zero, suc, _+_, _-_, _*_, _/_, _%_, _≤_, _<_}
 use native.Mathlib.Nat.{add-mul-div-left, add-mul-mod-self-left}
 use native.Mathlib.Omega.{arith}
-use lib.Dec.{eqb}
-use lib.ListN.{length, getD, take, List·getD-eq-default, length-take}
+use lib.ListN.{getD, List·getD-eq-default, length-take}
 use lib.Seq.{getD-take}
 use borrow.Author.Tests.{lt-ltb, le-ltb, ne-eqb}
 use Rattle.language.specs.Letters as letters
@@ -14,11 +12,10 @@ use Rattle.language.specs.Program.{Arg}
 use Rattle.language.specs.Program.Arg.{nothing, letter, label, switch, class, text}
 use Rattle.layout.specs.Cells.{cell, uncode}
 use Rattle.layout.specs.Table.{arg-in, arg-by, class-by, text-by, number-by}
-use Rattle.table.specs.Denote.{letter-of, letter-at, arg-of}
 use Rattle.packed.specs.Packed.{table-of}
+use Rattle.table.specs.Denote.{letter-of, letter-at}
 use Rattle.table.specs.Reads.{IsArgument}
 use Rattle.table.specs.declared.Letter.{Letter}
-use Rattle.table.specs.declared.Argument.{Argument}
 use Rattle.table.specs.declared.Argument.the-variants.{Nothing, Indexed, Label, Switch, Class, Text, Number}
 
 -- a cell within the table, and past it

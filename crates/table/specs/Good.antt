@@ -1,7 +1,7 @@
 -- What a well-formed table says of what is read from it.
 use mathlib.Core.Path.{_≡_}
 use mathlib.Core.List.{List}
-use Prim.Native.Nat.{ℕ, _+_, _*_, _%_, _≤_, _<_}
+use Prim.Native.Nat.{ℕ, _≤_, _<_}
 use lib.Dec.{T}
 use lib.ListN.{length}
 use Rattle.lists.specs.Lists.{all, among}
@@ -14,12 +14,12 @@ use Rattle.machine.specs.Facts.{InstrFacts}
 use Rattle.machine.specs.WellFormed.{form}
 use Rattle.layout.specs.Cells.{cell}
 use Rattle.layout.specs.Table.{text-by, instr-in, label-in, switch-in, program-of}
-use Rattle.table.specs.Denote.{letter-of, arg-of}
 use Rattle.packed.specs.Packed.{table-of}
+use Rattle.table.specs.Denote.{letter-of, arg-of}
 use Rattle.table.specs.Reads.{switch-first, switch-size, Entries}
 use Rattle.table.specs.declared.Letter.{Letter}
 use Rattle.table.specs.declared.Argument.{Argument}
-use Rattle.table.specs.declared.Argument.the-variants.{Nothing, Indexed, Label, Switch, Class, Text, Number}
+use Rattle.table.specs.declared.Argument.the-variants.{Indexed, Label, Switch, Class, Text, Number}
 
 -- an index of an indexed letter
 pub record GoodIndex (l : Letter) (n : ℕ) : Type 0 where

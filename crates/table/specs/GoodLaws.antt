@@ -1,43 +1,67 @@
 -- From a table that is well formed (question 62) to what its readers' callers use.
 use mathlib.Core.Path.{_≡_, refl, sym, ap, _∙_, subst}
-use mathlib.Core.Bool.{Bool, true, false, cond, not, _&&_, _||_}
+use mathlib.Core.Bool.{Bool, true, false, cond, not, _&&_}
 use mathlib.Core.List.{List, [], _∷_}
 use Prim.Native.Nat.{ℕ, zero, suc, _+_, _-_, _*_, _/_, _%_, _≤_, _<_}
 use native.Mathlib.Omega.{arith}
 use lib.Dec.{T, leb, ltb, leb→le, ltb→lt}
 use lib.ListN.{length, getD, take}
-use lib.IntN.{ℤ, pos, negsuc, natAbs}
-use borrow.Author.Tests.{leb-true, leb-false}
+use lib.IntN.{pos, negsuc}
+use borrow.Author.Tests.{leb-false}
 use Rattle.lists.specs.Lists.{total, all, filled, sameBytes}
 use Rattle.lists.specs.ListLaws.{T-left, T-right, all-at}
 use Rattle.characters.specs.Characters.{known}
 use Rattle.language.specs.Limits as limit
-use Rattle.language.specs.Instructions.{Forms, operation, operator-of}
+use Rattle.language.specs.Instructions.{operation, operator-of}
 use Rattle.language.specs.Letters.{indices, use-of}
-use Rattle.language.specs.Program.{Arg, Instr, Label as LabelOf, Switch as SwitchOf, Entry, Program, no-instr, no-label, no-switch, no-entry, classes, instr-at, label-at, switch-at}
-use Rattle.language.specs.Program.Arg.{nothing, letter, label, switch, class, text}
+use Rattle.language.specs.Program.{Arg, Instr, Label as LabelOf, Switch as SwitchOf, Entry, Program, no-instr, no-label, no-switch, no-entry, classes, instr-at, label-at, switch-at, target-of}
+use Rattle.language.specs.Program.Arg.{label, switch, class, text}
 use Rattle.language.specs.Values.{in-range}
-use Rattle.machine.specs.Facts.{InstrFacts, LabelFacts, ProgramFacts}
-use Rattle.machine.specs.WellFormed.{good-word, good-text, kept-text, kept-number, ranged, listed, good-entry, good-switch, good-program}
+use Rattle.machine.specs.Facts.{InstrFacts, LabelFacts}
+use Rattle.machine.specs.WellFormed.{good-word, good-text, kept-text, kept-number, ranged, good-entry, good-switch}
 use Rattle.layout.specs.ArgumentLaws.{T-or, operator-back, operator-range, index-most, text-ref-below}
-use Rattle.layout.specs.Bounds.{ProgramOk, EntryOk, KeptText, Tabled}
-use Rattle.layout.specs.CellLaws.{each-in, each-within, each-most, getD-each, getD-tab}
-use Rattle.layout.specs.Cells.{cell, uncode, tab}
+use Rattle.layout.specs.Bounds.{ProgramOk, EntryOk, Tabled}
+use Rattle.layout.specs.CellLaws.{each-in, each-within, each-most, getD-each, length-tab, getD-tab}
+use Rattle.layout.specs.Cells.{cell, uncode}
 use Rattle.layout.specs.ProgramLaws.{program-ok}
-use Rattle.layout.specs.Table.{text-ref, arg-cell, instr-cells, switch-cell, entry-cell, all-entries, table-cells, text-by, class-by, arg-in, instr-in, label-in, entry-in, switch-in, program-of, good-table}
+use Rattle.layout.specs.Table.{text-ref, arg-cell, instr-cells, switch-cell, entry-cell, all-entries, table-cells, text-by, class-by, arg-in, label-in, entry-in, switch-in, program-of, good-table}
 use Rattle.layout.specs.TableLaws.{table-facts, instr-at-cell, arg-at-cell, entry-at-cell, switch-at-cell, switch-parts}
+use Rattle.packed.specs.Packed.{table-of}
 use Rattle.table.specs.Denote.{letter-of, arg-of}
 use Rattle.table.specs.Good.{GoodIndex, GoodLabel, GoodSwitch, GoodText, GoodArgument, GoodInstruction}
 use Rattle.table.specs.ReadLaws.{code-count, label-count, switch-count, instr-is, label-is, switch-is}
-use Rattle.packed.specs.Packed.{table-of}
-use Rattle.table.specs.Reads.{Small, IsArgument, switch-first, switch-size, entry-ref, Keyed, Entries}
+use Rattle.table.specs.Reads.{Small, IsArgument, switch-first, switch-size, entry-ref, Keyed, entries-from}
 use Rattle.table.specs.declared.Letter.{Letter}
 use Rattle.table.specs.declared.Argument.{Argument}
-use Rattle.table.specs.declared.Argument.the-variants.{Nothing, Indexed, Label, Switch, Class, Text, Number}
+use Rattle.table.specs.declared.Argument.the-variants.{Indexed, Label, Switch, Class, Text, Number}
 
 filled-some : {X : Type 0} (w : List X) → T (filled w) → 0 < length w
 filled-some [] z = absurd z
 filled-some (x ∷ w) z = omega arith
+
+-- ---- the entries of a switch, one by one
+
+module _ (c : List ℕ) (k : ℕ) (g : GoodSwitch c k) where
+  pub switch-length : length (switch-at (program-of c) k .entries) ≡ switch-size (table-of c) k
+  switch-length =
+      ap (λ (x : SwitchOf). length (x .entries)) (g .is)
+      ∙ length-tab (switch-size (table-of c) k) (λ i. entry-in (table-of c) (switch-first (table-of c) k + i))
+
+  pub switch-entries : switch-at (program-of c) k .entries ≡ entries-from (table-of c) (switch-first (table-of c) k) (switch-size (table-of c) k)
+  switch-entries = ap (λ (x : SwitchOf). x .entries) (g .is)
+
+  pub switch-entry : (j : ℕ) → j < switch-size (table-of c) k
+      → getD (switch-at (program-of c) k .entries) j no-entry ≡ entry-in (table-of c) (switch-first (table-of c) k + j)
+  switch-entry j h =
+      ap (λ (es : List Entry). getD es j no-entry) switch-entries
+      ∙ getD-tab (switch-size (table-of c) k) (λ i. entry-in (table-of c) (switch-first (table-of c) k + i)) j no-entry h
+
+-- where an entry leads
+pub entry-target : (c : List ℕ) (e : ℕ) → Keyed c e
+    → target-of (program-of c) (entry-in (table-of c) e) ≡ label-in (table-of c) (entry-in (table-of c) e .label) .target
+entry-target c e h = ap (λ (l : LabelOf). l .target) (label-is c (entry-in (table-of c) e .label) (h .label))
+
+-- ---- numbers and classes
 
 number-most : (v : ℕ) → T (in-range (uncode v)) → v ≤ 16777214
 unfolding uncode
@@ -80,6 +104,9 @@ module _ (c : List ℕ) (good : T (good-table c)) where
       let f : LabelFacts p (label-at p k) = each-in (LabelFacts p) (p .labels) (ok .labels-ok) k no-label h in
       let g : label-in t k .target < length (p .code) = subst (λ (l : LabelOf). l .target < length (p .code)) e (f .target) in
       record { few = omega (arith, ok .facts .labels-few); counted = n; is = e; target = g; most = omega (arith, ok .facts .code-short) }
+
+  pub entry-label : (e : ℕ) → Keyed c e → GoodLabel c (entry-in t e .label)
+  entry-label e h = good-label (entry-in t e .label) (subst (λ (m : ℕ). entry-in t e .label < m) (sym (label-count c)) (h .label))
 
   -- ---- texts
 

@@ -1,7 +1,7 @@
 -- The program of a lent table, part by part: what stands in its lists is what the readers read.
-use mathlib.Core.Path.{_≡_, refl, sym, ap, _∙_}
-use mathlib.Core.List.{List, [], _∷_}
-use Prim.Native.Nat.{ℕ, _+_, _/_, _%_, _<_}
+use mathlib.Core.Path.{_≡_}
+use mathlib.Core.List.{List, []}
+use Prim.Native.Nat.{ℕ, _<_}
 use lib.ListN.{length, getD}
 use Rattle.language.specs.Program.{no-instr, no-label, no-switch, instr-at, label-at, switch-at}
 use Rattle.layout.specs.CellLaws.{length-tab, getD-tab}

@@ -1,12 +1,12 @@
 -- What the readers of a program table ask and promise.
 use mathlib.Core.Path.{_≡_}
-use mathlib.Core.List.{List, _++_}
+use mathlib.Core.List.{List}
 use Prim.Native.Nat.{ℕ, _+_, _/_, _%_, _≤_, _<_}
 use lib.Dec.{T}
-use lib.ListN.{length, take, drop}
+use lib.ListN.{length}
+use Rattle.lists.specs.Lists.{ahead, filled, sameBytes}
 use Rattle.language.specs.Limits as limit
 use Rattle.language.specs.Program.{Entry, key-of}
-use Rattle.lists.specs.Lists.{ahead, filled, sameBytes}
 use Rattle.layout.specs.Cells.{cell, tab}
 use Rattle.layout.specs.Table.{text-by, arg-in, entry-in, program-of}
 use Rattle.packed.specs.Packed.{table-of}

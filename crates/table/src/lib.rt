@@ -1,15 +1,15 @@
 // Reading a program table, "a table of 8,192 numbers of 32 bits": the only code that reads its cells. docs/LAYOUT.md has their places.
 ghost use mathlib.Core.Path.{_≡_};
 ghost use mathlib.Core.List.{[], _∷_};
-ghost use Prim.Native.Nat.{_+_, _*_, _/_, _%_, _≤_, _<_};
-ghost use lib.ListN.{length, getD};
-ghost use Rattle.language.specs.Program.{key-of};
+ghost use Prim.Native.Nat.{_+_, _*_, _%_, _≤_, _<_};
+ghost use lib.ListN.{length};
 ghost use Rattle.lists.specs.Lists.{sameBytes};
+ghost use Rattle.language.specs.Program.{key-of};
 ghost use Rattle.cells.specs.Cells.{Number};
 ghost use Rattle.layout.specs.Cells.{cell, uncode};
 ghost use Rattle.layout.specs.Table.{number-by, text-by, instr-in, label-in, switch-in, entry-in, program-of};
-ghost use Rattle.table.specs.Denote.{letter-of, letter-at, arg-of};
 ghost use Rattle.packed.specs.Packed.{table-of, Copied};
+ghost use Rattle.table.specs.Denote.{letter-of, letter-at};
 ghost use Rattle.table.specs.Reads.{Place, IsArgument, Into, switch-first, switch-size, entry-ref, Keyed, Entries, entries-from, met};
 use language::Machine;
 
