@@ -20,7 +20,7 @@ use Rattle.scanner.specs.declared.Scan.{Scan}
 use Rattle.scanner.specs.Scans.{Skipped, Word-end, Scanned}
 use Rattle.scanner.proofs.Loops.{drop-here, getD-here}
 use Rattle.lexer.specs.declared.Token.{Token}
-use Rattle.lexer.specs.Tokens.{part, sort-at, chars-of, item-of, Stands, a-token, found-by, Finds, Begins, Word-at, Text-at, Token-at}
+use Rattle.lexer.specs.Tokens.{part, sort-at, word-of, text-of, chars-of, item-of, Stands, a-token, found-by, Finds, Begins, Word-at, Text-at, Token-at}
 
 pub sort-of-number : (k : Sort) → sort-at (sort-number k) ≡ k
 sort-of-number separator = refl
@@ -36,6 +36,19 @@ number-of-sort k h = eqb→eq (sort-number (sort-at k)) k (below (λ j. eqb (sor
 -- the sort of a token's item
 pub is-sort : (q : Sort) (s : List ℕ) (t : Token) → t .sort < 6 → is q (item-of s t) ≡ eqb (sort-number q) (t .sort)
 is-sort q s t h = rw (number-of-sort (t .sort) h) refl
+
+-- and its characters
+pub word-chars : (s : List ℕ) (t : Token) → t .sort ≡ 1 → chars-of s t ≡ word-of s t
+unfolding chars-of
+word-chars s t e = rw e refl
+
+pub text-token-chars : (s : List ℕ) (t : Token) → t .sort ≡ 4 → chars-of s t ≡ text-of s t
+unfolding chars-of
+text-token-chars s t e = rw e refl
+
+pub no-chars : (s : List ℕ) (t : Token) → (t .sort ≡ 1 → ⊥) → (t .sort ≡ 4 → ⊥) → chars-of s t ≡ []
+unfolding chars-of
+no-chars s t w x = rw (ne-eqb (t .sort) 1 w, ne-eqb (t .sort) 4 x) refl
 
 number-most : (k : Sort) → sort-number k < 6
 number-most separator = omega arith

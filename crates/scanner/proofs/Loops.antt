@@ -162,12 +162,16 @@ left-none : (star : Bool) → (text-length star [] ≡ 0) × (chars-left star []
 unfolding text-length text-chars text-allowed
 left-none star = (refl, refl, refl)
 
-given : (star t : Bool) (b : ℕ) → eqb b 42 ≡ t → length (char-of star b) ≡ cond (not (takes-next star b)) 1 0
+count-by : (star t : Bool) (b : ℕ) → eqb b 42 ≡ t → length (char-of star b) ≡ cond (not (takes-next star b)) 1 0
 unfolding char-of takes-next
-given true true b h = rw h refl
-given true false b h = rw h refl
-given false true b h = rw h refl
-given false false b h = rw h refl
+count-by true true b h = rw h refl
+count-by true false b h = rw h refl
+count-by false true b h = rw h refl
+count-by false false b h = rw h refl
+
+-- a byte gives one character, unless it takes the next
+pub given : (star : Bool) (b : ℕ) → length (char-of star b) ≡ cond (not (takes-next star b)) 1 0
+given star b = count-by star (eqb b 42) b refl
 
 pub at-most-one : (t : Bool) → cond {A = ℕ} t 1 0 ≤ 1
 at-most-one true = omega arith
@@ -181,7 +185,7 @@ module _ (s : List ℕ) (n i : ℕ) (star : Bool) (count : ℕ) (good : Bool) (c
       let r : List ℕ = drop (i + 1) s in
       let d : Bool = takes-next star b in
       let on = left-on star b r e in
-      let one = given star (eqb b 42) b refl in
+      let one = given star b in
       record {
         from = omega (arith, at-most-one (not d));
         most = omega arith;

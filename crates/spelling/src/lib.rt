@@ -1,0 +1,126 @@
+// The characters of an item: written out, and compared with others.
+ghost use mathlib.Core.Path.{_≡_};
+ghost use Prim.Native.Nat.{_+_, _≤_};
+ghost use lib.ListN.{length, take, drop};
+ghost use Rattle.lists.specs.Lists.{sameBytes};
+ghost use Rattle.syntax.specs.Items.{char-of};
+ghost use Rattle.lexer.specs.Tokens.{part, chars-of, Stands};
+ghost use Rattle.spelling.specs.Spelling.{Gives, Put, text-in, Between, Fits-text, Fits-token, Two-parts};
+
+use lexer::Token;
+use scanner::{TEXT, WORD, one_if, pair_of, takes_next};
+
+// A byte of a text, as in scanner: the character that it gives, unless it is a star that takes the next.
+fn char_of(star: bool, b: u8) -> u8
+    ensures { λ r. ⌜ Gives star b r ⌝ }
+{
+    if star { pair_of(b) } else { b }
+}
+
+// Writes its character, if it gives one, to index `j`. The index behind it.
+fn put_char(out: &mut [u8], j: usize, star: bool, b: u8) -> usize
+    requires { ⌜ j + length (char-of star b) ≤ length (now out) ⌝ }
+    ensures { λ r. ⌜ Put (now (out .entry)) j (char-of star b) r (now (out .exit)) ⌝ }
+{
+    if takes_next(star, b) {
+        return j;
+    }
+    out[j] = char_of(star, b);
+    j + 1
+}
+
+// Writes the characters of a text whose bytes stand from `at` to `end`.
+fn put_text(text: &[u8], at: usize, end: usize, out: &mut [u8]) -> usize
+    requires { ⌜ Fits-text (now text) at end (now out) ⌝ }
+    ensures { λ r. ⌜ Put (now (out .entry)) 0 (text-in (now (text .entry)) at end) r (now (out .exit)) ⌝ }
+{
+    let mut star = false;
+    let mut j: usize = 0;
+    let mut i = at;
+    while i < end {
+        let b = text[i];
+        j = put_char(out, j, star, b);
+        star = takes_next(star, b);
+        i += 1;
+    }
+    j
+}
+
+// Writes the characters of a token to the front of `out`. Their count.
+pub fn put_chars(text: &[u8], t: Token, out: &mut [u8]) -> usize
+    requires { ⌜ Fits-token (now text) t (now out) ⌝ }
+    ensures { λ r. ⌜ Put (now (out .entry)) 0 (chars-of (now (text .entry)) t) r (now (out .exit)) ⌝ }
+{
+    let at = t.at;
+    let end = t.end;
+    if t.sort == TEXT {
+        return put_text(text, at + 1, end, out);
+    }
+    if t.sort == WORD {
+        cells::put(out, 0, &text[at..end]);
+        return t.len;
+    }
+    0
+}
+
+// Whether the character of a byte, if it gives one, stands at index `j` of `other`.
+fn agrees(other: &[u8], j: usize, star: bool, b: u8) -> bool
+    ensures { λ r. ⌜ r ≡ sameBytes (char-of star b) (take (length (char-of star b)) (drop j (now (other .entry)))) ⌝ }
+{
+    if takes_next(star, b) {
+        return true;
+    }
+    if other.len() <= j {
+        return false;
+    }
+    char_of(star, b) == other[j]
+}
+
+// Whether the characters of a text whose bytes stand from `at` to `end` are the bytes of `other`.
+fn text_is(text: &[u8], at: usize, end: usize, other: &[u8]) -> bool
+    requires { ⌜ Between (now text) at end ⌝ }
+    ensures { λ r. ⌜ r ≡ sameBytes (text-in (now (text .entry)) at end) (now (other .entry)) ⌝ }
+{
+    let mut star = false;
+    let mut j: usize = 0;
+    let mut i = at;
+    while i < end {
+        let b = text[i];
+        if !agrees(other, j, star, b) {
+            return false;
+        }
+        star = takes_next(star, b);
+        j = j + one_if(!star);
+        i += 1;
+    }
+    other.len() <= j
+}
+
+// Whether the characters of a token are the bytes of `other`.
+pub fn spells(text: &[u8], t: Token, other: &[u8]) -> bool
+    requires { ⌜ Stands (now text) t ⌝ }
+    ensures { λ r. ⌜ r ≡ sameBytes (chars-of (now (text .entry)) t) (now (other .entry)) ⌝ }
+{
+    if t.len != other.len() {
+        return false;
+    }
+    let at = t.at;
+    let end = t.end;
+    if t.sort == TEXT {
+        return text_is(text, at + 1, end, other);
+    }
+    if t.sort == WORD {
+        return check::same(&text[at..end], other);
+    }
+    true
+}
+
+// Whether the same `len` bytes stand at two places: two words of one length.
+pub fn same_word(text: &[u8], a: usize, b: usize, len: usize) -> bool
+    requires { ⌜ Two-parts (now text) a b len ⌝ }
+    ensures { λ r. ⌜ r ≡ sameBytes (part (now (text .entry)) a (a + len)) (part (now (text .entry)) b (b + len)) ⌝ }
+{
+    let e = a + len;
+    let f = b + len;
+    check::same(&text[a..e], &text[b..f])
+}
