@@ -1,16 +1,18 @@
 -- The working memory after the pointer of a file moves.
 use mathlib.Core.Path.{_≡_, refl, sym, ap, _∙_, subst}
-use mathlib.Core.Bool.{false}
-use mathlib.Core.List.{List, [], _++_, append-assoc}
-use Prim.Native.Nat.{ℕ, _+_, _-_, _*_, _≤_, _<_}
+use mathlib.Core.Bool.{Bool, true, false, _||_}
+use mathlib.Core.List.{List, [], _∷_, _++_, append-assoc}
+use Prim.Native.Nat.{ℕ, suc, _+_, _-_, _*_, _≤_, _<_}
 use native.Mathlib.Omega.{arith}
+use lib.Dec.{T}
 use lib.ListN.{length, getD, take, drop, set, length-append, take-append-drop}
 use lib.Seq.{take-append-le, drop-append-le, take-append-add, drop-append-add, getD-set-other, set-comm}
+use Rattle.lists.specs.Lists.{any, ahead}
 use Rattle.language.specs.Limits as limit
 use Rattle.language.specs.Letters.Letter.{P}
-use Rattle.language.specs.Values.{Record, File, State}
+use Rattle.language.specs.Values.{Record, File, Store, State}
 use Rattle.machine.specs.Arguments.{file-of, records}
-use Rattle.machine.specs.Changes.{put-file, past-file, past-by, past}
+use Rattle.machine.specs.Changes.{put-file, past-file, past-by, past, records-to, pointed}
 use Rattle.layout.specs.Bounds.{Each, RecordOk, Fine}
 use Rattle.layout.specs.CellLaws.{each-append, each-left, each-right}
 use Rattle.layout.specs.ComponentLaws.{records-bytes-append}
@@ -23,7 +25,7 @@ use Rattle.store.specs.Store.{Long, Movable, droppedFront, droppedBack, movedFr
 use Rattle.state.specs.Blocks.{totalled}
 use Rattle.state.specs.Working.{before-string, after-string, state-at, HoldsState, Stands, on-store, nth, filing, part-total, char-total}
 use Rattle.state.proofs.Standing.{string-is}
-use Rattle.filing.specs.Files.{Passable, Pointable, pointed-at}
+use Rattle.filing.specs.Files.{Passable, RecordsReadable, Pointable, pointed-at}
 use Rattle.filing.proofs.Removed.{bytes-first, bytes-rest, bytes-within}
 use Rattle.filing.proofs.Replaced.{holds-file}
 
@@ -126,7 +128,45 @@ module _ {p e n : List ℕ} {i k b sc hd : ℕ} (pre : Passable p e n i k b sc h
       (records-bytes-append (f .before) (take k (f .after)) ∙ ap (λ (l : List ℕ). records-bytes (f .before) ++ l) (sym (bytes-first (f .after) k (pre .bytes-is))))
       (sym (bytes-rest (f .after) k (pre .bytes-is))) g
 
+pub passable : {p e n : List ℕ} {i k b c d sc hd : ℕ} → RecordsReadable p e n i k b c d sc hd → Passable p e n i k b sc hd
+passable pre =
+    let x = pre .droppable in
+    record { stands = x .stands; index = x .index; most = x .first .most; bytes-is = x .first .bytes-is; spare = pre .spare; room = pre .room }
+
 -- ---- behind the first records of the file
+
+-- "Address 0 is the front of every file"; the pointer right after a record is behind as many records as stand up to it
+pub pointed-is : (i n : ℕ) (s : Store) → pointed (nth P i) n s ≡ pointed-at i (records-to n (records (file-of s (nth P i)))) s
+unfolding pointed pointed-at
+pointed-is i n s = refl
+
+-- records up to the first with q, which stands before the pointer, or after it
+module _ (q : Record → Bool) (ts : List Record) where
+  before-step : (b : Bool) (xs : List Record) → (any q xs ≡ true → ahead q (xs ++ ts) ≡ ahead q xs) → (b || any q xs) ≡ true
+      → _≡_ {A = ℕ} (elim b [ true ↦ 0 | false ↦ suc (ahead q (xs ++ ts)) ]) (elim b [ true ↦ 0 | false ↦ suc (ahead q xs) ])
+  before-step true xs k h = refl
+  before-step false xs k h = ap suc (k h)
+
+  pub ahead-before : (xs : List Record) → any q xs ≡ true → ahead q (xs ++ ts) ≡ ahead q xs
+  ahead-before [] h = absurd (subst T (sym h) tt)
+  ahead-before (x ∷ xs) h = before-step (q x) xs (ahead-before xs) h
+
+  after-step : (b : Bool) (xs : List Record) → (any q xs ≡ false → ahead q (xs ++ ts) ≡ length xs + ahead q ts) → (b || any q xs) ≡ false
+      → _≡_ {A = ℕ} (elim b [ true ↦ 0 | false ↦ suc (ahead q (xs ++ ts)) ]) (suc (length xs) + ahead q ts)
+  after-step true xs k h = absurd (subst T h tt)
+  after-step false xs k h = omega (arith, k h)
+
+  pub ahead-after : (xs : List Record) → any q xs ≡ false → ahead q (xs ++ ts) ≡ length xs + ahead q ts
+  ahead-after [] h = omega arith
+  ahead-after (x ∷ xs) h = after-step (q x) xs (ahead-after xs) h
+
+-- their bytes
+pub first-before : (xs ys : List Record) (k : ℕ) {b : ℕ} → k ≤ length xs → b ≡ length (records-bytes (take k xs)) → b ≡ length (records-bytes (take k (xs ++ ys)))
+first-before xs ys k h q = rw (take-append-le k xs ys h) q
+
+pub first-after : (xs ys : List Record) (k : ℕ) {b : ℕ} → b ≡ length (records-bytes (take k ys))
+    → length (records-bytes xs) + b ≡ length (records-bytes (take (length xs + k) (xs ++ ys)))
+first-after xs ys k q = rw (take-append-add xs ys k, records-bytes-append xs (take k ys), length-append (records-bytes xs) (records-bytes (take k ys))) (omega (arith, q))
 
 module _ {p e n : List ℕ} {i k b sc hd : ℕ} (pre : Pointable p e n i k b sc hd) where
   abbrev r : File

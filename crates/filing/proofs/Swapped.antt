@@ -18,6 +18,7 @@ use Rattle.layout.specs.Bounds.{FileOk, Fine}
 use Rattle.layout.specs.Components.{records-bytes}
 use Rattle.layout.specs.Memory.{scalars, strings}
 use Rattle.layout.specs.MemoryLaws.{string-before, string-after}
+use Rattle.gaps.specs.Pool as pool
 use Rattle.gaps.specs.Pool.{abs, string, Holds}
 use Rattle.gaps.proofs.Laws.{after}
 use Rattle.store.specs.Store.{Exchangeable, exchanged}
@@ -97,10 +98,10 @@ module _ {p e n : List ℕ} {i j sc hd : ℕ} (pre : FilesExchangeable p e n i j
         room = pre .room;
       }
 
-  pub after-exchangeable : {p₁ e₁ : List ℕ} {s : List (List ℕ)} {sc₁ hd₁ : ℕ} → Holds p₁ e₁ s → 65536 ≤ sc₁ → 32768 ≤ hd₁
+  pub after-exchangeable : {p₁ e₁ : List ℕ} {sc₁ hd₁ : ℕ} → pool.Fine p₁ e₁ → 65536 ≤ sc₁ → 32768 ≤ hd₁
       → Exchangeable p₁ e₁ (after-string i) (after-string j) sc₁ hd₁
   after-exchangeable h x y =
-      record { fine = h .fine; source = omega (arith, pre .source); target = omega (arith, pre .target); spare = x; room = y }
+      record { fine = h; source = omega (arith, pre .source); target = omega (arith, pre .target); spare = x; room = y }
 
   pub files-swapped : {p₁ e₁ p′ e′ : List ℕ} → Holds p₁ e₁ (exchanged (before-string i) (before-string j) (abs p e))
       → Holds p′ e′ (exchanged (after-string i) (after-string j) (abs p₁ e₁))

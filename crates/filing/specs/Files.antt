@@ -60,6 +60,12 @@ pub record Passable (p e n : List ℕ) (i k bytes scratch hold : ℕ) : Type 0 w
   pub spare : 65536 ≤ scratch
   pub room : 32768 ≤ hold
 
+-- the first k records after the pointer can be removed or passed
+pub record RecordsReadable (p e n : List ℕ) (i k bytes parts chars scratch hold : ℕ) : Type 0 where
+  pub droppable : RecordsDroppable p e n i k bytes parts chars
+  pub spare : 65536 ≤ scratch
+  pub room : 32768 ≤ hold
+
 -- it can move behind the first k records of the file, of `bytes` bytes
 pub record Pointable (p e n : List ℕ) (i k bytes scratch hold : ℕ) : Type 0 where
   pub stands : Stands p e n

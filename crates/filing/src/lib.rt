@@ -8,7 +8,7 @@ ghost use Rattle.machine.specs.Arguments.{file-of};
 ghost use Rattle.machine.specs.Changes.{past, stored};
 ghost use Rattle.gaps.specs.Pool.{abs, Holds};
 ghost use Rattle.state.specs.Working.{state-at, HoldsState, on-store, nth, filing};
-ghost use Rattle.filing.specs.Files.{FileNamed, RecordsLent, RecordsDroppable, Fewer, Passable, Pointable, pointed-at, bodies, RecordsWritable, More, Insertable, inserted, FilesExchangeable, files-exchanged};
+ghost use Rattle.filing.specs.Files.{FileNamed, RecordsLent, RecordsDroppable, Fewer, Passable, RecordsReadable, Pointable, pointed-at, bodies, RecordsWritable, More, Insertable, inserted, FilesExchangeable, files-exchanged};
 
 // The bytes of the records before the pointer of file `i`.
 pub fn before_bytes<'a>(pool: &'a [u8], ends: &[u32], nums: &[u32], i: usize) -> &'a [u8]
@@ -77,6 +77,30 @@ pub fn pass_records(
         32 + 2 * i,
         bytes,
     );
+}
+
+// Reads past the first records after the pointer of file `i`: removes them, or moves the pointer.
+pub fn past_records(
+    pool: &mut [u8],
+    ends: &mut [u32],
+    nums: &mut [u32],
+    scratch: &mut [u8],
+    hold: &mut [u8],
+    i: usize,
+    removes: bool,
+    records: usize,
+    bytes: usize,
+    parts: usize,
+    chars: usize,
+)
+    requires { ⌜ RecordsReadable (now pool) (now ends) (now nums) i records bytes parts chars (length (now scratch)) (length (now hold)) ⌝ }
+    ensures { λ _. ⌜ HoldsState (now (pool .exit)) (now (ends .exit)) (now (nums .exit)) (on-store (past (nth (filing removes) i) records) (state-at (now (pool .entry)) (now (ends .entry)) (now (nums .entry)))) ⌝ }
+{
+    if removes {
+        drop_records(pool, ends, nums, i, records, bytes, parts, chars);
+        return;
+    }
+    pass_records(pool, ends, nums, scratch, hold, i, records, bytes);
 }
 
 // Moves the pointer of file `i` behind the first records of the file: how many, and their bytes.

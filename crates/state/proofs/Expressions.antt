@@ -23,7 +23,7 @@ use Rattle.layout.specs.MemoryLaws.{expr-encoded}
 use Rattle.gaps.specs.Gaps.{pushedFront, pushedBack}
 use Rattle.gaps.specs.Pool.{abs, string, Holds}
 use Rattle.store.specs.Store.{Droppable, droppedFront, Pushable}
-use Rattle.state.specs.Working.{state-at, HoldsState, Stands, on-store, nth, removing, writing, char-count}
+use Rattle.state.specs.Working.{state-at, HoldsState, Stands, on-store, nth, reading, writing, char-count}
 use Rattle.state.specs.Blocks.{totalled, Lowerable, Raisable, pushed, FirstParts, PartsDroppable, PartsWritable}
 use Rattle.state.proofs.Standing.{number-is, string-is, numbers-long, pushable}
 use Rattle.state.proofs.Strings.{strings-expr}
@@ -126,7 +126,7 @@ module _ {p e n : List ℕ} {i k b c : ℕ} (pre : PartsDroppable p e n i k b c)
       rw (pre .stands .holds .is, expr-encoded (state-at p e n) (pre .stands .fine) i (pre .index) .is, bytes-dropped (pre .first))
 
   pub parts-dropped : {e′ n′ : List ℕ} → Holds p e′ (droppedFront i b (abs p e)) → n′ ≡ totalled (getD n 5 0 - k) (getD n 6 0 - c) n
-      → HoldsState p e′ n′ (on-store (past (nth removing i) k) (state-at p e n))
+      → HoldsState p e′ n′ (on-store (past (nth (reading true) i) k) (state-at p e n))
   unfolding past past-by put-expr on-store
   parts-dropped g q =
       let h = pre .stands in
@@ -138,6 +138,11 @@ module _ {p e n : List ℕ} {i k b c : ℕ} (pre : PartsDroppable p e n i k b c)
       h (each-drop Ok k old (expr-encoded s (h .fine) i (pre .index) .all-ok))
       (omega (arith, number-is h 5, h .fine .components-most)) (omega (arith, number-is h 6, h .fine .chars-most))
       (rw strings-less at g) q
+
+-- left as they are
+pub parts-left : {p e n : List ℕ} {b : Bool} (i k : ℕ) → b ≡ false → Stands p e n → HoldsState p e n (on-store (past (nth (reading b) i) k) (state-at p e n))
+unfolding on-store past past-by
+parts-left i k q h = rw q h
 
 -- components at the end or in front
 abbrev added : Bool → List Component → List Component → List Component

@@ -20,7 +20,7 @@ use Rattle.machine.specs.ChangeLaws.{placed-total}
 use Rattle.machine.specs.SumLaws.{held-put-expr, recorded-put-expr, held-put-file, recorded-put-file, outputs-put}
 use Rattle.layout.specs.Bounds.{Each, Ok, RecordOk, FileOk, Fine}
 use Rattle.layout.specs.Memory.{components-held, chars-held, records-held}
-use Rattle.state.specs.Working.{nth, removing, filing, char-count}
+use Rattle.state.specs.Working.{nth, reading, filing, char-count}
 use Rattle.state.specs.Limited.{short-word, short-outputs, Limited}
 use Rattle.state.proofs.Expressions.{total-ones}
 

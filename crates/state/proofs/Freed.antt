@@ -18,7 +18,7 @@ use Rattle.machine.specs.Effects.{exchanged}
 use Rattle.machine.specs.SumLaws.{held-put-expr, recorded-put-expr, held-put-file, recorded-put-file}
 use Rattle.layout.specs.Memory.{components-held, chars-held, records-held}
 use Rattle.state.specs.Limited.{short-word, Limited}
-use Rattle.state.specs.Working.{nth, removing, filing}
+use Rattle.state.specs.Working.{nth, reading, filing}
 
 module _ (s : Store) (h : Limited s) where
   -- expressions that count no more
@@ -162,13 +162,13 @@ module _ (s : Store) (h : Limited s) where
 
 module _ (s : Store) (i k : ℕ) where
   module _ (l : i < length (s .exprs)) where
-    pub held-off : (g : Component → ℕ) → held g (past (nth removing i) k s) + total g (take k (expr s (nth E i))) ≡ held g s
+    pub held-off : (g : Component → ℕ) → held g (past (nth (reading true) i) k s) + total g (take k (expr s (nth E i))) ≡ held g s
     unfolding past past-by
-    held-off g = omega (arith, held-put-expr (nth removing i) s g (drop k (expr s (nth E i))) l, total-split g k (expr s (nth E i)))
+    held-off g = omega (arith, held-put-expr (nth (reading true) i) s g (drop k (expr s (nth E i))) l, total-split g k (expr s (nth E i)))
 
-    pub recorded-off : (g : Record → ℕ) → recorded g (past (nth removing i) k s) ≡ recorded g s
+    pub recorded-off : (g : Record → ℕ) → recorded g (past (nth (reading true) i) k s) ≡ recorded g s
     unfolding past past-by
-    recorded-off g = recorded-put-expr (nth removing i) s g (drop k (expr s (nth E i)))
+    recorded-off g = recorded-put-expr (nth (reading true) i) s g (drop k (expr s (nth E i)))
 
   module _ (l : i < length (s .files)) where
     abbrev f : File

@@ -5,7 +5,6 @@ pub mod Fineness
 pub mod Expressions
 pub mod Exchanges
 pub mod Beside
-pub mod Control
 pub mod Ties
 pub mod Fits
 pub mod Freed

@@ -9,20 +9,22 @@ use Rattle.language.specs.Letters.Letter.{E, I, P, Q}
 use Rattle.language.specs.Letters.{Var, use-of}
 use Rattle.language.specs.Letters.Var.{expression, input, output, file}
 use Rattle.language.specs.Program.{Arg, Program}
-use Rattle.language.specs.Values.{Component, Record, File, Store, State, Inputs, empty-file}
-use Rattle.machine.specs.Arguments.{place, use-by, expr, file-of}
-use Rattle.machine.specs.Changes.{with-exprs, with-files, put-expr, put-file, placed, into, front, printed, stamped, stored, past-file, past-by, past, used-by, used, pointed}
-use Rattle.machine.specs.Effects.{Row, exchanged}
-use Rattle.machine.specs.Steps.{made}
+use Rattle.language.specs.Values.{Component, Record, File, Store, Inputs, empty-file}
+use Rattle.machine.specs.Arguments.{place, use-by, expr, file-of, unread, taken, on-parts, on-chars, on-records, reach}
+use Rattle.machine.specs.Changes.{minus-unless, with-exprs, with-files, put-expr, put-file, placed, into, front, printed, stamped, stored, past-file, past-by, past, used-by, used, pointed}
+use Rattle.machine.specs.Effects.{moved, exchanged}
 use Rattle.state.specs.Blocks.{exprs-exchanged}
-use Rattle.state.specs.Working.{on-store, going, nth, removing, writing, filing, turned}
+use Rattle.state.specs.Working.{nth, reading, writing, filing, turned}
 
--- the state that a row makes: its store, and where it goes on
-pub made-is : (r : Row) (s : State) → made r s ≡ going (r .2) (on-store (λ t. r .1) s)
-unfolding going on-store
-made-is r s = refl
+-- ---- the letters' uses
 
--- ---- the letters that write
+reads-so : (b : Bool) → use-of (reading b) .var ≡ expression
+reads-so true = refl
+reads-so false = refl
+
+takes-so : (b : Bool) → use-of (reading b) .removes ≡ b
+takes-so true = refl
+takes-so false = refl
 
 ends-so : (b : Bool) → use-of (writing b) .at-end ≡ b
 ends-so true = refl
@@ -68,9 +70,9 @@ module _ (a : Arg) (i : ℕ) (q : pred (place a) ≡ i) (s : Store) where
 
   -- ---- reading past, and using the first component
 
-  pub past-expr-as : (k : ℕ) → use-by a .var ≡ expression → past a k s ≡ cond (use-by a .removes) (past (nth removing i) k s) s
+  pub past-expr-as : (k : ℕ) → use-by a .var ≡ expression → past a k s ≡ past (nth (reading (use-by a .removes)) i) k s
   unfolding past past-by put-expr
-  past-expr-as k v = rw (v, q)
+  past-expr-as k v = rw (v, q, reads-so (use-by a .removes), takes-so (use-by a .removes))
 
   pub past-input-as : (k : ℕ) → use-by a .var ≡ input → past a k s ≡ past (nth I i) k s
   unfolding past past-by
@@ -80,9 +82,9 @@ module _ (a : Arg) (i : ℕ) (q : pred (place a) ≡ i) (s : Store) where
   unfolding past past-by
   past-file-as k v = rw v (past-file-by (use-by a .removes) a i k s q)
 
-  pub used-expr-as : use-by a .var ≡ expression → used a s ≡ cond (use-by a .removes) (past (nth removing i) 1 s) s
+  pub used-expr-as : use-by a .var ≡ expression → used a s ≡ past (nth (reading (use-by a .removes)) i) 1 s
   unfolding used used-by past past-by put-expr
-  used-expr-as v = rw (v, q)
+  used-expr-as v = rw (v, q, reads-so (use-by a .removes), takes-so (use-by a .removes))
 
   pub pointed-as : (n : ℕ) → pointed a n s ≡ pointed (nth P i) n s
   unfolding pointed put-file
@@ -108,3 +110,22 @@ pub exchanged-exprs-as : (p : Program) (ins : Inputs) (s : Store) (a b : Arg) (i
     → exchanged p ins s expression a b ≡ exprs-exchanged i j s
 unfolding exchanged exprs-exchanged put-expr
 exchanged-exprs-as p ins s a b i j q r = rw (q, r)
+
+-- ---- a move: what its test takes is told
+
+module _ (p : Program) (ins : Inputs) (s : Store) (a c : Arg) (write : ℕ → Store → Store) {k : ℕ} {b : Bool} where
+  moved-by : (v : Var) → use-by a .var ≡ v → reach ins s v a c ≡ (k, b) → moved p ins s a c write ≡ minus-unless b (write k (past a k s))
+  unfolding moved
+  moved-by v q r = rw (q, r)
+
+  pub moved-expr-as : use-by a .var ≡ expression → taken (on-parts ins s c) (expr s a) ≡ (k, b)
+      → moved p ins s a c write ≡ minus-unless b (write k (past a k s))
+  moved-expr-as q r = moved-by expression q r
+
+  pub moved-input-as : use-by a .var ≡ input → taken (on-chars ins s c) (unread ins s a) ≡ (k, b)
+      → moved p ins s a c write ≡ minus-unless b (write k (past a k s))
+  moved-input-as q r = moved-by input q r
+
+  pub moved-file-as : use-by a .var ≡ file → taken (on-records ins s c) (file-of s a .after) ≡ (k, b)
+      → moved p ins s a c write ≡ minus-unless b (write k (past a k s))
+  moved-file-as q r = moved-by file q r

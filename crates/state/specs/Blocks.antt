@@ -47,11 +47,6 @@ pub record OutputLong (p e n : List ℕ) (i r : ℕ) : Type 0 where
   pub is : r ≡ length (at [] (state-at p e n .store .outputs) (nth Q i))
   pub most : r ≤ limit.output
 
--- how many returns are kept
-pub record Deep (p e n : List ℕ) (r : ℕ) : Type 0 where
-  pub is : r ≡ length (state-at p e n .stack)
-  pub most : r ≤ limit.stack
-
 -- ---- totals
 
 -- the totals of components and characters c and d
@@ -127,24 +122,3 @@ pub record Readable (p e n : List ℕ) (i k : ℕ) : Type 0 where
   pub stands : Stands p e n
   pub index : i < limit.inputs
   pub room : at 0 (state-at p e n .store .places) (nth I i) + k ≤ limit.input
-
--- ---- where the run goes on
-
--- the following instruction; instruction t, and that with the way back kept; the way back
-pub record Following (p e n : List ℕ) : Type 0 where
-  pub stands : Stands p e n
-  pub below : suc (state-at p e n .next) < limit.instructions
-
-pub record Reachable (p e n : List ℕ) (t : ℕ) : Type 0 where
-  pub stands : Stands p e n
-  pub below : t < limit.instructions
-
-pub record Callable (p e n : List ℕ) (scratch t : ℕ) : Type 0 where
-  pub following : Following p e n
-  pub below : t < limit.instructions
-  pub room : length (state-at p e n .stack) < limit.stack
-  pub spare : 65536 ≤ scratch
-
-pub record Returnable (p e n : List ℕ) : Type 0 where
-  pub stands : Stands p e n
-  pub kept : 0 < length (state-at p e n .stack)

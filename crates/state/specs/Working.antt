@@ -10,8 +10,6 @@ use Rattle.language.specs.Letters.Letter.{A, B, C, D, Z}
 use Rattle.language.specs.Program.{Arg}
 use Rattle.language.specs.Program.Arg.{letter}
 use Rattle.language.specs.Values.{Component, Record, Store, State, chars}
-use Rattle.machine.specs.Steps.{gone}
-use Rattle.machine.specs.Effects.{Go}
 use Rattle.layout.specs.Bounds.{Fine}
 use Rattle.layout.specs.Memory.{scalars, strings, state-by}
 use Rattle.gaps.specs.Pool.{abs, Holds}
@@ -43,20 +41,19 @@ pub record HoldsState (p e n : List ℕ) (s : State) : Type 0 where
 abbrev pub Stands : List ℕ → List ℕ → List ℕ → Type 0
 Stands p e n = HoldsState p e n (state-at p e n)
 
--- a change of the store alone, and of where the run goes on
+-- a change of the store alone
 unfoldable pub on-store : (Store → Store) → State → State
 on-store f s = record { store = f (s .store); next = s .next; stack = s .stack }
-
-unfoldable pub going : Go → State → State
-going g s = let c = gone g (s .next) (s .stack) in record { store = s .store; next = c .0; stack = c .1 }
 
 -- variable i by a letter
 abbrev pub nth : Letter → ℕ → Arg
 nth l i = letter l (suc i)
 
--- the letters that remove components in reading, that write them in their order, at the end or in front, and that write records
-abbrev pub removing : Letter
-removing = A
+-- the letters that read components, removing them or not; that write them in their order, at the end or in front; and that do both with records,
+-- the first removing them and turning them round
+abbrev pub reading : Bool → Letter
+reading true = A
+reading false = B
 
 abbrev pub writing : Bool → Letter
 writing true = Z

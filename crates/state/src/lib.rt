@@ -1,16 +1,15 @@
 // The state at work: what instructions read of it, and the changes that they make in it. Pool and ends hold its strings, `nums` its scalars.
 ghost use mathlib.Core.Path.{_≡_};
-ghost use mathlib.Core.List.{[]};
+ghost use mathlib.Core.Bool.{true};
 ghost use Prim.Native.Nat.{_+_, _-_};
 ghost use lib.ListN.{length, getD};
 ghost use Rattle.language.specs.Letters.Letter.{I, Q};
 ghost use Rattle.machine.specs.Changes.{with-plus, minus-unless, into, printed, past};
-ghost use Rattle.machine.specs.Effects.Go.{on, jump, call, back};
 ghost use Rattle.layout.specs.Components.{components-in};
 ghost use Rattle.gaps.specs.Pool.{abs, Holds};
 ghost use Rattle.store.specs.Store.{Pushable};
-ghost use Rattle.state.specs.Working.{state-at, HoldsState, Stands, on-store, going, nth, removing, writing};
-ghost use Rattle.state.specs.Blocks.{Numbered, Told, ExprNamed, ExprLent, OutputNamed, OutputLong, Deep, totalled, Raisable, Lowerable, PartsDroppable, PartsWritable, pushed, ExprsExchangeable, exprs-exchanged, Printable, Readable, Following, Reachable, Callable, Returnable};
+ghost use Rattle.state.specs.Working.{state-at, HoldsState, Stands, on-store, nth, reading, writing};
+ghost use Rattle.state.specs.Blocks.{Numbered, Told, ExprNamed, ExprLent, OutputNamed, OutputLong, totalled, Raisable, Lowerable, PartsDroppable, PartsWritable, pushed, ExprsExchangeable, exprs-exchanged, Printable, Readable};
 
 // Scalar `k`: H (1 for plus), the read places, the next instruction, the last address, and the totals of components, characters and records.
 pub fn number(pool: &[u8], ends: &[u32], nums: &[u32], k: usize) -> usize
@@ -42,14 +41,6 @@ pub fn output_len(pool: &[u8], ends: &[u32], nums: &[u32], i: usize) -> usize
     ensures { λ r. ⌜ OutputLong (now (pool .entry)) (now (ends .entry)) (now (nums .entry)) i r ⌝ }
 {
     store::len_of(pool, ends, 97 + i)
-}
-
-// How many entries the return stack has.
-pub fn depth(pool: &[u8], ends: &[u32], nums: &[u32]) -> usize
-    requires { ⌜ Stands (now pool) (now ends) (now nums) ⌝ }
-    ensures { λ r. ⌜ Deep (now (pool .entry)) (now (ends .entry)) (now (nums .entry)) r ⌝ }
-{
-    store::len_of(pool, ends, 96) / 2
 }
 
 // Adds to the totals of components and characters.
@@ -85,10 +76,30 @@ pub fn drop_parts(
     chars: usize,
 )
     requires { ⌜ PartsDroppable (now pool) (now ends) (now nums) i parts bytes chars ⌝ }
-    ensures { λ _. ⌜ HoldsState (now (pool .entry)) (now (ends .exit)) (now (nums .exit)) (on-store (past (nth removing i) parts) (state-at (now (pool .entry)) (now (ends .entry)) (now (nums .entry)))) ⌝ }
+    ensures { λ _. ⌜ HoldsState (now (pool .entry)) (now (ends .exit)) (now (nums .exit)) (on-store (past (nth (reading true) i) parts) (state-at (now (pool .entry)) (now (ends .entry)) (now (nums .entry)))) ⌝ }
 {
     store::drop_front(pool, ends, i, bytes);
     lower(nums, parts, chars);
+}
+
+// Reads past the first components of expression `i`: removes them, or leaves all as it is.
+pub fn past_parts(
+    pool: &[u8],
+    ends: &mut [u32],
+    nums: &mut [u32],
+    i: usize,
+    removes: bool,
+    parts: usize,
+    bytes: usize,
+    chars: usize,
+)
+    requires { ⌜ PartsDroppable (now pool) (now ends) (now nums) i parts bytes chars ⌝ }
+    ensures { λ _. ⌜ HoldsState (now (pool .entry)) (now (ends .exit)) (now (nums .exit)) (on-store (past (nth (reading removes) i) parts) (state-at (now (pool .entry)) (now (ends .entry)) (now (nums .entry)))) ⌝ }
+{
+    if removes {
+        drop_parts(pool, ends, nums, i, parts, bytes, chars);
+        return;
+    }
 }
 
 // Puts bytes behind string `i` or before it.
@@ -190,43 +201,4 @@ pub fn read_past(pool: &[u8], ends: &[u32], nums: &mut [u32], i: usize, k: usize
 {
     let n = cells::read(nums, 1 + i);
     cells::write(nums, 1 + i, n + k);
-}
-
-// Goes on with the following instruction.
-pub fn go_on(pool: &[u8], ends: &[u32], nums: &mut [u32])
-    requires { ⌜ Following (now pool) (now ends) (now nums) ⌝ }
-    ensures { λ _. ⌜ HoldsState (now (pool .entry)) (now (ends .entry)) (now (nums .exit)) (going on (state-at (now (pool .entry)) (now (ends .entry)) (now (nums .entry)))) ⌝ }
-{
-    let n = cells::read(nums, 3);
-    cells::write(nums, 3, n + 1);
-}
-
-// Goes on with instruction `t`.
-pub fn go_to(pool: &[u8], ends: &[u32], nums: &mut [u32], t: usize)
-    requires { ⌜ Reachable (now pool) (now ends) (now nums) t ⌝ }
-    ensures { λ _. ⌜ HoldsState (now (pool .entry)) (now (ends .entry)) (now (nums .exit)) (going (jump t) (state-at (now (pool .entry)) (now (ends .entry)) (now (nums .entry)))) ⌝ }
-{
-    cells::write(nums, 3, t);
-}
-
-// Goes on with instruction `t` and keeps the way back.
-pub fn call_to(pool: &mut [u8], ends: &mut [u32], nums: &mut [u32], scratch: &mut [u8], t: usize)
-    requires { ⌜ Callable (now pool) (now ends) (now nums) (length (now scratch)) t ⌝ }
-    ensures { λ _. ⌜ HoldsState (now (pool .exit)) (now (ends .exit)) (now (nums .exit)) (going (call t) (state-at (now (pool .entry)) (now (ends .entry)) (now (nums .entry)))) ⌝ }
-{
-    let n = cells::read(nums, 3) + 1;
-    let mut entry = [0u8; 2];
-    cells::put_two(&mut entry, 0, n);
-    store::push_front(pool, ends, scratch, 96, &entry);
-    cells::write(nums, 3, t);
-}
-
-// Goes back to where the last call that is kept came from.
-pub fn go_back(pool: &[u8], ends: &mut [u32], nums: &mut [u32])
-    requires { ⌜ Returnable (now pool) (now ends) (now nums) ⌝ }
-    ensures { λ _. ⌜ HoldsState (now (pool .entry)) (now (ends .exit)) (now (nums .exit)) (going back (state-at (now (pool .entry)) (now (ends .entry)) (now (nums .entry)))) ⌝ }
-{
-    let t = cells::two_at(store::part_of(pool, ends, 96, 0, 2), 0);
-    store::drop_front(pool, ends, 96, 2);
-    cells::write(nums, 3, t);
 }

@@ -64,7 +64,7 @@ exchange-requires-2 : tie.Need-exchange-requires-2
 exchange-requires-2 c κs =
     let pre = c .before .before .before .before .before .before .before .before .before .before .before .before .before .before .before .before .before .before .before .before .before .before .pre in
     let exchange = c .before .before .before .before .before .before .before .before .before .before .before .before .exchange in
-    after-exchangeable pre (exchange .ensures) (omega (arith, exchange .kept, pre .spare)) (omega (arith, exchange .kept, pre .room))
+    after-exchangeable pre (exchange .ensures .fine) (omega (arith, exchange .kept, pre .spare)) (omega (arith, exchange .kept, pre .room))
 
 same-length : tie.Need-same-length
 same-length c = search needs

@@ -1,11 +1,11 @@
--- `state::go_back` meets its contract.
+-- `control::go_back` meets its contract.
 use mathlib.Core.Path.{_∙_}
 use Rattle.state.proofs.Standing.{numbers-long}
-use Rattle.state.proofs.Control.{top-within, top-droppable, top-read, returned}
+use Rattle.control.proofs.Laws.{top-within, top-droppable, top-read, returned}
 use borrow.Author.Needs.{needs}
 use native.Mathlib.Omega.{arith}
-use Rattle.state.proofs.go_back.Statement.{statement}
-use Rattle.state.proofs.go_back.Tie as tie
+use Rattle.control.proofs.go_back.Statement.{statement}
+use Rattle.control.proofs.go_back.Tie as tie
 
 part-of-requires : tie.Need-part-of-requires
 part-of-requires c κs =

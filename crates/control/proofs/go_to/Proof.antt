@@ -1,10 +1,10 @@
--- `state::go_to` meets its contract.
+-- `control::go_to` meets its contract.
 use Rattle.state.proofs.Standing.{numbers-long}
-use Rattle.state.proofs.Control.{jumped}
+use Rattle.control.proofs.Laws.{jumped}
 use borrow.Author.Needs.{needs}
 use native.Mathlib.Omega.{arith}
-use Rattle.state.proofs.go_to.Statement.{statement}
-use Rattle.state.proofs.go_to.Tie as tie
+use Rattle.control.proofs.go_to.Statement.{statement}
+use Rattle.control.proofs.go_to.Tie as tie
 
 write-requires : tie.Need-write-requires
 write-requires c κs =

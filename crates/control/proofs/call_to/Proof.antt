@@ -1,10 +1,10 @@
--- `state::call_to` meets its contract.
+-- `control::call_to` meets its contract.
 use Rattle.state.proofs.Standing.{numbers-long, number-most}
-use Rattle.state.proofs.Control.{back-is, return-pushable, called}
+use Rattle.control.proofs.Laws.{back-is, return-pushable, called}
 use borrow.Author.Needs.{needs}
 use native.Mathlib.Omega.{arith}
-use Rattle.state.proofs.call_to.Statement.{statement}
-use Rattle.state.proofs.call_to.Tie as tie
+use Rattle.control.proofs.call_to.Statement.{statement}
+use Rattle.control.proofs.call_to.Tie as tie
 
 read-requires : tie.Need-read-requires
 read-requires c κs =

@@ -9,8 +9,9 @@ use Rattle.lists.specs.Lists.{each, headOr}
 use Rattle.language.specs.Limits as limit
 use Rattle.language.specs.Values.{State}
 use Rattle.machine.specs.Changes.{held, recorded}
-use Rattle.machine.specs.Effects.{Go}
+use Rattle.machine.specs.Effects.{Go, Row}
 use Rattle.machine.specs.Effects.Go.{on, jump, call, back}
+use Rattle.machine.specs.Steps.{made}
 use Rattle.layout.specs.Bounds.{Below, Fine}
 use Rattle.layout.specs.Cells.{two, two-at}
 use Rattle.layout.specs.CellLaws.{each-drop, length-each, two-back}
@@ -19,11 +20,16 @@ use Rattle.layout.specs.MemoryLaws.{string-stack}
 use Rattle.gaps.specs.Gaps.{pushedFront}
 use Rattle.gaps.specs.Pool.{abs, string, Holds}
 use Rattle.store.specs.Store.{Pushable, Droppable, Within, droppedFront}
-use Rattle.state.specs.Working.{stack-string, state-at, HoldsState, Stands, going}
-use Rattle.state.specs.Blocks.{Deep, Following, Reachable, Callable, Returnable}
+use Rattle.state.specs.Working.{stack-string, state-at, HoldsState, Stands, on-store}
 use Rattle.state.proofs.Standing.{number-is, string-is, pushable}
 use Rattle.state.proofs.Strings.{strings-stack}
+use Rattle.control.specs.Going.{going, Deep, Following, Reachable, Callable, Returnable}
 use Rattle.state.proofs.Fineness.{fine-beside}
+
+-- the state that a row makes: its store, and where it goes on
+pub made-is : (r : Row) (s : State) → made r s ≡ going (r .2) (on-store (λ t. r .1) s)
+unfolding going on-store
+made-is r s = refl
 
 -- another next instruction and stack
 module _ (s : State) (f : Fine s) (t : ℕ) (st : List ℕ) (b : t < limit.instructions) (ok : Below limit.instructions st) (most : length st ≤ limit.stack) where

@@ -1,9 +1,9 @@
--- `state::depth` meets its contract.
+-- `control::depth` meets its contract.
 use Rattle.state.proofs.Standing.{named}
-use Rattle.state.proofs.Control.{deep}
+use Rattle.control.proofs.Laws.{deep}
 use native.Mathlib.Omega.{arith}
-use Rattle.state.proofs.depth.Statement.{statement}
-use Rattle.state.proofs.depth.Tie as tie
+use Rattle.control.proofs.depth.Statement.{statement}
+use Rattle.control.proofs.depth.Tie as tie
 
 len-of-requires : tie.Need-len-of-requires
 len-of-requires c κs =

@@ -1,10 +1,10 @@
--- `state::go_on` meets its contract.
+-- `control::go_on` meets its contract.
 use Rattle.state.proofs.Standing.{numbers-long, number-most}
-use Rattle.state.proofs.Control.{went-on}
+use Rattle.control.proofs.Laws.{went-on}
 use borrow.Author.Needs.{needs}
 use native.Mathlib.Omega.{arith}
-use Rattle.state.proofs.go_on.Statement.{statement}
-use Rattle.state.proofs.go_on.Tie as tie
+use Rattle.control.proofs.go_on.Statement.{statement}
+use Rattle.control.proofs.go_on.Tie as tie
 
 read-requires : tie.Need-read-requires
 read-requires c κs =
