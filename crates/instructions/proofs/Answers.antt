@@ -17,9 +17,10 @@ use Rattle.machine.specs.Effects.{Row}
 use Rattle.machine.specs.Effects.Go.{on}
 use Rattle.machine.specs.Steps.{made, numbers, refusals}
 use Rattle.layout.specs.Bounds.{Each}
-use Rattle.state.specs.Working.{state-at, HoldsState, Stands}
+use Rattle.state.specs.Working.{state-at, HoldsState, Stands, on-store}
+use Rattle.state.proofs.Standing.{after-state, on-store-twice}
 use Rattle.state.proofs.Fits.{fine-limited, fits-limited}
-use Rattle.instructions.specs.Does.{answered, asked-of, answer-of, with-store, kept-of, done-of, Does, Goes, Quiet, stop-of}
+use Rattle.instructions.specs.Does.{answered, asked-of, answer-of, with-store, kept-of, done-of, Does, Goes, Quiet, stop-of, Tried}
 
 -- ---- the first no
 
@@ -123,7 +124,7 @@ module _ (q : Asks) (t : Store) (s : State) (k : Quiet q) (st : length (s .stack
   pub answer-quiet : answer-of (q, t, on) s ≡ closed (q 52) (q 53) (q 54) (fits t)
   answer-quiet = ap (headOr 0) quiet-is ∙ refused-head (q 52) (q 53) (q 54) (fits t)
 
-abbrev stop-by : Bool → Bool → Bool → ℕ
+abbrev pub stop-by : Bool → Bool → Bool → ℕ
 stop-by a b c = cond a (cond b (cond c 0 54) 53) 52
 
 closed-stop : (a b c f : Bool) → (stop-by a b c ≡ 0 → ⊥) → closed a b c f ≡ stop-by a b c
@@ -157,3 +158,44 @@ module _ {p e n : List ℕ} (h : Stands p e n) (q : Asks) (t : Store) (k : Quiet
       let s = state-at p e n in
       let a : answer-of (q, t, on) s ≡ cond (fits t) 0 59 = answer-quiet q t s k (h .fine .stack-most) (g .fine .last-most) ∙ closed-on (q 52) (q 53) (q 54) (fits t) w in
       does-done h (q, t, on) (a ∙ rw (fits-limited (fine-limited (with-store t s) (g .fine))) refl) g
+
+-- ---- 53 by what is taken, and 59
+
+none-stopped : (a b c : Bool) → stop-by a b c ≡ 0 → (a ≡ true) × (b ≡ true) × (c ≡ true)
+none-stopped false b c z = absurd (omega (arith, z))
+none-stopped true false c z = absurd (omega (arith, z))
+none-stopped true true false z = absurd (omega (arith, z))
+none-stopped true true true z = (refl, refl, refl)
+
+pub unstopped : (q : Asks) → stop-of q ≡ 0 → (q 52 ≡ true) × (q 53 ≡ true) × (q 54 ≡ true)
+unstopped q z = none-stopped (q 52) (q 53) (q 54) z
+
+module _ {p e n : List ℕ} (h : Stands p e n) (t : Store) where
+  pub tried-wrong : {right : Bool} → right ≡ false → Tried p e n 53 p e n right t
+  tried-wrong r = record { is = rw r refl; holds = rw r h }
+
+  pub tried-full : {right : Bool} → right ≡ true → fits t ≡ false → Tried p e n 59 p e n right t
+  tried-full r f = record { is = rw (r, f) refl; holds = rw (r, f) h }
+
+  pub tried-done : {right : Bool} {p′ e′ n′ : List ℕ} → right ≡ true → HoldsState p′ e′ n′ (with-store t (state-at p e n)) → Tried p e n 0 p′ e′ n′ right t
+  tried-done r g = let f : fits t ≡ true = fits-limited (fine-limited (with-store t (state-at p e n)) (g .fine)) in record { is = rw (r, f) refl; holds = rw (r, f) g }
+
+  pub quiet-tried : (q : Asks) → Quiet q → {x : ℕ} {right : Bool} {p′ e′ n′ : List ℕ} → t .last ≤ limit.addresses → q 52 ≡ true → q 53 ≡ right → q 54 ≡ true
+      → Tried p e n x p′ e′ n′ right t → Does p e n x p′ e′ n′ (q, t, on)
+  quiet-tried q k {x} {right} {p′} {e′} {n′} la a b c w =
+      let s = state-at p e n in
+      let z : answer-of (q, t, on) s ≡ cond right (cond (fits t) 0 59) 53 = answer-quiet q t s k (h .fine .stack-most) la ∙ rw (a, b, c) refl in
+      go right (fits t) z (w .is) (w .holds)
+    where
+      go : (r f : Bool) → answer-of (q, t, on) (state-at p e n) ≡ cond r (cond f 0 59) 53 → x ≡ cond r (cond f 0 59) 53
+          → HoldsState p′ e′ n′ (cond r (cond f (with-store t (state-at p e n)) (state-at p e n)) (state-at p e n)) → Does p e n x p′ e′ n′ (q, t, on)
+      go true true z i g = record { is = i ∙ sym z; holds = rw (kept-done (q, t, on) (state-at p e n) z) g }
+      go true false z i g = record { is = i ∙ sym z; holds = rw (kept-stop (q, t, on) (state-at p e n) z (λ y. omega (arith, y))) g }
+      go false f z i g = record { is = i ∙ sym z; holds = rw (kept-stop (q, t, on) (state-at p e n) z (λ y. omega (arith, y))) g }
+
+-- ---- two changes, one after the other
+
+pub one-after : {p′ e′ n′ p″ e″ n″ : List ℕ} (s : State) (f g : Store → Store) → HoldsState p′ e′ n′ (on-store f s)
+    → HoldsState p″ e″ n″ (on-store g (state-at p′ e′ n′)) → HoldsState p″ e″ n″ (on-store (λ t. g (f t)) s)
+one-after {p″ = p″} {e″ = e″} {n″ = n″} s f g h k =
+    subst (λ (t : State). HoldsState p″ e″ n″ t) (on-store-twice f g s) (after-state h (on-store g) k)

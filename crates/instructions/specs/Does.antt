@@ -3,9 +3,11 @@ use mathlib.Core.Path.{_≡_}
 use mathlib.Core.Bool.{Bool, true, cond, _&&_}
 use mathlib.Core.List.{List, [], _∷_, map}
 use Prim.Native.Nat.{ℕ, _≤_}
-use Rattle.language.specs.Values.{Store, State}
+use Rattle.language.specs.Program.{Program}
+use Rattle.language.specs.Values.{Store, State, Inputs}
 use Rattle.lists.specs.Lists.{headOr, ifAny}
 use Rattle.machine.specs.Arguments.{Asks}
+use Rattle.machine.specs.Changes.{fits}
 use Rattle.machine.specs.Effects.{Row}
 use Rattle.machine.specs.Steps.{made, Question, numbers, asks-after, refusals}
 use Rattle.state.specs.Working.{state-at, HoldsState, Stands}
@@ -64,3 +66,18 @@ pub record Quiet (q : Asks) : Type 0 where
 -- the first no among them
 abbrev pub stop-of : Asks → ℕ
 stop-of q = cond (q 52) (cond (q 53) (cond (q 54) 0 54) 53) 52
+
+-- an instruction whose questions up to 54 are answered, 53 by `right`: 53, 59, or 0 and the store t
+pub record Tried (p e n : List ℕ) (told : ℕ) (p′ e′ n′ : List ℕ) (right : Bool) (t : Store) : Type 0 where
+  pub is : told ≡ cond right (cond (fits t) 0 59) 53
+  pub holds : HoldsState p′ e′ n′ (cond right (cond (fits t) (with-store t (state-at p e n)) (state-at p e n)) (state-at p e n))
+
+-- for every program and inputs: most instructions read neither
+abbrev pub DoesFor : List ℕ → List ℕ → List ℕ → ℕ → List ℕ → List ℕ → List ℕ → (Program → Inputs → Row) → Type 0
+DoesFor p e n told p′ e′ n′ r = (g : Program) (ins : Inputs) → Does p e n told p′ e′ n′ (r g ins)
+
+-- so many components and characters more are asked about
+pub record More (p e n : List ℕ) (parts chars : ℕ) : Type 0 where
+  pub stands : Stands p e n
+  pub parts-most : parts ≤ 65536
+  pub chars-most : chars ≤ 65536
