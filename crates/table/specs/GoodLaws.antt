@@ -92,8 +92,8 @@ module _ (c : List ℕ) (good : T (good-table c)) where
   as-written : (k : ℕ) → cell t k ≡ cell (table-cells p) k
   as-written k = ap (λ (l : List ℕ). cell l k) (sym (tabled .cells))
 
-  pub long : limit.table ≤ length c
-  long = tabled .long
+  pub table-long : limit.table ≤ length c
+  table-long = tabled .long
 
   -- ---- labels
 
@@ -183,7 +183,7 @@ module _ (c : List ℕ) (good : T (good-table c)) where
 
       keyed : Keyed c (n + j)
       keyed = record {
-        long = long;
+        long = table-long;
         entry = omega (arith, inside, ok .entries-most);
         label = subst (λ (m : ℕ). entry-in t (n + j) .label < m) (label-count c) (entry-facts .label-below);
         text = omega (arith, ref-is, text-ref-below p (text-by t (entry-ref t (n + j))) (entry-facts .text-kept), ok .facts .texts-few);
@@ -199,7 +199,7 @@ module _ (c : List ℕ) (good : T (good-table c)) where
           is = is;
           some = rw size-is some;
           entries = record {
-            long = long;
+            long = table-long;
             inside = rw (size-is, first-is) (omega (arith, inside (len - 1) (omega arith), ok .entries-most));
             keyed = λ j b. subst (λ (m : ℕ). Keyed c (m + j)) (sym first-is) (keyed j (rw size-is at b));
           };
