@@ -1,11 +1,11 @@
 -- The laws of copied runs: one turn of the loops that copy and clear, runs behind one another, and numbers in cells.
-use mathlib.Core.Path.{_≡_, refl, sym, ap, _∙_}
+use mathlib.Core.Path.{_≡_, sym, _∙_}
 use mathlib.Core.List.{List, [], _∷_, _++_, append-assoc, append-nil}
-use Prim.Native.Nat.{ℕ, zero, suc, _+_, _-_, _*_, _/_, _%_, _≤_, _<_}
+use Prim.Native.Nat.{ℕ, suc, _+_, _≤_, _<_}
 use native.Mathlib.Numerals.{add-one}
 use native.Mathlib.Omega.{arith}
-use lib.ListN.{length, take, drop, getD, set, replicate, length-append, length-take, length-drop, length-set, length-replicate, getD-replicate, drop-of-length-le, take-append-drop}
-use lib.Seq.{paste, paste-suc, take-length, take-at, drop-drop, drop-append-add, sets, sets-eq}
+use lib.ListN.{length, take, drop, getD, set, replicate, length-append, length-take, length-drop, length-replicate, getD-replicate, drop-of-length-le, take-append-drop}
+use lib.Seq.{paste, paste-suc, take-length, take-at, drop-drop, drop-append-add, sets-eq}
 use Rattle.cells.specs.Cells.{pasted, cleared}
 
 -- one turn of the loop that copies, from what the invariant says of dst, and its end

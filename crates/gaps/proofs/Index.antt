@@ -5,7 +5,7 @@ use Prim.Native.Nat.{ℕ, zero, suc, _+_, _≤_, _<_}
 use native.Mathlib.Nat.{le-of-suc-le-suc, not-suc-le-zero}
 use native.Mathlib.Numerals.{add-one}
 use native.Mathlib.Omega.{arith}
-use lib.ListN.{length, take, getD, set}
+use lib.ListN.{length, set}
 use lib.Seq.{take-length}
 use Rattle.layout.specs.Strings.{used}
 use Rattle.layout.specs.StringLaws.{used-cons, joined-next, joined-within}

@@ -1,8 +1,8 @@
 -- The laws of the pool: the strings that it holds, and what a change of one string leaves. `changed` is the law that every edit rests on.
 use mathlib.Core.Path.{_≡_, refl, sym, ap, _∙_}
-use mathlib.Core.List.{List, [], _∷_, _++_}
+use mathlib.Core.List.{List, [], _++_}
 use mathlib.Core.Logic.{_⊎_, inl, inr, ⊎-elim}
-use Prim.Native.Nat.{ℕ, zero, suc, _+_, _-_, _*_, _≤_, _<_}
+use Prim.Native.Nat.{ℕ, _+_, _-_, _*_, _≤_, _<_}
 use native.Mathlib.Omega.{arith}
 use lib.ListN.{length, take, drop, getD, set, length-append, length-take, length-drop, length-set}
 use lib.Seq.{getD-set-same, getD-set-other}
@@ -11,9 +11,9 @@ use Rattle.cells.proofs.Laws.{length-pasted}
 use Rattle.layout.specs.CellLaws.{length-tab, getD-tab, tab-ext}
 use Rattle.layout.specs.Strings.{used}
 use Rattle.gaps.specs.Pool.{lo, hi, str, abs, string, Ordered, Fine, Holds}
-use Rattle.gaps.specs.Gaps.{Before, After, Gap, Roomy, pushedFront, pushedBack, Made}
+use Rattle.gaps.specs.Gaps.{GapStart, GapEnd, Gap, pushedFront, pushedBack, Made}
 use Rattle.gaps.proofs.Index.{used-set}
-use Rattle.gaps.proofs.Parts.{below-or, same-or, part-before, part-behind, part-front, part-back}
+use Rattle.gaps.proofs.Parts.{same-or, part-before, part-behind, part-front, part-back}
 
 -- the strings
 
@@ -45,8 +45,8 @@ good h = h .fine
 pub after : {p e p′ e′ : List ℕ} {s : List (List ℕ)} → Holds p e s → (f : List (List ℕ) → List (List ℕ)) → Holds p′ e′ (f (abs p e)) → Holds p′ e′ (f s)
 after h f k = rw (h .is) at k
 
-pub holds : {p e : List ℕ} → Fine p e → Holds p e (abs p e)
-holds f = record { fine = f; is = refl; fits = f .fits }
+pub fine-holds : {p e : List ℕ} → Fine p e → Holds p e (abs p e)
+fine-holds f = record { fine = f; is = refl; fits = f .fits }
 
 pub count : {p e : List ℕ} {s : List (List ℕ)} → Holds p e s → length s ≡ 99
 count {p} {e} h = sym (ap length (h .is)) ∙ length-abs p e
@@ -57,15 +57,12 @@ pub record Shape (p e : List ℕ) (i : ℕ) : Type 0 where
   pub most : hi e i ≤ 65536
   pub long : lo e i + length (string i (abs p e)) ≡ hi e i
 
-pub shape : {p e : List ℕ} {i : ℕ} → length p ≡ 65536 → Ordered e → i < 99 → Shape p e i
-unfolding str
-shape {p} {e} {i} z o b =
-    let h : lo e i ≤ hi e i = o .order (2 * i) (2 * i + 1) (omega arith) (omega arith) in
-    let k : hi e i ≤ 65536 = o .last (2 * i + 1) (omega arith) in
-    record { ordered = h; most = k; long = rw (string-is p e i b, length-take, length-drop, z) (omega arith) }
-
 pub shaped : {p e : List ℕ} {i : ℕ} → Fine p e → i < 99 → Shape p e i
-shaped f b = shape (f .size) (f .ordered) b
+unfolding str
+shaped {p} {e} {i} f b =
+    let h : lo e i ≤ hi e i = f .ordered .order (2 * i) (2 * i + 1) (omega arith) (omega arith) in
+    let k : hi e i ≤ 65536 = f .ordered .last (2 * i + 1) (omega arith) in
+    record { ordered = h; most = k; long = rw (string-is p e i b, length-take, length-drop, f .size) (omega arith) }
 
 -- THE LAW OF ONE STRING: where every other string's part is what it was, the strings are those with one replaced
 pub changed : (p e : List ℕ) {p′ e′ : List ℕ} (i : ℕ) (v : List ℕ) → length p′ ≡ 65536 → Ordered e′ → i < 99 → used (abs p e) + length v ≤ 32768 + length (string i (abs p e)) → str p′ e′ i ≡ v
@@ -199,8 +196,8 @@ module _ {p e : List ℕ} {i : ℕ} (f : Fine p e) (b : i < 99) where
   back-room gap = omega (arith, gap .before .all (2 * i + 1) (omega arith), gap .room, gap .after .most)
 
 -- there was room already, and room for more than is wanted
-pub same-made : {p e : List ℕ} {i n x y : ℕ} → Fine p e → Before e i x → After e i y → x + n ≤ y → Made p e (abs p e) i n
-same-made {x = x} {y = y} f b a r = record { holds = holds f; gap = record { low = x; high = y; before = b; after = a; room = r } }
+pub same-made : {p e : List ℕ} {i n x y : ℕ} → Fine p e → GapStart e i x → GapEnd e i y → x + n ≤ y → Made p e (abs p e) i n
+same-made {x = x} {y = y} f b a r = record { holds = fine-holds f; gap = record { low = x; high = y; before = b; after = a; room = r } }
 
 pub less-made : {p e : List ℕ} {s : List (List ℕ)} {i n m : ℕ} → Made p e s i m → n ≤ m → Made p e s i n
 less-made m h = record { holds = m .holds; gap = record { low = m .gap .low; high = m .gap .high; before = m .gap .before; after = m .gap .after; room = omega (arith, m .gap .room) } }

@@ -1,12 +1,12 @@
 -- A part of a list after a paste: before it, behind it, and with the paste at either end.
-use mathlib.Core.Path.{_≡_, refl, sym, ap, _∙_}
+use mathlib.Core.Path.{_≡_, sym, ap, _∙_}
 use mathlib.Core.List.{List, [], _∷_, _++_, append-assoc}
 use mathlib.Core.Logic.{_⊎_, inl, inr, ⊎-elim}
-use Prim.Native.Nat.{ℕ, zero, suc, _+_, _-_, _*_, _≤_, _<_}
+use Prim.Native.Nat.{ℕ, zero, suc, _+_, _-_, _≤_, _<_}
 use native.Mathlib.Nat.{sub-zero, zero-sub, suc-sub-suc}
 use native.Mathlib.Omega.{arith}
-use lib.ListN.{length, take, drop, getD, set, length-append, length-take, length-drop, take-append-drop}
-use lib.Seq.{take-at, drop-at, drop-drop, take-append-le, drop-append-le, take-append-add, take-all, length-take-le, take-append-seam, take-nil}
+use lib.ListN.{length, take, drop, length-append, length-take, length-drop, take-append-drop}
+use lib.Seq.{drop-at, drop-drop, take-append-le, drop-append-le, take-append-add, take-all, length-take-le, take-append-seam, take-nil}
 use Rattle.cells.specs.Cells.{pasted}
 use Rattle.cells.proofs.Laws.{drop-past}
 

@@ -1,16 +1,16 @@
 -- Strings laid out one after the other, and the loops that lay them out anew and count them.
 use mathlib.Core.Path.{_≡_, refl, sym, ap, _∙_}
-use mathlib.Core.List.{List, [], _∷_, _++_}
+use mathlib.Core.List.{List, _++_}
 use mathlib.Core.Logic.{_⊎_, inl, inr, ⊎-elim}
-use Prim.Native.Nat.{ℕ, zero, suc, _+_, _-_, _*_, _≤_, _<_}
+use Prim.Native.Nat.{ℕ, _+_, _-_, _*_, _≤_, _<_}
 use native.Mathlib.Omega.{arith}
-use lib.ListN.{length, take, drop, getD, set, length-append, length-take, length-drop, length-set}
+use lib.ListN.{length, take, drop, getD, set, length-set}
 use lib.Seq.{getD-set-same, getD-set-other, drop-at, length-take-le, take-append-seam}
 use Rattle.cells.specs.Cells.{pasted}
 use Rattle.cells.proofs.Laws.{length-pasted}
 use Rattle.layout.specs.Strings.{used}
 use Rattle.gaps.specs.Pool.{lo, hi, str, abs, string, offset, Ordered, Fine, Holds}
-use Rattle.gaps.specs.Gaps.{Before, After, Gap, LaidOne, Carriable, Carried, Extra, Spreadable, Made}
+use Rattle.gaps.specs.Gaps.{LaidOne, Carriable, Carried, Extra, Spreadable, Made}
 use Rattle.gaps.proofs.Index.{offset-zero, offset-next, offset-within, offset-all}
 use Rattle.gaps.proofs.Parts.{below-or, same-or, in-front, part-of-take, part-before}
 use Rattle.gaps.proofs.Laws.{length-abs, string-part, hold, shaped}
@@ -66,14 +66,17 @@ module _ {p e p′ e′ b : List ℕ} {j at to : ℕ} {s : List (List ℕ)} (l :
   laid-order x y h k =
       ⊎-elim
       (λ (u : y < 2 * j). let v : x < 2 * j = omega arith in rw (pair .below x v, pair .below y u) (l .order x y h u))
-      (λ w. ⊎-elim
+      (λ (w : (y ≡ 2 * j) ⊎ (y ≡ 2 * j + 1)). ⊎-elim
       (λ (u : y ≡ 2 * j). ⊎-elim
       (λ (v : x < 2 * j). rw (u, pair .below x v, pair .low) (omega (arith, l .last x v)))
       (λ (v : 2 * j ≤ x). let q : x ≡ 2 * j = omega arith in rw (q, u) (omega arith))
       (below-or x (2 * j)))
       (λ (u : y ≡ 2 * j + 1). ⊎-elim
       (λ (v : x < 2 * j). rw (u, pair .below x v, pair .high) (omega (arith, l .last x v)))
-      (λ z. ⊎-elim (λ (v : x ≡ 2 * j). rw (u, v, pair .low, pair .high) (omega arith)) (λ (v : x ≡ 2 * j + 1). rw (u, v) (omega arith)) z)
+      (λ (z : (x ≡ 2 * j) ⊎ (x ≡ 2 * j + 1)). ⊎-elim
+      (λ (v : x ≡ 2 * j). rw (u, v, pair .low, pair .high) (omega arith))
+      (λ (v : x ≡ 2 * j + 1). rw (u, v) (omega arith))
+      z)
       (which x j (omega arith)))
       w)
       (which y j k)
@@ -82,7 +85,10 @@ module _ {p e p′ e′ b : List ℕ} {j at to : ℕ} {s : List (List ℕ)} (l :
   laid-last x k =
       ⊎-elim
       (λ (u : x < 2 * j). rw (pair .below x u) (omega (arith, l .last x u)))
-      (λ w. ⊎-elim (λ (u : x ≡ 2 * j). rw (u, pair .low) (omega arith)) (λ (u : x ≡ 2 * j + 1). rw (u, pair .high) (omega arith)) w)
+      (λ (w : (x ≡ 2 * j) ⊎ (x ≡ 2 * j + 1)). ⊎-elim
+      (λ (u : x ≡ 2 * j). rw (u, pair .low) (omega arith))
+      (λ (u : x ≡ 2 * j + 1). rw (u, pair .high) (omega arith))
+      w)
       (which x j k)
 
   old-string : (k : ℕ) → k < j → str p′ e′ k ≡ str p e k
@@ -154,7 +160,7 @@ moving-none p e₀ q₀ i n l = record {
 pub at-fits : {p e₀ q₀ e q : List ℕ} {i n at j sc : ℕ} → Spreadable p e₀ i n sc → Moving p e₀ q₀ i n e q at j → at ≤ 65536
 at-fits {p} {e₀} {j = j} pre m = omega (arith, m .most, m .upto, offset-within (abs p e₀) j, pre .total)
 
-module _ {p e₀ q₀ e q : List ℕ} {i n at j sc r : ℕ} (pre : Spreadable p e₀ i n sc) (m : Moving p e₀ q₀ i n e q at j) (h : j < 99) (extra : Extra j i n r)
+module _ {p e₀ q₀ e q : List ℕ} {i n at j sc r : ℕ} (pre : Spreadable p e₀ i n sc) (m : Moving p e₀ q₀ i n e q at j) (h : j < 99) (added : Extra j i n r)
     (sp : 65536 ≤ length q₀) where
   lo-is : lo e j ≡ lo e₀ j
   lo-is = m .kept (2 * j) (omega arith)
@@ -172,12 +178,12 @@ module _ {p e₀ q₀ e q : List ℕ} {i n at j sc r : ℕ} (pre : Spreadable p 
   -- where the next string goes, with what stands before it
   to-most : at + r ≤ 320 * j + offset j (abs p e₀) + n
   to-most = ⊎-elim
-      (λ (x : j ≡ i). omega (arith, extra .most, m .less (omega arith)))
-      (λ w. let z : r ≡ 0 = extra .else (λ x. ⊎-elim (λ y. omega arith) (λ y. omega arith) w) in omega (arith, m .most))
+      (λ (x : j ≡ i). omega (arith, added .most, m .less (omega arith)))
+      (λ w. let z : r ≡ 0 = added .else (λ x. ⊎-elim (λ y. omega arith) (λ y. omega arith) w) in omega (arith, m .most))
       (same-or j i)
 
   to-less : j + 1 ≤ i → at + r ≤ 320 * j + offset j (abs p e₀)
-  to-less x = let z : r ≡ 0 = extra .else (λ y. omega arith) in omega (arith, m .less (omega arith))
+  to-less x = let z : r ≡ 0 = added .else (λ y. omega arith) in omega (arith, m .less (omega arith))
 
   pub carriable : Carriable p e q j (at + 320 + r)
   carriable =
@@ -216,7 +222,7 @@ module _ {p e₀ q₀ e q : List ℕ} {i n at j sc r : ℕ} (pre : Spreadable p 
             let c : lo e′ i ≡ lo e i = laid-before (m .laid) h le in-q str-is (o .laid) (2 * i) (omega arith) in
             record { first = rw c (g .first); all = λ k z. rw (c, laid-before (m .laid) h le in-q str-is (o .laid) k (omega arith)) (g .all k z) })
             (λ (y : j ≤ i). let u : i ≡ j = omega arith in
-            let w : r ≡ n = extra .here (omega arith) in
+            let w : r ≡ n = added .here (omega arith) in
             let c : lo e′ i ≡ at + 320 + r = rw u (laid-low (m .laid) h le in-q str-is (o .laid)) in
             record { first = rw c (omega arith); all = λ k z. rw (c, laid-before (m .laid) h le in-q str-is (o .laid) k (omega arith)) (omega (arith, m .laid .last k (omega arith))) })
             (below-or i j);

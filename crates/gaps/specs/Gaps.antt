@@ -8,11 +8,11 @@ use Rattle.layout.specs.Strings.{used}
 use Rattle.gaps.specs.Pool.{lo, hi, str, abs, string, Ordered, Fine, Holds}
 
 -- no cell before the gap i is more than r, and none behind it is less
-pub record Before (e : List ℕ) (i r : ℕ) : Type 0 where
+pub record GapStart (e : List ℕ) (i r : ℕ) : Type 0 where
   pub all : (k : ℕ) → k < 2 * i → getD e k 0 ≤ r
   pub most : r ≤ 65536
 
-pub record After (e : List ℕ) (i r : ℕ) : Type 0 where
+pub record GapEnd (e : List ℕ) (i r : ℕ) : Type 0 where
   pub all : (k : ℕ) → 2 * i ≤ k → k < 198 → r ≤ getD e k 0
   pub most : r ≤ 65536
 
@@ -20,8 +20,8 @@ pub record After (e : List ℕ) (i r : ℕ) : Type 0 where
 pub record Gap (e : List ℕ) (i n : ℕ) : Type 0 where
   pub low : ℕ
   pub high : ℕ
-  pub before : Before e i low
-  pub after : After e i high
+  pub before : GapStart e i low
+  pub after : GapEnd e i high
   pub room : low + n ≤ high
 
 pub record Edge (e : List ℕ) (i : ℕ) : Type 0 where

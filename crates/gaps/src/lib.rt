@@ -4,7 +4,7 @@ ghost use Prim.Native.Nat.{_+_};
 ghost use lib.ListN.{length};
 ghost use Rattle.layout.specs.Strings.{used};
 ghost use Rattle.gaps.specs.Pool.{abs, Fine, Holds};
-ghost use Rattle.gaps.specs.Gaps.{Before, After, Edge, Roomy, pushedFront, pushedBack, Layable, LaidOne, Carriable, Carried, Extra, Spreadable, Wanted, Made};
+ghost use Rattle.gaps.specs.Gaps.{GapStart, GapEnd, Edge, Roomy, pushedFront, pushedBack, Layable, LaidOne, Carriable, Carried, Extra, Spreadable, Wanted, Made};
 
 // How many strings there are, how many bytes the pool has, and how far apart strings are laid.
 pub const COUNT: usize = 99;
@@ -16,7 +16,7 @@ pub const APART: usize = 320;
 // Where the gap before string `i` starts.
 fn gap_start(ends: &[u32], i: usize) -> usize
     requires { ⌜ Edge (now ends) i ⌝ }
-    ensures { λ r. ⌜ Before (now (ends .entry)) i r ⌝ }
+    ensures { λ r. ⌜ GapStart (now (ends .entry)) i r ⌝ }
 {
     if i == 0 {
         return 0;
@@ -27,7 +27,7 @@ fn gap_start(ends: &[u32], i: usize) -> usize
 // Where the gap before string `i` ends.
 fn gap_end(ends: &[u32], i: usize) -> usize
     requires { ⌜ Edge (now ends) i ⌝ }
-    ensures { λ r. ⌜ After (now (ends .entry)) i r ⌝ }
+    ensures { λ r. ⌜ GapEnd (now (ends .entry)) i r ⌝ }
 {
     if i == COUNT {
         return SIZE;
@@ -68,7 +68,7 @@ pub fn lay(pool: &mut [u8], ends: &mut [u32], j: usize, at: usize, bytes: &[u8])
 }
 
 // `n` where `j` is `i`, and 0 elsewhere.
-fn extra(j: usize, i: usize, n: usize) -> usize
+fn only_at(j: usize, i: usize, n: usize) -> usize
     ensures { λ r. ⌜ Extra j i n r ⌝ }
 {
     if j == i {
@@ -96,7 +96,7 @@ fn relayout(pool: &mut [u8], ends: &mut [u32], scratch: &mut [u8], i: usize, n: 
     let mut at = 0;
     let mut j = 0;
     while j < COUNT {
-        let to = at + APART + extra(j, i, n);
+        let to = at + APART + only_at(j, i, n);
         at = carry(pool, ends, scratch, j, to);
         j += 1;
     }

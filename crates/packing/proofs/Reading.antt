@@ -14,7 +14,6 @@ use Rattle.cells.specs.Cells.{Number}
 use Rattle.gaps.specs.Pool.{abs, string, offset, Holds}
 use Rattle.gaps.specs.Gaps.{LaidOne}
 use Rattle.gaps.proofs.Index.{offset-zero, offset-next, offset-within}
-use Rattle.gaps.proofs.Laws.{count}
 use Rattle.gaps.proofs.Spread.{Laid, laid-none, laid-more, laid-all}
 use Rattle.packing.specs.Packing.{Packable, Packed, Unpackable}
 
@@ -113,8 +112,8 @@ pub record Turn (m p e : List ℕ) (at from j n : ℕ) : Type 0 where
   pub cells : length e ≡ 198
 
 module _ {m p₀ p e : List ℕ} {at from j n b : ℕ} (pre : Unpackable m (length p₀) b) (u : Unpacking m p₀ p e at from j) (h : j < 99) (r : Number (two-at (2 * j) m) 65536 n) where
-  pub turn : Turn m p e at from j n
-  turn =
+  pub turn-numbers : Turn m p e at from j n
+  turn-numbers =
       let q : n ≡ length (string j (strings-in m)) = r .is ∙ length-read (pre .packed) j h in
       let w = offset-within (strings-in m) j in
       record {
@@ -128,7 +127,7 @@ module _ {m p₀ p e : List ℕ} {at from j n b : ℕ} (pre : Unpackable m (leng
 
   pub unpacking-more : {p′ e′ : List ℕ} → LaidOne p e j (at + 320) (take ((from + n) - from) (drop from m)) p′ e′ → length p′ ≡ length p → Unpacking m p₀ p′ e′ (at + 320 + n) (from + n) (j + 1)
   unpacking-more o l =
-      let t = turn in
+      let t = turn-numbers in
       let k : ℕ = (from + n) - from in
       let s : List (List ℕ) = strings-in m in
       let B : List ℕ = take k (drop from m) in

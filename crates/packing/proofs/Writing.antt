@@ -1,19 +1,19 @@
 -- The laws of writing the strings at rest: the loops that write lengths and strings, and the zeros behind them.
-use mathlib.Core.Path.{_≡_, refl, sym, ap, _∙_}
+use mathlib.Core.Path.{_≡_, refl, ap, _∙_}
 use mathlib.Core.List.{List, [], _∷_, _++_, append-assoc, append-nil}
 use Prim.Native.Nat.{ℕ, zero, suc, _+_, _-_, _*_, _≤_, _<_}
 use native.Mathlib.Nat.{le-of-suc-le-suc, not-suc-le-zero}
 use native.Mathlib.Numerals.{add-one}
 use native.Mathlib.Omega.{arith}
-use lib.ListN.{length, take, drop, getD, replicate, length-append, length-take, length-replicate}
+use lib.ListN.{length, take, getD, replicate, length-append, length-replicate}
 use lib.Seq.{take-suc, take-length, length-take-le}
 use Rattle.lists.specs.Lists.{joined}
 use Rattle.layout.specs.Cells.{two}
 use Rattle.layout.specs.Strings.{lengths, used, string-cells}
 use Rattle.layout.specs.StringLaws.{joined-append, length-lengths}
 use Rattle.cells.specs.Cells.{pasted, cleared}
-use Rattle.cells.proofs.Laws.{length-pasted, cleared-is, pasted-none, pasted-pasted, pasted-whole}
-use Rattle.gaps.specs.Pool.{abs, string, offset, Fine}
+use Rattle.cells.proofs.Laws.{cleared-is, pasted-none, pasted-pasted, pasted-whole}
+use Rattle.gaps.specs.Pool.{abs, string, offset}
 use Rattle.gaps.proofs.Index.{offset-zero, offset-next, offset-within, offset-all}
 use Rattle.gaps.proofs.Laws.{length-abs}
 use Rattle.store.specs.Store.{Long, Whole}

@@ -2,7 +2,6 @@
 use mathlib.Core.Path.{_≡_}
 use mathlib.Core.List.{List}
 use Prim.Native.Nat.{ℕ, _+_, _≤_}
-use lib.ListN.{length}
 use Rattle.lists.specs.Lists.{joined}
 use Rattle.layout.specs.Strings.{used, string-cells, strings-in}
 use Rattle.cells.specs.Cells.{pasted}

@@ -4,7 +4,7 @@ ghost use lib.ListN.{length};
 ghost use Rattle.layout.specs.Strings.{lengths, string-cells, strings-in};
 ghost use Rattle.cells.specs.Cells.{pasted};
 ghost use Rattle.gaps.specs.Pool.{abs, Holds};
-ghost use Rattle.packing.specs.Packing.{Packable, Stringed, Packed, Unpackable};
+ghost use Rattle.packing.specs.Packing.{Packable, Stringed, Unpackable};
 
 // How many cells the lengths take, and how many all.
 const LENGTHS: usize = 198;

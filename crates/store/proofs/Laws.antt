@@ -4,14 +4,16 @@ use mathlib.Core.List.{List, [], _++_}
 use mathlib.Core.Logic.{inl, inr}
 use Prim.Native.Nat.{ℕ, _+_, _-_, _*_, _≤_, _<_}
 use native.Mathlib.Omega.{arith}
-use lib.ListN.{length, take, drop, getD, set, length-append, length-take, length-drop, length-set}
-use lib.Seq.{take-take, take-all, drop-drop, drop-length}
+use lib.ListN.{length, take, drop, set, length-append, length-take, length-drop}
+use lib.Seq.{take-take, drop-drop, drop-length}
 use Rattle.layout.specs.Strings.{used}
 use Rattle.gaps.specs.Pool.{lo, hi, str, abs, string, Ordered, Fine, Holds}
 use Rattle.gaps.specs.Gaps.{pushedFront, pushedBack}
-use Rattle.gaps.proofs.Index.{used-set, offset-within}
+pub use Rattle.gaps.proofs.Index.{used-set}
+use Rattle.gaps.proofs.Index.{offset-within}
 use Rattle.gaps.proofs.Parts.{drop-take}
-use Rattle.gaps.proofs.Laws.{string-is, string-part, length-abs, shaped, changed, ordered-set, str-other, str-lo, str-hi, low-cell, high-cell}
+pub use Rattle.gaps.proofs.Laws.{abs-of, good, after, fine-holds, count, length-abs}
+use Rattle.gaps.proofs.Laws.{string-is, string-part, shaped, changed, ordered-set, str-other, str-lo, str-hi, low-cell, high-cell}
 use Rattle.store.specs.Store.{Long, Whole, Part, droppedFront, droppedBack, emptied}
 
 -- reading
@@ -20,16 +22,16 @@ pub string-most : {p e : List ℕ} → Fine p e → (i : ℕ) → length (string
 string-most {p} {e} f i = omega (arith, offset-within (abs p e) i, f .fits)
 
 module _ {p e : List ℕ} {i : ℕ} (f : Fine p e) (b : i < 99) where
-  pub long : {x y : ℕ} → x ≡ lo e i → y ≡ hi e i → Long p e i (y - x)
-  long q r = let s = shaped f b in record { is = omega arith; most = omega (arith, string-most f i) }
+  pub length-told : {x y : ℕ} → x ≡ lo e i → y ≡ hi e i → Long p e i (y - x)
+  length-told q r = let s = shaped f b in record { is = omega arith; most = omega (arith, string-most f i) }
 
-  pub whole : {x y : ℕ} → x ≡ lo e i → y ≡ hi e i → Whole p e i (take (y - x) (drop x p))
-  whole q r =
+  pub string-told : {x y : ℕ} → x ≡ lo e i → y ≡ hi e i → Whole p e i (take (y - x) (drop x p))
+  string-told q r =
       let w : take (hi e i - lo e i) (drop (lo e i) p) ≡ string i (abs p e) = sym (string-part p e i b) in
       record { is = rw (q, r) w; most = rw (q, r, w) (string-most f i) }
 
-  pub part : (at n : ℕ) {x : ℕ} → x ≡ lo e i → at + n ≤ length (string i (abs p e)) → Part p e i at n (take ((x + at + n) - (x + at)) (drop (x + at) p))
-  part at n {x} q h =
+  pub part-told : (at n : ℕ) {x : ℕ} → x ≡ lo e i → at + n ≤ length (string i (abs p e)) → Part p e i at n (take ((x + at + n) - (x + at)) (drop (x + at) p))
+  part-told at n {x} q h =
       let s = shaped f b in
       let r : (x + at + n) - (x + at) ≡ n = omega arith in
       let y : n ≤ (hi e i - lo e i) - at = omega arith in

@@ -4,16 +4,16 @@ use mathlib.Core.List.{List, [], _++_, append-nil}
 use mathlib.Core.Logic.{_⊎_, ⊎-elim}
 use Prim.Native.Nat.{ℕ, _+_, _-_, _≤_, _<_}
 use native.Mathlib.Omega.{arith}
-use lib.ListN.{length, take, drop, getD, set, length-append, length-take, length-drop, length-set, take-append-drop}
+use lib.ListN.{length, take, drop, set, length-append, length-take, length-drop, length-set, take-append-drop}
 use lib.Seq.{take-all, take-append-seam, drop-append-seam, getD-set-same, getD-set-other, set-set, set-comm, set-getD}
 use Rattle.cells.specs.Cells.{pasted}
 use Rattle.cells.proofs.Laws.{pasted-front}
 use Rattle.layout.specs.Strings.{used}
-use Rattle.gaps.specs.Pool.{abs, string, Fine, Holds}
-use Rattle.gaps.specs.Gaps.{pushedFront, pushedBack}
+use Rattle.gaps.specs.Pool.{abs, string, Holds}
+use Rattle.gaps.specs.Gaps.{pushedFront}
 use Rattle.gaps.proofs.Parts.{same-or}
-use Rattle.gaps.proofs.Laws.{length-abs, after, holds}
-use Rattle.store.specs.Store.{Long, Within, Copyable, droppedFront, droppedBack, Pushable, Movable, movedFront, movedFrontToBack, movedBackToFront, Exchangeable, exchanged}
+use Rattle.gaps.proofs.Laws.{length-abs, after}
+use Rattle.store.specs.Store.{Long, Copyable, droppedFront, droppedBack, Pushable, Movable, movedFront, movedBackToFront, Exchangeable, exchanged}
 use Rattle.store.proofs.Laws.{string-most, used-dropped-front, used-dropped-back}
 
 module _ {p e : List ℕ} {i j n sc hd : ℕ} (pre : Movable p e i j n sc hd) where

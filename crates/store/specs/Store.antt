@@ -1,12 +1,12 @@
--- The operations of the store: what each asks, and what it makes of the strings. p and e are pool and cells, i and j are strings, n is how many
--- bytes; scratch and hold are how long the two further buffers are, one for laying the strings out anew and one for bytes on the way.
+-- The operations of the store: what each asks, and what it makes of the strings. p and e are pool and cells, i and j strings, n a count of bytes,
+-- scratch and hold the lengths of two buffers: one to lay the strings out anew, one for bytes on the way from string to string.
 use mathlib.Core.Path.{_≡_}
 use mathlib.Core.List.{List, []}
 use Prim.Native.Nat.{ℕ, _+_, _-_, _≤_, _<_}
 use lib.ListN.{length, take, drop, set}
 use Rattle.layout.specs.Strings.{used}
-use Rattle.gaps.specs.Pool.{abs, string, Fine}
-use Rattle.gaps.specs.Gaps.{pushedFront, pushedBack}
+pub use Rattle.gaps.specs.Pool.{abs, string, Fine, Holds}
+unfoldable pub use Rattle.gaps.specs.Gaps.{pushedFront, pushedBack}
 
 -- reading
 

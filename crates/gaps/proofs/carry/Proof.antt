@@ -5,7 +5,6 @@ use borrow.Author.Needs.{needs}
 use native.Mathlib.Omega.{arith}
 use Rattle.gaps.proofs.carry.Statement.{statement}
 use Rattle.gaps.proofs.carry.Tie as tie
-use Rattle.cells.proofs.read.Reads as read-reads
 
 mul-read : tie.Need-mul-read
 mul-read c = search needs

@@ -2,8 +2,6 @@
 use borrow.Author.Needs.{needs}
 use Rattle.gaps.proofs.lay.Statement.{statement}
 use Rattle.gaps.proofs.lay.Tie as tie
-use Rattle.cells.proofs.put.Reads as put-reads
-use Rattle.cells.proofs.write.Reads as write-reads
 
 add-to : tie.Need-add-to
 add-to c = search needs

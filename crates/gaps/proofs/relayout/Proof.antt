@@ -6,7 +6,6 @@ use borrow.Author.Needs.{needs}
 use native.Mathlib.Omega.{arith}
 use Rattle.gaps.proofs.relayout.Statement.{statement}
 use Rattle.gaps.proofs.relayout.Tie as tie
-use Rattle.cells.proofs.put.Reads as put-reads
 
 abbrev Inv-loop : tie.InvT-loop
 Inv-loop pool ends₀ scratch₀ i n at₀ j₀ ends scratch at j = Moving pool ends₀ scratch₀ i n ends scratch at j
@@ -24,22 +23,22 @@ add-to c =
     let pre = c .before .before .before .before .before .pre in
     omega (arith, at-fits pre (c .before .loop .inv))
 
-extra-requires : tie.Need-extra-requires Inv-loop μ-loop
-extra-requires c κs = search needs
+only-at-requires : tie.Need-only-at-requires Inv-loop μ-loop
+only-at-requires c κs = search needs
 
 add-to-2 : tie.Need-add-to-2 Inv-loop μ-loop
 add-to-2 c =
     let pre = c .before .before .before .before .before .before .pre in
     let loop = c .before .before .loop in
-    omega (arith, carriable pre (loop .inv) (c .before .loop-test .taken) (c .extra .ensures) (pre .spare))
+    omega (arith, carriable pre (loop .inv) (c .before .loop-test .taken) (c .only-at .ensures) (pre .spare))
 
 carry-requires : tie.Need-carry-requires Inv-loop μ-loop
 carry-requires c κs =
     let pre = c .before .before .before .before .before .before .before .before .before .pre in
     let loop = c .before .before .before .before .before .loop in
     let loop-test = c .before .before .before .before .loop-test in
-    let extra = c .before .before .before .extra in
-    carriable pre (loop .inv) (loop-test .taken) (extra .ensures) (pre .spare)
+    let only-at = c .before .before .before .only-at in
+    carriable pre (loop .inv) (loop-test .taken) (only-at .ensures) (pre .spare)
 
 add-j : tie.Need-add-j Inv-loop μ-loop
 add-j c = search needs
@@ -52,9 +51,9 @@ loop-again c =
     let pre = c .before .before .before .before .before .before .before .before .before .before .before .before .before .before .pre in
     let loop = c .before .before .before .before .before .before .before .before .before .before .loop in
     let loop-test = c .before .before .before .before .before .before .before .before .before .loop-test in
-    let extra = c .before .before .before .before .before .before .before .before .extra in
+    let only-at = c .before .before .before .before .before .before .before .before .only-at in
     let carry = c .before .before .before .before .carry in
-    moving-more pre (loop .inv) (loop-test .taken) (extra .ensures) (pre .spare) (carry .ensures) (carry .kept .1 .1 .0)
+    moving-more pre (loop .inv) (loop-test .taken) (only-at .ensures) (pre .spare) (carry .ensures) (carry .kept .1 .1 .0)
 
 slice-reshare-prefix-put : tie.Need-slice-reshare-prefix-put Inv-loop μ-loop
 slice-reshare-prefix-put c =
@@ -99,7 +98,7 @@ relayout-spec =
     μ-loop
     loop-holds
     add-to
-    extra-requires
+    only-at-requires
     add-to-2
     carry-requires
     add-j

@@ -6,7 +6,6 @@ use borrow.Author.Needs.{needs}
 use native.Mathlib.Omega.{arith}
 use Rattle.gaps.proofs.total_len.Statement.{statement}
 use Rattle.gaps.proofs.total_len.Tie as tie
-use Rattle.cells.proofs.read.Reads as read-reads
 
 abbrev Inv-loop : tie.InvT-loop
 Inv-loop pool ends n₀ j₀ n j = Counted pool ends n j

@@ -1,7 +1,7 @@
 -- `packing::unpack` meets its contract. The invariant: the first j strings are laid out.
 use Prim.Native.Nat.{_-_}
 use lib.ListN.{length-take, length-drop}
-use Rattle.packing.proofs.Reading.{Unpacking, unpacking-none, turn, unpacking-more, unpacked, packed-long}
+use Rattle.packing.proofs.Reading.{Unpacking, unpacking-none, turn-numbers, unpacking-more, unpacked, packed-long}
 use borrow.Author.Needs.{needs}
 use native.Mathlib.Omega.{arith}
 use Rattle.packing.proofs.unpack.Statement.{statement}
@@ -30,13 +30,13 @@ add-to : tie.Need-add-to Inv-loop μ-loop
 add-to c =
     let pre = c .before .before .before .before .before .before .pre in
     let loop = c .before .before .loop in
-    omega (arith, turn pre (loop .inv) (c .before .loop-test .taken) (c .two-at .ensures))
+    omega (arith, turn-numbers pre (loop .inv) (c .before .loop-test .taken) (c .two-at .ensures))
 
 add-end : tie.Need-add-end Inv-loop μ-loop
 add-end c =
     let pre = c .before .before .before .before .before .before .pre in
     let loop = c .before .before .loop in
-    omega (arith, turn pre (loop .inv) (c .before .loop-test .taken) (c .two-at .ensures))
+    omega (arith, turn-numbers pre (loop .inv) (c .before .loop-test .taken) (c .two-at .ensures))
 
 sub-lay : tie.Need-sub-lay Inv-loop μ-loop
 sub-lay c = search needs
@@ -50,7 +50,7 @@ part-lay-end c =
     let loop = c .before .before .before .before .loop in
     let loop-test = c .before .before .before .loop-test in
     let two-at = c .before .before .two-at in
-    omega (arith, turn pre (loop .inv) (loop-test .taken) (two-at .ensures))
+    omega (arith, turn-numbers pre (loop .inv) (loop-test .taken) (two-at .ensures))
 
 lay-requires : tie.Need-lay-requires Inv-loop μ-loop
 lay-requires c κs =
@@ -58,7 +58,7 @@ lay-requires c κs =
     let loop = c .before .before .before .before .before .loop in
     let loop-test = c .before .before .before .before .loop-test in
     let two-at = c .before .before .before .two-at in
-    simp (length-take, length-drop) (omega (arith, turn pre (loop .inv) (loop-test .taken) (two-at .ensures), loop-test .taken))
+    simp (length-take, length-drop) (omega (arith, turn-numbers pre (loop .inv) (loop-test .taken) (two-at .ensures), loop-test .taken))
 
 add-at : tie.Need-add-at Inv-loop μ-loop
 add-at c =
@@ -66,7 +66,7 @@ add-at c =
     let loop = c .before .before .before .before .before .before .before .before .before .before .loop in
     let loop-test = c .before .before .before .before .before .before .before .before .before .loop-test in
     let two-at = c .before .before .before .before .before .before .before .before .two-at in
-    omega (arith, turn pre (loop .inv) (loop-test .taken) (two-at .ensures))
+    omega (arith, turn-numbers pre (loop .inv) (loop-test .taken) (two-at .ensures))
 
 add-j : tie.Need-add-j Inv-loop μ-loop
 add-j c = search needs

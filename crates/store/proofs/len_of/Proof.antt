@@ -1,6 +1,6 @@
 -- `store::len_of` meets its contract.
 use Rattle.gaps.proofs.Laws.{shaped}
-use Rattle.store.proofs.Laws.{long}
+use Rattle.store.proofs.Laws.{length-told}
 use borrow.Author.Needs.{needs}
 use native.Mathlib.Omega.{arith}
 use Rattle.store.proofs.len_of.Statement.{statement}
@@ -29,7 +29,7 @@ sub-result c =
 returns : tie.Need-returns
 returns c =
     let pre = c .before .before .before .before .pre in
-    long (pre .fine) (pre .index) (c .before .read .ensures .is) (c .read2 .ensures .is)
+    length-told (pre .fine) (pre .index) (c .before .read .ensures .is) (c .read2 .ensures .is)
 
 pub len-of-spec : {M : Type 1} → statement M
 len-of-spec =

@@ -1,6 +1,6 @@
 -- `store::part_of` meets its contract.
 use Rattle.gaps.proofs.Laws.{shaped}
-use Rattle.store.proofs.Laws.{part}
+use Rattle.store.proofs.Laws.{part-told}
 use borrow.Author.Needs.{needs}
 use native.Mathlib.Omega.{arith}
 use Rattle.store.proofs.part_of.Statement.{statement}
@@ -37,7 +37,7 @@ returns : tie.Need-returns
 returns c =
     let pre = c .before .before .before .before .pre in
     let args = c .before .before .before .before .args in
-    part (pre .fine) (pre .index) (args .at) (args .n) (c .before .read .ensures .is) (pre .within)
+    part-told (pre .fine) (pre .index) (args .at) (args .n) (c .before .read .ensures .is) (pre .within)
 
 pub part-of-spec : {M : Type 1} → statement M
 part-of-spec =

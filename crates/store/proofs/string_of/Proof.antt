@@ -1,6 +1,6 @@
 -- `store::string_of` meets its contract.
 use Rattle.gaps.proofs.Laws.{shaped}
-use Rattle.store.proofs.Laws.{whole}
+use Rattle.store.proofs.Laws.{string-told}
 use borrow.Author.Needs.{needs}
 use native.Mathlib.Omega.{arith}
 use Rattle.store.proofs.string_of.Statement.{statement}
@@ -40,7 +40,7 @@ returns : tie.Need-returns
 returns c =
     let pre = c .before .before .before .before .before .pre in
     let read = c .before .before .read in
-    whole (pre .fine) (pre .index) (read .ensures .is) (c .before .read2 .ensures .is)
+    string-told (pre .fine) (pre .index) (read .ensures .is) (c .before .read2 .ensures .is)
 
 pub string-of-spec : {M : Type 1} → statement M
 string-of-spec =
