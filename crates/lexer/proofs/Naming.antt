@@ -6,7 +6,7 @@ use Prim.Native.Nat.{ℕ, suc, _+_, _-_, _≤_, _<_}
 use native.Mathlib.Omega.{arith}
 use lib.Dec.{eqb}
 use lib.ListN.{length, getD, take, drop, drop-of-length-le}
-use borrow.Author.Tests.{eq-eqb, ne-eqb}
+use borrow.Author.Tests.{eqb-true, eq-eqb, ne-eqb}
 use Rattle.lists.specs.Lists.{ifAny}
 use Rattle.lists.specs.TableLaws.{beq-eq, below}
 use Rattle.syntax.specs.Items.{Sort, sort-of, sort-number, same-sort, Item, is, a-word, a-mark, read, attach, named}
@@ -18,8 +18,9 @@ use Rattle.syntax.specs.Scan.{Found, text-found, found-here, found-in, found-af
 use Rattle.syntax.specs.Scan.Found.{no-item, found}
 use Rattle.scanner.specs.declared.Gap.{Gap}
 use Rattle.scanner.specs.Scans.{Skipped}
+use Rattle.lexer.specs.declared.After.{After}
 use Rattle.lexer.specs.declared.Token.{Token}
-use Rattle.lexer.specs.Tokens.{part, chars-of, item-of, Stands, found-by, Token-at, Colon-at, Colon-after, items-from, Next-token}
+use Rattle.lexer.specs.Tokens.{chars-of, item-of, found-by, Token-at, Colon-after, items-from, Next-token}
 use Rattle.lexer.proofs.Finding.{number-of-sort, here}
 
 -- only a colon begins a colon
@@ -37,23 +38,40 @@ other-leads text s n b r h = refl
 other-leads wrong s n b r h = refl
 
 module _ (s : List ℕ) (n : ℕ) (g : Gap) (k : Skipped s n g) where
-  pub colon-open : g .open ≡ true → ifAny false (is colon) (read outside n (drop n s)) ≡ false
+  -- the items are found from behind the gap on as well
+  from-behind : read outside n (drop n s) ≡ read outside (g .at) (drop (g .at) s)
+  from-behind = items-found s n ∙ ap (λ x. items-then s (found-after s x)) (k .settled) ∙ sym (items-found s (g .at))
+
+  abbrev no-colon : After
+  no-colon = record { colon = 0; next = g .at }
+
+  bare : ifAny false (is colon) (read outside n (drop n s)) ≡ false → Colon-after s n no-colon
+  bare e = record { from = k .from; most = k .most; colon-most = omega arith; none = λ z. e; is = from-behind }
+
+  pub colon-open : g .open ≡ true → Colon-after s n no-colon
   unfolding items-then found-after
-  colon-open e = rw (items-found s n, k .is, e) refl
+  colon-open e = bare (rw (items-found s n, k .is, e) refl)
 
-  pub colon-end : g .open ≡ false → length s ≤ g .at → ifAny false (is colon) (read outside n (drop n s)) ≡ false
+  pub colon-end : g .open ≡ false → length s ≤ g .at → Colon-after s n no-colon
   unfolding items-then found-after found-in
-  colon-end e l = rw (items-found s n, k .is, e, drop-of-length-le s l) refl
+  colon-end e l = bare (rw (items-found s n, k .is, e, drop-of-length-le s l) refl)
 
-  pub colon-other : g .open ≡ false → g .at < length s → getD s (g .at) 0 < 256 → (getD s (g .at) 0 ≡ 58 → ⊥)
-      → ifAny false (is colon) (read outside n (drop n s)) ≡ false
+  pub colon-other : g .open ≡ false → g .at < length s → getD s (g .at) 0 < 256 → (getD s (g .at) 0 ≡ 58 → ⊥) → Colon-after s n no-colon
   colon-other e l b o =
       let q = sym (colon-byte (getD s (g .at) 0) b) ∙ ne-eqb (getD s (g .at) 0) 58 o in
-      rw (items-found s n, here s n g k e l) (other-leads (sort-of (getD s (g .at) 0)) s (g .at) (getD s (g .at) 0) (drop (g .at + 1) s) q)
+      bare (rw (items-found s n, here s n g k e l) (other-leads (sort-of (getD s (g .at) 0)) s (g .at) (getD s (g .at) 0) (drop (g .at + 1) s) q))
 
-  pub colon-here : g .open ≡ false → g .at < length s → getD s (g .at) 0 ≡ 58 → Colon-at s n (g .at)
+  pub colon-here : 0 < n → g .open ≡ false → g .at < length s → getD s (g .at) 0 ≡ 58 → Colon-after s n (record { colon = g .at; next = g .at + 1 })
   unfolding items-then found-here sort-of
-  colon-here e l o = record { from = k .from; most = l; is = items-found s n ∙ rw (here s n g k e l, o) refl }
+  colon-here z e l o =
+      let p = k .from in
+      record {
+        from = omega arith;
+        most = omega arith;
+        colon-most = omega arith;
+        none = λ q. absurd (omega arith);
+        is = items-found s n ∙ rw (here s n g k e l, o, ne-eqb (g .at) 0 (λ q. omega arith)) refl;
+      }
 
 -- the items from place n on, by what is found there
 module _ (s : List ℕ) (n : ℕ) (t : Token) (k : Token-at s n t) where
@@ -83,39 +101,42 @@ module _ (s : List ℕ) (n : ℕ) (t : Token) (k : Token-at s n t) where
   word-read : t .sort ≡ 1 → read outside n (drop n s) ≡ its-word ∷ read outside (t .next) (drop (t .next) s)
   word-read w = some-read (ne-eqb (t .sort) 0 (λ e. omega arith)) ∙ ap (λ i. i ∷ read outside (t .next) (drop (t .next) s)) (word-item w)
 
-  pub next-word : t .sort ≡ 1 → ifAny false (is colon) (read outside (t .next) (drop (t .next) s)) ≡ false → Next-token s n t
-  next-word w e =
-      let js : List Item = read outside (t .next) (drop (t .next) s) in
-      let is : items-from s n ≡ its-word ∷ items-from s (t .next) = ap named (word-read w) ∙ word-alone (t .at) (chars-of s t) js e in
-      record { from = k .from; stands = k .stands; is = is ∙ rw (ne-eqb (t .sort) 0 (λ z. omega arith), word-item w) refl }
+  abbrev named-token : After → Token
+  named-token r = record { sort = 1; at = t .at; end = t .end; next = r .next; len = t .len; good = true; colon = r .colon }
 
-  abbrev named-token : ℕ → Token
-  named-token q = record { sort = 1; at = t .at; end = t .end; next = q + 1; len = t .len; good = t .good; colon = q }
-
-  same-chars : (q : ℕ) → t .sort ≡ 1 → chars-of s (named-token q) ≡ chars-of s t
+  same-chars : (r : After) → t .sort ≡ 1 → chars-of s (named-token r) ≡ chars-of s t
   unfolding chars-of
-  same-chars q w = rw w refl
+  same-chars r w = rw w refl
 
-  named-item : (q : ℕ) → t .sort ≡ 1 → (q ≡ 0 → ⊥) → item-of s (named-token q) ≡ record { at = t .at; sort = word; chars = chars-of s t; good = true; colon = q ∷ [] }
-  named-item q w z = rw (ne-eqb q 0 z, same-chars q w, k .stands .fine (λ e. omega arith)) refl
+  module _ (w : t .sort ≡ 1) (r : After) (c : Colon-after s (t .next) r) where
+    abbrev rest : List Item
+    rest = read outside (r .next) (drop (r .next) s)
 
-  pub next-named : (q : ℕ) → t .sort ≡ 1 → (q ≡ 0 → ⊥) → Colon-at s (t .next) q → Next-token s n (named-token q)
-  next-named q w z c =
-      let js : List Item = read outside (q + 1) (drop (q + 1) s) in
-      let h = k .stands in
-      record {
-        from = k .from;
-        stands =
-            record {
-              sorted = omega arith;
-              own = h .own;
-              behind = omega (arith, h .behind, c .from);
-              most = omega (arith, c .most);
-              colon-most = omega arith;
-              some = λ e. h .some (λ y. omega arith);
-              ending = λ e. absurd (omega arith);
-              fine = λ e. h .fine (λ y. omega arith);
-              count = rw (same-chars q w) (h .count);
-            };
-        is = ap named (word-read w ∙ rw (c .is) refl) ∙ name-colon (t .at) q (chars-of s t) js ∙ rw (named-item q w z) refl;
-      }
+    named-items : (z : Bool) → eqb (r .colon) 0 ≡ z → items-from s n ≡ item-of s (named-token r) ∷ items-from s (r .next)
+    named-items true z =
+        let e : read outside (t .next) (drop (t .next) s) ≡ rest = c .is ∙ rw z refl in
+        let o : ifAny false (is colon) rest ≡ false = sym (ap (λ js. ifAny false (is colon) js) e) ∙ c .none (eqb-true (r .colon) 0 z) in
+        ap named (word-read w ∙ ap (λ js. its-word ∷ js) e) ∙ word-alone (t .at) (chars-of s t) rest o ∙ rw (z, same-chars r w) refl
+    named-items false z =
+        let e : read outside (t .next) (drop (t .next) s) ≡ a-mark colon (r .colon) ∷ rest = c .is ∙ rw z refl in
+        ap named (word-read w ∙ ap (λ js. its-word ∷ js) e) ∙ name-colon (t .at) (r .colon) (chars-of s t) rest ∙ rw (z, same-chars r w) refl
+
+    pub next-word : Next-token s n (named-token r)
+    next-word =
+        let h = k .stands in
+        record {
+          from = k .from;
+          stands =
+              record {
+                sorted = omega arith;
+                own = h .own;
+                behind = omega (arith, h .behind, c .from);
+                most = c .most;
+                colon-most = c .colon-most;
+                some = λ e. h .some (λ y. omega arith);
+                ending = λ e. absurd (omega arith);
+                fine = λ e. refl;
+                count = rw (same-chars r w) (h .count);
+              };
+          is = named-items (eqb (r .colon) 0) refl;
+        }

@@ -11,6 +11,7 @@ use Rattle.syntax.specs.Items.Sort.{separator, word, colon, end, text, wrong}
 use Rattle.syntax.specs.Items.Mode.{outside}
 use Rattle.syntax.specs.Scan.{text-chars, Found, found-here, item-at}
 use Rattle.syntax.specs.Scan.Found.{no-item, found}
+use Rattle.lexer.specs.declared.After.{After}
 use Rattle.lexer.specs.declared.Token.{Token}
 
 -- the bytes from place a to place e
@@ -78,16 +79,17 @@ Text-at s n t = Begins text s n t
 abbrev pub Token-at : List ℕ → ℕ → Token → Type 0
 Token-at s n t = Finds s n (item-at s n) t
 
--- the next item from place n on is a colon at place r
-pub record Colon-at (s : List ℕ) (n r : ℕ) : Type 0 where
-  pub from : n ≤ r
-  pub most : r < length s
-  pub is : read outside n (drop n s) ≡ a-mark colon r ∷ read outside (r + 1) (drop (r + 1) s)
+-- The next item from place n on is a colon; or it is not, and is found from r .next on as well
+abbrev pub items-after : List ℕ → After → List Item
+items-after s r =
+    cond (eqb (r .colon) 0) (read outside (r .next) (drop (r .next) s)) (a-mark colon (r .colon) ∷ read outside (r .next) (drop (r .next) s))
 
--- it is, or r is 0
-pub record Colon-after (s : List ℕ) (n r : ℕ) : Type 0 where
-  pub some : (r ≡ 0 → ⊥) → Colon-at s n r
-  pub none : r ≡ 0 → ifAny false (is colon) (read outside n (drop n s)) ≡ false
+pub record Colon-after (s : List ℕ) (n : ℕ) (r : After) : Type 0 where
+  pub from : n ≤ r .next
+  pub most : r .next ≤ length s
+  pub colon-most : r .colon ≤ r .next
+  pub none : r .colon ≡ 0 → ifAny false (is colon) (read outside n (drop n s)) ≡ false
+  pub is : read outside n (drop n s) ≡ items-after s r
 
 -- the items from place n on, each word with its colon
 abbrev pub items-from : List ℕ → ℕ → List Item

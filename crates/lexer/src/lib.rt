@@ -88,23 +88,31 @@ pub fn item_at(text: &[u8], n: usize) -> Token
     mark(sort, at, at + 1)
 }
 
-// The place of the colon that is the next item, or 0.
-fn colon_after(text: &[u8], n: usize) -> usize
+// What follows a word: the place of a colon, or 0, and the place from which the next item is sought.
+struct After {
+    colon: usize,
+    next: usize,
+}
+
+fn colon_after(text: &[u8], n: usize) -> After
     requires { ⌜ (0 < n) × (n ≤ length (now text)) ⌝ }
     ensures { λ r. ⌜ Colon-after (now (text .entry)) n r ⌝ }
 {
     let g = skip(text, n);
     let at = g.at;
     if g.open {
-        return 0;
+        return After { colon: 0, next: at };
     }
     if text.len() <= at {
-        return 0;
+        return After { colon: 0, next: at };
     }
     if text[at] != b':' {
-        return 0;
+        return After { colon: 0, next: at };
     }
-    at
+    After {
+        colon: at,
+        next: at + 1,
+    }
 }
 
 // The next item from place `n` on. A word and the colon after it are one.
@@ -117,18 +125,15 @@ pub fn next_item(text: &[u8], n: usize) -> Token
         return t;
     }
     let next = t.next;
-    let colon = colon_after(text, next);
-    if colon == 0 {
-        return t;
-    }
+    let a = colon_after(text, next);
     Token {
         sort: WORD,
         at: t.at,
         end: t.end,
-        next: colon + 1,
+        next: a.next,
         len: t.len,
-        good: t.good,
-        colon: colon,
+        good: true,
+        colon: a.colon,
     }
 }
 

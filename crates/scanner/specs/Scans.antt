@@ -22,18 +22,20 @@ pub record Closing (s : List ℕ) (n : ℕ) (g : Gap) : Type 0 where
 abbrev pub gap-at : List ℕ → ℕ → Rattle.syntax.specs.Scan.Gap
 gap-at s n = gap-from outside n (drop n s)
 
--- A separator or a comment is passed, or none is there
+-- A separator or a comment is passed, or none is there, or a comment stays open
 pub record Passed (s : List ℕ) (n : ℕ) (g : Gap) : Type 0 where
   pub from : n ≤ g .at
   pub most : g .at ≤ length s
-  pub opening : g .open ≡ true → g .at < length s
-  pub is : gap-at s n ≡ cond (g .open) (unclosed (g .at)) (cond (eqb (g .at) n) (clear n) (gap-at s (g .at)))
+  pub opening : g .open ≡ true → g .at ≡ n
+  pub is : gap-at s n ≡ cond (g .open) (unclosed n) (cond (eqb (g .at) n) (clear n) (gap-at s (g .at)))
 
+-- All separators and comments are: from g .at on, the reader finds what it finds from n on
 pub record Skipped (s : List ℕ) (n : ℕ) (g : Gap) : Type 0 where
   pub from : n ≤ g .at
   pub most : g .at ≤ length s
   pub opening : g .open ≡ true → g .at < length s
   pub is : gap-at s n ≡ cond (g .open) (unclosed (g .at)) (clear (g .at))
+  pub settled : gap-at s n ≡ gap-at s (g .at)
 
 pub record Word-end (s : List ℕ) (n e : ℕ) : Type 0 where
   pub from : n ≤ e

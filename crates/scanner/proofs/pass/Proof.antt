@@ -68,7 +68,7 @@ returns-4 c =
     let n = c .before .before .before .before .before .before .before .before .args .n in
     let e = c .before .past-comment .ensures in
     let inner = pass-comment s n (c .before .before .before .before .before .before .before .before .pre) (c .before .before .before .before .if2 .left) (sym (c .before .before .before .peek .ensures) ∙ c .before .before .if3 .left) in
-    record { from = omega arith; most = omega arith; opening = λ e. c .before .before .before .before .before .before .before .before .pre; is = inner .1 ∙ e .is n ∙ rw (c .if4 .taken) refl }
+    record { from = omega arith; most = omega arith; opening = λ e. refl; is = inner .1 ∙ e .is n ∙ rw (c .if4 .taken) refl }
 
 -- src/lib.rt:149:1
 returns-5 : tie.Need-returns-5

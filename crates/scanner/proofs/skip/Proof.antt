@@ -1,3 +1,4 @@
+use mathlib.Core.Bool.{true≢false}
 use mathlib.Core.Bool.{false≢true}
 use Prim.Native.Nat.{ℕ, _+_, _-_, _≤_, _<_}
 use mathlib.Core.Path.{_≡_, refl, sym, _∙_}
@@ -33,14 +34,27 @@ returns : tie.Need-returns Inv-loop μ-loop
 returns c = 
     let h = c .before .before .before .loop in
     let e = c .before .pass .ensures in
-    record { from = omega arith; most = e .most; opening = e .opening; is = sym (h .inv .2) ∙ e .is ∙ rw (c .if1 .taken) refl }
+    let o = e .opening (c .if1 .taken) in
+    record {
+      from = omega arith;
+      most = e .most;
+      opening = λ q. omega (arith, c .before .before .loop-test .taken);
+      is = sym (h .inv .2) ∙ e .is ∙ rw (c .if1 .taken, o) refl;
+      settled = sym (h .inv .2) ∙ rw o refl;
+    }
 
 -- src/lib.rt:184:13
 returns-2 : tie.Need-returns-2 Inv-loop μ-loop
 returns-2 c = 
     let h = c .before .before .before .before .before .loop in
     let e = c .before .before .before .pass .ensures in
-    record { from = omega arith; most = e .most; opening = e .opening; is = sym (h .inv .2) ∙ e .is ∙ rw (c .before .before .if1 .left, eq-eqb _ _ (c .if2 .taken), c .if2 .taken) refl }
+    record {
+      from = omega arith;
+      most = e .most;
+      opening = λ q. absurd (true≢false (sym q ∙ c .before .before .if1 .left));
+      is = sym (h .inv .2) ∙ e .is ∙ rw (c .before .before .if1 .left, eq-eqb _ _ (c .if2 .taken), c .if2 .taken) refl;
+      settled = sym (h .inv .2) ∙ rw (c .if2 .taken) refl;
+    }
 
 -- src/lib.rt:178:5
 loop-less : tie.Need-loop-less Inv-loop μ-loop
@@ -57,7 +71,13 @@ loop-again c =
 returns-3 : tie.Need-returns-3 Inv-loop μ-loop
 returns-3 c = 
     let h = c .before .loop in
-    record { from = h .inv .0; most = h .inv .1; opening = λ e. absurd (false≢true e); is = sym (h .inv .2) ∙ gap-out (now (c .before .before .before .args .text)) (h .i) (c .loop-test .left) }
+    record {
+      from = h .inv .0;
+      most = h .inv .1;
+      opening = λ q. absurd (false≢true q);
+      is = sym (h .inv .2) ∙ gap-out (now (c .before .before .before .args .text)) (h .i) (c .loop-test .left);
+      settled = sym (h .inv .2);
+    }
 
 pub skip-spec : {M : Type 1} → statement M
 skip-spec =
