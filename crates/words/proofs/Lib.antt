@@ -1,0 +1,6 @@
+mod Loops
+mod Letters
+mod Numbers
+mod Indices
+mod Operators
+mod KeywordLaws

@@ -1,0 +1,62 @@
+-- One turn of the loops over bytes, as laws of what is still to come.
+use mathlib.Core.Path.{_≡_, refl, ap, sym, _∙_}
+use mathlib.Core.Bool.{Bool, true, false, _&&_, _||_, and-true, and-false, and-assoc, or-false, or-assoc}
+use mathlib.Core.List.{List, [], _∷_}
+use Prim.Native.Nat.{ℕ, suc, _+_, _≤_, _<_}
+use native.Mathlib.Numerals.{add-one}
+use native.Mathlib.Omega.{arith}
+use lib.Dec.{eqb, ltb}
+use lib.ListN.{length, getD, drop, drop-of-length-le}
+use lib.Seq.{drop-cons}
+use borrow.Author.Tests.{eq-eqb, ne-eqb, lt-ltb, le-ltb}
+use Rattle.characters.specs.Characters.{isLetter, isDigit}
+use Rattle.language.specs.Program.{identifier}
+use Rattle.lists.specs.Lists.{all, any, filled, sameBytes}
+
+module _ (p : ℕ → Bool) (s : List ℕ) (i : ℕ) (t : Bool) where
+  -- a test of each byte: what was found of the first i, and the rest
+  pub all-next : i < length s → (t && p (getD s i 0)) && all p (drop (i + 1) s) ≡ t && all p (drop i s)
+  all-next h = and-assoc t (p (getD s i 0)) (all p (drop (i + 1) s)) ∙ rw (add-one, drop-cons s i 0)
+
+  pub all-end : length s ≤ i → t && all p (drop i s) ≡ t
+  all-end h = rw (drop-of-length-le s h) (and-true t)
+
+  -- a test of some byte
+  pub any-next : i < length s → (t || p (getD s i 0)) || any p (drop (i + 1) s) ≡ t || any p (drop i s)
+  any-next h = or-assoc t (p (getD s i 0)) (any p (drop (i + 1) s)) ∙ rw (add-one, drop-cons s i 0)
+
+  pub any-end : length s ≤ i → t || any p (drop i s) ≡ t
+  any-end h = rw (drop-of-length-le s h) (or-false t)
+
+-- an empty word has no first byte
+pub none : (w : List ℕ) → length w ≡ 0 → w ≡ []
+none [] h = refl
+none (b ∷ w) h = absurd (omega arith)
+
+pub identifier-starts : (w : List ℕ) → (length w ≡ 0 → ⊥) → isLetter (getD w 0 0) && all (λ x. isLetter x || isDigit x) (drop 1 w) ≡ identifier w
+identifier-starts [] h = absurd (h refl)
+identifier-starts (b ∷ w) h = refl
+
+pub filled-length : (w : List ℕ) → ltb 0 (length w) ≡ filled w
+filled-length [] = refl
+filled-length (b ∷ w) = lt-ltb 0 (suc (length w)) (omega arith)
+
+-- two words, byte by byte
+pub other-length : (v w : List ℕ) → (length v ≡ length w → ⊥) → sameBytes v w ≡ false
+other-length [] [] h = absurd (h refl)
+other-length [] (y ∷ w) h = refl
+other-length (x ∷ v) [] h = refl
+other-length (x ∷ v) (y ∷ w) h = rw (other-length v w (λ e. h (ap suc e))) (and-false (eqb x y))
+
+module _ (v w : List ℕ) (i : ℕ) (hv : i < length v) (hw : i < length w) where
+  same-next : sameBytes (drop i v) (drop i w) ≡ eqb (getD v i 0) (getD w i 0) && sameBytes (drop (i + 1) v) (drop (i + 1) w)
+  same-next = rw (add-one i, drop-cons v i 0 hv, drop-cons w i 0 hw)
+
+  pub same-stops : (getD v i 0 ≡ getD w i 0 → ⊥) → sameBytes (drop i v) (drop i w) ≡ false
+  same-stops h = same-next ∙ rw (ne-eqb (getD v i 0) (getD w i 0) h)
+
+  pub same-goes : getD v i 0 ≡ getD w i 0 → sameBytes (drop i v) (drop i w) ≡ sameBytes (drop (i + 1) v) (drop (i + 1) w)
+  same-goes h = same-next ∙ rw (eq-eqb (getD v i 0) (getD w i 0) h)
+
+pub same-ends : (v w : List ℕ) (i : ℕ) → length v ≤ i → length w ≤ i → sameBytes (drop i v) (drop i w) ≡ true
+same-ends v w i hv hw = rw (drop-of-length-le v hv, drop-of-length-le w hw)

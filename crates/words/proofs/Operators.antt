@@ -1,0 +1,129 @@
+-- The operator that a word is: its slot leads to the only one that it can be.
+use mathlib.Core.Path.{_≡_, refl, ap, sym, _∙_, subst}
+use mathlib.Core.Bool.{Bool, true, false, cond, _&&_, _||_}
+use mathlib.Core.List.{List, [], _∷_, map}
+use Prim.Native.Nat.{ℕ, zero, suc, _+_, _-_, _≤_, _<_}
+use native.Mathlib.Omega.{arith}
+use lib.Dec.{T, leb, ltb, eqb, leb→le, eqb→eq}
+use lib.ListN.{length, getD, take, drop}
+use borrow.Author.Tests.{lt-ltb, le-ltb}
+use Rattle.layout.specs.CellLaws.{found}
+use Rattle.lists.specs.ListLaws.{T-left, T-right, sameBytes-eq, sameBytes-refl}
+use Rattle.lists.specs.Lists.{any, ahead, sameBytes}
+use Rattle.lists.specs.TableLaws.{below}
+use Rattle.words.specs.Keywords.{names, name-of, operator-number, slot, guess, in-a-row, beginnings, guesses}
+
+pub many : length names ≡ 41
+unfolding names
+many = refl
+
+-- the constants, computed for each operator and each slot
+ordered : ℕ → Bool
+ordered j =
+    leb (getD beginnings j 0) (getD beginnings (j + 1) 0)
+    && (leb (getD beginnings (j + 1) 0) 196
+    && sameBytes (take (getD beginnings (j + 1) 0 - getD beginnings j 0) (drop (getD beginnings j 0) in-a-row)) (name-of j))
+
+guessable : ℕ → Bool
+guessable h = leb 48 (getD guesses h 0) && leb (getD guesses h 0) 89
+
+-- the part of the row that is the name of operator j + 1
+pub record Name (j : ℕ) (row from : List ℕ) : Type 0 where
+  pub room : j + 1 < length from
+  pub order : getD from j 0 ≤ getD from (j + 1) 0
+  pub within : getD from (j + 1) 0 ≤ length row
+  pub is : take (getD from (j + 1) 0 - getD from j 0) (drop (getD from j 0) row) ≡ name-of j
+
+named : (j : ℕ) → j < 41 → Name j in-a-row beginnings
+unfolding ordered names in-a-row beginnings
+named j h =
+    let a : Bool = leb (getD beginnings j 0) (getD beginnings (j + 1) 0) in
+    let b : Bool = leb (getD beginnings (j + 1) 0) 196 in
+    let s : Bool = sameBytes (take (getD beginnings (j + 1) 0 - getD beginnings j 0) (drop (getD beginnings j 0) in-a-row)) (name-of j) in
+    let t : T (a && (b && s)) = below ordered 41 tt j h in
+    let u : T (b && s) = T-right a (b && s) t in
+    record {
+      room = omega arith;
+      order = leb→le (getD beginnings j 0) (getD beginnings (j + 1) 0) (T-left a (b && s) t);
+      within = leb→le (getD beginnings (j + 1) 0) 196 (T-left b s u);
+      is = sameBytes-eq (take (getD beginnings (j + 1) 0 - getD beginnings j 0) (drop (getD beginnings j 0) in-a-row)) (name-of j) (T-right b s u);
+    }
+
+pub name-at : (j : ℕ) {row from : List ℕ} → j < 41 → row ≡ in-a-row → from ≡ beginnings → Name j row from
+name-at j h e g = rw (e, g) (named j h)
+
+pub guess-at : (h : ℕ) {slots : List ℕ} → h < 128 → slots ≡ guesses → (length slots ≡ 128) × (48 ≤ getD slots h 0) × (getD slots h 0 ≤ 89) × (getD slots h 0 ≡ getD guesses h 0)
+unfolding guessable guesses
+guess-at h k e =
+    let t = below guessable 128 tt h k in
+    let a = leb→le 48 (getD guesses h 0) (T-left (leb 48 (getD guesses h 0)) (leb (getD guesses h 0) 89) t) in
+    let b = leb→le (getD guesses h 0) 89 (T-right (leb 48 (getD guesses h 0)) (leb (getD guesses h 0) 89) t) in
+    rw e (refl, a, b, refl)
+
+-- a name leads to itself, and has its own number
+leads : ℕ → Bool
+leads j = eqb (guess (name-of j)) (suc j) && eqb (operator-number (name-of j)) (suc j)
+
+led : (j : ℕ) → j < 41 → T (leads j)
+unfolding leads names guesses slot guess operator-number
+led j h = below leads 41 tt j h
+
+module _ (w : List ℕ) where
+  -- one of the names is the word, or none is
+  pub data Case : Type 0 where
+    one : (j : ℕ) → j < 41 → w ≡ name-of j → Case
+    none : any (sameBytes w) names ≡ false → Case
+
+  which : (t : Bool) → any (sameBytes w) names ≡ t → Case
+  which true e =
+      let f = found (sameBytes w) [] names (subst T (sym e) tt) in
+      let j : ℕ = ahead (sameBytes w) names in
+      one j (rw many at (f .1)) (sameBytes-eq w (name-of j) (f .0))
+  which false e = none e
+
+  pub case : Case
+  case = which (any (sameBytes w) names) refl
+
+pub none-ahead : {X : Type 0} (p : X → Bool) (xs : List X) → any p xs ≡ false → ahead p xs ≡ length xs
+none-ahead p [] h = refl
+none-ahead p (x ∷ xs) h = go (p x) h (none-ahead p xs)
+  where
+    go : (t : Bool) → (t || any p xs) ≡ false → (any p xs ≡ false → ahead p xs ≡ length xs) → elim t [ true ↦ 0 | false ↦ suc (ahead p xs) ] ≡ suc (length xs)
+    go true e k = cc
+    go false e k = ap suc (k e)
+
+module _ (w : List ℕ) where
+  pub no-operator : any (sameBytes w) names ≡ false → operator-number w ≡ 0
+  unfolding operator-number
+  no-operator e = rw (none-ahead (sameBytes w) names e, le-ltb (length names) (length names) (omega arith))
+
+  module _ (j : ℕ) (h : j < 41) (e : w ≡ name-of j) where
+    led-here : guess w ≡ suc j
+    unfolding leads
+    led-here = rw e (eqb→eq (guess (name-of j)) (suc j) (T-left (eqb (guess (name-of j)) (suc j)) (eqb (operator-number (name-of j)) (suc j)) (led j h)))
+
+    pub its-number : operator-number w ≡ suc j
+    unfolding leads
+    its-number = rw e (eqb→eq (operator-number (name-of j)) (suc j) (T-right (eqb (guess (name-of j)) (suc j)) (eqb (operator-number (name-of j)) (suc j)) (led j h)))
+
+  -- what the guess k leads to
+  module _ (k : ℕ) (some : k ≡ 0 → ⊥) where
+    pub guessed-right : k ≤ 41 → sameBytes w (name-of (k - 1)) ≡ true → k ≡ operator-number w
+    guessed-right h t = omega (arith, its-number (k - 1) (omega arith) (sameBytes-eq w (name-of (k - 1)) (subst T (sym t) tt)))
+
+    pub guessed-wrong : guess w ≡ k → sameBytes w (name-of (k - 1)) ≡ false → 0 ≡ operator-number w
+    guessed-wrong e t = go (case w)
+      where
+        go : Case w → 0 ≡ operator-number w
+        go (one i h q) =
+            let s : i ≡ k - 1 = omega (arith, led-here i h q) in
+            let u = subst (λ (j : ℕ). T (sameBytes w (name-of j))) s (subst (λ v. T (sameBytes w v)) q (sameBytes-refl w)) in
+            absurd (subst T t u)
+        go (none n) = sym (no-operator n)
+
+  pub guessed-none : guess w ≡ 0 → 0 ≡ operator-number w
+  guessed-none e = go (case w)
+    where
+      go : Case w → 0 ≡ operator-number w
+      go (one j h q) = absurd (omega (arith, led-here j h q))
+      go (none n) = sym (no-operator n)
