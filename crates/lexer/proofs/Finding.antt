@@ -34,8 +34,8 @@ pub number-of-sort : (k : ℕ) → k < 6 → sort-number (sort-at k) ≡ k
 number-of-sort k h = eqb→eq (sort-number (sort-at k)) k (below (λ j. eqb (sort-number (sort-at j)) j) 6 tt k h)
 
 -- the sort of a token's item
-pub is-sort : (q : Sort) (s : List ℕ) (t : Token) → t .sort < 6 → is q (item-of s t) ≡ eqb (sort-number q) (t .sort)
-is-sort q s t h = rw (number-of-sort (t .sort) h) refl
+pub is-sort : (q : Sort) {s : List ℕ} {t : Token} → Stands s t → is q (item-of s t) ≡ eqb (sort-number q) (t .sort)
+is-sort q {s} {t} h = rw (number-of-sort (t .sort) (h .sorted)) refl
 
 -- and its characters
 pub word-chars : (s : List ℕ) (t : Token) → t .sort ≡ 1 → chars-of s t ≡ word-of s t
@@ -94,7 +94,7 @@ mark-begins k s at h w t =
     }
 
 -- a word
-module _ (s : List ℕ) (at e : ℕ) (h : at < length s) (w : Word-end s (at + 1) e) where
+module _ {s : List ℕ} {at e : ℕ} (h : at < length s) (w : Word-end s (at + 1) e) where
   abbrev a-word-token : Token
   a-word-token = record { sort = 1; at = at; end = e; next = e; len = e - at; good = true; colon = 0 }
 
@@ -138,7 +138,7 @@ place : (c : Bool) (m e : ℕ) → e ≡ m → cond c (m + 1) m ≡ e + cond c 1
 place true m e h = omega arith
 place false m e h = omega arith
 
-module _ (s : List ℕ) (at : ℕ) (x : Scan) (h : at < length s) (w : Scanned s (at + 1) x) where
+module _ {s : List ℕ} {at : ℕ} {x : Scan} (h : at < length s) (w : Scanned s (at + 1) x) where
   abbrev a-text-token : Token
   a-text-token =
       record { sort = 4; at = at; end = x .end; next = x .end + cond (x .closed) 1 0; len = x .count; good = x .good && x .closed; colon = 0 }
@@ -175,7 +175,7 @@ module _ (s : List ℕ) (at : ℕ) (x : Scan) (h : at < length s) (w : Scanned s
   text-begins = record { from = le-refl at; stands = text-stands; bare = refl; is = text-is-found }
 
 -- what stands behind a gap
-module _ (s : List ℕ) (n : ℕ) (g : Gap) (k : Skipped s n g) where
+module _ {s : List ℕ} {n : ℕ} {g : Gap} (k : Skipped s n g) where
   pub open-found : g .open ≡ true → Token-at s n (a-token 5 (g .at) (length s))
   unfolding found-after chars-of
   open-found e =
@@ -201,5 +201,5 @@ module _ (s : List ℕ) (n : ℕ) (g : Gap) (k : Skipped s n g) where
   unfolding found-after found-in
   here e l = rw (k .is, e, drop-here s (g .at) l) refl
 
-  pub item-found : (q : Sort) (t : Token) → g .open ≡ false → g .at < length s → sort-of (getD s (g .at) 0) ≡ q → Begins q s (g .at) t → Token-at s n t
-  item-found q t e l o b = record { from = omega (arith, k .from, b .from); stands = b .stands; bare = b .bare; is = here e l ∙ rw o (b .is) }
+  pub item-found : {q : Sort} {t : Token} → g .open ≡ false → g .at < length s → sort-of (getD s (g .at) 0) ≡ q → Begins q s (g .at) t → Token-at s n t
+  item-found e l o b = record { from = omega (arith, k .from, b .from); stands = b .stands; bare = b .bare; is = here e l ∙ rw o (b .is) }

@@ -37,7 +37,7 @@ other-leads end s n b r h = refl
 other-leads text s n b r h = refl
 other-leads wrong s n b r h = refl
 
-module _ (s : List ℕ) (n : ℕ) (g : Gap) (k : Skipped s n g) where
+module _ {s : List ℕ} {n : ℕ} {g : Gap} (k : Skipped s n g) where
   -- the items are found from behind the gap on as well
   from-behind : read outside n (drop n s) ≡ read outside (g .at) (drop (g .at) s)
   from-behind = items-found s n ∙ ap (λ x. items-then s (found-after s x)) (k .settled) ∙ sym (items-found s (g .at))
@@ -59,7 +59,7 @@ module _ (s : List ℕ) (n : ℕ) (g : Gap) (k : Skipped s n g) where
   pub colon-other : g .open ≡ false → g .at < length s → getD s (g .at) 0 < 256 → (getD s (g .at) 0 ≡ 58 → ⊥) → Colon-after s n no-colon
   colon-other e l b o =
       let q = sym (colon-byte (getD s (g .at) 0) b) ∙ ne-eqb (getD s (g .at) 0) 58 o in
-      bare (rw (items-found s n, here s n g k e l) (other-leads (sort-of (getD s (g .at) 0)) s (g .at) (getD s (g .at) 0) (drop (g .at + 1) s) q))
+      bare (rw (items-found s n, here k e l) (other-leads (sort-of (getD s (g .at) 0)) s (g .at) (getD s (g .at) 0) (drop (g .at + 1) s) q))
 
   pub colon-here : 0 < n → g .open ≡ false → g .at < length s → getD s (g .at) 0 ≡ 58 → Colon-after s n (record { colon = g .at; next = g .at + 1 })
   unfolding items-then found-here sort-of
@@ -70,11 +70,11 @@ module _ (s : List ℕ) (n : ℕ) (g : Gap) (k : Skipped s n g) where
         most = omega arith;
         colon-most = omega arith;
         none = λ q. absurd (omega arith);
-        is = items-found s n ∙ rw (here s n g k e l, o, ne-eqb (g .at) 0 (λ q. omega arith)) refl;
+        is = items-found s n ∙ rw (here k e l, o, ne-eqb (g .at) 0 (λ q. omega arith)) refl;
       }
 
 -- the items from place n on, by what is found there
-module _ (s : List ℕ) (n : ℕ) (t : Token) (k : Token-at s n t) where
+module _ {s : List ℕ} {n : ℕ} {t : Token} (k : Token-at s n t) where
   read-found : read outside n (drop n s) ≡ items-then s (found-by s t)
   read-found = items-found s n ∙ ap (items-then s) (k .is)
 
@@ -108,7 +108,7 @@ module _ (s : List ℕ) (n : ℕ) (t : Token) (k : Token-at s n t) where
   unfolding chars-of
   same-chars r w = rw w refl
 
-  module _ (w : t .sort ≡ 1) (r : After) (c : Colon-after s (t .next) r) where
+  module _ (w : t .sort ≡ 1) {r : After} (c : Colon-after s (t .next) r) where
     abbrev rest : List Item
     rest = read outside (r .next) (drop (r .next) s)
 

@@ -142,8 +142,8 @@ pub record Scanning (s : List ℕ) (n i : ℕ) (star : Bool) (count : ℕ) (good
   pub chars : count + length (chars-left star (drop i s)) ≡ length (text-chars false (text-bytes (drop n s)))
   pub allowed : (good && allowed-left star (drop i s)) ≡ text-allowed false (text-bytes (drop n s))
 
-pub scan-begins : (s : List ℕ) (n : ℕ) → n ≤ length s → Scanning s n n false 0 true
-scan-begins s n h = record { from = omega arith; most = h; end = refl; chars = omega arith; allowed = refl }
+pub scan-begins : {s : List ℕ} {n : ℕ} → n ≤ length s → Scanning s n n false 0 true
+scan-begins h = record { from = omega arith; most = h; end = refl; chars = omega arith; allowed = refl }
 
 -- a byte that the text goes on after
 left-on : (star : Bool) (b : ℕ) (r : List ℕ) → ends-text star b ≡ false
@@ -177,7 +177,7 @@ pub at-most-one : (t : Bool) → cond {A = ℕ} t 1 0 ≤ 1
 at-most-one true = omega arith
 at-most-one false = omega arith
 
-module _ (s : List ℕ) (n i : ℕ) (star : Bool) (count : ℕ) (good : Bool) (c : Scanning s n i star count good) where
+module _ {s : List ℕ} {n i : ℕ} {star : Bool} {count : ℕ} {good : Bool} (c : Scanning s n i star count good) where
   pub scan-on : i < length s → ends-text star (getD s i 0) ≡ false
       → Scanning s n (i + 1) (takes-next star (getD s i 0)) (count + cond (not (takes-next star (getD s i 0))) 1 0) (good && allows star (getD s i 0))
   scan-on h e =

@@ -100,10 +100,10 @@ pub record Putting (s : List ℕ) (a e : ℕ) (d : List ℕ) (i j : ℕ) (star :
   pub is : o ≡ pasted d 0 done
   pub rest : done ++ left s i e star ≡ text-in s a e
 
-pub put-begins : (s : List ℕ) (a e : ℕ) (d : List ℕ) → a ≤ e → Putting s a e d a 0 false d
-put-begins s a e d h = record { from = omega arith; most = h; done = []; place = refl; is = pasted-none d 0; rest = refl }
+pub put-begins : {s : List ℕ} {a e : ℕ} {d : List ℕ} → a ≤ e → Putting s a e d a 0 false d
+put-begins {s} {a} {e} {d} h = record { from = omega arith; most = h; done = []; place = refl; is = pasted-none d 0; rest = refl }
 
-module _ (s : List ℕ) (a e : ℕ) (d : List ℕ) (fits : Fits-text s a e d) (i j : ℕ) (star : Bool) (o : List ℕ) (c : Putting s a e d i j star o) (h : i < e) where
+module _ {s : List ℕ} {a e : ℕ} {d : List ℕ} {i j : ℕ} {star : Bool} {o : List ℕ} (fits : Fits-text s a e d) (c : Putting s a e d i j star o) (h : i < e) where
   abbrev its : List ℕ
   its = char-of star (getD s i 0)
 
@@ -118,8 +118,8 @@ module _ (s : List ℕ) (a e : ℕ) (d : List ℕ) (fits : Fits-text s a e d) (i
   pub put-room : length o ≡ length d → j + length its ≤ length o
   put-room q = omega (arith, c .place, count)
 
-  pub put-on : (r : ℕ) (o′ : List ℕ) → Put o j its r o′ → Putting s a e d (i + 1) r (takes-next star (getD s i 0)) o′
-  put-on r o′ p =
+  pub put-on : {r : ℕ} {o′ : List ℕ} → Put o j its r o′ → Putting s a e d (i + 1) r (takes-next star (getD s i 0)) o′
+  put-on p =
       record {
         from = omega (arith, c .from);
         most = omega arith;
@@ -129,8 +129,8 @@ module _ (s : List ℕ) (a e : ℕ) (d : List ℕ) (fits : Fits-text s a e d) (i
         rest = whole;
       }
 
-pub put-done : (s : List ℕ) (a e : ℕ) (d : List ℕ) (i j : ℕ) (star : Bool) (o : List ℕ) → Putting s a e d i j star o → e ≤ i → Put d 0 (text-in s a e) j o
-put-done s a e d i j star o c h =
+pub put-done : {s : List ℕ} {a e : ℕ} {d : List ℕ} {i j : ℕ} {star : Bool} {o : List ℕ} → Putting s a e d i j star o → e ≤ i → Put d 0 (text-in s a e) j o
+put-done {s} {a} {e} {d} {i} {j} {star} c h =
     let q : c .done ≡ text-in s a e = sym (append-nil (c .done)) ∙ ap (λ l. c .done ++ l) (sym (left-none s i e star h)) ∙ c .rest in
     record { is = c .is ∙ ap (pasted d 0) q; next = c .place ∙ ap length q ∙ omega arith }
 

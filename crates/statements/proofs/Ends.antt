@@ -19,15 +19,15 @@ pub record Within (s : List ℕ) (n i : ℕ) : Type 0 where
   pub place : behind-end (items-from s i) ≡ behind-end (items-from s n)
   pub rest : drop 1 (statements-at s i) ≡ drop 1 (statements-at s n)
 
-pub begins-within : (s : List ℕ) (n : ℕ) → n ≤ length s → Within s n n
-begins-within s n h = record { from = omega arith; most = h; place = refl; rest = refl }
+pub begins-within : {s : List ℕ} {n : ℕ} → n ≤ length s → Within s n n
+begins-within h = record { from = omega arith; most = h; place = refl; rest = refl }
 
-module _ (s : List ℕ) (n i : ℕ) (w : Within s n i) (t : Token) (k : Next-token s i t) where
+module _ {s : List ℕ} {n i : ℕ} {t : Token} (w : Within s n i) (k : Next-token s i t) where
   pub still-within : stops (t .sort) ≡ false → Within s n (t .next)
   still-within z =
-      let g = statement-goes s i t k z in
+      let g = statement-goes k z in
       record {
-        from = omega (arith, w .from, on s i t k z);
+        from = omega (arith, w .from, on k z);
         most = k .stands .most;
         place = sym (g .1) ∙ w .place;
         rest = sym (ap (drop 1) (g .0)) ∙ w .rest;
@@ -46,11 +46,11 @@ module _ (s : List ℕ) (n i : ℕ) (w : Within s n i) (t : Token) (k : Next-tok
 
   ends-by : (l : Bool) → eqb (t .sort) 0 ≡ l → (l || eqb (t .sort) 3) ≡ true → Ended s n (record { next = t .next; last = l })
   ends-by true e z =
-      let q = no-statement s i t k (eqb-true (t .sort) 0 e) in
+      let q = no-statement k (eqb-true (t .sort) 0 e) in
       ended true (λ f. absurd (true≢false f)) (q .1) (q .0)
   ends-by false e z =
       let h = eqb-true (t .sort) 3 z in
-      let q = statement-ends s i t k h in
+      let q = statement-ends k h in
       ended false (λ f. omega (arith, k .from, k .stands .ending h)) (q .1) (q .0)
 
   pub ends-here : stops (t .sort) ≡ true → Ended s n (record { next = t .next; last = eqb (t .sort) 0 })

@@ -149,12 +149,12 @@ pub first-fault : (q : Item → Bool) (s : List ℕ) (p n : ℕ) → p ≤ n →
 first-fault q s p n h = ap At (lowest-first p (keep q (statement-at s n)) (all-keep (stands-from p) q (statement-at s n) (statement-from s n p h)))
 
 -- A question of each item, from token to token: there are no more; this one is at fault; or it is not, and the rest decides
-module _ (q : Item → Bool) (s : List ℕ) (n : ℕ) (t : Token) (k : Next-token s n t) where
+module _ (q : Item → Bool) {s : List ℕ} {n : ℕ} {t : Token} (k : Next-token s n t) where
   pub none-at-fault : stops (t .sort) ≡ true → fault-of (faults-at q s n) ≡ Clear
-  none-at-fault z = rw (at-stop s n t k z) refl
+  none-at-fault z = rw (at-stop k z) refl
 
   pub at-fault : stops (t .sort) ≡ false → q (item-of s t) ≡ true → fault-of (faults-at q s n) ≡ At (t .at)
-  at-fault z e = rw (at-item s n t k z, e) (first-fault q s (t .at) (t .next) (omega (arith, k .stands .own, k .stands .behind)))
+  at-fault z e = rw (at-item k z, e) (first-fault q s (t .at) (t .next) (omega (arith, k .stands .own, k .stands .behind)))
 
   pub not-at-fault : stops (t .sort) ≡ false → q (item-of s t) ≡ false → faults-at q s n ≡ faults-at q s (t .next)
-  not-at-fault z e = rw (at-item s n t k z, e) refl
+  not-at-fault z e = rw (at-item k z, e) refl

@@ -39,7 +39,7 @@ none-left k h = go (eqb k 0) (eqb k 3) refl refl h
     go false true x y z = absurd (true≢false z)
     go false false x y z = (x, ne-eqb 3 k (λ e. false≢true (sym y ∙ eq-eqb k 3 (sym e))))
 
-module _ (s : List ℕ) (n : ℕ) (t : Token) (k : Next-token s n t) where
+module _ {s : List ℕ} {n : ℕ} {t : Token} (k : Next-token s n t) where
   pub no-statement : t .sort ≡ 0 → (statements-at s n ≡ [] ∷ []) × (behind-end (items-from s n) ≡ [])
   unfolding statements behind-end
   no-statement z = let e : items-from s n ≡ [] = k .is ∙ rw z refl in (rw e refl, rw e refl)
@@ -48,7 +48,7 @@ module _ (s : List ℕ) (n : ℕ) (t : Token) (k : Next-token s n t) where
   unfolding statements parted behind-end
   statement-ends z =
       let e : items-from s n ≡ item-of s t ∷ items-from s (t .next) = k .is ∙ rw z refl in
-      let q : is end (item-of s t) ≡ true = is-sort end s t (k .stands .sorted) ∙ rw z refl in
+      let q : is end (item-of s t) ≡ true = is-sort end (k .stands) ∙ rw z refl in
       (ap statements e ∙ rw q refl, ap behind-end e ∙ rw q (rw (k .stands .ending z) refl))
 
   pub statement-goes : stops (t .sort) ≡ false
@@ -58,7 +58,7 @@ module _ (s : List ℕ) (n : ℕ) (t : Token) (k : Next-token s n t) where
   statement-goes z =
       let o = none-left (t .sort) z in
       let e : items-from s n ≡ item-of s t ∷ items-from s (t .next) = k .is ∙ rw (o .0) refl in
-      let q : is end (item-of s t) ≡ false = is-sort end s t (k .stands .sorted) ∙ o .1 in
+      let q : is end (item-of s t) ≡ false = is-sort end (k .stands) ∙ o .1 in
       (ap statements e ∙ rw q refl, ap behind-end e ∙ rw q refl)
 
   -- for a question: the statement has no more items, or t's and those of the statement at t .next

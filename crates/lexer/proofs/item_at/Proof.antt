@@ -27,7 +27,7 @@ mark-requires c κs = search needs
 
 -- src/lib.rt:76:9
 returns : tie.Need-returns
-returns c = rw (c .mark .ensures) (open-found (now (c .before .before .before .before .args .text)) (c .before .before .before .before .args .n) (c .before .before .skip .result) (c .before .before .skip .ensures) (c .before .if1 .taken))
+returns c = rw (c .mark .ensures) (open-found (c .before .before .skip .ensures) (c .before .if1 .taken))
 
 -- src/lib.rt:79:9
 mark-requires-2 : tie.Need-mark-requires-2
@@ -35,7 +35,7 @@ mark-requires-2 c κs = search needs
 
 -- src/lib.rt:79:9
 returns-2 : tie.Need-returns-2
-returns-2 c = rw (c .mark2 .ensures) (end-found (now (c .before .before .before .before .before .args .text)) (c .before .before .before .before .before .args .n) (c .before .before .before .skip .result) (c .before .before .before .skip .ensures) (c .before .before .if1 .left) (c .before .if2 .taken))
+returns-2 c = rw (c .mark2 .ensures) (end-found (c .before .before .before .skip .ensures) (c .before .before .if1 .left) (c .before .if2 .taken))
 
 -- src/lib.rt:81:24
 shared-slice-read-sort-of : tie.Need-shared-slice-read-sort-of
@@ -51,7 +51,7 @@ word-at-requires c κs = search needs
 
 -- src/lib.rt:83:9
 returns-3 : tie.Need-returns-3
-returns-3 c = item-found (now (c .before .before .before .before .before .before .before .before .args .text)) (c .before .before .before .before .before .before .before .before .args .n) (c .before .before .before .before .before .before .skip .result) (c .before .before .before .before .before .before .skip .ensures) _ _ (c .before .before .before .before .before .if1 .left) (c .before .before .before .before .if2 .left) (sym (sort-of-number _) ∙ ap sort-at (sym (c .before .before .sort-of .ensures) ∙ c .before .if3 .taken)) (c .word-at .ensures)
+returns-3 c = item-found (c .before .before .before .before .before .before .skip .ensures) (c .before .before .before .before .before .if1 .left) (c .before .before .before .before .if2 .left) (sym (sort-of-number _) ∙ ap sort-at (sym (c .before .before .sort-of .ensures) ∙ c .before .if3 .taken)) (c .word-at .ensures)
 
 -- src/lib.rt:86:9
 text-at-requires : tie.Need-text-at-requires
@@ -59,7 +59,7 @@ text-at-requires c κs = search needs
 
 -- src/lib.rt:86:9
 returns-4 : tie.Need-returns-4
-returns-4 c = item-found (now (c .before .before .before .before .before .before .before .before .before .args .text)) (c .before .before .before .before .before .before .before .before .before .args .n) (c .before .before .before .before .before .before .before .skip .result) (c .before .before .before .before .before .before .before .skip .ensures) _ _ (c .before .before .before .before .before .before .if1 .left) (c .before .before .before .before .before .if2 .left) (sym (sort-of-number _) ∙ ap sort-at (sym (c .before .before .before .sort-of .ensures) ∙ c .before .if4 .taken)) (c .text-at .ensures)
+returns-4 c = item-found (c .before .before .before .before .before .before .before .skip .ensures) (c .before .before .before .before .before .before .if1 .left) (c .before .before .before .before .before .if2 .left) (sym (sort-of-number _) ∙ ap sort-at (sym (c .before .before .before .sort-of .ensures) ∙ c .before .if4 .taken)) (c .text-at .ensures)
 
 -- src/lib.rt:88:20
 add-mark : tie.Need-add-mark
@@ -72,11 +72,13 @@ mark-requires-3 c κs = search needs
 -- src/lib.rt:69:1
 returns-5 : tie.Need-returns-5
 returns-5 c = 
+    let skipped = c .before .before .before .before .before .before .before .skip in
     let s = now (c .before .before .before .before .before .before .before .before .before .args .text) in
-    let at = c .before .before .before .before .before .before .before .skip .result .at in
-    let k = sort-of (getD s at 0) in
+    let k = sort-of (getD s (skipped .result .at) 0) in
     let e = c .before .before .before .sort-of .ensures in
-    rw (c .mark3 .ensures, e) (item-found (now (c .before .before .before .before .before .before .before .before .before .args .text)) (c .before .before .before .before .before .before .before .before .before .args .n) (c .before .before .before .before .before .before .before .skip .result) (c .before .before .before .before .before .before .before .skip .ensures) k _ (c .before .before .before .before .before .before .if1 .left) (c .before .before .before .before .before .if2 .left) refl (mark-begins k s at (c .before .before .before .before .before .if2 .left) (λ q. c .before .before .if3 .left (e ∙ q)) (λ q. c .before .if4 .left (e ∙ q))))
+    let l = c .before .before .before .before .before .if2 .left in
+    let it = mark-begins k s (skipped .result .at) l (λ q. c .before .before .if3 .left (e ∙ q)) (λ q. c .before .if4 .left (e ∙ q)) in
+    rw (c .mark3 .ensures, e) (item-found (skipped .ensures) (c .before .before .before .before .before .before .if1 .left) l refl it)
 
 pub item-at-spec : {M : Type 1} → statement M
 item-at-spec =

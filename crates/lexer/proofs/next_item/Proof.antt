@@ -15,7 +15,7 @@ item-at-requires c κs = search needs
 
 -- src/lib.rt:125:9
 returns : tie.Need-returns
-returns c = next-other (now (c .before .before .before .before .args .text)) (c .before .before .before .before .args .n) (c .before .before .item-at .result) (c .before .before .item-at .ensures) (c .if1 .taken)
+returns c = next-other (c .before .before .item-at .ensures) (c .if1 .taken)
 
 -- src/lib.rt:128:9
 colon-after-requires : tie.Need-colon-after-requires
@@ -23,7 +23,7 @@ colon-after-requires c κs = let h = c .before .before .item-at .ensures .stands
 
 -- src/lib.rt:119:1
 returns-2 : tie.Need-returns-2
-returns-2 c = next-word (now (c .before .before .before .before .before .args .text)) (c .before .before .before .before .before .args .n) (c .before .before .before .item-at .result) (c .before .before .before .item-at .ensures) (c .before .if1 .left) (c .colon-after .result) (c .colon-after .ensures)
+returns-2 c = next-word (c .before .before .before .item-at .ensures) (c .before .if1 .left) (c .colon-after .ensures)
 
 pub next-item-spec : {M : Type 1} → statement M
 next-item-spec = tie.close (tie.spec item-at-requires returns colon-after-requires returns-2)

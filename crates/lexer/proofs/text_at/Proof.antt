@@ -28,7 +28,7 @@ add-t5 c = omega (arith, c .before .one-if .ensures, at-most-one (c .before .bef
 
 -- src/lib.rt:52:1
 returns : tie.Need-returns
-returns c = rw (c .before .before .one-if .ensures) (text-begins (now (c .before .before .before .before .before .args .text)) (c .before .before .before .before .before .args .at) (c .before .before .before .scan-text .result) (c .before .before .before .before .before .pre) (c .before .before .before .scan-text .ensures))
+returns c = rw (c .before .before .one-if .ensures) (text-begins (c .before .before .before .before .before .pre) (c .before .before .before .scan-text .ensures))
 
 pub text-at-spec : {M : Type 1} → statement M
 text-at-spec = tie.close (tie.spec add-scan-text scan-text-requires one-if-requires add-t5 returns)

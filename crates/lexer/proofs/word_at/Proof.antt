@@ -21,7 +21,7 @@ sub-t4 c = search needs
 
 -- src/lib.rt:36:1
 returns : tie.Need-returns
-returns c = word-begins (now (c .before .before .args .text)) (c .before .before .args .at) (c .word-end .result) (c .before .before .pre) (c .word-end .ensures)
+returns c = word-begins (c .before .before .pre) (c .word-end .ensures)
 
 pub word-at-spec : {M : Type 1} → statement M
 word-at-spec = tie.close (tie.spec add-word-end word-end-requires sub-t4 returns)

@@ -23,7 +23,7 @@ abbrev μ-loop : tie.MeasureT-loop
 
 -- src/lib.rt:221:5
 loop-holds : tie.Need-loop-holds Inv-loop μ-loop
-loop-holds c = scan-begins (now (c .before .args .text)) (c .before .args .n) (c .before .pre)
+loop-holds c = scan-begins (c .before .pre)
 
 -- src/lib.rt:222:17
 shared-slice-read-b : tie.Need-shared-slice-read-b Inv-loop μ-loop
@@ -35,9 +35,7 @@ ends-text-requires c κs = search needs
 
 -- src/lib.rt:224:13
 returns : tie.Need-returns Inv-loop μ-loop
-returns c = 
-    let h = c .before .before .before .before .loop in
-    scan-ends (now (c .before .before .before .before .before .before .args .text)) (c .before .before .before .before .before .before .args .n) (h .i) (h .star) (h .count) (h .good) (h .inv) _ (c .before .before .before .loop-test .taken) (sym (c .before .ends-text .ensures) ∙ c .if1 .taken) refl
+returns c = scan-ends (c .before .before .before .before .loop .inv) _ (c .before .before .before .loop-test .taken) (sym (c .before .ends-text .ensures) ∙ c .if1 .taken) refl
 
 -- src/lib.rt:231:23
 allows-requires : tie.Need-allows-requires Inv-loop μ-loop
@@ -66,14 +64,12 @@ loop-less c = search needs
 -- src/lib.rt:221:5
 loop-again : tie.Need-loop-again Inv-loop μ-loop
 loop-again c = 
-    let h = c .before .before .before .before .before .before .before .loop in
-    rw (c .one-if .ensures, c .before .takes-next .ensures, c .before .before .allows .ensures) (scan-on (now (c .before .before .before .before .before .before .before .before .before .args .text)) (c .before .before .before .before .before .before .before .before .before .args .n) (h .i) (h .star) (h .count) (h .good) (h .inv) (c .before .before .before .before .before .before .loop-test .taken) (sym (c .before .before .before .before .ends-text .ensures) ∙ c .before .before .before .if1 .left))
+    let on = scan-on (c .before .before .before .before .before .before .before .loop .inv) (c .before .before .before .before .before .before .loop-test .taken) (sym (c .before .before .before .before .ends-text .ensures) ∙ c .before .before .before .if1 .left) in
+    rw (c .one-if .ensures, c .before .takes-next .ensures, c .before .before .allows .ensures) on
 
 -- src/lib.rt:213:1
 returns-2 : tie.Need-returns-2 Inv-loop μ-loop
-returns-2 c = 
-    let h = c .before .loop in
-    scan-out (now (c .before .before .before .args .text)) (c .before .before .before .args .n) (h .i) (h .star) (h .count) (h .good) (h .inv) (c .loop-test .left)
+returns-2 c = scan-out (c .before .loop .inv) (c .loop-test .left)
 
 pub scan-text-spec : {M : Type 1} → statement M
 scan-text-spec =

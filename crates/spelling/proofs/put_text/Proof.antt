@@ -20,7 +20,7 @@ abbrev μ-loop : tie.MeasureT-loop
 
 -- src/lib.rt:40:5
 loop-holds : tie.Need-loop-holds Inv-loop μ-loop
-loop-holds c = (refl, put-begins (now (c .before .before .args .text)) (c .before .before .args .at) (c .before .before .args .end) (now (c .before .before .args .out)) (c .before .before .pre .between .order))
+loop-holds c = (refl, put-begins (c .before .before .pre .between .order))
 
 -- src/lib.rt:41:17
 shared-slice-read-b : tie.Need-shared-slice-read-b Inv-loop μ-loop
@@ -28,7 +28,7 @@ shared-slice-read-b c = search needs
 
 -- src/lib.rt:42:9
 put-char-requires : tie.Need-put-char-requires Inv-loop μ-loop
-put-char-requires c κs = let h = c .before .before .before .loop in put-room (now (c .before .before .before .before .before .before .args .text)) (c .before .before .before .before .before .before .args .at) (c .before .before .before .before .before .before .args .end) (now (c .before .before .before .before .before .before .args .out)) (c .before .before .before .before .before .before .pre) (h .i) (h .j) (h .star) (h .out) (h .inv .1) (c .before .before .loop-test .taken) (h .inv .0)
+put-char-requires c κs = let h = c .before .before .before .loop in put-room (c .before .before .before .before .before .before .pre) (h .inv .1) (c .before .before .loop-test .taken) (h .inv .0)
 
 -- src/lib.rt:43:9
 takes-next-requires : tie.Need-takes-next-requires Inv-loop μ-loop
@@ -47,7 +47,7 @@ loop-again : tie.Need-loop-again Inv-loop μ-loop
 loop-again c = 
     let h = c .before .before .before .before .before .before .before .loop in
     let p = c .before .before .before .put-char in
-    (p .kept .0 ∙ h .inv .0, rw (c .takes-next .ensures) (put-on (now (c .before .before .before .before .before .before .before .before .before .before .args .text)) (c .before .before .before .before .before .before .before .before .before .before .args .at) (c .before .before .before .before .before .before .before .before .before .before .args .end) (now (c .before .before .before .before .before .before .before .before .before .before .args .out)) (c .before .before .before .before .before .before .before .before .before .before .pre) (h .i) (h .j) (h .star) (h .out) (h .inv .1) (c .before .before .before .before .before .before .loop-test .taken) (p .result) (p .last .0) (p .ensures)))
+    (p .kept .0 ∙ h .inv .0, rw (c .takes-next .ensures) (put-on (c .before .before .before .before .before .before .before .before .before .before .pre) (h .inv .1) (c .before .before .before .before .before .before .loop-test .taken) (p .ensures)))
 
 -- src/lib.rt:33:1
 same-length : tie.Need-same-length Inv-loop μ-loop
@@ -55,9 +55,7 @@ same-length c = search needs
 
 -- src/lib.rt:33:1
 returns : tie.Need-returns Inv-loop μ-loop
-returns c = 
-    let h = c .before .loop in
-    put-done (now (c .before .before .before .before .args .text)) (c .before .before .before .before .args .at) (c .before .before .before .before .args .end) (now (c .before .before .before .before .args .out)) (h .i) (h .j) (h .star) (h .out) (h .inv .1) (c .loop-test .left)
+returns c = put-done (c .before .loop .inv .1) (c .loop-test .left)
 
 pub put-text-spec : {M : Type 1} → statement M
 put-text-spec =

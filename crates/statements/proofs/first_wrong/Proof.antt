@@ -38,24 +38,25 @@ stops-requires c κs = search needs
 
 -- src/lib.rt:55:13
 returns : tie.Need-returns Inv-loop μ-loop
-returns c = sym (sym (c .before .before .before .loop .inv .1) ∙ none-at-fault (is wrong) (now (c .before .before .before .before .before .args .text)) (c .before .before .before .loop .i) (c .before .before .next-item .result) (c .before .before .next-item .ensures) (sym (c .before .stops .ensures) ∙ c .if1 .taken))
+returns c = sym (sym (c .before .before .before .loop .inv .1) ∙ none-at-fault (is wrong) (c .before .before .next-item .ensures) (sym (c .before .stops .ensures) ∙ c .if1 .taken))
 
 -- src/lib.rt:58:13
 returns-2 : tie.Need-returns-2 Inv-loop μ-loop
 returns-2 c = 
-    let e = (is-sort wrong (now (c .before .before .before .before .before .before .before .args .text)) (c .before .before .before .before .next-item .result) (c .before .before .before .before .next-item .ensures .stands .sorted) ∙ eq-eqb 5 _ (sym (c .if2 .taken))) in
-    sym (sym (c .before .before .before .before .before .loop .inv .1) ∙ at-fault (is wrong) (now (c .before .before .before .before .before .before .before .args .text)) (c .before .before .before .before .before .loop .i) (c .before .before .before .before .next-item .result) (c .before .before .before .before .next-item .ensures) (sym (c .before .before .before .stops .ensures) ∙ c .before .before .if1 .left) e)
+    let t = c .before .before .before .before .next-item in
+    let e = is-sort wrong (t .ensures .stands) ∙ eq-eqb 5 _ (sym (c .if2 .taken)) in
+    sym (sym (c .before .before .before .before .before .loop .inv .1) ∙ at-fault (is wrong) (t .ensures) (sym (c .before .before .before .stops .ensures) ∙ c .before .before .if1 .left) e)
 
 -- src/lib.rt:52:5
 loop-less : tie.Need-loop-less Inv-loop μ-loop
-loop-less c = omega (arith, c .before .before .before .before .next-item .ensures .stands, on (now (c .before .before .before .before .before .before .before .args .text)) (c .before .before .before .before .before .loop .i) (c .before .before .before .before .next-item .result) (c .before .before .before .before .next-item .ensures) (sym (c .before .before .before .stops .ensures) ∙ c .before .before .if1 .left))
+loop-less c = let t = c .before .before .before .before .next-item .ensures in omega (arith, t .stands, on t (sym (c .before .before .before .stops .ensures) ∙ c .before .before .if1 .left))
 
 -- src/lib.rt:52:5
 loop-again : tie.Need-loop-again Inv-loop μ-loop
 loop-again c = 
-    let e = (is-sort wrong (now (c .before .before .before .before .before .before .before .args .text)) (c .before .before .before .before .next-item .result) (c .before .before .before .before .next-item .ensures .stands .sorted) ∙ ne-eqb 5 _ (λ q. c .if2 .left (sym q))) in
-    let n = not-at-fault (is wrong) (now (c .before .before .before .before .before .before .before .args .text)) (c .before .before .before .before .before .loop .i) (c .before .before .before .before .next-item .result) (c .before .before .before .before .next-item .ensures) (sym (c .before .before .before .stops .ensures) ∙ c .before .before .if1 .left) e in
-    (c .before .before .before .before .next-item .ensures .stands .most, sym (ap fault-of n) ∙ c .before .before .before .before .before .loop .inv .1)
+    let t = c .before .before .before .before .next-item in
+    let e = is-sort wrong (t .ensures .stands) ∙ ne-eqb 5 _ (λ q. c .if2 .left (sym q)) in
+    (t .ensures .stands .most, sym (ap fault-of (not-at-fault (is wrong) (t .ensures) (sym (c .before .before .before .stops .ensures) ∙ c .before .before .if1 .left) e)) ∙ c .before .before .before .before .before .loop .inv .1)
 
 pub first-wrong-spec : {M : Type 1} → statement M
 first-wrong-spec =

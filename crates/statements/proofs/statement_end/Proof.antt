@@ -21,7 +21,7 @@ abbrev μ-loop : tie.MeasureT-loop
 
 -- src/lib.rt:34:5
 loop-holds : tie.Need-loop-holds Inv-loop μ-loop
-loop-holds c = begins-within (now (c .before .args .text)) (c .before .args .n) (c .before .pre)
+loop-holds c = begins-within (c .before .pre)
 
 -- src/lib.rt:35:13
 next-item-requires : tie.Need-next-item-requires Inv-loop μ-loop
@@ -33,15 +33,15 @@ stops-requires c κs = search needs
 
 -- src/lib.rt:37:13
 returns : tie.Need-returns Inv-loop μ-loop
-returns c = ends-here (now (c .before .before .before .before .before .before .args .text)) (c .before .before .before .before .before .before .args .n) (c .before .before .before .before .loop .i) (c .before .before .before .before .loop .inv) (c .before .before .before .next-item .result) (c .before .before .before .next-item .ensures) (sym (c .before .before .stops .ensures) ∙ c .before .if1 .taken)
+returns c = ends-here (c .before .before .before .before .loop .inv) (c .before .before .before .next-item .ensures) (sym (c .before .before .stops .ensures) ∙ c .before .if1 .taken)
 
 -- src/lib.rt:34:5
 loop-less : tie.Need-loop-less Inv-loop μ-loop
-loop-less c = omega (arith, c .before .before .next-item .ensures .stands, on (now (c .before .before .before .before .before .args .text)) (c .before .before .before .loop .i) (c .before .before .next-item .result) (c .before .before .next-item .ensures) (sym (c .before .stops .ensures) ∙ c .if1 .left))
+loop-less c = let t = c .before .before .next-item .ensures in omega (arith, t .stands, on t (sym (c .before .stops .ensures) ∙ c .if1 .left))
 
 -- src/lib.rt:34:5
 loop-again : tie.Need-loop-again Inv-loop μ-loop
-loop-again c = still-within (now (c .before .before .before .before .before .args .text)) (c .before .before .before .before .before .args .n) (c .before .before .before .loop .i) (c .before .before .before .loop .inv) (c .before .before .next-item .result) (c .before .before .next-item .ensures) (sym (c .before .stops .ensures) ∙ c .if1 .left)
+loop-again c = still-within (c .before .before .before .loop .inv) (c .before .before .next-item .ensures) (sym (c .before .stops .ensures) ∙ c .if1 .left)
 
 pub statement-end-spec : {M : Type 1} → statement M
 statement-end-spec =
