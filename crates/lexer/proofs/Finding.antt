@@ -1,26 +1,26 @@
 -- The item that stands at a place: each of its forms as a token.
-use mathlib.Core.Path.{_≡_, refl, ap, sym, subst, _∙_}
-use mathlib.Core.Bool.{Bool, true, false, cond, _&&_, true≢false, false≢true}
+use mathlib.Core.Path.{_≡_, refl, ap, sym, _∙_}
+use mathlib.Core.Bool.{Bool, true, false, cond, _&&_, true≢false}
 use mathlib.Core.List.{List, [], _∷_}
 use Prim.Native.Nat.{ℕ, suc, _+_, _-_, _≤_, _<_}
 use native.Mathlib.Nat.{le-refl}
 use native.Mathlib.Decide.{decLt}
 use native.Mathlib.Omega.{arith}
 use lib.Dec.{eqb, eqb→eq}
-use lib.ListN.{length, getD, take, drop, length-take, length-drop, drop-of-length-le, List·getD-eq-default}
+use lib.ListN.{length, getD, take, drop, length-take, length-drop, drop-of-length-le}
 use lib.Seq.{drop-drop}
-use borrow.Author.Tests.{eqb-true, ne-eqb}
+use borrow.Author.Tests.{ne-eqb}
 use Rattle.lists.specs.TableLaws.{below}
 use Rattle.syntax.specs.Items.{Sort, sort-of, sort-number, Item, is, a-text}
 use Rattle.syntax.specs.Items.Sort.{separator, word, colon, end, text, wrong}
-use Rattle.syntax.specs.Scan.{word-length, text-length, text-chars, text-allowed, is-closed, Found, text-found, found-here, found-in, found-after}
-use Rattle.syntax.specs.Scan.Found.{no-item, found}
+use Rattle.syntax.specs.Scan.{word-length, text-length, text-chars, is-closed, text-found, found-here, found-in, found-after}
+use Rattle.syntax.specs.Scan.Found.{found}
 use Rattle.scanner.specs.declared.Gap.{Gap}
 use Rattle.scanner.specs.declared.Scan.{Scan}
 use Rattle.scanner.specs.Scans.{Skipped, Word-end, Scanned}
-use Rattle.scanner.proofs.Loops.{drop-here, getD-here}
+use Rattle.scanner.proofs.Loops.{drop-here}
 use Rattle.lexer.specs.declared.Token.{Token}
-use Rattle.lexer.specs.Tokens.{part, sort-at, word-of, text-of, chars-of, item-of, Stands, a-token, found-by, Finds, Begins, Word-at, Text-at, Token-at}
+use Rattle.lexer.specs.Tokens.{part, sort-at, word-of, text-of, chars-of, item-of, Stands, a-token, found-by, Begins, Word-at, Text-at, Token-at}
 
 pub sort-of-number : (k : Sort) → sort-at (sort-number k) ≡ k
 sort-of-number separator = refl
@@ -29,6 +29,9 @@ sort-of-number colon = refl
 sort-of-number end = refl
 sort-of-number text = refl
 sort-of-number wrong = refl
+
+pub of-number : {q : Sort} {k j : ℕ} → k ≡ sort-number q → k ≡ j → q ≡ sort-at j
+of-number {q} e f = sym (sort-of-number q) ∙ ap sort-at (sym e ∙ f)
 
 pub number-of-sort : (k : ℕ) → k < 6 → sort-number (sort-at k) ≡ k
 number-of-sort k h = eqb→eq (sort-number (sort-at k)) k (below (λ j. eqb (sort-number (sort-at j)) j) 6 tt k h)

@@ -1,12 +1,12 @@
 -- The lines that a place is behind another.
-use mathlib.Core.Path.{_≡_, refl, ap, sym, _∙_}
+use mathlib.Core.Path.{_≡_, refl, ap, _∙_}
 use mathlib.Core.Bool.{Bool, true, false, cond}
 use mathlib.Core.List.{List, [], _∷_, _++_}
-use Prim.Native.Nat.{ℕ, suc, _+_, _-_, _≤_, _<_}
+use Prim.Native.Nat.{ℕ, _+_, _≤_, _<_}
 use native.Mathlib.Numerals.{add-one}
 use native.Mathlib.Omega.{arith}
 use lib.Dec.{eqb}
-use lib.ListN.{length, getD, take, length-append}
+use lib.ListN.{length, getD, take, length-append, length-take}
 use lib.Seq.{take-suc}
 use Rattle.lists.specs.Lists.{keep}
 use Rattle.syntax.specs.Items.{line-of}
@@ -19,6 +19,19 @@ keep-append p (x ∷ xs) ys = go (p x) (keep-append p xs ys)
     go true h = ap (λ zs. x ∷ zs) h
     go false h = h
 
+keep-most : (p : ℕ → Bool) (xs : List ℕ) → length (keep p xs) ≤ length xs
+keep-most p [] = omega arith
+keep-most p (x ∷ xs) = go (p x) (keep-most p xs)
+  where
+    go : (t : Bool) → length (keep p xs) ≤ length xs → length (cond t (x ∷ keep p xs) (keep p xs)) ≤ suc (length xs)
+    go true h = omega arith
+    go false h = omega arith
+
+-- a place begins at most as many lines as there are bytes before it
+pub line-most : (s : List ℕ) (p : ℕ) → line-of s p ≤ p + 1
+unfolding line-of
+line-most s p = omega (arith, keep-most (eqb 10) (take p s), length-take p s)
+
 kept-one : (t : Bool) (x : ℕ) → length (cond t (x ∷ []) []) ≡ cond t 1 0
 kept-one true x = refl
 kept-one false x = refl
@@ -30,6 +43,6 @@ line-on s i h =
     let b : ℕ = getD s i 0 in
     let e : take (i + 1) s ≡ take i s ++ (b ∷ []) = rw (add-one, take-suc s i 0) in
     let n : length (keep (eqb 10) (take (i + 1) s)) ≡ length (keep (eqb 10) (take i s)) + cond (eqb 10 b) 1 0 =
-        ap (λ l. length (keep (eqb 10) l)) e ∙ ap length (keep-append (eqb 10) (take i s) (b ∷ [])) ∙ length-append (keep (eqb 10) (take i s)) (cond (eqb 10 b) (b ∷ []) []) ∙ ap (λ k. length (keep (eqb 10) (take i s)) + k) (kept-one (eqb 10 b) b)
+    ap (λ l. length (keep (eqb 10) l)) e ∙ ap length (keep-append (eqb 10) (take i s) (b ∷ [])) ∙ length-append (keep (eqb 10) (take i s)) (cond (eqb 10 b) (b ∷ []) []) ∙ ap (λ k. length (keep (eqb 10) (take i s)) + k) (kept-one (eqb 10 b) b)
     in
     omega (arith, n)

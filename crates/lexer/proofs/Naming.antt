@@ -1,21 +1,21 @@
 -- A word meets the colon after it, and the items follow one another.
 use mathlib.Core.Path.{_≡_, refl, ap, sym, _∙_}
-use mathlib.Core.Bool.{Bool, true, false, cond, _&&_, true≢false, false≢true, Bool·beq}
+use mathlib.Core.Bool.{Bool, true, false, cond, true≢false, Bool·beq}
 use mathlib.Core.List.{List, [], _∷_}
-use Prim.Native.Nat.{ℕ, suc, _+_, _-_, _≤_, _<_}
+use Prim.Native.Nat.{ℕ, _+_, _≤_, _<_}
 use native.Mathlib.Omega.{arith}
 use lib.Dec.{eqb}
-use lib.ListN.{length, getD, take, drop, drop-of-length-le}
-use borrow.Author.Tests.{eqb-true, eq-eqb, ne-eqb}
+use lib.ListN.{length, getD, drop, drop-of-length-le}
+use borrow.Author.Tests.{eqb-true, ne-eqb}
 use Rattle.lists.specs.Lists.{ifAny}
 use Rattle.lists.specs.TableLaws.{beq-eq, below}
-use Rattle.syntax.specs.Items.{Sort, sort-of, sort-number, same-sort, Item, is, a-word, a-mark, read, attach, named}
+use Rattle.syntax.specs.Items.{Sort, sort-of, same-sort, Item, is, a-word, a-mark, read, named}
 use Rattle.syntax.specs.Items.Sort.{separator, word, colon, end, text, wrong}
 use Rattle.syntax.specs.Items.Mode.{outside}
 use Rattle.syntax.specs.ItemLaws.{items-found}
 use Rattle.syntax.specs.LoadLaws.{name-colon, item-alone, word-alone}
-use Rattle.syntax.specs.Scan.{Found, text-found, found-here, found-in, found-after, item-at, items-then}
-use Rattle.syntax.specs.Scan.Found.{no-item, found}
+use Rattle.syntax.specs.Scan.{text-found, found-here, found-in, found-after, items-then}
+use Rattle.syntax.specs.Scan.Found.{found}
 use Rattle.scanner.specs.declared.Gap.{Gap}
 use Rattle.scanner.specs.Scans.{Skipped}
 use Rattle.lexer.specs.declared.After.{After}

@@ -3,8 +3,15 @@ ghost use mathlib.Core.Path.{_≡_};
 ghost use Prim.Native.Nat.{_≤_, _<_};
 ghost use lib.ListN.{length};
 ghost use Rattle.lexer.specs.Tokens.{a-token, Word-at, Text-at, Token-at, Colon-after, Next-token, Lines};
-
-use scanner::{NOTHING, TEXT, WORD, WRONG, one_if, scan_text, skip, sort_of, word_end};
+use scanner::NOTHING;
+use scanner::TEXT;
+use scanner::WORD;
+use scanner::WRONG;
+use scanner::one_if;
+use scanner::scan_text;
+use scanner::skip;
+use scanner::sort_of;
+use scanner::word_end;
 
 // An item: its sort; the place where it begins, the place where its own bytes end, which of a text is that of its closing
 // apostrophe, and the place from which the next item is sought; the count of its characters; of a text whether it is closed

@@ -1,8 +1,8 @@
 -- One turn of each loop, as laws over the text s and the place i.
-use mathlib.Core.Path.{_≡_, refl, ap, sym, _∙_}
-use mathlib.Core.Bool.{Bool, true, false, cond, not, _&&_, _||_, and-true, and-assoc, true≢false, false≢true}
+use mathlib.Core.Path.{_≡_, refl, sym, _∙_}
+use mathlib.Core.Bool.{Bool, true, false, cond, not, _&&_, and-true, and-assoc, true≢false, false≢true}
 use mathlib.Core.List.{List, [], _∷_, _++_}
-use Prim.Native.Nat.{ℕ, suc, _+_, _-_, _≤_, _<_}
+use Prim.Native.Nat.{ℕ, suc, _+_, _≤_, _<_}
 use native.Mathlib.Nat.{add-zero}
 use native.Mathlib.Numerals.{add-one}
 use native.Mathlib.Decide.{decLt}
@@ -11,7 +11,6 @@ use lib.Dec.{eqb}
 use lib.ListN.{length, getD, take, drop, drop-of-length-le, length-append, List·getD-eq-default}
 use lib.Seq.{drop-cons, getD-drop}
 use borrow.Author.Tests.{eqb-true}
-use Rattle.lists.specs.TableLaws.{beq-eq, below}
 use Rattle.syntax.specs.Items.{Sort, sort-of, same-sort, ends-text, takes-next, char-of, allows, Mode, opens, closes, begins, mode-after}
 use Rattle.syntax.specs.Items.Sort.{separator, word, colon, end, text, wrong}
 use Rattle.syntax.specs.Items.Stage.{first-star, inside, last-slash}

@@ -6,8 +6,9 @@ ghost use lib.ListN.{length, getD};
 ghost use Rattle.syntax.specs.Items.{sort-of, sort-number, same-sort, pair-of, ends-text, takes-next, allows, closes};
 ghost use Rattle.syntax.specs.Items.Sort.{word};
 ghost use Rattle.scanner.specs.Scans.{Closing, Passed, Skipped, Word-end, Scanned};
-
-use characters::{is_digit, is_known, is_letter};
+use characters::is_digit;
+use characters::is_known;
+use characters::is_letter;
 
 // The sorts of items by their numbers. No item is a separator, so 0 is also none.
 pub const NOTHING: u8 = 0;

@@ -7,8 +7,8 @@ use native.Mathlib.Nat.{zero-add, add-zero}
 use native.Mathlib.Numerals.{add-one}
 use native.Mathlib.Omega.{arith}
 use lib.Dec.{T, leb, eqb, leb·suc-suc}
-use lib.ListN.{length, getD, take, drop, set, length-append, length-take, length-drop, take-append-drop, drop-of-length-le}
-use lib.Seq.{take-length, drop-drop, set-split}
+use lib.ListN.{length, getD, take, drop, set, length-append, drop-of-length-le}
+use lib.Seq.{drop-drop, set-split}
 use borrow.Author.Tests.{le-leb, lt-leb}
 use Rattle.lists.specs.Lists.{sameBytes}
 use Rattle.lists.specs.ListLaws.{sameBytes-eq, sameBytes-refl}
@@ -18,7 +18,7 @@ use Rattle.syntax.specs.Items.{pair-of, takes-next, char-of}
 use Rattle.syntax.specs.Scan.{text-chars}
 use Rattle.scanner.proofs.Loops.{drop-here, given}
 use Rattle.lexer.specs.Tokens.{part}
-use Rattle.spelling.specs.Spelling.{Gives, Put, text-in, Between, Fits-text}
+use Rattle.spelling.specs.Spelling.{Gives, Put, text-in, Fits-text}
 
 -- a byte that gives a character, and a star that gives none
 pub gives-pair : (b : ℕ) → Gives true b (pair-of b)

@@ -6,9 +6,12 @@ ghost use Rattle.lists.specs.Lists.{sameBytes};
 ghost use Rattle.syntax.specs.Items.{char-of};
 ghost use Rattle.lexer.specs.Tokens.{part, chars-of, Stands};
 ghost use Rattle.spelling.specs.Spelling.{Gives, Put, text-in, Between, Fits-text, Fits-token, Two-parts};
-
 use lexer::Token;
-use scanner::{TEXT, WORD, one_if, pair_of, takes_next};
+use scanner::TEXT;
+use scanner::WORD;
+use scanner::one_if;
+use scanner::pair_of;
+use scanner::takes_next;
 
 // A byte of a text, as in scanner: the character that it gives, unless it is a star that takes the next.
 fn char_of(star: bool, b: u8) -> u8

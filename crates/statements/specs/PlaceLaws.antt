@@ -1,22 +1,21 @@
 -- The places of a statement's items ascend: no item stands before the place where the reader began.
-use mathlib.Core.Path.{_≡_, refl, ap, sym, subst, _∙_}
-use mathlib.Core.Bool.{Bool, true, false, cond, _&&_, _||_}
+use mathlib.Core.Path.{_≡_, refl, ap, _∙_}
+use mathlib.Core.Bool.{Bool, true, false, cond, _&&_}
 use mathlib.Core.List.{List, [], _∷_, _++_}
-use Prim.Native.Nat.{ℕ, _+_, _≤_, _<_, min}
+use Prim.Native.Nat.{ℕ, _+_, _≤_, min}
 use native.Mathlib.Nat.{min-eq-left}
 use native.Mathlib.Omega.{arith}
 use lib.Dec.{T, leb, eqb, leb→le, le→leb}
-use lib.ListN.{length, getD, take, drop}
+use lib.ListN.{getD, take, drop}
 use Rattle.lists.specs.Lists.{all, headOr, ifAny, keep}
-use Rattle.lists.specs.ListLaws.{T-both, T-left, T-right, all-head, all-tail, all-keep}
-use Rattle.syntax.specs.Items.{Sort, sort-of, same-sort, Item, is, places, ends-text, Mode, opens, closes, begins, itself, mode-after, items-at, left-over, read, attach, named, parted, statements}
+use Rattle.lists.specs.ListLaws.{T-both, all-head, all-tail, all-keep}
+use Rattle.syntax.specs.Items.{Sort, sort-of, same-sort, Item, is, places, ends-text, Mode, opens, begins, itself, mode-after, items-at, left-over, read, attach, named, parted, statements}
 use Rattle.syntax.specs.Items.Sort.{separator, word, colon, end, text, wrong}
 use Rattle.syntax.specs.Items.Stage.{first-star, inside, last-slash}
 use Rattle.syntax.specs.Items.Mode.{outside, in-word, in-comment, in-text}
 use Rattle.syntax.specs.Verdict.{lowest}
 use Rattle.lexer.specs.declared.Token.{Token}
 use Rattle.lexer.specs.Tokens.{item-of, items-from, Next-token}
-use Rattle.statements.specs.declared.Fault.{Fault}
 use Rattle.statements.specs.declared.Fault.the-variants.{Clear, At}
 use Rattle.statements.specs.StatementAt.{statement-at, stops, fault-of, faults-at}
 use Rattle.statements.specs.StatementLaws.{at-stop, at-item}

@@ -1,6 +1,6 @@
 -- The statement that begins at a place of the text s, and the place behind its end. And what its readers promise.
 use mathlib.Core.Path.{_≡_}
-use mathlib.Core.Bool.{Bool, true, false, cond, _||_}
+use mathlib.Core.Bool.{Bool, false, cond, _||_}
 use mathlib.Core.List.{List, [], _∷_}
 use Prim.Native.Nat.{ℕ, _+_, _≤_, _<_}
 use lib.Dec.{eqb}
@@ -9,7 +9,6 @@ use Rattle.lists.specs.Lists.{headOr, keep}
 use Rattle.syntax.specs.Items.{Item, is, places, statements, statements-from}
 use Rattle.syntax.specs.Items.Sort.{end, wrong}
 use Rattle.syntax.specs.Verdict.{lowest}
-use Rattle.lexer.specs.declared.Token.{Token}
 use Rattle.lexer.specs.Tokens.{items-from}
 use Rattle.statements.specs.declared.Fault.{Fault}
 use Rattle.statements.specs.declared.Fault.the-variants.{Clear, At}

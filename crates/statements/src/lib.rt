@@ -3,9 +3,10 @@ ghost use mathlib.Core.Path.{_≡_};
 ghost use Prim.Native.Nat.{_≤_};
 ghost use lib.ListN.{length};
 ghost use Rattle.statements.specs.StatementAt.{stops, wrong-at, fault-of, Ended};
-
 use lexer::next_item;
-use scanner::{END, NOTHING, WRONG};
+use scanner::END;
+use scanner::NOTHING;
+use scanner::WRONG;
 
 // The place where the next statement begins, and whether there is none.
 pub struct Ending {

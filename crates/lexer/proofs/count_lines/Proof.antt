@@ -1,18 +1,16 @@
-use Rattle.lexer.proofs.Lining.{line-on}
-use denote.Ref.{now}
-use mathlib.Core.Path.{_≡_, refl, sym, _∙_}
-use Prim.Native.Nat.{ℕ, _+_, _-_, _≤_, _<_}
+-- `lexer::count_lines` meets its contract.
+use mathlib.Core.Path.{_≡_, sym}
+use Prim.Native.Nat.{_+_, _-_, _≤_}
 use native.Mathlib.Omega.{arith}
 use lib.Dec.{eqb}
 use lib.ListN.{getD}
+use borrow.Author.Needs.{needs}
+use denote.Ref.{now}
+use Rattle.lexer.proofs.Lining.{line-on}
 use Rattle.syntax.specs.Items.{line-of}
 use Rattle.scanner.proofs.Loops.{at-most-one}
-use borrow.Author.Needs.{needs}
 use Rattle.lexer.proofs.count_lines.Statement.{statement}
 use Rattle.lexer.proofs.count_lines.Tie as tie
-use Rattle.lexer.proofs.count_lines.Reads as reads
-use Rattle.lexer.proofs.count_lines.Lts as lts
-use Rattle.scanner.proofs.one_if.Reads as one-if-reads
 
 abbrev Inv-loop : tie.InvT-loop
 Inv-loop text from to lines₀ i₀ lines i = (from ≤ i) × (i ≤ to) × (lines + from ≤ i) × (line-of text i ≡ line-of text from + lines)
@@ -20,42 +18,34 @@ Inv-loop text from to lines₀ i₀ lines i = (from ≤ i) × (i ≤ to) × (lin
 abbrev μ-loop : tie.MeasureT-loop
 μ-loop text from to lines₀ i₀ lines i = to - i
 
--- src/lib.rt:142:5
 loop-holds : tie.Need-loop-holds Inv-loop μ-loop
 loop-holds c = (search needs, search needs, omega arith, omega arith)
 
--- src/lib.rt:143:32
 shared-slice-read-one-if : tie.Need-shared-slice-read-one-if Inv-loop μ-loop
 shared-slice-read-one-if c = search needs
 
--- src/lib.rt:143:25
 one-if-requires : tie.Need-one-if-requires Inv-loop μ-loop
 one-if-requires c κs = search needs
 
--- src/lib.rt:143:17
 add-lines : tie.Need-add-lines Inv-loop μ-loop
 add-lines c = omega (arith, c .one-if .ensures, at-most-one (eqb 10 (getD (now (c .before .before .before .before .before .args .text)) (c .before .before .before .loop .i) 0)))
 
--- src/lib.rt:144:9
 add-i : tie.Need-add-i Inv-loop μ-loop
 add-i c = search needs
 
--- src/lib.rt:142:5
 loop-less : tie.Need-loop-less Inv-loop μ-loop
 loop-less c = search needs
 
--- src/lib.rt:142:5
 loop-again : tie.Need-loop-again Inv-loop μ-loop
-loop-again c = 
+loop-again c =
     let h = c .before .before .before .loop in
     let s = now (c .before .before .before .before .before .args .text) in
     let one = at-most-one (eqb 10 (getD s (h .i) 0)) in
     let on = line-on s (h .i) (omega arith) in
     (search needs, search needs, omega (arith, c .one-if .ensures), omega (arith, c .one-if .ensures))
 
--- src/lib.rt:136:1
 returns : tie.Need-returns Inv-loop μ-loop
-returns c = 
+returns c =
     let h = c .before .loop in
     let e : h .i ≡ c .before .before .before .args .to = omega arith in
     record { most = omega arith; is = rw (sym e) (h .inv .3) }

@@ -1,27 +1,19 @@
-use Rattle.lexer.proofs.Naming.{next-other, next-word}
-use denote.Ref.{now}
+-- `lexer::next_item` meets its contract.
 use native.Mathlib.Omega.{arith}
 use borrow.Author.Needs.{needs}
+use Rattle.lexer.proofs.Naming.{next-other, next-word}
 use Rattle.lexer.proofs.next_item.Statement.{statement}
 use Rattle.lexer.proofs.next_item.Tie as tie
-use Rattle.lexer.proofs.next_item.Reads as reads
-use Rattle.lexer.proofs.next_item.Lts as lts
-use Rattle.lexer.proofs.colon_after.Reads as colon-after-reads
-use Rattle.lexer.proofs.item_at.Reads as item-at-reads
 
--- src/lib.rt:123:9
 item-at-requires : tie.Need-item-at-requires
 item-at-requires c κs = search needs
 
--- src/lib.rt:125:9
 returns : tie.Need-returns
 returns c = next-other (c .before .before .item-at .ensures) (c .if1 .taken)
 
--- src/lib.rt:128:9
 colon-after-requires : tie.Need-colon-after-requires
 colon-after-requires c κs = let h = c .before .before .item-at .ensures .stands in let z = h .some (λ e. omega arith) in omega arith
 
--- src/lib.rt:119:1
 returns-2 : tie.Need-returns-2
 returns-2 c = next-word (c .before .before .before .item-at .ensures) (c .before .if1 .left) (c .colon-after .ensures)
 

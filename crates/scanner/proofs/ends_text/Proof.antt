@@ -1,12 +1,9 @@
-use Rattle.syntax.specs.Items.{ends-text}
+-- `scanner::ends_text` meets its contract.
 use mathlib.Core.Path.{refl}
-use borrow.Author.Needs.{needs}
+use Rattle.syntax.specs.Items.{ends-text}
 use Rattle.scanner.proofs.ends_text.Statement.{statement}
 use Rattle.scanner.proofs.ends_text.Tie as tie
-use Rattle.scanner.proofs.ends_text.Reads as reads
-use Rattle.scanner.proofs.ends_text.Lts as lts
 
--- src/lib.rt:99:1
 returns : tie.Need-returns
 unfolding ends-text
 returns c = refl

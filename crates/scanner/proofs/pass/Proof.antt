@@ -1,78 +1,62 @@
+-- `scanner::pass` meets its contract.
 use mathlib.Core.Bool.{true≢false, false≢true}
-use Prim.Native.Nat.{ℕ, _+_, _-_, _≤_, _<_}
-use mathlib.Core.Path.{_≡_, refl, sym, _∙_}
+use mathlib.Core.Path.{refl, sym, _∙_}
+use Prim.Native.Nat.{_+_}
 use native.Mathlib.Omega.{arith}
-use lib.ListN.{length, drop}
+use borrow.Author.Tests.{eq-eqb, ne-eqb}
+use borrow.Author.Needs.{needs}
 use denote.Ref.{now}
 use Rattle.scanner.proofs.Loops.{pass-separator, pass-none, pass-comment}
-use borrow.Author.Tests.{eq-eqb, ne-eqb}
-use lib.Dec.{eqb}
-use borrow.Author.Needs.{needs}
 use Rattle.scanner.proofs.pass.Statement.{statement}
 use Rattle.scanner.proofs.pass.Tie as tie
-use Rattle.scanner.proofs.pass.Reads as reads
-use Rattle.scanner.proofs.pass.Lts as lts
-use Rattle.scanner.proofs.past_comment.Reads as past-comment-reads
-use Rattle.scanner.proofs.peek.Reads as peek-reads
 
--- src/lib.rt:153:13
 shared-slice-read-b : tie.Need-shared-slice-read-b
 shared-slice-read-b c = search needs
 
--- src/lib.rt:156:17
 add-t10 : tie.Need-add-t10
 add-t10 c = search needs
 
--- src/lib.rt:155:9
 returns : tie.Need-returns
-returns c = 
+returns c =
     let s = now (c .before .before .before .args .text) in
     let n = c .before .before .before .args .n in
     record { from = omega arith; most = omega arith; opening = λ e. absurd (false≢true e); is = rw (ne-eqb (n + 1) n (λ e. omega arith)) (pass-separator s n (c .before .before .before .pre) (omega (arith, c .before .shared-slice-known2 .given n)) (c .if1 .taken)) }
 
--- src/lib.rt:161:9
 returns-2 : tie.Need-returns-2
-returns-2 c = 
+returns-2 c =
     let s = now (c .before .before .before .before .args .text) in
     let n = c .before .before .before .before .args .n in
     record { from = omega arith; most = omega arith; opening = λ e. absurd (false≢true e); is = rw (eq-eqb n n refl) (pass-none s n (c .before .before .before .before .pre) (omega (arith, c .before .before .shared-slice-known2 .given n)) (c .before .if1 .left) (rw (ne-eqb _ _ (c .if2 .taken)) refl)) }
 
--- src/lib.rt:163:19
 add-peek : tie.Need-add-peek
 add-peek c = search needs
 
--- src/lib.rt:163:8
 peek-requires : tie.Need-peek-requires
 peek-requires c κs = search needs
 
--- src/lib.rt:164:9
 returns-3 : tie.Need-returns-3
-returns-3 c = 
+returns-3 c =
     let s = now (c .before .before .before .before .before .before .args .text) in
     let n = c .before .before .before .before .before .before .args .n in
     record { from = omega arith; most = omega arith; opening = λ e. absurd (false≢true e); is = rw (eq-eqb n n refl) (pass-none s n (c .before .before .before .before .before .before .pre) (omega (arith, c .before .before .before .before .shared-slice-known2 .given n)) (c .before .before .before .if1 .left) (rw (eq-eqb _ _ (c .before .before .if2 .left), ← c .before .peek .ensures, ne-eqb _ _ (c .if3 .taken)) refl)) }
 
--- src/lib.rt:166:32
 add-past-comment : tie.Need-add-past-comment
 add-past-comment c = search needs
 
--- src/lib.rt:166:9
 past-comment-requires : tie.Need-past-comment-requires
-past-comment-requires c κs = 
+past-comment-requires c κs =
     omega (arith, pass-comment (now (c .before .before .before .before .before .before .args .text)) (c .before .before .before .before .before .before .args .n) (c .before .before .before .before .before .before .pre) (c .before .before .if2 .left) (sym (c .before .peek .ensures) ∙ c .if3 .left) .0)
 
--- src/lib.rt:168:9
 returns-4 : tie.Need-returns-4
-returns-4 c = 
+returns-4 c =
     let s = now (c .before .before .before .before .before .before .before .before .args .text) in
     let n = c .before .before .before .before .before .before .before .before .args .n in
     let e = c .before .past-comment .ensures in
     let inner = pass-comment s n (c .before .before .before .before .before .before .before .before .pre) (c .before .before .before .before .if2 .left) (sym (c .before .before .before .peek .ensures) ∙ c .before .before .if3 .left) in
     record { from = omega arith; most = omega arith; opening = λ e. refl; is = inner .1 ∙ e .is n ∙ rw (c .if4 .taken) refl }
 
--- src/lib.rt:149:1
 returns-5 : tie.Need-returns-5
-returns-5 c = 
+returns-5 c =
     let s = now (c .before .before .before .before .before .before .before .before .args .text) in
     let n = c .before .before .before .before .before .before .before .before .args .n in
     let e = c .before .past-comment .ensures in

@@ -1,18 +1,16 @@
-use Prim.Native.Nat.{ℕ, _+_, _-_, _≤_, _<_}
+-- `scanner::past_comment` meets its contract.
 use mathlib.Core.Path.{_≡_, refl, sym, _∙_}
+use Prim.Native.Nat.{ℕ, _-_, _≤_}
 use native.Mathlib.Omega.{arith}
 use lib.ListN.{length, drop}
+use borrow.Author.Needs.{needs}
 use denote.Ref.{now}
 use Rattle.scanner.proofs.Loops.{comment-on, comment-closed, comment-out}
 use Rattle.syntax.specs.Items.Stage.{inside}
 use Rattle.syntax.specs.Items.Mode.{in-comment}
 use Rattle.syntax.specs.Scan.{gap-from}
-use borrow.Author.Needs.{needs}
 use Rattle.scanner.proofs.past_comment.Statement.{statement}
 use Rattle.scanner.proofs.past_comment.Tie as tie
-use Rattle.scanner.proofs.past_comment.Reads as reads
-use Rattle.scanner.proofs.past_comment.Lts as lts
-use Rattle.scanner.proofs.closes_at.Reads as closes-at-reads
 
 abbrev Inv-loop : tie.InvT-loop
 Inv-loop text n i₀ i = (n ≤ i) × (i ≤ length text) × ((p : ℕ) → gap-from (in-comment p inside) i (drop i text) ≡ gap-from (in-comment p inside) n (drop n text))
@@ -20,45 +18,37 @@ Inv-loop text n i₀ i = (n ≤ i) × (i ≤ length text) × ((p : ℕ) → gap-
 abbrev μ-loop : tie.MeasureT-loop
 μ-loop text n i₀ i = length text - i
 
--- src/lib.rt:136:5
 loop-holds : tie.Need-loop-holds Inv-loop μ-loop
 loop-holds c = (search needs, search needs, λ p. refl)
 
--- src/lib.rt:137:12
 closes-at-requires : tie.Need-closes-at-requires Inv-loop μ-loop
 closes-at-requires c κs = search needs
 
--- src/lib.rt:139:21
 add-t7 : tie.Need-add-t7 Inv-loop μ-loop
 add-t7 c = search needs
 
--- src/lib.rt:138:13
 returns : tie.Need-returns Inv-loop μ-loop
-returns c = 
+returns c =
     let h = c .before .before .before .loop in
     let s = now (c .before .before .before .before .before .args .text) in
     let l = c .before .before .loop-test .taken in
     let e = sym (c .before .closes-at .ensures) ∙ c .if1 .taken in
     record { from = omega arith; most = omega (arith, comment-closed s (h .i) 0 l e .0); is = λ p. sym (h .inv .2 p) ∙ sym (comment-closed s (h .i) p l e .1) }
 
--- src/lib.rt:143:9
 add-i : tie.Need-add-i Inv-loop μ-loop
 add-i c = search needs
 
--- src/lib.rt:136:5
 loop-less : tie.Need-loop-less Inv-loop μ-loop
 loop-less c = search needs
 
--- src/lib.rt:136:5
 loop-again : tie.Need-loop-again Inv-loop μ-loop
-loop-again c = 
+loop-again c =
     let h = c .before .before .before .loop in
     let s = now (c .before .before .before .before .before .args .text) in
     (search needs, search needs, λ p. comment-on s (h .i) p (c .before .before .loop-test .taken) (sym (c .before .closes-at .ensures) ∙ c .if1 .left) ∙ h .inv .2 p)
 
--- src/lib.rt:131:1
 returns-2 : tie.Need-returns-2 Inv-loop μ-loop
-returns-2 c = 
+returns-2 c =
     let h = c .before .loop in
     record { from = h .inv .0; most = h .inv .1; is = λ p. sym (h .inv .2 p) ∙ comment-out (now (c .before .before .before .args .text)) (h .i) p (c .loop-test .left) }
 

@@ -1,20 +1,15 @@
-use Rattle.spelling.proofs.Chars.{gives-pair, gives-itself}
+-- `spelling::char_of` meets its contract.
 use borrow.Author.Needs.{needs}
+use Rattle.spelling.proofs.Chars.{gives-pair, gives-itself}
 use Rattle.spelling.proofs.char_of.Statement.{statement}
 use Rattle.spelling.proofs.char_of.Tie as tie
-use Rattle.spelling.proofs.char_of.Reads as reads
-use Rattle.spelling.proofs.char_of.Lts as lts
-use Rattle.scanner.proofs.pair_of.Reads as pair-of-reads
 
--- src/lib.rt:17:15
 pair-of-requires : tie.Need-pair-of-requires
 pair-of-requires c κs = search needs
 
--- src/lib.rt:14:1
 returns : tie.Need-returns
 returns c = rw (c .before .if1 .taken, c .pair-of .ensures) (gives-pair (c .before .before .args .b))
 
--- src/lib.rt:14:1
 returns-2 : tie.Need-returns-2
 returns-2 c = rw (c .if1 .left) (gives-itself (c .before .args .b))
 

@@ -1,16 +1,11 @@
-use mathlib.Core.Path.{_≡_, refl, sym, ap, _∙_}
-use Prim.Native.Nat.{ℕ, _+_, _-_, _≤_, _<_}
-use native.Mathlib.Omega.{arith}
-use denote.Ref.{now}
-use lib.ListN.{length, drop, getD}
-use Rattle.spelling.proofs.Chars.{Putting, put-begins, put-room, put-on, put-done}
+-- `spelling::put_text` meets its contract.
+use mathlib.Core.Path.{_≡_, refl, _∙_}
+use Prim.Native.Nat.{_-_}
+use lib.ListN.{length}
 use borrow.Author.Needs.{needs}
+use Rattle.spelling.proofs.Chars.{Putting, put-begins, put-room, put-on, put-done}
 use Rattle.spelling.proofs.put_text.Statement.{statement}
 use Rattle.spelling.proofs.put_text.Tie as tie
-use Rattle.spelling.proofs.put_text.Reads as reads
-use Rattle.spelling.proofs.put_text.Lts as lts
-use Rattle.scanner.proofs.takes_next.Reads as takes-next-reads
-use Rattle.spelling.proofs.put_char.Reads as put-char-reads
 
 abbrev Inv-loop : tie.InvT-loop
 Inv-loop text at end out₀ star₀ j₀ i₀ out star j i = (length out ≡ length out₀) × Putting text at end out₀ i j star out
@@ -18,42 +13,33 @@ Inv-loop text at end out₀ star₀ j₀ i₀ out star j i = (length out ≡ len
 abbrev μ-loop : tie.MeasureT-loop
 μ-loop text at end out₀ star₀ j₀ i₀ out star j i = end - i
 
--- src/lib.rt:40:5
 loop-holds : tie.Need-loop-holds Inv-loop μ-loop
 loop-holds c = (refl, put-begins (c .before .before .pre .between .order))
 
--- src/lib.rt:41:17
 shared-slice-read-b : tie.Need-shared-slice-read-b Inv-loop μ-loop
 shared-slice-read-b c = search needs
 
--- src/lib.rt:42:9
 put-char-requires : tie.Need-put-char-requires Inv-loop μ-loop
 put-char-requires c κs = let h = c .before .before .before .loop in put-room (c .before .before .before .before .before .before .pre) (h .inv .1) (c .before .before .loop-test .taken) (h .inv .0)
 
--- src/lib.rt:43:9
 takes-next-requires : tie.Need-takes-next-requires Inv-loop μ-loop
 takes-next-requires c κs = search needs
 
--- src/lib.rt:44:9
 add-i : tie.Need-add-i Inv-loop μ-loop
 add-i c = search needs
 
--- src/lib.rt:40:5
 loop-less : tie.Need-loop-less Inv-loop μ-loop
 loop-less c = search needs
 
--- src/lib.rt:40:5
 loop-again : tie.Need-loop-again Inv-loop μ-loop
-loop-again c = 
+loop-again c =
     let h = c .before .before .before .before .before .before .before .loop in
     let p = c .before .before .before .put-char in
     (p .kept .0 ∙ h .inv .0, rw (c .takes-next .ensures) (put-on (c .before .before .before .before .before .before .before .before .before .before .pre) (h .inv .1) (c .before .before .before .before .before .before .loop-test .taken) (p .ensures)))
 
--- src/lib.rt:33:1
 same-length : tie.Need-same-length Inv-loop μ-loop
 same-length c = search needs
 
--- src/lib.rt:33:1
 returns : tie.Need-returns Inv-loop μ-loop
 returns c = put-done (c .before .loop .inv .1) (c .loop-test .left)
 

@@ -1,75 +1,61 @@
-use mathlib.Core.Path.{_≡_, refl, sym, ap, _∙_}
-use Prim.Native.Nat.{ℕ, _+_, _-_, _≤_, _<_}
+-- `spelling::spells` meets its contract.
+use mathlib.Core.Path.{sym, ap, _∙_}
 use native.Mathlib.Omega.{arith}
-use denote.Ref.{now}
 use lib.ListN.{length}
+use borrow.Author.Needs.{needs}
+use denote.Ref.{now}
 use Rattle.lexer.proofs.Finding.{word-chars, text-token-chars, no-chars}
 use Rattle.lexer.specs.Tokens.{chars-of}
 use Rattle.spelling.proofs.Chars.{other-length, same-is, same-empty}
-use borrow.Author.Needs.{needs}
 use Rattle.spelling.proofs.spells.Statement.{statement}
 use Rattle.spelling.proofs.spells.Tie as tie
-use Rattle.spelling.proofs.spells.Reads as reads
-use Rattle.spelling.proofs.spells.Lts as lts
-use Rattle.check.proofs.same.Reads as same-reads
-use Rattle.spelling.proofs.text_is.Reads as text-is-reads
 
--- src/lib.rt:105:9
 returns : tie.Need-returns
-returns c = 
+returns c =
     let s = now (c .before .before .before .before .args .text) in
     let t = c .before .before .before .before .args .t in
     let w = c .before .before .before .before .pre in
     sym (other-length (chars-of s t) (now (c .before .before .before .before .args .other)) (λ e. c .if1 .taken (sym (w .count) ∙ e)))
 
--- src/lib.rt:110:30
 add-text-is : tie.Need-add-text-is
 add-text-is c = search needs
 
--- src/lib.rt:110:9
 text-is-requires : tie.Need-text-is-requires
-text-is-requires c κs = 
+text-is-requires c κs =
     let s = now (c .before .before .before .before .before .before .args .text) in
     let t = c .before .before .before .before .before .before .args .t in
     let w = c .before .before .before .before .before .before .pre in
     let l = w .some (λ z. omega (arith, c .if2 .taken)) in
     record { order = omega arith; most = omega (arith, w) }
 
--- src/lib.rt:110:9
 returns-2 : tie.Need-returns-2
-returns-2 c = 
+returns-2 c =
     let s = now (c .before .before .before .before .before .before .before .args .text) in
     let t = c .before .before .before .before .before .before .before .args .t in
     let w = c .before .before .before .before .before .before .before .pre in
     rw (text-token-chars s t (c .before .if2 .taken)) (c .text-is .ensures)
 
--- src/lib.rt:113:28
 sub-same : tie.Need-sub-same
 sub-same c = search needs
 
--- src/lib.rt:113:28
 part-same-start : tie.Need-part-same-start
 part-same-start c = search needs
 
--- src/lib.rt:113:28
 part-same-end : tie.Need-part-same-end
 part-same-end c = search needs
 
--- src/lib.rt:113:9
 same-requires : tie.Need-same-requires
 same-requires c κs = search needs
 
--- src/lib.rt:113:9
 returns-3 : tie.Need-returns-3
-returns-3 c = 
+returns-3 c =
     let s = now (c .before .before .before .before .before .before .before .before .before .before .args .text) in
     let t = c .before .before .before .before .before .before .before .before .before .before .args .t in
     let w = c .before .before .before .before .before .before .before .before .before .before .pre in
     rw (word-chars s t (c .before .before .if3 .taken)) (same-is _ (now (c .before .before .before .before .before .before .before .before .before .before .args .other)) (c .same .result) (c .same .ensures .0) (c .same .ensures .1))
 
--- src/lib.rt:100:1
 returns-4 : tie.Need-returns-4
-returns-4 c = 
+returns-4 c =
     let s = now (c .before .before .before .before .before .before .before .before .args .text) in
     let t = c .before .before .before .before .before .before .before .before .args .t in
     let w = c .before .before .before .before .before .before .before .before .pre in

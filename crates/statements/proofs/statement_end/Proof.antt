@@ -1,17 +1,13 @@
-use mathlib.Core.Path.{_≡_, refl, sym, ap, _∙_}
-use Prim.Native.Nat.{ℕ, _+_, _-_, _≤_, _<_}
+-- `statements::statement_end` meets its contract.
+use mathlib.Core.Path.{sym, _∙_}
+use Prim.Native.Nat.{_-_}
 use native.Mathlib.Omega.{arith}
-use denote.Ref.{now}
 use lib.ListN.{length}
+use borrow.Author.Needs.{needs}
 use Rattle.statements.specs.StatementLaws.{on}
 use Rattle.statements.proofs.Ends.{Within, begins-within, still-within, ends-here}
-use borrow.Author.Needs.{needs}
 use Rattle.statements.proofs.statement_end.Statement.{statement}
 use Rattle.statements.proofs.statement_end.Tie as tie
-use Rattle.statements.proofs.statement_end.Reads as reads
-use Rattle.statements.proofs.statement_end.Lts as lts
-use Rattle.lexer.proofs.next_item.Reads as next-item-reads
-use Rattle.statements.proofs.stops.Reads as stops-reads
 
 abbrev Inv-loop : tie.InvT-loop
 Inv-loop text n i₀ i = Within text n i
@@ -19,27 +15,21 @@ Inv-loop text n i₀ i = Within text n i
 abbrev μ-loop : tie.MeasureT-loop
 μ-loop text n i₀ i = length text - i
 
--- src/lib.rt:34:5
 loop-holds : tie.Need-loop-holds Inv-loop μ-loop
 loop-holds c = begins-within (c .before .pre)
 
--- src/lib.rt:35:13
 next-item-requires : tie.Need-next-item-requires Inv-loop μ-loop
 next-item-requires c κs = c .loop .inv .most
 
--- src/lib.rt:36:12
 stops-requires : tie.Need-stops-requires Inv-loop μ-loop
 stops-requires c κs = search needs
 
--- src/lib.rt:37:13
 returns : tie.Need-returns Inv-loop μ-loop
 returns c = ends-here (c .before .before .before .before .loop .inv) (c .before .before .before .next-item .ensures) (sym (c .before .before .stops .ensures) ∙ c .before .if1 .taken)
 
--- src/lib.rt:34:5
 loop-less : tie.Need-loop-less Inv-loop μ-loop
 loop-less c = let t = c .before .before .next-item .ensures in omega (arith, t .stands, on t (sym (c .before .stops .ensures) ∙ c .if1 .left))
 
--- src/lib.rt:34:5
 loop-again : tie.Need-loop-again Inv-loop μ-loop
 loop-again c = still-within (c .before .before .before .loop .inv) (c .before .before .next-item .ensures) (sym (c .before .stops .ensures) ∙ c .if1 .left)
 
