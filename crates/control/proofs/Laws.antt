@@ -1,21 +1,19 @@
 -- The working memory after the run goes on: the next instruction, and the return stack, of which each entry has two cells.
-use mathlib.Core.Path.{_≡_, refl, sym, ap, _∙_}
-use mathlib.Core.List.{List, [], _∷_, _++_}
-use Prim.Native.Nat.{ℕ, zero, suc, _+_, _*_, _/_, _≤_, _<_}
-use native.Mathlib.Numerals.{add-one}
+use mathlib.Core.Path.{_≡_, refl, ap, _∙_}
+use mathlib.Core.List.{List, [], _∷_}
+use Prim.Native.Nat.{ℕ, suc, _+_, _*_, _/_, _≤_, _<_}
 use native.Mathlib.Omega.{arith}
 use lib.ListN.{length, getD, take, drop, set}
 use Rattle.lists.specs.Lists.{each, headOr}
 use Rattle.language.specs.Limits as limit
 use Rattle.language.specs.Values.{State}
-use Rattle.machine.specs.Changes.{held, recorded}
-use Rattle.machine.specs.Effects.{Go, Row}
+use Rattle.machine.specs.Effects.{Row}
 use Rattle.machine.specs.Effects.Go.{on, jump, call, back}
 use Rattle.machine.specs.Steps.{made}
 use Rattle.layout.specs.Bounds.{Below, Fine}
 use Rattle.layout.specs.Cells.{two, two-at}
 use Rattle.layout.specs.CellLaws.{each-drop, length-each, two-back}
-use Rattle.layout.specs.Memory.{scalars, strings}
+use Rattle.layout.specs.Memory.{strings}
 use Rattle.layout.specs.MemoryLaws.{string-stack}
 use Rattle.gaps.specs.Gaps.{pushedFront}
 use Rattle.gaps.specs.Pool.{abs, string, Holds}

@@ -2,31 +2,31 @@
 use mathlib.Core.Path.{_≡_, refl, sym, ap, _∙_, subst}
 use mathlib.Core.Bool.{Bool, true, false, _||_}
 use mathlib.Core.List.{List, [], _∷_, _++_, append-assoc}
-use Prim.Native.Nat.{ℕ, suc, _+_, _-_, _*_, _≤_, _<_}
+use Prim.Native.Nat.{ℕ, suc, _+_, _-_, _≤_, _<_}
 use native.Mathlib.Omega.{arith}
 use lib.Dec.{T}
-use lib.ListN.{length, getD, take, drop, set, length-append, take-append-drop}
+use lib.ListN.{length, take, drop, set, length-append, take-append-drop}
 use lib.Seq.{take-append-le, drop-append-le, take-append-add, drop-append-add, getD-set-other, set-comm}
 use Rattle.lists.specs.Lists.{any, ahead}
 use Rattle.language.specs.Limits as limit
 use Rattle.language.specs.Letters.Letter.{P}
-use Rattle.language.specs.Values.{Record, File, Store, State}
+use Rattle.language.specs.Values.{Record, File, Store}
 use Rattle.machine.specs.Arguments.{file-of, records}
 use Rattle.machine.specs.Changes.{put-file, past-file, past-by, past, records-to, pointed}
-use Rattle.layout.specs.Bounds.{Each, RecordOk, Fine}
+use Rattle.layout.specs.Bounds.{Each, RecordOk}
 use Rattle.layout.specs.CellLaws.{each-append, each-left, each-right}
 use Rattle.layout.specs.ComponentLaws.{records-bytes-append}
 use Rattle.layout.specs.Components.{records-bytes}
-use Rattle.layout.specs.Memory.{components-held, chars-held, records-held, strings}
+use Rattle.layout.specs.Memory.{components-held, chars-held, records-held}
 use Rattle.layout.specs.MemoryLaws.{before-encoded, after-encoded}
 use Rattle.gaps.specs.Gaps.{pushedFront, pushedBack}
 use Rattle.gaps.specs.Pool.{abs, string, Holds}
 use Rattle.store.specs.Store.{Long, Movable, droppedFront, droppedBack, movedFrontToBack, movedBackToFront}
 use Rattle.state.specs.Blocks.{totalled}
-use Rattle.state.specs.Working.{before-string, after-string, state-at, HoldsState, Stands, on-store, nth, filing, part-total, char-total}
+use Rattle.state.specs.Working.{before-string, after-string, state-at, HoldsState, Stands, on-store, nth, filing}
 use Rattle.state.proofs.Standing.{string-is}
 use Rattle.filing.specs.Files.{Passable, RecordsReadable, Pointable, pointed-at}
-use Rattle.filing.proofs.Removed.{bytes-first, bytes-rest, bytes-within}
+use Rattle.state.proofs.Sequences.{first-bytes, rest-bytes, bytes-within}
 use Rattle.filing.proofs.Replaced.{holds-file}
 
 -- the two strings of a file are not one
@@ -117,7 +117,7 @@ module _ {p e n : List ℕ} {i k b sc hd : ℕ} (pre : Passable p e n i k b sc h
   f = file-of (state-at p e n .store) (nth P i)
 
   pub pass-movable : Movable p e (after-string i) (before-string i) b sc hd
-  pass-movable = on-movable (pre .stands) (pre .index) (bytes-within (f .after) k (pre .bytes-is)) (pre .spare) (pre .room)
+  pass-movable = on-movable (pre .stands) (pre .index) (bytes-within records-bytes records-bytes-append (f .after) k (pre .bytes-is)) (pre .spare) (pre .room)
 
   pub records-passed : {p′ e′ : List ℕ} → Holds p′ e′ (movedFrontToBack (after-string i) (before-string i) b (abs p e))
       → HoldsState p′ e′ n (on-store (past (nth (filing false) i) k) (state-at p e n))
@@ -125,8 +125,8 @@ module _ {p e n : List ℕ} {i k b sc hd : ℕ} (pre : Passable p e n i k b sc h
   records-passed g =
       moved-on (pre .stands) (pre .index) (f .before ++ take k (f .after)) (drop k (f .after)) b
       (append-assoc (f .before) (take k (f .after)) (drop k (f .after)) ∙ ap (λ (l : List Record). f .before ++ l) (take-append-drop k (f .after)))
-      (records-bytes-append (f .before) (take k (f .after)) ∙ ap (λ (l : List ℕ). records-bytes (f .before) ++ l) (sym (bytes-first (f .after) k (pre .bytes-is))))
-      (sym (bytes-rest (f .after) k (pre .bytes-is))) g
+      (records-bytes-append (f .before) (take k (f .after)) ∙ ap (λ (l : List ℕ). records-bytes (f .before) ++ l) (sym (first-bytes records-bytes records-bytes-append (f .after) k (pre .bytes-is))))
+      (sym (rest-bytes records-bytes records-bytes-append (f .after) k (pre .bytes-is))) g
 
 pub passable : {p e n : List ℕ} {i k b c d sc hd : ℕ} → RecordsReadable p e n i k b c d sc hd → Passable p e n i k b sc hd
 passable pre =
@@ -182,13 +182,13 @@ module _ {p e n : List ℕ} {i k b sc hd : ℕ} (pre : Pointable p e n i k b sc 
   whole-is = records-bytes-append (r .before) (r .after)
 
   first-is : records-bytes (take k (records r)) ≡ take b (x ++ y)
-  first-is = sym (bytes-first (records r) k (pre .bytes-is)) ∙ ap (take b) whole-is
+  first-is = sym (first-bytes records-bytes records-bytes-append (records r) k (pre .bytes-is)) ∙ ap (take b) whole-is
 
   rest-is : records-bytes (drop k (records r)) ≡ drop b (x ++ y)
-  rest-is = sym (bytes-rest (records r) k (pre .bytes-is)) ∙ ap (drop b) whole-is
+  rest-is = sym (rest-bytes records-bytes records-bytes-append (records r) k (pre .bytes-is)) ∙ ap (drop b) whole-is
 
   most : b ≤ length x + length y
-  most = omega (arith, bytes-within (records r) k (pre .bytes-is), ap length whole-is, length-append x y)
+  most = omega (arith, bytes-within records-bytes records-bytes-append (records r) k (pre .bytes-is), ap length whole-is, length-append x y)
 
   -- m is how many bytes stand before the pointer
   module _ {m : ℕ} (q : Long p e (before-string i) m) where

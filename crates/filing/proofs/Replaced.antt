@@ -1,13 +1,12 @@
 -- The working memory after a file is replaced.
-use mathlib.Core.Path.{_≡_, refl, sym, ap, _∙_}
-use mathlib.Core.List.{List, [], _++_}
+use mathlib.Core.Path.{_≡_, sym, _∙_}
+use mathlib.Core.List.{List}
 use Prim.Native.Nat.{ℕ, _+_, _≤_, _<_}
 use native.Mathlib.Omega.{arith}
-use lib.ListN.{length, getD, take, drop, set, length-set}
-use Rattle.lists.specs.Lists.{total}
+use lib.ListN.{length, set, length-set}
 use Rattle.language.specs.Limits as limit
 use Rattle.language.specs.Letters.Letter.{P}
-use Rattle.language.specs.Values.{Component, Record, File, Store, State, chars}
+use Rattle.language.specs.Values.{File, State, chars}
 use Rattle.machine.specs.Arguments.{file-of, records}
 use Rattle.machine.specs.Changes.{with-files, put-file, held, recorded}
 use Rattle.machine.specs.SumLaws.{held-put-file, recorded-put-file}
@@ -17,9 +16,9 @@ use Rattle.layout.specs.Memory.{components-held, chars-held, records-held, scal
 use Rattle.gaps.specs.Pool.{Holds}
 use Rattle.state.specs.Blocks.{totalled}
 use Rattle.state.specs.Working.{before-string, after-string, HoldsState, on-store, nth, part-total, char-total}
-use Rattle.state.proofs.Expressions.{total-ones}
-use Rattle.state.proofs.Fineness.{each-set, fine-files}
+use Rattle.state.proofs.Fineness.{fine-files}
 use Rattle.state.proofs.Scalars.{scalars-files}
+use Rattle.state.proofs.Sequences.{total-ones, each-set}
 use Rattle.state.proofs.Strings.{strings-file}
 
 -- file i becomes g, the last address m, and the totals c, d and r

@@ -1,23 +1,23 @@
 -- The working memory after new records are written.
 use mathlib.Core.Path.{_≡_, refl, sym, ap, _∙_}
-use mathlib.Core.Bool.{Bool, true, false, cond}
-use mathlib.Core.List.{List, [], _∷_, _++_, map, reverse, reverse-reverse}
-use Prim.Native.Nat.{ℕ, suc, _+_, _≤_, _<_}
+use mathlib.Core.Bool.{Bool, true, false}
+use mathlib.Core.List.{List, [], _∷_, _++_, map}
+use Prim.Native.Nat.{ℕ, suc, _+_, _<_}
 use native.Mathlib.Omega.{arith}
-use lib.ListN.{length, getD, set, length-set, length-append, length-map, length-reverse}
+use lib.ListN.{length, getD, set, length-map}
 use lib.Seq.{getD-set-other, set-getD}
 use Rattle.lists.specs.Lists.{total}
-use Rattle.lists.specs.ListLaws.{total-append, total-map, total-reverse}
+use Rattle.lists.specs.ListLaws.{total-map}
 use Rattle.language.specs.Limits as limit
 use Rattle.language.specs.Letters.Letter.{P}
-use Rattle.language.specs.Values.{Component, Record, File, Store, State, chars}
+use Rattle.language.specs.Values.{Component, Record, File, Store, chars}
 use Rattle.machine.specs.Arguments.{file-of, records}
 use Rattle.machine.specs.Changes.{with-files, stamped, stored}
-use Rattle.layout.specs.Bounds.{Each, EncodedRecords, RecordOk, FileOk, Fine}
+use Rattle.layout.specs.Bounds.{Each, EncodedRecords, RecordOk, FileOk}
 use Rattle.layout.specs.CellLaws.{each-append}
 use Rattle.layout.specs.ComponentLaws.{records-bytes-append, records-of}
 use Rattle.layout.specs.Components.{records-bytes, records-in}
-use Rattle.layout.specs.Memory.{components-held, chars-held, records-held, scalars, strings}
+use Rattle.layout.specs.Memory.{components-held, chars-held, records-held, strings}
 use Rattle.layout.specs.MemoryLaws.{before-encoded, after-encoded}
 use Rattle.layout.specs.FineLaws.{fine-room}
 use Rattle.layout.specs.Strings.{used}
@@ -26,27 +26,16 @@ use Rattle.store.proofs.Laws.{used-pushed-front, used-pushed-back}
 use Rattle.gaps.specs.Gaps.{pushedFront, pushedBack}
 use Rattle.gaps.specs.Pool.{abs, string, Holds}
 use Rattle.state.specs.Blocks.{totalled, Raisable}
-use Rattle.state.specs.Working.{before-string, after-string, state-at, HoldsState, on-store, nth, filing, turned, part-total, char-total}
-use Rattle.state.proofs.Expressions.{total-ones}
+use Rattle.state.specs.Working.{before-string, after-string, state-at, HoldsState, on-store, nth, filing, turned, filed, part-total, char-total}
+use Rattle.state.proofs.Fits.{filed-total}
+use Rattle.state.proofs.Sequences.{total-ones, turned-twice, turned-length, turned-total}
 use Rattle.state.proofs.Standing.{number-is, numbers-long}
+use Rattle.state.proofs.Ties.{turns-so, stored-is}
 use Rattle.filing.specs.Files.{bodies, RecordsWritable, More, Insertable, inserted}
 use Rattle.filing.proofs.Pointers.{apart}
 use Rattle.filing.proofs.Replaced.{strings-then, fine-then, holds-file}
 
 -- ---- records with new addresses
-
--- the records that are written, from those in the order taken, and back
-turned-twice : {X : Type 0} (b : Bool) (xs : List X) → turned b (turned b xs) ≡ xs
-turned-twice true xs = reverse-reverse xs
-turned-twice false xs = refl
-
-turned-length : {X : Type 0} (b : Bool) (xs : List X) → length (turned b xs) ≡ length xs
-turned-length true xs = length-reverse xs
-turned-length false xs = refl
-
-turned-total : {X : Type 0} (g : X → ℕ) (b : Bool) (xs : List X) → total g (turned b xs) ≡ total g xs
-turned-total g true xs = total-reverse g xs
-turned-total g false xs = refl
 
 stamped-bodies : (n : ℕ) (xs : List (List Component)) → map (λ r. r .parts) (stamped n xs) ≡ xs
 unfolding stamped
@@ -74,14 +63,6 @@ module _ {new : List ℕ} (b : Bool) (n : ℕ) (xs : List (List Component)) (h :
 
 -- ---- a file with records to its pointer
 
-abbrev filed : Bool → List Record → File → File
-filed true rs f = record { before = f .before; after = rs ++ f .after }
-filed false rs f = record { before = f .before ++ rs; after = f .after }
-
-filed-total : (g : Record → ℕ) (b : Bool) (rs : List Record) (f : File) → total g (records (filed b rs f)) ≡ total g (records f) + total g rs
-filed-total g true rs f = omega (arith, total-append g (f .before) (rs ++ f .after), total-append g rs (f .after), total-append g (f .before) (f .after))
-filed-total g false rs f = omega (arith, total-append g (f .before ++ rs) (f .after), total-append g (f .before) rs, total-append g (f .before) (f .after))
-
 filed-ok : (b : Bool) (rs : List Record) (f : File) → Each RecordOk rs → FileOk f → FileOk (filed b rs f)
 filed-ok true rs f h k = record { before-ok = k .before-ok; after-ok = each-append RecordOk rs (f .after) h (k .after-ok) }
 filed-ok false rs f h k = record { before-ok = each-append RecordOk (f .before) rs (k .before-ok) h; after-ok = k .after-ok }
@@ -103,11 +84,11 @@ unfolding inserted
 used-inserted true i v s l q = used-pushed-front s (after-string i) (omega arith) v
 used-inserted false i v s l q = used-pushed-back s (before-string i) (omega arith) v
 
-stored-is : (b : Bool) (i : ℕ) (s : Store) (rs : List Record) (xs : List (List Component)) → turned b rs ≡ stamped (s .last) xs
+stored-to : (b : Bool) (i : ℕ) (s : Store) (rs : List Record) (xs : List (List Component)) → turned b rs ≡ stamped (s .last) xs
     → stored (nth (filing b) i) xs s ≡ with-files (set (s .files) i (filed b rs (file-of s (nth P i)))) (s .last + length xs) s
-unfolding stored
-stored-is true i s rs xs q = rw (← q, reverse-reverse rs)
-stored-is false i s rs xs q = rw (← q)
+stored-to b i s rs xs q =
+    stored-is (nth (filing b) i) xs s
+    ∙ rw (turns-so b, ← q, turned-twice b rs)
 
 module _ {p e n : List ℕ} {sc i : ℕ} (b : Bool) {new : List ℕ} {k c d : ℕ} (pre : RecordsWritable p e n sc i b new k c d) where
   abbrev rs : List Record
@@ -186,7 +167,7 @@ module _ {p e n : List ℕ} {sc i : ℕ} (b : Bool) {new : List ℕ} {k c d : �
       let h = pre .stands in
       let s = state-at p e n in
       let z : length (bodies b new) ≡ k = length-map (turned b rs) (λ r. r .parts) ∙ turned-length b rs ∙ sym (pre .count) in
-      rw (stored-is b i t rs (bodies b new) (pre .stamps), z)
+      rw (stored-to b i t rs (bodies b new) (pre .stamps), z)
       (holds-file s (h .fine) i (pre .index) (filed b rs old) (t .last + k) (components-held t + c) (chars-held t + d) (records-held t + k)
       parts-more chars-more records-more ok (pre .addresses-room) (pre .components-room) (pre .chars-room) (pre .records-room)
       (rw strings-more at g)

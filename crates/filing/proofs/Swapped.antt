@@ -1,21 +1,19 @@
 -- The working memory after two files are exchanged.
-use mathlib.Core.Path.{_≡_, refl, sym, ap, _∙_}
-use mathlib.Core.List.{List, [], _∷_}
-use Prim.Native.Nat.{ℕ, pred, _+_, _≤_, _<_}
+use mathlib.Core.Path.{_≡_, sym, _∙_}
+use mathlib.Core.List.{List, []}
+use Prim.Native.Nat.{ℕ, pred, _≤_, _<_}
 use native.Mathlib.Omega.{arith}
 use lib.ListN.{length, getD, set, length-set}
 use lib.Seq.{getD-set-other, set-comm}
 use Rattle.lists.specs.Lists.{total}
 use Rattle.language.specs.Limits as limit
-use Rattle.language.specs.Letters.Letter.{P}
 use Rattle.language.specs.Letters.Var.{file}
 use Rattle.language.specs.Program.{Arg, Program}
 use Rattle.language.specs.Values.{Component, Record, File, Store, State, Inputs, chars, empty-file}
-use Rattle.machine.specs.Arguments.{place, file-of, records}
+use Rattle.machine.specs.Arguments.{place, records}
 use Rattle.machine.specs.Changes.{with-files, put-file, held, recorded}
 use Rattle.machine.specs.Effects as machine
 use Rattle.layout.specs.Bounds.{FileOk, Fine}
-use Rattle.layout.specs.Components.{records-bytes}
 use Rattle.layout.specs.Memory.{scalars, strings}
 use Rattle.layout.specs.MemoryLaws.{string-before, string-after}
 use Rattle.gaps.specs.Pool as pool
@@ -23,8 +21,8 @@ use Rattle.gaps.specs.Pool.{abs, string, Holds}
 use Rattle.gaps.proofs.Laws.{after}
 use Rattle.store.specs.Store.{Exchangeable, exchanged}
 use Rattle.state.specs.Blocks.{totalled}
-use Rattle.state.specs.Working.{before-string, after-string, state-at, HoldsState, on-store, nth}
-use Rattle.state.proofs.Exchanges.{total-exchanged, each-exchanged}
+use Rattle.state.specs.Working.{before-string, after-string, state-at, HoldsState, on-store}
+use Rattle.state.proofs.Sequences.{total-exchanged, each-exchanged}
 use Rattle.state.proofs.Fineness.{fine-files}
 use Rattle.state.proofs.Scalars.{scalars-files}
 use Rattle.state.proofs.Strings.{strings-file}
@@ -60,7 +58,7 @@ module _ (s : State) (f : Fine s) (i j : ℕ) (a : i < limit.files) (b : j < lim
   both = set first j (getD fs i empty-file)
 
   total-both : (g : Record → ℕ) → total (λ k. total g (records k)) both ≡ total (λ k. total g (records k)) fs
-  total-both g = total-exchanged empty-file (λ k. total g (records k)) fs i j (rw (f .files-is) a) (rw (f .files-is) b)
+  total-both g = total-exchanged empty-file fs i j (λ k. total g (records k)) (rw (f .files-is) a) (rw (f .files-is) b)
 
   held-both : (g : Component → ℕ) → held g (with-files both (s .store .last) (s .store)) ≡ held g (s .store)
   unfolding held with-files
@@ -73,7 +71,7 @@ module _ (s : State) (f : Fine s) (i j : ℕ) (a : i < limit.files) (b : j < lim
   fine-both : Fine (on-store (with-files both (s .store .last)) s)
   fine-both =
       fine-files s f both (s .store .last) (length-set first j (getD fs i empty-file) ∙ length-set fs i (getD fs j empty-file) ∙ f .files-is)
-      (each-exchanged empty-file FileOk (record { before-ok = tt; after-ok = tt }) fs i j (f .files-ok)) (f .last-most)
+      (each-exchanged empty-file fs i j FileOk (record { before-ok = tt; after-ok = tt }) (f .files-ok)) (f .last-most)
       (rw (held-both (λ x. 1)) (f .components-most)) (rw (held-both (λ x. length (chars x))) (f .chars-most)) (rw (recorded-both (λ r. 1)) (f .records-most))
 
   strings-both : strings (on-store (with-files both (s .store .last)) s)

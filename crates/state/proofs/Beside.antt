@@ -1,6 +1,6 @@
 -- The working memory after a change beside expressions and files: of an output, of H, of a read place.
 use mathlib.Core.Path.{_≡_, refl, sym, ap, _∙_}
-use mathlib.Core.Bool.{Bool, true, false, cond, _&&_}
+use mathlib.Core.Bool.{Bool, true, false, cond}
 use mathlib.Core.List.{List, [], _∷_, _++_}
 use Prim.Native.Nat.{ℕ, zero, suc, _+_, _≤_, _<_}
 use native.Mathlib.Omega.{arith}
@@ -10,7 +10,6 @@ use Rattle.language.specs.Letters.Letter.{I, Q}
 use Rattle.language.specs.Values.{State}
 use Rattle.machine.specs.Changes.{with-plus, minus-unless, with-outputs, with-places, printed, past, past-by, held, recorded}
 use Rattle.layout.specs.Bounds.{Fine}
-use Rattle.layout.specs.CellLaws.{each-at}
 use Rattle.layout.specs.Memory.{scalars, strings}
 use Rattle.layout.specs.MemoryLaws.{string-output}
 use Rattle.gaps.specs.Gaps.{pushedBack}
@@ -18,9 +17,10 @@ use Rattle.gaps.specs.Pool.{abs, Holds}
 use Rattle.store.specs.Store.{Pushable}
 use Rattle.state.specs.Working.{output-string, state-at, HoldsState, on-store, nth}
 use Rattle.state.specs.Blocks.{Printable, Readable}
-use Rattle.state.proofs.Standing.{number-is, pushable}
+use Rattle.state.proofs.Standing.{pushable, place-is}
 use Rattle.state.proofs.Strings.{strings-output}
-use Rattle.state.proofs.Fineness.{each-set, fine-beside}
+use Rattle.state.proofs.Fineness.{fine-beside}
+use Rattle.state.proofs.Sequences.{each-set}
 
 -- ---- an output
 
@@ -100,17 +100,12 @@ place-set (x ∷ y ∷ ps) l zero b v h t = refl
 place-set (x ∷ y ∷ ps) l (suc zero) b v h t = refl
 place-set (x ∷ y ∷ ps) l (suc (suc k)) b v h t = absurd (omega arith)
 
-place-read : (m : List ℕ) (h : ℕ) (ps t : List ℕ) → m ≡ (h ∷ getD ps 0 0 ∷ getD ps 1 0 ∷ t) → (k : ℕ) → k < 2 → getD m (1 + k) 0 ≡ getD ps k 0
-place-read m h ps t q zero b = rw q
-place-read m h ps t q (suc zero) b = rw q
-place-read m h ps t q (suc (suc k)) b = absurd (omega arith)
-
 module _ {p e n : List ℕ} {i k : ℕ} (pre : Readable p e n i k) where
   abbrev place-at : ℕ
   place-at = getD (state-at p e n .store .places) i 0
 
-  pub place-is : getD n (1 + i) 0 ≡ place-at
-  place-is = let s = state-at p e n in place-read n (cond (s .store .plus) 1 0) (s .store .places) (drop 3 (scalars s)) (pre .stands .numbers) i (pre .index)
+  pub place-then : getD n (1 + i) 0 + k ≤ limit.input
+  place-then = omega (arith, place-is (pre .stands) (pre .index), pre .room)
 
   pub read-past : {n′ : List ℕ} → n′ ≡ set n (1 + i) (getD n (1 + i) 0 + k) → HoldsState p e n′ (on-store (past (nth I i) k) (state-at p e n))
   unfolding on-store past past-by with-places held recorded strings
@@ -122,7 +117,7 @@ module _ {p e n : List ℕ} {i k : ℕ} (pre : Readable p e n i k) where
       record {
         holds = h .holds;
         numbers =
-            q ∙ ap (λ (x : ℕ). set n (1 + i) (x + k)) place-is ∙ ap (λ (m : List ℕ). set m (1 + i) v) (h .numbers)
+            q ∙ ap (λ (x : ℕ). set n (1 + i) (x + k)) (place-is (pre .stands) (pre .index)) ∙ ap (λ (m : List ℕ). set m (1 + i) v) (h .numbers)
             ∙ sym (place-set (s .store .places) (f .places-is) i (pre .index) v (cond (s .store .plus) 1 0) (drop 3 (scalars s)));
         fine =
             fine-beside s f (s .store .plus) (s .store .outputs) (set (s .store .places) i v) (s .next) (s .stack) (f .outputs-is) (f .outputs-ok)

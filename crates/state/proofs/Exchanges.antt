@@ -1,52 +1,25 @@
 -- The working memory after two expressions are exchanged.
-use mathlib.Core.Path.{_≡_, refl, sym, ap, _∙_}
-use mathlib.Core.Bool.{cond}
-use mathlib.Core.List.{List, [], _∷_}
-use Prim.Native.Nat.{ℕ, zero, suc, _+_, _≤_, _<_}
+use mathlib.Core.Path.{_≡_, sym, _∙_}
+use mathlib.Core.List.{List, []}
+use Prim.Native.Nat.{ℕ, _<_}
 use native.Mathlib.Omega.{arith}
 use lib.ListN.{length, getD, set, length-set}
 use Rattle.lists.specs.Lists.{total}
-use Rattle.lists.specs.ListLaws.{total-set}
 use Rattle.language.specs.Limits as limit
-use Rattle.language.specs.Letters.Letter.{E}
-use Rattle.language.specs.Values.{Component, Store, State, chars}
-use Rattle.machine.specs.Arguments.{expr}
-use Rattle.machine.specs.Changes.{with-exprs, put-expr, held, recorded}
+use Rattle.language.specs.Values.{Component, State, chars}
+use Rattle.machine.specs.Changes.{with-exprs, put-expr, held}
 use Rattle.layout.specs.Bounds.{Each, Ok, Fine}
-use Rattle.layout.specs.CellLaws.{each-at}
 use Rattle.layout.specs.Memory.{scalars, strings}
 use Rattle.layout.specs.MemoryLaws.{string-expr}
-use Rattle.gaps.specs.Pool.{abs, string, Holds}
+use Rattle.gaps.specs.Pool.{abs, Holds}
 use Rattle.gaps.proofs.Laws.{after}
 use Rattle.store.specs.Store.{Exchangeable, exchanged}
-use Rattle.state.specs.Working.{state-at, HoldsState, on-store, nth}
+use Rattle.state.specs.Working.{state-at, HoldsState, on-store}
 use Rattle.state.specs.Blocks.{totalled, ExprsExchangeable, exprs-exchanged}
 use Rattle.state.proofs.Strings.{strings-expr}
 use Rattle.state.proofs.Scalars.{scalars-exprs}
-use Rattle.state.proofs.Fineness.{each-set, fine-exprs}
-
--- a sum over two exchanged elements is what it was
-module _ {X : Type 0} (d : X) where
-  getD-exchanged : (xs : List X) (i j : ℕ) → getD (set xs i (getD xs j d)) j d ≡ getD xs j d
-  getD-exchanged [] i j = refl
-  getD-exchanged (x ∷ xs) zero zero = refl
-  getD-exchanged (x ∷ xs) zero (suc j) = refl
-  getD-exchanged (x ∷ xs) (suc i) zero = refl
-  getD-exchanged (x ∷ xs) (suc i) (suc j) = getD-exchanged xs i j
-
-  pub total-exchanged : (f : X → ℕ) (xs : List X) (i j : ℕ) → i < length xs → j < length xs
-      → total f (set (set xs i (getD xs j d)) j (getD xs i d)) ≡ total f xs
-  total-exchanged f xs i j a b =
-      omega (
-        arith,
-        total-set f d xs i (getD xs j d) a,
-        total-set f d (set xs i (getD xs j d)) j (getD xs i d) (rw (length-set xs i (getD xs j d)) b),
-        ap f (getD-exchanged xs i j),
-      )
-
-  pub each-exchanged : (P : X → Type 0) → P d → (xs : List X) (i j : ℕ) → Each P xs → Each P (set (set xs i (getD xs j d)) j (getD xs i d))
-  each-exchanged P z xs i j h =
-      each-set P (set xs i (getD xs j d)) j (getD xs i d) (each-set P xs i (getD xs j d) h (each-at P d z xs h j)) (each-at P d z xs h i)
+use Rattle.state.proofs.Fineness.{fine-exprs}
+use Rattle.state.proofs.Sequences.{total-exchanged, each-exchanged}
 
 module _ (s : State) (f : Fine s) (i j : ℕ) (a : i < limit.expressions) (b : j < limit.expressions) where
   abbrev es : List (List Component)
@@ -60,12 +33,12 @@ module _ (s : State) (f : Fine s) (i j : ℕ) (a : i < limit.expressions) (b : j
 
   held-both : (g : Component → ℕ) → held g (with-exprs both (s .store)) ≡ held g (s .store)
   unfolding held with-exprs
-  held-both g = let q = total-exchanged [] (total g) es i j (rw (f .exprs-is) a) (rw (f .exprs-is) b) in omega (arith, q)
+  held-both g = let q = total-exchanged [] es i j (total g) (rw (f .exprs-is) a) (rw (f .exprs-is) b) in omega (arith, q)
 
   fine-both : Fine (on-store (with-exprs both) s)
   fine-both =
       fine-exprs s f both (length-set first j (getD es i []) ∙ length-set es i (getD es j []) ∙ f .exprs-is)
-      (each-exchanged [] (Each Ok) tt es i j (f .exprs-ok))
+      (each-exchanged [] es i j (Each Ok) tt (f .exprs-ok))
       (rw (held-both (λ x. 1)) (f .components-most)) (rw (held-both (λ x. length (chars x))) (f .chars-most))
 
   strings-both : strings (on-store (with-exprs both) s) ≡ exchanged i j (strings s)

@@ -1,39 +1,34 @@
 -- The working memory after an expression is changed.
-use mathlib.Core.Path.{_≡_, refl, sym, ap, _∙_, subst}
-use mathlib.Core.Bool.{Bool, true, false, cond}
-use mathlib.Core.List.{List, [], _∷_, _++_}
-use Prim.Native.Nat.{ℕ, suc, _+_, _-_, _≤_, _<_}
+use mathlib.Core.Path.{_≡_, refl, sym, ap, _∙_}
+use mathlib.Core.Bool.{Bool, true, false}
+use mathlib.Core.List.{List, [], _++_}
+use Prim.Native.Nat.{ℕ, _+_, _-_, _≤_, _<_}
 use native.Mathlib.Omega.{arith}
-use lib.ListN.{length, getD, take, drop, set, length-set, length-append, length-take, length-drop, take-append-drop}
-use lib.Seq.{drop-append-seam, set-getD, getD-set-same}
+use lib.ListN.{length, getD, take, drop, set, length-set, length-append, length-drop}
 use Rattle.lists.specs.Lists.{total}
 use Rattle.lists.specs.ListLaws.{total-append, total-split, total-at}
 use Rattle.language.specs.Limits as limit
 use Rattle.language.specs.Letters.Letter.{E}
 use Rattle.language.specs.Values.{Component, Store, State, chars}
 use Rattle.machine.specs.Arguments.{expr}
-use Rattle.machine.specs.Changes.{with-exprs, put-expr, into, placed, past, past-by, held, recorded}
-use Rattle.machine.specs.SumLaws.{held-put-expr, recorded-put-expr}
-use Rattle.layout.specs.Bounds.{Each, Ok, Encoded, Fine, WholeComponents}
+use Rattle.machine.specs.Changes.{put-expr, into, placed, past, past-by, held}
+use Rattle.machine.specs.SumLaws.{held-put-expr}
+use Rattle.layout.specs.Bounds.{Each, Ok, Fine}
 use Rattle.layout.specs.CellLaws.{each-append, each-drop}
 use Rattle.layout.specs.ComponentLaws.{components-bytes-append}
 use Rattle.layout.specs.Components.{components-bytes, components-in}
-use Rattle.layout.specs.Memory.{components-held, chars-held, records-held, scalars, strings}
+use Rattle.layout.specs.Memory.{components-held, chars-held, scalars, strings}
 use Rattle.layout.specs.MemoryLaws.{expr-encoded}
 use Rattle.gaps.specs.Gaps.{pushedFront, pushedBack}
 use Rattle.gaps.specs.Pool.{abs, string, Holds}
 use Rattle.store.specs.Store.{Droppable, droppedFront, Pushable}
 use Rattle.state.specs.Working.{state-at, HoldsState, Stands, on-store, nth, reading, writing, char-count}
-use Rattle.state.specs.Blocks.{totalled, Lowerable, Raisable, pushed, FirstParts, PartsDroppable, PartsWritable}
+use Rattle.state.specs.Blocks.{totalled, Lowerable, Raisable, pushed, PartsDroppable, PartsWritable}
 use Rattle.state.proofs.Standing.{number-is, string-is, numbers-long, pushable}
 use Rattle.state.proofs.Strings.{strings-expr}
 use Rattle.state.proofs.Scalars.{scalars-exprs}
-use Rattle.state.proofs.Fineness.{each-set, each-take, fine-exprs}
-
--- the count of a list is its length
-pub total-ones : {X : Type 0} (xs : List X) → total (λ x. 1) xs ≡ length xs
-total-ones [] = refl
-total-ones (x ∷ xs) = omega (arith, total-ones xs)
+use Rattle.state.proofs.Fineness.{fine-exprs}
+use Rattle.state.proofs.Sequences.{total-ones, each-set, rest-bytes, bytes-within}
 
 -- expression i becomes xs, and the totals c and d
 module _ (s : State) (f : Fine s) (i : ℕ) (l : i < limit.expressions) (xs : List Component) (c d : ℕ)
@@ -81,23 +76,6 @@ pub held-expr : (g : Component → ℕ) (s : Store) (i : ℕ) → total g (expr 
 unfolding held
 held-expr g s i = omega (arith, total-at (total g) [] refl (s .exprs) i)
 
--- the bytes of an expression: those of its first components, and the rest
-pub bytes-dropped : {xs : List Component} {k b c : ℕ} → FirstParts xs k b c
-    → drop b (components-bytes xs) ≡ components-bytes (drop k xs)
-bytes-dropped {xs} {k} h =
-    rw (h .bytes-is)
-    (ap (λ (l : List ℕ). drop (length (components-bytes (take k xs))) l) (ap components-bytes (sym (take-append-drop k xs)) ∙ components-bytes-append (take k xs) (drop k xs))
-    ∙ drop-append-seam (components-bytes (take k xs)) (components-bytes (drop k xs)))
-
-pub bytes-within : {xs : List Component} {k b c : ℕ} → FirstParts xs k b c → b ≤ length (components-bytes xs)
-bytes-within {xs} {k} h =
-    omega (
-      arith,
-      h .bytes-is,
-      length-append (components-bytes (take k xs)) (components-bytes (drop k xs)),
-      ap length (ap components-bytes (sym (take-append-drop k xs)) ∙ components-bytes-append (take k xs) (drop k xs)),
-    )
-
 module _ {p e n : List ℕ} {i k b c : ℕ} (pre : PartsDroppable p e n i k b c) where
   abbrev old : List Component
   old = expr (state-at p e n .store) (nth E i)
@@ -115,7 +93,7 @@ module _ {p e n : List ℕ} {i k b c : ℕ} (pre : PartsDroppable p e n i k b c)
       }
 
   parts-within : b ≤ length (string i (abs p e))
-  parts-within = rw (string-is (pre .stands) i, expr-encoded (state-at p e n) (pre .stands .fine) i (pre .index) .is) (bytes-within (pre .first))
+  parts-within = rw (string-is (pre .stands) i, expr-encoded (state-at p e n) (pre .stands .fine) i (pre .index) .is) (bytes-within components-bytes components-bytes-append old k (pre .first .bytes-is))
 
   pub parts-droppable : Droppable p e i b
   parts-droppable = record { fine = pre .stands .holds .fine; index = omega (arith, pre .index); within = parts-within }
@@ -123,7 +101,7 @@ module _ {p e n : List ℕ} {i k b c : ℕ} (pre : PartsDroppable p e n i k b c)
   strings-less : droppedFront i b (abs p e) ≡ set (strings (state-at p e n)) i (components-bytes (drop k old))
   unfolding droppedFront
   strings-less =
-      rw (pre .stands .holds .is, expr-encoded (state-at p e n) (pre .stands .fine) i (pre .index) .is, bytes-dropped (pre .first))
+      rw (pre .stands .holds .is, expr-encoded (state-at p e n) (pre .stands .fine) i (pre .index) .is, rest-bytes components-bytes components-bytes-append old k (pre .first .bytes-is))
 
   pub parts-dropped : {e′ n′ : List ℕ} → Holds p e′ (droppedFront i b (abs p e)) → n′ ≡ totalled (getD n 5 0 - k) (getD n 6 0 - c) n
       → HoldsState p e′ n′ (on-store (past (nth (reading true) i) k) (state-at p e n))

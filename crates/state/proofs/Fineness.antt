@@ -1,26 +1,15 @@
 -- A state whose variables, limits or control are changed within the bounds is fine.
 use mathlib.Core.Path.{_≡_}
 use mathlib.Core.Bool.{Bool}
-use mathlib.Core.List.{List, [], _∷_}
-use Prim.Native.Nat.{ℕ, zero, suc, _≤_, _<_}
-use lib.ListN.{length, take, set}
+use mathlib.Core.List.{List}
+use Prim.Native.Nat.{ℕ, _≤_, _<_}
+use lib.ListN.{length}
 use Rattle.language.specs.Limits as limit
 use Rattle.language.specs.Values.{Component, File, State}
 use Rattle.machine.specs.Changes.{with-exprs, with-files, held, recorded}
 use Rattle.layout.specs.Bounds.{Each, Below, Ok, FileOk, Fine}
 use Rattle.layout.specs.Memory.{components-held, chars-held, records-held}
 use Rattle.state.specs.Working.{on-store}
-
-module _ {X : Type 0} (P : X → Type 0) where
-  pub each-set : (xs : List X) (i : ℕ) (x : X) → Each P xs → P x → Each P (set xs i x)
-  each-set [] i x h k = tt
-  each-set (y ∷ xs) zero x h k = (k, h .1)
-  each-set (y ∷ xs) (suc i) x h k = (h .0, each-set xs i x (h .1) k)
-
-  pub each-take : (n : ℕ) (xs : List X) → Each P xs → Each P (take n xs)
-  each-take zero xs h = tt
-  each-take (suc n) [] h = tt
-  each-take (suc n) (x ∷ xs) h = (h .0, each-take n xs (h .1))
 
 module _ (s : State) (f : Fine s) where
   -- other expressions

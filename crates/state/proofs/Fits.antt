@@ -1,28 +1,29 @@
 -- Question 59: whether a changed store fits is a comparison of totals.
-use mathlib.Core.Path.{_≡_, refl, sym, ap, _∙_}
+use mathlib.Core.Path.{_≡_, refl, _∙_}
 use mathlib.Core.Bool.{Bool, true, false, cond, _&&_}
-use mathlib.Core.List.{List, [], _∷_, _++_, reverse}
+use mathlib.Core.List.{List, [], _∷_, _++_}
 use Prim.Native.Nat.{ℕ, suc, pred, _+_, _≤_, _<_}
 use native.Mathlib.Omega.{arith}
 use lib.Dec.{T, leb}
-use lib.ListN.{length, getD, take, drop, set, length-set, length-append}
+use lib.ListN.{length, length-append}
 use borrow.Author.Tests.{le-leb}
 use Rattle.lists.specs.Lists.{total, all}
-use Rattle.lists.specs.ListLaws.{total-append, total-reverse, total-split, total-set, all-total, all-set, failing}
+use Rattle.lists.specs.ListLaws.{total-append, total-set, all-total, failing}
 use Rattle.language.specs.Limits as limit
-use Rattle.language.specs.Letters.Letter.{E, P}
+use Rattle.language.specs.Letters.Letter.{P}
 use Rattle.language.specs.Program.{Arg}
 use Rattle.language.specs.Values.{Component, Record, File, Store, State, chars, empty-file}
 use Rattle.language.specs.Values.Component.{word, address}
 use Rattle.machine.specs.Arguments.{place, use-by, at, expr, file-of, records}
-use Rattle.machine.specs.Changes.{with-exprs, with-files, with-plus, with-outputs, put, put-expr, put-file, minus-unless, placed, into, front, printed, stamped, stored, past-file, past-by, past, held, recorded, fits}
+use Rattle.machine.specs.Changes.{with-exprs, with-files, with-plus, with-outputs, put, put-expr, minus-unless, placed, into, front, printed, stamped, stored, held, recorded, fits}
 use Rattle.machine.specs.ChangeLaws.{placed-total}
-use Rattle.machine.specs.SumLaws.{held-put-expr, recorded-put-expr, held-put-file, recorded-put-file, outputs-put}
+use Rattle.machine.specs.SumLaws.{held-put-expr, recorded-put-expr, outputs-put}
 use Rattle.layout.specs.Bounds.{Each, Ok, RecordOk, FileOk, Fine}
 use Rattle.layout.specs.Memory.{components-held, chars-held, records-held}
-use Rattle.state.specs.Working.{nth, reading, filing, char-count}
+use Rattle.state.specs.Working.{turned, filed, char-count}
 use Rattle.state.specs.Limited.{short-word, short-outputs, Limited}
-use Rattle.state.proofs.Expressions.{total-ones}
+use Rattle.state.proofs.Sequences.{total-ones, total-same, turned-total}
+use Rattle.state.proofs.Ties.{stored-is}
 
 -- ---- a fine state is within the limits
 
@@ -177,62 +178,41 @@ module _ (a : Arg) (s : Store) (l : pred (place a) < length (s .outputs)) (w : L
 
 -- ---- records written
 
-abbrev filed : Bool → File → List Record → File
-filed b f new =
-    let after-pointer : File = record { before = f .before; after = reverse new ++ f .after } in
-    let before-pointer : File = record { before = f .before ++ new; after = f .after } in
-    cond b after-pointer before-pointer
-
-module _ (g : Record → ℕ) (f : File) (new : List Record) where
-  filed-total : (b : Bool) → total g (records (filed b f new)) ≡ total g (records f) + total g new
-  filed-total true =
-      omega (
-        arith,
-        total-append g (f .before) (reverse new ++ f .after),
-        total-append g (reverse new) (f .after),
-        total-reverse g new,
-        total-append g (f .before) (f .after),
-      )
-  filed-total false =
-      omega (
-        arith,
-        total-append g (f .before ++ new) (f .after),
-        total-append g (f .before) new,
-        total-append g (f .before) (f .after),
-      )
+pub filed-total : (g : Record → ℕ) (b : Bool) (rs : List Record) (f : File) → total g (records (filed b rs f)) ≡ total g (records f) + total g rs
+filed-total g true rs f =
+    omega (arith, total-append g (f .before) (rs ++ f .after), total-append g rs (f .after), total-append g (f .before) (f .after))
+filed-total g false rs f =
+    omega (arith, total-append g (f .before ++ rs) (f .after), total-append g (f .before) rs, total-append g (f .before) (f .after))
 
 stamped-parts : (g : List Component → ℕ) (n : ℕ) (xs : List (List Component)) → total (λ r. g (r .parts)) (stamped n xs) ≡ total g xs
 unfolding stamped
 stamped-parts g n [] = refl
 stamped-parts g n (x ∷ xs) = omega (arith, stamped-parts g (suc n) xs)
 
-total-same : {X : Type 0} (f g : X → ℕ) → ((x : X) → f x ≡ g x) → (xs : List X) → total f xs ≡ total g xs
-total-same f g h [] = refl
-total-same f g h (x ∷ xs) = omega (arith, h x, total-same f g h xs)
-
 module _ (a : Arg) (s : Store) (l : pred (place a) < length (s .files)) (xs : List (List Component)) where
-  pub held-stored : (g : Component → ℕ) → held g (stored a xs s) ≡ held g s + total (total g) xs
-  unfolding held stored with-files
-  held-stored g =
-      let f : Record → ℕ = λ r. total g (r .parts) in
+  abbrev turns : Bool
+  turns = use-by a .reverses
+
+  abbrev new : List Record
+  new = turned turns (stamped (s .last) xs)
+
+  files-then : (g : Record → ℕ)
+      → total (λ f. total g (records f)) (put (s .files) a (filed turns new (file-of s a))) ≡ total (λ f. total g (records f)) (s .files) + total g (stamped (s .last) xs)
+  files-then g =
       omega (
         arith,
-        total-set (λ (k : File). total f (records k)) empty-file (s .files) (pred (place a)) (filed (use-by a .reverses) (file-of s a) (stamped (s .last) xs)) l,
-        filed-total f (file-of s a) (stamped (s .last) xs) (use-by a .reverses),
-        stamped-parts (total g) (s .last) xs,
+        total-set (λ f. total g (records f)) empty-file (s .files) (pred (place a)) (filed turns new (file-of s a)) l,
+        filed-total g turns new (file-of s a),
+        turned-total g turns (stamped (s .last) xs),
       )
+
+  pub held-stored : (g : Component → ℕ) → held g (stored a xs s) ≡ held g s + total (total g) xs
+  unfolding held with-files
+  held-stored g = rw (stored-is a xs s) (omega (arith, files-then (λ r. total g (r .parts)), stamped-parts (total g) (s .last) xs))
 
   pub recorded-stored : records-held (stored a xs s) ≡ records-held s + length xs
-  unfolding recorded stored with-files
-  recorded-stored =
-      let f : Record → ℕ = λ r. 1 in
-      omega (
-        arith,
-        total-set (λ (k : File). total f (records k)) empty-file (s .files) (pred (place a)) (filed (use-by a .reverses) (file-of s a) (stamped (s .last) xs)) l,
-        filed-total f (file-of s a) (stamped (s .last) xs) (use-by a .reverses),
-        stamped-parts (λ x. 1) (s .last) xs,
-        total-ones xs,
-      )
+  unfolding recorded with-files
+  recorded-stored = rw (stored-is a xs s) (omega (arith, files-then (λ r. 1), stamped-parts (λ x. 1) (s .last) xs, total-ones xs))
 
   outputs-stored : short-outputs (stored a xs s) ≡ short-outputs s
   unfolding stored with-files

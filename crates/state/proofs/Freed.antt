@@ -1,10 +1,11 @@
 -- Reading past elements, using, pointing and exchanging keep a store within the limits; the totals after components or records are removed.
-use mathlib.Core.Path.{_≡_, refl, sym, ap, _∙_}
+use mathlib.Core.Path.{_≡_, refl, _∙_}
 use mathlib.Core.Bool.{Bool, true, false, cond, _&&_}
 use mathlib.Core.List.{List, [], _++_}
 use Prim.Native.Nat.{ℕ, pred, _+_, _≤_, _<_}
 use native.Mathlib.Omega.{arith}
-use lib.ListN.{length, getD, take, drop, set, length-set}
+use lib.ListN.{length, getD, take, drop, length-set}
+use lib.Seq.{length-take-le}
 use Rattle.language.specs.Letters.Letter.{E, P}
 use Rattle.language.specs.Letters.{Var}
 use Rattle.language.specs.Letters.Var.{expression, input, output, file}
@@ -16,9 +17,26 @@ use Rattle.machine.specs.Arguments.{place, use-by, expr, file-of, records}
 use Rattle.machine.specs.Changes.{with-exprs, with-files, with-plus, with-places, put, put-expr, put-file, minus-unless, past-file, past-by, past, used-by, used, records-to, pointed, held, recorded}
 use Rattle.machine.specs.Effects.{exchanged}
 use Rattle.machine.specs.SumLaws.{held-put-expr, recorded-put-expr, held-put-file, recorded-put-file}
-use Rattle.layout.specs.Memory.{components-held, chars-held, records-held}
+use Rattle.layout.specs.Memory.{components-held, chars-held}
 use Rattle.state.specs.Limited.{short-word, Limited}
+use Rattle.state.specs.Blocks.{FirstParts}
+use Rattle.state.proofs.Sequences.{total-ones}
 use Rattle.state.specs.Working.{nth, reading, filing}
+
+-- a file without the first k records after its pointer, and with the pointer behind them
+pub removed-total : (g : Record → ℕ) (f : File) (k : ℕ) → total g (f .before ++ drop k (f .after)) + total g (take k (f .after)) ≡ total g (records f)
+removed-total g f k =
+    omega (arith, total-append g (f .before) (drop k (f .after)), total-append g (f .before) (f .after), total-split g k (f .after))
+
+passed-total : (g : Record → ℕ) (f : File) (k : ℕ) → total g ((f .before ++ take k (f .after)) ++ drop k (f .after)) ≡ total g (records f)
+passed-total g f k =
+    omega (
+      arith,
+      total-append g (f .before ++ take k (f .after)) (drop k (f .after)),
+      total-append g (f .before) (take k (f .after)),
+      total-append g (f .before) (f .after),
+      total-split g k (f .after),
+    )
 
 module _ (s : Store) (h : Limited s) where
   -- expressions that count no more
@@ -67,9 +85,10 @@ module _ (s : Store) (h : Limited s) where
       (λ g. omega (arith, c g, total-put (λ f. total g (records f)) empty-file refl (s .files) (pred (place a)) f))
 
   -- H and read places
-  pub limited-plus : (b : Bool) → Limited (with-plus b s)
-  unfolding with-plus held recorded
-  limited-plus b =
+  limited-beside : (b : Bool) (ps : List ℕ)
+      → Limited (record { exprs = s .exprs; files = s .files; plus = b; outputs = s .outputs; places = ps; last = s .last })
+  unfolding held recorded
+  limited-beside b ps =
       record {
         exprs-is = h .exprs-is;
         files-is = h .files-is;
@@ -80,24 +99,14 @@ module _ (s : Store) (h : Limited s) where
         records-most = h .records-most;
         outputs-short = h .outputs-short;
       }
+
+  pub limited-plus : (b : Bool) → Limited (with-plus b s)
+  unfolding with-plus
+  limited-plus b = limited-beside b (s .places)
 
   pub limited-minus-unless : (b : Bool) → Limited (minus-unless b s)
   unfolding minus-unless
   limited-minus-unless b = limited-plus (b && s .plus)
-
-  limited-places : (ps : List ℕ) → Limited (with-places ps s)
-  unfolding with-places held recorded
-  limited-places ps =
-      record {
-        exprs-is = h .exprs-is;
-        files-is = h .files-is;
-        outputs-is = h .outputs-is;
-        components-most = h .components-most;
-        chars-most = h .chars-most;
-        words-short = h .words-short;
-        records-most = h .records-most;
-        outputs-short = h .outputs-short;
-      }
 
   -- ---- reading past, using, pointing, exchanging
 
@@ -109,17 +118,15 @@ module _ (s : Store) (h : Limited s) where
   unfolding past-file
   limited-past-file true a k =
       let f = file-of s a in
-      limited-put-file a (f .before) (drop k (f .after))
-      (λ g. omega (arith, total-append g (f .before) (drop k (f .after)), total-append g (f .before) (f .after), total-split g k (f .after)))
+      limited-put-file a (f .before) (drop k (f .after)) (λ g. omega (arith, removed-total g f k))
   limited-past-file false a k =
       let f = file-of s a in
-      limited-put-file a (f .before ++ take k (f .after)) (drop k (f .after))
-      (λ g. omega (arith, total-append g (f .before ++ take k (f .after)) (drop k (f .after)), total-append g (f .before) (take k (f .after)), total-append g (f .before) (f .after), total-split g k (f .after)))
+      limited-put-file a (f .before ++ take k (f .after)) (drop k (f .after)) (λ g. omega (arith, passed-total g f k))
 
   limited-past-by : (v : Var) (a : Arg) (k : ℕ) → Limited (past-by v a k s)
-  unfolding past-by
+  unfolding past-by with-places
   limited-past-by expression a k = limited-off (use-by a .removes) a k
-  limited-past-by input a k = limited-places (put (s .places) a (getD (s .places) (pred (place a)) 0 + k))
+  limited-past-by input a k = limited-beside (s .plus) (put (s .places) a (getD (s .places) (pred (place a)) 0 + k))
   limited-past-by output a k = h
   limited-past-by file a k = limited-past-file (use-by a .removes) a k
 
@@ -174,37 +181,24 @@ module _ (s : Store) (i k : ℕ) where
     abbrev f : File
     f = file-of s (nth P i)
 
-    split-off : (g : Record → ℕ) → total g (f .before ++ drop k (f .after)) + total g (take k (f .after)) ≡ total g (records f)
-    split-off g = omega (arith, total-append g (f .before) (drop k (f .after)), total-append g (f .before) (f .after), total-split g k (f .after))
-
     pub held-records-off : (g : Component → ℕ)
         → held g (past (nth (filing true) i) k s) + total (λ r. total g (r .parts)) (take k (f .after)) ≡ held g s
     unfolding past past-by past-file
     held-records-off g =
-        omega (arith, held-put-file (nth (filing true) i) s g (f .before) (drop k (f .after)) l, split-off (λ r. total g (r .parts)))
+        omega (arith, held-put-file (nth (filing true) i) s g (f .before) (drop k (f .after)) l, removed-total (λ r. total g (r .parts)) f k)
 
     pub recorded-records-off : (g : Record → ℕ) → recorded g (past (nth (filing true) i) k s) + total g (take k (f .after)) ≡ recorded g s
     unfolding past past-by past-file
-    recorded-records-off g = omega (arith, recorded-put-file (nth (filing true) i) s g (f .before) (drop k (f .after)) l, split-off g)
+    recorded-records-off g = omega (arith, recorded-put-file (nth (filing true) i) s g (f .before) (drop k (f .after)) l, removed-total g f k)
 
     -- the pointer moves past them
-    split-on : (g : Record → ℕ) → total g ((f .before ++ take k (f .after)) ++ drop k (f .after)) ≡ total g (records f)
-    split-on g =
-        omega (
-          arith,
-          total-append g (f .before ++ take k (f .after)) (drop k (f .after)),
-          total-append g (f .before) (take k (f .after)),
-          total-append g (f .before) (f .after),
-          total-split g k (f .after),
-        )
-
     pub held-records-on : (g : Component → ℕ) → held g (past (nth (filing false) i) k s) ≡ held g s
     unfolding past past-by past-file
     held-records-on g =
         omega (
           arith,
           held-put-file (nth (filing false) i) s g (f .before ++ take k (f .after)) (drop k (f .after)) l,
-          split-on (λ r. total g (r .parts)),
+          passed-total (λ r. total g (r .parts)) f k,
         )
 
     pub recorded-records-on : (g : Record → ℕ) → recorded g (past (nth (filing false) i) k s) ≡ recorded g s
@@ -213,5 +207,26 @@ module _ (s : Store) (i k : ℕ) where
         omega (
           arith,
           recorded-put-file (nth (filing false) i) s g (f .before ++ take k (f .after)) (drop k (f .after)) l,
-          split-on g,
+          passed-total g f k,
         )
+
+-- ---- the same by the counts that the functions are told
+
+-- what is removed, and what is left to be held twice
+pub removed-or-left : (b : Bool) (k : ℕ) → cond b k 0 + cond b 0 k ≡ k
+removed-or-left true k = omega arith
+removed-or-left false k = omega arith
+
+module _ (s : Store) (i k : ℕ) (l : i < length (s .exprs)) {y c : ℕ} (h : FirstParts (expr s (nth E i)) k y c) where
+  first-count : total (λ (x : Component). 1) (take k (expr s (nth E i))) ≡ k
+  first-count = total-ones (take k (expr s (nth E i))) ∙ length-take-le k (expr s (nth E i)) (h .most)
+
+  pub components-past : (b : Bool) → components-held (past (nth (reading b) i) k s) + cond b k 0 ≡ components-held s
+  unfolding past past-by
+  components-past true = omega (arith, held-off s i k l (λ x. 1), first-count)
+  components-past false = omega arith
+
+  pub chars-past : (b : Bool) → chars-held (past (nth (reading b) i) k s) + cond b c 0 ≡ chars-held s
+  unfolding past past-by
+  chars-past true = omega (arith, held-off s i k l (λ x. length (chars x)), h .chars-is)
+  chars-past false = omega arith

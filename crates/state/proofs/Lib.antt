@@ -1,4 +1,5 @@
 pub mod Standing
+pub mod Sequences
 pub mod Strings
 pub mod Scalars
 pub mod Fineness

@@ -1,11 +1,11 @@
 -- The working memory holds the state that it reads as: a change of what it holds is that change of the state.
 use mathlib.Core.Path.{_≡_, refl, sym, ap, _∙_, subst}
 use mathlib.Core.Bool.{Bool, true, false, cond}
-use Prim.Native.Nat.{ℕ, _+_, _≤_, _<_}
-use mathlib.Core.List.{List, []}
+use Prim.Native.Nat.{ℕ, zero, suc, _+_, _≤_, _<_}
+use mathlib.Core.List.{List, [], _∷_}
 use native.Mathlib.Omega.{arith}
 use lib.Dec.{eqb}
-use lib.ListN.{length, getD, set}
+use lib.ListN.{length, getD, drop, set}
 use Rattle.language.specs.Limits as limit
 use Rattle.language.specs.Letters.Letter.{E}
 use Rattle.language.specs.Values.{Store, State}
@@ -21,7 +21,7 @@ use Rattle.gaps.proofs.Index.{used-set}
 use Rattle.gaps.specs.Pool.{abs, string}
 use Rattle.store.specs.Store.{Named, Long, Whole, Pushable}
 use Rattle.state.specs.Working.{output-string, state-at, HoldsState, Stands, on-store, nth}
-use Rattle.state.specs.Blocks.{Numbered, Told, ExprNamed, ExprLent, OutputNamed, OutputLong}
+use Rattle.state.specs.Blocks.{Numbered, Told, InputNamed, ReadTo, ExprNamed, ExprLent, OutputNamed, OutputLong}
 
 sign-most : (b : Bool) → cond b 1 0 ≤ limit.addresses
 sign-most true = omega arith
@@ -109,6 +109,23 @@ on-store-twice f g s = refl
 -- what the readers tell
 pub told : {p e n : List ℕ} {k r : ℕ} → Numbered p e n k → r ≡ getD n k 0 → Told p e n k r
 told {k = k} pre q = record { is = q ∙ number-is (pre .stands) k; most = rw q (number-most (pre .stands) k) }
+
+place-of : (m : List ℕ) (h : ℕ) (ps t : List ℕ) → m ≡ (h ∷ getD ps 0 0 ∷ getD ps 1 0 ∷ t) → (k : ℕ) → k < 2 → getD m (1 + k) 0 ≡ getD ps k 0
+place-of m h ps t q zero b = rw q
+place-of m h ps t q (suc zero) b = rw q
+place-of m h ps t q (suc (suc k)) b = absurd (omega arith)
+
+pub place-is : {p e n : List ℕ} {i : ℕ} → Stands p e n → i < limit.inputs → getD n (1 + i) 0 ≡ getD (state-at p e n .store .places) i 0
+place-is {p} {e} {n} {i} h b =
+    let s = state-at p e n in
+    place-of n (cond (s .store .plus) 1 0) (s .store .places) (drop 3 (scalars s)) (h .numbers) i b
+
+pub read-to : {p e n : List ℕ} {i r : ℕ} → InputNamed p e n i → r ≡ getD n (1 + i) 0 → ReadTo p e n i r
+read-to {p} {e} {n} {i} {r} pre q =
+    let h = pre .stands in
+    let s = state-at p e n in
+    let x : r ≡ getD (s .store .places) i 0 = q ∙ place-is h (pre .index) in
+    record { is = x; most = rw x (each-at (λ k. k ≤ limit.input) 0 (omega arith) (s .store .places) (h .fine .places-ok) i) }
 
 pub expr-lent : {p e n : List ℕ} {i : ℕ} {r : List ℕ} → ExprNamed p e n i → Whole p e i r → ExprLent p e n i r
 expr-lent {p} {e} {n} {i} {r} pre w =

@@ -8,7 +8,7 @@ use lib.ListN.{length, set, length-set, length-append, length-map}
 use lib.Seq.{set-append-left}
 use Rattle.lists.specs.Lists.{each}
 use Rattle.language.specs.Limits as limit
-use Rattle.language.specs.Values.{Component, Record, File, State}
+use Rattle.language.specs.Values.{Component, File, State}
 use Rattle.machine.specs.Changes.{with-exprs, with-files, with-outputs}
 use Rattle.layout.specs.Cells.{two}
 use Rattle.layout.specs.CellLaws.{twice, twice-one}

@@ -1,20 +1,20 @@
 -- The specification's changes by an argument are changes by the letters that the functions here are told with: an argument matters only by its
 -- index and its letter's use.
-use mathlib.Core.Path.{_≡_, refl, _∙_}
+use mathlib.Core.Path.{_≡_, refl}
 use mathlib.Core.Bool.{Bool, true, false, cond}
-use mathlib.Core.List.{List, [], _++_, reverse}
+use mathlib.Core.List.{List, _++_, reverse}
 use Prim.Native.Nat.{ℕ, pred, _+_}
-use lib.ListN.{length, getD, drop, set}
+use lib.ListN.{length}
 use Rattle.language.specs.Letters.Letter.{E, I, P, Q}
 use Rattle.language.specs.Letters.{Var, use-of}
 use Rattle.language.specs.Letters.Var.{expression, input, output, file}
 use Rattle.language.specs.Program.{Arg, Program}
-use Rattle.language.specs.Values.{Component, Record, File, Store, Inputs, empty-file}
+use Rattle.language.specs.Values.{Component, Record, File, Store, Inputs}
 use Rattle.machine.specs.Arguments.{place, use-by, expr, file-of, unread, taken, on-parts, on-chars, on-records, reach}
-use Rattle.machine.specs.Changes.{minus-unless, with-exprs, with-files, put-expr, put-file, placed, into, front, printed, stamped, stored, past-file, past-by, past, used-by, used, pointed}
+use Rattle.machine.specs.Changes.{minus-unless, with-files, put, put-expr, put-file, placed, into, front, printed, stamped, stored, past-file, past-by, past, used-by, used, pointed}
 use Rattle.machine.specs.Effects.{moved, exchanged}
 use Rattle.state.specs.Blocks.{exprs-exchanged}
-use Rattle.state.specs.Working.{nth, reading, writing, filing, turned}
+use Rattle.state.specs.Working.{nth, reading, writing, filing, turned, filed}
 
 -- ---- the letters' uses
 
@@ -34,7 +34,7 @@ turns-not : (b : Bool) → use-of (writing b) .reverses ≡ false
 turns-not true = refl
 turns-not false = refl
 
-turns-so : (b : Bool) → use-of (filing b) .reverses ≡ b
+pub turns-so : (b : Bool) → use-of (filing b) .reverses ≡ b
 turns-so true = refl
 turns-so false = refl
 
@@ -42,6 +42,18 @@ past-file-by : (b : Bool) (a : Arg) (i k : ℕ) (s : Store) → pred (place a) �
 unfolding past past-by past-file put-file
 past-file-by true a i k s q = rw q
 past-file-by false a i k s q = rw q
+
+-- the new records to the pointer
+filed-by : (b : Bool) (new : List Record) (f : File)
+    → cond b (record { before = f .before; after = reverse new ++ f .after }) (record { before = f .before ++ new; after = f .after }) ≡ filed b (turned b new) f
+filed-by true new f = refl
+filed-by false new f = refl
+
+pub stored-is : (a : Arg) (xs : List (List Component)) (s : Store)
+    → stored a xs s
+    ≡ with-files (put (s .files) a (filed (use-by a .reverses) (turned (use-by a .reverses) (stamped (s .last) xs)) (file-of s a))) (s .last + length xs) s
+unfolding stored
+stored-is a xs s = rw (filed-by (use-by a .reverses) (stamped (s .last) xs) (file-of s a))
 
 module _ (a : Arg) (i : ℕ) (q : pred (place a) ≡ i) (s : Store) where
   pub expr-as : expr s a ≡ expr s (nth E i)

@@ -1,9 +1,9 @@
 -- What the functions on the working state ask and tell. p, e and n are pool, ends and scalars; scratch and hold are how long the two further
 -- buffers are, one for laying the strings out anew and one for bytes on the way.
 use mathlib.Core.Path.{_≡_}
-use mathlib.Core.Bool.{Bool, true, false, cond}
+use mathlib.Core.Bool.{Bool, true, false}
 use mathlib.Core.List.{List, []}
-use Prim.Native.Nat.{ℕ, suc, _+_, _-_, _*_, _≤_, _<_}
+use Prim.Native.Nat.{ℕ, _+_, _≤_, _<_}
 use lib.ListN.{length, getD, take, set}
 use Rattle.language.specs.Limits as limit
 use Rattle.language.specs.Letters.Letter.{E, I, Q}
@@ -26,6 +26,15 @@ pub record Numbered (p e n : List ℕ) (k : ℕ) : Type 0 where
 pub record Told (p e n : List ℕ) (k r : ℕ) : Type 0 where
   pub is : r ≡ getD (scalars (state-at p e n)) k 0
   pub most : r ≤ limit.addresses
+
+-- how far input i is read
+pub record InputNamed (p e n : List ℕ) (i : ℕ) : Type 0 where
+  pub stands : Stands p e n
+  pub index : i < limit.inputs
+
+pub record ReadTo (p e n : List ℕ) (i r : ℕ) : Type 0 where
+  pub is : r ≡ at 0 (state-at p e n .store .places) (nth I i)
+  pub most : r ≤ limit.input
 
 -- expression i, and its bytes
 pub record ExprNamed (p e n : List ℕ) (i : ℕ) : Type 0 where
@@ -52,11 +61,6 @@ pub record OutputLong (p e n : List ℕ) (i r : ℕ) : Type 0 where
 -- the totals of components and characters c and d
 unfoldable pub totalled : ℕ → ℕ → List ℕ → List ℕ
 totalled c d n = set (set n 5 c) 6 d
-
-pub record Counted (n : List ℕ) : Type 0 where
-  pub long : length n ≡ 8
-  pub components : getD n 5 0 ≤ limit.components
-  pub chars : getD n 6 0 ≤ limit.characters
 
 pub record Raisable (n : List ℕ) (parts chars : ℕ) : Type 0 where
   pub long : length n ≡ 8

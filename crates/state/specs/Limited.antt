@@ -1,7 +1,7 @@
 -- A store with as many variables as the machine has, within its limits.
 use mathlib.Core.Path.{_≡_}
 use mathlib.Core.Bool.{Bool, cond}
-use Prim.Native.Nat.{ℕ, _≤_}
+use Prim.Native.Nat.{_≤_}
 use lib.Dec.{T, leb}
 use lib.ListN.{length}
 use Rattle.language.specs.Limits as limit

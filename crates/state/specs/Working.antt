@@ -1,7 +1,7 @@
 -- The state at work: the pool and the ends of the store, which hold its strings, and its eight scalars in cells of 32 bits.
 use mathlib.Core.Path.{_≡_}
 use mathlib.Core.Bool.{Bool, true, false, cond}
-use mathlib.Core.List.{List, reverse}
+use mathlib.Core.List.{List, _++_, reverse}
 use Prim.Native.Nat.{ℕ, suc, _+_, _*_}
 use lib.ListN.{length}
 use Rattle.lists.specs.Lists.{total}
@@ -9,7 +9,7 @@ use Rattle.language.specs.Letters.{Letter}
 use Rattle.language.specs.Letters.Letter.{A, B, C, D, Z}
 use Rattle.language.specs.Program.{Arg}
 use Rattle.language.specs.Program.Arg.{letter}
-use Rattle.language.specs.Values.{Component, Record, Store, State, chars}
+use Rattle.language.specs.Values.{Component, Record, File, Store, State, chars}
 use Rattle.layout.specs.Bounds.{Fine}
 use Rattle.layout.specs.Memory.{scalars, strings, state-by}
 use Rattle.gaps.specs.Pool.{abs, Holds}
@@ -66,6 +66,11 @@ filing false = D
 -- turned round or not
 abbrev pub turned : {X : Type 0} → Bool → List X → List X
 turned b xs = cond b (reverse xs) xs
+
+-- a file with records right after its pointer, or right before it
+abbrev pub filed : Bool → List Record → File → File
+filed true rs f = record { before = f .before; after = rs ++ f .after }
+filed false rs f = record { before = f .before ++ rs; after = f .after }
 
 -- how many characters components have; how many components and characters records have
 abbrev pub char-count : List Component → ℕ

@@ -9,7 +9,7 @@ ghost use Rattle.layout.specs.Components.{components-in};
 ghost use Rattle.gaps.specs.Pool.{abs, Holds};
 ghost use Rattle.store.specs.Store.{Pushable};
 ghost use Rattle.state.specs.Working.{state-at, HoldsState, Stands, on-store, nth, reading, writing};
-ghost use Rattle.state.specs.Blocks.{Numbered, Told, ExprNamed, ExprLent, OutputNamed, OutputLong, totalled, Raisable, Lowerable, PartsDroppable, PartsWritable, pushed, ExprsExchangeable, exprs-exchanged, Printable, Readable};
+ghost use Rattle.state.specs.Blocks.{Numbered, Told, InputNamed, ReadTo, ExprNamed, ExprLent, OutputNamed, OutputLong, totalled, Raisable, Lowerable, PartsDroppable, PartsWritable, pushed, ExprsExchangeable, exprs-exchanged, Printable, Readable};
 
 // Scalar `k`: H (1 for plus), the read places, the next instruction, the last address, and the totals of components, characters and records.
 pub fn number(pool: &[u8], ends: &[u32], nums: &[u32], k: usize) -> usize
@@ -25,6 +25,14 @@ pub fn is_plus(pool: &[u8], ends: &[u32], nums: &[u32]) -> bool
     ensures { λ r. ⌜ r ≡ state-at (now (pool .entry)) (now (ends .entry)) (now (nums .entry)) .store .plus ⌝ }
 {
     cells::read(nums, 0) == 1
+}
+
+// How many characters of input `i` are read.
+pub fn place(pool: &[u8], ends: &[u32], nums: &[u32], i: usize) -> usize
+    requires { ⌜ InputNamed (now pool) (now ends) (now nums) i ⌝ }
+    ensures { λ r. ⌜ ReadTo (now (pool .entry)) (now (ends .entry)) (now (nums .entry)) i r ⌝ }
+{
+    cells::read(nums, 1 + i)
 }
 
 // The bytes of expression `i`.

@@ -1,41 +1,41 @@
 -- `state::read_past` meets its contract.
 use Rattle.state.proofs.Standing.{numbers-long}
-use Rattle.state.proofs.Beside.{place-is, read-past}
+use Rattle.state.proofs.Beside.{place-then, read-past}
 use borrow.Author.Needs.{needs}
 use native.Mathlib.Omega.{arith}
 use Rattle.state.proofs.read_past.Statement.{statement}
 use Rattle.state.proofs.read_past.Tie as tie
 
 add-read : tie.Need-add-read
-add-read c =
+add-read c = 
     let pre = c .before .before .before .before .pre in
     omega (arith, pre .index)
 
 read-requires : tie.Need-read-requires
-read-requires c κs =
+read-requires c κs = 
     let pre = c .before .before .before .before .pre in
     omega (arith, numbers-long (pre .stands), pre .index)
 
 add-write : tie.Need-add-write
-add-write c =
+add-write c = 
     let pre = c .before .before .before .before .before .before .pre in
     omega (arith, pre .index)
 
 add-write-2 : tie.Need-add-write-2
-add-write-2 c =
+add-write-2 c = 
     let pre = c .before .before .before .before .before .before .pre in
-    omega (arith, c .before .read .ensures, place-is pre, pre .room)
+    omega (arith, c .before .read .ensures, place-then pre)
 
 write-requires : tie.Need-write-requires
-write-requires c κs =
+write-requires c κs = 
     let pre = c .before .before .before .before .before .before .pre in
-    omega (arith, numbers-long (pre .stands), pre .index, c .before .read .ensures, place-is pre, pre .room)
+    omega (arith, numbers-long (pre .stands), pre .index, c .before .read .ensures, place-then pre)
 
 same-length : tie.Need-same-length
 same-length c = search needs
 
 returns : tie.Need-returns
-returns c =
+returns c = 
     let pre = c .before .before .before .before .before .before .before .before .before .pre in
     let read = c .before .before .before .before .read in
     let write = c .before .before .write in
