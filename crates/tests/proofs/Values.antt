@@ -30,7 +30,7 @@ use Rattle.state.specs.Blocks.{ExprNamed, ExprLent}
 use Rattle.matching.specs.Tests.{first-chars, until-chars}
 use Rattle.matching.specs.declared.Test.{Test}
 use Rattle.matching.specs.declared.Test.the-variants.{All, Count, Class, Among}
-use Rattle.matching.proofs.OnChars.{on-class, on-text, on-one, on-any}
+use Rattle.matching.proofs.OnChars.{chars-class, chars-text, chars-one, chars-any}
 use Rattle.instructions.specs.Does.{stop-of}
 use Rattle.components.specs.Parts.{Leading}
 use Rattle.table.specs.Denote.{letter-of, arg-of}
@@ -105,7 +105,7 @@ module _ (s : Store) (g : List ℕ) where
             stop-is = λ ins. rw o refl;
             fitting = λ z. whole-components c;
             parts = λ z ins. ap (λ ys. up-to (λ x. any (same x) ys)) (map-same (take 1 es) ∙ sym (components-of c));
-            chars = λ z ins. on-one ins s B (suc i) ∙ ap (λ ys. until-chars Among (first-chars ys)) (sym (components-of c));
+            chars = λ z ins. chars-one ins s B (suc i) ∙ ap (λ ys. until-chars Among (first-chars ys)) (sym (components-of c));
             negative = λ z. absurd (omega (arith, z));
             most = most;
             inside = inside;
@@ -118,7 +118,7 @@ module _ (s : Store) (g : List ℕ) where
             stop-is = λ ins. refl;
             fitting = λ z. whole-components c;
             parts = λ z ins. ap (λ ys. up-to (λ x. any (same x) ys)) (map-same es ∙ sym (components-of c));
-            chars = λ z ins. on-any ins s T (suc i) ∙ ap (λ ys. until-chars Among (first-chars ys)) (sym (components-of c));
+            chars = λ z ins. chars-any ins s T (suc i) ∙ ap (λ ys. until-chars Among (first-chars ys)) (sym (components-of c));
             negative = λ z. absurd (omega (arith, z));
             most = most;
             inside = inside;
@@ -194,7 +194,7 @@ module _ (s : Store) (g : List ℕ) where
         stop-is = λ ins. refl;
         fitting = λ z. tt;
         parts = λ z ins. refl;
-        chars = λ z ins. on-class ins s m (first-chars (components-in (take 0 g)));
+        chars = λ z ins. chars-class ins s m (first-chars (components-in (take 0 g)));
         negative = λ z. absurd (omega (arith, z));
         most = omega arith;
         inside = omega arith;
@@ -206,7 +206,7 @@ module _ (s : Store) (g : List ℕ) where
         stop-is = λ ins. refl;
         fitting = λ z. whole-components c;
         parts = λ z ins. ap up-to (fun-ext (λ x. or-false (same x (word w)))) ∙ ap (λ ys. up-to (λ x. any (same x) ys)) (sym (components-of c));
-        chars = λ z ins. on-text ins s w ∙ ap (λ ys. until-chars Among ys) (sym (append-nil (take 1 w)) ∙ ap first-chars (sym (components-of c)));
+        chars = λ z ins. chars-text ins s w ∙ ap (λ ys. until-chars Among ys) (sym (append-nil (take 1 w)) ∙ ap first-chars (sym (components-of c)));
         negative = λ z. absurd (omega (arith, z));
         most = most;
         inside = inside;
