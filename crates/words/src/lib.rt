@@ -7,7 +7,6 @@ ghost use Rattle.language.specs.Program.{identifier};
 ghost use Rattle.lists.specs.Lists.{among, sameBytes};
 ghost use Rattle.words.specs.Words.{class-letter, is-class, class-of, capped, beyond, size-of, plus, minus, numeral-of, letter-at, reach, indexed-of};
 ghost use Rattle.words.specs.Keywords.{name-of, operator-number, keyword-by, told, slot, guess, in-a-row, beginnings, guesses, Lent};
-
 use language::Machine;
 
 // The size of what is no number in range.
@@ -28,7 +27,48 @@ const NAMES: [u8; 196] =
     *b"PRZESLIJCZYTAJPISZKOPIUJWSTAWPOBIERZSCHOWAJUSTAWZAMIENUMIESCUSUNSKRESLRWWKMNPPNSRZSKOCZWYKONAJSKOMISKOPLWYMIWYPLSKONASKOINWYNAWYINWROCDODAJODEJMIJMNOZDZIELSLOWOLICZBAZBIJROZBIJSZUKAJOMINCOFNIJSTOP";
 
 const STARTS: [u8; 42] = [
-    0, 8, 14, 18, 24, 29, 36, 43, 48, 54, 60, 64, 70, 72, 74, 76, 78, 80, 82, 87, 94, 99, 104, 108, 112, 117, 122, 126, 130, 134, 139, 146, 150, 155, 160, 166, 170, 176, 182, 186, 192, 196,
+    0,
+    8,
+    14,
+    18,
+    24,
+    29,
+    36,
+    43,
+    48,
+    54,
+    60,
+    64,
+    70,
+    72,
+    74,
+    76,
+    78,
+    80,
+    82,
+    87,
+    94,
+    99,
+    104,
+    108,
+    112,
+    117,
+    122,
+    126,
+    130,
+    134,
+    139,
+    146,
+    150,
+    155,
+    160,
+    166,
+    170,
+    176,
+    182,
+    186,
+    192,
+    196,
 ];
 
 // By slot, '0' plus the number of the operator whose name has it, or '0'.

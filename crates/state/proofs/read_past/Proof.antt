@@ -7,27 +7,27 @@ use Rattle.state.proofs.read_past.Statement.{statement}
 use Rattle.state.proofs.read_past.Tie as tie
 
 add-read : tie.Need-add-read
-add-read c = 
+add-read c =
     let pre = c .before .before .before .before .pre in
     omega (arith, pre .index)
 
 read-requires : tie.Need-read-requires
-read-requires c κs = 
+read-requires c κs =
     let pre = c .before .before .before .before .pre in
     omega (arith, numbers-long (pre .stands), pre .index)
 
 add-write : tie.Need-add-write
-add-write c = 
+add-write c =
     let pre = c .before .before .before .before .before .before .pre in
     omega (arith, pre .index)
 
 add-write-2 : tie.Need-add-write-2
-add-write-2 c = 
+add-write-2 c =
     let pre = c .before .before .before .before .before .before .pre in
     omega (arith, c .before .read .ensures, place-then pre)
 
 write-requires : tie.Need-write-requires
-write-requires c κs = 
+write-requires c κs =
     let pre = c .before .before .before .before .before .before .pre in
     omega (arith, numbers-long (pre .stands), pre .index, c .before .read .ensures, place-then pre)
 
@@ -35,7 +35,7 @@ same-length : tie.Need-same-length
 same-length c = search needs
 
 returns : tie.Need-returns
-returns c = 
+returns c =
     let pre = c .before .before .before .before .before .before .before .before .before .pre in
     let read = c .before .before .before .before .read in
     let write = c .before .before .write in
