@@ -1,10 +1,10 @@
 -- Indexed letters, by the place of the first byte's letter and the size of the digits after it.
-use mathlib.Core.Path.{_≡_, refl, ap, sym, _∙_}
+use mathlib.Core.Path.{_≡_, refl, sym, _∙_}
 use mathlib.Core.Bool.{Bool, true, false, cond, _&&_, _||_, Bool·beq, and-false}
 use mathlib.Core.List.{List, [], _∷_}
-use Prim.Native.Nat.{ℕ, suc, _≤_, _<_}
+use Prim.Native.Nat.{ℕ, _≤_, _<_}
 use native.Mathlib.Omega.{arith}
-use lib.Dec.{T, leb, ltb, eqb, eqb→eq}
+use lib.Dec.{leb, ltb, eqb, eqb→eq}
 use lib.ListN.{length, getD, drop}
 use borrow.Author.Tests.{le-leb, lt-leb, lt-ltb, le-ltb}
 use Rattle.language.specs.Letters.{letter-code, indices, use-of}

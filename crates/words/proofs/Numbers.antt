@@ -1,19 +1,19 @@
 -- Numbers of any count of digits, by sizes that stop growing beyond the range; and indices.
-use mathlib.Core.Path.{_≡_, refl, ap, sym, _∙_, subst}
-use mathlib.Core.Bool.{Bool, true, false, cond, _&&_, and-true, and-false}
+use mathlib.Core.Path.{_≡_, refl, ap, sym}
+use mathlib.Core.Bool.{Bool, true, false, cond, _&&_, and-false}
 use mathlib.Core.List.{List, [], _∷_}
-use Prim.Native.Nat.{ℕ, zero, suc, _+_, _*_, _-_, min, _≤_, _<_}
+use Prim.Native.Nat.{ℕ, zero, suc, _+_, _*_, _-_, _≤_, _<_}
 use native.Mathlib.Decide.{decLe}
 use native.Mathlib.Numerals.{add-one}
 use native.Mathlib.Omega.{arith}
-use lib.Dec.{leb, ltb, eqb}
-use lib.IntN.{ℤ, pos, negℤ, natAbs}
+use lib.Dec.{leb}
+use lib.IntN.{pos, negℤ, natAbs}
 use lib.ListN.{length, getD, take, drop, drop-of-length-le}
 use lib.Seq.{drop-cons, take-all}
-use borrow.Author.Tests.{eq-eqb, ne-eqb, le-leb, lt-leb, lt-ltb, le-ltb}
+use borrow.Author.Tests.{ne-eqb, le-leb, lt-leb}
 use Rattle.characters.specs.Characters.{isDigit}
 use Rattle.language.specs.Limits as limit
-use Rattle.language.specs.Values.{amount, unsigned, numeral, valueOf, in-range}
+use Rattle.language.specs.Values.{amount, unsigned}
 use Rattle.layout.specs.Cells.{code}
 use Rattle.lists.specs.Lists.{all}
 use Rattle.words.specs.Words.{beyond, capped, size-of, plus, minus, numeral-of}

@@ -1,12 +1,12 @@
 -- The operator that a word is: its slot leads to the only one that it can be.
 use mathlib.Core.Path.{_≡_, refl, ap, sym, _∙_, subst}
-use mathlib.Core.Bool.{Bool, true, false, cond, _&&_, _||_}
-use mathlib.Core.List.{List, [], _∷_, map}
-use Prim.Native.Nat.{ℕ, zero, suc, _+_, _-_, _≤_, _<_}
+use mathlib.Core.Bool.{Bool, true, false, _&&_, _||_}
+use mathlib.Core.List.{List, [], _∷_}
+use Prim.Native.Nat.{ℕ, suc, _+_, _-_, _≤_, _<_}
 use native.Mathlib.Omega.{arith}
-use lib.Dec.{T, leb, ltb, eqb, leb→le, eqb→eq}
+use lib.Dec.{T, leb, eqb, leb→le, eqb→eq}
 use lib.ListN.{length, getD, take, drop}
-use borrow.Author.Tests.{lt-ltb, le-ltb}
+use borrow.Author.Tests.{le-ltb}
 use Rattle.layout.specs.CellLaws.{found}
 use Rattle.lists.specs.ListLaws.{T-left, T-right, sameBytes-eq, sameBytes-refl}
 use Rattle.lists.specs.Lists.{any, ahead, sameBytes}
@@ -25,7 +25,7 @@ ordered j =
     && sameBytes (take (getD beginnings (j + 1) 0 - getD beginnings j 0) (drop (getD beginnings j 0) in-a-row)) (name-of j))
 
 guessable : ℕ → Bool
-guessable h = leb 48 (getD guesses h 0) && leb (getD guesses h 0) 89
+guessable h = leb 48 (getD guesses h 0) && leb (getD guesses h 0) 88
 
 -- the part of the row that is the name of operator j + 1
 pub record Name (j : ℕ) (row from : List ℕ) : Type 0 where
@@ -52,17 +52,17 @@ named j h =
 pub name-at : (j : ℕ) {row from : List ℕ} → j < 41 → row ≡ in-a-row → from ≡ beginnings → Name j row from
 name-at j h e g = rw (e, g) (named j h)
 
-pub guess-at : (h : ℕ) {slots : List ℕ} → h < 128 → slots ≡ guesses → (length slots ≡ 128) × (48 ≤ getD slots h 0) × (getD slots h 0 ≤ 89) × (getD slots h 0 ≡ getD guesses h 0)
+pub guess-at : (h : ℕ) {slots : List ℕ} → h < 128 → slots ≡ guesses → (length slots ≡ 128) × (48 ≤ getD slots h 0) × (getD slots h 0 ≤ 88) × (getD slots h 0 ≡ getD guesses h 0)
 unfolding guessable guesses
 guess-at h k e =
     let t = below guessable 128 tt h k in
-    let a = leb→le 48 (getD guesses h 0) (T-left (leb 48 (getD guesses h 0)) (leb (getD guesses h 0) 89) t) in
-    let b = leb→le (getD guesses h 0) 89 (T-right (leb 48 (getD guesses h 0)) (leb (getD guesses h 0) 89) t) in
+    let a = leb→le 48 (getD guesses h 0) (T-left (leb 48 (getD guesses h 0)) (leb (getD guesses h 0) 88) t) in
+    let b = leb→le (getD guesses h 0) 88 (T-right (leb 48 (getD guesses h 0)) (leb (getD guesses h 0) 88) t) in
     rw e (refl, a, b, refl)
 
 -- a name leads to itself, and has its own number
 leads : ℕ → Bool
-leads j = eqb (guess (name-of j)) (suc j) && eqb (operator-number (name-of j)) (suc j)
+leads j = eqb (guess (name-of j)) j && eqb (operator-number (name-of j)) (suc j)
 
 led : (j : ℕ) → j < 41 → T (leads j)
 unfolding leads names guesses slot guess operator-number
@@ -98,32 +98,24 @@ module _ (w : List ℕ) where
   no-operator e = rw (none-ahead (sameBytes w) names e, le-ltb (length names) (length names) (omega arith))
 
   module _ (j : ℕ) (h : j < 41) (e : w ≡ name-of j) where
-    led-here : guess w ≡ suc j
+    led-here : guess w ≡ j
     unfolding leads
-    led-here = rw e (eqb→eq (guess (name-of j)) (suc j) (T-left (eqb (guess (name-of j)) (suc j)) (eqb (operator-number (name-of j)) (suc j)) (led j h)))
+    led-here = rw e (eqb→eq (guess (name-of j)) j (T-left (eqb (guess (name-of j)) j) (eqb (operator-number (name-of j)) (suc j)) (led j h)))
 
     pub its-number : operator-number w ≡ suc j
     unfolding leads
-    its-number = rw e (eqb→eq (operator-number (name-of j)) (suc j) (T-right (eqb (guess (name-of j)) (suc j)) (eqb (operator-number (name-of j)) (suc j)) (led j h)))
+    its-number = rw e (eqb→eq (operator-number (name-of j)) (suc j) (T-right (eqb (guess (name-of j)) j) (eqb (operator-number (name-of j)) (suc j)) (led j h)))
 
-  -- what the guess k leads to
-  module _ (k : ℕ) (some : k ≡ 0 → ⊥) where
-    pub guessed-right : k ≤ 41 → sameBytes w (name-of (k - 1)) ≡ true → k ≡ operator-number w
-    guessed-right h t = omega (arith, its-number (k - 1) (omega arith) (sameBytes-eq w (name-of (k - 1)) (subst T (sym t) tt)))
+  -- what the guess leads to
+  pub guessed-right : (j : ℕ) → j < 41 → sameBytes w (name-of j) ≡ true → j + 1 ≡ operator-number w
+  guessed-right j h t = omega (arith, its-number j h (sameBytes-eq w (name-of j) (subst T (sym t) tt)))
 
-    pub guessed-wrong : guess w ≡ k → sameBytes w (name-of (k - 1)) ≡ false → 0 ≡ operator-number w
-    guessed-wrong e t = go (case w)
-      where
-        go : Case w → 0 ≡ operator-number w
-        go (one i h q) =
-            let s : i ≡ k - 1 = omega (arith, led-here i h q) in
-            let u = subst (λ (j : ℕ). T (sameBytes w (name-of j))) s (subst (λ v. T (sameBytes w v)) q (sameBytes-refl w)) in
-            absurd (subst T t u)
-        go (none n) = sym (no-operator n)
-
-  pub guessed-none : guess w ≡ 0 → 0 ≡ operator-number w
-  guessed-none e = go (case w)
+  pub guessed-wrong : (j : ℕ) → guess w ≡ j → sameBytes w (name-of j) ≡ false → 0 ≡ operator-number w
+  guessed-wrong j e t = go (case w)
     where
       go : Case w → 0 ≡ operator-number w
-      go (one j h q) = absurd (omega (arith, led-here j h q))
+      go (one i h q) =
+          let s : i ≡ j = sym (led-here i h q) ∙ e in
+          let u = subst (λ (k : ℕ). T (sameBytes w (name-of k))) s (subst (λ v. T (sameBytes w v)) q (sameBytes-refl w)) in
+          absurd (subst T t u)
       go (none n) = sym (no-operator n)

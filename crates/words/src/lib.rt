@@ -22,7 +22,7 @@ const INDEKS: [u8; 6] = *b"INDEKS";
 
 const NAZWA: [u8; 5] = *b"NAZWA";
 
-// The names of the operators, one after the other by their numbers; that of operator k goes from START k - 1 to START k.
+// The names of the operators, one after the other by their numbers; that at place j goes from start j to the next.
 const NAMES: [u8; 196] =
     *b"PRZESLIJCZYTAJPISZKOPIUJWSTAWPOBIERZSCHOWAJUSTAWZAMIENUMIESCUSUNSKRESLRWWKMNPPNSRZSKOCZWYKONAJSKOMISKOPLWYMIWYPLSKONASKOINWYNAWYINWROCDODAJODEJMIJMNOZDZIELSLOWOLICZBAZBIJROZBIJSZUKAJOMINCOFNIJSTOP";
 
@@ -71,9 +71,9 @@ const STARTS: [u8; 42] = [
     196,
 ];
 
-// By slot, '0' plus the number of the operator whose name has it, or '0'.
+// By slot, '0' plus the place of the operator whose name has it; where none has it, any.
 const SLOTS: [u8; 128] =
-    *b"0;R000090000000200N0000X0000000000QP8I=000005000C003K600B000000:0M040000O000010V700UE00?00000W00D00G00000F000<J00T@0000>H0A00LSY";
+    *b"3:QHOV48BIPW5<C1QXM=DKRW7>ELS18?FMPO7H<NU3:A4OV4BBI2J5<CAQX6=DK90L>3LS18NFMT20@U6U3TDHO>4;BIPV5<CJQF6=DKRE7>E;I18S?MT29=GN@3:KRX";
 
 // A number as the table of a program has it, its value + 8,388,607; or no number in range.
 pub enum Numeral {
@@ -324,16 +324,16 @@ fn slot(w: &[u8]) -> usize
     (n + 4 * wide(w[0]) + wide(w[n - 2]) + 6 * wide(w[n - 1])) % 128
 }
 
-// The operator that a word's slot leads to: the only one that the word can be.
+// The place of the operator that a word's slot leads to: the only one that the word can be.
 fn guess(w: &[u8], slots: &[u8]) -> u8
     requires { ⌜ now slots ≡ guesses ⌝ }
-    ensures { λ r. ⌜ (r ≡ guess (now (w .entry))) × (r ≤ 41) ⌝ }
+    ensures { λ r. ⌜ (r ≡ guess (now (w .entry))) × (r < 41) ⌝ }
 {
     let h = slot(w);
     slots[h] - b'0'
 }
 
-// Whether a word is the name of operator j + 1.
+// Whether a word is the name of the operator at place j.
 fn is_operator(w: &[u8], j: usize, names: &[u8], starts: &[u8]) -> bool
     requires { ⌜ (j < 41) × (now names ≡ in-a-row) × (now starts ≡ beginnings) ⌝ }
     ensures { λ r. ⌜ r ≡ sameBytes (now (w .entry)) (name-of j) ⌝ }
@@ -347,12 +347,9 @@ fn find(w: &[u8], names: &[u8], starts: &[u8], slots: &[u8]) -> u8
     requires { ⌜ Lent (now names) (now starts) (now slots) ⌝ }
     ensures { λ r. ⌜ r ≡ operator-number (now (w .entry)) ⌝ }
 {
-    let k = guess(w, slots);
-    if k == 0 {
-        return 0;
-    }
-    if is_operator(w, wide(k) - 1, names, starts) {
-        return k;
+    let j = guess(w, slots);
+    if is_operator(w, wide(j), names, starts) {
+        return j + 1;
     }
     0
 }

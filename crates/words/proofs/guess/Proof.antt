@@ -1,8 +1,5 @@
 -- `words::guess` meets its contract.
-use mathlib.Core.Path.{_≡_, _∙_, ap, sym}
-use Prim.Native.Nat.{ℕ, _-_}
-use lib.ListN.{getD}
-use Rattle.words.specs.Keywords.{guesses, guess}
+use Rattle.words.specs.Keywords.{guess}
 use Rattle.words.proofs.Operators.{guess-at}
 use borrow.Author.Needs.{needs}
 use native.Mathlib.Omega.{arith}

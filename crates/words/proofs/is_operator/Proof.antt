@@ -1,6 +1,4 @@
 -- `words::is_operator` meets its contract.
-use mathlib.Core.Path.{_≡_, _∙_, ap}
-use Rattle.lists.specs.Lists.{sameBytes}
 use Rattle.words.proofs.Operators.{name-at}
 use borrow.Author.Needs.{needs}
 use native.Mathlib.Omega.{arith}

@@ -1,5 +1,4 @@
 -- `words::number_of` meets its contract.
-use mathlib.Core.Path.{_∙_, ap}
 use Rattle.words.specs.Words.{size-of, plus, minus}
 use Rattle.words.proofs.Numbers.{rest-of, number-none, number-minus, number-plus, number-bare}
 use borrow.Author.Needs.{needs}

@@ -1,6 +1,6 @@
 -- `words::operator_of` meets its contract: the lent constants are those of the definitions.
 use mathlib.Core.Path.{refl}
-use Rattle.words.specs.Keywords.{in-a-row, beginnings, guesses}
+use Rattle.words.specs.Keywords.{names, in-a-row, beginnings, guesses}
 use borrow.Author.Needs.{needs}
 use Rattle.words.proofs.operator_of.Statement.{statement}
 use Rattle.words.proofs.operator_of.Tie as tie
@@ -15,8 +15,8 @@ slice-aggregate-find-3 : tie.Need-slice-aggregate-find-3
 slice-aggregate-find-3 c = search needs
 
 find-requires : tie.Need-find-requires
-unfolding in-a-row beginnings guesses
-find-requires c κs = record { row = refl; from = refl; by-slot = refl }
+unfolding names in-a-row beginnings guesses
+find-requires c κs = record { row = refl; begins = refl; by-slot = refl }
 
 returns : tie.Need-returns
 returns c = search needs

@@ -1,5 +1,5 @@
 -- `words::size_of` meets its contract. The invariant: the size so far and the digits still to come give the whole.
-use mathlib.Core.Path.{_≡_, refl, sym, _∙_}
+use mathlib.Core.Path.{_≡_, sym, _∙_}
 use Prim.Native.Nat.{_≤_, _-_}
 use lib.ListN.{length, drop}
 use Rattle.words.specs.Words.{beyond, size-of}

@@ -1,0 +1,14 @@
+-- `forms::needed` meets its contract.
+use borrow.Author.Tests.{lt-ltb, le-ltb}
+use borrow.Author.Needs.{needs}
+use Rattle.forms.proofs.needed.Statement.{statement}
+use Rattle.forms.proofs.needed.Tie as tie
+
+returns : tie.Need-returns
+returns c = (rw (lt-ltb _ _ (c .if1 .taken)), search needs)
+
+returns-2 : tie.Need-returns-2
+returns-2 c = (rw (le-ltb _ _ (c .if1 .left)), search needs)
+
+pub needed-spec : {M : Type 1} → statement M
+needed-spec = tie.close (tie.spec returns returns-2)

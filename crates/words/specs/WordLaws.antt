@@ -1,0 +1,21 @@
+-- Keywords of items, and as the code tells them.
+use mathlib.Core.Path.{_≡_, refl, ap}
+use mathlib.Core.Bool.{cond}
+use Rattle.layout.specs.ArgumentLaws.{operator-back}
+use Rattle.syntax.specs.Items.{Item, is}
+use Rattle.syntax.specs.Items.Sort.{word}
+use Rattle.syntax.specs.Statements.{Keyword, keyword-of}
+use Rattle.words.specs.Keywords.{keyword-by, told, meant}
+
+pub keyword-item : (i : Item) → keyword-of i ≡ cond (is word i) (keyword-by (i .chars)) Keyword.unknown
+unfolding keyword-of keyword-by
+keyword-item i = refl
+
+pub meant-told : (k : Keyword) → meant (told k) ≡ k
+meant-told Keyword.none = refl
+meant-told Keyword.unknown = refl
+meant-told Keyword.SEKCJA = refl
+meant-told Keyword.KONS = refl
+meant-told Keyword.KONP = refl
+meant-told (Keyword.switch byName) = refl
+meant-told (Keyword.instr op) = ap Keyword.instr (operator-back op)
