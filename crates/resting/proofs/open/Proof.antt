@@ -1,0 +1,52 @@
+-- `resting::open` meets its contract.
+use borrow.Author.Needs.{needs}
+use native.Mathlib.Omega.{arith}
+use mathlib.Core.Path.{refl}
+use Rattle.resting.proofs.Laws.{unpackable, opened}
+use Rattle.resting.proofs.open.Statement.{statement}
+use Rattle.resting.proofs.open.Tie as tie
+use Rattle.resting.proofs.open.Reads as reads
+use Rattle.resting.proofs.open.Lts as lts
+use Rattle.packing.proofs.unpack.Reads as unpack-reads
+use Rattle.resting.proofs.read_scalars.Reads as read-scalars-reads
+
+read-scalars-requires : tie.Need-read-scalars-requires
+read-scalars-requires c κs = search needs
+
+sub-unpack : tie.Need-sub-unpack
+sub-unpack c = search needs
+
+part-unpack-start : tie.Need-part-unpack-start
+part-unpack-start c = search needs
+
+part-unpack-end : tie.Need-part-unpack-end
+part-unpack-end c = search needs
+
+unpack-requires : tie.Need-unpack-requires
+unpack-requires c κs = unpackable ((c .before .before .before .before .before .before .before .before .before .before .before .pre)) refl
+
+same-length : tie.Need-same-length
+same-length c = search needs
+
+same-length-2 : tie.Need-same-length-2
+same-length-2 c = search needs
+
+same-length-3 : tie.Need-same-length-3
+same-length-3 c = search needs
+
+returns : tie.Need-returns
+returns c = opened ((c .before .before .before .before .before .before .before .before .before .before .before .before .before .before .before .before .pre)) refl (c .before .before .before .before .before .before .before .before .before .before .read-scalars .ensures) (c .before .before .before .before .unpack .ensures)
+
+pub open-spec : {M : Type 1} → statement M
+open-spec =
+    tie.close
+    (tie.spec
+    read-scalars-requires
+    sub-unpack
+    part-unpack-start
+    part-unpack-end
+    unpack-requires
+    same-length
+    same-length-2
+    same-length-3
+    returns)

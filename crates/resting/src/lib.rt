@@ -1,0 +1,70 @@
+// Between the state at rest in lent memory and the state at work: `open` before a run, `close` behind it.
+ghost use mathlib.Core.Path.{_≡_};
+ghost use mathlib.Core.List.{_++_};
+ghost use lib.ListN.{length, take, drop};
+ghost use Rattle.layout.specs.Cells.{three};
+ghost use Rattle.layout.specs.Memory.{state-of, threes-in, written};
+ghost use Rattle.layout.specs.Strings.{string-cells};
+ghost use Rattle.lists.specs.Lists.{each};
+ghost use Rattle.gaps.specs.Pool.{abs};
+ghost use Rattle.state.specs.Working.{state-at, HoldsState};
+ghost use Rattle.resting.specs.Resting.{Openable, Closable, Scalars, Numbers, Strung};
+
+// How many scalars a state has, where its strings begin, and where it ends.
+const SCALARS: usize = 8;
+
+const FIRST_STRING: usize = 24;
+
+const END: usize = 40960;
+
+// Reads the scalars, three cells each.
+fn read_scalars(state: &[u8], nums: &mut [u32])
+    requires { ⌜ Scalars (length (now state)) (length (now nums)) ⌝ }
+    ensures { λ _. ⌜ now (nums .exit) ≡ threes-in 8 (now (state .entry)) ⌝ }
+{
+    let mut k = 0;
+    while k < SCALARS {
+        let n = cells::three_at(state, 3 * k);
+        cells::write(nums, k, n);
+        k += 1;
+    }
+}
+
+// Writes them.
+fn write_scalars(nums: &[u32], state: &mut [u8])
+    requires { ⌜ Numbers (now nums) (length (now state)) ⌝ }
+    ensures { λ _. ⌜ now (state .exit) ≡ each three (now (nums .entry)) ++ drop 24 (now (state .entry)) ⌝ }
+{
+    let mut k = 0;
+    while k < SCALARS {
+        let n = cells::read(nums, k);
+        cells::put_three(state, 3 * k, n);
+        k += 1;
+    }
+}
+
+// Lays a state at rest out for work.
+pub fn open(state: &[u8], pool: &mut [u8], ends: &mut [u32], nums: &mut [u32])
+    requires { ⌜ Openable (now state) (length (now pool)) (length (now ends)) (length (now nums)) ⌝ }
+    ensures { λ _. ⌜ HoldsState (now (pool .exit)) (now (ends .exit)) (now (nums .exit)) (state-of (now (state .entry))) ⌝ }
+{
+    read_scalars(state, nums);
+    packing::unpack(&state[FIRST_STRING..END], pool, ends);
+}
+
+// Writes the strings behind the scalars.
+fn write_strings(pool: &[u8], ends: &[u32], state: &mut [u8])
+    requires { ⌜ Strung (now pool) (now ends) (length (now state)) ⌝ }
+    ensures { λ _. ⌜ now (state .exit) ≡ take 24 (now (state .entry)) ++ (string-cells (abs (now (pool .entry)) (now (ends .entry))) ++ drop 40960 (now (state .entry))) ⌝ }
+{
+    packing::pack(pool, ends, &mut state[FIRST_STRING..END]);
+}
+
+// Writes the state at work to lent memory.
+pub fn close(pool: &[u8], ends: &[u32], nums: &[u32], state: &mut [u8])
+    requires { ⌜ Closable (now pool) (now ends) (now nums) (length (now state)) ⌝ }
+    ensures { λ _. ⌜ now (state .exit) ≡ written (state-at (now (pool .entry)) (now (ends .entry)) (now (nums .entry))) (now (state .entry)) ⌝ }
+{
+    write_scalars(nums, state);
+    write_strings(pool, ends, state);
+}
