@@ -72,6 +72,7 @@ mark-stands s k at e h w t l m o q =
       behind = le-refl e;
       most = m;
       colon-most = omega arith;
+      colon-from = λ q. absurd (q refl);
       some = o;
       ending = q;
       fine = λ n. refl;
@@ -119,6 +120,7 @@ module _ {s : List ℕ} {at e : ℕ} (h : at < length s) (w : Word-end s (at + 1
         behind = le-refl e;
         most = w .most;
         colon-most = omega arith;
+        colon-from = λ q. absurd (q refl);
         some = λ n. omega (arith, w .from);
         ending = λ q. absurd (omega arith);
         fine = λ n. refl;
@@ -168,6 +170,7 @@ module _ {s : List ℕ} {at : ℕ} {x : Scan} (h : at < length s) (w : Scanned s
         behind = omega arith;
         most = closed-in (x .closed) s (x .end) (w .closes) (w .most);
         colon-most = omega arith;
+        colon-from = λ q. absurd (q refl);
         some = λ n. omega (arith, w .from);
         ending = λ q. absurd (omega arith);
         fine = λ n. absurd (n refl);

@@ -46,7 +46,7 @@ module _ {s : List ℕ} {n : ℕ} {g : Gap} (k : Skipped s n g) where
   no-colon = record { colon = 0; next = g .at }
 
   bare : ifAny false (is colon) (read outside n (drop n s)) ≡ false → Colon-after s n no-colon
-  bare e = record { from = k .from; most = k .most; colon-most = omega arith; none = λ z. e; is = from-behind }
+  bare e = record { from = k .from; most = k .most; colon-most = omega arith; colon-from = λ q. absurd (q refl); none = λ z. e; is = from-behind }
 
   pub colon-open : g .open ≡ true → Colon-after s n no-colon
   unfolding items-then found-after
@@ -69,6 +69,7 @@ module _ {s : List ℕ} {n : ℕ} {g : Gap} (k : Skipped s n g) where
         from = omega arith;
         most = omega arith;
         colon-most = omega arith;
+        colon-from = λ q. p;
         none = λ q. absurd (omega arith);
         is = items-found s n ∙ rw (here k e l, o, ne-eqb (g .at) 0 (λ q. omega arith)) refl;
       }
@@ -133,6 +134,7 @@ module _ {s : List ℕ} {n : ℕ} {t : Token} (k : Token-at s n t) where
                 behind = omega (arith, h .behind, c .from);
                 most = c .most;
                 colon-most = c .colon-most;
+                colon-from = λ q. let w = c .colon-from q in omega (arith, h .behind);
                 some = λ e. h .some (λ y. omega arith);
                 ending = λ e. absurd (omega arith);
                 fine = λ e. refl;

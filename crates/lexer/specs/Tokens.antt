@@ -46,6 +46,7 @@ pub record Stands (s : List ℕ) (t : Token) : Type 0 where
   pub behind : t .end ≤ t .next
   pub most : t .next ≤ length s
   pub colon-most : t .colon ≤ t .next
+  pub colon-from : (t .colon ≡ 0 → ⊥) → t .end ≤ t .colon
   pub some : (t .sort ≡ 0 → ⊥) → t .at < t .end
   pub ending : t .sort ≡ 3 → t .next ≡ t .at + 1
   pub fine : (t .sort ≡ 4 → ⊥) → t .good ≡ true
@@ -88,6 +89,7 @@ pub record Colon-after (s : List ℕ) (n : ℕ) (r : After) : Type 0 where
   pub from : n ≤ r .next
   pub most : r .next ≤ length s
   pub colon-most : r .colon ≤ r .next
+  pub colon-from : (r .colon ≡ 0 → ⊥) → n ≤ r .colon
   pub none : r .colon ≡ 0 → ifAny false (is colon) (read outside n (drop n s)) ≡ false
   pub is : read outside n (drop n s) ≡ items-after s r
 

@@ -1,4 +1,4 @@
--- The places of a statement's items ascend: no item stands before the place where the reader began.
+-- The places of a statement's items ascend: no item, and no colon of one, stands before the place where the reader began.
 use mathlib.Core.Path.{_≡_, refl, ap, _∙_}
 use mathlib.Core.Bool.{Bool, true, false, cond, _&&_}
 use mathlib.Core.List.{List, [], _∷_, _++_}
@@ -8,7 +8,7 @@ use native.Mathlib.Omega.{arith}
 use lib.Dec.{T, leb, eqb, leb→le, le→leb}
 use lib.ListN.{getD, take, drop}
 use Rattle.lists.specs.Lists.{all, headOr, ifAny, keep}
-use Rattle.lists.specs.ListLaws.{T-both, all-head, all-tail, all-keep}
+use Rattle.lists.specs.ListLaws.{T-left, T-both, all-head, all-tail, all-keep}
 use Rattle.syntax.specs.Items.{Sort, sort-of, same-sort, Item, is, places, ends-text, Mode, opens, begins, itself, mode-after, items-at, left-over, read, attach, named, parted, statements}
 use Rattle.syntax.specs.Items.Sort.{separator, word, colon, end, text, wrong}
 use Rattle.syntax.specs.Items.Stage.{first-star, inside, last-slash}
@@ -21,7 +21,7 @@ use Rattle.statements.specs.StatementAt.{statement-at, stops, fault-of, 
 use Rattle.statements.specs.StatementLaws.{at-stop, at-item}
 
 abbrev pub stands-from : ℕ → Item → Bool
-stands-from p i = leb p (i .at)
+stands-from p i = leb p (i .at) && all (leb p) (i .colon)
 
 abbrev pub all-from : ℕ → List Item → Bool
 all-from p js = all (stands-from p) js
@@ -37,8 +37,11 @@ began p (in-word at w) = p ≤ at
 began p (in-comment at k) = p ≤ at
 began p (in-text at star cs good) = p ≤ at
 
-one : (p n : ℕ) → p ≤ n → T (leb p n && true)
-one p n h = T-both (leb p n) true (le→leb p n h) tt
+bare : (p n : ℕ) → p ≤ n → T (leb p n && true)
+bare p n h = T-both (leb p n) true (le→leb p n h) tt
+
+one : (p n : ℕ) → p ≤ n → T ((leb p n && true) && true)
+one p n h = T-both (leb p n && true) true (bare p n h) tt
 
 itself-from : (k : Sort) (p n b next : ℕ) → p ≤ n → T (all-from p (itself k n b next))
 unfolding itself
@@ -76,7 +79,7 @@ step-from (in-word at w) p n b next h g = go (same-sort word (sort-of b)) refl
   where
     go : (t : Bool) → same-sort word (sort-of b) ≡ t → Step p (in-word at w) n b next
     go true e = rw e (tt, g)
-    go false e = rw e (T-both (leb p at) (all-from p (itself (sort-of b) n b next)) (le→leb p at g) (itself-from (sort-of b) p n b next h), begins-from (sort-of b) p n b next h)
+    go false e = rw e (T-both (leb p at && true) (all-from p (itself (sort-of b) n b next)) (bare p at g) (itself-from (sort-of b) p n b next h), begins-from (sort-of b) p n b next h)
 step-from (in-comment at first-star) p n b next h g = (tt, g)
 step-from (in-comment at inside) p n b next h g = (tt, g)
 step-from (in-comment at last-slash) p n b next h g = (tt, tt)
@@ -87,7 +90,7 @@ step-from (in-text at star cs good) p n b next h g = go (ends-text star b) refl
     rest false = one p n h
 
     go : (t : Bool) → ends-text star b ≡ t → Step p (in-text at star cs good) n b next
-    go true e = rw e (T-both (leb p at) (all-from p (cond (eqb b 39) [] (Rattle.syntax.specs.Items.a-mark end n ∷ []))) (le→leb p at g) (rest (eqb b 39)), tt)
+    go true e = rw e (T-both (leb p at && true) (all-from p (cond (eqb b 39) [] (Rattle.syntax.specs.Items.a-mark end n ∷ []))) (bare p at g) (rest (eqb b 39)), tt)
     go false e = rw e (tt, g)
 
 left-from : (m : Mode) (p : ℕ) → began p m → T (all-from p (left-over m))
@@ -105,17 +108,25 @@ read-from m p n (b ∷ r) h g =
     let q = step-from m p n b next h g in
     all-joined p (items-at m n b next) (read (mode-after m n b next) (n + 1) r) (q .0) (read-from (mode-after m n b next) p (n + 1) r (omega arith) (q .1))
 
-all-drop : (p k : ℕ) (js : List Item) → T (all-from p js) → T (all-from p (drop 1 js))
-all-drop p k [] h = tt
-all-drop p k (j ∷ js) h = all-tail (stands-from p) j js h
+all-drop : (p : ℕ) (js : List Item) → T (all-from p js) → T (all-from p (drop 1 js))
+all-drop p [] h = tt
+all-drop p (j ∷ js) h = all-tail (stands-from p) j js h
 
-attach-from : (p : ℕ) (i : Item) (js : List Item) → T (leb p (i .at)) → T (all-from p js) → T (all-from p (attach i js))
+-- the place of the colon that a word takes
+colon-place : (p : ℕ) (js : List Item) → T (all-from p js) → T (all (leb p) (places (take 1 js)))
+colon-place p [] h = tt
+colon-place p (j ∷ js) h = T-both (leb p (j .at)) true (T-left (leb p (j .at)) (all (leb p) (j .colon)) (all-head (stands-from p) j js h)) tt
+
+attach-from : (p : ℕ) (i : Item) (js : List Item) → T (stands-from p i) → T (all-from p js) → T (all-from p (attach i js))
 unfolding attach
 attach-from p i js h k = go (is word i && ifAny false (is colon) js)
   where
     go : (t : Bool) → T (all-from p (cond t (record { at = i .at; sort = word; chars = i .chars; good = i .good; colon = places (take 1 js) } ∷ drop 1 js) (i ∷ js)))
-    go true = T-both (leb p (i .at)) (all-from p (drop 1 js)) h (all-drop p 1 js k)
-    go false = T-both (leb p (i .at)) (all-from p js) h k
+    go true =
+        T-both (leb p (i .at) && all (leb p) (places (take 1 js))) (all-from p (drop 1 js))
+        (T-both (leb p (i .at)) (all (leb p) (places (take 1 js))) (T-left (leb p (i .at)) (all (leb p) (i .colon)) h) (colon-place p js k))
+        (all-drop p js k)
+    go false = T-both (stands-from p i) (all-from p js) h k
 
 named-from : (p : ℕ) (js : List Item) → T (all-from p js) → T (all-from p (named js))
 unfolding named
@@ -129,7 +140,7 @@ first-from p (i ∷ js) h = go (is end i) (first-from p js (all-tail (stands-fro
   where
     go : (t : Bool) → T (all-from p (headOr [] (statements js))) → T (all-from p (headOr [] (cond t ([] ∷ statements js) ((i ∷ headOr [] (statements js)) ∷ drop 1 (statements js)))))
     go true k = tt
-    go false k = T-both (leb p (i .at)) (all-from p (headOr [] (statements js))) (all-head (stands-from p) i js h) k
+    go false k = T-both (stands-from p i) (all-from p (headOr [] (statements js))) (all-head (stands-from p) i js h) k
 
 -- all items of the statement at n stand at n or later
 pub statement-from : (s : List ℕ) (n p : ℕ) → p ≤ n → T (all-from p (statement-at s n))
@@ -141,7 +152,7 @@ lowest-first : (p : ℕ) (js : List Item) → T (all-from p js) → lowest p (pl
 unfolding lowest
 lowest-first p [] h = refl
 lowest-first p (j ∷ js) h =
-    let e : min p (j .at) ≡ p = min-eq-left (leb→le p (j .at) (all-head (stands-from p) j js h)) in
+    let e : min p (j .at) ≡ p = min-eq-left (leb→le p (j .at) (T-left (leb p (j .at)) (all (leb p) (j .colon)) (all-head (stands-from p) j js h))) in
     ap (λ (m : ℕ). lowest m (places js)) e ∙ lowest-first p js (all-tail (stands-from p) j js h)
 
 pub first-fault : (q : Item → Bool) (s : List ℕ) (p n : ℕ) → p ≤ n → fault-of (p ∷ faults-at q s n) ≡ At p
