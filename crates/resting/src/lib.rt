@@ -1,4 +1,4 @@
-// Between the state at rest in lent memory and the state at work: `open` before a run, `close` behind it.
+// Between the state at rest in lent memory and the state at work: `unpack_state` before a run, `pack_state` behind it.
 ghost use mathlib.Core.Path.{_≡_};
 ghost use mathlib.Core.List.{_++_};
 ghost use lib.ListN.{length, take, drop};
@@ -44,7 +44,7 @@ fn write_scalars(nums: &[u32], state: &mut [u8])
 }
 
 // Lays a state at rest out for work.
-pub fn open(state: &[u8], pool: &mut [u8], ends: &mut [u32], nums: &mut [u32])
+pub fn unpack_state(state: &[u8], pool: &mut [u8], ends: &mut [u32], nums: &mut [u32])
     requires { ⌜ Openable (now state) (length (now pool)) (length (now ends)) (length (now nums)) ⌝ }
     ensures { λ _. ⌜ HoldsState (now (pool .exit)) (now (ends .exit)) (now (nums .exit)) (state-of (now (state .entry))) ⌝ }
 {
@@ -61,7 +61,7 @@ fn write_strings(pool: &[u8], ends: &[u32], state: &mut [u8])
 }
 
 // Writes the state at work to lent memory.
-pub fn close(pool: &[u8], ends: &[u32], nums: &[u32], state: &mut [u8])
+pub fn pack_state(pool: &[u8], ends: &[u32], nums: &[u32], state: &mut [u8])
     requires { ⌜ Closable (now pool) (now ends) (now nums) (length (now state)) ⌝ }
     ensures { λ _. ⌜ now (state .exit) ≡ written (state-at (now (pool .entry)) (now (ends .entry)) (now (nums .entry))) (now (state .entry)) ⌝ }
 {

@@ -1,12 +1,12 @@
--- `resting::open` meets its contract.
+-- `resting::unpack_state` meets its contract.
 use borrow.Author.Needs.{needs}
 use native.Mathlib.Omega.{arith}
 use mathlib.Core.Path.{refl}
 use Rattle.resting.proofs.Laws.{unpackable, opened}
-use Rattle.resting.proofs.open.Statement.{statement}
-use Rattle.resting.proofs.open.Tie as tie
-use Rattle.resting.proofs.open.Reads as reads
-use Rattle.resting.proofs.open.Lts as lts
+use Rattle.resting.proofs.unpack_state.Statement.{statement}
+use Rattle.resting.proofs.unpack_state.Tie as tie
+use Rattle.resting.proofs.unpack_state.Reads as reads
+use Rattle.resting.proofs.unpack_state.Lts as lts
 use Rattle.packing.proofs.unpack.Reads as unpack-reads
 use Rattle.resting.proofs.read_scalars.Reads as read-scalars-reads
 
@@ -37,8 +37,8 @@ same-length-3 c = search needs
 returns : tie.Need-returns
 returns c = opened ((c .before .before .before .before .before .before .before .before .before .before .before .before .before .before .before .before .pre)) refl (c .before .before .before .before .before .before .before .before .before .before .read-scalars .ensures) (c .before .before .before .before .unpack .ensures)
 
-pub open-spec : {M : Type 1} → statement M
-open-spec =
+pub unpack-state-spec : {M : Type 1} → statement M
+unpack-state-spec =
     tie.close
     (tie.spec
     read-scalars-requires

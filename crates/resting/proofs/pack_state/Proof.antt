@@ -1,11 +1,11 @@
--- `resting::close` meets its contract.
+-- `resting::pack_state` meets its contract.
 use borrow.Author.Needs.{needs}
 use native.Mathlib.Omega.{arith}
 use Rattle.resting.proofs.Laws.{numbers-fit, closed}
-use Rattle.resting.proofs.close.Statement.{statement}
-use Rattle.resting.proofs.close.Tie as tie
-use Rattle.resting.proofs.close.Reads as reads
-use Rattle.resting.proofs.close.Lts as lts
+use Rattle.resting.proofs.pack_state.Statement.{statement}
+use Rattle.resting.proofs.pack_state.Tie as tie
+use Rattle.resting.proofs.pack_state.Reads as reads
+use Rattle.resting.proofs.pack_state.Lts as lts
 use Rattle.resting.proofs.write_scalars.Reads as write-scalars-reads
 use Rattle.resting.proofs.write_strings.Reads as write-strings-reads
 
@@ -21,5 +21,5 @@ same-length c = search needs
 returns : tie.Need-returns
 returns c = closed ((c .before .before .before .before .before .before .before .before .before .before .before .before .pre)) (c .before .before .before .before .before .before .before .before .before .before .before .before .args .state .now) (c .before .before .before .before .before .before .write-scalars .ensures) (c .before .before .write-strings .ensures)
 
-pub close-spec : {M : Type 1} → statement M
-close-spec = tie.close (tie.spec write-scalars-requires write-strings-requires same-length returns)
+pub pack-state-spec : {M : Type 1} → statement M
+pack-state-spec = tie.close (tie.spec write-scalars-requires write-strings-requires same-length returns)
