@@ -336,7 +336,7 @@ pub fn is_end(op: u8) -> bool
     (op == SKOCZ) | (op == WROC) | (op == STOP)
 }
 
-fn letter_bit(place: u8) -> u32
+pub fn letter_bit(place: u8) -> u32
     requires { ⌜ place < 12 ⌝ }
     ensures { λ r. ⌜ (r ≡ 2 ^ place) × (r < 4096) ⌝ }
 {

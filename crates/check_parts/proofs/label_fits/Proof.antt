@@ -1,0 +1,51 @@
+-- `check_parts::label_fits` meets its contract.
+use borrow.Author.Needs.{needs}
+use Rattle.check_parts.specs.Parts.{chars-fit, label-fits}
+use Rattle.check_parts.proofs.label_fits.Statement.{statement}
+use Rattle.check_parts.proofs.label_fits.Tie as tie
+
+mul-read : tie.Need-mul-read
+mul-read c = search needs
+
+add-read : tie.Need-add-read
+add-read c = search needs
+
+read-requires : tie.Need-read-requires
+read-requires c κs = search needs
+
+mul-at : tie.Need-mul-at
+mul-at c = search needs
+
+add-at : tie.Need-add-at
+add-at c = search needs
+
+char-at-requires : tie.Need-char-at-requires
+char-at-requires c κs = search needs
+
+is-letter-requires : tie.Need-is-letter-requires
+is-letter-requires c κs = search needs
+
+chars-fit-requires : tie.Need-chars-fit-requires
+chars-fit-requires c κs = search needs
+
+read-requires-2 : tie.Need-read-requires-2
+read-requires-2 c κs = search needs
+
+returns : tie.Need-returns
+unfolding label-fits
+returns c = rw (c .before .before .is-letter .ensures, c .before .before .before .char-at .ensures, c .before .chars-fit .ensures, c .before .before .before .before .read .ensures .is, c .read2 .ensures .is)
+
+pub label-fits-spec : {M : Type 1} → statement M
+label-fits-spec =
+    tie.close
+    (tie.spec
+    mul-read
+    add-read
+    read-requires
+    mul-at
+    add-at
+    char-at-requires
+    is-letter-requires
+    chars-fit-requires
+    read-requires-2
+    returns)

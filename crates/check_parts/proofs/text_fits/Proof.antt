@@ -1,0 +1,39 @@
+-- `check_parts::text_fits` meets its contract.
+use borrow.Author.Needs.{needs}
+use Rattle.check_parts.specs.Parts.{chars-fit, text-fits}
+use Rattle.check_parts.proofs.text_fits.Statement.{statement}
+use Rattle.check_parts.proofs.text_fits.Tie as tie
+
+mul-read : tie.Need-mul-read
+mul-read c = search needs
+
+add-read : tie.Need-add-read
+add-read c = search needs
+
+read-requires : tie.Need-read-requires
+read-requires c κs = search needs
+
+mul-chars-fit : tie.Need-mul-chars-fit
+mul-chars-fit c = search needs
+
+add-chars-fit : tie.Need-add-chars-fit
+add-chars-fit c = search needs
+
+chars-fit-requires : tie.Need-chars-fit-requires
+chars-fit-requires c κs = search needs
+
+returns : tie.Need-returns
+unfolding text-fits
+returns c = rw (c .chars-fit .ensures, c .before .read .ensures .is)
+
+pub text-fits-spec : {M : Type 1} → statement M
+text-fits-spec =
+    tie.close
+    (tie.spec
+    mul-read
+    add-read
+    read-requires
+    mul-chars-fit
+    add-chars-fit
+    chars-fit-requires
+    returns)
