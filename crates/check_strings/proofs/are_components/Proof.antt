@@ -1,0 +1,63 @@
+-- `check_strings::are_components` meets its contract. The invariant: the cells from `at` on decide.
+use borrow.Author.Needs.{needs}
+use native.Mathlib.Omega.{arith}
+use mathlib.Core.Path.{_≡_, refl, sym, _∙_}
+use Prim.Native.Nat.{_≤_, _-_}
+use lib.ListN.{length, drop}
+use Rattle.check_strings.specs.Sound.{sound-components}
+use Rattle.check_strings.proofs.Sizes.{some-lent, front-fits, components-fault, components-next, components-over}
+use Rattle.check_strings.proofs.are_components.Statement.{statement}
+use Rattle.check_strings.proofs.are_components.Tie as tie
+
+abbrev Inv-loop : tie.InvT-loop
+Inv-loop b last at₀ at = (at ≤ length b) × (sound-components last b ≡ sound-components last (drop at b))
+
+abbrev μ-loop : tie.MeasureT-loop
+μ-loop b last at₀ at = length b - at
+
+loop-holds : tie.Need-loop-holds Inv-loop μ-loop
+loop-holds c = (omega arith, refl)
+
+sub-front-size : tie.Need-sub-front-size Inv-loop μ-loop
+sub-front-size c = search needs
+
+part-front-size-start : tie.Need-part-front-size-start Inv-loop μ-loop
+part-front-size-start c = search needs
+
+part-front-size-end : tie.Need-part-front-size-end Inv-loop μ-loop
+part-front-size-end c = search needs
+
+front-size-requires : tie.Need-front-size-requires Inv-loop μ-loop
+front-size-requires c κs = some-lent (c .before .before .before .before .args .last) (c .before .before .loop .at) (c .before .before .before .before .args .b .now) (c .before .before .before .before .pre) (λ j. omega (arith, c .before .before .before .shared-slice-known .given j)) (c .before .loop-test .taken)
+
+returns : tie.Need-returns Inv-loop μ-loop
+returns c = sym (c .before .before .before .before .loop .inv .1 ∙ components-fault (c .before .before .before .before .before .before .args .last) (c .before .before .before .before .loop .at) (c .before .before .before .before .before .before .args .b .now) (c .before .before .before .before .before .before .pre) (λ j. omega (arith, c .before .before .before .before .before .shared-slice-known .given j)) (c .before .before .before .loop-test .taken) (c .before .front-size .ensures) (c .if1 .taken))
+
+add-at : tie.Need-add-at Inv-loop μ-loop
+add-at c = omega (arith, front-fits (c .before .before .before .before .before .before .args .last) (c .before .before .before .before .loop .at) (c .before .before .before .before .before .before .args .b .now) (c .before .before .before .before .before .before .pre) (λ j. omega (arith, c .before .before .before .before .before .shared-slice-known .given j)) (c .before .before .before .loop-test .taken) (c .before .front-size .ensures))
+
+loop-less : tie.Need-loop-less Inv-loop μ-loop
+loop-less c = omega (arith, front-fits (c .before .before .before .before .before .before .args .last) (c .before .before .before .before .loop .at) (c .before .before .before .before .before .before .args .b .now) (c .before .before .before .before .before .before .pre) (λ j. omega (arith, c .before .before .before .before .before .shared-slice-known .given j)) (c .before .before .before .loop-test .taken) (c .before .front-size .ensures))
+
+loop-again : tie.Need-loop-again Inv-loop μ-loop
+loop-again c = (front-fits (c .before .before .before .before .before .before .args .last) (c .before .before .before .before .loop .at) (c .before .before .before .before .before .before .args .b .now) (c .before .before .before .before .before .before .pre) (λ j. omega (arith, c .before .before .before .before .before .shared-slice-known .given j)) (c .before .before .before .loop-test .taken) (c .before .front-size .ensures), c .before .before .before .before .loop .inv .1 ∙ components-next (c .before .before .before .before .before .before .args .last) (c .before .before .before .before .loop .at) (c .before .before .before .before .before .before .args .b .now) (c .before .before .before .before .before .before .pre) (λ j. omega (arith, c .before .before .before .before .before .shared-slice-known .given j)) (c .before .before .before .loop-test .taken) (c .before .front-size .ensures) (c .if1 .left))
+
+returns-2 : tie.Need-returns-2 Inv-loop μ-loop
+returns-2 c = sym (c .before .loop .inv .1 ∙ components-over (c .before .before .before .args .last) (c .before .before .before .args .b .now) (c .before .loop .at) (c .loop-test .left))
+
+pub are-components-spec : {M : Type 1} → statement M
+are-components-spec =
+    tie.close
+    (tie.spec
+    Inv-loop
+    μ-loop
+    loop-holds
+    sub-front-size
+    part-front-size-start
+    part-front-size-end
+    front-size-requires
+    returns
+    add-at
+    loop-less
+    loop-again
+    returns-2)
