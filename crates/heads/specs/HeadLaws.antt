@@ -1,0 +1,161 @@
+-- The head of a statement item by item.
+use mathlib.Core.Path.{_≡_, refl, ap, sym, _∙_}
+use mathlib.Core.Bool.{Bool, true, false, cond, not, _&&_, _||_}
+use mathlib.Core.List.{List, [], _∷_}
+use Prim.Native.Nat.{ℕ, _+_, _≤_}
+use native.Mathlib.Omega.{arith}
+use lib.Dec.{eqb}
+use lib.ListN.{length}
+use borrow.Author.Tests.{eq-eqb, ne-eqb}
+use Rattle.lists.specs.Lists.{filled, ifAny, keep}
+use Rattle.lexer.specs.declared.Token.{Token}
+use Rattle.lexer.specs.Tokens.{word-of, chars-of, item-of, colon-of, Stands, Next-token}
+use Rattle.lexer.proofs.Finding.{is-sort, word-chars}
+use Rattle.statements.specs.StatementAt.{statement-at, stops}
+use Rattle.statements.specs.StatementLaws.{at-stop, at-item, on}
+use Rattle.syntax.specs.Items.{Item, is}
+use Rattle.syntax.specs.Items.Sort.{word, colon}
+use Rattle.syntax.specs.Statements.{same-keyword, keyword-of, is-operator, front, behind, labels-in, keyword-in}
+use Rattle.syntax.specs.Statements as Spec
+use Rattle.words.specs.declared.Keyword.{Keyword}
+use Rattle.words.specs.Keywords.{keyword-by, told}
+use Rattle.words.specs.WordLaws.{keyword-item}
+use Rattle.heads.specs.Heads.{operates, opens, bars, from-token, Headed}
+
+pub told-opens : (k : Spec.Keyword) → opens (told k) ≡ same-keyword Spec.Keyword.SEKCJA k
+told-opens Spec.Keyword.none = refl
+told-opens Spec.Keyword.unknown = refl
+told-opens Spec.Keyword.SEKCJA = refl
+told-opens Spec.Keyword.KONS = refl
+told-opens Spec.Keyword.KONP = refl
+told-opens (Spec.Keyword.switch byName) = refl
+told-opens (Spec.Keyword.instr op) = refl
+
+pub told-bars : (k : Spec.Keyword) → bars (told k) ≡ (same-keyword Spec.Keyword.unknown k || same-keyword Spec.Keyword.SEKCJA k)
+told-bars Spec.Keyword.none = refl
+told-bars Spec.Keyword.unknown = refl
+told-bars Spec.Keyword.SEKCJA = refl
+told-bars Spec.Keyword.KONS = refl
+told-bars Spec.Keyword.KONP = refl
+told-bars (Spec.Keyword.switch byName) = refl
+told-bars (Spec.Keyword.instr op) = refl
+
+-- a token that is a word, and any other
+module _ {s : List ℕ} {t : Token} (h : Stands s t) where
+  module _ (w : t .sort ≡ 1) where
+    pub word-passes : (f : List ℕ → Bool) → (is word (item-of s t) && f (chars-of s t)) ≡ f (word-of s t)
+    word-passes f = ap (λ b. b && f (chars-of s t)) (is-sort word h ∙ eq-eqb 1 (t .sort) (sym w)) ∙ ap f (word-chars s t w)
+
+    pub word-keyword : keyword-of (item-of s t) ≡ keyword-by (word-of s t)
+    word-keyword =
+        keyword-item (item-of s t)
+        ∙ ap (λ b. cond b (keyword-by (chars-of s t)) Spec.Keyword.unknown) (is-sort word h ∙ eq-eqb 1 (t .sort) (sym w))
+        ∙ ap keyword-by (word-chars s t w)
+
+  module _ (w : t .sort ≡ 1 → ⊥) where
+    pub other-fails : (f : List ℕ → Bool) → (is word (item-of s t) && f (chars-of s t)) ≡ false
+    other-fails f = ap (λ b. b && f (chars-of s t)) (is-sort word h ∙ ne-eqb 1 (t .sort) (λ e. w (sym e)))
+
+    pub other-keyword : keyword-of (item-of s t) ≡ Spec.Keyword.unknown
+    other-keyword =
+        keyword-item (item-of s t)
+        ∙ ap (λ b. cond b (keyword-by (chars-of s t)) Spec.Keyword.unknown) (is-sort word h ∙ ne-eqb 1 (t .sort) (λ e. w (sym e)))
+
+-- an item in front of the operator, and the operator
+module _ (i : Item) (js : List Item) where
+  pub front-goes : is-operator i ≡ false → front (i ∷ js) ≡ i ∷ front js
+  unfolding front
+  front-goes e = rw e refl
+
+  pub behind-goes : is-operator i ≡ false → behind (i ∷ js) ≡ behind js
+  unfolding behind
+  behind-goes e = rw e refl
+
+  pub front-ends : is-operator i ≡ true → front (i ∷ js) ≡ []
+  unfolding front
+  front-ends e = rw e refl
+
+  pub behind-here : is-operator i ≡ true → behind (i ∷ js) ≡ i ∷ js
+  unfolding behind
+  behind-here e = rw e refl
+
+pub filled-colon : (t : Token) → filled (colon-of t) ≡ not (eqb (t .colon) 0)
+filled-colon t = go (eqb (t .colon) 0)
+  where
+    go : (b : Bool) → filled (cond b [] (t .colon ∷ [])) ≡ not b
+    go true = refl
+    go false = refl
+
+pub operator-is : {s : List ℕ} {t : Token} → Stands s t → is-operator (item-of s t) ≡ operates t
+operator-is {s} {t} h = rw (is-sort colon h, filled-colon t) refl
+
+-- Place i is still in front of the operator of the statement at n, behind k of its labels
+pub record Leading (s : List ℕ) (n i k : ℕ) : Type 0 where
+  pub from : n ≤ i
+  pub most : i ≤ length s
+  pub few : k ≤ i
+  pub labels : length (labels-in (statement-at s n)) ≡ k + length (labels-in (statement-at s i))
+  pub operator : behind (statement-at s n) ≡ behind (statement-at s i)
+
+pub leading-first : {s : List ℕ} {n : ℕ} → n ≤ length s → Leading s n n 0
+leading-first h = record { from = omega arith; most = h; few = omega arith; labels = omega arith; operator = refl }
+
+pub one-at-most : (b : Bool) {r : ℕ} → r ≡ cond b 1 0 → r ≤ 1
+one-at-most true e = omega arith
+one-at-most false e = omega arith
+
+one-more : (b : Bool) (i : Item) (js : List Item) → length (cond b (i ∷ js) js) ≡ cond b 1 0 + length js
+one-more true i js = omega arith
+one-more false i js = omega arith
+
+module _ {s : List ℕ} {n i m : ℕ} {t : Token} (l : Leading s n i m) (k : Next-token s i t) where
+  pub no-head : stops (t .sort) ≡ true → Headed s n (record { labels = m; op = t; keyword = Keyword.None })
+  unfolding front behind keyword-in
+  no-head z =
+      let e = at-stop k z in
+      record {
+        from = omega (arith, l .from, k .from);
+        stands = k .stands;
+        labels = omega (arith, l .labels, ap (λ js. length (labels-in js)) e);
+        operator = l .operator ∙ rw (e, z) refl;
+        keyword = rw (l .operator, e) refl;
+      }
+
+  module _ (z : stops (t .sort) ≡ false) where
+    abbrev js : List Item
+    js = statement-at s (t .next)
+
+    pub head-here : operates t ≡ true → {w : Keyword} → w ≡ told (keyword-of (item-of s t)) → Headed s n (record { labels = m; op = t; keyword = w })
+    unfolding keyword-in
+    head-here f {w} g =
+        let e = at-item k z in
+        let o : is-operator (item-of s t) ≡ true = operator-is (k .stands) ∙ f in
+        let b = l .operator ∙ ap behind e ∙ behind-here (item-of s t) js o in
+        record {
+          from = omega (arith, l .from, k .from);
+          stands = k .stands;
+          labels = omega (arith, l .labels, ap (λ xs. length (labels-in xs)) e, ap (λ xs. length (keep (is word) xs)) (front-ends (item-of s t) js o));
+          operator = b ∙ rw z refl;
+          keyword = g ∙ sym (ap (λ xs. told (ifAny Spec.Keyword.none keyword-of xs)) b);
+        }
+
+    pub still-leading : operates t ≡ false → {m′ : ℕ} → m′ ≡ m + cond (eqb 1 (t .sort)) 1 0 → Leading s n (t .next) m′
+    still-leading f {m′} g =
+        let e = at-item k z in
+        let o : is-operator (item-of s t) ≡ false = operator-is (k .stands) ∙ f in
+        let w : length (labels-in (statement-at s i)) ≡ cond (eqb 1 (t .sort)) 1 0 + length (labels-in js) =
+        ap (λ xs. length (labels-in xs)) e
+        ∙ ap (λ xs. length (keep (is word) xs)) (front-goes (item-of s t) js o)
+        ∙ one-more (is word (item-of s t)) (item-of s t) (labels-in js)
+        ∙ ap (λ b. cond b 1 0 + length (labels-in js)) (is-sort word (k .stands)) in
+        record {
+          from = omega (arith, l .from, on k z);
+          most = k .stands .most;
+          few = few-of (eqb 1 (t .sort)) g;
+          labels = omega (arith, l .labels, w, g);
+          operator = l .operator ∙ ap behind e ∙ behind-goes (item-of s t) js o;
+        }
+      where
+        few-of : (b : Bool) → m′ ≡ m + cond b 1 0 → m′ ≤ t .next
+        few-of true q = omega (arith, l .few, on k z)
+        few-of false q = omega (arith, l .few, on k z)
