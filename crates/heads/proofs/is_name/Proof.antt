@@ -1,13 +1,10 @@
+-- `heads::is_name` meets its contract.
+use mathlib.Core.Path.{sym, _∙_}
 use borrow.Author.Needs.{needs}
-use native.Mathlib.Omega.{arith}
-use mathlib.Core.Path.{_≡_, refl, sym, ap, _∙_}
 use Rattle.language.specs.Program.{identifier}
 use Rattle.heads.specs.HeadLaws.{word-passes, other-fails}
 use Rattle.heads.proofs.is_name.Statement.{statement}
 use Rattle.heads.proofs.is_name.Tie as tie
-use Rattle.heads.proofs.is_name.Reads as reads
-use Rattle.heads.proofs.is_name.Lts as lts
-use Rattle.words.proofs.identifier.Reads as identifier-reads
 
 sub-identifier : tie.Need-sub-identifier
 sub-identifier c = search needs

@@ -1,13 +1,10 @@
+-- `heads::is_word` meets its contract.
+use mathlib.Core.Path.{sym, _∙_}
 use borrow.Author.Needs.{needs}
-use native.Mathlib.Omega.{arith}
-use mathlib.Core.Path.{_≡_, refl, sym, ap, _∙_}
 use Rattle.lists.specs.Lists.{sameBytes}
 use Rattle.heads.specs.HeadLaws.{word-passes, other-fails}
 use Rattle.heads.proofs.is_word.Statement.{statement}
 use Rattle.heads.proofs.is_word.Tie as tie
-use Rattle.heads.proofs.is_word.Reads as reads
-use Rattle.heads.proofs.is_word.Lts as lts
-use Rattle.words.proofs.same.Reads as same-reads
 
 sub-same : tie.Need-sub-same
 sub-same c = search needs

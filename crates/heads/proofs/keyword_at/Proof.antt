@@ -1,13 +1,10 @@
+-- `heads::keyword_at` meets its contract.
+use mathlib.Core.Path.{sym, ap, _∙_}
 use borrow.Author.Needs.{needs}
-use native.Mathlib.Omega.{arith}
-use mathlib.Core.Path.{_≡_, refl, sym, ap, _∙_}
 use Rattle.words.specs.Keywords.{told}
 use Rattle.heads.specs.HeadLaws.{word-keyword, other-keyword}
 use Rattle.heads.proofs.keyword_at.Statement.{statement}
 use Rattle.heads.proofs.keyword_at.Tie as tie
-use Rattle.heads.proofs.keyword_at.Reads as reads
-use Rattle.heads.proofs.keyword_at.Lts as lts
-use Rattle.words.proofs.keyword_of.Reads as keyword-of-reads
 
 sub-keyword-of : tie.Need-sub-keyword-of
 sub-keyword-of c = search needs
