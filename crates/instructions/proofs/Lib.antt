@@ -1,2 +1,4 @@
 pub mod Answers
 pub mod Room
+pub mod Storing
+pub mod Written

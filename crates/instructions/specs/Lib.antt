@@ -1,1 +1,2 @@
 pub mod Does
+pub mod Operands
