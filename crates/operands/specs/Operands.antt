@@ -1,0 +1,84 @@
+-- What reading the numbers of an instruction asks and tells, and what putting components in the place of the first makes of a store.
+use mathlib.Core.Path.{_≡_}
+use mathlib.Core.Bool.{Bool, true, false, cond}
+use mathlib.Core.List.{List}
+use Prim.Native.Nat.{ℕ, _+_, _≤_, _<_}
+use lib.Dec.{eqb, ltb}
+use lib.ListN.{length}
+use Rattle.language.specs.Limits as limit
+use Rattle.language.specs.Letters.Letter.{E}
+use Rattle.language.specs.Values.{Component, Store, Inputs, value}
+use Rattle.machine.specs.Arguments.{expr, first, side, needs, _&_}
+use Rattle.machine.specs.Changes.{front, used}
+use Rattle.layout.specs.Bounds.{WholeComponents}
+use Rattle.layout.specs.Cells.{uncode}
+use Rattle.layout.specs.Components.{components-in}
+use Rattle.state.specs.Working.{state-at, Stands, nth, reading, char-count}
+use Rattle.state.specs.Blocks.{FirstParts}
+use Rattle.table.specs.Denote.{arg-of}
+use Rattle.table.specs.Good.{GoodIndex}
+use Rattle.table.specs.declared.Letter.{Letter}
+use Rattle.table.specs.declared.Letter.the-variants.{B}
+use Rattle.table.specs.declared.Argument.{Argument}
+use Rattle.table.specs.declared.Argument.the-variants.{Indexed, Number}
+use Rattle.instructions.specs.Does.{stop-of}
+use Rattle.operands.specs.declared.Operand.{Operand}
+use Rattle.operands.specs.declared.Pair.{Pair}
+
+-- the first of two numbers of questions, 0 being none
+abbrev pub earlier : ℕ → ℕ → ℕ
+earlier a b = cond (eqb a 0) b (cond (eqb b 0) a (cond (ltb a b) a b))
+
+-- ---- what is asked
+
+-- a second argument: B, or a number of the machine where it is one
+pub record OperandReadable (p e n : List ℕ) (a : Argument) : Type 0 where
+  pub stands : Stands p e n
+  pub index : (l : Letter) (k : ℕ) → a ≡ Indexed l k → GoodIndex l k
+  pub form : (l : Letter) (k : ℕ) → a ≡ Indexed l k → l ≡ B
+  pub number : (v : ℕ) → a ≡ Number v → v ≤ 16777214
+
+-- the first component of expression i, and a second argument
+pub record PairReadable (p e n : List ℕ) (i : ℕ) (a : Argument) : Type 0 where
+  pub operand : OperandReadable p e n a
+  pub source : i < limit.expressions
+
+-- ---- what is told: a question answered no (52, 53), or 0 and the value of the number that xs offers
+
+pub record ReadsNumber (xs : List Component) (r : Operand) : Type 0 where
+  pub stop-is : r .stop ≡ stop-of (needs 1 xs)
+  pub is : r .stop ≡ 0 → value (first xs) ≡ uncode (r .code)
+  pub most : r .code ≤ 16777214
+
+-- whatever the table and the inputs are
+abbrev pub ReadsOperand : Store → Argument → Operand → Type 0
+ReadsOperand s a r = (c : List ℕ) (ins : Inputs) → ReadsNumber (side ins s (arg-of c a)) r
+
+pub record ReadsNumbers (xs ys : List Component) (r : Pair) : Type 0 where
+  pub stop-is : r .stop ≡ stop-of (needs 1 xs & needs 1 ys)
+  pub left-is : r .stop ≡ 0 → value (first xs) ≡ uncode (r .left)
+  pub right-is : r .stop ≡ 0 → value (first ys) ≡ uncode (r .right)
+  pub left-most : r .left ≤ 16777214
+  pub right-most : r .right ≤ 16777214
+
+abbrev pub ReadsPair : Store → ℕ → Argument → Pair → Type 0
+ReadsPair s i a r = (removes : Bool) (c : List ℕ) (ins : Inputs) → ReadsNumbers (side ins s (nth (reading removes) i)) (side ins s (arg-of c a)) r
+
+-- ---- the place of the first component
+
+-- ys in front of expression i; A removes what they are made of
+unfoldable pub replaced : Bool → ℕ → List Component → Store → Store
+replaced removes i ys s = front (nth (reading removes) i) ys (used (nth (reading removes) i) s)
+
+-- expression i has a first component of so many bytes and letters, and the components in `new` are so many, of so many characters
+pub record Replaceable (p e n : List ℕ) (scratch i bytes letters : ℕ) (new : List ℕ) (parts chars : ℕ) : Type 0 where
+  pub stands : Stands p e n
+  pub spare : 65536 ≤ scratch
+  pub index : i < limit.expressions
+  pub first : FirstParts (expr (state-at p e n .store) (nth E i)) 1 bytes letters
+  pub letters-most : letters ≤ 65536
+  pub whole : WholeComponents new
+  pub count : parts ≡ length (components-in new)
+  pub chars-is : chars ≡ char-count (components-in new)
+  pub parts-most : parts ≤ 65536
+  pub chars-most : chars ≤ 65536
