@@ -6,8 +6,9 @@ use native.Mathlib.Omega.{arith}
 use lib.ListN.{length, getD, take, drop, set}
 use Rattle.lists.specs.Lists.{each, headOr}
 use Rattle.language.specs.Limits as limit
-use Rattle.language.specs.Values.{State}
-use Rattle.machine.specs.Effects.{Row}
+use Rattle.language.specs.Values.{Store, State}
+use Rattle.machine.specs.Arguments.{Asks}
+use Rattle.machine.specs.Effects.{Go, Row}
 use Rattle.machine.specs.Effects.Go.{on, jump, call, back}
 use Rattle.machine.specs.Steps.{made}
 use Rattle.layout.specs.Bounds.{Below, Fine}
@@ -28,6 +29,11 @@ use Rattle.state.proofs.Fineness.{fine-beside}
 pub made-is : (r : Row) (s : State) → made r s ≡ going (r .2) (on-store (λ t. r .1) s)
 unfolding going on-store
 made-is r s = refl
+
+-- the same with the store changed after the way on is set
+pub made-after : (q : Asks) (f : Store → Store) (g : Go) (s : State) → made (q, f (s .store), g) s ≡ on-store f (going g s)
+unfolding going on-store
+made-after q f g s = refl
 
 -- another next instruction and stack
 module _ (s : State) (f : Fine s) (t : ℕ) (st : List ℕ) (b : t < limit.instructions) (ok : Below limit.instructions st) (most : length st ≤ limit.stack) where

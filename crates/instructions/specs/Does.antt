@@ -76,6 +76,13 @@ pub record Tried (p e n : List ℕ) (told : ℕ) (p′ e′ n′ : List ℕ) (ri
 abbrev pub DoesFor : List ℕ → List ℕ → List ℕ → ℕ → List ℕ → List ℕ → List ℕ → (Program → Inputs → Row) → Type 0
 DoesFor p e n told p′ e′ n′ r = (g : Program) (ins : Inputs) → Does p e n told p′ e′ n′ (r g ins)
 
+abbrev pub GoesFor : List ℕ → List ℕ → List ℕ → ℕ → List ℕ → List ℕ → List ℕ → (Program → Inputs → Row) → Type 0
+GoesFor p e n told p′ e′ n′ r = (g : Program) (ins : Inputs) → Goes p e n told p′ e′ n′ (r g ins)
+
+-- for every inputs: a jump reads its program
+abbrev pub GoesIn : List ℕ → List ℕ → List ℕ → ℕ → List ℕ → List ℕ → List ℕ → (Inputs → Row) → Type 0
+GoesIn p e n told p′ e′ n′ r = (ins : Inputs) → Goes p e n told p′ e′ n′ (r ins)
+
 -- so many components and characters more are asked about
 pub record More (p e n : List ℕ) (parts chars : ℕ) : Type 0 where
   pub stands : Stands p e n
