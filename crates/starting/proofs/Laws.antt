@@ -1,0 +1,15 @@
+-- A 1 and zeros are the cells of the state that start makes.
+use mathlib.Core.Path.{_≡_, refl, sym, ap, _∙_}
+use mathlib.Core.List.{List, [], _∷_, _++_}
+use Prim.Native.Nat.{ℕ, _≤_}
+use native.Mathlib.Omega.{arith}
+use lib.ListN.{length, drop, set, replicate}
+use Rattle.machine.specs.WellFormed.{started}
+use Rattle.layout.specs.Memory.{state-cells, written}
+use Rattle.layout.specs.MemoryLaws.{started-cells}
+use Rattle.cells.specs.Cells.{cleared}
+
+pub started-is : (m : List ℕ) {m₁ : List ℕ} → 40960 ≤ length m → m₁ ≡ cleared m 1 40959 → set m₁ 0 1 ≡ written started m
+unfolding written
+started-is [] h q = absurd (omega (arith, h))
+started-is (x ∷ m) h q = ap (λ (l : List ℕ). set l 0 1) q ∙ ap (λ (l : List ℕ). l ++ drop 40960 (x ∷ m)) (sym started-cells)
