@@ -3,3 +3,4 @@ pub mod Answers
 pub mod QuestionLaws
 pub mod CallLaws
 pub mod AnswerLaws
+pub mod OrderLaws
