@@ -77,7 +77,7 @@ spelled-last u true i j s = refl
 spelled-last u false i j s = refl
 
 -- by a count of 0 nothing is taken
-none-words : (i : ℕ) (s : Store) → all-taken-words (number-of 0) i s ≡ true
+pub none-words : (i : ℕ) (s : Store) → all-taken-words (number-of 0) i s ≡ true
 unfolding all-taken-words
 none-words i s = simp unary-clauses refl
 

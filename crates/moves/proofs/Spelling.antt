@@ -49,10 +49,10 @@ module _ {p e n : List ℕ} {i : ℕ} {x : List ℕ} {u : Until Component} {t : 
   abbrev xs : List Component
   xs = expr s (nth E i)
 
-  part-is : components-in (take (t .bytes) x) ≡ take (t .parts) xs
+  pub part-is : components-in (take (t .bytes) x) ≡ take (t .parts) xs
   part-is = components-of (taken-part h b l k)
 
-  chars-long : length (spelled (take (t .parts) xs)) ≡ t .chars
+  pub chars-long : length (spelled (take (t .parts) xs)) ≡ t .chars
   chars-long = spelled-long (take (t .parts) xs) ∙ sym (took h b l k .chars-is)
 
   pub chars-few : t .chars ≤ 32768

@@ -76,6 +76,12 @@ pub granted : (b : Bool) → not b ≡ false → b ≡ true
 granted true q = refl
 granted false q = sym q
 
+-- two answers
+pub both : (a b : Bool) → (a && b) ≡ true → (a ≡ true) × (b ≡ true)
+both true true q = (refl, refl)
+both true false q = absurd (subst (λ (z : Bool). cond z ⊥ (Unit {0})) q tt)
+both false b q = absurd (subst (λ (z : Bool). cond z ⊥ (Unit {0})) q tt)
+
 -- ---- what is taken
 
 module _ {p e n : List ℕ} {i : ℕ} {x : List ℕ} {u : Until Component} {t : Taken} (h : Stands p e n) (b : i < limit.expressions) (l : ExprLent p e n i x)
@@ -160,11 +166,6 @@ module _ {p e n : List ℕ} {i : ℕ} {x : List ℕ} {u : Until Component} {t : 
     -- where it stays
     abbrev roomy : Bool
     roomy = leb (components-held s + t .parts) limit.components && leb (chars-held s + t .chars) limit.characters
-
-    both : (a b : Bool) → (a && b) ≡ true → (a ≡ true) × (b ≡ true)
-    both true true q = (refl, refl)
-    both true false q = absurd (subst (λ (z : Bool). cond z ⊥ (Unit {0})) q tt)
-    both false b q = absurd (subst (λ (z : Bool). cond z ⊥ (Unit {0})) q tt)
 
     pub writable-copy : roomy ≡ true → PartsWritable p e n scratch j new (t .parts) (t .chars)
     writable-copy r =

@@ -19,7 +19,7 @@ ghost use Rattle.moves.specs.Moves.{Cuttable, Sendable, Spellable, sent,
 use language::Machine;
 
 // Writes components to expression `j`, and turns H minus unless the test was reached.
-fn deliver(
+pub fn deliver(
     pool: &mut [u8],
     ends: &mut [u32],
     nums: &mut [u32],

@@ -1,0 +1,3 @@
+pub mod Words
+pub mod Joined
+pub mod Rows
