@@ -1,0 +1,3 @@
+pub mod Marks
+pub mod Drafting
+pub mod DraftingLaws

@@ -1,0 +1,23 @@
+-- A word of a text by one number: its place and its length.
+use mathlib.Core.Path.{_≡_}
+use mathlib.Core.List.{List}
+use Prim.Native.Nat.{ℕ, _+_, _*_, _/_, _%_, _≤_, _<_}
+use lib.ListN.{length, take, drop}
+use Rattle.syntax.specs.Items.{Item}
+
+-- "Each length within 60?", so the length has a place below 64
+abbrev pub mark-of : ℕ → ℕ → ℕ
+mark-of at len = at * 64 + len
+
+abbrev pub mark : Item → ℕ
+mark i = mark-of (i .at) (length (i .chars))
+
+-- the place, the length and the bytes that a mark names in the text s
+abbrev pub place-by : ℕ → ℕ
+place-by m = m / 64
+
+abbrev pub length-by : ℕ → ℕ
+length-by m = m % 64
+
+unfoldable pub word-by : List ℕ → ℕ → List ℕ
+word-by s m = take (length-by m) (drop (place-by m) s)
