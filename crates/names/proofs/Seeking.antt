@@ -1,0 +1,85 @@
+-- A name among others.
+use mathlib.Core.Path.{_≡_, refl, sym, ap, _∙_}
+use mathlib.Core.Bool.{Bool, true, false, _||_}
+use mathlib.Core.List.{List, [], _∷_, map}
+use Prim.Native.Nat.{ℕ, suc, _+_, _-_, _/_, _%_, _≤_, _<_}
+use native.Mathlib.Numerals.{add-one}
+use native.Mathlib.Omega.{arith}
+use lib.ListN.{length, getD, take, drop, length-take, length-drop}
+use lib.Seq.{length-take-le, getD-take, drop-cons, drop-drop}
+use Rattle.lists.specs.Lists.{any, sameBytes}
+use Rattle.drafts.specs.Marks.{place-by, length-by, word-by}
+use Rattle.lexer.specs.Tokens.{part}
+use Rattle.spelling.proofs.Chars.{other-length}
+use Rattle.names.specs.Names.{Fitting, Sought, names-of}
+
+module _ {s : List ℕ} {m at len : ℕ} (pre : Fitting s m at len) where
+  pub long : length (take len (drop at s)) ≡ len
+  long = simp (length-take, length-drop) (omega (arith, pre .inside))
+
+  mark-long : length (word-by s m) ≡ length-by m
+  unfolding word-by
+  mark-long = simp (length-take, length-drop) (omega (arith, pre .marked))
+
+  pub not-it : (m % 64 ≡ len → ⊥) → false ≡ sameBytes (take len (drop at s)) (word-by s m)
+  not-it h = sym (other-length (take len (drop at s)) (word-by s m) (λ e. h (omega (arith, e, long, mark-long))))
+
+  pub may-be-it : m % 64 ≡ len → {r : Bool} → r ≡ sameBytes (part s at (at + len)) (part s (m / 64) (m / 64 + len))
+      → r ≡ sameBytes (take len (drop at s)) (word-by s m)
+  unfolding word-by
+  may-be-it h q =
+      let a : (at + len) - at ≡ len = omega arith in
+      let b : (m / 64 + len) - m / 64 ≡ m % 64 = omega arith in
+      q ∙ rw (a, b) refl
+
+-- the names from the k-th on
+module _ (q : List ℕ → Bool) (s ms : List ℕ) (count : ℕ) where
+  abbrev pub left : ℕ → Bool
+  left k = any q (names-of s (drop k (take count ms)))
+
+  pub left-next : (k : ℕ) → count ≤ length ms → k < count → left k ≡ (q (word-by s (getD ms k 0)) || left (k + 1))
+  left-next k h l =
+      let n : length (take count ms) ≡ count = length-take-le count ms h in
+      let e : drop k (take count ms) ≡ getD ms k 0 ∷ drop (k + 1) (take count ms) =
+      drop-cons (take count ms) k 0 (omega (arith, n)) ∙ rw (getD-take count ms k 0 l, add-one) refl in
+      ap (λ (l : List ℕ). any q (names-of s l)) e
+
+  pub left-none : (k : ℕ) → count ≤ length ms → count ≤ k → left k ≡ false
+  left-none k h l = ap (λ (l : List ℕ). any q (names-of s l)) (none k (take count ms) (omega (arith, length-take-le count ms h)))
+    where
+      none : (k : ℕ) (l : List ℕ) → length l ≤ k → drop k l ≡ []
+      none k [] h = all-gone k
+        where
+          all-gone : (k : ℕ) → drop {A = ℕ} k [] ≡ []
+          all-gone Prim.Native.Nat.zero = refl
+          all-gone (suc k) = refl
+      none Prim.Native.Nat.zero (x ∷ l) h = absurd (omega (arith, h))
+      none (suc k) (x ∷ l) h = none k l (omega (arith, h))
+
+-- the loop has found none up to the k-th
+pub record Seeking (s ms : List ℕ) (count at len k : ℕ) : Type 0 where
+  pub is : left (sameBytes (take len (drop at s))) s ms count k ≡ any (sameBytes (take len (drop at s))) (names-of s (take count ms))
+
+module _ {s ms : List ℕ} {count at len : ℕ} (pre : Sought s ms count at len) where
+  abbrev q : List ℕ → Bool
+  q = sameBytes (take len (drop at s))
+
+  pub seeking-first : Seeking s ms count at len 0
+  seeking-first = record { is = refl }
+
+  pub fitting : {k m : ℕ} → k < count → m ≡ getD ms k 0 → Fitting s m at len
+  fitting {k} h e = record { marked = rw e (pre .marked k h); inside = pre .inside }
+
+  module _ {k m : ℕ} (u : Seeking s ms count at len k) (h : k < count) (e : m ≡ getD ms k 0) where
+    pub seek-found : {r : Bool} → r ≡ sameBytes (take len (drop at s)) (word-by s m) → r ≡ true → true ≡ any q (names-of s (take count ms))
+    seek-found {r} x y =
+        let z : q (word-by s (getD ms k 0)) ≡ true = rw (← e) (sym x ∙ y) in
+        sym (rw z refl) ∙ sym (left-next q s ms count k (pre .most) h) ∙ u .is
+
+    pub seek-on : {r : Bool} → r ≡ sameBytes (take len (drop at s)) (word-by s m) → r ≡ false → Seeking s ms count at len (k + 1)
+    seek-on {r} x y =
+        let z : q (word-by s (getD ms k 0)) ≡ false = rw (← e) (sym x ∙ y) in
+        record { is = sym (left-next q s ms count k (pre .most) h ∙ rw z refl) ∙ u .is }
+
+  pub seek-none : {k : ℕ} → Seeking s ms count at len k → count ≤ k → false ≡ any q (names-of s (take count ms))
+  seek-none {k} u h = sym (left-none q s ms count k (pre .most) h) ∙ u .is
