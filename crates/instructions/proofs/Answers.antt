@@ -44,6 +44,19 @@ module _ (f : ℕ → Bool) where
       go true k q = k q
       go false k q = absurd (omega (arith, q, ltb→lt 0 n (T-left (ltb 0 n) (all (λ n. ltb 0 n) ns) h)))
 
+-- the first of ns that is answered no, or 0
+abbrev pub decided : (ℕ → Bool) → List ℕ → ℕ
+decided f [] = 0
+decided f (n ∷ ns) = cond (f n) (decided f ns) n
+
+decided-is : (f : ℕ → Bool) (ns : List ℕ) → headOr 0 (no f ns) ≡ decided f ns
+decided-is f [] = refl
+decided-is f (n ∷ ns) = go (f n) (decided-is f ns)
+  where
+    go : (b : Bool) → headOr 0 (no f ns) ≡ decided f ns → headOr 0 (cond b (no f ns) (n ∷ no f ns)) ≡ cond b (decided f ns) n
+    go true h = h
+    go false h = refl
+
 stopped : {X : Type 0} (x : X) (f : ℕ → X) (rs : List ℕ) (k : ℕ) → headOr 0 rs ≡ k → (k ≡ 0 → ⊥) → ifAny x f rs ≡ f k
 stopped x f [] k e z = absurd (z (sym e))
 stopped x f (r ∷ rs) k e z = ap f e
@@ -53,6 +66,9 @@ module _ (r : Row) (s : State) where
   pub answer-no : (before : List ℕ) (k : ℕ) (after : List ℕ) → numbers ≡ before ++ (k ∷ after) → Each (λ n. answered r s n ≡ true) before
       → answered r s k ≡ false → answer-of r s ≡ k
   answer-no before k after e h x = ap (λ (ns : List ℕ). headOr 0 (no (answered r s) ns)) e ∙ first-no (answered r s) before k after h x
+
+  pub answer-decided : answer-of r s ≡ decided (answered r s) numbers
+  answer-decided = decided-is (answered r s) numbers
 
   pub answer-yes : Each (λ n. answered r s n ≡ true) numbers → answer-of r s ≡ 0
   answer-yes h = ap (headOr 0) (none-no (answered r s) numbers h)

@@ -13,7 +13,7 @@ use Rattle.language.specs.Letters.Letter.{E}
 use Rattle.language.specs.Program.Arg.{letter}
 use Rattle.language.specs.Values.{Component, Store, Inputs, value, kind}
 use Rattle.language.specs.Values.Component.{word, address}
-use Rattle.machine.specs.Arguments.{expr, first, side, needs, _&_}
+use Rattle.machine.specs.Arguments.{expr, side, needs, _&_}
 use Rattle.layout.specs.Bounds.{Ok}
 use Rattle.layout.specs.Cells.{code, uncode}
 use Rattle.layout.specs.ComponentLaws.{next-component}
@@ -38,6 +38,11 @@ told k n = record { stop = k; code = n }
 
 -- ---- the first component of an expression
 
+number-is : (x : Component) → kind x ≡ 1 → x ≡ Component.number (value x)
+number-is (word w) k = absurd (omega (arith, k))
+number-is (Component.number z) k = refl
+number-is (address n) k = absurd (omega (arith, k))
+
 module _ (es : List Component) where
   number-none : es ≡ [] → ReadsNumber (take 1 es) (told 52 0)
   number-none e = record { stop-is = rw e refl; is = λ z. absurd (omega (arith, z)); most = omega arith }
@@ -46,7 +51,7 @@ module _ (es : List Component) where
   number-kind {x} o k = record { stop-is = rw (o, ne-eqb (kind x) 1 k) refl; is = λ z. absurd (omega (arith, z)); most = omega arith }
 
   number-some : {x : Component} {xs : List Component} {n : ℕ} → es ≡ x ∷ xs → kind x ≡ 1 → uncode n ≡ value x → n ≤ 16777214 → ReadsNumber (take 1 es) (told 0 n)
-  number-some o k e m = record { stop-is = rw (o, k) refl; is = λ z. rw o (sym e); most = m }
+  number-some {x} o k e m = record { stop-is = rw (o, k) refl; is = λ z. rw o (ap (λ y. y ∷ []) (number-is x k ∙ ap Component.number (sym e))); most = m }
 
 code-most : (x : Component) → Ok x → kind x ≡ 1 → code (value x) ≤ 16777214
 unfolding code

@@ -1,14 +1,14 @@
 -- What reading the numbers of an instruction asks and tells, and what putting components in the place of the first makes of a store.
 use mathlib.Core.Path.{_≡_}
 use mathlib.Core.Bool.{Bool, true, false, cond}
-use mathlib.Core.List.{List}
+use mathlib.Core.List.{List, [], _∷_}
 use Prim.Native.Nat.{ℕ, _+_, _≤_, _<_}
 use lib.Dec.{eqb, ltb}
 use lib.ListN.{length}
 use Rattle.language.specs.Limits as limit
 use Rattle.language.specs.Letters.Letter.{E}
-use Rattle.language.specs.Values.{Component, Store, Inputs, value}
-use Rattle.machine.specs.Arguments.{expr, first, side, needs, _&_}
+use Rattle.language.specs.Values.{Component, Store, Inputs}
+use Rattle.machine.specs.Arguments.{expr, side, needs, _&_}
 use Rattle.machine.specs.Changes.{front, used}
 use Rattle.layout.specs.Bounds.{WholeComponents}
 use Rattle.layout.specs.Cells.{uncode}
@@ -43,11 +43,11 @@ pub record PairReadable (p e n : List ℕ) (i : ℕ) (a : Argument) : Type 0 whe
   pub operand : OperandReadable p e n a
   pub source : i < limit.expressions
 
--- ---- what is told: a question answered no (52, 53), or 0 and the value of the number that xs offers
+-- ---- what is told: a question answered no (52, 53), or 0 and the number that xs is
 
 pub record ReadsNumber (xs : List Component) (r : Operand) : Type 0 where
   pub stop-is : r .stop ≡ stop-of (needs 1 xs)
-  pub is : r .stop ≡ 0 → value (first xs) ≡ uncode (r .code)
+  pub is : r .stop ≡ 0 → xs ≡ Component.number (uncode (r .code)) ∷ []
   pub most : r .code ≤ 16777214
 
 -- whatever the table and the inputs are
@@ -56,8 +56,8 @@ ReadsOperand s a r = (c : List ℕ) (ins : Inputs) → ReadsNumber (side ins s (
 
 pub record ReadsNumbers (xs ys : List Component) (r : Pair) : Type 0 where
   pub stop-is : r .stop ≡ stop-of (needs 1 xs & needs 1 ys)
-  pub left-is : r .stop ≡ 0 → value (first xs) ≡ uncode (r .left)
-  pub right-is : r .stop ≡ 0 → value (first ys) ≡ uncode (r .right)
+  pub left-is : r .stop ≡ 0 → xs ≡ Component.number (uncode (r .left)) ∷ []
+  pub right-is : r .stop ≡ 0 → ys ≡ Component.number (uncode (r .right)) ∷ []
   pub left-most : r .left ≤ 16777214
   pub right-most : r .right ≤ 16777214
 

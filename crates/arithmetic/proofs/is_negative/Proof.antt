@@ -1,0 +1,14 @@
+-- `arithmetic::is_negative` meets its contract.
+use borrow.Author.Needs.{needs}
+use native.Mathlib.Omega.{arith}
+use Rattle.arithmetic.proofs.Numbers.{negative-is}
+use Rattle.arithmetic.proofs.is_negative.Statement.{statement}
+use Rattle.arithmetic.proofs.is_negative.Tie as tie
+use Rattle.arithmetic.proofs.is_negative.Reads as reads
+use Rattle.arithmetic.proofs.is_negative.Lts as lts
+
+returns : tie.Need-returns
+returns c = negative-is (c .args .code)
+
+pub is-negative-spec : {M : Type 1} → statement M
+is-negative-spec = tie.close (tie.spec returns)

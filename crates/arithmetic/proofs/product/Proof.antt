@@ -1,0 +1,63 @@
+-- `arithmetic::product` meets its contract.
+use borrow.Author.Needs.{needs}
+use native.Mathlib.Omega.{arith}
+use mathlib.Core.Path.{ap, _∙_}
+use mathlib.Core.Bool.{Bool}
+use Rattle.layout.specs.Cells.{uncode}
+use Rattle.arithmetic.specs.Arithmetic.{negative, differ}
+use Rattle.arithmetic.proofs.Numbers.{product-most, product-right}
+use Rattle.arithmetic.proofs.product.Statement.{statement}
+use Rattle.arithmetic.proofs.product.Tie as tie
+use Rattle.arithmetic.proofs.product.Reads as reads
+use Rattle.arithmetic.proofs.product.Lts as lts
+use Rattle.arithmetic.proofs.differs.Reads as differs-reads
+use Rattle.arithmetic.proofs.is_negative.Reads as is-negative-reads
+use Rattle.arithmetic.proofs.size.Reads as size-reads
+use Rattle.arithmetic.proofs.with_sign.Reads as with-sign-reads
+
+is-negative-requires : tie.Need-is-negative-requires
+is-negative-requires c κs = search needs
+
+is-negative-requires-2 : tie.Need-is-negative-requires-2
+is-negative-requires-2 c κs = search needs
+
+differs-requires : tie.Need-differs-requires
+differs-requires c κs = search needs
+
+size-requires : tie.Need-size-requires
+size-requires c κs =
+    let preᶜ = c .before .before .before .pre in
+    preᶜ .left
+
+size-requires-2 : tie.Need-size-requires-2
+size-requires-2 c κs =
+    let preᶜ = c .before .before .before .before .pre in
+    preᶜ .right
+
+mul-with-sign : tie.Need-mul-with-sign
+mul-with-sign c = record { fits = product-most (c .before .size .ensures .most) (c .size2 .ensures .most) }
+
+with-sign-requires : tie.Need-with-sign-requires
+with-sign-requires c κs = search needs
+
+returns : tie.Need-returns
+returns c =
+    let sizeᶜ = c .before .before .size in
+    let differsᶜ = c .before .before .before .differs in
+    let is-negative2ᶜ = c .before .before .before .before .is-negative2 in
+    let is-negativeᶜ = c .before .before .before .before .before .is-negative in
+    let argsᶜ = c .before .before .before .before .before .before .args in
+    product-right (sizeᶜ .ensures) (c .before .size2 .ensures) (differsᶜ .ensures ∙ ap (λ (t : Bool). differ t (is-negative2ᶜ .result)) (is-negativeᶜ .ensures) ∙ ap (λ (t : Bool). differ (negative (uncode (argsᶜ .a))) t) (is-negative2ᶜ .ensures)) (c .with-sign .ensures)
+
+pub product-spec : {M : Type 1} → statement M
+product-spec =
+    tie.close
+    (tie.spec
+    is-negative-requires
+    is-negative-requires-2
+    differs-requires
+    size-requires
+    size-requires-2
+    mul-with-sign
+    with-sign-requires
+    returns)
