@@ -79,7 +79,10 @@ DoesFor p e n told p′ e′ n′ r = (g : Program) (ins : Inputs) → Does p e 
 abbrev pub GoesFor : List ℕ → List ℕ → List ℕ → ℕ → List ℕ → List ℕ → List ℕ → (Program → Inputs → Row) → Type 0
 GoesFor p e n told p′ e′ n′ r = (g : Program) (ins : Inputs) → Goes p e n told p′ e′ n′ (r g ins)
 
--- for every inputs: a jump reads its program
+-- for every inputs: an instruction with a label or a switch reads its program
+abbrev pub DoesIn : List ℕ → List ℕ → List ℕ → ℕ → List ℕ → List ℕ → List ℕ → (Inputs → Row) → Type 0
+DoesIn p e n told p′ e′ n′ r = (ins : Inputs) → Does p e n told p′ e′ n′ (r ins)
+
 abbrev pub GoesIn : List ℕ → List ℕ → List ℕ → ℕ → List ℕ → List ℕ → List ℕ → (Inputs → Row) → Type 0
 GoesIn p e n told p′ e′ n′ r = (ins : Inputs) → Goes p e n told p′ e′ n′ (r ins)
 
