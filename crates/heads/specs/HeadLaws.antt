@@ -20,7 +20,7 @@ use Rattle.syntax.specs.Statements as Spec
 use Rattle.words.specs.declared.Keyword.{Keyword}
 use Rattle.words.specs.Keywords.{keyword-by, told}
 use Rattle.words.specs.WordLaws.{keyword-item}
-use Rattle.heads.specs.Heads.{operates, opens, bars, from-token, Headed}
+use Rattle.heads.specs.Heads.{operates, opens, bars, Headed}
 
 pub told-opens : (k : Spec.Keyword) → opens (told k) ≡ same-keyword Spec.Keyword.SEKCJA k
 told-opens Spec.Keyword.none = refl

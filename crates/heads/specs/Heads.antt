@@ -18,7 +18,7 @@ use Rattle.heads.specs.declared.Head.{Head}
 abbrev pub operates : Token → Bool
 operates t = not (eqb 2 (t .sort) || not (eqb (t .colon) 0))
 
--- SEKCJA; and what is no operator of a statement after the first
+-- SEKCJA; what is no operator of a statement after the first; INDEKS or NAZWA
 abbrev pub opens : Keyword → Bool
 opens Keyword.None = false
 opens Keyword.Unknown = false
@@ -36,6 +36,15 @@ bars Keyword.Kons = false
 bars Keyword.Konp = false
 bars (Keyword.Switch byName) = false
 bars (Keyword.Instr n) = false
+
+abbrev pub is-switch : Keyword → Bool
+is-switch Keyword.None = false
+is-switch Keyword.Unknown = false
+is-switch Keyword.Sekcja = false
+is-switch Keyword.Kons = false
+is-switch Keyword.Konp = false
+is-switch (Keyword.Switch byName) = true
+is-switch (Keyword.Instr n) = false
 
 -- what stands from the token t on, where t is what ends a statement or an item of it
 abbrev pub from-token : List ℕ → Token → List Item

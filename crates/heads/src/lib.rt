@@ -10,7 +10,7 @@ ghost use Rattle.syntax.specs.Items.{is};
 ghost use Rattle.syntax.specs.Items.Sort.{word};
 ghost use Rattle.syntax.specs.Statements.{keyword-of, is-name};
 ghost use Rattle.words.specs.Keywords.{told};
-ghost use Rattle.heads.specs.Heads.{opens, bars, Headed};
+ghost use Rattle.heads.specs.Heads.{opens, bars, is-switch, Headed};
 use lexer::Token;
 use lexer::next_item;
 use scanner::COLON;
@@ -97,6 +97,21 @@ pub fn bars(k: Keyword) -> bool
         Keyword::Kons => false,
         Keyword::Konp => false,
         Keyword::Switch(_) => false,
+        Keyword::Instr(_) => false,
+    }
+}
+
+// INDEKS or NAZWA.
+pub fn is_switch(k: Keyword) -> bool
+    ensures { λ r. ⌜ r ≡ is-switch k ⌝ }
+{
+    match k {
+        Keyword::None => false,
+        Keyword::Unknown => false,
+        Keyword::Sekcja => false,
+        Keyword::Kons => false,
+        Keyword::Konp => false,
+        Keyword::Switch(_) => true,
         Keyword::Instr(_) => false,
     }
 }

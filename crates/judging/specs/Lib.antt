@@ -1,0 +1,4 @@
+pub mod Judging
+pub mod FaultLaws
+pub mod NameLaws
+pub mod LabelLaws
