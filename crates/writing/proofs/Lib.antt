@@ -1,0 +1,5 @@
+pub mod Parts
+pub mod Growing
+pub mod Adding
+pub mod Switching
+pub mod Held
