@@ -1,7 +1,9 @@
 // Writing a program table, "a table of 8,192 numbers of 32 bits", cell by cell while a text is read: the only code that writes its cells.
 // docs/LAYOUT.md has their places. A text or a number goes to its table before the argument that refers to it.
+ghost use mathlib.Core.Bool.{cond};
 ghost use lib.ListN.{length};
-ghost use Rattle.writing.specs.Writing.{with-text, with-number, with-label, with-instr, label-of, Changes, Writes, Room, WordRoom, LabelRoom, InstrRoom, IsNumber, IsInstr};
+ghost use Rattle.cells.specs.Cells.{Number};
+ghost use Rattle.writing.specs.Writing.{with-text, with-number, with-label, with-instr, with-switch, with-entry, with-argument, with-entry-label, label-of, Changes, Writes, Room, WordRoom, LabelRoom, InstrRoom, SwitchRoom, EntryRoom, ArgumentAt, EntryAt, IsNumber, IsInstr, IsEntry, IsArg};
 
 const FIRST_INSTRUCTION: usize = 8;
 
@@ -9,7 +11,20 @@ const FIRST_LABEL: usize = 2056;
 
 const FIRST_TEXT: usize = 4104;
 
+const FIRST_SWITCH: usize = 6152;
+
+const FIRST_ENTRY: usize = 6184;
+
 const FIRST_NUMBER: usize = 6312;
+
+fn bit(b: bool) -> usize
+    ensures { λ r. ⌜ Number (cond b 1 0) 2 r ⌝ }
+{
+    if b {
+        return 1;
+    }
+    0
+}
 
 // Adds a text.
 pub fn put_text(table: &mut [u32], word: &[u8])
@@ -49,4 +64,45 @@ pub fn put_instruction(table: &mut [u32], op: usize, line: usize, x: usize, y: u
     let n = table::instructions(table);
     blocks::put_four(table, FIRST_INSTRUCTION + 4 * n, op + 64 * line, x, y, z);
     cells::write(table, 0, n + 1);
+}
+
+// Adds a switch, NAZWA or INDEKS, that has no entries yet.
+pub fn put_switch(table: &mut [u32], named: bool)
+    requires { ⌜ SwitchRoom (now table) ⌝ }
+    ensures { λ _. ⌜ Changes (with-switch named) (now (table .entry)) (now (table .exit)) ⌝ }
+{
+    let n = table::switches(table);
+    let first = table::entries(table);
+    cells::write(table, FIRST_SWITCH + n, bit(named) + 512 * first);
+    cells::write(table, 2, n + 1);
+}
+
+// Adds an entry to the last switch: its label, and the reference of its text.
+pub fn put_entry(table: &mut [u32], label: usize, text: usize)
+    requires { ⌜ EntryRoom (now table) label text ⌝ }
+    ensures { λ _. ⌜ Writes (IsEntry label text) with-entry (now (table .entry)) (now (table .exit)) ⌝ }
+{
+    let n = table::entries(table);
+    let last = FIRST_SWITCH - 1 + table::switches(table);
+    let switch = cells::read(table, last);
+    cells::write(table, FIRST_ENTRY + n, label + 128 * text);
+    cells::write(table, last, switch + 2);
+    cells::write(table, 3, n + 1);
+}
+
+// Puts `cell` in the place of argument `j`, counted from 0, of instruction `k`.
+pub fn set_argument(table: &mut [u32], k: usize, j: usize, cell: usize)
+    requires { ⌜ ArgumentAt (now table) k j cell ⌝ }
+    ensures { λ _. ⌜ Writes (IsArg cell) (with-argument k j) (now (table .entry)) (now (table .exit)) ⌝ }
+{
+    cells::write(table, FIRST_INSTRUCTION + 4 * k + 1 + j, cell);
+}
+
+// Gives entry `k` of all entries the label `label`.
+pub fn set_entry_label(table: &mut [u32], k: usize, label: usize)
+    requires { ⌜ EntryAt (now table) k label ⌝ }
+    ensures { λ _. ⌜ Changes (with-entry-label k label) (now (table .entry)) (now (table .exit)) ⌝ }
+{
+    let text = table::entry_text(table, k);
+    cells::write(table, FIRST_ENTRY + k, label + 128 * text);
 }
