@@ -50,7 +50,7 @@ bytes-total (x ∷ xs) = simp length-append (omega (arith, bytes-total xs))
 bytes-turned : (b : Bool) (xs : List Component) → length (components-bytes (turned b xs)) ≡ length (components-bytes xs)
 bytes-turned b xs = bytes-total (turned b xs) ∙ turned-total (λ x. length (component-bytes x)) b xs ∙ sym (bytes-total xs)
 
-parts-least : (xs : List Component) → length xs ≤ length (components-bytes xs)
+pub parts-least : (xs : List Component) → length xs ≤ length (components-bytes xs)
 unfolding components-bytes
 parts-least [] = omega arith
 parts-least (x ∷ xs) = simp length-append (omega (arith, component-some x, parts-least xs))
