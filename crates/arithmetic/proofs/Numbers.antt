@@ -11,17 +11,10 @@ use borrow.Author.Tests.{leb-true, leb-false, ltb-true, ltb-false, le-leb, lt-le
 use Rattle.language.specs.Values.{in-range}
 use Rattle.layout.specs.Cells.{code, uncode}
 use Rattle.layout.specs.CellLaws.{uncode-code}
+use Rattle.operands.proofs.Codes.{low, high, code-most, code-back, abs-most}
 use Rattle.arithmetic.specs.Arithmetic.{result, negative, differ, signed, Coded, Size, Codes}
 
 -- ---- codes
-
-pub low : (n : ℕ) → n < 8388607 → uncode n ≡ negsuc (8388606 - n)
-unfolding uncode
-low n h = rw (lt-leb 8388607 n h) refl
-
-pub high : (n : ℕ) → 8388607 ≤ n → uncode n ≡ pos (n - 8388607)
-unfolding uncode
-high n h = rw (le-leb 8388607 n h) refl
 
 pub negative-is : (n : ℕ) → ltb n 8388607 ≡ negative (uncode n)
 negative-is n = go (ltb n 8388607) refl
@@ -35,11 +28,6 @@ size-low n h = record { is = rw (low n h) (omega arith); most = omega arith }
 
 pub size-high : (n : ℕ) → 8388607 ≤ n → n ≤ 16777214 → Size n (n - 8388607)
 size-high n h k = record { is = rw (high n h) refl; most = omega arith }
-
-pub code-most : (z : ℤ) → natAbs z ≤ 8388607 → code z ≤ 16777214
-unfolding code
-code-most (pos k) l = omega (arith, l)
-code-most (negsuc k) l = omega (arith, l)
 
 -- ---- results
 
@@ -104,22 +92,6 @@ offset-sum (pos m) (pos n) p q h k = omega (arith, p, q)
 offset-sum (pos m) (negsuc n) {a} {b} p q h k = offset-sub m (suc n) (a + b) (omega (arith, p, q, k))
 offset-sum (negsuc m) (pos n) {a} {b} p q h k = offset-sub n (suc m) (a + b) (omega (arith, p, q, h))
 offset-sum (negsuc m) (negsuc n) p q h k = omega (arith, p, q, h, k)
-
-code-back : (n : ℕ) → n ≤ 16777214 → n ≡ code (uncode n)
-unfolding code uncode
-code-back n h = go (leb 8388607 n) refl
-  where
-    go : (t : Bool) → leb 8388607 n ≡ t → n ≡ code (cond t (pos (n - 8388607)) (negsuc (8388606 - n)))
-    go true e = omega (arith, leb-true 8388607 n e)
-    go false e = omega (arith, leb-false 8388607 n e)
-
-pub abs-most : (n : ℕ) → n ≤ 16777214 → natAbs (uncode n) ≤ 8388607
-unfolding uncode
-abs-most n h = go (leb 8388607 n) refl
-  where
-    go : (t : Bool) → leb 8388607 n ≡ t → natAbs (cond t (pos (n - 8388607)) (negsuc (8388606 - n))) ≤ 8388607
-    go true e = omega (arith, leb-true 8388607 n e)
-    go false e = omega (arith, leb-false 8388607 n e)
 
 coded-sum : {a b : ℕ} → Coded a b → Offset (uncode a +ℤ uncode b) (a + b)
 coded-sum {a} {b} h = offset-sum (uncode a) (uncode b) (code-back a (h .left)) (code-back b (h .right)) (abs-most a (h .left)) (abs-most b (h .right))

@@ -20,8 +20,9 @@ use Rattle.state.specs.Working.{state-at, Stands}
 use Rattle.instructions.specs.Does.{Tried}
 use Rattle.tests.proofs.Values.{copied-front}
 use Rattle.operands.specs.Operands.{replaced, Replaceable}
+use Rattle.operands.proofs.Codes.{code-most, abs-most}
 use Rattle.arithmetic.specs.Arithmetic.{result, Numbered, OneResult, Computed, TwoResults}
-use Rattle.arithmetic.proofs.Numbers.{abs-most, result-in, code-most}
+use Rattle.arithmetic.proofs.Numbers.{result-in}
 
 -- ---- in bytes
 

@@ -5,8 +5,8 @@ use mathlib.Core.List.{List, [], _∷_, map}
 use Prim.Native.Nat.{ℕ, _≤_, _<_}
 use native.Mathlib.Omega.{arith}
 use lib.Dec.{eqb, leb}
-use lib.ListN.{length, take, length-take}
-use lib.IntN.{ℤ, pos, natAbs, _+ℤ_, _-ℤ_, _*ℤ_}
+use lib.ListN.{length}
+use lib.IntN.{ℤ, natAbs, _+ℤ_, _-ℤ_, _*ℤ_}
 use lib.Signed.{quotZ, remZ}
 use borrow.Author.Tests.{le-leb, ne-eqb}
 use Rattle.lists.specs.Lists.{all}
@@ -17,38 +17,21 @@ use Rattle.language.specs.Program.Arg.{nothing}
 use Rattle.language.specs.Program.Op.{DODAJ, ODEJMIJ, MNOZ, DZIEL}
 use Rattle.language.specs.Values.{Component, Store, Inputs, value, in-range}
 use Rattle.machine.specs.Arguments.{Asks, expr, first, side, ask, needs, _&_}
-use Rattle.machine.specs.Changes.{with-exprs, put-expr, front, past-by, past, used-by, used, fits}
+use Rattle.machine.specs.Changes.{fits}
 use Rattle.machine.specs.Effects.{Row, computed, row}
 use Rattle.machine.specs.Effects.Go.{on}
 use Rattle.layout.specs.Cells.{uncode}
-use Rattle.layout.specs.ComponentLaws.{components-bytes-one}
-use Rattle.layout.specs.Components.{component-bytes}
 use Rattle.state.specs.Working.{state-at, HoldsState, Stands, nth, reading}
-use Rattle.state.specs.Blocks.{FirstParts}
-use Rattle.instructions.specs.Does.{answer-of, with-store, Does, Quiet, stop-of, Tried}
+use Rattle.instructions.specs.Does.{answer-of, with-store, Does, Quiet, Tried}
 use Rattle.instructions.proofs.Answers.{answer-decided, kept-stop, kept-done, does-stop, answer-quiet, quiet-stop}
 use Rattle.table.specs.Denote.{arg-of}
 use Rattle.table.specs.declared.Argument.{Argument}
 use Rattle.operands.specs.Operands.{ReadsNumbers, ReadsPair, replaced}
 use Rattle.operands.specs.declared.Pair.{Pair}
+use Rattle.operands.proofs.Codes.{high, abs-most}
+use Rattle.operands.proofs.Replacing.{replaced-last, number-first}
 use Rattle.arithmetic.specs.Arithmetic.{Coded, Divisible, Codes, Numbered, Computed, DoesWith}
-use Rattle.arithmetic.proofs.Numbers.{abs-most, divided-in, size-is, size-some, high}
-
--- no address is given
-pub replaced-last : (removes : Bool) (i : ℕ) (ys : List Component) (s : Store) → replaced removes i ys s .last ≡ s .last
-unfolding replaced front used used-by put-expr with-exprs past-by
-replaced-last true i ys s = refl
-replaced-last false i ys s = refl
-
--- the number in front of an expression
-pub number-first : (es : List Component) (z : ℤ) → take 1 es ≡ Component.number z ∷ [] → FirstParts es 1 5 0
-unfolding component-bytes
-number-first es z e =
-    record {
-      most = let l : length (take 1 es) ≡ 1 = ap length e in omega (arith, sym (length-take 1 es) ∙ l);
-      bytes-is = rw (e, components-bytes-one (Component.number z)) refl;
-      chars-is = rw e refl;
-    }
+use Rattle.arithmetic.proofs.Numbers.{divided-in, size-is, size-some}
 
 -- all is answered yes but, maybe, 59
 module _ {p e n : List ℕ} (q : Asks) (t : Store) where

@@ -1,11 +1,12 @@
 -- Components in the place of the first.
 use mathlib.Core.Path.{_≡_, refl, sym, ap, _∙_, subst}
 use mathlib.Core.Bool.{Bool, true, false, cond, _&&_}
-use mathlib.Core.List.{List}
+use mathlib.Core.List.{List, [], _∷_}
 use Prim.Native.Nat.{ℕ, _+_, _≤_, _<_}
 use native.Mathlib.Omega.{arith}
 use lib.Dec.{leb}
-use lib.ListN.{length}
+use lib.ListN.{length, take, length-take}
+use lib.IntN.{ℤ}
 use borrow.Author.Tests.{lt-leb}
 use Rattle.language.specs.Limits as limit
 use Rattle.language.specs.Letters.Letter.{E}
@@ -13,7 +14,8 @@ use Rattle.language.specs.Values.{Component, Store, State}
 use Rattle.machine.specs.Arguments.{expr}
 use Rattle.machine.specs.Changes.{with-exprs, put-expr, placed, into, front, past-by, past, used-by, used, fits}
 use Rattle.layout.specs.Bounds.{Each, Ok}
-use Rattle.layout.specs.Components.{components-in}
+use Rattle.layout.specs.ComponentLaws.{components-bytes-one}
+use Rattle.layout.specs.Components.{component-bytes, components-in}
 use Rattle.layout.specs.Memory.{components-held, chars-held}
 use Rattle.state.specs.Working.{state-at, HoldsState, Stands, on-store, nth, reading, writing, char-count}
 use Rattle.state.specs.Blocks.{FirstParts, PartsDroppable, PartsWritable}
@@ -30,6 +32,22 @@ replaced-is : (removes : Bool) (i : ℕ) (ys : List Component) (s : Store)
 unfolding replaced front used used-by into placed put-expr with-exprs past past-by
 replaced-is true i ys s = refl
 replaced-is false i ys s = refl
+
+-- no address is given
+pub replaced-last : (removes : Bool) (i : ℕ) (ys : List Component) (s : Store) → replaced removes i ys s .last ≡ s .last
+unfolding replaced front used used-by put-expr with-exprs past-by
+replaced-last true i ys s = refl
+replaced-last false i ys s = refl
+
+-- the number in front of an expression
+pub number-first : (es : List Component) (z : ℤ) → take 1 es ≡ Component.number z ∷ [] → FirstParts es 1 5 0
+unfolding component-bytes
+number-first es z e =
+    record {
+      most = let l : length (take 1 es) ≡ 1 = ap length e in omega (arith, sym (length-take 1 es) ∙ l);
+      bytes-is = rw (e, components-bytes-one (Component.number z)) refl;
+      chars-is = rw e refl;
+    }
 
 pub picked-most : {x m : ℕ} (t : Bool) (a : ℕ) → x ≡ cond t a 0 → a ≤ m → x ≤ m
 picked-most true a e h = omega (arith, e)
