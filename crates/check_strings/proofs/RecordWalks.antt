@@ -23,7 +23,7 @@ use Rattle.check_strings.proofs.ComponentWalks.{same-test, bytes-left, 
 
 -- ---- numbers in cells
 
-two-cells : (u : List ℕ) → 2 ≤ length u → Bytes u → take 2 u ≡ two (two-at 0 u)
+pub two-cells : (u : List ℕ) → 2 ≤ length u → Bytes u → take 2 u ≡ two (two-at 0 u)
 two-cells [] n h = absurd (omega (arith, n))
 two-cells (p ∷ []) n h = absurd (omega (arith, n))
 two-cells (p ∷ q ∷ t) n h =
