@@ -5,7 +5,7 @@ use mathlib.Core.List.{List, [], _∷_}
 use Prim.Native.Nat.{ℕ, _+_, _≤_}
 use native.Mathlib.Omega.{arith}
 use lib.Dec.{eqb}
-use lib.ListN.{length}
+use lib.ListN.{length, take, drop}
 use borrow.Author.Tests.{eq-eqb, ne-eqb}
 use Rattle.lists.specs.Lists.{filled, ifAny, keep}
 use Rattle.lexer.specs.declared.Token.{Token}
@@ -15,12 +15,13 @@ use Rattle.statements.specs.StatementAt.{statement-at, stops}
 use Rattle.statements.specs.StatementLaws.{at-stop, at-item, on}
 use Rattle.syntax.specs.Items.{Item, is}
 use Rattle.syntax.specs.Items.Sort.{word, colon}
-use Rattle.syntax.specs.Statements.{same-keyword, keyword-of, is-operator, front, behind, labels-in, keyword-in}
+use Rattle.syntax.specs.Statements.{same-keyword, keyword-of, is-operator, front, behind, labels-in, operator, keyword-in, rest}
 use Rattle.syntax.specs.Statements as Spec
 use Rattle.words.specs.declared.Keyword.{Keyword}
 use Rattle.words.specs.Keywords.{keyword-by, told}
 use Rattle.words.specs.WordLaws.{keyword-item}
 use Rattle.heads.specs.Heads.{operates, opens, bars, Headed}
+use Rattle.heads.specs.declared.Head.{Head}
 
 pub told-opens : (k : Spec.Keyword) → opens (told k) ≡ same-keyword Spec.Keyword.SEKCJA k
 told-opens Spec.Keyword.none = refl
@@ -159,3 +160,22 @@ module _ {s : List ℕ} {n i m : ℕ} {t : Token} (l : Leading s n i m) (k : Nex
         few-of : (b : Bool) → m′ ≡ m + cond b 1 0 → m′ ≤ t .next
         few-of true q = omega (arith, l .few, on k z)
         few-of false q = omega (arith, l .few, on k z)
+
+-- a head without an operator has no keyword; the operator, and the items after it
+module _ {s : List ℕ} {n : ℕ} {h : Head} (g : Headed s n h) where
+  abbrev x : List Item
+  x = statement-at s n
+
+  behind-by : (b : Bool) → stops (h .op .sort) ≡ b → behind x ≡ cond b [] (item-of s (h .op) ∷ statement-at s (h .op .next))
+  behind-by b z = g .operator ∙ ap (λ c. cond c [] (item-of s (h .op) ∷ statement-at s (h .op .next))) z
+
+  pub no-keyword : stops (h .op .sort) ≡ true → h .keyword ≡ Keyword.None
+  unfolding keyword-in
+  no-keyword z = g .keyword ∙ ap (λ js. told (ifAny Spec.Keyword.none keyword-of js)) (behind-by true z)
+
+  module _ (z : stops (h .op .sort) ≡ false) where
+    pub operator-here : operator x ≡ item-of s (h .op) ∷ []
+    operator-here = ap (take 1) (behind-by false z)
+
+    pub rest-here : rest x ≡ statement-at s (h .op .next)
+    rest-here = ap (drop 1) (behind-by false z)

@@ -18,7 +18,7 @@ use Rattle.heads.specs.declared.Head.{Head}
 abbrev pub operates : Token → Bool
 operates t = not (eqb 2 (t .sort) || not (eqb (t .colon) 0))
 
--- SEKCJA; what is no operator of a statement after the first; INDEKS or NAZWA
+-- SEKCJA; what is no operator of a statement after the first; INDEKS or NAZWA; NAZWA
 abbrev pub opens : Keyword → Bool
 opens Keyword.None = false
 opens Keyword.Unknown = false
@@ -45,6 +45,25 @@ is-switch Keyword.Kons = false
 is-switch Keyword.Konp = false
 is-switch (Keyword.Switch byName) = true
 is-switch (Keyword.Instr n) = false
+
+abbrev pub is-by-name : Keyword → Bool
+is-by-name Keyword.None = false
+is-by-name Keyword.Unknown = false
+is-by-name Keyword.Sekcja = false
+is-by-name Keyword.Kons = false
+is-by-name Keyword.Konp = false
+is-by-name (Keyword.Switch byName) = byName
+is-by-name (Keyword.Instr n) = false
+
+-- an instruction's number; 0 for any other keyword
+abbrev pub instr-of : Keyword → ℕ
+instr-of Keyword.None = 0
+instr-of Keyword.Unknown = 0
+instr-of Keyword.Sekcja = 0
+instr-of Keyword.Kons = 0
+instr-of Keyword.Konp = 0
+instr-of (Keyword.Switch byName) = 0
+instr-of (Keyword.Instr n) = n
 
 -- what stands from the token t on, where t is what ends a statement or an item of it
 abbrev pub from-token : List ℕ → Token → List Item

@@ -10,7 +10,7 @@ ghost use Rattle.syntax.specs.Items.{is};
 ghost use Rattle.syntax.specs.Items.Sort.{word};
 ghost use Rattle.syntax.specs.Statements.{keyword-of, is-name};
 ghost use Rattle.words.specs.Keywords.{told};
-ghost use Rattle.heads.specs.Heads.{opens, bars, is-switch, Headed};
+ghost use Rattle.heads.specs.Heads.{opens, bars, is-switch, is-by-name, instr-of, Headed};
 use lexer::Token;
 use lexer::next_item;
 use scanner::COLON;
@@ -113,6 +113,36 @@ pub fn is_switch(k: Keyword) -> bool
         Keyword::Konp => false,
         Keyword::Switch(_) => true,
         Keyword::Instr(_) => false,
+    }
+}
+
+// NAZWA.
+pub fn is_by_name(k: Keyword) -> bool
+    ensures { λ r. ⌜ r ≡ is-by-name k ⌝ }
+{
+    match k {
+        Keyword::None => false,
+        Keyword::Unknown => false,
+        Keyword::Sekcja => false,
+        Keyword::Kons => false,
+        Keyword::Konp => false,
+        Keyword::Switch(by_name) => by_name,
+        Keyword::Instr(_) => false,
+    }
+}
+
+// An instruction's number; 0 for any other keyword.
+pub fn instr_of(k: Keyword) -> u8
+    ensures { λ r. ⌜ r ≡ instr-of k ⌝ }
+{
+    match k {
+        Keyword::None => 0,
+        Keyword::Unknown => 0,
+        Keyword::Sekcja => 0,
+        Keyword::Kons => 0,
+        Keyword::Konp => 0,
+        Keyword::Switch(_) => 0,
+        Keyword::Instr(op) => op,
     }
 }
 

@@ -5,10 +5,10 @@ use mathlib.Core.List.{List, [], _∷_, _++_}
 use Prim.Native.Nat.{ℕ, zero, suc, _-_, _≤_, _<_, min}
 use native.Mathlib.Omega.{arith}
 use lib.Dec.{T, eqb}
-use lib.ListN.{length, take, drop}
+use lib.ListN.{length, drop}
 use lib.Seq.{drop-nil}
 use borrow.Author.Tests.{eqb-true}
-use Rattle.lists.specs.Lists.{filled, ifAny, keep}
+use Rattle.lists.specs.Lists.{filled, keep}
 use Rattle.lists.specs.ListLaws.{all-keep}
 use Rattle.lexer.specs.declared.Token.{Token}
 use Rattle.lexer.specs.Tokens.{item-of, Next-token}
@@ -25,7 +25,7 @@ use Rattle.syntax.specs.Statements.{by-keyword, front, behind, labels-in, opera
 use Rattle.syntax.specs.Statements as Spec
 use Rattle.syntax.specs.Verdict.{lowest}
 use Rattle.heads.specs.Heads.{operates, is-switch, Headed}
-use Rattle.heads.specs.HeadLaws.{front-goes, front-ends, operator-is}
+use Rattle.heads.specs.HeadLaws.{front-goes, front-ends, operator-is, no-keyword, operator-here}
 use Rattle.heads.specs.declared.Head.{Head}
 use Rattle.words.specs.Keywords.{told}
 use Rattle.judging.specs.Judging.{Waiting}
@@ -138,16 +138,10 @@ module _ {s : List ℕ} {n : ℕ} {h : Head} (g : Headed s n h) where
     switched : (ls : List Item) → label-faults ls x ≡ cond (filled ls) (places (drop 1 ls)) (places (operator x))
     switched ls = by-head true e ls
 
-    behind-by : (b : Bool) → stops (h .op .sort) ≡ b → behind x ≡ cond b [] (item-of s (h .op) ∷ statement-at s (h .op .next))
-    behind-by b z = g .operator ∙ ap (λ c. cond c [] (item-of s (h .op) ∷ statement-at s (h .op .next))) z
-
     -- a switch has an operator
     operator-of : (b : Bool) → stops (h .op .sort) ≡ b → places (operator x) ≡ h .op .at ∷ []
-    unfolding keyword-in
-    operator-of true z =
-        let k : keyword-in x ≡ Spec.Keyword.none = ap (ifAny Spec.Keyword.none Spec.keyword-of) (behind-by true z) in
-        absurd (true≢false (sym e ∙ ap is-switch (g .keyword ∙ ap told k)))
-    operator-of false z = ap (λ js. places (take 1 js)) (behind-by false z)
+    operator-of true z = absurd (true≢false (sym e ∙ ap is-switch (no-keyword g z)))
+    operator-of false z = ap places (operator-here g z)
 
     -- no label waits and none stands in front; or one stands there
     none-own : (ls : List Item) → length ls ≡ 0 → ls ≡ []

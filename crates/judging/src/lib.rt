@@ -1,7 +1,6 @@
 // The questions of a statement on its texts, names, operator and labels, each answered by the lowest place at fault.
 ghost use mathlib.Core.Path.{_≡_};
-ghost use mathlib.Core.Bool.{cond, not, _&&_, _||_};
-ghost use mathlib.Core.List.{[], _∷_};
+ghost use mathlib.Core.Bool.{cond, not, _&&_};
 ghost use Prim.Native.Nat.{_-_, _≤_};
 ghost use lib.Dec.{eqb, ltb};
 ghost use lib.ListN.{length, drop};
@@ -161,7 +160,7 @@ pub fn operator_fault(text: &[u8], n: usize) -> Fault
     }
 }
 
-fn less_one(n: usize, t: bool) -> usize
+pub fn less_one(n: usize, t: bool) -> usize
     ensures { λ r. ⌜ r ≡ n - cond t 1 0 ⌝ }
 {
     if t {
