@@ -1,0 +1,4 @@
+pub mod Stepping
+pub mod SteppingLaws
+pub mod Performing
+pub mod PerformingLaws
