@@ -30,6 +30,10 @@ pub made-is : (r : Row) (s : State) → made r s ≡ going (r .2) (on-store (λ 
 unfolding going on-store
 made-is r s = refl
 
+pub made-going : (q : Asks) (g : Go) (s : State) → made (q, s .store, g) s ≡ going g s
+unfolding going
+made-going q g s = refl
+
 -- the same with the store changed after the way on is set
 pub made-after : (q : Asks) (f : Store → Store) (g : Go) (s : State) → made (q, f (s .store), g) s ≡ on-store f (going g s)
 unfolding going on-store

@@ -1,5 +1,5 @@
 -- Rows that go elsewhere than to the following instruction: from the answers to their questions to what their functions promise.
-use mathlib.Core.Path.{_≡_, refl, sym, _∙_, subst}
+use mathlib.Core.Path.{_≡_, refl, sym, ap, _∙_, subst}
 use mathlib.Core.Bool.{Bool, true, false, _&&_}
 use mathlib.Core.List.{List, [], _∷_}
 use Prim.Native.Nat.{ℕ}
@@ -31,20 +31,27 @@ no-right : (a : Bool) → a && false ≡ false
 no-right true = refl
 no-right false = refl
 
+-- a row whose own questions are all answered yes asks what one does that has none
+asked-none : (q : Asks) (t : Store) (g : Go) (s : State) → Yes q → asked-of (q, t, g) s ≡ asked-of (none, t, g) s
+asked-none q t g s y =
+    rw (
+      y .0,
+      y .1 .0,
+      y .1 .1 .0,
+      y .1 .1 .1 .0,
+      y .1 .1 .1 .1 .0,
+      y .1 .1 .1 .1 .1 .0,
+      y .1 .1 .1 .1 .1 .1 .0,
+      y .1 .1 .1 .1 .1 .1 .1 .0,
+      y .1 .1 .1 .1 .1 .1 .1 .1 .0,
+      y .1 .1 .1 .1 .1 .1 .1 .1 .1 .0,
+    ) refl
+
 module _ (r : Row) (s : State) (y : Yes (r .0)) (c : can-go (r .2) (s .stack) ≡ true) where
   pub answer-made : Fine (made r s) → answer-of r s ≡ 0
   answer-made f =
-      rw (
-        y .0,
-        y .1 .0,
-        y .1 .1 .0,
-        y .1 .1 .1 .0,
-        y .1 .1 .1 .1 .0,
-        y .1 .1 .1 .1 .1 .0,
-        y .1 .1 .1 .1 .1 .1 .0,
-        y .1 .1 .1 .1 .1 .1 .1 .0,
-        y .1 .1 .1 .1 .1 .1 .1 .1 .0,
-        y .1 .1 .1 .1 .1 .1 .1 .1 .1 .0,
+      ap (λ (k : List Question). headOr 0 (refusals k)) (asked-none (r .0) (r .1) (r .2) s y)
+      ∙ rw (
         c,
         fits-limited (fine-limited (made r s) f),
         le-leb (length (made r s .stack)) limit.stack (f .stack-most),
@@ -53,20 +60,7 @@ module _ (r : Row) (s : State) (y : Yes (r .0)) (c : can-go (r .2) (s .stack) �
 
   pub answer-full : leb (length (made r s .stack)) limit.stack ≡ false → answer-of r s ≡ 59
   answer-full l =
-      answer-no r s (50 ∷ 52 ∷ 53 ∷ 54 ∷ 55 ∷ 56 ∷ 57 ∷ 58 ∷ []) 59 (60 ∷ []) refl (
-        rw (y .0) refl,
-        (
-          rw (y .1 .0) refl,
-          (
-            rw (y .1 .1 .0) refl,
-            (
-              rw (y .1 .1 .1 .0) refl,
-              (rw (y .1 .1 .1 .1 .0) refl, (rw (y .1 .1 .1 .1 .1 .0) refl, (rw (y .1 .1 .1 .1 .1 .1 .0, c) refl, (rw (y .1 .1 .1 .1 .1 .1 .1 .0) refl, tt)))),
-            ),
-          ),
-        ),
-      )
-      (rw (y .1 .1 .1 .1 .1 .1 .1 .1 .0, l, no-right (fits (r .1))) refl)
+      ap (λ (k : List Question). headOr 0 (refusals k)) (asked-none (r .0) (r .1) (r .2) s y) ∙ rw (c, l, no-right (fits (r .1))) refl
 
 module _ {p e n : List ℕ} (h : Stands p e n) (r : Row) (y : Yes (r .0)) (c : can-go (r .2) (state-at p e n .stack) ≡ true) where
   -- the memory holds what it makes; the return stack is full
@@ -97,22 +91,7 @@ module _ (r : Row) (s : State) (y : r .0 50 ≡ true) where
       answer-no r s (50 ∷ 52 ∷ 53 ∷ 54 ∷ 55 ∷ []) 56 (57 ∷ 58 ∷ 59 ∷ 60 ∷ []) refl
       (rw y refl, (rw (u .0) refl, (rw (u .1) refl, (rw (u .2) refl, (rw a refl, tt))))) (rw b refl)
 
--- ---- a row whose own questions are all answered yes does what one does that asks none
-
-asked-none : (q : Asks) (t : Store) (g : Go) (s : State) → Yes q → asked-of (q, t, g) s ≡ asked-of (none, t, g) s
-asked-none q t g s y =
-    rw (
-      y .0,
-      y .1 .0,
-      y .1 .1 .0,
-      y .1 .1 .1 .0,
-      y .1 .1 .1 .1 .0,
-      y .1 .1 .1 .1 .1 .0,
-      y .1 .1 .1 .1 .1 .1 .0,
-      y .1 .1 .1 .1 .1 .1 .1 .0,
-      y .1 .1 .1 .1 .1 .1 .1 .1 .0,
-      y .1 .1 .1 .1 .1 .1 .1 .1 .1 .0,
-    ) refl
+-- ---- and does what that one does
 
 pub goes-yes : {p e n p′ e′ n′ : List ℕ} {x : ℕ} (q : Asks) (t : Store) (g : Go) → Yes q → Goes p e n x p′ e′ n′ (none, t, g) → Goes p e n x p′ e′ n′ (q, t, g)
 goes-yes {p} {e} {n} {p′} {e′} {n′} {x} q t g y h =

@@ -13,18 +13,17 @@ use Rattle.language.specs.Program.{Label, Program}
 use Rattle.language.specs.Program.Arg.{nothing, label}
 use Rattle.language.specs.Program.Op.{SKOCZ, WYKONAJ, SKOMI, SKOPL, WYMI, WYPL, WROC, STOP}
 use Rattle.language.specs.Values.{Store, State, Inputs}
-use Rattle.machine.specs.Arguments.{Asks, none}
+use Rattle.machine.specs.Arguments.{none}
 use Rattle.machine.specs.Changes.{with-plus}
 use Rattle.machine.specs.Effects.{Go, Row, jump-if, row}
 use Rattle.machine.specs.Effects.Go.{on, jump, call, back}
-use Rattle.machine.specs.Steps.{made}
 use Rattle.cells.specs.Cells.{Number}
 use Rattle.layout.specs.Table.{label-in, program-of}
 use Rattle.packed.specs.Packed.{table-of}
 use Rattle.state.specs.Working.{state-at, HoldsState, Stands, on-store}
 use Rattle.state.proofs.Standing.{stands, after-state}
 use Rattle.control.specs.Going.{going, Deep, Following, Reachable, Callable, Returnable}
-use Rattle.control.proofs.Laws.{made-after}
+use Rattle.control.proofs.Laws.{made-going, made-after}
 use Rattle.table.specs.Reads.{Place}
 use Rattle.instructions.specs.Does.{Goes, GoesFor, GoesIn}
 use Rattle.instructions.proofs.Answers.{answer-no, goes-stop}
@@ -102,10 +101,6 @@ row-wroc g ins s = refl
 row-stop : (g : Program) (ins : Inputs) (s : Store) → row g ins s nothing nothing nothing STOP .0 50 ≡ false
 unfolding row
 row-stop g ins s = refl
-
-made-going : (q : Asks) (g : Go) (s : State) → made (q, s .store, g) s ≡ going g s
-unfolding going
-made-going q g s = refl
 
 -- ---- what their functions do
 

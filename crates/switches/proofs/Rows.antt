@@ -15,11 +15,11 @@ use Rattle.language.specs.Program.{Entry, no-entry, target-of, key-of}
 use Rattle.language.specs.Program.Arg.{nothing, switch}
 use Rattle.language.specs.Program.Op.{SKONA, SKOIN, WYNA, WYIN, SZUKAJ}
 use Rattle.language.specs.Values.{Component, Store, State, Inputs, chars, value, kind}
-use Rattle.machine.specs.Arguments.{Asks, first, none, ask, _&_, needs}
+use Rattle.machine.specs.Arguments.{first, none, ask, _&_, needs}
 use Rattle.machine.specs.Changes.{with-exprs, with-plus, put-expr, minus, past-by, used-by, used}
 use Rattle.machine.specs.Effects.{Go, Row, relation, by-name, by-index, row}
 use Rattle.machine.specs.Effects.Go.{on, jump, call}
-use Rattle.machine.specs.Steps.{made, can-go}
+use Rattle.machine.specs.Steps.{can-go}
 use Rattle.cells.specs.Cells.{Number}
 use Rattle.layout.specs.Table.{program-of}
 use Rattle.packed.specs.Packed.{table-of}
@@ -27,7 +27,7 @@ use Rattle.state.specs.Working.{state-at, HoldsState, on-store, nth, reading}
 use Rattle.state.specs.Blocks.{ExprNamed}
 use Rattle.state.proofs.Standing.{state-of, stands, after-state}
 use Rattle.control.specs.Going.{going, Deep, Following, Reachable, Callable}
-use Rattle.control.proofs.Laws.{made-after}
+use Rattle.control.proofs.Laws.{made-going, made-after}
 use Rattle.table.specs.MetLaws.{keep-first, keep-filled}
 use Rattle.table.specs.Reads.{switch-size}
 use Rattle.instructions.specs.Does.{Quiet, stop-of, Goes, DoesIn, GoesIn}
@@ -145,10 +145,6 @@ module _ (c : List ℕ) (s : Store) (k i : ℕ) where
     unfolding row relation minus
     row-szukaj true = rw (keep-filled test no-entry (entries-at c k)) refl
     row-szukaj false = rw (keep-filled test no-entry (entries-at c k)) refl
-
-made-going : (q : Asks) (g : Go) (s : State) → made (q, s .store, g) s ≡ going g s
-unfolding going
-made-going q g s = refl
 
 -- ---- what is asked of the component in front
 
