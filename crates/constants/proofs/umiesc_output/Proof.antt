@@ -43,7 +43,7 @@ returns c =
     let put-textᶜ = c .before .before .before .before .before .put-text in
     let output-lenᶜ = c .before .output-len in
     let if1ᶜ = c .if1 in
-    output-full (preᶜ .stands) (put-textᶜ .ensures) (preᶜ .index) (output-lenᶜ .ensures) (if1ᶜ .taken)
+    output-full (preᶜ .stands) (put-textᶜ .ensures) (preᶜ .index) (output-lenᶜ .ensures) (omega (arith, if1ᶜ .taken))
 
 array-share-prefix-w : tie.Need-array-share-prefix-w
 array-share-prefix-w c =
@@ -61,7 +61,7 @@ print-requires c κs =
     let put-textᶜ = c .before .before .before .before .before .before .before .before .before .put-text in
     let output-lenᶜ = c .before .before .before .before .before .output-len in
     let if1ᶜ = c .before .before .before .before .if1 in
-    printable (preᶜ .stands) (put-textᶜ .ensures) (preᶜ .index) (output-lenᶜ .ensures) (if1ᶜ .left) (preᶜ .spare) (simp length-take (omega (arith, copied-in (put-textᶜ .ensures))))
+    printable (preᶜ .stands) (put-textᶜ .ensures) (preᶜ .index) (output-lenᶜ .ensures) (omega (arith, if1ᶜ .left)) (preᶜ .spare) (simp length-take (omega (arith, copied-in (put-textᶜ .ensures))))
 
 same-length-3 : tie.Need-same-length-3
 same-length-3 c = search needs
