@@ -5,3 +5,4 @@ pub mod Switching
 pub mod Replacing
 pub mod Held
 pub mod Settled
+pub mod Rooms

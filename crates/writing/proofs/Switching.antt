@@ -105,6 +105,13 @@ switch-last e n (suc k) (w ∷ []) h = absurd (omega (arith, h))
 switch-last e n zero (w ∷ v ∷ ws) h = absurd (omega (arith, h))
 switch-last e n (suc k) (w ∷ v ∷ ws) h = ap (λ (l : List ℕ). switch-cell n w ∷ l) (switch-last e (n + length (w .entries)) k (v ∷ ws) (omega (arith, h)))
 
+-- the last switch's cell
+pub last-cell : (p : Program) → Tabular p → (k : ℕ) → length (p .switches) ≡ suc k → cell (parts p) (6152 + k) ≡ cell (switch-cells 0 (p .switches)) k
+last-cell p h k last =
+    padded-at (parts p) (switch-cells 0 (p .switches)) (entries-part p ++ (numbers-part p ++ replicate 1752 0)) 6152 32
+    (switches-at (counts p) (code-part p) (labels-part p) (texts-part p) (switches-part p) (entries-part p) (numbers-part p) (sizes p h)) k
+    (omega (arith, last, switches-long 0 (p .switches)))
+
 module _ (e : Entry) (p : Program) (h : Tabular p) (room : length (all-entries p) < 128) (k : ℕ) (last : length (p .switches) ≡ suc k) where
   more-entries : all-entries p ++ (e ∷ []) ≡ all-entries (with-entry e p)
   unfolding with-entry
@@ -116,13 +123,6 @@ module _ (e : Entry) (p : Program) (h : Tabular p) (room : length (all-entries p
 
   more-count : suc (length (all-entries p)) ≡ length (all-entries (with-entry e p))
   more-count = sym (one-more (all-entries p) e) ∙ ap length more-entries
-
-  -- the last switch's cell
-  pub last-cell : cell (parts p) (6152 + k) ≡ cell (switch-cells 0 (p .switches)) k
-  last-cell =
-      padded-at (parts p) (switch-cells 0 (p .switches)) (entries-part p ++ (numbers-part p ++ replicate 1752 0)) 6152 32
-      (switches-at (counts p) (code-part p) (labels-part p) (texts-part p) (switches-part p) (entries-part p) (numbers-part p) (sizes p h)) k
-      (omega (arith, last, switches-long 0 (p .switches)))
 
   pub entry-added : set (set (set (parts p) (6184 + length (all-entries p)) (entry-cell p e)) (6152 + k) (cell (parts p) (6152 + k) + 2)) 3 (suc (length (all-entries p)))
       ≡ table-cells (with-entry e p)
@@ -139,7 +139,7 @@ module _ (e : Entry) (p : Program) (h : Tabular p) (room : length (all-entries p
       ∙ ap (padded 128) (sym (map-snoc (entry-cell p) (all-entries p) e) ∙ ap (map (entry-cell p)) more-entries ∙ entries-same p (with-entry e p) refl refl (all-entries (with-entry e p))) in
       let s : set (switches-part p) k y ≡ switches-part (with-entry e p) =
       padded-set 32 ws k y (omega (arith, last, switches-long 0 (p .switches)))
-      ∙ ap (λ (x : ℕ). padded 32 (set ws k (x + 2))) last-cell ∙ ap (padded 32) (switch-last e 0 k (p .switches) last) in
+      ∙ ap (λ (x : ℕ). padded 32 (set ws k (x + 2))) (last-cell p h k last) ∙ ap (padded 32) (switch-last e 0 k (p .switches) last) in
       let g = ap (padded 2048) (code-same p (with-entry e p) refl refl (p .code)) in
       let z₁ : Sizes (counts p) (code-part p) (labels-part p) (texts-part p) (switches-part p) (set (entries-part p) n (entry-cell p e)) (numbers-part p) =
       record { a-is = z .a-is; b-is = z .b-is; c-is = z .c-is; d-is = z .d-is; e-is = z .e-is; f-is = length-set (entries-part p) n (entry-cell p e) ∙ z .f-is; g-is = z .g-is } in

@@ -142,19 +142,9 @@ pub record Writes {X : Type 0} (asks : X → Program → Type 0) (f : X → Prog
   pub holds : (x : X) (p : Program) → HoldsProgram c p → asks x p → HoldsProgram d (f x p)
   pub beyond : drop limit.table d ≡ drop limit.table c
 
--- r is the number f of whatever program the cells c hold, and at most top
-pub record Tells (c : List ℕ) (f : Program → ℕ) (top r : ℕ) : Type 0 where
-  pub is : (p : Program) → HoldsProgram c p → r ≡ f p
-  pub most : r ≤ top
-
 -- ---- what is asked
 
--- the count in cell k is at most n
-pub record Counted (c : List ℕ) (k n : ℕ) : Type 0 where
-  pub long : limit.table ≤ length c
-  pub most : cell (table-of c) k ≤ n
-
--- there is room for one more among n
+-- there is room for one more among the n that cell k counts
 pub record Room (c : List ℕ) (k n : ℕ) : Type 0 where
   pub long : limit.table ≤ length c
   pub room : cell (table-of c) k < n

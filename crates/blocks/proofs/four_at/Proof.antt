@@ -46,10 +46,13 @@ add-result : tie.Need-add-result
 add-result c = search needs
 
 returns : tie.Need-returns
-returns c = record {
-  is = four-of (now (c .before .before .before .before .before .args .word)) (c .before .before .before .before .before .args .k) (c .before .before .before .byte-at .result) (c .before .before .byte-at2 .result) (c .before .byte-at3 .result) (c .byte-at4 .result) (c .before .before .before .byte-at .ensures .is) (c .before .before .byte-at2 .ensures .is) (c .before .byte-at3 .ensures .is) (c .byte-at4 .ensures .is);
-  most = omega arith;
-}
+returns c =
+    let d = c .before .before .before .before .before in
+    let byte-at = c .before .before .before .byte-at in
+    record {
+      is = four-of (now (d .args .word)) (d .args .k) (byte-at .result) (c .before .before .byte-at2 .result) (c .before .byte-at3 .result) (c .byte-at4 .result) (byte-at .ensures .is) (c .before .before .byte-at2 .ensures .is) (c .before .byte-at3 .ensures .is) (c .byte-at4 .ensures .is);
+      most = omega arith;
+    }
 
 pub four-at-spec : {M : Type 1} → statement M
 four-at-spec =

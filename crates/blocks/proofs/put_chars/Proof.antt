@@ -45,7 +45,9 @@ loop-less c = search needs
 loop-again : tie.Need-loop-again Inv-loop μ-loop
 loop-again c =
     let d = c .before .before .before .before .before .before .before .before .before in
-    (omega arith, omega (arith, c .before .before .write .kept), chars-turn (c .before .before .before .before .before .before .loop .table) (d .args .table .now) (d .args .at) (now (d .args .word)) (c .before .before .before .before .before .before .loop .q) (c .before .before .before .four-at .result) (c .before .before .write .last .0) (c .before .before .before .before .before .before .loop .inv .2) ((d .pre)) (c .before .before .before .before .before .loop-test .taken) (c .before .before .before .four-at .ensures .is) (c .before .before .write .ensures))
+    let loop = c .before .before .before .before .before .before .loop in
+    let four-at = c .before .before .before .four-at in
+    (omega arith, omega (arith, c .before .before .write .kept), chars-turn (loop .table) (d .args .table .now) (d .args .at) (now (d .args .word)) (loop .q) (four-at .result) (c .before .before .write .last .0) (loop .inv .2) ((d .pre)) (c .before .before .before .before .before .loop-test .taken) (four-at .ensures .is) (c .before .before .write .ensures))
 
 same-length : tie.Need-same-length Inv-loop μ-loop
 same-length c = search needs

@@ -31,7 +31,10 @@ same-length c = search needs
 returns : tie.Need-returns
 returns c =
     let d = c .before .before .before .before .before .before .before .before .before .before .before .before .before .before .before .before .before in
-    four-set (d .args .table .now) (d .args .at) (d .args .a) (d .args .b) (d .args .c) (d .args .d) (d .pre .room) (c .before .before .before .before .before .before .before .before .before .before .before .before .before .before .write .last .0) (c .before .before .before .before .before .before .before .before .before .before .write2 .last .0) (c .before .before .before .before .before .before .write3 .last .0) (c .before .before .write4 .last .0) (c .before .before .before .before .before .before .before .before .before .before .before .before .before .before .write .ensures) (c .before .before .before .before .before .before .before .before .before .before .write2 .ensures) (c .before .before .before .before .before .before .write3 .ensures) (c .before .before .write4 .ensures)
+    let write = c .before .before .before .before .before .before .before .before .before .before .before .before .before .before .write in
+    let write2 = c .before .before .before .before .before .before .before .before .before .before .write2 in
+    let write3 = c .before .before .before .before .before .before .write3 in
+    four-set (d .args .table .now) (d .args .at) (d .args .a) (d .args .b) (d .args .c) (d .args .d) (d .pre .room) (write .last .0) (write2 .last .0) (write3 .last .0) (c .before .before .write4 .last .0) (write .ensures) (write2 .ensures) (write3 .ensures) (c .before .before .write4 .ensures)
 
 pub put-four-spec : {M : Type 1} → statement M
 put-four-spec =

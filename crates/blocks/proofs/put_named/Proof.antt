@@ -23,7 +23,8 @@ same-length c = search needs
 returns : tie.Need-returns
 returns c =
     let d = c .before .before .before .before .before .before .before .before .before .before in
-    set-and-paste (d .args .table .now) (d .args .at) (d .args .head) (fours 15 (now (d .args .word))) (c .before .before .before .before .before .before .write .last .0) (c .before .before .put-chars .last .0) (omega (arith, d .pre .room, length-fours 15 (now (d .args .word)))) (c .before .before .before .before .before .before .write .ensures) (c .before .before .put-chars .ensures)
+    let write = c .before .before .before .before .before .before .write in
+    set-and-paste (d .args .table .now) (d .args .at) (d .args .head) (fours 15 (now (d .args .word))) (write .last .0) (c .before .before .put-chars .last .0) (omega (arith, d .pre .room, length-fours 15 (now (d .args .word)))) (write .ensures) (c .before .before .put-chars .ensures)
 
 pub put-named-spec : {M : Type 1} → statement M
 put-named-spec =

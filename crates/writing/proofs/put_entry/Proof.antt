@@ -40,7 +40,9 @@ add-write-3 c = omega (arith, c .before .before .before .before .before .read .e
 write-requires-2 : tie.Need-write-requires-2
 write-requires-2 c κs =
     let d = c .before .before .before .before .before .before .before .before .before .before .before .before in
-    record { room = omega (arith, d .pre .few, c .before .before .before .before .before .before .before .switches .ensures .is, d .pre .long, c .before .before .before .write .kept); most = omega (arith, last-read (d .args .table .now) (c .before .before .before .before .before .before .before .switches .result) (c .before .before .before .before .before .read .result) (c .before .before .before .before .before .before .before .switches .ensures .is) (d .pre .few) (c .before .before .before .before .before .read .ensures .is) (d .pre .last)) }
+    let switches = c .before .before .before .before .before .before .before .switches in
+    let read = c .before .before .before .before .before .read in
+    record { room = omega (arith, d .pre .few, switches .ensures .is, d .pre .long, c .before .before .before .write .kept); most = omega (arith, last-read (d .args .table .now) (switches .result) (read .result) (switches .ensures .is) (d .pre .few) (read .ensures .is) (d .pre .last)) }
 
 add-write-4 : tie.Need-add-write-4
 add-write-4 c = omega (arith, c .before .before .before .before .before .before .before .before .before .read .ensures .most)
@@ -54,7 +56,12 @@ same-length c = search needs
 returns : tie.Need-returns
 returns c =
     let d = c .before .before .before .before .before .before .before .before .before .before .before .before .before .before .before .before .before .before .before in
-    entry-done (d .args .table .now) (c .before .before .before .before .before .before .before .before .before .before .write .last .0) (c .before .before .before .before .before .before .write2 .last .0) (c .before .before .write3 .last .0) (c .before .before .before .before .before .before .before .before .before .before .before .before .before .before .before .before .entries .result) (c .before .before .before .before .before .before .before .before .before .before .before .before .before .before .switches .result) (c .before .before .before .before .before .before .before .before .before .before .before .before .read .result) (d .args .label) (d .args .text) (d .pre .long) (c .before .before .before .before .before .before .before .before .before .before .before .before .before .before .before .before .entries .ensures .is) (omega (arith, c .before .before .before .before .before .before .before .before .before .before .before .before .before .before .before .before .entries .ensures .is, d .pre .room)) (c .before .before .before .before .before .before .before .before .before .before .before .before .before .before .switches .ensures .is) (omega (arith, c .before .before .before .before .before .before .before .before .before .before .before .before .before .before .switches .ensures .is, d .pre .some)) (omega (arith, c .before .before .before .before .before .before .before .before .before .before .before .before .before .before .switches .ensures .is, d .pre .few)) (d .pre .label-low) (c .before .before .before .before .before .before .before .before .before .before .before .before .read .ensures .is) (c .before .before .before .before .before .before .before .before .before .before .write .ensures) (c .before .before .before .before .before .before .write2 .ensures) (c .before .before .write3 .ensures)
+    let write = c .before .before .before .before .before .before .before .before .before .before .write in
+    let write2 = c .before .before .before .before .before .before .write2 in
+    let entries = c .before .before .before .before .before .before .before .before .before .before .before .before .before .before .before .before .entries in
+    let switches = c .before .before .before .before .before .before .before .before .before .before .before .before .before .before .switches in
+    let read = c .before .before .before .before .before .before .before .before .before .before .before .before .read in
+    entry-done (d .args .table .now) (write .last .0) (write2 .last .0) (c .before .before .write3 .last .0) (entries .result) (switches .result) (read .result) (d .args .label) (d .args .text) (d .pre .long) (entries .ensures .is) (omega (arith, entries .ensures .is, d .pre .room)) (switches .ensures .is) (omega (arith, switches .ensures .is, d .pre .some)) (omega (arith, switches .ensures .is, d .pre .few)) (d .pre .label-low) (read .ensures .is) (write .ensures) (write2 .ensures) (c .before .before .write3 .ensures)
 
 pub put-entry-spec : {M : Type 1} → statement M
 put-entry-spec =

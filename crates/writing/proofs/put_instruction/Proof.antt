@@ -36,7 +36,9 @@ same-length c = search needs
 returns : tie.Need-returns
 returns c =
     let d = c .before .before .before .before .before .before .before .before .before .before .before in
-    instr-done (d .args .table .now) (c .before .before .before .before .before .before .put-four .last .0) (c .before .before .write .last .0) (c .before .before .before .before .before .before .before .before .instructions .result) (d .pre .long) (d .args .op) (d .args .line) (d .args .x) (d .args .y) (d .args .z) (c .before .before .before .before .before .before .before .before .instructions .ensures .is) (omega (arith, c .before .before .before .before .before .before .before .before .instructions .ensures .is, d .pre .room)) (c .before .before .before .before .before .before .put-four .ensures) (c .before .before .write .ensures)
+    let put-four = c .before .before .before .before .before .before .put-four in
+    let instructions = c .before .before .before .before .before .before .before .before .instructions in
+    instr-done (d .args .table .now) (put-four .last .0) (c .before .before .write .last .0) (instructions .result) (d .pre .long) (d .args .op) (d .args .line) (d .args .x) (d .args .y) (d .args .z) (instructions .ensures .is) (omega (arith, instructions .ensures .is, d .pre .room)) (put-four .ensures) (c .before .before .write .ensures)
 
 pub put-instruction-spec : {M : Type 1} → statement M
 put-instruction-spec =

@@ -37,7 +37,9 @@ same-length c = search needs
 returns : tie.Need-returns
 returns c =
     let d = c .before .before .before .before .before .before .before .before .before .before .before .before in
-    label-done (d .args .table .now) (c .before .before .before .before .before .before .put-named .last .0) (c .before .before .write .last .0) (c .before .before .before .before .before .before .before .before .labels .result) (d .pre .long) (label-of (now (d .args .name)) (d .args .target)) (c .before .before .before .before .before .before .before .before .labels .ensures .is) (omega (arith, c .before .before .before .before .before .before .before .before .labels .ensures .is, d .pre .room)) (record { most = d .pre .short; below = below-of 256 (now (d .args .name)) (λ j. omega (arith, c .before .before .before .before .before .before .before .before .before .before .shared-slice-known .given j)) }) (c .before .before .before .before .before .before .put-named .ensures) (c .before .before .write .ensures)
+    let put-named = c .before .before .before .before .before .before .put-named in
+    let labels = c .before .before .before .before .before .before .before .before .labels in
+    label-done (d .args .table .now) (put-named .last .0) (c .before .before .write .last .0) (labels .result) (d .pre .long) (label-of (now (d .args .name)) (d .args .target)) (labels .ensures .is) (omega (arith, labels .ensures .is, d .pre .room)) (record { most = d .pre .short; below = below-of 256 (now (d .args .name)) (λ j. omega (arith, c .before .before .before .before .before .before .before .before .before .before .shared-slice-known .given j)) }) (put-named .ensures) (c .before .before .write .ensures)
 
 pub put-label-spec : {M : Type 1} → statement M
 put-label-spec =

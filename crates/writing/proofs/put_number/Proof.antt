@@ -32,7 +32,8 @@ same-length c = simp length-set at (c .before .before .write .kept .0)
 returns : tie.Need-returns
 returns c =
     let d = c .before .before .before .before .before .before .before in
-    number-done (d .args .table .now) _ (c .before .before .write .last .0) (c .before .before .before .before .numbers .result) (d .pre .long) (d .args .code) (c .before .before .before .before .numbers .ensures .is) (omega (arith, c .before .before .before .before .numbers .ensures .is, d .pre .room)) refl (c .before .before .write .ensures)
+    let numbers = c .before .before .before .before .numbers in
+    number-done (d .args .table .now) _ (c .before .before .write .last .0) (numbers .result) (d .pre .long) (d .args .code) (numbers .ensures .is) (omega (arith, numbers .ensures .is, d .pre .room)) refl (c .before .before .write .ensures)
 
 pub put-number-spec : {M : Type 1} → statement M
 put-number-spec =

@@ -38,7 +38,11 @@ same-length c = search needs
 returns : tie.Need-returns
 returns c =
     let d = c .before .before .before .before .before .before .before .before .before .before .before .before .before .before in
-    switch-done (d .args .table .now) (c .before .before .before .before .before .before .write .last .0) (c .before .before .write2 .last .0) (c .before .before .before .before .before .before .before .before .before .before .before .switches .result) (c .before .before .before .before .before .before .before .before .before .entries .result) (c .before .before .before .before .before .before .before .bit .result) (d .args .named) (d .pre .long) (c .before .before .before .before .before .before .before .before .before .before .before .switches .ensures .is) (omega (arith, c .before .before .before .before .before .before .before .before .before .before .before .switches .ensures .is, d .pre .room)) (c .before .before .before .before .before .before .before .before .before .entries .ensures .is) (c .before .before .before .before .before .before .before .bit .ensures .is) (c .before .before .before .before .before .before .write .ensures) (c .before .before .write2 .ensures)
+    let write = c .before .before .before .before .before .before .write in
+    let switches = c .before .before .before .before .before .before .before .before .before .before .before .switches in
+    let entries = c .before .before .before .before .before .before .before .before .before .entries in
+    let bit = c .before .before .before .before .before .before .before .bit in
+    switch-done (d .args .table .now) (write .last .0) (c .before .before .write2 .last .0) (switches .result) (entries .result) (bit .result) (d .args .named) (d .pre .long) (switches .ensures .is) (omega (arith, switches .ensures .is, d .pre .room)) (entries .ensures .is) (bit .ensures .is) (write .ensures) (c .before .before .write2 .ensures)
 
 pub put-switch-spec : {M : Type 1} → statement M
 put-switch-spec =

@@ -30,7 +30,9 @@ same-length c = search needs
 returns : tie.Need-returns
 returns c =
     let d = c .before .before .before .before .before .before .before .before .before .before .before .before in
-    text-done (d .args .table .now) (c .before .before .before .before .before .before .put-named .last .0) (c .before .before .write .last .0) (c .before .before .before .before .before .before .before .before .texts .result) (d .pre .long) (now (d .args .word)) (c .before .before .before .before .before .before .before .before .texts .ensures .is) (omega (arith, c .before .before .before .before .before .before .before .before .texts .ensures .is, d .pre .room)) (record { most = d .pre .short; below = below-of 256 (now (d .args .word)) (λ j. omega (arith, c .before .before .before .before .before .before .before .before .before .before .shared-slice-known .given j)) }) (c .before .before .before .before .before .before .put-named .ensures) (c .before .before .write .ensures)
+    let put-named = c .before .before .before .before .before .before .put-named in
+    let texts = c .before .before .before .before .before .before .before .before .texts in
+    text-done (d .args .table .now) (put-named .last .0) (c .before .before .write .last .0) (texts .result) (d .pre .long) (now (d .args .word)) (texts .ensures .is) (omega (arith, texts .ensures .is, d .pre .room)) (record { most = d .pre .short; below = below-of 256 (now (d .args .word)) (λ j. omega (arith, c .before .before .before .before .before .before .before .before .before .before .shared-slice-known .given j)) }) (put-named .ensures) (c .before .before .write .ensures)
 
 pub put-text-spec : {M : Type 1} → statement M
 put-text-spec =

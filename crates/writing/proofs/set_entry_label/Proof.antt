@@ -25,7 +25,8 @@ same-length c = search needs
 returns : tie.Need-returns
 returns c =
     let d = c .before .before .before .before .before .before .before in
-    relabelled-done (d .args .table .now) (c .before .before .write .last .0) (d .args .k) (d .args .label) (c .before .before .before .before .entry-text .result) (d .pre .there) (d .pre .few) (d .pre .label-low) (c .before .before .before .before .entry-text .ensures .is) (c .before .before .write .ensures)
+    let entry-text = c .before .before .before .before .entry-text in
+    relabelled-done (d .args .table .now) (c .before .before .write .last .0) (d .args .k) (d .args .label) (entry-text .result) (d .pre .there) (d .pre .few) (d .pre .label-low) (entry-text .ensures .is) (c .before .before .write .ensures)
 
 pub set-entry-label-spec : {M : Type 1} → statement M
 set-entry-label-spec =
