@@ -1,5 +1,5 @@
 -- The words that a test takes of an expression, made one word in front of it.
-use mathlib.Core.Path.{_≡_, refl, sym, ap, _∙_, subst}
+use mathlib.Core.Path.{_≡_, sym, _∙_, subst}
 use mathlib.Core.Bool.{Bool, true, false, cond}
 use mathlib.Core.List.{List, [], _∷_}
 use Prim.Native.Nat.{ℕ, _+_, _≤_, _<_}
@@ -18,13 +18,13 @@ use Rattle.components.specs.Parts.{spelled, Written}
 use Rattle.matching.specs.Tests.{Took}
 use Rattle.matching.specs.declared.Taken.{Taken}
 use Rattle.state.specs.Working.{state-at, HoldsState, Stands, on-store, nth, reading, writing, char-count}
-use Rattle.state.specs.Blocks.{ExprLent, FirstParts, PartsWritable}
+use Rattle.state.specs.Blocks.{ExprLent, PartsWritable}
 use Rattle.state.specs.Limited.{Limited}
 use Rattle.state.proofs.Fits.{fine-limited, fits-minus-unless, fits-into}
 use Rattle.state.proofs.Freed.{limited-past, components-past, chars-past}
 use Rattle.state.proofs.Standing.{state-of, stands}
 use Rattle.moves.proofs.Taking.{took, taken-part, droppable}
-use Rattle.moves.proofs.Spelling.{part-is, chars-long}
+use Rattle.moves.proofs.WordsTaken.{part-is, chars-long}
 use Rattle.joining.specs.Joining.{word-if, some, word-room, joined-up, WordsMakeable}
 use Rattle.joining.proofs.Words.{some-most, word-count, word-chars, made-encoded, room-of, room-have}
 

@@ -1,10 +1,9 @@
 -- The row of ZBIJ: what it makes of a store, and that its function does it.
 use mathlib.Core.Path.{_≡_, refl, ap, _∙_}
-use mathlib.Core.Bool.{Bool, true, false, cond}
+use mathlib.Core.Bool.{Bool, true, false}
 use mathlib.Core.List.{List}
 use Prim.Native.Nat.{ℕ, _≤_}
-use native.Mathlib.Omega.{arith}
-use lib.ListN.{length, take, length-take}
+use lib.ListN.{take}
 use Rattle.language.specs.Limits as limit
 use Rattle.language.specs.Program.{Arg, Program}
 use Rattle.language.specs.Program.Arg.{nothing}
@@ -21,7 +20,7 @@ use Rattle.tests.specs.Prepares.{Prepares}
 use Rattle.tests.specs.declared.Prepared.{Prepared}
 use Rattle.tests.proofs.Asked.{words-stop, words-tried}
 use Rattle.moves.specs.Moves.{all-taken-words}
-use Rattle.moves.proofs.Rows.{none-words}
+use Rattle.moves.proofs.WordsTaken.{none-words}
 use Rattle.joining.specs.Joining.{joined-up}
 
 row-zbij : (g : Program) (ins : Inputs) (s : Store) (i : ℕ) (c : Arg) (removes : Bool)

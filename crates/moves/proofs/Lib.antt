@@ -1,3 +1,3 @@
 pub mod Taking
-pub mod Spelling
+pub mod WordsTaken
 pub mod Rows

@@ -1,29 +1,27 @@
 -- The rows of moves of components: what they make of a store, and that their functions do it.
 use mathlib.Core.Path.{_≡_, refl, sym, ap, _∙_, subst}
-use mathlib.Core.Bool.{Bool, true, false, cond}
+use mathlib.Core.Bool.{Bool, true, false}
 use mathlib.Core.List.{List}
 use Prim.Native.Nat.{ℕ, _≤_}
-use native.Mathlib.Numerals.{unary-clauses}
 use native.Mathlib.Omega.{arith}
 use lib.ListN.{length, take, length-take}
 use Rattle.language.specs.Limits as limit
-use Rattle.language.specs.Letters.Letter.{Q}
 use Rattle.language.specs.Program.{Arg, Program}
 use Rattle.language.specs.Program.Arg.{nothing}
-use Rattle.language.specs.Program.Op.{PRZESLIJ, USUN, PISZ}
+use Rattle.language.specs.Program.Op.{PRZESLIJ, USUN}
 use Rattle.language.specs.Values.{Component, Store, Inputs}
-use Rattle.machine.specs.Arguments.{expr, ask, _&_, Until, number-of, test-asks, on-parts}
-use Rattle.machine.specs.Changes.{with-exprs, with-plus, with-outputs, printed, put-expr, minus-unless, placed, into, past-by, past}
+use Rattle.machine.specs.Arguments.{expr, Until, test-asks, on-parts}
+use Rattle.machine.specs.Changes.{with-exprs, with-plus, put-expr, minus-unless, placed, into, past-by, past}
 use Rattle.machine.specs.Effects.{Row, moved, row}
 use Rattle.machine.specs.Effects.Go.{on}
 use Rattle.matching.specs.Tests.{until}
 use Rattle.state.specs.Working.{state-at, HoldsState, Stands, on-store, nth, reading}
-use Rattle.instructions.specs.Does.{with-store, Does, DoesFor, Tried}
+use Rattle.instructions.specs.Does.{DoesFor, Tried}
 use Rattle.instructions.proofs.Answers.{tried-done}
 use Rattle.tests.specs.Prepares.{Prepares}
 use Rattle.tests.specs.declared.Prepared.{Prepared}
-use Rattle.tests.proofs.Asked.{test-stop, test-tried, words-stop, words-tried}
-use Rattle.moves.specs.Moves.{target, sent, spelled-out, all-taken-words, cut-off}
+use Rattle.tests.proofs.Asked.{test-stop, test-tried}
+use Rattle.moves.specs.Moves.{target, sent, cut-off}
 
 module _ (g : Program) (ins : Inputs) (s : Store) (i : ℕ) (c : Arg) where
   -- ---- what they make
@@ -54,13 +52,6 @@ module _ (g : Program) (ins : Inputs) (s : Store) (i : ℕ) (c : Arg) where
   unfolding row
   row-usun = ap (λ (t : Store). (test-asks ins s c, t, on)) moved-cut
 
-  row-pisz : (removes : Bool) (j : ℕ)
-      → row g ins s (nth (reading removes) i) (nth Q j) c PISZ
-      ≡ (test-asks ins s c & ask 53 (all-taken-words (on-parts ins s c) i s), spelled-out (on-parts ins s c) removes i j s, on)
-  unfolding row moved spelled-out all-taken-words past past-by
-  row-pisz true j = refl
-  row-pisz false j = refl
-
 -- no address is given
 sent-last : (u : Until Component) (removes : Bool) (i : ℕ) (reverses at-end : Bool) (j : ℕ) (s : Store) → sent u removes i reverses at-end j s .last ≡ s .last
 unfolding sent minus-unless with-plus into put-expr with-exprs past past-by
@@ -70,16 +61,6 @@ sent-last u false i reverses at-end j s = refl
 cut-last : (u : Until Component) (i : ℕ) (s : Store) → cut-off u i s .last ≡ s .last
 unfolding cut-off minus-unless with-plus put-expr with-exprs past past-by
 cut-last u i s = refl
-
-spelled-last : (u : Until Component) (removes : Bool) (i j : ℕ) (s : Store) → spelled-out u removes i j s .last ≡ s .last
-unfolding spelled-out minus-unless with-plus printed with-outputs put-expr with-exprs past past-by
-spelled-last u true i j s = refl
-spelled-last u false i j s = refl
-
--- by a count of 0 nothing is taken
-pub none-words : (i : ℕ) (s : Store) → all-taken-words (number-of 0) i s ≡ true
-unfolding all-taken-words
-none-words i s = simp unary-clauses refl
 
 -- ---- what their functions do
 
@@ -151,24 +132,3 @@ module _ {p e n : List ℕ} (h : Stands p e n) (i : ℕ) (c : Arg) {x : List ℕ
   -- the bytes beside the test
   pub beside-long : r .len ≡ length (take (r .len) x)
   beside-long = simp length-take (omega (arith, w .inside))
-
-  -- ---- PISZ
-
-  module _ (removes : Bool) (j : ℕ) where
-    abbrev out : Program → Inputs → Row
-    out g ins = row g ins s (nth (reading removes) i) (nth Q j) c PISZ
-
-    pub pisz-stop : (r .stop ≡ 0 → ⊥) → DoesFor p e n (r .stop) p e n out
-    pisz-stop z g ins =
-        let u = on-parts ins s c in
-        rw (row-pisz g ins s i c removes j)
-        (words-stop h c w ins (spelled-out u removes i j s) (last-most (spelled-out u removes i j s) (spelled-last u removes i j s)) (all-taken-words u i s)
-        (λ q. ap (λ (v : Until Component). all-taken-words v i s) (w .negative q ins) ∙ none-words i s) z)
-
-    pub pisz-tried : r .stop ≡ 0 → {k : ℕ} {p′ e′ n′ : List ℕ}
-        → Tried p e n k p′ e′ n′ (all-taken-words (until (r .test) (take (r .len) x)) i s) (spelled-out (until (r .test) (take (r .len) x)) removes i j s)
-        → DoesFor p e n k p′ e′ n′ out
-    pisz-tried z k g ins =
-        let u = until (r .test) (take (r .len) x) in
-        rw (row-pisz g ins s i c removes j, w .parts z ins)
-        (words-tried h c w ins (spelled-out u removes i j s) (last-most (spelled-out u removes i j s) (spelled-last u removes i j s)) (all-taken-words u i s) z k)

@@ -1,7 +1,7 @@
 -- What a test takes of an expression, in bytes: taken away, copied beside, turned round.
 use mathlib.Core.Path.{_≡_, refl, sym, ap, _∙_, subst}
 use mathlib.Core.Bool.{Bool, true, false, not, cond, _&&_}
-use mathlib.Core.List.{List, [], _∷_, _++_, reverse, reverseAux}
+use mathlib.Core.List.{List, [], _∷_, reverseAux}
 use Prim.Native.Nat.{ℕ, _+_, _≤_, _<_}
 use native.Mathlib.Omega.{arith}
 use lib.Dec.{leb}
@@ -10,10 +10,10 @@ use borrow.Author.Tests.{leb-true}
 use Rattle.lists.specs.Lists.{total}
 use Rattle.language.specs.Limits as limit
 use Rattle.language.specs.Letters.Letter.{E}
-use Rattle.language.specs.Values.{Component, Store, State, chars}
-use Rattle.machine.specs.Arguments.{expr, Until, taken}
+use Rattle.language.specs.Values.{Component, Store, chars}
+use Rattle.machine.specs.Arguments.{expr, Until}
 use Rattle.machine.specs.Changes.{minus-unless, into, past-by, past, fits}
-use Rattle.layout.specs.Bounds.{Each, Ok, Encoded, WholeComponents}
+use Rattle.layout.specs.Bounds.{Each, Ok, Encoded}
 use Rattle.layout.specs.ComponentLaws.{component-some, components-of, whole-components}
 use Rattle.layout.specs.Components.{component-bytes, components-bytes, components-in}
 use Rattle.layout.specs.Memory.{components-held, chars-held}
@@ -24,7 +24,7 @@ use Rattle.components.proofs.Walks.{cut}
 use Rattle.matching.specs.Tests.{Took}
 use Rattle.matching.specs.declared.Taken.{Taken}
 use Rattle.state.specs.Working.{state-at, HoldsState, Stands, on-store, nth, reading, writing, turned, char-count}
-use Rattle.state.specs.Blocks.{ExprLent, FirstParts, PartsDroppable, PartsWritable}
+use Rattle.state.specs.Blocks.{ExprLent, PartsDroppable, PartsWritable}
 use Rattle.state.proofs.Sequences.{total-ones, turned-length, turned-total}
 use Rattle.state.proofs.Fits.{fine-limited, fits-minus-unless, fits-into-ok}
 use Rattle.state.proofs.Freed.{held-off}

@@ -1,21 +1,18 @@
 -- What moves of components make of a store, and what their functions ask.
-use mathlib.Core.Path.{_≡_}
-use mathlib.Core.Bool.{Bool, true, false, cond}
+use mathlib.Core.Bool.{Bool, true, false}
 use mathlib.Core.List.{List}
 use Prim.Native.Nat.{ℕ, _≤_, _<_}
-use lib.ListN.{length, take}
+use lib.ListN.{take}
 use Rattle.language.specs.Limits as limit
 use Rattle.language.specs.Letters.{Letter}
-use Rattle.language.specs.Letters.Letter.{A, B, E, Q, Y, Z}
+use Rattle.language.specs.Letters.Letter.{A, B, E, Y, Z}
 use Rattle.language.specs.Values.{Component, Store}
 use Rattle.machine.specs.Arguments.{expr, Until, taken}
-use Rattle.machine.specs.Changes.{minus-unless, into, printed, past}
-use Rattle.components.specs.Parts.{spelled}
+use Rattle.machine.specs.Changes.{minus-unless, into, past}
 use Rattle.matching.specs.Tests.{Fitting, all-word}
 use Rattle.matching.specs.declared.Test.{Test}
 use Rattle.state.specs.Working.{Stands, nth, reading, writing, turned}
 use Rattle.table.specs.declared.Argument.{Argument}
-use Rattle.instructions.specs.Does.{Ready}
 use Rattle.tests.specs.Prepares.{TestReadable}
 
 -- the letters that a move writes components by
@@ -25,20 +22,13 @@ target false true = Z
 target true false = A
 target false false = B
 
--- the sequence that u takes of expression i is written to expression j; to output j; is gone
+-- the sequence that u takes of expression i is written to expression j; has words alone; is gone
 unfoldable pub sent : Until Component → Bool → ℕ → Bool → Bool → ℕ → Store → Store
 sent u removes i reverses at-end j s =
     let xs = expr s (nth E i) in
     let r = taken u xs in
     minus-unless (r .1) (into (nth (writing at-end) j) (turned reverses (take (r .0) xs)) (past (nth (reading removes) i) (r .0) s))
 
-unfoldable pub spelled-out : Until Component → Bool → ℕ → ℕ → Store → Store
-spelled-out u removes i j s =
-    let xs = expr s (nth E i) in
-    let r = taken u xs in
-    minus-unless (r .1) (printed (nth Q j) (spelled (take (r .0) xs)) (past (nth (reading removes) i) (r .0) s))
-
--- whether it has words alone
 unfoldable pub all-taken-words : Until Component → ℕ → Store → Bool
 all-taken-words u i s = let xs = expr s (nth E i) in all-word (take (taken u xs .0) xs)
 
@@ -59,14 +49,6 @@ pub record Sendable (p e n : List ℕ) (scratch hold : ℕ) (given : List ℕ) (
   pub fitting : Fitting test given
   pub source : i < limit.expressions
   pub target : j < limit.expressions
-
-pub record Spellable (p e n : List ℕ) (scratch hold : ℕ) (given : List ℕ) (test : Test) (i j : ℕ) : Type 0 where
-  pub stands : Stands p e n
-  pub spare : 65536 ≤ scratch
-  pub room : 32768 ≤ hold
-  pub fitting : Fitting test given
-  pub source : i < limit.expressions
-  pub target : j < limit.outputs
 
 -- the instructions: from expression i to expression or output j with the test of argument a; of expression i
 pub record Movable (c p e n : List ℕ) (scratch hold given i j most : ℕ) (a : Argument) : Type 0 where

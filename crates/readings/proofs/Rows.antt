@@ -1,10 +1,10 @@
 -- The rows of CZYTAJ and of USUN of an input: what they make of a store, and that their functions do it.
 use mathlib.Core.Path.{_≡_, refl, sym, ap, subst}
-use mathlib.Core.Bool.{Bool, true, false, cond}
+use mathlib.Core.Bool.{Bool, true, false}
 use mathlib.Core.List.{List, [], _∷_, reverse}
 use Prim.Native.Nat.{ℕ, zero, suc, _≤_, _<_}
 use native.Mathlib.Omega.{arith}
-use lib.ListN.{length, take}
+use lib.ListN.{take}
 use Rattle.language.specs.Limits as limit
 use Rattle.language.specs.Letters.Letter.{I}
 use Rattle.language.specs.Program.{Arg, Program}

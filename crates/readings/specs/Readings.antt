@@ -1,5 +1,4 @@
 -- Reading inputs: what CZYTAJ and USUN of an input make of a store, and what their functions ask and tell.
-use mathlib.Core.Path.{_≡_}
 use mathlib.Core.Bool.{Bool}
 use mathlib.Core.List.{List, [], _∷_}
 use Prim.Native.Nat.{ℕ, _≤_, _<_}
@@ -7,7 +6,7 @@ use lib.ListN.{length, getD, take, drop}
 use Rattle.language.specs.Limits as limit
 use Rattle.language.specs.Letters.Letter.{I}
 use Rattle.language.specs.Program.{Program}
-use Rattle.language.specs.Values.{Store, Inputs}
+use Rattle.language.specs.Values.{Store}
 use Rattle.machine.specs.Arguments.{at, Until, taken}
 use Rattle.machine.specs.Changes.{minus-unless, into, past}
 use Rattle.machine.specs.Effects.{Row}

@@ -1,5 +1,4 @@
 // Reading inputs: CZYTAJ, and USUN of an input.
-ghost use mathlib.Core.Path.{_≡_};
 ghost use mathlib.Core.Bool.{true};
 ghost use mathlib.Core.List.{[], _∷_};
 ghost use lib.ListN.{length};

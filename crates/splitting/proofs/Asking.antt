@@ -1,23 +1,21 @@
 -- The questions of ROZBIJ: a component, which is a word, and those of its test.
-use mathlib.Core.Path.{_≡_, refl, sym, ap, _∙_, subst}
+use mathlib.Core.Path.{_≡_, refl, sym, _∙_}
 use mathlib.Core.Bool.{Bool, true, false, cond, _&&_}
 use mathlib.Core.List.{List, [], _∷_}
-use Prim.Native.Nat.{ℕ, _≤_, _<_}
+use Prim.Native.Nat.{ℕ, _<_}
 use native.Mathlib.Omega.{arith}
 use lib.Dec.{eqb}
 use lib.ListN.{length, drop}
 use borrow.Author.Tests.{eq-eqb, ne-eqb}
 use Rattle.language.specs.Letters.Letter.{E}
 use Rattle.language.specs.Values.{Component, Store, kind}
-use Rattle.machine.specs.Arguments.{expr, Asks}
-use Rattle.layout.specs.Bounds.{NextComponent}
+use Rattle.machine.specs.Arguments.{expr}
 use Rattle.layout.specs.Cells.{cell}
 use Rattle.layout.specs.ComponentLaws.{next-component, components-none}
 use Rattle.layout.specs.Components.{component-in, components-in, component-size}
 use Rattle.components.specs.Parts.{Leading}
 use Rattle.state.specs.Working.{state-at, nth}
 use Rattle.state.specs.Blocks.{ExprLent}
-use Rattle.instructions.specs.Does.{stop-of}
 use Rattle.instructions.proofs.Answers.{stop-by}
 use Rattle.splitting.specs.Splitting.{WordAsked}
 

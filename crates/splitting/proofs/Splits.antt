@@ -5,9 +5,8 @@ use mathlib.Core.List.{List, [], _∷_, map}
 use Prim.Native.Nat.{ℕ, zero, suc, pred, _+_, _-_, _*_, _≤_, _<_}
 use native.Mathlib.Omega.{arith}
 use lib.Dec.{leb}
-use lib.ListN.{length, take, drop, length-take}
+use lib.ListN.{length, take, length-take}
 use borrow.Author.Tests.{le-leb, leb-true}
-use Rattle.lists.specs.Lists.{total}
 use Rattle.language.specs.Limits as limit
 use Rattle.language.specs.Letters.Letter.{E}
 use Rattle.language.specs.Values.{Component, Store, chars}

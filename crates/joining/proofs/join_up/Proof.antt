@@ -10,7 +10,7 @@ use Rattle.matching.specs.Tests.{until}
 use Rattle.state.specs.Working.{state-at, nth, reading, writing}
 use Rattle.instructions.proofs.Answers.{one-after, tried-wrong, tried-full}
 use Rattle.moves.proofs.Taking.{part-long, droppable, denied, granted}
-use Rattle.moves.proofs.Spelling.{words-right}
+use Rattle.moves.proofs.WordsTaken.{words-right}
 use Rattle.moves.proofs.Rows.{done-right}
 use Rattle.joining.specs.Joining.{joined-up}
 use Rattle.joining.proofs.Words.{written-fits, written-size}

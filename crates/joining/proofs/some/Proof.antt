@@ -1,6 +1,5 @@
 -- `joining::some` meets its contract.
 use mathlib.Core.Path.{refl, sym}
-use Rattle.joining.specs.Joining.{some}
 use Rattle.joining.proofs.Words.{some-one}
 use Rattle.joining.proofs.some.Statement.{statement}
 use Rattle.joining.proofs.some.Tie as tie

@@ -1,6 +1,5 @@
 -- `moves::cut_off` meets its contract.
 use borrow.Author.Needs.{needs}
-use native.Mathlib.Omega.{arith}
 use mathlib.Core.Bool.{true}
 use Rattle.machine.specs.Changes.{minus-unless, past}
 use Rattle.state.specs.Working.{state-at, nth, reading}
@@ -9,12 +8,6 @@ use Rattle.instructions.proofs.Answers.{one-after}
 use Rattle.moves.proofs.Taking.{droppable, gone-off}
 use Rattle.moves.proofs.cut_off.Statement.{statement}
 use Rattle.moves.proofs.cut_off.Tie as tie
-use Rattle.moves.proofs.cut_off.Reads as reads
-use Rattle.moves.proofs.cut_off.Lts as lts
-use Rattle.matching.proofs.count.Reads as count-reads
-use Rattle.state.proofs.drop_parts.Reads as drop-parts-reads
-use Rattle.state.proofs.expr_bytes.Reads as expr-bytes-reads
-use Rattle.state.proofs.minus_unless.Reads as minus-unless-reads
 
 expr-bytes-requires : tie.Need-expr-bytes-requires
 expr-bytes-requires c κs =

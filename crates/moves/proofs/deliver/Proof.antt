@@ -1,6 +1,5 @@
 -- `moves::deliver` meets its contract.
 use borrow.Author.Needs.{needs}
-use native.Mathlib.Omega.{arith}
 use Rattle.machine.specs.Changes.{minus-unless, into}
 use Rattle.layout.specs.Components.{components-in}
 use Rattle.state.specs.Working.{state-at, nth, writing}
@@ -8,10 +7,6 @@ use Rattle.state.proofs.Standing.{stands}
 use Rattle.instructions.proofs.Answers.{one-after}
 use Rattle.moves.proofs.deliver.Statement.{statement}
 use Rattle.moves.proofs.deliver.Tie as tie
-use Rattle.moves.proofs.deliver.Reads as reads
-use Rattle.moves.proofs.deliver.Lts as lts
-use Rattle.state.proofs.minus_unless.Reads as minus-unless-reads
-use Rattle.state.proofs.write_parts.Reads as write-parts-reads
 
 write-parts-requires : tie.Need-write-parts-requires
 write-parts-requires c κs =

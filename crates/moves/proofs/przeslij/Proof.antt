@@ -1,16 +1,10 @@
 -- `moves::przeslij` meets its contract.
 use borrow.Author.Needs.{needs}
-use native.Mathlib.Omega.{arith}
 use Rattle.packed.specs.Packed.{table-of}
 use Rattle.table.specs.Denote.{arg-of}
 use Rattle.moves.proofs.Rows.{beside-long, przeslij-stop, przeslij-off, przeslij-copy}
 use Rattle.moves.proofs.przeslij.Statement.{statement}
 use Rattle.moves.proofs.przeslij.Tie as tie
-use Rattle.moves.proofs.przeslij.Reads as reads
-use Rattle.moves.proofs.przeslij.Lts as lts
-use Rattle.moves.proofs.send_copy.Reads as send-copy-reads
-use Rattle.moves.proofs.send_off.Reads as send-off-reads
-use Rattle.tests.proofs.prepare.Reads as prepare-reads
 
 prepare-requires : tie.Need-prepare-requires
 prepare-requires c κs =

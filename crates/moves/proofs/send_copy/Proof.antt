@@ -1,9 +1,8 @@
 -- `moves::send_copy` meets its contract.
 use borrow.Author.Needs.{needs}
 use native.Mathlib.Omega.{arith}
-use mathlib.Core.Path.{_≡_, refl, sym, _∙_}
+use mathlib.Core.Path.{refl, sym, _∙_}
 use mathlib.Core.Bool.{false}
-use Rattle.machine.specs.Arguments.{Until}
 use Rattle.matching.specs.Tests.{until}
 use Rattle.state.specs.Working.{state-at}
 use Rattle.instructions.proofs.Answers.{tried-full}
@@ -12,13 +11,6 @@ use Rattle.moves.proofs.Rows.{done}
 use Rattle.moves.proofs.Taking.{bytes-few, part-long, taken-part, took, more, copy-room, held-fits, held-turned, denied, granted, writable-copy, fits-copy, sent-copy}
 use Rattle.moves.proofs.send_copy.Statement.{statement}
 use Rattle.moves.proofs.send_copy.Tie as tie
-use Rattle.moves.proofs.send_copy.Reads as reads
-use Rattle.moves.proofs.send_copy.Lts as lts
-use Rattle.components.proofs.copy.Reads as copy-reads
-use Rattle.instructions.proofs.has_room.Reads as has-room-reads
-use Rattle.matching.proofs.count.Reads as count-reads
-use Rattle.moves.proofs.deliver.Reads as deliver-reads
-use Rattle.state.proofs.expr_bytes.Reads as expr-bytes-reads
 
 expr-bytes-requires : tie.Need-expr-bytes-requires
 expr-bytes-requires c κs =

@@ -10,13 +10,6 @@ use Rattle.instructions.proofs.Answers.{one-after}
 use Rattle.moves.proofs.Taking.{bytes-few, part-long, taken-part, took, copy-room, droppable, held-fits, held-turned, writable-off, sent-off}
 use Rattle.moves.proofs.send_off.Statement.{statement}
 use Rattle.moves.proofs.send_off.Tie as tie
-use Rattle.moves.proofs.send_off.Reads as reads
-use Rattle.moves.proofs.send_off.Lts as lts
-use Rattle.components.proofs.copy.Reads as copy-reads
-use Rattle.matching.proofs.count.Reads as count-reads
-use Rattle.moves.proofs.deliver.Reads as deliver-reads
-use Rattle.state.proofs.drop_parts.Reads as drop-parts-reads
-use Rattle.state.proofs.expr_bytes.Reads as expr-bytes-reads
 
 expr-bytes-requires : tie.Need-expr-bytes-requires
 expr-bytes-requires c κs =

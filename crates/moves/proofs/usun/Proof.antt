@@ -1,15 +1,10 @@
 -- `moves::usun` meets its contract.
 use borrow.Author.Needs.{needs}
-use native.Mathlib.Omega.{arith}
 use Rattle.packed.specs.Packed.{table-of}
 use Rattle.table.specs.Denote.{arg-of}
 use Rattle.moves.proofs.Rows.{beside-long, usun-stop, usun-done}
 use Rattle.moves.proofs.usun.Statement.{statement}
 use Rattle.moves.proofs.usun.Tie as tie
-use Rattle.moves.proofs.usun.Reads as reads
-use Rattle.moves.proofs.usun.Lts as lts
-use Rattle.moves.proofs.cut_off.Reads as cut-off-reads
-use Rattle.tests.proofs.prepare.Reads as prepare-reads
 
 prepare-requires : tie.Need-prepare-requires
 prepare-requires c κs =

@@ -2,7 +2,7 @@
 use borrow.Author.Needs.{needs}
 use native.Mathlib.Omega.{arith}
 use mathlib.Core.Path.{refl, sym, _∙_}
-use lib.ListN.{length, take}
+use lib.ListN.{take}
 use Rattle.language.specs.Letters.Letter.{I}
 use Rattle.machine.specs.Changes.{minus-unless, into, past}
 use Rattle.layout.specs.Components.{components-in}

@@ -2,7 +2,6 @@
 use borrow.Author.Needs.{needs}
 use native.Mathlib.Omega.{arith}
 use Rattle.state.specs.Working.{state-at}
-use Rattle.joining.proofs.Words.{some-most}
 use Rattle.splitting.proofs.Splits.{some-below, room-removed, room-left}
 use Rattle.splitting.proofs.has_split_room.Statement.{statement}
 use Rattle.splitting.proofs.has_split_room.Tie as tie

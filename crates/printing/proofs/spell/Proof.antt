@@ -1,19 +1,20 @@
--- `moves::spell` meets its contract.
+-- `printing::spell` meets its contract.
 use borrow.Author.Needs.{needs}
 use native.Mathlib.Omega.{arith}
-use mathlib.Core.Path.{_≡_, sym, _∙_}
+use mathlib.Core.Path.{_∙_}
 use lib.ListN.{take}
 use Rattle.language.specs.Letters.Letter.{Q}
 use Rattle.machine.specs.Changes.{minus-unless, printed, past}
 use Rattle.matching.specs.Tests.{until}
 use Rattle.state.specs.Working.{state-at, nth, reading}
 use Rattle.instructions.proofs.Answers.{one-after, tried-wrong, tried-full}
-use Rattle.moves.specs.Moves.{spelled-out}
+use Rattle.printing.specs.Printing.{spelled-out}
 use Rattle.moves.proofs.Taking.{part-long, droppable, denied, granted}
-use Rattle.moves.proofs.Spelling.{chars-few, join-room, words-right, joined-fits, joined-size, printable, spelled-done, spelled-full}
+use Rattle.moves.proofs.WordsTaken.{words-right}
+use Rattle.printing.proofs.Spelling.{chars-few, join-room, joined-fits, joined-size, printable, spelled-done, spelled-full}
 use Rattle.moves.proofs.Rows.{done-right}
-use Rattle.moves.proofs.spell.Statement.{statement}
-use Rattle.moves.proofs.spell.Tie as tie
+use Rattle.printing.proofs.spell.Statement.{statement}
+use Rattle.printing.proofs.spell.Tie as tie
 
 expr-bytes-requires : tie.Need-expr-bytes-requires
 expr-bytes-requires c κs =

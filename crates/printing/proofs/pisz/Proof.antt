@@ -1,11 +1,11 @@
--- `moves::pisz` meets its contract.
+-- `printing::pisz` meets its contract.
 use borrow.Author.Needs.{needs}
-use native.Mathlib.Omega.{arith}
 use Rattle.packed.specs.Packed.{table-of}
 use Rattle.table.specs.Denote.{arg-of}
-use Rattle.moves.proofs.Rows.{beside-long, pisz-stop, pisz-tried}
-use Rattle.moves.proofs.pisz.Statement.{statement}
-use Rattle.moves.proofs.pisz.Tie as tie
+use Rattle.moves.proofs.Rows.{beside-long}
+use Rattle.printing.proofs.Rows.{pisz-stop, pisz-tried}
+use Rattle.printing.proofs.pisz.Statement.{statement}
+use Rattle.printing.proofs.pisz.Tie as tie
 
 prepare-requires : tie.Need-prepare-requires
 prepare-requires c κs =

@@ -1,13 +1,12 @@
--- `moves::put_out` meets its contract.
+-- `printing::put_out` meets its contract.
 use borrow.Author.Needs.{needs}
-use native.Mathlib.Omega.{arith}
 use Rattle.language.specs.Letters.Letter.{Q}
 use Rattle.machine.specs.Changes.{minus-unless, printed}
 use Rattle.state.specs.Working.{state-at, nth}
 use Rattle.state.proofs.Standing.{stands}
 use Rattle.instructions.proofs.Answers.{one-after}
-use Rattle.moves.proofs.put_out.Statement.{statement}
-use Rattle.moves.proofs.put_out.Tie as tie
+use Rattle.printing.proofs.put_out.Statement.{statement}
+use Rattle.printing.proofs.put_out.Tie as tie
 
 print-requires : tie.Need-print-requires
 print-requires c κs =
