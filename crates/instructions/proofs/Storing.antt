@@ -15,9 +15,8 @@ use Rattle.machine.specs.Changes.{fits}
 use Rattle.machine.specs.Effects.Go.{on}
 use Rattle.machine.specs.Steps.{refusals}
 use Rattle.state.specs.Working.{state-at, HoldsState, Stands, on-store}
-use Rattle.state.proofs.Fits.{fine-limited, fits-limited}
 use Rattle.instructions.specs.Does.{asked-of, answer-of, with-store, Does, Quiet, stop-of}
-use Rattle.instructions.proofs.Answers.{does-stop, does-done, unstopped, quiet-full, quiet-done}
+use Rattle.instructions.proofs.Answers.{stop-by, does-stop, unstopped, quiet-done}
 
 pub quiet-none : Quiet none
 quiet-none = record { is-50 = refl; is-55 = refl; is-56 = refl; is-57 = refl; is-58 = refl; is-59 = refl; is-60 = refl }
@@ -65,6 +64,39 @@ module _ {p e n : List ℕ} (h : Stands p e n) (q : Asks) (k : Quiet q) (z : sto
 
   pub storing-done : {p′ e′ n′ : List ℕ} → HoldsState p′ e′ n′ (with-store t s) → Does p e n 0 p′ e′ n′ (q, t, on)
   storing-done g = quiet-done h q t k z g
+
+-- 52, 53 or 54 is answered no, whatever the row would make
+abbrev refused-before : Bool → Bool → Bool → Bool → Bool → List ℕ
+refused-before a b c f l =
+    let r₃ : List ℕ = refused f l in
+    let r₂ : List ℕ = cond (c && true) r₃ (54 ∷ r₃) in
+    let r₁ : List ℕ = cond (b && true) r₂ (53 ∷ r₂) in
+    cond (a && true) r₁ (52 ∷ r₁)
+
+before-head : (a b c f l : Bool) → (stop-by a b c ≡ 0 → ⊥) → headOr 0 (refused-before a b c f l) ≡ stop-by a b c
+before-head false b c f l z = refl
+before-head true false c f l z = refl
+before-head true true false f l z = refl
+before-head true true true f l z = absurd (z refl)
+
+module _ {p e n : List ℕ} (h : Stands p e n) (q : Asks) (k : Quiet q) (t : Store) where
+  before-is : refusals (asked-of (q, t, on) (state-at p e n)) ≡ refused-before (q 52) (q 53) (q 54) (fits t) (leb (t .last) limit.addresses)
+  before-is =
+      rw (
+        k .is-50,
+        k .is-55,
+        k .is-56,
+        k .is-57,
+        k .is-58,
+        k .is-59,
+        k .is-60,
+        le-leb (length (state-at p e n .stack)) limit.stack (h .fine .stack-most),
+      ) refl
+
+  pub storing-stop : {x : ℕ} → x ≡ stop-of q → (x ≡ 0 → ⊥) → Does p e n x p e n (q, t, on)
+  storing-stop w z =
+      does-stop h (q, t, on)
+      (ap (headOr 0) before-is ∙ before-head (q 52) (q 53) (q 54) (fits t) (leb (t .last) limit.addresses) (λ y. z (w ∙ y)) ∙ sym w) z
 
 -- nothing is asked: all is done, or 59
 module _ {p e n : List ℕ} (h : Stands p e n) where
