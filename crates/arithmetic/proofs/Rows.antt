@@ -26,11 +26,11 @@ use Rattle.instructions.specs.Does.{answer-of, with-store, Does, Quiet, Tried}
 use Rattle.instructions.proofs.Answers.{answer-decided, kept-stop, kept-done, does-stop, answer-quiet, quiet-stop}
 use Rattle.table.specs.Denote.{arg-of}
 use Rattle.table.specs.declared.Argument.{Argument}
-use Rattle.operands.specs.Operands.{ReadsNumbers, ReadsPair, replaced}
+use Rattle.operands.specs.Operands.{ReadsNumbers, ReadsPair, replaced, DoesWith}
 use Rattle.operands.specs.declared.Pair.{Pair}
 use Rattle.operands.proofs.Codes.{high, abs-most}
 use Rattle.operands.proofs.Replacing.{replaced-last, number-first}
-use Rattle.arithmetic.specs.Arithmetic.{Coded, Divisible, Codes, Numbered, Computed, DoesWith}
+use Rattle.arithmetic.specs.Arithmetic.{Coded, Divisible, Codes, Numbered, Computed}
 use Rattle.arithmetic.proofs.Numbers.{divided-in, size-is, size-some}
 
 -- all is answered yes but, maybe, 59

@@ -7,15 +7,13 @@ use lib.IntN.{ℤ, pos, negℤ, natAbs}
 use lib.Signed.{nonNeg}
 use Rattle.language.specs.Limits as limit
 use Rattle.language.specs.Letters.Letter.{E}
-use Rattle.language.specs.Program.{Program}
-use Rattle.language.specs.Values.{Component, Inputs, in-range}
+use Rattle.language.specs.Values.{Component, in-range}
 use Rattle.machine.specs.Arguments.{expr}
-use Rattle.machine.specs.Effects.{Row}
 use Rattle.layout.specs.Cells.{code, uncode}
 use Rattle.state.specs.Working.{state-at, HoldsState, Stands, nth}
 use Rattle.state.specs.Blocks.{FirstParts}
 use Rattle.table.specs.declared.Argument.{Argument}
-use Rattle.instructions.specs.Does.{Tried, DoesFor}
+use Rattle.instructions.specs.Does.{Tried}
 use Rattle.operands.specs.Operands.{PairReadable, replaced}
 
 -- the code of a result; 16,777,215 where it is out of range
@@ -86,7 +84,3 @@ pub record Computable (p e n : List ℕ) (scratch hold i : ℕ) (a : Argument) :
   pub pair : PairReadable p e n i a
   pub spare : 65536 ≤ scratch
   pub room : 32768 ≤ hold
-
--- whatever the table is
-abbrev pub DoesWith : List ℕ → List ℕ → List ℕ → ℕ → List ℕ → List ℕ → List ℕ → (List ℕ → Program → Inputs → Row) → Type 0
-DoesWith p e n told p′ e′ n′ r = (c : List ℕ) → DoesFor p e n told p′ e′ n′ (r c)

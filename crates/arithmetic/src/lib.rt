@@ -14,8 +14,8 @@ ghost use Rattle.machine.specs.Effects.{row};
 ghost use Rattle.state.specs.Working.{state-at, nth, reading};
 ghost use Rattle.table.specs.Denote.{arg-of};
 ghost use Rattle.instructions.specs.Does.{Tried};
-ghost use Rattle.operands.specs.Operands.{replaced};
-ghost use Rattle.arithmetic.specs.Arithmetic.{result, negative, differ, signed, Coded, Divisible, Size, Codes, OneResult, TwoResults, ComputedBy, Computable, DoesWith};
+ghost use Rattle.operands.specs.Operands.{replaced, DoesWith};
+ghost use Rattle.arithmetic.specs.Arithmetic.{result, negative, differ, signed, Coded, Divisible, Size, Codes, OneResult, TwoResults, ComputedBy, Computable};
 
 // The code of 0.
 const ZERO: usize = 8388607;

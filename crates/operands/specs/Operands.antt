@@ -7,9 +7,11 @@ use lib.Dec.{eqb, ltb}
 use lib.ListN.{length}
 use Rattle.language.specs.Limits as limit
 use Rattle.language.specs.Letters.Letter.{E}
+use Rattle.language.specs.Program.{Program}
 use Rattle.language.specs.Values.{Component, Store, Inputs}
 use Rattle.machine.specs.Arguments.{expr, side, needs, _&_}
 use Rattle.machine.specs.Changes.{front, used}
+use Rattle.machine.specs.Effects.{Row}
 use Rattle.layout.specs.Bounds.{WholeComponents}
 use Rattle.layout.specs.Cells.{uncode}
 use Rattle.layout.specs.Components.{components-in}
@@ -21,7 +23,7 @@ use Rattle.table.specs.declared.Letter.{Letter}
 use Rattle.table.specs.declared.Letter.the-variants.{B}
 use Rattle.table.specs.declared.Argument.{Argument}
 use Rattle.table.specs.declared.Argument.the-variants.{Indexed, Number}
-use Rattle.instructions.specs.Does.{stop-of}
+use Rattle.instructions.specs.Does.{stop-of, DoesFor}
 use Rattle.operands.specs.declared.Operand.{Operand}
 use Rattle.operands.specs.declared.Pair.{Pair}
 
@@ -82,3 +84,8 @@ pub record Replaceable (p e n : List ℕ) (scratch i bytes letters : ℕ) (new :
   pub chars-is : chars ≡ char-count (components-in new)
   pub parts-most : parts ≤ 65536
   pub chars-most : chars ≤ 65536
+
+-- ---- instructions that read no table: what they do is said for every one
+
+abbrev pub DoesWith : List ℕ → List ℕ → List ℕ → ℕ → List ℕ → List ℕ → List ℕ → (List ℕ → Program → Inputs → Row) → Type 0
+DoesWith p e n told p′ e′ n′ r = (c : List ℕ) → DoesFor p e n told p′ e′ n′ (r c)

@@ -1,0 +1,172 @@
+-- The rows of order, and that their functions do what they say.
+use mathlib.Core.Path.{_≡_, refl, sym, ap, _∙_, subst}
+use mathlib.Core.Bool.{Bool, true, false, cond, _&&_}
+use mathlib.Core.List.{List, [], _∷_}
+use Prim.Native.Nat.{ℕ, _≤_}
+use native.Mathlib.Omega.{arith}
+use lib.Dec.{ltb}
+use lib.ListN.{length, take, length-take}
+use lib.Signed.{ltZ}
+use Rattle.characters.specs.Characters.{precedes}
+use Rattle.language.specs.Limits as limit
+use Rattle.language.specs.Letters.Letter.{E}
+use Rattle.language.specs.Program.{Arg, Program}
+use Rattle.language.specs.Program.Arg.{nothing}
+use Rattle.language.specs.Program.Op.{WK, MN, PP, NS}
+use Rattle.language.specs.Values.{Component, Store, Inputs, chars, value}
+use Rattle.machine.specs.Arguments.{Asks, expr, first, side, needs, _&_}
+use Rattle.machine.specs.Changes.{with-plus, minus, minus-unless, past-by, used-by, used}
+use Rattle.machine.specs.Effects.{Row, relation, ordered, row}
+use Rattle.machine.specs.Effects.Go.{on}
+use Rattle.layout.specs.Cells.{uncode}
+use Rattle.packed.specs.Packed.{table-of}
+use Rattle.state.specs.Working.{state-at, HoldsState, Stands, on-store, nth, reading}
+use Rattle.table.specs.Denote.{arg-of}
+use Rattle.table.specs.declared.Argument.{Argument}
+use Rattle.instructions.specs.Does.{Does, DoesFor, Quiet, stop-of}
+use Rattle.instructions.proofs.Answers.{quiet-stop, quiet-done}
+use Rattle.operands.specs.Operands.{earlier, ReadsPair, DoesWith}
+use Rattle.operands.specs.declared.Pair.{Pair}
+use Rattle.operands.proofs.Codes.{coded-less}
+use Rattle.operands.proofs.Reading.{both-none, first-stop}
+use Rattle.ordering.specs.Ordering.{ReadsWord, ReadsOther}
+use Rattle.ordering.specs.declared.Worded.{Worded}
+
+-- ---- the rows
+
+abbrev Less : Type 0
+Less = Component → Component → Bool
+
+abbrev row-of : ℕ → Less → Store → List Component → List Component → Row
+row-of k less s xs ys = (needs k xs & needs k ys, minus-unless (less (first xs) (first ys)) s, on)
+
+kept-or-minus : (b : Bool) (s : Store) → cond b s (minus s) ≡ minus-unless b s
+unfolding minus minus-unless with-plus
+kept-or-minus true s = refl
+kept-or-minus false s = refl
+
+abbrev greater : Less
+greater x y = ltZ (value y) (value x)
+
+abbrev smaller : Less
+smaller x y = ltZ (value x) (value y)
+
+abbrev before : Less
+before x y = precedes (chars x) (chars y)
+
+abbrev behind : Less
+behind x y = precedes (chars y) (chars x)
+
+module _ (g : Program) (ins : Inputs) (s : Store) (i : ℕ) (a : Arg) where
+  abbrev xs : List Component
+  xs = side ins s (nth (reading false) i)
+
+  abbrev ys : List Component
+  ys = side ins s a
+
+  ordered-is : (k : ℕ) (less : Less) → ordered g ins s k less (nth (reading false) i) a ≡ row-of k less s xs ys
+  unfolding ordered relation used used-by past-by
+  ordered-is k less = ap (λ (t : Store). (needs k xs & needs k ys, t, on)) (kept-or-minus (less (first xs) (first ys)) s)
+
+  row-wk : row g ins s (nth (reading false) i) a nothing WK ≡ row-of 1 greater s xs ys
+  unfolding row
+  row-wk = ordered-is 1 greater
+
+  row-mn : row g ins s (nth (reading false) i) a nothing MN ≡ row-of 1 smaller s xs ys
+  unfolding row
+  row-mn = ordered-is 1 smaller
+
+  row-pp : row g ins s (nth (reading false) i) a nothing PP ≡ row-of 0 before s xs ys
+  unfolding row
+  row-pp = ordered-is 0 before
+
+  row-ns : row g ins s (nth (reading false) i) a nothing NS ≡ row-of 0 behind s xs ys
+  unfolding row
+  row-ns = ordered-is 0 behind
+
+quiet-two : (k : ℕ) (xs ys : List Component) → Quiet (needs k xs & needs k ys)
+quiet-two k xs ys = record { is-50 = refl; is-55 = refl; is-56 = refl; is-57 = refl; is-58 = refl; is-59 = refl; is-60 = refl }
+
+minus-last : (b : Bool) (s : Store) → minus-unless b s .last ≡ s .last
+unfolding minus-unless with-plus
+minus-last b s = refl
+
+module _ {p e n : List ℕ} (h : Stands p e n) where
+  abbrev s : Store
+  s = state-at p e n .store
+
+  order-stop : (k : ℕ) (less : Less) (xs ys : List Component) {m : ℕ} → m ≡ stop-of (needs k xs & needs k ys) → (m ≡ 0 → ⊥) → Does p e n m p e n (row-of k less s xs ys)
+  order-stop k less xs ys e z =
+      let b = less (first xs) (first ys) in
+      quiet-stop h (needs k xs & needs k ys) (minus-unless b s) (quiet-two k xs ys) (rw (minus-last b s) (h .fine .last-most)) e z
+
+  order-done : (k : ℕ) (less : Less) (xs ys : List Component) {b : Bool} {n′ : List ℕ} → stop-of (needs k xs & needs k ys) ≡ 0 → b ≡ less (first xs) (first ys)
+      → HoldsState p e n′ (on-store (minus-unless b) (state-at p e n)) → Does p e n 0 p e n′ (row-of k less s xs ys)
+  unfolding on-store
+  order-done k less xs ys z q u =
+      quiet-done h (needs k xs & needs k ys) (minus-unless (less (first xs) (first ys)) s) (quiet-two k xs ys) z (rw q at u)
+
+  -- ---- numbers
+
+  module _ (i : ℕ) (a : Argument) {r : Pair} (w : ReadsPair s i a r) where
+    abbrev left : Inputs → List Component
+    left ins = side ins s (nth (reading false) i)
+
+    abbrev right : List ℕ → Inputs → List Component
+    right c ins = side ins s (arg-of c a)
+
+    pub wk-stop : (r .stop ≡ 0 → ⊥) → DoesWith p e n (r .stop) p e n (λ c g ins. row g ins s (nth (reading false) i) (arg-of c a) nothing WK)
+    wk-stop z c g ins = rw (row-wk g ins s i (arg-of c a)) (order-stop 1 greater (left ins) (right c ins) (w false c ins .stop-is) z)
+
+    pub mn-stop : (r .stop ≡ 0 → ⊥) → DoesWith p e n (r .stop) p e n (λ c g ins. row g ins s (nth (reading false) i) (arg-of c a) nothing MN)
+    mn-stop z c g ins = rw (row-mn g ins s i (arg-of c a)) (order-stop 1 smaller (left ins) (right c ins) (w false c ins .stop-is) z)
+
+    pub wk-done : r .stop ≡ 0 → {n′ : List ℕ} → HoldsState p e n′ (on-store (minus-unless (ltb (r .right) (r .left))) (state-at p e n))
+        → DoesWith p e n 0 p e n′ (λ c g ins. row g ins s (nth (reading false) i) (arg-of c a) nothing WK)
+    wk-done z u c g ins =
+        let v = w false c ins in
+        rw (row-wk g ins s i (arg-of c a))
+        (order-done 1 greater (left ins) (right c ins) (sym (v .stop-is) ∙ z) (coded-less (r .right) (r .left) ∙ rw (v .left-is z, v .right-is z) refl) u)
+
+    pub mn-done : r .stop ≡ 0 → {n′ : List ℕ} → HoldsState p e n′ (on-store (minus-unless (ltb (r .left) (r .right))) (state-at p e n))
+        → DoesWith p e n 0 p e n′ (λ c g ins. row g ins s (nth (reading false) i) (arg-of c a) nothing MN)
+    mn-done z u c g ins =
+        let v = w false c ins in
+        rw (row-mn g ins s i (arg-of c a))
+        (order-done 1 smaller (left ins) (right c ins) (sym (v .stop-is) ∙ z) (coded-less (r .left) (r .right) ∙ rw (v .left-is z, v .right-is z) refl) u)
+
+  -- ---- words
+
+  module _ (c : List ℕ) (i : ℕ) (a : Argument) {x y : List ℕ} {q r : Worded} (v : ReadsWord (take 1 (expr s (nth E i))) x q) (w : ReadsOther c s a y r) {k : ℕ}
+      (o : k ≡ earlier (q .stop) (r .stop)) where
+    abbrev other : Inputs → List Component
+    other ins = side ins s (arg-of (table-of c) a)
+
+    abbrev one : List Component
+    one = take 1 (expr s (nth E i))
+
+    stop-both : (ins : Inputs) → k ≡ stop-of (needs 0 one & needs 0 (other ins))
+    stop-both ins = o ∙ first-stop 0 0 one (other ins) (v .stop-is) (w ins .stop-is)
+
+    pub pp-stop : (k ≡ 0 → ⊥) → DoesFor p e n k p e n (λ g ins. row g ins s (nth (reading false) i) (arg-of (table-of c) a) nothing PP)
+    pp-stop z g ins = rw (row-pp g ins s i (arg-of (table-of c) a)) (order-stop 0 before one (other ins) (stop-both ins) z)
+
+    pub ns-stop : (k ≡ 0 → ⊥) → DoesFor p e n k p e n (λ g ins. row g ins s (nth (reading false) i) (arg-of (table-of c) a) nothing NS)
+    ns-stop z g ins = rw (row-ns g ins s i (arg-of (table-of c) a)) (order-stop 0 behind one (other ins) (stop-both ins) z)
+
+    pub pp-done : k ≡ 0 → {b : Bool} {n′ : List ℕ} → b ≡ precedes (take (q .len) x) (take (r .len) y) → HoldsState p e n′ (on-store (minus-unless b) (state-at p e n))
+        → DoesFor p e n 0 p e n′ (λ g ins. row g ins s (nth (reading false) i) (arg-of (table-of c) a) nothing PP)
+    pp-done z e u g ins =
+        let f = both-none (q .stop) (r .stop) (sym o ∙ z) in
+        rw (row-pp g ins s i (arg-of (table-of c) a))
+        (order-done 0 before one (other ins) (sym (stop-both ins) ∙ z) (e ∙ rw (v .is (f .0), w ins .is (f .1)) refl) u)
+
+    pub ns-done : k ≡ 0 → {b : Bool} {n′ : List ℕ} → b ≡ precedes (take (r .len) y) (take (q .len) x) → HoldsState p e n′ (on-store (minus-unless b) (state-at p e n))
+        → DoesFor p e n 0 p e n′ (λ g ins. row g ins s (nth (reading false) i) (arg-of (table-of c) a) nothing NS)
+    ns-done z e u g ins =
+        let f = both-none (q .stop) (r .stop) (sym o ∙ z) in
+        rw (row-ns g ins s i (arg-of (table-of c) a))
+        (order-done 0 behind one (other ins) (sym (stop-both ins) ∙ z) (e ∙ rw (v .is (f .0), w ins .is (f .1)) refl) u)
+
+pub word-long : {xs : List Component} {g : List ℕ} {r : Worded} → ReadsWord xs g r → r .len ≡ length (take (r .len) g)
+word-long w = simp length-take (omega (arith, w .inside))
