@@ -1,0 +1,70 @@
+-- What a relation's second argument asks and offers: its components, put beside.
+use mathlib.Core.Path.{_≡_}
+use mathlib.Core.List.{List}
+use Prim.Native.Nat.{ℕ, _≤_}
+use lib.ListN.{length, take}
+use Rattle.language.specs.Limits as limit
+use Rattle.language.specs.Program.{Arg}
+use Rattle.language.specs.Program.Arg.{letter}
+use Rattle.language.specs.Values.{Component, Store, Inputs}
+use Rattle.machine.specs.Arguments.{Asks, use-by, side, is-count, single, present, is, when, _&_}
+use Rattle.layout.specs.Bounds.{Encoded}
+use Rattle.packed.specs.Packed.{table-of}
+use Rattle.state.specs.Working.{Stands}
+use Rattle.table.specs.Denote.{letter-of, arg-of}
+use Rattle.table.specs.Good.{GoodIndex, GoodArgument}
+use Rattle.table.specs.declared.Letter.{Letter}
+use Rattle.table.specs.declared.Letter.the-variants.{A, B, C, D, E, I, N, P, Q, T, Y, Z}
+use Rattle.table.specs.declared.Argument.{Argument}
+use Rattle.table.specs.declared.Argument.the-variants.{Indexed}
+use Rattle.instructions.specs.Does.{stop-of}
+use Rattle.comparands.specs.declared.Held.{Held}
+
+-- the letters of relations' second arguments
+abbrev pub OtherLetter : Letter → Type 0
+OtherLetter A = ⊥
+OtherLetter B = Unit {0}
+OtherLetter C = ⊥
+OtherLetter D = ⊥
+OtherLetter E = Unit {0}
+OtherLetter I = ⊥
+OtherLetter N = Unit {0}
+OtherLetter P = ⊥
+OtherLetter Q = ⊥
+OtherLetter T = Unit {0}
+OtherLetter Y = ⊥
+OtherLetter Z = ⊥
+
+pub record LetterHoldable (p e n : List ℕ) (l : Letter) (k given : ℕ) : Type 0 where
+  pub stands : Stands p e n
+  pub index : GoodIndex l k
+  pub form : OtherLetter l
+  pub room : 32768 ≤ given
+
+pub record Holdable (c p e n : List ℕ) (given : ℕ) (a : Argument) : Type 0 where
+  pub long : limit.table ≤ length c
+  pub stands : Stands p e n
+  pub room : 32768 ≤ given
+  pub good : GoodArgument c (arg-of (table-of c) a) a
+  pub form : (l : Letter) (k : ℕ) → a ≡ Indexed l k → OtherLetter l
+
+-- q are the questions, and where they are answered yes, the components xs stand in front of g
+pub record Offers (q : Asks) (xs : List Component) (g : List ℕ) (r : Held) : Type 0 where
+  pub stop-is : r .stop ≡ stop-of q
+  pub encoded : r .stop ≡ 0 → Encoded (take (r .len) g) xs
+  pub inside : r .len ≤ length g
+  pub most : r .len ≤ 32768
+
+-- "by B as a test or second argument, by N" (52); N asks for a number (53)
+abbrev pub offer-asks : Inputs → Store → Arg → Asks
+offer-asks ins s b = when (single b) (present (side ins s b)) & when (is-count (use-by b .reading)) (is 1 (side ins s b))
+
+abbrev pub LetterOffers : Store → Letter → ℕ → List ℕ → Held → Type 0
+LetterOffers s l k g r = (ins : Inputs) → Offers (offer-asks ins s (letter (letter-of l) k)) (side ins s (letter (letter-of l) k)) g r
+
+abbrev pub ArgumentOffers : List ℕ → Store → Argument → List ℕ → Held → Type 0
+ArgumentOffers c s a g r = (ins : Inputs) → Offers (offer-asks ins s (arg-of (table-of c) a)) (side ins s (arg-of (table-of c) a)) g r
+
+pub record CodeHoldable (given code : ℕ) : Type 0 where
+  pub room : 32768 ≤ given
+  pub most : code ≤ 16777214
