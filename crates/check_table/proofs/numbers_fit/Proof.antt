@@ -1,0 +1,54 @@
+-- `check_table::numbers_fit` meets its contract.
+use borrow.Author.Needs.{needs}
+use mathlib.Core.Path.{_≡_}
+use Prim.Native.Nat.{_-_, _≤_}
+use native.Mathlib.Omega.{arith}
+use borrow.Author.Tests.{not-true, not-false}
+use denote.Ref.{now}
+use Rattle.packed.specs.Packed.{table-of}
+use Rattle.check_parts.specs.Parts.{passes}
+use Rattle.check_parts.specs.PassLaws.{loop-stop, loop-on, loop-end, from-0}
+use Rattle.check_table.specs.Checks.{number-stays}
+use Rattle.check_table.proofs.numbers_fit.Statement.{statement}
+use Rattle.check_table.proofs.numbers_fit.Tie as tie
+
+abbrev Inv-loop : tie.InvT-loop
+Inv-loop table n i₀ i = (i ≤ n) × (passes (number-stays (table-of table) n) (n - i) i ≡ passes (number-stays (table-of table) n) n 0)
+
+abbrev μ-loop : tie.MeasureT-loop
+μ-loop table n i₀ i = n - i
+
+loop-holds : tie.Need-loop-holds Inv-loop μ-loop
+loop-holds c = (omega arith, from-0 (number-stays (table-of (now (c .before .args .table))) (c .before .args .n)) (c .before .args .n))
+
+number-stays-requires : tie.Need-number-stays-requires Inv-loop μ-loop
+number-stays-requires c κs = search needs
+
+returns : tie.Need-returns Inv-loop μ-loop
+returns c = loop-stop (number-stays (table-of (now (c .before .before .before .before .before .args .table))) (c .before .before .before .before .before .args .n)) (c .before .before .before .before .before .args .n) (c .before .before .before .loop .i) (passes (number-stays (table-of (now (c .before .before .before .before .before .args .table))) (c .before .before .before .before .before .args .n)) (c .before .before .before .before .before .args .n) 0) (c .before .before .before .loop .inv .1) _ (c .before .number-stays .ensures) (c .before .before .loop-test .taken) (not-true _ (c .if1 .taken))
+
+add-i : tie.Need-add-i Inv-loop μ-loop
+add-i c = search needs
+
+loop-less : tie.Need-loop-less Inv-loop μ-loop
+loop-less c = search needs
+
+loop-again : tie.Need-loop-again Inv-loop μ-loop
+loop-again c = (omega arith, loop-on (number-stays (table-of (now (c .before .before .before .before .before .args .table))) (c .before .before .before .before .before .args .n)) (c .before .before .before .before .before .args .n) (c .before .before .before .loop .i) (passes (number-stays (table-of (now (c .before .before .before .before .before .args .table))) (c .before .before .before .before .before .args .n)) (c .before .before .before .before .before .args .n) 0) (c .before .before .before .loop .inv .1) _ (c .before .number-stays .ensures) (c .before .before .loop-test .taken) (not-false _ (c .if1 .left)))
+
+returns-2 : tie.Need-returns-2 Inv-loop μ-loop
+returns-2 c = loop-end (number-stays (table-of (now (c .before .before .before .args .table))) (c .before .before .before .args .n)) (c .before .before .before .args .n) (c .before .loop .i) (passes (number-stays (table-of (now (c .before .before .before .args .table))) (c .before .before .before .args .n)) (c .before .before .before .args .n) 0) (c .before .loop .inv .1) (c .loop-test .left)
+
+pub numbers-fit-spec : {M : Type 1} → statement M
+numbers-fit-spec =
+    tie.close
+    (tie.spec
+    Inv-loop
+    μ-loop
+    loop-holds
+    number-stays-requires
+    returns
+    add-i
+    loop-less
+    loop-again
+    returns-2)

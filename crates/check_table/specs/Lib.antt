@@ -1,0 +1,13 @@
+pub mod Checks
+pub mod StandLaws
+pub mod CharLaws
+pub mod NameLaws
+pub mod SearchLaws
+pub mod RefLaws
+pub mod ArgumentFits
+pub mod FormFits
+pub mod SwitchFits
+pub mod InstructionFits
+pub mod DifferLaws
+pub mod TableFits
+pub mod QuestionLaws
