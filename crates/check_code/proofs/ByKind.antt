@@ -1,6 +1,6 @@
 -- An argument's cell by its kind: whether it is in range, and the set of its form.
-use mathlib.Core.Path.{_≡_, sym}
-use mathlib.Core.Bool.{Bool, cond, _&&_}
+use mathlib.Core.Path.{_≡_}
+use mathlib.Core.Bool.{cond}
 use mathlib.Core.List.{List}
 use Prim.Native.Nat.{ℕ, _+_, _/_, _%_, _^_}
 use lib.Dec.{eqb, ltb}

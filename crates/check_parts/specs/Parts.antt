@@ -1,19 +1,13 @@
 -- What the cells t of a program table have to be, part by part (question 62).
 use mathlib.Core.Bool.{Bool, true, false, cond, not, _&&_, _||_}
 use mathlib.Core.List.{List, [], _∷_}
-use Prim.Native.Nat.{ℕ, zero, suc, _+_, _*_, _-_, _/_, _%_, _^_, _≤_, _<_}
+use Prim.Native.Nat.{ℕ, zero, suc, _+_, _*_, _-_, _/_, _%_, _^_}
 use lib.Bits.{bitAnd}
 use lib.Dec.{leb, ltb, eqb}
-use lib.ListN.{length}
 use Rattle.language.specs.Limits as limit
 use Rattle.characters.specs.Characters.{known, isLetter, isDigit}
 use Rattle.layout.specs.Cells.{cell, unfours}
 use Rattle.forms.specs.Forms.{set-at}
-
--- a lent table is long enough, and the n places from k on are not too many to count
-pub record Span (c : List ℕ) (k n : ℕ) : Type 0 where
-  pub long : limit.table ≤ length c
-  pub inside : k + n ≤ 65536
 
 -- f passes for the n numbers from k on
 unfoldable pub passes : (ℕ → Bool) → ℕ → ℕ → Bool
@@ -63,7 +57,7 @@ module _ (t : List ℕ) where
   abbrev pub chars-fit : ℕ → ℕ → Bool → Bool
   chars-fit at n name = passes (char-fits at n name) 60 0
 
-  -- text k has 2 to 60 characters, and the texts i and j have the same cells
+  -- text k has 2 to 60 characters; the texts i and j have the same cells
   unfoldable pub text-fits : ℕ → Bool
   text-fits k = ltb 1 (cell t (4104 + 16 * k)) && leb (cell t (4104 + 16 * k)) 60 && chars-fit (4105 + 16 * k) (cell t (4104 + 16 * k)) false
 

@@ -1,7 +1,6 @@
 -- Laws of tests that pass for all numbers of a run: the turns of a loop, and the same tests of a list by its index.
 use mathlib.Core.Path.{_≡_, refl, sym, ap, _∙_, subst}
 use mathlib.Core.Bool.{Bool, true, false, not, _&&_, _||_}
-use mathlib.Core.List.{List, [], _∷_}
 use Prim.Native.Nat.{ℕ, zero, suc, _+_, _-_, _≤_, _<_}
 use native.Mathlib.Decide.{ℕ-discrete}
 use native.Mathlib.Omega.{arith}
@@ -21,7 +20,7 @@ module _ (f : ℕ → Bool) (n i : ℕ) where
       let k : suc i ≡ i + 1 = omega arith in
       rw (e, k)
 
-  pub passes-end : n ≤ i → passes f (n - i) i ≡ true
+  passes-end : n ≤ i → passes f (n - i) i ≡ true
   unfolding passes
   passes-end h = let e : n - i ≡ 0 = omega arith in rw e
 

@@ -1,5 +1,5 @@
 -- The turns of the loop over the switches, whose entries go on where those before end; and the parts of a table together.
-use mathlib.Core.Path.{_≡_, refl, sym, ap, _∙_}
+use mathlib.Core.Path.{_≡_, sym, ap, _∙_}
 use mathlib.Core.Bool.{Bool, true, false, _&&_}
 use mathlib.Core.List.{List}
 use Prim.Native.Nat.{ℕ, suc, _+_, _*_, _-_, _%_, _≤_, _<_}

@@ -1,27 +1,26 @@
 -- Arguments and entries of a table: tested by their cell, they are in range and written as they are read.
-use mathlib.Core.Path.{_≡_, refl, sym, ap, _∙_, subst}
-use mathlib.Core.Bool.{Bool, true, false, cond, not, _&&_, _||_, Bool·beq}
-use mathlib.Core.List.{List, [], _∷_}
-use Prim.Native.Nat.{ℕ, zero, suc, _+_, _*_, _-_, _/_, _%_, _≤_, _<_}
-use native.Mathlib.Decide.{decLt, ℕ-discrete}
+use mathlib.Core.Path.{_≡_, refl, sym, ap, subst}
+use mathlib.Core.Bool.{Bool, _&&_, Bool·beq}
+use mathlib.Core.List.{List}
+use Prim.Native.Nat.{ℕ, zero, suc, _+_, _-_, _/_, _%_, _<_}
+use native.Mathlib.Decide.{decLt}
 use native.Mathlib.Omega.{arith}
-use lib.Dec.{T, leb, ltb, eqb, leb→le, ltb→lt, le→leb, lt→ltb, eqb→eq, eqb-refl}
-use lib.ListN.{length, getD, List·getD-eq-default}
+use lib.Dec.{T, leb, ltb, eqb, ltb→lt, lt→ltb, eqb→eq}
+use lib.ListN.{getD, List·getD-eq-default}
 use Rattle.language.specs.Letters.{Letter, letters, indices, use-of}
 use Rattle.language.specs.Letters.Letter.{A}
-use Rattle.language.specs.Program.{Arg, classes, Entry, Program}
-use Rattle.language.specs.Program.Arg.{nothing, letter, label, switch, class, text}
+use Rattle.language.specs.Program.{Arg, classes, Program}
+use Rattle.language.specs.Program.Arg.{letter, class, text}
 use Rattle.language.specs.Values.{in-range}
 use Rattle.lists.specs.ListLaws.{T-left, T-right, T-both}
 use Rattle.lists.specs.Lists.{filled, sameBytes}
-use Rattle.lists.specs.TableLaws.{beq-eq, upTo, below}
-use Rattle.machine.specs.WellFormed.{good-text, kept-text, kept-number, ranged, good-entry}
+use Rattle.lists.specs.TableLaws.{beq-eq, below}
+use Rattle.machine.specs.WellFormed.{good-text, kept-text, kept-number, ranged}
 use Rattle.layout.specs.ArgumentLaws.{class-mask-most}
 use Rattle.layout.specs.Cells.{cell}
-use Rattle.layout.specs.Table.{letter-place, class-mask, text-ref, number-ref, arg-cell, entry-cell, text-by, number-by, class-by, arg-by, entry-in}
-use Rattle.check_parts.specs.Parts.{index-top, letter-fits, class-fits, ref-fits, entry-fits, arg-fits}
+use Rattle.layout.specs.Table.{letter-place, class-mask, arg-cell, text-by, number-by, class-by, arg-by}
+use Rattle.check_parts.specs.Parts.{index-top, letter-fits, class-fits, ref-fits, arg-fits}
 use Rattle.check_table.specs.RefLaws.{Kept, TextRef, NumberRef, ref-sound, ref-complete, number-sound, number-complete}
-use Rattle.check_table.specs.SearchLaws.{T-is, not-is, either, left-or, right-or}
 
 -- ---- letters by their place
 

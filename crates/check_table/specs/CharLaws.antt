@@ -1,13 +1,12 @@
 -- Characters four to a cell: those of a name or a text, and the zeros behind them.
-use mathlib.Core.Path.{_≡_, refl, sym, ap, ap₂, _∙_, subst}
-use mathlib.Core.Bool.{Bool, true, false, cond, _&&_}
-use mathlib.Core.List.{List, [], _∷_, _++_}
+use mathlib.Core.Path.{_≡_, refl, sym, ap, _∙_, subst}
+use mathlib.Core.Bool.{Bool, cond}
+use mathlib.Core.List.{List, [], _∷_}
 use Prim.Native.Nat.{ℕ, zero, suc, _+_, _*_, _-_, _/_, _%_, _≤_, _<_}
-use native.Mathlib.Nat.{not-suc-le-zero, le-of-suc-le-suc}
 use native.Mathlib.Decide.{decLt}
 use native.Mathlib.Omega.{arith}
-use lib.Dec.{T, eqb, ltb, eqb→eq, eqb-refl}
-use lib.ListN.{length, getD, take, drop, length-take, length-drop, List·getD-eq-default}
+use lib.Dec.{T, eqb, eqb→eq}
+use lib.ListN.{length, take, drop, length-drop, List·getD-eq-default}
 use lib.Seq.{length-take-le, getD-take, getD-drop, ext-getD}
 use borrow.Author.Tests.{lt-ltb, le-ltb}
 use Rattle.characters.specs.Characters.{known}
@@ -16,7 +15,7 @@ use Rattle.lists.specs.Lists.{all}
 use Rattle.layout.specs.Bounds.{Below}
 use Rattle.layout.specs.CellLaws.{length-fours, each-at, each-drop}
 use Rattle.layout.specs.Cells.{cell, four, fours, unfours}
-use Rattle.check_parts.specs.Parts.{passes, alphanumeric, char, char-fits, chars-fit}
+use Rattle.check_parts.specs.Parts.{alphanumeric, char, char-fits, chars-fit}
 use Rattle.check_parts.specs.PassLaws.{each-below, all-below}
 use Rattle.check_table.specs.StandLaws.{stands, stands-cell, cells-stand}
 

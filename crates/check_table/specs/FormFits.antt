@@ -1,30 +1,30 @@
 -- The forms of an instruction's arguments: sets of one form each, and the instruction's lists.
-use mathlib.Core.Path.{_≡_, refl, sym, ap, _∙_, subst}
+use mathlib.Core.Path.{_≡_, refl, sym, ap, _∙_}
 use mathlib.Core.Bool.{Bool, true, false, cond, not, _&&_, _||_}
 use mathlib.Core.List.{List, [], _∷_, map}
 use Prim.Native.Nat.{ℕ, zero, suc, _+_, _*_, _-_, _/_, _%_, _^_, _≤_, _<_}
 use native.Mathlib.Omega.{arith}
 use lib.Bits.{bitAnd}
-use lib.Dec.{T, leb, ltb, eqb, ltb→lt, eqb→eq, eqb-refl}
+use lib.Dec.{T, leb, ltb, eqb, ltb→lt, eqb→eq}
 use lib.ListN.{length, getD, length-map}
-use borrow.Author.Tests.{eqb-true, eq-eqb, ne-eqb, lt-ltb}
+use borrow.Author.Tests.{eqb-true, ne-eqb, lt-ltb}
 use Rattle.language.specs.Instructions.{Forms, operation}
-use Rattle.language.specs.Letters.{Letter, letters, letter-code}
+use Rattle.language.specs.Letters.{letters, letter-code}
 use Rattle.language.specs.Letters.Letter.{A}
-use Rattle.language.specs.Program.{Arg, Op, Instr, Program, Switch, no-switch, switch-at}
-use Rattle.lists.specs.ListLaws.{T-left, T-right, T-both}
+use Rattle.language.specs.Program.{Op, Instr, Program, Switch, no-switch, switch-at}
+use Rattle.lists.specs.ListLaws.{T-left, T-right}
 use Rattle.lists.specs.Lists.{any, among}
 use Rattle.lists.specs.Quoted.{bytes}
 use Rattle.lists.specs.TableLaws.{below}
 use Rattle.machine.specs.WellFormed.{form, listed}
 use Rattle.syntax.specs.ArgumentForms.{alternatives}
-use Rattle.forms.specs.Forms.{forms, bits, mask, set-of, set-at, listed as listed-at}
+use Rattle.forms.specs.Forms.{forms, bits, mask, listed as listed-at}
 use Rattle.forms.specs.ReadingLaws.{set-listed, two-lists}
 use Rattle.forms.specs.SetLaws.{and-mask}
 use Rattle.layout.specs.CellLaws.{getD-tab}
 use Rattle.layout.specs.Cells.{cell}
 use Rattle.layout.specs.Table.{arg-by, switch-in}
-use Rattle.check_parts.specs.Parts.{letter-fits, index-top, arg-fits, form-bit, takes, list-takes, lists-take}
+use Rattle.check_parts.specs.Parts.{letter-fits, index-top, arg-fits, form-bit, takes, lists-take}
 use Rattle.check_table.specs.RefLaws.{Kept}
 
 -- ---- a set is empty where no form passes

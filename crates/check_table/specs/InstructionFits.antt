@@ -1,11 +1,10 @@
 -- Instructions of a table: tested cell by cell, they are well formed and written as they are read.
 use mathlib.Core.Path.{_≡_, refl, sym, ap, _∙_, subst}
-use mathlib.Core.Bool.{Bool, true, false, _&&_}
+use mathlib.Core.Bool.{Bool, _&&_}
 use mathlib.Core.List.{List, [], _∷_}
 use Prim.Native.Nat.{ℕ, zero, suc, _+_, _*_, _/_, _%_, _≤_, _<_}
 use native.Mathlib.Omega.{arith}
 use lib.Dec.{T, leb, ltb, eqb, leb→le, ltb→lt, le→leb, lt→ltb, eqb→eq}
-use lib.ListN.{length}
 use Rattle.language.specs.Instructions.{operation, operator-of}
 use Rattle.language.specs.Program.{Instr, Program}
 use Rattle.lists.specs.ListLaws.{T-left, T-right, T-both}
@@ -15,10 +14,10 @@ use Rattle.machine.specs.WellFormed.{ranged, listed, good-instr}
 use Rattle.machine.specs.WellFormedLaws.{open-instr}
 use Rattle.layout.specs.ArgumentLaws.{operator-range}
 use Rattle.layout.specs.Cells.{cell}
-use Rattle.layout.specs.Table.{arg-cell, instr-cells, arg-in, instr-in}
+use Rattle.layout.specs.Table.{arg-cell, instr-cells, instr-in}
 use Rattle.check_parts.specs.Parts.{head-fits, arg-fits, form-bit, lists-take, instr-fits}
 use Rattle.check_table.specs.ArgumentFits.{arg-sound, arg-complete}
-use Rattle.check_table.specs.FormFits.{Formed, formed, listed-alike}
+use Rattle.check_table.specs.FormFits.{formed, listed-alike}
 use Rattle.check_table.specs.NameLaws.{stands-cons, stands-head, stands-tail}
 use Rattle.check_table.specs.RefLaws.{Kept}
 use Rattle.check_table.specs.StandLaws.{stands}

@@ -1,13 +1,13 @@
 -- Question 62 asked of the cells is question 62 of the specification, for every table.
 use mathlib.Core.Path.{_≡_, refl, sym, ap, _∙_, subst}
-use mathlib.Core.Bool.{Bool, true, false, not, _&&_}
-use mathlib.Core.List.{List, [], _∷_, _++_, map}
-use Prim.Native.Nat.{ℕ, zero, suc, pred, _+_, _*_, _-_, _/_, _%_, _≤_, _<_}
+use mathlib.Core.Bool.{Bool, true, false, _&&_}
+use mathlib.Core.List.{List, map}
+use Prim.Native.Nat.{ℕ, zero, suc, pred, _+_, _*_, _-_, _%_, _≤_, _<_}
 use native.Mathlib.Omega.{arith}
-use lib.Dec.{T, leb, ltb, eqb, leb→le, ltb→lt, le→leb, lt→ltb, eqb→eq, eqb-refl}
-use lib.ListN.{length, getD, take, drop}
+use lib.Dec.{T, leb, ltb, le→leb, lt→ltb}
+use lib.ListN.{length, getD, drop}
 use lib.Seq.{length-take-le}
-use lib.IntN.{ℤ, natAbs}
+use lib.IntN.{ℤ}
 use borrow.Author.Tests.{lt-leb, le-leb}
 use Rattle.language.specs.Instructions.{operation, operator-of, is-end}
 use Rattle.language.specs.Program.{Instr, Label, Switch, Program, no-instr, instr-at}
@@ -20,7 +20,7 @@ use Rattle.machine.specs.WellFormedLaws.{open-program}
 use Rattle.forms.specs.Forms.{ends}
 use Rattle.forms.specs.ReadingLaws.{ends-listed}
 use Rattle.layout.specs.CellLaws.{getD-tab}
-use Rattle.layout.specs.Cells.{cell, tab, padded}
+use Rattle.layout.specs.Cells.{cell, tab}
 use Rattle.layout.specs.ProgramLaws.{program-ok, length-each-total}
 use Rattle.layout.specs.Table.{instr-cells, label-cells, text-cells, switch-cells, entry-cell, all-entries, counts, table-cells, text-in, number-in, instr-in, label-in, switch-in, program-in, program-of, good-table}
 use Rattle.layout.specs.TableLaws.{length-table-cells}

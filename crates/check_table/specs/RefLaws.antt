@@ -1,14 +1,14 @@
 -- References to the tables of texts and numbers: tested by their value, they refer to what is kept, and are written as they are read.
 use mathlib.Core.Path.{_≡_, refl, sym, ap, _∙_, subst}
-use mathlib.Core.Bool.{Bool, true, false, cond, not, _&&_, _||_}
+use mathlib.Core.Bool.{Bool, true, false, cond, _&&_, _||_}
 use mathlib.Core.List.{List, [], _∷_}
 use Prim.Native.Nat.{ℕ, zero, suc, _+_, _-_, _≤_, _<_}
 use native.Mathlib.Decide.{decLt, ℕ-discrete}
 use native.Mathlib.Omega.{arith}
-use lib.Dec.{T, leb, ltb, eqb, leb→le, ltb→lt, le→leb, lt→ltb}
+use lib.Dec.{T, leb, ltb, ltb→lt, le→leb, lt→ltb}
 use lib.ListN.{length, getD}
 use lib.IntN.{ℤ, pos, negsuc, natAbs}
-use borrow.Author.Tests.{lt-ltb, le-ltb, lt-leb, le-leb, ne-eqb, leb-true, leb-false}
+use borrow.Author.Tests.{lt-ltb, le-ltb, lt-leb, le-leb, ne-eqb, leb-true}
 use Rattle.characters.specs.Characters.{known}
 use Rattle.language.specs.Program.{Program}
 use Rattle.language.specs.Values.{sameNumber, in-range}
@@ -22,7 +22,7 @@ use Rattle.layout.specs.ProgramLaws.{known-below}
 use Rattle.layout.specs.Table.{text-ref, number-ref, text-in, number-in, text-by, number-by, switch-in}
 use Rattle.check_parts.specs.Parts.{ref-fits}
 use Rattle.check_table.specs.NameLaws.{kept-good}
-use Rattle.check_table.specs.SearchLaws.{T-is, not-is, left-or, right-or, any-at, ahead-own, code-uncode, uncode-size, number-good}
+use Rattle.check_table.specs.SearchLaws.{left-or, right-or, any-at, ahead-own, code-uncode, uncode-size, number-good}
 
 -- the program p has the counts, texts and numbers of the cells t, and its texts and numbers are in range and differ
 pub record Kept (t : List ℕ) (p : Program) : Type 0 where

@@ -2,17 +2,16 @@
 use mathlib.Core.Path.{_≡_, refl, sym, ap, ap₂, _∙_, subst}
 use mathlib.Core.Bool.{Bool, true, false, _&&_}
 use mathlib.Core.List.{List, [], _∷_, _++_, map}
-use Prim.Native.Nat.{ℕ, zero, suc, _+_, _*_, _-_, _≤_, _<_}
+use Prim.Native.Nat.{ℕ, zero, suc, _+_, _*_, _-_, _<_}
 use native.Mathlib.Nat.{not-suc-le-zero, le-of-suc-le-suc}
 use native.Mathlib.Decide.{ℕ-discrete}
 use native.Mathlib.Omega.{arith}
 use lib.Dec.{T, eqb, eqb→eq, eqb-refl}
-use lib.ListN.{length, getD, take, drop, replicate, length-replicate, drop-of-length-le, length-take, length-drop}
-use lib.Seq.{drop-cons, getD-take, getD-drop}
+use lib.ListN.{length, drop, replicate, drop-of-length-le}
+use lib.Seq.{drop-cons}
 use borrow.Author.Tests.{eq-eqb, ne-eqb}
 use Rattle.lists.specs.ListLaws.{T-left, T-right, T-both}
 use Rattle.lists.specs.Lists.{each, sameBytes}
-use Rattle.layout.specs.CellLaws.{length-padded}
 use Rattle.layout.specs.Cells.{cell, tab, padded}
 use Rattle.check_parts.specs.Parts.{passes, zeros}
 

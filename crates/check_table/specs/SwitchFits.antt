@@ -1,13 +1,12 @@
 -- Switches of a table and their entries: tested one by one, they are well formed, written as they are read, and end with the last entry.
-use mathlib.Core.Path.{_≡_, refl, sym, ap, ap₂, _∙_, subst}
+use mathlib.Core.Path.{_≡_, refl, sym, ap, _∙_, subst}
 use mathlib.Core.Bool.{Bool, true, false, cond, not, _&&_, _||_}
 use mathlib.Core.List.{List, [], _∷_, _++_, map, map-append}
-use Prim.Native.Nat.{ℕ, zero, suc, _+_, _*_, _-_, _/_, _%_, _≤_, _<_}
-use native.Mathlib.Decide.{ℕ-discrete}
+use Prim.Native.Nat.{ℕ, zero, suc, _+_, _-_, _/_, _%_, _<_}
 use native.Mathlib.Omega.{arith}
-use lib.Dec.{T, leb, ltb, eqb, ltb→lt, lt→ltb, eqb→eq, eqb-refl}
+use lib.Dec.{T, ltb, eqb, lt→ltb, eqb→eq, eqb-refl}
 use lib.ListN.{length, length-map}
-use borrow.Author.Tests.{eq-eqb, ne-eqb, eqb-true, eqb-false}
+use borrow.Author.Tests.{eqb-true, eqb-false}
 use Rattle.language.specs.Program.{Entry, Switch, Program}
 use Rattle.lists.specs.ListLaws.{T-left, T-right, T-both}
 use Rattle.lists.specs.Lists.{total, all, filled, each}

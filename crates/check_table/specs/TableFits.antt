@@ -1,42 +1,24 @@
 -- Question 62 asked of the cells is question 62: a table passes just where its cells are those of the program that they read as, and that
 -- program is well formed.
 use mathlib.Core.Path.{_≡_, refl, sym, ap, _∙_, subst}
-use mathlib.Core.Bool.{Bool, true, false, not, _&&_}
+use mathlib.Core.Bool.{Bool, _&&_}
 use mathlib.Core.List.{List, [], _∷_, _++_, map}
-use Prim.Native.Nat.{ℕ, zero, suc, pred, _+_, _*_, _-_, _/_, _%_, _≤_, _<_}
+use Prim.Native.Nat.{ℕ, zero, suc, _+_, _*_, _-_, _≤_, _<_}
 use native.Mathlib.Decide.{decLt}
 use native.Mathlib.Omega.{arith}
 use lib.Dec.{T, leb, ltb, eqb, leb→le, ltb→lt, le→leb, lt→ltb, eqb→eq, eqb-refl}
-use lib.ListN.{length, getD, take, drop, replicate, length-map, length-replicate}
-use lib.Seq.{length-take-le}
-use lib.IntN.{natAbs}
-use borrow.Author.Tests.{lt-leb, le-leb}
-use Rattle.language.specs.Instructions.{operation, operator-of, is-end}
-use Rattle.language.specs.Program.{Instr, Label, Entry, Switch, Program, no-instr, instr-at}
-use Rattle.language.specs.Values.{sameNumber, in-range}
-use Rattle.lists.specs.ListLaws.{T-left, T-right, T-both, part, parts}
-use Rattle.lists.specs.Lists.{total, all, each, sameBytes}
-use Rattle.machine.specs.Facts.{ProgramFacts}
-use Rattle.machine.specs.WellFormed.{good-text, good-instr, good-label, good-switch, different, program-tests, good-program}
-use Rattle.forms.specs.Forms.{ends}
-use Rattle.forms.specs.ReadingLaws.{ends-listed}
-use Rattle.layout.specs.Bounds.{ProgramOk}
-use Rattle.layout.specs.CellLaws.{length-tab, getD-tab, length-each, length-fours, length-padded}
+use lib.ListN.{length, replicate, length-map}
+use Rattle.language.specs.Program.{Label, Switch, Program}
+use Rattle.lists.specs.ListLaws.{T-left, T-right, T-both}
+use Rattle.lists.specs.Lists.{each}
+use Rattle.layout.specs.CellLaws.{length-tab, length-each, length-fours, length-padded}
 use Rattle.layout.specs.Cells.{cell, code, tab, padded}
-use Rattle.layout.specs.ProgramLaws.{program-ok, length-each-total}
-use Rattle.layout.specs.Table.{instr-cells, label-cells, text-cells, switch-cells, entry-cell, all-entries, counts, table-cells, text-in, number-in, instr-in, label-in, switch-in, program-in, program-of, good-table}
-use Rattle.layout.specs.TableLaws.{length-table-cells}
-use Rattle.packed.specs.Packed.{table-of}
-use Rattle.check_parts.specs.Parts.{passes, zeros, head-fits, arg-fits, form-bit, lists-take, instr-fits, label-fits}
-use Rattle.check_parts.specs.PassLaws.{passes-each, passes-all, each-below, all-below, all-tab}
-use Rattle.check_table.specs.Checks.{counts-fit, rest-zero, text-stays, number-stays, switches-fit, parts-fit}
-use Rattle.check_table.specs.DifferLaws.{TextsFact, texts-sound, texts-complete, NumbersFact, numbers-sound, numbers-complete}
-use Rattle.check_table.specs.InstructionFits.{operator-own, instr-sound, instr-complete}
-use Rattle.check_table.specs.NameLaws.{kept-good, label-sound, label-complete}
-use Rattle.check_table.specs.RefLaws.{Kept}
-use Rattle.check_table.specs.SearchLaws.{not-is, alike, number-good, code-uncode}
-use Rattle.check_table.specs.StandLaws.{stands, stands-same, stands-append, stands-zeros, stands-padded, stands-cell, cells-stand, stands-each, stands-map}
-use Rattle.check_table.specs.SwitchFits.{SwitchesFact, switches-sound, switches-complete}
+use Rattle.layout.specs.Table.{instr-cells, label-cells, text-cells, switch-cells, entry-cell, all-entries, counts, table-cells, text-in, number-in, instr-in, label-in, switch-in, program-in}
+use Rattle.check_parts.specs.Parts.{zeros}
+use Rattle.check_parts.specs.PassLaws.{passes-each, passes-all, all-below}
+use Rattle.check_table.specs.Checks.{counts-fit, rest-zero}
+use Rattle.check_table.specs.SearchLaws.{code-uncode}
+use Rattle.check_table.specs.StandLaws.{stands, stands-append, stands-zeros, stands-padded, stands-map}
 
 pub label-long : (l : Label) → length (label-cells l) ≡ 16
 label-long l = ap suc (length-fours 15 (l .name))
