@@ -5,3 +5,5 @@ pub mod Wholes
 pub mod Facts
 pub mod Accepts
 pub mod Question
+pub mod Starts
+pub mod Loops
