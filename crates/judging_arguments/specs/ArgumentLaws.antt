@@ -8,7 +8,7 @@ use native.Mathlib.Numerals.{add-one}
 use native.Mathlib.Decide.{decLt}
 use native.Mathlib.Omega.{arith}
 use lib.Bits.{and-zero-r}
-use lib.Dec.{T, leb, eqb, le→leb}
+use lib.Dec.{T, leb, ltb, eqb, le→leb}
 use lib.ListN.{length, getD, List·getD-eq-default}
 use borrow.Author.Tests.{eq-eqb, ne-eqb}
 use Rattle.forms.specs.declared.Live.{Live}
@@ -17,7 +17,10 @@ use Rattle.forms.specs.Forms.{set-of, listed, set-at}
 use Rattle.forms.specs.Kinds.{word-kinds, item-kinds}
 use Rattle.forms.specs.KindLaws.{text-kinds, word-kinds-of}
 use Rattle.forms.specs.Reading.{lives-first, lives-second, lists-at, shared, taken, taken-at}
-use Rattle.forms.specs.ReadingLaws.{argument-read}
+use Rattle.forms.specs.ReadingLaws.{argument-read, lists-first}
+use Rattle.heads.specs.declared.Head.{Head}
+use Rattle.heads.specs.Heads.{Headed}
+use Rattle.heads.specs.HeadLaws.{operator-here, rest-here}
 use Rattle.judging.specs.FaultLaws.{none-before, none-before-both, fault-first, fault-within}
 use Rattle.language.specs.Instructions.{Forms, operation, operators}
 use Rattle.language.specs.Program.{Op}
@@ -31,10 +34,12 @@ use Rattle.statements.specs.declared.Fault.the-variants.{Clear, At}
 use Rattle.statements.specs.PlaceLaws.{stands-from, all-from, statement-from}
 use Rattle.statements.specs.StatementAt.{statement-at, stops, fault-of}
 use Rattle.statements.specs.StatementLaws.{at-stop, at-item}
-use Rattle.syntax.specs.ArgumentForms.{form-in, word-reads, Argument, alternatives, arguments-in, read-by, of-form}
+use Rattle.syntax.specs.ArgumentForms.{form-in, word-reads, Argument, alternatives, arguments-in, arguments, read-by, of-form, least}
 use Rattle.syntax.specs.Items.{Item, is, places}
 use Rattle.syntax.specs.Items.Sort.{colon, text}
-use Rattle.judging_arguments.specs.Arguments.{colons, read-from, argument-faults}
+use Rattle.syntax.specs.Questions.{instr-faults}
+use Rattle.syntax.specs.Statements.{operator}
+use Rattle.judging_arguments.specs.Arguments.{colons, read-from, argument-faults, instr-after}
 use Rattle.judging_arguments.specs.CountLaws.{is-argument}
 
 -- none of these faults stands before the items
@@ -244,3 +249,44 @@ reading-on {s} {n} {m} {i} {live} {place} {t} r k z c {kinds} {b} e f g y =
       few = omega arith;
       is = λ o h. ap (λ p. fault-of (argument-faults o (b .live) p (statement-at s (t .next)))) (add-one place) ∙ sym (ap fault-of (argument-listed o live place k z c b (turned live place e f o h) g y)) ∙ r .is o h;
     }
+
+-- 02 of an instruction: an argument is missing, or all are there
+joined-one : (xs : List ℕ) (p : ℕ) (ys : List ℕ) → xs ++ (p ∷ []) ++ ys ≡ xs ++ (p ∷ ys)
+joined-one [] p ys = refl
+joined-one (x ∷ xs) p ys = ap (_∷_ x) (joined-one xs p ys)
+
+joined-none : (xs ys : List ℕ) → xs ++ [] ++ ys ≡ xs ++ ys
+joined-none [] ys = refl
+joined-none (x ∷ xs) ys = ap (_∷_ x) (joined-none xs ys)
+
+module _ {s : List ℕ} {t : Token} (h : Stands s t) (o : Op) where
+  abbrev rest-of : List Item
+  rest-of = statement-at s (t .next)
+
+  abbrev few-of : Bool
+  few-of = ltb (length (arguments-in rest-of)) (least o)
+
+  instr-by : (b : Bool) → few-of ≡ b → instr-after s t o ≡ colons rest-of ++ cond b (t .at ∷ []) [] ++ places (of-form "-" (arguments o rest-of))
+  unfolding instr-after
+  instr-by b e = ap (λ c. colons rest-of ++ cond c (t .at ∷ []) [] ++ places (of-form "-" (arguments o rest-of))) e
+
+  pub missing : few-of ≡ true → fault-of (instr-after s t o) ≡ At (t .at)
+  missing e =
+      let l : t .at ≤ t .next = omega (arith, h .own, h .behind) in
+      let f = statement-from s (t .next) (t .at) l in
+      ap fault-of (instr-by true e ∙ joined-one (colons rest-of) (t .at) (places (of-form "-" (arguments o rest-of))))
+      ∙ fault-within (t .at) (colons rest-of) (places (of-form "-" (arguments o rest-of))) (colons-from (t .at) rest-of f)
+      (forms-from (t .at) "-" (alternatives o) (arguments-in rest-of) (all-keep (stands-from (t .at)) is-argument rest-of f))
+
+  pub complete : few-of ≡ false → instr-after s t o ≡ argument-faults o Live.Both 0 rest-of
+  unfolding argument-faults
+  complete e =
+      instr-by false e
+      ∙ joined-none (colons rest-of) (places (of-form "-" (arguments o rest-of)))
+      ∙ ap (λ alts. colons rest-of ++ places (of-form "-" (read-by alts (arguments-in rest-of)))) (lists-first o)
+
+pub instr-is : {s : List ℕ} {n : ℕ} {h : Head} (g : Headed s n h) → stops (h .op .sort) ≡ false → (o : Op) → instr-faults (statement-at s n) o ≡ instr-after s (h .op) o
+unfolding instr-faults instr-after colons
+instr-is {s} {n} {h} g z o =
+    ap (λ js. colons js ++ cond (ltb (length (arguments-in js)) (least o)) (places (operator (statement-at s n))) [] ++ places (of-form "-" (arguments o js))) (rest-here g z)
+    ∙ ap (λ ops. let js = statement-at s (h .op .next) in colons js ++ cond (ltb (length (arguments-in js)) (least o)) (places ops) [] ++ places (of-form "-" (arguments o js))) (operator-here g z)

@@ -88,7 +88,7 @@ module _ {s : List ℕ} {n i c : ℕ} {t : Token} (l : Counting s n i c) (k : Ne
       record { most = k .stands .most; few = omega (arith, l .few, on k z, one-at-most (not (eqb 2 (t .sort))) {r = cond (not (eqb 2 (t .sort))) 1 0} refl); is = omega (arith, l .is, w, e) }
 
 -- the instruction of a keyword, by its number
-numbered : (o : Op) → 0 < operation o .number
+pub numbered : (o : Op) → 0 < operation o .number
 numbered o = ltb→lt 0 (operation o .number) (by-operator (λ x. ltb 0 (operation x .number)) tt o)
 
 pub record Instruction (k : Spec.Keyword) (number : ℕ) : Type 0 where

@@ -10,9 +10,10 @@ ghost use Rattle.syntax.specs.ArgumentForms.{arguments-in};
 ghost use Rattle.syntax.specs.Items.{places};
 ghost use Rattle.syntax.specs.Items.Sort.{text};
 ghost use Rattle.syntax.specs.Questions.{count-faults};
-ghost use Rattle.judging_arguments.specs.Arguments.{Items-fault};
+ghost use Rattle.judging_arguments.specs.Arguments.{Items-fault, Instr-fault};
 use forms::Live;
 use forms::kinds_of;
+use forms::least;
 use forms::most;
 use forms::take_argument;
 use heads::Head;
@@ -127,4 +128,15 @@ fn items_fault(text: &[u8], n: usize, op: u8) -> Fault
         place += 1;
         i = t.next;
     }
+}
+
+// Question 02 of an instruction, by its operator's token and number.
+pub fn instr_fault(text: &[u8], t: Token, op: u8) -> Fault
+    requires { ⌜ Stands (now text) t ⌝ }
+    ensures { λ r. ⌜ Instr-fault (now (text .entry)) t op r ⌝ }
+{
+    if count_arguments(text, t.next) < wide(least(op)) {
+        return Fault::At(t.at);
+    }
+    items_fault(text, t.next, op)
 }

@@ -1,0 +1,2 @@
+pub mod Switches
+pub mod SwitchLaws
