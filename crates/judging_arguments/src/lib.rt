@@ -86,7 +86,7 @@ fn count_arguments(text: &[u8], n: usize) -> usize
 }
 
 // The set of forms that an item reads as.
-fn kinds_at(text: &[u8], t: Token) -> u32
+pub fn kinds_at(text: &[u8], t: Token) -> u32
     requires { ⌜ Stands (now text) t ⌝ }
     ensures { λ r. ⌜ r ≡ item-kinds (item-of (now (text .entry)) t) ⌝ }
 {
