@@ -6,3 +6,4 @@ pub mod Replacing
 pub mod Held
 pub mod Settled
 pub mod Rooms
+pub mod Shapes
