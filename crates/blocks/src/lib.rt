@@ -6,7 +6,6 @@ ghost use lib.ListN.{length, drop};
 ghost use Rattle.cells.specs.Cells.{pasted, cleared, Number, Writable};
 ghost use Rattle.layout.specs.Cells.{cell, four, fours};
 ghost use Rattle.blocks.specs.Blocks.{FourNumbers};
-use language::Machine;
 
 // Byte `k` of `word`, and 0 past its end.
 fn byte_at(word: &[u8], k: usize) -> usize
@@ -60,13 +59,13 @@ pub fn put_four(table: &mut [u32], at: usize, a: usize, b: usize, c: usize, d: u
     cells::write(table, at + 3, d);
 }
 
-// Sets all cells of a program table to 0.
-pub fn clear_table(table: &mut [u32])
-    requires { ⌜ 8192 ≤ length (now table) ⌝ }
-    ensures { λ _. ⌜ now (table .exit) ≡ cleared (now (table .entry)) 0 8192 ⌝ }
+// Sets the first `n` cells to 0.
+pub fn clear_cells(table: &mut [u32], n: usize)
+    requires { ⌜ n ≤ length (now table) ⌝ }
+    ensures { λ _. ⌜ now (table .exit) ≡ cleared (now (table .entry)) 0 n ⌝ }
 {
     let mut j = 0;
-    while j < Machine::TABLE {
+    while j < n {
         table[j] = 0;
         j += 1;
     }

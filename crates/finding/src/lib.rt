@@ -5,7 +5,6 @@ ghost use Rattle.cells.specs.Cells.{Number};
 ghost use Rattle.layout.specs.Table.{text-ref, number-ref};
 ghost use Rattle.lists.specs.Lists.{ahead, sameBytes};
 ghost use Rattle.writing.specs.Writing.{IsNumber};
-ghost use Prim.Native.Nat.{_<_};
 ghost use Rattle.finding.specs.Finding.{Counted, Tells, TellsFor};
 
 const FIRST_NUMBER: usize = 6312;

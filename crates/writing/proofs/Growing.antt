@@ -150,7 +150,7 @@ module _ (w : List ℕ) (p : Program) where
   text-kept t h =
       or-right (leb (length t) 1) (any (sameBytes t) (p .texts)) (any (sameBytes t) (p .texts ++ (w ∷ []))) h (any-left (sameBytes t) (p .texts) (w ∷ []))
 
-  arg-stays : (a : Arg) → T (kept-arg p a) → arg-cell p a ≡ arg-cell (with-text w p) a
+  pub arg-stays : (a : Arg) → T (kept-arg p a) → arg-cell p a ≡ arg-cell (with-text w p) a
   unfolding with-text
   arg-stays nothing h = refl
   arg-stays (letter l n) h = refl
@@ -160,7 +160,7 @@ module _ (w : List ℕ) (p : Program) where
   arg-stays (text t) h = ap (λ (n : ℕ). 5 + 8 * n) (text-stays t h)
   arg-stays (Arg.number z) h = refl
 
-  arg-kept : (a : Arg) → T (kept-arg p a) → T (kept-arg (with-text w p) a)
+  pub arg-kept : (a : Arg) → T (kept-arg p a) → T (kept-arg (with-text w p) a)
   unfolding with-text
   arg-kept nothing h = tt
   arg-kept (letter l n) h = tt
@@ -220,18 +220,18 @@ module _ (w : List ℕ) (p : Program) where
 -- ---- a number
 
 module _ (z : ℤ) (p : Program) where
-  number-stays : (y : ℤ) → T (kept-number p y) → number-ref p y ≡ number-ref (with-number z p) y
+  pub number-stays : (y : ℤ) → T (kept-number p y) → number-ref p y ≡ number-ref (with-number z p) y
   unfolding with-number
   number-stays y h =
       kept-ref (leb (natAbs y) limit.small) (any (sameNumber y) (p .numbers)) (code y - 8388592) 31 (ahead (sameNumber y) (p .numbers))
       (ahead (sameNumber y) (p .numbers ++ (z ∷ []))) h (λ k. sym (ahead-left (sameNumber y) (p .numbers) (z ∷ []) k))
 
-  number-kept : (y : ℤ) → T (kept-number p y) → T (kept-number (with-number z p) y)
+  pub number-kept : (y : ℤ) → T (kept-number p y) → T (kept-number (with-number z p) y)
   unfolding with-number
   number-kept y h =
       or-right (leb (natAbs y) limit.small) (any (sameNumber y) (p .numbers)) (any (sameNumber y) (p .numbers ++ (z ∷ []))) h (any-left (sameNumber y) (p .numbers) (z ∷ []))
 
-  value-stays : (a : Arg) → T (kept-arg p a) → arg-cell p a ≡ arg-cell (with-number z p) a
+  pub value-stays : (a : Arg) → T (kept-arg p a) → arg-cell p a ≡ arg-cell (with-number z p) a
   unfolding with-number
   value-stays nothing h = refl
   value-stays (letter l n) h = refl
@@ -241,7 +241,7 @@ module _ (z : ℤ) (p : Program) where
   value-stays (text t) h = refl
   value-stays (Arg.number y) h = ap (λ (n : ℕ). 6 + 8 * n) (number-stays y h)
 
-  value-kept : (a : Arg) → T (kept-arg p a) → T (kept-arg (with-number z p) a)
+  pub value-kept : (a : Arg) → T (kept-arg p a) → T (kept-arg (with-number z p) a)
   unfolding with-number
   value-kept nothing h = tt
   value-kept (letter l n) h = tt

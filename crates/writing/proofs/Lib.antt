@@ -7,3 +7,4 @@ pub mod Held
 pub mod Settled
 pub mod Rooms
 pub mod Shapes
+pub mod Fresh

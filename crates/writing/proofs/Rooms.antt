@@ -14,7 +14,7 @@ use Rattle.layout.specs.Cells.{cell, padded}
 use Rattle.layout.specs.Table.{switch-cells, all-entries, table-cells}
 use Rattle.lists.specs.Lists.{each}
 use Rattle.packed.specs.Packed.{table-of}
-use Rattle.writing.specs.Writing.{no-program, HoldsProgram, Room, WordRoom, LabelRoom, InstrRoom, SwitchRoom, EntryRoom, ArgumentAt, EntryAt}
+use Rattle.writing.specs.Writing.{no-program, Tabular, HoldsProgram, Cleared, Room, WordRoom, LabelRoom, InstrRoom, SwitchRoom, EntryRoom, ArgumentAt, EntryAt}
 use Rattle.writing.proofs.Growing.{in-parts}
 use Rattle.writing.proofs.Held.{code-count, label-count, switch-count, entry-count, text-count, number-count}
 use Rattle.writing.proofs.Switching.{entries-of, last-cell}
@@ -30,30 +30,30 @@ pub empty-cells : table-cells no-program ≡ replicate 8192 0
 unfolding table-cells switch-cells padded
 empty-cells = zeros-seven 8 2048 2048 2048 32 128 128 1752
 
-pub cleared-holds : (c d : List ℕ) → 8192 ≤ length c → d ≡ cleared c 0 8192 → HoldsProgram d no-program × (drop 8192 d ≡ drop 8192 c)
+pub cleared-holds : (c d : List ℕ) → 8192 ≤ length c → d ≡ cleared c 0 8192 → Cleared c d
 cleared-holds c d long e =
     let l : length (replicate {A = ℕ} 8192 0) ≡ 8192 = length-replicate {A = ℕ} 8192 0 in
     let t : take 8192 d ≡ replicate 8192 0 = ap (take 8192) e ∙ take-at (replicate 8192 0) (drop 8192 c) 8192 l in
-    let m : length d ≡ 8192 + (length c - 8192) = ap length e ∙ length-append (replicate 8192 0) (drop 8192 c) ∙ (λ j. l j + length-drop 8192 c j) in (
-      record {
-        long = omega (arith, m);
-        is = t ∙ sym empty-cells;
-        tabular = record {
-          code-most = omega arith;
-          labels-most = omega arith;
-          switches-most = omega arith;
-          entries-most = omega arith;
-          texts-most = omega arith;
-          numbers-most = omega arith;
-          code-kept = tt;
-          entries-kept = tt;
-          names-short = tt;
-          texts-short = tt;
-          numbers-small = tt;
-        };
-      },
-      ap (drop 8192) e ∙ drop-at (replicate 8192 0) (drop 8192 c) 8192 l,
-    )
+    let m : length d ≡ 8192 + (length c - 8192) = ap length e ∙ length-append (replicate 8192 0) (drop 8192 c) ∙ (λ j. l j + length-drop 8192 c j) in
+    let none : Tabular no-program =
+    record {
+      code-most = omega arith;
+      labels-most = omega arith;
+      switches-most = omega arith;
+      entries-most = omega arith;
+      texts-most = omega arith;
+      numbers-most = omega arith;
+      code-kept = tt;
+      entries-kept = tt;
+      names-short = tt;
+      texts-short = tt;
+      numbers-small = tt;
+    } in
+    record {
+      zeros = t;
+      holds = record { long = omega (arith, m); is = t ∙ sym empty-cells; tabular = none };
+      beyond = ap (drop 8192) e ∙ drop-at (replicate 8192 0) (drop 8192 c) 8192 l;
+    }
 
 -- ---- the last switch's cell
 

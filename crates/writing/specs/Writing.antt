@@ -4,7 +4,7 @@ use mathlib.Core.Bool.{Bool, true, cond}
 use mathlib.Core.List.{List, [], _∷_, _++_}
 use Prim.Native.Nat.{ℕ, zero, suc, _+_, _-_, _≤_, _<_}
 use lib.Dec.{T, ltb}
-use lib.ListN.{length, getD, set, drop}
+use lib.ListN.{length, getD, set, drop, replicate}
 use lib.IntN.{ℤ, natAbs}
 use Rattle.language.specs.Instructions.{operation}
 use Rattle.language.specs.Limits as limit
@@ -132,7 +132,13 @@ with-entry-label k m p = with-switches (relabelled k m (p .switches)) p
 
 -- ---- promises
 
--- whatever program the cells c held, the cells d hold what f makes of it; "cells beyond are neither read nor written"
+-- the cells d are those of the empty program, all zeros; "cells beyond are neither read nor written"
+pub record Cleared (c d : List ℕ) : Type 0 where
+  pub zeros : table-of d ≡ replicate limit.table 0
+  pub holds : HoldsProgram d no-program
+  pub beyond : drop limit.table d ≡ drop limit.table c
+
+-- whatever program the cells c held, the cells d hold what f makes of it
 pub record Changes (f : Program → Program) (c d : List ℕ) : Type 0 where
   pub holds : (p : Program) → HoldsProgram c p → HoldsProgram d (f p)
   pub beyond : drop limit.table d ≡ drop limit.table c

@@ -1,9 +1,11 @@
 // Writing a program table, "a table of 8,192 numbers of 32 bits", cell by cell while a text is read: the only code that writes its cells.
 // docs/LAYOUT.md has their places. A text or a number goes to its table before the argument that refers to it.
 ghost use mathlib.Core.Bool.{cond};
+ghost use Prim.Native.Nat.{_≤_};
 ghost use lib.ListN.{length};
 ghost use Rattle.cells.specs.Cells.{Number};
-ghost use Rattle.writing.specs.Writing.{with-text, with-number, with-label, with-instr, with-switch, with-entry, with-argument, with-entry-label, label-of, Changes, Writes, Room, WordRoom, LabelRoom, InstrRoom, SwitchRoom, EntryRoom, ArgumentAt, EntryAt, IsNumber, IsInstr, IsEntry, IsArg};
+ghost use Rattle.writing.specs.Writing.{with-text, with-number, with-label, with-instr, with-switch, with-entry, with-argument, with-entry-label, label-of, Cleared, Changes, Writes, Room, WordRoom, LabelRoom, InstrRoom, SwitchRoom, EntryRoom, ArgumentAt, EntryAt, IsNumber, IsInstr, IsEntry, IsArg};
+use language::Machine;
 
 const FIRST_INSTRUCTION: usize = 8;
 
@@ -24,6 +26,14 @@ fn bit(b: bool) -> usize
         return 1;
     }
     0
+}
+
+// Sets all cells to 0, which is the empty program.
+pub fn clear_table(table: &mut [u32])
+    requires { ⌜ 8192 ≤ length (now table) ⌝ }
+    ensures { λ _. ⌜ Cleared (now (table .entry)) (now (table .exit)) ⌝ }
+{
+    blocks::clear_cells(table, Machine::TABLE);
 }
 
 // Adds a text.
