@@ -1,0 +1,117 @@
+-- One value comes to a table, unless it is there or the table is full.
+use mathlib.Core.Path.{_≡_, refl, sym, ap, _∙_, subst}
+use mathlib.Core.Bool.{Bool, true, false, cond, not, _&&_, _||_}
+use mathlib.Core.List.{List, [], _∷_, _++_}
+use Prim.Native.Nat.{ℕ, suc, _≤_, _<_}
+use native.Mathlib.Omega.{arith}
+use lib.Dec.{leb, ltb, eqb, leb·suc-suc}
+use lib.ListN.{length, take, drop, length-take}
+use borrow.Author.Tests.{lt-ltb, le-ltb, le-leb, lt-leb}
+use Rattle.language.specs.Limits as limit
+use Rattle.language.specs.Program.{Program}
+use Rattle.language.specs.Values.{sameNumber}
+use Rattle.lists.specs.Lists.{any, ahead, sameBytes}
+use Rattle.writing.specs.Writing.{HoldsProgram}
+use Rattle.cells.proofs.Laws.{pasted-front}
+use Rattle.lexer.specs.declared.Token.{Token}
+use Rattle.lexer.specs.Tokens.{chars-of, item-of, Stands}
+use Rattle.lexer.proofs.Finding.{is-sort}
+use Rattle.spelling.specs.Spelling.{Put}
+use Rattle.syntax.specs.Items.{Item}
+use Rattle.syntax.specs.Items.Sort.{text}
+use Rattle.entering.specs.Entering.{added, full, Adds, Addable, EntersOne, Enterable-item, set-texts, set-numbers, long-text, Short-item}
+use Rattle.entering.proofs.Rows.{Table-of}
+
+-- the tables of texts and of numbers
+pub texts-laws : Table-of (λ p. p .texts) set-texts
+unfolding set-texts
+texts-laws = record { get = λ t p. refl; twice = λ t u p. refl; same = λ p. refl; most = λ c p h. h .tabular .texts-most }
+
+pub numbers-laws : Table-of (λ p. p .numbers) set-numbers
+unfolding set-numbers
+numbers-laws = record { get = λ t p. refl; twice = λ t u p. refl; same = λ p. refl; most = λ c p h. h .tabular .numbers-most }
+
+any-is : {X : Type 0} (q : X → Bool) (xs : List X) → any q xs ≡ ltb (ahead q xs) (length xs)
+any-is q [] = refl
+any-is q (x ∷ xs) = go (q x) (any-is q xs)
+  where
+    go : (b : Bool) → any q xs ≡ ltb (ahead q xs) (length xs) → (b || any q xs) ≡ ltb (elim b [ true ↦ 0 | false ↦ suc (ahead q xs) ]) (suc (length xs))
+    go true h = sym (lt-ltb 0 (suc (length xs)) (omega arith))
+    go false h = h ∙ sym (leb·suc-suc (suc (ahead q xs)) (length xs))
+
+module _ {X : Type 0} (equal : X → X → Bool) (table-of : Program → List X) (set-table : List X → Program → Program) (laws : Table-of table-of set-table) (x : X)
+    {c : List ℕ} {found n : ℕ} (f : (p : Program) → HoldsProgram c p → found ≡ ahead (equal x) (table-of p)) (m : (p : Program) → HoldsProgram c p → n ≡ length (table-of p)) where
+  -- it is there
+  module _ (b : found < n) where
+    there : (p : Program) → HoldsProgram c p → any (equal x) (table-of p) ≡ true
+    there p h = any-is (equal x) (table-of p) ∙ lt-ltb (ahead (equal x) (table-of p)) (length (table-of p)) (omega (arith, b, f p h, m p h))
+
+    pub adds-known : Adds equal table-of set-table x c true c
+    adds-known =
+        record {
+          told = λ p h. rw (there p h) refl;
+          holds = λ q p h. subst (λ (y : Program). HoldsProgram c y) (sym (ap (λ (a : Bool). set-table (cond a (table-of p) (table-of p ++ (x ∷ []))) p) (there p h) ∙ laws .same p)) h;
+          beyond-same = refl;
+        }
+
+  -- it is new
+  module _ (b : n ≤ found) where
+    missing : (p : Program) → HoldsProgram c p → any (equal x) (table-of p) ≡ false
+    missing p h = any-is (equal x) (table-of p) ∙ le-ltb (ahead (equal x) (table-of p)) (length (table-of p)) (omega (arith, b, f p h, m p h))
+
+    pub adds-none : n ≡ 128 → Adds equal table-of set-table x c false c
+    adds-none e =
+        record {
+          told = λ p h. rw (missing p h, le-leb 128 (length (table-of p)) (omega (arith, e, m p h))) refl;
+          holds = λ q. absurd (let y : _≡_ {A = ℕ} 0 1 = cc in omega arith);
+          beyond-same = refl;
+        }
+
+    pub adds-new : (n ≡ 128 → ⊥) → {d : List ℕ} → ((p : Program) → HoldsProgram c p → HoldsProgram d (set-table (table-of p ++ (x ∷ [])) p)) → drop limit.table d ≡ drop limit.table c
+        → Adds equal table-of set-table x c true d
+    adds-new e g w =
+        record {
+          told = λ p h. rw (missing p h, lt-leb 128 (length (table-of p)) (omega (arith, e, m p h, laws .most c p h))) refl;
+          holds = λ q p h. rw (missing p h) (g p h);
+          beyond-same = w;
+        }
+
+-- one item
+module _ {X : Type 0} (equal : X → X → Bool) (value-of : Item → X) (passes : Item → Bool) (table-of : Program → List X) (set-table : List X → Program → Program)
+    (laws : Table-of table-of set-table) (i : Item) {c : List ℕ} where
+  pub enters-past : passes i ≡ false → EntersOne equal value-of passes table-of set-table i c true c
+  enters-past e =
+      record {
+        told = λ p h. rw e refl;
+        holds = λ q p h. rw e (subst (λ (y : Program). HoldsProgram c y) (sym (laws .same p)) h);
+        beyond-same = refl;
+      }
+
+  pub enters-value : passes i ≡ true → {r : Bool} {d : List ℕ} (x : X) → x ≡ value-of i → Adds equal table-of set-table x c r d
+      → EntersOne equal value-of passes table-of set-table i c r d
+  enters-value e {r} {d} x q h =
+      let k = subst (λ (y : X). Adds equal table-of set-table y c r d) q h in
+      record { told = λ p g. rw e (k .told p g); holds = λ z p g. rw e (k .holds z p g); beyond-same = k .beyond-same }
+
+-- a text of a token
+long-text-is : {s : List ℕ} {t : Token} → Stands s t → {r : Bool} → r ≡ (eqb 4 (t .sort) && ltb 1 (t .len)) → long-text (item-of s t) ≡ r
+long-text-is h q = rw (is-sort text h, h .count) (sym q)
+
+module _ {s : List ℕ} {t : Token} {c : List ℕ} (pre : Enterable-item Short-item s t c) where
+  pub text-past : {r : Bool} → r ≡ (eqb 4 (t .sort) && ltb 1 (t .len)) → r ≡ false
+      → EntersOne sameBytes (λ i. i .chars) long-text (λ p. p .texts) set-texts (item-of s t) c true c
+  text-past q e = enters-past sameBytes (λ i. i .chars) long-text (λ p. p .texts) set-texts texts-laws (item-of s t) (long-text-is (pre .stands) q ∙ e)
+
+  pub text-entered : {r : Bool} → r ≡ (eqb 4 (t .sort) && ltb 1 (t .len)) → r ≡ true → {w : List ℕ} → w ≡ chars-of s t → {a : Bool} {d : List ℕ}
+      → Adds sameBytes (λ p. p .texts) set-texts w c a d → EntersOne sameBytes (λ i. i .chars) long-text (λ p. p .texts) set-texts (item-of s t) c a d
+  text-entered q e {w} z h = enters-value sameBytes (λ i. i .chars) long-text (λ p. p .texts) set-texts texts-laws (item-of s t) (long-text-is (pre .stands) q ∙ e) w z h
+
+  -- its characters in front of a buffer
+  pub text-front : {d o : List ℕ} {n : ℕ} → Put d 0 (chars-of s t) n o → take n o ≡ chars-of s t
+  text-front {d} {o} {n} h = rw (h .is) (pasted-front d (chars-of s t) n (omega (arith, h .next)))
+
+  pub text-long : {d o : List ℕ} {n : ℕ} → Put d 0 (chars-of s t) n o → n ≤ length o
+  text-long {d} {o} {n} h = omega (arith, ap length (text-front h), length-take n o, h .next)
+
+  pub text-addable : {d o : List ℕ} {n m : ℕ} → Put d 0 (chars-of s t) n o → m ≡ length (take n o) → Addable c m
+  text-addable {d} {o} {n} h q = record { held = pre .held; short = omega (arith, q, ap length (text-front h), pre .stands .count, pre .as-asked) }

@@ -1,0 +1,111 @@
+-- Texts and numbers of a statement that come to the tables: "different texts longer than one character", "different numbers beyond 15 in size".
+use mathlib.Core.Path.{_≡_}
+use mathlib.Core.Bool.{Bool, true, cond, not, _&&_}
+use mathlib.Core.List.{List, [], _∷_, _++_, map}
+use Prim.Native.Nat.{ℕ, _≤_}
+use lib.Dec.{T, leb, ltb}
+use lib.ListN.{length, drop}
+use lib.IntN.{ℤ, natAbs}
+use Rattle.language.specs.Limits as limit
+use Rattle.language.specs.Program.{Program}
+use Rattle.language.specs.Values.{sameNumber, numeral, in-range}
+use Rattle.layout.specs.Bounds.{Each}
+use Rattle.lexer.specs.declared.Token.{Token}
+use Rattle.lexer.specs.Tokens.{item-of, Stands}
+use Rattle.lists.specs.Lists.{any, keep}
+use Rattle.statements.specs.StatementAt.{statement-at, fault-of}
+use Rattle.statements.specs.declared.Fault.{Fault}
+use Rattle.statements.specs.declared.Fault.the-variants.{Clear}
+use Rattle.syntax.specs.Items.{Item, is, places}
+use Rattle.syntax.specs.Items.Sort.{word, text}
+use Rattle.syntax.specs.Questions.{beyond}
+use Rattle.syntax.specs.Tables.{fresh, number-in}
+use Rattle.writing.specs.Writing.{no-program, HoldsProgram, IsNumber}
+
+-- one value at a table of at most 128: the table with it, and whether it has no room
+module _ {X : Type 0} (equal : X → X → Bool) where
+  abbrev pub added : X → List X → List X
+  added x t = cond (any (equal x) t) t (t ++ (x ∷ []))
+
+  abbrev pub full : X → List X → Bool
+  full x t = not (any (equal x) t) && leb 128 (length t)
+
+-- the items of a row that pass: the places beyond the limit, and the table with all their values
+module _ {X : Type 0} (equal : X → X → Bool) (value-of : Item → X) (passes : Item → Bool) where
+  abbrev pub excess : List X → List Item → List ℕ
+  excess t js = beyond 128 (length t) (places (fresh equal value-of t (keep passes js)))
+
+  abbrev pub all-added : List X → List Item → List X
+  all-added t js = t ++ map value-of (fresh equal value-of t (keep passes js))
+
+-- a text, and a number, that has a place in a table of its own
+abbrev pub long-text : Item → Bool
+long-text i = is text i && ltb 1 (length (i .chars))
+
+abbrev pub large-number : Item → Bool
+large-number i = is word i && numeral (i .chars) && ltb limit.small (natAbs (number-in i))
+
+-- the program with other texts, and with other numbers
+unfoldable pub set-texts : List (List ℕ) → Program → Program
+set-texts t p = record { code = p .code; labels = p .labels; switches = p .switches; texts = t; numbers = p .numbers }
+
+unfoldable pub set-numbers : List ℤ → Program → Program
+set-numbers t p = record { code = p .code; labels = p .labels; switches = p .switches; texts = p .texts; numbers = t }
+
+-- the cells c hold some program
+pub record Held (c : List ℕ) : Type 0 where
+  pub program : Program
+  pub holds : HoldsProgram c program
+
+-- an item is short; a number is in range
+abbrev pub Short-item : Item → Type 0
+Short-item i = length (i .chars) ≤ limit.item
+
+abbrev pub Ranged-item : Item → Type 0
+Ranged-item i = T (is word i) → T (numeral (i .chars)) → T (in-range (number-in i))
+
+-- each item of the statement at n is as P says, and the cells c hold some program
+pub record Enterable (P : Item → Type 0) (s : List ℕ) (n : ℕ) (c : List ℕ) : Type 0 where
+  pub inside : n ≤ length s
+  pub held : Held c
+  pub within : Each P (statement-at s n)
+
+-- Whatever program p the cells c hold: the places in excess are told; where there is none, the cells d hold p with all values added
+pub record Enters {X : Type 0} (equal : X → X → Bool) (value-of : Item → X) (passes : Item → Bool) (table-of : Program → List X) (set-table : List X → Program → Program)
+    (s : List ℕ) (n : ℕ) (c : List ℕ) (r : Fault) (d : List ℕ) : Type 0 where
+  pub told : (p : Program) → HoldsProgram c p → r ≡ fault-of (excess equal value-of passes (table-of p) (statement-at s n))
+  pub holds : r ≡ Clear → (p : Program) → HoldsProgram c p → HoldsProgram d (set-table (all-added equal value-of passes (table-of p) (statement-at s n)) p)
+  pub beyond-same : drop limit.table d ≡ drop limit.table c
+
+-- one item of the statement: whether it is told to have a place, and the cells with its value
+pub record EntersOne {X : Type 0} (equal : X → X → Bool) (value-of : Item → X) (passes : Item → Bool) (table-of : Program → List X) (set-table : List X → Program → Program)
+    (i : Item) (c : List ℕ) (r : Bool) (d : List ℕ) : Type 0 where
+  pub told : (p : Program) → HoldsProgram c p → r ≡ not (passes i && full equal (value-of i) (table-of p))
+  pub holds : r ≡ true → (p : Program) → HoldsProgram c p
+      → HoldsProgram d (set-table (cond (passes i) (added equal (value-of i) (table-of p)) (table-of p)) p)
+  pub beyond-same : drop limit.table d ≡ drop limit.table c
+
+-- one value
+pub record Adds {X : Type 0} (equal : X → X → Bool) (table-of : Program → List X) (set-table : List X → Program → Program) (x : X) (c : List ℕ) (r : Bool) (d : List ℕ) : Type 0 where
+  pub told : (p : Program) → HoldsProgram c p → r ≡ not (full equal x (table-of p))
+  pub holds : r ≡ true → (p : Program) → HoldsProgram c p → HoldsProgram d (set-table (added equal x (table-of p)) p)
+  pub beyond-same : drop limit.table d ≡ drop limit.table c
+
+pub record Addable (c : List ℕ) (n : ℕ) : Type 0 where
+  pub held : Held c
+  pub short : n ≤ limit.item
+
+-- one item
+pub record Enterable-item (P : Item → Type 0) (s : List ℕ) (t : Token) (c : List ℕ) : Type 0 where
+  pub stands : Stands s t
+  pub held : Held c
+  pub as-asked : P (item-of s t)
+
+-- the number of a code in range
+pub record Codable (c : List ℕ) (code : ℕ) : Type 0 where
+  pub held : Held c
+  pub small : code ≤ 16777214
+
+-- whatever number has this code
+abbrev pub AddsCode : ℕ → List ℕ → Bool → List ℕ → Type 0
+AddsCode n c r d = (z : ℤ) → IsNumber n z no-program → Adds sameNumber (λ p. p .numbers) set-numbers z c r d
