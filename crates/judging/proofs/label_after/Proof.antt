@@ -28,7 +28,9 @@ stops-requires : tie.Need-stops-requires Inv-loop μ-loop
 stops-requires c κs = search needs
 
 returns : tie.Need-returns Inv-loop μ-loop
-returns c = sym (sym (c .before .before .before .loop .inv .1) ∙ labels-end (c .before .before .before .loop .left) (c .before .before .next-item .ensures) (sym (c .before .stops .ensures) ∙ c .if1 .taken))
+returns c =
+    let l = c .before .before .before .loop in
+    sym (sym (l .inv .1) ∙ labels-end (l .left) (c .before .before .next-item .ensures) (sym (c .before .stops .ensures) ∙ c .if1 .taken))
 
 is-operator-requires : tie.Need-is-operator-requires Inv-loop μ-loop
 is-operator-requires c κs = search needs
@@ -37,13 +39,17 @@ returns-2 : tie.Need-returns-2 Inv-loop μ-loop
 returns-2 c =
     let k = c .before .before .before .before .next-item .ensures in
     let here = sym (c .before .before .before .stops .ensures) ∙ c .before .before .if1 .left in
-    sym (sym (c .before .before .before .before .before .loop .inv .1) ∙ labels-before (c .before .before .before .before .before .loop .left) k here (sym (c .before .is-operator .ensures) ∙ c .if2 .taken))
+    let l = c .before .before .before .before .before .loop in
+    let op = sym (c .before .is-operator .ensures) ∙ c .if2 .taken in
+    sym (sym (l .inv .1) ∙ labels-before (l .left) k here op)
 
 returns-3 : tie.Need-returns-3 Inv-loop μ-loop
 returns-3 c =
     let k = c .before .before .before .before .before .before .next-item .ensures in
     let here = sym (c .before .before .before .before .before .stops .ensures) ∙ c .before .before .before .before .if1 .left in
-    sym (sym (c .before .before .before .before .before .before .before .loop .inv .1) ∙ label-here (c .before .before .before .before .before .before .before .loop .left) k here (sym (c .before .before .before .is-operator .ensures) ∙ c .before .before .if2 .left) (c .if3 .taken))
+    let l = c .before .before .before .before .before .before .before .loop in
+    let label = sym (c .before .before .before .is-operator .ensures) ∙ c .before .before .if2 .left in
+    sym (sym (l .inv .1) ∙ label-here (l .left) k here label (c .if3 .taken))
 
 less-one-requires : tie.Need-less-one-requires Inv-loop μ-loop
 less-one-requires c κs = search needs
@@ -58,7 +64,10 @@ loop-again : tie.Need-loop-again Inv-loop μ-loop
 loop-again c =
     let k = c .before .before .before .before .before .before .before .before .next-item .ensures in
     let here = sym (c .before .before .before .before .before .before .before .stops .ensures) ∙ c .before .before .before .before .before .before .if1 .left in
-    (k .stands .most, ap (λ m. fault-of (places (drop m (labels-in (statement-at (c .before .before .before .before .before .before .before .before .before .before .before .args .text .now) (c .before .before .before .before .before .before .before .before .next-item .result .next)))))) (c .less-one .ensures) ∙ sym (ap (λ js. fault-of (places js)) (label-passed (c .before .before .before .before .before .before .before .before .before .loop .left) k here (sym (c .before .before .before .before .before .is-operator .ensures) ∙ c .before .before .before .before .if2 .left) (c .before .before .if3 .left))) ∙ c .before .before .before .before .before .before .before .before .before .loop .inv .1)
+    let l = c .before .before .before .before .before .before .before .before .before .loop in
+    let label = sym (c .before .before .before .before .before .is-operator .ensures) ∙ c .before .before .before .before .if2 .left in
+    let fewer = ap (λ m. fault-of (places (drop m (labels-in (statement-at (c .before .before .before .before .before .before .before .before .before .before .before .args .text .now) (c .before .before .before .before .before .before .before .before .next-item .result .next)))))) (c .less-one .ensures) in
+    (k .stands .most, fewer ∙ sym (ap (λ js. fault-of (places js)) (label-passed (l .left) k here label (c .before .before .if3 .left))) ∙ l .inv .1)
 
 pub label-after-spec : {M : Type 1} → statement M
 label-after-spec =

@@ -16,7 +16,9 @@ stops-requires : tie.Need-stops-requires
 stops-requires c κs = search needs
 
 returns : tie.Need-returns
-returns c = sym (no-name (sameBytes (c .before .before .before .before .before .args .name .now)) (c .before .before .before .before .before .args .at) (c .before .before .next-item .ensures) (sym (c .before .stops .ensures) ∙ c .if1 .taken))
+returns c =
+    let name = c .before .before .before .before .before .args .name .now in
+    sym (no-name (sameBytes name) (c .before .before .before .before .before .args .at) (c .before .before .next-item .ensures) (sym (c .before .stops .ensures) ∙ c .if1 .taken))
 
 is-word-requires : tie.Need-is-word-requires
 is-word-requires c κs = c .before .before .next-item .ensures .stands
@@ -28,7 +30,9 @@ returns-2 : tie.Need-returns-2
 returns-2 c =
     let k = c .before .before .before .before .next-item .ensures in
     let here = sym (c .before .before .before .stops .ensures) ∙ c .before .before .if1 .left in
-    c .name-fault .ensures ∙ ap (λ b. fault-of (after-name (c .before .before .before .before .before .before .before .args .text .now) (c .before .before .before .before .next-item .result) b)) (c .before .is-word .ensures) ∙ sym (ap fault-of (a-name (sameBytes (c .before .before .before .before .before .before .before .args .name .now)) (c .before .before .before .before .before .before .before .args .at) k here))
+    let name = c .before .before .before .before .before .before .before .args .name .now in
+    let s = c .before .before .before .before .before .before .before .args .text .now in
+    c .name-fault .ensures ∙ ap (λ b. fault-of (after-name s (c .before .before .before .before .next-item .result) b)) (c .before .is-word .ensures) ∙ sym (ap fault-of (a-name (sameBytes name) (c .before .before .before .before .before .before .before .args .at) k here))
 
 pub same-name-spec : {M : Type 1} → statement M
 same-name-spec =

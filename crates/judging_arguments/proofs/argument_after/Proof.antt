@@ -28,13 +28,16 @@ stops-requires : tie.Need-stops-requires Inv-loop μ-loop
 stops-requires c κs = search needs
 
 returns : tie.Need-returns Inv-loop μ-loop
-returns c = sym (sym (c .before .before .before .loop .inv .1) ∙ arguments-end (c .before .before .before .loop .left) (c .before .before .next-item .ensures) (sym (c .before .stops .ensures) ∙ c .if1 .taken))
+returns c =
+    let l = c .before .before .before .loop in
+    sym (sym (l .inv .1) ∙ arguments-end (l .left) (c .before .before .next-item .ensures) (sym (c .before .stops .ensures) ∙ c .if1 .taken))
 
 returns-2 : tie.Need-returns-2 Inv-loop μ-loop
 returns-2 c =
     let k = c .before .before .before .before .next-item .ensures in
     let here = sym (c .before .before .before .stops .ensures) ∙ c .before .before .if1 .left in
-    sym (sym (c .before .before .before .before .before .loop .inv .1) ∙ argument-here (c .before .before .before .before .before .loop .left) k here (c .if2 .taken))
+    let l = c .before .before .before .before .before .loop in
+    sym (sym (l .inv .1) ∙ argument-here (l .left) k here (c .if2 .taken))
 
 less-one-requires : tie.Need-less-one-requires Inv-loop μ-loop
 less-one-requires c κs = search needs
@@ -49,7 +52,9 @@ loop-again : tie.Need-loop-again Inv-loop μ-loop
 loop-again c =
     let k = c .before .before .before .before .before .before .next-item .ensures in
     let here = sym (c .before .before .before .before .before .stops .ensures) ∙ c .before .before .before .before .if1 .left in
-    (k .stands .most, ap (λ m. fault-of (places (drop m (arguments-in (statement-at (c .before .before .before .before .before .before .before .before .before .args .text .now) (c .before .before .before .before .before .before .next-item .result .next)))))) (c .less-one .ensures) ∙ sym (ap (λ js. fault-of (places js)) (argument-passed (c .before .before .before .before .before .before .before .loop .left) k here (c .before .before .if2 .left))) ∙ c .before .before .before .before .before .before .before .loop .inv .1)
+    let l = c .before .before .before .before .before .before .before .loop in
+    let fewer = ap (λ m. fault-of (places (drop m (arguments-in (statement-at (c .before .before .before .before .before .before .before .before .before .args .text .now) (c .before .before .before .before .before .before .next-item .result .next)))))) (c .less-one .ensures) in
+    (k .stands .most, fewer ∙ sym (ap (λ js. fault-of (places js)) (argument-passed (l .left) k here (c .before .before .if2 .left))) ∙ l .inv .1)
 
 pub argument-after-spec : {M : Type 1} → statement M
 argument-after-spec =

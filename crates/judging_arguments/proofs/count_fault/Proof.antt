@@ -14,7 +14,10 @@ instr-of-requires : tie.Need-instr-of-requires
 instr-of-requires c κs = search needs
 
 returns : tie.Need-returns
-returns c = sym (not-counted ((c .before .before .before .before .pre)) (c .before .instr-of .ensures) (c .if1 .taken))
+returns c =
+    let g = c .before .before .before .before .pre in
+    let e = c .before .instr-of .ensures in
+    sym (not-counted g e (c .if1 .taken))
 
 most-requires : tie.Need-most-requires
 most-requires c κs = search needs
@@ -26,7 +29,11 @@ argument-after-requires : tie.Need-argument-after-requires
 argument-after-requires c κs = c .before .before .before .before .before .before .pre .stands .most
 
 returns-2 : tie.Need-returns-2
-returns-2 c = c .argument-after .ensures ∙ ap (λ m. fault-of (places (drop m (arguments-in (statement-at (c .before .before .before .before .before .before .before .args .text .now) (c .before .before .before .before .before .before .before .args .head .op .next)))))) (c .before .wide .ensures ∙ c .before .before .most .ensures .0 ∙ most-is (this-instruction ((c .before .before .before .before .before .before .before .pre)) (c .before .before .before .before .instr-of .ensures) (c .before .before .before .if1 .left))) ∙ sym (ap fault-of (counted ((c .before .before .before .before .before .before .before .pre)) (c .before .before .before .before .instr-of .ensures) (c .before .before .before .if1 .left)))
+returns-2 c =
+    let g = c .before .before .before .before .before .before .before .pre in
+    let e = c .before .before .before .before .instr-of .ensures in
+    let count = c .before .wide .ensures ∙ c .before .before .most .ensures .0 ∙ most-is (this-instruction g e (c .before .before .before .if1 .left)) in
+    c .argument-after .ensures ∙ ap (λ m. fault-of (places (drop m (arguments-in (statement-at (c .before .before .before .before .before .before .before .args .text .now) (c .before .before .before .before .before .before .before .args .head .op .next)))))) count ∙ sym (ap fault-of (counted g e (c .before .before .before .if1 .left)))
 
 pub count-fault-spec : {M : Type 1} → statement M
 count-fault-spec =

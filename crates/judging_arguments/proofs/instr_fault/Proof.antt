@@ -21,13 +21,21 @@ wide-requires : tie.Need-wide-requires
 wide-requires c κs = search needs
 
 returns : tie.Need-returns
-returns c = λ o h. sym (missing ((c .before .before .before .before .before .pre)) o (ap (λ m. ltb m (least o)) (sym (c .before .before .before .count-arguments .ensures)) ∙ ap (λ m. ltb (c .before .before .before .count-arguments .result) m) (sym (c .before .wide .ensures ∙ c .before .before .least .ensures .0 ∙ ap least-of (sym h) ∙ least-listed o)) ∙ lt-ltb _ _ (c .if1 .taken)))
+returns c =
+    let count = c .before .before .before .count-arguments in
+    let g = c .before .before .before .before .before .pre in
+    let needed = c .before .wide .ensures ∙ c .before .before .least .ensures .0 in
+    λ o h. sym (missing g o (ap (λ m. ltb m (least o)) (sym (count .ensures)) ∙ ap (λ m. ltb (count .result) m) (sym (needed ∙ ap least-of (sym h) ∙ least-listed o)) ∙ lt-ltb _ _ (c .if1 .taken)))
 
 items-fault-requires : tie.Need-items-fault-requires
 items-fault-requires c κs = c .before .before .before .before .before .pre .most
 
 returns-2 : tie.Need-returns-2
-returns-2 c = λ o h. c .items-fault .ensures o h ∙ sym (ap fault-of (complete ((c .before .before .before .before .before .before .pre)) o (ap (λ m. ltb m (least o)) (sym (c .before .before .before .before .count-arguments .ensures)) ∙ ap (λ m. ltb (c .before .before .before .before .count-arguments .result) m) (sym (c .before .before .wide .ensures ∙ c .before .before .before .least .ensures .0 ∙ ap least-of (sym h) ∙ least-listed o)) ∙ le-ltb _ _ (c .before .if1 .left))))
+returns-2 c =
+    let count = c .before .before .before .before .count-arguments in
+    let g = c .before .before .before .before .before .before .pre in
+    let needed = c .before .before .wide .ensures ∙ c .before .before .before .least .ensures .0 in
+    λ o h. c .items-fault .ensures o h ∙ sym (ap fault-of (complete g o (ap (λ m. ltb m (least o)) (sym (count .ensures)) ∙ ap (λ m. ltb (count .result) m) (sym (needed ∙ ap least-of (sym h) ∙ least-listed o)) ∙ le-ltb _ _ (c .before .if1 .left))))
 
 pub instr-fault-spec : {M : Type 1} → statement M
 instr-fault-spec =

@@ -25,10 +25,16 @@ stops-requires : tie.Need-stops-requires Inv-loop μ-loop
 stops-requires c κs = search needs
 
 returns : tie.Need-returns Inv-loop μ-loop
-returns c = λ o h. sym (sym (c .before .before .before .loop .inv .is o h) ∙ items-end o (c .before .before .before .loop .live) (c .before .before .before .loop .place) (c .before .before .next-item .ensures) (sym (c .before .stops .ensures) ∙ c .if1 .taken))
+returns c =
+    let l = c .before .before .before .loop in
+    λ o h. sym (sym (l .inv .is o h) ∙ items-end o (l .live) (l .place) (c .before .before .next-item .ensures) (sym (c .before .stops .ensures) ∙ c .if1 .taken))
 
 returns-2 : tie.Need-returns-2 Inv-loop μ-loop
-returns-2 c = λ o h. sym (sym (c .before .before .before .before .before .loop .inv .is o h) ∙ colon-here o (c .before .before .before .before .before .loop .live) (c .before .before .before .before .before .loop .place) (c .before .before .before .before .next-item .ensures) (sym (c .before .before .before .stops .ensures) ∙ c .before .before .if1 .left) (c .if2 .taken))
+returns-2 c =
+    let k = c .before .before .before .before .next-item .ensures in
+    let here = sym (c .before .before .before .stops .ensures) ∙ c .before .before .if1 .left in
+    let l = c .before .before .before .before .before .loop in
+    λ o h. sym (sym (l .inv .is o h) ∙ colon-here o (l .live) (l .place) k here (c .if2 .taken))
 
 kinds-at-requires : tie.Need-kinds-at-requires Inv-loop μ-loop
 kinds-at-requires c κs = c .before .before .before .before .next-item .ensures .stands
@@ -37,10 +43,22 @@ take-argument-requires : tie.Need-take-argument-requires Inv-loop μ-loop
 take-argument-requires c κs = search needs
 
 returns-3 : tie.Need-returns-3 Inv-loop μ-loop
-returns-3 c = λ o h. sym (sym (c .before .before .before .before .before .before .before .before .before .loop .inv .is o h) ∙ unlisted-here o (c .before .before .before .before .before .before .before .before .before .loop .live) (c .before .before .before .before .before .before .before .before .before .loop .place) (c .before .before .before .before .before .before .before .before .next-item .ensures) (sym (c .before .before .before .before .before .before .before .stops .ensures) ∙ c .before .before .before .before .before .before .if1 .left) (c .before .before .before .before .if2 .left) (c .before .before .take-argument .result) (turned (c .before .before .before .before .before .before .before .before .before .loop .live) (c .before .before .before .before .before .before .before .before .before .loop .place) (c .before .before .take-argument .ensures) (c .before .before .before .kinds-at .ensures) o h) (c .if3 .taken))
+returns-3 c =
+    let k = c .before .before .before .before .before .before .before .before .next-item .ensures in
+    let here = sym (c .before .before .before .before .before .before .before .stops .ensures) ∙ c .before .before .before .before .before .before .if1 .left in
+    let l = c .before .before .before .before .before .before .before .before .before .loop in
+    let a = c .before .before .take-argument in
+    let j = c .before .before .before .kinds-at .ensures in
+    λ o h. sym (sym (l .inv .is o h) ∙ unlisted-here o (l .live) (l .place) k here (c .before .before .before .before .if2 .left) (a .result) (turned (l .live) (l .place) (a .ensures) j o h) (c .if3 .taken))
 
 returns-4 : tie.Need-returns-4 Inv-loop μ-loop
-returns-4 c = λ o h. sym (sym (c .before .before .before .before .before .before .before .before .before .before .before .loop .inv .is o h) ∙ colon-after-argument o (c .before .before .before .before .before .before .before .before .before .before .before .loop .live) (c .before .before .before .before .before .before .before .before .before .before .before .loop .place) (c .before .before .before .before .before .before .before .before .before .before .next-item .ensures) (sym (c .before .before .before .before .before .before .before .before .before .stops .ensures) ∙ c .before .before .before .before .before .before .before .before .if1 .left) (c .before .before .before .before .before .before .if2 .left) (c .before .before .before .before .take-argument .result) (turned (c .before .before .before .before .before .before .before .before .before .before .before .loop .live) (c .before .before .before .before .before .before .before .before .before .before .before .loop .place) (c .before .before .before .before .take-argument .ensures) (c .before .before .before .before .before .kinds-at .ensures) o h) (c .before .before .if3 .left) (c .if4 .taken))
+returns-4 c =
+    let k = c .before .before .before .before .before .before .before .before .before .before .next-item .ensures in
+    let here = sym (c .before .before .before .before .before .before .before .before .before .stops .ensures) ∙ c .before .before .before .before .before .before .before .before .if1 .left in
+    let l = c .before .before .before .before .before .before .before .before .before .before .before .loop in
+    let a = c .before .before .before .before .take-argument in
+    let j = c .before .before .before .before .before .kinds-at .ensures in
+    λ o h. sym (sym (l .inv .is o h) ∙ colon-after-argument o (l .live) (l .place) k here (c .before .before .before .before .before .before .if2 .left) (a .result) (turned (l .live) (l .place) (a .ensures) j o h) (c .before .before .if3 .left) (c .if4 .taken))
 
 add-place : tie.Need-add-place Inv-loop μ-loop
 add-place c = omega (arith, c .before .before .before .before .before .before .before .before .before .before .before .loop .inv .few)
@@ -55,7 +73,10 @@ loop-again : tie.Need-loop-again Inv-loop μ-loop
 loop-again c =
     let k = c .before .before .before .before .before .before .before .before .before .before .next-item .ensures in
     let here = sym (c .before .before .before .before .before .before .before .before .before .stops .ensures) ∙ c .before .before .before .before .before .before .before .before .if1 .left in
-    reading-on (c .before .before .before .before .before .before .before .before .before .before .before .loop .inv) k here (c .before .before .before .before .before .before .if2 .left) (c .before .before .before .before .take-argument .ensures) (c .before .before .before .before .before .kinds-at .ensures) (c .before .before .if3 .left) (c .if4 .left)
+    let l = c .before .before .before .before .before .before .before .before .before .before .before .loop in
+    let a = c .before .before .before .before .take-argument in
+    let j = c .before .before .before .before .before .kinds-at .ensures in
+    reading-on (l .inv) k here (c .before .before .before .before .before .before .if2 .left) (a .ensures) j (c .before .before .if3 .left) (c .if4 .left)
 
 pub items-fault-spec : {M : Type 1} → statement M
 items-fault-spec =

@@ -10,22 +10,49 @@ is-name-requires : tie.Need-is-name-requires
 is-name-requires c κs = (c .before .pre)
 
 returns : tie.Need-returns
-returns c = sym (name-bare ((c .before .before .before .before .before .pre)) (c .before .before .before .before .before .args .named) (c .before .before .before .before .before .args .before) (sym (c .before .before .before .is-name .ensures) ∙ c .before .before .if1 .taken) (c .if2 .taken))
+returns c =
+    let g = c .before .before .before .before .before .pre in
+    let nazwa = c .before .before .before .before .before .args .named in
+    let before = c .before .before .before .before .before .args .before in
+    let name = sym (c .before .before .before .is-name .ensures) ∙ c .before .before .if1 .taken in
+    sym (name-bare g nazwa before name (c .if2 .taken))
 
 text-follows-requires : tie.Need-text-follows-requires
 text-follows-requires c κs = c .before .before .before .before .before .pre .most
 
 returns-2 : tie.Need-returns-2
-returns-2 c = sym (name-with-text ((c .before .before .before .before .before .before .before .pre)) (c .before .before .before .before .before .before .before .args .named) (c .before .before .before .before .before .before .before .args .before) (sym (c .before .before .before .before .before .is-name .ensures) ∙ c .before .before .before .before .if1 .taken) (ap (λ b. c .before .before .before .before .before .before .before .args .named && b) (sym (c .before .text-follows .ensures)) ∙ c .if3 .taken))
+returns-2 c =
+    let g = c .before .before .before .before .before .before .before .pre in
+    let nazwa = c .before .before .before .before .before .before .before .args .named in
+    let before = c .before .before .before .before .before .before .before .args .before in
+    let name = sym (c .before .before .before .before .before .is-name .ensures) ∙ c .before .before .before .before .if1 .taken in
+    let both = ap (λ b. nazwa && b) (sym (c .before .text-follows .ensures)) in
+    sym (name-with-text g nazwa before name (both ∙ c .if3 .taken))
 
 returns-3 : tie.Need-returns-3
-returns-3 c = sym (name-with-colon ((c .before .before .before .before .before .before .before .pre)) (c .before .before .before .before .before .before .before .args .named) (c .before .before .before .before .before .before .before .args .before) (sym (c .before .before .before .before .before .is-name .ensures) ∙ c .before .before .before .before .if1 .taken) (ap (λ b. c .before .before .before .before .before .before .before .args .named && b) (sym (c .before .text-follows .ensures)) ∙ c .if3 .left) (c .before .before .if2 .left))
+returns-3 c =
+    let g = c .before .before .before .before .before .before .before .pre in
+    let nazwa = c .before .before .before .before .before .before .before .args .named in
+    let before = c .before .before .before .before .before .before .before .args .before in
+    let name = sym (c .before .before .before .before .before .is-name .ensures) ∙ c .before .before .before .before .if1 .taken in
+    let both = ap (λ b. nazwa && b) (sym (c .before .text-follows .ensures)) in
+    sym (name-with-colon g nazwa before name (both ∙ c .if3 .left) (c .before .before .if2 .left))
 
 returns-4 : tie.Need-returns-4
-returns-4 c = sym (text-after-name ((c .before .before .before .before .before .pre)) (c .before .before .before .before .before .args .named) (c .before .before .before .before .before .args .before) (sym (c .before .before .before .is-name .ensures) ∙ c .before .before .if1 .left) (c .if4 .taken))
+returns-4 c =
+    let g = c .before .before .before .before .before .pre in
+    let nazwa = c .before .before .before .before .before .args .named in
+    let before = c .before .before .before .before .before .args .before in
+    let other = sym (c .before .before .before .is-name .ensures) ∙ c .before .before .if1 .left in
+    sym (text-after-name g nazwa before other (c .if4 .taken))
 
 returns-5 : tie.Need-returns-5
-returns-5 c = sym (no-entry ((c .before .before .before .before .before .pre)) (c .before .before .before .before .before .args .named) (c .before .before .before .before .before .args .before) (sym (c .before .before .before .is-name .ensures) ∙ c .before .before .if1 .left) (c .if4 .left))
+returns-5 c =
+    let g = c .before .before .before .before .before .pre in
+    let nazwa = c .before .before .before .before .before .args .named in
+    let before = c .before .before .before .before .before .args .before in
+    let other = sym (c .before .before .before .is-name .ensures) ∙ c .before .before .if1 .left in
+    sym (no-entry g nazwa before other (c .if4 .left))
 
 pub entry-fault-spec : {M : Type 1} → statement M
 entry-fault-spec =

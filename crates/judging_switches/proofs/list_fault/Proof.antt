@@ -29,7 +29,9 @@ stops-requires : tie.Need-stops-requires Inv-loop μ-loop
 stops-requires c κs = search needs
 
 returns : tie.Need-returns Inv-loop μ-loop
-returns c = sym (sym (c .before .before .before .loop .inv .1) ∙ list-end (c .before .before .before .before .before .args .named) (c .before .before .before .loop .before) (c .before .before .next-item .ensures) (sym (c .before .stops .ensures) ∙ c .if1 .taken))
+returns c =
+    let l = c .before .before .before .loop in
+    sym (sym (l .inv .1) ∙ list-end (c .before .before .before .before .before .args .named) (l .before) (c .before .before .next-item .ensures) (sym (c .before .stops .ensures) ∙ c .if1 .taken))
 
 entry-fault-requires : tie.Need-entry-fault-requires Inv-loop μ-loop
 entry-fault-requires c κs = c .before .before .next-item .ensures .stands
@@ -41,7 +43,10 @@ returns-2 : tie.Need-returns-2 Inv-loop μ-loop
 returns-2 c =
     let k = c .before .before .before .before .before .next-item .ensures in
     let here = sym (c .before .before .before .before .stops .ensures) ∙ c .before .before .before .if1 .left in
-    sym (sym (c .before .before .before .before .before .before .loop .inv .1) ∙ entry-wrong (c .before .before .before .before .before .before .before .before .args .named) (c .before .before .before .before .before .before .loop .before) k here (c .before .before .entry-fault .ensures) (sym (c .before .is-clear .ensures) ∙ not-true (c .before .is-clear .result) (c .if2 .taken)))
+    let l = c .before .before .before .before .before .before .loop in
+    let f = c .before .before .entry-fault .ensures in
+    let clear = c .before .is-clear in
+    sym (sym (l .inv .1) ∙ entry-wrong (c .before .before .before .before .before .before .before .before .args .named) (l .before) k here f (sym (clear .ensures) ∙ not-true (clear .result) (c .if2 .taken)))
 
 loop-less : tie.Need-loop-less Inv-loop μ-loop
 loop-less c =
@@ -53,7 +58,10 @@ loop-again : tie.Need-loop-again Inv-loop μ-loop
 loop-again c =
     let k = c .before .before .before .before .before .before .next-item .ensures in
     let here = sym (c .before .before .before .before .before .stops .ensures) ∙ c .before .before .before .before .if1 .left in
-    (k .stands .most, sym (ap fault-of (entry-right (c .before .before .before .before .before .before .before .before .before .args .named) (c .before .before .before .before .before .before .before .loop .before) k here (c .before .before .before .entry-fault .ensures) (sym (c .before .before .is-clear .ensures) ∙ not-false (c .before .before .is-clear .result) (c .before .if2 .left)))) ∙ c .before .before .before .before .before .before .before .loop .inv .1)
+    let l = c .before .before .before .before .before .before .before .loop in
+    let f = c .before .before .before .entry-fault .ensures in
+    let clear = c .before .before .is-clear in
+    (k .stands .most, sym (ap fault-of (entry-right (c .before .before .before .before .before .before .before .before .before .args .named) (l .before) k here f (sym (clear .ensures) ∙ not-false (clear .result) (c .before .if2 .left)))) ∙ l .inv .1)
 
 pub list-fault-spec : {M : Type 1} → statement M
 list-fault-spec =
