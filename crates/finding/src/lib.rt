@@ -7,8 +7,6 @@ ghost use Rattle.lists.specs.Lists.{ahead, sameBytes};
 ghost use Rattle.writing.specs.Writing.{IsNumber};
 ghost use Rattle.finding.specs.Finding.{Counted, Tells, TellsFor};
 
-const FIRST_NUMBER: usize = 6312;
-
 // The text `word` among the texts.
 pub fn find_text(table: &[u32], word: &[u8]) -> usize
     requires { ⌜ Counted (now table) 4 128 ⌝ }
@@ -33,7 +31,7 @@ pub fn find_number(table: &[u32], code: u32) -> usize
     let n = table::numbers(table);
     let mut k = 0;
     while k < n {
-        if table[FIRST_NUMBER + k] == code {
+        if table[table::FIRST_NUMBER + k] == code {
             return k;
         }
         k += 1;

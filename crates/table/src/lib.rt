@@ -40,17 +40,17 @@ pub enum Argument {
     Number(u32),
 }
 
-const FIRST_INSTRUCTION: usize = 8;
+pub const FIRST_INSTRUCTION: usize = 8;
 
-const FIRST_LABEL: usize = 2056;
+pub const FIRST_LABEL: usize = 2056;
 
-const FIRST_TEXT: usize = 4104;
+pub const FIRST_TEXT: usize = 4104;
 
-const FIRST_SWITCH: usize = 6152;
+pub const FIRST_SWITCH: usize = 6152;
 
-const FIRST_ENTRY: usize = 6184;
+pub const FIRST_ENTRY: usize = 6184;
 
-const FIRST_NUMBER: usize = 6312;
+pub const FIRST_NUMBER: usize = 6312;
 
 fn wide(x: u32) -> usize
     ensures { λ r. ⌜ Number x 4294967296 r ⌝ }

@@ -7,18 +7,6 @@ ghost use Rattle.cells.specs.Cells.{Number};
 ghost use Rattle.writing.specs.Writing.{with-text, with-number, with-label, with-instr, with-switch, with-entry, with-argument, with-entry-label, label-of, Cleared, Changes, Writes, Room, WordRoom, LabelRoom, InstrRoom, SwitchRoom, EntryRoom, ArgumentAt, EntryAt, IsNumber, IsInstr, IsEntry, IsArg};
 use language::Machine;
 
-const FIRST_INSTRUCTION: usize = 8;
-
-const FIRST_LABEL: usize = 2056;
-
-const FIRST_TEXT: usize = 4104;
-
-const FIRST_SWITCH: usize = 6152;
-
-const FIRST_ENTRY: usize = 6184;
-
-const FIRST_NUMBER: usize = 6312;
-
 fn bit(b: bool) -> usize
     ensures { λ r. ⌜ Number (cond b 1 0) 2 r ⌝ }
 {
@@ -42,7 +30,7 @@ pub fn put_text(table: &mut [u32], word: &[u8])
     ensures { λ _. ⌜ Changes (with-text (now (word .entry))) (now (table .entry)) (now (table .exit)) ⌝ }
 {
     let n = table::texts(table);
-    blocks::put_named(table, FIRST_TEXT + 16 * n, word.len(), word);
+    blocks::put_named(table, table::FIRST_TEXT + 16 * n, word.len(), word);
     cells::write(table, 4, n + 1);
 }
 
@@ -52,7 +40,7 @@ pub fn put_number(table: &mut [u32], code: u32)
     ensures { λ _. ⌜ Writes (IsNumber code) with-number (now (table .entry)) (now (table .exit)) ⌝ }
 {
     let n = table::numbers(table);
-    table[FIRST_NUMBER + n] = code;
+    table[table::FIRST_NUMBER + n] = code;
     cells::write(table, 5, n + 1);
 }
 
@@ -62,7 +50,12 @@ pub fn put_label(table: &mut [u32], name: &[u8], target: usize)
     ensures { λ _. ⌜ Changes (with-label (label-of (now (name .entry)) target)) (now (table .entry)) (now (table .exit)) ⌝ }
 {
     let n = table::labels(table);
-    blocks::put_named(table, FIRST_LABEL + 16 * n, name.len() + 64 * target, name);
+    blocks::put_named(
+        table,
+        table::FIRST_LABEL + 16 * n,
+        name.len() + 64 * target,
+        name,
+    );
     cells::write(table, 1, n + 1);
 }
 
@@ -72,7 +65,14 @@ pub fn put_instruction(table: &mut [u32], op: usize, line: usize, x: usize, y: u
     ensures { λ _. ⌜ Writes (IsInstr op line x y z) with-instr (now (table .entry)) (now (table .exit)) ⌝ }
 {
     let n = table::instructions(table);
-    blocks::put_four(table, FIRST_INSTRUCTION + 4 * n, op + 64 * line, x, y, z);
+    blocks::put_four(
+        table,
+        table::FIRST_INSTRUCTION + 4 * n,
+        op + 64 * line,
+        x,
+        y,
+        z,
+    );
     cells::write(table, 0, n + 1);
 }
 
@@ -83,7 +83,7 @@ pub fn put_switch(table: &mut [u32], named: bool)
 {
     let n = table::switches(table);
     let first = table::entries(table);
-    cells::write(table, FIRST_SWITCH + n, bit(named) + 512 * first);
+    cells::write(table, table::FIRST_SWITCH + n, bit(named) + 512 * first);
     cells::write(table, 2, n + 1);
 }
 
@@ -93,9 +93,9 @@ pub fn put_entry(table: &mut [u32], label: usize, text: usize)
     ensures { λ _. ⌜ Writes (IsEntry label text) with-entry (now (table .entry)) (now (table .exit)) ⌝ }
 {
     let n = table::entries(table);
-    let last = FIRST_SWITCH - 1 + table::switches(table);
+    let last = table::FIRST_SWITCH - 1 + table::switches(table);
     let switch = cells::read(table, last);
-    cells::write(table, FIRST_ENTRY + n, label + 128 * text);
+    cells::write(table, table::FIRST_ENTRY + n, label + 128 * text);
     cells::write(table, last, switch + 2);
     cells::write(table, 3, n + 1);
 }
@@ -105,7 +105,7 @@ pub fn set_argument(table: &mut [u32], k: usize, j: usize, cell: usize)
     requires { ⌜ ArgumentAt (now table) k j cell ⌝ }
     ensures { λ _. ⌜ Writes (IsArg cell) (with-argument k j) (now (table .entry)) (now (table .exit)) ⌝ }
 {
-    cells::write(table, FIRST_INSTRUCTION + 4 * k + 1 + j, cell);
+    cells::write(table, table::FIRST_INSTRUCTION + 4 * k + 1 + j, cell);
 }
 
 // Gives entry `k` of all entries the label `label`.
@@ -114,5 +114,5 @@ pub fn set_entry_label(table: &mut [u32], k: usize, label: usize)
     ensures { λ _. ⌜ Changes (with-entry-label k label) (now (table .entry)) (now (table .exit)) ⌝ }
 {
     let text = table::entry_text(table, k);
-    cells::write(table, FIRST_ENTRY + k, label + 128 * text);
+    cells::write(table, table::FIRST_ENTRY + k, label + 128 * text);
 }
