@@ -27,25 +27,39 @@ add-result : tie.Need-add-result
 add-result c = search needs
 
 returns : tie.Need-returns
-returns c = c .letter-fits .ensures ∙ range-1 (table-of (now (c .before .before .before .args .table))) (c .before .before .before .args .x) (c .before .match .keys1)
+returns c =
+    let d = c .before .before .before in
+    c .letter-fits .ensures ∙ range-1 (table-of (now (d .args .table))) (d .args .x) (c .before .match .keys1)
 
 returns-2 : tie.Need-returns-2
-returns-2 c = rw (c .read .ensures .is) (range-2 (table-of (now (c .before .before .before .args .table))) (c .before .before .before .args .x) (c .before .match .keys2))
+returns-2 c =
+    let d = c .before .before .before in
+    rw (c .read .ensures .is) (range-2 (table-of (now (d .args .table))) (d .args .x) (c .before .match .keys2))
 
 returns-3 : tie.Need-returns-3
-returns-3 c = rw (c .read2 .ensures .is) (range-3 (table-of (now (c .before .before .before .args .table))) (c .before .before .before .args .x) (c .before .match .keys3))
+returns-3 c =
+    let d = c .before .before .before in
+    rw (c .read2 .ensures .is) (range-3 (table-of (now (d .args .table))) (d .args .x) (c .before .match .keys3))
 
 returns-4 : tie.Need-returns-4
-returns-4 c = range-4 (table-of (now (c .before .before .args .table))) (c .before .before .args .x) (c .match .keys4)
+returns-4 c =
+    let d = c .before .before in
+    range-4 (table-of (now (d .args .table))) (d .args .x) (c .match .keys4)
 
 returns-5 : tie.Need-returns-5
-returns-5 c = c .ref-fits .ensures ∙ range-5 (table-of (now (c .before .before .before .args .table))) (c .before .before .before .args .x) (c .before .match .keys5)
+returns-5 c =
+    let d = c .before .before .before in
+    c .ref-fits .ensures ∙ range-5 (table-of (now (d .args .table))) (d .args .x) (c .before .match .keys5)
 
 returns-6 : tie.Need-returns-6
-returns-6 c = rw (c .read3 .ensures .is) (range-6 (table-of (now (c .before .before .before .args .table))) (c .before .before .before .args .x) (c .before .match .keys6))
+returns-6 c =
+    let d = c .before .before .before in
+    rw (c .read3 .ensures .is) (range-6 (table-of (now (d .args .table))) (d .args .x) (c .before .match .keys6))
 
 returns-7 : tie.Need-returns-7
-returns-7 c = range-none (table-of (now (c .before .before .args .table))) (c .before .before .args .x) (c .match .rest .0 .0 .0 .0 .0 .1) (c .match .rest .0 .0 .0 .0 .1) (c .match .rest .0 .0 .0 .1) (c .match .rest .0 .0 .1) (c .match .rest .0 .1) (c .match .rest .1)
+returns-7 c =
+    let d = c .before .before in
+    range-none (table-of (now (d .args .table))) (d .args .x) (c .match .rest .0 .0 .0 .0 .0 .1) (c .match .rest .0 .0 .0 .0 .1) (c .match .rest .0 .0 .0 .1) (c .match .rest .0 .0 .1) (c .match .rest .0 .1) (c .match .rest .1)
 
 pub arg-fits-spec : {M : Type 1} → statement M
 arg-fits-spec =

@@ -26,16 +26,24 @@ byte-requires-4 : tie.Need-byte-requires-4
 byte-requires-4 c κs = omega (arith, c .before .read .ensures .most)
 
 returns : tie.Need-returns
-returns c = char-0 (table-of (now (c .before .before .before .before .args .table))) (c .before .before .before .before .args .at) (c .before .before .before .before .args .j) (c .before .before .read .result) (c .byte .result) (c .before .before .read .ensures .is) (c .before .match .keys1) (c .byte .ensures)
+returns c =
+    let d = c .before .before .before .before in
+    char-0 (table-of (now (d .args .table))) (d .args .at) (d .args .j) (c .before .before .read .result) (c .byte .result) (c .before .before .read .ensures .is) (c .before .match .keys1) (c .byte .ensures)
 
 returns-2 : tie.Need-returns-2
-returns-2 c = char-1 (table-of (now (c .before .before .before .before .args .table))) (c .before .before .before .before .args .at) (c .before .before .before .before .args .j) (c .before .before .read .result) (c .byte2 .result) (c .before .before .read .ensures .is) (c .before .match .keys2) (c .byte2 .ensures)
+returns-2 c =
+    let d = c .before .before .before .before in
+    char-1 (table-of (now (d .args .table))) (d .args .at) (d .args .j) (c .before .before .read .result) (c .byte2 .result) (c .before .before .read .ensures .is) (c .before .match .keys2) (c .byte2 .ensures)
 
 returns-3 : tie.Need-returns-3
-returns-3 c = char-2 (table-of (now (c .before .before .before .before .args .table))) (c .before .before .before .before .args .at) (c .before .before .before .before .args .j) (c .before .before .read .result) (c .byte3 .result) (c .before .before .read .ensures .is) (c .before .match .keys3) (c .byte3 .ensures)
+returns-3 c =
+    let d = c .before .before .before .before in
+    char-2 (table-of (now (d .args .table))) (d .args .at) (d .args .j) (c .before .before .read .result) (c .byte3 .result) (c .before .before .read .ensures .is) (c .before .match .keys3) (c .byte3 .ensures)
 
 returns-4 : tie.Need-returns-4
-returns-4 c = char-3 (table-of (now (c .before .before .before .before .args .table))) (c .before .before .before .before .args .at) (c .before .before .before .before .args .j) (c .before .before .read .result) (c .byte4 .result) (c .before .before .read .ensures .is) (c .before .match .rest .0 .0 .1) (c .before .match .rest .0 .1) (c .before .match .rest .1) (c .byte4 .ensures)
+returns-4 c =
+    let d = c .before .before .before .before in
+    char-3 (table-of (now (d .args .table))) (d .args .at) (d .args .j) (c .before .before .read .result) (c .byte4 .result) (c .before .before .read .ensures .is) (c .before .match .rest .0 .0 .1) (c .before .match .rest .0 .1) (c .before .match .rest .1) (c .byte4 .ensures)
 
 pub char-at-spec : {M : Type 1} → statement M
 char-at-spec =

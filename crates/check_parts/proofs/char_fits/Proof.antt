@@ -11,7 +11,9 @@ char-at-requires : tie.Need-char-at-requires
 char-at-requires c κs = search needs
 
 returns : tie.Need-returns
-returns c = char-behind (table-of (now (c .before .before .before .args .table))) (c .before .before .before .args .at) (c .before .before .before .args .n) (c .before .before .before .args .j) (c .before .char-at .result) (c .before .char-at .ensures) (c .before .before .before .args .name) (c .if1 .taken)
+returns c =
+    let d = c .before .before .before in
+    char-behind (table-of (now (d .args .table))) (d .args .at) (d .args .n) (d .args .j) (c .before .char-at .result) (c .before .char-at .ensures) (d .args .name) (c .if1 .taken)
 
 is-letter-requires : tie.Need-is-letter-requires
 is-letter-requires c κs = search needs
@@ -20,13 +22,17 @@ is-digit-requires : tie.Need-is-digit-requires
 is-digit-requires c κs = search needs
 
 returns-2 : tie.Need-returns-2
-returns-2 c = rw (c .before .is-letter .ensures, c .is-digit .ensures) (char-of-name (table-of (now (c .before .before .before .before .before .before .args .table))) (c .before .before .before .before .before .before .args .at) (c .before .before .before .before .before .before .args .n) (c .before .before .before .before .before .before .args .j) (c .before .before .before .before .char-at .result) (c .before .before .before .before .char-at .ensures) (c .before .before .before .before .before .before .args .name) (c .before .before .before .if1 .left) (c .before .before .if2 .taken))
+returns-2 c =
+    let d = c .before .before .before .before .before .before in
+    rw (c .before .is-letter .ensures, c .is-digit .ensures) (char-of-name (table-of (now (d .args .table))) (d .args .at) (d .args .n) (d .args .j) (c .before .before .before .before .char-at .result) (c .before .before .before .before .char-at .ensures) (d .args .name) (c .before .before .before .if1 .left) (c .before .before .if2 .taken))
 
 is-known-requires : tie.Need-is-known-requires
 is-known-requires c κs = search needs
 
 returns-3 : tie.Need-returns-3
-returns-3 c = c .is-known .ensures ∙ char-of-text (table-of (now (c .before .before .before .before .before .args .table))) (c .before .before .before .before .before .args .at) (c .before .before .before .before .before .args .n) (c .before .before .before .before .before .args .j) (c .before .before .before .char-at .result) (c .before .before .before .char-at .ensures) (c .before .before .before .before .before .args .name) (c .before .before .if1 .left) (c .before .if2 .left)
+returns-3 c =
+    let d = c .before .before .before .before .before in
+    c .is-known .ensures ∙ char-of-text (table-of (now (d .args .table))) (d .args .at) (d .args .n) (d .args .j) (c .before .before .before .char-at .result) (c .before .before .before .char-at .ensures) (d .args .name) (c .before .before .if1 .left) (c .before .if2 .left)
 
 pub char-fits-spec : {M : Type 1} → statement M
 char-fits-spec =

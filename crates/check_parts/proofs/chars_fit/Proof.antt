@@ -24,8 +24,11 @@ char-fits-requires : tie.Need-char-fits-requires Inv-loop μ-loop
 char-fits-requires c κs = search needs
 
 returns : tie.Need-returns Inv-loop μ-loop
-returns c = loop-stop (char-fits (table-of (now (c .before .before .before .before .before .args .table))) (c .before .before .before .before .before .args .at) (c .before .before .before .before .before .args .n) (c .before .before .before .before .before .args .name)) 60 (c .before .before .before .loop .j) (chars-fit (table-of (now (c .before .before .before .before .before .args .table))) (c .before .before .before .before .before .args .at) (c .before .before .before .before .before .args .n) (c .before .before .before .before .before .args .name)) (c .before .before .before .loop .inv .1)
-    _ (c .before .char-fits .ensures) (c .before .before .loop-test .taken) (not-true _ (c .if1 .taken))
+returns c =
+    let d = c .before .before .before .before .before in
+    let h = c .before .before .before .loop in
+    let t = table-of (now (d .args .table)) in
+    loop-stop (char-fits t (d .args .at) (d .args .n) (d .args .name)) 60 (h .j) _ (h .inv .1) _ (c .before .char-fits .ensures) (c .before .before .loop-test .taken) (not-true _ (c .if1 .taken))
 
 add-j : tie.Need-add-j Inv-loop μ-loop
 add-j c = search needs
@@ -34,14 +37,18 @@ loop-less : tie.Need-loop-less Inv-loop μ-loop
 loop-less c = search needs
 
 loop-again : tie.Need-loop-again Inv-loop μ-loop
-loop-again c = (
-  omega arith,
-  loop-on (char-fits (table-of (now (c .before .before .before .before .before .args .table))) (c .before .before .before .before .before .args .at) (c .before .before .before .before .before .args .n) (c .before .before .before .before .before .args .name)) 60 (c .before .before .before .loop .j) (chars-fit (table-of (now (c .before .before .before .before .before .args .table))) (c .before .before .before .before .before .args .at) (c .before .before .before .before .before .args .n) (c .before .before .before .before .before .args .name)) (c .before .before .before .loop .inv .1)
-      _ (c .before .char-fits .ensures) (c .before .before .loop-test .taken) (not-false _ (c .if1 .left)),
-)
+loop-again c =
+    let d = c .before .before .before .before .before in
+    let h = c .before .before .before .loop in
+    let t = table-of (now (d .args .table)) in
+    (omega arith, loop-on (char-fits t (d .args .at) (d .args .n) (d .args .name)) 60 (h .j) _ (h .inv .1) _ (c .before .char-fits .ensures) (c .before .before .loop-test .taken) (not-false _ (c .if1 .left)))
 
 returns-2 : tie.Need-returns-2 Inv-loop μ-loop
-returns-2 c = loop-end (char-fits (table-of (now (c .before .before .before .args .table))) (c .before .before .before .args .at) (c .before .before .before .args .n) (c .before .before .before .args .name)) 60 (c .before .loop .j) (chars-fit (table-of (now (c .before .before .before .args .table))) (c .before .before .before .args .at) (c .before .before .before .args .n) (c .before .before .before .args .name)) (c .before .loop .inv .1) (c .loop-test .left)
+returns-2 c =
+    let d = c .before .before .before in
+    let h = c .before .loop in
+    let t = table-of (now (d .args .table)) in
+    loop-end (char-fits t (d .args .at) (d .args .n) (d .args .name)) 60 (h .j) _ (h .inv .1) (c .loop-test .left)
 
 pub chars-fit-spec : {M : Type 1} → statement M
 chars-fit-spec =

@@ -15,7 +15,9 @@ is-known-requires : tie.Need-is-known-requires
 is-known-requires c κs = search needs
 
 returns : tie.Need-returns
-returns c = c .is-known .ensures ∙ ap known (c .before .byte .ensures) ∙ ref-char (table-of (now (c .before .before .before .before .args .table))) (c .before .before .before .before .args .v) (c .before .before .if1 .taken)
+returns c =
+    let d = c .before .before .before .before in
+    c .is-known .ensures ∙ ap known (c .before .byte .ensures) ∙ ref-char (table-of (now (d .args .table))) (d .args .v) (c .before .before .if1 .taken)
 
 read-requires : tie.Need-read-requires
 read-requires c κs = search needs
@@ -24,7 +26,9 @@ add-result : tie.Need-add-result
 add-result c = search needs
 
 returns-2 : tie.Need-returns-2
-returns-2 c = ref-text (table-of (now (c .before .before .before .args .table))) (c .before .before .before .args .v) (c .read .result) (c .before .if1 .left) (c .read .ensures .is)
+returns-2 c =
+    let d = c .before .before .before in
+    ref-text (table-of (now (d .args .table))) (d .args .v) (c .read .result) (c .before .if1 .left) (c .read .ensures .is)
 
 pub ref-fits-spec : {M : Type 1} → statement M
 ref-fits-spec =

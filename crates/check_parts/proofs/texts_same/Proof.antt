@@ -48,8 +48,11 @@ read-requires-2 : tie.Need-read-requires-2 Inv-loop μ-loop
 read-requires-2 c κs = search needs
 
 returns : tie.Need-returns Inv-loop μ-loop
-returns c = loop-stop (λ x. eqb (cell (table-of (now (c .before .before .before .before .before .before .args .table))) (4104 + 16 * c .before .before .before .before .before .before .args .i + x)) (cell (table-of (now (c .before .before .before .before .before .before .args .table))) (4104 + 16 * c .before .before .before .before .before .before .args .j + x))) 16 (c .before .before .before .before .loop .q) (texts-same (table-of (now (c .before .before .before .before .before .before .args .table))) (c .before .before .before .before .before .before .args .i) (c .before .before .before .before .before .before .args .j)) (c .before .before .before .before .loop .inv .1)
-    (eqb (c .before .before .read .result) (c .before .read2 .result)) (rw (c .before .before .read .ensures .is, c .before .read2 .ensures .is)) (c .before .before .before .loop-test .taken) (ne-eqb (c .before .before .read .result) (c .before .read2 .result) (c .if1 .taken))
+returns c =
+    let d = c .before .before .before .before .before .before in
+    let h = c .before .before .before .before .loop in
+    let t = table-of (now (d .args .table)) in
+    loop-stop (λ x. eqb (cell t (4104 + 16 * d .args .i + x)) (cell t (4104 + 16 * d .args .j + x))) 16 (h .q) _ (h .inv .1) (eqb (c .before .before .read .result) (c .before .read2 .result)) (rw (c .before .before .read .ensures .is, c .before .read2 .ensures .is)) (c .before .before .before .loop-test .taken) (ne-eqb (c .before .before .read .result) (c .before .read2 .result) (c .if1 .taken))
 
 add-q : tie.Need-add-q Inv-loop μ-loop
 add-q c = search needs
@@ -58,14 +61,18 @@ loop-less : tie.Need-loop-less Inv-loop μ-loop
 loop-less c = search needs
 
 loop-again : tie.Need-loop-again Inv-loop μ-loop
-loop-again c = (
-  omega arith,
-  loop-on (λ x. eqb (cell (table-of (now (c .before .before .before .before .before .before .args .table))) (4104 + 16 * c .before .before .before .before .before .before .args .i + x)) (cell (table-of (now (c .before .before .before .before .before .before .args .table))) (4104 + 16 * c .before .before .before .before .before .before .args .j + x))) 16 (c .before .before .before .before .loop .q) (texts-same (table-of (now (c .before .before .before .before .before .before .args .table))) (c .before .before .before .before .before .before .args .i) (c .before .before .before .before .before .before .args .j)) (c .before .before .before .before .loop .inv .1)
-      (eqb (c .before .before .read .result) (c .before .read2 .result)) (rw (c .before .before .read .ensures .is, c .before .read2 .ensures .is)) (c .before .before .before .loop-test .taken) (eq-eqb (c .before .before .read .result) (c .before .read2 .result) (c .if1 .left)),
-)
+loop-again c =
+    let d = c .before .before .before .before .before .before in
+    let h = c .before .before .before .before .loop in
+    let t = table-of (now (d .args .table)) in
+    (omega arith, loop-on (λ x. eqb (cell t (4104 + 16 * d .args .i + x)) (cell t (4104 + 16 * d .args .j + x))) 16 (h .q) _ (h .inv .1) (eqb (c .before .before .read .result) (c .before .read2 .result)) (rw (c .before .before .read .ensures .is, c .before .read2 .ensures .is)) (c .before .before .before .loop-test .taken) (eq-eqb (c .before .before .read .result) (c .before .read2 .result) (c .if1 .left)))
 
 returns-2 : tie.Need-returns-2 Inv-loop μ-loop
-returns-2 c = loop-end (λ x. eqb (cell (table-of (now (c .before .before .before .args .table))) (4104 + 16 * c .before .before .before .args .i + x)) (cell (table-of (now (c .before .before .before .args .table))) (4104 + 16 * c .before .before .before .args .j + x))) 16 (c .before .loop .q) (texts-same (table-of (now (c .before .before .before .args .table))) (c .before .before .before .args .i) (c .before .before .before .args .j)) (c .before .loop .inv .1) (c .loop-test .left)
+returns-2 c =
+    let d = c .before .before .before in
+    let h = c .before .loop in
+    let t = table-of (now (d .args .table)) in
+    loop-end (λ x. eqb (cell t (4104 + 16 * d .args .i + x)) (cell t (4104 + 16 * d .args .j + x))) 16 (h .q) _ (h .inv .1) (c .loop-test .left)
 
 pub texts-same-spec : {M : Type 1} → statement M
 texts-same-spec =

@@ -25,8 +25,11 @@ read-requires : tie.Need-read-requires Inv-loop μ-loop
 read-requires c κs = search needs
 
 returns : tie.Need-returns Inv-loop μ-loop
-returns c = loop-stop (λ i. eqb (cell (table-of (now (c .before .before .before .before .before .args .table))) i) 0) (c .before .before .before .before .before .args .to) (c .before .before .before .loop .k) (zeros (table-of (now (c .before .before .before .before .before .args .table))) (c .before .before .before .before .before .args .from) (c .before .before .before .before .before .args .to)) (c .before .before .before .loop .inv)
-    (eqb (c .before .read .result) 0) (ap (λ (x : ℕ). eqb x 0) (c .before .read .ensures .is)) (c .before .before .loop-test .taken) (ne-eqb (c .before .read .result) 0 (c .if1 .taken))
+returns c =
+    let d = c .before .before .before .before .before in
+    let h = c .before .before .before .loop in
+    let t = table-of (now (d .args .table)) in
+    loop-stop (λ i. eqb (cell t i) 0) (d .args .to) (h .k) _ (h .inv) (eqb (c .before .read .result) 0) (ap (λ (x : ℕ). eqb x 0) (c .before .read .ensures .is)) (c .before .before .loop-test .taken) (ne-eqb (c .before .read .result) 0 (c .if1 .taken))
 
 add-k : tie.Need-add-k Inv-loop μ-loop
 add-k c = search needs
@@ -35,11 +38,18 @@ loop-less : tie.Need-loop-less Inv-loop μ-loop
 loop-less c = search needs
 
 loop-again : tie.Need-loop-again Inv-loop μ-loop
-loop-again c = loop-on (λ i. eqb (cell (table-of (now (c .before .before .before .before .before .args .table))) i) 0) (c .before .before .before .before .before .args .to) (c .before .before .before .loop .k) (zeros (table-of (now (c .before .before .before .before .before .args .table))) (c .before .before .before .before .before .args .from) (c .before .before .before .before .before .args .to)) (c .before .before .before .loop .inv)
-    (eqb (c .before .read .result) 0) (ap (λ (x : ℕ). eqb x 0) (c .before .read .ensures .is)) (c .before .before .loop-test .taken) (eq-eqb (c .before .read .result) 0 (c .if1 .left))
+loop-again c =
+    let d = c .before .before .before .before .before in
+    let h = c .before .before .before .loop in
+    let t = table-of (now (d .args .table)) in
+    loop-on (λ i. eqb (cell t i) 0) (d .args .to) (h .k) _ (h .inv) (eqb (c .before .read .result) 0) (ap (λ (x : ℕ). eqb x 0) (c .before .read .ensures .is)) (c .before .before .loop-test .taken) (eq-eqb (c .before .read .result) 0 (c .if1 .left))
 
 returns-2 : tie.Need-returns-2 Inv-loop μ-loop
-returns-2 c = loop-end (λ i. eqb (cell (table-of (now (c .before .before .before .args .table))) i) 0) (c .before .before .before .args .to) (c .before .loop .k) (zeros (table-of (now (c .before .before .before .args .table))) (c .before .before .before .args .from) (c .before .before .before .args .to)) (c .before .loop .inv) (c .loop-test .left)
+returns-2 c =
+    let d = c .before .before .before in
+    let h = c .before .loop in
+    let t = table-of (now (d .args .table)) in
+    loop-end (λ i. eqb (cell t i) 0) (d .args .to) (h .k) _ (h .inv) (c .loop-test .left)
 
 pub zeros-spec : {M : Type 1} → statement M
 zeros-spec =

@@ -23,7 +23,11 @@ entry-fits-requires : tie.Need-entry-fits-requires Inv-loop μ-loop
 entry-fits-requires c κs = search needs
 
 returns : tie.Need-returns Inv-loop μ-loop
-returns c = loop-stop (entry-fits (table-of (now (c .before .before .before .before .before .args .table))) (c .before .before .before .before .before .args .named)) (c .before .before .before .before .before .args .to) (c .before .before .before .loop .k) (passes (entry-fits (table-of (now (c .before .before .before .before .before .args .table))) (c .before .before .before .before .before .args .named)) (c .before .before .before .before .before .args .to - c .before .before .before .before .before .args .from) (c .before .before .before .before .before .args .from)) (c .before .before .before .loop .inv) _ (c .before .entry-fits .ensures) (c .before .before .loop-test .taken) (not-true _ (c .if1 .taken))
+returns c =
+    let d = c .before .before .before .before .before in
+    let h = c .before .before .before .loop in
+    let t = table-of (now (d .args .table)) in
+    loop-stop (entry-fits t (d .args .named)) (d .args .to) (h .k) _ (h .inv) _ (c .before .entry-fits .ensures) (c .before .before .loop-test .taken) (not-true _ (c .if1 .taken))
 
 add-k : tie.Need-add-k Inv-loop μ-loop
 add-k c = search needs
@@ -32,10 +36,18 @@ loop-less : tie.Need-loop-less Inv-loop μ-loop
 loop-less c = search needs
 
 loop-again : tie.Need-loop-again Inv-loop μ-loop
-loop-again c = loop-on (entry-fits (table-of (now (c .before .before .before .before .before .args .table))) (c .before .before .before .before .before .args .named)) (c .before .before .before .before .before .args .to) (c .before .before .before .loop .k) (passes (entry-fits (table-of (now (c .before .before .before .before .before .args .table))) (c .before .before .before .before .before .args .named)) (c .before .before .before .before .before .args .to - c .before .before .before .before .before .args .from) (c .before .before .before .before .before .args .from)) (c .before .before .before .loop .inv) _ (c .before .entry-fits .ensures) (c .before .before .loop-test .taken) (not-false _ (c .if1 .left))
+loop-again c =
+    let d = c .before .before .before .before .before in
+    let h = c .before .before .before .loop in
+    let t = table-of (now (d .args .table)) in
+    loop-on (entry-fits t (d .args .named)) (d .args .to) (h .k) _ (h .inv) _ (c .before .entry-fits .ensures) (c .before .before .loop-test .taken) (not-false _ (c .if1 .left))
 
 returns-2 : tie.Need-returns-2 Inv-loop μ-loop
-returns-2 c = loop-end (entry-fits (table-of (now (c .before .before .before .args .table))) (c .before .before .before .args .named)) (c .before .before .before .args .to) (c .before .loop .k) (passes (entry-fits (table-of (now (c .before .before .before .args .table))) (c .before .before .before .args .named)) (c .before .before .before .args .to - c .before .before .before .args .from) (c .before .before .before .args .from)) (c .before .loop .inv) (c .loop-test .left)
+returns-2 c =
+    let d = c .before .before .before in
+    let h = c .before .loop in
+    let t = table-of (now (d .args .table)) in
+    loop-end (entry-fits t (d .args .named)) (d .args .to) (h .k) _ (h .inv) (c .loop-test .left)
 
 pub entries-fit-spec : {M : Type 1} → statement M
 entries-fit-spec =

@@ -40,7 +40,11 @@ read-requires-2 : tie.Need-read-requires-2 Inv-loop μ-loop
 read-requires-2 c κs = search needs
 
 returns : tie.Need-returns Inv-loop μ-loop
-returns c = loop-stop (λ y. not (eqb (cell (table-of (now (c .before .before .before .before .before .before .args .table))) (6312 + c .before .before .before .before .before .before .args .i)) (cell (table-of (now (c .before .before .before .before .before .before .args .table))) (6312 + y)))) (c .before .before .before .before .before .before .args .n) (c .before .before .before .loop .j) (number-new (table-of (now (c .before .before .before .before .before .before .args .table))) (c .before .before .before .before .before .before .args .n) (c .before .before .before .before .before .before .args .i)) (c .before .before .before .loop .inv .1) (not (eqb (c .before .before .before .before .read .result) (c .before .read2 .result))) (rw (c .before .before .before .loop .inv .0, c .before .read2 .ensures .is)) (c .before .before .loop-test .taken) (ap not (eq-eqb (c .before .before .before .before .read .result) (c .before .read2 .result) (c .if1 .taken)))
+returns c =
+    let d = c .before .before .before .before .before .before in
+    let h = c .before .before .before .loop in
+    let t = table-of (now (d .args .table)) in
+    loop-stop (λ y. not (eqb (cell t (6312 + d .args .i)) (cell t (6312 + y)))) (d .args .n) (h .j) _ (h .inv .1) (not (eqb (c .before .before .before .before .read .result) (c .before .read2 .result))) (rw (h .inv .0, c .before .read2 .ensures .is)) (c .before .before .loop-test .taken) (ap not (eq-eqb (c .before .before .before .before .read .result) (c .before .read2 .result) (c .if1 .taken)))
 
 add-j-2 : tie.Need-add-j-2 Inv-loop μ-loop
 add-j-2 c = search needs
@@ -49,10 +53,18 @@ loop-less : tie.Need-loop-less Inv-loop μ-loop
 loop-less c = search needs
 
 loop-again : tie.Need-loop-again Inv-loop μ-loop
-loop-again c = (c .before .before .before .loop .inv .0, loop-on (λ y. not (eqb (cell (table-of (now (c .before .before .before .before .before .before .args .table))) (6312 + c .before .before .before .before .before .before .args .i)) (cell (table-of (now (c .before .before .before .before .before .before .args .table))) (6312 + y)))) (c .before .before .before .before .before .before .args .n) (c .before .before .before .loop .j) (number-new (table-of (now (c .before .before .before .before .before .before .args .table))) (c .before .before .before .before .before .before .args .n) (c .before .before .before .before .before .before .args .i)) (c .before .before .before .loop .inv .1) (not (eqb (c .before .before .before .before .read .result) (c .before .read2 .result))) (rw (c .before .before .before .loop .inv .0, c .before .read2 .ensures .is)) (c .before .before .loop-test .taken) (ap not (ne-eqb (c .before .before .before .before .read .result) (c .before .read2 .result) (c .if1 .left))))
+loop-again c =
+    let d = c .before .before .before .before .before .before in
+    let h = c .before .before .before .loop in
+    let t = table-of (now (d .args .table)) in
+    (h .inv .0, loop-on (λ y. not (eqb (cell t (6312 + d .args .i)) (cell t (6312 + y)))) (d .args .n) (h .j) _ (h .inv .1) (not (eqb (c .before .before .before .before .read .result) (c .before .read2 .result))) (rw (h .inv .0, c .before .read2 .ensures .is)) (c .before .before .loop-test .taken) (ap not (ne-eqb (c .before .before .before .before .read .result) (c .before .read2 .result) (c .if1 .left))))
 
 returns-2 : tie.Need-returns-2 Inv-loop μ-loop
-returns-2 c = loop-end (λ y. not (eqb (cell (table-of (now (c .before .before .before .before .args .table))) (6312 + c .before .before .before .before .args .i)) (cell (table-of (now (c .before .before .before .before .args .table))) (6312 + y)))) (c .before .before .before .before .args .n) (c .before .loop .j) (number-new (table-of (now (c .before .before .before .before .args .table))) (c .before .before .before .before .args .n) (c .before .before .before .before .args .i)) (c .before .loop .inv .1) (c .loop-test .left)
+returns-2 c =
+    let d = c .before .before .before .before in
+    let h = c .before .loop in
+    let t = table-of (now (d .args .table)) in
+    loop-end (λ y. not (eqb (cell t (6312 + d .args .i)) (cell t (6312 + y)))) (d .args .n) (h .j) _ (h .inv .1) (c .loop-test .left)
 
 pub number-new-spec : {M : Type 1} → statement M
 number-new-spec =

@@ -18,13 +18,19 @@ abbrev μ-loop : tie.MeasureT-loop
 μ-loop table n k₀ from₀ k from = n - k
 
 loop-holds : tie.Need-loop-holds Inv-loop μ-loop
-loop-holds c = (omega arith, omega arith, switches-start (table-of (now (c .before .args .table))) (c .before .args .n))
+loop-holds c =
+    let d = c .before in
+    (omega arith, omega arith, switches-start (table-of (now (d .args .table))) (d .args .n))
 
 switch-fits-requires : tie.Need-switch-fits-requires Inv-loop μ-loop
 switch-fits-requires c κs = search needs
 
 returns : tie.Need-returns Inv-loop μ-loop
-returns c = switches-stop (table-of (now (c .before .before .before .before .before .args .table))) (c .before .before .before .before .before .args .n) (c .before .before .before .loop .k) (c .before .before .before .loop .from) (switches-fit (table-of (now (c .before .before .before .before .before .args .table))) (c .before .before .before .before .before .args .n) 0 0) (c .before .before .before .loop .inv .2) _ (c .before .switch-fits .ensures) (c .before .before .loop-test .taken) (not-true _ (c .if1 .taken))
+returns c =
+    let d = c .before .before .before .before .before in
+    let h = c .before .before .before .loop in
+    let t = table-of (now (d .args .table)) in
+    switches-stop t (d .args .n) (h .k) (h .from) _ (h .inv .2) _ (c .before .switch-fits .ensures) (c .before .before .loop-test .taken) (not-true _ (c .if1 .taken))
 
 switch-size-requires : tie.Need-switch-size-requires Inv-loop μ-loop
 switch-size-requires c κs = search needs
@@ -39,13 +45,21 @@ loop-less : tie.Need-loop-less Inv-loop μ-loop
 loop-less c = search needs
 
 loop-again : tie.Need-loop-again Inv-loop μ-loop
-loop-again c = (omega arith, omega (arith, c .before .before .before .before .loop .inv .1, c .switch-size .ensures .most), switches-on (table-of (now (c .before .before .before .before .before .before .args .table))) (c .before .before .before .before .before .before .args .n) (c .before .before .before .before .loop .k) (c .before .before .before .before .loop .from) (switches-fit (table-of (now (c .before .before .before .before .before .before .args .table))) (c .before .before .before .before .before .before .args .n) 0 0) (c .before .before .before .before .loop .inv .2) _ (c .before .before .switch-fits .ensures) (c .before .before .before .loop-test .taken) (not-false _ (c .before .if1 .left)) (c .switch-size .result) (c .switch-size .ensures .is))
+loop-again c =
+    let d = c .before .before .before .before .before .before in
+    let h = c .before .before .before .before .loop in
+    let t = table-of (now (d .args .table)) in
+    (omega arith, omega (arith, h .inv .1, c .switch-size .ensures .most), switches-on t (d .args .n) (h .k) (h .from) _ (h .inv .2) _ (c .before .before .switch-fits .ensures) (c .before .before .before .loop-test .taken) (not-false _ (c .before .if1 .left)) (c .switch-size .result) (c .switch-size .ensures .is))
 
 read-requires : tie.Need-read-requires Inv-loop μ-loop
 read-requires c κs = search needs
 
 returns-2 : tie.Need-returns-2 Inv-loop μ-loop
-returns-2 c = rw (c .read .ensures .is) (switches-end (table-of (now (c .before .before .before .before .args .table))) (c .before .before .before .before .args .n) (c .before .before .loop .k) (c .before .before .loop .from) (switches-fit (table-of (now (c .before .before .before .before .args .table))) (c .before .before .before .before .args .n) 0 0) (c .before .before .loop .inv .2) (c .before .loop-test .left))
+returns-2 c =
+    let d = c .before .before .before .before in
+    let h = c .before .before .loop in
+    let t = table-of (now (d .args .table)) in
+    rw (c .read .ensures .is) (switches-end t (d .args .n) (h .k) (h .from) _ (h .inv .2) (c .before .loop-test .left))
 
 pub switches-fit-spec : {M : Type 1} → statement M
 switches-fit-spec =

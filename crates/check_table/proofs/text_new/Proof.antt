@@ -28,7 +28,11 @@ texts-same-requires : tie.Need-texts-same-requires Inv-loop μ-loop
 texts-same-requires c κs = search needs
 
 returns : tie.Need-returns Inv-loop μ-loop
-returns c = loop-stop (λ x. not (texts-same (table-of (now (c .before .before .before .before .before .args .table))) (c .before .before .before .before .before .args .i) x)) (c .before .before .before .before .before .args .n) (c .before .before .before .loop .j) (text-new (table-of (now (c .before .before .before .before .before .args .table))) (c .before .before .before .before .before .args .n) (c .before .before .before .before .before .args .i)) (c .before .before .before .loop .inv) _ (ap not (c .before .texts-same .ensures)) (c .before .before .loop-test .taken) (ap not (c .if1 .taken))
+returns c =
+    let d = c .before .before .before .before .before in
+    let h = c .before .before .before .loop in
+    let t = table-of (now (d .args .table)) in
+    loop-stop (λ x. not (texts-same t (d .args .i) x)) (d .args .n) (h .j) _ (h .inv) _ (ap not (c .before .texts-same .ensures)) (c .before .before .loop-test .taken) (ap not (c .if1 .taken))
 
 add-j-2 : tie.Need-add-j-2 Inv-loop μ-loop
 add-j-2 c = search needs
@@ -37,10 +41,18 @@ loop-less : tie.Need-loop-less Inv-loop μ-loop
 loop-less c = search needs
 
 loop-again : tie.Need-loop-again Inv-loop μ-loop
-loop-again c = loop-on (λ x. not (texts-same (table-of (now (c .before .before .before .before .before .args .table))) (c .before .before .before .before .before .args .i) x)) (c .before .before .before .before .before .args .n) (c .before .before .before .loop .j) (text-new (table-of (now (c .before .before .before .before .before .args .table))) (c .before .before .before .before .before .args .n) (c .before .before .before .before .before .args .i)) (c .before .before .before .loop .inv) _ (ap not (c .before .texts-same .ensures)) (c .before .before .loop-test .taken) (ap not (c .if1 .left))
+loop-again c =
+    let d = c .before .before .before .before .before in
+    let h = c .before .before .before .loop in
+    let t = table-of (now (d .args .table)) in
+    loop-on (λ x. not (texts-same t (d .args .i) x)) (d .args .n) (h .j) _ (h .inv) _ (ap not (c .before .texts-same .ensures)) (c .before .before .loop-test .taken) (ap not (c .if1 .left))
 
 returns-2 : tie.Need-returns-2 Inv-loop μ-loop
-returns-2 c = loop-end (λ x. not (texts-same (table-of (now (c .before .before .before .args .table))) (c .before .before .before .args .i) x)) (c .before .before .before .args .n) (c .before .loop .j) (text-new (table-of (now (c .before .before .before .args .table))) (c .before .before .before .args .n) (c .before .before .before .args .i)) (c .before .loop .inv) (c .loop-test .left)
+returns-2 c =
+    let d = c .before .before .before in
+    let h = c .before .loop in
+    let t = table-of (now (d .args .table)) in
+    loop-end (λ x. not (texts-same t (d .args .i) x)) (d .args .n) (h .j) _ (h .inv) (c .loop-test .left)
 
 pub text-new-spec : {M : Type 1} → statement M
 text-new-spec =
