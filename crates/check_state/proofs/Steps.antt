@@ -1,0 +1,97 @@
+-- What each test that passed gives the next one.
+use mathlib.Core.Path.{_≡_, refl, sym, ap, _∙_, subst}
+use mathlib.Core.Bool.{Bool, true, false, _&&_}
+use mathlib.Core.List.{List, [], _∷_}
+use Prim.Native.Nat.{ℕ, _≤_, _<_}
+use native.Mathlib.Omega.{arith}
+use lib.Dec.{T, leb, ltb}
+use lib.ListN.{length, take}
+use Rattle.cells.specs.Cells.{Number}
+use Rattle.check_memory.proofs.Facts.{laid-open, sound-open, counted-open}
+use Rattle.check_memory.proofs.Question.{question-63, too-short}
+use Rattle.check_memory.proofs.Wholes.{whole-expressions, whole-halves}
+use Rattle.check_memory.specs.Passes.{laid, sound, counted, distinct, sound-stack, sound-output, fitting}
+use Rattle.check_memory.specs.Reads.{Started, Ended, Readable, StringLent, Walkable, BothWhole, Comparable}
+use Rattle.check_strings.proofs.ComponentWalks.{bytes-take}
+use Rattle.check_strings.specs.Sound.{Bytes}
+use Rattle.layout.specs.Cells.{cell, three-at}
+use Rattle.layout.specs.Memory.{good-memory}
+use Rattle.layout.specs.Table.{program-of, good-table}
+use Rattle.layout.specs.TableLaws.{table-facts}
+use Rattle.packed.specs.Packed.{table-of}
+use Rattle.check_state.specs.Asked.{Asked, Workable, Fittable, passes}
+use Rattle.check_state.proofs.Returns.{code-is}
+
+passed : {t b : Bool} → t ≡ b → t ≡ true → T b
+passed e k = subst T (sym k ∙ e) tt
+
+module _ {c m : List ℕ} {x y : ℕ} (w : Workable c m x y) {st : List ℕ} {end : ℕ} (g : Started m st end) where
+  pub ended : Ended m end
+  ended = record { long = w .long; is = g .ends }
+
+  module _ {t : Bool} (e : t ≡ laid m) (k : t ≡ true) where
+    pub readable : Readable m st
+    readable = record { long = w .long; count = g .count; place = g .place; room = laid-open m (passed e k) .room }
+
+    pub walkable : Walkable m st (three-at 12 m)
+    walkable = record { readable = readable; last-most = laid-open m (passed e k) .last-most }
+
+    module _ (b : Bytes m) {u : Bool} (f : u ≡ sound m) (h : u ≡ true) where
+      pub both-whole : BothWhole m st
+      both-whole =
+          let l = laid-open m (passed e k) .last-most in
+          let s = sound-open m (passed f h) in
+          record { readable = readable; exprs = whole-expressions m b (three-at 12 m) l (s .exprs); files = whole-halves m b (three-at 12 m) l (s .files) }
+
+      pub comparable : {v : Bool} → v ≡ counted m → v ≡ true → Comparable m st y
+      comparable q z = record { readable = readable; files = both-whole .files; room = omega (arith, counted-open m (passed q z) .records .fits, w .addresses-is) }
+
+    pub fittable : Fittable c m st
+    fittable = record { table = w .table; readable = readable }
+
+-- ---- the answers
+
+module _ (c i j m : List ℕ) where
+  pub fails-1 : {t : Bool} → t ≡ laid m → t ≡ false → false ≡ passes c i j m
+  fails-1 e k = sym (ap (λ b. b && (sound m && (counted m && (distinct m && fitting (program-of c) i j m)))) (sym e ∙ k))
+
+  module _ {t : Bool} (e : t ≡ laid m) (k : t ≡ true) where
+    after-1 : passes c i j m ≡ sound m && (counted m && (distinct m && fitting (program-of c) i j m))
+    after-1 = ap (λ b. b && (sound m && (counted m && (distinct m && fitting (program-of c) i j m)))) (sym e ∙ k)
+
+    pub fails-2 : {u : Bool} → u ≡ sound m → u ≡ false → false ≡ passes c i j m
+    fails-2 f h = sym (after-1 ∙ ap (λ b. b && (counted m && (distinct m && fitting (program-of c) i j m))) (sym f ∙ h))
+
+    module _ {u : Bool} (f : u ≡ sound m) (h : u ≡ true) where
+      after-2 : passes c i j m ≡ counted m && (distinct m && fitting (program-of c) i j m)
+      after-2 = after-1 ∙ ap (λ b. b && (counted m && (distinct m && fitting (program-of c) i j m))) (sym f ∙ h)
+
+      pub fails-3 : {v : Bool} → v ≡ counted m → v ≡ false → false ≡ passes c i j m
+      fails-3 q z = sym (after-2 ∙ ap (λ b. b && (distinct m && fitting (program-of c) i j m)) (sym q ∙ z))
+
+      module _ {v : Bool} (q : v ≡ counted m) (z : v ≡ true) where
+        after-3 : passes c i j m ≡ distinct m && fitting (program-of c) i j m
+        after-3 = after-2 ∙ ap (λ b. b && (distinct m && fitting (program-of c) i j m)) (sym q ∙ z)
+
+        pub fails-4 : {o : Bool} → o ≡ distinct m → o ≡ false → false ≡ passes c i j m
+        fails-4 x y = sym (after-3 ∙ ap (λ b. b && fitting (program-of c) i j m) (sym x ∙ y))
+
+        pub last : {o : Bool} → o ≡ distinct m → o ≡ true → {r : Bool} → r ≡ fitting (program-of c) i j m → r ≡ passes c i j m
+        last x y a = a ∙ sym (after-3 ∙ ap (λ b. b && fitting (program-of c) i j m) (sym x ∙ y))
+
+-- stack, outputs, read places and next instruction, as they are read
+pub fits : (c : List ℕ) → T (good-table c) → (i j m : List ℕ) {s q r : List ℕ} → StringLent m 96 s → StringLent m 97 q → StringLent m 98 r
+    → {a b n k : ℕ} → Number (three-at 3 m) 16777216 a → Number (three-at 6 m) 16777216 b → Number (three-at 9 m) 16777216 n → Number (cell (table-of c) 0) 4294967296 k
+    → {t u v : Bool} → t ≡ sound-stack (program-of c) s → u ≡ sound-output q → v ≡ sound-output r
+    → t && (u && v) && (leb a (length i) && leb b (length j)) && ltb n k ≡ fitting (program-of c) i j m
+unfolding fitting
+fits c g i j m s q r a b n k t u v =
+    rw (t ∙ ap (sound-stack (program-of c)) (s .is), u ∙ ap sound-output (q .is), v ∙ ap sound-output (r .is), a .is, b .is, n .is, code-is c g k) refl
+
+-- of the lent memory
+module _ (c i j M : List ℕ) where
+  pub short-answer : length M < 40960 → false ≡ good-memory (program-of c) (i ∷ j ∷ []) M
+  short-answer h = sym (too-short (program-of c) (i ∷ j ∷ []) M h)
+
+  pub answer : Asked c i j → 40960 ≤ length M → Bytes M → {r : Bool} → r ≡ passes c i j (take 40960 M) → r ≡ good-memory (program-of c) (i ∷ j ∷ []) M
+  answer a h b e = e ∙ sym (question-63 (program-of c) i j M (table-facts c (a .table) .good) (a .inputs) h (bytes-take 40960 M b))
