@@ -4,3 +4,4 @@ pub mod Performing
 pub mod PerformingLaws
 pub mod Operating
 pub mod OperatingLaws
+pub mod CarryingLaws
