@@ -1,3 +1,4 @@
 pub mod Marks
 pub mod Drafting
 pub mod DraftingLaws
+pub mod Tabled

@@ -21,3 +21,7 @@ length-by m = m % 64
 
 unfoldable pub word-by : List ℕ → ℕ → List ℕ
 word-by s m = take (length-by m) (drop (place-by m) s)
+
+-- the word of the mark m is in the text s
+abbrev pub Marked : List ℕ → ℕ → Type 0
+Marked s m = place-by m + length-by m ≤ length s

@@ -16,7 +16,7 @@ use Rattle.language.specs.Program.{identifier}
 use Rattle.layout.specs.Bounds.{Each}
 use Rattle.lists.specs.Lists.{all, any, keep, sameBytes}
 use Rattle.lists.specs.ListLaws.{T-left, T-both, all-head, all-tail, all-keep}
-use Rattle.drafts.specs.Marks.{mark-of, mark, place-by, length-by, word-by}
+use Rattle.drafts.specs.Marks.{mark-of, mark, word-by, Marked}
 use Rattle.drafts.specs.DraftingLaws.{place-back, length-back}
 use Rattle.heads.specs.Heads.{operates}
 use Rattle.heads.specs.HeadLaws.{front-goes, front-ends, operator-is}
@@ -33,7 +33,7 @@ use Rattle.syntax.specs.Items.Sort.{word}
 use Rattle.syntax.specs.Questions.{repeated}
 use Rattle.syntax.specs.Statements.{is-operator, is-name, front, labels-in}
 use Rattle.syntax.specs.Verdict.{lowest}
-use Rattle.names.specs.Names.{Marked, names-of, Sought, Collectable, Collecting}
+use Rattle.names.specs.Names.{names-of, Sought, Collectable, Collecting}
 use Rattle.names.specs.declared.Collected.{Collected}
 
 -- a repeated label stands no lower than the first label

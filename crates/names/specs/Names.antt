@@ -6,7 +6,7 @@ use lib.Dec.{T}
 use lib.ListN.{length, getD, take}
 use Rattle.language.specs.Limits as limit
 use Rattle.layout.specs.Bounds.{Each}
-use Rattle.drafts.specs.Marks.{mark, place-by, length-by, word-by}
+use Rattle.drafts.specs.Marks.{mark, word-by, Marked}
 use Rattle.statements.specs.StatementAt.{statement-at, fault-of}
 use Rattle.statements.specs.declared.Fault.the-variants.{Clear}
 use Rattle.syntax.specs.Questions.{repeated}
@@ -14,9 +14,6 @@ use Rattle.syntax.specs.Statements.{front, labels-in, is-name}
 use Rattle.names.specs.declared.Collected.{Collected}
 
 -- the word of the mark m, and len bytes at a place, are in the text s
-abbrev pub Marked : List ℕ → ℕ → Type 0
-Marked s m = place-by m + length-by m ≤ length s
-
 pub record Fitting (s : List ℕ) (m at len : ℕ) : Type 0 where
   pub marked : Marked s m
   pub inside : at + len ≤ length s
