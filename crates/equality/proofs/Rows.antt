@@ -41,7 +41,7 @@ use Rattle.equality.proofs.Meeting.{leads, settled-met}
 abbrev equal-by : Bool → Bool → Bool → Bool → Bool → Bool → Asks
 equal-by s c fx fy al nu = ask 52 fx & when s (ask 52 fy) & when s (ask 53 al) & when c (ask 53 nu)
 
-abbrev offer-by : Bool → Bool → Bool → Bool → Asks
+abbrev pub offer-by : Bool → Bool → Bool → Bool → Asks
 offer-by s c fy nu = when s (ask 52 fy) & when c (ask 53 nu)
 
 abbrev unlike-by : Bool → Bool → Bool
@@ -86,7 +86,7 @@ offered false false nu z = absurd (omega (arith, z))
 abbrev kinds-alike : List Component → List Component → Bool
 kinds-alike xs ys = all (λ x. all (λ y. eqb (kind x) (kind y)) (take 1 ys)) (take 1 xs)
 
-abbrev numeric : List Component → Bool
+abbrev pub numeric : List Component → Bool
 numeric ys = all (λ x. eqb (kind x) 1) (take 1 ys)
 
 module _ (g : Program) (ins : Inputs) (s : Store) (i : ℕ) (b : Arg) where

@@ -1,6 +1,7 @@
-// Equality: RW of an expression's first component.
+// Equality: RW of an expression, of its first component or any of them.
 ghost use mathlib.Core.Path.{_≡_};
 ghost use lib.ListN.{length};
+ghost use Rattle.language.specs.Letters as letters;
 ghost use Rattle.language.specs.Letters.{use-of};
 ghost use Rattle.language.specs.Program.Arg.{nothing};
 ghost use Rattle.language.specs.Program.Op.{RW};
@@ -130,5 +131,30 @@ pub fn rw_one(
         return 53;
     }
     settle(pool, ends, nums, &given[..len], removes, i, arg);
+    0
+}
+
+// RW of expression `i`, by T: whether one of its components is equal.
+pub fn rw_any(
+    table: &[u32],
+    pool: &[u8],
+    ends: &[u32],
+    nums: &mut [u32],
+    given: &mut [u8],
+    i: usize,
+    arg: table::Argument,
+) -> u8
+    requires { ⌜ Relatable (now table) (now pool) (now ends) (now nums) (length (now given)) i arg ⌝ }
+    ensures { λ r. ⌜ DoesFor (now (pool .entry)) (now (ends .entry)) (now (nums .entry)) r (now (pool .entry)) (now (ends .entry)) (now (nums .exit)) (λ g ins. row g ins (state-at (now (pool .entry)) (now (ends .entry)) (now (nums .entry)) .store) (nth letters.Letter.T i) (arg-of (table-of (now (table .entry))) arg) nothing RW) ⌝ }
+{
+    let q = comparands::put_comparand(table, pool, ends, nums, given, arg);
+    let stop = q.stop;
+    let len = q.len;
+    if stop != 0 {
+        return stop;
+    }
+    let x = state::expr_bytes(pool, ends, nums, i);
+    let t = matching::count(x, test_of(arg), &given[..len]);
+    state::minus_unless(pool, ends, nums, t.reached);
     0
 }
