@@ -1,13 +1,13 @@
 -- Constants as components, and the row of UMIESC.
 use mathlib.Core.Path.{_≡_, refl, sym, ap, _∙_, subst}
-use mathlib.Core.Bool.{Bool, true, false, cond, _&&_}
+use mathlib.Core.Bool.{Bool, true, false, _&&_}
 use mathlib.Core.List.{List, [], _∷_}
 use Prim.Native.Nat.{ℕ, _+_, _≤_, _<_}
 use native.Mathlib.Omega.{arith}
 use lib.Dec.{leb}
 use lib.IntN.{natAbs}
 use lib.ListN.{length, take}
-use borrow.Author.Tests.{le-leb, lt-leb, leb-true, leb-false}
+use borrow.Author.Tests.{lt-leb, leb-false}
 use types.Run.{OneOf, miss}
 use Rattle.cells.specs.Cells.{pasted}
 use Rattle.language.specs.Limits as limit
@@ -18,10 +18,10 @@ use Rattle.language.specs.Program.Op.{UMIESC}
 use Rattle.language.specs.Values.{Component, Store, Inputs, chars}
 use Rattle.language.specs.Values.Component.{word}
 use Rattle.machine.specs.Arguments.{at, none}
-use Rattle.machine.specs.Changes.{minus-unless, into, printed, stamped, stored, fits}
+use Rattle.machine.specs.Changes.{minus-unless, into, printed, stamped, stored}
 use Rattle.machine.specs.Effects.{Row, set-to, row}
 use Rattle.machine.specs.Effects.Go.{on}
-use Rattle.layout.specs.Bounds.{Each, Ok, Encoded, EncodedRecords}
+use Rattle.layout.specs.Bounds.{EncodedRecords}
 use Rattle.layout.specs.Cells.{uncode}
 use Rattle.layout.specs.ComponentLaws.{components-of, whole-components, components-bytes-one}
 use Rattle.layout.specs.Components.{component-bytes, components-bytes, record-bytes, components-in}
@@ -36,7 +36,7 @@ use Rattle.filing.specs.Files.{bodies, RecordsWritable}
 use Rattle.table.specs.Denote.{arg-of}
 use Rattle.table.specs.declared.Argument.{Argument}
 use Rattle.table.specs.declared.Argument.the-variants.{Nothing, Indexed, Label, Switch, Class, Text, Number}
-use Rattle.instructions.specs.Does.{Does, DoesFor}
+use Rattle.instructions.specs.Does.{DoesFor}
 use Rattle.instructions.specs.Operands.{target}
 use Rattle.instructions.proofs.Storing.{quiet-none, plain-done, plain-full}
 use Rattle.instructions.proofs.Written.{into-one, fits-written, writable}

@@ -1,9 +1,8 @@
 -- The rows of KOPIUJ, SKRESL and OMIN, and that their functions do them.
-use mathlib.Core.Path.{_≡_, refl, sym, ap, _∙_, subst}
+use mathlib.Core.Path.{_≡_, refl, sym, _∙_}
 use mathlib.Core.Bool.{Bool, true, false}
-use mathlib.Core.List.{List, map}
-use Prim.Native.Nat.{ℕ, _≤_}
-use native.Mathlib.Omega.{arith}
+use mathlib.Core.List.{List}
+use Prim.Native.Nat.{ℕ}
 use lib.ListN.{length, take}
 use lib.Seq.{length-take-le}
 use Rattle.language.specs.Letters.Letter.{P}
@@ -17,7 +16,7 @@ use Rattle.machine.specs.Effects.{Row, moved, row}
 use Rattle.machine.specs.Effects.Go.{on}
 use Rattle.records.specs.Sequences.{until-records}
 use Rattle.state.specs.Working.{state-at, HoldsState, Stands, on-store, nth, filing}
-use Rattle.instructions.specs.Does.{Does, DoesFor, Quiet, stop-of}
+use Rattle.instructions.specs.Does.{Does, DoesFor, stop-of}
 use Rattle.instructions.proofs.Storing.{storing-stop, storing-done}
 use Rattle.tests.proofs.Asked.{quiet-test}
 use Rattle.record_tests.specs.RecordPrepares.{PreparesRecords}

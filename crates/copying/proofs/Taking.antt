@@ -15,10 +15,9 @@ use Rattle.language.specs.Letters.Letter.{P}
 use Rattle.language.specs.Values.{Component, Record, Store, chars}
 use Rattle.machine.specs.Arguments.{file-of, Until, taken}
 use Rattle.machine.specs.Changes.{with-files, put-file, minus-unless, stamped, stored, past-file, past-by, past}
-use Rattle.machine.specs.Effects.Go.{on}
 use Rattle.layout.specs.Bounds.{Each, Ok, RecordOk, EncodedRecords}
 use Rattle.layout.specs.ComponentLaws.{records-of, whole-records}
-use Rattle.layout.specs.Components.{components-bytes, record-bytes, records-bytes, records-in}
+use Rattle.layout.specs.Components.{records-bytes, records-in}
 use Rattle.records.specs.Places.{Copyable}
 use Rattle.records.specs.Sequences.{TookRecords, Totalled}
 use Rattle.records.specs.declared.Sequence.{Sequence}
@@ -29,10 +28,9 @@ use Rattle.state.proofs.Fits.{fine-limited}
 use Rattle.state.proofs.Freed.{limited-past, removed-or-left}
 use Rattle.state.proofs.Sequences.{total-ones, total-same}
 use Rattle.state.proofs.Standing.{after-state}
-use Rattle.filing.specs.Files.{bodies, RecordsLent, FirstRecords, RecordsDroppable, RecordsReadable, Passable, RecordsWritable}
+use Rattle.filing.specs.Files.{bodies, RecordsLent, FirstRecords, RecordsDroppable, Passable, RecordsWritable}
 use Rattle.filing.proofs.Stored.{bodies-are}
 use Rattle.filing.proofs.Removed.{components-past, chars-past, records-past}
-use Rattle.instructions.specs.Does.{Does, Quiet, stop-of}
 use Rattle.instructions.proofs.Storing.{storing-done}
 use Rattle.transfers.specs.Places.{room-of, Roomy, Lot}
 use Rattle.transfers.proofs.Rooms.{room-stop, has-room, lot-fits, lot-last, lot-writable}

@@ -1,11 +1,11 @@
 -- The rows of COFNIJ, SCHOWAJ, USTAW and ZAMIEN, and that their functions do them.
 use mathlib.Core.Path.{_≡_, refl, sym, ap, _∙_, subst}
-use mathlib.Core.Bool.{Bool, true, false, not, cond, _&&_, _||_}
+use mathlib.Core.Bool.{Bool, true, false, _&&_, _||_}
 use mathlib.Core.List.{List, [], _∷_}
 use Prim.Native.Nat.{ℕ, _+_, _≤_, _<_}
 use native.Mathlib.Omega.{arith}
 use lib.Dec.{leb, eqb}
-use lib.ListN.{length, take, drop}
+use lib.ListN.{length, take}
 use borrow.Author.Tests.{ne-eqb}
 use Rattle.language.specs.Limits as limit
 use Rattle.language.specs.Letters.Letter.{E, P}
@@ -21,22 +21,20 @@ use Rattle.machine.specs.Effects.{Row, exchanged, row}
 use Rattle.machine.specs.Effects.Go.{on}
 use Rattle.cells.specs.Cells.{Number, pasted}
 use Rattle.cells.proofs.Laws.{pasted-front}
-use Rattle.components.specs.Parts.{Leading, LeadingKind}
-use Rattle.layout.specs.Bounds.{Encoded, WholeComponents, Ok}
-use Rattle.layout.specs.Cells.{cell}
+use Rattle.components.specs.Parts.{Leading}
+use Rattle.layout.specs.Bounds.{Encoded}
 use Rattle.layout.specs.ComponentLaws.{next-component, components-none, components-of, components-bytes-one}
-use Rattle.layout.specs.Components.{component-bytes, components-bytes, records-bytes, component-in, components-in, records-in}
+use Rattle.layout.specs.Components.{component-bytes, records-bytes, component-in, components-in, records-in}
 use Rattle.layout.specs.Memory.{components-held, chars-held}
-use Rattle.records.specs.Places.{of-address}
 use Rattle.state.specs.Blocks.{ExprLent, PartsDroppable, PartsWritable, exprs-exchanged}
 use Rattle.state.specs.Working.{state-at, HoldsState, Stands, on-store, nth, reading, writing}
 use Rattle.state.proofs.Standing.{state-of, stands}
 use Rattle.filing.specs.Files.{RecordsLent, Pointable, pointed-at, files-exchanged}
 use Rattle.filing.proofs.Pointers.{pointed-is}
-use Rattle.instructions.specs.Does.{answer-of, answered, with-store, Does, DoesFor, Quiet, stop-of}
+use Rattle.instructions.specs.Does.{answered, DoesFor, Quiet, stop-of}
 use Rattle.instructions.specs.Operands.{target}
 use Rattle.instructions.proofs.Answers.{answer-no, does-stop, quiet-done}
-use Rattle.instructions.proofs.Storing.{plain-done, plain-full, storing-done}
+use Rattle.instructions.proofs.Storing.{plain-done, plain-full}
 use Rattle.instructions.proofs.Written.{into-one, fits-written, writable}
 use Rattle.pointers.specs.Located.{Located}
 use Rattle.records.specs.declared.Found.{Found}

@@ -1,20 +1,19 @@
 -- Where the record of an address stands, from what the two strings of a file tell.
 use mathlib.Core.Path.{_≡_, refl, sym, ap, _∙_, subst}
-use mathlib.Core.Bool.{Bool, true, false, cond, _||_}
-use mathlib.Core.List.{List, [], _∷_, _++_}
-use Prim.Native.Nat.{ℕ, suc, _+_, _≤_, _<_}
+use mathlib.Core.Bool.{Bool, true, false, cond}
+use mathlib.Core.List.{List, [], _++_}
+use Prim.Native.Nat.{ℕ, suc, _+_, _≤_}
 use native.Mathlib.Omega.{arith}
-use lib.Dec.{eqb}
 use lib.ListN.{length, take}
 use lib.Seq.{take-length}
 use borrow.Author.Tests.{eq-eqb, ne-eqb}
 use Rattle.language.specs.Values.{Record}
-use Rattle.layout.specs.Components.{records-bytes, records-in}
+use Rattle.layout.specs.Components.{records-bytes}
 use Rattle.lists.specs.Lists.{any, ahead}
 use Rattle.machine.specs.Changes.{records-to}
 use Rattle.filing.specs.Files.{RecordsLent}
 use Rattle.filing.proofs.Pointers.{ahead-before, ahead-after, first-before, first-after}
-use Rattle.records.specs.Places.{of-address, Cut, Sought}
+use Rattle.records.specs.Places.{of-address, Sought}
 use Rattle.records.specs.declared.Found.{Found}
 use Rattle.records.proofs.Cuts.{cut-long}
 use Rattle.records.proofs.Searches.{any-append}

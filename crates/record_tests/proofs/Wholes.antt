@@ -1,8 +1,8 @@
 -- The letter E, and all other arguments of tests of records.
 use mathlib.Core.Path.{_≡_, refl, sym, ap, _∙_, subst}
-use mathlib.Core.Bool.{Bool, true, false}
+use mathlib.Core.Bool.{false}
 use mathlib.Core.List.{List, [], _∷_}
-use Prim.Native.Nat.{ℕ, zero, suc, _-_, _≤_, _<_}
+use Prim.Native.Nat.{ℕ, suc, _-_, _≤_, _<_}
 use native.Mathlib.Omega.{arith}
 use lib.ListN.{length, take}
 use types.Run.{OneOf, miss}
@@ -11,26 +11,23 @@ use Rattle.cells.proofs.Laws.{length-pasted}
 use Rattle.language.specs.Letters as letters
 use Rattle.language.specs.Letters.{use-of}
 use Rattle.language.specs.Program.{Arg}
-use Rattle.language.specs.Values.{Component, Store, Inputs, same}
+use Rattle.language.specs.Values.{Component, same}
 use Rattle.lists.specs.Lists.{sameList}
-use Rattle.machine.specs.Arguments.{use-by, is-whole, expr, up-to, on-records}
+use Rattle.machine.specs.Arguments.{use-by, is-whole, expr, up-to}
 use Rattle.layout.specs.Bounds.{Encoded}
 use Rattle.layout.specs.ComponentLaws.{components-of, whole-components}
 use Rattle.matching.specs.declared.Test.{Test}
-use Rattle.records.specs.Sequences.{on-first, until-records}
-use Rattle.records.specs.declared.RecordTest.{RecordTest}
+use Rattle.records.specs.Sequences.{on-first}
 use Rattle.records.specs.declared.RecordTest.the-variants.{First, Whole}
 use Rattle.records.proofs.Arguments.{on-records-first}
-use Rattle.state.specs.Blocks.{ExprNamed, ExprLent}
+use Rattle.state.specs.Blocks.{ExprLent}
 use Rattle.state.specs.Working.{state-at, nth}
 use Rattle.table.specs.Denote.{letter-of, arg-of}
-use Rattle.table.specs.Good.{GoodIndex, GoodArgument}
 use Rattle.table.specs.declared.Letter.{Letter}
 use Rattle.table.specs.declared.Letter.the-variants.{A, B, C, D, E, I, N, P, Q, T, Y, Z}
 use Rattle.table.specs.declared.Argument.{Argument}
 use Rattle.table.specs.declared.Argument.the-variants.{Nothing, Indexed, Label, Switch, Class, Text, Number}
 use Rattle.tests.specs.Prepares.{TestLetter, ExprReadable, TestReadable, Prepares}
-use Rattle.tests.specs.declared.Prepared.{Prepared}
 use Rattle.tests.proofs.Values.{copied-front}
 use Rattle.record_tests.specs.RecordPrepares.{RecordLetter, whole-letter, whole-index, RecordTestReadable, PreparesRecords}
 use Rattle.record_tests.specs.declared.RecordsPrepared.{RecordsPrepared}

@@ -6,7 +6,6 @@ use Prim.Native.Nat.{ℕ, min, _+_, _≤_, _<_}
 use native.Mathlib.Omega.{arith}
 use lib.Dec.{leb}
 use lib.ListN.{length, take, drop, length-append}
-use lib.Seq.{take-length}
 use borrow.Author.Tests.{le-leb, leb-true}
 use Rattle.cells.specs.Cells.{pasted}
 use Rattle.cells.proofs.Laws.{pasted-front}
@@ -16,16 +15,15 @@ use Rattle.language.specs.Letters.Letter.{P}
 use Rattle.language.specs.Program.{Arg, Program}
 use Rattle.language.specs.Program.Arg.{nothing}
 use Rattle.language.specs.Program.Op.{POBIERZ}
-use Rattle.language.specs.Values.{Component, Record, Store, State, Inputs, chars}
+use Rattle.language.specs.Values.{Component, Record, Store, Inputs, chars}
 use Rattle.machine.specs.Arguments.{file-of, none, everything}
 use Rattle.machine.specs.Changes.{with-plus, minus, minus-unless, into, past, fits}
 use Rattle.machine.specs.Effects.{Row, moved, row}
 use Rattle.machine.specs.Effects.Go.{on}
-use Rattle.components.specs.Parts.{CopyRoom}
 use Rattle.layout.specs.Bounds.{Each, Ok, Encoded}
 use Rattle.layout.specs.Cells.{two-at}
 use Rattle.layout.specs.ComponentLaws.{next-record, records-none, record-length, records-bytes-one, components-of, whole-components}
-use Rattle.layout.specs.Components.{component-bytes, components-bytes, record-bytes, records-bytes, components-in, record-in, records-in}
+use Rattle.layout.specs.Components.{component-bytes, components-bytes, components-in, record-in, records-in}
 use Rattle.layout.specs.Memory.{components-held, chars-held}
 use Rattle.matching.specs.Tests.{Took}
 use Rattle.matching.specs.declared.Taken.{Taken}
@@ -34,13 +32,13 @@ use Rattle.records.proofs.Walking.{all-taken}
 use Rattle.state.specs.Blocks.{PartsWritable}
 use Rattle.state.specs.Limited.{Limited}
 use Rattle.state.specs.Working.{state-at, HoldsState, Stands, on-store, nth, filing, writing, turned, char-count}
-use Rattle.state.proofs.Fits.{fine-limited, fits-into-ok, fits-minus-unless}
+use Rattle.state.proofs.Fits.{fine-limited, fits-into-ok}
 use Rattle.state.proofs.Freed.{limited-past, removed-or-left}
 use Rattle.state.proofs.Sequences.{total-ones, turned-length, turned-total}
 use Rattle.state.proofs.Standing.{state-of, stands}
-use Rattle.filing.specs.Files.{RecordsLent, FirstRecords, RecordsReadable}
+use Rattle.filing.specs.Files.{RecordsLent, FirstRecords}
 use Rattle.filing.proofs.Removed.{components-past, chars-past}
-use Rattle.instructions.specs.Does.{Does, DoesFor, More}
+use Rattle.instructions.specs.Does.{DoesFor}
 use Rattle.instructions.specs.Operands.{target}
 use Rattle.instructions.proofs.Answers.{one-after}
 use Rattle.instructions.proofs.Storing.{plain-done, plain-full}

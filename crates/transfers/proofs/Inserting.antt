@@ -1,8 +1,8 @@
 -- WSTAW: an expression as a record.
 use mathlib.Core.Path.{_≡_, refl, sym, ap, _∙_, subst}
-use mathlib.Core.Bool.{Bool, true, false, cond, _&&_}
+use mathlib.Core.Bool.{Bool, true, false, cond}
 use mathlib.Core.List.{List, [], _∷_}
-use Prim.Native.Nat.{ℕ, suc, _+_, _*_, _≤_, _<_}
+use Prim.Native.Nat.{ℕ, suc, _+_, _≤_, _<_}
 use native.Mathlib.Omega.{arith}
 use lib.ListN.{length, take}
 use lib.Seq.{take-length}
@@ -14,27 +14,26 @@ use Rattle.language.specs.Letters.Letter.{E}
 use Rattle.language.specs.Program.{Program}
 use Rattle.language.specs.Program.Arg.{nothing}
 use Rattle.language.specs.Program.Op.{WSTAW}
-use Rattle.language.specs.Values.{Component, Record, Store, Inputs, chars}
+use Rattle.language.specs.Values.{Component, Store, Inputs, chars}
 use Rattle.machine.specs.Arguments.{expr, none, everything}
 use Rattle.machine.specs.Changes.{with-exprs, with-plus, put-expr, minus, minus-unless, stamped, stored, past-by, past, held}
 use Rattle.machine.specs.Effects.{Row, moved, row}
 use Rattle.machine.specs.Effects.Go.{on}
 use Rattle.layout.specs.Bounds.{Each, Ok, RecordOk, EncodedRecords}
 use Rattle.layout.specs.ComponentLaws.{next-component, components-none, components-most, record-length}
-use Rattle.layout.specs.Components.{components-bytes, record-bytes, records-bytes, components-in, component-in}
-use Rattle.layout.specs.Memory.{components-held, chars-held, records-held}
+use Rattle.layout.specs.Components.{components-bytes, record-bytes, components-in}
+use Rattle.layout.specs.Memory.{records-held}
 use Rattle.matching.specs.Tests.{Took}
 use Rattle.matching.specs.declared.Taken.{Taken}
 use Rattle.records.specs.Places.{Recordable}
 use Rattle.records.proofs.Stamps.{record-of, stamped-one}
-use Rattle.state.specs.Blocks.{ExprLent, FirstParts, PartsDroppable}
+use Rattle.state.specs.Blocks.{ExprLent, FirstParts}
 use Rattle.state.specs.Working.{state-at, HoldsState, Stands, on-store, nth, reading, filing, turned, char-count}
 use Rattle.state.proofs.Fits.{fine-limited}
 use Rattle.state.proofs.Freed.{limited-past, held-off, recorded-off, removed-or-left, components-past, chars-past}
 use Rattle.state.proofs.Sequences.{total-ones}
 use Rattle.filing.specs.Files.{bodies, RecordsWritable}
-use Rattle.instructions.specs.Does.{Does, DoesFor}
-use Rattle.instructions.proofs.Answers.{quiet-done}
+use Rattle.instructions.specs.Does.{DoesFor}
 use Rattle.instructions.proofs.Storing.{quiet-none, plain-done}
 use Rattle.transfers.specs.Places.{room-of, Roomy, Lot}
 use Rattle.transfers.proofs.Rooms.{room-stop, has-room, lot-fits, lot-last, lot-writable, lot-stored}

@@ -1,8 +1,8 @@
 -- Questions 59 and 60 by totals, and records written to a store after what is removed was taken away.
 use mathlib.Core.Path.{_≡_, refl, sym, ap, _∙_, subst}
 use mathlib.Core.Bool.{Bool, true, false, cond, _&&_}
-use mathlib.Core.List.{List, [], _∷_, map}
-use Prim.Native.Nat.{ℕ, suc, _+_, _≤_, _<_}
+use mathlib.Core.List.{List, []}
+use Prim.Native.Nat.{ℕ, _+_, _≤_, _<_}
 use native.Mathlib.Omega.{arith}
 use lib.Dec.{leb}
 use lib.ListN.{length}
@@ -13,9 +13,8 @@ use Rattle.language.specs.Values.{Component, Store, State, chars}
 use Rattle.machine.specs.Arguments.{Asks}
 use Rattle.machine.specs.Changes.{with-files, with-plus, minus-unless, stamped, stored, fits}
 use Rattle.machine.specs.Effects.Go.{on}
-use Rattle.layout.specs.Bounds.{Each, Ok, EncodedRecords}
+use Rattle.layout.specs.Bounds.{EncodedRecords}
 use Rattle.layout.specs.ComponentLaws.{whole-records}
-use Rattle.layout.specs.Components.{records-in}
 use Rattle.layout.specs.Memory.{components-held, chars-held, records-held}
 use Rattle.state.specs.Working.{state-at, HoldsState, Stands, on-store, nth, filing, turned, char-count}
 use Rattle.state.proofs.Fits.{fits-stored, fits-minus-unless}
@@ -23,9 +22,8 @@ use Rattle.state.proofs.Sequences.{total-ones, total-same}
 use Rattle.state.proofs.Standing.{state-of, stands, after-state}
 use Rattle.filing.specs.Files.{bodies, RecordsWritable}
 use Rattle.filing.proofs.Stored.{bodies-are, stamps-are, count-is, totals-are}
-use Rattle.instructions.specs.Does.{with-store, Does, Quiet, stop-of}
+use Rattle.instructions.specs.Does.{Does, Quiet, stop-of}
 use Rattle.instructions.proofs.Storing.{storing-full, storing-given}
-use Rattle.instructions.proofs.Written.{both}
 use Rattle.transfers.specs.Places.{has-places, room-of, Roomy, Lot}
 
 -- ---- the answer
