@@ -44,16 +44,26 @@ is-among-requires : tie.Need-is-among-requires Inv-loop μ-loop
 is-among-requires c κs = search needs
 
 returns : tie.Need-returns Inv-loop μ-loop
-returns c = sym (c .before .before .before .before .before .loop .inv .1 ∙ different-met (c .before .before .before .before .before .before .before .args .list .now) (c .before .before .before .before .before .loop .i) (c .before .before .before .before .loop-test .taken) (c .before .is-among .ensures) (c .if1 .taken))
+returns c =
+    let args = c .before .before .before .before .before .before .before .args in
+    let loop = c .before .before .before .before .before .loop in
+    let loop-test = c .before .before .before .before .loop-test in
+    sym (loop .inv .1 ∙ different-met (args .list .now) (loop .i) (loop-test .taken) (c .before .is-among .ensures) (c .if1 .taken))
 
 loop-less : tie.Need-loop-less Inv-loop μ-loop
 loop-less c = search needs
 
 loop-again : tie.Need-loop-again Inv-loop μ-loop
-loop-again c = (omega arith, c .before .before .before .before .before .loop .inv .1 ∙ different-next (c .before .before .before .before .before .before .before .args .list .now) (c .before .before .before .before .before .loop .i) (c .before .before .before .before .loop-test .taken) (c .before .is-among .ensures) (c .if1 .left))
+loop-again c =
+    let args = c .before .before .before .before .before .before .before .args in
+    let loop = c .before .before .before .before .before .loop in
+    let loop-test = c .before .before .before .before .loop-test in
+    (omega arith, loop .inv .1 ∙ different-next (args .list .now) (loop .i) (loop-test .taken) (c .before .is-among .ensures) (c .if1 .left))
 
 returns-2 : tie.Need-returns-2 Inv-loop μ-loop
-returns-2 c = sym (c .before .loop .inv .1 ∙ different-end (c .before .before .before .args .list .now) (c .before .loop .i) (c .loop-test .left) (c .before .loop .inv .0))
+returns-2 c =
+    let args = c .before .before .before .args in
+    sym (c .before .loop .inv .1 ∙ different-end (args .list .now) (c .before .loop .i) (c .loop-test .left) (c .before .loop .inv .0))
 
 pub are-different-spec : {M : Type 1} → statement M
 are-different-spec =

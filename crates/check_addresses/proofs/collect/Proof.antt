@@ -30,16 +30,28 @@ mul-list : tie.Need-mul-list Inv-loop μ-loop
 mul-list c = search needs
 
 slice-write-list : tie.Need-slice-write-list Inv-loop μ-loop
-slice-write-list c = room (c .before .before .before .before .before .before .before .pre) (c .before .before .before .before .loop .inv) (c .before .before .end-of .ensures)
+slice-write-list c =
+    let pre = c .before .before .before .before .before .before .before .pre in
+    let loop = c .before .before .before .before .loop in
+    let end-of = c .before .before .end-of in
+    room pre (loop .inv) (end-of .ensures)
 
 add-k : tie.Need-add-k Inv-loop μ-loop
-add-k c = omega (arith, room (c .before .before .before .before .before .before .before .pre) (c .before .before .before .before .loop .inv) (c .before .before .end-of .ensures))
+add-k c =
+    let pre = c .before .before .before .before .before .before .before .pre in
+    let loop = c .before .before .before .before .loop in
+    let end-of = c .before .before .end-of in
+    omega (arith, room pre (loop .inv) (end-of .ensures))
 
 loop-less : tie.Need-loop-less Inv-loop μ-loop
 loop-less c = omega (arith, c .before .before .end-of .ensures .more, c .before .before .end-of .ensures .within)
 
 loop-again : tie.Need-loop-again Inv-loop μ-loop
-loop-again c = collecting-next (c .before .before .before .before .before .before .before .pre) (c .before .before .before .before .loop .inv) (c .before .before .end-of .ensures) (c .narrow .ensures ∙ c .before .address-at .ensures .is)
+loop-again c =
+    let pre = c .before .before .before .before .before .before .before .pre in
+    let loop = c .before .before .before .before .loop in
+    let end-of = c .before .before .end-of in
+    collecting-next pre (loop .inv) (end-of .ensures) (c .narrow .ensures ∙ c .before .address-at .ensures .is)
 
 same-length : tie.Need-same-length Inv-loop μ-loop
 same-length c = c .before .loop .inv .long

@@ -32,10 +32,15 @@ loop-less : tie.Need-loop-less Inv-loop μ-loop
 loop-less c = search needs
 
 loop-again : tie.Need-loop-again Inv-loop μ-loop
-loop-again c = (search needs, any-next (eqb (c .before .before .before .args .x)) (c .before .before .before .args .list .now) (c .before .before .loop .i) (c .before .before .loop .found) (c .before .loop-test .taken) ∙ c .before .before .loop .inv .1)
+loop-again c =
+    let args = c .before .before .before .args in
+    let loop = c .before .before .loop in
+    (search needs, any-next (eqb (args .x)) (args .list .now) (loop .i) (loop .found) (c .before .loop-test .taken) ∙ loop .inv .1)
 
 returns : tie.Need-returns Inv-loop μ-loop
-returns c = sym (any-end (eqb (c .before .before .args .x)) (c .before .before .args .list .now) (c .before .loop .i) (c .before .loop .found) (c .loop-test .left) (c .before .loop .inv .0)) ∙ c .before .loop .inv .1
+returns c =
+    let args = c .before .before .args in
+    sym (any-end (eqb (args .x)) (args .list .now) (c .before .loop .i) (c .before .loop .found) (c .loop-test .left) (c .before .loop .inv .0)) ∙ c .before .loop .inv .1
 
 pub is-among-spec : {M : Type 1} → statement M
 is-among-spec =

@@ -29,10 +29,15 @@ loop-less : tie.Need-loop-less Inv-loop μ-loop
 loop-less c = search needs
 
 loop-again : tie.Need-loop-again Inv-loop μ-loop
-loop-again c = (search needs, all-next (λ x. eqb x 0) (c .before .before .before .args .cells .now) (c .before .before .loop .i) (c .before .before .loop .good) (c .before .loop-test .taken) ∙ c .before .before .loop .inv .1)
+loop-again c =
+    let args = c .before .before .before .args in
+    let loop = c .before .before .loop in
+    (search needs, all-next (λ x. eqb x 0) (args .cells .now) (loop .i) (loop .good) (c .before .loop-test .taken) ∙ loop .inv .1)
 
 returns : tie.Need-returns Inv-loop μ-loop
-returns c = sym (all-end (λ x. eqb x 0) (c .before .before .args .cells .now) (c .before .loop .i) (c .before .loop .good) (c .loop-test .left) (c .before .loop .inv .0)) ∙ c .before .loop .inv .1
+returns c =
+    let args = c .before .before .args in
+    sym (all-end (λ x. eqb x 0) (args .cells .now) (c .before .loop .i) (c .before .loop .good) (c .loop-test .left) (c .before .loop .inv .0)) ∙ c .before .loop .inv .1
 
 pub are-zeros-spec : {M : Type 1} → statement M
 are-zeros-spec =

@@ -19,13 +19,26 @@ string-at-requires : tie.Need-string-at-requires Inv-loop μ-loop
 string-at-requires c κs = named (c .before .before .before .before .pre .readable) (omega arith)
 
 count-requires : tie.Need-count-requires Inv-loop μ-loop
-count-requires c κs = record { whole = whole-expression (c .before .before .before .before .before .pre .whole) (c .before .loop-test .taken) (c .string-at .ensures); fitting = tt }
+count-requires c κs =
+    let pre = c .before .before .before .before .before .pre in
+    record { whole = whole-expression (pre .whole) (c .before .loop-test .taken) (c .string-at .ensures); fitting = tt }
 
 add-parts : tie.Need-add-parts Inv-loop μ-loop
-add-parts c = omega (arith, c .before .before .before .before .loop .inv .parts .most, taken-all (c .before .before .before .before .before .before .before .pre .whole) (c .before .before .before .loop-test .taken) (c .before .before .string-at .ensures) (c .before .count .ensures) .parts-most, taken-all (c .before .before .before .before .before .before .before .pre .whole) (c .before .before .before .loop-test .taken) (c .before .before .string-at .ensures) (c .before .count .ensures) .bytes-most, c .before .before .string-at .ensures .small)
+add-parts c =
+    let pre = c .before .before .before .before .before .before .before .pre in
+    let loop = c .before .before .before .before .loop in
+    let loop-test = c .before .before .before .loop-test in
+    let string-at = c .before .before .string-at in
+    omega (arith, loop .inv .parts .most, taken-all (pre .whole) (loop-test .taken) (string-at .ensures) (c .before .count .ensures) .parts-most, taken-all (pre .whole) (loop-test .taken) (string-at .ensures) (c .before .count .ensures) .bytes-most, string-at .ensures .small)
 
 add-chars : tie.Need-add-chars Inv-loop μ-loop
-add-chars c = omega (arith, c .before .before .before .before .before .loop .inv .chars .most, taken-all (c .before .before .before .before .before .before .before .before .pre .whole) (c .before .before .before .before .loop-test .taken) (c .before .before .before .string-at .ensures) (c .before .before .count .ensures) .chars-most, taken-all (c .before .before .before .before .before .before .before .before .pre .whole) (c .before .before .before .before .loop-test .taken) (c .before .before .before .string-at .ensures) (c .before .before .count .ensures) .bytes-most, c .before .before .before .string-at .ensures .small)
+add-chars c =
+    let pre = c .before .before .before .before .before .before .before .before .pre in
+    let loop = c .before .before .before .before .before .loop in
+    let loop-test = c .before .before .before .before .loop-test in
+    let string-at = c .before .before .before .string-at in
+    let count = c .before .before .count in
+    omega (arith, loop .inv .chars .most, taken-all (pre .whole) (loop-test .taken) (string-at .ensures) (count .ensures) .chars-most, taken-all (pre .whole) (loop-test .taken) (string-at .ensures) (count .ensures) .bytes-most, string-at .ensures .small)
 
 add-i : tie.Need-add-i Inv-loop μ-loop
 add-i c = search needs
@@ -34,7 +47,13 @@ loop-less : tie.Need-loop-less Inv-loop μ-loop
 loop-less c = search needs
 
 loop-again : tie.Need-loop-again Inv-loop μ-loop
-loop-again c = expressions-next (c .before .before .before .before .before .before .before .before .pre .whole) (c .before .before .before .before .loop-test .taken) (c .before .before .before .string-at .ensures) (c .before .before .before .before .before .loop .inv) (c .before .before .count .ensures)
+loop-again c =
+    let pre = c .before .before .before .before .before .before .before .before .pre in
+    let loop = c .before .before .before .before .before .loop in
+    let loop-test = c .before .before .before .before .loop-test in
+    let string-at = c .before .before .before .string-at in
+    let count = c .before .before .count in
+    expressions-next (pre .whole) (loop-test .taken) (string-at .ensures) (loop .inv) (count .ensures)
 
 returns : tie.Need-returns Inv-loop μ-loop
 returns c = expressions-sums (c .before .loop .inv) (c .loop-test .left)

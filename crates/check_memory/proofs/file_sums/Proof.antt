@@ -25,16 +25,31 @@ totals-of-requires : tie.Need-totals-of-requires Inv-loop μ-loop
 totals-of-requires c κs = whole-half (c .before .before .before .before .before .pre .whole) (c .before .loop-test .taken) (c .string-at .ensures)
 
 count-requires : tie.Need-count-requires Inv-loop μ-loop
-count-requires c κs = record { whole = whole-half (c .before .before .before .before .before .before .pre .whole) (c .before .before .loop-test .taken) (c .before .string-at .ensures); fitting = tt }
+count-requires c κs =
+    let pre = c .before .before .before .before .before .before .pre in
+    let loop-test = c .before .before .loop-test in
+    record { whole = whole-half (pre .whole) (loop-test .taken) (c .before .string-at .ensures); fitting = tt }
 
 add-parts : tie.Need-add-parts Inv-loop μ-loop
-add-parts c = omega (arith, c .before .before .before .before .before .loop .inv .parts .most, c .before .before .totals-of .ensures .parts-most, c .before .before .before .string-at .ensures .small)
+add-parts c =
+    let loop = c .before .before .before .before .before .loop in
+    let string-at = c .before .before .before .string-at in
+    let totals-of = c .before .before .totals-of in
+    omega (arith, loop .inv .parts .most, totals-of .ensures .parts-most, string-at .ensures .small)
 
 add-chars : tie.Need-add-chars Inv-loop μ-loop
-add-chars c = omega (arith, c .before .before .before .before .before .before .loop .inv .chars .most, c .before .before .before .totals-of .ensures .chars-most, c .before .before .before .before .string-at .ensures .small)
+add-chars c =
+    let loop = c .before .before .before .before .before .before .loop in
+    let string-at = c .before .before .before .before .string-at in
+    let totals-of = c .before .before .before .totals-of in
+    omega (arith, loop .inv .chars .most, totals-of .ensures .chars-most, string-at .ensures .small)
 
 add-count : tie.Need-add-count Inv-loop μ-loop
-add-count c = omega (arith, c .before .before .before .before .before .before .before .loop .inv .count .most, count-is (c .before .before .before .count .ensures), c .before .before .before .before .before .string-at .ensures .small)
+add-count c =
+    let loop = c .before .before .before .before .before .before .before .loop in
+    let string-at = c .before .before .before .before .before .string-at in
+    let count = c .before .before .before .count in
+    omega (arith, loop .inv .count .most, count-is (count .ensures), string-at .ensures .small)
 
 add-i : tie.Need-add-i Inv-loop μ-loop
 add-i c = search needs
@@ -43,7 +58,14 @@ loop-less : tie.Need-loop-less Inv-loop μ-loop
 loop-less c = search needs
 
 loop-again : tie.Need-loop-again Inv-loop μ-loop
-loop-again c = halves-next (c .before .before .before .before .before .before .before .before .before .before .pre .whole) (c .before .before .before .before .before .before .loop-test .taken) (c .before .before .before .before .before .string-at .ensures) (c .before .before .before .before .before .before .before .loop .inv) (c .before .before .before .before .totals-of .ensures) (c .before .before .before .count .ensures)
+loop-again c =
+    let pre = c .before .before .before .before .before .before .before .before .before .before .pre in
+    let loop = c .before .before .before .before .before .before .before .loop in
+    let loop-test = c .before .before .before .before .before .before .loop-test in
+    let string-at = c .before .before .before .before .before .string-at in
+    let totals-of = c .before .before .before .before .totals-of in
+    let count = c .before .before .before .count in
+    halves-next (pre .whole) (loop-test .taken) (string-at .ensures) (loop .inv) (totals-of .ensures) (count .ensures)
 
 returns : tie.Need-returns Inv-loop μ-loop
 returns c = halves-sums (c .before .loop .inv) (c .loop-test .left)

@@ -24,7 +24,11 @@ string-at-requires : tie.Need-string-at-requires Inv-loop μ-loop
 string-at-requires c κs = named (c .before .before .before .before .before .pre .readable) (omega arith)
 
 collect-requires : tie.Need-collect-requires Inv-loop μ-loop
-collect-requires c κs = gathering-room (c .before .before .before .before .before .before .before .pre) (c .before .before .before .loop .inv) (c .before .before .loop-test .taken) (c .before .string-at .ensures)
+collect-requires c κs =
+    let pre = c .before .before .before .before .before .before .before .pre in
+    let loop = c .before .before .before .loop in
+    let loop-test = c .before .before .loop-test in
+    gathering-room pre (loop .inv) (loop-test .taken) (c .before .string-at .ensures)
 
 add-i : tie.Need-add-i Inv-loop μ-loop
 add-i c = search needs
@@ -33,7 +37,13 @@ loop-less : tie.Need-loop-less Inv-loop μ-loop
 loop-less c = search needs
 
 loop-again : tie.Need-loop-again Inv-loop μ-loop
-loop-again c = gathering-next (c .before .before .before .before .before .before .before .before .before .before .pre) (c .before .before .before .before .before .before .loop .inv) (c .before .before .before .before .before .loop-test .taken) (c .before .before .before .before .string-at .ensures) (c .before .before .collect .ensures) (c .before .before .collect .kept .1 .0)
+loop-again c =
+    let pre = c .before .before .before .before .before .before .before .before .before .before .pre in
+    let loop = c .before .before .before .before .before .before .loop in
+    let loop-test = c .before .before .before .before .before .loop-test in
+    let string-at = c .before .before .before .before .string-at in
+    let collect = c .before .before .collect in
+    gathering-next pre (loop .inv) (loop-test .taken) (string-at .ensures) (collect .ensures) (collect .kept .1 .0)
 
 slice-reshare-prefix-are-different : tie.Need-slice-reshare-prefix-are-different Inv-loop μ-loop
 slice-reshare-prefix-are-different c = within (c .before .before .before .before .before .pre) (c .before .loop .inv)
@@ -48,7 +58,11 @@ same-length : tie.Need-same-length Inv-loop μ-loop
 same-length c = c .before .before .before .loop .inv .long
 
 returns : tie.Need-returns Inv-loop μ-loop
-returns c = gathered (c .before .before .before .before .before .before .before .pre) (c .before .before .before .loop .inv) (c .before .before .loop-test .left) (c .are-different .ensures)
+returns c =
+    let pre = c .before .before .before .before .before .before .before .pre in
+    let loop = c .before .before .before .loop in
+    let loop-test = c .before .before .loop-test in
+    gathered pre (loop .inv) (loop-test .left) (c .are-different .ensures)
 
 pub is-distinct-spec : {M : Type 1} → statement M
 is-distinct-spec =

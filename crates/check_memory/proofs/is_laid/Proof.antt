@@ -27,7 +27,12 @@ are-zeros-requires : tie.Need-are-zeros-requires
 are-zeros-requires c κs = search needs
 
 returns-2 : tie.Need-returns-2
-returns-2 c = laid-within (c .before .before .before .before .before .before .pre) (c .before .before .before .before .if1 .left) (c .before .before .before .three-at .ensures) (c .before .before .three-at2 .ensures) (c .are-zeros .ensures)
+returns-2 c =
+    let pre = c .before .before .before .before .before .before .pre in
+    let if1 = c .before .before .before .before .if1 in
+    let three-at = c .before .before .before .three-at in
+    let three-at2 = c .before .before .three-at2 in
+    laid-within pre (if1 .left) (three-at .ensures) (three-at2 .ensures) (c .are-zeros .ensures)
 
 pub is-laid-spec : {M : Type 1} → statement M
 is-laid-spec =

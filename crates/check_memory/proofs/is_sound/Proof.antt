@@ -9,10 +9,14 @@ three-at-requires : tie.Need-three-at-requires
 three-at-requires c κs = omega (arith, c .before .before .pre .readable .long)
 
 are-expressions-requires : tie.Need-are-expressions-requires
-are-expressions-requires c κs = record { readable = c .before .before .before .pre .readable; last-most = omega (arith, c .three-at .ensures .is, c .before .before .before .pre .last-most) }
+are-expressions-requires c κs =
+    let pre = c .before .before .before .pre in
+    record { readable = pre .readable; last-most = omega (arith, c .three-at .ensures .is, pre .last-most) }
 
 are-files-requires : tie.Need-are-files-requires
-are-files-requires c κs = record { readable = c .before .before .before .before .pre .readable; last-most = omega (arith, c .before .three-at .ensures .is, c .before .before .before .before .pre .last-most) }
+are-files-requires c κs =
+    let pre = c .before .before .before .before .pre in
+    record { readable = pre .readable; last-most = omega (arith, c .before .three-at .ensures .is, pre .last-most) }
 
 returns : tie.Need-returns
 unfolding sound

@@ -32,7 +32,12 @@ is-return-requires : tie.Need-is-return-requires Inv-loop μ-loop
 is-return-requires c κs = (c .before .before .before .before .before .pre)
 
 returns : tie.Need-returns Inv-loop μ-loop
-returns c = sym (c .before .before .before .before .loop .inv .1 ∙ entries-fail (good-return (program-of (c .before .before .before .before .before .before .before .args .table .now))) (c .before .before .before .before .before .before .before .args .s .now) (c .before .before .before .before .loop .i) (c .before .before .before .loop-test .taken) (c .before .before .two-at .ensures) (c .before .is-return .ensures) (not-true _ (c .if1 .taken)))
+returns c =
+    let args = c .before .before .before .before .before .before .before .args in
+    let loop = c .before .before .before .before .loop in
+    let loop-test = c .before .before .before .loop-test in
+    let two-at = c .before .before .two-at in
+    sym (loop .inv .1 ∙ entries-fail (good-return (program-of (args .table .now))) (args .s .now) (loop .i) (loop-test .taken) (two-at .ensures) (c .before .is-return .ensures) (not-true _ (c .if1 .taken)))
 
 add-i : tie.Need-add-i Inv-loop μ-loop
 add-i c = omega (arith, c .before .before .before .loop-test .taken)
@@ -41,10 +46,17 @@ loop-less : tie.Need-loop-less Inv-loop μ-loop
 loop-less c = omega (arith, c .before .before .before .loop-test .taken)
 
 loop-again : tie.Need-loop-again Inv-loop μ-loop
-loop-again c = (omega (arith, c .before .before .before .loop-test .taken), c .before .before .before .before .loop .inv .1 ∙ entries-go (good-return (program-of (c .before .before .before .before .before .before .before .args .table .now))) (c .before .before .before .before .before .before .before .args .s .now) (c .before .before .before .before .loop .i) (c .before .before .before .loop-test .taken) (c .before .before .two-at .ensures) (c .before .is-return .ensures) (not-false _ (c .if1 .left)))
+loop-again c =
+    let args = c .before .before .before .before .before .before .before .args in
+    let loop = c .before .before .before .before .loop in
+    let loop-test = c .before .before .before .loop-test in
+    let two-at = c .before .before .two-at in
+    (omega (arith, loop-test .taken), loop .inv .1 ∙ entries-go (good-return (program-of (args .table .now))) (args .s .now) (loop .i) (loop-test .taken) (two-at .ensures) (c .before .is-return .ensures) (not-false _ (c .if1 .left)))
 
 returns-2 : tie.Need-returns-2 Inv-loop μ-loop
-returns-2 c = sym (c .before .loop .inv .1 ∙ entries-end (good-return (program-of (c .before .before .before .before .args .table .now))) (c .before .before .before .before .args .s .now) (c .before .loop .i) (c .loop-test .left))
+returns-2 c =
+    let args = c .before .before .before .before .args in
+    sym (c .before .loop .inv .1 ∙ entries-end (good-return (program-of (args .table .now))) (args .s .now) (c .before .loop .i) (c .loop-test .left))
 
 pub are-returns-spec : {M : Type 1} → statement M
 are-returns-spec =

@@ -32,13 +32,29 @@ three-at-requires-2 : tie.Need-three-at-requires-2
 three-at-requires-2 c κs = omega (arith, c .before .before .before .before .before .before .before .before .before .before .before .before .pre .readable .long)
 
 three-at-requires-3 : tie.Need-three-at-requires-3
-three-at-requires-3 c κs = omega (arith, c .before .before .before .before .before .before .before .before .before .before .before .before .before .pre .readable .long)
+three-at-requires-3 c κs =
+    let pre = c .before .before .before .before .before .before .before .before .before .before .before .before .before .pre in
+    omega (arith, pre .readable .long)
 
 instructions-requires : tie.Need-instructions-requires
-instructions-requires c κs = table-long (c .before .before .before .before .before .before .before .before .before .before .before .before .before .before .args .table .now) (c .before .before .before .before .before .before .before .before .before .before .before .before .before .before .pre .table)
+instructions-requires c κs =
+    let args = c .before .before .before .before .before .before .before .before .before .before .before .before .before .before .args in
+    let pre = c .before .before .before .before .before .before .before .before .before .before .before .before .before .before .pre in
+    table-long (args .table .now) (pre .table)
 
 returns : tie.Need-returns
-returns c = fits (c .before .before .before .before .before .before .before .before .before .before .before .before .before .before .before .args .table .now) (c .before .before .before .before .before .before .before .before .before .before .before .before .before .before .before .pre .table) (c .before .before .before .before .before .before .before .before .before .before .before .before .before .before .before .args .i1 .now) (c .before .before .before .before .before .before .before .before .before .before .before .before .before .before .before .args .i2 .now) (c .before .before .before .before .before .before .before .before .before .before .before .before .before .before .before .args .m .now) (c .before .before .before .before .before .before .before .before .before .string-at .ensures) (c .before .before .before .before .before .before .before .string-at2 .ensures) (c .before .before .before .before .before .string-at3 .ensures) (c .before .before .before .three-at .ensures) (c .before .before .three-at2 .ensures) (c .before .three-at3 .ensures) (c .instructions .ensures) (c .before .before .before .before .before .before .before .before .is-stack .ensures) (c .before .before .before .before .before .before .is-output .ensures) (c .before .before .before .before .is-output2 .ensures)
+returns c =
+    let args = c .before .before .before .before .before .before .before .before .before .before .before .before .before .before .before .args in
+    let pre = c .before .before .before .before .before .before .before .before .before .before .before .before .before .before .before .pre in
+    let string-at = c .before .before .before .before .before .before .before .before .before .string-at in
+    let is-stack = c .before .before .before .before .before .before .before .before .is-stack in
+    let string-at2 = c .before .before .before .before .before .before .before .string-at2 in
+    let is-output = c .before .before .before .before .before .before .is-output in
+    let string-at3 = c .before .before .before .before .before .string-at3 in
+    let is-output2 = c .before .before .before .before .is-output2 in
+    let three-at = c .before .before .before .three-at in
+    let three-at2 = c .before .before .three-at2 in
+    fits (args .table .now) (pre .table) (args .i1 .now) (args .i2 .now) (args .m .now) (string-at .ensures) (string-at2 .ensures) (string-at3 .ensures) (three-at .ensures) (three-at2 .ensures) (c .before .three-at3 .ensures) (c .instructions .ensures) (is-stack .ensures) (is-output .ensures) (is-output2 .ensures)
 
 pub is-fitting-spec : {M : Type 1} → statement M
 is-fitting-spec =

@@ -7,7 +7,9 @@ use Rattle.check_state.proofs.is_passed.Statement.{statement}
 use Rattle.check_state.proofs.is_passed.Tie as tie
 
 starts-of-requires : tie.Need-starts-of-requires
-starts-of-requires c κs = record { long = c .before .before .before .before .before .before .before .pre .long; places = c .before .before .before .before .before .before .before .pre .starts-is }
+starts-of-requires c κs =
+    let pre = c .before .before .before .before .before .before .before .pre in
+    record { long = pre .long; places = pre .starts-is }
 
 is-laid-requires : tie.Need-is-laid-requires
 is-laid-requires c κs = ended (c .before .before .before .before .before .before .before .before .before .before .pre) (c .before .before .starts-of .ensures)
@@ -16,28 +18,61 @@ same-length : tie.Need-same-length
 same-length c = search needs
 
 returns : tie.Need-returns
-returns c = fails-1 (c .before .before .before .before .before .before .before .before .before .before .before .before .args .table .now) (c .before .before .before .before .before .before .before .before .before .before .before .before .args .i1 .now) (c .before .before .before .before .before .before .before .before .before .before .before .before .args .i2 .now) (c .before .before .before .before .before .before .before .before .before .before .before .before .args .m .now) (c .before .is-laid .ensures) (not-true _ (c .if1 .taken))
+returns c =
+    let args = c .before .before .before .before .before .before .before .before .before .before .before .before .args in
+    fails-1 (args .table .now) (args .i1 .now) (args .i2 .now) (args .m .now) (c .before .is-laid .ensures) (not-true _ (c .if1 .taken))
 
 is-sound-requires : tie.Need-is-sound-requires
-is-sound-requires c κs = walkable (c .before .before .before .before .before .before .before .before .before .before .before .before .before .pre) (c .before .before .before .before .before .starts-of .ensures) (c .before .before .is-laid .ensures) (not-false _ (c .before .if1 .left))
+is-sound-requires c κs =
+    let pre = c .before .before .before .before .before .before .before .before .before .before .before .before .before .pre in
+    let starts-of = c .before .before .before .before .before .starts-of in
+    let is-laid = c .before .before .is-laid in
+    walkable pre (starts-of .ensures) (is-laid .ensures) (not-false _ (c .before .if1 .left))
 
 same-length-2 : tie.Need-same-length-2
 same-length-2 c = search needs
 
 returns-2 : tie.Need-returns-2
-returns-2 c = fails-2 (c .before .before .before .before .before .before .before .before .before .before .before .before .before .before .before .args .table .now) (c .before .before .before .before .before .before .before .before .before .before .before .before .before .before .before .args .i1 .now) (c .before .before .before .before .before .before .before .before .before .before .before .before .before .before .before .args .i2 .now) (c .before .before .before .before .before .before .before .before .before .before .before .before .before .before .before .args .m .now) (c .before .before .before .before .is-laid .ensures) (not-false _ (c .before .before .before .if1 .left)) (c .before .is-sound .ensures) (not-true _ (c .if2 .taken))
+returns-2 c =
+    let args = c .before .before .before .before .before .before .before .before .before .before .before .before .before .before .before .args in
+    let is-laid = c .before .before .before .before .is-laid in
+    let if1 = c .before .before .before .if1 in
+    fails-2 (args .table .now) (args .i1 .now) (args .i2 .now) (args .m .now) (is-laid .ensures) (not-false _ (if1 .left)) (c .before .is-sound .ensures) (not-true _ (c .if2 .taken))
 
 is-counted-requires : tie.Need-is-counted-requires
-is-counted-requires c κs = both-whole (c .before .before .before .before .before .before .before .before .before .before .before .before .before .before .before .before .pre) (c .before .before .before .before .before .before .before .before .starts-of .ensures) (c .before .before .before .before .before .is-laid .ensures) (not-false _ (c .before .before .before .before .if1 .left)) (λ j. omega (arith, c .before .before .before .before .before .before .before .before .before .before .before .before .shared-slice-known4 .given j)) (c .before .before .is-sound .ensures) (not-false _ (c .before .if2 .left))
+is-counted-requires c κs =
+    let pre = c .before .before .before .before .before .before .before .before .before .before .before .before .before .before .before .before .pre in
+    let shared-slice-known4 = c .before .before .before .before .before .before .before .before .before .before .before .before .shared-slice-known4 in
+    let starts-of = c .before .before .before .before .before .before .before .before .starts-of in
+    let is-laid = c .before .before .before .before .before .is-laid in
+    let if1 = c .before .before .before .before .if1 in
+    let is-sound = c .before .before .is-sound in
+    both-whole pre (starts-of .ensures) (is-laid .ensures) (not-false _ (if1 .left)) (λ j. omega (arith, shared-slice-known4 .given j)) (is-sound .ensures) (not-false _ (c .before .if2 .left))
 
 same-length-3 : tie.Need-same-length-3
 same-length-3 c = search needs
 
 returns-3 : tie.Need-returns-3
-returns-3 c = fails-3 (c .before .before .before .before .before .before .before .before .before .before .before .before .before .before .before .before .before .before .args .table .now) (c .before .before .before .before .before .before .before .before .before .before .before .before .before .before .before .before .before .before .args .i1 .now) (c .before .before .before .before .before .before .before .before .before .before .before .before .before .before .before .before .before .before .args .i2 .now) (c .before .before .before .before .before .before .before .before .before .before .before .before .before .before .before .before .before .before .args .m .now) (c .before .before .before .before .before .before .before .is-laid .ensures) (not-false _ (c .before .before .before .before .before .before .if1 .left)) (c .before .before .before .before .is-sound .ensures) (not-false _ (c .before .before .before .if2 .left)) (c .before .is-counted .ensures) (not-true _ (c .if3 .taken))
+returns-3 c =
+    let args = c .before .before .before .before .before .before .before .before .before .before .before .before .before .before .before .before .before .before .args in
+    let is-laid = c .before .before .before .before .before .before .before .is-laid in
+    let if1 = c .before .before .before .before .before .before .if1 in
+    let is-sound = c .before .before .before .before .is-sound in
+    let if2 = c .before .before .before .if2 in
+    fails-3 (args .table .now) (args .i1 .now) (args .i2 .now) (args .m .now) (is-laid .ensures) (not-false _ (if1 .left)) (is-sound .ensures) (not-false _ (if2 .left)) (c .before .is-counted .ensures) (not-true _ (c .if3 .taken))
 
 is-distinct-requires : tie.Need-is-distinct-requires
-is-distinct-requires c κs = comparable (c .before .before .before .before .before .before .before .before .before .before .before .before .before .before .before .before .before .before .before .before .pre) (c .before .before .before .before .before .before .before .before .before .before .before .before .starts-of .ensures) (c .before .before .before .before .before .before .before .before .before .is-laid .ensures) (not-false _ (c .before .before .before .before .before .before .before .before .if1 .left)) (λ j. omega (arith, c .before .before .before .before .before .before .before .before .before .before .before .before .before .before .before .before .shared-slice-known4 .given j)) (c .before .before .before .before .before .before .is-sound .ensures) (not-false _ (c .before .before .before .before .before .if2 .left)) (c .before .before .before .is-counted .ensures) (not-false _ (c .before .before .if3 .left))
+is-distinct-requires c κs =
+    let pre = c .before .before .before .before .before .before .before .before .before .before .before .before .before .before .before .before .before .before .before .before .pre in
+    let shared-slice-known4 = c .before .before .before .before .before .before .before .before .before .before .before .before .before .before .before .before .shared-slice-known4 in
+    let starts-of = c .before .before .before .before .before .before .before .before .before .before .before .before .starts-of in
+    let is-laid = c .before .before .before .before .before .before .before .before .before .is-laid in
+    let if1 = c .before .before .before .before .before .before .before .before .if1 in
+    let is-sound = c .before .before .before .before .before .before .is-sound in
+    let if2 = c .before .before .before .before .before .if2 in
+    let is-counted = c .before .before .before .is-counted in
+    let if3 = c .before .before .if3 in
+    comparable pre (starts-of .ensures) (is-laid .ensures) (not-false _ (if1 .left)) (λ j. omega (arith, shared-slice-known4 .given j)) (is-sound .ensures) (not-false _ (if2 .left)) (is-counted .ensures) (not-false _ (if3 .left))
 
 same-length-4 : tie.Need-same-length-4
 same-length-4 c = search needs
@@ -46,10 +81,24 @@ same-length-5 : tie.Need-same-length-5
 same-length-5 c = search needs
 
 returns-4 : tie.Need-returns-4
-returns-4 c = fails-4 (c .before .before .before .before .before .before .before .before .before .before .before .before .before .before .before .before .before .before .before .before .before .before .before .before .args .table .now) (c .before .before .before .before .before .before .before .before .before .before .before .before .before .before .before .before .before .before .before .before .before .before .before .before .args .i1 .now) (c .before .before .before .before .before .before .before .before .before .before .before .before .before .before .before .before .before .before .before .before .before .before .before .before .args .i2 .now) (c .before .before .before .before .before .before .before .before .before .before .before .before .before .before .before .before .before .before .before .before .before .before .before .before .args .m .now) (c .before .before .before .before .before .before .before .before .before .before .before .before .before .is-laid .ensures) (not-false _ (c .before .before .before .before .before .before .before .before .before .before .before .before .if1 .left)) (c .before .before .before .before .before .before .before .before .before .before .is-sound .ensures) (not-false _ (c .before .before .before .before .before .before .before .before .before .if2 .left)) (c .before .before .before .before .before .before .before .is-counted .ensures) (not-false _ (c .before .before .before .before .before .before .if3 .left)) (c .before .before .before .is-distinct .ensures) (not-true _ (c .if4 .taken))
+returns-4 c =
+    let args = c .before .before .before .before .before .before .before .before .before .before .before .before .before .before .before .before .before .before .before .before .before .before .before .before .args in
+    let is-laid = c .before .before .before .before .before .before .before .before .before .before .before .before .before .is-laid in
+    let if1 = c .before .before .before .before .before .before .before .before .before .before .before .before .if1 in
+    let is-sound = c .before .before .before .before .before .before .before .before .before .before .is-sound in
+    let if2 = c .before .before .before .before .before .before .before .before .before .if2 in
+    let is-counted = c .before .before .before .before .before .before .before .is-counted in
+    let if3 = c .before .before .before .before .before .before .if3 in
+    let is-distinct = c .before .before .before .is-distinct in
+    fails-4 (args .table .now) (args .i1 .now) (args .i2 .now) (args .m .now) (is-laid .ensures) (not-false _ (if1 .left)) (is-sound .ensures) (not-false _ (if2 .left)) (is-counted .ensures) (not-false _ (if3 .left)) (is-distinct .ensures) (not-true _ (c .if4 .taken))
 
 is-fitting-requires : tie.Need-is-fitting-requires
-is-fitting-requires c κs = fittable (c .before .before .before .before .before .before .before .before .before .before .before .before .before .before .before .before .before .before .before .before .before .before .before .before .before .pre) (c .before .before .before .before .before .before .before .before .before .before .before .before .before .before .before .before .before .starts-of .ensures) (c .before .before .before .before .before .before .before .before .before .before .before .before .before .before .is-laid .ensures) (not-false _ (c .before .before .before .before .before .before .before .before .before .before .before .before .before .if1 .left))
+is-fitting-requires c κs =
+    let pre = c .before .before .before .before .before .before .before .before .before .before .before .before .before .before .before .before .before .before .before .before .before .before .before .before .before .pre in
+    let starts-of = c .before .before .before .before .before .before .before .before .before .before .before .before .before .before .before .before .before .starts-of in
+    let is-laid = c .before .before .before .before .before .before .before .before .before .before .before .before .before .before .is-laid in
+    let if1 = c .before .before .before .before .before .before .before .before .before .before .before .before .before .if1 in
+    fittable pre (starts-of .ensures) (is-laid .ensures) (not-false _ (if1 .left))
 
 same-length-6 : tie.Need-same-length-6
 same-length-6 c = search needs
@@ -58,7 +107,17 @@ same-length-7 : tie.Need-same-length-7
 same-length-7 c = search needs
 
 returns-5 : tie.Need-returns-5
-returns-5 c = last (c .before .before .before .before .before .before .before .before .before .before .before .before .before .before .before .before .before .before .before .before .before .before .before .before .before .before .args .table .now) (c .before .before .before .before .before .before .before .before .before .before .before .before .before .before .before .before .before .before .before .before .before .before .before .before .before .before .args .i1 .now) (c .before .before .before .before .before .before .before .before .before .before .before .before .before .before .before .before .before .before .before .before .before .before .before .before .before .before .args .i2 .now) (c .before .before .before .before .before .before .before .before .before .before .before .before .before .before .before .before .before .before .before .before .before .before .before .before .before .before .args .m .now) (c .before .before .before .before .before .before .before .before .before .before .before .before .before .before .before .is-laid .ensures) (not-false _ (c .before .before .before .before .before .before .before .before .before .before .before .before .before .before .if1 .left)) (c .before .before .before .before .before .before .before .before .before .before .before .before .is-sound .ensures) (not-false _ (c .before .before .before .before .before .before .before .before .before .before .before .if2 .left)) (c .before .before .before .before .before .before .before .before .before .is-counted .ensures) (not-false _ (c .before .before .before .before .before .before .before .before .if3 .left)) (c .before .before .before .before .before .is-distinct .ensures) (not-false _ (c .before .before .if4 .left)) (c .is-fitting .ensures)
+returns-5 c =
+    let args = c .before .before .before .before .before .before .before .before .before .before .before .before .before .before .before .before .before .before .before .before .before .before .before .before .before .before .args in
+    let is-laid = c .before .before .before .before .before .before .before .before .before .before .before .before .before .before .before .is-laid in
+    let if1 = c .before .before .before .before .before .before .before .before .before .before .before .before .before .before .if1 in
+    let is-sound = c .before .before .before .before .before .before .before .before .before .before .before .before .is-sound in
+    let if2 = c .before .before .before .before .before .before .before .before .before .before .before .if2 in
+    let is-counted = c .before .before .before .before .before .before .before .before .before .is-counted in
+    let if3 = c .before .before .before .before .before .before .before .before .if3 in
+    let is-distinct = c .before .before .before .before .before .is-distinct in
+    let if4 = c .before .before .if4 in
+    last (args .table .now) (args .i1 .now) (args .i2 .now) (args .m .now) (is-laid .ensures) (not-false _ (if1 .left)) (is-sound .ensures) (not-false _ (if2 .left)) (is-counted .ensures) (not-false _ (if3 .left)) (is-distinct .ensures) (not-false _ (if4 .left)) (c .is-fitting .ensures)
 
 pub is-passed-spec : {M : Type 1} → statement M
 is-passed-spec =

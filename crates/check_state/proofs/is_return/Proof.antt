@@ -14,10 +14,18 @@ instructions-requires : tie.Need-instructions-requires
 instructions-requires c κs = table-long (c .before .before .args .table .now) (c .before .before .pre)
 
 returns-2 : tie.Need-returns-2
-returns-2 c = return-beyond (c .before .before .before .before .args .table .now) (c .before .before .before .before .pre) (c .before .before .before .before .args .n) (c .before .before .if1 .left) (c .before .instructions .ensures) (c .if2 .taken)
+returns-2 c =
+    let args = c .before .before .before .before .args in
+    let pre = c .before .before .before .before .pre in
+    let if1 = c .before .before .if1 in
+    return-beyond (args .table .now) pre (args .n) (if1 .left) (c .before .instructions .ensures) (c .if2 .taken)
 
 operator-requires : tie.Need-operator-requires
-operator-requires c κs = place (c .before .before .before .before .args .table .now) (c .before .before .before .before .pre) (c .before .before .before .before .args .n) (c .before .before .if1 .left) (c .before .instructions .ensures) (c .if2 .left)
+operator-requires c κs =
+    let args = c .before .before .before .before .args in
+    let pre = c .before .before .before .before .pre in
+    let if1 = c .before .before .if1 in
+    place (args .table .now) pre (args .n) (if1 .left) (c .before .instructions .ensures) (c .if2 .left)
 
 narrow-requires : tie.Need-narrow-requires
 narrow-requires c κs = c .operator .ensures .most
@@ -26,7 +34,14 @@ is-call-requires : tie.Need-is-call-requires
 is-call-requires c κs = search needs
 
 returns-3 : tie.Need-returns-3
-returns-3 c = return-is (c .before .before .before .before .before .before .before .args .table .now) (c .before .before .before .before .before .before .before .pre) (c .before .before .before .before .before .before .before .args .n) (c .before .before .before .before .before .if1 .left) (c .before .before .before .before .instructions .ensures) (c .before .before .before .if2 .left) (c .before .before .operator .ensures) (c .before .narrow .ensures) (c .is-call .ensures)
+returns-3 c =
+    let args = c .before .before .before .before .before .before .before .args in
+    let pre = c .before .before .before .before .before .before .before .pre in
+    let instructions = c .before .before .before .before .instructions in
+    let if1 = c .before .before .before .before .before .if1 in
+    let if2 = c .before .before .before .if2 in
+    let operator = c .before .before .operator in
+    return-is (args .table .now) pre (args .n) (if1 .left) (instructions .ensures) (if2 .left) (operator .ensures) (c .before .narrow .ensures) (c .is-call .ensures)
 
 pub is-return-spec : {M : Type 1} → statement M
 is-return-spec =

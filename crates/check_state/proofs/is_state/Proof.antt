@@ -8,7 +8,9 @@ use Rattle.check_state.proofs.is_state.Statement.{statement}
 use Rattle.check_state.proofs.is_state.Tie as tie
 
 returns : tie.Need-returns
-returns c = short-answer (c .before .before .before .before .before .args .table .now) (c .before .before .before .before .before .args .i1 .now) (c .before .before .before .before .before .args .i2 .now) (c .before .before .before .before .before .args .state .now) (c .if1 .taken)
+returns c =
+    let args = c .before .before .before .before .before .args in
+    short-answer (args .table .now) (args .i1 .now) (args .i2 .now) (args .state .now) (c .if1 .taken)
 
 slice-aggregate-is-passed : tie.Need-slice-aggregate-is-passed
 slice-aggregate-is-passed c = sym (length-take-le 40960 (c .before .before .before .before .before .before .args .state .now) (c .before .if1 .left))
@@ -20,10 +22,20 @@ slice-aggregate-is-passed-3 : tie.Need-slice-aggregate-is-passed-3
 slice-aggregate-is-passed-3 c = search needs
 
 is-passed-requires : tie.Need-is-passed-requires
-is-passed-requires c κs = record { table = c .before .before .before .before .before .before .before .before .pre .table; long = length-take-le 40960 (c .before .before .before .before .before .before .before .before .args .state .now) (c .before .before .before .if1 .left); starts-is = refl; addresses-is = refl }
+is-passed-requires c κs =
+    let args = c .before .before .before .before .before .before .before .before .args in
+    let pre = c .before .before .before .before .before .before .before .before .pre in
+    let if1 = c .before .before .before .if1 in
+    record { table = pre .table; long = length-take-le 40960 (args .state .now) (if1 .left); starts-is = refl; addresses-is = refl }
 
 returns-2 : tie.Need-returns-2
-returns-2 c = answer (c .before .before .before .before .before .before .before .before .before .before .before .args .table .now) (c .before .before .before .before .before .before .before .before .before .before .before .args .i1 .now) (c .before .before .before .before .before .before .before .before .before .before .before .args .i2 .now) (c .before .before .before .before .before .before .before .before .before .before .before .args .state .now) (c .before .before .before .before .before .before .before .before .before .before .before .pre) (c .before .before .before .before .before .before .if1 .left) (λ j. omega (arith, c .before .before .before .before .before .before .before .shared-slice-known4 .given j)) (c .before .before .is-passed .ensures)
+returns-2 c =
+    let args = c .before .before .before .before .before .before .before .before .before .before .before .args in
+    let pre = c .before .before .before .before .before .before .before .before .before .before .before .pre in
+    let shared-slice-known4 = c .before .before .before .before .before .before .before .shared-slice-known4 in
+    let if1 = c .before .before .before .before .before .before .if1 in
+    let is-passed = c .before .before .is-passed in
+    answer (args .table .now) (args .i1 .now) (args .i2 .now) (args .state .now) pre (if1 .left) (λ j. omega (arith, shared-slice-known4 .given j)) (is-passed .ensures)
 
 pub is-state-spec : {M : Type 1} → statement M
 is-state-spec =

@@ -28,22 +28,53 @@ part-front-size-end : tie.Need-part-front-size-end Inv-loop μ-loop
 part-front-size-end c = search needs
 
 front-size-requires : tie.Need-front-size-requires Inv-loop μ-loop
-front-size-requires c κs = some-lent (c .before .before .before .before .args .last) (c .before .before .loop .at) (c .before .before .before .before .args .b .now) (c .before .before .before .before .pre) (λ j. omega (arith, c .before .before .before .shared-slice-known .given j)) (c .before .loop-test .taken)
+front-size-requires c κs =
+    let shared-slice-known = c .before .before .before .shared-slice-known in
+    let args = c .before .before .before .before .args in
+    let pre = c .before .before .before .before .pre in
+    let loop = c .before .before .loop in
+    some-lent (args .last) (loop .at) (args .b .now) pre (λ j. omega (arith, shared-slice-known .given j)) (c .before .loop-test .taken)
 
 returns : tie.Need-returns Inv-loop μ-loop
-returns c = sym (c .before .before .before .before .loop .inv .1 ∙ components-fault (c .before .before .before .before .before .before .args .last) (c .before .before .before .before .loop .at) (c .before .before .before .before .before .before .args .b .now) (c .before .before .before .before .before .before .pre) (λ j. omega (arith, c .before .before .before .before .before .shared-slice-known .given j)) (c .before .before .before .loop-test .taken) (c .before .front-size .ensures) (c .if1 .taken))
+returns c =
+    let shared-slice-known = c .before .before .before .before .before .shared-slice-known in
+    let args = c .before .before .before .before .before .before .args in
+    let pre = c .before .before .before .before .before .before .pre in
+    let loop = c .before .before .before .before .loop in
+    let loop-test = c .before .before .before .loop-test in
+    sym (loop .inv .1 ∙ components-fault (args .last) (loop .at) (args .b .now) pre (λ j. omega (arith, shared-slice-known .given j)) (loop-test .taken) (c .before .front-size .ensures) (c .if1 .taken))
 
 add-at : tie.Need-add-at Inv-loop μ-loop
-add-at c = omega (arith, front-fits (c .before .before .before .before .before .before .args .last) (c .before .before .before .before .loop .at) (c .before .before .before .before .before .before .args .b .now) (c .before .before .before .before .before .before .pre) (λ j. omega (arith, c .before .before .before .before .before .shared-slice-known .given j)) (c .before .before .before .loop-test .taken) (c .before .front-size .ensures))
+add-at c =
+    let shared-slice-known = c .before .before .before .before .before .shared-slice-known in
+    let args = c .before .before .before .before .before .before .args in
+    let pre = c .before .before .before .before .before .before .pre in
+    let loop = c .before .before .before .before .loop in
+    let loop-test = c .before .before .before .loop-test in
+    omega (arith, front-fits (args .last) (loop .at) (args .b .now) pre (λ j. omega (arith, shared-slice-known .given j)) (loop-test .taken) (c .before .front-size .ensures))
 
 loop-less : tie.Need-loop-less Inv-loop μ-loop
-loop-less c = omega (arith, front-fits (c .before .before .before .before .before .before .args .last) (c .before .before .before .before .loop .at) (c .before .before .before .before .before .before .args .b .now) (c .before .before .before .before .before .before .pre) (λ j. omega (arith, c .before .before .before .before .before .shared-slice-known .given j)) (c .before .before .before .loop-test .taken) (c .before .front-size .ensures))
+loop-less c =
+    let shared-slice-known = c .before .before .before .before .before .shared-slice-known in
+    let args = c .before .before .before .before .before .before .args in
+    let pre = c .before .before .before .before .before .before .pre in
+    let loop = c .before .before .before .before .loop in
+    let loop-test = c .before .before .before .loop-test in
+    omega (arith, front-fits (args .last) (loop .at) (args .b .now) pre (λ j. omega (arith, shared-slice-known .given j)) (loop-test .taken) (c .before .front-size .ensures))
 
 loop-again : tie.Need-loop-again Inv-loop μ-loop
-loop-again c = (front-fits (c .before .before .before .before .before .before .args .last) (c .before .before .before .before .loop .at) (c .before .before .before .before .before .before .args .b .now) (c .before .before .before .before .before .before .pre) (λ j. omega (arith, c .before .before .before .before .before .shared-slice-known .given j)) (c .before .before .before .loop-test .taken) (c .before .front-size .ensures), c .before .before .before .before .loop .inv .1 ∙ components-next (c .before .before .before .before .before .before .args .last) (c .before .before .before .before .loop .at) (c .before .before .before .before .before .before .args .b .now) (c .before .before .before .before .before .before .pre) (λ j. omega (arith, c .before .before .before .before .before .shared-slice-known .given j)) (c .before .before .before .loop-test .taken) (c .before .front-size .ensures) (c .if1 .left))
+loop-again c =
+    let shared-slice-known = c .before .before .before .before .before .shared-slice-known in
+    let args = c .before .before .before .before .before .before .args in
+    let pre = c .before .before .before .before .before .before .pre in
+    let loop = c .before .before .before .before .loop in
+    let loop-test = c .before .before .before .loop-test in
+    (front-fits (args .last) (loop .at) (args .b .now) pre (λ j. omega (arith, shared-slice-known .given j)) (loop-test .taken) (c .before .front-size .ensures), loop .inv .1 ∙ components-next (args .last) (loop .at) (args .b .now) pre (λ j. omega (arith, shared-slice-known .given j)) (loop-test .taken) (c .before .front-size .ensures) (c .if1 .left))
 
 returns-2 : tie.Need-returns-2 Inv-loop μ-loop
-returns-2 c = sym (c .before .loop .inv .1 ∙ components-over (c .before .before .before .args .last) (c .before .before .before .args .b .now) (c .before .loop .at) (c .loop-test .left))
+returns-2 c =
+    let args = c .before .before .before .args in
+    sym (c .before .loop .inv .1 ∙ components-over (args .last) (args .b .now) (c .before .loop .at) (c .loop-test .left))
 
 pub are-components-spec : {M : Type 1} → statement M
 are-components-spec =

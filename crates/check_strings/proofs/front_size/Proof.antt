@@ -20,10 +20,16 @@ shared-slice-read-if2 : tie.Need-shared-slice-read-if2
 shared-slice-read-if2 c = search needs
 
 shared-slice-read-is-short : tie.Need-shared-slice-read-is-short
-shared-slice-read-is-short c = omega (arith, c .before .before .before .before .size-by .ensures .is, size-short (cell (c .before .before .before .before .before .before .before .args .b .now) 0) (c .before .if2 .taken))
+shared-slice-read-is-short c =
+    let args = c .before .before .before .before .before .before .before .args in
+    let size-by = c .before .before .before .before .size-by in
+    omega (arith, size-by .ensures .is, size-short (cell (args .b .now) 0) (c .before .if2 .taken))
 
 three-at-requires : tie.Need-three-at-requires
-three-at-requires c κs = omega (arith, c .before .before .before .before .size-by .ensures .is, size-short (cell (c .before .before .before .before .before .before .before .args .b .now) 0) (c .before .if2 .taken))
+three-at-requires c κs =
+    let args = c .before .before .before .before .before .before .before .args in
+    let size-by = c .before .before .before .before .size-by in
+    omega (arith, size-by .ensures .is, size-short (cell (args .b .now) 0) (c .before .if2 .taken))
 
 is-short-requires : tie.Need-is-short-requires
 is-short-requires c κs = search needs
@@ -32,13 +38,25 @@ pick-requires : tie.Need-pick-requires
 pick-requires c κs = search needs
 
 returns-2 : tie.Need-returns-2
-returns-2 c = front-shown (c .before .before .before .before .before .before .before .before .before .before .args .b .now) (c .before .before .before .before .before .before .before .size-by .ensures) (c .before .before .before .before .before .before .if1 .left) (c .before .before .before .before .if2 .taken) (c .before .before .three-at .ensures) (c .before .is-short .ensures) (c .pick .ensures)
+returns-2 c =
+    let args = c .before .before .before .before .before .before .before .before .before .before .args in
+    let size-by = c .before .before .before .before .before .before .before .size-by in
+    let if1 = c .before .before .before .before .before .before .if1 in
+    let if2 = c .before .before .before .before .if2 in
+    let three-at = c .before .before .three-at in
+    front-shown (args .b .now) (size-by .ensures) (if1 .left) (if2 .taken) (three-at .ensures) (c .before .is-short .ensures) (c .pick .ensures)
 
 sub-all-known : tie.Need-sub-all-known
-sub-all-known c = omega (arith, c .before .before .before .size-by .ensures .is, size-most (cell (c .before .before .before .before .before .before .args .b .now) 0))
+sub-all-known c =
+    let args = c .before .before .before .before .before .before .args in
+    let size-by = c .before .before .before .size-by in
+    omega (arith, size-by .ensures .is, size-most (cell (args .b .now) 0))
 
 part-all-known-start : tie.Need-part-all-known-start
-part-all-known-start c = omega (arith, c .before .before .before .size-by .ensures .is, size-most (cell (c .before .before .before .before .before .before .args .b .now) 0))
+part-all-known-start c =
+    let args = c .before .before .before .before .before .before .args in
+    let size-by = c .before .before .before .size-by in
+    omega (arith, size-by .ensures .is, size-most (cell (args .b .now) 0))
 
 part-all-known-end : tie.Need-part-all-known-end
 part-all-known-end c = c .before .before .if1 .left
@@ -50,7 +68,12 @@ pick-requires-2 : tie.Need-pick-requires-2
 pick-requires-2 c κs = search needs
 
 returns-3 : tie.Need-returns-3
-returns-3 c = front-spelled (c .before .before .before .before .before .before .before .before .before .args .b .now) (c .before .before .before .before .before .before .size-by .ensures) (c .before .before .before .before .before .if1 .left) (c .before .before .before .if2 .left) (c .before .all-known .ensures) (c .pick2 .ensures)
+returns-3 c =
+    let args = c .before .before .before .before .before .before .before .before .before .args in
+    let size-by = c .before .before .before .before .before .before .size-by in
+    let if1 = c .before .before .before .before .before .if1 in
+    let if2 = c .before .before .before .if2 in
+    front-spelled (args .b .now) (size-by .ensures) (if1 .left) (if2 .left) (c .before .all-known .ensures) (c .pick2 .ensures)
 
 pub front-size-spec : {M : Type 1} → statement M
 front-size-spec =

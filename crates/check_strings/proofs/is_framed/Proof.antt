@@ -23,7 +23,10 @@ two-at-requires-2 : tie.Need-two-at-requires-2
 two-at-requires-2 c κs = search needs
 
 returns-3 : tie.Need-returns-3
-returns-3 c = framed-end (c .before .before .before .before .before .args .b .now) (c .before .before .two-at .ensures) (c .before .if2 .left) (c .two-at2 .ensures)
+returns-3 c =
+    let args = c .before .before .before .before .before .args in
+    let two-at = c .before .before .two-at in
+    framed-end (args .b .now) (two-at .ensures) (c .before .if2 .left) (c .two-at2 .ensures)
 
 pub is-framed-spec : {M : Type 1} → statement M
 is-framed-spec =

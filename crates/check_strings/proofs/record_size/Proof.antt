@@ -17,7 +17,10 @@ two-at-requires : tie.Need-two-at-requires
 two-at-requires c κs = omega (arith, framed-fits (c .before .before .before .args .b .now) (c .before .is-framed .ensures) (not-false _ (c .if1 .left)))
 
 three-at-requires : tie.Need-three-at-requires
-three-at-requires c κs = omega (arith, framed-fits (c .before .before .before .before .args .b .now) (c .before .before .is-framed .ensures) (not-false _ (c .before .if1 .left)))
+three-at-requires c κs =
+    let args = c .before .before .before .before .args in
+    let is-framed = c .before .before .is-framed in
+    omega (arith, framed-fits (args .b .now) (is-framed .ensures) (not-false _ (c .before .if1 .left)))
 
 add-e : tie.Need-add-e
 add-e c = search needs
@@ -32,7 +35,12 @@ part-are-components-start : tie.Need-part-are-components-start
 part-are-components-start c = search needs
 
 part-are-components-end : tie.Need-part-are-components-end
-part-are-components-end c = omega (arith, framed-fits (c .before .before .before .before .before .before .args .b .now) (c .before .before .before .before .is-framed .ensures) (not-false _ (c .before .before .before .if1 .left)), c .before .before .two-at .ensures .is)
+part-are-components-end c =
+    let args = c .before .before .before .before .before .before .args in
+    let is-framed = c .before .before .before .before .is-framed in
+    let if1 = c .before .before .before .if1 in
+    let two-at = c .before .before .two-at in
+    omega (arith, framed-fits (args .b .now) (is-framed .ensures) (not-false _ (if1 .left)), two-at .ensures .is)
 
 are-components-requires : tie.Need-are-components-requires
 are-components-requires c κs = search needs
@@ -44,7 +52,14 @@ pick-requires : tie.Need-pick-requires
 pick-requires c κs = search needs
 
 returns-2 : tie.Need-returns-2
-returns-2 c = record-shown (sym (c .before .before .before .before .before .before .before .is-framed .ensures) ∙ not-false _ (c .before .before .before .before .before .before .if1 .left)) (c .before .before .before .before .before .two-at .ensures) (c .before .before .before .before .three-at .ensures) (omega (arith, framed-fits (c .before .before .before .before .before .before .before .before .before .args .b .now) (c .before .before .before .before .before .before .before .is-framed .ensures) (not-false _ (c .before .before .before .before .before .before .if1 .left)), c .before .before .before .before .before .two-at .ensures .is)) (c .before .before .before .is-given .ensures) (c .before .are-components .ensures) (c .pick .ensures)
+returns-2 c =
+    let args = c .before .before .before .before .before .before .before .before .before .args in
+    let is-framed = c .before .before .before .before .before .before .before .is-framed in
+    let if1 = c .before .before .before .before .before .before .if1 in
+    let two-at = c .before .before .before .before .before .two-at in
+    let three-at = c .before .before .before .before .three-at in
+    let is-given = c .before .before .before .is-given in
+    record-shown (sym (is-framed .ensures) ∙ not-false _ (if1 .left)) (two-at .ensures) (three-at .ensures) (omega (arith, framed-fits (args .b .now) (is-framed .ensures) (not-false _ (if1 .left)), two-at .ensures .is)) (is-given .ensures) (c .before .are-components .ensures) (c .pick .ensures)
 
 pub record-size-spec : {M : Type 1} → statement M
 record-size-spec =
