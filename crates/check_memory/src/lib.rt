@@ -96,7 +96,7 @@ fn are_files(m: &[u8], starts: &[u32], last: usize) -> bool
 {
     let mut i = 0;
     while i < HALVES {
-        if !check_strings::are_records(string_at(m, starts, 32 + i), last) {
+        if !check_strings::are_records(string_at(m, starts, Machine::EXPRESSIONS + i), last) {
             return false;
         }
         i += 1;
@@ -143,7 +143,7 @@ fn file_sums(m: &[u8], starts: &[u32]) -> Sums
     let mut count = 0;
     let mut i = 0;
     while i < HALVES {
-        let v = string_at(m, starts, 32 + i);
+        let v = string_at(m, starts, Machine::EXPRESSIONS + i);
         let t = records::totals_of(v);
         let q = records::count(v, records::RecordTest::First(matching::Test::All), v);
         parts += t.parts;
@@ -192,7 +192,7 @@ pub fn is_distinct(m: &[u8], starts: &[u32], list: &mut [u32]) -> bool
     let mut n = 0;
     let mut i = 0;
     while i < HALVES {
-        n = check_addresses::collect(string_at(m, starts, 32 + i), list, n);
+        n = check_addresses::collect(string_at(m, starts, Machine::EXPRESSIONS + i), list, n);
         i += 1;
     }
     check_addresses::are_different(&list[..n])

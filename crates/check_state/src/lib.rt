@@ -111,5 +111,12 @@ pub fn is_state(table: &[u32], i1: &[u8], i2: &[u8], state: &[u8]) -> bool
     }
     let mut starts = [0u32; 99];
     let mut list = [0u32; 256];
-    is_passed(table, i1, i2, &state[..40960], &mut starts, &mut list)
+    is_passed(
+        table,
+        i1,
+        i2,
+        &state[..Machine::STATE],
+        &mut starts,
+        &mut list,
+    )
 }
