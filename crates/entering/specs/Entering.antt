@@ -101,11 +101,6 @@ pub record Enterable-item (P : Item → Type 0) (s : List ℕ) (t : Token) (c : 
   pub held : Held c
   pub as-asked : P (item-of s t)
 
--- the number of a code in range
-pub record Codable (c : List ℕ) (code : ℕ) : Type 0 where
-  pub held : Held c
-  pub small : code ≤ 16777214
-
 -- whatever number has this code
 abbrev pub AddsCode : ℕ → List ℕ → Bool → List ℕ → Type 0
 AddsCode n c r d = (z : ℤ) → IsNumber n z no-program → Adds sameNumber (λ p. p .numbers) set-numbers z c r d

@@ -34,17 +34,17 @@ module _ (c w : List ℕ) where
 
 -- ---- numbers
 
-near : (z : ℤ) → natAbs z ≤ limit.size → 8388592 ≤ code z → code z ≤ 8388622 → natAbs z ≤ limit.small
+pub near : (z : ℤ) → natAbs z ≤ limit.size → 8388592 ≤ code z → code z ≤ 8388622 → natAbs z ≤ limit.small
 unfolding code
 near (pos n) s l h = omega arith
 near (negsuc n) s l h = omega arith
 
-far-below : (z : ℤ) → natAbs z ≤ limit.size → code z < 8388592 → limit.small < natAbs z
+pub far-below : (z : ℤ) → natAbs z ≤ limit.size → code z < 8388592 → limit.small < natAbs z
 unfolding code
 far-below (pos n) s l = omega arith
 far-below (negsuc n) s l = omega arith
 
-far-above : (z : ℤ) → natAbs z ≤ limit.size → 8388622 < code z → limit.small < natAbs z
+pub far-above : (z : ℤ) → natAbs z ≤ limit.size → 8388622 < code z → limit.small < natAbs z
 unfolding code
 far-above (pos n) s l = omega arith
 far-above (negsuc n) s l = omega arith
