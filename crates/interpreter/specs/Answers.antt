@@ -1,0 +1,10 @@
+-- What the calls for C promise: the answer in one number, and the lent cells afterwards.
+use mathlib.Core.Path.{_≡_}
+use mathlib.Core.List.{List}
+use Prim.Native.Nat.{ℕ}
+use Rattle.calls.specs.Calls.{reply-answer, Result}
+
+-- r is the answer of x, and m is what x leaves in the state memory
+pub record Answers (x : Result) (r : ℕ) (m : List ℕ) : Type 0 where
+  pub answer : r ≡ reply-answer (x .reply)
+  pub cells : m ≡ x .cells
