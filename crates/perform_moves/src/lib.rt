@@ -94,7 +94,7 @@ fn print(
 {
     let s = decoding::source_of(x);
     let j = decoding::index_of(y);
-    moves::pisz(
+    printing::pisz(
         table,
         pool,
         ends,
