@@ -1,8 +1,8 @@
 -- RW of all components of an expression, by T.
-use mathlib.Core.Path.{_≡_, refl, sym, ap, _∙_, subst}
-use mathlib.Core.Bool.{Bool, true, false, cond, _&&_}
+use mathlib.Core.Path.{_≡_, refl, sym, ap, _∙_}
+use mathlib.Core.Bool.{Bool, true, false, cond}
 use mathlib.Core.List.{List}
-use Prim.Native.Nat.{ℕ, _≤_}
+use Prim.Native.Nat.{ℕ}
 use lib.ListN.{take}
 use Rattle.lists.specs.Lists.{any, filled}
 use Rattle.language.specs.Limits as limit
@@ -31,7 +31,7 @@ use Rattle.comparands.specs.Offers.{ArgumentOffers}
 use Rattle.comparands.specs.declared.Held.{Held}
 use Rattle.equality.specs.Equality.{test-of}
 use Rattle.equality.proofs.Meeting.{met}
-use Rattle.equality.proofs.Rows.{offer-by, numeric}
+use Rattle.equality.proofs.Questions.{offer-by, numeric}
 
 abbrev any-by : Bool → Bool → Bool → Bool → Asks
 any-by s c fy nu = none & when s (ask 52 fy) & none & when c (ask 53 nu)
@@ -50,12 +50,12 @@ stop-any true false false nu = refl
 stop-any true true true nu = refl
 stop-any true true false nu = refl
 
-kept-or-minus : (b : Bool) (s : Store) → cond b s (minus s) ≡ minus-unless b s
+pub kept-or-minus : (b : Bool) (s : Store) → cond b s (minus s) ≡ minus-unless b s
 unfolding minus minus-unless with-plus
 kept-or-minus true s = refl
 kept-or-minus false s = refl
 
-minus-last : (b : Bool) (s : Store) → minus-unless b s .last ≡ s .last
+pub minus-last : (b : Bool) (s : Store) → minus-unless b s .last ≡ s .last
 unfolding minus-unless with-plus
 minus-last b s = refl
 

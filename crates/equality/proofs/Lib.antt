@@ -1,3 +1,4 @@
 pub mod Meeting
+pub mod Questions
 pub mod Rows
 pub mod Anys

@@ -15,7 +15,7 @@ ghost use Rattle.comparands.specs.Offers.{OtherLetter};
 ghost use Rattle.equality.specs.Equality.{test-of, OtherArgument, Singles, Alikeable, Unlike, related, settled, Finishable, Settleable, Relatable};
 
 // What a component is compared by: a class, or the components beside.
-fn test_of(arg: table::Argument) -> matching::Test
+pub fn test_of(arg: table::Argument) -> matching::Test
     ensures { λ r. ⌜ r ≡ test-of arg ⌝ }
 {
     match arg {
@@ -36,7 +36,7 @@ fn is_one(l: table::Letter) -> bool
 }
 
 // Whether an argument offers a single component.
-fn is_single(arg: table::Argument) -> bool
+pub fn is_single(arg: table::Argument) -> bool
     requires { ⌜ OtherArgument arg ⌝ }
     ensures { λ r. ⌜ Singles arg r ⌝ }
 {
@@ -52,7 +52,7 @@ fn is_single(arg: table::Argument) -> bool
 }
 
 // Whether an argument offers a single component of another kind than the one in front of `x`.
-fn unlike(x: &[u8], given: &[u8], arg: table::Argument) -> bool
+pub fn unlike(x: &[u8], given: &[u8], arg: table::Argument) -> bool
     requires { ⌜ Alikeable (now x) (now given) arg ⌝ }
     ensures { λ r. ⌜ Unlike (now (x .entry)) (now (given .entry)) arg r ⌝ }
 {

@@ -3,10 +3,12 @@ use borrow.Author.Needs.{needs}
 use native.Mathlib.Omega.{arith}
 use mathlib.Core.List.{[]}
 use Rattle.packed.specs.Packed.{table-of}
+use Rattle.state.specs.Working.{state-at}
 use Rattle.layout.specs.ComponentLaws.{whole-components}
 use Rattle.tests.proofs.Values.{leading}
 use Rattle.equality.proofs.Meeting.{filled-there}
-use Rattle.equality.proofs.Rows.{held-long, leading-other, rw-none, rw-stop, rw-unlike, rw-done}
+use Rattle.equality.proofs.Questions.{leading-other}
+use Rattle.equality.proofs.Rows.{held-long, rw-none, rw-stop, rw-unlike, rw-done}
 use Rattle.equality.proofs.rw_one.Statement.{statement}
 use Rattle.equality.proofs.rw_one.Tie as tie
 use Rattle.equality.proofs.rw_one.Reads as reads
@@ -76,7 +78,7 @@ unlike-requires c κs =
     let preᶜ = c .before .before .before .before .before .before .before .before .before .before .before .before .before .before .before .before .before .pre in
     let argsᶜ = c .before .before .before .before .before .before .before .before .before .before .before .before .before .before .before .before .before .args in
     let put-comparandᶜ = c .before .before .before .before .before .before .before .before .put-comparand in
-    record { left = leading (expr-bytesᶜ .ensures .whole) (if1ᶜ .left); right = λ m. leading-other (preᶜ .other .stands) (argsᶜ .removes) (argsᶜ .i) (argsᶜ .table .now) (argsᶜ .arg) (put-comparandᶜ .ensures) (expr-bytesᶜ .ensures) (if1ᶜ .left) (c .before .if2 .left) [] (m (table-of (argsᶜ .table .now))); form = preᶜ .other .form }
+    record { left = leading (expr-bytesᶜ .ensures .whole) (if1ᶜ .left); right = λ m. leading-other (argsᶜ .table .now) (state-at (argsᶜ .pool .now) (argsᶜ .ends .now) (argsᶜ .nums .now) .store) (argsᶜ .arg) (put-comparandᶜ .ensures) (c .before .if2 .left) [] (m (table-of (argsᶜ .table .now))); form = preᶜ .other .form }
 
 same-length-7 : tie.Need-same-length-7
 same-length-7 c = search needs
