@@ -72,7 +72,7 @@ code-least letter-T = omega arith
 code-least Y = omega arith
 code-least Z = omega arith
 
-letter-of-code : (l : Letter) → letter-of (letter-code l) ≡ l
+pub letter-of-code : (l : Letter) → letter-of (letter-code l) ≡ l
 letter-of-code A = refl
 letter-of-code B = refl
 letter-of-code C = refl
@@ -86,7 +86,7 @@ letter-of-code letter-T = refl
 letter-of-code Y = refl
 letter-of-code Z = refl
 
-first-is : (w : List ℕ) (f : ℕ) (r : Lettered w f) → headOr 0 w ≡ letter-code (r .by)
+pub first-is : (w : List ℕ) (f : ℕ) (r : Lettered w f) → headOr 0 w ≡ letter-code (r .by)
 first-is w f r =
     eqb→eq (headOr 0 w) (letter-code (r .by)) (T-left (eqb (headOr 0 w) (letter-code (r .by))) (is-index (indices (use-of (r .by) .var)) (drop 1 w)) (r .indexed))
 
