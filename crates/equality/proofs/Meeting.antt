@@ -37,7 +37,7 @@ map-same : (xs : List Component) → map (λ x. x) xs ≡ xs
 map-same [] = refl
 map-same (x ∷ xs) = ap (λ l. x ∷ l) (map-same xs)
 
-or-false : (b : Bool) → (b || false) ≡ b
+pub or-false : (b : Bool) → (b || false) ≡ b
 or-false true = refl
 or-false false = refl
 

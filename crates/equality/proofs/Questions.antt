@@ -37,10 +37,10 @@ equal-by s c fx fy al nu = ask 52 fx & when s (ask 52 fy) & when s (ask 53 al) &
 abbrev pub offer-by : Bool → Bool → Bool → Bool → Asks
 offer-by s c fy nu = when s (ask 52 fy) & when c (ask 53 nu)
 
-abbrev unlike-by : Bool → Bool → Bool
+abbrev pub unlike-by : Bool → Bool → Bool
 unlike-by s al = cond s (cond al false true) false
 
-quiet-by : (s c fx fy al nu : Bool) → Quiet (equal-by s c fx fy al nu)
+pub quiet-by : (s c fx fy al nu : Bool) → Quiet (equal-by s c fx fy al nu)
 quiet-by true true fx fy al nu = record { is-50 = refl; is-55 = refl; is-56 = refl; is-57 = refl; is-58 = refl; is-59 = refl; is-60 = refl }
 quiet-by true false fx fy al nu = record { is-50 = refl; is-55 = refl; is-56 = refl; is-57 = refl; is-58 = refl; is-59 = refl; is-60 = refl }
 quiet-by false true fx fy al nu = record { is-50 = refl; is-55 = refl; is-56 = refl; is-57 = refl; is-58 = refl; is-59 = refl; is-60 = refl }
@@ -52,7 +52,7 @@ none-by true false fy al nu = refl
 none-by false true fy al nu = refl
 none-by false false fy al nu = refl
 
-some-by : (s c fy al nu : Bool) → stop-of (equal-by s c true fy al nu) ≡ cond (eqb (stop-of (offer-by s c fy nu)) 0) (cond (unlike-by s al) 53 0) (stop-of (offer-by s c fy nu))
+pub some-by : (s c fy al nu : Bool) → stop-of (equal-by s c true fy al nu) ≡ cond (eqb (stop-of (offer-by s c fy nu)) 0) (cond (unlike-by s al) 53 0) (stop-of (offer-by s c fy nu))
 some-by false false fy al nu = refl
 some-by false true fy al true = refl
 some-by false true fy al false = refl

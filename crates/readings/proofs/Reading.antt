@@ -44,7 +44,7 @@ module _ {p e n input : List ℕ} {i : ℕ} (v : Unread p e n input i) {from : �
   abbrev rest : List ℕ
   rest = drop (read-place s i) input
 
-  lent-is : lent ≡ rest
+  pub lent-is : lent ≡ rest
   lent-is = take-all (length input - from) (drop from input) (rw (length-drop from input) (omega arith)) ∙ ap (λ (m : ℕ). drop m input) (a .is)
 
   pub from-inside : from ≤ length input

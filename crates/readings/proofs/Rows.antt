@@ -66,10 +66,10 @@ passed-last u input i s = refl
 
 -- ---- the input of an index
 
-first-is : (a b : List ℕ) (i : ℕ) → i ≡ 0 → input-of a b i ≡ a
+pub first-is : (a b : List ℕ) (i : ℕ) → i ≡ 0 → input-of a b i ≡ a
 first-is a b i q = rw q refl
 
-second-is : (a b : List ℕ) (i : ℕ) → (i ≡ 0 → ⊥) → i < 2 → input-of a b i ≡ b
+pub second-is : (a b : List ℕ) (i : ℕ) → (i ≡ 0 → ⊥) → i < 2 → input-of a b i ≡ b
 second-is a b zero z h = absurd (z refl)
 second-is a b (suc zero) z h = refl
 second-is a b (suc (suc i)) z h = absurd (omega (arith, h))
