@@ -1,5 +1,5 @@
 -- An instruction of a well-formed table: its arguments by the forms listed for them, and what is promised of it from what is promised of its operands.
-use mathlib.Core.Path.{_≡_, refl, sym, subst}
+use mathlib.Core.Path.{_≡_, sym, subst}
 use mathlib.Core.List.{List, [], _∷_}
 use Prim.Native.Nat.{ℕ, _≤_, _<_}
 use Prim.Native.String.{String}
@@ -15,7 +15,7 @@ use Rattle.language.specs.Program.Arg.{nothing}
 use Rattle.layout.specs.Table.{program-of}
 use Rattle.machine.specs.Effects.{row}
 use Rattle.packed.specs.Packed.{table-of}
-use Rattle.decoding.specs.Operands.{Named, Shaped, Listed}
+use Rattle.decoding.specs.Operands.{Named, Shaped}
 use Rattle.decoding.specs.OperandLaws.{named, no-argument, shape}
 use Rattle.instructions.specs.Does.{DoesFor}
 use Rattle.instructions.specs.Operands.{OneOperand, TwoOperands}
