@@ -1,0 +1,18 @@
+use borrow.Author.Needs.{needs}
+use native.Mathlib.Omega.{arith}
+use mathlib.Core.Bool.{Bool, true, false, not, Bool·beq}
+use mathlib.Core.Path.{_≡_, refl}
+use Rattle.lookup.proofs.Places.{beq-true, beq-false}
+use Rattle.lookup.proofs.agree.Statement.{statement}
+use Rattle.lookup.proofs.agree.Tie as tie
+use Rattle.lookup.proofs.agree.Reads as reads
+use Rattle.lookup.proofs.agree.Lts as lts
+
+returns : tie.Need-returns
+returns c = rw (c .if1 .taken) (beq-true (c .before .args .b))
+
+returns-2 : tie.Need-returns-2
+returns-2 c = rw (c .if1 .left) (beq-false (c .before .args .b))
+
+pub agree-spec : {M : Type 1} → statement M
+agree-spec = tie.close (tie.spec returns returns-2)

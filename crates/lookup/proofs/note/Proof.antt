@@ -1,0 +1,21 @@
+use borrow.Author.Needs.{needs}
+use native.Mathlib.Omega.{arith}
+use mathlib.Core.Path.{_≡_, refl, ap, sym, _∙_}
+use Rattle.lookup.proofs.Faults.{joined-none}
+use Rattle.lookup.proofs.note.Statement.{statement}
+use Rattle.lookup.proofs.note.Tie as tie
+use Rattle.lookup.proofs.note.Reads as reads
+use Rattle.lookup.proofs.note.Lts as lts
+use Rattle.lookup.proofs.lower.Reads as lower-reads
+
+returns : tie.Need-returns
+returns c = rw (c .if1 .taken) (joined-none (c .before .args .f))
+
+lower-requires : tie.Need-lower-requires
+lower-requires c κs = search needs
+
+returns-2 : tie.Need-returns-2
+returns-2 c = rw (c .before .if1 .left) (c .lower .ensures)
+
+pub note-spec : {M : Type 1} → statement M
+note-spec = tie.close (tie.spec returns lower-requires returns-2)
