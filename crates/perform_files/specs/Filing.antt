@@ -1,18 +1,11 @@
 -- What the instructions of files and constants ask. c is the table, p, e and n are pool, ends and scalars; scratch, hold and given are how long
 -- the further buffers are.
-use mathlib.Core.Path.{_≡_}
 use mathlib.Core.List.{List, [], _∷_}
 use Prim.Native.Nat.{ℕ}
 use lib.Dec.{T}
 use Rattle.lists.specs.Lists.{among}
 use Rattle.table.specs.declared.Argument.{Argument}
-use Rattle.table.specs.declared.Argument.the-variants.{Text}
 use Rattle.performing.specs.Operating.{Carrying}
-
--- it is a text
-pub record IsText (a : Argument) : Type 0 where
-  pub reference : ℕ
-  pub is : a ≡ Text reference
 
 -- KOPIUJ, WSTAW, POBIERZ, SCHOWAJ, USTAW, ZAMIEN, UMIESC, SKRESL, OMIN and COFNIJ
 abbrev pub file-operators : List ℕ

@@ -1,9 +1,7 @@
 // The instructions of files and constants, from their arguments. Each tells 0, or the question answered no.
-ghost use mathlib.Core.Path.{_≡_};
 ghost use lib.ListN.{length};
-ghost use Rattle.table.specs.declared.Argument.the-variants.{Text};
 ghost use Rattle.performing.specs.Operating.{Carrying, PerformsFor};
-ghost use Rattle.perform_files.specs.Filing.{IsText, Filing};
+ghost use Rattle.perform_files.specs.Filing.{Filing};
 
 // KOPIUJ.
 fn do_kopiuj(
@@ -103,135 +101,6 @@ fn do_pobierz(
     )
 }
 
-// SCHOWAJ.
-fn do_schowaj(
-    table: &[u32],
-    pool: &mut [u8],
-    ends: &mut [u32],
-    nums: &mut [u32],
-    scratch: &mut [u8],
-    hold: &mut [u8],
-    given: &[u8],
-    x: table::Argument,
-    y: table::Argument,
-    z: table::Argument,
-) -> u8
-    requires { ⌜ Carrying (now table) (now pool) (now ends) (now nums) 7 x y z (length (now scratch)) (length (now hold)) (length (now given)) ⌝ }
-    ensures { λ r. ⌜ PerformsFor (now (table .entry)) (now (pool .entry)) (now (ends .entry)) (now (nums .entry)) r (now (pool .exit)) (now (ends .exit)) (now (nums .exit)) ⌝ }
-{
-    let i = decoding::index_of(x);
-    let t = decoding::target_of(y);
-    pointers::schowaj(pool, ends, nums, scratch, hold, i, t.at_end, t.j)
-}
-
-// USTAW.
-fn do_ustaw(
-    table: &[u32],
-    pool: &mut [u8],
-    ends: &mut [u32],
-    nums: &mut [u32],
-    scratch: &mut [u8],
-    hold: &mut [u8],
-    given: &[u8],
-    x: table::Argument,
-    y: table::Argument,
-    z: table::Argument,
-) -> u8
-    requires { ⌜ Carrying (now table) (now pool) (now ends) (now nums) 8 x y z (length (now scratch)) (length (now hold)) (length (now given)) ⌝ }
-    ensures { λ r. ⌜ PerformsFor (now (table .entry)) (now (pool .entry)) (now (ends .entry)) (now (nums .entry)) r (now (pool .exit)) (now (ends .exit)) (now (nums .exit)) ⌝ }
-{
-    let s = decoding::source_of(x);
-    let j = decoding::index_of(y);
-    pointers::ustaw(pool, ends, nums, scratch, hold, s.removes, s.i, j)
-}
-
-// ZAMIEN of expressions or of files.
-fn do_zamien(
-    table: &[u32],
-    pool: &mut [u8],
-    ends: &mut [u32],
-    nums: &[u32],
-    scratch: &mut [u8],
-    hold: &mut [u8],
-    given: &[u8],
-    x: table::Argument,
-    y: table::Argument,
-    z: table::Argument,
-) -> u8
-    requires { ⌜ Carrying (now table) (now pool) (now ends) (now nums) 9 x y z (length (now scratch)) (length (now hold)) (length (now given)) ⌝ }
-    ensures { λ r. ⌜ PerformsFor (now (table .entry)) (now (pool .entry)) (now (ends .entry)) (now (nums .entry)) r (now (pool .exit)) (now (ends .exit)) (now (nums .entry)) ⌝ }
-{
-    let i = decoding::index_of(x);
-    let j = decoding::index_of(y);
-    match decoding::variable_of(x) {
-        decoding::Variable::Expression => pointers::zamien_exprs(
-            pool,
-            ends,
-            nums,
-            scratch,
-            hold,
-            i,
-            j,
-        ),
-        _ => pointers::zamien_files(pool, ends, nums, scratch, hold, i, j),
-    }
-}
-
-// The reference of a text.
-fn text_of(a: table::Argument) -> usize
-    requires { ⌜ IsText a ⌝ }
-    ensures { λ r. ⌜ a ≡ Text r ⌝ }
-{
-    match a {
-        table::Argument::Text(v) => v,
-        _ => 0,
-    }
-}
-
-// UMIESC to a file, an output or an expression.
-fn do_umiesc(
-    table: &[u32],
-    pool: &mut [u8],
-    ends: &mut [u32],
-    nums: &mut [u32],
-    scratch: &mut [u8],
-    hold: &mut [u8],
-    given: &mut [u8],
-    x: table::Argument,
-    y: table::Argument,
-    z: table::Argument,
-) -> u8
-    requires { ⌜ Carrying (now table) (now pool) (now ends) (now nums) 10 x y z (length (now scratch)) (length (now hold)) (length (now given)) ⌝ }
-    ensures { λ r. ⌜ PerformsFor (now (table .entry)) (now (pool .entry)) (now (ends .entry)) (now (nums .entry)) r (now (pool .exit)) (now (ends .exit)) (now (nums .exit)) ⌝ }
-{
-    match decoding::variable_of(y) {
-        decoding::Variable::File => {
-            let t = decoding::file_of(y);
-            constants::umiesc_file(
-                table,
-                pool,
-                ends,
-                nums,
-                scratch,
-                hold,
-                given,
-                t.removes,
-                t.i,
-                x,
-            )
-        }
-        decoding::Variable::Output => {
-            let j = decoding::index_of(y);
-            let v = text_of(x);
-            constants::umiesc_output(table, pool, ends, nums, scratch, j, v)
-        }
-        _ => {
-            let t = decoding::target_of(y);
-            constants::umiesc_expr(table, pool, ends, nums, scratch, hold, t.at_end, t.j, x)
-        }
-    }
-}
-
 // SKRESL.
 fn do_skresl(
     table: &[u32],
@@ -272,26 +141,6 @@ fn do_omin(
     copying::omin(table, pool, ends, nums, scratch, hold, given, i, y)
 }
 
-// COFNIJ.
-fn do_cofnij(
-    table: &[u32],
-    pool: &mut [u8],
-    ends: &mut [u32],
-    nums: &[u32],
-    scratch: &mut [u8],
-    hold: &mut [u8],
-    given: &[u8],
-    x: table::Argument,
-    y: table::Argument,
-    z: table::Argument,
-) -> u8
-    requires { ⌜ Carrying (now table) (now pool) (now ends) (now nums) 40 x y z (length (now scratch)) (length (now hold)) (length (now given)) ⌝ }
-    ensures { λ r. ⌜ PerformsFor (now (table .entry)) (now (pool .entry)) (now (ends .entry)) (now (nums .entry)) r (now (pool .exit)) (now (ends .exit)) (now (nums .entry)) ⌝ }
-{
-    let i = decoding::index_of(x);
-    pointers::cofnij(pool, ends, nums, scratch, hold, i)
-}
-
 // The instruction of an operator by its number.
 pub fn perform_file(
     op: usize,
@@ -313,12 +162,12 @@ pub fn perform_file(
         4 => do_kopiuj(table, pool, ends, nums, scratch, hold, given, x, y, z),
         5 => do_wstaw(table, pool, ends, nums, scratch, hold, given, x, y, z),
         6 => do_pobierz(table, pool, ends, nums, scratch, hold, given, x, y, z),
-        7 => do_schowaj(table, pool, ends, nums, scratch, hold, given, x, y, z),
-        8 => do_ustaw(table, pool, ends, nums, scratch, hold, given, x, y, z),
-        9 => do_zamien(table, pool, ends, nums, scratch, hold, given, x, y, z),
-        10 => do_umiesc(table, pool, ends, nums, scratch, hold, given, x, y, z),
+        7 => perform_pointers::do_schowaj(table, pool, ends, nums, scratch, hold, given, x, y, z),
+        8 => perform_pointers::do_ustaw(table, pool, ends, nums, scratch, hold, given, x, y, z),
+        9 => perform_pointers::do_zamien(table, pool, ends, nums, scratch, hold, given, x, y, z),
+        10 => perform_pointers::do_umiesc(table, pool, ends, nums, scratch, hold, given, x, y, z),
         12 => do_skresl(table, pool, ends, nums, scratch, hold, given, x, y, z),
         39 => do_omin(table, pool, ends, nums, scratch, hold, given, x, y, z),
-        _ => do_cofnij(table, pool, ends, nums, scratch, hold, given, x, y, z),
+        _ => perform_pointers::do_cofnij(table, pool, ends, nums, scratch, hold, given, x, y, z),
     }
 }

@@ -2,7 +2,7 @@
 use borrow.Author.Needs.{needs}
 use mathlib.Core.Path.{refl}
 use Rattle.performing.specs.CarryingLaws.{first-named, second-named, third-none, performed}
-use Rattle.perform_files.proofs.Operands.{target-is}
+use Rattle.perform_pointers.proofs.Operands.{target-is}
 use Rattle.perform_files.proofs.do_pobierz.Statement.{statement}
 use Rattle.perform_files.proofs.do_pobierz.Tie as tie
 

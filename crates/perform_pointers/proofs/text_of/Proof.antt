@@ -1,8 +1,8 @@
--- `perform_files::text_of` meets its contract.
+-- `perform_pointers::text_of` meets its contract.
 use borrow.Author.Needs.{needs}
-use Rattle.perform_files.proofs.Operands.{text-left}
-use Rattle.perform_files.proofs.text_of.Statement.{statement}
-use Rattle.perform_files.proofs.text_of.Tie as tie
+use Rattle.perform_pointers.proofs.Operands.{text-left}
+use Rattle.perform_pointers.proofs.text_of.Statement.{statement}
+use Rattle.perform_pointers.proofs.text_of.Tie as tie
 
 enum-known-a : tie.Need-enum-known-a
 enum-known-a c = search needs

@@ -1,12 +1,12 @@
--- `perform_files::do_schowaj` meets its contract.
+-- `perform_pointers::do_schowaj` meets its contract.
 use borrow.Author.Needs.{needs}
 use mathlib.Core.Path.{refl}
 use Rattle.language.specs.Letters as letters
 use Rattle.decoding.specs.OperandLaws.{indexed-is, indexed-below}
 use Rattle.performing.specs.CarryingLaws.{first-named, second-named, third-none, two-operands, performed}
-use Rattle.perform_files.proofs.Operands.{target-is}
-use Rattle.perform_files.proofs.do_schowaj.Statement.{statement}
-use Rattle.perform_files.proofs.do_schowaj.Tie as tie
+use Rattle.perform_pointers.proofs.Operands.{target-is}
+use Rattle.perform_pointers.proofs.do_schowaj.Statement.{statement}
+use Rattle.perform_pointers.proofs.do_schowaj.Tie as tie
 
 index-of-requires : tie.Need-index-of-requires
 index-of-requires c κs =

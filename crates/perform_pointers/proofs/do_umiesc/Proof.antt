@@ -1,13 +1,13 @@
--- `perform_files::do_umiesc` meets its contract.
+-- `perform_pointers::do_umiesc` meets its contract.
 use borrow.Author.Needs.{needs}
 use mathlib.Core.Path.{refl, ap}
 use Rattle.language.specs.Letters as letters
 use Rattle.table.specs.Denote.{arg-of}
 use Rattle.decoding.specs.OperandLaws.{indexed-is, indexed-below}
 use Rattle.performing.specs.CarryingLaws.{performed}
-use Rattle.perform_files.proofs.Operands.{target-is, placeable, fileable, text-placeable, constant, none-third, put-lettered, to-file, to-output, to-expr}
-use Rattle.perform_files.proofs.do_umiesc.Statement.{statement}
-use Rattle.perform_files.proofs.do_umiesc.Tie as tie
+use Rattle.perform_pointers.proofs.Operands.{target-is, placeable, fileable, text-placeable, constant, none-third, put-lettered, to-file, to-output, to-expr}
+use Rattle.perform_pointers.proofs.do_umiesc.Statement.{statement}
+use Rattle.perform_pointers.proofs.do_umiesc.Tie as tie
 
 variable-of-requires : tie.Need-variable-of-requires
 variable-of-requires c κs =

@@ -1,11 +1,11 @@
--- `perform_files::do_ustaw` meets its contract.
+-- `perform_pointers::do_ustaw` meets its contract.
 use borrow.Author.Needs.{needs}
 use mathlib.Core.Path.{refl}
 use Rattle.language.specs.Letters as letters
 use Rattle.decoding.specs.OperandLaws.{indexed-is, indexed-below}
 use Rattle.performing.specs.CarryingLaws.{first-named, second-named, third-none, two-operands, performed}
-use Rattle.perform_files.proofs.do_ustaw.Statement.{statement}
-use Rattle.perform_files.proofs.do_ustaw.Tie as tie
+use Rattle.perform_pointers.proofs.do_ustaw.Statement.{statement}
+use Rattle.perform_pointers.proofs.do_ustaw.Tie as tie
 
 source-of-requires : tie.Need-source-of-requires
 source-of-requires c κs =

@@ -1,11 +1,11 @@
--- `perform_files::do_cofnij` meets its contract.
+-- `perform_pointers::do_cofnij` meets its contract.
 use borrow.Author.Needs.{needs}
 use mathlib.Core.Path.{refl}
 use Rattle.language.specs.Letters as letters
 use Rattle.decoding.specs.OperandLaws.{indexed-is, indexed-below}
 use Rattle.performing.specs.CarryingLaws.{first-named, second-none, third-none, one-operand, performed}
-use Rattle.perform_files.proofs.do_cofnij.Statement.{statement}
-use Rattle.perform_files.proofs.do_cofnij.Tie as tie
+use Rattle.perform_pointers.proofs.do_cofnij.Statement.{statement}
+use Rattle.perform_pointers.proofs.do_cofnij.Tie as tie
 
 index-of-requires : tie.Need-index-of-requires
 index-of-requires c κs =

@@ -1,11 +1,11 @@
--- `perform_files::do_zamien` meets its contract.
+-- `perform_pointers::do_zamien` meets its contract.
 use borrow.Author.Needs.{needs}
 use Rattle.language.specs.Letters as letters
 use Rattle.decoding.specs.OperandLaws.{indexed-is, indexed-below}
 use Rattle.performing.specs.CarryingLaws.{performed}
-use Rattle.perform_files.proofs.Operands.{both-lettered, of-exprs, of-files, exprs, files}
-use Rattle.perform_files.proofs.do_zamien.Statement.{statement}
-use Rattle.perform_files.proofs.do_zamien.Tie as tie
+use Rattle.perform_pointers.proofs.Operands.{both-lettered, of-exprs, of-files, exprs, files}
+use Rattle.perform_pointers.proofs.do_zamien.Statement.{statement}
+use Rattle.perform_pointers.proofs.do_zamien.Tie as tie
 
 index-of-requires : tie.Need-index-of-requires
 index-of-requires c κs =
