@@ -1,6 +1,6 @@
 -- One value comes to a table, unless it is there or the table is full.
 use mathlib.Core.Path.{_≡_, refl, sym, ap, _∙_, subst}
-use mathlib.Core.Bool.{Bool, true, false, cond, not, _&&_, _||_}
+use mathlib.Core.Bool.{Bool, true, false, cond, not, _&&_, _||_, true≢false}
 use mathlib.Core.List.{List, [], _∷_, _++_}
 use Prim.Native.Nat.{ℕ, suc, _≤_, _<_}
 use native.Mathlib.Omega.{arith}
@@ -51,6 +51,7 @@ module _ {X : Type 0} (equal : X → X → Bool) (table-of : Program → List X)
         record {
           told = λ p h. rw (there p h) refl;
           holds = λ q p h. subst (λ (y : Program). HoldsProgram c y) (sym (ap (λ (a : Bool). set-table (cond a (table-of p) (table-of p ++ (x ∷ []))) p) (there p h) ∙ laws .same p)) h;
+          same = λ q. absurd (true≢false q);
           beyond-same = refl;
         }
 
@@ -64,6 +65,7 @@ module _ {X : Type 0} (equal : X → X → Bool) (table-of : Program → List X)
         record {
           told = λ p h. rw (missing p h, le-leb 128 (length (table-of p)) (omega (arith, e, m p h))) refl;
           holds = λ q. absurd (let y : _≡_ {A = ℕ} 0 1 = cc in omega arith);
+          same = λ q. refl;
           beyond-same = refl;
         }
 
@@ -73,6 +75,7 @@ module _ {X : Type 0} (equal : X → X → Bool) (table-of : Program → List X)
         record {
           told = λ p h. rw (missing p h, lt-leb 128 (length (table-of p)) (omega (arith, e, m p h, laws .most c p h))) refl;
           holds = λ q p h. rw (missing p h) (g p h);
+          same = λ q. absurd (true≢false q);
           beyond-same = w;
         }
 
@@ -84,6 +87,7 @@ module _ {X : Type 0} (equal : X → X → Bool) (value-of : Item → X) (passes
       record {
         told = λ p h. rw e refl;
         holds = λ q p h. rw e (subst (λ (y : Program). HoldsProgram c y) (sym (laws .same p)) h);
+        same = λ q. absurd (true≢false q);
         beyond-same = refl;
       }
 
@@ -91,7 +95,7 @@ module _ {X : Type 0} (equal : X → X → Bool) (value-of : Item → X) (passes
       → EntersOne equal value-of passes table-of set-table i c r d
   enters-value e {r} {d} x q h =
       let k = subst (λ (y : X). Adds equal table-of set-table y c r d) q h in
-      record { told = λ p g. rw e (k .told p g); holds = λ z p g. rw e (k .holds z p g); beyond-same = k .beyond-same }
+      record { told = λ p g. rw e (k .told p g); holds = λ z p g. rw e (k .holds z p g); same = k .same; beyond-same = k .beyond-same }
 
 -- a text of a token
 long-text-is : {s : List ℕ} {t : Token} → Stands s t → {r : Bool} → r ≡ (eqb 4 (t .sort) && ltb 1 (t .len)) → long-text (item-of s t) ≡ r

@@ -67,6 +67,7 @@ module _ {X : Type 0} (equal : X → X → Bool) (value-of : Item → X) (passes
             holds = λ q p g. subst (λ (v : List X). HoldsProgram d (set-table v p))
                 (sym (u .reached p g .list ∙ ap (λ (js : List Item). all-added equal value-of passes (u .reached p g .table) js) (at-stop k z) ∙ append-nil (u .reached p g .table)))
                 (u .reached p g .holds);
+            still = λ p g. record { table = u .reached p g .table; holds = u .reached p g .holds };
             beyond-same = u .beyond-same;
           }
         where
@@ -106,6 +107,10 @@ module _ {X : Type 0} (equal : X → X → Bool) (value-of : Item → X) (passes
               record {
                 told = λ p g. sym (u .reached p g .fault ∙ ap (λ (ys : List Item). fault-of (excess equal value-of passes (now-of p g) ys)) (at-item k z) ∙ here p g);
                 holds = λ e. absurd (let y : _≡_ {A = ℕ} 0 1 = cc in omega arith);
+                still = λ p g. record {
+                  table = now-of p g;
+                  holds = subst (λ (e : List ℕ). HoldsProgram e (set-table (now-of p g) p)) (sym (h .same q)) (u .reached p g .holds);
+                };
                 beyond-same = h .beyond-same ∙ u .beyond-same;
               }
             where

@@ -1,6 +1,6 @@
 -- Texts and numbers of a statement that come to the tables: "different texts longer than one character", "different numbers beyond 15 in size".
 use mathlib.Core.Path.{_≡_}
-use mathlib.Core.Bool.{Bool, true, cond, not, _&&_}
+use mathlib.Core.Bool.{Bool, true, false, cond, not, _&&_}
 use mathlib.Core.List.{List, [], _∷_, _++_, map}
 use Prim.Native.Nat.{ℕ, _≤_}
 use lib.Dec.{T, leb, ltb}
@@ -70,11 +70,17 @@ pub record Enterable (P : Item → Type 0) (s : List ℕ) (n : ℕ) (c : List �
   pub held : Held c
   pub within : Each P (statement-at s n)
 
--- Whatever program p the cells c hold: the places in excess are told; where there is none, the cells d hold p with all values added
+-- the cells d hold p with some other table
+pub record Still {X : Type 0} (set-table : List X → Program → Program) (p : Program) (d : List ℕ) : Type 0 where
+  pub table : List X
+  pub holds : HoldsProgram d (set-table table p)
+
+-- Whatever program p the cells c hold: the places in excess are told; where there is none, the cells d hold p with all values added, and else with some of them
 pub record Enters {X : Type 0} (equal : X → X → Bool) (value-of : Item → X) (passes : Item → Bool) (table-of : Program → List X) (set-table : List X → Program → Program)
     (s : List ℕ) (n : ℕ) (c : List ℕ) (r : Fault) (d : List ℕ) : Type 0 where
   pub told : (p : Program) → HoldsProgram c p → r ≡ fault-of (excess equal value-of passes (table-of p) (statement-at s n))
   pub holds : r ≡ Clear → (p : Program) → HoldsProgram c p → HoldsProgram d (set-table (all-added equal value-of passes (table-of p) (statement-at s n)) p)
+  pub still : (p : Program) → HoldsProgram c p → Still set-table p d
   pub beyond-same : drop limit.table d ≡ drop limit.table c
 
 -- one item of the statement: whether it is told to have a place, and the cells with its value
@@ -83,12 +89,14 @@ pub record EntersOne {X : Type 0} (equal : X → X → Bool) (value-of : Item �
   pub told : (p : Program) → HoldsProgram c p → r ≡ not (passes i && full equal (value-of i) (table-of p))
   pub holds : r ≡ true → (p : Program) → HoldsProgram c p
       → HoldsProgram d (set-table (cond (passes i) (added equal (value-of i) (table-of p)) (table-of p)) p)
+  pub same : r ≡ false → d ≡ c
   pub beyond-same : drop limit.table d ≡ drop limit.table c
 
 -- one value
 pub record Adds {X : Type 0} (equal : X → X → Bool) (table-of : Program → List X) (set-table : List X → Program → Program) (x : X) (c : List ℕ) (r : Bool) (d : List ℕ) : Type 0 where
   pub told : (p : Program) → HoldsProgram c p → r ≡ not (full equal x (table-of p))
   pub holds : r ≡ true → (p : Program) → HoldsProgram c p → HoldsProgram d (set-table (added equal x (table-of p)) p)
+  pub same : r ≡ false → d ≡ c
   pub beyond-same : drop limit.table d ≡ drop limit.table c
 
 pub record Addable (c : List ℕ) (n : ℕ) : Type 0 where

@@ -1,0 +1,198 @@
+-- Question 11 of an instruction from its parts: the lower fault of two rows of places.
+use mathlib.Core.Path.{_≡_, refl, sym, ap, _∙_, subst}
+use mathlib.Core.Bool.{Bool, true, false}
+use mathlib.Core.List.{List, [], _∷_, _++_, map}
+use Prim.Native.Nat.{ℕ, zero, suc, _+_, _-_, _≤_, _<_, min}
+use native.Mathlib.Omega.{arith}
+use native.Mathlib.Numerals.{add-one}
+use lib.ListN.{length, getD, take, drop, length-drop}
+use lib.Seq.{take-suc, getD-drop, drop-drop}
+use Rattle.drafts.specs.Marks.{place-by}
+use Rattle.entering.specs.Entering.{Held, Enterable, Enters, Short-item, Ranged-item, long-text, large-number, set-texts, set-numbers, all-added}
+use Rattle.language.specs.Limits as limit
+use Rattle.language.specs.Program.{Program}
+use Rattle.language.specs.Values.{sameNumber}
+use Rattle.lists.specs.Lists.{sameBytes}
+use Rattle.statements.specs.StatementAt.{statement-at, fault-of}
+use Rattle.statements.specs.declared.Fault.{Fault}
+use Rattle.statements.specs.declared.Fault.the-variants.{Clear, At}
+use Rattle.syntax.specs.LoadLaws.{lowest-append}
+use Rattle.syntax.specs.Questions.{beyond}
+use Rattle.syntax.specs.Tables.{number-in}
+use Rattle.syntax.specs.Verdict.{lowest}
+use Rattle.writing.specs.Writing.{HoldsProgram}
+use Rattle.writing.proofs.Held.{code-count, label-count}
+use Rattle.declaring.specs.Declaring.{lower, marks-in, texts-excess, numbers-excess, Over, Labels-told, Instr-told, instr-excess, with-values, Judgeable, Judges}
+
+lowest-min : (a y : ℕ) (ys : List ℕ) → lowest (min a y) ys ≡ min a (lowest y ys)
+unfolding lowest
+lowest-min a y [] = refl
+lowest-min a y (z ∷ ys) =
+    let e : min (min a y) z ≡ min a (min y z) = omega arith in
+    ap (λ (m : ℕ). lowest m ys) e ∙ lowest-min a (min y z) ys
+
+pub fault-both : (xs ys : List ℕ) → fault-of (xs ++ ys) ≡ lower (fault-of xs) (fault-of ys)
+unfolding lowest
+fault-both [] ys = refl
+fault-both (x ∷ xs) [] = ap At (lowest-append x xs [])
+fault-both (x ∷ xs) (y ∷ ys) = ap At (lowest-append x xs (y ∷ ys) ∙ lowest-min (lowest x xs) y ys)
+
+pub lower-clear : (a b : Fault) → lower a b ≡ Clear → (a ≡ Clear) × (b ≡ Clear)
+lower-clear Clear b e = (refl, e)
+lower-clear (At p) Clear e = absurd (let y : _≡_ {A = ℕ} 0 1 = cc in omega arith)
+lower-clear (At p) (At q) e = absurd (let y : _≡_ {A = ℕ} 0 1 = cc in omega arith)
+
+pub lower-none : (a b : Fault) → a ≡ Clear → b ≡ lower a b
+lower-none a b e = sym (ap (λ (f : Fault). lower f b) e)
+
+module _ (a b : Fault) {p : ℕ} where
+  pub lower-one : a ≡ At p → b ≡ Clear → At p ≡ lower a b
+  lower-one e f = sym (ap (λ (x : Fault). lower x b) e ∙ ap (λ (x : Fault). lower (At p) x) f)
+
+  pub lower-two : {q r : ℕ} → a ≡ At p → b ≡ At q → r ≡ min p q → At r ≡ lower a b
+  lower-two {q} {r} e f g = ap At g ∙ sym (ap (λ (x : Fault). lower x b) e ∙ ap (λ (x : Fault). lower (At p) x) f)
+
+-- ---- the marks one by one
+
+module _ (ms : List ℕ) (a b : ℕ) (most : b ≤ length ms) where
+  -- those up to index k
+  pub marks-more : (k : ℕ) → a ≤ k → k < b → marks-in ms a (k + 1) ≡ marks-in ms a k ++ (getD ms k 0 ∷ [])
+  marks-more k l h =
+      let e : k + 1 - a ≡ suc (k - a) = omega arith in
+      let q : a + (k - a) ≡ k = omega arith in
+      ap (λ (m : ℕ). take m (drop a ms)) e
+      ∙ take-suc (drop a ms) (k - a) 0 (omega (arith, length-drop a ms))
+      ∙ ap (λ (m : ℕ). take (k - a) (drop a ms) ++ (m ∷ [])) (getD-drop a ms (k - a) 0 ∙ ap (λ (m : ℕ). getD ms m 0) q)
+
+  pub marks-none : marks-in ms a a ≡ []
+  marks-none = let e : a - a ≡ 0 = omega arith in ap (λ (m : ℕ). take m (drop a ms)) e
+
+  -- past the end there are none
+  pub marks-past : (k : ℕ) → b ≤ k → marks-in ms k b ≡ []
+  marks-past k h = let e : b - k ≡ 0 = omega arith in ap (λ (m : ℕ). take m (drop k ms)) e
+
+-- place k is reached, and low is the lowest up to it
+pub record Lowest (ms : List ℕ) (a b k : ℕ) (low : Fault) : Type 0 where
+  pub from : a ≤ k
+  pub most : k ≤ a + (b - a)
+  pub is : low ≡ fault-of (map place-by (marks-in ms a k))
+
+module _ (ms : List ℕ) (a b : ℕ) (most : b ≤ length ms) where
+  pub lowest-first : Lowest ms a b a Clear
+  lowest-first = record { from = omega arith; most = omega arith; is = sym (ap (λ (xs : List ℕ). fault-of (map place-by xs)) (marks-none ms a b most)) }
+
+  module _ {k : ℕ} {low : Fault} (h : Lowest ms a b k low) where
+    pub lowest-done : b ≤ k → low ≡ fault-of (map place-by (marks-in ms a b))
+    lowest-done l = let e : k - a ≡ b - a = omega (arith, h .from, h .most) in h .is ∙ ap (λ (m : ℕ). fault-of (map place-by (take m (drop a ms)))) e
+
+    pub lowest-more : k < b → {p : ℕ} {r : Fault} → p ≡ getD ms k 0 → r ≡ lower low (At (place-by p)) → Lowest ms a b (k + 1) r
+    unfolding lowest
+    lowest-more l {p} {r} e f =
+        record {
+          from = omega (arith, h .from);
+          most = omega (arith, h .from, h .most);
+          is = f ∙ ap (λ (x : Fault). lower x (At (place-by p))) (h .is)
+              ∙ ap (λ (m : ℕ). lower (fault-of (map place-by (marks-in ms a k))) (At (place-by m))) e
+              ∙ sym (fault-both (map place-by (marks-in ms a k)) (place-by (getD ms k 0) ∷ []))
+              ∙ ap fault-of (sym (mapped (marks-in ms a k) (getD ms k 0)))
+              ∙ ap (λ (xs : List ℕ). fault-of (map place-by xs)) (sym (marks-more ms a b most k (h .from) l));
+        }
+      where
+        mapped : (xs : List ℕ) (m : ℕ) → map place-by (xs ++ (m ∷ [])) ≡ map place-by xs ++ (place-by m ∷ [])
+        mapped [] m = refl
+        mapped (x ∷ xs) m = ap (λ (ys : List ℕ). place-by x ∷ ys) (mapped xs m)
+
+-- ---- labels and instructions in excess
+
+drop-take : {X : Type 0} (m n : ℕ) (xs : List X) → drop m (take n xs) ≡ take (n - m) (drop m xs)
+drop-take zero n xs = let e : n ≡ n - 0 = omega arith in ap (λ (k : ℕ). take k xs) e
+drop-take (suc m) zero xs = let e : 0 - suc m ≡ 0 = omega arith in sym (ap (λ (k : ℕ). take k (drop (suc m) xs)) e)
+drop-take {X} (suc m) (suc n) [] = sym (nothing (suc n - suc m))
+  where
+    nothing : (k : ℕ) → take {A = X} k [] ≡ []
+    nothing zero = refl
+    nothing (suc k) = refl
+drop-take (suc m) (suc n) (x ∷ xs) = let e : n - m ≡ suc n - suc m = omega arith in drop-take m n xs ∙ ap (λ (k : ℕ). take k (drop m xs)) e
+
+drop-map : {X Y : Type 0} (f : X → Y) (m : ℕ) (xs : List X) → drop m (map f xs) ≡ map f (drop m xs)
+drop-map f zero xs = refl
+drop-map f (suc m) [] = refl
+drop-map f (suc m) (x ∷ xs) = drop-map f m xs
+
+pub labels-over : {c : List ℕ} (ms : List ℕ) (a b room : ℕ) {r : Fault} → ((p : Program) → HoldsProgram c p → room ≡ 128 - length (p .labels))
+    → r ≡ fault-of (map place-by (marks-in ms (a + room) b)) → Labels-told c (marks-in ms a b) r
+labels-over {c} ms a b room {r} e f p h =
+    let q : b - (a + room) ≡ b - a - room = omega arith in
+    f
+    ∙ ap (λ (xs : List ℕ). fault-of (map place-by xs))
+    (ap (λ (m : ℕ). take m (drop (a + room) ms)) q ∙ ap (take (b - a - room)) (sym (drop-drop room a ms)) ∙ sym (drop-take room (b - a) (drop a ms)))
+    ∙ ap fault-of (sym (drop-map place-by room (marks-in ms a b)))
+    ∙ ap (λ (m : ℕ). fault-of (drop m (map place-by (marks-in ms a b)))) (e p h)
+
+module _ {c : List ℕ} {n : ℕ} (e : (p : Program) → HoldsProgram c p → n ≡ length (p .code)) (at : ℕ) where
+  pub instr-fits : n < 512 → Instr-told c at Clear
+  instr-fits l p h =
+      let q : 512 - length (p .code) ≡ suc (511 - length (p .code)) = omega (arith, e p h) in
+      sym (ap (λ (m : ℕ). fault-of (drop m (at ∷ []))) q ∙ none (511 - length (p .code)))
+    where
+      none : (m : ℕ) → fault-of (drop m []) ≡ Clear
+      none zero = refl
+      none (suc m) = refl
+
+  pub instr-over : 512 ≤ n → Instr-told c at (At at)
+  unfolding lowest
+  instr-over l p h =
+      let q : 512 - length (p .code) ≡ 0 = omega (arith, e p h) in
+      sym (ap (λ (m : ℕ). fault-of (drop m (at ∷ []))) q)
+
+-- ---- all of question 11
+
+module _ {s : List ℕ} {n : ℕ} {ms : List ℕ} {i j : ℕ} {c : List ℕ} (pre : Judgeable s n ms i j c) where
+  abbrev Texts : List ℕ → Fault → List ℕ → Type 0
+  Texts x r y = Enters sameBytes (λ i. i .chars) long-text (λ p. p .texts) set-texts s n x r y
+
+  abbrev Numbers : List ℕ → Fault → List ℕ → Type 0
+  Numbers x r y = Enters sameNumber number-in large-number (λ p. p .numbers) set-numbers s n x r y
+
+  pub texts-enterable : Enterable Short-item s n c
+  texts-enterable = record { inside = pre .inside; held = pre .over .held; within = pre .short }
+
+  module _ {tr : Fault} {d : List ℕ} (t : Texts c tr d) where
+    pub numbers-enterable : Enterable Ranged-item s n d
+    numbers-enterable =
+        let k = t .still (pre .over .held .program) (pre .over .held .holds) in
+        record { inside = pre .inside; held = record { program = _; holds = k .holds }; within = pre .ranged }
+
+    module _ {nr : Fault} {e : List ℕ} (u : Numbers d nr e) (at : ℕ) {ir lr : Fault} (a : Instr-told c at ir) (b : Labels-told c (marks-in ms i j) lr) where
+      numbers-told : (p : Program) → HoldsProgram c p → nr ≡ fault-of (numbers-excess s n p)
+      unfolding set-texts
+      numbers-told p h = u .told (set-texts (t .still p h .table) p) (t .still p h .holds)
+
+      pub judged : Judges s at n (marks-in ms i j) c (lower (lower (lower ir lr) tr) nr) e
+      unfolding instr-excess with-values set-texts
+      judged =
+          record {
+            told = λ p h.
+                parts (beyond limit.instructions (length (p .code)) (at ∷ [])) (beyond limit.labels (length (p .labels)) (map place-by (marks-in ms i j))) (texts-excess s n p) (numbers-excess s n p) (a p h) (b p h) (t .told p h) (numbers-told p h);
+            holds = λ q p h.
+                let f = lower-clear (lower (lower ir lr) tr) nr q in
+                let g = lower-clear (lower ir lr) tr (f .0) in
+                u .holds (f .1) _ (t .holds (g .1) p h);
+            beyond-same = u .beyond-same ∙ t .beyond-same;
+          }
+        where
+          parts : (xs ys zs ws : List ℕ) → ir ≡ fault-of xs → lr ≡ fault-of ys → tr ≡ fault-of zs → nr ≡ fault-of ws
+              → lower (lower (lower ir lr) tr) nr ≡ fault-of (xs ++ ys ++ zs ++ ws)
+          parts xs ys zs ws x y z w =
+              ap (λ (f : Fault). lower (lower (lower f lr) tr) nr) x
+              ∙ ap (λ (f : Fault). lower (lower (lower (fault-of xs) f) tr) nr) y
+              ∙ ap (λ (f : Fault). lower (lower (lower (fault-of xs) (fault-of ys)) f) nr) z
+              ∙ ap (λ (f : Fault). lower (lower (lower (fault-of xs) (fault-of ys)) (fault-of zs)) f) w
+              ∙ sym (fault-both (xs ++ ys ++ zs) ws
+              ∙ ap (λ (f : Fault). lower f (fault-of ws)) (fault-both (xs ++ ys) zs ∙ ap (λ (f : Fault). lower f (fault-of zs)) (fault-both xs ys)))
+
+-- the three steps of the code
+pub judged-by : {s : List ℕ} {at n : ℕ} {ms c d : List ℕ} (ir lr tr nr : Fault) {x y z : Fault} → Judges s at n ms c (lower (lower (lower ir lr) tr) nr) d
+    → x ≡ lower ir lr → y ≡ lower x tr → z ≡ lower y nr → Judges s at n ms c z d
+judged-by {s} {at} {n} {ms} {c} {d} ir lr tr nr {x} {y} {z} h e f g =
+    subst (λ (r : Fault). Judges s at n ms c r d) (sym (g ∙ ap (λ (r : Fault). lower r nr) (f ∙ ap (λ (r : Fault). lower r tr) e))) h

@@ -1,0 +1,130 @@
+-- Labels come to a program table mark by mark.
+use mathlib.Core.Path.{_≡_, refl, sym, ap, _∙_, subst}
+use mathlib.Core.List.{List, [], _∷_, _++_, map, append-assoc, append-nil}
+use Prim.Native.Nat.{ℕ, suc, _+_, _-_, _*_, _/_, _%_, _≤_, _<_}
+use native.Mathlib.Omega.{arith}
+use lib.ListN.{length, getD, take, drop, length-append, length-map, length-take, length-drop}
+use Rattle.cells.specs.Cells.{Number}
+use Rattle.drafts.specs.Marks.{place-by, length-by, word-by, Marked}
+use Rattle.entering.specs.Entering.{Held}
+use Rattle.language.specs.Limits as limit
+use Rattle.language.specs.Program.{Label, Program}
+use Rattle.layout.specs.Cells.{cell}
+use Rattle.packed.specs.Packed.{table-of}
+use Rattle.writing.specs.Writing.{HoldsProgram, Changes, LabelRoom, with-label, label-of}
+use Rattle.writing.proofs.Held.{label-count}
+use Rattle.declaring.specs.Declaring.{marks-in, with-labels, labels-by, Nameable, Labelling}
+use Rattle.declaring.proofs.Judging.{marks-more, marks-none}
+
+-- ---- one mark
+
+module _ {s : List ℕ} {m target : ℕ} {c : List ℕ} (h : Nameable s m target c) {k : ℕ} (e : k ≡ m) where
+  pub name-inside : k / 64 + k % 64 ≤ length s
+  name-inside = subst (λ (x : ℕ). x / 64 + x % 64 ≤ length s) (sym e) (h .marked)
+
+  pub name-is : take (k / 64 + k % 64 - k / 64) (drop (k / 64) s) ≡ word-by s m
+  unfolding word-by
+  name-is =
+      let q : k / 64 + k % 64 - k / 64 ≡ k % 64 = omega arith in
+      ap (λ (x : ℕ). take x (drop (k / 64) s)) q ∙ ap (λ (x : ℕ). take (x % 64) (drop (x / 64) s)) e
+
+  pub name-room : {n : ℕ} → n ≡ length (take (k / 64 + k % 64 - k / 64) (drop (k / 64) s)) → LabelRoom c n target
+  unfolding word-by
+  name-room {n} q =
+      let f : k % 64 ≡ m % 64 = ap (λ (x : ℕ). x % 64) e in
+      record { long = h .long; room = h .room; short = omega (arith, q, length-take (k / 64 + k % 64 - k / 64) (drop (k / 64) s), h .short, f); low = h .low }
+
+  pub name-put : {d : List ℕ} → Changes (with-label (label-of (take (k / 64 + k % 64 - k / 64) (drop (k / 64) s)) target)) c d
+      → Changes (with-label (label-of (word-by s m) target)) c d
+  name-put {d} g = subst (λ (w : List ℕ). Changes (with-label (label-of w target)) c d) name-is g
+
+-- ---- all of them
+
+pub record Putting (s ms : List ℕ) (a b target : ℕ) (c d : List ℕ) (k : ℕ) : Type 0 where
+  pub from : a ≤ k
+  pub most : k ≤ b
+  pub changes : Changes (with-labels (labels-by s target (marks-in ms a k))) c d
+  pub size : length d ≡ length c
+
+module _ {s ms : List ℕ} {a b target : ℕ} {c : List ℕ} (pre : Labelling s ms a b target c) where
+  abbrev new : ℕ → List Label
+  new k = labels-by s target (marks-in ms a k)
+
+  pub putting-first : Putting s ms a b target c c a
+  unfolding with-labels
+  putting-first =
+      record {
+        from = omega arith;
+        most = pre .named .order;
+        changes = record { holds = λ p h. subst (λ (q : Program). HoldsProgram c q) (sym (unchanged p)) h; beyond = refl };
+        size = refl;
+      }
+    where
+      unchanged : (p : Program) → with-labels (new a) p ≡ p
+      unchanged p =
+          ap (λ (ks : List ℕ). with-labels (labels-by s target ks) p) (marks-none ms a b (pre .named .most))
+          ∙ ap (λ (ls : List Label). record { code = p .code; labels = ls; switches = p .switches; texts = p .texts; numbers = p .numbers }) (append-nil (p .labels))
+
+  module _ {d : List ℕ} {k : ℕ} (h : Putting s ms a b target c d k) where
+    pub putting-done : b ≤ k → Changes (with-labels (labels-by s target (marks-in ms a b))) c d
+    putting-done l = let e : k ≡ b = omega (arith, h .most) in subst (λ (m : ℕ). Changes (with-labels (new m)) c d) e (h .changes)
+
+    module _ (l : k < b) where
+      held-then : Held d
+      held-then = record { program = _; holds = h .changes .holds (pre .held .program) (pre .held .holds) }
+
+      count-then : cell (table-of d) 1 ≡ cell (table-of c) 1 + (k - a)
+      unfolding with-labels
+      count-then =
+          let p = pre .held .program in
+          omega (
+            arith,
+            label-count d (with-labels (new k) p) (h .changes .holds p (pre .held .holds)),
+            label-count c p (pre .held .holds),
+            length-append (p .labels) (new k),
+            length-map (marks-in ms a k) (λ m. label-of (word-by s m) target),
+            length-take (k - a) (drop a ms),
+            length-drop a ms,
+            h .from,
+            pre .named .most,
+          )
+
+      pub nameable : {m : ℕ} → m ≡ getD ms k 0 → Nameable s m target d
+      nameable {m} e =
+          record {
+            marked = subst (λ (x : ℕ). Marked s x) (sym e) (pre .named .marked k l);
+            short = subst (λ (x : ℕ). length-by x ≤ limit.item) (sym e) (pre .named .short k l);
+            long = held-then .holds .long;
+            room = omega (arith, count-then, pre .room, h .from);
+            low = pre .low;
+          }
+
+      pub putting-more : {m : ℕ} → m ≡ getD ms k 0 → {d′ : List ℕ} → Changes (with-label (label-of (word-by s m) target)) d d′ → length d′ ≡ length d
+          → Putting s ms a b target c d′ (k + 1)
+      unfolding with-labels with-label
+      putting-more {m} e {d′} g z =
+          record {
+            from = omega (arith, h .from);
+            most = omega arith;
+            changes =
+                record {
+                  holds = λ p u. subst (λ (q : Program). HoldsProgram d′ q) (more p) (g .holds (with-labels (new k) p) (h .changes .holds p u));
+                  beyond = g .beyond ∙ h .changes .beyond;
+                };
+            size = z ∙ h .size;
+          }
+        where
+          one : Label
+          one = label-of (word-by s m) target
+
+          mapped : (xs : List ℕ) → map (λ x. label-of (word-by s x) target) (xs ++ (m ∷ [])) ≡ map (λ x. label-of (word-by s x) target) xs ++ (label-of (word-by s m) target ∷ [])
+          mapped [] = refl
+          mapped (x ∷ xs) = ap (λ (ys : List Label). label-of (word-by s x) target ∷ ys) (mapped xs)
+
+          more : (p : Program) → with-label (label-of (word-by s m) target) (with-labels (new k) p) ≡ with-labels (new (k + 1)) p
+          more p =
+              ap (λ (ls : List Label). record { code = p .code; labels = ls; switches = p .switches; texts = p .texts; numbers = p .numbers })
+              (append-assoc (p .labels) (new k) (label-of (word-by s m) target ∷ [])
+              ∙ ap (λ (ls : List Label). p .labels ++ ls)
+              (sym (mapped (marks-in ms a k))
+              ∙ ap (labels-by s target) (ap (λ (x : ℕ). marks-in ms a k ++ (x ∷ [])) e ∙ sym (marks-more ms a b (pre .named .most) k (h .from) l))))

@@ -1,0 +1,166 @@
+// A judged statement with an instruction comes to the program table: question 11, then its labels, its texts and numbers, and the instruction.
+ghost use mathlib.Core.Path.{_≡_};
+ghost use mathlib.Core.List.{map};
+ghost use Prim.Native.Nat.{_/_, _≤_, min};
+ghost use lib.ListN.{length};
+ghost use Rattle.cells.specs.Cells.{Number};
+ghost use Rattle.drafts.specs.Marks.{place-by, word-by};
+ghost use Rattle.statements.specs.StatementAt.{fault-of};
+ghost use Rattle.writing.specs.Writing.{Changes, with-label, label-of};
+ghost use Rattle.declaring.specs.Declaring.{lower, marks-in, with-labels, labels-by, Named, Nameable, Labelling, Over, Labels-told, Instr-told, Judgeable, Judges, Writable, WritesInstr, Declarable, Declares};
+use argument_cells::nth_cell;
+use language::Machine;
+use lexer::Token;
+use statements::Fault;
+
+// The lower of two places at fault.
+pub fn lower(a: Fault, b: Fault) -> Fault
+    ensures { λ r. ⌜ r ≡ lower a b ⌝ }
+{
+    match a {
+        Fault::Clear => b,
+        Fault::At(p) => match b {
+            Fault::Clear => Fault::At(p),
+            Fault::At(q) => Fault::At(lesser(p, q)),
+        },
+    }
+}
+
+fn lesser(p: usize, q: usize) -> usize
+    ensures { λ r. ⌜ r ≡ min p q ⌝ }
+{
+    if p <= q {
+        return p;
+    }
+    q
+}
+
+fn wide(m: u32) -> usize
+    ensures { λ r. ⌜ Number m 4294967296 r ⌝ }
+{
+    m as usize
+}
+
+// The lowest place of the names of the marks from index `from` to index `to`.
+fn lowest_mark(names: &[u32], from: usize, to: usize) -> Fault
+    requires { ⌜ to ≤ length (now names) ⌝ }
+    ensures { λ r. ⌜ r ≡ fault-of (map place-by (marks-in (now (names .entry)) from to)) ⌝ }
+{
+    let mut low = Fault::Clear;
+    let mut k = from;
+    while k < to {
+        low = lower(low, Fault::At(wide(names[k]) / 64));
+        k += 1;
+    }
+    low
+}
+
+// The lowest of the labels in excess.
+fn labels_beyond(table: &[u32], names: &[u32], from: usize, to: usize) -> Fault
+    requires { ⌜ Over (now table) (now names) from to ⌝ }
+    ensures { λ r. ⌜ Labels-told (now (table .entry)) (marks-in (now (names .entry)) from to) r ⌝ }
+{
+    let room = Machine::LABELS - table::labels(table);
+    lowest_mark(names, from + room, to)
+}
+
+// The operator's place, where the instruction is one in excess.
+fn instruction_beyond(table: &[u32], at: usize) -> Fault
+    requires { ⌜ 8192 ≤ length (now table) ⌝ }
+    ensures { λ r. ⌜ Instr-told (now (table .entry)) at r ⌝ }
+{
+    if table::instructions(table) < Machine::INSTRUCTIONS {
+        return Fault::Clear;
+    }
+    Fault::At(at)
+}
+
+// Question 11 of an instruction whose operator stands at `at` and whose arguments begin at `next`; its texts and numbers come to the table.
+pub fn judge_instruction(
+    text: &[u8],
+    at: usize,
+    next: usize,
+    names: &[u32],
+    from: usize,
+    to: usize,
+    table: &mut [u32],
+) -> Fault
+    requires { ⌜ Judgeable (now text) next (now names) from to (now table) ⌝ }
+    ensures { λ r. ⌜ Judges (now (text .entry)) at next (marks-in (now (names .entry)) from to) (now (table .entry)) r (now (table .exit)) ⌝ }
+{
+    let a = instruction_beyond(table, at);
+    let b = labels_beyond(table, names, from, to);
+    let c = entering::enter_texts(text, next, table);
+    let d = entering::enter_numbers(text, next, table);
+    lower(lower(lower(a, b), c), d)
+}
+
+// Adds the label of a mark.
+fn put_name(text: &[u8], m: u32, target: usize, table: &mut [u32])
+    requires { ⌜ Nameable (now text) m target (now table) ⌝ }
+    ensures { λ _. ⌜ Changes (with-label (label-of (word-by (now (text .entry)) m) target)) (now (table .entry)) (now (table .exit)) ⌝ }
+{
+    let k = wide(m);
+    let at = k / 64;
+    let end = at + k % 64;
+    writing::put_label(table, &text[at..end], target);
+}
+
+// Adds the labels of the marks from index `from` to index `to`.
+fn put_labels(text: &[u8], names: &[u32], from: usize, to: usize, target: usize, table: &mut [u32])
+    requires { ⌜ Labelling (now text) (now names) from to target (now table) ⌝ }
+    ensures { λ _. ⌜ Changes (with-labels (labels-by (now (text .entry)) target (marks-in (now (names .entry)) from to))) (now (table .entry)) (now (table .exit)) ⌝ }
+{
+    let mut k = from;
+    while k < to {
+        put_name(text, names[k], target, table);
+        k += 1;
+    }
+}
+
+// Adds the labels and the instruction by its number, its line and its arguments, which begin at `next`.
+fn write_instruction(
+    text: &[u8],
+    next: usize,
+    number: u8,
+    line: usize,
+    names: &[u32],
+    from: usize,
+    to: usize,
+    table: &mut [u32],
+)
+    requires { ⌜ Writable (now text) next number line (now names) from to (now table) ⌝ }
+    ensures { λ _. ⌜ WritesInstr (now (text .entry)) next number line (marks-in (now (names .entry)) from to) (now (table .entry)) (now (table .exit)) ⌝ }
+{
+    let target = table::instructions(table);
+    put_labels(text, names, from, to, target, table);
+    let x = nth_cell(text, next, number, 0, table);
+    let y = nth_cell(text, next, number, 1, table);
+    let z = nth_cell(text, next, number, 2, table);
+    writing::put_instruction(table, cells::wide(number), line, x, y, z);
+}
+
+// Question 11 of an instruction with the operator `op`, and where it is answered yes, the instruction with the labels of the marks from index `from` to index `to`.
+pub fn declare_instruction(
+    text: &[u8],
+    op: Token,
+    number: u8,
+    line: usize,
+    names: &[u32],
+    from: usize,
+    to: usize,
+    table: &mut [u32],
+) -> Fault
+    requires { ⌜ Declarable (now text) op number line (now names) from to (now table) ⌝ }
+    ensures { λ r. ⌜ Declares (now (text .entry)) op number line (marks-in (now (names .entry)) from to) (now (table .entry)) r (now (table .exit)) ⌝ }
+{
+    let at = op.at;
+    let next = op.next;
+    match judge_instruction(text, at, next, names, from, to, table) {
+        Fault::At(p) => Fault::At(p),
+        Fault::Clear => {
+            write_instruction(text, next, number, line, names, from, to, table);
+            Fault::Clear
+        }
+    }
+}
