@@ -1,3 +1,4 @@
+-- `lookup::argument_fault` meets its contract.
 use borrow.Author.Needs.{needs}
 use native.Mathlib.Omega.{arith}
 use denote.Ref.{now}

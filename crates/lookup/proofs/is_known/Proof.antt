@@ -1,3 +1,4 @@
+-- `lookup::is_known` meets its contract.
 use borrow.Author.Needs.{needs}
 use native.Mathlib.Omega.{arith}
 use Rattle.finding.proofs.Found.{labels-counted}

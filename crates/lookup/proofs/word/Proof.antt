@@ -1,3 +1,4 @@
+-- `lookup::word` meets its contract.
 use borrow.Author.Needs.{needs}
 use Rattle.lookup.proofs.Words.{word-cut}
 use Rattle.lookup.proofs.word.Statement.{statement}
@@ -6,31 +7,24 @@ use Rattle.lookup.proofs.word.Reads as reads
 use Rattle.lookup.proofs.word.Lts as lts
 use Rattle.lookup.proofs.least.Reads as least-reads
 
--- src/lib.rt:29:9
 least-requires : tie.Need-least-requires
 least-requires c κs = search needs
 
--- src/lib.rt:30:19
 add-least : tie.Need-add-least
 add-least c = search needs
 
--- src/lib.rt:30:9
 least-requires-2 : tie.Need-least-requires-2
 least-requires-2 c κs = search needs
 
--- src/lib.rt:31:5
 sub-result : tie.Need-sub-result
 sub-result c = search needs
 
--- src/lib.rt:31:5
 part-result-start : tie.Need-part-result-start
 part-result-start c = search needs
 
--- src/lib.rt:31:5
 part-result-end : tie.Need-part-result-end
 part-result-end c = search needs
 
--- src/lib.rt:25:1
 returns : tie.Need-returns
 returns c = word-cut _ _ _ _ (c .before .before .least .ensures) (c .before .least2 .ensures)
 
