@@ -228,7 +228,7 @@ short-input ins h k m =
     leb→le (length w) limit.input (T-left (leb (length w) limit.input) (all known w) (few f ins (T-right (eqb (length ins) limit.inputs) (all f ins) h) k m))
 
 module _ {c i j p e n : List ℕ} {op : ℕ} {x y z : Argument} {scratch hold given : ℕ} (w : Performing c i j p e n op x y z scratch hold given) where
-  unread : (k : ℕ) → k < limit.inputs → Unread p e n (input-of i j k) k
+  pub unread : (k : ℕ) → k < limit.inputs → Unread p e n (input-of i j k) k
   unfolding store-faults
   unread k m =
       let s = state-at p e n in
