@@ -25,7 +25,7 @@ use Rattle.layout.specs.Bounds.{Each}
 use Rattle.layout.specs.Cells.{code}
 use Rattle.layout.specs.Table.{letter-place, class-mask, number-ref, arg-cell}
 use Rattle.lexer.specs.declared.Token.{Token}
-use Rattle.lexer.specs.Tokens.{chars-of, word-of, item-of, Stands}
+use Rattle.lexer.specs.Tokens.{chars-of, word-of, item-of}
 use Rattle.lexer.proofs.Finding.{is-sort, word-chars, no-chars}
 use Rattle.lists.specs.Lists.{filled, headOr}
 use Rattle.lists.specs.ListLaws.{T-right}

@@ -1,15 +1,14 @@
 -- The labels and the instruction come to the table, after its texts and numbers.
-use mathlib.Core.Path.{_≡_, refl, sym, ap, _∙_, subst}
+use mathlib.Core.Path.{_≡_, refl, sym, _∙_, subst}
 use mathlib.Core.List.{List, [], _∷_, _++_, map}
 use Prim.Native.Nat.{ℕ, zero, suc, _+_, _-_, _≤_, _<_}
 use native.Mathlib.Omega.{arith}
 use lib.Dec.{T}
-use lib.ListN.{length, getD, take, drop, length-append, length-map, length-take, length-drop}
+use lib.ListN.{length, getD, drop, length-map, length-take, length-drop}
 use Rattle.acceptance.specs.RowLaws.{append-none, drop-none}
 use Rattle.cells.specs.Cells.{Number}
 use Rattle.drafts.specs.Marks.{place-by}
-use Rattle.entering.specs.Entering.{Held}
-use Rattle.language.specs.Instructions.{operation, operator-of}
+use Rattle.language.specs.Instructions.{operator-of}
 use Rattle.language.specs.Limits as limit
 use Rattle.language.specs.Program.{Arg, Label, Program}
 use Rattle.language.specs.Program.Arg.{nothing, letter, label, switch, class, text}
@@ -22,10 +21,10 @@ use Rattle.statements.specs.StatementAt.{fault-of}
 use Rattle.statements.specs.declared.Fault.{Fault}
 use Rattle.statements.specs.declared.Fault.the-variants.{Clear, At}
 use Rattle.syntax.specs.Questions.{beyond}
-use Rattle.writing.specs.Writing.{HoldsProgram, kept-arg, KeptInstr, Changes, Writes, InstrRoom, IsInstr, with-instr}
+use Rattle.writing.specs.Writing.{HoldsProgram, kept-arg, Changes, Writes, InstrRoom, IsInstr, with-instr}
 use Rattle.writing.proofs.Held.{code-count, label-count}
 use Rattle.argument_cells.specs.ArgumentCells.{Arguing, NthCell}
-use Rattle.declaring.specs.Declaring.{marks-in, with-labels, labels-by, Labelling, Judges, Judgeable, instr-excess, texts-excess, numbers-excess, with-values, draft-args, new-instr, Kept-args, with-labelled, Writable, WritesInstr, Declarable, Declares}
+use Rattle.declaring.specs.Declaring.{marks-in, with-labels, labels-by, Labelling, Judges, Judgeable, instr-excess, texts-excess, numbers-excess, with-values, draft-args, new-instr, with-labelled, Writable, WritesInstr, Declarable, Declares}
 
 -- ---- the instruction
 

@@ -1,19 +1,17 @@
 -- Question 11 of an instruction from its parts: the lower fault of two rows of places.
 use mathlib.Core.Path.{_≡_, refl, sym, ap, _∙_, subst}
-use mathlib.Core.Bool.{Bool, true, false}
 use mathlib.Core.List.{List, [], _∷_, _++_, map}
 use Prim.Native.Nat.{ℕ, zero, suc, _+_, _-_, _≤_, _<_, min}
 use native.Mathlib.Omega.{arith}
-use native.Mathlib.Numerals.{add-one}
 use lib.ListN.{length, getD, take, drop, length-drop}
 use lib.Seq.{take-suc, getD-drop, drop-drop}
 use Rattle.drafts.specs.Marks.{place-by}
-use Rattle.entering.specs.Entering.{Held, Enterable, Enters, Short-item, Ranged-item, long-text, large-number, set-texts, set-numbers, all-added}
+use Rattle.entering.specs.Entering.{Enterable, Enters, Short-item, Ranged-item, long-text, large-number, set-texts, set-numbers}
 use Rattle.language.specs.Limits as limit
 use Rattle.language.specs.Program.{Program}
 use Rattle.language.specs.Values.{sameNumber}
 use Rattle.lists.specs.Lists.{sameBytes}
-use Rattle.statements.specs.StatementAt.{statement-at, fault-of}
+use Rattle.statements.specs.StatementAt.{fault-of}
 use Rattle.statements.specs.declared.Fault.{Fault}
 use Rattle.statements.specs.declared.Fault.the-variants.{Clear, At}
 use Rattle.syntax.specs.LoadLaws.{lowest-append}
@@ -21,8 +19,7 @@ use Rattle.syntax.specs.Questions.{beyond}
 use Rattle.syntax.specs.Tables.{number-in}
 use Rattle.syntax.specs.Verdict.{lowest}
 use Rattle.writing.specs.Writing.{HoldsProgram}
-use Rattle.writing.proofs.Held.{code-count, label-count}
-use Rattle.declaring.specs.Declaring.{lower, marks-in, texts-excess, numbers-excess, Over, Labels-told, Instr-told, instr-excess, with-values, Judgeable, Judges}
+use Rattle.declaring.specs.Declaring.{lower, marks-in, texts-excess, numbers-excess, Labels-told, Instr-told, instr-excess, with-values, Judgeable, Judges}
 
 lowest-min : (a y : ℕ) (ys : List ℕ) → lowest (min a y) ys ≡ min a (lowest y ys)
 unfolding lowest

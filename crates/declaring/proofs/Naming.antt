@@ -1,11 +1,10 @@
 -- Labels come to a program table mark by mark.
 use mathlib.Core.Path.{_≡_, refl, sym, ap, _∙_, subst}
 use mathlib.Core.List.{List, [], _∷_, _++_, map, append-assoc, append-nil}
-use Prim.Native.Nat.{ℕ, suc, _+_, _-_, _*_, _/_, _%_, _≤_, _<_}
+use Prim.Native.Nat.{ℕ, _+_, _-_, _/_, _%_, _≤_, _<_}
 use native.Mathlib.Omega.{arith}
 use lib.ListN.{length, getD, take, drop, length-append, length-map, length-take, length-drop}
-use Rattle.cells.specs.Cells.{Number}
-use Rattle.drafts.specs.Marks.{place-by, length-by, word-by, Marked}
+use Rattle.drafts.specs.Marks.{length-by, word-by, Marked}
 use Rattle.entering.specs.Entering.{Held}
 use Rattle.language.specs.Limits as limit
 use Rattle.language.specs.Program.{Label, Program}

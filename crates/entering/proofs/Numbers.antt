@@ -1,28 +1,27 @@
 -- The number of a word comes to a table, by its code.
 use mathlib.Core.Path.{_≡_, refl, sym, ap, _∙_, subst}
-use mathlib.Core.Bool.{Bool, true, false, cond, _&&_, _||_, true≢false}
+use mathlib.Core.Bool.{Bool, true, false, cond, _&&_, _||_}
 use mathlib.Core.List.{List}
-use Prim.Native.Nat.{ℕ, _≤_, _<_}
+use Prim.Native.Nat.{ℕ, _≤_}
 use native.Mathlib.Omega.{arith}
-use lib.Dec.{T, eqb, leb, ltb}
+use lib.Dec.{T, eqb, ltb}
 use lib.IntN.{ℤ, natAbs}
 use borrow.Author.Tests.{lt-ltb, le-ltb, ltb-true, ltb-false, leb-true}
 use Rattle.language.specs.Limits as limit
-use Rattle.language.specs.Program.{Program}
 use Rattle.language.specs.Values.{sameNumber, numeral, valueOf, in-range}
 use Rattle.layout.specs.Cells.{code}
 use Rattle.finding.proofs.References.{near, far-below, far-above}
 use Rattle.heads.specs.HeadLaws.{word-passes, other-fails}
 use Rattle.lexer.specs.declared.Token.{Token}
-use Rattle.lexer.specs.Tokens.{chars-of, word-of, item-of, Stands}
+use Rattle.lexer.specs.Tokens.{chars-of, word-of, item-of}
 use Rattle.lexer.proofs.Finding.{is-sort, word-chars}
 use Rattle.syntax.specs.Items.{is}
 use Rattle.syntax.specs.Items.Sort.{word}
 use Rattle.syntax.specs.Tables.{number-in}
 use Rattle.words.specs.declared.Numeral.{Numeral}
 use Rattle.words.specs.Words.{numeral-of}
-use Rattle.writing.specs.Writing.{no-program, HoldsProgram, IsNumber}
-use Rattle.entering.specs.Entering.{Adds, AddsCode, EntersOne, Enterable-item, set-numbers, large-number, Ranged-item}
+use Rattle.writing.specs.Writing.{no-program, IsNumber}
+use Rattle.entering.specs.Entering.{AddsCode, EntersOne, Enterable-item, set-numbers, large-number, Ranged-item}
 use Rattle.entering.proofs.Adding.{numbers-laws, enters-past, enters-value}
 
 -- whether a word is a number beyond 15 in size

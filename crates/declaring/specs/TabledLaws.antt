@@ -1,0 +1,218 @@
+-- The tables of a text, kept as they are, take an instruction.
+use mathlib.Core.Path.{_≡_, refl, sym, ap, _∙_, subst}
+use mathlib.Core.Bool.{Bool, true, false, not, _||_}
+use mathlib.Core.List.{List, [], _∷_, _++_, map, map-append}
+use Prim.Native.Nat.{ℕ, _+_, _≤_}
+use native.Mathlib.Omega.{arith}
+use lib.Dec.{T}
+use lib.ListN.{length, getD, take, length-map}
+use lib.IntN.{ℤ}
+use Rattle.acceptance.specs.Drafts.{Sound-argument, Sound-written, Sound-tables}
+use Rattle.acceptance.specs.ReadingLaws.{Other, by-form, text-reads, as-word, arguments-of}
+use Rattle.acceptance.specs.RowLaws.{each-map, each-keep, each-mapped}
+use Rattle.drafts.specs.Drafting.{draft-arg, draft-instr, draft-program}
+use Rattle.drafts.specs.DraftingLaws.{place-back}
+use Rattle.drafts.specs.Marks.{mark, place-by, word-by}
+use Rattle.drafts.specs.Tabled.{Spelt, Tabled}
+use Rattle.entering.specs.Entering.{set-texts, set-numbers}
+use Rattle.heads.specs.Heads.{Headed}
+use Rattle.heads.specs.HeadLaws.{operator-here, rest-here}
+use Rattle.heads.specs.declared.Head.{Head}
+use Rattle.language.specs.Instructions.{operation, operator-of}
+use Rattle.language.specs.Limits as limit
+use Rattle.language.specs.Program.{Op, Arg, Instr, Label, Switch, Program}
+use Rattle.language.specs.Values.{numeral, valueOf, in-range}
+use Rattle.layout.specs.ArgumentLaws.{operator-back}
+use Rattle.layout.specs.Bounds.{Each}
+use Rattle.layout.specs.CellLaws.{each-append, each-right}
+use Rattle.lexer.specs.declared.Token.{Token}
+use Rattle.lexer.specs.Tokens.{item-of}
+use Rattle.lists.specs.Lists.{filled, ifAny}
+use Rattle.lists.specs.ListLaws.{T-left}
+use Rattle.statements.specs.StatementAt.{statement-at, stops, fault-of}
+use Rattle.statements.specs.declared.Fault.{Fault}
+use Rattle.statements.specs.declared.Fault.the-variants.{Clear}
+use Rattle.syntax.specs.ArgumentForms.{word-reads, Argument, alternatives, arguments-in, arguments}
+use Rattle.syntax.specs.Items.{Item, is, places, line-of}
+use Rattle.syntax.specs.Items.Sort.{word, colon, text}
+use Rattle.syntax.specs.Questions.{beyond, instr-beyond}
+use Rattle.syntax.specs.Statements.{behind, operator, operator-at, rest}
+use Rattle.syntax.specs.Tables.{Tables, contents, new-texts, new-numbers, number-in, with-instr}
+use Rattle.writing.specs.Writing as writing
+use Rattle.writing.specs.Writing.{HoldsProgram, kept-arg, label-of}
+use Rattle.declaring.specs.Declaring.{with-labels, labels-by, with-values, instr-excess, new-instr, with-labelled, Declares}
+
+-- the statement x whose operator is the token o, with labels ls of the marks ms
+pub record Operated (s : List ℕ) (x : List Item) (o : Token) : Type 0 where
+  pub operator-is : operator x ≡ item-of s o ∷ []
+  pub place-is : operator-at x ≡ o .at
+  pub rest-is : rest x ≡ statement-at s (o .next)
+
+pub operated : {s : List ℕ} {n : ℕ} {h : Head} → Headed s n h → stops (h .op .sort) ≡ false → Operated s (statement-at s n) (h .op)
+operated {s} {n} {h} g z =
+    record { operator-is = operator-here g z; place-is = place (behind (statement-at s n)) (item-of s (h .op)) (operator-here g z); rest-is = rest-here g z }
+  where
+    place : (ys : List Item) (i : Item) → take 1 ys ≡ i ∷ [] → ifAny 0 (λ y. y .at) ys ≡ i .at
+    place [] i e = absurd (let y : _≡_ {A = ℕ} 0 1 = cc in omega arith)
+    place (y ∷ ys) i e = let q : y ≡ i = cc in ap (λ (j : Item). j .at) q
+
+pub record Labelled (s : List ℕ) (ls : List Item) (ms : List ℕ) : Type 0 where
+  pub marks : ms ≡ map mark ls
+  pub spelt : Each (λ l. word-by s (mark l) ≡ l .chars) ls
+  pub short : Each (λ l. length (l .chars) ≤ limit.item) ls
+
+-- the labels' places and names by their marks
+pub mark-places : (ls : List Item) → Each (λ l. length (l .chars) ≤ limit.item) ls → map place-by (map mark ls) ≡ places ls
+mark-places [] h = refl
+mark-places (l ∷ ls) h =
+    ap (λ (p : ℕ). p ∷ map place-by (map mark ls)) (place-back (l .at) (length (l .chars)) (omega (arith, h .0)))
+    ∙ ap (λ (ps : List ℕ). l .at ∷ ps) (mark-places ls (h .1))
+
+module _ (s : List ℕ) where
+  pub mark-labels : (target : ℕ) (ls : List Item) → Each (λ l. word-by s (mark l) ≡ l .chars) ls
+      → labels-by s target (map mark ls) ≡ map (λ l. record { name = l .chars; target = target }) ls
+  mark-labels target [] h = refl
+  mark-labels target (l ∷ ls) h =
+      ap (λ (w : List ℕ). label-of w target ∷ labels-by s target (map mark ls)) (h .0)
+      ∙ ap (λ (ys : List Label). label-of (l .chars) target ∷ ys) (mark-labels target ls (h .1))
+
+-- ---- an argument that is kept
+
+module _ (i : Item) where
+  is-word : T (is word i || is text i || not (filled (i .chars))) → is text i ≡ false → T (filled (i .chars)) → T (is word i)
+  is-word h e k = go (is word i) (filled (i .chars)) (rw e at h) k
+    where
+      go : (a b : Bool) → T (a || false || not b) → T b → T a
+      go true b h k = tt
+      go false true h k = h
+      go false false h k = absurd k
+
+  numeral-filled : (w : List ℕ) → T (numeral w) → T (filled w)
+  numeral-filled [] h = absurd h
+  numeral-filled (x ∷ w) h = tt
+
+  module _ (n : ℕ) (p : Program) where
+    abbrev Sound : ℕ → Type 0
+    Sound f = Sound-argument n (p .texts) (p .numbers) (record { item = i; form = f })
+
+    abbrev Kept : ℕ → Type 0
+    Kept f = T (kept-arg p (draft-arg (record { item = i; form = f })))
+
+    kept-text : Sound 116 → Kept 116
+    unfolding draft-arg
+    kept-text a = a .kept .text-kept (subst T (sym (text-reads i 116 (a .as-form))) tt)
+
+    kept-number : Sound 110 → Kept 110
+    unfolding draft-arg word-reads
+    kept-number a =
+        let w = i .chars in
+        let k : T (numeral w) = T-left (numeral w) (in-range (valueOf w)) (as-word i 110 refl (a .as-form)) in
+        a .kept .number-kept (is-word (a .fine .sound .plain) (text-reads i 110 (a .as-form)) (numeral-filled w k)) k
+
+    kept-other : (f : ℕ) → Other f → Kept f
+    unfolding draft-arg
+    kept-other f o = rw (o .no-t, o .no-n, o .no-c, o .no-l, o .no-w, o .no-x) tt
+
+    kept-plain : Kept 99 × (Kept 108 × (Kept 119 × Kept 120))
+    unfolding draft-arg
+    kept-plain = (tt, (tt, (tt, tt)))
+
+    kept-form : (f : ℕ) → Sound f → Kept f
+    kept-form =
+        by-form (λ f. Sound f → Kept f) kept-text kept-number (λ a. kept-plain .0) (λ a. kept-plain .1 .0) (λ a. kept-plain .1 .1 .0) (λ a. kept-plain .1 .1 .1)
+        (λ f o a. kept-other f o)
+
+pub arguments-kept : (n : ℕ) (p : Program) (args : List Argument) → Each (Sound-argument n (p .texts) (p .numbers)) args → Each (λ a. T (kept-arg p a)) (map draft-arg args)
+arguments-kept n p args h = each-mapped (λ a. T (kept-arg p a)) draft-arg args (each-map _ _ (λ a e. kept-form (a .item) n p (a .form) e) args h)
+
+-- ---- the program of the tables
+
+same-program : {c d : List Instr} {l m : List Label} {w : List Switch} {t u : List (List ℕ)} {n o : List ℤ} → c ≡ d → l ≡ m → t ≡ u → n ≡ o
+    → _≡_ {A = Program} (record { code = c; labels = l; switches = w; texts = t; numbers = n }) (record { code = d; labels = m; switches = w; texts = u; numbers = o })
+same-program {c} {d} {l} {m} {w} {t} {u} {n} {o} e f g h =
+    ap (λ (x : List Instr). record { code = x; labels = l; switches = w; texts = t; numbers = n }) e
+    ∙ ap (λ (x : List Label). record { code = d; labels = x; switches = w; texts = t; numbers = n }) f
+    ∙ ap (λ (x : List (List ℕ)). record { code = d; labels = m; switches = w; texts = x; numbers = n }) g
+    ∙ ap (λ (x : List ℤ). record { code = d; labels = m; switches = w; texts = u; numbers = x }) h
+
+module _ (t : Tables) (op : Op) {s : List ℕ} {ls x : List Item} {o : Token} {ms : List ℕ} {number line : ℕ} (h : Operated s x o) (l : Labelled s ls ms)
+    (number-is : number ≡ operation op .number) (line-is : line ≡ line-of s (o .at)) where
+  abbrev p : Program
+  p = draft-program s t
+
+  op-is : operator-of number ≡ op
+  op-is = ap operator-of number-is ∙ operator-back op
+
+  instr-is : new-instr s (o .next) number line ≡ draft-instr s (record { op = op; at = operator-at x; args = arguments op (rest x) })
+  unfolding draft-instr
+  instr-is =
+      ap (λ (q : Op). instr-with q (statement-at s (o .next)) line) op-is
+      ∙ ap (λ (js : List Item). instr-with op js line) (sym (h .rest-is))
+      ∙ ap (λ (k : ℕ). instr-with op (rest x) k) (line-is ∙ ap (line-of s) (sym (h .place-is)))
+    where
+      instr-with : Op → List Item → ℕ → Instr
+      instr-with q js k =
+          record {
+            op = q;
+            line = k;
+            first = getD (map draft-arg (arguments q js)) 0 Arg.nothing;
+            second = getD (map draft-arg (arguments q js)) 1 Arg.nothing;
+            third = getD (map draft-arg (arguments q js)) 2 Arg.nothing;
+          }
+
+  pub program-is : with-labelled s (o .next) number line ms (with-values s (o .next) p) ≡ draft-program s (with-instr t ls x op)
+  unfolding with-labelled with-values set-numbers set-texts with-labels writing.with-instr draft-program with-instr
+  program-is =
+      same-program
+      (ap (λ (i : Instr). map (draft-instr s) (t .code) ++ (i ∷ [])) instr-is ∙ sym (map-append (draft-instr s) (t .code) (record { op = op; at = operator-at x; args = arguments op (rest x) } ∷ [])))
+      (ap (λ (xs : List Label). t .labels ++ xs)
+      (ap (λ (k : ℕ). labels-by s k ms) (length-map (t .code) (draft-instr s)) ∙ ap (labels-by s (length (t .code))) (l .marks) ∙ mark-labels s (length (t .code)) ls (l .spelt)))
+      (ap (λ (js : List Item). t .texts ++ contents (new-texts t js)) (sym (h .rest-is)))
+      (ap (λ (js : List Item). t .numbers ++ map number-in (new-numbers t js)) (sym (h .rest-is)))
+
+  pub excess-is : instr-excess s (o .at) (o .next) ms p ≡ instr-beyond t ls x
+  unfolding instr-excess instr-beyond draft-program
+  excess-is =
+      ap (λ (k : ℕ). beyond 512 k (o .at ∷ []) ++ beyond 128 (length (t .labels)) (map place-by ms) ++ texts (statement-at s (o .next)) ++ numbers (statement-at s (o .next))) (length-map (t .code) (draft-instr s))
+      ∙ ap (λ (ps : List ℕ). beyond 512 (length (t .code)) ps ++ beyond 128 (length (t .labels)) (map place-by ms) ++ texts (statement-at s (o .next)) ++ numbers (statement-at s (o .next))) (sym (ap places (h .operator-is)))
+      ∙ ap (λ (ps : List ℕ). beyond 512 (length (t .code)) (places (operator x)) ++ beyond 128 (length (t .labels)) ps ++ texts (statement-at s (o .next)) ++ numbers (statement-at s (o .next)))
+      (ap (map place-by) (l .marks) ∙ mark-places ls (l .short))
+      ∙ ap (λ (js : List Item). beyond 512 (length (t .code)) (places (operator x)) ++ beyond 128 (length (t .labels)) (places ls) ++ texts js ++ numbers js) (sym (h .rest-is))
+    where
+      texts : List Item → List ℕ
+      texts js = beyond 128 (length (t .texts)) (places (new-texts t js))
+
+      numbers : List Item → List ℕ
+      numbers js = beyond 128 (length (t .numbers)) (places (new-numbers t js))
+
+  module _ {c : List ℕ} {r : Fault} {d : List ℕ} (u : Declares s o number line ms c r d) where
+    -- question 11
+    pub instr-told : HoldsProgram c p → r ≡ fault-of (instr-beyond t ls x)
+    instr-told g = u .told p g ∙ ap fault-of excess-is
+
+    -- and the tables with the instruction
+    module _ {sw en : List ℕ} (v : Tabled s t c sw en) (sound : Sound-tables (length s) (with-instr t ls x op)) (spelt : Each (Spelt s) (rest x)) where
+      own-argument : Each (Sound-argument (length s) (with-values s (o .next) p .texts) (with-values s (o .next) p .numbers)) (arguments (operator-of number) (statement-at s (o .next)))
+      unfolding with-instr with-values set-numbers set-texts draft-program
+      own-argument =
+          subst (λ (q : Op). Each (Sound-argument (length s) (with-values s (o .next) p .texts) (with-values s (o .next) p .numbers)) (arguments q (statement-at s (o .next)))) (sym op-is)
+          (subst (λ (js : List Item). Each (Sound-argument (length s) (t .texts ++ contents (new-texts t js)) (t .numbers ++ map number-in (new-numbers t js))) (arguments op js)) (h .rest-is)
+          (each-right (Sound-written (length s) (t .texts ++ contents (new-texts t (rest x))) (t .numbers ++ map number-in (new-numbers t (rest x)))) (t .code) _ (sound .code) .0 .each-argument))
+
+      pub instr-tabled : r ≡ Clear → Tabled s (with-instr t ls x op) d sw en
+      unfolding with-instr
+      instr-tabled e =
+          record {
+            sound = sound;
+            holds = subst (λ (q : Program). HoldsProgram d q) program-is
+                (u .holds e p (v .holds) (arguments-kept (length s) (with-values s (o .next) p) (arguments (operator-of number) (statement-at s (o .next))) own-argument));
+            spelt-arguments =
+                each-append (λ w. Each (λ a. Spelt s (a .item)) (w .args)) (t .code) _ (v .spelt-arguments)
+                (arguments-of (Spelt s) (arguments-in (rest x)) (alternatives op) (each-keep (Spelt s) (λ i. not (is colon i)) (rest x) spelt), tt);
+            spelt-entries = v .spelt-entries;
+            switch-room = v .switch-room;
+            switch-names = v .switch-names;
+            switch-marked = v .switch-marked;
+            entry-room = v .entry-room;
+            entry-marks = v .entry-marks;
+          }
