@@ -111,7 +111,7 @@ drop-take {X} (suc m) (suc n) [] = sym (nothing (suc n - suc m))
     nothing (suc k) = refl
 drop-take (suc m) (suc n) (x ∷ xs) = let e : n - m ≡ suc n - suc m = omega arith in drop-take m n xs ∙ ap (λ (k : ℕ). take k (drop m xs)) e
 
-drop-map : {X Y : Type 0} (f : X → Y) (m : ℕ) (xs : List X) → drop m (map f xs) ≡ map f (drop m xs)
+pub drop-map : {X Y : Type 0} (f : X → Y) (m : ℕ) (xs : List X) → drop m (map f xs) ≡ map f (drop m xs)
 drop-map f zero xs = refl
 drop-map f (suc m) [] = refl
 drop-map f (suc m) (x ∷ xs) = drop-map f m xs

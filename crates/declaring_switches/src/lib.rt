@@ -1,0 +1,67 @@
+// A judged statement with a switch comes to the program table: question 11, then its texts, the switch and its entries.
+ghost use mathlib.Core.Path.{_≡_};
+ghost use Prim.Native.Nat.{_≤_};
+ghost use lib.ListN.{length, drop};
+ghost use Rattle.lists.specs.Lists.{keep};
+ghost use Rattle.statements.specs.StatementAt.{statement-at, fault-of};
+ghost use Rattle.syntax.specs.Items.{is, places};
+ghost use Rattle.syntax.specs.Items.Sort.{word};
+ghost use Rattle.declaring_switches.specs.DeclaringSwitches.{Entries-over, Switch-told, Entries-told, Judgeable-switch, Judges-switch};
+use declaring::lower;
+use judging::less_one;
+use language::Machine;
+use lexer::next_item;
+use scanner::WORD;
+use statements::Fault;
+use statements::stops;
+
+// The place of the word that `skip` others of the items from place `n` on stand before.
+fn word_after(text: &[u8], n: usize, skip: usize) -> Fault
+    requires { ⌜ n ≤ length (now text) ⌝ }
+    ensures { λ r. ⌜ r ≡ fault-of (places (drop skip (keep (is word) (statement-at (now (text .entry)) n)))) ⌝ }
+{
+    let mut left = skip;
+    let mut i = n;
+    loop {
+        let t = next_item(text, i);
+        if stops(t.sort) {
+            return Fault::Clear;
+        }
+        if (WORD == t.sort) & (left == 0) {
+            return Fault::At(t.at);
+        }
+        left = less_one(left, WORD == t.sort);
+        i = t.next;
+    }
+}
+
+// The operator's place, where the switch is one in excess.
+fn switch_beyond(table: &[u32], at: usize) -> Fault
+    requires { ⌜ 8192 ≤ length (now table) ⌝ }
+    ensures { λ r. ⌜ Switch-told (now (table .entry)) at r ⌝ }
+{
+    if table::switches(table) < Machine::SWITCHES {
+        return Fault::Clear;
+    }
+    Fault::At(at)
+}
+
+// The first entry in excess.
+fn entries_beyond(text: &[u8], n: usize, table: &[u32]) -> Fault
+    requires { ⌜ Entries-over (now text) n (now table) ⌝ }
+    ensures { λ r. ⌜ Entries-told (now (text .entry)) n (now (table .entry)) r ⌝ }
+{
+    let room = Machine::ENTRIES - table::entries(table);
+    word_after(text, n, room)
+}
+
+// Question 11 of a switch whose operator stands at `at` and whose list begins at `next`; its texts come to the table.
+pub fn judge_switch(text: &[u8], at: usize, next: usize, table: &mut [u32]) -> Fault
+    requires { ⌜ Judgeable-switch (now text) next (now table) ⌝ }
+    ensures { λ r. ⌜ Judges-switch (now (text .entry)) at next (now (table .entry)) r (now (table .exit)) ⌝ }
+{
+    let a = switch_beyond(table, at);
+    let b = entries_beyond(text, next, table);
+    let c = entering::enter_texts(text, next, table);
+    lower(lower(a, b), c)
+}
