@@ -2,7 +2,7 @@
 ghost use mathlib.Core.Path.{_≡_};
 ghost use mathlib.Core.List.{[], _∷_};
 ghost use Prim.Native.Nat.{_<_};
-ghost use Rattle.calls.specs.Calls.{packed, startOf};
+ghost use Rattle.calls.specs.Calls.{packed, startOf, runOf};
 ghost use Rattle.interpreter.specs.Answers.{Answers};
 use language::Machine;
 
@@ -29,4 +29,28 @@ pub extern "C" fn eol2_start(table: &[u32], i1: &[u8], i2: &[u8], state: &mut [u
     }
     starting::start(state);
     packed(80, 0)
+}
+
+// Run "takes at most the budget of steps"; the answer has the count of completed instructions.
+#[no_mangle]
+pub extern "C" fn eol2_run(
+    table: &[u32],
+    i1: &[u8],
+    i2: &[u8],
+    state: &mut [u8],
+    budget: u32,
+) -> u64
+    ensures { λ r. ⌜ Answers (runOf (now (table .entry)) (now (i1 .entry) ∷ now (i2 .entry) ∷ []) budget (now (state .entry))) r (now (state .exit)) ⌝ }
+{
+    if !check_table::is_table(table) {
+        return packed(62, 0);
+    }
+    if !check_inputs::are_inputs(i1, i2) {
+        return packed(61, 0);
+    }
+    if !check_state::is_state(table, i1, i2, state) {
+        return packed(63, 0);
+    }
+    let r = running::run(table, i1, i2, state, budget);
+    packed(r.number, r.count)
 }

@@ -1,0 +1,192 @@
+// One step: the next instruction is read, carried out, and followed by the one that comes next.
+ghost use mathlib.Core.Path.{_≡_};
+ghost use Prim.Native.Nat.{_≤_};
+ghost use lib.ListN.{length};
+ghost use Rattle.language.specs.Instructions.{operator-of};
+ghost use Rattle.performing.specs.Stepping.{Steppable, Stepped};
+ghost use Rattle.performing.specs.Performing.{leads, Performing, Performs};
+ghost use Rattle.lists.specs.Lists.{among};
+ghost use Rattle.perform_moves.specs.Moving.{movers};
+ghost use Rattle.stepping.specs.Orders.{GoingOn, Operator};
+ghost use Rattle.perform_values.specs.Valuing.{value-operators};
+ghost use Rattle.perform_equality.specs.Equating.{equality-operators};
+
+// Whether an operator is a jump, call or return, or STOP.
+fn leading(op: usize) -> bool
+    requires { ⌜ op ≤ 41 ⌝ }
+    ensures { λ r. ⌜ r ≡ leads (operator-of op) ⌝ }
+{
+    ((op >= 19) & (op <= 29)) | (op == 41)
+}
+
+// Whether an operator moves components and characters; orders, computes or converts; asks for equality.
+fn is_move(op: usize) -> bool
+    requires { ⌜ Operator op ⌝ }
+    ensures { λ r. ⌜ r ≡ among op movers ⌝ }
+{
+    (op <= 3) | (op == 11) | ((op >= 36) & (op <= 38))
+}
+
+fn is_value(op: usize) -> bool
+    requires { ⌜ Operator op ⌝ }
+    ensures { λ r. ⌜ r ≡ among op value-operators ⌝ }
+{
+    ((op >= 14) & (op <= 17)) | ((op >= 30) & (op <= 35))
+}
+
+fn is_equality(op: usize) -> bool
+    requires { ⌜ Operator op ⌝ }
+    ensures { λ r. ⌜ r ≡ among op equality-operators ⌝ }
+{
+    (op == 13) | (op == 18)
+}
+
+// Carries out an instruction, but for the step to the following one.
+fn perform(
+    op: usize,
+    table: &[u32],
+    i1: &[u8],
+    i2: &[u8],
+    pool: &mut [u8],
+    ends: &mut [u32],
+    nums: &mut [u32],
+    scratch: &mut [u8],
+    hold: &mut [u8],
+    given: &mut [u8],
+    x: table::Argument,
+    y: table::Argument,
+    z: table::Argument,
+) -> u8
+    requires { ⌜ GoingOn (now table) (now i1) (now i2) (now pool) (now ends) (now nums) op x y z (length (now scratch)) (length (now hold)) (length (now given)) ⌝ }
+    ensures { λ r. ⌜ Performs (now (table .entry)) (now (i1 .entry)) (now (i2 .entry)) (now (pool .entry)) (now (ends .entry)) (now (nums .entry)) r (now (pool .exit)) (now (ends .exit)) (now (nums .exit)) ⌝ }
+{
+    if is_move(op) {
+        return perform_moves::perform_move(
+            op,
+            table,
+            i1,
+            i2,
+            pool,
+            ends,
+            nums,
+            scratch,
+            hold,
+            given,
+            x,
+            y,
+            z,
+        );
+    }
+    if is_value(op) {
+        return perform_values::perform_value(
+            op,
+            table,
+            pool,
+            ends,
+            nums,
+            scratch,
+            hold,
+            given,
+            x,
+            y,
+            z,
+        );
+    }
+    if is_equality(op) {
+        return perform_equality::perform_equality(
+            op,
+            table,
+            i1,
+            i2,
+            pool,
+            ends,
+            nums,
+            hold,
+            given,
+            x,
+            y,
+        );
+    }
+    perform_files::perform_file(op, table, pool, ends, nums, scratch, hold, given, x, y, z)
+}
+
+// Carries out an instruction whose operator and arguments were read.
+fn carry_out(
+    op: usize,
+    table: &[u32],
+    i1: &[u8],
+    i2: &[u8],
+    pool: &mut [u8],
+    ends: &mut [u32],
+    nums: &mut [u32],
+    scratch: &mut [u8],
+    hold: &mut [u8],
+    given: &mut [u8],
+    x: table::Argument,
+    y: table::Argument,
+    z: table::Argument,
+) -> u8
+    requires { ⌜ Performing (now table) (now i1) (now i2) (now pool) (now ends) (now nums) op x y z (length (now scratch)) (length (now hold)) (length (now given)) ⌝ }
+    ensures { λ r. ⌜ Stepped (now (table .entry)) (now (i1 .entry)) (now (i2 .entry)) (now (pool .entry)) (now (ends .entry)) (now (nums .entry)) r (now (pool .exit)) (now (ends .exit)) (now (nums .exit)) ⌝ }
+{
+    if leading(op) {
+        return perform_jumps::perform_jump(op, table, pool, ends, nums, scratch, x, y);
+    }
+    let stop = perform(
+        op,
+        table,
+        i1,
+        i2,
+        pool,
+        ends,
+        nums,
+        scratch,
+        hold,
+        given,
+        x,
+        y,
+        z,
+    );
+    if stop != 0 {
+        return stop;
+    }
+    control::go_on(pool, ends, nums);
+    0
+}
+
+// One step. It tells 0, or the number of the question that stops it.
+pub fn step(
+    table: &[u32],
+    i1: &[u8],
+    i2: &[u8],
+    pool: &mut [u8],
+    ends: &mut [u32],
+    nums: &mut [u32],
+    scratch: &mut [u8],
+    hold: &mut [u8],
+    given: &mut [u8],
+) -> u8
+    requires { ⌜ Steppable (now table) (now i1) (now i2) (now pool) (now ends) (now nums) (length (now scratch)) (length (now hold)) (length (now given)) ⌝ }
+    ensures { λ r. ⌜ Stepped (now (table .entry)) (now (i1 .entry)) (now (i2 .entry)) (now (pool .entry)) (now (ends .entry)) (now (nums .entry)) r (now (pool .exit)) (now (ends .exit)) (now (nums .exit)) ⌝ }
+{
+    let i = state::number(pool, ends, nums, 3);
+    let op = table::operator(table, i);
+    let x = table::first(table, i);
+    let y = table::second(table, i);
+    let z = table::third(table, i);
+    carry_out(
+        op,
+        table,
+        i1,
+        i2,
+        pool,
+        ends,
+        nums,
+        scratch,
+        hold,
+        given,
+        x,
+        y,
+        z,
+    )
+}
