@@ -1,1 +1,2 @@
 pub mod DeclaringSwitches
+pub mod Entries

@@ -7,10 +7,16 @@ ghost use Rattle.statements.specs.StatementAt.{statement-at, fault-of};
 ghost use Rattle.syntax.specs.Items.{is, places};
 ghost use Rattle.syntax.specs.Items.Sort.{word};
 ghost use Rattle.declaring_switches.specs.DeclaringSwitches.{Entries-over, Switch-told, Entries-told, Judgeable-switch, Judges-switch};
+ghost use Rattle.finding.specs.Finding.{Tells};
+ghost use Rattle.layout.specs.Table.{text-ref};
+ghost use Rattle.declaring_switches.specs.Entries.{next-text, Text-after, Puttable, Puts, Listing, Lists};
+use argument_cells::item_text;
 use declaring::lower;
 use judging::less_one;
 use language::Machine;
+use lexer::Token;
 use lexer::next_item;
+use scanner::TEXT;
 use scanner::WORD;
 use statements::Fault;
 use statements::stops;
@@ -64,4 +70,50 @@ pub fn judge_switch(text: &[u8], at: usize, next: usize, table: &mut [u32]) -> F
     let b = entries_beyond(text, next, table);
     let c = entering::enter_texts(text, next, table);
     lower(lower(a, b), c)
+}
+
+// The reference of an entry's text: of the item from place `n` on, where that is a text.
+fn entry_ref(text: &[u8], n: usize, table: &[u32]) -> usize
+    requires { ⌜ Text-after (now text) n (now table) ⌝ }
+    ensures { λ r. ⌜ Tells (now (table .entry)) (λ p. text-ref p (next-text (statement-at (now (text .entry)) n))) 384 r ⌝ }
+{
+    let t = next_item(text, n);
+    if t.sort != TEXT {
+        return 0;
+    }
+    item_text(text, t, table)
+}
+
+// Adds the entry of a word of the list, and the mark of its label.
+fn put_item(text: &[u8], t: Token, table: &mut [u32], marks: &mut [u32])
+    requires { ⌜ Puttable (now text) t (now table) (now marks) ⌝ }
+    ensures { λ _. ⌜ Puts (now (text .entry)) t (now (table .entry)) (now (marks .entry)) (now (table .exit)) (now (marks .exit)) ⌝ }
+{
+    let at = t.at;
+    let len = t.len;
+    let next = t.next;
+    if t.sort != WORD {
+        return;
+    }
+    let n = table::entries(table);
+    let v = entry_ref(text, next, table);
+    writing::put_entry(table, 0, v);
+    marks[n] = names::mark(at, len);
+}
+
+// Adds the entries of the list from place `n` on to the last switch, and the marks of their labels.
+fn put_entries(text: &[u8], n: usize, table: &mut [u32], marks: &mut [u32])
+    requires { ⌜ Listing (now text) n (now table) (now marks) ⌝ }
+    ensures { λ _. ⌜ Lists (now (text .entry)) n (now (table .entry)) (now (marks .entry)) (now (table .exit)) (now (marks .exit)) ⌝ }
+{
+    let mut i = n;
+    loop {
+        let t = next_item(text, i);
+        if stops(t.sort) {
+            return;
+        }
+        let next = t.next;
+        put_item(text, t, table, marks);
+        i = next;
+    }
 }
