@@ -110,7 +110,7 @@ module _ {s : List ℕ} {n number line : ℕ} {ms : List ℕ} {a b : ℕ} {c : L
 
 -- ---- the statement
 
-no-fault : (xs : List ℕ) → Clear ≡ fault-of xs → xs ≡ []
+pub no-fault : (xs : List ℕ) → Clear ≡ fault-of xs → xs ≡ []
 no-fault [] e = refl
 no-fault (x ∷ xs) e = absurd (let y : _≡_ {A = ℕ} 0 1 = cc in omega arith)
 

@@ -1,2 +1,3 @@
 pub mod DeclaringSwitches
 pub mod Entries
+pub mod Switches

@@ -10,6 +10,7 @@ ghost use Rattle.declaring_switches.specs.DeclaringSwitches.{Entries-ove
 ghost use Rattle.finding.specs.Finding.{Tells};
 ghost use Rattle.layout.specs.Table.{text-ref};
 ghost use Rattle.declaring_switches.specs.Entries.{next-text, Text-after, Puttable, Puts, Listing, Lists};
+ghost use Rattle.declaring_switches.specs.Switches.{Writable-switch, WritesSwitch, Declarable-switch, DeclaresSwitch};
 use argument_cells::item_text;
 use declaring::lower;
 use judging::less_one;
@@ -115,5 +116,48 @@ fn put_entries(text: &[u8], n: usize, table: &mut [u32], marks: &mut [u32])
         let next = t.next;
         put_item(text, t, table, marks);
         i = next;
+    }
+}
+
+// Adds the switch with its list, which begins at `next`; the marks of its name and of its entries' labels.
+fn write_switch(
+    text: &[u8],
+    next: usize,
+    named: bool,
+    name: u32,
+    table: &mut [u32],
+    switches: &mut [u32],
+    entries: &mut [u32],
+)
+    requires { ⌜ Writable-switch (now text) next (now table) (now switches) (now entries) ⌝ }
+    ensures { λ _. ⌜ WritesSwitch (now (text .entry)) next named name (now (table .entry)) (now (switches .entry)) (now (entries .entry)) (now (table .exit)) (now (switches .exit)) (now (entries .exit)) ⌝ }
+{
+    let n = table::switches(table);
+    writing::put_switch(table, named);
+    put_entries(text, next, table, entries);
+    switches[n] = name;
+}
+
+// Question 11 of a switch with the operator `op` and the label of the mark `name`, and where it is answered yes, the switch.
+pub fn declare_switch(
+    text: &[u8],
+    op: Token,
+    named: bool,
+    name: u32,
+    table: &mut [u32],
+    switches: &mut [u32],
+    entries: &mut [u32],
+) -> Fault
+    requires { ⌜ Declarable-switch (now text) op (now table) (now switches) (now entries) ⌝ }
+    ensures { λ r. ⌜ DeclaresSwitch (now (text .entry)) op named name (now (table .entry)) (now (switches .entry)) (now (entries .entry)) r (now (table .exit)) (now (switches .exit)) (now (entries .exit)) ⌝ }
+{
+    let at = op.at;
+    let next = op.next;
+    match judge_switch(text, at, next, table) {
+        Fault::At(p) => Fault::At(p),
+        Fault::Clear => {
+            write_switch(text, next, named, name, table, switches, entries);
+            Fault::Clear
+        }
     }
 }

@@ -1,0 +1,49 @@
+-- `declaring_switches::write_switch` meets its contract.
+use borrow.Author.Needs.{needs}
+use native.Mathlib.Omega.{arith}
+use mathlib.Core.Path.{refl, sym, ap, _∙_}
+use lib.ListN.{length-set}
+use Rattle.declaring_switches.proofs.Switches.{room-for-switch, switch-index, listing, switch-written}
+use Rattle.declaring_switches.proofs.write_switch.Statement.{statement}
+use Rattle.declaring_switches.proofs.write_switch.Tie as tie
+
+switches-requires : tie.Need-switches-requires
+switches-requires c κs = c .before .before .before .before .before .pre .held .holds .long
+
+put-switch-requires : tie.Need-put-switch-requires
+put-switch-requires c κs = room-for-switch ((c .before .before .before .before .before .before .before .pre))
+
+put-entries-requires : tie.Need-put-entries-requires
+put-entries-requires c κs = listing ((c .before .before .before .before .before .before .before .before .before .before .before .before .pre)) (c .before .before .before .before .before .before .before .before .before .before .before .before .args .named) (c .before .before .before .before .put-switch .ensures)
+
+mul-switches : tie.Need-mul-switches
+mul-switches c = search needs
+
+slice-write-switches : tie.Need-slice-write-switches
+slice-write-switches c = switch-index ((c .before .before .before .before .before .before .before .before .before .before .before .before .before .before .before .before .before .pre)) (c .before .before .before .before .before .before .before .before .before .before .before .switches .ensures .is)
+
+same-length : tie.Need-same-length
+same-length c = c .before .before .before .before .put-entries .kept .1 .1 .0 ∙ c .before .before .before .before .before .before .before .before .before .put-switch .kept .0
+
+same-length-2 : tie.Need-same-length-2
+same-length-2 c = length-set (c .before .before .before .before .before .before .before .before .before .before .before .before .before .before .before .before .before .args .switches .now) (c .before .before .before .before .before .before .before .before .before .before .before .switches .result) (c .before .before .before .before .before .before .before .before .before .before .before .before .before .before .before .before .before .args .name)
+
+same-length-3 : tie.Need-same-length-3
+same-length-3 c = c .before .before .before .before .put-entries .kept .1 .1 .1 .0
+
+returns : tie.Need-returns
+returns c = switch-written ((c .before .before .before .before .before .before .before .before .before .before .before .before .before .before .before .before .before .pre)) (c .before .before .before .before .before .before .before .before .before .before .before .before .before .before .before .before .before .args .named) (c .before .before .before .before .before .before .before .before .before .put-switch .ensures) (c .before .before .before .before .put-entries .ensures) (c .before .before .before .before .before .before .before .before .before .before .before .switches .ensures .is) (c .before .before .before .before .before .before .before .before .before .before .before .before .before .before .before .before .before .args .name)
+
+pub write-switch-spec : {M : Type 1} → statement M
+write-switch-spec =
+    tie.close
+    (tie.spec
+    switches-requires
+    put-switch-requires
+    put-entries-requires
+    mul-switches
+    slice-write-switches
+    same-length
+    same-length-2
+    same-length-3
+    returns)
