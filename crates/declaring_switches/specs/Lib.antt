@@ -1,3 +1,4 @@
 pub mod DeclaringSwitches
 pub mod Entries
 pub mod Switches
+pub mod TabledLaws
