@@ -76,7 +76,7 @@ module _ (n : ℕ) (t : Tables) (ls x : List Item) (op : Op) (fine : Each (Fine-
   abbrev after-it : List Item
   after-it = rest x
 
-  rest-fine : Each (Fine-item n) after-it
+  pub rest-fine : Each (Fine-item n) after-it
   rest-fine = each-drop (Fine-item n) 1 (behind x) (each-behind (Fine-item n) x fine)
 
   abbrev texts-then : List (List ℕ)
@@ -114,9 +114,12 @@ module _ (n : ℕ) (t : Tables) (ls x : List Item) (op : Op) (fine : Each (Fine-
         (of-arguments Readable-item js (alternatives op)
         (each-map _ _ (λ a h. record { form-of = a .form; as-form = h }) (arguments op after-it) (arguments-read js (alternatives op) (instr-facts .no-dash))))
 
+    pub all-ranged : Each (λ i. T (is word i) → T (numeral (i .chars)) → T (in-range (number-in i))) after-it
+    all-ranged = each-map _ _ (λ i r k l. number-range i k l (r (word-apart i k .1))) after-it readable
+
     numbers-in-range : Each (λ z. T (ltb limit.small (natAbs z) && in-range z)) (t .numbers) → Each (λ z. T (ltb limit.small (natAbs z) && in-range z)) numbers-then
     numbers-in-range h =
-        numbers-after n t after-it rest-fine (each-map _ _ (λ i r k l. number-range i k l (r (word-apart i k .1))) after-it readable) h
+        numbers-after n t after-it rest-fine all-ranged h
 
     all-kept : Each (Kept texts-then numbers-then) after-it
     all-kept =
@@ -124,7 +127,7 @@ module _ (n : ℕ) (t : Tables) (ls x : List Item) (op : Op) (fine : Each (Fine-
         (each-both (λ i. T (is text i) → T (in-texts texts-then (i .chars))) (λ i. T (is word i) → T (numeral (i .chars)) → T (in-numbers numbers-then (number-in i))) after-it
         (texts-kept n t after-it rest-fine) (numbers-kept n t after-it rest-fine))
 
-    arguments-sound : Each (Sound-argument n texts-then numbers-then) (arguments op after-it)
+    pub arguments-sound : Each (Sound-argument n texts-then numbers-then) (arguments op after-it)
     arguments-sound =
         let args = arguments op after-it in
         let both : Item → Type 0 = λ i. Fine-item n i × Kept texts-then numbers-then i in
