@@ -1,0 +1,23 @@
+-- `linking::undeclared_label` meets its contract.
+use borrow.Author.Needs.{needs}
+use native.Mathlib.Omega.{arith}
+use denote.Ref.{now}
+use Rattle.linking.proofs.Undeclared.{asking, asking-all, labels-found}
+use Rattle.linking.proofs.undeclared_label.Statement.{statement}
+use Rattle.linking.proofs.undeclared_label.Tie as tie
+use Rattle.linking.proofs.undeclared_label.Reads as reads
+use Rattle.linking.proofs.undeclared_label.Lts as lts
+use Rattle.lookup.proofs.code_fault.Reads as code-fault-reads
+use Rattle.lookup.proofs.entries_fault.Reads as entries-fault-reads
+
+code-fault-requires : tie.Need-code-fault-requires
+code-fault-requires c κs = asking (now (c .before .before .before .before .args .text)) (c .before .before .before .before .pre .tables) (now (c .before .before .before .before .args .table)) (now (c .before .before .before .before .args .sw)) (now (c .before .before .before .before .args .en)) (c .before .before .before .before .pre .tabled)
+
+entries-fault-requires : tie.Need-entries-fault-requires
+entries-fault-requires c κs = asking-all (now (c .before .before .before .before .before .args .text)) (c .before .before .before .before .before .pre .tables) (now (c .before .before .before .before .before .args .table)) (now (c .before .before .before .before .before .args .sw)) (now (c .before .before .before .before .before .args .en)) (c .before .before .before .before .before .pre .tabled)
+
+returns : tie.Need-returns
+returns c = labels-found (now (c .before .before .before .before .before .before .args .text)) (now (c .before .before .before .before .before .before .args .table)) (now (c .before .before .before .before .before .before .args .sw)) (now (c .before .before .before .before .before .before .args .en)) (c .before .code-fault .ensures) (c .entries-fault .ensures)
+
+pub undeclared-label-spec : {M : Type 1} → statement M
+undeclared-label-spec = tie.close (tie.spec code-fault-requires entries-fault-requires returns)

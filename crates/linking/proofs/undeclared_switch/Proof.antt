@@ -1,0 +1,22 @@
+-- `linking::undeclared_switch` meets its contract.
+use borrow.Author.Needs.{needs}
+use native.Mathlib.Omega.{arith}
+use denote.Ref.{now}
+use Rattle.linking.proofs.Undeclared.{asking, switches-found}
+use Rattle.linking.proofs.undeclared_switch.Statement.{statement}
+use Rattle.linking.proofs.undeclared_switch.Tie as tie
+use Rattle.linking.proofs.undeclared_switch.Reads as reads
+use Rattle.linking.proofs.undeclared_switch.Lts as lts
+use Rattle.lookup.proofs.code_fault.Reads as code-fault-reads
+
+code-fault-requires : tie.Need-code-fault-requires
+code-fault-requires c κs = asking (now (c .before .before .before .before .args .text)) (c .before .before .before .before .pre .tables) (now (c .before .before .before .before .args .table)) (now (c .before .before .before .before .args .sw)) (now (c .before .before .before .before .args .en)) (c .before .before .before .before .pre .tabled)
+
+code-fault-requires-2 : tie.Need-code-fault-requires-2
+code-fault-requires-2 c κs = asking (now (c .before .before .before .before .before .args .text)) (c .before .before .before .before .before .pre .tables) (now (c .before .before .before .before .before .args .table)) (now (c .before .before .before .before .before .args .sw)) (now (c .before .before .before .before .before .args .en)) (c .before .before .before .before .before .pre .tabled)
+
+returns : tie.Need-returns
+returns c = switches-found (now (c .before .before .before .before .before .before .args .text)) (now (c .before .before .before .before .before .before .args .table)) (now (c .before .before .before .before .before .before .args .sw)) (now (c .before .before .before .before .before .before .args .en)) (c .before .code-fault .ensures) (c .code-fault2 .ensures)
+
+pub undeclared-switch-spec : {M : Type 1} → statement M
+undeclared-switch-spec = tie.close (tie.spec code-fault-requires code-fault-requires-2 returns)
