@@ -2,34 +2,31 @@
 use mathlib.Core.Path.{_≡_, refl, sym, ap, _∙_, subst}
 use mathlib.Core.Bool.{Bool, true, false, cond, not, _&&_, _||_, Bool·beq}
 use mathlib.Core.List.{List, [], _∷_, _++_, map, append-nil}
-use Prim.Native.Nat.{ℕ, suc, _+_, _*_, _/_, _%_, _≤_, _<_}
+use Prim.Native.Nat.{ℕ, _+_, _*_, _/_, _%_, _≤_}
 use Prim.Native.String.{String}
-use native.Mathlib.Nat.{not-suc-le-zero, le-of-suc-le-suc}
 use native.Mathlib.Omega.{arith}
 use lib.Dec.{T, eqb}
-use lib.ListN.{length, getD, take, drop}
+use lib.ListN.{length, getD, drop}
 use lib.IntN.{ℤ}
 use borrow.Author.Tests.{eqb-true, eq-eqb, ne-eqb}
 use Rattle.acceptance.specs.Drafts.{Sound-argument, Sound-written}
-use Rattle.acceptance.specs.RowLaws.{or-not}
-use Rattle.drafts.specs.Drafting.{draft-arg, draft-instr, draft-switch, draft-program}
+use Rattle.drafts.specs.Drafting.{draft-arg, draft-instr}
 use Rattle.drafts.specs.DraftingLaws.{place-back}
 use Rattle.drafts.specs.Marks.{mark, place-by, word-by}
-use Rattle.drafts.specs.Tabled.{Spelt, entry-items, Tabled}
+use Rattle.drafts.specs.Tabled.{Spelt}
 use Rattle.language.specs.Instructions.{operation}
 use Rattle.language.specs.Letters.{Letter}
-use Rattle.language.specs.Program.{Arg, Instr, Label, Switch, Program, identifier, classes}
+use Rattle.language.specs.Program.{Arg, Instr, Program, identifier, classes}
 use Rattle.language.specs.Program.Arg.{nothing, letter, label, switch, class, text}
 use Rattle.language.specs.Values.{amount, valueOf}
 use Rattle.layout.specs.Bounds.{Each}
 use Rattle.layout.specs.Table.{arg-cell}
-use Rattle.lists.specs.Lists.{any, each, keep, filled, headOr, sameBytes}
-use Rattle.lookup.specs.Lookup.{marks-in, instr-marks, instr-uses, asked-by, names-number, known, faults, is-label, is-switch}
+use Rattle.lists.specs.Lists.{each, keep, filled, headOr}
+use Rattle.lookup.specs.Lookup.{marks-in, instr-marks, instr-uses, names-number}
 use Rattle.syntax.specs.ArgumentForms.{form-in, word-reads, reads, Argument, of-form, letter-of}
-use Rattle.syntax.specs.Ending.{given-as}
-use Rattle.syntax.specs.Items.{Item, is, places}
+use Rattle.syntax.specs.Items.{Item, is}
 use Rattle.syntax.specs.Items.Sort.{word, text as quoted}
-use Rattle.syntax.specs.Tables.{Written, Choice, Tables}
+use Rattle.syntax.specs.Tables.{Written}
 use Rattle.linking.proofs.Operators.{switch-forms}
 
 -- ---- the mark of an argument
@@ -183,9 +180,6 @@ module _ (s : List ℕ) (p : Program) (texts : List (List ℕ)) (numbers : List 
   unfolding draft-instr draft-arg
   typed n named e = go (Bool·beq named n) e
     where
-      fs : String
-      fs = cond named "w" "x"
-
       all-of : (bs : List Argument) → Each (λ x. form-in (cond named "w" "x") (x .form) ≡ form-in "wx" (x .form)) bs
           → Each (λ a. marks-in 3 (arg-cell p (draft-arg a)) ≡ one (cond named "w" "x") a) bs
       all-of [] u = tt

@@ -1,18 +1,17 @@
 -- The form of a switch and the operator of its instruction: SKONA, WYNA and SZUKAJ take a switch by name, SKOIN and WYIN one by index.
-use mathlib.Core.Path.{_≡_, refl, sym, ap, _∙_, subst}
+use mathlib.Core.Path.{_≡_, refl, sym, _∙_, subst}
 use mathlib.Core.Bool.{Bool, true, false, cond, not, _&&_, _||_, Bool·beq}
 use mathlib.Core.List.{List, [], _∷_}
 use Prim.Native.Nat.{ℕ, zero, suc, pred, _≤_, _<_}
 use native.Mathlib.Omega.{arith}
 use lib.Dec.{T, eqb}
-use lib.ListN.{length, getD, drop}
 use Rattle.acceptance.specs.Reading.{fits}
-use Rattle.language.specs.Instructions.{operation, operators, operator-of}
+use Rattle.language.specs.Instructions.{operation, operators}
 use Rattle.language.specs.Program.{Op}
 use Rattle.layout.specs.ArgumentLaws.{operator-back, operator-range}
 use Rattle.layout.specs.Bounds.{Each}
 use Rattle.lists.specs.ListLaws.{T-left, T-right, all-at, all-among}
-use Rattle.lists.specs.Lists.{all, any, among, headOr}
+use Rattle.lists.specs.Lists.{all, any, among}
 use Rattle.lookup.specs.Lookup.{names-number}
 use Rattle.syntax.specs.ArgumentForms.{form-in, Argument, alternatives}
 
@@ -80,9 +79,6 @@ pub switch-forms : (o : Op) (xs : List Argument) → T (any (fits xs) (alternati
     → Each (λ x. form-in (cond named "w" "x") (x .form) ≡ (Bool·beq named (names-number (operation o .number)) && form-in "wx" (x .form))) xs
 switch-forms o xs h named = go xs (any-right (ok (names-number (operation o .number))) xs (alternatives o) h (op-right o))
   where
-    n : Bool
-    n = names-number (operation o .number)
-
     go : (ys : List Argument) → Each (λ x. T (ok (names-number (operation o .number)) (x .form))) ys
         → Each (λ x. form-in (cond named "w" "x") (x .form) ≡ (Bool·beq named (names-number (operation o .number)) && form-in "wx" (x .form))) ys
     go [] e = tt

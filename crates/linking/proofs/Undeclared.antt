@@ -2,7 +2,7 @@
 use mathlib.Core.Path.{_≡_, refl, sym, ap, _∙_, subst}
 use mathlib.Core.Bool.{Bool, true, false, cond, not, _&&_, _||_, Bool·beq}
 use mathlib.Core.List.{List, [], _∷_, _++_, map}
-use Prim.Native.Nat.{ℕ, _+_, _≤_}
+use Prim.Native.Nat.{ℕ, _+_}
 use Prim.Native.String.{String}
 use native.Mathlib.Omega.{arith}
 use lib.Dec.{T, eqb}
@@ -10,11 +10,11 @@ use lib.ListN.{length, take, drop, length-append}
 use lib.IntN.{ℤ}
 use Rattle.acceptance.specs.Drafts.{Fine-item, Sound-argument, Sound-written, Sound-choice}
 use Rattle.acceptance.specs.ProgramLaws.{entries-count}
-use Rattle.acceptance.specs.RowLaws.{each-map, each-both, or-left, or-right}
-use Rattle.drafts.specs.Drafting.{draft-arg, draft-instr, draft-switch, draft-program}
+use Rattle.acceptance.specs.RowLaws.{each-map, or-right}
+use Rattle.drafts.specs.Drafting.{draft-instr, draft-switch, draft-program}
 use Rattle.drafts.specs.Marks.{mark, place-by, word-by}
 use Rattle.drafts.specs.Tabled.{Spelt, entry-items, Tabled}
-use Rattle.language.specs.Program.{Instr, Label, Switch, Program}
+use Rattle.language.specs.Program.{Instr, Program}
 use Rattle.layout.specs.Bounds.{Each}
 use Rattle.layout.specs.CellLaws.{each-append}
 use Rattle.layout.specs.Table.{all-entries}
@@ -31,7 +31,7 @@ use Rattle.syntax.specs.Items.Sort.{word}
 use Rattle.syntax.specs.Statements.{entries-in}
 use Rattle.syntax.specs.Tables.{Written, Choice, Tables}
 use Rattle.linking.proofs.Marked.{label-uses, switch-uses, all-uses, map-append, Used, used-word, used-argument}
-use Rattle.linking.specs.Linking.{Finds, Kept, label-places, switch-places}
+use Rattle.linking.specs.Linking.{Finds, label-places, switch-places}
 
 -- ---- faults by items
 
@@ -96,7 +96,7 @@ used-entries s texts (c ∷ cs) h u =
     let r = used-list s (length s) (c .list) (each (λ c. keep (is word) (c .list)) cs) (h .0 .fine) u in
     each-append (Used s) (keep (is word) (c .list)) (each (λ c. keep (is word) (c .list)) cs) (r .0) (used-entries s texts cs (h .1) (r .1))
 
-only-l : (f : ℕ) → T (form-in "l" f) → T (form-in "lwx" f)
+pub only-l : (f : ℕ) → T (form-in "l" f) → T (form-in "lwx" f)
 only-l f h = go (eqb f 108) h
   where
     go : (a : Bool) → T (a || false) → T (a || (eqb f 119 || (eqb f 120 || false)))
@@ -110,6 +110,9 @@ only-typed true f h = or-right (eqb f 108) (eqb f 119 || (eqb f 120 || false)) (
     go true h = tt
     go false h = absurd h
 only-typed false f h = or-right (eqb f 108) (eqb f 119 || (eqb f 120 || false)) (or-right (eqb f 119) (eqb f 120 || false) h)
+
+pub only-switch : (f : ℕ) → T (form-in "wx" f) → T (form-in "lwx" f)
+only-switch f h = or-right (eqb f 108) (eqb f 119 || (eqb f 120 || false)) h
 
 -- ---- entries are counted by their words
 

@@ -7,7 +7,6 @@ use native.Mathlib.Omega.{arith}
 use Rattle.drafts.specs.Marks.{place-by}
 use Rattle.language.specs.Program.{Program}
 use Rattle.lists.specs.Lists.{keep}
-use Rattle.statements.specs.StatementAt.{fault-of}
 use Rattle.statements.specs.declared.Fault.{Fault}
 use Rattle.statements.specs.declared.Fault.the-variants.{Clear, At}
 use Rattle.syntax.specs.LoadLaws.{lowest-append}

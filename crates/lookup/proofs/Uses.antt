@@ -1,23 +1,23 @@
 -- The marks of an instruction's arguments, as they stand in the table.
 use mathlib.Core.Path.{_≡_, refl, sym, ap, _∙_}
 use mathlib.Core.Bool.{Bool, true, false, cond, _||_}
-use mathlib.Core.List.{List, [], _∷_, _++_, append-assoc}
-use Prim.Native.Nat.{ℕ, zero, suc, _+_, _*_, _/_, _%_, _≤_, _<_}
+use mathlib.Core.List.{List, [], _∷_, _++_}
+use Prim.Native.Nat.{ℕ, zero, suc, _+_, _*_, _/_, _%_, _<_}
 use native.Mathlib.Decide.{decLt}
 use native.Mathlib.Omega.{arith}
-use lib.Dec.{T, eqb, ltb}
-use lib.ListN.{length, getD, drop, take}
-use lib.Seq.{getD-take, drop-at}
+use lib.Dec.{ltb}
+use lib.ListN.{length, getD, drop}
+use lib.Seq.{getD-take}
 use borrow.Author.Tests.{eq-eqb, ne-eqb, lt-ltb, le-ltb}
 use Rattle.language.specs.Instructions.{operation}
 use Rattle.language.specs.Program.{Instr, Program, no-instr, instr-at}
 use Rattle.layout.specs.ArgumentLaws.{operator-below}
-use Rattle.layout.specs.CellLaws.{block-at, next-cell, first-cell}
+use Rattle.layout.specs.CellLaws.{block-at, next-cell}
 use Rattle.layout.specs.Cells.{cell}
-use Rattle.layout.specs.Table.{arg-cell, instr-cells, counts}
+use Rattle.layout.specs.Table.{arg-cell, instr-cells}
 use Rattle.lists.specs.Lists.{any, ahead}
 use Rattle.packed.specs.Packed.{table-of}
-use Rattle.writing.proofs.Growing.{parts, in-parts, code-part}
+use Rattle.writing.proofs.Growing.{parts, in-parts}
 use Rattle.writing.specs.Writing.{HoldsProgram}
 use Rattle.writing.proofs.Held.{code-count, label-count}
 use Rattle.drafts.specs.Marks.{place-by}

@@ -2,12 +2,12 @@
 use mathlib.Core.Path.{_≡_, refl, sym, ap, _∙_}
 use mathlib.Core.Bool.{Bool, true}
 use mathlib.Core.List.{List, [], _∷_, _++_}
-use Prim.Native.Nat.{ℕ, suc, _+_, _≤_, _<_}
+use Prim.Native.Nat.{ℕ, _+_, _≤_, _<_}
 use native.Mathlib.Numerals.{add-one}
 use native.Mathlib.Omega.{arith}
 use lib.ListN.{length, getD, take, drop, drop-of-length-le}
 use lib.Seq.{drop-cons, getD-take, length-take-le}
-use Rattle.language.specs.Program.{Instr, Program, no-instr, instr-at}
+use Rattle.language.specs.Program.{Program, no-instr, instr-at}
 use Rattle.layout.specs.Cells.{cell}
 use Rattle.layout.specs.Table.{all-entries}
 use Rattle.lists.specs.Lists.{each}
@@ -16,7 +16,7 @@ use Rattle.statements.specs.declared.Fault.{Fault}
 use Rattle.writing.proofs.Held.{code-count, entry-count}
 use Rattle.writing.specs.Writing.{HoldsProgram}
 use Rattle.lookup.proofs.Faults.{joined-none, faults-join}
-use Rattle.lookup.specs.Lookup.{instr-uses, joined, faults, Asking, AskingAt, AskingAll, Judges}
+use Rattle.lookup.specs.Lookup.{instr-uses, joined, faults, Asking, AskingAt, Judges}
 
 -- g is at fault so far, and row has the marks that are left
 pub record Going (s sw c : List ℕ) (kind : ℕ) (named : Bool) (whole left : Program → List ℕ) (f g : Fault) : Type 0 where

@@ -3,14 +3,14 @@
 use mathlib.Core.Path.{_≡_}
 use mathlib.Core.Bool.{Bool, false, cond, not, _&&_, _||_, Bool·beq}
 use mathlib.Core.List.{List, [], _∷_, _++_, map}
-use Prim.Native.Nat.{ℕ, zero, suc, _/_, _%_, _≤_, _<_}
+use Prim.Native.Nat.{ℕ, zero, suc, _/_, _%_, _<_}
 use lib.Dec.{eqb}
 use lib.ListN.{length, take}
 use Rattle.language.specs.Instructions.{operation}
 use Rattle.language.specs.Limits as limit
 use Rattle.language.specs.Program.{Arg, Instr, Op, Switch, Program}
 use Rattle.layout.specs.Table.{arg-cell}
-use Rattle.lists.specs.Lists.{ahead, any, each, keep, sameBytes}
+use Rattle.lists.specs.Lists.{ahead, any, keep, sameBytes}
 use Rattle.drafts.specs.Marks.{place-by, word-by}
 use Rattle.statements.specs.StatementAt.{fault-of}
 use Rattle.statements.specs.declared.Fault.{Fault}

@@ -1,10 +1,10 @@
 -- One argument and one entry after the other.
 use mathlib.Core.Path.{_≡_, refl, sym, ap, _∙_, subst}
-use mathlib.Core.List.{List, [], _∷_}
+use mathlib.Core.List.{List}
 use Prim.Native.Nat.{ℕ, zero, suc, _+_, _*_, _/_, _%_, _≤_, _<_}
 use native.Mathlib.Numerals.{add-one}
 use native.Mathlib.Omega.{arith}
-use lib.ListN.{length, getD, set, drop, take, length-set}
+use lib.ListN.{length, getD, set, take, length-set}
 use lib.Seq.{set-getD, length-take-le}
 use Rattle.drafts.specs.Marks.{word-by}
 use Rattle.finding.specs.Finding.{Tells}

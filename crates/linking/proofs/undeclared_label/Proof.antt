@@ -1,14 +1,8 @@
 -- `linking::undeclared_label` meets its contract.
-use borrow.Author.Needs.{needs}
-use native.Mathlib.Omega.{arith}
 use denote.Ref.{now}
 use Rattle.linking.proofs.Undeclared.{asking, asking-all, labels-found}
 use Rattle.linking.proofs.undeclared_label.Statement.{statement}
 use Rattle.linking.proofs.undeclared_label.Tie as tie
-use Rattle.linking.proofs.undeclared_label.Reads as reads
-use Rattle.linking.proofs.undeclared_label.Lts as lts
-use Rattle.lookup.proofs.code_fault.Reads as code-fault-reads
-use Rattle.lookup.proofs.entries_fault.Reads as entries-fault-reads
 
 code-fault-requires : tie.Need-code-fault-requires
 code-fault-requires c κs = asking (now (c .before .before .before .before .args .text)) (c .before .before .before .before .pre .tables) (now (c .before .before .before .before .args .table)) (now (c .before .before .before .before .args .sw)) (now (c .before .before .before .before .args .en)) (c .before .before .before .before .pre .tabled)

@@ -1,13 +1,8 @@
 -- `linking::undeclared_switch` meets its contract.
-use borrow.Author.Needs.{needs}
-use native.Mathlib.Omega.{arith}
 use denote.Ref.{now}
 use Rattle.linking.proofs.Undeclared.{asking, switches-found}
 use Rattle.linking.proofs.undeclared_switch.Statement.{statement}
 use Rattle.linking.proofs.undeclared_switch.Tie as tie
-use Rattle.linking.proofs.undeclared_switch.Reads as reads
-use Rattle.linking.proofs.undeclared_switch.Lts as lts
-use Rattle.lookup.proofs.code_fault.Reads as code-fault-reads
 
 code-fault-requires : tie.Need-code-fault-requires
 code-fault-requires c κs = asking (now (c .before .before .before .before .args .text)) (c .before .before .before .before .pre .tables) (now (c .before .before .before .before .args .table)) (now (c .before .before .before .before .args .sw)) (now (c .before .before .before .before .args .en)) (c .before .before .before .before .pre .tabled)

@@ -1,13 +1,7 @@
 -- `lookup::agree` meets its contract.
-use borrow.Author.Needs.{needs}
-use native.Mathlib.Omega.{arith}
-use mathlib.Core.Bool.{Bool, true, false, not, Bool·beq}
-use mathlib.Core.Path.{_≡_, refl}
 use Rattle.lookup.proofs.Places.{beq-true, beq-false}
 use Rattle.lookup.proofs.agree.Statement.{statement}
 use Rattle.lookup.proofs.agree.Tie as tie
-use Rattle.lookup.proofs.agree.Reads as reads
-use Rattle.lookup.proofs.agree.Lts as lts
 
 returns : tie.Need-returns
 returns c = rw (c .if1 .taken) (beq-true (c .before .args .b))

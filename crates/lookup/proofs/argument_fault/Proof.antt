@@ -2,15 +2,9 @@
 use borrow.Author.Needs.{needs}
 use native.Mathlib.Omega.{arith}
 use denote.Ref.{now}
-use Rattle.writing.proofs.Held.{code-count}
 use Rattle.lookup.proofs.Uses.{argument-other, argument-noted}
 use Rattle.lookup.proofs.argument_fault.Statement.{statement}
 use Rattle.lookup.proofs.argument_fault.Tie as tie
-use Rattle.lookup.proofs.argument_fault.Reads as reads
-use Rattle.lookup.proofs.argument_fault.Lts as lts
-use Rattle.cells.proofs.read.Reads as read-reads
-use Rattle.lookup.proofs.is_known.Reads as is-known-reads
-use Rattle.lookup.proofs.note.Reads as note-reads
 
 mul-read : tie.Need-mul-read
 mul-read c = omega (arith, c .before .before .before .pre .at .there, c .before .before .before .pre .at .holds .tabular .code-most, c .before .before .before .pre .place)

@@ -1,16 +1,11 @@
 -- `lookup::code_fault` meets its contract.
 use borrow.Author.Needs.{needs}
 use native.Mathlib.Omega.{arith}
-use mathlib.Core.Path.{_≡_, refl, ap, sym, _∙_}
-use Prim.Native.Nat.{_-_, _≤_}
+use Prim.Native.Nat.{_-_}
 use denote.Ref.{now}
 use Rattle.lookup.proofs.Walks.{CodeGoing, code-first, code-asked, code-next, code-over}
 use Rattle.lookup.proofs.code_fault.Statement.{statement}
 use Rattle.lookup.proofs.code_fault.Tie as tie
-use Rattle.lookup.proofs.code_fault.Reads as reads
-use Rattle.lookup.proofs.code_fault.Lts as lts
-use Rattle.lookup.proofs.instruction_fault.Reads as instruction-fault-reads
-use Rattle.table.proofs.instructions.Reads as instructions-reads
 
 abbrev Inv-loop : tie.InvT-loop
 Inv-loop text table sw kind named n g₀ k₀ g k = CodeGoing text sw table kind named g₀ k g

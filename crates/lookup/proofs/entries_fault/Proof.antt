@@ -1,21 +1,14 @@
 -- `lookup::entries_fault` meets its contract.
 use borrow.Author.Needs.{needs}
 use native.Mathlib.Omega.{arith}
-use mathlib.Core.Path.{_≡_, refl, ap, sym, _∙_}
 use mathlib.Core.Bool.{true}
-use Prim.Native.Nat.{_-_, _≤_}
+use Prim.Native.Nat.{_-_}
 use denote.Ref.{now}
 use Rattle.writing.proofs.Held.{entry-count}
 use Rattle.lookup.proofs.Uses.{noted}
 use Rattle.lookup.proofs.Walks.{EntriesGoing, entries-first, entries-next, entries-over}
 use Rattle.lookup.proofs.entries_fault.Statement.{statement}
 use Rattle.lookup.proofs.entries_fault.Tie as tie
-use Rattle.lookup.proofs.entries_fault.Reads as reads
-use Rattle.lookup.proofs.entries_fault.Lts as lts
-use Rattle.cells.proofs.read.Reads as read-reads
-use Rattle.lookup.proofs.is_known.Reads as is-known-reads
-use Rattle.lookup.proofs.note.Reads as note-reads
-use Rattle.table.proofs.entries.Reads as entries-reads
 
 abbrev Inv-loop : tie.InvT-loop
 Inv-loop text table sw en n g₀ k₀ g k = EntriesGoing text sw table en g₀ k g

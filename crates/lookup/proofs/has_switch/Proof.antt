@@ -1,8 +1,7 @@
 -- `lookup::has_switch` meets its contract.
 use borrow.Author.Needs.{needs}
 use native.Mathlib.Omega.{arith}
-use mathlib.Core.Path.{_≡_, refl, ap, sym, _∙_}
-use mathlib.Core.Bool.{_&&_, Bool·beq}
+use mathlib.Core.Path.{_≡_, sym, _∙_}
 use Prim.Native.Nat.{_-_, _≤_}
 use denote.Ref.{now}
 use Rattle.finding.proofs.Found.{Missed, missed-none, missed-more}
@@ -10,13 +9,6 @@ use Rattle.writing.proofs.Held.{switch-count}
 use Rattle.lookup.proofs.Places.{switch-hit, switch-found, switch-none, hit-is}
 use Rattle.lookup.proofs.has_switch.Statement.{statement}
 use Rattle.lookup.proofs.has_switch.Tie as tie
-use Rattle.lookup.proofs.has_switch.Reads as reads
-use Rattle.lookup.proofs.has_switch.Lts as lts
-use Rattle.cells.proofs.read.Reads as read-reads
-use Rattle.lookup.proofs.agree.Reads as agree-reads
-use Rattle.lookup.proofs.same_name.Reads as same-name-reads
-use Rattle.table.proofs.switch_by_name.Reads as switch-by-name-reads
-use Rattle.table.proofs.switches.Reads as switches-reads
 
 abbrev Inv-loop : tie.InvT-loop
 Inv-loop text table sw named m n k₀ k = (k ≤ n) × Missed (switch-hit text table sw named m) k

@@ -1,16 +1,11 @@
 -- `lookup::instruction_fault` meets its contract.
 use borrow.Author.Needs.{needs}
 use native.Mathlib.Omega.{arith}
-use mathlib.Core.Path.{_≡_, refl, ap, sym, _∙_}
+use mathlib.Core.Path.{sym, _∙_}
 use denote.Ref.{now}
 use Rattle.lookup.proofs.Uses.{instr-other, instr-noted}
 use Rattle.lookup.proofs.instruction_fault.Statement.{statement}
 use Rattle.lookup.proofs.instruction_fault.Tie as tie
-use Rattle.lookup.proofs.instruction_fault.Reads as reads
-use Rattle.lookup.proofs.instruction_fault.Lts as lts
-use Rattle.lookup.proofs.argument_fault.Reads as argument-fault-reads
-use Rattle.lookup.proofs.is_asked.Reads as is-asked-reads
-use Rattle.table.proofs.operator.Reads as operator-reads
 
 operator-requires : tie.Need-operator-requires
 operator-requires c κs = record { long = c .before .before .before .pre .holds .long; below = omega (arith, c .before .before .before .pre .there, c .before .before .before .pre .holds .tabular .code-most) }

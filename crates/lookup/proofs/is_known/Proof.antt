@@ -1,16 +1,10 @@
 -- `lookup::is_known` meets its contract.
 use borrow.Author.Needs.{needs}
-use native.Mathlib.Omega.{arith}
 use Rattle.finding.proofs.Found.{labels-counted}
 use denote.Ref.{now}
 use Rattle.lookup.proofs.Uses.{label-known, switch-known}
 use Rattle.lookup.proofs.is_known.Statement.{statement}
 use Rattle.lookup.proofs.is_known.Tie as tie
-use Rattle.lookup.proofs.is_known.Reads as reads
-use Rattle.lookup.proofs.is_known.Lts as lts
-use Rattle.lookup.proofs.has_switch.Reads as has-switch-reads
-use Rattle.lookup.proofs.label_place.Reads as label-place-reads
-use Rattle.table.proofs.labels.Reads as labels-reads
 
 label-place-requires : tie.Need-label-place-requires
 label-place-requires c κs = labels-counted _ _ (c .before .before .before .before .pre .holds)

@@ -1,17 +1,9 @@
 -- `lookup::lower` meets its contract.
 use borrow.Author.Needs.{needs}
-use native.Mathlib.Omega.{arith}
-use mathlib.Core.Path.{_≡_, refl, ap, sym, _∙_}
-use mathlib.Core.List.{List, [], _∷_}
-use Prim.Native.Nat.{ℕ}
+use mathlib.Core.Path.{refl}
 use Rattle.syntax.specs.Verdict.{lowest}
-use Rattle.statements.specs.declared.Fault.the-variants.{At}
-use Rattle.lookup.specs.Lookup.{joined}
 use Rattle.lookup.proofs.lower.Statement.{statement}
 use Rattle.lookup.proofs.lower.Tie as tie
-use Rattle.lookup.proofs.lower.Reads as reads
-use Rattle.lookup.proofs.lower.Lts as lts
-use Rattle.lookup.proofs.least.Reads as least-reads
 
 enum-told : tie.Need-enum-told
 enum-told c = search needs

@@ -1,13 +1,8 @@
 -- `lookup::note` meets its contract.
 use borrow.Author.Needs.{needs}
-use native.Mathlib.Omega.{arith}
-use mathlib.Core.Path.{_≡_, refl, ap, sym, _∙_}
 use Rattle.lookup.proofs.Faults.{joined-none}
 use Rattle.lookup.proofs.note.Statement.{statement}
 use Rattle.lookup.proofs.note.Tie as tie
-use Rattle.lookup.proofs.note.Reads as reads
-use Rattle.lookup.proofs.note.Lts as lts
-use Rattle.lookup.proofs.lower.Reads as lower-reads
 
 returns : tie.Need-returns
 returns c = rw (c .if1 .taken) (joined-none (c .before .args .f))

@@ -1,14 +1,8 @@
 -- `lookup::same_name` meets its contract.
 use borrow.Author.Needs.{needs}
-use native.Mathlib.Omega.{arith}
-use mathlib.Core.Path.{_≡_, refl, ap, sym, _∙_}
 use Rattle.spelling.proofs.Chars.{same-is}
 use Rattle.lookup.proofs.same_name.Statement.{statement}
 use Rattle.lookup.proofs.same_name.Tie as tie
-use Rattle.lookup.proofs.same_name.Reads as reads
-use Rattle.lookup.proofs.same_name.Lts as lts
-use Rattle.check.proofs.same.Reads as same-reads
-use Rattle.lookup.proofs.word.Reads as word-reads
 
 word-requires : tie.Need-word-requires
 word-requires c κs = search needs

@@ -1,17 +1,13 @@
 -- `lookup::switch_place` meets its contract.
 use borrow.Author.Needs.{needs}
 use native.Mathlib.Omega.{arith}
-use mathlib.Core.Path.{_≡_, refl, ap, sym, _∙_}
+use mathlib.Core.Path.{_≡_, sym, _∙_}
 use Prim.Native.Nat.{_-_, _≤_}
 use denote.Ref.{now}
 use Rattle.finding.proofs.Found.{Missed, missed-none, missed-more}
 use Rattle.lookup.proofs.Places.{name-hit, place-found, place-none}
 use Rattle.lookup.proofs.switch_place.Statement.{statement}
 use Rattle.lookup.proofs.switch_place.Tie as tie
-use Rattle.lookup.proofs.switch_place.Reads as reads
-use Rattle.lookup.proofs.switch_place.Lts as lts
-use Rattle.cells.proofs.read.Reads as read-reads
-use Rattle.lookup.proofs.same_name.Reads as same-name-reads
 
 abbrev Inv-loop : tie.InvT-loop
 Inv-loop text sw count m k₀ k = (k ≤ count) × Missed (name-hit text sw m) k

@@ -3,9 +3,6 @@ use borrow.Author.Needs.{needs}
 use Rattle.lookup.proofs.Words.{word-cut}
 use Rattle.lookup.proofs.word.Statement.{statement}
 use Rattle.lookup.proofs.word.Tie as tie
-use Rattle.lookup.proofs.word.Reads as reads
-use Rattle.lookup.proofs.word.Lts as lts
-use Rattle.lookup.proofs.least.Reads as least-reads
 
 least-requires : tie.Need-least-requires
 least-requires c κs = search needs

@@ -1,7 +1,6 @@
 -- `resolving::resolve_argument` meets its contract.
 use borrow.Author.Needs.{needs}
 use native.Mathlib.Omega.{arith}
-use mathlib.Core.Path.{_≡_, refl, ap, sym, _∙_}
 use Prim.Native.Nat.{_/_}
 use denote.Ref.{now}
 use Rattle.finding.proofs.Found.{labels-counted}
@@ -10,13 +9,6 @@ use Rattle.writing.proofs.Rooms.{argument-place}
 use Rattle.resolving.proofs.Steps.{label-put, switch-put, none-put, switch-low}
 use Rattle.resolving.proofs.resolve_argument.Statement.{statement}
 use Rattle.resolving.proofs.resolve_argument.Tie as tie
-use Rattle.resolving.proofs.resolve_argument.Reads as reads
-use Rattle.resolving.proofs.resolve_argument.Lts as lts
-use Rattle.cells.proofs.read.Reads as read-reads
-use Rattle.lookup.proofs.label_place.Reads as label-place-reads
-use Rattle.lookup.proofs.switch_place.Reads as switch-place-reads
-use Rattle.table.proofs.switches.Reads as switches-reads
-use Rattle.writing.proofs.set_argument.Reads as set-argument-reads
 
 mul-read : tie.Need-mul-read
 mul-read c = omega (arith, c .before .before .before .before .pre .at .there, c .before .before .before .before .pre .at .holds .tabular .code-most, c .before .before .before .before .pre .place)

@@ -1,7 +1,7 @@
 -- `resolving::resolve_code` meets its contract.
 use borrow.Author.Needs.{needs}
 use native.Mathlib.Omega.{arith}
-use mathlib.Core.Path.{_≡_, refl, ap, sym, _∙_}
+use mathlib.Core.Path.{_≡_, refl}
 use Prim.Native.Nat.{_-_, _≤_}
 use lib.ListN.{length}
 use denote.Ref.{now}
@@ -10,10 +10,6 @@ use Rattle.resolving.specs.Resolving.{code-resolved}
 use Rattle.resolving.proofs.Steps.{code-first, code-next, code-asked, code-done}
 use Rattle.resolving.proofs.resolve_code.Statement.{statement}
 use Rattle.resolving.proofs.resolve_code.Tie as tie
-use Rattle.resolving.proofs.resolve_code.Reads as reads
-use Rattle.resolving.proofs.resolve_code.Lts as lts
-use Rattle.resolving.proofs.resolve_instruction.Reads as resolve-instruction-reads
-use Rattle.table.proofs.instructions.Reads as instructions-reads
 
 abbrev Inv-loop : tie.InvT-loop
 Inv-loop text table₀ sw n k₀ table k = (k ≤ n) × ((length table ≡ length table₀) × Changes (code-resolved text sw k) table₀ table)

@@ -1,7 +1,7 @@
 -- `resolving::resolve_entries` meets its contract.
 use borrow.Author.Needs.{needs}
 use native.Mathlib.Omega.{arith}
-use mathlib.Core.Path.{_≡_, refl, ap, sym, _∙_}
+use mathlib.Core.Path.{_≡_, refl}
 use Prim.Native.Nat.{_-_, _≤_}
 use lib.ListN.{length}
 use denote.Ref.{now}
@@ -10,10 +10,6 @@ use Rattle.resolving.specs.Resolving.{entries-resolved}
 use Rattle.resolving.proofs.Steps.{entries-first, entries-next, entries-asked, entries-done}
 use Rattle.resolving.proofs.resolve_entries.Statement.{statement}
 use Rattle.resolving.proofs.resolve_entries.Tie as tie
-use Rattle.resolving.proofs.resolve_entries.Reads as reads
-use Rattle.resolving.proofs.resolve_entries.Lts as lts
-use Rattle.resolving.proofs.resolve_entry.Reads as resolve-entry-reads
-use Rattle.table.proofs.entries.Reads as entries-reads
 
 abbrev Inv-loop : tie.InvT-loop
 Inv-loop text table₀ en n k₀ table k = (k ≤ n) × ((length table ≡ length table₀) × Changes (entries-resolved text en k) table₀ table)

@@ -1,7 +1,7 @@
 -- `resolving::resolve_entry` meets its contract.
 use borrow.Author.Needs.{needs}
 use native.Mathlib.Omega.{arith}
-use mathlib.Core.Path.{_≡_, refl, ap, sym, _∙_}
+use mathlib.Core.Path.{ap}
 use denote.Ref.{now}
 use Rattle.finding.proofs.Found.{labels-counted}
 use Rattle.writing.proofs.Rooms.{entry-place}
@@ -9,11 +9,6 @@ use Rattle.lookup.specs.Lookup.{label-by}
 use Rattle.resolving.proofs.Steps.{entry-put}
 use Rattle.resolving.proofs.resolve_entry.Statement.{statement}
 use Rattle.resolving.proofs.resolve_entry.Tie as tie
-use Rattle.resolving.proofs.resolve_entry.Reads as reads
-use Rattle.resolving.proofs.resolve_entry.Lts as lts
-use Rattle.cells.proofs.read.Reads as read-reads
-use Rattle.lookup.proofs.label_place.Reads as label-place-reads
-use Rattle.writing.proofs.set_entry_label.Reads as set-entry-label-reads
 
 read-requires : tie.Need-read-requires
 read-requires c κs = omega (arith, c .before .before .before .before .pre .there, c .before .before .before .before .pre .holds .tabular .entries-most, c .before .before .before .before .pre .room)

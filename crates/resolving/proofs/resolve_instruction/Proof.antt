@@ -1,14 +1,10 @@
 -- `resolving::resolve_instruction` meets its contract.
 use borrow.Author.Needs.{needs}
 use native.Mathlib.Omega.{arith}
-use mathlib.Core.Path.{_≡_, refl, ap, sym, _∙_}
 use denote.Ref.{now}
 use Rattle.resolving.proofs.Steps.{asking-after, changed-twice}
 use Rattle.resolving.proofs.resolve_instruction.Statement.{statement}
 use Rattle.resolving.proofs.resolve_instruction.Tie as tie
-use Rattle.resolving.proofs.resolve_instruction.Reads as reads
-use Rattle.resolving.proofs.resolve_instruction.Lts as lts
-use Rattle.resolving.proofs.resolve_argument.Reads as resolve-argument-reads
 
 resolve-argument-requires : tie.Need-resolve-argument-requires
 resolve-argument-requires c κs = record { at = (c .before .before .before .before .pre); place = omega arith }
