@@ -8,7 +8,7 @@ use native.Mathlib.Omega.{arith}
 use lib.Dec.{T, eqb}
 use lib.ListN.{length, getD, drop}
 use lib.IntN.{ℤ}
-use borrow.Author.Tests.{eqb-true, eq-eqb, ne-eqb}
+use borrow.Author.Tests.{eqb-true}
 use Rattle.acceptance.specs.Drafts.{Sound-argument, Sound-written}
 use Rattle.drafts.specs.Drafting.{draft-arg, draft-instr}
 use Rattle.drafts.specs.DraftingLaws.{place-back}
@@ -22,6 +22,7 @@ use Rattle.language.specs.Values.{amount, valueOf}
 use Rattle.layout.specs.Bounds.{Each}
 use Rattle.layout.specs.Table.{arg-cell}
 use Rattle.lists.specs.Lists.{each, keep, filled, headOr}
+use Rattle.lookup.proofs.Uses.{of-kind, not-of-kind}
 use Rattle.lookup.specs.Lookup.{marks-in, instr-marks, instr-uses, names-number}
 use Rattle.syntax.specs.ArgumentForms.{form-in, word-reads, reads, Argument, of-form, letter-of}
 use Rattle.syntax.specs.Items.{Item, is}
@@ -51,29 +52,23 @@ switches-of (text t) = []
 switches-of (Arg.number z) = []
 
 module _ (p : Program) where
-  no-mark : (kind x : ℕ) → (x % 8 ≡ kind → ⊥) → marks-in kind x ≡ []
-  no-mark kind x e = ap (λ (b : Bool). cond b (x / 8 ∷ []) []) (ne-eqb (x % 8) kind e)
-
-  a-mark : (kind x m : ℕ) → x % 8 ≡ kind → x / 8 ≡ m → marks-in kind x ≡ m ∷ []
-  a-mark kind x m e f = ap (λ (b : Bool). cond b (x / 8 ∷ []) []) (eq-eqb (x % 8) kind e) ∙ ap (λ (k : ℕ). k ∷ []) f
-
   label-marks : (a : Arg) → marks-in 2 (arg-cell p a) ≡ labels-of a
   label-marks nothing = refl
-  label-marks (letter l n) = no-mark 2 (arg-cell p (letter l n)) (λ e. omega (arith, e))
-  label-marks (label m) = a-mark 2 (2 + 8 * m) m (omega arith) (omega arith)
-  label-marks (switch m) = no-mark 2 (3 + 8 * m) (λ e. omega (arith, e))
-  label-marks (class cs) = no-mark 2 (arg-cell p (class cs)) (λ e. omega (arith, e))
-  label-marks (text t) = no-mark 2 (arg-cell p (text t)) (λ e. omega (arith, e))
-  label-marks (Arg.number z) = no-mark 2 (arg-cell p (Arg.number z)) (λ e. omega (arith, e))
+  label-marks (letter l n) = not-of-kind 2 (arg-cell p (letter l n)) (λ e. omega (arith, e))
+  label-marks (label m) = of-kind 2 (2 + 8 * m) (omega arith) ∙ ap (λ (k : ℕ). k ∷ []) (let z : (2 + 8 * m) / 8 ≡ m = omega arith in z)
+  label-marks (switch m) = not-of-kind 2 (3 + 8 * m) (λ e. omega (arith, e))
+  label-marks (class cs) = not-of-kind 2 (arg-cell p (class cs)) (λ e. omega (arith, e))
+  label-marks (text t) = not-of-kind 2 (arg-cell p (text t)) (λ e. omega (arith, e))
+  label-marks (Arg.number z) = not-of-kind 2 (arg-cell p (Arg.number z)) (λ e. omega (arith, e))
 
   switch-marks : (a : Arg) → marks-in 3 (arg-cell p a) ≡ switches-of a
   switch-marks nothing = refl
-  switch-marks (letter l n) = no-mark 3 (arg-cell p (letter l n)) (λ e. omega (arith, e))
-  switch-marks (label m) = no-mark 3 (2 + 8 * m) (λ e. omega (arith, e))
-  switch-marks (switch m) = a-mark 3 (3 + 8 * m) m (omega arith) (omega arith)
-  switch-marks (class cs) = no-mark 3 (arg-cell p (class cs)) (λ e. omega (arith, e))
-  switch-marks (text t) = no-mark 3 (arg-cell p (text t)) (λ e. omega (arith, e))
-  switch-marks (Arg.number z) = no-mark 3 (arg-cell p (Arg.number z)) (λ e. omega (arith, e))
+  switch-marks (letter l n) = not-of-kind 3 (arg-cell p (letter l n)) (λ e. omega (arith, e))
+  switch-marks (label m) = not-of-kind 3 (2 + 8 * m) (λ e. omega (arith, e))
+  switch-marks (switch m) = of-kind 3 (3 + 8 * m) (omega arith) ∙ ap (λ (k : ℕ). k ∷ []) (let z : (3 + 8 * m) / 8 ≡ m = omega arith in z)
+  switch-marks (class cs) = not-of-kind 3 (arg-cell p (class cs)) (λ e. omega (arith, e))
+  switch-marks (text t) = not-of-kind 3 (arg-cell p (text t)) (λ e. omega (arith, e))
+  switch-marks (Arg.number z) = not-of-kind 3 (arg-cell p (Arg.number z)) (λ e. omega (arith, e))
 
 -- the cases of an argument, as load tells them apart
 abbrev pub by-form : Bool → Bool → Bool → Bool → Bool → List ℕ → ℤ → List ℕ → Arg → Arg → Letter → ℕ → Arg
@@ -203,14 +198,14 @@ module _ (s : List ℕ) (p : Program) (texts : List (List ℕ)) (numbers : List 
 
 -- ---- the marks of a text
 
-pub map-append : (xs ys : List Item) → map (λ i. mark i) (xs ++ ys) ≡ map (λ i. mark i) xs ++ map (λ i. mark i) ys
-map-append [] ys = refl
-map-append (x ∷ xs) ys = ap (λ (l : List ℕ). mark x ∷ l) (map-append xs ys)
+pub map-append : (f : Item → ℕ) (xs ys : List Item) → map f (xs ++ ys) ≡ map f xs ++ map f ys
+map-append f [] ys = refl
+map-append f (x ∷ xs) ys = ap (λ (l : List ℕ). f x ∷ l) (map-append f xs ys)
 
 pub all-uses : (s : List ℕ) (u : Instr → List ℕ) (fs : String) (ws : List Written) → Each (λ w. u (draft-instr s w) ≡ map (λ i. mark i) (of-form fs (w .args))) ws
     → each u (map (draft-instr s) ws) ≡ map (λ i. mark i) (each (λ w. of-form fs (w .args)) ws)
 all-uses s u fs [] e = refl
-all-uses s u fs (w ∷ ws) e = (λ j. e .0 j ++ all-uses s u fs ws (e .1) j) ∙ sym (map-append (of-form fs (w .args)) (each (λ w. of-form fs (w .args)) ws))
+all-uses s u fs (w ∷ ws) e = (λ j. e .0 j ++ all-uses s u fs ws (e .1) j) ∙ sym (map-append (λ i. mark i) (of-form fs (w .args)) (each (λ w. of-form fs (w .args)) ws))
 
 -- ---- names that are used
 

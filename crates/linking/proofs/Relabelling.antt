@@ -31,7 +31,7 @@ use Rattle.writing.proofs.Replacing.{relabelled-entries}
 use Rattle.writing.proofs.Shapes.{kinds, counts-of, relabelled-kinds, relabelled-counts, same-switches}
 use Rattle.writing.proofs.Switching.{entries-of}
 use Rattle.writing.specs.Writing.{HoldsProgram, with-entry-label, to-label}
-use Rattle.linking.proofs.Marked.{Used}
+use Rattle.linking.proofs.Marked.{map-append, Used}
 use Rattle.linking.proofs.Undeclared.{entries-used, entries-draft}
 use Rattle.linking.proofs.Placing.{code-labels, code-switches, code-texts, code-numbers, label-placed, program-code}
 
@@ -72,10 +72,6 @@ entries-placed place (i ∷ js) = go (is word i) (ifAny [] (λ j. cond (is text 
         ≡ relabel (map (λ i. place (i .chars)) (cond b (i ∷ keep (is word) js) (keep (is word) js))) (cond b (record { label = 0; text = v } ∷ []) [] ++ entries-in (λ w. 0) js)
     go true v e = ap (λ (r : List Entry). record { label = place (i .chars); text = v } ∷ r) e
     go false v e = e
-
-map-append : (f : Item → ℕ) (xs ys : List Item) → map f (xs ++ ys) ≡ map f xs ++ map f ys
-map-append f [] ys = refl
-map-append f (x ∷ xs) ys = ap (λ (l : List ℕ). f x ∷ l) (map-append f xs ys)
 
 abbrev switch-of : (List ℕ → ℕ) → Choice → Switch
 switch-of place c = record { byName = c .byName; entries = entries-in place (c .list) }

@@ -171,7 +171,7 @@ module _ (s : List ℕ) (t : Tables) (c sw en : List ℕ) (h : Tabled s t c sw e
   label-faults =
       let a = code-marks (instr-uses 2 true draft) "l"
       (each-map (Sound-written (length s) (t .texts) (t .numbers)) _ (λ w e. label-uses s draft (t .texts) (t .numbers) w e true) (t .code) (h .sound .code)) in
-      (λ j. faults s sw 2 true draft (a j ++ entry-marks-are j)) ∙ ap (faults s sw 2 true draft) (sym (map-append (given-as "l" t) (entry-items t)))
+      (λ j. faults s sw 2 true draft (a j ++ entry-marks-are j)) ∙ ap (faults s sw 2 true draft) (sym (map-append (λ i. mark i) (given-as "l" t) (entry-items t)))
       ∙ faults-items s sw 2 true draft (λ i. any (λ l. sameBytes (i .chars) (l .name)) (t .labels)) (used-labels t)
       (each-map (Used s) _ label-ok (used-labels t) (each-append (Used s) (given-as "l" t) (entry-items t) (used-of "l" only-l) entries-used))
 
