@@ -7,6 +7,8 @@ use lib.ListN.{length, getD, take, drop, length-drop}
 use lib.Seq.{take-suc, getD-drop, drop-drop}
 use Rattle.drafts.specs.Marks.{place-by}
 use Rattle.entering.specs.Entering.{Enterable, Enters, Short-item, Ranged-item, long-text, large-number, set-texts, set-numbers}
+use Rattle.faults.specs.Faults.{lower}
+use Rattle.faults.specs.FaultLaws.{fault-both, lower-clear}
 use Rattle.language.specs.Limits as limit
 use Rattle.language.specs.Program.{Program}
 use Rattle.language.specs.Values.{sameNumber}
@@ -19,35 +21,7 @@ use Rattle.syntax.specs.Questions.{beyond}
 use Rattle.syntax.specs.Tables.{number-in}
 use Rattle.syntax.specs.Verdict.{lowest}
 use Rattle.writing.specs.Writing.{HoldsProgram}
-use Rattle.declaring.specs.Declaring.{lower, marks-in, texts-excess, numbers-excess, Labels-told, Instr-told, instr-excess, with-values, Judgeable, Judges}
-
-lowest-min : (a y : ℕ) (ys : List ℕ) → lowest (min a y) ys ≡ min a (lowest y ys)
-unfolding lowest
-lowest-min a y [] = refl
-lowest-min a y (z ∷ ys) =
-    let e : min (min a y) z ≡ min a (min y z) = omega arith in
-    ap (λ (m : ℕ). lowest m ys) e ∙ lowest-min a (min y z) ys
-
-pub fault-both : (xs ys : List ℕ) → fault-of (xs ++ ys) ≡ lower (fault-of xs) (fault-of ys)
-unfolding lowest
-fault-both [] ys = refl
-fault-both (x ∷ xs) [] = ap At (lowest-append x xs [])
-fault-both (x ∷ xs) (y ∷ ys) = ap At (lowest-append x xs (y ∷ ys) ∙ lowest-min (lowest x xs) y ys)
-
-pub lower-clear : (a b : Fault) → lower a b ≡ Clear → (a ≡ Clear) × (b ≡ Clear)
-lower-clear Clear b e = (refl, e)
-lower-clear (At p) Clear e = absurd (let y : _≡_ {A = ℕ} 0 1 = cc in omega arith)
-lower-clear (At p) (At q) e = absurd (let y : _≡_ {A = ℕ} 0 1 = cc in omega arith)
-
-pub lower-none : (a b : Fault) → a ≡ Clear → b ≡ lower a b
-lower-none a b e = sym (ap (λ (f : Fault). lower f b) e)
-
-module _ (a b : Fault) {p : ℕ} where
-  pub lower-one : a ≡ At p → b ≡ Clear → At p ≡ lower a b
-  lower-one e f = sym (ap (λ (x : Fault). lower x b) e ∙ ap (λ (x : Fault). lower (At p) x) f)
-
-  pub lower-two : {q r : ℕ} → a ≡ At p → b ≡ At q → r ≡ min p q → At r ≡ lower a b
-  lower-two {q} {r} e f g = ap At g ∙ sym (ap (λ (x : Fault). lower x b) e ∙ ap (λ (x : Fault). lower (At p) x) f)
+use Rattle.declaring.specs.Declaring.{marks-in, texts-excess, numbers-excess, Labels-told, Instr-told, instr-excess, with-values, Judgeable, Judges}
 
 -- ---- the marks one by one
 

@@ -25,12 +25,6 @@ use Rattle.syntax.specs.Tables.{number-in}
 use Rattle.writing.specs.Writing.{HoldsProgram, kept-arg, label-of, with-instr}
 use Rattle.argument_cells.specs.ArgumentCells.{Right-argument, Arguing}
 
--- of two questions' faults, the lower
-abbrev pub lower : Fault → Fault → Fault
-lower Clear b = b
-lower (At p) Clear = At p
-lower (At p) (At q) = At (min p q)
-
 -- the marks from index a to index b
 abbrev pub marks-in : List ℕ → ℕ → ℕ → List ℕ
 marks-in ms a b = take (b - a) (drop a ms)

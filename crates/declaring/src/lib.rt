@@ -1,39 +1,18 @@
 // A judged statement with an instruction comes to the program table: question 11, then its labels, its texts and numbers, and the instruction.
 ghost use mathlib.Core.Path.{_≡_};
 ghost use mathlib.Core.List.{map};
-ghost use Prim.Native.Nat.{_/_, _≤_, min};
+ghost use Prim.Native.Nat.{_/_, _≤_};
 ghost use lib.ListN.{length};
 ghost use Rattle.cells.specs.Cells.{Number};
 ghost use Rattle.drafts.specs.Marks.{place-by, word-by};
 ghost use Rattle.statements.specs.StatementAt.{fault-of};
 ghost use Rattle.writing.specs.Writing.{Changes, with-label, label-of};
-ghost use Rattle.declaring.specs.Declaring.{lower, marks-in, with-labels, labels-by, Named, Nameable, Labelling, Over, Labels-told, Instr-told, Judgeable, Judges, Writable, WritesInstr, Declarable, Declares};
+ghost use Rattle.declaring.specs.Declaring.{marks-in, with-labels, labels-by, Named, Nameable, Labelling, Over, Labels-told, Instr-told, Judgeable, Judges, Writable, WritesInstr, Declarable, Declares};
 use argument_cells::nth_cell;
+use faults::lower;
 use language::Machine;
 use lexer::Token;
 use statements::Fault;
-
-// The lower of two places at fault.
-pub fn lower(a: Fault, b: Fault) -> Fault
-    ensures { λ r. ⌜ r ≡ lower a b ⌝ }
-{
-    match a {
-        Fault::Clear => b,
-        Fault::At(p) => match b {
-            Fault::Clear => Fault::At(p),
-            Fault::At(q) => Fault::At(lesser(p, q)),
-        },
-    }
-}
-
-fn lesser(p: usize, q: usize) -> usize
-    ensures { λ r. ⌜ r ≡ min p q ⌝ }
-{
-    if p <= q {
-        return p;
-    }
-    q
-}
 
 fn wide(m: u32) -> usize
     ensures { λ r. ⌜ Number m 4294967296 r ⌝ }
@@ -42,7 +21,7 @@ fn wide(m: u32) -> usize
 }
 
 // The lowest place of the names of the marks from index `from` to index `to`.
-fn lowest_mark(names: &[u32], from: usize, to: usize) -> Fault
+pub fn lowest_mark(names: &[u32], from: usize, to: usize) -> Fault
     requires { ⌜ to ≤ length (now names) ⌝ }
     ensures { λ r. ⌜ r ≡ fault-of (map place-by (marks-in (now (names .entry)) from to)) ⌝ }
 {

@@ -7,8 +7,10 @@ use native.Mathlib.Omega.{arith}
 use lib.Dec.{eqb}
 use lib.ListN.{length, drop}
 use lib.Seq.{drop-nil}
-use Rattle.declaring.specs.Declaring.{lower, texts-excess}
-use Rattle.declaring.proofs.Judging.{fault-both, lower-clear, drop-map}
+use Rattle.declaring.specs.Declaring.{texts-excess}
+use Rattle.faults.specs.Faults.{lower}
+use Rattle.faults.specs.FaultLaws.{fault-both, lower-clear}
+use Rattle.declaring.proofs.Judging.{drop-map}
 use Rattle.entering.specs.Entering.{Enterable, Enters, Short-item, long-text, set-texts}
 use Rattle.judging.specs.FaultLaws.{fault-first, places-from}
 use Rattle.judging.specs.LabelLaws.{passed-over, first-passed}

@@ -12,7 +12,7 @@ ghost use Rattle.layout.specs.Table.{text-ref};
 ghost use Rattle.declaring_switches.specs.Entries.{next-text, Text-after, Puttable, Puts, Listing, Lists};
 ghost use Rattle.declaring_switches.specs.Switches.{Writable-switch, WritesSwitch, Declarable-switch, DeclaresSwitch};
 use argument_cells::item_text;
-use declaring::lower;
+use faults::lower;
 use judging::less_one;
 use language::Machine;
 use lexer::Token;

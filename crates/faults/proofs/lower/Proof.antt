@@ -1,10 +1,10 @@
--- `declaring::lower` meets its contract.
+-- `faults::lower` meets its contract.
 use borrow.Author.Needs.{needs}
 use native.Mathlib.Omega.{arith}
 use mathlib.Core.Path.{refl, sym, ap, _∙_}
-use Rattle.declaring.proofs.Judging.{lower-none, lower-one, lower-two}
-use Rattle.declaring.proofs.lower.Statement.{statement}
-use Rattle.declaring.proofs.lower.Tie as tie
+use Rattle.faults.specs.FaultLaws.{lower-none, lower-one, lower-two}
+use Rattle.faults.proofs.lower.Statement.{statement}
+use Rattle.faults.proofs.lower.Tie as tie
 
 enum-told : tie.Need-enum-told
 enum-told c = search needs
