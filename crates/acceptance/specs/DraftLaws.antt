@@ -288,7 +288,7 @@ operator-there x k e h = go (behind x) e
     go (y ∷ ys) e = tt
 
 -- 08: a switch has exactly one label
-one-label : (ls ys : List Item) → T (filled ys) → cond (filled ls) (places (drop 1 ls)) (places (take 1 ys)) ≡ [] → (l : Item) × (ls ≡ l ∷ [])
+pub one-label : (ls ys : List Item) → T (filled ys) → cond (filled ls) (places (drop 1 ls)) (places (take 1 ys)) ≡ [] → (l : Item) × (ls ≡ l ∷ [])
 one-label [] [] f h = absurd f
 one-label [] (y ∷ ys) f h = absurd (let z : _≡_ {A = ℕ} 0 1 = cc in omega arith)
 one-label (l ∷ []) ys f h = (l, refl)

@@ -4,7 +4,7 @@ use mathlib.Core.List.{List, [], _∷_, _++_}
 use Prim.Native.Nat.{ℕ, _+_, _≤_, _<_}
 use native.Mathlib.Omega.{arith}
 use lib.Dec.{T, eqb}
-use lib.ListN.{length, getD, take, drop, length-take}
+use lib.ListN.{length, getD, take, drop, length-take, length-drop}
 use Rattle.lists.specs.Lists.{all, ahead, headOr, ifAny, among}
 use Rattle.lists.specs.Quoted.{bytes}
 use Rattle.lists.specs.ListLaws.{T-left, T-right, T-both, all-at}
@@ -138,7 +138,7 @@ module _ (n : ℕ) where
   named-sound [] h = tt
   named-sound (i ∷ js) h = attach-sound i (named js) (h .0) (named-sound js (h .1))
 
-  head-sound : (xs : List (List Item)) → Each (Each (Sound-item n)) xs → Each (Sound-item n) (headOr [] xs)
+  pub head-sound : (xs : List (List Item)) → Each (Each (Sound-item n)) xs → Each (Sound-item n) (headOr [] xs)
   head-sound [] h = tt
   head-sound (x ∷ xs) h = h .0
 
@@ -155,9 +155,15 @@ module _ (n : ℕ) where
   parts-sound [] h = (tt, tt)
   parts-sound (i ∷ js) h = parted-sound i (statements js) (h .0) (parts-sound js (h .1))
 
--- every item of every statement of a text
+-- every item of every statement from a place on, and of every statement of a text
+pub statements-sound-from : (s : List ℕ) (n : ℕ) → n ≤ length s → Each (Each (Sound-item (length s))) (statements-from n (drop n s))
+statements-sound-from s n h =
+    let r : List ℕ = drop n s in
+    parts-sound (length s) (named (read outside n r))
+    (named-sound (length s) (read outside n r) (read-sound (length s) outside n r tt (omega (arith, length-drop n s, h))))
+
 pub statements-sound : (s : List ℕ) → Each (Each (Sound-item (length s))) (statements-from 0 s)
-statements-sound s = parts-sound (length s) (named (read outside 0 s)) (named-sound (length s) (read outside 0 s) (read-sound (length s) outside 0 s tt (omega arith)))
+statements-sound s = statements-sound-from s 0 (omega arith)
 
 -- a place's line
 pub line-least : (s : List ℕ) (p : ℕ) → 0 < line-of s p
