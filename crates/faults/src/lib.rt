@@ -10,7 +10,7 @@ pub enum Verdict {
     No(u8, usize),
 }
 
-fn lesser(p: usize, q: usize) -> usize
+pub fn lesser(p: usize, q: usize) -> usize
     ensures { λ r. ⌜ r ≡ min p q ⌝ }
 {
     if p <= q {

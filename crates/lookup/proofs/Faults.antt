@@ -5,6 +5,7 @@ use mathlib.Core.List.{List, [], _∷_, _++_, map}
 use Prim.Native.Nat.{ℕ}
 use native.Mathlib.Omega.{arith}
 use Rattle.drafts.specs.Marks.{place-by}
+use Rattle.faults.specs.Faults.{lower}
 use Rattle.language.specs.Program.{Program}
 use Rattle.lists.specs.Lists.{keep}
 use Rattle.statements.specs.declared.Fault.{Fault}
@@ -17,6 +18,11 @@ pub joined-none : (f : Fault) → f ≡ joined f []
 unfolding lowest
 joined-none Clear = refl
 joined-none (At p) = refl
+
+pub joined-one : (f : Fault) (p : ℕ) → lower f (At p) ≡ joined f (p ∷ [])
+unfolding lowest
+joined-one Clear p = refl
+joined-one (At q) p = refl
 
 pub joined-join : (f : Fault) (xs ys : List ℕ) → joined (joined f xs) ys ≡ joined f (xs ++ ys)
 unfolding lowest

@@ -2,7 +2,7 @@
 ghost use mathlib.Core.Path.{_≡_};
 ghost use mathlib.Core.Bool.{true, cond, Bool·beq};
 ghost use mathlib.Core.List.{[], _∷_};
-ghost use Prim.Native.Nat.{min, _≤_};
+ghost use Prim.Native.Nat.{_≤_};
 ghost use lib.ListN.{length, take};
 ghost use Rattle.layout.specs.Table.{arg-cell, all-entries};
 ghost use Rattle.language.specs.Program.{instr-at};
@@ -10,24 +10,17 @@ ghost use Rattle.lists.specs.Lists.{each, sameBytes};
 ghost use Rattle.drafts.specs.Marks.{place-by, word-by};
 ghost use Rattle.finding.specs.Finding.{Counted, Tells};
 ghost use Rattle.lookup.specs.Lookup.{label-by, switch-by, is-switch, joined, known, faults, marks-in, argument, names-number, asked-by, instr-uses, Asking, AskingAt, AskingFor, AskingAll, Judges};
+use faults::lesser;
+use faults::lower;
 use statements::Fault;
-
-fn least(a: usize, b: usize) -> usize
-    ensures { λ r. ⌜ r ≡ min a b ⌝ }
-{
-    if a <= b {
-        return a;
-    }
-    b
-}
 
 // The word of the mark `m`.
 fn word(text: &[u8], m: usize) -> &[u8]
     ensures { λ r. ⌜ now r ≡ word-by (now (text .entry)) m ⌝ }
 {
     let n = text.len();
-    let a = least(m / 64, n);
-    let b = least(m / 64 + m % 64, n);
+    let a = lesser(m / 64, n);
+    let b = lesser(m / 64 + m % 64, n);
     &text[a..b]
 }
 
@@ -86,23 +79,14 @@ fn has_switch(text: &[u8], table: &[u32], sw: &[u32], named: bool, m: usize) -> 
     false
 }
 
-// The lower of the place at fault so far and another.
-fn lower(f: Fault, at: usize) -> Fault
-    ensures { λ r. ⌜ r ≡ joined f (at ∷ []) ⌝ }
-{
-    match f {
-        Fault::Clear => Fault::At(at),
-        Fault::At(p) => Fault::At(least(p, at)),
-    }
-}
-
+// The lower of the place at fault so far and the mark's, where that is at fault.
 fn note(f: Fault, fine: bool, m: usize) -> Fault
     ensures { λ r. ⌜ r ≡ joined f (cond fine [] (place-by m ∷ [])) ⌝ }
 {
     if fine {
         return f;
     }
-    lower(f, m / 64)
+    lower(f, Fault::At(m / 64))
 }
 
 // Whether the instructions of an operator take a switch by name.

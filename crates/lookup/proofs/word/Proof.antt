@@ -4,14 +4,14 @@ use Rattle.lookup.proofs.Words.{word-cut}
 use Rattle.lookup.proofs.word.Statement.{statement}
 use Rattle.lookup.proofs.word.Tie as tie
 
-least-requires : tie.Need-least-requires
-least-requires c κs = search needs
+lesser-requires : tie.Need-lesser-requires
+lesser-requires c κs = search needs
 
-add-least : tie.Need-add-least
-add-least c = search needs
+add-lesser : tie.Need-add-lesser
+add-lesser c = search needs
 
-least-requires-2 : tie.Need-least-requires-2
-least-requires-2 c κs = search needs
+lesser-requires-2 : tie.Need-lesser-requires-2
+lesser-requires-2 c κs = search needs
 
 sub-result : tie.Need-sub-result
 sub-result c = search needs
@@ -23,15 +23,15 @@ part-result-end : tie.Need-part-result-end
 part-result-end c = search needs
 
 returns : tie.Need-returns
-returns c = word-cut _ _ _ _ (c .before .before .least .ensures) (c .before .least2 .ensures)
+returns c = word-cut _ _ _ _ (c .before .before .lesser .ensures) (c .before .lesser2 .ensures)
 
 pub word-spec : {M : Type 1} → statement M
 word-spec =
     tie.close
     (tie.spec
-    least-requires
-    add-least
-    least-requires-2
+    lesser-requires
+    add-lesser
+    lesser-requires-2
     sub-result
     part-result-start
     part-result-end

@@ -1,0 +1,92 @@
+// The questions of a statement in their order, up to the tables' limits.
+ghost use mathlib.Core.Path.{_≡_};
+ghost use Prim.Native.Nat.{_≤_};
+ghost use lib.ListN.{length};
+ghost use Rattle.faults.specs.Faults.{verdict-of, then};
+ghost use Rattle.faults.specs.Groups.{argument-questions};
+ghost use Rattle.heads.specs.Heads.{Headed};
+ghost use Rattle.statements.specs.StatementAt.{statement-at};
+ghost use Rattle.syntax.specs.Verdict.{first-no};
+ghost use Rattle.asking.specs.Asking.{place-of, operator-verdict, Headable, Head-asked, Switch-asked};
+use declaring::lowest_mark;
+use faults::Verdict;
+use faults::decide;
+use heads::Head;
+use heads::is_switch;
+use judging::label_fault;
+use judging::operator_fault;
+use judging::section_fault;
+use judging_arguments::count_fault;
+use judging_switches::argument_fault;
+use statements::Fault;
+
+fn place_of(f: Fault) -> usize
+    ensures { λ r. ⌜ r ≡ place-of f ⌝ }
+{
+    match f {
+        Fault::Clear => 0,
+        Fault::At(p) => p,
+    }
+}
+
+// A verdict, and where it is yes another.
+fn first_of(v: Verdict, w: Verdict) -> Verdict
+    ensures { λ r. ⌜ verdict-of r ≡ then (verdict-of v) (verdict-of w) ⌝ }
+{
+    match v {
+        Verdict::Yes => w,
+        Verdict::No(number, at) => Verdict::No(number, at),
+    }
+}
+
+// Question 08 of the statement at `n`, for which the labels of the marks from index `from` to index `to` wait.
+fn switch_fault(text: &[u8], n: usize, head: Head, names: &[u32], from: usize, to: usize) -> Fault
+    requires { ⌜ Headable (now text) n head (now names) from to ⌝ }
+    ensures { λ r. ⌜ Switch-asked (now (text .entry)) n (now (names .entry)) from to r ⌝ }
+{
+    let keyword = head.keyword;
+    if !is_switch(keyword) {
+        return Fault::Clear;
+    }
+    let second = place_of(lowest_mark(names, from + 1, to));
+    label_fault(text, n, head, to - from, second)
+}
+
+// Question 00 of the first statement, 10 of a later one.
+fn ask_operator(text: &[u8], n: usize, first: bool) -> Verdict
+    requires { ⌜ n ≤ length (now text) ⌝ }
+    ensures { λ r. ⌜ verdict-of r ≡ operator-verdict (statement-at (now (text .entry)) n) first ⌝ }
+{
+    if first {
+        return decide(0, section_fault(text, n));
+    }
+    decide(10, operator_fault(text, n))
+}
+
+// Questions 00 or 10, and 08.
+pub fn ask_head(
+    text: &[u8],
+    n: usize,
+    head: Head,
+    first: bool,
+    names: &[u32],
+    from: usize,
+    to: usize,
+) -> Verdict
+    requires { ⌜ Headable (now text) n head (now names) from to ⌝ }
+    ensures { λ r. ⌜ Head-asked (now (text .entry)) n first (now (names .entry)) from to r ⌝ }
+{
+    let operator = ask_operator(text, n, first);
+    let labels = decide(8, switch_fault(text, n, head, names, from, to));
+    first_of(operator, labels)
+}
+
+// Questions 01 and 02.
+pub fn ask_arguments(text: &[u8], n: usize, head: Head) -> Verdict
+    requires { ⌜ Headed (now text) n head ⌝ }
+    ensures { λ r. ⌜ verdict-of r ≡ first-no (argument-questions (statement-at (now (text .entry)) n)) ⌝ }
+{
+    let count = decide(1, count_fault(text, n, head));
+    let arguments = decide(2, argument_fault(text, n, head));
+    first_of(count, arguments)
+}

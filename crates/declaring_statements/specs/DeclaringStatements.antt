@@ -1,0 +1,50 @@
+-- A statement whose questions before 11 are answered yes comes to the tables.
+use mathlib.Core.Path.{_≡_}
+use mathlib.Core.List.{List, [], map}
+use Prim.Native.Nat.{ℕ, _≤_}
+use lib.ListN.{length, drop}
+use Rattle.acceptance.specs.Drafts.{Sound-draft}
+use Rattle.acceptance.specs.RowLaws.{Answered}
+use Rattle.declaring.specs.Declaring.{marks-in, Named}
+use Rattle.drafts.specs.Marks.{mark}
+use Rattle.drafts.specs.Tabled.{Spelt, Tabled}
+use Rattle.faults.specs.Groups.{early-questions}
+use Rattle.heads.specs.Heads.{Headed}
+use Rattle.heads.specs.declared.Head.{Head}
+use Rattle.language.specs.Limits as limit
+use Rattle.layout.specs.Bounds.{Each}
+use Rattle.statements.specs.StatementAt.{statement-at, fault-of}
+use Rattle.statements.specs.declared.Fault.{Fault}
+use Rattle.statements.specs.declared.Fault.the-variants.{Clear}
+use Rattle.syntax.specs.Items.{line-of}
+use Rattle.syntax.specs.Questions.{instr-beyond, switch-beyond}
+use Rattle.syntax.specs.Statements.{by-keyword, keyword-in}
+use Rattle.syntax.specs.Tables.{Draft, all-labels, tables-after}
+
+-- the statement at n after the draft d: its head and its operator's line, and the marks of its labels, those that waited for it included
+pub record Admitted (s : List ℕ) (n : ℕ) (d : Draft) (h : Head) (line : ℕ) (ms : List ℕ) (a b : ℕ) (c sw en : List ℕ) : Type 0 where
+  pub short : length s ≤ limit.text
+  pub inside : n ≤ length s
+  pub headed : Headed s n h
+  pub sound : Sound-draft (length s) d
+  pub tabled : Tabled s (d .tables) c sw en
+  pub answered : Answered (early-questions d (statement-at s n))
+  pub line-is : line ≡ line-of s (h .op .at)
+  pub named : Named s ms a b
+  pub room : length ms ≡ 32768
+  pub marks : marks-in ms a b ≡ map mark (all-labels d (statement-at s n))
+  pub spelt : Each (Spelt s) (d .waiting)
+
+pub record Admissible (s : List ℕ) (h : Head) (line : ℕ) (ms : List ℕ) (a b : ℕ) (c sw en : List ℕ) : Type 0 where
+  pub at : ℕ
+  pub draft : Draft
+  pub admitted : Admitted s at draft h line ms a b c sw en
+
+-- question 11 is told; where it is answered yes, the tables are those after the statement
+pub record Admits (s : List ℕ) (h : Head) (line : ℕ) (ms : List ℕ) (a b : ℕ) (c sw en : List ℕ) (r : Fault) (c′ sw′ en′ : List ℕ) : Type 0 where
+  pub told : (n : ℕ) (d : Draft) → Admitted s n d h line ms a b c sw en
+      → let x = statement-at s n in
+      r ≡ fault-of (by-keyword (λ op. instr-beyond (d .tables) (all-labels d x) x) (λ byName. switch-beyond (d .tables) x) [] (keyword-in x))
+  pub tabled : r ≡ Clear → (n : ℕ) (d : Draft) → Admitted s n d h line ms a b c sw en
+      → let x = statement-at s n in Tabled s (tables-after (d .tables) (all-labels d x) x) c′ sw′ en′
+  pub beyond : drop limit.table c′ ≡ drop limit.table c

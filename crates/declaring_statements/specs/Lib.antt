@@ -1,0 +1,3 @@
+pub mod DeclaringStatements
+pub mod AdmittedLaws
+pub mod AdmittedSwitchLaws
