@@ -1,0 +1,424 @@
+/* Hands hostile memory to the three calls, and checks what they answer and leave. `host/run` builds it, with AddressSanitizer and UBSan.
+
+       hostile SEED ROUNDS FILE...
+
+   Each FILE has a program text, and behind it an input: the good memory that is then damaged. A round makes texts, tables, states and inputs
+   (random bytes; random characters; good ones; good ones with bits flipped, bytes replaced, parts cut out or put in; too short, too long,
+   empty, null) and calls load, start and run on them. The last line has the counts; the first difference ends it with status 1. */
+#include "lent.h"
+#include "text.h"
+
+#include <stdarg.h>
+
+enum { FILES = 16, TEXT_MOST = EOL2_TEXT + 4096, CELLS_MOST = EOL2_TABLE + 64, STATE_MOST = EOL2_STATE + 256, INPUT_MOST = EOL2_INPUT + 4096 };
+
+static const char characters[] = " .(+*);-/,:'=[]<>?\x1b\x0e" "ABCDEFGHIJKLMNOPQRSTUVWXYZ\x0f" "0123456789\n\x0c\r\x7f";
+
+static struct lent text, table, i1, i2, state;
+static struct { uint8_t text[EOL2_TEXT], input[EOL2_INPUT]; size_t text_bytes, input_bytes; uint32_t table[EOL2_TABLE]; } good[FILES];
+static int goods;
+static unsigned long turn, calls[3], answers[3][128];
+
+/* ---- numbers at random, the same for the same seed */
+
+static uint64_t seed;
+
+static uint64_t any(void)
+{
+    seed ^= seed << 13;
+    seed ^= seed >> 7;
+    seed ^= seed << 17;
+    return seed * 0x2545f4914f6cdd1dull >> 16;
+}
+
+static size_t below(size_t n)
+{
+    return (size_t)(any() % n);
+}
+
+static int one_in(size_t n)
+{
+    return below(n) == 0;
+}
+
+/* ---- what is found */
+
+static void differs(const char *form, ...)
+{
+    va_list words;
+    va_start(words, form);
+    printf("round %lu: ", turn);
+    vprintf(form, words);
+    printf("\n(text %zu bytes, table %zu bytes, I1 %zu, I2 %zu, state %zu)\n", text.length, table.length, i1.length, i2.length, state.length);
+    va_end(words);
+    exit(1);
+}
+
+/* Is the number on the list of the call: 0 load, 1 start, 2 run? */
+static int listed(int call, uint32_t number)
+{
+    static const uint8_t lists[3][20] = {
+        {EOL2_BAD_SIZE, EOL2_BAD_BYTE, EOL2_BAD_TEXT, EOL2_BAD_LENGTH, EOL2_BAD_HEADING, EOL2_BAD_OPERATOR, EOL2_BAD_SWITCH_LABELS,
+         EOL2_BAD_REPEATED_LABEL, EOL2_BAD_COUNT, EOL2_BAD_ARGUMENT, EOL2_BAD_ROOM, EOL2_BAD_END, EOL2_BAD_LABEL, EOL2_BAD_SWITCH,
+         EOL2_ACCEPTED, 255},
+        {EOL2_BAD_TABLE, EOL2_BAD_INPUTS, EOL2_BAD_STATE, EOL2_ACCEPTED, 255},
+        {EOL2_BAD_TABLE, EOL2_BAD_INPUTS, EOL2_BAD_STATE, EOL2_PAUSED, EOL2_STOP_STATEMENT, EOL2_STOP_NOTHING, EOL2_STOP_KIND,
+         EOL2_STOP_RANGE, EOL2_STOP_DIVISOR, EOL2_STOP_INDEX, EOL2_STOP_RETURN, EOL2_STOP_RECORD, EOL2_STOP_ROOM, EOL2_STOP_ADDRESSES, 255}};
+    for (int k = 0; lists[call][k] != 255; k++)
+        if (lists[call][k] == number)
+            return 1;
+    return 0;
+}
+
+/* Counts a call, and checks what holds of every one: a number of its list, and the guard bytes and what was lent to be read as they were. */
+static uint64_t judged(int call, const char *name, uint64_t answer)
+{
+    struct lent *all[5] = {&text, &table, &i1, &i2, &state};
+    uint32_t number = eol2_number(answer);
+    calls[call]++;
+    if (!listed(call, number))
+        differs("%s answers %u", name, (unsigned)number);
+    answers[call][number]++;
+    for (int k = 0; k < 5; k++) {
+        if (!lent_guarded(all[k]))
+            differs("%s (answer %u) wrote beside buffer %d", name, (unsigned)number, k);
+        if (all[k] != (call ? &state : &table) && !lent_same(all[k], 0))
+            differs("%s (answer %u) wrote buffer %d", name, (unsigned)number, k);
+    }
+    return answer;
+}
+
+static int zeros(const uint8_t *s, size_t n)
+{
+    for (size_t k = 0; k < n; k++)
+        if (s[k])
+            return 0;
+    return 1;
+}
+
+/* The rule of question 61, for one input. */
+static int good_input(const struct lent *l)
+{
+    if (l->length > EOL2_INPUT)
+        return 0;
+    for (size_t k = 0; k < l->length; k++)
+        if (!memchr(characters, l->at[k], sizeof characters - 1))
+            return 0;
+    return 1;
+}
+
+/* ---- the three calls, each with what its declaration says */
+
+static uint64_t load(void)
+{
+    const size_t cells = table.length / 4, bytes = EOL2_TABLE * 4;
+    lent_writable(&text, 0);
+    uint64_t answer = eol2_load(text.at, text.length, (uint32_t *)(void *)table.at, cells);
+    lent_writable(&text, 1);
+    judged(0, "load", answer);
+    const uint32_t number = eol2_number(answer), line = eol2_line(answer);
+    uint32_t lines = 1;
+    for (size_t k = 0; k < text.length; k++)
+        lines += text.at[k] == '\n';
+    if ((number == EOL2_BAD_SIZE) != (cells < EOL2_TABLE || text.length > EOL2_TEXT))
+        differs("load answers %u to its sizes", (unsigned)number);
+    if (number == EOL2_BAD_SIZE || number == EOL2_ACCEPTED ? line != 0 : line < 1 || line > lines)
+        differs("load answers %u with line %u", (unsigned)number, (unsigned)line);
+    if (!lent_same(&table, number == EOL2_BAD_SIZE ? 0 : bytes))
+        differs("load (answer %u) changed what must stay", (unsigned)number);
+    if (number != EOL2_BAD_SIZE && number != EOL2_ACCEPTED && !zeros(table.at, bytes))
+        differs("load (answer %u) leaves more than zeros", (unsigned)number);
+    return answer;
+}
+
+static uint64_t start(void)
+{
+    lent_writable(&table, 0), lent_writable(&i1, 0), lent_writable(&i2, 0);
+    uint64_t answer =
+        eol2_start((uint32_t *)(void *)table.at, table.length / 4, i1.at, i1.length, i2.at, i2.length, state.at, state.length);
+    lent_writable(&table, 1), lent_writable(&i1, 1), lent_writable(&i2, 1);
+    judged(1, "start", answer);
+    const uint32_t number = eol2_number(answer);
+    const int inputs = good_input(&i1) && good_input(&i2), room = state.length >= EOL2_STATE;
+    if (eol2_count(answer) || !lent_same(&state, number == EOL2_ACCEPTED ? EOL2_STATE : 0))
+        differs("start (answer %u) counts, or changed what must stay", (unsigned)number);
+    if (number != EOL2_BAD_TABLE && number != (uint32_t)(!inputs ? EOL2_BAD_INPUTS : !room ? EOL2_BAD_STATE : EOL2_ACCEPTED))
+        differs("start answers %u where inputs are %d and room is %d", (unsigned)number, inputs, room);
+    if (table.length / 4 < EOL2_TABLE && number != EOL2_BAD_TABLE)
+        differs("start answers %u to a short table", (unsigned)number);
+    if (number == EOL2_ACCEPTED && (state.at[0] != 1 || !zeros(state.at + 1, EOL2_STATE - 1)))
+        differs("start leaves another state than the first");
+    return answer;
+}
+
+static uint64_t run(uint32_t budget)
+{
+    lent_writable(&table, 0), lent_writable(&i1, 0), lent_writable(&i2, 0);
+    uint64_t answer =
+        eol2_run((uint32_t *)(void *)table.at, table.length / 4, i1.at, i1.length, i2.at, i2.length, state.at, state.length, budget);
+    lent_writable(&table, 1), lent_writable(&i1, 1), lent_writable(&i2, 1);
+    judged(2, "run", answer);
+    const uint32_t number = eol2_number(answer), count = eol2_count(answer);
+    const int refused = number == EOL2_BAD_TABLE || number == EOL2_BAD_INPUTS || number == EOL2_BAD_STATE;
+    if (!lent_same(&state, refused ? 0 : EOL2_STATE))
+        differs("run (answer %u) changed what must stay", (unsigned)number);
+    if (refused ? count != 0 : number == EOL2_PAUSED ? count != budget : count >= budget)
+        differs("run answers %u with count %u to a budget of %u", (unsigned)number, (unsigned)count, (unsigned)budget);
+    if (number != EOL2_BAD_TABLE && (number == EOL2_BAD_INPUTS) == (good_input(&i1) && good_input(&i2)))
+        differs("run answers %u to its inputs", (unsigned)number);
+    return answer;
+}
+
+/* Lends what a call left to the next one, as it stands. */
+static void again(struct lent *l)
+{
+    static uint8_t copy[EOL2_INPUT * 2];
+    memcpy(copy, l->at, l->length);
+    lent_fill(l, copy, l->length, one_in(2), 0);
+}
+
+/* ---- memory to lend */
+
+/* A length near one that counts: 0, less, the same, more. */
+static size_t near(size_t size, size_t most)
+{
+    switch (below(8)) {
+    case 0: return one_in(2) ? 0 : below(size);
+    case 1: return size - 1 - below(8);
+    case 2: return size + 1 + below(most - size);
+    case 3: return size + 1;
+    default: return size;
+    }
+}
+
+static void random_bytes(uint8_t *s, size_t n, int few)
+{
+    for (size_t k = 0; k < n; k++)
+        s[k] = (uint8_t)(few ? one_in(8) ? below(9) : 0 : any());
+}
+
+static void random_characters(uint8_t *s, size_t n)
+{
+    for (size_t k = 0; k < n; k++)
+        s[k] = (uint8_t)characters[below(61)];
+}
+
+/* Flips bits, and sets bytes to small numbers. */
+static void damage(uint8_t *s, size_t n, size_t times)
+{
+    while (n && times--)
+        if (one_in(2))
+            s[below(n)] ^= (uint8_t)(1u << below(8));
+        else
+            s[below(n)] = (uint8_t)below(70);
+}
+
+static void lend(struct lent *l, const uint8_t *content, size_t length)
+{
+    lent_fill(l, content, length, one_in(2), one_in(2));
+}
+
+/* Words of the language, and pieces that break it. */
+static void lend_text(int k)
+{
+    static const char *const pieces[] = {"SEKCJA S\n", "KONS\n", "KONP S\n", "STOP\n", "SKOCZ A\n", "A: ", "B: NAZWA A:'X',A\n", "C: INDEKS A\n",
+        "UMIESC 'A',A1\n", "UMIESC 8388608,A1\n", "/*", "*/", "'", ":", ";", "PISZ A1,Q3\n", "DODAJ B1,Z32\n", "*", "\n", "SKONA A1,B\n", "A",
+        "\xff", "UMIESC '*L*,',Z1,2,3,4\n", "WROC\n", "0123456789"};
+    static uint8_t s[TEXT_MOST];
+    size_t n = 0;
+    switch (below(6)) {
+    case 0: /* random bytes, or characters */
+        n = one_in(4) ? near(EOL2_TEXT, TEXT_MOST) : below(400);
+        if (one_in(2))
+            random_bytes(s, n, 0);
+        else
+            random_characters(s, n);
+        break;
+    case 1: /* pieces */
+        for (size_t count = below(40); count; count--) {
+            const char *piece = pieces[below(sizeof pieces / sizeof *pieces)];
+            memcpy(s + n, piece, strlen(piece));
+            n += strlen(piece);
+        }
+        break;
+    case 2: /* a good text, whole, or behind it what makes it too long */
+        memcpy(s, good[k].text, n = good[k].text_bytes);
+        if (one_in(4)) {
+            size_t most = near(EOL2_TEXT, TEXT_MOST);
+            memset(s + n, '\n', most > n ? most - n : 0);
+            n = most > n ? most : n;
+        }
+        break;
+    default: { /* a good text with damage: a piece put in, a part cut out, bytes replaced */
+        size_t at = below(good[k].text_bytes + 1), cut = one_in(3) ? below(30) : 0;
+        const char *piece = one_in(2) ? pieces[below(sizeof pieces / sizeof *pieces)] : "";
+        memcpy(s, good[k].text, at);
+        memcpy(s + at, piece, strlen(piece));
+        n = at + strlen(piece);
+        at = at + cut < good[k].text_bytes ? at + cut : good[k].text_bytes;
+        memcpy(s + n, good[k].text + at, good[k].text_bytes - at);
+        n += good[k].text_bytes - at;
+        if (one_in(3))
+            damage(s, n, 1 + below(2));
+    }
+    }
+    lend(&text, s, n);
+}
+
+/* A table: random; zeros with small numbers; the good table, whole or with damage. Any length. */
+static void lend_table(int k)
+{
+    static uint8_t s[CELLS_MOST * 4];
+    size_t cells = one_in(3) ? near(EOL2_TABLE, CELLS_MOST) : EOL2_TABLE, kind = below(8);
+    random_bytes(s, sizeof s, kind == 0);
+    if (kind > 1)
+        memcpy(s, good[k].table, sizeof good[k].table);
+    if (kind > 4) /* where the counts and the first instructions, labels, texts, switches, entries or numbers are */
+        damage(s + (size_t[]){0, 32, 8224, 16416, 24608, 24736, 25248}[below(7)], one_in(4) ? 7520 : 64, 1 + below(3));
+    lend(&table, s, cells * 4);
+}
+
+static void lend_input(struct lent *l, int k)
+{
+    static uint8_t s[INPUT_MOST];
+    size_t n = one_in(8) ? near(EOL2_INPUT, INPUT_MOST) : below(300);
+    if (one_in(12))
+        random_bytes(s, n, 0);
+    else
+        random_characters(s, n);
+    if (one_in(2))
+        memcpy(s, good[k].input, n = good[k].input_bytes);
+    if (n && one_in(12))
+        damage(s, n, 1);
+    lend(l, s, n);
+}
+
+static void lend_state(void)
+{
+    static uint8_t s[STATE_MOST];
+    random_bytes(s, sizeof s, one_in(2));
+    lend(&state, s, one_in(2) ? near(EOL2_STATE, STATE_MOST) : EOL2_STATE);
+}
+
+/* ---- a round */
+
+/* What an accepted run leaves is good for the next: a pause goes on, a stop stays. */
+static void goes_on(uint64_t answer)
+{
+    again(&state);
+    if (run(0) != (uint64_t)EOL2_PAUSED << 32 || !lent_same(&state, 0))
+        differs("after an accepted run, a run of 0 does not pause in the same state");
+    if (eol2_number(answer) != EOL2_PAUSED) {
+        again(&state);
+        if (run(UINT32_MAX) != (uint64_t)eol2_number(answer) << 32 || !lent_same(&state, 0))
+            differs("after stop %u a run does not stop there again", (unsigned)eol2_number(answer));
+    }
+}
+
+/* One run of a budget is the same as two of its parts, and, where it stops, as one with the greatest budget. */
+static void runs(void)
+{
+    static uint8_t first[STATE_MOST], last[STATE_MOST];
+    const size_t n = state.length;
+    const uint32_t budget = (uint32_t)below(one_in(8) ? 5000 : 100), part = (uint32_t)below(budget + 1);
+    if (n)
+        memcpy(first, state.at, n);
+    const uint64_t whole = run(budget);
+    const uint32_t number = eol2_number(whole);
+    if (n)
+        memcpy(last, state.at, n);
+    if (number >= EOL2_BAD_INPUTS && number <= EOL2_BAD_STATE) {
+        if (run(UINT32_MAX) != whole)
+            differs("a refusal depends on the budget");
+        return;
+    }
+    lend(&state, first, n);
+    uint64_t second = run(part);
+    uint32_t count = eol2_count(second);
+    if (eol2_number(second) == EOL2_PAUSED) {
+        again(&state);
+        second = run(budget - part);
+        count += eol2_count(second);
+    }
+    if (eol2_number(second) != number || count != eol2_count(whole) || memcmp(last, state.at, n))
+        differs("runs of %u and %u differ from one of %u", (unsigned)part, (unsigned)(budget - part), (unsigned)budget);
+    if (number != EOL2_PAUSED) {
+        lend(&state, first, n);
+        if (run(UINT32_MAX) != whole || memcmp(last, state.at, n))
+            differs("a run that stops depends on its budget");
+    }
+    goes_on(whole);
+}
+
+static void round_of(int k)
+{
+    static uint8_t first[EOL2_TABLE * 4];
+    lend_text(k), lend_table(k), lend_input(&i1, k), lend_input(&i2, k), lend_state();
+    /* load, and on an accepted text once more into another table: the same cells; start never brings 62 */
+    if (eol2_number(load()) == EOL2_ACCEPTED) {
+        memcpy(first, table.at, sizeof first);
+        lend_table(k);
+        if (table.length >= sizeof first && (eol2_number(load()) != EOL2_ACCEPTED || memcmp(first, table.at, sizeof first)))
+            differs("load makes two tables of one text");
+        lend(&table, first, sizeof first);
+        if (eol2_number(start()) == EOL2_BAD_TABLE)
+            differs("the table of an accepted text brings 62");
+    }
+    /* start and run on whatever is there */
+    lend_table(k), lend_state();
+    runs();
+    lend_state();
+    if (eol2_number(start()) != EOL2_ACCEPTED)
+        return;
+    again(&state);
+    runs();
+    /* run on from there with damage to the state */
+    again(&state);
+    damage(state.at, one_in(2) ? EOL2_STATE : 400, 1 + below(2));
+    again(&state);
+    runs();
+}
+
+static void read_good(const char *name)
+{
+    static uint8_t file[HOST_FILE];
+    size_t n = host_read(name, file, sizeof file), end = host_text_end(file, n);
+    if (goods == FILES || end > EOL2_TEXT || n - end > EOL2_INPUT) {
+        fprintf(stderr, "hostile: %s is too long, or one file too many\n", name);
+        exit(2);
+    }
+    memcpy(good[goods].text, file, good[goods].text_bytes = end);
+    memcpy(good[goods].input, file + end, good[goods].input_bytes = n - end);
+    uint64_t answer = eol2_load(good[goods].text, end, good[goods].table, EOL2_TABLE);
+    if (eol2_number(answer) != EOL2_ACCEPTED) {
+        printf("%s: load answers %u, line %u\n", name, (unsigned)eol2_number(answer), (unsigned)eol2_line(answer));
+        exit(1);
+    }
+    goods++;
+}
+
+int main(int count, char **words)
+{
+    if (count < 4) {
+        fprintf(stderr, "usage: %s SEED ROUNDS FILE...\n", words[0]);
+        return 2;
+    }
+    seed = strtoull(words[1], NULL, 10) * 2 + 1;
+    const unsigned long rounds = strtoul(words[2], NULL, 10);
+    for (int k = 3; k < count; k++)
+        read_good(words[k]);
+    lent_make(&text, TEXT_MOST), lent_make(&table, CELLS_MOST * 4), lent_make(&i1, INPUT_MOST), lent_make(&i2, INPUT_MOST);
+    lent_make(&state, STATE_MOST);
+    for (turn = 0; turn < rounds; turn++)
+        round_of((int)(turn % (unsigned long)goods));
+    static const char *const names[3] = {"load", "start", "run"};
+    for (int c = 0; c < 3; c++) {
+        printf("%-5s", names[c]);
+        for (int k = 0; k < 128; k++)
+            if (answers[c][k])
+                printf(" %02d: %lu", k, answers[c][k]);
+        printf("\n");
+    }
+    printf("hostile memory: %lu calls (load %lu, start %lu, run %lu), 0 differences\n", calls[0] + calls[1] + calls[2], calls[0], calls[1], calls[2]);
+    return 0;
+}

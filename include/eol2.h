@@ -1,0 +1,186 @@
+/* EOL-2 for C: load a program text, start a state, run it under a budget.
+
+   Link with libinterpreter.a (`rt staticlib interpreter` writes target/staticlib/libinterpreter.a; it needs memcpy and memset, and nothing
+   else). host/eol2.c is a short program over this file, and `host/run` builds and runs it.
+
+   What holds of all three calls:
+   - Memory is lent by the caller, each buffer as a pointer and a length. The length of a table counts numbers of 32 bits, every other length
+     counts bytes. A null pointer is allowed with length 0. A table is aligned as uint32_t.
+   - The buffer that a call writes (the table of eol2_load, the state of eol2_start and eol2_run) overlaps no other buffer of that call, and
+     nobody else reads or writes it while the call lasts. The others are only read, may overlap each other, and stay unwritten by anybody
+     meanwhile. These are the only duties of a caller: any content and any length is answered, and nothing need be checked beforehand.
+   - A table counts as far as its first EOL2_TABLE numbers, a state as far as its first EOL2_STATE bytes. What lies beyond is neither read nor
+     written; a buffer may be longer.
+   - A call keeps nothing from one to the next and has no variables of its own: all is in the lent memory, so table and state can be copied,
+     saved, and used again later. Calls on different buffers may run at the same time. docs/LAYOUT.md has what lies where.
+   - The answer is a number of 64 bits: document 01's number in the upper 32, the line or the count in the lower 32. eol2_number, eol2_line
+     and eol2_count take it apart.
+   - eol2_run works on the stack and takes less than EOL2_STACK bytes of it, the other two far less. */
+#ifndef EOL2_H
+#define EOL2_H
+
+#include <stddef.h>
+#include <stdint.h>
+
+#ifdef __cplusplus
+extern "C" {
+#endif
+
+/* ---- sizes */
+
+enum {
+    EOL2_TABLE = 8192,   /* numbers of 32 bits in a program table */
+    EOL2_STATE = 40960,  /* bytes in a state, the outputs included */
+    EOL2_TEXT = 32768,   /* bytes that a program text has at most */
+    EOL2_INPUT = 65536,  /* bytes that an input has at most */
+    EOL2_OUTPUT = 4096,  /* bytes that an output has at most */
+    EOL2_STACK = 262144  /* bytes of stack that are enough for any call */
+};
+
+/* ---- the numbers of answers, each with its question; a question answered no gives its number */
+
+enum eol2_numbers {
+    /* Refused by eol2_load, in the order in which a statement is asked: 40 first; then 14, 15, 16, 00, 10, 08, 06, 01, 02, 11 of each
+       statement; then 25, 12, 13 of the whole text. The first no decides. */
+    EOL2_BAD_SIZE = 40,           /* Table long enough, text short enough? */
+    EOL2_BAD_BYTE = 14,           /* Outside texts and comments, only A to Z, 0 to 9, space , : ; ' + - and new line, each comment closed? */
+    EOL2_BAD_TEXT = 15,           /* Each text closed on its line, not empty, of allowed characters and pairs? */
+    EOL2_BAD_LENGTH = 16,         /* Each identifier, number and text within 60 characters? */
+    EOL2_BAD_HEADING = 0,         /* Is the first statement SEKCJA and one name, unlabelled? (Printed 00.) */
+    EOL2_BAD_OPERATOR = 10,       /* Is the operator known, and no second SEKCJA? */
+    EOL2_BAD_SWITCH_LABELS = 8,   /* Has each switch exactly one label? (Printed 08.) */
+    EOL2_BAD_REPEATED_LABEL = 6,  /* Is each label new? (Printed 06.) */
+    EOL2_BAD_COUNT = 1,           /* Not too many arguments? (Printed 01.) */
+    EOL2_BAD_ARGUMENT = 2,        /* Each argument listed for its place, index and number in range, none missing? (Printed 02.) */
+    EOL2_BAD_ROOM = 11,           /* Tables within limits: instructions, labels, switches, entries, texts, numbers? */
+    EOL2_BAD_END = 25,            /* KONS and KONP as asked, nothing after, a last instruction STOP, SKOCZ or WROC, one after each label? */
+    EOL2_BAD_LABEL = 12,          /* Every used label declared (a switch's name is none)? */
+    EOL2_BAD_SWITCH = 13,         /* Every used switch declared, of the type its instruction needs? */
+
+    /* Refused by eol2_start and eol2_run, in this order */
+    EOL2_BAD_TABLE = 62,          /* Table long enough and well formed? Never no for a table that eol2_load left with 80. */
+    EOL2_BAD_INPUTS = 61,         /* Inputs short enough, and of the 61 characters? */
+    EOL2_BAD_STATE = 63,          /* State long enough, and for run well formed? Never no after an accepted call with this table and inputs. */
+
+    /* Accepted, by eol2_load and eol2_start; paused, by eol2_run */
+    EOL2_ACCEPTED = 80,
+    EOL2_PAUSED = 81,             /* the budget is used up */
+
+    /* Stops of eol2_run: the first question of the next instruction that is answered no */
+    EOL2_STOP_STATEMENT = 50,     /* Is it other than STOP? The regular end of a program. */
+    EOL2_STOP_NOTHING = 52,       /* Has each expression, and for RZ the file, the component asked for? */
+    EOL2_STOP_KIND = 53,          /* Is it of the right kind? */
+    EOL2_STOP_RANGE = 54,         /* Counts not negative, results within range? */
+    EOL2_STOP_DIVISOR = 55,       /* Divisor not zero? */
+    EOL2_STOP_INDEX = 56,         /* Switch index within the list? */
+    EOL2_STOP_RETURN = 57,        /* WROC with a filled stack? */
+    EOL2_STOP_RECORD = 58,        /* Is the record of that address in that file, or the address 0? */
+    EOL2_STOP_ROOM = 59,          /* Result within the limits? */
+    EOL2_STOP_ADDRESSES = 60      /* At most 8,388,607 addresses given? */
+};
+
+/* ---- answers */
+
+/* The number of an answer: one of enum eol2_numbers. */
+static inline uint32_t eol2_number(uint64_t answer)
+{
+    return (uint32_t)(answer >> 32);
+}
+
+/* Of an answer of eol2_load: the line, from 1, where the statement, byte, comment, text or item at fault begins; 0 with 80 and with 40. */
+static inline uint32_t eol2_line(uint64_t answer)
+{
+    return (uint32_t)(answer & 0xffffffffu);
+}
+
+/* Of an answer of eol2_run: how many instructions this call completed; 0 where it is refused. Of eol2_start: 0. */
+static inline uint32_t eol2_count(uint64_t answer)
+{
+    return (uint32_t)(answer & 0xffffffffu);
+}
+
+/* ---- the three calls */
+
+/* Loads the program of a text.
+
+   text, text_bytes    the text, from SEKCJA to KONP. Only read. More than EOL2_TEXT bytes: refused with 40
+   table, table_cells  the table to fill; table_cells counts numbers of 32 bits. Fewer than EOL2_TABLE: refused with 40
+
+   Number, line            The table afterwards
+   80, 0                   its first EOL2_TABLE numbers are the program of the text, unused ones zero: the same for the same text, whatever
+                           stood there before
+   40, 0                   as it was
+   another refusal, line   its first EOL2_TABLE numbers are zeros
+
+   The refusals are the first fourteen of enum eol2_numbers. Numbers beyond the first EOL2_TABLE stay as they were in every case. */
+uint64_t eol2_load(const uint8_t *text, size_t text_bytes, uint32_t *table, size_t table_cells);
+
+/* Makes the state in which a program starts: H plus, all else empty, the first instruction next, nothing read of the inputs.
+
+   table, table_cells    a table as eol2_load left it. Only read
+   i1, i1_bytes          the input I1; likewise I2. Only read. None: a null pointer and 0
+   state, state_bytes    the state to make. Its content does not matter
+
+   Number, count     The state afterwards
+   80, 0             its first EOL2_STATE bytes are the starting state, whatever stood there before
+   62, 61 or 63, 0   as it was: table not well formed; inputs too long or with another character; fewer than EOL2_STATE bytes
+
+   Bytes beyond the first EOL2_STATE stay as they were in every case. */
+uint64_t eol2_start(const uint32_t *table, size_t table_cells, const uint8_t *i1, size_t i1_bytes, const uint8_t *i2, size_t i2_bytes,
+                    uint8_t *state, size_t state_bytes);
+
+/* Runs a program on from a state, by at most budget instructions.
+
+   table, table_cells    a table as eol2_load left it. Only read
+   i1, i1_bytes          the input I1; likewise I2. Only read. The same as at the start, so that what was read stays read. A longer one that
+                         begins with it is accepted too, and any one that is no shorter than the place up to which it is read
+   state, state_bytes    a state as eol2_start or eol2_run left it
+   budget                any number; 0 always pauses, with count 0
+
+   Number, count         The state afterwards
+   81, budget            pause: as many instructions are completed as the budget has. The state is the one after them. Call again to go on
+   50, 52 to 60, count   stop: count, less than the budget, instructions are completed, and the next one fails that question. The state is
+                         the one before it, with it as the next instruction; a further run stops at it again, with count 0
+   62, 61 or 63, 0       refused: as it was. Table not well formed; inputs too long or with another character; state too short or not well
+                         formed with this table and these inputs
+
+   So a run of 1,000 followed by one of 500 leaves what one of 1,500 leaves. Bytes beyond the first EOL2_STATE stay as they were in every
+   case. */
+uint64_t eol2_run(const uint32_t *table, size_t table_cells, const uint8_t *i1, size_t i1_bytes, const uint8_t *i2, size_t i2_bytes,
+                  uint8_t *state, size_t state_bytes, uint32_t budget);
+
+/* ---- reading a table and a state (docs/LAYOUT.md). Both functions take any content, and read nothing beyond what they are handed. */
+
+/* The characters of the output Q1 (which is 1) or Q2 (which is 2): a pointer into the state's EOL2_STATE bytes, their count in *bytes. They
+   may be any of the 61 characters, new lines among them, and have no 0 at their end. Good until the state is written again. NULL and 0 where
+   the bytes are no state that a call left, and for another which. */
+static inline const uint8_t *eol2_output(const uint8_t *state, int which, size_t *bytes)
+{
+    size_t at = 222, length = 0;
+    int last = 96 + which;
+    *bytes = 0;
+    if (which != 1 && which != 2)
+        return NULL;
+    for (int k = 0; k <= last; k++) {
+        at += length;
+        length = (size_t)state[24 + 2 * k] + 256 * (size_t)state[25 + 2 * k];
+    }
+    if (at > EOL2_STATE || length > EOL2_STATE - at)
+        return NULL;
+    *bytes = length;
+    return state + at;
+}
+
+/* The line of the next instruction, counted from 1 in the text: after a stop the line of the instruction that failed. It reads EOL2_TABLE
+   numbers of the table at most and EOL2_STATE bytes of the state. 0 where the bytes are no state that a call left. */
+static inline uint32_t eol2_next_line(const uint32_t *table, const uint8_t *state)
+{
+    uint32_t next = (uint32_t)state[9] + 256 * (uint32_t)state[10] + 65536 * (uint32_t)state[11];
+    return next < 512 ? table[8 + 4 * next] / 64 : 0;
+}
+
+#ifdef __cplusplus
+}
+#endif
+
+#endif
