@@ -8,9 +8,10 @@
 #include "lent.h"
 #include "text.h"
 
+#include <pthread.h>
 #include <stdarg.h>
 
-enum { FILES = 16, TEXT_MOST = EOL2_TEXT + 4096, CELLS_MOST = EOL2_TABLE + 64, STATE_MOST = EOL2_STATE + 256, INPUT_MOST = EOL2_INPUT + 4096 };
+enum { FILES = 64, TEXT_MOST = EOL2_TEXT + 4096, CELLS_MOST = EOL2_TABLE + 64, STATE_MOST = EOL2_STATE + 256, INPUT_MOST = EOL2_INPUT + 4096 };
 
 static const char characters[] = " .(+*);-/,:'=[]<>?\x1b\x0e" "ABCDEFGHIJKLMNOPQRSTUVWXYZ\x0f" "0123456789\n\x0c\r\x7f";
 
@@ -213,6 +214,13 @@ static void damage(uint8_t *s, size_t n, size_t times)
             s[below(n)] = (uint8_t)below(70);
 }
 
+/* Puts instructions of a good table in the place of others, all but the last, which must end the program: another well-formed table. */
+static void shuffle(uint8_t *s, size_t count, size_t times)
+{
+    while (count > 1 && times--)
+        memmove(s + 32 + 16 * below(count - 1), s + 32 + 16 * below(count), 16);
+}
+
 static void lend(struct lent *l, const uint8_t *content, size_t length)
 {
     lent_fill(l, content, length, one_in(2), one_in(2));
@@ -265,15 +273,17 @@ static void lend_text(int k)
     lend(&text, s, n);
 }
 
-/* A table: random; zeros with small numbers; the good table, whole or with damage. Any length. */
+/* A table: random; zeros with small numbers; the good table, whole, with its instructions in disorder or with damage. Any length. */
 static void lend_table(int k)
 {
     static uint8_t s[CELLS_MOST * 4];
-    size_t cells = one_in(3) ? near(EOL2_TABLE, CELLS_MOST) : EOL2_TABLE, kind = below(8);
+    size_t cells = one_in(3) ? near(EOL2_TABLE, CELLS_MOST) : EOL2_TABLE, kind = below(10);
     random_bytes(s, sizeof s, kind == 0);
     if (kind > 1)
         memcpy(s, good[k].table, sizeof good[k].table);
-    if (kind > 4) /* where the counts and the first instructions, labels, texts, switches, entries or numbers are */
+    if (kind > 2)
+        shuffle(s, good[k].table[0], below(12));
+    if (kind > 7) /* where the counts and the first instructions, labels, texts, switches, entries or numbers are */
         damage(s + (size_t[]){0, 32, 8224, 16416, 24608, 24736, 25248}[below(7)], one_in(4) ? 7520 : 64, 1 + below(3));
     lend(&table, s, cells * 4);
 }
@@ -379,6 +389,27 @@ static void round_of(int k)
     runs();
 }
 
+/* The rounds, on a stack of their own: what a call may take, and some for this program. */
+enum { OWN_STACK = 65536 };
+
+static void *all_rounds(void *rounds)
+{
+    for (turn = 0; turn < *(unsigned long *)rounds; turn++)
+        round_of((int)(turn % (unsigned long)goods));
+    return NULL;
+}
+
+static void run_rounds(unsigned long rounds)
+{
+    pthread_attr_t attributes;
+    pthread_t thread;
+    if (pthread_attr_init(&attributes) || pthread_attr_setstacksize(&attributes, EOL2_STACK + OWN_STACK)
+        || pthread_create(&thread, &attributes, all_rounds, &rounds) || pthread_join(thread, NULL)) {
+        fprintf(stderr, "hostile: no thread for the rounds\n");
+        exit(2);
+    }
+}
+
 static void read_good(const char *name)
 {
     static uint8_t file[HOST_FILE];
@@ -409,8 +440,7 @@ int main(int count, char **words)
         read_good(words[k]);
     lent_make(&text, TEXT_MOST), lent_make(&table, CELLS_MOST * 4), lent_make(&i1, INPUT_MOST), lent_make(&i2, INPUT_MOST);
     lent_make(&state, STATE_MOST);
-    for (turn = 0; turn < rounds; turn++)
-        round_of((int)(turn % (unsigned long)goods));
+    run_rounds(rounds);
     static const char *const names[3] = {"load", "start", "run"};
     for (int c = 0; c < 3; c++) {
         printf("%-5s", names[c]);

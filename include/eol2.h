@@ -15,7 +15,7 @@
      saved, and used again later. Calls on different buffers may run at the same time. docs/LAYOUT.md has what lies where.
    - The answer is a number of 64 bits: document 01's number in the upper 32, the line or the count in the lower 32. eol2_number, eol2_line
      and eol2_count take it apart.
-   - eol2_run works on the stack and takes less than EOL2_STACK bytes of it, the other two far less. */
+   - A call works on the stack, and takes less than EOL2_STACK bytes of it. */
 #ifndef EOL2_H
 #define EOL2_H
 
