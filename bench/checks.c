@@ -1,9 +1,10 @@
-/* Times the checks of a full table (62) and of a full state (63). `bench/run-memory` builds and runs it. docs/LAYOUT.md has the places. */
+/* Times the checks of a full table (62) and of a full state (63). `bench/run` builds and runs it. docs/LAYOUT.md has the places. */
+#include "clock.h"
+
 #include <stdbool.h>
 #include <stdint.h>
 #include <stdio.h>
 #include <string.h>
-#include <time.h>
 
 bool is_good_table(const uint32_t *table, size_t cells);
 bool is_good_memory(const uint32_t *table, size_t cells, const uint8_t *i1, size_t n1, const uint8_t *i2, size_t n2,
@@ -12,13 +13,6 @@ bool is_good_memory(const uint32_t *table, size_t cells, const uint8_t *i1, size
 static uint32_t table[8192];
 static uint8_t state[40960];
 static uint8_t input[65536];
-
-static double now(void)
-{
-    struct timespec t;
-    clock_gettime(CLOCK_PROCESS_CPUTIME_ID, &t);
-    return (double)t.tv_sec * 1e9 + (double)t.tv_nsec;
-}
 
 /* 60 characters that differ in the last ones: a head and 15 cells */
 static void word(uint32_t *at, uint32_t head, int k)

@@ -1,17 +1,11 @@
 /* Times the store: a word pushed and dropped at either end of an expression, in a nearly empty state and in a full one, and a full state
-   unpacked and packed. `bench/run-memory` builds and runs it. */
+   unpacked and packed. `bench/run` builds and runs it. */
+#include "clock.h"
+
 #include <stddef.h>
 #include <stdio.h>
-#include <time.h>
 
 size_t memory_turns(size_t kind, size_t full, size_t i, size_t rounds);
-
-static double now(void)
-{
-    struct timespec t;
-    clock_gettime(CLOCK_PROCESS_CPUTIME_ID, &t);
-    return (double)t.tv_sec * 1e9 + (double)t.tv_nsec;
-}
 
 /* nanoseconds of the processor a turn, the best of 25: what making and filling the store takes is taken off */
 static double turn(size_t kind, size_t full, size_t i, size_t rounds)

@@ -1,0 +1,153 @@
+/* Times load: nanoseconds a byte of a text, on a full text of real statements and on texts that cost the most. `bench/run` builds and runs it.
+   Each line has the answer, so that a text that is refused early does not pass for a fast one. */
+#include "../include/eol2.h"
+#include "clock.h"
+
+#include <stdarg.h>
+#include <stdio.h>
+#include <stdlib.h>
+#include <string.h>
+
+static char text[EOL2_TEXT + 4096];
+static size_t bytes;
+static uint32_t table[EOL2_TABLE];
+
+static void add(const char *form, ...)
+{
+    va_list words;
+    va_start(words, form);
+    bytes += (size_t)vsnprintf(text + bytes, sizeof text - bytes, form, words);
+    va_end(words);
+    if (bytes > EOL2_TEXT) {
+        fprintf(stderr, "load: a text of this benchmark is too long\n");
+        exit(2);
+    }
+}
+
+/* What is left up to a full text, as one comment with spaces before it, and the end. */
+static void fill(size_t most)
+{
+    static const char end[] = "STOP\nKONS\nKONP S\n";
+    if (bytes + 5 + sizeof end < most) {
+        add("/*");
+        while (bytes + 2 + sizeof end < most)
+            add("%c", bytes % 64 ? '-' : '\n');
+        add("*/\n");
+    }
+    add("%s", end);
+}
+
+/* A name of n characters, different for each k. */
+static const char *name(int n, int k)
+{
+    static char s[64];
+    snprintf(s, sizeof s, "A%0*d", n - 1, k);
+    return s;
+}
+
+/* ---- the texts */
+
+/* 511 instructions of many kinds, with labels, texts, numbers and a switch */
+static void lines(const char *remark)
+{
+    static const char *const forms[] = {"UMIESC 'WZOR%03d',Z1", "PRZESLIJ B1,A2,1", "DODAJ A3,%d", "RW B1,'OSNOWA'", "SKOPL DALEJ", "CZYTAJ I1,Z4,BR",
+        "WSTAW A1,D1", "KOPIUJ D1,D2,3", "ROZBIJ B5,LD", "PISZ B1,Q1,' '", "WYKONAJ DALEJ", "WYNA B1,WYBOR", "USUN A7", "LICZBA B8", "COFNIJ P1", "WROC"};
+    add("DALEJ: COFNIJ P1\n");
+    for (int k = 1; k < 511; k++) {
+        if (k % 5 == 1)
+            add("%s: ", name(8, k));
+        add(forms[k % 16], 16 + k / 16);
+        add("%s\n", remark);
+    }
+    add("WYBOR: NAZWA DALEJ:'LEWO',DALEJ:'PRAWO',DALEJ\n");
+}
+
+static void statements(void)
+{
+    lines("");
+}
+
+static void remarks(void)
+{
+    lines("    /* THE NEXT PART IS WOVEN FROM THE LEFT */");
+}
+
+static void comment(void)
+{
+}
+
+/* 128 labels of 60 characters, and the last of them used as often as there is room */
+static void labels(void)
+{
+    for (int k = 0; k < 128; k++)
+        add("%s: STOP\n", name(60, k));
+    while (bytes + 90 < EOL2_TEXT)
+        add("SKOCZ %s\n", name(60, 127));
+}
+
+/* 511 instructions that use the last of 128 labels */
+static void uses(void)
+{
+    for (int k = 0; k < 128; k++) {
+        add("%s: ", name(40, k));
+        add("WYKONAJ %s\n", name(40, 127));
+    }
+    for (int k = 128; k < 511; k++)
+        add("SKOCZ %s\n", name(40, 127));
+}
+
+/* 128 texts of 60 characters, and the last of them used as often as there is room */
+static void texts(void)
+{
+    for (int k = 0; k < 128; k++)
+        add("UMIESC '%s',A1\n", name(60, k));
+    while (bytes + 90 < EOL2_TEXT)
+        add("UMIESC '%s',A1\n", name(60, 127));
+}
+
+/* 8,000 different labels of three characters, and no other statement but the end */
+static void alone(void)
+{
+    for (int k = 0; k < 8000; k++)
+        add("%c%c%c:", 'A' + k / 26 / 36 % 26, "ABCDEFGHIJKLMNOPQRSTUVWXYZ0123456789"[k / 26 % 36], 'A' + k % 26);
+    add("\n");
+}
+
+/* as many empty statements, and spaces, as there is room for */
+static void empty(void)
+{
+    while (bytes + 40 < EOL2_TEXT)
+        add(" ;\n");
+}
+
+static void measure(const char *title, void (*make)(void), int full)
+{
+    bytes = 0;
+    add("SEKCJA S\n");
+    make();
+    fill(full ? EOL2_TEXT : 0);
+    double best = 1e18;
+    uint64_t answer = 0;
+    for (int k = 0; k < 25; k++) {
+        double a = now();
+        answer = eol2_load((const uint8_t *)text, bytes, table, EOL2_TABLE);
+        double b = now();
+        if (b - a < best)
+            best = b - a;
+    }
+    printf("%-44s %5zu bytes %9.1f us %7.2f ns a byte %7.1f MB/s (answer %02u, line %u)\n", title, bytes, best / 1000, best / (double)bytes,
+           (double)bytes * 1000 / best, (unsigned)eol2_number(answer), (unsigned)eol2_line(answer));
+}
+
+int main(void)
+{
+    measure("512 statements", statements, 0);
+    measure("512 statements with remarks, a full text", remarks, 1);
+    measure("one long comment", comment, 1);
+    measure("128 labels of 60 characters, the last used", labels, 0);
+    measure("512 instructions, each with the last label", uses, 0);
+    measure("128 texts of 60 characters, the last used", texts, 0);
+    measure("8,000 different labels alone", alone, 0);
+    measure("empty statements", empty, 0);
+    return 0;
+}
