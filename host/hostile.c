@@ -226,12 +226,21 @@ static void lend(struct lent *l, const uint8_t *content, size_t length)
     lent_fill(l, content, length, one_in(2), one_in(2));
 }
 
-/* Words of the language, and pieces that break it. */
+/* Where the line of a place begins. */
+static size_t line_start(const uint8_t *s, size_t at)
+{
+    while (at && s[at - 1] != '\n')
+        at--;
+    return at;
+}
+
+/* A text: random; pieces of the language, and some that break it; a good text, whole or with damage. */
 static void lend_text(int k)
 {
     static const char *const pieces[] = {"SEKCJA S\n", "KONS\n", "KONP S\n", "STOP\n", "SKOCZ A\n", "A: ", "B: NAZWA A:'X',A\n", "C: INDEKS A\n",
         "UMIESC 'A',A1\n", "UMIESC 8388608,A1\n", "/*", "*/", "'", ":", ";", "PISZ A1,Q3\n", "DODAJ B1,Z32\n", "*", "\n", "SKONA A1,B\n", "A",
-        "\xff", "UMIESC '*L*,',Z1,2,3,4\n", "WROC\n", "0123456789"};
+        "\xff", "UMIESC '*L*,',Z1,2,3,4\n", "WROC\n", "0123456789",
+        "A23456789B123456789C123456789D123456789E123456789F123456789G1:"};
     static uint8_t s[TEXT_MOST];
     size_t n = 0;
     switch (below(6)) {
@@ -257,15 +266,23 @@ static void lend_text(int k)
             n = most > n ? most : n;
         }
         break;
-    default: { /* a good text with damage: a piece put in, a part cut out, bytes replaced */
-        size_t at = below(good[k].text_bytes + 1), cut = one_in(3) ? below(30) : 0;
+    default: { /* a good text with damage: a piece put in, a line of it repeated, a part cut out, bytes replaced */
+        const uint8_t *from = good[k].text;
+        size_t bytes = good[k].text_bytes, at = below(bytes + 1), cut = one_in(3) ? below(30) : 0, line = line_start(from, below(bytes));
         const char *piece = one_in(2) ? pieces[below(sizeof pieces / sizeof *pieces)] : "";
-        memcpy(s, good[k].text, at);
+        if (one_in(2))
+            at = line_start(from, at);
+        memcpy(s, from, at);
         memcpy(s + at, piece, strlen(piece));
         n = at + strlen(piece);
-        at = at + cut < good[k].text_bytes ? at + cut : good[k].text_bytes;
-        memcpy(s + n, good[k].text + at, good[k].text_bytes - at);
-        n += good[k].text_bytes - at;
+        for (size_t times = one_in(3) ? below(one_in(4) ? 600 : 3) : 0; times && n + 2 * bytes < TEXT_MOST; times--) {
+            size_t length = strcspn((const char *)from + line, "\n") + 1;
+            memcpy(s + n, from + line, length);
+            n += length;
+        }
+        at = at + cut < bytes ? at + cut : bytes;
+        memcpy(s + n, from + at, bytes - at);
+        n += bytes - at;
         if (one_in(3))
             damage(s, n, 1 + below(2));
     }
@@ -414,8 +431,8 @@ static void read_good(const char *name)
 {
     static uint8_t file[HOST_FILE];
     size_t n = host_read(name, file, sizeof file), end = host_text_end(file, n);
-    if (goods == FILES || end > EOL2_TEXT || n - end > EOL2_INPUT) {
-        fprintf(stderr, "hostile: %s is too long, or one file too many\n", name);
+    if (goods == FILES || end == 0 || end > EOL2_TEXT || n - end > EOL2_INPUT || file[end - 1] != '\n') {
+        fprintf(stderr, "hostile: %s is too long or does not end in a new line, or is one file too many\n", name);
         exit(2);
     }
     memcpy(good[goods].text, file, good[goods].text_bytes = end);

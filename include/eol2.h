@@ -1,7 +1,19 @@
 /* EOL-2 for C: load a program text, start a state, run it under a budget.
 
-   Link with libinterpreter.a (`rt staticlib interpreter` writes target/staticlib/libinterpreter.a; it needs memcpy and memset, and nothing
-   else). host/eol2.c is a short program over this file, and `host/run` builds and runs it.
+   The library is for x86-64 Linux: `rt staticlib interpreter` writes target/staticlib/libinterpreter.a, which needs memcpy and memset, and
+   nothing else. `cc -Iinclude host.c target/staticlib/libinterpreter.a` builds a program over it. host/eol2.c is a short one, and `host/run`
+   builds and runs it.
+
+       static uint32_t table[EOL2_TABLE];
+       static uint8_t state[EOL2_STATE];
+       uint64_t answer = eol2_load(text, text_bytes, table, EOL2_TABLE);
+       if (eol2_number(answer) != EOL2_ACCEPTED)
+           refused(eol2_number(answer), eol2_line(answer));
+       eol2_start(table, EOL2_TABLE, i1, i1_bytes, NULL, 0, state, EOL2_STATE);
+       do {
+           answer = eol2_run(table, EOL2_TABLE, i1, i1_bytes, NULL, 0, state, EOL2_STATE, 1000);
+           q1 = eol2_output(state, 1, &q1_bytes);
+       } while (eol2_number(answer) == EOL2_PAUSED);
 
    What holds of all three calls:
    - Memory is lent by the caller, each buffer as a pointer and a length. The length of a table counts numbers of 32 bits, every other length
