@@ -4,3 +4,4 @@ pub mod QuestionLaws
 pub mod CallLaws
 pub mod AnswerLaws
 pub mod OrderLaws
+pub mod LoadLaws
