@@ -1,0 +1,85 @@
+-- `reading_statements::read_statement` meets its contract.
+use borrow.Author.Needs.{needs}
+use native.Mathlib.Omega.{arith}
+use denote.Ref.{now}
+use Rattle.reading_statements.specs.ReadLaws.{askable, line-low, advanceable, admissible, refused-beyond, statement-read, refused-before}
+use Rattle.reading_statements.proofs.read_statement.Statement.{statement}
+use Rattle.reading_statements.proofs.read_statement.Tie as tie
+
+read-head-requires : tie.Need-read-head-requires
+read-head-requires c κs = c .before .before .before .before .before .pre .reading .inside
+
+sub-from : tie.Need-sub-from
+sub-from c = c .before .before .before .before .before .before .before .pre .reading .drafted .waiting .few
+
+judge-requires : tie.Need-judge-requires
+judge-requires c κs = askable (c .before .before .before .read-head .ensures) (c .before .before .before .before .before .before .before .before .before .pre)
+
+enum-known-j : tie.Need-enum-known-j
+enum-known-j c = search needs
+
+enum-told : tie.Need-enum-told
+enum-told c = search needs
+
+refusal-of-requires : tie.Need-refusal-of-requires
+refusal-of-requires c κs = search needs
+
+same-length : tie.Need-same-length
+same-length c = c .before .before .before .before .before .judge .kept .1 .1 .1 .1 .0
+
+returns : tie.Need-returns
+returns c = refused-before (c .before .before .before .before .before .before .before .before .before .read-head .ensures) (c .before .before .before .before .before .judge .ensures) (c .before .enum-told .given .1) (c .refusal-of .ensures)
+
+count-lines-requires : tie.Need-count-lines-requires
+count-lines-requires c κs = let k = c .before .before .before .before .before .before .before .before .before .before .read-head .ensures in (k .from, omega (arith, k .stands .own, k .stands .behind, k .stands .most))
+
+add-at : tie.Need-add-at
+add-at c = let k = c .before .before .before .before .before .before .before .before .before .before .before .read-head .ensures in
+    let r = c .before .before .before .before .before .before .before .before .before .before .before .before .before .before .before .before .before .pre .reading in
+    let q = c .before .before .before .before .before .before .before .before .before .before .before .before .before .before .before .before .before .args in
+    omega (arith, r .line-is, line-low (now (q .text)) (q .n), r .inside, r .short, c .count-lines .ensures .most, k .stands .own, k .stands .behind, k .stands .most)
+
+declare-statement-requires : tie.Need-declare-statement-requires
+declare-statement-requires c κs = admissible (c .before .before .before .before .before .before .before .before .before .before .before .before .before .before .before .read-head .ensures) (c .before .before .before .before .before .before .before .before .before .before .before .judge .ensures) (c .before .before .before .before .before .before .before .j .given .1) (c .before .before .before .before .count-lines .ensures) (c .before .before .before .before .before .before .before .before .before .before .before .before .before .before .before .before .before .before .before .before .before .pre)
+
+enum-known-place : tie.Need-enum-known-place
+enum-known-place c = search needs
+
+enum-told-2 : tie.Need-enum-told-2
+enum-told-2 c = search needs
+
+progress-after-requires : tie.Need-progress-after-requires
+progress-after-requires c κs = advanceable (c .before .before .before .before .before .before .before .before .before .before .before .before .before .before .before .before .before .before .before .before .before .before .before .before .before .read-head .ensures) (c .before .before .before .before .before .before .before .before .before .before .before .before .before .before .before .before .before .before .before .before .before .judge .ensures) (c .before .before .before .before .before .before .before .before .before .before .before .before .before .before .before .before .before .j .given .1) (c .before .before .before .before .before .before .before .before .before .before .before .before .before .before .before .before .before .before .before .before .before .before .before .before .before .before .before .before .before .before .before .pre)
+
+same-length-2 : tie.Need-same-length-2
+same-length-2 c = c .before .before .before .before .before .before .before .before .before .before .before .before .before .before .before .before .before .before .before .before .before .judge .kept .1 .1 .1 .1 .0
+
+same-length-3 : tie.Need-same-length-3
+same-length-3 c = c .before .before .before .before .before .before .before .before .before .declare-statement .kept .1 .1 .1 .1 .1 .1 .0
+
+same-length-4 : tie.Need-same-length-4
+same-length-4 c = c .before .before .before .before .before .before .before .before .before .declare-statement .kept .1 .1 .1 .1 .1 .1 .1 .0
+
+same-length-5 : tie.Need-same-length-5
+same-length-5 c = c .before .before .before .before .before .before .before .before .before .declare-statement .kept .1 .1 .1 .1 .1 .1 .1 .1 .0
+
+returns-2 : tie.Need-returns-2
+returns-2 c = refused-beyond (c .before .before .before .before .before .before .before .before .before .before .before .before .before .before .before .before .before .before .before .before .before .before .before .before .before .read-head .ensures) (c .before .before .before .before .before .before .before .before .before .before .before .before .before .before .before .before .before .before .before .before .before .judge .ensures) (c .before .before .before .before .before .before .before .before .before .before .before .before .before .before .before .before .before .j .given .1) (c .before .before .before .before .before .before .before .before .before .before .before .before .before .before .count-lines .ensures) (c .before .before .before .before .before .before .before .before .before .declare-statement .ensures) (c .before .place .given .1)
+
+same-length-6 : tie.Need-same-length-6
+same-length-6 c = c .before .before .before .before .before .before .before .before .before .before .before .before .before .before .before .before .before .before .before .before .before .before .judge .kept .1 .1 .1 .1 .0
+
+same-length-7 : tie.Need-same-length-7
+same-length-7 c = c .before .before .before .before .before .before .before .before .before .before .declare-statement .kept .1 .1 .1 .1 .1 .1 .0
+
+same-length-8 : tie.Need-same-length-8
+same-length-8 c = c .before .before .before .before .before .before .before .before .before .before .declare-statement .kept .1 .1 .1 .1 .1 .1 .1 .0
+
+same-length-9 : tie.Need-same-length-9
+same-length-9 c = c .before .before .before .before .before .before .before .before .before .before .declare-statement .kept .1 .1 .1 .1 .1 .1 .1 .1 .0
+
+returns-3 : tie.Need-returns-3
+returns-3 c = statement-read (c .before .before .before .before .before .before .before .before .before .before .before .before .before .before .before .before .before .before .before .before .before .before .before .before .before .before .read-head .ensures) (c .before .before .before .before .before .before .before .before .before .before .before .before .before .before .before .before .before .before .before .before .before .before .judge .ensures) (c .before .before .before .before .before .before .before .before .before .before .before .before .before .before .before .before .before .before .j .given .1) (c .before .before .before .before .before .before .before .before .before .before .before .before .before .before .before .count-lines .ensures) (c .before .before .before .before .before .before .before .before .before .before .declare-statement .ensures) (c .before .before .enum-told2 .given .1) (c .progress-after .ensures)
+
+pub read-statement-spec : {M : Type 1} → statement M
+read-statement-spec = tie.close (tie.spec read-head-requires sub-from judge-requires enum-known-j enum-told refusal-of-requires same-length returns count-lines-requires add-at declare-statement-requires enum-known-place enum-told-2 progress-after-requires same-length-2 same-length-3 same-length-4 same-length-5 returns-2 same-length-6 same-length-7 same-length-8 same-length-9 returns-3)

@@ -1,0 +1,5 @@
+pub mod ReadingStatements
+pub mod Questioning
+pub mod GatheringLaws
+pub mod QuestionLaws
+pub mod ReadLaws
