@@ -1,16 +1,16 @@
 -- A draft after a statement without fault: its section and its last instruction.
 use mathlib.Core.Path.{_≡_, refl, sym, ap, _∙_, subst}
 use mathlib.Core.Bool.{Bool, true, false, cond, not, _&&_, false≢true}
-use mathlib.Core.List.{List, [], _∷_, _++_, map}
-use Prim.Native.Nat.{ℕ, pred, _+_, _*_, _≤_, _<_}
+use mathlib.Core.List.{List, [], _∷_, _++_}
+use Prim.Native.Nat.{ℕ, pred, _+_, _≤_, _<_}
 use native.Mathlib.Omega.{arith}
 use lib.Dec.{T, eqb}
-use lib.ListN.{length, take, drop, length-append}
+use lib.ListN.{length, drop, length-append}
 use lib.Seq.{drop-at}
 use borrow.Author.Tests.{ne-eqb}
 use Rattle.acceptance.specs.ArgumentLaws.{word-apart}
 use Rattle.acceptance.specs.StatementLaws.{each-behind}
-use Rattle.acceptance.specs.RowLaws.{fails, append-none, Answered}
+use Rattle.acceptance.specs.RowLaws.{fails, append-none}
 use Rattle.closing.specs.Closing.{unended}
 use Rattle.declaring.specs.SpeltLaws.{statement-spelt}
 use Rattle.declaring.specs.TabledLaws.{operated}
@@ -23,13 +23,13 @@ use Rattle.heads.specs.HeadLaws.{no-keyword, rest-here}
 use Rattle.heads.specs.declared.Head.{Head}
 use Rattle.language.specs.Instructions.{operation, is-end}
 use Rattle.language.specs.Limits as limit
-use Rattle.language.specs.Program.{identifier, Op}
+use Rattle.language.specs.Program.{identifier}
 use Rattle.layout.specs.ArgumentLaws.{operator-range}
 use Rattle.layout.specs.Bounds.{Each}
 use Rattle.layout.specs.CellLaws.{each-drop}
 use Rattle.lexer.proofs.Finding.{no-chars}
 use Rattle.lexer.specs.declared.Token.{Token}
-use Rattle.lexer.specs.Tokens.{chars-of, item-of, Next-token}
+use Rattle.lexer.specs.Tokens.{item-of, Next-token}
 use Rattle.lists.specs.Lists.{filled, headOr, each}
 use Rattle.lists.specs.ListLaws.{T-left, T-right}
 use Rattle.progress.specs.Progress.{Section-kept}

@@ -2,14 +2,14 @@
 use mathlib.Core.Path.{_≡_, refl, sym, ap, _∙_, subst}
 use mathlib.Core.Bool.{Bool, true, false, cond}
 use mathlib.Core.List.{List, [], _∷_, map}
-use Prim.Native.Nat.{ℕ, _-_, _≤_}
+use Prim.Native.Nat.{ℕ, _-_}
 use native.Mathlib.Omega.{arith}
 use lib.ListN.{length, take, drop, length-map, length-take, length-drop}
 use Rattle.closing.specs.Closing.{Tells-closing, Closed, closing-then}
 use Rattle.closing.specs.declared.Closing.{Closing}
 use Rattle.declaring.specs.Declaring.{marks-in}
 use Rattle.declaring.specs.TabledLaws.{mark-places}
-use Rattle.drafts.specs.Marks.{mark, place-by, word-by}
+use Rattle.drafts.specs.Marks.{mark, place-by}
 use Rattle.drafts.specs.Tabled.{Spelt}
 use Rattle.heads.specs.Heads.{Headed}
 use Rattle.heads.specs.HeadLaws.{operator-here}
@@ -21,7 +21,7 @@ use Rattle.progress.specs.Progress.{Names-kept, Waiting-kept}
 use Rattle.progress.specs.declared.Progress.{Progress}
 use Rattle.statements.specs.StatementAt.{statement-at, stops, fault-of}
 use Rattle.statements.specs.declared.Fault.{Fault}
-use Rattle.syntax.specs.Items.{Item, places}
+use Rattle.syntax.specs.Items.{Item}
 use Rattle.syntax.specs.Statements.{operator}
 use Rattle.syntax.specs.Tables.{Draft, all-labels, draft-after}
 use Rattle.advancing.specs.Advancing.{Section-told, Ended-told, Advanceable, Advancing, Advances}

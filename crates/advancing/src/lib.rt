@@ -2,7 +2,6 @@
 ghost use mathlib.Core.Path.{_≡_};
 ghost use mathlib.Core.Bool.{cond};
 ghost use Prim.Native.Nat.{_-_, _≤_};
-ghost use lib.Dec.{eqb};
 ghost use Rattle.heads.specs.Heads.{Headed};
 ghost use Rattle.statements.specs.StatementAt.{stops};
 ghost use Rattle.advancing.specs.Advancing.{Markable, Section-told, Ended-told, Advanceable, Advances};

@@ -1,6 +1,6 @@
 -- The labels of a statement come to the names: their marks, and what they name.
 use mathlib.Core.Path.{_≡_, refl, sym, ap, _∙_, subst}
-use mathlib.Core.Bool.{Bool, true, false, not}
+use mathlib.Core.Bool.{Bool, not}
 use mathlib.Core.List.{List, [], _∷_, _++_, map, map-append, append-assoc}
 use Prim.Native.Nat.{ℕ, zero, suc, _+_, _-_, _≤_, _<_}
 use native.Mathlib.Omega.{arith}
@@ -25,7 +25,7 @@ use Rattle.names.specs.Names.{names-of, Collectable, Collecting}
 use Rattle.names.specs.declared.Collected.{Collected}
 use Rattle.statements.specs.StatementAt.{statement-at}
 use Rattle.statements.specs.declared.Fault.the-variants.{Clear}
-use Rattle.syntax.specs.Items.{Item, is, places}
+use Rattle.syntax.specs.Items.{Item, is}
 use Rattle.syntax.specs.Items.Sort.{word}
 use Rattle.syntax.specs.Statements.{front, labels-in}
 use Rattle.syntax.specs.Tables.{Draft, is-first, all-labels, contents, draft-after}

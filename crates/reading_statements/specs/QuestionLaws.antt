@@ -13,19 +13,18 @@ use Rattle.faults.specs.Groups.{item-questions, head-questions, name-questions,
 use Rattle.faults.specs.declared.Verdict as told
 use Rattle.faults.specs.declared.Verdict.the-variants.{Yes, No}
 use Rattle.heads.specs.declared.Head.{Head}
-use Rattle.names.specs.Names.{names-of, Collecting}
+use Rattle.names.specs.Names.{Collecting}
 use Rattle.names.specs.declared.Collected.{Collected}
 use Rattle.statements.specs.StatementAt.{statement-at, fault-of}
 use Rattle.statements.specs.declared.Fault.{Fault}
 use Rattle.statements.specs.declared.Fault.the-variants.{Clear, At}
-use Rattle.syntax.specs.Items.{Item}
 use Rattle.syntax.specs.Questions.{repeated}
 use Rattle.syntax.specs.Statements.{labels-in}
 use Rattle.syntax.specs.Tables.{Draft, is-first}
 use Rattle.syntax.specs.Verdict.{Question, Verdict, decide, first-no}
-use Rattle.syntax.specs.Verdict.Verdict.{yes, refuse}
+use Rattle.syntax.specs.Verdict.Verdict.{yes}
 use Rattle.reading_statements.specs.GatheringLaws as gathering
-use Rattle.reading_statements.specs.Questioning.{judged-verdict, Judging, Arguments-judged, Gathered, Gatherable, Gathers, Askable, Asks}
+use Rattle.reading_statements.specs.Questioning.{Judging, Arguments-judged, Gathered, Gatherable, Gathers, Askable, Asks}
 use Rattle.reading_statements.specs.declared.Judged.{Judged}
 use Rattle.reading_statements.specs.declared.Judged.the-variants as judged
 

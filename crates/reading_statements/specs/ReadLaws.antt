@@ -1,10 +1,10 @@
 -- A statement is read: what each of its parts asks for, and the draft after it.
 use mathlib.Core.Path.{_≡_, refl, sym, ap, _∙_, subst}
 use mathlib.Core.List.{List, [], _∷_, _++_}
-use Prim.Native.Nat.{ℕ, suc, _+_, _-_, _≤_, _<_}
+use Prim.Native.Nat.{ℕ, suc, _+_, _-_, _≤_}
 use native.Mathlib.Omega.{arith}
 use lib.Dec.{eqb}
-use lib.ListN.{length, take, drop, length-take}
+use lib.ListN.{length, take, length-take}
 use Rattle.acceptance.specs.DraftLaws.{draft-sound}
 use Rattle.acceptance.specs.RowLaws.{keep-few, each-map, answered, Answered}
 use Rattle.advancing.specs.Advancing.{Advanceable, Advancing, Advances}
@@ -17,7 +17,6 @@ use Rattle.faults.specs.Groups.{early-questions, table-questions}
 use Rattle.heads.specs.Heads.{Headed}
 use Rattle.heads.specs.declared.Head.{Head}
 use Rattle.language.specs.Limits as limit
-use Rattle.layout.specs.Bounds.{Each}
 use Rattle.layout.specs.CellLaws.{each-append}
 use Rattle.lexer.specs.Tokens.{Lines}
 use Rattle.progress.specs.Progress.{Drafted}

@@ -1,5 +1,4 @@
 -- `advancing::progress_after` meets its contract.
-use borrow.Author.Needs.{needs}
 use mathlib.Core.Path.{refl}
 use Rattle.advancing.specs.WaitingLaws.{advances}
 use Rattle.advancing.proofs.progress_after.Statement.{statement}

@@ -28,10 +28,14 @@ same-length : tie.Need-same-length
 same-length c = c .before .before .before .before .before .judge .kept .1 .1 .1 .1 .0
 
 returns : tie.Need-returns
-returns c = refused-before (c .before .before .before .before .before .before .before .before .before .read-head .ensures) (c .before .before .before .before .before .judge .ensures) (c .before .enum-told .given .1) (c .refusal-of .ensures)
+returns c =
+    let a = c .before .before .before .before .before in
+    refused-before (a .before .before .before .before .read-head .ensures) (a .judge .ensures) (c .before .enum-told .given .1) (c .refusal-of .ensures)
 
 count-lines-requires : tie.Need-count-lines-requires
-count-lines-requires c κs = let k = c .before .before .before .before .before .before .before .before .before .before .read-head .ensures in (k .from, omega (arith, k .stands .own, k .stands .behind, k .stands .most))
+count-lines-requires c κs =
+    let k = c .before .before .before .before .before .before .before .before .before .before .read-head .ensures in
+    (omega (arith, k .from), omega (arith, k .from, k .stands .own, k .stands .behind, k .stands .most))
 
 add-at : tie.Need-add-at
 add-at c = let k = c .before .before .before .before .before .before .before .before .before .before .before .read-head .ensures in
@@ -40,7 +44,12 @@ add-at c = let k = c .before .before .before .before .before .before .before .be
     omega (arith, r .line-is, line-low (now (q .text)) (q .n), r .inside, r .short, c .count-lines .ensures .most, k .stands .own, k .stands .behind, k .stands .most)
 
 declare-statement-requires : tie.Need-declare-statement-requires
-declare-statement-requires c κs = admissible (c .before .before .before .before .before .before .before .before .before .before .before .before .before .before .before .read-head .ensures) (c .before .before .before .before .before .before .before .before .before .before .before .judge .ensures) (c .before .before .before .before .before .before .before .j .given .1) (c .before .before .before .before .count-lines .ensures) (c .before .before .before .before .before .before .before .before .before .before .before .before .before .before .before .before .before .before .before .before .before .pre)
+declare-statement-requires c κs =
+    let l = c .before .before .before .before in
+    let j = l .before .before .before in
+    let a = j .before .before .before .before in
+    let k = a .before .before .before .before in
+    admissible (k .read-head .ensures) (a .judge .ensures) (j .j .given .1) (l .count-lines .ensures) (k .before .before .before .before .before .before .pre)
 
 enum-known-place : tie.Need-enum-known-place
 enum-known-place c = search needs
@@ -49,7 +58,11 @@ enum-told-2 : tie.Need-enum-told-2
 enum-told-2 c = search needs
 
 progress-after-requires : tie.Need-progress-after-requires
-progress-after-requires c κs = advanceable (c .before .before .before .before .before .before .before .before .before .before .before .before .before .before .before .before .before .before .before .before .before .before .before .before .before .read-head .ensures) (c .before .before .before .before .before .before .before .before .before .before .before .before .before .before .before .before .before .before .before .before .before .judge .ensures) (c .before .before .before .before .before .before .before .before .before .before .before .before .before .before .before .before .before .j .given .1) (c .before .before .before .before .before .before .before .before .before .before .before .before .before .before .before .before .before .before .before .before .before .before .before .before .before .before .before .before .before .before .before .pre)
+progress-after-requires c κs =
+    let j = c .before .before .before .before .before .before .before .before .before .before .before .before .before .before .before .before .before in
+    let a = j .before .before .before .before in
+    let k = a .before .before .before .before in
+    advanceable (k .read-head .ensures) (a .judge .ensures) (j .j .given .1) (k .before .before .before .before .before .before .pre)
 
 same-length-2 : tie.Need-same-length-2
 same-length-2 c = c .before .before .before .before .before .before .before .before .before .before .before .before .before .before .before .before .before .before .before .before .before .judge .kept .1 .1 .1 .1 .0
@@ -64,7 +77,12 @@ same-length-5 : tie.Need-same-length-5
 same-length-5 c = c .before .before .before .before .before .before .before .before .before .declare-statement .kept .1 .1 .1 .1 .1 .1 .1 .1 .0
 
 returns-2 : tie.Need-returns-2
-returns-2 c = refused-beyond (c .before .before .before .before .before .before .before .before .before .before .before .before .before .before .before .before .before .before .before .before .before .before .before .before .before .read-head .ensures) (c .before .before .before .before .before .before .before .before .before .before .before .before .before .before .before .before .before .before .before .before .before .judge .ensures) (c .before .before .before .before .before .before .before .before .before .before .before .before .before .before .before .before .before .j .given .1) (c .before .before .before .before .before .before .before .before .before .before .before .before .before .before .count-lines .ensures) (c .before .before .before .before .before .before .before .before .before .declare-statement .ensures) (c .before .place .given .1)
+returns-2 c =
+    let t = c .before .before .before .before .before .before .before .before .before in
+    let l = t .before .before .before .before .before in
+    let j = l .before .before .before in
+    let a = j .before .before .before .before in
+    refused-beyond (a .before .before .before .before .read-head .ensures) (a .judge .ensures) (j .j .given .1) (l .count-lines .ensures) (t .declare-statement .ensures) (c .before .place .given .1)
 
 same-length-6 : tie.Need-same-length-6
 same-length-6 c = c .before .before .before .before .before .before .before .before .before .before .before .before .before .before .before .before .before .before .before .before .before .before .judge .kept .1 .1 .1 .1 .0
@@ -79,7 +97,12 @@ same-length-9 : tie.Need-same-length-9
 same-length-9 c = c .before .before .before .before .before .before .before .before .before .before .declare-statement .kept .1 .1 .1 .1 .1 .1 .1 .1 .0
 
 returns-3 : tie.Need-returns-3
-returns-3 c = statement-read (c .before .before .before .before .before .before .before .before .before .before .before .before .before .before .before .before .before .before .before .before .before .before .before .before .before .before .read-head .ensures) (c .before .before .before .before .before .before .before .before .before .before .before .before .before .before .before .before .before .before .before .before .before .before .judge .ensures) (c .before .before .before .before .before .before .before .before .before .before .before .before .before .before .before .before .before .before .j .given .1) (c .before .before .before .before .before .before .before .before .before .before .before .before .before .before .before .count-lines .ensures) (c .before .before .before .before .before .before .before .before .before .before .declare-statement .ensures) (c .before .before .enum-told2 .given .1) (c .progress-after .ensures)
+returns-3 c =
+    let t = c .before .before .before .before .before .before .before .before .before .before in
+    let l = t .before .before .before .before .before in
+    let j = l .before .before .before in
+    let a = j .before .before .before .before in
+    statement-read (a .before .before .before .before .read-head .ensures) (a .judge .ensures) (j .j .given .1) (l .count-lines .ensures) (t .declare-statement .ensures) (c .before .before .enum-told2 .given .1) (c .progress-after .ensures)
 
 pub read-statement-spec : {M : Type 1} → statement M
 read-statement-spec = tie.close (tie.spec read-head-requires sub-from judge-requires enum-known-j enum-told refusal-of-requires same-length returns count-lines-requires add-at declare-statement-requires enum-known-place enum-told-2 progress-after-requires same-length-2 same-length-3 same-length-4 same-length-5 returns-2 same-length-6 same-length-7 same-length-8 same-length-9 returns-3)
