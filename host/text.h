@@ -8,8 +8,8 @@
 #include <stdlib.h>
 #include <string.h>
 
-/* Enough bytes to tell that one of the two is too long. */
-enum { HOST_FILE = EOL2_TEXT + EOL2_INPUT + 1 };
+/* "A program reads at most 65,536 bytes of standard input" */
+enum { HOST_FILE = 65536 };
 
 /* At most `most` bytes of a file; "-" is standard input. */
 static inline size_t host_read(const char *name, uint8_t *to, size_t most)
