@@ -1,0 +1,3 @@
+pub mod Verdicts
+pub mod Outcomes
+pub mod Walking

@@ -1,0 +1,137 @@
+-- `loading::read_statements` meets its contract.
+use borrow.Author.Needs.{needs}
+use native.Mathlib.Omega.{arith}
+use mathlib.Core.Path.{refl, sym, ap, _∙_}
+use Prim.Native.Nat.{_-_}
+use lib.ListN.{length}
+use Rattle.loading.proofs.Walking.{other, line-low, Looping, going-none, part-here, judged, going-refused, going-last, going-next}
+use Rattle.loading.proofs.read_statements.Statement.{statement}
+use Rattle.loading.proofs.read_statements.Tie as tie
+use Rattle.loading.proofs.read_statements.Reads as reads
+use Rattle.loading.proofs.read_statements.Lts as lts
+use Rattle.lexer.proofs.count_lines.Reads as count-lines-reads
+use Rattle.loading.proofs.read_judged.Reads as read-judged-reads
+use Rattle.progress.proofs.begin.Reads as begin-reads
+use Rattle.unread.proofs.read_part.Reads as read-part-reads
+
+abbrev Inv-loop : tie.InvT-loop
+Inv-loop text names₀ table₀ switches₀ entries₀ p₀ n₀ line₀ names table switches entries p n line = Looping text table₀ n line p names table switches entries (length names₀) (length table₀) (length switches₀) (length entries₀)
+
+abbrev μ-loop : tie.MeasureT-loop
+μ-loop text names₀ table₀ switches₀ entries₀ p₀ n₀ line₀ names table switches entries p n line = length text - n
+
+begin-requires : tie.Need-begin-requires Inv-loop μ-loop
+begin-requires c κs = search needs
+
+loop-holds : tie.Need-loop-holds Inv-loop μ-loop
+loop-holds c = record { going = going-none (c .before .before .before .before .before .before .pre) (c .begin .ensures); names-is = refl; table-is = refl; switches-is = refl; entries-is = refl }
+
+sub-read-part : tie.Need-sub-read-part Inv-loop μ-loop
+sub-read-part c = omega (arith, (c .loop .inv .going) .standing .inside)
+
+part-read-part-start : tie.Need-part-read-part-start Inv-loop μ-loop
+part-read-part-start c = omega (arith, (c .loop .inv .going) .standing .inside)
+
+part-read-part-end : tie.Need-part-read-part-end Inv-loop μ-loop
+part-read-part-end c = search needs
+
+read-part-requires : tie.Need-read-part-requires Inv-loop μ-loop
+read-part-requires c κs = search needs
+
+read-judged-requires : tie.Need-read-judged-requires Inv-loop μ-loop
+read-judged-requires c κs = let partᵛ = part-here (c .before .before .before .before .before .before .loop .inv .going) (c .before .before .before .before .read-part .ensures) in
+    judged (c .before .before .before .before .before .before .loop .inv .going) partᵛ
+
+enum-known-r : tie.Need-enum-known-r Inv-loop μ-loop
+enum-known-r c = search needs
+
+enum-told : tie.Need-enum-told Inv-loop μ-loop
+enum-told c = search needs
+
+same-length : tie.Need-same-length Inv-loop μ-loop
+same-length c = c .before .before .before .before .before .before .before .before .before .before .read-judged .kept .1 .1 .1 .1 .1 .0 ∙ c .before .before .before .before .before .before .before .before .before .before .before .before .before .before .before .before .before .loop .inv .names-is
+
+same-length-2 : tie.Need-same-length-2 Inv-loop μ-loop
+same-length-2 c = c .before .before .before .before .before .before .before .before .before .before .read-judged .kept .1 .1 .1 .1 .1 .1 .0 ∙ c .before .before .before .before .before .before .before .before .before .before .before .before .before .before .before .before .before .loop .inv .table-is
+
+same-length-3 : tie.Need-same-length-3 Inv-loop μ-loop
+same-length-3 c = c .before .before .before .before .before .before .before .before .before .before .read-judged .kept .1 .1 .1 .1 .1 .1 .1 .0 ∙ c .before .before .before .before .before .before .before .before .before .before .before .before .before .before .before .before .before .loop .inv .switches-is
+
+same-length-4 : tie.Need-same-length-4 Inv-loop μ-loop
+same-length-4 c = c .before .before .before .before .before .before .before .before .before .before .read-judged .kept .1 .1 .1 .1 .1 .1 .1 .1 .0 ∙ c .before .before .before .before .before .before .before .before .before .before .before .before .before .before .before .before .before .loop .inv .entries-is
+
+returns : tie.Need-returns Inv-loop μ-loop
+returns c = let partᵛ = part-here (c .before .before .before .before .before .before .before .before .before .before .before .before .before .before .before .before .before .loop .inv .going) (c .before .before .before .before .before .before .before .before .before .before .before .before .before .before .before .read-part .ensures) in
+    going-refused (c .before .before .before .before .before .before .before .before .before .before .before .before .before .before .before .before .before .loop .inv .going) partᵛ (c .before .before .before .before .before .before .before .before .before .before .read-judged .ensures) (other _ (c .before .match .keys2))
+
+same-length-5 : tie.Need-same-length-5 Inv-loop μ-loop
+same-length-5 c = c .before .before .before .before .before .before .before .before .before .before .before .before .read-judged .kept .1 .1 .1 .1 .1 .0 ∙ c .before .before .before .before .before .before .before .before .before .before .before .before .before .before .before .before .before .before .before .loop .inv .names-is
+
+same-length-6 : tie.Need-same-length-6 Inv-loop μ-loop
+same-length-6 c = c .before .before .before .before .before .before .before .before .before .before .before .before .read-judged .kept .1 .1 .1 .1 .1 .1 .0 ∙ c .before .before .before .before .before .before .before .before .before .before .before .before .before .before .before .before .before .before .before .loop .inv .table-is
+
+same-length-7 : tie.Need-same-length-7 Inv-loop μ-loop
+same-length-7 c = c .before .before .before .before .before .before .before .before .before .before .before .before .read-judged .kept .1 .1 .1 .1 .1 .1 .1 .0 ∙ c .before .before .before .before .before .before .before .before .before .before .before .before .before .before .before .before .before .before .before .loop .inv .switches-is
+
+same-length-8 : tie.Need-same-length-8 Inv-loop μ-loop
+same-length-8 c = c .before .before .before .before .before .before .before .before .before .before .before .before .read-judged .kept .1 .1 .1 .1 .1 .1 .1 .1 .0 ∙ c .before .before .before .before .before .before .before .before .before .before .before .before .before .before .before .before .before .before .before .loop .inv .entries-is
+
+returns-2 : tie.Need-returns-2 Inv-loop μ-loop
+returns-2 c = let partᵛ = part-here (c .before .before .before .before .before .before .before .before .before .before .before .before .before .before .before .before .before .before .before .loop .inv .going) (c .before .before .before .before .before .before .before .before .before .before .before .before .before .before .before .before .before .read-part .ensures) in
+    going-last (c .before .before .before .before .before .before .before .before .before .before .before .before .before .before .before .before .before .before .before .loop .inv .going) partᵛ (c .before .before .before .before .before .before .before .before .before .before .before .before .read-judged .ensures) (c .before .before .r .given .0 .0) (c .before .before .r .given .1) (c .if1 .taken)
+
+add-count-lines : tie.Need-add-count-lines Inv-loop μ-loop
+add-count-lines c = let partᵛ = part-here (c .before .before .before .before .before .before .before .before .before .before .before .before .before .before .before .before .before .before .before .before .loop .inv .going) (c .before .before .before .before .before .before .before .before .before .before .before .before .before .before .before .before .before .before .read-part .ensures) in
+    omega (arith, partᵛ .ends .most, (c .before .before .before .before .before .before .before .before .before .before .before .before .before .before .before .before .before .before .before .before .loop .inv .going) .standing .short)
+
+count-lines-requires : tie.Need-count-lines-requires Inv-loop μ-loop
+count-lines-requires c κs = let partᵛ = part-here (c .before .before .before .before .before .before .before .before .before .before .before .before .before .before .before .before .before .before .before .before .loop .inv .going) (c .before .before .before .before .before .before .before .before .before .before .before .before .before .before .before .before .before .before .read-part .ensures) in
+    (omega arith, partᵛ .ends .most)
+
+add-line : tie.Need-add-line Inv-loop μ-loop
+add-line c = let partᵛ = part-here (c .before .before .before .before .before .before .before .before .before .before .before .before .before .before .before .before .before .before .before .before .before .loop .inv .going) (c .before .before .before .before .before .before .before .before .before .before .before .before .before .before .before .before .before .before .before .read-part .ensures) in
+    omega (arith, c .count-lines .ensures .most, line-low (c .before .before .before .before .before .before .before .before .before .before .before .before .before .before .before .before .before .before .before .before .before .loop .inv .going), partᵛ .ends .most, (c .before .before .before .before .before .before .before .before .before .before .before .before .before .before .before .before .before .before .before .before .before .loop .inv .going) .standing .short)
+
+add-n : tie.Need-add-n Inv-loop μ-loop
+add-n c = let partᵛ = part-here (c .before .before .before .before .before .before .before .before .before .before .before .before .before .before .before .before .before .before .before .before .before .before .loop .inv .going) (c .before .before .before .before .before .before .before .before .before .before .before .before .before .before .before .before .before .before .before .before .read-part .ensures) in
+    omega (arith, partᵛ .ends .most, (c .before .before .before .before .before .before .before .before .before .before .before .before .before .before .before .before .before .before .before .before .before .before .loop .inv .going) .standing .short)
+
+loop-less : tie.Need-loop-less Inv-loop μ-loop
+loop-less c = let partᵛ = part-here (c .before .before .before .before .before .before .before .before .before .before .before .before .before .before .before .before .before .before .before .before .before .before .loop .inv .going) (c .before .before .before .before .before .before .before .before .before .before .before .before .before .before .before .before .before .before .before .before .read-part .ensures) in
+    omega (arith, partᵛ .ends .most, partᵛ .ends .more (c .before .before .before .if1 .left), (c .before .before .before .before .before .before .before .before .before .before .before .before .before .before .before .before .before .before .before .before .before .before .loop .inv .going) .standing .inside)
+
+loop-again : tie.Need-loop-again Inv-loop μ-loop
+loop-again c = let partᵛ = part-here (c .before .before .before .before .before .before .before .before .before .before .before .before .before .before .before .before .before .before .before .before .before .before .loop .inv .going) (c .before .before .before .before .before .before .before .before .before .before .before .before .before .before .before .before .before .before .before .before .read-part .ensures) in
+    record { going = going-next (c .before .before .before .before .before .before .before .before .before .before .before .before .before .before .before .before .before .before .before .before .before .before .loop .inv .going) partᵛ (c .before .before .before .before .before .before .before .before .before .before .before .before .before .before .before .read-judged .ensures) (c .before .before .before .before .before .r .given .0 .0) (c .before .before .before .before .before .r .given .1) (c .before .before .before .if1 .left) (c .before .count-lines .ensures); names-is = c .before .before .before .before .before .before .before .before .before .before .before .before .before .before .before .read-judged .kept .1 .1 .1 .1 .1 .0 ∙ c .before .before .before .before .before .before .before .before .before .before .before .before .before .before .before .before .before .before .before .before .before .before .loop .inv .names-is; table-is = c .before .before .before .before .before .before .before .before .before .before .before .before .before .before .before .read-judged .kept .1 .1 .1 .1 .1 .1 .0 ∙ c .before .before .before .before .before .before .before .before .before .before .before .before .before .before .before .before .before .before .before .before .before .before .loop .inv .table-is; switches-is = c .before .before .before .before .before .before .before .before .before .before .before .before .before .before .before .read-judged .kept .1 .1 .1 .1 .1 .1 .1 .0 ∙ c .before .before .before .before .before .before .before .before .before .before .before .before .before .before .before .before .before .before .before .before .before .before .loop .inv .switches-is; entries-is = c .before .before .before .before .before .before .before .before .before .before .before .before .before .before .before .read-judged .kept .1 .1 .1 .1 .1 .1 .1 .1 .0 ∙ c .before .before .before .before .before .before .before .before .before .before .before .before .before .before .before .before .before .before .before .before .before .before .loop .inv .entries-is }
+
+pub read-statements-spec : {M : Type 1} → statement M
+read-statements-spec =
+    tie.close
+    (tie.spec
+    Inv-loop
+    μ-loop
+    begin-requires
+    loop-holds
+    sub-read-part
+    part-read-part-start
+    part-read-part-end
+    read-part-requires
+    read-judged-requires
+    enum-known-r
+    enum-told
+    same-length
+    same-length-2
+    same-length-3
+    same-length-4
+    returns
+    same-length-5
+    same-length-6
+    same-length-7
+    same-length-8
+    returns-2
+    add-count-lines
+    count-lines-requires
+    add-line
+    add-n
+    loop-less
+    loop-again)
