@@ -1,6 +1,7 @@
 -- Each answer of a call, from the questions asked so far.
-use mathlib.Core.Path.{_≡_, refl, sym, _∙_, subst}
-use mathlib.Core.Bool.{Bool, true, false}
+use mathlib.Core.Path.{_≡_, refl, sym, ap, _∙_, subst}
+use mathlib.Core.Bool.{Bool, true, false, cond}
+use native.Mathlib.Omega.{arith}
 use mathlib.Core.List.{List, [], _∷_}
 use Prim.Native.Nat.{ℕ, _≤_, _<_}
 use lib.Dec.{T}
@@ -17,35 +18,63 @@ use Rattle.running.specs.Running.{answer-number, run-on, Runnable, Ran-on}
 use Rattle.running.specs.declared.Ran.{Ran}
 use Rattle.calls.specs.Calls.{packed, Call, call-inputs, Result, reply-number, reply-count, reply-answer, memory-passes, run-reply, result-of, startOf, runOf}
 use Rattle.calls.specs.Calls.Call.{start-on}
-use Rattle.calls.specs.OrderLaws.{refused-as, is-62, is-61, is-63, is-accepted}
+use Rattle.calls.specs.OrderLaws.{is-62, is-61, is-63, is-accepted}
+use Rattle.check_state.specs.Asked.{Asked}
 use Rattle.interpreter.specs.Answers.{Answers}
 
 -- a refusal
 answers : {x y : Result} → x ≡ y → {r : ℕ} {m : List ℕ} → r ≡ reply-answer (y .reply) → m ≡ y .cells → Answers x r m
 answers e q w = record { answer = rw e q; cells = rw e w }
 
-module _ (c m : List ℕ) (x : Call) {a b : Bool} (p : a ≡ good-table c) (q : b ≡ good-inputs (call-inputs x)) where
-  pub refused-62 : a ≡ false → {r : ℕ} → r ≡ packed 62 0 → Answers (result-of c x m) r m
-  refused-62 e w = answers (is-62 c m x (sym p ∙ e)) w refl
+-- the number of the first no of two questions
+pub is-62-of : (a b : Bool) → a ≡ false → _≡_ {A = ℕ} 62 (cond a (cond b 0 61) 62)
+is-62-of a b e = rw e refl
 
-  pub refused-61 : a ≡ true → b ≡ false → {r : ℕ} → r ≡ packed 61 0 → Answers (result-of c x m) r m
-  refused-61 e f w = answers (is-61 c m x (sym p ∙ e) (sym q ∙ f)) w refl
+pub is-61-of : {a b : Bool} → a ≡ true → b ≡ false → _≡_ {A = ℕ} 61 (cond a (cond b 0 61) 62)
+is-61-of e f = rw (e, f) refl
 
-  pub refused-63 : a ≡ true → b ≡ true → memory-passes c x m ≡ false → {r : ℕ} → r ≡ packed 63 0 → Answers (result-of c x m) r m
-  refused-63 e f g w = answers (is-63 c m x (sym p ∙ e) (sym q ∙ f) g) w refl
+pub is-0-of : {a b : Bool} → a ≡ true → b ≡ true → _≡_ {A = ℕ} 0 (cond a (cond b 0 61) 62)
+is-0-of e f = rw (e, f) refl
 
-module _ (c m : List ℕ) (ins : Inputs) {a b : Bool} (p : a ≡ good-table c) (q : b ≡ good-inputs ins) (e : a ≡ true) (f : b ≡ true) where
+pub both-asked : {a b d e : Bool} {k : ℕ} → k ≡ cond a (cond b 0 61) 62 → a ≡ d → b ≡ e → k ≡ cond d (cond e 0 61) 62
+both-asked {a} {b} {d} h p q = h ∙ ap (λ (x : Bool). cond x (cond b 0 61) 62) p ∙ ap (λ (x : Bool). cond d (cond x 0 61) 62) q
+
+module _ (c m : List ℕ) (x : Call) {k : ℕ} (told : k ≡ cond (good-table c) (cond (good-inputs (call-inputs x)) 0 61) 62) where
+  -- it is 62 or 61, or there is none
+  pub refused-early : (k ≡ 0 → ⊥) → {r : ℕ} → r ≡ packed k 0 → Answers (result-of c x m) r m
+  refused-early n {r} w = go (good-table c) (good-inputs (call-inputs x)) refl refl told
+    where
+      go : (a b : Bool) → good-table c ≡ a → good-inputs (call-inputs x) ≡ b → k ≡ cond a (cond b 0 61) 62 → Answers (result-of c x m) r m
+      go false b p q h = answers (is-62 c m x p) (w ∙ ap (λ (j : ℕ). packed j 0) h) refl
+      go true false p q h = answers (is-61 c m x p q) (w ∙ ap (λ (j : ℕ). packed j 0) h) refl
+      go true true p q h = absurd (n h)
+
+  pub both-yes : k ≡ 0 → (good-table c ≡ true) × (good-inputs (call-inputs x) ≡ true)
+  both-yes z = go (good-table c) (good-inputs (call-inputs x)) refl refl (sym told ∙ z)
+    where
+      go : (a b : Bool) → good-table c ≡ a → good-inputs (call-inputs x) ≡ b → _≡_ {A = ℕ} (cond a (cond b 0 61) 62) 0 → (good-table c ≡ true) × (good-inputs (call-inputs x) ≡ true)
+      go false b p q h = absurd (omega (arith, h))
+      go true false p q h = absurd (omega (arith, h))
+      go true true p q h = (p, q)
+
+  pub refused-63 : k ≡ 0 → memory-passes c x m ≡ false → {r : ℕ} → r ≡ packed 63 0 → Answers (result-of c x m) r m
+  refused-63 z g w = let y = both-yes z in answers (is-63 c m x (y .0) (y .1) g) w refl
+
+module _ (c m : List ℕ) (ins : Inputs) {k : ℕ} (told : k ≡ cond (good-table c) (cond (good-inputs ins) 0 61) 62) (none : k ≡ 0) where
   pub short-63 : length m < limit.state → {r : ℕ} → r ≡ packed 63 0 → Answers (startOf c ins m) r m
-  short-63 h w = refused-63 c m (start-on ins) p q e f (lt-leb limit.state (length m) h) w
+  short-63 h w = refused-63 c m (start-on ins) told none (lt-leb limit.state (length m) h) w
 
   pub start-made : limit.state ≤ length m → {r : ℕ} {m′ : List ℕ} → r ≡ packed 80 0 → m′ ≡ written started m → Answers (startOf c ins m) r m′
-  start-made h w z = answers (is-accepted c m (start-on ins) (sym p ∙ e) (sym q ∙ f) (le-leb limit.state (length m) h)) w z
+  start-made h w z = let y = both-yes c m (start-on ins) told none in answers (is-accepted c m (start-on ins) (y .0) (y .1) (le-leb limit.state (length m) h)) w z
 
 -- a run that is not refused
-module _ (c i j m : List ℕ) (budget : ℕ) {a b d : Bool} (p : a ≡ good-table c) (q : b ≡ good-inputs (i ∷ j ∷ [])) (k : d ≡ good-memory (program-of c) (i ∷ j ∷ []) m)
-    (e : a ≡ true) (f : b ≡ true) (g : d ≡ true) where
-  pub runnable : Runnable c i j m
-  runnable = record { table = subst T (sym e ∙ p) tt; right = subst T (sym f ∙ q) tt; memory = subst T (sym g ∙ k) tt }
+module _ (c i j m : List ℕ) (budget : ℕ) {k : ℕ} (told : k ≡ cond (good-table c) (cond (good-inputs (i ∷ j ∷ [])) 0 61) 62) (none : k ≡ 0) where
+  abbrev call : Call
+  call = Call.run-on (i ∷ j ∷ []) budget
+
+  -- what the question 63 asks of those before it
+  pub asked : Asked c i j
+  asked = let y = both-yes c m call told none in record { table = subst T (sym (y .0)) tt; inputs = subst T (sym (y .1)) tt }
 
   number-told : (x : Answer) (n : ℕ) → reply-number (run-reply x n) ≡ answer-number x
   number-told pause n = refl
@@ -55,8 +84,13 @@ module _ (c i j m : List ℕ) (budget : ℕ) {a b d : Bool} (p : a ≡ good-tabl
   count-told pause n = refl
   count-told (stopped s) n = refl
 
-  pub run-made : {t : Ran} {m′ : List ℕ} → Ran-on c i j budget m t m′ → {r : ℕ} → r ≡ packed (t .number) (t .count) → Answers (runOf c (i ∷ j ∷ []) budget m) r m′
-  run-made {t} h w =
-      let x = run-on c i j budget (state-of m) in
-      answers (is-accepted c m (Call.run-on (i ∷ j ∷ []) budget) (sym p ∙ e) (sym q ∙ f) (sym k ∙ g))
-      (w ∙ rw (number-told (x .answer) (x .count), count-told (x .answer) (x .count), h .tells .number-is, h .tells .count-is) refl) (h .is)
+  module _ {d : Bool} (is : d ≡ good-memory (program-of c) (i ∷ j ∷ []) m) (g : d ≡ true) where
+    pub runnable : Runnable c i j m
+    runnable = record { table = asked .table; right = asked .inputs; memory = subst T (sym g ∙ is) tt }
+
+    pub run-made : {t : Ran} {m′ : List ℕ} → Ran-on c i j budget m t m′ → {r : ℕ} → r ≡ packed (t .number) (t .count) → Answers (runOf c (i ∷ j ∷ []) budget m) r m′
+    run-made {t} h w =
+        let x = run-on c i j budget (state-of m) in
+        let y = both-yes c m call told none in
+        answers (is-accepted c m call (y .0) (y .1) (sym is ∙ g))
+        (w ∙ rw (number-told (x .answer) (x .count), count-told (x .answer) (x .count), h .tells .number-is, h .tells .count-is) refl) (h .is)

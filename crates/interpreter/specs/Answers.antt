@@ -2,9 +2,15 @@
 use mathlib.Core.Path.{_≡_}
 use mathlib.Core.List.{List}
 use Prim.Native.Nat.{ℕ}
-use Rattle.calls.specs.Calls.{reply-answer, Result}
+use Rattle.calls.specs.Calls.{load-answer, table-after, reply-answer, Result}
+use Rattle.syntax.specs.Load.{Loaded}
 
 -- r is the answer of x, and m is what x leaves in the state memory
 pub record Answers (x : Result) (r : ℕ) (m : List ℕ) : Type 0 where
   pub answer : r ≡ reply-answer (x .reply)
   pub cells : m ≡ x .cells
+
+-- r is the answer of load, and d is what it leaves in the cells c of the table
+pub record Answers-load (x : Loaded) (c : List ℕ) (r : ℕ) (d : List ℕ) : Type 0 where
+  pub answer : r ≡ load-answer x
+  pub cells : d ≡ table-after x c

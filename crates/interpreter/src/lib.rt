@@ -1,9 +1,13 @@
 // The calls for C. A slice passes as a pointer and a length; the answer has the number in its upper 32 bits and the line or the count in the lower.
 ghost use mathlib.Core.Path.{_≡_};
+ghost use mathlib.Core.Bool.{cond};
 ghost use mathlib.Core.List.{[], _∷_};
-ghost use Prim.Native.Nat.{_<_};
+ghost use lib.ListN.{length};
 ghost use Rattle.calls.specs.Calls.{packed, startOf, runOf};
-ghost use Rattle.interpreter.specs.Answers.{Answers};
+ghost use Rattle.layout.specs.Table.{good-table};
+ghost use Rattle.machine.specs.WellFormed.{good-inputs};
+ghost use Rattle.syntax.specs.Load.{loadIn};
+ghost use Rattle.interpreter.specs.Answers.{Answers, Answers-load};
 use language::Machine;
 
 // Number and value in one.
@@ -13,16 +17,45 @@ fn packed(number: u8, value: u32) -> u64
     number as u64 * 4294967296 + value as u64
 }
 
+// The number and the line of a text: "Accepted is 80 (load: line 0)".
+#[no_mangle]
+pub extern "C" fn eol2_load(text: &[u8], table: &mut [u32]) -> u64
+    ensures { λ r. ⌜ Answers-load (loadIn (length (now (table .entry))) (now (text .entry))) (now (table .entry)) r (now (table .exit)) ⌝ }
+{
+    let r = loading::load(text, table);
+    packed(r.number, r.line)
+}
+
+// The number of the first question answered no: 62 of the table, then 61 of the inputs; 0 where there is none.
+fn first_no(fine: bool, right: bool) -> u8
+    ensures { λ r. ⌜ r ≡ cond fine (cond right 0 61) 62 ⌝ }
+{
+    if !fine {
+        return 62;
+    }
+    if !right {
+        return 61;
+    }
+    0
+}
+
+// The same of a table and two inputs.
+fn ask(table: &[u32], i1: &[u8], i2: &[u8]) -> u8
+    ensures { λ r. ⌜ r ≡ cond (good-table (now (table .entry))) (cond (good-inputs (now (i1 .entry) ∷ now (i2 .entry) ∷ [])) 0 61) 62 ⌝ }
+{
+    let fine = check_table::is_table(table);
+    let right = check_inputs::are_inputs(i1, i2);
+    first_no(fine, right)
+}
+
 // "Start then makes H plus, all else empty."
 #[no_mangle]
 pub extern "C" fn eol2_start(table: &[u32], i1: &[u8], i2: &[u8], state: &mut [u8]) -> u64
     ensures { λ r. ⌜ Answers (startOf (now (table .entry)) (now (i1 .entry) ∷ now (i2 .entry) ∷ []) (now (state .entry))) r (now (state .exit)) ⌝ }
 {
-    if !check_table::is_table(table) {
-        return packed(62, 0);
-    }
-    if !check_inputs::are_inputs(i1, i2) {
-        return packed(61, 0);
+    let refused = ask(table, i1, i2);
+    if refused != 0 {
+        return packed(refused, 0);
     }
     if state.len() < Machine::STATE {
         return packed(63, 0);
@@ -42,11 +75,9 @@ pub extern "C" fn eol2_run(
 ) -> u64
     ensures { λ r. ⌜ Answers (runOf (now (table .entry)) (now (i1 .entry) ∷ now (i2 .entry) ∷ []) budget (now (state .entry))) r (now (state .exit)) ⌝ }
 {
-    if !check_table::is_table(table) {
-        return packed(62, 0);
-    }
-    if !check_inputs::are_inputs(i1, i2) {
-        return packed(61, 0);
+    let refused = ask(table, i1, i2);
+    if refused != 0 {
+        return packed(refused, 0);
     }
     if !check_state::is_state(table, i1, i2, state) {
         return packed(63, 0);

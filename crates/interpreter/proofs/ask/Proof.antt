@@ -1,0 +1,25 @@
+use borrow.Author.Needs.{needs}
+use native.Mathlib.Omega.{arith}
+use Rattle.interpreter.proofs.Deciding.{both-asked}
+use Rattle.interpreter.proofs.ask.Statement.{statement}
+use Rattle.interpreter.proofs.ask.Tie as tie
+use Rattle.interpreter.proofs.ask.Reads as reads
+use Rattle.interpreter.proofs.ask.Lts as lts
+use Rattle.check_inputs.proofs.are_inputs.Reads as are-inputs-reads
+use Rattle.check_table.proofs.is_table.Reads as is-table-reads
+use Rattle.interpreter.proofs.first_no.Reads as first-no-reads
+
+is-table-requires : tie.Need-is-table-requires
+is-table-requires c κs = search needs
+
+are-inputs-requires : tie.Need-are-inputs-requires
+are-inputs-requires c κs = search needs
+
+first-no-requires : tie.Need-first-no-requires
+first-no-requires c κs = search needs
+
+returns : tie.Need-returns
+returns c = both-asked (c .first-no .ensures) (c .before .before .is-table .ensures) (c .before .are-inputs .ensures)
+
+pub ask-spec : {M : Type 1} → statement M
+ask-spec = tie.close (tie.spec is-table-requires are-inputs-requires first-no-requires returns)
