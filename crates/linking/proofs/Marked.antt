@@ -1,8 +1,8 @@
 -- The names that a text uses, as marks in the draft of its program.
 use mathlib.Core.Path.{_≡_, refl, sym, ap, _∙_, subst}
 use mathlib.Core.Bool.{Bool, true, false, cond, not, _&&_, _||_, Bool·beq}
-use mathlib.Core.List.{List, [], _∷_, _++_, map, append-nil}
-use Prim.Native.Nat.{ℕ, _+_, _*_, _/_, _%_, _≤_}
+use mathlib.Core.List.{List, [], _∷_, _++_, map, map-append, append-nil}
+use Prim.Native.Nat.{ℕ, _+_, _*_, _/_, _≤_}
 use Prim.Native.String.{String}
 use native.Mathlib.Omega.{arith}
 use lib.Dec.{T, eqb}
@@ -197,10 +197,6 @@ module _ (s : List ℕ) (p : Program) (texts : List (List ℕ)) (numbers : List 
   switch-uses named = typed (names-number (operation (w .op) .number)) named (switch-forms (w .op) (w .args) (h .fit) named)
 
 -- ---- the marks of a text
-
-pub map-append : (f : Item → ℕ) (xs ys : List Item) → map f (xs ++ ys) ≡ map f xs ++ map f ys
-map-append f [] ys = refl
-map-append f (x ∷ xs) ys = ap (λ (l : List ℕ). f x ∷ l) (map-append f xs ys)
 
 pub all-uses : (s : List ℕ) (u : Instr → List ℕ) (fs : String) (ws : List Written) → Each (λ w. u (draft-instr s w) ≡ map (λ i. mark i) (of-form fs (w .args))) ws
     → each u (map (draft-instr s) ws) ≡ map (λ i. mark i) (each (λ w. of-form fs (w .args)) ws)

@@ -61,10 +61,6 @@ module _ (s sw : List ℕ) where
   unfolding argument-resolved with-argument
   argument-switches k j q = refl
 
-  argument-rest : (k j : ℕ) (q : Program) → (argument-resolved s sw k j q .texts ≡ q .texts) × (argument-resolved s sw k j q .numbers ≡ q .numbers)
-  unfolding argument-resolved with-argument
-  argument-rest k j q = (refl, refl)
-
   one-instruction : (p q : Program) (k : ℕ) (xs ys : List Instr) (x : Instr) → q .labels ≡ p .labels → q .switches ≡ p .switches → length xs ≡ k → q .code ≡ xs ++ x ∷ ys
       → instr-resolved s sw k q .code ≡ xs ++ resolved-instr p x ∷ ys
   one-instruction p q k xs ys x e f l c =

@@ -1,7 +1,7 @@
 -- The switches of the program, where all entries have their labels; and the whole program.
 use mathlib.Core.Path.{_≡_, refl, sym, ap, _∙_}
 use mathlib.Core.Bool.{Bool, true, false, cond, not}
-use mathlib.Core.List.{List, [], _∷_, _++_, map}
+use mathlib.Core.List.{List, [], _∷_, _++_, map, map-append}
 use Prim.Native.Nat.{ℕ, zero, suc, _≤_, _<_}
 use native.Mathlib.Omega.{arith}
 use lib.Dec.{T}
@@ -31,7 +31,7 @@ use Rattle.writing.proofs.Replacing.{relabelled-entries}
 use Rattle.writing.proofs.Shapes.{kinds, counts-of, relabelled-kinds, relabelled-counts, same-switches}
 use Rattle.writing.proofs.Switching.{entries-of}
 use Rattle.writing.specs.Writing.{HoldsProgram, with-entry-label, to-label}
-use Rattle.linking.proofs.Marked.{map-append, Used}
+use Rattle.linking.proofs.Marked.{Used}
 use Rattle.linking.proofs.Undeclared.{entries-used, entries-draft}
 use Rattle.linking.proofs.Placing.{code-labels, code-switches, code-texts, code-numbers, label-placed, program-code}
 

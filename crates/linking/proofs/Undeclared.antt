@@ -1,7 +1,7 @@
 -- Questions 12 and 13: the places at fault by the marks in the table are those of the text's tables.
 use mathlib.Core.Path.{_≡_, refl, sym, ap, _∙_, subst}
 use mathlib.Core.Bool.{Bool, true, false, cond, not, _&&_, _||_, Bool·beq}
-use mathlib.Core.List.{List, [], _∷_, _++_, map}
+use mathlib.Core.List.{List, [], _∷_, _++_, map, map-append}
 use Prim.Native.Nat.{ℕ, _+_}
 use Prim.Native.String.{String}
 use native.Mathlib.Omega.{arith}
@@ -30,7 +30,7 @@ use Rattle.syntax.specs.Items.{Item, is, places}
 use Rattle.syntax.specs.Items.Sort.{word}
 use Rattle.syntax.specs.Statements.{entries-in}
 use Rattle.syntax.specs.Tables.{Written, Choice, Tables}
-use Rattle.linking.proofs.Marked.{label-uses, switch-uses, all-uses, map-append, Used, used-word, used-argument}
+use Rattle.linking.proofs.Marked.{label-uses, switch-uses, all-uses, Used, used-word, used-argument}
 use Rattle.linking.specs.Linking.{Finds, label-places, switch-places}
 
 -- ---- faults by items
