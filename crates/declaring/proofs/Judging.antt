@@ -1,7 +1,7 @@
 -- Question 11 of an instruction from its parts: the lower fault of two rows of places.
 use mathlib.Core.Path.{_≡_, refl, sym, ap, _∙_, subst}
 use mathlib.Core.List.{List, [], _∷_, _++_, map}
-use Prim.Native.Nat.{ℕ, zero, suc, _+_, _-_, _≤_, _<_, min}
+use Prim.Native.Nat.{ℕ, zero, suc, _+_, _-_, _≤_, _<_}
 use native.Mathlib.Omega.{arith}
 use lib.ListN.{length, getD, take, drop, length-drop}
 use lib.Seq.{take-suc, getD-drop, drop-drop}
@@ -16,7 +16,6 @@ use Rattle.lists.specs.Lists.{sameBytes}
 use Rattle.statements.specs.StatementAt.{fault-of}
 use Rattle.statements.specs.declared.Fault.{Fault}
 use Rattle.statements.specs.declared.Fault.the-variants.{Clear, At}
-use Rattle.syntax.specs.LoadLaws.{lowest-append}
 use Rattle.syntax.specs.Questions.{beyond}
 use Rattle.syntax.specs.Tables.{number-in}
 use Rattle.syntax.specs.Verdict.{lowest}
@@ -37,10 +36,6 @@ module _ (ms : List ℕ) (a b : ℕ) (most : b ≤ length ms) where
 
   pub marks-none : marks-in ms a a ≡ []
   marks-none = let e : a - a ≡ 0 = omega arith in ap (λ (m : ℕ). take m (drop a ms)) e
-
-  -- past the end there are none
-  pub marks-past : (k : ℕ) → b ≤ k → marks-in ms k b ≡ []
-  marks-past k h = let e : b - k ≡ 0 = omega arith in ap (λ (m : ℕ). take m (drop k ms)) e
 
 -- place k is reached, and low is the lowest up to it
 pub record Lowest (ms : List ℕ) (a b k : ℕ) (low : Fault) : Type 0 where

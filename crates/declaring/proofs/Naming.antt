@@ -17,23 +17,20 @@ use Rattle.declaring.proofs.Judging.{marks-more, marks-none}
 
 -- ---- one mark
 
-module _ {s : List ℕ} {m target : ℕ} {c : List ℕ} (h : Nameable s m target c) {k : ℕ} (e : k ≡ m) where
-  pub name-inside : k / 64 + k % 64 ≤ length s
-  name-inside = subst (λ (x : ℕ). x / 64 + x % 64 ≤ length s) (sym e) (h .marked)
+module _ {s : List ℕ} {m target : ℕ} {c : List ℕ} (h : Nameable s m target c) where
+  pub name-inside : m / 64 + m % 64 ≤ length s
+  name-inside = h .marked
 
-  pub name-is : take (k / 64 + k % 64 - k / 64) (drop (k / 64) s) ≡ word-by s m
+  pub name-is : take (m / 64 + m % 64 - m / 64) (drop (m / 64) s) ≡ word-by s m
   unfolding word-by
-  name-is =
-      let q : k / 64 + k % 64 - k / 64 ≡ k % 64 = omega arith in
-      ap (λ (x : ℕ). take x (drop (k / 64) s)) q ∙ ap (λ (x : ℕ). take (x % 64) (drop (x / 64) s)) e
+  name-is = let q : m / 64 + m % 64 - m / 64 ≡ m % 64 = omega arith in ap (λ (x : ℕ). take x (drop (m / 64) s)) q
 
-  pub name-room : {n : ℕ} → n ≡ length (take (k / 64 + k % 64 - k / 64) (drop (k / 64) s)) → LabelRoom c n target
+  pub name-room : {n : ℕ} → n ≡ length (take (m / 64 + m % 64 - m / 64) (drop (m / 64) s)) → LabelRoom c n target
   unfolding word-by
   name-room {n} q =
-      let f : k % 64 ≡ m % 64 = ap (λ (x : ℕ). x % 64) e in
-      record { long = h .long; room = h .room; short = omega (arith, q, length-take (k / 64 + k % 64 - k / 64) (drop (k / 64) s), h .short, f); low = h .low }
+      record { long = h .long; room = h .room; short = omega (arith, q, length-take (m / 64 + m % 64 - m / 64) (drop (m / 64) s), h .short); low = h .low }
 
-  pub name-put : {d : List ℕ} → Changes (with-label (label-of (take (k / 64 + k % 64 - k / 64) (drop (k / 64) s)) target)) c d
+  pub name-put : {d : List ℕ} → Changes (with-label (label-of (take (m / 64 + m % 64 - m / 64) (drop (m / 64) s)) target)) c d
       → Changes (with-label (label-of (word-by s m) target)) c d
   name-put {d} g = subst (λ (w : List ℕ). Changes (with-label (label-of w target)) c d) name-is g
 

@@ -1,7 +1,7 @@
 -- A statement with an instruction comes to the program table: question 11, and the program with it.
 use mathlib.Core.Path.{_≡_}
 use mathlib.Core.List.{List, [], _∷_, _++_, map}
-use Prim.Native.Nat.{ℕ, _+_, _-_, _≤_, _<_, min}
+use Prim.Native.Nat.{ℕ, _+_, _-_, _≤_, _<_}
 use lib.Dec.{T}
 use lib.ListN.{length, getD, take, drop}
 use Rattle.drafts.specs.Drafting.{draft-arg}
@@ -18,7 +18,7 @@ use Rattle.lists.specs.Lists.{sameBytes}
 use Rattle.packed.specs.Packed.{table-of}
 use Rattle.statements.specs.StatementAt.{statement-at, fault-of}
 use Rattle.statements.specs.declared.Fault.{Fault}
-use Rattle.statements.specs.declared.Fault.the-variants.{Clear, At}
+use Rattle.statements.specs.declared.Fault.the-variants.{Clear}
 use Rattle.syntax.specs.ArgumentForms.{arguments}
 use Rattle.syntax.specs.Questions.{beyond}
 use Rattle.syntax.specs.Tables.{number-in}

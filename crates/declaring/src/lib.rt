@@ -3,22 +3,15 @@ ghost use mathlib.Core.Path.{_≡_};
 ghost use mathlib.Core.List.{map};
 ghost use Prim.Native.Nat.{_/_, _≤_};
 ghost use lib.ListN.{length};
-ghost use Rattle.cells.specs.Cells.{Number};
 ghost use Rattle.drafts.specs.Marks.{place-by, word-by};
 ghost use Rattle.statements.specs.StatementAt.{fault-of};
 ghost use Rattle.writing.specs.Writing.{Changes, with-label, label-of};
-ghost use Rattle.declaring.specs.Declaring.{marks-in, with-labels, labels-by, Named, Nameable, Labelling, Over, Labels-told, Instr-told, Judgeable, Judges, Writable, WritesInstr, Declarable, Declares};
+ghost use Rattle.declaring.specs.Declaring.{marks-in, with-labels, labels-by, Nameable, Labelling, Over, Labels-told, Instr-told, Judgeable, Judges, Writable, WritesInstr, Declarable, Declares};
 use argument_cells::nth_cell;
 use faults::lower;
 use language::Machine;
 use lexer::Token;
 use statements::Fault;
-
-fn wide(m: u32) -> usize
-    ensures { λ r. ⌜ Number m 4294967296 r ⌝ }
-{
-    m as usize
-}
 
 // The lowest place of the names of the marks from index `from` to index `to`.
 pub fn lowest_mark(names: &[u32], from: usize, to: usize) -> Fault
@@ -28,7 +21,7 @@ pub fn lowest_mark(names: &[u32], from: usize, to: usize) -> Fault
     let mut low = Fault::Clear;
     let mut k = from;
     while k < to {
-        low = lower(low, Fault::At(wide(names[k]) / 64));
+        low = lower(low, Fault::At(cells::read(names, k) / 64));
         k += 1;
     }
     low
@@ -75,13 +68,12 @@ pub fn judge_instruction(
 }
 
 // Adds the label of a mark.
-fn put_name(text: &[u8], m: u32, target: usize, table: &mut [u32])
+fn put_name(text: &[u8], m: usize, target: usize, table: &mut [u32])
     requires { ⌜ Nameable (now text) m target (now table) ⌝ }
     ensures { λ _. ⌜ Changes (with-label (label-of (word-by (now (text .entry)) m) target)) (now (table .entry)) (now (table .exit)) ⌝ }
 {
-    let k = wide(m);
-    let at = k / 64;
-    let end = at + k % 64;
+    let at = m / 64;
+    let end = at + m % 64;
     writing::put_label(table, &text[at..end], target);
 }
 
@@ -92,7 +84,7 @@ fn put_labels(text: &[u8], names: &[u32], from: usize, to: usize, target: usize,
 {
     let mut k = from;
     while k < to {
-        put_name(text, names[k], target, table);
+        put_name(text, cells::read(names, k), target, table);
         k += 1;
     }
 }

@@ -1,7 +1,6 @@
 -- `declaring::declare_instruction` meets its contract.
 use borrow.Author.Needs.{needs}
-use native.Mathlib.Omega.{arith}
-use mathlib.Core.Path.{refl, sym, ap, _∙_}
+use mathlib.Core.Path.{_∙_}
 use Rattle.declaring.proofs.Instructing.{judgeable, declared-none, writable, declared}
 use Rattle.declaring.proofs.declare_instruction.Statement.{statement}
 use Rattle.declaring.proofs.declare_instruction.Tie as tie

@@ -1,7 +1,6 @@
 -- `declaring::instruction_beyond` meets its contract.
 use borrow.Author.Needs.{needs}
-use native.Mathlib.Omega.{arith}
-use mathlib.Core.Path.{refl, sym, ap, _∙_}
+use mathlib.Core.Path.{_∙_}
 use Rattle.writing.proofs.Held.{code-count}
 use Rattle.declaring.proofs.Judging.{instr-fits, instr-over}
 use Rattle.declaring.proofs.instruction_beyond.Statement.{statement}

@@ -1,7 +1,5 @@
 -- `declaring::judge_instruction` meets its contract.
 use borrow.Author.Needs.{needs}
-use native.Mathlib.Omega.{arith}
-use mathlib.Core.Path.{refl, sym, ap, _∙_, subst}
 use Rattle.declaring.proofs.Judging.{texts-enterable, numbers-enterable, judged, judged-by}
 use Rattle.declaring.proofs.judge_instruction.Statement.{statement}
 use Rattle.declaring.proofs.judge_instruction.Tie as tie

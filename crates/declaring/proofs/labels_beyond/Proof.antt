@@ -1,7 +1,6 @@
 -- `declaring::labels_beyond` meets its contract.
-use borrow.Author.Needs.{needs}
 use native.Mathlib.Omega.{arith}
-use mathlib.Core.Path.{refl, sym, ap, _∙_}
+use mathlib.Core.Path.{ap, _∙_}
 use Prim.Native.Nat.{ℕ, _-_}
 use Rattle.writing.proofs.Held.{label-count}
 use Rattle.declaring.proofs.Judging.{labels-over}

@@ -1,7 +1,6 @@
 -- `declaring::lowest_mark` meets its contract.
 use borrow.Author.Needs.{needs}
 use native.Mathlib.Omega.{arith}
-use mathlib.Core.Path.{refl, sym, ap, _∙_}
 use Prim.Native.Nat.{_-_}
 use Rattle.declaring.proofs.Judging.{Lowest, lowest-first, lowest-more, lowest-done}
 use Rattle.declaring.proofs.lowest_mark.Statement.{statement}
@@ -16,14 +15,8 @@ abbrev μ-loop : tie.MeasureT-loop
 loop-holds : tie.Need-loop-holds Inv-loop μ-loop
 loop-holds c = lowest-first (c .before .args .names .now) (c .before .args .from) (c .before .args .to) ((c .before .pre))
 
-mul-wide : tie.Need-mul-wide Inv-loop μ-loop
-mul-wide c = search needs
-
-shared-slice-read-wide : tie.Need-shared-slice-read-wide Inv-loop μ-loop
-shared-slice-read-wide c = search needs
-
-wide-requires : tie.Need-wide-requires Inv-loop μ-loop
-wide-requires c κs = search needs
+read-requires : tie.Need-read-requires Inv-loop μ-loop
+read-requires c κs = search needs
 
 lower-requires : tie.Need-lower-requires Inv-loop μ-loop
 lower-requires c κs = search needs
@@ -32,10 +25,10 @@ add-k : tie.Need-add-k Inv-loop μ-loop
 add-k c = search needs
 
 loop-less : tie.Need-loop-less Inv-loop μ-loop
-loop-less c = omega (arith, c .before .before .before .loop-test .taken)
+loop-less c = omega (arith, c .before .before .loop-test .taken)
 
 loop-again : tie.Need-loop-again Inv-loop μ-loop
-loop-again c = lowest-more (c .before .before .before .before .before .before .args .names .now) (c .before .before .before .before .before .before .args .from) (c .before .before .before .before .before .before .args .to) ((c .before .before .before .before .before .before .pre)) (c .before .before .before .before .loop .inv) (c .before .before .before .loop-test .taken) (c .before .wide .ensures .is) (c .lower .ensures)
+loop-again c = lowest-more (c .before .before .before .before .before .args .names .now) (c .before .before .before .before .before .args .from) (c .before .before .before .before .before .args .to) ((c .before .before .before .before .before .pre)) (c .before .before .before .loop .inv) (c .before .before .loop-test .taken) (c .before .read .ensures .is) (c .lower .ensures)
 
 returns : tie.Need-returns Inv-loop μ-loop
 returns c = lowest-done (c .before .before .before .args .names .now) (c .before .before .before .args .from) (c .before .before .before .args .to) ((c .before .before .before .pre)) (c .before .loop .inv) (c .loop-test .left)
@@ -47,9 +40,7 @@ lowest-mark-spec =
     Inv-loop
     μ-loop
     loop-holds
-    mul-wide
-    shared-slice-read-wide
-    wide-requires
+    read-requires
     lower-requires
     add-k
     loop-less

@@ -1,7 +1,6 @@
 -- `declaring::put_labels` meets its contract.
 use borrow.Author.Needs.{needs}
 use native.Mathlib.Omega.{arith}
-use mathlib.Core.Path.{refl, sym, ap, _∙_}
 use Prim.Native.Nat.{_-_}
 use Rattle.declaring.proofs.Naming.{Putting, putting-first, putting-done, nameable, putting-more}
 use Rattle.declaring.proofs.put_labels.Statement.{statement}
@@ -16,14 +15,11 @@ abbrev μ-loop : tie.MeasureT-loop
 loop-holds : tie.Need-loop-holds Inv-loop μ-loop
 loop-holds c = putting-first ((c .before .before .before .pre))
 
-mul-put-name : tie.Need-mul-put-name Inv-loop μ-loop
-mul-put-name c = search needs
-
-shared-slice-read-put-name : tie.Need-shared-slice-read-put-name Inv-loop μ-loop
-shared-slice-read-put-name c = omega (arith, c .before .loop-test .taken, c .before .before .before .before .before .before .pre .named .most)
+read-requires : tie.Need-read-requires Inv-loop μ-loop
+read-requires c κs = omega (arith, c .loop-test .taken, c .before .before .before .before .before .pre .named .most)
 
 put-name-requires : tie.Need-put-name-requires Inv-loop μ-loop
-put-name-requires c κs = nameable ((c .before .before .before .before .before .before .before .pre)) (c .before .before .before .loop .inv) (c .before .before .loop-test .taken) refl
+put-name-requires c κs = nameable ((c .before .before .before .before .before .before .before .pre)) (c .before .before .before .loop .inv) (c .before .before .loop-test .taken) (c .before .read .ensures .is)
 
 add-k : tie.Need-add-k Inv-loop μ-loop
 add-k c = search needs
@@ -32,7 +28,7 @@ loop-less : tie.Need-loop-less Inv-loop μ-loop
 loop-less c = omega (arith, c .before .before .before .before .before .loop-test .taken)
 
 loop-again : tie.Need-loop-again Inv-loop μ-loop
-loop-again c = putting-more ((c .before .before .before .before .before .before .before .before .before .before .pre)) (c .before .before .before .before .before .before .loop .inv) (c .before .before .before .before .before .loop-test .taken) refl (c .before .before .put-name .ensures) (c .before .before .put-name .kept .1 .1 .1 .0)
+loop-again c = putting-more ((c .before .before .before .before .before .before .before .before .before .before .pre)) (c .before .before .before .before .before .before .loop .inv) (c .before .before .before .before .before .loop-test .taken) (c .before .before .before .before .read .ensures .is) (c .before .before .put-name .ensures) (c .before .before .put-name .kept .1 .1 .1 .0)
 
 same-length : tie.Need-same-length Inv-loop μ-loop
 same-length c = c .before .loop .inv .size
@@ -47,8 +43,7 @@ put-labels-spec =
     Inv-loop
     μ-loop
     loop-holds
-    mul-put-name
-    shared-slice-read-put-name
+    read-requires
     put-name-requires
     add-k
     loop-less

@@ -1,7 +1,6 @@
 -- `declaring::write_instruction` meets its contract.
 use borrow.Author.Needs.{needs}
-use native.Mathlib.Omega.{arith}
-use mathlib.Core.Path.{refl, sym, ap, _∙_}
+use mathlib.Core.Path.{_∙_}
 use Rattle.declaring.proofs.Instructing.{labelling, still-arguing, instr-room, instr-written}
 use Rattle.declaring.proofs.write_instruction.Statement.{statement}
 use Rattle.declaring.proofs.write_instruction.Tie as tie
