@@ -1,6 +1,5 @@
 // The cells of an instruction's arguments in a program table that is being written: texts and numbers refer to their tables, and the mark of its name stands
 // for a label or a switch.
-ghost use mathlib.Core.Bool.{_&&_};
 ghost use Prim.Native.Nat.{_+_, _*_};
 ghost use lib.Dec.{T};
 ghost use lib.ListN.{drop};

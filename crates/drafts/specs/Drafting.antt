@@ -1,6 +1,6 @@
 -- A program while its text is read. Where a label or a switch is used, the mark of its name stands for it, and entries have no labels yet.
 use mathlib.Core.Bool.{cond}
-use mathlib.Core.List.{List, [], _∷_, map}
+use mathlib.Core.List.{List, map}
 use Prim.Native.Nat.{ℕ}
 use lib.ListN.{getD, drop}
 use Rattle.language.specs.Program.{Arg, classes, Instr, Switch, Program}

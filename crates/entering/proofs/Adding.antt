@@ -1,15 +1,14 @@
 -- One value comes to a table, unless it is there or the table is full.
 use mathlib.Core.Path.{_≡_, refl, sym, ap, _∙_, subst}
-use mathlib.Core.Bool.{Bool, true, false, cond, not, _&&_, _||_, true≢false}
+use mathlib.Core.Bool.{Bool, true, false, cond, _&&_, _||_, true≢false}
 use mathlib.Core.List.{List, [], _∷_, _++_}
 use Prim.Native.Nat.{ℕ, suc, _≤_, _<_}
 use native.Mathlib.Omega.{arith}
-use lib.Dec.{leb, ltb, eqb, leb·suc-suc}
+use lib.Dec.{ltb, eqb, leb·suc-suc}
 use lib.ListN.{length, take, drop, length-take}
 use borrow.Author.Tests.{lt-ltb, le-ltb, le-leb, lt-leb}
 use Rattle.language.specs.Limits as limit
 use Rattle.language.specs.Program.{Program}
-use Rattle.language.specs.Values.{sameNumber}
 use Rattle.lists.specs.Lists.{any, ahead, sameBytes}
 use Rattle.writing.specs.Writing.{HoldsProgram}
 use Rattle.cells.proofs.Laws.{pasted-front}
@@ -19,7 +18,7 @@ use Rattle.lexer.proofs.Finding.{is-sort}
 use Rattle.spelling.specs.Spelling.{Put}
 use Rattle.syntax.specs.Items.{Item}
 use Rattle.syntax.specs.Items.Sort.{text}
-use Rattle.entering.specs.Entering.{added, full, Adds, Addable, EntersOne, Enterable-item, set-texts, set-numbers, long-text, Short-item}
+use Rattle.entering.specs.Entering.{Adds, Addable, EntersOne, Enterable-item, set-texts, set-numbers, long-text, Short-item}
 use Rattle.entering.proofs.Rows.{Table-of}
 
 -- the tables of texts and of numbers

@@ -1,7 +1,7 @@
 -- The loop over the items of a statement, for texts and for numbers alike.
 use mathlib.Core.Path.{_≡_, refl, sym, ap, _∙_, subst}
 use mathlib.Core.Bool.{Bool, true, false, cond, not, _&&_, true≢false, false≢true}
-use mathlib.Core.List.{List, [], _∷_, _++_, map, append-nil}
+use mathlib.Core.List.{List, [], _∷_, append-nil}
 use Prim.Native.Nat.{ℕ, zero, suc, _-_, _≤_, _<_}
 use native.Mathlib.Omega.{arith}
 use lib.ListN.{length, drop}
@@ -13,9 +13,8 @@ use Rattle.lexer.specs.Tokens.{item-of, Next-token}
 use Rattle.statements.specs.PlaceLaws.{statement-from}
 use Rattle.statements.specs.StatementAt.{statement-at, stops, fault-of}
 use Rattle.statements.specs.StatementLaws.{at-stop, at-item, on}
-use Rattle.statements.specs.declared.Fault.{Fault}
 use Rattle.statements.specs.declared.Fault.the-variants.{Clear, At}
-use Rattle.syntax.specs.Items.{Item, places}
+use Rattle.syntax.specs.Items.{Item}
 use Rattle.syntax.specs.Tables.{fresh}
 use Rattle.writing.specs.Writing.{HoldsProgram}
 use Rattle.entering.specs.Entering.{added, full, excess, all-added, Held, Enterable, Enters, EntersOne}

@@ -15,7 +15,6 @@ use Rattle.syntax.specs.Items.Mode.{outside}
 use Rattle.syntax.specs.ItemLaws.{items-found}
 use Rattle.syntax.specs.LoadLaws.{name-colon, item-alone, word-alone}
 use Rattle.syntax.specs.Scan.{text-found, found-here, found-in, found-after, items-then}
-use Rattle.syntax.specs.Scan.Found.{found}
 use Rattle.scanner.specs.declared.Gap.{Gap}
 use Rattle.scanner.specs.Scans.{Skipped}
 use Rattle.lexer.specs.declared.After.{After}

@@ -1,14 +1,14 @@
 -- A name among others.
 use mathlib.Core.Path.{_≡_, refl, sym, ap, _∙_}
 use mathlib.Core.Bool.{Bool, true, false, _||_}
-use mathlib.Core.List.{List, [], _∷_, map}
+use mathlib.Core.List.{List, [], _∷_}
 use Prim.Native.Nat.{ℕ, suc, _+_, _-_, _/_, _%_, _≤_, _<_}
 use native.Mathlib.Numerals.{add-one}
 use native.Mathlib.Omega.{arith}
 use lib.ListN.{length, getD, take, drop, length-take, length-drop}
-use lib.Seq.{length-take-le, getD-take, drop-cons, drop-drop}
+use lib.Seq.{length-take-le, getD-take, drop-cons}
 use Rattle.lists.specs.Lists.{any, sameBytes}
-use Rattle.drafts.specs.Marks.{place-by, length-by, word-by}
+use Rattle.drafts.specs.Marks.{length-by, word-by}
 use Rattle.lexer.specs.Tokens.{part}
 use Rattle.spelling.proofs.Chars.{other-length}
 use Rattle.names.specs.Names.{Fitting, Sought, names-of}

@@ -1,7 +1,7 @@
 // The names of all labels that were met: question 06, "Is each label new?"
 ghost use mathlib.Core.Path.{_≡_};
 ghost use Prim.Native.Nat.{_+_, _≤_};
-ghost use lib.ListN.{length, getD, take, drop};
+ghost use lib.ListN.{take, drop};
 ghost use Rattle.lists.specs.Lists.{any, sameBytes};
 ghost use Rattle.drafts.specs.Marks.{mark-of, word-by};
 ghost use Rattle.names.specs.Names.{Fitting, Sought, names-of, Collectable, Collecting};

@@ -1,7 +1,5 @@
 -- `argument_cells::argument_cell` meets its contract.
-use borrow.Author.Needs.{needs}
 use native.Mathlib.Omega.{arith}
-use mathlib.Core.Path.{refl, sym, _∙_}
 use Rattle.argument_cells.proofs.Arguing.{text-item, text-told, label-told, named-told, indexed-told, mark-most, token-inside, number-word, as-number, class-word, as-class, letter-word, as-letter}
 use Rattle.argument_cells.proofs.argument_cell.Statement.{statement}
 use Rattle.argument_cells.proofs.argument_cell.Tie as tie

@@ -1,7 +1,6 @@
 -- `argument_cells::class_cell` meets its contract.
 use borrow.Author.Needs.{needs}
 use native.Mathlib.Omega.{arith}
-use mathlib.Core.Path.{refl, sym, _∙_}
 use Rattle.argument_cells.proofs.Arguing.{class-is}
 use Rattle.argument_cells.proofs.class_cell.Statement.{statement}
 use Rattle.argument_cells.proofs.class_cell.Tie as tie

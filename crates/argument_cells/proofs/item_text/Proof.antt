@@ -1,7 +1,6 @@
 -- `argument_cells::item_text` meets its contract.
 use borrow.Author.Needs.{needs}
 use native.Mathlib.Omega.{arith}
-use mathlib.Core.Path.{refl, sym, _∙_}
 use lib.ListN.{length-take}
 use Rattle.argument_cells.proofs.Arguing.{texts-counted, put-long, front-told}
 use Rattle.argument_cells.proofs.item_text.Statement.{statement}

@@ -1,7 +1,6 @@
 -- `declaring_switches::declare_switch` meets its contract.
 use borrow.Author.Needs.{needs}
-use native.Mathlib.Omega.{arith}
-use mathlib.Core.Path.{refl, sym, ap, _∙_}
+use mathlib.Core.Path.{_∙_}
 use Rattle.declaring_switches.proofs.Switches.{switch-judgeable, switch-refused, switch-writable, switch-declared}
 use Rattle.declaring_switches.proofs.declare_switch.Statement.{statement}
 use Rattle.declaring_switches.proofs.declare_switch.Tie as tie

@@ -1,7 +1,6 @@
 -- `declaring_switches::entries_beyond` meets its contract.
-use borrow.Author.Needs.{needs}
 use native.Mathlib.Omega.{arith}
-use mathlib.Core.Path.{refl, sym, ap, _∙_}
+use mathlib.Core.Path.{ap, _∙_}
 use Prim.Native.Nat.{ℕ, _-_}
 use Rattle.writing.proofs.Held.{entry-count}
 use Rattle.declaring_switches.proofs.Judging.{entries-over}

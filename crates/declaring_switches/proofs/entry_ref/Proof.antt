@@ -1,7 +1,4 @@
 -- `declaring_switches::entry_ref` meets its contract.
-use borrow.Author.Needs.{needs}
-use native.Mathlib.Omega.{arith}
-use mathlib.Core.Path.{refl, sym, ap, _∙_}
 use Rattle.declaring_switches.proofs.Entries.{no-text-after, text-there, text-after}
 use Rattle.declaring_switches.proofs.entry_ref.Statement.{statement}
 use Rattle.declaring_switches.proofs.entry_ref.Tie as tie

@@ -1,7 +1,5 @@
 -- `declaring_switches::judge_switch` meets its contract.
 use borrow.Author.Needs.{needs}
-use native.Mathlib.Omega.{arith}
-use mathlib.Core.Path.{refl, sym, ap, _∙_}
 use Rattle.declaring_switches.proofs.Judging.{list-enterable, judged-switch}
 use Rattle.declaring_switches.proofs.judge_switch.Statement.{statement}
 use Rattle.declaring_switches.proofs.judge_switch.Tie as tie

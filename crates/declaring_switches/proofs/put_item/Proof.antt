@@ -1,7 +1,6 @@
 -- `declaring_switches::put_item` meets its contract.
 use borrow.Author.Needs.{needs}
 use native.Mathlib.Omega.{arith}
-use mathlib.Core.Path.{refl, sym, ap, _∙_}
 use lib.ListN.{length-set}
 use Rattle.declaring_switches.proofs.Entries.{put-none, after-it, entry-index, room-for-entry, put-one}
 use Rattle.declaring_switches.proofs.put_item.Statement.{statement}

@@ -1,7 +1,6 @@
 -- `declaring_switches::switch_beyond` meets its contract.
 use borrow.Author.Needs.{needs}
-use native.Mathlib.Omega.{arith}
-use mathlib.Core.Path.{refl, sym, ap, _∙_}
+use mathlib.Core.Path.{_∙_}
 use Rattle.writing.proofs.Held.{switch-count}
 use Rattle.declaring_switches.proofs.Judging.{switch-fits, switch-over}
 use Rattle.declaring_switches.proofs.switch_beyond.Statement.{statement}

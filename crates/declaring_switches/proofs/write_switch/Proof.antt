@@ -1,7 +1,6 @@
 -- `declaring_switches::write_switch` meets its contract.
 use borrow.Author.Needs.{needs}
-use native.Mathlib.Omega.{arith}
-use mathlib.Core.Path.{refl, sym, ap, _∙_}
+use mathlib.Core.Path.{_∙_}
 use lib.ListN.{length-set}
 use Rattle.declaring_switches.proofs.Switches.{room-for-switch, switch-index, listing, switch-written}
 use Rattle.declaring_switches.proofs.write_switch.Statement.{statement}

@@ -1,7 +1,7 @@
 -- `entering::add_number` meets its contract.
 use borrow.Author.Needs.{needs}
 use native.Mathlib.Omega.{arith}
-use mathlib.Core.Path.{refl, sym, _∙_}
+use mathlib.Core.Path.{_∙_}
 use Rattle.language.specs.Values.{sameNumber}
 use Rattle.writing.proofs.Held.{number-count}
 use Rattle.writing.specs.Writing.{with-number}

@@ -1,7 +1,7 @@
 -- `entering::add_text` meets its contract.
 use borrow.Author.Needs.{needs}
 use native.Mathlib.Omega.{arith}
-use mathlib.Core.Path.{refl, sym, _∙_}
+use mathlib.Core.Path.{_∙_}
 use Rattle.lists.specs.Lists.{sameBytes}
 use Rattle.writing.proofs.Held.{text-count}
 use Rattle.writing.specs.Writing.{with-text}

@@ -1,7 +1,6 @@
 -- `entering::enter_number` meets its contract.
 use borrow.Author.Needs.{needs}
-use native.Mathlib.Omega.{arith}
-use mathlib.Core.Path.{refl, sym, _∙_}
+use mathlib.Core.Path.{sym, _∙_}
 use borrow.Author.Tests.{not-true, not-false}
 use Rattle.entering.proofs.Numbers.{number-past, number-none, number-small, number-entered}
 use Rattle.entering.proofs.enter_number.Statement.{statement}

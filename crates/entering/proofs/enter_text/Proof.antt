@@ -1,7 +1,7 @@
 -- `entering::enter_text` meets its contract.
 use borrow.Author.Needs.{needs}
 use native.Mathlib.Omega.{arith}
-use mathlib.Core.Path.{refl, sym, _∙_}
+use mathlib.Core.Path.{refl}
 use lib.ListN.{length-take}
 use borrow.Author.Tests.{not-true, not-false}
 use Rattle.entering.proofs.Adding.{text-past, text-entered, text-front, text-long, text-addable}

@@ -1,8 +1,6 @@
 -- `names::collect` meets its contract.
 use borrow.Author.Needs.{needs}
 use native.Mathlib.Omega.{arith}
-use mathlib.Core.Path.{refl, sym, _∙_}
-use mathlib.Core.Bool.{_||_}
 use Prim.Native.Nat.{_-_}
 use lib.ListN.{length}
 use Rattle.names.proofs.Gathering.{Gathering, gathering-first, gathered, label-fits, sought, room-left, goes-on, met-before, gather}
