@@ -2,7 +2,7 @@
 ghost use mathlib.Core.Path.{_≡_};
 ghost use Prim.Native.Nat.{_≤_};
 ghost use lib.ListN.{length};
-ghost use Rattle.faults.specs.Faults.{verdict-of, then};
+ghost use Rattle.faults.specs.Faults.{verdict-of};
 ghost use Rattle.faults.specs.Groups.{argument-questions};
 ghost use Rattle.heads.specs.Heads.{Headed};
 ghost use Rattle.statements.specs.StatementAt.{statement-at};
@@ -11,6 +11,7 @@ ghost use Rattle.asking.specs.Asking.{place-of, operator-verdict, Headab
 use declaring::lowest_mark;
 use faults::Verdict;
 use faults::decide;
+use faults::first_of;
 use heads::Head;
 use heads::is_switch;
 use judging::label_fault;
@@ -26,16 +27,6 @@ fn place_of(f: Fault) -> usize
     match f {
         Fault::Clear => 0,
         Fault::At(p) => p,
-    }
-}
-
-// A verdict, and where it is yes another.
-fn first_of(v: Verdict, w: Verdict) -> Verdict
-    ensures { λ r. ⌜ verdict-of r ≡ then (verdict-of v) (verdict-of w) ⌝ }
-{
-    match v {
-        Verdict::Yes => w,
-        Verdict::No(number, at) => Verdict::No(number, at),
     }
 }
 

@@ -12,7 +12,6 @@ use Rattle.faults.specs.Faults.{lower}
 use Rattle.faults.specs.FaultLaws.{fault-both, lower-clear}
 use Rattle.declaring.proofs.Judging.{drop-map}
 use Rattle.entering.specs.Entering.{Enterable, Enters, Short-item, long-text, set-texts}
-use Rattle.judging.specs.FaultLaws.{fault-first, places-from}
 use Rattle.judging.specs.LabelLaws.{passed-over, first-passed}
 use Rattle.language.specs.Limits as limit
 use Rattle.language.specs.Program.{Program}
@@ -22,7 +21,8 @@ use Rattle.lexer.specs.Tokens.{item-of, Next-token}
 use Rattle.lexer.proofs.Finding.{is-sort}
 use Rattle.lists.specs.Lists.{keep, sameBytes}
 use Rattle.lists.specs.ListLaws.{all-keep}
-use Rattle.statements.specs.PlaceLaws.{stands-from, statement-from}
+use Rattle.statements.specs.LowestLaws.{fault-first}
+use Rattle.statements.specs.PlaceLaws.{stands-from, statement-from, places-from}
 use Rattle.statements.specs.StatementAt.{statement-at, stops, fault-of}
 use Rattle.statements.specs.StatementLaws.{at-stop, at-item, on}
 use Rattle.statements.specs.declared.Fault.{Fault}

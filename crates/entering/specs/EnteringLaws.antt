@@ -2,28 +2,19 @@
 use mathlib.Core.Path.{_≡_, refl, sym, ap, _∙_}
 use mathlib.Core.Bool.{Bool, true, false, cond, not, _&&_, false≢true}
 use mathlib.Core.List.{List, [], _∷_, _++_, map, append-assoc, append-nil}
-use Prim.Native.Nat.{ℕ, suc, _+_, _-_, _≤_, _<_, min}
-use native.Mathlib.Nat.{min-eq-left}
+use Prim.Native.Nat.{ℕ, suc, _+_, _-_, _≤_, _<_}
 use native.Mathlib.Omega.{arith}
-use lib.Dec.{T, leb, leb→le}
+use lib.Dec.{T, leb}
 use lib.ListN.{length, drop, length-append}
 use borrow.Author.Tests.{leb-true, leb-false}
-use Rattle.lists.specs.Lists.{all, any, keep}
-use Rattle.lists.specs.ListLaws.{T-left, T-both, all-head, all-tail, all-keep}
-use Rattle.statements.specs.PlaceLaws.{stands-from, all-from}
+use Rattle.lists.specs.Lists.{any, keep}
+use Rattle.lists.specs.ListLaws.{T-both, all-head, all-tail, all-keep}
+use Rattle.statements.specs.PlaceLaws.{stands-from, all-from, lowest-places}
 use Rattle.statements.specs.StatementAt.{fault-of}
 use Rattle.statements.specs.declared.Fault.the-variants.{At}
 use Rattle.syntax.specs.Items.{Item, places}
 use Rattle.syntax.specs.Tables.{fresh}
-use Rattle.syntax.specs.Verdict.{lowest}
 use Rattle.entering.specs.Entering.{added, full, excess, all-added}
-
-lowest-places : (p : ℕ) (js : List Item) → T (all-from p js) → lowest p (places js) ≡ p
-unfolding lowest
-lowest-places p [] h = refl
-lowest-places p (j ∷ js) h =
-    let e : min p (j .at) ≡ p = min-eq-left (leb→le p (j .at) (T-left (leb p (j .at)) (all (leb p) (j .colon)) (all-head (stands-from p) j js h))) in
-    ap (λ (m : ℕ). lowest m (places js)) e ∙ lowest-places p js (all-tail (stands-from p) j js h)
 
 module _ {X : Type 0} (equal : X → X → Bool) (value-of : Item → X) (passes : Item → Bool) where
   fresh-from : (p : ℕ) (u : List X) (ys : List Item) → T (all-from p ys) → T (all-from p (fresh equal value-of u ys))

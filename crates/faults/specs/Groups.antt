@@ -1,7 +1,7 @@
 -- The questions of a statement x after the draft d, in the groups in which the loader asks them: of its items, its head, its names, its arguments, and
 -- the tables.
 use mathlib.Core.Path.{_≡_, refl}
-use mathlib.Core.Bool.{cond, not, _&&_}
+use mathlib.Core.Bool.{Bool, cond, not, _&&_}
 use mathlib.Core.List.{List, [], _∷_, _++_}
 use lib.Dec.{ltb}
 use lib.ListN.{length}
@@ -14,12 +14,16 @@ use Rattle.syntax.specs.Statements.{by-keyword, labels-in, keyword-in}
 use Rattle.syntax.specs.Tables.{Draft, is-first, all-labels}
 use Rattle.syntax.specs.Verdict.{Question, ask}
 
+-- 15: a text that is open, empty or of what may not stand in one. 16: an item that is too long
+abbrev pub bad-text : Item → Bool
+bad-text i = is text i && not (i .good && filled (i .chars))
+
+abbrev pub too-long : Item → Bool
+too-long i = ltb limit.item (length (i .chars))
+
 abbrev pub item-questions : List Item → List Question
 item-questions x =
-    ask 14 (places (keep (is wrong) x))
-    ∷ ask 15 (places (keep (λ i. is text i && not (i .good && filled (i .chars))) x))
-    ∷ ask 16 (places (keep (λ i. ltb limit.item (length (i .chars))) x))
-    ∷ []
+    ask 14 (places (keep (is wrong) x)) ∷ ask 15 (places (keep bad-text x)) ∷ ask 16 (places (keep too-long x)) ∷ []
 
 abbrev pub head-questions : Draft → List Item → List Question
 head-questions d x =

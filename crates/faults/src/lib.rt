@@ -1,7 +1,7 @@
 // Places at fault: the lower of two, and the verdict that they give.
 ghost use mathlib.Core.Path.{_≡_};
 ghost use Prim.Native.Nat.{min};
-ghost use Rattle.faults.specs.Faults.{lower, decided, verdict-of};
+ghost use Rattle.faults.specs.Faults.{lower, decided, verdict-of, then};
 use statements::Fault;
 
 // Of some questions: all are answered yes, or the number of the first no and its place.
@@ -39,5 +39,15 @@ pub fn decide(number: u8, f: Fault) -> Verdict
     match f {
         Fault::Clear => Verdict::Yes,
         Fault::At(p) => Verdict::No(number, p),
+    }
+}
+
+// A verdict, and where it is yes another.
+pub fn first_of(v: Verdict, w: Verdict) -> Verdict
+    ensures { λ r. ⌜ verdict-of r ≡ then (verdict-of v) (verdict-of w) ⌝ }
+{
+    match v {
+        Verdict::Yes => w,
+        Verdict::No(number, at) => Verdict::No(number, at),
     }
 }

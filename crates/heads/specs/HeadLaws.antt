@@ -105,7 +105,7 @@ pub one-at-most : (b : Bool) {r : ℕ} → r ≡ cond b 1 0 → r ≤ 1
 one-at-most true e = omega arith
 one-at-most false e = omega arith
 
-one-more : (b : Bool) (i : Item) (js : List Item) → length (cond b (i ∷ js) js) ≡ cond b 1 0 + length js
+pub one-more : (b : Bool) (i : Item) (js : List Item) → length (cond b (i ∷ js) js) ≡ cond b 1 0 + length js
 one-more true i js = omega arith
 one-more false i js = omega arith
 

@@ -1,28 +1,18 @@
--- The questions of a statement on its texts, its names and its labels.
+-- The questions of a statement on its names and its labels.
 use mathlib.Core.Path.{_≡_}
-use mathlib.Core.Bool.{Bool, cond, not, _&&_}
+use mathlib.Core.Bool.{Bool, cond}
 use mathlib.Core.List.{List, [], _∷_, _++_}
 use Prim.Native.Nat.{ℕ, _≤_, _<_}
-use lib.Dec.{ltb}
 use lib.ListN.{length, drop}
 use Rattle.language.specs.Limits as limit
-use Rattle.lists.specs.Lists.{filled}
 use Rattle.lexer.specs.declared.Token.{Token}
 use Rattle.lexer.specs.Tokens.{colon-of}
 use Rattle.statements.specs.declared.Fault.{Fault}
 use Rattle.statements.specs.declared.Fault.the-variants.{At}
 use Rattle.statements.specs.StatementAt.{statement-at, fault-of}
-use Rattle.syntax.specs.Items.{Item, is, places}
-use Rattle.syntax.specs.Items.Sort.{text}
+use Rattle.syntax.specs.Items.{Item, places}
 use Rattle.syntax.specs.Questions.{label-faults}
 use Rattle.syntax.specs.Statements.{labels-in}
-
--- 15: a text that is open, empty or of what may not stand in one. 16: an item that is too long
-abbrev pub bad-text : Item → Bool
-bad-text i = is text i && not (i .good && filled (i .chars))
-
-abbrev pub too-long : Item → Bool
-too-long i = ltb limit.item (length (i .chars))
 
 -- what is at fault from a name on, where `right` tells whether it is the one
 unfoldable pub after-name : List ℕ → Token → Bool → List ℕ

@@ -2,24 +2,25 @@
 use mathlib.Core.Path.{_≡_, refl, ap, sym, _∙_}
 use mathlib.Core.Bool.{Bool, true, false, cond, _&&_, true≢false}
 use mathlib.Core.List.{List, [], _∷_, _++_}
-use Prim.Native.Nat.{ℕ, zero, suc, _-_, _≤_, _<_, min}
+use Prim.Native.Nat.{ℕ, zero, suc, _-_, _≤_, _<_}
 use native.Mathlib.Omega.{arith}
 use lib.Dec.{T, eqb}
 use lib.ListN.{length, drop}
 use lib.Seq.{drop-nil}
 use borrow.Author.Tests.{eqb-true}
 use Rattle.lists.specs.Lists.{filled, keep}
-use Rattle.lists.specs.ListLaws.{all-keep}
 use Rattle.lexer.specs.declared.Token.{Token}
 use Rattle.lexer.specs.Tokens.{item-of, Next-token}
 use Rattle.lexer.proofs.Finding.{is-sort}
+use Rattle.statements.specs.LowestLaws.{none-before, fault-first}
 use Rattle.statements.specs.declared.Fault.{Fault}
 use Rattle.statements.specs.declared.Fault.the-variants.{Clear, At}
-use Rattle.statements.specs.PlaceLaws.{stands-from, all-from, statement-from}
+use Rattle.statements.specs.PlaceLaws.{statement-from, labels-from, places-from}
 use Rattle.statements.specs.StatementAt.{statement-at, stops, fault-of}
 use Rattle.statements.specs.StatementLaws.{at-stop, at-item}
 use Rattle.syntax.specs.Items.{Item, is, places}
 use Rattle.syntax.specs.Items.Sort.{word}
+use Rattle.syntax.specs.LoadLaws.{lowest-append}
 use Rattle.syntax.specs.Questions.{label-faults}
 use Rattle.syntax.specs.Statements.{by-keyword, front, behind, labels-in, operator, keyword-in}
 use Rattle.syntax.specs.Statements as Spec
@@ -29,8 +30,7 @@ use Rattle.heads.specs.HeadLaws.{front-goes, front-ends, operator-is, no-keywor
 use Rattle.heads.specs.declared.Head.{Head}
 use Rattle.words.specs.Keywords.{told}
 use Rattle.judging.specs.Judging.{Waiting}
-use Rattle.judging.specs.FaultLaws.{none-before, fault-first, places-from}
-use Rattle.judging.specs.NameLaws.{front-from, fault-one}
+use Rattle.judging.specs.NameLaws.{fault-one}
 
 -- Of the items that pass, those behind the first k: one that passes is the first of them, or one fewer is passed over
 pub passed-over : (b : Bool) (i : Item) (ls : List Item) (k : ℕ) → (b && eqb k 0) ≡ false → drop k (cond b (i ∷ ls) ls) ≡ drop (k - cond b 1 0) ls
@@ -41,9 +41,6 @@ passed-over true i ls (suc k) e = let q : k ≡ suc k - 1 = omega arith in ap (�
 pub first-passed : (b : Bool) (i : Item) (ls : List Item) (k : ℕ) → (b && eqb k 0) ≡ true → drop k (cond b (i ∷ ls) ls) ≡ i ∷ ls
 first-passed false i ls k e = absurd (true≢false (sym e))
 first-passed true i ls k e = ap (λ (m : ℕ). drop m (i ∷ ls)) (eqb-true k 0 e)
-
-labels-from : (s : List ℕ) (p n : ℕ) → p ≤ n → T (all-from p (labels-in (statement-at s n)))
-labels-from s p n h = all-keep (stands-from p) (is word) (front (statement-at s n)) (front-from p (statement-at s n) (statement-from s n p h))
 
 module _ {s : List ℕ} {n : ℕ} {t : Token} (m : ℕ) (k : Next-token s n t) where
   pub labels-end : stops (t .sort) ≡ true → fault-of (places (drop m (labels-in (statement-at s n)))) ≡ Clear
@@ -73,18 +70,13 @@ module _ {s : List ℕ} {n : ℕ} {t : Token} (m : ℕ) (k : Next-token s n t) w
       pub label-here : (eqb 1 (t .sort) && eqb m 0) ≡ true → fault-of (places (drop m (labels-in (statement-at s n)))) ≡ At (t .at)
       label-here e =
           ap (λ xs. fault-of (places xs)) (ap (drop m) labels-on ∙ first-passed (eqb 1 (t .sort)) i (labels-in js) m e)
-          ∙ fault-first (t .at) (places (labels-in js)) (places-from (t .at) (labels-in js) (labels-from s (t .at) (t .next) (omega (arith, k .stands .own, k .stands .behind))))
+          ∙ fault-first (t .at) (places (labels-in js)) (places-from (t .at) (labels-in js) (labels-from (t .at) (statement-at s (t .next)) (statement-from s (t .next) (t .at) (omega (arith, k .stands .own, k .stands .behind)))))
 
       pub label-passed : (eqb 1 (t .sort) && eqb m 0) ≡ false
           → drop m (labels-in (statement-at s n)) ≡ drop (m - cond (eqb 1 (t .sort)) 1 0) (labels-in (statement-at s (t .next)))
       label-passed e = ap (drop m) labels-on ∙ passed-over (eqb 1 (t .sort)) i (labels-in js) m e
 
 -- a fault that no other comes before
-lowest-joined : (p : ℕ) (xs ys : List ℕ) → lowest p (xs ++ ys) ≡ lowest (lowest p xs) ys
-unfolding lowest
-lowest-joined p [] ys = refl
-lowest-joined p (x ∷ xs) ys = lowest-joined (min p x) xs ys
-
 abbrev place-of : Fault → ℕ
 place-of Clear = 0
 place-of (At p) = p
@@ -100,7 +92,7 @@ pub fault-joined : (p : ℕ) (xs ys : List ℕ) → fault-of xs ≡ At p → T (
 fault-joined p [] ys e h = absurd (no-place e)
 fault-joined p (x ∷ xs) ys e h =
     let q : lowest x xs ≡ p = ap place-of e in
-    ap At (lowest-joined x xs ys ∙ ap (λ (m : ℕ). lowest m ys) q) ∙ fault-first p ys h
+    ap At (lowest-append x xs ys ∙ ap (λ (m : ℕ). lowest m ys) q) ∙ fault-first p ys h
 
 places-joined : (xs ys : List Item) → places (xs ++ ys) ≡ places xs ++ places ys
 places-joined [] ys = refl
@@ -157,7 +149,7 @@ module _ {s : List ℕ} {n : ℕ} {h : Head} (g : Headed s n h) where
       many-wait l [] q = absurd (omega (arith, q .size))
       many-wait l (a ∷ w) q =
           sym (ap fault-of (switched ((a ∷ w) ++ own) ∙ places-joined w own)
-          ∙ fault-joined second (places w) (places own) (q .lowest l) (places-from second own (labels-from s second n (q .before l))))
+          ∙ fault-joined second (places w) (places own) (q .lowest l) (places-from second own (labels-from second (statement-at s n) (statement-from s n second (q .before l)))))
 
       pub one-waits : {count : ℕ} → count ≡ 1 → {r : Fault} → r ≡ fault-of (places (drop 0 own)) → (w : List Item) → Waiting w n count second → r ≡ fault-of (label-faults (w ++ own) x)
       one-waits l f [] q = absurd (omega (arith, q .size))

@@ -1,4 +1,3 @@
 pub mod Judging
-pub mod FaultLaws
 pub mod NameLaws
 pub mod LabelLaws

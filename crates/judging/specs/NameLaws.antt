@@ -12,8 +12,9 @@ use Rattle.lists.specs.Lists.{keep}
 use Rattle.lists.specs.ListLaws.{all-head, all-tail, all-cons, all-keep}
 use Rattle.lexer.specs.declared.Token.{Token}
 use Rattle.lexer.specs.Tokens.{item-of, chars-of, Stands, Next-token}
+use Rattle.statements.specs.LowestLaws.{none-before, none-before-both, fault-first}
 use Rattle.statements.specs.declared.Fault.the-variants.{Clear, At}
-use Rattle.statements.specs.PlaceLaws.{stands-from, all-from, statement-from}
+use Rattle.statements.specs.PlaceLaws.{stands-from, all-from, statement-from, front-from, places-from}
 use Rattle.statements.specs.StatementAt.{statement-at, stops, fault-of}
 use Rattle.statements.specs.StatementLaws.{at-stop, at-item}
 use Rattle.syntax.specs.Items.{Item, is, places}
@@ -27,7 +28,6 @@ use Rattle.heads.specs.HeadLaws.{front-goes, behind-goes, front-ends, behind-he
 use Rattle.words.specs.declared.Keyword.{Keyword}
 use Rattle.words.specs.Keywords.{told}
 use Rattle.judging.specs.Judging.{after-name}
-use Rattle.judging.specs.FaultLaws.{none-before, none-before-both, fault-first, places-from}
 
 -- one place
 pub fault-one : (p : ℕ) → fault-of (p ∷ []) ≡ At p
@@ -108,15 +108,6 @@ abbrev barred : Item → Bool
 barred i = same-keyword unknown (keyword-of i) || same-keyword SEKCJA (keyword-of i)
 
 module _ (p : ℕ) where
-  pub front-from : (js : List Item) → T (all-from p js) → T (all-from p (front js))
-  unfolding front
-  front-from [] h = tt
-  front-from (j ∷ js) h = go (is-operator j) (front-from js (all-tail (stands-from p) j js h))
-    where
-      go : (b : Bool) → T (all-from p (front js)) → T (all-from p (cond b [] (j ∷ front js)))
-      go true k = tt
-      go false k = all-cons (stands-from p) j (front js) (all-head (stands-from p) j js h) k
-
   operator-from : (js : List Item) → T (all-from p js) → T (all-from p (operator js))
   unfolding behind
   operator-from [] h = tt
@@ -130,7 +121,7 @@ module _ (p : ℕ) where
   unfolding operator-faults
   faults-from js h =
       none-before-both p (places (keep misnamed (front js))) (places (keep barred (operator js)))
-      (places-from p (keep misnamed (front js)) (all-keep (stands-from p) misnamed (front js) (front-from js h)))
+      (places-from p (keep misnamed (front js)) (all-keep (stands-from p) misnamed (front js) (front-from p js h)))
       (places-from p (keep barred (operator js)) (all-keep (stands-from p) barred (operator js) (operator-from js h)))
 
 module _ (i : Item) (js : List Item) where

@@ -1,18 +1,17 @@
-// The questions of a statement on its texts, names, operator and labels, each answered by the lowest place at fault.
+// The questions of a statement on its names, operator and labels, each answered by the lowest place at fault.
 ghost use mathlib.Core.Path.{_≡_};
-ghost use mathlib.Core.Bool.{cond, not, _&&_};
+ghost use mathlib.Core.Bool.{cond};
 ghost use Prim.Native.Nat.{_-_, _≤_};
-ghost use lib.Dec.{eqb, ltb};
 ghost use lib.ListN.{length, drop};
 ghost use Rattle.language.specs.Program.{identifier};
 ghost use Rattle.lexer.specs.Tokens.{Stands};
 ghost use Rattle.lists.specs.Lists.{sameBytes};
-ghost use Rattle.statements.specs.StatementAt.{statement-at, fault-of, faults-at};
+ghost use Rattle.statements.specs.StatementAt.{statement-at, fault-of};
 ghost use Rattle.syntax.specs.Items.{places};
 ghost use Rattle.syntax.specs.Questions.{first-faults, operator-faults};
 ghost use Rattle.syntax.specs.Statements.{labels-in, one-name};
 ghost use Rattle.heads.specs.Heads.{Headed};
-ghost use Rattle.judging.specs.Judging.{bad-text, too-long, after-name, Label-fault};
+ghost use Rattle.judging.specs.Judging.{after-name, Label-fault};
 use heads::Head;
 use heads::bars;
 use heads::is_name;
@@ -21,55 +20,11 @@ use heads::is_switch;
 use heads::is_word;
 use heads::keyword_at;
 use heads::opens;
-use language::Machine;
 use lexer::Token;
 use lexer::next_item;
-use scanner::TEXT;
 use scanner::WORD;
 use statements::Fault;
 use statements::stops;
-
-fn is_bad_text(sort: u8, good: bool, len: usize) -> bool
-    ensures { λ r. ⌜ r ≡ eqb 4 sort && not (good && ltb 0 len) ⌝ }
-{
-    (TEXT == sort) & !(good & (0 < len))
-}
-
-// Question 15 of the statement at `n`.
-pub fn text_fault(text: &[u8], n: usize) -> Fault
-    requires { ⌜ n ≤ length (now text) ⌝ }
-    ensures { λ r. ⌜ r ≡ fault-of (faults-at bad-text (now (text .entry)) n) ⌝ }
-{
-    let mut i = n;
-    loop {
-        let t = next_item(text, i);
-        if stops(t.sort) {
-            return Fault::Clear;
-        }
-        if is_bad_text(t.sort, t.good, t.len) {
-            return Fault::At(t.at);
-        }
-        i = t.next;
-    }
-}
-
-// Question 16.
-pub fn length_fault(text: &[u8], n: usize) -> Fault
-    requires { ⌜ n ≤ length (now text) ⌝ }
-    ensures { λ r. ⌜ r ≡ fault-of (faults-at too-long (now (text .entry)) n) ⌝ }
-{
-    let mut i = n;
-    loop {
-        let t = next_item(text, i);
-        if stops(t.sort) {
-            return Fault::Clear;
-        }
-        if Machine::ITEM < t.len {
-            return Fault::At(t.at);
-        }
-        i = t.next;
-    }
-}
 
 // The place of the first item.
 pub fn first_item(text: &[u8], n: usize) -> Fault

@@ -21,7 +21,6 @@ use Rattle.forms.specs.ReadingLaws.{argument-read, lists-first}
 use Rattle.heads.specs.declared.Head.{Head}
 use Rattle.heads.specs.Heads.{Headed}
 use Rattle.heads.specs.HeadLaws.{operator-here, rest-here}
-use Rattle.judging.specs.FaultLaws.{none-before, none-before-both, fault-first, fault-within}
 use Rattle.language.specs.Instructions.{Forms, operation, operators}
 use Rattle.language.specs.Program.{Op}
 use Rattle.lexer.specs.declared.Token.{Token}
@@ -30,6 +29,7 @@ use Rattle.lexer.proofs.Finding.{is-sort, word-chars, no-chars}
 use Rattle.lists.specs.Lists.{all, ifAny, keep}
 use Rattle.lists.specs.ListLaws.{T-left, T-right, T-both, all-head, all-tail, all-keep}
 use Rattle.lists.specs.Quoted.{bytes}
+use Rattle.statements.specs.LowestLaws.{none-before, none-before-both, fault-first, fault-within}
 use Rattle.statements.specs.declared.Fault.the-variants.{Clear, At}
 use Rattle.statements.specs.PlaceLaws.{stands-from, all-from, statement-from}
 use Rattle.statements.specs.StatementAt.{statement-at, stops, fault-of}

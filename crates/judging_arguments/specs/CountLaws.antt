@@ -7,13 +7,12 @@ use native.Mathlib.Omega.{arith}
 use lib.Dec.{T, eqb, ltb, ltb→lt}
 use lib.ListN.{length, drop}
 use lib.Seq.{drop-nil}
-use Rattle.forms.specs.Forms.{most-of, least-of}
-use Rattle.forms.specs.ReadingLaws.{most-listed, least-listed}
+use Rattle.forms.specs.Forms.{most-of}
+use Rattle.forms.specs.ReadingLaws.{most-listed}
 use Rattle.forms.specs.SetLaws.{by-operator}
 use Rattle.heads.specs.declared.Head.{Head}
 use Rattle.heads.specs.Heads.{instr-of, Headed}
-use Rattle.heads.specs.HeadLaws.{one-at-most, no-keyword, rest-here}
-use Rattle.judging.specs.FaultLaws.{fault-first, places-from}
+use Rattle.heads.specs.HeadLaws.{one-at-most, no-keyword, rest-here, one-more}
 use Rattle.judging.specs.LabelLaws.{passed-over, first-passed}
 use Rattle.language.specs.Instructions.{operation}
 use Rattle.language.specs.Program.{Op}
@@ -21,11 +20,12 @@ use Rattle.lexer.specs.declared.Token.{Token}
 use Rattle.lexer.specs.Tokens.{item-of, Next-token}
 use Rattle.lexer.proofs.Finding.{is-sort}
 use Rattle.lists.specs.ListLaws.{all-keep}
+use Rattle.statements.specs.LowestLaws.{fault-first}
 use Rattle.statements.specs.declared.Fault.the-variants.{Clear, At}
-use Rattle.statements.specs.PlaceLaws.{stands-from, all-from, statement-from}
+use Rattle.statements.specs.PlaceLaws.{stands-from, all-from, statement-from, places-from}
 use Rattle.statements.specs.StatementAt.{statement-at, stops, fault-of}
 use Rattle.statements.specs.StatementLaws.{at-stop, at-item, on}
-use Rattle.syntax.specs.ArgumentForms.{arguments-in, most, least}
+use Rattle.syntax.specs.ArgumentForms.{arguments-in, most}
 use Rattle.syntax.specs.Items.{Item, is, places}
 use Rattle.syntax.specs.Items.Sort.{colon}
 use Rattle.syntax.specs.Questions.{count-faults}
@@ -72,10 +72,6 @@ pub record Counting (s : List ℕ) (n i c : ℕ) : Type 0 where
 pub counting-first : {s : List ℕ} {n : ℕ} → n ≤ length s → Counting s n n 0
 counting-first h = record { most = h; few = omega arith; is = omega arith }
 
-one-more : (b : Bool) (i : Item) (js : List Item) → length (cond b (i ∷ js) js) ≡ cond b 1 0 + length js
-one-more true i js = omega arith
-one-more false i js = omega arith
-
 module _ {s : List ℕ} {n i c : ℕ} {t : Token} (l : Counting s n i c) (k : Next-token s i t) where
   pub counting-end : stops (t .sort) ≡ true → c ≡ length (arguments-in (statement-at s n))
   counting-end z = omega (arith, l .is, ap (λ js. length (arguments-in js)) (at-stop k z))
@@ -107,9 +103,6 @@ instruction (Spec.Keyword.instr o) e z = record { op = o; is = refl; has = sym e
 
 pub most-is : {k : Spec.Keyword} {m : ℕ} (i : Instruction k m) → most-of m ≡ most (i .op)
 most-is i = ap most-of (sym (i .has)) ∙ most-listed (i .op)
-
-pub least-is : {k : Spec.Keyword} {m : ℕ} (i : Instruction k m) → least-of m ≡ least (i .op)
-least-is i = ap least-of (sym (i .has)) ∙ least-listed (i .op)
 
 pub no-instruction : (f : Op → List ℕ) (k : Spec.Keyword) {m : ℕ} → m ≡ instr-of (told k) → m ≡ 0 → by-keyword f (λ byName. []) [] k ≡ []
 unfolding by-keyword

@@ -11,6 +11,7 @@ ghost use Rattle.syntax.specs.Items.{places};
 ghost use Rattle.syntax.specs.Items.Sort.{text};
 ghost use Rattle.syntax.specs.Questions.{count-faults};
 ghost use Rattle.judging_arguments.specs.Arguments.{Items-fault, Instr-fault};
+use cells::wide;
 use forms::Live;
 use forms::kinds_of;
 use forms::least;
@@ -27,12 +28,6 @@ use scanner::WORD;
 use scanner::one_if;
 use statements::Fault;
 use statements::stops;
-
-fn wide(b: u8) -> usize
-    ensures { λ r. ⌜ r ≡ b ⌝ }
-{
-    b as usize
-}
 
 // The place of the argument that `skip` others stand before, among the items from `n` on.
 fn argument_after(text: &[u8], n: usize, skip: usize) -> Fault

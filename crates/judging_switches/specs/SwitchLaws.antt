@@ -10,7 +10,6 @@ use borrow.Author.Tests.{eqb-true, eq-eqb, ne-eqb}
 use Rattle.heads.specs.declared.Head.{Head}
 use Rattle.heads.specs.Heads.{is-switch, is-by-name, instr-of, Headed}
 use Rattle.heads.specs.HeadLaws.{no-keyword, operator-here, rest-here, filled-colon}
-use Rattle.judging.specs.FaultLaws.{none-before, none-before-both, fault-first}
 use Rattle.judging.specs.NameLaws.{fault-one}
 use Rattle.judging_arguments.specs.Arguments.{Instr-fault}
 use Rattle.judging_arguments.specs.ArgumentLaws.{instr-is}
@@ -21,6 +20,7 @@ use Rattle.lexer.specs.Tokens.{item-of, colon-of, Stands, Next-token}
 use Rattle.lexer.proofs.Finding.{is-sort}
 use Rattle.lists.specs.Lists.{filled, ifAny}
 use Rattle.lists.specs.ListLaws.{T-left, T-right, T-both, all-head, all-tail}
+use Rattle.statements.specs.LowestLaws.{none-before, none-before-both, fault-first}
 use Rattle.statements.specs.declared.Fault.{Fault}
 use Rattle.statements.specs.declared.Fault.the-variants.{Clear, At}
 use Rattle.statements.specs.PlaceLaws.{stands-from, all-from, statement-from}

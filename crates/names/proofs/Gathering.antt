@@ -2,39 +2,36 @@
 use mathlib.Core.Path.{_≡_, refl, sym, ap, _∙_, subst}
 use mathlib.Core.Bool.{Bool, true, false, cond, _&&_, _||_, true≢false}
 use mathlib.Core.List.{List, [], _∷_, _++_, map, append-assoc, append-nil}
-use Prim.Native.Nat.{ℕ, suc, _+_, _-_, _*_, _/_, _%_, _≤_, _<_, min}
+use Prim.Native.Nat.{ℕ, _+_, _-_, _/_, _%_, _≤_, _<_, min}
 use native.Mathlib.Nat.{min-eq-left}
 use native.Mathlib.Decide.{decLt}
 use native.Mathlib.Numerals.{add-one}
 use native.Mathlib.Omega.{arith}
-use lib.Dec.{T, leb, eqb, leb→le}
-use lib.ListN.{length, getD, take, drop, set, length-append, length-set, length-take, length-drop}
-use lib.Seq.{length-take-le, take-suc-set, getD-set-same, getD-set-other}
+use lib.Dec.{T, leb, leb→le}
+use lib.ListN.{length, getD, take, drop, set, length-set, length-take, length-drop}
+use lib.Seq.{take-suc-set, getD-set-same, getD-set-other}
 use borrow.Author.Tests.{eqb-true}
 use Rattle.language.specs.Limits as limit
 use Rattle.language.specs.Program.{identifier}
 use Rattle.layout.specs.Bounds.{Each}
 use Rattle.lists.specs.Lists.{all, any, keep, sameBytes}
-use Rattle.lists.specs.ListLaws.{T-left, T-both, all-head, all-tail, all-keep}
+use Rattle.lists.specs.ListLaws.{T-left, all-head, all-tail}
 use Rattle.drafts.specs.Marks.{mark-of, mark, word-by, Marked}
-use Rattle.drafts.specs.DraftingLaws.{place-back, length-back}
 use Rattle.heads.specs.Heads.{operates}
 use Rattle.heads.specs.HeadLaws.{front-goes, front-ends, operator-is}
 use Rattle.lexer.specs.declared.Token.{Token}
-use Rattle.lexer.specs.Tokens.{word-of, chars-of, item-of, Stands, Next-token}
+use Rattle.lexer.specs.Tokens.{word-of, chars-of, item-of, Next-token}
 use Rattle.lexer.proofs.Finding.{is-sort, word-chars}
 use Rattle.statements.specs.StatementAt.{statement-at, stops, fault-of}
 use Rattle.statements.specs.StatementLaws.{at-stop, at-item, on}
-use Rattle.statements.specs.PlaceLaws.{stands-from, all-from, statement-from}
-use Rattle.statements.specs.declared.Fault.{Fault}
+use Rattle.statements.specs.PlaceLaws.{stands-from, all-from, statement-from, labels-from}
 use Rattle.statements.specs.declared.Fault.the-variants.{Clear, At}
-use Rattle.syntax.specs.Items.{Item, is, places}
+use Rattle.syntax.specs.Items.{Item, is}
 use Rattle.syntax.specs.Items.Sort.{word}
 use Rattle.syntax.specs.Questions.{repeated}
-use Rattle.syntax.specs.Statements.{is-operator, is-name, front, labels-in}
+use Rattle.syntax.specs.Statements.{is-name, front, labels-in}
 use Rattle.syntax.specs.Verdict.{lowest}
 use Rattle.names.specs.Names.{names-of, Sought, Collectable, Collecting}
-use Rattle.names.specs.declared.Collected.{Collected}
 
 -- a repeated label stands no lower than the first label
 lowest-repeated : (p : ℕ) (names : List (List ℕ)) (ls : List Item) → T (all-from p ls) → lowest p (repeated names ls) ≡ p
@@ -47,18 +44,6 @@ lowest-repeated p names (l ∷ ls) h = go (any (sameBytes (l .chars)) names) (lo
         let e : min p (l .at) ≡ p = min-eq-left (leb→le p (l .at) (T-left (leb p (l .at)) (all (leb p) (l .colon)) (all-head (stands-from p) l ls h))) in
         ap (λ (m : ℕ). lowest m (repeated (names ++ (l .chars ∷ [])) ls)) e ∙ k
     go false k = k
-
-front-from : (p : ℕ) (x : List Item) → T (all-from p x) → T (all-from p (front x))
-unfolding front
-front-from p [] h = tt
-front-from p (i ∷ js) h = go (is-operator i) (front-from p js (all-tail (stands-from p) i js h))
-  where
-    go : (b : Bool) → T (all-from p (front js)) → T (all-from p (cond b [] (i ∷ front js)))
-    go true k = tt
-    go false k = T-both (stands-from p i) (all-from p (front js)) (all-head (stands-from p) i js h) k
-
-labels-from : (p : ℕ) (x : List Item) → T (all-from p x) → T (all-from p (labels-in x))
-labels-from p x h = all-keep (stands-from p) (is word) (front x) (front-from p x h)
 
 front-none : front [] ≡ []
 unfolding front

@@ -1,3 +1,4 @@
 pub mod StatementAt
 pub mod StatementLaws
+pub mod LowestLaws
 pub mod PlaceLaws

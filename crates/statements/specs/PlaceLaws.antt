@@ -1,11 +1,10 @@
 -- The places of a statement's items ascend: no item, and no colon of one, stands before the place where the reader began.
-use mathlib.Core.Path.{_≡_, refl, ap, _∙_}
+use mathlib.Core.Path.{_≡_, refl, ap}
 use mathlib.Core.Bool.{Bool, true, false, cond, _&&_}
 use mathlib.Core.List.{List, [], _∷_, _++_}
-use Prim.Native.Nat.{ℕ, _+_, _≤_, min}
-use native.Mathlib.Nat.{min-eq-left}
+use Prim.Native.Nat.{ℕ, _+_, _≤_}
 use native.Mathlib.Omega.{arith}
-use lib.Dec.{T, leb, eqb, leb→le, le→leb}
+use lib.Dec.{T, leb, eqb, le→leb}
 use lib.ListN.{getD, take, drop}
 use Rattle.lists.specs.Lists.{all, headOr, ifAny, keep}
 use Rattle.lists.specs.ListLaws.{T-left, T-both, all-head, all-tail, all-keep}
@@ -13,10 +12,12 @@ use Rattle.syntax.specs.Items.{Sort, sort-of, same-sort, Item, is, places, ends
 use Rattle.syntax.specs.Items.Sort.{separator, word, colon, end, text, wrong}
 use Rattle.syntax.specs.Items.Stage.{first-star, inside, last-slash}
 use Rattle.syntax.specs.Items.Mode.{outside, in-word, in-comment, in-text}
+use Rattle.syntax.specs.Statements.{is-operator, front, labels-in}
 use Rattle.syntax.specs.Verdict.{lowest}
 use Rattle.lexer.specs.declared.Token.{Token}
 use Rattle.lexer.specs.Tokens.{item-of, items-from, Next-token}
 use Rattle.statements.specs.declared.Fault.the-variants.{Clear, At}
+use Rattle.statements.specs.LowestLaws.{none-before, lowest-first}
 use Rattle.statements.specs.StatementAt.{statement-at, stops, fault-of, faults-at}
 use Rattle.statements.specs.StatementLaws.{at-stop, at-item}
 
@@ -147,16 +148,32 @@ pub statement-from : (s : List ℕ) (n p : ℕ) → p ≤ n → T (all-from p (s
 unfolding statement-at
 statement-from s n p h = first-from p (items-from s n) (named-from p _ (read-from outside p n (drop n s) h tt))
 
+-- those in front of an operator, and the labels
+pub front-from : (p : ℕ) (js : List Item) → T (all-from p js) → T (all-from p (front js))
+unfolding front
+front-from p [] h = tt
+front-from p (j ∷ js) h = go (is-operator j) (front-from p js (all-tail (stands-from p) j js h))
+  where
+    go : (b : Bool) → T (all-from p (front js)) → T (all-from p (cond b [] (j ∷ front js)))
+    go true k = tt
+    go false k = T-both (stands-from p j) (all-from p (front js)) (all-head (stands-from p) j js h) k
+
+pub labels-from : (p : ℕ) (js : List Item) → T (all-from p js) → T (all-from p (labels-in js))
+labels-from p js h = all-keep (stands-from p) (is word) (front js) (front-from p js h)
+
+-- the places of items
+pub places-from : (p : ℕ) (js : List Item) → T (all-from p js) → T (none-before p (places js))
+places-from p [] h = tt
+places-from p (j ∷ js) h =
+    T-both (leb p (j .at)) (none-before p (places js)) (T-left (leb p (j .at)) (all (leb p) (j .colon)) (all-head (stands-from p) j js h))
+    (places-from p js (all-tail (stands-from p) j js h))
+
 -- so the first at fault is the lowest
-lowest-first : (p : ℕ) (js : List Item) → T (all-from p js) → lowest p (places js) ≡ p
-unfolding lowest
-lowest-first p [] h = refl
-lowest-first p (j ∷ js) h =
-    let e : min p (j .at) ≡ p = min-eq-left (leb→le p (j .at) (T-left (leb p (j .at)) (all (leb p) (j .colon)) (all-head (stands-from p) j js h))) in
-    ap (λ (m : ℕ). lowest m (places js)) e ∙ lowest-first p js (all-tail (stands-from p) j js h)
+pub lowest-places : (p : ℕ) (js : List Item) → T (all-from p js) → lowest p (places js) ≡ p
+lowest-places p js h = lowest-first p (places js) (places-from p js h)
 
 pub first-fault : (q : Item → Bool) (s : List ℕ) (p n : ℕ) → p ≤ n → fault-of (p ∷ faults-at q s n) ≡ At p
-first-fault q s p n h = ap At (lowest-first p (keep q (statement-at s n)) (all-keep (stands-from p) q (statement-at s n) (statement-from s n p h)))
+first-fault q s p n h = ap At (lowest-places p (keep q (statement-at s n)) (all-keep (stands-from p) q (statement-at s n) (statement-from s n p h)))
 
 -- A question of each item, from token to token: there are no more; this one is at fault; or it is not, and the rest decides
 module _ (q : Item → Bool) {s : List ℕ} {n : ℕ} {t : Token} (k : Next-token s n t) where

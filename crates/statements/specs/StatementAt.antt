@@ -1,4 +1,4 @@
--- The statement that begins at a place of the text s, and the place behind its end. And what its readers promise.
+-- The statement that begins at a place of the text s, the place behind its end, and the places in it that are at fault.
 use mathlib.Core.Path.{_≡_}
 use mathlib.Core.Bool.{Bool, false, cond, _||_}
 use mathlib.Core.List.{List, [], _∷_}
@@ -6,8 +6,8 @@ use Prim.Native.Nat.{ℕ, _+_, _≤_, _<_}
 use lib.Dec.{eqb}
 use lib.ListN.{length, drop}
 use Rattle.lists.specs.Lists.{headOr, keep}
-use Rattle.syntax.specs.Items.{Item, is, places, statements, statements-from}
-use Rattle.syntax.specs.Items.Sort.{end, wrong}
+use Rattle.syntax.specs.Items.{Item, is, places, statements-from}
+use Rattle.syntax.specs.Items.Sort.{end}
 use Rattle.syntax.specs.Verdict.{lowest}
 use Rattle.lexer.specs.Tokens.{items-from}
 use Rattle.statements.specs.declared.Fault.{Fault}
@@ -46,7 +46,3 @@ fault-of (p ∷ ps) = At (lowest p ps)
 -- the places of the statement's items that q finds at fault
 abbrev pub faults-at : (Item → Bool) → List ℕ → ℕ → List ℕ
 faults-at q s n = places (keep q (statement-at s n))
-
--- 14: a byte that may not stand there, or an open comment
-abbrev pub wrong-at : List ℕ → ℕ → List ℕ
-wrong-at s n = faults-at (is wrong) s n

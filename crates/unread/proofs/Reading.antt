@@ -1,19 +1,20 @@
 -- A statement read item by item up to its end: what is known at a place within it, and what follows at its end.
 use mathlib.Core.Path.{_≡_, refl, sym, ap, _∙_}
-use mathlib.Core.Bool.{Bool, true, false}
+use mathlib.Core.Bool.{Bool, true, false, not, _&&_}
 use mathlib.Core.List.{List, [], _∷_}
 use Prim.Native.Nat.{ℕ, _+_, _≤_}
 use native.Mathlib.Omega.{arith}
-use lib.Dec.{eqb}
+use lib.Dec.{ltb, eqb}
 use lib.ListN.{length}
+use borrow.Author.Tests.{lt-ltb}
 use Rattle.faults.specs.FaultLaws.{question-decides}
 use Rattle.faults.specs.Faults.{decided, then}
-use Rattle.faults.specs.Groups.{item-questions}
-use Rattle.judging.specs.Judging.{bad-text, too-long}
+use Rattle.faults.specs.Groups.{bad-text, too-long, item-questions}
 use Rattle.layout.specs.Bounds.{Each}
 use Rattle.lexer.specs.declared.Token.{Token}
-use Rattle.lexer.specs.Tokens.{item-of, Next-token}
-use Rattle.lists.specs.Lists.{keep}
+use Rattle.lexer.proofs.Finding.{is-sort}
+use Rattle.lexer.specs.Tokens.{item-of, chars-of, Stands, Next-token}
+use Rattle.lists.specs.Lists.{filled, keep}
 use Rattle.statements.proofs.Ends.{Within, begins-within, still-within, ends-here}
 use Rattle.statements.specs.declared.Fault.{Fault}
 use Rattle.statements.specs.declared.Fault.the-variants.{Clear, At}
@@ -21,11 +22,23 @@ use Rattle.statements.specs.PlaceLaws.{none-at-fault, at-fault, not-at-fault}
 use Rattle.statements.specs.StatementAt.{statement-at, stops, fault-of, faults-at}
 use Rattle.statements.specs.StatementLaws.{at-stop, at-item, on}
 use Rattle.syntax.specs.Items.{Item, is, places}
-use Rattle.syntax.specs.Items.Sort.{wrong}
+use Rattle.syntax.specs.Items.Sort.{text, wrong}
 use Rattle.syntax.specs.Verdict.{Verdict, ask, first-no}
 use Rattle.syntax.specs.Verdict.Verdict.{yes}
 use Rattle.unread.specs.Unread.{earlier, fault-if}
 use Rattle.unread.proofs.Carrying.{Own}
+
+-- questions 15 and 16 of a token's item
+filled-length : (w : List ℕ) → filled w ≡ ltb 0 (length w)
+filled-length [] = refl
+filled-length (b ∷ w) = sym (lt-ltb 0 (length (b ∷ w)) (omega arith))
+
+module _ {s : List ℕ} {t : Token} (h : Stands s t) where
+  pub bad-text-is : bad-text (item-of s t) ≡ (eqb 4 (t .sort) && not (t .good && ltb 0 (t .len)))
+  bad-text-is = rw (is-sort text h, filled-length (chars-of s t), h .count) refl
+
+  pub too-long-is : too-long (item-of s t) ≡ ltb 60 (t .len)
+  too-long-is = rw (h .count) refl
 
 earlier-assoc : (a b d : Fault) → earlier (earlier a b) d ≡ earlier a (earlier b d)
 earlier-assoc Clear b d = refl

@@ -7,8 +7,7 @@ use native.Mathlib.Omega.{arith}
 use lib.Dec.{eqb}
 use lib.ListN.{length, getD, take, drop, length-map}
 use lib.Seq.{drop-drop}
-use Rattle.faults.specs.Groups.{item-questions}
-use Rattle.judging.specs.Judging.{bad-text, too-long}
+use Rattle.faults.specs.Groups.{bad-text, too-long, item-questions}
 use Rattle.layout.specs.Bounds.{Each}
 use Rattle.lists.specs.Lists.{headOr, ifAny, keep}
 use Rattle.lexer.specs.Tokens.{items-from}

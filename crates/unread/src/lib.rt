@@ -5,6 +5,8 @@ ghost use lib.Dec.{eqb, ltb};
 ghost use Rattle.faults.specs.Faults.{decided, then, verdict-of};
 ghost use Rattle.unread.specs.Unread.{earlier, fault-if, Reads-part};
 use faults::Verdict;
+use faults::decide;
+use faults::first_of;
 use language::Machine;
 use lexer::next_item;
 use scanner::NOTHING;
@@ -45,10 +47,7 @@ fn first(f: Fault, faulty: bool, at: usize) -> Fault
 fn ask(number: u8, f: Fault, after: Verdict) -> Verdict
     ensures { λ r. ⌜ verdict-of r ≡ then (decided number f) (verdict-of after) ⌝ }
 {
-    match f {
-        Fault::Clear => after,
-        Fault::At(p) => Verdict::No(number, p),
-    }
+    first_of(decide(number, f), after)
 }
 
 // "Load hands the unread rest of the text to the next statement."

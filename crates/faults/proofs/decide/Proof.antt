@@ -1,6 +1,6 @@
 -- `faults::decide` meets its contract.
 use borrow.Author.Needs.{needs}
-use mathlib.Core.Path.{refl, sym, ap, _∙_}
+use mathlib.Core.Path.{sym, ap}
 use Rattle.faults.specs.Faults.{decided}
 use Rattle.faults.proofs.decide.Statement.{statement}
 use Rattle.faults.proofs.decide.Tie as tie

@@ -1,7 +1,5 @@
 -- `faults::lower` meets its contract.
 use borrow.Author.Needs.{needs}
-use native.Mathlib.Omega.{arith}
-use mathlib.Core.Path.{refl, sym, ap, _∙_}
 use Rattle.faults.specs.FaultLaws.{lower-none, lower-one, lower-two}
 use Rattle.faults.proofs.lower.Statement.{statement}
 use Rattle.faults.proofs.lower.Tie as tie

@@ -32,7 +32,7 @@ returns-2 : tie.Need-returns-2
 returns-2 c =
     let g = c .before .before .before .before .before .before .before .pre in
     let e = c .before .before .before .before .instr-of .ensures in
-    let count = c .before .wide .ensures ∙ c .before .before .most .ensures .0 ∙ most-is (this-instruction g e (c .before .before .before .if1 .left)) in
+    let count = c .before .wide .ensures .is ∙ c .before .before .most .ensures .0 ∙ most-is (this-instruction g e (c .before .before .before .if1 .left)) in
     c .argument-after .ensures ∙ ap (λ m. fault-of (places (drop m (arguments-in (statement-at (c .before .before .before .before .before .before .before .args .text .now) (c .before .before .before .before .before .before .before .args .head .op .next)))))) count ∙ sym (ap fault-of (counted g e (c .before .before .before .if1 .left)))
 
 pub count-fault-spec : {M : Type 1} → statement M

@@ -24,7 +24,7 @@ returns : tie.Need-returns
 returns c =
     let count = c .before .before .before .count-arguments in
     let g = c .before .before .before .before .before .pre in
-    let needed = c .before .wide .ensures ∙ c .before .before .least .ensures .0 in
+    let needed = c .before .wide .ensures .is ∙ c .before .before .least .ensures .0 in
     λ o h. sym (missing g o (ap (λ m. ltb m (least o)) (sym (count .ensures)) ∙ ap (λ m. ltb (count .result) m) (sym (needed ∙ ap least-of (sym h) ∙ least-listed o)) ∙ lt-ltb _ _ (c .if1 .taken)))
 
 items-fault-requires : tie.Need-items-fault-requires
@@ -34,7 +34,7 @@ returns-2 : tie.Need-returns-2
 returns-2 c =
     let count = c .before .before .before .before .count-arguments in
     let g = c .before .before .before .before .before .before .pre in
-    let needed = c .before .before .wide .ensures ∙ c .before .before .before .least .ensures .0 in
+    let needed = c .before .before .wide .ensures .is ∙ c .before .before .before .least .ensures .0 in
     λ o h. c .items-fault .ensures o h ∙ sym (ap fault-of (complete g o (ap (λ m. ltb m (least o)) (sym (count .ensures)) ∙ ap (λ m. ltb (count .result) m) (sym (needed ∙ ap least-of (sym h) ∙ least-listed o)) ∙ le-ltb _ _ (c .before .if1 .left))))
 
 pub instr-fault-spec : {M : Type 1} → statement M

@@ -5,12 +5,11 @@ use Prim.Native.Nat.{_-_}
 use native.Mathlib.Omega.{arith}
 use lib.ListN.{length}
 use Rattle.faults.specs.Faults.{decided, then}
-use Rattle.judging.specs.FaultLaws.{bad-text-is, too-long-is}
 use Rattle.lexer.proofs.Finding.{is-sort}
 use Rattle.statements.specs.StatementLaws.{on}
 use Rattle.syntax.specs.Items.Sort.{wrong}
 use Rattle.unread.proofs.Carrying.{carried}
-use Rattle.unread.proofs.Reading.{Reading, begins-reading, still-reading, own-read}
+use Rattle.unread.proofs.Reading.{bad-text-is, too-long-is, Reading, begins-reading, still-reading, own-read}
 use Rattle.unread.proofs.read_part.Statement.{statement}
 use Rattle.unread.proofs.read_part.Tie as tie
 

@@ -1,9 +1,9 @@
--- `asking::first_of` meets its contract.
+-- `faults::first_of` meets its contract.
 use borrow.Author.Needs.{needs}
 use mathlib.Core.Path.{sym, ap}
 use Rattle.faults.specs.Faults.{verdict-of, then}
-use Rattle.asking.proofs.first_of.Statement.{statement}
-use Rattle.asking.proofs.first_of.Tie as tie
+use Rattle.faults.proofs.first_of.Statement.{statement}
+use Rattle.faults.proofs.first_of.Tie as tie
 
 enum-told : tie.Need-enum-told
 enum-told c = search needs
