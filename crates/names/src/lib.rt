@@ -16,12 +16,6 @@ pub struct Collected {
     pub count: usize,
 }
 
-fn wide(m: u32) -> usize
-    ensures { λ r. ⌜ r ≡ m ⌝ }
-{
-    m as usize
-}
-
 // A word's place and length in one number.
 pub fn mark(at: usize, len: usize) -> u32
     requires { ⌜ (at ≤ 32768) × (len ≤ 60) ⌝ }
@@ -31,15 +25,14 @@ pub fn mark(at: usize, len: usize) -> u32
 }
 
 // Whether the `len` bytes at `at` are the word of a mark.
-pub fn name_is(text: &[u8], m: u32, at: usize, len: usize) -> bool
+fn name_is(text: &[u8], m: usize, at: usize, len: usize) -> bool
     requires { ⌜ Fitting (now text) m at len ⌝ }
     ensures { λ r. ⌜ r ≡ sameBytes (take len (drop at (now (text .entry)))) (word-by (now (text .entry)) m) ⌝ }
 {
-    let k = wide(m);
-    if k % 64 != len {
+    if m % 64 != len {
         return false;
     }
-    spelling::same_word(text, at, k / 64, len)
+    spelling::same_word(text, at, m / 64, len)
 }
 
 // Whether one of the first `count` names is the `len` bytes at `at`.
@@ -49,7 +42,7 @@ pub fn has_name(text: &[u8], names: &[u32], count: usize, at: usize, len: usize)
 {
     let mut k = 0;
     while k < count {
-        if name_is(text, names[k], at, len) {
+        if name_is(text, cells::read(names, k), at, len) {
             return true;
         }
         k += 1;

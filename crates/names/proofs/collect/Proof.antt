@@ -6,13 +6,6 @@ use lib.ListN.{length}
 use Rattle.names.proofs.Gathering.{Gathering, gathering-first, gathered, label-fits, sought, room-left, goes-on, met-before, gather}
 use Rattle.names.proofs.collect.Statement.{statement}
 use Rattle.names.proofs.collect.Tie as tie
-use Rattle.names.proofs.collect.Reads as reads
-use Rattle.names.proofs.collect.Lts as lts
-use Rattle.heads.proofs.is_operator.Reads as is-operator-reads
-use Rattle.lexer.proofs.next_item.Reads as next-item-reads
-use Rattle.names.proofs.has_name.Reads as has-name-reads
-use Rattle.names.proofs.mark.Reads as mark-reads
-use Rattle.statements.proofs.stops.Reads as stops-reads
 
 abbrev Inv-loop : tie.InvT-loop
 Inv-loop text n names₀ count c₀ i₀ names c i = Gathering text n names₀ count names c i

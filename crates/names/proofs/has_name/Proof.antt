@@ -1,14 +1,10 @@
 -- `names::has_name` meets its contract.
 use borrow.Author.Needs.{needs}
 use native.Mathlib.Omega.{arith}
-use mathlib.Core.Path.{refl}
 use Prim.Native.Nat.{_-_}
 use Rattle.names.proofs.Seeking.{Seeking, seeking-first, fitting, seek-found, seek-on, seek-none}
 use Rattle.names.proofs.has_name.Statement.{statement}
 use Rattle.names.proofs.has_name.Tie as tie
-use Rattle.names.proofs.has_name.Reads as reads
-use Rattle.names.proofs.has_name.Lts as lts
-use Rattle.names.proofs.name_is.Reads as name-is-reads
 
 abbrev Inv-loop : tie.InvT-loop
 Inv-loop text names count at len k₀ k = Seeking text names count at len k
@@ -19,17 +15,14 @@ abbrev μ-loop : tie.MeasureT-loop
 loop-holds : tie.Need-loop-holds Inv-loop μ-loop
 loop-holds c = seeking-first ((c .before .before .pre))
 
-mul-name-is : tie.Need-mul-name-is Inv-loop μ-loop
-mul-name-is c = search needs
-
-shared-slice-read-name-is : tie.Need-shared-slice-read-name-is Inv-loop μ-loop
-shared-slice-read-name-is c = omega (arith, c .before .before .before .before .before .pre .most, c .before .loop-test .taken)
+read-requires : tie.Need-read-requires Inv-loop μ-loop
+read-requires c κs = omega (arith, c .before .before .before .before .pre .most, c .loop-test .taken)
 
 name-is-requires : tie.Need-name-is-requires Inv-loop μ-loop
-name-is-requires c κs = fitting ((c .before .before .before .before .before .pre)) (c .before .loop-test .taken) refl
+name-is-requires c κs = fitting ((c .before .before .before .before .before .pre)) (c .before .loop-test .taken) (c .read .ensures .is)
 
 returns : tie.Need-returns Inv-loop μ-loop
-returns c = seek-found ((c .before .before .before .before .before .before .before .pre)) (c .before .before .before .before .loop .inv) (c .before .before .before .loop-test .taken) refl (c .before .name-is .ensures) (c .if1 .taken)
+returns c = seek-found ((c .before .before .before .before .before .before .before .pre)) (c .before .before .before .before .loop .inv) (c .before .before .before .loop-test .taken) (c .before .before .read .ensures .is) (c .before .name-is .ensures) (c .if1 .taken)
 
 add-k : tie.Need-add-k Inv-loop μ-loop
 add-k c = search needs
@@ -38,7 +31,7 @@ loop-less : tie.Need-loop-less Inv-loop μ-loop
 loop-less c = omega (arith, c .before .before .before .loop-test .taken)
 
 loop-again : tie.Need-loop-again Inv-loop μ-loop
-loop-again c = seek-on ((c .before .before .before .before .before .before .before .pre)) (c .before .before .before .before .loop .inv) (c .before .before .before .loop-test .taken) refl (c .before .name-is .ensures) (c .if1 .left)
+loop-again c = seek-on ((c .before .before .before .before .before .before .before .pre)) (c .before .before .before .before .loop .inv) (c .before .before .before .loop-test .taken) (c .before .before .read .ensures .is) (c .before .name-is .ensures) (c .if1 .left)
 
 returns-2 : tie.Need-returns-2 Inv-loop μ-loop
 returns-2 c = seek-none ((c .before .before .before .before .pre)) (c .before .loop .inv) (c .loop-test .left)
@@ -50,8 +43,7 @@ has-name-spec =
     Inv-loop
     μ-loop
     loop-holds
-    mul-name-is
-    shared-slice-read-name-is
+    read-requires
     name-is-requires
     returns
     add-k
