@@ -9,10 +9,10 @@ use lib.ListN.{length, getD, take, set, length-append, length-map, length-set}
 use lib.Seq.{take-suc-set, getD-set-same, getD-set-other}
 use borrow.Author.Tests.{eqb-true, eqb-false}
 use Rattle.acceptance.specs.Drafts.{Sound-tables}
-use Rattle.acceptance.specs.ProgramLaws.{entries-count}
 use Rattle.acceptance.specs.RowLaws.{each-keep}
 use Rattle.declaring.specs.TabledLaws.{Operated}
 use Rattle.drafts.specs.Drafting.{draft-instr, draft-switch, draft-program}
+use Rattle.drafts.specs.DraftingLaws.{entry-words}
 use Rattle.drafts.specs.Marks.{mark, word-by, Marked}
 use Rattle.drafts.specs.Tabled.{Spelt, entry-items, Tabled}
 use Rattle.entering.specs.Entering.{set-texts}
@@ -46,19 +46,6 @@ last-of es [] w = refl
 last-of es (v ∷ []) w = refl
 last-of es (v ∷ u ∷ ws) w = ap (λ (l : List Switch). v ∷ l) (last-of es (u ∷ ws) w)
 
--- each word of a list is an entry
-same-count : (cs : List Choice) → length (each (λ w. w .entries) (map draft-switch cs)) ≡ length (each (λ c. keep (is word) (c .list)) cs)
-unfolding draft-switch
-same-count [] = refl
-same-count (c ∷ cs) =
-    omega (
-      arith,
-      length-append (entries-in (λ w. 0) (c .list)) (each (λ w. w .entries) (map draft-switch cs)),
-      length-append (keep (is word) (c .list)) (each (λ x. keep (is word) (x .list)) cs),
-      entries-count (λ w. 0) (c .list),
-      same-count cs,
-    )
-
 module _ (t : Tables) (b : Bool) (ls : List Item) {s : List ℕ} {x : List Item} {o : Token} (h : Operated s x o) where
   abbrev p : Program
   p = draft-program s t
@@ -80,7 +67,7 @@ module _ (t : Tables) (b : Bool) (ls : List Item) {s : List ℕ} {x : List Item}
   excess-is =
       ap (λ (k : ℕ). beyond 32 k (o .at ∷ []) ++ beyond 128 (length (all-entries p)) (words (statement-at s (o .next))) ++ texts (statement-at s (o .next))) (length-map (t .switches) draft-switch)
       ∙ ap (λ (ps : List ℕ). beyond 32 (length (t .switches)) ps ++ beyond 128 (length (all-entries p)) (words (statement-at s (o .next))) ++ texts (statement-at s (o .next))) (sym (ap places (h .operator-is)))
-      ∙ ap (λ (k : ℕ). beyond 32 (length (t .switches)) (places (operator x)) ++ beyond 128 k (words (statement-at s (o .next))) ++ texts (statement-at s (o .next))) (same-count (t .switches))
+      ∙ ap (λ (k : ℕ). beyond 32 (length (t .switches)) (places (operator x)) ++ beyond 128 k (words (statement-at s (o .next))) ++ texts (statement-at s (o .next))) (entry-words (t .switches))
       ∙ ap (λ (js : List Item). beyond 32 (length (t .switches)) (places (operator x)) ++ beyond 128 (length (each (λ c. keep (is word) (c .list)) (t .switches))) (words js) ++ texts js) (sym (h .rest-is))
     where
       words : List Item → List ℕ
@@ -113,7 +100,7 @@ module _ (t : Tables) (b : Bool) (ls : List Item) {s : List ℕ} {x : List Item}
 
       count-is : cell (table-of c) 3 ≡ length (entry-items t)
       unfolding draft-program
-      count-is = entry-count c p (v .holds) ∙ same-count (t .switches)
+      count-is = entry-count c p (v .holds) ∙ entry-words (t .switches)
 
       set-is : sw′ ≡ set sw k name
       set-is = u .switch-marks e ∙ ap (λ (j : ℕ). set sw j name) index-is

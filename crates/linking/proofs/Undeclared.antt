@@ -6,11 +6,11 @@ use Prim.Native.Nat.{ℕ, _+_}
 use Prim.Native.String.{String}
 use native.Mathlib.Omega.{arith}
 use lib.Dec.{T, eqb}
-use lib.ListN.{length, take, drop, length-append}
+use lib.ListN.{length, take, drop}
 use lib.IntN.{ℤ}
 use Rattle.acceptance.specs.Drafts.{Fine-item, Sound-argument, Sound-written, Sound-choice}
-use Rattle.acceptance.specs.ProgramLaws.{entries-count}
 use Rattle.acceptance.specs.RowLaws.{each-map, or-right}
+use Rattle.drafts.specs.DraftingLaws.{entry-words}
 use Rattle.drafts.specs.Drafting.{draft-instr, draft-switch, draft-program}
 use Rattle.drafts.specs.Marks.{mark, place-by, word-by}
 use Rattle.drafts.specs.Tabled.{Spelt, entry-items, Tabled}
@@ -28,7 +28,6 @@ use Rattle.syntax.specs.ArgumentForms.{form-in, Argument, of-form}
 use Rattle.syntax.specs.Ending.{given-as, used-labels, undeclared-labels, undeclared-switches}
 use Rattle.syntax.specs.Items.{Item, is, places}
 use Rattle.syntax.specs.Items.Sort.{word}
-use Rattle.syntax.specs.Statements.{entries-in}
 use Rattle.syntax.specs.Tables.{Written, Choice, Tables}
 use Rattle.linking.proofs.Marked.{label-uses, switch-uses, all-uses, Used, used-word, used-argument}
 use Rattle.linking.specs.Linking.{Finds, label-places, switch-places}
@@ -114,14 +113,7 @@ only-typed false f h = or-right (eqb f 108) (eqb f 119 || (eqb f 120 || false)) 
 pub only-switch : (f : ℕ) → T (form-in "wx" f) → T (form-in "lwx" f)
 only-switch f h = or-right (eqb f 108) (eqb f 119 || (eqb f 120 || false)) h
 
--- ---- entries are counted by their words
-
-entries-long : (cs : List Choice) → length (each (λ w. w .entries) (map draft-switch cs)) ≡ length (each (λ c. keep (is word) (c .list)) cs)
-unfolding draft-switch
-entries-long [] = refl
-entries-long (c ∷ cs) =
-    length-append (entries-in (λ w. 0) (c .list)) (each (λ w. w .entries) (map draft-switch cs)) ∙ (λ j. entries-count (λ w. 0) (c .list) j + entries-long cs j)
-    ∙ sym (length-append (keep (is word) (c .list)) (each (λ c. keep (is word) (c .list)) cs))
+-- ---- the marks of a text, in code and in entries
 
 module _ (s : List ℕ) (t : Tables) (c sw en : List ℕ) (h : Tabled s t c sw en) where
   abbrev draft : Program
@@ -161,7 +153,7 @@ module _ (s : List ℕ) (t : Tables) (c sw en : List ℕ) (h : Tabled s t c sw e
 
   pub entries-draft : length (all-entries draft) ≡ length (entry-items t)
   unfolding draft-program
-  entries-draft = entries-long (t .switches)
+  entries-draft = entry-words (t .switches)
 
   entry-marks-are : take (length (all-entries draft)) en ≡ map (λ i. mark i) (entry-items t)
   entry-marks-are = ap (λ (n : ℕ). take n en) entries-draft ∙ h .entry-marks
