@@ -4,7 +4,6 @@ use mathlib.Core.Bool.{Bool, cond}
 use mathlib.Core.List.{List, [], _∷_, _++_}
 use Prim.Native.Nat.{ℕ, _≤_, _<_}
 use lib.ListN.{length, drop}
-use Rattle.language.specs.Limits as limit
 use Rattle.lexer.specs.declared.Token.{Token}
 use Rattle.lexer.specs.Tokens.{colon-of}
 use Rattle.statements.specs.declared.Fault.{Fault}

@@ -3,12 +3,6 @@ use native.Mathlib.Omega.{arith}
 use Rattle.argument_cells.proofs.Arguing.{text-item, text-told, label-told, named-told, indexed-told, mark-most, token-inside, number-word, as-number, class-word, as-class, letter-word, as-letter}
 use Rattle.argument_cells.proofs.argument_cell.Statement.{statement}
 use Rattle.argument_cells.proofs.argument_cell.Tie as tie
-use Rattle.argument_cells.proofs.argument_cell.Reads as reads
-use Rattle.argument_cells.proofs.argument_cell.Lts as lts
-use Rattle.argument_cells.proofs.class_cell.Reads as class-cell-reads
-use Rattle.argument_cells.proofs.item_text.Reads as item-text-reads
-use Rattle.argument_cells.proofs.letter_cell.Reads as letter-cell-reads
-use Rattle.argument_cells.proofs.number_cell.Reads as number-cell-reads
 
 item-text-requires : tie.Need-item-text-requires
 item-text-requires c κs = text-item ((c .before .before .before .pre))

@@ -4,10 +4,6 @@ use native.Mathlib.Omega.{arith}
 use Rattle.argument_cells.proofs.Arguing.{class-is}
 use Rattle.argument_cells.proofs.class_cell.Statement.{statement}
 use Rattle.argument_cells.proofs.class_cell.Tie as tie
-use Rattle.argument_cells.proofs.class_cell.Reads as reads
-use Rattle.argument_cells.proofs.class_cell.Lts as lts
-use Rattle.cells.proofs.wide.Reads as wide-reads
-use Rattle.words.proofs.class_mask.Reads as class-mask-reads
 
 class-mask-requires : tie.Need-class-mask-requires
 class-mask-requires c κs = search needs

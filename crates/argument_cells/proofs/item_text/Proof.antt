@@ -5,10 +5,6 @@ use lib.ListN.{length-take}
 use Rattle.argument_cells.proofs.Arguing.{texts-counted, put-long, front-told}
 use Rattle.argument_cells.proofs.item_text.Statement.{statement}
 use Rattle.argument_cells.proofs.item_text.Tie as tie
-use Rattle.argument_cells.proofs.item_text.Reads as reads
-use Rattle.argument_cells.proofs.item_text.Lts as lts
-use Rattle.finding.proofs.text_ref.Reads as text-ref-reads
-use Rattle.spelling.proofs.put_chars.Reads as put-chars-reads
 
 slice-aggregate-put-chars : tie.Need-slice-aggregate-put-chars
 slice-aggregate-put-chars c = search needs

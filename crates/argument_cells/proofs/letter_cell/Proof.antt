@@ -4,10 +4,6 @@ use mathlib.Core.Path.{sym, _∙_}
 use Rattle.argument_cells.proofs.Arguing.{letter-not, letter-told}
 use Rattle.argument_cells.proofs.letter_cell.Statement.{statement}
 use Rattle.argument_cells.proofs.letter_cell.Tie as tie
-use Rattle.argument_cells.proofs.letter_cell.Reads as reads
-use Rattle.argument_cells.proofs.letter_cell.Lts as lts
-use Rattle.cells.proofs.wide.Reads as wide-reads
-use Rattle.words.proofs.indexed.Reads as indexed-reads
 
 indexed-requires : tie.Need-indexed-requires
 indexed-requires c κs = search needs

@@ -4,11 +4,6 @@ use mathlib.Core.Path.{sym, _∙_}
 use Rattle.argument_cells.proofs.Arguing.{no-argument, argued, one-argument}
 use Rattle.argument_cells.proofs.nth_cell.Statement.{statement}
 use Rattle.argument_cells.proofs.nth_cell.Tie as tie
-use Rattle.argument_cells.proofs.nth_cell.Reads as reads
-use Rattle.argument_cells.proofs.nth_cell.Lts as lts
-use Rattle.argument_cells.proofs.argument_cell.Reads as argument-cell-reads
-use Rattle.arguments.proofs.nth_argument.Reads as nth-argument-reads
-use Rattle.statements.proofs.stops.Reads as stops-reads
 
 nth-argument-requires : tie.Need-nth-argument-requires
 nth-argument-requires c κs = c .before .before .pre .inside

@@ -4,10 +4,6 @@ use mathlib.Core.Path.{sym, _∙_}
 use Rattle.argument_cells.proofs.Arguing.{numbers-counted, number-not, number-told}
 use Rattle.argument_cells.proofs.number_cell.Statement.{statement}
 use Rattle.argument_cells.proofs.number_cell.Tie as tie
-use Rattle.argument_cells.proofs.number_cell.Reads as reads
-use Rattle.argument_cells.proofs.number_cell.Lts as lts
-use Rattle.finding.proofs.number_ref.Reads as number-ref-reads
-use Rattle.words.proofs.number_of.Reads as number-of-reads
 
 number-of-requires : tie.Need-number-of-requires
 number-of-requires c κs = search needs

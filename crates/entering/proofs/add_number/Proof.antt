@@ -9,11 +9,6 @@ use Rattle.entering.specs.Entering.{set-numbers}
 use Rattle.entering.proofs.Adding.{numbers-laws, adds-known, adds-none, adds-new}
 use Rattle.entering.proofs.add_number.Statement.{statement}
 use Rattle.entering.proofs.add_number.Tie as tie
-use Rattle.entering.proofs.add_number.Reads as reads
-use Rattle.entering.proofs.add_number.Lts as lts
-use Rattle.finding.proofs.find_number.Reads as find-number-reads
-use Rattle.table.proofs.numbers.Reads as numbers-reads
-use Rattle.writing.proofs.put_number.Reads as put-number-reads
 
 numbers-requires : tie.Need-numbers-requires
 numbers-requires c κs = c .before .before .pre .holds .long

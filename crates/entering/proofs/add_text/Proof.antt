@@ -9,11 +9,6 @@ use Rattle.entering.specs.Entering.{set-texts}
 use Rattle.entering.proofs.Adding.{texts-laws, adds-known, adds-none, adds-new}
 use Rattle.entering.proofs.add_text.Statement.{statement}
 use Rattle.entering.proofs.add_text.Tie as tie
-use Rattle.entering.proofs.add_text.Reads as reads
-use Rattle.entering.proofs.add_text.Lts as lts
-use Rattle.finding.proofs.find_text.Reads as find-text-reads
-use Rattle.table.proofs.texts.Reads as texts-reads
-use Rattle.writing.proofs.put_text.Reads as put-text-reads
 
 texts-requires : tie.Need-texts-requires
 texts-requires c κs = c .before .before .before .pre .held .holds .long

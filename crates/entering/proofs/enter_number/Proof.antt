@@ -5,11 +5,6 @@ use borrow.Author.Tests.{not-true, not-false}
 use Rattle.entering.proofs.Numbers.{number-past, number-none, number-small, number-entered}
 use Rattle.entering.proofs.enter_number.Statement.{statement}
 use Rattle.entering.proofs.enter_number.Tie as tie
-use Rattle.entering.proofs.enter_number.Reads as reads
-use Rattle.entering.proofs.enter_number.Lts as lts
-use Rattle.entering.proofs.add_number.Reads as add-number-reads
-use Rattle.entering.proofs.is_large.Reads as is-large-reads
-use Rattle.words.proofs.number_of.Reads as number-of-reads
 
 returns : tie.Need-returns
 returns c = number-past ((c .before .before .before .before .pre)) (c .if1 .taken)

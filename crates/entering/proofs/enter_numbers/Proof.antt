@@ -12,11 +12,6 @@ use Rattle.entering.proofs.Adding.{numbers-laws}
 use Rattle.entering.proofs.Rows.{Entering, entering-first, entered, entered-none, entering-more, item-as, goes-on}
 use Rattle.entering.proofs.enter_numbers.Statement.{statement}
 use Rattle.entering.proofs.enter_numbers.Tie as tie
-use Rattle.entering.proofs.enter_numbers.Reads as reads
-use Rattle.entering.proofs.enter_numbers.Lts as lts
-use Rattle.entering.proofs.enter_number.Reads as enter-number-reads
-use Rattle.lexer.proofs.next_item.Reads as next-item-reads
-use Rattle.statements.proofs.stops.Reads as stops-reads
 
 abbrev Inv-loop : tie.InvT-loop
 Inv-loop text n table₀ i₀ table i = Entering sameNumber number-in large-number (λ p. p .numbers) set-numbers numbers-laws Ranged-item text n table₀ table i

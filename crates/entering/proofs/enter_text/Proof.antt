@@ -7,11 +7,6 @@ use borrow.Author.Tests.{not-true, not-false}
 use Rattle.entering.proofs.Adding.{text-past, text-entered, text-front, text-long, text-addable}
 use Rattle.entering.proofs.enter_text.Statement.{statement}
 use Rattle.entering.proofs.enter_text.Tie as tie
-use Rattle.entering.proofs.enter_text.Reads as reads
-use Rattle.entering.proofs.enter_text.Lts as lts
-use Rattle.entering.proofs.add_text.Reads as add-text-reads
-use Rattle.entering.proofs.is_long_text.Reads as is-long-text-reads
-use Rattle.spelling.proofs.put_chars.Reads as put-chars-reads
 
 is-long-text-requires : tie.Need-is-long-text-requires
 is-long-text-requires c κs = search needs

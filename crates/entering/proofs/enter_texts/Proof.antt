@@ -11,11 +11,6 @@ use Rattle.entering.proofs.Adding.{texts-laws}
 use Rattle.entering.proofs.Rows.{Entering, entering-first, entered, entered-none, entering-more, item-as, goes-on}
 use Rattle.entering.proofs.enter_texts.Statement.{statement}
 use Rattle.entering.proofs.enter_texts.Tie as tie
-use Rattle.entering.proofs.enter_texts.Reads as reads
-use Rattle.entering.proofs.enter_texts.Lts as lts
-use Rattle.entering.proofs.enter_text.Reads as enter-text-reads
-use Rattle.lexer.proofs.next_item.Reads as next-item-reads
-use Rattle.statements.proofs.stops.Reads as stops-reads
 
 abbrev Inv-loop : tie.InvT-loop
 Inv-loop text n table₀ i₀ table i = Entering sameBytes (λ i. i .chars) long-text (λ p. p .texts) set-texts texts-laws Short-item text n table₀ table i
