@@ -1,14 +1,14 @@
 -- Laws of the ranks: rank and byte are inverse to each other on the 61 characters, and every other byte has 62.
-use mathlib.Core.Path.{_≡_, refl, ap, sym, _∙_}
+use mathlib.Core.Path.{_≡_, refl, ap}
 use mathlib.Core.Bool.{Bool, true, false, _||_}
 use mathlib.Core.List.{List, [], _∷_}
-use Prim.Native.Nat.{ℕ, suc, _≤_, _<_}
+use Prim.Native.Nat.{ℕ, suc, _<_}
 use native.Mathlib.Omega.{arith}
 use lib.Dec.{T, ltb, eqb, eqb→eq, ltb→lt}
 use lib.ListN.{length}
 use borrow.Author.Tests.{ne-eqb}
 use Rattle.lists.specs.Lists.{ahead, among}
-use Rattle.lists.specs.ListLaws.{all-among, ahead-le}
+use Rattle.lists.specs.ListLaws.{all-among}
 use Rattle.lists.specs.TableLaws.{below-unless}
 use Rattle.characters.specs.Characters.{ranked, known, rank, byteOf}
 
@@ -21,9 +21,6 @@ rank-byte r l h =
     eqb→eq (rank (byteOf r)) r
     (below-unless (λ k. eqb k 0) (λ k. eqb (rank (byteOf k)) k) 62 tt r h (ne-eqb r 0 (λ e. omega arith)))
 
-pub rank-same : (a b : ℕ) → T (known a) → T (known b) → rank a ≡ rank b → a ≡ b
-rank-same a b h k e = sym (byte-rank a h) ∙ ap byteOf e ∙ byte-rank b k
-
 pub known-rank : (b : ℕ) → T (known b) → rank b < 62
 unfolding known
 known-rank b h = ltb→lt (rank b) 62 (all-among (λ (k : ℕ). ltb (rank k) 62) ranked tt b h)
@@ -31,9 +28,6 @@ known-rank b h = ltb→lt (rank b) 62 (all-among (λ (k : ℕ). ltb (rank k) 62)
 pub known-byte : (b : ℕ) → T (known b) → b < 128
 unfolding known
 known-byte b h = ltb→lt b 128 (all-among (λ (k : ℕ). ltb k 128) ranked tt b h)
-
-pub rank-most : (b : ℕ) → rank b ≤ 62
-rank-most b = omega (arith, ahead-le (eqb b) ranked)
 
 -- no number of the list is x: all of it stands ahead
 none-ahead : (x : ℕ) (xs : List ℕ) → among x xs ≡ false → ahead (eqb x) xs ≡ length xs

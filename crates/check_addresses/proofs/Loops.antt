@@ -9,12 +9,12 @@ use lib.Dec.{eqb}
 use lib.ListN.{length, getD, take, drop, set, length-drop, length-set}
 use lib.Seq.{take-all, drop-cons, drop-length, take-suc-set}
 use Rattle.layout.specs.Bounds.{WholeRecords}
-use Rattle.layout.specs.Components.{record-in, records-in}
+use Rattle.layout.specs.Components.{record-in, records-in, addresses-in}
 use Rattle.layout.specs.ComponentLaws.{records-none}
 use Rattle.lists.specs.Lists.{any}
 use Rattle.machine.specs.WellFormed.{different}
 use Rattle.records.specs.Places.{Starts, Ends}
-use Rattle.check_addresses.specs.Collected.{addresses-of, Collectable, Collected}
+use Rattle.check_addresses.specs.Collected.{Collectable, Collected}
 
 -- what was found among the first i, or is among the rest
 pub any-next : (p : ℕ → Bool) (s : List ℕ) (i : ℕ) (found : Bool) → i < length s → (found || p (getD s i 0)) || any p (drop (i + 1) s) ≡ found || any p (drop i s)
@@ -47,7 +47,7 @@ pub record Collecting (b d : List ℕ) (n : ℕ) (e : List ℕ) (k at : ℕ) : T
   pub within : at ≤ length b
   pub whole : WholeRecords (drop at b)
   pub long : length e ≡ length d
-  pub is : take k e ++ addresses-of (drop at b) ≡ take n d ++ addresses-of b
+  pub is : take k e ++ addresses-in (drop at b) ≡ take n d ++ addresses-in b
   pub count : k + length (records-in (drop at b)) ≡ n + length (records-in b)
 
 pub collecting-none : {b d : List ℕ} {n : ℕ} → Collectable b (length d) n → Collecting b d n d n 0
@@ -67,13 +67,13 @@ module _ {b d : List ℕ} {n : ℕ} (c : Collectable b (length d) n) {e : List �
 
     pub collecting-next : {a : ℕ} → a ≡ record-in (drop at b) .addr → Collecting b d n (set e k a) (k + 1) t
     collecting-next {a} q =
-        let m : addresses-of (drop at b) ≡ record-in (drop at b) .addr ∷ addresses-of (drop t b) = ap (map (λ r. r .addr)) (s .first) in
+        let m : addresses-in (drop at b) ≡ record-in (drop at b) .addr ∷ addresses-in (drop t b) = ap (map (λ r. r .addr)) (s .first) in
         let x : take (k + 1) (set e k a) ≡ take k e ++ (a ∷ []) = rw (add-one k) (take-suc-set e k a room) in
         record {
           within = s .within;
           whole = s .rest;
           long = length-set e k a ∙ g .long;
-          is = rw (x, append-assoc (take k e) (a ∷ []) (addresses-of (drop t b)), q) (rw (← m) (g .is));
+          is = rw (x, append-assoc (take k e) (a ∷ []) (addresses-in (drop t b)), q) (rw (← m) (g .is));
           count = omega (arith, one-more, g .count);
         }
 

@@ -73,16 +73,6 @@ unfolding used
 sum-lengths [] = refl
 sum-lengths (v ∷ vs) = omega (arith, sum-lengths vs, used-cons v vs)
 
-pub length-lengths-in : (n : ℕ) (l : List ℕ) → length (lengths-in n l) ≡ n
-unfolding lengths-in
-length-lengths-in zero l = refl
-length-lengths-in (suc n) l = ap suc (length-lengths-in n (drop 2 l))
-
-pub length-cut-by : (ns l : List ℕ) → length (cut-by ns l) ≡ length ns
-unfolding cut-by
-length-cut-by [] l = refl
-length-cut-by (n ∷ ns) l = ap suc (length-cut-by ns (drop n l))
-
 cut-lengths : (ns l : List ℕ) → sum ns ≤ length l → map length (cut-by ns l) ≡ ns
 unfolding cut-by
 cut-lengths [] l h = refl

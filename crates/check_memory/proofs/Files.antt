@@ -6,13 +6,12 @@ use Prim.Native.Nat.{ℕ, zero, suc, _*_, _≤_}
 use native.Mathlib.Omega.{arith}
 use lib.Dec.{T}
 use lib.ListN.{length, take, drop}
-use Rattle.check_addresses.specs.Collected.{addresses-of}
 use Rattle.check_strings.proofs.ComponentWalks.{parts-open, parts-close}
 use Rattle.check_strings.proofs.RecordWalks.{rows-open, rows-close}
 use Rattle.check_strings.specs.Sound.{sound-components, given, sound-records}
 use Rattle.language.specs.Values.{Record}
 use Rattle.layout.specs.CellLaws.{twice}
-use Rattle.layout.specs.Components.{components-bytes, records-bytes, components-in, records-in}
+use Rattle.layout.specs.Components.{components-bytes, records-bytes, components-in, records-in, addresses-in}
 use Rattle.layout.specs.Memory.{file-strings, files-in}
 use Rattle.lists.specs.ListLaws.{T-left, T-right, T-both, total-append}
 use Rattle.lists.specs.Lists.{total, all, each, headOr}
@@ -69,7 +68,7 @@ again-records v = records-bytes (records-in v)
 pub record Halves (l : ℕ) (vs : List (List ℕ)) : Type 0 where
   pub same : map again-records vs ≡ vs
   pub faultless : total (λ v. total (record-faults l) (records-in v)) vs ≡ 0
-  pub addressed : T (all (given l) (each addresses-of vs))
+  pub addressed : T (all (given l) (each addresses-in vs))
 
 pub halves-open : (l : ℕ) (vs : List (List ℕ)) → T (all (sound-records l) vs) → Halves l vs
 halves-open l [] h = record { same = refl; faultless = refl; addressed = tt }
@@ -79,7 +78,7 @@ halves-open l (v ∷ vs) h =
     record {
       same = ap (λ u. u ∷ map again-records vs) (p .cells) ∙ ap (λ us. v ∷ us) (q .same);
       faultless = omega (arith, p .faultless, q .faultless);
-      addressed = all-append (given l) (addresses-of v) (each addresses-of vs) (p .addressed) (q .addressed);
+      addressed = all-append (given l) (addresses-in v) (each addresses-in vs) (p .addressed) (q .addressed);
     }
 
 pub halves-close : (l : ℕ) (vs : List (List ℕ)) → Halves l vs → T (all (sound-records l) vs)
@@ -87,8 +86,8 @@ halves-close l [] h = tt
 halves-close l (v ∷ vs) h =
     let a = h .addressed in
     T-both (sound-records l v) (all (sound-records l) vs)
-    (rows-close l v (record { cells = ap (headOr []) (h .same); faultless = omega (arith, h .faultless); addressed = all-left (given l) (addresses-of v) (each addresses-of vs) a }))
-    (halves-close l vs (record { same = ap (drop 1) (h .same); faultless = omega (arith, h .faultless); addressed = all-right (given l) (addresses-of v) (each addresses-of vs) a }))
+    (rows-close l v (record { cells = ap (headOr []) (h .same); faultless = omega (arith, h .faultless); addressed = all-left (given l) (addresses-in v) (each addresses-in vs) a }))
+    (halves-close l vs (record { same = ap (drop 1) (h .same); faultless = omega (arith, h .faultless); addressed = all-right (given l) (addresses-in v) (each addresses-in vs) a }))
 
 -- n files are 2 * n strings
 pub length-files-in : (n : ℕ) (ws : List (List ℕ)) → length (files-in n ws) ≡ n
@@ -115,7 +114,7 @@ total-of-files g (suc n) (x ∷ y ∷ ws) h =
     omega (arith, total-append g (records-in x) (records-in y), total-of-files g n ws (omega (arith, h)), e)
 
 pub addresses-of-files : (n : ℕ) (ws : List (List ℕ)) → 2 * n ≤ length ws
-    → map (λ r. r .addr) (all-records (files-in n ws)) ≡ each addresses-of (take (2 * n) ws)
+    → map (λ r. r .addr) (all-records (files-in n ws)) ≡ each addresses-in (take (2 * n) ws)
 unfolding files-in
 addresses-of-files zero ws h = refl
 addresses-of-files (suc n) [] h = absurd (omega (arith, h))
@@ -125,6 +124,6 @@ addresses-of-files (suc n) (x ∷ y ∷ ws) h =
     let rs : List Record = all-records (files-in n ws) in
     map-append a (records-in x ++ records-in y) rs
     ∙ ap (λ l. l ++ map a rs) (map-append a (records-in x) (records-in y))
-    ∙ append-assoc (addresses-of x) (addresses-of y) (map a rs)
-    ∙ ap (λ l. addresses-of x ++ (addresses-of y ++ l)) (addresses-of-files n ws (omega (arith, h)))
-    ∙ ap (λ k. each addresses-of (take k (x ∷ y ∷ ws))) (sym (twice n))
+    ∙ append-assoc (addresses-in x) (addresses-in y) (map a rs)
+    ∙ ap (λ l. addresses-in x ++ (addresses-in y ++ l)) (addresses-of-files n ws (omega (arith, h)))
+    ∙ ap (λ k. each addresses-in (take k (x ∷ y ∷ ws))) (sym (twice n))

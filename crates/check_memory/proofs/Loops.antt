@@ -1,6 +1,6 @@
 -- The turns of the loops over the strings of expressions and files.
 use mathlib.Core.Path.{_≡_, refl, sym, ap, _∙_, subst}
-use mathlib.Core.Bool.{Bool, true, false, _&&_, and-true}
+use mathlib.Core.Bool.{Bool, true, false, _&&_, and-true, and-false}
 use mathlib.Core.List.{List, [], _∷_, _++_, append-nil, append-assoc}
 use Prim.Native.Nat.{ℕ, zero, suc, _+_, _*_, _-_, _≤_, _<_}
 use native.Mathlib.Nat.{not-suc-le-zero, le-of-suc-le-suc}
@@ -11,13 +11,13 @@ use lib.ListN.{length, getD, take, drop, length-drop}
 use lib.Seq.{getD-take, getD-drop, take-all, drop-cons, drop-length}
 use borrow.Author.Tests.{le-leb, lt-leb}
 use Rattle.cells.specs.Cells.{Number}
-use Rattle.check_addresses.specs.Collected.{addresses-of, Collectable, Collected}
+use Rattle.check_addresses.specs.Collected.{Collectable, Collected}
 use Rattle.language.specs.Limits as limit
 use Rattle.language.specs.Values.{chars}
 use Rattle.layout.specs.Bounds.{Each, WholeComponents, WholeRecords}
 use Rattle.layout.specs.CellLaws.{each-in}
 use Rattle.layout.specs.Cells.{three-at}
-use Rattle.layout.specs.Components.{components-in, records-in}
+use Rattle.layout.specs.Components.{components-in, records-in, addresses-in}
 use Rattle.lists.specs.ListLaws.{total-split}
 use Rattle.lists.specs.Lists.{total, all, each}
 use Rattle.machine.specs.Arguments.{everything}
@@ -34,10 +34,6 @@ use Rattle.check_memory.specs.Reads.{Ended, Readable, Named, StringLent,
 use Rattle.check_memory.proofs.Readings.{length-expressions, length-halves}
 
 -- ---- the cells
-
-and-false : (a : Bool) → a && false ≡ false
-and-false true = refl
-and-false false = refl
 
 pub laid-beyond : {m : List ℕ} {e : ℕ} → Ended m e → 40960 < e → false ≡ laid m
 unfolding laid
@@ -231,7 +227,7 @@ each-next f (x ∷ xs) (suc i) h =
 pub record Gathering (m d e : List ℕ) (n i : ℕ) : Type 0 where
   pub upto : i ≤ 64
   pub long : length e ≡ length d
-  pub is : take n e ≡ each addresses-of (take i (halves m))
+  pub is : take n e ≡ each addresses-in (take i (halves m))
   pub count : n ≡ total (λ v. length (records-in v)) (take i (halves m))
 
 pub gathering-none : (m d : List ℕ) → Gathering m d d 0 0
@@ -255,13 +251,13 @@ module _ {m st d : List ℕ} (c : Comparable m st (length d)) {e : List ℕ} {n 
     gathering-next f l = record {
       upto = omega arith;
       long = l ∙ g .long;
-      is = f .is ∙ ap (λ u. u ++ addresses-of r) (g .is) ∙ ap (λ v. each addresses-of (take i (halves m)) ++ addresses-of v) (lent-half h q) ∙ sym (each-next addresses-of (halves m) i (omega (arith, length-halves m)));
+      is = f .is ∙ ap (λ u. u ++ addresses-in r) (g .is) ∙ ap (λ v. each addresses-in (take i (halves m)) ++ addresses-in v) (lent-half h q) ∙ sym (each-next addresses-in (halves m) i (omega (arith, length-halves m)));
       count = f .count ∙ sym more;
     }
 
   pub gathered : 64 ≤ i → {t : Bool} → t ≡ different eqb (take n e) → t ≡ distinct m
   unfolding distinct
-  gathered h k = k ∙ ap (different eqb) (g .is ∙ ap (each addresses-of) (take-all i (halves m) (omega (arith, length-halves m))))
+  gathered h k = k ∙ ap (different eqb) (g .is ∙ ap (each addresses-in) (take-all i (halves m) (omega (arith, length-halves m))))
 
 -- ---- totals
 

@@ -7,19 +7,18 @@ use lib.Dec.{T}
 use lib.ListN.{length, getD, drop, length-drop, length-map, take-append-drop, drop-of-length-le}
 use lib.Seq.{length-take-le, drop-drop, drop-cons}
 use Rattle.characters.specs.Characters.{known}
-use Rattle.check_addresses.specs.Collected.{addresses-of}
 use Rattle.language.specs.Values.{Component, Record, Store, State}
 use Rattle.layout.specs.Cells.{two, three-at}
-use Rattle.layout.specs.Components.{components-bytes, components-in, records-in}
+use Rattle.layout.specs.Components.{components-bytes, components-in, records-in, addresses-in}
 use Rattle.layout.specs.Memory.{file-strings, strings, threes-in, files-in, twos-in, state-by, state-in}
-use Rattle.layout.specs.Strings.{lengths-in, strings-in}
 use Rattle.lists.specs.ListLaws.{total-map, all-total, none-fail}
 use Rattle.lists.specs.Lists.{total, all, each}
 use Rattle.machine.specs.Arguments.{records}
 use Rattle.machine.specs.Changes.{held, recorded}
 use Rattle.machine.specs.WellFormed.{strange, faults, record-faults, overrun, store-faults, addresses}
 use Rattle.check_memory.specs.Passes.{all-strings, expressions, halves, record-count}
-use Rattle.check_memory.proofs.Cells.{threes-at, length-lengths-in, length-cut-by}
+use Rattle.layout.specs.StringLaws.{length-strings-in}
+use Rattle.check_memory.proofs.Cells.{threes-at}
 use Rattle.check_memory.proofs.Files.{again, again-records, length-files-in, strings-of-files, total-of-files, addresses-of-files}
 
 map-again : (vs : List (List ℕ)) → map components-bytes (map components-in vs) ≡ map again vs
@@ -55,8 +54,7 @@ module _ (m : List ℕ) where
   stack-string = getD vs 96 []
 
   pub length-strings : length vs ≡ 99
-  unfolding strings-in
-  length-strings = length-cut-by (lengths-in 99 (drop 24 m)) (drop 198 (drop 24 m)) ∙ length-lengths-in 99 (drop 24 m)
+  length-strings = length-strings-in (drop 24 m)
 
   length-rest : length (drop 32 vs) ≡ 67
   length-rest = length-drop 32 vs ∙ rw length-strings
@@ -121,7 +119,7 @@ module _ (m : List ℕ) where
   unfolding state-in state-by recorded
   recorded-is = total-of-files (λ r. 1) 32 (drop 32 vs) (omega (arith, length-rest)) ∙ counts (halves m)
 
-  pub addresses-is : addresses st ≡ each addresses-of (halves m)
+  pub addresses-is : addresses st ≡ each addresses-in (halves m)
   unfolding state-in state-by
   addresses-is = addresses-of-files 32 (drop 32 vs) (omega (arith, length-rest))
 

@@ -15,7 +15,7 @@ use Rattle.layout.specs.Strings.{lengths-in, cut-by, strings-in}
 use Rattle.lists.specs.Lists.{all}
 use Rattle.check_memory.specs.Passes.{sizes, sum}
 use Rattle.check_memory.specs.Reads.{Started, Named, StringLent}
-use Rattle.check_memory.proofs.Cells.{length-lengths-in}
+use Rattle.layout.specs.StringLaws.{length-lengths-in}
 
 -- a test of all cells, from front to back
 pub all-next : (p : ℕ → Bool) (s : List ℕ) (i : ℕ) (good : Bool) → i < length s → (good && p (getD s i 0)) && all p (drop (i + 1) s) ≡ good && all p (drop i s)

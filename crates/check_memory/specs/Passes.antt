@@ -5,13 +5,12 @@ use Prim.Native.Nat.{ℕ, _+_, _%_}
 use lib.Dec.{leb, ltb, eqb}
 use lib.ListN.{length, getD, take, drop}
 use Rattle.characters.specs.Characters.{known}
-use Rattle.check_addresses.specs.Collected.{addresses-of}
 use Rattle.check_strings.specs.Sound.{sound-components, sound-records}
 use Rattle.language.specs.Limits as limit
 use Rattle.language.specs.Program.{Program}
 use Rattle.language.specs.Values.{chars}
 use Rattle.layout.specs.Cells.{three-at}
-use Rattle.layout.specs.Components.{components-in, records-in}
+use Rattle.layout.specs.Components.{components-in, records-in, addresses-in}
 use Rattle.layout.specs.Memory.{twos-in}
 use Rattle.layout.specs.Strings.{lengths-in, strings-in}
 use Rattle.lists.specs.Lists.{total, all, each}
@@ -79,7 +78,7 @@ counted m =
 -- ---- the addresses, and the rest
 
 unfoldable pub distinct : List ℕ → Bool
-distinct m = different eqb (each addresses-of (halves m))
+distinct m = different eqb (each addresses-in (halves m))
 
 abbrev pub sound-stack : Program → List ℕ → Bool
 sound-stack p v = eqb (length v % 2) 0 && leb (length v) 128 && all (good-return p) (twos-in v)

@@ -13,12 +13,12 @@ use Rattle.language.specs.Values.{Record}
 use Rattle.layout.specs.Bounds.{Each, RecordOk, WholeComponents, WholeRecords}
 use Rattle.layout.specs.CellLaws.{two-back}
 use Rattle.layout.specs.Cells.{two, two-at, three, three-at}
-use Rattle.layout.specs.Components.{components-bytes, record-bytes, records-bytes, components-in, record-in, records-from, records-in}
+use Rattle.layout.specs.Components.{components-bytes, record-bytes, records-bytes, components-in, record-in, records-from, records-in, addresses-in}
 use Rattle.layout.specs.ComponentLaws.{next-component, components-none, record-length, records-front, next-record}
 use Rattle.lists.specs.ListLaws.{T-left, T-right, T-both, sameBytes-eq, sameBytes-refl, all-head, all-tail, all-cons}
 use Rattle.lists.specs.Lists.{total, all, sameBytes}
 use Rattle.machine.specs.WellFormed.{void, faults, record-faults}
-use Rattle.check_strings.specs.Sound.{Bytes, sound-components, given, addresses-in, sound-records, sound-record}
+use Rattle.check_strings.specs.Sound.{Bytes, sound-components, given, sound-records, sound-record}
 use Rattle.check_strings.proofs.ComponentWalks.{same-test, bytes-left, bytes-right, bytes-drop, bytes-take, three-cells, Parts, parts-open, parts-close, parts-whole, oks-of}
 
 -- ---- numbers in cells

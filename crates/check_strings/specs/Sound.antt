@@ -1,13 +1,13 @@
 -- Cells of a string that question 63 passes: whole components or records without faults, where l is the last address given.
 use mathlib.Core.Path.{_≡_}
 use mathlib.Core.Bool.{Bool, cond, _&&_, _||_}
-use mathlib.Core.List.{List, map}
+use mathlib.Core.List.{List}
 use Prim.Native.Nat.{ℕ, _+_, _≤_, _<_}
 use lib.Dec.{leb, ltb, eqb}
 use lib.ListN.{length, getD, take, drop}
 use Rattle.characters.specs.Characters.{known}
 use Rattle.layout.specs.Cells.{cell, two-at, three-at}
-use Rattle.layout.specs.Components.{components-bytes, records-bytes, component-size, components-in, records-in}
+use Rattle.layout.specs.Components.{components-bytes, records-bytes, component-size, components-in, records-in, addresses-in}
 use Rattle.lists.specs.Lists.{total, all, sameBytes}
 use Rattle.machine.specs.WellFormed.{faults, record-faults}
 
@@ -40,9 +40,6 @@ pub record FrontSize (l : ℕ) (b : List ℕ) (r : ℕ) : Type 0 where
 -- an address that was given
 abbrev pub given : ℕ → ℕ → Bool
 given l n = ltb 0 n && leb n l
-
-abbrev pub addresses-in : List ℕ → List ℕ
-addresses-in b = map (λ r. r .addr) (records-in b)
 
 unfoldable pub sound-records : ℕ → List ℕ → Bool
 sound-records l b =

@@ -1,5 +1,5 @@
 -- What the loops that write components have written so far.
-use mathlib.Core.Path.{_≡_, refl, sym, ap, _∙_}
+use mathlib.Core.Path.{_≡_, refl, ap, _∙_}
 use mathlib.Core.List.{List, [], _∷_, _++_, map, append-assoc, append-nil, reverse, reverseAux}
 use Prim.Native.Nat.{ℕ, _+_, _-_, _*_, _≤_, _<_}
 use native.Mathlib.Nat.{sub-zero}
@@ -7,7 +7,7 @@ use native.Mathlib.Numerals.{add-one}
 use native.Mathlib.Omega.{arith}
 use lib.ListN.{length, getD, take, drop, set, length-append, drop-of-length-le}
 use lib.Seq.{length-take-le, drop-at, drop-cons, set-split}
-use Rattle.cells.proofs.Laws.{length-pasted, pasted-none, pasted-pasted, pasted-front, set-two}
+use Rattle.cells.proofs.Laws.{length-pasted, pasted-none, pasted-pasted, set-two}
 use Rattle.cells.specs.Cells.{pasted}
 use Rattle.language.specs.Values.{Component, chars}
 use Rattle.layout.specs.Bounds.{WholeComponents}
@@ -181,10 +181,6 @@ pub behind-two : (d : List ℕ) (at x y : ℕ) (s : List ℕ) → at + 2 + lengt
 behind-two d at x y s h = rw (set-two d at x y (omega arith)) (pasted-pasted d at (x ∷ y ∷ []) s (omega arith))
 
 -- ---- what a caller finds
-
--- the list in front
-pub written-front : {d l e : List ℕ} {r : ℕ} → Written d l e r → take r e ≡ l
-written-front {d} {l} {e} {r} w = rw (w .is) (pasted-front d l r (sym (w .count)))
 
 -- how many characters words have
 pub spelled-long : (xs : List Component) → length (spelled xs) ≡ total (λ x. length (chars x)) xs

@@ -110,7 +110,3 @@ module _ {l : List ℕ} (w : WholeComponents l) where
           let x : Component = component-in l in
           let long : length (component-bytes x) ≡ component-size (cell l 0) = sym (ap length (m .first)) ∙ length-take-le (component-size (cell l 0)) l (m .fits) in
           rw (ne-eqb (suc n) 0 (λ q. omega (arith, q)), m .is, components-bytes-one x) (sym long)
-
-  -- n is what the code was told of its size
-  pub first-cut : {n : ℕ} → Number (first-size l) 257 n → Cut l (components-in l) 1 n
-  first-cut {n} q = cut w 1 n (q .is ∙ first-is)

@@ -1,16 +1,14 @@
 -- The working memory after two files are exchanged.
 use mathlib.Core.Path.{_≡_, sym, _∙_}
 use mathlib.Core.List.{List, []}
-use Prim.Native.Nat.{ℕ, pred, _≤_, _<_}
+use Prim.Native.Nat.{ℕ, _≤_, _<_}
 use native.Mathlib.Omega.{arith}
 use lib.ListN.{length, getD, set, length-set}
 use lib.Seq.{getD-set-other, set-comm}
 use Rattle.lists.specs.Lists.{total}
 use Rattle.language.specs.Limits as limit
-use Rattle.language.specs.Letters.Var.{file}
-use Rattle.language.specs.Program.{Arg, Program}
-use Rattle.language.specs.Values.{Component, Record, File, Store, State, Inputs, chars, empty-file}
-use Rattle.machine.specs.Arguments.{place, records}
+use Rattle.language.specs.Values.{Component, Record, File, State, chars, empty-file}
+use Rattle.machine.specs.Arguments.{records}
 use Rattle.machine.specs.Changes.{with-files, put-file, held, recorded}
 use Rattle.machine.specs.Effects as machine
 use Rattle.layout.specs.Bounds.{FileOk, Fine}
@@ -116,9 +114,3 @@ module _ {p e n : List ℕ} {i j sc hd : ℕ} (pre : FilesExchangeable p e n i j
         numbers = h .numbers ∙ sym (scalars-both s (h .fine) i j (pre .source) (pre .target));
         fine = fine-both s (h .fine) i j (pre .source) (pre .target);
       }
-
--- ZAMIEN of two files
-pub exchanged-files-as : (p : Program) (ins : Inputs) (s : Store) (a b : Arg) (i j : ℕ) → pred (place a) ≡ i → pred (place b) ≡ j
-    → machine.exchanged p ins s file a b ≡ files-exchanged i j s
-unfolding machine.exchanged files-exchanged put-file
-exchanged-files-as p ins s a b i j q r = rw (q, r)

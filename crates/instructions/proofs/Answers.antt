@@ -2,9 +2,9 @@
 use mathlib.Core.Path.{_≡_, refl, sym, ap, _∙_, subst}
 use mathlib.Core.Bool.{Bool, true, false, cond, _&&_}
 use mathlib.Core.List.{List, [], _∷_, _++_, map}
-use Prim.Native.Nat.{ℕ, _≤_, _<_}
+use Prim.Native.Nat.{ℕ, _≤_}
 use native.Mathlib.Omega.{arith}
-use lib.Dec.{T, leb, ltb, ltb→lt}
+use lib.Dec.{T, ltb, ltb→lt}
 use lib.ListN.{length}
 use borrow.Author.Tests.{le-leb}
 use Rattle.lists.specs.Lists.{all, headOr, ifAny}
@@ -69,9 +69,6 @@ module _ (r : Row) (s : State) where
 
   pub answer-decided : answer-of r s ≡ decided (answered r s) numbers
   answer-decided = decided-is (answered r s) numbers
-
-  pub answer-yes : Each (λ n. answered r s n ≡ true) numbers → answer-of r s ≡ 0
-  answer-yes h = ap (headOr 0) (none-no (answered r s) numbers h)
 
   none-asked : answer-of r s ≡ 0 → refusals (asked-of r s) ≡ []
   none-asked z = none-refused (answered r s) numbers tt z
@@ -162,12 +159,6 @@ module _ {p e n : List ℕ} (h : Stands p e n) (q : Asks) (t : Store) (k : Quiet
       let s = state-at p e n in
       does-stop h (q, t, on)
       (answer-quiet q t s k (h .fine .stack-most) la ∙ closed-stop (q 52) (q 53) (q 54) (fits t) (λ y. z (w ∙ y)) ∙ sym w) z
-
-  pub quiet-full : t .last ≤ limit.addresses → stop-of q ≡ 0 → fits t ≡ false → Does p e n 59 p e n (q, t, on)
-  quiet-full la w f =
-      let s = state-at p e n in
-      let a : answer-of (q, t, on) s ≡ cond (fits t) 0 59 = answer-quiet q t s k (h .fine .stack-most) la ∙ closed-on (q 52) (q 53) (q 54) (fits t) w in
-      does-stop h (q, t, on) (a ∙ rw f refl) (λ z. omega (arith, z))
 
   pub quiet-done : {p′ e′ n′ : List ℕ} → stop-of q ≡ 0 → HoldsState p′ e′ n′ (with-store t (state-at p e n)) → Does p e n 0 p′ e′ n′ (q, t, on)
   quiet-done w g =

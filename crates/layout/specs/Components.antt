@@ -3,7 +3,7 @@
 -- that the last record of a string is found from its end. Equal components have equal bytes, and the first cell tells how many cells a component
 -- takes.
 use mathlib.Core.Bool.{cond}
-use mathlib.Core.List.{List, [], _∷_, _++_}
+use mathlib.Core.List.{List, [], _∷_, _++_, map}
 use Prim.Native.Nat.{ℕ, zero, suc, _+_}
 use lib.Dec.{eqb}
 use lib.ListN.{length, take, drop}
@@ -58,3 +58,6 @@ records-from (suc n) (x ∷ l) = record-in (x ∷ l) ∷ records-from n (drop (7
 
 unfoldable pub records-in : List ℕ → List Record
 records-in l = records-from (length l) l
+
+abbrev pub addresses-in : List ℕ → List ℕ
+addresses-in l = map (λ r. r .addr) (records-in l)

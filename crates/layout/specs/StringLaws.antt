@@ -73,6 +73,21 @@ lengths-high (v ∷ vs) (suc i) h = rw (twice-one i) (lengths-high vs i (le-of-s
 
 -- ---- reading back
 
+pub length-lengths-in : (n : ℕ) (l : List ℕ) → length (lengths-in n l) ≡ n
+unfolding lengths-in
+length-lengths-in zero l = refl
+length-lengths-in (suc n) l = ap suc (length-lengths-in n (drop 2 l))
+
+length-cut-by : (ns l : List ℕ) → length (cut-by ns l) ≡ length ns
+unfolding cut-by
+length-cut-by [] l = refl
+length-cut-by (n ∷ ns) l = ap suc (length-cut-by ns (drop n l))
+
+-- the strings of any cells are 99
+pub length-strings-in : (m : List ℕ) → length (strings-in m) ≡ 99
+unfolding strings-in
+length-strings-in m = length-cut-by (lengths-in 99 m) (drop 198 m) ∙ length-lengths-in 99 m
+
 pub lengths-in-lengths : (vs : List (List ℕ)) (t : List ℕ) → lengths-in (length vs) (lengths vs ++ t) ≡ map length vs
 unfolding lengths lengths-in
 lengths-in-lengths [] t = refl

@@ -1,6 +1,6 @@
 -- Laws of the tests and the sums of Lists.antt. `total-set` is the one fact over the index: every limit and every invariant rests on it.
 use mathlib.Core.Path.{_≡_, refl, ap, sym, _∙_, subst}
-use mathlib.Core.Bool.{Bool, true, false, cond, _&&_, _||_}
+use mathlib.Core.Bool.{Bool, true, false, cond, _&&_, _||_, and-false}
 use mathlib.Core.List.{List, [], _∷_, _++_, map, reverse, reverseAux}
 use Prim.Native.Nat.{ℕ, zero, suc, _+_, _≤_, _<_}
 use native.Mathlib.Nat.{zero-add, not-suc-le-zero, le-of-suc-le-suc}
@@ -10,7 +10,7 @@ use lib.Dec.{T, leb, eqb, leb→le, eqb→eq, eqb-refl}
 use borrow.Author.Tests.{eqb-true, lt-leb}
 use lib.ListN.{length, getD, take, drop, set, List·getD-eq-default}
 use lib.Seq.{set-out}
-use Rattle.lists.specs.Lists.{total, all, any, ahead, keep, every, sameList, sameBytes, among}
+use Rattle.lists.specs.Lists.{total, all, ahead, keep, every, sameList, sameBytes, among}
 
 -- Tests
 
@@ -94,6 +94,12 @@ pub sameBytes-refl : (w : List ℕ) → T (sameBytes w w)
 sameBytes-refl [] = tt
 sameBytes-refl (x ∷ w) = T-both (eqb x x) (sameBytes w w) (eqb-refl x) (sameBytes-refl w)
 
+pub other-length : (v w : List ℕ) → (length v ≡ length w → ⊥) → sameBytes v w ≡ false
+other-length [] [] h = absurd (h refl)
+other-length [] (y ∷ w) h = refl
+other-length (x ∷ v) [] h = refl
+other-length (x ∷ v) (y ∷ w) h = rw (other-length v w (λ e. h (ap suc e))) (and-false (eqb x y))
+
 -- Sums
 
 module _ {X : Type 0} (f : X → ℕ) where
@@ -112,10 +118,6 @@ module _ {X : Type 0} (f : X → ℕ) where
   total-split zero xs = omega arith
   total-split (suc k) [] = refl
   total-split (suc k) (x ∷ xs) = omega (arith, total-split k xs)
-
-  pub total-zero : ((x : X) → f x ≡ 0) → (xs : List X) → total f xs ≡ 0
-  total-zero h [] = refl
-  total-zero h (x ∷ xs) = omega (arith, h x, total-zero h xs)
 
   -- the one fact over the index: a sum after an element is replaced
   pub total-set : (d : X) (xs : List X) (i : ℕ) (y : X) → i < length xs → total f (set xs i y) + f (getD xs i d) ≡ total f xs + f y

@@ -21,7 +21,7 @@ use Rattle.machine.specs.Addresses.{times}
 use Rattle.machine.specs.Keeps.{Sound, Keeps}
 use Rattle.machine.specs.Facts.{ProgramFacts, StoreFacts, StateFacts, Allowed}
 use Rattle.machine.specs.RunLaws.{run-lawful}
-use Rattle.machine.specs.KeepLaws.{keeps-refl, keeps-trans, keeps-sound, keeps-deleted, sound-once}
+use Rattle.machine.specs.KeepLaws.{keeps-sound, keeps-deleted, sound-once}
 use Rattle.machine.specs.WellFormedLaws.{open-instr, open-program, open-inputs, open-store, shut-store, open-state, shut-state}
 use Rattle.machine.specs.EffectLaws.{row-keeps}
 use Rattle.machine.specs.ControlLaws.{row-goes, gone-in, gone-returns}
@@ -154,10 +154,6 @@ module _ (p : Program) (ins : Inputs) where
     pub goes-good : {n : ℕ} {s t : State} → Goes (step p ins) n s t → T (good-state p ins s) → T (good-state p ins t)
     goes-good here g = g
     goes-good (on {s = s} e w) g = goes-good w (step-good s g e)
-
-    pub goes-keeps : {n : ℕ} {s t : State} → Goes (step p ins) n s t → T (good-state p ins s) → Keeps ins (s .store) (t .store)
-    goes-keeps (here {s = s}) g = keeps-refl ins (s .store)
-    goes-keeps (on {s = s} e w) g = keeps-trans ins (step-keeps s g e) (goes-keeps w (step-good s g e))
 
     pub run-good : (b : ℕ) (s : State) → T (good-state p ins s) → T (good-state p ins (run (step p ins) b s .state))
     run-good b s g = goes-good (run-lawful (step p ins) b s .goes) g

@@ -3,5 +3,4 @@ pub mod Classes
 pub mod Counting
 pub mod Equals
 pub mod OnChars
-pub mod OnParts
 pub mod Firsts

@@ -8,9 +8,9 @@ use native.Mathlib.Omega.{arith}
 use lib.ListN.{length, getD, take, drop, length-take, length-drop}
 use lib.Seq.{length-take-le, getD-take, drop-cons}
 use Rattle.lists.specs.Lists.{any, sameBytes}
+use Rattle.lists.specs.ListLaws.{other-length}
 use Rattle.drafts.specs.Marks.{length-by, word-by}
 use Rattle.lexer.specs.Tokens.{part}
-use Rattle.spelling.proofs.Chars.{other-length}
 use Rattle.names.specs.Names.{Fitting, Sought, names-of}
 
 module _ {s : List ℕ} {m at len : ℕ} (pre : Fitting s m at len) where

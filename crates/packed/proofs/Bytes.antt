@@ -12,6 +12,7 @@ use lib.ListN.{length, getD, take, drop, set, take-append-drop, drop-of-length-l
 use lib.Seq.{take-all, take-at, take-add, drop-at, drop-nil, drop-drop, drop-cons, getD-take, getD-drop, take-append-le, length-take-le, sets-eq}
 use borrow.Author.Tests.{eq-eqb, ne-eqb}
 use Rattle.lists.specs.Lists.{sameBytes}
+use Rattle.lists.specs.ListLaws.{other-length}
 use Rattle.layout.specs.Cells.{four, unfours}
 use Rattle.layout.specs.Table.{chars-in}
 use Rattle.packed.specs.Packed.{table-of, Copied}
@@ -191,16 +192,6 @@ take-min n l = go (decLe n (length l))
     go : Dec (n ≤ length l) → take n l ≡ take (min n (length l)) l
     go (yes h) = let e : n ≡ min n (length l) = omega arith in ap (λ (k : ℕ). take k l) e
     go (no h) = take-all n l (omega arith) ∙ sym (take-all (min n (length l)) l (omega arith))
-
-pub other-length : (v w : List ℕ) → (length v ≡ length w → ⊥) → sameBytes v w ≡ false
-other-length [] [] h = absurd (h refl)
-other-length [] (y ∷ w) h = refl
-other-length (x ∷ v) [] h = refl
-other-length (x ∷ v) (y ∷ w) h = go (eqb x y) (other-length v w (λ e. h (ap suc e)))
-  where
-    go : (b : Bool) → sameBytes v w ≡ false → (b && sameBytes v w) ≡ false
-    go true e = e
-    go false e = refl
 
 module _ (c : List ℕ) (at : ℕ) (inside : at + 15 ≤ 8192) (long : 8192 ≤ length c) where
   pub sixty : length (unfours (fifteen c at)) ≡ 60

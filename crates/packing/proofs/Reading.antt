@@ -1,51 +1,24 @@
--- The laws of reading the strings at rest, and that packing and unpacking are each other's way back.
+-- The laws of reading the strings at rest: what `pack` writes, `unpack` reads.
 use mathlib.Core.Path.{_≡_, refl, sym, ap, _∙_}
-use mathlib.Core.List.{List, [], _∷_, _++_, append-assoc}
-use Prim.Native.Nat.{ℕ, zero, suc, _+_, _-_, _*_, _≤_, _<_}
+use mathlib.Core.List.{List, [], _++_, append-assoc}
+use Prim.Native.Nat.{ℕ, suc, _+_, _-_, _*_, _≤_, _<_}
 use native.Mathlib.Omega.{arith}
 use lib.ListN.{length, take, drop, getD, replicate, List·getD-append}
 use lib.Seq.{drop-at, drop-drop, take-append-seam, drop-append-seam}
 use Rattle.lists.specs.Lists.{joined}
 use Rattle.layout.specs.Cells.{two-at}
 use Rattle.layout.specs.CellLaws.{two-back}
-use Rattle.layout.specs.Strings.{lengths, used, string-cells, lengths-in, cut-by, strings-in}
-use Rattle.layout.specs.StringLaws.{joined-split, length-lengths, lengths-low, lengths-high, strings-back, length-string-cells}
+use Rattle.layout.specs.Strings.{lengths, used, string-cells, strings-in}
+use Rattle.layout.specs.StringLaws.{joined-split, length-lengths, lengths-low, lengths-high, strings-back, length-strings-in, length-string-cells}
 use Rattle.cells.specs.Cells.{Number}
-use Rattle.gaps.specs.Pool.{abs, string, offset, Holds}
+use Rattle.gaps.specs.Pool.{string, offset, Holds}
 use Rattle.gaps.specs.Gaps.{LaidOne}
 use Rattle.gaps.proofs.Index.{offset-zero, offset-next, offset-within}
 use Rattle.gaps.proofs.Spread.{Laid, laid-none, laid-more, laid-all}
-use Rattle.packing.specs.Packing.{Packable, Packed, Unpackable}
-
--- the strings of any cells are 99
-
-length-lengths-in : (n : ℕ) (l : List ℕ) → length (lengths-in n l) ≡ n
-unfolding lengths-in
-length-lengths-in zero l = refl
-length-lengths-in (suc n) l = ap suc (length-lengths-in n (drop 2 l))
-
-length-cut-by : (ns l : List ℕ) → length (cut-by ns l) ≡ length ns
-unfolding cut-by
-length-cut-by [] l = refl
-length-cut-by (n ∷ ns) l = ap suc (length-cut-by ns (drop n l))
-
-pub length-strings-in : (m : List ℕ) → length (strings-in m) ≡ 99
-unfolding strings-in
-length-strings-in m = length-cut-by (lengths-in 99 m) (drop 198 m) ∙ length-lengths-in 99 m
-
--- what `pack` writes, `unpack` reads, and the other way round
+use Rattle.packing.specs.Packing.{Packed, Unpackable}
 
 pub packed-cells : (s : List (List ℕ)) → length s ≡ 99 → used s ≤ 32768 → Packed (string-cells s)
 packed-cells s n u = record { is = ap string-cells (sym (strings-back s n)); fits = rw (strings-back s n) u }
-
-pub packed-again : {m m′ p e : List ℕ} → Packed m → Holds p e (strings-in m) → m′ ≡ string-cells (abs p e) → m′ ≡ m
-packed-again h k l = l ∙ ap string-cells (k .is) ∙ sym (h .is)
-
-pub repackable : {m p e : List ℕ} {n : ℕ} → Packed m → Holds p e (strings-in m) → n ≡ length m → Packable p e n
-repackable {m} h k l = record {
-  fine = k .fine;
-  long = l ∙ ap length (h .is) ∙ length-string-cells (strings-in m) (length-strings-in m) (omega (arith, h .fits));
-}
 
 -- where each string lies
 

@@ -5,5 +5,4 @@ pub mod Lasts
 pub mod Stamps
 pub mod Contents
 pub mod Walking
-pub mod Pointers
 pub mod Arguments

@@ -163,14 +163,7 @@ pub same-empty : (zs : List ℕ) → length zs ≡ 0 → true ≡ sameBytes [] z
 same-empty [] h = refl
 same-empty (z ∷ zs) h = absurd (omega arith)
 
--- rows of different lengths, and the answer of a comparison
-pub other-length : (xs ys : List ℕ) → (length xs ≡ length ys → ⊥) → sameBytes xs ys ≡ false
-other-length xs ys h = go (sameBytes xs ys) refl
-  where
-    go : (t : Bool) → sameBytes xs ys ≡ t → sameBytes xs ys ≡ false
-    go true e = absurd (h (ap length (sameBytes-eq xs ys (subst T (sym e) tt))))
-    go false e = e
-
+-- the answer of a comparison
 pub same-is : (xs ys : List ℕ) (r : Bool) → (r ≡ true → xs ≡ ys) → (xs ≡ ys → r ≡ true) → r ≡ sameBytes xs ys
 same-is xs ys r f g = go r (sameBytes xs ys) refl refl
   where

@@ -15,7 +15,7 @@ use Rattle.language.specs.Program.{Arg}
 use Rattle.language.specs.Values.{Component, Record, File, Store, State, chars, empty-file}
 use Rattle.language.specs.Values.Component.{word, address}
 use Rattle.machine.specs.Arguments.{place, use-by, at, expr, file-of, records}
-use Rattle.machine.specs.Changes.{with-exprs, with-files, with-plus, with-outputs, put, put-expr, minus-unless, placed, into, front, printed, stamped, stored, held, recorded, fits}
+use Rattle.machine.specs.Changes.{with-exprs, with-files, with-plus, with-outputs, put, put-expr, minus-unless, placed, into, printed, stamped, stored, held, recorded, fits}
 use Rattle.machine.specs.ChangeLaws.{placed-total}
 use Rattle.machine.specs.SumLaws.{held-put-expr, recorded-put-expr, outputs-put}
 use Rattle.layout.specs.Bounds.{Each, Ok, RecordOk, FileOk, Fine}
@@ -145,15 +145,6 @@ module _ (a : Arg) (s : Store) (l : pred (place a) < length (s .exprs)) (xs : Li
         → fits (into a xs s) ≡ (leb (components-held s + length xs) limit.components && leb (chars-held s + char-count xs) limit.characters)
     fits-into-ok k = let q : all short-word xs ≡ true = all-total short-word xs ∙ rw (oks-short xs k) in
         fits-into ∙ rw q (and-true (leb (components-held s + length xs) limit.components && leb (chars-held s + char-count xs) limit.characters))
-
-  -- in front in their order
-  held-front : (g : Component → ℕ) → held g (front a xs s) ≡ held g (into a xs s)
-  unfolding front
-  held-front g = omega (arith, held-put-expr a s g (xs ++ expr s a) l, held-into g, total-append g xs (expr s a))
-
-  pub fits-front : fits (front a xs s) ≡ fits (into a xs s)
-  unfolding fits front into put-expr with-exprs recorded
-  fits-front = rw (held-front (λ x. 1), held-front (λ x. length (chars x)), held-front overlong)
 
 -- ---- characters written
 

@@ -1,6 +1,6 @@
--- Reading past elements, using, pointing and exchanging keep a store within the limits; the totals after components or records are removed.
+-- Reading past elements keeps a store within the limits; the totals after components or records are removed.
 use mathlib.Core.Path.{_≡_, refl, _∙_}
-use mathlib.Core.Bool.{Bool, true, false, cond, _&&_}
+use mathlib.Core.Bool.{Bool, true, false, cond}
 use mathlib.Core.List.{List, [], _++_}
 use Prim.Native.Nat.{ℕ, pred, _+_, _≤_, _<_}
 use native.Mathlib.Omega.{arith}
@@ -9,13 +9,12 @@ use lib.Seq.{length-take-le}
 use Rattle.language.specs.Letters.Letter.{E, P}
 use Rattle.language.specs.Letters.{Var}
 use Rattle.language.specs.Letters.Var.{expression, input, output, file}
-use Rattle.language.specs.Program.{Arg, Program}
-use Rattle.language.specs.Values.{Component, Record, File, Store, Inputs, chars, empty-file}
+use Rattle.language.specs.Program.{Arg}
+use Rattle.language.specs.Values.{Component, Record, File, Store, chars, empty-file}
 use Rattle.lists.specs.Lists.{total}
-use Rattle.lists.specs.ListLaws.{failing, total-append, total-split, total-put, total-exchange}
+use Rattle.lists.specs.ListLaws.{failing, total-append, total-split, total-put}
 use Rattle.machine.specs.Arguments.{place, use-by, expr, file-of, records}
-use Rattle.machine.specs.Changes.{with-exprs, with-files, with-plus, with-places, put, put-expr, put-file, minus-unless, past-file, past-by, past, used-by, used, records-to, pointed, held, recorded}
-use Rattle.machine.specs.Effects.{exchanged}
+use Rattle.machine.specs.Changes.{with-exprs, with-files, with-places, put, put-expr, put-file, past-file, past-by, past, held, recorded}
 use Rattle.machine.specs.SumLaws.{held-put-expr, recorded-put-expr, held-put-file, recorded-put-file}
 use Rattle.layout.specs.Memory.{components-held, chars-held}
 use Rattle.state.specs.Limited.{short-word, Limited}
@@ -100,15 +99,7 @@ module _ (s : Store) (h : Limited s) where
         outputs-short = h .outputs-short;
       }
 
-  pub limited-plus : (b : Bool) → Limited (with-plus b s)
-  unfolding with-plus
-  limited-plus b = limited-beside b (s .places)
-
-  pub limited-minus-unless : (b : Bool) → Limited (minus-unless b s)
-  unfolding minus-unless
-  limited-minus-unless b = limited-plus (b && s .plus)
-
-  -- ---- reading past, using, pointing, exchanging
+  -- ---- reading past
 
   limited-off : (b : Bool) (a : Arg) (k : ℕ) → Limited (cond b (put-expr a (drop k (expr s a)) s) s)
   limited-off true a k = limited-put-expr a (drop k (expr s a)) (λ g. omega (arith, total-split g k (expr s a)))
@@ -133,37 +124,6 @@ module _ (s : Store) (h : Limited s) where
   pub limited-past : (a : Arg) (k : ℕ) → Limited (past a k s)
   unfolding past
   limited-past a k = limited-past-by (use-by a .var) a k
-
-  limited-used-by : (v : Var) (a : Arg) → Limited (used-by v a s)
-  unfolding used-by
-  limited-used-by expression a = limited-past-by expression a 1
-  limited-used-by input a = h
-  limited-used-by output a = h
-  limited-used-by file a = h
-
-  pub limited-used : (a : Arg) → Limited (used a s)
-  unfolding used
-  limited-used a = limited-used-by (use-by a .var) a
-
-  pub limited-pointed : (a : Arg) (n : ℕ) → Limited (pointed a n s)
-  unfolding pointed
-  limited-pointed a n =
-      let rs = records (file-of s a) in
-      let k = records-to n rs in
-      limited-put-file a (take k rs) (drop k rs) (λ g. omega (arith, total-append g (take k rs) (drop k rs), total-split g k rs))
-
-  pub limited-exchanged : (p : Program) (ins : Inputs) (v : Var) (a b : Arg) → Limited (exchanged p ins s v a b)
-  unfolding exchanged put-expr put-file with-exprs with-files
-  limited-exchanged p ins expression a b =
-      limited-exprs (put (put (s .exprs) a (expr s b)) b (expr s a))
-      (length-set (put (s .exprs) a (expr s b)) (pred (place b)) (expr s a) ∙ length-set (s .exprs) (pred (place a)) (expr s b))
-      (λ g. total-exchange [] (total g) refl (s .exprs) (pred (place a)) (pred (place b)))
-  limited-exchanged p ins input a b = h
-  limited-exchanged p ins output a b = h
-  limited-exchanged p ins file a b =
-      limited-files (put (put (s .files) a (file-of s b)) b (file-of s a)) (s .last)
-      (length-set (put (s .files) a (file-of s b)) (pred (place b)) (file-of s a) ∙ length-set (s .files) (pred (place a)) (file-of s b))
-      (λ g. total-exchange empty-file (λ f. total g (records f)) refl (s .files) (pred (place a)) (pred (place b)))
 
 -- ---- the totals after components or records are removed, and after the pointer moves
 

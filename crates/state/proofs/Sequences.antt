@@ -1,7 +1,7 @@
 -- Lists: counting, one element or two replaced, turned round, and laid end to end in bytes.
 use mathlib.Core.Path.{_≡_, refl, sym, ap, _∙_}
 use mathlib.Core.Bool.{Bool, true, false}
-use mathlib.Core.List.{List, [], _∷_, _++_, reverse-reverse}
+use mathlib.Core.List.{List, [], _∷_, _++_, reverseAux, reverse-reverse}
 use mathlib.Core.Logic.{_⊎_, ⊎-elim}
 use Prim.Native.Nat.{ℕ, zero, suc, _≤_, _<_}
 use native.Mathlib.Omega.{arith}
@@ -9,8 +9,10 @@ use lib.ListN.{length, getD, take, drop, set, length-set, length-append, length-
 use lib.Seq.{take-append-seam, drop-append-seam, getD-set-other, set-getD}
 use Rattle.lists.specs.Lists.{total}
 use Rattle.lists.specs.ListLaws.{total-reverse, total-set}
+use Rattle.language.specs.Values.{Component}
 use Rattle.layout.specs.Bounds.{Each}
 use Rattle.layout.specs.CellLaws.{each-at}
+use Rattle.layout.specs.Components.{component-bytes, components-bytes}
 use Rattle.gaps.proofs.Parts.{same-or}
 use Rattle.state.specs.Working.{turned}
 
@@ -64,6 +66,14 @@ module _ {X : Type 0} where
   turned-total g true xs = total-reverse g xs
   turned-total g false xs = refl
 
+  each-turned-to : (P : X → Type 0) (xs ys : List X) → Each P xs → Each P ys → Each P (reverseAux xs ys)
+  each-turned-to P [] ys h k = k
+  each-turned-to P (x ∷ xs) ys h k = each-turned-to P xs (x ∷ ys) (h .1) (h .0, k)
+
+  pub each-turned : (P : X → Type 0) (b : Bool) (xs : List X) → Each P xs → Each P (turned b xs)
+  each-turned P true xs h = each-turned-to P xs [] h tt
+  each-turned P false xs h = h
+
   -- ---- laid end to end: the bytes of the first k elements, and of the rest
 
   module _ (bytes : List X → List ℕ) (join : (xs ys : List X) → bytes (xs ++ ys) ≡ bytes xs ++ bytes ys)
@@ -79,3 +89,13 @@ module _ {X : Type 0} where
 
     pub bytes-within : b ≤ length (bytes xs)
     bytes-within = omega (arith, ap length split, length-append (bytes (take k xs)) (bytes (drop k xs)))
+
+-- ---- the bytes of components turned round
+
+bytes-total : (xs : List Component) → length (components-bytes xs) ≡ total (λ x. length (component-bytes x)) xs
+unfolding components-bytes
+bytes-total [] = refl
+bytes-total (x ∷ xs) = simp length-append (omega (arith, bytes-total xs))
+
+pub bytes-turned : (b : Bool) (xs : List Component) → length (components-bytes (turned b xs)) ≡ length (components-bytes xs)
+bytes-turned b xs = bytes-total (turned b xs) ∙ turned-total (λ x. length (component-bytes x)) b xs ∙ sym (bytes-total xs)

@@ -92,16 +92,7 @@ module _ {p e n : List ℕ} {s : State} (h : HoldsState p e n s) where
         spare = x;
       }
 
--- a change of the store alone: what the memory then reads as, two changes in one, and a change by what it makes
-pub store-of : {p e n : List ℕ} (f : Store → Store) (s : State) → HoldsState p e n (on-store f s) → state-at p e n .store ≡ f (s .store)
-unfolding on-store
-store-of f s h = ap (λ (t : State). t .store) (state-of h)
-
-pub holds-as : {p e n : List ℕ} (f : Store → Store) (s : State) {t : Store} → HoldsState p e n (on-store f s) → f (s .store) ≡ t
-    → HoldsState p e n (on-store (λ x. t) s)
-unfolding on-store
-holds-as f s h q = rw q at h
-
+-- two changes of the store alone in one
 pub on-store-twice : (f g : Store → Store) (s : State) → on-store g (on-store f s) ≡ on-store (λ t. g (f t)) s
 unfolding on-store
 on-store-twice f g s = refl

@@ -1,6 +1,6 @@
 -- The laws of the store's edits: what pool and cells hold after one, and how many bytes the strings then have.
 use mathlib.Core.Path.{_≡_, refl, sym, ap, _∙_}
-use mathlib.Core.List.{List, [], _++_}
+use mathlib.Core.List.{List, _++_}
 use mathlib.Core.Logic.{inl, inr}
 use Prim.Native.Nat.{ℕ, _+_, _-_, _*_, _≤_, _<_}
 use native.Mathlib.Omega.{arith}
@@ -94,7 +94,3 @@ module _ (s : List (List ℕ)) (i : ℕ) (b : i < length s) where
   pub used-pushed-back : (v : List ℕ) → used (pushedBack i v s) ≡ used s + length v
   unfolding pushedBack
   used-pushed-back v = omega (arith, used-set s i (string i s ++ v) b, length-append (string i s) v)
-
-  pub used-emptied : used (emptied i s) + length (string i s) ≡ used s
-  unfolding emptied
-  used-emptied = omega (arith, used-set s i [] b)

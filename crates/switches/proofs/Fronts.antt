@@ -107,10 +107,6 @@ module _ {c : List ℕ} {k : ℕ} (g : GoodSwitch c k) where
         h ∙ ap (λ (y : List ℕ). met c y (entries-from t f m)) q ∙ ap (λ (y : ℕ). met c v (entries-from t y m)) (a .is)
         ∙ ap (λ (y : ℕ). met c v (entries-from t (switch-first t k) y)) (b .is) ∙ ap (λ (es : List Entry). met c v es) (sym (switch-entries c k g))
 
-  -- the place of an entry
-  pub entry-inside : {j m : ℕ} → Number (switch-size t k) 256 m → j < m → j < switch-size t k
-  entry-inside b h = omega (arith, b .is)
-
   pub many : length (entries-at c k) ≡ switch-size t k
   many = switch-length c k g
 

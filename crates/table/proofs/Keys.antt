@@ -10,13 +10,14 @@ use lib.ListN.{length, getD, take, drop, drop-of-length-le}
 use lib.Seq.{getD-take, getD-drop, drop-cons}
 use borrow.Author.Tests.{eq-eqb, ne-eqb, lt-ltb, le-ltb}
 use Rattle.lists.specs.Lists.{ahead, filled, sameBytes}
+use Rattle.lists.specs.ListLaws.{other-length}
 use Rattle.language.specs.Program.{Label, Entry, no-entry, key-of, label-at}
 use Rattle.layout.specs.CellLaws.{length-tab, getD-tab}
 use Rattle.layout.specs.Cells.{cell, unfours}
 use Rattle.layout.specs.Table.{chars-in, text-in, text-by, label-in, entry-in, program-of}
 use Rattle.cells.specs.Cells.{Number}
 use Rattle.packed.specs.Packed.{table-of, Copied}
-use Rattle.packed.proofs.Bytes.{fifteen, fifteen-long, chars-length, and-true, other-length}
+use Rattle.packed.proofs.Bytes.{fifteen, fifteen-long, chars-length, and-true}
 use Rattle.table.specs.Reads.{entries-from, met}
 use Rattle.table.specs.ReadLaws.{label-is}
 

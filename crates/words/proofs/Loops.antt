@@ -1,6 +1,6 @@
 -- One turn of the loops over bytes, as laws of what is still to come.
-use mathlib.Core.Path.{_≡_, refl, ap, _∙_}
-use mathlib.Core.Bool.{Bool, true, false, _&&_, _||_, and-true, and-false, and-assoc, or-false, or-assoc}
+use mathlib.Core.Path.{_≡_, refl, _∙_}
+use mathlib.Core.Bool.{Bool, true, false, _&&_, _||_, and-true, and-assoc, or-false, or-assoc}
 use mathlib.Core.List.{List, [], _∷_}
 use Prim.Native.Nat.{ℕ, suc, _+_, _≤_, _<_}
 use native.Mathlib.Numerals.{add-one}
@@ -42,12 +42,6 @@ filled-length [] = refl
 filled-length (b ∷ w) = lt-ltb 0 (suc (length w)) (omega arith)
 
 -- two words, byte by byte
-pub other-length : (v w : List ℕ) → (length v ≡ length w → ⊥) → sameBytes v w ≡ false
-other-length [] [] h = absurd (h refl)
-other-length [] (y ∷ w) h = refl
-other-length (x ∷ v) [] h = refl
-other-length (x ∷ v) (y ∷ w) h = rw (other-length v w (λ e. h (ap suc e))) (and-false (eqb x y))
-
 module _ (v w : List ℕ) (i : ℕ) (hv : i < length v) (hw : i < length w) where
   same-next : sameBytes (drop i v) (drop i w) ≡ eqb (getD v i 0) (getD w i 0) && sameBytes (drop (i + 1) v) (drop (i + 1) w)
   same-next = rw (add-one i, drop-cons v i 0 hv, drop-cons w i 0 hw)

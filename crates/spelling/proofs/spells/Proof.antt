@@ -6,7 +6,8 @@ use borrow.Author.Needs.{needs}
 use denote.Ref.{now}
 use Rattle.lexer.proofs.Finding.{word-chars, text-token-chars, no-chars}
 use Rattle.lexer.specs.Tokens.{chars-of}
-use Rattle.spelling.proofs.Chars.{other-length, same-is, same-empty}
+use Rattle.lists.specs.ListLaws.{other-length}
+use Rattle.spelling.proofs.Chars.{same-is, same-empty}
 use Rattle.spelling.proofs.spells.Statement.{statement}
 use Rattle.spelling.proofs.spells.Tie as tie
 

@@ -3,7 +3,8 @@ use mathlib.Core.Path.{_≡_, sym, _∙_}
 use Prim.Native.Nat.{_≤_, _-_}
 use lib.ListN.{length, drop}
 use Rattle.lists.specs.Lists.{sameBytes}
-use Rattle.words.proofs.Loops.{other-length, same-stops, same-goes, same-ends}
+use Rattle.lists.specs.ListLaws.{other-length}
+use Rattle.words.proofs.Loops.{same-stops, same-goes, same-ends}
 use borrow.Author.Needs.{needs}
 use native.Mathlib.Omega.{arith}
 use Rattle.words.proofs.same.Statement.{statement}
