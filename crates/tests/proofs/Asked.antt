@@ -1,23 +1,21 @@
 -- A test asks 52, 53 and 54 alone.
 use mathlib.Core.Path.{_≡_, refl, sym, _∙_}
-use mathlib.Core.Bool.{Bool, true, false, cond, _&&_}
+use mathlib.Core.Bool.{Bool, true, false, _&&_}
 use mathlib.Core.List.{List}
 use Prim.Native.Nat.{ℕ, _≤_}
 use Rattle.language.specs.Limits as limit
-use Rattle.language.specs.Letters.{Letter, use-of}
+use Rattle.language.specs.Letters.{use-of}
 use Rattle.language.specs.Program.{Arg}
 use Rattle.language.specs.Program.Arg.{nothing, letter, label, switch, class, text}
 use Rattle.language.specs.Values.{Store, Inputs}
-use Rattle.machine.specs.Arguments.{Asks, is-one, is-count, none, ask, when, _&_, test-asks}
+use Rattle.machine.specs.Arguments.{Asks, is-one, is-count, ask, when, _&_, test-asks}
 use Rattle.machine.specs.Effects.Go.{on}
 use Rattle.state.specs.Working.{state-at, Stands}
 use Rattle.instructions.specs.Does.{Does, Quiet, Tried}
 use Rattle.instructions.proofs.Answers.{stop-by, unstopped, quiet-stop, quiet-tried}
+use Rattle.instructions.proofs.Storing.{quiet-none}
 use Rattle.tests.specs.Prepares.{Prepares}
 use Rattle.tests.specs.declared.Prepared.{Prepared}
-
-quiet-none : Quiet none
-quiet-none = record { is-50 = refl; is-55 = refl; is-56 = refl; is-57 = refl; is-58 = refl; is-59 = refl; is-60 = refl }
 
 pub quiet-and : {x y : Asks} → Quiet x → Quiet y → Quiet (x & y)
 quiet-and h k =

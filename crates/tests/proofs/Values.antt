@@ -1,10 +1,9 @@
 -- What the arguments of tests ask and mean, form by form.
 use mathlib.Core.Path.{_≡_, refl, sym, ap, _∙_, subst, fun-ext}
-use mathlib.Core.Bool.{Bool, true, false, cond, _||_}
-use mathlib.Core.List.{List, [], _∷_, _++_, map, append-nil}
+use mathlib.Core.Bool.{Bool, true, false, _||_}
+use mathlib.Core.List.{List, [], _∷_, map, append-nil}
 use Prim.Native.Nat.{ℕ, suc, _+_, _-_, _≤_, _<_}
 use native.Mathlib.Omega.{arith}
-use lib.Dec.{leb}
 use lib.IntN.{ℤ, pos, negsuc}
 use lib.ListN.{length, take, drop, length-take, length-append}
 use lib.Seq.{take-at}
@@ -17,10 +16,10 @@ use Rattle.language.specs.Values.{Component, Store, Inputs, value, kind, same}
 use Rattle.language.specs.Values.Component.{word, address}
 use Rattle.machine.specs.Arguments.{expr, test-asks, number-of, up-to, on-parts}
 use Rattle.layout.specs.Bounds.{Ok, Encoded, WholeComponents}
-use Rattle.layout.specs.CellLaws.{code-below, uncode-code}
+use Rattle.layout.specs.CellLaws.{uncode-code}
 use Rattle.layout.specs.Cells.{cell, code, uncode}
 use Rattle.layout.specs.ComponentLaws.{components-bytes-one, components-of, whole-components, components-none, next-component}
-use Rattle.layout.specs.Components.{component-bytes, component-size, component-in, components-bytes, components-in}
+use Rattle.layout.specs.Components.{component-bytes, component-size, component-in, components-in}
 use Rattle.layout.specs.Table.{class-by}
 use Rattle.cells.specs.Cells.{pasted, Number}
 use Rattle.cells.proofs.Laws.{pasted-front, length-pasted}
@@ -66,9 +65,19 @@ copied-front d {d′} {v} n e l c = rw (e, pasted-front d v n l) c
 pub word-encoded : (w : List ℕ) → 0 < length w → length w ≤ 60 → Encoded (component-bytes (word w)) (word w ∷ [])
 word-encoded w a b = record { is = sym (components-bytes-one (word w)); all-ok = ((a, omega arith), tt) }
 
+-- ---- codes of numbers
+
+pub low : (n : ℕ) → n < 8388607 → uncode n ≡ negsuc (8388606 - n)
+unfolding uncode
+low n h = rw (lt-leb 8388607 n h) refl
+
+pub high : (n : ℕ) → 8388607 ≤ n → uncode n ≡ pos (n - 8388607)
+unfolding uncode
+high n h = rw (le-leb 8388607 n h) refl
+
 -- ---- the forms
 
-map-same : (xs : List Component) → map (λ x. x) xs ≡ xs
+pub map-same : (xs : List Component) → map (λ x. x) xs ≡ xs
 map-same [] = refl
 map-same (x ∷ xs) = ap (λ l. x ∷ l) (map-same xs)
 
@@ -145,14 +154,6 @@ module _ (s : Store) (g : List ℕ) where
         }
 
   -- a number
-  low : (n : ℕ) → n < 8388607 → uncode n ≡ negsuc (8388606 - n)
-  unfolding uncode
-  low n h = rw (lt-leb 8388607 n h) refl
-
-  high : (n : ℕ) → 8388607 ≤ n → uncode n ≡ pos (n - 8388607)
-  unfolding uncode
-  high n h = rw (le-leb 8388607 n h) refl
-
   pub number-low : (n : ℕ) → n < 8388607 → Prepares s (Arg.number (uncode n)) g (told 54 All 0)
   number-low n h = refused (Arg.number (uncode n)) 54 (λ ins. rw (low n h) refl) (λ z. omega (arith, z)) (λ z ins. rw (low n h) refl)
 
@@ -245,7 +246,7 @@ module _ {v o z : List ℕ} {r : ℕ} (h : Copied v o z r) where
   pub copied-is : take r z ≡ v
   copied-is = rw (h .is) (take-at v (drop (length v) o) r (sym (h .count)))
 
-  word-long : length (component-bytes (word v)) ≡ 1 + r
+  pub word-long : length (component-bytes (word v)) ≡ 1 + r
   unfolding component-bytes
   word-long = omega (arith, h .count)
 

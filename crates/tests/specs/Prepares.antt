@@ -41,6 +41,21 @@ TestLetter T = Unit {0}
 TestLetter Y = ⊥
 TestLetter Z = ⊥
 
+-- those of tests of records and of relations' second arguments, where an expression is compared whole too
+abbrev pub ComparandLetter : Letter → Type 0
+ComparandLetter A = ⊥
+ComparandLetter B = Unit {0}
+ComparandLetter C = ⊥
+ComparandLetter D = ⊥
+ComparandLetter E = Unit {0}
+ComparandLetter I = ⊥
+ComparandLetter N = Unit {0}
+ComparandLetter P = ⊥
+ComparandLetter Q = ⊥
+ComparandLetter T = Unit {0}
+ComparandLetter Y = ⊥
+ComparandLetter Z = ⊥
+
 pub record ExprReadable (p e n : List ℕ) (i given : ℕ) : Type 0 where
   pub named : ExprNamed p e n i
   pub room : 32768 ≤ given

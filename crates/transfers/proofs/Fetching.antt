@@ -1,11 +1,11 @@
 -- POBIERZ: the components of the record after the pointer.
 use mathlib.Core.Path.{_≡_, refl, sym, ap, _∙_, subst}
 use mathlib.Core.Bool.{Bool, true, false, cond, _&&_}
-use mathlib.Core.List.{List, [], _∷_, reverseAux}
+use mathlib.Core.List.{List, [], _∷_}
 use Prim.Native.Nat.{ℕ, min, _+_, _≤_, _<_}
 use native.Mathlib.Omega.{arith}
 use lib.Dec.{leb}
-use lib.ListN.{length, take, drop, length-append}
+use lib.ListN.{length, take, drop}
 use borrow.Author.Tests.{le-leb, leb-true}
 use Rattle.cells.specs.Cells.{pasted}
 use Rattle.cells.proofs.Laws.{pasted-front}
@@ -20,10 +20,10 @@ use Rattle.machine.specs.Arguments.{file-of, none, everything}
 use Rattle.machine.specs.Changes.{with-plus, minus, minus-unless, into, past, fits}
 use Rattle.machine.specs.Effects.{Row, moved, row}
 use Rattle.machine.specs.Effects.Go.{on}
-use Rattle.layout.specs.Bounds.{Each, Ok, Encoded}
+use Rattle.layout.specs.Bounds.{Ok, Encoded}
 use Rattle.layout.specs.Cells.{two-at}
 use Rattle.layout.specs.ComponentLaws.{next-record, records-none, record-length, records-bytes-one, components-of, whole-components}
-use Rattle.layout.specs.Components.{component-bytes, components-bytes, components-in, record-in, records-in}
+use Rattle.layout.specs.Components.{components-bytes, components-in, record-in, records-in}
 use Rattle.layout.specs.Memory.{components-held, chars-held}
 use Rattle.matching.specs.Tests.{Took}
 use Rattle.matching.specs.declared.Taken.{Taken}
@@ -34,7 +34,7 @@ use Rattle.state.specs.Limited.{Limited}
 use Rattle.state.specs.Working.{state-at, HoldsState, Stands, on-store, nth, filing, writing, turned, char-count}
 use Rattle.state.proofs.Fits.{fine-limited, fits-into-ok}
 use Rattle.state.proofs.Freed.{limited-past, removed-or-left}
-use Rattle.state.proofs.Sequences.{total-ones, turned-length, turned-total}
+use Rattle.state.proofs.Sequences.{total-ones, turned-length, turned-total, each-turned, bytes-turned}
 use Rattle.state.proofs.Standing.{state-of, stands}
 use Rattle.filing.specs.Files.{RecordsLent, FirstRecords}
 use Rattle.filing.proofs.Removed.{components-past, chars-past}
@@ -44,24 +44,6 @@ use Rattle.instructions.proofs.Answers.{one-after}
 use Rattle.instructions.proofs.Storing.{plain-done, plain-full}
 use Rattle.instructions.proofs.Written.{both, into-target}
 use Rattle.transfers.proofs.Inserting.{plus-same}
-
--- ---- components turned round
-
-each-turned-to : (xs ys : List Component) → Each Ok xs → Each Ok ys → Each Ok (reverseAux xs ys)
-each-turned-to [] ys h k = k
-each-turned-to (x ∷ xs) ys h k = each-turned-to xs (x ∷ ys) (h .1) (h .0, k)
-
-each-turned : (b : Bool) (xs : List Component) → Each Ok xs → Each Ok (turned b xs)
-each-turned true xs h = each-turned-to xs [] h tt
-each-turned false xs h = h
-
-bytes-total : (xs : List Component) → length (components-bytes xs) ≡ total (λ x. length (component-bytes x)) xs
-unfolding components-bytes
-bytes-total [] = refl
-bytes-total (x ∷ xs) = simp length-append (omega (arith, bytes-total xs))
-
-bytes-turned : (b : Bool) (xs : List Component) → length (components-bytes (turned b xs)) ≡ length (components-bytes xs)
-bytes-turned b xs = bytes-total (turned b xs) ∙ turned-total (λ x. length (component-bytes x)) b xs ∙ sym (bytes-total xs)
 
 -- ---- the first record
 
@@ -176,7 +158,7 @@ module _ {p e n : List ℕ} (h : Stands p e n) (removes : Bool) {i : ℕ} (a : i
 
         fits-fetched : fits (fetched s) ≡ roomy
         fits-fetched =
-            fits-into-ok (nth (writing at-end) j) (then s) (rw (limited .exprs-is) d) ys limited (each-turned reverses (r .parts) (y .cells .all-ok))
+            fits-into-ok (nth (writing at-end) j) (then s) (rw (limited .exprs-is) d) ys limited (each-turned Ok reverses (r .parts) (y .cells .all-ok))
             ∙ rw (← count-is, ← chars-are, components-then, chars-then, u, v) refl
 
         pub pobierz-full : {b : Bool} → b ≡ roomy → b ≡ false → DoesFor p e n 59 p e n by
@@ -187,7 +169,7 @@ module _ {p e n : List ℕ} (h : Stands p e n) (removes : Bool) {i : ℕ} (a : i
           new-encoded =
               record {
                 is = rw (w, components-of (y .cells)) (pasted-front old (components-bytes ys) (length x) (bytes-turned reverses (r .parts) ∙ sym (ap length (y .cells .is))));
-                all-ok = each-turned reverses (r .parts) (y .cells .all-ok);
+                all-ok = each-turned Ok reverses (r .parts) (y .cells .all-ok);
               }
 
           module _ {p′ e′ n′ : List ℕ} (g : HoldsState p′ e′ n′ (on-store then (state-at p e n))) where
