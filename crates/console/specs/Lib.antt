@@ -1,0 +1,3 @@
+pub mod Console
+pub mod Parts
+pub mod ConsoleLaws

@@ -1,0 +1,56 @@
+-- What the functions of the console ask and promise.
+use mathlib.Core.Path.{_≡_}
+use mathlib.Core.Bool.{cond}
+use mathlib.Core.List.{List, [], _∷_, _++_}
+use Prim.Native.Nat.{ℕ, suc, _+_, _≤_, _<_}
+use lib.Dec.{eqb}
+use lib.ListN.{length, take, drop}
+use Rattle.cells.specs.Cells.{pasted}
+use Rattle.machine.specs.Runs.{Answer}
+use Rattle.machine.specs.Runs.Answer.{pause, stopped}
+use Rattle.console.specs.Console.{textOf, inputOf}
+
+-- how many bytes the first line has, with the new line that ends it
+unfoldable pub line-length : List ℕ → ℕ
+line-length [] = 0
+line-length (b ∷ s) = suc (cond (eqb b 10) 0 (line-length s))
+
+-- r is where the line ends that begins at `at`
+pub record LineEnd (s : List ℕ) (at r : ℕ) : Type 0 where
+  pub is : r ≡ at + line-length (drop at s)
+  pub on : at < r
+  pub within : r ≤ length s
+
+-- r parts the text from I1
+pub record TextEnd (s : List ℕ) (r : ℕ) : Type 0 where
+  pub is : r ≡ length (textOf s)
+  pub within : r ≤ length s
+  pub text : take r s ≡ textOf s
+  pub input : drop r s ≡ inputOf s
+
+-- d with x from index `at` on, and the index behind it
+pub record Put (d : List ℕ) (at : ℕ) (x e : List ℕ) (r : ℕ) : Type 0 where
+  pub is : e ≡ pasted d at x
+  pub count : r ≡ at + length x
+  pub fits : r ≤ length d
+
+-- among `long` cells there is room from index `at` on for k bytes and a number, which is n
+pub record Room (long at k n : ℕ) : Type 0 where
+  pub room : at + (k + 8) ≤ long
+  pub most : n ≤ 8388607
+
+-- room for the line of a refusal
+pub record RefusalRoom (long line : ℕ) : Type 0 where
+  pub room : 64 ≤ long
+  pub most : line ≤ 8388607
+
+-- room behind Q1 for the last line
+pub record EndRoom (long at number line count : ℕ) : Type 0 where
+  pub room : at + 64 ≤ long
+  pub number-most : number ≤ 8388607
+  pub line-most : line ≤ 8388607
+  pub count-most : count ≤ 8388607
+
+-- an answer by its number: 81 is pause
+abbrev pub answer-by : ℕ → Answer
+answer-by number = cond (eqb number 81) pause (stopped number)
