@@ -1,0 +1,119 @@
+-- Where a string lies in a state at rest.
+use mathlib.Core.Path.{_≡_, refl, sym, ap, _∙_}
+use mathlib.Core.List.{List, [], _∷_, _++_, append-assoc}
+use Prim.Native.Nat.{ℕ, zero, suc, _+_, _-_, _*_, _≤_, _<_}
+use native.Mathlib.Omega.{arith}
+use lib.ListN.{length, take, drop, getD, replicate}
+use lib.Seq.{getD-drop, drop-at, drop-drop, take-append-seam, drop-append-seam}
+use Rattle.lists.specs.Lists.{joined}
+use Rattle.language.specs.Limits as limit
+use Rattle.layout.specs.CellLaws.{each-at}
+use Rattle.layout.specs.Cells.{two-at, three-at}
+use Rattle.layout.specs.Memory.{strings, state-cells, threes-in, state-of}
+use Rattle.layout.specs.MemoryLaws.{string-output, strings-in-cells}
+use Rattle.layout.specs.StringLaws.{joined-split, length-lengths}
+use Rattle.layout.specs.Strings.{lengths, used, string-cells, strings-in}
+use Rattle.cells.specs.Cells.{Number}
+use Rattle.gaps.specs.Pool.{string, offset}
+use Rattle.gaps.proofs.Index.{offset-zero, offset-next, offset-within}
+use Rattle.packing.specs.Packing.{Packed}
+use Rattle.packing.proofs.Reading.{length-strings-in, packed-long, length-read}
+use Rattle.resting.specs.Resting.{Openable}
+use Rattle.resting.proofs.Laws.{scalars-are, unpackable}
+use Rattle.viewing.specs.Viewing.{Rests, Stringed, Shows}
+
+module _ {m : List ℕ} (h : Packed m) where
+  at-strings : drop 198 m ≡ joined (strings-in m) ++ replicate (40738 - used (strings-in m)) 0
+  unfolding string-cells
+  at-strings =
+      let l : length (lengths (strings-in m)) ≡ 198 = length-lengths (strings-in m) ∙ rw length-strings-in in
+      ap (drop 198) (h .is) ∙ drop-at (lengths (strings-in m)) _ 198 l
+
+  pub string-read : (j n from : ℕ) → j < 99 → from ≡ 198 + offset j (strings-in m) → n ≡ length (string j (strings-in m)) → take n (drop from m) ≡ string j (strings-in m)
+  unfolding offset used
+  string-read j n from b q k =
+      let s : List (List ℕ) = strings-in m in
+      let b′ : j < length s = rw (length-strings-in m) b in
+      let Z : List ℕ = replicate (40738 - used s) 0 in
+      let all : drop 198 m ≡ joined (take j s) ++ (getD s j [] ++ (joined (drop (suc j) s) ++ Z)) =
+      at-strings ∙ ap (λ (l : List ℕ). l ++ Z) (joined-split s j b′) ∙ simp append-assoc in
+      rw (q, k, ← drop-drop (length (joined (take j s))) 198 m, all, drop-append-seam (joined (take j s)) (getD s j [] ++ (joined (drop (suc j) s) ++ Z)))
+      (take-append-seam (getD s j []) (joined (drop (suc j) s) ++ Z))
+
+-- the loop over the strings before the one that is looked for
+pub record Passing (m : List ℕ) (i from j : ℕ) : Type 0 where
+  pub upto : j ≤ i
+  pub is : from ≡ 198 + offset j (strings-in m)
+
+pub passing-none : (m : List ℕ) (i : ℕ) → Passing m i 198 0
+passing-none m i = record { upto = omega arith; is = omega (arith, offset-zero (strings-in m)) }
+
+-- the numbers of a turn, and of the end
+pub record Turn (m : List ℕ) (from j n : ℕ) : Type 0 where
+  pub is : n ≡ length (string j (strings-in m))
+  pub within : from + n ≤ 40936
+  pub long : length m ≡ 40936
+
+module _ {m : List ℕ} {i from j n : ℕ} (pre : Stringed m i) (u : Passing m i from j) (r : Number (two-at (2 * j) m) 65536 n) where
+  pub turn : j < 99 → Turn m from j n
+  turn h =
+      let q : n ≡ length (string j (strings-in m)) = r .is ∙ length-read (pre .packed) j h in
+      record { is = q; within = omega (arith, u .is, pre .packed .fits, offset-within (strings-in m) j); long = packed-long (pre .packed) }
+
+  pub passing-more : j < i → Passing m i (from + n) (j + 1)
+  passing-more h =
+      let t = turn (omega (arith, pre .below)) in
+      let b : j < length (strings-in m) = rw (length-strings-in m) (omega (arith, pre .below)) in
+      record { upto = omega arith; is = omega (arith, u .is, t .is, offset-next (strings-in m) j b) }
+
+module _ {m : List ℕ} {i from j n : ℕ} (pre : Stringed m i) (u : Passing m i from j) (e : i ≤ j) (r : Number (two-at (2 * i) m) 65536 n) where
+  here : Passing m i from i
+  here = record { upto = omega arith; is = let z : j ≡ i = omega (arith, u .upto) in u .is ∙ ap (λ (k : ℕ). 198 + offset k (strings-in m)) z }
+
+  pub last-turn : Turn m from i n
+  last-turn = turn pre here r (pre .below)
+
+  pub string-told : take ((from + n) - from) (drop from m) ≡ string i (strings-in m)
+  string-told =
+      let z : (from + n) - from ≡ n = omega arith in
+      ap (λ (k : ℕ). take k (drop from m)) z ∙ string-read (pre .packed) i n from (pre .below) (here .is) (last-turn .is)
+
+-- ---- the state
+
+none : (k : ℕ) → take {A = ℕ} k [] ≡ []
+none zero = refl
+none (suc k) = refl
+
+take-drop : (n k : ℕ) (l : List ℕ) → take k (drop n l) ≡ drop n (take (n + k) l)
+take-drop zero k l = let e : 0 + k ≡ k = omega arith in rw e refl
+take-drop (suc n) k [] = let e : suc n + k ≡ suc (n + k) = omega arith in rw e (none k)
+take-drop (suc n) k (x ∷ l) = let e : suc n + k ≡ suc (n + k) = omega arith in rw e (take-drop n k l)
+
+-- the fourth number of three cells
+threes-three : (m : List ℕ) → threes-in 8 m ≡ three-at 0 m ∷ three-at 3 m ∷ three-at 6 m ∷ three-at 9 m ∷ threes-in 4 (drop 12 m)
+unfolding threes-in
+threes-three m = simp (getD-drop, drop-drop) refl
+
+module _ {m : List ℕ} (pre : Rests m) where
+  open-state : Openable m 65536 198 8
+  open-state = record { long = pre .long; cells = pre .cells; fine = pre .fine; size = refl; bounds = refl; count = refl }
+
+  pub outputs-lie : {l : List ℕ} → l ≡ take 40936 (drop 24 m) → Stringed l 97
+  outputs-lie q = record { packed = unpackable open-state q .packed; below = omega arith }
+
+  -- the part behind the scalars
+  behind : take 40936 (drop 24 m) ≡ drop 24 (state-cells (state-of m))
+  behind = take-drop 24 40936 m ∙ ap (drop 24) (sym (pre .cells))
+
+  pub output-shown : {l r : List ℕ} → l ≡ take 40936 (drop 24 m) → r ≡ string 97 (strings-in l) → Shows m r
+  output-shown {l} {r} q e =
+      let s = state-of m in
+      let all : strings-in l ≡ strings s = ap strings-in (q ∙ behind) ∙ strings-in-cells s (pre .fine) in
+      let is : r ≡ getD (s .store .outputs) 0 [] = e ∙ ap (string 97) all ∙ string-output s (pre .fine) 0 in
+      record { is = is; most = rw is (each-at (λ w. length w ≤ limit.output) [] (omega arith) (s .store .outputs) (pre .fine .outputs-ok) 0) }
+
+  pub next-told : {r : ℕ} → Number (three-at 9 m) 16777216 r → Number (state-of m .next) 16777216 r
+  unfolding threes-in
+  next-told h =
+      let e : three-at 9 m ≡ state-of m .next = sym (ap (λ (l : List ℕ). getD l 3 0) (threes-three m)) ∙ ap (λ (l : List ℕ). getD l 3 0) (scalars-are open-state) in
+      record { is = h .is ∙ e; most = h .most }
