@@ -6,7 +6,7 @@ ghost use lib.ListN.{length};
 ghost use Rattle.layout.specs.Memory.{state-of};
 ghost use Rattle.layout.specs.Table.{program-of};
 ghost use Rattle.machine.specs.Runs.{ran};
-ghost use Rattle.console.specs.Console.{ran-bytes};
+ghost use Rattle.console.specs.Console.{ran-bytes, printed};
 ghost use Rattle.console.specs.Parts.{Put, answer-by};
 ghost use Rattle.session.specs.Session.{Ended, table-bytes};
 
@@ -53,4 +53,19 @@ pub fn session(table: &[u32], i1: &[u8], out: &mut [u8]) -> usize
     }
     let answer = interpreter::eol2_run(table, i1, b"", &mut state, BUDGET);
     print_run(table, &state, number(answer), value(answer), out)
+}
+
+// All that the program prints for the bytes of standard input.
+pub fn answer(input: &[u8], out: &mut [u8]) -> usize
+    requires { ⌜ 4224 ≤ length (now out) ⌝ }
+    ensures { λ r. ⌜ Put (now (out .entry)) 0 (printed (now (input .entry))) (now (out .exit)) r ⌝ }
+{
+    let end = console::text_end(input);
+    let mut table = [0u32; 8192];
+    let loaded = interpreter::eol2_load(&input[..end], &mut table);
+    let n = number(loaded);
+    if n != ACCEPTED {
+        return console::refusal(out, n, value(loaded));
+    }
+    session(&table, &input[end..], out)
 }
