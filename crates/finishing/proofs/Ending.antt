@@ -1,11 +1,11 @@
 -- The last questions of a text: from the answers of the code to those of the specification.
 use mathlib.Core.Path.{_≡_, refl, sym, ap, _∙_}
-use mathlib.Core.Bool.{Bool, true, false, cond, not}
-use mathlib.Core.List.{List, [], _∷_, _++_, map}
+use mathlib.Core.Bool.{Bool, true, false, not}
+use mathlib.Core.List.{List, _∷_, map}
 use Prim.Native.Nat.{ℕ, zero, suc, pred, _-_, _≤_}
 use native.Mathlib.Omega.{arith}
 use lib.Dec.{eqb}
-use lib.ListN.{length, take, drop, length-take, length-map}
+use lib.ListN.{length, take, length-take, length-map}
 use borrow.Author.Tests.{eq-eqb, ne-eqb}
 use Rattle.closing.specs.Closing.{Ends}
 use Rattle.closing.specs.declared.Closing.{Closing}
@@ -13,9 +13,8 @@ use Rattle.declaring.specs.Declaring.{marks-in}
 use Rattle.declaring.specs.TabledLaws.{mark-places}
 use Rattle.acceptance.specs.RowLaws.{each-map}
 use Rattle.drafts.specs.Drafting.{draft-program, draft-instr}
-use Rattle.drafts.specs.Marks.{mark, place-by, word-by}
-use Rattle.drafts.specs.Tabled.{Tabled}
-use Rattle.faults.specs.Faults.{verdict-of, decided, then}
+use Rattle.drafts.specs.Marks.{place-by, word-by}
+use Rattle.faults.specs.Faults.{decided, then}
 use Rattle.faults.specs.FaultLaws.{question-decides}
 use Rattle.faults.specs.declared.Verdict.{Verdict}
 use Rattle.faults.specs.declared.Verdict.the-variants.{Yes, No}
@@ -29,16 +28,14 @@ use Rattle.progress.specs.declared.Progress.{Progress}
 use Rattle.statements.specs.StatementAt.{fault-of}
 use Rattle.statements.specs.declared.Fault.{Fault}
 use Rattle.statements.specs.declared.Fault.the-variants.{Clear, At}
-use Rattle.syntax.specs.Ending.{last-place, absent, end-faults, undeclared-labels, undeclared-switches, last-questions}
+use Rattle.syntax.specs.Ending.{last-place, absent, end-faults, last-questions}
 use Rattle.syntax.specs.Items.{places}
-use Rattle.syntax.specs.LoadLaws.{goes-on}
-use Rattle.syntax.specs.Tables.{Tables, Draft, is-first}
+use Rattle.syntax.specs.Tables.{Draft, is-first}
 use Rattle.syntax.specs.Verdict as spec
-use Rattle.syntax.specs.Verdict.{Question, ask, first-no}
-use Rattle.syntax.specs.Verdict.Verdict.{yes, refuse}
-use Rattle.writing.specs.Writing.{HoldsProgram}
+use Rattle.syntax.specs.Verdict.{ask, first-no}
+use Rattle.syntax.specs.Verdict.Verdict.{refuse}
 use Rattle.writing.proofs.Held.{code-count}
-use Rattle.finishing.specs.Finishing.{Names-linked, Finishable, Finishes}
+use Rattle.finishing.specs.Finishing.{Names-linked, Finishes}
 
 pub pred-less : (n : ℕ) → n - 1 ≡ pred n
 pred-less zero = refl

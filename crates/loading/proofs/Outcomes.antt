@@ -1,8 +1,8 @@
 -- What load answers and leaves: from the end of a text, or its refusal, to number, line and cells.
-use mathlib.Core.Path.{_≡_, refl, sym, ap, _∙_, subst}
+use mathlib.Core.Path.{_≡_, refl, sym, ap, _∙_}
 use mathlib.Core.Logic.{_≢_}
-use mathlib.Core.Bool.{Bool, true, false, cond, _&&_}
-use mathlib.Core.List.{List, [], _∷_, _++_}
+use mathlib.Core.Bool.{Bool, true, false, cond}
+use mathlib.Core.List.{List, _++_}
 use Prim.Native.Nat.{ℕ, suc, _+_, _≤_, _<_, min}
 use native.Mathlib.Omega.{arith}
 use borrow.Author.Tests.{leb-true, leb-false, ne-eqb, le-leb, lt-leb}
@@ -11,7 +11,6 @@ use lib.ListN.{length, take, drop, replicate, take-append-drop}
 use lib.Seq.{take-all, take-length}
 use Rattle.calls.specs.Calls.{load-number, load-line, table-after}
 use Rattle.drafts.specs.Drafting.{draft-program}
-use Rattle.drafts.specs.Tabled.{Tabled}
 use Rattle.acceptance.specs.DraftLaws.{blank-sound}
 use Rattle.faults.specs.Faults.{verdict-of}
 use Rattle.faults.specs.declared.Verdict.{Verdict}
@@ -21,7 +20,6 @@ use Rattle.language.specs.Limits as limit
 use Rattle.layout.specs.Table.{table-cells}
 use Rattle.lexer.specs.Tokens.{Lines}
 use Rattle.lists.specs.Lists.{keep}
-use Rattle.packed.specs.Packed.{table-of}
 use Rattle.progress.specs.declared.Progress.{Progress}
 use Rattle.reading_statements.specs.declared.Read.{Read}
 use Rattle.reading_statements.specs.declared.Read.the-variants.{Statement, Refused}
@@ -29,12 +27,11 @@ use Rattle.syntax.specs.Ending.{last-place, last-questions}
 use Rattle.syntax.specs.Items.{line-of, statements-from}
 use Rattle.syntax.specs.Load.{unless-refused, load-from, loadIn, program-of}
 use Rattle.syntax.specs.Load as spec
-use Rattle.syntax.specs.Tables.{Draft, blank}
+use Rattle.syntax.specs.Tables.{blank}
 use Rattle.syntax.specs.Verdict.{first-no}
-use Rattle.syntax.specs.Verdict.Verdict.{yes, refuse}
-use Rattle.writing.specs.Writing.{HoldsProgram, Cleared, no-program}
+use Rattle.writing.specs.Writing.{Cleared}
 use Rattle.loading.specs.Loading.{Loads}
-use Rattle.loading.specs.Texts.{text-loads, Unread, Read-to, Reads-text, Loadable, Accepts, Loads-text, Refuses}
+use Rattle.loading.specs.Texts.{text-loads, Unread, Reads-text, Loadable, Loads-text, Refuses}
 use Rattle.loading.specs.declared.Loaded.{Loaded}
 use Rattle.loading.proofs.Verdicts.{load-not-40}
 
@@ -113,10 +110,6 @@ module _ {s c : List ℕ} (h : Loadable s c) where
 -- ---- load
 
 module _ (s c : List ℕ) where
-  refused-40 : (b : Bool) → (leb limit.table (length c) && leb (length s) limit.text) ≡ false → loadIn (length c) s ≡ spec.Loaded.refused 40 0
-  unfolding loadIn
-  refused-40 b e = rw e refl
-
   -- "Table long enough, text short enough? 40"; "After 40 the table stays"
   no-load : loadIn (length c) s ≡ spec.Loaded.refused 40 0 → {r : Loaded} → r .number ≡ 40 → r .line ≡ 0 → Loads s c r c
   unfolding table-after

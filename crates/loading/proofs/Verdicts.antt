@@ -7,7 +7,7 @@ use Prim.Native.Nat.{ℕ, _+_, _≤_, min}
 use native.Mathlib.Omega.{arith}
 use lib.Dec.{T, eqb, eqb-refl, ltb}
 use lib.ListN.{length}
-use Rattle.acceptance.specs.RowLaws.{or-left, or-right, each-keep, each-mapped, Answered, answered}
+use Rattle.acceptance.specs.RowLaws.{or-left, or-right, each-keep, each-mapped}
 use Rattle.faults.specs.Faults.{then}
 use Rattle.faults.specs.FaultLaws.{first-no-both}
 use Rattle.faults.specs.Groups.{item-questions, head-questions, name-questions, argument-questions, table-questions, questions-grouped}

@@ -25,7 +25,6 @@ use Rattle.statements.specs.StatementAt.{statements-at, statement-at}
 use Rattle.syntax.specs.Items.{Item, line-of}
 use Rattle.syntax.specs.Load.{unless-refused, load-from}
 use Rattle.syntax.specs.Load as spec
-use Rattle.syntax.specs.Questions.{questions}
 use Rattle.syntax.specs.Tables.{Draft, blank, draft-after}
 use Rattle.syntax.specs.Verdict.{first-no}
 use Rattle.syntax.specs.Verdict.Verdict.{yes, refuse}

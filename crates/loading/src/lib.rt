@@ -105,11 +105,11 @@ fn load_text(text: &[u8], table: &mut [u32]) -> Verdict
 }
 
 // "after other refusals its 8,192 cells are zeros"
-fn refuse(text: &[u8], number: u8, at: usize, table: &mut [u32]) -> Loaded
-    requires { ⌜ Refusable (now text) (now table) ⌝ }
-    ensures { λ r. ⌜ Refuses (now (text .entry)) number at (now (table .entry)) r (now (table .exit)) ⌝ }
+fn refuse(text: &[u8], number: u8, at: usize, cells: &mut [u32]) -> Loaded
+    requires { ⌜ Refusable (now text) (now cells) ⌝ }
+    ensures { λ r. ⌜ Refuses (now (text .entry)) number at (now (cells .entry)) r (now (cells .exit)) ⌝ }
 {
-    clear_table(table);
+    clear_table(cells);
     Loaded {
         number: number,
         line: line_at(text, at),
