@@ -1,5 +1,4 @@
 // Writes a line of 64 bytes: the characters of EOL-2 that can be seen, in the order of their ranks, and spaces.
-ghost use Prim.Native.Nat.{_≤_};
 
 pub struct Line {
     pub bytes: [u8; 64],

@@ -1,27 +1,27 @@
 -- Results as components, in the place of the first.
 use mathlib.Core.Path.{_≡_, refl, sym, ap, _∙_, subst}
-use mathlib.Core.Bool.{Bool, true, false}
+use mathlib.Core.Bool.{true, false}
 use mathlib.Core.List.{List, [], _∷_, _++_, append-nil, append-assoc}
-use Prim.Native.Nat.{ℕ, _+_, _≤_, _<_}
+use Prim.Native.Nat.{ℕ, _+_, _≤_}
 use native.Mathlib.Omega.{arith}
 use lib.ListN.{length, take, drop, length-take, length-append}
 use lib.Seq.{take-at}
-use lib.IntN.{ℤ, pos, negsuc, natAbs}
+use lib.IntN.{ℤ, natAbs}
 use borrow.Author.Tests.{leb-true}
 use Rattle.language.specs.Values.{Component, Store, in-range}
 use Rattle.layout.specs.Bounds.{Encoded}
-use Rattle.layout.specs.Cells.{code, uncode}
+use Rattle.layout.specs.Cells.{uncode}
 use Rattle.layout.specs.CellLaws.{uncode-code}
 use Rattle.layout.specs.ComponentLaws.{components-bytes-one, components-of, whole-components}
 use Rattle.layout.specs.Components.{component-bytes, components-bytes, components-in}
 use Rattle.cells.specs.Cells.{pasted}
-use Rattle.cells.proofs.Laws.{pasted-front, length-pasted}
+use Rattle.cells.proofs.Laws.{pasted-front}
 use Rattle.state.specs.Working.{state-at, Stands}
 use Rattle.instructions.specs.Does.{Tried}
 use Rattle.tests.proofs.Values.{copied-front}
 use Rattle.operands.specs.Operands.{replaced, Replaceable}
 use Rattle.operands.proofs.Codes.{code-most, abs-most}
-use Rattle.arithmetic.specs.Arithmetic.{result, Numbered, OneResult, Computed, TwoResults}
+use Rattle.arithmetic.specs.Arithmetic.{result, Numbered, Computed, TwoResults}
 use Rattle.arithmetic.proofs.Numbers.{result-in}
 
 -- ---- in bytes

@@ -13,8 +13,7 @@ use Rattle.syntax.specs.Load.{Loaded, loadIn, load-from, unless-refused, progra
 use Rattle.syntax.specs.Load.Loaded.{refused, accepted}
 use Rattle.syntax.specs.Questions.{questions}
 use Rattle.syntax.specs.Tables.{Draft, blank, draft-after}
-use Rattle.syntax.specs.Verdict.{Question, Verdict, decide, first-no}
-use Rattle.syntax.specs.Verdict.Verdict.{yes, refuse}
+use Rattle.syntax.specs.Verdict.{Question, decide, first-no}
 use Rattle.calls.specs.Calls.{load-number}
 
 -- the numbers of load: of the call, of a statement, of the whole text, and of acceptance

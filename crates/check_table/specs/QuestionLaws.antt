@@ -4,7 +4,7 @@ use mathlib.Core.Bool.{Bool, true, false, _&&_}
 use mathlib.Core.List.{List, map}
 use Prim.Native.Nat.{ℕ, zero, suc, pred, _+_, _*_, _-_, _%_, _≤_, _<_}
 use native.Mathlib.Omega.{arith}
-use lib.Dec.{T, leb, ltb, le→leb, lt→ltb}
+use lib.Dec.{T, le→leb, lt→ltb}
 use lib.ListN.{length, getD, drop}
 use lib.Seq.{length-take-le}
 use lib.IntN.{ℤ}

@@ -3,7 +3,6 @@ ghost use mathlib.Core.Path.{_≡_};
 ghost use Prim.Native.Nat.{_+_, _*_, _-_, _<_, _≤_};
 ghost use lib.ListN.{length};
 ghost use Rattle.cells.specs.Cells.{Number};
-ghost use Rattle.layout.specs.Cells.{cell};
 ghost use Rattle.layout.specs.Table.{good-table};
 ghost use Rattle.packed.specs.Packed.{table-of};
 ghost use Rattle.table.specs.Reads.{Place, switch-size};

@@ -1,15 +1,13 @@
 -- What the forms of second arguments offer.
 use mathlib.Core.Path.{_≡_, refl, sym, ap, _∙_, subst}
-use mathlib.Core.Bool.{Bool, true, false}
 use mathlib.Core.List.{List, [], _∷_}
 use Prim.Native.Nat.{ℕ, suc, _+_, _-_, _≤_, _<_}
 use native.Mathlib.Omega.{arith}
 use lib.ListN.{length, take, length-take}
 use Rattle.language.specs.Letters as letters
-use Rattle.language.specs.Program.Arg.{letter}
-use Rattle.language.specs.Values.{Component, Store, Inputs}
+use Rattle.language.specs.Values.{Component, Store}
 use Rattle.language.specs.Values.Component.{word}
-use Rattle.machine.specs.Arguments.{Asks, expr, none, needs, present, _&_}
+use Rattle.machine.specs.Arguments.{expr, none, needs, present, _&_}
 use Rattle.layout.specs.Bounds.{Encoded}
 use Rattle.layout.specs.Cells.{cell, uncode}
 use Rattle.layout.specs.ComponentLaws.{components-bytes-one}
@@ -19,14 +17,13 @@ use Rattle.cells.specs.Cells.{pasted, Number}
 use Rattle.cells.proofs.Laws.{length-pasted}
 use Rattle.packed.specs.Packed.{table-of, Copied}
 use Rattle.state.specs.Working.{state-at, nth}
-use Rattle.state.specs.Blocks.{ExprNamed, ExprLent}
-use Rattle.table.specs.Denote.{letter-of, arg-of}
+use Rattle.state.specs.Blocks.{ExprLent}
 use Rattle.table.specs.Good.{GoodIndex}
 use Rattle.table.specs.declared.Letter.{Letter}
 use Rattle.table.specs.declared.Argument.{Argument}
 use Rattle.table.specs.declared.Argument.the-variants as argument
 use Rattle.tests.specs.Prepares.{ExprReadable, TextReadable}
-use Rattle.tests.proofs.Values.{none-there, one-there, front-fits, front-encoded, copied-front, copied-in, copied-is, word-encoded, index-back}
+use Rattle.tests.proofs.Values.{none-there, one-there, front-fits, front-encoded, copied-front, copied-is, word-encoded, index-back}
 use Rattle.operands.specs.Operands.{ReadsNumber}
 use Rattle.operands.specs.declared.Operand.{Operand}
 use Rattle.operands.proofs.Codes.{abs-most}

@@ -1,24 +1,24 @@
 -- Words that write numbers: read, and made.
-use mathlib.Core.Path.{_≡_, refl, sym, ap, _∙_, subst}
+use mathlib.Core.Path.{_≡_, refl, sym, ap, _∙_}
 use mathlib.Core.Bool.{Bool, true, false, cond}
 use mathlib.Core.List.{List, [], _∷_, _++_}
-use Prim.Native.Nat.{ℕ, zero, suc, _+_, _/_, _%_, _≤_, _<_}
+use Prim.Native.Nat.{ℕ, suc, _+_, _/_, _%_, _<_}
 use native.Mathlib.Omega.{arith}
-use lib.Dec.{ltb, eqb}
-use lib.ListN.{length, take, length-take, length-append}
+use lib.Dec.{ltb}
+use lib.ListN.{length, take, length-append}
 use lib.IntN.{ℤ, pos, negsuc, natAbs}
 use borrow.Author.Tests.{leb-true, ne-eqb}
 use Rattle.language.specs.Letters.Letter.{E}
 use Rattle.language.specs.Values.{Component, chars, kind, digits, decimal, numeral, valueOf, in-range}
 use Rattle.language.specs.Values.Component.{word, address}
-use Rattle.machine.specs.Arguments.{expr, first}
+use Rattle.machine.specs.Arguments.{expr}
 use Rattle.layout.specs.Bounds.{Encoded}
 use Rattle.layout.specs.Cells.{code, uncode}
 use Rattle.layout.specs.CellLaws.{uncode-code}
-use Rattle.layout.specs.ComponentLaws.{components-bytes-one, components-of, whole-components}
-use Rattle.layout.specs.Components.{component-bytes, component-in, components-in}
+use Rattle.layout.specs.ComponentLaws.{components-bytes-one}
+use Rattle.layout.specs.Components.{component-bytes, component-in}
 use Rattle.cells.specs.Cells.{pasted}
-use Rattle.cells.proofs.Laws.{pasted-front, length-pasted}
+use Rattle.cells.proofs.Laws.{pasted-front}
 use Rattle.components.specs.Parts.{LentChars, Written}
 use Rattle.decimals.specs.Numerals.{reads}
 use Rattle.decimals.specs.declared.Numeral.{Numeral}

@@ -1,5 +1,4 @@
 // Numbers to words and back: SLOWO and LICZBA.
-ghost use mathlib.Core.Path.{_≡_};
 ghost use lib.ListN.{length};
 ghost use Rattle.language.specs.Letters.Letter.{E};
 ghost use Rattle.language.specs.Program.Arg.{nothing};

@@ -2,14 +2,14 @@
 use mathlib.Core.Path.{_≡_, refl, sym, ap, _∙_, subst, fun-ext}
 use mathlib.Core.Bool.{Bool, true, false, not, cond, _||_}
 use mathlib.Core.List.{List, [], _∷_, map}
-use Prim.Native.Nat.{ℕ, _+_, _≤_, _<_}
+use Prim.Native.Nat.{ℕ, _≤_, _<_}
 use native.Mathlib.Omega.{arith}
 use lib.Dec.{eqb}
 use lib.ListN.{length, take, drop, length-take, length-append}
 use borrow.Author.Tests.{ne-eqb, not-true, not-false}
 use Rattle.lists.specs.Lists.{any, filled}
 use Rattle.language.specs.Letters.Letter.{E}
-use Rattle.language.specs.Values.{Component, Store, Inputs, chars, kind, same}
+use Rattle.language.specs.Values.{Component, Store, Inputs, same}
 use Rattle.machine.specs.Arguments.{expr, side, matches, taken}
 use Rattle.layout.specs.Bounds.{Encoded, WholeComponents}
 use Rattle.layout.specs.Cells.{cell, uncode}
@@ -21,7 +21,6 @@ use Rattle.components.specs.Parts.{first-size, Leading, LentChars}
 use Rattle.matching.specs.Tests.{until, Fitting, Took}
 use Rattle.matching.specs.declared.Test.{Test}
 use Rattle.matching.specs.declared.Taken.{Taken}
-use Rattle.packed.specs.Packed.{table-of}
 use Rattle.state.specs.Working.{state-at, HoldsState, on-store, nth}
 use Rattle.state.specs.Blocks.{ExprLent, FirstParts}
 use Rattle.table.specs.Denote.{arg-of}

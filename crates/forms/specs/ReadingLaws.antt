@@ -7,7 +7,7 @@ use native.Mathlib.Numerals.{add-one}
 use native.Mathlib.Omega.{arith}
 use lib.Bits.{bitAnd}
 use lib.Dec.{leb, ltb, eqb, eqb→eq, leb→le, ltb→lt}
-use lib.ListN.{length, getD, take, drop}
+use lib.ListN.{length, getD, drop}
 use lib.Seq.{drop-nil, drop-drop}
 use Rattle.language.specs.Instructions.{operation, operators, is-call, is-end}
 use Rattle.language.specs.Program.{Op}

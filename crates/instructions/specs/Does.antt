@@ -1,7 +1,7 @@
 -- What the function of an instruction promises: the number of the first question answered no, or 0, and the state that is held then.
 use mathlib.Core.Path.{_≡_}
 use mathlib.Core.Bool.{Bool, true, cond, _&&_}
-use mathlib.Core.List.{List, [], _∷_, map}
+use mathlib.Core.List.{List, map}
 use Prim.Native.Nat.{ℕ, _≤_}
 use Rattle.language.specs.Program.{Program}
 use Rattle.language.specs.Values.{Store, State, Inputs}

@@ -1,6 +1,5 @@
 -- A text on its way through the loader: what the functions between a statement and load ask and promise.
 use mathlib.Core.Path.{_≡_}
-use mathlib.Core.Bool.{Bool, cond}
 use mathlib.Core.List.{List, []}
 use Prim.Native.Nat.{ℕ, _≤_}
 use lib.ListN.{length, drop}
@@ -17,7 +16,7 @@ use Rattle.progress.specs.declared.Progress.{Progress}
 use Rattle.reading_statements.specs.ReadingStatements.{read-verdict}
 use Rattle.reading_statements.specs.declared.Read.{Read}
 use Rattle.reading_statements.specs.declared.Read.the-variants.{Statement, Refused}
-use Rattle.statements.specs.StatementAt.{statements-at, statement-at}
+use Rattle.statements.specs.StatementAt.{statement-at}
 use Rattle.syntax.specs.Items.{line-of, statements-from}
 use Rattle.syntax.specs.Load as spec
 use Rattle.syntax.specs.Load.{load-from}

@@ -6,7 +6,7 @@ use Prim.Native.Nat.{ℕ, zero, suc, _-_, _≤_}
 use native.Mathlib.Omega.{arith}
 use lib.Dec.{eqb, ltb}
 use lib.ListN.{length, take}
-use lib.IntN.{ℤ, pos, negsuc, natAbs}
+use lib.IntN.{pos, negsuc}
 use borrow.Author.Tests.{ne-eqb}
 use Rattle.lists.specs.Lists.{all, filled}
 use Rattle.language.specs.Letters.Letter.{E}
@@ -21,8 +21,7 @@ use Rattle.layout.specs.Components.{component-in}
 use Rattle.cells.specs.Cells.{Number}
 use Rattle.state.specs.Working.{state-at, nth, reading}
 use Rattle.state.specs.Blocks.{ExprNamed, ExprLent}
-use Rattle.table.specs.Denote.{letter-of, arg-of}
-use Rattle.table.specs.Good.{GoodIndex}
+use Rattle.table.specs.Denote.{letter-of}
 use Rattle.table.specs.declared.Letter.{Letter}
 use Rattle.table.specs.declared.Letter.the-variants.{B}
 use Rattle.table.specs.declared.Argument.{Argument}
@@ -31,7 +30,6 @@ use Rattle.instructions.specs.Does.{stop-of}
 use Rattle.tests.proofs.Values.{none-there, one-there, front-value, index-back}
 use Rattle.operands.specs.Operands.{earlier, OperandReadable, ReadsNumber, ReadsOperand, ReadsNumbers}
 use Rattle.operands.specs.declared.Operand.{Operand}
-use Rattle.operands.specs.declared.Pair.{Pair}
 
 abbrev told : ℕ → ℕ → Operand
 told k n = record { stop = k; code = n }

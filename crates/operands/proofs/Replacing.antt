@@ -1,5 +1,5 @@
 -- Components in the place of the first.
-use mathlib.Core.Path.{_≡_, refl, sym, ap, _∙_, subst}
+use mathlib.Core.Path.{_≡_, refl, sym, ap, _∙_}
 use mathlib.Core.Bool.{Bool, true, false, cond, _&&_}
 use mathlib.Core.List.{List, [], _∷_}
 use Prim.Native.Nat.{ℕ, _+_, _≤_, _<_}
@@ -9,15 +9,12 @@ use lib.ListN.{length, take, length-take}
 use lib.IntN.{ℤ}
 use borrow.Author.Tests.{lt-leb}
 use Rattle.language.specs.Limits as limit
-use Rattle.language.specs.Letters.Letter.{E}
-use Rattle.language.specs.Values.{Component, Store, State}
-use Rattle.machine.specs.Arguments.{expr}
+use Rattle.language.specs.Values.{Component, Store}
 use Rattle.machine.specs.Changes.{with-exprs, put-expr, placed, into, front, past-by, past, used-by, used, fits}
-use Rattle.layout.specs.Bounds.{Each, Ok}
 use Rattle.layout.specs.ComponentLaws.{components-bytes-one}
 use Rattle.layout.specs.Components.{component-bytes, components-in}
 use Rattle.layout.specs.Memory.{components-held, chars-held}
-use Rattle.state.specs.Working.{state-at, HoldsState, Stands, on-store, nth, reading, writing, char-count}
+use Rattle.state.specs.Working.{state-at, HoldsState, on-store, nth, reading, writing, char-count}
 use Rattle.state.specs.Blocks.{FirstParts, PartsDroppable, PartsWritable}
 use Rattle.state.specs.Limited.{Limited}
 use Rattle.state.proofs.Fits.{fine-limited, fits-into-ok}

@@ -1,8 +1,8 @@
 -- The rows of order, and that their functions do what they say.
-use mathlib.Core.Path.{_≡_, refl, sym, ap, _∙_, subst}
-use mathlib.Core.Bool.{Bool, true, false, cond, _&&_}
-use mathlib.Core.List.{List, [], _∷_}
-use Prim.Native.Nat.{ℕ, _≤_}
+use mathlib.Core.Path.{_≡_, refl, sym, ap, _∙_}
+use mathlib.Core.Bool.{Bool, true, false, cond}
+use mathlib.Core.List.{List}
+use Prim.Native.Nat.{ℕ}
 use native.Mathlib.Omega.{arith}
 use lib.Dec.{ltb}
 use lib.ListN.{length, take, length-take}
@@ -14,11 +14,10 @@ use Rattle.language.specs.Program.{Arg, Program}
 use Rattle.language.specs.Program.Arg.{nothing}
 use Rattle.language.specs.Program.Op.{WK, MN, PP, NS}
 use Rattle.language.specs.Values.{Component, Store, Inputs, chars, value}
-use Rattle.machine.specs.Arguments.{Asks, expr, first, side, needs, _&_}
+use Rattle.machine.specs.Arguments.{expr, first, side, needs, _&_}
 use Rattle.machine.specs.Changes.{with-plus, minus, minus-unless, past-by, used-by, used}
 use Rattle.machine.specs.Effects.{Row, relation, ordered, row}
 use Rattle.machine.specs.Effects.Go.{on}
-use Rattle.layout.specs.Cells.{uncode}
 use Rattle.packed.specs.Packed.{table-of}
 use Rattle.state.specs.Working.{state-at, HoldsState, Stands, on-store, nth, reading}
 use Rattle.table.specs.Denote.{arg-of}

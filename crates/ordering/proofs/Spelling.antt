@@ -1,15 +1,14 @@
 -- Words read from components and arguments.
-use mathlib.Core.Path.{_≡_, refl, sym, ap, _∙_, subst}
-use mathlib.Core.Bool.{Bool, true, false}
-use mathlib.Core.List.{List, [], _∷_}
+use mathlib.Core.Path.{_≡_, refl, sym, subst}
+use mathlib.Core.List.{List}
 use Prim.Native.Nat.{ℕ, _-_, _≤_}
 use native.Mathlib.Omega.{arith}
 use lib.ListN.{length, take}
 use borrow.Author.Tests.{ne-eqb}
 use Rattle.language.specs.Letters.Letter.{E}
 use Rattle.language.specs.Program.Arg.{letter, text}
-use Rattle.language.specs.Values.{Component, Store, Inputs, chars, kind}
-use Rattle.machine.specs.Arguments.{expr, first, side}
+use Rattle.language.specs.Values.{Component, Store, kind}
+use Rattle.machine.specs.Arguments.{expr, side}
 use Rattle.layout.specs.Components.{component-in}
 use Rattle.layout.specs.Table.{text-by}
 use Rattle.cells.specs.Cells.{pasted}
@@ -17,8 +16,8 @@ use Rattle.cells.proofs.Laws.{pasted-front, length-pasted}
 use Rattle.components.specs.Parts.{LentChars}
 use Rattle.packed.specs.Packed.{table-of, Copied}
 use Rattle.state.specs.Working.{state-at, nth}
-use Rattle.state.specs.Blocks.{ExprNamed, ExprLent}
-use Rattle.table.specs.Denote.{letter-of, arg-of}
+use Rattle.state.specs.Blocks.{ExprLent}
+use Rattle.table.specs.Denote.{letter-of}
 use Rattle.table.specs.declared.Letter.{Letter}
 use Rattle.table.specs.declared.Letter.the-variants.{B}
 use Rattle.table.specs.declared.Argument.{Argument}

@@ -1,5 +1,4 @@
 // Order: WK and MN of numbers, PP and NS of words.
-ghost use mathlib.Core.Path.{_≡_};
 ghost use lib.ListN.{length, take};
 ghost use Rattle.language.specs.Letters.Letter.{E};
 ghost use Rattle.language.specs.Program.Arg.{nothing};

@@ -1,5 +1,5 @@
 -- From the arguments of a relation of equality to its operands, and from what the families promise to its meaning.
-use mathlib.Core.Path.{_≡_, refl, sym, ap, _∙_, subst}
+use mathlib.Core.Path.{_≡_, refl, sym, _∙_, subst}
 use mathlib.Core.Bool.{Bool, true, false, _||_}
 use mathlib.Core.List.{List, [], _∷_}
 use mathlib.Core.Logic.{_⊎_, inl, inr}
@@ -19,7 +19,7 @@ use Rattle.layout.specs.Table.{program-of}
 use Rattle.machine.specs.Effects.{row}
 use Rattle.machine.specs.WellFormed.{form}
 use Rattle.packed.specs.Packed.{table-of}
-use Rattle.decoding.specs.Operands.{Lettered, Named, IsSource, IsIndex, IsVariable, Listed, Read, Shaped}
+use Rattle.decoding.specs.Operands.{Named, IsSource, IsIndex, IsVariable, Listed, Read, Shaped}
 use Rattle.decoding.specs.OperandLaws.{good-of, listed-of, named, narrowed, no-argument, indexed-is, indexed-below, shape, shapes}
 use Rattle.decoding.specs.declared.Source.{Source}
 use Rattle.decoding.specs.declared.Variable.{Variable}
@@ -42,7 +42,7 @@ use Rattle.performing.specs.Performing.{Performing, Performs}
 use Rattle.performing.specs.Operating.{Operating, PerformsFor}
 use Rattle.performing.specs.OperatingLaws.{operating, long, performs}
 use Rattle.perform_moves.proofs.Operands.{unread}
-use Rattle.perform_equality.specs.Equating.{any-letter, IsAny, RelatingExpression, RelatingRecord, Relating, equality-operators, Equating}
+use Rattle.perform_equality.specs.Equating.{any-letter, IsAny, RelatingExpression, RelatingRecord, Relating, Equating}
 
 -- ---- the letter T
 

@@ -1,8 +1,8 @@
 -- From the arguments of a jump, call or return to its operands, and from what the families promise to its meaning.
-use mathlib.Core.Path.{_≡_, refl, sym, ap, subst}
-use mathlib.Core.Bool.{Bool, true, false, not, _||_, _&&_}
+use mathlib.Core.Path.{_≡_, refl, ap}
+use mathlib.Core.Bool.{Bool, true, false, not, _||_}
 use mathlib.Core.List.{List, [], _∷_}
-use Prim.Native.Nat.{ℕ, suc, _≤_, _<_}
+use Prim.Native.Nat.{ℕ, _≤_, _<_}
 use native.Mathlib.Omega.{arith}
 use lib.Dec.{T, eqb, leb, eqb→eq, leb→le}
 use borrow.Author.Tests.{lt-leb}
@@ -20,13 +20,12 @@ use Rattle.decoding.specs.OperandLaws.{named, labelled, switched-by-name, switc
 use Rattle.decoding.specs.declared.Source.{Source}
 use Rattle.instructions.specs.Does.{GoesIn, GoesFor}
 use Rattle.jumps.specs.Jumps as jumps
-use Rattle.switches.specs.Switches.{SwitchCalls}
 use Rattle.state.specs.Working.{state-at, nth, reading}
 use Rattle.table.specs.Denote.{arg-of}
 use Rattle.table.specs.declared.Argument.{Argument}
 use Rattle.table.specs.declared.Argument.the-variants.{Label, Switch}
 use Rattle.performing.specs.Performing.{leads}
-use Rattle.performing.specs.Operating.{Operating, LeadsFor}
+use Rattle.performing.specs.Operating.{LeadsFor}
 use Rattle.performing.specs.OperatingLaws.{from, past, long, following, led}
 use Rattle.perform_jumps.specs.Jumping.{ByLabel, BySwitch, Jumping}
 

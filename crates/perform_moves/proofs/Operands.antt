@@ -2,13 +2,13 @@
 use mathlib.Core.Path.{_≡_, refl, sym, ap, _∙_, subst}
 use mathlib.Core.Bool.{Bool, true, false, _&&_, _||_}
 use mathlib.Core.List.{List, [], _∷_}
-use Prim.Native.Nat.{ℕ, zero, suc, _+_, _-_, _≤_, _<_}
+use Prim.Native.Nat.{ℕ, zero, suc, _-_, _≤_, _<_}
 use native.Mathlib.Omega.{arith}
 use lib.Dec.{T, eqb, leb, eqb→eq, leb→le}
 use lib.ListN.{length, getD}
 use types.Run.{OneOf, miss}
 use borrow.Author.Tests.{ne-eqb}
-use Rattle.lists.specs.Lists.{all, among}
+use Rattle.lists.specs.Lists.{all}
 use Rattle.lists.specs.ListLaws.{T-left, T-right}
 use Rattle.lists.specs.Quoted.{bytes}
 use Rattle.characters.specs.Characters.{known}
@@ -24,7 +24,7 @@ use Rattle.machine.specs.Effects.{row}
 use Rattle.machine.specs.WellFormed.{good-inputs, overrun, store-faults}
 use Rattle.machine.specs.WellFormedLaws.{open-state, open-store}
 use Rattle.packed.specs.Packed.{table-of}
-use Rattle.decoding.specs.Operands.{Named, IsSource, IsTarget, IsIndex, IsVariable, Listed, Read, Shaped, SwitchOf}
+use Rattle.decoding.specs.Operands.{Named, IsSource, IsTarget, IsIndex, IsVariable, Listed, Shaped, SwitchOf}
 use Rattle.decoding.specs.Operands as operands
 use Rattle.decoding.specs.OperandLaws.{named, switched-by-name, no-argument, test-letter, narrowed, indexed-is, indexed-below, shape}
 use Rattle.decoding.specs.declared.Source.{Source}
@@ -32,13 +32,13 @@ use Rattle.decoding.specs.declared.Target.{Target}
 use Rattle.decoding.specs.declared.Variable.{Variable}
 use Rattle.decoding.specs.declared.Variable.the-variants.{Expression, Input, Output, File}
 use Rattle.decoding.proofs.Variable.{enum as of-variables}
-use Rattle.instructions.specs.Does.{Ready, Does, DoesIn, DoesFor}
+use Rattle.instructions.specs.Does.{DoesIn, DoesFor}
 use Rattle.moves.specs.Moves.{Movable, Removable, target}
 use Rattle.joining.specs.Joining.{WordsJoinable}
 use Rattle.readings.specs.Readings.{input-of, Unread, InputPassable, InputReadable, DoesReading, DoesPassing}
 use Rattle.splitting.specs.Splitting.{WordSplittable}
 use Rattle.switches.specs.Switches.{Looks}
-use Rattle.state.specs.Working.{state-at, Stands, nth, reading}
+use Rattle.state.specs.Working.{state-at, nth, reading}
 use Rattle.table.specs.Denote.{arg-of}
 use Rattle.table.specs.Good.{GoodArgument}
 use Rattle.table.specs.declared.Argument.{Argument}
@@ -46,9 +46,9 @@ use Rattle.table.specs.declared.Argument.the-variants.{Switch}
 use Rattle.tests.specs.Prepares.{TestReadable}
 use Rattle.performing.specs.Stepping.{inputs}
 use Rattle.performing.specs.Performing.{Performing, Performs}
-use Rattle.performing.specs.Operating.{Operating, Carrying, PerformsFor}
+use Rattle.performing.specs.Operating.{Carrying, PerformsFor}
 use Rattle.performing.specs.OperatingLaws.{operating, carrying, long, performs}
-use Rattle.perform_moves.specs.Moving.{movers, Paired, Dropping, Seeking, Moving}
+use Rattle.perform_moves.specs.Moving.{Paired, Dropping, Seeking, Moving}
 
 -- ---- what all of them share
 

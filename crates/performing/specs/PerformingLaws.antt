@@ -1,13 +1,13 @@
 -- From an instruction carried out to a step.
 use mathlib.Core.Path.{_≡_, refl, sym, ap, _∙_, subst}
-use mathlib.Core.Bool.{Bool, true, false, cond, not, _&&_}
+use mathlib.Core.Bool.{Bool, true, false, cond, not}
 use mathlib.Core.List.{List, [], _∷_, map}
 use Prim.Native.Nat.{ℕ, suc, _≤_, _<_}
 use native.Mathlib.Omega.{arith}
 use lib.Dec.{T, leb, leb→le}
 use lib.ListN.{length}
-use Rattle.lists.specs.Lists.{all, headOr, ifAny, among}
-use Rattle.lists.specs.ListLaws.{T-left, T-right, all-among}
+use Rattle.lists.specs.Lists.{all, headOr, ifAny}
+use Rattle.lists.specs.ListLaws.{T-left, T-right}
 use Rattle.language.specs.Instructions.{operation, operator-of, is-end}
 use Rattle.language.specs.Limits as limit
 use Rattle.language.specs.Program.{Arg, Op, Program, instr-at}
@@ -17,17 +17,15 @@ use Rattle.machine.specs.Effects.{Row, relation, equality, ordered, computed, c
 use Rattle.machine.specs.Effects.Go.{on}
 use Rattle.machine.specs.WellFormedLaws.{open-state}
 use Rattle.machine.specs.Runs.Outcome.{stop, went}
-use Rattle.machine.specs.Steps.{made, meaning, numbers, questions, refusals, step, asks-after}
+use Rattle.machine.specs.Steps.{made, meaning, numbers, questions, refusals, step}
 use Rattle.layout.specs.Table.{program-of}
 use Rattle.control.specs.Going.{going, Following}
-use Rattle.control.proofs.Laws.{made-is}
-use Rattle.decoding.specs.Operands.{Read}
 use Rattle.decoding.specs.OperandLaws.{has-following}
-use Rattle.instructions.specs.Does.{answered, asked-of, answer-of, kept-of, done-of, with-store, Does, Goes}
-use Rattle.state.specs.Working.{state-at, HoldsState, Stands, on-store}
+use Rattle.instructions.specs.Does.{answered, asked-of, done-of, with-store}
+use Rattle.state.specs.Working.{state-at, HoldsState}
 use Rattle.state.proofs.Standing as standing
 use Rattle.table.specs.declared.Argument.{Argument}
-use Rattle.performing.specs.Stepping.{inputs, Steppable, number-of, state-after, outcome, Stepped}
+use Rattle.performing.specs.Stepping.{inputs, number-of, state-after, outcome, Stepped}
 use Rattle.performing.specs.Performing.{leads, Performing, next-row, Performs, Leads}
 use Rattle.performing.specs.SteppingLaws.{few}
 

@@ -2,22 +2,21 @@
 use mathlib.Core.Path.{_≡_, refl, sym, ap, _∙_, subst}
 use mathlib.Core.Bool.{Bool, true, false, cond, _&&_}
 use mathlib.Core.List.{List, [], _∷_, map}
-use Prim.Native.Nat.{ℕ, _≤_, _<_}
+use Prim.Native.Nat.{ℕ, _<_}
 use native.Mathlib.Omega.{arith}
-use lib.Dec.{T, leb, ltb, ltb→lt}
-use Rattle.lists.specs.Lists.{all, headOr, ifAny}
+use lib.Dec.{T, ltb, ltb→lt}
+use Rattle.lists.specs.Lists.{all}
 use Rattle.lists.specs.ListLaws.{T-left, T-right}
 use Rattle.language.specs.Program.{Program}
 use Rattle.language.specs.Values.{State, Inputs}
 use Rattle.machine.specs.Runs.{Outcome}
 use Rattle.machine.specs.Runs.Outcome.{stop, went}
-use Rattle.machine.specs.Steps.{made, meaning, numbers, questions, refusals, step, asks-after}
-use Rattle.machine.specs.StepLaws.{step-first, step-good}
-use Rattle.machine.specs.WellFormed.{good-program, good-inputs, good-state}
-use Rattle.layout.specs.Table.{program-of, good-table}
-use Rattle.state.specs.Working.{state-at, HoldsState, Stands}
+use Rattle.machine.specs.Steps.{meaning, numbers, questions, refusals, step, asks-after}
+use Rattle.machine.specs.StepLaws.{step-first}
+use Rattle.layout.specs.Table.{program-of}
+use Rattle.state.specs.Working.{state-at, HoldsState}
 use Rattle.state.proofs.Standing.{state-of}
-use Rattle.performing.specs.Stepping.{inputs, Steppable, number-of, state-after, outcome, Stepped}
+use Rattle.performing.specs.Stepping.{inputs, number-of, state-after, outcome, Stepped}
 
 -- every number of a stop is more than 0
 pub few : (f : ℕ → Bool) (ns : List ℕ) → T (all (ltb 0) ns) → {k : ℕ} {ks : List ℕ} → refusals (map (λ n. (n, f n)) ns) ≡ k ∷ ks → 0 < k

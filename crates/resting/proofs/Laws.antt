@@ -1,16 +1,16 @@
 -- Scalars cell by cell, and a state as its scalars and strings.
 use mathlib.Core.Path.{_≡_, refl, ap, sym, _∙_}
-use mathlib.Core.List.{List, [], _∷_, _++_, append-assoc, append-nil}
+use mathlib.Core.List.{List, [], _∷_, _++_, append-assoc}
 use Prim.Native.Nat.{ℕ, zero, suc, _+_, _-_, _*_, _≤_, _<_}
 use native.Mathlib.Nat.{le-of-suc-le-suc, not-suc-le-zero}
 use native.Mathlib.Numerals.{add-one}
 use native.Mathlib.Omega.{arith}
-use lib.ListN.{length, getD, take, drop, set, take-append-drop, length-append, length-set}
-use lib.Seq.{take-suc, take-suc-set, take-length, take-all, length-take-le, getD-drop, drop-drop, take-at, drop-at}
+use lib.ListN.{length, getD, take, drop, set, take-append-drop, length-set}
+use lib.Seq.{take-suc-set, take-length, length-take-le, getD-drop, drop-drop, take-at, drop-at}
 use Rattle.language.specs.Limits as limit
 use Rattle.lists.specs.Lists.{each}
 use Rattle.layout.specs.Cells.{three, three-at}
-use Rattle.layout.specs.CellLaws.{each-in, length-each}
+use Rattle.layout.specs.CellLaws.{length-each}
 use Rattle.language.specs.Values.{State}
 use Rattle.layout.specs.FineLaws.{fine-room}
 use Rattle.layout.specs.Memory.{scalars, strings, state-cells, threes-in, state-of, written}
@@ -21,8 +21,8 @@ use Rattle.cells.specs.Cells.{pasted}
 use Rattle.gaps.specs.Pool.{abs, Holds}
 use Rattle.packing.specs.Packing.{Unpackable}
 use Rattle.state.proofs.Standing.{numbers-long, number-most}
-use Rattle.state.specs.Working.{state-at, HoldsState, Stands}
-use Rattle.resting.specs.Resting.{Openable, Closable, Scalars, Numbers, Strung}
+use Rattle.state.specs.Working.{state-at, HoldsState}
+use Rattle.resting.specs.Resting.{Openable, Closable, Numbers}
 
 three-later : (j : ℕ) (m : List ℕ) → three-at j (drop 3 m) ≡ three-at (3 + j) m
 three-later j m =

@@ -1,28 +1,27 @@
 -- The loop of a run: what was stepped so far is a run of the specification.
-use mathlib.Core.Path.{_≡_, refl, sym, ap, _∙_, subst}
+use mathlib.Core.Path.{_≡_, ap, _∙_}
 use mathlib.Core.List.{List}
-use Prim.Native.Nat.{ℕ, suc, _+_, _≤_, _<_}
+use Prim.Native.Nat.{ℕ, _+_, _≤_, _<_}
 use native.Mathlib.Numerals.{add-one}
 use native.Mathlib.Omega.{arith}
 use lib.Dec.{T}
 use lib.ListN.{length}
 use Rattle.language.specs.Limits as limit
 use Rattle.language.specs.Program.{Program}
-use Rattle.language.specs.Values.{State, Inputs}
-use Rattle.machine.specs.Runs.{Run, ran, run, Goes}
+use Rattle.language.specs.Values.{State}
+use Rattle.machine.specs.Runs.{ran, Goes}
 use Rattle.machine.specs.Runs.Answer.{pause, stopped}
 use Rattle.machine.specs.Runs.Goes.{here}
 use Rattle.machine.specs.RunLaws.{goes-snoc, run-pause, run-stop}
 use Rattle.machine.specs.Steps.{step}
 use Rattle.machine.specs.StepLaws.{step-good}
-use Rattle.machine.specs.WellFormed.{good-program, good-inputs, good-state}
-use Rattle.layout.specs.FineLaws.{good-fine}
-use Rattle.layout.specs.Memory.{state-of, good-memory, written}
+use Rattle.machine.specs.WellFormed.{good-program}
+use Rattle.layout.specs.Memory.{state-of, written}
 use Rattle.layout.specs.MemoryLaws.{memory-facts, memory-fine}
-use Rattle.layout.specs.Table.{program-of, good-table}
+use Rattle.layout.specs.Table.{program-of}
 use Rattle.layout.specs.TableLaws.{table-facts}
 use Rattle.resting.specs.Resting.{Openable, Closable}
-use Rattle.state.specs.Working.{state-at, HoldsState, Stands}
+use Rattle.state.specs.Working.{state-at, HoldsState}
 use Rattle.state.proofs.Standing as standing
 use Rattle.performing.specs.Stepping.{inputs, Steppable, Stepped}
 use Rattle.performing.specs.SteppingLaws as laws

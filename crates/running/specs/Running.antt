@@ -1,7 +1,7 @@
 -- What a run on the working memory and on lent memory asks and promises.
 use mathlib.Core.Path.{_≡_}
 use mathlib.Core.List.{List}
-use Prim.Native.Nat.{ℕ, _≤_}
+use Prim.Native.Nat.{ℕ}
 use lib.Dec.{T}
 use Rattle.language.specs.Values.{State}
 use Rattle.machine.specs.Runs.{Answer, Run, run}

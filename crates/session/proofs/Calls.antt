@@ -1,18 +1,18 @@
 -- What start and run leave, as the machine has it.
 use mathlib.Core.Path.{_≡_, refl, ap, sym, _∙_, subst}
 use mathlib.Core.Bool.{Bool, true, false, cond}
-use mathlib.Core.List.{List, [], _∷_, _++_}
-use Prim.Native.Nat.{ℕ, _+_, _*_, _/_, _%_, _≤_, _<_}
+use mathlib.Core.List.{List}
+use Prim.Native.Nat.{ℕ, _/_, _%_, _≤_}
 use native.Mathlib.Omega.{arith}
-use lib.Dec.{T, eqb, le→leb}
-use lib.ListN.{length, drop, length-append}
+use lib.Dec.{T}
+use lib.ListN.{length}
 use borrow.Author.Tests.{ne-eqb, le-leb}
 use Rattle.language.specs.Limits as limit
 use Rattle.language.specs.Program.{Program}
 use Rattle.language.specs.Values.{State, Inputs}
 use Rattle.machine.specs.Runs.{Answer, Run, Says, run, ran}
 use Rattle.machine.specs.Runs.Answer.{pause, stopped}
-use Rattle.machine.specs.Runs.Says.{used-up, halted}
+use Rattle.machine.specs.Runs.Says.{halted}
 use Rattle.machine.specs.RunLaws.{run-lawful}
 use Rattle.machine.specs.Steps.{step}
 use Rattle.machine.specs.StepLaws.{run-good}
@@ -20,8 +20,8 @@ use Rattle.machine.specs.WellFormed.{good-program, good-inputs, good-state, sta
 use Rattle.machine.specs.WellFormedLaws.{started-good, open-state}
 use Rattle.layout.specs.Bounds.{Fine}
 use Rattle.layout.specs.FineLaws.{good-fine}
-use Rattle.layout.specs.Memory.{state-cells, state-of, good-memory, written}
-use Rattle.layout.specs.MemoryLaws.{written-back, written-good, memory-facts, length-state-cells, length-written}
+use Rattle.layout.specs.Memory.{state-of, good-memory, written}
+use Rattle.layout.specs.MemoryLaws.{written-back, written-good, memory-facts}
 use Rattle.layout.specs.Table.{program-of, good-table}
 use Rattle.layout.specs.TableLaws.{table-facts}
 use Rattle.calls.specs.Calls.{packed, Result, Reply, reply-number, reply-count, reply-answer, run-reply, startOf, runOf, accepted-result}

@@ -1,16 +1,15 @@
 -- The line of the current instruction, and how much is printed.
 use mathlib.Core.Path.{_≡_, refl, ap, sym, _∙_}
-use mathlib.Core.List.{List, [], _∷_, _++_}
-use Prim.Native.Nat.{ℕ, _+_, _*_, _%_, _≤_, _<_}
+use mathlib.Core.List.{List, [], _∷_}
+use Prim.Native.Nat.{ℕ, _+_, _*_, _%_, _≤_}
 use native.Mathlib.Omega.{arith}
-use lib.Dec.{T}
 use lib.ListN.{length}
 use Rattle.language.specs.Limits as limit
 use Rattle.language.specs.Program.{instr-at}
 use Rattle.cells.specs.Cells.{Number}
 use Rattle.layout.specs.Cells.{cell}
 use Rattle.layout.specs.Memory.{state-of}
-use Rattle.layout.specs.Table.{program-of, good-table, instr-in}
+use Rattle.layout.specs.Table.{program-of, instr-in}
 use Rattle.layout.specs.TableLaws.{table-facts}
 use Rattle.packed.specs.Packed.{table-of}
 use Rattle.table.specs.Good.{GoodInstruction}

@@ -2,7 +2,7 @@
 use mathlib.Core.Path.{_≡_, refl, ap, sym, _∙_, subst}
 use mathlib.Core.Bool.{Bool, true, false, cond, _&&_}
 use mathlib.Core.List.{List, [], _∷_, _++_}
-use Prim.Native.Nat.{ℕ, zero, suc, _+_, _-_, _*_, _/_, _%_, _≤_, _<_}
+use Prim.Native.Nat.{ℕ, suc, _+_, _-_, _/_, _%_, _≤_, _<_}
 use native.Mathlib.Omega.{arith}
 use lib.Dec.{T, eqb, leb, ltb, ltb→lt, leb→le}
 use lib.ListN.{length, take, drop, length-take, length-drop}
@@ -10,7 +10,6 @@ use lib.Seq.{take-all}
 use Rattle.lists.specs.Lists.{all, keep}
 use Rattle.lists.specs.ListLaws.{T-left, T-right}
 use Rattle.language.specs.Limits as limit
-use Rattle.language.specs.Program.{Program}
 use Rattle.language.specs.Values.{Inputs}
 use Rattle.machine.specs.WellFormed.{good-program}
 use Rattle.layout.specs.Table.{table-cells, program-of, good-table}
@@ -24,7 +23,7 @@ use Rattle.syntax.specs.Tables.{Draft, blank, draft-after}
 use Rattle.syntax.specs.Verdict.{Question, Verdict, decide, first-no}
 use Rattle.syntax.specs.Verdict.Verdict.{refuse}
 use Rattle.acceptance.specs.AcceptanceLaws.{accepted-good}
-use Rattle.calls.specs.Calls.{packed, load-number, load-line, load-answer, table-after}
+use Rattle.calls.specs.Calls.{load-number, load-line, load-answer, table-after}
 use Rattle.calls.specs.AnswerLaws.{packed-number, packed-value}
 use Rattle.console.specs.Console.{textOf, inputOf, refusal-line, session-bytes, loaded-bytes, printed}
 use Rattle.console.specs.Parts.{Put, TextEnd, RefusalRoom}

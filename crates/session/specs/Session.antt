@@ -1,5 +1,4 @@
 -- A session on a table: what is printed, and what the end of a run asks.
-use mathlib.Core.Path.{_≡_}
 use mathlib.Core.Bool.{cond}
 use mathlib.Core.List.{List}
 use Prim.Native.Nat.{ℕ, _≤_, _<_}

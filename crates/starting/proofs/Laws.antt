@@ -1,11 +1,11 @@
 -- A 1 and zeros are the cells of the state that start makes.
-use mathlib.Core.Path.{_≡_, refl, sym, ap, _∙_}
+use mathlib.Core.Path.{_≡_, sym, ap, _∙_}
 use mathlib.Core.List.{List, [], _∷_, _++_}
 use Prim.Native.Nat.{ℕ, _≤_}
 use native.Mathlib.Omega.{arith}
-use lib.ListN.{length, drop, set, replicate}
+use lib.ListN.{length, drop, set}
 use Rattle.machine.specs.WellFormed.{started}
-use Rattle.layout.specs.Memory.{state-cells, written}
+use Rattle.layout.specs.Memory.{written}
 use Rattle.layout.specs.MemoryLaws.{started-cells}
 use Rattle.cells.specs.Cells.{cleared}
 

@@ -1,8 +1,7 @@
 // Reading the values of a test: "A move first reads its test's values".
-ghost use Prim.Native.Nat.{suc, _≤_};
 ghost use lib.ListN.{length};
 ghost use Rattle.language.specs.Letters.Letter.{B, T};
-ghost use Rattle.language.specs.Program.Arg.{letter, text};
+ghost use Rattle.language.specs.Program.Arg.{letter};
 ghost use Rattle.layout.specs.Table.{text-by};
 ghost use Rattle.packed.specs.Packed.{table-of};
 ghost use Rattle.state.specs.Working.{state-at, nth};

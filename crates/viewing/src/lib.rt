@@ -1,6 +1,5 @@
 // A state at rest in lent memory, looked at: its first output and its next instruction.
 ghost use mathlib.Core.Path.{_≡_};
-ghost use lib.ListN.{getD};
 ghost use Rattle.layout.specs.Memory.{state-of};
 ghost use Rattle.layout.specs.Strings.{strings-in};
 ghost use Rattle.cells.specs.Cells.{Number};

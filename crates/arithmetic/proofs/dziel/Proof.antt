@@ -1,6 +1,5 @@
 -- `arithmetic::dziel` meets its contract.
 use borrow.Author.Needs.{needs}
-use native.Mathlib.Omega.{arith}
 use Rattle.arithmetic.proofs.Rows.{divisible, numbered, dziel-stops, dziel-zeros, dziel-dones}
 use Rattle.arithmetic.proofs.dziel.Statement.{statement}
 use Rattle.arithmetic.proofs.dziel.Tie as tie

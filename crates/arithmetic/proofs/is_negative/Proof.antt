@@ -1,6 +1,4 @@
 -- `arithmetic::is_negative` meets its contract.
-use borrow.Author.Needs.{needs}
-use native.Mathlib.Omega.{arith}
 use Rattle.arithmetic.proofs.Numbers.{negative-is}
 use Rattle.arithmetic.proofs.is_negative.Statement.{statement}
 use Rattle.arithmetic.proofs.is_negative.Tie as tie

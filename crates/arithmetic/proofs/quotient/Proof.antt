@@ -1,6 +1,5 @@
 -- `arithmetic::quotient` meets its contract.
 use borrow.Author.Needs.{needs}
-use native.Mathlib.Omega.{arith}
 use mathlib.Core.Path.{ap, _∙_}
 use mathlib.Core.Bool.{Bool}
 use Rattle.layout.specs.Cells.{uncode}

@@ -1,6 +1,5 @@
 -- `arithmetic::remainder` meets its contract.
 use borrow.Author.Needs.{needs}
-use native.Mathlib.Omega.{arith}
 use Rattle.arithmetic.proofs.Numbers.{size-some, remainder-right}
 use Rattle.arithmetic.proofs.remainder.Statement.{statement}
 use Rattle.arithmetic.proofs.remainder.Tie as tie

@@ -1,6 +1,5 @@
 -- `arithmetic::size` meets its contract.
 use borrow.Author.Needs.{needs}
-use native.Mathlib.Omega.{arith}
 use Rattle.arithmetic.proofs.Numbers.{size-low, size-high}
 use Rattle.arithmetic.proofs.size.Statement.{statement}
 use Rattle.arithmetic.proofs.size.Tie as tie

@@ -1,6 +1,5 @@
 -- `arithmetic::sum` meets its contract.
 use borrow.Author.Needs.{needs}
-use native.Mathlib.Omega.{arith}
 use Rattle.arithmetic.proofs.Numbers.{sum-low, sum-high, sum-in}
 use Rattle.arithmetic.proofs.sum.Statement.{statement}
 use Rattle.arithmetic.proofs.sum.Tie as tie

@@ -1,6 +1,5 @@
 -- `arithmetic::with_sign` meets its contract.
 use borrow.Author.Needs.{needs}
-use native.Mathlib.Omega.{arith}
 use Rattle.arithmetic.proofs.Numbers.{signed-out, signed-minus, signed-plus}
 use Rattle.arithmetic.proofs.with_sign.Statement.{statement}
 use Rattle.arithmetic.proofs.with_sign.Tie as tie

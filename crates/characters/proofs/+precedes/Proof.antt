@@ -1,5 +1,5 @@
 -- `characters::precedes` meets its contract. It ends since the second word grows shorter with each call.
-use mathlib.Core.Path.{_≡_, sym, _∙_}
+use mathlib.Core.Path.{sym, _∙_}
 use lib.ListN.{length}
 use Rattle.characters.proofs.Steps.{before-none, none-before, same-first, other-first}
 use borrow.Author.Needs.{needs}

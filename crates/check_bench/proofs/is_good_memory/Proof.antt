@@ -1,9 +1,6 @@
 -- `check_bench::is_good_memory` meets its contract.
 use borrow.Author.Needs.{needs}
-use native.Mathlib.Omega.{arith}
-use mathlib.Core.Path.{_≡_, refl, sym, ap, _∙_}
-use mathlib.Core.Bool.{Bool, true, false, _&&_}
-use mathlib.Core.List.{[], _∷_}
+use mathlib.Core.Path.{refl, sym, _∙_}
 use lib.Dec.{T}
 use borrow.Author.Tests.{not-true, not-false}
 use mathlib.Core.Path.{subst}

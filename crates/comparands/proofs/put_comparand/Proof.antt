@@ -1,6 +1,5 @@
 -- `comparands::put_comparand` meets its contract.
 use borrow.Author.Needs.{needs}
-use native.Mathlib.Omega.{arith}
 use Rattle.state.specs.Working.{state-at}
 use Rattle.comparands.proofs.Offering.{letter-holdable, text-holdable, code-holdable, as-read, text-argument, code-argument, class-offered, nothing-offered, label-offered, switch-offered}
 use Rattle.comparands.proofs.put_comparand.Statement.{statement}

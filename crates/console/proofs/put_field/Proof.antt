@@ -1,7 +1,6 @@
 -- `console::put_field` meets its contract.
 use lib.ListN.{length-take}
 use Rattle.console.proofs.Putting.{put-long, put-then, put-same, number-told}
-use mathlib.Core.Path.{sym}
 use native.Mathlib.Omega.{arith}
 use borrow.Author.Needs.{needs}
 use Rattle.console.proofs.put_field.Statement.{statement}

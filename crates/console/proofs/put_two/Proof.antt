@@ -2,7 +2,7 @@
 use borrow.Author.Needs.{needs}
 use native.Mathlib.Omega.{arith}
 use mathlib.Core.Path.{refl}
-use lib.ListN.{length, length-set}
+use lib.ListN.{length-set}
 use Rattle.cells.proofs.Laws.{set-two}
 use Rattle.console.proofs.put_two.Statement.{statement}
 use Rattle.console.proofs.put_two.Tie as tie

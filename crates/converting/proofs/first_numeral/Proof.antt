@@ -1,6 +1,5 @@
 -- `converting::first_numeral` meets its contract.
 use borrow.Author.Needs.{needs}
-use native.Mathlib.Omega.{arith}
 use mathlib.Core.Path.{sym, _∙_}
 use Rattle.tests.proofs.Values.{leading}
 use Rattle.converting.proofs.Numerals.{none-told, kind-told, wrong-told, over-told, code-told}

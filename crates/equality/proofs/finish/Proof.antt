@@ -1,6 +1,5 @@
 -- `equality::finish` meets its contract.
 use borrow.Author.Needs.{needs}
-use native.Mathlib.Omega.{arith}
 use Rattle.state.specs.Working.{state-at}
 use Rattle.equality.proofs.Rows.{finish-done, finish-failed}
 use Rattle.equality.proofs.finish.Statement.{statement}

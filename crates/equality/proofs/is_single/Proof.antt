@@ -1,6 +1,5 @@
 -- `equality::is_single` meets its contract.
 use borrow.Author.Needs.{needs}
-use native.Mathlib.Omega.{arith}
 use mathlib.Core.Path.{refl}
 use Rattle.equality.proofs.is_single.Statement.{statement}
 use Rattle.equality.proofs.is_single.Tie as tie

@@ -1,6 +1,5 @@
 -- `equality::rw_any` meets its contract.
 use borrow.Author.Needs.{needs}
-use native.Mathlib.Omega.{arith}
 use mathlib.Core.List.{[]}
 use Rattle.layout.specs.ComponentLaws.{whole-components}
 use Rattle.equality.proofs.Meeting.{fitting-by}

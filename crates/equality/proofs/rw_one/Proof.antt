@@ -1,6 +1,5 @@
 -- `equality::rw_one` meets its contract.
 use borrow.Author.Needs.{needs}
-use native.Mathlib.Omega.{arith}
 use mathlib.Core.List.{[]}
 use Rattle.packed.specs.Packed.{table-of}
 use Rattle.state.specs.Working.{state-at}

@@ -1,9 +1,8 @@
 -- `equality::settle` meets its contract.
 use borrow.Author.Needs.{needs}
-use native.Mathlib.Omega.{arith}
 use Rattle.layout.specs.ComponentLaws.{whole-components}
 use Rattle.tests.proofs.Values.{leading}
-use Rattle.equality.proofs.Meeting.{some-there, first-fits, first-long, first-whole, first-parts, settled-done, fitting-by}
+use Rattle.equality.proofs.Meeting.{some-there, first-long, first-whole, first-parts, settled-done, fitting-by}
 use Rattle.equality.proofs.settle.Statement.{statement}
 use Rattle.equality.proofs.settle.Tie as tie
 use Rattle.equality.proofs.settle.Reads as reads

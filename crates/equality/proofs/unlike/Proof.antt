@@ -1,6 +1,4 @@
 -- `equality::unlike` meets its contract.
-use borrow.Author.Needs.{needs}
-use native.Mathlib.Omega.{arith}
 use mathlib.Core.Path.{sym, _∙_}
 use borrow.Author.Tests.{not-false}
 use Rattle.equality.proofs.Meeting.{unlike-no, unlike-yes}

@@ -1,7 +1,6 @@
 -- `finishing::last_place` meets its contract.
 use borrow.Author.Needs.{needs}
-use native.Mathlib.Omega.{arith}
-use mathlib.Core.Path.{refl, sym, ap}
+use mathlib.Core.Path.{sym, ap}
 use Prim.Native.Nat.{pred}
 use Rattle.finishing.proofs.Ending.{pred-less}
 use Rattle.finishing.proofs.last_place.Statement.{statement}

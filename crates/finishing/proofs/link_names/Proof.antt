@@ -1,6 +1,5 @@
 -- `finishing::link_names` meets its contract.
 use borrow.Author.Needs.{needs}
-use native.Mathlib.Omega.{arith}
 use Rattle.finishing.proofs.Ending.{linked-done, linked-label, linked-switch}
 use Rattle.finishing.proofs.link_names.Statement.{statement}
 use Rattle.finishing.proofs.link_names.Tie as tie

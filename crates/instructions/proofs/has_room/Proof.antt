@@ -1,5 +1,4 @@
 use borrow.Author.Needs.{needs}
-use native.Mathlib.Omega.{arith}
 use Rattle.instructions.proofs.Room.{no-room, room-left}
 use Rattle.instructions.proofs.has_room.Statement.{statement}
 use Rattle.instructions.proofs.has_room.Tie as tie

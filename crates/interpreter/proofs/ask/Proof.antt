@@ -1,5 +1,4 @@
 use borrow.Author.Needs.{needs}
-use native.Mathlib.Omega.{arith}
 use Rattle.interpreter.proofs.Deciding.{both-asked}
 use Rattle.interpreter.proofs.ask.Statement.{statement}
 use Rattle.interpreter.proofs.ask.Tie as tie

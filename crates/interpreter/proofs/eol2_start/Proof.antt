@@ -1,5 +1,4 @@
 use borrow.Author.Needs.{needs}
-use native.Mathlib.Omega.{arith}
 use mathlib.Core.List.{[], _∷_}
 use Rattle.calls.specs.Calls.Call.{start-on}
 use Rattle.interpreter.proofs.Deciding.{refused-early, short-63, start-made}

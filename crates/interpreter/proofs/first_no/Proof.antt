@@ -1,5 +1,3 @@
-use borrow.Author.Needs.{needs}
-use native.Mathlib.Omega.{arith}
 use borrow.Author.Tests.{not-true, not-false}
 use Rattle.interpreter.proofs.Deciding.{is-62-of, is-61-of, is-0-of}
 use Rattle.interpreter.proofs.first_no.Statement.{statement}

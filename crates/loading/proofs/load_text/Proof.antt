@@ -1,6 +1,5 @@
 -- `loading::load_text` meets its contract.
 use borrow.Author.Needs.{needs}
-use native.Mathlib.Omega.{arith}
 use mathlib.Core.Path.{refl}
 use Rattle.loading.proofs.Outcomes.{unread, text-refused, finishable, text-finished}
 use Rattle.loading.proofs.load_text.Statement.{statement}

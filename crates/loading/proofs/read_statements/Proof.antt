@@ -1,7 +1,7 @@
 -- `loading::read_statements` meets its contract.
 use borrow.Author.Needs.{needs}
 use native.Mathlib.Omega.{arith}
-use mathlib.Core.Path.{refl, sym, ap, _∙_}
+use mathlib.Core.Path.{refl, _∙_}
 use Prim.Native.Nat.{_-_}
 use lib.ListN.{length}
 use Rattle.loading.proofs.Walking.{other, line-low, Looping, going-none, part-here, judged, going-refused, going-last, going-next}

@@ -1,8 +1,7 @@
 -- `matching::count` meets its contract.
 use borrow.Author.Needs.{needs}
 use native.Mathlib.Omega.{arith}
-use mathlib.Core.Path.{ap}
-use Prim.Native.Nat.{ℕ, _-_, _+_}
+use Prim.Native.Nat.{_-_}
 use lib.ListN.{length}
 use Rattle.layout.specs.ComponentLaws.{one-component}
 use Rattle.components.proofs.Walks.{step}

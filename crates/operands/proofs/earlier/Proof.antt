@@ -1,6 +1,4 @@
 -- `operands::earlier` meets its contract.
-use borrow.Author.Needs.{needs}
-use native.Mathlib.Omega.{arith}
 use borrow.Author.Tests.{eq-eqb, ne-eqb, lt-ltb, le-ltb}
 use Rattle.operands.proofs.earlier.Statement.{statement}
 use Rattle.operands.proofs.earlier.Tie as tie

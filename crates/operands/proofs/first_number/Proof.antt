@@ -1,6 +1,4 @@
 -- `operands::first_number` meets its contract.
-use borrow.Author.Needs.{needs}
-use native.Mathlib.Omega.{arith}
 use mathlib.Core.Path.{sym, _∙_}
 use Rattle.tests.proofs.Values.{leading}
 use Rattle.operands.proofs.Reading.{none-told, kind-told, value-told}

@@ -1,6 +1,5 @@
 -- `operands::two_numbers` meets its contract.
 use borrow.Author.Needs.{needs}
-use native.Mathlib.Omega.{arith}
 use Rattle.state.specs.Working.{state-at}
 use Rattle.machine.specs.Arguments.{side}
 use Rattle.table.specs.Denote.{arg-of}

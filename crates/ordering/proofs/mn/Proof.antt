@@ -1,6 +1,5 @@
 -- `ordering::mn` meets its contract.
 use borrow.Author.Needs.{needs}
-use native.Mathlib.Omega.{arith}
 use Rattle.ordering.proofs.Rows.{mn-stop, mn-done}
 use Rattle.ordering.proofs.mn.Statement.{statement}
 use Rattle.ordering.proofs.mn.Tie as tie

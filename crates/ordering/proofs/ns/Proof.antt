@@ -1,6 +1,5 @@
 -- `ordering::ns` meets its contract.
 use borrow.Author.Needs.{needs}
-use native.Mathlib.Omega.{arith}
 use mathlib.Core.List.{[]}
 use Rattle.ordering.proofs.Rows.{word-long, ns-stop, ns-done}
 use Rattle.ordering.proofs.ns.Statement.{statement}

@@ -1,6 +1,5 @@
 -- `ordering::pp` meets its contract.
 use borrow.Author.Needs.{needs}
-use native.Mathlib.Omega.{arith}
 use mathlib.Core.List.{[]}
 use Rattle.ordering.proofs.Rows.{word-long, pp-stop, pp-done}
 use Rattle.ordering.proofs.pp.Statement.{statement}

@@ -1,6 +1,5 @@
 -- `ordering::wk` meets its contract.
 use borrow.Author.Needs.{needs}
-use native.Mathlib.Omega.{arith}
 use Rattle.ordering.proofs.Rows.{wk-stop, wk-done}
 use Rattle.ordering.proofs.wk.Statement.{statement}
 use Rattle.ordering.proofs.wk.Tie as tie

@@ -1,7 +1,6 @@
 -- `pointers::ustaw` meets its contract.
 use borrow.Author.Needs.{needs}
-use mathlib.Core.Path.{_≡_, sym, _∙_}
-use Rattle.language.specs.Letters.Letter.{P}
+use mathlib.Core.Path.{sym, _∙_}
 use Rattle.machine.specs.Changes.{past}
 use Rattle.state.specs.Working.{state-at, nth, reading}
 use Rattle.filing.specs.Files.{pointed-at}

@@ -1,6 +1,6 @@
 -- `record_tests::whole_index` meets its contract.
 use borrow.Author.Needs.{needs}
-use mathlib.Core.Path.{_≡_, sym, ap, _∙_}
+use mathlib.Core.Path.{sym, ap, _∙_}
 use Rattle.record_tests.specs.RecordPrepares.{whole-index}
 use Rattle.record_tests.proofs.Wholes.{argument-left}
 use Rattle.record_tests.proofs.whole_index.Statement.{statement}

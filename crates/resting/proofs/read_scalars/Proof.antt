@@ -1,7 +1,6 @@
 -- `resting::read_scalars` meets its contract.
 use borrow.Author.Needs.{needs}
 use native.Mathlib.Omega.{arith}
-use mathlib.Core.Path.{refl}
 use Prim.Native.Nat.{_-_}
 use Rattle.resting.proofs.Laws.{Reading, reading-none, reading-more, reading-all}
 use Rattle.resting.proofs.read_scalars.Statement.{statement}

@@ -1,6 +1,5 @@
 -- `resting::unpack_state` meets its contract.
 use borrow.Author.Needs.{needs}
-use native.Mathlib.Omega.{arith}
 use mathlib.Core.Path.{refl}
 use Rattle.resting.proofs.Laws.{unpackable, opened}
 use Rattle.resting.proofs.unpack_state.Statement.{statement}

@@ -1,7 +1,6 @@
 -- `resting::write_scalars` meets its contract.
 use borrow.Author.Needs.{needs}
 use native.Mathlib.Omega.{arith}
-use mathlib.Core.Path.{refl}
 use Prim.Native.Nat.{_-_}
 use Rattle.resting.proofs.Laws.{Writing, writing-none, writing-more, writing-all}
 use Rattle.resting.proofs.write_scalars.Statement.{statement}

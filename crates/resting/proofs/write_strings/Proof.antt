@@ -1,6 +1,5 @@
 -- `resting::write_strings` meets its contract.
 use borrow.Author.Needs.{needs}
-use native.Mathlib.Omega.{arith}
 use Rattle.resting.proofs.Laws.{strung}
 use Rattle.resting.proofs.write_strings.Statement.{statement}
 use Rattle.resting.proofs.write_strings.Tie as tie

@@ -1,5 +1,5 @@
 -- `session::session` meets its contract.
-use mathlib.Core.Path.{refl, sym, _∙_}
+use mathlib.Core.Path.{sym, _∙_}
 use mathlib.Core.List.{[], _∷_}
 use Rattle.session.proofs.Calls.{refusal-printed, begun, ended-as, run-put}
 use borrow.Author.Needs.{needs}

@@ -1,6 +1,5 @@
 -- `starting::start` meets its contract.
 use borrow.Author.Needs.{needs}
-use native.Mathlib.Omega.{arith}
 use Rattle.starting.proofs.Laws.{started-is}
 use Rattle.starting.proofs.start.Statement.{statement}
 use Rattle.starting.proofs.start.Tie as tie

@@ -1,6 +1,5 @@
 -- `tests::prepare` meets its contract.
 use borrow.Author.Needs.{needs}
-use native.Mathlib.Omega.{arith}
 use Rattle.packed.specs.Packed.{table-of}
 use Rattle.state.specs.Working.{state-at}
 use Rattle.tests.proofs.Values.{letter-readable, text-readable, as-read, class-met, nothing-all, label-all, switch-all}

@@ -1,6 +1,5 @@
 -- `tests::prepare_count` meets its contract.
 use borrow.Author.Needs.{needs}
-use native.Mathlib.Omega.{arith}
 use mathlib.Core.Path.{sym, _∙_}
 use Rattle.tests.proofs.Values.{count-none, count-kind, count-told, none-there, one-there, leading}
 use Rattle.tests.proofs.prepare_count.Statement.{statement}

@@ -1,6 +1,4 @@
 -- `tests::prepare_number` meets its contract.
-use borrow.Author.Needs.{needs}
-use native.Mathlib.Omega.{arith}
 use Rattle.tests.proofs.Values.{number-low, number-high}
 use Rattle.tests.proofs.prepare_number.Statement.{statement}
 use Rattle.tests.proofs.prepare_number.Tie as tie

@@ -2,7 +2,7 @@
 use borrow.Author.Needs.{needs}
 use native.Mathlib.Omega.{arith}
 use lib.ListN.{length-take}
-use Rattle.tests.proofs.Values.{copied-in, copied-is, text-told}
+use Rattle.tests.proofs.Values.{copied-in, text-told}
 use Rattle.tests.proofs.prepare_text.Statement.{statement}
 use Rattle.tests.proofs.prepare_text.Tie as tie
 use Rattle.tests.proofs.prepare_text.Reads as reads

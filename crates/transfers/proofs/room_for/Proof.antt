@@ -1,5 +1,4 @@
 -- `transfers::room_for` meets its contract.
-use borrow.Author.Needs.{needs}
 use native.Mathlib.Omega.{arith}
 use Rattle.state.specs.Working.{state-at}
 use Rattle.instructions.proofs.Written.{denied, granted}
