@@ -1,7 +1,7 @@
 -- What a test takes of the records after a pointer, in bytes: passed, taken away, copied with new addresses.
 use mathlib.Core.Path.{_≡_, refl, sym, ap, _∙_, subst}
 use mathlib.Core.Bool.{Bool, true, false, cond}
-use mathlib.Core.List.{List, [], _∷_, map, reverseAux}
+use mathlib.Core.List.{List, [], _∷_, map}
 use Prim.Native.Nat.{ℕ, suc, _+_, _≤_, _<_}
 use native.Mathlib.Omega.{arith}
 use lib.ListN.{length, take, length-map}
@@ -26,7 +26,7 @@ use Rattle.records.proofs.Stamps.{contents, stamped-long, reverse-long}
 use Rattle.state.specs.Working.{state-at, HoldsState, Stands, on-store, nth, filing, turned, char-count}
 use Rattle.state.proofs.Fits.{fine-limited}
 use Rattle.state.proofs.Freed.{limited-past, removed-or-left}
-use Rattle.state.proofs.Sequences.{total-ones, total-same}
+use Rattle.state.proofs.Sequences.{total-ones, total-same, each-turned}
 use Rattle.state.proofs.Standing.{after-state}
 use Rattle.filing.specs.Files.{bodies, RecordsLent, FirstRecords, RecordsDroppable, Passable, RecordsWritable}
 use Rattle.filing.proofs.Stored.{bodies-are}
@@ -47,14 +47,6 @@ unfolding stamped
 stamped-ok n [] h l = tt
 stamped-ok n (r ∷ rs) h l =
     (record { addr-most = omega (arith, l); parts-ok = h .0 .parts-ok; bytes-below = h .0 .bytes-below }, stamped-ok (suc n) rs (h .1) (omega (arith, l)))
-
-each-turned-to : (xs ys : List Record) → Each RecordOk xs → Each RecordOk ys → Each RecordOk (reverseAux xs ys)
-each-turned-to [] ys h k = k
-each-turned-to (x ∷ xs) ys h k = each-turned-to xs (x ∷ ys) (h .1) (h .0, k)
-
-each-turned : (b : Bool) (xs : List Record) → Each RecordOk xs → Each RecordOk (turned b xs)
-each-turned true xs h = each-turned-to xs [] h tt
-each-turned false xs h = h
 
 turned-long : (b : Bool) (rs : List Record) → length (records-bytes (turned b rs)) ≡ length (records-bytes rs)
 turned-long true rs = reverse-long rs
@@ -202,7 +194,7 @@ module _ {p e n : List ℕ} {i : ℕ} {f : List ℕ} {u : Until Record} {t : Seq
                 record {
                   is = rw e₁ (pasted-front o (records-bytes (turned c (stamped (s .last) xs))) (t .bytes) new-long);
                   all-ok =
-                      each-turned c (stamped (s .last) xs)
+                      each-turned RecordOk c (stamped (s .last) xs)
                       (stamped-ok (s .last) some (front .all-ok) (omega (arith, roomy .addresses, length-take-le (t .records) rs most)));
                 }
 

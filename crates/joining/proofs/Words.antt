@@ -20,7 +20,7 @@ use Rattle.cells.proofs.Laws.{pasted-front, pasted-none, length-pasted}
 use Rattle.components.specs.Parts.{Written}
 use Rattle.state.specs.Working.{char-count}
 use Rattle.state.specs.Limited.{short-word}
-use Rattle.moves.proofs.Taking.{both}
+use Rattle.instructions.proofs.Written.{both}
 use Rattle.joining.specs.Joining.{word-if, some, word-room}
 
 pub some-one : (k : ℕ) → (k ≡ 0 → ⊥) → some k ≡ 1
@@ -30,6 +30,10 @@ some-one (suc k) z = refl
 pub some-most : (k : ℕ) → some k ≤ 1
 some-most zero = omega arith
 some-most (suc k) = omega arith
+
+pub some-below : (k : ℕ) → some k ≤ k
+some-below zero = omega arith
+some-below (suc k) = omega arith
 
 -- ---- how many components and characters
 

@@ -9,7 +9,8 @@ use Rattle.matching.specs.Tests.{until}
 use Rattle.state.specs.Working.{state-at, nth, reading}
 use Rattle.instructions.proofs.Answers.{one-after, tried-wrong, tried-full}
 use Rattle.printing.specs.Printing.{spelled-out}
-use Rattle.moves.proofs.Taking.{part-long, droppable, denied, granted}
+use Rattle.instructions.proofs.Written.{denied, granted}
+use Rattle.moves.proofs.Taking.{part-long, droppable}
 use Rattle.moves.proofs.WordsTaken.{words-right}
 use Rattle.printing.proofs.Spelling.{chars-few, join-room, joined-fits, joined-size, printable, spelled-done, spelled-full}
 use Rattle.moves.proofs.Rows.{done-right}
