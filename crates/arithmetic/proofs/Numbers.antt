@@ -11,7 +11,8 @@ use borrow.Author.Tests.{leb-true, ltb-true, ltb-false, le-leb, lt-leb}
 use Rattle.language.specs.Values.{in-range}
 use Rattle.layout.specs.Cells.{code, uncode}
 use Rattle.layout.specs.CellLaws.{uncode-code}
-use Rattle.operands.proofs.Codes.{low, high, code-most, code-back, abs-most}
+use Rattle.operands.proofs.Codes.{code-most, code-back, abs-most}
+use Rattle.tests.proofs.Values.{low, high}
 use Rattle.arithmetic.specs.Arithmetic.{result, negative, differ, signed, Coded, Size, Codes}
 
 -- ---- codes

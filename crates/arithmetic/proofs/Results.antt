@@ -12,15 +12,15 @@ use Rattle.language.specs.Values.{Component, Store, in-range}
 use Rattle.layout.specs.Bounds.{Encoded}
 use Rattle.layout.specs.Cells.{uncode}
 use Rattle.layout.specs.CellLaws.{uncode-code}
-use Rattle.layout.specs.ComponentLaws.{components-bytes-one, components-of, whole-components}
+use Rattle.layout.specs.ComponentLaws.{components-of, whole-components}
 use Rattle.layout.specs.Components.{component-bytes, components-bytes, components-in}
 use Rattle.cells.specs.Cells.{pasted}
 use Rattle.cells.proofs.Laws.{pasted-front}
-use Rattle.state.specs.Working.{state-at, Stands}
+use Rattle.state.specs.Working.{state-at, Stands, char-count}
 use Rattle.instructions.specs.Does.{Tried}
-use Rattle.tests.proofs.Values.{copied-front}
 use Rattle.operands.specs.Operands.{replaced, Replaceable}
 use Rattle.operands.proofs.Codes.{code-most, abs-most}
+use Rattle.operands.proofs.Held.{number-held}
 use Rattle.arithmetic.specs.Arithmetic.{result, Numbered, Computed, TwoResults}
 use Rattle.arithmetic.proofs.Numbers.{result-in}
 
@@ -29,9 +29,6 @@ use Rattle.arithmetic.proofs.Numbers.{result-in}
 number-long : (z : ℤ) → length (component-bytes (Component.number z)) ≡ 5
 unfolding component-bytes
 number-long z = refl
-
-one-encoded : (c : ℕ) → c ≤ 16777214 → Encoded (component-bytes (Component.number (uncode c))) (Component.number (uncode c) ∷ [])
-one-encoded c h = record { is = sym (components-bytes-one (Component.number (uncode c))); all-ok = (abs-most c h, tt) }
 
 two-encoded : (c d : ℕ) → c ≤ 16777214 → d ≤ 16777214
     → Encoded (component-bytes (Component.number (uncode c)) ++ component-bytes (Component.number (uncode d))) (Component.number (uncode c) ∷ Component.number (uncode d) ∷ [])
@@ -53,8 +50,8 @@ module _ {p e n : List ℕ} {scratch hold i : ℕ} (h : Numbered p e n scratch h
   abbrev s : Store
   s = state-at p e n .store
 
-  replaceable-one : (z : ℤ) {new : List ℕ} → Encoded new (Component.number z ∷ []) → Replaceable p e n scratch i 5 0 new 1 0
-  replaceable-one z c =
+  replaceable : {new : List ℕ} {xs : List Component} {k : ℕ} → Encoded new xs → k ≡ length xs → k ≤ 2 → 0 ≡ char-count xs → Replaceable p e n scratch i 5 0 new k 0
+  replaceable c q l r =
       record {
         stands = h .stands;
         spare = h .spare;
@@ -62,24 +59,9 @@ module _ {p e n : List ℕ} {scratch hold i : ℕ} (h : Numbered p e n scratch h
         first = h .first;
         letters-most = omega arith;
         whole = whole-components c;
-        count = rw (components-of c) refl;
-        chars-is = rw (components-of c) refl;
-        parts-most = omega arith;
-        chars-most = omega arith;
-      }
-
-  replaceable-two : (y z : ℤ) {new : List ℕ} → Encoded new (Component.number y ∷ Component.number z ∷ []) → Replaceable p e n scratch i 5 0 new 2 0
-  replaceable-two y z c =
-      record {
-        stands = h .stands;
-        spare = h .spare;
-        index = h .index;
-        first = h .first;
-        letters-most = omega arith;
-        whole = whole-components c;
-        count = rw (components-of c) refl;
-        chars-is = rw (components-of c) refl;
-        parts-most = omega arith;
+        count = rw (components-of c) q;
+        chars-is = rw (components-of c) r;
+        parts-most = omega (arith, l);
         chars-most = omega arith;
       }
 
@@ -97,10 +79,10 @@ result-out-of {c} z e m r = let l : c ≡ 16777215 = e ∙ rw r refl in omega (a
 
 module _ {c : ℕ} (d : List ℕ) {d′ : List ℕ} (q : d′ ≡ pasted d 0 (component-bytes (Component.number (uncode c)))) (m : c ≤ 16777214) where
   held-one : Encoded (take 5 d′) (Component.number (uncode c) ∷ [])
-  held-one = copied-front d 5 q (number-long (uncode c)) (one-encoded c m)
+  held-one = number-held c m d q
 
   pub one-replaceable : {p e n : List ℕ} {scratch i : ℕ} → Numbered p e n scratch (length d) i → Replaceable p e n scratch i 5 0 (take 5 d′) 1 0
-  one-replaceable h = replaceable-one h (uncode c) held-one
+  one-replaceable h = replaceable h held-one refl (omega arith) refl
 
   pub one-computed : {p e n : List ℕ} {i k : ℕ} {p′ e′ n′ : List ℕ} → Tried p e n k p′ e′ n′ true (replaced true i (components-in (take 5 d′)) (state-at p e n .store))
       → (z : ℤ) → c ≡ result z → Computed p e n k p′ e′ n′ i z
@@ -128,7 +110,7 @@ module _ {p e n : List ℕ} {scratch i a b : ℕ} (d : List ℕ) {d′ d″ : Li
       (two-encoded a b (h .left-most) (h .right-most))
 
   pub two-replaceable : Replaceable p e n scratch i 5 0 (take 10 d″) 2 0
-  two-replaceable = replaceable-two (h .numbered) (uncode a) (uncode b) held-two
+  two-replaceable = replaceable (h .numbered) held-two refl (omega arith) refl
 
   pub two-tried : {k : ℕ} {p′ e′ n′ : List ℕ} → Tried p e n k p′ e′ n′ true (replaced true i (components-in (take 10 d″)) (state-at p e n .store))
       → Tried p e n k p′ e′ n′ true (replaced true i (Component.number (uncode a) ∷ Component.number (uncode b) ∷ []) (state-at p e n .store))

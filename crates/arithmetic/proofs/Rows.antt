@@ -28,7 +28,8 @@ use Rattle.table.specs.Denote.{arg-of}
 use Rattle.table.specs.declared.Argument.{Argument}
 use Rattle.operands.specs.Operands.{ReadsNumbers, ReadsPair, replaced, DoesWith}
 use Rattle.operands.specs.declared.Pair.{Pair}
-use Rattle.operands.proofs.Codes.{high, abs-most}
+use Rattle.operands.proofs.Codes.{abs-most}
+use Rattle.tests.proofs.Values.{high}
 use Rattle.operands.proofs.Replacing.{replaced-last, number-first}
 use Rattle.arithmetic.specs.Arithmetic.{Coded, Divisible, Codes, Numbered, Computed}
 use Rattle.arithmetic.proofs.Numbers.{divided-in, size-is, size-some}

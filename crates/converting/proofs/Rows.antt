@@ -16,18 +16,16 @@ use Rattle.language.specs.Values.Component.{word}
 use Rattle.machine.specs.Arguments.{expr, first, needs}
 use Rattle.machine.specs.Effects.{Row, changed, row}
 use Rattle.machine.specs.Effects.Go.{on}
-use Rattle.layout.specs.Bounds.{Encoded}
 use Rattle.layout.specs.Cells.{uncode}
-use Rattle.layout.specs.ComponentLaws.{components-bytes-one, components-of, whole-components}
+use Rattle.layout.specs.ComponentLaws.{components-of, whole-components}
 use Rattle.layout.specs.Components.{component-bytes, components-in}
 use Rattle.cells.specs.Cells.{pasted}
 use Rattle.state.specs.Working.{state-at, Stands, nth, reading}
 use Rattle.instructions.specs.Does.{Does, DoesFor, Quiet, Tried}
 use Rattle.instructions.proofs.Answers.{quiet-stop, quiet-tried, unstopped}
-use Rattle.tests.proofs.Values.{copied-front}
 use Rattle.operands.specs.Operands.{ReadsNumber, replaced, Replaceable}
 use Rattle.operands.specs.declared.Operand.{Operand}
-use Rattle.operands.proofs.Codes.{abs-most}
+use Rattle.operands.proofs.Held.{number-held}
 use Rattle.operands.proofs.Replacing.{replaced-last, number-first}
 use Rattle.converting.specs.Converting.{NumeralPut, numeral-asks, ReadsNumeral, Convertible}
 use Rattle.converting.specs.declared.Spelled.{Spelled}
@@ -46,11 +44,6 @@ liczba-is : (g : Program) (ins : Inputs) (s : Store) (i : ℕ) (removes : Bool)
 unfolding row changed replaced
 liczba-is g ins s i true = refl
 liczba-is g ins s i false = refl
-
-number-held : (c : ℕ) → c ≤ 16777214 → (o : List ℕ) {o′ : List ℕ} → o′ ≡ pasted o 0 (component-bytes (Component.number (uncode c)))
-    → Encoded (take 5 o′) (Component.number (uncode c) ∷ [])
-unfolding component-bytes
-number-held c k o q = copied-front o 5 q refl record { is = sym (components-bytes-one (Component.number (uncode c))); all-ok = (abs-most c k, tt) }
 
 -- ---- in front of expression i
 

@@ -6,16 +6,9 @@ use native.Mathlib.Omega.{arith}
 use lib.Dec.{leb, ltb}
 use lib.IntN.{ℤ, pos, negsuc, natAbs}
 use lib.Signed.{ltZ}
-use borrow.Author.Tests.{leb-true, leb-false, ltb-true, ltb-false, le-leb, lt-leb, lt-ltb, le-ltb}
+use borrow.Author.Tests.{leb-true, leb-false, ltb-true, ltb-false, lt-ltb, le-ltb}
 use Rattle.layout.specs.Cells.{code, uncode}
-
-pub low : (n : ℕ) → n < 8388607 → uncode n ≡ negsuc (8388606 - n)
-unfolding uncode
-low n h = rw (lt-leb 8388607 n h) refl
-
-pub high : (n : ℕ) → 8388607 ≤ n → uncode n ≡ pos (n - 8388607)
-unfolding uncode
-high n h = rw (le-leb 8388607 n h) refl
+use Rattle.tests.proofs.Values.{low, high}
 
 pub code-most : (z : ℤ) → natAbs z ≤ 8388607 → code z ≤ 16777214
 unfolding code

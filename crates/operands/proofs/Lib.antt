@@ -1,3 +1,5 @@
 pub mod Codes
+pub mod Held
 pub mod Reading
 pub mod Replacing
+pub mod Signs

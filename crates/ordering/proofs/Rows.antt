@@ -1,6 +1,10 @@
 -- The rows of order, and that their functions do what they say.
 use mathlib.Core.Path.{_≡_, refl, sym, ap, _∙_}
-use mathlib.Core.Bool.{Bool, true, false, cond}
+<<<<<<< HEAD
+use mathlib.Core.Bool.{Bool, false}
+=======
+use mathlib.Core.Bool.{Bool, false}
+>>>>>>> 773f179 (Operands: numbers copied beside, codes and H minus said once; one law for one result and two)
 use mathlib.Core.List.{List}
 use Prim.Native.Nat.{ℕ}
 use native.Mathlib.Omega.{arith}
@@ -15,7 +19,11 @@ use Rattle.language.specs.Program.Arg.{nothing}
 use Rattle.language.specs.Program.Op.{WK, MN, PP, NS}
 use Rattle.language.specs.Values.{Component, Store, Inputs, chars, value}
 use Rattle.machine.specs.Arguments.{expr, first, side, needs, _&_}
-use Rattle.machine.specs.Changes.{with-plus, minus, minus-unless, past-by, used-by, used}
+<<<<<<< HEAD
+use Rattle.machine.specs.Changes.{minus, minus-unless, past-by, used-by, used}
+=======
+use Rattle.machine.specs.Changes.{minus-unless, past-by, used-by, used}
+>>>>>>> 773f179 (Operands: numbers copied beside, codes and H minus said once; one law for one result and two)
 use Rattle.machine.specs.Effects.{Row, relation, ordered, row}
 use Rattle.machine.specs.Effects.Go.{on}
 use Rattle.packed.specs.Packed.{table-of}
@@ -28,6 +36,7 @@ use Rattle.operands.specs.Operands.{earlier, ReadsPair, DoesWith}
 use Rattle.operands.specs.declared.Pair.{Pair}
 use Rattle.operands.proofs.Codes.{coded-less}
 use Rattle.operands.proofs.Reading.{both-none, first-stop}
+use Rattle.operands.proofs.Signs.{kept-or-minus, minus-last}
 use Rattle.ordering.specs.Ordering.{ReadsWord, ReadsOther}
 use Rattle.ordering.specs.declared.Worded.{Worded}
 
@@ -38,11 +47,6 @@ Less = Component → Component → Bool
 
 abbrev row-of : ℕ → Less → Store → List Component → List Component → Row
 row-of k less s xs ys = (needs k xs & needs k ys, minus-unless (less (first xs) (first ys)) s, on)
-
-kept-or-minus : (b : Bool) (s : Store) → cond b s (minus s) ≡ minus-unless b s
-unfolding minus minus-unless with-plus
-kept-or-minus true s = refl
-kept-or-minus false s = refl
 
 abbrev greater : Less
 greater x y = ltZ (value y) (value x)
@@ -85,10 +89,6 @@ module _ (g : Program) (ins : Inputs) (s : Store) (i : ℕ) (a : Arg) where
 
 quiet-two : (k : ℕ) (xs ys : List Component) → Quiet (needs k xs & needs k ys)
 quiet-two k xs ys = record { is-50 = refl; is-55 = refl; is-56 = refl; is-57 = refl; is-58 = refl; is-59 = refl; is-60 = refl }
-
-minus-last : (b : Bool) (s : Store) → minus-unless b s .last ≡ s .last
-unfolding minus-unless with-plus
-minus-last b s = refl
 
 module _ {p e n : List ℕ} (h : Stands p e n) where
   abbrev s : Store

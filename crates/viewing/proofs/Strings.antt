@@ -11,13 +11,13 @@ use Rattle.layout.specs.CellLaws.{each-at}
 use Rattle.layout.specs.Cells.{two-at, three-at}
 use Rattle.layout.specs.Memory.{strings, state-cells, threes-in, state-of}
 use Rattle.layout.specs.MemoryLaws.{string-output, strings-in-cells}
-use Rattle.layout.specs.StringLaws.{joined-split, length-lengths}
+use Rattle.layout.specs.StringLaws.{joined-split, length-lengths, length-strings-in}
 use Rattle.layout.specs.Strings.{lengths, used, string-cells, strings-in}
 use Rattle.cells.specs.Cells.{Number}
 use Rattle.gaps.specs.Pool.{string, offset}
 use Rattle.gaps.proofs.Index.{offset-zero, offset-next, offset-within}
 use Rattle.packing.specs.Packing.{Packed}
-use Rattle.packing.proofs.Reading.{length-strings-in, packed-long, length-read}
+use Rattle.packing.proofs.Reading.{packed-long, length-read}
 use Rattle.resting.specs.Resting.{Openable}
 use Rattle.resting.proofs.Laws.{scalars-are, unpackable}
 use Rattle.viewing.specs.Viewing.{Rests, Stringed, Shows}
