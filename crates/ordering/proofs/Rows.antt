@@ -1,10 +1,6 @@
 -- The rows of order, and that their functions do what they say.
 use mathlib.Core.Path.{_≡_, refl, sym, ap, _∙_}
-<<<<<<< HEAD
 use mathlib.Core.Bool.{Bool, false}
-=======
-use mathlib.Core.Bool.{Bool, false}
->>>>>>> 773f179 (Operands: numbers copied beside, codes and H minus said once; one law for one result and two)
 use mathlib.Core.List.{List}
 use Prim.Native.Nat.{ℕ}
 use native.Mathlib.Omega.{arith}
@@ -19,11 +15,7 @@ use Rattle.language.specs.Program.Arg.{nothing}
 use Rattle.language.specs.Program.Op.{WK, MN, PP, NS}
 use Rattle.language.specs.Values.{Component, Store, Inputs, chars, value}
 use Rattle.machine.specs.Arguments.{expr, first, side, needs, _&_}
-<<<<<<< HEAD
-use Rattle.machine.specs.Changes.{minus, minus-unless, past-by, used-by, used}
-=======
 use Rattle.machine.specs.Changes.{minus-unless, past-by, used-by, used}
->>>>>>> 773f179 (Operands: numbers copied beside, codes and H minus said once; one law for one result and two)
 use Rattle.machine.specs.Effects.{Row, relation, ordered, row}
 use Rattle.machine.specs.Effects.Go.{on}
 use Rattle.packed.specs.Packed.{table-of}
