@@ -78,12 +78,12 @@ abbrev pub budget : ℕ
 budget = 100000
 
 -- start and run on a well-formed program; inputs that are not well formed are refused
-unfoldable pub session-bytes : Program → Inputs → List ℕ
-session-bytes p ins = cond (good-inputs ins) (ran-bytes p (run (step p ins) budget started)) (refusal-line 61 0)
+unfoldable pub program-bytes : Program → Inputs → List ℕ
+program-bytes p ins = cond (good-inputs ins) (ran-bytes p (run (step p ins) budget started)) (refusal-line 61 0)
 
 unfoldable pub loaded-bytes : Inputs → Loaded → List ℕ
 loaded-bytes ins (refused number line) = refusal-line number line
-loaded-bytes ins (accepted p) = session-bytes p ins
+loaded-bytes ins (accepted p) = program-bytes p ins
 
 -- all that is printed for the bytes s of standard input; I2 is empty
 unfoldable pub printed : List ℕ → List ℕ

@@ -24,7 +24,7 @@ fn fill(buffer: &mut [u8], n: usize)
 fn prints(input: &[u8], expected: &[u8], out: &mut [u8]) -> bool
     requires { ⌜ 4224 ≤ length (now out) ⌝ }
 {
-    let n = session::answer(input, out);
+    let n = batch::answer(input, out);
     words::same(&out[..n], expected)
 }
 

@@ -25,10 +25,10 @@ use Rattle.syntax.specs.Verdict.Verdict.{refuse}
 use Rattle.acceptance.specs.AcceptanceLaws.{accepted-good}
 use Rattle.calls.specs.Calls.{load-number, load-line, load-answer, table-after}
 use Rattle.calls.specs.AnswerLaws.{packed-number, packed-value}
-use Rattle.console.specs.Console.{textOf, inputOf, refusal-line, session-bytes, loaded-bytes, printed}
+use Rattle.console.specs.Console.{textOf, inputOf, refusal-line, program-bytes, loaded-bytes, printed}
 use Rattle.console.specs.Parts.{Put, TextEnd, RefusalRoom}
 use Rattle.console.proofs.Putting.{put-same}
-use Rattle.session.specs.Session.{table-bytes}
+use Rattle.batch.specs.Printed.{table-bytes}
 
 -- ---- a refusal's number is not that of an accepted text, and its line is small
 
@@ -107,7 +107,7 @@ unfolding loaded-bytes
 refused-bytes ins (refused n l) h = refl
 refused-bytes ins (accepted p) h = absurd (h refl)
 
--- an accepted text: the session on its table
+-- an accepted text: its table
 accepted-bytes : (s : List ℕ) (ins : Inputs) (x : Loaded) → loadOf s ≡ x → Bounded x → load-number x ≡ 80 → (c : List ℕ) → table-bytes (table-after x c) ins ≡ loaded-bytes ins x
 unfolding loaded-bytes table-bytes table-after
 accepted-bytes s ins (refused n l) e b h c = absurd (omega (arith, b .0, h))
@@ -116,7 +116,7 @@ accepted-bytes s ins (accepted p) e b h c =
     let d : List ℕ = drop limit.table c in
     let t : good-table (table-cells p ++ d) ≡ true = is-true (good-table (table-cells p ++ d)) (table-good p gp d) in
     let q : program-of (table-cells p ++ d) ≡ p = program-of-cells p gp d in
-    ap (λ t. cond t (session-bytes (program-of (table-cells p ++ d)) ins) (refusal-line 62 0)) t ∙ ap (λ p. session-bytes p ins) q
+    ap (λ t. cond t (program-bytes (program-of (table-cells p ++ d)) ins) (refusal-line 62 0)) t ∙ ap (λ p. program-bytes p ins) q
   where
     is-true : (b : Bool) → T b → b ≡ true
     is-true true h = refl
@@ -149,10 +149,10 @@ module _ (s : List ℕ) {at : ℕ} (e : TextEnd s at) (text c : List ℕ) (t : t
       let b : v ≡ load-line x = f ∙ line-is x low told in
       put-same (ap (λ (i : ℕ). refusal-line i v) a ∙ ap (λ (i : ℕ). refusal-line (load-number x) i) b ∙ refused-bytes ins x (λ z. no-80 (a ∙ z))) p
 
-  pub session-put : {i c′ : List ℕ} {q : ℕ} {d d′ : List ℕ} → i ≡ drop at s → c′ ≡ table-after (loadIn (length c) text) c → n ≡ 80
+  pub table-put : {i c′ : List ℕ} {q : ℕ} {d d′ : List ℕ} → i ≡ drop at s → c′ ≡ table-after (loadIn (length c) text) c → n ≡ 80
       → Put d 0 (table-bytes c′ (i ∷ [] ∷ [])) d′ q → Put d 0 (printed s) d′ q
   unfolding printed
-  session-put {i} {c′} g w z p =
+  table-put {i} {c′} g w z p =
       let a : i ≡ inputOf s = g ∙ e .input in
       let b : c′ ≡ table-after x c = w ∙ ap (λ y. table-after y c) loaded-is in
       put-same (ap (λ (l : List ℕ). table-bytes l (i ∷ [] ∷ [])) b ∙ ap (λ (l : List ℕ). table-bytes (table-after x c) (l ∷ [] ∷ [])) a

@@ -1,9 +1,9 @@
--- `session::print_run` meets its contract.
+-- `batch::print_run` meets its contract.
 use mathlib.Core.Path.{refl}
-use Rattle.session.proofs.Lines.{line-place, end-room, all-printed}
+use Rattle.batch.proofs.Lines.{line-place, end-room, all-printed}
 use borrow.Author.Needs.{needs}
-use Rattle.session.proofs.print_run.Statement.{statement}
-use Rattle.session.proofs.print_run.Tie as tie
+use Rattle.batch.proofs.print_run.Statement.{statement}
+use Rattle.batch.proofs.print_run.Tie as tie
 
 output-requires : tie.Need-output-requires
 output-requires c κs = search needs

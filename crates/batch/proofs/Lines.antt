@@ -20,7 +20,7 @@ use Rattle.console.specs.Console.{end-line, ran-bytes}
 use Rattle.console.specs.Parts.{Put, EndRoom, answer-by}
 use Rattle.console.proofs.Putting.{put-long, put-then}
 use Rattle.viewing.specs.Viewing.{Shows}
-use Rattle.session.specs.Session.{Ended}
+use Rattle.batch.specs.Printed.{Ended}
 
 module _ {c m : List ℕ} {number count long : ℕ} (e : Ended c m number count long) {k : ℕ} (n : Number (state-of m .next) 16777216 k) where
   current : GoodInstruction c k (cell (table-of c) (8 + 4 * k) % 64)

@@ -1,10 +1,10 @@
--- `session::session` meets its contract.
+-- `batch::run_table` meets its contract.
 use mathlib.Core.Path.{sym, _∙_}
 use mathlib.Core.List.{[], _∷_}
-use Rattle.session.proofs.Calls.{refusal-printed, begun, ended-as, run-put}
+use Rattle.batch.proofs.Calls.{refusal-printed, begun, ended-as, run-put}
 use borrow.Author.Needs.{needs}
-use Rattle.session.proofs.session.Statement.{statement}
-use Rattle.session.proofs.session.Tie as tie
+use Rattle.batch.proofs.run_table.Statement.{statement}
+use Rattle.batch.proofs.run_table.Tie as tie
 
 slice-aggregate-eol2-start : tie.Need-slice-aggregate-eol2-start
 slice-aggregate-eol2-start c = search needs
@@ -54,8 +54,8 @@ same-length-2 c = search needs
 returns-2 : tie.Need-returns-2
 returns-2 c = run-put (search needs) (begun (c .before .before .before .before .before .before .before .before .before .before .before .before .before .before .before .before .before .before .before .before .args .table .now) _ (c .before .before .before .before .before .before .before .before .before .before .before .before .before .before .before .before .before .before .before .before .args .i1 .now ∷ [] ∷ []) (search needs) (c .before .before .before .before .before .before .before .before .before .before .before .before .before .before .eol2-start .ensures) (sym (c .before .before .before .before .before .before .before .before .before .before .before .before .number .ensures) ∙ c .before .before .before .before .before .before .before .before .before .before .before .if1 .left)) (c .before .before .before .before .before .before .before .before .eol2-run .ensures) (c .before .before .before .before .before .number2 .ensures) (c .before .before .before .before .value .ensures) (c .before .before .print-run .ensures)
 
-pub session-spec : {M : Type 1} → statement M
-session-spec =
+pub run-table-spec : {M : Type 1} → statement M
+run-table-spec =
     tie.close
     (tie.spec
     slice-aggregate-eol2-start

@@ -8,7 +8,7 @@ ghost use Rattle.layout.specs.Table.{program-of};
 ghost use Rattle.machine.specs.Runs.{ran};
 ghost use Rattle.console.specs.Console.{ran-bytes, printed};
 ghost use Rattle.console.specs.Parts.{Put, answer-by};
-ghost use Rattle.session.specs.Session.{Ended, table-bytes};
+ghost use Rattle.batch.specs.Printed.{Ended, table-bytes};
 
 // "It runs 100,000 steps."
 const BUDGET: u32 = 100_000;
@@ -42,7 +42,7 @@ fn print_run(table: &[u32], state: &[u8], number: usize, count: usize, out: &mut
 }
 
 // Start and run on the program of a table, with the bytes of I1; I2 is empty.
-pub fn session(table: &[u32], i1: &[u8], out: &mut [u8]) -> usize
+pub fn run_table(table: &[u32], i1: &[u8], out: &mut [u8]) -> usize
     requires { ⌜ 4224 ≤ length (now out) ⌝ }
     ensures { λ r. ⌜ Put (now (out .entry)) 0 (table-bytes (now (table .entry)) (now (i1 .entry) ∷ [] ∷ [])) (now (out .exit)) r ⌝ }
 {
@@ -67,5 +67,5 @@ pub fn answer(input: &[u8], out: &mut [u8]) -> usize
     if n != ACCEPTED {
         return console::refusal(out, n, value(loaded));
     }
-    session(&table, &input[end..], out)
+    run_table(&table, &input[end..], out)
 }

@@ -31,10 +31,10 @@ use Rattle.calls.specs.CallLaws.{run-ends}
 use Rattle.calls.specs.AnswerLaws.{number-most, count-within, packed-number, packed-value}
 use Rattle.interpreter.specs.Answers.{Answers}
 use Rattle.viewing.specs.Viewing.{Rests}
-use Rattle.console.specs.Console.{budget, refusal-line, ran-bytes, session-bytes}
+use Rattle.console.specs.Console.{budget, refusal-line, ran-bytes, program-bytes}
 use Rattle.console.specs.Parts.{Put, answer-by}
 use Rattle.console.proofs.Putting.{put-same}
-use Rattle.session.specs.Session.{table-bytes, Ended}
+use Rattle.batch.specs.Printed.{table-bytes, Ended}
 
 true-of : {b : Bool} → b ≡ true → T b
 true-of e = subst T (sym e) tt
@@ -52,14 +52,14 @@ upper {n = n} e = ap (λ (k : ℕ). k / 4294967296) e ∙ packed-number n 0 (ome
 module _ (c : List ℕ) (ins : Inputs) where
   bytes-62 : good-table c ≡ false → refusal-line 62 0 ≡ table-bytes c ins
   unfolding table-bytes
-  bytes-62 e = sym (ap (λ t. cond t (session-bytes (program-of c) ins) (refusal-line 62 0)) e)
+  bytes-62 e = sym (ap (λ t. cond t (program-bytes (program-of c) ins) (refusal-line 62 0)) e)
 
-  bytes-run : good-table c ≡ true → table-bytes c ins ≡ session-bytes (program-of c) ins
+  bytes-run : good-table c ≡ true → table-bytes c ins ≡ program-bytes (program-of c) ins
   unfolding table-bytes
-  bytes-run e = ap (λ t. cond t (session-bytes (program-of c) ins) (refusal-line 62 0)) e
+  bytes-run e = ap (λ t. cond t (program-bytes (program-of c) ins) (refusal-line 62 0)) e
 
-  bytes-by : (t : Bool) → good-inputs ins ≡ t → session-bytes (program-of c) ins ≡ cond t (ran-bytes (program-of c) (run (step (program-of c) ins) budget started)) (refusal-line 61 0)
-  unfolding session-bytes
+  bytes-by : (t : Bool) → good-inputs ins ≡ t → program-bytes (program-of c) ins ≡ cond t (ran-bytes (program-of c) (run (step (program-of c) ins) budget started)) (refusal-line 61 0)
+  unfolding program-bytes
   bytes-by t f = ap (λ t. cond t (ran-bytes (program-of c) (run (step (program-of c) ins) budget started)) (refusal-line 61 0)) f
 
   bytes-61 : good-table c ≡ true → good-inputs ins ≡ false → refusal-line 61 0 ≡ table-bytes c ins
