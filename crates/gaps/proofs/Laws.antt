@@ -51,18 +51,27 @@ fine-holds f = record { fine = f; is = refl; fits = f .fits }
 pub count : {p e : List ℕ} {s : List (List ℕ)} → Holds p e s → length s ≡ 99
 count {p} {e} h = sym (ap length (h .is)) ∙ length-abs p e
 
--- where string i lies
+-- where string i lies, and how long it is
+pub record Span (e : List ℕ) (i : ℕ) : Type 0 where
+  pub ordered : lo e i ≤ hi e i
+  pub most : hi e i ≤ 65536
+
+pub spanned : {e : List ℕ} {i : ℕ} → Ordered e → i < 99 → Span e i
+spanned {i = i} o b = record { ordered = o .order (2 * i) (2 * i + 1) (omega arith) (omega arith); most = o .last (2 * i + 1) (omega arith) }
+
+pub length-str : (p e : List ℕ) (i : ℕ) → lo e i ≤ hi e i → hi e i ≤ length p → lo e i + length (str p e i) ≡ hi e i
+unfolding str
+length-str p e i h k = rw (length-take, length-drop) (omega arith)
+
 pub record Shape (p e : List ℕ) (i : ℕ) : Type 0 where
   pub ordered : lo e i ≤ hi e i
   pub most : hi e i ≤ 65536
   pub long : lo e i + length (string i (abs p e)) ≡ hi e i
 
 pub shaped : {p e : List ℕ} {i : ℕ} → Fine p e → i < 99 → Shape p e i
-unfolding str
 shaped {p} {e} {i} f b =
-    let h : lo e i ≤ hi e i = f .ordered .order (2 * i) (2 * i + 1) (omega arith) (omega arith) in
-    let k : hi e i ≤ 65536 = f .ordered .last (2 * i + 1) (omega arith) in
-    record { ordered = h; most = k; long = rw (string-is p e i b, length-take, length-drop, f .size) (omega arith) }
+    let s = spanned (f .ordered) b in
+    record { ordered = s .ordered; most = s .most; long = rw (string-is p e i b) (length-str p e i (s .ordered) (omega (arith, s .most, f .size))) }
 
 -- THE LAW OF ONE STRING: where every other string's part is what it was, the strings are those with one replaced
 pub changed : (p e : List ℕ) {p′ e′ : List ℕ} (i : ℕ) (v : List ℕ) → length p′ ≡ 65536 → Ordered e′ → i < 99 → used (abs p e) + length v ≤ 32768 + length (string i (abs p e)) → str p′ e′ i ≡ v

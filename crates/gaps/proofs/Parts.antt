@@ -1,4 +1,4 @@
--- A part of a list after a paste: before it, behind it, and with the paste at either end.
+-- A part of a list after a paste: before it, behind it, the paste itself, and with the paste at either end.
 use mathlib.Core.Path.{_≡_, sym, ap, _∙_}
 use mathlib.Core.List.{List, [], _∷_, _++_, append-assoc}
 use mathlib.Core.Logic.{_⊎_, inl, inr, ⊎-elim}
@@ -25,13 +25,13 @@ drop-take (suc n) (suc m) [] = sym (take-nil (suc m - suc n))
 drop-take (suc n) (suc m) (x ∷ l) = rw (suc-sub-suc m n) (drop-take n m l)
 
 -- a part that ends within the first of two lists
-pub in-front : (x r : List ℕ) (a b : ℕ) → a ≤ b → b ≤ length x → take (b - a) (drop a (x ++ r)) ≡ take (b - a) (drop a x)
+in-front : (x r : List ℕ) (a b : ℕ) → a ≤ b → b ≤ length x → take (b - a) (drop a (x ++ r)) ≡ take (b - a) (drop a x)
 in-front x r a b h k =
     let l : a ≤ length x = omega arith in
     let m : b - a ≤ length (drop a x) = rw length-drop (omega arith) in
     rw (drop-append-le a x r l) (take-append-le (b - a) (drop a x) r m)
 
-pub part-of-take : (p : List ℕ) (n a b : ℕ) → a ≤ b → b ≤ n → n ≤ length p → take (b - a) (drop a (take n p)) ≡ take (b - a) (drop a p)
+part-of-take : (p : List ℕ) (n a b : ℕ) → a ≤ b → b ≤ n → n ≤ length p → take (b - a) (drop a (take n p)) ≡ take (b - a) (drop a p)
 part-of-take p n a b h k l =
     let f : b ≤ length (take n p) = rw (length-take-le n p l) k in
     sym (in-front (take n p) (drop n p) a b h f) ∙ ap (λ (x : List ℕ). take (b - a) (drop a x)) (take-append-drop n p)
@@ -49,6 +49,12 @@ part-behind p at s a h k =
     let l : length (take at p ++ s) ≡ at + length s = simp (length-append, length-take) (omega arith) in
     let e : pasted p at s ≡ (take at p ++ s) ++ drop (at + length s) p = sym (append-assoc (take at p) s (drop (at + length s) p)) in
     rw (e, q) (drop-past (take at p ++ s) (drop (at + length s) p) (at + length s) j l ∙ drop-drop j (at + length s) p)
+
+-- the paste itself
+pub part-pasted : (p : List ℕ) (at : ℕ) (s : List ℕ) (b : ℕ) → at + length s ≡ b → at ≤ length p → take (b - at) (drop at (pasted p at s)) ≡ s
+part-pasted p at s b h l =
+    let q : b - at ≡ length s = omega arith in
+    rw (q, drop-at (take at p) (s ++ drop (at + length s) p) at (length-take-le at p l)) (take-append-seam s (drop (at + length s) p))
 
 -- a paste right before the part, with it
 pub part-front : (p : List ℕ) (at : ℕ) (s : List ℕ) (a b : ℕ) → at + length s ≡ a → a ≤ b → at ≤ length p → take (b - at) (drop at (pasted p at s)) ≡ s ++ take (b - a) (drop a p)

@@ -1,19 +1,19 @@
--- Strings laid out one after the other, and the loops that lay them out anew and count them.
+-- Strings laid out one after the other, and the loops that lay them out anew, copy them back and count them.
 use mathlib.Core.Path.{_≡_, refl, sym, ap, _∙_}
-use mathlib.Core.List.{List, _++_}
+use mathlib.Core.List.{List}
 use mathlib.Core.Logic.{_⊎_, inl, inr, ⊎-elim}
 use Prim.Native.Nat.{ℕ, _+_, _-_, _*_, _≤_, _<_}
 use native.Mathlib.Omega.{arith}
-use lib.ListN.{length, take, drop, getD, set, length-set}
-use lib.Seq.{getD-set-same, getD-set-other, drop-at, length-take-le, take-append-seam}
+use lib.ListN.{length, getD, set, length-set}
+use lib.Seq.{getD-set-same, getD-set-other}
 use Rattle.cells.specs.Cells.{pasted}
 use Rattle.cells.proofs.Laws.{length-pasted}
 use Rattle.layout.specs.Strings.{used}
 use Rattle.gaps.specs.Pool.{lo, hi, str, abs, string, offset, Ordered, Fine, Holds}
-use Rattle.gaps.specs.Gaps.{LaidOne, Carriable, Carried, Extra, Spreadable, Made}
+use Rattle.gaps.specs.Gaps.{LaidOne, Carriable, Carried, Extra, Settleable, Settled, Spreadable, Made}
 use Rattle.gaps.proofs.Index.{offset-zero, offset-next, offset-within, offset-all}
-use Rattle.gaps.proofs.Parts.{below-or, same-or, in-front, part-of-take, part-before}
-use Rattle.gaps.proofs.Laws.{length-abs, string-part, hold, shaped}
+use Rattle.gaps.proofs.Parts.{below-or, same-or, part-before, part-pasted}
+use Rattle.gaps.proofs.Laws.{length-abs, string-part, hold, spanned, length-str, shaped, str-pasted}
 
 -- two cells are set
 
@@ -99,10 +99,7 @@ module _ {p e p′ e′ b : List ℕ} {j at to : ℕ} {s : List (List ℕ)} (l :
 
   new-string : str p′ e′ j ≡ b
   unfolding str
-  new-string =
-      let q : (to + length b) - to ≡ length b = omega arith in
-      let t : to ≤ length p = omega arith in
-      rw (pair .low, pair .high, o .pool, q, drop-at (take to p) (b ++ drop (to + length b) p) to (length-take-le to p t)) (take-append-seam b (drop (to + length b) p))
+  new-string = rw (pair .low, pair .high, o .pool) (part-pasted p to b (to + length b) refl (omega arith))
 
   pub laid-more : Laid p′ e′ (j + 1) (to + length b) s
   laid-more = record {
@@ -228,9 +225,8 @@ module _ {p e₀ q₀ e q : List ℕ} {i n at j sc r : ℕ} (pre : Spreadable p 
             (below-or i j);
       }
 
--- its end: what was laid is copied back
-module _ {p e₀ q₀ e q p′ : List ℕ} {i n at j sc : ℕ} (pre : Spreadable p e₀ i n sc) (m : Moving p e₀ q₀ i n e q at j) (h : 99 ≤ j)
-    (sp : 65536 ≤ length q₀) (o : p′ ≡ pasted p 0 (take at q)) where
+-- its end: what was laid can be copied back, and was
+module _ {p e₀ q₀ e q : List ℕ} {i n at j sc : ℕ} (pre : Spreadable p e₀ i n sc) (m : Moving p e₀ q₀ i n e q at j) (h : 99 ≤ j) (sp : 65536 ≤ length q₀) where
   at-end : j ≡ 99
   at-end = omega (arith, m .upto)
 
@@ -241,23 +237,7 @@ module _ {p e₀ q₀ e q p′ : List ℕ} {i n at j sc : ℕ} (pre : Spreadable
   all-start = omega (arith, offset-within (abs p e₀) j)
 
   top : at ≤ 65536
-  top = omega (arith, at-end, m .most, all-start, pre .total)
-
-  lq : length (take at q) ≡ at
-  lq = length-take-le at q (omega (arith, m .long, top))
-
-  back-string : (k : ℕ) → k < 99 → str p′ e k ≡ str q e k
-  unfolding str
-  back-string k x =
-      let w : lo e k ≤ hi e k = laid-end .order (2 * k) (2 * k + 1) (omega arith) (omega arith) in
-      let v : hi e k ≤ at = laid-end .last (2 * k + 1) (omega arith) in
-      let u : hi e k ≤ length (take at q) = rw lq v in
-      rw o (in-front (take at q) (drop (0 + length (take at q)) p) (lo e k) (hi e k) w u ∙ part-of-take q at (lo e k) (hi e k) w v (omega (arith, m .long, top)))
-
-  size-back : length p′ ≡ 65536
-  size-back =
-      let f : 0 + length (take at q) ≤ length p = omega (arith, lq, top, pre .fine .size) in
-      ap length o ∙ length-pasted p 0 (take at q) f ∙ pre .fine .size
+  top = at-fits pre m
 
   ordered-back : Ordered e
   ordered-back = record {
@@ -266,9 +246,12 @@ module _ {p e₀ q₀ e q p′ : List ℕ} {i n at j sc : ℕ} (pre : Spreadable
     last = λ b x. omega (arith, laid-end .last b (omega arith), top);
   }
 
-  pub moved : Made p′ e (abs p e₀) i n
-  moved = record {
-    holds = hold size-back ordered-back (length-abs p e₀) (pre .fine .fits) (λ k x. back-string k x ∙ laid-end .is k x);
+  pub settleable : Settleable p e q
+  settleable = record { ordered = ordered-back; size = pre .fine .size; spare = omega (arith, m .long) }
+
+  pub moved : {p′ : List ℕ} → Settled p′ e q 99 → Made p′ e (abs p e₀) i n
+  moved s = record {
+    holds = hold (s .size) ordered-back (length-abs p e₀) (pre .fine .fits) (λ k x. s .is k x ∙ laid-end .is k x);
     gap = ⊎-elim
         (λ (x : i < 99). let g = m .freed (omega arith) in
         record {
@@ -290,6 +273,33 @@ module _ {p e₀ q₀ e q p′ : List ℕ} {i n at j sc : ℕ} (pre : Spreadable
     where
       none : (k : ℕ) → 2 * i ≤ k → k < 198 → 99 ≤ i → ⊥
       none k a b c = omega arith
+
+-- the loop that copies them back
+pub settled-none : {p e q : List ℕ} → Settleable p e q → Settled p e q 0
+settled-none pre = record { upto = omega arith; size = pre .size; is = λ k h. absurd (none k h) }
+  where
+    none : (k : ℕ) → k < 0 → ⊥
+    none k h = omega arith
+
+pub settled-more : {p₀ p e q p′ : List ℕ} {j : ℕ} → Settleable p₀ e q → Settled p e q j → j < 99 → p′ ≡ pasted p (lo e j) (str q e j) → Settled p′ e q (j + 1)
+unfolding str
+settled-more {p = p} {e} {q} {j = j} pre m h o =
+    let b : List ℕ = str q e j in
+    let f = spanned (pre .ordered) h in
+    let long : lo e j + length b ≡ hi e j = length-str q e j (f .ordered) (omega (arith, f .most, pre .spare)) in
+    let in-p : lo e j ≤ length p = omega (arith, f .ordered, f .most, m .size) in
+    let before : (k : ℕ) → k < j → hi e k ≤ lo e j = λ k u. pre .ordered .order (2 * k + 1) (2 * j) (omega arith) (omega arith) in
+    record {
+      upto = omega arith;
+      size = ap length o ∙ length-pasted p (lo e j) b (omega (arith, long, f .most, m .size)) ∙ m .size;
+      is = λ k x. ⊎-elim
+          (λ (u : k < j). rw o (str-pasted p e (lo e j) b k (spanned (pre .ordered) (omega arith) .ordered) in-p (inl (before k u))) ∙ m .is k u)
+          (λ (u : j ≤ k). let r : k ≡ j = omega arith in rw (r, o) (part-pasted p (lo e j) b (hi e j) long in-p))
+          (below-or k j);
+    }
+
+pub settled-all : {p e q : List ℕ} {j : ℕ} → Settled p e q j → 99 ≤ j → Settled p e q 99
+settled-all m h = record { upto = omega arith; size = m .size; is = λ k x. m .is k (omega arith) }
 
 -- the loop that counts them
 pub record Counted (p e : List ℕ) (n j : ℕ) : Type 0 where

@@ -71,6 +71,17 @@ pub record Extra (j i n r : ℕ) : Type 0 where
   pub most : r ≤ n
   pub else : (j ≡ i → ⊥) → r ≡ 0
 
+-- the strings that lie in q can be copied to the same places in the pool p, and the first j were
+pub record Settleable (p e q : List ℕ) : Type 0 where
+  pub ordered : Ordered e
+  pub size : length p ≡ 65536
+  pub spare : 65536 ≤ length q
+
+pub record Settled (p e q : List ℕ) (j : ℕ) : Type 0 where
+  pub upto : j ≤ 99
+  pub size : length p ≡ 65536
+  pub is : (k : ℕ) → k < j → str p e k ≡ str q e k
+
 -- the strings can be laid out with n bytes more in the gap i
 pub record Spreadable (p e : List ℕ) (i n scratch : ℕ) : Type 0 where
   pub fine : Fine p e

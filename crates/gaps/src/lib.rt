@@ -4,7 +4,7 @@ ghost use Prim.Native.Nat.{_+_};
 ghost use lib.ListN.{length};
 ghost use Rattle.layout.specs.Strings.{used};
 ghost use Rattle.gaps.specs.Pool.{abs, Fine, Holds};
-ghost use Rattle.gaps.specs.Gaps.{GapStart, GapEnd, Edge, Roomy, pushedFront, pushedBack, Layable, LaidOne, Carriable, Carried, Extra, Spreadable, Wanted, Made};
+ghost use Rattle.gaps.specs.Gaps.{GapStart, GapEnd, Edge, Roomy, pushedFront, pushedBack, Layable, LaidOne, Carriable, Carried, Extra, Settleable, Settled, Spreadable, Wanted, Made};
 
 // How many strings there are, how many bytes the pool has, and how far apart strings are laid.
 pub const COUNT: usize = 99;
@@ -88,6 +88,20 @@ fn carry(pool: &[u8], ends: &mut [u32], scratch: &mut [u8], j: usize, at: usize)
     at + (b - a)
 }
 
+// Copies each string from where it lies in `scratch` to the same place in `pool`.
+fn settle(pool: &mut [u8], ends: &[u32], scratch: &[u8])
+    requires { ⌜ Settleable (now pool) (now ends) (now scratch) ⌝ }
+    ensures { λ _. ⌜ Settled (now (pool .exit)) (now (ends .entry)) (now (scratch .entry)) 99 ⌝ }
+{
+    let mut j = 0;
+    while j < COUNT {
+        let a = cells::read(ends, 2 * j);
+        let b = cells::read(ends, 2 * j + 1);
+        cells::put(pool, a, &scratch[a..b]);
+        j += 1;
+    }
+}
+
 // Lays all strings out anew, with `n` bytes more in the gap before string `i`.
 fn relayout(pool: &mut [u8], ends: &mut [u32], scratch: &mut [u8], i: usize, n: usize)
     requires { ⌜ Spreadable (now pool) (now ends) i n (length (now scratch)) ⌝ }
@@ -100,7 +114,7 @@ fn relayout(pool: &mut [u8], ends: &mut [u32], scratch: &mut [u8], i: usize, n: 
         at = carry(pool, ends, scratch, j, to);
         j += 1;
     }
-    cells::put(pool, 0, &scratch[..at]);
+    settle(pool, ends, scratch);
 }
 
 // How many bytes the strings have in all.

@@ -1,7 +1,6 @@
 -- `gaps::relayout` meets its contract. The invariant: the first j strings are laid out in `scratch`.
 use Prim.Native.Nat.{_-_}
-use lib.ListN.{length-take}
-use Rattle.gaps.proofs.Spread.{Moving, moving-none, moving-more, moved, carriable, at-fits}
+use Rattle.gaps.proofs.Spread.{Moving, moving-none, moving-more, settleable, moved, carriable, at-fits}
 use borrow.Author.Needs.{needs}
 use native.Mathlib.Omega.{arith}
 use Rattle.gaps.proofs.relayout.Statement.{statement}
@@ -55,23 +54,12 @@ loop-again c =
     let carry = c .before .before .before .before .carry in
     moving-more pre (loop .inv) (loop-test .taken) (only-at .ensures) (pre .spare) (carry .ensures) (carry .kept .1 .1 .0)
 
-slice-reshare-prefix-put : tie.Need-slice-reshare-prefix-put Inv-loop μ-loop
-slice-reshare-prefix-put c =
-    let pre = c .before .before .before .before .before .before .pre in
-    let loop = c .before .before .loop in
-    omega (arith, at-fits pre (loop .inv), loop .inv .long, pre .spare)
-
-slice-aggregate-put : tie.Need-slice-aggregate-put Inv-loop μ-loop
-slice-aggregate-put c =
-    let pre = c .before .before .before .before .before .before .before .pre in
-    let loop = c .before .before .before .loop in
-    simp length-take (omega (arith, at-fits pre (loop .inv), loop .inv .long, pre .spare))
-
-put-requires : tie.Need-put-requires Inv-loop μ-loop
-put-requires c κs =
-    let pre = c .before .before .before .before .before .before .before .pre in
-    let loop = c .before .before .before .loop in
-    simp length-take (omega (arith, at-fits pre (loop .inv), pre .fine .size))
+settle-requires : tie.Need-settle-requires Inv-loop μ-loop
+settle-requires c κs =
+    let pre = c .before .before .before .before .before .before .before .before .pre in
+    let loop = c .before .before .before .before .loop in
+    let loop-test = c .before .before .before .loop-test in
+    settleable pre (loop .inv) (loop-test .left) (pre .spare)
 
 same-length : tie.Need-same-length Inv-loop μ-loop
 same-length c = search needs
@@ -84,11 +72,11 @@ same-length-3 c = search needs
 
 returns : tie.Need-returns Inv-loop μ-loop
 returns c =
-    let pre = c .before .before .before .before .before .before .before .before .before .before .pre in
-    let loop = c .before .before .before .before .before .before .loop in
-    let loop-test = c .before .before .before .before .before .loop-test in
-    let put = c .before .before .put in
-    moved pre (loop .inv) (loop-test .left) (pre .spare) (put .ensures)
+    let pre = c .before .before .before .before .before .before .before .before .before .before .before .pre in
+    let loop = c .before .before .before .before .before .before .before .loop in
+    let loop-test = c .before .before .before .before .before .before .loop-test in
+    let settle = c .before .before .settle in
+    moved pre (loop .inv) (loop-test .left) (pre .spare) (settle .ensures)
 
 pub relayout-spec : {M : Type 1} → statement M
 relayout-spec =
@@ -104,9 +92,7 @@ relayout-spec =
     add-j
     loop-less
     loop-again
-    slice-reshare-prefix-put
-    slice-aggregate-put
-    put-requires
+    settle-requires
     same-length
     same-length-2
     same-length-3
