@@ -1,8 +1,8 @@
--- From an instruction read and carried out to a step.
+-- From the next instruction fetched to what its family asks, and from the instruction carried out to a step.
 use mathlib.Core.Path.{_≡_, refl, sym, _∙_, subst}
 use mathlib.Core.Bool.{Bool, true, false, not, _&&_, _||_, Bool·beq}
 use mathlib.Core.List.{List}
-use Prim.Native.Nat.{ℕ, _+_, _*_, _%_, _≤_, _<_}
+use Prim.Native.Nat.{ℕ, _+_, _*_, _≤_, _<_}
 use native.Mathlib.Omega.{arith}
 use lib.Dec.{T, eqb, leb}
 use lib.ListN.{length}
@@ -10,21 +10,18 @@ use borrow.Author.Tests.{ne-eqb}
 use Rattle.lists.specs.Lists.{among}
 use Rattle.lists.specs.TableLaws.{beq-eq, below, below-unless}
 use Rattle.language.specs.Instructions.{operator-of}
-use Rattle.language.specs.Limits as limit
 use Rattle.machine.specs.Effects.Go.{on}
 use Rattle.machine.specs.Facts.{ProgramFacts}
 use Rattle.machine.specs.WellFormedLaws.{open-state}
-use Rattle.layout.specs.Cells.{cell}
 use Rattle.layout.specs.ProgramLaws.{program-ok}
 use Rattle.layout.specs.Table.{program-of}
 use Rattle.layout.specs.TableLaws.{table-facts}
-use Rattle.cells.specs.Cells.{Number}
 use Rattle.control.specs.Going.{going, Following}
 use Rattle.packed.specs.Packed.{table-of}
 use Rattle.decoding.specs.Operands.{Read}
 use Rattle.decoding.specs.OperandLaws.{read-all}
 use Rattle.state.specs.Working.{state-at, HoldsState}
-use Rattle.state.specs.Blocks.{Told}
+use Rattle.table.specs.GoodLaws.{good-instruction}
 use Rattle.table.specs.Reads.{Place, IsArgument}
 use Rattle.table.specs.declared.Argument.{Argument}
 use Rattle.performing.specs.Stepping.{inputs, Steppable, Stepped}
@@ -34,7 +31,8 @@ use Rattle.performing.specs.Operating.{LeadsFor}
 use Rattle.performing.specs.OperatingLaws.{operating, carrying}
 use Rattle.perform_jumps.specs.Jumping.{Jumping}
 use Rattle.perform_moves.specs.Moving.{movers, Moving}
-use Rattle.stepping.specs.Orders.{GoingOn, Operator}
+use Rattle.stepping.specs.Orders.{Operator, Fetched, GoingOn, FetchedJump, FetchedMove, FetchedEquality, FetchedOf}
+use Rattle.stepping.proofs.Arguments.{some-argument}
 use Rattle.perform_files.specs.Filing.{file-operators, Filing}
 use Rattle.perform_values.specs.Valuing.{value-operators, Valuing}
 use Rattle.perform_equality.specs.Equating.{equality-operators, Equating}
@@ -46,54 +44,100 @@ leading-is op h =
     beq-eq ((leb 19 op && leb op 29) || eqb op 41) (leads (operator-of op))
     (below (λ n. Bool·beq ((leb 19 n && leb n 29) || eqb n 41) (leads (operator-of n))) 42 tt op (omega (arith, h)))
 
--- ---- an instruction carried out
-
 is-true : {a b : Bool} → a ≡ b → a ≡ true → T b
 is-true q r = subst (λ (x : Bool). T x) (sym r ∙ q) tt
 
 is-false : {a b : Bool} → a ≡ b → a ≡ false → T (not b)
 is-false q r = subst (λ (x : Bool). T (not x)) (sym r ∙ q) tt
 
-module _ {c i j p e n : List ℕ} {op : ℕ} {x y z : Argument} {scratch hold given : ℕ} (w : Performing c i j p e n op x y z scratch hold given) where
-  module _ {b : Bool} (q : b ≡ leads (operator-of op)) where
-    pub jumping : b ≡ true → Jumping c p e n op x y scratch
-    jumping r = record { third = z; operating = operating w; leads = is-true q r; spare = w .ready .spare }
+-- ---- the next instruction
 
-    pub going-on : b ≡ false → GoingOn c i j p e n op x y z scratch hold given
-    going-on r = record { performing = w; on = is-false q r }
+module _ {c i j p e n : List ℕ} {k scratch hold given : ℕ} (w : Steppable c i j p e n scratch hold given) (q : k ≡ state-at p e n .next) where
+  inside : k < length (program-of c .code)
+  inside = rw q (open-state (program-of c) (inputs i j) (state-at p e n) (w .good) .next)
 
-    module _ {told : ℕ} {p′ e′ n′ : List ℕ} where
-      pub jumped : LeadsFor c p e n told p′ e′ n′ → Stepped c i j p e n told p′ e′ n′
-      jumped h = stepped c i j p e n (h i j)
-
-      module _ (r : b ≡ false) (h : Performs c i j p e n told p′ e′ n′) where
-        pub stopped : (told ≡ 0 → ⊥) → Stepped c i j p e n told p′ e′ n′
-        stopped k = stepped-stop c i j p e n h k
-
-        pub follows : told ≡ 0 → Following p′ e′ n′
-        follows k = following c i j p e n h k (has-next w (is-false q r))
-
-        pub followed : told ≡ 0 → {n″ : List ℕ} → HoldsState p′ e′ n″ (going on (state-at p′ e′ n′)) → Stepped c i j p e n 0 p′ e′ n″
-        followed k {n″} g = subst (λ (t : ℕ). Stepped c i j p e n t p′ e′ n″) k (stepped-on c i j p e n h k (row-on w (is-false q r)) g)
-
--- ---- the next instruction read
-
-module _ {c i j p e n : List ℕ} {scratch hold given : ℕ} (w : Steppable c i j p e n scratch hold given) {r : ℕ} (next : Told p e n 3 r) where
-  inside : r < length (program-of c .code)
-  inside = rw (next .is) (open-state (program-of c) (inputs i j) (state-at p e n) (w .good) .next)
-
-  pub placed : Place c r 512
-  placed =
+  pub next-place : Place c k 512
+  next-place =
       let f : ProgramFacts (program-of c) = program-ok (program-of c) (table-facts c (w .table) .good) .facts in
-      record { long = table-facts c (w .table) .long; below = let k = inside in let m = f .code-short in omega (arith, k, m) }
+      record { long = table-facts c (w .table) .long; below = let h = inside in let m = f .code-short in omega (arith, h, m) }
 
-  pub performing : {op : ℕ} {x y z : Argument} → Number (cell (table-of c) (8 + 4 * r) % 64) 64 op → IsArgument (table-of c) (1 + (8 + 4 * r)) x
-      → IsArgument (table-of c) (2 + (8 + 4 * r)) y → IsArgument (table-of c) (3 + (8 + 4 * r)) z → Performing c i j p e n op x y z scratch hold given
-  performing {op} {x} {y} {z} q f g h =
+-- a is argument m, from 1, of instruction k
+abbrev Argued : List ℕ → ℕ → ℕ → Argument → Type 0
+Argued c k m a = IsArgument (table-of c) (m + (8 + 4 * k)) a
+
+module _ {c i j p e n : List ℕ} {k op scratch hold given : ℕ} (w : Fetched c i j p e n k op scratch hold given) where
+  code-in : k < length (program-of c .code)
+  code-in = inside (w .ready) (w .next)
+
+  pub placed : Place c k 512
+  placed = next-place (w .ready) (w .next)
+
+  pub an-operator : Operator op
+  an-operator =
+      let g = good-instruction c (w .ready .table) k code-in op (w .operator) in
+      record { from = g .from; to = g .to }
+
+  performing : {x y z : Argument} → Argued c k 1 x → Argued c k 2 y → Argued c k 3 z → Performing c i j p e n op x y z scratch hold given
+  performing {x} {y} {z} f g h =
       record {
-        ready = w;
-        read = subst (λ (k : ℕ). Read c k op x y z) (next .is) (read-all c (w .table) r inside (q .is) f g h);
+        ready = w .ready;
+        read = subst (λ (m : ℕ). Read c m op x y z) (w .next) (read-all c (w .ready .table) k code-in (w .operator) f g h);
       }
+
+  -- arguments that are not read
+  there : (m : ℕ) → (a : Argument) × Argued c k m a
+  there m = some-argument c (w .ready .table) (m + (8 + 4 * k))
+
+-- ---- carried out
+
+module _ {c i j p e n : List ℕ} {k op scratch hold given : ℕ} (w : Fetched c i j p e n k op scratch hold given) where
+  module _ {told : ℕ} {p′ e′ n′ : List ℕ} where
+    pub jumped : LeadsFor c p e n told p′ e′ n′ → Stepped c i j p e n told p′ e′ n′
+    jumped h = stepped c i j p e n (h i j)
+
+    pub stopped : Performs c i j p e n told p′ e′ n′ → (told ≡ 0 → ⊥) → Stepped c i j p e n told p′ e′ n′
+    stopped h z = stepped-stop c i j p e n h z
+
+  module _ {b : Bool} (q : b ≡ leads (operator-of op)) where
+    pub for-jumps : b ≡ true → FetchedJump c p e n k op scratch
+    for-jumps r = record { i = i; j = j; hold = hold; given = given; fetched = w; leads = is-true q r }
+
+    module _ (r : b ≡ false) where
+      pub going-on : GoingOn c i j p e n k op scratch hold given
+      going-on = record { fetched = w; on = is-false q r }
+
+      some : Performing c i j p e n op (there w 1 .0) (there w 2 .0) (there w 3 .0) scratch hold given
+      some = performing w (there w 1 .1) (there w 2 .1) (there w 3 .1)
+
+      module _ {told : ℕ} {p′ e′ n′ : List ℕ} (h : Performs c i j p e n told p′ e′ n′) (z : told ≡ 0) where
+        pub follows : Following p′ e′ n′
+        follows = following c i j p e n h z (has-next some (is-false q r))
+
+        pub followed : {n″ : List ℕ} → HoldsState p′ e′ n″ (going on (state-at p′ e′ n′)) → Stepped c i j p e n 0 p′ e′ n″
+        followed {n″} g = subst (λ (t : ℕ). Stepped c i j p e n t p′ e′ n″) z (stepped-on c i j p e n h z (row-on some (is-false q r)) g)
+
+-- ---- what the families ask
+
+module _ {c p e n : List ℕ} {k op : ℕ} {x y : Argument} (f : Argued c k 1 x) (g : Argued c k 2 y) where
+  pub jumping : {scratch : ℕ} → FetchedJump c p e n k op scratch → Jumping c p e n op x y scratch
+  jumping w =
+      let z = there (w .fetched) 3 in
+      record { third = z .0; operating = operating (performing (w .fetched) f g (z .1)); leads = w .leads; spare = w .fetched .ready .spare }
+
+  pub equating : {i j : List ℕ} {hold given : ℕ} → FetchedEquality c i j p e n k op hold given → Equating c i j p e n op x y hold given
+  equating w =
+      let z = there (w .fetched) 3 in
+      record { third = z .0; scratch = w .scratch; performing = performing (w .fetched) f g (z .1); one-of = w .one-of }
+
+  module _ {scratch hold given : ℕ} {z : Argument} (h : Argued c k 3 z) where
+    pub moving : {i j : List ℕ} → FetchedMove c i j p e n k op scratch hold given → Moving c i j p e n op x y z scratch hold given
+    moving w = record { performing = performing (w .fetched) f g h; mover = w .one-of }
+
+    pub valuing : FetchedOf value-operators c p e n k op scratch hold given → Valuing c p e n op x y z scratch hold given
+    valuing w = record { carrying = carrying (performing (w .fetched) f g h); one-of = w .one-of }
+
+    pub filing : FetchedOf file-operators c p e n k op scratch hold given → Filing c p e n op x y z scratch hold given
+    filing w = record { carrying = carrying (performing (w .fetched) f g h); one-of = w .one-of }
 
 -- ---- the groups of operators
 
@@ -134,22 +178,16 @@ a-file op w a b e d =
     let m : others op ≡ false = rw (ne-eqb op 0 (λ q. omega (arith, q, h)), a, b, e, not-true (leads (operator-of op)) d) refl in
     below-unless others (λ n. among n file-operators) 42 tt op (omega (arith, k)) m
 
-module _ {c i j p e n : List ℕ} {op : ℕ} {x y z : Argument} {scratch hold given : ℕ} (w : GoingOn c i j p e n op x y z scratch hold given) where
-  pub an-operator : Operator op
-  an-operator = record { from = w .performing .read .instruction .from; to = w .performing .read .instruction .to }
+module _ {c i j p e n : List ℕ} {k op scratch hold given : ℕ} (w : GoingOn c i j p e n k op scratch hold given) where
+  pub for-moves : {b : Bool} → b ≡ among op movers → b ≡ true → FetchedMove c i j p e n k op scratch hold given
+  for-moves q r = record { fetched = w .fetched; one-of = is-true q r }
 
-  module _ {b : Bool} (q : b ≡ among op movers) where
-    pub moving : b ≡ true → Moving c i j p e n op x y z scratch hold given
-    moving r = record { performing = w .performing; mover = is-true q r }
+  pub for-values : {b : Bool} → b ≡ among op value-operators → b ≡ true → FetchedOf value-operators c p e n k op scratch hold given
+  for-values q r = record { i = i; j = j; fetched = w .fetched; one-of = is-true q r }
 
-  module _ {d : Bool} (s : d ≡ among op value-operators) where
-    pub valuing : d ≡ true → Valuing c p e n op x y z scratch hold given
-    valuing r = record { carrying = carrying (w .performing); one-of = is-true s r }
+  pub for-equality : {b : Bool} → b ≡ among op equality-operators → b ≡ true → FetchedEquality c i j p e n k op hold given
+  for-equality q r = record { scratch = scratch; fetched = w .fetched; one-of = is-true q r }
 
-  module _ {d : Bool} (s : d ≡ among op equality-operators) where
-    pub equating : d ≡ true → Equating c i j p e n op x y hold given
-    equating r = record { third = z; scratch = scratch; performing = w .performing; one-of = is-true s r }
-
-  pub filing : among op movers ≡ false → among op value-operators ≡ false → among op equality-operators ≡ false
-      → Filing c p e n op x y z scratch hold given
-  filing a b d = record { carrying = carrying (w .performing); one-of = a-file op an-operator a b d (w .on) }
+  pub for-files : among op movers ≡ false → among op value-operators ≡ false → among op equality-operators ≡ false
+      → FetchedOf file-operators c p e n k op scratch hold given
+  for-files a b d = record { i = i; j = j; fetched = w .fetched; one-of = a-file op (an-operator (w .fetched)) a b d (w .on) }

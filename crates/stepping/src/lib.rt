@@ -4,12 +4,14 @@ ghost use Prim.Native.Nat.{_≤_};
 ghost use lib.ListN.{length};
 ghost use Rattle.language.specs.Instructions.{operator-of};
 ghost use Rattle.performing.specs.Stepping.{Steppable, Stepped};
-ghost use Rattle.performing.specs.Performing.{leads, Performing, Performs};
+ghost use Rattle.performing.specs.Performing.{leads, Performs};
+ghost use Rattle.performing.specs.Operating.{PerformsFor, LeadsFor};
 ghost use Rattle.lists.specs.Lists.{among};
 ghost use Rattle.perform_moves.specs.Moving.{movers};
-ghost use Rattle.stepping.specs.Orders.{GoingOn, Operator};
+ghost use Rattle.stepping.specs.Orders.{Operator, Fetched, GoingOn, FetchedJump, FetchedMove, FetchedOf, FetchedEquality};
 ghost use Rattle.perform_values.specs.Valuing.{value-operators};
 ghost use Rattle.perform_equality.specs.Equating.{equality-operators};
+ghost use Rattle.perform_files.specs.Filing.{file-operators};
 
 // Whether an operator is a jump, call or return, or STOP.
 fn leading(op: usize) -> bool
@@ -41,78 +43,27 @@ fn is_equality(op: usize) -> bool
     (op == 13) | (op == 18)
 }
 
-// Carries out an instruction, but for the step to the following one.
-fn perform(
+// The families. Each reads the arguments of instruction `i`, whose operator is `op`, and carries it out; only a jump sets what comes next.
+fn carry_jump(
     op: usize,
+    i: usize,
     table: &[u32],
-    i1: &[u8],
-    i2: &[u8],
     pool: &mut [u8],
     ends: &mut [u32],
     nums: &mut [u32],
     scratch: &mut [u8],
-    hold: &mut [u8],
-    given: &mut [u8],
-    x: table::Argument,
-    y: table::Argument,
-    z: table::Argument,
 ) -> u8
-    requires { ⌜ GoingOn (now table) (now i1) (now i2) (now pool) (now ends) (now nums) op x y z (length (now scratch)) (length (now hold)) (length (now given)) ⌝ }
-    ensures { λ r. ⌜ Performs (now (table .entry)) (now (i1 .entry)) (now (i2 .entry)) (now (pool .entry)) (now (ends .entry)) (now (nums .entry)) r (now (pool .exit)) (now (ends .exit)) (now (nums .exit)) ⌝ }
+    requires { ⌜ FetchedJump (now table) (now pool) (now ends) (now nums) i op (length (now scratch)) ⌝ }
+    ensures { λ r. ⌜ LeadsFor (now (table .entry)) (now (pool .entry)) (now (ends .entry)) (now (nums .entry)) r (now (pool .exit)) (now (ends .exit)) (now (nums .exit)) ⌝ }
 {
-    if is_move(op) {
-        return perform_moves::perform_move(
-            op,
-            table,
-            i1,
-            i2,
-            pool,
-            ends,
-            nums,
-            scratch,
-            hold,
-            given,
-            x,
-            y,
-            z,
-        );
-    }
-    if is_value(op) {
-        return perform_values::perform_value(
-            op,
-            table,
-            pool,
-            ends,
-            nums,
-            scratch,
-            hold,
-            given,
-            x,
-            y,
-            z,
-        );
-    }
-    if is_equality(op) {
-        return perform_equality::perform_equality(
-            op,
-            table,
-            i1,
-            i2,
-            pool,
-            ends,
-            nums,
-            hold,
-            given,
-            x,
-            y,
-        );
-    }
-    perform_files::perform_file(op, table, pool, ends, nums, scratch, hold, given, x, y, z)
+    let x = table::first(table, i);
+    let y = table::second(table, i);
+    perform_jumps::perform_jump(op, table, pool, ends, nums, scratch, x, y)
 }
 
-// Carries out an instruction whose operator and arguments were read.
-fn carry_out(
+fn carry_move(
     op: usize,
+    i: usize,
     table: &[u32],
     i1: &[u8],
     i2: &[u8],
@@ -122,17 +73,14 @@ fn carry_out(
     scratch: &mut [u8],
     hold: &mut [u8],
     given: &mut [u8],
-    x: table::Argument,
-    y: table::Argument,
-    z: table::Argument,
 ) -> u8
-    requires { ⌜ Performing (now table) (now i1) (now i2) (now pool) (now ends) (now nums) op x y z (length (now scratch)) (length (now hold)) (length (now given)) ⌝ }
-    ensures { λ r. ⌜ Stepped (now (table .entry)) (now (i1 .entry)) (now (i2 .entry)) (now (pool .entry)) (now (ends .entry)) (now (nums .entry)) r (now (pool .exit)) (now (ends .exit)) (now (nums .exit)) ⌝ }
+    requires { ⌜ FetchedMove (now table) (now i1) (now i2) (now pool) (now ends) (now nums) i op (length (now scratch)) (length (now hold)) (length (now given)) ⌝ }
+    ensures { λ r. ⌜ Performs (now (table .entry)) (now (i1 .entry)) (now (i2 .entry)) (now (pool .entry)) (now (ends .entry)) (now (nums .entry)) r (now (pool .exit)) (now (ends .exit)) (now (nums .exit)) ⌝ }
 {
-    if leading(op) {
-        return perform_jumps::perform_jump(op, table, pool, ends, nums, scratch, x, y);
-    }
-    let stop = perform(
+    let x = table::first(table, i);
+    let y = table::second(table, i);
+    let z = table::third(table, i);
+    perform_moves::perform_move(
         op,
         table,
         i1,
@@ -146,7 +94,119 @@ fn carry_out(
         x,
         y,
         z,
-    );
+    )
+}
+
+fn carry_value(
+    op: usize,
+    i: usize,
+    table: &[u32],
+    pool: &mut [u8],
+    ends: &mut [u32],
+    nums: &mut [u32],
+    scratch: &mut [u8],
+    hold: &mut [u8],
+    given: &mut [u8],
+) -> u8
+    requires { ⌜ FetchedOf value-operators (now table) (now pool) (now ends) (now nums) i op (length (now scratch)) (length (now hold)) (length (now given)) ⌝ }
+    ensures { λ r. ⌜ PerformsFor (now (table .entry)) (now (pool .entry)) (now (ends .entry)) (now (nums .entry)) r (now (pool .exit)) (now (ends .exit)) (now (nums .exit)) ⌝ }
+{
+    let x = table::first(table, i);
+    let y = table::second(table, i);
+    let z = table::third(table, i);
+    perform_values::perform_value(op, table, pool, ends, nums, scratch, hold, given, x, y, z)
+}
+
+fn carry_equality(
+    op: usize,
+    i: usize,
+    table: &[u32],
+    i1: &[u8],
+    i2: &[u8],
+    pool: &mut [u8],
+    ends: &mut [u32],
+    nums: &mut [u32],
+    hold: &mut [u8],
+    given: &mut [u8],
+) -> u8
+    requires { ⌜ FetchedEquality (now table) (now i1) (now i2) (now pool) (now ends) (now nums) i op (length (now hold)) (length (now given)) ⌝ }
+    ensures { λ r. ⌜ Performs (now (table .entry)) (now (i1 .entry)) (now (i2 .entry)) (now (pool .entry)) (now (ends .entry)) (now (nums .entry)) r (now (pool .exit)) (now (ends .exit)) (now (nums .exit)) ⌝ }
+{
+    let x = table::first(table, i);
+    let y = table::second(table, i);
+    perform_equality::perform_equality(op, table, i1, i2, pool, ends, nums, hold, given, x, y)
+}
+
+fn carry_file(
+    op: usize,
+    i: usize,
+    table: &[u32],
+    pool: &mut [u8],
+    ends: &mut [u32],
+    nums: &mut [u32],
+    scratch: &mut [u8],
+    hold: &mut [u8],
+    given: &mut [u8],
+) -> u8
+    requires { ⌜ FetchedOf file-operators (now table) (now pool) (now ends) (now nums) i op (length (now scratch)) (length (now hold)) (length (now given)) ⌝ }
+    ensures { λ r. ⌜ PerformsFor (now (table .entry)) (now (pool .entry)) (now (ends .entry)) (now (nums .entry)) r (now (pool .exit)) (now (ends .exit)) (now (nums .exit)) ⌝ }
+{
+    let x = table::first(table, i);
+    let y = table::second(table, i);
+    let z = table::third(table, i);
+    perform_files::perform_file(op, table, pool, ends, nums, scratch, hold, given, x, y, z)
+}
+
+// Carries out an instruction that always goes on to the following one, but for the step to that one.
+fn perform(
+    op: usize,
+    i: usize,
+    table: &[u32],
+    i1: &[u8],
+    i2: &[u8],
+    pool: &mut [u8],
+    ends: &mut [u32],
+    nums: &mut [u32],
+    scratch: &mut [u8],
+    hold: &mut [u8],
+    given: &mut [u8],
+) -> u8
+    requires { ⌜ GoingOn (now table) (now i1) (now i2) (now pool) (now ends) (now nums) i op (length (now scratch)) (length (now hold)) (length (now given)) ⌝ }
+    ensures { λ r. ⌜ Performs (now (table .entry)) (now (i1 .entry)) (now (i2 .entry)) (now (pool .entry)) (now (ends .entry)) (now (nums .entry)) r (now (pool .exit)) (now (ends .exit)) (now (nums .exit)) ⌝ }
+{
+    if is_move(op) {
+        return carry_move(op, i, table, i1, i2, pool, ends, nums, scratch, hold, given);
+    }
+    if is_value(op) {
+        return carry_value(op, i, table, pool, ends, nums, scratch, hold, given);
+    }
+    if is_equality(op) {
+        return carry_equality(op, i, table, i1, i2, pool, ends, nums, hold, given);
+    }
+    carry_file(op, i, table, pool, ends, nums, scratch, hold, given)
+}
+
+// Carries out an instruction whose operator was read.
+fn carry_out(
+    op: usize,
+    i: usize,
+    table: &[u32],
+    i1: &[u8],
+    i2: &[u8],
+    pool: &mut [u8],
+    ends: &mut [u32],
+    nums: &mut [u32],
+    scratch: &mut [u8],
+    hold: &mut [u8],
+    given: &mut [u8],
+) -> u8
+    requires { ⌜ Fetched (now table) (now i1) (now i2) (now pool) (now ends) (now nums) i op (length (now scratch)) (length (now hold)) (length (now given)) ⌝ }
+    ensures { λ r. ⌜ Stepped (now (table .entry)) (now (i1 .entry)) (now (i2 .entry)) (now (pool .entry)) (now (ends .entry)) (now (nums .entry)) r (now (pool .exit)) (now (ends .exit)) (now (nums .exit)) ⌝ }
+{
+    if leading(op) {
+        return carry_jump(op, i, table, pool, ends, nums, scratch);
+    }
+    let stop = perform(op, i, table, i1, i2, pool, ends, nums, scratch, hold, given);
     if stop != 0 {
         return stop;
     }
@@ -171,22 +231,5 @@ pub fn step(
 {
     let i = state::number(pool, ends, nums, 3);
     let op = table::operator(table, i);
-    let x = table::first(table, i);
-    let y = table::second(table, i);
-    let z = table::third(table, i);
-    carry_out(
-        op,
-        table,
-        i1,
-        i2,
-        pool,
-        ends,
-        nums,
-        scratch,
-        hold,
-        given,
-        x,
-        y,
-        z,
-    )
+    carry_out(op, i, table, i1, i2, pool, ends, nums, scratch, hold, given)
 }

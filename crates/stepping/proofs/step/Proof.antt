@@ -1,7 +1,7 @@
 -- `stepping::step` meets its contract.
 use borrow.Author.Needs.{needs}
 use native.Mathlib.Omega.{arith}
-use Rattle.stepping.proofs.Steps.{placed, performing}
+use Rattle.stepping.proofs.Steps.{next-place}
 use Rattle.stepping.proofs.step.Statement.{statement}
 use Rattle.stepping.proofs.step.Tie as tie
 
@@ -14,35 +14,14 @@ operator-requires : tie.Need-operator-requires
 operator-requires c κs =
     let preᶜ = c .before .before .before .before .before .before .before .before .before .before .before .before .before .pre in
     let numberᶜ = c .number in
-    placed preᶜ (numberᶜ .ensures)
-
-first-requires : tie.Need-first-requires
-first-requires c κs =
-    let preᶜ = c .before .before .before .before .before .before .before .before .before .before .before .before .before .before .pre in
-    let numberᶜ = c .before .number in
-    placed preᶜ (numberᶜ .ensures)
-
-second-requires : tie.Need-second-requires
-second-requires c κs =
-    let preᶜ = c .before .before .before .before .before .before .before .before .before .before .before .before .before .before .before .pre in
-    let numberᶜ = c .before .before .number in
-    placed preᶜ (numberᶜ .ensures)
-
-third-requires : tie.Need-third-requires
-third-requires c κs =
-    let preᶜ = c .before .before .before .before .before .before .before .before .before .before .before .before .before .before .before .before .pre in
-    let numberᶜ = c .before .before .before .number in
-    placed preᶜ (numberᶜ .ensures)
+    next-place preᶜ (numberᶜ .ensures .is)
 
 carry-out-requires : tie.Need-carry-out-requires
 carry-out-requires c κs =
-    let preᶜ = c .before .before .before .before .before .before .before .before .before .before .before .before .before .before .before .before .before .before .before .before .before .before .before .pre in
-    let numberᶜ = c .before .before .before .before .before .before .before .before .before .before .number in
-    let operatorᶜ = c .before .before .before .before .before .before .before .before .before .operator in
-    let firstᶜ = c .before .before .before .before .before .before .before .before .first in
-    let secondᶜ = c .before .before .before .before .before .before .before .second in
-    let thirdᶜ = c .before .before .before .before .before .before .third in
-    performing preᶜ (numberᶜ .ensures) (operatorᶜ .ensures) (firstᶜ .ensures) (secondᶜ .ensures) (thirdᶜ .ensures)
+    let preᶜ = c .before .before .before .before .before .before .before .before .before .before .before .before .before .before .before .before .before .before .before .before .pre in
+    let numberᶜ = c .before .before .before .before .before .before .before .number in
+    let operatorᶜ = c .before .before .before .before .before .before .operator in
+    record { ready = preᶜ; next = numberᶜ .ensures .is; operator = operatorᶜ .ensures .is }
 
 same-length : tie.Need-same-length
 same-length c = search needs
@@ -73,9 +52,6 @@ step-spec =
     (tie.spec
     number-requires
     operator-requires
-    first-requires
-    second-requires
-    third-requires
     carry-out-requires
     same-length
     same-length-2
