@@ -13,19 +13,19 @@ use Rattle.lists.specs.ListLaws.{T-left, T-right, T-both, all-among, all-head, 
 use Rattle.lists.specs.TableLaws.{beq-eq}
 use Rattle.characters.specs.Characters.{isLetter, isDigit}
 use Rattle.language.specs.Letters.{Letter, letter-code, indices, use-of}
-use Rattle.language.specs.Letters.Letter.{A, B, C, D, E, I, N, P, Q, T as letter-T, Y, Z}
 use Rattle.language.specs.Program.{Arg, identifier, classes, Switch, no-switch}
 use Rattle.language.specs.Values.{amount, unsigned, numeral, valueOf, in-range}
 use Rattle.machine.specs.WellFormed.{good-text, form, ranged, different}
 use Rattle.syntax.specs.ArgumentForms.{is-index, letter-of, word-reads, reads, Argument}
 use Rattle.syntax.specs.Items.{Sort, same-sort, Item, is}
 use Rattle.syntax.specs.Items.Sort.{separator, word, colon, end, text, wrong}
+use Rattle.syntax.specs.LetterLaws.{letter-of-code, every-letter}
 use Rattle.syntax.specs.Load.{arg-of, program-of, switch-place, label-place}
 use Rattle.syntax.specs.Statements.{entries-in}
 use Rattle.syntax.specs.Tables.{Choice, Tables, number-in}
 use Rattle.acceptance.specs.RowLaws.{or-left, or-right, any-ahead}
 use Rattle.acceptance.specs.Drafts.{in-texts, in-numbers, Sound-argument, Declared}
-use Rattle.acceptance.specs.ReadingLaws.{Other, by-form, Lettered, other-reads, text-reads, as-word}
+use Rattle.acceptance.specs.ReadingLaws.{Other, by-form, Lettered, other-reads, text-reads, as-word, numeral-word}
 
 -- a word is no text and no colon
 sort-apart : (k : Sort) → T (same-sort word k) → (same-sort text k ≡ false) × T (not (same-sort colon k))
@@ -59,32 +59,7 @@ identifier-first [] h = absurd h
 identifier-first (x ∷ xs) h = omega (arith, leb→le 65 x (T-left (leb 65 x) (leb x 90) (T-left (isLetter x) (all (λ y. isLetter y || isDigit y) xs) h)))
 
 code-least : (l : Letter) → 64 < letter-code l
-code-least A = omega arith
-code-least B = omega arith
-code-least C = omega arith
-code-least D = omega arith
-code-least E = omega arith
-code-least I = omega arith
-code-least N = omega arith
-code-least P = omega arith
-code-least Q = omega arith
-code-least letter-T = omega arith
-code-least Y = omega arith
-code-least Z = omega arith
-
-pub letter-of-code : (l : Letter) → letter-of (letter-code l) ≡ l
-letter-of-code A = refl
-letter-of-code B = refl
-letter-of-code C = refl
-letter-of-code D = refl
-letter-of-code E = refl
-letter-of-code I = refl
-letter-of-code N = refl
-letter-of-code P = refl
-letter-of-code Q = refl
-letter-of-code letter-T = refl
-letter-of-code Y = refl
-letter-of-code Z = refl
+code-least l = ltb→lt 64 (letter-code l) (every-letter (λ m. ltb 64 (letter-code m)) tt l)
 
 pub first-is : (w : List ℕ) (f : ℕ) (r : Lettered w f) → headOr 0 w ≡ letter-code (r .by)
 first-is w f r =
@@ -234,19 +209,6 @@ module _ (s : List ℕ) (t : Tables) (n : ℕ) (i : Item) where
   abbrev right : ℕ → Type 0
   right f = (form (program-of s t) (made f) ≡ f) × T (ranged (program-of s t) (made f))
 
-  -- a word that reads as a number
-  is-word : T (is word i || is text i || not (filled (i .chars))) → is text i ≡ false → T (filled (i .chars)) → T (is word i)
-  is-word h e k = go (is word i) (filled (i .chars)) (rw e at h) k
-    where
-      go : (a b : Bool) → T (a || false || not b) → T b → T a
-      go true b h k = tt
-      go false true h k = h
-      go false false h k = absurd k
-
-  numeral-filled : (w : List ℕ) → T (numeral w) → T (filled w)
-  numeral-filled [] h = absurd h
-  numeral-filled (x ∷ w) h = tt
-
   made-text : Sound-argument n (t .texts) (t .numbers) (record { item = i; form = 116 }) → right 116
   unfolding arg-of program-of reads
   made-text a =
@@ -261,7 +223,7 @@ module _ (s : List ℕ) (t : Tables) (n : ℕ) (i : Item) where
       let k : T (numeral w) = T-left (numeral w) (in-range (valueOf w)) r in (
         refl,
         T-both (in-range (valueOf w)) (in-numbers (t .numbers) (valueOf w)) (T-right (numeral w) (in-range (valueOf w)) r)
-            (a .kept .number-kept (is-word (a .fine .sound .plain) (text-reads i 110 (a .as-form)) (numeral-filled w k)) k),
+            (a .kept .number-kept (numeral-word i (a .fine .sound .plain) (a .as-form) k) k),
       )
 
   made-class : Sound-argument n (t .texts) (t .numbers) (record { item = i; form = 99 }) → right 99

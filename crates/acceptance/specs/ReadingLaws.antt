@@ -14,58 +14,20 @@ use Rattle.lists.specs.ListLaws.{T-left, T-right, T-both, all-among}
 use Rattle.lists.specs.TableLaws.{upTo, below}
 use Rattle.language.specs.Letters.{Letter, letters, letter-code}
 use Rattle.language.specs.Letters.Letter.{A}
+use Rattle.language.specs.Instructions.{operation, operator-of}
 use Rattle.language.specs.Program.{Op}
-use Rattle.language.specs.Program.Op.{PRZESLIJ, CZYTAJ, PISZ, KOPIUJ, WSTAW, POBIERZ, SCHOWAJ, USTAW, ZAMIEN, UMIESC, USUN, SKRESL, RW, WK, MN, PP, NS, RZ, SKOCZ, WYKONAJ, SKOMI, SKOPL, WYMI, WYPL, SKONA, SKOIN, WYNA, WYIN, WROC, DODAJ, ODEJMIJ, MNOZ, DZIEL, SLOWO, LICZBA, ZBIJ, ROZBIJ, SZUKAJ, OMIN, COFNIJ, STOP}
+use Rattle.language.specs.Values.{numeral}
+use Rattle.layout.specs.ArgumentLaws.{operator-back, operator-below}
 use Rattle.layout.specs.Bounds.{Each}
 use Rattle.layout.specs.CellLaws.{each-of}
 use Rattle.syntax.specs.ArgumentForms.{form-in, is-indexed, word-reads, reads, Argument, accepting, read-by, alternatives, most, least}
 use Rattle.syntax.specs.Items.{Item, is}
-use Rattle.syntax.specs.Items.Sort.{text}
+use Rattle.syntax.specs.Items.Sort.{word, text}
 use Rattle.acceptance.specs.Reading.{fits, apart, agree, agreed, may-end, right-number, right-forms}
 use Rattle.acceptance.specs.RowLaws.{fails, or-left, or-right, or-not, any-found, any-more, any-unkeep, any-mapped, each-map, each-keep, each-kept, each-mapped, each-both}
 
 pub forms-right : (op : Op) → T (right-forms op)
-forms-right PRZESLIJ = tt
-forms-right CZYTAJ = tt
-forms-right PISZ = tt
-forms-right KOPIUJ = tt
-forms-right WSTAW = tt
-forms-right POBIERZ = tt
-forms-right SCHOWAJ = tt
-forms-right USTAW = tt
-forms-right ZAMIEN = tt
-forms-right UMIESC = tt
-forms-right USUN = tt
-forms-right SKRESL = tt
-forms-right RW = tt
-forms-right WK = tt
-forms-right MN = tt
-forms-right PP = tt
-forms-right NS = tt
-forms-right RZ = tt
-forms-right SKOCZ = tt
-forms-right WYKONAJ = tt
-forms-right SKOMI = tt
-forms-right SKOPL = tt
-forms-right WYMI = tt
-forms-right WYPL = tt
-forms-right SKONA = tt
-forms-right SKOIN = tt
-forms-right WYNA = tt
-forms-right WYIN = tt
-forms-right WROC = tt
-forms-right DODAJ = tt
-forms-right ODEJMIJ = tt
-forms-right MNOZ = tt
-forms-right DZIEL = tt
-forms-right SLOWO = tt
-forms-right LICZBA = tt
-forms-right ZBIJ = tt
-forms-right ROZBIJ = tt
-forms-right SZUKAJ = tt
-forms-right OMIN = tt
-forms-right COFNIJ = tt
-forms-right STOP = tt
+forms-right op = subst (λ (o : Op). T (right-forms o)) (operator-back op) (below (λ n. right-forms (operator-of n)) 64 tt (operation op .number) (operator-below op))
 
 -- An item reads as a form
 
@@ -139,6 +101,15 @@ text-reads i f h = go (is text i) h
 pub as-word : (i : Item) (f : ℕ) → eqb f 116 ≡ false → T (reads i f) → T (word-reads (i .chars) f)
 unfolding reads
 as-word i f e h = let k : is text i ≡ false = text-reads i f h ∙ e in rw k at h
+
+-- an item that reads as a number is a word
+pub numeral-word : (i : Item) → T (is word i || is text i || not (filled (i .chars))) → T (reads i 110) → T (numeral (i .chars)) → T (is word i)
+numeral-word i h r k = let e : is text i ≡ false = text-reads i 110 r in go (is word i) (i .chars) (rw e at h) k
+  where
+    go : (b : Bool) (w : List ℕ) → T (b || false || not (filled w)) → T (numeral w) → T b
+    go true w h k = tt
+    go false [] h k = absurd k
+    go false (x ∷ w) h k = h
 
 letter-form : (f : ℕ) → T (form-in "ABCDEINPQTYZ" f) → Other f
 letter-form f h =

@@ -12,7 +12,7 @@ use Rattle.heads.specs.Heads.{Headed}
 use Rattle.heads.specs.declared.Head.{Head}
 use Rattle.language.specs.Limits as limit
 use Rattle.layout.specs.Bounds.{Each}
-use Rattle.progress.specs.Progress.{Names-kept, Waiting-kept, Section-kept}
+use Rattle.progress.specs.Progress.{Names-kept, Section-kept, Tells-draft}
 use Rattle.progress.specs.declared.Progress.{Progress}
 use Rattle.statements.specs.StatementAt.{statement-at, fault-of}
 use Rattle.statements.specs.declared.Fault.{Fault}
@@ -51,14 +51,6 @@ pub record Advancing (s : List ℕ) (n : ℕ) (d : Draft) (g : Progress) (ms : L
   pub marks : marks-in ms a b ≡ map mark (all-labels d (statement-at s n))
   pub spelt : Each (Spelt s) (all-labels d (statement-at s n))
   pub short : Each (λ i. length (i .chars) ≤ limit.item) (all-labels d (statement-at s n))
-  pub closing : Tells-closing (d .closing) (g .closing)
-  pub ended : fault-of (unended (d .tables .code)) ≡ g .ended
-
--- g tells the draft d but for its tables
-pub record Tells-draft (s : List ℕ) (d : Draft) (g : Progress) (ms : List ℕ) : Type 0 where
-  pub section : Section-kept s d (g .section)
-  pub names : Names-kept s d (g .names) ms
-  pub waiting : Waiting-kept s d (g .names) (g .waiting) ms
   pub closing : Tells-closing (d .closing) (g .closing)
   pub ended : fault-of (unended (d .tables .code)) ≡ g .ended
 

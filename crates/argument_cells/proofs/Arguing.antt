@@ -8,7 +8,7 @@ use lib.Dec.{T, eqb, leb→le}
 use lib.ListN.{length, getD, take, drop, length-take}
 use lib.IntN.{natAbs}
 use borrow.Author.Tests.{ne-eqb, eqb-true, eqb-false}
-use Rattle.acceptance.specs.ArgumentLaws.{letter-of-code, first-is}
+use Rattle.acceptance.specs.ArgumentLaws.{first-is}
 use Rattle.acceptance.specs.ReadingLaws.{Other, by-form, other-reads, text-reads, as-word}
 use Rattle.arguments.specs.declared.Found.{Found}
 use Rattle.arguments.specs.Found.{Nth}
@@ -34,6 +34,7 @@ use Rattle.statements.specs.StatementAt.{statement-at, stops}
 use Rattle.syntax.specs.ArgumentForms.{word-reads, reads, is-index, is-indexed, letter-of, Argument, arguments}
 use Rattle.syntax.specs.Items.{Item}
 use Rattle.syntax.specs.Items.Sort.{text}
+use Rattle.syntax.specs.LetterLaws.{letter-of-code}
 use Rattle.words.specs.declared.Letter as spelt
 use Rattle.words.specs.declared.Numeral.{Numeral}
 use Rattle.words.specs.Words.{is-class, class-of, numeral-of, indexed-of}

@@ -5,7 +5,7 @@ use mathlib.Core.List.{List, [], _∷_}
 use Prim.Native.Nat.{ℕ, pred, _≤_}
 use lib.ListN.{length, drop}
 use Rattle.drafts.specs.Marks.{word-by, Marked}
-use Rattle.heads.specs.Heads.{Headed}
+use Rattle.heads.specs.Heads.{by-kind, Headed}
 use Rattle.heads.specs.declared.Head.{Head}
 use Rattle.language.specs.Instructions.{operation, is-end}
 use Rattle.lists.specs.Lists.{each, filled}
@@ -20,22 +20,10 @@ use Rattle.words.specs.declared.Keyword.{Keyword}
 use Rattle.closing.specs.declared.Closing.{Closing}
 
 abbrev pub is-kons : Keyword → Bool
-is-kons Keyword.None = false
-is-kons Keyword.Unknown = false
-is-kons Keyword.Sekcja = false
-is-kons Keyword.Kons = true
-is-kons Keyword.Konp = false
-is-kons (Keyword.Switch byName) = false
-is-kons (Keyword.Instr n) = false
+is-kons k = by-kind false false false true false (λ byName. false) (λ n. false) k
 
 abbrev pub is-konp : Keyword → Bool
-is-konp Keyword.None = false
-is-konp Keyword.Unknown = false
-is-konp Keyword.Sekcja = false
-is-konp Keyword.Kons = false
-is-konp Keyword.Konp = true
-is-konp (Keyword.Switch byName) = false
-is-konp (Keyword.Instr n) = false
+is-konp k = by-kind false false false false true (λ byName. false) (λ n. false) k
 
 -- c tells the specification's k
 pub record Tells-closing (k : spec.Closing) (c : Closing) : Type 0 where

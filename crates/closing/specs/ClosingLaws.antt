@@ -11,6 +11,7 @@ use Rattle.declaring.specs.TabledLaws.{operated}
 use Rattle.drafts.specs.Marks.{place-by, length-by, word-by}
 use Rattle.faults.specs.Faults.{lower}
 use Rattle.faults.specs.FaultLaws.{fault-both}
+use Rattle.heads.specs.HeadLaws.{told-asked}
 use Rattle.heads.specs.declared.Head.{Head}
 use Rattle.lexer.specs.Tokens.{item-of}
 use Rattle.lists.specs.Lists.{filled, sameBytes}
@@ -29,24 +30,6 @@ use Rattle.words.specs.declared.Keyword.{Keyword}
 use Rattle.words.specs.Keywords.{told}
 use Rattle.closing.specs.Closing.{is-kons, is-konp, Tells-closing, Closable, Closing-fault, Closed, unended, Ends}
 use Rattle.closing.specs.declared.Closing.{Closing}
-
-pub told-kons : (k : Spec.Keyword) → is-kons (told k) ≡ same-keyword Spec.Keyword.KONS k
-told-kons Spec.Keyword.none = refl
-told-kons Spec.Keyword.unknown = refl
-told-kons Spec.Keyword.SEKCJA = refl
-told-kons Spec.Keyword.KONS = refl
-told-kons Spec.Keyword.KONP = refl
-told-kons (Spec.Keyword.switch byName) = refl
-told-kons (Spec.Keyword.instr op) = refl
-
-pub told-konp : (k : Spec.Keyword) → is-konp (told k) ≡ same-keyword Spec.Keyword.KONP k
-told-konp Spec.Keyword.none = refl
-told-konp Spec.Keyword.unknown = refl
-told-konp Spec.Keyword.SEKCJA = refl
-told-konp Spec.Keyword.KONS = refl
-told-konp Spec.Keyword.KONP = refl
-told-konp (Spec.Keyword.switch byName) = refl
-told-konp (Spec.Keyword.instr op) = refl
 
 pub fault-one : (p : ℕ) → At p ≡ fault-of (p ∷ [])
 unfolding lowest
@@ -79,10 +62,10 @@ module _ {s : List ℕ} {n section : ℕ} {h : Head} (g : Closable s n h section
   behind-operator = statement-at s (h .op .next)
 
   kons-told : same-keyword KONS (keyword-in x) ≡ is-kons (h .keyword)
-  kons-told = sym (ap is-kons (g .headed .keyword) ∙ told-kons (keyword-in x))
+  kons-told = sym (ap is-kons (g .headed .keyword) ∙ told-asked (eqb 3) (keyword-in x))
 
   konp-told : same-keyword KONP (keyword-in x) ≡ is-konp (h .keyword)
-  konp-told = sym (ap is-konp (g .headed .keyword) ∙ told-konp (keyword-in x))
+  konp-told = sym (ap is-konp (g .headed .keyword) ∙ told-asked (eqb 4) (keyword-in x))
 
   operator-told : filled (operator x) ≡ not (stops (h .op .sort))
   operator-told = ap (λ (ys : List Item). filled (take 1 ys)) (g .headed .operator) ∙ go (stops (h .op .sort))

@@ -22,6 +22,7 @@ use Rattle.statements.specs.declared.Fault.{Fault}
 use Rattle.statements.specs.declared.Fault.the-variants.{Clear, At}
 use Rattle.syntax.specs.Questions.{beyond}
 use Rattle.writing.specs.Writing.{HoldsProgram, kept-arg, Changes, Writes, InstrRoom, IsInstr, with-instr}
+use Rattle.writing.proofs.Adding.{kept-same}
 use Rattle.writing.proofs.Held.{code-count, label-count}
 use Rattle.argument_cells.specs.ArgumentCells.{Arguing, NthCell}
 use Rattle.declaring.specs.Declaring.{marks-in, with-labels, labels-by, Labelling, Judges, Judgeable, instr-excess, texts-excess, numbers-excess, with-values, draft-args, new-instr, with-labelled, Writable, WritesInstr, Declarable, Declares}
@@ -29,20 +30,11 @@ use Rattle.declaring.specs.Declaring.{marks-in, with-labels, labels-by, 
 -- ---- the instruction
 
 module _ (p : Program) (ls : List Label) where
-  kept-same : (a : Arg) → kept-arg (with-labels ls p) a ≡ kept-arg p a
-  unfolding with-labels
-  kept-same nothing = refl
-  kept-same (letter l n) = refl
-  kept-same (label k) = refl
-  kept-same (switch k) = refl
-  kept-same (class cs) = refl
-  kept-same (text t) = refl
-  kept-same (Arg.number z) = refl
-
   kept-at : (xs : List Arg) (k : ℕ) → Each (λ a. T (kept-arg p a)) xs → T (kept-arg (with-labels ls p) (getD xs k nothing))
+  unfolding with-labels
   kept-at [] zero h = tt
   kept-at [] (suc k) h = tt
-  kept-at (a ∷ xs) zero h = subst T (sym (kept-same a)) (h .0)
+  kept-at (a ∷ xs) zero h = subst T (kept-same p (with-labels ls p) refl refl a) (h .0)
   kept-at (a ∷ xs) (suc k) h = kept-at xs k (h .1)
 
 module _ {s : List ℕ} {n number line : ℕ} {ms : List ℕ} {a b : ℕ} {c : List ℕ} (pre : Writable s n number line ms a b c) where

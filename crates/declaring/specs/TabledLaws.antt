@@ -8,7 +8,7 @@ use lib.Dec.{T}
 use lib.ListN.{length, getD, take, length-map}
 use lib.IntN.{ℤ}
 use Rattle.acceptance.specs.Drafts.{Sound-argument, Sound-written, Sound-tables}
-use Rattle.acceptance.specs.ReadingLaws.{Other, by-form, text-reads, as-word, arguments-of}
+use Rattle.acceptance.specs.ReadingLaws.{Other, by-form, text-reads, as-word, numeral-word, arguments-of}
 use Rattle.acceptance.specs.RowLaws.{each-map, each-keep, each-mapped}
 use Rattle.drafts.specs.Drafting.{draft-arg, draft-instr, draft-program}
 use Rattle.drafts.specs.DraftingLaws.{place-back}
@@ -79,18 +79,6 @@ module _ (s : List ℕ) where
 -- ---- an argument that is kept
 
 module _ (i : Item) where
-  is-word : T (is word i || is text i || not (filled (i .chars))) → is text i ≡ false → T (filled (i .chars)) → T (is word i)
-  is-word h e k = go (is word i) (filled (i .chars)) (rw e at h) k
-    where
-      go : (a b : Bool) → T (a || false || not b) → T b → T a
-      go true b h k = tt
-      go false true h k = h
-      go false false h k = absurd k
-
-  numeral-filled : (w : List ℕ) → T (numeral w) → T (filled w)
-  numeral-filled [] h = absurd h
-  numeral-filled (x ∷ w) h = tt
-
   module _ (n : ℕ) (p : Program) where
     abbrev Sound : ℕ → Type 0
     Sound f = Sound-argument n (p .texts) (p .numbers) (record { item = i; form = f })
@@ -107,7 +95,7 @@ module _ (i : Item) where
     kept-number a =
         let w = i .chars in
         let k : T (numeral w) = T-left (numeral w) (in-range (valueOf w)) (as-word i 110 refl (a .as-form)) in
-        a .kept .number-kept (is-word (a .fine .sound .plain) (text-reads i 110 (a .as-form)) (numeral-filled w k)) k
+        a .kept .number-kept (numeral-word i (a .fine .sound .plain) (a .as-form) k) k
 
     kept-other : (f : ℕ) → Other f → Kept f
     unfolding draft-arg

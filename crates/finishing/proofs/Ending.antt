@@ -62,7 +62,7 @@ module _ {s : List ℕ} {d : Draft} {g : Progress} {ms c sw en : List ℕ} (h : 
   -- the marks of all labels have a place
   pub names-most : g .names ≤ length ms
   names-most =
-      let n = h .names in
+      let n = h .tells .names in
       let e : length (take (g .names) ms) ≡ g .names = sym (length-map (take (g .names) ms) (word-by s)) ∙ ap length (n .names-are) ∙ n .count-is in
       omega (arith, length-take (g .names) ms, e)
 
@@ -79,7 +79,7 @@ module _ {s : List ℕ} {d : Draft} {g : Progress} {ms c sw en : List ℕ} (h : 
   pub waiting-is : {f : Fault} → f ≡ fault-of (map place-by (marks-in ms (g .names - g .waiting) (g .names))) → fault-of (places (d .waiting)) ≡ f
   waiting-is e =
       sym
-      (e ∙ ap (λ (x : List ℕ). fault-of (map place-by x)) (h .waiting .marks)
+      (e ∙ ap (λ (x : List ℕ). fault-of (map place-by x)) (h .tells .waiting .marks)
       ∙ ap fault-of (mark-places (d .waiting) (each-map _ _ (λ i k. k .fine .short) (d .waiting) (h .sound .waiting))))
 
 -- ---- the questions in order
@@ -92,7 +92,7 @@ module _ {s : List ℕ} {g : Progress} {ms c sw en : List ℕ} {last : ℕ} (l :
   unfolding last-questions
   asked d h b e =
       question-decides 0 (absent (not (is-first d)) (last-place s)) _
-      ∙ ap (λ (x : Bool). then (decided 0 (fault-of (absent (not x) (last-place s)))) (first-no (ask 25 (end-faults (last-place s) d) ∷ last-two (d .tables)))) (h .section .first-is ∙ e)
+      ∙ ap (λ (x : Bool). then (decided 0 (fault-of (absent (not x) (last-place s)))) (first-no (ask 25 (end-faults (last-place s) d) ∷ last-two (d .tables)))) (h .tells .section .first-is ∙ e)
       ∙ ap (λ (x : spec.Verdict). then (decided 0 (fault-of (absent (not b) (last-place s)))) x) (question-decides 25 (end-faults (last-place s) d) (last-two (d .tables)))
 
   pub no-section : g .section ≡ 0 → Finishes s g ms c sw en (No 0 last) c
@@ -109,7 +109,7 @@ module _ {s : List ℕ} {g : Progress} {ms c sw en : List ℕ} {last : ℕ} (l :
       (waiting-of : waiting ≡ fault-of (map place-by (marks-in ms (g .names - g .waiting) (g .names)))) where
     fault-here : (d : Draft) → Drafted s d g ms c sw en → f ≡ fault-of (end-faults (last-place s) d)
     fault-here d h =
-        u d (rw k-is (h .closing)) (code-is h code-of) (h .ended ∙ sym ended-is) (waiting-is h waiting-of) ∙ ap (λ (x : ℕ). fault-of (end-faults x d)) l
+        u d (rw k-is (h .tells .closing)) (code-is h code-of) (h .tells .ended ∙ sym ended-is) (waiting-is h waiting-of) ∙ ap (λ (x : ℕ). fault-of (end-faults x d)) l
 
     then-asked : (d : Draft) → Drafted s d g ms c sw en
         → first-no (last-questions (last-place s) d) ≡ then (decided 25 f) (first-no (last-two (d .tables)))

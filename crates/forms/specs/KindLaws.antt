@@ -4,7 +4,7 @@ use mathlib.Core.Bool.{Bool, true, false, cond, _&&_, _||_, not, and-false}
 use mathlib.Core.List.{List, [], _∷_, map}
 use Prim.Native.Nat.{ℕ, _<_}
 use native.Mathlib.Omega.{arith}
-use lib.Dec.{T, eqb, leb, ltb, eqb→eq, leb→le, T-not, lit<}
+use lib.Dec.{T, eqb, leb, ltb, eqb→eq, leb→le, T-not, ltb→lt, lit<}
 use lib.ListN.{drop}
 use borrow.Author.Tests.{eqb-true, ne-eqb, lt-leb}
 use Rattle.characters.specs.Characters.{isLetter, isDigit}
@@ -17,6 +17,7 @@ use Rattle.lists.specs.ListLaws.{T-left, T-right, T-both, all-head, all-tail, a
 use Rattle.lists.specs.Lists.{all, any, headOr}
 use Rattle.lists.specs.Quoted.{bytes}
 use Rattle.syntax.specs.ArgumentForms.{form-in, is-index, is-indexed, letter-of, word-reads, reads}
+use Rattle.syntax.specs.LetterLaws.{letter-of-code, every-letter}
 use Rattle.syntax.specs.Items.{Item, is}
 use Rattle.syntax.specs.Items.Sort.{text}
 use Rattle.words.specs.Words.{class-letter, is-class}
@@ -55,47 +56,11 @@ one-letter Z f h = rw h
 
 -- Laws of the four ways to read a word
 
-letter-is : (l : Letter) → isLetter (letter-code l) ≡ true
-letter-is A = refl
-letter-is B = refl
-letter-is C = refl
-letter-is D = refl
-letter-is E = refl
-letter-is I = refl
-letter-is N = refl
-letter-is P = refl
-letter-is Q = refl
-letter-is T′ = refl
-letter-is Y = refl
-letter-is Z = refl
-
-letter-back : (l : Letter) → letter-of (letter-code l) ≡ l
-letter-back A = refl
-letter-back B = refl
-letter-back C = refl
-letter-back D = refl
-letter-back E = refl
-letter-back I = refl
-letter-back N = refl
-letter-back P = refl
-letter-back Q = refl
-letter-back T′ = refl
-letter-back Y = refl
-letter-back Z = refl
+letter-is : (l : Letter) → T (isLetter (letter-code l))
+letter-is l = every-letter (λ m. isLetter (letter-code m)) tt l
 
 pub place-small : (l : Letter) → letter-place l < 12
-place-small A = lit< tt
-place-small B = lit< tt
-place-small C = lit< tt
-place-small D = lit< tt
-place-small E = lit< tt
-place-small I = lit< tt
-place-small N = lit< tt
-place-small P = lit< tt
-place-small Q = lit< tt
-place-small T′ = lit< tt
-place-small Y = lit< tt
-place-small Z = lit< tt
+place-small l = ltb→lt (letter-place l) 12 (every-letter (λ m. ltb (letter-place m) 12) tt l)
 
 T-true : (b : Bool) → T b → b ≡ true
 T-true true h = refl
@@ -150,7 +115,7 @@ module _ (l : Letter) where
   indexed-name (b ∷ w) h =
       let e : b ≡ letter-code l = eqb→eq b (letter-code l) (T-left (eqb b (letter-code l)) (is-index most w) h) in
       let d = unsigned-all w (index-digits most w (T-right (eqb b (letter-code l)) (is-index most w) h)) in
-      T-both (isLetter b) (all continues w) (rw e (holds (letter-is l))) (all-each isDigit continues digit-continues w d)
+      T-both (isLetter b) (all continues w) (rw e (letter-is l)) (all-each isDigit continues digit-continues w d)
 
   -- and no class
   indexed-class : (w : List ℕ) → T (is-indexed w l) → T (is-class w) → ⊥
@@ -197,7 +162,7 @@ module _ (w : List ℕ) where
     where
       go : (t : Bool) → eqb (headOr 0 w) (letter-code l) ≡ t → (t && is-index (indices (use-of l .var)) (drop 1 w)) ≡ false
       go true e =
-          let f : first ≡ l = rw (eqb-true (headOr 0 w) (letter-code l) e) (letter-back l) in
+          let f : first ≡ l = rw (eqb-true (headOr 0 w) (letter-code l) e) (letter-of-code l) in
           sym (ap (λ t. t && is-index (indices (use-of l .var)) (drop 1 w)) e) ∙ ap (is-indexed w) (sym f) ∙ h
       go false e = refl
 

@@ -15,31 +15,29 @@ use Rattle.statements.specs.StatementAt.{statement-at, stops}
 use Rattle.statements.specs.StatementLaws.{at-stop, at-item, on}
 use Rattle.syntax.specs.Items.{Item, is}
 use Rattle.syntax.specs.Items.Sort.{word, colon}
-use Rattle.syntax.specs.Statements.{same-keyword, keyword-of, is-operator, front, behind, labels-in, operator, keyword-in, rest}
+use Rattle.syntax.specs.Statements.{keyword-number, same-keyword, keyword-of, is-operator, front, behind, labels-in, operator, keyword-in, rest}
 use Rattle.syntax.specs.Statements as Spec
 use Rattle.words.specs.declared.Keyword.{Keyword}
 use Rattle.words.specs.Keywords.{keyword-by, told}
 use Rattle.words.specs.WordLaws.{keyword-item}
-use Rattle.heads.specs.Heads.{operates, opens, bars, Headed}
+use Rattle.heads.specs.Heads.{operates, by-kind, opens, bars, Headed}
 use Rattle.heads.specs.declared.Head.{Head}
 
+-- what is asked of a keyword's number
+pub told-asked : (q : ℕ → Bool) (k : Spec.Keyword) → by-kind (q 0) (q 1) (q 2) (q 3) (q 4) (λ byName. q 5) (λ n. q 6) (told k) ≡ q (keyword-number k)
+told-asked q Spec.Keyword.none = refl
+told-asked q Spec.Keyword.unknown = refl
+told-asked q Spec.Keyword.SEKCJA = refl
+told-asked q Spec.Keyword.KONS = refl
+told-asked q Spec.Keyword.KONP = refl
+told-asked q (Spec.Keyword.switch byName) = refl
+told-asked q (Spec.Keyword.instr op) = refl
+
 pub told-opens : (k : Spec.Keyword) → opens (told k) ≡ same-keyword Spec.Keyword.SEKCJA k
-told-opens Spec.Keyword.none = refl
-told-opens Spec.Keyword.unknown = refl
-told-opens Spec.Keyword.SEKCJA = refl
-told-opens Spec.Keyword.KONS = refl
-told-opens Spec.Keyword.KONP = refl
-told-opens (Spec.Keyword.switch byName) = refl
-told-opens (Spec.Keyword.instr op) = refl
+told-opens k = told-asked (eqb 2) k
 
 pub told-bars : (k : Spec.Keyword) → bars (told k) ≡ (same-keyword Spec.Keyword.unknown k || same-keyword Spec.Keyword.SEKCJA k)
-told-bars Spec.Keyword.none = refl
-told-bars Spec.Keyword.unknown = refl
-told-bars Spec.Keyword.SEKCJA = refl
-told-bars Spec.Keyword.KONS = refl
-told-bars Spec.Keyword.KONP = refl
-told-bars (Spec.Keyword.switch byName) = refl
-told-bars (Spec.Keyword.instr op) = refl
+told-bars k = told-asked (λ n. eqb 1 n || eqb 2 n) k
 
 -- a token that is a word, and any other
 module _ {s : List ℕ} {t : Token} (h : Stands s t) where

@@ -18,52 +18,32 @@ use Rattle.heads.specs.declared.Head.{Head}
 abbrev pub operates : Token → Bool
 operates t = not (eqb 2 (t .sort) || not (eqb (t .colon) 0))
 
+-- one answer for each keyword: none, unknown, SEKCJA, KONS, KONP, INDEKS and NAZWA, instructions
+abbrev pub by-kind : {X : Type 0} → X → X → X → X → X → (Bool → X) → (ℕ → X) → Keyword → X
+by-kind a b c d e f g Keyword.None = a
+by-kind a b c d e f g Keyword.Unknown = b
+by-kind a b c d e f g Keyword.Sekcja = c
+by-kind a b c d e f g Keyword.Kons = d
+by-kind a b c d e f g Keyword.Konp = e
+by-kind a b c d e f g (Keyword.Switch byName) = f byName
+by-kind a b c d e f g (Keyword.Instr n) = g n
+
 -- SEKCJA; what is no operator of a statement after the first; INDEKS or NAZWA; NAZWA
 abbrev pub opens : Keyword → Bool
-opens Keyword.None = false
-opens Keyword.Unknown = false
-opens Keyword.Sekcja = true
-opens Keyword.Kons = false
-opens Keyword.Konp = false
-opens (Keyword.Switch byName) = false
-opens (Keyword.Instr n) = false
+opens k = by-kind false false true false false (λ byName. false) (λ n. false) k
 
 abbrev pub bars : Keyword → Bool
-bars Keyword.None = false
-bars Keyword.Unknown = true
-bars Keyword.Sekcja = true
-bars Keyword.Kons = false
-bars Keyword.Konp = false
-bars (Keyword.Switch byName) = false
-bars (Keyword.Instr n) = false
+bars k = by-kind false true true false false (λ byName. false) (λ n. false) k
 
 abbrev pub is-switch : Keyword → Bool
-is-switch Keyword.None = false
-is-switch Keyword.Unknown = false
-is-switch Keyword.Sekcja = false
-is-switch Keyword.Kons = false
-is-switch Keyword.Konp = false
-is-switch (Keyword.Switch byName) = true
-is-switch (Keyword.Instr n) = false
+is-switch k = by-kind false false false false false (λ byName. true) (λ n. false) k
 
 abbrev pub is-by-name : Keyword → Bool
-is-by-name Keyword.None = false
-is-by-name Keyword.Unknown = false
-is-by-name Keyword.Sekcja = false
-is-by-name Keyword.Kons = false
-is-by-name Keyword.Konp = false
-is-by-name (Keyword.Switch byName) = byName
-is-by-name (Keyword.Instr n) = false
+is-by-name k = by-kind false false false false false (λ byName. byName) (λ n. false) k
 
 -- an instruction's number; 0 for any other keyword
 abbrev pub instr-of : Keyword → ℕ
-instr-of Keyword.None = 0
-instr-of Keyword.Unknown = 0
-instr-of Keyword.Sekcja = 0
-instr-of Keyword.Kons = 0
-instr-of Keyword.Konp = 0
-instr-of (Keyword.Switch byName) = 0
-instr-of (Keyword.Instr n) = n
+instr-of k = by-kind 0 0 0 0 0 (λ byName. 0) (λ n. n) k
 
 -- what stands from the token t on, where t is what ends a statement or an item of it
 abbrev pub from-token : List ℕ → Token → List Item

@@ -3,12 +3,7 @@ use mathlib.Core.Path.{_≡_, refl}
 use mathlib.Core.List.{List, [], _∷_, map}
 use Prim.Native.Nat.{ℕ}
 use lib.ListN.{length, replicate}
-use Rattle.lists.specs.Quoted.{bytes}
 use Rattle.characters.specs.Characters.{known}
-use Rattle.language.specs.Letters.Letter.{A, Q}
-use Rattle.language.specs.Program.{Program}
-use Rattle.language.specs.Program.Arg.{nothing, letter, text}
-use Rattle.language.specs.Program.Op.{PISZ, UMIESC, STOP}
 use Rattle.language.specs.Values.{Inputs}
 use Rattle.machine.specs.Steps.{opened}
 use Rattle.machine.specs.WellFormed.{listed, good-instr, good-label, good-switch, good-return, good-program, good-inputs, store-faults, good-store, good-state, started}
@@ -20,30 +15,17 @@ use Rattle.layout.specs.Table.{switch-cells, table-cells, program-in, program-o
 use Rattle.syntax.specs.Load.{Loaded, loadIn}
 use Rattle.syntax.specs.Load.{opened as opened-load}
 use Rattle.syntax.specs.Load.Loaded.{accepted}
+use Rattle.syntax.specs.Sample.{sample-text, sample}
 use Rattle.calls.specs.Calls.{table-after, Call, reply-number, reply-count, result-of}
 use Rattle.calls.specs.Calls.Call.{start-on, run-on}
 use Rattle.history.specs.History.{Moment, history}
-
-abbrev sample : Program
-sample =
-    record {
-      code =
-          record { op = UMIESC; line = 2; first = text (bytes "AB"); second = letter A 1; third = nothing }
-          ∷ record { op = PISZ; line = 3; first = letter A 1; second = letter Q 1; third = nothing }
-          ∷ record { op = STOP; line = 4; first = nothing; second = nothing; third = nothing }
-          ∷ [];
-      labels = [];
-      switches = [];
-      texts = bytes "AB" ∷ [];
-      numbers = [];
-    }
 
 -- a table of eight cells more than needed
 abbrev lent : List ℕ
 lent = replicate 8200 9
 
 abbrev loaded : Loaded
-loaded = loadIn (length lent) (bytes "SEKCJA S\nUMIESC 'AB',A1\nPISZ A1,Q1\nSTOP\nKONS\nKONP S\n")
+loaded = loadIn (length lent) sample-text
 
 abbrev none : Inputs
 none = [] ∷ [] ∷ []

@@ -6,12 +6,13 @@ use Prim.Native.Nat.{ℕ, zero, suc, pred, _≤_, _<_}
 use native.Mathlib.Omega.{arith}
 use lib.Dec.{T, eqb}
 use Rattle.acceptance.specs.Reading.{fits}
-use Rattle.language.specs.Instructions.{operation, operators}
+use Rattle.language.specs.Instructions.{operation, operator-of}
 use Rattle.language.specs.Program.{Op}
-use Rattle.layout.specs.ArgumentLaws.{operator-back, operator-range}
+use Rattle.layout.specs.ArgumentLaws.{operator-back, operator-below}
 use Rattle.layout.specs.Bounds.{Each}
-use Rattle.lists.specs.ListLaws.{T-left, T-right, all-at, all-among}
+use Rattle.lists.specs.ListLaws.{T-left, T-right, all-among}
 use Rattle.lists.specs.Lists.{all, any, among}
+use Rattle.lists.specs.TableLaws.{below}
 use Rattle.lookup.specs.Lookup.{names-number}
 use Rattle.syntax.specs.ArgumentForms.{form-in, Argument, alternatives}
 
@@ -22,18 +23,8 @@ ok b f = (not (form-in "w" f) || b) && (not (form-in "x" f) || not b)
 abbrev right : Op → Bool
 right o = all (λ a. all (λ fs. all (ok (names-number (operation o .number))) fs) a) (alternatives o)
 
-all-right : T (all right operators)
-all-right = tt
-
 op-right : (o : Op) → T (right o)
-op-right o =
-    let k : ℕ = pred (operation o .number) in
-    let r = operator-range o in
-    subst (λ (x : Op). T (right x)) (operator-back o) (all-at right operators all-right k Op.STOP (below (operation o .number) (r .0) (r .1)))
-  where
-    below : (n : ℕ) → 0 < n → n ≤ 41 → pred n < 41
-    below zero h l = absurd (omega (arith, h))
-    below (suc n) h l = omega arith
+op-right o = subst (λ (x : Op). T (right x)) (operator-back o) (below (λ n. right (operator-of n)) 64 tt (operation o .number) (operator-below o))
 
 module _ (q : ℕ → Bool) where
   fit-right : (xs : List Argument) (a : List (List ℕ)) → T (fits xs a) → T (all (λ fs. all q fs) a) → Each (λ x. T (q (x .form))) xs

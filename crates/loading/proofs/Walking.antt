@@ -18,7 +18,7 @@ use Rattle.lexer.specs.Tokens.{Lines}
 use Rattle.progress.specs.Progress.{Begun}
 use Rattle.progress.specs.ProgressLaws.{before-after}
 use Rattle.progress.specs.declared.Progress.{Progress}
-use Rattle.reading_statements.specs.ReadingStatements.{Reading, Readable, Reads, read-verdict}
+use Rattle.reading_statements.specs.ReadingStatements.{read-verdict, Standing, Reading, Readable, Reads}
 use Rattle.reading_statements.specs.declared.Read.{Read}
 use Rattle.reading_statements.specs.declared.Read.the-variants.{Statement, Refused}
 use Rattle.statements.specs.StatementAt.{statements-at, statement-at}
@@ -30,7 +30,7 @@ use Rattle.syntax.specs.Verdict.{first-no}
 use Rattle.syntax.specs.Verdict.Verdict.{yes, refuse}
 use Rattle.unread.specs.Unread.{behind, Part-of, Reads-part}
 use Rattle.unread.specs.declared.Part.{Part}
-use Rattle.loading.specs.Texts.{text-loads, Standing, Judged, Reads-judged, Unread, Read-to, Reads-text}
+use Rattle.loading.specs.Texts.{text-loads, Judged, Reads-judged, Unread, Read-to, Reads-text}
 use Rattle.loading.proofs.Verdicts.{items-low, items-refuse}
 
 not-read : (number at : ℕ) (g : Progress) → Refused number at ≡ Statement g → ⊥
@@ -58,15 +58,7 @@ module _ {s : List ℕ} {n line : ℕ} {g : Progress} {v : Verdict} {ms c sw en 
       omega (arith, items-low (length s) (statement-at s n) number (n + at) (h .inside) (judged-no number at e), h .standing .short)
 
   reading : v ≡ Yes → (d : Draft) → Standing s n line d g ms c sw en → Reading s n line d g ms c sw en
-  reading e d k =
-      record {
-        short = k .short;
-        inside = k .inside;
-        line-is = k .line-is;
-        drafted = k .drafted;
-        before = k .before;
-        plain = answered (item-questions (statement-at s n)) (judged-yes e);
-      }
+  reading e d k = record { standing = k; plain = answered (item-questions (statement-at s n)) (judged-yes e) }
 
   pub readable : v ≡ Yes → Readable s n line g ms c sw en
   readable e = record { draft = h .draft; reading = reading e (h .draft) (h .standing) }

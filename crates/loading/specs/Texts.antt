@@ -11,17 +11,16 @@ use Rattle.faults.specs.declared.Verdict.the-variants.{Yes, No}
 use Rattle.language.specs.Limits as limit
 use Rattle.language.specs.Program.{Program}
 use Rattle.layout.specs.Bounds.{Each}
-use Rattle.progress.specs.Progress.{Drafted, Before}
+use Rattle.progress.specs.Progress.{Drafted}
 use Rattle.progress.specs.declared.Progress.{Progress}
-use Rattle.reading_statements.specs.ReadingStatements.{read-verdict}
+use Rattle.reading_statements.specs.ReadingStatements.{Standing, Reads-after}
 use Rattle.reading_statements.specs.declared.Read.{Read}
 use Rattle.reading_statements.specs.declared.Read.the-variants.{Statement, Refused}
 use Rattle.statements.specs.StatementAt.{statement-at}
 use Rattle.syntax.specs.Items.{line-of, statements-from}
 use Rattle.syntax.specs.Load as spec
 use Rattle.syntax.specs.Load.{load-from}
-use Rattle.syntax.specs.Questions.{questions}
-use Rattle.syntax.specs.Tables.{Draft, blank, draft-after}
+use Rattle.syntax.specs.Tables.{Draft, blank}
 use Rattle.syntax.specs.Verdict.{first-no}
 use Rattle.unread.specs.Unread.{behind}
 use Rattle.writing.specs.Writing.{HoldsProgram, Cleared, no-program}
@@ -33,27 +32,15 @@ text-loads s = load-from s blank (statements-from 0 s)
 
 -- ---- a statement
 
--- d is the draft of all before the statement at n, which stands in line `line`
-pub record Standing (s : List ℕ) (n line : ℕ) (d : Draft) (g : Progress) (ms c sw en : List ℕ) : Type 0 where
-  pub short : length s ≤ limit.text
-  pub inside : n ≤ length s
-  pub line-is : line ≡ line-of s n
-  pub drafted : Drafted s d g ms c sw en
-  pub before : Before n d
-
--- and v is the verdict of its questions 14, 15 and 16, with places from n on
+-- v is the verdict of questions 14, 15 and 16 of the statement at n, with places from n on
 pub record Judged (s : List ℕ) (n line : ℕ) (g : Progress) (v : Verdict) (ms c sw en : List ℕ) : Type 0 where
   pub draft : Draft
   pub standing : Standing s n line draft g ms c sw en
   pub verdict-is : behind n (verdict-of v) ≡ first-no (item-questions (statement-at s n))
   pub inside : Each (λ i. i .at ≤ length s) (statement-at s n)
 
--- the verdict of all its questions is told; where it is yes, g′ and the cells after are those of the draft after it
-pub record Reads-judged (s : List ℕ) (n line : ℕ) (g : Progress) (ms c sw en : List ℕ) (r : Read) (ms′ c′ sw′ en′ : List ℕ) : Type 0 where
-  pub told : (d : Draft) → Standing s n line d g ms c sw en → read-verdict r ≡ first-no (questions d (statement-at s n))
-  pub after : (d : Draft) → Standing s n line d g ms c sw en → (g′ : Progress) → r ≡ Statement g′
-      → Drafted s (draft-after d (statement-at s n)) g′ ms′ c′ sw′ en′
-  pub beyond : drop limit.table c′ ≡ drop limit.table c
+abbrev pub Reads-judged : List ℕ → ℕ → ℕ → Progress → List ℕ → List ℕ → List ℕ → List ℕ → Read → List ℕ → List ℕ → List ℕ → List ℕ → Type 0
+Reads-judged s n line g ms c sw en = Reads-after (λ d. Standing s n line d g ms c sw en) s n c
 
 -- ---- all statements
 

@@ -36,15 +36,19 @@ pub record Section-kept (s : List ℕ) (d : Draft) (section : ℕ) : Type 0 wher
   pub there : Marked s section
   pub is : word-by s section ≡ d .section
 
--- The draft d of the text s: g and ms, the marks of its labels; c, the lent table; sw and en, the marks of switches and entries
-pub record Drafted (s : List ℕ) (d : Draft) (g : Progress) (ms c sw en : List ℕ) : Type 0 where
-  pub sound : Sound-draft (length s) d
-  pub tabled : Tabled s (d .tables) c sw en
+-- g, with the marks ms of the labels, tells the draft d but for its tables
+pub record Tells-draft (s : List ℕ) (d : Draft) (g : Progress) (ms : List ℕ) : Type 0 where
   pub section : Section-kept s d (g .section)
   pub names : Names-kept s d (g .names) ms
   pub waiting : Waiting-kept s d (g .names) (g .waiting) ms
   pub closing : Tells-closing (d .closing) (g .closing)
   pub ended : fault-of (unended (d .tables .code)) ≡ g .ended
+
+-- The draft d of the text s: g and ms, the marks of its labels; c, the lent table; sw and en, the marks of switches and entries
+pub record Drafted (s : List ℕ) (d : Draft) (g : Progress) (ms c sw en : List ℕ) : Type 0 where
+  pub sound : Sound-draft (length s) d
+  pub tabled : Tabled s (d .tables) c sw en
+  pub tells : Tells-draft s d g ms
 
 -- all statements of the draft are before place n
 pub record Before (n : ℕ) (d : Draft) : Type 0 where

@@ -33,11 +33,13 @@ begun s ms c sw en room tabled =
     record {
       sound = blank-sound (length s);
       tabled = tabled;
-      section = record { first-is = refl; there = omega arith; is = refl };
-      names = record { room = room; count-is = refl; names-are = refl; marked = λ k h. absurd (omega (arith, h)); short = λ k h. absurd (omega (arith, h)) };
-      waiting = record { few = omega arith; size = refl; marks = refl; spelt = tt };
-      closing = record { kons-is = refl; konp-is = refl; early-is = refl; fault-is = refl };
-      ended = refl;
+      tells = record {
+        section = record { first-is = refl; there = omega arith; is = refl };
+        names = record { room = room; count-is = refl; names-are = refl; marked = λ k h. absurd (omega (arith, h)); short = λ k h. absurd (omega (arith, h)) };
+        waiting = record { few = omega arith; size = refl; marks = refl; spelt = tt };
+        closing = record { kons-is = refl; konp-is = refl; early-is = refl; fault-is = refl };
+        ended = refl;
+      };
     }
 
 -- ---- the places of a draft

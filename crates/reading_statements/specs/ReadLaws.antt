@@ -73,19 +73,19 @@ module _ {s : List ℕ} {n : ℕ} {h : Head} (k : Headed s n h) {line : ℕ} {g 
   pub judging : {d : Draft} → Reading s n line d g ms c sw en → Judging s n d h ms (from g) (g .names)
   judging {d} r =
       record {
-        low = r .short;
-        inside = r .inside;
+        low = r .standing .short;
+        inside = r .standing .inside;
         headed = k;
         plain = r .plain;
-        before = r .before;
-        names = r .drafted .names;
+        before = r .standing .before;
+        names = r .standing .drafted .tells .names;
         order = omega arith;
-        marks = r .drafted .waiting .marks;
-        short = each-map _ (λ i. length (i .chars) ≤ limit.item) (λ i e. e .fine .short) (d .waiting) (r .drafted .sound .waiting);
+        marks = r .standing .drafted .tells .waiting .marks;
+        short = each-map _ (λ i. length (i .chars) ≤ limit.item) (λ i e. e .fine .short) (d .waiting) (r .standing .drafted .sound .waiting);
       }
 
   pub askable : Readable s n line g ms c sw en → Askable s n h (eqb (g .section) 0) ms (from g) (g .names)
-  askable r = record { draft = r .draft; judging = judging (r .reading); first-is = r .reading .drafted .section .first-is }
+  askable r = record { draft = r .draft; judging = judging (r .reading); first-is = r .reading .standing .drafted .tells .section .first-is }
 
 -- the operator's line
 pub line-low : (s : List ℕ) (p : ℕ) → line-of s p ≤ suc p
@@ -102,7 +102,7 @@ module _ {s : List ℕ} {n : ℕ} {h : Head} (k : Headed s n h) where
       (a : Asks s n h (eqb (g .section) 0) ms (from g) (g .names) ms′ j) (e : j ≡ judged.Names i) where
     module _ {d : Draft} (r : Reading s n line d g ms c sw en) where
       early-yes : first-no (early-questions d x) ≡ yes
-      early-yes = sym (a .told d (judging k r) (r .drafted .section .first-is)) ∙ ap judged-verdict e
+      early-yes = sym (a .told d (judging k r) (r .standing .drafted .tells .section .first-is)) ∙ ap judged-verdict e
 
       gathered-here : Gathered s n d ms′ (from g) i
       gathered-here = a .gathered d (judging k r) i e
@@ -110,8 +110,8 @@ module _ {s : List ℕ} {n : ℕ} {h : Head} (k : Headed s n h) where
       advanceable-here : Advanceable s n g h ms′ (from g) i
       advanceable-here =
           record {
-            markable = record { low = r .short; inside = r .inside; headed = k; short = all-short (judging k r) };
-            named = r .drafted .section .there;
+            markable = record { low = r .standing .short; inside = r .standing .inside; headed = k; short = all-short (judging k r) };
+            named = r .standing .drafted .tells .section .there;
             order = gathered-here .order;
             most = gathered-here .most;
           }
@@ -120,13 +120,13 @@ module _ {s : List ℕ} {n : ℕ} {h : Head} (k : Headed s n h) where
         admitted : Admitted s n d h (line + lines) ms′ (from g) i c sw en
         admitted =
             record {
-              short = r .short;
-              inside = r .inside;
+              short = r .standing .short;
+              inside = r .standing .inside;
               headed = k;
-              sound = r .drafted .sound;
-              tabled = r .drafted .tabled;
+              sound = r .standing .drafted .sound;
+              tabled = r .standing .drafted .tabled;
               answered = answered (early-questions d x) early-yes;
-              line-is = omega (arith, r .line-is, l .is);
+              line-is = omega (arith, r .standing .line-is, l .is);
               named =
                   record {
                     order = gathered-here .order;
@@ -136,7 +136,7 @@ module _ {s : List ℕ} {n : ℕ} {h : Head} (k : Headed s n h) where
                   };
               room = gathered-here .names .room;
               marks = gathered-here .marks;
-              spelt = r .drafted .waiting .spelt;
+              spelt = r .standing .drafted .tells .waiting .spelt;
             }
 
         -- question 11
@@ -153,27 +153,22 @@ module _ {s : List ℕ} {n : ℕ} {h : Head} (k : Headed s n h) where
             advancing-here =
                 record {
                   answered = all-answered;
-                  section = r .drafted .section;
+                  section = r .standing .drafted .tells .section;
                   names = gathered-here .names;
                   marks = gathered-here .marks;
-                  spelt = each-append (Spelt s) (d .waiting) (labels-in x) (r .drafted .waiting .spelt) (labels-spelt s x (all-spelt (judging k r)));
+                  spelt = each-append (Spelt s) (d .waiting) (labels-in x) (r .standing .drafted .tells .waiting .spelt) (labels-spelt s x (all-spelt (judging k r)));
                   short = each-append (λ i. length (i .chars) ≤ limit.item) (d .waiting) (labels-in x) (judging k r .short) (labels-short x (all-short (judging k r)));
-                  closing = r .drafted .closing;
-                  ended = r .drafted .ended;
+                  closing = r .standing .drafted .tells .closing;
+                  ended = r .standing .drafted .tells .ended;
                 }
 
             drafted-then : {q : Progress} → Advances s n g ms′ (from g) i q → Drafted s (draft-after d x) q ms′ c′ sw′ en′
             unfolding draft-after
             drafted-then v =
-                let w = v d advancing-here in
                 record {
-                  sound = draft-sound (length s) d x (r .drafted .sound) (statement-sound s n (r .inside)) all-answered;
+                  sound = draft-sound (length s) d x (r .standing .drafted .sound) (statement-sound s n (r .standing .inside)) all-answered;
                   tabled = t .tabled clear n d admitted;
-                  section = w .section;
-                  names = w .names;
-                  waiting = w .waiting;
-                  closing = w .closing;
-                  ended = w .ended;
+                  tells = v d advancing-here;
                 }
 
     pub advanceable : Readable s n line g ms c sw en → Advanceable s n g h ms′ (from g) i
@@ -210,7 +205,7 @@ module _ {s : List ℕ} {n : ℕ} {h : Head} (k : Headed s n h) {line : ℕ} {g 
       (record {
         told = λ d r.
             let v : refuse number at ≡ first-no (early-questions d (statement-at s n)) =
-            sym (ap judged-verdict e) ∙ a .told d (judging k r) (r .drafted .section .first-is) in
+            sym (ap judged-verdict e) ∙ a .told d (judging k r) (r .standing .drafted .tells .section .first-is) in
             sym (all-verdict d (statement-at s n) ∙ ap (λ (u : Verdict). then u (decided 11 (fault-of (beyond-faults d (statement-at s n))))) (sym v));
         after = λ d r g′ z. absurd (not-statement z);
         beyond = refl;

@@ -17,13 +17,17 @@ use Rattle.syntax.specs.Verdict.Verdict.{yes, refuse}
 use Rattle.reading_statements.specs.declared.Read.{Read}
 use Rattle.reading_statements.specs.declared.Read.the-variants.{Statement, Refused}
 
--- the draft d of what is before the statement at n
-pub record Reading (s : List ℕ) (n line : ℕ) (d : Draft) (g : Progress) (ms c sw en : List ℕ) : Type 0 where
+-- d is the draft of all before the statement at n, which stands in line `line`
+pub record Standing (s : List ℕ) (n line : ℕ) (d : Draft) (g : Progress) (ms c sw en : List ℕ) : Type 0 where
   pub short : length s ≤ limit.text
   pub inside : n ≤ length s
   pub line-is : line ≡ line-of s n
   pub drafted : Drafted s d g ms c sw en
   pub before : Before n d
+
+-- and its questions 14, 15 and 16 are answered yes
+pub record Reading (s : List ℕ) (n line : ℕ) (d : Draft) (g : Progress) (ms c sw en : List ℕ) : Type 0 where
+  pub standing : Standing s n line d g ms c sw en
   pub plain : Answered (item-questions (statement-at s n))
 
 pub record Readable (s : List ℕ) (n line : ℕ) (g : Progress) (ms c sw en : List ℕ) : Type 0 where
@@ -34,8 +38,12 @@ abbrev pub read-verdict : Read → Verdict
 read-verdict (Statement g) = yes
 read-verdict (Refused number at) = refuse number at
 
--- the verdict of all questions is told; where it is yes, g′ and the cells after are those of the draft after the statement
-pub record Reads (s : List ℕ) (n line : ℕ) (g : Progress) (ms c sw en : List ℕ) (r : Read) (ms′ c′ sw′ en′ : List ℕ) : Type 0 where
-  pub told : (d : Draft) → Reading s n line d g ms c sw en → read-verdict r ≡ first-no (questions d (statement-at s n))
-  pub after : (d : Draft) → Reading s n line d g ms c sw en → (g′ : Progress) → r ≡ Statement g′ → Drafted s (draft-after d (statement-at s n)) g′ ms′ c′ sw′ en′
+-- For a draft before the statement at n, as `before` says: the verdict of all questions is told; where it is yes, g′ and the cells after are
+-- those of the draft after the statement
+pub record Reads-after (before : Draft → Type 0) (s : List ℕ) (n : ℕ) (c : List ℕ) (r : Read) (ms′ c′ sw′ en′ : List ℕ) : Type 0 where
+  pub told : (d : Draft) → before d → read-verdict r ≡ first-no (questions d (statement-at s n))
+  pub after : (d : Draft) → before d → (g′ : Progress) → r ≡ Statement g′ → Drafted s (draft-after d (statement-at s n)) g′ ms′ c′ sw′ en′
   pub beyond : drop limit.table c′ ≡ drop limit.table c
+
+abbrev pub Reads : List ℕ → ℕ → ℕ → Progress → List ℕ → List ℕ → List ℕ → List ℕ → Read → List ℕ → List ℕ → List ℕ → List ℕ → Type 0
+Reads s n line g ms c sw en = Reads-after (λ d. Reading s n line d g ms c sw en) s n c

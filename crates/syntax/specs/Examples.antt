@@ -8,22 +8,11 @@ use Rattle.language.specs.Letters.{Letter}
 use Rattle.language.specs.Program.{Arg, Op}
 use Rattle.syntax.specs.Load.{loadIn, loadOf, opened}
 use Rattle.syntax.specs.Load.Loaded.{refused, accepted}
+use Rattle.syntax.specs.Sample.{sample-text, sample}
 
--- document 01's sample
-sample : loadOf (bytes "SEKCJA S\nUMIESC 'AB',A1\nPISZ A1,Q1\nSTOP\nKONS\nKONP S\n")
-    ≡ accepted (record {
-      code =
-          record { op = Op.UMIESC; line = 2; first = Arg.text (bytes "AB"); second = Arg.letter Letter.A 1; third = Arg.nothing }
-          ∷ record { op = Op.PISZ; line = 3; first = Arg.letter Letter.A 1; second = Arg.letter Letter.Q 1; third = Arg.nothing }
-          ∷ record { op = Op.STOP; line = 4; first = Arg.nothing; second = Arg.nothing; third = Arg.nothing }
-          ∷ [];
-      labels = [];
-      switches = [];
-      texts = bytes "AB" ∷ [];
-      numbers = [];
-    })
+sample-loads : loadOf sample-text ≡ accepted sample
 unfolding opened
-sample = refl
+sample-loads = refl
 
 -- labels alone belong to the next statement, a switch may follow the last instruction, a class has each letter once, in order
 switched : loadOf (bytes "SEKCJA S;A: B:\n\nSKONA A1,X;USUN I2,DLL;SKOCZ B\nX: NAZWA A,B:'*U-';KONS;KONP S")

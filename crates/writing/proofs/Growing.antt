@@ -138,47 +138,48 @@ or-right : (b x y : Bool) → T (b || x) → (T x → T y) → T (b || y)
 or-right true x y h f = tt
 or-right false x y h f = f h
 
-module _ (w : List ℕ) (p : Program) where
-  pub text-stays : (t : List ℕ) → T (kept-text p t) → text-ref p t ≡ text-ref (with-text w p) t
-  unfolding with-text
-  text-stays t h =
-      kept-ref (leb (length t) 1) (any (sameBytes t) (p .texts)) (cell t 0) 256 (ahead (sameBytes t) (p .texts)) (ahead (sameBytes t) (p .texts ++ (w ∷ []))) h
-      (λ k. sym (ahead-left (sameBytes t) (p .texts) (w ∷ []) k))
+module _ (p r : Program) (texts : (t : List ℕ) → T (kept-text p t) → (text-ref p t ≡ text-ref r t) × T (kept-text r t))
+    (numbers : (z : ℤ) → T (kept-number p z) → (number-ref p z ≡ number-ref r z) × T (kept-number r z)) where
+  arg-stays : (a : Arg) → T (kept-arg p a) → (arg-cell p a ≡ arg-cell r a) × T (kept-arg r a)
+  arg-stays nothing h = (refl, tt)
+  arg-stays (letter l n) h = (refl, tt)
+  arg-stays (label k) h = (refl, tt)
+  arg-stays (switch k) h = (refl, tt)
+  arg-stays (class cs) h = (refl, tt)
+  arg-stays (text t) h = let k = texts t h in (ap (λ (n : ℕ). 5 + 8 * n) (k .0), k .1)
+  arg-stays (Arg.number z) h = let k = numbers z h in (ap (λ (n : ℕ). 6 + 8 * n) (k .0), k .1)
 
-  pub text-kept : (t : List ℕ) → T (kept-text p t) → T (kept-text (with-text w p) t)
-  unfolding with-text
-  text-kept t h =
-      or-right (leb (length t) 1) (any (sameBytes t) (p .texts)) (any (sameBytes t) (p .texts ++ (w ∷ []))) h (any-left (sameBytes t) (p .texts) (w ∷ []))
-
-  pub arg-stays : (a : Arg) → T (kept-arg p a) → arg-cell p a ≡ arg-cell (with-text w p) a
-  unfolding with-text
-  arg-stays nothing h = refl
-  arg-stays (letter l n) h = refl
-  arg-stays (label k) h = refl
-  arg-stays (switch k) h = refl
-  arg-stays (class cs) h = refl
-  arg-stays (text t) h = ap (λ (n : ℕ). 5 + 8 * n) (text-stays t h)
-  arg-stays (Arg.number z) h = refl
-
-  pub arg-kept : (a : Arg) → T (kept-arg p a) → T (kept-arg (with-text w p) a)
-  unfolding with-text
-  arg-kept nothing h = tt
-  arg-kept (letter l n) h = tt
-  arg-kept (label k) h = tt
-  arg-kept (switch k) h = tt
-  arg-kept (class cs) h = tt
-  arg-kept (text t) h = text-kept t h
-  arg-kept (Arg.number z) h = h
-
-  instr-stays : (i : Instr) → KeptInstr p i → instr-cells p i ≡ instr-cells (with-text w p) i
+  instr-stays : (i : Instr) → KeptInstr p i → instr-cells p i ≡ instr-cells r i
   instr-stays i k =
-      let a = arg-stays (i .first) (k .first) in
-      let b = arg-stays (i .second) (k .second) in
-      let c = arg-stays (i .third) (k .third) in
+      let a = arg-stays (i .first) (k .first) .0 in
+      let b = arg-stays (i .second) (k .second) .0 in
+      let c = arg-stays (i .third) (k .third) .0 in
       λ j. (operation (i .op) .number + 64 * i .line) ∷ a j ∷ b j ∷ c j ∷ []
 
-  entry-stays : (e : Entry) → KeptEntry p e → entry-cell p e ≡ entry-cell (with-text w p) e
-  entry-stays e k = ap (λ (n : ℕ). e .label + 128 * n) (text-stays (e .text) (k .kept))
+  instr-kept : (i : Instr) → KeptInstr p i → KeptInstr r i
+  instr-kept i k =
+      record { first = arg-stays (i .first) (k .first) .1; second = arg-stays (i .second) (k .second) .1; third = arg-stays (i .third) (k .third) .1 }
+
+  entry-stays : (e : Entry) → KeptEntry p e → entry-cell p e ≡ entry-cell r e
+  entry-stays e k = ap (λ (n : ℕ). e .label + 128 * n) (texts (e .text) (k .kept) .0)
+
+  entry-kept : (e : Entry) → KeptEntry p e → KeptEntry r e
+  entry-kept e k = record { low = k .low; kept = texts (e .text) (k .kept) .1 }
+
+-- ---- a text
+
+module _ (w : List ℕ) (p : Program) where
+  more-texts : (t : List ℕ) → T (kept-text p t) → (text-ref p t ≡ text-ref (with-text w p) t) × T (kept-text (with-text w p) t)
+  unfolding with-text
+  more-texts t h = (
+    kept-ref (leb (length t) 1) (any (sameBytes t) (p .texts)) (cell t 0) 256 (ahead (sameBytes t) (p .texts)) (ahead (sameBytes t) (p .texts ++ (w ∷ []))) h
+        (λ k. sym (ahead-left (sameBytes t) (p .texts) (w ∷ []) k)),
+    or-right (leb (length t) 1) (any (sameBytes t) (p .texts)) (any (sameBytes t) (p .texts ++ (w ∷ []))) h (any-left (sameBytes t) (p .texts) (w ∷ [])),
+  )
+
+  same-numbers : (z : ℤ) → T (kept-number p z) → (number-ref p z ≡ number-ref (with-text w p) z) × T (kept-number (with-text w p) z)
+  unfolding with-text
+  same-numbers z h = (refl, h)
 
   module _ (h : Tabular p) (room : length (p .texts) < 128) where
     pub text-added : set (pasted (parts p) (4104 + 16 * length (p .texts)) (text-cells w)) 4 (suc (length (p .texts))) ≡ table-cells (with-text w p)
@@ -191,8 +192,8 @@ module _ (w : List ℕ) (p : Program) where
         ∙ padded-more 2048 q (text-cells w) (omega (arith, texts-long p, text-long w))
         ∙ ap (padded 2048) (sym (each-snoc text-cells (p .texts) w)) in
         let a : suc n ≡ length (p .texts ++ (w ∷ [])) = sym (one-more (p .texts) w) in
-        let b = ap (padded 2048) (each-same (KeptInstr p) (instr-cells p) (instr-cells (with-text w p)) instr-stays (p .code) (h .code-kept)) in
-        let e = ap (padded 128) (map-same (KeptEntry p) (entry-cell p) (entry-cell (with-text w p)) entry-stays (all-entries p) (h .entries-kept)) in
+        let b = ap (padded 2048) (each-same (KeptInstr p) (instr-cells p) (instr-cells (with-text w p)) (instr-stays p (with-text w p) more-texts same-numbers) (p .code) (h .code-kept)) in
+        let e = ap (padded 128) (map-same (KeptEntry p) (entry-cell p) (entry-cell (with-text w p)) (entry-stays p (with-text w p) more-texts same-numbers) (all-entries p) (h .entries-kept)) in
         let r = in-texts (counts p) (code-part p) (labels-part p) (texts-part p) (switches-part p) (entries-part p) (numbers-part p) (sizes p h) (text-cells w) (16 * n)
         (omega (arith, text-long w)) in
         ap (λ (x : List ℕ). set x 4 (suc n)) r
@@ -209,9 +210,8 @@ module _ (w : List ℕ) (p : Program) where
           entries-most = h .entries-most;
           texts-most = omega (arith, one-more (p .texts) w);
           numbers-most = h .numbers-most;
-          code-kept = each-over (KeptInstr p) (KeptInstr (with-text w p))
-              (λ i k. record { first = arg-kept (i .first) (k .first); second = arg-kept (i .second) (k .second); third = arg-kept (i .third) (k .third) }) (p .code) (h .code-kept);
-          entries-kept = each-over (KeptEntry p) (KeptEntry (with-text w p)) (λ e k. record { low = k .low; kept = text-kept (e .text) (k .kept) }) (all-entries p) (h .entries-kept);
+          code-kept = each-over (KeptInstr p) (KeptInstr (with-text w p)) (instr-kept p (with-text w p) more-texts same-numbers) (p .code) (h .code-kept);
+          entries-kept = each-over (KeptEntry p) (KeptEntry (with-text w p)) (entry-kept p (with-text w p) more-texts same-numbers) (all-entries p) (h .entries-kept);
           names-short = h .names-short;
           texts-short = each-append Short (p .texts) (w ∷ []) (h .texts-short) (s, tt);
           numbers-small = h .numbers-small;
@@ -220,43 +220,17 @@ module _ (w : List ℕ) (p : Program) where
 -- ---- a number
 
 module _ (z : ℤ) (p : Program) where
-  pub number-stays : (y : ℤ) → T (kept-number p y) → number-ref p y ≡ number-ref (with-number z p) y
+  same-texts : (t : List ℕ) → T (kept-text p t) → (text-ref p t ≡ text-ref (with-number z p) t) × T (kept-text (with-number z p) t)
   unfolding with-number
-  number-stays y h =
-      kept-ref (leb (natAbs y) limit.small) (any (sameNumber y) (p .numbers)) (code y - 8388592) 31 (ahead (sameNumber y) (p .numbers))
-      (ahead (sameNumber y) (p .numbers ++ (z ∷ []))) h (λ k. sym (ahead-left (sameNumber y) (p .numbers) (z ∷ []) k))
+  same-texts t h = (refl, h)
 
-  pub number-kept : (y : ℤ) → T (kept-number p y) → T (kept-number (with-number z p) y)
+  more-numbers : (y : ℤ) → T (kept-number p y) → (number-ref p y ≡ number-ref (with-number z p) y) × T (kept-number (with-number z p) y)
   unfolding with-number
-  number-kept y h =
-      or-right (leb (natAbs y) limit.small) (any (sameNumber y) (p .numbers)) (any (sameNumber y) (p .numbers ++ (z ∷ []))) h (any-left (sameNumber y) (p .numbers) (z ∷ []))
-
-  pub value-stays : (a : Arg) → T (kept-arg p a) → arg-cell p a ≡ arg-cell (with-number z p) a
-  unfolding with-number
-  value-stays nothing h = refl
-  value-stays (letter l n) h = refl
-  value-stays (label k) h = refl
-  value-stays (switch k) h = refl
-  value-stays (class cs) h = refl
-  value-stays (text t) h = refl
-  value-stays (Arg.number y) h = ap (λ (n : ℕ). 6 + 8 * n) (number-stays y h)
-
-  pub value-kept : (a : Arg) → T (kept-arg p a) → T (kept-arg (with-number z p) a)
-  unfolding with-number
-  value-kept nothing h = tt
-  value-kept (letter l n) h = tt
-  value-kept (label k) h = tt
-  value-kept (switch k) h = tt
-  value-kept (class cs) h = tt
-  value-kept (text t) h = h
-  value-kept (Arg.number y) h = number-kept y h
-
-  values-stay : (i : Instr) → KeptInstr p i → instr-cells p i ≡ instr-cells (with-number z p) i
-  values-stay i k =
-      let a = value-stays (i .first) (k .first) in
-      let b = value-stays (i .second) (k .second) in
-      let c = value-stays (i .third) (k .third) in
-      λ j. (operation (i .op) .number + 64 * i .line) ∷ a j ∷ b j ∷ c j ∷ []
+  more-numbers y h = (
+    kept-ref (leb (natAbs y) limit.small) (any (sameNumber y) (p .numbers)) (code y - 8388592) 31 (ahead (sameNumber y) (p .numbers))
+        (ahead (sameNumber y) (p .numbers ++ (z ∷ []))) h (λ k. sym (ahead-left (sameNumber y) (p .numbers) (z ∷ []) k)),
+    or-right (leb (natAbs y) limit.small) (any (sameNumber y) (p .numbers)) (any (sameNumber y) (p .numbers ++ (z ∷ []))) h (any-left (sameNumber y) (p .numbers) (z ∷ [])),
+  )
 
   module _ (h : Tabular p) (room : length (p .numbers) < 128) where
     pub number-added : set (pasted (parts p) (6312 + length (p .numbers)) (code z ∷ [])) 5 (suc (length (p .numbers))) ≡ table-cells (with-number z p)
@@ -269,7 +243,7 @@ module _ (z : ℤ) (p : Program) where
         ∙ padded-more 128 q (code z ∷ []) (omega (arith, length-map (p .numbers) code))
         ∙ ap (padded 128) (sym (map-snoc code (p .numbers) z)) in
         let a : suc n ≡ length (p .numbers ++ (z ∷ [])) = sym (one-more (p .numbers) z) in
-        let b = ap (padded 2048) (each-same (KeptInstr p) (instr-cells p) (instr-cells (with-number z p)) values-stay (p .code) (h .code-kept)) in
+        let b = ap (padded 2048) (each-same (KeptInstr p) (instr-cells p) (instr-cells (with-number z p)) (instr-stays p (with-number z p) same-texts more-numbers) (p .code) (h .code-kept)) in
         let r = in-numbers (counts p) (code-part p) (labels-part p) (texts-part p) (switches-part p) (entries-part p) (numbers-part p) (sizes p h) (code z ∷ []) n
         (omega arith) in
         ap (λ (x : List ℕ). set x 5 (suc n)) r
@@ -286,9 +260,8 @@ module _ (z : ℤ) (p : Program) where
           entries-most = h .entries-most;
           texts-most = h .texts-most;
           numbers-most = omega (arith, one-more (p .numbers) z);
-          code-kept = each-over (KeptInstr p) (KeptInstr (with-number z p))
-              (λ i k. record { first = value-kept (i .first) (k .first); second = value-kept (i .second) (k .second); third = value-kept (i .third) (k .third) }) (p .code) (h .code-kept);
-          entries-kept = each-over (KeptEntry p) (KeptEntry (with-number z p)) (λ e k. record { low = k .low; kept = k .kept }) (all-entries p) (h .entries-kept);
+          code-kept = each-over (KeptInstr p) (KeptInstr (with-number z p)) (instr-kept p (with-number z p) same-texts more-numbers) (p .code) (h .code-kept);
+          entries-kept = each-over (KeptEntry p) (KeptEntry (with-number z p)) (entry-kept p (with-number z p) same-texts more-numbers) (all-entries p) (h .entries-kept);
           names-short = h .names-short;
           texts-short = h .texts-short;
           numbers-small = each-append (λ y. natAbs y ≤ limit.size) (p .numbers) (z ∷ []) (h .numbers-small) (s, tt);

@@ -20,7 +20,7 @@ returns : tie.Need-returns
 returns c = no-section (c .before .before .last-place .ensures) (c .if1 .taken)
 
 sub-lowest-mark : tie.Need-sub-lowest-mark
-sub-lowest-mark c = omega (arith, c .before .before .before .before .before .before .before .before .before .pre .drafted .waiting .few)
+sub-lowest-mark c = omega (arith, c .before .before .before .before .before .before .before .before .before .pre .drafted .tells .waiting .few)
 
 lowest-mark-requires : tie.Need-lowest-mark-requires
 lowest-mark-requires c κs = names-most (c .before .before .before .before .before .before .before .before .before .pre .drafted)

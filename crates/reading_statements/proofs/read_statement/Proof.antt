@@ -7,10 +7,10 @@ use Rattle.reading_statements.proofs.read_statement.Statement.{statemen
 use Rattle.reading_statements.proofs.read_statement.Tie as tie
 
 read-head-requires : tie.Need-read-head-requires
-read-head-requires c κs = c .before .before .before .before .before .pre .reading .inside
+read-head-requires c κs = c .before .before .before .before .before .pre .reading .standing .inside
 
 sub-from : tie.Need-sub-from
-sub-from c = c .before .before .before .before .before .before .before .pre .reading .drafted .waiting .few
+sub-from c = c .before .before .before .before .before .before .before .pre .reading .standing .drafted .tells .waiting .few
 
 judge-requires : tie.Need-judge-requires
 judge-requires c κs = askable (c .before .before .before .read-head .ensures) (c .before .before .before .before .before .before .before .before .before .pre)
@@ -39,7 +39,7 @@ count-lines-requires c κs =
 
 add-at : tie.Need-add-at
 add-at c = let k = c .before .before .before .before .before .before .before .before .before .before .before .read-head .ensures in
-    let r = c .before .before .before .before .before .before .before .before .before .before .before .before .before .before .before .before .before .pre .reading in
+    let r = c .before .before .before .before .before .before .before .before .before .before .before .before .before .before .before .before .before .pre .reading .standing in
     let q = c .before .before .before .before .before .before .before .before .before .before .before .before .before .before .before .before .before .args in
     omega (arith, r .line-is, line-low (now (q .text)) (q .n), r .inside, r .short, c .count-lines .ensures .most, k .stands .own, k .stands .behind, k .stands .most)
 
