@@ -107,7 +107,6 @@ module _ {p e n : List ℕ} (h : Stands p e n) (i : ℕ) where
         let c = all in-range (results f xs ys) in
         let q = needs 1 xs & needs 1 ys in
         quiet-stop h (asks-of xs ys c) (replaced true i (map Component.number (results f xs ys)) s) (quiet-two xs ys c)
-        (last-most (map Component.number (results f xs ys)))
         (w .stop-is ∙ range-after (q 52) (q 53) c (λ y. z (w .stop-is ∙ y))) z
 
     -- one result
@@ -125,7 +124,7 @@ module _ {p e n : List ℕ} (h : Stands p e n) (i : ℕ) where
       answers =
           answer-quiet q t (state-at p e n)
           (quiet-two (Component.number (uncode (r .left)) ∷ []) (Component.number (uncode (r .right)) ∷ []) (in-range v && true)) (h .fine .stack-most)
-          (last-most (Component.number v ∷ []))
+          ∙ rw (le-leb (t .last) limit.addresses (last-most (Component.number v ∷ []))) refl
 
       one-row : {k : ℕ} {p′ e′ n′ : List ℕ} → Computed p e n k p′ e′ n′ i v → Does p e n k p′ e′ n′ (q, t, on)
       one-row {k} {p′} {e′} {n′} u = go (in-range v) refl

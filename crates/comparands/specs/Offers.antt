@@ -3,50 +3,24 @@ use mathlib.Core.Path.{_≡_}
 use mathlib.Core.List.{List}
 use Prim.Native.Nat.{ℕ, _≤_}
 use lib.ListN.{length, take}
-use Rattle.language.specs.Limits as limit
 use Rattle.language.specs.Program.{Arg}
 use Rattle.language.specs.Program.Arg.{letter}
 use Rattle.language.specs.Values.{Component, Store, Inputs}
 use Rattle.machine.specs.Arguments.{Asks, use-by, side, is-count, single, present, is, when, _&_}
 use Rattle.layout.specs.Bounds.{Encoded}
 use Rattle.packed.specs.Packed.{table-of}
-use Rattle.state.specs.Working.{Stands}
 use Rattle.table.specs.Denote.{letter-of, arg-of}
-use Rattle.table.specs.Good.{GoodIndex, GoodArgument}
 use Rattle.table.specs.declared.Letter.{Letter}
-use Rattle.table.specs.declared.Letter.the-variants.{A, B, C, D, E, I, N, P, Q, T, Y, Z}
 use Rattle.table.specs.declared.Argument.{Argument}
-use Rattle.table.specs.declared.Argument.the-variants.{Indexed}
 use Rattle.instructions.specs.Does.{stop-of}
+use Rattle.tests.specs.Prepares.{OtherLetter, LetterGiven, ArgumentGiven}
 use Rattle.comparands.specs.declared.Held.{Held}
 
--- the letters of relations' second arguments
-abbrev pub OtherLetter : Letter → Type 0
-OtherLetter A = ⊥
-OtherLetter B = Unit {0}
-OtherLetter C = ⊥
-OtherLetter D = ⊥
-OtherLetter E = Unit {0}
-OtherLetter I = ⊥
-OtherLetter N = Unit {0}
-OtherLetter P = ⊥
-OtherLetter Q = ⊥
-OtherLetter T = Unit {0}
-OtherLetter Y = ⊥
-OtherLetter Z = ⊥
+abbrev pub LetterHoldable : List ℕ → List ℕ → List ℕ → Letter → ℕ → ℕ → Type 0
+LetterHoldable = LetterGiven OtherLetter
 
-pub record LetterHoldable (p e n : List ℕ) (l : Letter) (k given : ℕ) : Type 0 where
-  pub stands : Stands p e n
-  pub index : GoodIndex l k
-  pub form : OtherLetter l
-  pub room : 32768 ≤ given
-
-pub record Holdable (c p e n : List ℕ) (given : ℕ) (a : Argument) : Type 0 where
-  pub long : limit.table ≤ length c
-  pub stands : Stands p e n
-  pub room : 32768 ≤ given
-  pub good : GoodArgument c (arg-of (table-of c) a) a
-  pub form : (l : Letter) (k : ℕ) → a ≡ Indexed l k → OtherLetter l
+abbrev pub Holdable : List ℕ → List ℕ → List ℕ → List ℕ → ℕ → Argument → Type 0
+Holdable = ArgumentGiven OtherLetter
 
 -- q are the questions, and where they are answered yes, the components xs stand in front of g
 pub record Offers (q : Asks) (xs : List Component) (g : List ℕ) (r : Held) : Type 0 where

@@ -6,7 +6,6 @@ use Prim.Native.Nat.{ℕ, _+_, _≤_}
 use native.Mathlib.Omega.{arith}
 use lib.ListN.{length, take, length-take}
 use lib.IntN.{ℤ}
-use Rattle.language.specs.Limits as limit
 use Rattle.language.specs.Letters.Letter.{E}
 use Rattle.language.specs.Program.{Program}
 use Rattle.language.specs.Program.Arg.{nothing}
@@ -26,7 +25,7 @@ use Rattle.instructions.proofs.Answers.{quiet-stop, quiet-tried, unstopped}
 use Rattle.operands.specs.Operands.{ReadsNumber, replaced, Replaceable}
 use Rattle.operands.specs.declared.Operand.{Operand}
 use Rattle.operands.proofs.Held.{number-held}
-use Rattle.operands.proofs.Replacing.{replaced-last, number-first}
+use Rattle.operands.proofs.Replacing.{number-first}
 use Rattle.converting.specs.Converting.{NumeralPut, numeral-asks, ReadsNumeral, Convertible}
 use Rattle.converting.specs.declared.Spelled.{Spelled}
 use Rattle.converting.proofs.Numerals.{numeral-encoded}
@@ -103,9 +102,6 @@ module _ {p e n : List ℕ} (h : Stands p e n) (removes : Bool) (i : ℕ) where
   abbrev s : Store
   s = state-at p e n .store
 
-  last-most : (ys : List Component) → replaced removes i ys s .last ≤ limit.addresses
-  last-most ys = rw (replaced-last removes i ys s) (h .fine .last-most)
-
   abbrev word-row : List Component → Row
   word-row xs = (needs 1 xs, replaced removes i (word (decimal (value (first xs))) ∷ []) s, on)
 
@@ -123,14 +119,14 @@ module _ {p e n : List ℕ} (h : Stands p e n) (removes : Bool) (i : ℕ) where
     slowo-stop z g ins =
         let xs = take 1 (expr s (nth E i)) in
         let ys = word (decimal (value (first xs))) ∷ [] in
-        rw (row-slowo g ins) (quiet-stop h (needs 1 xs) (replaced removes i ys s) (quiet-number xs) (last-most ys) (w .stop-is) z)
+        rw (row-slowo g ins) (quiet-stop h (needs 1 xs) (replaced removes i ys s) (quiet-number xs) (w .stop-is) z)
 
     slowo-tried : {k : ℕ} {p′ e′ n′ : List ℕ} → Tried p e n k p′ e′ n′ true (replaced removes i (word (decimal (uncode (r .code))) ∷ []) s)
         → Does p e n k p′ e′ n′ (word-row (Component.number (uncode (r .code)) ∷ []))
     slowo-tried u =
         let xs = Component.number (uncode (r .code)) ∷ [] in
         let ys = word (decimal (uncode (r .code))) ∷ [] in
-        quiet-tried h (replaced removes i ys s) (needs 1 xs) (quiet-number xs) (last-most ys) refl refl refl u
+        quiet-tried h (replaced removes i ys s) (needs 1 xs) (quiet-number xs) refl refl refl u
 
     pub slowo-done : r .stop ≡ 0 → {o o′ : List ℕ} {m : ℕ} → NumeralPut o (r .code) o′ m → {k : ℕ} {p′ e′ n′ : List ℕ}
         → Tried p e n k p′ e′ n′ true (replaced removes i (components-in (take (1 + m) o′)) s)
@@ -146,7 +142,7 @@ module _ {p e n : List ℕ} (h : Stands p e n) (removes : Bool) (i : ℕ) where
     liczba-stop z g ins =
         let xs = take 1 (expr s (nth E i)) in
         let ys = Component.number (valueOf (chars (first xs))) ∷ [] in
-        rw (row-liczba g ins) (quiet-stop h (numeral-asks xs) (replaced removes i ys s) (quiet-numeral xs) (last-most ys) (w .stop-is) z)
+        rw (row-liczba g ins) (quiet-stop h (numeral-asks xs) (replaced removes i ys s) (quiet-numeral xs) (w .stop-is) z)
 
     pub liczba-done : r .stop ≡ 0 → (o : List ℕ) {o′ : List ℕ} → o′ ≡ pasted o 0 (component-bytes (Component.number (uncode (r .code)))) → {k : ℕ} {p′ e′ n′ : List ℕ}
         → Tried p e n k p′ e′ n′ true (replaced removes i (components-in (take 5 o′)) s)
@@ -157,4 +153,4 @@ module _ {p e n : List ℕ} (h : Stands p e n) (removes : Bool) (i : ℕ) where
         let a = unstopped (numeral-asks xs) (sym (w .stop-is) ∙ z) in
         let f : components-in (take 5 o′) ≡ ys = components-of (number-held (r .code) (w .most) o q) ∙ ap (λ (x : ℤ). Component.number x ∷ []) (sym (w .is z)) in
         let v : Tried p e n k p′ e′ n′ true (replaced removes i ys s) = subst (λ (l : List Component). Tried p e n k p′ e′ n′ true (replaced removes i l s)) f u in
-        rw (row-liczba g ins) (quiet-tried h (replaced removes i ys s) (numeral-asks xs) (quiet-numeral xs) (last-most ys) (a .0) (a .1) (a .2) v)
+        rw (row-liczba g ins) (quiet-tried h (replaced removes i ys s) (numeral-asks xs) (quiet-numeral xs) (a .0) (a .1) (a .2) v)

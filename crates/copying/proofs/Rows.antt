@@ -17,7 +17,8 @@ use Rattle.machine.specs.Effects.Go.{on}
 use Rattle.records.specs.Sequences.{until-records}
 use Rattle.state.specs.Working.{state-at, HoldsState, Stands, on-store, nth, filing}
 use Rattle.instructions.specs.Does.{Does, DoesFor, stop-of}
-use Rattle.instructions.proofs.Storing.{storing-stop, storing-done}
+use Rattle.instructions.proofs.Answers.{quiet-stop}
+use Rattle.instructions.proofs.Storing.{storing-done}
 use Rattle.tests.proofs.Asked.{quiet-test}
 use Rattle.record_tests.specs.RecordPrepares.{PreparesRecords}
 use Rattle.record_tests.specs.declared.RecordsPrepared.{RecordsPrepared}
@@ -50,7 +51,7 @@ module _ {p e n : List ℕ} (h : Stands p e n) (i : ℕ) (c : Arg) {x : List ℕ
 
   -- a question of the test is answered no
   stopped : (t : Store) (ins : Inputs) → (r .stop ≡ 0 → ⊥) → Does p e n (r .stop) p e n (asks ins, t, on)
-  stopped t ins z = storing-stop h (asks ins) (quiet-test ins s c) t (w .stop-is ins) z
+  stopped t ins z = quiet-stop h (asks ins) t (quiet-test ins s c) (w .stop-is ins) z
 
   all-asked : r .stop ≡ 0 → (ins : Inputs) → stop-of (asks ins) ≡ 0
   all-asked z ins = sym (w .stop-is ins) ∙ z

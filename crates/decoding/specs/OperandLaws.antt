@@ -6,8 +6,8 @@ use mathlib.Core.Logic.{_⊎_, inl, inr}
 use Prim.Native.Nat.{ℕ, suc, _+_, _*_, _%_, _≤_, _<_}
 use native.Mathlib.Omega.{arith}
 use lib.Dec.{T, eqb, eqb→eq}
-use lib.ListN.{length}
-use Rattle.lists.specs.Lists.{all, keep, headOr, among}
+use lib.ListN.{length, getD}
+use Rattle.lists.specs.Lists.{all, ahead, among}
 use Rattle.lists.specs.ListLaws.{all-among}
 use Rattle.lists.specs.Quoted.{bytes}
 use Rattle.characters.specs.Characters.{isLetter}
@@ -24,6 +24,7 @@ use Rattle.machine.specs.Effects.Go.{on}
 use Rattle.machine.specs.Facts.{ProgramFacts}
 use Rattle.machine.specs.Steps.{meaning}
 use Rattle.machine.specs.WellFormed.{form}
+use Rattle.layout.specs.ArgumentLaws.{letter-back}
 use Rattle.layout.specs.Cells.{cell}
 use Rattle.layout.specs.ProgramLaws.{program-ok}
 use Rattle.layout.specs.Table.{program-of, good-table}
@@ -32,14 +33,14 @@ use Rattle.packed.specs.Packed.{table-of}
 use Rattle.state.specs.Working.{nth}
 use Rattle.table.specs.Denote.{letter-of, arg-of}
 use Rattle.table.specs.FormLaws.{one-list, two-lists, letter-told, nothing-told, label-told, name-told, index-told}
+use Rattle.table.specs.LetterLaws.{every-letter}
 use Rattle.table.specs.Good.{GoodIndex, GoodArgument, Formed}
 use Rattle.table.specs.GoodLaws.{good-instruction, first-good, second-good, third-good}
 use Rattle.table.specs.Reads.{IsArgument}
 use Rattle.table.specs.declared.Letter.{Letter}
-use Rattle.table.specs.declared.Letter.the-variants.{A, B, C, D, E, I, N, P, Q, T as T-letter, Y, Z}
+use Rattle.table.specs.declared.Letter.the-variants.{A}
 use Rattle.table.specs.declared.Argument.{Argument}
 use Rattle.table.specs.declared.Argument.the-variants.{Nothing, Indexed, Label, Switch, Class, Text, Number}
-use Rattle.tests.specs.Prepares.{TestLetter}
 use Rattle.decoding.specs.Operands.{var-of, letters-of, Lettered, Named, IsIndex, IsVariable, Listed, Read, Shaped, LabelOf, SwitchOf}
 use Rattle.decoding.specs.declared.Variable.{Variable}
 
@@ -78,21 +79,7 @@ listed-of l n w q = rw (same-letter q (w .lettered .is)) (w .listed)
 
 -- a letter by its byte
 abbrev back : ℕ → letters.Letter
-back n = headOr letters.Letter.A (keep (λ l. eqb (letter-code l) n) letters.letters)
-
-back-code : (l : letters.Letter) → back (letter-code l) ≡ l
-back-code letters.Letter.A = refl
-back-code letters.Letter.B = refl
-back-code letters.Letter.C = refl
-back-code letters.Letter.D = refl
-back-code letters.Letter.E = refl
-back-code letters.Letter.I = refl
-back-code letters.Letter.N = refl
-back-code letters.Letter.P = refl
-back-code letters.Letter.Q = refl
-back-code letters.Letter.T = refl
-back-code letters.Letter.Y = refl
-back-code letters.Letter.Z = refl
+back n = getD letters.letters (ahead (λ l. eqb n (letter-code l)) letters.letters) letters.Letter.A
 
 or-none : (b : Bool) → T (b || false) → T b
 or-none true h = tt
@@ -104,7 +91,7 @@ module _ (l : letters.Letter) {a : Argument} {r : ℕ} (w : Named (letter-code l
   only =
       let x = letter-code (letter-of (q .letter)) in
       let e : x ≡ letter-code l = eqb→eq x (letter-code l) (or-none (eqb x (letter-code l)) (listed-of (q .letter) (suc r) w (q .is))) in
-      sym (back-code (letter-of (q .letter))) ∙ ap back e ∙ back-code l
+      sym (letter-back (letter-of (q .letter))) ∙ ap back e ∙ letter-back l
 
   pub indexed-is : (t : List ℕ) → arg-of t a ≡ nth l r
   indexed-is t = ap (arg-of t) (q .is) ∙ ap (λ (m : letters.Letter). nth m r) only
@@ -114,18 +101,7 @@ module _ (l : letters.Letter) {a : Argument} {r : ℕ} (w : Named (letter-code l
 
 -- the letters of one variable among those listed
 var-listed : (l : Letter) → T (among (letter-code (letter-of l)) (letters-of (use-of (letter-of l) .var)))
-var-listed A = tt
-var-listed B = tt
-var-listed C = tt
-var-listed D = tt
-var-listed E = tt
-var-listed I = tt
-var-listed N = tt
-var-listed P = tt
-var-listed Q = tt
-var-listed T-letter = tt
-var-listed Y = tt
-var-listed Z = tt
+var-listed l = every-letter (λ m. among (letter-code (letter-of m)) (letters-of (use-of (letter-of m) .var))) tt l
 
 pub narrowed : {a : Argument} (fs gs : List ℕ) (v : Variable) → T (all (λ n. not (among n (letters-of (var-of v))) || among n gs) fs) → Named fs a → IsVariable a v
     → Named gs a
@@ -166,23 +142,10 @@ module _ (c : List ℕ) {x : Arg} {a : Argument} (g : GoodArgument c x a) where
 pub no-argument : (c : List ℕ) (a : Argument) → Listed c (bytes "-") a → arg-of (table-of c) a ≡ nothing
 no-argument c a m = ap (arg-of (table-of c)) (nothing-told (program-of c) (table-of c) a m)
 
--- the tests of components and characters
-pub test-letter : (c : List ℕ) {a : Argument} → Listed c (bytes "-nNctBT") a → (l : Letter) (k : ℕ) → a ≡ Indexed l k → TestLetter l
-test-letter c {a} m l k e = go l (subst (λ (y : Argument). T (among (form (program-of c) (arg-of (table-of c) y)) (bytes "-nNctBT"))) e m)
-  where
-    go : (l : Letter) → T (among (letter-code (letter-of l)) (bytes "-nNctBT")) → TestLetter l
-    go A h = h
-    go B h = tt
-    go C h = h
-    go D h = h
-    go E h = h
-    go I h = h
-    go N h = tt
-    go P h = h
-    go Q h = h
-    go T-letter h = tt
-    go Y h = h
-    go Z h = h
+-- a letter among the forms listed
+pub form-letter : {F : Letter → Type 0} (c fs : List ℕ) → ((l : Letter) → T (among (letter-code (letter-of l)) fs) → F l) → {a : Argument} → Listed c fs a
+    → (l : Letter) (k : ℕ) → a ≡ Indexed l k → F l
+form-letter c fs h m l k e = h l (subst (λ (y : Argument). T (among (form (program-of c) (arg-of (table-of c) y)) fs)) e m)
 
 -- ---- an instruction
 

@@ -1,18 +1,17 @@
 -- What the operands of an instruction are, decoded from its arguments, and what decoding asks.
 use mathlib.Core.Path.{_≡_}
-use mathlib.Core.Bool.{Bool, true, false}
 use mathlib.Core.List.{List}
 use Prim.Native.Nat.{ℕ, suc, _<_}
 use lib.Dec.{T}
 use Rattle.lists.specs.Lists.{among}
 use Rattle.lists.specs.Quoted.{bytes}
 use Rattle.language.specs.Limits as limit
-use Rattle.language.specs.Letters as letters
 use Rattle.language.specs.Letters.{Var, letter-code, use-of}
 use Rattle.language.specs.Letters.Var.{expression, input, output, file}
 use Rattle.language.specs.Program.{instr-at}
 use Rattle.layout.specs.Table.{program-of}
 use Rattle.machine.specs.WellFormed.{form}
+use Rattle.instructions.specs.Operands.{target}
 use Rattle.packed.specs.Packed.{table-of}
 use Rattle.state.specs.Working.{nth, reading, filing}
 use Rattle.table.specs.Denote.{letter-of, arg-of}
@@ -25,13 +24,6 @@ use Rattle.decoding.specs.declared.Source.{Source}
 use Rattle.decoding.specs.declared.Target.{Target}
 use Rattle.decoding.specs.declared.Variable.{Variable}
 use Rattle.decoding.specs.declared.Variable.the-variants.{Expression, Input, Output, File}
-
--- the letters that components are written by
-abbrev pub target : Bool → Bool → letters.Letter
-target true true = letters.Letter.Y
-target false true = letters.Letter.Z
-target true false = letters.Letter.A
-target false false = letters.Letter.B
 
 -- the variables, and the letters that name one
 abbrev pub var-of : Variable → Var

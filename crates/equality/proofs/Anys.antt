@@ -1,18 +1,17 @@
 -- RW of all components of an expression, by T.
 use mathlib.Core.Path.{_≡_, refl, sym, ap, _∙_}
-use mathlib.Core.Bool.{Bool, true, false, cond}
+use mathlib.Core.Bool.{Bool, true, false}
 use mathlib.Core.List.{List}
 use Prim.Native.Nat.{ℕ}
 use lib.ListN.{take}
 use Rattle.lists.specs.Lists.{any, filled}
-use Rattle.language.specs.Limits as limit
 use Rattle.language.specs.Letters as letters
 use Rattle.language.specs.Program.{Arg, Program}
 use Rattle.language.specs.Program.Arg.{nothing}
 use Rattle.language.specs.Program.Op.{RW}
 use Rattle.language.specs.Values.{Component, Store, Inputs}
 use Rattle.machine.specs.Arguments.{Asks, use-by, expr, side, is-count, single, none, ask, _&_, when, matches, taken}
-use Rattle.machine.specs.Changes.{with-plus, minus, minus-unless, past-by, used-by, used}
+use Rattle.machine.specs.Changes.{minus-unless, past-by, used-by, used}
 use Rattle.machine.specs.Effects.{relation, equality, row}
 use Rattle.machine.specs.Effects.Go.{on}
 use Rattle.layout.specs.Components.{components-in}
@@ -20,6 +19,7 @@ use Rattle.layout.specs.ComponentLaws.{components-of}
 use Rattle.matching.specs.Tests.{until, Took}
 use Rattle.matching.specs.declared.Taken.{Taken}
 use Rattle.matching.specs.declared.Test.{Test}
+use Rattle.operands.proofs.Signs.{kept-or-minus}
 use Rattle.packed.specs.Packed.{table-of}
 use Rattle.state.specs.Working.{state-at, HoldsState, Stands, on-store, nth}
 use Rattle.state.specs.Blocks.{ExprLent}
@@ -49,15 +49,6 @@ stop-any true false true nu = refl
 stop-any true false false nu = refl
 stop-any true true true nu = refl
 stop-any true true false nu = refl
-
-pub kept-or-minus : (b : Bool) (s : Store) → cond b s (minus s) ≡ minus-unless b s
-unfolding minus minus-unless with-plus
-kept-or-minus true s = refl
-kept-or-minus false s = refl
-
-pub minus-last : (b : Bool) (s : Store) → minus-unless b s .last ≡ s .last
-unfolding minus-unless with-plus
-minus-last b s = refl
 
 module _ (g : Program) (ins : Inputs) (s : Store) (i : ℕ) (b : Arg) where
   abbrev q : Asks
@@ -89,7 +80,7 @@ module _ {p e n : List ℕ} (h : Stands p e n) (i : ℕ) (c : List ℕ) (a : Arg
   pub any-stop : (r .stop ≡ 0 → ⊥) → does (r .stop) n
   any-stop z f ins =
       rw (row-any f ins s i b)
-      (quiet-stop h (q f ins s i b) (minus-unless (holds f ins s i b) s) (quiet f ins) (rw (minus-last (holds f ins s i b) s) (h .fine .last-most)) (stop-is f ins) z)
+      (quiet-stop h (q f ins s i b) (minus-unless (holds f ins s i b) s) (quiet f ins) (stop-is f ins) z)
 
   pub any-done : r .stop ≡ 0 → {x : List ℕ} → ExprLent p e n i x → {v : Test} {t : Taken} → v ≡ test-of a → Took (until v (take (r .len) g)) (components-in x) t → {n′ : List ℕ}
       → HoldsState p e n′ (on-store (minus-unless (t .reached)) (state-at p e n)) → does 0 n′

@@ -2,13 +2,12 @@
 use mathlib.Core.Path.{_≡_, refl, sym, ap, _∙_}
 use mathlib.Core.Bool.{Bool, true, false, cond, _&&_}
 use mathlib.Core.List.{List, [], _∷_}
-use Prim.Native.Nat.{ℕ, _≤_}
+use Prim.Native.Nat.{ℕ}
 use native.Mathlib.Omega.{arith}
 use lib.Dec.{eqb}
 use lib.ListN.{length, take}
 use borrow.Author.Tests.{ne-eqb}
 use Rattle.lists.specs.Lists.{all, filled}
-use Rattle.language.specs.Limits as limit
 use Rattle.language.specs.Program.{Arg}
 use Rattle.language.specs.Values.{Component, Store, Inputs, kind}
 use Rattle.machine.specs.Arguments.{Asks, use-by, side, is-count, single, ask, _&_, when}
@@ -111,13 +110,13 @@ module _ {p e n : List ℕ} (h : Stands p e n) (c : List ℕ) (a : Argument) {g 
   quiet ins fx = quiet-by (single b) (is-count (use-by b .reading)) fx (filled (side ins s b)) (kinds-alike xs (side ins s b)) (numeric (side ins s b))
 
   module _ (ins : Inputs) (t : Store) where
-    stopped : t .last ≤ limit.addresses → {k : ℕ} → k ≡ stop-of (q ins (filled xs)) → (k ≡ 0 → ⊥) → Does p e n k p e n (q ins (filled xs), t, on)
-    stopped la w z = quiet-stop h (q ins (filled xs)) t (quiet ins (filled xs)) la w z
+    stopped : {k : ℕ} → k ≡ stop-of (q ins (filled xs)) → (k ≡ 0 → ⊥) → Does p e n k p e n (q ins (filled xs), t, on)
+    stopped w z = quiet-stop h (q ins (filled xs)) t (quiet ins (filled xs)) w z
 
-    pub related-none : t .last ≤ limit.addresses → length x ≡ 0 → Does p e n 52 p e n (q ins (filled xs), t, on)
-    related-none la z =
+    pub related-none : length x ≡ 0 → Does p e n 52 p e n (q ins (filled xs), t, on)
+    related-none z =
         let w : filled xs ≡ false = rw (front, components-none x z) refl in
-        stopped la
+        stopped
         (none-by (single b) (is-count (use-by b .reading)) (filled (side ins s b)) (kinds-alike xs (side ins s b)) (numeric (side ins s b)) ∙ ap (λ (v : Bool). stop-of (q ins v)) (sym w))
         (λ y. omega (arith, y))
 
@@ -131,8 +130,8 @@ module _ {p e n : List ℕ} (h : Stands p e n) (c : List ℕ) (a : Argument) {g 
           ∙ some-by (single b) (is-count (use-by b .reading)) (filled (side ins s b)) (kinds-alike xs (side ins s b)) (numeric (side ins s b))
           ∙ ap (λ (k : ℕ). cond (eqb k 0) (cond (unlike-by (single b) (kinds-alike xs (side ins s b))) 53 0) k) (sym (o ins .stop-is))
 
-      pub related-stop : t .last ≤ limit.addresses → (r .stop ≡ 0 → ⊥) → Does p e n (r .stop) p e n (q ins (filled xs), t, on)
-      related-stop la y = stopped la (sym (stop-is ∙ rw (ne-eqb (r .stop) 0 y) refl)) y
+      pub related-stop : (r .stop ≡ 0 → ⊥) → Does p e n (r .stop) p e n (q ins (filled xs), t, on)
+      related-stop y = stopped (sym (stop-is ∙ rw (ne-eqb (r .stop) 0 y) refl)) y
 
       module _ (y : r .stop ≡ 0) where
         stop-then : stop-of (q ins (filled xs)) ≡ cond (unlike-by (single b) (kinds-alike xs (side ins s b))) 53 0
@@ -156,9 +155,9 @@ module _ {p e n : List ℕ} (h : Stands p e n) (c : List ℕ) (a : Argument) {g 
             go true m = ap (λ (v : Bool). cond (single b) (cond v false true) false) (sym (alike-is m))
             go false m = rw m refl
 
-        pub related-unlike : t .last ≤ limit.addresses → {u : Bool} → Unlike x (take (r .len) g) a u → u ≡ true → Does p e n 53 p e n (q ins (filled xs), t, on)
-        related-unlike la w v =
-            stopped la (sym (stop-then ∙ ap (λ (k : Bool). cond k 53 0) (sym (unlike-is (w (table-of c))) ∙ v))) (λ k. omega (arith, k))
+        pub related-unlike : {u : Bool} → Unlike x (take (r .len) g) a u → u ≡ true → Does p e n 53 p e n (q ins (filled xs), t, on)
+        related-unlike w v =
+            stopped (sym (stop-then ∙ ap (λ (k : Bool). cond k 53 0) (sym (unlike-is (w (table-of c))) ∙ v))) (λ k. omega (arith, k))
 
         pub related-done : {u : Bool} → Unlike x (take (r .len) g) a u → u ≡ false → {p′ e′ n′ : List ℕ} → HoldsState p′ e′ n′ (with-store t (state-at p e n))
             → Does p e n 0 p′ e′ n′ (q ins (filled xs), t, on)

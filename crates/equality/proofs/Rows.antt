@@ -2,18 +2,17 @@
 use mathlib.Core.Path.{_≡_, refl, sym, ap}
 use mathlib.Core.Bool.{Bool, true, false}
 use mathlib.Core.List.{List}
-use Prim.Native.Nat.{ℕ, _≤_}
+use Prim.Native.Nat.{ℕ}
 use native.Mathlib.Omega.{arith}
 use lib.ListN.{length, take, length-take}
 use Rattle.lists.specs.Lists.{any, filled}
-use Rattle.language.specs.Limits as limit
 use Rattle.language.specs.Letters.Letter.{E}
 use Rattle.language.specs.Program.{Arg, Program}
 use Rattle.language.specs.Program.Arg.{nothing}
 use Rattle.language.specs.Program.Op.{RW}
 use Rattle.language.specs.Values.{Component, Store, State, Inputs}
 use Rattle.machine.specs.Arguments.{Asks, use-by, expr, side, is-count, single, matches}
-use Rattle.machine.specs.Changes.{with-exprs, with-plus, put-expr, minus, minus-unless, past-by, past, used-by, used}
+use Rattle.machine.specs.Changes.{minus, minus-unless, past, used-by, used}
 use Rattle.machine.specs.Effects.{relation, equality, row}
 use Rattle.machine.specs.Effects.Go.{on}
 use Rattle.layout.specs.Components.{components-in}
@@ -45,12 +44,6 @@ module _ (g : Program) (ins : Inputs) (s : Store) (i : ℕ) (b : Arg) where
   unfolding row equality relation related
   row-rw true = refl
   row-rw false = refl
-
-related-last : (h removes : Bool) (i : ℕ) (s : Store) → related h removes i s .last ≡ s .last
-unfolding related used used-by past-by put-expr with-exprs minus with-plus
-related-last true true i s = refl
-related-last true false i s = refl
-related-last false removes i s = refl
 
 -- ---- what the end makes
 
@@ -87,22 +80,19 @@ module _ {p e n : List ℕ} (h : Stands p e n) (removes : Bool) (i : ℕ) (c : L
   abbrev t : Inputs → Store
   t ins = related (any (matches (λ y. y) ins s b) xs) removes i s
 
-  last-most : (ins : Inputs) → t ins .last ≤ limit.addresses
-  last-most ins = rw (related-last (any (matches (λ y. y) ins s b) xs) removes i s) (h .fine .last-most)
-
   front : xs ≡ take 1 (components-in x)
   front = ap (take 1) (sym (l .is))
 
   pub rw-none : length x ≡ 0 → does 52 e n
-  rw-none z f ins = rw (row-rw f ins s i b removes) (related-none h c a o (l .whole) front ins (t ins) (last-most ins) z)
+  rw-none z f ins = rw (row-rw f ins s i b removes) (related-none h c a o (l .whole) front ins (t ins) z)
 
   module _ (z : length x ≡ 0 → ⊥) where
     pub rw-stop : (r .stop ≡ 0 → ⊥) → does (r .stop) e n
-    rw-stop y f ins = rw (row-rw f ins s i b removes) (related-stop h c a o (l .whole) front ins (t ins) z (last-most ins) y)
+    rw-stop y f ins = rw (row-rw f ins s i b removes) (related-stop h c a o (l .whole) front ins (t ins) z y)
 
     module _ (y : r .stop ≡ 0) {u : Bool} (w : Unlike x (take (r .len) g) a u) where
       pub rw-unlike : u ≡ true → does 53 e n
-      rw-unlike v f ins = rw (row-rw f ins s i b removes) (related-unlike h c a o (l .whole) front ins (t ins) z y (last-most ins) w v)
+      rw-unlike v f ins = rw (row-rw f ins s i b removes) (related-unlike h c a o (l .whole) front ins (t ins) z y w v)
 
       pub rw-done : u ≡ false → {e′ n′ : List ℕ} → HoldsState p e′ n′ (on-store (settled a (take (r .len) g) removes i) (state-at p e n)) → does 0 e′ n′
       unfolding on-store

@@ -23,7 +23,8 @@ use Rattle.table.specs.Denote.{arg-of}
 use Rattle.table.specs.declared.Letter.{Letter}
 use Rattle.table.specs.declared.Argument.{Argument}
 use Rattle.table.specs.declared.Argument.the-variants.{Nothing, Indexed, Label, Switch, Class, Text, Number}
-use Rattle.comparands.specs.Offers.{OtherLetter, Holdable}
+use Rattle.comparands.specs.Offers.{Holdable}
+use Rattle.tests.specs.Prepares.{OtherLetter}
 
 -- what a component is compared by: a class, or the components that the argument offers
 abbrev pub test-of : Argument → Test

@@ -11,7 +11,7 @@ ghost use Rattle.packed.specs.Packed.{table-of};
 ghost use Rattle.state.specs.Working.{state-at, HoldsState, on-store, nth, reading};
 ghost use Rattle.table.specs.Denote.{letter-of, arg-of};
 ghost use Rattle.instructions.specs.Does.{DoesFor};
-ghost use Rattle.comparands.specs.Offers.{OtherLetter};
+ghost use Rattle.tests.specs.Prepares.{OtherLetter};
 ghost use Rattle.equality.specs.Equality.{test-of, OtherArgument, Singles, Alikeable, Unlike, related, settled, Finishable, Settleable, Relatable};
 
 // What a component is compared by: a class, or the components beside.

@@ -27,7 +27,7 @@ use Rattle.instructions.specs.Does.{Quiet, stop-of}
 use Rattle.instructions.proofs.Answers.{quiet-stop, quiet-done}
 use Rattle.comparands.specs.Offers.{ArgumentOffers}
 use Rattle.comparands.specs.declared.Held.{Held}
-use Rattle.equality.proofs.Anys.{kept-or-minus, minus-last}
+use Rattle.operands.proofs.Signs.{kept-or-minus}
 use Rattle.equality.proofs.Meeting.{leads}
 use Rattle.equality.proofs.Questions.{offer-by, unlike-by, numeric, quiet-by, some-by, single-there}
 use Rattle.readings.specs.Readings.{input-of, DoesPassing}
@@ -86,7 +86,7 @@ module _ {p e n : List ℕ} (h : Stands p e n) (i1 i2 : List ℕ) (i : ℕ) (c :
   stopped : (f : Program) {k : ℕ} → k ≡ stop-of (q f ins s i b) → (k ≡ 0 → ⊥) → does k n
   stopped f w z f′ =
       rw (row-input f′ ins s i b)
-      (quiet-stop h (q f ins s i b) (minus-unless (holds f ins s i b) s) (quiet f) (rw (minus-last (holds f ins s i b) s) (h .fine .last-most)) w z)
+      (quiet-stop h (q f ins s i b) (minus-unless (holds f ins s i b) s) (quiet f) w z)
 
   stop-is : (f : Program) → stop-of (q f ins s i b) ≡ cond (eqb (r .stop) 0) (cond (unlike-by (single b) (spelled (side ins s b))) 53 0) (r .stop)
   stop-is f =

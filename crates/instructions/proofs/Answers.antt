@@ -4,7 +4,7 @@ use mathlib.Core.Bool.{Bool, true, false, cond, _&&_}
 use mathlib.Core.List.{List, [], _∷_, _++_, map}
 use Prim.Native.Nat.{ℕ, _≤_}
 use native.Mathlib.Omega.{arith}
-use lib.Dec.{T, ltb, ltb→lt}
+use lib.Dec.{T, leb, ltb, ltb→lt}
 use lib.ListN.{length}
 use borrow.Author.Tests.{le-leb}
 use Rattle.lists.specs.Lists.{all, headOr, ifAny}
@@ -102,25 +102,27 @@ module _ {p e n : List ℕ} (h : Stands p e n) (r : Row) where
 
 -- ---- rows that ask 52, 53 and 54 alone
 
-abbrev refused : Bool → Bool → Bool → Bool → List ℕ
-refused a b c f =
-    let r₃ : List ℕ = cond ((f && true) && true) [] (59 ∷ []) in
+abbrev refused : Bool → Bool → Bool → Bool → Bool → List ℕ
+refused a b c f l =
+    let r₄ : List ℕ = cond l [] (60 ∷ []) in
+    let r₃ : List ℕ = cond ((f && true) && true) r₄ (59 ∷ r₄) in
     let r₂ : List ℕ = cond (c && true) r₃ (54 ∷ r₃) in
     let r₁ : List ℕ = cond (b && true) r₂ (53 ∷ r₂) in
     cond (a && true) r₁ (52 ∷ r₁)
 
-abbrev closed : Bool → Bool → Bool → Bool → ℕ
-closed a b c f = cond a (cond b (cond c (cond f 0 59) 54) 53) 52
+abbrev closed : Bool → Bool → Bool → Bool → Bool → ℕ
+closed a b c f l = cond a (cond b (cond c (cond f (cond l 0 60) 59) 54) 53) 52
 
-refused-head : (a b c f : Bool) → headOr 0 (refused a b c f) ≡ closed a b c f
-refused-head false b c f = refl
-refused-head true false c f = refl
-refused-head true true false f = refl
-refused-head true true true true = refl
-refused-head true true true false = refl
+refused-head : (a b c f l : Bool) → headOr 0 (refused a b c f l) ≡ closed a b c f l
+refused-head false b c f l = refl
+refused-head true false c f l = refl
+refused-head true true false f l = refl
+refused-head true true true false l = refl
+refused-head true true true true true = refl
+refused-head true true true true false = refl
 
-module _ (q : Asks) (t : Store) (s : State) (k : Quiet q) (st : length (s .stack) ≤ limit.stack) (la : t .last ≤ limit.addresses) where
-  quiet-is : refusals (asked-of (q, t, on) s) ≡ refused (q 52) (q 53) (q 54) (fits t)
+module _ (q : Asks) (t : Store) (s : State) (k : Quiet q) (st : length (s .stack) ≤ limit.stack) where
+  quiet-is : refusals (asked-of (q, t, on) s) ≡ refused (q 52) (q 53) (q 54) (fits t) (leb (t .last) limit.addresses)
   quiet-is =
       rw (
         k .is-50,
@@ -131,40 +133,42 @@ module _ (q : Asks) (t : Store) (s : State) (k : Quiet q) (st : length (s .stack
         k .is-59,
         k .is-60,
         le-leb (length (s .stack)) limit.stack st,
-        le-leb (t .last) limit.addresses la,
       ) refl
 
-  pub answer-quiet : answer-of (q, t, on) s ≡ closed (q 52) (q 53) (q 54) (fits t)
-  answer-quiet = ap (headOr 0) quiet-is ∙ refused-head (q 52) (q 53) (q 54) (fits t)
+  pub answer-quiet : answer-of (q, t, on) s ≡ closed (q 52) (q 53) (q 54) (fits t) (leb (t .last) limit.addresses)
+  answer-quiet = ap (headOr 0) quiet-is ∙ refused-head (q 52) (q 53) (q 54) (fits t) (leb (t .last) limit.addresses)
 
 abbrev pub stop-by : Bool → Bool → Bool → ℕ
 stop-by a b c = cond a (cond b (cond c 0 54) 53) 52
 
-closed-stop : (a b c f : Bool) → (stop-by a b c ≡ 0 → ⊥) → closed a b c f ≡ stop-by a b c
-closed-stop false b c f z = refl
-closed-stop true false c f z = refl
-closed-stop true true false f z = refl
-closed-stop true true true f z = absurd (z refl)
+closed-stop : (a b c f l : Bool) → (stop-by a b c ≡ 0 → ⊥) → closed a b c f l ≡ stop-by a b c
+closed-stop false b c f l z = refl
+closed-stop true false c f l z = refl
+closed-stop true true false f l z = refl
+closed-stop true true true f l z = absurd (z refl)
 
-closed-on : (a b c f : Bool) → stop-by a b c ≡ 0 → closed a b c f ≡ cond f 0 59
-closed-on false b c f z = absurd (omega (arith, z))
-closed-on true false c f z = absurd (omega (arith, z))
-closed-on true true false f z = absurd (omega (arith, z))
-closed-on true true true f z = refl
+closed-on : (a b c f l : Bool) → stop-by a b c ≡ 0 → closed a b c f l ≡ cond f (cond l 0 60) 59
+closed-on false b c f l z = absurd (omega (arith, z))
+closed-on true false c f l z = absurd (omega (arith, z))
+closed-on true true false f l z = absurd (omega (arith, z))
+closed-on true true true f l z = refl
 
 module _ {p e n : List ℕ} (h : Stands p e n) (q : Asks) (t : Store) (k : Quiet q) where
-  -- 52, 53 or 54 is answered no; 59 is; all are answered yes
-  pub quiet-stop : {x : ℕ} → t .last ≤ limit.addresses → x ≡ stop-of q → (x ≡ 0 → ⊥) → Does p e n x p e n (q, t, on)
-  quiet-stop {x} la w z =
-      let s = state-at p e n in
+  -- 52, 53 or 54 is answered no, whatever the row would make
+  pub quiet-stop : {x : ℕ} → x ≡ stop-of q → (x ≡ 0 → ⊥) → Does p e n x p e n (q, t, on)
+  quiet-stop w z =
       does-stop h (q, t, on)
-      (answer-quiet q t s k (h .fine .stack-most) la ∙ closed-stop (q 52) (q 53) (q 54) (fits t) (λ y. z (w ∙ y)) ∙ sym w) z
+      (answer-quiet q t (state-at p e n) k (h .fine .stack-most)
+      ∙ closed-stop (q 52) (q 53) (q 54) (fits t) (leb (t .last) limit.addresses) (λ y. z (w ∙ y)) ∙ sym w) z
+
+  -- they are answered yes; all are
+  pub answer-on : stop-of q ≡ 0 → answer-of (q, t, on) (state-at p e n) ≡ cond (fits t) (cond (leb (t .last) limit.addresses) 0 60) 59
+  answer-on w = answer-quiet q t (state-at p e n) k (h .fine .stack-most) ∙ closed-on (q 52) (q 53) (q 54) (fits t) (leb (t .last) limit.addresses) w
 
   pub quiet-done : {p′ e′ n′ : List ℕ} → stop-of q ≡ 0 → HoldsState p′ e′ n′ (with-store t (state-at p e n)) → Does p e n 0 p′ e′ n′ (q, t, on)
   quiet-done w g =
-      let s = state-at p e n in
-      let a : answer-of (q, t, on) s ≡ cond (fits t) 0 59 = answer-quiet q t s k (h .fine .stack-most) (g .fine .last-most) ∙ closed-on (q 52) (q 53) (q 54) (fits t) w in
-      does-done h (q, t, on) (a ∙ rw (fits-limited (fine-limited (with-store t s) (g .fine))) refl) g
+      does-done h (q, t, on)
+      (answer-on w ∙ rw (fits-limited (fine-limited (with-store t (state-at p e n)) (g .fine)), le-leb (t .last) limit.addresses (g .fine .last-most)) refl) g
 
 -- ---- 53 by what is taken, and 59
 
@@ -187,16 +191,16 @@ module _ {p e n : List ℕ} (h : Stands p e n) (t : Store) where
   pub tried-done : {right : Bool} {p′ e′ n′ : List ℕ} → right ≡ true → HoldsState p′ e′ n′ (with-store t (state-at p e n)) → Tried p e n 0 p′ e′ n′ right t
   tried-done r g = let f : fits t ≡ true = fits-limited (fine-limited (with-store t (state-at p e n)) (g .fine)) in record { is = rw (r, f) refl; holds = rw (r, f) g }
 
-  pub quiet-tried : (q : Asks) → Quiet q → {x : ℕ} {right : Bool} {p′ e′ n′ : List ℕ} → t .last ≤ limit.addresses → q 52 ≡ true → q 53 ≡ right → q 54 ≡ true
+  pub quiet-tried : (q : Asks) → Quiet q → {x : ℕ} {right : Bool} {p′ e′ n′ : List ℕ} → q 52 ≡ true → q 53 ≡ right → q 54 ≡ true
       → Tried p e n x p′ e′ n′ right t → Does p e n x p′ e′ n′ (q, t, on)
-  quiet-tried q k {x} {right} {p′} {e′} {n′} la a b c w =
-      let s = state-at p e n in
-      let z : answer-of (q, t, on) s ≡ cond right (cond (fits t) 0 59) 53 = answer-quiet q t s k (h .fine .stack-most) la ∙ rw (a, b, c) refl in
-      go right (fits t) z (w .is) (w .holds)
+  quiet-tried q k {x} {right} {p′} {e′} {n′} a b c w =
+      go right (fits t) (answer-quiet q t (state-at p e n) k (h .fine .stack-most) ∙ rw (a, b, c) refl) (w .is) (w .holds)
     where
-      go : (r f : Bool) → answer-of (q, t, on) (state-at p e n) ≡ cond r (cond f 0 59) 53 → x ≡ cond r (cond f 0 59) 53
+      go : (r f : Bool) → answer-of (q, t, on) (state-at p e n) ≡ cond r (cond f (cond (leb (t .last) limit.addresses) 0 60) 59) 53 → x ≡ cond r (cond f 0 59) 53
           → HoldsState p′ e′ n′ (cond r (cond f (with-store t (state-at p e n)) (state-at p e n)) (state-at p e n)) → Does p e n x p′ e′ n′ (q, t, on)
-      go true true z i g = record { is = i ∙ sym z; holds = rw (kept-done (q, t, on) (state-at p e n) z) g }
+      go true true z i g =
+          let y : answer-of (q, t, on) (state-at p e n) ≡ 0 = z ∙ rw (le-leb (t .last) limit.addresses (g .fine .last-most)) refl in
+          record { is = i ∙ sym y; holds = rw (kept-done (q, t, on) (state-at p e n) y) g }
       go true false z i g = record { is = i ∙ sym z; holds = rw (kept-stop (q, t, on) (state-at p e n) z (λ y. omega (arith, y))) g }
       go false f z i g = record { is = i ∙ sym z; holds = rw (kept-stop (q, t, on) (state-at p e n) z (λ y. omega (arith, y))) g }
 

@@ -1,6 +1,6 @@
--- Components written to an expression by an instruction that takes none away, and answers turned round.
-use mathlib.Core.Path.{_≡_, refl, sym, _∙_, subst}
-use mathlib.Core.Bool.{Bool, true, false, not, cond, _&&_}
+-- Components written to an expression by an instruction that takes none away.
+use mathlib.Core.Path.{_≡_, refl, _∙_, subst}
+use mathlib.Core.Bool.{Bool, true, false, cond, _&&_}
 use mathlib.Core.List.{List, [], _∷_}
 use Prim.Native.Nat.{ℕ, _+_, _≤_, _<_}
 use lib.Dec.{leb}
@@ -18,14 +18,7 @@ use Rattle.state.specs.Working.{state-at, Stands, nth, writing, turned, char-co
 use Rattle.state.proofs.Fits.{fine-limited, fits-into-ok}
 use Rattle.instructions.specs.Operands.{target}
 
-pub denied : (b : Bool) → not b ≡ true → b ≡ false
-denied true q = sym q
-denied false q = refl
-
-pub granted : (b : Bool) → not b ≡ false → b ≡ true
-granted true q = refl
-granted false q = sym q
-
+-- two answers
 pub both : (a b : Bool) → (a && b) ≡ true → (a ≡ true) × (b ≡ true)
 both true true q = (refl, refl)
 both true false q = absurd (subst (λ (z : Bool). cond z ⊥ (Unit {0})) q tt)

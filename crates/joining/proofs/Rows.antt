@@ -2,15 +2,14 @@
 use mathlib.Core.Path.{_≡_, refl, ap, _∙_}
 use mathlib.Core.Bool.{Bool, true, false}
 use mathlib.Core.List.{List}
-use Prim.Native.Nat.{ℕ, _≤_}
+use Prim.Native.Nat.{ℕ}
 use lib.ListN.{take}
-use Rattle.language.specs.Limits as limit
 use Rattle.language.specs.Program.{Arg, Program}
 use Rattle.language.specs.Program.Arg.{nothing}
 use Rattle.language.specs.Program.Op.{ZBIJ}
 use Rattle.language.specs.Values.{Component, Store, Inputs}
 use Rattle.machine.specs.Arguments.{ask, _&_, Until, test-asks, on-parts}
-use Rattle.machine.specs.Changes.{with-exprs, with-plus, put-expr, minus-unless, placed, into, front, past-by, past}
+use Rattle.machine.specs.Changes.{put-expr, placed, into, front, past-by, past}
 use Rattle.machine.specs.Effects.{Row, moved, row}
 use Rattle.machine.specs.Effects.Go.{on}
 use Rattle.matching.specs.Tests.{until}
@@ -30,12 +29,6 @@ unfolding row moved joined-up all-taken-words past past-by front into placed put
 row-zbij g ins s i c true = refl
 row-zbij g ins s i c false = refl
 
--- no address is given
-joined-last : (u : Until Component) (removes : Bool) (i : ℕ) (s : Store) → joined-up u removes i s .last ≡ s .last
-unfolding joined-up minus-unless with-plus into put-expr with-exprs past past-by
-joined-last u true i s = refl
-joined-last u false i s = refl
-
 module _ {p e n : List ℕ} (h : Stands p e n) (removes : Bool) (i : ℕ) (c : Arg) {x : List ℕ} {r : Prepared} (w : Prepares (state-at p e n .store) c x r) where
   abbrev s : Store
   s = state-at p e n .store
@@ -43,14 +36,11 @@ module _ {p e n : List ℕ} (h : Stands p e n) (removes : Bool) (i : ℕ) (c : A
   abbrev by : Program → Inputs → Row
   by g ins = row g ins s (nth (reading removes) i) c nothing ZBIJ
 
-  last-most : (u : Until Component) → joined-up u removes i s .last ≤ limit.addresses
-  last-most u = rw (joined-last u removes i s) (h .fine .last-most)
-
   pub zbij-stop : (r .stop ≡ 0 → ⊥) → DoesFor p e n (r .stop) p e n by
   zbij-stop z g ins =
       let u = on-parts ins s c in
       rw (row-zbij g ins s i c removes)
-      (words-stop h c w ins (joined-up u removes i s) (last-most u) (all-taken-words u i s)
+      (words-stop h c w ins (joined-up u removes i s) (all-taken-words u i s)
       (λ q. ap (λ (v : Until Component). all-taken-words v i s) (w .negative q ins) ∙ none-words i s) z)
 
   pub zbij-tried : r .stop ≡ 0 → {k : ℕ} {p′ e′ n′ : List ℕ}
@@ -58,4 +48,4 @@ module _ {p e n : List ℕ} (h : Stands p e n) (removes : Bool) (i : ℕ) (c : A
       → DoesFor p e n k p′ e′ n′ by
   zbij-tried z k g ins =
       let u = until (r .test) (take (r .len) x) in
-      rw (row-zbij g ins s i c removes, w .parts z ins) (words-tried h c w ins (joined-up u removes i s) (last-most u) (all-taken-words u i s) z k)
+      rw (row-zbij g ins s i c removes, w .parts z ins) (words-tried h c w ins (joined-up u removes i s) (all-taken-words u i s) z k)

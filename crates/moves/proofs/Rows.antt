@@ -2,26 +2,26 @@
 use mathlib.Core.Path.{_≡_, refl, sym, ap, subst}
 use mathlib.Core.Bool.{Bool, true, false}
 use mathlib.Core.List.{List}
-use Prim.Native.Nat.{ℕ, _≤_}
+use Prim.Native.Nat.{ℕ}
 use native.Mathlib.Omega.{arith}
 use lib.ListN.{length, take, length-take}
-use Rattle.language.specs.Limits as limit
 use Rattle.language.specs.Program.{Arg, Program}
 use Rattle.language.specs.Program.Arg.{nothing}
 use Rattle.language.specs.Program.Op.{PRZESLIJ, USUN}
-use Rattle.language.specs.Values.{Component, Store, Inputs}
-use Rattle.machine.specs.Arguments.{expr, Until, test-asks, on-parts}
-use Rattle.machine.specs.Changes.{with-exprs, with-plus, put-expr, minus-unless, placed, into, past-by, past}
+use Rattle.language.specs.Values.{Store, Inputs}
+use Rattle.machine.specs.Arguments.{expr, test-asks, on-parts}
+use Rattle.machine.specs.Changes.{put-expr, placed, into, past-by, past}
 use Rattle.machine.specs.Effects.{Row, moved, row}
 use Rattle.machine.specs.Effects.Go.{on}
 use Rattle.matching.specs.Tests.{until}
 use Rattle.state.specs.Working.{state-at, HoldsState, Stands, on-store, nth, reading}
 use Rattle.instructions.specs.Does.{DoesFor, Tried}
+use Rattle.instructions.specs.Operands.{target}
 use Rattle.instructions.proofs.Answers.{tried-done}
 use Rattle.tests.specs.Prepares.{Prepares}
 use Rattle.tests.specs.declared.Prepared.{Prepared}
 use Rattle.tests.proofs.Asked.{test-stop, test-tried}
-use Rattle.moves.specs.Moves.{target, sent, cut-off}
+use Rattle.moves.specs.Moves.{sent, cut-off}
 
 module _ (g : Program) (ins : Inputs) (s : Store) (i : ℕ) (c : Arg) where
   -- ---- what they make
@@ -52,16 +52,6 @@ module _ (g : Program) (ins : Inputs) (s : Store) (i : ℕ) (c : Arg) where
   unfolding row
   row-usun = ap (λ (t : Store). (test-asks ins s c, t, on)) moved-cut
 
--- no address is given
-sent-last : (u : Until Component) (removes : Bool) (i : ℕ) (reverses at-end : Bool) (j : ℕ) (s : Store) → sent u removes i reverses at-end j s .last ≡ s .last
-unfolding sent minus-unless with-plus into put-expr with-exprs past past-by
-sent-last u true i reverses at-end j s = refl
-sent-last u false i reverses at-end j s = refl
-
-cut-last : (u : Until Component) (i : ℕ) (s : Store) → cut-off u i s .last ≡ s .last
-unfolding cut-off minus-unless with-plus put-expr with-exprs past past-by
-cut-last u i s = refl
-
 -- ---- what their functions do
 
 -- a store's change is held
@@ -78,9 +68,6 @@ module _ {p e n : List ℕ} (h : Stands p e n) (i : ℕ) (c : Arg) {x : List ℕ
   abbrev s : Store
   s = state-at p e n .store
 
-  last-most : (t : Store) → t .last ≡ s .last → t .last ≤ limit.addresses
-  last-most t q = rw q (h .fine .last-most)
-
   module _ (removes reverses at-end : Bool) (j : ℕ) where
     abbrev by : Program → Inputs → Row
     by g ins = row g ins s (nth (reading removes) i) (nth (target reverses at-end) j) c PRZESLIJ
@@ -89,14 +76,14 @@ module _ {p e n : List ℕ} (h : Stands p e n) (i : ℕ) (c : Arg) {x : List ℕ
     przeslij-stop z g ins =
         let u = on-parts ins s c in
         rw (row-przeslij g ins s i c removes reverses at-end j)
-        (test-stop h c w ins (sent u removes i reverses at-end j s) (last-most (sent u removes i reverses at-end j s) (sent-last u removes i reverses at-end j s)) z)
+        (test-stop h c w ins (sent u removes i reverses at-end j s) z)
 
     przeslij-tried : r .stop ≡ 0 → {k : ℕ} {p′ e′ n′ : List ℕ} → Tried p e n k p′ e′ n′ true (sent (until (r .test) (take (r .len) x)) removes i reverses at-end j s)
         → DoesFor p e n k p′ e′ n′ by
     przeslij-tried z k g ins =
         let u = until (r .test) (take (r .len) x) in
         rw (row-przeslij g ins s i c removes reverses at-end j, w .parts z ins)
-        (test-tried h c w ins (sent u removes i reverses at-end j s) (last-most (sent u removes i reverses at-end j s) (sent-last u removes i reverses at-end j s)) z k)
+        (test-tried h c w ins (sent u removes i reverses at-end j s) z k)
 
     -- where the sequence is taken away, and where it stays
     pub przeslij-off : removes ≡ true → r .stop ≡ 0 → {p′ e′ n′ : List ℕ}
@@ -117,13 +104,13 @@ module _ {p e n : List ℕ} (h : Stands p e n) (i : ℕ) (c : Arg) {x : List ℕ
   pub usun-stop : (r .stop ≡ 0 → ⊥) → DoesFor p e n (r .stop) p e n gone
   usun-stop z g ins =
       let u = on-parts ins s c in
-      rw (row-usun g ins s i c) (test-stop h c w ins (cut-off u i s) (last-most (cut-off u i s) (cut-last u i s)) z)
+      rw (row-usun g ins s i c) (test-stop h c w ins (cut-off u i s) z)
 
   usun-tried : r .stop ≡ 0 → {k : ℕ} {p′ e′ n′ : List ℕ} → Tried p e n k p′ e′ n′ true (cut-off (until (r .test) (take (r .len) x)) i s)
       → DoesFor p e n k p′ e′ n′ gone
   usun-tried z k g ins =
       let u = until (r .test) (take (r .len) x) in
-      rw (row-usun g ins s i c, w .parts z ins) (test-tried h c w ins (cut-off u i s) (last-most (cut-off u i s) (cut-last u i s)) z k)
+      rw (row-usun g ins s i c, w .parts z ins) (test-tried h c w ins (cut-off u i s) z k)
 
   pub usun-done : r .stop ≡ 0 → {p′ e′ n′ : List ℕ} → HoldsState p′ e′ n′ (on-store (cut-off (until (r .test) (take (r .len) x)) i) (state-at p e n))
       → DoesFor p e n 0 p′ e′ n′ gone

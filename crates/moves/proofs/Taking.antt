@@ -1,12 +1,11 @@
 -- What a test takes of an expression, in bytes: taken away, copied beside, turned round.
 use mathlib.Core.Path.{_≡_, refl, sym, ap, _∙_, subst}
-use mathlib.Core.Bool.{Bool, true, false, not, cond, _&&_}
+use mathlib.Core.Bool.{Bool, true, false, _&&_}
 use mathlib.Core.List.{List, [], _∷_, reverseAux}
 use Prim.Native.Nat.{ℕ, _+_, _≤_, _<_}
 use native.Mathlib.Omega.{arith}
 use lib.Dec.{leb}
 use lib.ListN.{length, take, length-append, length-take}
-use borrow.Author.Tests.{leb-true}
 use Rattle.lists.specs.Lists.{total}
 use Rattle.language.specs.Limits as limit
 use Rattle.language.specs.Letters.Letter.{E}
@@ -30,6 +29,7 @@ use Rattle.state.proofs.Fits.{fine-limited, fits-minus-unless, fits-into-ok}
 use Rattle.state.proofs.Freed.{held-off}
 use Rattle.state.proofs.Standing.{state-of, stands}
 use Rattle.instructions.specs.Does.{More}
+use Rattle.instructions.proofs.Written.{writable}
 use Rattle.moves.specs.Moves.{sent, cut-off}
 
 -- ---- turned round
@@ -66,21 +66,6 @@ held-turned d {d′} {y} {zs} b m e c q =
 
 pub held-fits : (d d′ : List ℕ) (m : ℕ) → length d′ ≡ length d → m ≤ 32768 → 32768 ≤ length d → m ≡ length (take m d′)
 held-fits d d′ m q a b = simp length-take (omega (arith, q))
-
--- an answer turned round
-pub denied : (b : Bool) → not b ≡ true → b ≡ false
-denied true q = sym q
-denied false q = refl
-
-pub granted : (b : Bool) → not b ≡ false → b ≡ true
-granted true q = refl
-granted false q = sym q
-
--- two answers
-pub both : (a b : Bool) → (a && b) ≡ true → (a ≡ true) × (b ≡ true)
-both true true q = (refl, refl)
-both true false q = absurd (subst (λ (z : Bool). cond z ⊥ (Unit {0})) q tt)
-both false b q = absurd (subst (λ (z : Bool). cond z ⊥ (Unit {0})) q tt)
 
 -- ---- what is taken
 
@@ -168,18 +153,7 @@ module _ {p e n : List ℕ} {i : ℕ} {x : List ℕ} {u : Until Component} {t : 
     roomy = leb (components-held s + t .parts) limit.components && leb (chars-held s + t .chars) limit.characters
 
     pub writable-copy : roomy ≡ true → PartsWritable p e n scratch j new (t .parts) (t .chars)
-    writable-copy r =
-        let w = both (leb (components-held s + t .parts) limit.components) (leb (chars-held s + t .chars) limit.characters) r in
-        record {
-          stands = h;
-          spare = sp;
-          index = d;
-          whole = whole-components c;
-          count = rw new-is count-is;
-          chars-is = rw new-is chars-are;
-          components-room = leb-true (components-held s + t .parts) limit.components (w .0);
-          chars-room = leb-true (chars-held s + t .chars) limit.characters (w .1);
-        }
+    writable-copy r = writable h c d count-is chars-are sp r
 
     module _ (at-end : Bool) where
       -- what is held then

@@ -1,11 +1,10 @@
 -- What moves of components make of a store, and what their functions ask.
-use mathlib.Core.Bool.{Bool, true, false}
+use mathlib.Core.Bool.{Bool, true}
 use mathlib.Core.List.{List}
 use Prim.Native.Nat.{ℕ, _≤_, _<_}
 use lib.ListN.{take}
 use Rattle.language.specs.Limits as limit
-use Rattle.language.specs.Letters.{Letter}
-use Rattle.language.specs.Letters.Letter.{A, B, E, Y, Z}
+use Rattle.language.specs.Letters.Letter.{E}
 use Rattle.language.specs.Values.{Component, Store}
 use Rattle.machine.specs.Arguments.{expr, Until, taken}
 use Rattle.machine.specs.Changes.{minus-unless, into, past}
@@ -14,13 +13,6 @@ use Rattle.matching.specs.declared.Test.{Test}
 use Rattle.state.specs.Working.{Stands, nth, reading, writing, turned}
 use Rattle.table.specs.declared.Argument.{Argument}
 use Rattle.tests.specs.Prepares.{TestReadable}
-
--- the letters that a move writes components by
-abbrev pub target : Bool → Bool → Letter
-target true true = Y
-target false true = Z
-target true false = A
-target false false = B
 
 -- the sequence that u takes of expression i is written to expression j; has words alone; is gone
 unfoldable pub sent : Until Component → Bool → ℕ → Bool → Bool → ℕ → Store → Store

@@ -13,7 +13,8 @@ ghost use Rattle.state.specs.Working.{state-at, HoldsState, on-store, nth, read
 ghost use Rattle.state.specs.Blocks.{PartsWritable};
 ghost use Rattle.table.specs.Denote.{arg-of};
 ghost use Rattle.instructions.specs.Does.{Tried, DoesFor};
-ghost use Rattle.moves.specs.Moves.{Cuttable, Sendable, sent, cut-off, Movable, Removable, target};
+ghost use Rattle.instructions.specs.Operands.{target};
+ghost use Rattle.moves.specs.Moves.{Cuttable, Sendable, sent, cut-off, Movable, Removable};
 
 // Writes components to expression `j`, and turns H minus unless the test was reached.
 pub fn deliver(

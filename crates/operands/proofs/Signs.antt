@@ -8,7 +8,3 @@ pub kept-or-minus : (b : Bool) (s : Store) → cond b s (minus s) ≡ minus-unle
 unfolding minus minus-unless with-plus
 kept-or-minus true s = refl
 kept-or-minus false s = refl
-
-pub minus-last : (b : Bool) (s : Store) → minus-unless b s .last ≡ s .last
-unfolding minus-unless with-plus
-minus-last b s = refl

@@ -8,7 +8,6 @@ use lib.Dec.{ltb}
 use lib.ListN.{length, take, length-take}
 use lib.Signed.{ltZ}
 use Rattle.characters.specs.Characters.{precedes}
-use Rattle.language.specs.Limits as limit
 use Rattle.language.specs.Letters.Letter.{E}
 use Rattle.language.specs.Program.{Arg, Program}
 use Rattle.language.specs.Program.Arg.{nothing}
@@ -28,7 +27,7 @@ use Rattle.operands.specs.Operands.{earlier, ReadsPair, DoesWith}
 use Rattle.operands.specs.declared.Pair.{Pair}
 use Rattle.operands.proofs.Codes.{coded-less}
 use Rattle.operands.proofs.Reading.{both-none, first-stop}
-use Rattle.operands.proofs.Signs.{kept-or-minus, minus-last}
+use Rattle.operands.proofs.Signs.{kept-or-minus}
 use Rattle.ordering.specs.Ordering.{ReadsWord, ReadsOther}
 use Rattle.ordering.specs.declared.Worded.{Worded}
 
@@ -89,7 +88,7 @@ module _ {p e n : List ℕ} (h : Stands p e n) where
   order-stop : (k : ℕ) (less : Less) (xs ys : List Component) {m : ℕ} → m ≡ stop-of (needs k xs & needs k ys) → (m ≡ 0 → ⊥) → Does p e n m p e n (row-of k less s xs ys)
   order-stop k less xs ys e z =
       let b = less (first xs) (first ys) in
-      quiet-stop h (needs k xs & needs k ys) (minus-unless b s) (quiet-two k xs ys) (rw (minus-last b s) (h .fine .last-most)) e z
+      quiet-stop h (needs k xs & needs k ys) (minus-unless b s) (quiet-two k xs ys) e z
 
   order-done : (k : ℕ) (less : Less) (xs ys : List Component) {b : Bool} {n′ : List ℕ} → stop-of (needs k xs & needs k ys) ≡ 0 → b ≡ less (first xs) (first ys)
       → HoldsState p e n′ (on-store (minus-unless b) (state-at p e n)) → Does p e n 0 p e n′ (row-of k less s xs ys)

@@ -44,7 +44,8 @@ module _ {m : List ℕ} (h : Packed m) where
       rw (q, length-cell (2 * j) (omega arith), length-cell (2 * j + 1) (omega arith), lengths-low (strings-in m) j b′, lengths-high (strings-in m) j b′)
       (two-back (length (string j (strings-in m))))
 
-  string-read : (j n from : ℕ) → j < 99 → from ≡ 198 + offset j (strings-in m) → n ≡ length (string j (strings-in m)) → take n (drop from m) ≡ string j (strings-in m)
+  -- string j, of length n, stands from cell `from` on
+  pub string-read : (j n from : ℕ) → j < 99 → from ≡ 198 + offset j (strings-in m) → n ≡ length (string j (strings-in m)) → take n (drop from m) ≡ string j (strings-in m)
   unfolding offset used
   string-read j n from b q k =
       let s : List (List ℕ) = strings-in m in

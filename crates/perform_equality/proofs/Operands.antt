@@ -20,11 +20,12 @@ use Rattle.machine.specs.Effects.{row}
 use Rattle.machine.specs.WellFormed.{form}
 use Rattle.packed.specs.Packed.{table-of}
 use Rattle.decoding.specs.Operands.{Named, IsSource, IsIndex, IsVariable, Listed, Read, Shaped}
-use Rattle.decoding.specs.OperandLaws.{good-of, listed-of, named, narrowed, no-argument, indexed-is, indexed-below, shape, shapes}
+use Rattle.decoding.specs.OperandLaws.{good-of, listed-of, named, narrowed, no-argument, form-letter, indexed-is, indexed-below, shape, shapes}
 use Rattle.decoding.specs.declared.Source.{Source}
 use Rattle.decoding.specs.declared.Variable.{Variable}
 use Rattle.decoding.specs.declared.Variable.the-variants.{Expression, Input, Output, File}
-use Rattle.comparands.specs.Offers.{OtherLetter, Holdable}
+use Rattle.comparands.specs.Offers.{Holdable}
+use Rattle.tests.specs.Prepares.{OtherLetter}
 use Rattle.equality.specs.Equality.{Relatable}
 use Rattle.record_equality.specs.RecordEquality.{RecordRelatable}
 use Rattle.input_equality.specs.InputEquality.{InputRelatable}
@@ -33,10 +34,11 @@ use Rattle.instructions.specs.Does.{DoesFor}
 use Rattle.state.specs.Working.{state-at, nth, reading}
 use Rattle.table.specs.Denote.{letter-of, arg-of}
 use Rattle.table.specs.Good.{GoodArgument}
+use Rattle.table.specs.LetterLaws.{listed-letter}
+use Rattle.table.proofs.Letters.{tag, left-letter}
 use Rattle.table.specs.declared.Letter.{Letter}
-use Rattle.table.specs.declared.Letter.the-variants.{A, B, C, D, E, I, N, P, Q, T as T-letter, Y, Z}
+use Rattle.table.specs.declared.Letter.the-variants.{I, P, T as T-letter}
 use Rattle.table.specs.declared.Argument.{Argument}
-use Rattle.table.specs.declared.Argument.the-variants.{Indexed}
 use Rattle.performing.specs.Stepping.{inputs}
 use Rattle.performing.specs.Performing.{Performing, Performs}
 use Rattle.performing.specs.Operating.{Operating, PerformsFor}
@@ -46,25 +48,11 @@ use Rattle.perform_equality.specs.Equating.{any-letter, IsAny, RelatingE
 
 -- ---- the letter T
 
-abbrev tag : Letter → ℕ
-tag l = denote.Enum.Declared.tagOf (denote.Enum.Declared.declared Rattle.table.proofs.Letter.enum) l
-
 abbrev other-letters : List ℕ
 other-letters = 0 ∷ 1 ∷ 2 ∷ 3 ∷ 4 ∷ 5 ∷ 6 ∷ 7 ∷ 8 ∷ 10 ∷ 11 ∷ []
 
 pub not-any : (l : Letter) → OneOf other-letters (tag l) → false ≡ any-letter l
-not-any A k = refl
-not-any B k = refl
-not-any C k = refl
-not-any D k = refl
-not-any E k = refl
-not-any I k = refl
-not-any N k = refl
-not-any P k = refl
-not-any Q k = refl
-not-any T-letter k = absurd (miss other-letters 9 tt k)
-not-any Y k = refl
-not-any Z k = refl
+not-any = left-letter (λ l. false ≡ any-letter l) other-letters refl refl refl refl refl refl refl refl refl refl refl
 
 pub an-any : {l : Letter} → l ≡ T-letter → true ≡ any-letter l
 an-any q = rw q refl
@@ -77,27 +65,10 @@ others = bytes "nNtcBTE"
 wider : (c : List ℕ) (a : Argument) (fs gs : List ℕ) → T (all (λ n. among n gs) fs) → Listed c fs a → Listed c gs a
 wider c a fs gs h m = all-among (λ n. among n gs) fs h (form (program-of c) (arg-of (table-of c) a)) m
 
-other-letter : (c : List ℕ) {a : Argument} → Listed c others a → (l : Letter) (k : ℕ) → a ≡ Indexed l k → OtherLetter l
-other-letter c {a} m l k e = go l (subst (λ (y : Argument). T (among (form (program-of c) (arg-of (table-of c) y)) others)) e m)
-  where
-    go : (l : Letter) → T (among (letter-code (letter-of l)) others) → OtherLetter l
-    go A h = h
-    go B h = tt
-    go C h = h
-    go D h = h
-    go E h = tt
-    go I h = h
-    go N h = tt
-    go P h = h
-    go Q h = h
-    go T-letter h = tt
-    go Y h = h
-    go Z h = h
-
 holdable : {c p e n : List ℕ} {op : ℕ} {x y z : Argument} {given : ℕ} → Operating c p e n op x y z → 32768 ≤ given → Listed c others y → Holdable c p e n given y
 holdable {c} {y = y} w h m =
     let g = w .read .second in
-    record { long = long w; stands = w .stands; room = h; good = subst (λ (u : Arg). GoodArgument c u y) (sym (g .is)) g; form = other-letter c m }
+    record { long = long w; stands = w .stands; room = h; good = subst (λ (u : Arg). GoodArgument c u y) (sym (g .is)) g; form = form-letter c others (listed-letter OtherLetter others tt tt tt tt) m }
 
 -- ---- the forms of RW
 

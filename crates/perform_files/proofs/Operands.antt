@@ -1,5 +1,5 @@
 -- From the arguments of the instructions of files to what their functions ask.
-use mathlib.Core.Path.{_≡_, subst}
+use mathlib.Core.Path.{_≡_}
 use mathlib.Core.Bool.{Bool, true, false, not, _||_}
 use mathlib.Core.List.{List, [], _∷_}
 use Prim.Native.Nat.{ℕ, _<_}
@@ -8,44 +8,19 @@ use lib.Dec.{T, eqb, eqb→eq}
 use Rattle.lists.specs.Lists.{among}
 use Rattle.lists.specs.Quoted.{bytes}
 use Rattle.lists.specs.TableLaws.{Missed, missed, below-unless}
-use Rattle.language.specs.Letters.{letter-code}
 use Rattle.language.specs.Limits as limit
 use Rattle.language.specs.Program.{Arg}
-use Rattle.layout.specs.Table.{program-of}
 use Rattle.machine.specs.WellFormed.{form}
-use Rattle.packed.specs.Packed.{table-of}
 use Rattle.decoding.specs.Operands.{Listed}
-use Rattle.instructions.specs.Operands.{target}
-use Rattle.table.specs.Denote.{letter-of, arg-of}
+use Rattle.decoding.specs.OperandLaws.{form-letter}
 use Rattle.table.specs.Good.{GoodArgument}
-use Rattle.table.specs.declared.Letter.{Letter}
-use Rattle.table.specs.declared.Letter.the-variants.{A, B, C, D, E, I, N, P, Q, T as T-letter, Y, Z}
 use Rattle.table.specs.declared.Argument.{Argument}
-use Rattle.table.specs.declared.Argument.the-variants.{Indexed}
 use Rattle.copying.specs.Copies.{RecordsRemovable, RecordsSkippable, RecordsMovable}
-use Rattle.record_tests.specs.RecordPrepares.{RecordLetter}
+use Rattle.table.specs.LetterLaws.{listed-letter}
+use Rattle.tests.specs.Prepares.{OtherLetter}
 use Rattle.performing.specs.Operating.{Carrying}
 use Rattle.performing.specs.CarryingLaws.{good-itself, table-long}
 use Rattle.perform_files.specs.Filing.{file-operators}
-
--- ---- tests of records
-
-pub record-letter : (c : List ℕ) {a : Argument} → Listed c (bytes "-nNtBTE") a → (l : Letter) (k : ℕ) → a ≡ Indexed l k → RecordLetter l
-record-letter c {a} m l k e = go l (subst (λ (y : Argument). T (among (form (program-of c) (arg-of (table-of c) y)) (bytes "-nNtBTE"))) e m)
-  where
-    go : (l : Letter) → T (among (letter-code (letter-of l)) (bytes "-nNtBTE")) → RecordLetter l
-    go A h = h
-    go B h = tt
-    go C h = h
-    go D h = h
-    go E h = tt
-    go I h = h
-    go N h = tt
-    go P h = h
-    go Q h = h
-    go T-letter h = tt
-    go Y h = h
-    go Z h = h
 
 -- ---- the last arm of the match on operators
 
@@ -68,7 +43,7 @@ module _ {c p e n : List ℕ} {op : ℕ} {x y z : Argument} {scratch hold given 
     pub removable : {i : ℕ} → i < limit.files → RecordsRemovable c p e n given i t
     removable h =
         record {
-          test = record { long = table-long w; stands = w .ready .stands; room = w .ready .values; good = good-itself g; form = record-letter c m };
+          test = record { long = table-long w; stands = w .ready .stands; room = w .ready .values; good = good-itself g; form = form-letter c (bytes "-nNtBTE") (listed-letter OtherLetter (bytes "-nNtBTE") tt tt tt tt) m };
           source = h;
         }
 

@@ -1,8 +1,8 @@
 -- From the arguments of a move to its operands, and from what the families promise to its meaning.
-use mathlib.Core.Path.{_≡_, refl, sym, ap, _∙_, subst}
+use mathlib.Core.Path.{_≡_, refl, sym, ap, subst}
 use mathlib.Core.Bool.{Bool, true, false, _&&_, _||_}
 use mathlib.Core.List.{List, [], _∷_}
-use Prim.Native.Nat.{ℕ, zero, suc, _-_, _≤_, _<_}
+use Prim.Native.Nat.{ℕ, zero, suc, _≤_, _<_}
 use native.Mathlib.Omega.{arith}
 use lib.Dec.{T, eqb, leb, eqb→eq, leb→le}
 use lib.ListN.{length, getD}
@@ -12,12 +12,12 @@ use Rattle.lists.specs.Lists.{all}
 use Rattle.lists.specs.ListLaws.{T-left, T-right}
 use Rattle.lists.specs.Quoted.{bytes}
 use Rattle.characters.specs.Characters.{known}
-use Rattle.language.specs.Letters as letters
+use Rattle.language.specs.Instructions.{operation, operator-of}
 use Rattle.language.specs.Letters.Letter.{A, I, Q}
 use Rattle.language.specs.Limits as limit
 use Rattle.language.specs.Program.{Arg}
 use Rattle.language.specs.Program.Arg.{nothing, switch}
-use Rattle.language.specs.Program.Op.{PRZESLIJ, CZYTAJ, PISZ, USUN, ZBIJ, ROZBIJ, SZUKAJ}
+use Rattle.language.specs.Program.Op.{PRZESLIJ, CZYTAJ, PISZ, USUN, SZUKAJ}
 use Rattle.language.specs.Values.{Inputs}
 use Rattle.layout.specs.Table.{program-of}
 use Rattle.machine.specs.Effects.{row}
@@ -25,25 +25,25 @@ use Rattle.machine.specs.WellFormed.{good-inputs, overrun, store-faults}
 use Rattle.machine.specs.WellFormedLaws.{open-state, open-store}
 use Rattle.packed.specs.Packed.{table-of}
 use Rattle.decoding.specs.Operands.{Named, IsSource, IsTarget, IsIndex, IsVariable, Listed, Shaped, SwitchOf}
-use Rattle.decoding.specs.Operands as operands
-use Rattle.decoding.specs.OperandLaws.{named, switched-by-name, no-argument, test-letter, narrowed, indexed-is, indexed-below, shape}
+use Rattle.decoding.specs.OperandLaws.{named, switched-by-name, no-argument, form-letter, narrowed, indexed-is, indexed-below, shape}
 use Rattle.decoding.specs.declared.Source.{Source}
 use Rattle.decoding.specs.declared.Target.{Target}
 use Rattle.decoding.specs.declared.Variable.{Variable}
 use Rattle.decoding.specs.declared.Variable.the-variants.{Expression, Input, Output, File}
 use Rattle.decoding.proofs.Variable.{enum as of-variables}
 use Rattle.instructions.specs.Does.{DoesIn, DoesFor}
-use Rattle.moves.specs.Moves.{Movable, Removable, target}
+use Rattle.instructions.specs.Operands.{target}
+use Rattle.moves.specs.Moves.{Movable, Removable}
 use Rattle.joining.specs.Joining.{WordsJoinable}
 use Rattle.readings.specs.Readings.{input-of, Unread, InputPassable, InputReadable, DoesReading, DoesPassing}
-use Rattle.splitting.specs.Splitting.{WordSplittable}
 use Rattle.switches.specs.Switches.{Looks}
 use Rattle.state.specs.Working.{state-at, nth, reading}
 use Rattle.table.specs.Denote.{arg-of}
 use Rattle.table.specs.Good.{GoodArgument}
 use Rattle.table.specs.declared.Argument.{Argument}
 use Rattle.table.specs.declared.Argument.the-variants.{Switch}
-use Rattle.tests.specs.Prepares.{TestReadable}
+use Rattle.table.specs.LetterLaws.{listed-letter}
+use Rattle.tests.specs.Prepares.{TestLetter, TestReadable}
 use Rattle.performing.specs.Stepping.{inputs}
 use Rattle.performing.specs.Performing.{Performing, Performs}
 use Rattle.performing.specs.Operating.{Carrying, PerformsFor}
@@ -55,15 +55,6 @@ use Rattle.perform_moves.specs.Moving.{Paired, Dropping, Seeking, Moving
 abbrev tests : List ℕ
 tests = bytes "-nNctBT"
 
-same-target : (reverses at-end : Bool) → operands.target reverses at-end ≡ target reverses at-end
-same-target true true = refl
-same-target true false = refl
-same-target false true = refl
-same-target false false = refl
-
-target-is : {a : Argument} {t : Target} → IsTarget a t → (c : List ℕ) → arg-of c a ≡ nth (target (t .reverses) (t .«at_end»)) (t .j)
-target-is {t = t} h c = h .is c ∙ ap (λ (l : letters.Letter). nth l (t .j)) (same-target (t .reverses) (t .«at_end»))
-
 module _ {c p e n : List ℕ} {op : ℕ} {x y z : Argument} {scratch hold given : ℕ} (w : Carrying c p e n op x y z scratch hold given) where
   test-of : {v : Arg} {a : Argument} → GoodArgument c v a → Listed c tests a → TestReadable c p e n given a
   test-of {a = a} g m =
@@ -72,7 +63,7 @@ module _ {c p e n : List ℕ} {op : ℕ} {x y z : Argument} {scratch hold given 
         stands = w .operating .stands;
         room = w .ready .values;
         good = subst (λ (u : Arg). GoodArgument c u a) (sym (g .is)) g;
-        form = test-letter c m;
+        form = form-letter c tests (listed-letter TestLetter tests tt tt tt) m;
       }
 
 -- ---- PRZESLIJ
@@ -103,7 +94,7 @@ module _ {c p e n : List ℕ} {x y z : Argument} {scratch hold given : ℕ} (w :
         → PerformsFor c p e n told p′ e′ n′
     sent h i j =
         performs (w .operating) (nth (reading (s .removes)) (s .i)) (nth (target (t .reverses) (t .«at_end»)) (t .j)) (arg-of (table-of c) z)
-        (from .is (table-of c)) (target-is to (table-of c)) refl i j (h (program-of c) (inputs i j))
+        (from .is (table-of c)) (to .is (table-of c)) refl i j (h (program-of c) (inputs i j))
 
 -- ---- PISZ
 
@@ -137,51 +128,30 @@ module _ {c p e n : List ℕ} {x y z : Argument} {scratch hold given : ℕ} (w :
 
 -- ---- ZBIJ and ROZBIJ
 
-module _ {c p e n : List ℕ} {op : ℕ} {x y : Argument} {scratch hold given : ℕ} (w : Paired c p e n op x y scratch hold given) where
-  module _ (sh : Shaped c (bytes "AB") tests (bytes "-") x y (w .third)) where
-    pair-from : Named (bytes "AB") x
-    pair-from = named c (w .carrying .operating .read .first) (bytes "AB") tt (sh .first)
+module _ {c p e n : List ℕ} {op : ℕ} {x y : Argument} {scratch hold given : ℕ} (w : Paired c p e n op x y scratch hold given)
+    (q : operation (operator-of op) .forms ≡ ("AB", "-nNctBT", "-") ∷ []) where
+  pair-shape : Shaped c (bytes "AB") tests (bytes "-") x y (w .third)
+  pair-shape = shape (w .carrying .operating .read) ("AB", "-nNctBT", "-") q
 
-    pair-test : TestReadable c p e n given y
-    pair-test = test-of (w .carrying) (w .carrying .operating .read .second) (sh .second)
-
-module _ {c p e n : List ℕ} {x y : Argument} {scratch hold given : ℕ} (w : Paired c p e n 36 x y scratch hold given) where
-  join-shape : Shaped c (bytes "AB") tests (bytes "-") x y (w .third)
-  join-shape = shape (w .carrying .operating .read) ("AB", "-nNctBT", "-") refl
-
-  pub join-from : Named (bytes "AB") x
-  join-from = pair-from w join-shape
+  pub pair-from : Named (bytes "AB") x
+  pair-from = named c (w .carrying .operating .read .first) (bytes "AB") tt (pair-shape .first)
 
   module _ {s : Source} (from : IsSource x s) where
     pub joinable : WordsJoinable c p e n scratch hold given (s .i) y
     joinable =
-        record { spare = w .carrying .ready .spare; room = w .carrying .ready .room; test = pair-test w join-shape; source = from .below }
+        record {
+          spare = w .carrying .ready .spare;
+          room = w .carrying .ready .room;
+          test = test-of (w .carrying) (w .carrying .operating .read .second) (pair-shape .second);
+          source = from .below;
+        }
 
-    pub joined : {told : ℕ} {p′ e′ n′ : List ℕ}
-        → DoesFor p e n told p′ e′ n′ (λ g ins. row g ins (state-at p e n .store) (nth (reading (s .removes)) (s .i)) (arg-of (table-of c) y) nothing ZBIJ)
+    pub pair-done : {told : ℕ} {p′ e′ n′ : List ℕ}
+        → DoesFor p e n told p′ e′ n′ (λ g ins. row g ins (state-at p e n .store) (nth (reading (s .removes)) (s .i)) (arg-of (table-of c) y) nothing (operator-of op))
         → PerformsFor c p e n told p′ e′ n′
-    joined h a b =
+    pair-done h a b =
         performs (w .carrying .operating) (nth (reading (s .removes)) (s .i)) (arg-of (table-of c) y) nothing (from .is (table-of c)) refl
-        (no-argument c (w .third) (join-shape .third)) a b (h (program-of c) (inputs a b))
-
-module _ {c p e n : List ℕ} {x y : Argument} {scratch hold given : ℕ} (w : Paired c p e n 37 x y scratch hold given) where
-  split-shape : Shaped c (bytes "AB") tests (bytes "-") x y (w .third)
-  split-shape = shape (w .carrying .operating .read) ("AB", "-nNctBT", "-") refl
-
-  pub split-from : Named (bytes "AB") x
-  split-from = pair-from w split-shape
-
-  module _ {s : Source} (from : IsSource x s) where
-    pub splittable : WordSplittable c p e n scratch hold given (s .i) y
-    splittable =
-        record { spare = w .carrying .ready .spare; room = w .carrying .ready .room; test = pair-test w split-shape; source = from .below }
-
-    pub splitted : {told : ℕ} {p′ e′ n′ : List ℕ}
-        → DoesFor p e n told p′ e′ n′ (λ g ins. row g ins (state-at p e n .store) (nth (reading (s .removes)) (s .i)) (arg-of (table-of c) y) nothing ROZBIJ)
-        → PerformsFor c p e n told p′ e′ n′
-    splitted h a b =
-        performs (w .carrying .operating) (nth (reading (s .removes)) (s .i)) (arg-of (table-of c) y) nothing (from .is (table-of c)) refl
-        (no-argument c (w .third) (split-shape .third)) a b (h (program-of c) (inputs a b))
+        (no-argument c (w .third) (pair-shape .third)) a b (h (program-of c) (inputs a b))
 
 -- ---- SZUKAJ
 
@@ -268,7 +238,7 @@ module _ {c i j p e n : List ℕ} {x y z : Argument} {scratch hold given : ℕ} 
         → Performs c i j p e n told p′ e′ n′
     have-read h =
         performs (operating w) (nth I k) (nth (target (t .reverses) (t .«at_end»)) (t .j)) (arg-of (table-of c) z) (indexed-is I read-from from (table-of c))
-        (target-is to (table-of c)) refl i j (h (program-of c) (t .reverses))
+        (to .is (table-of c)) refl i j (h (program-of c) (t .reverses))
 
 -- ---- USUN
 

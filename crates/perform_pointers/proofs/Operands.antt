@@ -1,6 +1,5 @@
 -- From the arguments of the instructions of pointers, exchanges and constants to what their functions ask.
-use mathlib.Core.Path.{_≡_, refl, ap, _∙_, subst}
-use mathlib.Core.Bool.{Bool, true, false}
+use mathlib.Core.Path.{_≡_, refl, subst}
 use mathlib.Core.List.{List, [], _∷_, map}
 use mathlib.Core.Logic.{_⊎_, inl, inr}
 use Prim.Native.Nat.{ℕ, _<_}
@@ -9,20 +8,15 @@ use types.Run.{OneOf, miss}
 use Rattle.lists.specs.Lists.{all, among}
 use Rattle.lists.specs.Quoted.{bytes}
 use Rattle.characters.specs.Characters.{isLetter}
-use Rattle.language.specs.Letters as letters
 use Rattle.language.specs.Limits as limit
 use Rattle.language.specs.Program.Arg.{nothing, text}
 use Rattle.layout.specs.Table.{program-of}
 use Rattle.machine.specs.WellFormed.{form}
 use Rattle.packed.specs.Packed.{table-of}
-use Rattle.decoding.specs.Operands as decoded
-use Rattle.decoding.specs.Operands.{Lettered, Named, IsTarget, IsVariable, Listed, Shaped}
+use Rattle.decoding.specs.Operands.{Lettered, Named, IsVariable, Listed, Shaped}
 use Rattle.decoding.specs.OperandLaws.{named, no-argument, narrowed, shapes}
-use Rattle.decoding.specs.declared.Target.{Target}
 use Rattle.decoding.specs.declared.Variable.{Variable}
 use Rattle.decoding.specs.declared.Variable.the-variants.{Expression, Input, Output, File}
-use Rattle.instructions.specs.Operands.{target}
-use Rattle.state.specs.Working.{nth}
 use Rattle.state.specs.Blocks.{ExprsExchangeable}
 use Rattle.filing.specs.Files.{FilesExchangeable}
 use Rattle.table.specs.Denote.{arg-of, kind, kind-of-form}
@@ -78,16 +72,6 @@ text-left a w k = miss no-texts 5 tt (subst (λ (b : Argument). OneOf no-texts (
 -- no letter is of no form
 no-form : {a : Argument} → Named [] a → ⊥
 no-form w = w .listed
-
--- a letter that components are written by
-pub target-is : {a : Argument} {r : Target} → IsTarget a r → (t : List ℕ) → arg-of t a ≡ nth (target (r .reverses) (r .«at_end»)) (r .j)
-target-is {r = r} q t = q .is t ∙ ap (λ (l : letters.Letter). nth l (r .j)) (same (r .reverses) (r .«at_end»))
-  where
-    same : (a b : Bool) → decoded.target a b ≡ target a b
-    same true true = refl
-    same false true = refl
-    same true false = refl
-    same false false = refl
 
 module _ {c p e n : List ℕ} {op : ℕ} {x y z : Argument} {scratch hold given : ℕ} (w : Carrying c p e n op x y z scratch hold given) where
   -- ---- ZAMIEN

@@ -1,27 +1,21 @@
 -- From the arguments of the instructions of numbers and words to what their functions ask.
-use mathlib.Core.Path.{_≡_, refl, subst}
+use mathlib.Core.Path.{_≡_, refl}
 use mathlib.Core.Bool.{Bool, true, false, not, _||_}
 use mathlib.Core.List.{List, [], _∷_}
 use Prim.Native.Nat.{ℕ, _≤_, _<_}
 use native.Mathlib.Omega.{arith}
-use lib.Dec.{T, eqb, leb, leb→le}
-use Rattle.lists.specs.Lists.{all, among}
-use Rattle.lists.specs.ListLaws.{all-among}
+use lib.Dec.{T, leb, leb→le}
+use Rattle.lists.specs.Lists.{among}
 use Rattle.lists.specs.Quoted.{bytes}
 use Rattle.lists.specs.TableLaws.{Missed, upTo, below}
-use Rattle.characters.specs.Characters.{isLetter}
 use Rattle.language.specs.Instructions.{Forms, operation, operator-of}
-use Rattle.language.specs.Letters.{letter-code}
 use Rattle.language.specs.Limits as limit
-use Rattle.layout.specs.Table.{program-of}
 use Rattle.machine.specs.WellFormed.{form}
-use Rattle.packed.specs.Packed.{table-of}
 use Rattle.decoding.specs.Operands.{Listed}
-use Rattle.table.specs.Denote.{letter-of, arg-of}
-use Rattle.table.specs.declared.Letter.{Letter}
-use Rattle.table.specs.declared.Letter.the-variants.{A, B, C, D, E, I, N, P, Q, T as T-letter, Y, Z}
+use Rattle.decoding.specs.OperandLaws.{form-letter}
+use Rattle.table.specs.LetterLaws.{listed-letter}
+use Rattle.table.specs.declared.Letter.the-variants.{B}
 use Rattle.table.specs.declared.Argument.{Argument}
-use Rattle.table.specs.declared.Argument.the-variants.{Indexed}
 use Rattle.operands.specs.Operands.{PairReadable}
 use Rattle.arithmetic.specs.Arithmetic.{Computable}
 use Rattle.converting.specs.Converting.{Convertible}
@@ -30,25 +24,6 @@ use Rattle.performing.specs.Operating.{Carrying}
 use Rattle.performing.specs.OperatingLaws.{from}
 use Rattle.performing.specs.CarryingLaws.{good-itself, table-long}
 use Rattle.perform_values.specs.Valuing.{Between, value-operators, Valuing}
-
--- where B is the only letter listed
-b-only : (c fs : List ℕ) → T (all (λ n. not (isLetter n) || eqb n 66) fs) → {a : Argument} → Listed c fs a → (l : Letter) (k : ℕ) → a ≡ Indexed l k → l ≡ B
-b-only c fs h {a} m l k e =
-    go l (all-among (λ n. not (isLetter n) || eqb n 66) fs h (letter-code (letter-of l)) (subst (λ (y : Argument). T (among (form (program-of c) (arg-of (table-of c) y)) fs)) e m))
-  where
-    go : (l : Letter) → T (not (isLetter (letter-code (letter-of l))) || eqb (letter-code (letter-of l)) 66) → l ≡ B
-    go A h = absurd h
-    go B h = refl
-    go C h = absurd h
-    go D h = absurd h
-    go E h = absurd h
-    go I h = absurd h
-    go N h = absurd h
-    go P h = absurd h
-    go Q h = absurd h
-    go T-letter h = absurd h
-    go Y h = absurd h
-    go Z h = absurd h
 
 -- ---- the forms of several operators
 
@@ -77,7 +52,7 @@ module _ {c p e n : List ℕ} {op : ℕ} {x y z : Argument} {scratch hold given 
     pub pair : Listed c (bytes "nB") y → PairReadable p e n i y
     pair m =
         let g = w .operating .read .second in
-        record { operand = record { stands = w .ready .stands; index = g .index; form = b-only c (bytes "nB") tt m; number = g .number }; source = h }
+        record { operand = record { stands = w .ready .stands; index = g .index; form = form-letter c (bytes "nB") (listed-letter (λ l. l ≡ B) (bytes "nB") refl) m; number = g .number }; source = h }
 
     pub computable : Listed c (bytes "nB") y → Computable p e n scratch hold i y
     computable m = record { pair = pair m; spare = w .ready .spare; room = w .ready .room }
@@ -89,7 +64,7 @@ module _ {c p e n : List ℕ} {op : ℕ} {x y z : Argument} {scratch hold given 
     comparable m =
         let r = w .ready in
         record {
-          other = record { long = table-long w; stands = r .stands; room = r .values; good = good-itself (w .operating .read .second); form = b-only c (bytes "tB") tt m };
+          other = record { long = table-long w; stands = r .stands; room = r .values; good = good-itself (w .operating .read .second); form = form-letter c (bytes "tB") (listed-letter (λ l. l ≡ B) (bytes "tB") refl) m };
           room = r .room;
           source = h;
         }

@@ -1,6 +1,6 @@
 -- From an instruction carried out to a step.
 use mathlib.Core.Path.{_≡_, refl, sym, ap, _∙_, subst}
-use mathlib.Core.Bool.{Bool, true, false, cond, not}
+use mathlib.Core.Bool.{Bool, true, false, cond, not, _||_}
 use mathlib.Core.List.{List, [], _∷_, map}
 use Prim.Native.Nat.{ℕ, suc, _≤_, _<_}
 use native.Mathlib.Omega.{arith}
@@ -8,6 +8,7 @@ use lib.Dec.{T, leb, leb→le}
 use lib.ListN.{length}
 use Rattle.lists.specs.Lists.{all, headOr, ifAny}
 use Rattle.lists.specs.ListLaws.{T-left, T-right}
+use Rattle.lists.specs.TableLaws.{below}
 use Rattle.language.specs.Instructions.{operation, operator-of, is-end}
 use Rattle.language.specs.Limits as limit
 use Rattle.language.specs.Program.{Arg, Op, Program, instr-at}
@@ -162,50 +163,16 @@ module _ {c i j p e n : List ℕ} {op : ℕ} {x y z : Argument} {scratch hold gi
 
   pub has-next : suc (state-at p e n .next) < limit.instructions
   has-next =
-      has-following c (w .ready .table) (state-at p e n .next) next-in (w .read) (not-ends (operator-of op) h)
+      has-following c (w .ready .table) (state-at p e n .next) next-in (w .read) not-ends
     where
       next-in : state-at p e n .next < length (program-of c .code)
       next-in = open-state (program-of c) (inputs i j) (state-at p e n) (w .ready .good) .next
 
-      not-ends : (o : Op) → T (not (leads o)) → T (not (is-end (operation o .flow)))
-      not-ends PRZESLIJ k = tt
-      not-ends CZYTAJ k = tt
-      not-ends PISZ k = tt
-      not-ends KOPIUJ k = tt
-      not-ends WSTAW k = tt
-      not-ends POBIERZ k = tt
-      not-ends SCHOWAJ k = tt
-      not-ends USTAW k = tt
-      not-ends ZAMIEN k = tt
-      not-ends UMIESC k = tt
-      not-ends USUN k = tt
-      not-ends SKRESL k = tt
-      not-ends RW k = tt
-      not-ends WK k = tt
-      not-ends MN k = tt
-      not-ends PP k = tt
-      not-ends NS k = tt
-      not-ends RZ k = tt
-      not-ends SKOCZ k = absurd k
-      not-ends WYKONAJ k = absurd k
-      not-ends SKOMI k = absurd k
-      not-ends SKOPL k = absurd k
-      not-ends WYMI k = absurd k
-      not-ends WYPL k = absurd k
-      not-ends SKONA k = absurd k
-      not-ends SKOIN k = absurd k
-      not-ends WYNA k = absurd k
-      not-ends WYIN k = absurd k
-      not-ends WROC k = absurd k
-      not-ends DODAJ k = tt
-      not-ends ODEJMIJ k = tt
-      not-ends MNOZ k = tt
-      not-ends DZIEL k = tt
-      not-ends SLOWO k = tt
-      not-ends LICZBA k = tt
-      not-ends ZBIJ k = tt
-      not-ends ROZBIJ k = tt
-      not-ends SZUKAJ k = tt
-      not-ends OMIN k = tt
-      not-ends COFNIJ k = tt
-      not-ends STOP k = absurd k
+      unless : (a b : Bool) → T (a || b) → T (not a) → T b
+      unless true b k h = absurd h
+      unless false b k h = k
+
+      not-ends : T (not (is-end (operation (operator-of op) .flow)))
+      not-ends =
+          unless (leads (operator-of op)) (not (is-end (operation (operator-of op) .flow)))
+          (below (λ k. leads (operator-of k) || not (is-end (operation (operator-of k) .flow))) 42 tt op (omega (arith, w .read .instruction .to))) h

@@ -2,15 +2,14 @@
 use mathlib.Core.Path.{_≡_, refl, ap, _∙_}
 use mathlib.Core.Bool.{Bool, true, false}
 use mathlib.Core.List.{List}
-use Prim.Native.Nat.{ℕ, _≤_}
+use Prim.Native.Nat.{ℕ}
 use lib.ListN.{take}
-use Rattle.language.specs.Limits as limit
 use Rattle.language.specs.Letters.Letter.{Q}
 use Rattle.language.specs.Program.{Arg, Program}
 use Rattle.language.specs.Program.Op.{PISZ}
 use Rattle.language.specs.Values.{Component, Store, Inputs}
 use Rattle.machine.specs.Arguments.{ask, _&_, Until, test-asks, on-parts}
-use Rattle.machine.specs.Changes.{with-exprs, with-plus, with-outputs, printed, put-expr, minus-unless, past-by, past}
+use Rattle.machine.specs.Changes.{past-by, past}
 use Rattle.machine.specs.Effects.{Row, moved, row}
 use Rattle.machine.specs.Effects.Go.{on}
 use Rattle.matching.specs.Tests.{until}
@@ -30,12 +29,6 @@ unfolding row moved spelled-out all-taken-words past past-by
 row-pisz g ins s i c true j = refl
 row-pisz g ins s i c false j = refl
 
--- no address is given
-spelled-last : (u : Until Component) (removes : Bool) (i j : ℕ) (s : Store) → spelled-out u removes i j s .last ≡ s .last
-unfolding spelled-out minus-unless with-plus printed with-outputs put-expr with-exprs past past-by
-spelled-last u true i j s = refl
-spelled-last u false i j s = refl
-
 module _ {p e n : List ℕ} (h : Stands p e n) (i : ℕ) (c : Arg) {x : List ℕ} {r : Prepared} (w : Prepares (state-at p e n .store) c x r) (removes : Bool) (j : ℕ) where
   abbrev s : Store
   s = state-at p e n .store
@@ -43,14 +36,11 @@ module _ {p e n : List ℕ} (h : Stands p e n) (i : ℕ) (c : Arg) {x : List ℕ
   abbrev out : Program → Inputs → Row
   out g ins = row g ins s (nth (reading removes) i) (nth Q j) c PISZ
 
-  last-most : (u : Until Component) → spelled-out u removes i j s .last ≤ limit.addresses
-  last-most u = rw (spelled-last u removes i j s) (h .fine .last-most)
-
   pub pisz-stop : (r .stop ≡ 0 → ⊥) → DoesFor p e n (r .stop) p e n out
   pisz-stop z g ins =
       let u = on-parts ins s c in
       rw (row-pisz g ins s i c removes j)
-      (words-stop h c w ins (spelled-out u removes i j s) (last-most u) (all-taken-words u i s)
+      (words-stop h c w ins (spelled-out u removes i j s) (all-taken-words u i s)
       (λ q. ap (λ (v : Until Component). all-taken-words v i s) (w .negative q ins) ∙ none-words i s) z)
 
   pub pisz-tried : r .stop ≡ 0 → {k : ℕ} {p′ e′ n′ : List ℕ}
@@ -58,4 +48,4 @@ module _ {p e n : List ℕ} (h : Stands p e n) (i : ℕ) (c : Arg) {x : List ℕ
       → DoesFor p e n k p′ e′ n′ out
   pisz-tried z k g ins =
       let u = until (r .test) (take (r .len) x) in
-      rw (row-pisz g ins s i c removes j, w .parts z ins) (words-tried h c w ins (spelled-out u removes i j s) (last-most u) (all-taken-words u i s) z k)
+      rw (row-pisz g ins s i c removes j, w .parts z ins) (words-tried h c w ins (spelled-out u removes i j s) (all-taken-words u i s) z k)

@@ -2,17 +2,16 @@
 use mathlib.Core.Path.{_≡_, refl, sym, ap, subst}
 use mathlib.Core.Bool.{Bool, true, false}
 use mathlib.Core.List.{List, [], _∷_, reverse}
-use Prim.Native.Nat.{ℕ, zero, suc, _≤_, _<_}
+use Prim.Native.Nat.{ℕ, zero, suc, _<_}
 use native.Mathlib.Omega.{arith}
 use lib.ListN.{take}
-use Rattle.language.specs.Limits as limit
 use Rattle.language.specs.Letters.Letter.{I}
 use Rattle.language.specs.Program.{Arg, Program}
 use Rattle.language.specs.Program.Arg.{nothing}
 use Rattle.language.specs.Program.Op.{CZYTAJ, USUN}
 use Rattle.language.specs.Values.{Store, Inputs}
 use Rattle.machine.specs.Arguments.{at, unread, Until, taken, test-asks, on-chars}
-use Rattle.machine.specs.Changes.{with-exprs, with-plus, with-places, put-expr, minus-unless, placed, into, past-by, past}
+use Rattle.machine.specs.Changes.{put-expr, minus-unless, placed, into, past}
 use Rattle.machine.specs.Effects.{Row, moved, row}
 use Rattle.machine.specs.Effects.Go.{on}
 use Rattle.layout.specs.Components.{components-in}
@@ -22,7 +21,7 @@ use Rattle.instructions.specs.Does.{Tried}
 use Rattle.tests.specs.Prepares.{Prepares}
 use Rattle.tests.specs.declared.Prepared.{Prepared}
 use Rattle.tests.proofs.Asked.{test-stop, test-tried}
-use Rattle.moves.specs.Moves.{target}
+use Rattle.instructions.specs.Operands.{target}
 use Rattle.moves.proofs.Rows.{done-right}
 use Rattle.joining.specs.Joining.{word-if}
 use Rattle.readings.specs.Readings.{input-of, read-up, passed, DoesReading, DoesPassing, Unread}
@@ -54,15 +53,6 @@ module _ (g : Program) (ins : Inputs) (s : Store) (i : ℕ) (c : Arg) where
   row-usun : row g ins s (nth I i) c nothing USUN ≡ (test-asks ins s c, passed (on-chars ins s c) (at [] ins (nth I i)) i s, on)
   unfolding row moved passed
   row-usun = refl
-
--- no address is given
-read-last : (u : Until ℕ) (input : List ℕ) (i : ℕ) (at-end : Bool) (j : ℕ) (s : Store) → read-up u input i at-end j s .last ≡ s .last
-unfolding read-up minus-unless with-plus into put-expr with-exprs past past-by with-places
-read-last u input i at-end j s = refl
-
-passed-last : (u : Until ℕ) (input : List ℕ) (i : ℕ) (s : Store) → passed u input i s .last ≡ s .last
-unfolding passed minus-unless with-plus past past-by with-places
-passed-last u input i s = refl
 
 -- ---- the input of an index
 
@@ -96,18 +86,15 @@ module _ {p e n : List ℕ} (h : Stands p e n) (a b : List ℕ) (i : ℕ) (c : A
     abbrev by : Program → Bool → Row
     by g reverses = row g ins s (nth I i) (nth (target reverses at-end) j) c CZYTAJ
 
-    read-most : (v : Until ℕ) (y : List ℕ) → read-up v y i at-end j s .last ≤ limit.addresses
-    read-most v y = rw (read-last v y i at-end j s) (h .fine .last-most)
-
     pub czytaj-stop : (r .stop ≡ 0 → ⊥) → DoesReading p e n (r .stop) p e n by
     czytaj-stop z g reverses =
         let t = read-up (on-chars ins s c) (input-of a b i) i at-end j s in
-        rw (row-czytaj g ins s i c reverses at-end j) (test-stop h c w ins t (read-most (on-chars ins s c) (input-of a b i)) z)
+        rw (row-czytaj g ins s i c reverses at-end j) (test-stop h c w ins t z)
 
     czytaj-tried : r .stop ≡ 0 → {k : ℕ} {p′ e′ n′ : List ℕ} → Tried p e n k p′ e′ n′ true (read-up u (input-of a b i) i at-end j s) → DoesReading p e n k p′ e′ n′ by
     czytaj-tried z k g reverses =
         rw (row-czytaj g ins s i c reverses at-end j, w .chars z ins)
-        (test-tried h c w ins (read-up u (input-of a b i) i at-end j s) (read-most u (input-of a b i)) z k)
+        (test-tried h c w ins (read-up u (input-of a b i) i at-end j s) z k)
 
     pub czytaj-first : r .stop ≡ 0 → i ≡ 0 → {k : ℕ} {p′ e′ n′ : List ℕ} → Tried p e n k p′ e′ n′ true (read-up u a i at-end j s) → DoesReading p e n k p′ e′ n′ by
     czytaj-first z q {k} {p′} {e′} {n′} y = czytaj-tried z (subst (λ (o : List ℕ). Tried p e n k p′ e′ n′ true (read-up u o i at-end j s)) (sym (first-is a b i q)) y)
@@ -119,18 +106,15 @@ module _ {p e n : List ℕ} (h : Stands p e n) (a b : List ℕ) (i : ℕ) (c : A
   abbrev gone : Program → Row
   gone g = row g ins s (nth I i) c nothing USUN
 
-  passed-most : (v : Until ℕ) (y : List ℕ) → passed v y i s .last ≤ limit.addresses
-  passed-most v y = rw (passed-last v y i s) (h .fine .last-most)
-
   pub usun-stop : (r .stop ≡ 0 → ⊥) → DoesPassing p e n (r .stop) p e n gone
   usun-stop z g =
       let t = passed (on-chars ins s c) (input-of a b i) i s in
-      rw (row-usun g ins s i c) (test-stop h c w ins t (passed-most (on-chars ins s c) (input-of a b i)) z)
+      rw (row-usun g ins s i c) (test-stop h c w ins t z)
 
   usun-done : r .stop ≡ 0 → {p′ e′ n′ : List ℕ} → HoldsState p′ e′ n′ (on-store (passed u (input-of a b i) i) (state-at p e n)) → DoesPassing p e n 0 p′ e′ n′ gone
   usun-done z k g =
       rw (row-usun g ins s i c, w .chars z ins)
-      (test-tried h c w ins (passed u (input-of a b i) i s) (passed-most u (input-of a b i)) z (done-right h (passed u (input-of a b i) i) refl k))
+      (test-tried h c w ins (passed u (input-of a b i) i s) z (done-right h (passed u (input-of a b i) i) refl k))
 
   pub usun-first : r .stop ≡ 0 → i ≡ 0 → {p′ e′ n′ : List ℕ} → HoldsState p′ e′ n′ (on-store (passed u a i) (state-at p e n)) → DoesPassing p e n 0 p′ e′ n′ gone
   usun-first z q {p′} {e′} {n′} y = usun-done z (subst (λ (o : List ℕ). HoldsState p′ e′ n′ (on-store (passed u o i) (state-at p e n))) (sym (first-is a b i q)) y)

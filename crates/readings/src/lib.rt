@@ -12,7 +12,7 @@ ghost use Rattle.packed.specs.Packed.{table-of};
 ghost use Rattle.state.specs.Working.{state-at, HoldsState, on-store, nth};
 ghost use Rattle.table.specs.Denote.{arg-of};
 ghost use Rattle.instructions.specs.Does.{Tried};
-ghost use Rattle.moves.specs.Moves.{target};
+ghost use Rattle.instructions.specs.Operands.{target};
 ghost use Rattle.readings.specs.Readings.{read-up, passed, DoesReading, DoesPassing, CharsTakeable, Passable, WordReadable, InputPassable, InputReadable};
 
 // How many of the characters of `s` a test takes; what `Among` compares with are the first characters of the words in `given`.

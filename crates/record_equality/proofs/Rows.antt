@@ -2,10 +2,9 @@
 use mathlib.Core.Path.{_≡_, refl, sym, ap, _∙_}
 use mathlib.Core.Bool.{Bool, true, false, cond}
 use mathlib.Core.List.{List}
-use Prim.Native.Nat.{ℕ, _≤_}
+use Prim.Native.Nat.{ℕ}
 use lib.ListN.{length, take}
 use Rattle.lists.specs.Lists.{any, filled, sameList}
-use Rattle.language.specs.Limits as limit
 use Rattle.language.specs.Letters.Letter.{P}
 use Rattle.language.specs.Program.{Arg, Program}
 use Rattle.language.specs.Program.Arg.{nothing}
@@ -32,7 +31,7 @@ use Rattle.comparands.specs.declared.Held.{Held}
 use Rattle.equality.specs.Equality.{test-of, OtherArgument, Unlike}
 use Rattle.equality.proofs.Meeting.{met}
 use Rattle.equality.proofs.Questions.{equal-by, kinds-alike, numeric, related-none, related-stop, related-unlike, related-done}
-use Rattle.equality.proofs.Anys.{kept-or-minus, minus-last}
+use Rattle.operands.proofs.Signs.{kept-or-minus}
 use Rattle.record_equality.specs.RecordEquality.{NextLent, Meets}
 use Rattle.record_equality.proofs.Wholes.{all-offered}
 
@@ -92,22 +91,19 @@ module _ {p e n : List ℕ} (h : Stands p e n) (i : ℕ) (c : List ℕ) (a : Arg
   abbrev t : Program → Inputs → Store
   t f ins = minus-unless (holds f ins s i b) s
 
-  last-most : (f : Program) (ins : Inputs) → t f ins .last ≤ limit.addresses
-  last-most f ins = rw (minus-last (holds f ins s i b) s) (h .fine .last-most)
-
   front : take 1 (next-parts (file-of s (nth P i))) ≡ take 1 (components-in x)
   front = ap (take 1) (sym (l .is))
 
   pub rz-none : length x ≡ 0 → does 52 n
-  rz-none z f ins = rw (row-rz f ins s i b) (related-none h c a o (l .whole) front ins (t f ins) (last-most f ins) z)
+  rz-none z f ins = rw (row-rz f ins s i b) (related-none h c a o (l .whole) front ins (t f ins) z)
 
   module _ (z : length x ≡ 0 → ⊥) where
     pub rz-stop : (r .stop ≡ 0 → ⊥) → does (r .stop) n
-    rz-stop y f ins = rw (row-rz f ins s i b) (related-stop h c a o (l .whole) front ins (t f ins) z (last-most f ins) y)
+    rz-stop y f ins = rw (row-rz f ins s i b) (related-stop h c a o (l .whole) front ins (t f ins) z y)
 
     module _ (y : r .stop ≡ 0) {u : Bool} (w : Unlike x (take (r .len) g) a u) where
       pub rz-unlike : u ≡ true → does 53 n
-      rz-unlike v f ins = rw (row-rz f ins s i b) (related-unlike h c a o (l .whole) front ins (t f ins) z y (last-most f ins) w v)
+      rz-unlike v f ins = rw (row-rz f ins s i b) (related-unlike h c a o (l .whole) front ins (t f ins) z y w v)
 
       -- what is told of the bytes is what the row asks
       holds-is : OtherArgument a → (f : Program) (ins : Inputs) {m : Bool} → Meets x (take (r .len) g) a m → m ≡ holds f ins s i b

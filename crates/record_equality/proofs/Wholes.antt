@@ -10,10 +10,12 @@ use Rattle.language.specs.Values.{Store, Inputs}
 use Rattle.machine.specs.Arguments.{use-by, expr, side, is-whole}
 use Rattle.table.specs.Denote.{letter-of, arg-of}
 use Rattle.table.specs.declared.Letter.{Letter}
-use Rattle.table.specs.declared.Letter.the-variants.{A, B, C, D, E, I, N, P, Q, T, Y, Z}
+use Rattle.lists.specs.Quoted.{bytes}
+use Rattle.table.specs.LetterLaws.{listed-letter}
+use Rattle.table.proofs.Letters.{tag as letter-tag}
 use Rattle.table.specs.declared.Argument.{Argument}
 use Rattle.table.specs.declared.Argument.the-variants as argument
-use Rattle.comparands.specs.Offers.{OtherLetter}
+use Rattle.tests.specs.Prepares.{OtherLetter}
 use Rattle.equality.specs.Equality.{OtherArgument}
 use Rattle.equality.proofs.Meeting.{false-true}
 
@@ -21,22 +23,10 @@ use Rattle.equality.proofs.Meeting.{false-true}
 abbrev letters : List ℕ
 letters = 0 ∷ 1 ∷ 2 ∷ 3 ∷ 5 ∷ 6 ∷ 7 ∷ 8 ∷ 9 ∷ 10 ∷ 11 ∷ []
 
-abbrev letter-tag : Letter → ℕ
-letter-tag l = denote.Enum.Declared.tagOf (denote.Enum.Declared.declared Rattle.table.proofs.Letter.enum) l
-
 pub letter-left : (l : Letter) → OtherLetter l → OneOf letters (letter-tag l) → false ≡ is-whole (use-of (letter-of l) .reading)
-letter-left A h k = absurd h
-letter-left B h k = refl
-letter-left C h k = absurd h
-letter-left D h k = absurd h
-letter-left E h k = absurd (miss letters 4 tt k)
-letter-left I h k = absurd h
-letter-left N h k = refl
-letter-left P h k = absurd h
-letter-left Q h k = absurd h
-letter-left T h k = refl
-letter-left Y h k = absurd h
-letter-left Z h k = absurd h
+letter-left =
+    listed-letter (λ l. OneOf letters (letter-tag l) → false ≡ is-whole (use-of (letter-of l) .reading)) (bytes "BENT")
+    (λ k. refl) (λ k. absurd (miss letters 4 tt k)) (λ k. refl) (λ k. refl)
 
 -- the arguments left by those with a letter
 abbrev others : List ℕ
@@ -57,18 +47,9 @@ argument-left (argument.Number v) k c = refl
 -- what it offers then is all of the expression
 letter-all : (l : Letter) (n : ℕ) (ins : Inputs) (s : Store) → OtherLetter l → is-whole (use-of (letter-of l) .reading) ≡ true
     → side ins s (letter (letter-of l) n) ≡ expr s (letter (letter-of l) n)
-letter-all A n ins s h w = absurd h
-letter-all B n ins s h w = absurd (false-true w)
-letter-all C n ins s h w = absurd h
-letter-all D n ins s h w = absurd h
-letter-all E n ins s h w = refl
-letter-all I n ins s h w = absurd h
-letter-all N n ins s h w = absurd (false-true w)
-letter-all P n ins s h w = absurd h
-letter-all Q n ins s h w = absurd h
-letter-all T n ins s h w = absurd (false-true w)
-letter-all Y n ins s h w = absurd h
-letter-all Z n ins s h w = absurd h
+letter-all l n ins s =
+    listed-letter (λ m. is-whole (use-of (letter-of m) .reading) ≡ true → side ins s (letter (letter-of m) n) ≡ expr s (letter (letter-of m) n)) (bytes "BENT")
+    (λ w. absurd (false-true w)) (λ w. refl) (λ w. absurd (false-true w)) (λ w. absurd (false-true w)) l
 
 pub all-offered : (c : List ℕ) (a : Argument) (ins : Inputs) (s : Store) → OtherArgument a → is-whole (use-by (arg-of c a) .reading) ≡ true
     → side ins s (arg-of c a) ≡ expr s (arg-of c a)

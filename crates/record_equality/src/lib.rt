@@ -12,7 +12,7 @@ ghost use Rattle.state.specs.Working.{state-at, nth};
 ghost use Rattle.table.specs.Denote.{letter-of, arg-of};
 ghost use Rattle.filing.specs.Files.{FileNamed};
 ghost use Rattle.instructions.specs.Does.{DoesFor};
-ghost use Rattle.comparands.specs.Offers.{OtherLetter};
+ghost use Rattle.tests.specs.Prepares.{OtherLetter};
 ghost use Rattle.equality.specs.Equality.{OtherArgument};
 ghost use Rattle.record_equality.specs.RecordEquality.{NextLent, Wholes, Meetable, Meets, RecordRelatable};
 

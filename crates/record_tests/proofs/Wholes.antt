@@ -13,6 +13,7 @@ use Rattle.language.specs.Letters.{use-of}
 use Rattle.language.specs.Program.{Arg}
 use Rattle.language.specs.Values.{Component, same}
 use Rattle.lists.specs.Lists.{sameList}
+use Rattle.lists.specs.Quoted.{bytes}
 use Rattle.machine.specs.Arguments.{use-by, is-whole, expr, up-to}
 use Rattle.layout.specs.Bounds.{Encoded}
 use Rattle.layout.specs.ComponentLaws.{components-of, whole-components}
@@ -23,13 +24,15 @@ use Rattle.records.proofs.Arguments.{on-records-first}
 use Rattle.state.specs.Blocks.{ExprLent}
 use Rattle.state.specs.Working.{state-at, nth}
 use Rattle.table.specs.Denote.{letter-of, arg-of}
+use Rattle.table.specs.LetterLaws.{listed-letter}
+use Rattle.table.proofs.Letters.{tag as letter-tag, left-letter}
 use Rattle.table.specs.declared.Letter.{Letter}
 use Rattle.table.specs.declared.Letter.the-variants.{A, B, C, D, E, I, N, P, Q, T, Y, Z}
 use Rattle.table.specs.declared.Argument.{Argument}
 use Rattle.table.specs.declared.Argument.the-variants.{Nothing, Indexed, Label, Switch, Class, Text, Number}
-use Rattle.tests.specs.Prepares.{TestLetter, ExprReadable, TestReadable, Prepares}
+use Rattle.tests.specs.Prepares.{TestLetter, OtherLetter, ExprReadable, TestReadable, Prepares}
 use Rattle.tests.proofs.Values.{copied-front}
-use Rattle.record_tests.specs.RecordPrepares.{RecordLetter, whole-letter, whole-index, RecordTestReadable, PreparesRecords}
+use Rattle.record_tests.specs.RecordPrepares.{whole-letter, whole-index, RecordTestReadable, PreparesRecords}
 use Rattle.record_tests.specs.declared.RecordsPrepared.{RecordsPrepared}
 
 -- ---- the index of E
@@ -37,22 +40,8 @@ use Rattle.record_tests.specs.declared.RecordsPrepared.{RecordsPrepared}
 abbrev letters-left : List ℕ
 letters-left = 0 ∷ 1 ∷ 2 ∷ 3 ∷ 5 ∷ 6 ∷ 7 ∷ 8 ∷ 9 ∷ 10 ∷ 11 ∷ []
 
-abbrev letter-tag : Letter → ℕ
-letter-tag l = denote.Enum.Declared.tagOf (denote.Enum.Declared.declared Rattle.table.proofs.Letter.enum) l
-
 pub letter-left : (l : Letter) (n : ℕ) → OneOf letters-left (letter-tag l) → 0 ≡ whole-letter l n
-letter-left A n k = refl
-letter-left B n k = refl
-letter-left C n k = refl
-letter-left D n k = refl
-letter-left E n k = absurd (miss letters-left 4 tt k)
-letter-left I n k = refl
-letter-left N n k = refl
-letter-left P n k = refl
-letter-left Q n k = refl
-letter-left T n k = refl
-letter-left Y n k = refl
-letter-left Z n k = refl
+letter-left l n k = left-letter (λ m. 0 ≡ whole-letter m n) letters-left refl refl refl refl refl refl refl refl refl refl refl l k
 
 abbrev arguments-left : List ℕ
 arguments-left = 0 ∷ 2 ∷ 3 ∷ 4 ∷ 5 ∷ 6 ∷ []
@@ -94,33 +83,12 @@ whole-is (Text n) z = absurd (z refl)
 whole-is (Number n) z = absurd (z refl)
 
 -- where it is 0, the letter is one of tests of components, and compares no whole record
-letter-parts : (l : Letter) (n : ℕ) → RecordLetter l → 0 < n → whole-letter l n ≡ 0 → TestLetter l
-letter-parts A n h p z = h
-letter-parts B n h p z = tt
-letter-parts C n h p z = h
-letter-parts D n h p z = h
-letter-parts E n h p z = absurd (omega (arith, p, z))
-letter-parts I n h p z = h
-letter-parts N n h p z = tt
-letter-parts P n h p z = h
-letter-parts Q n h p z = h
-letter-parts T n h p z = tt
-letter-parts Y n h p z = h
-letter-parts Z n h p z = h
+letter-parts : (l : Letter) (n : ℕ) → OtherLetter l → 0 < n → whole-letter l n ≡ 0 → TestLetter l
+letter-parts l n =
+    listed-letter (λ m. 0 < n → whole-letter m n ≡ 0 → TestLetter m) (bytes "BENT") (λ p z. tt) (λ p z. absurd (omega (arith, p, z))) (λ p z. tt) (λ p z. tt) l
 
 part-letter : (l : Letter) → TestLetter l → is-whole (use-of (letter-of l) .reading) ≡ false
-part-letter A h = absurd h
-part-letter B h = refl
-part-letter C h = absurd h
-part-letter D h = absurd h
-part-letter E h = absurd h
-part-letter I h = absurd h
-part-letter N h = refl
-part-letter P h = absurd h
-part-letter Q h = absurd h
-part-letter T h = refl
-part-letter Y h = absurd h
-part-letter Z h = absurd h
+part-letter = listed-letter (λ m. is-whole (use-of (letter-of m) .reading) ≡ false) (bytes "BNT") refl refl refl
 
 module _ {c p e n : List ℕ} {given : ℕ} {a : Argument} (h : RecordTestReadable c p e n given a) {k : ℕ} (q : k ≡ whole-index a) where
   -- E

@@ -3,36 +3,17 @@ use mathlib.Core.Path.{_≡_}
 use mathlib.Core.List.{List}
 use Prim.Native.Nat.{ℕ, _≤_}
 use lib.ListN.{length, take}
-use Rattle.language.specs.Limits as limit
 use Rattle.language.specs.Program.{Arg}
 use Rattle.language.specs.Values.{Store, Inputs}
 use Rattle.machine.specs.Arguments.{test-asks, on-records}
-use Rattle.packed.specs.Packed.{table-of}
 use Rattle.records.specs.Sequences.{until-records, FittingRecords}
-use Rattle.state.specs.Working.{Stands}
-use Rattle.table.specs.Denote.{arg-of}
-use Rattle.table.specs.Good.{GoodArgument}
 use Rattle.table.specs.declared.Letter.{Letter}
 use Rattle.table.specs.declared.Letter.the-variants.{A, B, C, D, E, I, N, P, Q, T, Y, Z}
 use Rattle.table.specs.declared.Argument.{Argument}
 use Rattle.table.specs.declared.Argument.the-variants.{Nothing, Indexed, Label, Switch, Class, Text, Number}
 use Rattle.instructions.specs.Does.{stop-of}
+use Rattle.tests.specs.Prepares.{OtherLetter, ArgumentGiven}
 use Rattle.record_tests.specs.declared.RecordsPrepared.{RecordsPrepared}
-
--- the letters of tests of records
-abbrev pub RecordLetter : Letter → Type 0
-RecordLetter A = ⊥
-RecordLetter B = Unit {0}
-RecordLetter C = ⊥
-RecordLetter D = ⊥
-RecordLetter E = Unit {0}
-RecordLetter I = ⊥
-RecordLetter N = Unit {0}
-RecordLetter P = ⊥
-RecordLetter Q = ⊥
-RecordLetter T = Unit {0}
-RecordLetter Y = ⊥
-RecordLetter Z = ⊥
 
 -- the index of E, 0 for all else
 abbrev pub whole-letter : Letter → ℕ → ℕ
@@ -58,13 +39,8 @@ whole-index (Class m) = 0
 whole-index (Text v) = 0
 whole-index (Number v) = 0
 
--- a is an argument of a well-formed table, and its letter, if it has one, is one of those
-pub record RecordTestReadable (c p e n : List ℕ) (given : ℕ) (a : Argument) : Type 0 where
-  pub long : limit.table ≤ length c
-  pub stands : Stands p e n
-  pub room : 32768 ≤ given
-  pub good : GoodArgument c (arg-of (table-of c) a) a
-  pub form : (l : Letter) (k : ℕ) → a ≡ Indexed l k → RecordLetter l
+abbrev pub RecordTestReadable : List ℕ → List ℕ → List ℕ → List ℕ → ℕ → Argument → Type 0
+RecordTestReadable = ArgumentGiven OtherLetter
 
 -- r is what the argument c of a test asks and means on records, with the bytes in front of g beside it
 pub record PreparesRecords (s : Store) (c : Arg) (g : List ℕ) (r : RecordsPrepared) : Type 0 where

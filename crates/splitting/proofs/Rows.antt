@@ -2,15 +2,14 @@
 use mathlib.Core.Path.{_≡_, refl, sym, _∙_}
 use mathlib.Core.Bool.{Bool, true, false}
 use mathlib.Core.List.{List}
-use Prim.Native.Nat.{ℕ, _≤_}
+use Prim.Native.Nat.{ℕ}
 use lib.ListN.{take}
-use Rattle.language.specs.Limits as limit
 use Rattle.language.specs.Program.{Arg, Program}
 use Rattle.language.specs.Program.Arg.{nothing}
 use Rattle.language.specs.Program.Op.{ROZBIJ}
 use Rattle.language.specs.Values.{Component, Store, Inputs}
-use Rattle.machine.specs.Arguments.{Asks, _&_, needs, Until, test-asks, on-chars}
-use Rattle.machine.specs.Changes.{with-exprs, with-plus, put-expr, minus-unless, placed, into, front, past-by, past, used-by, used}
+use Rattle.machine.specs.Arguments.{Asks, _&_, needs, test-asks, on-chars}
+use Rattle.machine.specs.Changes.{put-expr, placed, into, front, past-by, past, used-by, used}
 use Rattle.machine.specs.Effects.{Row, row}
 use Rattle.machine.specs.Effects.Go.{on}
 use Rattle.layout.specs.Components.{components-in}
@@ -29,12 +28,6 @@ unfolding row split-up front into placed put-expr used used-by past past-by
 row-rozbij g ins s i c true = refl
 row-rozbij g ins s i c false = refl
 
--- no address is given
-split-last : (u : Until ℕ) (removes : Bool) (i : ℕ) (s : Store) → split-up u removes i s .last ≡ s .last
-unfolding split-up minus-unless with-plus into put-expr with-exprs past past-by
-split-last u true i s = refl
-split-last u false i s = refl
-
 quiet-needs : (k : ℕ) (xs : List Component) → Quiet (needs k xs)
 quiet-needs k xs = record { is-50 = refl; is-55 = refl; is-56 = refl; is-57 = refl; is-58 = refl; is-59 = refl; is-60 = refl }
 
@@ -52,14 +45,11 @@ module _ {p e n : List ℕ} (h : Stands p e n) (removes : Bool) (i : ℕ) (c : A
   quiet : (ins : Inputs) → Quiet (asks ins)
   quiet ins = quiet-and (quiet-needs 0 (front-part s i)) (quiet-test ins s c)
 
-  last-most : (u : Until ℕ) → split-up u removes i s .last ≤ limit.addresses
-  last-most u = rw (split-last u removes i s) (h .fine .last-most)
-
   pub rozbij-stop : (m ≡ 0 → ⊥) → DoesFor p e n m p e n by
   rozbij-stop z g ins =
       let u = on-chars ins s c in
       rw (row-rozbij g ins s i c removes)
-      (quiet-stop h (asks ins) (split-up u removes i s) (quiet ins) (last-most u) (y .is (test-asks ins s c) (w .stop-is ins)) z)
+      (quiet-stop h (asks ins) (split-up u removes i s) (quiet ins) (y .is (test-asks ins s c) (w .stop-is ins)) z)
 
   pub rozbij-tried : m ≡ 0 → {k : ℕ} {p′ e′ n′ : List ℕ}
       → Tried p e n k p′ e′ n′ true (split-up (until-chars (r .test) (first-chars (components-in (take (r .len) x)))) removes i s) → DoesFor p e n k p′ e′ n′ by
@@ -67,4 +57,4 @@ module _ {p e n : List ℕ} (h : Stands p e n) (removes : Bool) (i : ℕ) (c : A
       let u = until-chars (r .test) (first-chars (components-in (take (r .len) x))) in
       let a = unstopped (asks ins) (sym (y .is (test-asks ins s c) (w .stop-is ins)) ∙ z) in
       rw (row-rozbij g ins s i c removes, w .chars (y .unstopped z) ins)
-      (quiet-tried h (split-up u removes i s) (asks ins) (quiet ins) (last-most u) (a .0) (a .1) (a .2) k)
+      (quiet-tried h (split-up u removes i s) (asks ins) (quiet ins) (a .0) (a .1) (a .2) k)

@@ -26,7 +26,8 @@ use Rattle.state.specs.Limited.{Limited}
 use Rattle.state.proofs.Fits.{fine-limited, fits-minus-unless, fits-into-ok}
 use Rattle.state.proofs.Freed.{limited-past, components-past, chars-past}
 use Rattle.state.proofs.Standing.{state-of, stands}
-use Rattle.moves.proofs.Taking.{parts-least, both}
+use Rattle.instructions.proofs.Written.{both}
+use Rattle.moves.proofs.Taking.{parts-least}
 use Rattle.joining.specs.Joining.{some}
 use Rattle.joining.proofs.Words.{written-is}
 use Rattle.splitting.specs.Splitting.{front-part, split-up, split-room, FirstWord, FewMore}

@@ -15,7 +15,7 @@ use Rattle.matching.specs.declared.Test.{Test}
 use Rattle.state.specs.Working.{state-at, Stands, nth, reading, writing}
 use Rattle.table.specs.declared.Argument.{Argument}
 use Rattle.instructions.specs.Does.{stop-of}
-use Rattle.tests.specs.Prepares.{TestReadable}
+use Rattle.joining.specs.Joining.{WordsJoinable}
 use Rattle.readings.specs.Readings.{CharsTakeable}
 
 -- the first component of expression i, if it has one
@@ -59,9 +59,6 @@ pub record Splittable (p e n : List ℕ) (scratch hold : ℕ) (given : List ℕ)
   pub source : i < limit.expressions
   pub first-word : FirstWord (expr (state-at p e n .store) (nth E i))
 
--- ROZBIJ of expression i with the test of argument a
-pub record WordSplittable (c p e n : List ℕ) (scratch hold given i : ℕ) (a : Argument) : Type 0 where
-  pub spare : 65536 ≤ scratch
-  pub room : 32768 ≤ hold
-  pub test : TestReadable c p e n given a
-  pub source : i < limit.expressions
+-- ROZBIJ of expression i with the test of argument a asks what ZBIJ does
+abbrev pub WordSplittable : List ℕ → List ℕ → List ℕ → List ℕ → ℕ → ℕ → ℕ → ℕ → Argument → Type 0
+WordSplittable = WordsJoinable

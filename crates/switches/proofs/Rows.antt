@@ -16,7 +16,7 @@ use Rattle.language.specs.Program.Arg.{nothing, switch}
 use Rattle.language.specs.Program.Op.{SKONA, SKOIN, WYNA, WYIN, SZUKAJ}
 use Rattle.language.specs.Values.{Component, Store, State, Inputs, chars, value, kind}
 use Rattle.machine.specs.Arguments.{first, none, ask, _&_, needs}
-use Rattle.machine.specs.Changes.{with-exprs, with-plus, put-expr, minus, past-by, used-by, used}
+use Rattle.machine.specs.Changes.{with-plus, minus, used}
 use Rattle.machine.specs.Effects.{Go, Row, relation, by-name, by-index, row}
 use Rattle.machine.specs.Effects.Go.{on, jump, call}
 use Rattle.machine.specs.Steps.{can-go}
@@ -165,13 +165,6 @@ with-inside false b c = refl
 quiet-needs : (xs : List Component) → Quiet (needs 0 xs)
 quiet-needs xs = record { is-50 = refl; is-55 = refl; is-56 = refl; is-57 = refl; is-58 = refl; is-59 = refl; is-60 = refl }
 
--- no address is given
-last-is : (m b : Bool) (i : ℕ) (s : Store) → cond m (used (nth (reading b) i) s) (with-plus false s) .last ≡ s .last
-unfolding used used-by past-by put-expr with-exprs with-plus
-last-is true true i s = refl
-last-is true false i s = refl
-last-is false b i s = refl
-
 module _ {c p e n : List ℕ} {i k : ℕ} (w : Looks c p e n i k) where
   abbrev here : State
   here = state-at p e n
@@ -216,7 +209,7 @@ module _ {c p e n : List ℕ} {i k : ℕ} (w : Looks c p e n i k) where
           → DoesIn p e n x p e n (λ ins. row (program-of c) ins s (nth (reading b) i) (switch k) nothing SZUKAJ)
       szukaj-stop q ins =
           let t = search-row c s k i b .1 in
-          rw (row-szukaj c s k i ins b) (quiet-stop (w .stands) (needs 0 (front s i)) t (quiet-needs (front s i)) (rw (last-is (is-met c s k i) b i s) (w .stands .fine .last-most)) q z)
+          rw (row-szukaj c s k i ins b) (quiet-stop (w .stands) (needs 0 (front s i)) t (quiet-needs (front s i)) q z)
 
     -- both are answered yes
     module _ (kd : ℕ) (q : x ≡ stop-of (needs kd (front s i))) (z : x ≡ 0) where

@@ -4,7 +4,7 @@ use mathlib.Core.Bool.{Bool, true, false, cond, _&&_, _||_}
 use mathlib.Core.List.{List, [], _∷_, map}
 use mathlib.Core.Logic.{_⊎_, inl, inr}
 use Prim.Native.Nat.{ℕ}
-use lib.Dec.{T, eqb}
+use lib.Dec.{T, eqb, eqb→eq}
 use borrow.Author.Tests.{eqb-true, eq-eqb}
 use Rattle.lists.specs.Lists.{all, any, among}
 use Rattle.lists.specs.ListLaws.{T-left, T-right, all-among}
@@ -17,8 +17,8 @@ use Rattle.machine.specs.WellFormed.{form, listed}
 use Rattle.layout.specs.ArgumentLaws.{T-or}
 use Rattle.table.specs.Denote.{letter-of, arg-of, kind, kind-of-form}
 use Rattle.table.specs.Good.{Formed}
+use Rattle.table.specs.LetterLaws.{every-letter}
 use Rattle.table.specs.declared.Letter.{Letter}
-use Rattle.table.specs.declared.Letter.the-variants.{A, B, C, D, E, I, N, P, Q, T as T-letter, Y, Z}
 use Rattle.table.specs.declared.Argument.{Argument}
 use Rattle.table.specs.declared.Argument.the-variants.{Nothing, Indexed, Label, Switch, Class, Text, Number}
 
@@ -59,18 +59,7 @@ module _ (p : Program) (i : Instr) where
 
 module _ (p : Program) (c : List ℕ) where
   letter-kind : (l : Letter) → kind-of-form (letter-code (letter-of l)) ≡ 1
-  letter-kind A = refl
-  letter-kind B = refl
-  letter-kind C = refl
-  letter-kind D = refl
-  letter-kind E = refl
-  letter-kind I = refl
-  letter-kind N = refl
-  letter-kind P = refl
-  letter-kind Q = refl
-  letter-kind T-letter = refl
-  letter-kind Y = refl
-  letter-kind Z = refl
+  letter-kind l = eqb→eq (kind-of-form (letter-code (letter-of l))) 1 (every-letter (λ m. eqb (kind-of-form (letter-code (letter-of m))) 1) tt l)
 
   switch-kind : (b : Bool) → kind-of-form (cond b 119 120) ≡ 3
   switch-kind true = refl

@@ -2,8 +2,7 @@
 use mathlib.Core.Path.{_≡_, refl, sym, _∙_}
 use mathlib.Core.Bool.{Bool, true, false, _&&_}
 use mathlib.Core.List.{List}
-use Prim.Native.Nat.{ℕ, _≤_}
-use Rattle.language.specs.Limits as limit
+use Prim.Native.Nat.{ℕ}
 use Rattle.language.specs.Letters.{use-of}
 use Rattle.language.specs.Program.{Arg}
 use Rattle.language.specs.Program.Arg.{nothing, letter, label, switch, class, text}
@@ -58,8 +57,7 @@ and-stop true false c d m z = refl
 and-stop true true false d m z = rw (m refl) refl
 and-stop true true true d m z = absurd (z refl)
 
-module _ {p e n : List ℕ} (h : Stands p e n) (c : Arg) {g : List ℕ} {r : Prepared} (w : Prepares (state-at p e n .store) c g r) (ins : Inputs) (t : Store)
-    (la : t .last ≤ limit.addresses) where
+module _ {p e n : List ℕ} (h : Stands p e n) (c : Arg) {g : List ℕ} {r : Prepared} (w : Prepares (state-at p e n .store) c g r) (ins : Inputs) (t : Store) where
   abbrev asks : Asks
   asks = test-asks ins (state-at p e n .store) c
 
@@ -67,20 +65,20 @@ module _ {p e n : List ℕ} (h : Stands p e n) (c : Arg) {g : List ℕ} {r : Pre
   quiet = quiet-test ins (state-at p e n .store) c
 
   pub test-stop : (r .stop ≡ 0 → ⊥) → Does p e n (r .stop) p e n (asks, t, on)
-  test-stop z = quiet-stop h asks t quiet la (w .stop-is ins) z
+  test-stop z = quiet-stop h asks t quiet (w .stop-is ins) z
 
   pub test-tried : r .stop ≡ 0 → {x : ℕ} {p′ e′ n′ : List ℕ} → Tried p e n x p′ e′ n′ true t → Does p e n x p′ e′ n′ (asks, t, on)
-  test-tried z k = let a = unstopped asks (sym (w .stop-is ins) ∙ z) in quiet-tried h t asks quiet la (a .0) (a .1) (a .2) k
+  test-tried z k = let a = unstopped asks (sym (w .stop-is ins) ∙ z) in quiet-tried h t asks quiet (a .0) (a .1) (a .2) k
 
   -- and with 53 asked of what is taken, which is nothing by a count that is refused
   module _ (words : Bool) where
     pub words-stop : (r .stop ≡ 54 → words ≡ true) → (r .stop ≡ 0 → ⊥) → Does p e n (r .stop) p e n (asks & ask 53 words, t, on)
     words-stop m z =
         let e = w .stop-is ins in
-        quiet-stop h (asks & ask 53 words) t (quiet-and quiet (quiet-words words)) la
+        quiet-stop h (asks & ask 53 words) t (quiet-and quiet (quiet-words words))
         (e ∙ and-stop (asks 52) (asks 53) (asks 54) words (λ y. m (e ∙ y)) (λ y. z (e ∙ y))) z
 
     pub words-tried : r .stop ≡ 0 → {x : ℕ} {p′ e′ n′ : List ℕ} → Tried p e n x p′ e′ n′ words t → Does p e n x p′ e′ n′ (asks & ask 53 words, t, on)
     words-tried z k =
         let a = unstopped asks (sym (w .stop-is ins) ∙ z) in
-        quiet-tried h t (asks & ask 53 words) (quiet-and quiet (quiet-words words)) la (rw (a .0) refl) (rw (a .1) refl) (rw (a .2) refl) k
+        quiet-tried h t (asks & ask 53 words) (quiet-and quiet (quiet-words words)) (rw (a .0) refl) (rw (a .1) refl) (rw (a .2) refl) k

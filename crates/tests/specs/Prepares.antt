@@ -2,9 +2,13 @@
 use mathlib.Core.Path.{_≡_}
 use mathlib.Core.List.{List}
 use Prim.Native.Nat.{ℕ, _≤_}
+use lib.Dec.{T}
 use lib.ListN.{length, take}
+use Rattle.lists.specs.Lists.{among}
+use Rattle.lists.specs.Quoted.{bytes}
 use Rattle.language.specs.Limits as limit
 use Rattle.language.specs.Letters as letters
+use Rattle.language.specs.Letters.{letter-code}
 use Rattle.language.specs.Program.{Arg}
 use Rattle.language.specs.Program.Arg.{text}
 use Rattle.language.specs.Values.{Store, Inputs}
@@ -14,10 +18,9 @@ use Rattle.layout.specs.Components.{components-in}
 use Rattle.packed.specs.Packed.{table-of}
 use Rattle.state.specs.Working.{Stands, nth}
 use Rattle.state.specs.Blocks.{ExprNamed}
-use Rattle.table.specs.Denote.{arg-of}
+use Rattle.table.specs.Denote.{letter-of, arg-of}
 use Rattle.table.specs.Good.{GoodIndex, GoodText, GoodArgument}
 use Rattle.table.specs.declared.Letter.{Letter}
-use Rattle.table.specs.declared.Letter.the-variants.{A, B, C, D, E, I, N, P, Q, T, Y, Z}
 use Rattle.table.specs.declared.Argument.{Argument}
 use Rattle.table.specs.declared.Argument.the-variants.{Indexed}
 use Rattle.matching.specs.Tests.{first-chars, until, until-chars, Fitting}
@@ -28,56 +31,41 @@ use Rattle.tests.specs.declared.Prepared.{Prepared}
 
 -- the letters of tests of components and characters
 abbrev pub TestLetter : Letter → Type 0
-TestLetter A = ⊥
-TestLetter B = Unit {0}
-TestLetter C = ⊥
-TestLetter D = ⊥
-TestLetter E = ⊥
-TestLetter I = ⊥
-TestLetter N = Unit {0}
-TestLetter P = ⊥
-TestLetter Q = ⊥
-TestLetter T = Unit {0}
-TestLetter Y = ⊥
-TestLetter Z = ⊥
+TestLetter l = T (among (letter-code (letter-of l)) (bytes "BNT"))
 
 -- those of tests of records and of relations' second arguments, where an expression is compared whole too
-abbrev pub ComparandLetter : Letter → Type 0
-ComparandLetter A = ⊥
-ComparandLetter B = Unit {0}
-ComparandLetter C = ⊥
-ComparandLetter D = ⊥
-ComparandLetter E = Unit {0}
-ComparandLetter I = ⊥
-ComparandLetter N = Unit {0}
-ComparandLetter P = ⊥
-ComparandLetter Q = ⊥
-ComparandLetter T = Unit {0}
-ComparandLetter Y = ⊥
-ComparandLetter Z = ⊥
+abbrev pub OtherLetter : Letter → Type 0
+OtherLetter l = T (among (letter-code (letter-of l)) (bytes "BENT"))
 
 pub record ExprReadable (p e n : List ℕ) (i given : ℕ) : Type 0 where
   pub named : ExprNamed p e n i
   pub room : 32768 ≤ given
 
-pub record LetterReadable (p e n : List ℕ) (l : Letter) (k given : ℕ) : Type 0 where
+-- l, one of the letters L, with its index
+pub record LetterGiven (L : Letter → Type 0) (p e n : List ℕ) (l : Letter) (k given : ℕ) : Type 0 where
   pub stands : Stands p e n
   pub index : GoodIndex l k
-  pub form : TestLetter l
+  pub form : L l
   pub room : 32768 ≤ given
+
+abbrev pub LetterReadable : List ℕ → List ℕ → List ℕ → Letter → ℕ → ℕ → Type 0
+LetterReadable = LetterGiven TestLetter
 
 pub record TextReadable (c : List ℕ) (v given : ℕ) : Type 0 where
   pub long : limit.table ≤ length c
   pub good : GoodText c v
   pub room : 32768 ≤ given
 
--- a is an argument of a well-formed table, and its letter, if it has one, is one of those
-pub record TestReadable (c p e n : List ℕ) (given : ℕ) (a : Argument) : Type 0 where
+-- a is an argument of a well-formed table, and its letter, if it has one, is one of the letters L
+pub record ArgumentGiven (L : Letter → Type 0) (c p e n : List ℕ) (given : ℕ) (a : Argument) : Type 0 where
   pub long : limit.table ≤ length c
   pub stands : Stands p e n
   pub room : 32768 ≤ given
   pub good : GoodArgument c (arg-of (table-of c) a) a
-  pub form : (l : Letter) (k : ℕ) → a ≡ Indexed l k → TestLetter l
+  pub form : (l : Letter) (k : ℕ) → a ≡ Indexed l k → L l
+
+abbrev pub TestReadable : List ℕ → List ℕ → List ℕ → List ℕ → ℕ → Argument → Type 0
+TestReadable = ArgumentGiven TestLetter
 
 -- ---- what is told
 

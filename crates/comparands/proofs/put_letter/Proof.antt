@@ -7,8 +7,11 @@ use Prim.Native.Nat.{ℕ}
 use types.Run.{OneOf, miss}
 use Rattle.state.specs.Working.{state-at}
 use Rattle.table.specs.declared.Letter.{Letter}
-use Rattle.table.specs.declared.Letter.the-variants.{A, B, C, D, E, I, N, P, Q, T, Y, Z}
-use Rattle.comparands.specs.Offers.{OtherLetter}
+use Rattle.lists.specs.Quoted.{bytes}
+use Rattle.table.specs.LetterLaws.{listed-letter}
+use Rattle.table.specs.declared.Letter.the-variants.{B}
+use Rattle.table.proofs.Letters.{tag}
+use Rattle.tests.specs.Prepares.{OtherLetter}
 use Rattle.comparands.proofs.Offering.{readable, letter-offered}
 use Rattle.comparands.proofs.put_letter.Statement.{statement}
 use Rattle.comparands.proofs.put_letter.Tie as tie
@@ -22,22 +25,10 @@ use Rattle.comparands.proofs.put_first.Reads as put-first-reads
 abbrev others : List ℕ
 others = 0 ∷ 1 ∷ 2 ∷ 3 ∷ 5 ∷ 7 ∷ 8 ∷ 10 ∷ 11 ∷ []
 
-abbrev tag : Letter → ℕ
-tag l = denote.Enum.Declared.tagOf (denote.Enum.Declared.declared Rattle.table.proofs.Letter.enum) l
-
 first-left : (l : Letter) → OtherLetter l → OneOf others (tag l) → l ≡ B
-first-left A h k = absurd h
-first-left B h k = refl
-first-left C h k = absurd h
-first-left D h k = absurd h
-first-left E h k = absurd (miss others 4 tt k)
-first-left I h k = absurd h
-first-left N h k = absurd (miss others 6 tt k)
-first-left P h k = absurd h
-first-left Q h k = absurd h
-first-left T h k = absurd (miss others 9 tt k)
-first-left Y h k = absurd h
-first-left Z h k = absurd h
+first-left =
+    listed-letter (λ l. OneOf others (tag l) → l ≡ B) (bytes "BENT")
+    (λ k. refl) (λ k. absurd (miss others 4 tt k)) (λ k. absurd (miss others 6 tt k)) (λ k. absurd (miss others 9 tt k))
 
 sub-i : tie.Need-sub-i
 sub-i c =

@@ -2,7 +2,7 @@
 use borrow.Author.Needs.{needs}
 use native.Mathlib.Omega.{arith}
 use lib.ListN.{length-take}
-use Rattle.instructions.proofs.Written.{denied, granted}
+use borrow.Author.Tests.{not-true, not-false}
 use Rattle.constants.proofs.Rows.{expr-full, expr-writable, expr-done}
 use Rattle.constants.proofs.umiesc_expr.Statement.{statement}
 use Rattle.constants.proofs.umiesc_expr.Tie as tie
@@ -42,7 +42,7 @@ returns c =
     let argsᶜ = c .before .before .before .before .before .before .before .before .before .before .before .before .before .before .before .args in
     let has-roomᶜ = c .before .has-room in
     let if1ᶜ = c .if1 in
-    expr-full (preᶜ .stands) (put-constantᶜ .ensures) (argsᶜ .at-end) (preᶜ .index) (has-roomᶜ .ensures) (denied (has-roomᶜ .result) (if1ᶜ .taken))
+    expr-full (preᶜ .stands) (put-constantᶜ .ensures) (argsᶜ .at-end) (preᶜ .index) (has-roomᶜ .ensures) (not-true (has-roomᶜ .result) (if1ᶜ .taken))
 
 slice-reshare-prefix-write-parts : tie.Need-slice-reshare-prefix-write-parts
 slice-reshare-prefix-write-parts c =
@@ -63,7 +63,7 @@ write-parts-requires c κs =
     let argsᶜ = c .before .before .before .before .before .before .before .before .before .before .before .before .before .before .before .before .before .before .before .before .args in
     let has-roomᶜ = c .before .before .before .before .before .before .has-room in
     let if1ᶜ = c .before .before .before .before .before .if1 in
-    expr-writable (preᶜ .stands) (put-constantᶜ .ensures) (argsᶜ .at-end) (preᶜ .index) (has-roomᶜ .ensures) (granted (has-roomᶜ .result) (if1ᶜ .left)) (preᶜ .spare)
+    expr-writable (preᶜ .stands) (put-constantᶜ .ensures) (argsᶜ .at-end) (preᶜ .index) (has-roomᶜ .ensures) (not-false (has-roomᶜ .result) (if1ᶜ .left)) (preᶜ .spare)
 
 same-length-5 : tie.Need-same-length-5
 same-length-5 c = search needs

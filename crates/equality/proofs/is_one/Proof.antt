@@ -9,8 +9,10 @@ use Rattle.language.specs.Letters.{use-of}
 use Rattle.machine.specs.Arguments.{is-one}
 use Rattle.table.specs.Denote.{letter-of}
 use Rattle.table.specs.declared.Letter.{Letter}
-use Rattle.table.specs.declared.Letter.the-variants.{A, B, C, D, E, I, N, P, Q, T, Y, Z}
-use Rattle.comparands.specs.Offers.{OtherLetter}
+use Rattle.lists.specs.Quoted.{bytes}
+use Rattle.table.specs.LetterLaws.{listed-letter}
+use Rattle.table.proofs.Letters.{tag}
+use Rattle.tests.specs.Prepares.{OtherLetter}
 use Rattle.equality.proofs.is_one.Statement.{statement}
 use Rattle.equality.proofs.is_one.Tie as tie
 use Rattle.equality.proofs.is_one.Reads as reads
@@ -20,22 +22,10 @@ use Rattle.equality.proofs.is_one.Lts as lts
 abbrev others : List ℕ
 others = 0 ∷ 1 ∷ 2 ∷ 3 ∷ 5 ∷ 6 ∷ 7 ∷ 8 ∷ 10 ∷ 11 ∷ []
 
-abbrev tag : Letter → ℕ
-tag l = denote.Enum.Declared.tagOf (denote.Enum.Declared.declared Rattle.table.proofs.Letter.enum) l
-
 one-left : (l : Letter) → OtherLetter l → OneOf others (tag l) → true ≡ is-one (use-of (letter-of l) .reading)
-one-left A h k = absurd h
-one-left B h k = refl
-one-left C h k = absurd h
-one-left D h k = absurd h
-one-left E h k = absurd (miss others 4 tt k)
-one-left I h k = absurd h
-one-left N h k = refl
-one-left P h k = absurd h
-one-left Q h k = absurd h
-one-left T h k = absurd (miss others 9 tt k)
-one-left Y h k = absurd h
-one-left Z h k = absurd h
+one-left =
+    listed-letter (λ l. OneOf others (tag l) → true ≡ is-one (use-of (letter-of l) .reading)) (bytes "BENT")
+    (λ k. refl) (λ k. absurd (miss others 4 tt k)) (λ k. refl) (λ k. absurd (miss others 9 tt k))
 
 enum-told : tie.Need-enum-told
 enum-told c = search needs

@@ -4,12 +4,12 @@ use native.Mathlib.Omega.{arith}
 use mathlib.Core.Path.{sym, _∙_}
 use mathlib.Core.Bool.{false}
 use lib.ListN.{length, take}
+use borrow.Author.Tests.{not-true, not-false}
 use Rattle.machine.specs.Changes.{minus-unless, into, past}
 use Rattle.layout.specs.Components.{components-in}
 use Rattle.matching.specs.Tests.{until}
 use Rattle.state.specs.Working.{state-at, nth, reading, writing}
 use Rattle.instructions.proofs.Answers.{one-after, tried-wrong, tried-full}
-use Rattle.instructions.proofs.Written.{denied, granted}
 use Rattle.moves.proofs.Taking.{part-long, droppable}
 use Rattle.moves.proofs.WordsTaken.{words-right}
 use Rattle.moves.proofs.Rows.{done-right}
@@ -46,7 +46,7 @@ returns c =
     let expr-bytesᶜ = c .before .before .before .expr-bytes in
     let countᶜ = c .before .before .count in
     let if1ᶜ = c .if1 in
-    tried-wrong (preᶜ .stands) ((joined-up (until (argsᶜ .test) (argsᶜ .given .now)) (argsᶜ .removes) (argsᶜ .i)) ((state-at (argsᶜ .pool .now) (argsᶜ .ends .now) (argsᶜ .nums .now)) .store)) ((words-right (preᶜ .stands) (preᶜ .source) (expr-bytesᶜ .ensures) (countᶜ .ensures)) ∙ denied (countᶜ .result .words) (if1ᶜ .taken))
+    tried-wrong (preᶜ .stands) ((joined-up (until (argsᶜ .test) (argsᶜ .given .now)) (argsᶜ .removes) (argsᶜ .i)) ((state-at (argsᶜ .pool .now) (argsᶜ .ends .now) (argsᶜ .nums .now)) .store)) ((words-right (preᶜ .stands) (preᶜ .source) (expr-bytesᶜ .ensures) (countᶜ .ensures)) ∙ not-true (countᶜ .result .words) (if1ᶜ .taken))
 
 has-word-room-requires : tie.Need-has-word-room-requires
 has-word-room-requires c κs =
@@ -71,8 +71,8 @@ returns-2 c =
     let if1ᶜ = c .before .before .before .before .if1 in
     let has-word-roomᶜ = c .before .has-word-room in
     let if2ᶜ = c .if2 in
-    tried-full (preᶜ .stands) ((joined-up (until (argsᶜ .test) (argsᶜ .given .now)) (argsᶜ .removes) (argsᶜ .i)) ((state-at (argsᶜ .pool .now) (argsᶜ .ends .now) (argsᶜ .nums .now)) .store)) ((words-right (preᶜ .stands) (preᶜ .source) (expr-bytesᶜ .ensures) (countᶜ .ensures)) ∙ granted (countᶜ .result .words) (if1ᶜ .left))
-    (fits-joined (preᶜ .stands) (preᶜ .source) (expr-bytesᶜ .ensures) (countᶜ .ensures) (argsᶜ .removes) ∙ sym (has-word-roomᶜ .ensures) ∙ denied (has-word-roomᶜ .result) (if2ᶜ .taken))
+    tried-full (preᶜ .stands) ((joined-up (until (argsᶜ .test) (argsᶜ .given .now)) (argsᶜ .removes) (argsᶜ .i)) ((state-at (argsᶜ .pool .now) (argsᶜ .ends .now) (argsᶜ .nums .now)) .store)) ((words-right (preᶜ .stands) (preᶜ .source) (expr-bytesᶜ .ensures) (countᶜ .ensures)) ∙ not-false (countᶜ .result .words) (if1ᶜ .left))
+    (fits-joined (preᶜ .stands) (preᶜ .source) (expr-bytesᶜ .ensures) (countᶜ .ensures) (argsᶜ .removes) ∙ sym (has-word-roomᶜ .ensures) ∙ not-true (has-word-roomᶜ .result) (if2ᶜ .taken))
 
 slice-aggregate-join-word : tie.Need-slice-aggregate-join-word
 slice-aggregate-join-word c =
@@ -89,7 +89,7 @@ join-word-requires c κs =
     let argsᶜ = c .before .before .before .before .before .before .before .before .before .before .before .before .before .before .before .before .before .before .before .before .args in
     let has-word-roomᶜ = c .before .before .before .before .has-word-room in
     let if2ᶜ = c .before .before .before .if2 in
-    makeable (preᶜ .stands) (preᶜ .source) (expr-bytesᶜ .ensures) (countᶜ .ensures) (argsᶜ .removes) (sym (has-word-roomᶜ .ensures) ∙ granted (has-word-roomᶜ .result) (if2ᶜ .left)) _ _ (preᶜ .spare) (preᶜ .room)
+    makeable (preᶜ .stands) (preᶜ .source) (expr-bytesᶜ .ensures) (countᶜ .ensures) (argsᶜ .removes) (sym (has-word-roomᶜ .ensures) ∙ not-false (has-word-roomᶜ .result) (if2ᶜ .left)) _ _ (preᶜ .spare) (preᶜ .room)
 
 some-requires : tie.Need-some-requires
 some-requires c κs = search needs
@@ -122,7 +122,7 @@ deliver-requires c κs =
     let join-wordᶜ = c .before .before .before .before .before .before .before .before .before .before .before .before .before .before .before .before .before .before .join-word in
     let someᶜ = c .before .before .before .before .before .before .before .before .before .before .before .before .before .some in
     let past-partsᶜ = c .before .before .before .before .before .before .before .before .before .past-parts in
-    writable (preᶜ .stands) (preᶜ .source) (expr-bytesᶜ .ensures) (countᶜ .ensures) (argsᶜ .removes) (sym (has-word-roomᶜ .ensures) ∙ granted (has-word-roomᶜ .result) (if2ᶜ .left)) (join-wordᶜ .ensures) (length (join-wordᶜ .last .0)) (omega (arith, join-wordᶜ .kept .0, preᶜ .spare)) (someᶜ .ensures) (past-partsᶜ .ensures)
+    writable (preᶜ .stands) (preᶜ .source) (expr-bytesᶜ .ensures) (countᶜ .ensures) (argsᶜ .removes) (sym (has-word-roomᶜ .ensures) ∙ not-false (has-word-roomᶜ .result) (if2ᶜ .left)) (join-wordᶜ .ensures) (length (join-wordᶜ .last .0)) (omega (arith, join-wordᶜ .kept .0, preᶜ .spare)) (someᶜ .ensures) (past-partsᶜ .ensures)
 
 same-length-7 : tie.Need-same-length-7
 same-length-7 c = search needs
@@ -151,8 +151,8 @@ returns-3 c =
     let join-wordᶜ = c .before .before .before .before .before .before .before .before .before .before .before .before .before .before .before .before .before .before .before .before .before .before .before .before .before .before .before .join-word in
     let past-partsᶜ = c .before .before .before .before .before .before .before .before .before .before .before .before .before .before .before .before .before .before .past-parts in
     let deliverᶜ = c .before .before .before .before .before .before .before .before .deliver in
-    done-right (preᶜ .stands) (joined-up (until (argsᶜ .test) (argsᶜ .given .now)) (argsᶜ .removes) (argsᶜ .i)) ((words-right (preᶜ .stands) (preᶜ .source) (expr-bytesᶜ .ensures) (countᶜ .ensures)) ∙ granted (countᶜ .result .words) (if1ᶜ .left))
-    (joined-done (preᶜ .stands) (preᶜ .source) (expr-bytesᶜ .ensures) (countᶜ .ensures) (argsᶜ .removes) (sym (has-word-roomᶜ .ensures) ∙ granted (has-word-roomᶜ .result) (if2ᶜ .left)) (join-wordᶜ .ensures)
+    done-right (preᶜ .stands) (joined-up (until (argsᶜ .test) (argsᶜ .given .now)) (argsᶜ .removes) (argsᶜ .i)) ((words-right (preᶜ .stands) (preᶜ .source) (expr-bytesᶜ .ensures) (countᶜ .ensures)) ∙ not-false (countᶜ .result .words) (if1ᶜ .left))
+    (joined-done (preᶜ .stands) (preᶜ .source) (expr-bytesᶜ .ensures) (countᶜ .ensures) (argsᶜ .removes) (sym (has-word-roomᶜ .ensures) ∙ not-false (has-word-roomᶜ .result) (if2ᶜ .left)) (join-wordᶜ .ensures)
     (one-after (state-at (argsᶜ .pool .now) (argsᶜ .ends .now) (argsᶜ .nums .now)) (past (nth (reading (argsᶜ .removes)) (argsᶜ .i)) (countᶜ .result .parts)) (λ z. minus-unless (countᶜ .result .reached) (into (nth (writing false) (argsᶜ .i)) (components-in (take (join-wordᶜ .result) (join-wordᶜ .last .1 .0))) z)) (past-partsᶜ .ensures) (deliverᶜ .ensures)))
 
 pub join-up-spec : {M : Type 1} → statement M

@@ -3,12 +3,13 @@ use borrow.Author.Needs.{needs}
 use native.Mathlib.Omega.{arith}
 use mathlib.Core.Path.{refl, sym, _∙_}
 use mathlib.Core.Bool.{false}
+use borrow.Author.Tests.{not-true, not-false}
 use Rattle.matching.specs.Tests.{until}
 use Rattle.state.specs.Working.{state-at}
 use Rattle.instructions.proofs.Answers.{tried-full}
 use Rattle.moves.specs.Moves.{sent}
 use Rattle.moves.proofs.Rows.{done}
-use Rattle.moves.proofs.Taking.{bytes-few, part-long, taken-part, took, more, copy-room, held-fits, held-turned, denied, granted, writable-copy, fits-copy, sent-copy}
+use Rattle.moves.proofs.Taking.{bytes-few, part-long, taken-part, took, more, copy-room, held-fits, held-turned, writable-copy, fits-copy, sent-copy}
 use Rattle.moves.proofs.send_copy.Statement.{statement}
 use Rattle.moves.proofs.send_copy.Tie as tie
 
@@ -45,7 +46,7 @@ returns c =
     let expr-bytesᶜ = c .before .before .before .before .before .expr-bytes in
     let countᶜ = c .before .before .before .before .count in
     tried-full (preᶜ .stands) ((sent (until (argsᶜ .test) (argsᶜ .given .now)) false (argsᶜ .i) (argsᶜ .reverses) (argsᶜ .at-end) (argsᶜ .j)) (state-at (argsᶜ .pool .now) (argsᶜ .ends .now) (argsᶜ .nums .now) .store)) refl
-    (fits-copy (preᶜ .stands) (preᶜ .source) (expr-bytesᶜ .ensures) (countᶜ .ensures) (argsᶜ .j) (preᶜ .target) (argsᶜ .reverses) (argsᶜ .at-end) ∙ sym (c .before .has-room .ensures) ∙ denied (c .before .has-room .result) (c .if1 .taken))
+    (fits-copy (preᶜ .stands) (preᶜ .source) (expr-bytesᶜ .ensures) (countᶜ .ensures) (argsᶜ .j) (preᶜ .target) (argsᶜ .reverses) (argsᶜ .at-end) ∙ sym (c .before .has-room .ensures) ∙ not-true (c .before .has-room .result) (c .if1 .taken))
 
 slice-aggregate-copy : tie.Need-slice-aggregate-copy
 slice-aggregate-copy c =
@@ -87,7 +88,7 @@ deliver-requires c κs =
     let copyᶜ = c .before .before .before .before .before .before .before .copy in
     let has-roomᶜ = c .before .before .before .before .before .before .before .before .before .before .before .has-room in
     let if1ᶜ = c .before .before .before .before .before .before .before .before .before .before .if1 in
-    writable-copy (preᶜ .stands) (preᶜ .source) (expr-bytesᶜ .ensures) (countᶜ .ensures) _ (argsᶜ .j) (preᶜ .spare) (preᶜ .target) (argsᶜ .reverses) (held-turned (argsᶜ .hold .now) (argsᶜ .reverses) (countᶜ .result .bytes) (copyᶜ .ensures) (taken-part (preᶜ .stands) (preᶜ .source) (expr-bytesᶜ .ensures) (countᶜ .ensures)) (took (preᶜ .stands) (preᶜ .source) (expr-bytesᶜ .ensures) (countᶜ .ensures) .bytes-is)) (sym (has-roomᶜ .ensures) ∙ granted (has-roomᶜ .result) (if1ᶜ .left))
+    writable-copy (preᶜ .stands) (preᶜ .source) (expr-bytesᶜ .ensures) (countᶜ .ensures) _ (argsᶜ .j) (preᶜ .spare) (preᶜ .target) (argsᶜ .reverses) (held-turned (argsᶜ .hold .now) (argsᶜ .reverses) (countᶜ .result .bytes) (copyᶜ .ensures) (taken-part (preᶜ .stands) (preᶜ .source) (expr-bytesᶜ .ensures) (countᶜ .ensures)) (took (preᶜ .stands) (preᶜ .source) (expr-bytesᶜ .ensures) (countᶜ .ensures) .bytes-is)) (sym (has-roomᶜ .ensures) ∙ not-false (has-roomᶜ .result) (if1ᶜ .left))
 
 same-length-4 : tie.Need-same-length-4
 same-length-4 c = search needs

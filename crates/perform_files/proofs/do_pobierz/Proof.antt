@@ -2,7 +2,6 @@
 use borrow.Author.Needs.{needs}
 use mathlib.Core.Path.{refl}
 use Rattle.performing.specs.CarryingLaws.{first-named, second-named, third-none, performed}
-use Rattle.perform_pointers.proofs.Operands.{target-is}
 use Rattle.perform_files.proofs.do_pobierz.Statement.{statement}
 use Rattle.perform_files.proofs.do_pobierz.Tie as tie
 
@@ -47,7 +46,7 @@ returns c =
     let file-ofᶜ = c .before .before .before .before .before .before .before .before .before .before .before .before .before .before .before .before .before .before .before .before .file-of in
     let target-ofᶜ = c .before .before .before .before .before .before .before .before .before .before .before .before .before .before .before .before .before .before .before .target-of in
     let pobierzᶜ = c .before .before .before .before .before .before .before .before .before .before .before .before .pobierz in
-    performed preᶜ (file-ofᶜ .ensures .is _) (target-is (target-ofᶜ .ensures) _) (third-none preᶜ "CD" "ABYZ" refl) (pobierzᶜ .ensures)
+    performed preᶜ (file-ofᶜ .ensures .is _) (target-ofᶜ .ensures .is _) (third-none preᶜ "CD" "ABYZ" refl) (pobierzᶜ .ensures)
 
 pub do-pobierz-spec : {M : Type 1} → statement M
 do-pobierz-spec =

@@ -1,19 +1,20 @@
 -- `perform_moves::join` meets its contract.
 use borrow.Author.Needs.{needs}
-use Rattle.perform_moves.proofs.Operands.{join-from, joinable, joined}
+use mathlib.Core.Path.{refl}
+use Rattle.perform_moves.proofs.Operands.{pair-from, joinable, pair-done}
 use Rattle.perform_moves.proofs.join.Statement.{statement}
 use Rattle.perform_moves.proofs.join.Tie as tie
 
 source-of-requires : tie.Need-source-of-requires
 source-of-requires c κs =
     let preᶜ = c .before .before .before .before .before .before .before .pre in
-    join-from preᶜ
+    pair-from preᶜ refl
 
 zbij-requires : tie.Need-zbij-requires
 zbij-requires c κs =
     let preᶜ = c .before .before .before .before .before .before .before .before .before .before .before .before .before .before .pre in
     let source-ofᶜ = c .before .before .before .before .before .before .source-of in
-    joinable preᶜ (source-ofᶜ .ensures)
+    joinable preᶜ refl (source-ofᶜ .ensures)
 
 same-length : tie.Need-same-length
 same-length c = search needs
@@ -38,7 +39,7 @@ returns c =
     let preᶜ = c .before .before .before .before .before .before .before .before .before .before .before .before .before .before .before .before .before .before .before .before .before .before .before .before .before .before .before .pre in
     let source-ofᶜ = c .before .before .before .before .before .before .before .before .before .before .before .before .before .before .before .before .before .before .before .source-of in
     let zbijᶜ = c .before .before .before .before .before .before .before .before .before .before .before .before .zbij in
-    joined preᶜ (source-ofᶜ .ensures) (zbijᶜ .ensures)
+    pair-done preᶜ refl (source-ofᶜ .ensures) (zbijᶜ .ensures)
 
 pub join-spec : {M : Type 1} → statement M
 join-spec =

@@ -1,19 +1,20 @@
 -- `perform_moves::split` meets its contract.
 use borrow.Author.Needs.{needs}
-use Rattle.perform_moves.proofs.Operands.{split-from, splittable, splitted}
+use mathlib.Core.Path.{refl}
+use Rattle.perform_moves.proofs.Operands.{pair-from, joinable, pair-done}
 use Rattle.perform_moves.proofs.split.Statement.{statement}
 use Rattle.perform_moves.proofs.split.Tie as tie
 
 source-of-requires : tie.Need-source-of-requires
 source-of-requires c κs =
     let preᶜ = c .before .before .before .before .before .before .before .pre in
-    split-from preᶜ
+    pair-from preᶜ refl
 
 rozbij-requires : tie.Need-rozbij-requires
 rozbij-requires c κs =
     let preᶜ = c .before .before .before .before .before .before .before .before .before .before .before .before .before .before .pre in
     let source-ofᶜ = c .before .before .before .before .before .before .source-of in
-    splittable preᶜ (source-ofᶜ .ensures)
+    joinable preᶜ refl (source-ofᶜ .ensures)
 
 same-length : tie.Need-same-length
 same-length c = search needs
@@ -38,7 +39,7 @@ returns c =
     let preᶜ = c .before .before .before .before .before .before .before .before .before .before .before .before .before .before .before .before .before .before .before .before .before .before .before .before .before .before .before .pre in
     let source-ofᶜ = c .before .before .before .before .before .before .before .before .before .before .before .before .before .before .before .before .before .before .before .source-of in
     let rozbijᶜ = c .before .before .before .before .before .before .before .before .before .before .before .before .rozbij in
-    splitted preᶜ (source-ofᶜ .ensures) (rozbijᶜ .ensures)
+    pair-done preᶜ refl (source-ofᶜ .ensures) (rozbijᶜ .ensures)
 
 pub split-spec : {M : Type 1} → statement M
 split-spec =

@@ -4,7 +4,6 @@ use mathlib.Core.Path.{refl}
 use Rattle.language.specs.Letters as letters
 use Rattle.decoding.specs.OperandLaws.{indexed-is, indexed-below}
 use Rattle.performing.specs.CarryingLaws.{first-named, second-named, third-none, two-operands, performed}
-use Rattle.perform_pointers.proofs.Operands.{target-is}
 use Rattle.perform_pointers.proofs.do_schowaj.Statement.{statement}
 use Rattle.perform_pointers.proofs.do_schowaj.Tie as tie
 
@@ -46,7 +45,7 @@ returns c =
     let index-ofᶜ = c .before .before .before .before .before .before .before .before .before .before .before .before .before .before .before .before .before .index-of in
     let target-ofᶜ = c .before .before .before .before .before .before .before .before .before .before .before .before .before .before .before .before .target-of in
     let schowajᶜ = c .before .before .before .before .before .before .before .before .before .before .schowaj in
-    performed preᶜ (indexed-is letters.Letter.P (first-named preᶜ ("P", "ABYZ", "-") refl tt) (index-ofᶜ .ensures) _) (target-is (target-ofᶜ .ensures) _) (third-none preᶜ "P" "ABYZ" refl) (schowajᶜ .ensures (target-ofᶜ .result .reverses))
+    performed preᶜ (indexed-is letters.Letter.P (first-named preᶜ ("P", "ABYZ", "-") refl tt) (index-ofᶜ .ensures) _) (target-ofᶜ .ensures .is _) (third-none preᶜ "P" "ABYZ" refl) (schowajᶜ .ensures (target-ofᶜ .result .reverses))
 
 pub do-schowaj-spec : {M : Type 1} → statement M
 do-schowaj-spec =

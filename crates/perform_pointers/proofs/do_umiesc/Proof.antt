@@ -5,7 +5,7 @@ use Rattle.language.specs.Letters as letters
 use Rattle.table.specs.Denote.{arg-of}
 use Rattle.decoding.specs.OperandLaws.{indexed-is, indexed-below}
 use Rattle.performing.specs.CarryingLaws.{performed}
-use Rattle.perform_pointers.proofs.Operands.{target-is, placeable, fileable, text-placeable, constant, none-third, put-lettered, to-file, to-output, to-expr}
+use Rattle.perform_pointers.proofs.Operands.{placeable, fileable, text-placeable, constant, none-third, put-lettered, to-file, to-output, to-expr}
 use Rattle.perform_pointers.proofs.do_umiesc.Statement.{statement}
 use Rattle.perform_pointers.proofs.do_umiesc.Tie as tie
 
@@ -134,7 +134,7 @@ returns-3 c =
     let preᶜ = c .before .before .before .before .before .before .before .before .before .before .before .before .before .before .before .before .before .before .before .before .before .before .before .before .before .before .pre in
     let target-ofᶜ = c .before .before .before .before .before .before .before .before .before .before .before .before .before .before .before .before .target-of in
     let umiesc-exprᶜ = c .before .before .before .before .before .before .before .before .before .before .umiesc-expr in
-    performed preᶜ refl (target-is (target-ofᶜ .ensures) _) (none-third preᶜ) (umiesc-exprᶜ .ensures (target-ofᶜ .result .reverses))
+    performed preᶜ refl (target-ofᶜ .ensures .is _) (none-third preᶜ) (umiesc-exprᶜ .ensures (target-ofᶜ .result .reverses))
 
 pub do-umiesc-spec : {M : Type 1} → statement M
 do-umiesc-spec =

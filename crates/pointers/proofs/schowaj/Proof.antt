@@ -2,7 +2,7 @@
 use borrow.Author.Needs.{needs}
 use native.Mathlib.Omega.{arith}
 use lib.ListN.{length-take}
-use Rattle.instructions.proofs.Written.{denied, granted}
+use borrow.Author.Tests.{not-true, not-false}
 use Rattle.pointers.proofs.Rows.{last-told, schowaj-full, address-writable, schowaj-done}
 use Rattle.pointers.proofs.schowaj.Statement.{statement}
 use Rattle.pointers.proofs.schowaj.Tie as tie
@@ -42,7 +42,7 @@ returns c =
     let last-addressᶜ = c .before .before .before .before .before .last-address in
     let has-roomᶜ = c .before .has-room in
     let if1ᶜ = c .if1 in
-    schowaj-full (preᶜ .stands) (argsᶜ .i) (argsᶜ .at-end) (preᶜ .second) (last-told (before-bytesᶜ .ensures) (last-addressᶜ .ensures)) (has-roomᶜ .ensures) (denied (has-roomᶜ .result) (if1ᶜ .taken))
+    schowaj-full (preᶜ .stands) (argsᶜ .i) (argsᶜ .at-end) (preᶜ .second) (last-told (before-bytesᶜ .ensures) (last-addressᶜ .ensures)) (has-roomᶜ .ensures) (not-true (has-roomᶜ .result) (if1ᶜ .taken))
 
 put-address-requires : tie.Need-put-address-requires
 put-address-requires c κs = search needs
@@ -65,7 +65,7 @@ write-parts-requires c κs =
     let put-addressᶜ = c .before .before .before .before .before .before .before .put-address in
     let has-roomᶜ = c .before .before .before .before .before .before .before .before .before .before .has-room in
     let if1ᶜ = c .before .before .before .before .before .before .before .before .before .if1 in
-    address-writable (preᶜ .stands) (argsᶜ .i) (argsᶜ .at-end) (preᶜ .second) (last-told (before-bytesᶜ .ensures) (last-addressᶜ .ensures)) (argsᶜ .hold .now) (put-addressᶜ .ensures) (preᶜ .spare) (has-roomᶜ .ensures) (granted (has-roomᶜ .result) (if1ᶜ .left))
+    address-writable (preᶜ .stands) (argsᶜ .i) (argsᶜ .at-end) (preᶜ .second) (last-told (before-bytesᶜ .ensures) (last-addressᶜ .ensures)) (argsᶜ .hold .now) (put-addressᶜ .ensures) (preᶜ .spare) (has-roomᶜ .ensures) (not-false (has-roomᶜ .result) (if1ᶜ .left))
 
 same-length-4 : tie.Need-same-length-4
 same-length-4 c = search needs

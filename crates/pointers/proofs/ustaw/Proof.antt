@@ -1,11 +1,11 @@
 -- `pointers::ustaw` meets its contract.
 use borrow.Author.Needs.{needs}
 use mathlib.Core.Path.{sym, _∙_}
+use borrow.Author.Tests.{not-true, not-false}
 use Rattle.machine.specs.Changes.{past}
 use Rattle.state.specs.Working.{state-at, nth, reading}
 use Rattle.filing.specs.Files.{pointed-at}
 use Rattle.instructions.proofs.Answers.{one-after}
-use Rattle.instructions.proofs.Written.{denied, granted}
 use Rattle.pointers.proofs.Rows.{leading, ustaw-none, ustaw-kind, ustaw-missing, then-pointable, ustaw-done, address-droppable}
 use Rattle.pointers.proofs.ustaw.Statement.{statement}
 use Rattle.pointers.proofs.ustaw.Tie as tie
@@ -98,7 +98,7 @@ returns-3 c =
     let address-ofᶜ = c .before .before .before .address-of in
     let locateᶜ = c .before .before .locate in
     let if3ᶜ = c .if3 in
-    ustaw-missing (preᶜ .stands) (argsᶜ .removes) (preᶜ .first) (expr-bytesᶜ .ensures) (preᶜ .second) (if1ᶜ .left) (sym (kind-ofᶜ .ensures .is) ∙ if2ᶜ .left) (address-ofᶜ .ensures) (locateᶜ .ensures) (denied (locateᶜ .result .found) (if3ᶜ .taken))
+    ustaw-missing (preᶜ .stands) (argsᶜ .removes) (preᶜ .first) (expr-bytesᶜ .ensures) (preᶜ .second) (if1ᶜ .left) (sym (kind-ofᶜ .ensures .is) ∙ if2ᶜ .left) (address-ofᶜ .ensures) (locateᶜ .ensures) (not-true (locateᶜ .result .found) (if3ᶜ .taken))
 
 past-parts-requires : tie.Need-past-parts-requires
 past-parts-requires c κs =
@@ -122,7 +122,7 @@ point-requires c κs =
     let locateᶜ = c .before .before .before .before .before .before .before .before .before .before .before .before .before .before .before .locate in
     let if3ᶜ = c .before .before .before .before .before .before .before .before .before .before .before .before .before .if3 in
     let past-partsᶜ = c .before .before .before .before .before .before .before .before .before .past-parts in
-    then-pointable (preᶜ .stands) (argsᶜ .removes) (preᶜ .first) (expr-bytesᶜ .ensures) (preᶜ .second) (if1ᶜ .left) (sym (kind-ofᶜ .ensures .is) ∙ if2ᶜ .left) (address-ofᶜ .ensures) (locateᶜ .ensures) (granted (locateᶜ .result .found) (if3ᶜ .left)) (past-partsᶜ .ensures) (preᶜ .spare) (preᶜ .room)
+    then-pointable (preᶜ .stands) (argsᶜ .removes) (preᶜ .first) (expr-bytesᶜ .ensures) (preᶜ .second) (if1ᶜ .left) (sym (kind-ofᶜ .ensures .is) ∙ if2ᶜ .left) (address-ofᶜ .ensures) (locateᶜ .ensures) (not-false (locateᶜ .result .found) (if3ᶜ .left)) (past-partsᶜ .ensures) (preᶜ .spare) (preᶜ .room)
 
 same-length-10 : tie.Need-same-length-10
 same-length-10 c = search needs
@@ -152,7 +152,7 @@ returns-4 c =
     let if3ᶜ = c .before .before .before .before .before .before .before .before .before .before .before .before .before .before .before .before .before .before .before .before .before .before .if3 in
     let past-partsᶜ = c .before .before .before .before .before .before .before .before .before .before .before .before .before .before .before .before .before .before .past-parts in
     let pointᶜ = c .before .before .before .before .before .before .before .before .point in
-    ustaw-done (preᶜ .stands) (argsᶜ .removes) (preᶜ .first) (expr-bytesᶜ .ensures) (preᶜ .second) (if1ᶜ .left) (sym (kind-ofᶜ .ensures .is) ∙ if2ᶜ .left) (address-ofᶜ .ensures) (locateᶜ .ensures) (granted (locateᶜ .result .found) (if3ᶜ .left))
+    ustaw-done (preᶜ .stands) (argsᶜ .removes) (preᶜ .first) (expr-bytesᶜ .ensures) (preᶜ .second) (if1ᶜ .left) (sym (kind-ofᶜ .ensures .is) ∙ if2ᶜ .left) (address-ofᶜ .ensures) (locateᶜ .ensures) (not-false (locateᶜ .result .found) (if3ᶜ .left))
     (one-after (state-at (argsᶜ .pool .now) (argsᶜ .ends .now) (argsᶜ .nums .now)) (past (nth (reading (argsᶜ .removes)) (argsᶜ .i)) 1) (pointed-at (argsᶜ .j) (locateᶜ .result .records)) (past-partsᶜ .ensures) (pointᶜ .ensures))
 
 pub ustaw-spec : {M : Type 1} → statement M

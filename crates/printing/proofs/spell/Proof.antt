@@ -3,13 +3,13 @@ use borrow.Author.Needs.{needs}
 use native.Mathlib.Omega.{arith}
 use mathlib.Core.Path.{_∙_}
 use lib.ListN.{take}
+use borrow.Author.Tests.{not-true, not-false}
 use Rattle.language.specs.Letters.Letter.{Q}
 use Rattle.machine.specs.Changes.{minus-unless, printed, past}
 use Rattle.matching.specs.Tests.{until}
 use Rattle.state.specs.Working.{state-at, nth, reading}
 use Rattle.instructions.proofs.Answers.{one-after, tried-wrong, tried-full}
 use Rattle.printing.specs.Printing.{spelled-out}
-use Rattle.instructions.proofs.Written.{denied, granted}
 use Rattle.moves.proofs.Taking.{part-long, droppable}
 use Rattle.moves.proofs.WordsTaken.{words-right}
 use Rattle.printing.proofs.Spelling.{chars-few, join-room, joined-fits, joined-size, printable, spelled-done, spelled-full}
@@ -42,7 +42,7 @@ returns c =
     let argsᶜ = c .before .before .before .before .before .before .before .before .before .before .before .before .before .args in
     let expr-bytesᶜ = c .before .before .before .expr-bytes in
     let countᶜ = c .before .before .count in
-    tried-wrong (preᶜ .stands) ((spelled-out (until (argsᶜ .test) (argsᶜ .given .now)) (argsᶜ .removes) (argsᶜ .i) (argsᶜ .j)) ((state-at (argsᶜ .pool .now) (argsᶜ .ends .now) (argsᶜ .nums .now)) .store)) (words-right (preᶜ .stands) (preᶜ .source) (expr-bytesᶜ .ensures) (countᶜ .ensures) ∙ denied (countᶜ .result .words) (c .if1 .taken))
+    tried-wrong (preᶜ .stands) ((spelled-out (until (argsᶜ .test) (argsᶜ .given .now)) (argsᶜ .removes) (argsᶜ .i) (argsᶜ .j)) ((state-at (argsᶜ .pool .now) (argsᶜ .ends .now) (argsᶜ .nums .now)) .store)) (words-right (preᶜ .stands) (preᶜ .source) (expr-bytesᶜ .ensures) (countᶜ .ensures) ∙ not-true (countᶜ .result .words) (c .if1 .taken))
 
 output-len-requires : tie.Need-output-len-requires
 output-len-requires c κs =
@@ -73,7 +73,7 @@ returns-2 c =
     let countᶜ = c .before .before .before .before .before .before .before .count in
     let if1ᶜ = c .before .before .before .before .before .if1 in
     let output-lenᶜ = c .before .before .output-len in
-    tried-full (preᶜ .stands) ((spelled-out (until (argsᶜ .test) (argsᶜ .given .now)) (argsᶜ .removes) (argsᶜ .i) (argsᶜ .j)) ((state-at (argsᶜ .pool .now) (argsᶜ .ends .now) (argsᶜ .nums .now)) .store)) (words-right (preᶜ .stands) (preᶜ .source) (expr-bytesᶜ .ensures) (countᶜ .ensures) ∙ granted (countᶜ .result .words) (if1ᶜ .left))
+    tried-full (preᶜ .stands) ((spelled-out (until (argsᶜ .test) (argsᶜ .given .now)) (argsᶜ .removes) (argsᶜ .i) (argsᶜ .j)) ((state-at (argsᶜ .pool .now) (argsᶜ .ends .now) (argsᶜ .nums .now)) .store)) (words-right (preᶜ .stands) (preᶜ .source) (expr-bytesᶜ .ensures) (countᶜ .ensures) ∙ not-false (countᶜ .result .words) (if1ᶜ .left))
     (spelled-full (preᶜ .stands) (preᶜ .source) (expr-bytesᶜ .ensures) (countᶜ .ensures) (argsᶜ .removes) (argsᶜ .j) (preᶜ .target) (output-lenᶜ .ensures .is) (c .if2 .taken))
 
 slice-aggregate-join : tie.Need-slice-aggregate-join
@@ -150,7 +150,7 @@ returns-3 c =
     let joinᶜ = c .before .before .before .before .before .before .before .before .before .before .before .before .before .before .before .before .before .before .before .before .before .before .before .before .join in
     let past-partsᶜ = c .before .before .before .before .before .before .before .before .before .before .before .before .before .before .before .before .before .before .past-parts in
     let put-outᶜ = c .before .before .before .before .before .before .before .before .put-out in
-    done-right (preᶜ .stands) (spelled-out (until (argsᶜ .test) (argsᶜ .given .now)) (argsᶜ .removes) (argsᶜ .i) (argsᶜ .j)) (words-right (preᶜ .stands) (preᶜ .source) (expr-bytesᶜ .ensures) (countᶜ .ensures) ∙ granted (countᶜ .result .words) (if1ᶜ .left))
+    done-right (preᶜ .stands) (spelled-out (until (argsᶜ .test) (argsᶜ .given .now)) (argsᶜ .removes) (argsᶜ .i) (argsᶜ .j)) (words-right (preᶜ .stands) (preᶜ .source) (expr-bytesᶜ .ensures) (countᶜ .ensures) ∙ not-false (countᶜ .result .words) (if1ᶜ .left))
     (spelled-done (preᶜ .stands) (preᶜ .source) (expr-bytesᶜ .ensures) (countᶜ .ensures) (joinᶜ .ensures) (argsᶜ .removes) (argsᶜ .j)
     (one-after (state-at (argsᶜ .pool .now) (argsᶜ .ends .now) (argsᶜ .nums .now)) (past (nth (reading (argsᶜ .removes)) (argsᶜ .i)) (countᶜ .result .parts)) (λ z. minus-unless (countᶜ .result .reached) (printed (nth Q (argsᶜ .j)) (take (joinᶜ .result) (joinᶜ .last .0)) z)) (past-partsᶜ .ensures) (put-outᶜ .ensures)))
 

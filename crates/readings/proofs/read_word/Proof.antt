@@ -3,13 +3,13 @@ use borrow.Author.Needs.{needs}
 use native.Mathlib.Omega.{arith}
 use mathlib.Core.Path.{refl, sym, _∙_}
 use lib.ListN.{take}
+use borrow.Author.Tests.{not-true, not-false}
 use Rattle.language.specs.Letters.Letter.{I}
 use Rattle.machine.specs.Changes.{minus-unless, into, past}
 use Rattle.layout.specs.Components.{components-in}
 use Rattle.matching.specs.Tests.{first-chars, until-chars}
 use Rattle.state.specs.Working.{state-at, nth, writing}
 use Rattle.instructions.proofs.Answers.{one-after, tried-full}
-use Rattle.moves.proofs.Taking.{denied, granted}
 use Rattle.moves.proofs.Rows.{done-right}
 use Rattle.joining.proofs.Words.{written-fits, written-size}
 use Rattle.readings.specs.Readings.{read-up}
@@ -71,7 +71,7 @@ returns c =
     let has-word-roomᶜ = c .before .has-word-room in
     let if1ᶜ = c .if1 in
     tried-full (preᶜ .unread .stands) ((read-up (until-chars (argsᶜ .test) (first-chars (components-in (argsᶜ .given .now)))) (argsᶜ .input .now) (argsᶜ .i) (argsᶜ .at-end) (argsᶜ .j)) ((state-at (argsᶜ .pool .now) (argsᶜ .ends .now) (argsᶜ .nums .now)) .store)) refl
-    (fits-read (preᶜ .unread) (placeᶜ .ensures) (take-charsᶜ .ensures) (preᶜ .target) (argsᶜ .at-end) ∙ sym (has-word-roomᶜ .ensures) ∙ denied (has-word-roomᶜ .result) (if1ᶜ .taken))
+    (fits-read (preᶜ .unread) (placeᶜ .ensures) (take-charsᶜ .ensures) (preᶜ .target) (argsᶜ .at-end) ∙ sym (has-word-roomᶜ .ensures) ∙ not-true (has-word-roomᶜ .result) (if1ᶜ .taken))
 
 slice-aggregate-make-word : tie.Need-slice-aggregate-make-word
 slice-aggregate-make-word c =
@@ -87,7 +87,7 @@ make-word-requires c κs =
     let placeᶜ = c .before .before .before .before .before .before .before .before .before .before .before .before .place in
     let has-word-roomᶜ = c .before .before .before .has-word-room in
     let if1ᶜ = c .before .before .if1 in
-    record { room = omega (arith, take-charsᶜ .kept .1 .1 .1 .0, preᶜ .room); most = word-most (preᶜ .unread) (placeᶜ .ensures) (take-charsᶜ .ensures) (preᶜ .target) (sym (has-word-roomᶜ .ensures) ∙ granted (has-word-roomᶜ .result) (if1ᶜ .left)) }
+    record { room = omega (arith, take-charsᶜ .kept .1 .1 .1 .0, preᶜ .room); most = word-most (preᶜ .unread) (placeᶜ .ensures) (take-charsᶜ .ensures) (preᶜ .target) (sym (has-word-roomᶜ .ensures) ∙ not-false (has-word-roomᶜ .result) (if1ᶜ .left)) }
 
 some-requires : tie.Need-some-requires
 some-requires c κs = search needs
@@ -119,7 +119,7 @@ deliver-requires c κs =
     let make-wordᶜ = c .before .before .before .before .before .before .before .before .before .before .before .before .before .before .make-word in
     let someᶜ = c .before .before .before .before .before .before .before .before .before .before .before .some in
     let read-pastᶜ = c .before .before .before .before .before .before .before .read-past in
-    writable (preᶜ .unread) (placeᶜ .ensures) (take-charsᶜ .ensures) (preᶜ .target) (sym (has-word-roomᶜ .ensures) ∙ granted (has-word-roomᶜ .result) (if1ᶜ .left)) (make-wordᶜ .ensures) _ (preᶜ .spare) (someᶜ .ensures) (read-pastᶜ .ensures)
+    writable (preᶜ .unread) (placeᶜ .ensures) (take-charsᶜ .ensures) (preᶜ .target) (sym (has-word-roomᶜ .ensures) ∙ not-false (has-word-roomᶜ .result) (if1ᶜ .left)) (make-wordᶜ .ensures) _ (preᶜ .spare) (someᶜ .ensures) (read-pastᶜ .ensures)
 
 same-length-5 : tie.Need-same-length-5
 same-length-5 c = search needs
@@ -151,7 +151,7 @@ returns-2 c =
     let read-pastᶜ = c .before .before .before .before .before .before .before .before .before .before .before .before .before .before .before .before .read-past in
     let deliverᶜ = c .before .before .before .before .before .before .before .before .deliver in
     done-right (preᶜ .unread .stands) (read-up (until-chars (argsᶜ .test) (first-chars (components-in (argsᶜ .given .now)))) (argsᶜ .input .now) (argsᶜ .i) (argsᶜ .at-end) (argsᶜ .j)) refl
-    (read-done (preᶜ .unread) (placeᶜ .ensures) (take-charsᶜ .ensures) (preᶜ .target) (sym (has-word-roomᶜ .ensures) ∙ granted (has-word-roomᶜ .result) (if1ᶜ .left)) (make-wordᶜ .ensures) (argsᶜ .at-end)
+    (read-done (preᶜ .unread) (placeᶜ .ensures) (take-charsᶜ .ensures) (preᶜ .target) (sym (has-word-roomᶜ .ensures) ∙ not-false (has-word-roomᶜ .result) (if1ᶜ .left)) (make-wordᶜ .ensures) (argsᶜ .at-end)
     (one-after (state-at (argsᶜ .pool .now) (argsᶜ .ends .now) (argsᶜ .nums .now)) (past (nth I (argsᶜ .i)) (take-charsᶜ .result .taken)) (λ z. minus-unless (take-charsᶜ .result .reached) (into (nth (writing (argsᶜ .at-end)) (argsᶜ .j)) (components-in (take (make-wordᶜ .result) (make-wordᶜ .last .0))) z)) (read-pastᶜ .ensures) (deliverᶜ .ensures)))
 
 pub read-word-spec : {M : Type 1} → statement M

@@ -4,12 +4,12 @@ use native.Mathlib.Omega.{arith}
 use mathlib.Core.Path.{refl, sym, _∙_}
 use mathlib.Core.Bool.{false}
 use lib.ListN.{length, take}
+use borrow.Author.Tests.{not-true, not-false}
 use Rattle.machine.specs.Changes.{minus-unless, into, past}
 use Rattle.layout.specs.Components.{components-in}
 use Rattle.matching.specs.Tests.{first-chars, until-chars}
 use Rattle.state.specs.Working.{state-at, nth, reading, writing}
 use Rattle.instructions.proofs.Answers.{one-after, tried-full}
-use Rattle.moves.proofs.Taking.{denied, granted}
 use Rattle.moves.proofs.Rows.{done-right}
 use Rattle.joining.proofs.Words.{written-fits, written-size}
 use Rattle.splitting.specs.Splitting.{split-up}
@@ -64,7 +64,7 @@ returns c =
     let has-split-roomᶜ = c .before .has-split-room in
     let if1ᶜ = c .if1 in
     tried-full (preᶜ .stands) ((split-up (until-chars (argsᶜ .test) (first-chars (components-in (argsᶜ .given .now)))) (argsᶜ .removes) (argsᶜ .i)) ((state-at (argsᶜ .pool .now) (argsᶜ .ends .now) (argsᶜ .nums .now)) .store)) refl
-    (fits-split (preᶜ .stands) (preᶜ .source) (expr-bytesᶜ .ensures) (preᶜ .first-word) (chars-ofᶜ .ensures) (take-charsᶜ .ensures) (argsᶜ .removes) ∙ sym (has-split-roomᶜ .ensures) ∙ denied (has-split-roomᶜ .result) (if1ᶜ .taken))
+    (fits-split (preᶜ .stands) (preᶜ .source) (expr-bytesᶜ .ensures) (preᶜ .first-word) (chars-ofᶜ .ensures) (take-charsᶜ .ensures) (argsᶜ .removes) ∙ sym (has-split-roomᶜ .ensures) ∙ not-true (has-split-roomᶜ .result) (if1ᶜ .taken))
 
 slice-aggregate-split : tie.Need-slice-aggregate-split
 slice-aggregate-split c =
@@ -115,7 +115,7 @@ deliver-requires c κs =
     let has-split-roomᶜ = c .before .before .before .before .before .before .before .before .before .before .before .before .before .before .before .before .before .before .before .has-split-room in
     let if1ᶜ = c .before .before .before .before .before .before .before .before .before .before .before .before .before .before .before .before .before .before .if1 in
     let past-partsᶜ = c .before .before .before .before .before .before .before .before .before .past-parts in
-    writable (preᶜ .stands) (preᶜ .source) (expr-bytesᶜ .ensures) (preᶜ .first-word) (chars-ofᶜ .ensures) (take-charsᶜ .ensures) (argsᶜ .removes) (splitᶜ .ensures) (sym (has-split-roomᶜ .ensures) ∙ granted (has-split-roomᶜ .result) (if1ᶜ .left)) _ (preᶜ .spare) (past-partsᶜ .ensures)
+    writable (preᶜ .stands) (preᶜ .source) (expr-bytesᶜ .ensures) (preᶜ .first-word) (chars-ofᶜ .ensures) (take-charsᶜ .ensures) (argsᶜ .removes) (splitᶜ .ensures) (sym (has-split-roomᶜ .ensures) ∙ not-false (has-split-roomᶜ .result) (if1ᶜ .left)) _ (preᶜ .spare) (past-partsᶜ .ensures)
 
 same-length-5 : tie.Need-same-length-5
 same-length-5 c = search needs

@@ -6,7 +6,10 @@ use mathlib.Core.List.{List, [], _∷_}
 use Prim.Native.Nat.{ℕ}
 use types.Run.{OneOf, miss}
 use Rattle.table.specs.declared.Letter.{Letter}
-use Rattle.table.specs.declared.Letter.the-variants.{A, B, C, D, E, I, N, P, Q, T, Y, Z}
+use Rattle.lists.specs.Quoted.{bytes}
+use Rattle.table.specs.LetterLaws.{listed-letter}
+use Rattle.table.specs.declared.Letter.the-variants.{B}
+use Rattle.table.proofs.Letters.{tag}
 use Rattle.tests.specs.Prepares.{TestLetter}
 use Rattle.tests.proofs.Values.{named, readable, letter-told}
 use Rattle.tests.proofs.prepare_letter.Statement.{statement}
@@ -21,22 +24,8 @@ use Rattle.tests.proofs.prepare_first.Reads as prepare-first-reads
 abbrev others : List ℕ
 others = 0 ∷ 1 ∷ 2 ∷ 3 ∷ 4 ∷ 5 ∷ 7 ∷ 8 ∷ 10 ∷ 11 ∷ []
 
-abbrev tag : Letter → ℕ
-tag l = denote.Enum.Declared.tagOf (denote.Enum.Declared.declared Rattle.table.proofs.Letter.enum) l
-
 first-left : (l : Letter) → TestLetter l → OneOf others (tag l) → l ≡ B
-first-left A h k = absurd h
-first-left B h k = refl
-first-left C h k = absurd h
-first-left D h k = absurd h
-first-left E h k = absurd h
-first-left I h k = absurd h
-first-left N h k = absurd (miss others 6 tt k)
-first-left P h k = absurd h
-first-left Q h k = absurd h
-first-left T h k = absurd (miss others 9 tt k)
-first-left Y h k = absurd h
-first-left Z h k = absurd h
+first-left = listed-letter (λ l. OneOf others (tag l) → l ≡ B) (bytes "BNT") (λ k. refl) (λ k. absurd (miss others 6 tt k)) (λ k. absurd (miss others 9 tt k))
 
 sub-i : tie.Need-sub-i
 sub-i c =

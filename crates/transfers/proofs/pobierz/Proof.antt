@@ -2,8 +2,8 @@
 use borrow.Author.Needs.{needs}
 use native.Mathlib.Omega.{arith}
 use lib.ListN.{length-take}
+use borrow.Author.Tests.{not-true, not-false}
 use Rattle.layout.specs.ComponentLaws.{whole-components}
-use Rattle.instructions.proofs.Written.{denied, granted}
 use Rattle.transfers.proofs.Rooms.{left-most}
 use Rattle.transfers.proofs.Fetching.{pobierz-none, starts, parts-most, chars-most, first, pobierz-full, pobierz-writable, pobierz-done}
 use Rattle.transfers.proofs.pobierz.Statement.{statement}
@@ -100,7 +100,7 @@ returns-2 c =
     let left2ᶜ = c .before .before .left2 in
     let has-roomᶜ = c .before .has-room in
     let if2ᶜ = c .if2 in
-    pobierz-full (preᶜ .ready .stands) (argsᶜ .removes) (preᶜ .source) (after-bytesᶜ .ensures) (argsᶜ .reverses) (argsᶜ .at-end) (preᶜ .target) (if1ᶜ .left) (contents-atᶜ .ensures) (countᶜ .ensures) (leftᶜ .ensures) (left2ᶜ .ensures) (has-roomᶜ .ensures) (denied (has-roomᶜ .result) (if2ᶜ .taken))
+    pobierz-full (preᶜ .ready .stands) (argsᶜ .removes) (preᶜ .source) (after-bytesᶜ .ensures) (argsᶜ .reverses) (argsᶜ .at-end) (preᶜ .target) (if1ᶜ .left) (contents-atᶜ .ensures) (countᶜ .ensures) (leftᶜ .ensures) (left2ᶜ .ensures) (has-roomᶜ .ensures) (not-true (has-roomᶜ .result) (if2ᶜ .taken))
 
 copy-requires : tie.Need-copy-requires
 copy-requires c κs =
@@ -154,7 +154,7 @@ write-parts-requires c κs =
     let if2ᶜ = c .before .before .before .before .before .before .before .before .before .before .before .before .before .before .before .before .before .before .before .before .before .before .before .before .before .if2 in
     let copyᶜ = c .before .before .before .before .before .before .before .before .before .before .before .before .before .before .before .before .before .before .before .before .before .before .before .copy in
     let past-recordsᶜ = c .before .before .before .before .before .before .before .before .before .before .before .before .before .before .before .past-records in
-    pobierz-writable (preᶜ .ready .stands) (argsᶜ .removes) (preᶜ .source) (after-bytesᶜ .ensures) (argsᶜ .reverses) (argsᶜ .at-end) (preᶜ .target) (if1ᶜ .left) (contents-atᶜ .ensures) (countᶜ .ensures) (leftᶜ .ensures) (left2ᶜ .ensures) (has-roomᶜ .ensures) (granted (has-roomᶜ .result) (if2ᶜ .left)) (argsᶜ .hold .now) (copyᶜ .ensures) (past-recordsᶜ .ensures) (omega (arith, preᶜ .ready .spare, past-recordsᶜ .kept .1 .1 .1 .0))
+    pobierz-writable (preᶜ .ready .stands) (argsᶜ .removes) (preᶜ .source) (after-bytesᶜ .ensures) (argsᶜ .reverses) (argsᶜ .at-end) (preᶜ .target) (if1ᶜ .left) (contents-atᶜ .ensures) (countᶜ .ensures) (leftᶜ .ensures) (left2ᶜ .ensures) (has-roomᶜ .ensures) (not-false (has-roomᶜ .result) (if2ᶜ .left)) (argsᶜ .hold .now) (copyᶜ .ensures) (past-recordsᶜ .ensures) (omega (arith, preᶜ .ready .spare, past-recordsᶜ .kept .1 .1 .1 .0))
 
 same-length-7 : tie.Need-same-length-7
 same-length-7 c = search needs
@@ -189,7 +189,7 @@ returns-3 c =
     let copyᶜ = c .before .before .before .before .before .before .before .before .before .before .before .before .before .before .before .before .before .before .before .before .before .before .before .before .before .before .before .before .before .before .before .before .copy in
     let past-recordsᶜ = c .before .before .before .before .before .before .before .before .before .before .before .before .before .before .before .before .before .before .before .before .before .before .before .before .past-records in
     let write-partsᶜ = c .before .before .before .before .before .before .before .before .write-parts in
-    pobierz-done (preᶜ .ready .stands) (argsᶜ .removes) (preᶜ .source) (after-bytesᶜ .ensures) (argsᶜ .reverses) (argsᶜ .at-end) (preᶜ .target) (if1ᶜ .left) (contents-atᶜ .ensures) (countᶜ .ensures) (leftᶜ .ensures) (left2ᶜ .ensures) (has-roomᶜ .ensures) (granted (has-roomᶜ .result) (if2ᶜ .left)) (argsᶜ .hold .now) (copyᶜ .ensures) (past-recordsᶜ .ensures) (write-partsᶜ .ensures)
+    pobierz-done (preᶜ .ready .stands) (argsᶜ .removes) (preᶜ .source) (after-bytesᶜ .ensures) (argsᶜ .reverses) (argsᶜ .at-end) (preᶜ .target) (if1ᶜ .left) (contents-atᶜ .ensures) (countᶜ .ensures) (leftᶜ .ensures) (left2ᶜ .ensures) (has-roomᶜ .ensures) (not-false (has-roomᶜ .result) (if2ᶜ .left)) (argsᶜ .hold .now) (copyᶜ .ensures) (past-recordsᶜ .ensures) (write-partsᶜ .ensures)
 
 pub pobierz-spec : {M : Type 1} → statement M
 pobierz-spec =

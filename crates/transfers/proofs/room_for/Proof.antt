@@ -1,7 +1,7 @@
 -- `transfers::room_for` meets its contract.
 use native.Mathlib.Omega.{arith}
+use borrow.Author.Tests.{not-true, not-false}
 use Rattle.state.specs.Working.{state-at}
-use Rattle.instructions.proofs.Written.{denied, granted}
 use Rattle.transfers.proofs.Rooms.{answer-full, answer-records, answer-given, answer-room}
 use Rattle.transfers.proofs.room_for.Statement.{statement}
 use Rattle.transfers.proofs.room_for.Tie as tie
@@ -20,7 +20,7 @@ returns c =
     let argsᶜ = c .before .before .before .before .before .args in
     let has-roomᶜ = c .before .has-room in
     let if1ᶜ = c .if1 in
-    answer-full (state-at (argsᶜ .pool .now) (argsᶜ .ends .now) (argsᶜ .nums .now) .store) (argsᶜ .records) (argsᶜ .parts) (argsᶜ .chars) (argsᶜ .given) (has-roomᶜ .ensures) (denied (has-roomᶜ .result) (if1ᶜ .taken))
+    answer-full (state-at (argsᶜ .pool .now) (argsᶜ .ends .now) (argsᶜ .nums .now) .store) (argsᶜ .records) (argsᶜ .parts) (argsᶜ .chars) (argsᶜ .given) (has-roomᶜ .ensures) (not-true (has-roomᶜ .result) (if1ᶜ .taken))
 
 number-requires : tie.Need-number-requires
 number-requires c κs =
@@ -40,7 +40,7 @@ returns-2 c =
     let if1ᶜ = c .before .before .if1 in
     let numberᶜ = c .before .number in
     let if2ᶜ = c .if2 in
-    answer-records (state-at (argsᶜ .pool .now) (argsᶜ .ends .now) (argsᶜ .nums .now) .store) (argsᶜ .records) (argsᶜ .parts) (argsᶜ .chars) (argsᶜ .given) (has-roomᶜ .ensures) (granted (has-roomᶜ .result) (if1ᶜ .left)) (omega (arith, numberᶜ .ensures .is, if2ᶜ .taken))
+    answer-records (state-at (argsᶜ .pool .now) (argsᶜ .ends .now) (argsᶜ .nums .now) .store) (argsᶜ .records) (argsᶜ .parts) (argsᶜ .chars) (argsᶜ .given) (has-roomᶜ .ensures) (not-false (has-roomᶜ .result) (if1ᶜ .left)) (omega (arith, numberᶜ .ensures .is, if2ᶜ .taken))
 
 number-requires-2 : tie.Need-number-requires-2
 number-requires-2 c κs =
@@ -62,7 +62,7 @@ returns-3 c =
     let if2ᶜ = c .before .before .if2 in
     let number2ᶜ = c .before .number2 in
     let if3ᶜ = c .if3 in
-    answer-given (state-at (argsᶜ .pool .now) (argsᶜ .ends .now) (argsᶜ .nums .now) .store) (argsᶜ .records) (argsᶜ .parts) (argsᶜ .chars) (argsᶜ .given) (has-roomᶜ .ensures) (granted (has-roomᶜ .result) (if1ᶜ .left)) (omega (arith, numberᶜ .ensures .is, if2ᶜ .left)) (omega (arith, number2ᶜ .ensures .is, if3ᶜ .taken))
+    answer-given (state-at (argsᶜ .pool .now) (argsᶜ .ends .now) (argsᶜ .nums .now) .store) (argsᶜ .records) (argsᶜ .parts) (argsᶜ .chars) (argsᶜ .given) (has-roomᶜ .ensures) (not-false (has-roomᶜ .result) (if1ᶜ .left)) (omega (arith, numberᶜ .ensures .is, if2ᶜ .left)) (omega (arith, number2ᶜ .ensures .is, if3ᶜ .taken))
 
 returns-4 : tie.Need-returns-4
 returns-4 c =
@@ -73,7 +73,7 @@ returns-4 c =
     let if2ᶜ = c .before .before .if2 in
     let number2ᶜ = c .before .number2 in
     let if3ᶜ = c .if3 in
-    answer-room (state-at (argsᶜ .pool .now) (argsᶜ .ends .now) (argsᶜ .nums .now) .store) (argsᶜ .records) (argsᶜ .parts) (argsᶜ .chars) (argsᶜ .given) (has-roomᶜ .ensures) (granted (has-roomᶜ .result) (if1ᶜ .left)) (omega (arith, numberᶜ .ensures .is, if2ᶜ .left)) (omega (arith, number2ᶜ .ensures .is, if3ᶜ .left))
+    answer-room (state-at (argsᶜ .pool .now) (argsᶜ .ends .now) (argsᶜ .nums .now) .store) (argsᶜ .records) (argsᶜ .parts) (argsᶜ .chars) (argsᶜ .given) (has-roomᶜ .ensures) (not-false (has-roomᶜ .result) (if1ᶜ .left)) (omega (arith, numberᶜ .ensures .is, if2ᶜ .left)) (omega (arith, number2ᶜ .ensures .is, if3ᶜ .left))
 
 pub room-for-spec : {M : Type 1} → statement M
 room-for-spec =
