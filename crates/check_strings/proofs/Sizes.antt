@@ -83,6 +83,15 @@ module _ {l n a r : ℕ} {b : List ℕ} (f : framed b ≡ true) (q : Number (two
 
 -- ---- a turn of a walk, of which n is the size that was found at place `at`
 
+-- the size k is found where t says so, else 0; where it is 0, the cells are not sound; else those behind it decide
+sized-fault : (t : Bool) (k : ℕ) (f : ℕ → Bool) {n : ℕ} → 0 < k → n ≡ cond t k 0 → n ≡ 0 → (t && f k) ≡ false
+sized-fault true k f h q z = absurd (omega (arith, h, q, z))
+sized-fault false k f h q z = refl
+
+sized-next : (t : Bool) (k : ℕ) (f : ℕ → Bool) {n : ℕ} → n ≡ cond t k 0 → (n ≡ 0 → ⊥) → (t && f k) ≡ f n
+sized-next true k f q z = ap f (sym q)
+sized-next false k f q z = absurd (z q)
+
 module _ (l at : ℕ) (b : List ℕ) (k : l ≤ limit.addresses) (h : Bytes b) (m : at < length b) where
   abbrev ahead : List ℕ
   ahead = drop at b
@@ -107,20 +116,15 @@ module _ (l at : ℕ) (b : List ℕ) (k : l ≤ limit.addresses) (h : Bytes b) (
     pub front-fits : at + n ≤ length b
     front-fits = omega (arith, q .most, length-drop at b)
 
-    -- where it is 0, the cells are not sound; else those behind it decide
     pub components-fault : n ≡ 0 → sound-components l ahead ≡ false
-    components-fault z = components-walk l ahead k (bytes-drop at b h) some-ahead ∙ go (sound-front l ahead) refl
-      where
-        go : (t : Bool) → sound-front l ahead ≡ t → t && sound-components l (drop (component-size (cell ahead 0)) ahead) ≡ false
-        go true e = let s : n ≡ component-size (cell ahead 0) = q .is ∙ rw e refl in absurd (omega (arith, size-most (cell ahead 0), s))
-        go false e = refl
+    components-fault z =
+        components-walk l ahead k (bytes-drop at b h) some-ahead
+        ∙ sized-fault (sound-front l ahead) (component-size (cell ahead 0)) (λ i. sound-components l (drop i ahead)) (omega (arith, size-most (cell ahead 0))) (q .is) z
 
     pub components-next : (n ≡ 0 → ⊥) → sound-components l ahead ≡ sound-components l (drop (at + n) b)
-    components-next z = components-walk l ahead k (bytes-drop at b h) some-ahead ∙ go (sound-front l ahead) refl
-      where
-        go : (t : Bool) → sound-front l ahead ≡ t → t && sound-components l (drop (component-size (cell ahead 0)) ahead) ≡ sound-components l (drop (at + n) b)
-        go true e = let s : n ≡ component-size (cell ahead 0) = q .is ∙ rw e refl in rw (← s, drop-drop n at b)
-        go false e = absurd (z (q .is ∙ rw e refl))
+    components-next z =
+        components-walk l ahead k (bytes-drop at b h) some-ahead
+        ∙ sized-next (sound-front l ahead) (component-size (cell ahead 0)) (λ i. sound-components l (drop i ahead)) (q .is) z ∙ ap (sound-components l) (drop-drop n at b)
 
   module _ {n : ℕ} (q₀ : RecordSize l lent n) where
     p : RecordSize l ahead n
@@ -130,20 +134,14 @@ module _ (l at : ℕ) (b : List ℕ) (k : l ≤ limit.addresses) (h : Bytes b) (
     record-fits = omega (arith, p .most, length-drop at b)
 
     pub records-fault : n ≡ 0 → sound-records l ahead ≡ false
-    records-fault z = records-walk l ahead k (bytes-drop at b h) some-ahead ∙ go (sound-record l ahead) refl
-      where
-        go : (t : Bool) → sound-record l ahead ≡ t → t && sound-records l (drop (7 + two-at 3 ahead) ahead) ≡ false
-        go true e = absurd (omega (arith, sym z ∙ p .is ∙ ap (λ t. cond t (7 + two-at 3 ahead) 0) e))
-        go false e = refl
+    records-fault z =
+        records-walk l ahead k (bytes-drop at b h) some-ahead
+        ∙ sized-fault (sound-record l ahead) (7 + two-at 3 ahead) (λ i. sound-records l (drop i ahead)) (omega arith) (p .is) z
 
     pub records-next : (n ≡ 0 → ⊥) → sound-records l ahead ≡ sound-records l (drop (at + n) b)
-    records-next z = records-walk l ahead k (bytes-drop at b h) some-ahead ∙ go (sound-record l ahead) refl
-      where
-        go : (t : Bool) → sound-record l ahead ≡ t → t && sound-records l (drop (7 + two-at 3 ahead) ahead) ≡ sound-records l (drop (at + n) b)
-        go true e =
-            let s : n ≡ 7 + two-at 3 ahead = p .is ∙ ap (λ t. cond t (7 + two-at 3 ahead) 0) e in
-            ap (λ i. sound-records l (drop i ahead)) (sym s) ∙ ap (sound-records l) (drop-drop n at b)
-        go false e = absurd (z (p .is ∙ ap (λ t. cond t (7 + two-at 3 ahead) 0) e))
+    records-next z =
+        records-walk l ahead k (bytes-drop at b h) some-ahead
+        ∙ sized-next (sound-record l ahead) (7 + two-at 3 ahead) (λ i. sound-records l (drop i ahead)) (p .is) z ∙ ap (sound-records l) (drop-drop n at b)
 
 pub components-over : (l : ℕ) (b : List ℕ) (at : ℕ) → length b ≤ at → sound-components l (drop at b) ≡ true
 components-over l b at h = components-end l (drop at b) (rw (length-drop at b) (omega arith))

@@ -22,12 +22,9 @@ use Rattle.syntax.specs.Ending.{end-faults, absent}
 use Rattle.syntax.specs.Items.{Item, places}
 use Rattle.syntax.specs.Statements.{same-keyword, operator, operator-at, keyword-in, rest, one-name}
 use Rattle.syntax.specs.Statements.Keyword.{KONS, KONP}
-use Rattle.syntax.specs.Statements as Spec
 use Rattle.syntax.specs.Tables as spec
 use Rattle.syntax.specs.Tables.{closing-faults, closing-after}
 use Rattle.syntax.specs.Verdict.{lowest}
-use Rattle.words.specs.declared.Keyword.{Keyword}
-use Rattle.words.specs.Keywords.{told}
 use Rattle.closing.specs.Closing.{is-kons, is-konp, Tells-closing, Closable, Closing-fault, Closed, unended, Ends}
 use Rattle.closing.specs.declared.Closing.{Closing}
 

@@ -11,7 +11,7 @@ use Rattle.drafts.specs.Marks.{place-by}
 use Rattle.language.specs.Instructions.{operator-of}
 use Rattle.language.specs.Limits as limit
 use Rattle.language.specs.Program.{Arg, Label, Program}
-use Rattle.language.specs.Program.Arg.{nothing, letter, label, switch, class, text}
+use Rattle.language.specs.Program.Arg.{nothing}
 use Rattle.layout.specs.ArgumentLaws.{operator-below}
 use Rattle.layout.specs.Bounds.{Each}
 use Rattle.layout.specs.Cells.{cell}

@@ -1,8 +1,8 @@
 -- The tables of a text, kept as they are, take an instruction.
 use mathlib.Core.Path.{_≡_, refl, sym, ap, _∙_, subst}
-use mathlib.Core.Bool.{Bool, true, false, not, _||_}
+use mathlib.Core.Bool.{false, not, _||_}
 use mathlib.Core.List.{List, [], _∷_, _++_, map, map-append}
-use Prim.Native.Nat.{ℕ, _+_, _≤_}
+use Prim.Native.Nat.{ℕ, _≤_}
 use native.Mathlib.Omega.{arith}
 use lib.Dec.{T}
 use lib.ListN.{length, getD, take, length-map}
@@ -27,14 +27,14 @@ use Rattle.layout.specs.Bounds.{Each}
 use Rattle.layout.specs.CellLaws.{each-append, each-right}
 use Rattle.lexer.specs.declared.Token.{Token}
 use Rattle.lexer.specs.Tokens.{item-of}
-use Rattle.lists.specs.Lists.{filled, ifAny}
+use Rattle.lists.specs.Lists.{ifAny}
 use Rattle.lists.specs.ListLaws.{T-left}
 use Rattle.statements.specs.StatementAt.{statement-at, stops, fault-of}
 use Rattle.statements.specs.declared.Fault.{Fault}
 use Rattle.statements.specs.declared.Fault.the-variants.{Clear}
 use Rattle.syntax.specs.ArgumentForms.{word-reads, Argument, alternatives, arguments-in, arguments}
 use Rattle.syntax.specs.Items.{Item, is, places, line-of}
-use Rattle.syntax.specs.Items.Sort.{word, colon, text}
+use Rattle.syntax.specs.Items.Sort.{colon}
 use Rattle.syntax.specs.Questions.{beyond, instr-beyond}
 use Rattle.syntax.specs.Statements.{behind, operator, operator-at, rest}
 use Rattle.syntax.specs.Tables.{Tables, contents, new-texts, new-numbers, number-in, with-instr}

@@ -1,10 +1,11 @@
 -- The loop over the items of a statement, for texts and for numbers alike.
 use mathlib.Core.Path.{_≡_, refl, sym, ap, _∙_, subst}
-use mathlib.Core.Bool.{Bool, true, false, cond, not, _&&_, true≢false, false≢true}
+use mathlib.Core.Bool.{Bool, true, false, cond, not, _&&_, true≢false}
 use mathlib.Core.List.{List, [], _∷_, append-nil}
 use Prim.Native.Nat.{ℕ, zero, suc, _-_, _≤_, _<_}
 use native.Mathlib.Omega.{arith}
 use lib.ListN.{length, drop}
+use borrow.Author.Tests.{not-true}
 use Rattle.language.specs.Limits as limit
 use Rattle.language.specs.Program.{Program}
 use Rattle.layout.specs.Bounds.{Each}
@@ -146,7 +147,7 @@ module _ {X : Type 0} (equal : X → X → Bool) (value-of : Item → X) (passes
               next : (p : Program) (g : HoldsProgram c p) (b : Bool) → passes x ≡ b → Reached s n p d′ (t .next)
               next p g true e =
                   let v = now-of p g in
-                  let f : full equal (value-of x) v ≡ false = no-room (full equal (value-of x) v) (sym (rw e at (answer p g)) ∙ q) in
+                  let f : full equal (value-of x) v ≡ false = not-true (full equal (value-of x) v) (sym (rw e at (answer p g)) ∙ q) in
                   record {
                     table = added equal (value-of x) v;
                     holds = rw e at (held-next p g);
@@ -155,10 +156,6 @@ module _ {X : Type 0} (equal : X → X → Bool) (value-of : Item → X) (passes
                     list = u .reached p g .list ∙ ap (λ (ys : List Item). all-added equal value-of passes v ys) (at-item k z)
                         ∙ added-on equal value-of passes x js e v (few p g) f;
                   }
-                where
-                  no-room : (b : Bool) → not b ≡ true → b ≡ false
-                  no-room true y = absurd (false≢true y)
-                  no-room false y = refl
               next p g false e =
                   let v = now-of p g in
                   record {

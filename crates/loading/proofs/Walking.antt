@@ -24,7 +24,6 @@ use Rattle.reading_statements.specs.declared.Read.the-variants.{Statement, Refu
 use Rattle.statements.specs.StatementAt.{statements-at, statement-at}
 use Rattle.syntax.specs.Items.{Item, line-of}
 use Rattle.syntax.specs.Load.{unless-refused, load-from}
-use Rattle.syntax.specs.Load as spec
 use Rattle.syntax.specs.Tables.{Draft, blank, draft-after}
 use Rattle.syntax.specs.Verdict.{first-no}
 use Rattle.syntax.specs.Verdict.Verdict.{yes, refuse}

@@ -1,44 +1,24 @@
 -- Where a string lies in a state at rest.
 use mathlib.Core.Path.{_≡_, refl, sym, ap, _∙_}
-use mathlib.Core.List.{List, [], _∷_, _++_, append-assoc}
+use mathlib.Core.List.{List, [], _∷_}
 use Prim.Native.Nat.{ℕ, zero, suc, _+_, _-_, _*_, _≤_, _<_}
 use native.Mathlib.Omega.{arith}
-use lib.ListN.{length, take, drop, getD, replicate}
-use lib.Seq.{getD-drop, drop-at, drop-drop, take-append-seam, drop-append-seam}
-use Rattle.lists.specs.Lists.{joined}
+use lib.ListN.{length, take, drop, getD}
+use lib.Seq.{getD-drop, drop-drop}
 use Rattle.language.specs.Limits as limit
 use Rattle.layout.specs.CellLaws.{each-at}
 use Rattle.layout.specs.Cells.{two-at, three-at}
 use Rattle.layout.specs.Memory.{strings, state-cells, threes-in, state-of}
 use Rattle.layout.specs.MemoryLaws.{string-output, strings-in-cells}
-use Rattle.layout.specs.StringLaws.{joined-split, length-lengths, length-strings-in}
-use Rattle.layout.specs.Strings.{lengths, used, string-cells, strings-in}
+use Rattle.layout.specs.StringLaws.{length-strings-in}
+use Rattle.layout.specs.Strings.{strings-in}
 use Rattle.cells.specs.Cells.{Number}
 use Rattle.gaps.specs.Pool.{string, offset}
 use Rattle.gaps.proofs.Index.{offset-zero, offset-next, offset-within}
-use Rattle.packing.specs.Packing.{Packed}
-use Rattle.packing.proofs.Reading.{packed-long, length-read}
+use Rattle.packing.proofs.Reading.{packed-long, length-read, string-read}
 use Rattle.resting.specs.Resting.{Openable}
 use Rattle.resting.proofs.Laws.{scalars-are, unpackable}
 use Rattle.viewing.specs.Viewing.{Rests, Stringed, Shows}
-
-module _ {m : List ℕ} (h : Packed m) where
-  at-strings : drop 198 m ≡ joined (strings-in m) ++ replicate (40738 - used (strings-in m)) 0
-  unfolding string-cells
-  at-strings =
-      let l : length (lengths (strings-in m)) ≡ 198 = length-lengths (strings-in m) ∙ rw length-strings-in in
-      ap (drop 198) (h .is) ∙ drop-at (lengths (strings-in m)) _ 198 l
-
-  pub string-read : (j n from : ℕ) → j < 99 → from ≡ 198 + offset j (strings-in m) → n ≡ length (string j (strings-in m)) → take n (drop from m) ≡ string j (strings-in m)
-  unfolding offset used
-  string-read j n from b q k =
-      let s : List (List ℕ) = strings-in m in
-      let b′ : j < length s = rw (length-strings-in m) b in
-      let Z : List ℕ = replicate (40738 - used s) 0 in
-      let all : drop 198 m ≡ joined (take j s) ++ (getD s j [] ++ (joined (drop (suc j) s) ++ Z)) =
-      at-strings ∙ ap (λ (l : List ℕ). l ++ Z) (joined-split s j b′) ∙ simp append-assoc in
-      rw (q, k, ← drop-drop (length (joined (take j s))) 198 m, all, drop-append-seam (joined (take j s)) (getD s j [] ++ (joined (drop (suc j) s) ++ Z)))
-      (take-append-seam (getD s j []) (joined (drop (suc j) s) ++ Z))
 
 -- the loop over the strings before the one that is looked for
 pub record Passing (m : List ℕ) (i from j : ℕ) : Type 0 where
