@@ -17,6 +17,7 @@ use Rattle.machine.specs.Arguments.{none}
 use Rattle.machine.specs.Changes.{with-plus}
 use Rattle.machine.specs.Effects.{Go, Row, jump-if, row}
 use Rattle.machine.specs.Effects.Go.{on, jump, call, back}
+use Rattle.machine.specs.Steps.{can-go}
 use Rattle.cells.specs.Cells.{Number}
 use Rattle.layout.specs.Table.{label-in, program-of}
 use Rattle.packed.specs.Packed.{table-of}
@@ -137,22 +138,13 @@ module _ {c p e n : List ℕ} {k : ℕ} (w : Leads c p e n k) where
         (goes-made (w .stands) (none, with-plus true (s .store), on) none-yes refl
         (rw (made-after none (with-plus true) on s) (after-state h (on-store (with-plus true)) j)))
 
-    pub if-jump : {t : ℕ} {p′ e′ n′ p″ e″ n″ : List ℕ} → b ≡ true → t ≡ led-to c k → HoldsState p′ e′ n′ (going (jump t) s)
-        → HoldsState p″ e″ n″ (on-store (with-plus true) (state-at p′ e′ n′))
-        → GoesIn p e n 0 p″ e″ n″ (λ ins. jump-if (program-of c) ins (s .store) b (jump (led-to c k)))
-    if-jump q x h j ins =
-        let g = jump (led-to c k) in
+    pub if-gone : (to : ℕ → Go) → ((t : ℕ) → can-go (to t) (s .stack) ≡ true) → {t : ℕ} {p′ e′ n′ p″ e″ n″ : List ℕ} → b ≡ true → t ≡ led-to c k
+        → HoldsState p′ e′ n′ (going (to t) s) → HoldsState p″ e″ n″ (on-store (with-plus true) (state-at p′ e′ n′))
+        → GoesIn p e n 0 p″ e″ n″ (λ ins. jump-if (program-of c) ins (s .store) b (to (led-to c k)))
+    if-gone to can q x h j ins =
+        let g = to (led-to c k) in
         rw (if-taken c ins (s .store) k b g q)
-        (goes-made (w .stands) (none, with-plus true (s .store), g) none-yes refl
-        (rw (made-after none (with-plus true) g s) (after-state (rw x at h) (on-store (with-plus true)) j)))
-
-    pub if-call : {t : ℕ} {p′ e′ n′ p″ e″ n″ : List ℕ} → b ≡ true → t ≡ led-to c k → HoldsState p′ e′ n′ (going (call t) s)
-        → HoldsState p″ e″ n″ (on-store (with-plus true) (state-at p′ e′ n′))
-        → GoesIn p e n 0 p″ e″ n″ (λ ins. jump-if (program-of c) ins (s .store) b (call (led-to c k)))
-    if-call q x h j ins =
-        let g = call (led-to c k) in
-        rw (if-taken c ins (s .store) k b g q)
-        (goes-made (w .stands) (none, with-plus true (s .store), g) none-yes refl
+        (goes-made (w .stands) (none, with-plus true (s .store), g) none-yes (can (led-to c k))
         (rw (made-after none (with-plus true) g s) (after-state (rw x at h) (on-store (with-plus true)) j)))
 
     pub if-full : {d : ℕ} → b ≡ true → Deep p e n d → d ≡ limit.stack

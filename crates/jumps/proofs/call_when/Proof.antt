@@ -1,8 +1,10 @@
 -- `jumps::call_when` meets its contract.
+use mathlib.Core.Path.{refl}
 use borrow.Author.Needs.{needs}
 use borrow.Author.Tests.{not-true, not-false}
+use Rattle.machine.specs.Effects.Go.{call}
 use Rattle.state.proofs.Standing.{stands}
-use Rattle.jumps.proofs.Rows.{placed, target-is, callable, if-not, if-call, if-full}
+use Rattle.jumps.proofs.Rows.{placed, target-is, callable, if-not, if-gone, if-full}
 use Rattle.jumps.proofs.call_when.Statement.{statement}
 use Rattle.jumps.proofs.call_when.Tie as tie
 
@@ -89,7 +91,7 @@ returns-3 c =
     let targetᶜ = c .before .before .before .before .before .before .before .before .before .before .before .before .before .before .before .before .before .before .before .target in
     let call-toᶜ = c .before .before .before .before .before .before .before .before .before .before .before .before .before .before .call-to in
     let set-plusᶜ = c .before .before .set-plus in
-    if-call (preᶜ .turns .leads) (argsᶜ .taken) (not-false (argsᶜ .taken) (if1ᶜ .left)) (target-is (preᶜ .turns .leads) (targetᶜ .ensures)) (call-toᶜ .ensures) (set-plusᶜ .ensures)
+    if-gone (preᶜ .turns .leads) (argsᶜ .taken) call (λ t. refl) (not-false (argsᶜ .taken) (if1ᶜ .left)) (target-is (preᶜ .turns .leads) (targetᶜ .ensures)) (call-toᶜ .ensures) (set-plusᶜ .ensures)
 
 pub call-when-spec : {M : Type 1} → statement M
 call-when-spec =

@@ -1,8 +1,9 @@
 -- `jumps::jump_when` meets its contract.
+use mathlib.Core.Path.{refl}
 use borrow.Author.Needs.{needs}
 use borrow.Author.Tests.{not-true, not-false}
 use Rattle.state.proofs.Standing.{stands}
-use Rattle.jumps.proofs.Rows.{placed, target-is, reachable, following, if-on, if-jump}
+use Rattle.jumps.proofs.Rows.{placed, target-is, reachable, following, if-on, if-gone}
 use Rattle.machine.specs.Effects.Go.{jump}
 use Rattle.jumps.specs.Jumps.{led-to}
 use Rattle.jumps.proofs.jump_when.Statement.{statement}
@@ -57,7 +58,7 @@ returns-2 c =
     let targetᶜ = c .before .before .before .before .before .before .before .before .target in
     let go-toᶜ = c .before .before .before .before .before .before .go-to in
     let set-plus2ᶜ = c .before .before .set-plus2 in
-    if-jump (preᶜ .leads) (argsᶜ .taken) (not-false (argsᶜ .taken) (if1ᶜ .left)) (target-is (preᶜ .leads) (targetᶜ .ensures)) (go-toᶜ .ensures) (set-plus2ᶜ .ensures)
+    if-gone (preᶜ .leads) (argsᶜ .taken) jump (λ t. refl) (not-false (argsᶜ .taken) (if1ᶜ .left)) (target-is (preᶜ .leads) (targetᶜ .ensures)) (go-toᶜ .ensures) (set-plus2ᶜ .ensures)
 
 pub jump-when-spec : {M : Type 1} → statement M
 jump-when-spec =
