@@ -57,7 +57,7 @@ enum eol2_numbers {
     EOL2_BAD_SIZE = 40,           /* Table long enough, text short enough? */
     EOL2_BAD_BYTE = 14,           /* Outside texts and comments, only A to Z, 0 to 9, space , : ; ' + - and new line, each comment closed? */
     EOL2_BAD_TEXT = 15,           /* Each text closed on its line, not empty, of allowed characters and pairs? */
-    EOL2_BAD_LENGTH = 16,         /* Each identifier, number and text within 60 characters? */
+    EOL2_BAD_LENGTH = 16,         /* Each item within 60 characters: name, number, text, and what is none of them? */
     EOL2_BAD_HEADING = 0,         /* Is the first statement SEKCJA and one name, unlabelled? (Printed 00.) */
     EOL2_BAD_OPERATOR = 10,       /* Is the operator known, and no second SEKCJA? */
     EOL2_BAD_SWITCH_LABELS = 8,   /* Has each switch exactly one label? (Printed 08.) */
@@ -161,11 +161,13 @@ uint64_t eol2_start(const uint32_t *table, size_t table_cells, const uint8_t *i1
 uint64_t eol2_run(const uint32_t *table, size_t table_cells, const uint8_t *i1, size_t i1_bytes, const uint8_t *i2, size_t i2_bytes,
                   uint8_t *state, size_t state_bytes, uint32_t budget);
 
-/* ---- reading a table and a state (docs/LAYOUT.md). Both functions take any content, and read nothing beyond what they are handed. */
+/* ---- reading a table and a state (docs/LAYOUT.md). Both functions take any content of EOL2_TABLE numbers and EOL2_STATE bytes, and read
+   nothing beyond. They do not check it: what they say of bytes that no call left has no meaning. eol2_run tells, by 62 and 63. */
 
 /* The characters of the output Q1 (which is 1) or Q2 (which is 2): a pointer into the state's EOL2_STATE bytes, their count in *bytes. They
-   may be any of the 61 characters, new lines among them, and have no 0 at their end. Good until the state is written again. NULL and 0 where
-   the bytes are no state that a call left, and for another which. */
+   may be any of the 61 characters, new lines among them, and have no 0 at their end. Good until the state is written again. NULL and 0 for
+   another which, and where the place and the length that the bytes give reach beyond the EOL2_STATE bytes; never so for a state that a call
+   left, where an empty output is 0 and not NULL. */
 static inline const uint8_t *eol2_output(const uint8_t *state, int which, size_t *bytes)
 {
     size_t at = 222, length = 0;
@@ -183,8 +185,8 @@ static inline const uint8_t *eol2_output(const uint8_t *state, int which, size_t
     return state + at;
 }
 
-/* The line of the next instruction, counted from 1 in the text: after a stop the line of the instruction that failed. It reads EOL2_TABLE
-   numbers of the table at most and EOL2_STATE bytes of the state. 0 where the bytes are no state that a call left. */
+/* The line of the next instruction, counted from 1 in the text, of a table and a state that a call left with it: after a stop the line of the
+   instruction that failed. 0 where the bytes give a place of 512 or more for the next instruction. */
 static inline uint32_t eol2_next_line(const uint32_t *table, const uint8_t *state)
 {
     uint32_t next = (uint32_t)state[9] + 256 * (uint32_t)state[10] + 65536 * (uint32_t)state[11];
