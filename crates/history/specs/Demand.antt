@@ -5,12 +5,12 @@ use mathlib.Core.List.{List, [], _∷_}
 use Prim.Native.Nat.{ℕ, suc, _≤_, _<_}
 use lib.Dec.{T}
 use lib.ListN.{length}
-use Rattle.language.specs.Program.{Arg, Instr, Program, instr-at, label-at, switch-at}
+use Rattle.language.specs.Program.{Arg, Instr, Switch, Program, instr-at, label-at, switch-at}
 use Rattle.language.specs.Program.Arg.{nothing, letter, label, switch, class, text}
 use Rattle.language.specs.Values.{Store, State, Inputs}
 use Rattle.machine.specs.Runs.Outcome.{went}
 use Rattle.machine.specs.Steps.{step}
-use Rattle.machine.specs.WellFormed.{ranged, listed}
+use Rattle.machine.specs.WellFormed.{ranged, listed, good-switch}
 use Rattle.machine.specs.Addresses.{times}
 use Rattle.layout.specs.Bounds.{Each}
 use Rattle.layout.specs.Memory.{state-of}
@@ -27,12 +27,18 @@ module _ (p : Program) where
   abbrev pub LabelDeclared : ℕ → Type 0
   LabelDeclared k = (k < length (p .labels)) × (label-at p k .target < length (p .code))
 
-  -- an argument's label; its switch ("as in 13") "and that switch's entries"
+  -- "that switch's entries: declared as in 12 and 13, listed as in 02"
+  pub record EntriesMet (w : Switch) : Type 0 where
+    pub labels-declared : Each (λ e. LabelDeclared (e .label)) (w .entries)
+    -- at least one; a text only in NAZWA, of 1 to 60 of the characters, and in the table of texts if longer than one
+    pub entries-listed : T (good-switch p w)
+
+  -- an argument's label; its switch ("as in 13") with its entries
   abbrev pub Declared : Arg → Type 0
   Declared nothing = Unit {0}
   Declared (letter l n) = Unit {0}
   Declared (label k) = LabelDeclared k
-  Declared (switch k) = (k < length (p .switches)) × Each (λ e. LabelDeclared (e .label)) (switch-at p k .entries)
+  Declared (switch k) = (k < length (p .switches)) × EntriesMet (switch-at p k)
   Declared (class cs) = Unit {0}
   Declared (text t) = Unit {0}
   Declared (Arg.number z) = Unit {0}

@@ -11,7 +11,7 @@ use lib.Dec.{T, ltb, ltb→lt}
 use lib.ListN.{length}
 use Rattle.lists.specs.Lists.{all, filled}
 use Rattle.lists.specs.ListLaws.{T-left, T-right, all-at}
-use Rattle.language.specs.Program.{Arg, Instr, Entry, Program, no-label, no-switch, instr-at, label-at, switch-at}
+use Rattle.language.specs.Program.{Arg, Instr, Entry, Switch, Program, no-label, no-switch, instr-at, label-at, switch-at}
 use Rattle.language.specs.Program.Arg.{nothing, letter, label, switch, class, text}
 use Rattle.language.specs.Values.{Store, State, Inputs}
 use Rattle.machine.specs.Runs.{Outcome, Goes}
@@ -29,7 +29,7 @@ use Rattle.machine.specs.StepLaws.{instr-good, state-sound, state-once, step-go
 use Rattle.layout.specs.Bounds.{Each}
 use Rattle.layout.specs.CellLaws.{each-of}
 use Rattle.history.specs.History.{Visit, visit, Trail, stepped-to, trail-on, begun}
-use Rattle.history.specs.Demand.{LabelDeclared, Declared, InstructionMet, Met, Distinct, NoneBack, NeverAgain, Stepped}
+use Rattle.history.specs.Demand.{LabelDeclared, EntriesMet, Declared, InstructionMet, Met, Distinct, NoneBack, NeverAgain, Stepped}
 use Rattle.history.specs.Demand.Stepped.{not-begun, begun-at, then-step}
 
 -- ---- what a step meets
@@ -44,19 +44,21 @@ module _ (p : Program) (g : T (good-program p)) where
   entry-declared : (byName : Bool) (e : Entry) → T (good-entry p byName e) → LabelDeclared p (e .label)
   entry-declared byName e h = label-declared (e .label) (ltb→lt (e .label) (length (p .labels)) (T-left (ltb (e .label) (length (p .labels))) _ h))
 
-  switch-declared : (k : ℕ) → k < length (p .switches) → Each (λ e. LabelDeclared p (e .label)) (switch-at p k .entries)
+  switch-met : (w : Switch) → T (good-switch p w) → EntriesMet p w
   unfolding good-switch
-  switch-declared k h =
-      let w = switch-at p k in
-      let t = all-at (good-switch p) (p .switches) (facts .switches) k no-switch h in
-      each-of (good-entry p (w .byName)) (λ e. LabelDeclared p (e .label)) (entry-declared (w .byName)) (w .entries)
-      (T-right (filled (w .entries)) (all (good-entry p (w .byName)) (w .entries)) t)
+  switch-met w h =
+      record {
+        labels-declared =
+            each-of (good-entry p (w .byName)) (λ e. LabelDeclared p (e .label)) (entry-declared (w .byName)) (w .entries)
+            (T-right (filled (w .entries)) (all (good-entry p (w .byName)) (w .entries)) h);
+        entries-listed = h;
+      }
 
   arg-declared : (a : Arg) → T (ranged p a) → Declared p a
   arg-declared nothing h = tt
   arg-declared (letter l n) h = tt
   arg-declared (label k) h = label-declared k (ltb→lt k (length (p .labels)) h)
-  arg-declared (switch k) h = let l = ltb→lt k (length (p .switches)) h in (l, switch-declared k l)
+  arg-declared (switch k) h = let l = ltb→lt k (length (p .switches)) h in (l, switch-met (switch-at p k) (all-at (good-switch p) (p .switches) (facts .switches) k no-switch l))
   arg-declared (class cs) h = tt
   arg-declared (text t) h = tt
   arg-declared (Arg.number z) h = tt
