@@ -5,6 +5,7 @@ use mathlib.Core.List.{List, [], _∷_}
 use Prim.Native.Nat.{ℕ, suc, _≤_, _<_}
 use lib.Dec.{T}
 use lib.ListN.{length}
+use Rattle.lists.specs.Lists.{among}
 use Rattle.language.specs.Program.{Arg, Instr, Switch, Program, instr-at, label-at, switch-at}
 use Rattle.language.specs.Program.Arg.{nothing, letter, label, switch, class, text}
 use Rattle.language.specs.Values.{Store, State, Inputs}
@@ -15,9 +16,9 @@ use Rattle.machine.specs.Addresses.{times}
 use Rattle.layout.specs.Bounds.{Each}
 use Rattle.layout.specs.Memory.{state-of}
 use Rattle.layout.specs.Table.{program-of}
-use Rattle.calls.specs.Calls.{Call, call-inputs, call-questions, result-of, runOf}
+use Rattle.calls.specs.Calls.{Call, call-inputs, reply-number, call-questions, result-of, runOf}
 use Rattle.calls.specs.Calls.Reply.{refusal}
-use Rattle.calls.specs.Answers.{Accepted, FirstNo, RunEnds}
+use Rattle.calls.specs.Answers.{Accepted, refusal-numbers, accepted-numbers, FirstNo, RunEnds}
 use Rattle.history.specs.History.{Visit, visit, Trail, Moment, history}
 
 -- ---- what a step meets
@@ -121,8 +122,13 @@ pub record Demand3 (p : Program) (c : List ℕ) (xs : List Call) (m : List ℕ) 
       → (result-of c′ x m′ .reply ≡ refusal number) ↔ FirstNo number (call-questions c′ x m′)
   -- "Refused calls change nothing."
   pub unchanged : (c′ m′ : List ℕ) (x : Call) (number : ℕ) → result-of c′ x m′ .reply ≡ refusal number → result-of c′ x m′ .cells ≡ m′
+  -- What a caller sees is the reply's number: 61, 62 or 63 just when it is refused, with that number; else 80, 81 or a stop's
+  pub refused-number : (c′ m′ : List ℕ) (x : Call) (number : ℕ)
+      → (result-of c′ x m′ .reply ≡ refusal number) ↔ ((reply-number (result-of c′ x m′ .reply) ≡ number) × T (among number refusal-numbers))
+  pub accepted-number : (c′ m′ : List ℕ) (x : Call)
+      → Accepted (result-of c′ x m′ .reply) ↔ T (among (reply-number (result-of c′ x m′ .reply)) accepted-numbers)
   -- "No table of an accepted text brings 62"
-  pub never-62 : (m′ : List ℕ) (x : Call) → result-of c x m′ .reply ≢ refusal 62
+  pub never-62 : (m′ : List ℕ) (x : Call) → reply-number (result-of c x m′ .reply) ≢ 62
   -- "no state from an accepted start or run, with the same table and inputs, brings 63"
   pub never-63 : (m′ : List ℕ) (x y : Call) → Accepted (result-of c x m′ .reply) → call-inputs y ≡ call-inputs x
-      → result-of c y (result-of c x m′ .cells) .reply ≢ refusal 63
+      → reply-number (result-of c y (result-of c x m′ .cells) .reply) ≢ 63

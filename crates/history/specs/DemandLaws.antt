@@ -25,6 +25,7 @@ use Rattle.calls.specs.Calls.{table-after, Call, call-inputs, reply-count, Resu
 use Rattle.calls.specs.Calls.Call.{start-on, run-on}
 use Rattle.calls.specs.CallLaws.{Decision, decided, refused-by, refused-same, good-not-62, start-left, handed-good, run-ends, accepted-run, again-not-63}
 use Rattle.calls.specs.CallLaws.Decision.{answered-no, answered-yes}
+use Rattle.calls.specs.AnswerLaws.{refused-number, accepted-number}
 use Rattle.history.specs.History.{visit, Past, past-on, past-after, moments, history}
 use Rattle.history.specs.Demand.{Demand3}
 use Rattle.history.specs.TrailLaws.{Followed, followed-none, followed-from, followed-run, run-begun}
@@ -98,8 +99,10 @@ table-demand3 c tc xs m =
       run-ends = accepted-run;
       refused = refused-by;
       unchanged = refused-same;
-      never-62 = λ m′ x. good-not-62 c m′ x tc;
-      never-63 = again-not-63 c;
+      refused-number = refused-number;
+      accepted-number = accepted-number;
+      never-62 = λ m′ x e. good-not-62 c m′ x tc (refused-number c m′ x 62 .1 (e, tt));
+      never-63 = λ m′ x y a i e. again-not-63 c m′ x y a i (refused-number c (result-of c x m′ .cells) y 63 .1 (e, tt));
     }
 
 -- of the table of every well-formed program
