@@ -23,7 +23,7 @@ use Rattle.calls.specs.Calls.Call.{start-on, run-on}
 use Rattle.calls.specs.Calls.Reply.{refusal}
 use Rattle.calls.specs.Answers.{Accepted, refusal-numbers, accepted-numbers}
 use Rattle.calls.specs.QuestionLaws.{first-among, step-number}
-use Rattle.calls.specs.CallLaws.{Decision, decided, yes-accepted}
+use Rattle.calls.specs.CallLaws.{Decision, decided, yes-accepted, accepted-start}
 use Rattle.calls.specs.CallLaws.Decision.{answered-no, answered-yes}
 
 -- the numbers of start and run
@@ -88,6 +88,10 @@ module _ (c m : List ℕ) where
       go : (r : Result) → Decision c m x r → Accepted (r .reply) → T (among (reply-number (r .reply)) accepted-numbers)
       go r (answered-no {number = n} h) a = absurd (a n refl)
       go r (answered-yes q a b d) k = yes-number x
+
+  -- "Accepted is 80"
+  pub start-number : (ins : Inputs) → Accepted (startOf c ins m .reply) → reply-number (startOf c ins m .reply) ≡ 80
+  start-number ins h = ap reply-number (accepted-start c m ins h .0)
 
   pub number-most : (x : Call) → reply-number (result-of c x m .reply) ≤ 81
   number-most x =

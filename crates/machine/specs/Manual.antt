@@ -5,7 +5,7 @@ use lib.IntN.{pos}
 use Rattle.lists.specs.Quoted.{bytes}
 use Rattle.language.specs.Letters.Letter.{A, B, C, D, I, P, Q, T, Y}
 use Rattle.language.specs.Program.Arg.{nothing, letter, label, switch, class}
-use Rattle.language.specs.Program.Op.{PRZESLIJ, CZYTAJ, PISZ, KOPIUJ, UMIESC, SKRESL, RZ, SKOPL, WYMI, SKOIN, ZBIJ, SZUKAJ, OMIN}
+use Rattle.language.specs.Program.Op.{PRZESLIJ, CZYTAJ, PISZ, KOPIUJ, UMIESC, SKRESL, WK, NS, RZ, SKOPL, WYMI, SKOIN, ZBIJ, SZUKAJ, OMIN}
 use Rattle.machine.specs.Runs.{ran}
 use Rattle.machine.specs.Runs.Answer.{pause}
 use Rattle.machine.specs.Steps.{opened}
@@ -41,6 +41,10 @@ worked =
       before = last-is 3 (P-is 7 (rec 1 "A" ∷ []) (rec 2 "B" ∷ rec 3 "C" ∷ []) start);
       gives = ran pause 2 (state 2 [] (last-is 4 (P-is 7 (rec 1 "A" ∷ []) (rec 4 "D" ∷ []) start)));
     }
+    -- 5.4.1: 3 is greater than 2
+    ∷ example WK (letter B 1) (num 2) nothing (E-is 1 (n (pos 3) ∷ []) start) (on-to (E-is 1 (n (pos 3) ∷ []) start))
+    -- 5.4.2: B follows A
+    ∷ example NS (letter B 1) (txt "A") nothing (E-is 1 (w "B" ∷ []) start) (on-to (E-is 1 (w "B" ∷ []) start))
     -- 5.4.3: the first component of the record after the pointer is one of E3
     ∷ example RZ (letter P 1) (letter T 3) nothing
     (E-is 3 (w "ROM" ∷ w "AB" ∷ []) (last-is 1 (P-is 1 [] (rec 1 "AB" ∷ []) start)))

@@ -54,7 +54,11 @@ no-end : loadOf (bytes "SEKCJA S\nSTOP\nKONP S\n\n\n") ≡ refused 25 5
 unfolding opened
 no-end = refl
 
--- 12 comes before 13 over the whole text
+-- 25 comes before 12, and 12 before 13, over the whole text
+unended : loadOf (bytes "SEKCJA S\nSKOCZ Y\nKONP S\n") ≡ refused 25 3
+unfolding opened
+unended = refl
+
 undeclared : loadOf (bytes "SEKCJA S\nSKONA A1,X\nSKOCZ Y\nKONS\nKONP S\n") ≡ refused 12 3
 unfolding opened
 undeclared = refl
