@@ -7,7 +7,7 @@ pub struct Line {
 
 impl Line {
     // With one character more, where it can be seen and there is room.
-    pub fn with(self, b: u8) -> Line {
+    fn with(self, b: u8) -> Line {
         let at = self.len;
         if 63 <= at {
             return self;

@@ -60,7 +60,7 @@ pub fn item_text(text: &[u8], t: Token, table: &[u32]) -> usize
 }
 
 // The cell of an argument that reads as its form.
-pub fn argument_cell(text: &[u8], t: Token, form: u8, table: &[u32]) -> usize
+fn argument_cell(text: &[u8], t: Token, form: u8, table: &[u32]) -> usize
     requires { ⌜ Argued (now text) t form (now table) ⌝ }
     ensures { λ r. ⌜ CellOf (now (text .entry)) t form (now (table .entry)) r ⌝ }
 {

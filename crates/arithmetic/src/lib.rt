@@ -62,7 +62,7 @@ fn with_sign(minus: bool, n: usize) -> usize
     ZERO + n
 }
 
-pub fn sum(a: usize, b: usize) -> usize
+fn sum(a: usize, b: usize) -> usize
     requires { ⌜ Coded a b ⌝ }
     ensures { λ r. ⌜ r ≡ result (uncode a +ℤ uncode b) ⌝ }
 {
@@ -76,14 +76,14 @@ pub fn sum(a: usize, b: usize) -> usize
     s - ZERO
 }
 
-pub fn difference(a: usize, b: usize) -> usize
+fn difference(a: usize, b: usize) -> usize
     requires { ⌜ Coded a b ⌝ }
     ensures { λ r. ⌜ r ≡ result (uncode a -ℤ uncode b) ⌝ }
 {
     sum(a, 2 * ZERO - b)
 }
 
-pub fn product(a: usize, b: usize) -> usize
+fn product(a: usize, b: usize) -> usize
     requires { ⌜ Coded a b ⌝ }
     ensures { λ r. ⌜ r ≡ result (uncode a *ℤ uncode b) ⌝ }
 {
@@ -92,7 +92,7 @@ pub fn product(a: usize, b: usize) -> usize
 }
 
 // "DZIEL cuts toward zero."
-pub fn quotient(a: usize, b: usize) -> usize
+fn quotient(a: usize, b: usize) -> usize
     requires { ⌜ Divisible a b ⌝ }
     ensures { λ r. ⌜ Codes (quotZ (uncode a) (uncode b)) r ⌝ }
 {
@@ -101,7 +101,7 @@ pub fn quotient(a: usize, b: usize) -> usize
 }
 
 // The remainder has the dividend's sign.
-pub fn remainder(a: usize, b: usize) -> usize
+fn remainder(a: usize, b: usize) -> usize
     requires { ⌜ Divisible a b ⌝ }
     ensures { λ r. ⌜ Codes (remZ (uncode a) (uncode b)) r ⌝ }
 {

@@ -42,7 +42,7 @@ fn print_run(table: &[u32], state: &[u8], number: usize, count: usize, out: &mut
 }
 
 // Start and run on the program of a table, with the bytes of I1; I2 is empty.
-pub fn run_table(table: &[u32], i1: &[u8], out: &mut [u8]) -> usize
+fn run_table(table: &[u32], i1: &[u8], out: &mut [u8]) -> usize
     requires { ⌜ 4224 ≤ length (now out) ⌝ }
     ensures { λ r. ⌜ Put (now (out .entry)) 0 (table-bytes (now (table .entry)) (now (i1 .entry) ∷ [] ∷ [])) (now (out .exit)) r ⌝ }
 {

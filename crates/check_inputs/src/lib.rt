@@ -10,7 +10,7 @@ ghost use Rattle.machine.specs.WellFormed.{good-inputs};
 use language::Machine;
 
 // One input.
-pub fn is_input(w: &[u8]) -> bool
+fn is_input(w: &[u8]) -> bool
     ensures { λ r. ⌜ r ≡ (leb (length (now (w .entry))) 65536 && all known (now (w .entry))) ⌝ }
 {
     (w.len() <= Machine::INPUT) & characters::all_known(w)

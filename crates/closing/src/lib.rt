@@ -23,7 +23,7 @@ pub struct Closing {
     pub fault: Fault,
 }
 
-pub fn is_kons(k: Keyword) -> bool
+fn is_kons(k: Keyword) -> bool
     ensures { λ r. ⌜ r ≡ is-kons k ⌝ }
 {
     match k {
@@ -37,7 +37,7 @@ pub fn is_kons(k: Keyword) -> bool
     }
 }
 
-pub fn is_konp(k: Keyword) -> bool
+fn is_konp(k: Keyword) -> bool
     ensures { λ r. ⌜ r ≡ is-konp k ⌝ }
 {
     match k {

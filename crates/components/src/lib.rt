@@ -72,17 +72,6 @@ pub fn chars_of(x: &[u8]) -> &[u8]
     &x[1..e]
 }
 
-// The first character of the word in front; 0 where it is no word.
-pub fn first_char(x: &[u8]) -> u8
-    requires { ⌜ Leading (now x) ⌝ }
-    ensures { λ r. ⌜ r ≡ headOr 0 (chars (component-in (now (x .entry)))) ⌝ }
-{
-    if x[0] == 0 {
-        return 0;
-    }
-    x[1]
-}
-
 // Writes a word of these characters from index `at` on.
 pub fn put_word(out: &mut [u8], at: usize, w: &[u8])
     requires { ⌜ WordRoom (length (now out)) at (length (now w)) ⌝ }
@@ -113,7 +102,7 @@ pub fn put_address(out: &mut [u8], at: usize, n: usize)
 }
 
 // Writes the components of `src` at the front of `out`, the last one first.
-pub fn turn(out: &mut [u8], src: &[u8])
+fn turn(out: &mut [u8], src: &[u8])
     requires { ⌜ CopyRoom (length (now out)) (now src) ⌝ }
     ensures { λ _. ⌜ now (out .exit) ≡ pasted (now (out .entry)) 0 (components-bytes (reverse (components-in (now (src .entry))))) ⌝ }
 {

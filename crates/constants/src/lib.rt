@@ -36,7 +36,7 @@ fn put_text(table: &[u32], out: &mut [u8], v: usize) -> Constant
 }
 
 // Writes a text or number argument as a component at the front of `out`.
-pub fn put_constant(table: &[u32], out: &mut [u8], arg: table::Argument) -> Constant
+fn put_constant(table: &[u32], out: &mut [u8], arg: table::Argument) -> Constant
     requires { ⌜ Puttable (now table) arg (length (now out)) ⌝ }
     ensures { λ r. ⌜ Put (arg-of (table-of (now (table .entry))) arg) (now (out .exit)) r ⌝ }
 {

@@ -48,7 +48,7 @@ fn instruction_beyond(table: &[u32], at: usize) -> Fault
 }
 
 // Question 11 of an instruction whose operator stands at `at` and whose arguments begin at `next`; its texts and numbers come to the table.
-pub fn judge_instruction(
+fn judge_instruction(
     text: &[u8],
     at: usize,
     next: usize,

@@ -63,7 +63,7 @@ fn entries_beyond(text: &[u8], n: usize, table: &[u32]) -> Fault
 }
 
 // Question 11 of a switch whose operator stands at `at` and whose list begins at `next`; its texts come to the table.
-pub fn judge_switch(text: &[u8], at: usize, next: usize, table: &mut [u32]) -> Fault
+fn judge_switch(text: &[u8], at: usize, next: usize, table: &mut [u32]) -> Fault
     requires { ⌜ Judgeable-switch (now text) next (now table) ⌝ }
     ensures { λ r. ⌜ Judges-switch (now (text .entry)) at next (now (table .entry)) r (now (table .exit)) ⌝ }
 {

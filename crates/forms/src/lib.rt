@@ -276,7 +276,7 @@ pub fn forms_at(op: u8, list: u8, place: u8) -> u32
 }
 
 // How many lists an instruction has: 1 or 2; 0 for a number that is no operator's.
-pub fn alternatives(op: u8) -> u8
+fn alternatives(op: u8) -> u8
     ensures { λ r. ⌜ r ≡ lists-of op ⌝ }
 {
     if (op == 0) | (STOP < op) {

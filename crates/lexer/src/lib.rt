@@ -73,7 +73,7 @@ fn text_at(text: &[u8], at: usize) -> Token
 }
 
 // The item that stands at place `n` or behind separators and comments there.
-pub fn item_at(text: &[u8], n: usize) -> Token
+fn item_at(text: &[u8], n: usize) -> Token
     requires { ⌜ n ≤ length (now text) ⌝ }
     ensures { λ r. ⌜ Token-at (now (text .entry)) n r ⌝ }
 {

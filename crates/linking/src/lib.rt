@@ -14,7 +14,7 @@ const LABEL: usize = 2;
 const SWITCH: usize = 3;
 
 // Question 12.
-pub fn undeclared_label(text: &[u8], table: &[u32], sw: &[u32], en: &[u32]) -> Fault
+fn undeclared_label(text: &[u8], table: &[u32], sw: &[u32], en: &[u32]) -> Fault
     requires { ⌜ Kept (now text) (now table) (now sw) (now en) ⌝ }
     ensures { λ r. ⌜ Finds (now (text .entry)) (now (table .entry)) (now (sw .entry)) (now (en .entry)) label-places r ⌝ }
 {
@@ -23,7 +23,7 @@ pub fn undeclared_label(text: &[u8], table: &[u32], sw: &[u32], en: &[u32]) -> F
 }
 
 // Question 13.
-pub fn undeclared_switch(text: &[u8], table: &[u32], sw: &[u32], en: &[u32]) -> Fault
+fn undeclared_switch(text: &[u8], table: &[u32], sw: &[u32], en: &[u32]) -> Fault
     requires { ⌜ Kept (now text) (now table) (now sw) (now en) ⌝ }
     ensures { λ r. ⌜ Finds (now (text .entry)) (now (table .entry)) (now (sw .entry)) (now (en .entry)) switch-places r ⌝ }
 {

@@ -36,7 +36,7 @@ fn name_is(text: &[u8], m: usize, at: usize, len: usize) -> bool
 }
 
 // Whether one of the first `count` names is the `len` bytes at `at`.
-pub fn has_name(text: &[u8], names: &[u32], count: usize, at: usize, len: usize) -> bool
+fn has_name(text: &[u8], names: &[u32], count: usize, at: usize, len: usize) -> bool
     requires { ⌜ Sought (now text) (now names) count at len ⌝ }
     ensures { λ r. ⌜ r ≡ any (sameBytes (take len (drop at (now (text .entry))))) (names-of (now (text .entry)) (take count (now (names .entry)))) ⌝ }
 {

@@ -65,7 +65,7 @@ pub fn first_number(pool: &[u8], ends: &[u32], nums: &[u32], i: usize) -> Operan
 }
 
 // A second argument as a number: B or a number.
-pub fn number_operand(pool: &[u8], ends: &[u32], nums: &[u32], arg: table::Argument) -> Operand
+fn number_operand(pool: &[u8], ends: &[u32], nums: &[u32], arg: table::Argument) -> Operand
     requires { ⌜ OperandReadable (now pool) (now ends) (now nums) arg ⌝ }
     ensures { λ r. ⌜ ReadsOperand (state-at (now (pool .entry)) (now (ends .entry)) (now (nums .entry)) .store) arg r ⌝ }
 {

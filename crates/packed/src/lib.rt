@@ -24,7 +24,7 @@ fn narrow(x: u32) -> u8
 }
 
 // A length, cut to the 60 characters that there are.
-pub fn cut(n: usize) -> usize
+fn cut(n: usize) -> usize
     ensures { λ r. ⌜ r ≡ min n 60 ⌝ }
 {
     if n < Machine::ITEM {

@@ -39,7 +39,7 @@ pub struct Scan {
 }
 
 // Whether a byte is a word's: by ranges and without a branch.
-pub fn is_word(b: u8) -> bool
+fn is_word(b: u8) -> bool
     ensures { λ r. ⌜ r ≡ same-sort word (sort-of b) ⌝ }
 {
     is_letter(b) | is_digit(b) | (b == b'+') | (b == b'-')
@@ -87,7 +87,7 @@ pub fn pair_of(b: u8) -> u8
 }
 
 // A byte of a text. `star`: the byte before is a star that takes this one. Whether the byte may stand there:
-pub fn allows(star: bool, b: u8) -> bool
+fn allows(star: bool, b: u8) -> bool
     ensures { λ r. ⌜ r ≡ allows star b ⌝ }
 {
     if star {
@@ -97,7 +97,7 @@ pub fn allows(star: bool, b: u8) -> bool
 }
 
 // whether it ends the text,
-pub fn ends_text(star: bool, b: u8) -> bool
+fn ends_text(star: bool, b: u8) -> bool
     ensures { λ r. ⌜ r ≡ ends-text star b ⌝ }
 {
     (b == b'\n') | ((b == b'\'') & !star)

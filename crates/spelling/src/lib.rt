@@ -66,58 +66,6 @@ pub fn put_chars(text: &[u8], t: Token, out: &mut [u8]) -> usize
     0
 }
 
-// Whether the character of a byte, if it gives one, stands at index `j` of `other`.
-fn agrees(other: &[u8], j: usize, star: bool, b: u8) -> bool
-    ensures { λ r. ⌜ r ≡ sameBytes (char-of star b) (take (length (char-of star b)) (drop j (now (other .entry)))) ⌝ }
-{
-    if takes_next(star, b) {
-        return true;
-    }
-    if other.len() <= j {
-        return false;
-    }
-    char_of(star, b) == other[j]
-}
-
-// Whether the characters of a text whose bytes stand from `at` to `end` are the bytes of `other`.
-fn text_is(text: &[u8], at: usize, end: usize, other: &[u8]) -> bool
-    requires { ⌜ Between (now text) at end ⌝ }
-    ensures { λ r. ⌜ r ≡ sameBytes (text-in (now (text .entry)) at end) (now (other .entry)) ⌝ }
-{
-    let mut star = false;
-    let mut j: usize = 0;
-    let mut i = at;
-    while i < end {
-        let b = text[i];
-        if !agrees(other, j, star, b) {
-            return false;
-        }
-        star = takes_next(star, b);
-        j = j + one_if(!star);
-        i += 1;
-    }
-    other.len() <= j
-}
-
-// Whether the characters of a token are the bytes of `other`.
-pub fn spells(text: &[u8], t: Token, other: &[u8]) -> bool
-    requires { ⌜ Stands (now text) t ⌝ }
-    ensures { λ r. ⌜ r ≡ sameBytes (chars-of (now (text .entry)) t) (now (other .entry)) ⌝ }
-{
-    if t.len != other.len() {
-        return false;
-    }
-    let at = t.at;
-    let end = t.end;
-    if t.sort == TEXT {
-        return text_is(text, at + 1, end, other);
-    }
-    if t.sort == WORD {
-        return check::same(&text[at..end], other);
-    }
-    true
-}
-
 // Whether the same `len` bytes stand at two places: two words of one length.
 pub fn same_word(text: &[u8], a: usize, b: usize, len: usize) -> bool
     requires { ⌜ Two-parts (now text) a b len ⌝ }

@@ -111,7 +111,7 @@ pub fn past_parts(
 }
 
 // Puts bytes behind string `i` or before it.
-pub fn push(
+fn push(
     pool: &mut [u8],
     ends: &mut [u32],
     scratch: &mut [u8],

@@ -34,7 +34,7 @@ module _ {s : List ℕ} {n i : ℕ} {t : Token} (w : Within s n i) (k : Next-tok
       }
 
   ended : (l : Bool) → (l ≡ false → i < t .next) → behind-end (items-from s i) ≡ cond l [] (t .next ∷ []) → statements-at s i ≡ [] ∷ cond l [] (statements-at s (t .next))
-      → Ended s n (record { next = t .next; last = l })
+      → Ended s n (t .next) l
   ended l m p e =
       record {
         from = omega (arith, w .from, k .from, k .stands .own, k .stands .behind);
@@ -44,7 +44,7 @@ module _ {s : List ℕ} {n i : ℕ} {t : Token} (w : Within s n i) (k : Next-tok
         is = first-statement s n ∙ ap (λ xs. statement-at s n ∷ xs) (sym (w .rest) ∙ ap (drop 1) e);
       }
 
-  ends-by : (l : Bool) → eqb (t .sort) 0 ≡ l → (l || eqb (t .sort) 3) ≡ true → Ended s n (record { next = t .next; last = l })
+  ends-by : (l : Bool) → eqb (t .sort) 0 ≡ l → (l || eqb (t .sort) 3) ≡ true → Ended s n (t .next) l
   ends-by true e z =
       let q = no-statement k (eqb-true (t .sort) 0 e) in
       ended true (λ f. absurd (true≢false f)) (q .1) (q .0)
@@ -53,5 +53,5 @@ module _ {s : List ℕ} {n i : ℕ} {t : Token} (w : Within s n i) (k : Next-tok
       let q = statement-ends k h in
       ended false (λ f. omega (arith, k .from, k .stands .ending h)) (q .1) (q .0)
 
-  pub ends-here : stops (t .sort) ≡ true → Ended s n (record { next = t .next; last = eqb (t .sort) 0 })
+  pub ends-here : stops (t .sort) ≡ true → Ended s n (t .next) (eqb (t .sort) 0)
   ends-here z = ends-by (eqb (t .sort) 0) refl z

@@ -12,7 +12,6 @@ use Rattle.syntax.specs.Verdict.{lowest}
 use Rattle.lexer.specs.Tokens.{items-from}
 use Rattle.statements.specs.declared.Fault.{Fault}
 use Rattle.statements.specs.declared.Fault.the-variants.{Clear, At}
-use Rattle.statements.specs.declared.Ending.{Ending}
 
 -- the statements from place n on, and the first of them
 abbrev pub statements-at : List ℕ → ℕ → List (List Item)
@@ -30,13 +29,13 @@ unfoldable pub behind-end : List Item → List ℕ
 behind-end [] = []
 behind-end (i ∷ js) = cond (is end i) ((i .at + 1) ∷ []) (behind-end js)
 
--- The statement at n is the last one, or the next begins at e .next
-pub record Ended (s : List ℕ) (n : ℕ) (e : Ending) : Type 0 where
-  pub from : n ≤ e .next
-  pub most : e .next ≤ length s
-  pub more : e .last ≡ false → n < e .next
-  pub place : behind-end (items-from s n) ≡ cond (e .last) [] (e .next ∷ [])
-  pub is : statements-at s n ≡ statement-at s n ∷ cond (e .last) [] (statements-at s (e .next))
+-- The statement at n is the last one, or another begins at next
+pub record Ended (s : List ℕ) (n next : ℕ) (last : Bool) : Type 0 where
+  pub from : n ≤ next
+  pub most : next ≤ length s
+  pub more : last ≡ false → n < next
+  pub place : behind-end (items-from s n) ≡ cond last [] (next ∷ [])
+  pub is : statements-at s n ≡ statement-at s n ∷ cond last [] (statements-at s next)
 
 -- the places at fault: none, or the lowest of them
 abbrev pub fault-of : List ℕ → Fault

@@ -4,12 +4,6 @@ ghost use Rattle.statements.specs.StatementAt.{stops};
 use scanner::END;
 use scanner::NOTHING;
 
-// The place where the next statement begins, and whether there is none.
-pub struct Ending {
-    pub next: usize,
-    pub last: bool,
-}
-
 // Of a question: no place is at fault, or the lowest of those that are.
 pub enum Fault {
     Clear,

@@ -39,7 +39,7 @@ pub fn part_of<'a>(pool: &'a [u8], ends: &[u32], i: usize, at: usize, n: usize) 
 }
 
 // Copies the `n` bytes of string `i` from `at` on to the front of `hold`.
-pub fn copy_out(pool: &[u8], ends: &[u32], hold: &mut [u8], i: usize, at: usize, n: usize)
+fn copy_out(pool: &[u8], ends: &[u32], hold: &mut [u8], i: usize, at: usize, n: usize)
     requires { ⌜ Copyable (now pool) (now ends) i at n (length (now hold)) ⌝ }
     ensures { λ _. ⌜ now (hold .exit) ≡ pasted (now (hold .entry)) 0 (take n (drop at (string i (abs (now (pool .entry)) (now (ends .entry)))))) ⌝ }
 {
@@ -64,15 +64,6 @@ pub fn drop_back(pool: &[u8], ends: &mut [u32], i: usize, n: usize)
     cells::write(ends, 2 * i + 1, b - n);
 }
 
-// Takes all bytes of string `i` away.
-pub fn empty(pool: &[u8], ends: &mut [u32], i: usize)
-    requires { ⌜ Named (now pool) (now ends) i ⌝ }
-    ensures { λ _. ⌜ Holds (now (pool .entry)) (now (ends .exit)) (emptied i (abs (now (pool .entry)) (now (ends .entry)))) ⌝ }
-{
-    let n = len_of(pool, ends, i);
-    drop_front(pool, ends, i, n);
-}
-
 // Puts `bytes` before string `i`.
 pub fn push_front(pool: &mut [u8], ends: &mut [u32], scratch: &mut [u8], i: usize, bytes: &[u8])
     requires { ⌜ Pushable (now pool) (now ends) i (length (now bytes)) (length (now scratch)) ⌝ }
@@ -92,7 +83,7 @@ pub fn push_back(pool: &mut [u8], ends: &mut [u32], scratch: &mut [u8], i: usize
 }
 
 // Moves the first `n` bytes of string `i` to the front of string `j`.
-pub fn move_front(
+fn move_front(
     pool: &mut [u8],
     ends: &mut [u32],
     scratch: &mut [u8],

@@ -239,14 +239,6 @@ pub fn target(table: &[u32], k: usize) -> usize
     read(table, FIRST_LABEL + 16 * k) / 64
 }
 
-// How many characters the name of label `k` has.
-pub fn name_length(table: &[u32], k: usize) -> usize
-    requires { ⌜ Place (now table) k 128 ⌝ }
-    ensures { λ r. ⌜ Number (length (label-in (table-of (now (table .entry))) k .name)) 61 r ⌝ }
-{
-    packed::cut(read(table, FIRST_LABEL + 16 * k) % 64)
-}
-
 // Whether the name of label `k` is `word`.
 pub fn name_is(table: &[u32], k: usize, word: &[u8]) -> bool
     requires { ⌜ Place (now table) k 128 ⌝ }
@@ -254,29 +246,6 @@ pub fn name_is(table: &[u32], k: usize, word: &[u8]) -> bool
 {
     let at = FIRST_LABEL + 16 * k;
     packed::spells(table, 1 + at, read(table, at) % 64, word)
-}
-
-// Copies the name of label `k` to the front of `out`.
-pub fn put_name(table: &[u32], k: usize, out: &mut [u8]) -> usize
-    requires { ⌜ Into (now table) k 128 (length (now out)) ⌝ }
-    ensures { λ r. ⌜ Copied (label-in (table-of (now (table .entry))) k .name) (now (out .entry)) (now (out .exit)) r ⌝ }
-{
-    let at = FIRST_LABEL + 16 * k;
-    packed::put_chars(table, 1 + at, read(table, at) % 64, out)
-}
-
-// A text goes by a reference: 0 for none, its byte for one character, otherwise 256 and its place in the table of texts. How many characters it has.
-pub fn text_length(table: &[u32], v: usize) -> usize
-    requires { ⌜ Place (now table) v 384 ⌝ }
-    ensures { λ r. ⌜ Number (length (text-by (table-of (now (table .entry))) v)) 61 r ⌝ }
-{
-    if v == 0 {
-        return 0;
-    }
-    if v < 256 {
-        return 1;
-    }
-    packed::cut(read(table, FIRST_TEXT + 16 * (v - 256)))
 }
 
 // Whether a text is `word`.
@@ -320,21 +289,6 @@ pub fn put_text(table: &[u32], v: usize, out: &mut [u8]) -> usize
     )
 }
 
-// The first character of a text, and 0 where it has none.
-pub fn text_head(table: &[u32], v: usize) -> u8
-    requires { ⌜ Place (now table) v 384 ⌝ }
-    ensures { λ r. ⌜ r ≡ cell (text-by (table-of (now (table .entry))) v) 0 ⌝ }
-{
-    if v < 256 {
-        return byte(v);
-    }
-    let k = v - 256;
-    if read(table, FIRST_TEXT + 16 * k) == 0 {
-        return 0;
-    }
-    byte(read(table, FIRST_TEXT + 1 + 16 * k) % 256)
-}
-
 // Whether switch `k` is a NAZWA, the first of its entries, and how many it has.
 pub fn switch_by_name(table: &[u32], k: usize) -> bool
     requires { ⌜ Place (now table) k 32 ⌝ }
@@ -373,7 +327,7 @@ pub fn entry_text(table: &[u32], e: usize) -> usize
 }
 
 // Whether entry `e` is met by `word`: by its text, or where it has none by its label's name.
-pub fn key_is(table: &[u32], e: usize, word: &[u8]) -> bool
+fn key_is(table: &[u32], e: usize, word: &[u8]) -> bool
     requires { ⌜ Keyed (now table) e ⌝ }
     ensures { λ r. ⌜ r ≡ sameBytes (key-of (program-of (now (table .entry))) (entry-in (table-of (now (table .entry))) e)) (now (word .entry)) ⌝ }
 {

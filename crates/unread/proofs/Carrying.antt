@@ -19,7 +19,7 @@ use Rattle.unread.specs.Unread.{behind, Part-of, Reads-part}
 -- the first statement of the rest r
 pub record Own (r : List ℕ) (v : Verdict) (next : ℕ) (last : Bool) : Type 0 where
   pub verdict-is : v ≡ first-no (item-questions (statement-at r 0))
-  pub ends : Ended r 0 (record { next = next; last = last })
+  pub ends : Ended r 0 next last
   pub count : length (statement-at r 0) ≤ next
   pub before : Each (λ i. i .at ≤ next) (statement-at r 0)
 
@@ -49,7 +49,7 @@ module _ {r : List ℕ} (p : Part) (own : Own r (verdict-of (p .verdict)) (p .ne
       go true = refl
       go false = ap (λ xs. shift-all n (statement-at r 0) ∷ xs) (sym (statements-shift s n h (p .next)))
 
-  end-carries : Ended s n (record { next = n + p .next; last = p .last })
+  end-carries : Ended s n (n + p .next) (p .last)
   end-carries =
       let long : length r ≡ length s - n = sym (ap length h) ∙ length-drop n s in
       record {

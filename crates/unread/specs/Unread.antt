@@ -32,7 +32,7 @@ behind n (refuse number at) = refuse number (n + at)
 -- the statement at n of the text s, and its end
 pub record Part-of (s : List ℕ) (n : ℕ) (r : Part) : Type 0 where
   pub verdict-is : behind n (verdict-of (r .verdict)) ≡ first-no (item-questions (statement-at s n))
-  pub ends : Ended s n (record { next = n + r .next; last = r .last })
+  pub ends : Ended s n (n + r .next) (r .last)
   pub count : length (statement-at s n) ≤ r .next
   pub before : Each (λ i. i .at ≤ n + r .next) (statement-at s n)
 

@@ -355,7 +355,7 @@ fn find(w: &[u8], names: &[u8], starts: &[u8], slots: &[u8]) -> u8
 }
 
 // The number of the operator that a word is; 0 for none.
-pub fn operator_of(w: &[u8]) -> u8
+fn operator_of(w: &[u8]) -> u8
     ensures { λ r. ⌜ r ≡ operator-number (now (w .entry)) ⌝ }
 {
     find(w, &NAMES, &STARTS, &SLOTS)
