@@ -47,9 +47,6 @@ pasted-two d v w {d′} {d″} a b p q =
     rw g (take-at (v ++ w) (drop (5 + length w) d′) 10 (simp length-append (omega (arith, a, b))))
 
 module _ {p e n : List ℕ} {scratch hold i : ℕ} (h : Numbered p e n scratch hold i) where
-  abbrev s : Store
-  s = state-at p e n .store
-
   replaceable : {new : List ℕ} {xs : List Component} {k : ℕ} → Encoded new xs → k ≡ length xs → k ≤ 2 → 0 ≡ char-count xs → Replaceable p e n scratch i 5 0 new k 0
   replaceable c q l r =
       record {

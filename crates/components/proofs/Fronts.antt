@@ -30,10 +30,6 @@ pub size-most : (x : ℕ) → 1 + x ≤ component-size x
 size-most zero = omega arith
 size-most (suc x) = rw (ne-eqb (suc x) 0 (λ e. omega (arith, e))) (omega arith)
 
--- whole components, not none, and one component have a component in front
-pub leading : {l : List ℕ} → WholeComponents l → 0 < length l → Leading l
-leading w h = record { fits = next-component w h .fits }
-
 pub leading-one : {l : List ℕ} {x : Component} → EncodedOne l x → Leading l
 leading-one {l} {x} h =
     let e : l ≡ component-bytes x ++ [] = h .is ∙ sym (append-nil (component-bytes x)) in
@@ -112,10 +108,6 @@ module _ (l : List ℕ) where
 
   pub front-none : cell l 0 ≡ 0 → chars (component-in l) ≡ []
   front-none e = front-chars ∙ rw e
-
-pub head-one : (w : List ℕ) → headOr 0 w ≡ headOr 0 (take 1 w)
-head-one [] = refl
-head-one (x ∷ w) = refl
 
 -- the characters as the code lends them, of which r is the first cell
 pub lent-chars : (l : List ℕ) {r : ℕ} → Number (cell l 0) 256 r → LentChars (component-in l) (take ((1 + r) - 1) (drop 1 l))

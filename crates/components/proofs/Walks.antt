@@ -96,9 +96,6 @@ cut {l} {xs} h k n e =
 -- ---- the first of whole components
 
 module _ {l : List ℕ} (w : WholeComponents l) where
-  pub front-is : 0 < length l → component-in l ≡ first (components-in l)
-  front-is h = rw (next-component w h .is)
-
   pub first-is : first-size l ≡ length (components-bytes (take 1 (components-in l)))
   unfolding components-bytes
   first-is = go (length l) refl

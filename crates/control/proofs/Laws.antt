@@ -25,11 +25,6 @@ use Rattle.state.proofs.Strings.{strings-stack}
 use Rattle.control.specs.Going.{going, Deep, Following, Reachable, Callable, Returnable}
 use Rattle.state.proofs.Fineness.{fine-beside}
 
--- the state that a row makes: its store, and where it goes on
-pub made-is : (r : Row) (s : State) → made r s ≡ going (r .2) (on-store (λ t. r .1) s)
-unfolding going on-store
-made-is r s = refl
-
 pub made-going : (q : Asks) (g : Go) (s : State) → made (q, s .store, g) s ≡ going g s
 unfolding going
 made-going q g s = refl

@@ -192,11 +192,5 @@ module _ (c : List ℕ) (v : ℕ) where
 -- ---- what is asked, from the program that the table holds
 
 module _ (c : List ℕ) (p : Program) (h : HoldsProgram c p) where
-  pub texts-counted : Counted c 4 128
-  texts-counted = record { long = h .long; most = omega (arith, text-count c p h, h .tabular .texts-most) }
-
-  pub numbers-counted : Counted c 5 128
-  numbers-counted = record { long = h .long; most = omega (arith, number-count c p h, h .tabular .numbers-most) }
-
   pub labels-counted : Counted c 1 128
   labels-counted = record { long = h .long; most = omega (arith, label-count c p h, h .tabular .labels-most) }

@@ -31,10 +31,6 @@ pub some-most : (k : ℕ) → some k ≤ 1
 some-most zero = omega arith
 some-most (suc k) = omega arith
 
-pub some-below : (k : ℕ) → some k ≤ k
-some-below zero = omega arith
-some-below (suc k) = omega arith
-
 -- ---- how many components and characters
 
 pub word-count : (w : List ℕ) → length (word-if w) ≡ some (length w)

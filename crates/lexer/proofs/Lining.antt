@@ -27,11 +27,6 @@ keep-most p (x ∷ xs) = go (p x) (keep-most p xs)
     go true h = omega arith
     go false h = omega arith
 
--- a place begins at most as many lines as there are bytes before it
-pub line-most : (s : List ℕ) (p : ℕ) → line-of s p ≤ p + 1
-unfolding line-of
-line-most s p = omega (arith, keep-most (eqb 10) (take p s), length-take p s)
-
 kept-one : (t : Bool) (x : ℕ) → length (cond t (x ∷ []) []) ≡ cond t 1 0
 kept-one true x = refl
 kept-one false x = refl

@@ -17,9 +17,6 @@ use Rattle.gaps.proofs.Index.{offset-zero, offset-next, offset-within}
 use Rattle.gaps.proofs.Spread.{Laid, laid-none, laid-more, laid-all}
 use Rattle.packing.specs.Packing.{Packed, Unpackable}
 
-pub packed-cells : (s : List (List ℕ)) → length s ≡ 99 → used s ≤ 32768 → Packed (string-cells s)
-packed-cells s n u = record { is = ap string-cells (sym (strings-back s n)); fits = rw (strings-back s n) u }
-
 -- where each string lies
 
 module _ {m : List ℕ} (h : Packed m) where

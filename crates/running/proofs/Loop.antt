@@ -53,9 +53,6 @@ module _ {c i j : List ℕ} {s₀ : State} {p e n : List ℕ} {scratch hold give
   abbrev P : Program
   P = program-of c
 
-  abbrev went-to : told ≡ 0 → step P (inputs i j) (state-at p e n) ≡ Rattle.machine.specs.Runs.Outcome.went (state-at p′ e′ n′)
-  went-to z = laws.gone-to h z
-
   -- one step more
   pub going-more : told ≡ 0 → {scratch′ hold′ given′ : ℕ} → scratch′ ≡ scratch → hold′ ≡ hold → given′ ≡ given
       → Going c i j s₀ p′ e′ n′ scratch′ hold′ given′ (count + 1) budget

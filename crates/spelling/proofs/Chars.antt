@@ -53,23 +53,6 @@ puts-nothing d = record { is = pasted-none d 0; next = refl }
 pub puts-one : (d : List ℕ) (j : ℕ) (star : Bool) (b c : ℕ) → Gives star b c → takes-next star b ≡ false → j < length d → Put d j (char-of star b) (j + 1) (set d j c)
 puts-one d j star b c g e h = rw (g .is e) (record { is = rw (set-split d j c h, add-one) refl; next = refl })
 
--- compared with what stands at index j of p
-abbrev agreed : List ℕ → ℕ → Bool → ℕ → Bool
-agreed p j star b = sameBytes (char-of star b) (take (length (char-of star b)) (drop j p))
-
-pub agrees-none : (p : List ℕ) (j : ℕ) (star : Bool) (b : ℕ) → takes-next star b ≡ true → true ≡ agreed p j star b
-agrees-none p j star b e = rw (gives-none star b e) refl
-
-gives-some : (star : Bool) (b : ℕ) → (c : ℕ) × Gives star b c
-gives-some true b = (pair-of b, gives-pair b)
-gives-some false b = (b, gives-itself b)
-
-pub agrees-past : (p : List ℕ) (j : ℕ) (star : Bool) (b : ℕ) → takes-next star b ≡ false → length p ≤ j → false ≡ agreed p j star b
-agrees-past p j star b e h = let g = gives-some star b in rw (g .1 .is e, drop-of-length-le p h) refl
-
-pub agrees-one : (p : List ℕ) (j : ℕ) (star : Bool) (b c : ℕ) → Gives star b c → takes-next star b ≡ false → j < length p → eqb c (getD p j 0) ≡ agreed p j star b
-agrees-one p j star b c g e h = rw (g .is e, drop-here p j h) (sym (and-true (eqb c (getD p j 0))))
-
 -- a part, byte by byte
 pub part-here : (s : List ℕ) (i e : ℕ) → i < e → e ≤ length s → part s i e ≡ getD s i 0 ∷ part s (i + 1) e
 part-here s i e h l =
@@ -150,18 +133,6 @@ same-none zero [] = refl
 same-none zero (z ∷ zs) = sym (lt-leb (suc (length zs)) 0 (omega arith))
 same-none (suc j) [] = sym (le-leb 0 (suc j) (omega arith))
 same-none (suc j) (z ∷ zs) = same-none j zs ∙ sym (leb·suc-suc (length zs) j)
-
--- the characters from place i on against p from index j on
-pub compare-on : (s : List ℕ) (i e : ℕ) (star : Bool) (p : List ℕ) (j : ℕ) → i < e → e ≤ length s
-    → sameBytes (left s i e star) (drop j p)
-    ≡ agreed p j star (getD s i 0) && sameBytes (left s (i + 1) e (takes-next star (getD s i 0))) (drop (j + cond (not (takes-next star (getD s i 0))) 1 0) p)
-compare-on s i e star p j h l =
-    let b : ℕ = getD s i 0 in
-    rw (left-on s i e star h l, same-joined (char-of star b) (left s (i + 1) e (takes-next star b)) (drop j p), drop-drop (length (char-of star b)) j p, given star b) refl
-
-pub same-empty : (zs : List ℕ) → length zs ≡ 0 → true ≡ sameBytes [] zs
-same-empty [] h = refl
-same-empty (z ∷ zs) h = absurd (omega arith)
 
 -- the answer of a comparison
 pub same-is : (xs ys : List ℕ) (r : Bool) → (r ≡ true → xs ≡ ys) → (xs ≡ ys → r ≡ true) → r ≡ sameBytes xs ys

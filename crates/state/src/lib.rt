@@ -111,14 +111,7 @@ pub fn past_parts(
 }
 
 // Puts bytes behind string `i` or before it.
-fn push(
-    pool: &mut [u8],
-    ends: &mut [u32],
-    scratch: &mut [u8],
-    i: usize,
-    at_end: bool,
-    bytes: &[u8],
-)
+fn push(pool: &mut [u8], ends: &mut [u32], scratch: &mut [u8], i: usize, at_end: bool, bytes: &[u8])
     requires { ⌜ Pushable (now pool) (now ends) i (length (now bytes)) (length (now scratch)) ⌝ }
     ensures { λ _. ⌜ Holds (now (pool .exit)) (now (ends .exit)) (pushed «at_end» i (now (bytes .entry)) (abs (now (pool .entry)) (now (ends .entry)))) ⌝ }
 {

@@ -70,10 +70,6 @@ module _ {p e : List ℕ} {i : ℕ} (f : Fine p e) (b : i < 99) where
       ∙ rw q (sym (take-take m (hi e i - lo e i) (drop (lo e i) p) r) ∙ ap (take m) (sym (string-is p e i b))))
       (λ j c n. str-other p e (2 * i + 1) _ i j (inr refl) n)
 
-pub dropped-all : (i n : ℕ) (s : List (List ℕ)) → n ≡ length (string i s) → droppedFront i n s ≡ emptied i s
-unfolding droppedFront emptied
-dropped-all i n s q = rw (q, drop-length)
-
 -- how many bytes the strings have after an edit
 
 module _ (s : List (List ℕ)) (i : ℕ) (b : i < length s) where

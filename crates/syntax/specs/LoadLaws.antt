@@ -56,21 +56,3 @@ named-leads (i ∷ js) = still-leads (i .sort) _ i (named js) refl refl
 pub word-alone : (p : ℕ) (w : List ℕ) (js : List Item) → ifAny false (is colon) js ≡ false → named (a-word p w ∷ js) ≡ a-word p w ∷ named js
 unfolding named attach
 word-alone p w js h = rw (named-leads js, h) refl
-
--- what stands in front of the operator, and from it on, item by item
-pub leads : (i : Item) (js : List Item) → is-operator i ≡ false → (front (i ∷ js) ≡ i ∷ front js) × (behind (i ∷ js) ≡ behind js)
-unfolding front behind
-leads i js h = (rw h refl, rw h refl)
-
-pub operates : (i : Item) (js : List Item) → is-operator i ≡ true → (front (i ∷ js) ≡ []) × (behind (i ∷ js) ≡ i ∷ js)
-unfolding front behind
-operates i js h = (rw h refl, rw h refl)
-
--- an end parts two statements, and no other item does
-pub end-parts : (p : ℕ) (js : List Item) → statements (named (a-mark end p ∷ js)) ≡ [] ∷ statements (named js)
-unfolding statements parted named attach
-end-parts p js = refl
-
-pub item-joins : (i : Item) (js : List Item) → is end i ≡ false → statements (i ∷ js) ≡ (i ∷ headOr [] (statements js)) ∷ drop 1 (statements js)
-unfolding statements parted
-item-joins i js h = rw h refl

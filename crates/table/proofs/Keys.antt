@@ -32,20 +32,6 @@ module _ (t : List ℕ) (v : ℕ) where
   pub text-many : 256 ≤ v → text-by t v ≡ text-in t (v - 256)
   text-many h = rw (ne-eqb v 0 (λ e. omega (arith, e)), le-ltb v 256 h)
 
--- lengths
-module _ (c : List ℕ) (long : 8192 ≤ length c) where
-  chars-size : (n at r : ℕ) → at + 15 ≤ 8192 → r ≡ min n 60 → Number (length (chars-in (table-of c) n at)) 61 r
-  chars-size n at r h e = record { is = e ∙ sym (chars-length c at h long n); most = omega arith }
-
-  pub name-size : (k x r : ℕ) → k < 128 → x ≡ cell (table-of c) (2056 + 16 * k) → r ≡ min (x % 64) 60 → Number (length (label-in (table-of c) k .name)) 61 r
-  name-size k x r h e f =
-      subst (λ (y : ℕ). Number (length (chars-in (table-of c) (y % 64) (1 + (2056 + 16 * k)))) 61 r) e (chars-size (x % 64) (1 + (2056 + 16 * k)) r (omega arith) f)
-
-  pub text-size : (v x r : ℕ) → v < 384 → 256 ≤ v → x ≡ cell (table-of c) (4104 + 16 * (v - 256)) → r ≡ min x 60 → Number (length (text-by (table-of c) v)) 61 r
-  text-size v x r h k e f =
-      subst (λ (l : List ℕ). Number (length l) 61 r) (sym (text-many (table-of c) v k))
-      (subst (λ (y : ℕ). Number (length (chars-in (table-of c) y (4105 + 16 * (v - 256)))) 61 r) e (chars-size x (4105 + 16 * (v - 256)) r (omega arith) f))
-
 -- a name and a text compared with a word: x is what was read where the length stands
 module _ (c w : List ℕ) (x : ℕ) (r : Bool) where
   pub name-spelled : (k : ℕ) → x ≡ cell (table-of c) (2056 + 16 * k) → r ≡ sameBytes (chars-in (table-of c) (x % 64) (1 + (2056 + 16 * k))) w
@@ -59,10 +45,6 @@ module _ (c w : List ℕ) (x : ℕ) (r : Bool) where
 
 -- and copied
 module _ (c o z : List ℕ) (x r : ℕ) where
-  pub name-copied : (k : ℕ) → x ≡ cell (table-of c) (2056 + 16 * k) → Copied (chars-in (table-of c) (x % 64) (1 + (2056 + 16 * k))) o z r
-      → Copied (label-in (table-of c) k .name) o z r
-  name-copied k e h = subst (λ (y : ℕ). Copied (chars-in (table-of c) (y % 64) (1 + (2056 + 16 * k))) o z r) e h
-
   pub text-copied : (v : ℕ) → 256 ≤ v → x ≡ cell (table-of c) (4104 + 16 * (v - 256)) → Copied (chars-in (table-of c) x (4105 + 16 * (v - 256))) o z r
       → Copied (text-by (table-of c) v) o z r
   text-copied v k e h =
@@ -80,31 +62,6 @@ one-same b (x ∷ y ∷ w) h = absurd (omega (arith, h))
 pub none-same : (w : List ℕ) → eqb (length w) 0 ≡ sameBytes [] w
 none-same [] = refl
 none-same (x ∷ w) = ne-eqb (suc (length w)) 0 (λ e. omega (arith, e))
-
--- the first character of a text
-pub head-small : (t : List ℕ) (v : ℕ) → v < 256 → v ≡ cell (text-by t v) 0
-head-small t zero h = refl
-head-small t (suc v) h = sym (ap (λ (l : List ℕ). cell l 0) (text-one t (suc v) (λ e. omega (arith, e)) h))
-
-head-of : (l : List ℕ) (n : ℕ) → (n ≡ 0 → ⊥) → 0 < length l → cell l 0 % 256 ≡ cell (take n (unfours l)) 0
-unfolding unfours
-head-of l zero h k = absurd (h refl)
-head-of [] (suc n) h k = absurd (omega (arith, k))
-head-of (x ∷ l) (suc n) h k = refl
-
-module _ (c : List ℕ) (v : ℕ) (low : 256 ≤ v) (high : v < 384) (x : ℕ) (e : x ≡ cell (table-of c) (4104 + 16 * (v - 256))) where
-  pub head-none : x ≡ 0 → 0 ≡ cell (text-by (table-of c) v) 0
-  head-none z =
-      let q : cell (table-of c) (4104 + 16 * (v - 256)) ≡ 0 = sym e ∙ z in
-      sym (ap (λ (l : List ℕ). cell l 0) (text-many (table-of c) v low ∙ ap (λ (n : ℕ). chars-in (table-of c) n (4105 + 16 * (v - 256))) q))
-
-  pub head-some : 8192 ≤ length c → (x ≡ 0 → ⊥) → (y r : ℕ) → y ≡ cell (table-of c) (4105 + 16 * (v - 256)) → r ≡ y % 256 → r ≡ cell (text-by (table-of c) v) 0
-  head-some long z y r f g =
-      let at : ℕ = 4105 + 16 * (v - 256) in
-      let a : cell (fifteen c at) 0 ≡ cell (table-of c) at =
-      getD-take 15 (drop at (table-of c)) 0 0 (omega arith) ∙ getD-drop at (table-of c) 0 0 ∙ ap (cell (table-of c)) (let p : at + 0 ≡ at = omega arith in p) in
-      g ∙ ap (λ (n : ℕ). n % 256) (f ∙ sym a) ∙ head-of (fifteen c at) x z (rw (fifteen-long c at (omega arith) long) (omega arith))
-      ∙ ap (λ (n : ℕ). cell (chars-in (table-of c) n at) 0) e ∙ sym (ap (λ (l : List ℕ). cell l 0) (text-many (table-of c) v low))
 
 -- the key of an entry
 module _ (c : List ℕ) (e x : ℕ) (is : x ≡ cell (table-of c) (6184 + e)) where

@@ -22,10 +22,6 @@ module _ (c : List ℕ) where
   unfolding program-of program-in
   switch-count = length-tab (cell (table-of c) 2) (switch-in (table-of c))
 
-  pub text-count : length (program-of c .texts) ≡ cell (table-of c) 4
-  unfolding program-of program-in
-  text-count = length-tab (cell (table-of c) 4) (text-in (table-of c))
-
   pub instr-is : (i : ℕ) → i < cell (table-of c) 0 → instr-at (program-of c) i ≡ instr-in (table-of c) i
   unfolding program-of program-in
   instr-is i h = getD-tab (cell (table-of c) 0) (instr-in (table-of c)) i no-instr h
@@ -37,7 +33,3 @@ module _ (c : List ℕ) where
   pub switch-is : (k : ℕ) → k < cell (table-of c) 2 → switch-at (program-of c) k ≡ switch-in (table-of c) k
   unfolding program-of program-in
   switch-is k h = getD-tab (cell (table-of c) 2) (switch-in (table-of c)) k no-switch h
-
-  pub text-is : (k : ℕ) → k < cell (table-of c) 4 → getD (program-of c .texts) k [] ≡ text-in (table-of c) k
-  unfolding program-of program-in
-  text-is k h = getD-tab (cell (table-of c) 4) (text-in (table-of c)) k [] h

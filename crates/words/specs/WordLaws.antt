@@ -10,12 +10,3 @@ use Rattle.words.specs.Keywords.{keyword-by, told, meant}
 pub keyword-item : (i : Item) → keyword-of i ≡ cond (is word i) (keyword-by (i .chars)) Keyword.unknown
 unfolding keyword-of keyword-by
 keyword-item i = refl
-
-pub meant-told : (k : Keyword) → meant (told k) ≡ k
-meant-told Keyword.none = refl
-meant-told Keyword.unknown = refl
-meant-told Keyword.SEKCJA = refl
-meant-told Keyword.KONS = refl
-meant-told Keyword.KONP = refl
-meant-told (Keyword.switch byName) = refl
-meant-told (Keyword.instr op) = ap Keyword.instr (operator-back op)

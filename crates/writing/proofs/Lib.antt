@@ -7,4 +7,3 @@ pub mod Held
 pub mod Settled
 pub mod Rooms
 pub mod Shapes
-pub mod Fresh

@@ -166,9 +166,6 @@ module _ (a b c d e f g : List ℕ) (z : Sizes a b c d e f g) where
         ∙ ap (λ (x : List ℕ). front (e ++ x)) (past-6 s k)
         ∙ ap (λ (x : List ℕ). front (e ++ (f ++ x))) (pasted-left g (replicate 1752 0) s k (omega (arith, z .g-is)))
 
-  pub in-counts : (k x : ℕ) → k < 8 → set (laid a b c d e f g) k x ≡ laid (set a k x) b c d e f g
-  in-counts k x h = set-append-left a t1 k x (omega (arith, z .a-is))
-
   pub laid-long : length (laid a b c d e f g) ≡ 8192
   laid-long =
       simp length-append (omega (arith, z .a-is, z .b-is, z .c-is, z .d-is, z .e-is, z .f-is, z .g-is, length-replicate {A = ℕ} 1752 0))

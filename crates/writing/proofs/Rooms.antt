@@ -67,19 +67,6 @@ cells-low n (w ∷ ws) h =
 -- ---- rooms
 
 module _ (c : List ℕ) (p : Program) (h : HoldsProgram c p) where
-  pub text-room : (n : ℕ) → length (p .texts) < 128 → n ≤ 60 → WordRoom c 4 128 n
-  text-room n a b = record { long = h .long; room = omega (arith, text-count c p h); short = b }
-
-  pub number-room : length (p .numbers) < 128 → Room c 5 128
-  number-room a = record { long = h .long; room = omega (arith, number-count c p h) }
-
-  pub label-room : (n target : ℕ) → length (p .labels) < 128 → n ≤ 60 → target < 512 → LabelRoom c n target
-  label-room n target a b t = record { long = h .long; room = omega (arith, label-count c p h); short = b; low = t }
-
-  pub instr-room : (op line x y z : ℕ) → length (p .code) < 512 → op < 64 → line ≤ 32768 → x < 4294967296 → y < 4294967296 → z < 4294967296 → InstrRoom c op line x y z
-  instr-room op line x y z a o l s t u =
-      record { long = h .long; room = omega (arith, code-count c p h); op-most = o; line-most = l; x-most = s; y-most = t; z-most = u }
-
   pub switch-room : length (p .switches) < 32 → SwitchRoom c
   switch-room a = record { long = h .long; room = omega (arith, switch-count c p h); entries = omega (arith, entry-count c p h, h .tabular .entries-most) }
 

@@ -33,11 +33,6 @@ entries-on (f ∷ fs) p ws b es =
     ∙ entries-on fs p ws b (es ++ (f ∷ []))
     ∙ ap (λ (l : List Entry). with-switches (ws ++ (record { byName = b; entries = l } ∷ [])) p) (append-assoc es (f ∷ []) fs)
 
--- a switch and then its entries are the whole switch
-pub switch-entries : (b : Bool) (es : List Entry) (p : Program) → entries-added es (with-switch b p) ≡ with-switches (p .switches ++ (record { byName = b; entries = es } ∷ [])) p
-unfolding with-switch
-switch-entries b es p = entries-on es p (p .switches) b []
-
 -- ---- kinds and sizes
 
 abbrev pub kinds : List Switch → List Bool
