@@ -56,7 +56,7 @@ pub fn drop_front(pool: &[u8], ends: &mut [u32], i: usize, n: usize)
 }
 
 // Takes the last `n` bytes of string `i` away.
-pub fn drop_back(pool: &[u8], ends: &mut [u32], i: usize, n: usize)
+fn drop_back(pool: &[u8], ends: &mut [u32], i: usize, n: usize)
     requires { ⌜ Droppable (now pool) (now ends) i n ⌝ }
     ensures { λ _. ⌜ Holds (now (pool .entry)) (now (ends .exit)) (droppedBack i n (abs (now (pool .entry)) (now (ends .entry)))) ⌝ }
 {
