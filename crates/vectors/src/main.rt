@@ -1,21 +1,23 @@
 // Runs each vector of standard input through the program and compares what it prints. tools/pack-vectors has the form of the vectors.
-ghost use Prim.Native.Nat.{_≤_};
-ghost use lib.ListN.{length};
-ghost use Rattle.vectors.specs.Vectors.{Buffers};
+ghost use mathlib.Core.Path.{_≡_};
+ghost use Prim.Native.Nat.{_≤_, min};
+ghost use lib.ListN.{length, drop};
+ghost use Rattle.vectors.specs.Vectors.{Buffers, prints-as, passes-as};
 
 // At most so many vectors are read.
 const MOST: u64 = 100_000;
 
 // A count of bytes, and no more than there is room for.
 fn capped(n: usize, most: usize) -> usize
-    ensures { λ r. ⌜ r ≤ most ⌝ }
+    ensures { λ r. ⌜ r ≡ min n most ⌝ }
 {
     if n < most { n } else { most }
 }
 
-// Reads `n` bytes to the front of a buffer.
+// Reads `n` bytes to the front of a buffer; those behind stay.
 fn fill(buffer: &mut [u8], n: usize)
     requires { ⌜ n ≤ length (now buffer) ⌝ }
+    ensures { λ _. ⌜ drop n (now (buffer .exit)) ≡ drop n (now (buffer .entry)) ⌝ }
 {
     io::read_full(0, &mut buffer[..n]);
 }
@@ -23,6 +25,7 @@ fn fill(buffer: &mut [u8], n: usize)
 // Whether the program prints what is expected.
 fn prints(input: &[u8], expected: &[u8], out: &mut [u8]) -> bool
     requires { ⌜ 4224 ≤ length (now out) ⌝ }
+    ensures { λ r. ⌜ r ≡ prints-as (now (input .entry)) (now (expected .entry)) ⌝ }
 {
     let n = batch::answer(input, out);
     words::same(&out[..n], expected)
@@ -31,6 +34,7 @@ fn prints(input: &[u8], expected: &[u8], out: &mut [u8]) -> bool
 // Reads the rest of a vector, and tells whether it passes.
 fn passes(head: &[u8], input: &mut [u8], expected: &mut [u8], out: &mut [u8]) -> bool
     requires { ⌜ Buffers (length (now head)) (length (now out)) ⌝ }
+    ensures { λ r. ⌜ r ≡ passes-as (now (head .entry)) (now (input .exit)) (now (expected .exit)) ⌝ }
 {
     let n = capped(cells::three_at(head, 16), input.len());
     let m = capped(cells::three_at(head, 20), expected.len());

@@ -1,6 +1,7 @@
 -- `vectors::fill` meets its contract.
-use mathlib.Core.Path.{sym}
-use lib.Seq.{length-take-le}
+use mathlib.Core.Path.{_≡_, sym, _∙_}
+use lib.ListN.{length, take}
+use lib.Seq.{length-take-le, drop-at}
 use borrow.Author.Needs.{needs}
 use Rattle.vectors.proofs.fill.Statement.{statement}
 use Rattle.vectors.proofs.fill.Tie as tie
@@ -18,7 +19,11 @@ same-length : tie.Need-same-length
 same-length c = search needs
 
 returns : tie.Need-returns
-returns c = search needs
+returns c =
+    let c₀ = c .before .before .before .before .before in
+    let n = c₀ .args .n in
+    let long : length (take n (c₀ .args .buffer .now)) ≡ n = length-take-le n (c₀ .args .buffer .now) (c₀ .pre) in
+    drop-at (c .before .before .read-full .last .1 .0) _ n (c .before .before .read-full .kept .1 .0 ∙ long)
 
 pub fill-spec : {M : Type 1} → statement M
 fill-spec =

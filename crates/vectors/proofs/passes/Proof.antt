@@ -1,4 +1,5 @@
 -- `vectors::passes` meets its contract.
+use Rattle.vectors.proofs.Passing.{told-by, passes-by}
 use lib.ListN.{length-take}
 use native.Mathlib.Omega.{arith}
 use borrow.Author.Needs.{needs}
@@ -48,7 +49,14 @@ same-length-3 : tie.Need-same-length-3
 same-length-3 c = search needs
 
 returns : tie.Need-returns
-returns c = search needs
+returns c =
+    let c₁ = c .before .before .before .before .before .before .before .before in
+    let c₂ = c₁ .before .before .before .before in
+    let c₃ = c₂ .before .before in
+    let head = c₃ .before .before .before .before .before .before .before .before .args .head .now in
+    let n = told-by (c₃ .before .before .capped .ensures) (c₃ .before .before .before .three-at .ensures .is) (c₂ .fill .kept .0) in
+    let m = told-by (c₃ .capped2 .ensures) (c₃ .before .three-at2 .ensures .is) (c₁ .fill2 .kept .0) in
+    passes-by head (c₂ .fill .last .0) (c₁ .fill2 .last .0) (c .before .before .prints .ensures) n m
 
 pub passes-spec : {M : Type 1} → statement M
 passes-spec =

@@ -1,6 +1,10 @@
 -- `vectors::prints` meets its contract.
+use mathlib.Core.Path.{ap, _∙_}
+use mathlib.Core.List.{List}
+use Prim.Native.Nat.{ℕ}
 use lib.ListN.{length-take}
-use Rattle.console.proofs.Putting.{put-long}
+use Rattle.lists.specs.Lists.{sameBytes}
+use Rattle.console.proofs.Putting.{put-long, put-front}
 use native.Mathlib.Omega.{arith}
 use borrow.Author.Needs.{needs}
 use Rattle.vectors.proofs.prints.Statement.{statement}
@@ -22,7 +26,10 @@ same-length : tie.Need-same-length
 same-length c = search needs
 
 returns : tie.Need-returns
-returns c = search needs
+returns c =
+    let c₁ = c .before .before .before .before in
+    let expected = c₁ .before .before .before .before .before .args .expected .now in
+    c .same .ensures ∙ ap (λ (l : List ℕ). sameBytes l expected) (put-front (c₁ .answer .ensures))
 
 pub prints-spec : {M : Type 1} → statement M
 prints-spec =
