@@ -170,14 +170,14 @@ uint64_t eol2_run(const uint32_t *table, size_t table_cells, const uint8_t *i1, 
    left, where an empty output is 0 and not NULL. */
 static inline const uint8_t *eol2_output(const uint8_t *state, int which, size_t *bytes)
 {
-    size_t at = 222, length = 0;
-    int last = 96 + which;
+    enum { FIRST_LENGTH = 24, FIRST_BYTE = 222, FIRST_OUTPUT = 97, OUTPUTS = 2 }; /* docs/LAYOUT.md */
+    size_t at = FIRST_BYTE, length = 0;
     *bytes = 0;
-    if (which != 1 && which != 2)
+    if (which < 1 || which > OUTPUTS)
         return NULL;
-    for (int k = 0; k <= last; k++) {
+    for (int k = 0; k < FIRST_OUTPUT + which; k++) {
         at += length;
-        length = (size_t)state[24 + 2 * k] + 256 * (size_t)state[25 + 2 * k];
+        length = (size_t)state[FIRST_LENGTH + 2 * k] + 256 * (size_t)state[FIRST_LENGTH + 1 + 2 * k];
     }
     if (at > EOL2_STATE || length > EOL2_STATE - at)
         return NULL;

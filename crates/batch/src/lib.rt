@@ -9,6 +9,7 @@ ghost use Rattle.machine.specs.Runs.{ran};
 ghost use Rattle.console.specs.Console.{ran-bytes, printed};
 ghost use Rattle.console.specs.Parts.{Put, answer-by};
 ghost use Rattle.batch.specs.Printed.{Ended, table-bytes};
+use language::Machine;
 
 // "It runs 100,000 steps."
 const BUDGET: u32 = 100_000;
@@ -46,7 +47,7 @@ fn run_table(table: &[u32], i1: &[u8], out: &mut [u8]) -> usize
     requires { ⌜ 4224 ≤ length (now out) ⌝ }
     ensures { λ r. ⌜ Put (now (out .entry)) 0 (table-bytes (now (table .entry)) (now (i1 .entry) ∷ [] ∷ [])) (now (out .exit)) r ⌝ }
 {
-    let mut state = [0u8; 40960];
+    let mut state = [0u8; Machine::STATE];
     let started = number(interpreter::eol2_start(table, i1, b"", &mut state));
     if started != ACCEPTED {
         return console::refusal(out, started, 0);
@@ -61,7 +62,7 @@ pub fn answer(input: &[u8], out: &mut [u8]) -> usize
     ensures { λ r. ⌜ Put (now (out .entry)) 0 (printed (now (input .entry))) (now (out .exit)) r ⌝ }
 {
     let end = console::text_end(input);
-    let mut table = [0u32; 8192];
+    let mut table = [0u32; Machine::TABLE];
     let loaded = interpreter::eol2_load(&input[..end], &mut table);
     let n = number(loaded);
     if n != ACCEPTED {

@@ -6,6 +6,7 @@ use Prim.Native.Nat.{ℕ, _+_, _/_, _%_, _^_}
 use lib.Dec.{eqb, ltb}
 use borrow.Author.Tests.{ne-eqb}
 use Rattle.layout.specs.Cells.{cell}
+use Rattle.layout.specs.Places as layout
 use Rattle.check_parts.specs.Parts.{letter-fits, class-fits, ref-fits, arg-fits, form-bit}
 
 module _ (t : List ℕ) (x : ℕ) where
@@ -45,7 +46,7 @@ module _ (t : List ℕ) (x : ℕ) where
   unfolding form-bit
   form-2 k = rw k
 
-  pub form-3 : x % 8 ≡ 3 → _≡_ {A = ℕ} (cond (eqb (cell t (6152 + x / 8) % 2) 1) 65536 131072) (form-bit t x)
+  pub form-3 : x % 8 ≡ 3 → _≡_ {A = ℕ} (cond (eqb (cell t (layout.first-switch + x / 8) % 2) 1) 65536 131072) (form-bit t x)
   unfolding form-bit
   form-3 k = rw k
 

@@ -9,7 +9,10 @@ ghost use Rattle.layout.specs.Cells.{cell};
 ghost use Rattle.packed.specs.Packed.{table-of};
 ghost use Rattle.table.specs.Reads.{Place};
 ghost use Rattle.check_parts.specs.Parts.{passes, index-top, letter-fits, takes, list-takes, lists-take, head-fits, arg-fits, form-bit, instr-fits};
+ghost use Rattle.language.specs.Limits as limit;
+ghost use Rattle.layout.specs.Places.{first-switch};
 use language::Machine;
+use layout::TablePlaces;
 
 fn byte(n: usize) -> u8
     requires { ⌜ n < 256 ⌝ }
@@ -36,17 +39,17 @@ fn letter_fits(v: usize) -> bool
 
 // Whether the argument in a cell `x` is in range.
 fn arg_fits(table: &[u32], x: usize) -> bool
-    requires { ⌜ 8192 ≤ length (now table) ⌝ }
+    requires { ⌜ limit.table ≤ length (now table) ⌝ }
     ensures { λ r. ⌜ r ≡ arg-fits (table-of (now (table .entry))) x ⌝ }
 {
     let v = x / 8;
     match x % 8 {
         1 => letter_fits(v),
-        2 => v < check_parts::read(table, 1),
-        3 => v < check_parts::read(table, 2),
+        2 => v < check_parts::read(table, TablePlaces::LABEL_COUNT),
+        3 => v < check_parts::read(table, TablePlaces::SWITCH_COUNT),
         4 => (0 < v) & (v < 16),
         5 => check_parts::ref_fits(table, v),
-        6 => v < 31 + check_parts::read(table, 5),
+        6 => v < 31 + check_parts::read(table, TablePlaces::NUMBER_COUNT),
         _ => x == 0,
     }
 }
@@ -62,9 +65,9 @@ fn letter_bit(place: usize) -> u32
 
 fn switch_bit(table: &[u32], v: usize) -> u32
     requires { ⌜ Place (now table) v 536870912 ⌝ }
-    ensures { λ r. ⌜ r ≡ cond (eqb (cell (table-of (now (table .entry))) (6152 + v) % 2) 1) 65536 131072 ⌝ }
+    ensures { λ r. ⌜ r ≡ cond (eqb (cell (table-of (now (table .entry))) (first-switch + v) % 2) 1) 65536 131072 ⌝ }
 {
-    if check_parts::read(table, 6152 + v) % 2 == 1 {
+    if check_parts::read(table, TablePlaces::FIRST_SWITCH + v) % 2 == 1 {
         return forms::NAZWA;
     }
     forms::INDEKS
@@ -117,10 +120,10 @@ fn instr_fits(table: &[u32], i: usize) -> bool
     requires { ⌜ Place (now table) i 65536 ⌝ }
     ensures { λ r. ⌜ r ≡ instr-fits (table-of (now (table .entry))) i ⌝ }
 {
-    let x = check_parts::read(table, 8 + 4 * i);
-    let a = check_parts::read(table, 9 + 4 * i);
-    let b = check_parts::read(table, 10 + 4 * i);
-    let d = check_parts::read(table, 11 + 4 * i);
+    let x = check_parts::read(table, TablePlaces::FIRST_INSTRUCTION + 4 * i);
+    let a = check_parts::read(table, TablePlaces::FIRST_ARGUMENT + 4 * i);
+    let b = check_parts::read(table, TablePlaces::SECOND_ARGUMENT + 4 * i);
+    let d = check_parts::read(table, TablePlaces::THIRD_ARGUMENT + 4 * i);
     head_fits(x)
         & arg_fits(table, a)
         & arg_fits(table, b)

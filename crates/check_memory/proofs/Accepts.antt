@@ -18,6 +18,7 @@ use Rattle.layout.specs.CellLaws.{length-each}
 use Rattle.layout.specs.Cells.{two, three, three-at}
 use Rattle.layout.specs.Memory.{scalars, strings, state-cells, threes-in, twos-in, state-by, state-in}
 use Rattle.layout.specs.Strings.{string-cells}
+use Rattle.layout.specs.Places as layout
 use Rattle.lists.specs.ListLaws.{Passed, parts, T-left, T-right, T-both}
 use Rattle.lists.specs.Lists.{total, all, each}
 use Rattle.machine.specs.Changes.{held, recorded, fits}
@@ -40,9 +41,9 @@ sign-is n h = go (eqb n 1) refl
 same : (m n : ℕ) → m ≡ n → T (eqb m n)
 same m n e = rw (eq-eqb m n e) tt
 
-module _ (p : Program) (i j m : List ℕ) (long : length m ≡ 40960) (b : Bytes m) (L : Laid m) (S : Strings m) (C : Totals m) (D : T (distinct m)) (R : Rest p i j m) where
+module _ (p : Program) (i j m : List ℕ) (long : length m ≡ limit.state) (b : Bytes m) (L : Laid m) (S : Strings m) (C : Totals m) (D : T (distinct m)) (R : Rest p i j m) where
   abbrev l : ℕ
-  l = three-at 12 m
+  l = three-at layout.last-cell m
 
   abbrev ins : Inputs
   ins = i ∷ j ∷ []
@@ -58,16 +59,16 @@ module _ (p : Program) (i j m : List ℕ) (long : length m ≡ 40960) (b : Bytes
   pub strings-same : strings (s m) ≡ vs m
   strings-same =
       strings-is m
-      ∙ ap (λ us. us ++ (map again-records (halves m) ++ (each two (twos-in (stack-string m)) ∷ drop 97 (vs m)))) (E .same)
-      ∙ ap (λ us. expressions m ++ (us ++ (each two (twos-in (stack-string m)) ∷ drop 97 (vs m)))) (H .same)
-      ∙ ap (λ u. expressions m ++ (halves m ++ (u ∷ drop 97 (vs m)))) (each-twos (stack-string m) (R .even) (bytes-string m b 96))
+      ∙ ap (λ us. us ++ (map again-records (halves m) ++ (each two (twos-in (stack-string m)) ∷ drop layout.first-output (vs m)))) (E .same)
+      ∙ ap (λ us. expressions m ++ (us ++ (each two (twos-in (stack-string m)) ∷ drop layout.first-output (vs m)))) (H .same)
+      ∙ ap (λ u. expressions m ++ (halves m ++ (u ∷ drop layout.first-output (vs m)))) (each-twos (stack-string m) (R .even) (bytes-string m b layout.stack-string))
       ∙ sym (strings-are m)
 
-  scalars-same : scalars (s m) ≡ threes-in 8 m
+  scalars-same : scalars (s m) ≡ threes-in layout.scalars-count m
   unfolding threes-in state-in state-by
   scalars-same =
-      let ns : List ℕ = threes-in 8 m in
-      let x0 : cond (eqb (three-at 0 m) 1) 1 0 ≡ three-at 0 m = sign-is (three-at 0 m) (L .sign) in
+      let ns : List ℕ = threes-in layout.scalars-count m in
+      let x0 : cond (eqb (three-at layout.plus-cell m) 1) 1 0 ≡ three-at layout.plus-cell m = sign-is (three-at layout.plus-cell m) (L .sign) in
       let x5 : held (λ x. 1) (st m) ≡ getD ns 5 0 = held-is m (λ x. 1) ∙ C .parts .is ∙ sym (threes-at 8 5 m (omega arith)) in
       let x6 : held (λ x. length (chars x)) (st m) ≡ getD ns 6 0 = held-is m (λ x. length (chars x)) ∙ C .chars .is ∙ sym (threes-at 8 6 m (omega arith)) in
       let x7 : recorded (λ r. 1) (st m) ≡ getD ns 7 0 = recorded-is m ∙ C .records .is ∙ sym (threes-at 8 7 m (omega arith)) in
@@ -76,15 +77,15 @@ module _ (p : Program) (i j m : List ℕ) (long : length m ≡ 40960) (b : Bytes
   pub cells-same : state-cells (s m) ≡ m
   unfolding state-cells
   cells-same =
-      let d : List ℕ = drop 24 m in
-      let n : length d ≡ 40936 = length-drop 24 m ∙ omega (arith, long) in
-      let q : 222 + sum (sizes m) ≡ 24 + (198 + sum (sizes m)) = omega arith in
-      let z : T (zeros (drop (198 + sum (sizes m)) d)) = subst (λ u. T (zeros u)) (ap (λ k. drop k m) q ∙ sym (drop-drop (198 + sum (sizes m)) 24 m)) (L .rest) in
+      let d : List ℕ = drop layout.first-length m in
+      let n : length d ≡ layout.strings-bytes = length-drop layout.first-length m ∙ omega (arith, long) in
+      let q : layout.first-byte + sum (sizes m) ≡ layout.first-length + (layout.lengths-bytes + sum (sizes m)) = omega arith in
+      let z : T (zeros (drop (layout.lengths-bytes + sum (sizes m)) d)) = subst (λ u. T (zeros u)) (ap (λ k. drop k m) q ∙ sym (drop-drop (layout.lengths-bytes + sum (sizes m)) layout.first-length m)) (L .rest) in
       ap (λ ns. each three ns ++ string-cells (strings (s m))) scalars-same
-      ∙ ap (λ us. each three (threes-in 8 m) ++ string-cells us) strings-same
-      ∙ ap (λ u. each three (threes-in 8 m) ++ u) (string-cells-back d n (bytes-drop 24 m b) (L .room) z)
+      ∙ ap (λ us. each three (threes-in layout.scalars-count m) ++ string-cells us) strings-same
+      ∙ ap (λ u. each three (threes-in layout.scalars-count m) ++ u) (string-cells-back d n (bytes-drop layout.first-length m b) (L .room) z)
       ∙ ap (λ u. u ++ d) (each-threes 8 m (omega (arith, long)) b)
-      ∙ take-append-drop 24 m
+      ∙ take-append-drop layout.first-length m
 
   -- ---- the state
 
@@ -106,10 +107,10 @@ module _ (p : Program) (i j m : List ℕ) (long : length m ≡ 40960) (b : Bytes
   outputs-short : T (all (λ q. leb (length q) limit.output) (st m .outputs))
   outputs-short =
       let f : List ℕ → Bool = λ q. leb (length q) limit.output in
-      let o : List ℕ = getD (vs m) 97 [] in
-      let u : List ℕ = getD (vs m) 98 [] in
+      let o : List ℕ = getD (vs m) layout.first-output [] in
+      let u : List ℕ = getD (vs m) layout.second-output [] in
       subst (λ qs. T (all f qs)) (sym (outputs-is m))
-      (T-both (f o) (f u && true) (output-long 97 (R .output-1)) (T-both (f u) true (output-long 98 (R .output-2)) tt))
+      (T-both (f o) (f u && true) (output-long layout.first-output (R .output-1)) (T-both (f u) true (output-long layout.second-output (R .output-2)) tt))
 
   limits : T (fits (st m))
   unfolding fits
@@ -134,7 +135,7 @@ module _ (p : Program) (i j m : List ℕ) (long : length m ≡ 40960) (b : Bytes
   no-faults =
       ap (λ k. store-faults ins k (st m)) (last-is m)
       ∙ faults-is m i j l
-      ∙ omega (arith, E .faultless, H .faultless, output-known 97 (R .output-1), output-known 98 (R .output-2), R .place-1, R .place-2)
+      ∙ omega (arith, E .faultless, H .faultless, output-known layout.first-output (R .output-1), output-known layout.second-output (R .output-2), R .place-1, R .place-2)
 
   addressed : T (all (λ n. ltb 0 n && leb n (st m .last)) (addresses (st m)))
   addressed = subst (λ k. T (all (given k) (addresses (st m)))) (sym (last-is m)) (subst (λ ns. T (all (given l) ns)) (sym (addresses-is m)) (H .addressed))
@@ -157,7 +158,7 @@ module _ (p : Program) (i j m : List ℕ) (long : length m ≡ 40960) (b : Bytes
   pub state-good : T (good-state p ins (s m))
   state-good =
       let even : length (stack-string m) ≡ 2 * length (twos-in (stack-string m)) =
-      sym (ap length (each-twos (stack-string m) (R .even) (bytes-string m b 96))) ∙ length-each 2 two (λ n. refl) (twos-in (stack-string m)) in
+      sym (ap length (each-twos (stack-string m) (R .even) (bytes-string m b layout.stack-string))) ∙ length-each 2 two (λ n. refl) (twos-in (stack-string m)) in
       shut-state p ins (s m) (record {
         store = store-good;
         next = omega (arith, next-is m, R .next);

@@ -14,6 +14,7 @@ use Rattle.layout.specs.Cells.{two, two-at, three, three-at}
 use Rattle.layout.specs.Memory.{threes-in, twos-in}
 use Rattle.layout.specs.StringLaws.{used-cons}
 use Rattle.layout.specs.Strings.{lengths, used, string-cells, lengths-in, cut-by, strings-in}
+use Rattle.layout.specs.Places as layout
 use Rattle.lists.specs.ListLaws.{T-left, T-right}
 use Rattle.lists.specs.Lists.{each, joined}
 use Rattle.check_memory.specs.Passes.{sum, zeros}
@@ -41,7 +42,7 @@ each-threes zero m h b = refl
 each-threes (suc n) m h b =
     let e : 3 * suc n ≡ 3 + 3 * n = omega arith in
     let r : each three (threes-in n (drop 3 m)) ≡ take (3 * n) (drop 3 m) = each-threes n (drop 3 m) (rw (length-drop 3 m) (omega arith)) (bytes-drop 3 m b) in
-    ap (λ l. three (three-at 0 m) ++ l) r ∙ ap (λ l. l ++ take (3 * n) (drop 3 m)) (sym (three-front m (omega (arith, h)) b)) ∙ sym (take-add 3 (3 * n) m) ∙ ap (λ k. take k m) (sym e)
+    ap (λ l. three (three-at layout.plus-cell m) ++ l) r ∙ ap (λ l. l ++ take (3 * n) (drop 3 m)) (sym (three-front m (omega (arith, h)) b)) ∙ sym (take-add 3 (3 * n) m) ∙ ap (λ k. take k m) (sym e)
 
 each-lengths : (n : ℕ) (m : List ℕ) → 2 * n ≤ length m → Bytes m → each two (lengths-in n m) ≡ take (2 * n) m
 unfolding lengths-in
@@ -97,36 +98,36 @@ pub replicated-zeros : (n : ℕ) → T (zeros (replicate n 0))
 replicated-zeros zero = tt
 replicated-zeros (suc n) = replicated-zeros n
 
-module _ (d : List ℕ) (long : length d ≡ 40936) (b : Bytes d) (room : sum (lengths-in 99 d) ≤ 40738) (z : T (zeros (drop (198 + sum (lengths-in 99 d)) d))) where
+module _ (d : List ℕ) (long : length d ≡ layout.strings-bytes) (b : Bytes d) (room : sum (lengths-in layout.strings-count d) ≤ layout.room) (z : T (zeros (drop (layout.lengths-bytes + sum (lengths-in layout.strings-count d)) d))) where
   abbrev ns : List ℕ
-  ns = lengths-in 99 d
+  ns = lengths-in layout.strings-count d
 
-  pool-long : length (drop 198 d) ≡ 40738
-  pool-long = length-drop 198 d ∙ rw long
+  pool-long : length (drop layout.lengths-bytes d) ≡ layout.room
+  pool-long = length-drop layout.lengths-bytes d ∙ rw long
 
-  front : lengths (strings-in d) ≡ take 198 d
+  front : lengths (strings-in d) ≡ take layout.lengths-bytes d
   unfolding strings-in
-  front = lengths-each (cut-by ns (drop 198 d)) ∙ ap (each two) (cut-lengths ns (drop 198 d) (omega (arith, room, pool-long))) ∙ each-lengths 99 d (omega (arith, long)) b
+  front = lengths-each (cut-by ns (drop layout.lengths-bytes d)) ∙ ap (each two) (cut-lengths ns (drop layout.lengths-bytes d) (omega (arith, room, pool-long))) ∙ each-lengths layout.strings-count d (omega (arith, long)) b
 
-  middle : joined (strings-in d) ≡ take (sum ns) (drop 198 d)
+  middle : joined (strings-in d) ≡ take (sum ns) (drop layout.lengths-bytes d)
   unfolding strings-in
-  middle = cut-joined ns (drop 198 d)
+  middle = cut-joined ns (drop layout.lengths-bytes d)
 
   pub used-is : used (strings-in d) ≡ sum ns
   unfolding used
-  used-is = ap length middle ∙ length-take-le (sum ns) (drop 198 d) (omega (arith, room, pool-long))
+  used-is = ap length middle ∙ length-take-le (sum ns) (drop layout.lengths-bytes d) (omega (arith, room, pool-long))
 
-  behind : replicate (40738 - used (strings-in d)) 0 ≡ drop (sum ns) (drop 198 d)
+  behind : replicate (layout.room - used (strings-in d)) 0 ≡ drop (sum ns) (drop layout.lengths-bytes d)
   behind =
-      let r : List ℕ = drop (198 + sum ns) d in
-      let n : length r ≡ 40738 - used (strings-in d) = length-drop (198 + sum ns) d ∙ omega (arith, long, used-is, room) in
-      ap (λ k. replicate k 0) (sym n) ∙ sym (zeros-are r z) ∙ sym (drop-drop (sum ns) 198 d)
+      let r : List ℕ = drop (layout.lengths-bytes + sum ns) d in
+      let n : length r ≡ layout.room - used (strings-in d) = length-drop (layout.lengths-bytes + sum ns) d ∙ omega (arith, long, used-is, room) in
+      ap (λ k. replicate k 0) (sym n) ∙ sym (zeros-are r z) ∙ sym (drop-drop (sum ns) layout.lengths-bytes d)
 
   -- the strings with zeros behind them are written as they are read
   pub string-cells-back : string-cells (strings-in d) ≡ d
   unfolding string-cells
   string-cells-back =
-      let p : List ℕ = drop 198 d in
-      let e : joined (strings-in d) ++ replicate (40738 - used (strings-in d)) 0 ≡ p =
-      ap (λ u. u ++ replicate (40738 - used (strings-in d)) 0) middle ∙ ap (λ u. take (sum ns) p ++ u) behind ∙ take-append-drop (sum ns) p in
-      ap (λ u. lengths (strings-in d) ++ u) e ∙ ap (λ u. u ++ p) front ∙ take-append-drop 198 d
+      let p : List ℕ = drop layout.lengths-bytes d in
+      let e : joined (strings-in d) ++ replicate (layout.room - used (strings-in d)) 0 ≡ p =
+      ap (λ u. u ++ replicate (layout.room - used (strings-in d)) 0) middle ∙ ap (λ u. take (sum ns) p ++ u) behind ∙ take-append-drop (sum ns) p in
+      ap (λ u. lengths (strings-in d) ++ u) e ∙ ap (λ u. u ++ p) front ∙ take-append-drop layout.lengths-bytes d

@@ -11,58 +11,59 @@ use Rattle.language.specs.Limits as limit
 use Rattle.language.specs.Program.{Program}
 use Rattle.layout.specs.Cells.{three-at}
 use Rattle.layout.specs.Memory.{twos-in}
+use Rattle.layout.specs.Places as layout
 use Rattle.lists.specs.ListLaws.{T-left, T-right, T-both}
 use Rattle.lists.specs.Lists.{all}
 use Rattle.machine.specs.WellFormed.{good-return}
 use Rattle.check_memory.specs.Passes.{sizes, sum, zeros, laid, all-strings, expressions, halves, sound, all-parts, all-chars, record-count, is-total, counted, sound-output, fitting}
 
 pub record Laid (m : List ℕ) : Type 0 where
-  pub sign : three-at 0 m ≤ 1
-  pub last-most : three-at 12 m ≤ limit.addresses
-  pub room : sum (sizes m) ≤ 40738
-  pub rest : T (zeros (drop (222 + sum (sizes m)) m))
+  pub sign : three-at layout.plus-cell m ≤ 1
+  pub last-most : three-at layout.last-cell m ≤ limit.addresses
+  pub room : sum (sizes m) ≤ layout.room
+  pub rest : T (zeros (drop (layout.first-byte + sum (sizes m)) m))
 
 pub laid-open : (m : List ℕ) → T (laid m) → Laid m
 unfolding laid
 laid-open m h =
-    let a : Bool = leb (three-at 0 m) 1 in
-    let b : Bool = leb (three-at 12 m) limit.addresses in
-    let c : Bool = leb (sum (sizes m)) 40738 in
-    let d : Bool = zeros (drop (222 + sum (sizes m)) m) in
+    let a : Bool = leb (three-at layout.plus-cell m) 1 in
+    let b : Bool = leb (three-at layout.last-cell m) limit.addresses in
+    let c : Bool = leb (sum (sizes m)) layout.room in
+    let d : Bool = zeros (drop (layout.first-byte + sum (sizes m)) m) in
     let q = T-left (a && b && c) d h in
     let r = T-left (a && b) c q in
     record {
-      sign = leb→le (three-at 0 m) 1 (T-left a b r);
-      last-most = leb→le (three-at 12 m) limit.addresses (T-right a b r);
-      room = leb→le (sum (sizes m)) 40738 (T-right (a && b) c q);
+      sign = leb→le (three-at layout.plus-cell m) 1 (T-left a b r);
+      last-most = leb→le (three-at layout.last-cell m) limit.addresses (T-right a b r);
+      room = leb→le (sum (sizes m)) layout.room (T-right (a && b) c q);
       rest = T-right (a && b && c) d h;
     }
 
 pub laid-close : (m : List ℕ) → Laid m → T (laid m)
 unfolding laid
 laid-close m f =
-    let a : Bool = leb (three-at 0 m) 1 in
-    let b : Bool = leb (three-at 12 m) limit.addresses in
-    let c : Bool = leb (sum (sizes m)) 40738 in
-    let d : Bool = zeros (drop (222 + sum (sizes m)) m) in
+    let a : Bool = leb (three-at layout.plus-cell m) 1 in
+    let b : Bool = leb (three-at layout.last-cell m) limit.addresses in
+    let c : Bool = leb (sum (sizes m)) layout.room in
+    let d : Bool = zeros (drop (layout.first-byte + sum (sizes m)) m) in
     T-both (a && b && c) d
-    (T-both (a && b) c (T-both a b (le→leb (three-at 0 m) 1 (f .sign)) (le→leb (three-at 12 m) limit.addresses (f .last-most))) (le→leb (sum (sizes m)) 40738 (f .room)))
+    (T-both (a && b) c (T-both a b (le→leb (three-at layout.plus-cell m) 1 (f .sign)) (le→leb (three-at layout.last-cell m) limit.addresses (f .last-most))) (le→leb (sum (sizes m)) layout.room (f .room)))
     (f .rest)
 
 pub record Strings (m : List ℕ) : Type 0 where
-  pub exprs : T (all (sound-components (three-at 12 m)) (expressions m))
-  pub files : T (all (sound-records (three-at 12 m)) (halves m))
+  pub exprs : T (all (sound-components (three-at layout.last-cell m)) (expressions m))
+  pub files : T (all (sound-records (three-at layout.last-cell m)) (halves m))
 
 pub sound-open : (m : List ℕ) → T (sound m) → Strings m
 unfolding sound
 sound-open m h =
-    let a : Bool = all (sound-components (three-at 12 m)) (expressions m) in
-    let b : Bool = all (sound-records (three-at 12 m)) (halves m) in
+    let a : Bool = all (sound-components (three-at layout.last-cell m)) (expressions m) in
+    let b : Bool = all (sound-records (three-at layout.last-cell m)) (halves m) in
     record { exprs = T-left a b h; files = T-right a b h }
 
 pub sound-close : (m : List ℕ) → Strings m → T (sound m)
 unfolding sound
-sound-close m f = T-both (all (sound-components (three-at 12 m)) (expressions m)) (all (sound-records (three-at 12 m)) (halves m)) (f .exprs) (f .files)
+sound-close m f = T-both (all (sound-components (three-at layout.last-cell m)) (expressions m)) (all (sound-records (three-at layout.last-cell m)) (halves m)) (f .exprs) (f .files)
 
 pub record IsTotal (most told n : ℕ) : Type 0 where
   pub is : n ≡ told
@@ -78,46 +79,46 @@ total-close : (most told n : ℕ) → IsTotal most told n → T (is-total most t
 total-close most told n f = T-both (eqb n told) (leb n most) (same n told (f .is)) (le→leb n most (f .fits))
 
 pub record Totals (m : List ℕ) : Type 0 where
-  pub parts : IsTotal limit.components (three-at 15 m) (all-parts m)
-  pub chars : IsTotal limit.characters (three-at 18 m) (all-chars m)
-  pub records : IsTotal limit.records (three-at 21 m) (record-count m)
+  pub parts : IsTotal limit.components (three-at layout.components-cell m) (all-parts m)
+  pub chars : IsTotal limit.characters (three-at layout.characters-cell m) (all-chars m)
+  pub records : IsTotal limit.records (three-at layout.records-cell m) (record-count m)
 
 pub counted-open : (m : List ℕ) → T (counted m) → Totals m
 unfolding counted
 counted-open m h =
-    let a : Bool = is-total limit.components (three-at 15 m) (all-parts m) in
-    let b : Bool = is-total limit.characters (three-at 18 m) (all-chars m) in
-    let c : Bool = is-total limit.records (three-at 21 m) (record-count m) in
+    let a : Bool = is-total limit.components (three-at layout.components-cell m) (all-parts m) in
+    let b : Bool = is-total limit.characters (three-at layout.characters-cell m) (all-chars m) in
+    let c : Bool = is-total limit.records (three-at layout.records-cell m) (record-count m) in
     let q = T-left (a && b) c h in
     record {
-      parts = total-open limit.components (three-at 15 m) (all-parts m) (T-left a b q);
-      chars = total-open limit.characters (three-at 18 m) (all-chars m) (T-right a b q);
-      records = total-open limit.records (three-at 21 m) (record-count m) (T-right (a && b) c h);
+      parts = total-open limit.components (three-at layout.components-cell m) (all-parts m) (T-left a b q);
+      chars = total-open limit.characters (three-at layout.characters-cell m) (all-chars m) (T-right a b q);
+      records = total-open limit.records (three-at layout.records-cell m) (record-count m) (T-right (a && b) c h);
     }
 
 pub counted-close : (m : List ℕ) → Totals m → T (counted m)
 unfolding counted
 counted-close m f =
-    let a : Bool = is-total limit.components (three-at 15 m) (all-parts m) in
-    let b : Bool = is-total limit.characters (three-at 18 m) (all-chars m) in
-    let c : Bool = is-total limit.records (three-at 21 m) (record-count m) in
+    let a : Bool = is-total limit.components (three-at layout.components-cell m) (all-parts m) in
+    let b : Bool = is-total limit.characters (three-at layout.characters-cell m) (all-chars m) in
+    let c : Bool = is-total limit.records (three-at layout.records-cell m) (record-count m) in
     T-both (a && b) c
-    (T-both a b (total-close limit.components (three-at 15 m) (all-parts m) (f .parts)) (total-close limit.characters (three-at 18 m) (all-chars m) (f .chars)))
-    (total-close limit.records (three-at 21 m) (record-count m) (f .records))
+    (T-both a b (total-close limit.components (three-at layout.components-cell m) (all-parts m) (f .parts)) (total-close limit.characters (three-at layout.characters-cell m) (all-chars m) (f .chars)))
+    (total-close limit.records (three-at layout.records-cell m) (record-count m) (f .records))
 
 pub record Rest (p : Program) (i j m : List ℕ) : Type 0 where
-  pub even : length (getD (all-strings m) 96 []) % 2 ≡ 0
-  pub deep : length (getD (all-strings m) 96 []) ≤ 128
-  pub returns : T (all (good-return p) (twos-in (getD (all-strings m) 96 [])))
-  pub output-1 : T (sound-output (getD (all-strings m) 97 []))
-  pub output-2 : T (sound-output (getD (all-strings m) 98 []))
-  pub place-1 : three-at 3 m ≤ length i
-  pub place-2 : three-at 6 m ≤ length j
-  pub next : three-at 9 m < length (p .code)
+  pub even : length (getD (all-strings m) layout.stack-string []) % 2 ≡ 0
+  pub deep : length (getD (all-strings m) layout.stack-string []) ≤ 128
+  pub returns : T (all (good-return p) (twos-in (getD (all-strings m) layout.stack-string [])))
+  pub output-1 : T (sound-output (getD (all-strings m) layout.first-output []))
+  pub output-2 : T (sound-output (getD (all-strings m) layout.second-output []))
+  pub place-1 : three-at layout.first-place-cell m ≤ length i
+  pub place-2 : three-at layout.second-place-cell m ≤ length j
+  pub next : three-at layout.next-cell m < length (p .code)
 
 module _ (p : Program) (i j m : List ℕ) where
   abbrev v : List ℕ
-  v = getD (all-strings m) 96 []
+  v = getD (all-strings m) layout.stack-string []
 
   abbrev t0 : Bool
   t0 = eqb (length v % 2) 0
@@ -129,19 +130,19 @@ module _ (p : Program) (i j m : List ℕ) where
   t2 = all (good-return p) (twos-in v)
 
   abbrev t3 : Bool
-  t3 = sound-output (getD (all-strings m) 97 [])
+  t3 = sound-output (getD (all-strings m) layout.first-output [])
 
   abbrev t4 : Bool
-  t4 = sound-output (getD (all-strings m) 98 [])
+  t4 = sound-output (getD (all-strings m) layout.second-output [])
 
   abbrev t5 : Bool
-  t5 = leb (three-at 3 m) (length i)
+  t5 = leb (three-at layout.first-place-cell m) (length i)
 
   abbrev t6 : Bool
-  t6 = leb (three-at 6 m) (length j)
+  t6 = leb (three-at layout.second-place-cell m) (length j)
 
   abbrev t7 : Bool
-  t7 = ltb (three-at 9 m) (length (p .code))
+  t7 = ltb (three-at layout.next-cell m) (length (p .code))
 
   pub fitting-open : T (fitting p i j m) → Rest p i j m
   unfolding fitting
@@ -158,9 +159,9 @@ module _ (p : Program) (i j m : List ℕ) where
         returns = T-right (t0 && t1) t2 s;
         output-1 = T-left t3 t4 o;
         output-2 = T-right t3 t4 o;
-        place-1 = leb→le (three-at 3 m) (length i) (T-left t5 t6 n);
-        place-2 = leb→le (three-at 6 m) (length j) (T-right t5 t6 n);
-        next = ltb→lt (three-at 9 m) (length (p .code)) (T-right (t0 && t1 && t2 && (t3 && t4) && (t5 && t6)) t7 h);
+        place-1 = leb→le (three-at layout.first-place-cell m) (length i) (T-left t5 t6 n);
+        place-2 = leb→le (three-at layout.second-place-cell m) (length j) (T-right t5 t6 n);
+        next = ltb→lt (three-at layout.next-cell m) (length (p .code)) (T-right (t0 && t1 && t2 && (t3 && t4) && (t5 && t6)) t7 h);
       }
 
   pub fitting-close : Rest p i j m → T (fitting p i j m)
@@ -171,5 +172,5 @@ module _ (p : Program) (i j m : List ℕ) where
       (T-both (t0 && t1 && t2) (t3 && t4)
       (T-both (t0 && t1) t2 (T-both t0 t1 (same (length v % 2) 0 (f .even)) (le→leb (length v) 128 (f .deep))) (f .returns))
       (T-both t3 t4 (f .output-1) (f .output-2)))
-      (T-both t5 t6 (le→leb (three-at 3 m) (length i) (f .place-1)) (le→leb (three-at 6 m) (length j) (f .place-2))))
-      (lt→ltb (three-at 9 m) (length (p .code)) (f .next))
+      (T-both t5 t6 (le→leb (three-at layout.first-place-cell m) (length i) (f .place-1)) (le→leb (three-at layout.second-place-cell m) (length j) (f .place-2))))
+      (lt→ltb (three-at layout.next-cell m) (length (p .code)) (f .next))

@@ -18,6 +18,7 @@ use Rattle.layout.specs.Bounds.{Each, WholeComponents, WholeRecords}
 use Rattle.layout.specs.CellLaws.{each-in}
 use Rattle.layout.specs.Cells.{three-at}
 use Rattle.layout.specs.Components.{components-in, records-in, addresses-in}
+use Rattle.layout.specs.Places as layout
 use Rattle.lists.specs.ListLaws.{total-split}
 use Rattle.lists.specs.Lists.{total, all, each}
 use Rattle.machine.specs.Arguments.{everything}
@@ -35,23 +36,23 @@ use Rattle.check_memory.proofs.Readings.{length-expressions, length-hal
 
 -- ---- the cells
 
-pub laid-beyond : {m : List ℕ} {e : ℕ} → Ended m e → 40960 < e → false ≡ laid m
+pub laid-beyond : {m : List ℕ} {e : ℕ} → Ended m e → limit.state < e → false ≡ laid m
 unfolding laid
 laid-beyond {m} {e} h k =
-    let c : leb (sum (sizes m)) 40738 ≡ false = lt-leb (sum (sizes m)) 40738 (omega (arith, h .is)) in
-    let ab : Bool = leb (three-at 0 m) 1 && leb (three-at 12 m) limit.addresses in
-    sym (ap (λ t. ab && t && zeros (drop (222 + sum (sizes m)) m)) c ∙ ap (λ t. t && zeros (drop (222 + sum (sizes m)) m)) (and-false ab))
+    let c : leb (sum (sizes m)) layout.room ≡ false = lt-leb (sum (sizes m)) layout.room (omega (arith, h .is)) in
+    let ab : Bool = leb (three-at layout.plus-cell m) 1 && leb (three-at layout.last-cell m) limit.addresses in
+    sym (ap (λ t. ab && t && zeros (drop (layout.first-byte + sum (sizes m)) m)) c ∙ ap (λ t. t && zeros (drop (layout.first-byte + sum (sizes m)) m)) (and-false ab))
 
-pub laid-within : {m : List ℕ} {e : ℕ} → Ended m e → e ≤ 40960 → {x y : ℕ} → Number (three-at 0 m) 16777216 x → Number (three-at 12 m) 16777216 y → {t : Bool} → t ≡ zeros (take (length m - e) (drop e m))
+pub laid-within : {m : List ℕ} {e : ℕ} → Ended m e → e ≤ limit.state → {x y : ℕ} → Number (three-at layout.plus-cell m) 16777216 x → Number (three-at layout.last-cell m) 16777216 y → {t : Bool} → t ≡ zeros (take (length m - e) (drop e m))
     → leb x 1 && leb y 8388607 && t ≡ laid m
 unfolding laid
 laid-within {m} {e} h k {x} {y} a b {t} z =
-    let c : leb (sum (sizes m)) 40738 ≡ true = le-leb (sum (sizes m)) 40738 (omega (arith, h .is)) in
-    let ab : Bool = leb (three-at 0 m) 1 && leb (three-at 12 m) limit.addresses in
-    let d : take (length m - e) (drop e m) ≡ drop (222 + sum (sizes m)) m = take-all (length m - e) (drop e m) (rw (length-drop e m) (omega arith)) ∙ ap (λ n. drop n m) (h .is) in
-    let u : Bool = zeros (drop (222 + sum (sizes m)) m) in
+    let c : leb (sum (sizes m)) layout.room ≡ true = le-leb (sum (sizes m)) layout.room (omega (arith, h .is)) in
+    let ab : Bool = leb (three-at layout.plus-cell m) 1 && leb (three-at layout.last-cell m) limit.addresses in
+    let d : take (length m - e) (drop e m) ≡ drop (layout.first-byte + sum (sizes m)) m = take-all (length m - e) (drop e m) (rw (length-drop e m) (omega arith)) ∙ ap (λ n. drop n m) (h .is) in
+    let u : Bool = zeros (drop (layout.first-byte + sum (sizes m)) m) in
     ap (λ n. leb n 1 && leb y 8388607 && t) (a .is)
-    ∙ ap (λ n. leb (three-at 0 m) 1 && leb n 8388607 && t) (b .is)
+    ∙ ap (λ n. leb (three-at layout.plus-cell m) 1 && leb n 8388607 && t) (b .is)
     ∙ ap (λ q. ab && q) (z ∙ ap zeros d)
     ∙ sym (ap (λ q. ab && q && u) c ∙ ap (λ q. q && u) (and-true ab))
 
@@ -78,7 +79,7 @@ expression-at m i h = getD-take 32 (all-strings m) i [] h
 half-at : (m : List ℕ) (i : ℕ) → i < 64 → getD (halves m) i [] ≡ getD (all-strings m) (32 + i) []
 half-at m i h = getD-take 64 (drop 32 (all-strings m)) i [] h ∙ getD-drop 32 (all-strings m) i []
 
-pub named : {m st : List ℕ} → Readable m st → {k : ℕ} → k < 99 → Named m st k
+pub named : {m st : List ℕ} → Readable m st → {k : ℕ} → k < layout.strings-count → Named m st k
 named r h = record { readable = r; index = h }
 
 -- the tests in code: an invariant, its turn and its end
@@ -261,7 +262,7 @@ module _ {m st d : List ℕ} (c : Comparable m st (length d)) {e : List ℕ} {n 
 
 -- ---- totals
 
-pub counted-by : {m : List ℕ} {e f : Sums} → ExpressionSums m e → FileSums m f → {a b c : ℕ} → Number (three-at 15 m) 16777216 a → Number (three-at 18 m) 16777216 b → Number (three-at 21 m) 16777216 c
+pub counted-by : {m : List ℕ} {e f : Sums} → ExpressionSums m e → FileSums m f → {a b c : ℕ} → Number (three-at layout.components-cell m) 16777216 a → Number (three-at layout.characters-cell m) 16777216 b → Number (three-at layout.records-cell m) 16777216 c
     → {t u v : Bool} → t ≡ is-total 1024 a (e .parts + f .parts) → u ≡ is-total 8192 b (e .chars + f .chars) → v ≡ is-total 256 c (f .records) → t && u && v ≡ counted m
 unfolding counted
 counted-by {m} {e} {f} x y a b c t u v =

@@ -22,6 +22,7 @@ use Rattle.layout.specs.Memory.{scalars, strings, state-cells, threes-in, twos-
 use Rattle.layout.specs.MemoryLaws.{memory-facts, memory-fine, memory-strings, memory-scalars}
 use Rattle.layout.specs.StringLaws.{length-lengths, lengths-in-lengths}
 use Rattle.layout.specs.Strings.{lengths, used, string-cells, lengths-in}
+use Rattle.layout.specs.Places as layout
 use Rattle.lists.specs.ListLaws.{part, T-left, T-right, T-both, sameBytes-refl}
 use Rattle.lists.specs.Lists.{total, all, each, headOr, joined, sameBytes}
 use Rattle.machine.specs.Changes.{held, recorded, fits}
@@ -68,7 +69,7 @@ module _ (p : Program) (i j M : List ℕ) (gp : T (good-program p)) (gi : T (goo
   ins = i ∷ j ∷ []
 
   abbrev l : ℕ
-  l = three-at 12 m
+  l = three-at layout.last-cell m
 
   at-rest : AtRest p ins M
   at-rest = memory-facts p ins M g
@@ -89,7 +90,7 @@ module _ (p : Program) (i j M : List ℕ) (gp : T (good-program p)) (gi : T (goo
   unfolding state-of
   strings-same = memory-strings p ins M gp gi g
 
-  scalars-same : threes-in 8 m ≡ scalars (s m)
+  scalars-same : threes-in layout.scalars-count m ≡ scalars (s m)
   unfolding state-of
   scalars-same = memory-scalars p ins M gp gi g
 
@@ -108,37 +109,37 @@ module _ (p : Program) (i j M : List ℕ) (gp : T (good-program p)) (gi : T (goo
   abbrev ws : List (List ℕ)
   ws = strings (s m)
 
-  ws-long : length ws ≡ 99
+  ws-long : length ws ≡ layout.strings-count
   ws-long = ap length (sym strings-same) ∙ length-strings m
 
-  behind : drop 24 m ≡ string-cells ws
+  behind : drop layout.first-length m ≡ string-cells ws
   unfolding state-cells
-  behind = ap (drop 24) (sym cells) ∙ drop-at (each three (scalars (s m))) (string-cells ws) 24 (length-each 3 three (λ n. refl) (scalars (s m)))
+  behind = ap (drop layout.first-length) (sym cells) ∙ drop-at (each three (scalars (s m))) (string-cells ws) layout.first-length (length-each 3 three (λ n. refl) (scalars (s m)))
 
   sizes-are : sizes m ≡ map length ws
   unfolding string-cells
   sizes-are =
-      let t : List ℕ = joined ws ++ replicate (40738 - used ws) 0 in
-      ap (lengths-in 99) behind ∙ ap (λ k. lengths-in k (lengths ws ++ t)) (sym ws-long) ∙ lengths-in-lengths ws t
+      let t : List ℕ = joined ws ++ replicate (layout.room - used ws) 0 in
+      ap (lengths-in layout.strings-count) behind ∙ ap (λ k. lengths-in k (lengths ws ++ t)) (sym ws-long) ∙ lengths-in-lengths ws t
 
   sum-is : sum (sizes m) ≡ used ws
   sum-is = ap sum sizes-are ∙ sum-lengths ws
 
-  zeros-behind : drop (222 + sum (sizes m)) m ≡ replicate (40738 - used ws) 0
+  zeros-behind : drop (layout.first-byte + sum (sizes m)) m ≡ replicate (layout.room - used ws) 0
   unfolding string-cells used
   zeros-behind =
-      let z : List ℕ = replicate (40738 - used ws) 0 in
-      let n : length (lengths ws) ≡ 198 = length-lengths ws ∙ omega (arith, ws-long) in
-      let q : 222 + sum (sizes m) ≡ 24 + (198 + used ws) = omega (arith, sum-is) in
-      ap (λ k. drop k m) q ∙ sym (drop-drop (198 + used ws) 24 m) ∙ ap (drop (198 + used ws)) behind
-      ∙ sym (drop-drop (used ws) 198 (string-cells ws)) ∙ ap (drop (used ws)) (drop-at (lengths ws) (joined ws ++ z) 198 n) ∙ drop-at (joined ws) z (used ws) refl
+      let z : List ℕ = replicate (layout.room - used ws) 0 in
+      let n : length (lengths ws) ≡ layout.lengths-bytes = length-lengths ws ∙ omega (arith, ws-long) in
+      let q : layout.first-byte + sum (sizes m) ≡ layout.first-length + (layout.lengths-bytes + used ws) = omega (arith, sum-is) in
+      ap (λ k. drop k m) q ∙ sym (drop-drop (layout.lengths-bytes + used ws) layout.first-length m) ∙ ap (drop (layout.lengths-bytes + used ws)) behind
+      ∙ sym (drop-drop (used ws) layout.lengths-bytes (string-cells ws)) ∙ ap (drop (used ws)) (drop-at (lengths ws) (joined ws ++ z) layout.lengths-bytes n) ∙ drop-at (joined ws) z (used ws) refl
 
   is-laid : Laid m
   is-laid = record {
     sign = omega (arith, scalar 0 (omega arith), sign-most (st m .plus));
     last-most = omega (arith, last-is m, fine .last-most);
     room = omega (arith, sum-is, fine-room (s m) fine);
-    rest = subst (λ u. T (zeros u)) (sym zeros-behind) (replicated-zeros (40738 - used ws));
+    rest = subst (λ u. T (zeros u)) (sym zeros-behind) (replicated-zeros (layout.room - used ws));
   }
 
   -- ---- the strings
@@ -163,8 +164,8 @@ module _ (p : Program) (i j M : List ℕ) (gp : T (good-program p)) (gi : T (goo
 
   stack-same : stack-string m ≡ each two (twos-in (stack-string m))
   stack-same =
-      let d : drop 96 (vs m) ≡ tail m = sym (drop-drop 64 32 (vs m)) ∙ ap (drop 64) rest-read ∙ drop-at (map again-records (halves m)) (tail m) 64 long-2 in
-      ap (headOr []) (sym (drop-cons (vs m) 96 [] (omega (arith, length-strings m))) ∙ d)
+      let d : drop layout.stack-string (vs m) ≡ tail m = sym (drop-drop 64 32 (vs m)) ∙ ap (drop 64) rest-read ∙ drop-at (map again-records (halves m)) (tail m) 64 long-2 in
+      ap (headOr []) (sym (drop-cons (vs m) layout.stack-string [] (omega (arith, length-strings m))) ∙ d)
 
   faultless : store-faults ins l (st m) ≡ 0
   faultless = ap (λ k. store-faults ins k (st m)) (sym (last-is m)) ∙ eqb→eq (store-faults ins (st m .last) (st m)) 0 (test 6)
@@ -195,7 +196,7 @@ module _ (p : Program) (i j M : List ℕ) (gp : T (good-program p)) (gi : T (goo
   unfolding distinct
   is-distinct = subst (λ ns. T (different eqb ns)) (addresses-is m) (test 8)
 
-  outputs-short : T (all (λ q. leb (length q) limit.output) (getD (vs m) 97 [] ∷ getD (vs m) 98 [] ∷ []))
+  outputs-short : T (all (λ q. leb (length q) limit.output) (getD (vs m) layout.first-output [] ∷ getD (vs m) layout.second-output [] ∷ []))
   outputs-short = subst (λ qs. T (all (λ q. leb (length q) limit.output) qs)) (outputs-is m) (limits .most-d)
 
   output-passes : (k : ℕ) → T (leb (length (getD (vs m) k [])) limit.output) → total strange (getD (vs m) k []) ≡ 0 → T (sound-output (getD (vs m) k []))
@@ -204,15 +205,15 @@ module _ (p : Program) (i j M : List ℕ) (gp : T (good-program p)) (gi : T (goo
   is-fitting : Rest p i j m
   is-fitting =
       let f = faults-is m i j l in
-      let t : Bool = leb (length (getD (vs m) 97 [])) limit.output in
-      let u : Bool = leb (length (getD (vs m) 98 [])) limit.output in
+      let t : Bool = leb (length (getD (vs m) layout.first-output [])) limit.output in
+      let u : Bool = leb (length (getD (vs m) layout.second-output [])) limit.output in
       let n : length (stack-string m) ≡ 2 * length (twos-in (stack-string m)) = ap length stack-same ∙ length-each 2 two (λ n. refl) (twos-in (stack-string m)) in
       record {
         even = omega (arith, n);
         deep = omega (arith, n, ap length (stack-is m), facts .depth);
         returns = subst (λ ns. T (all (good-return p) ns)) (stack-is m) (facts .returns);
-        output-1 = output-passes 97 (T-left t (u && true) outputs-short) (omega (arith, faultless, f));
-        output-2 = output-passes 98 (T-left u true (T-right t (u && true) outputs-short)) (omega (arith, faultless, f));
+        output-1 = output-passes layout.first-output (T-left t (u && true) outputs-short) (omega (arith, faultless, f));
+        output-2 = output-passes layout.second-output (T-left u true (T-right t (u && true) outputs-short)) (omega (arith, faultless, f));
         place-1 = omega (arith, faultless, f);
         place-2 = omega (arith, faultless, f);
         next = omega (arith, next-is m, facts .next);
@@ -244,7 +245,7 @@ module _ (p : Program) (i j M : List ℕ) (gp : T (good-program p)) (gi : T (goo
       let C : Totals c = counted-open c (T-left (counted c) (distinct c && fitting p i j c) t2) in
       let D : T (distinct c) = T-left (distinct c) (fitting p i j c) t3 in
       let R : Rest p i j c = fitting-open p i j c (T-right (distinct c) (fitting p i j c) t3) in
-      let n : length c ≡ 40960 = length-take-le limit.state M long in
+      let n : length c ≡ limit.state = length-take-le limit.state M long in
       let e : state-cells (s c) ≡ c = cells-same p i j c n b L S C D R in
       let q : Bool = sameBytes (state-cells (s c)) c in
       let same : T q = subst (λ u. T (sameBytes u c)) (sym e) (sameBytes-refl c) in

@@ -18,6 +18,7 @@ use Rattle.machine.specs.Changes.{held, recorded}
 use Rattle.machine.specs.WellFormed.{strange, faults, record-faults, overrun, store-faults, addresses}
 use Rattle.check_memory.specs.Passes.{all-strings, expressions, halves, record-count}
 use Rattle.layout.specs.StringLaws.{length-strings-in}
+use Rattle.layout.specs.Places as layout
 use Rattle.check_memory.proofs.Cells.{threes-at}
 use Rattle.check_memory.proofs.Files.{again, again-records, length-files-in, strings-of-files, total-of-files, addresses-of-files}
 
@@ -51,10 +52,10 @@ module _ (m : List ℕ) where
   st = s .store
 
   abbrev pub stack-string : List ℕ
-  stack-string = getD vs 96 []
+  stack-string = getD vs layout.stack-string []
 
-  pub length-strings : length vs ≡ 99
-  length-strings = length-strings-in (drop 24 m)
+  pub length-strings : length vs ≡ layout.strings-count
+  length-strings = length-strings-in (drop layout.first-length m)
 
   length-rest : length (drop 32 vs) ≡ 67
   length-rest = length-drop 32 vs ∙ rw length-strings
@@ -65,11 +66,11 @@ module _ (m : List ℕ) where
   pub length-halves : length (halves m) ≡ 64
   length-halves = length-take-le 64 (drop 32 vs) (omega (arith, length-rest))
 
-  pub outputs-are : drop 97 vs ≡ getD vs 97 [] ∷ getD vs 98 [] ∷ []
+  pub outputs-are : drop layout.first-output vs ≡ getD vs layout.first-output [] ∷ getD vs layout.second-output [] ∷ []
   outputs-are =
-      drop-cons vs 97 [] (omega (arith, length-strings))
-      ∙ ap (λ us. getD vs 97 [] ∷ us) (drop-cons vs 98 [] (omega (arith, length-strings)))
-      ∙ ap (λ us. getD vs 97 [] ∷ getD vs 98 [] ∷ us) (drop-of-length-le vs {i = 99} (omega (arith, length-strings)))
+      drop-cons vs layout.first-output [] (omega (arith, length-strings))
+      ∙ ap (λ us. getD vs layout.first-output [] ∷ us) (drop-cons vs layout.second-output [] (omega (arith, length-strings)))
+      ∙ ap (λ us. getD vs layout.first-output [] ∷ getD vs layout.second-output [] ∷ us) (drop-of-length-le vs {i = layout.strings-count} (omega (arith, length-strings)))
 
   -- ---- its parts
 
@@ -83,23 +84,23 @@ module _ (m : List ℕ) where
 
   pub outputs-long : length (st .outputs) ≡ 2
   unfolding state-in state-by
-  outputs-long = length-drop 97 vs ∙ rw length-strings
+  outputs-long = length-drop layout.first-output vs ∙ rw length-strings
 
-  pub outputs-is : st .outputs ≡ getD vs 97 [] ∷ getD vs 98 [] ∷ []
+  pub outputs-is : st .outputs ≡ getD vs layout.first-output [] ∷ getD vs layout.second-output [] ∷ []
   unfolding state-in state-by
   outputs-is = outputs-are
 
-  pub last-is : st .last ≡ three-at 12 m
+  pub last-is : st .last ≡ three-at layout.last-cell m
   unfolding state-in state-by
   last-is = threes-at 8 4 m (omega arith)
 
-  pub next-is : s .next ≡ three-at 9 m
+  pub next-is : s .next ≡ three-at layout.next-cell m
   unfolding state-in state-by
   next-is = threes-at 8 3 m (omega arith)
 
-  pub places-is : st .places ≡ three-at 3 m ∷ three-at 6 m ∷ []
+  pub places-is : st .places ≡ three-at layout.first-place-cell m ∷ three-at layout.second-place-cell m ∷ []
   unfolding state-in state-by
-  places-is = ap (λ n. n ∷ getD (threes-in 8 m) 2 0 ∷ []) (threes-at 8 1 m (omega arith)) ∙ ap (λ n. three-at 3 m ∷ n ∷ []) (threes-at 8 2 m (omega arith))
+  places-is = ap (λ n. n ∷ getD (threes-in layout.scalars-count m) 2 0 ∷ []) (threes-at 8 1 m (omega arith)) ∙ ap (λ n. three-at layout.first-place-cell m ∷ n ∷ []) (threes-at 8 2 m (omega arith))
 
   pub stack-is : s .stack ≡ twos-in stack-string
   unfolding state-in state-by
@@ -134,8 +135,8 @@ module _ (m : List ℕ) where
   pub faults-is : (i j : List ℕ) (l : ℕ) → store-faults (i ∷ j ∷ []) l st
       ≡ total (λ v. total (faults l) (components-in v)) (expressions m)
       + total (λ v. total (record-faults l) (records-in v)) (halves m)
-      + (total strange (getD vs 97 []) + total strange (getD vs 98 []))
-      + ((three-at 3 m - length i) + (three-at 6 m - length j))
+      + (total strange (getD vs layout.first-output []) + total strange (getD vs layout.second-output []))
+      + ((three-at layout.first-place-cell m - length i) + (three-at layout.second-place-cell m - length j))
   unfolding store-faults
   faults-is i j l =
       omega (arith, exprs-faults l, files-faults l, ap (total (total strange)) outputs-is, ap (λ ns. overrun ns (i ∷ j ∷ [])) places-is)
@@ -143,7 +144,7 @@ module _ (m : List ℕ) where
   -- ---- its strings
 
   abbrev pub tail : List (List ℕ)
-  tail = each two (twos-in stack-string) ∷ drop 97 vs
+  tail = each two (twos-in stack-string) ∷ drop layout.first-output vs
 
   pub strings-is : strings s ≡ map again (expressions m) ++ (map again-records (halves m) ++ tail)
   unfolding state-in state-by strings
@@ -151,9 +152,9 @@ module _ (m : List ℕ) where
       let f = strings-of-files 32 (drop 32 vs) (omega (arith, length-rest)) in
       ap (λ us. us ++ (file-strings (files-in 32 (drop 32 vs)) ++ tail)) (map-again (expressions m)) ∙ ap (λ us. map again (expressions m) ++ (us ++ tail)) f
 
-  pub strings-are : vs ≡ expressions m ++ (halves m ++ (stack-string ∷ drop 97 vs))
+  pub strings-are : vs ≡ expressions m ++ (halves m ++ (stack-string ∷ drop layout.first-output vs))
   strings-are =
-      let a : drop 96 vs ≡ stack-string ∷ drop 97 vs = drop-cons vs 96 [] (omega (arith, length-strings)) in
-      let d : drop 64 (drop 32 vs) ≡ drop 96 vs = drop-drop 64 32 vs in
+      let a : drop layout.stack-string vs ≡ stack-string ∷ drop layout.first-output vs = drop-cons vs layout.stack-string [] (omega (arith, length-strings)) in
+      let d : drop 64 (drop 32 vs) ≡ drop layout.stack-string vs = drop-drop 64 32 vs in
       sym (take-append-drop 32 vs)
       ∙ ap (λ us. expressions m ++ us) (sym (take-append-drop 64 (drop 32 vs)) ∙ ap (λ us. halves m ++ us) (d ∙ a))

@@ -17,6 +17,7 @@ use Rattle.layout.specs.Bounds.{Each, Ok, RecordOk, WholeComponents, WholeRecor
 use Rattle.layout.specs.CellLaws.{each-left, each-drop, each-at}
 use Rattle.layout.specs.Components.{components-in, records-in}
 use Rattle.layout.specs.Strings.{lengths-in, cut-by, strings-in}
+use Rattle.layout.specs.Places as layout
 use Rattle.lists.specs.ListLaws.{T-left, T-right}
 use Rattle.lists.specs.Lists.{total, all}
 use Rattle.check_memory.specs.Passes.{all-strings, expressions, halves}
@@ -34,7 +35,7 @@ each-take P n xs h = each-left P (take n xs) (drop n xs) (subst (Each P) (sym (t
 module _ (m : List ℕ) (b : Bytes m) where
   bytes-strings : Each Bytes (all-strings m)
   unfolding strings-in
-  bytes-strings = bytes-cut (lengths-in 99 (drop 24 m)) (drop 198 (drop 24 m)) (bytes-drop 198 (drop 24 m) (bytes-drop 24 m b))
+  bytes-strings = bytes-cut (lengths-in layout.strings-count (drop layout.first-length m)) (drop layout.lengths-bytes (drop layout.first-length m)) (bytes-drop layout.lengths-bytes (drop layout.first-length m) (bytes-drop layout.first-length m b))
 
   pub bytes-string : (k : ℕ) → Bytes (getD (all-strings m) k [])
   bytes-string = each-at Bytes [] (λ j. omega arith) (all-strings m) bytes-strings

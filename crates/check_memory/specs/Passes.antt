@@ -13,6 +13,7 @@ use Rattle.layout.specs.Cells.{three-at}
 use Rattle.layout.specs.Components.{components-in, records-in, addresses-in}
 use Rattle.layout.specs.Memory.{twos-in}
 use Rattle.layout.specs.Strings.{lengths-in, strings-in}
+use Rattle.layout.specs.Places as layout
 use Rattle.lists.specs.Lists.{total, all, each}
 use Rattle.machine.specs.WellFormed.{different, good-return}
 use Rattle.records.specs.Sequences.{part-total, char-total}
@@ -21,7 +22,7 @@ use Rattle.records.specs.Sequences.{part-total, char-total}
 
 -- how long the 99 strings are, and how long together
 abbrev pub sizes : List ℕ → List ℕ
-sizes m = lengths-in 99 (drop 24 m)
+sizes m = lengths-in layout.strings-count (drop layout.first-length m)
 
 abbrev pub sum : List ℕ → ℕ
 sum ns = total (λ n. n) ns
@@ -31,22 +32,22 @@ zeros l = all (λ x. eqb x 0) l
 
 -- H and the last address given are in range, the strings have room, and what stands behind them is zero
 unfoldable pub laid : List ℕ → Bool
-laid m = leb (three-at 0 m) 1 && leb (three-at 12 m) limit.addresses && leb (sum (sizes m)) 40738 && zeros (drop (222 + sum (sizes m)) m)
+laid m = leb (three-at layout.plus-cell m) 1 && leb (three-at layout.last-cell m) limit.addresses && leb (sum (sizes m)) layout.room && zeros (drop (layout.first-byte + sum (sizes m)) m)
 
 -- ---- the strings
 
 abbrev pub all-strings : List ℕ → List (List ℕ)
-all-strings m = strings-in (drop 24 m)
+all-strings m = strings-in (drop layout.first-length m)
 
 abbrev pub expressions : List ℕ → List (List ℕ)
 expressions m = take limit.expressions (all-strings m)
 
 -- two strings for each file
 abbrev pub halves : List ℕ → List (List ℕ)
-halves m = take 64 (drop 32 (all-strings m))
+halves m = take layout.file-strings-count (drop layout.first-file (all-strings m))
 
 unfoldable pub sound : List ℕ → Bool
-sound m = all (sound-components (three-at 12 m)) (expressions m) && all (sound-records (three-at 12 m)) (halves m)
+sound m = all (sound-components (three-at layout.last-cell m)) (expressions m) && all (sound-records (three-at layout.last-cell m)) (halves m)
 
 -- ---- the totals
 
@@ -71,9 +72,9 @@ is-total most told n = eqb n told && leb n most
 
 unfoldable pub counted : List ℕ → Bool
 counted m =
-    is-total limit.components (three-at 15 m) (all-parts m)
-    && is-total limit.characters (three-at 18 m) (all-chars m)
-    && is-total limit.records (three-at 21 m) (record-count m)
+    is-total limit.components (three-at layout.components-cell m) (all-parts m)
+    && is-total limit.characters (three-at layout.characters-cell m) (all-chars m)
+    && is-total limit.records (three-at layout.records-cell m) (record-count m)
 
 -- ---- the addresses, and the rest
 
@@ -88,7 +89,7 @@ sound-output v = leb (length v) limit.output && all known v
 
 unfoldable pub fitting : Program → List ℕ → List ℕ → List ℕ → Bool
 fitting p i j m =
-    sound-stack p (getD (all-strings m) 96 [])
-    && (sound-output (getD (all-strings m) 97 []) && sound-output (getD (all-strings m) 98 []))
-    && (leb (three-at 3 m) (length i) && leb (three-at 6 m) (length j))
-    && ltb (three-at 9 m) (length (p .code))
+    sound-stack p (getD (all-strings m) layout.stack-string [])
+    && (sound-output (getD (all-strings m) layout.first-output []) && sound-output (getD (all-strings m) layout.second-output []))
+    && (leb (three-at layout.first-place-cell m) (length i) && leb (three-at layout.second-place-cell m) (length j))
+    && ltb (three-at layout.next-cell m) (length (p .code))

@@ -6,6 +6,7 @@ use lib.ListN.{length, getD, take}
 use Rattle.language.specs.Limits as limit
 use Rattle.layout.specs.Bounds.{Each, WholeComponents, WholeRecords}
 use Rattle.layout.specs.Components.{records-in}
+use Rattle.layout.specs.Places as layout
 use Rattle.lists.specs.Lists.{total}
 use Rattle.records.specs.Sequences.{part-total, char-total}
 use Rattle.check_memory.specs.Passes.{sizes, sum, all-strings, expressions, halves, expression-parts, expression-chars, record-count}
@@ -14,29 +15,29 @@ use Rattle.check_memory.specs.declared.Sums.{Sums}
 -- m is the cells of a state, and there are places for the starts
 pub record Measurable (m : List ℕ) (count : ℕ) : Type 0 where
   pub long : length m ≡ limit.state
-  pub places : count ≡ 99
+  pub places : count ≡ layout.strings-count
 
 -- st has the starts of the strings, and r is where the last one ends
 pub record Started (m st : List ℕ) (r : ℕ) : Type 0 where
-  pub count : length st ≡ 99
-  pub place : (k : ℕ) → k < 99 → getD st k 0 ≡ 222 + sum (take k (sizes m))
-  pub ends : r ≡ 222 + sum (sizes m)
+  pub count : length st ≡ layout.strings-count
+  pub place : (k : ℕ) → k < layout.strings-count → getD st k 0 ≡ layout.first-byte + sum (take k (sizes m))
+  pub ends : r ≡ layout.first-byte + sum (sizes m)
 
 -- e is where the last one ends
 pub record Ended (m : List ℕ) (e : ℕ) : Type 0 where
   pub long : length m ≡ limit.state
-  pub is : e ≡ 222 + sum (sizes m)
+  pub is : e ≡ layout.first-byte + sum (sizes m)
 
 -- the strings of m can be read
 pub record Readable (m st : List ℕ) : Type 0 where
   pub long : length m ≡ limit.state
-  pub count : length st ≡ 99
-  pub place : (k : ℕ) → k < 99 → getD st k 0 ≡ 222 + sum (take k (sizes m))
-  pub room : sum (sizes m) ≤ 40738
+  pub count : length st ≡ layout.strings-count
+  pub place : (k : ℕ) → k < layout.strings-count → getD st k 0 ≡ layout.first-byte + sum (take k (sizes m))
+  pub room : sum (sizes m) ≤ layout.room
 
 pub record Named (m st : List ℕ) (k : ℕ) : Type 0 where
   pub readable : Readable m st
-  pub index : k < 99
+  pub index : k < layout.strings-count
 
 pub record StringLent (m : List ℕ) (k : ℕ) (r : List ℕ) : Type 0 where
   pub is : r ≡ getD (all-strings m) k []

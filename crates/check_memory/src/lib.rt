@@ -6,17 +6,9 @@ ghost use Rattle.lists.specs.Lists.{all};
 ghost use Rattle.check_strings.specs.Sound.{sound-components, sound-records};
 ghost use Rattle.check_memory.specs.Passes.{zeros, laid, expressions, halves, sound, is-total, counted, distinct};
 ghost use Rattle.check_memory.specs.Reads.{Measurable, Started, Ended, Named, StringLent, Walkable, WholeExpressions, WholeFiles, BothWhole, ExpressionSums, FileSums, Comparable};
+ghost use Rattle.layout.specs.Places.{last-cell};
 use language::Machine;
-
-// How many strings there are, where their lengths stand, and where the first string starts.
-const STRINGS: usize = 99;
-
-const LENGTHS: usize = 24;
-
-const FIRST: usize = 222;
-
-// How many strings the files take.
-const HALVES: usize = 64;
+use layout::StatePlaces;
 
 // What the components and the records of some strings come to.
 pub struct Sums {
@@ -43,11 +35,11 @@ pub fn starts_of(m: &[u8], starts: &mut [u32]) -> usize
     requires { ⌜ Measurable (now m) (length (now starts)) ⌝ }
     ensures { λ r. ⌜ Started (now (m .entry)) (now (starts .exit)) r ⌝ }
 {
-    let mut at = FIRST;
+    let mut at = StatePlaces::FIRST_BYTE;
     let mut i = 0;
-    while i < STRINGS {
+    while i < StatePlaces::STRINGS_COUNT {
         cells::write(starts, i, at);
-        at += cells::two_at(m, LENGTHS + 2 * i);
+        at += cells::two_at(m, StatePlaces::FIRST_LENGTH + 2 * i);
         i += 1;
     }
     at
@@ -59,7 +51,7 @@ pub fn string_at<'a>(m: &'a [u8], starts: &[u32], k: usize) -> &'a [u8]
     ensures { λ r. ⌜ StringLent (now (m .entry)) k (now r) ⌝ }
 {
     let from = cells::read(starts, k);
-    let to = from + cells::two_at(m, LENGTHS + 2 * k);
+    let to = from + cells::two_at(m, StatePlaces::FIRST_LENGTH + 2 * k);
     &m[from..to]
 }
 
@@ -71,8 +63,8 @@ pub fn is_laid(m: &[u8], end: usize) -> bool
     if Machine::STATE < end {
         return false;
     }
-    (cells::three_at(m, 0) <= 1)
-        & (cells::three_at(m, 12) <= Machine::ADDRESSES)
+    (cells::three_at(m, StatePlaces::PLUS_CELL) <= 1)
+        & (cells::three_at(m, StatePlaces::LAST_CELL) <= Machine::ADDRESSES)
         & are_zeros(&m[end..])
 }
 
@@ -95,8 +87,8 @@ fn are_files(m: &[u8], starts: &[u32], last: usize) -> bool
     ensures { λ r. ⌜ r ≡ all (sound-records last) (halves (now (m .entry))) ⌝ }
 {
     let mut i = 0;
-    while i < HALVES {
-        if !check_strings::are_records(string_at(m, starts, Machine::EXPRESSIONS + i), last) {
+    while i < StatePlaces::FILE_STRINGS_COUNT {
+        if !check_strings::are_records(string_at(m, starts, StatePlaces::FIRST_FILE + i), last) {
             return false;
         }
         i += 1;
@@ -106,10 +98,10 @@ fn are_files(m: &[u8], starts: &[u32], last: usize) -> bool
 
 // Whether expressions and files are whole and without faults.
 pub fn is_sound(m: &[u8], starts: &[u32]) -> bool
-    requires { ⌜ Walkable (now m) (now starts) (three-at 12 (now m)) ⌝ }
+    requires { ⌜ Walkable (now m) (now starts) (three-at last-cell (now m)) ⌝ }
     ensures { λ r. ⌜ r ≡ sound (now (m .entry)) ⌝ }
 {
-    let last = cells::three_at(m, 12);
+    let last = cells::three_at(m, StatePlaces::LAST_CELL);
     are_expressions(m, starts, last) & are_files(m, starts, last)
 }
 
@@ -142,8 +134,8 @@ fn file_sums(m: &[u8], starts: &[u32]) -> Sums
     let mut chars = 0;
     let mut count = 0;
     let mut i = 0;
-    while i < HALVES {
-        let v = string_at(m, starts, Machine::EXPRESSIONS + i);
+    while i < StatePlaces::FILE_STRINGS_COUNT {
+        let v = string_at(m, starts, StatePlaces::FIRST_FILE + i);
         let t = records::totals_of(v);
         let q = records::count(v, records::RecordTest::First(matching::Test::All), v);
         parts += t.parts;
@@ -173,15 +165,19 @@ pub fn is_counted(m: &[u8], starts: &[u32]) -> bool
     let f = file_sums(m, starts);
     is_total(
         Machine::COMPONENTS,
-        cells::three_at(m, 15),
+        cells::three_at(m, StatePlaces::COMPONENTS_CELL),
         e.parts + f.parts,
     )
         & is_total(
             Machine::CHARACTERS,
-            cells::three_at(m, 18),
+            cells::three_at(m, StatePlaces::CHARACTERS_CELL),
             e.chars + f.chars,
         )
-        & is_total(Machine::RECORDS, cells::three_at(m, 21), f.records)
+        & is_total(
+            Machine::RECORDS,
+            cells::three_at(m, StatePlaces::RECORDS_CELL),
+            f.records,
+        )
 }
 
 // Whether no two records have one address. `list` is for the addresses.
@@ -191,8 +187,8 @@ pub fn is_distinct(m: &[u8], starts: &[u32], list: &mut [u32]) -> bool
 {
     let mut n = 0;
     let mut i = 0;
-    while i < HALVES {
-        n = check_addresses::collect(string_at(m, starts, Machine::EXPRESSIONS + i), list, n);
+    while i < StatePlaces::FILE_STRINGS_COUNT {
+        n = check_addresses::collect(string_at(m, starts, StatePlaces::FIRST_FILE + i), list, n);
         i += 1;
     }
     check_addresses::are_different(&list[..n])

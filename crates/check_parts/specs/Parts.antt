@@ -7,6 +7,7 @@ use lib.Dec.{leb, ltb, eqb}
 use Rattle.language.specs.Limits as limit
 use Rattle.characters.specs.Characters.{known, isLetter, isDigit}
 use Rattle.layout.specs.Cells.{cell, unfours}
+use Rattle.layout.specs.Places as layout
 use Rattle.forms.specs.Forms.{set-at}
 
 -- f passes for the n numbers from k on
@@ -59,42 +60,42 @@ module _ (t : List ℕ) where
 
   -- text k has 2 to 60 characters; the texts i and j have the same cells
   unfoldable pub text-fits : ℕ → Bool
-  text-fits k = ltb 1 (cell t (4104 + 16 * k)) && leb (cell t (4104 + 16 * k)) 60 && chars-fit (4105 + 16 * k) (cell t (4104 + 16 * k)) false
+  text-fits k = ltb 1 (cell t (layout.first-text + 16 * k)) && leb (cell t (layout.first-text + 16 * k)) 60 && chars-fit (layout.first-characters + 16 * k) (cell t (layout.first-text + 16 * k)) false
 
   unfoldable pub texts-same : ℕ → ℕ → Bool
-  texts-same i j = passes (λ q. eqb (cell t (4104 + 16 * i + q)) (cell t (4104 + 16 * j + q))) 16 0
+  texts-same i j = passes (λ q. eqb (cell t (layout.first-text + 16 * i + q)) (cell t (layout.first-text + 16 * j + q))) 16 0
 
   -- number k is in range and beyond 15 in size
   unfoldable pub number-fits : ℕ → Bool
-  number-fits k = leb (cell t (6312 + k)) 16777214 && (ltb (cell t (6312 + k)) 8388592 || ltb 8388622 (cell t (6312 + k)))
+  number-fits k = leb (cell t (layout.first-number + k)) 16777214 && (ltb (cell t (layout.first-number + k)) 8388592 || ltb 8388622 (cell t (layout.first-number + k)))
 
   -- label k has a name of 1 to 60 characters, and an instruction
   unfoldable pub label-fits : ℕ → Bool
   label-fits k =
-      ltb 0 (cell t (2056 + 16 * k) % 64)
-      && leb (cell t (2056 + 16 * k) % 64) 60
-      && isLetter (char (2057 + 16 * k) 0)
-      && chars-fit (2057 + 16 * k) (cell t (2056 + 16 * k) % 64) true
-      && ltb (cell t (2056 + 16 * k) / 64) (cell t 0)
+      ltb 0 (cell t (layout.first-label + 16 * k) % 64)
+      && leb (cell t (layout.first-label + 16 * k) % 64) 60
+      && isLetter (char (layout.first-name + 16 * k) 0)
+      && chars-fit (layout.first-name + 16 * k) (cell t (layout.first-label + 16 * k) % 64) true
+      && ltb (cell t (layout.first-label + 16 * k) / 64) (cell t layout.instruction-count)
 
   -- the reference of a text: one of the 61 characters, or a text of the table
   unfoldable pub ref-fits : ℕ → Bool
-  ref-fits v = cond (ltb v 256) (known v) (ltb v (256 + cell t 4))
+  ref-fits v = cond (ltb v 256) (known v) (ltb v (256 + cell t layout.text-count))
 
   -- entry k of a switch has a label, and a text only where the switch is by name
   unfoldable pub entry-fits : Bool → ℕ → Bool
   entry-fits named k =
-      ltb (cell t (6184 + k) % 128) (cell t 1) && (eqb (cell t (6184 + k) / 128) 0 || (named && ref-fits (cell t (6184 + k) / 128)))
+      ltb (cell t (layout.first-entry + k) % 128) (cell t layout.label-count) && (eqb (cell t (layout.first-entry + k) / 128) 0 || (named && ref-fits (cell t (layout.first-entry + k) / 128)))
 
   -- an argument's cell x
   unfoldable pub arg-fits : ℕ → Bool
   arg-fits x =
       cond (eqb (x % 8) 1) (letter-fits (x / 8))
-      (cond (eqb (x % 8) 2) (ltb (x / 8) (cell t 1))
-      (cond (eqb (x % 8) 3) (ltb (x / 8) (cell t 2))
+      (cond (eqb (x % 8) 2) (ltb (x / 8) (cell t layout.label-count))
+      (cond (eqb (x % 8) 3) (ltb (x / 8) (cell t layout.switch-count))
       (cond (eqb (x % 8) 4) (class-fits (x / 8))
       (cond (eqb (x % 8) 5) (ref-fits (x / 8))
-      (cond (eqb (x % 8) 6) (ltb (x / 8) (31 + cell t 5))
+      (cond (eqb (x % 8) 6) (ltb (x / 8) (31 + cell t layout.number-count))
       (eqb x 0))))))
 
   -- the set of its form
@@ -102,7 +103,7 @@ module _ (t : List ℕ) where
   form-bit x =
       cond (eqb (x % 8) 1) (cond (ltb (x / 8 / 64) 12) (2 ^ (x / 8 / 64)) 0)
       (cond (eqb (x % 8) 2) 32768
-      (cond (eqb (x % 8) 3) (cond (eqb (cell t (6152 + x / 8) % 2) 1) 65536 131072)
+      (cond (eqb (x % 8) 3) (cond (eqb (cell t (layout.first-switch + x / 8) % 2) 1) 65536 131072)
       (cond (eqb (x % 8) 4) 8192
       (cond (eqb (x % 8) 5) 16384
       (cond (eqb (x % 8) 6) 4096
@@ -111,8 +112,8 @@ module _ (t : List ℕ) where
   -- instruction i
   unfoldable pub instr-fits : ℕ → Bool
   instr-fits i =
-      head-fits (cell t (8 + 4 * i))
-      && arg-fits (cell t (9 + 4 * i))
-      && arg-fits (cell t (10 + 4 * i))
-      && arg-fits (cell t (11 + 4 * i))
-      && lists-take (cell t (8 + 4 * i) % 64) (form-bit (cell t (9 + 4 * i))) (form-bit (cell t (10 + 4 * i))) (form-bit (cell t (11 + 4 * i)))
+      head-fits (cell t (layout.first-instruction + 4 * i))
+      && arg-fits (cell t (layout.first-argument + 4 * i))
+      && arg-fits (cell t (layout.second-argument + 4 * i))
+      && arg-fits (cell t (layout.third-argument + 4 * i))
+      && lists-take (cell t (layout.first-instruction + 4 * i) % 64) (form-bit (cell t (layout.first-argument + 4 * i))) (form-bit (cell t (layout.second-argument + 4 * i))) (form-bit (cell t (layout.third-argument + 4 * i)))

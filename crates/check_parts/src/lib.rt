@@ -8,7 +8,9 @@ ghost use Rattle.layout.specs.Cells.{cell};
 ghost use Rattle.packed.specs.Packed.{table-of};
 ghost use Rattle.table.specs.Reads.{Place};
 ghost use Rattle.check_parts.specs.Parts.{zeros, char, char-fits, chars-fit, text-fits, texts-same, number-fits, label-fits, ref-fits, entry-fits};
+ghost use Rattle.language.specs.Limits as limit;
 use language::Machine;
+use layout::TablePlaces;
 
 fn byte(n: usize) -> u8
     requires { ⌜ n < 256 ⌝ }
@@ -19,7 +21,7 @@ fn byte(n: usize) -> u8
 
 // Cell `k`, and 0 past the table.
 pub fn read(table: &[u32], k: usize) -> usize
-    requires { ⌜ 8192 ≤ length (now table) ⌝ }
+    requires { ⌜ limit.table ≤ length (now table) ⌝ }
     ensures { λ r. ⌜ Number (cell (table-of (now (table .entry))) k) 4294967296 r ⌝ }
 {
     if k < Machine::TABLE {
@@ -30,7 +32,7 @@ pub fn read(table: &[u32], k: usize) -> usize
 
 // Whether the cells from `from` up to `to` are zero.
 pub fn zeros(table: &[u32], from: usize, to: usize) -> bool
-    requires { ⌜ 8192 ≤ length (now table) ⌝ }
+    requires { ⌜ limit.table ≤ length (now table) ⌝ }
     ensures { λ r. ⌜ r ≡ zeros (table-of (now (table .entry))) from to ⌝ }
 {
     let mut k = from;
@@ -91,8 +93,10 @@ pub fn text_fits(table: &[u32], k: usize) -> bool
     requires { ⌜ Place (now table) k 512 ⌝ }
     ensures { λ r. ⌜ r ≡ text-fits (table-of (now (table .entry))) k ⌝ }
 {
-    let n = read(table, 4104 + 16 * k);
-    (1 < n) & (n <= Machine::ITEM) & chars_fit(table, 4105 + 16 * k, n, false)
+    let n = read(table, TablePlaces::FIRST_TEXT + 16 * k);
+    (1 < n)
+        & (n <= Machine::ITEM)
+        & chars_fit(table, TablePlaces::FIRST_CHARACTERS + 16 * k, n, false)
 }
 
 // Whether the texts `i` and `j` have the same cells.
@@ -102,7 +106,9 @@ pub fn texts_same(table: &[u32], i: usize, j: usize) -> bool
 {
     let mut q = 0;
     while q < 16 {
-        if read(table, 4104 + 16 * i + q) != read(table, 4104 + 16 * j + q) {
+        if read(table, TablePlaces::FIRST_TEXT + 16 * i + q)
+            != read(table, TablePlaces::FIRST_TEXT + 16 * j + q)
+        {
             return false;
         }
         q += 1;
@@ -115,7 +121,7 @@ pub fn number_fits(table: &[u32], k: usize) -> bool
     requires { ⌜ Place (now table) k 512 ⌝ }
     ensures { λ r. ⌜ r ≡ number-fits (table-of (now (table .entry))) k ⌝ }
 {
-    let x = read(table, 6312 + k);
+    let x = read(table, TablePlaces::FIRST_NUMBER + k);
     (x <= 16777214) & ((x < 8388592) | (8388622 < x))
 }
 
@@ -124,25 +130,25 @@ pub fn label_fits(table: &[u32], k: usize) -> bool
     requires { ⌜ Place (now table) k 512 ⌝ }
     ensures { λ r. ⌜ r ≡ label-fits (table-of (now (table .entry))) k ⌝ }
 {
-    let x = read(table, 2056 + 16 * k);
+    let x = read(table, TablePlaces::FIRST_LABEL + 16 * k);
     let n = x % 64;
-    let at = 2057 + 16 * k;
+    let at = TablePlaces::FIRST_NAME + 16 * k;
     (0 < n)
         & (n <= Machine::ITEM)
         & characters::is_letter(char_at(table, at, 0))
         & chars_fit(table, at, n, true)
-        & (x / 64 < read(table, 0))
+        & (x / 64 < read(table, TablePlaces::INSTRUCTION_COUNT))
 }
 
 // Whether `v` refers to one of the 61 characters or to a text of the table.
 pub fn ref_fits(table: &[u32], v: usize) -> bool
-    requires { ⌜ 8192 ≤ length (now table) ⌝ }
+    requires { ⌜ limit.table ≤ length (now table) ⌝ }
     ensures { λ r. ⌜ r ≡ ref-fits (table-of (now (table .entry))) v ⌝ }
 {
     if v < 256 {
         return characters::is_known(byte(v));
     }
-    v < 256 + read(table, 4)
+    v < 256 + read(table, TablePlaces::TEXT_COUNT)
 }
 
 // Whether entry `k` of a switch has a label, and a text only where the switch is by name.
@@ -150,6 +156,7 @@ pub fn entry_fits(table: &[u32], named: bool, k: usize) -> bool
     requires { ⌜ Place (now table) k 65536 ⌝ }
     ensures { λ r. ⌜ r ≡ entry-fits (table-of (now (table .entry))) named k ⌝ }
 {
-    let x = read(table, 6184 + k);
-    (x % 128 < read(table, 1)) & ((x / 128 == 0) | (named & ref_fits(table, x / 128)))
+    let x = read(table, TablePlaces::FIRST_ENTRY + k);
+    (x % 128 < read(table, TablePlaces::LABEL_COUNT))
+        & ((x / 128 == 0) | (named & ref_fits(table, x / 128)))
 }

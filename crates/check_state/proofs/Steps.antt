@@ -18,6 +18,8 @@ use Rattle.layout.specs.Cells.{cell, three-at}
 use Rattle.layout.specs.Memory.{good-memory}
 use Rattle.layout.specs.Table.{program-of, good-table}
 use Rattle.layout.specs.TableLaws.{table-facts}
+use Rattle.layout.specs.Places as layout
+use Rattle.language.specs.Limits as limit
 use Rattle.packed.specs.Packed.{table-of}
 use Rattle.check_state.specs.Asked.{Asked, Workable, Fittable, passes}
 use Rattle.check_state.proofs.Returns.{code-is}
@@ -33,7 +35,7 @@ module _ {c m : List ℕ} {x y : ℕ} (w : Workable c m x y) {st : List ℕ} {en
     pub readable : Readable m st
     readable = record { long = w .long; count = g .count; place = g .place; room = laid-open m (passed e k) .room }
 
-    pub walkable : Walkable m st (three-at 12 m)
+    pub walkable : Walkable m st (three-at layout.last-cell m)
     walkable = record { readable = readable; last-most = laid-open m (passed e k) .last-most }
 
     module _ (b : Bytes m) {u : Bool} (f : u ≡ sound m) (h : u ≡ true) where
@@ -41,7 +43,7 @@ module _ {c m : List ℕ} {x y : ℕ} (w : Workable c m x y) {st : List ℕ} {en
       both-whole =
           let l = laid-open m (passed e k) .last-most in
           let s = sound-open m (passed f h) in
-          record { readable = readable; exprs = whole-expressions m b (three-at 12 m) l (s .exprs); files = whole-halves m b (three-at 12 m) l (s .files) }
+          record { readable = readable; exprs = whole-expressions m b (three-at layout.last-cell m) l (s .exprs); files = whole-halves m b (three-at layout.last-cell m) l (s .files) }
 
       pub comparable : {v : Bool} → v ≡ counted m → v ≡ true → Comparable m st y
       comparable q z = record { readable = readable; files = both-whole .files; room = omega (arith, counted-open m (passed q z) .records .fits, w .addresses-is) }
@@ -80,8 +82,8 @@ module _ (c i j m : List ℕ) where
         last x y a = a ∙ sym (after-3 ∙ ap (λ b. b && fitting (program-of c) i j m) (sym x ∙ y))
 
 -- stack, outputs, read places and next instruction, as they are read
-pub fits : (c : List ℕ) → T (good-table c) → (i j m : List ℕ) {s q r : List ℕ} → StringLent m 96 s → StringLent m 97 q → StringLent m 98 r
-    → {a b n k : ℕ} → Number (three-at 3 m) 16777216 a → Number (three-at 6 m) 16777216 b → Number (three-at 9 m) 16777216 n → Number (cell (table-of c) 0) 4294967296 k
+pub fits : (c : List ℕ) → T (good-table c) → (i j m : List ℕ) {s q r : List ℕ} → StringLent m layout.stack-string s → StringLent m layout.first-output q → StringLent m layout.second-output r
+    → {a b n k : ℕ} → Number (three-at layout.first-place-cell m) 16777216 a → Number (three-at layout.second-place-cell m) 16777216 b → Number (three-at layout.next-cell m) 16777216 n → Number (cell (table-of c) 0) 4294967296 k
     → {t u v : Bool} → t ≡ sound-stack (program-of c) s → u ≡ sound-output q → v ≡ sound-output r
     → t && (u && v) && (leb a (length i) && leb b (length j)) && ltb n k ≡ fitting (program-of c) i j m
 unfolding fitting
@@ -90,8 +92,8 @@ fits c g i j m s q r a b n k t u v =
 
 -- of the lent memory
 module _ (c i j M : List ℕ) where
-  pub short-answer : length M < 40960 → false ≡ good-memory (program-of c) (i ∷ j ∷ []) M
+  pub short-answer : length M < limit.state → false ≡ good-memory (program-of c) (i ∷ j ∷ []) M
   short-answer h = sym (too-short (program-of c) (i ∷ j ∷ []) M h)
 
-  pub answer : Asked c i j → 40960 ≤ length M → Bytes M → {r : Bool} → r ≡ passes c i j (take 40960 M) → r ≡ good-memory (program-of c) (i ∷ j ∷ []) M
-  answer a h b e = e ∙ sym (question-63 (program-of c) i j M (table-facts c (a .table) .good) (a .inputs) h (bytes-take 40960 M b))
+  pub answer : Asked c i j → limit.state ≤ length M → Bytes M → {r : Bool} → r ≡ passes c i j (take limit.state M) → r ≡ good-memory (program-of c) (i ∷ j ∷ []) M
+  answer a h b e = e ∙ sym (question-63 (program-of c) i j M (table-facts c (a .table) .good) (a .inputs) h (bytes-take limit.state M b))

@@ -9,6 +9,7 @@ use Rattle.check_memory.specs.Passes.{laid, sound, counted, distinct, fitting}
 use Rattle.check_memory.specs.Reads.{Readable}
 use Rattle.language.specs.Limits as limit
 use Rattle.layout.specs.Table.{program-of, good-table}
+use Rattle.layout.specs.Places as layout
 use Rattle.machine.specs.WellFormed.{good-inputs}
 
 -- questions 62 and 61 were answered yes
@@ -20,7 +21,7 @@ pub record Asked (c i j : List ℕ) : Type 0 where
 pub record Workable (c m : List ℕ) (starts addresses : ℕ) : Type 0 where
   pub table : T (good-table c)
   pub long : length m ≡ limit.state
-  pub starts-is : starts ≡ 99
+  pub starts-is : starts ≡ layout.strings-count
   pub addresses-is : addresses ≡ limit.records
 
 -- the strings of m can be read

@@ -11,6 +11,7 @@ ghost use Rattle.machine.specs.WellFormed.{good-return};
 ghost use Rattle.check_memory.specs.Passes.{sound-stack, sound-output, fitting};
 ghost use Rattle.check_state.specs.Asked.{Asked, Workable, Fittable, passes};
 use language::Machine;
+use layout::StatePlaces;
 
 fn narrow(n: usize) -> u8
     requires { ⌜ n < 64 ⌝ }
@@ -67,11 +68,15 @@ fn is_fitting(table: &[u32], i1: &[u8], i2: &[u8], m: &[u8], starts: &[u32]) -> 
     requires { ⌜ Fittable (now table) (now m) (now starts) ⌝ }
     ensures { λ r. ⌜ r ≡ fitting (program-of (now (table .entry))) (now (i1 .entry)) (now (i2 .entry)) (now (m .entry)) ⌝ }
 {
-    is_stack(table, check_memory::string_at(m, starts, 96))
-        & (is_output(check_memory::string_at(m, starts, 97))
-            & is_output(check_memory::string_at(m, starts, 98)))
-        & ((cells::three_at(m, 3) <= i1.len()) & (cells::three_at(m, 6) <= i2.len()))
-        & (cells::three_at(m, 9) < table::instructions(table))
+    is_stack(
+        table,
+        check_memory::string_at(m, starts, StatePlaces::STACK_STRING),
+    )
+        & (is_output(check_memory::string_at(m, starts, StatePlaces::FIRST_OUTPUT))
+            & is_output(check_memory::string_at(m, starts, StatePlaces::SECOND_OUTPUT)))
+        & ((cells::three_at(m, StatePlaces::FIRST_PLACE_CELL) <= i1.len())
+            & (cells::three_at(m, StatePlaces::SECOND_PLACE_CELL) <= i2.len()))
+        & (cells::three_at(m, StatePlaces::NEXT_CELL) < table::instructions(table))
 }
 
 // The tests in their order. `starts` and `list` are for the starts of the strings and the addresses of the records.
@@ -109,8 +114,8 @@ pub fn is_state(table: &[u32], i1: &[u8], i2: &[u8], state: &[u8]) -> bool
     if state.len() < Machine::STATE {
         return false;
     }
-    let mut starts = [0u32; 99];
-    let mut list = [0u32; 256];
+    let mut starts = [0u32; StatePlaces::STRINGS_COUNT];
+    let mut list = [0u32; Machine::RECORDS];
     is_passed(
         table,
         i1,

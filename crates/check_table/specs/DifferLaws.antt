@@ -14,6 +14,7 @@ use Rattle.machine.specs.WellFormed.{different}
 use Rattle.layout.specs.CellLaws.{length-fours}
 use Rattle.layout.specs.Cells.{cell, unfours, tab}
 use Rattle.layout.specs.Table.{text-cells, text-in, number-in}
+use Rattle.layout.specs.Places as layout
 use Rattle.check_parts.specs.Parts.{passes, text-fits, texts-same, number-fits}
 use Rattle.check_parts.specs.PassLaws.{passes-each, passes-all, each-below, all-below, different-tab}
 use Rattle.check_table.specs.Checks.{text-new, text-stays, number-new, number-stays}
@@ -30,28 +31,28 @@ alike-within f g n k e =
 
 module _ (t : List ℕ) (long : length t ≡ 8192) where
   abbrev Written : ℕ → Type 0
-  Written k = T (stands t (4104 + 16 * k) (text-cells (text-in t k)))
+  Written k = T (stands t (layout.first-text + 16 * k) (text-cells (text-in t k)))
 
   module _ (i j : ℕ) (bi : i < 128) (bj : j < 128) where
     abbrev eq-at : ℕ → Bool
-    eq-at q = eqb (cell t (4104 + 16 * i + q)) (cell t (4104 + 16 * j + q))
+    eq-at q = eqb (cell t (layout.first-text + 16 * i + q)) (cell t (layout.first-text + 16 * j + q))
 
-    fifteen : (k q : ℕ) → k < 128 → q < 15 → cell (take 15 (drop (4105 + 16 * k) t)) q ≡ cell t (4104 + 16 * k + suc q)
-    fifteen k q b c = getD-take 15 (drop (4105 + 16 * k) t) q 0 c ∙ getD-drop (4105 + 16 * k) t q 0 ∙ ap (cell t) (omega arith)
+    fifteen : (k q : ℕ) → k < 128 → q < 15 → cell (take 15 (drop (layout.first-characters + 16 * k) t)) q ≡ cell t (layout.first-text + 16 * k + suc q)
+    fifteen k q b c = getD-take 15 (drop (layout.first-characters + 16 * k) t) q 0 c ∙ getD-drop (layout.first-characters + 16 * k) t q 0 ∙ ap (cell t) (omega arith)
 
-    fifteen-long : (k : ℕ) → k < 128 → length (take 15 (drop (4105 + 16 * k) t)) ≡ 15
-    fifteen-long k b = length-take-le 15 (drop (4105 + 16 * k) t) (rw length-drop (omega (arith, long)))
+    fifteen-long : (k : ℕ) → k < 128 → length (take 15 (drop (layout.first-characters + 16 * k) t)) ≡ 15
+    fifteen-long k b = length-take-le 15 (drop (layout.first-characters + 16 * k) t) (rw length-drop (omega (arith, long)))
 
     same-text : T (texts-same t i j) → text-in t i ≡ text-in t j
     unfolding texts-same
     same-text h =
-        let at : (q : ℕ) → q < 16 → cell t (4104 + 16 * i + q) ≡ cell t (4104 + 16 * j + q) =
-        λ q b. eqb→eq (cell t (4104 + 16 * i + q)) (cell t (4104 + 16 * j + q)) (each-below eq-at 16 h q b) in
-        let zi : 4104 + 16 * i + 0 ≡ 4104 + 16 * i = omega arith in
-        let zj : 4104 + 16 * j + 0 ≡ 4104 + 16 * j = omega arith in
-        let first : cell t (4104 + 16 * i) ≡ cell t (4104 + 16 * j) = ap (cell t) (sym zi) ∙ at 0 (omega arith) ∙ ap (cell t) zj in
-        let rest : take 15 (drop (4105 + 16 * i) t) ≡ take 15 (drop (4105 + 16 * j) t) =
-        ext-getD 0 (take 15 (drop (4105 + 16 * i) t)) (take 15 (drop (4105 + 16 * j) t)) (fifteen-long i bi ∙ sym (fifteen-long j bj)) (λ q b.
+        let at : (q : ℕ) → q < 16 → cell t (layout.first-text + 16 * i + q) ≡ cell t (layout.first-text + 16 * j + q) =
+        λ q b. eqb→eq (cell t (layout.first-text + 16 * i + q)) (cell t (layout.first-text + 16 * j + q)) (each-below eq-at 16 h q b) in
+        let zi : layout.first-text + 16 * i + 0 ≡ layout.first-text + 16 * i = omega arith in
+        let zj : layout.first-text + 16 * j + 0 ≡ layout.first-text + 16 * j = omega arith in
+        let first : cell t (layout.first-text + 16 * i) ≡ cell t (layout.first-text + 16 * j) = ap (cell t) (sym zi) ∙ at 0 (omega arith) ∙ ap (cell t) zj in
+        let rest : take 15 (drop (layout.first-characters + 16 * i) t) ≡ take 15 (drop (layout.first-characters + 16 * j) t) =
+        ext-getD 0 (take 15 (drop (layout.first-characters + 16 * i) t)) (take 15 (drop (layout.first-characters + 16 * j) t)) (fifteen-long i bi ∙ sym (fifteen-long j bj)) (λ q b.
         let c : q < 15 = omega (arith, b, fifteen-long i bi) in
         fifteen i q bi c ∙ at (suc q) (omega (arith, c)) ∙ sym (fifteen j q bj c)) in
         ap₂ (λ (n : ℕ) (l : List ℕ). take n (unfours l)) first rest
@@ -61,9 +62,9 @@ module _ (t : List ℕ) (long : length t ≡ 8192) where
     text-same hi hj e =
         all-below eq-at 16 (λ q b.
         let l : (w : List ℕ) → q < length (text-cells w) = λ w. omega (arith, b, length-fours 15 w) in
-        let z : cell t (4104 + 16 * i + q) ≡ cell t (4104 + 16 * j + q) =
-        stands-cell t (4104 + 16 * i) (text-cells (text-in t i)) hi q (l (text-in t i)) ∙ ap (λ (w : List ℕ). cell (text-cells w) q) e ∙ sym (stands-cell t (4104 + 16 * j) (text-cells (text-in t j)) hj q (l (text-in t j))) in
-        subst (λ (x : ℕ). T (eqb (cell t (4104 + 16 * i + q)) x)) z (eqb-refl (cell t (4104 + 16 * i + q))))
+        let z : cell t (layout.first-text + 16 * i + q) ≡ cell t (layout.first-text + 16 * j + q) =
+        stands-cell t (layout.first-text + 16 * i) (text-cells (text-in t i)) hi q (l (text-in t i)) ∙ ap (λ (w : List ℕ). cell (text-cells w) q) e ∙ sym (stands-cell t (layout.first-text + 16 * j) (text-cells (text-in t j)) hj q (l (text-in t j))) in
+        subst (λ (x : ℕ). T (eqb (cell t (layout.first-text + 16 * i + q)) x)) z (eqb-refl (cell t (layout.first-text + 16 * i + q))))
 
     texts-alike : Written i → Written j → texts-same t i j ≡ sameBytes (text-in t i) (text-in t j)
     texts-alike hi hj =
@@ -84,7 +85,7 @@ module _ (t : List ℕ) (long : length t ≡ 8192) where
 
     pub record TextsFact : Type 0 where
       pub good : (k : ℕ) → k < n → T (kept-good (text-in t k))
-      pub written : (k : ℕ) → k < n → T (stands t (4104 + 16 * k) (text-cells (text-in t k)))
+      pub written : (k : ℕ) → k < n → T (stands t (layout.first-text + 16 * k) (text-cells (text-in t k)))
       pub new : T (different sameBytes (tab n (text-in t)))
 
     pub texts-sound : T (passes (text-stays t n) n 0) → TextsFact
@@ -115,8 +116,8 @@ module _ (t : List ℕ) (n : ℕ) where
   number-new-alike : (i : ℕ) → number-new t n i ≡ number-news i
   unfolding number-new
   number-new-alike i =
-      passes-alike (λ j. not (eqb (cell t (6312 + i)) (cell t (6312 + j)))) (λ j. not (sameNumber (number-in t i) (number-in t j)))
-      (λ j. ap not (sym (same-codes (cell t (6312 + i)) (cell t (6312 + j))))) (n - (i + 1)) (i + 1)
+      passes-alike (λ j. not (eqb (cell t (layout.first-number + i)) (cell t (layout.first-number + j)))) (λ j. not (sameNumber (number-in t i) (number-in t j)))
+      (λ j. ap not (sym (same-codes (cell t (layout.first-number + i)) (cell t (layout.first-number + j))))) (n - (i + 1)) (i + 1)
 
   pub record NumbersFact : Type 0 where
     pub good : (k : ℕ) → k < n → T (number-good (number-in t k))

@@ -24,6 +24,7 @@ use Rattle.forms.specs.SetLaws.{and-mask}
 use Rattle.layout.specs.CellLaws.{getD-tab}
 use Rattle.layout.specs.Cells.{cell}
 use Rattle.layout.specs.Table.{arg-by, switch-in}
+use Rattle.layout.specs.Places as layout
 use Rattle.check_parts.specs.Parts.{letter-fits, index-top, arg-fits, form-bit, takes, lists-take}
 use Rattle.check_table.specs.RefLaws.{Kept}
 
@@ -153,7 +154,7 @@ module _ (t : List ℕ) (p : Program) (kept : Kept t p) (x : ℕ) where
   stated zero b e = rw e (λ h. record { is = refl; some = tt })
   stated (suc zero) b e = rw e (λ h. rw (lt-ltb (v / 64) 12 (letter-first h)) (letter-formed (v / 64) (letter-first h)))
   stated (suc (suc zero)) b e = rw e (λ h. record { is = refl; some = tt })
-  stated (suc (suc (suc zero))) b e = rw e (λ h. rw (switch-is (ltb→lt v (cell t 2) h)) (switch-formed (eqb (cell t (6152 + v) % 2) 1)))
+  stated (suc (suc (suc zero))) b e = rw e (λ h. rw (switch-is (ltb→lt v (cell t 2) h)) (switch-formed (eqb (cell t (layout.first-switch + v) % 2) 1)))
   stated (suc (suc (suc (suc zero)))) b e = rw e (λ h. record { is = refl; some = tt })
   stated (suc (suc (suc (suc (suc zero))))) b e = rw e (λ h. record { is = refl; some = tt })
   stated (suc (suc (suc (suc (suc (suc zero)))))) b e = rw e (λ h. record { is = refl; some = tt })

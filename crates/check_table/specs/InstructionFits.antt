@@ -15,6 +15,7 @@ use Rattle.machine.specs.WellFormedLaws.{open-instr}
 use Rattle.layout.specs.ArgumentLaws.{operator-range}
 use Rattle.layout.specs.Cells.{cell}
 use Rattle.layout.specs.Table.{arg-cell, instr-cells, instr-in}
+use Rattle.layout.specs.Places as layout
 use Rattle.check_parts.specs.Parts.{head-fits, arg-fits, form-bit, lists-take, instr-fits}
 use Rattle.check_table.specs.ArgumentFits.{arg-sound, arg-complete}
 use Rattle.check_table.specs.FormFits.{formed, listed-alike}
@@ -31,7 +32,7 @@ operator-own (suc m) a b = eqb→eq (operation (operator-of (suc m)) .number) (s
 
 module _ (t : List ℕ) (p : Program) (kept : Kept t p) (i : ℕ) where
   abbrev k : ℕ
-  k = 8 + 4 * i
+  k = layout.first-instruction + 4 * i
 
   abbrev x : ℕ
   x = cell t k
@@ -39,13 +40,13 @@ module _ (t : List ℕ) (p : Program) (kept : Kept t p) (i : ℕ) where
   abbrev it : Instr
   it = instr-in t i
 
-  place-1 : cell t (9 + 4 * i) ≡ cell t (1 + k)
+  place-1 : cell t (layout.first-argument + 4 * i) ≡ cell t (1 + k)
   place-1 = ap (cell t) (omega arith)
 
-  place-2 : cell t (10 + 4 * i) ≡ cell t (2 + k)
+  place-2 : cell t (layout.second-argument + 4 * i) ≡ cell t (2 + k)
   place-2 = ap (cell t) (omega arith)
 
-  place-3 : cell t (11 + 4 * i) ≡ cell t (3 + k)
+  place-3 : cell t (layout.third-argument + 4 * i) ≡ cell t (3 + k)
   place-3 = ap (cell t) (omega arith)
 
   abbrev h₁ : Bool
@@ -61,16 +62,16 @@ module _ (t : List ℕ) (p : Program) (kept : Kept t p) (i : ℕ) where
   h₄ = leb (x / 64) 32768
 
   abbrev a₁ : Bool
-  a₁ = arg-fits t (cell t (9 + 4 * i))
+  a₁ = arg-fits t (cell t (layout.first-argument + 4 * i))
 
   abbrev a₂ : Bool
-  a₂ = arg-fits t (cell t (10 + 4 * i))
+  a₂ = arg-fits t (cell t (layout.second-argument + 4 * i))
 
   abbrev a₃ : Bool
-  a₃ = arg-fits t (cell t (11 + 4 * i))
+  a₃ = arg-fits t (cell t (layout.third-argument + 4 * i))
 
   abbrev lists : Bool
-  lists = lists-take (x % 64) (form-bit t (cell t (9 + 4 * i))) (form-bit t (cell t (10 + 4 * i))) (form-bit t (cell t (11 + 4 * i)))
+  lists = lists-take (x % 64) (form-bit t (cell t (layout.first-argument + 4 * i))) (form-bit t (cell t (layout.second-argument + 4 * i))) (form-bit t (cell t (layout.third-argument + 4 * i)))
 
   abbrev r₁ : Bool
   r₁ = ranged p (it .first)
@@ -90,8 +91,8 @@ module _ (t : List ℕ) (p : Program) (kept : Kept t p) (i : ℕ) where
       let s₁ : ℕ = form-bit t (cell t (1 + k)) in
       let s₂ : ℕ = form-bit t (cell t (2 + k)) in
       let s₃ : ℕ = form-bit t (cell t (3 + k)) in
-      ap (λ (y : ℕ). lists-take (x % 64) (form-bit t y) (form-bit t (cell t (10 + 4 * i))) (form-bit t (cell t (11 + 4 * i)))) place-1
-      ∙ ap (λ (y : ℕ). lists-take (x % 64) s₁ (form-bit t y) (form-bit t (cell t (11 + 4 * i)))) place-2
+      ap (λ (y : ℕ). lists-take (x % 64) (form-bit t y) (form-bit t (cell t (layout.second-argument + 4 * i))) (form-bit t (cell t (layout.third-argument + 4 * i)))) place-1
+      ∙ ap (λ (y : ℕ). lists-take (x % 64) s₁ (form-bit t y) (form-bit t (cell t (layout.third-argument + 4 * i)))) place-2
       ∙ ap (λ (y : ℕ). lists-take (x % 64) s₁ s₂ (form-bit t y)) place-3
       ∙ ap (λ (n : ℕ). lists-take n s₁ s₂ s₃) (sym own)
       ∙ listed-alike p it s₁ s₂ s₃ (f₁ .some) (f₂ .some) (f₃ .some) (f₁ .is) (f₂ .is) (f₃ .is)

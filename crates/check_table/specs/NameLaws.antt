@@ -16,6 +16,7 @@ use Rattle.machine.specs.WellFormedLaws.{open-label}
 use Rattle.layout.specs.Cells.{cell, fours}
 use Rattle.layout.specs.ProgramLaws.{known-below, identifier-below}
 use Rattle.layout.specs.Table.{label-cells, text-cells, text-in, label-in}
+use Rattle.layout.specs.Places as layout
 use Rattle.check_parts.specs.Parts.{alphanumeric, char, chars-fit, text-fits, label-fits}
 use Rattle.check_table.specs.CharLaws.{Behind, length-w, w-cell, chars-stand, stand-chars, chars-good, chars-end, chars-fit-of}
 use Rattle.check_table.specs.StandLaws.{stands}
@@ -72,10 +73,10 @@ kept-good w = ltb 1 (length w) && good-text w
 
 module _ (t : List ℕ) (long : length t ≡ 8192) (k : ℕ) (few : k < 128) where
   abbrev n : ℕ
-  n = cell t (4104 + 16 * k)
+  n = cell t (layout.first-text + 16 * k)
 
   abbrev at : ℕ
-  at = 4105 + 16 * k
+  at = layout.first-characters + 16 * k
 
   abbrev w : List ℕ
   w = text-in t k
@@ -89,13 +90,13 @@ module _ (t : List ℕ) (long : length t ≡ 8192) (k : ℕ) (few : k < 128) whe
   abbrev a₃ : Bool
   a₃ = chars-fit t at n false
 
-  next : suc (4104 + 16 * k) ≡ 4105 + 16 * k
+  next : suc (layout.first-text + 16 * k) ≡ layout.first-characters + 16 * k
   next = omega arith
 
   inside : at + 15 ≤ length t
   inside = omega (arith, long)
 
-  pub text-sound : T (text-fits t k) → T (kept-good w) × T (stands t (4104 + 16 * k) (text-cells w))
+  pub text-sound : T (text-fits t k) → T (kept-good w) × T (stands t (layout.first-text + 16 * k) (text-cells w))
   unfolding text-fits
   text-sound h =
       let h₃ = T-right (a₁ && a₂) a₃ h in
@@ -105,35 +106,35 @@ module _ (t : List ℕ) (long : length t ≡ 8192) (k : ℕ) (few : k < 128) whe
       let word : T (good-word w) = T-both (filled w) (all known w) (filled-of w (omega (arith, l, some))) (chars-good t at n inside short false h₃) in (
         T-both (ltb 1 (length w)) (good-text w) (lt→ltb 1 (length w) (omega (arith, l, some)))
             (T-both (good-word w) (leb (length w) 60) word (le→leb (length w) 60 (omega (arith, l, short)))),
-        stands-cons t (4104 + 16 * k) at (length w) (fours 15 w) next (sym l) (chars-stand t at n inside short (chars-end t at n inside short false h₃)),
+        stands-cons t (layout.first-text + 16 * k) at (length w) (fours 15 w) next (sym l) (chars-stand t at n inside short (chars-end t at n inside short false h₃)),
       )
 
-  pub text-complete : T (kept-good w) → T (stands t (4104 + 16 * k) (text-cells w)) → T (text-fits t k)
+  pub text-complete : T (kept-good w) → T (stands t (layout.first-text + 16 * k) (text-cells w)) → T (text-fits t k)
   unfolding text-fits
   text-complete g h =
       let g₂ = T-right (ltb 1 (length w)) (good-text w) g in
       let most : length w ≤ 60 = leb→le (length w) 60 (T-right (good-word w) (leb (length w) 60) g₂) in
       let some : 1 < length w = ltb→lt 1 (length w) (T-left (ltb 1 (length w)) (good-text w) g) in
       let all-known : T (all known w) = T-right (filled w) (all known w) (T-left (good-word w) (leb (length w) 60) g₂) in
-      let l : length w ≡ n = stands-head t (4104 + 16 * k) at (length w) (fours 15 w) next h in
+      let l : length w ≡ n = stands-head t (layout.first-text + 16 * k) at (length w) (fours 15 w) next h in
       let short : n ≤ 60 = omega (arith, l, most) in
-      let z : Behind t at n inside short = stand-chars t at n inside short (known-below w all-known) (stands-tail t (4104 + 16 * k) at (length w) (fours 15 w) next h) in
+      let z : Behind t at n inside short = stand-chars t at n inside short (known-below w all-known) (stands-tail t (layout.first-text + 16 * k) at (length w) (fours 15 w) next h) in
       T-both (a₁ && a₂) a₃ (T-both a₁ a₂ (lt→ltb 1 n (omega (arith, l, some))) (le→leb n 60 short)) (chars-fit-of t at n inside short false all-known z)
 
 -- ---- label k
 
 module _ (t : List ℕ) (long : length t ≡ 8192) (k : ℕ) (few : k < 128) where
   abbrev x : ℕ
-  x = cell t (2056 + 16 * k)
+  x = cell t (layout.first-label + 16 * k)
 
   abbrev m : ℕ
   m = x % 64
 
   abbrev from : ℕ
-  from = 2057 + 16 * k
+  from = layout.first-name + 16 * k
 
   abbrev from′ : ℕ
-  from′ = 1 + (2056 + 16 * k)
+  from′ = 1 + (layout.first-label + 16 * k)
 
   abbrev v : List ℕ
   v = label-in t k .name
@@ -153,17 +154,17 @@ module _ (t : List ℕ) (long : length t ≡ 8192) (k : ℕ) (few : k < 128) whe
   abbrev b₅ : Bool
   b₅ = ltb (x / 64) (cell t 0)
 
-  next′ : suc (2056 + 16 * k) ≡ 1 + (2056 + 16 * k)
+  next′ : suc (layout.first-label + 16 * k) ≡ 1 + (layout.first-label + 16 * k)
   next′ = omega arith
 
-  place : 2057 + 16 * k ≡ 1 + (2056 + 16 * k)
+  place : layout.first-name + 16 * k ≡ 1 + (layout.first-label + 16 * k)
   place = omega arith
 
   inside′ : from′ + 15 ≤ length t
   inside′ = omega (arith, long)
 
   module _ (p : Program) (code-count : length (p .code) ≡ cell t 0) where
-    pub label-sound : T (label-fits t k) → T (good-label p (label-in t k)) × T (stands t (2056 + 16 * k) (label-cells (label-in t k)))
+    pub label-sound : T (label-fits t k) → T (good-label p (label-in t k)) × T (stands t (layout.first-label + 16 * k) (label-cells (label-in t k)))
     unfolding label-fits good-label
     label-sound h =
         let h₅ = T-right (b₁ && b₂ && b₃ && b₄) b₅ h in
@@ -178,17 +179,17 @@ module _ (t : List ℕ) (long : length t ≡ 8192) (k : ℕ) (few : k < 128) whe
         let fits : T (leb (length v) 60) = le→leb (length v) 60 (omega (arith, l, short)) in
         let target : T (ltb (x / 64) (length (p .code))) = subst (λ (i : ℕ). T (ltb (x / 64) i)) (sym code-count) h₅ in (
           T-both (identifier v && leb (length v) 60) (ltb (x / 64) (length (p .code))) (T-both (identifier v) (leb (length v) 60) name fits) target,
-          stands-cons t (2056 + 16 * k) from′ (length v + 64 * (x / 64)) (fours 15 v) next′ (omega (arith, l)) (chars-stand t from′ m inside′ short (chars-end t from′ m inside′ short true h₄)),
+          stands-cons t (layout.first-label + 16 * k) from′ (length v + 64 * (x / 64)) (fours 15 v) next′ (omega (arith, l)) (chars-stand t from′ m inside′ short (chars-end t from′ m inside′ short true h₄)),
         )
 
-    pub label-complete : T (good-label p (label-in t k)) → T (stands t (2056 + 16 * k) (label-cells (label-in t k))) → T (label-fits t k)
+    pub label-complete : T (good-label p (label-in t k)) → T (stands t (layout.first-label + 16 * k) (label-cells (label-in t k))) → T (label-fits t k)
     unfolding label-fits
     label-complete g h =
         let f : LabelFacts p (label-in t k) = open-label p (label-in t k) g in
-        let e : length v + 64 * (x / 64) ≡ x = stands-head t (2056 + 16 * k) from′ (length v + 64 * (x / 64)) (fours 15 v) next′ h in
+        let e : length v + 64 * (x / 64) ≡ x = stands-head t (layout.first-label + 16 * k) from′ (length v + 64 * (x / 64)) (fours 15 v) next′ h in
         let l : length v ≡ m = omega (arith, e) in
         let short : m ≤ 60 = omega (arith, l, f .short) in
-        let z : Behind t from′ m inside′ short = stand-chars t from′ m inside′ short (identifier-below v (f .name)) (stands-tail t (2056 + 16 * k) from′ (length v + 64 * (x / 64)) (fours 15 v) next′ h) in
+        let z : Behind t from′ m inside′ short = stand-chars t from′ m inside′ short (identifier-below v (f .name)) (stands-tail t (layout.first-label + 16 * k) from′ (length v + 64 * (x / 64)) (fours 15 v) next′ h) in
         let some : 0 < m = omega (arith, l, identifier-long v (f .name)) in
         let h₄ : T b₄ = subst (λ (i : ℕ). T (chars-fit t i m true)) (sym place) (chars-fit-of t from′ m inside′ short true (identifier-all v (f .name)) z) in
         let h₃ : T (isLetter (char t from′ 0)) = subst (λ (y : ℕ). T (isLetter y)) (w-cell t from′ m inside′ short 0 some) (identifier-first v (f .name)) in

@@ -24,6 +24,7 @@ use Rattle.layout.specs.Cells.{cell, tab}
 use Rattle.layout.specs.ProgramLaws.{program-ok, length-each-total}
 use Rattle.layout.specs.Table.{instr-cells, label-cells, text-cells, switch-cells, entry-cell, all-entries, counts, table-cells, text-in, number-in, instr-in, label-in, switch-in, program-in, program-of, good-table}
 use Rattle.layout.specs.TableLaws.{length-table-cells}
+use Rattle.layout.specs.Places as layout
 use Rattle.packed.specs.Packed.{table-of}
 use Rattle.check_parts.specs.Parts.{passes, instr-fits, label-fits}
 use Rattle.check_parts.specs.PassLaws.{each-below, all-below, all-tab}
@@ -72,8 +73,8 @@ module _ (t : List ℕ) (long : length t ≡ 8192) where
   last-alike some h kept =
       let m : ℕ = pred (cell t 0) in
       let z : suc m ≡ cell t 0 = suc-pred (cell t 0) some in
-      let y : 4 + 4 * cell t 0 ≡ 8 + 4 * m = omega (arith, z) in
-      let x : ℕ = cell t (8 + 4 * m) % 64 in
+      let y : 4 + 4 * cell t 0 ≡ layout.first-instruction + 4 * m = omega (arith, z) in
+      let x : ℕ = cell t (layout.first-instruction + 4 * m) % 64 in
       let i : instr-at p (pred (length (p .code))) ≡ instr-in t m =
       ap (λ (k : ℕ). instr-at p (pred k)) (code-count t long)
       ∙ ap (λ (xs : List Instr). getD xs m no-instr) (code-are t long)
@@ -153,10 +154,10 @@ module _ (t : List ℕ) (long : length t ≡ 8192) where
     entries-count : length (all-entries p) ≡ cell t 3
     entries-count = length-each-total (λ w. w .entries) (p .switches) ∙ entries-total
 
-    label-of : (k : ℕ) → k < cell t 1 → T (good-label p (label-in t k)) × T (stands t (2056 + 16 * k) (label-cells (label-in t k)))
+    label-of : (k : ℕ) → k < cell t 1 → T (good-label p (label-in t k)) × T (stands t (layout.first-label + 16 * k) (label-cells (label-in t k)))
     label-of k b = label-sound t long k (omega (arith, b, n .labels-few)) p (code-count t long) (q .labels k b)
 
-    code-of : (i : ℕ) → i < cell t 0 → T (good-instr p (instr-in t i)) × T (stands t (8 + 4 * i) (instr-cells p (instr-in t i)))
+    code-of : (i : ℕ) → i < cell t 0 → T (good-instr p (instr-in t i)) × T (stands t (layout.first-instruction + 4 * i) (instr-cells p (instr-in t i)))
     code-of i b = instr-sound t p kept i (q .code i b)
 
     last-good : T last-is-end
@@ -177,13 +178,13 @@ module _ (t : List ℕ) (long : length t ≡ 8192) where
     standing = record {
       p₀ = cells-stand t 0 (counts p) counts-cell;
       p₁ = subst (λ (xs : List Instr). T (stands t 8 (each (instr-cells p) xs))) (sym (code-are t long))
-          (subst T (sym (stands-each t (instr-in t) 4 (instr-cells p) (λ i. refl) 8 (cell t 0))) (all-below (λ i. stands t (8 + 4 * i) (instr-cells p (instr-in t i))) (cell t 0) (λ i b. code-of i b .1)));
-      p₂ = subst (λ (xs : List Label). T (stands t 2056 (each label-cells xs))) (sym (labels-are t long))
-          (subst T (sym (stands-each t (label-in t) 16 label-cells label-long 2056 (cell t 1))) (all-below (λ k. stands t (2056 + 16 * k) (label-cells (label-in t k))) (cell t 1) (λ k b. label-of k b .1)));
-      p₃ = subst (λ (xs : List (List ℕ)). T (stands t 4104 (each text-cells xs))) (sym (texts-are t long))
-          (subst T (sym (stands-each t (text-in t) 16 text-cells text-long 4104 (cell t 4))) (all-below (λ k. stands t (4104 + 16 * k) (text-cells (text-in t k))) (cell t 4) (q .texts .written)));
-      p₄ = subst (λ (xs : List Switch). T (stands t 6152 (switch-cells 0 xs))) (sym (switches-are t long)) (fact .cells);
-      p₅ = subst (λ (xs : List Switch). T (stands t 6184 (map (entry-cell p) (each (λ w. w .entries) xs)))) (sym (switches-are t long)) (fact .written);
+          (subst T (sym (stands-each t (instr-in t) 4 (instr-cells p) (λ i. refl) 8 (cell t 0))) (all-below (λ i. stands t (layout.first-instruction + 4 * i) (instr-cells p (instr-in t i))) (cell t 0) (λ i b. code-of i b .1)));
+      p₂ = subst (λ (xs : List Label). T (stands t layout.first-label (each label-cells xs))) (sym (labels-are t long))
+          (subst T (sym (stands-each t (label-in t) 16 label-cells label-long layout.first-label (cell t 1))) (all-below (λ k. stands t (layout.first-label + 16 * k) (label-cells (label-in t k))) (cell t 1) (λ k b. label-of k b .1)));
+      p₃ = subst (λ (xs : List (List ℕ)). T (stands t layout.first-text (each text-cells xs))) (sym (texts-are t long))
+          (subst T (sym (stands-each t (text-in t) 16 text-cells text-long layout.first-text (cell t 4))) (all-below (λ k. stands t (layout.first-text + 16 * k) (text-cells (text-in t k))) (cell t 4) (q .texts .written)));
+      p₄ = subst (λ (xs : List Switch). T (stands t layout.first-switch (switch-cells 0 xs))) (sym (switches-are t long)) (fact .cells);
+      p₅ = subst (λ (xs : List Switch). T (stands t layout.first-entry (map (entry-cell p) (each (λ w. w .entries) xs)))) (sym (switches-are t long)) (fact .written);
       zero = q .zero;
     }
 
@@ -270,8 +271,8 @@ module _ (t : List ℕ) (long : length t ≡ 8192) where
     texts-fact : TextsFact t long (cell t 4) (counted .texts-few)
     texts-fact = record {
       good = each-below (λ k. kept-good (text-in t k)) (cell t 4) (subst T (all-tab (text-in t) kept-good (cell t 4)) (subst (λ (xs : List (List ℕ)). T (all kept-good xs)) (texts-are t long) (test 10)));
-      written = each-below (λ k. stands t (4104 + 16 * k) (text-cells (text-in t k))) (cell t 4)
-          (subst T (stands-each t (text-in t) 16 text-cells text-long 4104 (cell t 4)) (subst (λ (xs : List (List ℕ)). T (stands t 4104 (each text-cells xs))) (texts-are t long) (stand .p₃)));
+      written = each-below (λ k. stands t (layout.first-text + 16 * k) (text-cells (text-in t k))) (cell t 4)
+          (subst T (stands-each t (text-in t) 16 text-cells text-long layout.first-text (cell t 4)) (subst (λ (xs : List (List ℕ)). T (stands t layout.first-text (each text-cells xs))) (texts-are t long) (stand .p₃)));
       new = subst (λ (ws : List (List ℕ)). T (different sameBytes ws)) (texts-are t long) (test 12);
     }
 
@@ -288,21 +289,21 @@ module _ (t : List ℕ) (long : length t ≡ 8192) where
     labels-fact k b =
         label-complete t long k (omega (arith, b, counted .labels-few)) p (code-count t long)
         (each-below (λ k. good-label p (label-in t k)) (cell t 1) (subst T (all-tab (label-in t) (good-label p) (cell t 1)) (subst (λ (xs : List Label). T (all (good-label p) xs)) (labels-are t long) (f .labels))) k b)
-        (each-below (λ k. stands t (2056 + 16 * k) (label-cells (label-in t k))) (cell t 1)
-        (subst T (stands-each t (label-in t) 16 label-cells label-long 2056 (cell t 1)) (subst (λ (xs : List Label). T (stands t 2056 (each label-cells xs))) (labels-are t long) (stand .p₂))) k b)
+        (each-below (λ k. stands t (layout.first-label + 16 * k) (label-cells (label-in t k))) (cell t 1)
+        (subst T (stands-each t (label-in t) 16 label-cells label-long layout.first-label (cell t 1)) (subst (λ (xs : List Label). T (stands t layout.first-label (each label-cells xs))) (labels-are t long) (stand .p₂))) k b)
 
     code-fact : (i : ℕ) → i < cell t 0 → T (instr-fits t i)
     code-fact i b =
         instr-complete t p its i
         (each-below (λ i. good-instr p (instr-in t i)) (cell t 0) (subst T (all-tab (instr-in t) (good-instr p) (cell t 0)) (subst (λ (xs : List Instr). T (all (good-instr p) xs)) (code-are t long) (f .instructions))) i b)
-        (each-below (λ i. stands t (8 + 4 * i) (instr-cells p (instr-in t i))) (cell t 0)
+        (each-below (λ i. stands t (layout.first-instruction + 4 * i) (instr-cells p (instr-in t i))) (cell t 0)
         (subst T (stands-each t (instr-in t) 4 (instr-cells p) (λ i. refl) 8 (cell t 0)) (subst (λ (xs : List Instr). T (stands t 8 (each (instr-cells p) xs))) (code-are t long) (stand .p₁))) i b)
 
     switches-fact : SwitchesFact t p its 0 0 (tab (cell t 2) (switch-in t))
     switches-fact = record {
       good = subst (λ (xs : List Switch). T (all (good-switch p) xs)) (switches-are t long) (f .switches);
-      cells = subst (λ (xs : List Switch). T (stands t 6152 (switch-cells 0 xs))) (switches-are t long) (stand .p₄);
-      written = subst (λ (xs : List Switch). T (stands t 6184 (map (entry-cell p) (each (λ w. w .entries) xs)))) (switches-are t long) (stand .p₅);
+      cells = subst (λ (xs : List Switch). T (stands t layout.first-switch (switch-cells 0 xs))) (switches-are t long) (stand .p₄);
+      written = subst (λ (xs : List Switch). T (stands t layout.first-entry (map (entry-cell p) (each (λ w. w .entries) xs)))) (switches-are t long) (stand .p₅);
       end = omega (arith, entries-counted, length-each-total (λ w. w .entries) (p .switches), ap (total (λ w. length (w .entries))) (switches-are t long));
     }
 

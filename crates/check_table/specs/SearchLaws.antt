@@ -15,6 +15,7 @@ use Rattle.lists.specs.Lists.{any, ahead}
 use Rattle.machine.specs.ValueLaws.{sameNumber-eq, sameNumber-refl}
 use Rattle.machine.specs.WellFormed.{different}
 use Rattle.layout.specs.Cells.{cell, code, uncode}
+use Rattle.layout.specs.Places as layout
 use Rattle.check_parts.specs.Parts.{passes, number-fits}
 
 -- ---- tests
@@ -104,7 +105,7 @@ number-good z = ltb 15 (natAbs z) && in-range z
 
 module _ (t : List ℕ) (k : ℕ) where
   abbrev x : ℕ
-  x = cell t (6312 + k)
+  x = cell t (layout.first-number + k)
 
   abbrev z : ℤ
   z = uncode x

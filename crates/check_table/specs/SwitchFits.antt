@@ -14,6 +14,7 @@ use Rattle.machine.specs.WellFormed.{good-text, kept-text, good-entry, good-swi
 use Rattle.layout.specs.CellLaws.{length-tab}
 use Rattle.layout.specs.Cells.{cell, tab}
 use Rattle.layout.specs.Table.{text-ref, switch-cell, switch-cells, entry-cell, text-by, entry-in, switch-in}
+use Rattle.layout.specs.Places as layout
 use Rattle.table.specs.Reads.{switch-first, switch-size}
 use Rattle.check_parts.specs.Parts.{passes, ref-fits, entry-fits}
 use Rattle.check_parts.specs.PassLaws.{passes-each, passes-all, each-below, all-below, all-tab}
@@ -44,7 +45,7 @@ module _ (t : List ℕ) (p : Program) (kept : Kept t p) where
 
   module _ (named : Bool) (e : ℕ) where
     abbrev x : ℕ
-    x = cell t (6184 + e)
+    x = cell t (layout.first-entry + e)
 
     abbrev v : ℕ
     v = x / 128
@@ -110,7 +111,7 @@ module _ (t : List ℕ) (p : Program) (kept : Kept t p) where
 
   module _ (k from : ℕ) where
     abbrev y : ℕ
-    y = cell t (6152 + k)
+    y = cell t (layout.first-switch + k)
 
     abbrev s : ℕ
     s = switch-size t k
@@ -139,9 +140,9 @@ module _ (t : List ℕ) (p : Program) (kept : Kept t p) where
     pub record SwitchFact : Type 0 where
       pub good : T (good-switch p sw)
       pub is : switch-cell from sw ≡ y
-      pub written : T (stands t (6184 + from) (map (entry-cell p) (sw .entries)))
+      pub written : T (stands t (layout.first-entry + from) (map (entry-cell p) (sw .entries)))
 
-    entry-place : (j : ℕ) → switch-first t k ≡ from → cell t (6184 + (switch-first t k + j)) ≡ cell t (6184 + from + j)
+    entry-place : (j : ℕ) → switch-first t k ≡ from → cell t (layout.first-entry + (switch-first t k + j)) ≡ cell t (layout.first-entry + from + j)
     entry-place j f = ap (cell t) (omega (arith, f))
 
     pub switch-sound : T (switch-fits t k from) → SwitchFact
@@ -155,8 +156,8 @@ module _ (t : List ℕ) (p : Program) (kept : Kept t p) where
         record {
           good = T-both (filled (sw .entries)) (all (good-entry p named′) (sw .entries)) (subst T (sym (filled-tab s entry-of)) (T-right c₁ c₂ (T-left (c₁ && c₂) c₃ h))) goods;
           is = omega (arith, odd-bit y, entries-long, f);
-          written = subst T (sym (stands-map t entry-of (entry-cell p) (6184 + from) s))
-              (all-below (λ j. eqb (entry-cell p (entry-of j)) (cell t (6184 + from + j))) s (λ j b.
+          written = subst T (sym (stands-map t entry-of (entry-cell p) (layout.first-entry + from) s))
+              (all-below (λ j. eqb (entry-cell p (entry-of j)) (cell t (layout.first-entry + from + j))) s (λ j b.
               subst (λ (n : ℕ). T (eqb (entry-cell p (entry-of j)) n)) (entry-sound named′ (switch-first t k + j) (fits j b) .1 ∙ entry-place j f) (eqb-refl (entry-cell p (entry-of j)))));
         }
 
@@ -165,10 +166,10 @@ module _ (t : List ℕ) (p : Program) (kept : Kept t p) where
     switch-complete q =
         let f : switch-first t k ≡ from = omega (arith, q .is, entries-long, odd-bit y) in
         let good-all = subst T (all-tab entry-of (good-entry p named′) s) (T-right (filled (sw .entries)) (all (good-entry p named′) (sw .entries)) (q .good)) in
-        let cells-all = subst T (stands-map t entry-of (entry-cell p) (6184 + from) s) (q .written) in
+        let cells-all = subst T (stands-map t entry-of (entry-cell p) (layout.first-entry + from) s) (q .written) in
         let fits : (j : ℕ) → j < s → T (entry-fits t named′ (switch-first t k + j)) =
         λ j b. entry-complete named′ (switch-first t k + j) (each-below (λ j. good-entry p named′ (entry-of j)) s good-all j b)
-        (eqb→eq (entry-cell p (entry-of j)) (cell t (6184 + from + j)) (each-below (λ j. eqb (entry-cell p (entry-of j)) (cell t (6184 + from + j))) s cells-all j b) ∙ sym (entry-place j f)) in
+        (eqb→eq (entry-cell p (entry-of j)) (cell t (layout.first-entry + from + j)) (each-below (λ j. eqb (entry-cell p (entry-of j)) (cell t (layout.first-entry + from + j))) s cells-all j b) ∙ sym (entry-place j f)) in
         T-both (c₁ && c₂) c₃
         (T-both c₁ c₂ (subst (λ (n : ℕ). T (eqb (switch-first t k) n)) f (eqb-refl (switch-first t k))) (subst T (filled-tab s entry-of) (T-left (filled (sw .entries)) (all (good-entry p named′) (sw .entries)) (q .good))))
         (passes-all (entry-fits t named′) (from + s - from) from (λ i a b.
@@ -182,22 +183,22 @@ module _ (t : List ℕ) (p : Program) (kept : Kept t p) where
 
   pub record SwitchesFact (k from : ℕ) (ws : List Switch) : Type 0 where
     pub good : T (all (good-switch p) ws)
-    pub cells : T (stands t (6152 + k) (switch-cells from ws))
-    pub written : T (stands t (6184 + from) (map (entry-cell p) (each entries-of ws)))
+    pub cells : T (stands t (layout.first-switch + k) (switch-cells from ws))
+    pub written : T (stands t (layout.first-entry + from) (map (entry-cell p) (each entries-of ws)))
     pub end : from + total (λ w. length (w .entries)) ws ≡ cell t 3
 
   -- one before the others
   module _ (k from : ℕ) (ws : List Switch) where
-    rest-written : stands t (6184 + from) (map (entry-cell p) (sw k from .entries ++ each entries-of ws))
-        ≡ (stands t (6184 + from) (map (entry-cell p) (sw k from .entries)) && stands t (6184 + (from + s k from)) (map (entry-cell p) (each entries-of ws)))
+    rest-written : stands t (layout.first-entry + from) (map (entry-cell p) (sw k from .entries ++ each entries-of ws))
+        ≡ (stands t (layout.first-entry + from) (map (entry-cell p) (sw k from .entries)) && stands t (layout.first-entry + (from + s k from)) (map (entry-cell p) (each entries-of ws)))
     rest-written =
         let xs : List Entry = sw k from .entries in
-        let z : 6184 + from + length (map (entry-cell p) xs) ≡ 6184 + (from + s k from) = omega (arith, length-map xs (entry-cell p), entries-long k from) in
-        ap (stands t (6184 + from)) (map-append (entry-cell p) xs (each entries-of ws))
-        ∙ stands-append t (6184 + from) (map (entry-cell p) xs) (map (entry-cell p) (each entries-of ws))
-        ∙ ap (λ (n : ℕ). stands t (6184 + from) (map (entry-cell p) xs) && stands t n (map (entry-cell p) (each entries-of ws))) z
+        let z : layout.first-entry + from + length (map (entry-cell p) xs) ≡ layout.first-entry + (from + s k from) = omega (arith, length-map xs (entry-cell p), entries-long k from) in
+        ap (stands t (layout.first-entry + from)) (map-append (entry-cell p) xs (each entries-of ws))
+        ∙ stands-append t (layout.first-entry + from) (map (entry-cell p) xs) (map (entry-cell p) (each entries-of ws))
+        ∙ ap (λ (n : ℕ). stands t (layout.first-entry + from) (map (entry-cell p) xs) && stands t n (map (entry-cell p) (each entries-of ws))) z
 
-    next-place : suc (6152 + k) ≡ 6152 + (k + 1)
+    next-place : suc (layout.first-switch + k) ≡ layout.first-switch + (k + 1)
     next-place = omega arith
 
     next-from : from + length (sw k from .entries) ≡ from + s k from
@@ -207,9 +208,9 @@ module _ (t : List ℕ) (p : Program) (kept : Kept t p) where
     unfolding switch-cells
     joined a b = record {
       good = T-both (good-switch p (switch-in t k)) (all (good-switch p) ws) (a .good) (b .good);
-      cells = stands-cons t (6152 + k) (6152 + (k + 1)) (switch-cell from (switch-in t k)) (switch-cells (from + length (switch-in t k .entries)) ws) next-place (sym (a .is))
-          (subst (λ (n : ℕ). T (stands t (6152 + (k + 1)) (switch-cells n ws))) (sym next-from) (b .cells));
-      written = subst T (sym rest-written) (T-both (stands t (6184 + from) (map (entry-cell p) (sw k from .entries))) (stands t (6184 + (from + s k from)) (map (entry-cell p) (each entries-of ws))) (a .written) (b .written));
+      cells = stands-cons t (layout.first-switch + k) (layout.first-switch + (k + 1)) (switch-cell from (switch-in t k)) (switch-cells (from + length (switch-in t k .entries)) ws) next-place (sym (a .is))
+          (subst (λ (n : ℕ). T (stands t (layout.first-switch + (k + 1)) (switch-cells n ws))) (sym next-from) (b .cells));
+      written = subst T (sym rest-written) (T-both (stands t (layout.first-entry + from) (map (entry-cell p) (sw k from .entries))) (stands t (layout.first-entry + (from + s k from)) (map (entry-cell p) (each entries-of ws))) (a .written) (b .written));
       end = omega (arith, b .end, next-from);
     }
 
@@ -217,17 +218,17 @@ module _ (t : List ℕ) (p : Program) (kept : Kept t p) where
     unfolding switch-cells
     parted q =
         let l : List ℕ = switch-cells (from + length (switch-in t k .entries)) ws in
-        let w₁ : Bool = stands t (6184 + from) (map (entry-cell p) (sw k from .entries)) in
-        let w₂ : Bool = stands t (6184 + (from + s k from)) (map (entry-cell p) (each entries-of ws)) in
+        let w₁ : Bool = stands t (layout.first-entry + from) (map (entry-cell p) (sw k from .entries)) in
+        let w₂ : Bool = stands t (layout.first-entry + (from + s k from)) (map (entry-cell p) (each entries-of ws)) in
         let both : T (w₁ && w₂) = subst T rest-written (q .written) in (
           record {
             good = T-left (good-switch p (switch-in t k)) (all (good-switch p) ws) (q .good);
-            is = stands-head t (6152 + k) (6152 + (k + 1)) (switch-cell from (switch-in t k)) l next-place (q .cells);
+            is = stands-head t (layout.first-switch + k) (layout.first-switch + (k + 1)) (switch-cell from (switch-in t k)) l next-place (q .cells);
             written = T-left w₁ w₂ both;
           },
           record {
             good = T-right (good-switch p (switch-in t k)) (all (good-switch p) ws) (q .good);
-            cells = subst (λ (n : ℕ). T (stands t (6152 + (k + 1)) (switch-cells n ws))) next-from (stands-tail t (6152 + k) (6152 + (k + 1)) (switch-cell from (switch-in t k)) l next-place (q .cells));
+            cells = subst (λ (n : ℕ). T (stands t (layout.first-switch + (k + 1)) (switch-cells n ws))) next-from (stands-tail t (layout.first-switch + k) (layout.first-switch + (k + 1)) (switch-cell from (switch-in t k)) l next-place (q .cells));
             written = T-right w₁ w₂ both;
             end = omega (arith, q .end, next-from);
           },

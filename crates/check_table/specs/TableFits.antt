@@ -14,6 +14,7 @@ use Rattle.lists.specs.Lists.{each}
 use Rattle.layout.specs.CellLaws.{length-tab, length-each, length-fours, length-padded}
 use Rattle.layout.specs.Cells.{cell, code, tab, padded}
 use Rattle.layout.specs.Table.{instr-cells, label-cells, text-cells, switch-cells, entry-cell, all-entries, counts, table-cells, text-in, number-in, instr-in, label-in, switch-in, program-in}
+use Rattle.layout.specs.Places as layout
 use Rattle.check_parts.specs.Parts.{zeros}
 use Rattle.check_parts.specs.PassLaws.{passes-each, passes-all, all-below}
 use Rattle.check_table.specs.Checks.{counts-fit, rest-zero}
@@ -198,22 +199,22 @@ module _ (t : List ℕ) (long : length t ≡ 8192) where
     s₀ = stands t 0 (counts p)
 
     abbrev s₁ : Bool
-    s₁ = stands t 8 l₁ && zeros t (8 + 4 * cell t 0) 2056
+    s₁ = stands t 8 l₁ && zeros t (layout.first-instruction + 4 * cell t 0) layout.first-label
 
     abbrev s₂ : Bool
-    s₂ = stands t 2056 l₂ && zeros t (2056 + 16 * cell t 1) 4104
+    s₂ = stands t layout.first-label l₂ && zeros t (layout.first-label + 16 * cell t 1) layout.first-text
 
     abbrev s₃ : Bool
-    s₃ = stands t 4104 l₃ && zeros t (4104 + 16 * cell t 4) 6152
+    s₃ = stands t layout.first-text l₃ && zeros t (layout.first-text + 16 * cell t 4) layout.first-switch
 
     abbrev s₄ : Bool
-    s₄ = stands t 6152 l₄ && zeros t (6152 + cell t 2) 6184
+    s₄ = stands t layout.first-switch l₄ && zeros t (layout.first-switch + cell t 2) layout.first-entry
 
     abbrev s₅ : Bool
-    s₅ = stands t 6184 l₅ && zeros t (6184 + cell t 3) 6312
+    s₅ = stands t layout.first-entry l₅ && zeros t (layout.first-entry + cell t 3) layout.first-number
 
     abbrev s₆ : Bool
-    s₆ = stands t 6312 l₆ && zeros t (6312 + cell t 5) 6440
+    s₆ = stands t layout.first-number l₆ && zeros t (layout.first-number + cell t 5) 6440
 
     abbrev s₇ : Bool
     s₇ = stands t 6440 (replicate 1752 0)
@@ -259,45 +260,45 @@ module _ (t : List ℕ) (long : length t ≡ 8192) where
     table-stands =
         stands-append t 0 (counts p) b₁
         ∙ ap (λ (x : Bool). s₀ && x) (part-stands t 8 2048 l₁ (4 * cell t 0) b₂ e₁ (omega (arith, n .code-few))
-        ∙ ap (λ (x : Bool). s₁ && x) (part-stands t 2056 2048 l₂ (16 * cell t 1) b₃ e₂ (omega (arith, n .labels-few))
-        ∙ ap (λ (x : Bool). s₂ && x) (part-stands t 4104 2048 l₃ (16 * cell t 4) b₄ e₃ (omega (arith, n .texts-few))
-        ∙ ap (λ (x : Bool). s₃ && x) (part-stands t 6152 32 l₄ (cell t 2) b₅ e₄ (n .switches-few)
-        ∙ ap (λ (x : Bool). s₄ && x) (part-stands t 6184 128 l₅ (cell t 3) b₆ e₅ (n .entries-few)
-        ∙ ap (λ (x : Bool). s₅ && x) (part-stands t 6312 128 l₆ (cell t 5) (replicate 1752 0) e₆ (n .numbers-few)))))))
+        ∙ ap (λ (x : Bool). s₁ && x) (part-stands t layout.first-label 2048 l₂ (16 * cell t 1) b₃ e₂ (omega (arith, n .labels-few))
+        ∙ ap (λ (x : Bool). s₂ && x) (part-stands t layout.first-text 2048 l₃ (16 * cell t 4) b₄ e₃ (omega (arith, n .texts-few))
+        ∙ ap (λ (x : Bool). s₃ && x) (part-stands t layout.first-switch 32 l₄ (cell t 2) b₅ e₄ (n .switches-few)
+        ∙ ap (λ (x : Bool). s₄ && x) (part-stands t layout.first-entry 128 l₅ (cell t 3) b₆ e₅ (n .entries-few)
+        ∙ ap (λ (x : Bool). s₅ && x) (part-stands t layout.first-number 128 l₆ (cell t 5) (replicate 1752 0) e₆ (n .numbers-few)))))))
 
     pub record Standing : Type 0 where
       pub p₀ : T (stands t 0 (counts p))
       pub p₁ : T (stands t 8 l₁)
-      pub p₂ : T (stands t 2056 l₂)
-      pub p₃ : T (stands t 4104 l₃)
-      pub p₄ : T (stands t 6152 l₄)
-      pub p₅ : T (stands t 6184 l₅)
+      pub p₂ : T (stands t layout.first-label l₂)
+      pub p₃ : T (stands t layout.first-text l₃)
+      pub p₄ : T (stands t layout.first-switch l₄)
+      pub p₅ : T (stands t layout.first-entry l₅)
       pub zero : T (rest-zero t)
 
     abbrev z₁ : Bool
-    z₁ = zeros t (8 + 4 * cell t 0) 2056
+    z₁ = zeros t (layout.first-instruction + 4 * cell t 0) layout.first-label
 
     abbrev z₂ : Bool
-    z₂ = zeros t (2056 + 16 * cell t 1) 4104
+    z₂ = zeros t (layout.first-label + 16 * cell t 1) layout.first-text
 
     abbrev z₃ : Bool
-    z₃ = zeros t (4104 + 16 * cell t 4) 6152
+    z₃ = zeros t (layout.first-text + 16 * cell t 4) layout.first-switch
 
     abbrev z₄ : Bool
-    z₄ = zeros t (6152 + cell t 2) 6184
+    z₄ = zeros t (layout.first-switch + cell t 2) layout.first-entry
 
     abbrev z₅ : Bool
-    z₅ = zeros t (6184 + cell t 3) 6312
+    z₅ = zeros t (layout.first-entry + cell t 3) layout.first-number
 
     abbrev z₆ : Bool
-    z₆ = zeros t (6312 + cell t 5) 8192
+    z₆ = zeros t (layout.first-number + cell t 5) 8192
 
-    numbers-stand : T (stands t 6312 l₆)
+    numbers-stand : T (stands t layout.first-number l₆)
     numbers-stand =
-        subst (λ zs. T (stands t 6312 (map code zs))) (sym numbers-are)
-        (subst T (sym (stands-map t (number-in t) code 6312 (cell t 5)))
-        (all-below (λ i. eqb (code (number-in t i)) (cell t (6312 + i))) (cell t 5) (λ i b.
-        subst (λ (y : ℕ). T (eqb (code (number-in t i)) y)) (code-uncode (cell t (6312 + i))) (eqb-refl (code (number-in t i))))))
+        subst (λ zs. T (stands t layout.first-number (map code zs))) (sym numbers-are)
+        (subst T (sym (stands-map t (number-in t) code layout.first-number (cell t 5)))
+        (all-below (λ i. eqb (code (number-in t i)) (cell t (layout.first-number + i))) (cell t 5) (λ i b.
+        subst (λ (y : ℕ). T (eqb (code (number-in t i)) y)) (code-uncode (cell t (layout.first-number + i))) (eqb-refl (code (number-in t i))))))
 
     last-zeros : s₇ ≡ zeros t 6440 8192
     last-zeros = stands-zeros t 1752 6440
@@ -318,15 +319,15 @@ module _ (t : List ℕ) (long : length t ≡ 8192) where
         let g₄ = T-left s₄ (s₅ && (s₆ && s₇)) h₄ in
         let g₅ = T-left s₅ (s₆ && s₇) h₅ in
         let g₆ = T-left s₆ s₇ h₆ in
-        let last : T z₆ = zeros-join t (6312 + cell t 5) 6440 8192 (omega (arith, n .numbers-few)) (omega arith) (T-right (stands t 6312 l₆) (zeros t (6312 + cell t 5) 6440) g₆) (subst T last-zeros (T-right s₆ s₇ h₆)) in
+        let last : T z₆ = zeros-join t (layout.first-number + cell t 5) 6440 8192 (omega (arith, n .numbers-few)) (omega arith) (T-right (stands t layout.first-number l₆) (zeros t (layout.first-number + cell t 5) 6440) g₆) (subst T last-zeros (T-right s₆ s₇ h₆)) in
         record {
           p₀ = T-left s₀ (s₁ && (s₂ && (s₃ && (s₄ && (s₅ && (s₆ && s₇)))))) h₀;
           p₁ = T-left (stands t 8 l₁) z₁ g₁;
-          p₂ = T-left (stands t 2056 l₂) z₂ g₂;
-          p₃ = T-left (stands t 4104 l₃) z₃ g₃;
-          p₄ = T-left (stands t 6152 l₄) z₄ g₄;
-          p₅ = T-left (stands t 6184 l₅) z₅ g₅;
-          zero = T-both (z₁ && z₂ && z₃ && z₄ && z₅) z₆ (T-both (z₁ && z₂ && z₃ && z₄) z₅ (T-both (z₁ && z₂ && z₃) z₄ (T-both (z₁ && z₂) z₃ (T-both z₁ z₂ (T-right (stands t 8 l₁) z₁ g₁) (T-right (stands t 2056 l₂) z₂ g₂)) (T-right (stands t 4104 l₃) z₃ g₃)) (T-right (stands t 6152 l₄) z₄ g₄)) (T-right (stands t 6184 l₅) z₅ g₅)) last;
+          p₂ = T-left (stands t layout.first-label l₂) z₂ g₂;
+          p₃ = T-left (stands t layout.first-text l₃) z₃ g₃;
+          p₄ = T-left (stands t layout.first-switch l₄) z₄ g₄;
+          p₅ = T-left (stands t layout.first-entry l₅) z₅ g₅;
+          zero = T-both (z₁ && z₂ && z₃ && z₄ && z₅) z₆ (T-both (z₁ && z₂ && z₃ && z₄) z₅ (T-both (z₁ && z₂ && z₃) z₄ (T-both (z₁ && z₂) z₃ (T-both z₁ z₂ (T-right (stands t 8 l₁) z₁ g₁) (T-right (stands t layout.first-label l₂) z₂ g₂)) (T-right (stands t layout.first-text l₃) z₃ g₃)) (T-right (stands t layout.first-switch l₄) z₄ g₄)) (T-right (stands t layout.first-entry l₅) z₅ g₅)) last;
         }
 
     pub shut : Standing → T (stands t 0 (table-cells p))
@@ -337,13 +338,13 @@ module _ (t : List ℕ) (long : length t ≡ 8192) where
         let h₃ = T-left (z₁ && z₂ && z₃) z₄ h₄ in
         let h₂ = T-left (z₁ && z₂) z₃ h₃ in
         let last : T z₆ = T-right (z₁ && z₂ && z₃ && z₄ && z₅) z₆ (q .zero) in
-        let g₆ = T-both (stands t 6312 l₆) (zeros t (6312 + cell t 5) 6440) numbers-stand (zeros-left t (6312 + cell t 5) 6440 8192 (omega arith) last) in
-        let g₇ = subst T (sym last-zeros) (zeros-right t (6312 + cell t 5) 6440 8192 (omega (arith, n .numbers-few)) last) in
+        let g₆ = T-both (stands t layout.first-number l₆) (zeros t (layout.first-number + cell t 5) 6440) numbers-stand (zeros-left t (layout.first-number + cell t 5) 6440 8192 (omega arith) last) in
+        let g₇ = subst T (sym last-zeros) (zeros-right t (layout.first-number + cell t 5) 6440 8192 (omega (arith, n .numbers-few)) last) in
         subst T (sym table-stands)
         (T-both s₀ (s₁ && (s₂ && (s₃ && (s₄ && (s₅ && (s₆ && s₇)))))) (q .p₀)
         (T-both s₁ (s₂ && (s₃ && (s₄ && (s₅ && (s₆ && s₇))))) (T-both (stands t 8 l₁) z₁ (q .p₁) (T-left z₁ z₂ h₂))
-        (T-both s₂ (s₃ && (s₄ && (s₅ && (s₆ && s₇)))) (T-both (stands t 2056 l₂) z₂ (q .p₂) (T-right z₁ z₂ h₂))
-        (T-both s₃ (s₄ && (s₅ && (s₆ && s₇))) (T-both (stands t 4104 l₃) z₃ (q .p₃) (T-right (z₁ && z₂) z₃ h₃))
-        (T-both s₄ (s₅ && (s₆ && s₇)) (T-both (stands t 6152 l₄) z₄ (q .p₄) (T-right (z₁ && z₂ && z₃) z₄ h₄))
-        (T-both s₅ (s₆ && s₇) (T-both (stands t 6184 l₅) z₅ (q .p₅) (T-right (z₁ && z₂ && z₃ && z₄) z₅ h₅))
+        (T-both s₂ (s₃ && (s₄ && (s₅ && (s₆ && s₇)))) (T-both (stands t layout.first-label l₂) z₂ (q .p₂) (T-right z₁ z₂ h₂))
+        (T-both s₃ (s₄ && (s₅ && (s₆ && s₇))) (T-both (stands t layout.first-text l₃) z₃ (q .p₃) (T-right (z₁ && z₂) z₃ h₃))
+        (T-both s₄ (s₅ && (s₆ && s₇)) (T-both (stands t layout.first-switch l₄) z₄ (q .p₄) (T-right (z₁ && z₂ && z₃) z₄ h₄))
+        (T-both s₅ (s₆ && s₇) (T-both (stands t layout.first-entry l₅) z₅ (q .p₅) (T-right (z₁ && z₂ && z₃ && z₄) z₅ h₅))
         (T-both s₆ s₇ g₆ g₇)))))))

@@ -8,23 +8,25 @@ ghost use Rattle.packed.specs.Packed.{table-of};
 ghost use Rattle.table.specs.Reads.{Place, switch-size};
 ghost use Rattle.check_parts.specs.Parts.{passes, label-fits, entry-fits};
 ghost use Rattle.check_table.specs.Checks.{Counted, counts-fit, rest-zero, text-new, text-stays, number-new, number-stays, switch-fits, switches-fit, parts-fit};
+ghost use Rattle.language.specs.Limits as limit;
 use language::Machine;
+use layout::TablePlaces;
 
 // Whether there are instructions, and nothing is beyond the limits.
 fn counts_fit(table: &[u32]) -> bool
-    requires { ⌜ 8192 ≤ length (now table) ⌝ }
+    requires { ⌜ limit.table ≤ length (now table) ⌝ }
     ensures { λ r. ⌜ r ≡ counts-fit (table-of (now (table .entry))) ⌝ }
 {
-    let code = check_parts::read(table, 0);
+    let code = check_parts::read(table, TablePlaces::INSTRUCTION_COUNT);
     (0 < code)
         & (code <= Machine::INSTRUCTIONS)
-        & (check_parts::read(table, 1) <= Machine::LABELS)
-        & (check_parts::read(table, 2) <= Machine::SWITCHES)
-        & (check_parts::read(table, 3) <= Machine::ENTRIES)
-        & (check_parts::read(table, 4) <= Machine::TEXTS)
-        & (check_parts::read(table, 5) <= Machine::NUMBERS)
-        & (check_parts::read(table, 6) == 0)
-        & (check_parts::read(table, 7) == 0)
+        & (check_parts::read(table, TablePlaces::LABEL_COUNT) <= Machine::LABELS)
+        & (check_parts::read(table, TablePlaces::SWITCH_COUNT) <= Machine::SWITCHES)
+        & (check_parts::read(table, TablePlaces::ENTRY_COUNT) <= Machine::ENTRIES)
+        & (check_parts::read(table, TablePlaces::TEXT_COUNT) <= Machine::TEXTS)
+        & (check_parts::read(table, TablePlaces::NUMBER_COUNT) <= Machine::NUMBERS)
+        & (check_parts::read(table, TablePlaces::FIRST_SPARE) == 0)
+        & (check_parts::read(table, TablePlaces::LAST_SPARE) == 0)
 }
 
 // "Unused cells zero".
@@ -32,12 +34,37 @@ fn rest_zero(table: &[u32]) -> bool
     requires { ⌜ Counted (now table) ⌝ }
     ensures { λ r. ⌜ r ≡ rest-zero (table-of (now (table .entry))) ⌝ }
 {
-    check_parts::zeros(table, 8 + 4 * check_parts::read(table, 0), 2056)
-        & check_parts::zeros(table, 2056 + 16 * check_parts::read(table, 1), 4104)
-        & check_parts::zeros(table, 4104 + 16 * check_parts::read(table, 4), 6152)
-        & check_parts::zeros(table, 6152 + check_parts::read(table, 2), 6184)
-        & check_parts::zeros(table, 6184 + check_parts::read(table, 3), 6312)
-        & check_parts::zeros(table, 6312 + check_parts::read(table, 5), Machine::TABLE)
+    check_parts::zeros(
+        table,
+        TablePlaces::FIRST_INSTRUCTION
+            + 4 * check_parts::read(table, TablePlaces::INSTRUCTION_COUNT),
+        TablePlaces::FIRST_LABEL,
+    )
+        & check_parts::zeros(
+            table,
+            TablePlaces::FIRST_LABEL + 16 * check_parts::read(table, TablePlaces::LABEL_COUNT),
+            TablePlaces::FIRST_TEXT,
+        )
+        & check_parts::zeros(
+            table,
+            TablePlaces::FIRST_TEXT + 16 * check_parts::read(table, TablePlaces::TEXT_COUNT),
+            TablePlaces::FIRST_SWITCH,
+        )
+        & check_parts::zeros(
+            table,
+            TablePlaces::FIRST_SWITCH + check_parts::read(table, TablePlaces::SWITCH_COUNT),
+            TablePlaces::FIRST_ENTRY,
+        )
+        & check_parts::zeros(
+            table,
+            TablePlaces::FIRST_ENTRY + check_parts::read(table, TablePlaces::ENTRY_COUNT),
+            TablePlaces::FIRST_NUMBER,
+        )
+        & check_parts::zeros(
+            table,
+            TablePlaces::FIRST_NUMBER + check_parts::read(table, TablePlaces::NUMBER_COUNT),
+            Machine::TABLE,
+        )
 }
 
 // Whether text `i` differs from those behind it, up to `n`.
@@ -81,10 +108,10 @@ fn number_new(table: &[u32], n: usize, i: usize) -> bool
     requires { ⌜ Place (now table) (i + n) 512 ⌝ }
     ensures { λ r. ⌜ r ≡ number-new (table-of (now (table .entry))) n i ⌝ }
 {
-    let x = check_parts::read(table, 6312 + i);
+    let x = check_parts::read(table, TablePlaces::FIRST_NUMBER + i);
     let mut j = i + 1;
     while j < n {
-        if x == check_parts::read(table, 6312 + j) {
+        if x == check_parts::read(table, TablePlaces::FIRST_NUMBER + j) {
             return false;
         }
         j += 1;
@@ -147,7 +174,7 @@ fn switch_size(table: &[u32], k: usize) -> usize
     requires { ⌜ Place (now table) k 128 ⌝ }
     ensures { λ r. ⌜ Number (switch-size (table-of (now (table .entry))) k) 256 r ⌝ }
 {
-    check_parts::read(table, 6152 + k) / 2 % 256
+    check_parts::read(table, TablePlaces::FIRST_SWITCH + k) / 2 % 256
 }
 
 // Whether switch `k` has entries, which begin at entry `from`.
@@ -155,7 +182,7 @@ fn switch_fits(table: &[u32], k: usize, from: usize) -> bool
     requires { ⌜ Place (now table) (256 * k + from) 65000 ⌝ }
     ensures { λ r. ⌜ r ≡ switch-fits (table-of (now (table .entry))) k from ⌝ }
 {
-    let x = check_parts::read(table, 6152 + k);
+    let x = check_parts::read(table, TablePlaces::FIRST_SWITCH + k);
     let n = x / 2 % 256;
     (x / 512 == from) & (0 < n) & entries_fit(table, x % 2 == 1, from, from + n)
 }
@@ -174,19 +201,19 @@ fn switches_fit(table: &[u32], n: usize) -> bool
         from += switch_size(table, k);
         k += 1;
     }
-    from == check_parts::read(table, 3)
+    from == check_parts::read(table, TablePlaces::ENTRY_COUNT)
 }
 
 fn parts_fit(table: &[u32]) -> bool
     requires { ⌜ Counted (now table) ⌝ }
     ensures { λ r. ⌜ r ≡ parts-fit (table-of (now (table .entry))) ⌝ }
 {
-    let code = check_parts::read(table, 0);
+    let code = check_parts::read(table, TablePlaces::INSTRUCTION_COUNT);
     rest_zero(table)
-        & texts_fit(table, check_parts::read(table, 4))
-        & numbers_fit(table, check_parts::read(table, 5))
-        & labels_fit(table, check_parts::read(table, 1))
-        & switches_fit(table, check_parts::read(table, 2))
+        & texts_fit(table, check_parts::read(table, TablePlaces::TEXT_COUNT))
+        & numbers_fit(table, check_parts::read(table, TablePlaces::NUMBER_COUNT))
+        & labels_fit(table, check_parts::read(table, TablePlaces::LABEL_COUNT))
+        & switches_fit(table, check_parts::read(table, TablePlaces::SWITCH_COUNT))
         & check_code::instructions_fit(table, code)
         & check_code::last_ends(table, code)
 }

@@ -14,6 +14,7 @@ ghost use Rattle.instructions.specs.Does.{DoesFor};
 ghost use Rattle.instructions.specs.Operands.{target};
 ghost use Rattle.constants.specs.Constants.{TextPuttable, Puttable, Put, Placeable, Fileable, TextPlaceable};
 use language::Machine;
+use layout::StatePlaces;
 
 // A component that was written: how many bytes and characters it has.
 pub struct Constant {
@@ -108,7 +109,7 @@ pub fn umiesc_file(
     if stop != 0 {
         return stop;
     }
-    let last = state::number(pool, ends, nums, 4);
+    let last = state::number(pool, ends, nums, StatePlaces::LAST_SCALAR);
     records::put_record(hold, last + 1, &given[..bytes]);
     filing::write_records(
         pool,

@@ -16,10 +16,12 @@ use Rattle.layout.specs.Cells.{two, two-at}
 use Rattle.layout.specs.CellLaws.{each-drop, length-each, two-back}
 use Rattle.layout.specs.Memory.{strings}
 use Rattle.layout.specs.MemoryLaws.{string-stack}
+use Rattle.layout.specs.Places as layout
 use Rattle.gaps.specs.Gaps.{pushedFront}
 use Rattle.gaps.specs.Pool.{abs, string, Holds}
 use Rattle.store.specs.Store.{Pushable, Droppable, Within, droppedFront}
-use Rattle.state.specs.Working.{stack-string, state-at, HoldsState, Stands, on-store}
+use Rattle.layout.specs.Places.{stack-string}
+use Rattle.state.specs.Working.{state-at, HoldsState, Stands, on-store}
 use Rattle.state.proofs.Standing.{number-is, string-is, pushable}
 use Rattle.state.proofs.Strings.{strings-stack}
 use Rattle.control.specs.Going.{going, Deep, Following, Reachable, Callable, Returnable}
@@ -43,7 +45,7 @@ module _ (s : State) (f : Fine s) (t : ℕ) (st : List ℕ) (b : t < limit.instr
   fine-there =
       fine-beside s f (s .store .plus) (s .store .outputs) (s .store .places) t st (f .outputs-is) (f .outputs-ok) (f .places-is) (f .places-ok) b ok most
 
-  holds-there : {p e p′ e′ n n′ : List ℕ} → HoldsState p e n s → Holds p′ e′ (set (strings s) stack-string (each two st)) → n′ ≡ set n 3 t
+  holds-there : {p e p′ e′ n n′ : List ℕ} → HoldsState p e n s → Holds p′ e′ (set (strings s) stack-string (each two st)) → n′ ≡ set n layout.next-scalar t
       → HoldsState p′ e′ n′ there
   holds-there h g q =
       record {
@@ -57,7 +59,7 @@ module _ {p e n : List ℕ} (h : Stands p e n) where
   here = state-at p e n
 
   -- the next instruction alone
-  next-set : (t : ℕ) {n′ : List ℕ} → t < limit.instructions → n′ ≡ set n 3 t
+  next-set : (t : ℕ) {n′ : List ℕ} → t < limit.instructions → n′ ≡ set n layout.next-scalar t
       → HoldsState p e n′ (record { store = here .store; next = t; stack = here .stack })
   unfolding strings
   next-set t b q =
@@ -76,14 +78,14 @@ module _ {p e n : List ℕ} (h : Stands p e n) where
   pub deep : {r : ℕ} → r ≡ length (string stack-string (abs p e)) → Deep p e n (r / 2)
   deep q = record { is = omega (arith, stack-long); most = omega (arith, stack-long, h .fine .stack-most) }
 
-pub went-on : {p e n n′ : List ℕ} → Following p e n → n′ ≡ set n 3 (getD n 3 0 + 1) → HoldsState p e n′ (going on (state-at p e n))
+pub went-on : {p e n n′ : List ℕ} → Following p e n → n′ ≡ set n layout.next-scalar (getD n layout.next-scalar 0 + 1) → HoldsState p e n′ (going on (state-at p e n))
 unfolding going
 went-on {p} {e} {n} {n′} pre q =
     let h = pre .stands in
-    let x : getD n 3 0 + 1 ≡ suc (state-at p e n .next) = omega (arith, number-is h 3) in
-    next-set h (suc (state-at p e n .next)) (pre .below) (q ∙ ap (λ (k : ℕ). set n 3 k) x)
+    let x : getD n layout.next-scalar 0 + 1 ≡ suc (state-at p e n .next) = omega (arith, number-is h 3) in
+    next-set h (suc (state-at p e n .next)) (pre .below) (q ∙ ap (λ (k : ℕ). set n layout.next-scalar k) x)
 
-pub jumped : {p e n n′ : List ℕ} {t : ℕ} → Reachable p e n t → n′ ≡ set n 3 t → HoldsState p e n′ (going (jump t) (state-at p e n))
+pub jumped : {p e n n′ : List ℕ} {t : ℕ} → Reachable p e n t → n′ ≡ set n layout.next-scalar t → HoldsState p e n′ (going (jump t) (state-at p e n))
 unfolding going
 jumped {t = t} pre q = next-set (pre .stands) t (pre .below) q
 
@@ -91,10 +93,10 @@ module _ {p e n : List ℕ} {sc t : ℕ} (pre : Callable p e n sc t) where
   abbrev kept : List ℕ
   kept = suc (state-at p e n .next) ∷ state-at p e n .stack
 
-  pub back-is : getD n 3 0 + 1 ≡ suc (state-at p e n .next)
+  pub back-is : getD n layout.next-scalar 0 + 1 ≡ suc (state-at p e n .next)
   back-is = omega (arith, number-is (pre .following .stands) 3)
 
-  stack-more : {b : List ℕ} → b ≡ two (getD n 3 0 + 1) → pushedFront stack-string b (abs p e) ≡ set (strings (state-at p e n)) stack-string (each two kept)
+  stack-more : {b : List ℕ} → b ≡ two (getD n layout.next-scalar 0 + 1) → pushedFront stack-string b (abs p e) ≡ set (strings (state-at p e n)) stack-string (each two kept)
   unfolding pushedFront
   stack-more q =
       let h = pre .following .stands in
@@ -110,7 +112,7 @@ module _ {p e n : List ℕ} {sc t : ℕ} (pre : Callable p e n sc t) where
       stack-string (each two kept) (strings-stack s (f .exprs-is) (f .files-is) t kept) (omega arith)
       (rw (string-stack s f) (omega (arith, q))) (pre .spare)
 
-  pub called : {b p′ e′ n′ : List ℕ} → b ≡ two (getD n 3 0 + 1) → Holds p′ e′ (pushedFront stack-string b (abs p e)) → n′ ≡ set n 3 t
+  pub called : {b p′ e′ n′ : List ℕ} → b ≡ two (getD n layout.next-scalar 0 + 1) → Holds p′ e′ (pushedFront stack-string b (abs p e)) → n′ ≡ set n layout.next-scalar t
       → HoldsState p′ e′ n′ (going (call t) (state-at p e n))
   unfolding going
   called q g r =
@@ -152,7 +154,7 @@ module _ {p e n : List ℕ} (pre : Returnable p e n) where
       let h = pre .stands in
       rw (h .holds .is, string-stack (state-at p e n) (h .fine), rest-is (state-at p e n .stack))
 
-  pub returned : {e′ n′ : List ℕ} {t : ℕ} → t ≡ headOr 0 (state-at p e n .stack) → Holds p e′ (droppedFront stack-string 2 (abs p e)) → n′ ≡ set n 3 t
+  pub returned : {e′ n′ : List ℕ} {t : ℕ} → t ≡ headOr 0 (state-at p e n .stack) → Holds p e′ (droppedFront stack-string 2 (abs p e)) → n′ ≡ set n layout.next-scalar t
       → HoldsState p e′ n′ (going back (state-at p e n))
   unfolding going
   returned q g r =
@@ -160,4 +162,4 @@ module _ {p e n : List ℕ} (pre : Returnable p e n) where
       let st = state-at p e n .stack in
       holds-there (state-at p e n) (h .fine) (headOr 0 st) (drop 1 st) (top-below st (pre .kept) (h .fine .stack-ok))
       (each-drop (λ x. x < limit.instructions) 1 st (h .fine .stack-ok)) (omega (arith, rest-most st, h .fine .stack-most)) h
-      (rw stack-less at g) (r ∙ ap (λ (k : ℕ). set n 3 k) q)
+      (rw stack-less at g) (r ∙ ap (λ (k : ℕ). set n layout.next-scalar k) q)

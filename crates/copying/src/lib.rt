@@ -18,6 +18,7 @@ ghost use Rattle.filing.specs.Files.{bodies, RecordsWritable};
 ghost use Rattle.table.specs.Denote.{arg-of};
 ghost use Rattle.instructions.specs.Does.{DoesFor};
 ghost use Rattle.copying.specs.Copies.{passed, copied, Droppable, Skippable, Duplicable, RecordsRemovable, RecordsSkippable, RecordsMovable, Storing};
+use layout::StatePlaces;
 
 // Moves the pointer of file `i` past what a test takes.
 fn pass_taken(
@@ -190,7 +191,7 @@ fn copy_taken(
     if stop != 0 {
         return stop;
     }
-    let last = state::number(pool, ends, nums, 4);
+    let last = state::number(pool, ends, nums, StatePlaces::LAST_SCALAR);
     restamp(hold, &f[..bytes], last, reverses);
     filing::past_records(
         pool,

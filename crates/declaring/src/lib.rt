@@ -7,6 +7,7 @@ ghost use Rattle.drafts.specs.Marks.{place-by, word-by};
 ghost use Rattle.statements.specs.StatementAt.{fault-of};
 ghost use Rattle.writing.specs.Writing.{Changes, with-label, label-of};
 ghost use Rattle.declaring.specs.Declaring.{marks-in, with-labels, labels-by, Nameable, Labelling, Over, Labels-told, Instr-told, Judgeable, Judges, Writable, WritesInstr, Declarable, Declares};
+ghost use Rattle.language.specs.Limits as limit;
 use argument_cells::nth_cell;
 use faults::lower;
 use language::Machine;
@@ -38,7 +39,7 @@ fn labels_beyond(table: &[u32], names: &[u32], from: usize, to: usize) -> Fault
 
 // The operator's place, where the instruction is one in excess.
 fn instruction_beyond(table: &[u32], at: usize) -> Fault
-    requires { ⌜ 8192 ≤ length (now table) ⌝ }
+    requires { ⌜ limit.table ≤ length (now table) ⌝ }
     ensures { λ r. ⌜ Instr-told (now (table .entry)) at r ⌝ }
 {
     if table::instructions(table) < Machine::INSTRUCTIONS {

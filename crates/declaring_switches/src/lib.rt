@@ -11,6 +11,7 @@ ghost use Rattle.finding.specs.Finding.{Tells};
 ghost use Rattle.layout.specs.Table.{text-ref};
 ghost use Rattle.declaring_switches.specs.Entries.{next-text, Text-after, Puttable, Puts, Listing, Lists};
 ghost use Rattle.declaring_switches.specs.Switches.{Writable-switch, WritesSwitch, Declarable-switch, DeclaresSwitch};
+ghost use Rattle.language.specs.Limits as limit;
 use argument_cells::item_text;
 use faults::lower;
 use judging::less_one;
@@ -44,7 +45,7 @@ fn word_after(text: &[u8], n: usize, skip: usize) -> Fault
 
 // The operator's place, where the switch is one in excess.
 fn switch_beyond(table: &[u32], at: usize) -> Fault
-    requires { ⌜ 8192 ≤ length (now table) ⌝ }
+    requires { ⌜ limit.table ≤ length (now table) ⌝ }
     ensures { λ r. ⌜ Switch-told (now (table .entry)) at r ⌝ }
 {
     if table::switches(table) < Machine::SWITCHES {

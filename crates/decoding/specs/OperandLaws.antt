@@ -29,6 +29,7 @@ use Rattle.layout.specs.Cells.{cell}
 use Rattle.layout.specs.ProgramLaws.{program-ok}
 use Rattle.layout.specs.Table.{program-of, good-table}
 use Rattle.layout.specs.TableLaws.{table-facts}
+use Rattle.layout.specs.Places as layout
 use Rattle.packed.specs.Packed.{table-of}
 use Rattle.state.specs.Working.{nth}
 use Rattle.table.specs.Denote.{letter-of, arg-of}
@@ -151,8 +152,8 @@ form-letter c fs h m l k e = h l (subst (λ (y : Argument). T (among (form (prog
 
 -- what is read of a well-formed table
 module _ (c : List ℕ) (good : T (good-table c)) (i : ℕ) (h : i < length (program-of c .code)) where
-  pub read-all : {n : ℕ} {a₁ a₂ a₃ : Argument} → n ≡ cell (table-of c) (8 + 4 * i) % 64 → IsArgument (table-of c) (1 + (8 + 4 * i)) a₁
-      → IsArgument (table-of c) (2 + (8 + 4 * i)) a₂ → IsArgument (table-of c) (3 + (8 + 4 * i)) a₃ → Read c i n a₁ a₂ a₃
+  pub read-all : {n : ℕ} {a₁ a₂ a₃ : Argument} → n ≡ cell (table-of c) (layout.first-instruction + 4 * i) % 64 → IsArgument (table-of c) (1 + (layout.first-instruction + 4 * i)) a₁
+      → IsArgument (table-of c) (2 + (layout.first-instruction + 4 * i)) a₂ → IsArgument (table-of c) (3 + (layout.first-instruction + 4 * i)) a₃ → Read c i n a₁ a₂ a₃
   read-all {n} {a₁} {a₂} {a₃} q f s t =
       record {
         instruction = good-instruction c good i h n q;

@@ -23,7 +23,8 @@ use Rattle.gaps.specs.Gaps.{pushedFront, pushedBack}
 use Rattle.gaps.specs.Pool.{abs, string, Holds}
 use Rattle.store.specs.Store.{Long, Movable, droppedFront, droppedBack, movedFrontToBack, movedBackToFront}
 use Rattle.state.specs.Blocks.{totalled}
-use Rattle.state.specs.Working.{before-string, after-string, state-at, HoldsState, Stands, on-store, nth, filing}
+use Rattle.layout.specs.Places.{before-string, after-string}
+use Rattle.state.specs.Working.{state-at, HoldsState, Stands, on-store, nth, filing}
 use Rattle.state.proofs.Standing.{string-is}
 use Rattle.filing.specs.Files.{Passable, RecordsReadable, Pointable, pointed-at}
 use Rattle.state.proofs.Sequences.{first-bytes, rest-bytes, bytes-within}

@@ -19,10 +19,12 @@ use Rattle.layout.specs.ComponentLaws.{records-bytes-append, records-of, whole-
 use Rattle.layout.specs.Components.{records-bytes}
 use Rattle.layout.specs.Memory.{components-held, chars-held, records-held, strings}
 use Rattle.layout.specs.MemoryLaws.{before-encoded, after-encoded}
+use Rattle.layout.specs.Places as layout
 use Rattle.gaps.specs.Pool.{abs, string, Holds}
 use Rattle.store.specs.Store.{Whole, Droppable, droppedFront}
 use Rattle.state.specs.Blocks.{totalled, Lowerable}
-use Rattle.state.specs.Working.{before-string, after-string, state-at, HoldsState, on-store, nth, filing}
+use Rattle.layout.specs.Places.{before-string, after-string}
+use Rattle.state.specs.Working.{state-at, HoldsState, on-store, nth, filing}
 use Rattle.state.proofs.Sequences.{total-ones, rest-bytes, bytes-within}
 use Rattle.state.proofs.Freed.{removed-total, held-records-off, recorded-records-off, held-records-on, recorded-records-on}
 use Rattle.state.proofs.Standing.{number-is, numbers-long, string-is}
@@ -85,7 +87,7 @@ module _ {p e n : List ℕ} {i k b c d : ℕ} (pre : RecordsDroppable p e n i k 
   count-is : total (λ (r : Record). 1) (take k (old .after)) ≡ k
   count-is = total-ones (take k (old .after)) ∙ length-take-le k (old .after) (pre .first .most)
 
-  pub records-fewer : {n₁ : List ℕ} → n₁ ≡ totalled (getD n 5 0 - c) (getD n 6 0 - d) n → Fewer n₁ k
+  pub records-fewer : {n₁ : List ℕ} → n₁ ≡ totalled (getD n layout.components-scalar 0 - c) (getD n layout.characters-scalar 0 - d) n → Fewer n₁ k
   unfolding totalled
   records-fewer q =
       let h = pre .stands in
@@ -104,7 +106,7 @@ module _ {p e n : List ℕ} {i k b c d : ℕ} (pre : RecordsDroppable p e n i k 
       rw (h .holds .is, ← before-encoded s (h .fine) i (pre .index) .is, set-getD (strings s) (before-string i) [], after-is, rest-bytes records-bytes records-bytes-append (old .after) k (pre .first .bytes-is))
 
   pub records-dropped : {e′ n₁ n′ : List ℕ} → Holds p e′ (droppedFront (after-string i) b (abs p e))
-      → n₁ ≡ totalled (getD n 5 0 - c) (getD n 6 0 - d) n → n′ ≡ set n₁ 7 (getD n₁ 7 0 - k)
+      → n₁ ≡ totalled (getD n layout.components-scalar 0 - c) (getD n layout.characters-scalar 0 - d) n → n′ ≡ set n₁ layout.records-scalar (getD n₁ layout.records-scalar 0 - k)
       → HoldsState p e′ n′ (on-store (past (nth (filing true) i) k) (state-at p e n))
   unfolding totalled past past-by past-file put-file on-store
   records-dropped g q₁ q₂ =

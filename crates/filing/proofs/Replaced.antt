@@ -15,7 +15,8 @@ use Rattle.layout.specs.Components.{records-bytes}
 use Rattle.layout.specs.Memory.{components-held, chars-held, records-held, scalars, strings}
 use Rattle.gaps.specs.Pool.{Holds}
 use Rattle.state.specs.Blocks.{totalled}
-use Rattle.state.specs.Working.{before-string, after-string, HoldsState, on-store, nth, part-total, char-total}
+use Rattle.layout.specs.Places.{before-string, after-string}
+use Rattle.state.specs.Working.{HoldsState, on-store, nth, part-total, char-total}
 use Rattle.state.proofs.Fineness.{fine-files}
 use Rattle.state.proofs.Scalars.{scalars-files}
 use Rattle.state.proofs.Sequences.{total-ones, each-set}

@@ -21,12 +21,14 @@ use Rattle.layout.specs.Memory.{components-held, chars-held, records-held, stri
 use Rattle.layout.specs.MemoryLaws.{before-encoded, after-encoded}
 use Rattle.layout.specs.FineLaws.{fine-room}
 use Rattle.layout.specs.Strings.{used}
+use Rattle.layout.specs.Places as layout
 use Rattle.gaps.proofs.Laws.{length-abs}
 use Rattle.store.proofs.Laws.{used-pushed-front, used-pushed-back}
 use Rattle.gaps.specs.Gaps.{pushedFront, pushedBack}
 use Rattle.gaps.specs.Pool.{abs, string, Holds}
 use Rattle.state.specs.Blocks.{totalled, Raisable}
-use Rattle.state.specs.Working.{before-string, after-string, state-at, HoldsState, on-store, nth, filing, turned, filed, part-total, char-total}
+use Rattle.layout.specs.Places.{before-string, after-string}
+use Rattle.state.specs.Working.{state-at, HoldsState, on-store, nth, filing, turned, filed, part-total, char-total}
 use Rattle.state.proofs.Fits.{filed-total}
 use Rattle.state.proofs.Sequences.{total-ones, turned-twice, turned-length, turned-total}
 use Rattle.state.proofs.Standing.{number-is, numbers-long}
@@ -79,7 +81,7 @@ module _ (s : List (List ℕ)) (i : ℕ) (f : File) (x : string (before-string i
       let w : string (after-string i) t ≡ records-bytes (f .after) = getD-set-other s (before-string i) (after-string i) v [] (apart i i) ∙ y in
       rw (records-bytes-append (f .before) rs, x, ← w) (sym (set-getD t (after-string i) []))
 
-used-inserted : (b : Bool) (i : ℕ) (v : List ℕ) (s : List (List ℕ)) → i < limit.files → length s ≡ 99 → used (inserted b i v s) ≡ used s + length v
+used-inserted : (b : Bool) (i : ℕ) (v : List ℕ) (s : List (List ℕ)) → i < limit.files → length s ≡ layout.strings-count → used (inserted b i v s) ≡ used s + length v
 unfolding inserted
 used-inserted true i v s l q = used-pushed-front s (after-string i) (omega arith) v
 used-inserted false i v s l q = used-pushed-back s (before-string i) (omega arith) v
@@ -153,14 +155,14 @@ module _ {p e n : List ℕ} {sc i : ℕ} (b : Bool) {new : List ℕ} {k c d : �
         characters = omega (arith, number-is h 6, pre .chars-room);
       }
 
-  pub records-more-then : {n₁ : List ℕ} → n₁ ≡ totalled (getD n 5 0 + c) (getD n 6 0 + d) n → More n₁ k
+  pub records-more-then : {n₁ : List ℕ} → n₁ ≡ totalled (getD n layout.components-scalar 0 + c) (getD n layout.characters-scalar 0 + d) n → More n₁ k
   unfolding totalled
   records-more-then q =
       let h = pre .stands in
       record { long = rw (q, h .numbers); records = rw (q, h .numbers) (pre .records-room); addresses = rw (q, h .numbers) (pre .addresses-room) }
 
-  pub records-stored : {p′ e′ n₁ n′ : List ℕ} → Holds p′ e′ (inserted b i new (abs p e)) → n₁ ≡ totalled (getD n 5 0 + c) (getD n 6 0 + d) n
-      → n′ ≡ set (set n₁ 7 (getD n₁ 7 0 + k)) 4 (getD n₁ 4 0 + k)
+  pub records-stored : {p′ e′ n₁ n′ : List ℕ} → Holds p′ e′ (inserted b i new (abs p e)) → n₁ ≡ totalled (getD n layout.components-scalar 0 + c) (getD n layout.characters-scalar 0 + d) n
+      → n′ ≡ set (set n₁ layout.records-scalar (getD n₁ layout.records-scalar 0 + k)) 4 (getD n₁ layout.last-scalar 0 + k)
       → HoldsState p′ e′ n′ (on-store (stored (nth (filing b) i) (bodies b new)) (state-at p e n))
   unfolding totalled on-store
   records-stored g q₁ q₂ =

@@ -19,7 +19,8 @@ use Rattle.gaps.specs.Pool.{abs, string, Holds}
 use Rattle.gaps.proofs.Laws.{after}
 use Rattle.store.specs.Store.{Exchangeable, exchanged}
 use Rattle.state.specs.Blocks.{totalled}
-use Rattle.state.specs.Working.{before-string, after-string, state-at, HoldsState, on-store}
+use Rattle.layout.specs.Places.{before-string, after-string}
+use Rattle.state.specs.Working.{state-at, HoldsState, on-store}
 use Rattle.state.proofs.Sequences.{total-exchanged, each-exchanged}
 use Rattle.state.proofs.Fineness.{fine-files}
 use Rattle.state.proofs.Scalars.{scalars-files}

@@ -14,9 +14,11 @@ use Rattle.layout.specs.Bounds.{EncodedRecords, WholeRecords}
 use Rattle.layout.specs.Components.{records-bytes, records-in}
 use Rattle.layout.specs.Memory.{components-held, chars-held, records-held}
 use Rattle.layout.specs.Strings.{used}
+use Rattle.layout.specs.Places as layout
 use Rattle.gaps.specs.Gaps.{pushedFront, pushedBack}
 use Rattle.gaps.specs.Pool.{abs, Fine}
-use Rattle.state.specs.Working.{before-string, after-string, state-at, Stands, nth, turned, part-total, char-total}
+use Rattle.layout.specs.Places.{before-string, after-string}
+use Rattle.state.specs.Working.{state-at, Stands, nth, turned, part-total, char-total}
 
 -- ---- reading
 
@@ -47,7 +49,7 @@ pub record RecordsDroppable (p e n : List ℕ) (i k bytes parts chars : ℕ) : T
 
 pub record Fewer (n : List ℕ) (k : ℕ) : Type 0 where
   pub long : length n ≡ 8
-  pub records : k ≤ getD n 7 0
+  pub records : k ≤ getD n layout.records-scalar 0
 
 -- ---- the pointer
 
@@ -100,8 +102,8 @@ pub record RecordsWritable (p e n : List ℕ) (scratch i : ℕ) (b : Bool) (new 
 
 pub record More (n : List ℕ) (k : ℕ) : Type 0 where
   pub long : length n ≡ 8
-  pub records : getD n 7 0 + k ≤ limit.records
-  pub addresses : getD n 4 0 + k ≤ limit.addresses
+  pub records : getD n layout.records-scalar 0 + k ≤ limit.records
+  pub addresses : getD n layout.last-scalar 0 + k ≤ limit.addresses
 
 -- n bytes can be put to the pointer of file i
 pub record Insertable (p e : List ℕ) (i n scratch : ℕ) : Type 0 where

@@ -9,13 +9,15 @@ ghost use Rattle.machine.specs.Changes.{past, stored};
 ghost use Rattle.gaps.specs.Pool.{abs, Holds};
 ghost use Rattle.state.specs.Working.{state-at, HoldsState, on-store, nth, filing};
 ghost use Rattle.filing.specs.Files.{FileNamed, RecordsLent, RecordsDroppable, Fewer, Passable, RecordsReadable, Pointable, pointed-at, bodies, RecordsWritable, More, Insertable, inserted, FilesExchangeable, files-exchanged};
+ghost use Rattle.layout.specs.Places.{records-scalar, last-scalar};
+use layout::StatePlaces;
 
 // The bytes of the records before the pointer of file `i`.
 pub fn before_bytes<'a>(pool: &'a [u8], ends: &[u32], nums: &[u32], i: usize) -> &'a [u8]
     requires { ⌜ FileNamed (now pool) (now ends) (now nums) i ⌝ }
     ensures { λ r. ⌜ RecordsLent (file-of (state-at (now (pool .entry)) (now (ends .entry)) (now (nums .entry)) .store) (nth P i) .before) (now r) ⌝ }
 {
-    store::string_of(pool, ends, 32 + 2 * i)
+    store::string_of(pool, ends, StatePlaces::FIRST_FILE + 2 * i)
 }
 
 // The bytes of the records after the pointer of file `i`.
@@ -23,16 +25,16 @@ pub fn after_bytes<'a>(pool: &'a [u8], ends: &[u32], nums: &[u32], i: usize) -> 
     requires { ⌜ FileNamed (now pool) (now ends) (now nums) i ⌝ }
     ensures { λ r. ⌜ RecordsLent (file-of (state-at (now (pool .entry)) (now (ends .entry)) (now (nums .entry)) .store) (nth P i) .after) (now r) ⌝ }
 {
-    store::string_of(pool, ends, 32 + (2 * i + 1))
+    store::string_of(pool, ends, StatePlaces::FIRST_FILE + (2 * i + 1))
 }
 
 // Takes from the total of records.
 fn fewer(nums: &mut [u32], records: usize)
     requires { ⌜ Fewer (now nums) records ⌝ }
-    ensures { λ _. ⌜ now (nums .exit) ≡ set (now (nums .entry)) 7 (getD (now (nums .entry)) 7 0 - records) ⌝ }
+    ensures { λ _. ⌜ now (nums .exit) ≡ set (now (nums .entry)) records-scalar (getD (now (nums .entry)) records-scalar 0 - records) ⌝ }
 {
-    let n = cells::read(nums, 7);
-    cells::write(nums, 7, n - records);
+    let n = cells::read(nums, StatePlaces::RECORDS_SCALAR);
+    cells::write(nums, StatePlaces::RECORDS_SCALAR, n - records);
 }
 
 // Takes the first records after the pointer of file `i` away: how many, their bytes, their components and characters.
@@ -49,7 +51,7 @@ pub fn drop_records(
     requires { ⌜ RecordsDroppable (now pool) (now ends) (now nums) i records bytes parts chars ⌝ }
     ensures { λ _. ⌜ HoldsState (now (pool .entry)) (now (ends .exit)) (now (nums .exit)) (on-store (past (nth (filing true) i) records) (state-at (now (pool .entry)) (now (ends .entry)) (now (nums .entry)))) ⌝ }
 {
-    store::drop_front(pool, ends, 32 + (2 * i + 1), bytes);
+    store::drop_front(pool, ends, StatePlaces::FIRST_FILE + (2 * i + 1), bytes);
     state::lower(nums, parts, chars);
     fewer(nums, records);
 }
@@ -73,8 +75,8 @@ pub fn pass_records(
         ends,
         scratch,
         hold,
-        32 + (2 * i + 1),
-        32 + 2 * i,
+        StatePlaces::FIRST_FILE + (2 * i + 1),
+        StatePlaces::FIRST_FILE + 2 * i,
         bytes,
     );
 }
@@ -117,15 +119,15 @@ pub fn point(
     requires { ⌜ Pointable (now pool) (now ends) (now nums) i records bytes (length (now scratch)) (length (now hold)) ⌝ }
     ensures { λ _. ⌜ HoldsState (now (pool .exit)) (now (ends .exit)) (now (nums .entry)) (on-store (pointed-at i records) (state-at (now (pool .entry)) (now (ends .entry)) (now (nums .entry)))) ⌝ }
 {
-    let n = store::len_of(pool, ends, 32 + 2 * i);
+    let n = store::len_of(pool, ends, StatePlaces::FIRST_FILE + 2 * i);
     if bytes <= n {
         store::move_back_to_front(
             pool,
             ends,
             scratch,
             hold,
-            32 + 2 * i,
-            32 + (2 * i + 1),
+            StatePlaces::FIRST_FILE + 2 * i,
+            StatePlaces::FIRST_FILE + (2 * i + 1),
             n - bytes,
         );
         return;
@@ -135,8 +137,8 @@ pub fn point(
         ends,
         scratch,
         hold,
-        32 + (2 * i + 1),
-        32 + 2 * i,
+        StatePlaces::FIRST_FILE + (2 * i + 1),
+        StatePlaces::FIRST_FILE + 2 * i,
         bytes - n,
     );
 }
@@ -154,21 +156,27 @@ fn insert(
     ensures { λ _. ⌜ Holds (now (pool .exit)) (now (ends .exit)) (inserted turned i (now (bytes .entry)) (abs (now (pool .entry)) (now (ends .entry)))) ⌝ }
 {
     if turned {
-        store::push_front(pool, ends, scratch, 32 + (2 * i + 1), bytes);
+        store::push_front(
+            pool,
+            ends,
+            scratch,
+            StatePlaces::FIRST_FILE + (2 * i + 1),
+            bytes,
+        );
         return;
     }
-    store::push_back(pool, ends, scratch, 32 + 2 * i, bytes);
+    store::push_back(pool, ends, scratch, StatePlaces::FIRST_FILE + 2 * i, bytes);
 }
 
 // Adds to the total of records and to the last address.
 fn more(nums: &mut [u32], records: usize)
     requires { ⌜ More (now nums) records ⌝ }
-    ensures { λ _. ⌜ now (nums .exit) ≡ set (set (now (nums .entry)) 7 (getD (now (nums .entry)) 7 0 + records)) 4 (getD (now (nums .entry)) 4 0 + records) ⌝ }
+    ensures { λ _. ⌜ now (nums .exit) ≡ set (set (now (nums .entry)) records-scalar (getD (now (nums .entry)) records-scalar 0 + records)) last-scalar (getD (now (nums .entry)) last-scalar 0 + records) ⌝ }
 {
-    let n = cells::read(nums, 7);
-    let last = cells::read(nums, 4);
-    cells::write(nums, 7, n + records);
-    cells::write(nums, 4, last + records);
+    let n = cells::read(nums, StatePlaces::RECORDS_SCALAR);
+    let last = cells::read(nums, StatePlaces::LAST_SCALAR);
+    cells::write(nums, StatePlaces::RECORDS_SCALAR, n + records);
+    cells::write(nums, StatePlaces::LAST_SCALAR, last + records);
 }
 
 // Writes the records in `new`, which have the next addresses, to file `i`: turned round and right after the pointer, or in their order, and then
@@ -206,13 +214,20 @@ pub fn exchange_files(
     requires { ⌜ FilesExchangeable (now pool) (now ends) (now nums) i j (length (now scratch)) (length (now hold)) ⌝ }
     ensures { λ _. ⌜ HoldsState (now (pool .exit)) (now (ends .exit)) (now (nums .entry)) (on-store (files-exchanged i j) (state-at (now (pool .entry)) (now (ends .entry)) (now (nums .entry)))) ⌝ }
 {
-    store::exchange(pool, ends, scratch, hold, 32 + 2 * i, 32 + 2 * j);
     store::exchange(
         pool,
         ends,
         scratch,
         hold,
-        32 + (2 * i + 1),
-        32 + (2 * j + 1),
+        StatePlaces::FIRST_FILE + 2 * i,
+        StatePlaces::FIRST_FILE + 2 * j,
+    );
+    store::exchange(
+        pool,
+        ends,
+        scratch,
+        hold,
+        StatePlaces::FIRST_FILE + (2 * i + 1),
+        StatePlaces::FIRST_FILE + (2 * j + 1),
     );
 }

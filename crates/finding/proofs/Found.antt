@@ -18,6 +18,7 @@ use Rattle.language.specs.Values.{sameNumber}
 use Rattle.layout.specs.CellLaws.{each-in, uncode-code, length-fours, take-unfours, block-at, first-cell, padded-at, getD-map-at}
 use Rattle.layout.specs.Cells.{cell, fours, code, uncode}
 use Rattle.layout.specs.Table.{label-cells, text-cells, counts, chars-in, text-in, text-by, label-in}
+use Rattle.layout.specs.Places as layout
 use Rattle.lists.specs.Lists.{ahead, sameBytes}
 use Rattle.machine.specs.ValueLaws.{sameNumber-eq, sameNumber-refl}
 use Rattle.packed.specs.Packed.{table-of}
@@ -86,19 +87,19 @@ module _ (c : List ℕ) (p : Program) (h : HoldsProgram c p) where
       let t : List ℕ = getD (p .texts) k [] in
       let x : List ℕ = parts p in
       let e = texts-at (counts p) (code-part p) (labels-part p) (texts-part p) (switches-part p) (entries-part p) (numbers-part p) (sizes p (h .tabular)) in
-      let q = block-at 16 text-cells text-long x _ 4104 2048 [] (p .texts) k e b in
-      let n : cell x (4104 + 16 * k) ≡ length t = first-cell x (text-cells t) (q .0) (4104 + 16 * k) (q .1) (omega arith) in
-      let z : 1 + (4104 + 16 * k) ≡ 4105 + 16 * k = omega arith in
-      let f : drop (4105 + 16 * k) x ≡ fours 15 t ++ q .0 = rw z at (behind x (fours 15 t) (q .0) (length t) (4104 + 16 * k) (q .1)) in
-      ap (λ (y : List ℕ). text-in y k) held ∙ rw n (chars-back x t (q .0) (4105 + 16 * k) f (each-in Short (p .texts) (h .tabular .texts-short) k [] b))
+      let q = block-at 16 text-cells text-long x _ layout.first-text 2048 [] (p .texts) k e b in
+      let n : cell x (layout.first-text + 16 * k) ≡ length t = first-cell x (text-cells t) (q .0) (layout.first-text + 16 * k) (q .1) (omega arith) in
+      let z : 1 + (layout.first-text + 16 * k) ≡ layout.first-characters + 16 * k = omega arith in
+      let f : drop (layout.first-characters + 16 * k) x ≡ fours 15 t ++ q .0 = rw z at (behind x (fours 15 t) (q .0) (length t) (layout.first-text + 16 * k) (q .1)) in
+      ap (λ (y : List ℕ). text-in y k) held ∙ rw n (chars-back x t (q .0) (layout.first-characters + 16 * k) f (each-in Short (p .texts) (h .tabular .texts-short) k [] b))
 
   pub name-read : (k : ℕ) → k < length (p .labels) → label-in (table-of c) k .name ≡ getD (p .labels) k no-label .name
   name-read k b =
       let l : Label = getD (p .labels) k no-label in
       let x : List ℕ = parts p in
-      let at : ℕ = 2056 + 16 * k in
+      let at : ℕ = layout.first-label + 16 * k in
       let e = labels-at (counts p) (code-part p) (labels-part p) (texts-part p) (switches-part p) (entries-part p) (numbers-part p) (sizes p (h .tabular)) in
-      let q = block-at 16 label-cells label-long x _ 2056 2048 no-label (p .labels) k e b in
+      let q = block-at 16 label-cells label-long x _ layout.first-label 2048 no-label (p .labels) k e b in
       let s : Short (l .name) = each-in (λ y. Short (y .name)) (p .labels) (h .tabular .names-short) k no-label b in
       let m = s .most in
       let n : cell x at ≡ length (l .name) + 64 * l .target = first-cell x (label-cells l) (q .0) at (q .1) (omega arith) in
@@ -106,11 +107,11 @@ module _ (c : List ℕ) (p : Program) (h : HoldsProgram c p) where
       let f = behind x (fours 15 (l .name)) (q .0) (length (l .name) + 64 * l .target) at (q .1) in
       ap (λ (y : List ℕ). label-in y k .name) held ∙ rw r (chars-back x (l .name) (q .0) (1 + at) f s)
 
-  pub number-read : (k : ℕ) → k < length (p .numbers) → cell (table-of c) (6312 + k) ≡ code (getD (p .numbers) k (pos 0))
+  pub number-read : (k : ℕ) → k < length (p .numbers) → cell (table-of c) (layout.first-number + k) ≡ code (getD (p .numbers) k (pos 0))
   number-read k b =
       let e = numbers-at (counts p) (code-part p) (labels-part p) (texts-part p) (switches-part p) (entries-part p) (numbers-part p) (sizes p (h .tabular)) in
-      ap (λ (y : List ℕ). cell y (6312 + k)) held
-      ∙ padded-at (parts p) (map code (p .numbers)) (replicate 1752 0) 6312 128 e k (rw length-map b) ∙ getD-map-at code (p .numbers) k (pos 0) 0 b
+      ap (λ (y : List ℕ). cell y (layout.first-number + k)) held
+      ∙ padded-at (parts p) (map code (p .numbers)) (replicate 1752 0) layout.first-number 128 e k (rw length-map b) ∙ getD-map-at code (p .numbers) k (pos 0) 0 b
 
 -- ---- numbers by their codes
 
@@ -166,11 +167,11 @@ module _ (c w : List ℕ) where
 
 module _ (c : List ℕ) (v : ℕ) where
   abbrev pub number-hit : ℕ → Bool
-  number-hit j = eqb (getD c (6312 + j) 0) v
+  number-hit j = eqb (getD c (layout.first-number + j) 0) v
 
   number-tests : (z : ℤ) (p : Program) → HoldsProgram c p → IsNumber v z p → (j : ℕ) → j < length (p .numbers) → number-hit j ≡ sameNumber z (getD (p .numbers) j (pos 0))
   number-tests z p h a j l =
-      let r : getD c (6312 + j) 0 ≡ code (getD (p .numbers) j (pos 0)) = sym (getD-take 8192 c (6312 + j) 0 (omega (arith, h .tabular .numbers-most))) ∙ number-read c p h j l in
+      let r : getD c (layout.first-number + j) 0 ≡ code (getD (p .numbers) j (pos 0)) = sym (getD-take 8192 c (layout.first-number + j) 0 (omega (arith, h .tabular .numbers-most))) ∙ number-read c p h j l in
       (λ i. eqb (r i) (a .is i)) ∙ same-code z (getD (p .numbers) j (pos 0)) (a .small) (each-in (λ y. natAbs y ≤ limit.size) (p .numbers) (h .tabular .numbers-small) j (pos 0) l)
 
   pub number-found : (n k : ℕ) → n ≡ cell (table-of c) 5 → n ≤ 128 → Missed number-hit k → k < n → number-hit k ≡ true

@@ -6,6 +6,7 @@ ghost use Rattle.layout.specs.Table.{text-ref, number-ref};
 ghost use Rattle.lists.specs.Lists.{ahead, sameBytes};
 ghost use Rattle.writing.specs.Writing.{IsNumber};
 ghost use Rattle.finding.specs.Finding.{Counted, Tells, TellsFor};
+use layout::TablePlaces;
 
 // The text `word` among the texts.
 pub fn find_text(table: &[u32], word: &[u8]) -> usize
@@ -31,7 +32,7 @@ pub fn find_number(table: &[u32], code: u32) -> usize
     let n = table::numbers(table);
     let mut k = 0;
     while k < n {
-        if table[table::FIRST_NUMBER + k] == code {
+        if table[TablePlaces::FIRST_NUMBER + k] == code {
             return k;
         }
         k += 1;

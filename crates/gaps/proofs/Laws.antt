@@ -10,6 +10,7 @@ use Rattle.cells.specs.Cells.{pasted}
 use Rattle.cells.proofs.Laws.{length-pasted}
 use Rattle.layout.specs.CellLaws.{length-tab, getD-tab, tab-ext}
 use Rattle.layout.specs.Strings.{used}
+use Rattle.layout.specs.Places as layout
 use Rattle.gaps.specs.Pool.{lo, hi, str, abs, string, Ordered, Fine, Holds}
 use Rattle.gaps.specs.Gaps.{GapStart, GapEnd, Gap, pushedFront, pushedBack, Made}
 use Rattle.gaps.proofs.Index.{used-set}
@@ -17,19 +18,19 @@ use Rattle.gaps.proofs.Parts.{same-or, part-before, part-behind, part-f
 
 -- the strings
 
-pub length-abs : (p e : List ℕ) → length (abs p e) ≡ 99
+pub length-abs : (p e : List ℕ) → length (abs p e) ≡ layout.strings-count
 unfolding abs
-length-abs p e = length-tab 99 (λ (i : ℕ). str p e i)
+length-abs p e = length-tab layout.strings-count (λ (i : ℕ). str p e i)
 
-pub string-is : (p e : List ℕ) (i : ℕ) → i < 99 → string i (abs p e) ≡ str p e i
+pub string-is : (p e : List ℕ) (i : ℕ) → i < layout.strings-count → string i (abs p e) ≡ str p e i
 unfolding abs
-string-is p e i h = getD-tab 99 (λ (k : ℕ). str p e k) i [] h
+string-is p e i h = getD-tab layout.strings-count (λ (k : ℕ). str p e k) i [] h
 
-pub string-part : (p e : List ℕ) (i : ℕ) → i < 99 → string i (abs p e) ≡ take (hi e i - lo e i) (drop (lo e i) p)
+pub string-part : (p e : List ℕ) (i : ℕ) → i < layout.strings-count → string i (abs p e) ≡ take (hi e i - lo e i) (drop (lo e i) p)
 unfolding str
 string-part p e i b = string-is p e i b
 
-pub hold : {p e : List ℕ} {s : List (List ℕ)} → length p ≡ 65536 → Ordered e → length s ≡ 99 → used s ≤ 32768 → ((j : ℕ) → j < 99 → str p e j ≡ string j s) → Holds p e s
+pub hold : {p e : List ℕ} {s : List (List ℕ)} → length p ≡ 65536 → Ordered e → length s ≡ layout.strings-count → used s ≤ 32768 → ((j : ℕ) → j < layout.strings-count → str p e j ≡ string j s) → Holds p e s
 unfolding abs
 hold {p} {e} {s} z o l u h =
     let q : abs p e ≡ s = rw l at (tab-ext [] s (λ (i : ℕ). str p e i) (λ i b. h i (rw l at b))) in
@@ -48,7 +49,7 @@ after h f k = rw (h .is) at k
 pub fine-holds : {p e : List ℕ} → Fine p e → Holds p e (abs p e)
 fine-holds f = record { fine = f; is = refl; fits = f .fits }
 
-pub count : {p e : List ℕ} {s : List (List ℕ)} → Holds p e s → length s ≡ 99
+pub count : {p e : List ℕ} {s : List (List ℕ)} → Holds p e s → length s ≡ layout.strings-count
 count {p} {e} h = sym (ap length (h .is)) ∙ length-abs p e
 
 -- where string i lies, and how long it is
@@ -56,7 +57,7 @@ pub record Span (e : List ℕ) (i : ℕ) : Type 0 where
   pub ordered : lo e i ≤ hi e i
   pub most : hi e i ≤ 65536
 
-pub spanned : {e : List ℕ} {i : ℕ} → Ordered e → i < 99 → Span e i
+pub spanned : {e : List ℕ} {i : ℕ} → Ordered e → i < layout.strings-count → Span e i
 spanned {i = i} o b = record { ordered = o .order (2 * i) (2 * i + 1) (omega arith) (omega arith); most = o .last (2 * i + 1) (omega arith) }
 
 pub length-str : (p e : List ℕ) (i : ℕ) → lo e i ≤ hi e i → hi e i ≤ length p → lo e i + length (str p e i) ≡ hi e i
@@ -68,14 +69,14 @@ pub record Shape (p e : List ℕ) (i : ℕ) : Type 0 where
   pub most : hi e i ≤ 65536
   pub long : lo e i + length (string i (abs p e)) ≡ hi e i
 
-pub shaped : {p e : List ℕ} {i : ℕ} → Fine p e → i < 99 → Shape p e i
+pub shaped : {p e : List ℕ} {i : ℕ} → Fine p e → i < layout.strings-count → Shape p e i
 shaped {p} {e} {i} f b =
     let s = spanned (f .ordered) b in
     record { ordered = s .ordered; most = s .most; long = rw (string-is p e i b) (length-str p e i (s .ordered) (omega (arith, s .most, f .size))) }
 
 -- THE LAW OF ONE STRING: where every other string's part is what it was, the strings are those with one replaced
-pub changed : (p e : List ℕ) {p′ e′ : List ℕ} (i : ℕ) (v : List ℕ) → length p′ ≡ 65536 → Ordered e′ → i < 99 → used (abs p e) + length v ≤ 32768 + length (string i (abs p e)) → str p′ e′ i ≡ v
-    → ((j : ℕ) → j < 99 → (j ≡ i → ⊥) → str p′ e′ j ≡ str p e j) → Holds p′ e′ (set (abs p e) i v)
+pub changed : (p e : List ℕ) {p′ e′ : List ℕ} (i : ℕ) (v : List ℕ) → length p′ ≡ 65536 → Ordered e′ → i < layout.strings-count → used (abs p e) + length v ≤ 32768 + length (string i (abs p e)) → str p′ e′ i ≡ v
+    → ((j : ℕ) → j < layout.strings-count → (j ≡ i → ⊥) → str p′ e′ j ≡ str p e j) → Holds p′ e′ (set (abs p e) i v)
 changed p e {p′} {e′} i v z o b u h k =
     let b′ : i < length (abs p e) = rw (length-abs p e) b in
     hold z o (length-set (abs p e) i v ∙ length-abs p e) (omega (arith, used-set (abs p e) i v b′))
@@ -86,7 +87,7 @@ changed p e {p′} {e′} i v z o b u h k =
 
 -- one cell is set
 
-pub ordered-set : {e : List ℕ} (c v : ℕ) → Ordered e → c < 198 → v ≤ 65536 → ((k : ℕ) → k < c → getD e k 0 ≤ v) → ((k : ℕ) → c < k → k < 198 → v ≤ getD e k 0) → Ordered (set e c v)
+pub ordered-set : {e : List ℕ} (c v : ℕ) → Ordered e → c < layout.ends-count → v ≤ 65536 → ((k : ℕ) → k < c → getD e k 0 ≤ v) → ((k : ℕ) → c < k → k < layout.ends-count → v ≤ getD e k 0) → Ordered (set e c v)
 ordered-set {e} c v f b m below above =
     let same : getD (set e c v) c 0 ≡ v = getD-set-same e c v 0 (rw (f .cells) b) in
     let less : (k : ℕ) → k < c → getD (set e c v) k 0 ≡ getD e k 0 = λ k h. getD-set-other e c k v 0 (λ q. omega arith) in
@@ -144,7 +145,7 @@ str-pasted p e at s j h l w =
 
 -- bytes are put at string i
 
-module _ {p e : List ℕ} {i : ℕ} (f : Fine p e) (b : i < 99) where
+module _ {p e : List ℕ} {i : ℕ} (f : Fine p e) (b : i < layout.strings-count) where
   pub low-cell : 2 * i < length e
   low-cell = rw (f .ordered .cells) (omega arith)
 
@@ -152,7 +153,7 @@ module _ {p e : List ℕ} {i : ℕ} (f : Fine p e) (b : i < 99) where
   high-cell = rw (f .ordered .cells) (omega arith)
 
   -- string j lies on one side of string i
-  side : (j : ℕ) → j < 99 → (j ≡ i → ⊥) → (j < i) ⊎ (i < j)
+  side : (j : ℕ) → j < layout.strings-count → (j ≡ i → ⊥) → (j < i) ⊎ (i < j)
   side j c n = ⊎-elim (λ q. absurd (n q)) (λ w. w) (same-or j i)
 
   pub front-pushed : (s : List ℕ) → Gap e i (length s) → used (abs p e) + length s ≤ 32768 → Holds (pasted p (lo e i - length s) s) (set e (2 * i) (lo e i - length s)) (pushedFront i s (abs p e))

@@ -9,6 +9,7 @@ use lib.Seq.{getD-set-same, getD-set-other}
 use Rattle.cells.specs.Cells.{pasted}
 use Rattle.cells.proofs.Laws.{length-pasted}
 use Rattle.layout.specs.Strings.{used}
+use Rattle.layout.specs.Places as layout
 use Rattle.gaps.specs.Pool.{lo, hi, str, abs, string, offset, Ordered, Fine, Holds}
 use Rattle.gaps.specs.Gaps.{LaidOne, Carriable, Carried, Extra, Settleable, Settled, Spreadable, Made}
 use Rattle.gaps.proofs.Index.{offset-zero, offset-next, offset-within, offset-all}
@@ -42,12 +43,12 @@ which k j h = ⊎-elim (λ x. inr (inl x)) (λ w. ⊎-elim (λ x. inl x) (λ x. 
 
 -- the first j strings of s are laid out, up to `at`
 pub record Laid (p e : List ℕ) (j at : ℕ) (s : List (List ℕ)) : Type 0 where
-  pub cells : length e ≡ 198
+  pub cells : length e ≡ layout.ends-count
   pub order : (a b : ℕ) → a ≤ b → b < 2 * j → getD e a 0 ≤ getD e b 0
   pub last : (b : ℕ) → b < 2 * j → getD e b 0 ≤ at
   pub is : (k : ℕ) → k < j → str p e k ≡ string k s
 
-pub laid-none : {p e : List ℕ} {s : List (List ℕ)} (at : ℕ) → length e ≡ 198 → Laid p e 0 at s
+pub laid-none : {p e : List ℕ} {s : List (List ℕ)} (at : ℕ) → length e ≡ layout.ends-count → Laid p e 0 at s
 laid-none at l = record { cells = l; order = λ a b h k. absurd (none b k); last = λ b k. absurd (none b k); is = λ k h. absurd (none′ k h) }
   where
     none : (b : ℕ) → b < 2 * 0 → ⊥
@@ -57,7 +58,7 @@ laid-none at l = record { cells = l; order = λ a b h k. absurd (none b k); last
     none′ b k = omega arith
 
 -- one string more
-module _ {p e p′ e′ b : List ℕ} {j at to : ℕ} {s : List (List ℕ)} (l : Laid p e j at s) (i : j < 99) (le : at ≤ to) (in-p : to + length b ≤ length p)
+module _ {p e p′ e′ b : List ℕ} {j at to : ℕ} {s : List (List ℕ)} (l : Laid p e j at s) (i : j < layout.strings-count) (le : at ≤ to) (in-p : to + length b ≤ length p)
     (is : b ≡ string j s) (o : LaidOne p e j to b p′ e′) where
   pair : Two e e′ j to (to + length b)
   pair = rw (o .ends) (both e j to (to + length b) (omega (arith, l .cells)))
@@ -119,7 +120,7 @@ module _ {p e p′ e′ b : List ℕ} {j at to : ℕ} {s : List (List ℕ)} (l :
   laid-low : getD e′ (2 * j) 0 ≡ to
   laid-low = pair .low
 
-pub laid-all : {p e : List ℕ} {at : ℕ} {s : List (List ℕ)} → Laid p e 99 at s → at ≤ 65536 → length p ≡ 65536 → length s ≡ 99 → used s ≤ 32768 → Holds p e s
+pub laid-all : {p e : List ℕ} {at : ℕ} {s : List (List ℕ)} → Laid p e layout.strings-count at s → at ≤ 65536 → length p ≡ 65536 → length s ≡ layout.strings-count → used s ≤ 32768 → Holds p e s
 laid-all l h k n u =
     hold k (record { cells = l .cells; order = λ a b x y. l .order a b x (omega arith); last = λ b x. omega (arith, l .last b (omega arith)) }) n u (λ j x. l .is j x)
 
@@ -130,16 +131,16 @@ record Freed (e : List ℕ) (i n : ℕ) : Type 0 where
   all : (k : ℕ) → k < 2 * i → getD e k 0 + n ≤ lo e i
 
 pub record Moving (p e₀ q₀ : List ℕ) (i n : ℕ) (e q : List ℕ) (at j : ℕ) : Type 0 where
-  pub upto : j ≤ 99
+  pub upto : j ≤ layout.strings-count
   pub long : length q ≡ length q₀
-  pub cells : length e ≡ 198
+  pub cells : length e ≡ layout.ends-count
   pub laid : Laid q e j at (abs p e₀)
   pub kept : (k : ℕ) → 2 * j ≤ k → getD e k 0 ≡ getD e₀ k 0
   pub most : at ≤ 320 * j + offset j (abs p e₀) + n
   pub less : j ≤ i → at ≤ 320 * j + offset j (abs p e₀)
   freed : i < j → Freed e i n
 
-pub moving-none : (p e₀ q₀ : List ℕ) (i n : ℕ) → length e₀ ≡ 198 → Moving p e₀ q₀ i n e₀ q₀ 0 0
+pub moving-none : (p e₀ q₀ : List ℕ) (i n : ℕ) → length e₀ ≡ layout.ends-count → Moving p e₀ q₀ i n e₀ q₀ 0 0
 moving-none p e₀ q₀ i n l = record {
   upto = omega arith;
   long = refl;
@@ -157,7 +158,7 @@ moving-none p e₀ q₀ i n l = record {
 pub at-fits : {p e₀ q₀ e q : List ℕ} {i n at j sc : ℕ} → Spreadable p e₀ i n sc → Moving p e₀ q₀ i n e q at j → at ≤ 65536
 at-fits {p} {e₀} {j = j} pre m = omega (arith, m .most, m .upto, offset-within (abs p e₀) j, pre .total)
 
-module _ {p e₀ q₀ e q : List ℕ} {i n at j sc r : ℕ} (pre : Spreadable p e₀ i n sc) (m : Moving p e₀ q₀ i n e q at j) (h : j < 99) (added : Extra j i n r)
+module _ {p e₀ q₀ e q : List ℕ} {i n at j sc r : ℕ} (pre : Spreadable p e₀ i n sc) (m : Moving p e₀ q₀ i n e q at j) (h : j < layout.strings-count) (added : Extra j i n r)
     (sp : 65536 ≤ length q₀) where
   lo-is : lo e j ≡ lo e₀ j
   lo-is = m .kept (2 * j) (omega arith)
@@ -226,11 +227,11 @@ module _ {p e₀ q₀ e q : List ℕ} {i n at j sc r : ℕ} (pre : Spreadable p 
       }
 
 -- its end: what was laid can be copied back, and was
-module _ {p e₀ q₀ e q : List ℕ} {i n at j sc : ℕ} (pre : Spreadable p e₀ i n sc) (m : Moving p e₀ q₀ i n e q at j) (h : 99 ≤ j) (sp : 65536 ≤ length q₀) where
-  at-end : j ≡ 99
+module _ {p e₀ q₀ e q : List ℕ} {i n at j sc : ℕ} (pre : Spreadable p e₀ i n sc) (m : Moving p e₀ q₀ i n e q at j) (h : layout.strings-count ≤ j) (sp : 65536 ≤ length q₀) where
+  at-end : j ≡ layout.strings-count
   at-end = omega (arith, m .upto)
 
-  laid-end : Laid q e 99 at (abs p e₀)
+  laid-end : Laid q e layout.strings-count at (abs p e₀)
   laid-end = rw at-end at (m .laid)
 
   all-start : offset j (abs p e₀) ≤ used (abs p e₀)
@@ -249,11 +250,11 @@ module _ {p e₀ q₀ e q : List ℕ} {i n at j sc : ℕ} (pre : Spreadable p e�
   pub settleable : Settleable p e q
   settleable = record { ordered = ordered-back; size = pre .fine .size; spare = omega (arith, m .long) }
 
-  pub moved : {p′ : List ℕ} → Settled p′ e q 99 → Made p′ e (abs p e₀) i n
+  pub moved : {p′ : List ℕ} → Settled p′ e q layout.strings-count → Made p′ e (abs p e₀) i n
   moved s = record {
     holds = hold (s .size) ordered-back (length-abs p e₀) (pre .fine .fits) (λ k x. s .is k x ∙ laid-end .is k x);
     gap = ⊎-elim
-        (λ (x : i < 99). let g = m .freed (omega arith) in
+        (λ (x : i < layout.strings-count). let g = m .freed (omega arith) in
         record {
           low = lo e i - n;
           high = lo e i;
@@ -261,17 +262,17 @@ module _ {p e₀ q₀ e q : List ℕ} {i n at j sc : ℕ} (pre : Spreadable p e�
           after = record { all = λ k y z. ordered-back .order (2 * i) k y z; most = ordered-back .last (2 * i) (omega arith) };
           room = omega (arith, g .first);
         })
-        (λ (x : 99 ≤ i). record {
+        (λ (x : layout.strings-count ≤ i). record {
           low = at;
           high = 65536;
           before = record { all = λ k z. laid-end .last k (omega (arith, pre .index)); most = top };
           after = record { all = λ k y z. absurd (none k y z x); most = omega arith };
           room = omega (arith, m .less (omega (arith, m .upto)), at-end, all-start, pre .total);
         })
-        (below-or i 99);
+        (below-or i layout.strings-count);
   }
     where
-      none : (k : ℕ) → 2 * i ≤ k → k < 198 → 99 ≤ i → ⊥
+      none : (k : ℕ) → 2 * i ≤ k → k < layout.ends-count → layout.strings-count ≤ i → ⊥
       none k a b c = omega arith
 
 -- the loop that copies them back
@@ -281,7 +282,7 @@ settled-none pre = record { upto = omega arith; size = pre .size; is = λ k h. a
     none : (k : ℕ) → k < 0 → ⊥
     none k h = omega arith
 
-pub settled-more : {p₀ p e q p′ : List ℕ} {j : ℕ} → Settleable p₀ e q → Settled p e q j → j < 99 → p′ ≡ pasted p (lo e j) (str q e j) → Settled p′ e q (j + 1)
+pub settled-more : {p₀ p e q p′ : List ℕ} {j : ℕ} → Settleable p₀ e q → Settled p e q j → j < layout.strings-count → p′ ≡ pasted p (lo e j) (str q e j) → Settled p′ e q (j + 1)
 unfolding str
 settled-more {p = p} {e} {q} {j = j} pre m h o =
     let b : List ℕ = str q e j in
@@ -298,26 +299,26 @@ settled-more {p = p} {e} {q} {j = j} pre m h o =
           (below-or k j);
     }
 
-pub settled-all : {p e q : List ℕ} {j : ℕ} → Settled p e q j → 99 ≤ j → Settled p e q 99
+pub settled-all : {p e q : List ℕ} {j : ℕ} → Settled p e q j → layout.strings-count ≤ j → Settled p e q layout.strings-count
 settled-all m h = record { upto = omega arith; size = m .size; is = λ k x. m .is k (omega arith) }
 
 -- the loop that counts them
 pub record Counted (p e : List ℕ) (n j : ℕ) : Type 0 where
-  pub upto : j ≤ 99
+  pub upto : j ≤ layout.strings-count
   pub is : n ≡ offset j (abs p e)
   pub most : n ≤ 32768
 
 pub counted-none : {p e : List ℕ} → Counted p e 0 0
 counted-none {p} {e} = record { upto = omega arith; is = sym (offset-zero (abs p e)); most = omega arith }
 
-pub counted-more : {p e : List ℕ} {n j a b : ℕ} → Fine p e → Counted p e n j → j < 99 → a ≡ lo e j → b ≡ hi e j → Counted p e (n + (b - a)) (j + 1)
+pub counted-more : {p e : List ℕ} {n j a b : ℕ} → Fine p e → Counted p e n j → j < layout.strings-count → a ≡ lo e j → b ≡ hi e j → Counted p e (n + (b - a)) (j + 1)
 counted-more {p} {e} {j = j} f c h aq bq =
     let s = shaped f h in
     let q = offset-next (abs p e) j (rw (length-abs p e) h) in
     let w = offset-within (abs p e) j in
     record { upto = omega arith; is = omega (arith, c .is); most = omega (arith, c .is, f .fits) }
 
-pub counted-all : {p e : List ℕ} {n j : ℕ} → Counted p e n j → 99 ≤ j → n ≡ used (abs p e)
+pub counted-all : {p e : List ℕ} {n j : ℕ} → Counted p e n j → layout.strings-count ≤ j → n ≡ used (abs p e)
 counted-all {p} {e} {j = j} c h =
-    let q : j ≡ 99 = omega (arith, c .upto) in
-    c .is ∙ rw q (offset-all (abs p e) 99 (length-abs p e))
+    let q : j ≡ layout.strings-count = omega (arith, c .upto) in
+    c .is ∙ rw q (offset-all (abs p e) layout.strings-count (length-abs p e))

@@ -5,6 +5,7 @@ use Prim.Native.Nat.{ℕ, _+_, _-_, _*_, _≤_, _<_}
 use lib.ListN.{length, getD, set}
 use Rattle.cells.specs.Cells.{pasted}
 use Rattle.layout.specs.Strings.{used}
+use Rattle.layout.specs.Places as layout
 use Rattle.gaps.specs.Pool.{lo, hi, str, abs, string, Ordered, Fine, Holds}
 
 -- no cell before the gap i is more than r, and none behind it is less
@@ -13,7 +14,7 @@ pub record GapStart (e : List ℕ) (i r : ℕ) : Type 0 where
   pub most : r ≤ 65536
 
 pub record GapEnd (e : List ℕ) (i r : ℕ) : Type 0 where
-  pub all : (k : ℕ) → 2 * i ≤ k → k < 198 → r ≤ getD e k 0
+  pub all : (k : ℕ) → 2 * i ≤ k → k < layout.ends-count → r ≤ getD e k 0
   pub most : r ≤ 65536
 
 -- the gap i has room for n bytes
@@ -26,12 +27,12 @@ pub record Gap (e : List ℕ) (i n : ℕ) : Type 0 where
 
 pub record Edge (e : List ℕ) (i : ℕ) : Type 0 where
   pub ordered : Ordered e
-  pub index : i ≤ 99
+  pub index : i ≤ layout.strings-count
 
 -- n bytes can be put at string i, into the gap g
 pub record Roomy (p e : List ℕ) (i g n : ℕ) : Type 0 where
   pub fine : Fine p e
-  pub index : i < 99
+  pub index : i < layout.strings-count
   pub gap : Gap e g n
   pub total : used (abs p e) + n ≤ 32768
 
@@ -43,8 +44,8 @@ pushedBack i b s = set s i (string i s ++ b)
 
 -- bytes can be laid into the pool from `at` on, as string j
 pub record Layable (p e : List ℕ) (j at n : ℕ) : Type 0 where
-  pub index : j < 99
-  pub cells : length e ≡ 198
+  pub index : j < layout.strings-count
+  pub cells : length e ≡ layout.ends-count
   pub within : at + n ≤ 65536
   pub size : 65536 ≤ length p
 
@@ -54,8 +55,8 @@ pub record LaidOne (p e : List ℕ) (j at : ℕ) (b p′ e′ : List ℕ) : Type
 
 -- string j of the pool p can be laid into the pool q from `at` on, and was, up to r
 pub record Carriable (p e q : List ℕ) (j at : ℕ) : Type 0 where
-  pub index : j < 99
-  pub cells : length e ≡ 198
+  pub index : j < layout.strings-count
+  pub cells : length e ≡ layout.ends-count
   pub ordered : lo e j ≤ hi e j
   pub most : hi e j ≤ length p
   pub within : at + (hi e j - lo e j) ≤ 65536
@@ -78,21 +79,21 @@ pub record Settleable (p e q : List ℕ) : Type 0 where
   pub spare : 65536 ≤ length q
 
 pub record Settled (p e q : List ℕ) (j : ℕ) : Type 0 where
-  pub upto : j ≤ 99
+  pub upto : j ≤ layout.strings-count
   pub size : length p ≡ 65536
   pub is : (k : ℕ) → k < j → str p e k ≡ str q e k
 
 -- the strings can be laid out with n bytes more in the gap i
 pub record Spreadable (p e : List ℕ) (i n scratch : ℕ) : Type 0 where
   pub fine : Fine p e
-  pub index : i ≤ 99
+  pub index : i ≤ layout.strings-count
   pub total : used (abs p e) + n ≤ 33856
   pub spare : 65536 ≤ scratch
 
 -- n bytes more are allowed, and the gap i is to have room for them
 pub record Wanted (p e : List ℕ) (i n scratch : ℕ) : Type 0 where
   pub fine : Fine p e
-  pub index : i ≤ 99
+  pub index : i ≤ layout.strings-count
   pub total : used (abs p e) + n ≤ 32768
   pub spare : 65536 ≤ scratch
 

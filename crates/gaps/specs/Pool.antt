@@ -6,6 +6,7 @@ use Prim.Native.Nat.{ℕ, _+_, _-_, _*_, _≤_, _<_}
 use lib.ListN.{length, take, drop, getD}
 use Rattle.layout.specs.Cells.{tab}
 use Rattle.layout.specs.Strings.{used}
+use Rattle.layout.specs.Places as layout
 
 -- where string i starts and ends
 abbrev pub lo : List ℕ → ℕ → ℕ
@@ -19,7 +20,7 @@ str p e i = take (hi e i - lo e i) (drop (lo e i) p)
 
 -- the strings
 unfoldable pub abs : List ℕ → List ℕ → List (List ℕ)
-abs p e = tab 99 (λ (i : ℕ). str p e i)
+abs p e = tab layout.strings-count (λ (i : ℕ). str p e i)
 
 -- string i of a list
 abbrev pub string : ℕ → List (List ℕ) → List ℕ
@@ -30,9 +31,9 @@ unfoldable pub offset : ℕ → List (List ℕ) → ℕ
 offset j s = used (take j s)
 
 pub record Ordered (e : List ℕ) : Type 0 where
-  pub cells : length e ≡ 198
-  pub order : (j k : ℕ) → j ≤ k → k < 198 → getD e j 0 ≤ getD e k 0
-  pub last : (k : ℕ) → k < 198 → getD e k 0 ≤ 65536
+  pub cells : length e ≡ layout.ends-count
+  pub order : (j k : ℕ) → j ≤ k → k < layout.ends-count → getD e j 0 ≤ getD e k 0
+  pub last : (k : ℕ) → k < layout.ends-count → getD e k 0 ≤ 65536
 
 -- pool and cells hold strings
 pub record Fine (p e : List ℕ) : Type 0 where

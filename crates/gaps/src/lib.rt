@@ -5,10 +5,10 @@ ghost use lib.ListN.{length};
 ghost use Rattle.layout.specs.Strings.{used};
 ghost use Rattle.gaps.specs.Pool.{abs, Fine, Holds};
 ghost use Rattle.gaps.specs.Gaps.{GapStart, GapEnd, Edge, Roomy, pushedFront, pushedBack, Layable, LaidOne, Carriable, Carried, Extra, Settleable, Settled, Spreadable, Wanted, Made};
+ghost use Rattle.layout.specs.Places.{strings-count};
+use layout::StatePlaces;
 
-// How many strings there are, how many bytes the pool has, and how far apart strings are laid.
-pub const COUNT: usize = 99;
-
+// How many bytes the pool has, and how far apart strings are laid.
 pub const SIZE: usize = 65536;
 
 pub const APART: usize = 320;
@@ -29,7 +29,7 @@ fn gap_end(ends: &[u32], i: usize) -> usize
     requires { ⌜ Edge (now ends) i ⌝ }
     ensures { λ r. ⌜ GapEnd (now (ends .entry)) i r ⌝ }
 {
-    if i == COUNT {
+    if i == StatePlaces::STRINGS_COUNT {
         return SIZE;
     }
     cells::read(ends, 2 * i)
@@ -91,10 +91,10 @@ fn carry(pool: &[u8], ends: &mut [u32], scratch: &mut [u8], j: usize, at: usize)
 // Copies each string from where it lies in `scratch` to the same place in `pool`.
 fn settle(pool: &mut [u8], ends: &[u32], scratch: &[u8])
     requires { ⌜ Settleable (now pool) (now ends) (now scratch) ⌝ }
-    ensures { λ _. ⌜ Settled (now (pool .exit)) (now (ends .entry)) (now (scratch .entry)) 99 ⌝ }
+    ensures { λ _. ⌜ Settled (now (pool .exit)) (now (ends .entry)) (now (scratch .entry)) strings-count ⌝ }
 {
     let mut j = 0;
-    while j < COUNT {
+    while j < StatePlaces::STRINGS_COUNT {
         let a = cells::read(ends, 2 * j);
         let b = cells::read(ends, 2 * j + 1);
         cells::put(pool, a, &scratch[a..b]);
@@ -109,7 +109,7 @@ fn relayout(pool: &mut [u8], ends: &mut [u32], scratch: &mut [u8], i: usize, n: 
 {
     let mut at = 0;
     let mut j = 0;
-    while j < COUNT {
+    while j < StatePlaces::STRINGS_COUNT {
         let to = at + APART + only_at(j, i, n);
         at = carry(pool, ends, scratch, j, to);
         j += 1;
@@ -124,7 +124,7 @@ fn total_len(pool: &[u8], ends: &[u32]) -> usize
 {
     let mut n = 0;
     let mut j = 0;
-    while j < COUNT {
+    while j < StatePlaces::STRINGS_COUNT {
         let a = cells::read(ends, 2 * j);
         let b = cells::read(ends, 2 * j + 1);
         n += b - a;
@@ -144,5 +144,11 @@ pub fn make_room(pool: &mut [u8], ends: &mut [u32], scratch: &mut [u8], i: usize
         return;
     }
     let held = total_len(pool, ends);
-    relayout(pool, ends, scratch, i, SIZE - COUNT * APART - held);
+    relayout(
+        pool,
+        ends,
+        scratch,
+        i,
+        SIZE - StatePlaces::STRINGS_COUNT * APART - held,
+    );
 }

@@ -1,3 +1,5 @@
+pub mod Places
+pub mod PlaceLaws
 pub mod Cells
 pub mod Table
 pub mod Components

@@ -13,6 +13,7 @@ use Rattle.machine.specs.WellFormed.{good-state}
 use Rattle.layout.specs.Cells.{two, three, three-at}
 use Rattle.layout.specs.Components.{components-bytes, records-bytes, components-in, records-in}
 use Rattle.layout.specs.Strings.{string-cells, strings-in}
+use Rattle.layout.specs.Places as layout
 
 -- ---- writing
 
@@ -67,18 +68,18 @@ state-by vs ns =
     record {
       store = record {
         exprs = map components-in (take limit.expressions vs);
-        files = files-in limit.files (drop 32 vs);
-        plus = eqb (getD ns 0 0) 1;
-        outputs = drop 97 vs;
-        places = getD ns 1 0 ∷ getD ns 2 0 ∷ [];
-        last = getD ns 4 0;
+        files = files-in limit.files (drop layout.first-file vs);
+        plus = eqb (getD ns layout.plus-scalar 0) 1;
+        outputs = drop layout.first-output vs;
+        places = getD ns layout.first-place 0 ∷ getD ns layout.second-place 0 ∷ [];
+        last = getD ns layout.last-scalar 0;
       };
-      next = getD ns 3 0;
-      stack = twos-in (getD vs 96 []);
+      next = getD ns layout.next-scalar 0;
+      stack = twos-in (getD vs layout.stack-string []);
     }
 
 unfoldable pub state-in : List ℕ → State
-state-in m = state-by (strings-in (drop 24 m)) (threes-in 8 m)
+state-in m = state-by (strings-in (drop layout.first-length m)) (threes-in layout.scalars-count m)
 
 -- ---- question 63
 

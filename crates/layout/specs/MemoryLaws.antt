@@ -23,6 +23,7 @@ use Rattle.layout.specs.FineLaws.{good-fine, good-strings-below, fine-ro
 use Rattle.layout.specs.Memory.{scalars, file-strings, strings, state-cells, threes-in, files-in, twos-in, state-by, state-in, state-of, long-enough, good-memory, written}
 use Rattle.layout.specs.StringLaws.{strings-short, strings-back, length-string-cells, string-cells-below}
 use Rattle.layout.specs.Strings.{lengths, used, string-cells, strings-in}
+use Rattle.layout.specs.Places as layout
 
 -- ---- numbers and strings, read back
 
@@ -101,7 +102,7 @@ module _ (s : State) (f : Fine s) where
   length-F : length F ≡ 64
   length-F = rw (length-file-strings, f .files-is)
 
-  pub length-strings : length (strings s) ≡ 99
+  pub length-strings : length (strings s) ≡ layout.strings-count
   unfolding strings
   length-strings = simp length-append (omega (arith, length-E, length-F, f .outputs-is))
 
@@ -109,9 +110,9 @@ module _ (s : State) (f : Fine s) where
   unfolding strings
   drop-E = drop-at E (F ++ R) 32 length-E
 
-  drop-F : drop 96 (strings s) ≡ R
+  drop-F : drop layout.stack-string (strings s) ≡ R
   unfolding strings
-  drop-F = rw (← append-assoc E F R) (drop-at (E ++ F) R 96 (simp length-append (omega (arith, length-E, length-F))))
+  drop-F = rw (← append-assoc E F R) (drop-at (E ++ F) R layout.stack-string (simp length-append (omega (arith, length-E, length-F))))
 
   read-E : map components-in (take 32 (strings s)) ≡ s .store .exprs
   unfolding strings
@@ -120,13 +121,13 @@ module _ (s : State) (f : Fine s) where
   read-F : files-in 32 (drop 32 (strings s)) ≡ s .store .files
   read-F = rw drop-E (ap (λ n. files-in n (F ++ R)) (sym (f .files-is)) ∙ files-back (s .store .files) R (f .files-ok))
 
-  read-O : drop 97 (strings s) ≡ s .store .outputs
-  read-O = sym (drop-drop 1 96 (strings s)) ∙ rw drop-F refl
+  read-O : drop layout.first-output (strings s) ≡ s .store .outputs
+  read-O = sym (drop-drop 1 layout.stack-string (strings s)) ∙ rw drop-F refl
 
-  pub string-stack : getD (strings s) 96 [] ≡ each two (s .stack)
-  string-stack = sym (getD-drop 96 (strings s) 0 []) ∙ rw drop-F refl
+  pub string-stack : getD (strings s) layout.stack-string [] ≡ each two (s .stack)
+  string-stack = sym (getD-drop layout.stack-string (strings s) 0 []) ∙ rw drop-F refl
 
-  read-S : twos-in (getD (strings s) 96 []) ≡ s .stack
+  read-S : twos-in (getD (strings s) layout.stack-string []) ≡ s .stack
   read-S = rw string-stack (twos-back (s .stack))
 
   -- the strings and the scalars say all of a state
@@ -142,17 +143,17 @@ module _ (s : State) (f : Fine s) where
   unfolding strings components-bytes
   string-expr k h = List·getD-append E (F ++ R) [] k (rw length-E h) ∙ List·getD-map components-bytes (s .store .exprs) k []
 
-  file-at : (j : ℕ) → j < 64 → getD (strings s) (32 + j) [] ≡ getD F j []
+  file-at : (j : ℕ) → j < layout.file-strings-count → getD (strings s) (layout.first-file + j) [] ≡ getD F j []
   file-at j h = sym (getD-drop 32 (strings s) j []) ∙ rw drop-E (List·getD-append F R [] j (rw length-F h))
 
-  pub string-before : (k : ℕ) → k < 32 → getD (strings s) (32 + 2 * k) [] ≡ records-bytes (getD (s .store .files) k empty-file .before)
+  pub string-before : (k : ℕ) → k < 32 → getD (strings s) (layout.before-string k) [] ≡ records-bytes (getD (s .store .files) k empty-file .before)
   string-before k h = file-at (2 * k) (omega arith) ∙ file-before (s .store .files) k
 
-  pub string-after : (k : ℕ) → k < 32 → getD (strings s) (32 + (2 * k + 1)) [] ≡ records-bytes (getD (s .store .files) k empty-file .after)
+  pub string-after : (k : ℕ) → k < 32 → getD (strings s) (layout.after-string k) [] ≡ records-bytes (getD (s .store .files) k empty-file .after)
   string-after k h = file-at (2 * k + 1) (omega arith) ∙ file-after (s .store .files) k
 
-  pub string-output : (k : ℕ) → getD (strings s) (97 + k) [] ≡ getD (s .store .outputs) k []
-  string-output k = sym (getD-drop 97 (strings s) k []) ∙ rw read-O refl
+  pub string-output : (k : ℕ) → getD (strings s) (layout.first-output + k) [] ≡ getD (s .store .outputs) k []
+  string-output k = sym (getD-drop layout.first-output (strings s) k []) ∙ rw read-O refl
 
   pub expr-encoded : (k : ℕ) → k < 32 → Encoded (getD (strings s) k []) (getD (s .store .exprs) k [])
   expr-encoded k h = record { is = string-expr k h; all-ok = each-at (Each Ok) [] tt (s .store .exprs) (f .exprs-ok) k }
@@ -160,15 +161,15 @@ module _ (s : State) (f : Fine s) where
   file-ok : (k : ℕ) → FileOk (getD (s .store .files) k empty-file)
   file-ok k = each-at FileOk empty-file (record { before-ok = tt; after-ok = tt }) (s .store .files) (f .files-ok) k
 
-  pub before-encoded : (k : ℕ) → k < 32 → EncodedRecords (getD (strings s) (32 + 2 * k) []) (getD (s .store .files) k empty-file .before)
+  pub before-encoded : (k : ℕ) → k < 32 → EncodedRecords (getD (strings s) (layout.before-string k) []) (getD (s .store .files) k empty-file .before)
   before-encoded k h = record { is = string-before k h; all-ok = file-ok k .before-ok }
 
-  pub after-encoded : (k : ℕ) → k < 32 → EncodedRecords (getD (strings s) (32 + (2 * k + 1)) []) (getD (s .store .files) k empty-file .after)
+  pub after-encoded : (k : ℕ) → k < 32 → EncodedRecords (getD (strings s) (layout.after-string k) []) (getD (s .store .files) k empty-file .after)
   after-encoded k h = record { is = string-after k h; all-ok = file-ok k .after-ok }
 
   -- ---- the cells of a state
 
-  length-scalars : length (each three (scalars s)) ≡ 24
+  length-scalars : length (each three (scalars s)) ≡ layout.first-length
   length-scalars = length-each 3 three (λ n. refl) (scalars s)
 
   pub length-state-cells : length (state-cells s) ≡ limit.state
@@ -176,11 +177,11 @@ module _ (s : State) (f : Fine s) where
   length-state-cells =
       simp length-append (omega (arith, length-scalars, length-string-cells (strings s) length-strings (omega (arith, fine-room s f))))
 
-  pub strings-in-cells : strings-in (drop 24 (state-cells s)) ≡ strings s
+  pub strings-in-cells : strings-in (drop layout.first-length (state-cells s)) ≡ strings s
   unfolding state-cells
   strings-in-cells = rw (drop-at (each three (scalars s)) (string-cells (strings s)) 24 length-scalars) (strings-back (strings s) length-strings)
 
-  pub scalars-in-cells : threes-in 8 (state-cells s) ≡ scalars s
+  pub scalars-in-cells : threes-in layout.scalars-count (state-cells s) ≡ scalars s
   unfolding state-cells
   scalars-in-cells = threes-back (scalars s) (string-cells (strings s))
 
@@ -278,8 +279,8 @@ module _ (p : Program) (ins : Inputs) (m : List ℕ) (gp : T (good-program p)) (
   pub memory-fine : Fine (state-of m)
   memory-fine = good-fine p ins (state-of m) gp gi (memory-facts p ins m h .good)
 
-  pub memory-strings : strings-in (drop 24 (take limit.state m)) ≡ strings (state-of m)
+  pub memory-strings : strings-in (drop layout.first-length (take limit.state m)) ≡ strings (state-of m)
   memory-strings = rw (← memory-facts p ins m h .cells) (strings-in-cells (state-of m) memory-fine)
 
-  pub memory-scalars : threes-in 8 (take limit.state m) ≡ scalars (state-of m)
+  pub memory-scalars : threes-in layout.scalars-count (take limit.state m) ≡ scalars (state-of m)
   memory-scalars = rw (← memory-facts p ins m h .cells) (scalars-in-cells (state-of m) memory-fine)

@@ -11,6 +11,7 @@ use Rattle.layout.specs.Bounds.{Each, Below}
 use Rattle.layout.specs.CellLaws.{twice, twice-one, below-append, below-zeros, two-back, two-below}
 use Rattle.layout.specs.Cells.{two}
 use Rattle.layout.specs.Strings.{lengths, used, string-cells, lengths-in, cut-by, strings-in}
+use Rattle.layout.specs.Places as layout
 
 -- ---- the strings end to end
 
@@ -84,9 +85,9 @@ length-cut-by [] l = refl
 length-cut-by (n ∷ ns) l = ap suc (length-cut-by ns (drop n l))
 
 -- the strings of any cells are 99
-pub length-strings-in : (m : List ℕ) → length (strings-in m) ≡ 99
+pub length-strings-in : (m : List ℕ) → length (strings-in m) ≡ layout.strings-count
 unfolding strings-in
-length-strings-in m = length-cut-by (lengths-in 99 m) (drop 198 m) ∙ length-lengths-in 99 m
+length-strings-in m = length-cut-by (lengths-in layout.strings-count m) (drop layout.lengths-bytes m) ∙ length-lengths-in layout.strings-count m
 
 pub lengths-in-lengths : (vs : List (List ℕ)) (t : List ℕ) → lengths-in (length vs) (lengths vs ++ t) ≡ map length vs
 unfolding lengths lengths-in
@@ -98,19 +99,19 @@ unfolding cut-by
 cut-by-joined [] t = refl
 cut-by-joined (v ∷ vs) t = rw (append-assoc, take-append-seam v (joined vs ++ t), drop-append-seam v (joined vs ++ t), cut-by-joined vs t)
 
-module _ (vs : List (List ℕ)) (n : length vs ≡ 99) where
-  lengths-long : length (lengths vs) ≡ 198
+module _ (vs : List (List ℕ)) (n : length vs ≡ layout.strings-count) where
+  lengths-long : length (lengths vs) ≡ layout.lengths-bytes
   lengths-long = length-lengths vs ∙ rw n
 
   -- what is written is read back
   pub strings-back : strings-in (string-cells vs) ≡ vs
   unfolding strings-in string-cells
   strings-back =
-      let rest : List ℕ = joined vs ++ replicate (40738 - used vs) 0 in
-      rw (drop-at (lengths vs) rest 198 lengths-long)
-      (ap (λ k. cut-by (lengths-in k (lengths vs ++ rest)) rest) (sym n) ∙ rw (lengths-in-lengths vs rest) (cut-by-joined vs (replicate (40738 - used vs) 0)))
+      let rest : List ℕ = joined vs ++ replicate (layout.room - used vs) 0 in
+      rw (drop-at (lengths vs) rest layout.lengths-bytes lengths-long)
+      (ap (λ k. cut-by (lengths-in k (lengths vs ++ rest)) rest) (sym n) ∙ rw (lengths-in-lengths vs rest) (cut-by-joined vs (replicate (layout.room - used vs) 0)))
 
-  pub length-string-cells : used vs ≤ 40738 → length (string-cells vs) ≡ 40936
+  pub length-string-cells : used vs ≤ layout.room → length (string-cells vs) ≡ layout.strings-bytes
   unfolding string-cells used
   length-string-cells h = simp (length-append, length-replicate) (omega (arith, lengths-long))
 
@@ -128,6 +129,6 @@ joined-below (v ∷ vs) h = below-append 256 v (joined vs) (h .0) (joined-below 
 pub string-cells-below : (vs : List (List ℕ)) → Each (λ v. length v < 65536) vs → Each (Below 256) vs → Below 256 (string-cells vs)
 unfolding string-cells
 string-cells-below vs h k =
-    let zeros : List ℕ = replicate (40738 - used vs) 0 in
+    let zeros : List ℕ = replicate (layout.room - used vs) 0 in
     below-append 256 (lengths vs) (joined vs ++ zeros) (lengths-below vs h)
-    (below-append 256 (joined vs) zeros (joined-below vs k) (below-zeros 256 (40738 - used vs) (omega arith)))
+    (below-append 256 (joined vs) zeros (joined-below vs k) (below-zeros 256 (layout.room - used vs) (omega arith)))

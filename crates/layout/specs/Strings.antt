@@ -3,6 +3,7 @@ use mathlib.Core.List.{List, [], _∷_, _++_}
 use Prim.Native.Nat.{ℕ, zero, suc, _-_}
 use lib.ListN.{length, take, drop, replicate}
 use Rattle.layout.specs.Cells.{two, two-at}
+use Rattle.layout.specs.Places as layout
 use Rattle.lists.specs.Lists.{joined}
 
 unfoldable pub lengths : List (List ℕ) → List ℕ
@@ -15,7 +16,7 @@ used vs = length (joined vs)
 
 -- 99 strings in 40,936 cells
 unfoldable pub string-cells : List (List ℕ) → List ℕ
-string-cells vs = lengths vs ++ (joined vs ++ replicate (40738 - used vs) 0)
+string-cells vs = lengths vs ++ (joined vs ++ replicate (layout.room - used vs) 0)
 
 -- ---- reading back
 
@@ -29,4 +30,4 @@ cut-by [] l = []
 cut-by (n ∷ ns) l = take n l ∷ cut-by ns (drop n l)
 
 unfoldable pub strings-in : List ℕ → List (List ℕ)
-strings-in m = cut-by (lengths-in 99 m) (drop 198 m)
+strings-in m = cut-by (lengths-in layout.strings-count m) (drop layout.lengths-bytes m)

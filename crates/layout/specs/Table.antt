@@ -15,6 +15,7 @@ use Rattle.language.specs.Program.Arg.{nothing, letter, label, switch, class, t
 use Rattle.language.specs.Values.{sameNumber}
 use Rattle.machine.specs.WellFormed.{good-program}
 use Rattle.layout.specs.Cells.{cell, fours, unfours, code, uncode, tab, padded}
+use Rattle.layout.specs.Places as layout
 
 -- ---- writing
 
@@ -97,10 +98,10 @@ module _ (c : List ℕ) where
   chars-in n at = take n (unfours (take 15 (drop at c)))
 
   abbrev pub text-in : ℕ → List ℕ
-  text-in k = chars-in (cell c (4104 + 16 * k)) (4105 + 16 * k)
+  text-in k = chars-in (cell c (layout.first-text + 16 * k)) (layout.first-characters + 16 * k)
 
   abbrev pub number-in : ℕ → ℤ
-  number-in k = uncode (cell c (6312 + k))
+  number-in k = uncode (cell c (layout.first-number + k))
 
   abbrev pub text-by : ℕ → List ℕ
   text-by v = cond (eqb v 0) [] (cond (ltb v 256) (v ∷ []) (text-in (v - 256)))
@@ -127,28 +128,28 @@ module _ (c : List ℕ) where
 
   abbrev pub instr-in : ℕ → Instr
   instr-in i =
-      let k = 8 + 4 * i in
+      let k = layout.first-instruction + 4 * i in
       record { op = operator-of (cell c k % 64); line = cell c k / 64; first = arg-in (1 + k); second = arg-in (2 + k); third = arg-in (3 + k) }
 
   abbrev pub label-in : ℕ → Label
-  label-in i = let k = 2056 + 16 * i in record { name = chars-in (cell c k % 64) (1 + k); target = cell c k / 64 }
+  label-in i = let k = layout.first-label + 16 * i in record { name = chars-in (cell c k % 64) (1 + k); target = cell c k / 64 }
 
   abbrev pub entry-in : ℕ → Entry
-  entry-in k = let x = cell c (6184 + k) in record { label = x % 128; text = text-by (x / 128) }
+  entry-in k = let x = cell c (layout.first-entry + k) in record { label = x % 128; text = text-by (x / 128) }
 
   abbrev pub switch-in : ℕ → Switch
   switch-in i =
-      let x = cell c (6152 + i) in
+      let x = cell c (layout.first-switch + i) in
       record { byName = eqb (x % 2) 1; entries = tab (x / 2 % 256) (λ k. entry-in (x / 512 + k)) }
 
   unfoldable pub program-in : Program
   program-in =
       record {
-        code = tab (cell c 0) instr-in;
-        labels = tab (cell c 1) label-in;
-        switches = tab (cell c 2) switch-in;
-        texts = tab (cell c 4) text-in;
-        numbers = tab (cell c 5) number-in;
+        code = tab (cell c layout.instruction-count) instr-in;
+        labels = tab (cell c layout.label-count) label-in;
+        switches = tab (cell c layout.switch-count) switch-in;
+        texts = tab (cell c layout.text-count) text-in;
+        numbers = tab (cell c layout.number-count) number-in;
       }
 
 -- ---- question 62

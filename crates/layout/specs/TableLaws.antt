@@ -23,6 +23,7 @@ use Rattle.layout.specs.CellLaws.{each-in, below-append, below-zeros, ea
 use Rattle.layout.specs.Cells.{cell, fours, code, tab, padded}
 use Rattle.layout.specs.ProgramLaws.{identifier-below, program-ok, length-each-total}
 use Rattle.layout.specs.Table.{text-ref, arg-cell, instr-cells, label-cells, text-cells, switch-cell, switch-cells, entry-cell, all-entries, counts, table-cells, chars-in, text-in, number-in, text-by, arg-in, instr-in, label-in, entry-in, switch-in, program-in, program-of, good-table}
+use Rattle.layout.specs.Places as layout
 
 -- ---- blocks of the table
 
@@ -130,37 +131,37 @@ module _ (p : Program) (h : ProgramOk p) where
   unfolding table-cells
   at-1 = refl
 
-  at-2 : drop 2056 c ≡ behind-1
+  at-2 : drop layout.first-label c ≡ behind-1
   at-2 = sym (drop-drop 2048 8 c) ∙ rw at-1 (drop-at part-1 behind-1 2048 length-1)
 
-  at-3 : drop 4104 c ≡ behind-2
-  at-3 = sym (drop-drop 2048 2056 c) ∙ rw at-2 (drop-at part-2 behind-2 2048 length-2)
+  at-3 : drop layout.first-text c ≡ behind-2
+  at-3 = sym (drop-drop 2048 layout.first-label c) ∙ rw at-2 (drop-at part-2 behind-2 2048 length-2)
 
-  at-4 : drop 6152 c ≡ behind-3
-  at-4 = sym (drop-drop 2048 4104 c) ∙ rw at-3 (drop-at part-3 behind-3 2048 length-3)
+  at-4 : drop layout.first-switch c ≡ behind-3
+  at-4 = sym (drop-drop 2048 layout.first-text c) ∙ rw at-3 (drop-at part-3 behind-3 2048 length-3)
 
-  at-5 : drop 6184 c ≡ behind-4
-  at-5 = sym (drop-drop 32 6152 c) ∙ rw at-4 (drop-at part-4 behind-4 32 length-4)
+  at-5 : drop layout.first-entry c ≡ behind-4
+  at-5 = sym (drop-drop 32 layout.first-switch c) ∙ rw at-4 (drop-at part-4 behind-4 32 length-4)
 
-  at-6 : drop 6312 c ≡ behind-5
-  at-6 = sym (drop-drop 128 6184 c) ∙ rw at-5 (drop-at part-5 behind-5 128 length-5)
+  at-6 : drop layout.first-number c ≡ behind-5
+  at-6 = sym (drop-drop 128 layout.first-entry c) ∙ rw at-5 (drop-at part-5 behind-5 128 length-5)
 
   -- ---- the tables of texts and numbers
 
   texts-read : (k : ℕ) → k < length (p .texts) → text-in c k ≡ getD (p .texts) k []
   texts-read k b =
       let t : List ℕ = getD (p .texts) k [] in
-      let q = block-at 16 text-cells length-text-cells c behind-3 4104 2048 [] (p .texts) k at-3 b in
-      let n : cell c (4104 + 16 * k) ≡ length t = first-cell c (text-cells t) (q .0) (4104 + 16 * k) (q .1) (omega arith) in
-      let z : 1 + (4104 + 16 * k) ≡ 4105 + 16 * k = omega arith in
-      let e : drop (4105 + 16 * k) c ≡ fours 15 t ++ q .0 = rw z at (next-place c (fours 15 t) (q .0) (length t) (4104 + 16 * k) (q .1)) in
+      let q = block-at 16 text-cells length-text-cells c behind-3 layout.first-text 2048 [] (p .texts) k at-3 b in
+      let n : cell c (layout.first-text + 16 * k) ≡ length t = first-cell c (text-cells t) (q .0) (layout.first-text + 16 * k) (q .1) (omega arith) in
+      let z : 1 + (layout.first-text + 16 * k) ≡ layout.first-characters + 16 * k = omega arith in
+      let e : drop (layout.first-characters + 16 * k) c ≡ fours 15 t ++ q .0 = rw z at (next-place c (fours 15 t) (q .0) (length t) (layout.first-text + 16 * k) (q .1)) in
       let ok : TextOk t = each-in TextOk (p .texts) (h .texts-ok) k [] b in
-      rw n (chars-back c t (q .0) (4105 + 16 * k) e (ok .most) (ok .below))
+      rw n (chars-back c t (q .0) (layout.first-characters + 16 * k) e (ok .most) (ok .below))
 
   numbers-read : (k : ℕ) → k < length (p .numbers) → number-in c k ≡ getD (p .numbers) k (pos 0)
   numbers-read k b =
-      let e : cell c (6312 + k) ≡ code (getD (p .numbers) k (pos 0)) =
-      padded-at c (map code (p .numbers)) zeros 6312 128 at-6 k (rw length-map b) ∙ getD-map-at code (p .numbers) k (pos 0) 0 b in
+      let e : cell c (layout.first-number + k) ≡ code (getD (p .numbers) k (pos 0)) =
+      padded-at c (map code (p .numbers)) zeros layout.first-number 128 at-6 k (rw length-map b) ∙ getD-map-at code (p .numbers) k (pos 0) 0 b in
       rw e (uncode-code (getD (p .numbers) k (pos 0)) (each-in (λ z. natAbs z ≤ limit.size) (p .numbers) (h .numbers-ok) k (pos 0) b))
 
   -- ---- instructions and labels
@@ -170,22 +171,22 @@ module _ (p : Program) (h : ProgramOk p) where
 
   -- the cells of instruction i
   pub instr-at-cell : (i : ℕ) → i < length (p .code)
-      → let x : Instr = getD (p .code) i no-instr in cell c (8 + 4 * i) ≡ operation (x .op) .number + 64 * x .line
+      → let x : Instr = getD (p .code) i no-instr in cell c (layout.first-instruction + 4 * i) ≡ operation (x .op) .number + 64 * x .line
   instr-at-cell i b =
       let x : Instr = getD (p .code) i no-instr in
       let q = block-at 4 (instr-cells p) (λ i. refl) c behind-1 8 2048 no-instr (p .code) i at-1 b in
-      first-cell c (instr-cells p x) (q .0) (8 + 4 * i) (q .1) (omega arith)
+      first-cell c (instr-cells p x) (q .0) (layout.first-instruction + 4 * i) (q .1) (omega arith)
 
-  pub arg-at-cell : (i : ℕ) → i < length (p .code) → (j : ℕ) → j < 4 → cell c (j + (8 + 4 * i)) ≡ cell (instr-cells p (getD (p .code) i no-instr)) j
+  pub arg-at-cell : (i : ℕ) → i < length (p .code) → (j : ℕ) → j < 4 → cell c (j + (layout.first-instruction + 4 * i)) ≡ cell (instr-cells p (getD (p .code) i no-instr)) j
   arg-at-cell i b =
       let x : Instr = getD (p .code) i no-instr in
       let q = block-at 4 (instr-cells p) (λ i. refl) c behind-1 8 2048 no-instr (p .code) i at-1 b in
-      next-cell c (instr-cells p x) (q .0) (8 + 4 * i) (q .1)
+      next-cell c (instr-cells p x) (q .0) (layout.first-instruction + 4 * i) (q .1)
 
   instr-read : (i : ℕ) → i < length (p .code) → instr-in c i ≡ getD (p .code) i no-instr
   instr-read i b =
       let x : Instr = getD (p .code) i no-instr in
-      let k : ℕ = 8 + 4 * i in
+      let k : ℕ = layout.first-instruction + 4 * i in
       let at : (j : ℕ) → j < 4 → cell c (j + k) ≡ cell (instr-cells p x) j = arg-at-cell i b in
       let first : cell c k ≡ operation (x .op) .number + 64 * x .line = instr-at-cell i b in
       let ok : InstrFacts p x = each-in (InstrFacts p) (p .code) (h .code-ok) i no-instr b in
@@ -200,8 +201,8 @@ module _ (p : Program) (h : ProgramOk p) where
   label-read : (i : ℕ) → i < length (p .labels) → label-in c i ≡ getD (p .labels) i no-label
   label-read i b =
       let x : Label = getD (p .labels) i no-label in
-      let k : ℕ = 2056 + 16 * i in
-      let q = block-at 16 label-cells length-label-cells c behind-2 2056 2048 no-label (p .labels) i at-2 b in
+      let k : ℕ = layout.first-label + 16 * i in
+      let q = block-at 16 label-cells length-label-cells c behind-2 layout.first-label 2048 no-label (p .labels) i at-2 b in
       let first : cell c k ≡ length (x .name) + 64 * x .target = first-cell c (label-cells x) (q .0) k (q .1) (omega arith) in
       let ok : LabelFacts p x = each-in (LabelFacts p) (p .labels) (h .labels-ok) i no-label b in
       let m = ok .short in
@@ -213,40 +214,40 @@ module _ (p : Program) (h : ProgramOk p) where
 
   -- ---- switches and entries
 
-  pub entry-at-cell : (k : ℕ) → k < length (all-entries p) → cell c (6184 + k) ≡ entry-cell p (getD (all-entries p) k no-entry)
-  entry-at-cell k b = padded-at c (map (entry-cell p) (all-entries p)) behind-5 6184 128 at-5 k (rw length-map b) ∙ getD-map-at (entry-cell p) (all-entries p) k no-entry 0 b
+  pub entry-at-cell : (k : ℕ) → k < length (all-entries p) → cell c (layout.first-entry + k) ≡ entry-cell p (getD (all-entries p) k no-entry)
+  entry-at-cell k b = padded-at c (map (entry-cell p) (all-entries p)) behind-5 layout.first-entry 128 at-5 k (rw length-map b) ∙ getD-map-at (entry-cell p) (all-entries p) k no-entry 0 b
 
   entry-read : (k : ℕ) → k < length (all-entries p) → entry-in c k ≡ getD (all-entries p) k no-entry
   entry-read k b =
       let x : Entry = getD (all-entries p) k no-entry in
-      let e : cell c (6184 + k) ≡ entry-cell p x = entry-at-cell k b in
+      let e : cell c (layout.first-entry + k) ≡ entry-cell p x = entry-at-cell k b in
       let ok : EntryOk p x = each-in (EntryOk p) (all-entries p) (h .entries-ok) k no-entry b in
-      let l : cell c (6184 + k) % 128 ≡ x .label = rw e (omega (arith, ok .label-below, h .facts .labels-few)) in
-      let r : cell c (6184 + k) / 128 ≡ text-ref p (x .text) = rw e (omega (arith, ok .label-below, h .facts .labels-few)) in
-      let t : text-by c (cell c (6184 + k) / 128) ≡ x .text = rw r (text-back p c texts-read numbers-read (x .text) (ok .text-kept)) in
+      let l : cell c (layout.first-entry + k) % 128 ≡ x .label = rw e (omega (arith, ok .label-below, h .facts .labels-few)) in
+      let r : cell c (layout.first-entry + k) / 128 ≡ text-ref p (x .text) = rw e (omega (arith, ok .label-below, h .facts .labels-few)) in
+      let t : text-by c (cell c (layout.first-entry + k) / 128) ≡ x .text = rw r (text-back p c texts-read numbers-read (x .text) (ok .text-kept)) in
       λ j. record { label = l j; text = t j }
 
   abbrev entries-of : Switch → List Entry
   entries-of w = w .entries
 
   pub switch-at-cell : (i : ℕ) → i < length (p .switches)
-      → cell c (6152 + i) ≡ switch-cell (total (λ x. length (x .entries)) (take i (p .switches))) (getD (p .switches) i no-switch)
+      → cell c (layout.first-switch + i) ≡ switch-cell (total (λ x. length (x .entries)) (take i (p .switches))) (getD (p .switches) i no-switch)
   switch-at-cell i b =
       let n : ℕ = total (λ x. length (entries-of x)) (take i (p .switches)) in
-      padded-at c (switch-cells 0 (p .switches)) behind-4 6152 32 at-4 i (rw length-switch-cells b) ∙ switch-cells-at (p .switches) 0 n i b (omega arith)
+      padded-at c (switch-cells 0 (p .switches)) behind-4 layout.first-switch 32 at-4 i (rw length-switch-cells b) ∙ switch-cells-at (p .switches) 0 n i b (omega arith)
 
   switch-read : (i : ℕ) → i < length (p .switches) → switch-in c i ≡ getD (p .switches) i no-switch
   switch-read i b =
       let w : Switch = getD (p .switches) i no-switch in
       let n : ℕ = total (λ x. length (entries-of x)) (take i (p .switches)) in
       let len : ℕ = length (w .entries) in
-      let e : cell c (6152 + i) ≡ switch-cell n w = switch-at-cell i b in
+      let e : cell c (layout.first-switch + i) ≡ switch-cell n w = switch-at-cell i b in
       let most : len < 256 = omega (arith, each-most entries-of no-switch (p .switches) i b, h .entries-most) in
       let q = switch-parts (w .byName) len n most in
-      let s : eqb (cell c (6152 + i) % 2) 1 ≡ w .byName = rw e (q .0) in
+      let s : eqb (cell c (layout.first-switch + i) % 2) 1 ≡ w .byName = rw e (q .0) in
       let es : (k : ℕ) → k < len → entry-in c (n + k) ≡ getD (w .entries) k no-entry =
       λ k a. entry-read (n + k) (each-within entries-of no-switch no-entry (p .switches) i k b a) ∙ getD-each entries-of no-switch no-entry (p .switches) i k b a in
-      let t : tab (cell c (6152 + i) / 2 % 256) (λ k. entry-in c (cell c (6152 + i) / 512 + k)) ≡ w .entries =
+      let t : tab (cell c (layout.first-switch + i) / 2 % 256) (λ k. entry-in c (cell c (layout.first-switch + i) / 512 + k)) ≡ w .entries =
       rw (e, q .1, q .2) (tab-ext no-entry (w .entries) (λ k. entry-in c (n + k)) es) in
       λ j. record { byName = s j; entries = t j }
 

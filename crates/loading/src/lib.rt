@@ -95,9 +95,9 @@ fn load_text(text: &[u8], table: &mut [u32]) -> Verdict
     requires { ⌜ Loadable (now text) (now table) ⌝ }
     ensures { λ r. ⌜ Loads-text (now (text .entry)) (now (table .entry)) r (now (table .exit)) ⌝ }
 {
-    let mut names = [0u32; 32768];
-    let mut switches = [0u32; 32];
-    let mut entries = [0u32; 128];
+    let mut names = [0u32; Machine::TEXT];
+    let mut switches = [0u32; Machine::SWITCHES];
+    let mut entries = [0u32; Machine::ENTRIES];
     match read_statements(text, &mut names, table, &mut switches, &mut entries) {
         Read::Refused(number, at) => Verdict::No(number, at),
         Read::Statement(p) => finishing::finish(text, p, &names, table, &switches, &entries),

@@ -15,6 +15,7 @@ use Rattle.language.specs.Program.{Switch, Program, no-switch}
 use Rattle.layout.specs.CellLaws.{padded-at}
 use Rattle.layout.specs.Cells.{cell}
 use Rattle.layout.specs.Table.{switch-cells, switch-in, counts}
+use Rattle.layout.specs.Places as layout
 use Rattle.lists.specs.Lists.{sameBytes}
 use Rattle.packed.specs.Packed.{table-of}
 use Rattle.writing.proofs.Growing.{code-part, labels-part, texts-part, switches-part, entries-part, numbers-part, parts, in-parts, sizes, switches-long}
@@ -67,9 +68,9 @@ kind-at from (w ∷ ws) (suc k) h = kind-at (from + length (w .entries)) ws k (l
 kind-read : (c : List ℕ) (p : Program) → HoldsProgram c p → (k : ℕ) → k < length (p .switches) → switch-in (table-of c) k .byName ≡ getD (p .switches) k no-switch .byName
 kind-read c p h k b =
     let e = switches-at (counts p) (code-part p) (labels-part p) (texts-part p) (switches-part p) (entries-part p) (numbers-part p) (sizes p (h .tabular)) in
-    let x : cell (table-of c) (6152 + k) ≡ cell (switch-cells 0 (p .switches)) k =
-    ap (λ (y : List ℕ). cell y (6152 + k)) (h .is ∙ in-parts p)
-    ∙ padded-at (parts p) (switch-cells 0 (p .switches)) _ 6152 32 e k (omega (arith, switches-long 0 (p .switches))) in
+    let x : cell (table-of c) (layout.first-switch + k) ≡ cell (switch-cells 0 (p .switches)) k =
+    ap (λ (y : List ℕ). cell y (layout.first-switch + k)) (h .is ∙ in-parts p)
+    ∙ padded-at (parts p) (switch-cells 0 (p .switches)) _ layout.first-switch 32 e k (omega (arith, switches-long 0 (p .switches))) in
     ap (λ (y : ℕ). eqb (y % 2) 1) x ∙ kind-at 0 (p .switches) k b
 
 module _ (s : List ℕ) (named : Bool) (m : ℕ) where

@@ -15,6 +15,7 @@ use Rattle.layout.specs.ArgumentLaws.{operator-below}
 use Rattle.layout.specs.CellLaws.{block-at, next-cell}
 use Rattle.layout.specs.Cells.{cell}
 use Rattle.layout.specs.Table.{arg-cell, instr-cells}
+use Rattle.layout.specs.Places as layout
 use Rattle.lists.specs.Lists.{any, ahead}
 use Rattle.packed.specs.Packed.{table-of}
 use Rattle.writing.proofs.Growing.{parts, in-parts}
@@ -36,23 +37,23 @@ module _ (c : List ℕ) (p : Program) (h : HoldsProgram c p) (k : ℕ) (there : 
   abbrev block : List ℕ
   block = instr-cells p (instr-at p k)
 
-  at-block : (rest : List ℕ) × (drop (8 + 4 * k) (parts p) ≡ block ++ rest)
+  at-block : (rest : List ℕ) × (drop (layout.first-instruction + 4 * k) (parts p) ≡ block ++ rest)
   at-block = block-at 4 (instr-cells p) (λ i. refl) (parts p) _ 8 2048 no-instr (p .code) k refl there
 
-  in-block : (j : ℕ) → j < 4 → cell (table-of c) (j + (8 + 4 * k)) ≡ cell block j
+  in-block : (j : ℕ) → j < 4 → cell (table-of c) (j + (layout.first-instruction + 4 * k)) ≡ cell block j
   in-block j b =
-      ap (λ (x : List ℕ). cell x (j + (8 + 4 * k))) (h .is ∙ in-parts p) ∙ next-cell (parts p) block (at-block .0) (8 + 4 * k) (at-block .1) j b
+      ap (λ (x : List ℕ). cell x (j + (layout.first-instruction + 4 * k))) (h .is ∙ in-parts p) ∙ next-cell (parts p) block (at-block .0) (layout.first-instruction + 4 * k) (at-block .1) j b
 
-  pub argument-at : (j : ℕ) → j < 3 → getD c (8 + 4 * k + 1 + j) 0 ≡ arg-cell p (argument j (instr-at p k))
+  pub argument-at : (j : ℕ) → j < 3 → getD c (layout.first-instruction + 4 * k + 1 + j) 0 ≡ arg-cell p (argument j (instr-at p k))
   argument-at j b =
-      let z : 8 + 4 * k + 1 + j ≡ 1 + j + (8 + 4 * k) = omega arith in
-      sym (getD-take 8192 c (8 + 4 * k + 1 + j) 0 (omega (arith, h .tabular .code-most))) ∙ ap (cell (table-of c)) z ∙ in-block (1 + j) (omega arith)
+      let z : layout.first-instruction + 4 * k + 1 + j ≡ 1 + j + (layout.first-instruction + 4 * k) = omega arith in
+      sym (getD-take 8192 c (layout.first-instruction + 4 * k + 1 + j) 0 (omega (arith, h .tabular .code-most))) ∙ ap (cell (table-of c)) z ∙ in-block (1 + j) (omega arith)
       ∙ argument-cell p (instr-at p k) j b
 
-  pub operator-at : cell (table-of c) (8 + 4 * k) % 64 ≡ operation (instr-at p k .op) .number
+  pub operator-at : cell (table-of c) (layout.first-instruction + 4 * k) % 64 ≡ operation (instr-at p k .op) .number
   operator-at =
-      let z : 0 + (8 + 4 * k) ≡ 8 + 4 * k = omega arith in
-      let e : cell (table-of c) (8 + 4 * k) ≡ operation (instr-at p k .op) .number + 64 * instr-at p k .line = ap (cell (table-of c)) (sym z) ∙ in-block 0 (omega arith) in
+      let z : 0 + (layout.first-instruction + 4 * k) ≡ layout.first-instruction + 4 * k = omega arith in
+      let e : cell (table-of c) (layout.first-instruction + 4 * k) ≡ operation (instr-at p k .op) .number + 64 * instr-at p k .line = ap (cell (table-of c)) (sym z) ∙ in-block 0 (omega arith) in
       rw e (omega (arith, operator-below (instr-at p k .op)))
 
 -- the mark of a cell
@@ -100,7 +101,7 @@ module _ (s sw c : List ℕ) (kind : ℕ) (named : Bool) where
   code-there : (k : ℕ) → AskingAt c sw k → (p : Program) → HoldsProgram c p → k < length (p .code)
   code-there k a p h = omega (arith, a .there, code-count c (a .program) (a .holds), code-count c p h)
 
-  module _ (k j : ℕ) (f : Fault) (x : ℕ) (a : AskingFor c sw k j) (is : x ≡ getD c (8 + 4 * k + 1 + j) 0) where
+  module _ (k j : ℕ) (f : Fault) (x : ℕ) (a : AskingFor c sw k j) (is : x ≡ getD c (layout.first-instruction + 4 * k + 1 + j) 0) where
     argument-is : (p : Program) → HoldsProgram c p → x ≡ arg-cell p (argument j (instr-at p k))
     argument-is p h = is ∙ argument-at c p h k (code-there k (a .at) p h) j (a .place)
 
@@ -120,7 +121,7 @@ module _ (s sw c : List ℕ) (kind : ℕ) (named : Bool) where
     abbrev uses-at : Program → List ℕ
     uses-at p = instr-uses kind named p (instr-at p k)
 
-    pub instr-other : (o : ℕ) → o ≡ cell (table-of c) (8 + 4 * k) % 64 → asked-by kind named o ≡ false → Judges c (λ p. joined f (faults s sw kind named p (uses-at p))) f
+    pub instr-other : (o : ℕ) → o ≡ cell (table-of c) (layout.first-instruction + 4 * k) % 64 → asked-by kind named o ≡ false → Judges c (λ p. joined f (faults s sw kind named p (uses-at p))) f
     unfolding instr-uses
     instr-other o is e =
         record {
@@ -130,7 +131,7 @@ module _ (s sw c : List ℕ) (kind : ℕ) (named : Bool) where
         }
 
     -- the three arguments one after the other
-    pub instr-noted : {g b r : Fault} (o : ℕ) → o ≡ cell (table-of c) (8 + 4 * k) % 64 → asked-by kind named o ≡ true
+    pub instr-noted : {g b r : Fault} (o : ℕ) → o ≡ cell (table-of c) (layout.first-instruction + 4 * k) % 64 → asked-by kind named o ≡ true
         → Judges c (λ p. joined f (faults s sw kind named p (marks-in kind (arg-cell p (argument 0 (instr-at p k)))))) g
         → Judges c (λ p. joined g (faults s sw kind named p (marks-in kind (arg-cell p (argument 1 (instr-at p k)))))) b
         → Judges c (λ p. joined b (faults s sw kind named p (marks-in kind (arg-cell p (argument 2 (instr-at p k)))))) r

@@ -12,6 +12,7 @@ ghost use Rattle.finding.specs.Finding.{Counted, Tells};
 ghost use Rattle.lookup.specs.Lookup.{label-by, switch-by, is-switch, joined, known, faults, marks-in, argument, names-number, asked-by, instr-uses, Asking, AskingAt, AskingFor, AskingAll, Judges};
 use faults::lesser;
 use faults::lower;
+use layout::TablePlaces;
 use statements::Fault;
 
 // The word of the mark `m`.
@@ -121,7 +122,7 @@ fn argument_fault(
     requires { ⌜ AskingFor (now table) (now sw) k j ⌝ }
     ensures { λ r. ⌜ Judges (now (table .entry)) (λ p. joined f (faults (now (text .entry)) (now (sw .entry)) kind named p (marks-in kind (arg-cell p (argument j (instr-at p k)))))) r ⌝ }
 {
-    let x = cells::read(table, table::FIRST_INSTRUCTION + 4 * k + 1 + j);
+    let x = cells::read(table, TablePlaces::FIRST_INSTRUCTION + 4 * k + 1 + j);
     if x % 8 != kind {
         return f;
     }

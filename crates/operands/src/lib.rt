@@ -10,6 +10,7 @@ ghost use Rattle.state.specs.Blocks.{ExprNamed};
 ghost use Rattle.instructions.specs.Does.{Tried};
 ghost use Rattle.operands.specs.Operands.{earlier, OperandReadable, PairReadable, ReadsNumber, ReadsOperand, ReadsPair, replaced, Replaceable};
 use language::Machine;
+use layout::StatePlaces;
 
 // A question answered no, or 0 and a number: its value with 8,388,607 added.
 pub struct Operand {
@@ -118,10 +119,14 @@ pub fn replace(
 {
     let freed = pick(removes, 1, 0);
     let freed_letters = pick(removes, letters, 0);
-    if Machine::COMPONENTS + freed < state::number(pool, ends, nums, 5) + parts {
+    if Machine::COMPONENTS + freed
+        < state::number(pool, ends, nums, StatePlaces::COMPONENTS_SCALAR) + parts
+    {
         return 59;
     }
-    if Machine::CHARACTERS + freed_letters < state::number(pool, ends, nums, 6) + chars {
+    if Machine::CHARACTERS + freed_letters
+        < state::number(pool, ends, nums, StatePlaces::CHARACTERS_SCALAR) + chars
+    {
         return 59;
     }
     state::past_parts(pool, ends, nums, i, removes, 1, bytes, letters);

@@ -4,18 +4,19 @@ use mathlib.Core.List.{List}
 use Prim.Native.Nat.{ℕ, _+_, _≤_}
 use Rattle.lists.specs.Lists.{joined}
 use Rattle.layout.specs.Strings.{used, string-cells, strings-in}
+use Rattle.layout.specs.Places as layout
 use Rattle.cells.specs.Cells.{pasted}
 use Rattle.gaps.specs.Pool.{Fine}
 
 -- n cells are there for the strings
 pub record Packable (p e : List ℕ) (n : ℕ) : Type 0 where
   pub fine : Fine p e
-  pub long : n ≡ 40936
+  pub long : n ≡ layout.strings-bytes
 
 -- the strings s were written end to end behind the lengths, up to r
 pub record Stringed (m : List ℕ) (s : List (List ℕ)) (r : ℕ) (m′ : List ℕ) : Type 0 where
-  pub is : m′ ≡ pasted m 198 (joined s)
-  pub ends : r ≡ 198 + used s
+  pub is : m′ ≡ pasted m layout.lengths-bytes (joined s)
+  pub ends : r ≡ layout.lengths-bytes + used s
 
 -- m is the cells of the strings that it reads as
 pub record Packed (m : List ℕ) : Type 0 where
@@ -25,4 +26,4 @@ pub record Packed (m : List ℕ) : Type 0 where
 pub record Unpackable (m : List ℕ) (pool ends : ℕ) : Type 0 where
   pub packed : Packed m
   pub size : pool ≡ 65536
-  pub cells : ends ≡ 198
+  pub cells : ends ≡ layout.ends-count

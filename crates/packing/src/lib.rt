@@ -5,11 +5,7 @@ ghost use Rattle.layout.specs.Strings.{lengths, string-cells, strings-in};
 ghost use Rattle.cells.specs.Cells.{pasted};
 ghost use Rattle.gaps.specs.Pool.{abs, Holds};
 ghost use Rattle.packing.specs.Packing.{Packable, Stringed, Unpackable};
-
-// How many cells the lengths take, and how many all.
-const LENGTHS: usize = 198;
-
-const CELLS: usize = 40936;
+use layout::StatePlaces;
 
 // Writes the lengths of the strings, two cells each.
 fn pack_lengths(pool: &[u8], ends: &[u32], state: &mut [u8])
@@ -17,7 +13,7 @@ fn pack_lengths(pool: &[u8], ends: &[u32], state: &mut [u8])
     ensures { λ _. ⌜ now (state .exit) ≡ pasted (now (state .entry)) 0 (lengths (abs (now (pool .entry)) (now (ends .entry)))) ⌝ }
 {
     let mut j = 0;
-    while j < gaps::COUNT {
+    while j < StatePlaces::STRINGS_COUNT {
         let n = store::len_of(pool, ends, j);
         cells::put_two(state, 2 * j, n);
         j += 1;
@@ -29,9 +25,9 @@ fn pack_strings(pool: &[u8], ends: &[u32], state: &mut [u8]) -> usize
     requires { ⌜ Packable (now pool) (now ends) (length (now state)) ⌝ }
     ensures { λ r. ⌜ Stringed (now (state .entry)) (abs (now (pool .entry)) (now (ends .entry))) r (now (state .exit)) ⌝ }
 {
-    let mut at = LENGTHS;
+    let mut at = StatePlaces::LENGTHS_BYTES;
     let mut j = 0;
-    while j < gaps::COUNT {
+    while j < StatePlaces::STRINGS_COUNT {
         let bytes = store::string_of(pool, ends, j);
         cells::put(state, at, bytes);
         at += bytes.len();
@@ -47,7 +43,7 @@ pub fn pack(pool: &[u8], ends: &[u32], state: &mut [u8])
 {
     pack_lengths(pool, ends, state);
     let at = pack_strings(pool, ends, state);
-    cells::clear(state, at, CELLS - at);
+    cells::clear(state, at, StatePlaces::STRINGS_BYTES - at);
 }
 
 // Lays the strings of a state at rest out in the store.
@@ -56,9 +52,9 @@ pub fn unpack(state: &[u8], pool: &mut [u8], ends: &mut [u32])
     ensures { λ _. ⌜ Holds (now (pool .exit)) (now (ends .exit)) (strings-in (now (state .entry))) ⌝ }
 {
     let mut at = 0;
-    let mut from = LENGTHS;
+    let mut from = StatePlaces::LENGTHS_BYTES;
     let mut j = 0;
-    while j < gaps::COUNT {
+    while j < StatePlaces::STRINGS_COUNT {
         let n = cells::two_at(state, 2 * j);
         let to = at + gaps::APART;
         let end = from + n;

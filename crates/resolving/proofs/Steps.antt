@@ -12,6 +12,7 @@ use Rattle.language.specs.Program.{Arg, Instr, Label, Program, no-instr, instr-
 use Rattle.language.specs.Program.Arg.{nothing, letter, label, switch, class, text}
 use Rattle.layout.specs.Cells.{cell}
 use Rattle.layout.specs.Table.{arg-cell, all-entries}
+use Rattle.layout.specs.Places as layout
 use Rattle.lists.specs.Lists.{ahead, sameBytes}
 use Rattle.lists.specs.ListLaws.{ahead-le}
 use Rattle.lookup.proofs.Uses.{argument-at}
@@ -72,7 +73,7 @@ with-same k j p =
     ap (set (p .code) k) (same-argument j (instr-at p k)) ∙ set-getD (p .code) k no-instr in
     λ i. record { code = e i; labels = p .labels; switches = p .switches; texts = p .texts; numbers = p .numbers }
 
-module _ (s sw c : List ℕ) (k j x : ℕ) (a : AskingFor c sw k j) (is : x ≡ getD c (8 + 4 * k + 1 + j) 0) where
+module _ (s sw c : List ℕ) (k j x : ℕ) (a : AskingFor c sw k j) (is : x ≡ getD c (layout.first-instruction + 4 * k + 1 + j) 0) where
   argument-is : (p : Program) → HoldsProgram c p → x ≡ arg-cell p (argument j (instr-at p k))
   argument-is p h =
       is ∙ argument-at c p h k (omega (arith, a .at .there, code-count c (a .at .program) (a .at .holds), code-count c p h)) j (a .place)

@@ -4,13 +4,14 @@ ghost use Rattle.layout.specs.Table.{all-entries};
 ghost use Rattle.lookup.specs.Lookup.{Asking, AskingAt, AskingFor};
 ghost use Rattle.writing.specs.Writing.{Changes};
 ghost use Rattle.resolving.specs.Resolving.{argument-resolved, instr-resolved, code-resolved, entry-resolved, entries-resolved, Labelling, LabellingAt};
+use layout::TablePlaces;
 
 // Argument `j` of instruction `k`.
 fn resolve_argument(text: &[u8], table: &mut [u32], sw: &[u32], k: usize, j: usize)
     requires { ⌜ AskingFor (now table) (now sw) k j ⌝ }
     ensures { λ _. ⌜ Changes (argument-resolved (now (text .entry)) (now (sw .entry)) k j) (now (table .entry)) (now (table .exit)) ⌝ }
 {
-    let x = cells::read(table, table::FIRST_INSTRUCTION + 4 * k + 1 + j);
+    let x = cells::read(table, TablePlaces::FIRST_INSTRUCTION + 4 * k + 1 + j);
     if x % 8 == 2 {
         let v = lookup::label_place(text, table, x / 8);
         writing::set_argument(table, k, j, 2 + 8 * v);

@@ -17,6 +17,7 @@ use Rattle.layout.specs.Memory.{scalars, strings, state-cells, threes-in, state
 use Rattle.layout.specs.MemoryLaws.{threes-back, length-strings}
 use Rattle.layout.specs.Strings.{string-cells, strings-in}
 use Rattle.layout.specs.StringLaws.{length-string-cells, strings-back}
+use Rattle.layout.specs.Places as layout
 use Rattle.cells.specs.Cells.{pasted}
 use Rattle.gaps.specs.Pool.{abs, Holds}
 use Rattle.packing.specs.Packing.{Unpackable}
@@ -55,7 +56,7 @@ reading-more {m} {n} {k = k} {x = x} u h e q =
       is = rw (q, add-one) (take-suc-set n k x (omega (arith, u .long)) ∙ rw (u .is, e) (sym (threes-next k m)));
     }
 
-pub reading-all : {m n : List ℕ} {k : ℕ} → Reading m n k → 8 ≤ k → n ≡ threes-in 8 m
+pub reading-all : {m n : List ℕ} {k : ℕ} → Reading m n k → 8 ≤ k → n ≡ threes-in layout.scalars-count m
 reading-all {m} {n} {k} u h =
     let e : k ≡ 8 = omega (arith, u .upto) in
     let l : take 8 n ≡ n = rw (← u .long) (take-length n) in
@@ -93,7 +94,7 @@ writing-more {n} {d} {m} {k = k} {x = x} pre u h e q l =
           q ∙ rw (u .is, take-at F (drop (3 * k) d) (3 * k) lF, after, e, next) (sym (append-assoc F (three (getD n k 0)) (drop (3 * (k + 1)) d)));
     }
 
-pub writing-all : {n d m : List ℕ} {k : ℕ} → Numbers n (length d) → Writing n d m k → 8 ≤ k → m ≡ each three n ++ drop 24 d
+pub writing-all : {n d m : List ℕ} {k : ℕ} → Numbers n (length d) → Writing n d m k → 8 ≤ k → m ≡ each three n ++ drop layout.first-length d
 writing-all {n} {d} {m} {k} pre u h =
     let e : k ≡ 8 = omega (arith, u .upto) in
     let l : take 8 n ≡ n = rw (← pre .count) (take-length n) in
@@ -111,26 +112,26 @@ module _ {m : List ℕ} {pool ends numbers : ℕ} (pre : Openable m pool ends nu
   parts : m ≡ each three (scalars s) ++ (string-cells (strings s) ++ drop limit.state m)
   parts = sym (take-append-drop limit.state m) ∙ ap (λ (l : List ℕ). l ++ drop limit.state m) (sym (pre .cells)) ∙ state-parts s (drop limit.state m)
 
-  scalars-long : length (each three (scalars s)) ≡ 24
+  scalars-long : length (each three (scalars s)) ≡ layout.first-length
   scalars-long = length-each 3 three (λ n. refl) (scalars s)
 
-  strings-long : length (string-cells (strings s)) ≡ 40936
+  strings-long : length (string-cells (strings s)) ≡ layout.strings-bytes
   strings-long = length-string-cells (strings s) (length-strings s (pre .fine)) (omega (arith, fine-room s (pre .fine)))
 
-  pub scalars-are : threes-in 8 m ≡ scalars s
-  scalars-are = ap (threes-in 8) parts ∙ threes-back (scalars s) (string-cells (strings s) ++ drop limit.state m)
+  pub scalars-are : threes-in layout.scalars-count m ≡ scalars s
+  scalars-are = ap (threes-in layout.scalars-count) parts ∙ threes-back (scalars s) (string-cells (strings s) ++ drop limit.state m)
 
   -- the part behind the scalars
-  behind : take 40936 (drop 24 m) ≡ string-cells (strings s)
+  behind : take layout.strings-bytes (drop layout.first-length m) ≡ string-cells (strings s)
   behind =
-      ap (λ (l : List ℕ). take 40936 (drop 24 l)) parts
-      ∙ ap (take 40936) (drop-at (each three (scalars s)) (string-cells (strings s) ++ drop limit.state m) 24 scalars-long)
-      ∙ take-at (string-cells (strings s)) (drop limit.state m) 40936 strings-long
+      ap (λ (l : List ℕ). take layout.strings-bytes (drop layout.first-length l)) parts
+      ∙ ap (take layout.strings-bytes) (drop-at (each three (scalars s)) (string-cells (strings s) ++ drop limit.state m) layout.first-length scalars-long)
+      ∙ take-at (string-cells (strings s)) (drop limit.state m) layout.strings-bytes strings-long
 
-  strings-are : {l : List ℕ} → l ≡ take 40936 (drop 24 m) → strings-in l ≡ strings s
+  strings-are : {l : List ℕ} → l ≡ take layout.strings-bytes (drop layout.first-length m) → strings-in l ≡ strings s
   strings-are q = rw (q, behind) (strings-back (strings s) (length-strings s (pre .fine)))
 
-  pub unpackable : {l : List ℕ} → l ≡ take 40936 (drop 24 m) → Unpackable l pool ends
+  pub unpackable : {l : List ℕ} → l ≡ take layout.strings-bytes (drop layout.first-length m) → Unpackable l pool ends
   unpackable {l} q =
       record {
         packed = record {
@@ -141,12 +142,12 @@ module _ {m : List ℕ} {pool ends numbers : ℕ} (pre : Openable m pool ends nu
         cells = pre .bounds;
       }
 
-  pub opened : {l p e n : List ℕ} → l ≡ take 40936 (drop 24 m) → n ≡ threes-in 8 m → Holds p e (strings-in l) → HoldsState p e n s
+  pub opened : {l p e n : List ℕ} → l ≡ take layout.strings-bytes (drop layout.first-length m) → n ≡ threes-in layout.scalars-count m → Holds p e (strings-in l) → HoldsState p e n s
   opened q r h = record { holds = rw (strings-are q) at h; numbers = r ∙ scalars-are; fine = pre .fine }
 
 -- the strings in their place behind the scalars
-pub strung : (m : List ℕ) {l x : List ℕ} → l ≡ x → take 24 m ++ (l ++ drop 40936 (drop 24 m)) ≡ take 24 m ++ (x ++ drop 40960 m)
-strung m q = rw (q, drop-drop 40936 24 m) refl
+pub strung : (m : List ℕ) {l x : List ℕ} → l ≡ x → take layout.first-length m ++ (l ++ drop layout.strings-bytes (drop layout.first-length m)) ≡ take layout.first-length m ++ (x ++ drop limit.state m)
+strung m q = rw (q, drop-drop layout.strings-bytes layout.first-length m) refl
 
 -- and closed again
 module _ {p e n : List ℕ} {cells : ℕ} (pre : Closable p e n cells) where
@@ -156,14 +157,14 @@ module _ {p e n : List ℕ} {cells : ℕ} (pre : Closable p e n cells) where
   pub numbers-fit : Numbers n cells
   numbers-fit = record { count = numbers-long (pre .stands); small = λ k. omega (arith, number-most (pre .stands) k); long = omega (arith, pre .long) }
 
-  pub closed : (m : List ℕ) {m₁ m₂ : List ℕ} → m₁ ≡ each three n ++ drop 24 m → m₂ ≡ take 24 m₁ ++ (string-cells (abs p e) ++ drop 40960 m₁) → m₂ ≡ written held m
+  pub closed : (m : List ℕ) {m₁ m₂ : List ℕ} → m₁ ≡ each three n ++ drop layout.first-length m → m₂ ≡ take layout.first-length m₁ ++ (string-cells (abs p e) ++ drop limit.state m₁) → m₂ ≡ written held m
   unfolding written
   closed m {m₁} q r =
       let N : List ℕ = each three n in
-      let l : length N ≡ 24 = length-each 3 three (λ x. refl) n ∙ ap (λ (x : ℕ). 3 * x) (numbers-long (pre .stands)) in
-      let a : take 24 m₁ ≡ N = rw q (take-at N (drop 24 m) 24 l) in
-      let b : drop 40960 m₁ ≡ drop 40960 m =
-      sym (drop-drop 40936 24 m₁) ∙ ap (drop 40936) (ap (drop 24) q ∙ drop-at N (drop 24 m) 24 l) ∙ drop-drop 40936 24 m in
-      let D : List ℕ = drop 40960 m in
+      let l : length N ≡ layout.first-length = length-each 3 three (λ x. refl) n ∙ ap (λ (x : ℕ). 3 * x) (numbers-long (pre .stands)) in
+      let a : take layout.first-length m₁ ≡ N = rw q (take-at N (drop layout.first-length m) layout.first-length l) in
+      let b : drop limit.state m₁ ≡ drop limit.state m =
+      sym (drop-drop layout.strings-bytes layout.first-length m₁) ∙ ap (drop layout.strings-bytes) (ap (drop layout.first-length) q ∙ drop-at N (drop layout.first-length m) layout.first-length l) ∙ drop-drop layout.strings-bytes layout.first-length m in
+      let D : List ℕ = drop limit.state m in
       r ∙ rw (a, b) (ap (λ (l : List ℕ). l ++ (string-cells (abs p e) ++ D)) (ap (each three) (pre .stands .numbers)))
       ∙ ap (λ (v : List (List ℕ)). each three (scalars held) ++ (string-cells v ++ D)) (pre .stands .holds .is) ∙ sym (state-parts held D)

@@ -20,6 +20,7 @@ use Rattle.layout.specs.Memory.{state-of, written}
 use Rattle.layout.specs.MemoryLaws.{memory-facts, memory-fine}
 use Rattle.layout.specs.Table.{program-of}
 use Rattle.layout.specs.TableLaws.{table-facts}
+use Rattle.layout.specs.Places as layout
 use Rattle.resting.specs.Resting.{Openable, Closable}
 use Rattle.state.specs.Working.{state-at, HoldsState}
 use Rattle.state.proofs.Standing as standing
@@ -95,7 +96,7 @@ module _ {c i j m : List ℕ} (pre : Runnable c i j m) where
   abbrev program-good : T (good-program (program-of c))
   program-good = table-facts c (pre .table) .good
 
-  pub openable : {pool ends numbers : ℕ} → pool ≡ 65536 → ends ≡ 198 → numbers ≡ 8 → Openable m pool ends numbers
+  pub openable : {pool ends numbers : ℕ} → pool ≡ 65536 → ends ≡ layout.ends-count → numbers ≡ 8 → Openable m pool ends numbers
   openable x y z =
       let rest = memory-facts (program-of c) (inputs i j) m (pre .memory) in
       record {

@@ -2,6 +2,7 @@
 ghost use lib.ListN.{length};
 ghost use Rattle.performing.specs.Stepping.{Steppable};
 ghost use Rattle.running.specs.Running.{RanTo, Runnable, Ran-on};
+use layout::StatePlaces;
 
 // The answer of a run: 81 for a pause, or the number of a stop; and how many instructions were completed.
 pub struct Ran {
@@ -47,10 +48,10 @@ pub fn run(table: &[u32], i1: &[u8], i2: &[u8], state: &mut [u8], budget: u32) -
     requires { ⌜ Runnable (now table) (now i1) (now i2) (now state) ⌝ }
     ensures { λ r. ⌜ Ran-on (now (table .entry)) (now (i1 .entry)) (now (i2 .entry)) budget (now (state .entry)) r (now (state .exit)) ⌝ }
 {
-    let mut pool = [0u8; 65536];
-    let mut ends = [0u32; 198];
-    let mut nums = [0u32; 8];
-    let mut scratch = [0u8; 65536];
+    let mut pool = [0u8; gaps::SIZE];
+    let mut ends = [0u32; StatePlaces::ENDS_COUNT];
+    let mut nums = [0u32; StatePlaces::SCALARS_COUNT];
+    let mut scratch = [0u8; gaps::SIZE];
     let mut hold = [0u8; 32768];
     let mut given = [0u8; 32768];
     resting::unpack_state(state, &mut pool, &mut ends, &mut nums);

@@ -12,10 +12,12 @@ use Rattle.machine.specs.Changes.{with-plus, minus-unless, with-outputs, with-p
 use Rattle.layout.specs.Bounds.{Fine}
 use Rattle.layout.specs.Memory.{scalars, strings}
 use Rattle.layout.specs.MemoryLaws.{string-output}
+use Rattle.layout.specs.Places as layout
 use Rattle.gaps.specs.Gaps.{pushedBack}
 use Rattle.gaps.specs.Pool.{abs, Holds}
 use Rattle.store.specs.Store.{Pushable}
-use Rattle.state.specs.Working.{output-string, state-at, HoldsState, on-store, nth}
+use Rattle.layout.specs.Places.{output-string}
+use Rattle.state.specs.Working.{state-at, HoldsState, on-store, nth}
 use Rattle.state.specs.Blocks.{Printable, Readable}
 use Rattle.state.proofs.Standing.{pushable, place-is}
 use Rattle.state.proofs.Strings.{strings-output}
@@ -64,7 +66,7 @@ module _ {p e n : List ℕ} {sc i : ℕ} (w : List ℕ) (pre : Printable p e n s
 -- ---- H
 
 module _ {p e n : List ℕ} {s : State} (h : HoldsState p e n s) where
-  plus-set : (b : Bool) {n′ : List ℕ} → n′ ≡ set n 0 (cond b 1 0) → HoldsState p e n′ (on-store (with-plus b) s)
+  plus-set : (b : Bool) {n′ : List ℕ} → n′ ≡ set n layout.plus-scalar (cond b 1 0) → HoldsState p e n′ (on-store (with-plus b) s)
   unfolding on-store with-plus held recorded strings
   plus-set b q =
       let f = h .fine in
@@ -76,17 +78,17 @@ module _ {p e n : List ℕ} {s : State} (h : HoldsState p e n s) where
             (f .next-below) (f .stack-ok) (f .stack-most);
       }
 
-  pub plus-on : {b : Bool} {n′ : List ℕ} → b ≡ true → n′ ≡ set n 0 1 → HoldsState p e n′ (on-store (with-plus b) s)
+  pub plus-on : {b : Bool} {n′ : List ℕ} → b ≡ true → n′ ≡ set n layout.plus-scalar 1 → HoldsState p e n′ (on-store (with-plus b) s)
   plus-on t q = rw t (plus-set true q)
 
-  pub plus-off : {b : Bool} {n′ : List ℕ} → b ≡ false → n′ ≡ set n 0 0 → HoldsState p e n′ (on-store (with-plus b) s)
+  pub plus-off : {b : Bool} {n′ : List ℕ} → b ≡ false → n′ ≡ set n layout.plus-scalar 0 → HoldsState p e n′ (on-store (with-plus b) s)
   plus-off t q = rw t (plus-set false q)
 
   pub plus-kept : {b : Bool} → b ≡ true → HoldsState p e n (on-store (minus-unless b) s)
   unfolding on-store minus-unless with-plus
   plus-kept t = rw t h
 
-  pub plus-lost : {b : Bool} {n′ : List ℕ} → b ≡ false → n′ ≡ set n 0 0 → HoldsState p e n′ (on-store (minus-unless b) s)
+  pub plus-lost : {b : Bool} {n′ : List ℕ} → b ≡ false → n′ ≡ set n layout.plus-scalar 0 → HoldsState p e n′ (on-store (minus-unless b) s)
   unfolding on-store minus-unless
   plus-lost t q = rw t (plus-set false q)
 

@@ -19,6 +19,7 @@ use Rattle.layout.specs.ComponentLaws.{components-bytes-append}
 use Rattle.layout.specs.Components.{components-bytes, components-in}
 use Rattle.layout.specs.Memory.{components-held, chars-held, scalars, strings}
 use Rattle.layout.specs.MemoryLaws.{expr-encoded}
+use Rattle.layout.specs.Places as layout
 use Rattle.gaps.specs.Gaps.{pushedFront, pushedBack}
 use Rattle.gaps.specs.Pool.{abs, string, Holds}
 use Rattle.store.specs.Store.{Droppable, droppedFront, Pushable}
@@ -103,14 +104,14 @@ module _ {p e n : List ℕ} {i k b c : ℕ} (pre : PartsDroppable p e n i k b c)
   strings-less =
       rw (pre .stands .holds .is, expr-encoded (state-at p e n) (pre .stands .fine) i (pre .index) .is, rest-bytes components-bytes components-bytes-append old k (pre .first .bytes-is))
 
-  pub parts-dropped : {e′ n′ : List ℕ} → Holds p e′ (droppedFront i b (abs p e)) → n′ ≡ totalled (getD n 5 0 - k) (getD n 6 0 - c) n
+  pub parts-dropped : {e′ n′ : List ℕ} → Holds p e′ (droppedFront i b (abs p e)) → n′ ≡ totalled (getD n layout.components-scalar 0 - k) (getD n layout.characters-scalar 0 - c) n
       → HoldsState p e′ n′ (on-store (past (nth (reading true) i) k) (state-at p e n))
   unfolding past past-by put-expr on-store
   parts-dropped g q =
       let h = pre .stands in
       let s = state-at p e n in
       let l = parts-lowerable in
-      holds-expr s (h .fine) i (pre .index) (drop k old) (getD n 5 0 - k) (getD n 6 0 - c)
+      holds-expr s (h .fine) i (pre .index) (drop k old) (getD n layout.components-scalar 0 - k) (getD n layout.characters-scalar 0 - c)
       (omega (arith, number-is h 5, l .components, length-drop k old, pre .first .most))
       (omega (arith, number-is h 6, l .characters, counts, pre .first .chars-is))
       h (each-drop Ok k old (expr-encoded s (h .fine) i (pre .index) .all-ok))
@@ -197,7 +198,7 @@ module _ {p e n : List ℕ} {sc i : ℕ} {new : List ℕ} {k c : ℕ} (pre : Par
       i l (strings-then s (h .fine) i (pre .index) (added b xs ys) c′ d′ parts-more chars-more) (omega (arith, pre .index))
       (omega (arith, added-long b xs ys, ap length (pre .whole .is), ap length (expr-encoded s (h .fine) i (pre .index) .is))) (pre .spare)
 
-  pub parts-written : {p′ e′ n′ : List ℕ} → Holds p′ e′ (pushed b i new (abs p e)) → n′ ≡ totalled (getD n 5 0 + k) (getD n 6 0 + c) n
+  pub parts-written : {p′ e′ n′ : List ℕ} → Holds p′ e′ (pushed b i new (abs p e)) → n′ ≡ totalled (getD n layout.components-scalar 0 + k) (getD n layout.characters-scalar 0 + c) n
       → HoldsState p′ e′ n′ (on-store (into (nth (writing b) i) (components-in new)) (state-at p e n))
   unfolding on-store
   parts-written {n′ = n′} g q =

@@ -17,10 +17,12 @@ use Rattle.layout.specs.CellLaws.{each-at}
 use Rattle.layout.specs.FineLaws.{fine-room}
 use Rattle.layout.specs.Bounds.{Each, Encoded, Fine}
 use Rattle.layout.specs.Strings.{used}
+use Rattle.layout.specs.Places as layout
 use Rattle.gaps.proofs.Index.{used-set}
 use Rattle.gaps.specs.Pool.{abs, string}
 use Rattle.store.specs.Store.{Named, Long, Whole, Pushable}
-use Rattle.state.specs.Working.{output-string, state-at, HoldsState, Stands, on-store, nth}
+use Rattle.layout.specs.Places.{output-string}
+use Rattle.state.specs.Working.{state-at, HoldsState, Stands, on-store, nth}
 use Rattle.state.specs.Blocks.{Numbered, Told, InputNamed, ReadTo, ExprNamed, ExprLent, OutputNamed, OutputLong}
 
 sign-most : (b : Bool) → cond b 1 0 ≤ limit.addresses
@@ -71,17 +73,17 @@ module _ {p e n : List ℕ} {s : State} (h : HoldsState p e n s) where
   pub number-most : (k : ℕ) → getD n k 0 ≤ limit.addresses
   number-most k = rw (h .numbers) (each-at (λ x. x ≤ limit.addresses) 0 (omega arith) (scalars s) scalars-most k)
 
-  pub plus-is : eqb (getD n 0 0) 1 ≡ s .store .plus
+  pub plus-is : eqb (getD n layout.plus-scalar 0) 1 ≡ s .store .plus
   plus-is = rw (h .numbers) (sign-is (s .store .plus))
 
   pub string-is : (i : ℕ) → string i (abs p e) ≡ string i (strings s)
   string-is i = ap (string i) (h .holds .is)
 
-  pub named : (i : ℕ) → i < 99 → Named p e i
+  pub named : (i : ℕ) → i < layout.strings-count → Named p e i
   named i b = record { fine = h .holds .fine; index = b }
 
   -- m bytes more have room at string i, where a fine state has string i that much longer
-  pub pushable : (t : State) → Fine t → (i : ℕ) (v : List ℕ) → strings t ≡ set (strings s) i v → i < 99 → {m sc : ℕ}
+  pub pushable : (t : State) → Fine t → (i : ℕ) (v : List ℕ) → strings t ≡ set (strings s) i v → i < layout.strings-count → {m sc : ℕ}
       → m + length (string i (strings s)) ≤ length v → 65536 ≤ sc → Pushable p e i m sc
   pushable t f i v q b w x =
       let l : i < length (strings s) = rw (length-strings s (h .fine)) b in

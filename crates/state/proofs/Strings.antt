@@ -15,7 +15,9 @@ use Rattle.layout.specs.CellLaws.{twice, twice-one}
 use Rattle.layout.specs.Components.{components-bytes, records-bytes}
 use Rattle.layout.specs.Memory.{file-strings, strings}
 use Rattle.layout.specs.MemoryLaws.{length-file-strings}
-use Rattle.state.specs.Working.{before-string, after-string, output-string, stack-string, on-store}
+use Rattle.layout.specs.Places as layout
+use Rattle.layout.specs.Places.{before-string, after-string, output-string, stack-string}
+use Rattle.state.specs.Working.{on-store}
 
 set-append-right : {X : Type 0} (xs ys : List X) (k i : ℕ) (y : X) → length xs ≡ k → set (xs ++ ys) (k + i) y ≡ xs ++ set ys i y
 set-append-right [] ys k i y h = rw (sym h) (ap (λ n. set ys n y) (zero-add i))
@@ -79,18 +81,18 @@ module _ (s : State) (es : length (s .store .exprs) ≡ limit.expressions) (fs :
       ∙ set-append-left (set both-strings (2 * i) b) last-strings (2 * i + 1) a h1)))
 
   -- behind the variables
-  set-last : (k : ℕ) (v : List ℕ) → set (strings s) (96 + k) v ≡ expr-strings ++ (both-strings ++ set last-strings k v)
+  set-last : (k : ℕ) (v : List ℕ) → set (strings s) (layout.stack-string + k) v ≡ expr-strings ++ (both-strings ++ set last-strings k v)
   unfolding strings
   set-last k v =
-      let h : length (expr-strings ++ both-strings) ≡ 96 = simp length-append (omega (arith, exprs-long, files-long)) in
+      let h : length (expr-strings ++ both-strings) ≡ layout.stack-string = simp length-append (omega (arith, exprs-long, files-long)) in
       rw (← append-assoc expr-strings both-strings last-strings, ← append-assoc expr-strings both-strings (set last-strings k v))
-      (set-append-right (expr-strings ++ both-strings) last-strings 96 k v h)
+      (set-append-right (expr-strings ++ both-strings) last-strings layout.stack-string k v h)
 
   -- output k becomes w
   pub strings-output : (k : ℕ) (w : List ℕ)
       → strings (on-store (with-outputs (set (s .store .outputs) k w)) s) ≡ set (strings s) (output-string k) w
   unfolding strings on-store with-outputs
-  strings-output k w = let n : output-string k ≡ 96 + suc k = omega arith in rw n (sym (set-last (suc k) w))
+  strings-output k w = let n : output-string k ≡ layout.stack-string + suc k = omega arith in rw n (sym (set-last (suc k) w))
 
   -- the stack becomes st
   pub strings-stack : (n : ℕ) (st : List ℕ)

@@ -13,6 +13,7 @@ use Rattle.machine.specs.Changes.{put-expr}
 use Rattle.layout.specs.Bounds.{Encoded, WholeComponents}
 use Rattle.layout.specs.Components.{components-bytes, components-in}
 use Rattle.layout.specs.Memory.{components-held, chars-held, scalars}
+use Rattle.layout.specs.Places as layout
 use Rattle.gaps.specs.Gaps.{pushedFront, pushedBack}
 use Rattle.state.specs.Working.{state-at, Stands, nth, char-count}
 
@@ -60,17 +61,17 @@ pub record OutputLong (p e n : List ℕ) (i r : ℕ) : Type 0 where
 
 -- the totals of components and characters c and d
 unfoldable pub totalled : ℕ → ℕ → List ℕ → List ℕ
-totalled c d n = set (set n 5 c) 6 d
+totalled c d n = set (set n layout.components-scalar c) 6 d
 
 pub record Raisable (n : List ℕ) (parts chars : ℕ) : Type 0 where
   pub long : length n ≡ 8
-  pub components : getD n 5 0 + parts ≤ limit.components
-  pub characters : getD n 6 0 + chars ≤ limit.characters
+  pub components : getD n layout.components-scalar 0 + parts ≤ limit.components
+  pub characters : getD n layout.characters-scalar 0 + chars ≤ limit.characters
 
 pub record Lowerable (n : List ℕ) (parts chars : ℕ) : Type 0 where
   pub long : length n ≡ 8
-  pub components : parts ≤ getD n 5 0
-  pub characters : chars ≤ getD n 6 0
+  pub components : parts ≤ getD n layout.components-scalar 0
+  pub characters : chars ≤ getD n layout.characters-scalar 0
 
 -- ---- parts of an expression
 

@@ -14,19 +14,6 @@ use Rattle.layout.specs.Bounds.{Fine}
 use Rattle.layout.specs.Memory.{scalars, strings, state-by}
 use Rattle.gaps.specs.Pool.{abs, Holds}
 
--- where the strings of a state stand. Variables are counted from 0 here; expression i is string i
-abbrev pub before-string : ℕ → ℕ
-before-string i = 32 + 2 * i
-
-abbrev pub after-string : ℕ → ℕ
-after-string i = 32 + (2 * i + 1)
-
-abbrev pub stack-string : ℕ
-stack-string = 96
-
-abbrev pub output-string : ℕ → ℕ
-output-string i = 97 + i
-
 -- the state of the strings that pool p and ends e hold, and of the scalars n
 unfoldable pub state-at : List ℕ → List ℕ → List ℕ → State
 state-at p e n = state-by (abs p e) n

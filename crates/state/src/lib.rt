@@ -10,6 +10,8 @@ ghost use Rattle.gaps.specs.Pool.{abs, Holds};
 ghost use Rattle.store.specs.Store.{Pushable};
 ghost use Rattle.state.specs.Working.{state-at, HoldsState, Stands, on-store, nth, reading, writing};
 ghost use Rattle.state.specs.Blocks.{Numbered, Told, InputNamed, ReadTo, ExprNamed, ExprLent, OutputNamed, OutputLong, totalled, Raisable, Lowerable, PartsDroppable, PartsWritable, pushed, ExprsExchangeable, exprs-exchanged, Printable, Readable};
+ghost use Rattle.layout.specs.Places.{components-scalar, characters-scalar};
+use layout::StatePlaces;
 
 // Scalar `k`: H (1 for plus), the read places, the next instruction, the last address, and the totals of components, characters and records.
 pub fn number(pool: &[u8], ends: &[u32], nums: &[u32], k: usize) -> usize
@@ -24,7 +26,7 @@ pub fn is_plus(pool: &[u8], ends: &[u32], nums: &[u32]) -> bool
     requires { ⌜ Stands (now pool) (now ends) (now nums) ⌝ }
     ensures { λ r. ⌜ r ≡ state-at (now (pool .entry)) (now (ends .entry)) (now (nums .entry)) .store .plus ⌝ }
 {
-    cells::read(nums, 0) == 1
+    cells::read(nums, StatePlaces::PLUS_SCALAR) == 1
 }
 
 // How many characters of input `i` are read.
@@ -32,7 +34,7 @@ pub fn place(pool: &[u8], ends: &[u32], nums: &[u32], i: usize) -> usize
     requires { ⌜ InputNamed (now pool) (now ends) (now nums) i ⌝ }
     ensures { λ r. ⌜ ReadTo (now (pool .entry)) (now (ends .entry)) (now (nums .entry)) i r ⌝ }
 {
-    cells::read(nums, 1 + i)
+    cells::read(nums, StatePlaces::FIRST_PLACE + i)
 }
 
 // The bytes of expression `i`.
@@ -48,29 +50,29 @@ pub fn output_len(pool: &[u8], ends: &[u32], nums: &[u32], i: usize) -> usize
     requires { ⌜ OutputNamed (now pool) (now ends) (now nums) i ⌝ }
     ensures { λ r. ⌜ OutputLong (now (pool .entry)) (now (ends .entry)) (now (nums .entry)) i r ⌝ }
 {
-    store::len_of(pool, ends, 97 + i)
+    store::len_of(pool, ends, StatePlaces::FIRST_OUTPUT + i)
 }
 
 // Adds to the totals of components and characters.
 pub fn raise(nums: &mut [u32], parts: usize, chars: usize)
     requires { ⌜ Raisable (now nums) parts chars ⌝ }
-    ensures { λ _. ⌜ now (nums .exit) ≡ totalled (getD (now (nums .entry)) 5 0 + parts) (getD (now (nums .entry)) 6 0 + chars) (now (nums .entry)) ⌝ }
+    ensures { λ _. ⌜ now (nums .exit) ≡ totalled (getD (now (nums .entry)) components-scalar 0 + parts) (getD (now (nums .entry)) characters-scalar 0 + chars) (now (nums .entry)) ⌝ }
 {
-    let c = cells::read(nums, 5);
-    let d = cells::read(nums, 6);
-    cells::write(nums, 5, c + parts);
-    cells::write(nums, 6, d + chars);
+    let c = cells::read(nums, StatePlaces::COMPONENTS_SCALAR);
+    let d = cells::read(nums, StatePlaces::CHARACTERS_SCALAR);
+    cells::write(nums, StatePlaces::COMPONENTS_SCALAR, c + parts);
+    cells::write(nums, StatePlaces::CHARACTERS_SCALAR, d + chars);
 }
 
 // Takes from the totals of components and characters.
 pub fn lower(nums: &mut [u32], parts: usize, chars: usize)
     requires { ⌜ Lowerable (now nums) parts chars ⌝ }
-    ensures { λ _. ⌜ now (nums .exit) ≡ totalled (getD (now (nums .entry)) 5 0 - parts) (getD (now (nums .entry)) 6 0 - chars) (now (nums .entry)) ⌝ }
+    ensures { λ _. ⌜ now (nums .exit) ≡ totalled (getD (now (nums .entry)) components-scalar 0 - parts) (getD (now (nums .entry)) characters-scalar 0 - chars) (now (nums .entry)) ⌝ }
 {
-    let c = cells::read(nums, 5);
-    let d = cells::read(nums, 6);
-    cells::write(nums, 5, c - parts);
-    cells::write(nums, 6, d - chars);
+    let c = cells::read(nums, StatePlaces::COMPONENTS_SCALAR);
+    let d = cells::read(nums, StatePlaces::CHARACTERS_SCALAR);
+    cells::write(nums, StatePlaces::COMPONENTS_SCALAR, c - parts);
+    cells::write(nums, StatePlaces::CHARACTERS_SCALAR, d - chars);
 }
 
 // Takes the first components of expression `i` away: how many, their bytes and their characters.
@@ -169,7 +171,7 @@ pub fn print(
     requires { ⌜ Printable (now pool) (now ends) (now nums) (length (now scratch)) i (length (now chars)) ⌝ }
     ensures { λ _. ⌜ HoldsState (now (pool .exit)) (now (ends .exit)) (now (nums .entry)) (on-store (printed (nth Q i) (now (chars .entry))) (state-at (now (pool .entry)) (now (ends .entry)) (now (nums .entry)))) ⌝ }
 {
-    store::push_back(pool, ends, scratch, 97 + i, chars);
+    store::push_back(pool, ends, scratch, StatePlaces::FIRST_OUTPUT + i, chars);
 }
 
 // Sets H.
@@ -178,10 +180,10 @@ pub fn set_plus(pool: &[u8], ends: &[u32], nums: &mut [u32], plus: bool)
     ensures { λ _. ⌜ HoldsState (now (pool .entry)) (now (ends .entry)) (now (nums .exit)) (on-store (with-plus plus) (state-at (now (pool .entry)) (now (ends .entry)) (now (nums .entry)))) ⌝ }
 {
     if plus {
-        cells::write(nums, 0, 1);
+        cells::write(nums, StatePlaces::PLUS_SCALAR, 1);
         return;
     }
-    cells::write(nums, 0, 0);
+    cells::write(nums, StatePlaces::PLUS_SCALAR, 0);
 }
 
 // Turns H minus, unless the test was reached.
@@ -192,7 +194,7 @@ pub fn minus_unless(pool: &[u8], ends: &[u32], nums: &mut [u32], reached: bool)
     if reached {
         return;
     }
-    cells::write(nums, 0, 0);
+    cells::write(nums, StatePlaces::PLUS_SCALAR, 0);
 }
 
 // Reads past `k` characters of input `i`.
@@ -200,6 +202,6 @@ pub fn read_past(pool: &[u8], ends: &[u32], nums: &mut [u32], i: usize, k: usize
     requires { ⌜ Readable (now pool) (now ends) (now nums) i k ⌝ }
     ensures { λ _. ⌜ HoldsState (now (pool .entry)) (now (ends .entry)) (now (nums .exit)) (on-store (past (nth I i) k) (state-at (now (pool .entry)) (now (ends .entry)) (now (nums .entry)))) ⌝ }
 {
-    let n = cells::read(nums, 1 + i);
-    cells::write(nums, 1 + i, n + k);
+    let n = cells::read(nums, StatePlaces::FIRST_PLACE + i);
+    cells::write(nums, StatePlaces::FIRST_PLACE + i, n + k);
 }

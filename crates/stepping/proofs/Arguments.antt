@@ -12,6 +12,7 @@ use Rattle.layout.specs.CellLaws.{each-at}
 use Rattle.layout.specs.ProgramLaws.{program-ok}
 use Rattle.layout.specs.Table.{number-by, program-of, table-cells, good-table}
 use Rattle.layout.specs.TableLaws.{table-facts, table-cells-below}
+use Rattle.layout.specs.Places as layout
 use Rattle.packed.specs.Packed.{table-of}
 use Rattle.table.proofs.Decode.{small-number, large-number, indexed, labelled, switched, classed, texted, numbered, absent}
 use Rattle.table.specs.Denote.{letter-of, letter-at}
@@ -42,7 +43,7 @@ module _ (t : List ℕ) (small : (k : ℕ) → cell t k < 4294967296) where
     where
       go : (b : Bool) → ltb v 31 ≡ b → (n : ℕ) × (n < 4294967296) × (uncode n ≡ number-by t v)
       go true e = let h = ltb-true v 31 e in (v + 8388592, omega (arith, h), small-number t v h)
-      go false e = (cell t (6312 + (v - 31)), small (6312 + (v - 31)), large-number t v (ltb-false v 31 e))
+      go false e = (cell t (layout.first-number + (v - 31)), small (layout.first-number + (v - 31)), large-number t v (ltb-false v 31 e))
 
   module _ (k : ℕ) where
     abbrev x : ℕ

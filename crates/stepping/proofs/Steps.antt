@@ -16,6 +16,7 @@ use Rattle.machine.specs.WellFormedLaws.{open-state}
 use Rattle.layout.specs.ProgramLaws.{program-ok}
 use Rattle.layout.specs.Table.{program-of}
 use Rattle.layout.specs.TableLaws.{table-facts}
+use Rattle.layout.specs.Places as layout
 use Rattle.control.specs.Going.{going, Following}
 use Rattle.packed.specs.Packed.{table-of}
 use Rattle.decoding.specs.Operands.{Read}
@@ -63,7 +64,7 @@ module _ {c i j p e n : List ℕ} {k scratch hold given : ℕ} (w : Steppable c 
 
 -- a is argument m, from 1, of instruction k
 abbrev Argued : List ℕ → ℕ → ℕ → Argument → Type 0
-Argued c k m a = IsArgument (table-of c) (m + (8 + 4 * k)) a
+Argued c k m a = IsArgument (table-of c) (m + (layout.first-instruction + 4 * k)) a
 
 module _ {c i j p e n : List ℕ} {k op scratch hold given : ℕ} (w : Fetched c i j p e n k op scratch hold given) where
   code-in : k < length (program-of c .code)
@@ -86,7 +87,7 @@ module _ {c i j p e n : List ℕ} {k op scratch hold given : ℕ} (w : Fetched c
 
   -- arguments that are not read
   there : (m : ℕ) → (a : Argument) × Argued c k m a
-  there m = some-argument c (w .ready .table) (m + (8 + 4 * k))
+  there m = some-argument c (w .ready .table) (m + (layout.first-instruction + 4 * k))
 
 -- ---- carried out
 

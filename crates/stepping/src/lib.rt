@@ -12,6 +12,7 @@ ghost use Rattle.stepping.specs.Orders.{Operator, Fetched, GoingOn, Fetc
 ghost use Rattle.perform_values.specs.Valuing.{value-operators};
 ghost use Rattle.perform_equality.specs.Equating.{equality-operators};
 ghost use Rattle.perform_files.specs.Filing.{file-operators};
+use layout::StatePlaces;
 
 // Whether an operator is a jump, call or return, or STOP.
 fn leading(op: usize) -> bool
@@ -229,7 +230,7 @@ pub fn step(
     requires { ⌜ Steppable (now table) (now i1) (now i2) (now pool) (now ends) (now nums) (length (now scratch)) (length (now hold)) (length (now given)) ⌝ }
     ensures { λ r. ⌜ Stepped (now (table .entry)) (now (i1 .entry)) (now (i2 .entry)) (now (pool .entry)) (now (ends .entry)) (now (nums .entry)) r (now (pool .exit)) (now (ends .exit)) (now (nums .exit)) ⌝ }
 {
-    let i = state::number(pool, ends, nums, 3);
+    let i = state::number(pool, ends, nums, StatePlaces::NEXT_SCALAR);
     let op = table::operator(table, i);
     carry_out(op, i, table, i1, i2, pool, ends, nums, scratch, hold, given)
 }

@@ -7,6 +7,7 @@ use native.Mathlib.Omega.{arith}
 use lib.ListN.{length, take, drop, set, length-append, length-take, length-drop}
 use lib.Seq.{take-take, drop-drop, drop-length}
 use Rattle.layout.specs.Strings.{used}
+use Rattle.layout.specs.Places as layout
 use Rattle.gaps.specs.Pool.{lo, hi, str, abs, string, Ordered, Fine, Holds}
 use Rattle.gaps.specs.Gaps.{pushedFront, pushedBack}
 pub use Rattle.gaps.proofs.Index.{used-set}
@@ -21,7 +22,7 @@ use Rattle.store.specs.Store.{Long, Whole, Part, droppedFront, droppedBa
 pub string-most : {p e : List ℕ} → Fine p e → (i : ℕ) → length (string i (abs p e)) ≤ 32768
 string-most {p} {e} f i = omega (arith, offset-within (abs p e) i, f .fits)
 
-module _ {p e : List ℕ} {i : ℕ} (f : Fine p e) (b : i < 99) where
+module _ {p e : List ℕ} {i : ℕ} (f : Fine p e) (b : i < layout.strings-count) where
   pub length-told : {x y : ℕ} → x ≡ lo e i → y ≡ hi e i → Long p e i (y - x)
   length-told q r = let s = shaped f b in record { is = omega arith; most = omega (arith, string-most f i) }
 

@@ -5,6 +5,7 @@ use mathlib.Core.List.{List, []}
 use Prim.Native.Nat.{ℕ, _+_, _-_, _≤_, _<_}
 use lib.ListN.{length, take, drop, set}
 use Rattle.layout.specs.Strings.{used}
+use Rattle.layout.specs.Places as layout
 pub use Rattle.gaps.specs.Pool.{abs, string, Fine, Holds}
 unfoldable pub use Rattle.gaps.specs.Gaps.{pushedFront, pushedBack}
 
@@ -12,7 +13,7 @@ unfoldable pub use Rattle.gaps.specs.Gaps.{pushedFront, pushedBack}
 
 pub record Named (p e : List ℕ) (i : ℕ) : Type 0 where
   pub fine : Fine p e
-  pub index : i < 99
+  pub index : i < layout.strings-count
 
 pub record Long (p e : List ℕ) (i r : ℕ) : Type 0 where
   pub is : r ≡ length (string i (abs p e))
@@ -25,7 +26,7 @@ pub record Whole (p e : List ℕ) (i : ℕ) (r : List ℕ) : Type 0 where
 -- the n bytes of string i from `at` on
 pub record Within (p e : List ℕ) (i at n : ℕ) : Type 0 where
   pub fine : Fine p e
-  pub index : i < 99
+  pub index : i < layout.strings-count
   pub within : at + n ≤ length (string i (abs p e))
 
 pub record Part (p e : List ℕ) (i at n : ℕ) (r : List ℕ) : Type 0 where
@@ -41,7 +42,7 @@ pub record Copyable (p e : List ℕ) (i at n hold : ℕ) : Type 0 where
 
 pub record Droppable (p e : List ℕ) (i n : ℕ) : Type 0 where
   pub fine : Fine p e
-  pub index : i < 99
+  pub index : i < layout.strings-count
   pub within : n ≤ length (string i (abs p e))
 
 unfoldable pub droppedFront : ℕ → ℕ → List (List ℕ) → List (List ℕ)
@@ -57,7 +58,7 @@ emptied i s = set s i []
 
 pub record Pushable (p e : List ℕ) (i n scratch : ℕ) : Type 0 where
   pub fine : Fine p e
-  pub index : i < 99
+  pub index : i < layout.strings-count
   pub total : used (abs p e) + n ≤ 32768
   pub spare : 65536 ≤ scratch
 
@@ -65,8 +66,8 @@ pub record Pushable (p e : List ℕ) (i n scratch : ℕ) : Type 0 where
 
 pub record Movable (p e : List ℕ) (i j n scratch hold : ℕ) : Type 0 where
   pub fine : Fine p e
-  pub source : i < 99
-  pub target : j < 99
+  pub source : i < layout.strings-count
+  pub target : j < layout.strings-count
   pub within : n ≤ length (string i (abs p e))
   pub spare : 65536 ≤ scratch
   pub room : 32768 ≤ hold
@@ -82,8 +83,8 @@ movedBackToFront i j n s = pushedFront j (drop (length (string i s) - n) (string
 
 pub record Exchangeable (p e : List ℕ) (i j scratch hold : ℕ) : Type 0 where
   pub fine : Fine p e
-  pub source : i < 99
-  pub target : j < 99
+  pub source : i < layout.strings-count
+  pub target : j < layout.strings-count
   pub spare : 65536 ≤ scratch
   pub room : 32768 ≤ hold
 

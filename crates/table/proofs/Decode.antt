@@ -12,6 +12,7 @@ use Rattle.language.specs.Program.{Arg}
 use Rattle.language.specs.Program.Arg.{nothing, letter, label, switch, class, text}
 use Rattle.layout.specs.Cells.{cell, uncode}
 use Rattle.layout.specs.Table.{arg-in, arg-by, class-by, text-by, number-by}
+use Rattle.layout.specs.Places as layout
 use Rattle.packed.specs.Packed.{table-of}
 use Rattle.table.specs.Denote.{letter-of, letter-at}
 use Rattle.table.specs.Reads.{IsArgument}
@@ -45,7 +46,7 @@ first-letter (suc (suc (suc (suc (suc (suc (suc (suc (suc (suc (suc (suc n))))))
 pub small-number : (c : List ℕ) (v : ℕ) → v < 31 → uncode (v + 8388592) ≡ number-by c v
 small-number c v h = rw (lt-ltb v 31 h)
 
-pub large-number : (c : List ℕ) (v : ℕ) → 31 ≤ v → uncode (cell c (6312 + (v - 31))) ≡ number-by c v
+pub large-number : (c : List ℕ) (v : ℕ) → 31 ≤ v → uncode (cell c (layout.first-number + (v - 31))) ≡ number-by c v
 large-number c v h = rw (le-ltb v 31 h)
 
 -- the low four bits of a class are its mask

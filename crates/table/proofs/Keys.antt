@@ -15,6 +15,7 @@ use Rattle.language.specs.Program.{Label, Entry, no-entry, key-of, label-at}
 use Rattle.layout.specs.CellLaws.{length-tab, getD-tab}
 use Rattle.layout.specs.Cells.{cell, unfours}
 use Rattle.layout.specs.Table.{chars-in, text-in, text-by, label-in, entry-in, program-of}
+use Rattle.layout.specs.Places as layout
 use Rattle.cells.specs.Cells.{Number}
 use Rattle.packed.specs.Packed.{table-of, Copied}
 use Rattle.packed.proofs.Bytes.{fifteen, fifteen-long, chars-length, and-true}
@@ -34,21 +35,21 @@ module _ (t : List ℕ) (v : ℕ) where
 
 -- a name and a text compared with a word: x is what was read where the length stands
 module _ (c w : List ℕ) (x : ℕ) (r : Bool) where
-  pub name-spelled : (k : ℕ) → x ≡ cell (table-of c) (2056 + 16 * k) → r ≡ sameBytes (chars-in (table-of c) (x % 64) (1 + (2056 + 16 * k))) w
+  pub name-spelled : (k : ℕ) → x ≡ cell (table-of c) (layout.first-label + 16 * k) → r ≡ sameBytes (chars-in (table-of c) (x % 64) (1 + (layout.first-label + 16 * k))) w
       → r ≡ sameBytes (label-in (table-of c) k .name) w
-  name-spelled k e h = subst (λ (y : ℕ). r ≡ sameBytes (chars-in (table-of c) (y % 64) (1 + (2056 + 16 * k))) w) e h
+  name-spelled k e h = subst (λ (y : ℕ). r ≡ sameBytes (chars-in (table-of c) (y % 64) (1 + (layout.first-label + 16 * k))) w) e h
 
-  pub text-spelled : (v : ℕ) → 256 ≤ v → x ≡ cell (table-of c) (4104 + 16 * (v - 256)) → r ≡ sameBytes (chars-in (table-of c) x (4105 + 16 * (v - 256))) w
+  pub text-spelled : (v : ℕ) → 256 ≤ v → x ≡ cell (table-of c) (layout.first-text + 16 * (v - 256)) → r ≡ sameBytes (chars-in (table-of c) x (layout.first-characters + 16 * (v - 256))) w
       → r ≡ sameBytes (text-by (table-of c) v) w
   text-spelled v k e h =
-      subst (λ (l : List ℕ). r ≡ sameBytes l w) (sym (text-many (table-of c) v k)) (subst (λ (y : ℕ). r ≡ sameBytes (chars-in (table-of c) y (4105 + 16 * (v - 256))) w) e h)
+      subst (λ (l : List ℕ). r ≡ sameBytes l w) (sym (text-many (table-of c) v k)) (subst (λ (y : ℕ). r ≡ sameBytes (chars-in (table-of c) y (layout.first-characters + 16 * (v - 256))) w) e h)
 
 -- and copied
 module _ (c o z : List ℕ) (x r : ℕ) where
-  pub text-copied : (v : ℕ) → 256 ≤ v → x ≡ cell (table-of c) (4104 + 16 * (v - 256)) → Copied (chars-in (table-of c) x (4105 + 16 * (v - 256))) o z r
+  pub text-copied : (v : ℕ) → 256 ≤ v → x ≡ cell (table-of c) (layout.first-text + 16 * (v - 256)) → Copied (chars-in (table-of c) x (layout.first-characters + 16 * (v - 256))) o z r
       → Copied (text-by (table-of c) v) o z r
   text-copied v k e h =
-      subst (λ (l : List ℕ). Copied l o z r) (sym (text-many (table-of c) v k)) (subst (λ (y : ℕ). Copied (chars-in (table-of c) y (4105 + 16 * (v - 256))) o z r) e h)
+      subst (λ (l : List ℕ). Copied l o z r) (sym (text-many (table-of c) v k)) (subst (λ (y : ℕ). Copied (chars-in (table-of c) y (layout.first-characters + 16 * (v - 256))) o z r) e h)
 
 -- a word of one character
 pub one-other : (b : ℕ) (w : List ℕ) → (length w ≡ 1 → ⊥) → false ≡ sameBytes (b ∷ []) w
@@ -64,7 +65,7 @@ none-same [] = refl
 none-same (x ∷ w) = ne-eqb (suc (length w)) 0 (λ e. omega (arith, e))
 
 -- the key of an entry
-module _ (c : List ℕ) (e x : ℕ) (is : x ≡ cell (table-of c) (6184 + e)) where
+module _ (c : List ℕ) (e x : ℕ) (is : x ≡ cell (table-of c) (layout.first-entry + e)) where
   pub key-by-name : x / 128 ≡ 0 → x % 128 < cell (table-of c) 1 → label-in (table-of c) (x % 128) .name ≡ key-of (program-of c) (entry-in (table-of c) e)
   key-by-name z h =
       ap (λ (l : Label). l .name) (sym (label-is c (x % 128) h))

@@ -26,6 +26,7 @@ use Rattle.layout.specs.Cells.{cell, uncode}
 use Rattle.layout.specs.ProgramLaws.{program-ok}
 use Rattle.layout.specs.Table.{text-ref, arg-cell, instr-cells, switch-cell, entry-cell, all-entries, table-cells, text-by, class-by, arg-in, label-in, entry-in, switch-in, program-of, good-table}
 use Rattle.layout.specs.TableLaws.{table-facts, instr-at-cell, arg-at-cell, entry-at-cell, switch-at-cell, switch-parts}
+use Rattle.layout.specs.Places as layout
 use Rattle.packed.specs.Packed.{table-of}
 use Rattle.table.specs.Denote.{letter-of, arg-of}
 use Rattle.table.specs.Good.{GoodIndex, GoodLabel, GoodSwitch, GoodText, GoodArgument, GoodInstruction}
@@ -135,8 +136,8 @@ module _ (c : List ℕ) (good : T (good-table c)) where
     abbrev n : ℕ
     n = total (λ x. length (x .entries)) (take k (p .switches))
 
-    written : cell t (6152 + k) ≡ switch-cell n w
-    written = as-written (6152 + k) ∙ switch-at-cell p ok k h
+    written : cell t (layout.first-switch + k) ≡ switch-cell n w
+    written = as-written (layout.first-switch + k) ∙ switch-at-cell p ok k h
 
     counted : k < cell t 2
     counted = subst (λ (m : ℕ). k < m) (switch-count c) h
@@ -177,8 +178,8 @@ module _ (c : List ℕ) (good : T (good-table c)) where
 
       ref-is : entry-ref t (n + j) ≡ text-ref p (text-by t (entry-ref t (n + j)))
       ref-is =
-          let x : ℕ = cell t (6184 + (n + j)) in
-          let e : x ≡ x % 128 + 128 * text-ref p (text-by t (x / 128)) = as-written (6184 + (n + j)) ∙ entry-at-cell p ok (n + j) inside ∙ ap (entry-cell p) entry-is in
+          let x : ℕ = cell t (layout.first-entry + (n + j)) in
+          let e : x ≡ x % 128 + 128 * text-ref p (text-by t (x / 128)) = as-written (layout.first-entry + (n + j)) ∙ entry-at-cell p ok (n + j) inside ∙ ap (entry-cell p) entry-is in
           omega arith
 
       keyed : Keyed c (n + j)
@@ -259,12 +260,12 @@ module _ (c : List ℕ) (good : T (good-table c)) where
     instr-facts : InstrFacts p x
     instr-facts = each-in (InstrFacts p) (p .code) (ok .code-ok) i no-instr h
 
-    arg-written : (j : ℕ) → j < 4 → cell t (j + (8 + 4 * i)) ≡ cell (instr-cells p x) j
-    arg-written j b = as-written (j + (8 + 4 * i)) ∙ arg-at-cell p ok i h j b
+    arg-written : (j : ℕ) → j < 4 → cell t (j + (layout.first-instruction + 4 * i)) ≡ cell (instr-cells p x) j
+    arg-written j b = as-written (j + (layout.first-instruction + 4 * i)) ∙ arg-at-cell p ok i h j b
 
-    pub good-instruction : (n : ℕ) → n ≡ cell t (8 + 4 * i) % 64 → GoodInstruction c i n
+    pub good-instruction : (n : ℕ) → n ≡ cell t (layout.first-instruction + 4 * i) % 64 → GoodInstruction c i n
     good-instruction n e =
-        let w : cell t (8 + 4 * i) ≡ operation (x .op) .number + 64 * x .line = as-written (8 + 4 * i) ∙ instr-at-cell p ok i h in
+        let w : cell t (layout.first-instruction + 4 * i) ≡ operation (x .op) .number + 64 * x .line = as-written (layout.first-instruction + 4 * i) ∙ instr-at-cell p ok i h in
         let r = operator-range (x .op) in
         let m : operation (x .op) .number ≡ n = omega (arith, w, r, e) in
         record {
@@ -277,14 +278,14 @@ module _ (c : List ℕ) (good : T (good-table c)) where
           operator = ap operator-of (sym m) ∙ operator-back (x .op);
         }
 
-    pub first-good : (r : Argument) → IsArgument t (1 + (8 + 4 * i)) r → GoodArgument c (x .first) r
+    pub first-good : (r : Argument) → IsArgument t (1 + (layout.first-instruction + 4 * i)) r → GoodArgument c (x .first) r
     first-good r q =
-        argument-good (x .first) (1 + (8 + 4 * i)) r (instr-facts .first) (arg-written 1 (omega arith)) (ap (λ (y : Instr). y .first) (sym (instr-is c i instr-counted))) q
+        argument-good (x .first) (1 + (layout.first-instruction + 4 * i)) r (instr-facts .first) (arg-written 1 (omega arith)) (ap (λ (y : Instr). y .first) (sym (instr-is c i instr-counted))) q
 
-    pub second-good : (r : Argument) → IsArgument t (2 + (8 + 4 * i)) r → GoodArgument c (x .second) r
+    pub second-good : (r : Argument) → IsArgument t (2 + (layout.first-instruction + 4 * i)) r → GoodArgument c (x .second) r
     second-good r q =
-        argument-good (x .second) (2 + (8 + 4 * i)) r (instr-facts .second) (arg-written 2 (omega arith)) (ap (λ (y : Instr). y .second) (sym (instr-is c i instr-counted))) q
+        argument-good (x .second) (2 + (layout.first-instruction + 4 * i)) r (instr-facts .second) (arg-written 2 (omega arith)) (ap (λ (y : Instr). y .second) (sym (instr-is c i instr-counted))) q
 
-    pub third-good : (r : Argument) → IsArgument t (3 + (8 + 4 * i)) r → GoodArgument c (x .third) r
+    pub third-good : (r : Argument) → IsArgument t (3 + (layout.first-instruction + 4 * i)) r → GoodArgument c (x .third) r
     third-good r q =
-        argument-good (x .third) (3 + (8 + 4 * i)) r (instr-facts .third) (arg-written 3 (omega arith)) (ap (λ (y : Instr). y .third) (sym (instr-is c i instr-counted))) q
+        argument-good (x .third) (3 + (layout.first-instruction + 4 * i)) r (instr-facts .third) (arg-written 3 (omega arith)) (ap (λ (y : Instr). y .third) (sym (instr-is c i instr-counted))) q

@@ -9,6 +9,7 @@ use Rattle.language.specs.Limits as limit
 use Rattle.language.specs.Program.{Entry, key-of}
 use Rattle.layout.specs.Cells.{cell, tab}
 use Rattle.layout.specs.Table.{text-by, arg-in, entry-in, program-of}
+use Rattle.layout.specs.Places as layout
 use Rattle.packed.specs.Packed.{table-of}
 use Rattle.table.specs.Denote.{arg-of}
 use Rattle.table.specs.declared.Argument.{Argument}
@@ -44,14 +45,14 @@ pub record Into (c : List ℕ) (k n m : ℕ) : Type 0 where
 
 -- the first entry of switch k, and how many it has
 abbrev pub switch-first : List ℕ → ℕ → ℕ
-switch-first c k = cell c (6152 + k) / 512
+switch-first c k = cell c (layout.first-switch + k) / 512
 
 abbrev pub switch-size : List ℕ → ℕ → ℕ
-switch-size c k = cell c (6152 + k) / 2 % 256
+switch-size c k = cell c (layout.first-switch + k) / 2 % 256
 
 -- the reference of the text of entry e
 abbrev pub entry-ref : List ℕ → ℕ → ℕ
-entry-ref c e = cell c (6184 + e) / 128
+entry-ref c e = cell c (layout.first-entry + e) / 128
 
 -- entry e is in the table, its label is declared, and its text, where it has one, is there
 pub record Keyed (c : List ℕ) (e : ℕ) : Type 0 where

@@ -11,7 +11,10 @@ ghost use Rattle.layout.specs.Table.{number-by, text-by, instr-in, label-in, sw
 ghost use Rattle.packed.specs.Packed.{table-of, Copied};
 ghost use Rattle.table.specs.Denote.{letter-of, letter-at};
 ghost use Rattle.table.specs.Reads.{Place, IsArgument, Into, switch-first, switch-size, entry-ref, Keyed, Entries, entries-from, met};
+ghost use Rattle.language.specs.Limits as limit;
+ghost use Rattle.layout.specs.Places.{instruction-count, label-count, switch-count, entry-count, text-count, number-count, first-instruction};
 use language::Machine;
+use layout::TablePlaces;
 
 pub enum Letter {
     A,
@@ -29,7 +32,8 @@ pub enum Letter {
 }
 
 // "An argument is an indexed letter, a label, a class, a text, a number or nothing." A label and a switch are their places, a class is its
-// mask (L 1, D 2, B 4, R 8), a text its reference (see text_length) and a number its value + 8,388,607.
+// mask (L 1, D 2, B 4, R 8), and a number its value + 8,388,607. A text is its reference: 0 for none, its byte for one character, otherwise 256 and
+// its place in the table of texts.
 pub enum Argument {
     Nothing,
     Indexed(Letter, usize),
@@ -39,18 +43,6 @@ pub enum Argument {
     Text(usize),
     Number(u32),
 }
-
-pub const FIRST_INSTRUCTION: usize = 8;
-
-pub const FIRST_LABEL: usize = 2056;
-
-pub const FIRST_TEXT: usize = 4104;
-
-pub const FIRST_SWITCH: usize = 6152;
-
-pub const FIRST_ENTRY: usize = 6184;
-
-pub const FIRST_NUMBER: usize = 6312;
 
 fn wide(x: u32) -> usize
     ensures { λ r. ⌜ Number x 4294967296 r ⌝ }
@@ -85,7 +77,7 @@ fn byte_is(b: usize, word: &[u8]) -> bool
 
 // Cell `k`, and 0 past the table.
 fn cell_at(table: &[u32], k: usize) -> u32
-    requires { ⌜ 8192 ≤ length (now table) ⌝ }
+    requires { ⌜ limit.table ≤ length (now table) ⌝ }
     ensures { λ r. ⌜ r ≡ cell (table-of (now (table .entry))) k ⌝ }
 {
     if k < Machine::TABLE {
@@ -115,18 +107,18 @@ fn letter_by(n: u32) -> Letter
 
 // The value + 8,388,607 of a number that an argument refers to.
 fn number_by(table: &[u32], v: u32) -> u32
-    requires { ⌜ 8192 ≤ length (now table) ⌝ }
+    requires { ⌜ limit.table ≤ length (now table) ⌝ }
     ensures { λ r. ⌜ uncode r ≡ number-by (table-of (now (table .entry))) v ⌝ }
 {
     if v < 31 {
         return v + 8388592;
     }
-    cell_at(table, FIRST_NUMBER + wide(v - 31))
+    cell_at(table, TablePlaces::FIRST_NUMBER + wide(v - 31))
 }
 
 // The argument in cell `k`.
 fn argument_at(table: &[u32], k: usize) -> Argument
-    requires { ⌜ Place (now table) k 8192 ⌝ }
+    requires { ⌜ Place (now table) k limit.table ⌝ }
     ensures { λ r. ⌜ IsArgument (table-of (now (table .entry))) k r ⌝ }
 {
     let x = table[k];
@@ -144,7 +136,7 @@ fn argument_at(table: &[u32], k: usize) -> Argument
 
 // A number in cell `k`.
 fn read(table: &[u32], k: usize) -> usize
-    requires { ⌜ Place (now table) k 8192 ⌝ }
+    requires { ⌜ Place (now table) k limit.table ⌝ }
     ensures { λ r. ⌜ Number (cell (table-of (now (table .entry))) k) 4294967296 r ⌝ }
 {
     cells::read(table, k)
@@ -152,53 +144,53 @@ fn read(table: &[u32], k: usize) -> usize
 
 // How many instructions, labels, switches, entries, texts and numbers the program has.
 pub fn instructions(table: &[u32]) -> usize
-    requires { ⌜ 8192 ≤ length (now table) ⌝ }
-    ensures { λ r. ⌜ Number (cell (table-of (now (table .entry))) 0) 4294967296 r ⌝ }
+    requires { ⌜ limit.table ≤ length (now table) ⌝ }
+    ensures { λ r. ⌜ Number (cell (table-of (now (table .entry))) instruction-count) 4294967296 r ⌝ }
 {
-    read(table, 0)
+    read(table, TablePlaces::INSTRUCTION_COUNT)
 }
 
 pub fn labels(table: &[u32]) -> usize
-    requires { ⌜ 8192 ≤ length (now table) ⌝ }
-    ensures { λ r. ⌜ Number (cell (table-of (now (table .entry))) 1) 4294967296 r ⌝ }
+    requires { ⌜ limit.table ≤ length (now table) ⌝ }
+    ensures { λ r. ⌜ Number (cell (table-of (now (table .entry))) label-count) 4294967296 r ⌝ }
 {
-    read(table, 1)
+    read(table, TablePlaces::LABEL_COUNT)
 }
 
 pub fn switches(table: &[u32]) -> usize
-    requires { ⌜ 8192 ≤ length (now table) ⌝ }
-    ensures { λ r. ⌜ Number (cell (table-of (now (table .entry))) 2) 4294967296 r ⌝ }
+    requires { ⌜ limit.table ≤ length (now table) ⌝ }
+    ensures { λ r. ⌜ Number (cell (table-of (now (table .entry))) switch-count) 4294967296 r ⌝ }
 {
-    read(table, 2)
+    read(table, TablePlaces::SWITCH_COUNT)
 }
 
 pub fn entries(table: &[u32]) -> usize
-    requires { ⌜ 8192 ≤ length (now table) ⌝ }
-    ensures { λ r. ⌜ Number (cell (table-of (now (table .entry))) 3) 4294967296 r ⌝ }
+    requires { ⌜ limit.table ≤ length (now table) ⌝ }
+    ensures { λ r. ⌜ Number (cell (table-of (now (table .entry))) entry-count) 4294967296 r ⌝ }
 {
-    read(table, 3)
+    read(table, TablePlaces::ENTRY_COUNT)
 }
 
 pub fn texts(table: &[u32]) -> usize
-    requires { ⌜ 8192 ≤ length (now table) ⌝ }
-    ensures { λ r. ⌜ Number (cell (table-of (now (table .entry))) 4) 4294967296 r ⌝ }
+    requires { ⌜ limit.table ≤ length (now table) ⌝ }
+    ensures { λ r. ⌜ Number (cell (table-of (now (table .entry))) text-count) 4294967296 r ⌝ }
 {
-    read(table, 4)
+    read(table, TablePlaces::TEXT_COUNT)
 }
 
 pub fn numbers(table: &[u32]) -> usize
-    requires { ⌜ 8192 ≤ length (now table) ⌝ }
-    ensures { λ r. ⌜ Number (cell (table-of (now (table .entry))) 5) 4294967296 r ⌝ }
+    requires { ⌜ limit.table ≤ length (now table) ⌝ }
+    ensures { λ r. ⌜ Number (cell (table-of (now (table .entry))) number-count) 4294967296 r ⌝ }
 {
-    read(table, 5)
+    read(table, TablePlaces::NUMBER_COUNT)
 }
 
 // The number of instruction `i`'s operator.
 pub fn operator(table: &[u32], i: usize) -> usize
     requires { ⌜ Place (now table) i 512 ⌝ }
-    ensures { λ r. ⌜ Number (cell (table-of (now (table .entry))) (8 + 4 * i) % 64) 64 r ⌝ }
+    ensures { λ r. ⌜ Number (cell (table-of (now (table .entry))) (first-instruction + 4 * i) % 64) 64 r ⌝ }
 {
-    read(table, FIRST_INSTRUCTION + 4 * i) % 64
+    read(table, TablePlaces::FIRST_INSTRUCTION + 4 * i) % 64
 }
 
 // The line of instruction `i`.
@@ -206,29 +198,29 @@ pub fn line(table: &[u32], i: usize) -> usize
     requires { ⌜ Place (now table) i 512 ⌝ }
     ensures { λ r. ⌜ Number (instr-in (table-of (now (table .entry))) i .line) 67108864 r ⌝ }
 {
-    read(table, FIRST_INSTRUCTION + 4 * i) / 64
+    read(table, TablePlaces::FIRST_INSTRUCTION + 4 * i) / 64
 }
 
 // The arguments of instruction `i`.
 pub fn first(table: &[u32], i: usize) -> Argument
     requires { ⌜ Place (now table) i 512 ⌝ }
-    ensures { λ r. ⌜ IsArgument (table-of (now (table .entry))) (1 + (8 + 4 * i)) r ⌝ }
+    ensures { λ r. ⌜ IsArgument (table-of (now (table .entry))) (1 + (first-instruction + 4 * i)) r ⌝ }
 {
-    argument_at(table, 1 + (FIRST_INSTRUCTION + 4 * i))
+    argument_at(table, 1 + (TablePlaces::FIRST_INSTRUCTION + 4 * i))
 }
 
 pub fn second(table: &[u32], i: usize) -> Argument
     requires { ⌜ Place (now table) i 512 ⌝ }
-    ensures { λ r. ⌜ IsArgument (table-of (now (table .entry))) (2 + (8 + 4 * i)) r ⌝ }
+    ensures { λ r. ⌜ IsArgument (table-of (now (table .entry))) (2 + (first-instruction + 4 * i)) r ⌝ }
 {
-    argument_at(table, 2 + (FIRST_INSTRUCTION + 4 * i))
+    argument_at(table, 2 + (TablePlaces::FIRST_INSTRUCTION + 4 * i))
 }
 
 pub fn third(table: &[u32], i: usize) -> Argument
     requires { ⌜ Place (now table) i 512 ⌝ }
-    ensures { λ r. ⌜ IsArgument (table-of (now (table .entry))) (3 + (8 + 4 * i)) r ⌝ }
+    ensures { λ r. ⌜ IsArgument (table-of (now (table .entry))) (3 + (first-instruction + 4 * i)) r ⌝ }
 {
-    argument_at(table, 3 + (FIRST_INSTRUCTION + 4 * i))
+    argument_at(table, 3 + (TablePlaces::FIRST_INSTRUCTION + 4 * i))
 }
 
 // The instruction that label `k` stands at.
@@ -236,7 +228,7 @@ pub fn target(table: &[u32], k: usize) -> usize
     requires { ⌜ Place (now table) k 128 ⌝ }
     ensures { λ r. ⌜ Number (label-in (table-of (now (table .entry))) k .target) 67108864 r ⌝ }
 {
-    read(table, FIRST_LABEL + 16 * k) / 64
+    read(table, TablePlaces::FIRST_LABEL + 16 * k) / 64
 }
 
 // Whether the name of label `k` is `word`.
@@ -244,7 +236,7 @@ pub fn name_is(table: &[u32], k: usize, word: &[u8]) -> bool
     requires { ⌜ Place (now table) k 128 ⌝ }
     ensures { λ r. ⌜ r ≡ sameBytes (label-in (table-of (now (table .entry))) k .name) (now (word .entry)) ⌝ }
 {
-    let at = FIRST_LABEL + 16 * k;
+    let at = TablePlaces::FIRST_LABEL + 16 * k;
     packed::spells(table, 1 + at, read(table, at) % 64, word)
 }
 
@@ -262,8 +254,8 @@ pub fn text_is(table: &[u32], v: usize, word: &[u8]) -> bool
     let k = v - 256;
     packed::spells(
         table,
-        FIRST_TEXT + 1 + 16 * k,
-        read(table, FIRST_TEXT + 16 * k),
+        TablePlaces::FIRST_TEXT + 1 + 16 * k,
+        read(table, TablePlaces::FIRST_TEXT + 16 * k),
         word,
     )
 }
@@ -283,8 +275,8 @@ pub fn put_text(table: &[u32], v: usize, out: &mut [u8]) -> usize
     let k = v - 256;
     packed::put_chars(
         table,
-        FIRST_TEXT + 1 + 16 * k,
-        read(table, FIRST_TEXT + 16 * k),
+        TablePlaces::FIRST_TEXT + 1 + 16 * k,
+        read(table, TablePlaces::FIRST_TEXT + 16 * k),
         out,
     )
 }
@@ -294,21 +286,21 @@ pub fn switch_by_name(table: &[u32], k: usize) -> bool
     requires { ⌜ Place (now table) k 32 ⌝ }
     ensures { λ r. ⌜ r ≡ switch-in (table-of (now (table .entry))) k .byName ⌝ }
 {
-    read(table, FIRST_SWITCH + k) % 2 == 1
+    read(table, TablePlaces::FIRST_SWITCH + k) % 2 == 1
 }
 
 pub fn switch_first(table: &[u32], k: usize) -> usize
     requires { ⌜ Place (now table) k 32 ⌝ }
     ensures { λ r. ⌜ Number (switch-first (table-of (now (table .entry))) k) 8388608 r ⌝ }
 {
-    read(table, FIRST_SWITCH + k) / 512
+    read(table, TablePlaces::FIRST_SWITCH + k) / 512
 }
 
 pub fn switch_count(table: &[u32], k: usize) -> usize
     requires { ⌜ Place (now table) k 32 ⌝ }
     ensures { λ r. ⌜ Number (switch-size (table-of (now (table .entry))) k) 256 r ⌝ }
 {
-    read(table, FIRST_SWITCH + k) / 2 % 256
+    read(table, TablePlaces::FIRST_SWITCH + k) / 2 % 256
 }
 
 // The label of entry `e`, and the reference of its text.
@@ -316,14 +308,14 @@ pub fn entry_label(table: &[u32], e: usize) -> usize
     requires { ⌜ Place (now table) e 128 ⌝ }
     ensures { λ r. ⌜ Number (entry-in (table-of (now (table .entry))) e .label) 128 r ⌝ }
 {
-    read(table, FIRST_ENTRY + e) % 128
+    read(table, TablePlaces::FIRST_ENTRY + e) % 128
 }
 
 pub fn entry_text(table: &[u32], e: usize) -> usize
     requires { ⌜ Place (now table) e 128 ⌝ }
     ensures { λ r. ⌜ Number (entry-ref (table-of (now (table .entry))) e) 33554432 r ⌝ }
 {
-    read(table, FIRST_ENTRY + e) / 128
+    read(table, TablePlaces::FIRST_ENTRY + e) / 128
 }
 
 // Whether entry `e` is met by `word`: by its text, or where it has none by its label's name.
@@ -331,7 +323,7 @@ fn key_is(table: &[u32], e: usize, word: &[u8]) -> bool
     requires { ⌜ Keyed (now table) e ⌝ }
     ensures { λ r. ⌜ r ≡ sameBytes (key-of (program-of (now (table .entry))) (entry-in (table-of (now (table .entry))) e)) (now (word .entry)) ⌝ }
 {
-    let x = read(table, FIRST_ENTRY + e);
+    let x = read(table, TablePlaces::FIRST_ENTRY + e);
     let v = x / 128;
     if v == 0 {
         return name_is(table, x % 128, word);

@@ -11,6 +11,7 @@ ghost use Rattle.instructions.specs.Does.{DoesFor};
 ghost use Rattle.instructions.specs.Operands.{target, TwoOperands};
 ghost use Rattle.transfers.specs.Places.{room-of, Growing, Fetchable};
 use language::Machine;
+use layout::StatePlaces;
 
 // What of `k` is added where it is taken away elsewhere or stays there.
 pub fn left(removes: bool, k: usize) -> usize
@@ -38,10 +39,10 @@ pub fn room_for(
     if !instructions::has_room(pool, ends, nums, parts, chars) {
         return 59;
     }
-    if Machine::RECORDS < state::number(pool, ends, nums, 7) + records {
+    if Machine::RECORDS < state::number(pool, ends, nums, StatePlaces::RECORDS_SCALAR) + records {
         return 59;
     }
-    if Machine::ADDRESSES < state::number(pool, ends, nums, 4) + given {
+    if Machine::ADDRESSES < state::number(pool, ends, nums, StatePlaces::LAST_SCALAR) + given {
         return 60;
     }
     0
@@ -83,7 +84,11 @@ pub fn wstaw(
     if stop != 0 {
         return stop;
     }
-    records::put_record(hold, state::number(pool, ends, nums, 4) + 1, x);
+    records::put_record(
+        hold,
+        state::number(pool, ends, nums, StatePlaces::LAST_SCALAR) + 1,
+        x,
+    );
     state::past_parts(pool, ends, nums, i, removes, parts, n, chars);
     filing::write_records(
         pool,

@@ -6,6 +6,7 @@ use lib.ListN.{length, getD, take}
 use Rattle.language.specs.Limits as limit
 use Rattle.layout.specs.Bounds.{Fine}
 use Rattle.layout.specs.Memory.{state-cells, state-of}
+use Rattle.layout.specs.Places as layout
 use Rattle.packing.specs.Packing.{Packed}
 
 -- the memory m is that of a state
@@ -17,7 +18,7 @@ pub record Rests (m : List ℕ) : Type 0 where
 -- the cells m are those of 99 strings, and i is the place of one
 pub record Stringed (m : List ℕ) (i : ℕ) : Type 0 where
   pub packed : Packed m
-  pub below : i < 99
+  pub below : i < layout.strings-count
 
 -- l is Q1 of the state of m, which has at most 4,096 characters
 pub record Shows (m l : List ℕ) : Type 0 where

@@ -5,22 +5,15 @@ ghost use Rattle.layout.specs.Strings.{strings-in};
 ghost use Rattle.cells.specs.Cells.{Number};
 ghost use Rattle.gaps.specs.Pool.{string};
 ghost use Rattle.viewing.specs.Viewing.{Rests, Stringed, Shows};
-
-// Where the strings begin and end in a state, and the bytes among them; the place of the first output among the strings.
-const FIRST_STRING: usize = 24;
-
-const END: usize = 40960;
-
-const LENGTHS: usize = 198;
-
-const FIRST_OUTPUT: usize = 97;
+use language::Machine;
+use layout::StatePlaces;
 
 // String `i`.
 fn string_at<'a>(strings: &'a [u8], i: usize) -> &'a [u8]
     requires { ⌜ Stringed (now strings) i ⌝ }
     ensures { λ r. ⌜ now r ≡ string i (strings-in (now (strings .entry))) ⌝ }
 {
-    let mut from = LENGTHS;
+    let mut from = StatePlaces::LENGTHS_BYTES;
     let mut j = 0;
     while j < i {
         from += cells::two_at(strings, 2 * j);
@@ -35,7 +28,10 @@ pub fn output<'a>(state: &'a [u8]) -> &'a [u8]
     requires { ⌜ Rests (now state) ⌝ }
     ensures { λ r. ⌜ Shows (now (state .entry)) (now r) ⌝ }
 {
-    string_at(&state[FIRST_STRING..END], FIRST_OUTPUT)
+    string_at(
+        &state[StatePlaces::FIRST_LENGTH..Machine::STATE],
+        StatePlaces::FIRST_OUTPUT,
+    )
 }
 
 // The place of the next instruction.
@@ -43,5 +39,5 @@ pub fn next(state: &[u8]) -> usize
     requires { ⌜ Rests (now state) ⌝ }
     ensures { λ r. ⌜ Number (state-of (now (state .entry)) .next) 16777216 r ⌝ }
 {
-    cells::three_at(state, 9)
+    cells::three_at(state, StatePlaces::NEXT_CELL)
 }

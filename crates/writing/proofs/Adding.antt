@@ -16,6 +16,7 @@ use Rattle.language.specs.Values.{sameNumber}
 use Rattle.layout.specs.CellLaws.{each-append}
 use Rattle.layout.specs.Cells.{cell, code, padded}
 use Rattle.layout.specs.Table.{text-ref, arg-cell, instr-cells, label-cells, entry-cell, all-entries, counts, table-cells}
+use Rattle.layout.specs.Places as layout
 use Rattle.lists.specs.Lists.{any, ahead, each, sameBytes}
 use Rattle.machine.specs.WellFormed.{kept-text}
 use Rattle.writing.specs.Writing.{Short, kept-arg, KeptInstr, KeptEntry, Tabular, with-label, with-instr}
@@ -77,7 +78,7 @@ module _ (p r : Program) (e : p .texts ≡ r .texts) (f : p .numbers ≡ r .numb
 -- ---- a label
 
 module _ (l : Label) (p : Program) (h : Tabular p) (room : length (p .labels) < 128) where
-  pub label-added : set (pasted (parts p) (2056 + 16 * length (p .labels)) (label-cells l)) 1 (suc (length (p .labels))) ≡ table-cells (with-label l p)
+  pub label-added : set (pasted (parts p) (layout.first-label + 16 * length (p .labels)) (label-cells l)) 1 (suc (length (p .labels))) ≡ table-cells (with-label l p)
   unfolding table-cells with-label
   label-added =
       let n : ℕ = length (p .labels) in
@@ -115,7 +116,7 @@ module _ (l : Label) (p : Program) (h : Tabular p) (room : length (p .labels) < 
 -- ---- an instruction
 
 module _ (i : Instr) (p : Program) (h : Tabular p) (room : length (p .code) < 512) where
-  pub instr-added : set (pasted (parts p) (8 + 4 * length (p .code)) (instr-cells p i)) 0 (suc (length (p .code))) ≡ table-cells (with-instr i p)
+  pub instr-added : set (pasted (parts p) (layout.first-instruction + 4 * length (p .code)) (instr-cells p i)) 0 (suc (length (p .code))) ≡ table-cells (with-instr i p)
   unfolding table-cells with-instr
   instr-added =
       let n : ℕ = length (p .code) in

@@ -17,6 +17,7 @@ use Rattle.layout.specs.Bounds.{Each}
 use Rattle.layout.specs.CellLaws.{each-append, length-each, length-padded, length-fours}
 use Rattle.layout.specs.Cells.{cell, code, padded}
 use Rattle.layout.specs.Table.{text-ref, number-ref, arg-cell, instr-cells, label-cells, text-cells, switch-cells, entry-cell, all-entries, counts, table-cells}
+use Rattle.layout.specs.Places as layout
 use Rattle.lists.specs.Lists.{any, ahead, each, sameBytes}
 use Rattle.machine.specs.WellFormed.{kept-text, kept-number}
 use Rattle.writing.specs.Writing.{Short, kept-arg, KeptInstr, KeptEntry, Tabular, with-text, with-number}
@@ -182,7 +183,7 @@ module _ (w : List ℕ) (p : Program) where
   same-numbers z h = (refl, h)
 
   module _ (h : Tabular p) (room : length (p .texts) < 128) where
-    pub text-added : set (pasted (parts p) (4104 + 16 * length (p .texts)) (text-cells w)) 4 (suc (length (p .texts))) ≡ table-cells (with-text w p)
+    pub text-added : set (pasted (parts p) (layout.first-text + 16 * length (p .texts)) (text-cells w)) 4 (suc (length (p .texts))) ≡ table-cells (with-text w p)
     unfolding table-cells with-text
     text-added =
         let n : ℕ = length (p .texts) in
@@ -233,7 +234,7 @@ module _ (z : ℤ) (p : Program) where
   )
 
   module _ (h : Tabular p) (room : length (p .numbers) < 128) where
-    pub number-added : set (pasted (parts p) (6312 + length (p .numbers)) (code z ∷ [])) 5 (suc (length (p .numbers))) ≡ table-cells (with-number z p)
+    pub number-added : set (pasted (parts p) (layout.first-number + length (p .numbers)) (code z ∷ [])) 5 (suc (length (p .numbers))) ≡ table-cells (with-number z p)
     unfolding table-cells with-number
     number-added =
         let n : ℕ = length (p .numbers) in

@@ -13,6 +13,7 @@ use Rattle.language.specs.Program.{Label, Program}
 use Rattle.layout.specs.Bounds.{Below}
 use Rattle.layout.specs.Cells.{cell, code}
 use Rattle.layout.specs.Table.{instr-cells, label-cells, text-cells, all-entries, table-cells}
+use Rattle.layout.specs.Places as layout
 use Rattle.packed.specs.Packed.{table-of}
 use Rattle.writing.specs.Writing.{Short, Tabular, HoldsProgram, with-text, with-number, with-label, with-instr, Changes, Writes, IsNumber, IsInstr}
 use Rattle.writing.proofs.Adding.{label-added, label-tabular, instr-added, instr-tabular}
@@ -75,45 +76,45 @@ module _ (c d e s : List ℕ) (at k n : ℕ) (long : 8192 ≤ length c) (inside 
 -- ---- what is added
 
 module _ (c d e : List ℕ) (n : ℕ) (long : 8192 ≤ length c) where
-  pub text-done : (w : List ℕ) → n ≡ cell (table-of c) 4 → n < 128 → Short w → d ≡ pasted c (4104 + 16 * n) (text-cells w) → e ≡ set d 4 (n + 1) → Changes (with-text w) c e
+  pub text-done : (w : List ℕ) → n ≡ cell (table-of c) 4 → n < 128 → Short w → d ≡ pasted c (layout.first-text + 16 * n) (text-cells w) → e ≡ set d 4 (n + 1) → Changes (with-text w) c e
   text-done w is room short f g =
-      let inside : 4104 + 16 * n + length (text-cells w) ≤ 8192 = omega (arith, text-long w) in
+      let inside : layout.first-text + 16 * n + length (text-cells w) ≤ 8192 = omega (arith, text-long w) in
       record {
         holds = λ p h. let m : n ≡ length (p .texts) = is ∙ text-count c p h in
-            both-hold c d e (text-cells w) (4104 + 16 * n) 4 (n + 1) long inside (omega arith) f g p (with-text w p) h
+            both-hold c d e (text-cells w) (layout.first-text + 16 * n) 4 (n + 1) long inside (omega arith) f g p (with-text w p) h
             (rw (add-one n, m) (text-added w p (h .tabular) (omega (arith, m)))) (text-tabular w p (h .tabular) (omega (arith, m)) short);
-        beyond = both-beyond c d e (text-cells w) (4104 + 16 * n) 4 (n + 1) long inside (omega arith) f g;
+        beyond = both-beyond c d e (text-cells w) (layout.first-text + 16 * n) 4 (n + 1) long inside (omega arith) f g;
       }
 
-  pub number-done : (v : ℕ) → n ≡ cell (table-of c) 5 → n < 128 → d ≡ set c (6312 + n) v → e ≡ set d 5 (n + 1) → Writes (IsNumber v) with-number c e
+  pub number-done : (v : ℕ) → n ≡ cell (table-of c) 5 → n < 128 → d ≡ set c (layout.first-number + n) v → e ≡ set d 5 (n + 1) → Writes (IsNumber v) with-number c e
   number-done v is room f g =
-      let k : d ≡ pasted c (6312 + n) (v ∷ []) = f ∙ set-one c (6312 + n) v (omega arith) in
+      let k : d ≡ pasted c (layout.first-number + n) (v ∷ []) = f ∙ set-one c (layout.first-number + n) v (omega arith) in
       record {
         holds = λ z p h a. let m : n ≡ length (p .numbers) = is ∙ number-count c p h in
-            both-hold c d e (v ∷ []) (6312 + n) 5 (n + 1) long (omega arith) (omega arith) k g p (with-number z p) h
+            both-hold c d e (v ∷ []) (layout.first-number + n) 5 (n + 1) long (omega arith) (omega arith) k g p (with-number z p) h
             (rw (add-one n, m, a .is) (number-added z p (h .tabular) (omega (arith, m)))) (number-tabular z p (h .tabular) (omega (arith, m)) (a .small));
-        beyond = both-beyond c d e (v ∷ []) (6312 + n) 5 (n + 1) long (omega arith) (omega arith) k g;
+        beyond = both-beyond c d e (v ∷ []) (layout.first-number + n) 5 (n + 1) long (omega arith) (omega arith) k g;
       }
 
-  pub label-done : (l : Label) → n ≡ cell (table-of c) 1 → n < 128 → Short (l .name) → d ≡ pasted c (2056 + 16 * n) (label-cells l) → e ≡ set d 1 (n + 1) → Changes (with-label l) c e
+  pub label-done : (l : Label) → n ≡ cell (table-of c) 1 → n < 128 → Short (l .name) → d ≡ pasted c (layout.first-label + 16 * n) (label-cells l) → e ≡ set d 1 (n + 1) → Changes (with-label l) c e
   label-done l is room short f g =
-      let inside : 2056 + 16 * n + length (label-cells l) ≤ 8192 = omega (arith, label-long l) in
+      let inside : layout.first-label + 16 * n + length (label-cells l) ≤ 8192 = omega (arith, label-long l) in
       record {
         holds = λ p h. let m : n ≡ length (p .labels) = is ∙ label-count c p h in
-            both-hold c d e (label-cells l) (2056 + 16 * n) 1 (n + 1) long inside (omega arith) f g p (with-label l p) h
+            both-hold c d e (label-cells l) (layout.first-label + 16 * n) 1 (n + 1) long inside (omega arith) f g p (with-label l p) h
             (rw (add-one n, m) (label-added l p (h .tabular) (omega (arith, m)))) (label-tabular l p (h .tabular) (omega (arith, m)) short);
-        beyond = both-beyond c d e (label-cells l) (2056 + 16 * n) 1 (n + 1) long inside (omega arith) f g;
+        beyond = both-beyond c d e (label-cells l) (layout.first-label + 16 * n) 1 (n + 1) long inside (omega arith) f g;
       }
 
-  pub instr-done : (op line x y z : ℕ) → n ≡ cell (table-of c) 0 → n < 512 → d ≡ pasted c (8 + 4 * n) ((op + 64 * line) ∷ x ∷ y ∷ z ∷ []) → e ≡ set d 0 (n + 1)
+  pub instr-done : (op line x y z : ℕ) → n ≡ cell (table-of c) 0 → n < 512 → d ≡ pasted c (layout.first-instruction + 4 * n) ((op + 64 * line) ∷ x ∷ y ∷ z ∷ []) → e ≡ set d 0 (n + 1)
       → Writes (IsInstr op line x y z) with-instr c e
   instr-done op line x y z is room f g =
       let s : List ℕ = (op + 64 * line) ∷ x ∷ y ∷ z ∷ [] in
       record {
         holds = λ i p h a. let m : n ≡ length (p .code) = is ∙ code-count c p h in
             let q : s ≡ instr-cells p i = λ j. (a .op-is j + 64 * a .line-is j) ∷ a .first-is j ∷ a .second-is j ∷ a .third-is j ∷ [] in
-            both-hold c d e s (8 + 4 * n) 0 (n + 1) long (omega arith) (omega arith) f g p (with-instr i p) h
-            (rw (add-one n, m) (ap (λ (b : List ℕ). set (pasted (parts p) (8 + 4 * length (p .code)) b) 0 (suc (length (p .code)))) q ∙ instr-added i p (h .tabular) (omega (arith, m))))
+            both-hold c d e s (layout.first-instruction + 4 * n) 0 (n + 1) long (omega arith) (omega arith) f g p (with-instr i p) h
+            (rw (add-one n, m) (ap (λ (b : List ℕ). set (pasted (parts p) (layout.first-instruction + 4 * length (p .code)) b) 0 (suc (length (p .code)))) q ∙ instr-added i p (h .tabular) (omega (arith, m))))
             (instr-tabular i p (h .tabular) (omega (arith, m)) (a .kept));
-        beyond = both-beyond c d e s (8 + 4 * n) 0 (n + 1) long (omega arith) (omega arith) f g;
+        beyond = both-beyond c d e s (layout.first-instruction + 4 * n) 0 (n + 1) long (omega arith) (omega arith) f g;
       }

@@ -10,6 +10,7 @@ use Rattle.cells.proofs.Laws.{length-pasted}
 use Rattle.cells.specs.Cells.{pasted}
 use Rattle.layout.specs.CellLaws.{length-padded}
 use Rattle.layout.specs.Cells.{padded}
+use Rattle.layout.specs.Places as layout
 
 -- ---- a run in one of two lists
 
@@ -126,42 +127,42 @@ module _ (a b c d e f g : List ℕ) (z : Sizes a b c d e f g) where
     pub in-code : k + length s ≤ 2048 → pasted (laid a b c d e f g) (8 + k) s ≡ laid a (pasted b k s) c d e f g
     in-code h = past-1 s k ∙ ap (λ (x : List ℕ). a ++ x) (pasted-left b t2 s k (omega (arith, z .b-is)))
 
-    pub in-labels : k + length s ≤ 2048 → pasted (laid a b c d e f g) (2056 + k) s ≡ laid a b (pasted c k s) d e f g
+    pub in-labels : k + length s ≤ 2048 → pasted (laid a b c d e f g) (layout.first-label + k) s ≡ laid a b (pasted c k s) d e f g
     in-labels h =
-        sum (laid a b c d e f g) (2056 + k) (8 + (2048 + k)) (omega arith) ∙ past-1 s (2048 + k)
+        sum (laid a b c d e f g) (layout.first-label + k) (8 + (2048 + k)) (omega arith) ∙ past-1 s (2048 + k)
         ∙ ap (λ (x : List ℕ). a ++ x) (past-2 s k)
         ∙ ap (λ (x : List ℕ). a ++ (b ++ x)) (pasted-left c t3 s k (omega (arith, z .c-is)))
 
-    pub in-texts : k + length s ≤ 2048 → pasted (laid a b c d e f g) (4104 + k) s ≡ laid a b c (pasted d k s) e f g
+    pub in-texts : k + length s ≤ 2048 → pasted (laid a b c d e f g) (layout.first-text + k) s ≡ laid a b c (pasted d k s) e f g
     in-texts h =
-        sum (laid a b c d e f g) (4104 + k) (8 + (2048 + (2048 + k))) (omega arith) ∙ past-1 s (2048 + (2048 + k))
+        sum (laid a b c d e f g) (layout.first-text + k) (8 + (2048 + (2048 + k))) (omega arith) ∙ past-1 s (2048 + (2048 + k))
         ∙ ap (λ (x : List ℕ). a ++ x) (past-2 s (2048 + k))
         ∙ ap (λ (x : List ℕ). a ++ (b ++ x)) (past-3 s k)
         ∙ ap (λ (x : List ℕ). a ++ (b ++ (c ++ x))) (pasted-left d t4 s k (omega (arith, z .d-is)))
 
-    past-texts : pasted (laid a b c d e f g) (6152 + k) s ≡ a ++ (b ++ (c ++ (d ++ pasted t4 k s)))
+    past-texts : pasted (laid a b c d e f g) (layout.first-switch + k) s ≡ a ++ (b ++ (c ++ (d ++ pasted t4 k s)))
     past-texts =
-        sum (laid a b c d e f g) (6152 + k) (8 + (2048 + (2048 + (2048 + k)))) (omega arith) ∙ past-1 s (2048 + (2048 + (2048 + k)))
+        sum (laid a b c d e f g) (layout.first-switch + k) (8 + (2048 + (2048 + (2048 + k)))) (omega arith) ∙ past-1 s (2048 + (2048 + (2048 + k)))
         ∙ ap (λ (x : List ℕ). a ++ x) (past-2 s (2048 + (2048 + k)))
         ∙ ap (λ (x : List ℕ). a ++ (b ++ x)) (past-3 s (2048 + k))
         ∙ ap (λ (x : List ℕ). a ++ (b ++ (c ++ x))) (past-4 s k)
 
-    pub in-switches : k + length s ≤ 32 → pasted (laid a b c d e f g) (6152 + k) s ≡ laid a b c d (pasted e k s) f g
+    pub in-switches : k + length s ≤ 32 → pasted (laid a b c d e f g) (layout.first-switch + k) s ≡ laid a b c d (pasted e k s) f g
     in-switches h = past-texts ∙ ap (λ (x : List ℕ). a ++ (b ++ (c ++ (d ++ x)))) (pasted-left e t5 s k (omega (arith, z .e-is)))
 
   module _ (s : List ℕ) (k : ℕ) where
     abbrev front : List ℕ → List ℕ
     front x = a ++ (b ++ (c ++ (d ++ x)))
 
-    pub in-entries : k + length s ≤ 128 → pasted (laid a b c d e f g) (6184 + k) s ≡ laid a b c d e (pasted f k s) g
+    pub in-entries : k + length s ≤ 128 → pasted (laid a b c d e f g) (layout.first-entry + k) s ≡ laid a b c d e (pasted f k s) g
     in-entries h =
-        sum s k (laid a b c d e f g) (6184 + k) (6152 + (32 + k)) (omega arith) ∙ past-texts s (32 + k)
+        sum s k (laid a b c d e f g) (layout.first-entry + k) (layout.first-switch + (32 + k)) (omega arith) ∙ past-texts s (32 + k)
         ∙ ap front (past-5 s k)
         ∙ ap (λ (x : List ℕ). front (e ++ x)) (pasted-left f t6 s k (omega (arith, z .f-is)))
 
-    pub in-numbers : k + length s ≤ 128 → pasted (laid a b c d e f g) (6312 + k) s ≡ laid a b c d e f (pasted g k s)
+    pub in-numbers : k + length s ≤ 128 → pasted (laid a b c d e f g) (layout.first-number + k) s ≡ laid a b c d e f (pasted g k s)
     in-numbers h =
-        sum s k (laid a b c d e f g) (6312 + k) (6152 + (32 + (128 + k))) (omega arith) ∙ past-texts s (32 + (128 + k))
+        sum s k (laid a b c d e f g) (layout.first-number + k) (layout.first-switch + (32 + (128 + k))) (omega arith) ∙ past-texts s (32 + (128 + k))
         ∙ ap front (past-5 s (128 + k))
         ∙ ap (λ (x : List ℕ). front (e ++ x)) (past-6 s k)
         ∙ ap (λ (x : List ℕ). front (e ++ (f ++ x))) (pasted-left g (replicate 1752 0) s k (omega (arith, z .g-is)))
@@ -171,23 +172,23 @@ module _ (a b c d e f g : List ℕ) (z : Sizes a b c d e f g) where
       simp length-append (omega (arith, z .a-is, z .b-is, z .c-is, z .d-is, z .e-is, z .f-is, z .g-is, length-replicate {A = ℕ} 1752 0))
 
   -- where the parts stand
-  at-labels : drop 2056 (laid a b c d e f g) ≡ t2
+  at-labels : drop layout.first-label (laid a b c d e f g) ≡ t2
   at-labels = sym (drop-drop 2048 8 (laid a b c d e f g)) ∙ rw (drop-at a t1 8 (z .a-is)) (drop-at b t2 2048 (z .b-is))
 
-  pub labels-at : drop 2056 (laid a b c d e f g) ≡ c ++ t3
+  pub labels-at : drop layout.first-label (laid a b c d e f g) ≡ c ++ t3
   labels-at = at-labels
 
-  pub texts-at : drop 4104 (laid a b c d e f g) ≡ d ++ t4
-  texts-at = sym (drop-drop 2048 2056 (laid a b c d e f g)) ∙ rw at-labels (drop-at c t3 2048 (z .c-is))
+  pub texts-at : drop layout.first-text (laid a b c d e f g) ≡ d ++ t4
+  texts-at = sym (drop-drop 2048 layout.first-label (laid a b c d e f g)) ∙ rw at-labels (drop-at c t3 2048 (z .c-is))
 
-  pub switches-at : drop 6152 (laid a b c d e f g) ≡ e ++ t5
-  switches-at = sym (drop-drop 2048 4104 (laid a b c d e f g)) ∙ rw texts-at (drop-at d t4 2048 (z .d-is))
+  pub switches-at : drop layout.first-switch (laid a b c d e f g) ≡ e ++ t5
+  switches-at = sym (drop-drop 2048 layout.first-text (laid a b c d e f g)) ∙ rw texts-at (drop-at d t4 2048 (z .d-is))
 
-  pub entries-at : drop 6184 (laid a b c d e f g) ≡ f ++ t6
-  entries-at = sym (drop-drop 32 6152 (laid a b c d e f g)) ∙ rw switches-at (drop-at e t5 32 (z .e-is))
+  pub entries-at : drop layout.first-entry (laid a b c d e f g) ≡ f ++ t6
+  entries-at = sym (drop-drop 32 layout.first-switch (laid a b c d e f g)) ∙ rw switches-at (drop-at e t5 32 (z .e-is))
 
-  pub numbers-at : drop 6312 (laid a b c d e f g) ≡ g ++ replicate 1752 0
-  numbers-at = sym (drop-drop 128 6184 (laid a b c d e f g)) ∙ rw entries-at (drop-at f t6 128 (z .f-is))
+  pub numbers-at : drop layout.first-number (laid a b c d e f g) ≡ g ++ replicate 1752 0
+  numbers-at = sym (drop-drop 128 layout.first-entry (laid a b c d e f g)) ∙ rw entries-at (drop-at f t6 128 (z .f-is))
 
   -- one cell of a part
   module _ (k x : ℕ) where
@@ -196,14 +197,14 @@ module _ (a b c d e f g : List ℕ) (z : Sizes a b c d e f g) where
         set-one (laid a b c d e f g) (8 + k) x (omega (arith, laid-long)) ∙ in-code (x ∷ []) k (omega arith)
         ∙ ap (λ (l : List ℕ). laid a l c d e f g) (sym (set-one b k x (omega (arith, z .b-is))))
 
-    pub set-switches : k < 32 → set (laid a b c d e f g) (6152 + k) x ≡ laid a b c d (set e k x) f g
+    pub set-switches : k < 32 → set (laid a b c d e f g) (layout.first-switch + k) x ≡ laid a b c d (set e k x) f g
     set-switches h =
-        set-one (laid a b c d e f g) (6152 + k) x (omega (arith, laid-long)) ∙ in-switches (x ∷ []) k (omega arith)
+        set-one (laid a b c d e f g) (layout.first-switch + k) x (omega (arith, laid-long)) ∙ in-switches (x ∷ []) k (omega arith)
         ∙ ap (λ (l : List ℕ). laid a b c d l f g) (sym (set-one e k x (omega (arith, z .e-is))))
 
-    pub set-entries : k < 128 → set (laid a b c d e f g) (6184 + k) x ≡ laid a b c d e (set f k x) g
+    pub set-entries : k < 128 → set (laid a b c d e f g) (layout.first-entry + k) x ≡ laid a b c d e (set f k x) g
     set-entries h =
-        set-one (laid a b c d e f g) (6184 + k) x (omega (arith, laid-long)) ∙ in-entries (x ∷ []) k (omega arith)
+        set-one (laid a b c d e f g) (layout.first-entry + k) x (omega (arith, laid-long)) ∙ in-entries (x ∷ []) k (omega arith)
         ∙ ap (λ (l : List ℕ). laid a b c d e l g) (sym (set-one f k x (omega (arith, z .f-is))))
 
 -- one cell behind those that are there

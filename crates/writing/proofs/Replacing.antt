@@ -14,6 +14,7 @@ use Rattle.layout.specs.Bounds.{Each}
 use Rattle.layout.specs.CellLaws.{each-in, padded-at, getD-map-at}
 use Rattle.layout.specs.Cells.{cell, padded}
 use Rattle.layout.specs.Table.{text-ref, arg-cell, instr-cells, switch-cell, switch-cells, entry-cell, all-entries, counts, table-cells}
+use Rattle.layout.specs.Places as layout
 use Rattle.lists.specs.Lists.{each}
 use Rattle.writing.specs.Writing.{kept-arg, KeptInstr, KeptEntry, Tabular, with-argument, put-argument, with-entry-label, relabelled, to-label}
 use Rattle.writing.proofs.Adding.{code-same, entries-same, instr-again, entry-again}
@@ -170,22 +171,22 @@ module _ (k m : ℕ) (p : Program) (h : Tabular p) (there : k < length (all-entr
   unfolding with-entry-label
   entries-now = relabelled-entries k m (p .switches)
 
-  pub old-cell : cell (parts p) (6184 + k) ≡ old .label + 128 * text-ref p (old .text)
+  pub old-cell : cell (parts p) (layout.first-entry + k) ≡ old .label + 128 * text-ref p (old .text)
   old-cell =
-      padded-at (parts p) (map (entry-cell p) (all-entries p)) (numbers-part p ++ replicate 1752 0) 6184 128
+      padded-at (parts p) (map (entry-cell p) (all-entries p)) (numbers-part p ++ replicate 1752 0) layout.first-entry 128
       (entries-at (counts p) (code-part p) (labels-part p) (texts-part p) (switches-part p) (entries-part p) (numbers-part p) (sizes p h)) k
       (rw length-map there)
       ∙ getD-map-at (entry-cell p) (all-entries p) k no-entry 0 there
 
   -- the text's reference stands above the label
-  pub old-ref : cell (parts p) (6184 + k) / 128 ≡ text-ref p (old .text)
+  pub old-ref : cell (parts p) (layout.first-entry + k) / 128 ≡ text-ref p (old .text)
   old-ref = rw old-cell (omega (arith, old-kept .low))
 
-  pub label-put : set (parts p) (6184 + k) (m + 128 * (cell (parts p) (6184 + k) / 128)) ≡ table-cells (with-entry-label k m p)
+  pub label-put : set (parts p) (layout.first-entry + k) (m + 128 * (cell (parts p) (layout.first-entry + k) / 128)) ≡ table-cells (with-entry-label k m p)
   unfolding table-cells with-entry-label
   label-put =
       let r : Program = with-entry-label k m p in
-      let v : ℕ = m + 128 * (cell (parts p) (6184 + k) / 128) in
+      let v : ℕ = m + 128 * (cell (parts p) (layout.first-entry + k) / 128) in
       let q : List ℕ = map (entry-cell p) (all-entries p) in
       let x : v ≡ entry-cell p (to-label m old) = ap (λ (i : ℕ). m + 128 * i) old-ref in
       let f : set (entries-part p) k v ≡ entries-part r =

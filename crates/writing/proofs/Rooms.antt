@@ -12,6 +12,7 @@ use Rattle.layout.specs.Bounds.{Below}
 use Rattle.layout.specs.CellLaws.{each-at}
 use Rattle.layout.specs.Cells.{cell, padded}
 use Rattle.layout.specs.Table.{switch-cells, all-entries, table-cells}
+use Rattle.layout.specs.Places as layout
 use Rattle.lists.specs.Lists.{each}
 use Rattle.packed.specs.Packed.{table-of}
 use Rattle.writing.specs.Writing.{no-program, Tabular, HoldsProgram, Cleared, Room, WordRoom, LabelRoom, InstrRoom, SwitchRoom, EntryRoom, ArgumentAt, EntryAt}
@@ -74,9 +75,9 @@ module _ (c : List ℕ) (p : Program) (h : HoldsProgram c p) where
   entry-room m v a b s t =
       let k : ℕ = length (p .switches) - 1 in
       let w : length (p .switches) ≡ suc k = omega arith in
-      let at : 6151 + cell (table-of c) 2 ≡ 6152 + k = omega (arith, switch-count c p h) in
+      let at : 6151 + cell (table-of c) 2 ≡ layout.first-switch + k = omega (arith, switch-count c p h) in
       let e : cell (table-of c) (6151 + cell (table-of c) 2) ≡ cell (switch-cells 0 (p .switches)) k =
-      ap (cell (table-of c)) at ∙ ap (λ (t : List ℕ). cell t (6152 + k)) (h .is ∙ in-parts p) ∙ last-cell p (h .tabular) k w in
+      ap (cell (table-of c)) at ∙ ap (λ (t : List ℕ). cell t (layout.first-switch + k)) (h .is ∙ in-parts p) ∙ last-cell p (h .tabular) k w in
       record {
         long = h .long;
         room = omega (arith, entry-count c p h);

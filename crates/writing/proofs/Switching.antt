@@ -11,6 +11,7 @@ use Rattle.layout.specs.Bounds.{Each}
 use Rattle.layout.specs.CellLaws.{each-append, padded-at}
 use Rattle.layout.specs.Cells.{cell, padded}
 use Rattle.layout.specs.Table.{switch-cell, switch-cells, entry-cell, all-entries, counts, table-cells}
+use Rattle.layout.specs.Places as layout
 use Rattle.lists.specs.Lists.{each}
 use Rattle.writing.specs.Writing.{KeptInstr, KeptEntry, Tabular, with-switch, with-entry, and-entry, on-last}
 use Rattle.writing.proofs.Adding.{code-same, entries-same, instr-again, entry-again}
@@ -37,7 +38,7 @@ module _ (b : Bool) (p : Program) (h : Tabular p) (room : length (p .switches) <
   unfolding with-switch
   same-entries = sym (each-snoc entries-of (p .switches) new ∙ append-nil (all-entries p))
 
-  pub switch-added : set (pasted (parts p) (6152 + length (p .switches)) ((cond b 1 0 + 512 * length (all-entries p)) ∷ [])) 2 (suc (length (p .switches))) ≡ table-cells (with-switch b p)
+  pub switch-added : set (pasted (parts p) (layout.first-switch + length (p .switches)) ((cond b 1 0 + 512 * length (all-entries p)) ∷ [])) 2 (suc (length (p .switches))) ≡ table-cells (with-switch b p)
   unfolding table-cells with-switch
   switch-added =
       let n : ℕ = length (p .switches) in
@@ -106,9 +107,9 @@ switch-last e n zero (w ∷ v ∷ ws) h = absurd (omega (arith, h))
 switch-last e n (suc k) (w ∷ v ∷ ws) h = ap (λ (l : List ℕ). switch-cell n w ∷ l) (switch-last e (n + length (w .entries)) k (v ∷ ws) (omega (arith, h)))
 
 -- the last switch's cell
-pub last-cell : (p : Program) → Tabular p → (k : ℕ) → length (p .switches) ≡ suc k → cell (parts p) (6152 + k) ≡ cell (switch-cells 0 (p .switches)) k
+pub last-cell : (p : Program) → Tabular p → (k : ℕ) → length (p .switches) ≡ suc k → cell (parts p) (layout.first-switch + k) ≡ cell (switch-cells 0 (p .switches)) k
 last-cell p h k last =
-    padded-at (parts p) (switch-cells 0 (p .switches)) (entries-part p ++ (numbers-part p ++ replicate 1752 0)) 6152 32
+    padded-at (parts p) (switch-cells 0 (p .switches)) (entries-part p ++ (numbers-part p ++ replicate 1752 0)) layout.first-switch 32
     (switches-at (counts p) (code-part p) (labels-part p) (texts-part p) (switches-part p) (entries-part p) (numbers-part p) (sizes p h)) k
     (omega (arith, last, switches-long 0 (p .switches)))
 
@@ -124,12 +125,12 @@ module _ (e : Entry) (p : Program) (h : Tabular p) (room : length (all-entries p
   more-count : suc (length (all-entries p)) ≡ length (all-entries (with-entry e p))
   more-count = sym (one-more (all-entries p) e) ∙ ap length more-entries
 
-  pub entry-added : set (set (set (parts p) (6184 + length (all-entries p)) (entry-cell p e)) (6152 + k) (cell (parts p) (6152 + k) + 2)) 3 (suc (length (all-entries p)))
+  pub entry-added : set (set (set (parts p) (layout.first-entry + length (all-entries p)) (entry-cell p e)) (layout.first-switch + k) (cell (parts p) (layout.first-switch + k) + 2)) 3 (suc (length (all-entries p)))
       ≡ table-cells (with-entry e p)
   unfolding table-cells with-entry
   entry-added =
       let n : ℕ = length (all-entries p) in
-      let y : ℕ = cell (parts p) (6152 + k) + 2 in
+      let y : ℕ = cell (parts p) (layout.first-switch + k) + 2 in
       let ws : List ℕ = switch-cells 0 (p .switches) in
       let es : List ℕ = map (entry-cell p) (all-entries p) in
       let z = sizes p h in
@@ -148,7 +149,7 @@ module _ (e : Entry) (p : Program) (h : Tabular p) (room : length (all-entries p
       (omega (arith, last, h .switches-most)) in
       let a = more-count in
       let b = more-switches in
-      ap (λ (x : List ℕ). set x 3 (suc n)) (ap (λ (x : List ℕ). set x (6152 + k) y) r₁ ∙ r₂)
+      ap (λ (x : List ℕ). set x 3 (suc n)) (ap (λ (x : List ℕ). set x (layout.first-switch + k) y) r₁ ∙ r₂)
       ∙ (λ j. laid (length (p .code) ∷ length (p .labels) ∷ b j ∷ a j ∷ length (p .texts) ∷ length (p .numbers) ∷ 0 ∷ 0 ∷ [])
       (g j) (labels-part p) (texts-part p) (s j) (f j) (numbers-part p))
 

@@ -5,12 +5,13 @@ use Prim.Native.Nat.{_-_}
 use Rattle.check_memory.proofs.Starts.{Starting, starting-none, starting-next, started}
 use Rattle.check_memory.proofs.starts_of.Statement.{statement}
 use Rattle.check_memory.proofs.starts_of.Tie as tie
+use Rattle.layout.specs.Places as layout
 
 abbrev Inv-loop : tie.InvT-loop
 Inv-loop m starts₀ at₀ i₀ starts at i = Starting m starts at i
 
 abbrev μ-loop : tie.MeasureT-loop
-μ-loop m starts₀ at₀ i₀ starts at i = 99 - i
+μ-loop m starts₀ at₀ i₀ starts at i = layout.strings-count - i
 
 loop-holds : tie.Need-loop-holds Inv-loop μ-loop
 loop-holds c = starting-none (c .before .before .args .m .now) (c .before .before .args .starts .now) (c .before .before .pre .places)

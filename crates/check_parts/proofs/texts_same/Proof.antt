@@ -7,6 +7,7 @@ use lib.Dec.{eqb}
 use borrow.Author.Tests.{eq-eqb, ne-eqb}
 use denote.Ref.{now}
 use Rattle.layout.specs.Cells.{cell}
+use Rattle.layout.specs.Places as layout
 use Rattle.packed.specs.Packed.{table-of}
 use Rattle.check_parts.specs.Parts.{passes, texts-same}
 use Rattle.check_parts.specs.PassLaws.{loop-stop, loop-on, loop-end}
@@ -14,7 +15,7 @@ use Rattle.check_parts.proofs.texts_same.Statement.{statement}
 use Rattle.check_parts.proofs.texts_same.Tie as tie
 
 abbrev Inv-loop : tie.InvT-loop
-Inv-loop table i j q₀ q = (q ≤ 16) × (passes (λ x. eqb (cell (table-of table) (4104 + 16 * i + x)) (cell (table-of table) (4104 + 16 * j + x))) (16 - q) q ≡ texts-same (table-of table) i j)
+Inv-loop table i j q₀ q = (q ≤ 16) × (passes (λ x. eqb (cell (table-of table) (layout.first-text + 16 * i + x)) (cell (table-of table) (layout.first-text + 16 * j + x))) (16 - q) q ≡ texts-same (table-of table) i j)
 
 abbrev μ-loop : tie.MeasureT-loop
 μ-loop table i j q₀ q = 16 - q
@@ -52,7 +53,7 @@ returns c =
     let d = c .before .before .before .before .before .before in
     let h = c .before .before .before .before .loop in
     let t = table-of (now (d .args .table)) in
-    loop-stop (λ x. eqb (cell t (4104 + 16 * d .args .i + x)) (cell t (4104 + 16 * d .args .j + x))) 16 (h .q) _ (h .inv .1) (eqb (c .before .before .read .result) (c .before .read2 .result)) (rw (c .before .before .read .ensures .is, c .before .read2 .ensures .is)) (c .before .before .before .loop-test .taken) (ne-eqb (c .before .before .read .result) (c .before .read2 .result) (c .if1 .taken))
+    loop-stop (λ x. eqb (cell t (layout.first-text + 16 * d .args .i + x)) (cell t (layout.first-text + 16 * d .args .j + x))) 16 (h .q) _ (h .inv .1) (eqb (c .before .before .read .result) (c .before .read2 .result)) (rw (c .before .before .read .ensures .is, c .before .read2 .ensures .is)) (c .before .before .before .loop-test .taken) (ne-eqb (c .before .before .read .result) (c .before .read2 .result) (c .if1 .taken))
 
 add-q : tie.Need-add-q Inv-loop μ-loop
 add-q c = search needs
@@ -65,14 +66,14 @@ loop-again c =
     let d = c .before .before .before .before .before .before in
     let h = c .before .before .before .before .loop in
     let t = table-of (now (d .args .table)) in
-    (omega arith, loop-on (λ x. eqb (cell t (4104 + 16 * d .args .i + x)) (cell t (4104 + 16 * d .args .j + x))) 16 (h .q) _ (h .inv .1) (eqb (c .before .before .read .result) (c .before .read2 .result)) (rw (c .before .before .read .ensures .is, c .before .read2 .ensures .is)) (c .before .before .before .loop-test .taken) (eq-eqb (c .before .before .read .result) (c .before .read2 .result) (c .if1 .left)))
+    (omega arith, loop-on (λ x. eqb (cell t (layout.first-text + 16 * d .args .i + x)) (cell t (layout.first-text + 16 * d .args .j + x))) 16 (h .q) _ (h .inv .1) (eqb (c .before .before .read .result) (c .before .read2 .result)) (rw (c .before .before .read .ensures .is, c .before .read2 .ensures .is)) (c .before .before .before .loop-test .taken) (eq-eqb (c .before .before .read .result) (c .before .read2 .result) (c .if1 .left)))
 
 returns-2 : tie.Need-returns-2 Inv-loop μ-loop
 returns-2 c =
     let d = c .before .before .before in
     let h = c .before .loop in
     let t = table-of (now (d .args .table)) in
-    loop-end (λ x. eqb (cell t (4104 + 16 * d .args .i + x)) (cell t (4104 + 16 * d .args .j + x))) 16 (h .q) _ (h .inv .1) (c .loop-test .left)
+    loop-end (λ x. eqb (cell t (layout.first-text + 16 * d .args .i + x)) (cell t (layout.first-text + 16 * d .args .j + x))) 16 (h .q) _ (h .inv .1) (c .loop-test .left)
 
 pub texts-same-spec : {M : Type 1} → statement M
 texts-same-spec =

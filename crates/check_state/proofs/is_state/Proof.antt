@@ -6,6 +6,7 @@ use lib.Seq.{length-take-le}
 use Rattle.check_state.proofs.Steps.{short-answer, answer}
 use Rattle.check_state.proofs.is_state.Statement.{statement}
 use Rattle.check_state.proofs.is_state.Tie as tie
+use Rattle.language.specs.Limits as limit
 
 returns : tie.Need-returns
 returns c =
@@ -13,7 +14,7 @@ returns c =
     short-answer (args .table .now) (args .i1 .now) (args .i2 .now) (args .state .now) (c .if1 .taken)
 
 slice-aggregate-is-passed : tie.Need-slice-aggregate-is-passed
-slice-aggregate-is-passed c = sym (length-take-le 40960 (c .before .before .before .before .before .before .args .state .now) (c .before .if1 .left))
+slice-aggregate-is-passed c = sym (length-take-le limit.state (c .before .before .before .before .before .before .args .state .now) (c .before .if1 .left))
 
 slice-aggregate-is-passed-2 : tie.Need-slice-aggregate-is-passed-2
 slice-aggregate-is-passed-2 c = search needs
@@ -26,7 +27,7 @@ is-passed-requires c κs =
     let args = c .before .before .before .before .before .before .before .before .args in
     let pre = c .before .before .before .before .before .before .before .before .pre in
     let if1 = c .before .before .before .if1 in
-    record { table = pre .table; long = length-take-le 40960 (args .state .now) (if1 .left); starts-is = refl; addresses-is = refl }
+    record { table = pre .table; long = length-take-le limit.state (args .state .now) (if1 .left); starts-is = refl; addresses-is = refl }
 
 returns-2 : tie.Need-returns-2
 returns-2 c =

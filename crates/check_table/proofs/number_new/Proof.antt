@@ -7,6 +7,7 @@ use lib.Dec.{eqb}
 use borrow.Author.Tests.{eq-eqb, ne-eqb}
 use denote.Ref.{now}
 use Rattle.layout.specs.Cells.{cell}
+use Rattle.layout.specs.Places as layout
 use Rattle.packed.specs.Packed.{table-of}
 use Rattle.check_parts.specs.Parts.{passes}
 use Rattle.check_parts.specs.PassLaws.{loop-stop, loop-on, loop-end}
@@ -15,7 +16,7 @@ use Rattle.check_table.proofs.number_new.Statement.{statement}
 use Rattle.check_table.proofs.number_new.Tie as tie
 
 abbrev Inv-loop : tie.InvT-loop
-Inv-loop table n i x j₀ j = (x ≡ cell (table-of table) (6312 + i)) × (passes (λ y. not (eqb (cell (table-of table) (6312 + i)) (cell (table-of table) (6312 + y)))) (n - j) j ≡ number-new (table-of table) n i)
+Inv-loop table n i x j₀ j = (x ≡ cell (table-of table) (layout.first-number + i)) × (passes (λ y. not (eqb (cell (table-of table) (layout.first-number + i)) (cell (table-of table) (layout.first-number + y)))) (n - j) j ≡ number-new (table-of table) n i)
 
 abbrev μ-loop : tie.MeasureT-loop
 μ-loop table n i x j₀ j = n - j
@@ -44,7 +45,7 @@ returns c =
     let d = c .before .before .before .before .before .before in
     let h = c .before .before .before .loop in
     let t = table-of (now (d .args .table)) in
-    loop-stop (λ y. not (eqb (cell t (6312 + d .args .i)) (cell t (6312 + y)))) (d .args .n) (h .j) _ (h .inv .1) (not (eqb (c .before .before .before .before .read .result) (c .before .read2 .result))) (rw (h .inv .0, c .before .read2 .ensures .is)) (c .before .before .loop-test .taken) (ap not (eq-eqb (c .before .before .before .before .read .result) (c .before .read2 .result) (c .if1 .taken)))
+    loop-stop (λ y. not (eqb (cell t (layout.first-number + d .args .i)) (cell t (layout.first-number + y)))) (d .args .n) (h .j) _ (h .inv .1) (not (eqb (c .before .before .before .before .read .result) (c .before .read2 .result))) (rw (h .inv .0, c .before .read2 .ensures .is)) (c .before .before .loop-test .taken) (ap not (eq-eqb (c .before .before .before .before .read .result) (c .before .read2 .result) (c .if1 .taken)))
 
 add-j-2 : tie.Need-add-j-2 Inv-loop μ-loop
 add-j-2 c = search needs
@@ -57,14 +58,14 @@ loop-again c =
     let d = c .before .before .before .before .before .before in
     let h = c .before .before .before .loop in
     let t = table-of (now (d .args .table)) in
-    (h .inv .0, loop-on (λ y. not (eqb (cell t (6312 + d .args .i)) (cell t (6312 + y)))) (d .args .n) (h .j) _ (h .inv .1) (not (eqb (c .before .before .before .before .read .result) (c .before .read2 .result))) (rw (h .inv .0, c .before .read2 .ensures .is)) (c .before .before .loop-test .taken) (ap not (ne-eqb (c .before .before .before .before .read .result) (c .before .read2 .result) (c .if1 .left))))
+    (h .inv .0, loop-on (λ y. not (eqb (cell t (layout.first-number + d .args .i)) (cell t (layout.first-number + y)))) (d .args .n) (h .j) _ (h .inv .1) (not (eqb (c .before .before .before .before .read .result) (c .before .read2 .result))) (rw (h .inv .0, c .before .read2 .ensures .is)) (c .before .before .loop-test .taken) (ap not (ne-eqb (c .before .before .before .before .read .result) (c .before .read2 .result) (c .if1 .left))))
 
 returns-2 : tie.Need-returns-2 Inv-loop μ-loop
 returns-2 c =
     let d = c .before .before .before .before in
     let h = c .before .loop in
     let t = table-of (now (d .args .table)) in
-    loop-end (λ y. not (eqb (cell t (6312 + d .args .i)) (cell t (6312 + y)))) (d .args .n) (h .j) _ (h .inv .1) (c .loop-test .left)
+    loop-end (λ y. not (eqb (cell t (layout.first-number + d .args .i)) (cell t (layout.first-number + y)))) (d .args .n) (h .j) _ (h .inv .1) (c .loop-test .left)
 
 pub number-new-spec : {M : Type 1} → statement M
 number-new-spec =

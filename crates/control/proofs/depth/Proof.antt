@@ -4,11 +4,12 @@ use Rattle.control.proofs.Laws.{deep}
 use native.Mathlib.Omega.{arith}
 use Rattle.control.proofs.depth.Statement.{statement}
 use Rattle.control.proofs.depth.Tie as tie
+use Rattle.layout.specs.Places as layout
 
 len-of-requires : tie.Need-len-of-requires
 len-of-requires c κs =
     let pre = c .before .before .before .pre in
-    named pre 96 (omega arith)
+    named pre layout.stack-string (omega arith)
 
 returns : tie.Need-returns
 returns c =

@@ -9,6 +9,7 @@ use borrow.Author.Tests.{eq-eqb, ne-eqb}
 use Rattle.finding.proofs.Found.{Missed, missed-none, missed-more, number-hit, number-found, number-none}
 use Rattle.finding.proofs.find_number.Statement.{statement}
 use Rattle.finding.proofs.find_number.Tie as tie
+use Rattle.layout.specs.Places as layout
 
 abbrev Inv-loop : tie.InvT-loop
 Inv-loop table code n k₀ k = (k ≤ n) × Missed (number-hit table code) k
@@ -40,7 +41,7 @@ returns c =
     let d = c .before .before .before .before .before .before in
     let numbers = c .before .before .before .before .numbers in
     let loop = c .before .before .before .loop in
-    number-found (now (d .args .table)) (d .args .code) (numbers .result) (loop .k) (numbers .ensures .is) (omega (arith, numbers .ensures .is, d .pre .most)) (loop .inv .1) (c .before .before .loop-test .taken) (eq-eqb (getD (now (d .args .table)) (6312 + loop .k) 0) (d .args .code) (c .if1 .taken))
+    number-found (now (d .args .table)) (d .args .code) (numbers .result) (loop .k) (numbers .ensures .is) (omega (arith, numbers .ensures .is, d .pre .most)) (loop .inv .1) (c .before .before .loop-test .taken) (eq-eqb (getD (now (d .args .table)) (layout.first-number + loop .k) 0) (d .args .code) (c .if1 .taken))
 
 add-k : tie.Need-add-k Inv-loop μ-loop
 add-k c = search needs
@@ -52,7 +53,7 @@ loop-again : tie.Need-loop-again Inv-loop μ-loop
 loop-again c =
     let d = c .before .before .before .before .before .before in
     let loop = c .before .before .before .loop in
-    (omega arith, missed-more (number-hit (now (d .args .table)) (d .args .code)) (loop .k) (loop .inv .1) (ne-eqb (getD (now (d .args .table)) (6312 + loop .k) 0) (d .args .code) (c .if1 .left)))
+    (omega arith, missed-more (number-hit (now (d .args .table)) (d .args .code)) (loop .k) (loop .inv .1) (ne-eqb (getD (now (d .args .table)) (layout.first-number + loop .k) 0) (d .args .code) (c .if1 .left)))
 
 returns-2 : tie.Need-returns-2 Inv-loop μ-loop
 returns-2 c =

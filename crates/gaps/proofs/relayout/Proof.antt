@@ -5,12 +5,13 @@ use borrow.Author.Needs.{needs}
 use native.Mathlib.Omega.{arith}
 use Rattle.gaps.proofs.relayout.Statement.{statement}
 use Rattle.gaps.proofs.relayout.Tie as tie
+use Rattle.layout.specs.Places as layout
 
 abbrev Inv-loop : tie.InvT-loop
 Inv-loop pool ends₀ scratch₀ i n at₀ j₀ ends scratch at j = Moving pool ends₀ scratch₀ i n ends scratch at j
 
 abbrev μ-loop : tie.MeasureT-loop
-μ-loop pool ends₀ scratch₀ i n at₀ j₀ ends scratch at j = 99 - j
+μ-loop pool ends₀ scratch₀ i n at₀ j₀ ends scratch at j = layout.strings-count - j
 
 loop-holds : tie.Need-loop-holds Inv-loop μ-loop
 loop-holds c =

@@ -9,12 +9,13 @@ use borrow.Author.Needs.{needs}
 use native.Mathlib.Omega.{arith}
 use Rattle.gaps.proofs.settle.Statement.{statement}
 use Rattle.gaps.proofs.settle.Tie as tie
+use Rattle.layout.specs.Places as layout
 
 abbrev Inv-loop : tie.InvT-loop
 Inv-loop pool₀ ends scratch j₀ pool j = Settled pool ends scratch j
 
 abbrev μ-loop : tie.MeasureT-loop
-μ-loop pool₀ ends scratch j₀ pool j = 99 - j
+μ-loop pool₀ ends scratch j₀ pool j = layout.strings-count - j
 
 loop-holds : tie.Need-loop-holds Inv-loop μ-loop
 loop-holds c = settled-none (c .before .before .before .pre)

@@ -6,12 +6,13 @@ use borrow.Author.Needs.{needs}
 use native.Mathlib.Omega.{arith}
 use Rattle.gaps.proofs.total_len.Statement.{statement}
 use Rattle.gaps.proofs.total_len.Tie as tie
+use Rattle.layout.specs.Places as layout
 
 abbrev Inv-loop : tie.InvT-loop
 Inv-loop pool ends n₀ j₀ n j = Counted pool ends n j
 
 abbrev μ-loop : tie.MeasureT-loop
-μ-loop pool ends n₀ j₀ n j = 99 - j
+μ-loop pool ends n₀ j₀ n j = layout.strings-count - j
 
 loop-holds : tie.Need-loop-holds Inv-loop μ-loop
 loop-holds c = counted-none

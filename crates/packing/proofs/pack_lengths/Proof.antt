@@ -5,12 +5,13 @@ use borrow.Author.Needs.{needs}
 use native.Mathlib.Omega.{arith}
 use Rattle.packing.proofs.pack_lengths.Statement.{statement}
 use Rattle.packing.proofs.pack_lengths.Tie as tie
+use Rattle.layout.specs.Places as layout
 
 abbrev Inv-loop : tie.InvT-loop
 Inv-loop pool ends state₀ j₀ state j = Lengthing pool ends state₀ state j
 
 abbrev μ-loop : tie.MeasureT-loop
-μ-loop pool ends state₀ j₀ state j = 99 - j
+μ-loop pool ends state₀ j₀ state j = layout.strings-count - j
 
 loop-holds : tie.Need-loop-holds Inv-loop μ-loop
 loop-holds c = lengthing-none _ _ _

@@ -5,12 +5,13 @@ use borrow.Author.Needs.{needs}
 use native.Mathlib.Omega.{arith}
 use Rattle.packing.proofs.pack_strings.Statement.{statement}
 use Rattle.packing.proofs.pack_strings.Tie as tie
+use Rattle.layout.specs.Places as layout
 
 abbrev Inv-loop : tie.InvT-loop
 Inv-loop pool ends state₀ at₀ j₀ state at j = Stringing pool ends state₀ state at j
 
 abbrev μ-loop : tie.MeasureT-loop
-μ-loop pool ends state₀ at₀ j₀ state at j = 99 - j
+μ-loop pool ends state₀ at₀ j₀ state at j = layout.strings-count - j
 
 loop-holds : tie.Need-loop-holds Inv-loop μ-loop
 loop-holds c = stringing-none _ _ _

@@ -6,12 +6,13 @@ use borrow.Author.Needs.{needs}
 use native.Mathlib.Omega.{arith}
 use Rattle.packing.proofs.unpack.Statement.{statement}
 use Rattle.packing.proofs.unpack.Tie as tie
+use Rattle.layout.specs.Places as layout
 
 abbrev Inv-loop : tie.InvT-loop
 Inv-loop state pool₀ ends₀ at₀ from₀ j₀ pool ends at from j = Unpacking state pool₀ pool ends at from j
 
 abbrev μ-loop : tie.MeasureT-loop
-μ-loop state pool₀ ends₀ at₀ from₀ j₀ pool ends at from j = 99 - j
+μ-loop state pool₀ ends₀ at₀ from₀ j₀ pool ends at from j = layout.strings-count - j
 
 loop-holds : tie.Need-loop-holds Inv-loop μ-loop
 loop-holds c =

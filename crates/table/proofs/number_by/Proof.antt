@@ -4,6 +4,7 @@ use Prim.Native.Nat.{ℕ, _+_}
 use denote.Ref.{now}
 use borrow.Author.Needs.{needs}
 use Rattle.layout.specs.Cells.{uncode, cell}
+use Rattle.layout.specs.Places as layout
 use Rattle.table.proofs.Decode.{small-number, large-number}
 use Rattle.packed.specs.Packed.{table-of}
 use Rattle.table.proofs.number_by.Statement.{statement}
@@ -28,7 +29,7 @@ returns-2 : tie.Need-returns-2
 returns-2 c =
     let d = c .before .before .before .before in
     let t = table-of (now (d .args .table)) in
-    ap uncode (c .cell-at .ensures) ∙ ap (λ (k : ℕ). uncode (cell t (6312 + k))) (c .before .wide .ensures .is)
+    ap uncode (c .cell-at .ensures) ∙ ap (λ (k : ℕ). uncode (cell t (layout.first-number + k))) (c .before .wide .ensures .is)
     ∙ large-number t (d .args .v) (c .before .before .if1 .left)
 
 pub number-by-spec : {M : Type 1} → statement M
