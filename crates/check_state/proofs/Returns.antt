@@ -13,6 +13,7 @@ use Rattle.forms.specs.Forms.{calls}
 use Rattle.forms.specs.ReadingLaws.{calls-listed}
 use Rattle.language.specs.Instructions.{operation, is-call}
 use Rattle.language.specs.Program.{Instr, Program, no-instr, instr-at}
+use Rattle.layout.specs.Places as layout
 use Rattle.layout.specs.Cells.{cell, two-at}
 use Rattle.layout.specs.Memory.{twos-in}
 use Rattle.layout.specs.Table.{program-of, good-table}
@@ -59,10 +60,10 @@ module _ (c : List ℕ) (good : T (good-table c)) where
     pub place : n - 1 < k → Place c (n - 1) 512
     place h = record { long = table-long; below = omega (arith, code-is q, open-program p (table-facts c good .good) .code-short) }
 
-    pub return-is : n - 1 < k → {o : ℕ} → Number (cell (table-of c) (8 + 4 * (n - 1)) % 64) 64 o → {a : ℕ} → a ≡ o → {r : Bool} → r ≡ calls a → r ≡ good-return p n
-    return-is h {o} w {a} e {r} x =
+    pub return-is : n - 1 < k → {o : ℕ} → Number (cell (table-of c) (layout.first-instruction + 4 * (n - 1)) % 64) 64 o → {r : Bool} → r ≡ calls o → r ≡ good-return p n
+    return-is h {o} w {r} x =
         let g = good-instruction c good (n - 1) (omega (arith, code-is q)) o (w .is) in
-        x ∙ ap calls (e ∙ sym (g .number)) ∙ calls-listed (instr-at p (n - 1) .op) ∙ sym is-return
+        x ∙ ap calls (sym (g .number)) ∙ calls-listed (instr-at p (n - 1) .op) ∙ sym is-return
 
 -- ---- two cells an entry
 

@@ -1,7 +1,6 @@
 // Question 63: "State long enough, and for run well formed?" It is asked after 62 and 61.
 ghost use mathlib.Core.Path.{_≡_};
 ghost use mathlib.Core.List.{[], _∷_};
-ghost use Prim.Native.Nat.{_<_};
 ghost use lib.Dec.{T};
 ghost use lib.ListN.{length};
 ghost use Rattle.lists.specs.Lists.{all};
@@ -12,13 +11,6 @@ ghost use Rattle.check_memory.specs.Passes.{sound-stack, sound-output, fitting}
 ghost use Rattle.check_state.specs.Asked.{Asked, Workable, Fittable, passes};
 use language::Machine;
 use layout::StatePlaces;
-
-fn narrow(n: usize) -> u8
-    requires { ⌜ n < 64 ⌝ }
-    ensures { λ r. ⌜ r ≡ n ⌝ }
-{
-    n as u8
-}
 
 // Whether an entry of the stack stands just after a call.
 fn is_return(table: &[u32], n: usize) -> bool
@@ -32,7 +24,7 @@ fn is_return(table: &[u32], n: usize) -> bool
     if table::instructions(table) <= i {
         return false;
     }
-    forms::is_call(narrow(table::operator(table, i)))
+    forms::is_call(table::operator(table, i))
 }
 
 fn are_returns(table: &[u32], s: &[u8]) -> bool

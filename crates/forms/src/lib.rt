@@ -8,91 +8,9 @@ ghost use lib.ListN.{getD};
 ghost use Rattle.forms.specs.Forms.{nothing, set-at, lists-of, most-of, least-of, calls, ends, only};
 ghost use Rattle.forms.specs.Kinds.{word-kinds};
 ghost use Rattle.forms.specs.Reading.{lives-first, lives-second, shared, taken, taken-at};
+use language::Operator;
 use words::Letter;
 use words::Numeral;
-
-// The operators' numbers.
-pub const PRZESLIJ: u8 = 1;
-
-pub const CZYTAJ: u8 = 2;
-
-pub const PISZ: u8 = 3;
-
-pub const KOPIUJ: u8 = 4;
-
-pub const WSTAW: u8 = 5;
-
-pub const POBIERZ: u8 = 6;
-
-pub const SCHOWAJ: u8 = 7;
-
-pub const USTAW: u8 = 8;
-
-pub const ZAMIEN: u8 = 9;
-
-pub const UMIESC: u8 = 10;
-
-pub const USUN: u8 = 11;
-
-pub const SKRESL: u8 = 12;
-
-pub const RW: u8 = 13;
-
-pub const WK: u8 = 14;
-
-pub const MN: u8 = 15;
-
-pub const PP: u8 = 16;
-
-pub const NS: u8 = 17;
-
-pub const RZ: u8 = 18;
-
-pub const SKOCZ: u8 = 19;
-
-pub const WYKONAJ: u8 = 20;
-
-pub const SKOMI: u8 = 21;
-
-pub const SKOPL: u8 = 22;
-
-pub const WYMI: u8 = 23;
-
-pub const WYPL: u8 = 24;
-
-pub const SKONA: u8 = 25;
-
-pub const SKOIN: u8 = 26;
-
-pub const WYNA: u8 = 27;
-
-pub const WYIN: u8 = 28;
-
-pub const WROC: u8 = 29;
-
-pub const DODAJ: u8 = 30;
-
-pub const ODEJMIJ: u8 = 31;
-
-pub const MNOZ: u8 = 32;
-
-pub const DZIEL: u8 = 33;
-
-pub const SLOWO: u8 = 34;
-
-pub const LICZBA: u8 = 35;
-
-pub const ZBIJ: u8 = 36;
-
-pub const ROZBIJ: u8 = 37;
-
-pub const SZUKAJ: u8 = 38;
-
-pub const OMIN: u8 = 39;
-
-pub const COFNIJ: u8 = 40;
-
-pub const STOP: u8 = 41;
 
 // A form is a bit: the letters of indexed letters, a number, a class, a text, a label, a NAZWA and an INDEKS switch, nothing.
 pub const A: u32 = 1;
@@ -190,47 +108,47 @@ fn first_list(op: u8) -> Places
     ensures { λ r. ⌜ (r .0 ≡ set-at op 0 0) × (r .1 ≡ set-at op 0 1) × (r .2 ≡ set-at op 0 2) ⌝ }
 {
     match op {
-        PRZESLIJ => Places(AB, ABYZ, TEST),
-        CZYTAJ => Places(I, ABYZ, TEST),
-        PISZ => Places(AB, Q, TEST),
-        KOPIUJ => Places(CD, CD, RECORD_TEST),
-        WSTAW => Places(AB, CD, NOTHING),
-        POBIERZ => Places(CD, ABYZ, NOTHING),
-        SCHOWAJ => Places(P, ABYZ, NOTHING),
-        USTAW => Places(AB, P, NOTHING),
-        ZAMIEN => Places(E, E, NOTHING),
-        UMIESC => Places(NUMBER_TEXT, ABYZCD, NOTHING),
-        USUN => Places(AI, TEST, NOTHING),
-        SKRESL => Places(C, RECORD_TEST, NOTHING),
-        RW => Places(ABT, COUNT, NOTHING),
-        WK => Places(B, NUMBER_B, NOTHING),
-        MN => Places(B, NUMBER_B, NOTHING),
-        PP => Places(B, TEXT_B, NOTHING),
-        NS => Places(B, TEXT_B, NOTHING),
-        RZ => Places(P, RZ_TEST, NOTHING),
-        SKOCZ => Places(LABEL, NOTHING, NOTHING),
-        WYKONAJ => Places(LABEL, NOTHING, NOTHING),
-        SKOMI => Places(LABEL, NOTHING, NOTHING),
-        SKOPL => Places(LABEL, NOTHING, NOTHING),
-        WYMI => Places(LABEL, NOTHING, NOTHING),
-        WYPL => Places(LABEL, NOTHING, NOTHING),
-        SKONA => Places(AB, NAZWA, NOTHING),
-        SKOIN => Places(AB, INDEKS, NOTHING),
-        WYNA => Places(AB, NAZWA, NOTHING),
-        WYIN => Places(AB, INDEKS, NOTHING),
-        WROC => Places(NOTHING, NOTHING, NOTHING),
-        DODAJ => Places(A, NUMBER_B, NOTHING),
-        ODEJMIJ => Places(A, NUMBER_B, NOTHING),
-        MNOZ => Places(A, NUMBER_B, NOTHING),
-        DZIEL => Places(A, NUMBER_B, NOTHING),
-        SLOWO => Places(AB, NOTHING, NOTHING),
-        LICZBA => Places(AB, NOTHING, NOTHING),
-        ZBIJ => Places(AB, TEST, NOTHING),
-        ROZBIJ => Places(AB, TEST, NOTHING),
-        SZUKAJ => Places(AB, NAZWA, NOTHING),
-        OMIN => Places(P, RECORD_TEST, NOTHING),
-        COFNIJ => Places(P, NOTHING, NOTHING),
-        STOP => Places(NOTHING, NOTHING, NOTHING),
+        Operator::PRZESLIJ => Places(AB, ABYZ, TEST),
+        Operator::CZYTAJ => Places(I, ABYZ, TEST),
+        Operator::PISZ => Places(AB, Q, TEST),
+        Operator::KOPIUJ => Places(CD, CD, RECORD_TEST),
+        Operator::WSTAW => Places(AB, CD, NOTHING),
+        Operator::POBIERZ => Places(CD, ABYZ, NOTHING),
+        Operator::SCHOWAJ => Places(P, ABYZ, NOTHING),
+        Operator::USTAW => Places(AB, P, NOTHING),
+        Operator::ZAMIEN => Places(E, E, NOTHING),
+        Operator::UMIESC => Places(NUMBER_TEXT, ABYZCD, NOTHING),
+        Operator::USUN => Places(AI, TEST, NOTHING),
+        Operator::SKRESL => Places(C, RECORD_TEST, NOTHING),
+        Operator::RW => Places(ABT, COUNT, NOTHING),
+        Operator::WK => Places(B, NUMBER_B, NOTHING),
+        Operator::MN => Places(B, NUMBER_B, NOTHING),
+        Operator::PP => Places(B, TEXT_B, NOTHING),
+        Operator::NS => Places(B, TEXT_B, NOTHING),
+        Operator::RZ => Places(P, RZ_TEST, NOTHING),
+        Operator::SKOCZ => Places(LABEL, NOTHING, NOTHING),
+        Operator::WYKONAJ => Places(LABEL, NOTHING, NOTHING),
+        Operator::SKOMI => Places(LABEL, NOTHING, NOTHING),
+        Operator::SKOPL => Places(LABEL, NOTHING, NOTHING),
+        Operator::WYMI => Places(LABEL, NOTHING, NOTHING),
+        Operator::WYPL => Places(LABEL, NOTHING, NOTHING),
+        Operator::SKONA => Places(AB, NAZWA, NOTHING),
+        Operator::SKOIN => Places(AB, INDEKS, NOTHING),
+        Operator::WYNA => Places(AB, NAZWA, NOTHING),
+        Operator::WYIN => Places(AB, INDEKS, NOTHING),
+        Operator::WROC => Places(NOTHING, NOTHING, NOTHING),
+        Operator::DODAJ => Places(A, NUMBER_B, NOTHING),
+        Operator::ODEJMIJ => Places(A, NUMBER_B, NOTHING),
+        Operator::MNOZ => Places(A, NUMBER_B, NOTHING),
+        Operator::DZIEL => Places(A, NUMBER_B, NOTHING),
+        Operator::SLOWO => Places(AB, NOTHING, NOTHING),
+        Operator::LICZBA => Places(AB, NOTHING, NOTHING),
+        Operator::ZBIJ => Places(AB, TEST, NOTHING),
+        Operator::ROZBIJ => Places(AB, TEST, NOTHING),
+        Operator::SZUKAJ => Places(AB, NAZWA, NOTHING),
+        Operator::OMIN => Places(P, RECORD_TEST, NOTHING),
+        Operator::COFNIJ => Places(P, NOTHING, NOTHING),
+        Operator::STOP => Places(NOTHING, NOTHING, NOTHING),
         _ => Places(0, 0, 0),
     }
 }
@@ -240,9 +158,9 @@ fn second_list(op: u8) -> Places
     ensures { λ r. ⌜ (r .0 ≡ set-at op 1 0) × (r .1 ≡ set-at op 1 1) × (r .2 ≡ set-at op 1 2) ⌝ }
 {
     match op {
-        ZAMIEN => Places(P, P, NOTHING),
-        UMIESC => Places(TEXT, Q, NOTHING),
-        RW => Places(ABTI, KIND, NOTHING),
+        Operator::ZAMIEN => Places(P, P, NOTHING),
+        Operator::UMIESC => Places(TEXT, Q, NOTHING),
+        Operator::RW => Places(ABTI, KIND, NOTHING),
         _ => Places(0, 0, 0),
     }
 }
@@ -279,10 +197,10 @@ pub fn forms_at(op: u8, list: u8, place: u8) -> u32
 fn alternatives(op: u8) -> u8
     ensures { λ r. ⌜ r ≡ lists-of op ⌝ }
 {
-    if (op == 0) | (STOP < op) {
+    if (op == 0) | (Operator::STOP < op) {
         return 0;
     }
-    if (op == ZAMIEN) | ((op == UMIESC) | (op == RW)) {
+    if (op == Operator::ZAMIEN) | ((op == Operator::UMIESC) | (op == Operator::RW)) {
         return 2;
     }
     1
@@ -326,14 +244,18 @@ pub fn least(op: u8) -> u8
 pub fn is_call(op: u8) -> bool
     ensures { λ r. ⌜ r ≡ calls op ⌝ }
 {
-    (op == WYKONAJ) | (op == WYMI) | (op == WYPL) | (op == WYNA) | (op == WYIN)
+    (op == Operator::WYKONAJ)
+        | (op == Operator::WYMI)
+        | (op == Operator::WYPL)
+        | (op == Operator::WYNA)
+        | (op == Operator::WYIN)
 }
 
 // "The last of them STOP, SKOCZ or WROC".
 pub fn is_end(op: u8) -> bool
     ensures { λ r. ⌜ r ≡ ends op ⌝ }
 {
-    (op == SKOCZ) | (op == WROC) | (op == STOP)
+    (op == Operator::SKOCZ) | (op == Operator::WROC) | (op == Operator::STOP)
 }
 
 pub fn letter_bit(place: u8) -> u32

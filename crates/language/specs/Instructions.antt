@@ -1,7 +1,7 @@
 -- The one table of the 41 instructions: number, word, flow, and the arguments listed for each place (5.1 to 5.10). The loader (01, 02, 10),
 -- the check of a table (62) and of a state (63), and the machine all use it.
 use mathlib.Core.Bool.{Bool, true, false}
-use mathlib.Core.List.{List, [], _∷_}
+use mathlib.Core.List.{List, [], _∷_, map}
 use Prim.Native.Nat.{ℕ, pred}
 use Prim.Native.String.{String}
 use lib.ListN.{getD}
@@ -78,6 +78,13 @@ operators =
     ∷ SKOCZ ∷ WYKONAJ ∷ SKOMI ∷ SKOPL ∷ WYMI ∷ WYPL ∷ SKONA ∷ SKOIN ∷ WYNA ∷ WYIN ∷ WROC
     ∷ DODAJ ∷ ODEJMIJ ∷ MNOZ ∷ DZIEL ∷ SLOWO ∷ LICZBA ∷ ZBIJ ∷ ROZBIJ
     ∷ SZUKAJ ∷ OMIN ∷ COFNIJ ∷ STOP ∷ []
+
+-- their numbers
+abbrev pub number-of : Op → ℕ
+number-of o = operation o .number
+
+abbrev pub operator-numbers : List ℕ
+operator-numbers = map number-of operators
 
 -- the instruction of a number, STOP where there is none
 abbrev pub operator-of : ℕ → Op

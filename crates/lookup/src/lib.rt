@@ -12,6 +12,7 @@ ghost use Rattle.finding.specs.Finding.{Counted, Tells};
 ghost use Rattle.lookup.specs.Lookup.{label-by, switch-by, is-switch, joined, known, faults, marks-in, argument, names-number, asked-by, instr-uses, Asking, AskingAt, AskingFor, AskingAll, Judges};
 use faults::lesser;
 use faults::lower;
+use language::Operator;
 use layout::TablePlaces;
 use statements::Fault;
 
@@ -91,10 +92,10 @@ fn note(f: Fault, fine: bool, m: usize) -> Fault
 }
 
 // Whether the instructions of an operator take a switch by name.
-fn takes_named(operator: usize) -> bool
+fn takes_named(operator: u8) -> bool
     ensures { λ r. ⌜ r ≡ names-number operator ⌝ }
 {
-    (operator == 25) | ((operator == 27) | (operator == 38))
+    (operator == Operator::SKONA) | ((operator == Operator::WYNA) | (operator == Operator::SZUKAJ))
 }
 
 // Whether `m` names a label (kind 2, as in an argument's cell), or a switch of the type (kind 3).
@@ -130,7 +131,7 @@ fn argument_fault(
     note(f, is_known(text, table, sw, kind, named, m), m)
 }
 
-fn is_asked(kind: usize, named: bool, operator: usize) -> bool
+fn is_asked(kind: usize, named: bool, operator: u8) -> bool
     ensures { λ r. ⌜ r ≡ asked-by kind named operator ⌝ }
 {
     (kind == 2) | agree(named, takes_named(operator))

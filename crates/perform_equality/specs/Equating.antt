@@ -7,6 +7,8 @@ use Prim.Native.Nat.{ℕ, _≤_}
 use lib.Dec.{T, eqb}
 use Rattle.lists.specs.Lists.{among}
 use Rattle.lists.specs.Quoted.{bytes}
+use Rattle.language.specs.Instructions.{number-of}
+use Rattle.language.specs.Program.Op.{RW, RZ}
 use Rattle.language.specs.Letters as letters
 use Rattle.language.specs.Letters.{letter-code}
 use Rattle.table.specs.Denote.{letter-of}
@@ -30,25 +32,25 @@ pub record IsAny (a : Argument) (r : Bool) : Type 0 where
 -- RW of an expression
 pub record RelatingExpression (c p e n : List ℕ) (x y : Argument) (given : ℕ) : Type 0 where
   pub third : Argument
-  pub operating : Operating c p e n 13 x y third
+  pub operating : Operating c p e n (number-of RW) x y third
   pub values : 32768 ≤ given
   pub expression : Named (bytes "ABT") x
 
 -- RZ
 pub record RelatingRecord (c p e n : List ℕ) (x y : Argument) (given : ℕ) : Type 0 where
   pub third : Argument
-  pub operating : Operating c p e n 18 x y third
+  pub operating : Operating c p e n (number-of RZ) x y third
   pub values : 32768 ≤ given
 
 -- RW
 pub record Relating (c i j p e n : List ℕ) (x y : Argument) (hold given : ℕ) : Type 0 where
   pub third : Argument
   pub scratch : ℕ
-  pub performing : Performing c i j p e n 13 x y third scratch hold given
+  pub performing : Performing c i j p e n (number-of RW) x y third scratch hold given
 
 -- both
 abbrev pub equality-operators : List ℕ
-equality-operators = 13 ∷ 18 ∷ []
+equality-operators = number-of RW ∷ number-of RZ ∷ []
 
 pub record Equating (c i j p e n : List ℕ) (op : ℕ) (x y : Argument) (hold given : ℕ) : Type 0 where
   pub third : Argument

@@ -5,6 +5,7 @@ ghost use Rattle.decoding.specs.Operands.{Lettered};
 ghost use Rattle.performing.specs.Performing.{Performs};
 ghost use Rattle.performing.specs.Operating.{PerformsFor};
 ghost use Rattle.perform_equality.specs.Equating.{any-letter, IsAny, RelatingExpression, RelatingRecord, Relating, Equating};
+use language::Operator;
 
 // Whether a letter, an argument stands for any component (T).
 fn any_letter(l: table::Letter) -> bool
@@ -99,7 +100,7 @@ fn relate(
 }
 
 pub fn perform_equality(
-    op: usize,
+    op: u8,
     table: &[u32],
     i1: &[u8],
     i2: &[u8],
@@ -114,7 +115,7 @@ pub fn perform_equality(
     requires { ⌜ Equating (now table) (now i1) (now i2) (now pool) (now ends) (now nums) op x y (length (now hold)) (length (now given)) ⌝ }
     ensures { λ r. ⌜ Performs (now (table .entry)) (now (i1 .entry)) (now (i2 .entry)) (now (pool .entry)) (now (ends .entry)) (now (nums .entry)) r (now (pool .entry)) (now (ends .exit)) (now (nums .exit)) ⌝ }
 {
-    if op == 13 {
+    if op == Operator::RW {
         return relate(table, i1, i2, pool, ends, nums, hold, given, x, y);
     }
     relate_record(table, pool, ends, nums, given, x, y)

@@ -2,6 +2,14 @@
 ghost use lib.ListN.{length};
 ghost use Rattle.performing.specs.Operating.{Carrying, PerformsFor};
 ghost use Rattle.perform_files.specs.Filing.{Filing};
+ghost use Rattle.language.specs.Instructions.{number-of};
+ghost use Rattle.language.specs.Program.Op.{KOPIUJ, WSTAW, POBIERZ, SKRESL, OMIN};
+use language::Operator;
+use perform_pointers::do_cofnij;
+use perform_pointers::do_schowaj;
+use perform_pointers::do_umiesc;
+use perform_pointers::do_ustaw;
+use perform_pointers::do_zamien;
 
 // KOPIUJ.
 fn do_kopiuj(
@@ -16,7 +24,7 @@ fn do_kopiuj(
     y: table::Argument,
     z: table::Argument,
 ) -> u8
-    requires { ⌜ Carrying (now table) (now pool) (now ends) (now nums) 4 x y z (length (now scratch)) (length (now hold)) (length (now given)) ⌝ }
+    requires { ⌜ Carrying (now table) (now pool) (now ends) (now nums) (number-of KOPIUJ) x y z (length (now scratch)) (length (now hold)) (length (now given)) ⌝ }
     ensures { λ r. ⌜ PerformsFor (now (table .entry)) (now (pool .entry)) (now (ends .entry)) (now (nums .entry)) r (now (pool .exit)) (now (ends .exit)) (now (nums .exit)) ⌝ }
 {
     let s = decoding::file_of(x);
@@ -50,7 +58,7 @@ fn do_wstaw(
     y: table::Argument,
     z: table::Argument,
 ) -> u8
-    requires { ⌜ Carrying (now table) (now pool) (now ends) (now nums) 5 x y z (length (now scratch)) (length (now hold)) (length (now given)) ⌝ }
+    requires { ⌜ Carrying (now table) (now pool) (now ends) (now nums) (number-of WSTAW) x y z (length (now scratch)) (length (now hold)) (length (now given)) ⌝ }
     ensures { λ r. ⌜ PerformsFor (now (table .entry)) (now (pool .entry)) (now (ends .entry)) (now (nums .entry)) r (now (pool .exit)) (now (ends .exit)) (now (nums .exit)) ⌝ }
 {
     let s = decoding::source_of(x);
@@ -81,7 +89,7 @@ fn do_pobierz(
     y: table::Argument,
     z: table::Argument,
 ) -> u8
-    requires { ⌜ Carrying (now table) (now pool) (now ends) (now nums) 6 x y z (length (now scratch)) (length (now hold)) (length (now given)) ⌝ }
+    requires { ⌜ Carrying (now table) (now pool) (now ends) (now nums) (number-of POBIERZ) x y z (length (now scratch)) (length (now hold)) (length (now given)) ⌝ }
     ensures { λ r. ⌜ PerformsFor (now (table .entry)) (now (pool .entry)) (now (ends .entry)) (now (nums .entry)) r (now (pool .exit)) (now (ends .exit)) (now (nums .exit)) ⌝ }
 {
     let s = decoding::file_of(x);
@@ -114,7 +122,7 @@ fn do_skresl(
     y: table::Argument,
     z: table::Argument,
 ) -> u8
-    requires { ⌜ Carrying (now table) (now pool) (now ends) (now nums) 12 x y z (length (now scratch)) (length (now hold)) (length (now given)) ⌝ }
+    requires { ⌜ Carrying (now table) (now pool) (now ends) (now nums) (number-of SKRESL) x y z (length (now scratch)) (length (now hold)) (length (now given)) ⌝ }
     ensures { λ r. ⌜ PerformsFor (now (table .entry)) (now (pool .entry)) (now (ends .entry)) (now (nums .entry)) r (now (pool .entry)) (now (ends .exit)) (now (nums .exit)) ⌝ }
 {
     let i = decoding::index_of(x);
@@ -134,7 +142,7 @@ fn do_omin(
     y: table::Argument,
     z: table::Argument,
 ) -> u8
-    requires { ⌜ Carrying (now table) (now pool) (now ends) (now nums) 39 x y z (length (now scratch)) (length (now hold)) (length (now given)) ⌝ }
+    requires { ⌜ Carrying (now table) (now pool) (now ends) (now nums) (number-of OMIN) x y z (length (now scratch)) (length (now hold)) (length (now given)) ⌝ }
     ensures { λ r. ⌜ PerformsFor (now (table .entry)) (now (pool .entry)) (now (ends .entry)) (now (nums .entry)) r (now (pool .exit)) (now (ends .exit)) (now (nums .exit)) ⌝ }
 {
     let i = decoding::index_of(x);
@@ -143,7 +151,7 @@ fn do_omin(
 
 // The instruction of an operator by its number.
 pub fn perform_file(
-    op: usize,
+    op: u8,
     table: &[u32],
     pool: &mut [u8],
     ends: &mut [u32],
@@ -159,15 +167,15 @@ pub fn perform_file(
     ensures { λ r. ⌜ PerformsFor (now (table .entry)) (now (pool .entry)) (now (ends .entry)) (now (nums .entry)) r (now (pool .exit)) (now (ends .exit)) (now (nums .exit)) ⌝ }
 {
     match op {
-        4 => do_kopiuj(table, pool, ends, nums, scratch, hold, given, x, y, z),
-        5 => do_wstaw(table, pool, ends, nums, scratch, hold, given, x, y, z),
-        6 => do_pobierz(table, pool, ends, nums, scratch, hold, given, x, y, z),
-        7 => perform_pointers::do_schowaj(table, pool, ends, nums, scratch, hold, given, x, y, z),
-        8 => perform_pointers::do_ustaw(table, pool, ends, nums, scratch, hold, given, x, y, z),
-        9 => perform_pointers::do_zamien(table, pool, ends, nums, scratch, hold, given, x, y, z),
-        10 => perform_pointers::do_umiesc(table, pool, ends, nums, scratch, hold, given, x, y, z),
-        12 => do_skresl(table, pool, ends, nums, scratch, hold, given, x, y, z),
-        39 => do_omin(table, pool, ends, nums, scratch, hold, given, x, y, z),
-        _ => perform_pointers::do_cofnij(table, pool, ends, nums, scratch, hold, given, x, y, z),
+        Operator::KOPIUJ => do_kopiuj(table, pool, ends, nums, scratch, hold, given, x, y, z),
+        Operator::WSTAW => do_wstaw(table, pool, ends, nums, scratch, hold, given, x, y, z),
+        Operator::POBIERZ => do_pobierz(table, pool, ends, nums, scratch, hold, given, x, y, z),
+        Operator::SCHOWAJ => do_schowaj(table, pool, ends, nums, scratch, hold, given, x, y, z),
+        Operator::USTAW => do_ustaw(table, pool, ends, nums, scratch, hold, given, x, y, z),
+        Operator::ZAMIEN => do_zamien(table, pool, ends, nums, scratch, hold, given, x, y, z),
+        Operator::UMIESC => do_umiesc(table, pool, ends, nums, scratch, hold, given, x, y, z),
+        Operator::SKRESL => do_skresl(table, pool, ends, nums, scratch, hold, given, x, y, z),
+        Operator::OMIN => do_omin(table, pool, ends, nums, scratch, hold, given, x, y, z),
+        _ => do_cofnij(table, pool, ends, nums, scratch, hold, given, x, y, z),
     }
 }

@@ -11,20 +11,22 @@ use Rattle.jumps.specs.Jumps as jumps
 use Rattle.switches.specs.Switches.{SwitchCalls}
 use Rattle.performing.specs.Performing.{leads}
 use Rattle.performing.specs.Operating.{Operating}
+use Rattle.language.specs.Instructions.{number-of}
+use Rattle.language.specs.Program.Op.{SKOCZ, WYPL, SKONA, WYIN}
 
 -- SKOCZ to WYPL, by label k
 pub record ByLabel (c p e n : List ℕ) (scratch op k : ℕ) : Type 0 where
   pub leads : jumps.Leads c p e n k
   pub spare : 65536 ≤ scratch
-  pub from : 19 ≤ op
-  pub to : op ≤ 24
-  pub following : 19 < op → suc (state-at p e n .next) < limit.instructions
+  pub from : number-of SKOCZ ≤ op
+  pub to : op ≤ number-of WYPL
+  pub following : number-of SKOCZ < op → suc (state-at p e n .next) < limit.instructions
 
 -- SKONA to WYIN, of expression i and by switch k
 pub record BySwitch (c p e n : List ℕ) (scratch op i k : ℕ) : Type 0 where
   pub calls : SwitchCalls c p e n scratch i k
-  pub from : 25 ≤ op
-  pub to : op ≤ 28
+  pub from : number-of SKONA ≤ op
+  pub to : op ≤ number-of WYIN
 
 -- any of them
 pub record Jumping (c p e n : List ℕ) (op : ℕ) (x y : Argument) (scratch : ℕ) : Type 0 where

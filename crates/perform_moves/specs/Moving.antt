@@ -3,13 +3,15 @@ use mathlib.Core.List.{List, [], _∷_}
 use Prim.Native.Nat.{ℕ}
 use lib.Dec.{T}
 use Rattle.lists.specs.Lists.{among}
+use Rattle.language.specs.Instructions.{number-of}
+use Rattle.language.specs.Program.Op.{PRZESLIJ, CZYTAJ, PISZ, USUN, ZBIJ, ROZBIJ, SZUKAJ}
 use Rattle.table.specs.declared.Argument.{Argument}
 use Rattle.performing.specs.Performing.{Performing}
 use Rattle.performing.specs.Operating.{Operating, Carrying}
 
 -- the numbers of their operators
 abbrev pub movers : List ℕ
-movers = 1 ∷ 2 ∷ 3 ∷ 11 ∷ 36 ∷ 37 ∷ 38 ∷ []
+movers = number-of PRZESLIJ ∷ number-of CZYTAJ ∷ number-of PISZ ∷ number-of USUN ∷ number-of ZBIJ ∷ number-of ROZBIJ ∷ number-of SZUKAJ ∷ []
 
 -- an operator of two arguments, and USUN, which may read an input
 pub record Paired (c p e n : List ℕ) (op : ℕ) (x y : Argument) (scratch hold given : ℕ) : Type 0 where
@@ -19,12 +21,12 @@ pub record Paired (c p e n : List ℕ) (op : ℕ) (x y : Argument) (scratch hold
 pub record Dropping (c i j p e n : List ℕ) (x y : Argument) (hold given : ℕ) : Type 0 where
   pub third : Argument
   pub scratch : ℕ
-  pub performing : Performing c i j p e n 11 x y third scratch hold given
+  pub performing : Performing c i j p e n (number-of USUN) x y third scratch hold given
 
 -- SZUKAJ
 pub record Seeking (c p e n : List ℕ) (x y : Argument) : Type 0 where
   pub third : Argument
-  pub operating : Operating c p e n 38 x y third
+  pub operating : Operating c p e n (number-of SZUKAJ) x y third
 
 -- any of them
 pub record Moving (c i j p e n : List ℕ) (op : ℕ) (x y z : Argument) (scratch hold given : ℕ) : Type 0 where

@@ -3,6 +3,9 @@ ghost use lib.ListN.{length};
 ghost use Rattle.performing.specs.Performing.{Performing, Performs};
 ghost use Rattle.performing.specs.Operating.{Carrying, PerformsFor};
 ghost use Rattle.perform_moves.specs.Moving.{Paired, Dropping, Seeking, Moving};
+ghost use Rattle.language.specs.Instructions.{number-of};
+ghost use Rattle.language.specs.Program.Op.{PRZESLIJ, CZYTAJ, PISZ, ZBIJ, ROZBIJ};
+use language::Operator;
 
 // PRZESLIJ.
 fn send(
@@ -17,7 +20,7 @@ fn send(
     y: table::Argument,
     z: table::Argument,
 ) -> u8
-    requires { ⌜ Carrying (now table) (now pool) (now ends) (now nums) 1 x y z (length (now scratch)) (length (now hold)) (length (now given)) ⌝ }
+    requires { ⌜ Carrying (now table) (now pool) (now ends) (now nums) (number-of PRZESLIJ) x y z (length (now scratch)) (length (now hold)) (length (now given)) ⌝ }
     ensures { λ r. ⌜ PerformsFor (now (table .entry)) (now (pool .entry)) (now (ends .entry)) (now (nums .entry)) r (now (pool .exit)) (now (ends .exit)) (now (nums .exit)) ⌝ }
 {
     let s = decoding::source_of(x);
@@ -54,7 +57,7 @@ fn read(
     y: table::Argument,
     z: table::Argument,
 ) -> u8
-    requires { ⌜ Performing (now table) (now i1) (now i2) (now pool) (now ends) (now nums) 2 x y z (length (now scratch)) (length (now hold)) (length (now given)) ⌝ }
+    requires { ⌜ Performing (now table) (now i1) (now i2) (now pool) (now ends) (now nums) (number-of CZYTAJ) x y z (length (now scratch)) (length (now hold)) (length (now given)) ⌝ }
     ensures { λ r. ⌜ Performs (now (table .entry)) (now (i1 .entry)) (now (i2 .entry)) (now (pool .entry)) (now (ends .entry)) (now (nums .entry)) r (now (pool .exit)) (now (ends .exit)) (now (nums .exit)) ⌝ }
 {
     let i = decoding::index_of(x);
@@ -89,7 +92,7 @@ fn print(
     y: table::Argument,
     z: table::Argument,
 ) -> u8
-    requires { ⌜ Carrying (now table) (now pool) (now ends) (now nums) 3 x y z (length (now scratch)) (length (now hold)) (length (now given)) ⌝ }
+    requires { ⌜ Carrying (now table) (now pool) (now ends) (now nums) (number-of PISZ) x y z (length (now scratch)) (length (now hold)) (length (now given)) ⌝ }
     ensures { λ r. ⌜ PerformsFor (now (table .entry)) (now (pool .entry)) (now (ends .entry)) (now (nums .entry)) r (now (pool .exit)) (now (ends .exit)) (now (nums .exit)) ⌝ }
 {
     let s = decoding::source_of(x);
@@ -155,7 +158,7 @@ fn join(
     x: table::Argument,
     y: table::Argument,
 ) -> u8
-    requires { ⌜ Paired (now table) (now pool) (now ends) (now nums) 36 x y (length (now scratch)) (length (now hold)) (length (now given)) ⌝ }
+    requires { ⌜ Paired (now table) (now pool) (now ends) (now nums) (number-of ZBIJ) x y (length (now scratch)) (length (now hold)) (length (now given)) ⌝ }
     ensures { λ r. ⌜ PerformsFor (now (table .entry)) (now (pool .entry)) (now (ends .entry)) (now (nums .entry)) r (now (pool .exit)) (now (ends .exit)) (now (nums .exit)) ⌝ }
 {
     let s = decoding::source_of(x);
@@ -185,7 +188,7 @@ fn split(
     x: table::Argument,
     y: table::Argument,
 ) -> u8
-    requires { ⌜ Paired (now table) (now pool) (now ends) (now nums) 37 x y (length (now scratch)) (length (now hold)) (length (now given)) ⌝ }
+    requires { ⌜ Paired (now table) (now pool) (now ends) (now nums) (number-of ROZBIJ) x y (length (now scratch)) (length (now hold)) (length (now given)) ⌝ }
     ensures { λ r. ⌜ PerformsFor (now (table .entry)) (now (pool .entry)) (now (ends .entry)) (now (nums .entry)) r (now (pool .exit)) (now (ends .exit)) (now (nums .exit)) ⌝ }
 {
     let s = decoding::source_of(x);
@@ -221,7 +224,7 @@ fn seek(
 }
 
 pub fn perform_move(
-    op: usize,
+    op: u8,
     table: &[u32],
     i1: &[u8],
     i2: &[u8],
@@ -239,8 +242,8 @@ pub fn perform_move(
     ensures { λ r. ⌜ Performs (now (table .entry)) (now (i1 .entry)) (now (i2 .entry)) (now (pool .entry)) (now (ends .entry)) (now (nums .entry)) r (now (pool .exit)) (now (ends .exit)) (now (nums .exit)) ⌝ }
 {
     match op {
-        1 => send(table, pool, ends, nums, scratch, hold, given, x, y, z),
-        2 => read(
+        Operator::PRZESLIJ => send(table, pool, ends, nums, scratch, hold, given, x, y, z),
+        Operator::CZYTAJ => read(
             table,
             i1,
             i2,
@@ -254,10 +257,10 @@ pub fn perform_move(
             y,
             z,
         ),
-        3 => print(table, pool, ends, nums, scratch, hold, given, x, y, z),
-        11 => remove(table, i1, i2, pool, ends, nums, hold, given, x, y),
-        36 => join(table, pool, ends, nums, scratch, hold, given, x, y),
-        37 => split(table, pool, ends, nums, scratch, hold, given, x, y),
+        Operator::PISZ => print(table, pool, ends, nums, scratch, hold, given, x, y, z),
+        Operator::USUN => remove(table, i1, i2, pool, ends, nums, hold, given, x, y),
+        Operator::ZBIJ => join(table, pool, ends, nums, scratch, hold, given, x, y),
+        Operator::ROZBIJ => split(table, pool, ends, nums, scratch, hold, given, x, y),
         _ => seek(table, pool, ends, nums, x, y),
     }
 }

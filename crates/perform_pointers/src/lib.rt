@@ -4,6 +4,8 @@ ghost use lib.ListN.{length};
 ghost use Rattle.table.specs.declared.Argument.the-variants.{Text};
 ghost use Rattle.performing.specs.Operating.{Carrying, PerformsFor};
 ghost use Rattle.perform_pointers.specs.Texts.{IsText};
+ghost use Rattle.language.specs.Instructions.{number-of};
+ghost use Rattle.language.specs.Program.Op.{SCHOWAJ, USTAW, ZAMIEN, UMIESC, COFNIJ};
 
 // SCHOWAJ.
 pub fn do_schowaj(
@@ -18,7 +20,7 @@ pub fn do_schowaj(
     y: table::Argument,
     z: table::Argument,
 ) -> u8
-    requires { ⌜ Carrying (now table) (now pool) (now ends) (now nums) 7 x y z (length (now scratch)) (length (now hold)) (length (now given)) ⌝ }
+    requires { ⌜ Carrying (now table) (now pool) (now ends) (now nums) (number-of SCHOWAJ) x y z (length (now scratch)) (length (now hold)) (length (now given)) ⌝ }
     ensures { λ r. ⌜ PerformsFor (now (table .entry)) (now (pool .entry)) (now (ends .entry)) (now (nums .entry)) r (now (pool .exit)) (now (ends .exit)) (now (nums .exit)) ⌝ }
 {
     let i = decoding::index_of(x);
@@ -39,7 +41,7 @@ pub fn do_ustaw(
     y: table::Argument,
     z: table::Argument,
 ) -> u8
-    requires { ⌜ Carrying (now table) (now pool) (now ends) (now nums) 8 x y z (length (now scratch)) (length (now hold)) (length (now given)) ⌝ }
+    requires { ⌜ Carrying (now table) (now pool) (now ends) (now nums) (number-of USTAW) x y z (length (now scratch)) (length (now hold)) (length (now given)) ⌝ }
     ensures { λ r. ⌜ PerformsFor (now (table .entry)) (now (pool .entry)) (now (ends .entry)) (now (nums .entry)) r (now (pool .exit)) (now (ends .exit)) (now (nums .exit)) ⌝ }
 {
     let s = decoding::source_of(x);
@@ -60,7 +62,7 @@ pub fn do_zamien(
     y: table::Argument,
     z: table::Argument,
 ) -> u8
-    requires { ⌜ Carrying (now table) (now pool) (now ends) (now nums) 9 x y z (length (now scratch)) (length (now hold)) (length (now given)) ⌝ }
+    requires { ⌜ Carrying (now table) (now pool) (now ends) (now nums) (number-of ZAMIEN) x y z (length (now scratch)) (length (now hold)) (length (now given)) ⌝ }
     ensures { λ r. ⌜ PerformsFor (now (table .entry)) (now (pool .entry)) (now (ends .entry)) (now (nums .entry)) r (now (pool .exit)) (now (ends .exit)) (now (nums .entry)) ⌝ }
 {
     let i = decoding::index_of(x);
@@ -103,7 +105,7 @@ pub fn do_umiesc(
     y: table::Argument,
     z: table::Argument,
 ) -> u8
-    requires { ⌜ Carrying (now table) (now pool) (now ends) (now nums) 10 x y z (length (now scratch)) (length (now hold)) (length (now given)) ⌝ }
+    requires { ⌜ Carrying (now table) (now pool) (now ends) (now nums) (number-of UMIESC) x y z (length (now scratch)) (length (now hold)) (length (now given)) ⌝ }
     ensures { λ r. ⌜ PerformsFor (now (table .entry)) (now (pool .entry)) (now (ends .entry)) (now (nums .entry)) r (now (pool .exit)) (now (ends .exit)) (now (nums .exit)) ⌝ }
 {
     match decoding::variable_of(y) {
@@ -147,7 +149,7 @@ pub fn do_cofnij(
     y: table::Argument,
     z: table::Argument,
 ) -> u8
-    requires { ⌜ Carrying (now table) (now pool) (now ends) (now nums) 40 x y z (length (now scratch)) (length (now hold)) (length (now given)) ⌝ }
+    requires { ⌜ Carrying (now table) (now pool) (now ends) (now nums) (number-of COFNIJ) x y z (length (now scratch)) (length (now hold)) (length (now given)) ⌝ }
     ensures { λ r. ⌜ PerformsFor (now (table .entry)) (now (pool .entry)) (now (ends .entry)) (now (nums .entry)) r (now (pool .exit)) (now (ends .exit)) (now (nums .entry)) ⌝ }
 {
     let i = decoding::index_of(x);

@@ -2,10 +2,13 @@
 ghost use lib.ListN.{length};
 ghost use Rattle.performing.specs.Operating.{PerformsFor};
 ghost use Rattle.perform_values.specs.Valuing.{Between, Valuing};
+ghost use Rattle.language.specs.Instructions.{number-of};
+ghost use Rattle.language.specs.Program.Op.{WK, MN, PP, NS, DODAJ, DZIEL, SLOWO, LICZBA};
+use language::Operator;
 
 // WK and MN.
 fn compare_numbers(
-    op: usize,
+    op: u8,
     table: &[u32],
     pool: &[u8],
     ends: &[u32],
@@ -17,11 +20,11 @@ fn compare_numbers(
     y: table::Argument,
     z: table::Argument,
 ) -> u8
-    requires { ⌜ Between 14 15 (now table) (now pool) (now ends) (now nums) op x y z (length (now scratch)) (length (now hold)) (length (now given)) ⌝ }
+    requires { ⌜ Between (number-of WK) (number-of MN) (now table) (now pool) (now ends) (now nums) op x y z (length (now scratch)) (length (now hold)) (length (now given)) ⌝ }
     ensures { λ r. ⌜ PerformsFor (now (table .entry)) (now (pool .entry)) (now (ends .entry)) (now (nums .entry)) r (now (pool .entry)) (now (ends .entry)) (now (nums .exit)) ⌝ }
 {
     let i = decoding::index_of(x);
-    if op == 14 {
+    if op == Operator::WK {
         return ordering::wk(pool, ends, nums, i, y);
     }
     ordering::mn(pool, ends, nums, i, y)
@@ -29,7 +32,7 @@ fn compare_numbers(
 
 // PP and NS.
 fn compare_words(
-    op: usize,
+    op: u8,
     table: &[u32],
     pool: &[u8],
     ends: &[u32],
@@ -41,11 +44,11 @@ fn compare_words(
     y: table::Argument,
     z: table::Argument,
 ) -> u8
-    requires { ⌜ Between 16 17 (now table) (now pool) (now ends) (now nums) op x y z (length (now scratch)) (length (now hold)) (length (now given)) ⌝ }
+    requires { ⌜ Between (number-of PP) (number-of NS) (now table) (now pool) (now ends) (now nums) op x y z (length (now scratch)) (length (now hold)) (length (now given)) ⌝ }
     ensures { λ r. ⌜ PerformsFor (now (table .entry)) (now (pool .entry)) (now (ends .entry)) (now (nums .entry)) r (now (pool .entry)) (now (ends .entry)) (now (nums .exit)) ⌝ }
 {
     let i = decoding::index_of(x);
-    if op == 16 {
+    if op == Operator::PP {
         return ordering::pp(table, pool, ends, nums, hold, given, i, y);
     }
     ordering::ns(table, pool, ends, nums, hold, given, i, y)
@@ -53,7 +56,7 @@ fn compare_words(
 
 // DODAJ, ODEJMIJ, MNOZ and DZIEL.
 fn compute(
-    op: usize,
+    op: u8,
     table: &[u32],
     pool: &mut [u8],
     ends: &mut [u32],
@@ -65,21 +68,21 @@ fn compute(
     y: table::Argument,
     z: table::Argument,
 ) -> u8
-    requires { ⌜ Between 30 33 (now table) (now pool) (now ends) (now nums) op x y z (length (now scratch)) (length (now hold)) (length (now given)) ⌝ }
+    requires { ⌜ Between (number-of DODAJ) (number-of DZIEL) (now table) (now pool) (now ends) (now nums) op x y z (length (now scratch)) (length (now hold)) (length (now given)) ⌝ }
     ensures { λ r. ⌜ PerformsFor (now (table .entry)) (now (pool .entry)) (now (ends .entry)) (now (nums .entry)) r (now (pool .exit)) (now (ends .exit)) (now (nums .exit)) ⌝ }
 {
     let i = decoding::index_of(x);
     match op {
-        30 => arithmetic::dodaj(pool, ends, nums, scratch, hold, i, y),
-        31 => arithmetic::odejmij(pool, ends, nums, scratch, hold, i, y),
-        32 => arithmetic::mnoz(pool, ends, nums, scratch, hold, i, y),
+        Operator::DODAJ => arithmetic::dodaj(pool, ends, nums, scratch, hold, i, y),
+        Operator::ODEJMIJ => arithmetic::odejmij(pool, ends, nums, scratch, hold, i, y),
+        Operator::MNOZ => arithmetic::mnoz(pool, ends, nums, scratch, hold, i, y),
         _ => arithmetic::dziel(pool, ends, nums, scratch, hold, i, y),
     }
 }
 
 // SLOWO and LICZBA.
 fn convert(
-    op: usize,
+    op: u8,
     table: &[u32],
     pool: &mut [u8],
     ends: &mut [u32],
@@ -91,11 +94,11 @@ fn convert(
     y: table::Argument,
     z: table::Argument,
 ) -> u8
-    requires { ⌜ Between 34 35 (now table) (now pool) (now ends) (now nums) op x y z (length (now scratch)) (length (now hold)) (length (now given)) ⌝ }
+    requires { ⌜ Between (number-of SLOWO) (number-of LICZBA) (now table) (now pool) (now ends) (now nums) op x y z (length (now scratch)) (length (now hold)) (length (now given)) ⌝ }
     ensures { λ r. ⌜ PerformsFor (now (table .entry)) (now (pool .entry)) (now (ends .entry)) (now (nums .entry)) r (now (pool .exit)) (now (ends .exit)) (now (nums .exit)) ⌝ }
 {
     let s = decoding::source_of(x);
-    if op == 34 {
+    if op == Operator::SLOWO {
         return converting::slowo(pool, ends, nums, scratch, hold, s.removes, s.i);
     }
     converting::liczba(pool, ends, nums, scratch, hold, s.removes, s.i)
@@ -103,7 +106,7 @@ fn convert(
 
 // The instruction of an operator by its number.
 pub fn perform_value(
-    op: usize,
+    op: u8,
     table: &[u32],
     pool: &mut [u8],
     ends: &mut [u32],
@@ -118,13 +121,13 @@ pub fn perform_value(
     requires { ⌜ Valuing (now table) (now pool) (now ends) (now nums) op x y z (length (now scratch)) (length (now hold)) (length (now given)) ⌝ }
     ensures { λ r. ⌜ PerformsFor (now (table .entry)) (now (pool .entry)) (now (ends .entry)) (now (nums .entry)) r (now (pool .exit)) (now (ends .exit)) (now (nums .exit)) ⌝ }
 {
-    if op <= 15 {
+    if op <= Operator::MN {
         return compare_numbers(op, table, pool, ends, nums, scratch, hold, given, x, y, z);
     }
-    if op <= 17 {
+    if op <= Operator::NS {
         return compare_words(op, table, pool, ends, nums, scratch, hold, given, x, y, z);
     }
-    if op <= 33 {
+    if op <= Operator::DZIEL {
         return compute(op, table, pool, ends, nums, scratch, hold, given, x, y, z);
     }
     convert(op, table, pool, ends, nums, scratch, hold, given, x, y, z)

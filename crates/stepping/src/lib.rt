@@ -12,41 +12,45 @@ ghost use Rattle.stepping.specs.Orders.{Operator, Fetched, GoingOn, Fetc
 ghost use Rattle.perform_values.specs.Valuing.{value-operators};
 ghost use Rattle.perform_equality.specs.Equating.{equality-operators};
 ghost use Rattle.perform_files.specs.Filing.{file-operators};
+use language::Operator;
 use layout::StatePlaces;
 
 // Whether an operator is a jump, call or return, or STOP.
-fn leading(op: usize) -> bool
+fn leading(op: u8) -> bool
     requires { ⌜ op ≤ 41 ⌝ }
     ensures { λ r. ⌜ r ≡ leads (operator-of op) ⌝ }
 {
-    ((op >= 19) & (op <= 29)) | (op == 41)
+    ((op >= Operator::SKOCZ) & (op <= Operator::WROC)) | (op == Operator::STOP)
 }
 
 // Whether an operator moves components and characters; orders, computes or converts; asks for equality.
-fn is_move(op: usize) -> bool
+fn is_move(op: u8) -> bool
     requires { ⌜ Operator op ⌝ }
     ensures { λ r. ⌜ r ≡ among op movers ⌝ }
 {
-    (op <= 3) | (op == 11) | ((op >= 36) & (op <= 38))
+    (op <= Operator::PISZ)
+        | (op == Operator::USUN)
+        | ((op >= Operator::ZBIJ) & (op <= Operator::SZUKAJ))
 }
 
-fn is_value(op: usize) -> bool
+fn is_value(op: u8) -> bool
     requires { ⌜ Operator op ⌝ }
     ensures { λ r. ⌜ r ≡ among op value-operators ⌝ }
 {
-    ((op >= 14) & (op <= 17)) | ((op >= 30) & (op <= 35))
+    ((op >= Operator::WK) & (op <= Operator::NS))
+        | ((op >= Operator::DODAJ) & (op <= Operator::LICZBA))
 }
 
-fn is_equality(op: usize) -> bool
+fn is_equality(op: u8) -> bool
     requires { ⌜ Operator op ⌝ }
     ensures { λ r. ⌜ r ≡ among op equality-operators ⌝ }
 {
-    (op == 13) | (op == 18)
+    (op == Operator::RW) | (op == Operator::RZ)
 }
 
 // The families. Each reads the arguments of instruction `i`, whose operator is `op`, and carries it out; only a jump sets what comes next.
 fn carry_jump(
-    op: usize,
+    op: u8,
     i: usize,
     table: &[u32],
     pool: &mut [u8],
@@ -63,7 +67,7 @@ fn carry_jump(
 }
 
 fn carry_move(
-    op: usize,
+    op: u8,
     i: usize,
     table: &[u32],
     i1: &[u8],
@@ -99,7 +103,7 @@ fn carry_move(
 }
 
 fn carry_value(
-    op: usize,
+    op: u8,
     i: usize,
     table: &[u32],
     pool: &mut [u8],
@@ -119,7 +123,7 @@ fn carry_value(
 }
 
 fn carry_equality(
-    op: usize,
+    op: u8,
     i: usize,
     table: &[u32],
     i1: &[u8],
@@ -139,7 +143,7 @@ fn carry_equality(
 }
 
 fn carry_file(
-    op: usize,
+    op: u8,
     i: usize,
     table: &[u32],
     pool: &mut [u8],
@@ -160,7 +164,7 @@ fn carry_file(
 
 // Carries out an instruction that always goes on to the following one, but for the step to that one.
 fn perform(
-    op: usize,
+    op: u8,
     i: usize,
     table: &[u32],
     i1: &[u8],
@@ -189,7 +193,7 @@ fn perform(
 
 // Carries out an instruction whose operator was read.
 fn carry_out(
-    op: usize,
+    op: u8,
     i: usize,
     table: &[u32],
     i1: &[u8],

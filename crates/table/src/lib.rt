@@ -186,11 +186,11 @@ pub fn numbers(table: &[u32]) -> usize
 }
 
 // The number of instruction `i`'s operator.
-pub fn operator(table: &[u32], i: usize) -> usize
+pub fn operator(table: &[u32], i: usize) -> u8
     requires { ⌜ Place (now table) i 512 ⌝ }
     ensures { λ r. ⌜ Number (cell (table-of (now (table .entry))) (first-instruction + 4 * i) % 64) 64 r ⌝ }
 {
-    read(table, TablePlaces::FIRST_INSTRUCTION + 4 * i) % 64
+    byte(read(table, TablePlaces::FIRST_INSTRUCTION + 4 * i) % 64)
 }
 
 // The line of instruction `i`.

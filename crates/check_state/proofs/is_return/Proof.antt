@@ -27,21 +27,18 @@ operator-requires c κs =
     let if1 = c .before .before .if1 in
     place (args .table .now) pre (args .n) (if1 .left) (c .before .instructions .ensures) (c .if2 .left)
 
-narrow-requires : tie.Need-narrow-requires
-narrow-requires c κs = c .operator .ensures .most
-
 is-call-requires : tie.Need-is-call-requires
 is-call-requires c κs = search needs
 
 returns-3 : tie.Need-returns-3
 returns-3 c =
-    let args = c .before .before .before .before .before .before .before .args in
-    let pre = c .before .before .before .before .before .before .before .pre in
-    let instructions = c .before .before .before .before .instructions in
-    let if1 = c .before .before .before .before .before .if1 in
-    let if2 = c .before .before .before .if2 in
-    let operator = c .before .before .operator in
-    return-is (args .table .now) pre (args .n) (if1 .left) (instructions .ensures) (if2 .left) (operator .ensures) (c .before .narrow .ensures) (c .is-call .ensures)
+    let args = c .before .before .before .before .before .before .args in
+    let pre = c .before .before .before .before .before .before .pre in
+    let instructions = c .before .before .before .instructions in
+    let if1 = c .before .before .before .before .if1 in
+    let if2 = c .before .before .if2 in
+    let operator = c .before .operator in
+    return-is (args .table .now) pre (args .n) (if1 .left) (instructions .ensures) (if2 .left) (operator .ensures) (c .is-call .ensures)
 
 pub is-return-spec : {M : Type 1} → statement M
 is-return-spec =
@@ -52,6 +49,5 @@ is-return-spec =
     instructions-requires
     returns-2
     operator-requires
-    narrow-requires
     is-call-requires
     returns-3)
