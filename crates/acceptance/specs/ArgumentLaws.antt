@@ -11,7 +11,7 @@ use Rattle.lists.specs.Lists.{all, any, ahead, filled, headOr, sameBytes, among
 use Rattle.lists.specs.Quoted.{bytes}
 use Rattle.lists.specs.ListLaws.{T-left, T-right, T-both, all-among, all-head, sameBytes-eq}
 use Rattle.lists.specs.TableLaws.{beq-eq}
-use Rattle.characters.specs.Characters.{isLetter, isDigit}
+use Rattle.characters.specs.Characters.{isCapital, isDigit}
 use Rattle.language.specs.Letters.{Letter, letter-code, indices, use-of}
 use Rattle.language.specs.Program.{Arg, identifier, classes, Switch, no-switch}
 use Rattle.language.specs.Values.{amount, unsigned, numeral, valueOf, in-range}
@@ -56,7 +56,7 @@ class-first (x ∷ xs) h = ltb→lt 64 x (all-among (λ b. ltb 64 b) (bytes "LDB
 
 identifier-first : (w : List ℕ) → T (identifier w) → 64 < headOr 0 w
 identifier-first [] h = absurd h
-identifier-first (x ∷ xs) h = omega (arith, leb→le 65 x (T-left (leb 65 x) (leb x 90) (T-left (isLetter x) (all (λ y. isLetter y || isDigit y) xs) h)))
+identifier-first (x ∷ xs) h = omega (arith, leb→le 65 x (T-left (leb 65 x) (leb x 90) (T-left (isCapital x) (all (λ y. isCapital y || isDigit y) xs) h)))
 
 code-least : (l : Letter) → 64 < letter-code l
 code-least l = ltb→lt 64 (letter-code l) (every-letter (λ m. ltb 64 (letter-code m)) tt l)

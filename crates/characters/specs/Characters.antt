@@ -28,8 +28,13 @@ byteOf r = getD (0 ∷ ranked) r 0
 abbrev pub between : ℕ → ℕ → ℕ → Bool
 between a b x = leb a x && leb x b
 
+-- the letters of identifiers and of arguments
+abbrev pub isCapital : ℕ → Bool
+isCapital b = between 65 90 b
+
+-- the letters of class L
 abbrev pub isLetter : ℕ → Bool
-isLetter b = between 65 90 b
+isLetter b = isCapital b
 
 abbrev pub isDigit : ℕ → Bool
 isDigit b = between 48 57 b

@@ -3,7 +3,7 @@ ghost use mathlib.Core.Path.{_≡_};
 ghost use mathlib.Core.Bool.{cond};
 ghost use lib.Dec.{ltb};
 ghost use Rattle.lists.specs.Lists.{all};
-ghost use Rattle.characters.specs.Characters.{rank, byteOf, known, between, isLetter, isDigit, classOf, precedes};
+ghost use Rattle.characters.specs.Characters.{rank, byteOf, known, between, isCapital, isLetter, isDigit, classOf, precedes};
 
 // The 61 characters by rank: the character of rank k at k - 1, and its class at the same place of `CLASSES`.
 pub const CHARACTERS: [u8; 61] =
@@ -42,10 +42,16 @@ pub fn between(a: u8, z: u8, b: u8) -> bool
     (a <= b) & (b <= z)
 }
 
+pub fn is_capital(b: u8) -> bool
+    ensures { λ r. ⌜ r ≡ isCapital b ⌝ }
+{
+    between(b'A', b'Z', b)
+}
+
 pub fn is_letter(b: u8) -> bool
     ensures { λ r. ⌜ r ≡ isLetter b ⌝ }
 {
-    between(b'A', b'Z', b)
+    is_capital(b)
 }
 
 pub fn is_digit(b: u8) -> bool

@@ -6,7 +6,7 @@ use Prim.Native.Nat.{ℕ, _+_, _/_, _%_, _≤_, _<_}
 use native.Mathlib.Omega.{arith}
 use lib.Dec.{eqb, ltb}
 use borrow.Author.Tests.{lt-ltb, le-ltb}
-use Rattle.characters.specs.Characters.{known, isLetter, isDigit}
+use Rattle.characters.specs.Characters.{known, isCapital, isDigit}
 use Rattle.layout.specs.Cells.{cell, unfours}
 use Rattle.check_parts.specs.Parts.{char, char-fits, ref-fits}
 
@@ -32,7 +32,7 @@ module _ (t : List ℕ) (at n j b : ℕ) (e : b ≡ char t at j) where
   unfolding char-fits
   char-behind name h = rw (le-ltb j n h, e)
 
-  pub char-of-name : (name : Bool) → j < n → name ≡ true → (isLetter b || isDigit b) ≡ char-fits t at n name j
+  pub char-of-name : (name : Bool) → j < n → name ≡ true → (isCapital b || isDigit b) ≡ char-fits t at n name j
   unfolding char-fits
   char-of-name name h k = rw (lt-ltb j n h, k, e)
 

@@ -5,7 +5,7 @@ use Prim.Native.Nat.{ℕ, zero, suc, _+_, _*_, _-_, _/_, _%_, _^_}
 use lib.Bits.{bitAnd}
 use lib.Dec.{leb, ltb, eqb}
 use Rattle.language.specs.Limits as limit
-use Rattle.characters.specs.Characters.{known, isLetter, isDigit}
+use Rattle.characters.specs.Characters.{known, isCapital, isDigit}
 use Rattle.layout.specs.Cells.{cell, unfours}
 use Rattle.layout.specs.Places as layout
 use Rattle.forms.specs.Forms.{set-at}
@@ -40,7 +40,7 @@ unfoldable pub head-fits : ℕ → Bool
 head-fits x = ltb 0 (x % 64) && leb (x % 64) 41 && ltb 0 (x / 64) && leb (x / 64) limit.text
 
 abbrev pub alphanumeric : ℕ → Bool
-alphanumeric b = isLetter b || isDigit b
+alphanumeric b = isCapital b || isDigit b
 
 module _ (t : List ℕ) where
   -- the cells from one place up to another are zero
@@ -74,7 +74,7 @@ module _ (t : List ℕ) where
   label-fits k =
       ltb 0 (cell t (layout.first-label + 16 * k) % 64)
       && leb (cell t (layout.first-label + 16 * k) % 64) 60
-      && isLetter (char (layout.first-name + 16 * k) 0)
+      && isCapital (char (layout.first-name + 16 * k) 0)
       && chars-fit (layout.first-name + 16 * k) (cell t (layout.first-label + 16 * k) % 64) true
       && ltb (cell t (layout.first-label + 16 * k) / 64) (cell t layout.instruction-count)
 

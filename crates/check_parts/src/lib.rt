@@ -69,7 +69,7 @@ fn char_fits(table: &[u32], at: usize, n: usize, name: bool, j: usize) -> bool
         return b == 0;
     }
     if name {
-        return characters::is_letter(b) | characters::is_digit(b);
+        return characters::is_capital(b) | characters::is_digit(b);
     }
     characters::is_known(b)
 }
@@ -135,7 +135,7 @@ pub fn label_fits(table: &[u32], k: usize) -> bool
     let at = TablePlaces::FIRST_NAME + 16 * k;
     (0 < n)
         & (n <= Machine::ITEM)
-        & characters::is_letter(char_at(table, at, 0))
+        & characters::is_capital(char_at(table, at, 0))
         & chars_fit(table, at, n, true)
         & (x / 64 < read(table, TablePlaces::INSTRUCTION_COUNT))
 }

@@ -6,7 +6,7 @@ use Prim.Native.Nat.{ℕ, suc, _+_, _*_, _/_, _%_, _≤_, _<_}
 use native.Mathlib.Omega.{arith}
 use lib.Dec.{T, leb, ltb, eqb, leb→le, ltb→lt, le→leb, lt→ltb, eqb→eq, eqb-refl}
 use lib.ListN.{length}
-use Rattle.characters.specs.Characters.{known, isLetter, isDigit}
+use Rattle.characters.specs.Characters.{known, isCapital, isDigit}
 use Rattle.language.specs.Program.{identifier, Program}
 use Rattle.lists.specs.ListLaws.{T-left, T-right, T-both, all-cons, all-tail}
 use Rattle.lists.specs.Lists.{all, filled}
@@ -42,29 +42,29 @@ filled-of (x ∷ w) h = tt
 
 -- ---- identifiers
 
-letter-too : (b : ℕ) → T (isLetter b) → T (alphanumeric b)
-letter-too b h = go (isLetter b) h
+letter-too : (b : ℕ) → T (isCapital b) → T (alphanumeric b)
+letter-too b h = go (isCapital b) h
   where
     go : (x : Bool) → T x → T (x || isDigit b)
     go true h = tt
     go false h = absurd h
 
-identifier-of : (w : List ℕ) → 0 < length w → T (isLetter (cell w 0)) → T (all alphanumeric w) → T (identifier w)
+identifier-of : (w : List ℕ) → 0 < length w → T (isCapital (cell w 0)) → T (all alphanumeric w) → T (identifier w)
 identifier-of [] h a k = absurd (omega (arith, h))
-identifier-of (b ∷ w) h a k = T-both (isLetter b) (all alphanumeric w) a (all-tail alphanumeric b w k)
+identifier-of (b ∷ w) h a k = T-both (isCapital b) (all alphanumeric w) a (all-tail alphanumeric b w k)
 
 identifier-long : (w : List ℕ) → T (identifier w) → 0 < length w
 identifier-long [] h = absurd h
 identifier-long (b ∷ w) h = omega arith
 
-identifier-first : (w : List ℕ) → T (identifier w) → T (isLetter (cell w 0))
+identifier-first : (w : List ℕ) → T (identifier w) → T (isCapital (cell w 0))
 identifier-first [] h = absurd h
-identifier-first (b ∷ w) h = T-left (isLetter b) (all alphanumeric w) h
+identifier-first (b ∷ w) h = T-left (isCapital b) (all alphanumeric w) h
 
 identifier-all : (w : List ℕ) → T (identifier w) → T (all alphanumeric w)
 identifier-all [] h = absurd h
 identifier-all (b ∷ w) h =
-    all-cons alphanumeric b w (letter-too b (T-left (isLetter b) (all alphanumeric w) h)) (T-right (isLetter b) (all alphanumeric w) h)
+    all-cons alphanumeric b w (letter-too b (T-left (isCapital b) (all alphanumeric w) h)) (T-right (isCapital b) (all alphanumeric w) h)
 
 -- ---- text k
 
@@ -146,7 +146,7 @@ module _ (t : List ℕ) (long : length t ≡ 8192) (k : ℕ) (few : k < 128) whe
   b₂ = leb m 60
 
   abbrev b₃ : Bool
-  b₃ = isLetter (char t from 0)
+  b₃ = isCapital (char t from 0)
 
   abbrev b₄ : Bool
   b₄ = chars-fit t from m true
@@ -170,11 +170,11 @@ module _ (t : List ℕ) (long : length t ≡ 8192) (k : ℕ) (few : k < 128) whe
         let h₅ = T-right (b₁ && b₂ && b₃ && b₄) b₅ h in
         let h₄ : T (chars-fit t from′ m true) = subst (λ (i : ℕ). T (chars-fit t i m true)) place (T-right (b₁ && b₂ && b₃) b₄ (T-left (b₁ && b₂ && b₃ && b₄) b₅ h)) in
         let g₃ = T-left (b₁ && b₂ && b₃) b₄ (T-left (b₁ && b₂ && b₃ && b₄) b₅ h) in
-        let h₃ : T (isLetter (char t from′ 0)) = subst (λ (i : ℕ). T (isLetter (char t i 0))) place (T-right (b₁ && b₂) b₃ g₃) in
+        let h₃ : T (isCapital (char t from′ 0)) = subst (λ (i : ℕ). T (isCapital (char t i 0))) place (T-right (b₁ && b₂) b₃ g₃) in
         let short : m ≤ 60 = leb→le m 60 (T-right b₁ b₂ (T-left (b₁ && b₂) b₃ g₃)) in
         let some : 0 < m = ltb→lt 0 m (T-left b₁ b₂ (T-left (b₁ && b₂) b₃ g₃)) in
         let l : length v ≡ m = length-w t from′ m inside′ short in
-        let first : T (isLetter (cell v 0)) = subst (λ (y : ℕ). T (isLetter y)) (sym (w-cell t from′ m inside′ short 0 some)) h₃ in
+        let first : T (isCapital (cell v 0)) = subst (λ (y : ℕ). T (isCapital y)) (sym (w-cell t from′ m inside′ short 0 some)) h₃ in
         let name : T (identifier v) = identifier-of v (omega (arith, l, some)) first (chars-good t from′ m inside′ short true h₄) in
         let fits : T (leb (length v) 60) = le→leb (length v) 60 (omega (arith, l, short)) in
         let target : T (ltb (x / 64) (length (p .code))) = subst (λ (i : ℕ). T (ltb (x / 64) i)) (sym code-count) h₅ in (
@@ -192,7 +192,7 @@ module _ (t : List ℕ) (long : length t ≡ 8192) (k : ℕ) (few : k < 128) whe
         let z : Behind t from′ m inside′ short = stand-chars t from′ m inside′ short (identifier-below v (f .name)) (stands-tail t (layout.first-label + 16 * k) from′ (length v + 64 * (x / 64)) (fours 15 v) next′ h) in
         let some : 0 < m = omega (arith, l, identifier-long v (f .name)) in
         let h₄ : T b₄ = subst (λ (i : ℕ). T (chars-fit t i m true)) (sym place) (chars-fit-of t from′ m inside′ short true (identifier-all v (f .name)) z) in
-        let h₃ : T (isLetter (char t from′ 0)) = subst (λ (y : ℕ). T (isLetter y)) (w-cell t from′ m inside′ short 0 some) (identifier-first v (f .name)) in
-        let h₃′ : T b₃ = subst (λ (i : ℕ). T (isLetter (char t i 0))) (sym place) h₃ in
+        let h₃ : T (isCapital (char t from′ 0)) = subst (λ (y : ℕ). T (isCapital y)) (w-cell t from′ m inside′ short 0 some) (identifier-first v (f .name)) in
+        let h₃′ : T b₃ = subst (λ (i : ℕ). T (isCapital (char t i 0))) (sym place) h₃ in
         let h₅ : T b₅ = subst (λ (i : ℕ). T (ltb (x / 64) i)) code-count (lt→ltb (x / 64) (length (p .code)) (f .target)) in
         T-both (b₁ && b₂ && b₃ && b₄) b₅ (T-both (b₁ && b₂ && b₃) b₄ (T-both (b₁ && b₂) b₃ (T-both b₁ b₂ (lt→ltb 0 m some) (le→leb m 60 short)) h₃′) h₄) h₅

@@ -10,7 +10,7 @@ use lib.ListN.{length, getD}
 use Rattle.lists.specs.Lists.{all, ahead, among}
 use Rattle.lists.specs.ListLaws.{all-among}
 use Rattle.lists.specs.Quoted.{bytes}
-use Rattle.characters.specs.Characters.{isLetter}
+use Rattle.characters.specs.Characters.{isCapital}
 use Rattle.language.specs.Limits as limit
 use Rattle.language.specs.Instructions.{Forms, operation, operator-of, is-end}
 use Rattle.language.specs.Letters as letters
@@ -121,7 +121,7 @@ narrowed {a} fs gs v h w q =
 
 module _ (c : List ℕ) {x : Arg} {a : Argument} (g : GoodArgument c x a) where
   -- letters
-  pub named : (fs : List ℕ) → T (all isLetter fs) → Listed c fs a → Named fs a
+  pub named : (fs : List ℕ) → T (all isCapital fs) → Listed c fs a → Named fs a
   named fs h m =
       let r = letter-told (program-of c) (table-of c) fs h a m in
       record {

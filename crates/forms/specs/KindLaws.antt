@@ -7,7 +7,7 @@ use native.Mathlib.Omega.{arith}
 use lib.Dec.{T, eqb, leb, ltb, eqb→eq, leb→le, T-not, ltb→lt, lit<}
 use lib.ListN.{drop}
 use borrow.Author.Tests.{eqb-true, ne-eqb, lt-leb}
-use Rattle.characters.specs.Characters.{isLetter, isDigit}
+use Rattle.characters.specs.Characters.{isCapital, isDigit}
 use Rattle.language.specs.Letters.{Letter, letters, letter-code, indices, use-of}
 use Rattle.language.specs.Letters.Letter.{A, B, C, D, E, I, N, P, Q, T as T′, Y, Z}
 use Rattle.language.specs.Program.{identifier}
@@ -56,8 +56,8 @@ one-letter Z f h = rw h
 
 -- Laws of the four ways to read a word
 
-letter-is : (l : Letter) → T (isLetter (letter-code l))
-letter-is l = every-letter (λ m. isLetter (letter-code m)) tt l
+letter-is : (l : Letter) → T (isCapital (letter-code l))
+letter-is l = every-letter (λ m. isCapital (letter-code m)) tt l
 
 pub place-small : (l : Letter) → letter-place l < 12
 place-small l = ltb→lt (letter-place l) 12 (every-letter (λ m. ltb (letter-place m) 12) tt l)
@@ -70,17 +70,17 @@ holds : {b : Bool} → b ≡ true → T b
 holds e = subst T (sym e) tt
 
 abbrev continues : ℕ → Bool
-continues x = isLetter x || isDigit x
+continues x = isCapital x || isDigit x
 
-letter-continues : (x : ℕ) → T (isLetter x) → T (continues x)
-letter-continues x h = go (isLetter x) h
+letter-continues : (x : ℕ) → T (isCapital x) → T (continues x)
+letter-continues x h = go (isCapital x) h
   where
     go : (t : Bool) → T t → T (t || isDigit x)
     go true h = tt
     go false h = absurd h
 
 digit-continues : (x : ℕ) → T (isDigit x) → T (continues x)
-digit-continues x h = go (isLetter x)
+digit-continues x h = go (isCapital x)
   where
     go : (t : Bool) → T (t || isDigit x)
     go true = tt
@@ -90,8 +90,8 @@ all-each : (p q : ℕ → Bool) → ((x : ℕ) → T (p x) → T (q x)) → (w :
 all-each p q f [] h = tt
 all-each p q f (x ∷ w) h = all-cons q x w (f x (all-head p x w h)) (all-each p q f w (all-tail p x w h))
 
-class-letters : (x : ℕ) → T (class-letter x) → T (isLetter x)
-class-letters x h = all-among isLetter (bytes "LDBR") tt x h
+class-letters : (x : ℕ) → T (class-letter x) → T (isCapital x)
+class-letters x h = all-among isCapital (bytes "LDBR") tt x h
 
 class-no-digit : (x : ℕ) → T (class-letter x) → T (isDigit x) → ⊥
 class-no-digit x h d = T-not (isDigit x) (all-among (λ y. not (isDigit y)) (bytes "LDBR") tt x h) d
@@ -115,7 +115,7 @@ module _ (l : Letter) where
   indexed-name (b ∷ w) h =
       let e : b ≡ letter-code l = eqb→eq b (letter-code l) (T-left (eqb b (letter-code l)) (is-index most w) h) in
       let d = unsigned-all w (index-digits most w (T-right (eqb b (letter-code l)) (is-index most w) h)) in
-      T-both (isLetter b) (all continues w) (rw e (letter-is l)) (all-each isDigit continues digit-continues w d)
+      T-both (isCapital b) (all continues w) (rw e (letter-is l)) (all-each isDigit continues digit-continues w d)
 
   -- and no class
   indexed-class : (w : List ℕ) → T (is-indexed w l) → T (is-class w) → ⊥
@@ -133,14 +133,14 @@ class-name : (w : List ℕ) → T (is-class w) → T (identifier w)
 unfolding is-class
 class-name [] h = h
 class-name (b ∷ w) h =
-    T-both (isLetter b) (all continues w) (class-letters b (all-head class-letter b w h))
+    T-both (isCapital b) (all continues w) (class-letters b (all-head class-letter b w h))
     (all-each class-letter continues (λ x k. letter-continues x (class-letters x k)) w (all-tail class-letter b w h))
 
 -- a number is none
 name-number : (w : List ℕ) → T (identifier w) → numeral w ≡ false
 name-number [] h = absurd h
 name-number (b ∷ w) h =
-    let l = leb→le 65 b (T-left (leb 65 b) (leb b 90) (T-left (isLetter b) (all continues w) h)) in
+    let l = leb→le 65 b (T-left (leb 65 b) (leb b 90) (T-left (isCapital b) (all continues w) h)) in
     rw (ne-eqb b 43 (λ e. omega arith), ne-eqb b 45 (λ e. omega arith), lt-leb b 57 (omega arith), and-false (leb 48 b))
 
 -- what holds only of identifiers does not hold of another word

@@ -4,7 +4,7 @@ use mathlib.Core.List.{List, [], _∷_}
 use Prim.Native.Nat.{ℕ}
 use lib.ListN.{getD}
 use lib.IntN.{ℤ}
-use Rattle.characters.specs.Characters.{isLetter, isDigit}
+use Rattle.characters.specs.Characters.{isCapital, isDigit}
 use Rattle.language.specs.Letters.{Letter}
 use Rattle.lists.specs.Lists.{all, filled, keep, among}
 use Rattle.lists.specs.Quoted.{bytes}
@@ -23,7 +23,7 @@ pub data Arg : Type 0 where
 -- an identifier (4.1): a letter, then letters and digits
 abbrev pub identifier : List ℕ → Bool
 identifier [] = false
-identifier (b ∷ w) = isLetter b && all (λ x. isLetter x || isDigit x) w
+identifier (b ∷ w) = isCapital b && all (λ x. isCapital x || isDigit x) w
 
 -- the letters L, D, B, R that stand in a class, in this order
 abbrev pub classes : List ℕ → List ℕ

@@ -11,7 +11,7 @@ use Rattle.language.specs.Limits as limit
 use Rattle.lists.specs.ListLaws.{part, all-head, all-tail, T-left, T-right}
 use Rattle.lists.specs.Lists.{total, all, filled, each}
 use Rattle.characters.specs.CharacterLaws.{known-byte}
-use Rattle.characters.specs.Characters.{known, isLetter, isDigit}
+use Rattle.characters.specs.Characters.{known, isCapital, isDigit}
 use Rattle.language.specs.Program.{identifier, Entry, Switch, Program}
 use Rattle.language.specs.Values.{in-range}
 use Rattle.machine.specs.Facts.{InstrFacts, LabelFacts, ProgramFacts}
@@ -25,11 +25,11 @@ use Rattle.layout.specs.CellLaws.{each-append, each-of}
 pub known-below : (w : List ℕ) → T (all known w) → Below 256 w
 known-below w h = each-of known (λ x. x < 256) (λ x t. omega (arith, known-byte x t)) w h
 
-letter-below : (b : ℕ) → T (isLetter b) → b < 256
+letter-below : (b : ℕ) → T (isCapital b) → b < 256
 letter-below b h = omega (arith, leb→le b 90 (T-right (leb 65 b) (leb b 90) h))
 
-alphanumeric-below : (b : ℕ) → T (isLetter b || isDigit b) → b < 256
-alphanumeric-below b h = go (isLetter b) (letter-below b) h
+alphanumeric-below : (b : ℕ) → T (isCapital b || isDigit b) → b < 256
+alphanumeric-below b h = go (isCapital b) (letter-below b) h
   where
     go : (x : Bool) → (T x → b < 256) → T (x || isDigit b) → b < 256
     go true f t = f tt
@@ -38,8 +38,8 @@ alphanumeric-below b h = go (isLetter b) (letter-below b) h
 pub identifier-below : (w : List ℕ) → T (identifier w) → Below 256 w
 identifier-below [] h = tt
 identifier-below (b ∷ w) h =
-    let q : ℕ → Bool = λ x. isLetter x || isDigit x in
-    (letter-below b (T-left (isLetter b) (all q w) h), each-of q (λ x. x < 256) alphanumeric-below w (T-right (isLetter b) (all q w) h))
+    let q : ℕ → Bool = λ x. isCapital x || isDigit x in
+    (letter-below b (T-left (isCapital b) (all q w) h), each-of q (λ x. x < 256) alphanumeric-below w (T-right (isCapital b) (all q w) h))
 
 -- ---- the parts of a program
 

@@ -7,7 +7,7 @@ use lib.Dec.{T}
 use types.Run.{OneOf, miss}
 use Rattle.lists.specs.Lists.{all, among}
 use Rattle.lists.specs.Quoted.{bytes}
-use Rattle.characters.specs.Characters.{isLetter}
+use Rattle.characters.specs.Characters.{isCapital}
 use Rattle.language.specs.Limits as limit
 use Rattle.language.specs.Program.Arg.{nothing, text}
 use Rattle.layout.specs.Table.{program-of}
@@ -106,7 +106,7 @@ module _ {c p e n : List ℕ} {x y z : Argument} {scratch hold given : ℕ} (w :
     abbrev Both : Type 0
     Both = Named fs x × Named fs y × (arg-of (table-of c) z ≡ nothing)
 
-  both : (fs : List ℕ) → T (all isLetter fs) → Shaped c fs fs (bytes "-") x y z → Both fs
+  both : (fs : List ℕ) → T (all isCapital fs) → Shaped c fs fs (bytes "-") x y z → Both fs
   both fs h s =
       let r = w .operating .read in
       (named c (r .first) fs h (s .first), named c (r .second) fs h (s .second), no-argument c z (s .third))
@@ -147,7 +147,7 @@ module _ {c p e n : List ℕ} {x y z : Argument} {scratch hold given : ℕ} (w :
   put : Either
   put = shapes (w .operating .read) ("nt", "ABYZCD", "-") ("t", "Q", "-") refl
 
-  second : (fs : List ℕ) → T (all isLetter fs) → Listed c fs y → Named fs y
+  second : (fs : List ℕ) → T (all isCapital fs) → Listed c fs y → Named fs y
   second fs h m = named c (w .operating .read .second) fs h m
 
   pub constant : IsConstant x

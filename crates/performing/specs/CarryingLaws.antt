@@ -7,7 +7,7 @@ use lib.Dec.{T}
 use lib.ListN.{length}
 use Rattle.lists.specs.Lists.{all}
 use Rattle.lists.specs.Quoted.{bytes}
-use Rattle.characters.specs.Characters.{isLetter}
+use Rattle.characters.specs.Characters.{isCapital}
 use Rattle.language.specs.Instructions.{Forms, operation, operator-of}
 use Rattle.language.specs.Limits as limit
 use Rattle.language.specs.Program.{Arg}
@@ -46,10 +46,10 @@ module _ {c p e n : List ℕ} {op : ℕ} {x y z : Argument} {scratch hold given 
     pub formed : Shaped c (bytes (f .0)) (bytes (f .1)) (bytes (f .2)) x y z
     formed = shape (w .operating .read) f q
 
-    pub first-named : T (all isLetter (bytes (f .0))) → Named (bytes (f .0)) x
+    pub first-named : T (all isCapital (bytes (f .0))) → Named (bytes (f .0)) x
     first-named h = named c (w .operating .read .first) (bytes (f .0)) h (formed .first)
 
-    pub second-named : T (all isLetter (bytes (f .1))) → Named (bytes (f .1)) y
+    pub second-named : T (all isCapital (bytes (f .1))) → Named (bytes (f .1)) y
     second-named h = named c (w .operating .read .second) (bytes (f .1)) h (formed .second)
 
   -- nothing in the second and the third place

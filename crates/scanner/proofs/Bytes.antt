@@ -7,13 +7,13 @@ use lib.Dec.{eqb, eqb→eq}
 use borrow.Author.Tests.{eqb-true}
 use Rattle.lists.specs.Lists.{among}
 use Rattle.lists.specs.TableLaws.{beq-eq, below, below-unless, Missed, missed}
-use Rattle.characters.specs.Characters.{known, isLetter, isDigit}
+use Rattle.characters.specs.Characters.{known, isCapital, isDigit}
 use Rattle.syntax.specs.Items.{sort-of, sort-number, same-sort, pair-of, is-pair, allows}
 use Rattle.syntax.specs.Items.Sort.{separator, word}
 
 -- the ranges of `is_word`
 abbrev pub ranges : ℕ → Bool
-ranges b = ((isLetter b || isDigit b) || eqb b 43) || eqb b 45
+ranges b = ((isCapital b || isDigit b) || eqb b 43) || eqb b 45
 
 pub ranges-word : (b : ℕ) → b < 256 → ranges b ≡ same-sort word (sort-of b)
 unfolding sort-of

@@ -6,9 +6,9 @@ ghost use lib.ListN.{length, getD};
 ghost use Rattle.syntax.specs.Items.{sort-of, sort-number, same-sort, pair-of, ends-text, takes-next, allows, closes};
 ghost use Rattle.syntax.specs.Items.Sort.{word};
 ghost use Rattle.scanner.specs.Scans.{Closing, Passed, Skipped, Word-end, Scanned};
+use characters::is_capital;
 use characters::is_digit;
 use characters::is_known;
-use characters::is_letter;
 
 // The sorts of items by their numbers. No item is a separator, so 0 is also none.
 pub const NOTHING: u8 = 0;
@@ -42,7 +42,7 @@ pub struct Scan {
 fn is_word(b: u8) -> bool
     ensures { λ r. ⌜ r ≡ same-sort word (sort-of b) ⌝ }
 {
-    is_letter(b) | is_digit(b) | (b == b'+') | (b == b'-')
+    is_capital(b) | is_digit(b) | (b == b'+') | (b == b'-')
 }
 
 // What a byte begins outside texts and comments.

@@ -4,7 +4,7 @@ use mathlib.Core.List.{List, [], _∷_, _++_, map}
 use Prim.Native.Nat.{ℕ, suc, _+_}
 use lib.Dec.{eqb}
 use lib.ListN.{length, getD, take, drop}
-use Rattle.characters.specs.Characters.{known, isLetter, isDigit}
+use Rattle.characters.specs.Characters.{known, isCapital, isDigit}
 use Rattle.lists.specs.Lists.{any, ahead, headOr, ifAny, keep, among}
 use Rattle.lists.specs.Quoted.{bytes}
 
@@ -15,7 +15,7 @@ pub data Sort : Type 0 where
 unfoldable pub sort-of : ℕ → Sort
 sort-of b =
     cond (among b (bytes " ,")) separator
-    (cond (isLetter b || isDigit b || among b (bytes "+-")) word
+    (cond (isCapital b || isDigit b || among b (bytes "+-")) word
     (cond (eqb b 58) colon
     (cond (among b (bytes ";\n")) end
     (cond (eqb b 39) text

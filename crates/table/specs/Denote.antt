@@ -4,7 +4,7 @@ use mathlib.Core.List.{List}
 use Prim.Native.Nat.{ℕ}
 use lib.Dec.{eqb}
 use lib.ListN.{getD}
-use Rattle.characters.specs.Characters.{isLetter}
+use Rattle.characters.specs.Characters.{isCapital}
 use Rattle.language.specs.Letters as letters
 use Rattle.language.specs.Program.{Arg}
 use Rattle.language.specs.Program.Arg.{nothing, letter, label, switch, class, text}
@@ -55,4 +55,4 @@ kind (Number v) = 6
 
 abbrev pub kind-of-form : ℕ → ℕ
 kind-of-form f =
-    cond (eqb f 45) 0 (cond (isLetter f) 1 (cond (eqb f 108) 2 (cond (eqb f 119 || eqb f 120) 3 (cond (eqb f 99) 4 (cond (eqb f 116) 5 6)))))
+    cond (eqb f 45) 0 (cond (isCapital f) 1 (cond (eqb f 108) 2 (cond (eqb f 119 || eqb f 120) 3 (cond (eqb f 99) 4 (cond (eqb f 116) 5 6)))))

@@ -9,7 +9,7 @@ use borrow.Author.Tests.{eqb-true, eq-eqb}
 use Rattle.lists.specs.Lists.{all, any, among}
 use Rattle.lists.specs.ListLaws.{T-left, T-right, all-among}
 use Rattle.lists.specs.Quoted.{bytes}
-use Rattle.characters.specs.Characters.{isLetter}
+use Rattle.characters.specs.Characters.{isCapital}
 use Rattle.language.specs.Instructions.{Forms, operation}
 use Rattle.language.specs.Letters.{letter-code}
 use Rattle.language.specs.Program.{Instr, Op, Program, switch-at}
@@ -91,14 +91,14 @@ module _ (p : Program) (c : List ℕ) where
     kind-told fs h = subst (λ (k : ℕ). T (among k (map kind-of-form fs))) (kind-of r) (among-map kind-of-form (form p (arg-of c r)) fs h)
 
   -- a letter where only letters are listed; and nothing, a label, a NAZWA, an INDEKS where only that is
-  pub letter-told : (fs : List ℕ) → T (all isLetter fs) → (r : Argument) → T (among (form p (arg-of c r)) fs) → (l : Letter) × (n : ℕ) × (r ≡ Indexed l n)
-  letter-told fs h r m = go r (all-among isLetter fs h (form p (arg-of c r)) m)
+  pub letter-told : (fs : List ℕ) → T (all isCapital fs) → (r : Argument) → T (among (form p (arg-of c r)) fs) → (l : Letter) × (n : ℕ) × (r ≡ Indexed l n)
+  letter-told fs h r m = go r (all-among isCapital fs h (form p (arg-of c r)) m)
     where
-      none : (b : Bool) → T (isLetter (cond b 119 120)) → ⊥
+      none : (b : Bool) → T (isCapital (cond b 119 120)) → ⊥
       none true k = k
       none false k = k
 
-      go : (r : Argument) → T (isLetter (form p (arg-of c r))) → (l : Letter) × (n : ℕ) × (r ≡ Indexed l n)
+      go : (r : Argument) → T (isCapital (form p (arg-of c r))) → (l : Letter) × (n : ℕ) × (r ≡ Indexed l n)
       go Nothing k = absurd k
       go (Indexed l n) k = (l, n, refl)
       go (Label n) k = absurd k

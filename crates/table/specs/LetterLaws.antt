@@ -9,7 +9,7 @@ use lib.ListN.{getD}
 use borrow.Author.Tests.{eqb-true}
 use Rattle.lists.specs.Lists.{ahead, among, keep}
 use Rattle.lists.specs.TableLaws.{upTo, below}
-use Rattle.characters.specs.Characters.{isLetter}
+use Rattle.characters.specs.Characters.{isCapital}
 use Rattle.language.specs.Letters as letters
 use Rattle.language.specs.Letters.{letter-code}
 use Rattle.layout.specs.ArgumentLaws.{letter-most}
@@ -54,20 +54,20 @@ given F [] f = f tt
 given F (k ∷ ks) f = λ h. given F ks (λ hs. f (h, hs))
 
 -- bytes in the list that are no letters count for nothing
-each-letter : (F : ℕ → Type 0) (fs : List ℕ) → Each F (keep isLetter fs) → (x : ℕ) → T (isLetter x) → T (among x fs) → F x
+each-letter : (F : ℕ → Type 0) (fs : List ℕ) → Each F (keep isCapital fs) → (x : ℕ) → T (isCapital x) → T (among x fs) → F x
 each-letter F [] h x u m = absurd m
-each-letter F (f ∷ fs) h x u m = go (eqb x f) refl (isLetter f) refl h m (λ k. each-letter F fs k x u)
+each-letter F (f ∷ fs) h x u m = go (eqb x f) refl (isCapital f) refl h m (λ k. each-letter F fs k x u)
   where
-    go : (a : Bool) → eqb x f ≡ a → (b : Bool) → isLetter f ≡ b → Each F (cond b (f ∷ keep isLetter fs) (keep isLetter fs)) → T (a || among x fs)
-        → (Each F (keep isLetter fs) → T (among x fs) → F x) → F x
+    go : (a : Bool) → eqb x f ≡ a → (b : Bool) → isCapital f ≡ b → Each F (cond b (f ∷ keep isCapital fs) (keep isCapital fs)) → T (a || among x fs)
+        → (Each F (keep isCapital fs) → T (among x fs) → F x) → F x
     go true e true g h m r = subst F (sym (eqb-true x f e)) (h .0)
     go true e false g h m r = let q : x ≡ f = eqb-true x f e in absurd (rw (q, g) at u)
     go false e true g h m r = r (h .1) m
     go false e false g h m r = r h m
 
 pub listed-letter : (F : Letter → Type 0) (fs : List ℕ)
-    → Given (λ f. F (letter-by-code f)) (keep isLetter fs) ((l : Letter) → T (among (letter-code (letter-of l)) fs) → F l)
+    → Given (λ f. F (letter-by-code f)) (keep isCapital fs) ((l : Letter) → T (among (letter-code (letter-of l)) fs) → F l)
 listed-letter F fs =
-    given (λ f. F (letter-by-code f)) (keep isLetter fs)
+    given (λ f. F (letter-by-code f)) (keep isCapital fs)
     (λ h l m. subst F (place-back l)
-    (each-letter (λ f. F (letter-by-code f)) fs h (letter-code (letter-of l)) (every-letter (λ k. isLetter (letter-code (letter-of k))) tt l) m))
+    (each-letter (λ f. F (letter-by-code f)) fs h (letter-code (letter-of l)) (every-letter (λ k. isCapital (letter-code (letter-of k))) tt l) m))

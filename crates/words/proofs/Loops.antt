@@ -9,7 +9,7 @@ use lib.Dec.{eqb, ltb}
 use lib.ListN.{length, getD, drop, drop-of-length-le}
 use lib.Seq.{drop-cons}
 use borrow.Author.Tests.{eq-eqb, ne-eqb, lt-ltb}
-use Rattle.characters.specs.Characters.{isLetter, isDigit}
+use Rattle.characters.specs.Characters.{isCapital, isDigit}
 use Rattle.language.specs.Program.{identifier}
 use Rattle.lists.specs.Lists.{all, any, filled, sameBytes}
 
@@ -33,7 +33,7 @@ pub none : (w : List ℕ) → length w ≡ 0 → w ≡ []
 none [] h = refl
 none (b ∷ w) h = absurd (omega arith)
 
-pub identifier-starts : (w : List ℕ) → (length w ≡ 0 → ⊥) → isLetter (getD w 0 0) && all (λ x. isLetter x || isDigit x) (drop 1 w) ≡ identifier w
+pub identifier-starts : (w : List ℕ) → (length w ≡ 0 → ⊥) → isCapital (getD w 0 0) && all (λ x. isCapital x || isDigit x) (drop 1 w) ≡ identifier w
 identifier-starts [] h = absurd (h refl)
 identifier-starts (b ∷ w) h = refl
 

@@ -2,7 +2,7 @@
 ghost use mathlib.Core.Path.{_≡_};
 ghost use mathlib.Core.Bool.{cond, _||_};
 ghost use Prim.Native.Nat.{_+_, _-_, _*_, _≤_, _<_};
-ghost use Rattle.characters.specs.Characters.{isLetter, isDigit};
+ghost use Rattle.characters.specs.Characters.{isCapital, isDigit};
 ghost use Rattle.language.specs.Program.{identifier};
 ghost use Rattle.lists.specs.Lists.{among, sameBytes};
 ghost use Rattle.words.specs.Words.{class-letter, is-class, class-of, capped, beyond, size-of, plus, minus, numeral-of, letter-at, reach, indexed-of};
@@ -116,9 +116,9 @@ pub fn same(a: &[u8], b: &[u8]) -> bool
 }
 
 fn continues(b: u8) -> bool
-    ensures { λ r. ⌜ r ≡ isLetter b || isDigit b ⌝ }
+    ensures { λ r. ⌜ r ≡ isCapital b || isDigit b ⌝ }
 {
-    characters::is_letter(b) | characters::is_digit(b)
+    characters::is_capital(b) | characters::is_digit(b)
 }
 
 pub fn identifier(w: &[u8]) -> bool
@@ -127,7 +127,7 @@ pub fn identifier(w: &[u8]) -> bool
     if w.len() == 0 {
         return false;
     }
-    let mut good = characters::is_letter(w[0]);
+    let mut good = characters::is_capital(w[0]);
     let mut i = 1;
     while i < w.len() {
         good = good & continues(w[i]);

@@ -15,8 +15,8 @@ returns c =
     let d = c .before .before .before in
     char-behind (table-of (now (d .args .table))) (d .args .at) (d .args .n) (d .args .j) (c .before .char-at .result) (c .before .char-at .ensures) (d .args .name) (c .if1 .taken)
 
-is-letter-requires : tie.Need-is-letter-requires
-is-letter-requires c κs = search needs
+is-capital-requires : tie.Need-is-capital-requires
+is-capital-requires c κs = search needs
 
 is-digit-requires : tie.Need-is-digit-requires
 is-digit-requires c κs = search needs
@@ -24,7 +24,7 @@ is-digit-requires c κs = search needs
 returns-2 : tie.Need-returns-2
 returns-2 c =
     let d = c .before .before .before .before .before .before in
-    rw (c .before .is-letter .ensures, c .is-digit .ensures) (char-of-name (table-of (now (d .args .table))) (d .args .at) (d .args .n) (d .args .j) (c .before .before .before .before .char-at .result) (c .before .before .before .before .char-at .ensures) (d .args .name) (c .before .before .before .if1 .left) (c .before .before .if2 .taken))
+    rw (c .before .is-capital .ensures, c .is-digit .ensures) (char-of-name (table-of (now (d .args .table))) (d .args .at) (d .args .n) (d .args .j) (c .before .before .before .before .char-at .result) (c .before .before .before .before .char-at .ensures) (d .args .name) (c .before .before .before .if1 .left) (c .before .before .if2 .taken))
 
 is-known-requires : tie.Need-is-known-requires
 is-known-requires c κs = search needs
@@ -40,7 +40,7 @@ char-fits-spec =
     (tie.spec
     char-at-requires
     returns
-    is-letter-requires
+    is-capital-requires
     is-digit-requires
     returns-2
     is-known-requires

@@ -22,8 +22,8 @@ add-at c = search needs
 char-at-requires : tie.Need-char-at-requires
 char-at-requires c κs = search needs
 
-is-letter-requires : tie.Need-is-letter-requires
-is-letter-requires c κs = search needs
+is-capital-requires : tie.Need-is-capital-requires
+is-capital-requires c κs = search needs
 
 chars-fit-requires : tie.Need-chars-fit-requires
 chars-fit-requires c κs = search needs
@@ -33,7 +33,7 @@ read-requires-2 c κs = search needs
 
 returns : tie.Need-returns
 unfolding label-fits
-returns c = rw (c .before .before .is-letter .ensures, c .before .before .before .char-at .ensures, c .before .chars-fit .ensures, c .before .before .before .before .read .ensures .is, c .read2 .ensures .is)
+returns c = rw (c .before .before .is-capital .ensures, c .before .before .before .char-at .ensures, c .before .chars-fit .ensures, c .before .before .before .before .read .ensures .is, c .read2 .ensures .is)
 
 pub label-fits-spec : {M : Type 1} → statement M
 label-fits-spec =
@@ -45,7 +45,7 @@ label-fits-spec =
     mul-at
     add-at
     char-at-requires
-    is-letter-requires
+    is-capital-requires
     chars-fit-requires
     read-requires-2
     returns)

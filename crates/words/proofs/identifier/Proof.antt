@@ -3,7 +3,7 @@ use mathlib.Core.Path.{_≡_, sym, ap, _∙_}
 use mathlib.Core.Bool.{_&&_, _||_}
 use Prim.Native.Nat.{_≤_, _-_}
 use lib.ListN.{length, drop}
-use Rattle.characters.specs.Characters.{isLetter, isDigit}
+use Rattle.characters.specs.Characters.{isCapital, isDigit}
 use Rattle.language.specs.Program.{identifier}
 use Rattle.lists.specs.Lists.{all}
 use Rattle.words.proofs.Loops.{none, identifier-starts, all-next, all-end}
@@ -12,7 +12,7 @@ use Rattle.words.proofs.identifier.Statement.{statement}
 use Rattle.words.proofs.identifier.Tie as tie
 
 abbrev Inv-loop : tie.InvT-loop
-Inv-loop w good₀ i₀ good i = (i ≤ length w) × (good && all (λ x. isLetter x || isDigit x) (drop i w) ≡ identifier w)
+Inv-loop w good₀ i₀ good i = (i ≤ length w) × (good && all (λ x. isCapital x || isDigit x) (drop i w) ≡ identifier w)
 
 abbrev μ-loop : tie.MeasureT-loop
 μ-loop w good₀ i₀ good i = length w - i
@@ -20,14 +20,14 @@ abbrev μ-loop : tie.MeasureT-loop
 returns : tie.Need-returns Inv-loop μ-loop
 returns c = ap identifier (sym (none (c .before .before .args .w .now) (c .if1 .taken)))
 
-shared-slice-read-is-letter : tie.Need-shared-slice-read-is-letter Inv-loop μ-loop
-shared-slice-read-is-letter c = search needs
+shared-slice-read-is-capital : tie.Need-shared-slice-read-is-capital Inv-loop μ-loop
+shared-slice-read-is-capital c = search needs
 
-is-letter-requires : tie.Need-is-letter-requires Inv-loop μ-loop
-is-letter-requires c κs = search needs
+is-capital-requires : tie.Need-is-capital-requires Inv-loop μ-loop
+is-capital-requires c κs = search needs
 
 loop-holds : tie.Need-loop-holds Inv-loop μ-loop
-loop-holds c = (search needs, rw (c .is-letter .ensures) (identifier-starts (c .before .before .before .before .args .w .now) (c .before .before .if1 .left)))
+loop-holds c = (search needs, rw (c .is-capital .ensures) (identifier-starts (c .before .before .before .before .args .w .now) (c .before .before .if1 .left)))
 
 shared-slice-read-continues : tie.Need-shared-slice-read-continues Inv-loop μ-loop
 shared-slice-read-continues c = search needs
@@ -42,10 +42,10 @@ loop-less : tie.Need-loop-less Inv-loop μ-loop
 loop-less c = search needs
 
 loop-again : tie.Need-loop-again Inv-loop μ-loop
-loop-again c = (search needs, rw (c .continues .ensures) (all-next (λ x. isLetter x || isDigit x) _ (c .before .before .before .loop .i) (c .before .before .before .loop .good) (search needs) ∙ c .before .before .before .loop .inv .1))
+loop-again c = (search needs, rw (c .continues .ensures) (all-next (λ x. isCapital x || isDigit x) _ (c .before .before .before .loop .i) (c .before .before .before .loop .good) (search needs) ∙ c .before .before .before .loop .inv .1))
 
 returns-2 : tie.Need-returns-2 Inv-loop μ-loop
-returns-2 c = sym (all-end (λ x. isLetter x || isDigit x) _ (c .before .loop .i) (c .before .loop .good) (c .loop-test .left)) ∙ c .before .loop .inv .1
+returns-2 c = sym (all-end (λ x. isCapital x || isDigit x) _ (c .before .loop .i) (c .before .loop .good) (c .loop-test .left)) ∙ c .before .loop .inv .1
 
 pub identifier-spec : {M : Type 1} → statement M
 identifier-spec =
@@ -54,8 +54,8 @@ identifier-spec =
     Inv-loop
     μ-loop
     returns
-    shared-slice-read-is-letter
-    is-letter-requires
+    shared-slice-read-is-capital
+    is-capital-requires
     loop-holds
     shared-slice-read-continues
     continues-requires
