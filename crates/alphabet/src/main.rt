@@ -1,4 +1,4 @@
-// Writes a line of 64 bytes: the characters of EOL-2 that can be seen, in the order of their ranks, and spaces.
+// Writes two lines of 64 bytes: the characters of EOL-2 that can be seen, in the order of their ranks, and the classes of all.
 
 pub struct Line {
     pub bytes: [u8; 64],
@@ -27,15 +27,30 @@ fn characters_seen() -> Line {
         bytes: [b' '; 64],
         len: 0,
     };
-    for rank in 1..62 {
+    for rank in 1..characters::COUNT + 1 {
         line = line.with(characters::byte_of(rank));
     }
     line
 }
 
-fn main() {
-    let line = characters_seen();
+fn classes_seen() -> Line {
+    let mut line = Line {
+        bytes: [b' '; 64],
+        len: 0,
+    };
+    for rank in 1..characters::COUNT + 1 {
+        line = line.with(characters::class_at(rank));
+    }
+    line
+}
+
+fn write_line(line: Line) {
     let mut bytes = line.bytes;
     bytes[63] = b'\n';
     io::write_all(1, &bytes);
+}
+
+fn main() {
+    write_line(characters_seen());
+    write_line(classes_seen());
 }

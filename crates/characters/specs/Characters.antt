@@ -5,6 +5,7 @@ use Prim.Native.Nat.{ℕ, suc}
 use lib.Dec.{leb, ltb, eqb}
 use lib.ListN.{getD}
 use Rattle.lists.specs.Lists.{ahead, among}
+use Rattle.lists.specs.Quoted.{bytes}
 
 -- "61 characters, in the order of Appendix A's columns, without ◊ and CS": a character of rank k is element k - 1
 abbrev pub ranked : List ℕ
@@ -12,6 +13,9 @@ ranked =
     32 ∷ 46 ∷ 40 ∷ 43 ∷ 42 ∷ 41 ∷ 59 ∷ 45 ∷ 47 ∷ 44 ∷ 58 ∷ 39 ∷ 61 ∷ 91 ∷ 93 ∷ 60 ∷ 62 ∷ 63 ∷ 27 ∷ 14
     ∷ 65 ∷ 66 ∷ 67 ∷ 68 ∷ 69 ∷ 70 ∷ 71 ∷ 72 ∷ 73 ∷ 74 ∷ 75 ∷ 76 ∷ 77 ∷ 78 ∷ 79 ∷ 80 ∷ 81 ∷ 82 ∷ 83 ∷ 84 ∷ 85 ∷ 86 ∷ 87 ∷ 88 ∷ 89 ∷ 90
     ∷ 15 ∷ 48 ∷ 49 ∷ 50 ∷ 51 ∷ 52 ∷ 53 ∷ 54 ∷ 55 ∷ 56 ∷ 57 ∷ 10 ∷ 12 ∷ 13 ∷ 127 ∷ []
+
+abbrev pub count : ℕ
+count = 61
 
 -- one of the 61
 unfoldable pub known : ℕ → Bool
@@ -42,6 +46,19 @@ isDigit b = between 48 57 b
 -- "Classes: L letters, D digits, B space, R the rest": the class's letter, 76, 68, 66 or 82
 abbrev pub classOf : ℕ → ℕ
 classOf b = cond (isLetter b) 76 (cond (isDigit b) 68 (cond (eqb b 32) 66 82))
+
+-- where the class of a byte stands in LDBR
+abbrev pub classPlace : ℕ → ℕ
+classPlace b = ahead (eqb (classOf b)) (bytes "LDBR")
+
+-- the code's tables by byte: whether a byte is a character, and the place of its class, in digits
+unfoldable pub knownMarks : List ℕ
+knownMarks =
+    bytes "0000000000101111000000000001000010000001111111111111111111111111011111111111111111111111111101000000000000000000000000000000000100000000000000000000000000000000000000000000000000000000000000000000000000000000000000000000000000000000000000000000000000000000"
+
+unfoldable pub classPlaces : List ℕ
+classPlaces =
+    bytes "3333333333333333333333333333333323333333333333331111111111333333300000000000000000000000000333333333333333333333333333333333333333333333333333333333333333333333333333333333333333333333333333333333333333333333333333333333333333333333333333333333333333333333"
 
 -- "The order of two words compares the first characters and then the rest; a missing character comes before any other."
 abbrev pub precedes : List ℕ → List ℕ → Bool

@@ -1,39 +1,49 @@
 // The 61 characters: their ranks and classes, and the order of two words.
 ghost use mathlib.Core.Path.{_≡_};
-ghost use mathlib.Core.Bool.{cond};
-ghost use lib.Dec.{ltb};
-ghost use Rattle.lists.specs.Lists.{all};
-ghost use Rattle.characters.specs.Characters.{rank, byteOf, known, between, isCapital, isLetter, isDigit, classOf, precedes};
+ghost use Prim.Native.Nat.{_<_};
+ghost use lib.Dec.{eqb};
+ghost use Rattle.lists.specs.Lists.{all, ahead};
+ghost use Rattle.characters.specs.Characters.{rank, byteOf, known, between, isCapital, isDigit, classOf, classPlace, classPlaces, knownMarks, precedes};
 
-// The 61 characters by rank: the character of rank k at k - 1, and its class at the same place of `CLASSES`.
-pub const CHARACTERS: [u8; 61] =
+pub const COUNT: usize = 61;
+
+// The characters by rank: that of rank k at k - 1, and its class at the same place of `CLASSES`.
+pub const CHARACTERS: [u8; COUNT] =
     *b" .(+*);-/,:'=[]<>?\x1b\x0eABCDEFGHIJKLMNOPQRSTUVWXYZ\x0f0123456789\n\x0c\r\x7f";
 
-pub const CLASSES: [u8; 61] = *b"BRRRRRRRRRRRRRRRRRRRLLLLLLLLLLLLLLLLLLLLLLLLLLRDDDDDDDDDDRRRR";
+pub const CLASSES: [u8; COUNT] = *b"BRRRRRRRRRRRRRRRRRRRLLLLLLLLLLLLLLLLLLLLLLLLLLRDDDDDDDDDDRRRR";
 
-pub fn byte_of(r: u8) -> u8
+// The same by byte, to be lent to loops: 1 for a character and 0 for any other byte,
+pub const MARKS: [u8; 256] =
+    *b"0000000000101111000000000001000010000001111111111111111111111111011111111111111111111111111101000000000000000000000000000000000100000000000000000000000000000000000000000000000000000000000000000000000000000000000000000000000000000000000000000000000000000000";
+
+// and the place of its class in LDBR.
+pub const PLACES: [u8; 256] =
+    *b"3333333333333333333333333333333323333333333333331111111111333333300000000000000000000000000333333333333333333333333333333333333333333333333333333333333333333333333333333333333333333333333333333333333333333333333333333333333333333333333333333333333333333333";
+
+pub fn byte_of(r: usize) -> u8
     ensures { λ b. ⌜ b ≡ byteOf r ⌝ }
 {
     if r == 0 {
         return 0;
     }
-    if 61 < r {
+    if COUNT < r {
         return 0;
     }
-    CHARACTERS[(r - 1) as usize]
+    CHARACTERS[r - 1]
 }
 
 // The class of the character of a rank.
-pub fn class_at(r: u8) -> u8
+pub fn class_at(r: usize) -> u8
     ensures { λ k. ⌜ k ≡ classOf (byteOf r) ⌝ }
 {
     if r == 0 {
         return b'R';
     }
-    if 61 < r {
+    if COUNT < r {
         return b'R';
     }
-    CLASSES[(r - 1) as usize]
+    CLASSES[r - 1]
 }
 
 pub fn between(a: u8, z: u8, b: u8) -> bool
@@ -48,117 +58,66 @@ pub fn is_capital(b: u8) -> bool
     between(b'A', b'Z', b)
 }
 
-pub fn is_letter(b: u8) -> bool
-    ensures { λ r. ⌜ r ≡ isLetter b ⌝ }
-{
-    is_capital(b)
-}
-
 pub fn is_digit(b: u8) -> bool
     ensures { λ r. ⌜ r ≡ isDigit b ⌝ }
 {
     between(b'0', b'9', b)
 }
 
-// The ranks below A, by a `match`, which is compiled to a table.
-fn low_rank(b: u8) -> u8
-    ensures { λ r. ⌜ r ≡ cond (ltb b 65) (rank b) 62 ⌝ }
+// How many entries of a table stand before that of a byte.
+fn place_in(b: u8, table: &[u8]) -> usize
+    ensures { λ r. ⌜ r ≡ ahead (eqb b) (now (table .entry)) ⌝ }
 {
-    match b {
-        b' ' => 1,
-        b'.' => 2,
-        b'(' => 3,
-        b'+' => 4,
-        b'*' => 5,
-        b')' => 6,
-        b';' => 7,
-        b'-' => 8,
-        b'/' => 9,
-        b',' => 10,
-        b':' => 11,
-        b'\'' => 12,
-        b'=' => 13,
-        b'<' => 16,
-        b'>' => 17,
-        b'?' => 18,
-        27 => 19,
-        14 => 20,
-        15 => 47,
-        b'0' => 48,
-        b'1' => 49,
-        b'2' => 50,
-        b'3' => 51,
-        b'4' => 52,
-        b'5' => 53,
-        b'6' => 54,
-        b'7' => 55,
-        b'8' => 56,
-        b'9' => 57,
-        b'\n' => 58,
-        12 => 59,
-        b'\r' => 60,
-        _ => 62,
+    let mut i = 0;
+    while i < table.len() {
+        if b == table[i] {
+            return i;
+        }
+        i += 1;
     }
+    i
 }
 
-// "A is 21, Z 46"; 62 for a byte that is no character.
-pub fn rank(b: u8) -> u8
+// "A is 21, Z 46"; a byte that is no character comes after the last.
+pub fn rank(b: u8) -> usize
     ensures { λ r. ⌜ r ≡ rank b ⌝ }
 {
-    if b < b'A' {
-        return low_rank(b);
-    }
-    if b <= b'Z' {
-        return b - 44;
-    }
-    match b {
-        b'[' => 14,
-        b']' => 15,
-        127 => 61,
-        _ => 62,
-    }
+    place_in(b, &CHARACTERS) + 1
 }
 
-// By ranges of bytes and without a branch, so that a loop over bytes takes many at once.
-pub fn is_known(b: u8) -> bool
+// Whether a byte is a character, by the table lent.
+pub fn is_known(b: u8, marks: &[u8]) -> bool
+    requires { ⌜ now marks ≡ knownMarks ⌝ }
     ensures { λ r. ⌜ r ≡ known b ⌝ }
 {
-    (b == b'\n')
-        | between(12, 15, b)
-        | (b == 27)
-        | (b == b' ')
-        | between(b'\'', b'?', b)
-        | between(b'A', b'[', b)
-        | (b == b']')
-        | (b == 127)
+    marks[b as usize] == b'1'
 }
 
-pub fn all_known(s: &[u8]) -> bool
+// The class of a byte, by its place in LDBR and by the table lent.
+pub fn class_of(b: u8, places: &[u8]) -> u8
+    requires { ⌜ now places ≡ classPlaces ⌝ }
+    ensures { λ r. ⌜ (r ≡ classPlace b) × (r < 4) ⌝ }
+{
+    places[b as usize] % 4
+}
+
+pub fn are_known(s: &[u8], marks: &[u8]) -> bool
+    requires { ⌜ now marks ≡ knownMarks ⌝ }
     ensures { λ r. ⌜ r ≡ all known (now (s .entry)) ⌝ }
 {
     let mut good = true;
     let mut i = 0;
     while i < s.len() {
-        good = good & is_known(s[i]);
+        good = good & is_known(s[i], marks);
         i += 1;
     }
     good
 }
 
-fn pick(t: bool, a: u8, b: u8) -> u8
-    ensures { λ r. ⌜ r ≡ cond t a b ⌝ }
+pub fn all_known(s: &[u8]) -> bool
+    ensures { λ r. ⌜ r ≡ all known (now (s .entry)) ⌝ }
 {
-    if t { a } else { b }
-}
-
-pub fn class_of(b: u8) -> u8
-    ensures { λ r. ⌜ r ≡ classOf b ⌝ }
-{
-    pick(
-        is_letter(b),
-        b'L',
-        pick(is_digit(b), b'D', pick(b == b' ', b'B', b'R')),
-    )
+    are_known(s, &MARKS)
 }
 
 // The first characters are compared, and where they are the same the rest.

@@ -4,6 +4,7 @@ ghost use mathlib.Core.Path.{_≡_};
 ghost use Prim.Native.Nat.{_+_, _<_, _≤_};
 ghost use lib.ListN.{length};
 ghost use Rattle.cells.specs.Cells.{Number};
+ghost use Rattle.characters.specs.Characters.{knownMarks};
 ghost use Rattle.layout.specs.Cells.{cell};
 ghost use Rattle.packed.specs.Packed.{table-of};
 ghost use Rattle.table.specs.Reads.{Place};
@@ -59,9 +60,9 @@ fn char_at(table: &[u32], at: usize, j: usize) -> u8
     }
 }
 
-// Whether character `j` is one of a name or a text of `n`, or 0 behind it.
-fn char_fits(table: &[u32], at: usize, n: usize, name: bool, j: usize) -> bool
-    requires { ⌜ Place (now table) (at + j) 65536 ⌝ }
+// Whether character `j` is one of a name or a text of `n`, or 0 behind it. `marks` is the table of characters by byte.
+fn char_fits(table: &[u32], at: usize, n: usize, name: bool, j: usize, marks: &[u8]) -> bool
+    requires { ⌜ Place (now table) (at + j) 65536 × (now marks ≡ knownMarks) ⌝ }
     ensures { λ r. ⌜ r ≡ char-fits (table-of (now (table .entry))) at n name j ⌝ }
 {
     let b = char_at(table, at, j);
@@ -71,16 +72,16 @@ fn char_fits(table: &[u32], at: usize, n: usize, name: bool, j: usize) -> bool
     if name {
         return characters::is_capital(b) | characters::is_digit(b);
     }
-    characters::is_known(b)
+    characters::is_known(b, marks)
 }
 
-fn chars_fit(table: &[u32], at: usize, n: usize, name: bool) -> bool
-    requires { ⌜ Place (now table) at 65000 ⌝ }
+fn chars_fit(table: &[u32], at: usize, n: usize, name: bool, marks: &[u8]) -> bool
+    requires { ⌜ Place (now table) at 65000 × (now marks ≡ knownMarks) ⌝ }
     ensures { λ r. ⌜ r ≡ chars-fit (table-of (now (table .entry))) at n name ⌝ }
 {
     let mut j = 0;
     while j < Machine::ITEM {
-        if !char_fits(table, at, n, name, j) {
+        if !char_fits(table, at, n, name, j, marks) {
             return false;
         }
         j += 1;
@@ -96,7 +97,7 @@ pub fn text_fits(table: &[u32], k: usize) -> bool
     let n = read(table, TablePlaces::FIRST_TEXT + 16 * k);
     (1 < n)
         & (n <= Machine::ITEM)
-        & chars_fit(table, TablePlaces::FIRST_CHARACTERS + 16 * k, n, false)
+        & chars_fit(table, TablePlaces::FIRST_CHARACTERS + 16 * k, n, false, &characters::MARKS)
 }
 
 // Whether the texts `i` and `j` have the same cells.
@@ -136,17 +137,17 @@ pub fn label_fits(table: &[u32], k: usize) -> bool
     (0 < n)
         & (n <= Machine::ITEM)
         & characters::is_capital(char_at(table, at, 0))
-        & chars_fit(table, at, n, true)
+        & chars_fit(table, at, n, true, &characters::MARKS)
         & (x / 64 < read(table, TablePlaces::INSTRUCTION_COUNT))
 }
 
-// Whether `v` refers to one of the 61 characters or to a text of the table.
+// Whether `v` refers to one of the characters or to a text of the table.
 pub fn ref_fits(table: &[u32], v: usize) -> bool
     requires { ⌜ limit.table ≤ length (now table) ⌝ }
     ensures { λ r. ⌜ r ≡ ref-fits (table-of (now (table .entry))) v ⌝ }
 {
     if v < 256 {
-        return characters::is_known(byte(v));
+        return characters::is_known(byte(v), &characters::MARKS);
     }
     v < 256 + read(table, TablePlaces::TEXT_COUNT)
 }

@@ -2,17 +2,18 @@
 use mathlib.Core.Path.{_≡_, refl, sym, _∙_}
 use mathlib.Core.Bool.{Bool, true, false, cond, _&&_}
 use mathlib.Core.List.{List, [], _∷_, _++_, append-nil}
-use Prim.Native.Nat.{ℕ, _/_, _%_, _^_, _<_}
+use Prim.Native.Nat.{ℕ, _/_, _%_, _^_}
 use native.Mathlib.Omega.{arith}
 use lib.Dec.{eqb}
 use borrow.Author.Tests.{eq-eqb, ne-eqb}
-use Rattle.characters.specs.Characters.{isLetter, isDigit, classOf}
+use Rattle.characters.specs.Characters.{isLetter, isDigit, classOf, classPlace}
 use Rattle.components.proofs.Fronts.{front-kind}
 use Rattle.language.specs.Values.{chars, ofClass}
 use Rattle.layout.specs.Cells.{cell}
 use Rattle.layout.specs.Components.{component-in}
-use Rattle.lists.specs.Lists.{all, among}
-use Rattle.matching.specs.Tests.{class-place, in-class}
+use Rattle.lists.specs.Lists.{all, ahead, among}
+use Rattle.lists.specs.Quoted.{bytes}
+use Rattle.matching.specs.Tests.{in-class}
 
 -- whether c is in a list of letters that stand there or not
 module _ (c k : ℕ) (t : Bool) (v : List ℕ) where
@@ -48,30 +49,21 @@ module _ (l d b r : Bool) where
   among-listed false false false =
       another 82 76 l rest-d refl ∙ another 82 68 d rest-b refl ∙ another 82 66 b rest-r refl ∙ this 82 82 r [] refl refl
 
-pub place-most : (b : ℕ) → class-place b < 4
-place-most b = go (isLetter b) (isDigit b) (eqb b 32)
-  where
-    go : (x y z : Bool) → cond x 0 (cond y 1 (cond z 2 3)) < 4
-    go true y z = omega arith
-    go false true z = omega arith
-    go false false true = omega arith
-    go false false false = omega arith
-
 -- the bit of the character's class tells it
 module _ (mask b : ℕ) where
   abbrev bit : ℕ → Bool
   bit p = eqb (mask / 2 ^ p % 2) 1
 
-  pub class-bit-is : (p : ℕ) → p ≡ class-place b → bit p ≡ in-class mask b
+  pub class-bit-is : (p : ℕ) → p ≡ classPlace b → bit p ≡ in-class mask b
   class-bit-is p e =
       let one : mask / 1 ≡ mask = omega arith in
       let end : List ℕ = cond (bit 3) (82 ∷ []) [] in
-      let listed : bit (class-place b) ≡ in-class mask b =
+      let listed : bit (classPlace b) ≡ in-class mask b =
       place (isLetter b) (isDigit b) (eqb b 32)
       ∙ rw (one, ← append-nil end) (sym (among-listed (eqb (mask % 2) 1) (bit 1) (bit 2) (bit 3) (isLetter b) (isDigit b) (eqb b 32))) in
       rw e listed
     where
-      place : (x y z : Bool) → bit (cond x 0 (cond y 1 (cond z 2 3))) ≡ cond x (bit 0) (cond y (bit 1) (cond z (bit 2) (bit 3)))
+      place : (x y z : Bool) → bit (ahead (eqb (cond x 76 (cond y 68 (cond z 66 82)))) (bytes "LDBR")) ≡ cond x (bit 0) (cond y (bit 1) (cond z (bit 2) (bit 3)))
       place true y z = refl
       place false true z = refl
       place false false true = refl

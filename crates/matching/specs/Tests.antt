@@ -6,7 +6,7 @@ use Prim.Native.Nat.{ℕ, suc, _+_, _≤_}
 use lib.Dec.{leb, eqb}
 use lib.ListN.{length, take}
 use Rattle.cells.specs.Cells.{pasted}
-use Rattle.characters.specs.Characters.{isLetter, isDigit, classOf}
+use Rattle.characters.specs.Characters.{classOf}
 use Rattle.components.specs.Parts.{Leading}
 use Rattle.language.specs.Values.{Component, chars, kind, same, ofClass}
 use Rattle.layout.specs.Bounds.{OneComponent, WholeComponents}
@@ -19,10 +19,7 @@ use Rattle.matching.specs.declared.Test.the-variants.{All, Count, Class,
 use Rattle.matching.specs.declared.Taken.{Taken}
 use Rattle.matching.specs.declared.CharsTaken.{CharsTaken}
 
--- the place of a character's class in a mask; whether a character is of a mask's class
-abbrev pub class-place : ℕ → ℕ
-class-place b = cond (isLetter b) 0 (cond (isDigit b) 1 (cond (eqb b 32) 2 3))
-
+-- whether a character is of a mask's class
 abbrev pub in-class : ℕ → ℕ → Bool
 in-class mask b = among (classOf b) (class-by [] mask)
 

@@ -1,15 +1,14 @@
 // Tests of components and characters in bytes, and how much of a sequence a test takes.
 ghost use mathlib.Core.Path.{_≡_};
-ghost use mathlib.Core.Bool.{cond};
 ghost use mathlib.Core.List.{[]};
 ghost use lib.ListN.{length};
 ghost use Rattle.lists.specs.Lists.{all, any, ahead, among};
+ghost use Rattle.characters.specs.Characters.{classPlaces};
 ghost use Rattle.language.specs.Values.{same, ofClass};
 ghost use Rattle.layout.specs.Components.{component-in, components-in};
 ghost use Rattle.layout.specs.Table.{class-by};
-ghost use Rattle.cells.specs.Cells.{Number};
 ghost use Rattle.components.specs.Parts.{Leading, Written};
-ghost use Rattle.matching.specs.Tests.{class-place, in-class, first-chars, until, until-chars, reached-by, stops-before, Comparable, Stoppable, Countable, FirstRoom, FirstPut, FirstsRoom, Took, TookChars};
+ghost use Rattle.matching.specs.Tests.{in-class, first-chars, until, until-chars, reached-by, stops-before, Comparable, Stoppable, Countable, FirstRoom, FirstPut, FirstsRoom, Took, TookChars};
 
 // A test of a move. `Class` has the mask of its class: L 1, D 2, B 4, R 8; what `Among` compares with stands beside it.
 pub enum Test {
@@ -34,35 +33,22 @@ pub struct CharsTaken {
     pub reached: bool,
 }
 
-fn pick(t: bool, a: u8, b: u8) -> u8
-    ensures { λ r. ⌜ r ≡ cond t a b ⌝ }
-{
-    if t { a } else { b }
-}
-
-// Which bit of a mask is that of a character's class, found without a branch.
-fn class_place(b: u8) -> u8
-    ensures { λ r. ⌜ Number (class-place b) 4 r ⌝ }
-{
-    let letter = characters::is_letter(b);
-    let digit = characters::is_digit(b);
-    pick(letter, 0, pick(digit, 1, pick(b == b' ', 2, 3)))
-}
-
-// Whether a character is of a class.
-pub fn in_class(b: u8, mask: u8) -> bool
+// Whether a character is of a class. `places` is the table of classes by byte.
+fn in_class(b: u8, mask: u8, places: &[u8]) -> bool
+    requires { ⌜ now places ≡ classPlaces ⌝ }
     ensures { λ r. ⌜ r ≡ in-class mask b ⌝ }
 {
-    (mask >> class_place(b)) % 2 == 1
+    (mask >> characters::class_of(b, places)) % 2 == 1
 }
 
 // Whether all characters are of a class.
-pub fn all_in_class(w: &[u8], mask: u8) -> bool
+fn all_in_class(w: &[u8], mask: u8, places: &[u8]) -> bool
+    requires { ⌜ now places ≡ classPlaces ⌝ }
     ensures { λ r. ⌜ r ≡ all (in-class mask) (now (w .entry)) ⌝ }
 {
     let mut i = 0;
     while i < w.len() {
-        if !in_class(w[i], mask) {
+        if !in_class(w[i], mask, places) {
             return false;
         }
         i += 1;
@@ -78,7 +64,7 @@ pub fn of_class(x: &[u8], mask: u8) -> bool
     if x[0] == 0 {
         return false;
     }
-    all_in_class(components::chars_of(x), mask)
+    all_in_class(components::chars_of(x), mask, &characters::PLACES)
 }
 
 // Whether a component is one of those in `given`.
@@ -200,12 +186,13 @@ pub fn first_chars(out: &mut [u8], given: &[u8]) -> usize
 }
 
 // How many characters stand before the first of a class.
-fn ahead_of_class(s: &[u8], mask: u8) -> usize
+fn ahead_of_class(s: &[u8], mask: u8, places: &[u8]) -> usize
+    requires { ⌜ now places ≡ classPlaces ⌝ }
     ensures { λ r. ⌜ r ≡ ahead (in-class mask) (now (s .entry)) ⌝ }
 {
     let mut i = 0;
     while i < s.len() {
-        if in_class(s[i], mask) {
+        if in_class(s[i], mask, places) {
             return i;
         }
         i += 1;
@@ -250,7 +237,7 @@ pub fn count_chars(s: &[u8], test: Test, given: &[u8]) -> CharsTaken
             }
         }
         Test::Class(mask) => {
-            let k = ahead_of_class(s, mask);
+            let k = ahead_of_class(s, mask, &characters::PLACES);
             CharsTaken {
                 taken: k,
                 reached: k < n,

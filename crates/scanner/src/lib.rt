@@ -3,6 +3,7 @@ ghost use mathlib.Core.Path.{_≡_};
 ghost use mathlib.Core.Bool.{cond};
 ghost use Prim.Native.Nat.{_+_, _≤_, _<_};
 ghost use lib.ListN.{length, getD};
+ghost use Rattle.characters.specs.Characters.{knownMarks};
 ghost use Rattle.syntax.specs.Items.{sort-of, sort-number, same-sort, pair-of, ends-text, takes-next, allows, closes};
 ghost use Rattle.syntax.specs.Items.Sort.{word};
 ghost use Rattle.scanner.specs.Scans.{Closing, Passed, Skipped, Word-end, Scanned};
@@ -86,14 +87,16 @@ pub fn pair_of(b: u8) -> u8
     }
 }
 
-// A byte of a text. `star`: the byte before is a star that takes this one. Whether the byte may stand there:
-fn allows(star: bool, b: u8) -> bool
+// A byte of a text. `star`: the byte before is a star that takes this one. Whether the byte may stand there, by the
+// table of characters lent:
+fn allows(star: bool, b: u8, marks: &[u8]) -> bool
+    requires { ⌜ now marks ≡ knownMarks ⌝ }
     ensures { λ r. ⌜ r ≡ allows star b ⌝ }
 {
     if star {
         return pair_of(b) != 0;
     }
-    (b == b'*') | (is_known(b) & (b != b'\n') & (b != b'\''))
+    (b == b'*') | (is_known(b, marks) & (b != b'\n') & (b != b'\''))
 }
 
 // whether it ends the text,
@@ -210,9 +213,8 @@ pub fn one_if(t: bool) -> usize
     if t { 1 } else { 0 }
 }
 
-// The bytes of a text from `n`, the place after its apostrophe, on.
-pub fn scan_text(text: &[u8], n: usize) -> Scan
-    requires { ⌜ n ≤ length (now text) ⌝ }
+fn scan_by(text: &[u8], n: usize, marks: &[u8]) -> Scan
+    requires { ⌜ (n ≤ length (now text)) × (now marks ≡ knownMarks) ⌝ }
     ensures { λ r. ⌜ Scanned (now (text .entry)) n r ⌝ }
 {
     let mut star = false;
@@ -229,7 +231,7 @@ pub fn scan_text(text: &[u8], n: usize) -> Scan
                 closed: b == b'\'',
             };
         }
-        good = good & allows(star, b);
+        good = good & allows(star, b, marks);
         star = takes_next(star, b);
         count = count + one_if(!star);
         i += 1;
@@ -240,4 +242,12 @@ pub fn scan_text(text: &[u8], n: usize) -> Scan
         good: good,
         closed: false,
     }
+}
+
+// The bytes of a text from `n`, the place after its apostrophe, on.
+pub fn scan_text(text: &[u8], n: usize) -> Scan
+    requires { ⌜ n ≤ length (now text) ⌝ }
+    ensures { λ r. ⌜ Scanned (now (text .entry)) n r ⌝ }
+{
+    scan_by(text, n, &characters::MARKS)
 }

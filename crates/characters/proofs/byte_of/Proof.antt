@@ -14,9 +14,6 @@ returns-2 c = sym (past (c .before .before .args .r) (c .if2 .taken))
 sub-result : tie.Need-sub-result
 sub-result c = search needs
 
-cast-result : tie.Need-cast-result
-cast-result c = search needs
-
 array-read-result : tie.Need-array-read-result
 array-read-result c = search needs
 
@@ -25,4 +22,4 @@ returns-3 c = by-rank (c .before .before .args .r) (c .before .if1 .left)
 
 pub byte-of-spec : {M : Type 1} → statement M
 byte-of-spec =
-    tie.close (tie.spec returns returns-2 sub-result cast-result array-read-result returns-3)
+    tie.close (tie.spec returns returns-2 sub-result array-read-result returns-3)

@@ -1,43 +1,27 @@
--- `characters::rank` meets its contract: below A, the letters, and the three above them.
-use mathlib.Core.Path.{_∙_}
-use Rattle.characters.proofs.Tables.{low, letter, high-arm, high-rest}
+-- `characters::rank` meets its contract: the constant is the list of the definition.
+use native.Mathlib.Numerals.{add-one}
+use native.Mathlib.Omega.{arith}
+use mathlib.Core.Path.{ap, _∙_}
+use Prim.Native.Nat.{suc}
+use lib.Dec.{eqb}
 use borrow.Author.Needs.{needs}
+use Rattle.lists.specs.ListLaws.{ahead-le}
+use Rattle.characters.specs.Characters.{ranked}
 use Rattle.characters.proofs.rank.Statement.{statement}
 use Rattle.characters.proofs.rank.Tie as tie
 
-low-rank-requires : tie.Need-low-rank-requires
-low-rank-requires c κs = search needs
+slice-aggregate-place-in : tie.Need-slice-aggregate-place-in
+slice-aggregate-place-in c = search needs
+
+place-in-requires : tie.Need-place-in-requires
+place-in-requires c κs = search needs
+
+add-result : tie.Need-add-result
+add-result c = omega (arith, c .place-in .ensures, ahead-le (eqb (c .before .before .args .b)) ranked)
 
 returns : tie.Need-returns
-returns c = c .low-rank .ensures ∙ low (c .before .before .args .b) (c .before .if1 .taken)
-
-sub-result : tie.Need-sub-result
-sub-result c = search needs
-
-returns-2 : tie.Need-returns-2
-returns-2 c = letter (c .before .before .args .b) (c .before .if1 .left) (c .if2 .taken)
-
-returns-3 : tie.Need-returns-3
-returns-3 c = high-arm (c .match .keys1)
-
-returns-4 : tie.Need-returns-4
-returns-4 c = high-arm (c .match .keys2)
-
-returns-5 : tie.Need-returns-5
-returns-5 c = high-arm (c .match .keys3)
-
-returns-6 : tie.Need-returns-6
-returns-6 c = high-rest (c .before .before .before .args .b) (search needs) (c .before .if2 .left) (c .match .rest)
+returns c = add-one (c .place-in .result) ∙ ap suc (c .place-in .ensures)
 
 pub rank-spec : {M : Type 1} → statement M
 rank-spec =
-    tie.close
-    (tie.spec
-    low-rank-requires
-    returns
-    sub-result
-    returns-2
-    returns-3
-    returns-4
-    returns-5
-    returns-6)
+    tie.close (tie.spec slice-aggregate-place-in place-in-requires add-result returns)

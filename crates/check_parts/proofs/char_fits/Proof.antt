@@ -12,7 +12,7 @@ char-at-requires c κs = search needs
 
 returns : tie.Need-returns
 returns c =
-    let d = c .before .before .before in
+    let d = c .before .before .before .before in
     char-behind (table-of (now (d .args .table))) (d .args .at) (d .args .n) (d .args .j) (c .before .char-at .result) (c .before .char-at .ensures) (d .args .name) (c .if1 .taken)
 
 is-capital-requires : tie.Need-is-capital-requires
@@ -23,15 +23,15 @@ is-digit-requires c κs = search needs
 
 returns-2 : tie.Need-returns-2
 returns-2 c =
-    let d = c .before .before .before .before .before .before in
+    let d = c .before .before .before .before .before .before .before in
     rw (c .before .is-capital .ensures, c .is-digit .ensures) (char-of-name (table-of (now (d .args .table))) (d .args .at) (d .args .n) (d .args .j) (c .before .before .before .before .char-at .result) (c .before .before .before .before .char-at .ensures) (d .args .name) (c .before .before .before .if1 .left) (c .before .before .if2 .taken))
 
 is-known-requires : tie.Need-is-known-requires
-is-known-requires c κs = search needs
+is-known-requires c κs = c .before .before .before .before .before .pre .1
 
 returns-3 : tie.Need-returns-3
 returns-3 c =
-    let d = c .before .before .before .before .before in
+    let d = c .before .before .before .before .before .before in
     c .is-known .ensures ∙ char-of-text (table-of (now (d .args .table))) (d .args .at) (d .args .n) (d .args .j) (c .before .before .before .char-at .result) (c .before .before .before .char-at .ensures) (d .args .name) (c .before .before .if1 .left) (c .before .if2 .left)
 
 pub char-fits-spec : {M : Type 1} → statement M

@@ -5,7 +5,7 @@ use native.Mathlib.Omega.{arith}
 use lib.ListN.{length, drop}
 use borrow.Author.Needs.{needs}
 use Rattle.lists.specs.Lists.{ahead, among}
-use Rattle.matching.proofs.Loops.{ahead-here, ahead-next, ahead-end}
+use Rattle.lists.specs.LoopLaws.{ahead-here, ahead-next, ahead-end}
 use Rattle.matching.proofs.ahead_of.Statement.{statement}
 use Rattle.matching.proofs.ahead_of.Tie as tie
 

@@ -6,15 +6,15 @@ use lib.ListN.{length, drop}
 use borrow.Author.Needs.{needs}
 use Rattle.lists.specs.Lists.{ahead}
 use Rattle.matching.specs.Tests.{in-class}
-use Rattle.matching.proofs.Loops.{ahead-here, ahead-next, ahead-end}
+use Rattle.lists.specs.LoopLaws.{ahead-here, ahead-next, ahead-end}
 use Rattle.matching.proofs.ahead_of_class.Statement.{statement}
 use Rattle.matching.proofs.ahead_of_class.Tie as tie
 
 abbrev Inv-loop : tie.InvT-loop
-Inv-loop s mask i₀ i = (i ≤ length s) × (i + ahead (in-class mask) (drop i s) ≡ ahead (in-class mask) s)
+Inv-loop s mask places i₀ i = (i ≤ length s) × (i + ahead (in-class mask) (drop i s) ≡ ahead (in-class mask) s)
 
 abbrev μ-loop : tie.MeasureT-loop
-μ-loop s mask i₀ i = length s - i
+μ-loop s mask places i₀ i = length s - i
 
 loop-holds : tie.Need-loop-holds Inv-loop μ-loop
 loop-holds c = (omega arith, omega arith)
@@ -27,7 +27,7 @@ in-class-requires c κs = search needs
 
 returns : tie.Need-returns Inv-loop μ-loop
 returns c =
-    let a = c .before .before .before .before .before .before .args in
+    let a = c .before .before .before .before .before .before .before .args in
     let h = c .before .before .before .before .loop in
     ahead-here (in-class (a .mask)) (a .s .now) (h .i) (c .before .before .before .loop-test .taken) (sym (c .before .in-class .ensures) ∙ c .if1 .taken) ∙ h .inv .1
 
@@ -39,13 +39,13 @@ loop-less c = search needs
 
 loop-again : tie.Need-loop-again Inv-loop μ-loop
 loop-again c =
-    let a = c .before .before .before .before .before .before .args in
+    let a = c .before .before .before .before .before .before .before .args in
     let h = c .before .before .before .before .loop in
     (omega arith, sym (ahead-next (in-class (a .mask)) (a .s .now) (h .i) (c .before .before .before .loop-test .taken) (sym (c .before .in-class .ensures) ∙ c .if1 .left)) ∙ h .inv .1)
 
 returns-2 : tie.Need-returns-2 Inv-loop μ-loop
 returns-2 c =
-    let a = c .before .before .before .args in
+    let a = c .before .before .before .before .args in
     ahead-end (in-class (a .mask)) (a .s .now) (c .before .loop .i) (c .loop-test .left) ∙ c .before .loop .inv .1
 
 pub ahead-of-class-spec : {M : Type 1} → statement M

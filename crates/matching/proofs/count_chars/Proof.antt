@@ -1,5 +1,7 @@
 -- `matching::count_chars` meets its contract.
+use mathlib.Core.Path.{refl}
 use borrow.Author.Needs.{needs}
+use Rattle.characters.specs.Characters.{classPlaces}
 use Rattle.lists.specs.Lists.{among}
 use Rattle.matching.specs.Tests.{in-class}
 use Rattle.matching.proofs.Counting.{chars-all, chars-short, chars-enough, chars-met}
@@ -18,8 +20,12 @@ returns c = rw (c .before .before .test .given .1) (chars-short (c .before .befo
 enum-known-test-2 : tie.Need-enum-known-test-2
 enum-known-test-2 c = search needs
 
+slice-aggregate-ahead-of-class : tie.Need-slice-aggregate-ahead-of-class
+slice-aggregate-ahead-of-class c = search needs
+
 ahead-of-class-requires : tie.Need-ahead-of-class-requires
-ahead-of-class-requires c κs = search needs
+unfolding classPlaces
+ahead-of-class-requires c κs = refl
 
 enum-told-2 : tie.Need-enum-told-2
 enum-told-2 c = search needs
@@ -35,8 +41,8 @@ returns-3 c = rw (c .before .before .test .given .1) (chars-enough (c .before .b
 
 returns-4 : tie.Need-returns-4
 returns-4 c =
-    let test2ᶜ = c .before .before .test2 in
-    rw (test2ᶜ .given .1) (chars-met (c .before .before .before .before .before .before .args .s .now) _ (in-class (test2ᶜ .given .0 .0)) (c .ahead-of-class .ensures))
+    let test2ᶜ = c .before .before .before .test2 in
+    rw (test2ᶜ .given .1) (chars-met (c .before .before .before .before .before .before .before .args .s .now) _ (in-class (test2ᶜ .given .0 .0)) (c .ahead-of-class .ensures))
 
 returns-5 : tie.Need-returns-5
 returns-5 c =
@@ -51,6 +57,7 @@ count-chars-spec =
     enum-known-test
     returns
     enum-known-test-2
+    slice-aggregate-ahead-of-class
     ahead-of-class-requires
     enum-told-2
     ahead-of-requires

@@ -7,7 +7,7 @@ use lib.Dec.{eqb}
 use borrow.Author.Needs.{needs}
 use borrow.Author.Tests.{eq-eqb, ne-eqb}
 use Rattle.lists.specs.Lists.{among}
-use Rattle.matching.proofs.Loops.{any-here, any-next, any-end}
+use Rattle.lists.specs.LoopLaws.{any-here, any-next, any-end}
 use Rattle.matching.proofs.has.Statement.{statement}
 use Rattle.matching.proofs.has.Tie as tie
 
