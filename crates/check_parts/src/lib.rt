@@ -97,7 +97,13 @@ pub fn text_fits(table: &[u32], k: usize) -> bool
     let n = read(table, TablePlaces::FIRST_TEXT + 16 * k);
     (1 < n)
         & (n <= Machine::ITEM)
-        & chars_fit(table, TablePlaces::FIRST_CHARACTERS + 16 * k, n, false, &characters::MARKS)
+        & chars_fit(
+            table,
+            TablePlaces::FIRST_CHARACTERS + 16 * k,
+            n,
+            false,
+            &characters::MARKS,
+        )
 }
 
 // Whether the texts `i` and `j` have the same cells.
