@@ -8,7 +8,7 @@ use lib.ListN.{length, take, drop, length-take, length-append}
 use lib.Seq.{take-at}
 use lib.IntN.{ℤ, natAbs}
 use borrow.Author.Tests.{leb-true}
-use Rattle.language.specs.Values.{Component, Store, in-range}
+use Rattle.language.specs.Values.{Component, in-range}
 use Rattle.layout.specs.Bounds.{Encoded}
 use Rattle.layout.specs.Cells.{uncode}
 use Rattle.layout.specs.CellLaws.{uncode-code}

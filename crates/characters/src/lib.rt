@@ -79,7 +79,7 @@ fn place_in(b: u8, table: &[u8]) -> usize
 }
 
 // "A is 21, Z 46"; a byte that is no character comes after the last.
-pub fn rank(b: u8) -> usize
+fn rank(b: u8) -> usize
     ensures { λ r. ⌜ r ≡ rank b ⌝ }
 {
     place_in(b, &CHARACTERS) + 1
@@ -101,7 +101,7 @@ pub fn class_of(b: u8, places: &[u8]) -> u8
     places[b as usize] % 4
 }
 
-pub fn are_known(s: &[u8], marks: &[u8]) -> bool
+fn are_known(s: &[u8], marks: &[u8]) -> bool
     requires { ⌜ now marks ≡ knownMarks ⌝ }
     ensures { λ r. ⌜ r ≡ all known (now (s .entry)) ⌝ }
 {

@@ -11,11 +11,10 @@ use borrow.Author.Tests.{eq-eqb, ne-eqb, eqb-true, leb-true, leb-false}
 use Rattle.cells.specs.Cells.{Number}
 use Rattle.language.specs.Values.{Component, chars, value, link, kind}
 use Rattle.language.specs.Values.Component.{word, address}
-use Rattle.layout.specs.Bounds.{EncodedOne, WholeComponents}
+use Rattle.layout.specs.Bounds.{EncodedOne}
 use Rattle.layout.specs.Cells.{cell, three-at, code, uncode}
 use Rattle.layout.specs.Components.{component-bytes, component-size, component-in}
-use Rattle.layout.specs.ComponentLaws.{component-long, next-component}
-use Rattle.lists.specs.Lists.{headOr}
+use Rattle.layout.specs.ComponentLaws.{component-long}
 use Rattle.components.specs.Parts.{Leading, LentChars}
 
 -- ---- how many cells there are

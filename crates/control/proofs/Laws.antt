@@ -8,7 +8,7 @@ use Rattle.lists.specs.Lists.{each, headOr}
 use Rattle.language.specs.Limits as limit
 use Rattle.language.specs.Values.{Store, State}
 use Rattle.machine.specs.Arguments.{Asks}
-use Rattle.machine.specs.Effects.{Go, Row}
+use Rattle.machine.specs.Effects.{Go}
 use Rattle.machine.specs.Effects.Go.{on, jump, call, back}
 use Rattle.machine.specs.Steps.{made}
 use Rattle.layout.specs.Bounds.{Below, Fine}

@@ -8,7 +8,6 @@ use lib.ListN.{length, getD, take, drop, set}
 use lib.Seq.{length-take-le, set-getD}
 use Rattle.lists.specs.Lists.{total}
 use Rattle.lists.specs.ListLaws.{total-at}
-use Rattle.language.specs.Limits as limit
 use Rattle.language.specs.Letters.Letter.{P}
 use Rattle.language.specs.Values.{Component, Record, File, Store, chars, empty-file}
 use Rattle.machine.specs.Arguments.{file-of, records}

@@ -10,7 +10,6 @@ use Rattle.language.specs.Limits as limit
 use Rattle.language.specs.Values.{Component, Record, File, State, chars, empty-file}
 use Rattle.machine.specs.Arguments.{records}
 use Rattle.machine.specs.Changes.{with-files, put-file, held, recorded}
-use Rattle.machine.specs.Effects as machine
 use Rattle.layout.specs.Bounds.{FileOk, Fine}
 use Rattle.layout.specs.Memory.{scalars, strings}
 use Rattle.layout.specs.MemoryLaws.{string-before, string-after}

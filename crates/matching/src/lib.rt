@@ -57,7 +57,7 @@ fn all_in_class(w: &[u8], mask: u8, places: &[u8]) -> bool
 }
 
 // Whether the component in front is of a class.
-pub fn of_class(x: &[u8], mask: u8) -> bool
+fn of_class(x: &[u8], mask: u8) -> bool
     requires { ⌜ Leading (now x) ⌝ }
     ensures { λ r. ⌜ r ≡ ofClass (class-by [] mask) (component-in (now (x .entry))) ⌝ }
 {
@@ -68,7 +68,7 @@ pub fn of_class(x: &[u8], mask: u8) -> bool
 }
 
 // Whether a component is one of those in `given`.
-pub fn among(x: &[u8], given: &[u8]) -> bool
+fn among(x: &[u8], given: &[u8]) -> bool
     requires { ⌜ Comparable (now x) (now given) ⌝ }
     ensures { λ r. ⌜ r ≡ any (same (component-in (now (x .entry)))) (components-in (now (given .entry))) ⌝ }
 {
@@ -145,7 +145,7 @@ pub fn count(s: &[u8], test: Test, given: &[u8]) -> Taken
 }
 
 // Whether a character is in a list.
-pub fn has(list: &[u8], b: u8) -> bool
+fn has(list: &[u8], b: u8) -> bool
     ensures { λ r. ⌜ r ≡ among b (now (list .entry)) ⌝ }
 {
     let mut i = 0;

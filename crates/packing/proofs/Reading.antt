@@ -9,7 +9,7 @@ use Rattle.lists.specs.Lists.{joined}
 use Rattle.layout.specs.Cells.{two-at}
 use Rattle.layout.specs.CellLaws.{two-back}
 use Rattle.layout.specs.Strings.{lengths, used, string-cells, strings-in}
-use Rattle.layout.specs.StringLaws.{joined-split, length-lengths, lengths-low, lengths-high, strings-back, length-strings-in, length-string-cells}
+use Rattle.layout.specs.StringLaws.{joined-split, length-lengths, lengths-low, lengths-high, length-strings-in, length-string-cells}
 use Rattle.layout.specs.Places as layout
 use Rattle.cells.specs.Cells.{Number}
 use Rattle.gaps.specs.Pool.{string, offset, Holds}

@@ -2,7 +2,7 @@
 use mathlib.Core.Path.{_≡_, refl, ap}
 use mathlib.Core.Bool.{Bool, true, false, _||_}
 use mathlib.Core.List.{List, [], _∷_, _++_}
-use Prim.Native.Nat.{suc, _+_}
+use Prim.Native.Nat.{suc}
 use Rattle.lists.specs.Lists.{any, ahead}
 
 module _ {X : Type 0} (p : X → Bool) where

@@ -6,7 +6,6 @@ use native.Mathlib.Numerals.{add-one}
 use native.Mathlib.Omega.{arith}
 use lib.Dec.{T}
 use lib.ListN.{length}
-use Rattle.language.specs.Limits as limit
 use Rattle.language.specs.Program.{Program}
 use Rattle.language.specs.Values.{State}
 use Rattle.machine.specs.Runs.{ran, Goes}

@@ -1,14 +1,14 @@
 -- One turn of the loops over a text's bytes, as laws over lists; and what two rows of bytes being the same comes to.
 use mathlib.Core.Path.{_≡_, refl, ap, sym, subst, _∙_}
-use mathlib.Core.Bool.{Bool, true, false, cond, not, _&&_, and-true, true≢false, false≢true}
+use mathlib.Core.Bool.{Bool, true, false, cond, not, _&&_, true≢false, false≢true}
 use mathlib.Core.List.{List, [], _∷_, _++_, append-assoc, append-nil}
 use Prim.Native.Nat.{ℕ, zero, suc, _+_, _-_, _≤_, _<_}
 use native.Mathlib.Nat.{zero-add, add-zero}
 use native.Mathlib.Numerals.{add-one}
 use native.Mathlib.Omega.{arith}
 use lib.Dec.{T, leb, eqb, leb·suc-suc}
-use lib.ListN.{length, getD, take, drop, set, length-append, drop-of-length-le}
-use lib.Seq.{drop-drop, set-split}
+use lib.ListN.{length, getD, take, drop, set, length-append}
+use lib.Seq.{set-split}
 use borrow.Author.Tests.{le-leb, lt-leb}
 use Rattle.lists.specs.Lists.{sameBytes}
 use Rattle.lists.specs.ListLaws.{sameBytes-eq, sameBytes-refl}
@@ -16,7 +16,7 @@ use Rattle.cells.specs.Cells.{pasted}
 use Rattle.cells.proofs.Laws.{pasted-none, pasted-pasted}
 use Rattle.syntax.specs.Items.{pair-of, takes-next, char-of}
 use Rattle.syntax.specs.Scan.{text-chars}
-use Rattle.scanner.proofs.Loops.{drop-here, given}
+use Rattle.scanner.proofs.Loops.{drop-here}
 use Rattle.lexer.specs.Tokens.{part}
 use Rattle.spelling.specs.Spelling.{Gives, Put, text-in, Fits-text}
 

@@ -1,15 +1,14 @@
 // The characters of an item: written out, and compared with others.
 ghost use mathlib.Core.Path.{_≡_};
 ghost use Prim.Native.Nat.{_+_, _≤_};
-ghost use lib.ListN.{length, take, drop};
+ghost use lib.ListN.{length};
 ghost use Rattle.lists.specs.Lists.{sameBytes};
 ghost use Rattle.syntax.specs.Items.{char-of};
-ghost use Rattle.lexer.specs.Tokens.{part, chars-of, Stands};
-ghost use Rattle.spelling.specs.Spelling.{Gives, Put, text-in, Between, Fits-text, Fits-token, Two-parts};
+ghost use Rattle.lexer.specs.Tokens.{part, chars-of};
+ghost use Rattle.spelling.specs.Spelling.{Gives, Put, text-in, Fits-text, Fits-token, Two-parts};
 use lexer::Token;
 use scanner::TEXT;
 use scanner::WORD;
-use scanner::one_if;
 use scanner::pair_of;
 use scanner::takes_next;
 

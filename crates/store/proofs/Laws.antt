@@ -5,7 +5,7 @@ use mathlib.Core.Logic.{inl, inr}
 use Prim.Native.Nat.{ℕ, _+_, _-_, _*_, _≤_, _<_}
 use native.Mathlib.Omega.{arith}
 use lib.ListN.{length, take, drop, set, length-append, length-take, length-drop}
-use lib.Seq.{take-take, drop-drop, drop-length}
+use lib.Seq.{take-take, drop-drop}
 use Rattle.layout.specs.Strings.{used}
 use Rattle.layout.specs.Places as layout
 use Rattle.gaps.specs.Pool.{lo, hi, str, abs, string, Ordered, Fine, Holds}
@@ -15,7 +15,7 @@ use Rattle.gaps.proofs.Index.{offset-within}
 use Rattle.gaps.proofs.Parts.{drop-take}
 pub use Rattle.gaps.proofs.Laws.{abs-of, good, after, fine-holds, count, length-abs}
 use Rattle.gaps.proofs.Laws.{string-is, string-part, shaped, changed, ordered-set, str-other, str-lo, str-hi, low-cell, high-cell}
-use Rattle.store.specs.Store.{Long, Whole, Part, droppedFront, droppedBack, emptied}
+use Rattle.store.specs.Store.{Long, Whole, Part, droppedFront, droppedBack}
 
 -- reading
 

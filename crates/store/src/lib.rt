@@ -6,7 +6,7 @@ ghost use lib.ListN.{length, take, drop};
 ghost use Rattle.cells.specs.Cells.{pasted};
 ghost use Rattle.gaps.specs.Pool.{abs, string, Holds};
 ghost use Rattle.gaps.specs.Gaps.{pushedFront, pushedBack};
-ghost use Rattle.store.specs.Store.{Named, Long, Whole, Within, Part, Copyable, Droppable, droppedFront, droppedBack, emptied, Pushable, Movable, movedFront, movedFrontToBack, movedBackToFront, Exchangeable, exchanged};
+ghost use Rattle.store.specs.Store.{Named, Long, Whole, Within, Part, Copyable, Droppable, droppedFront, droppedBack, Pushable, Movable, movedFront, movedFrontToBack, movedBackToFront, Exchangeable, exchanged};
 
 // The length of string `i`.
 pub fn len_of(pool: &[u8], ends: &[u32], i: usize) -> usize

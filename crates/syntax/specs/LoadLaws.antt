@@ -3,12 +3,10 @@ use mathlib.Core.Path.{_≡_, refl}
 use mathlib.Core.Bool.{Bool, true, false}
 use mathlib.Core.List.{List, [], _∷_, _++_}
 use Prim.Native.Nat.{ℕ, min}
-use lib.ListN.{drop}
 use Rattle.language.specs.Values.{chars}
-use Rattle.lists.specs.Lists.{headOr, ifAny}
-use Rattle.syntax.specs.Items.{Sort, Item, is, a-word, a-mark, attach, named, parted, statements}
+use Rattle.lists.specs.Lists.{ifAny}
+use Rattle.syntax.specs.Items.{Sort, Item, is, a-word, a-mark, attach, named}
 use Rattle.syntax.specs.Items.Sort.{separator, word, colon, end, text, wrong}
-use Rattle.syntax.specs.Statements.{is-operator, front, behind}
 use Rattle.syntax.specs.Verdict.{Question, ask, lowest, decide, first-no}
 use Rattle.syntax.specs.Verdict.Verdict.{refuse}
 

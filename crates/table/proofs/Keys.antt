@@ -2,23 +2,22 @@
 use mathlib.Core.Path.{_≡_, refl, sym, ap, _∙_, subst}
 use mathlib.Core.Bool.{Bool, true, false, cond}
 use mathlib.Core.List.{List, [], _∷_}
-use Prim.Native.Nat.{ℕ, zero, suc, _+_, _-_, _*_, _/_, _%_, _≤_, _<_, min}
+use Prim.Native.Nat.{ℕ, suc, _+_, _-_, _*_, _/_, _%_, _≤_, _<_}
 use native.Mathlib.Omega.{arith}
 use native.Mathlib.Numerals.{add-one}
 use lib.Dec.{T, eqb}
-use lib.ListN.{length, getD, take, drop, drop-of-length-le}
-use lib.Seq.{getD-take, getD-drop, drop-cons}
+use lib.ListN.{length, getD, drop, drop-of-length-le}
+use lib.Seq.{drop-cons}
 use borrow.Author.Tests.{eq-eqb, ne-eqb, lt-ltb, le-ltb}
 use Rattle.lists.specs.Lists.{ahead, filled, sameBytes}
 use Rattle.lists.specs.ListLaws.{other-length}
 use Rattle.language.specs.Program.{Label, Entry, no-entry, key-of, label-at}
 use Rattle.layout.specs.CellLaws.{length-tab, getD-tab}
-use Rattle.layout.specs.Cells.{cell, unfours}
+use Rattle.layout.specs.Cells.{cell}
 use Rattle.layout.specs.Table.{chars-in, text-in, text-by, label-in, entry-in, program-of}
 use Rattle.layout.specs.Places as layout
-use Rattle.cells.specs.Cells.{Number}
 use Rattle.packed.specs.Packed.{table-of, Copied}
-use Rattle.packed.proofs.Bytes.{fifteen, fifteen-long, chars-length, and-true}
+use Rattle.packed.proofs.Bytes.{and-true}
 use Rattle.table.specs.Reads.{entries-from, met}
 use Rattle.table.specs.ReadLaws.{label-is}
 

@@ -1,12 +1,12 @@
 -- The program of a lent table, part by part: what stands in its lists is what the readers read.
 use mathlib.Core.Path.{_≡_}
-use mathlib.Core.List.{List, []}
+use mathlib.Core.List.{List}
 use Prim.Native.Nat.{ℕ, _<_}
-use lib.ListN.{length, getD}
+use lib.ListN.{length}
 use Rattle.language.specs.Program.{no-instr, no-label, no-switch, instr-at, label-at, switch-at}
 use Rattle.layout.specs.CellLaws.{length-tab, getD-tab}
 use Rattle.layout.specs.Cells.{cell}
-use Rattle.layout.specs.Table.{text-in, instr-in, label-in, switch-in, program-in, program-of}
+use Rattle.layout.specs.Table.{instr-in, label-in, switch-in, program-in, program-of}
 use Rattle.packed.specs.Packed.{table-of}
 
 module _ (c : List ℕ) where

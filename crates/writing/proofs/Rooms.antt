@@ -15,9 +15,9 @@ use Rattle.layout.specs.Table.{switch-cells, all-entries, table-cells}
 use Rattle.layout.specs.Places as layout
 use Rattle.lists.specs.Lists.{each}
 use Rattle.packed.specs.Packed.{table-of}
-use Rattle.writing.specs.Writing.{no-program, Tabular, HoldsProgram, Cleared, Room, WordRoom, LabelRoom, InstrRoom, SwitchRoom, EntryRoom, ArgumentAt, EntryAt}
+use Rattle.writing.specs.Writing.{no-program, Tabular, HoldsProgram, Cleared, SwitchRoom, EntryRoom, ArgumentAt, EntryAt}
 use Rattle.writing.proofs.Growing.{in-parts}
-use Rattle.writing.proofs.Held.{code-count, label-count, switch-count, entry-count, text-count, number-count}
+use Rattle.writing.proofs.Held.{code-count, switch-count, entry-count}
 use Rattle.writing.proofs.Switching.{entries-of, last-cell}
 
 -- ---- the empty program

@@ -10,7 +10,7 @@ use lib.ListN.{length, getD, set, take, drop, length-set}
 use lib.Seq.{take-at, drop-at}
 use Rattle.language.specs.Program.{Entry, Switch, Program, no-entry}
 use Rattle.lists.specs.Lists.{each, headOr}
-use Rattle.writing.specs.Writing.{with-switches, with-switch, with-entry, and-entry, to-label, relabelled}
+use Rattle.writing.specs.Writing.{with-switches, with-entry, and-entry, to-label, relabelled}
 use Rattle.writing.proofs.Switching.{entries-of, on-last-snoc}
 
 -- ---- entries of the last switch

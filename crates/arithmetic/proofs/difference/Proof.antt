@@ -8,9 +8,6 @@ use Rattle.arithmetic.specs.Arithmetic.{result}
 use Rattle.arithmetic.proofs.Numbers.{mirrored}
 use Rattle.arithmetic.proofs.difference.Statement.{statement}
 use Rattle.arithmetic.proofs.difference.Tie as tie
-use Rattle.arithmetic.proofs.difference.Reads as reads
-use Rattle.arithmetic.proofs.difference.Lts as lts
-use Rattle.arithmetic.proofs.sum.Reads as sum-reads
 
 mul-sum : tie.Need-mul-sum
 mul-sum c = search needs

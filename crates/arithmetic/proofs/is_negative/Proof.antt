@@ -2,8 +2,6 @@
 use Rattle.arithmetic.proofs.Numbers.{negative-is}
 use Rattle.arithmetic.proofs.is_negative.Statement.{statement}
 use Rattle.arithmetic.proofs.is_negative.Tie as tie
-use Rattle.arithmetic.proofs.is_negative.Reads as reads
-use Rattle.arithmetic.proofs.is_negative.Lts as lts
 
 returns : tie.Need-returns
 returns c = negative-is (c .args .code)

@@ -4,10 +4,6 @@ use native.Mathlib.Omega.{arith}
 use Rattle.arithmetic.proofs.Results.{front-long, one-replaceable, one-computed, one-over}
 use Rattle.arithmetic.proofs.put_one.Statement.{statement}
 use Rattle.arithmetic.proofs.put_one.Tie as tie
-use Rattle.arithmetic.proofs.put_one.Reads as reads
-use Rattle.arithmetic.proofs.put_one.Lts as lts
-use Rattle.components.proofs.put_number.Reads as put-number-reads
-use Rattle.operands.proofs.replace.Reads as replace-reads
 
 returns : tie.Need-returns
 returns c =

@@ -4,10 +4,6 @@ use native.Mathlib.Omega.{arith}
 use Rattle.arithmetic.proofs.Results.{front-long, two-replaceable, two-tried}
 use Rattle.arithmetic.proofs.put_two.Statement.{statement}
 use Rattle.arithmetic.proofs.put_two.Tie as tie
-use Rattle.arithmetic.proofs.put_two.Reads as reads
-use Rattle.arithmetic.proofs.put_two.Lts as lts
-use Rattle.components.proofs.put_number.Reads as put-number-reads
-use Rattle.operands.proofs.replace.Reads as replace-reads
 
 put-number-requires : tie.Need-put-number-requires
 put-number-requires c κs =

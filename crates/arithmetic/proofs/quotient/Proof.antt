@@ -7,12 +7,6 @@ use Rattle.arithmetic.specs.Arithmetic.{negative, differ}
 use Rattle.arithmetic.proofs.Numbers.{size-some, quotient-right}
 use Rattle.arithmetic.proofs.quotient.Statement.{statement}
 use Rattle.arithmetic.proofs.quotient.Tie as tie
-use Rattle.arithmetic.proofs.quotient.Reads as reads
-use Rattle.arithmetic.proofs.quotient.Lts as lts
-use Rattle.arithmetic.proofs.differs.Reads as differs-reads
-use Rattle.arithmetic.proofs.is_negative.Reads as is-negative-reads
-use Rattle.arithmetic.proofs.size.Reads as size-reads
-use Rattle.arithmetic.proofs.with_sign.Reads as with-sign-reads
 
 is-negative-requires : tie.Need-is-negative-requires
 is-negative-requires c κs = search needs

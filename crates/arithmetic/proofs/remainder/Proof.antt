@@ -3,11 +3,6 @@ use borrow.Author.Needs.{needs}
 use Rattle.arithmetic.proofs.Numbers.{size-some, remainder-right}
 use Rattle.arithmetic.proofs.remainder.Statement.{statement}
 use Rattle.arithmetic.proofs.remainder.Tie as tie
-use Rattle.arithmetic.proofs.remainder.Reads as reads
-use Rattle.arithmetic.proofs.remainder.Lts as lts
-use Rattle.arithmetic.proofs.is_negative.Reads as is-negative-reads
-use Rattle.arithmetic.proofs.size.Reads as size-reads
-use Rattle.arithmetic.proofs.with_sign.Reads as with-sign-reads
 
 is-negative-requires : tie.Need-is-negative-requires
 is-negative-requires c κs = search needs

@@ -3,8 +3,6 @@ use borrow.Author.Needs.{needs}
 use Rattle.arithmetic.proofs.Numbers.{size-low, size-high}
 use Rattle.arithmetic.proofs.size.Statement.{statement}
 use Rattle.arithmetic.proofs.size.Tie as tie
-use Rattle.arithmetic.proofs.size.Reads as reads
-use Rattle.arithmetic.proofs.size.Lts as lts
 
 sub-result : tie.Need-sub-result
 sub-result c = search needs

@@ -3,8 +3,6 @@ use borrow.Author.Needs.{needs}
 use Rattle.arithmetic.proofs.Numbers.{sum-low, sum-high, sum-in}
 use Rattle.arithmetic.proofs.sum.Statement.{statement}
 use Rattle.arithmetic.proofs.sum.Tie as tie
-use Rattle.arithmetic.proofs.sum.Reads as reads
-use Rattle.arithmetic.proofs.sum.Lts as lts
 
 add-s : tie.Need-add-s
 add-s c = search needs

@@ -3,8 +3,6 @@ use borrow.Author.Needs.{needs}
 use Rattle.arithmetic.proofs.Numbers.{signed-out, signed-minus, signed-plus}
 use Rattle.arithmetic.proofs.with_sign.Statement.{statement}
 use Rattle.arithmetic.proofs.with_sign.Tie as tie
-use Rattle.arithmetic.proofs.with_sign.Reads as reads
-use Rattle.arithmetic.proofs.with_sign.Lts as lts
 
 returns : tie.Need-returns
 returns c = signed-out (c .before .args .minus) (c .before .args .n) (c .if1 .taken)

@@ -1,5 +1,5 @@
 -- `characters::place_in` meets its contract. The invariant: what stands before the byte from index i on, and i, is what stands before it.
-use mathlib.Core.Path.{_≡_, refl, sym, _∙_}
+use mathlib.Core.Path.{_≡_, sym, _∙_}
 use Prim.Native.Nat.{_+_, _-_, _≤_}
 use native.Mathlib.Omega.{arith}
 use lib.Dec.{eqb}

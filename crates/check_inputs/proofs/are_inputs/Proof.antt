@@ -3,9 +3,6 @@ use Rattle.machine.specs.WellFormed.{good-inputs}
 use borrow.Author.Needs.{needs}
 use Rattle.check_inputs.proofs.are_inputs.Statement.{statement}
 use Rattle.check_inputs.proofs.are_inputs.Tie as tie
-use Rattle.check_inputs.proofs.are_inputs.Reads as reads
-use Rattle.check_inputs.proofs.are_inputs.Lts as lts
-use Rattle.check_inputs.proofs.is_input.Reads as is-input-reads
 
 -- src/lib.rt:22:5
 is-input-requires : tie.Need-is-input-requires

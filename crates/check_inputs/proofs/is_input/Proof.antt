@@ -1,9 +1,6 @@
 use borrow.Author.Needs.{needs}
 use Rattle.check_inputs.proofs.is_input.Statement.{statement}
 use Rattle.check_inputs.proofs.is_input.Tie as tie
-use Rattle.check_inputs.proofs.is_input.Reads as reads
-use Rattle.check_inputs.proofs.is_input.Lts as lts
-use Rattle.characters.proofs.all_known.Reads as all-known-reads
 
 -- src/lib.rt:16:35
 all-known-requires : tie.Need-all-known-requires

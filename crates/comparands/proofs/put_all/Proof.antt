@@ -4,10 +4,6 @@ use native.Mathlib.Omega.{arith}
 use Rattle.comparands.proofs.Offering.{all-offered}
 use Rattle.comparands.proofs.put_all.Statement.{statement}
 use Rattle.comparands.proofs.put_all.Tie as tie
-use Rattle.comparands.proofs.put_all.Reads as reads
-use Rattle.comparands.proofs.put_all.Lts as lts
-use Rattle.cells.proofs.put.Reads as put-reads
-use Rattle.state.proofs.expr_bytes.Reads as expr-bytes-reads
 
 expr-bytes-requires : tie.Need-expr-bytes-requires
 expr-bytes-requires c κs =

@@ -4,9 +4,6 @@ use native.Mathlib.Omega.{arith}
 use Rattle.comparands.proofs.Offering.{code-offered}
 use Rattle.comparands.proofs.put_code.Statement.{statement}
 use Rattle.comparands.proofs.put_code.Tie as tie
-use Rattle.comparands.proofs.put_code.Reads as reads
-use Rattle.comparands.proofs.put_code.Lts as lts
-use Rattle.components.proofs.put_number.Reads as put-number-reads
 
 put-number-requires : tie.Need-put-number-requires
 put-number-requires c κs =

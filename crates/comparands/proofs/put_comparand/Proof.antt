@@ -4,11 +4,6 @@ use Rattle.state.specs.Working.{state-at}
 use Rattle.comparands.proofs.Offering.{letter-holdable, text-holdable, code-holdable, as-read, text-argument, code-argument, class-offered, nothing-offered, label-offered, switch-offered}
 use Rattle.comparands.proofs.put_comparand.Statement.{statement}
 use Rattle.comparands.proofs.put_comparand.Tie as tie
-use Rattle.comparands.proofs.put_comparand.Reads as reads
-use Rattle.comparands.proofs.put_comparand.Lts as lts
-use Rattle.comparands.proofs.put_code.Reads as put-code-reads
-use Rattle.comparands.proofs.put_letter.Reads as put-letter-reads
-use Rattle.comparands.proofs.put_text.Reads as put-text-reads
 
 enum-known-arg : tie.Need-enum-known-arg
 enum-known-arg c = search needs

@@ -4,10 +4,6 @@ use native.Mathlib.Omega.{arith}
 use Rattle.comparands.proofs.Offering.{count-refused, count-offered}
 use Rattle.comparands.proofs.put_count.Statement.{statement}
 use Rattle.comparands.proofs.put_count.Tie as tie
-use Rattle.comparands.proofs.put_count.Reads as reads
-use Rattle.comparands.proofs.put_count.Lts as lts
-use Rattle.components.proofs.put_number.Reads as put-number-reads
-use Rattle.operands.proofs.first_number.Reads as first-number-reads
 
 first-number-requires : tie.Need-first-number-requires
 first-number-requires c κs =

@@ -6,11 +6,6 @@ use Rattle.tests.proofs.Values.{front-fits}
 use Rattle.comparands.proofs.Offering.{none-offered, first-offered}
 use Rattle.comparands.proofs.put_first.Statement.{statement}
 use Rattle.comparands.proofs.put_first.Tie as tie
-use Rattle.comparands.proofs.put_first.Reads as reads
-use Rattle.comparands.proofs.put_first.Lts as lts
-use Rattle.cells.proofs.put.Reads as put-reads
-use Rattle.components.proofs.size_by.Reads as size-by-reads
-use Rattle.state.proofs.expr_bytes.Reads as expr-bytes-reads
 
 expr-bytes-requires : tie.Need-expr-bytes-requires
 expr-bytes-requires c κs =

@@ -15,11 +15,6 @@ use Rattle.tests.specs.Prepares.{OtherLetter}
 use Rattle.comparands.proofs.Offering.{readable, letter-offered}
 use Rattle.comparands.proofs.put_letter.Statement.{statement}
 use Rattle.comparands.proofs.put_letter.Tie as tie
-use Rattle.comparands.proofs.put_letter.Reads as reads
-use Rattle.comparands.proofs.put_letter.Lts as lts
-use Rattle.comparands.proofs.put_all.Reads as put-all-reads
-use Rattle.comparands.proofs.put_count.Reads as put-count-reads
-use Rattle.comparands.proofs.put_first.Reads as put-first-reads
 
 -- the letters left by N, T and E
 abbrev others : List ℕ

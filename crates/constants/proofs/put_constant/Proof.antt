@@ -5,10 +5,6 @@ use Rattle.packed.specs.Packed.{table-of}
 use Rattle.constants.proofs.Rows.{as-put, number-put, no-constant}
 use Rattle.constants.proofs.put_constant.Statement.{statement}
 use Rattle.constants.proofs.put_constant.Tie as tie
-use Rattle.constants.proofs.put_constant.Reads as reads
-use Rattle.constants.proofs.put_constant.Lts as lts
-use Rattle.components.proofs.put_number.Reads as put-number-reads
-use Rattle.constants.proofs.put_text.Reads as put-text-reads
 
 enum-known-arg : tie.Need-enum-known-arg
 enum-known-arg c = search needs

@@ -6,11 +6,6 @@ use borrow.Author.Tests.{not-true, not-false}
 use Rattle.constants.proofs.Rows.{expr-full, expr-writable, expr-done}
 use Rattle.constants.proofs.umiesc_expr.Statement.{statement}
 use Rattle.constants.proofs.umiesc_expr.Tie as tie
-use Rattle.constants.proofs.umiesc_expr.Reads as reads
-use Rattle.constants.proofs.umiesc_expr.Lts as lts
-use Rattle.constants.proofs.put_constant.Reads as put-constant-reads
-use Rattle.instructions.proofs.has_room.Reads as has-room-reads
-use Rattle.state.proofs.write_parts.Reads as write-parts-reads
 
 put-constant-requires : tie.Need-put-constant-requires
 put-constant-requires c κs =

@@ -5,13 +5,6 @@ use lib.ListN.{length-take}
 use Rattle.constants.proofs.Rows.{file-stop, file-recordable, file-writable, file-done}
 use Rattle.constants.proofs.umiesc_file.Statement.{statement}
 use Rattle.constants.proofs.umiesc_file.Tie as tie
-use Rattle.constants.proofs.umiesc_file.Reads as reads
-use Rattle.constants.proofs.umiesc_file.Lts as lts
-use Rattle.constants.proofs.put_constant.Reads as put-constant-reads
-use Rattle.filing.proofs.write_records.Reads as write-records-reads
-use Rattle.records.proofs.put_record.Reads as put-record-reads
-use Rattle.state.proofs.number.Reads as number-reads
-use Rattle.transfers.proofs.room_for.Reads as room-for-reads
 
 put-constant-requires : tie.Need-put-constant-requires
 put-constant-requires c κs =

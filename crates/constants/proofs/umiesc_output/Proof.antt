@@ -6,11 +6,6 @@ use Rattle.tests.proofs.Values.{copied-in}
 use Rattle.constants.proofs.Rows.{output-full, printable, output-done}
 use Rattle.constants.proofs.umiesc_output.Statement.{statement}
 use Rattle.constants.proofs.umiesc_output.Tie as tie
-use Rattle.constants.proofs.umiesc_output.Reads as reads
-use Rattle.constants.proofs.umiesc_output.Lts as lts
-use Rattle.state.proofs.output_len.Reads as output-len-reads
-use Rattle.state.proofs.print.Reads as print-reads
-use Rattle.table.proofs.put_text.Reads as put-text-reads
 
 slice-aggregate-put-text : tie.Need-slice-aggregate-put-text
 slice-aggregate-put-text c = search needs

@@ -5,12 +5,6 @@ use Rattle.tests.proofs.Values.{leading}
 use Rattle.converting.proofs.Numerals.{none-told, kind-told, wrong-told, over-told, code-told}
 use Rattle.converting.proofs.first_numeral.Statement.{statement}
 use Rattle.converting.proofs.first_numeral.Tie as tie
-use Rattle.converting.proofs.first_numeral.Reads as reads
-use Rattle.converting.proofs.first_numeral.Lts as lts
-use Rattle.components.proofs.chars_of.Reads as chars-of-reads
-use Rattle.components.proofs.kind_of.Reads as kind-of-reads
-use Rattle.decimals.proofs.read_decimal.Reads as read-decimal-reads
-use Rattle.state.proofs.expr_bytes.Reads as expr-bytes-reads
 
 expr-bytes-requires : tie.Need-expr-bytes-requires
 expr-bytes-requires c κs =

@@ -4,11 +4,6 @@ use native.Mathlib.Omega.{arith}
 use Rattle.converting.proofs.Rows.{number-replaceable, front-long, liczba-stop, liczba-done}
 use Rattle.converting.proofs.liczba.Statement.{statement}
 use Rattle.converting.proofs.liczba.Tie as tie
-use Rattle.converting.proofs.liczba.Reads as reads
-use Rattle.converting.proofs.liczba.Lts as lts
-use Rattle.components.proofs.put_number.Reads as put-number-reads
-use Rattle.converting.proofs.first_numeral.Reads as first-numeral-reads
-use Rattle.operands.proofs.replace.Reads as replace-reads
 
 first-numeral-requires : tie.Need-first-numeral-requires
 first-numeral-requires c κs =

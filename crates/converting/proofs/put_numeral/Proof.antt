@@ -5,10 +5,6 @@ use lib.ListN.{length-take}
 use Rattle.converting.proofs.Numerals.{numeral-put}
 use Rattle.converting.proofs.put_numeral.Statement.{statement}
 use Rattle.converting.proofs.put_numeral.Tie as tie
-use Rattle.converting.proofs.put_numeral.Reads as reads
-use Rattle.converting.proofs.put_numeral.Lts as lts
-use Rattle.components.proofs.put_word.Reads as put-word-reads
-use Rattle.decimals.proofs.put_decimal.Reads as put-decimal-reads
 
 slice-aggregate-put-decimal : tie.Need-slice-aggregate-put-decimal
 slice-aggregate-put-decimal c = search needs

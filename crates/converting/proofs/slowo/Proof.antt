@@ -4,11 +4,6 @@ use native.Mathlib.Omega.{arith}
 use Rattle.converting.proofs.Rows.{word-replaceable, front-long, slowo-stop, slowo-done}
 use Rattle.converting.proofs.slowo.Statement.{statement}
 use Rattle.converting.proofs.slowo.Tie as tie
-use Rattle.converting.proofs.slowo.Reads as reads
-use Rattle.converting.proofs.slowo.Lts as lts
-use Rattle.converting.proofs.put_numeral.Reads as put-numeral-reads
-use Rattle.operands.proofs.first_number.Reads as first-number-reads
-use Rattle.operands.proofs.replace.Reads as replace-reads
 
 first-number-requires : tie.Need-first-number-requires
 first-number-requires c κs =

@@ -9,17 +9,6 @@ use Rattle.transfers.proofs.Rooms.{left-most}
 use Rattle.copying.proofs.Taking.{front, part-long, bytes-few, droppable, records-few, parts-few, chars-few, copy-stop, copyable, copy-writable, copy-done}
 use Rattle.copying.proofs.copy_taken.Statement.{statement}
 use Rattle.copying.proofs.copy_taken.Tie as tie
-use Rattle.copying.proofs.copy_taken.Reads as reads
-use Rattle.copying.proofs.copy_taken.Lts as lts
-use Rattle.copying.proofs.file_copies.Reads as file-copies-reads
-use Rattle.copying.proofs.restamp.Reads as restamp-reads
-use Rattle.filing.proofs.after_bytes.Reads as after-bytes-reads
-use Rattle.filing.proofs.past_records.Reads as past-records-reads
-use Rattle.records.proofs.count.Reads as count-reads
-use Rattle.records.proofs.totals_of.Reads as totals-of-reads
-use Rattle.state.proofs.number.Reads as number-reads
-use Rattle.transfers.proofs.left.Reads as left-reads
-use Rattle.transfers.proofs.room_for.Reads as room-for-reads
 
 after-bytes-requires : tie.Need-after-bytes-requires
 after-bytes-requires c κs =

@@ -9,13 +9,6 @@ use Rattle.instructions.proofs.Answers.{one-after}
 use Rattle.copying.proofs.Taking.{front, part-long, droppable, gone}
 use Rattle.copying.proofs.drop_taken.Statement.{statement}
 use Rattle.copying.proofs.drop_taken.Tie as tie
-use Rattle.copying.proofs.drop_taken.Reads as reads
-use Rattle.copying.proofs.drop_taken.Lts as lts
-use Rattle.filing.proofs.after_bytes.Reads as after-bytes-reads
-use Rattle.filing.proofs.drop_records.Reads as drop-records-reads
-use Rattle.records.proofs.count.Reads as count-reads
-use Rattle.records.proofs.totals_of.Reads as totals-of-reads
-use Rattle.state.proofs.minus_unless.Reads as minus-unless-reads
 
 after-bytes-requires : tie.Need-after-bytes-requires
 after-bytes-requires c κs =

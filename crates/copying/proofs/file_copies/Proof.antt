@@ -7,10 +7,6 @@ use Rattle.filing.specs.Files.{bodies}
 use Rattle.instructions.proofs.Answers.{one-after}
 use Rattle.copying.proofs.file_copies.Statement.{statement}
 use Rattle.copying.proofs.file_copies.Tie as tie
-use Rattle.copying.proofs.file_copies.Reads as reads
-use Rattle.copying.proofs.file_copies.Lts as lts
-use Rattle.filing.proofs.write_records.Reads as write-records-reads
-use Rattle.state.proofs.minus_unless.Reads as minus-unless-reads
 
 write-records-requires : tie.Need-write-records-requires
 write-records-requires c κs =

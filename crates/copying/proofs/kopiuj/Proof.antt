@@ -6,10 +6,6 @@ use Rattle.table.specs.Denote.{arg-of}
 use Rattle.copying.proofs.Rows.{kopiuj-stop, kopiuj-done}
 use Rattle.copying.proofs.kopiuj.Statement.{statement}
 use Rattle.copying.proofs.kopiuj.Tie as tie
-use Rattle.copying.proofs.kopiuj.Reads as reads
-use Rattle.copying.proofs.kopiuj.Lts as lts
-use Rattle.copying.proofs.copy_taken.Reads as copy-taken-reads
-use Rattle.record_tests.proofs.prepare.Reads as prepare-reads
 
 prepare-requires : tie.Need-prepare-requires
 prepare-requires c κs =

@@ -5,10 +5,6 @@ use Rattle.table.specs.Denote.{arg-of}
 use Rattle.copying.proofs.Rows.{beside-long, omin-stop, omin-done}
 use Rattle.copying.proofs.omin.Statement.{statement}
 use Rattle.copying.proofs.omin.Tie as tie
-use Rattle.copying.proofs.omin.Reads as reads
-use Rattle.copying.proofs.omin.Lts as lts
-use Rattle.copying.proofs.pass_taken.Reads as pass-taken-reads
-use Rattle.record_tests.proofs.prepare.Reads as prepare-reads
 
 prepare-requires : tie.Need-prepare-requires
 prepare-requires c κs =

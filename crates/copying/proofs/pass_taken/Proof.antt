@@ -8,12 +8,6 @@ use Rattle.instructions.proofs.Answers.{one-after}
 use Rattle.copying.proofs.Taking.{passable, gone}
 use Rattle.copying.proofs.pass_taken.Statement.{statement}
 use Rattle.copying.proofs.pass_taken.Tie as tie
-use Rattle.copying.proofs.pass_taken.Reads as reads
-use Rattle.copying.proofs.pass_taken.Lts as lts
-use Rattle.filing.proofs.after_bytes.Reads as after-bytes-reads
-use Rattle.filing.proofs.pass_records.Reads as pass-records-reads
-use Rattle.records.proofs.count.Reads as count-reads
-use Rattle.state.proofs.minus_unless.Reads as minus-unless-reads
 
 after-bytes-requires : tie.Need-after-bytes-requires
 after-bytes-requires c κs =

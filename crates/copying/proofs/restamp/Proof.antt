@@ -6,10 +6,6 @@ use Rattle.machine.specs.Changes.{stamped}
 use Rattle.copying.proofs.Taking.{by-turn}
 use Rattle.copying.proofs.restamp.Statement.{statement}
 use Rattle.copying.proofs.restamp.Tie as tie
-use Rattle.copying.proofs.restamp.Reads as reads
-use Rattle.copying.proofs.restamp.Lts as lts
-use Rattle.records.proofs.stamp.Reads as stamp-reads
-use Rattle.records.proofs.stamp_reversed.Reads as stamp-reversed-reads
 
 stamp-reversed-requires : tie.Need-stamp-reversed-requires
 stamp-reversed-requires c κs =

@@ -5,10 +5,6 @@ use Rattle.table.specs.Denote.{arg-of}
 use Rattle.copying.proofs.Rows.{beside-long, skresl-stop, skresl-done}
 use Rattle.copying.proofs.skresl.Statement.{statement}
 use Rattle.copying.proofs.skresl.Tie as tie
-use Rattle.copying.proofs.skresl.Reads as reads
-use Rattle.copying.proofs.skresl.Lts as lts
-use Rattle.copying.proofs.drop_taken.Reads as drop-taken-reads
-use Rattle.record_tests.proofs.prepare.Reads as prepare-reads
 
 prepare-requires : tie.Need-prepare-requires
 prepare-requires c κs =

@@ -4,10 +4,6 @@ use Rattle.state.specs.Working.{state-at}
 use Rattle.equality.proofs.Rows.{finish-done, finish-failed}
 use Rattle.equality.proofs.finish.Statement.{statement}
 use Rattle.equality.proofs.finish.Tie as tie
-use Rattle.equality.proofs.finish.Reads as reads
-use Rattle.equality.proofs.finish.Lts as lts
-use Rattle.state.proofs.minus_unless.Reads as minus-unless-reads
-use Rattle.state.proofs.past_parts.Reads as past-parts-reads
 
 past-parts-requires : tie.Need-past-parts-requires
 past-parts-requires c κs =

@@ -15,8 +15,6 @@ use Rattle.table.proofs.Letters.{tag}
 use Rattle.tests.specs.Prepares.{OtherLetter}
 use Rattle.equality.proofs.is_one.Statement.{statement}
 use Rattle.equality.proofs.is_one.Tie as tie
-use Rattle.equality.proofs.is_one.Reads as reads
-use Rattle.equality.proofs.is_one.Lts as lts
 
 -- the letters left by E and T
 abbrev others : List ℕ

@@ -3,9 +3,6 @@ use borrow.Author.Needs.{needs}
 use mathlib.Core.Path.{refl}
 use Rattle.equality.proofs.is_single.Statement.{statement}
 use Rattle.equality.proofs.is_single.Tie as tie
-use Rattle.equality.proofs.is_single.Reads as reads
-use Rattle.equality.proofs.is_single.Lts as lts
-use Rattle.equality.proofs.is_one.Reads as is-one-reads
 
 enum-known-arg : tie.Need-enum-known-arg
 enum-known-arg c = search needs

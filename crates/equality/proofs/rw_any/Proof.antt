@@ -7,13 +7,6 @@ use Rattle.equality.proofs.Rows.{held-long}
 use Rattle.equality.proofs.Anys.{any-stop, any-done}
 use Rattle.equality.proofs.rw_any.Statement.{statement}
 use Rattle.equality.proofs.rw_any.Tie as tie
-use Rattle.equality.proofs.rw_any.Reads as reads
-use Rattle.equality.proofs.rw_any.Lts as lts
-use Rattle.comparands.proofs.put_comparand.Reads as put-comparand-reads
-use Rattle.equality.proofs.test_of.Reads as test-of-reads
-use Rattle.matching.proofs.count.Reads as count-reads
-use Rattle.state.proofs.expr_bytes.Reads as expr-bytes-reads
-use Rattle.state.proofs.minus_unless.Reads as minus-unless-reads
 
 put-comparand-requires : tie.Need-put-comparand-requires
 put-comparand-requires c κs =

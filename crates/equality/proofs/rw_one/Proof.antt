@@ -10,12 +10,6 @@ use Rattle.equality.proofs.Questions.{leading-other}
 use Rattle.equality.proofs.Rows.{held-long, rw-none, rw-stop, rw-unlike, rw-done}
 use Rattle.equality.proofs.rw_one.Statement.{statement}
 use Rattle.equality.proofs.rw_one.Tie as tie
-use Rattle.equality.proofs.rw_one.Reads as reads
-use Rattle.equality.proofs.rw_one.Lts as lts
-use Rattle.comparands.proofs.put_comparand.Reads as put-comparand-reads
-use Rattle.equality.proofs.settle.Reads as settle-reads
-use Rattle.equality.proofs.unlike.Reads as unlike-reads
-use Rattle.state.proofs.expr_bytes.Reads as expr-bytes-reads
 
 put-comparand-requires : tie.Need-put-comparand-requires
 put-comparand-requires c κs =

@@ -5,14 +5,6 @@ use Rattle.tests.proofs.Values.{leading}
 use Rattle.equality.proofs.Meeting.{some-there, first-long, first-whole, first-parts, settled-done, fitting-by}
 use Rattle.equality.proofs.settle.Statement.{statement}
 use Rattle.equality.proofs.settle.Tie as tie
-use Rattle.equality.proofs.settle.Reads as reads
-use Rattle.equality.proofs.settle.Lts as lts
-use Rattle.components.proofs.chars_of.Reads as chars-of-reads
-use Rattle.components.proofs.first_size.Reads as first-size-reads
-use Rattle.equality.proofs.finish.Reads as finish-reads
-use Rattle.equality.proofs.test_of.Reads as test-of-reads
-use Rattle.matching.proofs.count.Reads as count-reads
-use Rattle.state.proofs.expr_bytes.Reads as expr-bytes-reads
 
 expr-bytes-requires : tie.Need-expr-bytes-requires
 expr-bytes-requires c κs =

@@ -10,8 +10,6 @@ use Rattle.table.specs.declared.Argument.the-variants.{Nothing, Indexed, Label,
 use Rattle.equality.specs.Equality.{test-of}
 use Rattle.equality.proofs.test_of.Statement.{statement}
 use Rattle.equality.proofs.test_of.Tie as tie
-use Rattle.equality.proofs.test_of.Reads as reads
-use Rattle.equality.proofs.test_of.Lts as lts
 
 -- the arguments left by a class
 abbrev others : List ℕ

@@ -4,10 +4,6 @@ use borrow.Author.Tests.{not-false}
 use Rattle.equality.proofs.Meeting.{unlike-no, unlike-yes}
 use Rattle.equality.proofs.unlike.Statement.{statement}
 use Rattle.equality.proofs.unlike.Tie as tie
-use Rattle.equality.proofs.unlike.Reads as reads
-use Rattle.equality.proofs.unlike.Lts as lts
-use Rattle.components.proofs.kind_of.Reads as kind-of-reads
-use Rattle.equality.proofs.is_single.Reads as is-single-reads
 
 is-single-requires : tie.Need-is-single-requires
 is-single-requires c κs =

@@ -5,13 +5,6 @@ use mathlib.Core.Path.{refl}
 use Rattle.finishing.proofs.Ending.{names-most, table-long, kept, no-section, not-ended, finished}
 use Rattle.finishing.proofs.finish.Statement.{statement}
 use Rattle.finishing.proofs.finish.Tie as tie
-use Rattle.finishing.proofs.finish.Reads as reads
-use Rattle.finishing.proofs.finish.Lts as lts
-use Rattle.closing.proofs.end_fault.Reads as end-fault-reads
-use Rattle.declaring.proofs.lowest_mark.Reads as lowest-mark-reads
-use Rattle.finishing.proofs.last_place.Reads as last-place-reads
-use Rattle.finishing.proofs.link_names.Reads as link-names-reads
-use Rattle.table.proofs.instructions.Reads as instructions-reads
 
 last-place-requires : tie.Need-last-place-requires
 last-place-requires c κs = search needs

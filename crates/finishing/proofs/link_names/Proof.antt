@@ -3,9 +3,6 @@ use borrow.Author.Needs.{needs}
 use Rattle.finishing.proofs.Ending.{linked-done, linked-label, linked-switch}
 use Rattle.finishing.proofs.link_names.Statement.{statement}
 use Rattle.finishing.proofs.link_names.Tie as tie
-use Rattle.finishing.proofs.link_names.Reads as reads
-use Rattle.finishing.proofs.link_names.Lts as lts
-use Rattle.linking.proofs.resolve.Reads as resolve-reads
 
 resolve-requires : tie.Need-resolve-requires
 resolve-requires c κs = (c .before .before .before .before .before .pre)

@@ -5,13 +5,6 @@ use Rattle.readings.proofs.Reading.{from-inside}
 use Rattle.equality.proofs.Meeting.{fitting-by}
 use Rattle.input_equality.proofs.compare.Statement.{statement}
 use Rattle.input_equality.proofs.compare.Tie as tie
-use Rattle.input_equality.proofs.compare.Reads as reads
-use Rattle.input_equality.proofs.compare.Lts as lts
-use Rattle.equality.proofs.test_of.Reads as test-of-reads
-use Rattle.joining.proofs.some.Reads as some-reads
-use Rattle.readings.proofs.take_chars.Reads as take-chars-reads
-use Rattle.state.proofs.minus_unless.Reads as minus-unless-reads
-use Rattle.state.proofs.place.Reads as place-reads
 
 place-requires : tie.Need-place-requires
 place-requires c κs =

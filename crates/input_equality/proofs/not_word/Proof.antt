@@ -4,10 +4,6 @@ use borrow.Author.Tests.{not-false}
 use mathlib.Core.Path.{refl, sym, _∙_}
 use Rattle.input_equality.proofs.not_word.Statement.{statement}
 use Rattle.input_equality.proofs.not_word.Tie as tie
-use Rattle.input_equality.proofs.not_word.Reads as reads
-use Rattle.input_equality.proofs.not_word.Lts as lts
-use Rattle.components.proofs.kind_of.Reads as kind-of-reads
-use Rattle.equality.proofs.is_single.Reads as is-single-reads
 
 is-single-requires : tie.Need-is-single-requires
 is-single-requires c κs =

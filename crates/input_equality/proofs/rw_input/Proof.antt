@@ -11,11 +11,6 @@ use mathlib.Core.List.{[]}
 use native.Mathlib.Omega.{arith}
 use Rattle.input_equality.proofs.rw_input.Statement.{statement}
 use Rattle.input_equality.proofs.rw_input.Tie as tie
-use Rattle.input_equality.proofs.rw_input.Reads as reads
-use Rattle.input_equality.proofs.rw_input.Lts as lts
-use Rattle.comparands.proofs.put_comparand.Reads as put-comparand-reads
-use Rattle.input_equality.proofs.compare.Reads as compare-reads
-use Rattle.input_equality.proofs.not_word.Reads as not-word-reads
 
 put-comparand-requires : tie.Need-put-comparand-requires
 put-comparand-requires c κs =

@@ -2,9 +2,6 @@ use borrow.Author.Needs.{needs}
 use Rattle.instructions.proofs.Room.{no-room, room-left}
 use Rattle.instructions.proofs.has_room.Statement.{statement}
 use Rattle.instructions.proofs.has_room.Tie as tie
-use Rattle.instructions.proofs.has_room.Reads as reads
-use Rattle.instructions.proofs.has_room.Lts as lts
-use Rattle.state.proofs.number.Reads as number-reads
 
 -- src/lib.rt:17:30
 number-requires : tie.Need-number-requires

@@ -2,11 +2,6 @@ use borrow.Author.Needs.{needs}
 use Rattle.interpreter.proofs.Deciding.{both-asked}
 use Rattle.interpreter.proofs.ask.Statement.{statement}
 use Rattle.interpreter.proofs.ask.Tie as tie
-use Rattle.interpreter.proofs.ask.Reads as reads
-use Rattle.interpreter.proofs.ask.Lts as lts
-use Rattle.check_inputs.proofs.are_inputs.Reads as are-inputs-reads
-use Rattle.check_table.proofs.is_table.Reads as is-table-reads
-use Rattle.interpreter.proofs.first_no.Reads as first-no-reads
 
 is-table-requires : tie.Need-is-table-requires
 is-table-requires c κs = search needs

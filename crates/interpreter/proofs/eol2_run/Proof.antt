@@ -6,12 +6,6 @@ use Rattle.calls.specs.Calls.Call.{run-on}
 use Rattle.interpreter.proofs.Deciding.{refused-early, refused-63, asked, runnable, run-made}
 use Rattle.interpreter.proofs.eol2_run.Statement.{statement}
 use Rattle.interpreter.proofs.eol2_run.Tie as tie
-use Rattle.interpreter.proofs.eol2_run.Reads as reads
-use Rattle.interpreter.proofs.eol2_run.Lts as lts
-use Rattle.check_state.proofs.is_state.Reads as is-state-reads
-use Rattle.interpreter.proofs.ask.Reads as ask-reads
-use Rattle.interpreter.proofs.packed.Reads as packed-reads
-use Rattle.running.proofs.run.Reads as run-reads
 
 ask-requires : tie.Need-ask-requires
 ask-requires c κs = search needs

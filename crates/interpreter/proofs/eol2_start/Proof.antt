@@ -4,11 +4,6 @@ use Rattle.calls.specs.Calls.Call.{start-on}
 use Rattle.interpreter.proofs.Deciding.{refused-early, short-63, start-made}
 use Rattle.interpreter.proofs.eol2_start.Statement.{statement}
 use Rattle.interpreter.proofs.eol2_start.Tie as tie
-use Rattle.interpreter.proofs.eol2_start.Reads as reads
-use Rattle.interpreter.proofs.eol2_start.Lts as lts
-use Rattle.interpreter.proofs.ask.Reads as ask-reads
-use Rattle.interpreter.proofs.packed.Reads as packed-reads
-use Rattle.starting.proofs.start.Reads as start-reads
 
 ask-requires : tie.Need-ask-requires
 ask-requires c κs = search needs

@@ -2,8 +2,6 @@ use borrow.Author.Tests.{not-true, not-false}
 use Rattle.interpreter.proofs.Deciding.{is-62-of, is-61-of, is-0-of}
 use Rattle.interpreter.proofs.first_no.Statement.{statement}
 use Rattle.interpreter.proofs.first_no.Tie as tie
-use Rattle.interpreter.proofs.first_no.Reads as reads
-use Rattle.interpreter.proofs.first_no.Lts as lts
 
 returns : tie.Need-returns
 returns c = is-62-of (c .before .args .fine) (c .before .args .right) (not-true (c .before .args .fine) (c .if1 .taken))

@@ -1,6 +1,5 @@
 -- `judging::first_item` meets its contract.
 use mathlib.Core.Path.{sym, _∙_}
-use Prim.Native.Nat.{_-_}
 use borrow.Author.Needs.{needs}
 use Rattle.judging.specs.NameLaws.{no-first, first-here}
 use Rattle.judging.proofs.first_item.Statement.{statement}

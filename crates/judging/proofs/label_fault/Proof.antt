@@ -1,6 +1,5 @@
 -- `judging::label_fault` meets its contract.
 use mathlib.Core.Path.{sym, _∙_}
-use Prim.Native.Nat.{_-_}
 use borrow.Author.Needs.{needs}
 use borrow.Author.Tests.{not-true, not-false}
 use Rattle.judging.specs.LabelLaws.{no-switch, many-wait, one-waits, none-waits, own-labels}

@@ -1,6 +1,5 @@
 -- `judging::less_one` meets its contract.
 use mathlib.Core.Path.{refl}
-use Prim.Native.Nat.{_-_}
 use native.Mathlib.Omega.{arith}
 use borrow.Author.Needs.{needs}
 use Rattle.judging.proofs.less_one.Statement.{statement}

@@ -1,6 +1,5 @@
 -- `judging::name_fault` meets its contract.
 use mathlib.Core.Path.{sym, ap, _∙_}
-use Prim.Native.Nat.{_-_}
 use Rattle.statements.specs.StatementAt.{fault-of}
 use Rattle.judging.specs.Judging.{after-name}
 use Rattle.judging.specs.NameLaws.{wrong-name, name-with-colon, name-alone}

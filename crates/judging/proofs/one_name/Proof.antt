@@ -1,6 +1,5 @@
 -- `judging::one_name` meets its contract.
 use mathlib.Core.Path.{sym, ap, _∙_}
-use Prim.Native.Nat.{_-_}
 use borrow.Author.Needs.{needs}
 use Rattle.language.specs.Program.{identifier}
 use Rattle.statements.specs.StatementAt.{fault-of}

@@ -1,6 +1,5 @@
 -- `judging::same_name` meets its contract.
 use mathlib.Core.Path.{sym, ap, _∙_}
-use Prim.Native.Nat.{_-_}
 use borrow.Author.Needs.{needs}
 use Rattle.lists.specs.Lists.{sameBytes}
 use Rattle.statements.specs.StatementAt.{fault-of}

@@ -1,7 +1,6 @@
 -- `judging::section_fault` meets its contract.
 use mathlib.Core.Path.{sym, ap, _∙_}
 use mathlib.Core.Bool.{_&&_}
-use Prim.Native.Nat.{_-_}
 use lib.Dec.{eqb}
 use borrow.Author.Needs.{needs}
 use Rattle.statements.specs.StatementAt.{fault-of}

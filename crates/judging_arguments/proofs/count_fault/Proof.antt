@@ -1,6 +1,5 @@
 -- `judging_arguments::count_fault` meets its contract.
 use mathlib.Core.Path.{sym, ap, _∙_}
-use Prim.Native.Nat.{_-_}
 use lib.ListN.{drop}
 use borrow.Author.Needs.{needs}
 use Rattle.statements.specs.StatementAt.{statement-at, fault-of}

@@ -1,6 +1,5 @@
 -- `judging_arguments::kinds_at` meets its contract.
 use mathlib.Core.Path.{sym, _∙_}
-use Prim.Native.Nat.{_-_}
 use borrow.Author.Needs.{needs}
 use Rattle.judging_arguments.specs.ArgumentLaws.{kinds-text, kinds-word, kinds-none}
 use Rattle.judging_arguments.proofs.kinds_at.Statement.{statement}

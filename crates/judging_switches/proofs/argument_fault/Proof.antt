@@ -1,6 +1,5 @@
 -- `judging_switches::argument_fault` meets its contract.
 use mathlib.Core.Path.{sym, ap, _∙_}
-use Prim.Native.Nat.{_-_}
 use borrow.Author.Needs.{needs}
 use Rattle.statements.specs.StatementAt.{fault-of}
 use Rattle.judging_switches.specs.SwitchLaws.{of-instr, of-switch, of-neither}

@@ -1,7 +1,6 @@
 -- `judging_switches::entry_fault` meets its contract.
 use mathlib.Core.Path.{sym, ap, _∙_}
 use mathlib.Core.Bool.{_&&_}
-use Prim.Native.Nat.{_-_}
 use Rattle.judging_switches.specs.SwitchLaws.{name-bare, name-with-text, name-with-colon, text-after-name, no-entry}
 use Rattle.judging_switches.proofs.entry_fault.Statement.{statement}
 use Rattle.judging_switches.proofs.entry_fault.Tie as tie

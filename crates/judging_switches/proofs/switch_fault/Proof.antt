@@ -1,6 +1,5 @@
 -- `judging_switches::switch_fault` meets its contract.
 use mathlib.Core.Path.{sym, ap, _∙_}
-use Prim.Native.Nat.{_-_}
 use borrow.Author.Needs.{needs}
 use Rattle.statements.specs.StatementAt.{fault-of}
 use Rattle.judging_switches.specs.SwitchLaws.{no-list, a-list}

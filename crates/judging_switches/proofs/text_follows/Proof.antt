@@ -1,5 +1,4 @@
 -- `judging_switches::text_follows` meets its contract.
-use Prim.Native.Nat.{_-_}
 use borrow.Author.Needs.{needs}
 use Rattle.judging_switches.specs.SwitchLaws.{text-next-is}
 use Rattle.judging_switches.proofs.text_follows.Statement.{statement}

@@ -4,10 +4,6 @@ use native.Mathlib.Omega.{arith}
 use Rattle.loading.proofs.Outcomes.{line-within}
 use Rattle.loading.proofs.line_at.Statement.{statement}
 use Rattle.loading.proofs.line_at.Tie as tie
-use Rattle.loading.proofs.line_at.Reads as reads
-use Rattle.loading.proofs.line_at.Lts as lts
-use Rattle.lexer.proofs.count_lines.Reads as count-lines-reads
-use Rattle.loading.proofs.lesser.Reads as lesser-reads
 
 lesser-requires : tie.Need-lesser-requires
 lesser-requires c κs = search needs

@@ -5,11 +5,6 @@ use mathlib.Core.Path.{refl}
 use Rattle.loading.proofs.Outcomes.{short-table, long-text, loadable, load-accepted, load-refused}
 use Rattle.loading.proofs.load.Statement.{statement}
 use Rattle.loading.proofs.load.Tie as tie
-use Rattle.loading.proofs.load.Reads as reads
-use Rattle.loading.proofs.load.Lts as lts
-use Rattle.loading.proofs.load_text.Reads as load-text-reads
-use Rattle.loading.proofs.refuse.Reads as refuse-reads
-use Rattle.writing.proofs.clear_table.Reads as clear-table-reads
 
 returns : tie.Need-returns
 returns c = short-table (c .before .before .before .args .text .now) (c .before .before .before .args .table .now) (c .if1 .taken) refl refl

@@ -4,10 +4,6 @@ use mathlib.Core.Path.{refl}
 use Rattle.loading.proofs.Outcomes.{unread, text-refused, finishable, text-finished}
 use Rattle.loading.proofs.load_text.Statement.{statement}
 use Rattle.loading.proofs.load_text.Tie as tie
-use Rattle.loading.proofs.load_text.Reads as reads
-use Rattle.loading.proofs.load_text.Lts as lts
-use Rattle.finishing.proofs.finish.Reads as finish-reads
-use Rattle.loading.proofs.read_statements.Reads as read-statements-reads
 
 slice-aggregate-read-statements : tie.Need-slice-aggregate-read-statements
 slice-aggregate-read-statements c = search needs

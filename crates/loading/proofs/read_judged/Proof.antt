@@ -4,9 +4,6 @@ use native.Mathlib.Omega.{arith}
 use Rattle.loading.proofs.Walking.{judged-low, readable, refused-judged, read-judged}
 use Rattle.loading.proofs.read_judged.Statement.{statement}
 use Rattle.loading.proofs.read_judged.Tie as tie
-use Rattle.loading.proofs.read_judged.Reads as reads
-use Rattle.loading.proofs.read_judged.Lts as lts
-use Rattle.reading_statements.proofs.read_statement.Reads as read-statement-reads
 
 enum-known-verdict : tie.Need-enum-known-verdict
 enum-known-verdict c = search needs

@@ -7,12 +7,6 @@ use lib.ListN.{length}
 use Rattle.loading.proofs.Walking.{other, line-low, Looping, going-none, part-here, judged, going-refused, going-last, going-next}
 use Rattle.loading.proofs.read_statements.Statement.{statement}
 use Rattle.loading.proofs.read_statements.Tie as tie
-use Rattle.loading.proofs.read_statements.Reads as reads
-use Rattle.loading.proofs.read_statements.Lts as lts
-use Rattle.lexer.proofs.count_lines.Reads as count-lines-reads
-use Rattle.loading.proofs.read_judged.Reads as read-judged-reads
-use Rattle.progress.proofs.begin.Reads as begin-reads
-use Rattle.unread.proofs.read_part.Reads as read-part-reads
 
 abbrev Inv-loop : tie.InvT-loop
 Inv-loop text names₀ table₀ switches₀ entries₀ p₀ n₀ line₀ names table switches entries p n line = Looping text table₀ n line p names table switches entries (length names₀) (length table₀) (length switches₀) (length entries₀)

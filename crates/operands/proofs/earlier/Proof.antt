@@ -2,8 +2,6 @@
 use borrow.Author.Tests.{eq-eqb, ne-eqb, lt-ltb, le-ltb}
 use Rattle.operands.proofs.earlier.Statement.{statement}
 use Rattle.operands.proofs.earlier.Tie as tie
-use Rattle.operands.proofs.earlier.Reads as reads
-use Rattle.operands.proofs.earlier.Lts as lts
 
 returns : tie.Need-returns
 returns c = simp (eq-eqb _ _ (c .if1 .taken))

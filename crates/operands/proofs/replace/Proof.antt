@@ -9,12 +9,6 @@ use mathlib.Core.Bool.{false}
 use Rattle.operands.proofs.Replacing.{picked-most, full-parts, full-chars, droppable, writable, replaced-done}
 use Rattle.operands.proofs.replace.Statement.{statement}
 use Rattle.operands.proofs.replace.Tie as tie
-use Rattle.operands.proofs.replace.Reads as reads
-use Rattle.operands.proofs.replace.Lts as lts
-use Rattle.operands.proofs.pick.Reads as pick-reads
-use Rattle.state.proofs.number.Reads as number-reads
-use Rattle.state.proofs.past_parts.Reads as past-parts-reads
-use Rattle.state.proofs.write_parts.Reads as write-parts-reads
 
 pick-requires : tie.Need-pick-requires
 pick-requires c κs = search needs

@@ -6,11 +6,6 @@ use Rattle.table.specs.Denote.{arg-of}
 use Rattle.operands.proofs.Reading.{pair-told, first-side}
 use Rattle.operands.proofs.two_numbers.Statement.{statement}
 use Rattle.operands.proofs.two_numbers.Tie as tie
-use Rattle.operands.proofs.two_numbers.Reads as reads
-use Rattle.operands.proofs.two_numbers.Lts as lts
-use Rattle.operands.proofs.earlier.Reads as earlier-reads
-use Rattle.operands.proofs.first_number.Reads as first-number-reads
-use Rattle.operands.proofs.number_operand.Reads as number-operand-reads
 
 first-number-requires : tie.Need-first-number-requires
 first-number-requires c κs =

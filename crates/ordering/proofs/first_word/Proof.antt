@@ -6,12 +6,6 @@ use Rattle.tests.proofs.Values.{leading}
 use Rattle.ordering.proofs.Spelling.{none-told, kind-told, word-told}
 use Rattle.ordering.proofs.first_word.Statement.{statement}
 use Rattle.ordering.proofs.first_word.Tie as tie
-use Rattle.ordering.proofs.first_word.Reads as reads
-use Rattle.ordering.proofs.first_word.Lts as lts
-use Rattle.cells.proofs.put.Reads as put-reads
-use Rattle.components.proofs.chars_of.Reads as chars-of-reads
-use Rattle.components.proofs.kind_of.Reads as kind-of-reads
-use Rattle.state.proofs.expr_bytes.Reads as expr-bytes-reads
 
 expr-bytes-requires : tie.Need-expr-bytes-requires
 expr-bytes-requires c κs =

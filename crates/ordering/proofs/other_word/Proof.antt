@@ -5,10 +5,6 @@ use Rattle.state.specs.Working.{state-at}
 use Rattle.ordering.proofs.Spelling.{other-named, other-text, letter-told, text-told, as-read, number-told, class-told, nothing-told, label-told, switch-told}
 use Rattle.ordering.proofs.other_word.Statement.{statement}
 use Rattle.ordering.proofs.other_word.Tie as tie
-use Rattle.ordering.proofs.other_word.Reads as reads
-use Rattle.ordering.proofs.other_word.Lts as lts
-use Rattle.ordering.proofs.first_word.Reads as first-word-reads
-use Rattle.ordering.proofs.text_word.Reads as text-word-reads
 
 enum-known-arg : tie.Need-enum-known-arg
 enum-known-arg c = search needs

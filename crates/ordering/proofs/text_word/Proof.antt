@@ -4,9 +4,6 @@ use native.Mathlib.Omega.{arith}
 use Rattle.ordering.proofs.Spelling.{text-is}
 use Rattle.ordering.proofs.text_word.Statement.{statement}
 use Rattle.ordering.proofs.text_word.Tie as tie
-use Rattle.ordering.proofs.text_word.Reads as reads
-use Rattle.ordering.proofs.text_word.Lts as lts
-use Rattle.table.proofs.put_text.Reads as put-text-reads
 
 put-text-requires : tie.Need-put-text-requires
 put-text-requires c κs =

@@ -3,9 +3,6 @@ use borrow.Author.Needs.{needs}
 use Rattle.pointers.proofs.Rows.{front-pointable, cofnij-done}
 use Rattle.pointers.proofs.cofnij.Statement.{statement}
 use Rattle.pointers.proofs.cofnij.Tie as tie
-use Rattle.pointers.proofs.cofnij.Reads as reads
-use Rattle.pointers.proofs.cofnij.Lts as lts
-use Rattle.filing.proofs.point.Reads as point-reads
 
 point-requires : tie.Need-point-requires
 point-requires c κs =

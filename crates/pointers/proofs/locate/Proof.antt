@@ -6,11 +6,6 @@ use Rattle.state.specs.Working.{state-at, nth}
 use Rattle.pointers.proofs.Searching.{located-front, located-before, located-after}
 use Rattle.pointers.proofs.locate.Statement.{statement}
 use Rattle.pointers.proofs.locate.Tie as tie
-use Rattle.pointers.proofs.locate.Reads as reads
-use Rattle.pointers.proofs.locate.Lts as lts
-use Rattle.filing.proofs.after_bytes.Reads as after-bytes-reads
-use Rattle.filing.proofs.before_bytes.Reads as before-bytes-reads
-use Rattle.records.proofs.find.Reads as find-reads
 
 returns : tie.Need-returns
 returns c =

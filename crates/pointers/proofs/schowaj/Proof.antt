@@ -6,13 +6,6 @@ use borrow.Author.Tests.{not-true, not-false}
 use Rattle.pointers.proofs.Rows.{last-told, schowaj-full, address-writable, schowaj-done}
 use Rattle.pointers.proofs.schowaj.Statement.{statement}
 use Rattle.pointers.proofs.schowaj.Tie as tie
-use Rattle.pointers.proofs.schowaj.Reads as reads
-use Rattle.pointers.proofs.schowaj.Lts as lts
-use Rattle.components.proofs.put_address.Reads as put-address-reads
-use Rattle.filing.proofs.before_bytes.Reads as before-bytes-reads
-use Rattle.instructions.proofs.has_room.Reads as has-room-reads
-use Rattle.records.proofs.last_address.Reads as last-address-reads
-use Rattle.state.proofs.write_parts.Reads as write-parts-reads
 
 before-bytes-requires : tie.Need-before-bytes-requires
 before-bytes-requires c κs = search needs

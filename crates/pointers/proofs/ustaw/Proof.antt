@@ -9,14 +9,6 @@ use Rattle.instructions.proofs.Answers.{one-after}
 use Rattle.pointers.proofs.Rows.{leading, ustaw-none, ustaw-kind, ustaw-missing, then-pointable, ustaw-done, address-droppable}
 use Rattle.pointers.proofs.ustaw.Statement.{statement}
 use Rattle.pointers.proofs.ustaw.Tie as tie
-use Rattle.pointers.proofs.ustaw.Reads as reads
-use Rattle.pointers.proofs.ustaw.Lts as lts
-use Rattle.components.proofs.address_of.Reads as address-of-reads
-use Rattle.components.proofs.kind_of.Reads as kind-of-reads
-use Rattle.filing.proofs.point.Reads as point-reads
-use Rattle.pointers.proofs.locate.Reads as locate-reads
-use Rattle.state.proofs.expr_bytes.Reads as expr-bytes-reads
-use Rattle.state.proofs.past_parts.Reads as past-parts-reads
 
 expr-bytes-requires : tie.Need-expr-bytes-requires
 expr-bytes-requires c κs = search needs

@@ -3,9 +3,6 @@ use borrow.Author.Needs.{needs}
 use Rattle.pointers.proofs.Rows.{zamien-exprs}
 use Rattle.pointers.proofs.zamien_exprs.Statement.{statement}
 use Rattle.pointers.proofs.zamien_exprs.Tie as tie
-use Rattle.pointers.proofs.zamien_exprs.Reads as reads
-use Rattle.pointers.proofs.zamien_exprs.Lts as lts
-use Rattle.state.proofs.exchange_exprs.Reads as exchange-exprs-reads
 
 exchange-exprs-requires : tie.Need-exchange-exprs-requires
 exchange-exprs-requires c κs = search needs

@@ -3,9 +3,6 @@ use borrow.Author.Needs.{needs}
 use Rattle.pointers.proofs.Rows.{zamien-files}
 use Rattle.pointers.proofs.zamien_files.Statement.{statement}
 use Rattle.pointers.proofs.zamien_files.Tie as tie
-use Rattle.pointers.proofs.zamien_files.Reads as reads
-use Rattle.pointers.proofs.zamien_files.Lts as lts
-use Rattle.filing.proofs.exchange_files.Reads as exchange-files-reads
 
 exchange-files-requires : tie.Need-exchange-files-requires
 exchange-files-requires c κs = search needs

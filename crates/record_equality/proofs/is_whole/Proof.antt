@@ -3,9 +3,6 @@ use borrow.Author.Needs.{needs}
 use Rattle.record_equality.proofs.Wholes.{argument-left}
 use Rattle.record_equality.proofs.is_whole.Statement.{statement}
 use Rattle.record_equality.proofs.is_whole.Tie as tie
-use Rattle.record_equality.proofs.is_whole.Reads as reads
-use Rattle.record_equality.proofs.is_whole.Lts as lts
-use Rattle.record_equality.proofs.letter_is_whole.Reads as letter-is-whole-reads
 
 enum-known-arg : tie.Need-enum-known-arg
 enum-known-arg c = search needs

@@ -3,8 +3,6 @@ use borrow.Author.Needs.{needs}
 use Rattle.record_equality.proofs.Wholes.{letter-left}
 use Rattle.record_equality.proofs.letter_is_whole.Statement.{statement}
 use Rattle.record_equality.proofs.letter_is_whole.Tie as tie
-use Rattle.record_equality.proofs.letter_is_whole.Reads as reads
-use Rattle.record_equality.proofs.letter_is_whole.Lts as lts
 
 enum-told : tie.Need-enum-told
 enum-told c = search needs

@@ -5,13 +5,6 @@ use Rattle.equality.proofs.Meeting.{fitting-by}
 use Rattle.layout.specs.ComponentLaws.{whole-components}
 use Rattle.record_equality.proofs.meets.Statement.{statement}
 use Rattle.record_equality.proofs.meets.Tie as tie
-use Rattle.record_equality.proofs.meets.Reads as reads
-use Rattle.record_equality.proofs.meets.Lts as lts
-use Rattle.equality.proofs.test_of.Reads as test-of-reads
-use Rattle.matching.proofs.count.Reads as count-reads
-use Rattle.record_equality.proofs.is_whole.Reads as is-whole-reads
-use Rattle.records.proofs.first_of.Reads as first-of-reads
-use Rattle.records.proofs.same_contents.Reads as same-contents-reads
 
 is-whole-requires : tie.Need-is-whole-requires
 is-whole-requires c κs =

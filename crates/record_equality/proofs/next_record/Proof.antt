@@ -4,10 +4,6 @@ use Rattle.record_equality.proofs.Rows.{next-lent}
 use Rattle.state.specs.Working.{state-at}
 use Rattle.record_equality.proofs.next_record.Statement.{statement}
 use Rattle.record_equality.proofs.next_record.Tie as tie
-use Rattle.record_equality.proofs.next_record.Reads as reads
-use Rattle.record_equality.proofs.next_record.Lts as lts
-use Rattle.filing.proofs.after_bytes.Reads as after-bytes-reads
-use Rattle.records.proofs.next_contents.Reads as next-contents-reads
 
 after-bytes-requires : tie.Need-after-bytes-requires
 after-bytes-requires c κs = search needs

@@ -10,13 +10,6 @@ use Rattle.packed.specs.Packed.{table-of}
 use mathlib.Core.List.{[]}
 use Rattle.record_equality.proofs.rz.Statement.{statement}
 use Rattle.record_equality.proofs.rz.Tie as tie
-use Rattle.record_equality.proofs.rz.Reads as reads
-use Rattle.record_equality.proofs.rz.Lts as lts
-use Rattle.comparands.proofs.put_comparand.Reads as put-comparand-reads
-use Rattle.equality.proofs.unlike.Reads as unlike-reads
-use Rattle.record_equality.proofs.meets.Reads as meets-reads
-use Rattle.record_equality.proofs.next_record.Reads as next-record-reads
-use Rattle.state.proofs.minus_unless.Reads as minus-unless-reads
 
 put-comparand-requires : tie.Need-put-comparand-requires
 put-comparand-requires c κs =

@@ -4,11 +4,6 @@ use Rattle.packed.specs.Packed.{table-of}
 use Rattle.record_tests.proofs.Wholes.{whole-readable, whole-told, parts-readable, parts-told}
 use Rattle.record_tests.proofs.prepare.Statement.{statement}
 use Rattle.record_tests.proofs.prepare.Tie as tie
-use Rattle.record_tests.proofs.prepare.Reads as reads
-use Rattle.record_tests.proofs.prepare.Lts as lts
-use Rattle.record_tests.proofs.prepare_whole.Reads as prepare-whole-reads
-use Rattle.record_tests.proofs.whole_index.Reads as whole-index-reads
-use Rattle.tests.proofs.prepare.Reads as prepare-reads
 
 whole-index-requires : tie.Need-whole-index-requires
 whole-index-requires c κs = search needs

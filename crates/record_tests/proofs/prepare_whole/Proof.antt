@@ -3,10 +3,6 @@ use borrow.Author.Needs.{needs}
 use Rattle.record_tests.proofs.Wholes.{whole-prepared}
 use Rattle.record_tests.proofs.prepare_whole.Statement.{statement}
 use Rattle.record_tests.proofs.prepare_whole.Tie as tie
-use Rattle.record_tests.proofs.prepare_whole.Reads as reads
-use Rattle.record_tests.proofs.prepare_whole.Lts as lts
-use Rattle.cells.proofs.put.Reads as put-reads
-use Rattle.state.proofs.expr_bytes.Reads as expr-bytes-reads
 
 expr-bytes-requires : tie.Need-expr-bytes-requires
 expr-bytes-requires c κs =

@@ -5,9 +5,6 @@ use Rattle.record_tests.specs.RecordPrepares.{whole-index}
 use Rattle.record_tests.proofs.Wholes.{argument-left}
 use Rattle.record_tests.proofs.whole_index.Statement.{statement}
 use Rattle.record_tests.proofs.whole_index.Tie as tie
-use Rattle.record_tests.proofs.whole_index.Reads as reads
-use Rattle.record_tests.proofs.whole_index.Lts as lts
-use Rattle.record_tests.proofs.whole_letter.Reads as whole-letter-reads
 
 enum-known-arg : tie.Need-enum-known-arg
 enum-known-arg c = search needs

@@ -3,8 +3,6 @@ use borrow.Author.Needs.{needs}
 use Rattle.record_tests.proofs.Wholes.{letter-left}
 use Rattle.record_tests.proofs.whole_letter.Statement.{statement}
 use Rattle.record_tests.proofs.whole_letter.Tie as tie
-use Rattle.record_tests.proofs.whole_letter.Reads as reads
-use Rattle.record_tests.proofs.whole_letter.Lts as lts
 
 enum-told : tie.Need-enum-told
 enum-told c = search needs

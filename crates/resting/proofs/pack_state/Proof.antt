@@ -4,10 +4,6 @@ use native.Mathlib.Omega.{arith}
 use Rattle.resting.proofs.Laws.{numbers-fit, closed}
 use Rattle.resting.proofs.pack_state.Statement.{statement}
 use Rattle.resting.proofs.pack_state.Tie as tie
-use Rattle.resting.proofs.pack_state.Reads as reads
-use Rattle.resting.proofs.pack_state.Lts as lts
-use Rattle.resting.proofs.write_scalars.Reads as write-scalars-reads
-use Rattle.resting.proofs.write_strings.Reads as write-strings-reads
 
 write-scalars-requires : tie.Need-write-scalars-requires
 write-scalars-requires c κs = numbers-fit ((c .before .before .before .before .before .pre))

@@ -5,10 +5,6 @@ use Prim.Native.Nat.{_-_}
 use Rattle.resting.proofs.Laws.{Reading, reading-none, reading-more, reading-all}
 use Rattle.resting.proofs.read_scalars.Statement.{statement}
 use Rattle.resting.proofs.read_scalars.Tie as tie
-use Rattle.resting.proofs.read_scalars.Reads as reads
-use Rattle.resting.proofs.read_scalars.Lts as lts
-use Rattle.cells.proofs.three_at.Reads as three-at-reads
-use Rattle.cells.proofs.write.Reads as write-reads
 
 abbrev Inv-loop : tie.InvT-loop
 Inv-loop state nums₀ k₀ nums k = Reading state nums k

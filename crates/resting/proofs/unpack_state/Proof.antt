@@ -4,10 +4,6 @@ use mathlib.Core.Path.{refl}
 use Rattle.resting.proofs.Laws.{unpackable, opened}
 use Rattle.resting.proofs.unpack_state.Statement.{statement}
 use Rattle.resting.proofs.unpack_state.Tie as tie
-use Rattle.resting.proofs.unpack_state.Reads as reads
-use Rattle.resting.proofs.unpack_state.Lts as lts
-use Rattle.packing.proofs.unpack.Reads as unpack-reads
-use Rattle.resting.proofs.read_scalars.Reads as read-scalars-reads
 
 read-scalars-requires : tie.Need-read-scalars-requires
 read-scalars-requires c κs = search needs

@@ -5,10 +5,6 @@ use Prim.Native.Nat.{_-_}
 use Rattle.resting.proofs.Laws.{Writing, writing-none, writing-more, writing-all}
 use Rattle.resting.proofs.write_scalars.Statement.{statement}
 use Rattle.resting.proofs.write_scalars.Tie as tie
-use Rattle.resting.proofs.write_scalars.Reads as reads
-use Rattle.resting.proofs.write_scalars.Lts as lts
-use Rattle.cells.proofs.put_three.Reads as put-three-reads
-use Rattle.cells.proofs.read.Reads as read-reads
 
 abbrev Inv-loop : tie.InvT-loop
 Inv-loop nums state₀ k₀ state k = Writing nums state₀ state k

@@ -3,9 +3,6 @@ use borrow.Author.Needs.{needs}
 use Rattle.resting.proofs.Laws.{strung}
 use Rattle.resting.proofs.write_strings.Statement.{statement}
 use Rattle.resting.proofs.write_strings.Tie as tie
-use Rattle.resting.proofs.write_strings.Reads as reads
-use Rattle.resting.proofs.write_strings.Lts as lts
-use Rattle.packing.proofs.pack.Reads as pack-reads
 
 sub-pack : tie.Need-sub-pack
 sub-pack c = search needs

@@ -5,11 +5,6 @@ use mathlib.Core.Path.{refl}
 use Rattle.running.proofs.Loop.{openable, steppable, closable, ran-on}
 use Rattle.running.proofs.run.Statement.{statement}
 use Rattle.running.proofs.run.Tie as tie
-use Rattle.running.proofs.run.Reads as reads
-use Rattle.running.proofs.run.Lts as lts
-use Rattle.resting.proofs.pack_state.Reads as pack-state-reads
-use Rattle.resting.proofs.unpack_state.Reads as unpack-state-reads
-use Rattle.running.proofs.run_steps.Reads as run-steps-reads
 
 slice-aggregate-unpack-state : tie.Need-slice-aggregate-unpack-state
 slice-aggregate-unpack-state c = search needs

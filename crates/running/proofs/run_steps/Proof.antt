@@ -8,9 +8,6 @@ use Rattle.state.specs.Working.{state-at}
 use Rattle.running.proofs.Loop.{Looping, going-none, going-more, ran-stop, ran-pause}
 use Rattle.running.proofs.run_steps.Statement.{statement}
 use Rattle.running.proofs.run_steps.Tie as tie
-use Rattle.running.proofs.run_steps.Reads as reads
-use Rattle.running.proofs.run_steps.Lts as lts
-use Rattle.stepping.proofs.step.Reads as step-reads
 
 abbrev Inv-loop : tie.InvT-loop
 Inv-loop table i1 i2 pool₀ ends₀ nums₀ scratch₀ hold₀ given₀ budget count₀ pool ends nums scratch hold given count =

@@ -3,9 +3,6 @@ use borrow.Author.Needs.{needs}
 use Rattle.starting.proofs.Laws.{started-is}
 use Rattle.starting.proofs.start.Statement.{statement}
 use Rattle.starting.proofs.start.Tie as tie
-use Rattle.starting.proofs.start.Reads as reads
-use Rattle.starting.proofs.start.Lts as lts
-use Rattle.cells.proofs.clear.Reads as clear-reads
 
 sub-clear : tie.Need-sub-clear
 sub-clear c = search needs

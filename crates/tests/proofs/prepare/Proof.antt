@@ -5,11 +5,6 @@ use Rattle.state.specs.Working.{state-at}
 use Rattle.tests.proofs.Values.{letter-readable, text-readable, as-read, class-met, nothing-all, label-all, switch-all}
 use Rattle.tests.proofs.prepare.Statement.{statement}
 use Rattle.tests.proofs.prepare.Tie as tie
-use Rattle.tests.proofs.prepare.Reads as reads
-use Rattle.tests.proofs.prepare.Lts as lts
-use Rattle.tests.proofs.prepare_letter.Reads as prepare-letter-reads
-use Rattle.tests.proofs.prepare_number.Reads as prepare-number-reads
-use Rattle.tests.proofs.prepare_text.Reads as prepare-text-reads
 
 enum-known-arg : tie.Need-enum-known-arg
 enum-known-arg c = search needs

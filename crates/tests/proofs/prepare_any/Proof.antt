@@ -4,10 +4,6 @@ use native.Mathlib.Omega.{arith}
 use Rattle.tests.proofs.Values.{any-told}
 use Rattle.tests.proofs.prepare_any.Statement.{statement}
 use Rattle.tests.proofs.prepare_any.Tie as tie
-use Rattle.tests.proofs.prepare_any.Reads as reads
-use Rattle.tests.proofs.prepare_any.Lts as lts
-use Rattle.cells.proofs.put.Reads as put-reads
-use Rattle.state.proofs.expr_bytes.Reads as expr-bytes-reads
 
 expr-bytes-requires : tie.Need-expr-bytes-requires
 expr-bytes-requires c κs =

@@ -4,12 +4,6 @@ use mathlib.Core.Path.{sym, _∙_}
 use Rattle.tests.proofs.Values.{count-none, count-kind, count-told, none-there, one-there, leading}
 use Rattle.tests.proofs.prepare_count.Statement.{statement}
 use Rattle.tests.proofs.prepare_count.Tie as tie
-use Rattle.tests.proofs.prepare_count.Reads as reads
-use Rattle.tests.proofs.prepare_count.Lts as lts
-use Rattle.components.proofs.kind_of.Reads as kind-of-reads
-use Rattle.components.proofs.number_of.Reads as number-of-reads
-use Rattle.state.proofs.expr_bytes.Reads as expr-bytes-reads
-use Rattle.tests.proofs.prepare_number.Reads as prepare-number-reads
 
 expr-bytes-requires : tie.Need-expr-bytes-requires
 expr-bytes-requires c κs =

@@ -5,11 +5,6 @@ use lib.ListN.{length-take}
 use Rattle.tests.proofs.Values.{first-none, none-there, front-fits, first-told}
 use Rattle.tests.proofs.prepare_first.Statement.{statement}
 use Rattle.tests.proofs.prepare_first.Tie as tie
-use Rattle.tests.proofs.prepare_first.Reads as reads
-use Rattle.tests.proofs.prepare_first.Lts as lts
-use Rattle.cells.proofs.put.Reads as put-reads
-use Rattle.components.proofs.size_by.Reads as size-by-reads
-use Rattle.state.proofs.expr_bytes.Reads as expr-bytes-reads
 
 expr-bytes-requires : tie.Need-expr-bytes-requires
 expr-bytes-requires c κs =

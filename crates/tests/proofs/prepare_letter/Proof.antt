@@ -14,11 +14,6 @@ use Rattle.tests.specs.Prepares.{TestLetter}
 use Rattle.tests.proofs.Values.{named, readable, letter-told}
 use Rattle.tests.proofs.prepare_letter.Statement.{statement}
 use Rattle.tests.proofs.prepare_letter.Tie as tie
-use Rattle.tests.proofs.prepare_letter.Reads as reads
-use Rattle.tests.proofs.prepare_letter.Lts as lts
-use Rattle.tests.proofs.prepare_any.Reads as prepare-any-reads
-use Rattle.tests.proofs.prepare_count.Reads as prepare-count-reads
-use Rattle.tests.proofs.prepare_first.Reads as prepare-first-reads
 
 -- the letters left by N and T
 abbrev others : List ℕ

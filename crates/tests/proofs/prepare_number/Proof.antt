@@ -2,8 +2,6 @@
 use Rattle.tests.proofs.Values.{number-low, number-high}
 use Rattle.tests.proofs.prepare_number.Statement.{statement}
 use Rattle.tests.proofs.prepare_number.Tie as tie
-use Rattle.tests.proofs.prepare_number.Reads as reads
-use Rattle.tests.proofs.prepare_number.Lts as lts
 
 returns : tie.Need-returns
 returns c = λ s g. number-low s g (c .before .args .code) (c .if1 .taken)

@@ -5,10 +5,6 @@ use lib.ListN.{length-take}
 use Rattle.tests.proofs.Values.{copied-in, text-told}
 use Rattle.tests.proofs.prepare_text.Statement.{statement}
 use Rattle.tests.proofs.prepare_text.Tie as tie
-use Rattle.tests.proofs.prepare_text.Reads as reads
-use Rattle.tests.proofs.prepare_text.Lts as lts
-use Rattle.components.proofs.put_word.Reads as put-word-reads
-use Rattle.table.proofs.put_text.Reads as put-text-reads
 
 slice-aggregate-put-text : tie.Need-slice-aggregate-put-text
 slice-aggregate-put-text c = search needs

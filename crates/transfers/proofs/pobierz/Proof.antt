@@ -8,17 +8,6 @@ use Rattle.transfers.proofs.Rooms.{left-most}
 use Rattle.transfers.proofs.Fetching.{pobierz-none, starts, parts-most, chars-most, first, pobierz-full, pobierz-writable, pobierz-done}
 use Rattle.transfers.proofs.pobierz.Statement.{statement}
 use Rattle.transfers.proofs.pobierz.Tie as tie
-use Rattle.transfers.proofs.pobierz.Reads as reads
-use Rattle.transfers.proofs.pobierz.Lts as lts
-use Rattle.components.proofs.copy.Reads as copy-reads
-use Rattle.filing.proofs.after_bytes.Reads as after-bytes-reads
-use Rattle.filing.proofs.past_records.Reads as past-records-reads
-use Rattle.instructions.proofs.has_room.Reads as has-room-reads
-use Rattle.matching.proofs.count.Reads as count-reads
-use Rattle.records.proofs.contents_at.Reads as contents-at-reads
-use Rattle.state.proofs.set_plus.Reads as set-plus-reads
-use Rattle.state.proofs.write_parts.Reads as write-parts-reads
-use Rattle.transfers.proofs.left.Reads as left-reads
 
 after-bytes-requires : tie.Need-after-bytes-requires
 after-bytes-requires c κs =

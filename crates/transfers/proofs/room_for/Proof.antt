@@ -5,10 +5,6 @@ use Rattle.state.specs.Working.{state-at}
 use Rattle.transfers.proofs.Rooms.{answer-full, answer-records, answer-given, answer-room}
 use Rattle.transfers.proofs.room_for.Statement.{statement}
 use Rattle.transfers.proofs.room_for.Tie as tie
-use Rattle.transfers.proofs.room_for.Reads as reads
-use Rattle.transfers.proofs.room_for.Lts as lts
-use Rattle.instructions.proofs.has_room.Reads as has-room-reads
-use Rattle.state.proofs.number.Reads as number-reads
 
 has-room-requires : tie.Need-has-room-requires
 has-room-requires c κs =

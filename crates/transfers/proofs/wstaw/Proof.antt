@@ -6,17 +6,6 @@ use Rattle.transfers.proofs.Rooms.{left-most}
 use Rattle.transfers.proofs.Inserting.{wstaw-none, first, few-bytes, parts-few, chars-few, wstaw-stop, recordable, wstaw-writable, wstaw-done}
 use Rattle.transfers.proofs.wstaw.Statement.{statement}
 use Rattle.transfers.proofs.wstaw.Tie as tie
-use Rattle.transfers.proofs.wstaw.Reads as reads
-use Rattle.transfers.proofs.wstaw.Lts as lts
-use Rattle.filing.proofs.write_records.Reads as write-records-reads
-use Rattle.matching.proofs.count.Reads as count-reads
-use Rattle.records.proofs.put_record.Reads as put-record-reads
-use Rattle.state.proofs.expr_bytes.Reads as expr-bytes-reads
-use Rattle.state.proofs.number.Reads as number-reads
-use Rattle.state.proofs.past_parts.Reads as past-parts-reads
-use Rattle.state.proofs.set_plus.Reads as set-plus-reads
-use Rattle.transfers.proofs.left.Reads as left-reads
-use Rattle.transfers.proofs.room_for.Reads as room-for-reads
 
 expr-bytes-requires : tie.Need-expr-bytes-requires
 expr-bytes-requires c κs =
