@@ -6,7 +6,7 @@ use lib.ListN.{getD}
 use lib.IntN.{ℤ}
 use Rattle.characters.specs.Characters.{isCapital, isDigit}
 use Rattle.language.specs.Letters.{Letter}
-use Rattle.lists.specs.Lists.{all, filled, keep, among}
+use Rattle.lists.specs.Lists.{all, filled, keep, among, sameBytes}
 use Rattle.lists.specs.Quoted.{bytes}
 
 -- "An argument is an indexed letter, a label, a class, a text, a number or nothing." A label and a switch stand for their places in the
@@ -95,6 +95,6 @@ module _ (p : Program) where
   abbrev pub target-of : Entry → ℕ
   target-of e = label-at (e .label) .target
 
-  -- "An entry with a text is met by that text only"; one without is met by its label's name (5.5.3)
-  abbrev pub key-of : Entry → List ℕ
-  key-of e = cond (filled (e .text)) (e .text) (label-at (e .label) .name)
+  -- whether an entry is met by a word: "An entry with a text is met by that text only"; one without is met by its label's name (5.5.3)
+  unfoldable pub meets : Entry → List ℕ → Bool
+  meets e w = sameBytes (cond (filled (e .text)) (e .text) (label-at (e .label) .name)) w

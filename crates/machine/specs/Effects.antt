@@ -9,12 +9,12 @@ use lib.Signed.{ltZ, quotZ, remZ}
 use Rattle.characters.specs.Characters.{precedes}
 use Rattle.language.specs.Letters.{Var}
 use Rattle.language.specs.Letters.Var.{expression, input, output, file}
-use Rattle.language.specs.Program.{Arg, Op, Entry, Program, no-entry, label-at, switch-at, target-of, key-of}
+use Rattle.language.specs.Program.{Arg, Op, Entry, Program, no-entry, label-at, switch-at, target-of, meets}
 use Rattle.language.specs.Program.Arg.{nothing}
 use Rattle.language.specs.Program.Op.{PRZESLIJ, CZYTAJ, PISZ, KOPIUJ, WSTAW, POBIERZ, SCHOWAJ, USTAW, ZAMIEN, UMIESC, USUN, SKRESL, RW, WK, MN, PP, NS, RZ, SKOCZ, WYKONAJ, SKOMI, SKOPL, WYMI, WYPL, SKONA, SKOIN, WYNA, WYIN, WROC, DODAJ, ODEJMIJ, MNOZ, DZIEL, SLOWO, LICZBA, ZBIJ, ROZBIJ, SZUKAJ, OMIN, COFNIJ, STOP}
 use Rattle.language.specs.Values.{Component, Store, Inputs, chars, value, link, kind, same, decimal, numeral, valueOf, in-range}
 use Rattle.language.specs.Values.Component.{word, address}
-use Rattle.lists.specs.Lists.{all, any, filled, ifAny, keep, joined, sameList, sameBytes}
+use Rattle.lists.specs.Lists.{all, any, filled, ifAny, keep, joined, sameList}
 use Rattle.machine.specs.Arguments.{place, use-by, expr, file-of, records, next-parts, unread, first, char, side, is-count, is-whole, single, Asks, none, ask, _&_, present, is, alike, when, needs, taken, matches, cut, on-chars, reach, test-asks}
 use Rattle.machine.specs.Changes.{with-plus, put-expr, put-file, minus, minus-unless, into, front, printed, stored, past, used, pointed, address-of-last}
 
@@ -97,7 +97,7 @@ module _ (p : Program) (ins : Inputs) (s : Store) where
   entries-of b = switch-at p (place b) .entries
 
   abbrev pub named : Arg → Arg → List Entry
-  named a b = keep (λ e. sameBytes (key-of p e) (chars (first (side ins s a)))) (entries-of b)
+  named a b = keep (λ e. meets p e (chars (first (side ins s a)))) (entries-of b)
 
   -- by a word: where no entry is met, the following instruction, with the store `missed`
   unfoldable pub by-name : (ℕ → Go) → Store → Arg → Arg → Row

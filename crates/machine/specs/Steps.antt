@@ -5,7 +5,7 @@ use Prim.Native.Nat.{ℕ, suc}
 use lib.Dec.{leb}
 use lib.ListN.{length, drop}
 use Rattle.language.specs.Limits as limit
-use Rattle.language.specs.Program.{Program, instr-at}
+use Rattle.language.specs.Program.{Program, instr-at, meets}
 use Rattle.language.specs.Values.{State, Inputs}
 use Rattle.lists.specs.Lists.{filled, headOr, ifAny}
 use Rattle.machine.specs.Arguments.{Asks, ask, _&_}
@@ -69,5 +69,5 @@ step p ins s = ifAny (went (made (meaning p ins s) s)) stop (refusals (questions
 
 -- everything that a step computes with, to be named on an `unfolding` line
 unfoldable pub opened : Unit {0}
-unfolding step questions meaning with-exprs with-files with-plus with-outputs with-places put-expr put-file minus minus-unless placed into front printed stamped stored past-file past-by past used-by used pointed moved jump-if relation equality ordered by-name by-index computed changed set-to exchanged row held recorded fits
+unfolding step questions meaning with-exprs with-files with-plus with-outputs with-places put-expr put-file minus minus-unless placed into front printed stamped stored past-file past-by past used-by used pointed moved jump-if relation equality ordered meets by-name by-index computed changed set-to exchanged row held recorded fits
 opened = tt

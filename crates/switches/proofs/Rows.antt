@@ -9,9 +9,9 @@ use lib.IntN.{ℤ, pos, natAbs}
 use lib.ListN.{length}
 use lib.Signed.{ltZ}
 use borrow.Author.Tests.{lt-ltb, le-ltb, lt-leb, eqb-true}
-use Rattle.lists.specs.Lists.{filled, sameBytes}
+use Rattle.lists.specs.Lists.{filled}
 use Rattle.language.specs.Limits as limit
-use Rattle.language.specs.Program.{Entry, no-entry, target-of, key-of}
+use Rattle.language.specs.Program.{Entry, no-entry, target-of, meets}
 use Rattle.language.specs.Program.Arg.{nothing, switch}
 use Rattle.language.specs.Program.Op.{SKONA, SKOIN, WYNA, WYIN, SZUKAJ}
 use Rattle.language.specs.Values.{Component, Store, State, Inputs, chars, value, kind}
@@ -89,7 +89,7 @@ module _ (c : List ℕ) (s : Store) (k i : ℕ) where
   is-met = ltb (first-met c k s i) (length (entries-at c k))
 
   abbrev test : Entry → Bool
-  test e = sameBytes (key-of (program-of c) e) (chars (first (front s i)))
+  test e = meets (program-of c) e (chars (first (front s i)))
 
   abbrev named-row : (ℕ → Go) → Store → Bool → Row
   named-row to missed b =

@@ -8,10 +8,10 @@ use lib.Dec.{T, leb, ltb}
 use lib.IntN.{ℤ, pos, natAbs}
 use lib.ListN.{getD, take}
 use lib.Signed.{ltZ}
-use Rattle.lists.specs.Lists.{ahead, filled, sameBytes}
+use Rattle.lists.specs.Lists.{ahead, filled}
 use Rattle.language.specs.Limits as limit
 use Rattle.language.specs.Letters.Letter.{E}
-use Rattle.language.specs.Program.{Entry, no-entry, switch-at, target-of, key-of}
+use Rattle.language.specs.Program.{Entry, no-entry, switch-at, target-of, meets}
 use Rattle.language.specs.Values.{Component, Store, chars, kind}
 use Rattle.layout.specs.Table.{program-of, good-table}
 use Rattle.machine.specs.Arguments.{expr, first, none}
@@ -31,7 +31,7 @@ abbrev pub entries-at : List ℕ → ℕ → List Entry
 entries-at c k = switch-at (program-of c) k .entries
 
 abbrev pub first-met : List ℕ → ℕ → Store → ℕ → ℕ
-first-met c k s i = ahead (λ e. sameBytes (key-of (program-of c) e) (chars (first (front s i)))) (entries-at c k)
+first-met c k s i = ahead (λ e. meets (program-of c) e (chars (first (front s i)))) (entries-at c k)
 
 -- the instruction that entry j leads to
 abbrev pub entry-goal : List ℕ → ℕ → ℕ → ℕ

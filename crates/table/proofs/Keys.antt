@@ -1,4 +1,4 @@
--- Names, texts by their references, and the keys of entries.
+-- Names, texts by their references, and entries that are met by a word.
 use mathlib.Core.Path.{_≡_, refl, sym, ap, _∙_, subst}
 use mathlib.Core.Bool.{Bool, true, false, cond}
 use mathlib.Core.List.{List, [], _∷_}
@@ -11,7 +11,7 @@ use lib.Seq.{drop-cons}
 use borrow.Author.Tests.{eq-eqb, ne-eqb, lt-ltb, le-ltb}
 use Rattle.lists.specs.Lists.{ahead, filled, sameBytes}
 use Rattle.lists.specs.ListLaws.{other-length}
-use Rattle.language.specs.Program.{Label, Entry, no-entry, key-of, label-at}
+use Rattle.language.specs.Program.{Label, Entry, no-entry, label-at, meets}
 use Rattle.layout.specs.CellLaws.{length-tab, getD-tab}
 use Rattle.layout.specs.Cells.{cell}
 use Rattle.layout.specs.Table.{chars-in, text-in, text-by, label-in, entry-in, program-of}
@@ -63,22 +63,31 @@ pub none-same : (w : List ℕ) → eqb (length w) 0 ≡ sameBytes [] w
 none-same [] = refl
 none-same (x ∷ w) = ne-eqb (suc (length w)) 0 (λ e. omega (arith, e))
 
--- the key of an entry
-module _ (c : List ℕ) (e x : ℕ) (is : x ≡ cell (table-of c) (layout.first-entry + e)) where
-  pub key-by-name : x / 128 ≡ 0 → x % 128 < cell (table-of c) 1 → label-in (table-of c) (x % 128) .name ≡ key-of (program-of c) (entry-in (table-of c) e)
-  key-by-name z h =
-      ap (λ (l : Label). l .name) (sym (label-is c (x % 128) h))
-      ∙ ap (λ (l : List ℕ). cond (filled l) l (label-at (program-of c) (x % 128) .name)) (sym (text-none (table-of c) (x / 128) z))
-      ∙ ap (λ (y : ℕ). cond (filled (text-by (table-of c) (y / 128))) (text-by (table-of c) (y / 128)) (label-at (program-of c) (y % 128) .name)) is
+-- an entry compared with a word: x is what was read in its cell
+module _ (c w : List ℕ) (e x : ℕ) (is : x ≡ cell (table-of c) (layout.first-entry + e)) where
+  -- the entry of a cell's number
+  abbrev entry-by : ℕ → Entry
+  entry-by y = record { label = y % 128; text = text-by (table-of c) (y / 128) }
+
+  abbrev by-cell : ℕ → Bool
+  by-cell y = meets (program-of c) (entry-by y) w
+
+  pub met-by-name : x / 128 ≡ 0 → x % 128 < cell (table-of c) layout.label-count → sameBytes (label-in (table-of c) (x % 128) .name) w ≡ meets (program-of c) (entry-in (table-of c) e) w
+  unfolding meets
+  met-by-name z h =
+      ap (λ (l : Label). sameBytes (l .name) w) (sym (label-is c (x % 128) h))
+      ∙ ap (λ (l : List ℕ). sameBytes (cond (filled l) l (label-at (program-of c) (x % 128) .name)) w) (sym (text-none (table-of c) (x / 128) z))
+      ∙ ap by-cell is
 
   some : (b : Bool) (l m : List ℕ) → T b → l ≡ cond b l m
   some true l m h = refl
   some false l m h = absurd h
 
-  pub key-by-text : T (filled (text-by (table-of c) (x / 128))) → text-by (table-of c) (x / 128) ≡ key-of (program-of c) (entry-in (table-of c) e)
-  key-by-text h =
-      some (filled (text-by (table-of c) (x / 128))) (text-by (table-of c) (x / 128)) (label-at (program-of c) (x % 128) .name) h
-      ∙ ap (λ (y : ℕ). cond (filled (text-by (table-of c) (y / 128))) (text-by (table-of c) (y / 128)) (label-at (program-of c) (y % 128) .name)) is
+  pub met-by-text : T (filled (text-by (table-of c) (x / 128))) → sameBytes (text-by (table-of c) (x / 128)) w ≡ meets (program-of c) (entry-in (table-of c) e) w
+  unfolding meets
+  met-by-text h =
+      let l = text-by (table-of c) (x / 128) in
+      ap (λ (k : List ℕ). sameBytes k w) (some (filled l) l (label-at (program-of c) (x % 128) .name) h) ∙ ap by-cell is
 
 -- the first entry that is met: one turn of the search, its success and its end
 module _ {X : Type 0} (q : X → Bool) (d : X) (xs : List X) (k : ℕ) where
@@ -102,7 +111,7 @@ module _ (c w : List ℕ) (e n k : ℕ) where
   entries = entries-from (table-of c) e n
 
   abbrev is-met : Entry → Bool
-  is-met x = sameBytes (key-of (program-of c) x) w
+  is-met x = meets (program-of c) x w
 
   -- where the search stands before entry k
   abbrev pub Searched : Type 0
@@ -123,6 +132,6 @@ module _ (c w : List ℕ) (e n k : ℕ) where
 pub search-start : (c w : List ℕ) (e n : ℕ) → Searched c w e n 0
 search-start c w e n = omega arith
 
-pub search-on : (c w : List ℕ) (e n k : ℕ) → Searched c w e n k → k < n → false ≡ sameBytes (key-of (program-of c) (entry-in (table-of c) (e + k))) w → Searched c w e n (k + 1)
+pub search-on : (c w : List ℕ) (e n k : ℕ) → Searched c w e n k → k < n → false ≡ meets (program-of c) (entry-in (table-of c) (e + k)) w → Searched c w e n (k + 1)
 search-on c w e n k s h f =
     s ∙ ahead-later (is-met c w e n k) no-entry (entries c w e n k) k (rw (long-enough c w e n k) h) (met-here c w e n k h false f)

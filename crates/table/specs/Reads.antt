@@ -4,9 +4,9 @@ use mathlib.Core.List.{List}
 use Prim.Native.Nat.{ℕ, _+_, _/_, _%_, _≤_, _<_}
 use lib.Dec.{T}
 use lib.ListN.{length}
-use Rattle.lists.specs.Lists.{ahead, filled, sameBytes}
+use Rattle.lists.specs.Lists.{ahead, filled}
 use Rattle.language.specs.Limits as limit
-use Rattle.language.specs.Program.{Entry, key-of}
+use Rattle.language.specs.Program.{Entry, meets}
 use Rattle.layout.specs.Cells.{cell, tab}
 use Rattle.layout.specs.Table.{text-by, arg-in, entry-in, program-of}
 use Rattle.layout.specs.Places as layout
@@ -73,4 +73,4 @@ entries-from c e n = tab n (λ k. entry-in c (e + k))
 
 -- how many entries stand before the first that is met by the word w
 abbrev pub met : List ℕ → List ℕ → List Entry → ℕ
-met c w es = ahead (λ x. sameBytes (key-of (program-of c) x) w) es
+met c w es = ahead (λ x. meets (program-of c) x w) es

@@ -4,7 +4,7 @@ ghost use mathlib.Core.List.{[], _∷_};
 ghost use Prim.Native.Nat.{_+_, _*_, _%_, _≤_, _<_};
 ghost use lib.ListN.{length};
 ghost use Rattle.lists.specs.Lists.{sameBytes};
-ghost use Rattle.language.specs.Program.{key-of};
+ghost use Rattle.language.specs.Program.{meets};
 ghost use Rattle.cells.specs.Cells.{Number};
 ghost use Rattle.layout.specs.Cells.{cell, uncode};
 ghost use Rattle.layout.specs.Table.{number-by, text-by, instr-in, label-in, switch-in, entry-in, program-of};
@@ -319,9 +319,9 @@ pub fn entry_text(table: &[u32], e: usize) -> usize
 }
 
 // Whether entry `e` is met by `word`: by its text, or where it has none by its label's name.
-fn key_is(table: &[u32], e: usize, word: &[u8]) -> bool
+fn meets(table: &[u32], e: usize, word: &[u8]) -> bool
     requires { ⌜ Keyed (now table) e ⌝ }
-    ensures { λ r. ⌜ r ≡ sameBytes (key-of (program-of (now (table .entry))) (entry-in (table-of (now (table .entry))) e)) (now (word .entry)) ⌝ }
+    ensures { λ r. ⌜ r ≡ meets (program-of (now (table .entry))) (entry-in (table-of (now (table .entry))) e) (now (word .entry)) ⌝ }
 {
     let x = read(table, TablePlaces::FIRST_ENTRY + e);
     let v = x / 128;
@@ -338,7 +338,7 @@ pub fn find_entry(table: &[u32], first: usize, count: usize, word: &[u8]) -> usi
 {
     let mut k = 0;
     while k < count {
-        if key_is(table, first + k, word) {
+        if meets(table, first + k, word) {
             return k;
         }
         k += 1;

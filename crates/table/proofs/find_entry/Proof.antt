@@ -17,17 +17,17 @@ abbrev μ-loop : tie.MeasureT-loop
 loop-holds : tie.Need-loop-holds Inv-loop μ-loop
 loop-holds c = let d = c .before .before in (omega arith, search-start (now (d .args .table)) (now (d .args .word)) (d .args .first) (d .args .count))
 
-add-key-is : tie.Need-add-key-is Inv-loop μ-loop
-add-key-is c = search needs
+add-meets : tie.Need-add-meets Inv-loop μ-loop
+add-meets c = search needs
 
-key-is-requires : tie.Need-key-is-requires Inv-loop μ-loop
-key-is-requires c κs = let d = c .before .before .before .before in d .pre .keyed (c .before .loop .k) (c .loop-test .taken)
+meets-requires : tie.Need-meets-requires Inv-loop μ-loop
+meets-requires c κs = let d = c .before .before .before .before in d .pre .keyed (c .before .loop .k) (c .loop-test .taken)
 
 returns : tie.Need-returns Inv-loop μ-loop
 returns c =
     let d = c .before .before .before .before .before .before in
     let h = c .before .before .before .loop in
-    search-found (now (d .args .table)) (now (d .args .word)) (d .args .first) (d .args .count) (h .k) (h .inv .1) (c .before .before .loop-test .taken) (sym (c .if1 .taken) ∙ c .before .key-is .ensures)
+    search-found (now (d .args .table)) (now (d .args .word)) (d .args .first) (d .args .count) (h .k) (h .inv .1) (c .before .before .loop-test .taken) (sym (c .if1 .taken) ∙ c .before .meets .ensures)
 
 add-k : tie.Need-add-k Inv-loop μ-loop
 add-k c = search needs
@@ -39,7 +39,7 @@ loop-again : tie.Need-loop-again Inv-loop μ-loop
 loop-again c =
     let d = c .before .before .before .before .before .before in
     let h = c .before .before .before .loop in
-    (omega arith, search-on (now (d .args .table)) (now (d .args .word)) (d .args .first) (d .args .count) (h .k) (h .inv .1) (c .before .before .loop-test .taken) (sym (c .if1 .left) ∙ c .before .key-is .ensures))
+    (omega arith, search-on (now (d .args .table)) (now (d .args .word)) (d .args .first) (d .args .count) (h .k) (h .inv .1) (c .before .before .loop-test .taken) (sym (c .if1 .left) ∙ c .before .meets .ensures))
 
 returns-2 : tie.Need-returns-2 Inv-loop μ-loop
 returns-2 c =
@@ -54,8 +54,8 @@ find-entry-spec =
     Inv-loop
     μ-loop
     loop-holds
-    add-key-is
-    key-is-requires
+    add-meets
+    meets-requires
     returns
     add-k
     loop-less
