@@ -10,27 +10,28 @@ use lib.IntN.{ℤ, natAbs, _+ℤ_, _-ℤ_, _*ℤ_}
 use lib.Signed.{quotZ, remZ}
 use borrow.Author.Tests.{le-leb, ne-eqb}
 use Rattle.lists.specs.Lists.{all}
+use Rattle.language.specs.Instructions.{two-numbers}
 use Rattle.language.specs.Limits as limit
 use Rattle.language.specs.Letters.Letter.{E}
 use Rattle.language.specs.Program.{Arg, Op, Program}
 use Rattle.language.specs.Program.Arg.{nothing}
 use Rattle.language.specs.Program.Op.{DODAJ, ODEJMIJ, MNOZ, DZIEL}
 use Rattle.language.specs.Values.{Component, Store, Inputs, value, in-range}
-use Rattle.machine.specs.Arguments.{Asks, expr, first, side, ask, needs, _&_}
+use Rattle.machine.specs.Arguments.{Asks, expr, first, side, ask, of-kinds, _&_}
 use Rattle.machine.specs.Changes.{fits}
 use Rattle.machine.specs.Effects.{Row, computed, row}
 use Rattle.machine.specs.Effects.Go.{on}
 use Rattle.layout.specs.Cells.{uncode}
 use Rattle.state.specs.Working.{state-at, HoldsState, Stands, nth, reading}
 use Rattle.instructions.specs.Does.{answer-of, with-store, Does, Quiet, Tried}
-use Rattle.instructions.proofs.Answers.{answer-decided, kept-stop, kept-done, does-stop, answer-quiet, quiet-stop}
+use Rattle.instructions.proofs.Answers.{answer-decided, kept-stop, kept-done, does-stop, answer-quiet, quiet-stop, unstopped}
 use Rattle.table.specs.Denote.{arg-of}
 use Rattle.table.specs.declared.Argument.{Argument}
-use Rattle.operands.specs.Operands.{ReadsNumbers, ReadsPair, replaced, DoesWith}
+use Rattle.operands.specs.Operands.{ReadsOperands, ReadsPair, replaced, DoesWith}
 use Rattle.operands.specs.declared.Pair.{Pair}
 use Rattle.operands.proofs.Codes.{abs-most}
 use Rattle.tests.proofs.Values.{high}
-use Rattle.operands.proofs.Replacing.{replaced-last, number-first}
+use Rattle.operands.proofs.Replacing.{replaced-last, left-first}
 use Rattle.arithmetic.specs.Arithmetic.{Coded, Divisible, Codes, Numbered, Computed}
 use Rattle.arithmetic.proofs.Numbers.{divided-in, size-is, size-some}
 
@@ -44,16 +45,23 @@ module _ {p e n : List ℕ} (q : Asks) (t : Store) where
       go true z i g = record { is = i ∙ sym z; holds = rw (kept-done (q, t, on) (state-at p e n) z) g }
       go false z i g = record { is = i ∙ sym z; holds = rw (kept-stop (q, t, on) (state-at p e n) z (λ y. omega (arith, y))) g }
 
--- ---- rows of two numbers
+-- ---- rows of two numbers: of what is offered as xs and ys, and has the values x and y
 
 abbrev asks-of : List Component → List Component → Bool → Asks
-asks-of xs ys b = needs 1 xs & needs 1 ys & ask 54 b
+asks-of xs ys b = ask 54 b & of-kinds two-numbers xs ys
 
-abbrev results : (ℤ → ℤ → List ℤ) → List Component → List Component → List ℤ
-results f xs ys = f (value (first xs)) (value (first ys))
+abbrev row-of : (ℤ → ℤ → List ℤ) → ℕ → Store → List Component → List Component → ℤ → ℤ → Row
+row-of f i s xs ys x y = (asks-of xs ys (all in-range (f x y)), replaced true i (map Component.number (f x y)) s, on)
 
-abbrev row-of : (ℤ → ℤ → List ℤ) → ℕ → Store → List Component → List Component → Row
-row-of f i s xs ys = (asks-of xs ys (all in-range (results f xs ys)), replaced true i (map Component.number (results f xs ys)) s, on)
+abbrev quotients : ℤ → ℤ → List ℤ
+quotients x y = remZ x y ∷ quotZ x y ∷ []
+
+abbrev divided : ℕ → Store → List Component → List Component → ℤ → ℤ → Row
+divided i s xs ys x y = (
+  ask 55 (not (eqb (natAbs y) 0)) & asks-of xs ys (all in-range (quotients x y)),
+  replaced true i (map Component.number (quotients x y)) s,
+  on,
+)
 
 module _ (g : Program) (ins : Inputs) (s : Store) (i : ℕ) (a : Arg) where
   abbrev xs : List Component
@@ -62,24 +70,22 @@ module _ (g : Program) (ins : Inputs) (s : Store) (i : ℕ) (a : Arg) where
   abbrev ys : List Component
   ys = side ins s a
 
-  pub row-dodaj : row g ins s (nth (reading true) i) a nothing DODAJ ≡ row-of (λ x y. (x +ℤ y) ∷ []) i s xs ys
+  abbrev of-values : (ℤ → ℤ → Row) → Row
+  of-values r = r (value (first xs)) (value (first ys))
+
+  pub row-dodaj : row g ins s (nth (reading true) i) a nothing DODAJ ≡ of-values (row-of (λ x y. (x +ℤ y) ∷ []) i s xs ys)
   unfolding row computed replaced
   row-dodaj = refl
 
-  pub row-odejmij : row g ins s (nth (reading true) i) a nothing ODEJMIJ ≡ row-of (λ x y. (x -ℤ y) ∷ []) i s xs ys
+  pub row-odejmij : row g ins s (nth (reading true) i) a nothing ODEJMIJ ≡ of-values (row-of (λ x y. (x -ℤ y) ∷ []) i s xs ys)
   unfolding row computed replaced
   row-odejmij = refl
 
-  pub row-mnoz : row g ins s (nth (reading true) i) a nothing MNOZ ≡ row-of (λ x y. (x *ℤ y) ∷ []) i s xs ys
+  pub row-mnoz : row g ins s (nth (reading true) i) a nothing MNOZ ≡ of-values (row-of (λ x y. (x *ℤ y) ∷ []) i s xs ys)
   unfolding row computed replaced
   row-mnoz = refl
 
-  pub row-dziel : row g ins s (nth (reading true) i) a nothing DZIEL
-      ≡ (
-        ask 55 (not (eqb (natAbs (value (first ys))) 0)) & asks-of xs ys (all in-range (results (λ x y. remZ x y ∷ quotZ x y ∷ []) xs ys)),
-        replaced true i (map Component.number (results (λ x y. remZ x y ∷ quotZ x y ∷ []) xs ys)) s,
-        on,
-      )
+  pub row-dziel : row g ins s (nth (reading true) i) a nothing DZIEL ≡ of-values (divided i s xs ys)
   unfolding row computed replaced
   row-dziel = refl
 
@@ -89,7 +95,7 @@ quiet-two xs ys b = record { is-50 = refl; is-55 = refl; is-56 = refl; is-57 = r
 abbrev stop-two : Bool → Bool → ℕ
 stop-two a b = cond a (cond b 0 53) 52
 
-range-after : (a b c : Bool) → (stop-two a b ≡ 0 → ⊥) → stop-two a b ≡ cond (a && true) (cond (b && true) (cond c 0 54) 53) 52
+range-after : (a b c : Bool) → (stop-two a b ≡ 0 → ⊥) → stop-two a b ≡ cond a (cond b (cond (c && true) 0 54) 53) 52
 range-after false b c z = refl
 range-after true false c z = refl
 range-after true true c z = absurd (z refl)
@@ -101,42 +107,54 @@ module _ {p e n : List ℕ} (h : Stands p e n) (i : ℕ) where
   last-most : (zs : List Component) → replaced true i zs s .last ≤ limit.addresses
   last-most zs = rw (replaced-last true i zs s) (h .fine .last-most)
 
-  module _ (xs ys : List Component) {r : Pair} (w : ReadsNumbers xs ys r) where
-    pub two-stop : (f : ℤ → ℤ → List ℤ) → (r .stop ≡ 0 → ⊥) → Does p e n (r .stop) p e n (row-of f i s xs ys)
+  module _ (xs ys : List Component) {r : Pair} (w : ReadsOperands two-numbers xs ys r) where
+    abbrev kinds : Asks
+    kinds = of-kinds two-numbers xs ys
+
+    abbrev x : ℤ
+    x = uncode (r .left)
+
+    abbrev y : ℤ
+    y = uncode (r .right)
+
+    -- what is done with the codes' values is done with the operands'
+    pub by-values : (f : ℤ → ℤ → Row) {k : ℕ} {p′ e′ n′ : List ℕ} → Does p e n k p′ e′ n′ (f x y) → Does p e n k p′ e′ n′ (f (value (first xs)) (value (first ys)))
+    by-values f d = rw (w .left-is, w .right-is) at d
+
+    pub two-stop : (f : ℤ → ℤ → List ℤ) → (r .stop ≡ 0 → ⊥) → Does p e n (r .stop) p e n (row-of f i s xs ys x y)
     two-stop f z =
-        let c = all in-range (results f xs ys) in
-        let q = needs 1 xs & needs 1 ys in
-        quiet-stop h (asks-of xs ys c) (replaced true i (map Component.number (results f xs ys)) s) (quiet-two xs ys c)
-        (w .stop-is ∙ range-after (q 52) (q 53) c (λ y. z (w .stop-is ∙ y))) z
+        let c = all in-range (f x y) in
+        quiet-stop h (asks-of xs ys c) (replaced true i (map Component.number (f x y)) s) (quiet-two xs ys c)
+        (w .stop-is ∙ range-after (kinds 52) (kinds 53) c (λ q. z (w .stop-is ∙ q))) z
 
-    -- one result
-    module _ (f : ℤ → ℤ → ℤ) where
-      abbrev v : ℤ
-      v = f (uncode (r .left)) (uncode (r .right))
+    module _ (z : r .stop ≡ 0) where
+      both-yes : (kinds 52 ≡ true) × (kinds 53 ≡ true) × (kinds 54 ≡ true)
+      both-yes = unstopped kinds (sym (w .stop-is) ∙ z)
 
-      abbrev t : Store
-      t = replaced true i (Component.number v ∷ []) s
+      -- one result
+      module _ (f : ℤ → ℤ → ℤ) where
+        abbrev v : ℤ
+        v = f x y
 
-      abbrev q : Asks
-      q = asks-of (Component.number (uncode (r .left)) ∷ []) (Component.number (uncode (r .right)) ∷ []) (in-range v && true)
+        abbrev t : Store
+        t = replaced true i (Component.number v ∷ []) s
 
-      answers : answer-of (q, t, on) (state-at p e n) ≡ cond (in-range v && true) (cond (fits t) 0 59) 54
-      answers =
-          answer-quiet q t (state-at p e n)
-          (quiet-two (Component.number (uncode (r .left)) ∷ []) (Component.number (uncode (r .right)) ∷ []) (in-range v && true)) (h .fine .stack-most)
-          ∙ rw (le-leb (t .last) limit.addresses (last-most (Component.number v ∷ []))) refl
+        abbrev q : Asks
+        q = asks-of xs ys (in-range v && true)
 
-      one-row : {k : ℕ} {p′ e′ n′ : List ℕ} → Computed p e n k p′ e′ n′ i v → Does p e n k p′ e′ n′ (q, t, on)
-      one-row {k} {p′} {e′} {n′} u = go (in-range v) refl
-        where
-          go : (b : Bool) → in-range v ≡ b → Does p e n k p′ e′ n′ (q, t, on)
-          go true y = settled q t (answers ∙ rw y refl) (u .within y)
-          go false y =
-              let a : answer-of (q, t, on) (state-at p e n) ≡ 54 = answers ∙ rw y refl in
-              record { is = u .over y ∙ sym a; holds = rw (kept-stop (q, t, on) (state-at p e n) a (λ x. omega (arith, x))) (u .kept y) }
+        answers : answer-of (q, t, on) (state-at p e n) ≡ cond ((in-range v && true) && true) (cond (fits t) 0 59) 54
+        answers =
+            answer-quiet q t (state-at p e n) (quiet-two xs ys (in-range v && true)) (h .fine .stack-most)
+            ∙ rw (both-yes .0, both-yes .1, le-leb (t .last) limit.addresses (last-most (Component.number v ∷ []))) refl
 
-      pub one-done : r .stop ≡ 0 → {k : ℕ} {p′ e′ n′ : List ℕ} → Computed p e n k p′ e′ n′ i v → Does p e n k p′ e′ n′ (row-of (λ x y. f x y ∷ []) i s xs ys)
-      one-done z u = rw (w .left-is z, w .right-is z) (one-row u)
+        pub one-done : {k : ℕ} {p′ e′ n′ : List ℕ} → Computed p e n k p′ e′ n′ i v → Does p e n k p′ e′ n′ (row-of (λ x y. f x y ∷ []) i s xs ys x y)
+        one-done {k} {p′} {e′} {n′} u = go (in-range v) refl
+          where
+            go : (b : Bool) → in-range v ≡ b → Does p e n k p′ e′ n′ (q, t, on)
+            go true y = settled q t (answers ∙ rw y refl) (u .within y)
+            go false y =
+                let a : answer-of (q, t, on) (state-at p e n) ≡ 54 = answers ∙ rw y refl in
+                record { is = u .over y ∙ sym a; holds = rw (kept-stop (q, t, on) (state-at p e n) a (λ x. omega (arith, x))) (u .kept y) }
 
 -- ---- DZIEL: 55, too
 
@@ -144,7 +162,7 @@ abbrev closed : Bool → Bool → Bool → Bool → Bool → ℕ
 closed a b c d f = cond a (cond b (cond c (cond d (cond f 0 59) 55) 54) 53) 52
 
 decided-so : (a b c d f : Bool)
-    → cond ((a && true) && true) (cond ((b && true) && true) (cond (c && true) (cond ((d && true) && true) (cond ((f && true) && true) 0 59) 55) 54) 53) 52
+    → cond (a && true) (cond (b && true) (cond ((c && true) && true) (cond ((d && true) && true) (cond ((f && true) && true) 0 59) 55) 54) 53) 52
     ≡ closed a b c d f
 decided-so false b c d f = refl
 decided-so true false c d f = refl
@@ -158,74 +176,64 @@ closed-stop false b c d f z = refl
 closed-stop true false c d f z = refl
 closed-stop true true c d f z = absurd (z refl)
 
-abbrev quotients : ℤ → ℤ → List ℤ
-quotients x y = remZ x y ∷ quotZ x y ∷ []
+module _ {p e n : List ℕ} (h : Stands p e n) (i : ℕ) (xs ys : List Component) {r : Pair} (w : ReadsOperands two-numbers xs ys r) where
+  abbrev asks : Asks
+  asks = of-kinds two-numbers xs ys
 
-abbrev divided-asks : List Component → List Component → Asks
-divided-asks xs ys = ask 55 (not (eqb (natAbs (value (first ys))) 0)) & asks-of xs ys (all in-range (results quotients xs ys))
+  abbrev dividend : ℤ
+  dividend = uncode (r .left)
 
-module _ {p e n : List ℕ} (h : Stands p e n) (i : ℕ) where
-  abbrev quotient-store : List Component → List Component → Store
-  quotient-store xs ys = replaced true i (map Component.number (results quotients xs ys)) (state-at p e n .store)
+  abbrev divisor : ℤ
+  divisor = uncode (r .right)
 
-  abbrev divided : List Component → List Component → Row
-  divided xs ys = (divided-asks xs ys, quotient-store xs ys, on)
+  abbrev is-divisor : Bool
+  is-divisor = not (eqb (natAbs divisor) 0)
 
-  answer-divided : (xs ys : List Component)
-      → answer-of (divided xs ys) (state-at p e n)
-      ≡ closed ((needs 1 xs & needs 1 ys) 52) ((needs 1 xs & needs 1 ys) 53) (all in-range (results quotients xs ys)) (not (eqb (natAbs (value (first ys))) 0)) (fits (quotient-store xs ys))
-  answer-divided xs ys =
-      answer-decided (divided xs ys) (state-at p e n)
+  abbrev in-both : Bool
+  in-both = all in-range (quotients dividend divisor)
+
+  abbrev divided-row : Row
+  divided-row = divided i (state-at p e n .store) xs ys dividend divisor
+
+  answer-divided : answer-of divided-row (state-at p e n) ≡ closed (asks 52) (asks 53) in-both is-divisor (fits (divided-row .1))
+  answer-divided =
+      answer-decided divided-row (state-at p e n)
       ∙ rw (
         le-leb (length (state-at p e n .stack)) limit.stack (h .fine .stack-most),
-        le-leb (quotient-store xs ys .last) limit.addresses (last-most h i (map Component.number (results quotients xs ys))),
-      ) (decided-so ((needs 1 xs & needs 1 ys) 52) ((needs 1 xs & needs 1 ys) 53) (all in-range (results quotients xs ys)) (not (eqb (natAbs (value (first ys))) 0)) (fits (quotient-store xs ys)))
+        le-leb (divided-row .1 .last) limit.addresses (last-most h i (map Component.number (quotients dividend divisor))),
+      ) (decided-so (asks 52) (asks 53) in-both is-divisor (fits (divided-row .1)))
 
-  module _ (xs ys : List Component) {r : Pair} (w : ReadsNumbers xs ys r) where
-    pub dziel-stop : (r .stop ≡ 0 → ⊥) → Does p e n (r .stop) p e n (divided xs ys)
-    dziel-stop z =
-        does-stop h (divided xs ys)
-        (answer-divided xs ys
-        ∙ closed-stop ((needs 1 xs & needs 1 ys) 52) ((needs 1 xs & needs 1 ys) 53) (all in-range (results quotients xs ys)) (not (eqb (natAbs (value (first ys))) 0)) (fits (quotient-store xs ys)) (λ y. z (w .stop-is ∙ y))
-        ∙ sym (w .stop-is)) z
+  pub dziel-stop : (r .stop ≡ 0 → ⊥) → Does p e n (r .stop) p e n divided-row
+  dziel-stop z =
+      does-stop h divided-row
+      (answer-divided ∙ closed-stop (asks 52) (asks 53) in-both is-divisor (fits (divided-row .1)) (λ y. z (w .stop-is ∙ y)) ∙ sym (w .stop-is)) z
 
-    abbrev x : ℤ
-    x = uncode (r .left)
+  module _ (z : r .stop ≡ 0) where
+    answer-two : answer-of divided-row (state-at p e n) ≡ cond is-divisor (cond (fits (divided-row .1)) 0 59) 55
+    answer-two =
+        let k = divided-in dividend divisor (abs-most (r .left) (w .left-most)) in
+        let u = both-yes h i xs ys w z in
+        answer-divided ∙ rw (u .0, u .1, k .0, k .1) refl
 
-    abbrev y : ℤ
-    y = uncode (r .right)
+    pub dziel-zero : r .right ≡ 8388607 → Does p e n 55 p e n divided-row
+    dziel-zero o =
+        let d : eqb (natAbs divisor) 0 ≡ true = rw (o, high 8388607 (omega arith)) refl in
+        does-stop h divided-row (answer-two ∙ rw d refl) (λ k. omega (arith, k))
 
-    abbrev xs₁ : List Component
-    xs₁ = Component.number x ∷ []
-
-    abbrev ys₁ : List Component
-    ys₁ = Component.number y ∷ []
-
-    in-both : all in-range (quotients x y) ≡ true
-    in-both = let k = divided-in x y (abs-most (r .left) (w .left-most)) in rw (k .0, k .1) refl
-
-    answer-two : answer-of (divided xs₁ ys₁) (state-at p e n) ≡ cond (not (eqb (natAbs y) 0)) (cond (fits (quotient-store xs₁ ys₁)) 0 59) 55
-    answer-two = answer-divided xs₁ ys₁ ∙ ap (λ (c : Bool). closed true true c (not (eqb (natAbs y) 0)) (fits (quotient-store xs₁ ys₁))) in-both
-
-    pub dziel-zero : r .stop ≡ 0 → r .right ≡ 8388607 → Does p e n 55 p e n (divided xs ys)
-    dziel-zero z o =
-        let e : eqb (natAbs y) 0 ≡ true = rw (o, high 8388607 (omega arith)) refl in
-        rw (w .left-is z, w .right-is z) (does-stop h (divided xs₁ ys₁) (answer-two ∙ rw e refl) (λ k. omega (arith, k)))
-
-    pub dziel-done : r .stop ≡ 0 → (r .right ≡ 8388607 → ⊥) → (a b : ℕ) → uncode a ≡ remZ x y → uncode b ≡ quotZ x y → {k : ℕ} {p′ e′ n′ : List ℕ}
+    pub dziel-done : (r .right ≡ 8388607 → ⊥) → (a b : ℕ) → uncode a ≡ remZ dividend divisor → uncode b ≡ quotZ dividend divisor → {k : ℕ} {p′ e′ n′ : List ℕ}
         → Tried p e n k p′ e′ n′ true (replaced true i (Component.number (uncode a) ∷ Component.number (uncode b) ∷ []) (state-at p e n .store))
-        → Does p e n k p′ e′ n′ (divided xs ys)
-    dziel-done z o a b l m {k} {p′} {e′} {n′} u =
+        → Does p e n k p′ e′ n′ divided-row
+    dziel-done o a b l m {k} {p′} {e′} {n′} u =
         let d = size-some (size-is (r .right) (w .right-most)) (w .right-most) o in
-        let c : eqb (natAbs y) 0 ≡ false = ne-eqb (natAbs y) 0 (λ q. omega (arith, d, q)) in
-        let v : Tried p e n k p′ e′ n′ true (quotient-store xs₁ ys₁) =
+        let c : eqb (natAbs divisor) 0 ≡ false = ne-eqb (natAbs divisor) 0 (λ q. omega (arith, d, q)) in
+        let v : Tried p e n k p′ e′ n′ true (divided-row .1) =
         subst (λ (q : ℤ × ℤ). Tried p e n k p′ e′ n′ true (replaced true i (Component.number (q .0) ∷ Component.number (q .1) ∷ []) (state-at p e n .store)))
-        (ap (λ (f : ℤ). (f, uncode b)) l ∙ ap (λ (f : ℤ). (remZ x y, f)) m) u in
-        rw (w .left-is z, w .right-is z) (settled (divided-asks xs₁ ys₁) (quotient-store xs₁ ys₁) (answer-two ∙ rw c refl) v)
+        (ap (λ (f : ℤ). (f, uncode b)) l ∙ ap (λ (f : ℤ). (remZ dividend divisor, f)) m) u in
+        settled (divided-row .0) (divided-row .1) (answer-two ∙ rw c refl) v
 
 -- ---- what the functions of the instructions promise
 
-module _ {p e n : List ℕ} (h : Stands p e n) (i : ℕ) (a : Argument) {r : Pair} (w : ReadsPair (state-at p e n .store) i a r) where
+module _ {p e n : List ℕ} (h : Stands p e n) (i : ℕ) (a : Argument) {r : Pair} (w : ReadsPair two-numbers (state-at p e n .store) i a r) where
   abbrev store : Store
   store = state-at p e n .store
 
@@ -246,34 +254,55 @@ module _ {p e n : List ℕ} (h : Stands p e n) (i : ℕ) (a : Argument) {r : Pai
 
   pub numbered : r .stop ≡ 0 → {scratch hold : ℕ} → 65536 ≤ scratch → 32768 ≤ hold → i < limit.expressions → Numbered p e n scratch hold i
   numbered z sp ro ix =
-      record { stands = h; spare = sp; room = ro; index = ix; first = number-first (expr store (nth E i)) (uncode (r .left)) (w true [] [] .left-is z) }
+      record { stands = h; spare = sp; room = ro; index = ix; first = left-first (expr store (nth E i)) (right [] []) (sym (w true [] [] .stop-is) ∙ z) }
+
+  -- an instruction with one result
+  module _ (o : Op) (f : ℤ → ℤ → ℤ)
+      (is : (g : Program) (ins : Inputs) (b : Arg) → row g ins store (nth (reading true) i) b nothing o ≡ of-values g ins store i b (row-of (λ x y. f x y ∷ []) i store (xs g ins store i b) (ys g ins store i b))) where
+    one-stop : (r .stop ≡ 0 → ⊥) → DoesWith p e n (r .stop) p e n (rows o)
+    one-stop z c g ins =
+        let v = w true c ins in
+        rw (is g ins (arg-of c a))
+        (by-values h i (left ins) (right c ins) v (row-of (λ x y. f x y ∷ []) i store (left ins) (right c ins)) (two-stop h i (left ins) (right c ins) v (λ x y. f x y ∷ []) z))
+
+    one-result : r .stop ≡ 0 → {k : ℕ} {p′ e′ n′ : List ℕ} → Computed p e n k p′ e′ n′ i (f (uncode (r .left)) (uncode (r .right))) → DoesWith p e n k p′ e′ n′ (rows o)
+    one-result z u c g ins =
+        let v = w true c ins in
+        rw (is g ins (arg-of c a))
+        (by-values h i (left ins) (right c ins) v (row-of (λ x y. f x y ∷ []) i store (left ins) (right c ins)) (one-done h i (left ins) (right c ins) v z f u))
 
   pub dodaj-stop : (r .stop ≡ 0 → ⊥) → DoesWith p e n (r .stop) p e n (rows DODAJ)
-  dodaj-stop z c g ins = rw (row-dodaj g ins store i (arg-of c a)) (two-stop h i (left ins) (right c ins) (w true c ins) (λ x y. (x +ℤ y) ∷ []) z)
+  dodaj-stop = one-stop DODAJ (λ x y. x +ℤ y) (λ g ins. row-dodaj g ins store i)
 
   pub dodaj-done : r .stop ≡ 0 → {k : ℕ} {p′ e′ n′ : List ℕ} → Computed p e n k p′ e′ n′ i (uncode (r .left) +ℤ uncode (r .right)) → DoesWith p e n k p′ e′ n′ (rows DODAJ)
-  dodaj-done z u c g ins = rw (row-dodaj g ins store i (arg-of c a)) (one-done h i (left ins) (right c ins) (w true c ins) (λ x y. x +ℤ y) z u)
+  dodaj-done = one-result DODAJ (λ x y. x +ℤ y) (λ g ins. row-dodaj g ins store i)
 
   pub odejmij-stop : (r .stop ≡ 0 → ⊥) → DoesWith p e n (r .stop) p e n (rows ODEJMIJ)
-  odejmij-stop z c g ins = rw (row-odejmij g ins store i (arg-of c a)) (two-stop h i (left ins) (right c ins) (w true c ins) (λ x y. (x -ℤ y) ∷ []) z)
+  odejmij-stop = one-stop ODEJMIJ (λ x y. x -ℤ y) (λ g ins. row-odejmij g ins store i)
 
   pub odejmij-done : r .stop ≡ 0 → {k : ℕ} {p′ e′ n′ : List ℕ} → Computed p e n k p′ e′ n′ i (uncode (r .left) -ℤ uncode (r .right)) → DoesWith p e n k p′ e′ n′ (rows ODEJMIJ)
-  odejmij-done z u c g ins = rw (row-odejmij g ins store i (arg-of c a)) (one-done h i (left ins) (right c ins) (w true c ins) (λ x y. x -ℤ y) z u)
+  odejmij-done = one-result ODEJMIJ (λ x y. x -ℤ y) (λ g ins. row-odejmij g ins store i)
 
   pub mnoz-stop : (r .stop ≡ 0 → ⊥) → DoesWith p e n (r .stop) p e n (rows MNOZ)
-  mnoz-stop z c g ins = rw (row-mnoz g ins store i (arg-of c a)) (two-stop h i (left ins) (right c ins) (w true c ins) (λ x y. (x *ℤ y) ∷ []) z)
+  mnoz-stop = one-stop MNOZ (λ x y. x *ℤ y) (λ g ins. row-mnoz g ins store i)
 
   pub mnoz-done : r .stop ≡ 0 → {k : ℕ} {p′ e′ n′ : List ℕ} → Computed p e n k p′ e′ n′ i (uncode (r .left) *ℤ uncode (r .right)) → DoesWith p e n k p′ e′ n′ (rows MNOZ)
-  mnoz-done z u c g ins = rw (row-mnoz g ins store i (arg-of c a)) (one-done h i (left ins) (right c ins) (w true c ins) (λ x y. x *ℤ y) z u)
+  mnoz-done = one-result MNOZ (λ x y. x *ℤ y) (λ g ins. row-mnoz g ins store i)
+
+  -- DZIEL
+  dziel-by : (c : List ℕ) (g : Program) (ins : Inputs) {k : ℕ} {p′ e′ n′ : List ℕ}
+      → Does p e n k p′ e′ n′ (divided i store (left ins) (right c ins) (uncode (r .left)) (uncode (r .right))) → Does p e n k p′ e′ n′ (rows DZIEL c g ins)
+  dziel-by c g ins d =
+      rw (row-dziel g ins store i (arg-of c a)) (by-values h i (left ins) (right c ins) (w true c ins) (divided i store (left ins) (right c ins)) d)
 
   pub dziel-stops : (r .stop ≡ 0 → ⊥) → DoesWith p e n (r .stop) p e n (rows DZIEL)
-  dziel-stops z c g ins = rw (row-dziel g ins store i (arg-of c a)) (dziel-stop h i (left ins) (right c ins) (w true c ins) z)
+  dziel-stops z c g ins = dziel-by c g ins (dziel-stop h i (left ins) (right c ins) (w true c ins) z)
 
   pub dziel-zeros : r .stop ≡ 0 → r .right ≡ 8388607 → DoesWith p e n 55 p e n (rows DZIEL)
-  dziel-zeros z o c g ins = rw (row-dziel g ins store i (arg-of c a)) (dziel-zero h i (left ins) (right c ins) (w true c ins) z o)
+  dziel-zeros z o c g ins = dziel-by c g ins (dziel-zero h i (left ins) (right c ins) (w true c ins) z o)
 
   pub dziel-dones : r .stop ≡ 0 → (r .right ≡ 8388607 → ⊥) → {x y : ℕ} → Codes (remZ (uncode (r .left)) (uncode (r .right))) x
       → Codes (quotZ (uncode (r .left)) (uncode (r .right))) y → {k : ℕ} {p′ e′ n′ : List ℕ}
       → Tried p e n k p′ e′ n′ true (replaced true i (Component.number (uncode x) ∷ Component.number (uncode y) ∷ []) store) → DoesWith p e n k p′ e′ n′ (rows DZIEL)
   dziel-dones z o {x} {y} l m u c g ins =
-      rw (row-dziel g ins store i (arg-of c a)) (dziel-done h i (left ins) (right c ins) (w true c ins) z o x y (l .is) (m .is) u)
+      dziel-by c g ins (dziel-done h i (left ins) (right c ins) (w true c ins) z o x y (l .is) (m .is) u)

@@ -160,7 +160,7 @@ pub fn dodaj(
     requires { ⌜ Computable (now pool) (now ends) (now nums) (length (now scratch)) (length (now hold)) i arg ⌝ }
     ensures { λ r. ⌜ DoesWith (now (pool .entry)) (now (ends .entry)) (now (nums .entry)) r (now (pool .exit)) (now (ends .exit)) (now (nums .exit)) (λ c g ins. row g ins (state-at (now (pool .entry)) (now (ends .entry)) (now (nums .entry)) .store) (nth (reading true) i) (arg-of c arg) nothing DODAJ) ⌝ }
 {
-    let q = operands::two_numbers(pool, ends, nums, i, arg);
+    let q = operands::two_operands(pool, ends, nums, i, arg, operands::Kinds::Numbers);
     let stop = q.stop;
     let x = q.left;
     let y = q.right;
@@ -183,7 +183,7 @@ pub fn odejmij(
     requires { ⌜ Computable (now pool) (now ends) (now nums) (length (now scratch)) (length (now hold)) i arg ⌝ }
     ensures { λ r. ⌜ DoesWith (now (pool .entry)) (now (ends .entry)) (now (nums .entry)) r (now (pool .exit)) (now (ends .exit)) (now (nums .exit)) (λ c g ins. row g ins (state-at (now (pool .entry)) (now (ends .entry)) (now (nums .entry)) .store) (nth (reading true) i) (arg-of c arg) nothing ODEJMIJ) ⌝ }
 {
-    let q = operands::two_numbers(pool, ends, nums, i, arg);
+    let q = operands::two_operands(pool, ends, nums, i, arg, operands::Kinds::Numbers);
     let stop = q.stop;
     let x = q.left;
     let y = q.right;
@@ -206,7 +206,7 @@ pub fn mnoz(
     requires { ⌜ Computable (now pool) (now ends) (now nums) (length (now scratch)) (length (now hold)) i arg ⌝ }
     ensures { λ r. ⌜ DoesWith (now (pool .entry)) (now (ends .entry)) (now (nums .entry)) r (now (pool .exit)) (now (ends .exit)) (now (nums .exit)) (λ c g ins. row g ins (state-at (now (pool .entry)) (now (ends .entry)) (now (nums .entry)) .store) (nth (reading true) i) (arg-of c arg) nothing MNOZ) ⌝ }
 {
-    let q = operands::two_numbers(pool, ends, nums, i, arg);
+    let q = operands::two_operands(pool, ends, nums, i, arg, operands::Kinds::Numbers);
     let stop = q.stop;
     let x = q.left;
     let y = q.right;
@@ -229,7 +229,7 @@ pub fn dziel(
     requires { ⌜ Computable (now pool) (now ends) (now nums) (length (now scratch)) (length (now hold)) i arg ⌝ }
     ensures { λ r. ⌜ DoesWith (now (pool .entry)) (now (ends .entry)) (now (nums .entry)) r (now (pool .exit)) (now (ends .exit)) (now (nums .exit)) (λ c g ins. row g ins (state-at (now (pool .entry)) (now (ends .entry)) (now (nums .entry)) .store) (nth (reading true) i) (arg-of c arg) nothing DZIEL) ⌝ }
 {
-    let q = operands::two_numbers(pool, ends, nums, i, arg);
+    let q = operands::two_operands(pool, ends, nums, i, arg, operands::Kinds::Numbers);
     let stop = q.stop;
     let x = q.left;
     let y = q.right;

@@ -1,4 +1,4 @@
--- The one table of the 41 instructions: number, word, flow, and the arguments listed for each place (5.1 to 5.10). The loader (01, 02, 10),
+-- The one table of the 41 instructions: number, word, flow, the arguments listed for each place (5.1 to 5.10), and kinds. The loader (01, 02, 10),
 -- the check of a table (62) and of a state (63), and the machine all use it.
 use mathlib.Core.Bool.{Bool, true, false}
 use mathlib.Core.List.{List, [], _∷_, map}
@@ -17,15 +17,26 @@ Forms = String × String × String
 pub data Flow : Type 0 where
   through calls ends : Flow
 
--- an instruction has one or two lists of forms
+-- an instruction has one or two lists of forms; kinds: the pairs of kinds that its two operands may have, where it asks for the kinds of both
 pub record Operation : Type 0 where
   pub number : ℕ
   pub name : String
   pub flow : Flow
   pub forms : List Forms
+  pub kinds : List (ℕ × ℕ)
 
 abbrev row : ℕ → String → Flow → List Forms → Operation
-row n w f fs = record { number = n; name = w; flow = f; forms = fs }
+row n w f fs = record { number = n; name = w; flow = f; forms = fs; kinds = [] }
+
+-- with two operands of kinds that are listed (53)
+abbrev with-kinds : List (ℕ × ℕ) → Operation → Operation
+with-kinds ks o = record { number = o .number; name = o .name; flow = o .flow; forms = o .forms; kinds = ks }
+
+abbrev pub two-words : List (ℕ × ℕ)
+two-words = (0, 0) ∷ []
+
+abbrev pub two-numbers : List (ℕ × ℕ)
+two-numbers = (1, 1) ∷ []
 
 abbrev pub operation : Op → Operation
 operation PRZESLIJ = row 1 "PRZESLIJ" through (("AB", "ABYZ", "-nNctBT") ∷ [])
@@ -41,10 +52,10 @@ operation UMIESC = row 10 "UMIESC" through (("nt", "ABYZCD", "-") ∷ ("t", "Q",
 operation USUN = row 11 "USUN" through (("AI", "-nNctBT", "-") ∷ [])
 operation SKRESL = row 12 "SKRESL" through (("C", "-nNtBTE", "-") ∷ [])
 operation RW = row 13 "RW" through (("ABT", "nN", "-") ∷ ("ABTI", "tcBT", "-") ∷ [])
-operation WK = row 14 "WK" through (("B", "nB", "-") ∷ [])
-operation MN = row 15 "MN" through (("B", "nB", "-") ∷ [])
-operation PP = row 16 "PP" through (("B", "tB", "-") ∷ [])
-operation NS = row 17 "NS" through (("B", "tB", "-") ∷ [])
+operation WK = with-kinds two-numbers (row 14 "WK" through (("B", "nB", "-") ∷ []))
+operation MN = with-kinds two-numbers (row 15 "MN" through (("B", "nB", "-") ∷ []))
+operation PP = with-kinds two-words (row 16 "PP" through (("B", "tB", "-") ∷ []))
+operation NS = with-kinds two-words (row 17 "NS" through (("B", "tB", "-") ∷ []))
 operation RZ = row 18 "RZ" through (("P", "ntBENT", "-") ∷ [])
 operation SKOCZ = row 19 "SKOCZ" ends (("l", "-", "-") ∷ [])
 operation WYKONAJ = row 20 "WYKONAJ" calls (("l", "-", "-") ∷ [])
@@ -57,10 +68,10 @@ operation SKOIN = row 26 "SKOIN" through (("AB", "x", "-") ∷ [])
 operation WYNA = row 27 "WYNA" calls (("AB", "w", "-") ∷ [])
 operation WYIN = row 28 "WYIN" calls (("AB", "x", "-") ∷ [])
 operation WROC = row 29 "WROC" ends (("-", "-", "-") ∷ [])
-operation DODAJ = row 30 "DODAJ" through (("A", "nB", "-") ∷ [])
-operation ODEJMIJ = row 31 "ODEJMIJ" through (("A", "nB", "-") ∷ [])
-operation MNOZ = row 32 "MNOZ" through (("A", "nB", "-") ∷ [])
-operation DZIEL = row 33 "DZIEL" through (("A", "nB", "-") ∷ [])
+operation DODAJ = with-kinds two-numbers (row 30 "DODAJ" through (("A", "nB", "-") ∷ []))
+operation ODEJMIJ = with-kinds two-numbers (row 31 "ODEJMIJ" through (("A", "nB", "-") ∷ []))
+operation MNOZ = with-kinds two-numbers (row 32 "MNOZ" through (("A", "nB", "-") ∷ []))
+operation DZIEL = with-kinds two-numbers (row 33 "DZIEL" through (("A", "nB", "-") ∷ []))
 operation SLOWO = row 34 "SLOWO" through (("AB", "-", "-") ∷ [])
 operation LICZBA = row 35 "LICZBA" through (("AB", "-", "-") ∷ [])
 operation ZBIJ = row 36 "ZBIJ" through (("AB", "-nNctBT", "-") ∷ [])
@@ -69,6 +80,9 @@ operation SZUKAJ = row 38 "SZUKAJ" through (("AB", "w", "-") ∷ [])
 operation OMIN = row 39 "OMIN" through (("P", "-nNtBTE", "-") ∷ [])
 operation COFNIJ = row 40 "COFNIJ" through (("P", "-", "-") ∷ [])
 operation STOP = row 41 "STOP" ends (("-", "-", "-") ∷ [])
+
+abbrev pub kinds-of : Op → List (ℕ × ℕ)
+kinds-of o = operation o .kinds
 
 -- all of them, by their numbers from 1
 abbrev pub operators : List Op

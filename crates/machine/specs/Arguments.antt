@@ -140,6 +140,13 @@ is k xs = ask 53 (all (λ x. eqb (kind x) k) (take 1 xs))
 abbrev pub alike : List Component → List Component → Asks
 alike xs ys = ask 53 (all (λ x. all (λ y. eqb (kind x) (kind y)) (take 1 ys)) (take 1 xs))
 
+-- two operands: 52 of both, then 53, which is yes where the pair of their kinds is listed
+abbrev pub listed-pair : List (ℕ × ℕ) → ℕ → ℕ → Bool
+listed-pair ks j k = any (λ q. eqb j (q .0) && eqb k (q .1)) ks
+
+abbrev pub of-kinds : List (ℕ × ℕ) → List Component → List Component → Asks
+of-kinds ks xs ys = present xs & present ys & ask 53 (listed-pair ks (kind (first xs)) (kind (first ys)))
+
 abbrev pub when : Bool → Asks → Asks
 when b x = cond b x none
 

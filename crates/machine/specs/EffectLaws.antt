@@ -1,19 +1,20 @@
 -- Every instruction keeps what a step keeps, once its questions are answered yes.
 use mathlib.Core.Path.{_≡_, refl}
-use mathlib.Core.Bool.{Bool, cond}
+use mathlib.Core.Bool.{Bool, true, cond}
 use mathlib.Core.List.{List, [], _∷_, map}
 use Prim.Native.Nat.{ℕ}
 use native.Mathlib.Omega.{arith}
 use lib.Dec.{T}
 use lib.ListN.{take}
 use lib.IntN.{ℤ, pos}
-use Rattle.lists.specs.Lists.{total, filled, ifAny, joined, among}
+use Rattle.lists.specs.Lists.{all, total, filled, ifAny, joined, among}
+use Rattle.lists.specs.ListLaws.{T-left}
 use Rattle.language.specs.Letters.{Var}
 use Rattle.language.specs.Letters.Var.{expression, input, output, file}
 use Rattle.language.specs.Program.{Arg, Op, Entry, Program}
 use Rattle.language.specs.Program.Arg.{nothing}
 use Rattle.language.specs.Program.Op.{PRZESLIJ, CZYTAJ, PISZ, KOPIUJ, WSTAW, POBIERZ, SCHOWAJ, USTAW, ZAMIEN, UMIESC, USUN, SKRESL, RW, WK, MN, PP, NS, RZ, SKOCZ, WYKONAJ, SKOMI, SKOPL, WYMI, WYPL, SKONA, SKOIN, WYNA, WYIN, WROC, DODAJ, ODEJMIJ, MNOZ, DZIEL, SLOWO, LICZBA, ZBIJ, ROZBIJ, SZUKAJ, OMIN, COFNIJ, STOP}
-use Rattle.language.specs.Values.{Component, Record, Store, Inputs, chars, value, valueOf}
+use Rattle.language.specs.Values.{Component, Record, Store, Inputs, chars, value, valueOf, in-range}
 use Rattle.machine.specs.Arguments.{use-by, expr, file-of, unread, first, side, Asks, taken, on-chars, reach}
 use Rattle.machine.specs.Changes.{with-exprs, put-expr, minus, into, front, stored, past, used}
 use Rattle.machine.specs.Effects.{Go, moved, a-word, jump-if, relation, equality, ordered, named, by-name, by-index, computed, changed, set-to, exchanged, row}
@@ -57,9 +58,11 @@ module _ (ins : Inputs) (p : Program) (s : Store) where
         go [] = m
         go (e ∷ es) = used-keeps ins a s h
 
-    computed-keeps : (a b : Arg) (f : ℤ → ℤ → List ℤ) → T (computed p ins s a b f .0 54) → Keeps ins s (computed p ins s a b f .1)
+    computed-keeps : (o : Op) (a b : Arg) (f : ℤ → ℤ → List ℤ) → T (computed p ins s o a b f .0 54) → Keeps ins s (computed p ins s o a b f .1)
     unfolding computed
-    computed-keeps a b f g = front-used-keeps a _ (clean-numbers (s .last) (f (value (first (side ins s a))) (value (first (side ins s b)))) g)
+    computed-keeps o a b f g =
+        let zs = f (value (first (side ins s a))) (value (first (side ins s b))) in
+        front-used-keeps a _ (clean-numbers (s .last) zs (T-left (all in-range zs) true g))
 
     set-to-keeps : (v : Var) (a b : Arg) → T (ranged p a) → Keeps ins s (set-to p ins s v a b)
     unfolding set-to
@@ -141,10 +144,10 @@ module _ (ins : Inputs) (p : Program) (s : Store) where
     row-keeps WYNA y = by-name-keeps i h call (minus s) a b (minus-keeps ins s)
     row-keeps WYIN y = used-keeps ins a s h
     row-keeps WROC y = keeps-refl ins s
-    row-keeps DODAJ y = computed-keeps i h a b _ (y 54 tt)
-    row-keeps ODEJMIJ y = computed-keeps i h a b _ (y 54 tt)
-    row-keeps MNOZ y = computed-keeps i h a b _ (y 54 tt)
-    row-keeps DZIEL y = computed-keeps i h a b _ (y 54 tt)
+    row-keeps DODAJ y = computed-keeps i h DODAJ a b _ (y 54 tt)
+    row-keeps ODEJMIJ y = computed-keeps i h ODEJMIJ a b _ (y 54 tt)
+    row-keeps MNOZ y = computed-keeps i h MNOZ a b _ (y 54 tt)
+    row-keeps DZIEL y = computed-keeps i h DZIEL a b _ (y 54 tt)
     row-keeps SLOWO y = front-used-keeps i h a _ (clean-decimal (s .last) (value (first (side ins s a))))
     row-keeps LICZBA y = front-used-keeps i h a _ (clean-number (s .last) (valueOf (chars (first (side ins s a)))) (y 54 tt))
     row-keeps ZBIJ y = moved-keeps i h a b _ (λ k. read-front i h a _ (clean-a-word (joined (map chars (take k (expr s a)))) (words-known a k)))

@@ -7,6 +7,7 @@ use lib.ListN.{length, getD, take}
 use lib.IntN.{ℤ, pos, _+ℤ_, _-ℤ_, _*ℤ_, natAbs}
 use lib.Signed.{ltZ, quotZ, remZ}
 use Rattle.characters.specs.Characters.{precedes}
+use Rattle.language.specs.Instructions.{kinds-of}
 use Rattle.language.specs.Letters.{Var}
 use Rattle.language.specs.Letters.Var.{expression, input, output, file}
 use Rattle.language.specs.Program.{Arg, Op, Entry, Program, no-entry, label-at, switch-at, target-of, meets}
@@ -15,7 +16,7 @@ use Rattle.language.specs.Program.Op.{PRZESLIJ, CZYTAJ, PISZ, KOPIUJ, WSTAW, PO
 use Rattle.language.specs.Values.{Component, Store, Inputs, chars, value, link, kind, same, decimal, numeral, valueOf, in-range}
 use Rattle.language.specs.Values.Component.{word, address}
 use Rattle.lists.specs.Lists.{all, any, filled, ifAny, keep, joined, sameList}
-use Rattle.machine.specs.Arguments.{place, use-by, expr, file-of, records, next-parts, unread, first, char, side, is-count, is-whole, single, Asks, none, ask, _&_, present, is, alike, when, needs, taken, matches, cut, on-chars, reach, test-asks}
+use Rattle.machine.specs.Arguments.{place, use-by, expr, file-of, records, next-parts, unread, first, char, side, is-count, is-whole, single, Asks, none, ask, _&_, present, is, alike, of-kinds, when, needs, taken, matches, cut, on-chars, reach, test-asks}
 use Rattle.machine.specs.Changes.{with-plus, put-expr, put-file, minus, minus-unless, into, front, printed, stored, past, used, pointed, address-of-last}
 
 -- where an instruction goes on: the following one, a place, a place with the way back kept (5.5.1), or back (5.5.4)
@@ -82,11 +83,11 @@ module _ (p : Program) (ins : Inputs) (s : Store) where
   equality a b = relation (equal-asks a b) (equal (use-by a .var) a b) a
 
   -- WK and MN of two numbers, PP and NS of two words
-  unfoldable pub ordered : ℕ → (Component → Component → Bool) → Arg → Arg → Row
-  ordered k less a b =
+  unfoldable pub ordered : Op → (Component → Component → Bool) → Arg → Arg → Row
+  ordered o less a b =
       let xs = side ins s a in
       let ys = side ins s b in
-      relation (needs k xs & needs k ys) (less (first xs) (first ys)) a
+      relation (of-kinds (kinds-of o) xs ys) (less (first xs) (first ys)) a
 
   -- the instruction that a label names
   abbrev pub goal : Arg → ℕ
@@ -114,12 +115,12 @@ module _ (p : Program) (ins : Inputs) (s : Store) where
       (needs 1 xs & ask 56 (ltZ (pos 0) n && leb (natAbs n) (length es)), used a s, to (target-of p (getD es (pred (natAbs n)) no-entry)))
 
   -- arithmetic (5.6): what f makes of two numbers takes the place of the first. "results within range? 54"
-  unfoldable pub computed : Arg → Arg → (ℤ → ℤ → List ℤ) → Row
-  computed a b f =
+  unfoldable pub computed : Op → Arg → Arg → (ℤ → ℤ → List ℤ) → Row
+  computed o a b f =
       let xs = side ins s a in
       let ys = side ins s b in
       let zs = f (value (first xs)) (value (first ys)) in
-      (needs 1 xs & needs 1 ys & ask 54 (all in-range zs), front a (map Component.number zs) (used a s), on)
+      (ask 54 (all in-range zs) & of-kinds (kinds-of o) xs ys, front a (map Component.number zs) (used a s), on)
 
   -- SLOWO and LICZBA (5.7.1, 5.7.2): x in front; A removes what it was made of
   unfoldable pub changed : Asks → Arg → Component → Row
@@ -166,10 +167,10 @@ module _ (p : Program) (ins : Inputs) (s : Store) where
     row SKRESL = (test-asks ins s b, moved a b (λ k t. t), on)
     -- 5.4
     row RW = equality a b
-    row WK = ordered 1 (λ x y. ltZ (value y) (value x)) a b
-    row MN = ordered 1 (λ x y. ltZ (value x) (value y)) a b
-    row PP = ordered 0 (λ x y. precedes (chars x) (chars y)) a b
-    row NS = ordered 0 (λ x y. precedes (chars y) (chars x)) a b
+    row WK = ordered WK (λ x y. ltZ (value y) (value x)) a b
+    row MN = ordered MN (λ x y. ltZ (value x) (value y)) a b
+    row PP = ordered PP (λ x y. precedes (chars x) (chars y)) a b
+    row NS = ordered NS (λ x y. precedes (chars y) (chars x)) a b
     row RZ = equality a b
     -- 5.5
     row SKOCZ = (none, s, jump (goal a))
@@ -184,11 +185,11 @@ module _ (p : Program) (ins : Inputs) (s : Store) where
     row WYIN = by-index call a b
     row WROC = (none, s, back)
     -- 5.6. "DZIEL cuts toward zero"; its remainder stands first and has the dividend's sign. "Divisor not zero? 55"
-    row DODAJ = computed a b (λ x y. (x +ℤ y) ∷ [])
-    row ODEJMIJ = computed a b (λ x y. (x -ℤ y) ∷ [])
-    row MNOZ = computed a b (λ x y. (x *ℤ y) ∷ [])
+    row DODAJ = computed DODAJ a b (λ x y. (x +ℤ y) ∷ [])
+    row ODEJMIJ = computed ODEJMIJ a b (λ x y. (x -ℤ y) ∷ [])
+    row MNOZ = computed MNOZ a b (λ x y. (x *ℤ y) ∷ [])
     row DZIEL =
-        let r = computed a b (λ x y. remZ x y ∷ quotZ x y ∷ []) in
+        let r = computed DZIEL a b (λ x y. remZ x y ∷ quotZ x y ∷ []) in
         (ask 55 (not (eqb (natAbs (value (first (side ins s b)))) 0)) & r .0, r .1, on)
     -- 5.7. A word that LICZBA takes is "a sign or none, then digits" (53); with A, ROZBIJ leaves nothing of its word's rest
     row SLOWO = let xs = side ins s a in changed (needs 1 xs) a (word (decimal (value (first xs))))

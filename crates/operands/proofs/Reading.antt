@@ -1,19 +1,19 @@
--- Numbers read from components and arguments.
+-- Operands read from components and arguments, and the questions on their kinds.
 use mathlib.Core.Path.{_≡_, refl, sym, ap, _∙_, subst}
-use mathlib.Core.Bool.{Bool, true, false, cond, _&&_}
+use mathlib.Core.Bool.{Bool, true, false, _&&_, _||_}
 use mathlib.Core.List.{List, [], _∷_}
-use Prim.Native.Nat.{ℕ, zero, suc, _-_, _≤_}
+use Prim.Native.Nat.{ℕ, _-_, _≤_}
 use native.Mathlib.Omega.{arith}
-use lib.Dec.{eqb, ltb}
+use lib.Dec.{T, eqb}
 use lib.ListN.{length, take}
-use lib.IntN.{pos, negsuc}
-use borrow.Author.Tests.{ne-eqb}
-use Rattle.lists.specs.Lists.{all, filled}
+use lib.IntN.{ℤ, pos, negsuc}
+use borrow.Author.Tests.{ne-eqb, eqb-true}
+use Rattle.language.specs.Instructions.{two-numbers}
 use Rattle.language.specs.Letters.Letter.{E}
 use Rattle.language.specs.Program.Arg.{letter}
 use Rattle.language.specs.Values.{Component, Store, Inputs, value, kind}
 use Rattle.language.specs.Values.Component.{word, address}
-use Rattle.machine.specs.Arguments.{expr, side, needs, _&_}
+use Rattle.machine.specs.Arguments.{expr, first, side, needs, of-kinds}
 use Rattle.layout.specs.Bounds.{Ok}
 use Rattle.layout.specs.Cells.{code, uncode}
 use Rattle.layout.specs.ComponentLaws.{next-component}
@@ -27,12 +27,18 @@ use Rattle.table.specs.declared.Letter.the-variants.{B}
 use Rattle.table.specs.declared.Argument.{Argument}
 use Rattle.table.specs.declared.Argument.the-variants as argument
 use Rattle.instructions.specs.Does.{stop-of}
-use Rattle.tests.proofs.Values.{none-there, one-there, front-value, index-back}
-use Rattle.operands.specs.Operands.{earlier, OperandReadable, ReadsNumber, ReadsOperand, ReadsNumbers}
+use Rattle.instructions.proofs.Answers.{unstopped}
+use Rattle.tests.proofs.Values.{high, none-there, one-there, front-value, index-back}
+use Rattle.operands.specs.Operands.{kind-offered, kinds-stop, OperandReadable, ReadsNumber, ReadsOffered, ReadsOperand, ReadsOperands}
+use Rattle.operands.specs.declared.Offered.{Offered}
 use Rattle.operands.specs.declared.Operand.{Operand}
 
-abbrev told : ℕ → ℕ → Operand
-told k n = record { stop = k; code = n }
+abbrev offers : ℕ → ℕ → Offered
+offers k n = record { kind = k; code = n }
+
+-- the code of 0
+zero-is : uncode 8388607 ≡ pos 0
+zero-is = high 8388607 (omega arith)
 
 -- ---- the first component of an expression
 
@@ -41,15 +47,20 @@ number-is (word w) k = absurd (omega (arith, k))
 number-is (Component.number z) k = refl
 number-is (address n) k = absurd (omega (arith, k))
 
-module _ (es : List Component) where
-  number-none : es ≡ [] → ReadsNumber (take 1 es) (told 52 0)
-  number-none e = record { stop-is = rw e refl; is = λ z. absurd (omega (arith, z)); most = omega arith }
+pub one-number : (es : List Component) → kind (first (take 1 es)) ≡ 1 → take 1 es ≡ Component.number (value (first (take 1 es))) ∷ []
+one-number [] k = absurd (omega (arith, k))
+one-number (x ∷ es) k = ap (λ (y : Component). y ∷ []) (number-is x k)
 
-  number-kind : {x : Component} {xs : List Component} → es ≡ x ∷ xs → (kind x ≡ 1 → ⊥) → ReadsNumber (take 1 es) (told 53 0)
-  number-kind {x} o k = record { stop-is = rw (o, ne-eqb (kind x) 1 k) refl; is = λ z. absurd (omega (arith, z)); most = omega arith }
+-- 255 is no kind
+there : (x : Component) → kind x ≡ 255 → ⊥
+there (word w) e = absurd (omega (arith, e))
+there (Component.number z) e = absurd (omega (arith, e))
+there (address n) e = absurd (omega (arith, e))
 
-  number-some : {x : Component} {xs : List Component} {n : ℕ} → es ≡ x ∷ xs → kind x ≡ 1 → uncode n ≡ value x → n ≤ 16777214 → ReadsNumber (take 1 es) (told 0 n)
-  number-some {x} o k e m = record { stop-is = rw (o, k) refl; is = λ z. rw o (ap (λ y. y ∷ []) (number-is x k ∙ ap Component.number (sym e))); most = m }
+no-value : (x : Component) → (kind x ≡ 1 → ⊥) → pos 0 ≡ value x
+no-value (word w) k = refl
+no-value (Component.number z) k = absurd (k refl)
+no-value (address n) k = refl
 
 code-most : (x : Component) → Ok x → kind x ≡ 1 → code (value x) ≤ 16777214
 unfolding code
@@ -62,17 +73,55 @@ module _ {p e n : List ℕ} {i : ℕ} {x : List ℕ} (l : ExprLent p e n i x) wh
   abbrev es : List Component
   es = expr (state-at p e n .store) (nth E i)
 
-  pub none-told : length x ≡ 0 → ReadsNumber (take 1 es) (told 52 0)
-  none-told z = number-none es (none-there l z)
+  pub none-told : length x ≡ 0 → ReadsOffered (take 1 es) (offers 255 8388607)
+  none-told z = record { kind-is = rw (none-there l z) refl; value-is = rw (none-there l z) zero-is; most = omega arith }
 
-  module _ (z : length x ≡ 0 → ⊥) where
-    pub kind-told : (kind (component-in x) ≡ 1 → ⊥) → ReadsNumber (take 1 es) (told 53 0)
-    kind-told k = number-kind es (one-there l z) k
+  module _ (z : length x ≡ 0 → ⊥) {k : ℕ} (q : k ≡ kind (component-in x)) where
+    pub kind-told : (k ≡ 1 → ⊥) → ReadsOffered (take 1 es) (offers k 8388607)
+    kind-told d =
+        record {
+          kind-is = rw (one-there l z) q;
+          value-is = rw (one-there l z) (zero-is ∙ no-value (component-in x) (λ y. d (q ∙ y)));
+          most = omega arith;
+        }
 
-    pub value-told : {m : ℕ} → kind (component-in x) ≡ 1 → Number (code (value (component-in x))) 16777216 m → ReadsNumber (take 1 es) (told 0 m)
-    value-told {m} k h =
-        number-some es (one-there l z) k (front-value (l .whole) z k h)
-        (omega (arith, h .is, code-most (component-in x) (next-component (l .whole) (omega (arith, z)) .first-ok) k))
+    pub value-told : {m : ℕ} → k ≡ 1 → Number (code (value (component-in x))) 16777216 m → ReadsOffered (take 1 es) (offers 1 m)
+    value-told {m} d h =
+        let y : kind (component-in x) ≡ 1 = sym q ∙ d in
+        record {
+          kind-is = rw (one-there l z) (sym y);
+          value-is = rw (one-there l z) (front-value (l .whole) z y h);
+          most = omega (arith, h .is, code-most (component-in x) (next-component (l .whole) (omega (arith, z)) .first-ok) y);
+        }
+
+-- as a number
+module _ (es : List Component) {r : Offered} (w : ReadsOffered (take 1 es) r) where
+  abbrev told : ℕ → ℕ → Operand
+  told k n = record { stop = k; code = n }
+
+  pub number-none : r .kind ≡ 255 → ReadsNumber (take 1 es) (told 52 0)
+  number-none z = record { stop-is = go es (sym (w .kind-is) ∙ z); is = λ y. absurd (omega (arith, y)); most = omega arith }
+    where
+      go : (xs : List Component) → kind-offered (take 1 xs) ≡ 255 → 52 ≡ stop-of (needs 1 (take 1 xs))
+      go [] q = refl
+      go (x ∷ xs) q = absurd (there x q)
+
+  pub number-kind : (r .kind ≡ 255 → ⊥) → (r .kind ≡ 1 → ⊥) → ReadsNumber (take 1 es) (told 53 0)
+  number-kind z k = record { stop-is = go es (w .kind-is); is = λ y. absurd (omega (arith, y)); most = omega arith }
+    where
+      go : (xs : List Component) → r .kind ≡ kind-offered (take 1 xs) → 53 ≡ stop-of (needs 1 (take 1 xs))
+      go [] q = absurd (z q)
+      go (x ∷ xs) q = rw (ne-eqb (kind x) 1 (λ y. k (q ∙ y))) refl
+
+  pub number-some : r .kind ≡ 1 → ReadsNumber (take 1 es) (told 0 (r .code))
+  number-some k =
+      let e : take 1 es ≡ Component.number (uncode (r .code)) ∷ [] =
+      one-number es (go (take 1 es) (sym (w .kind-is) ∙ k)) ∙ ap (λ (z : ℤ). Component.number z ∷ []) (sym (w .value-is)) in
+      record { stop-is = rw e refl; is = λ y. e; most = w .most }
+    where
+      go : (xs : List Component) → kind-offered xs ≡ 1 → kind (first xs) ≡ 1
+      go [] q = absurd (omega (arith, q))
+      go (x ∷ xs) q = q
 
 -- ---- arguments
 
@@ -80,76 +129,66 @@ pub operand-named : {p e n : List ℕ} {a : Argument} {l : Letter} {k : ℕ} →
 operand-named {l = l} {k = k} h e = record { stands = h .stands; index = omega (arith, h .index l k e .from, h .index l k e .most) }
 
 module _ (s : Store) where
-  pub as-read : {r : Operand} {a b : Argument} → a ≡ b → ReadsOperand s b r → ReadsOperand s a r
+  pub as-read : {r : Offered} {a b : Argument} → a ≡ b → ReadsOperand s b r → ReadsOperand s a r
   as-read {r} e w = subst (λ (x : Argument). ReadsOperand s x r) (sym e) w
 
-  pub number-told : (v : ℕ) → v ≤ 16777214 → ReadsOperand s (argument.Number v) (told 0 v)
-  number-told v m c ins = record { stop-is = refl; is = λ z. refl; most = m }
+  pub number-told : (v : ℕ) → v ≤ 16777214 → ReadsOperand s (argument.Number v) (offers 1 v)
+  number-told v m c ins = record { kind-is = refl; value-is = refl; most = m }
 
-  pub text-told : (v : ℕ) → ReadsOperand s (argument.Text v) (told 53 0)
-  text-told v c ins = record { stop-is = refl; is = λ z. absurd (omega (arith, z)); most = omega arith }
+  pub text-told : (v : ℕ) → ReadsOperand s (argument.Text v) (offers 0 8388607)
+  text-told v c ins = record { kind-is = refl; value-is = zero-is; most = omega arith }
 
   -- the others offer none
-  pub class-told : (v : ℕ) → ReadsOperand s (argument.Class v) (told 52 0)
-  class-told v c ins = record { stop-is = refl; is = λ z. absurd (omega (arith, z)); most = omega arith }
+  pub class-told : (v : ℕ) → ReadsOperand s (argument.Class v) (offers 255 8388607)
+  class-told v c ins = record { kind-is = refl; value-is = zero-is; most = omega arith }
 
-  pub nothing-told : ReadsOperand s argument.Nothing (told 52 0)
-  nothing-told c ins = record { stop-is = refl; is = λ z. absurd (omega (arith, z)); most = omega arith }
+  pub nothing-told : ReadsOperand s argument.Nothing (offers 255 8388607)
+  nothing-told c ins = record { kind-is = refl; value-is = zero-is; most = omega arith }
 
-  pub label-told : (v : ℕ) → ReadsOperand s (argument.Label v) (told 52 0)
-  label-told v c ins = record { stop-is = refl; is = λ z. absurd (omega (arith, z)); most = omega arith }
+  pub label-told : (v : ℕ) → ReadsOperand s (argument.Label v) (offers 255 8388607)
+  label-told v c ins = record { kind-is = refl; value-is = zero-is; most = omega arith }
 
-  pub switch-told : (v : ℕ) → ReadsOperand s (argument.Switch v) (told 52 0)
-  switch-told v c ins = record { stop-is = refl; is = λ z. absurd (omega (arith, z)); most = omega arith }
+  pub switch-told : (v : ℕ) → ReadsOperand s (argument.Switch v) (offers 255 8388607)
+  switch-told v c ins = record { kind-is = refl; value-is = zero-is; most = omega arith }
 
-pub letter-told : {p e n : List ℕ} {a : Argument} {l : Letter} {k : ℕ} {r : Operand} → OperandReadable p e n a → a ≡ argument.Indexed l k
-    → ReadsNumber (take 1 (expr (state-at p e n .store) (nth E (k - 1)))) r → ReadsOperand (state-at p e n .store) a r
+pub letter-told : {p e n : List ℕ} {a : Argument} {l : Letter} {k : ℕ} {r : Offered} → OperandReadable p e n a → a ≡ argument.Indexed l k
+    → ReadsOffered (take 1 (expr (state-at p e n .store) (nth E (k - 1)))) r → ReadsOperand (state-at p e n .store) a r
 letter-told {p} {e} {n} {a} {l} {k} {r} h q w =
     as-read (state-at p e n .store) q (subst (λ (m : Letter). ReadsOperand (state-at p e n .store) (argument.Indexed m k) r) (sym (h .form l k q))
-    (λ c ins. subst (λ (j : ℕ). ReadsNumber (side ins (state-at p e n .store) (letter (letter-of B) j)) r) (index-back (h .index l k q)) w))
+    (λ c ins. subst (λ (j : ℕ). ReadsOffered (side ins (state-at p e n .store) (letter (letter-of B) j)) r) (index-back (h .index l k q)) w))
 
 -- ---- two of them
 
-abbrev stop-by : Bool → Bool → ℕ
-stop-by f k = cond (f && true) (cond k 0 53) 52
+stop-kinds : (ks : List (ℕ × ℕ)) (xs ys : List Component) → kinds-stop ks (kind-offered xs) (kind-offered ys) ≡ stop-of (of-kinds ks xs ys)
+stop-kinds ks [] ys = refl
+stop-kinds ks (x ∷ xs) [] = rw (ne-eqb (kind x) 255 (there x)) refl
+stop-kinds ks (x ∷ xs) (y ∷ ys) = rw (ne-eqb (kind x) 255 (there x), ne-eqb (kind y) 255 (there y)) refl
 
-two-stops : (f k g l : Bool) → earlier (stop-by f k) (stop-by g l) ≡ cond ((f && true) && (g && true)) (cond (k && l) 0 53) 52
-two-stops true true true true = refl
-two-stops true true true false = refl
-two-stops true true false l = refl
-two-stops true false true true = refl
-two-stops true false true false = refl
-two-stops true false false l = refl
-two-stops false k true true = refl
-two-stops false k true false = refl
-two-stops false k false l = refl
+pub kinds-told : (ks : List (ℕ × ℕ)) (xs ys : List Component) {j k m : ℕ} → j ≡ kind-offered xs → k ≡ kind-offered ys → m ≡ kinds-stop ks j k
+    → m ≡ stop-of (of-kinds ks xs ys)
+kinds-told ks xs ys h i e = e ∙ rw (h, i) (stop-kinds ks xs ys)
 
-pub both-none : (a b : ℕ) → earlier a b ≡ 0 → (a ≡ 0) × (b ≡ 0)
-both-none zero b z = (refl, z)
-both-none (suc a) zero z = absurd (omega (arith, rw (ne-eqb (suc a) 0 (λ q. omega (arith, q))) at z))
-both-none (suc a) (suc b) z = go (ltb (suc a) (suc b)) (rw (ne-eqb (suc a) 0 (λ q. omega (arith, q)), ne-eqb (suc b) 0 (λ q. omega (arith, q))) at z)
-  where
-    go : (t : Bool) → cond t (suc a) (suc b) ≡ 0 → (suc a ≡ 0) × (suc b ≡ 0)
-    go true q = absurd (omega (arith, q))
-    go false q = absurd (omega (arith, q))
-
--- two lists of components, of which the first is of kind k and of kind m
-pub first-stop : (k m : ℕ) (xs ys : List Component) {a b : ℕ} → a ≡ stop-of (needs k xs) → b ≡ stop-of (needs m ys) → earlier a b ≡ stop-of (needs k xs & needs m ys)
-first-stop k m xs ys h j =
-    rw (h, j) (two-stops (filled xs) (all (λ x. eqb (kind x) k) (take 1 xs)) (filled ys) (all (λ x. eqb (kind x) m) (take 1 ys)))
-
-pub pair-told : (xs ys : List Component) {x y : Operand} {k : ℕ} → ReadsNumber xs x → ReadsNumber ys y → k ≡ earlier (x .stop) (y .stop)
-    → ReadsNumbers xs ys (record { stop = k; left = x .code; right = y .code })
-pair-told xs ys {x} {y} h j e =
+pub pair-told : (ks : List (ℕ × ℕ)) (xs ys : List Component) {x y : Offered} {k : ℕ} → ReadsOffered xs x → ReadsOffered ys y → k ≡ kinds-stop ks (x .kind) (y .kind)
+    → ReadsOperands ks xs ys (record { stop = k; left = x .code; right = y .code })
+pair-told ks xs ys h j e =
     record {
-      stop-is = e ∙ first-stop 1 1 xs ys (h .stop-is) (j .stop-is);
-      left-is = λ z. h .is (both-none (x .stop) (y .stop) (sym e ∙ z) .0);
-      right-is = λ z. j .is (both-none (x .stop) (y .stop) (sym e ∙ z) .1);
+      stop-is = kinds-told ks xs ys (h .kind-is) (j .kind-is) e;
+      left-is = h .value-is;
+      right-is = j .value-is;
       left-most = h .most;
       right-most = j .most;
     }
 
+-- the first of two numbers
+pub left-number : (xs ys : List Component) → stop-of (of-kinds two-numbers xs ys) ≡ 0 → kind (first xs) ≡ 1
+left-number xs ys z =
+    go (eqb (kind (first xs)) 1) (eqb (kind (first ys)) 1) refl (unstopped (of-kinds two-numbers xs ys) z .1)
+  where
+    go : (a b : Bool) → eqb (kind (first xs)) 1 ≡ a → ((a && b) || false) ≡ true → kind (first xs) ≡ 1
+    go true b e q = eqb-true (kind (first xs)) 1 e
+    go false b e q = absurd (subst T (sym q) tt)
+
 -- A and B offer the first component
-pub first-side : (s : Store) (i : ℕ) {r : Operand} → ReadsNumber (take 1 (expr s (nth E i))) r → (b : Bool) (ins : Inputs) → ReadsNumber (side ins s (nth (reading b) i)) r
+pub first-side : (s : Store) (i : ℕ) {r : Offered} → ReadsOffered (take 1 (expr s (nth E i))) r → (b : Bool) (ins : Inputs) → ReadsOffered (side ins s (nth (reading b) i)) r
 first-side s i h true ins = h
 first-side s i h false ins = h

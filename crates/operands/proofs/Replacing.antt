@@ -8,8 +8,10 @@ use lib.Dec.{leb}
 use lib.ListN.{length, take, length-take}
 use lib.IntN.{ℤ}
 use borrow.Author.Tests.{lt-leb}
+use Rattle.language.specs.Instructions.{two-numbers}
 use Rattle.language.specs.Limits as limit
-use Rattle.language.specs.Values.{Component, Store}
+use Rattle.language.specs.Values.{Component, Store, value}
+use Rattle.machine.specs.Arguments.{first, of-kinds}
 use Rattle.machine.specs.Changes.{with-exprs, put-expr, placed, into, front, past-by, past, used-by, used, fits}
 use Rattle.layout.specs.ComponentLaws.{components-bytes-one}
 use Rattle.layout.specs.Components.{component-bytes, components-in}
@@ -20,9 +22,10 @@ use Rattle.state.specs.Limited.{Limited}
 use Rattle.state.proofs.Fits.{fine-limited, fits-into-ok}
 use Rattle.state.proofs.Freed.{limited-past, components-past, chars-past}
 use Rattle.state.proofs.Standing.{state-of, stands}
-use Rattle.instructions.specs.Does.{Tried}
+use Rattle.instructions.specs.Does.{Tried, stop-of}
 use Rattle.instructions.proofs.Answers.{tried-full, tried-done}
 use Rattle.operands.specs.Operands.{replaced, Replaceable}
+use Rattle.operands.proofs.Reading.{one-number, left-number}
 
 replaced-is : (removes : Bool) (i : ℕ) (ys : List Component) (s : Store)
     → replaced removes i ys s ≡ into (nth (writing false) i) ys (past (nth (reading removes) i) 1 s)
@@ -45,6 +48,10 @@ number-first es z e =
       bytes-is = rw (e, components-bytes-one (Component.number z)) refl;
       chars-is = rw e refl;
     }
+
+-- the first of two numbers in front of an expression
+pub left-first : (es ys : List Component) → stop-of (of-kinds two-numbers (take 1 es) ys) ≡ 0 → FirstParts es 1 5 0
+left-first es ys z = number-first es (value (first (take 1 es))) (one-number es (left-number (take 1 es) ys z))
 
 pub picked-most : {x m : ℕ} (t : Bool) (a : ℕ) → x ≡ cond t a 0 → a ≤ m → x ≤ m
 picked-most true a e h = omega (arith, e)

@@ -1,15 +1,16 @@
--- What reading the numbers of an instruction asks and tells, and what putting components in the place of the first makes of a store.
+-- What reading the operands of an instruction asks and tells, and what putting components in the place of the first makes of a store.
 use mathlib.Core.Path.{_≡_}
 use mathlib.Core.Bool.{Bool, cond}
 use mathlib.Core.List.{List, [], _∷_}
 use Prim.Native.Nat.{ℕ, _≤_, _<_}
-use lib.Dec.{eqb, ltb}
+use lib.Dec.{eqb}
 use lib.ListN.{length}
 use Rattle.language.specs.Limits as limit
+use Rattle.language.specs.Instructions.{two-words, two-numbers}
 use Rattle.language.specs.Letters.Letter.{E}
 use Rattle.language.specs.Program.{Program}
-use Rattle.language.specs.Values.{Component, Store, Inputs}
-use Rattle.machine.specs.Arguments.{expr, side, needs, _&_}
+use Rattle.language.specs.Values.{Component, Store, Inputs, value, kind}
+use Rattle.machine.specs.Arguments.{expr, first, side, needs, listed-pair, of-kinds}
 use Rattle.machine.specs.Changes.{front, used}
 use Rattle.machine.specs.Effects.{Row}
 use Rattle.layout.specs.Bounds.{WholeComponents}
@@ -24,12 +25,24 @@ use Rattle.table.specs.declared.Letter.the-variants.{B}
 use Rattle.table.specs.declared.Argument.{Argument}
 use Rattle.table.specs.declared.Argument.the-variants.{Indexed, Number}
 use Rattle.instructions.specs.Does.{stop-of, DoesFor}
+use Rattle.operands.specs.declared.Kinds.{Kinds}
+use Rattle.operands.specs.declared.Kinds.the-variants.{Words, Numbers}
+use Rattle.operands.specs.declared.Offered.{Offered}
 use Rattle.operands.specs.declared.Operand.{Operand}
 use Rattle.operands.specs.declared.Pair.{Pair}
 
--- the first of two numbers of questions, 0 being none
-abbrev pub earlier : ℕ → ℕ → ℕ
-earlier a b = cond (eqb a 0) b (cond (eqb b 0) a (cond (ltb a b) a b))
+abbrev pub kinds-by : Kinds → List (ℕ × ℕ)
+kinds-by Words = two-words
+kinds-by Numbers = two-numbers
+
+-- the kind of the first component that is offered; 255 where there is none
+abbrev pub kind-offered : List Component → ℕ
+kind-offered [] = 255
+kind-offered (x ∷ xs) = kind x
+
+-- what is asked of two such kinds: 52, 53, or 0 where both are answered yes
+abbrev pub kinds-stop : List (ℕ × ℕ) → ℕ → ℕ → ℕ
+kinds-stop ks j k = cond (eqb j 255) 52 (cond (eqb k 255) 52 (cond (listed-pair ks j k) 0 53))
 
 -- ---- what is asked
 
@@ -52,19 +65,26 @@ pub record ReadsNumber (xs : List Component) (r : Operand) : Type 0 where
   pub is : r .stop ≡ 0 → xs ≡ Component.number (uncode (r .code)) ∷ []
   pub most : r .code ≤ 16777214
 
--- whatever the table and the inputs are
-abbrev pub ReadsOperand : Store → Argument → Operand → Type 0
-ReadsOperand s a r = (c : List ℕ) (ins : Inputs) → ReadsNumber (side ins s (arg-of c a)) r
+-- the kind and the value that xs offers
+pub record ReadsOffered (xs : List Component) (r : Offered) : Type 0 where
+  pub kind-is : r .kind ≡ kind-offered xs
+  pub value-is : uncode (r .code) ≡ value (first xs)
+  pub most : r .code ≤ 16777214
 
-pub record ReadsNumbers (xs ys : List Component) (r : Pair) : Type 0 where
-  pub stop-is : r .stop ≡ stop-of (needs 1 xs & needs 1 ys)
-  pub left-is : r .stop ≡ 0 → xs ≡ Component.number (uncode (r .left)) ∷ []
-  pub right-is : r .stop ≡ 0 → ys ≡ Component.number (uncode (r .right)) ∷ []
+-- whatever the table and the inputs are
+abbrev pub ReadsOperand : Store → Argument → Offered → Type 0
+ReadsOperand s a r = (c : List ℕ) (ins : Inputs) → ReadsOffered (side ins s (arg-of c a)) r
+
+-- two values, of kinds that are listed
+pub record ReadsOperands (ks : List (ℕ × ℕ)) (xs ys : List Component) (r : Pair) : Type 0 where
+  pub stop-is : r .stop ≡ stop-of (of-kinds ks xs ys)
+  pub left-is : uncode (r .left) ≡ value (first xs)
+  pub right-is : uncode (r .right) ≡ value (first ys)
   pub left-most : r .left ≤ 16777214
   pub right-most : r .right ≤ 16777214
 
-abbrev pub ReadsPair : Store → ℕ → Argument → Pair → Type 0
-ReadsPair s i a r = (removes : Bool) (c : List ℕ) (ins : Inputs) → ReadsNumbers (side ins s (nth (reading removes) i)) (side ins s (arg-of c a)) r
+abbrev pub ReadsPair : List (ℕ × ℕ) → Store → ℕ → Argument → Pair → Type 0
+ReadsPair ks s i a r = (removes : Bool) (c : List ℕ) (ins : Inputs) → ReadsOperands ks (side ins s (nth (reading removes) i)) (side ins s (arg-of c a)) r
 
 -- ---- the place of the first component
 

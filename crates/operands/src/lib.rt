@@ -1,24 +1,42 @@
-// The numbers that an instruction reads, with questions 52 and 53, and components in the place of the first.
+// What two operands of an instruction are, with questions 52 and 53, and components in the place of the first.
 ghost use mathlib.Core.Path.{_≡_};
 ghost use mathlib.Core.Bool.{true, cond};
 ghost use lib.ListN.{length, take};
 ghost use Rattle.language.specs.Letters.Letter.{E};
-ghost use Rattle.machine.specs.Arguments.{expr};
+ghost use Rattle.machine.specs.Arguments.{expr, listed-pair};
 ghost use Rattle.layout.specs.Components.{components-in};
 ghost use Rattle.state.specs.Working.{state-at, nth};
 ghost use Rattle.state.specs.Blocks.{ExprNamed};
 ghost use Rattle.instructions.specs.Does.{Tried};
-ghost use Rattle.operands.specs.Operands.{earlier, OperandReadable, PairReadable, ReadsNumber, ReadsOperand, ReadsPair, replaced, Replaceable};
+ghost use Rattle.operands.specs.Operands.{kinds-by, kinds-stop, OperandReadable, PairReadable, ReadsNumber, ReadsOffered, ReadsOperand, ReadsPair, replaced, Replaceable};
 use language::Machine;
 use layout::StatePlaces;
 
-// A question answered no, or 0 and a number: its value with 8,388,607 added.
+// The pairs of kinds that two operands may have.
+pub enum Kinds {
+    Words,
+    Numbers,
+}
+
+// What stands for the kind of a component that is not there.
+pub const ABSENT: u8 = 255;
+
+// The code of 0.
+const ZERO: usize = 8388607;
+
+// The kind of a component, and the code of its value: of a number, the value with 8,388,607 added, of others that of 0.
+pub struct Offered {
+    pub kind: u8,
+    pub code: usize,
+}
+
+// A question answered no, or 0 and the code of a number.
 pub struct Operand {
     pub stop: u8,
     pub code: usize,
 }
 
-// The same of two numbers.
+// A question answered no, or 0; and the codes of two values.
 pub struct Pair {
     pub stop: u8,
     pub left: usize,
@@ -31,20 +49,55 @@ fn pick(t: bool, a: usize, b: usize) -> usize
     if t { a } else { b }
 }
 
-// The first of two numbers of questions, 0 being none.
-pub fn earlier(a: u8, b: u8) -> u8
-    ensures { λ r. ⌜ r ≡ earlier a b ⌝ }
+// Whether kinds `j` and `k` are one of the pairs.
+fn takes(kinds: Kinds, j: u8, k: u8) -> bool
+    ensures { λ r. ⌜ r ≡ listed-pair (kinds-by kinds) j k ⌝ }
 {
-    if a == 0 {
-        return b;
+    match kinds {
+        Kinds::Words => (j == 0) & (k == 0),
+        Kinds::Numbers => (j == 1) & (k == 1),
     }
-    if b == 0 {
-        return a;
+}
+
+// Whether two components are there (52), and of kinds that are taken (53): 0, or the question answered no.
+pub fn ask_kinds(kinds: Kinds, j: u8, k: u8) -> u8
+    ensures { λ r. ⌜ r ≡ kinds-stop (kinds-by kinds) j k ⌝ }
+{
+    if j == ABSENT {
+        return 52;
     }
-    if a < b {
-        return a;
+    if k == ABSENT {
+        return 52;
     }
-    b
+    if takes(kinds, j, k) {
+        return 0;
+    }
+    53
+}
+
+// The first component of expression `i`.
+fn first_offered(pool: &[u8], ends: &[u32], nums: &[u32], i: usize) -> Offered
+    requires { ⌜ ExprNamed (now pool) (now ends) (now nums) i ⌝ }
+    ensures { λ r. ⌜ ReadsOffered (take 1 (expr (state-at (now (pool .entry)) (now (ends .entry)) (now (nums .entry)) .store) (nth E i))) r ⌝ }
+{
+    let x = state::expr_bytes(pool, ends, nums, i);
+    if x.len() == 0 {
+        return Offered {
+            kind: ABSENT,
+            code: ZERO,
+        };
+    }
+    let kind = components::kind_of(x);
+    if kind != 1 {
+        return Offered {
+            kind: kind,
+            code: ZERO,
+        };
+    }
+    Offered {
+        kind: 1,
+        code: components::number_of(x),
+    }
 }
 
 // The first component of expression `i` as a number.
@@ -52,46 +105,70 @@ pub fn first_number(pool: &[u8], ends: &[u32], nums: &[u32], i: usize) -> Operan
     requires { ⌜ ExprNamed (now pool) (now ends) (now nums) i ⌝ }
     ensures { λ r. ⌜ ReadsNumber (take 1 (expr (state-at (now (pool .entry)) (now (ends .entry)) (now (nums .entry)) .store) (nth E i))) r ⌝ }
 {
-    let x = state::expr_bytes(pool, ends, nums, i);
-    if x.len() == 0 {
+    let x = first_offered(pool, ends, nums, i);
+    let kind = x.kind;
+    let code = x.code;
+    if kind == ABSENT {
         return Operand { stop: 52, code: 0 };
     }
-    if components::kind_of(x) != 1 {
+    if kind != 1 {
         return Operand { stop: 53, code: 0 };
     }
     Operand {
         stop: 0,
-        code: components::number_of(x),
+        code: code,
     }
 }
 
-// A second argument as a number: B or a number.
-fn number_operand(pool: &[u8], ends: &[u32], nums: &[u32], arg: table::Argument) -> Operand
+// A second argument: B, a number or a text.
+fn second_offered(pool: &[u8], ends: &[u32], nums: &[u32], arg: table::Argument) -> Offered
     requires { ⌜ OperandReadable (now pool) (now ends) (now nums) arg ⌝ }
     ensures { λ r. ⌜ ReadsOperand (state-at (now (pool .entry)) (now (ends .entry)) (now (nums .entry)) .store) arg r ⌝ }
 {
     match arg {
-        table::Argument::Indexed(_, n) => first_number(pool, ends, nums, n - 1),
-        table::Argument::Number(v) => Operand {
-            stop: 0,
+        table::Argument::Indexed(_, n) => first_offered(pool, ends, nums, n - 1),
+        table::Argument::Number(v) => Offered {
+            kind: 1,
             code: v as usize,
         },
-        table::Argument::Text(_) => Operand { stop: 53, code: 0 },
-        table::Argument::Class(_) => Operand { stop: 52, code: 0 },
-        table::Argument::Nothing => Operand { stop: 52, code: 0 },
-        table::Argument::Label(_) => Operand { stop: 52, code: 0 },
-        table::Argument::Switch(_) => Operand { stop: 52, code: 0 },
+        table::Argument::Text(_) => Offered {
+            kind: 0,
+            code: ZERO,
+        },
+        table::Argument::Class(_) => Offered {
+            kind: ABSENT,
+            code: ZERO,
+        },
+        table::Argument::Nothing => Offered {
+            kind: ABSENT,
+            code: ZERO,
+        },
+        table::Argument::Label(_) => Offered {
+            kind: ABSENT,
+            code: ZERO,
+        },
+        table::Argument::Switch(_) => Offered {
+            kind: ABSENT,
+            code: ZERO,
+        },
     }
 }
 
-// The first component of expression `i` and a second argument, both as numbers.
-pub fn two_numbers(pool: &[u8], ends: &[u32], nums: &[u32], i: usize, arg: table::Argument) -> Pair
+// The first component of expression `i` and a second argument, of kinds that are taken.
+pub fn two_operands(
+    pool: &[u8],
+    ends: &[u32],
+    nums: &[u32],
+    i: usize,
+    arg: table::Argument,
+    kinds: Kinds,
+) -> Pair
     requires { ⌜ PairReadable (now pool) (now ends) (now nums) i arg ⌝ }
-    ensures { λ r. ⌜ ReadsPair (state-at (now (pool .entry)) (now (ends .entry)) (now (nums .entry)) .store) i arg r ⌝ }
+    ensures { λ r. ⌜ ReadsPair (kinds-by kinds) (state-at (now (pool .entry)) (now (ends .entry)) (now (nums .entry)) .store) i arg r ⌝ }
 {
-    let x = first_number(pool, ends, nums, i);
-    let y = number_operand(pool, ends, nums, arg);
-    let stop = earlier(x.stop, y.stop);
+    let x = first_offered(pool, ends, nums, i);
+    let y = second_offered(pool, ends, nums, arg);
+    let stop = ask_kinds(kinds, x.kind, y.kind);
     Pair {
         stop: stop,
         left: x.code,

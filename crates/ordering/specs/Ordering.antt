@@ -5,7 +5,7 @@ use Prim.Native.Nat.{ℕ, _≤_, _<_}
 use lib.ListN.{length, take}
 use Rattle.language.specs.Limits as limit
 use Rattle.language.specs.Values.{Component, Store, Inputs, chars}
-use Rattle.machine.specs.Arguments.{first, side, needs}
+use Rattle.machine.specs.Arguments.{first, side}
 use Rattle.packed.specs.Packed.{table-of}
 use Rattle.state.specs.Working.{Stands}
 use Rattle.state.specs.Blocks.{ExprNamed}
@@ -15,7 +15,7 @@ use Rattle.table.specs.declared.Letter.{Letter}
 use Rattle.table.specs.declared.Letter.the-variants.{B}
 use Rattle.table.specs.declared.Argument.{Argument}
 use Rattle.table.specs.declared.Argument.the-variants.{Indexed}
-use Rattle.instructions.specs.Does.{stop-of}
+use Rattle.operands.specs.Operands.{kind-offered}
 use Rattle.ordering.specs.declared.Worded.{Worded}
 
 pub record WordReadable (p e n : List ℕ) (out i : ℕ) : Type 0 where
@@ -35,10 +35,10 @@ pub record Comparable (c p e n : List ℕ) (hold given i : ℕ) (a : Argument) :
   pub room : 32768 ≤ hold
   pub source : i < limit.expressions
 
--- a question answered no, or 0 and the word that xs offers, in front of g
+-- the kind that xs offers, and its characters in front of g
 pub record ReadsWord (xs : List Component) (g : List ℕ) (r : Worded) : Type 0 where
-  pub stop-is : r .stop ≡ stop-of (needs 0 xs)
-  pub is : r .stop ≡ 0 → take (r .len) g ≡ chars (first xs)
+  pub kind-is : r .kind ≡ kind-offered xs
+  pub is : take (r .len) g ≡ chars (first xs)
   pub inside : r .len ≤ length g
 
 abbrev pub ReadsOther : List ℕ → Store → Argument → List ℕ → Worded → Type 0
@@ -46,6 +46,6 @@ ReadsOther c s a g r = (ins : Inputs) → ReadsWord (side ins s (arg-of (table-o
 
 -- the text w in front of g
 pub record TextIs (w g : List ℕ) (r : Worded) : Type 0 where
-  pub stop-is : r .stop ≡ 0
+  pub kind-is : r .kind ≡ 0
   pub is : take (r .len) g ≡ w
   pub inside : r .len ≤ length g

@@ -15,28 +15,32 @@ ghost use Rattle.layout.specs.Table.{text-by};
 ghost use Rattle.tests.specs.Prepares.{TextReadable};
 ghost use Rattle.ordering.specs.Ordering.{TextIs, WordReadable, OtherReadable, Comparable, ReadsWord, ReadsOther};
 
-// A question answered no, or 0 and how many characters a word has.
+// The kind of a component, and how many characters it has.
 pub struct Worded {
-    pub stop: u8,
+    pub kind: u8,
     pub len: usize,
 }
 
-// Puts the first component of expression `i`, a word, in front of `out`.
+// Puts the characters of the first component of expression `i` in front of `out`.
 fn first_word(pool: &[u8], ends: &[u32], nums: &[u32], out: &mut [u8], i: usize) -> Worded
     requires { ⌜ WordReadable (now pool) (now ends) (now nums) (length (now out)) i ⌝ }
     ensures { λ r. ⌜ ReadsWord (take 1 (expr (state-at (now (pool .entry)) (now (ends .entry)) (now (nums .entry)) .store) (nth E i))) (now (out .exit)) r ⌝ }
 {
     let x = state::expr_bytes(pool, ends, nums, i);
     if x.len() == 0 {
-        return Worded { stop: 52, len: 0 };
+        return Worded {
+            kind: operands::ABSENT,
+            len: 0,
+        };
     }
-    if components::kind_of(x) != 0 {
-        return Worded { stop: 53, len: 0 };
+    let kind = components::kind_of(x);
+    if kind != 0 {
+        return Worded { kind: kind, len: 0 };
     }
     let w = components::chars_of(x);
     cells::put(out, 0, w);
     Worded {
-        stop: 0,
+        kind: 0,
         len: w.len(),
     }
 }
@@ -47,10 +51,10 @@ fn text_word(table: &[u32], given: &mut [u8], v: usize) -> Worded
     ensures { λ r. ⌜ TextIs (text-by (table-of (now (table .entry))) v) (now (given .exit)) r ⌝ }
 {
     let n = table::put_text(table, v, given);
-    Worded { stop: 0, len: n }
+    Worded { kind: 0, len: n }
 }
 
-// Puts a second argument, B or a text, in front of `given`.
+// Puts the characters of a second argument, B or a text, in front of `given`.
 fn other_word(
     table: &[u32],
     pool: &[u8],
@@ -65,11 +69,23 @@ fn other_word(
     match arg {
         table::Argument::Indexed(_, n) => first_word(pool, ends, nums, given, n - 1),
         table::Argument::Text(v) => text_word(table, given, v),
-        table::Argument::Number(_) => Worded { stop: 53, len: 0 },
-        table::Argument::Class(_) => Worded { stop: 52, len: 0 },
-        table::Argument::Nothing => Worded { stop: 52, len: 0 },
-        table::Argument::Label(_) => Worded { stop: 52, len: 0 },
-        table::Argument::Switch(_) => Worded { stop: 52, len: 0 },
+        table::Argument::Number(_) => Worded { kind: 1, len: 0 },
+        table::Argument::Class(_) => Worded {
+            kind: operands::ABSENT,
+            len: 0,
+        },
+        table::Argument::Nothing => Worded {
+            kind: operands::ABSENT,
+            len: 0,
+        },
+        table::Argument::Label(_) => Worded {
+            kind: operands::ABSENT,
+            len: 0,
+        },
+        table::Argument::Switch(_) => Worded {
+            kind: operands::ABSENT,
+            len: 0,
+        },
     }
 }
 
@@ -78,7 +94,7 @@ pub fn wk(pool: &[u8], ends: &[u32], nums: &mut [u32], i: usize, arg: table::Arg
     requires { ⌜ PairReadable (now pool) (now ends) (now nums) i arg ⌝ }
     ensures { λ r. ⌜ DoesWith (now (pool .entry)) (now (ends .entry)) (now (nums .entry)) r (now (pool .entry)) (now (ends .entry)) (now (nums .exit)) (λ c g ins. row g ins (state-at (now (pool .entry)) (now (ends .entry)) (now (nums .entry)) .store) (nth (reading false) i) (arg-of c arg) nothing WK) ⌝ }
 {
-    let q = operands::two_numbers(pool, ends, nums, i, arg);
+    let q = operands::two_operands(pool, ends, nums, i, arg, operands::Kinds::Numbers);
     let stop = q.stop;
     let holds = q.right < q.left;
     if stop != 0 {
@@ -93,7 +109,7 @@ pub fn mn(pool: &[u8], ends: &[u32], nums: &mut [u32], i: usize, arg: table::Arg
     requires { ⌜ PairReadable (now pool) (now ends) (now nums) i arg ⌝ }
     ensures { λ r. ⌜ DoesWith (now (pool .entry)) (now (ends .entry)) (now (nums .entry)) r (now (pool .entry)) (now (ends .entry)) (now (nums .exit)) (λ c g ins. row g ins (state-at (now (pool .entry)) (now (ends .entry)) (now (nums .entry)) .store) (nth (reading false) i) (arg-of c arg) nothing MN) ⌝ }
 {
-    let q = operands::two_numbers(pool, ends, nums, i, arg);
+    let q = operands::two_operands(pool, ends, nums, i, arg, operands::Kinds::Numbers);
     let stop = q.stop;
     let holds = q.left < q.right;
     if stop != 0 {
@@ -121,7 +137,7 @@ pub fn pp(
     let y = other_word(table, pool, ends, nums, given, arg);
     let m = x.len;
     let n = y.len;
-    let stop = operands::earlier(x.stop, y.stop);
+    let stop = operands::ask_kinds(operands::Kinds::Words, x.kind, y.kind);
     if stop != 0 {
         return stop;
     }
@@ -148,7 +164,7 @@ pub fn ns(
     let y = other_word(table, pool, ends, nums, given, arg);
     let m = x.len;
     let n = y.len;
-    let stop = operands::earlier(x.stop, y.stop);
+    let stop = operands::ask_kinds(operands::Kinds::Words, x.kind, y.kind);
     if stop != 0 {
         return stop;
     }

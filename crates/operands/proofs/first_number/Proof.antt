@@ -1,41 +1,33 @@
 -- `operands::first_number` meets its contract.
-use mathlib.Core.Path.{sym, _∙_}
-use Rattle.tests.proofs.Values.{leading}
-use Rattle.operands.proofs.Reading.{none-told, kind-told, value-told}
+use Rattle.language.specs.Letters.Letter.{E}
+use Rattle.machine.specs.Arguments.{expr}
+use Rattle.state.specs.Working.{state-at, nth}
+use Rattle.operands.proofs.Reading.{number-none, number-kind, number-some}
 use Rattle.operands.proofs.first_number.Statement.{statement}
 use Rattle.operands.proofs.first_number.Tie as tie
+use Rattle.operands.proofs.first_number.Reads as reads
+use Rattle.operands.proofs.first_number.Lts as lts
+use Rattle.operands.proofs.first_offered.Reads as first-offered-reads
 
-expr-bytes-requires : tie.Need-expr-bytes-requires
-expr-bytes-requires c κs =
+first-offered-requires : tie.Need-first-offered-requires
+first-offered-requires c κs =
     let preᶜ = c .before .before .before .pre in
     preᶜ
 
 returns : tie.Need-returns
-returns c = none-told (c .before .expr-bytes .ensures) (c .if1 .taken)
-
-kind-of-requires : tie.Need-kind-of-requires
-kind-of-requires c κs = leading (c .before .expr-bytes .ensures .whole) (c .if1 .left)
+returns c =
+    let argsᶜ = c .before .before .before .before .before .args in
+    number-none (expr (state-at (argsᶜ .pool .now) (argsᶜ .ends .now) (argsᶜ .nums .now) .store) (nth E (argsᶜ .i))) (c .before .first-offered .ensures) (c .if1 .taken)
 
 returns-2 : tie.Need-returns-2
 returns-2 c =
-    let expr-bytesᶜ = c .before .before .before .expr-bytes in
-    let if1ᶜ = c .before .before .if1 in
-    kind-told (expr-bytesᶜ .ensures) (if1ᶜ .left) (λ e. c .if2 .taken (c .before .kind-of .ensures .is ∙ e))
-
-number-of-requires : tie.Need-number-of-requires
-number-of-requires c κs =
-    let expr-bytesᶜ = c .before .before .before .expr-bytes in
-    let if1ᶜ = c .before .before .if1 in
-    record { fits = leading (expr-bytesᶜ .ensures .whole) (if1ᶜ .left) .fits; kind-is = sym (c .before .kind-of .ensures .is) ∙ c .if2 .left }
+    let argsᶜ = c .before .before .before .before .before .before .args in
+    number-kind (expr (state-at (argsᶜ .pool .now) (argsᶜ .ends .now) (argsᶜ .nums .now) .store) (nth E (argsᶜ .i))) (c .before .before .first-offered .ensures) (c .before .if1 .left) (c .if2 .taken)
 
 returns-3 : tie.Need-returns-3
 returns-3 c =
-    let expr-bytesᶜ = c .before .before .before .before .expr-bytes in
-    let if1ᶜ = c .before .before .before .if1 in
-    let kind-ofᶜ = c .before .before .kind-of in
-    value-told (expr-bytesᶜ .ensures) (if1ᶜ .left) (sym (kind-ofᶜ .ensures .is) ∙ c .before .if2 .left) (c .number-of .ensures)
+    let argsᶜ = c .before .before .before .before .before .before .args in
+    number-some (expr (state-at (argsᶜ .pool .now) (argsᶜ .ends .now) (argsᶜ .nums .now) .store) (nth E (argsᶜ .i))) (c .before .before .first-offered .ensures) (c .if2 .left)
 
 pub first-number-spec : {M : Type 1} → statement M
-first-number-spec =
-    tie.close
-    (tie.spec expr-bytes-requires returns kind-of-requires returns-2 number-of-requires returns-3)
+first-number-spec = tie.close (tie.spec first-offered-requires returns returns-2 returns-3)

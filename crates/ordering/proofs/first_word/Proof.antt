@@ -25,7 +25,7 @@ returns-2 c =
     let expr-bytesᶜ = c .before .before .before .expr-bytes in
     let argsᶜ = c .before .before .before .before .before .before .before .before .args in
     let if1ᶜ = c .before .before .if1 in
-    kind-told (expr-bytesᶜ .ensures) (argsᶜ .out .now) (if1ᶜ .left) (λ e. c .if2 .taken (c .before .kind-of .ensures .is ∙ e))
+    kind-told (expr-bytesᶜ .ensures) (argsᶜ .out .now) (if1ᶜ .left) (c .before .kind-of .ensures .is) (c .if2 .taken)
 
 chars-of-requires : tie.Need-chars-of-requires
 chars-of-requires c κs =

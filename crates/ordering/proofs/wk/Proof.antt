@@ -3,9 +3,13 @@ use borrow.Author.Needs.{needs}
 use Rattle.ordering.proofs.Rows.{wk-stop, wk-done}
 use Rattle.ordering.proofs.wk.Statement.{statement}
 use Rattle.ordering.proofs.wk.Tie as tie
+use Rattle.ordering.proofs.wk.Reads as reads
+use Rattle.ordering.proofs.wk.Lts as lts
+use Rattle.operands.proofs.two_operands.Reads as two-operands-reads
+use Rattle.state.proofs.minus_unless.Reads as minus-unless-reads
 
-two-numbers-requires : tie.Need-two-numbers-requires
-two-numbers-requires c κs =
+two-operands-requires : tie.Need-two-operands-requires
+two-operands-requires c κs =
     let preᶜ = c .before .before .before .before .pre in
     preᶜ
 
@@ -16,8 +20,8 @@ returns : tie.Need-returns
 returns c =
     let preᶜ = c .before .before .before .before .before .before .before .pre in
     let argsᶜ = c .before .before .before .before .before .before .before .args in
-    let two-numbersᶜ = c .before .before .two-numbers in
-    wk-stop (preᶜ .operand .stands) (argsᶜ .i) (argsᶜ .arg) (two-numbersᶜ .ensures) (c .if1 .taken)
+    let two-operandsᶜ = c .before .before .two-operands in
+    wk-stop (preᶜ .operand .stands) (argsᶜ .i) (argsᶜ .arg) (two-operandsᶜ .ensures) (c .if1 .taken)
 
 minus-unless-requires : tie.Need-minus-unless-requires
 minus-unless-requires c κs =
@@ -31,16 +35,16 @@ returns-2 : tie.Need-returns-2
 returns-2 c =
     let preᶜ = c .before .before .before .before .before .before .before .before .before .before .before .pre in
     let argsᶜ = c .before .before .before .before .before .before .before .before .before .before .before .args in
-    let two-numbersᶜ = c .before .before .before .before .before .before .two-numbers in
+    let two-operandsᶜ = c .before .before .before .before .before .before .two-operands in
     let if1ᶜ = c .before .before .before .before .if1 in
     let minus-unlessᶜ = c .before .before .minus-unless in
-    wk-done (preᶜ .operand .stands) (argsᶜ .i) (argsᶜ .arg) (two-numbersᶜ .ensures) (if1ᶜ .left) (minus-unlessᶜ .ensures)
+    wk-done (preᶜ .operand .stands) (argsᶜ .i) (argsᶜ .arg) (two-operandsᶜ .ensures) (if1ᶜ .left) (minus-unlessᶜ .ensures)
 
 pub wk-spec : {M : Type 1} → statement M
 wk-spec =
     tie.close
     (tie.spec
-    two-numbers-requires
+    two-operands-requires
     same-length
     returns
     minus-unless-requires

@@ -1,21 +1,24 @@
--- `operands::number_operand` meets its contract.
+-- `operands::second_offered` meets its contract.
 use borrow.Author.Needs.{needs}
 use native.Mathlib.Omega.{arith}
 use Rattle.state.specs.Working.{state-at}
 use Rattle.operands.proofs.Reading.{operand-named, as-read, letter-told, number-told, text-told, class-told, nothing-told, label-told, switch-told}
-use Rattle.operands.proofs.number_operand.Statement.{statement}
-use Rattle.operands.proofs.number_operand.Tie as tie
+use Rattle.operands.proofs.second_offered.Statement.{statement}
+use Rattle.operands.proofs.second_offered.Tie as tie
+use Rattle.operands.proofs.second_offered.Reads as reads
+use Rattle.operands.proofs.second_offered.Lts as lts
+use Rattle.operands.proofs.first_offered.Reads as first-offered-reads
 
 enum-known-arg : tie.Need-enum-known-arg
 enum-known-arg c = search needs
 
-sub-first-number : tie.Need-sub-first-number
-sub-first-number c =
+sub-first-offered : tie.Need-sub-first-offered
+sub-first-offered c =
     let preᶜ = c .before .before .before .before .before .before .pre in
     omega (arith, preᶜ .index _ _ (c .before .arg .given .1) .from)
 
-first-number-requires : tie.Need-first-number-requires
-first-number-requires c κs =
+first-offered-requires : tie.Need-first-offered-requires
+first-offered-requires c κs =
     let preᶜ = c .before .before .before .before .before .before .pre in
     operand-named preᶜ (c .before .arg .given .1)
 
@@ -44,7 +47,7 @@ returns : tie.Need-returns
 returns c =
     let preᶜ = c .before .before .before .before .before .before .before .pre in
     let argᶜ = c .before .before .arg in
-    letter-told preᶜ (argᶜ .given .1) (c .first-number .ensures)
+    letter-told preᶜ (argᶜ .given .1) (c .first-offered .ensures)
 
 returns-2 : tie.Need-returns-2
 returns-2 c =
@@ -77,13 +80,13 @@ returns-7 c =
     let argsᶜ = c .before .before .before .before .before .args in
     as-read (state-at (argsᶜ .pool .now) (argsᶜ .ends .now) (argsᶜ .nums .now) .store) (c .enum-told5 .given .1) (switch-told (state-at (argsᶜ .pool .now) (argsᶜ .ends .now) (argsᶜ .nums .now) .store) (c .enum-told5 .given .0 .0))
 
-pub number-operand-spec : {M : Type 1} → statement M
-number-operand-spec =
+pub second-offered-spec : {M : Type 1} → statement M
+second-offered-spec =
     tie.close
     (tie.spec
     enum-known-arg
-    sub-first-number
-    first-number-requires
+    sub-first-offered
+    first-offered-requires
     enum-known-arg-2
     cast-t9
     enum-told
