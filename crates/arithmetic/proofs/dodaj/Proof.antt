@@ -6,11 +6,6 @@ use Rattle.arithmetic.proofs.Numbers.{result-fits}
 use Rattle.arithmetic.proofs.Rows.{both-coded, numbered, dodaj-stop, dodaj-done}
 use Rattle.arithmetic.proofs.dodaj.Statement.{statement}
 use Rattle.arithmetic.proofs.dodaj.Tie as tie
-use Rattle.arithmetic.proofs.dodaj.Reads as reads
-use Rattle.arithmetic.proofs.dodaj.Lts as lts
-use Rattle.arithmetic.proofs.put_one.Reads as put-one-reads
-use Rattle.arithmetic.proofs.sum.Reads as sum-reads
-use Rattle.operands.proofs.two_operands.Reads as two-operands-reads
 
 two-operands-requires : tie.Need-two-operands-requires
 two-operands-requires c κs =

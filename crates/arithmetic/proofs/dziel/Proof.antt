@@ -3,12 +3,6 @@ use borrow.Author.Needs.{needs}
 use Rattle.arithmetic.proofs.Rows.{divisible, numbered, dziel-stops, dziel-zeros, dziel-dones}
 use Rattle.arithmetic.proofs.dziel.Statement.{statement}
 use Rattle.arithmetic.proofs.dziel.Tie as tie
-use Rattle.arithmetic.proofs.dziel.Reads as reads
-use Rattle.arithmetic.proofs.dziel.Lts as lts
-use Rattle.arithmetic.proofs.put_two.Reads as put-two-reads
-use Rattle.arithmetic.proofs.quotient.Reads as quotient-reads
-use Rattle.arithmetic.proofs.remainder.Reads as remainder-reads
-use Rattle.operands.proofs.two_operands.Reads as two-operands-reads
 
 two-operands-requires : tie.Need-two-operands-requires
 two-operands-requires c κs =

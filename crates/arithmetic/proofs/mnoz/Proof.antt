@@ -6,11 +6,6 @@ use Rattle.arithmetic.proofs.Numbers.{result-fits}
 use Rattle.arithmetic.proofs.Rows.{both-coded, numbered, mnoz-stop, mnoz-done}
 use Rattle.arithmetic.proofs.mnoz.Statement.{statement}
 use Rattle.arithmetic.proofs.mnoz.Tie as tie
-use Rattle.arithmetic.proofs.mnoz.Reads as reads
-use Rattle.arithmetic.proofs.mnoz.Lts as lts
-use Rattle.arithmetic.proofs.product.Reads as product-reads
-use Rattle.arithmetic.proofs.put_one.Reads as put-one-reads
-use Rattle.operands.proofs.two_operands.Reads as two-operands-reads
 
 two-operands-requires : tie.Need-two-operands-requires
 two-operands-requires c κs =

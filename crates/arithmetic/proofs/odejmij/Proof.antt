@@ -6,11 +6,6 @@ use Rattle.arithmetic.proofs.Numbers.{result-fits}
 use Rattle.arithmetic.proofs.Rows.{both-coded, numbered, odejmij-stop, odejmij-done}
 use Rattle.arithmetic.proofs.odejmij.Statement.{statement}
 use Rattle.arithmetic.proofs.odejmij.Tie as tie
-use Rattle.arithmetic.proofs.odejmij.Reads as reads
-use Rattle.arithmetic.proofs.odejmij.Lts as lts
-use Rattle.arithmetic.proofs.difference.Reads as difference-reads
-use Rattle.arithmetic.proofs.put_one.Reads as put-one-reads
-use Rattle.operands.proofs.two_operands.Reads as two-operands-reads
 
 two-operands-requires : tie.Need-two-operands-requires
 two-operands-requires c κs =

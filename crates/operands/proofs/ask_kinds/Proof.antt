@@ -4,9 +4,6 @@ use borrow.Author.Needs.{needs}
 use borrow.Author.Tests.{eq-eqb, ne-eqb}
 use Rattle.operands.proofs.ask_kinds.Statement.{statement}
 use Rattle.operands.proofs.ask_kinds.Tie as tie
-use Rattle.operands.proofs.ask_kinds.Reads as reads
-use Rattle.operands.proofs.ask_kinds.Lts as lts
-use Rattle.operands.proofs.takes.Reads as takes-reads
 
 returns : tie.Need-returns
 returns c = simp (eq-eqb _ _ (c .if1 .taken))

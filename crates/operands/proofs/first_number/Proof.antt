@@ -5,9 +5,6 @@ use Rattle.state.specs.Working.{state-at, nth}
 use Rattle.operands.proofs.Reading.{number-none, number-kind, number-some}
 use Rattle.operands.proofs.first_number.Statement.{statement}
 use Rattle.operands.proofs.first_number.Tie as tie
-use Rattle.operands.proofs.first_number.Reads as reads
-use Rattle.operands.proofs.first_number.Lts as lts
-use Rattle.operands.proofs.first_offered.Reads as first-offered-reads
 
 first-offered-requires : tie.Need-first-offered-requires
 first-offered-requires c κs =

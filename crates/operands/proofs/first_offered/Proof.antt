@@ -4,11 +4,6 @@ use Rattle.tests.proofs.Values.{leading}
 use Rattle.operands.proofs.Reading.{none-told, kind-told, value-told}
 use Rattle.operands.proofs.first_offered.Statement.{statement}
 use Rattle.operands.proofs.first_offered.Tie as tie
-use Rattle.operands.proofs.first_offered.Reads as reads
-use Rattle.operands.proofs.first_offered.Lts as lts
-use Rattle.components.proofs.kind_of.Reads as kind-of-reads
-use Rattle.components.proofs.number_of.Reads as number-of-reads
-use Rattle.state.proofs.expr_bytes.Reads as expr-bytes-reads
 
 expr-bytes-requires : tie.Need-expr-bytes-requires
 expr-bytes-requires c κs =

@@ -5,9 +5,6 @@ use Rattle.state.specs.Working.{state-at}
 use Rattle.operands.proofs.Reading.{operand-named, as-read, letter-told, number-told, text-told, class-told, nothing-told, label-told, switch-told}
 use Rattle.operands.proofs.second_offered.Statement.{statement}
 use Rattle.operands.proofs.second_offered.Tie as tie
-use Rattle.operands.proofs.second_offered.Reads as reads
-use Rattle.operands.proofs.second_offered.Lts as lts
-use Rattle.operands.proofs.first_offered.Reads as first-offered-reads
 
 enum-known-arg : tie.Need-enum-known-arg
 enum-known-arg c = search needs

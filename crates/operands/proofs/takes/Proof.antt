@@ -4,8 +4,6 @@ use mathlib.Core.Bool.{Bool, true, false, _||_}
 use borrow.Author.Needs.{needs}
 use Rattle.operands.proofs.takes.Statement.{statement}
 use Rattle.operands.proofs.takes.Tie as tie
-use Rattle.operands.proofs.takes.Reads as reads
-use Rattle.operands.proofs.takes.Lts as lts
 
 one-listed : (b : Bool) → b ≡ (b || false)
 one-listed true = refl

@@ -7,11 +7,6 @@ use Rattle.operands.specs.Operands.{kinds-by}
 use Rattle.operands.proofs.Reading.{pair-told, first-side}
 use Rattle.operands.proofs.two_operands.Statement.{statement}
 use Rattle.operands.proofs.two_operands.Tie as tie
-use Rattle.operands.proofs.two_operands.Reads as reads
-use Rattle.operands.proofs.two_operands.Lts as lts
-use Rattle.operands.proofs.ask_kinds.Reads as ask-kinds-reads
-use Rattle.operands.proofs.first_offered.Reads as first-offered-reads
-use Rattle.operands.proofs.second_offered.Reads as second-offered-reads
 
 first-offered-requires : tie.Need-first-offered-requires
 first-offered-requires c κs =

@@ -4,13 +4,6 @@ use mathlib.Core.List.{[]}
 use Rattle.ordering.proofs.Rows.{word-long, ns-stop, ns-done}
 use Rattle.ordering.proofs.ns.Statement.{statement}
 use Rattle.ordering.proofs.ns.Tie as tie
-use Rattle.ordering.proofs.ns.Reads as reads
-use Rattle.ordering.proofs.ns.Lts as lts
-use Rattle.characters.proofs.precedes.Reads as precedes-reads
-use Rattle.operands.proofs.ask_kinds.Reads as ask-kinds-reads
-use Rattle.ordering.proofs.first_word.Reads as first-word-reads
-use Rattle.ordering.proofs.other_word.Reads as other-word-reads
-use Rattle.state.proofs.minus_unless.Reads as minus-unless-reads
 
 first-word-requires : tie.Need-first-word-requires
 first-word-requires c κs =
