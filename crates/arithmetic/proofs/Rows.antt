@@ -4,13 +4,13 @@ use mathlib.Core.Bool.{Bool, true, false, not, cond, _&&_}
 use mathlib.Core.List.{List, [], _∷_, map}
 use Prim.Native.Nat.{ℕ, _≤_, _<_}
 use native.Mathlib.Omega.{arith}
-use lib.Dec.{eqb}
+use lib.Dec.{T, eqb}
 use lib.ListN.{length}
 use lib.IntN.{ℤ, natAbs, _+ℤ_, _-ℤ_, _*ℤ_}
 use lib.Signed.{quotZ, remZ}
 use borrow.Author.Tests.{le-leb, ne-eqb}
 use Rattle.lists.specs.Lists.{all}
-use Rattle.language.specs.Instructions.{two-numbers}
+use Rattle.language.specs.Instructions.{kinds-of}
 use Rattle.language.specs.Limits as limit
 use Rattle.language.specs.Letters.Letter.{E}
 use Rattle.language.specs.Program.{Arg, Op, Program}
@@ -31,6 +31,7 @@ use Rattle.operands.specs.Operands.{ReadsOperands, ReadsPair, replaced, DoesWit
 use Rattle.operands.specs.declared.Pair.{Pair}
 use Rattle.operands.proofs.Codes.{abs-most}
 use Rattle.tests.proofs.Values.{high}
+use Rattle.operands.proofs.Reading.{wordless}
 use Rattle.operands.proofs.Replacing.{replaced-last, left-first}
 use Rattle.arithmetic.specs.Arithmetic.{Coded, Divisible, Codes, Numbered, Computed}
 use Rattle.arithmetic.proofs.Numbers.{divided-in, size-is, size-some}
@@ -45,20 +46,20 @@ module _ {p e n : List ℕ} (q : Asks) (t : Store) where
       go true z i g = record { is = i ∙ sym z; holds = rw (kept-done (q, t, on) (state-at p e n) z) g }
       go false z i g = record { is = i ∙ sym z; holds = rw (kept-stop (q, t, on) (state-at p e n) z (λ y. omega (arith, y))) g }
 
--- ---- rows of two numbers: of what is offered as xs and ys, and has the values x and y
+-- ---- rows of two operands of the kinds ks: of what is offered as xs and ys, and has the values x and y
 
-abbrev asks-of : List Component → List Component → Bool → Asks
-asks-of xs ys b = ask 54 b & of-kinds two-numbers xs ys
+abbrev asks-of : List (ℕ × ℕ) → List Component → List Component → Bool → Asks
+asks-of ks xs ys b = ask 54 b & of-kinds ks xs ys
 
-abbrev row-of : (ℤ → ℤ → List ℤ) → ℕ → Store → List Component → List Component → ℤ → ℤ → Row
-row-of f i s xs ys x y = (asks-of xs ys (all in-range (f x y)), replaced true i (map Component.number (f x y)) s, on)
+abbrev row-of : List (ℕ × ℕ) → (ℤ → ℤ → List ℤ) → ℕ → Store → List Component → List Component → ℤ → ℤ → Row
+row-of ks f i s xs ys x y = (asks-of ks xs ys (all in-range (f x y)), replaced true i (map Component.number (f x y)) s, on)
 
 abbrev quotients : ℤ → ℤ → List ℤ
 quotients x y = remZ x y ∷ quotZ x y ∷ []
 
-abbrev divided : ℕ → Store → List Component → List Component → ℤ → ℤ → Row
-divided i s xs ys x y = (
-  ask 55 (not (eqb (natAbs y) 0)) & asks-of xs ys (all in-range (quotients x y)),
+abbrev divided : List (ℕ × ℕ) → ℕ → Store → List Component → List Component → ℤ → ℤ → Row
+divided ks i s xs ys x y = (
+  ask 55 (not (eqb (natAbs y) 0)) & asks-of ks xs ys (all in-range (quotients x y)),
   replaced true i (map Component.number (quotients x y)) s,
   on,
 )
@@ -73,24 +74,24 @@ module _ (g : Program) (ins : Inputs) (s : Store) (i : ℕ) (a : Arg) where
   abbrev of-values : (ℤ → ℤ → Row) → Row
   of-values r = r (value (first xs)) (value (first ys))
 
-  pub row-dodaj : row g ins s (nth (reading true) i) a nothing DODAJ ≡ of-values (row-of (λ x y. (x +ℤ y) ∷ []) i s xs ys)
+  pub row-dodaj : row g ins s (nth (reading true) i) a nothing DODAJ ≡ of-values (row-of (kinds-of DODAJ) (λ x y. (x +ℤ y) ∷ []) i s xs ys)
   unfolding row computed replaced
   row-dodaj = refl
 
-  pub row-odejmij : row g ins s (nth (reading true) i) a nothing ODEJMIJ ≡ of-values (row-of (λ x y. (x -ℤ y) ∷ []) i s xs ys)
+  pub row-odejmij : row g ins s (nth (reading true) i) a nothing ODEJMIJ ≡ of-values (row-of (kinds-of ODEJMIJ) (λ x y. (x -ℤ y) ∷ []) i s xs ys)
   unfolding row computed replaced
   row-odejmij = refl
 
-  pub row-mnoz : row g ins s (nth (reading true) i) a nothing MNOZ ≡ of-values (row-of (λ x y. (x *ℤ y) ∷ []) i s xs ys)
+  pub row-mnoz : row g ins s (nth (reading true) i) a nothing MNOZ ≡ of-values (row-of (kinds-of MNOZ) (λ x y. (x *ℤ y) ∷ []) i s xs ys)
   unfolding row computed replaced
   row-mnoz = refl
 
-  pub row-dziel : row g ins s (nth (reading true) i) a nothing DZIEL ≡ of-values (divided i s xs ys)
+  pub row-dziel : row g ins s (nth (reading true) i) a nothing DZIEL ≡ of-values (divided (kinds-of DZIEL) i s xs ys)
   unfolding row computed replaced
   row-dziel = refl
 
-quiet-two : (xs ys : List Component) (b : Bool) → Quiet (asks-of xs ys b)
-quiet-two xs ys b = record { is-50 = refl; is-55 = refl; is-56 = refl; is-57 = refl; is-58 = refl; is-59 = refl; is-60 = refl }
+quiet-two : (ks : List (ℕ × ℕ)) (xs ys : List Component) (b : Bool) → Quiet (asks-of ks xs ys b)
+quiet-two ks xs ys b = record { is-50 = refl; is-55 = refl; is-56 = refl; is-57 = refl; is-58 = refl; is-59 = refl; is-60 = refl }
 
 abbrev stop-two : Bool → Bool → ℕ
 stop-two a b = cond a (cond b 0 53) 52
@@ -107,9 +108,9 @@ module _ {p e n : List ℕ} (h : Stands p e n) (i : ℕ) where
   last-most : (zs : List Component) → replaced true i zs s .last ≤ limit.addresses
   last-most zs = rw (replaced-last true i zs s) (h .fine .last-most)
 
-  module _ (xs ys : List Component) {r : Pair} (w : ReadsOperands two-numbers xs ys r) where
+  module _ (ks : List (ℕ × ℕ)) (xs ys : List Component) {r : Pair} (w : ReadsOperands ks xs ys r) where
     abbrev kinds : Asks
-    kinds = of-kinds two-numbers xs ys
+    kinds = of-kinds ks xs ys
 
     abbrev x : ℤ
     x = uncode (r .left)
@@ -121,10 +122,10 @@ module _ {p e n : List ℕ} (h : Stands p e n) (i : ℕ) where
     pub by-values : (f : ℤ → ℤ → Row) {k : ℕ} {p′ e′ n′ : List ℕ} → Does p e n k p′ e′ n′ (f x y) → Does p e n k p′ e′ n′ (f (value (first xs)) (value (first ys)))
     by-values f d = rw (w .left-is, w .right-is) at d
 
-    pub two-stop : (f : ℤ → ℤ → List ℤ) → (r .stop ≡ 0 → ⊥) → Does p e n (r .stop) p e n (row-of f i s xs ys x y)
+    pub two-stop : (f : ℤ → ℤ → List ℤ) → (r .stop ≡ 0 → ⊥) → Does p e n (r .stop) p e n (row-of ks f i s xs ys x y)
     two-stop f z =
         let c = all in-range (f x y) in
-        quiet-stop h (asks-of xs ys c) (replaced true i (map Component.number (f x y)) s) (quiet-two xs ys c)
+        quiet-stop h (asks-of ks xs ys c) (replaced true i (map Component.number (f x y)) s) (quiet-two ks xs ys c)
         (w .stop-is ∙ range-after (kinds 52) (kinds 53) c (λ q. z (w .stop-is ∙ q))) z
 
     module _ (z : r .stop ≡ 0) where
@@ -140,14 +141,14 @@ module _ {p e n : List ℕ} (h : Stands p e n) (i : ℕ) where
         t = replaced true i (Component.number v ∷ []) s
 
         abbrev q : Asks
-        q = asks-of xs ys (in-range v && true)
+        q = asks-of ks xs ys (in-range v && true)
 
         answers : answer-of (q, t, on) (state-at p e n) ≡ cond ((in-range v && true) && true) (cond (fits t) 0 59) 54
         answers =
-            answer-quiet q t (state-at p e n) (quiet-two xs ys (in-range v && true)) (h .fine .stack-most)
+            answer-quiet q t (state-at p e n) (quiet-two ks xs ys (in-range v && true)) (h .fine .stack-most)
             ∙ rw (both-yes .0, both-yes .1, le-leb (t .last) limit.addresses (last-most (Component.number v ∷ []))) refl
 
-        pub one-done : {k : ℕ} {p′ e′ n′ : List ℕ} → Computed p e n k p′ e′ n′ i v → Does p e n k p′ e′ n′ (row-of (λ x y. f x y ∷ []) i s xs ys x y)
+        pub one-done : {k : ℕ} {p′ e′ n′ : List ℕ} → Computed p e n k p′ e′ n′ i v → Does p e n k p′ e′ n′ (row-of ks (λ x y. f x y ∷ []) i s xs ys x y)
         one-done {k} {p′} {e′} {n′} u = go (in-range v) refl
           where
             go : (b : Bool) → in-range v ≡ b → Does p e n k p′ e′ n′ (q, t, on)
@@ -176,9 +177,9 @@ closed-stop false b c d f z = refl
 closed-stop true false c d f z = refl
 closed-stop true true c d f z = absurd (z refl)
 
-module _ {p e n : List ℕ} (h : Stands p e n) (i : ℕ) (xs ys : List Component) {r : Pair} (w : ReadsOperands two-numbers xs ys r) where
+module _ {p e n : List ℕ} (h : Stands p e n) (i : ℕ) (ks : List (ℕ × ℕ)) (xs ys : List Component) {r : Pair} (w : ReadsOperands ks xs ys r) where
   abbrev asks : Asks
-  asks = of-kinds two-numbers xs ys
+  asks = of-kinds ks xs ys
 
   abbrev dividend : ℤ
   dividend = uncode (r .left)
@@ -193,7 +194,7 @@ module _ {p e n : List ℕ} (h : Stands p e n) (i : ℕ) (xs ys : List Component
   in-both = all in-range (quotients dividend divisor)
 
   abbrev divided-row : Row
-  divided-row = divided i (state-at p e n .store) xs ys dividend divisor
+  divided-row = divided ks i (state-at p e n .store) xs ys dividend divisor
 
   answer-divided : answer-of divided-row (state-at p e n) ≡ closed (asks 52) (asks 53) in-both is-divisor (fits (divided-row .1))
   answer-divided =
@@ -212,7 +213,7 @@ module _ {p e n : List ℕ} (h : Stands p e n) (i : ℕ) (xs ys : List Component
     answer-two : answer-of divided-row (state-at p e n) ≡ cond is-divisor (cond (fits (divided-row .1)) 0 59) 55
     answer-two =
         let k = divided-in dividend divisor (abs-most (r .left) (w .left-most)) in
-        let u = both-yes h i xs ys w z in
+        let u = both-yes h i ks xs ys w z in
         answer-divided ∙ rw (u .0, u .1, k .0, k .1) refl
 
     pub dziel-zero : r .right ≡ 8388607 → Does p e n 55 p e n divided-row
@@ -233,7 +234,7 @@ module _ {p e n : List ℕ} (h : Stands p e n) (i : ℕ) (xs ys : List Component
 
 -- ---- what the functions of the instructions promise
 
-module _ {p e n : List ℕ} (h : Stands p e n) (i : ℕ) (a : Argument) {r : Pair} (w : ReadsPair two-numbers (state-at p e n .store) i a r) where
+module _ {p e n : List ℕ} (h : Stands p e n) (i : ℕ) (a : Argument) where
   abbrev store : Store
   store = state-at p e n .store
 
@@ -246,63 +247,69 @@ module _ {p e n : List ℕ} (h : Stands p e n) (i : ℕ) (a : Argument) {r : Pai
   abbrev right : List ℕ → Inputs → List Component
   right c ins = side ins store (arg-of c a)
 
-  pub both-coded : Coded (r .left) (r .right)
-  both-coded = record { left = w true [] [] .left-most; right = w true [] [] .right-most }
+  module _ {ks : List (ℕ × ℕ)} {r : Pair} (w : ReadsPair ks store i a r) where
+    pub both-coded : Coded (r .left) (r .right)
+    both-coded = record { left = w true [] [] .left-most; right = w true [] [] .right-most }
 
-  pub divisible : (r .right ≡ 8388607 → ⊥) → Divisible (r .left) (r .right)
-  divisible z = record { coded = both-coded; some = z }
+    pub divisible : (r .right ≡ 8388607 → ⊥) → Divisible (r .left) (r .right)
+    divisible z = record { coded = both-coded; some = z }
 
-  pub numbered : r .stop ≡ 0 → {scratch hold : ℕ} → 65536 ≤ scratch → 32768 ≤ hold → i < limit.expressions → Numbered p e n scratch hold i
-  numbered z sp ro ix =
-      record { stands = h; spare = sp; room = ro; index = ix; first = left-first (expr store (nth E i)) (right [] []) (sym (w true [] [] .stop-is) ∙ z) }
+    pub numbered : T (wordless ks) → r .stop ≡ 0 → {scratch hold : ℕ} → 65536 ≤ scratch → 32768 ≤ hold → i < limit.expressions → Numbered p e n scratch hold i
+    numbered k z sp ro ix =
+        record { stands = h; spare = sp; room = ro; index = ix; first = left-first ks k (expr store (nth E i)) (right [] []) (sym (w true [] [] .stop-is) ∙ z) }
 
   -- an instruction with one result
   module _ (o : Op) (f : ℤ → ℤ → ℤ)
-      (is : (g : Program) (ins : Inputs) (b : Arg) → row g ins store (nth (reading true) i) b nothing o ≡ of-values g ins store i b (row-of (λ x y. f x y ∷ []) i store (xs g ins store i b) (ys g ins store i b))) where
-    one-stop : (r .stop ≡ 0 → ⊥) → DoesWith p e n (r .stop) p e n (rows o)
-    one-stop z c g ins =
-        let v = w true c ins in
+      (is : (g : Program) (ins : Inputs) (b : Arg) → row g ins store (nth (reading true) i) b nothing o ≡ of-values g ins store i b (row-of (kinds-of o) (λ x y. f x y ∷ []) i store (xs g ins store i b) (ys g ins store i b)))
+      {r : Pair} (w : ReadsPair (kinds-of o) store i a r) where
+    one-by : (c : List ℕ) (g : Program) (ins : Inputs) {k : ℕ} {p′ e′ n′ : List ℕ}
+        → Does p e n k p′ e′ n′ (row-of (kinds-of o) (λ x y. f x y ∷ []) i store (left ins) (right c ins) (uncode (r .left)) (uncode (r .right))) → Does p e n k p′ e′ n′ (rows o c g ins)
+    one-by c g ins d =
         rw (is g ins (arg-of c a))
-        (by-values h i (left ins) (right c ins) v (row-of (λ x y. f x y ∷ []) i store (left ins) (right c ins)) (two-stop h i (left ins) (right c ins) v (λ x y. f x y ∷ []) z))
+        (by-values h i (kinds-of o) (left ins) (right c ins) (w true c ins) (row-of (kinds-of o) (λ x y. f x y ∷ []) i store (left ins) (right c ins)) d)
+
+    one-stop : (r .stop ≡ 0 → ⊥) → DoesWith p e n (r .stop) p e n (rows o)
+    one-stop z c g ins = one-by c g ins (two-stop h i (kinds-of o) (left ins) (right c ins) (w true c ins) (λ x y. f x y ∷ []) z)
 
     one-result : r .stop ≡ 0 → {k : ℕ} {p′ e′ n′ : List ℕ} → Computed p e n k p′ e′ n′ i (f (uncode (r .left)) (uncode (r .right))) → DoesWith p e n k p′ e′ n′ (rows o)
-    one-result z u c g ins =
-        let v = w true c ins in
-        rw (is g ins (arg-of c a))
-        (by-values h i (left ins) (right c ins) v (row-of (λ x y. f x y ∷ []) i store (left ins) (right c ins)) (one-done h i (left ins) (right c ins) v z f u))
+    one-result z u c g ins = one-by c g ins (one-done h i (kinds-of o) (left ins) (right c ins) (w true c ins) z f u)
 
-  pub dodaj-stop : (r .stop ≡ 0 → ⊥) → DoesWith p e n (r .stop) p e n (rows DODAJ)
-  dodaj-stop = one-stop DODAJ (λ x y. x +ℤ y) (λ g ins. row-dodaj g ins store i)
+  module _ {r : Pair} (w : ReadsPair (kinds-of DODAJ) store i a r) where
+    pub dodaj-stop : (r .stop ≡ 0 → ⊥) → DoesWith p e n (r .stop) p e n (rows DODAJ)
+    dodaj-stop = one-stop DODAJ (λ x y. x +ℤ y) (λ g ins. row-dodaj g ins store i) w
 
-  pub dodaj-done : r .stop ≡ 0 → {k : ℕ} {p′ e′ n′ : List ℕ} → Computed p e n k p′ e′ n′ i (uncode (r .left) +ℤ uncode (r .right)) → DoesWith p e n k p′ e′ n′ (rows DODAJ)
-  dodaj-done = one-result DODAJ (λ x y. x +ℤ y) (λ g ins. row-dodaj g ins store i)
+    pub dodaj-done : r .stop ≡ 0 → {k : ℕ} {p′ e′ n′ : List ℕ} → Computed p e n k p′ e′ n′ i (uncode (r .left) +ℤ uncode (r .right)) → DoesWith p e n k p′ e′ n′ (rows DODAJ)
+    dodaj-done = one-result DODAJ (λ x y. x +ℤ y) (λ g ins. row-dodaj g ins store i) w
 
-  pub odejmij-stop : (r .stop ≡ 0 → ⊥) → DoesWith p e n (r .stop) p e n (rows ODEJMIJ)
-  odejmij-stop = one-stop ODEJMIJ (λ x y. x -ℤ y) (λ g ins. row-odejmij g ins store i)
+  module _ {r : Pair} (w : ReadsPair (kinds-of ODEJMIJ) store i a r) where
+    pub odejmij-stop : (r .stop ≡ 0 → ⊥) → DoesWith p e n (r .stop) p e n (rows ODEJMIJ)
+    odejmij-stop = one-stop ODEJMIJ (λ x y. x -ℤ y) (λ g ins. row-odejmij g ins store i) w
 
-  pub odejmij-done : r .stop ≡ 0 → {k : ℕ} {p′ e′ n′ : List ℕ} → Computed p e n k p′ e′ n′ i (uncode (r .left) -ℤ uncode (r .right)) → DoesWith p e n k p′ e′ n′ (rows ODEJMIJ)
-  odejmij-done = one-result ODEJMIJ (λ x y. x -ℤ y) (λ g ins. row-odejmij g ins store i)
+    pub odejmij-done : r .stop ≡ 0 → {k : ℕ} {p′ e′ n′ : List ℕ} → Computed p e n k p′ e′ n′ i (uncode (r .left) -ℤ uncode (r .right)) → DoesWith p e n k p′ e′ n′ (rows ODEJMIJ)
+    odejmij-done = one-result ODEJMIJ (λ x y. x -ℤ y) (λ g ins. row-odejmij g ins store i) w
 
-  pub mnoz-stop : (r .stop ≡ 0 → ⊥) → DoesWith p e n (r .stop) p e n (rows MNOZ)
-  mnoz-stop = one-stop MNOZ (λ x y. x *ℤ y) (λ g ins. row-mnoz g ins store i)
+  module _ {r : Pair} (w : ReadsPair (kinds-of MNOZ) store i a r) where
+    pub mnoz-stop : (r .stop ≡ 0 → ⊥) → DoesWith p e n (r .stop) p e n (rows MNOZ)
+    mnoz-stop = one-stop MNOZ (λ x y. x *ℤ y) (λ g ins. row-mnoz g ins store i) w
 
-  pub mnoz-done : r .stop ≡ 0 → {k : ℕ} {p′ e′ n′ : List ℕ} → Computed p e n k p′ e′ n′ i (uncode (r .left) *ℤ uncode (r .right)) → DoesWith p e n k p′ e′ n′ (rows MNOZ)
-  mnoz-done = one-result MNOZ (λ x y. x *ℤ y) (λ g ins. row-mnoz g ins store i)
+    pub mnoz-done : r .stop ≡ 0 → {k : ℕ} {p′ e′ n′ : List ℕ} → Computed p e n k p′ e′ n′ i (uncode (r .left) *ℤ uncode (r .right)) → DoesWith p e n k p′ e′ n′ (rows MNOZ)
+    mnoz-done = one-result MNOZ (λ x y. x *ℤ y) (λ g ins. row-mnoz g ins store i) w
 
-  -- DZIEL
-  dziel-by : (c : List ℕ) (g : Program) (ins : Inputs) {k : ℕ} {p′ e′ n′ : List ℕ}
-      → Does p e n k p′ e′ n′ (divided i store (left ins) (right c ins) (uncode (r .left)) (uncode (r .right))) → Does p e n k p′ e′ n′ (rows DZIEL c g ins)
-  dziel-by c g ins d =
-      rw (row-dziel g ins store i (arg-of c a)) (by-values h i (left ins) (right c ins) (w true c ins) (divided i store (left ins) (right c ins)) d)
+  module _ {r : Pair} (w : ReadsPair (kinds-of DZIEL) store i a r) where
+    dziel-by : (c : List ℕ) (g : Program) (ins : Inputs) {k : ℕ} {p′ e′ n′ : List ℕ}
+        → Does p e n k p′ e′ n′ (divided (kinds-of DZIEL) i store (left ins) (right c ins) (uncode (r .left)) (uncode (r .right))) → Does p e n k p′ e′ n′ (rows DZIEL c g ins)
+    dziel-by c g ins d =
+        rw (row-dziel g ins store i (arg-of c a))
+        (by-values h i (kinds-of DZIEL) (left ins) (right c ins) (w true c ins) (divided (kinds-of DZIEL) i store (left ins) (right c ins)) d)
 
-  pub dziel-stops : (r .stop ≡ 0 → ⊥) → DoesWith p e n (r .stop) p e n (rows DZIEL)
-  dziel-stops z c g ins = dziel-by c g ins (dziel-stop h i (left ins) (right c ins) (w true c ins) z)
+    pub dziel-stops : (r .stop ≡ 0 → ⊥) → DoesWith p e n (r .stop) p e n (rows DZIEL)
+    dziel-stops z c g ins = dziel-by c g ins (dziel-stop h i (kinds-of DZIEL) (left ins) (right c ins) (w true c ins) z)
 
-  pub dziel-zeros : r .stop ≡ 0 → r .right ≡ 8388607 → DoesWith p e n 55 p e n (rows DZIEL)
-  dziel-zeros z o c g ins = dziel-by c g ins (dziel-zero h i (left ins) (right c ins) (w true c ins) z o)
+    pub dziel-zeros : r .stop ≡ 0 → r .right ≡ 8388607 → DoesWith p e n 55 p e n (rows DZIEL)
+    dziel-zeros z o c g ins = dziel-by c g ins (dziel-zero h i (kinds-of DZIEL) (left ins) (right c ins) (w true c ins) z o)
 
-  pub dziel-dones : r .stop ≡ 0 → (r .right ≡ 8388607 → ⊥) → {x y : ℕ} → Codes (remZ (uncode (r .left)) (uncode (r .right))) x
-      → Codes (quotZ (uncode (r .left)) (uncode (r .right))) y → {k : ℕ} {p′ e′ n′ : List ℕ}
-      → Tried p e n k p′ e′ n′ true (replaced true i (Component.number (uncode x) ∷ Component.number (uncode y) ∷ []) store) → DoesWith p e n k p′ e′ n′ (rows DZIEL)
-  dziel-dones z o {x} {y} l m u c g ins =
-      dziel-by c g ins (dziel-done h i (left ins) (right c ins) (w true c ins) z o x y (l .is) (m .is) u)
+    pub dziel-dones : r .stop ≡ 0 → (r .right ≡ 8388607 → ⊥) → {x y : ℕ} → Codes (remZ (uncode (r .left)) (uncode (r .right))) x
+        → Codes (quotZ (uncode (r .left)) (uncode (r .right))) y → {k : ℕ} {p′ e′ n′ : List ℕ}
+        → Tried p e n k p′ e′ n′ true (replaced true i (Component.number (uncode x) ∷ Component.number (uncode y) ∷ []) store) → DoesWith p e n k p′ e′ n′ (rows DZIEL)
+    dziel-dones z o {x} {y} l m u c g ins =
+        dziel-by c g ins (dziel-done h i (kinds-of DZIEL) (left ins) (right c ins) (w true c ins) z o x y (l .is) (m .is) u)

@@ -1,6 +1,6 @@
 -- Operands read from components and arguments, and the questions on their kinds.
 use mathlib.Core.Path.{_≡_, refl, sym, ap, _∙_, subst}
-use mathlib.Core.Bool.{Bool, true, false, _&&_, _||_}
+use mathlib.Core.Bool.{Bool, true, false, not, _&&_, _||_}
 use mathlib.Core.List.{List, [], _∷_}
 use Prim.Native.Nat.{ℕ, _-_, _≤_}
 use native.Mathlib.Omega.{arith}
@@ -8,12 +8,13 @@ use lib.Dec.{T, eqb}
 use lib.ListN.{length, take}
 use lib.IntN.{ℤ, pos, negsuc}
 use borrow.Author.Tests.{ne-eqb, eqb-true}
-use Rattle.language.specs.Instructions.{two-numbers}
+use Rattle.lists.specs.Lists.{all}
+use Rattle.lists.specs.ListLaws.{T-left, T-right}
 use Rattle.language.specs.Letters.Letter.{E}
 use Rattle.language.specs.Program.Arg.{letter}
 use Rattle.language.specs.Values.{Component, Store, Inputs, value, kind}
 use Rattle.language.specs.Values.Component.{word, address}
-use Rattle.machine.specs.Arguments.{expr, first, side, needs, of-kinds}
+use Rattle.machine.specs.Arguments.{expr, first, side, needs, listed-pair, of-kinds}
 use Rattle.layout.specs.Bounds.{Ok}
 use Rattle.layout.specs.Cells.{code, uncode}
 use Rattle.layout.specs.ComponentLaws.{next-component}
@@ -47,7 +48,7 @@ number-is (word w) k = absurd (omega (arith, k))
 number-is (Component.number z) k = refl
 number-is (address n) k = absurd (omega (arith, k))
 
-pub one-number : (es : List Component) → kind (first (take 1 es)) ≡ 1 → take 1 es ≡ Component.number (value (first (take 1 es))) ∷ []
+one-number : (es : List Component) → kind (first (take 1 es)) ≡ 1 → take 1 es ≡ Component.number (value (first (take 1 es))) ∷ []
 one-number [] k = absurd (omega (arith, k))
 one-number (x ∷ es) k = ap (λ (y : Component). y ∷ []) (number-is x k)
 
@@ -179,14 +180,20 @@ pair-told ks xs ys h j e =
       right-most = j .most;
     }
 
--- the first of two numbers
-pub left-number : (xs ys : List Component) → stop-of (of-kinds two-numbers xs ys) ≡ 0 → kind (first xs) ≡ 1
-left-number xs ys z =
-    go (eqb (kind (first xs)) 1) (eqb (kind (first ys)) 1) refl (unstopped (of-kinds two-numbers xs ys) z .1)
+-- where no word is listed as the first, the first is none
+abbrev pub wordless : List (ℕ × ℕ) → Bool
+wordless ks = all (λ q. not (eqb (q .0) 0)) ks
+
+listed-left : (ks : List (ℕ × ℕ)) (j k : ℕ) → T (wordless ks) → listed-pair ks j k ≡ true → j ≡ 0 → ⊥
+listed-left [] j k h e z = subst T (sym e) tt
+listed-left (q ∷ ks) j k h e z = go (eqb j (q .0)) refl e (λ g. listed-left ks j k (T-right (not (eqb (q .0) 0)) (wordless ks) h) g z)
   where
-    go : (a b : Bool) → eqb (kind (first xs)) 1 ≡ a → ((a && b) || false) ≡ true → kind (first xs) ≡ 1
-    go true b e q = eqb-true (kind (first xs)) 1 e
-    go false b e q = absurd (subst T (sym q) tt)
+    go : (b : Bool) → eqb j (q .0) ≡ b → ((b && eqb k (q .1)) || listed-pair ks j k) ≡ true → (listed-pair ks j k ≡ true → ⊥) → ⊥
+    go true f g rest = subst (λ (n : ℕ). T (not (eqb n 0))) (sym (eqb-true j (q .0) f) ∙ z) (T-left (not (eqb (q .0) 0)) (wordless ks) h)
+    go false f g rest = rest g
+
+pub left-kind : (ks : List (ℕ × ℕ)) (xs ys : List Component) → T (wordless ks) → stop-of (of-kinds ks xs ys) ≡ 0 → kind (first xs) ≡ 0 → ⊥
+left-kind ks xs ys h z = listed-left ks (kind (first xs)) (kind (first ys)) h (unstopped (of-kinds ks xs ys) z .1)
 
 -- A and B offer the first component
 pub first-side : (s : Store) (i : ℕ) {r : Offered} → ReadsOffered (take 1 (expr s (nth E i))) r → (b : Bool) (ins : Inputs) → ReadsOffered (side ins s (nth (reading b) i)) r

@@ -4,13 +4,13 @@ use mathlib.Core.Bool.{Bool, true, false, cond, _&&_}
 use mathlib.Core.List.{List, [], _∷_}
 use Prim.Native.Nat.{ℕ, _+_, _≤_, _<_}
 use native.Mathlib.Omega.{arith}
-use lib.Dec.{leb}
-use lib.ListN.{length, take, length-take}
+use lib.Dec.{T, leb}
+use lib.ListN.{length, take}
 use lib.IntN.{ℤ}
 use borrow.Author.Tests.{lt-leb}
-use Rattle.language.specs.Instructions.{two-numbers}
 use Rattle.language.specs.Limits as limit
-use Rattle.language.specs.Values.{Component, Store, value}
+use Rattle.language.specs.Values.{Component, Store, kind}
+use Rattle.language.specs.Values.Component.{word, address}
 use Rattle.machine.specs.Arguments.{first, of-kinds}
 use Rattle.machine.specs.Changes.{with-exprs, put-expr, placed, into, front, past-by, past, used-by, used, fits}
 use Rattle.layout.specs.ComponentLaws.{components-bytes-one}
@@ -25,7 +25,7 @@ use Rattle.state.proofs.Standing.{state-of, stands}
 use Rattle.instructions.specs.Does.{Tried, stop-of}
 use Rattle.instructions.proofs.Answers.{tried-full, tried-done}
 use Rattle.operands.specs.Operands.{replaced, Replaceable}
-use Rattle.operands.proofs.Reading.{one-number, left-number}
+use Rattle.operands.proofs.Reading.{wordless, left-kind}
 
 replaced-is : (removes : Bool) (i : ℕ) (ys : List Component) (s : Store)
     → replaced removes i ys s ≡ into (nth (writing false) i) ys (past (nth (reading removes) i) 1 s)
@@ -39,19 +39,21 @@ unfolding replaced front used used-by put-expr with-exprs past-by
 replaced-last true i ys s = refl
 replaced-last false i ys s = refl
 
+-- a component in front of an expression that is no word
+short-first : (es : List Component) → (kind (first (take 1 es)) ≡ 0 → ⊥) → FirstParts es 1 5 0
+unfolding component-bytes
+short-first [] k = absurd (k refl)
+short-first (word w ∷ es) k = absurd (k refl)
+short-first (Component.number z ∷ es) k = record { most = omega arith; bytes-is = rw (components-bytes-one (Component.number z)) refl; chars-is = refl }
+short-first (address n ∷ es) k = record { most = omega arith; bytes-is = rw (components-bytes-one (address n)) refl; chars-is = refl }
+
 -- the number in front of an expression
 pub number-first : (es : List Component) (z : ℤ) → take 1 es ≡ Component.number z ∷ [] → FirstParts es 1 5 0
-unfolding component-bytes
-number-first es z e =
-    record {
-      most = let l : length (take 1 es) ≡ 1 = ap length e in omega (arith, sym (length-take 1 es) ∙ l);
-      bytes-is = rw (e, components-bytes-one (Component.number z)) refl;
-      chars-is = rw e refl;
-    }
+number-first es z e = short-first es (λ k. omega (arith, sym (ap (λ (xs : List Component). kind (first xs)) e) ∙ k))
 
--- the first of two numbers in front of an expression
-pub left-first : (es ys : List Component) → stop-of (of-kinds two-numbers (take 1 es) ys) ≡ 0 → FirstParts es 1 5 0
-left-first es ys z = number-first es (value (first (take 1 es))) (one-number es (left-number (take 1 es) ys z))
+-- the first of two operands in front of an expression, which is no word
+pub left-first : (ks : List (ℕ × ℕ)) → T (wordless ks) → (es ys : List Component) → stop-of (of-kinds ks (take 1 es) ys) ≡ 0 → FirstParts es 1 5 0
+left-first ks h es ys z = short-first es (left-kind ks (take 1 es) ys h z)
 
 pub picked-most : {x m : ℕ} (t : Bool) (a : ℕ) → x ≡ cond t a 0 → a ≤ m → x ≤ m
 picked-most true a e h = omega (arith, e)

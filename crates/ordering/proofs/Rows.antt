@@ -8,7 +8,7 @@ use lib.Dec.{ltb}
 use lib.ListN.{length, take, length-take}
 use lib.Signed.{ltZ}
 use Rattle.characters.specs.Characters.{precedes}
-use Rattle.language.specs.Instructions.{two-words, two-numbers, kinds-of}
+use Rattle.language.specs.Instructions.{two-words, kinds-of}
 use Rattle.language.specs.Letters.Letter.{E}
 use Rattle.language.specs.Program.{Arg, Op, Program}
 use Rattle.language.specs.Program.Arg.{nothing}
@@ -63,11 +63,11 @@ module _ (g : Program) (ins : Inputs) (s : Store) (i : ℕ) (a : Arg) where
   unfolding ordered relation used used-by past-by
   ordered-is o less = ap (λ (t : Store). (of-kinds (kinds-of o) xs ys, t, on)) (kept-or-minus (less (first xs) (first ys)) s)
 
-  row-wk : row g ins s (nth (reading false) i) a nothing WK ≡ row-of two-numbers greater s xs ys
+  row-wk : row g ins s (nth (reading false) i) a nothing WK ≡ row-of (kinds-of WK) greater s xs ys
   unfolding row
   row-wk = ordered-is WK greater
 
-  row-mn : row g ins s (nth (reading false) i) a nothing MN ≡ row-of two-numbers smaller s xs ys
+  row-mn : row g ins s (nth (reading false) i) a nothing MN ≡ row-of (kinds-of MN) smaller s xs ys
   unfolding row
   row-mn = ordered-is MN smaller
 
@@ -100,32 +100,34 @@ module _ {p e n : List ℕ} (h : Stands p e n) where
 
   -- ---- numbers
 
-  module _ (i : ℕ) (a : Argument) {r : Pair} (w : ReadsPair two-numbers s i a r) where
+  module _ (i : ℕ) (a : Argument) where
     abbrev left : Inputs → List Component
     left ins = side ins s (nth (reading false) i)
 
     abbrev right : List ℕ → Inputs → List Component
     right c ins = side ins s (arg-of c a)
 
-    pub wk-stop : (r .stop ≡ 0 → ⊥) → DoesWith p e n (r .stop) p e n (λ c g ins. row g ins s (nth (reading false) i) (arg-of c a) nothing WK)
-    wk-stop z c g ins = rw (row-wk g ins s i (arg-of c a)) (order-stop two-numbers greater (left ins) (right c ins) (w false c ins .stop-is) z)
+    module _ {r : Pair} (w : ReadsPair (kinds-of WK) s i a r) where
+      pub wk-stop : (r .stop ≡ 0 → ⊥) → DoesWith p e n (r .stop) p e n (λ c g ins. row g ins s (nth (reading false) i) (arg-of c a) nothing WK)
+      wk-stop z c g ins = rw (row-wk g ins s i (arg-of c a)) (order-stop (kinds-of WK) greater (left ins) (right c ins) (w false c ins .stop-is) z)
 
-    pub mn-stop : (r .stop ≡ 0 → ⊥) → DoesWith p e n (r .stop) p e n (λ c g ins. row g ins s (nth (reading false) i) (arg-of c a) nothing MN)
-    mn-stop z c g ins = rw (row-mn g ins s i (arg-of c a)) (order-stop two-numbers smaller (left ins) (right c ins) (w false c ins .stop-is) z)
+      pub wk-done : r .stop ≡ 0 → {n′ : List ℕ} → HoldsState p e n′ (on-store (minus-unless (ltb (r .right) (r .left))) (state-at p e n))
+          → DoesWith p e n 0 p e n′ (λ c g ins. row g ins s (nth (reading false) i) (arg-of c a) nothing WK)
+      wk-done z u c g ins =
+          let v = w false c ins in
+          rw (row-wk g ins s i (arg-of c a))
+          (order-done (kinds-of WK) greater (left ins) (right c ins) (sym (v .stop-is) ∙ z) (coded-less (r .right) (r .left) ∙ rw (v .left-is, v .right-is) refl) u)
 
-    pub wk-done : r .stop ≡ 0 → {n′ : List ℕ} → HoldsState p e n′ (on-store (minus-unless (ltb (r .right) (r .left))) (state-at p e n))
-        → DoesWith p e n 0 p e n′ (λ c g ins. row g ins s (nth (reading false) i) (arg-of c a) nothing WK)
-    wk-done z u c g ins =
-        let v = w false c ins in
-        rw (row-wk g ins s i (arg-of c a))
-        (order-done two-numbers greater (left ins) (right c ins) (sym (v .stop-is) ∙ z) (coded-less (r .right) (r .left) ∙ rw (v .left-is, v .right-is) refl) u)
+    module _ {r : Pair} (w : ReadsPair (kinds-of MN) s i a r) where
+      pub mn-stop : (r .stop ≡ 0 → ⊥) → DoesWith p e n (r .stop) p e n (λ c g ins. row g ins s (nth (reading false) i) (arg-of c a) nothing MN)
+      mn-stop z c g ins = rw (row-mn g ins s i (arg-of c a)) (order-stop (kinds-of MN) smaller (left ins) (right c ins) (w false c ins .stop-is) z)
 
-    pub mn-done : r .stop ≡ 0 → {n′ : List ℕ} → HoldsState p e n′ (on-store (minus-unless (ltb (r .left) (r .right))) (state-at p e n))
-        → DoesWith p e n 0 p e n′ (λ c g ins. row g ins s (nth (reading false) i) (arg-of c a) nothing MN)
-    mn-done z u c g ins =
-        let v = w false c ins in
-        rw (row-mn g ins s i (arg-of c a))
-        (order-done two-numbers smaller (left ins) (right c ins) (sym (v .stop-is) ∙ z) (coded-less (r .left) (r .right) ∙ rw (v .left-is, v .right-is) refl) u)
+      pub mn-done : r .stop ≡ 0 → {n′ : List ℕ} → HoldsState p e n′ (on-store (minus-unless (ltb (r .left) (r .right))) (state-at p e n))
+          → DoesWith p e n 0 p e n′ (λ c g ins. row g ins s (nth (reading false) i) (arg-of c a) nothing MN)
+      mn-done z u c g ins =
+          let v = w false c ins in
+          rw (row-mn g ins s i (arg-of c a))
+          (order-done (kinds-of MN) smaller (left ins) (right c ins) (sym (v .stop-is) ∙ z) (coded-less (r .left) (r .right) ∙ rw (v .left-is, v .right-is) refl) u)
 
   -- ---- words
 

@@ -40,7 +40,7 @@ put-one-requires c κs =
     let argsᶜ = c .before .before .before .before .before .before .before .before .before .before .before .before .before .before .before .before .args in
     let two-operandsᶜ = c .before .before .before .before .before .before .before .two-operands in
     let if1ᶜ = c .before .before .before .before .before .before .if1 in
-    record { numbered = numbered (preᶜ .pair .operand .stands) (argsᶜ .i) (argsᶜ .arg) (two-operandsᶜ .ensures) (if1ᶜ .left) (preᶜ .spare) (preᶜ .room) (preᶜ .pair .source); most = result-fits (uncode (two-operandsᶜ .result .left) +ℤ uncode (two-operandsᶜ .result .right)) (c .sum .ensures) }
+    record { numbered = numbered (preᶜ .pair .operand .stands) (argsᶜ .i) (argsᶜ .arg) (two-operandsᶜ .ensures) tt (if1ᶜ .left) (preᶜ .spare) (preᶜ .room) (preᶜ .pair .source); most = result-fits (uncode (two-operandsᶜ .result .left) +ℤ uncode (two-operandsᶜ .result .right)) (c .sum .ensures) }
 
 same-length-4 : tie.Need-same-length-4
 same-length-4 c = search needs

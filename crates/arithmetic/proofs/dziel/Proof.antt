@@ -62,7 +62,7 @@ put-two-requires c κs =
     let two-operandsᶜ = c .before .before .before .before .before .before .before .before .before .two-operands in
     let if1ᶜ = c .before .before .before .before .before .before .before .before .if1 in
     let remainderᶜ = c .before .before .before .before .before .before .remainder in
-    record { numbered = numbered (preᶜ .pair .operand .stands) (argsᶜ .i) (argsᶜ .arg) (two-operandsᶜ .ensures) (if1ᶜ .left) (preᶜ .spare) (preᶜ .room) (preᶜ .pair .source); left-most = remainderᶜ .ensures .most; right-most = c .quotient .ensures .most }
+    record { numbered = numbered (preᶜ .pair .operand .stands) (argsᶜ .i) (argsᶜ .arg) (two-operandsᶜ .ensures) tt (if1ᶜ .left) (preᶜ .spare) (preᶜ .room) (preᶜ .pair .source); left-most = remainderᶜ .ensures .most; right-most = c .quotient .ensures .most }
 
 same-length-7 : tie.Need-same-length-7
 same-length-7 c = search needs
