@@ -3,6 +3,7 @@ ghost use mathlib.Core.Path.{_≡_};
 ghost use mathlib.Core.Bool.{cond};
 ghost use Prim.Native.Nat.{_≤_, _<_};
 ghost use lib.ListN.{length};
+ghost use Rattle.characters.specs.Characters.{knownMarks};
 ghost use Rattle.check_strings.specs.Sound.{sound-components, sound-short, FrontSize, given, framed, sound-records, RecordSize};
 
 // The largest code of a number, that of 8,388,607.
@@ -21,9 +22,9 @@ fn is_short(kind: u8, v: usize, last: usize) -> bool
     ((kind == 1) & (v <= LARGEST)) | ((kind == 2) & (v <= last))
 }
 
-// How many cells the component in front takes; 0 where it is not whole or has a fault.
-fn front_size(b: &[u8], last: usize) -> usize
-    requires { ⌜ 0 < length (now b) ⌝ }
+// How many cells the component in front takes; 0 where it is not whole or has a fault. `marks` is the table of characters by byte.
+fn front_size(b: &[u8], last: usize, marks: &[u8]) -> usize
+    requires { ⌜ (0 < length (now b)) × (now marks ≡ knownMarks) ⌝ }
     ensures { λ r. ⌜ FrontSize last (now (b .entry)) r ⌝ }
 {
     let n = components::size_by(b[0]);
@@ -33,7 +34,22 @@ fn front_size(b: &[u8], last: usize) -> usize
     if b[0] == 0 {
         return pick(is_short(b[1], cells::three_at(b, 2), last), n);
     }
-    pick(characters::all_known(&b[1..n]), n)
+    pick(characters::are_known(&b[1..n], marks), n)
+}
+
+fn components_by(b: &[u8], last: usize, marks: &[u8]) -> bool
+    requires { ⌜ (last ≤ 8388607) × (now marks ≡ knownMarks) ⌝ }
+    ensures { λ r. ⌜ r ≡ sound-components last (now (b .entry)) ⌝ }
+{
+    let mut at = 0;
+    while at < b.len() {
+        let n = front_size(&b[at..], last, marks);
+        if n == 0 {
+            return false;
+        }
+        at += n;
+    }
+    true
 }
 
 // Whether the cells are whole components without faults, where `last` is the last address given.
@@ -41,15 +57,7 @@ pub fn are_components(b: &[u8], last: usize) -> bool
     requires { ⌜ last ≤ 8388607 ⌝ }
     ensures { λ r. ⌜ r ≡ sound-components last (now (b .entry)) ⌝ }
 {
-    let mut at = 0;
-    while at < b.len() {
-        let n = front_size(&b[at..], last);
-        if n == 0 {
-            return false;
-        }
-        at += n;
-    }
-    true
+    components_by(b, last, &characters::MARKS)
 }
 
 fn is_given(n: usize, last: usize) -> bool

@@ -21,13 +21,13 @@ shared-slice-read-if2 c = search needs
 
 shared-slice-read-is-short : tie.Need-shared-slice-read-is-short
 shared-slice-read-is-short c =
-    let args = c .before .before .before .before .before .before .before .args in
+    let args = c .before .before .before .before .before .before .before .before .args in
     let size-by = c .before .before .before .before .size-by in
     omega (arith, size-by .ensures .is, size-short (cell (args .b .now) 0) (c .before .if2 .taken))
 
 three-at-requires : tie.Need-three-at-requires
 three-at-requires c κs =
-    let args = c .before .before .before .before .before .before .before .args in
+    let args = c .before .before .before .before .before .before .before .before .args in
     let size-by = c .before .before .before .before .size-by in
     omega (arith, size-by .ensures .is, size-short (cell (args .b .now) 0) (c .before .if2 .taken))
 
@@ -39,41 +39,41 @@ pick-requires c κs = search needs
 
 returns-2 : tie.Need-returns-2
 returns-2 c =
-    let args = c .before .before .before .before .before .before .before .before .before .before .args in
+    let args = c .before .before .before .before .before .before .before .before .before .before .before .args in
     let size-by = c .before .before .before .before .before .before .before .size-by in
     let if1 = c .before .before .before .before .before .before .if1 in
     let if2 = c .before .before .before .before .if2 in
     let three-at = c .before .before .three-at in
     front-shown (args .b .now) (size-by .ensures) (if1 .left) (if2 .taken) (three-at .ensures) (c .before .is-short .ensures) (c .pick .ensures)
 
-sub-all-known : tie.Need-sub-all-known
-sub-all-known c =
-    let args = c .before .before .before .before .before .before .args in
+sub-are-known : tie.Need-sub-are-known
+sub-are-known c =
+    let args = c .before .before .before .before .before .before .before .args in
     let size-by = c .before .before .before .size-by in
     omega (arith, size-by .ensures .is, size-most (cell (args .b .now) 0))
 
-part-all-known-start : tie.Need-part-all-known-start
-part-all-known-start c =
-    let args = c .before .before .before .before .before .before .args in
+part-are-known-start : tie.Need-part-are-known-start
+part-are-known-start c =
+    let args = c .before .before .before .before .before .before .before .args in
     let size-by = c .before .before .before .size-by in
     omega (arith, size-by .ensures .is, size-most (cell (args .b .now) 0))
 
-part-all-known-end : tie.Need-part-all-known-end
-part-all-known-end c = c .before .before .if1 .left
+part-are-known-end : tie.Need-part-are-known-end
+part-are-known-end c = c .before .before .if1 .left
 
-all-known-requires : tie.Need-all-known-requires
-all-known-requires c κs = search needs
+are-known-requires : tie.Need-are-known-requires
+are-known-requires c κs = search needs
 
 pick-requires-2 : tie.Need-pick-requires-2
 pick-requires-2 c κs = search needs
 
 returns-3 : tie.Need-returns-3
 returns-3 c =
-    let args = c .before .before .before .before .before .before .before .before .before .args in
+    let args = c .before .before .before .before .before .before .before .before .before .before .args in
     let size-by = c .before .before .before .before .before .before .size-by in
     let if1 = c .before .before .before .before .before .if1 in
     let if2 = c .before .before .before .if2 in
-    front-spelled (args .b .now) (size-by .ensures) (if1 .left) (if2 .left) (c .before .all-known .ensures) (c .pick2 .ensures)
+    front-spelled (args .b .now) (size-by .ensures) (if1 .left) (if2 .left) (c .before .are-known .ensures) (c .pick2 .ensures)
 
 pub front-size-spec : {M : Type 1} → statement M
 front-size-spec =
@@ -88,9 +88,9 @@ front-size-spec =
     is-short-requires
     pick-requires
     returns-2
-    sub-all-known
-    part-all-known-start
-    part-all-known-end
-    all-known-requires
+    sub-are-known
+    part-are-known-start
+    part-are-known-end
+    are-known-requires
     pick-requires-2
     returns-3)
