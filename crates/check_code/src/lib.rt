@@ -12,7 +12,11 @@ ghost use Rattle.check_parts.specs.Parts.{passes, index-top, letter-fits, takes
 ghost use Rattle.language.specs.Limits as limit;
 ghost use Rattle.layout.specs.Places.{first-switch};
 use language::Machine;
+use language::Operator;
 use layout::TablePlaces;
+
+// The number of the last operator, as wide as a cell's.
+const LAST_OPERATOR: usize = Operator::STOP as usize;
 
 fn byte(n: usize) -> u8
     requires { ⌜ n < 256 ⌝ }
@@ -113,7 +117,7 @@ fn lists_take(op: u8, a: u32, b: u32, d: u32) -> bool
 fn head_fits(x: usize) -> bool
     ensures { λ r. ⌜ r ≡ head-fits x ⌝ }
 {
-    (0 < x % 64) & (x % 64 <= 41) & (0 < x / 64) & (x / 64 <= Machine::TEXT)
+    (0 < x % 64) & (x % 64 <= LAST_OPERATOR) & (0 < x / 64) & (x / 64 <= Machine::TEXT)
 }
 
 fn instr_fits(table: &[u32], i: usize) -> bool

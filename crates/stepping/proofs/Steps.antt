@@ -32,7 +32,7 @@ use Rattle.performing.specs.Operating.{LeadsFor}
 use Rattle.performing.specs.OperatingLaws.{operating, carrying}
 use Rattle.perform_jumps.specs.Jumping.{Jumping}
 use Rattle.perform_moves.specs.Moving.{movers, Moving}
-use Rattle.stepping.specs.Orders.{Operator, Fetched, GoingOn, FetchedJump, FetchedMove, FetchedEquality, FetchedOf}
+use Rattle.stepping.specs.Orders.{NumbersOperator, Fetched, GoingOn, FetchedJump, FetchedMove, FetchedEquality, FetchedOf}
 use Rattle.stepping.proofs.Arguments.{some-argument}
 use Rattle.perform_files.specs.Filing.{file-operators, Filing}
 use Rattle.perform_values.specs.Valuing.{value-operators, Valuing}
@@ -73,7 +73,7 @@ module _ {c i j p e n : List ℕ} {k op scratch hold given : ℕ} (w : Fetched c
   pub placed : Place c k 512
   placed = next-place (w .ready) (w .next)
 
-  pub an-operator : Operator op
+  pub an-operator : NumbersOperator op
   an-operator =
       let g = good-instruction c (w .ready .table) k code-in op (w .operator) in
       record { from = g .from; to = g .to }
@@ -142,22 +142,22 @@ module _ {c p e n : List ℕ} {k op : ℕ} {x y : Argument} (f : Argued c k 1 x)
 
 -- ---- the groups of operators
 
-pub a-move : {op : ℕ} → Operator op → ((leb op 3 || eqb op 11) || (leb 36 op && leb op 38)) ≡ among op movers
+pub a-move : {op : ℕ} → NumbersOperator op → ((leb op 3 || eqb op 11) || (leb 36 op && leb op 38)) ≡ among op movers
 a-move {op} w =
     let k = w .to in
     beq-eq ((leb op 3 || eqb op 11) || (leb 36 op && leb op 38)) (among op movers)
     (below-unless (λ n. eqb n 0) (λ n. Bool·beq ((leb n 3 || eqb n 11) || (leb 36 n && leb n 38)) (among n movers)) 42 tt op (omega (arith, k)) (some w))
   where
-    some : {op : ℕ} → Operator op → eqb op 0 ≡ false
+    some : {op : ℕ} → NumbersOperator op → eqb op 0 ≡ false
     some {op} w = let h = w .from in ne-eqb op 0 (λ q. omega (arith, q, h))
 
-pub a-value : {op : ℕ} → Operator op → ((leb 14 op && leb op 17) || (leb 30 op && leb op 35)) ≡ among op value-operators
+pub a-value : {op : ℕ} → NumbersOperator op → ((leb 14 op && leb op 17) || (leb 30 op && leb op 35)) ≡ among op value-operators
 a-value {op} w =
     let k = w .to in
     beq-eq ((leb 14 op && leb op 17) || (leb 30 op && leb op 35)) (among op value-operators)
     (below (λ n. Bool·beq ((leb 14 n && leb n 17) || (leb 30 n && leb n 35)) (among n value-operators)) 42 tt op (omega (arith, k)))
 
-pub an-equality : {op : ℕ} → Operator op → (eqb op 13 || eqb op 18) ≡ among op equality-operators
+pub an-equality : {op : ℕ} → NumbersOperator op → (eqb op 13 || eqb op 18) ≡ among op equality-operators
 an-equality {op} w =
     let k = w .to in
     beq-eq (eqb op 13 || eqb op 18) (among op equality-operators)
@@ -171,7 +171,7 @@ not-true false h = refl
 abbrev others : ℕ → Bool
 others n = eqb n 0 || (among n movers || (among n value-operators || (among n equality-operators || leads (operator-of n))))
 
-a-file : (op : ℕ) → Operator op → among op movers ≡ false → among op value-operators ≡ false → among op equality-operators ≡ false
+a-file : (op : ℕ) → NumbersOperator op → among op movers ≡ false → among op value-operators ≡ false → among op equality-operators ≡ false
     → T (not (leads (operator-of op))) → T (among op file-operators)
 a-file op w a b e d =
     let h = w .from in

@@ -2,13 +2,14 @@
 ghost use mathlib.Core.Path.{_≡_};
 ghost use Prim.Native.Nat.{_≤_};
 ghost use lib.ListN.{length};
-ghost use Rattle.language.specs.Instructions.{operator-of};
+ghost use Rattle.language.specs.Instructions.{operator-of, number-of};
+ghost use Rattle.language.specs.Program.Op.{STOP};
 ghost use Rattle.performing.specs.Stepping.{Steppable, Stepped};
 ghost use Rattle.performing.specs.Performing.{leads, Performs};
 ghost use Rattle.performing.specs.Operating.{PerformsFor, LeadsFor};
 ghost use Rattle.lists.specs.Lists.{among};
 ghost use Rattle.perform_moves.specs.Moving.{movers};
-ghost use Rattle.stepping.specs.Orders.{Operator, Fetched, GoingOn, FetchedJump, FetchedMove, FetchedOf, FetchedEquality};
+ghost use Rattle.stepping.specs.Orders.{NumbersOperator, Fetched, GoingOn, FetchedJump, FetchedMove, FetchedOf, FetchedEquality};
 ghost use Rattle.perform_values.specs.Valuing.{value-operators};
 ghost use Rattle.perform_equality.specs.Equating.{equality-operators};
 ghost use Rattle.perform_files.specs.Filing.{file-operators};
@@ -17,7 +18,7 @@ use layout::StatePlaces;
 
 // Whether an operator is a jump, call or return, or STOP.
 fn leading(op: u8) -> bool
-    requires { ⌜ op ≤ 41 ⌝ }
+    requires { ⌜ op ≤ number-of STOP ⌝ }
     ensures { λ r. ⌜ r ≡ leads (operator-of op) ⌝ }
 {
     ((op >= Operator::SKOCZ) & (op <= Operator::WROC)) | (op == Operator::STOP)
@@ -25,7 +26,7 @@ fn leading(op: u8) -> bool
 
 // Whether an operator moves components and characters; orders, computes or converts; asks for equality.
 fn is_move(op: u8) -> bool
-    requires { ⌜ Operator op ⌝ }
+    requires { ⌜ NumbersOperator op ⌝ }
     ensures { λ r. ⌜ r ≡ among op movers ⌝ }
 {
     (op <= Operator::PISZ)
@@ -34,7 +35,7 @@ fn is_move(op: u8) -> bool
 }
 
 fn is_value(op: u8) -> bool
-    requires { ⌜ Operator op ⌝ }
+    requires { ⌜ NumbersOperator op ⌝ }
     ensures { λ r. ⌜ r ≡ among op value-operators ⌝ }
 {
     ((op >= Operator::WK) & (op <= Operator::NS))
@@ -42,7 +43,7 @@ fn is_value(op: u8) -> bool
 }
 
 fn is_equality(op: u8) -> bool
-    requires { ⌜ Operator op ⌝ }
+    requires { ⌜ NumbersOperator op ⌝ }
     ensures { λ r. ⌜ r ≡ among op equality-operators ⌝ }
 {
     (op == Operator::RW) | (op == Operator::RZ)
