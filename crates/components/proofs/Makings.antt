@@ -9,12 +9,12 @@ use lib.ListN.{length, getD, take, drop, set, length-append, drop-of-length-le}
 use lib.Seq.{length-take-le, drop-at, drop-cons, set-split}
 use Rattle.cells.proofs.Laws.{length-pasted, pasted-none, pasted-pasted, set-two}
 use Rattle.cells.specs.Cells.{pasted}
-use Rattle.language.specs.Values.{Component, chars}
+use Rattle.language.specs.Values.{Component}
 use Rattle.layout.specs.Bounds.{WholeComponents}
 use Rattle.layout.specs.Components.{component-bytes, components-bytes, component-in, components-in}
-use Rattle.lists.specs.Lists.{total, joined}
+use Rattle.lists.specs.Lists.{joined}
 use Rattle.machine.specs.Arguments.{char}
-use Rattle.components.specs.Parts.{spelled, Written}
+use Rattle.components.specs.Parts.{Written}
 use Rattle.components.proofs.Walks.{Step, none-left, part-long, bytes-at}
 
 -- ---- the components in reverse order, written from the end to the front
@@ -181,8 +181,3 @@ pub behind-two : (d : List ℕ) (at x y : ℕ) (s : List ℕ) → at + 2 + lengt
 behind-two d at x y s h = rw (set-two d at x y (omega arith)) (pasted-pasted d at (x ∷ y ∷ []) s (omega arith))
 
 -- ---- what a caller finds
-
--- how many characters words have
-pub spelled-long : (xs : List Component) → length (spelled xs) ≡ total (λ x. length (chars x)) xs
-spelled-long [] = refl
-spelled-long (x ∷ xs) = simp length-append (omega (arith, spelled-long xs))

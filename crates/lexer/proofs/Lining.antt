@@ -2,7 +2,7 @@
 use mathlib.Core.Path.{_≡_, refl, ap, _∙_}
 use mathlib.Core.Bool.{Bool, true, false, cond}
 use mathlib.Core.List.{List, [], _∷_, _++_}
-use Prim.Native.Nat.{ℕ, suc, _+_, _≤_, _<_}
+use Prim.Native.Nat.{ℕ, _+_, _<_}
 use native.Mathlib.Numerals.{add-one}
 use native.Mathlib.Omega.{arith}
 use lib.Dec.{eqb}
@@ -18,14 +18,6 @@ keep-append p (x ∷ xs) ys = go (p x) (keep-append p xs ys)
     go : (t : Bool) → keep p (xs ++ ys) ≡ keep p xs ++ keep p ys → cond t (x ∷ keep p (xs ++ ys)) (keep p (xs ++ ys)) ≡ cond t (x ∷ keep p xs) (keep p xs) ++ keep p ys
     go true h = ap (λ zs. x ∷ zs) h
     go false h = h
-
-keep-most : (p : ℕ → Bool) (xs : List ℕ) → length (keep p xs) ≤ length xs
-keep-most p [] = omega arith
-keep-most p (x ∷ xs) = go (p x) (keep-most p xs)
-  where
-    go : (t : Bool) → length (keep p xs) ≤ length xs → length (cond t (x ∷ keep p xs) (keep p xs)) ≤ suc (length xs)
-    go true h = omega arith
-    go false h = omega arith
 
 kept-one : (t : Bool) (x : ℕ) → length (cond t (x ∷ []) []) ≡ cond t 1 0
 kept-one true x = refl

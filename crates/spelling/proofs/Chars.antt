@@ -2,14 +2,13 @@
 use mathlib.Core.Path.{_≡_, refl, ap, sym, subst, _∙_}
 use mathlib.Core.Bool.{Bool, true, false, cond, not, _&&_, true≢false, false≢true}
 use mathlib.Core.List.{List, [], _∷_, _++_, append-assoc, append-nil}
-use Prim.Native.Nat.{ℕ, zero, suc, _+_, _-_, _≤_, _<_}
+use Prim.Native.Nat.{ℕ, suc, _+_, _-_, _≤_, _<_}
 use native.Mathlib.Nat.{zero-add, add-zero}
 use native.Mathlib.Numerals.{add-one}
 use native.Mathlib.Omega.{arith}
-use lib.Dec.{T, leb, eqb, leb·suc-suc}
-use lib.ListN.{length, getD, take, drop, set, length-append}
+use lib.Dec.{T, eqb}
+use lib.ListN.{length, getD, set, length-append}
 use lib.Seq.{set-split}
-use borrow.Author.Tests.{le-leb, lt-leb}
 use Rattle.lists.specs.Lists.{sameBytes}
 use Rattle.lists.specs.ListLaws.{sameBytes-eq, sameBytes-refl}
 use Rattle.cells.specs.Cells.{pasted}
@@ -116,23 +115,6 @@ pub put-done : {s : List ℕ} {a e : ℕ} {d : List ℕ} {i j : ℕ} {star : Boo
 put-done {s} {a} {e} {d} {i} {j} {star} c h =
     let q : c .done ≡ text-in s a e = sym (append-nil (c .done)) ∙ ap (λ l. c .done ++ l) (sym (left-none s i e star h)) ∙ c .rest in
     record { is = c .is ∙ ap (pasted d 0) q; next = c .place ∙ ap length q ∙ omega arith }
-
--- Compared
-pub same-joined : (xs ys zs : List ℕ) → sameBytes (xs ++ ys) zs ≡ sameBytes xs (take (length xs) zs) && sameBytes ys (drop (length xs) zs)
-same-joined [] ys zs = refl
-same-joined (x ∷ xs) ys [] = refl
-same-joined (x ∷ xs) ys (z ∷ zs) = go (eqb x z) (same-joined xs ys zs)
-  where
-    go : (t : Bool) → sameBytes (xs ++ ys) zs ≡ sameBytes xs (take (length xs) zs) && sameBytes ys (drop (length xs) zs)
-        → (t && sameBytes (xs ++ ys) zs) ≡ (t && sameBytes xs (take (length xs) zs)) && sameBytes ys (drop (length xs) zs)
-    go true h = h
-    go false h = refl
-
-pub same-none : (j : ℕ) (zs : List ℕ) → sameBytes [] (drop j zs) ≡ leb (length zs) j
-same-none zero [] = refl
-same-none zero (z ∷ zs) = sym (lt-leb (suc (length zs)) 0 (omega arith))
-same-none (suc j) [] = sym (le-leb 0 (suc j) (omega arith))
-same-none (suc j) (z ∷ zs) = same-none j zs ∙ sym (leb·suc-suc (length zs) j)
 
 -- the answer of a comparison
 pub same-is : (xs ys : List ℕ) (r : Bool) → (r ≡ true → xs ≡ ys) → (xs ≡ ys → r ≡ true) → r ≡ sameBytes xs ys
