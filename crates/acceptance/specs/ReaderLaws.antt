@@ -7,7 +7,7 @@ use lib.Dec.{T, eqb}
 use lib.ListN.{length, getD, take, drop, length-take, length-drop}
 use Rattle.lists.specs.Lists.{all, ahead, headOr, ifAny, among}
 use Rattle.lists.specs.Quoted.{bytes}
-use Rattle.lists.specs.ListLaws.{T-left, T-right, T-both, all-at}
+use Rattle.lists.specs.ListLaws.{T-left, T-right, T-both, all-at, keep-few}
 use Rattle.characters.specs.Characters.{known}
 use Rattle.layout.specs.Bounds.{Each}
 use Rattle.layout.specs.CellLaws.{each-append, each-drop}
@@ -16,7 +16,7 @@ use Rattle.syntax.specs.Items.Sort.{separator, word, colon, end, text, wrong}
 use Rattle.syntax.specs.Items.Stage.{first-star, inside, last-slash}
 use Rattle.syntax.specs.Items.Mode.{outside, in-word, in-comment, in-text}
 use Rattle.acceptance.specs.Drafts.{Sound-item}
-use Rattle.acceptance.specs.RowLaws.{any-ahead, keep-few}
+use Rattle.acceptance.specs.RowLaws.{any-ahead}
 
 module _ (n : ℕ) where
   abbrev Sound-mode : Mode → Type 0

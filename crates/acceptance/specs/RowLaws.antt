@@ -178,14 +178,6 @@ module _ {X : Type 0} where
           more false h = k h
       go false h k = or-right (p x) (any p xs) (k h)
 
-  pub keep-few : (q : X → Bool) (xs : List X) → length (keep q xs) ≤ length xs
-  keep-few q [] = omega arith
-  keep-few q (x ∷ xs) = go (q x) (keep-few q xs)
-    where
-      go : (b : Bool) → length (keep q xs) ≤ length xs → length (cond b (x ∷ keep q xs) (keep q xs)) ≤ suc (length xs)
-      go true k = omega arith
-      go false k = omega arith
-
 -- Every question is answered yes
 abbrev pub Answered : List Question → Type 0
 Answered qs = Each (λ q. q .faults ≡ []) qs

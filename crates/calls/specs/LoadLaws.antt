@@ -9,8 +9,8 @@ use lib.Dec.{T, eqb, leb, leb→le}
 use lib.ListN.{length, take, length-take}
 use Rattle.language.specs.Limits as limit
 use Rattle.language.specs.Program.{Program}
-use Rattle.lists.specs.Lists.{all, keep, among}
-use Rattle.lists.specs.ListLaws.{T-left, T-right, all-among}
+use Rattle.lists.specs.Lists.{all, among}
+use Rattle.lists.specs.ListLaws.{T-left, T-right, all-among, keep-few}
 use Rattle.syntax.specs.Ending.{last-place, last-questions}
 use Rattle.syntax.specs.Items.{Item, line-of, statements-from}
 use Rattle.syntax.specs.Load.{Loaded, loadIn, load-from, unless-refused, program-of}
@@ -35,17 +35,9 @@ LoadListed (accepted p) = Unit {0}
 
 -- ---- lines
 
-keep-most : (f : ℕ → Bool) (l : List ℕ) → length (keep f l) ≤ length l
-keep-most f [] = omega arith
-keep-most f (x ∷ l) = go (f x) (keep-most f l)
-  where
-    go : (b : Bool) → length (keep f l) ≤ length l → length (cond b (x ∷ keep f l) (keep f l)) ≤ suc (length l)
-    go true h = omega arith
-    go false h = omega arith
-
 line-most : (s : List ℕ) (at : ℕ) → line-of s at ≤ suc (length s)
 unfolding line-of
-line-most s at = omega (arith, keep-most (eqb 10) (take at s), length-take at s)
+line-most s at = omega (arith, keep-few (eqb 10) (take at s), length-take at s)
 
 -- ---- numbers
 

@@ -188,3 +188,12 @@ module _ {X : Type 0} (p : X → Bool) where
       go : (b : Bool) → leb (cond b 0 1) 0 ≡ b
       go true = refl
       go false = refl
+
+-- no more are kept than there are
+pub keep-few : {X : Type 0} (q : X → Bool) (xs : List X) → length (keep q xs) ≤ length xs
+keep-few q [] = omega arith
+keep-few q (x ∷ xs) = go (q x) (keep-few q xs)
+  where
+    go : (b : Bool) → length (keep q xs) ≤ length xs → length (cond b (x ∷ keep q xs) (keep q xs)) ≤ suc (length xs)
+    go true k = omega arith
+    go false k = omega arith

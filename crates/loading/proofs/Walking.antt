@@ -8,7 +8,8 @@ use lib.Dec.{eqb}
 use lib.ListN.{length, take, drop, length-take, length-drop}
 use lib.Seq.{take-all}
 use types.Run.{OneOf, miss}
-use Rattle.acceptance.specs.RowLaws.{each-map, keep-few, answered}
+use Rattle.lists.specs.ListLaws.{keep-few}
+use Rattle.acceptance.specs.RowLaws.{each-map, answered}
 use Rattle.faults.specs.Faults.{verdict-of}
 use Rattle.faults.specs.Groups.{item-questions}
 use Rattle.faults.specs.declared.Verdict.{Verdict}

@@ -5,7 +5,8 @@ use mathlib.Core.List.{List, [], _∷_, _++_}
 use Prim.Native.Nat.{ℕ, _+_, _≤_}
 use native.Mathlib.Omega.{arith}
 use lib.ListN.{length, length-append, length-map}
-use Rattle.acceptance.specs.RowLaws.{each-map, each-keep, keep-few}
+use Rattle.lists.specs.ListLaws.{keep-few}
+use Rattle.acceptance.specs.RowLaws.{each-map, each-keep}
 use Rattle.acceptance.specs.DraftLaws.{blank-sound}
 use Rattle.acceptance.specs.StatementLaws.{each-front}
 use Rattle.drafts.specs.Marks.{word-by}

@@ -5,8 +5,9 @@ use Prim.Native.Nat.{ℕ, suc, _+_, _-_, _≤_}
 use native.Mathlib.Omega.{arith}
 use lib.Dec.{eqb}
 use lib.ListN.{length, take, length-take}
+use Rattle.lists.specs.ListLaws.{keep-few}
 use Rattle.acceptance.specs.DraftLaws.{draft-sound}
-use Rattle.acceptance.specs.RowLaws.{keep-few, each-map, answered, Answered}
+use Rattle.acceptance.specs.RowLaws.{each-map, answered, Answered}
 use Rattle.advancing.specs.Advancing.{Advanceable, Advancing, Advances}
 use Rattle.declaring_statements.specs.AdmittedLaws.{statement-sound}
 use Rattle.declaring_statements.specs.DeclaringStatements.{Admitted, Admissible, Admits}
