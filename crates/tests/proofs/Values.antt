@@ -140,6 +140,19 @@ module _ (s : Store) (g : List ℕ) where
     pub count-kind : {x : Component} {xs : List Component} → es ≡ x ∷ xs → (kind x ≡ 1 → ⊥) → Prepares s (nth N i) g (told 53 All 0)
     count-kind {x} o k = refused (nth N i) 53 (λ ins. rw (o, ne-eqb (kind x) 1 k) refl) (λ z. omega (arith, z)) (λ z. absurd (omega (arith, z)))
 
+    pub count-number : {x : Component} {xs : List Component} {r : Prepared} → es ≡ x ∷ xs → kind x ≡ 1 → Prepares s (Arg.number (value x)) g r
+        → Prepares s (nth N i) g r
+    count-number o k p =
+        record {
+          stop-is = λ ins. p .stop-is ins ∙ rw (o, k) refl;
+          fitting = p .fitting;
+          parts = λ z ins. rw o (p .parts z ins);
+          chars = λ z ins. rw o (p .chars z ins);
+          negative = λ z ins. rw o (p .negative z ins);
+          most = p .most;
+          inside = p .inside;
+        }
+
   -- a number
   pub number-low : (n : ℕ) → n < 8388607 → Prepares s (Arg.number (uncode n)) g (told 54 All 0)
   number-low n h = refused (Arg.number (uncode n)) 54 (λ ins. rw (low n h) refl) (λ z. omega (arith, z)) (λ z ins. rw (low n h) refl)
