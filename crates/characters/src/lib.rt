@@ -101,7 +101,7 @@ pub fn class_of(b: u8, places: &[u8]) -> u8
     places[b as usize] % 4
 }
 
-fn are_known(s: &[u8], marks: &[u8]) -> bool
+pub fn are_known(s: &[u8], marks: &[u8]) -> bool
     requires { ⌜ now marks ≡ knownMarks ⌝ }
     ensures { λ r. ⌜ r ≡ all known (now (s .entry)) ⌝ }
 {
