@@ -66,12 +66,12 @@ first-is w f r =
     eqb→eq (headOr 0 w) (letter-code (r .by)) (T-left (eqb (headOr 0 w) (letter-code (r .by))) (is-index (indices (use-of (r .by) .var)) (drop 1 w)) (r .indexed))
 
 -- a word that is a number reads only as a number
-number-reads : (w : List ℕ) → T (numeral w) → (f : ℕ) → T (word-reads w f) → T (in-range (valueOf w))
+pub number-form : (w : List ℕ) → T (numeral w) → (f : ℕ) → T (word-reads w f) → f ≡ 110
 unfolding word-reads
-number-reads w h =
-    by-form (λ f. T (word-reads w f) → T (in-range (valueOf w)))
+number-form w h =
+    by-form (λ f. T (word-reads w f) → f ≡ 110)
     (λ k. absurd k)
-    (λ k. T-right (numeral w) (in-range (valueOf w)) k)
+    (λ k. refl)
     (λ k. absurd (apart-first (class-first w k)))
     (λ k. absurd (apart-first (identifier-first w k)))
     (λ k. absurd (apart-first (identifier-first w k)))
@@ -80,6 +80,10 @@ number-reads w h =
   where
     apart-first : 64 < headOr 0 w → ⊥
     apart-first k = omega (arith, numeral-first w h)
+
+number-reads : (w : List ℕ) → T (numeral w) → (f : ℕ) → T (word-reads w f) → T (in-range (valueOf w))
+unfolding word-reads
+number-reads w h f k = T-right (numeral w) (in-range (valueOf w)) (subst (λ (g : ℕ). T (word-reads w g)) (number-form w h f k) k)
 
 -- an item that reads as some form
 pub record Readable-item (i : Item) : Type 0 where

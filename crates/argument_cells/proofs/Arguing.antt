@@ -1,47 +1,28 @@
--- An argument's cell, form by form.
+-- An argument's cell, kind by kind.
 use mathlib.Core.Path.{_≡_, refl, sym, ap, _∙_, subst}
-use mathlib.Core.Bool.{Bool, true, false, cond, _&&_, true≢false}
-use mathlib.Core.List.{List, [], _∷_, map}
-use Prim.Native.Nat.{ℕ, zero, suc, _+_, _*_, _≤_}
+use mathlib.Core.Bool.{Bool, true, false, true≢false}
+use mathlib.Core.List.{List, [], _∷_}
+use Prim.Native.Nat.{ℕ, _+_, _*_, _≤_, _<_}
 use native.Mathlib.Omega.{arith}
-use lib.Dec.{T, eqb, leb→le}
-use lib.ListN.{length, getD, take, drop, length-take}
-use lib.IntN.{natAbs}
-use borrow.Author.Tests.{ne-eqb, eqb-true, eqb-false}
-use Rattle.acceptance.specs.ArgumentLaws.{first-is}
-use Rattle.acceptance.specs.ReadingLaws.{Other, by-form, other-reads, text-reads, as-word}
-use Rattle.arguments.specs.declared.Found.{Found}
-use Rattle.arguments.specs.Found.{Nth}
-use Rattle.cells.proofs.Laws.{pasted-front}
-use Rattle.cells.specs.Cells.{Number}
-use Rattle.drafts.specs.Drafting.{draft-arg}
-use Rattle.finding.specs.Finding.{Counted, Tells, TellsFor}
-use Rattle.language.specs.Instructions.{operator-of}
-use Rattle.language.specs.Letters.{Letter, letter-code, use-of, indices}
-use Rattle.language.specs.Limits as limit
-use Rattle.language.specs.Program.{Arg, classes, Program}
-use Rattle.language.specs.Values.{numeral, valueOf, in-range, amount}
-use Rattle.layout.specs.Bounds.{Each}
-use Rattle.layout.specs.Cells.{code}
-use Rattle.layout.specs.Table.{letter-place, class-mask, number-ref, arg-cell}
-use Rattle.lexer.specs.declared.Token.{Token}
-use Rattle.lexer.specs.Tokens.{chars-of, word-of, item-of}
-use Rattle.lexer.proofs.Finding.{is-sort, word-chars, no-chars}
-use Rattle.lists.specs.Lists.{filled, headOr}
-use Rattle.lists.specs.ListLaws.{T-right}
-use Rattle.spelling.specs.Spelling.{Put}
-use Rattle.statements.specs.StatementAt.{statement-at, stops}
-use Rattle.syntax.specs.ArgumentForms.{word-reads, reads, is-index, is-indexed, letter-of, Argument, arguments}
-use Rattle.syntax.specs.Items.{Item}
-use Rattle.syntax.specs.Items.Sort.{text}
-use Rattle.syntax.specs.LetterLaws.{letter-of-code}
-use Rattle.words.specs.declared.Letter as spelt
-use Rattle.words.specs.declared.Numeral.{Numeral}
-use Rattle.words.specs.Words.{is-class, class-of, numeral-of, indexed-of}
-use Rattle.writing.specs.Writing.{IsNumber}
-use Rattle.writing.proofs.Held.{text-count, number-count}
+use types.Run.{OneOf, miss}
+use lib.ListN.{length, take}
+use Rattle.arguments.specs.Valued.{is-text, text-from, text-to, Names-text, Spells, Drafted}
+use Rattle.cells.specs.Cells.{Number as Wide}
 use Rattle.entering.specs.Entering.{Held}
-use Rattle.argument_cells.specs.ArgumentCells.{NumberWord, TextItem, number-cell, text-cell, Right-argument, argument-of, Argued, CellOf, Arguing, NthCell}
+use Rattle.entering.proofs.Adding.{put-front, put-long}
+use Rattle.entering.proofs.Numbers.{no-text}
+use Rattle.finding.specs.Finding.{Counted, Tells, TellsFor}
+use Rattle.language.specs.Limits as limit
+use Rattle.language.specs.Program.{Arg, Program}
+use Rattle.layout.specs.Table.{letter-place, number-ref, arg-cell}
+use Rattle.spelling.specs.Spelling.{Put, text-in, Fits-text}
+use Rattle.table.specs.declared.Argument.{Argument}
+use Rattle.table.specs.declared.Argument.the-variants.{Nothing, Indexed, Label, Switch, Class, Text, Number}
+use Rattle.table.specs.declared.Letter.{Letter}
+use Rattle.table.specs.Denote.{letter-of}
+use Rattle.writing.specs.Writing.{HoldsProgram, IsNumber}
+use Rattle.writing.proofs.Held.{text-count, number-count}
+use Rattle.argument_cells.specs.ArgumentCells.{text-cell, Text-named, Text-told, Refers, Low, Encodable, Encodes, Text-referred, Referred, Drafts, Cell-asked, CellOf, Referable}
 
 -- ---- what a table that holds a program has
 
@@ -53,237 +34,137 @@ numbers-counted {c} h = record { long = h .holds .long; most = omega (arith, num
 
 -- ---- characters in front of a buffer
 
-module _ {d o w : List ℕ} {n : ℕ} (h : Put d 0 w n o) where
-  put-front : take n o ≡ w
-  put-front = rw (h .is) (pasted-front d w n (omega (arith, h .next)))
+pub front-told : {d o w : List ℕ} {n : ℕ} → Put d 0 w n o → {c : List ℕ} {k : ℕ} → Tells c (text-cell (take n o)) 384 k → Tells c (text-cell w) 384 k
+front-told h {c} {k} t = subst (λ (v : List ℕ). Tells c (text-cell v) 384 k) (put-front h) t
 
-  pub put-long : n ≤ length o
-  put-long = omega (arith, ap length put-front, length-take n o, h .next)
+module _ {s : List ℕ} {m : ℕ} {c : List ℕ} (u : Text-named s m c) where
+  pub named-fits : {d : List ℕ} → length d ≡ 60 → Fits-text s (text-from m) (text-to m) d
+  named-fits l = record { between = u .names .between; room = omega (arith, ap length (u .names .is), u .short, l) }
 
-  pub front-told : {c : List ℕ} {k : ℕ} → Tells c (text-cell (take n o)) 384 k → Tells c (text-cell w) 384 k
-  front-told {c} {k} t = subst (λ (v : List ℕ). Tells c (text-cell v) 384 k) put-front t
+pub named-told : {s : List ℕ} {m : ℕ} {d o : List ℕ} {n : ℕ} → Put d 0 (text-in s (text-from m) (text-to m)) n o → {c : List ℕ} {k : ℕ} → Tells c (text-cell (take n o)) 384 k → Text-told s m c k
+named-told {s} {m} h {c} {k} t w q = subst (λ (v : List ℕ). Tells c (text-cell v) 384 k) (q .is) (front-told h t)
 
--- ---- words
+-- ---- the text of a value
 
-holds : (b : Bool) → T b → b ≡ true
-holds true h = refl
-holds false h = absurd h
+pub text-of-value : {s : List ℕ} {x : Argument} {c : List ℕ} (u : Referable s x c) {m : ℕ} → x ≡ Text m → Text-named s m c
+text-of-value {s} u e = record { chars = u .chars; names = subst (Spells s (u .chars)) e (u .spelt); short = u .short; held = u .held }
 
-module _ (w : List ℕ) where
-  pub number-code : T (numeral w && in-range (valueOf w)) → numeral-of w ≡ Numeral.Code (code (valueOf w))
-  unfolding numeral-of
-  number-code h = rw (holds (numeral w && in-range (valueOf w)) h) refl
+pub text-referred : {s : List ℕ} {x : Argument} {c : List ℕ} {m : ℕ} → x ≡ Text m → {k : ℕ} → Text-told s m c k → Referred s x c (Text k)
+text-referred {s} {x} {c} {m} e {k} h =
+    record {
+      text-is = λ n q. (k, (refl, subst (λ (j : ℕ). Text-told s j c k) (same n (sym e ∙ q)) h));
+      same = λ q. absurd (true≢false (sym (ap is-text e) ∙ q));
+    }
+  where
+    same : (n : ℕ) → Text m ≡ Text n → m ≡ n
+    same n q = cc
 
-  pub class-is : T (is-class w) → class-of w ≡ class-mask (classes w)
-  unfolding class-of
-  class-is h = rw (holds (is-class w) h) refl
+pub not-referred : {s : List ℕ} {x : Argument} {c : List ℕ} → is-text x ≡ false → Referred s x c x
+not-referred e = record { text-is = λ m q. absurd (true≢false (sym (ap is-text q) ∙ e)); same = λ q. refl }
 
-  pub letter-is : T (is-indexed w (letter-of (headOr 0 w))) → indexed-of w ≡ spelt.Letter.At (letter-place (letter-of (headOr 0 w))) (amount 0 (drop 1 w))
-  unfolding indexed-of
-  letter-is h = rw (holds (is-indexed w (letter-of (headOr 0 w))) h) refl
+-- ---- by the kind of a value
 
-  module _ {c : List ℕ} (h : NumberWord w c) where
-    pub number-not : numeral-of w ≡ Numeral.Not → Tells c (number-cell w) 1278 0
-    number-not e = absurd (let f = number-code (h .number) in let y : _≡_ {A = ℕ} 0 1 = cc in omega arith)
+module _ {c : List ℕ} where
+  pub nothing-encoded : {x : Argument} → x ≡ Nothing → Encodes c x 0
+  nothing-encoded {x} e = subst (λ (y : Argument). Encodes c y 0) (sym e) (record { is = λ p g a h. sym (ap (arg-cell p) h); most = omega arith })
 
-    pub number-told : {v k : ℕ} → numeral-of w ≡ Numeral.Code v → TellsFor c (IsNumber v) (λ z p. number-ref p z) 159 k → Tells c (number-cell w) 1278 (6 + 8 * k)
-    number-told {v} {k} e t =
-        let f = number-code (h .number) in
-        let q : v ≡ code (valueOf w) = cc in
-        let small : natAbs (valueOf w) ≤ limit.size = leb→le (natAbs (valueOf w)) limit.size (T-right (numeral w) (in-range (valueOf w)) (h .number)) in
-        record {
-          is = λ p g. ap (λ (n : ℕ). 6 + 8 * n) (t .is (valueOf w) p g (record { is = q; small = small }));
-          most = omega (arith, t .most);
-        }
+  pub indexed-encoded : {x : Argument} {l : Letter} {n k : ℕ} → x ≡ Indexed l n → Low x → (k ≡ letter-place (letter-of l)) × (k < 12) → Encodes c x (1 + 8 * (n + 64 * k))
+  indexed-encoded {x} {l} {n} {k} e low q =
+      let b : n < 256 = subst Low e low in
+      subst (λ (y : Argument). Encodes c y (1 + 8 * (n + 64 * k))) (sym e)
+      (record { is = λ p g a h. ap (λ (j : ℕ). 1 + 8 * (n + 64 * j)) (q .0) ∙ sym (ap (arg-cell p) h); most = omega (arith, b, q .1) })
 
-  module _ (h : T (is-indexed w (letter-of (headOr 0 w)))) where
-    abbrev letter-value : ℕ
-    letter-value = 1 + 8 * (amount 0 (drop 1 w) + 64 * letter-place (letter-of (headOr 0 w)))
+  pub label-encoded : {x : Argument} {k : ℕ} → x ≡ Label k → Low x → Encodes c x (2 + 8 * k)
+  label-encoded {x} {k} e low =
+      let b : k ≤ 2097212 = subst Low e low in
+      subst (λ (y : Argument). Encodes c y (2 + 8 * k)) (sym e) (record { is = λ p g a h. sym (ap (arg-cell p) h); most = omega (arith, b) })
 
-    pub letter-not : indexed-of w ≡ spelt.Letter.Not → Number letter-value 262144 0
-    letter-not e = absurd (let f = letter-is h in let y : _≡_ {A = ℕ} 0 1 = cc in omega arith)
+  pub switch-encoded : {x : Argument} {k : ℕ} → x ≡ Switch k → Low x → Encodes c x (3 + 8 * k)
+  switch-encoded {x} {k} e low =
+      let b : k ≤ 2097212 = subst Low e low in
+      subst (λ (y : Argument). Encodes c y (3 + 8 * k)) (sym e) (record { is = λ p g a h. sym (ap (arg-cell p) h); most = omega (arith, b) })
 
-    pub letter-told : {place n a b : ℕ} → indexed-of w ≡ spelt.Letter.At place n → Number n 256 a → Number place 256 b → Number letter-value 262144 (1 + 8 * (a + 64 * b))
-    letter-told {place} {n} {a} {b} e u v =
-        let f = letter-is h in
-        let p : place ≡ letter-place (letter-of (headOr 0 w)) = cc in
-        let q : n ≡ amount 0 (drop 1 w) = cc in
-        record { is = omega (arith, p, q, u .is, v .is); most = omega (arith, u .most, v .most) }
+  pub class-encoded : {x : Argument} {m k : ℕ} → x ≡ Class m → Wide m 256 k → Encodes c x (4 + 8 * k)
+  class-encoded {x} {m} {k} e w =
+      subst (λ (y : Argument). Encodes c y (4 + 8 * k)) (sym e)
+      (record { is = λ p g a h. ap (λ (j : ℕ). 4 + 8 * j) (w .is ∙ h .1 .1) ∙ sym (ap (arg-cell p) (h .1 .0)); most = omega (arith, w .most) })
 
--- ---- an argument
+  pub text-encoded : {x : Argument} {v : ℕ} → x ≡ Text v → Low x → Encodes c x (5 + 8 * v)
+  text-encoded {x} {v} e low =
+      let b : v ≤ 384 = subst Low e low in
+      subst (λ (y : Argument). Encodes c y (5 + 8 * v)) (sym e)
+      (record { is = λ p g a h. ap (λ (j : ℕ). 5 + 8 * j) (h .1 .1) ∙ sym (ap (arg-cell p) (h .1 .0)); most = omega (arith, b) })
 
-empty-reads : (f : ℕ) → T (word-reads [] f) → ⊥
-unfolding word-reads is-index
-empty-reads =
-    by-form (λ f. T (word-reads [] f) → ⊥) (λ h. h) (λ h. h) (λ h. h) (λ h. h) (λ h. h) (λ h. h)
-    (λ f o h. let r = other-reads [] f o h in T-right (eqb 0 (letter-code (r .by))) (is-index (indices (use-of (r .by) .var)) []) (r .indexed))
+  pub number-encoded : {x : Argument} {v k : ℕ} → x ≡ Number v → TellsFor c (IsNumber v) (λ z p. number-ref p z) 159 k → Encodes c x (6 + 8 * k)
+  number-encoded {x} {v} {k} e t =
+      subst (λ (y : Argument). Encodes c y (6 + 8 * k)) (sym e)
+      (record {
+        is = λ p g a h. ap (λ (j : ℕ). 6 + 8 * j) (t .is (h .0) p g (record { is = h .1 .1 .is; small = h .1 .1 .small })) ∙ sym (ap (arg-cell p) (h .1 .0));
+        most = omega (arith, t .most);
+      })
 
-draft-letter : (i : Item) (f : ℕ) → Other f → draft-arg (record { item = i; form = f }) ≡ Arg.letter (letter-of (headOr 0 (i .chars))) (amount 0 (drop 1 (i .chars)))
-unfolding draft-arg
-draft-letter i f o = rw (o .no-t, o .no-n, o .no-c, o .no-l, o .no-w, o .no-x) refl
+-- the numbers of a value have room
+pub index-low : {x : Argument} {l : Letter} {n : ℕ} → x ≡ Indexed l n → Low x → n < 256
+index-low e h = subst Low e h
 
--- a word that reads as any form is not empty
-word-some : (w : List ℕ) (f : ℕ) → T (word-reads w f) → T (filled w)
-word-some [] f h = absurd (empty-reads f h)
-word-some (x ∷ w) f h = tt
+pub label-low : {x : Argument} {k : ℕ} → x ≡ Label k → Low x → k ≤ 2097212
+label-low e h = subst Low e h
 
-module _ {s : List ℕ} {t : Token} {form : ℕ} {c : List ℕ} (a : Argued s t form c) where
-  abbrev w : List ℕ
-  w = chars-of s t
+pub switch-low : {x : Argument} {k : ℕ} → x ≡ Switch k → Low x → k ≤ 2097212
+switch-low e h = subst Low e h
 
-  abbrev i : Item
-  i = item-of s t
+pub text-low : {x : Argument} {v : ℕ} → x ≡ Text v → Low x → v ≤ 384
+text-low e h = subst Low e h
 
-  as-form : T (reads i form)
-  as-form = a .right .as-form
+-- ---- the cell of a draft
 
-  abbrev drafted : ℕ → Arg
-  drafted f = draft-arg (argument-of s t f)
+pub referable : {s : List ℕ} {x : Argument} {c : List ℕ} → Cell-asked s x c → Referable s x c
+referable u = record { chars = u .drafts .chars; spelt = u .drafts .spelt; short = u .drafts .short; held = u .held }
 
-  length-is : length w ≡ t .len
-  length-is = a .stands .count
+-- not a text
+plain-low : (x : Argument) (w : List ℕ) (a : Arg) → is-text x ≡ false → Drafted w x a → Low x
+plain-low Nothing w a q h = tt
+plain-low (Indexed l n) w a q h = h .1
+plain-low (Label k) w a q h = h .1
+plain-low (Switch k) w a q h = h .1
+plain-low (Class m) w a q h = tt
+plain-low (Text m) w a q h = absurd (true≢false q)
+plain-low (Number v) w a q h = tt
 
-  -- what the cell is for the form f, it is for the form of the argument
-  of-form : {f r : ℕ} → form ≡ f → Tells c (λ p. arg-cell p (drafted f)) 16777727 r → CellOf s t form c r
-  of-form {f} {r} e h = subst (λ (k : ℕ). Tells c (λ p. arg-cell p (drafted k)) 16777727 r) (sym e) h
+plain-refers : (s : List ℕ) (p : Program) (x : Argument) (w : List ℕ) (a : Arg) → is-text x ≡ false → Spells s w x → Drafted w x a → Refers p x a
+plain-refers s p Nothing w a q k h = h
+plain-refers s p (Indexed l n) w a q k h = h .0
+plain-refers s p (Label m) w a q k h = h .0
+plain-refers s p (Switch m) w a q k h = h .0
+plain-refers s p (Class m) w a q k h = (_, h)
+plain-refers s p (Text m) w a q k h = absurd (true≢false q)
+plain-refers s p (Number v) w a q k h = (_, (h, k))
 
-  pub text-told : form ≡ 116 → {k : ℕ} → Tells c (text-cell w) 384 k → CellOf s t form c (5 + 8 * k)
-  unfolding draft-arg
-  text-told e h = of-form e (record { is = λ p g. ap (λ (n : ℕ). 5 + 8 * n) (h .is p g); most = omega (arith, h .most) })
+module _ {s : List ℕ} {c : List ℕ} {r : Argument} where
+  low-by : (x : Argument) (b : Bool) → is-text x ≡ b → Referred s x c r → (a : Arg) → Drafts s x a → Low r
+  low-by x false q f a d = subst Low (sym (f .same q)) (plain-low x (d .chars) a q (d .drafted))
+  low-by (Text m) true q f a d = let t = f .text-is m refl in subst Low (sym (t .1 .0)) (t .1 .1 (d .chars) (d .spelt) .most)
+  low-by Nothing true q f a d = absurd (true≢false (sym q))
+  low-by (Indexed l n) true q f a d = absurd (true≢false (sym q))
+  low-by (Label k) true q f a d = absurd (true≢false (sym q))
+  low-by (Switch k) true q f a d = absurd (true≢false (sym q))
+  low-by (Class m) true q f a d = absurd (true≢false (sym q))
+  low-by (Number v) true q f a d = absurd (true≢false (sym q))
 
-  pub text-item : TextItem s t c
-  text-item = record { stands = a .stands; held = a .held; short = omega (arith, a .right .short, length-is) }
+  refers-by : (p : Program) → HoldsProgram c p → (x : Argument) (b : Bool) → is-text x ≡ b → Referred s x c r → (a : Arg) → Drafts s x a → Refers p r a
+  refers-by p g x false q f a d = subst (λ (y : Argument). Refers p y a) (sym (f .same q)) (plain-refers s p x (d .chars) a q (d .spelt) (d .drafted))
+  refers-by p g (Text m) true q f a d =
+      let t = f .text-is m refl in
+      subst (λ (y : Argument). Refers p y a) (sym (t .1 .0)) (d .chars, (d .drafted, t .1 .1 (d .chars) (d .spelt) .is p g))
+  refers-by p g Nothing true q f a d = absurd (true≢false (sym q))
+  refers-by p g (Indexed l n) true q f a d = absurd (true≢false (sym q))
+  refers-by p g (Label k) true q f a d = absurd (true≢false (sym q))
+  refers-by p g (Switch k) true q f a d = absurd (true≢false (sym q))
+  refers-by p g (Class m) true q f a d = absurd (true≢false (sym q))
+  refers-by p g (Number v) true q f a d = absurd (true≢false (sym q))
 
-  pub token-inside : (t .at ≤ t .end) × (t .end ≤ length s)
-  token-inside = (omega (arith, a .stands .own), omega (arith, a .stands .behind, a .stands .most))
+  pub encodable : {x : Argument} → Cell-asked s x c → Referred s x c r → Encodable c r
+  encodable {x} u f = record { held = u .held; low = low-by x (is-text x) refl f (u .arg) (u .drafts) }
 
-  abbrev mark-here : ℕ
-  mark-here = t .at * 64 + t .len
-
-  pub mark-most : mark-here ≤ 2097212
-  mark-most = omega (arith, a .stands .own, a .stands .behind, a .stands .most, a .low, a .right .short, length-is)
-
-  mark-is : mark-here ≡ t .at * 64 + length w
-  mark-is = omega (arith, length-is)
-
-  pub label-told : form ≡ 108 → CellOf s t form c (2 + 8 * mark-here)
-  unfolding draft-arg
-  label-told e = of-form e (record { is = λ p g. ap (λ (n : ℕ). 2 + 8 * n) mark-is; most = omega (arith, mark-most) })
-
-  pub named-told : form ≡ 119 → CellOf s t form c (3 + 8 * mark-here)
-  unfolding draft-arg
-  named-told e = of-form e (record { is = λ p g. ap (λ (n : ℕ). 3 + 8 * n) mark-is; most = omega (arith, mark-most) })
-
-  pub indexed-told : form ≡ 120 → CellOf s t form c (3 + 8 * mark-here)
-  unfolding draft-arg
-  indexed-told e = of-form e (record { is = λ p g. ap (λ (n : ℕ). 3 + 8 * n) mark-is; most = omega (arith, mark-most) })
-
-  -- anything but a text is a word
-  module _ (no-text : form ≡ 116 → ⊥) where
-    reads-word : T (word-reads w form)
-    reads-word = as-word i form (ne-eqb form 116 no-text) as-form
-
-    pub is-word : t .sort ≡ 1
-    is-word = go (eqb (t .sort) 1) refl
-      where
-        no-text-sort : t .sort ≡ 4 → ⊥
-        no-text-sort e = true≢false (sym (is-sort text (a .stands) ∙ ap (eqb 4) e) ∙ text-reads i form as-form ∙ ne-eqb form 116 no-text)
-
-        go : (b : Bool) → eqb (t .sort) 1 ≡ b → t .sort ≡ 1
-        go true e = eqb-true (t .sort) 1 e
-        go false e = absurd (subst (λ (v : List ℕ). T (filled v)) (no-chars s t (eqb-false (t .sort) 1 e) no-text-sort) (word-some w form reads-word))
-
-    chars-here : w ≡ word-of s t
-    chars-here = word-chars s t is-word
-
-    word-there : T (word-reads (word-of s t) form)
-    word-there = subst (λ (v : List ℕ). T (word-reads v form)) chars-here reads-word
-
-    module _ (e : form ≡ 110) where
-      pub number-word : NumberWord (word-of s t) c
-      unfolding word-reads
-      number-word = record { held = a .held; number = subst (λ (f : ℕ). T (word-reads (word-of s t) f)) e word-there }
-
-      pub as-number : {r : ℕ} → Tells c (number-cell (word-of s t)) 1278 r → CellOf s t form c r
-      unfolding draft-arg
-      as-number h = of-form e (record { is = λ p g. h .is p g ∙ ap (λ (v : List ℕ). number-cell v p) (sym chars-here); most = omega (arith, h .most) })
-
-    module _ (e : form ≡ 99) where
-      pub class-word : T (is-class (word-of s t))
-      unfolding word-reads is-class
-      class-word = subst (λ (f : ℕ). T (word-reads (word-of s t) f)) e word-there
-
-      pub as-class : {r : ℕ} → Number (4 + 8 * class-mask (classes (word-of s t))) 2048 r → CellOf s t form c r
-      unfolding draft-arg
-      as-class h = of-form e (record { is = λ p g. h .is ∙ ap (λ (v : List ℕ). 4 + 8 * class-mask (classes v)) (sym chars-here); most = omega (arith, h .most) })
-
-    module _ (no-l : form ≡ 108 → ⊥) (no-w : form ≡ 119 → ⊥) (no-x : form ≡ 120 → ⊥) (no-n : form ≡ 110 → ⊥) (no-c : form ≡ 99 → ⊥) where
-      other : Other form
-      other =
-          record {
-            no-t = ne-eqb form 116 no-text;
-            no-n = ne-eqb form 110 no-n;
-            no-c = ne-eqb form 99 no-c;
-            no-l = ne-eqb form 108 no-l;
-            no-w = ne-eqb form 119 no-w;
-            no-x = ne-eqb form 120 no-x;
-          }
-
-      pub letter-word : T (is-indexed (word-of s t) (letter-of (headOr 0 (word-of s t))))
-      letter-word =
-          let v = word-of s t in
-          let r = other-reads v form other word-there in
-          subst (λ (l : Letter). T (is-indexed v l)) (sym (ap letter-of (first-is v form r) ∙ letter-of-code (r .by))) (r .indexed)
-
-      pub as-letter : {r : ℕ} → Number (1 + 8 * (amount 0 (drop 1 (word-of s t)) + 64 * letter-place (letter-of (headOr 0 (word-of s t))))) 262144 r → CellOf s t form c r
-      as-letter h =
-          record {
-            is = λ p g. h .is ∙ ap (λ (v : List ℕ). 1 + 8 * (amount 0 (drop 1 v) + 64 * letter-place (letter-of (headOr 0 v)))) (sym chars-here) ∙ sym (letter-drafted p);
-            most = omega (arith, h .most);
-          }
-        where
-          letter-drafted : (p : Program) → arg-cell p (drafted form) ≡ 1 + 8 * (amount 0 (drop 1 w) + 64 * letter-place (letter-of (headOr 0 w)))
-          letter-drafted p = ap (arg-cell p) (draft-letter i form other)
-
--- ---- argument k of an instruction
-
-module _ {X Y : Type 0} (f : X → Y) (d : Y) where
-  none-at : (xs : List X) (k : ℕ) → take 1 (drop k xs) ≡ [] → getD (map f xs) k d ≡ d
-  none-at [] zero e = refl
-  none-at [] (suc k) e = refl
-  none-at (x ∷ xs) zero e = absurd (let y : _≡_ {A = ℕ} 0 1 = cc in omega arith)
-  none-at (x ∷ xs) (suc k) e = none-at xs k e
-
-  one-at : (x : X) (xs : List X) (k : ℕ) → take 1 (drop k xs) ≡ x ∷ [] → getD (map f xs) k d ≡ f x
-  one-at x [] zero e = absurd (let y : _≡_ {A = ℕ} 0 1 = cc in omega arith)
-  one-at x [] (suc k) e = absurd (let y : _≡_ {A = ℕ} 0 1 = cc in omega arith)
-  one-at x (y ∷ xs) zero e = let q : y ≡ x = cc in ap f q
-  one-at x (y ∷ xs) (suc k) e = one-at x xs k e
-
-each-at : {X : Type 0} (P : X → Type 0) (x : X) (xs : List X) (k : ℕ) → take 1 (drop k xs) ≡ x ∷ [] → Each P xs → P x
-each-at P x [] zero e h = absurd (let y : _≡_ {A = ℕ} 0 1 = cc in omega arith)
-each-at P x [] (suc k) e h = absurd (let y : _≡_ {A = ℕ} 0 1 = cc in omega arith)
-each-at P x (y ∷ xs) zero e h = let q : y ≡ x = cc in subst P q (h .0)
-each-at P x (y ∷ xs) (suc k) e h = each-at P x xs k e (h .1)
-
-module _ {s : List ℕ} {n m k : ℕ} {c : List ℕ} (h : Arguing s n m c) {r : Found} (e : Nth s n m k r) where
-  abbrev args : List Argument
-  args = arguments (operator-of m) (statement-at s n)
-
-  pub no-argument : stops (r .token .sort) ≡ true → NthCell s n m k c 0
-  no-argument z =
-      let q : take 1 (drop k args) ≡ [] = e .is (operator-of m) (h .numbered) ∙ ap (λ (b : Bool). cond b [] (record { item = item-of s (r .token); form = r .form } ∷ [])) z in
-      record { is = λ p g. ap (arg-cell p) (sym (none-at draft-arg Arg.nothing args k q)); most = omega arith }
-
-  module _ (z : stops (r .token .sort) ≡ false) where
-    abbrev here : Argument
-    here = argument-of s (r .token) (r .form)
-
-    found-one : take 1 (drop k args) ≡ here ∷ []
-    found-one = e .is (operator-of m) (h .numbered) ∙ ap (λ (b : Bool). cond b [] (here ∷ [])) z
-
-    pub argued : Argued s (r .token) (r .form) c
-    argued = record { stands = e .stands; right = each-at Right-argument here args k found-one (h .right); low = h .low; held = h .held }
-
-    pub one-argument : {v : ℕ} → CellOf s (r .token) (r .form) c v → NthCell s n m k c v
-    one-argument t = record { is = λ p g. t .is p g ∙ ap (arg-cell p) (sym (one-at draft-arg Arg.nothing here args k found-one)); most = t .most }
+  pub cell-of : {x : Argument} → Referred s x c r → {n : ℕ} → Encodes c r n → CellOf s x c n
+  cell-of {x} f {n} e a d = record { is = λ p g. e .is p g a (refers-by p g x (is-text x) refl f a d); most = e .most }

@@ -1,53 +1,15 @@
 // The cells of an instruction's arguments in a program table that is being written: texts and numbers refer to their tables, and the mark of its name stands
 // for a label or a switch.
-ghost use Prim.Native.Nat.{_+_, _*_};
-ghost use lib.Dec.{T};
-ghost use lib.ListN.{drop};
-ghost use Rattle.cells.specs.Cells.{Number};
-ghost use Rattle.language.specs.Program.{classes};
-ghost use Rattle.language.specs.Values.{amount};
-ghost use Rattle.layout.specs.Table.{letter-place, class-mask};
-ghost use Rattle.lists.specs.Lists.{headOr};
-ghost use Rattle.syntax.specs.ArgumentForms.{is-indexed, letter-of};
-ghost use Rattle.words.specs.Words.{is-class};
-ghost use Rattle.argument_cells.specs.ArgumentCells.{NumberWord, TextItem, number-cell, text-cell, Argued, CellOf, Arguing, NthCell};
+ghost use mathlib.Core.Path.{_≡_};
+ghost use Prim.Native.Nat.{_<_};
 ghost use Rattle.finding.specs.Finding.{Tells};
+ghost use Rattle.layout.specs.Table.{letter-place};
 ghost use Rattle.lexer.specs.Tokens.{chars-of};
-use arguments::nth_argument;
+ghost use Rattle.table.specs.Denote.{letter-of};
+ghost use Rattle.argument_cells.specs.ArgumentCells.{TextItem, text-cell, Text-named, Text-told, Referable, Referred, Encodable, Encodes, Cell-asked, CellOf};
 use lexer::Token;
-use statements::stops;
-use words::Letter;
-use words::Numeral;
-
-// The cell of a number.
-fn number_cell(table: &[u32], w: &[u8]) -> usize
-    requires { ⌜ NumberWord (now w) (now table) ⌝ }
-    ensures { λ r. ⌜ Tells (now (table .entry)) (number-cell (now (w .entry))) 1278 r ⌝ }
-{
-    match words::number_of(w) {
-        Numeral::Not => 0,
-        Numeral::Code(code) => 6 + 8 * finding::number_ref(table, code),
-    }
-}
-
-// The cell of a class.
-fn class_cell(w: &[u8]) -> usize
-    requires { ⌜ T (is-class (now w)) ⌝ }
-    ensures { λ r. ⌜ Number (4 + 8 * class-mask (classes (now (w .entry)))) 2048 r ⌝ }
-{
-    4 + 8 * cells::wide(words::class_mask(w))
-}
-
-// The cell of a letter and its index.
-fn letter_cell(w: &[u8]) -> usize
-    requires { ⌜ T (is-indexed (now w) (letter-of (headOr 0 (now w)))) ⌝ }
-    ensures { λ r. ⌜ Number (1 + 8 * (amount 0 (drop 1 (now (w .entry))) + 64 * letter-place (letter-of (headOr 0 (now (w .entry)))))) 262144 r ⌝ }
-{
-    match words::indexed(w) {
-        Letter::Not => 0,
-        Letter::At(place, n) => 1 + 8 * (cells::wide(n) + 64 * cells::wide(place)),
-    }
-}
+use table::Argument;
+use table::Letter;
 
 // The reference of the text of an item.
 pub fn item_text(text: &[u8], t: Token, table: &[u32]) -> usize
@@ -59,44 +21,67 @@ pub fn item_text(text: &[u8], t: Token, table: &[u32]) -> usize
     finding::text_ref(table, &word[..n])
 }
 
-// The cell of an argument that reads as its form.
-fn argument_cell(text: &[u8], t: Token, form: u8, table: &[u32]) -> usize
-    requires { ⌜ Argued (now text) t form (now table) ⌝ }
-    ensures { λ r. ⌜ CellOf (now (text .entry)) t form (now (table .entry)) r ⌝ }
+// The reference of the text that a value names.
+fn text_of(text: &[u8], m: usize, table: &[u32]) -> usize
+    requires { ⌜ Text-named (now text) m (now table) ⌝ }
+    ensures { λ r. ⌜ Text-told (now (text .entry)) m (now (table .entry)) r ⌝ }
 {
-    if form == b't' {
-        return 5 + 8 * item_text(text, t, table);
-    }
-    if form == b'l' {
-        return 2 + 8 * (t.at * 64 + t.len);
-    }
-    if form == b'w' {
-        return 3 + 8 * (t.at * 64 + t.len);
-    }
-    if form == b'x' {
-        return 3 + 8 * (t.at * 64 + t.len);
-    }
-    let at = t.at;
-    let end = t.end;
-    if form == b'n' {
-        return number_cell(table, &text[at..end]);
-    }
-    if form == b'c' {
-        return class_cell(&text[at..end]);
-    }
-    letter_cell(&text[at..end])
+    let mut word = [0u8; 60];
+    let n = spelling::put_text(text, m / 65536 + 1, m % 65536, &mut word);
+    finding::text_ref(table, &word[..n])
 }
 
-// The cell of the argument with `k` others before it of an instruction, by its number, whose items after the operator begin at `n`; 0 where there is none.
-pub fn nth_cell(text: &[u8], n: usize, op: u8, k: u8, table: &[u32]) -> usize
-    requires { ⌜ Arguing (now text) n op (now table) ⌝ }
-    ensures { λ r. ⌜ NthCell (now (text .entry)) n op k (now (table .entry)) r ⌝ }
+// An argument with its text by its reference.
+fn referred(text: &[u8], x: Argument, table: &[u32]) -> Argument
+    requires { ⌜ Referable (now text) x (now table) ⌝ }
+    ensures { λ r. ⌜ Referred (now (text .entry)) x (now (table .entry)) r ⌝ }
 {
-    let a = nth_argument(text, n, op, k);
-    let form = a.form;
-    let t = a.token;
-    if stops(t.sort) {
-        return 0;
+    match x {
+        Argument::Text(m) => Argument::Text(text_of(text, m, table)),
+        _ => x,
     }
-    argument_cell(text, t, form, table)
+}
+
+// A letter's place among the twelve.
+fn letter_place(l: Letter) -> usize
+    ensures { λ r. ⌜ (r ≡ letter-place (letter-of l)) × (r < 12) ⌝ }
+{
+    match l {
+        Letter::A => 0,
+        Letter::B => 1,
+        Letter::C => 2,
+        Letter::D => 3,
+        Letter::E => 4,
+        Letter::I => 5,
+        Letter::N => 6,
+        Letter::P => 7,
+        Letter::Q => 8,
+        Letter::T => 9,
+        Letter::Y => 10,
+        Letter::Z => 11,
+    }
+}
+
+// The cell of an argument; `table::first` and its like give it back.
+fn encode(table: &[u32], x: Argument) -> usize
+    requires { ⌜ Encodable (now table) x ⌝ }
+    ensures { λ r. ⌜ Encodes (now (table .entry)) x r ⌝ }
+{
+    match x {
+        Argument::Nothing => 0,
+        Argument::Indexed(l, n) => 1 + 8 * (n + 64 * letter_place(l)),
+        Argument::Label(k) => 2 + 8 * k,
+        Argument::Switch(k) => 3 + 8 * k,
+        Argument::Class(m) => 4 + 8 * cells::wide(m),
+        Argument::Text(v) => 5 + 8 * v,
+        Argument::Number(code) => 6 + 8 * finding::number_ref(table, code),
+    }
+}
+
+// The cell of an argument of the text that is read.
+pub fn argument_cell(text: &[u8], x: Argument, table: &[u32]) -> usize
+    requires { ⌜ Cell-asked (now text) x (now table) ⌝ }
+    ensures { λ r. ⌜ CellOf (now (text .entry)) x (now (table .entry)) r ⌝ }
+{
+    encode(table, referred(text, x, table))
 }

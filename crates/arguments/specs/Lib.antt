@@ -1,2 +1,6 @@
-pub mod Found
-pub mod FoundLaws
+pub mod Valued
+pub mod ValueLaws
+pub mod Arguments
+pub mod CountLaws
+pub mod ArgumentLaws
+pub mod ReadLaws

@@ -1,2 +1,3 @@
 pub mod Waiting
 pub mod Verdicts
+pub mod Arguments

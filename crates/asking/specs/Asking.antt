@@ -4,12 +4,15 @@ use mathlib.Core.Bool.{Bool, cond}
 use mathlib.Core.List.{List, map}
 use Prim.Native.Nat.{ℕ, _≤_}
 use lib.ListN.{length}
+use Rattle.arguments.specs.Valued.{Values-read}
+use Rattle.arguments.specs.declared.Values.{Values}
 use Rattle.declaring.specs.Declaring.{marks-in}
 use Rattle.drafts.specs.Marks.{mark}
 use Rattle.faults.specs.Faults.{verdict-of, decided}
-use Rattle.faults.specs.Groups.{head-questions}
+use Rattle.faults.specs.Groups.{head-questions, argument-questions}
 use Rattle.faults.specs.declared.Verdict.{Verdict}
-use Rattle.heads.specs.Heads.{Headed}
+use Rattle.faults.specs.declared.Verdict.the-variants.{Yes}
+use Rattle.heads.specs.Heads.{instr-of, Headed}
 use Rattle.heads.specs.declared.Head.{Head}
 use Rattle.language.specs.Limits as limit
 use Rattle.layout.specs.Bounds.{Each}
@@ -21,6 +24,7 @@ use Rattle.syntax.specs.Questions.{first-faults, operator-faults, label-faults}
 use Rattle.syntax.specs.Tables.{Draft, is-first, all-labels}
 use Rattle.syntax.specs.Verdict.{first-no}
 use Rattle.syntax.specs.Verdict as spec
+use Rattle.asking.specs.declared.Asked.{Asked}
 
 -- the place that a fault tells; 0 where there is none
 abbrev pub place-of : Fault → ℕ
@@ -51,3 +55,16 @@ Switch-asked s n ms a b r = (d : Draft) → Waits n d ms a b → r ≡ fault-of 
 abbrev pub Head-asked : List ℕ → ℕ → Bool → List ℕ → ℕ → ℕ → Verdict → Type 0
 Head-asked s n first ms a b r =
     (d : Draft) → is-first d ≡ first → Waits n d ms a b → verdict-of r ≡ first-no (head-questions d (statement-at s n))
+
+-- 01 and 02; and where both are answered yes, the values of an instruction's arguments
+pub record Arguments-askable (s : List ℕ) (n : ℕ) (h : Head) : Type 0 where
+  pub headed : Headed s n h
+  pub low : length s ≤ limit.text
+
+-- an operator has a number beyond 0, so this says nothing where there is none
+abbrev pub Head-values : List ℕ → Head → Values → Type 0
+Head-values s h v = Values-read s (h .op .next) (instr-of (h .keyword)) v
+
+pub record Arguments-asked (s : List ℕ) (n : ℕ) (h : Head) (r : Asked) : Type 0 where
+  pub verdict-is : verdict-of (r .verdict) ≡ first-no (argument-questions (statement-at s n))
+  pub values-are : r .verdict ≡ Yes → Head-values s h (r .values)

@@ -3,22 +3,22 @@ ghost use mathlib.Core.Path.{_≡_};
 ghost use Prim.Native.Nat.{_≤_};
 ghost use lib.ListN.{length};
 ghost use Rattle.faults.specs.Faults.{verdict-of};
-ghost use Rattle.faults.specs.Groups.{argument-questions};
-ghost use Rattle.heads.specs.Heads.{Headed};
 ghost use Rattle.statements.specs.StatementAt.{statement-at};
-ghost use Rattle.syntax.specs.Verdict.{first-no};
-ghost use Rattle.asking.specs.Asking.{place-of, operator-verdict, Headable, Head-asked, Switch-asked};
+ghost use Rattle.asking.specs.Asking.{place-of, operator-verdict, Headable, Head-asked, Switch-asked, Arguments-askable, Arguments-asked};
+use arguments::Values;
+use arguments::no_values;
+use arguments::read_arguments;
 use declaring::lowest_mark;
 use faults::Verdict;
 use faults::decide;
 use faults::first_of;
 use heads::Head;
+use heads::instr_of;
 use heads::is_switch;
 use judging::label_fault;
 use judging::operator_fault;
 use judging::section_fault;
-use judging_arguments::count_fault;
-use judging_switches::argument_fault;
+use judging_switches::list_question;
 use statements::Fault;
 
 fn place_of(f: Fault) -> usize
@@ -72,12 +72,33 @@ pub fn ask_head(
     first_of(operator, labels)
 }
 
-// Questions 01 and 02.
-pub fn ask_arguments(text: &[u8], n: usize, head: Head) -> Verdict
-    requires { ⌜ Headed (now text) n head ⌝ }
-    ensures { λ r. ⌜ verdict-of r ≡ first-no (argument-questions (statement-at (now (text .entry)) n)) ⌝ }
+// Questions 01 and 02 of a statement, and the arguments of an instruction.
+pub struct Asked {
+    pub verdict: Verdict,
+    pub values: Values,
+}
+
+pub fn ask_arguments(text: &[u8], n: usize, head: Head) -> Asked
+    requires { ⌜ Arguments-askable (now text) n head ⌝ }
+    ensures { λ r. ⌜ Arguments-asked (now (text .entry)) n head r ⌝ }
 {
-    let count = decide(1, count_fault(text, n, head));
-    let arguments = decide(2, argument_fault(text, n, head));
-    first_of(count, arguments)
+    let keyword = head.keyword;
+    let number = instr_of(keyword);
+    if number == 0 {
+        return Asked {
+            verdict: decide(2, list_question(text, n, head)),
+            values: no_values(),
+        };
+    }
+    let op = head.op;
+    let a = read_arguments(text, op, number);
+    let over = a.over;
+    let fault = a.fault;
+    let values = a.values;
+    let count = decide(1, over);
+    let arguments = decide(2, fault);
+    Asked {
+        verdict: first_of(count, arguments),
+        values: values,
+    }
 }

@@ -6,7 +6,11 @@ use native.Mathlib.Omega.{arith}
 use lib.Dec.{T}
 use lib.ListN.{length, getD, drop, length-map, length-take, length-drop}
 use Rattle.acceptance.specs.RowLaws.{append-none, drop-none}
+use Rattle.arguments.specs.Valued.{First-value, Row, Valued}
+use Rattle.arguments.specs.declared.Value.{Value}
+use Rattle.arguments.specs.declared.Values.{Values}
 use Rattle.cells.specs.Cells.{Number}
+use Rattle.drafts.specs.Drafting.{draft-arg}
 use Rattle.drafts.specs.Marks.{place-by}
 use Rattle.language.specs.Instructions.{operator-of}
 use Rattle.language.specs.Limits as limit
@@ -17,15 +21,18 @@ use Rattle.layout.specs.Bounds.{Each}
 use Rattle.layout.specs.Cells.{cell}
 use Rattle.lexer.specs.declared.Token.{Token}
 use Rattle.packed.specs.Packed.{table-of}
-use Rattle.statements.specs.StatementAt.{fault-of}
+use Rattle.statements.specs.StatementAt.{statement-at, fault-of}
 use Rattle.statements.specs.declared.Fault.{Fault}
 use Rattle.statements.specs.declared.Fault.the-variants.{Clear, At}
+use Rattle.entering.specs.Entering.{Held}
+use Rattle.syntax.specs.ArgumentForms.{Argument, arguments}
 use Rattle.syntax.specs.Questions.{beyond}
+use Rattle.table.specs.declared.Argument as table
 use Rattle.writing.specs.Writing.{HoldsProgram, kept-arg, Changes, Writes, InstrRoom, IsInstr, with-instr}
 use Rattle.writing.proofs.Adding.{kept-same}
 use Rattle.writing.proofs.Held.{code-count, label-count}
-use Rattle.argument_cells.specs.ArgumentCells.{Arguing, NthCell}
-use Rattle.declaring.specs.Declaring.{marks-in, with-labels, labels-by, Labelling, Judges, Judgeable, instr-excess, texts-excess, numbers-excess, with-values, draft-args, new-instr, with-labelled, Writable, WritesInstr, Declarable, Declares}
+use Rattle.argument_cells.specs.ArgumentCells.{Right-argument, Drafts, Cell-asked, CellOf}
+use Rattle.declaring.specs.Declaring.{marks-in, with-labels, labels-by, Labelling, Judges, Judges-values, Judgeable, instr-excess, texts-excess, numbers-excess, with-values, draft-args, new-instr, with-labelled, Right-values, Writable, WritesInstr, Writes-values, Declarable, Declares}
 
 -- ---- the instruction
 
@@ -37,59 +44,106 @@ module _ (p : Program) (ls : List Label) where
   kept-at (a ∷ xs) zero h = subst T (kept-same p (with-labels ls p) refl refl a) (h .0)
   kept-at (a ∷ xs) (suc k) h = kept-at xs k (h .1)
 
-module _ {s : List ℕ} {n number line : ℕ} {ms : List ℕ} {a b : ℕ} {c : List ℕ} (pre : Writable s n number line ms a b c) where
+-- the values of the first, the second and the third argument, and their cells
+abbrev nth-arg : List Argument → ℕ → Arg
+nth-arg args k = getD (map draft-arg args) k nothing
+
+value-drafts : (s : List ℕ) (args : List Argument) (x : Value) → Each Right-argument args → First-value s args x → Drafts s (x .argument) (nth-arg args 0)
+value-drafts s [] x r h = subst (λ (y : table.Argument). Drafts s y nothing) (sym h) (record { chars = []; short = omega arith; spelt = tt; drafted = refl })
+value-drafts s (a ∷ args) x r h =
+    record { chars = a .item .chars; short = r .0 .short; spelt = h .1 .entered .spelt; drafted = h .1 .drafted (r .0 .short) }
+
+rest-right : (args : List Argument) → Each Right-argument args → Each Right-argument (drop 1 args)
+rest-right [] r = tt
+rest-right (a ∷ args) r = r .1
+
+two-right : (args : List Argument) → Each Right-argument args → Each Right-argument (drop 2 args)
+two-right [] r = tt
+two-right (a ∷ []) r = tt
+two-right (a ∷ b ∷ args) r = r .1 .1
+
+second-arg : (args : List Argument) → nth-arg (drop 1 args) 0 ≡ nth-arg args 1
+second-arg [] = refl
+second-arg (a ∷ []) = refl
+second-arg (a ∷ b ∷ args) = refl
+
+third-arg : (args : List Argument) → nth-arg (drop 2 args) 0 ≡ nth-arg args 2
+third-arg [] = refl
+third-arg (a ∷ []) = refl
+third-arg (a ∷ b ∷ []) = refl
+third-arg (a ∷ b ∷ c ∷ args) = refl
+
+module _ {s : List ℕ} {n number : ℕ} {v : Values} (g : Right-values s n number v) where
+  abbrev args : List Argument
+  args = arguments (operator-of number) (statement-at s n)
+
+  abbrev row : Row s args v
+  row = g .read (operator-of number) (g .numbered) .row
+
+  first-drafts : Drafts s (v .first .argument) (nth-arg args 0)
+  first-drafts = value-drafts s args (v .first) (g .right) (row .first)
+
+  second-drafts : Drafts s (v .second .argument) (nth-arg args 1)
+  second-drafts = subst (Drafts s (v .second .argument)) (second-arg args) (value-drafts s (drop 1 args) (v .second) (rest-right args (g .right)) (row .second))
+
+  third-drafts : Drafts s (v .third .argument) (nth-arg args 2)
+  third-drafts = subst (Drafts s (v .third .argument)) (third-arg args) (value-drafts s (drop 2 args) (v .third) (two-right args (g .right)) (row .third))
+
+module _ {s : List ℕ} {v : Values} {number line : ℕ} {ms : List ℕ} {a b : ℕ} {c : List ℕ} (pre : Writable s v number line ms a b c) where
   pub labelling : {target : ℕ} → target ≡ cell (table-of c) 0 → Labelling s ms a b target c
-  labelling e = record { named = pre .named; held = pre .arguing .held; room = pre .label-room; low = omega (arith, e, pre .code-room) }
+  labelling e = record { named = pre .named; held = pre .held; room = pre .label-room; low = omega (arith, e, pre .code-room) }
 
   module _ {target : ℕ} (e : target ≡ cell (table-of c) 0) {d : List ℕ} (h : Changes (with-labels (labels-by s target (marks-in ms a b))) c d) where
     abbrev labelled : Program → Program
     labelled p = with-labels (labels-by s target (marks-in ms a b)) p
 
-    labels-held : HoldsProgram d (labelled (pre .arguing .held .program))
-    labels-held = h .holds (pre .arguing .held .program) (pre .arguing .held .holds)
+    labels-held : HoldsProgram d (labelled (pre .held .program))
+    labels-held = h .holds (pre .held .program) (pre .held .holds)
 
-    pub still-arguing : Arguing s n number d
-    still-arguing =
-        record {
-          inside = pre .arguing .inside;
-          low = pre .arguing .low;
-          held = record { program = labelled (pre .arguing .held .program); holds = labels-held };
-          numbered = pre .arguing .numbered;
-          right = pre .arguing .right;
-        }
+    still : Held d
+    still = record { program = labelled (pre .held .program); holds = labels-held }
+
+    pub first-asked : Cell-asked s (v .first .argument) d
+    first-asked = record { arg = _; drafts = first-drafts (pre .values); held = still }
+
+    pub second-asked : Cell-asked s (v .second .argument) d
+    second-asked = record { arg = _; drafts = second-drafts (pre .values); held = still }
+
+    pub third-asked : Cell-asked s (v .third .argument) d
+    third-asked = record { arg = _; drafts = third-drafts (pre .values); held = still }
 
     code-then : cell (table-of d) 0 ≡ cell (table-of c) 0
     unfolding with-labels
-    code-then = code-count d (labelled (pre .arguing .held .program)) labels-held ∙ sym (code-count c (pre .arguing .held .program) (pre .arguing .held .holds))
+    code-then = code-count d (labelled (pre .held .program)) labels-held ∙ sym (code-count c (pre .held .program) (pre .held .holds))
 
-    module _ {o x y z : ℕ} (w : Number number 256 o) (f : NthCell s n number 0 d x) (g : NthCell s n number 1 d y) (k : NthCell s n number 2 d z) where
+    module _ {o x y z : ℕ} (w : Number number 256 o) (f : CellOf s (v .first .argument) d x) (g : CellOf s (v .second .argument) d y) (k : CellOf s (v .third .argument) d z) where
       pub instr-room : InstrRoom d o line x y z
       instr-room =
           record {
             long = labels-held .long;
             room = omega (arith, code-then, pre .code-room);
-            op-most = omega (arith, w .is, pre .arguing .numbered, operator-below (operator-of number));
+            op-most = omega (arith, w .is, pre .values .numbered, operator-below (operator-of number));
             line-most = pre .line-most;
-            x-most = omega (arith, f .most);
-            y-most = omega (arith, g .most);
-            z-most = omega (arith, k .most);
+            x-most = omega (arith, f _ (first-drafts (pre .values)) .most);
+            y-most = omega (arith, g _ (second-drafts (pre .values)) .most);
+            z-most = omega (arith, k _ (third-drafts (pre .values)) .most);
           }
 
-      pub instr-written : {d′ : List ℕ} → Writes (IsInstr o line x y z) with-instr d d′ → WritesInstr s n number line (marks-in ms a b) c d′
+      pub instr-written : {d′ : List ℕ} → Writes (IsInstr o line x y z) with-instr d d′ → Writes-values s v number line (marks-in ms a b) c d′
       unfolding with-labelled
-      instr-written {d′} u =
+      instr-written {d′} u n q₁ =
           record {
             holds = λ p q r.
                 let t : target ≡ length (p .code) = e ∙ code-count c p q in
-                let v : HoldsProgram d (labelled p) = h .holds p q in
+                let l : HoldsProgram d (labelled p) = h .holds p q in
                 let i = new-instr s n number line in
                 let m : HoldsProgram d′ (with-instr i (labelled p)) =
-                u .holds i (labelled p) v (record {
-                  op-is = w .is ∙ sym (pre .arguing .numbered);
+                u .holds i (labelled p) l (record {
+                  op-is = w .is ∙ sym (q₁ .numbered);
                   line-is = refl;
-                  first-is = f .is (labelled p) v;
-                  second-is = g .is (labelled p) v;
-                  third-is = k .is (labelled p) v;
+                  first-is = f _ (first-drafts q₁) .is (labelled p) l;
+                  second-is = g _ (second-drafts q₁) .is (labelled p) l;
+                  third-is = k _ (third-drafts q₁) .is (labelled p) l;
                   kept = record {
                     first = kept-at p (labels-by s target (marks-in ms a b)) (draft-args s n number) 0 r;
                     second = kept-at p (labels-by s target (marks-in ms a b)) (draft-args s n number) 1 r;
@@ -106,12 +160,21 @@ pub no-fault : (xs : List ℕ) → Clear ≡ fault-of xs → xs ≡ []
 no-fault [] e = refl
 no-fault (x ∷ xs) e = absurd (let y : _≡_ {A = ℕ} 0 1 = cc in omega arith)
 
-module _ {s : List ℕ} {op : Token} {number line : ℕ} {ms : List ℕ} {a b : ℕ} {c : List ℕ} (pre : Declarable s op number line ms a b c) where
-  pub judgeable : Judgeable s (op .next) ms a b c
-  judgeable =
-      record { inside = pre .inside; over = record { held = pre .held; most = pre .named .most; low = pre .index-low }; short = pre .short; ranged = pre .ranged }
+module _ {s : List ℕ} {op : Token} {number : ℕ} {v : Values} {line : ℕ} {ms : List ℕ} {a b : ℕ} {c : List ℕ} (pre : Declarable s op number v line ms a b c) where
+  abbrev valued : Valued s (statement-at s (op .next)) (arguments (operator-of number) (statement-at s (op .next))) v
+  valued = pre .values .read (operator-of number) (pre .values .numbered)
 
-  module _ {r : Fault} {d : List ℕ} (h : Judges s (op .at) (op .next) (marks-in ms a b) c r d) where
+  pub judgeable : Judgeable s v ms a b c
+  judgeable =
+      record {
+        over = record { held = pre .held; most = pre .named .most; low = pre .index-low };
+        enterable = record { items = _; args = _; valued = valued; short = pre .short; held = pre .held };
+      }
+
+  module _ {r : Fault} {d : List ℕ} (told : Judges-values s (op .at) v (marks-in ms a b) c r d) where
+    abbrev h : Judges s (op .at) (op .next) (marks-in ms a b) c r d
+    h = told (op .next) _ valued
+
     pub declared-none : {p : ℕ} → r ≡ At p → Declares s op number line (marks-in ms a b) c (At p) d
     declared-none {p} e =
         record {
@@ -155,19 +218,22 @@ module _ {s : List ℕ} {op : Token} {number line : ℕ} {ms : List ℕ} {a b : 
                 );
           }
 
-      pub writable : Writable s (op .next) number line ms a b d
+      pub writable : Writable s v number line ms a b d
       unfolding with-values Rattle.entering.specs.Entering.set-numbers Rattle.entering.specs.Entering.set-texts
       writable =
           record {
-            arguing = record { inside = pre .inside; low = pre .low; held = record { program = with-values s (op .next) p; holds = entered }; numbered = pre .numbered; right = pre .right };
+            next = op .next;
+            values = pre .values;
+            held = record { program = with-values s (op .next) p; holds = entered };
             named = pre .named;
             code-room = omega (arith, code-count d (with-values s (op .next) p) entered, rooms .code);
             label-room = omega (arith, label-count d (with-values s (op .next) p) entered, rooms .labels);
             line-most = pre .line-most;
           }
 
-      pub declared : {d′ : List ℕ} → WritesInstr s (op .next) number line (marks-in ms a b) d d′ → Declares s op number line (marks-in ms a b) c Clear d′
-      declared w =
+      pub declared : {d′ : List ℕ} → Writes-values s v number line (marks-in ms a b) d d′ → Declares s op number line (marks-in ms a b) c Clear d′
+      declared k₁ =
+          let w = k₁ (op .next) (pre .values) in
           record {
             told = λ q g. sym e ∙ h .told q g;
             holds = λ f q g k. w .holds (with-values s (op .next) q) (h .holds e q g) k;

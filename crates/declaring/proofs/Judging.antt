@@ -5,22 +5,25 @@ use Prim.Native.Nat.{ℕ, zero, suc, _+_, _-_, _≤_, _<_}
 use native.Mathlib.Omega.{arith}
 use lib.ListN.{length, getD, take, drop, length-drop}
 use lib.Seq.{take-suc, getD-drop, drop-drop}
+use Rattle.arguments.specs.Valued.{Valued}
+use Rattle.arguments.specs.declared.Values.{Values}
 use Rattle.drafts.specs.Marks.{place-by}
-use Rattle.entering.specs.Entering.{Enterable, Enters, Short-item, Ranged-item, long-text, large-number, set-texts, set-numbers}
+use Rattle.entering.specs.Entering.{Enters, Enterable-values, Some-values, Texts-entered, Numbers-entered, long-text, large-number, set-texts, set-numbers}
 use Rattle.faults.specs.Faults.{lower}
 use Rattle.faults.specs.FaultLaws.{fault-both, lower-clear}
 use Rattle.language.specs.Limits as limit
 use Rattle.language.specs.Program.{Program}
 use Rattle.language.specs.Values.{sameNumber}
 use Rattle.lists.specs.Lists.{sameBytes}
-use Rattle.statements.specs.StatementAt.{fault-of}
+use Rattle.statements.specs.StatementAt.{statement-at, fault-of}
 use Rattle.statements.specs.declared.Fault.{Fault}
 use Rattle.statements.specs.declared.Fault.the-variants.{Clear, At}
+use Rattle.syntax.specs.ArgumentForms.{Argument}
 use Rattle.syntax.specs.Questions.{beyond}
 use Rattle.syntax.specs.Tables.{number-in}
 use Rattle.syntax.specs.Verdict.{lowest}
 use Rattle.writing.specs.Writing.{HoldsProgram}
-use Rattle.declaring.specs.Declaring.{marks-in, texts-excess, numbers-excess, Labels-told, Instr-told, instr-excess, with-values, Judgeable, Judges}
+use Rattle.declaring.specs.Declaring.{marks-in, texts-excess, numbers-excess, Labels-told, Instr-told, instr-excess, with-values, Judgeable, Judges, Judges-values}
 
 -- ---- the marks one by one
 
@@ -113,38 +116,37 @@ module _ {c : List ℕ} {n : ℕ} (e : (p : Program) → HoldsProgram c p → n 
 
 -- ---- all of question 11
 
-module _ {s : List ℕ} {n : ℕ} {ms : List ℕ} {i j : ℕ} {c : List ℕ} (pre : Judgeable s n ms i j c) where
-  abbrev Texts : List ℕ → Fault → List ℕ → Type 0
-  Texts x r y = Enters sameBytes (λ i. i .chars) long-text (λ p. p .texts) set-texts s n x r y
-
-  abbrev Numbers : List ℕ → Fault → List ℕ → Type 0
-  Numbers x r y = Enters sameNumber number-in large-number (λ p. p .numbers) set-numbers s n x r y
-
-  pub texts-enterable : Enterable Short-item s n c
-  texts-enterable = record { inside = pre .inside; held = pre .over .held; within = pre .short }
-
-  module _ {tr : Fault} {d : List ℕ} (t : Texts c tr d) where
-    pub numbers-enterable : Enterable Ranged-item s n d
+module _ {s : List ℕ} {v : Values} {ms : List ℕ} {i j : ℕ} {c : List ℕ} (pre : Judgeable s v ms i j c) where
+  module _ {tr : Fault} {d : List ℕ} (t : Texts-entered s v c tr d) where
+    pub numbers-enterable : Some-values v d
     numbers-enterable =
-        let k = t .still (pre .over .held .program) (pre .over .held .holds) in
-        record { inside = pre .inside; held = record { program = _; holds = k .holds }; within = pre .ranged }
+        let q = pre .enterable in
+        let k = t (q .items) (q .args) (q .valued) .still (q .held .program) (q .held .holds) in
+        record { text = s; enterable = record { items = q .items; args = q .args; valued = q .valued; short = q .short; held = record { program = _; holds = k .holds } } }
 
-    module _ {nr : Fault} {e : List ℕ} (u : Numbers d nr e) (at : ℕ) {ir lr : Fault} (a : Instr-told c at ir) (b : Labels-told c (marks-in ms i j) lr) where
+    module _ {nr : Fault} {e : List ℕ} (u : Numbers-entered v d nr e) (at : ℕ) {ir lr : Fault} (a : Instr-told c at ir) (b : Labels-told c (marks-in ms i j) lr)
+        (n : ℕ) (args : List Argument) (w : Valued s (statement-at s n) args v) where
+      abbrev texts : Enters sameBytes (λ i. i .chars) long-text (λ p. p .texts) set-texts (statement-at s n) c tr d
+      texts = t (statement-at s n) args w
+
+      abbrev numbers : Enters sameNumber number-in large-number (λ p. p .numbers) set-numbers (statement-at s n) d nr e
+      numbers = u s (statement-at s n) args w
+
       numbers-told : (p : Program) → HoldsProgram c p → nr ≡ fault-of (numbers-excess s n p)
       unfolding set-texts
-      numbers-told p h = u .told (set-texts (t .still p h .table) p) (t .still p h .holds)
+      numbers-told p h = numbers .told (set-texts (texts .still p h .table) p) (texts .still p h .holds)
 
       pub judged : Judges s at n (marks-in ms i j) c (lower (lower (lower ir lr) tr) nr) e
       unfolding instr-excess with-values set-texts
       judged =
           record {
             told = λ p h.
-                parts (beyond limit.instructions (length (p .code)) (at ∷ [])) (beyond limit.labels (length (p .labels)) (map place-by (marks-in ms i j))) (texts-excess s n p) (numbers-excess s n p) (a p h) (b p h) (t .told p h) (numbers-told p h);
+                parts (beyond limit.instructions (length (p .code)) (at ∷ [])) (beyond limit.labels (length (p .labels)) (map place-by (marks-in ms i j))) (texts-excess s n p) (numbers-excess s n p) (a p h) (b p h) (texts .told p h) (numbers-told p h);
             holds = λ q p h.
                 let f = lower-clear (lower (lower ir lr) tr) nr q in
                 let g = lower-clear (lower ir lr) tr (f .0) in
-                u .holds (f .1) _ (t .holds (g .1) p h);
-            beyond-same = u .beyond-same ∙ t .beyond-same;
+                numbers .holds (f .1) _ (texts .holds (g .1) p h);
+            beyond-same = numbers .beyond-same ∙ texts .beyond-same;
           }
         where
           parts : (xs ys zs ws : List ℕ) → ir ≡ fault-of xs → lr ≡ fault-of ys → tr ≡ fault-of zs → nr ≡ fault-of ws
@@ -158,7 +160,7 @@ module _ {s : List ℕ} {n : ℕ} {ms : List ℕ} {i j : ℕ} {c : List ℕ} (pr
               ∙ ap (λ (f : Fault). lower f (fault-of ws)) (fault-both (xs ++ ys) zs ∙ ap (λ (f : Fault). lower f (fault-of zs)) (fault-both xs ys)))
 
 -- the three steps of the code
-pub judged-by : {s : List ℕ} {at n : ℕ} {ms c d : List ℕ} (ir lr tr nr : Fault) {x y z : Fault} → Judges s at n ms c (lower (lower (lower ir lr) tr) nr) d
-    → x ≡ lower ir lr → y ≡ lower x tr → z ≡ lower y nr → Judges s at n ms c z d
-judged-by {s} {at} {n} {ms} {c} {d} ir lr tr nr {x} {y} {z} h e f g =
-    subst (λ (r : Fault). Judges s at n ms c r d) (sym (g ∙ ap (λ (r : Fault). lower r nr) (f ∙ ap (λ (r : Fault). lower r tr) e))) h
+pub judged-by : {s : List ℕ} {at : ℕ} {v : Values} {ms c d : List ℕ} (ir lr tr nr : Fault) {x y z : Fault} → Judges-values s at v ms c (lower (lower (lower ir lr) tr) nr) d
+    → x ≡ lower ir lr → y ≡ lower x tr → z ≡ lower y nr → Judges-values s at v ms c z d
+judged-by {s} {at} {v} {ms} {c} {d} ir lr tr nr {x} {y} {z} h e f g =
+    subst (λ (r : Fault). Judges-values s at v ms c r d) (sym (g ∙ ap (λ (r : Fault). lower r nr) (f ∙ ap (λ (r : Fault). lower r tr) e))) h

@@ -4,9 +4,11 @@ use mathlib.Core.List.{List, [], _∷_, _++_, map}
 use Prim.Native.Nat.{ℕ, _+_, _-_, _≤_, _<_}
 use lib.Dec.{T}
 use lib.ListN.{length, getD, take, drop}
+use Rattle.arguments.specs.Valued.{Valued, Values-read}
+use Rattle.arguments.specs.declared.Values.{Values}
 use Rattle.drafts.specs.Drafting.{draft-arg}
 use Rattle.drafts.specs.Marks.{place-by, length-by, word-by, Marked}
-use Rattle.entering.specs.Entering.{excess, all-added, long-text, large-number, set-texts, set-numbers, Held, Short-item, Ranged-item}
+use Rattle.entering.specs.Entering.{excess, all-added, long-text, large-number, set-texts, set-numbers, Held, Short-item, Enterable-values}
 use Rattle.language.specs.Instructions.{operation, operator-of}
 use Rattle.language.specs.Limits as limit
 use Rattle.language.specs.Program.{Arg, Instr, Label, Program}
@@ -19,11 +21,11 @@ use Rattle.packed.specs.Packed.{table-of}
 use Rattle.statements.specs.StatementAt.{statement-at, fault-of}
 use Rattle.statements.specs.declared.Fault.{Fault}
 use Rattle.statements.specs.declared.Fault.the-variants.{Clear}
-use Rattle.syntax.specs.ArgumentForms.{arguments}
+use Rattle.syntax.specs.ArgumentForms.{Argument, arguments}
 use Rattle.syntax.specs.Questions.{beyond}
 use Rattle.syntax.specs.Tables.{number-in}
 use Rattle.writing.specs.Writing.{HoldsProgram, kept-arg, label-of, with-instr}
-use Rattle.argument_cells.specs.ArgumentCells.{Right-argument, Arguing}
+use Rattle.argument_cells.specs.ArgumentCells.{Right-argument}
 
 -- the marks from index a to index b
 abbrev pub marks-in : List ℕ → ℕ → ℕ → List ℕ
@@ -89,16 +91,18 @@ instr-excess s at n ms p =
     ++ texts-excess s n p
     ++ numbers-excess s n p
 
-pub record Judgeable (s : List ℕ) (n : ℕ) (ms : List ℕ) (a b : ℕ) (c : List ℕ) : Type 0 where
-  pub inside : n ≤ length s
+pub record Judgeable (s : List ℕ) (v : Values) (ms : List ℕ) (a b : ℕ) (c : List ℕ) : Type 0 where
   pub over : Over c ms a b
-  pub short : Each Short-item (statement-at s n)
-  pub ranged : Each Ranged-item (statement-at s n)
+  pub enterable : Enterable-values s v c
 
 pub record Judges (s : List ℕ) (at n : ℕ) (ms c : List ℕ) (r : Fault) (d : List ℕ) : Type 0 where
   pub told : (p : Program) → HoldsProgram c p → r ≡ fault-of (instr-excess s at n ms p)
   pub holds : r ≡ Clear → (p : Program) → HoldsProgram c p → HoldsProgram d (with-values s n p)
   pub beyond-same : drop limit.table d ≡ drop limit.table c
+
+-- of the values v, wherever their items are
+abbrev pub Judges-values : List ℕ → ℕ → Values → List ℕ → List ℕ → Fault → List ℕ → Type 0
+Judges-values s at v ms c r d = (n : ℕ) (args : List Argument) → Valued s (statement-at s n) args v → Judges s at n ms c r d
 
 -- the instruction of a number at a line, with its arguments from place n on
 abbrev pub draft-args : List ℕ → ℕ → ℕ → List Arg
@@ -116,8 +120,16 @@ Kept-args s n number p = Each (λ a. T (kept-arg p a)) (draft-args s n number)
 unfoldable pub with-labelled : List ℕ → ℕ → ℕ → ℕ → List ℕ → Program → Program
 with-labelled s n number line ms p = with-instr (new-instr s n number line) (with-labels (labels-by s (length (p .code)) ms) p)
 
-pub record Writable (s : List ℕ) (n number line : ℕ) (ms : List ℕ) (a b : ℕ) (c : List ℕ) : Type 0 where
-  pub arguing : Arguing s n number c
+-- the values of the arguments from place n on, each of which reads as its form
+pub record Right-values (s : List ℕ) (n number : ℕ) (v : Values) : Type 0 where
+  pub numbered : operation (operator-of number) .number ≡ number
+  pub read : Values-read s n number v
+  pub right : Each Right-argument (arguments (operator-of number) (statement-at s n))
+
+pub record Writable (s : List ℕ) (v : Values) (number line : ℕ) (ms : List ℕ) (a b : ℕ) (c : List ℕ) : Type 0 where
+  pub next : ℕ
+  pub values : Right-values s next number v
+  pub held : Held c
   pub named : Named s ms a b
   pub code-room : cell (table-of c) 0 < limit.instructions
   pub label-room : cell (table-of c) 1 + (b - a) ≤ limit.labels
@@ -127,18 +139,17 @@ pub record WritesInstr (s : List ℕ) (n number line : ℕ) (ms c d : List ℕ) 
   pub holds : (p : Program) → HoldsProgram c p → Kept-args s n number p → HoldsProgram d (with-labelled s n number line ms p)
   pub beyond-same : drop limit.table d ≡ drop limit.table c
 
--- what the questions up to 02 gave, of the operator's token and the marks of its labels
-pub record Declarable (s : List ℕ) (op : Token) (number line : ℕ) (ms : List ℕ) (a b : ℕ) (c : List ℕ) : Type 0 where
-  pub low : length s ≤ limit.text
-  pub inside : op .next ≤ length s
+abbrev pub Writes-values : List ℕ → Values → ℕ → ℕ → List ℕ → List ℕ → List ℕ → Type 0
+Writes-values s v number line ms c d = (n : ℕ) → Right-values s n number v → WritesInstr s n number line ms c d
+
+-- what the questions up to 02 gave, of the operator's token, its values and the marks of its labels
+pub record Declarable (s : List ℕ) (op : Token) (number : ℕ) (v : Values) (line : ℕ) (ms : List ℕ) (a b : ℕ) (c : List ℕ) : Type 0 where
   pub held : Held c
-  pub numbered : operation (operator-of number) .number ≡ number
+  pub values : Right-values s (op .next) number v
   pub line-most : line ≤ limit.text
   pub named : Named s ms a b
   pub index-low : a ≤ 32768
   pub short : Each Short-item (statement-at s (op .next))
-  pub ranged : Each Ranged-item (statement-at s (op .next))
-  pub right : Each Right-argument (arguments (operator-of number) (statement-at s (op .next)))
 
 pub record Declares (s : List ℕ) (op : Token) (number line : ℕ) (ms c : List ℕ) (r : Fault) (d : List ℕ) : Type 0 where
   pub told : (p : Program) → HoldsProgram c p → r ≡ fault-of (instr-excess s (op .at) (op .next) ms p)

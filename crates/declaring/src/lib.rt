@@ -6,9 +6,10 @@ ghost use lib.ListN.{length};
 ghost use Rattle.drafts.specs.Marks.{place-by, word-by};
 ghost use Rattle.statements.specs.StatementAt.{fault-of};
 ghost use Rattle.writing.specs.Writing.{Changes, with-label, label-of};
-ghost use Rattle.declaring.specs.Declaring.{marks-in, with-labels, labels-by, Nameable, Labelling, Over, Labels-told, Instr-told, Judgeable, Judges, Writable, WritesInstr, Declarable, Declares};
+ghost use Rattle.declaring.specs.Declaring.{marks-in, with-labels, labels-by, Nameable, Labelling, Over, Labels-told, Instr-told, Judgeable, Judges-values, Writable, Writes-values, Declarable, Declares};
 ghost use Rattle.language.specs.Limits as limit;
-use argument_cells::nth_cell;
+use argument_cells::argument_cell;
+use arguments::Values;
 use faults::lower;
 use language::Machine;
 use lexer::Token;
@@ -48,23 +49,23 @@ fn instruction_beyond(table: &[u32], at: usize) -> Fault
     Fault::At(at)
 }
 
-// Question 11 of an instruction whose operator stands at `at` and whose arguments begin at `next`; its texts and numbers come to the table.
+// Question 11 of an instruction whose operator stands at `at`; the texts and numbers of its arguments come to the table.
 fn judge_instruction(
     text: &[u8],
     at: usize,
-    next: usize,
+    values: Values,
     names: &[u32],
     from: usize,
     to: usize,
     table: &mut [u32],
 ) -> Fault
-    requires { ⌜ Judgeable (now text) next (now names) from to (now table) ⌝ }
-    ensures { λ r. ⌜ Judges (now (text .entry)) at next (marks-in (now (names .entry)) from to) (now (table .entry)) r (now (table .exit)) ⌝ }
+    requires { ⌜ Judgeable (now text) values (now names) from to (now table) ⌝ }
+    ensures { λ r. ⌜ Judges-values (now (text .entry)) at values (marks-in (now (names .entry)) from to) (now (table .entry)) r (now (table .exit)) ⌝ }
 {
     let a = instruction_beyond(table, at);
     let b = labels_beyond(table, names, from, to);
-    let c = entering::enter_texts(text, next, table);
-    let d = entering::enter_numbers(text, next, table);
+    let c = entering::enter_text_values(text, values, table);
+    let d = entering::enter_number_values(values, table);
     lower(lower(lower(a, b), c), d)
 }
 
@@ -90,10 +91,10 @@ fn put_labels(text: &[u8], names: &[u32], from: usize, to: usize, target: usize,
     }
 }
 
-// Adds the labels and the instruction by its number, its line and its arguments, which begin at `next`.
+// Adds the labels and the instruction by its number, its line and its arguments.
 fn write_instruction(
     text: &[u8],
-    next: usize,
+    values: Values,
     number: u8,
     line: usize,
     names: &[u32],
@@ -101,14 +102,20 @@ fn write_instruction(
     to: usize,
     table: &mut [u32],
 )
-    requires { ⌜ Writable (now text) next number line (now names) from to (now table) ⌝ }
-    ensures { λ _. ⌜ WritesInstr (now (text .entry)) next number line (marks-in (now (names .entry)) from to) (now (table .entry)) (now (table .exit)) ⌝ }
+    requires { ⌜ Writable (now text) values number line (now names) from to (now table) ⌝ }
+    ensures { λ _. ⌜ Writes-values (now (text .entry)) values number line (marks-in (now (names .entry)) from to) (now (table .entry)) (now (table .exit)) ⌝ }
 {
+    let first = values.first;
+    let second = values.second;
+    let third = values.third;
     let target = table::instructions(table);
     put_labels(text, names, from, to, target, table);
-    let x = nth_cell(text, next, number, 0, table);
-    let y = nth_cell(text, next, number, 1, table);
-    let z = nth_cell(text, next, number, 2, table);
+    let f = first.argument;
+    let s = second.argument;
+    let t = third.argument;
+    let x = argument_cell(text, f, table);
+    let y = argument_cell(text, s, table);
+    let z = argument_cell(text, t, table);
     writing::put_instruction(table, cells::wide(number), line, x, y, z);
 }
 
@@ -117,21 +124,20 @@ pub fn declare_instruction(
     text: &[u8],
     op: Token,
     number: u8,
+    values: Values,
     line: usize,
     names: &[u32],
     from: usize,
     to: usize,
     table: &mut [u32],
 ) -> Fault
-    requires { ⌜ Declarable (now text) op number line (now names) from to (now table) ⌝ }
+    requires { ⌜ Declarable (now text) op number values line (now names) from to (now table) ⌝ }
     ensures { λ r. ⌜ Declares (now (text .entry)) op number line (marks-in (now (names .entry)) from to) (now (table .entry)) r (now (table .exit)) ⌝ }
 {
-    let at = op.at;
-    let next = op.next;
-    match judge_instruction(text, at, next, names, from, to, table) {
+    match judge_instruction(text, op.at, values, names, from, to, table) {
         Fault::At(p) => Fault::At(p),
         Fault::Clear => {
-            write_instruction(text, next, number, line, names, from, to, table);
+            write_instruction(text, values, number, line, names, from, to, table);
             Fault::Clear
         }
     }

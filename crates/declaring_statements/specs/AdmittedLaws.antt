@@ -6,19 +6,21 @@ use Prim.Native.Nat.{ℕ, _≤_, _<_}
 use native.Mathlib.Omega.{arith}
 use lib.Dec.{T}
 use lib.ListN.{length, drop}
-use Rattle.acceptance.specs.DraftLaws.{all-ranged, arguments-sound, draft-sound}
+use Rattle.acceptance.specs.DraftLaws.{arguments-sound, draft-sound}
 use Rattle.acceptance.specs.Drafts.{Sound-item, Fine-item, Sound-name, Sound-tables}
 use Rattle.acceptance.specs.ReaderLaws.{head-sound, statements-sound-from, line-most}
 use Rattle.acceptance.specs.RowLaws.{each-map, each-both, each-keep}
 use Rattle.acceptance.specs.StatementLaws.{fine-items, each-front, each-behind, front-names, label-names}
 use Rattle.argument_cells.specs.ArgumentCells.{Right-argument}
+use Rattle.arguments.specs.Valued.{Values-read}
+use Rattle.arguments.specs.declared.Values.{Values}
 use Rattle.declaring.specs.Declaring.{marks-in, Declarable, Declares}
 use Rattle.declaring.specs.SpeltLaws.{statement-spelt}
 use Rattle.declaring.specs.TabledLaws.{Operated, operated, Labelled, instr-told, instr-tabled}
 use Rattle.drafts.specs.Drafting.{draft-program}
 use Rattle.drafts.specs.Marks.{mark, word-by}
 use Rattle.drafts.specs.Tabled.{Spelt, Tabled}
-use Rattle.entering.specs.Entering.{Short-item, Ranged-item}
+use Rattle.entering.specs.Entering.{Short-item}
 use Rattle.faults.specs.FaultLaws.{no-fault}
 use Rattle.faults.specs.Groups.{table-questions, early-questions}
 use Rattle.heads.specs.HeadLaws.{no-keyword}
@@ -176,21 +178,21 @@ module _ {s : List ℕ} {n : ℕ} {d : Draft} {h : Head} {line : ℕ} {ms : List
       at-low : h .op .at < h .op .end
       at-low = g .headed .stands .some (some-sort (h .op .sort) stands)
 
-  pub instr-declarable : Declarable s (h .op) number line ms a b c
-  instr-declarable =
+  pub instr-declarable : {v : Values} → Values-read s (h .op .next) (instr-of (h .keyword)) v → Declarable s (h .op) number v line ms a b c
+  instr-declarable {v} w =
       record {
-        low = g .short;
-        inside = g .headed .stands .most;
         held = record { program = draft-program s (d .tables); holds = g .tabled .holds };
-        numbered = ap (λ (o : Op). operation o .number) operator-is ∙ sym (instructs .number-is);
+        values =
+            record {
+              numbered = ap (λ (o : Op). operation o .number) operator-is ∙ sym (instructs .number-is);
+              read = subst (λ (m : ℕ). Values-read s (h .op .next) m v) (sym is-number) w;
+              right = subst (λ (js : List Item). Each Right-argument (arguments (operator-of number) js)) (here .rest-is)
+                  (subst (λ (o : Op). Each Right-argument (arguments o (rest items))) (sym operator-is) right-rest);
+            };
         line-most = line-low;
         named = g .named;
         index-low = omega (arith, g .named .order, g .named .most, g .room);
         short = subst (λ (js : List Item). Each Short-item js) (here .rest-is) (rest-short g);
-        ranged = subst (λ (js : List Item). Each Ranged-item js) (here .rest-is)
-            (all-ranged (length s) (d .tables) (all-labels d items) items own (fine-here g) counted faultless);
-        right = subst (λ (js : List Item). Each Right-argument (arguments (operator-of number) js)) (here .rest-is)
-            (subst (λ (o : Op). Each Right-argument (arguments o (rest items))) (sym operator-is) right-rest);
       }
 
   module _ {r : Fault} {c′ : List ℕ} (u : Declares s (h .op) number line (marks-in ms a b) c r c′) where

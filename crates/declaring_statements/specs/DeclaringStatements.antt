@@ -5,11 +5,13 @@ use Prim.Native.Nat.{ℕ, _≤_}
 use lib.ListN.{length, drop}
 use Rattle.acceptance.specs.Drafts.{Sound-draft}
 use Rattle.acceptance.specs.RowLaws.{Answered}
+use Rattle.arguments.specs.Valued.{Values-read}
+use Rattle.arguments.specs.declared.Values.{Values}
 use Rattle.declaring.specs.Declaring.{marks-in, Named}
 use Rattle.drafts.specs.Marks.{mark}
 use Rattle.drafts.specs.Tabled.{Spelt, Tabled}
 use Rattle.faults.specs.Groups.{early-questions}
-use Rattle.heads.specs.Heads.{Headed}
+use Rattle.heads.specs.Heads.{instr-of, Headed}
 use Rattle.heads.specs.declared.Head.{Head}
 use Rattle.language.specs.Limits as limit
 use Rattle.layout.specs.Bounds.{Each}
@@ -35,10 +37,11 @@ pub record Admitted (s : List ℕ) (n : ℕ) (d : Draft) (h : Head) (line : ℕ)
   pub marks : marks-in ms a b ≡ map mark (all-labels d (statement-at s n))
   pub spelt : Each (Spelt s) (d .waiting)
 
-pub record Admissible (s : List ℕ) (h : Head) (line : ℕ) (ms : List ℕ) (a b : ℕ) (c sw en : List ℕ) : Type 0 where
+pub record Admissible (s : List ℕ) (h : Head) (v : Values) (line : ℕ) (ms : List ℕ) (a b : ℕ) (c sw en : List ℕ) : Type 0 where
   pub at : ℕ
   pub draft : Draft
   pub admitted : Admitted s at draft h line ms a b c sw en
+  pub values : Values-read s (h .op .next) (instr-of (h .keyword)) v
 
 -- question 11 is told; where it is answered yes, the tables are those after the statement
 pub record Admits (s : List ℕ) (h : Head) (line : ℕ) (ms : List ℕ) (a b : ℕ) (c sw en : List ℕ) (r : Fault) (c′ sw′ en′ : List ℕ) : Type 0 where

@@ -1,5 +1,6 @@
 // A judged statement comes to the tables: an instruction, a switch, or neither.
 ghost use Rattle.declaring_statements.specs.DeclaringStatements.{Admissible, Admits};
+use arguments::Values;
 use declaring::declare_instruction;
 use declaring_switches::declare_switch;
 use heads::Head;
@@ -13,6 +14,7 @@ use statements::Fault;
 pub fn declare_statement(
     text: &[u8],
     head: Head,
+    values: Values,
     line: usize,
     names: &[u32],
     from: usize,
@@ -21,14 +23,14 @@ pub fn declare_statement(
     switches: &mut [u32],
     entries: &mut [u32],
 ) -> Fault
-    requires { ⌜ Admissible (now text) head line (now names) from to (now table) (now switches) (now entries) ⌝ }
+    requires { ⌜ Admissible (now text) head values line (now names) from to (now table) (now switches) (now entries) ⌝ }
     ensures { λ r. ⌜ Admits (now (text .entry)) head line (now (names .entry)) from to (now (table .entry)) (now (switches .entry)) (now (entries .entry)) r (now (table .exit)) (now (switches .exit)) (now (entries .exit)) ⌝ }
 {
     let op = head.op;
     let keyword = head.keyword;
     let number = instr_of(keyword);
     if number != 0 {
-        return declare_instruction(text, op, number, line, names, from, to, table);
+        return declare_instruction(text, op, number, values, line, names, from, to, table);
     }
     if is_switch(keyword) {
         let name = names[from];

@@ -99,7 +99,7 @@ module _ {s : List ℕ} {n : ℕ} {c : List ℕ} (pre : Judgeable-switch s n c) 
   pub list-enterable : Enterable Short-item s n c
   list-enterable = record { inside = pre .inside; held = pre .held; within = pre .short }
 
-  pub judged-switch : {tr : Fault} {d : List ℕ} → Enters sameBytes (λ i. i .chars) long-text (λ p. p .texts) set-texts s n c tr d → (at : ℕ) {ir lr x y : Fault}
+  pub judged-switch : {tr : Fault} {d : List ℕ} → Enters sameBytes (λ i. i .chars) long-text (λ p. p .texts) set-texts (statement-at s n) c tr d → (at : ℕ) {ir lr x y : Fault}
       → Switch-told c at ir → Entries-told s n c lr → x ≡ lower ir lr → y ≡ lower x tr → Judges-switch s at n c y d
   unfolding switch-excess with-texts
   judged-switch {tr} {d} t at {ir} {lr} {x} {y} a b f g =

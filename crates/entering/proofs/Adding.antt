@@ -7,6 +7,7 @@ use native.Mathlib.Omega.{arith}
 use lib.Dec.{ltb, eqb, leb·suc-suc}
 use lib.ListN.{length, take, drop, length-take}
 use borrow.Author.Tests.{lt-ltb, le-ltb, le-leb, lt-leb}
+use Rattle.arguments.specs.Valued.{is-text, text-from, text-to, Spells, Item-valued}
 use Rattle.language.specs.Limits as limit
 use Rattle.language.specs.Program.{Program}
 use Rattle.lists.specs.Lists.{any, ahead, sameBytes}
@@ -15,10 +16,12 @@ use Rattle.cells.proofs.Laws.{pasted-front}
 use Rattle.lexer.specs.declared.Token.{Token}
 use Rattle.lexer.specs.Tokens.{chars-of, item-of, Stands}
 use Rattle.lexer.proofs.Finding.{is-sort}
-use Rattle.spelling.specs.Spelling.{Put}
+use Rattle.spelling.specs.Spelling.{Put, text-in, Fits-text}
 use Rattle.syntax.specs.Items.{Item}
 use Rattle.syntax.specs.Items.Sort.{text}
-use Rattle.entering.specs.Entering.{Adds, Addable, EntersOne, Enterable-item, set-texts, set-numbers, long-text, Short-item}
+use Rattle.table.specs.declared.Argument.{Argument}
+use Rattle.table.specs.declared.Argument.the-variants.{Text}
+use Rattle.entering.specs.Entering.{Adds, Addable, EntersOne, Enterable-item, Enterable-value, set-texts, set-numbers, long-text, Short-item}
 use Rattle.entering.proofs.Rows.{Table-of}
 
 -- the tables of texts and of numbers
@@ -96,6 +99,14 @@ module _ {X : Type 0} (equal : X → X → Bool) (value-of : Item → X) (passes
       let k = subst (λ (y : X). Adds equal table-of set-table y c r d) q h in
       record { told = λ p g. rw e (k .told p g); holds = λ z p g. rw e (k .holds z p g); same = k .same; beyond-same = k .beyond-same }
 
+-- characters in front of a buffer
+module _ {d o w : List ℕ} {n : ℕ} (h : Put d 0 w n o) where
+  pub put-front : take n o ≡ w
+  put-front = rw (h .is) (pasted-front d w n (omega (arith, h .next)))
+
+  pub put-long : n ≤ length o
+  put-long = omega (arith, ap length put-front, length-take n o, h .next)
+
 -- a text of a token
 long-text-is : {s : List ℕ} {t : Token} → Stands s t → {r : Bool} → r ≡ (eqb 4 (t .sort) && ltb 1 (t .len)) → long-text (item-of s t) ≡ r
 long-text-is h q = rw (is-sort text h, h .count) (sym q)
@@ -109,12 +120,42 @@ module _ {s : List ℕ} {t : Token} {c : List ℕ} (pre : Enterable-item Short-i
       → Adds sameBytes (λ p. p .texts) set-texts w c a d → EntersOne sameBytes (λ i. i .chars) long-text (λ p. p .texts) set-texts (item-of s t) c a d
   text-entered q e {w} z h = enters-value sameBytes (λ i. i .chars) long-text (λ p. p .texts) set-texts texts-laws (item-of s t) (long-text-is (pre .stands) q ∙ e) w z h
 
-  -- its characters in front of a buffer
-  pub text-front : {d o : List ℕ} {n : ℕ} → Put d 0 (chars-of s t) n o → take n o ≡ chars-of s t
-  text-front {d} {o} {n} h = rw (h .is) (pasted-front d (chars-of s t) n (omega (arith, h .next)))
-
-  pub text-long : {d o : List ℕ} {n : ℕ} → Put d 0 (chars-of s t) n o → n ≤ length o
-  text-long {d} {o} {n} h = omega (arith, ap length (text-front h), length-take n o, h .next)
-
   pub text-addable : {d o : List ℕ} {n m : ℕ} → Put d 0 (chars-of s t) n o → m ≡ length (take n o) → Addable c m
-  text-addable {d} {o} {n} h q = record { held = pre .held; short = omega (arith, q, ap length (text-front h), pre .stands .count, pre .as-asked) }
+  text-addable {d} {o} {n} h q = record { held = pre .held; short = omega (arith, q, ap length (put-front h), pre .stands .count, pre .as-asked) }
+
+-- the text that a value names
+module _ {s : List ℕ} {i : Item} {x : Argument} (h : Item-valued s i x) where
+  abbrev One : List ℕ → Bool → List ℕ → Type 0
+  One c r d = EntersOne sameBytes (λ j. j .chars) long-text (λ p. p .texts) set-texts i c r d
+
+  pub value-past : is-text x ≡ false → {c : List ℕ} → One c true c
+  value-past e = enters-past sameBytes (λ j. j .chars) long-text (λ p. p .texts) set-texts texts-laws i (ap (λ (b : Bool). b && ltb 1 (length (i .chars))) (h .text-is ∙ e))
+
+  module _ {m : ℕ} (e : x ≡ Text m) where
+    named : text-in s (text-from m) (text-to m) ≡ i .chars
+    named = subst (Spells s (i .chars)) e (h .spelt) .is
+
+    long-is : long-text i ≡ ltb 1 (length (text-in s (text-from m) (text-to m)))
+    long-is = ap (λ (b : Bool). b && ltb 1 (length (i .chars))) (h .text-is ∙ ap is-text e) ∙ ap (λ (w : List ℕ). ltb 1 (length w)) (sym named)
+
+    module _ {n : ℕ} {d o : List ℕ} (k : Put d 0 (text-in s (text-from m) (text-to m)) n o) where
+      pub value-small : n < 2 → {c : List ℕ} → One c true c
+      value-small l = enters-past sameBytes (λ j. j .chars) long-text (λ p. p .texts) set-texts texts-laws i
+          (long-is ∙ le-ltb 1 (length (text-in s (text-from m) (text-to m))) (omega (arith, k .next, l)))
+
+      pub value-entered : 2 ≤ n → {c : List ℕ} {a : Bool} {d′ : List ℕ} → Adds sameBytes (λ p. p .texts) set-texts (take n o) c a d′ → One c a d′
+      value-entered l q =
+          enters-value sameBytes (λ j. j .chars) long-text (λ p. p .texts) set-texts texts-laws i
+          (long-is ∙ lt-ltb 1 (length (text-in s (text-from m) (text-to m))) (omega (arith, k .next, l))) (take n o) (put-front k ∙ named) q
+
+-- its characters in front of a buffer
+module _ {s : List ℕ} {x : Argument} {c : List ℕ} (u : Enterable-value s x c) {m : ℕ} (e : x ≡ Text m) where
+  pub value-fits : {d : List ℕ} → length d ≡ 60 → Fits-text s (text-from m) (text-to m) d
+  value-fits l =
+      let k = subst (Spells s (u .item .chars)) e (u .valued .spelt) in
+      record { between = k .between; room = omega (arith, ap length (k .is), u .short, l) }
+
+  pub value-addable : {d o : List ℕ} {n k : ℕ} → Put d 0 (text-in s (text-from m) (text-to m)) n o → k ≡ length (take n o) → Addable c k
+  value-addable {d} {o} {n} h q =
+      let k = subst (Spells s (u .item .chars)) e (u .valued .spelt) in
+      record { held = u .held; short = omega (arith, q, ap length (put-front h), ap length (k .is), u .short) }

@@ -1,3 +1,4 @@
 pub mod Rows
 pub mod Adding
 pub mod Numbers
+pub mod ValueRows

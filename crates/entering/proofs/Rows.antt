@@ -59,7 +59,7 @@ module _ {X : Type 0} (equal : X → X → Bool) (value-of : Item → X) (passes
 
     module _ {d : List ℕ} {i : ℕ} (u : Entering s n c d i) {t : Token} (k : Next-token s i t) where
       -- no item is left
-      pub entered : stops (t .sort) ≡ true → Enters equal value-of passes table-of set-table s n c Clear d
+      pub entered : stops (t .sort) ≡ true → Enters equal value-of passes table-of set-table (statement-at s n) c Clear d
       unfolding fresh
       entered z =
           record {
@@ -102,7 +102,7 @@ module _ {X : Type 0} (equal : X → X → Bool) (value-of : Item → X) (passes
           answer p g = h .told (set-table (now-of p g) p) (u .reached p g .holds) ∙ ap (λ (v : List X). not (passes x && full equal (value-of x) v)) (got p g)
 
           -- this one has no place
-          pub entered-none : r ≡ false → Enters equal value-of passes table-of set-table s n c (At (t .at)) d′
+          pub entered-none : r ≡ false → Enters equal value-of passes table-of set-table (statement-at s n) c (At (t .at)) d′
           entered-none q =
               record {
                 told = λ p g. sym (u .reached p g .fault ∙ ap (λ (ys : List Item). fault-of (excess equal value-of passes (now-of p g) ys)) (at-item k z) ∙ here p g);

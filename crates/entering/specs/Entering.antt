@@ -6,20 +6,24 @@ use Prim.Native.Nat.{ℕ, _≤_}
 use lib.Dec.{T, leb, ltb}
 use lib.ListN.{length, drop}
 use lib.IntN.{ℤ, natAbs}
+use Rattle.arguments.specs.Valued.{Item-valued, Valued}
+use Rattle.arguments.specs.declared.Values.{Values}
 use Rattle.language.specs.Limits as limit
 use Rattle.language.specs.Program.{Program}
-use Rattle.language.specs.Values.{sameNumber, numeral, in-range}
+use Rattle.language.specs.Values.{sameNumber, numeral}
 use Rattle.layout.specs.Bounds.{Each}
 use Rattle.lexer.specs.declared.Token.{Token}
 use Rattle.lexer.specs.Tokens.{item-of, Stands}
-use Rattle.lists.specs.Lists.{any, keep}
+use Rattle.lists.specs.Lists.{any, keep, sameBytes}
 use Rattle.statements.specs.StatementAt.{statement-at, fault-of}
 use Rattle.statements.specs.declared.Fault.{Fault}
 use Rattle.statements.specs.declared.Fault.the-variants.{Clear}
+use Rattle.syntax.specs.ArgumentForms.{Argument as Argument-read}
 use Rattle.syntax.specs.Items.{Item, is, places}
 use Rattle.syntax.specs.Items.Sort.{word, text}
 use Rattle.syntax.specs.Questions.{beyond}
 use Rattle.syntax.specs.Tables.{fresh, number-in}
+use Rattle.table.specs.declared.Argument.{Argument}
 use Rattle.writing.specs.Writing.{no-program, HoldsProgram, IsNumber}
 
 -- one value at a table of at most 128: the table with it, and whether it has no room
@@ -57,12 +61,9 @@ pub record Held (c : List ℕ) : Type 0 where
   pub program : Program
   pub holds : HoldsProgram c program
 
--- an item is short; a number is in range
+-- an item is short
 abbrev pub Short-item : Item → Type 0
 Short-item i = length (i .chars) ≤ limit.item
-
-abbrev pub Ranged-item : Item → Type 0
-Ranged-item i = T (is word i) → T (numeral (i .chars)) → T (in-range (number-in i))
 
 -- each item of the statement at n is as P says, and the cells c hold some program
 pub record Enterable (P : Item → Type 0) (s : List ℕ) (n : ℕ) (c : List ℕ) : Type 0 where
@@ -75,11 +76,11 @@ pub record Still {X : Type 0} (set-table : List X → Program → Program) (p : 
   pub table : List X
   pub holds : HoldsProgram d (set-table table p)
 
--- Whatever program p the cells c hold: the places in excess are told; where there is none, the cells d hold p with all values added, and else with some of them
+-- Of the items js, whatever program p the cells c hold: the places in excess are told; where there is none, the cells d hold p with all values added, and else with some of them
 pub record Enters {X : Type 0} (equal : X → X → Bool) (value-of : Item → X) (passes : Item → Bool) (table-of : Program → List X) (set-table : List X → Program → Program)
-    (s : List ℕ) (n : ℕ) (c : List ℕ) (r : Fault) (d : List ℕ) : Type 0 where
-  pub told : (p : Program) → HoldsProgram c p → r ≡ fault-of (excess equal value-of passes (table-of p) (statement-at s n))
-  pub holds : r ≡ Clear → (p : Program) → HoldsProgram c p → HoldsProgram d (set-table (all-added equal value-of passes (table-of p) (statement-at s n)) p)
+    (js : List Item) (c : List ℕ) (r : Fault) (d : List ℕ) : Type 0 where
+  pub told : (p : Program) → HoldsProgram c p → r ≡ fault-of (excess equal value-of passes (table-of p) js)
+  pub holds : r ≡ Clear → (p : Program) → HoldsProgram c p → HoldsProgram d (set-table (all-added equal value-of passes (table-of p) js) p)
   pub still : (p : Program) → HoldsProgram c p → Still set-table p d
   pub beyond-same : drop limit.table d ≡ drop limit.table c
 
@@ -103,7 +104,7 @@ pub record Addable (c : List ℕ) (n : ℕ) : Type 0 where
   pub held : Held c
   pub short : n ≤ limit.item
 
--- one item
+-- one item of a text that is read
 pub record Enterable-item (P : Item → Type 0) (s : List ℕ) (t : Token) (c : List ℕ) : Type 0 where
   pub stands : Stands s t
   pub held : Held c
@@ -112,3 +113,39 @@ pub record Enterable-item (P : Item → Type 0) (s : List ℕ) (t : Token) (c : 
 -- whatever number has this code
 abbrev pub AddsCode : ℕ → List ℕ → Bool → List ℕ → Type 0
 AddsCode n c r d = (z : ℤ) → IsNumber n z no-program → Adds sameNumber (λ p. p .numbers) set-numbers z c r d
+
+-- the value x of some short item
+pub record Enterable-value (s : List ℕ) (x : Argument) (c : List ℕ) : Type 0 where
+  pub item : Item
+  pub valued : Item-valued s item x
+  pub short : Short-item item
+  pub held : Held c
+
+-- the values v of some short items
+pub record Enterable-values (s : List ℕ) (v : Values) (c : List ℕ) : Type 0 where
+  pub items : List Item
+  pub args : List Argument-read
+  pub valued : Valued s items args v
+  pub short : Each Short-item items
+  pub held : Held c
+
+-- the same, of some text
+pub record Some-values (v : Values) (c : List ℕ) : Type 0 where
+  pub text : List ℕ
+  pub enterable : Enterable-values text v c
+
+-- whatever item has the value x, and whatever items have the values v
+abbrev pub Text-entered : List ℕ → Argument → List ℕ → Bool → List ℕ → Type 0
+Text-entered s x c r d = (i : Item) → Item-valued s i x → EntersOne sameBytes (λ j. j .chars) long-text (λ p. p .texts) set-texts i c r d
+
+abbrev pub Number-entered : Argument → List ℕ → Bool → List ℕ → Type 0
+Number-entered x c r d =
+    (s : List ℕ) (i : Item) → Item-valued s i x → EntersOne sameNumber number-in large-number (λ p. p .numbers) set-numbers i c r d
+
+abbrev pub Texts-entered : List ℕ → Values → List ℕ → Fault → List ℕ → Type 0
+Texts-entered s v c r d =
+    (js : List Item) (args : List Argument-read) → Valued s js args v → Enters sameBytes (λ j. j .chars) long-text (λ p. p .texts) set-texts js c r d
+
+abbrev pub Numbers-entered : Values → List ℕ → Fault → List ℕ → Type 0
+Numbers-entered v c r d =
+    (s : List ℕ) (js : List Item) (args : List Argument-read) → Valued s js args v → Enters sameNumber number-in large-number (λ p. p .numbers) set-numbers js c r d

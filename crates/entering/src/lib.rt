@@ -4,18 +4,17 @@ ghost use mathlib.Core.Bool.{_&&_, _||_};
 ghost use lib.Dec.{eqb, ltb};
 ghost use lib.ListN.{length};
 ghost use Rattle.lexer.specs.Tokens.{item-of};
-ghost use Rattle.language.specs.Values.{sameNumber};
 ghost use Rattle.lists.specs.Lists.{sameBytes};
-ghost use Rattle.syntax.specs.Tables.{number-in};
-ghost use Rattle.entering.specs.Entering.{Short-item, Ranged-item, set-texts, set-numbers, long-text, large-number, Held, AddsCode, Addable, Adds, Enterable, Enterable-item, EntersOne, Enters};
+ghost use Rattle.statements.specs.StatementAt.{statement-at};
+ghost use Rattle.entering.specs.Entering.{Short-item, set-texts, long-text, Held, AddsCode, Addable, Adds, Enterable, Enterable-item, EntersOne, Enters, Enterable-value, Enterable-values, Some-values, Text-entered, Number-entered, Texts-entered, Numbers-entered};
+use arguments::Values;
 use language::Machine;
 use lexer::Token;
 use lexer::next_item;
 use scanner::TEXT;
-use scanner::WORD;
 use statements::Fault;
 use statements::stops;
-use words::Numeral;
+use table::Argument;
 
 // Adds a text, unless it is there; whether it is there then.
 fn add_text(table: &mut [u32], word: &[u8]) -> bool
@@ -56,7 +55,7 @@ fn enter_text(text: &[u8], t: Token, table: &mut [u32]) -> bool
 // Adds the texts of the items from place `n` on; the first that has no room.
 pub fn enter_texts(text: &[u8], n: usize, table: &mut [u32]) -> Fault
     requires { ⌜ Enterable Short-item (now text) n (now table) ⌝ }
-    ensures { λ r. ⌜ Enters sameBytes (λ i. i .chars) long-text (λ p. p .texts) set-texts (now (text .entry)) n (now (table .entry)) r (now (table .exit)) ⌝ }
+    ensures { λ r. ⌜ Enters sameBytes (λ i. i .chars) long-text (λ p. p .texts) set-texts (statement-at (now (text .entry)) n) (now (table .entry)) r (now (table .exit)) ⌝ }
 {
     let mut i = n;
     loop {
@@ -96,43 +95,82 @@ fn is_large(code: u32) -> bool
     (code < 8388592) | (8388622 < code)
 }
 
-// The same for the number of an item that is beyond 15 in size.
-fn enter_number(text: &[u8], t: Token, table: &mut [u32]) -> bool
-    requires { ⌜ Enterable-item Ranged-item (now text) t (now table) ⌝ }
-    ensures { λ r. ⌜ EntersOne sameNumber number-in large-number (λ p. p .numbers) set-numbers (item-of (now (text .entry)) t) (now (table .entry)) r (now (table .exit)) ⌝ }
+// Adds the text of a value, unless it has one character or none; whether it is there then.
+fn enter_text_of(text: &[u8], x: Argument, table: &mut [u32]) -> bool
+    requires { ⌜ Enterable-value (now text) x (now table) ⌝ }
+    ensures { λ r. ⌜ Text-entered (now (text .entry)) x (now (table .entry)) r (now (table .exit)) ⌝ }
 {
-    if t.sort != WORD {
-        return true;
+    match x {
+        Argument::Text(m) => {
+            let mut word = [0u8; 60];
+            let n = spelling::put_text(text, m / 65536 + 1, m % 65536, &mut word);
+            if n < 2 {
+                return true;
+            }
+            add_text(table, &word[..n])
+        }
+        _ => true,
     }
-    let at = t.at;
-    let end = t.end;
-    match words::number_of(&text[at..end]) {
-        Numeral::Not => true,
-        Numeral::Code(code) => {
+}
+
+// Adds the texts of an instruction's arguments; the place of the first that has no room.
+pub fn enter_text_values(text: &[u8], v: Values, table: &mut [u32]) -> Fault
+    requires { ⌜ Enterable-values (now text) v (now table) ⌝ }
+    ensures { λ r. ⌜ Texts-entered (now (text .entry)) v (now (table .entry)) r (now (table .exit)) ⌝ }
+{
+    let first = v.first;
+    let second = v.second;
+    let third = v.third;
+    let f = first.argument;
+    let s = second.argument;
+    let t = third.argument;
+    if !enter_text_of(text, f, table) {
+        return Fault::At(first.at);
+    }
+    if !enter_text_of(text, s, table) {
+        return Fault::At(second.at);
+    }
+    if !enter_text_of(text, t, table) {
+        return Fault::At(third.at);
+    }
+    Fault::Clear
+}
+
+// Adds the number of a value, unless it is within 15 in size; whether it is there then.
+fn enter_number_of(x: Argument, table: &mut [u32]) -> bool
+    requires { ⌜ Held (now table) ⌝ }
+    ensures { λ r. ⌜ Number-entered x (now (table .entry)) r (now (table .exit)) ⌝ }
+{
+    match x {
+        Argument::Number(code) => {
             if !is_large(code) {
                 return true;
             }
             add_number(table, code)
         }
+        _ => true,
     }
 }
 
-// Adds the numbers of the items from place `n` on; the first that has no room.
-pub fn enter_numbers(text: &[u8], n: usize, table: &mut [u32]) -> Fault
-    requires { ⌜ Enterable Ranged-item (now text) n (now table) ⌝ }
-    ensures { λ r. ⌜ Enters sameNumber number-in large-number (λ p. p .numbers) set-numbers (now (text .entry)) n (now (table .entry)) r (now (table .exit)) ⌝ }
+// Adds the numbers of an instruction's arguments; the place of the first that has no room.
+pub fn enter_number_values(v: Values, table: &mut [u32]) -> Fault
+    requires { ⌜ Some-values v (now table) ⌝ }
+    ensures { λ r. ⌜ Numbers-entered v (now (table .entry)) r (now (table .exit)) ⌝ }
 {
-    let mut i = n;
-    loop {
-        let t = next_item(text, i);
-        if stops(t.sort) {
-            return Fault::Clear;
-        }
-        let at = t.at;
-        let next = t.next;
-        if !enter_number(text, t, table) {
-            return Fault::At(at);
-        }
-        i = next;
+    let first = v.first;
+    let second = v.second;
+    let third = v.third;
+    let f = first.argument;
+    let s = second.argument;
+    let t = third.argument;
+    if !enter_number_of(f, table) {
+        return Fault::At(first.at);
     }
+    if !enter_number_of(s, table) {
+        return Fault::At(second.at);
+    }
+    if !enter_number_of(t, table) {
+        return Fault::At(third.at);
+    }
+    Fault::Clear
 }

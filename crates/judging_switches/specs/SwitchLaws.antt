@@ -11,9 +11,9 @@ use Rattle.heads.specs.declared.Head.{Head}
 use Rattle.heads.specs.Heads.{is-switch, is-by-name, instr-of, Headed}
 use Rattle.heads.specs.HeadLaws.{no-keyword, operator-here, rest-here, filled-colon}
 use Rattle.judging.specs.NameLaws.{fault-one}
-use Rattle.judging_arguments.specs.Arguments.{Instr-fault}
-use Rattle.judging_arguments.specs.ArgumentLaws.{instr-is}
-use Rattle.judging_arguments.specs.CountLaws.{numbered, this-instruction, has-operator}
+use Rattle.arguments.specs.Arguments.{Instr-fault}
+use Rattle.arguments.specs.ArgumentLaws.{instr-is}
+use Rattle.arguments.specs.CountLaws.{numbered, this-instruction, has-operator}
 use Rattle.language.specs.Program.{Op}
 use Rattle.lexer.specs.declared.Token.{Token}
 use Rattle.lexer.specs.Tokens.{item-of, colon-of, Stands, Next-token}

@@ -1,19 +1,17 @@
-// Question 02 of a statement: the list of a switch, and the arguments of an instruction.
+// Question 02 of a statement that is no instruction: the list of a switch.
 ghost use mathlib.Core.Path.{_≡_};
 ghost use mathlib.Core.Bool.{false};
 ghost use Prim.Native.Nat.{_≤_};
 ghost use lib.ListN.{length};
-ghost use Rattle.heads.specs.Heads.{Headed};
+ghost use Rattle.heads.specs.Heads.{instr-of, Headed};
 ghost use Rattle.lexer.specs.Tokens.{Stands};
 ghost use Rattle.statements.specs.StatementAt.{statement-at, fault-of};
 ghost use Rattle.syntax.specs.Statements.{list-faults};
 ghost use Rattle.judging_switches.specs.Switches.{is-clear, entry-at, text-next, switch-after, argument-question};
 use heads::Head;
-use heads::instr_of;
 use heads::is_by_name;
 use heads::is_name;
 use heads::is_switch;
-use judging_arguments::instr_fault;
 use lexer::Token;
 use lexer::next_item;
 use scanner::TEXT;
@@ -91,17 +89,13 @@ fn switch_fault(text: &[u8], t: Token, named: bool) -> Fault
     list_fault(text, t.next, named)
 }
 
-// Question 02 of the statement at `n`.
-pub fn argument_fault(text: &[u8], n: usize, head: Head) -> Fault
-    requires { ⌜ Headed (now text) n head ⌝ }
+// Question 02 of the statement at `n`, which is no instruction.
+pub fn list_question(text: &[u8], n: usize, head: Head) -> Fault
+    requires { ⌜ Headed (now text) n head × (instr-of (head .keyword) ≡ 0) ⌝ }
     ensures { λ r. ⌜ r ≡ fault-of (argument-question (statement-at (now (text .entry)) n)) ⌝ }
 {
     let keyword = head.keyword;
     let t = head.op;
-    let op = instr_of(keyword);
-    if op != 0 {
-        return instr_fault(text, t, op);
-    }
     if is_switch(keyword) {
         return switch_fault(text, t, is_by_name(keyword));
     }

@@ -6,9 +6,11 @@ use Prim.Native.Nat.{ℕ}
 use native.Mathlib.Omega.{arith}
 use lib.ListN.{length}
 use Rattle.acceptance.specs.RowLaws.{answered, Answered}
-use Rattle.asking.specs.Asking.{Head-asked}
 use Rattle.faults.specs.FaultLaws.{question-decides, first-no-both}
 use Rattle.faults.specs.Faults.{verdict-of, decided, then}
+use Rattle.arguments.specs.declared.Values.{Values}
+use Rattle.asking.specs.Asking.{Head-asked, Head-values, Arguments-asked}
+use Rattle.asking.specs.declared.Asked.{Asked}
 use Rattle.faults.specs.Groups.{item-questions, head-questions, name-questions, argument-questions, early-questions}
 use Rattle.faults.specs.declared.Verdict as told
 use Rattle.faults.specs.declared.Verdict.the-variants.{Yes, No}
@@ -33,19 +35,32 @@ unfolding first-no decide
 all-yes [] h = refl
 all-yes (q ∷ qs) h = ap (λ (ps : List ℕ). decide (q .number) ps (first-no qs)) (h .0) ∙ all-yes qs (h .1)
 
-not-names : {number at k : ℕ} → judged.Refused number at ≡ judged.Names k → ⊥
+not-names : {number at k : ℕ} {v : Values} → judged.Refused number at ≡ judged.Names k v → ⊥
 not-names e = let y : _≡_ {A = ℕ} 0 1 = cc in omega arith
 
-same-count : {k l : ℕ} → judged.Names k ≡ judged.Names l → l ≡ k
+same-count : {k l : ℕ} {v w : Values} → judged.Names k v ≡ judged.Names l w → l ≡ k
 same-count {k} {l} e = let q : k ≡ l = cc in sym q
 
--- 01 and 02
-module _ (s : List ℕ) (n count : ℕ) (v : told.Verdict) (h : verdict-of v ≡ first-no (argument-questions (statement-at s n))) where
-  pub arguments-refused : {number at : ℕ} → v ≡ No number at → Arguments-judged s n count (judged.Refused number at)
-  arguments-refused e = (sym (ap verdict-of e) ∙ h, λ k q. absurd (not-names q))
+same-values : {k l : ℕ} {v w : Values} → judged.Names k v ≡ judged.Names l w → v ≡ w
+same-values e = cc
 
-  pub arguments-pass : v ≡ Yes → Arguments-judged s n count (judged.Names count)
-  arguments-pass e = (sym (ap verdict-of e) ∙ h, λ k q. same-count q)
+-- 01 and 02
+module _ {s : List ℕ} {n : ℕ} {h : Head} (count : ℕ) {a : Asked} (g : Arguments-asked s n h a) where
+  pub arguments-refused : {number at : ℕ} → a .verdict ≡ No number at → Arguments-judged s n h count (judged.Refused number at)
+  arguments-refused e =
+      record {
+        told = sym (ap verdict-of e) ∙ g .verdict-is;
+        count-is = λ k v q. absurd (not-names q);
+        values-are = λ k v q. absurd (not-names q);
+      }
+
+  pub arguments-pass : a .verdict ≡ Yes → Arguments-judged s n h count (judged.Names count (a .values))
+  arguments-pass e =
+      record {
+        told = sym (ap verdict-of e) ∙ g .verdict-is;
+        count-is = λ k v q. same-count q;
+        values-are = λ k v q. subst (Head-values s h) (same-values q) (g .values-are e);
+      }
 
 -- 06
 module _ {s : List ℕ} {n : ℕ} {h : Head} {ms : List ℕ} {a b : ℕ} {ms′ : List ℕ} {c : Collected} (k : Collecting s n ms b ms′ c) where
@@ -60,14 +75,16 @@ module _ {s : List ℕ} {n : ℕ} {h : Head} {ms : List ℕ} {a b : ℕ} {ms′ 
   names-refused e =
       record {
         told = λ d g. sym (name-verdict d g ∙ ap (λ (f : Fault). then (decided 6 f) (first-no (argument-questions (statement-at s n)))) e);
-        gathered = λ d g j q. absurd (not-names q);
+        gathered = λ d g j w q. absurd (not-names q);
+        values-are = λ j w q. absurd (not-names q);
       }
 
-  pub names-pass : {r : Judged} → length ms′ ≡ length ms → c .fault ≡ Clear → Arguments-judged s n (c .count) r → Gathers s n h ms a b ms′ r
+  pub names-pass : {r : Judged} → length ms′ ≡ length ms → c .fault ≡ Clear → Arguments-judged s n h (c .count) r → Gathers s n h ms a b ms′ r
   names-pass kept e j =
       record {
-        told = λ d g. j .0 ∙ sym (name-verdict d g ∙ ap (λ (f : Fault). then (decided 6 f) (first-no (argument-questions (statement-at s n)))) e);
-        gathered = λ d g i q. subst (Gathered s n d ms′ a) (sym (j .1 i q)) (gathering.gathered g kept k e);
+        told = λ d g. j .told ∙ sym (name-verdict d g ∙ ap (λ (f : Fault). then (decided 6 f) (first-no (argument-questions (statement-at s n)))) e);
+        gathered = λ d g i v q. subst (Gathered s n d ms′ a) (sym (j .count-is i v q)) (gathering.gathered g kept k e);
+        values-are = j .values-are;
       }
 
 -- 00 or 10, and 08
@@ -88,7 +105,8 @@ module _ {s : List ℕ} {n : ℕ} {h : Head} {first : Bool} {ms : List ℕ} {a b
         told = λ d g f.
             sym (head-verdict d g f
             ∙ ap (λ (u : told.Verdict). then (verdict-of u) (first-no (name-questions d (statement-at s n) ++ argument-questions (statement-at s n)))) e);
-        gathered = λ d g j q. absurd (not-names q);
+        gathered = λ d g j w q. absurd (not-names q);
+        values-are = λ j w q. absurd (not-names q);
       }
 
   module _ (e : v ≡ Yes) where
@@ -108,4 +126,5 @@ module _ {s : List ℕ} {n : ℕ} {h : Head} {first : Bool} {ms : List ℕ} {a b
               ∙ sym (head-verdict d g f
               ∙ ap (λ (u : told.Verdict). then (verdict-of u) (first-no (name-questions d (statement-at s n) ++ argument-questions (statement-at s n)))) e);
           gathered = j .gathered;
+          values-are = j .values-are;
         }

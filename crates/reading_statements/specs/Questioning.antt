@@ -5,6 +5,8 @@ use mathlib.Core.List.{List, _++_, map}
 use Prim.Native.Nat.{ℕ, _≤_}
 use lib.ListN.{length}
 use Rattle.acceptance.specs.RowLaws.{Answered}
+use Rattle.arguments.specs.declared.Values.{Values}
+use Rattle.asking.specs.Asking.{Head-values}
 use Rattle.declaring.specs.Declaring.{marks-in}
 use Rattle.drafts.specs.Marks.{mark}
 use Rattle.faults.specs.Groups.{item-questions, head-questions, name-questions, argument-questions, early-questions}
@@ -23,12 +25,12 @@ use Rattle.reading_statements.specs.declared.Read.{Read}
 use Rattle.reading_statements.specs.declared.Read.the-variants as reads
 
 abbrev pub judged-verdict : Judged → Verdict
-judged-verdict (judged.Names count) = yes
+judged-verdict (judged.Names count values) = yes
 judged-verdict (judged.Refused number at) = refuse number at
 
 -- as it is handed up; a count of names is never handed up so
 abbrev pub refusal-of : Judged → Read
-refusal-of (judged.Names count) = reads.Refused 0 0
+refusal-of (judged.Names count values) = reads.Refused 0 0
 refusal-of (judged.Refused number at) = reads.Refused number at
 
 -- the draft d of what is before the statement at n; the marks of the labels that wait go from index a to index b
@@ -51,8 +53,10 @@ pub record Gathered (s : List ℕ) (n : ℕ) (d : Draft) (ms : List ℕ) (a k : 
   pub marks : marks-in ms a k ≡ map mark (all-labels d (statement-at s n))
 
 -- 01 and 02
-abbrev pub Arguments-judged : List ℕ → ℕ → ℕ → Judged → Type 0
-Arguments-judged s n count r = (judged-verdict r ≡ first-no (argument-questions (statement-at s n))) × ((k : ℕ) → r ≡ judged.Names k → k ≡ count)
+pub record Arguments-judged (s : List ℕ) (n : ℕ) (h : Head) (count : ℕ) (r : Judged) : Type 0 where
+  pub told : judged-verdict r ≡ first-no (argument-questions (statement-at s n))
+  pub count-is : (k : ℕ) (v : Values) → r ≡ judged.Names k v → k ≡ count
+  pub values-are : (k : ℕ) (v : Values) → r ≡ judged.Names k v → Head-values s h v
 
 -- 06, 01 and 02, where the head has no fault
 pub record Gatherable (s : List ℕ) (n : ℕ) (h : Head) (ms : List ℕ) (a b : ℕ) : Type 0 where
@@ -63,7 +67,8 @@ pub record Gatherable (s : List ℕ) (n : ℕ) (h : Head) (ms : List ℕ) (a b :
 pub record Gathers (s : List ℕ) (n : ℕ) (h : Head) (ms : List ℕ) (a b : ℕ) (ms′ : List ℕ) (r : Judged) : Type 0 where
   pub told : (d : Draft) → Judging s n d h ms a b
       → judged-verdict r ≡ first-no (name-questions d (statement-at s n) ++ argument-questions (statement-at s n))
-  pub gathered : (d : Draft) → Judging s n d h ms a b → (k : ℕ) → r ≡ judged.Names k → Gathered s n d ms′ a k
+  pub gathered : (d : Draft) → Judging s n d h ms a b → (k : ℕ) (v : Values) → r ≡ judged.Names k v → Gathered s n d ms′ a k
+  pub values-are : (k : ℕ) (v : Values) → r ≡ judged.Names k v → Head-values s h v
 
 -- all of them
 pub record Askable (s : List ℕ) (n : ℕ) (h : Head) (first : Bool) (ms : List ℕ) (a b : ℕ) : Type 0 where
@@ -73,4 +78,5 @@ pub record Askable (s : List ℕ) (n : ℕ) (h : Head) (first : Bool) (ms : List
 
 pub record Asks (s : List ℕ) (n : ℕ) (h : Head) (first : Bool) (ms : List ℕ) (a b : ℕ) (ms′ : List ℕ) (r : Judged) : Type 0 where
   pub told : (d : Draft) → Judging s n d h ms a b → is-first d ≡ first → judged-verdict r ≡ first-no (early-questions d (statement-at s n))
-  pub gathered : (d : Draft) → Judging s n d h ms a b → (k : ℕ) → r ≡ judged.Names k → Gathered s n d ms′ a k
+  pub gathered : (d : Draft) → Judging s n d h ms a b → (k : ℕ) (v : Values) → r ≡ judged.Names k v → Gathered s n d ms′ a k
+  pub values-are : (k : ℕ) (v : Values) → r ≡ judged.Names k v → Head-values s h v

@@ -10,6 +10,7 @@ use Rattle.acceptance.specs.DraftLaws.{draft-sound}
 use Rattle.acceptance.specs.RowLaws.{each-map, answered, Answered}
 use Rattle.advancing.specs.Advancing.{Advanceable, Advancing, Advances}
 use Rattle.declaring_statements.specs.AdmittedLaws.{statement-sound}
+use Rattle.arguments.specs.declared.Values.{Values}
 use Rattle.declaring_statements.specs.DeclaringStatements.{Admitted, Admissible, Admits}
 use Rattle.drafts.specs.Tabled.{Spelt}
 use Rattle.faults.specs.FaultLaws.{question-decides, then-yes, first-no-both}
@@ -99,14 +100,14 @@ module _ {s : List ℕ} {n : ℕ} {h : Head} (k : Headed s n h) where
   abbrev x : List Item
   x = statement-at s n
 
-  module _ {line : ℕ} {g : Progress} {ms c sw en ms′ : List ℕ} {j : Judged} {i : ℕ}
-      (a : Asks s n h (eqb (g .section) 0) ms (from g) (g .names) ms′ j) (e : j ≡ judged.Names i) where
+  module _ {line : ℕ} {g : Progress} {ms c sw en ms′ : List ℕ} {j : Judged} {i : ℕ} {w : Values}
+      (a : Asks s n h (eqb (g .section) 0) ms (from g) (g .names) ms′ j) (e : j ≡ judged.Names i w) where
     module _ {d : Draft} (r : Reading s n line d g ms c sw en) where
       early-yes : first-no (early-questions d x) ≡ yes
       early-yes = sym (a .told d (judging k r) (r .standing .drafted .tells .section .first-is)) ∙ ap judged-verdict e
 
       gathered-here : Gathered s n d ms′ (from g) i
-      gathered-here = a .gathered d (judging k r) i e
+      gathered-here = a .gathered d (judging k r) i w e
 
       advanceable-here : Advanceable s n g h ms′ (from g) i
       advanceable-here =
@@ -176,8 +177,8 @@ module _ {s : List ℕ} {n : ℕ} {h : Head} (k : Headed s n h) where
     advanceable r = advanceable-here (r .reading)
 
     module _ {lines : ℕ} (l : Lines s n (h .op .at) lines) where
-      pub admissible : Readable s n line g ms c sw en → Admissible s h (line + lines) ms′ (from g) i c sw en
-      admissible r = record { at = n; draft = r .draft; admitted = admitted (r .reading) l }
+      pub admissible : Readable s n line g ms c sw en → Admissible s h w (line + lines) ms′ (from g) i c sw en
+      admissible r = record { at = n; draft = r .draft; admitted = admitted (r .reading) l; values = a .values-are i w e }
 
       module _ {f : Fault} {c′ sw′ en′ : List ℕ} (t : Admits s h (line + lines) ms′ (from g) i c sw en f c′ sw′ en′) where
         pub refused-beyond : {p : ℕ} → f ≡ At p → Reads s n line g ms c sw en (reads.Refused 11 p) ms′ c′ sw′ en′

@@ -1,9 +1,10 @@
 // One statement after the other: its questions in order, and what is known after it.
 ghost use mathlib.Core.Path.{_≡_};
-ghost use Rattle.heads.specs.Heads.{Headed};
+ghost use Rattle.asking.specs.Asking.{Arguments-askable};
 ghost use Rattle.reading_statements.specs.Questioning.{refusal-of, Arguments-judged, Gatherable, Gathers, Askable, Asks};
 ghost use Rattle.reading_statements.specs.ReadingStatements.{Readable, Reads};
 use advancing::progress_after;
+use arguments::Values;
 use asking::ask_arguments;
 use asking::ask_head;
 use declaring_statements::declare_statement;
@@ -23,18 +24,21 @@ pub enum Read {
 
 // How many names there are with those of a statement, or the number of the first question answered no and its place.
 enum Judged {
-    Names(usize),
+    Names(usize, Values),
     Refused(u8, usize),
 }
 
 // Questions 01 and 02 of a statement with which there are `count` names.
 fn judge_arguments(text: &[u8], n: usize, head: Head, count: usize) -> Judged
-    requires { ⌜ Headed (now text) n head ⌝ }
-    ensures { λ r. ⌜ Arguments-judged (now (text .entry)) n count r ⌝ }
+    requires { ⌜ Arguments-askable (now text) n head ⌝ }
+    ensures { λ r. ⌜ Arguments-judged (now (text .entry)) n head count r ⌝ }
 {
-    match ask_arguments(text, n, head) {
+    let a = ask_arguments(text, n, head);
+    let verdict = a.verdict;
+    let values = a.values;
+    match verdict {
         Verdict::No(number, at) => Judged::Refused(number, at),
-        Verdict::Yes => Judged::Names(count),
+        Verdict::Yes => Judged::Names(count, values),
     }
 }
 
@@ -74,7 +78,7 @@ fn refusal_of(j: Judged) -> Read
     ensures { λ r. ⌜ r ≡ refusal-of j ⌝ }
 {
     match j {
-        Judged::Names(_) => Read::Refused(0, 0),
+        Judged::Names(_, _) => Read::Refused(0, 0),
         Judged::Refused(number, at) => Read::Refused(number, at),
     }
 }
@@ -97,12 +101,23 @@ pub fn read_statement(
     let to = p.names;
     let from = to - p.waiting;
     let j = judge(text, n, head, p.section == 0, names, from, to);
-    let Judged::Names(count) = j else {
+    let Judged::Names(count, values) = j else {
         return refusal_of(j);
     };
     let op = head.op;
     let at = line + count_lines(text, n, op.at);
-    match declare_statement(text, head, at, names, from, count, table, switches, entries) {
+    match declare_statement(
+        text,
+        head,
+        values,
+        at,
+        names,
+        from,
+        count,
+        table,
+        switches,
+        entries,
+    ) {
         Fault::At(place) => Read::Refused(11, place),
         Fault::Clear => Read::Statement(progress_after(text, n, p, head, names, from, count)),
     }

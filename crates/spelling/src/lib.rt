@@ -32,7 +32,7 @@ fn put_char(out: &mut [u8], j: usize, star: bool, b: u8) -> usize
 }
 
 // Writes the characters of a text whose bytes stand from `at` to `end`.
-fn put_text(text: &[u8], at: usize, end: usize, out: &mut [u8]) -> usize
+pub fn put_text(text: &[u8], at: usize, end: usize, out: &mut [u8]) -> usize
     requires { ⌜ Fits-text (now text) at end (now out) ⌝ }
     ensures { λ r. ⌜ Put (now (out .entry)) 0 (text-in (now (text .entry)) at end) r (now (out .exit)) ⌝ }
 {

@@ -86,7 +86,8 @@ fn cell_at(table: &[u32], k: usize) -> u32
     0
 }
 
-fn letter_by(n: u32) -> Letter
+// The letter at a place among the twelve.
+pub fn letter_by(n: u32) -> Letter
     ensures { λ r. ⌜ letter-of r ≡ letter-at n ⌝ }
 {
     match n {

@@ -2,7 +2,8 @@
 use borrow.Author.Needs.{needs}
 use native.Mathlib.Omega.{arith}
 use lib.ListN.{length-take}
-use Rattle.argument_cells.proofs.Arguing.{texts-counted, put-long, front-told}
+use Rattle.entering.proofs.Adding.{put-long}
+use Rattle.argument_cells.proofs.Arguing.{texts-counted, front-told}
 use Rattle.argument_cells.proofs.item_text.Statement.{statement}
 use Rattle.argument_cells.proofs.item_text.Tie as tie
 

@@ -6,7 +6,7 @@ use Rattle.declaring.proofs.declare_instruction.Statement.{statement}
 use Rattle.declaring.proofs.declare_instruction.Tie as tie
 
 judge-instruction-requires : tie.Need-judge-instruction-requires
-judge-instruction-requires c κs = judgeable ((c .before .before .before .before .pre))
+judge-instruction-requires c κs = judgeable (c .before .before .before .before .pre)
 
 enum-known-p : tie.Need-enum-known-p
 enum-known-p c = search needs
@@ -15,19 +15,19 @@ enum-told : tie.Need-enum-told
 enum-told c = search needs
 
 write-instruction-requires : tie.Need-write-instruction-requires
-write-instruction-requires c κs = writable ((c .before .before .before .before .before .before .before .before .before .before .pre)) (c .before .before .before .before .before .judge-instruction .ensures) (c .before .enum-told .given .1)
+write-instruction-requires c κs = writable (c .before .before .before .before .before .before .before .before .before .before .pre) (c .before .before .before .before .before .judge-instruction .ensures) (c .before .enum-told .given .1)
 
 same-length : tie.Need-same-length
 same-length c = c .before .before .before .before .before .judge-instruction .kept .1 .1 .1 .1 .1 .1 .0
 
 returns : tie.Need-returns
-returns c = declared-none ((c .before .before .before .before .before .before .before .before .before .before .pre)) (c .before .before .before .before .before .judge-instruction .ensures) (c .before .p .given .1)
+returns c = declared-none (c .before .before .before .before .before .before .before .before .before .before .pre) (c .before .before .before .before .before .judge-instruction .ensures) (c .before .p .given .1)
 
 same-length-2 : tie.Need-same-length-2
 same-length-2 c = c .before .before .write-instruction .kept .1 .1 .1 .1 .1 .1 .1 .0 ∙ c .before .before .before .before .before .before .before .before .judge-instruction .kept .1 .1 .1 .1 .1 .1 .0
 
 returns-2 : tie.Need-returns-2
-returns-2 c = declared ((c .before .before .before .before .before .before .before .before .before .before .before .before .before .pre)) (c .before .before .before .before .before .before .before .before .judge-instruction .ensures) (c .before .before .before .before .enum-told .given .1) (c .before .before .write-instruction .ensures)
+returns-2 c = declared (c .before .before .before .before .before .before .before .before .before .before .before .before .before .pre) (c .before .before .before .before .before .before .before .before .judge-instruction .ensures) (c .before .before .before .before .enum-told .given .1) (c .before .before .write-instruction .ensures)
 
 pub declare-instruction-spec : {M : Type 1} → statement M
 declare-instruction-spec =

@@ -10,7 +10,9 @@ instr-of-requires : tie.Need-instr-of-requires
 instr-of-requires c κs = search needs
 
 declare-instruction-requires : tie.Need-declare-instruction-requires
-declare-instruction-requires c κs = instr-declarable (c .before .before .before .before .before .before .before .before .before .pre .admitted) (c .before .before .instr-of .ensures) (c .before .if1 .taken)
+declare-instruction-requires c κs =
+    let g = c .before .before .before .before .before .before .before .before .before .pre in
+    instr-declarable (g .admitted) (c .before .before .instr-of .ensures) (c .before .if1 .taken) (g .values)
 
 same-length : tie.Need-same-length
 same-length c = search needs

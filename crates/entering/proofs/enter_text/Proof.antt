@@ -4,7 +4,7 @@ use native.Mathlib.Omega.{arith}
 use mathlib.Core.Path.{refl}
 use lib.ListN.{length-take}
 use borrow.Author.Tests.{not-true, not-false}
-use Rattle.entering.proofs.Adding.{text-past, text-entered, text-front, text-long, text-addable}
+use Rattle.entering.proofs.Adding.{put-front, put-long, text-past, text-entered, text-addable}
 use Rattle.entering.proofs.enter_text.Statement.{statement}
 use Rattle.entering.proofs.enter_text.Tie as tie
 
@@ -24,7 +24,7 @@ array-share-prefix-word : tie.Need-array-share-prefix-word
 array-share-prefix-word c = search needs
 
 slice-aggregate-add-text : tie.Need-slice-aggregate-add-text
-slice-aggregate-add-text c = simp length-take (omega (arith, text-long ((c .before .before .before .before .before .before .before .before .before .pre)) (c .before .before .before .put-chars .ensures)))
+slice-aggregate-add-text c = simp length-take (omega (arith, put-long (c .before .before .before .put-chars .ensures)))
 
 add-text-requires : tie.Need-add-text-requires
 add-text-requires c κs = text-addable ((c .before .before .before .before .before .before .before .before .before .pre)) (c .before .before .before .put-chars .ensures) refl
@@ -33,7 +33,7 @@ same-length : tie.Need-same-length
 same-length c = search needs
 
 returns-2 : tie.Need-returns-2
-returns-2 c = text-entered ((c .before .before .before .before .before .before .before .before .before .before .before .before .pre)) (c .before .before .before .before .before .before .before .before .before .is-long-text .ensures) (not-false (c .before .before .before .before .before .before .before .before .before .is-long-text .result) (c .before .before .before .before .before .before .before .before .if1 .left)) (text-front ((c .before .before .before .before .before .before .before .before .before .before .before .before .pre)) (c .before .before .before .before .before .before .put-chars .ensures)) (c .before .before .add-text .ensures)
+returns-2 c = text-entered ((c .before .before .before .before .before .before .before .before .before .before .before .before .pre)) (c .before .before .before .before .before .before .before .before .before .is-long-text .ensures) (not-false (c .before .before .before .before .before .before .before .before .before .is-long-text .result) (c .before .before .before .before .before .before .before .before .if1 .left)) (put-front (c .before .before .before .before .before .before .put-chars .ensures)) (c .before .before .add-text .ensures)
 
 pub enter-text-spec : {M : Type 1} → statement M
 enter-text-spec =

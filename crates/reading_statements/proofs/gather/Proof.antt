@@ -15,7 +15,9 @@ enum-told : tie.Need-enum-told
 enum-told c = search needs
 
 judge-arguments-requires : tie.Need-judge-arguments-requires
-judge-arguments-requires c κs = c .before .before .before .before .before .before .before .before .pre .judging .headed
+judge-arguments-requires c κs =
+    let g = c .before .before .before .before .before .before .before .before .pre .judging in
+    record { headed = g .headed; low = g .low }
 
 same-length : tie.Need-same-length
 same-length c = c .before .before .before .before .before .collect .kept .1 .1 .0

@@ -68,13 +68,13 @@ same-length-2 : tie.Need-same-length-2
 same-length-2 c = c .before .before .before .before .before .before .before .before .before .before .before .before .before .before .before .before .before .before .before .before .before .judge .kept .1 .1 .1 .1 .0
 
 same-length-3 : tie.Need-same-length-3
-same-length-3 c = c .before .before .before .before .before .before .before .before .before .declare-statement .kept .1 .1 .1 .1 .1 .1 .0
+same-length-3 c = c .before .before .before .before .before .before .before .before .before .declare-statement .kept .1 .1 .1 .1 .1 .1 .1 .0
 
 same-length-4 : tie.Need-same-length-4
-same-length-4 c = c .before .before .before .before .before .before .before .before .before .declare-statement .kept .1 .1 .1 .1 .1 .1 .1 .0
+same-length-4 c = c .before .before .before .before .before .before .before .before .before .declare-statement .kept .1 .1 .1 .1 .1 .1 .1 .1 .0
 
 same-length-5 : tie.Need-same-length-5
-same-length-5 c = c .before .before .before .before .before .before .before .before .before .declare-statement .kept .1 .1 .1 .1 .1 .1 .1 .1 .0
+same-length-5 c = c .before .before .before .before .before .before .before .before .before .declare-statement .kept .1 .1 .1 .1 .1 .1 .1 .1 .1 .0
 
 returns-2 : tie.Need-returns-2
 returns-2 c =
@@ -88,13 +88,13 @@ same-length-6 : tie.Need-same-length-6
 same-length-6 c = c .before .before .before .before .before .before .before .before .before .before .before .before .before .before .before .before .before .before .before .before .before .before .judge .kept .1 .1 .1 .1 .0
 
 same-length-7 : tie.Need-same-length-7
-same-length-7 c = c .before .before .before .before .before .before .before .before .before .before .declare-statement .kept .1 .1 .1 .1 .1 .1 .0
+same-length-7 c = c .before .before .before .before .before .before .before .before .before .before .declare-statement .kept .1 .1 .1 .1 .1 .1 .1 .0
 
 same-length-8 : tie.Need-same-length-8
-same-length-8 c = c .before .before .before .before .before .before .before .before .before .before .declare-statement .kept .1 .1 .1 .1 .1 .1 .1 .0
+same-length-8 c = c .before .before .before .before .before .before .before .before .before .before .declare-statement .kept .1 .1 .1 .1 .1 .1 .1 .1 .0
 
 same-length-9 : tie.Need-same-length-9
-same-length-9 c = c .before .before .before .before .before .before .before .before .before .before .declare-statement .kept .1 .1 .1 .1 .1 .1 .1 .1 .0
+same-length-9 c = c .before .before .before .before .before .before .before .before .before .before .declare-statement .kept .1 .1 .1 .1 .1 .1 .1 .1 .1 .0
 
 returns-3 : tie.Need-returns-3
 returns-3 c =

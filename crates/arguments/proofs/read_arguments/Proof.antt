@@ -1,0 +1,128 @@
+-- `arguments::read_arguments` meets its contract.
+use borrow.Author.Needs.{needs}
+use Prim.Native.Nat.{ℕ, _-_}
+use lib.ListN.{length}
+use mathlib.Core.Path.{_≡_, refl, sym, ap, _∙_}
+use native.Mathlib.Omega.{arith}
+use Rattle.arguments.specs.ArgumentLaws.{turned, colon-here, unlisted-here, colon-after-argument}
+use Rattle.arguments.specs.Arguments.{missing-or}
+use Rattle.arguments.specs.ReadLaws.{Gathering, gathering-first, place-here, reads-so, gathering-on, all-read, refusable, refused}
+use Rattle.language.specs.Instructions.{operator-of}
+use Rattle.statements.specs.StatementLaws.{on}
+use Rattle.statements.specs.declared.Fault.the-variants.{Clear}
+use Rattle.arguments.proofs.read_arguments.Statement.{statement}
+use Rattle.arguments.proofs.read_arguments.Tie as tie
+
+abbrev Inv-loop : tie.InvT-loop
+Inv-loop text op at live₀ place₀ values₀ i₀ live place values i = Gathering text i₀ op i live place values
+
+abbrev μ-loop : tie.MeasureT-loop
+μ-loop text op at live₀ place₀ values₀ i₀ live place values i = length text - i
+
+no-values-requires : tie.Need-no-values-requires Inv-loop μ-loop
+no-values-requires c κs = search needs
+
+loop-holds : tie.Need-loop-holds Inv-loop μ-loop
+loop-holds c = gathering-first (c .before .before .pre) (c .no-values .ensures)
+
+next-item-requires : tie.Need-next-item-requires Inv-loop μ-loop
+next-item-requires c κs = c .loop .inv .reading .most
+
+stops-requires : tie.Need-stops-requires Inv-loop μ-loop
+stops-requires c κs = search needs
+
+wide-requires : tie.Need-wide-requires Inv-loop μ-loop
+wide-requires c κs = search needs
+
+missing-or-requires : tie.Need-missing-or-requires Inv-loop μ-loop
+missing-or-requires c κs = search needs
+
+returns : tie.Need-returns Inv-loop μ-loop
+returns c = all-read (c .before .before .before .before .before .before .before .before .pre) (c .before .before .before .before .before .loop .inv) (c .before .before .before .before .next-item .ensures) (sym (c .before .before .before .stops .ensures) ∙ c .before .before .if1 .taken)
+    (c .missing-or .ensures ∙ ap (λ (k : ℕ). missing-or (c .before .before .before .before .before .before .before .before .args .op) (c .before .before .before .before .before .before .before .before .args .t .at) k Clear) (c .before .wide .ensures .is))
+
+refuse-requires : tie.Need-refuse-requires Inv-loop μ-loop
+refuse-requires c κs = refusable (c .before .before .before .before .before .before .before .before .pre) (c .before .before .before .before .before .loop .inv)
+
+returns-2 : tie.Need-returns-2 Inv-loop μ-loop
+returns-2 c = let l = c .before .before .before .before .before .before .loop in
+    let here = sym (c .before .before .before .before .stops .ensures) ∙ c .before .before .before .if1 .left in
+    refused (c .before .before .before .before .before .before .before .before .before .pre) (l .inv) (λ o h. colon-here o (l .live) (l .place) (c .before .before .before .before .before .next-item .ensures) here (c .before .if2 .taken)) (c .refuse .ensures)
+
+kinds-at-requires : tie.Need-kinds-at-requires Inv-loop μ-loop
+kinds-at-requires c κs = c .before .before .before .before .next-item .ensures .stands
+
+take-argument-requires : tie.Need-take-argument-requires Inv-loop μ-loop
+take-argument-requires c κs = search needs
+
+refuse-requires-2 : tie.Need-refuse-requires-2 Inv-loop μ-loop
+refuse-requires-2 c κs = refusable (c .before .before .before .before .before .before .before .before .before .before .before .before .pre) (c .before .before .before .before .before .before .before .before .before .loop .inv)
+
+returns-3 : tie.Need-returns-3 Inv-loop μ-loop
+returns-3 c = let l = c .before .before .before .before .before .before .before .before .before .before .loop in
+    let here = sym (c .before .before .before .before .before .before .before .before .stops .ensures) ∙ c .before .before .before .before .before .before .before .if1 .left in
+    let a = c .before .before .before .take-argument in
+    refused (c .before .before .before .before .before .before .before .before .before .before .before .before .before .pre) (l .inv)
+    (λ o h. unlisted-here o (l .live) (l .place) (c .before .before .before .before .before .before .before .before .before .next-item .ensures) here (c .before .before .before .before .before .if2 .left) (a .result) (turned (l .live) (l .place) (a .ensures) (c .before .before .before .before .kinds-at .ensures) o h) (c .before .if3 .taken))
+    (c .refuse2 .ensures)
+
+refuse-requires-3 : tie.Need-refuse-requires-3 Inv-loop μ-loop
+refuse-requires-3 c κs = refusable (c .before .before .before .before .before .before .before .before .before .before .before .before .before .before .pre) (c .before .before .before .before .before .before .before .before .before .before .before .loop .inv)
+
+returns-4 : tie.Need-returns-4 Inv-loop μ-loop
+returns-4 c = let l = c .before .before .before .before .before .before .before .before .before .before .before .before .loop in
+    let here = sym (c .before .before .before .before .before .before .before .before .before .before .stops .ensures) ∙ c .before .before .before .before .before .before .before .before .before .if1 .left in
+    let a = c .before .before .before .before .before .take-argument in
+    refused (c .before .before .before .before .before .before .before .before .before .before .before .before .before .before .before .pre) (l .inv)
+    (λ o h. colon-after-argument o (l .live) (l .place) (c .before .before .before .before .before .before .before .before .before .before .before .next-item .ensures) here (c .before .before .before .before .before .before .before .if2 .left) (a .result) (turned (l .live) (l .place) (a .ensures) (c .before .before .before .before .before .before .kinds-at .ensures) o h) (c .before .before .before .if3 .left) (c .before .if4 .taken))
+    (c .refuse3 .ensures)
+
+value-at-requires : tie.Need-value-at-requires Inv-loop μ-loop
+value-at-requires c κs = let g = c .before .before .before .before .before .before .before .before .before .before .before .before .before .before .pre in
+    let here = sym (c .before .before .before .before .before .before .before .before .before .stops .ensures) ∙ c .before .before .before .before .before .before .before .before .if1 .left in
+    record {
+      stands = c .before .before .before .before .before .before .before .before .before .before .next-item .ensures .stands;
+      as-form = reads-so (c .before .before .before .before .before .before .before .before .before .before .before .loop .inv) (c .before .before .before .before .before .before .before .before .before .before .next-item .ensures) here (c .before .before .before .before .before .before .if2 .left) (c .before .before .before .before .take-argument .ensures) (c .before .before .before .before .before .kinds-at .ensures) (c .before .before .if3 .left) (operator-of (c .before .before .before .before .before .before .before .before .before .before .before .before .before .before .args .op)) (g .numbered);
+      low = g .low;
+    }
+
+with-value-requires : tie.Need-with-value-requires Inv-loop μ-loop
+with-value-requires c κs = search needs
+
+add-place : tie.Need-add-place Inv-loop μ-loop
+add-place c = omega (arith, c .before .before .before .before .before .before .before .before .before .before .before .before .before .loop .inv .reading .few)
+
+loop-less : tie.Need-loop-less Inv-loop μ-loop
+loop-less c = let k = c .before .before .before .before .before .before .before .before .before .before .before .before .next-item .ensures in
+    omega (arith, k .stands .most, on k (sym (c .before .before .before .before .before .before .before .before .before .before .before .stops .ensures) ∙ c .before .before .before .before .before .before .before .before .before .before .if1 .left))
+
+loop-again : tie.Need-loop-again Inv-loop μ-loop
+loop-again c = let here = sym (c .before .before .before .before .before .before .before .before .before .before .before .stops .ensures) ∙ c .before .before .before .before .before .before .before .before .before .before .if1 .left in
+    gathering-on (c .before .before .before .before .before .before .before .before .before .before .before .before .before .loop .inv) (c .before .before .before .before .before .before .before .before .before .before .before .before .next-item .ensures) here (c .before .before .before .before .before .before .before .before .if2 .left) (c .before .before .before .before .before .before .take-argument .ensures) (c .before .before .before .before .before .before .before .kinds-at .ensures) (c .before .before .before .before .if3 .left) (operator-of (c .before .before .before .before .before .before .before .before .before .before .before .before .before .before .before .before .args .op)) (c .before .before .before .before .before .before .before .before .before .before .before .before .before .before .before .before .pre .numbered) (c .before .before .if4 .left) refl (c .before .value-at .ensures) (c .with-value .ensures)
+
+pub read-arguments-spec : {M : Type 1} → statement M
+read-arguments-spec =
+    tie.close
+    (tie.spec
+    Inv-loop
+    μ-loop
+    no-values-requires
+    loop-holds
+    next-item-requires
+    stops-requires
+    wide-requires
+    missing-or-requires
+    returns
+    refuse-requires
+    returns-2
+    kinds-at-requires
+    take-argument-requires
+    refuse-requires-2
+    returns-3
+    refuse-requires-3
+    returns-4
+    value-at-requires
+    with-value-requires
+    add-place
+    loop-less
+    loop-again)

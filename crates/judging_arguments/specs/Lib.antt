@@ -1,3 +1,0 @@
-pub mod Arguments
-pub mod CountLaws
-pub mod ArgumentLaws
