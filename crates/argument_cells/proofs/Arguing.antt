@@ -1,18 +1,15 @@
 -- An argument's cell, kind by kind.
 use mathlib.Core.Path.{_≡_, refl, sym, ap, _∙_, subst}
 use mathlib.Core.Bool.{Bool, true, false, true≢false}
-use mathlib.Core.List.{List, [], _∷_}
+use mathlib.Core.List.{List}
 use Prim.Native.Nat.{ℕ, _+_, _*_, _≤_, _<_}
 use native.Mathlib.Omega.{arith}
-use types.Run.{OneOf, miss}
 use lib.ListN.{length, take}
-use Rattle.arguments.specs.Valued.{is-text, text-from, text-to, Names-text, Spells, Drafted}
+use Rattle.arguments.specs.Valued.{is-text, text-from, text-to, Spells, Drafted}
 use Rattle.cells.specs.Cells.{Number as Wide}
 use Rattle.entering.specs.Entering.{Held}
-use Rattle.entering.proofs.Adding.{put-front, put-long}
-use Rattle.entering.proofs.Numbers.{no-text}
+use Rattle.entering.proofs.Adding.{put-front}
 use Rattle.finding.specs.Finding.{Counted, Tells, TellsFor}
-use Rattle.language.specs.Limits as limit
 use Rattle.language.specs.Program.{Arg, Program}
 use Rattle.layout.specs.Table.{letter-place, number-ref, arg-cell}
 use Rattle.spelling.specs.Spelling.{Put, text-in, Fits-text}
@@ -22,7 +19,7 @@ use Rattle.table.specs.declared.Letter.{Letter}
 use Rattle.table.specs.Denote.{letter-of}
 use Rattle.writing.specs.Writing.{HoldsProgram, IsNumber}
 use Rattle.writing.proofs.Held.{text-count, number-count}
-use Rattle.argument_cells.specs.ArgumentCells.{text-cell, Text-named, Text-told, Refers, Low, Encodable, Encodes, Text-referred, Referred, Drafts, Cell-asked, CellOf, Referable}
+use Rattle.argument_cells.specs.ArgumentCells.{text-cell, Text-named, Text-told, Refers, Low, Encodable, Encodes, Referred, Drafts, Cell-asked, CellOf, Referable}
 
 -- ---- what a table that holds a program has
 

@@ -1,1 +1,2 @@
 pub mod Arguing
+pub mod Decoding

@@ -7,8 +7,6 @@ use native.Mathlib.Omega.{arith}
 use lib.Dec.{T, eqb, ltb, ltb→lt}
 use lib.ListN.{length, drop}
 use lib.Seq.{drop-nil}
-use Rattle.forms.specs.Forms.{most-of}
-use Rattle.forms.specs.ReadingLaws.{most-listed}
 use Rattle.forms.specs.SetLaws.{by-operator}
 use Rattle.heads.specs.declared.Head.{Head}
 use Rattle.heads.specs.Heads.{instr-of, Headed}
@@ -100,9 +98,6 @@ instruction Spec.Keyword.KONS e z = absurd (z e)
 instruction Spec.Keyword.KONP e z = absurd (z e)
 instruction (Spec.Keyword.switch byName) e z = absurd (z e)
 instruction (Spec.Keyword.instr o) e z = record { op = o; is = refl; has = sym e }
-
-pub most-is : {k : Spec.Keyword} {m : ℕ} (i : Instruction k m) → most-of m ≡ most (i .op)
-most-is i = ap most-of (sym (i .has)) ∙ most-listed (i .op)
 
 pub no-instruction : (f : Op → List ℕ) (k : Spec.Keyword) {m : ℕ} → m ≡ instr-of (told k) → m ≡ 0 → by-keyword f (λ byName. []) [] k ≡ []
 unfolding by-keyword

@@ -6,7 +6,7 @@ use Prim.Native.Nat.{ℕ, zero, suc, _+_, _-_, _≤_, _<_}
 use native.Mathlib.Numerals.{add-one}
 use native.Mathlib.Decide.{decLt}
 use native.Mathlib.Omega.{arith}
-use lib.Dec.{T, eqb, ltb, ltb→lt}
+use lib.Dec.{T, eqb, ltb}
 use lib.ListN.{length, drop, length-map, length-append}
 use lib.Seq.{drop-append-add}
 use borrow.Author.Tests.{eqb-true, ne-eqb, lt-ltb, le-ltb}
@@ -17,7 +17,7 @@ use Rattle.forms.specs.Kinds.{item-kinds}
 use Rattle.forms.specs.Reading.{chosen, lists-at, taken-at}
 use Rattle.forms.specs.ReadingLaws.{argument-read, taken-reads, lists-first, most-listed, least-listed}
 use Rattle.forms.specs.SetLaws.{by-operator}
-use Rattle.language.specs.Instructions.{operation, operator-of}
+use Rattle.language.specs.Instructions.{operation}
 use Rattle.language.specs.Program.{Op}
 use Rattle.lexer.specs.declared.Token.{Token}
 use Rattle.lexer.specs.Tokens.{item-of, Stands, Next-token}
@@ -37,7 +37,7 @@ use Rattle.arguments.specs.declared.Values.{Values}
 use Rattle.arguments.specs.Arguments.{read-from, argument-faults, instr-after, missing-or, Refusable, Refuses, Operates, Reads-arguments}
 use Rattle.arguments.specs.ArgumentLaws.{Reading, reading-first, reading-on, place-listed, turned, missing, complete, few-of, items-end}
 use Rattle.arguments.specs.CountLaws.{arguments-on}
-use Rattle.arguments.specs.Valued.{no-values, put-at, Stood, argument-of, Valuable, First-value, Row, Ordered, Valued}
+use Rattle.arguments.specs.Valued.{no-values, put-at, Stood, argument-of, First-value, Row, Ordered, Valued}
 
 -- ---- an argument that is listed is not in excess
 

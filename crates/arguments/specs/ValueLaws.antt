@@ -1,6 +1,6 @@
 -- The value of an argument, form by form.
 use mathlib.Core.Path.{_≡_, refl, sym, ap, _∙_, subst}
-use mathlib.Core.Bool.{Bool, true, false, cond, _&&_, true≢false, and-false}
+use mathlib.Core.Bool.{Bool, true, false, _&&_, true≢false, and-false}
 use mathlib.Core.List.{List, [], _∷_}
 use Prim.Native.Nat.{ℕ, _+_, _*_, _/_, _%_, _≤_, _<_}
 use native.Mathlib.Omega.{arith}
@@ -20,7 +20,7 @@ use Rattle.layout.specs.ArgumentLaws.{letter-back}
 use Rattle.layout.specs.Cells.{code}
 use Rattle.layout.specs.Table.{letter-place, class-mask}
 use Rattle.lexer.specs.declared.Token.{Token}
-use Rattle.lexer.specs.Tokens.{chars-of, word-of, text-of, item-of}
+use Rattle.lexer.specs.Tokens.{chars-of, word-of, item-of}
 use Rattle.lexer.proofs.Finding.{is-sort, word-chars, text-token-chars, no-chars}
 use Rattle.lists.specs.Lists.{filled, headOr}
 use Rattle.lists.specs.ListLaws.{T-left, T-right}
@@ -36,7 +36,7 @@ use Rattle.words.specs.declared.Letter as spelt
 use Rattle.words.specs.declared.Numeral.{Numeral}
 use Rattle.words.specs.Words.{is-class, class-of, numeral-of, indexed-of}
 use Rattle.table.specs.declared.Letter.{Letter as Named}
-use Rattle.arguments.specs.Valued.{is-text, is-number, text-from, text-to, Names-text, Spells, Drafted, Stood, argument-of, Valuable, Letter-value}
+use Rattle.arguments.specs.Valued.{is-text, is-number, text-to, Names-text, Spells, Drafted, Stood, argument-of, Valuable, Letter-value}
 
 -- ---- words
 

@@ -7,7 +7,6 @@ use lib.Dec.{T, eqb}
 use lib.ListN.{length, drop}
 use Rattle.drafts.specs.Drafting.{draft-arg}
 use Rattle.language.specs.Instructions.{operation}
-use Rattle.language.specs.Letters as letters
 use Rattle.language.specs.Limits as limit
 use Rattle.language.specs.Program.{Arg, classes, Op}
 use Rattle.language.specs.Values.{amount, numeral, valueOf}

@@ -10,8 +10,7 @@ use Rattle.arguments.specs.declared.Arguments.{Arguments}
 use Rattle.arguments.specs.declared.Values.{Values}
 use Rattle.faults.specs.Faults.{verdict-of, decided, then}
 use Rattle.faults.specs.declared.Verdict.{Verdict}
-use Rattle.faults.specs.declared.Verdict.the-variants.{Yes}
-use Rattle.heads.specs.Heads.{instr-of, Headed}
+use Rattle.heads.specs.Heads.{instr-of}
 use Rattle.heads.specs.declared.Head.{Head}
 use Rattle.judging_switches.specs.SwitchLaws.{of-instr}
 use Rattle.judging_switches.specs.Switches.{argument-question}

@@ -32,7 +32,7 @@ use Rattle.writing.specs.Writing.{HoldsProgram, kept-arg, Changes, Writes, Inst
 use Rattle.writing.proofs.Adding.{kept-same}
 use Rattle.writing.proofs.Held.{code-count, label-count}
 use Rattle.argument_cells.specs.ArgumentCells.{Right-argument, Drafts, Cell-asked, CellOf}
-use Rattle.declaring.specs.Declaring.{marks-in, with-labels, labels-by, Labelling, Judges, Judges-values, Judgeable, instr-excess, texts-excess, numbers-excess, with-values, draft-args, new-instr, with-labelled, Right-values, Writable, WritesInstr, Writes-values, Declarable, Declares}
+use Rattle.declaring.specs.Declaring.{marks-in, with-labels, labels-by, Labelling, Judges, Judges-values, Judgeable, instr-excess, texts-excess, numbers-excess, with-values, draft-args, new-instr, with-labelled, Right-values, Writable, Writes-values, Declarable, Declares}
 
 -- ---- the instruction
 

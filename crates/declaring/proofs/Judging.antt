@@ -8,7 +8,7 @@ use lib.Seq.{take-suc, getD-drop, drop-drop}
 use Rattle.arguments.specs.Valued.{Valued}
 use Rattle.arguments.specs.declared.Values.{Values}
 use Rattle.drafts.specs.Marks.{place-by}
-use Rattle.entering.specs.Entering.{Enters, Enterable-values, Some-values, Texts-entered, Numbers-entered, long-text, large-number, set-texts, set-numbers}
+use Rattle.entering.specs.Entering.{Enters, Some-values, Texts-entered, Numbers-entered, long-text, large-number, set-texts, set-numbers}
 use Rattle.faults.specs.Faults.{lower}
 use Rattle.faults.specs.FaultLaws.{fault-both, lower-clear}
 use Rattle.language.specs.Limits as limit

@@ -1,11 +1,10 @@
 -- The number of a value comes to a table, by its code.
 use mathlib.Core.Path.{_≡_, refl, sym, ap, _∙_, subst}
-use mathlib.Core.Bool.{Bool, true, false, cond, _&&_, _||_}
+use mathlib.Core.Bool.{Bool, true, false, _&&_, _||_}
 use mathlib.Core.List.{List, [], _∷_}
 use Prim.Native.Nat.{ℕ, _≤_}
-use native.Mathlib.Omega.{arith}
 use types.Run.{OneOf, miss}
-use lib.Dec.{T, ltb}
+use lib.Dec.{ltb}
 use lib.IntN.{ℤ, natAbs}
 use borrow.Author.Tests.{lt-ltb, le-ltb, ltb-true, ltb-false}
 use Rattle.arguments.specs.Valued.{is-text, is-number, Spells, Item-valued}
@@ -15,7 +14,6 @@ use Rattle.language.specs.Values.{sameNumber}
 use Rattle.layout.specs.Cells.{code}
 use Rattle.syntax.specs.Items.{Item}
 use Rattle.syntax.specs.Tables.{number-in}
-use Rattle.table.proofs.Argument as table-argument
 use Rattle.table.specs.declared.Argument.{Argument}
 use Rattle.table.specs.declared.Argument.the-variants.{Nothing, Indexed, Label, Switch, Class, Text, Number}
 use Rattle.writing.specs.Writing.{no-program, IsNumber}

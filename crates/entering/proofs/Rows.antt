@@ -1,19 +1,20 @@
--- The loop over the items of a statement, for texts and for numbers alike.
+-- The values of a row of items come to a table one by one, and the loop over the items of a statement: for texts and for numbers alike.
 use mathlib.Core.Path.{_≡_, refl, sym, ap, _∙_, subst}
-use mathlib.Core.Bool.{Bool, true, false, cond, not, _&&_, true≢false}
+use mathlib.Core.Bool.{Bool, true, false, not, _&&_, true≢false}
 use mathlib.Core.List.{List, [], _∷_, append-nil}
 use Prim.Native.Nat.{ℕ, zero, suc, _-_, _≤_, _<_}
 use native.Mathlib.Omega.{arith}
+use lib.Dec.{T}
 use lib.ListN.{length, drop}
 use borrow.Author.Tests.{not-true}
-use Rattle.language.specs.Limits as limit
 use Rattle.language.specs.Program.{Program}
 use Rattle.layout.specs.Bounds.{Each}
 use Rattle.lexer.specs.declared.Token.{Token}
 use Rattle.lexer.specs.Tokens.{item-of, Next-token}
-use Rattle.statements.specs.PlaceLaws.{statement-from}
+use Rattle.statements.specs.PlaceLaws.{all-from, statement-from}
 use Rattle.statements.specs.StatementAt.{statement-at, stops, fault-of}
 use Rattle.statements.specs.StatementLaws.{at-stop, at-item, on}
+use Rattle.statements.specs.declared.Fault.{Fault}
 use Rattle.statements.specs.declared.Fault.the-variants.{Clear, At}
 use Rattle.syntax.specs.Items.{Item}
 use Rattle.syntax.specs.Tables.{fresh}
@@ -29,140 +30,129 @@ pub record Table-of {X : Type 0} (table-of : Program → List X) (set-table : Li
   pub most : (c : List ℕ) (p : Program) → HoldsProgram c p → length (table-of p) ≤ 128
 
 module _ {X : Type 0} (equal : X → X → Bool) (value-of : Item → X) (passes : Item → Bool) (table-of : Program → List X) (set-table : List X → Program → Program)
-    (laws : Table-of table-of set-table) (P : Item → Type 0) where
-  -- of the program p: place i of the statement at n is reached with the table t
-  pub record Reached (s : List ℕ) (n : ℕ) (p : Program) (d : List ℕ) (i : ℕ) : Type 0 where
-    pub table : List X
-    pub holds : HoldsProgram d (set-table table p)
-    pub fault : fault-of (excess equal value-of passes (table-of p) (statement-at s n)) ≡ fault-of (excess equal value-of passes table (statement-at s i))
-    pub list : all-added equal value-of passes (table-of p) (statement-at s n) ≡ all-added equal value-of passes table (statement-at s i)
+    (laws : Table-of table-of set-table) where
+  abbrev pub One : Item → List ℕ → Bool → List ℕ → Type 0
+  One i c r d = EntersOne equal value-of passes table-of set-table i c r d
 
-  pub record Entering (s : List ℕ) (n : ℕ) (c d : List ℕ) (i : ℕ) : Type 0 where
+  abbrev pub All : List Item → List ℕ → Fault → List ℕ → Type 0
+  All js c r d = Enters equal value-of passes table-of set-table js c r d
+
+  pub none-entered : {c : List ℕ} → All [] c Clear c
+  unfolding fresh
+  none-entered {c} =
+      record {
+        told = λ p g. sym (no-fault (128 - length (table-of p)));
+        holds = λ q p g. subst (λ (y : Program). HoldsProgram c y) (sym (ap (λ (t : List X). set-table t p) (append-nil (table-of p)) ∙ laws .same p)) g;
+        still = λ p g. record { table = table-of p; holds = subst (λ (y : Program). HoldsProgram c y) (sym (laws .same p)) g };
+        beyond-same = refl;
+      }
+    where
+      no-fault : (m : ℕ) → fault-of (drop m []) ≡ Clear
+      no-fault zero = refl
+      no-fault (suc m) = refl
+
+  -- the rest goes on from the cells d, which hold the table `then`
+  module _ (i : Item) (js : List Item) {c d : List ℕ} (then : Program → List X)
+      (h : (p : Program) → HoldsProgram c p → HoldsProgram d (set-table (then p) p))
+      (x : (p : Program) → HoldsProgram c p → excess equal value-of passes (table-of p) (i ∷ js) ≡ excess equal value-of passes (then p) js)
+      (a : (p : Program) → HoldsProgram c p → all-added equal value-of passes (table-of p) (i ∷ js) ≡ all-added equal value-of passes (then p) js) where
+    joined : {f : Fault} {e : List ℕ} → All js d f e → drop 8192 d ≡ drop 8192 c → All (i ∷ js) c f e
+    joined {f} {e} k w =
+        record {
+          told = λ p g.
+              k .told (set-table (then p) p) (h p g) ∙ ap (λ (t : List X). fault-of (excess equal value-of passes t js)) (laws .get (then p) p) ∙ sym (ap fault-of (x p g));
+          holds = λ z p g.
+              subst (λ (y : Program). HoldsProgram e y)
+              (laws .twice (then p) (all-added equal value-of passes (table-of (set-table (then p) p)) js) p
+              ∙ ap (λ (t : List X). set-table (all-added equal value-of passes t js) p) (laws .get (then p) p)
+              ∙ ap (λ (t : List X). set-table t p) (sym (a p g)))
+              (k .holds z (set-table (then p) p) (h p g));
+          still = λ p g.
+              let y = k .still (set-table (then p) p) (h p g) in
+              record { table = y .table; holds = subst (λ (z : Program). HoldsProgram e z) (laws .twice (then p) (y .table) p) (y .holds) };
+          beyond-same = k .beyond-same ∙ w;
+        }
+
+  pub all-on : (i : Item) (js : List Item) {c : List ℕ} {r : Bool} {d : List ℕ} → One i c r d → r ≡ true → {f : Fault} {e : List ℕ} → All js d f e → All (i ∷ js) c f e
+  all-on i js {c} {r} {d} h q {f} {e} k = go (passes i) refl
+    where
+      go : (b : Bool) → passes i ≡ b → All (i ∷ js) c f e
+      go true z =
+          let room : (p : Program) → HoldsProgram c p → full equal (value-of i) (table-of p) ≡ false =
+          λ p g. not-true (full equal (value-of i) (table-of p)) (sym (rw z at (h .told p g)) ∙ q) in
+          joined i js (λ p. added equal (value-of i) (table-of p)) (λ p g. rw z at (h .holds q p g))
+          (λ p g. excess-on equal value-of passes i js z (table-of p) (laws .most c p g) (room p g))
+          (λ p g. added-on equal value-of passes i js z (table-of p) (laws .most c p g) (room p g)) k (h .beyond-same)
+      go false z =
+          joined i js (λ p. table-of p) (λ p g. rw z at (h .holds q p g))
+          (λ p g. excess-past equal value-of passes i js z (table-of p))
+          (λ p g. added-past equal value-of passes i js z (table-of p)) k (h .beyond-same)
+
+  pub all-stop : (i : Item) (js : List Item) {c : List ℕ} {r : Bool} {d : List ℕ} → One i c r d → r ≡ false → T (all-from (i .at) js) → All (i ∷ js) c (At (i .at)) d
+  all-stop i js {c} {r} {d} h q w =
+      record {
+        told = λ p g.
+            let e = both (passes i) (full equal (value-of i) (table-of p)) (sym (h .told p g) ∙ q) in
+            sym (excess-here equal value-of passes i js (e .0) (table-of p) (laws .most c p g) (e .1) w);
+        holds = λ e. absurd (let y : _≡_ {A = ℕ} 0 1 = cc in omega arith);
+        still = λ p g. record {
+          table = table-of p;
+          holds = subst (λ (e : List ℕ). HoldsProgram e (set-table (table-of p) p)) (sym (h .same q)) (subst (λ (y : Program). HoldsProgram c y) (sym (laws .same p)) g);
+        };
+        beyond-same = h .beyond-same;
+      }
+    where
+      both : (a b : Bool) → not (a && b) ≡ false → (a ≡ true) × (b ≡ true)
+      both true true e = (refl, refl)
+      both true false e = absurd (true≢false e)
+      both false b e = absurd (true≢false e)
+
+  pub still-held : (i : Item) {c : List ℕ} {d : List ℕ} {r : Bool} → One i c r d → r ≡ true → Held c → Held d
+  still-held i h q u = record { program = _; holds = h .holds q (u .program) (u .holds) }
+
+  -- ---- the items of a statement
+
+  -- place i of the statement at n is reached: what the rest enters, all enters
+  pub record Entering (P : Item → Type 0) (s : List ℕ) (n : ℕ) (c d : List ℕ) (i : ℕ) : Type 0 where
     pub inside : i ≤ length s
     pub held : Held d
     pub within : Each P (statement-at s i)
-    pub reached : (p : Program) → HoldsProgram c p → Reached s n p d i
-    pub beyond-same : drop limit.table d ≡ drop limit.table c
+    pub goes-on : (f : Fault) (e : List ℕ) → All (statement-at s i) d f e → All (statement-at s n) c f e
     pub size : length d ≡ length c
 
-  module _ {s : List ℕ} {n : ℕ} {c : List ℕ} where
-    pub entering-first : Enterable P s n c → Entering s n c c n
-    entering-first h =
-        record {
-          inside = h .inside;
-          held = h .held;
-          within = h .within;
-          reached = λ p g. record { table = table-of p; holds = subst (λ (q : Program). HoldsProgram c q) (sym (laws .same p)) g; fault = refl; list = refl };
-          beyond-same = refl;
-          size = refl;
-        }
+  module _ {P : Item → Type 0} {s : List ℕ} {n : ℕ} {c : List ℕ} where
+    pub entering-first : Enterable P s n c → Entering P s n c c n
+    entering-first h = record { inside = h .inside; held = h .held; within = h .within; goes-on = λ f e k. k; size = refl }
 
-    module _ {d : List ℕ} {i : ℕ} (u : Entering s n c d i) {t : Token} (k : Next-token s i t) where
+    module _ {d : List ℕ} {i : ℕ} (u : Entering P s n c d i) {t : Token} (k : Next-token s i t) where
       -- no item is left
-      pub entered : stops (t .sort) ≡ true → Enters equal value-of passes table-of set-table (statement-at s n) c Clear d
-      unfolding fresh
-      entered z =
-          record {
-            told = λ p g. sym (u .reached p g .fault ∙ ap (λ (js : List Item). fault-of (excess equal value-of passes (u .reached p g .table) js)) (at-stop k z) ∙ none (128 - length (u .reached p g .table)));
-            holds = λ q p g. subst (λ (v : List X). HoldsProgram d (set-table v p))
-                (sym (u .reached p g .list ∙ ap (λ (js : List Item). all-added equal value-of passes (u .reached p g .table) js) (at-stop k z) ∙ append-nil (u .reached p g .table)))
-                (u .reached p g .holds);
-            still = λ p g. record { table = u .reached p g .table; holds = u .reached p g .holds };
-            beyond-same = u .beyond-same;
-          }
-        where
-          none : (m : ℕ) → fault-of (drop m []) ≡ Clear
-          none zero = refl
-          none (suc m) = refl
+      pub entered : stops (t .sort) ≡ true → All (statement-at s n) c Clear d
+      entered z = u .goes-on Clear d (subst (λ (js : List Item). All js d Clear d) (sym (at-stop k z)) none-entered)
 
       module _ (z : stops (t .sort) ≡ false) where
         abbrev x : Item
         x = item-of s t
 
-        abbrev js : List Item
-        js = statement-at s (t .next)
-
         pub item-as : P x
         item-as = subst (λ (xs : List Item). Each P xs) (at-item k z) (u .within) .0
 
-        pub goes-on : i < t .next
-        goes-on = on k z
+        pub next-on : i < t .next
+        next-on = on k z
 
-        module _ {r : Bool} {d′ : List ℕ} (h : EntersOne equal value-of passes table-of set-table x d r d′) where
-          abbrev now-of : (p : Program) → HoldsProgram c p → List X
-          now-of p g = u .reached p g .table
-
-          got : (p : Program) (g : HoldsProgram c p) → table-of (set-table (now-of p g) p) ≡ now-of p g
-          got p g = laws .get (now-of p g) p
-
-          few : (p : Program) (g : HoldsProgram c p) → length (now-of p g) ≤ 128
-          few p g = rw (← got p g) (laws .most d (set-table (now-of p g) p) (u .reached p g .holds))
-
-          answer : (p : Program) (g : HoldsProgram c p) → r ≡ not (passes x && full equal (value-of x) (now-of p g))
-          answer p g = h .told (set-table (now-of p g) p) (u .reached p g .holds) ∙ ap (λ (v : List X). not (passes x && full equal (value-of x) v)) (got p g)
-
+        module _ {r : Bool} {d′ : List ℕ} (h : One x d r d′) where
           -- this one has no place
-          pub entered-none : r ≡ false → Enters equal value-of passes table-of set-table (statement-at s n) c (At (t .at)) d′
+          pub entered-none : r ≡ false → All (statement-at s n) c (At (t .at)) d′
           entered-none q =
-              record {
-                told = λ p g. sym (u .reached p g .fault ∙ ap (λ (ys : List Item). fault-of (excess equal value-of passes (now-of p g) ys)) (at-item k z) ∙ here p g);
-                holds = λ e. absurd (let y : _≡_ {A = ℕ} 0 1 = cc in omega arith);
-                still = λ p g. record {
-                  table = now-of p g;
-                  holds = subst (λ (e : List ℕ). HoldsProgram e (set-table (now-of p g) p)) (sym (h .same q)) (u .reached p g .holds);
-                };
-                beyond-same = h .beyond-same ∙ u .beyond-same;
-              }
-            where
-              both : (a b : Bool) → not (a && b) ≡ false → (a ≡ true) × (b ≡ true)
-              both true true e = (refl, refl)
-              both true false e = absurd (true≢false e)
-              both false b e = absurd (true≢false e)
-
-              here : (p : Program) (g : HoldsProgram c p) → fault-of (excess equal value-of passes (now-of p g) (x ∷ js)) ≡ At (t .at)
-              here p g =
-                  let e = both (passes x) (full equal (value-of x) (now-of p g)) (sym (answer p g) ∙ q) in
-                  excess-here equal value-of passes x js (e .0) (now-of p g) (few p g) (e .1) (statement-from s (t .next) (t .at) (omega (arith, k .stands)))
+              u .goes-on (At (t .at)) d′
+              (subst (λ (js : List Item). All js d (At (t .at)) d′) (sym (at-item k z)) (all-stop x (statement-at s (t .next)) h q (statement-from s (t .next) (t .at) (omega (arith, k .stands)))))
 
           -- it has, or needs none
-          pub entering-more : r ≡ true → length d′ ≡ length d → Entering s n c d′ (t .next)
+          pub entering-more : r ≡ true → length d′ ≡ length d → Entering P s n c d′ (t .next)
           entering-more q l =
               record {
                 inside = k .stands .most;
-                held = record { program = _; holds = h .holds q (u .held .program) (u .held .holds) };
+                held = still-held x h q (u .held);
                 within = subst (λ (xs : List Item). Each P xs) (at-item k z) (u .within) .1;
-                reached = λ p g. next p g (passes x) refl;
-                beyond-same = h .beyond-same ∙ u .beyond-same;
+                goes-on = λ f e y. u .goes-on f e (subst (λ (js : List Item). All js d f e) (sym (at-item k z)) (all-on x (statement-at s (t .next)) h q y));
                 size = l ∙ u .size;
               }
-            where
-              held-next : (p : Program) (g : HoldsProgram c p)
-                  → HoldsProgram d′ (set-table (cond (passes x) (added equal (value-of x) (now-of p g)) (now-of p g)) p)
-              held-next p g =
-                  let o = set-table (now-of p g) p in
-                  let w = h .holds q o (u .reached p g .holds) in
-                  subst (λ (v : List X). HoldsProgram d′ (set-table (cond (passes x) (added equal (value-of x) v) v) p)) (got p g)
-                  (subst (λ (y : Program). HoldsProgram d′ y) (laws .twice (now-of p g) (cond (passes x) (added equal (value-of x) (table-of o)) (table-of o)) p) w)
-
-              next : (p : Program) (g : HoldsProgram c p) (b : Bool) → passes x ≡ b → Reached s n p d′ (t .next)
-              next p g true e =
-                  let v = now-of p g in
-                  let f : full equal (value-of x) v ≡ false = not-true (full equal (value-of x) v) (sym (rw e at (answer p g)) ∙ q) in
-                  record {
-                    table = added equal (value-of x) v;
-                    holds = rw e at (held-next p g);
-                    fault = u .reached p g .fault ∙ ap (λ (ys : List Item). fault-of (excess equal value-of passes v ys)) (at-item k z)
-                        ∙ ap fault-of (excess-on equal value-of passes x js e v (few p g) f);
-                    list = u .reached p g .list ∙ ap (λ (ys : List Item). all-added equal value-of passes v ys) (at-item k z)
-                        ∙ added-on equal value-of passes x js e v (few p g) f;
-                  }
-              next p g false e =
-                  let v = now-of p g in
-                  record {
-                    table = v;
-                    holds = rw e at (held-next p g);
-                    fault = u .reached p g .fault ∙ ap (λ (ys : List Item). fault-of (excess equal value-of passes v ys)) (at-item k z)
-                        ∙ ap fault-of (excess-past equal value-of passes x js e v);
-                    list = u .reached p g .list ∙ ap (λ (ys : List Item). all-added equal value-of passes v ys) (at-item k z)
-                        ∙ added-past equal value-of passes x js e v;
-                  }

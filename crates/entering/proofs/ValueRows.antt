@@ -1,31 +1,27 @@
 -- The values of a row of arguments come to a table one by one.
 use mathlib.Core.Path.{_≡_, refl, sym, ap, _∙_, subst}
-use mathlib.Core.Bool.{Bool, true, false, cond, not, _&&_, true≢false}
-use mathlib.Core.List.{List, [], _∷_, map, append-nil}
-use Prim.Native.Nat.{ℕ, zero, suc, _-_, _≤_}
+use mathlib.Core.Bool.{Bool, true, false, not, _&&_, true≢false}
+use mathlib.Core.List.{List, [], _∷_, map}
+use Prim.Native.Nat.{ℕ, _-_, _≤_}
 use native.Mathlib.Omega.{arith}
-use lib.Dec.{T}
 use lib.ListN.{length, drop}
-use borrow.Author.Tests.{not-true}
-use Rattle.arguments.specs.Valued.{Item-valued, First-value, Row, Ordered, Valued}
+use Rattle.arguments.specs.Valued.{Item-valued, First-value, Ordered, Valued}
 use Rattle.arguments.specs.declared.Value.{Value}
 use Rattle.arguments.specs.declared.Values.{Values}
 use Rattle.language.specs.Program.{Program}
 use Rattle.layout.specs.Bounds.{Each}
 use Rattle.lists.specs.Lists.{headOr}
-use Rattle.statements.specs.PlaceLaws.{all-from}
 use Rattle.statements.specs.StatementAt.{fault-of}
 use Rattle.statements.specs.declared.Fault.{Fault}
 use Rattle.statements.specs.declared.Fault.the-variants.{Clear, At}
 use Rattle.syntax.specs.ArgumentForms.{Argument}
 use Rattle.syntax.specs.Items.{Item, a-mark}
 use Rattle.syntax.specs.Items.Sort.{wrong}
-use Rattle.syntax.specs.Tables.{fresh}
 use Rattle.table.specs.declared.Argument as table
 use Rattle.writing.specs.Writing.{HoldsProgram}
-use Rattle.entering.specs.Entering.{added, full, excess, all-added, Short-item, Held, Enters, EntersOne, Enterable-value, Enterable-values}
-use Rattle.entering.specs.EnteringLaws.{excess-past, added-past, excess-on, added-on, excess-here}
-use Rattle.entering.proofs.Rows.{Table-of}
+use Rattle.entering.specs.Entering.{full, Short-item, Held, Enters, EntersOne, Enterable-value, Enterable-values}
+use Rattle.entering.specs.EnteringLaws.{excess-past, added-past}
+use Rattle.entering.proofs.Rows.{Table-of, none-entered, all-on, all-stop, still-held}
 
 -- where there is no argument, an item that is neither text nor number
 abbrev pub no-item : Item
@@ -105,84 +101,14 @@ module _ {s : List ℕ} {v : Values} {c : List ℕ} (u : Enterable-values s v c)
 
 module _ {X : Type 0} (equal : X → X → Bool) (value-of : Item → X) (passes : Item → Bool) (table-of : Program → List X) (set-table : List X → Program → Program)
     (laws : Table-of table-of set-table) (none-passes : passes no-item ≡ false) where
-  abbrev One : Item → List ℕ → Bool → List ℕ → Type 0
-  One i c r d = EntersOne equal value-of passes table-of set-table i c r d
+  abbrev Entered : Item → List ℕ → Bool → List ℕ → Type 0
+  Entered i c r d = EntersOne equal value-of passes table-of set-table i c r d
 
-  abbrev All : List Item → List ℕ → Fault → List ℕ → Type 0
-  All js c r d = Enters equal value-of passes table-of set-table js c r d
-
-  none-entered : {c : List ℕ} → All [] c Clear c
-  unfolding fresh
-  none-entered {c} =
-      record {
-        told = λ p g. sym (no-fault (128 - length (table-of p)));
-        holds = λ q p g. subst (λ (y : Program). HoldsProgram c y) (sym (ap (λ (t : List X). set-table t p) (append-nil (table-of p)) ∙ laws .same p)) g;
-        still = λ p g. record { table = table-of p; holds = subst (λ (y : Program). HoldsProgram c y) (sym (laws .same p)) g };
-        beyond-same = refl;
-      }
-    where
-      no-fault : (m : ℕ) → fault-of (drop m []) ≡ Clear
-      no-fault zero = refl
-      no-fault (suc m) = refl
-
-  -- the rest goes on from the cells d, which hold the table `then`
-  module _ (i : Item) (js : List Item) {c d : List ℕ} (then : Program → List X)
-      (h : (p : Program) → HoldsProgram c p → HoldsProgram d (set-table (then p) p))
-      (x : (p : Program) → HoldsProgram c p → excess equal value-of passes (table-of p) (i ∷ js) ≡ excess equal value-of passes (then p) js)
-      (a : (p : Program) → HoldsProgram c p → all-added equal value-of passes (table-of p) (i ∷ js) ≡ all-added equal value-of passes (then p) js) where
-    joined : {f : Fault} {e : List ℕ} → All js d f e → drop 8192 d ≡ drop 8192 c → All (i ∷ js) c f e
-    joined {f} {e} k w =
-        record {
-          told = λ p g.
-              k .told (set-table (then p) p) (h p g) ∙ ap (λ (t : List X). fault-of (excess equal value-of passes t js)) (laws .get (then p) p) ∙ sym (ap fault-of (x p g));
-          holds = λ z p g.
-              subst (λ (y : Program). HoldsProgram e y)
-              (laws .twice (then p) (all-added equal value-of passes (table-of (set-table (then p) p)) js) p
-              ∙ ap (λ (t : List X). set-table (all-added equal value-of passes t js) p) (laws .get (then p) p)
-              ∙ ap (λ (t : List X). set-table t p) (sym (a p g)))
-              (k .holds z (set-table (then p) p) (h p g));
-          still = λ p g.
-              let y = k .still (set-table (then p) p) (h p g) in
-              record { table = y .table; holds = subst (λ (z : Program). HoldsProgram e z) (laws .twice (then p) (y .table) p) (y .holds) };
-          beyond-same = k .beyond-same ∙ w;
-        }
-
-  all-on : (i : Item) (js : List Item) {c : List ℕ} {r : Bool} {d : List ℕ} → One i c r d → r ≡ true → {f : Fault} {e : List ℕ} → All js d f e → All (i ∷ js) c f e
-  all-on i js {c} {r} {d} h q {f} {e} k = go (passes i) refl
-    where
-      go : (b : Bool) → passes i ≡ b → All (i ∷ js) c f e
-      go true z =
-          let room : (p : Program) → HoldsProgram c p → full equal (value-of i) (table-of p) ≡ false =
-          λ p g. not-true (full equal (value-of i) (table-of p)) (sym (rw z at (h .told p g)) ∙ q) in
-          joined i js (λ p. added equal (value-of i) (table-of p)) (λ p g. rw z at (h .holds q p g))
-          (λ p g. excess-on equal value-of passes i js z (table-of p) (laws .most c p g) (room p g))
-          (λ p g. added-on equal value-of passes i js z (table-of p) (laws .most c p g) (room p g)) k (h .beyond-same)
-      go false z =
-          joined i js (λ p. table-of p) (λ p g. rw z at (h .holds q p g))
-          (λ p g. excess-past equal value-of passes i js z (table-of p))
-          (λ p g. added-past equal value-of passes i js z (table-of p)) k (h .beyond-same)
-
-  all-stop : (i : Item) (js : List Item) {c : List ℕ} {r : Bool} {d : List ℕ} → One i c r d → r ≡ false → T (all-from (i .at) js) → All (i ∷ js) c (At (i .at)) d
-  all-stop i js {c} {r} {d} h q w =
-      record {
-        told = λ p g.
-            let e = both (passes i) (full equal (value-of i) (table-of p)) (sym (h .told p g) ∙ q) in
-            sym (excess-here equal value-of passes i js (e .0) (table-of p) (laws .most c p g) (e .1) w);
-        holds = λ e. absurd (let y : _≡_ {A = ℕ} 0 1 = cc in omega arith);
-        still = λ p g. record {
-          table = table-of p;
-          holds = subst (λ (e : List ℕ). HoldsProgram e (set-table (table-of p) p)) (sym (h .same q)) (subst (λ (y : Program). HoldsProgram c y) (sym (laws .same p)) g);
-        };
-        beyond-same = h .beyond-same;
-      }
-    where
-      both : (a b : Bool) → not (a && b) ≡ false → (a ≡ true) × (b ≡ true)
-      both true true e = (refl, refl)
-      both true false e = absurd (true≢false e)
-      both false b e = absurd (true≢false e)
+  abbrev Rest : List Item → List ℕ → Fault → List ℕ → Type 0
+  Rest js c r d = Enters equal value-of passes table-of set-table js c r d
 
   -- an item that is none leaves what it is
-  past-none : {c : List ℕ} {f : Fault} {e : List ℕ} → All (no-item ∷ []) c f e → All [] c f e
+  past-none : {c : List ℕ} {f : Fault} {e : List ℕ} → Rest (no-item ∷ []) c f e → Rest [] c f e
   past-none {c} {f} {e} k =
       record {
         told = λ p g. k .told p g ∙ ap fault-of (excess-past equal value-of passes no-item [] none-passes (table-of p));
@@ -191,22 +117,19 @@ module _ {X : Type 0} (equal : X → X → Bool) (value-of : Item → X) (passes
         beyond-same = k .beyond-same;
       }
 
-  still-held : (i : Item) {c : List ℕ} {d : List ℕ} {r : Bool} → One i c r d → r ≡ true → Held c → Held d
-  still-held i h q u = record { program = _; holds = h .holds q (u .program) (u .holds) }
+  row-on : (args : List Argument) {c : List ℕ} {r : Bool} {d : List ℕ} → Entered (first-of args) c r d → r ≡ true → {f : Fault} {e : List ℕ} → Rest (items-of (drop 1 args)) d f e → Rest (items-of args) c f e
+  row-on [] h q k = past-none (all-on equal value-of passes table-of set-table laws no-item [] h q k)
+  row-on (a ∷ args) h q k = all-on equal value-of passes table-of set-table laws (a .item) (items-of args) h q k
 
-  row-on : (args : List Argument) {c : List ℕ} {r : Bool} {d : List ℕ} → One (first-of args) c r d → r ≡ true → {f : Fault} {e : List ℕ} → All (items-of (drop 1 args)) d f e → All (items-of args) c f e
-  row-on [] h q k = past-none (all-on no-item [] h q k)
-  row-on (a ∷ args) h q k = all-on (a .item) (items-of args) h q k
-
-  row-stop : (args : List Argument) {c : List ℕ} {r : Bool} {d : List ℕ} → One (first-of args) c r d → r ≡ false → Held c → Ordered (items-of args) → {at : ℕ} → First-at args at
-      → All (items-of args) c (At at) d
+  row-stop : (args : List Argument) {c : List ℕ} {r : Bool} {d : List ℕ} → Entered (first-of args) c r d → r ≡ false → Held c → Ordered (items-of args) → {at : ℕ} → First-at args at
+      → Rest (items-of args) c (At at) d
   row-stop [] {c} {r} h q u o {at} e =
       absurd (true≢false (sym (h .told (u .program) (u .holds) ∙ ap (λ (b : Bool). not (b && full equal (value-of no-item) (table-of (u .program)))) none-passes) ∙ q))
-  row-stop (a ∷ args) {c} {r} {d} h q u o {at} e = subst (λ (k : ℕ). All (items-of (a ∷ args)) c (At k) d) (sym e) (all-stop (a .item) (items-of args) h q (o .0))
+  row-stop (a ∷ args) {c} {r} {d} h q u o {at} e = subst (λ (k : ℕ). Rest (items-of (a ∷ args)) c (At k) d) (sym e) (all-stop equal value-of passes table-of set-table laws (a .item) (items-of args) h q (o .0))
 
   -- ---- the three of them
   abbrev Value-enters : List ℕ → table.Argument → List ℕ → Bool → List ℕ → Type 0
-  Value-enters s x c r d = (i : Item) → Item-valued s i x → One i c r d
+  Value-enters s x c r d = (i : Item) → Item-valued s i x → Entered i c r d
 
   module _ {s : List ℕ} {v : Values} {js : List Item} {args : List Argument} (w : Valued s js args v) {c : List ℕ} (u : Held c) where
     abbrev xs₁ : List Argument
@@ -221,39 +144,39 @@ module _ {X : Type 0} (equal : X → X → Bool) (value-of : Item → X) (passes
     third : First-value s xs₂ (v .third)
     third = subst (λ (xs : List Argument). First-value s xs (v .third)) (two args) (w .row .third)
 
-    done : {f : Fault} {d : List ℕ} → All (items-of args) c f d → All js c f d
-    done {f} {d} k = subst (λ (ys : List Item). All ys c f d) (w .items) k
+    done : {f : Fault} {d : List ℕ} → Rest (items-of args) c f d → Rest js c f d
+    done {f} {d} k = subst (λ (ys : List Item). Rest ys c f d) (w .items) k
 
     module _ {r : Bool} {d : List ℕ} (h : Value-enters s (v .first .argument) c r d) where
-      one : One (first-of args) c r d
+      one : Entered (first-of args) c r d
       one = h (first-of args) (first-valued s args (v .first) (w .row .first))
 
-      pub stop-first : r ≡ false → All js c (At (v .first .at)) d
+      pub stop-first : r ≡ false → Rest js c (At (v .first .at)) d
       stop-first q = done (row-stop args one q u o (first-place s args (v .first) (w .row .first)))
 
       module _ (q : r ≡ true) where
         pub held-first : Held d
-        held-first = still-held (first-of args) one q u
+        held-first = still-held equal value-of passes table-of set-table laws (first-of args) one q u
 
         module _ {r₁ : Bool} {d₁ : List ℕ} (h₁ : Value-enters s (v .second .argument) d r₁ d₁) where
-          one₁ : One (first-of xs₁) d r₁ d₁
+          one₁ : Entered (first-of xs₁) d r₁ d₁
           one₁ = h₁ (first-of xs₁) (first-valued s xs₁ (v .second) (w .row .second))
 
-          pub stop-second : r₁ ≡ false → All js c (At (v .second .at)) d₁
+          pub stop-second : r₁ ≡ false → Rest js c (At (v .second .at)) d₁
           stop-second q₁ = done (row-on args one q (row-stop xs₁ one₁ q₁ held-first (rest-ordered args o) (first-place s xs₁ (v .second) (w .row .second))))
 
           module _ (q₁ : r₁ ≡ true) where
             pub held-second : Held d₁
-            held-second = still-held (first-of xs₁) one₁ q₁ held-first
+            held-second = still-held equal value-of passes table-of set-table laws (first-of xs₁) one₁ q₁ held-first
 
             module _ {r₂ : Bool} {d₂ : List ℕ} (h₂ : Value-enters s (v .third .argument) d₁ r₂ d₂) where
-              one₂ : One (first-of xs₂) d₁ r₂ d₂
+              one₂ : Entered (first-of xs₂) d₁ r₂ d₂
               one₂ = h₂ (first-of xs₂) (first-valued s xs₂ (v .third) third)
 
-              pub stop-third : r₂ ≡ false → All js c (At (v .third .at)) d₂
+              pub stop-third : r₂ ≡ false → Rest js c (At (v .third .at)) d₂
               stop-third q₂ =
                   done (row-on args one q (row-on xs₁ one₁ q₁ (row-stop xs₂ one₂ q₂ held-second (rest-ordered xs₁ (rest-ordered args o)) (first-place s xs₂ (v .third) third))))
 
-              pub all-entered : r₂ ≡ true → All js c Clear d₂
+              pub all-entered : r₂ ≡ true → Rest js c Clear d₂
               all-entered q₂ =
-                  done (row-on args one q (row-on xs₁ one₁ q₁ (row-on xs₂ one₂ q₂ (subst (λ (ys : List Item). All ys d₂ Clear d₂) (sym (none-left args (w .few))) none-entered))))
+                  done (row-on args one q (row-on xs₁ one₁ q₁ (row-on xs₂ one₂ q₂ (subst (λ (ys : List Item). Rest ys d₂ Clear d₂) (sym (none-left args (w .few))) (none-entered equal value-of passes table-of set-table laws)))))

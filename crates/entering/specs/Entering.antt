@@ -3,7 +3,7 @@ use mathlib.Core.Path.{_≡_}
 use mathlib.Core.Bool.{Bool, true, false, cond, not, _&&_}
 use mathlib.Core.List.{List, [], _∷_, _++_, map}
 use Prim.Native.Nat.{ℕ, _≤_}
-use lib.Dec.{T, leb, ltb}
+use lib.Dec.{leb, ltb}
 use lib.ListN.{length, drop}
 use lib.IntN.{ℤ, natAbs}
 use Rattle.arguments.specs.Valued.{Item-valued, Valued}

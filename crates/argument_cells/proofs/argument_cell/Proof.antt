@@ -1,5 +1,4 @@
 -- `argument_cells::argument_cell` meets its contract.
-use borrow.Author.Needs.{needs}
 use Rattle.argument_cells.proofs.Arguing.{referable, encodable, cell-of}
 use Rattle.argument_cells.proofs.argument_cell.Statement.{statement}
 use Rattle.argument_cells.proofs.argument_cell.Tie as tie

@@ -2,11 +2,11 @@
 use borrow.Author.Needs.{needs}
 use Prim.Native.Nat.{ℕ, _-_}
 use lib.ListN.{length}
-use mathlib.Core.Path.{_≡_, refl, sym, ap, _∙_}
+use mathlib.Core.Path.{refl, sym, ap, _∙_}
 use native.Mathlib.Omega.{arith}
 use Rattle.arguments.specs.ArgumentLaws.{turned, colon-here, unlisted-here, colon-after-argument}
 use Rattle.arguments.specs.Arguments.{missing-or}
-use Rattle.arguments.specs.ReadLaws.{Gathering, gathering-first, place-here, reads-so, gathering-on, all-read, refusable, refused}
+use Rattle.arguments.specs.ReadLaws.{Gathering, gathering-first, reads-so, gathering-on, all-read, refusable, refused}
 use Rattle.language.specs.Instructions.{operator-of}
 use Rattle.statements.specs.StatementLaws.{on}
 use Rattle.statements.specs.declared.Fault.the-variants.{Clear}

@@ -1,6 +1,6 @@
 -- `arguments::refuse` meets its contract.
 use borrow.Author.Needs.{needs}
-use mathlib.Core.Path.{sym, ap, _∙_}
+use mathlib.Core.Path.{_∙_}
 use native.Mathlib.Omega.{arith}
 use Rattle.arguments.specs.ReadLaws.{refusing}
 use Rattle.arguments.proofs.refuse.Statement.{statement}

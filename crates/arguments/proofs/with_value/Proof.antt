@@ -1,5 +1,4 @@
 -- `arguments::with_value` meets its contract.
-use borrow.Author.Needs.{needs}
 use borrow.Author.Tests.{eq-eqb, ne-eqb}
 use mathlib.Core.Path.{refl}
 use Rattle.arguments.proofs.with_value.Statement.{statement}

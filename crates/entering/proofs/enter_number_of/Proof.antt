@@ -1,7 +1,6 @@
 -- `entering::enter_number_of` meets its contract.
 use borrow.Author.Needs.{needs}
 use borrow.Author.Tests.{not-true, not-false}
-use mathlib.Core.Path.{sym, _∙_}
 use Rattle.entering.proofs.Numbers.{no-number, number-none, number-small, number-entered}
 use Rattle.entering.proofs.enter_number_of.Statement.{statement}
 use Rattle.entering.proofs.enter_number_of.Tie as tie

@@ -1,7 +1,7 @@
 -- `entering::enter_number_values` meets its contract.
 use borrow.Author.Needs.{needs}
 use borrow.Author.Tests.{not-true, not-false}
-use mathlib.Core.Path.{refl, sym, _∙_}
+use mathlib.Core.Path.{refl}
 use Rattle.entering.specs.Entering.{large-number, set-numbers}
 use Rattle.language.specs.Values.{sameNumber}
 use Rattle.syntax.specs.Tables.{number-in}

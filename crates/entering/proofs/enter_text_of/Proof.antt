@@ -1,7 +1,7 @@
 -- `entering::enter_text_of` meets its contract.
 use borrow.Author.Needs.{needs}
 use lib.ListN.{length-take}
-use mathlib.Core.Path.{refl, sym, _∙_}
+use mathlib.Core.Path.{refl}
 use native.Mathlib.Omega.{arith}
 use Rattle.entering.proofs.Adding.{put-long, value-past, value-small, value-entered, value-fits, value-addable}
 use Rattle.entering.proofs.Numbers.{no-text}

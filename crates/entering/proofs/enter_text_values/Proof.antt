@@ -1,7 +1,7 @@
 -- `entering::enter_text_values` meets its contract.
 use borrow.Author.Needs.{needs}
 use borrow.Author.Tests.{not-true, not-false}
-use mathlib.Core.Path.{refl, sym, _∙_}
+use mathlib.Core.Path.{refl}
 use Rattle.entering.specs.Entering.{long-text, set-texts}
 use Rattle.lists.specs.Lists.{sameBytes}
 use Rattle.entering.proofs.Adding.{texts-laws}
