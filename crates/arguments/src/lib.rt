@@ -141,7 +141,7 @@ fn count_arguments(text: &[u8], n: usize) -> usize
 }
 
 // The set of forms that an item reads as.
-pub fn kinds_at(text: &[u8], t: Token) -> u32
+fn kinds_at(text: &[u8], t: Token) -> u32
     requires { ⌜ Stands (now text) t ⌝ }
     ensures { λ r. ⌜ r ≡ item-kinds (item-of (now (text .entry)) t) ⌝ }
 {
