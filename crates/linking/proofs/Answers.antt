@@ -5,19 +5,20 @@ use Prim.Native.Nat.{ℕ}
 use native.Mathlib.Omega.{arith}
 use lib.ListN.{length}
 use Rattle.drafts.specs.Drafting.{draft-program}
+use Rattle.drafts.specs.Tabled.{Tabled}
 use Rattle.layout.specs.Table.{all-entries}
-use Rattle.lookup.proofs.Faults.{joined-clear}
-use Rattle.resolving.specs.Resolving.{code-resolved, entries-resolved, Labelling}
+use Rattle.linking.proofs.Faults.{joined-clear}
+use Rattle.linking.specs.Resolving.{code-resolved, entries-resolved, Labelling}
 use Rattle.statements.specs.StatementAt.{fault-of}
 use Rattle.statements.specs.declared.Fault.{Fault}
 use Rattle.statements.specs.declared.Fault.the-variants.{Clear, At}
 use Rattle.syntax.specs.LoadLaws.{goes-on, decides}
+use Rattle.syntax.specs.Tables.{Tables}
 use Rattle.syntax.specs.Verdict.{Question, ask, first-no}
 use Rattle.syntax.specs.Verdict.Verdict.{yes, refuse}
 use Rattle.writing.specs.Writing.{HoldsProgram, Changes}
 use Rattle.linking.proofs.Relabelling.{linked-program, labelling}
-use Rattle.linking.specs.Linking.{Kept, Finds, Placeable, Placed, Links, LinksAfter, label-places, switch-places}
-use Rattle.linking.specs.declared.Linked.{Linked}
+use Rattle.linking.specs.Linking.{Kept, Finds, Links, label-places, switch-places}
 use Rattle.linking.specs.declared.Linked.the-variants.{Done, Label, Switch}
 
 clear : (ps : List ℕ) → Clear ≡ fault-of ps → ps ≡ []
@@ -38,34 +39,6 @@ both-clear n m ps qs e f =
     sym ((λ j. first-no (ask n (e j) ∷ ask m (f j) ∷ [])) ∙ goes-on n (ask m [] ∷ []) ∙ goes-on m [])
 
 module _ (s c sw en : List ℕ) where
-  pub placed-labelling : {d : List ℕ} (a : Placeable s c sw en) → Changes (λ p. code-resolved s sw (length (p .code)) p) c d → Labelling s d en
-  placed-labelling a x = labelling s (a .tables) c sw en (a .tabled) (a .declared) (x .holds (draft-program s (a .tables)) (a .tabled .holds))
-
-  pub placed : {d e : List ℕ} → Changes (λ p. code-resolved s sw (length (p .code)) p) c d → Changes (λ p. entries-resolved s en (length (all-entries p)) p) d e → Placed s c sw en e
-  placed {d} {e} x y =
-      record {
-        holds = λ t h. let p = draft-program s t in
-            subst (HoldsProgram e) (linked-program s t c sw en h) (y .holds (code-resolved s sw (length (p .code)) p) (x .holds p (h .holds)));
-        beyond = y .beyond ∙ x .beyond;
-      }
-
-  pub all-done : {d : List ℕ} {f : Fault} → Finds s c sw en switch-places f → f ≡ Clear → Placed s c sw en d → LinksAfter s c sw en Done d
-  all-done u e v =
-      record {
-        verdict-is = λ t h n. both-clear 12 13 (label-places t) (switch-places t) n (clear (switch-places t) (sym e ∙ u .is t h));
-        holds = λ q. v .holds;
-        beyond = v .beyond;
-      }
-
-  pub no-switch : {f : Fault} (p : ℕ) → Finds s c sw en switch-places f → f ≡ At p → LinksAfter s c sw en (Switch p) c
-  no-switch p u e =
-      record {
-        verdict-is = λ t h n. at-fault 13 p (switch-places t) [] (sym e ∙ u .is t h) ∙ sym (goes-on 12 (ask 13 (switch-places t) ∷ []))
-            ∙ ap (λ (ps : List ℕ). first-no (ask 12 ps ∷ ask 13 (switch-places t) ∷ [])) (sym n);
-        holds = λ q. absurd (let z : _≡_ {A = ℕ} 0 1 = cc in omega arith);
-        beyond = refl;
-      }
-
   pub no-label : {f : Fault} (p : ℕ) → Finds s c sw en label-places f → f ≡ At p → Links s c sw en (Label p) c
   no-label p u e =
       record {
@@ -74,14 +47,30 @@ module _ (s c sw en : List ℕ) where
         beyond = refl;
       }
 
-  pub placeable : {f : Fault} → Kept s c sw en → Finds s c sw en label-places f → f ≡ Clear → Placeable s c sw en
-  placeable k u e =
-      record { tables = k .tables; tabled = k .tabled; declared = clear (label-places (k .tables)) (sym e ∙ u .is (k .tables) (k .tabled)) }
+  -- every used label is declared
+  module _ {f : Fault} (u : Finds s c sw en label-places f) (e : f ≡ Clear) where
+    declared : (t : Tables) → Tabled s t c sw en → label-places t ≡ []
+    declared t h = clear (label-places t) (sym e ∙ u .is t h)
 
-  pub then-linked : {d : List ℕ} {f : Fault} {r : Linked} → Finds s c sw en label-places f → f ≡ Clear → LinksAfter s c sw en r d → Links s c sw en r d
-  then-linked u e v =
-      record {
-        verdict-is = λ t h. v .verdict-is t h (clear (label-places t) (sym e ∙ u .is t h));
-        holds = v .holds;
-        beyond = v .beyond;
-      }
+    pub no-switch : {g : Fault} (p : ℕ) → Finds s c sw en switch-places g → g ≡ At p → Links s c sw en (Switch p) c
+    no-switch p v i =
+        record {
+          verdict-is = λ t h. at-fault 13 p (switch-places t) [] (sym i ∙ v .is t h) ∙ sym (goes-on 12 (ask 13 (switch-places t) ∷ []))
+              ∙ ap (λ (ps : List ℕ). first-no (ask 12 ps ∷ ask 13 (switch-places t) ∷ [])) (sym (declared t h));
+          holds = λ q. absurd (let z : _≡_ {A = ℕ} 0 1 = cc in omega arith);
+          beyond = refl;
+        }
+
+    pub entries-labelled : {d : List ℕ} → Kept s c sw en → Changes (λ p. code-resolved s sw (length (p .code)) p) c d → Labelling s d en
+    entries-labelled k x =
+        labelling s (k .tables) c sw en (k .tabled) (declared (k .tables) (k .tabled)) (x .holds (draft-program s (k .tables)) (k .tabled .holds))
+
+    pub all-linked : {g : Fault} {d d′ : List ℕ} → Finds s c sw en switch-places g → g ≡ Clear → Changes (λ p. code-resolved s sw (length (p .code)) p) c d
+        → Changes (λ p. entries-resolved s en (length (all-entries p)) p) d d′ → Links s c sw en Done d′
+    all-linked {g} {d} {d′} v i x y =
+        record {
+          verdict-is = λ t h. both-clear 12 13 (label-places t) (switch-places t) (declared t h) (clear (switch-places t) (sym i ∙ v .is t h));
+          holds = λ q t h. let p = draft-program s t in
+              subst (HoldsProgram d′) (linked-program s t c sw en h) (y .holds (code-resolved s sw (length (p .code)) p) (x .holds p (h .holds)));
+          beyond = y .beyond ∙ x .beyond;
+        }

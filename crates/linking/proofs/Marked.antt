@@ -22,8 +22,8 @@ use Rattle.language.specs.Values.{amount, valueOf}
 use Rattle.layout.specs.Bounds.{Each}
 use Rattle.layout.specs.Table.{arg-cell}
 use Rattle.lists.specs.Lists.{each, keep, filled, headOr}
-use Rattle.lookup.proofs.Uses.{of-kind, not-of-kind}
-use Rattle.lookup.specs.Lookup.{marks-in, instr-marks, instr-uses, names-number}
+use Rattle.linking.proofs.Uses.{of-kind, not-of-kind}
+use Rattle.linking.specs.Lookup.{marks-in, instr-marks, instr-uses, names-number}
 use Rattle.syntax.specs.ArgumentForms.{form-in, word-reads, reads, Argument, of-form, letter-of}
 use Rattle.syntax.specs.Items.{Item, is}
 use Rattle.syntax.specs.Items.Sort.{word, text as quoted}

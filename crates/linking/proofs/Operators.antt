@@ -12,7 +12,7 @@ use Rattle.layout.specs.Bounds.{Each}
 use Rattle.lists.specs.ListLaws.{T-left, T-right, all-among}
 use Rattle.lists.specs.Lists.{all, any, among}
 use Rattle.lists.specs.TableLaws.{below}
-use Rattle.lookup.specs.Lookup.{names-number}
+use Rattle.linking.specs.Lookup.{names-number}
 use Rattle.syntax.specs.ArgumentForms.{form-in, Argument, alternatives}
 
 -- a form fits an operator of a type

@@ -18,8 +18,8 @@ use Rattle.language.specs.Program.Arg.{nothing, letter, label, switch, class, t
 use Rattle.language.specs.Values.{amount, valueOf}
 use Rattle.layout.specs.Bounds.{Each}
 use Rattle.lists.specs.Lists.{ahead, headOr, sameBytes}
-use Rattle.lookup.specs.Lookup.{label-by, switch-by, argument}
-use Rattle.resolving.specs.Resolving.{resolved-arg, argument-resolved, instr-resolved, code-resolved}
+use Rattle.linking.specs.Lookup.{label-by, switch-by, argument}
+use Rattle.linking.specs.Resolving.{resolved-arg, argument-resolved, instr-resolved, code-resolved}
 use Rattle.syntax.specs.ArgumentForms.{form-in, Argument, letter-of}
 use Rattle.syntax.specs.Items.{Item, line-of}
 use Rattle.syntax.specs.Load.{label-place, switch-place, arg-of, instr-of}
@@ -30,6 +30,13 @@ use Rattle.linking.proofs.Marked.{by-form, Used, used-argument}
 use Rattle.linking.proofs.Undeclared.{only-l, only-switch}
 
 -- ---- the code after all instructions
+
+-- q is p but for its code
+pub record CodeOnly (p q : Program) : Type 0 where
+  pub labels : q .labels ≡ p .labels
+  pub switches : q .switches ≡ p .switches
+  pub texts : q .texts ≡ p .texts
+  pub numbers : q .numbers ≡ p .numbers
 
 same-resolved : (s sw : List ℕ) (p q : Program) → q .labels ≡ p .labels → q .switches ≡ p .switches → (a : Arg) → resolved-arg s sw q a ≡ resolved-arg s sw p a
 same-resolved s sw p q e f nothing = refl
@@ -77,25 +84,10 @@ module _ (s sw : List ℕ) where
       one-argument q₂ k 2 xs ys x₂ l c₂
       ∙ (λ j. xs ++ record { op = x .op; line = x .line; first = same-resolved s sw p q e f (x .first) j; second = same-resolved s sw p q₁ e₁ f₁ (x .second) j; third = same-resolved s sw p q₂ e₂ f₂ (x .third) j } ∷ ys)
 
-  pub code-labels : (k : ℕ) (p : Program) → code-resolved s sw k p .labels ≡ p .labels
+  pub code-only : (k : ℕ) (p : Program) → CodeOnly p (code-resolved s sw k p)
   unfolding code-resolved argument-resolved with-argument
-  code-labels zero p = refl
-  code-labels (suc k) p = code-labels k p
-
-  pub code-switches : (k : ℕ) (p : Program) → code-resolved s sw k p .switches ≡ p .switches
-  unfolding code-resolved argument-resolved with-argument
-  code-switches zero p = refl
-  code-switches (suc k) p = code-switches k p
-
-  pub code-texts : (k : ℕ) (p : Program) → code-resolved s sw k p .texts ≡ p .texts
-  unfolding code-resolved argument-resolved with-argument
-  code-texts zero p = refl
-  code-texts (suc k) p = code-texts k p
-
-  pub code-numbers : (k : ℕ) (p : Program) → code-resolved s sw k p .numbers ≡ p .numbers
-  unfolding code-resolved argument-resolved with-argument
-  code-numbers zero p = refl
-  code-numbers (suc k) p = code-numbers k p
+  code-only zero p = record { labels = refl; switches = refl; texts = refl; numbers = refl }
+  code-only (suc k) p = let r = code-only k p in record { labels = r .labels; switches = r .switches; texts = r .texts; numbers = r .numbers }
 
   code-so-far : (k : ℕ) (p : Program) → k ≤ length (p .code) → code-resolved s sw k p .code ≡ map (resolved-instr p) (take k (p .code)) ++ drop k (p .code)
   unfolding code-resolved
@@ -105,7 +97,7 @@ module _ (s sw : List ℕ) where
       let f : Instr → Instr = resolved-instr p in
       let xs : List Instr = map f (take k (p .code)) in
       let l : length xs ≡ k = length-map (take k (p .code)) f ∙ length-take-le k (p .code) (omega arith) in
-      one-instruction p (code-resolved s sw k p) k xs (drop (suc k) (p .code)) x (code-labels k p) (code-switches k p) l
+      one-instruction p (code-resolved s sw k p) k xs (drop (suc k) (p .code)) x (code-only k p .labels) (code-only k p .switches) l
       (code-so-far k p (omega arith) ∙ ap (λ (ys : List Instr). xs ++ ys) (drop-cons (p .code) k no-instr h))
       ∙ sym (append-snoc xs (f x) (drop (suc k) (p .code)))
       ∙ ap (λ (ys : List Instr). ys ++ drop (suc k) (p .code)) (sym (map-snoc f (take k (p .code)) x) ∙ ap (map f) (sym (take-suc (p .code) k no-instr h)))

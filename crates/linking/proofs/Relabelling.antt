@@ -17,9 +17,9 @@ use Rattle.layout.specs.Bounds.{Each}
 use Rattle.layout.specs.CellLaws.{each-in, each-right, getD-map-at}
 use Rattle.layout.specs.Table.{all-entries}
 use Rattle.lists.specs.Lists.{any, ahead, each, ifAny, keep, sameBytes}
-use Rattle.lookup.specs.Lookup.{label-by}
-use Rattle.resolving.specs.Resolving.{code-resolved, entries-resolved, Labelling}
-use Rattle.resolving.proofs.Steps.{entries-labels, entries-same}
+use Rattle.linking.specs.Lookup.{label-by}
+use Rattle.linking.specs.Resolving.{code-resolved, entries-resolved, Labelling}
+use Rattle.linking.proofs.Steps.{entries-only, entries-same}
 use Rattle.syntax.specs.Ending.{given-as, used-labels, undeclared-labels}
 use Rattle.syntax.specs.Items.{Item, is}
 use Rattle.syntax.specs.Items.Sort.{word, text}
@@ -33,7 +33,7 @@ use Rattle.writing.proofs.Switching.{entries-of}
 use Rattle.writing.specs.Writing.{HoldsProgram, with-entry-label, to-label}
 use Rattle.linking.proofs.Marked.{Used}
 use Rattle.linking.proofs.Undeclared.{entries-used, entries-draft}
-use Rattle.linking.proofs.Placing.{code-labels, code-switches, code-texts, code-numbers, label-placed, program-code}
+use Rattle.linking.proofs.Placing.{code-only, label-placed, program-code}
 
 no-item : Item
 no-item = record { at = 0; sort = word; chars = []; good = true; colon = [] }
@@ -108,21 +108,6 @@ module _ (s en : List ℕ) where
       ∙ relabel-next ls (all-entries q) x (omega (arith, n))
       ∙ ap (λ (ms : List ℕ). relabel ms (all-entries q)) (sym (map-snoc (label-by s q) (take k en) (getD en k 0)) ∙ ap (map (label-by s q)) (sym (take-suc en k 0 (omega arith))))
 
-  resolved-code : (k : ℕ) (q : Program) → entries-resolved s en k q .code ≡ q .code
-  unfolding entries-resolved with-entry-label
-  resolved-code zero q = refl
-  resolved-code (suc k) q = resolved-code k q
-
-  resolved-texts : (k : ℕ) (q : Program) → entries-resolved s en k q .texts ≡ q .texts
-  unfolding entries-resolved with-entry-label
-  resolved-texts zero q = refl
-  resolved-texts (suc k) q = resolved-texts k q
-
-  resolved-numbers : (k : ℕ) (q : Program) → entries-resolved s en k q .numbers ≡ q .numbers
-  unfolding entries-resolved with-entry-label
-  resolved-numbers zero q = refl
-  resolved-numbers (suc k) q = resolved-numbers k q
-
   resolved-kinds : (k : ℕ) (q : Program) → kinds (entries-resolved s en k q .switches) ≡ kinds (q .switches)
   unfolding entries-resolved with-entry-label
   resolved-kinds zero q = refl
@@ -160,24 +145,24 @@ module _ (s : List ℕ) (t : Tables) (c sw en : List ℕ) (h : Tabled s t c sw e
 
   coded-switches : coded .switches ≡ map draft-switch (t .switches)
   unfolding draft-program
-  coded-switches = code-switches s sw (length (draft .code)) draft
+  coded-switches = code-only s sw (length (draft .code)) draft .switches
 
   coded-entries : all-entries coded ≡ each entries-of (map draft-switch (t .switches))
   coded-entries = ap (each entries-of) coded-switches
 
   coded-labels : coded .labels ≡ t .labels
   unfolding draft-program
-  coded-labels = code-labels s sw (length (draft .code)) draft
+  coded-labels = code-only s sw (length (draft .code)) draft .labels
 
   coded-long : length (all-entries coded) ≡ length (entry-items t)
-  coded-long = ap (λ (ws : List Switch). length (each entries-of ws)) (code-switches s sw (length (draft .code)) draft) ∙ entries-draft s t c sw en h
+  coded-long = ap (λ (ws : List Switch). length (each entries-of ws)) (code-only s sw (length (draft .code)) draft .switches) ∙ entries-draft s t c sw en h
 
   coded-place : (m : ℕ) → label-by s coded m ≡ label-by s draft m
-  coded-place m = ap (λ (ls : List Label). ahead (λ l. sameBytes (word-by s m) (l .name)) ls) (code-labels s sw (length (draft .code)) draft)
+  coded-place m = ap (λ (ls : List Label). ahead (λ l. sameBytes (word-by s m) (l .name)) ls) (code-only s sw (length (draft .code)) draft .labels)
 
   entries-few : length (all-entries coded) ≤ length en
   entries-few =
-      omega (arith, ap (λ (ws : List Switch). length (each entries-of ws)) (code-switches s sw (length (draft .code)) draft), h .holds .tabular .entries-most, h .entry-room)
+      omega (arith, ap (λ (ws : List Switch). length (each entries-of ws)) (code-only s sw (length (draft .code)) draft .switches), h .holds .tabular .entries-most, h .entry-room)
 
   abbrev linked : Program
   linked = entries-resolved s en (length (all-entries coded)) coded
@@ -200,18 +185,18 @@ module _ (s : List ℕ) (t : Tables) (c sw en : List ℕ) (h : Tabled s t c sw e
       linked-entries
 
   linked-code : linked .code ≡ map (instr-of s t) (t .code)
-  linked-code = resolved-code s en (length (all-entries coded)) coded ∙ program-code s t c sw en h
+  linked-code = entries-only s en (length (all-entries coded)) coded .code ∙ program-code s t c sw en h
 
   linked-labels : linked .labels ≡ t .labels
-  linked-labels = entries-labels s en (length (all-entries coded)) coded ∙ coded-labels
+  linked-labels = entries-only s en (length (all-entries coded)) coded .labels ∙ coded-labels
 
   linked-texts : linked .texts ≡ t .texts
   unfolding draft-program
-  linked-texts = resolved-texts s en (length (all-entries coded)) coded ∙ code-texts s sw (length (draft .code)) draft
+  linked-texts = entries-only s en (length (all-entries coded)) coded .texts ∙ code-only s sw (length (draft .code)) draft .texts
 
   linked-numbers : linked .numbers ≡ t .numbers
   unfolding draft-program
-  linked-numbers = resolved-numbers s en (length (all-entries coded)) coded ∙ code-numbers s sw (length (draft .code)) draft
+  linked-numbers = entries-only s en (length (all-entries coded)) coded .numbers ∙ code-only s sw (length (draft .code)) draft .numbers
 
   pub linked-program : linked ≡ program-of s t
   unfolding program-of

@@ -19,8 +19,8 @@ use Rattle.layout.specs.Bounds.{Each}
 use Rattle.layout.specs.CellLaws.{each-append}
 use Rattle.layout.specs.Table.{all-entries}
 use Rattle.lists.specs.Lists.{any, each, keep, headOr, sameBytes}
-use Rattle.lookup.proofs.Faults.{joined-join, faults-append}
-use Rattle.lookup.specs.Lookup.{joined, known, faults, instr-uses, is-switch, Asking, AskingAll, Judges}
+use Rattle.linking.proofs.Faults.{joined-join, faults-append}
+use Rattle.linking.specs.Lookup.{joined, known, faults, instr-uses, is-switch, Judges}
 use Rattle.statements.specs.StatementAt.{fault-of}
 use Rattle.statements.specs.declared.Fault.{Fault}
 use Rattle.statements.specs.declared.Fault.the-variants.{Clear}
@@ -166,12 +166,6 @@ module _ (s : List ℕ) (t : Tables) (c sw en : List ℕ) (h : Tabled s t c sw e
       (λ j. faults s sw 2 true draft (a j ++ entry-marks-are j)) ∙ ap (faults s sw 2 true draft) (sym (map-append (λ i. mark i) (given-as "l" t) (entry-items t)))
       ∙ faults-items s sw 2 true draft (λ i. any (λ l. sameBytes (i .chars) (l .name)) (t .labels)) (used-labels t)
       (each-map (Used s) _ label-ok (used-labels t) (each-append (Used s) (given-as "l" t) (entry-items t) (used-of "l" only-l) entries-used))
-
-  pub asking : Asking c sw
-  asking = record { program = draft; holds = h .holds; room = h .switch-room }
-
-  pub asking-all : AskingAll c sw en
-  asking-all = record { asking = asking; entries = h .entry-room }
 
 -- ---- the answers
 

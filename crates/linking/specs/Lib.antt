@@ -1,1 +1,3 @@
+pub mod Lookup
+pub mod Resolving
 pub mod Linking

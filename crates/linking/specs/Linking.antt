@@ -32,17 +32,6 @@ label-places t = undeclared-labels t
 abbrev pub switch-places : Tables → List ℕ
 switch-places t = undeclared-switches true t ++ undeclared-switches false t
 
--- and every used label is declared
-pub record Placeable (s c sw en : List ℕ) : Type 0 where
-  pub tables : Tables
-  pub tabled : Tabled s tables c sw en
-  pub declared : undeclared-labels tables ≡ []
-
--- the cells d hold the program of the text; "cells beyond are neither read nor written"
-pub record Placed (s c sw en d : List ℕ) : Type 0 where
-  pub holds : (t : Tables) → Tabled s t c sw en → HoldsProgram d (program-of s t)
-  pub beyond : drop limit.table d ≡ drop limit.table c
-
 -- the last two questions of a text, and what an answer says of them
 abbrev pub last-two : Tables → List Question
 last-two t = ask 12 (label-places t) ∷ ask 13 (switch-places t) ∷ []
@@ -52,14 +41,8 @@ verdict-of Done = yes
 verdict-of (Label at) = refuse 12 at
 verdict-of (Switch at) = refuse 13 at
 
--- the verdict is told; where it is yes, the cells d hold the program
+-- the verdict is told; where it is yes, the cells d hold the program; "cells beyond are neither read nor written"
 pub record Links (s c sw en : List ℕ) (r : Linked) (d : List ℕ) : Type 0 where
   pub verdict-is : (t : Tables) → Tabled s t c sw en → verdict-of r ≡ first-no (last-two t)
-  pub holds : r ≡ Done → (t : Tables) → Tabled s t c sw en → HoldsProgram d (program-of s t)
-  pub beyond : drop limit.table d ≡ drop limit.table c
-
--- the same, where question 12 was answered yes
-pub record LinksAfter (s c sw en : List ℕ) (r : Linked) (d : List ℕ) : Type 0 where
-  pub verdict-is : (t : Tables) → Tabled s t c sw en → undeclared-labels t ≡ [] → verdict-of r ≡ first-no (last-two t)
   pub holds : r ≡ Done → (t : Tables) → Tabled s t c sw en → HoldsProgram d (program-of s t)
   pub beyond : drop limit.table d ≡ drop limit.table c

@@ -1,14 +1,15 @@
 -- `linking::undeclared_switch` meets its contract.
 use denote.Ref.{now}
-use Rattle.linking.proofs.Undeclared.{asking, switches-found}
+use Rattle.linking.proofs.Undeclared.{switches-found}
+use Rattle.linking.proofs.Walks.{asking}
 use Rattle.linking.proofs.undeclared_switch.Statement.{statement}
 use Rattle.linking.proofs.undeclared_switch.Tie as tie
 
 code-fault-requires : tie.Need-code-fault-requires
-code-fault-requires c κs = asking (now (c .before .before .before .before .args .text)) (c .before .before .before .before .pre .tables) (now (c .before .before .before .before .args .table)) (now (c .before .before .before .before .args .sw)) (now (c .before .before .before .before .args .en)) (c .before .before .before .before .pre .tabled)
+code-fault-requires c κs = asking (c .before .before .before .before .pre)
 
 code-fault-requires-2 : tie.Need-code-fault-requires-2
-code-fault-requires-2 c κs = asking (now (c .before .before .before .before .before .args .text)) (c .before .before .before .before .before .pre .tables) (now (c .before .before .before .before .before .args .table)) (now (c .before .before .before .before .before .args .sw)) (now (c .before .before .before .before .before .args .en)) (c .before .before .before .before .before .pre .tabled)
+code-fault-requires-2 c κs = asking (c .before .before .before .before .before .pre)
 
 returns : tie.Need-returns
 returns c = switches-found (now (c .before .before .before .before .before .before .args .text)) (now (c .before .before .before .before .before .before .args .table)) (now (c .before .before .before .before .before .before .args .sw)) (now (c .before .before .before .before .before .before .args .en)) (c .before .code-fault .ensures) (c .code-fault2 .ensures)

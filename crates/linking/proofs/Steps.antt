@@ -1,0 +1,212 @@
+-- One argument and one entry after the other.
+use mathlib.Core.Path.{_≡_, refl, sym, ap, _∙_, subst}
+use mathlib.Core.List.{List}
+use Prim.Native.Nat.{ℕ, zero, suc, _+_, _*_, _/_, _%_, _≤_, _<_}
+use native.Mathlib.Numerals.{add-one}
+use native.Mathlib.Omega.{arith}
+use lib.ListN.{length, getD, set, take, length-set}
+use lib.Seq.{set-getD, length-take-le}
+use Rattle.drafts.specs.Marks.{word-by}
+use Rattle.finding.specs.Finding.{Tells}
+use Rattle.language.specs.Program.{Arg, Instr, Label, Program, no-instr, instr-at, no-entry}
+use Rattle.language.specs.Program.Arg.{nothing, letter, label, switch, class, text}
+use Rattle.layout.specs.Cells.{cell}
+use Rattle.layout.specs.Table.{arg-cell, all-entries}
+use Rattle.layout.specs.Places as layout
+use Rattle.lists.specs.Lists.{ahead, sameBytes}
+use Rattle.lists.specs.ListLaws.{ahead-le}
+use Rattle.linking.proofs.Uses.{argument-is}
+use Rattle.linking.specs.Lookup.{label-by, switch-by, argument, AskingAt, AskingFor}
+use Rattle.packed.specs.Packed.{table-of}
+use Rattle.writing.proofs.Held.{code-count, entry-count, switch-count}
+use Rattle.writing.proofs.Replacing.{relabelled-entries}
+use Rattle.writing.proofs.Rooms.{entry-place}
+use Rattle.writing.specs.Writing.{HoldsProgram, Changes, Writes, IsArg, EntryAt, with-argument, put-argument, with-entry-label, to-label}
+use Rattle.linking.specs.Resolving.{resolved-arg, argument-resolved, instr-resolved, code-resolved, entry-resolved, entries-resolved, Labelling}
+
+-- ---- changes
+
+pub changed-twice : {f g : Program → Program} {c d e : List ℕ} → Changes f c d → Changes g d e → Changes (λ p. g (f p)) c e
+changed-twice {f} x y = record { holds = λ p h. y .holds (f p) (x .holds p h); beyond = y .beyond ∙ x .beyond }
+
+pub changed-as : {f g : Program → Program} {c d : List ℕ} → ((p : Program) → HoldsProgram c p → f p ≡ g p) → Changes f c d → Changes g c d
+changed-as {f} {g} {c} {d} e x = record { holds = λ p h. subst (HoldsProgram d) (e p h) (x .holds p h); beyond = x .beyond }
+
+-- ---- an argument by its cell
+
+module _ (p : Program) where
+  pub label-of-cell : (a : Arg) → arg-cell p a % 8 ≡ 2 → a ≡ label (arg-cell p a / 8)
+  label-of-cell nothing e = absurd (omega (arith, e))
+  label-of-cell (letter l n) e = absurd (omega (arith, e))
+  label-of-cell (label k) e = ap label (let z : k ≡ (2 + 8 * k) / 8 = omega arith in z)
+  label-of-cell (switch k) e = absurd (omega (arith, e))
+  label-of-cell (class cs) e = absurd (omega (arith, e))
+  label-of-cell (text t) e = absurd (omega (arith, e))
+  label-of-cell (Arg.number z) e = absurd (omega (arith, e))
+
+  pub switch-of-cell : (a : Arg) → arg-cell p a % 8 ≡ 3 → a ≡ switch (arg-cell p a / 8)
+  switch-of-cell nothing e = absurd (omega (arith, e))
+  switch-of-cell (letter l n) e = absurd (omega (arith, e))
+  switch-of-cell (label k) e = absurd (omega (arith, e))
+  switch-of-cell (switch k) e = ap switch (let z : k ≡ (3 + 8 * k) / 8 = omega arith in z)
+  switch-of-cell (class cs) e = absurd (omega (arith, e))
+  switch-of-cell (text t) e = absurd (omega (arith, e))
+  switch-of-cell (Arg.number z) e = absurd (omega (arith, e))
+
+  other-of-cell : (s sw : List ℕ) (a : Arg) → (arg-cell p a % 8 ≡ 2 → ⊥) → (arg-cell p a % 8 ≡ 3 → ⊥) → a ≡ resolved-arg s sw p a
+  other-of-cell s sw nothing e f = refl
+  other-of-cell s sw (letter l n) e f = refl
+  other-of-cell s sw (label k) e f = absurd (e (omega arith))
+  other-of-cell s sw (switch k) e f = absurd (f (omega arith))
+  other-of-cell s sw (class cs) e f = refl
+  other-of-cell s sw (text t) e f = refl
+  other-of-cell s sw (Arg.number z) e f = refl
+
+same-argument : (j : ℕ) (i : Instr) → put-argument j (argument j i) i ≡ i
+same-argument zero i = refl
+same-argument (suc zero) i = refl
+same-argument (suc (suc j)) i = refl
+
+with-same : (k j : ℕ) (p : Program) → with-argument k j (argument j (instr-at p k)) p ≡ p
+unfolding with-argument
+with-same k j p =
+    let e : set (p .code) k (put-argument j (argument j (instr-at p k)) (instr-at p k)) ≡ p .code =
+    ap (set (p .code) k) (same-argument j (instr-at p k)) ∙ set-getD (p .code) k no-instr in
+    λ i. record { code = e i; labels = p .labels; switches = p .switches; texts = p .texts; numbers = p .numbers }
+
+module _ (s sw c : List ℕ) (k j x : ℕ) (a : AskingFor c sw k j) (is : x ≡ getD c (layout.first-instruction + 4 * k + 1 + j) 0) where
+  pub label-put : {d : List ℕ} (v : ℕ) → x % 8 ≡ 2 → Tells c (λ p. label-by s p (x / 8)) 128 v → Writes (IsArg (2 + 8 * v)) (with-argument k j) c d
+      → Changes (argument-resolved s sw k j) c d
+  unfolding argument-resolved
+  label-put {d} v e t w =
+      record {
+        holds = λ p h. let b : Arg = argument j (instr-at p k) in
+            let i : x ≡ arg-cell p b = argument-is sw c k j x a is p h in
+            let q : b ≡ label (x / 8) = label-of-cell p b (ap (λ (y : ℕ). y % 8) (sym i) ∙ e) ∙ ap (λ (y : ℕ). label (y / 8)) (sym i) in
+            let r : label v ≡ resolved-arg s sw p b = ap label (t .is p h) ∙ sym (ap (resolved-arg s sw p) q) in
+            subst (λ (y : Arg). HoldsProgram d (with-argument k j y p)) r (w .holds (label v) p h (record { is = refl; kept = tt }));
+        beyond = w .beyond;
+      }
+
+  pub switch-put : {d : List ℕ} (n v : ℕ) → x % 8 ≡ 3 → n ≡ cell (table-of c) 2 → v ≡ switch-by s sw n (x / 8) → Writes (IsArg (3 + 8 * v)) (with-argument k j) c d
+      → Changes (argument-resolved s sw k j) c d
+  unfolding argument-resolved
+  switch-put {d} n v e c-is t w =
+      record {
+        holds = λ p h. let b : Arg = argument j (instr-at p k) in
+            let i : x ≡ arg-cell p b = argument-is sw c k j x a is p h in
+            let q : b ≡ switch (x / 8) = switch-of-cell p b (ap (λ (y : ℕ). y % 8) (sym i) ∙ e) ∙ ap (λ (y : ℕ). switch (y / 8)) (sym i) in
+            let r : switch v ≡ resolved-arg s sw p b =
+            ap switch (t ∙ ap (λ (n : ℕ). switch-by s sw n (x / 8)) (c-is ∙ switch-count c p h)) ∙ sym (ap (resolved-arg s sw p) q) in
+            subst (λ (y : Arg). HoldsProgram d (with-argument k j y p)) r (w .holds (switch v) p h (record { is = refl; kept = tt }));
+        beyond = w .beyond;
+      }
+
+  pub none-put : (x % 8 ≡ 2 → ⊥) → (x % 8 ≡ 3 → ⊥) → Changes (argument-resolved s sw k j) c c
+  unfolding argument-resolved
+  none-put e f =
+      record {
+        holds = λ p h. let b : Arg = argument j (instr-at p k) in
+            let i : x ≡ arg-cell p b = argument-is sw c k j x a is p h in
+            let r : b ≡ resolved-arg s sw p b =
+            other-of-cell p s sw b (λ z. e (ap (λ (y : ℕ). y % 8) i ∙ z)) (λ z. f (ap (λ (y : ℕ). y % 8) i ∙ z)) in
+            subst (HoldsProgram c) (sym (with-same k j p) ∙ ap (λ (y : Arg). with-argument k j y p) r) h;
+        beyond = refl;
+      }
+
+-- what a search for a switch answers is small
+pub switch-low : (s sw : List ℕ) (n m : ℕ) → n ≤ length sw → switch-by s sw n m ≤ n
+switch-low s sw n m h = omega (arith, ahead-le (λ x. sameBytes (word-by s m) (word-by s x)) (take n sw), length-take-le n sw h)
+
+-- ---- instructions
+
+pub asking-after : {f : Program → Program} {c d sw : List ℕ} {k : ℕ} → ((p : Program) → length (f p .code) ≡ length (p .code)) → AskingAt c sw k → Changes f c d → AskingAt d sw k
+asking-after {f} e a x =
+    let p : Program = a .asking .program in
+    record { asking = record { program = f p; holds = x .holds p (a .asking .holds); room = a .asking .room }; there = omega (arith, a .there, e p) }
+
+module _ (s sw : List ℕ) where
+  pub argument-long : (k j : ℕ) (p : Program) → length (argument-resolved s sw k j p .code) ≡ length (p .code)
+  unfolding argument-resolved with-argument
+  argument-long k j p = length-set (p .code) k _
+
+  pub code-long : (k : ℕ) (p : Program) → length (code-resolved s sw k p .code) ≡ length (p .code)
+  unfolding code-resolved
+  code-long zero p = refl
+  code-long (suc k) p =
+      let q : Program = code-resolved s sw k p in
+      argument-long k 2 (argument-resolved s sw k 1 (argument-resolved s sw k 0 q)) ∙ argument-long k 1 (argument-resolved s sw k 0 q) ∙ argument-long k 0 q
+      ∙ code-long k p
+
+  module _ {c d : List ℕ} (n k : ℕ) (is : n ≡ cell (table-of c) 0) where
+    pub code-done : n ≤ k → k ≤ n → Changes (code-resolved s sw k) c d → Changes (λ p. code-resolved s sw (length (p .code)) p) c d
+    code-done u v x =
+        changed-as (λ p h. let e : k ≡ length (p .code) = omega (arith, is, code-count c p h) in ap (λ (k : ℕ). code-resolved s sw k p) e) x
+
+  pub code-first : (c : List ℕ) → Changes (code-resolved s sw 0) c c
+  unfolding code-resolved
+  code-first c = record { holds = λ p h. h; beyond = refl }
+
+  pub code-next : {c d e : List ℕ} (k : ℕ) → Changes (code-resolved s sw k) c d → Changes (instr-resolved s sw k) d e → Changes (code-resolved s sw (k + 1)) c e
+  unfolding code-resolved
+  code-next k x y = changed-as (λ p h. ap (λ (j : ℕ). code-resolved s sw j p) (sym (add-one k))) (changed-twice x y)
+
+-- ---- entries
+
+-- q is p but for its switches
+pub record EntriesOnly (p q : Program) : Type 0 where
+  pub code : q .code ≡ p .code
+  pub labels : q .labels ≡ p .labels
+  pub texts : q .texts ≡ p .texts
+  pub numbers : q .numbers ≡ p .numbers
+
+module _ (s en : List ℕ) where
+  entry-long : (k : ℕ) (p : Program) → length (all-entries (entry-resolved s en k p)) ≡ length (all-entries p)
+  unfolding with-entry-label
+  entry-long k p =
+      let m : ℕ = label-by s p (getD en k 0) in
+      ap length (sym (relabelled-entries k m (p .switches))) ∙ length-set (all-entries p) k (to-label m (getD (all-entries p) k no-entry))
+
+  pub entries-long : (k : ℕ) (p : Program) → length (all-entries (entries-resolved s en k p)) ≡ length (all-entries p)
+  unfolding entries-resolved
+  entries-long zero p = refl
+  entries-long (suc k) p = entry-long k (entries-resolved s en k p) ∙ entries-long k p
+
+  pub entries-only : (k : ℕ) (p : Program) → EntriesOnly p (entries-resolved s en k p)
+  unfolding entries-resolved with-entry-label
+  entries-only zero p = record { code = refl; labels = refl; texts = refl; numbers = refl }
+  entries-only (suc k) p = let r = entries-only k p in record { code = r .code; labels = r .labels; texts = r .texts; numbers = r .numbers }
+
+  pub entries-same : (k : ℕ) (p : Program) (m : ℕ) → label-by s (entries-resolved s en k p) m ≡ label-by s p m
+  entries-same k p m = ap (λ (ls : List Label). ahead (λ l. sameBytes (word-by s m) (l .name)) ls) (entries-only k p .labels)
+
+  pub entry-put : {c d : List ℕ} (k x v : ℕ) → x ≡ getD en k 0 → Tells c (λ p. label-by s p x) 128 v → Changes (with-entry-label k v) c d → Changes (entry-resolved s en k) c d
+  entry-put k x v e t w = changed-as (λ p h. ap (λ (m : ℕ). with-entry-label k m p) (t .is p h ∙ ap (label-by s p) e)) w
+
+  module _ {c : List ℕ} (n k : ℕ) (is : n ≡ cell (table-of c) 3) where
+    module _ (a : Labelling s c en) (l : k < n) where
+      low-entry : k < length (all-entries (a .program))
+      low-entry = omega (arith, is, entry-count c (a .program) (a .holds))
+
+      pub mark-there : k < length en
+      mark-there = omega (arith, low-entry, a .holds .tabular .entries-most, a .room)
+
+      pub entry-ready : {d : List ℕ} (x v : ℕ) → x ≡ getD en k 0 → Changes (entries-resolved s en k) c d → Tells d (λ p. label-by s p x) 128 v → EntryAt d k v
+      entry-ready {d} x v e y t =
+          let p : Program = a .program in
+          let q : Program = entries-resolved s en k p in
+          let h : HoldsProgram d q = y .holds p (a .holds) in
+          let m : v ≡ label-by s p (getD en k 0) = t .is q h ∙ ap (label-by s q) e ∙ entries-same k p (getD en k 0) in
+          entry-place d q h k v (omega (arith, entries-long k p, low-entry)) (omega (arith, m, a .low k low-entry))
+
+    pub entries-done : {d : List ℕ} → n ≤ k → k ≤ n → Changes (entries-resolved s en k) c d → Changes (λ p. entries-resolved s en (length (all-entries p)) p) c d
+    entries-done u v x =
+        changed-as (λ p h. let e : k ≡ length (all-entries p) = omega (arith, is, entry-count c p h) in ap (λ (k : ℕ). entries-resolved s en k p) e) x
+
+  pub entries-first : (c : List ℕ) → Changes (entries-resolved s en 0) c c
+  unfolding entries-resolved
+  entries-first c = record { holds = λ p h. h; beyond = refl }
+
+  pub entries-next : {c d e : List ℕ} (k : ℕ) → Changes (entries-resolved s en k) c d → Changes (entry-resolved s en k) d e → Changes (entries-resolved s en (k + 1)) c e
+  unfolding entries-resolved
+  entries-next k x y = changed-as (λ p h. ap (λ (j : ℕ). entries-resolved s en j p) (sym (add-one k))) (changed-twice x y)

@@ -1,0 +1,96 @@
+-- `linking::resolve_argument` meets its contract.
+use borrow.Author.Needs.{needs}
+use native.Mathlib.Omega.{arith}
+use Prim.Native.Nat.{_/_}
+use denote.Ref.{now}
+use Rattle.finding.proofs.Found.{labels-counted}
+use Rattle.writing.proofs.Held.{switch-count}
+use Rattle.writing.proofs.Rooms.{argument-place}
+use Rattle.linking.proofs.Steps.{label-put, switch-put, none-put, switch-low}
+use Rattle.linking.proofs.resolve_argument.Statement.{statement}
+use Rattle.linking.proofs.resolve_argument.Tie as tie
+
+mul-read : tie.Need-mul-read
+mul-read c = omega (arith, c .before .before .before .before .pre .at .there, c .before .before .before .before .pre .at .asking .holds .tabular .code-most, c .before .before .before .before .pre .place)
+
+add-read : tie.Need-add-read
+add-read c = omega (arith, c .before .before .before .before .pre .at .there, c .before .before .before .before .pre .at .asking .holds .tabular .code-most, c .before .before .before .before .pre .place)
+
+add-read-2 : tie.Need-add-read-2
+add-read-2 c = omega (arith, c .before .before .before .before .pre .at .there, c .before .before .before .before .pre .at .asking .holds .tabular .code-most, c .before .before .before .before .pre .place)
+
+add-read-3 : tie.Need-add-read-3
+add-read-3 c = omega (arith, c .before .before .before .before .pre .at .there, c .before .before .before .before .pre .at .asking .holds .tabular .code-most, c .before .before .before .before .pre .place)
+
+read-requires : tie.Need-read-requires
+read-requires c κs = omega (arith, c .before .before .before .before .pre .at .there, c .before .before .before .before .pre .at .asking .holds .tabular .code-most, c .before .before .before .before .pre .place, c .before .before .before .before .pre .at .asking .holds .long)
+
+label-place-requires : tie.Need-label-place-requires
+label-place-requires c κs = labels-counted _ _ (c .before .before .before .before .before .before .before .pre .at .asking .holds)
+
+mul-set-argument : tie.Need-mul-set-argument
+mul-set-argument c = omega (arith, c .before .label-place .ensures .most)
+
+add-set-argument : tie.Need-add-set-argument
+add-set-argument c = omega (arith, c .before .label-place .ensures .most)
+
+set-argument-requires : tie.Need-set-argument-requires
+set-argument-requires c κs = argument-place _ _ (c .before .before .before .before .before .before .before .before .before .pre .at .asking .holds) _ _ _ (c .before .before .before .before .before .before .before .before .before .pre .at .there) (c .before .before .before .before .before .before .before .before .before .pre .place) (omega (arith, c .before .label-place .ensures .most))
+
+same-length : tie.Need-same-length
+same-length c = search needs
+
+returns : tie.Need-returns
+returns c = label-put (now (c .before .before .before .before .before .before .before .before .before .before .before .before .args .text)) (now (c .before .before .before .before .before .before .before .before .before .before .before .before .args .sw)) (now (c .before .before .before .before .before .before .before .before .before .before .before .before .args .table)) (c .before .before .before .before .before .before .before .before .before .before .before .before .args .k) (c .before .before .before .before .before .before .before .before .before .before .before .before .args .j) (c .before .before .before .before .before .before .before .read .result) ((c .before .before .before .before .before .before .before .before .before .before .before .before .pre)) (c .before .before .before .before .before .before .before .read .ensures .is) (c .before .before .before .before .label-place .result) (c .before .before .before .before .before .before .if1 .taken) (c .before .before .before .before .label-place .ensures) (c .before .before .set-argument .ensures)
+
+switches-requires : tie.Need-switches-requires
+switches-requires c κs = c .before .before .before .before .before .before .before .before .pre .at .asking .holds .long
+
+switch-place-requires : tie.Need-switch-place-requires
+switch-place-requires c κs = omega (arith, c .switches .ensures .is, switch-count _ _ (c .before .before .before .before .before .before .before .before .before .pre .at .asking .holds), c .before .before .before .before .before .before .before .before .before .pre .at .asking .holds .tabular .switches-most, c .before .before .before .before .before .before .before .before .before .pre .at .asking .room)
+
+mul-set-argument-2 : tie.Need-mul-set-argument-2
+mul-set-argument-2 c = omega (arith, (rw (← c .before .switch-place .ensures) at (switch-low (now (c .before .before .before .before .before .before .before .before .before .before .before .args .text)) (now (c .before .before .before .before .before .before .before .before .before .before .before .args .sw)) (c .before .before .switches .result) (c .before .before .before .before .before .before .read .result / 8) (omega (arith, c .before .before .switches .ensures .is, switch-count _ _ (c .before .before .before .before .before .before .before .before .before .before .before .pre .at .asking .holds), c .before .before .before .before .before .before .before .before .before .before .before .pre .at .asking .holds .tabular .switches-most, c .before .before .before .before .before .before .before .before .before .before .before .pre .at .asking .room)))), c .before .before .switches .ensures .is, switch-count _ _ (c .before .before .before .before .before .before .before .before .before .before .before .pre .at .asking .holds), c .before .before .before .before .before .before .before .before .before .before .before .pre .at .asking .holds .tabular .switches-most, c .before .before .before .before .before .before .before .before .before .before .before .pre .at .asking .room)
+
+add-set-argument-2 : tie.Need-add-set-argument-2
+add-set-argument-2 c = omega (arith, (rw (← c .before .switch-place .ensures) at (switch-low (now (c .before .before .before .before .before .before .before .before .before .before .before .args .text)) (now (c .before .before .before .before .before .before .before .before .before .before .before .args .sw)) (c .before .before .switches .result) (c .before .before .before .before .before .before .read .result / 8) (omega (arith, c .before .before .switches .ensures .is, switch-count _ _ (c .before .before .before .before .before .before .before .before .before .before .before .pre .at .asking .holds), c .before .before .before .before .before .before .before .before .before .before .before .pre .at .asking .holds .tabular .switches-most, c .before .before .before .before .before .before .before .before .before .before .before .pre .at .asking .room)))), c .before .before .switches .ensures .is, switch-count _ _ (c .before .before .before .before .before .before .before .before .before .before .before .pre .at .asking .holds), c .before .before .before .before .before .before .before .before .before .before .before .pre .at .asking .holds .tabular .switches-most, c .before .before .before .before .before .before .before .before .before .before .before .pre .at .asking .room)
+
+set-argument-requires-2 : tie.Need-set-argument-requires-2
+set-argument-requires-2 c κs = argument-place _ _ (c .before .before .before .before .before .before .before .before .before .before .before .pre .at .asking .holds) _ _ _ (c .before .before .before .before .before .before .before .before .before .before .before .pre .at .there) (c .before .before .before .before .before .before .before .before .before .before .before .pre .place) (omega (arith, (rw (← c .before .switch-place .ensures) at (switch-low (now (c .before .before .before .before .before .before .before .before .before .before .before .args .text)) (now (c .before .before .before .before .before .before .before .before .before .before .before .args .sw)) (c .before .before .switches .result) (c .before .before .before .before .before .before .read .result / 8) (omega (arith, c .before .before .switches .ensures .is, switch-count _ _ (c .before .before .before .before .before .before .before .before .before .before .before .pre .at .asking .holds), c .before .before .before .before .before .before .before .before .before .before .before .pre .at .asking .holds .tabular .switches-most, c .before .before .before .before .before .before .before .before .before .before .before .pre .at .asking .room)))), c .before .before .switches .ensures .is, switch-count _ _ (c .before .before .before .before .before .before .before .before .before .before .before .pre .at .asking .holds), c .before .before .before .before .before .before .before .before .before .before .before .pre .at .asking .holds .tabular .switches-most, c .before .before .before .before .before .before .before .before .before .before .before .pre .at .asking .room))
+
+same-length-2 : tie.Need-same-length-2
+same-length-2 c = search needs
+
+returns-2 : tie.Need-returns-2
+returns-2 c = switch-put (now (c .before .before .before .before .before .before .before .before .before .before .before .before .before .before .args .text)) (now (c .before .before .before .before .before .before .before .before .before .before .before .before .before .before .args .sw)) (now (c .before .before .before .before .before .before .before .before .before .before .before .before .before .before .args .table)) (c .before .before .before .before .before .before .before .before .before .before .before .before .before .before .args .k) (c .before .before .before .before .before .before .before .before .before .before .before .before .before .before .args .j) (c .before .before .before .before .before .before .before .before .before .read .result) ((c .before .before .before .before .before .before .before .before .before .before .before .before .before .before .pre)) (c .before .before .before .before .before .before .before .before .before .read .ensures .is) (c .before .before .before .before .before .switches .result) (c .before .before .before .before .switch-place .result) (c .before .before .before .before .before .before .before .if2 .taken) (c .before .before .before .before .before .switches .ensures .is) (c .before .before .before .before .switch-place .ensures) (c .before .before .set-argument2 .ensures)
+
+same-length-3 : tie.Need-same-length-3
+same-length-3 c = search needs
+
+returns-3 : tie.Need-returns-3
+returns-3 c = none-put (now (c .before .before .before .before .before .before .before .args .text)) (now (c .before .before .before .before .before .before .before .args .sw)) (now (c .before .before .before .before .before .before .before .args .table)) (c .before .before .before .before .before .before .before .args .k) (c .before .before .before .before .before .before .before .args .j) (c .before .before .read .result) ((c .before .before .before .before .before .before .before .pre)) (c .before .before .read .ensures .is) (c .before .if1 .left) (c .if2 .left)
+
+pub resolve-argument-spec : {M : Type 1} → statement M
+resolve-argument-spec =
+    tie.close
+    (tie.spec
+    mul-read
+    add-read
+    add-read-2
+    add-read-3
+    read-requires
+    label-place-requires
+    mul-set-argument
+    add-set-argument
+    set-argument-requires
+    same-length
+    returns
+    switches-requires
+    switch-place-requires
+    mul-set-argument-2
+    add-set-argument-2
+    set-argument-requires-2
+    same-length-2
+    returns-2
+    same-length-3
+    returns-3)

@@ -1,5 +1,0 @@
-pub mod Words
-pub mod Places
-pub mod Faults
-pub mod Uses
-pub mod Walks
