@@ -2,6 +2,7 @@ pub mod Places
 pub mod PlaceLaws
 pub mod Cells
 pub mod Table
+pub mod Kinds
 pub mod Components
 pub mod Strings
 pub mod Memory

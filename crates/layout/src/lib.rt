@@ -1,5 +1,7 @@
-// The places of a program table and of a state at rest, as constants of two types; the layouts themselves are definitions and laws.
+// The places of a program table and of a state at rest and the kinds of arguments, as constants of three types; the layouts themselves are definitions and laws.
 ghost use mathlib.Core.Path.{_≡_};
+ghost use mathlib.Core.List.{_++_};
+ghost use Rattle.layout.specs.Kinds.{kinds};
 ghost use Rattle.layout.specs.Places.{listed};
 
 // A program table. Its cells are lent memory, so a value of this type holds nothing; its constants are places of cells, as in specs/Places.antt.
@@ -108,9 +110,26 @@ impl StatePlaces {
     pub const ROOM: usize = 40738;
 }
 
+// An argument's cell, kind + 8 · value: the kinds, as in specs/Kinds.antt.
+pub struct ArgumentKinds {}
+
+impl ArgumentKinds {
+    pub const LETTER: usize = 1;
+
+    pub const LABEL: usize = 2;
+
+    pub const SWITCH: usize = 3;
+
+    pub const CLASS: usize = 4;
+
+    pub const TEXT: usize = 5;
+
+    pub const NUMBER: usize = 6;
+}
+
 // The types' numbers are those of the definitions, each of them.
-pub fn places() -> [usize; 48]
-    ensures { λ r. ⌜ r ≡ listed ⌝ }
+pub fn places() -> [usize; 54]
+    ensures { λ r. ⌜ r ≡ listed ++ kinds ⌝ }
 {
     [
         TablePlaces::INSTRUCTION_COUNT,
@@ -161,5 +180,11 @@ pub fn places() -> [usize; 48]
         StatePlaces::LENGTHS_BYTES,
         StatePlaces::STRINGS_BYTES,
         StatePlaces::ROOM,
+        ArgumentKinds::LETTER,
+        ArgumentKinds::LABEL,
+        ArgumentKinds::SWITCH,
+        ArgumentKinds::CLASS,
+        ArgumentKinds::TEXT,
+        ArgumentKinds::NUMBER,
     ]
 }
