@@ -9,6 +9,7 @@ use lib.ListN.{length, take}
 use Rattle.language.specs.Instructions.{operation}
 use Rattle.language.specs.Limits as limit
 use Rattle.language.specs.Program.{Arg, Instr, Op, Switch, Program}
+use Rattle.layout.specs.Kinds.{label-kind}
 use Rattle.layout.specs.Table.{arg-cell}
 use Rattle.lists.specs.Lists.{ahead, any, keep, sameBytes}
 use Rattle.drafts.specs.Marks.{place-by, word-by}
@@ -43,9 +44,9 @@ abbrev pub joined : Fault → List ℕ → Fault
 joined Clear ps = fault-of ps
 joined (At p) ps = At (lowest p ps)
 
--- a name used as a label (kind 2, as in an argument's cell), or as a switch of a type (kind 3)
+-- a name used as a label (of the kind of an argument's cell), or as a switch of a type
 abbrev pub known : List ℕ → List ℕ → ℕ → Bool → Program → ℕ → Bool
-known s sw kind named p m = cond (eqb kind 2) (is-label s p m) (is-switch s named m sw (p .switches))
+known s sw kind named p m = cond (eqb kind label-kind) (is-label s p m) (is-switch s named m sw (p .switches))
 
 abbrev pub faults : List ℕ → List ℕ → ℕ → Bool → Program → List ℕ → List ℕ
 faults s sw kind named p ms = map (λ m. place-by m) (keep (λ m. not (known s sw kind named p m)) ms)
@@ -69,7 +70,7 @@ names-number n = eqb n 25 || (eqb n 27 || eqb n 38)
 
 -- the marks of an instruction that are used in a way: all labels, and the switches by its operator's number
 abbrev pub asked-by : ℕ → Bool → ℕ → Bool
-asked-by kind named n = eqb kind 2 || Bool·beq named (names-number n)
+asked-by kind named n = eqb kind label-kind || Bool·beq named (names-number n)
 
 abbrev pub asked : ℕ → Bool → Op → Bool
 asked kind named o = asked-by kind named (operation o .number)

@@ -5,6 +5,7 @@ ghost use mathlib.Core.Bool.{true, cond, Bool·beq};
 ghost use mathlib.Core.List.{[], _∷_};
 ghost use Prim.Native.Nat.{_≤_};
 ghost use lib.ListN.{length, take};
+ghost use Rattle.layout.specs.Kinds.{label-kind};
 ghost use Rattle.layout.specs.Table.{arg-cell, all-entries};
 ghost use Rattle.language.specs.Program.{instr-at};
 ghost use Rattle.lists.specs.Lists.{each, sameBytes};
@@ -17,6 +18,7 @@ ghost use Rattle.linking.specs.Linking.{Kept, Finds, label-places, switc
 use faults::lesser;
 use faults::lower;
 use language::Operator;
+use layout::ArgumentKinds;
 use layout::TablePlaces;
 use statements::Fault;
 
@@ -26,10 +28,6 @@ pub enum Linked {
     Label(usize),
     Switch(usize),
 }
-
-const LABEL: usize = 2;
-
-const SWITCH: usize = 3;
 
 // The word of the mark `m`.
 fn word(text: &[u8], m: usize) -> &[u8]
@@ -118,7 +116,7 @@ fn is_known(text: &[u8], table: &[u32], sw: &[u32], kind: usize, named: bool, m:
     requires { ⌜ Asking (now table) (now sw) ⌝ }
     ensures { λ r. ⌜ Judges (now (table .entry)) (λ p. known (now (text .entry)) (now (sw .entry)) kind named p m) r ⌝ }
 {
-    if kind == LABEL {
+    if kind == ArgumentKinds::LABEL {
         return label_place(text, table, m) < table::labels(table);
     }
     has_switch(text, table, sw, named, m)
@@ -149,7 +147,7 @@ fn argument_fault(
 fn is_asked(kind: usize, named: bool, operator: u8) -> bool
     ensures { λ r. ⌜ r ≡ asked-by kind named operator ⌝ }
 {
-    (kind == LABEL) | agree(named, takes_named(operator))
+    (kind == ArgumentKinds::LABEL) | agree(named, takes_named(operator))
 }
 
 // The arguments of instruction `k`.
@@ -191,14 +189,18 @@ fn code_fault(text: &[u8], table: &[u32], sw: &[u32], kind: usize, named: bool, 
 // The same of the entries' labels.
 fn entries_fault(text: &[u8], table: &[u32], sw: &[u32], en: &[u32], f: Fault) -> Fault
     requires { ⌜ Kept (now text) (now table) (now sw) (now en) ⌝ }
-    ensures { λ r. ⌜ Judges (now (table .entry)) (λ p. joined f (faults (now (text .entry)) (now (sw .entry)) 2 true p (take (length (all-entries p)) (now (en .entry))))) r ⌝ }
+    ensures { λ r. ⌜ Judges (now (table .entry)) (λ p. joined f (faults (now (text .entry)) (now (sw .entry)) label-kind true p (take (length (all-entries p)) (now (en .entry))))) r ⌝ }
 {
     let n = table::entries(table);
     let mut g = f;
     let mut k = 0;
     while k < n {
         let m = cells::read(en, k);
-        g = note(g, is_known(text, table, sw, LABEL, true, m), m);
+        g = note(
+            g,
+            is_known(text, table, sw, ArgumentKinds::LABEL, true, m),
+            m,
+        );
         k += 1;
     }
     g
@@ -209,7 +211,7 @@ fn undeclared_label(text: &[u8], table: &[u32], sw: &[u32], en: &[u32]) -> Fault
     requires { ⌜ Kept (now text) (now table) (now sw) (now en) ⌝ }
     ensures { λ r. ⌜ Finds (now (text .entry)) (now (table .entry)) (now (sw .entry)) (now (en .entry)) label-places r ⌝ }
 {
-    let f = code_fault(text, table, sw, LABEL, true, Fault::Clear);
+    let f = code_fault(text, table, sw, ArgumentKinds::LABEL, true, Fault::Clear);
     entries_fault(text, table, sw, en, f)
 }
 
@@ -218,8 +220,8 @@ fn undeclared_switch(text: &[u8], table: &[u32], sw: &[u32], en: &[u32]) -> Faul
     requires { ⌜ Kept (now text) (now table) (now sw) (now en) ⌝ }
     ensures { λ r. ⌜ Finds (now (text .entry)) (now (table .entry)) (now (sw .entry)) (now (en .entry)) switch-places r ⌝ }
 {
-    let f = code_fault(text, table, sw, SWITCH, true, Fault::Clear);
-    code_fault(text, table, sw, SWITCH, false, f)
+    let f = code_fault(text, table, sw, ArgumentKinds::SWITCH, true, Fault::Clear);
+    code_fault(text, table, sw, ArgumentKinds::SWITCH, false, f)
 }
 
 // Argument `j` of instruction `k`: its name becomes a place.
@@ -228,14 +230,14 @@ fn resolve_argument(text: &[u8], table: &mut [u32], sw: &[u32], k: usize, j: usi
     ensures { λ _. ⌜ Changes (argument-resolved (now (text .entry)) (now (sw .entry)) k j) (now (table .entry)) (now (table .exit)) ⌝ }
 {
     let x = cells::read(table, TablePlaces::FIRST_INSTRUCTION + 4 * k + 1 + j);
-    if x % 8 == LABEL {
+    if x % 8 == ArgumentKinds::LABEL {
         let v = label_place(text, table, x / 8);
-        writing::set_argument(table, k, j, LABEL + 8 * v);
+        writing::set_argument(table, k, j, ArgumentKinds::LABEL + 8 * v);
         return;
     }
-    if x % 8 == SWITCH {
+    if x % 8 == ArgumentKinds::SWITCH {
         let v = switch_place(text, sw, table::switches(table), x / 8);
-        writing::set_argument(table, k, j, SWITCH + 8 * v);
+        writing::set_argument(table, k, j, ArgumentKinds::SWITCH + 8 * v);
         return;
     }
 }
