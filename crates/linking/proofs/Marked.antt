@@ -2,7 +2,7 @@
 use mathlib.Core.Path.{_≡_, refl, sym, ap, _∙_, subst}
 use mathlib.Core.Bool.{Bool, true, false, cond, not, _&&_, _||_, Bool·beq}
 use mathlib.Core.List.{List, [], _∷_, _++_, map, map-append, append-nil}
-use Prim.Native.Nat.{ℕ, _+_, _*_, _/_, _≤_}
+use Prim.Native.Nat.{ℕ, _+_, _*_, _/_, _≤_, _<_}
 use Prim.Native.String.{String}
 use native.Mathlib.Omega.{arith}
 use lib.Dec.{T, eqb}
@@ -22,7 +22,7 @@ use Rattle.language.specs.Values.{amount, valueOf}
 use Rattle.layout.specs.Bounds.{Each}
 use Rattle.layout.specs.Table.{arg-cell}
 use Rattle.lists.specs.Lists.{each, keep, filled, headOr}
-use Rattle.linking.proofs.Uses.{of-kind, not-of-kind}
+use Rattle.linking.proofs.Uses.{kind-of, cell-kind, of-kind}
 use Rattle.linking.specs.Lookup.{marks-in, instr-marks, instr-uses, names-number}
 use Rattle.syntax.specs.ArgumentForms.{form-in, word-reads, reads, Argument, of-form, letter-of}
 use Rattle.syntax.specs.Items.{Item, is}
@@ -32,56 +32,24 @@ use Rattle.linking.proofs.Operators.{switch-forms}
 
 -- ---- the mark of an argument
 
--- of label arguments, and of switch arguments
-abbrev labels-of : Arg → List ℕ
-labels-of nothing = []
-labels-of (letter l n) = []
-labels-of (label m) = m ∷ []
-labels-of (switch m) = []
-labels-of (class cs) = []
-labels-of (text t) = []
-labels-of (Arg.number z) = []
+of-its-kind : (kind m : ℕ) → kind < 8 → marks-in kind (kind + 8 * m) ≡ m ∷ []
+of-its-kind kind m h = of-kind kind (kind + 8 * m) (omega (arith, h)) ∙ ap (λ (k : ℕ). k ∷ []) (let z : (kind + 8 * m) / 8 ≡ m = omega (arith, h) in z)
 
-abbrev switches-of : Arg → List ℕ
-switches-of nothing = []
-switches-of (letter l n) = []
-switches-of (label m) = []
-switches-of (switch m) = m ∷ []
-switches-of (class cs) = []
-switches-of (text t) = []
-switches-of (Arg.number z) = []
-
-module _ (p : Program) where
-  label-marks : (a : Arg) → marks-in 2 (arg-cell p a) ≡ labels-of a
-  label-marks nothing = refl
-  label-marks (letter l n) = not-of-kind 2 (arg-cell p (letter l n)) (λ e. omega (arith, e))
-  label-marks (label m) = of-kind 2 (2 + 8 * m) (omega arith) ∙ ap (λ (k : ℕ). k ∷ []) (let z : (2 + 8 * m) / 8 ≡ m = omega arith in z)
-  label-marks (switch m) = not-of-kind 2 (3 + 8 * m) (λ e. omega (arith, e))
-  label-marks (class cs) = not-of-kind 2 (arg-cell p (class cs)) (λ e. omega (arith, e))
-  label-marks (text t) = not-of-kind 2 (arg-cell p (text t)) (λ e. omega (arith, e))
-  label-marks (Arg.number z) = not-of-kind 2 (arg-cell p (Arg.number z)) (λ e. omega (arith, e))
-
-  switch-marks : (a : Arg) → marks-in 3 (arg-cell p a) ≡ switches-of a
-  switch-marks nothing = refl
-  switch-marks (letter l n) = not-of-kind 3 (arg-cell p (letter l n)) (λ e. omega (arith, e))
-  switch-marks (label m) = not-of-kind 3 (2 + 8 * m) (λ e. omega (arith, e))
-  switch-marks (switch m) = of-kind 3 (3 + 8 * m) (omega arith) ∙ ap (λ (k : ℕ). k ∷ []) (let z : (3 + 8 * m) / 8 ≡ m = omega arith in z)
-  switch-marks (class cs) = not-of-kind 3 (arg-cell p (class cs)) (λ e. omega (arith, e))
-  switch-marks (text t) = not-of-kind 3 (arg-cell p (text t)) (λ e. omega (arith, e))
-  switch-marks (Arg.number z) = not-of-kind 3 (arg-cell p (Arg.number z)) (λ e. omega (arith, e))
+of-another : (p : Program) (kind : ℕ) (a : Arg) → eqb (kind-of a) kind ≡ false → marks-in kind (arg-cell p a) ≡ []
+of-another p kind a e = ap (λ (k : ℕ). cond (eqb k kind) (arg-cell p a / 8 ∷ []) []) (cell-kind p a) ∙ ap (λ (b : Bool). cond b (arg-cell p a / 8 ∷ []) []) e
 
 -- the cases of an argument, as load tells them apart
 abbrev pub by-form : Bool → Bool → Bool → Bool → Bool → List ℕ → ℤ → List ℕ → Arg → Arg → Letter → ℕ → Arg
 by-form bt bn bc bl bw w z cs l x y n = cond bt (text w) (cond bn (Arg.number z) (cond bc (class cs) (cond bl l (cond bw x (letter y n)))))
 
-no-label : (bt bn bc bw : Bool) (w : List ℕ) (z : ℤ) (cs : List ℕ) (m k : ℕ) (y : Letter) (n : ℕ) → labels-of (by-form bt bn bc false bw w z cs (label m) (switch k) y n) ≡ []
+no-label : (bt bn bc bw : Bool) (w : List ℕ) (z : ℤ) (cs : List ℕ) (m k : ℕ) (y : Letter) (n : ℕ) → eqb (kind-of (by-form bt bn bc false bw w z cs (label m) (switch k) y n)) 2 ≡ false
 no-label true bn bc bw w z cs m k y n = refl
 no-label false true bc bw w z cs m k y n = refl
 no-label false false true bw w z cs m k y n = refl
 no-label false false false true w z cs m k y n = refl
 no-label false false false false w z cs m k y n = refl
 
-no-switch : (bt bn bc bl : Bool) (w : List ℕ) (z : ℤ) (cs : List ℕ) (m k : ℕ) (y : Letter) (n : ℕ) → switches-of (by-form bt bn bc bl false w z cs (label m) (switch k) y n) ≡ []
+no-switch : (bt bn bc bl : Bool) (w : List ℕ) (z : ℤ) (cs : List ℕ) (m k : ℕ) (y : Letter) (n : ℕ) → eqb (kind-of (by-form bt bn bc bl false w z cs (label m) (switch k) y n)) 3 ≡ false
 no-switch true bn bc bl w z cs m k y n = refl
 no-switch false true bc bl w z cs m k y n = refl
 no-switch false false true bl w z cs m k y n = refl
@@ -110,25 +78,33 @@ draft-by f i =
     by-form (form-in "t" f) (form-in "n" f) (form-in "c" f) (form-in "l" f) (form-in "wx" f) (i .chars) (valueOf (i .chars)) (classes (i .chars)) (label (mark i)) (switch (mark i))
     (letter-of (headOr 0 (i .chars))) (amount 0 (drop 1 (i .chars)))
 
-labels-by : (f : ℕ) (i : Item) → labels-of (draft-by f i) ≡ cond (form-in "l" f) (mark i ∷ []) []
-labels-by f i = go (form-in "l" f) refl
-  where
-    go : (b : Bool) → form-in "l" f ≡ b → labels-of (draft-by f i) ≡ cond (form-in "l" f) (mark i ∷ []) []
-    go true e = subst (λ (g : ℕ). labels-of (draft-by g i) ≡ cond (form-in "l" g) (mark i ∷ []) []) (sym (one-form f e)) refl
-    go false e =
-        ap (λ (b : Bool). labels-of (by-form (form-in "t" f) (form-in "n" f) (form-in "c" f) b (form-in "wx" f) (i .chars) (valueOf (i .chars)) (classes (i .chars))
-        (label (mark i)) (switch (mark i)) (letter-of (headOr 0 (i .chars))) (amount 0 (drop 1 (i .chars))))) e
-        ∙ no-label (form-in "t" f) (form-in "n" f) (form-in "c" f) (form-in "wx" f) (i .chars) (valueOf (i .chars)) (classes (i .chars)) (mark i) (mark i) (letter-of (headOr 0 (i .chars))) (amount 0 (drop 1 (i .chars))) ∙ sym (ap (λ (b : Bool). cond b (mark i ∷ []) []) e)
+module _ (p : Program) (f : ℕ) (i : Item) where
+  labels-by : marks-in 2 (arg-cell p (draft-by f i)) ≡ cond (form-in "l" f) (mark i ∷ []) []
+  labels-by = go (form-in "l" f) refl
+    where
+      go : (b : Bool) → form-in "l" f ≡ b → marks-in 2 (arg-cell p (draft-by f i)) ≡ cond (form-in "l" f) (mark i ∷ []) []
+      go true e =
+          subst (λ (g : ℕ). marks-in 2 (arg-cell p (draft-by g i)) ≡ cond (form-in "l" g) (mark i ∷ []) []) (sym (one-form f e)) (of-its-kind 2 (mark i) (omega arith))
+      go false e =
+          of-another p 2 (draft-by f i)
+          (ap (λ (b : Bool). eqb (kind-of (by-form (form-in "t" f) (form-in "n" f) (form-in "c" f) b (form-in "wx" f) (i .chars) (valueOf (i .chars)) (classes (i .chars))
+          (label (mark i)) (switch (mark i)) (letter-of (headOr 0 (i .chars))) (amount 0 (drop 1 (i .chars))))) 2) e
+          ∙ no-label (form-in "t" f) (form-in "n" f) (form-in "c" f) (form-in "wx" f) (i .chars) (valueOf (i .chars)) (classes (i .chars)) (mark i) (mark i) (letter-of (headOr 0 (i .chars))) (amount 0 (drop 1 (i .chars))))
+          ∙ sym (ap (λ (b : Bool). cond b (mark i ∷ []) []) e)
 
-switches-by : (f : ℕ) (i : Item) → switches-of (draft-by f i) ≡ cond (form-in "wx" f) (mark i ∷ []) []
-switches-by f i = go (form-in "wx" f) refl
-  where
-    go : (b : Bool) → form-in "wx" f ≡ b → switches-of (draft-by f i) ≡ cond (form-in "wx" f) (mark i ∷ []) []
-    go true e = two-forms (λ (g : ℕ). switches-of (draft-by g i) ≡ cond (form-in "wx" g) (mark i ∷ []) []) f e refl refl
-    go false e =
-        ap (λ (b : Bool). switches-of (by-form (form-in "t" f) (form-in "n" f) (form-in "c" f) (form-in "l" f) b (i .chars) (valueOf (i .chars)) (classes (i .chars))
-        (label (mark i)) (switch (mark i)) (letter-of (headOr 0 (i .chars))) (amount 0 (drop 1 (i .chars))))) e
-        ∙ no-switch (form-in "t" f) (form-in "n" f) (form-in "c" f) (form-in "l" f) (i .chars) (valueOf (i .chars)) (classes (i .chars)) (mark i) (mark i) (letter-of (headOr 0 (i .chars))) (amount 0 (drop 1 (i .chars))) ∙ sym (ap (λ (b : Bool). cond b (mark i ∷ []) []) e)
+  switches-by : marks-in 3 (arg-cell p (draft-by f i)) ≡ cond (form-in "wx" f) (mark i ∷ []) []
+  switches-by = go (form-in "wx" f) refl
+    where
+      go : (b : Bool) → form-in "wx" f ≡ b → marks-in 3 (arg-cell p (draft-by f i)) ≡ cond (form-in "wx" f) (mark i ∷ []) []
+      go true e =
+          let m = of-its-kind 3 (mark i) (omega arith) in
+          two-forms (λ (g : ℕ). marks-in 3 (arg-cell p (draft-by g i)) ≡ cond (form-in "wx" g) (mark i ∷ []) []) f e m m
+      go false e =
+          of-another p 3 (draft-by f i)
+          (ap (λ (b : Bool). eqb (kind-of (by-form (form-in "t" f) (form-in "n" f) (form-in "c" f) (form-in "l" f) b (i .chars) (valueOf (i .chars)) (classes (i .chars))
+          (label (mark i)) (switch (mark i)) (letter-of (headOr 0 (i .chars))) (amount 0 (drop 1 (i .chars))))) 3) e
+          ∙ no-switch (form-in "t" f) (form-in "n" f) (form-in "c" f) (form-in "l" f) (i .chars) (valueOf (i .chars)) (classes (i .chars)) (mark i) (mark i) (letter-of (headOr 0 (i .chars))) (amount 0 (drop 1 (i .chars))))
+          ∙ sym (ap (λ (b : Bool). cond b (mark i ∷ []) []) e)
 
 -- ---- the marks of an instruction
 
@@ -167,7 +143,7 @@ module _ (s : List ℕ) (p : Program) (texts : List (List ℕ)) (numbers : List 
     where
       go : (bs : List Argument) → Each (λ a. marks-in 2 (arg-cell p (draft-arg a)) ≡ one "l" a) bs
       go [] = tt
-      go (b ∷ bs) = (label-marks p (draft-by (b .form) (b .item)) ∙ labels-by (b .form) (b .item), go bs)
+      go (b ∷ bs) = (labels-by p (b .form) (b .item), go bs)
 
   -- where the operator takes the type, all switches are of it; where not, none is
   typed : (n named : Bool) → Each (λ x. form-in (cond named "w" "x") (x .form) ≡ (Bool·beq named n && form-in "wx" (x .form))) (w .args)
@@ -179,7 +155,7 @@ module _ (s : List ℕ) (p : Program) (texts : List (List ℕ)) (numbers : List 
           → Each (λ a. marks-in 3 (arg-cell p (draft-arg a)) ≡ one (cond named "w" "x") a) bs
       all-of [] u = tt
       all-of (b ∷ bs) u =
-          (switch-marks p (draft-by (b .form) (b .item)) ∙ switches-by (b .form) (b .item) ∙ ap (λ (x : Bool). cond x (mark (b .item) ∷ []) []) (sym (u .0)), all-of bs (u .1))
+          (switches-by p (b .form) (b .item) ∙ ap (λ (x : Bool). cond x (mark (b .item) ∷ []) []) (sym (u .0)), all-of bs (u .1))
 
       none-of : (bs : List Argument) → Each (λ x. form-in (cond named "w" "x") (x .form) ≡ false) bs → [] ≡ map (λ i. mark i) (of-form (cond named "w" "x") bs)
       none-of [] u = refl

@@ -1,11 +1,14 @@
 -- One argument and one entry after the other.
 use mathlib.Core.Path.{_≡_, refl, sym, ap, _∙_, subst}
+use mathlib.Core.Bool.{cond}
 use mathlib.Core.List.{List}
 use Prim.Native.Nat.{ℕ, zero, suc, _+_, _*_, _/_, _%_, _≤_, _<_}
 use native.Mathlib.Numerals.{add-one}
 use native.Mathlib.Omega.{arith}
+use lib.Dec.{eqb}
 use lib.ListN.{length, getD, set, take, length-set}
 use lib.Seq.{set-getD, length-take-le}
+use borrow.Author.Tests.{eq-eqb, ne-eqb}
 use Rattle.drafts.specs.Marks.{word-by}
 use Rattle.finding.specs.Finding.{Tells}
 use Rattle.language.specs.Program.{Arg, Instr, Label, Program, no-instr, instr-at, no-entry}
@@ -15,7 +18,7 @@ use Rattle.layout.specs.Table.{arg-cell, all-entries}
 use Rattle.layout.specs.Places as layout
 use Rattle.lists.specs.Lists.{ahead, sameBytes}
 use Rattle.lists.specs.ListLaws.{ahead-le}
-use Rattle.linking.proofs.Uses.{argument-is}
+use Rattle.linking.proofs.Uses.{kind-of, cell-kind, argument-is}
 use Rattle.linking.specs.Lookup.{label-by, switch-by, argument, AskingAt, AskingFor}
 use Rattle.packed.specs.Packed.{table-of}
 use Rattle.writing.proofs.Held.{code-count, entry-count, switch-count}
@@ -34,33 +37,15 @@ changed-as {f} {g} {c} {d} e x = record { holds = λ p h. subst (HoldsProgram d)
 
 -- ---- an argument by its cell
 
-module _ (p : Program) where
-  pub label-of-cell : (a : Arg) → arg-cell p a % 8 ≡ 2 → a ≡ label (arg-cell p a / 8)
-  label-of-cell nothing e = absurd (omega (arith, e))
-  label-of-cell (letter l n) e = absurd (omega (arith, e))
-  label-of-cell (label k) e = ap label (let z : k ≡ (2 + 8 * k) / 8 = omega arith in z)
-  label-of-cell (switch k) e = absurd (omega (arith, e))
-  label-of-cell (class cs) e = absurd (omega (arith, e))
-  label-of-cell (text t) e = absurd (omega (arith, e))
-  label-of-cell (Arg.number z) e = absurd (omega (arith, e))
-
-  pub switch-of-cell : (a : Arg) → arg-cell p a % 8 ≡ 3 → a ≡ switch (arg-cell p a / 8)
-  switch-of-cell nothing e = absurd (omega (arith, e))
-  switch-of-cell (letter l n) e = absurd (omega (arith, e))
-  switch-of-cell (label k) e = absurd (omega (arith, e))
-  switch-of-cell (switch k) e = ap switch (let z : k ≡ (3 + 8 * k) / 8 = omega arith in z)
-  switch-of-cell (class cs) e = absurd (omega (arith, e))
-  switch-of-cell (text t) e = absurd (omega (arith, e))
-  switch-of-cell (Arg.number z) e = absurd (omega (arith, e))
-
-  other-of-cell : (s sw : List ℕ) (a : Arg) → (arg-cell p a % 8 ≡ 2 → ⊥) → (arg-cell p a % 8 ≡ 3 → ⊥) → a ≡ resolved-arg s sw p a
-  other-of-cell s sw nothing e f = refl
-  other-of-cell s sw (letter l n) e f = refl
-  other-of-cell s sw (label k) e f = absurd (e (omega arith))
-  other-of-cell s sw (switch k) e f = absurd (f (omega arith))
-  other-of-cell s sw (class cs) e f = refl
-  other-of-cell s sw (text t) e f = refl
-  other-of-cell s sw (Arg.number z) e f = refl
+resolved-by-kind : (s sw : List ℕ) (p : Program) (a : Arg) → resolved-arg s sw p a
+    ≡ cond (eqb (kind-of a) 2) (label (label-by s p (arg-cell p a / 8))) (cond (eqb (kind-of a) 3) (switch (switch-by s sw (length (p .switches)) (arg-cell p a / 8))) a)
+resolved-by-kind s sw p nothing = refl
+resolved-by-kind s sw p (letter l n) = refl
+resolved-by-kind s sw p (label m) = ap (λ (v : ℕ). label (label-by s p v)) (let z : m ≡ (2 + 8 * m) / 8 = omega arith in z)
+resolved-by-kind s sw p (switch m) = ap (λ (v : ℕ). switch (switch-by s sw (length (p .switches)) v)) (let z : m ≡ (3 + 8 * m) / 8 = omega arith in z)
+resolved-by-kind s sw p (class cs) = refl
+resolved-by-kind s sw p (text t) = refl
+resolved-by-kind s sw p (Arg.number z) = refl
 
 same-argument : (j : ℕ) (i : Instr) → put-argument j (argument j i) i ≡ i
 same-argument zero i = refl
@@ -75,42 +60,39 @@ with-same k j p =
     λ i. record { code = e i; labels = p .labels; switches = p .switches; texts = p .texts; numbers = p .numbers }
 
 module _ (s sw c : List ℕ) (k j x : ℕ) (a : AskingFor c sw k j) (is : x ≡ getD c (layout.first-instruction + 4 * k + 1 + j) 0) where
+  becomes : (p : Program) → HoldsProgram c p → resolved-arg s sw p (argument j (instr-at p k))
+      ≡ cond (eqb (x % 8) 2) (label (label-by s p (x / 8))) (cond (eqb (x % 8) 3) (switch (switch-by s sw (length (p .switches)) (x / 8))) (argument j (instr-at p k)))
+  becomes p h =
+      let b : Arg = argument j (instr-at p k) in
+      let e : arg-cell p b ≡ x = sym (argument-is sw c k j x a is p h) in
+      let f : kind-of b ≡ x % 8 = sym (cell-kind p b) ∙ ap (λ (y : ℕ). y % 8) e in
+      resolved-by-kind s sw p b
+      ∙ (λ i. cond (eqb (f i) 2) (label (label-by s p (e i / 8))) (cond (eqb (f i) 3) (switch (switch-by s sw (length (p .switches)) (e i / 8))) b))
+
+  put : {d : List ℕ} (n : ℕ) (y : Arg) → ((p : Program) → IsArg n y p) → ((p : Program) → HoldsProgram c p → y ≡ resolved-arg s sw p (argument j (instr-at p k)))
+      → Writes (IsArg n) (with-argument k j) c d → Changes (argument-resolved s sw k j) c d
+  unfolding argument-resolved
+  put {d} n y i r w =
+      record { holds = λ p h. subst (λ (z : Arg). HoldsProgram d (with-argument k j z p)) (r p h) (w .holds y p h (i p)); beyond = w .beyond }
+
   pub label-put : {d : List ℕ} (v : ℕ) → x % 8 ≡ 2 → Tells c (λ p. label-by s p (x / 8)) 128 v → Writes (IsArg (2 + 8 * v)) (with-argument k j) c d
       → Changes (argument-resolved s sw k j) c d
-  unfolding argument-resolved
-  label-put {d} v e t w =
-      record {
-        holds = λ p h. let b : Arg = argument j (instr-at p k) in
-            let i : x ≡ arg-cell p b = argument-is sw c k j x a is p h in
-            let q : b ≡ label (x / 8) = label-of-cell p b (ap (λ (y : ℕ). y % 8) (sym i) ∙ e) ∙ ap (λ (y : ℕ). label (y / 8)) (sym i) in
-            let r : label v ≡ resolved-arg s sw p b = ap label (t .is p h) ∙ sym (ap (resolved-arg s sw p) q) in
-            subst (λ (y : Arg). HoldsProgram d (with-argument k j y p)) r (w .holds (label v) p h (record { is = refl; kept = tt }));
-        beyond = w .beyond;
-      }
+  label-put v e t w =
+      put (2 + 8 * v) (label v) (λ p. record { is = refl; kept = tt }) (λ p h. ap label (t .is p h) ∙ sym (rw (eq-eqb (x % 8) 2 e) at (becomes p h))) w
 
   pub switch-put : {d : List ℕ} (n v : ℕ) → x % 8 ≡ 3 → n ≡ cell (table-of c) 2 → v ≡ switch-by s sw n (x / 8) → Writes (IsArg (3 + 8 * v)) (with-argument k j) c d
       → Changes (argument-resolved s sw k j) c d
-  unfolding argument-resolved
-  switch-put {d} n v e c-is t w =
-      record {
-        holds = λ p h. let b : Arg = argument j (instr-at p k) in
-            let i : x ≡ arg-cell p b = argument-is sw c k j x a is p h in
-            let q : b ≡ switch (x / 8) = switch-of-cell p b (ap (λ (y : ℕ). y % 8) (sym i) ∙ e) ∙ ap (λ (y : ℕ). switch (y / 8)) (sym i) in
-            let r : switch v ≡ resolved-arg s sw p b =
-            ap switch (t ∙ ap (λ (n : ℕ). switch-by s sw n (x / 8)) (c-is ∙ switch-count c p h)) ∙ sym (ap (resolved-arg s sw p) q) in
-            subst (λ (y : Arg). HoldsProgram d (with-argument k j y p)) r (w .holds (switch v) p h (record { is = refl; kept = tt }));
-        beyond = w .beyond;
-      }
+  switch-put n v e c-is t w =
+      put (3 + 8 * v) (switch v) (λ p. record { is = refl; kept = tt })
+      (λ p h. ap switch (t ∙ ap (λ (n : ℕ). switch-by s sw n (x / 8)) (c-is ∙ switch-count c p h))
+      ∙ sym (rw (ne-eqb (x % 8) 2 (λ f. omega (arith, e, f)), eq-eqb (x % 8) 3 e) at (becomes p h))) w
 
   pub none-put : (x % 8 ≡ 2 → ⊥) → (x % 8 ≡ 3 → ⊥) → Changes (argument-resolved s sw k j) c c
   unfolding argument-resolved
   none-put e f =
       record {
-        holds = λ p h. let b : Arg = argument j (instr-at p k) in
-            let i : x ≡ arg-cell p b = argument-is sw c k j x a is p h in
-            let r : b ≡ resolved-arg s sw p b =
-            other-of-cell p s sw b (λ z. e (ap (λ (y : ℕ). y % 8) i ∙ z)) (λ z. f (ap (λ (y : ℕ). y % 8) i ∙ z)) in
-            subst (HoldsProgram c) (sym (with-same k j p) ∙ ap (λ (y : Arg). with-argument k j y p) r) h;
+        holds = λ p h. subst (HoldsProgram c)
+            (sym (with-same k j p) ∙ ap (λ (y : Arg). with-argument k j y p) (sym (rw (ne-eqb (x % 8) 2 e, ne-eqb (x % 8) 3 f) at (becomes p h)))) h;
         beyond = refl;
       }
 

@@ -10,7 +10,8 @@ use lib.ListN.{length, getD, drop}
 use lib.Seq.{getD-take}
 use borrow.Author.Tests.{eq-eqb, ne-eqb, lt-ltb, le-ltb}
 use Rattle.language.specs.Instructions.{operation}
-use Rattle.language.specs.Program.{Instr, Program, no-instr, instr-at}
+use Rattle.language.specs.Program.{Arg, Instr, Program, no-instr, instr-at}
+use Rattle.language.specs.Program.Arg.{nothing, letter, label, switch, class, text}
 use Rattle.layout.specs.ArgumentLaws.{operator-below}
 use Rattle.layout.specs.CellLaws.{block-at, next-cell}
 use Rattle.layout.specs.Cells.{cell}
@@ -55,6 +56,26 @@ module _ (c : List ℕ) (p : Program) (h : HoldsProgram c p) (k : ℕ) (there : 
       let z : 0 + (layout.first-instruction + 4 * k) ≡ layout.first-instruction + 4 * k = omega arith in
       let e : cell (table-of c) (layout.first-instruction + 4 * k) ≡ operation (instr-at p k .op) .number + 64 * instr-at p k .line = ap (cell (table-of c)) (sym z) ∙ in-block 0 (omega arith) in
       rw e (omega (arith, operator-below (instr-at p k .op)))
+
+-- ---- an argument by its cell
+
+abbrev pub kind-of : Arg → ℕ
+kind-of nothing = 0
+kind-of (letter l n) = 1
+kind-of (label m) = 2
+kind-of (switch m) = 3
+kind-of (class cs) = 4
+kind-of (text t) = 5
+kind-of (Arg.number z) = 6
+
+pub cell-kind : (p : Program) (a : Arg) → arg-cell p a % 8 ≡ kind-of a
+cell-kind p nothing = refl
+cell-kind p (letter l n) = omega arith
+cell-kind p (label m) = omega arith
+cell-kind p (switch m) = omega arith
+cell-kind p (class cs) = omega arith
+cell-kind p (text t) = omega arith
+cell-kind p (Arg.number z) = omega arith
 
 -- the mark of a cell
 pub of-kind : (kind x : ℕ) → x % 8 ≡ kind → marks-in kind x ≡ x / 8 ∷ []
