@@ -75,10 +75,14 @@ pub fn no_values() -> Values
     }
 }
 
-// The values with one more, at its place.
-fn with_value(v: Values, place: u8, x: Value) -> Values
-    ensures { λ r. ⌜ r ≡ put-at v place x ⌝ }
+// The values with one more at its place among them, whose item stands at `at`.
+fn with_value(v: Values, place: u8, at: usize, argument: Argument) -> Values
+    ensures { λ r. ⌜ r ≡ put-at v place (record { at = at; argument = argument }) ⌝ }
 {
+    let x = Value {
+        at: at,
+        argument: argument,
+    };
     let first = v.first;
     let second = v.second;
     let third = v.third;
@@ -266,19 +270,10 @@ pub fn read_arguments(text: &[u8], t: Token, op: u8) -> Arguments
         if u.colon != 0 {
             return refuse(text, at, op, place, i, u.colon);
         }
-        let here = u.at;
-        let next = u.next;
         let x = value_at(text, u, a.form);
-        values = with_value(
-            values,
-            place,
-            Value {
-                at: here,
-                argument: x,
-            },
-        );
+        values = with_value(values, place, u.at, x);
         live = a.live;
         place += 1;
-        i = next;
+        i = u.next;
     }
 }
