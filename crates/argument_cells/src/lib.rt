@@ -7,6 +7,7 @@ ghost use Rattle.layout.specs.Table.{letter-place};
 ghost use Rattle.lexer.specs.Tokens.{chars-of};
 ghost use Rattle.table.specs.Denote.{letter-of};
 ghost use Rattle.argument_cells.specs.ArgumentCells.{TextItem, text-cell, Text-named, Text-told, Referable, Referred, Encodable, Encodes, Cell-asked, CellOf};
+use layout::ArgumentKinds;
 use lexer::Token;
 use table::Argument;
 use table::Letter;
@@ -69,12 +70,12 @@ fn encode(table: &[u32], x: Argument) -> usize
 {
     match x {
         Argument::Nothing => 0,
-        Argument::Indexed(l, n) => 1 + 8 * (n + 64 * letter_place(l)),
-        Argument::Label(k) => 2 + 8 * k,
-        Argument::Switch(k) => 3 + 8 * k,
-        Argument::Class(m) => 4 + 8 * cells::wide(m),
-        Argument::Text(v) => 5 + 8 * v,
-        Argument::Number(code) => 6 + 8 * finding::number_ref(table, code),
+        Argument::Indexed(l, n) => ArgumentKinds::LETTER + 8 * (n + 64 * letter_place(l)),
+        Argument::Label(k) => ArgumentKinds::LABEL + 8 * k,
+        Argument::Switch(k) => ArgumentKinds::SWITCH + 8 * k,
+        Argument::Class(m) => ArgumentKinds::CLASS + 8 * cells::wide(m),
+        Argument::Text(v) => ArgumentKinds::TEXT + 8 * v,
+        Argument::Number(code) => ArgumentKinds::NUMBER + 8 * finding::number_ref(table, code),
     }
 }
 
