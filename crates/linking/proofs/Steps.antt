@@ -18,8 +18,8 @@ use Rattle.layout.specs.Table.{arg-cell, all-entries}
 use Rattle.layout.specs.Places as layout
 use Rattle.lists.specs.Lists.{ahead, sameBytes}
 use Rattle.lists.specs.ListLaws.{ahead-le}
-use Rattle.linking.proofs.Uses.{kind-of, cell-kind, argument-is}
-use Rattle.linking.specs.Lookup.{label-by, switch-by, argument, AskingAt, AskingFor}
+use Rattle.linking.proofs.Uses.{kind-of, cell-kind, switches-fit, argument-is}
+use Rattle.linking.specs.Lookup.{label-by, switch-by, argument, Asking, AskingAt, AskingFor}
 use Rattle.packed.specs.Packed.{table-of}
 use Rattle.writing.proofs.Held.{code-count, entry-count, switch-count}
 use Rattle.writing.proofs.Replacing.{relabelled-entries}
@@ -97,8 +97,10 @@ module _ (s sw c : List ℕ) (k j x : ℕ) (a : AskingFor c sw k j) (is : x ≡ 
       }
 
 -- what a search for a switch answers is small
-pub switch-low : (s sw : List ℕ) (n m : ℕ) → n ≤ length sw → switch-by s sw n m ≤ n
-switch-low s sw n m h = omega (arith, ahead-le (λ x. sameBytes (word-by s m) (word-by s x)) (take n sw), length-take-le n sw h)
+pub switch-low : {c : List ℕ} (s sw : List ℕ) (n m v : ℕ) → Asking c sw → n ≡ cell (table-of c) 2 → v ≡ switch-by s sw n m → v ≤ 32
+switch-low s sw n m v a e f =
+    let l : n ≤ length sw = switches-fit n a e in
+    omega (arith, f, ahead-le (λ x. sameBytes (word-by s m) (word-by s x)) (take n sw), length-take-le n sw l, l, a .room)
 
 -- ---- instructions
 

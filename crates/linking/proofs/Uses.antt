@@ -2,13 +2,12 @@
 use mathlib.Core.Path.{_≡_, refl, sym, ap, _∙_}
 use mathlib.Core.Bool.{Bool, true, false, cond, _||_}
 use mathlib.Core.List.{List, [], _∷_, _++_}
-use Prim.Native.Nat.{ℕ, zero, suc, _+_, _*_, _/_, _%_, _<_}
-use native.Mathlib.Decide.{decLt}
+use Prim.Native.Nat.{ℕ, zero, suc, _+_, _*_, _/_, _%_, _≤_, _<_}
 use native.Mathlib.Omega.{arith}
-use lib.Dec.{ltb}
+use lib.Dec.{ltb, leb·suc-suc}
 use lib.ListN.{length, getD, drop}
 use lib.Seq.{getD-take}
-use borrow.Author.Tests.{eq-eqb, ne-eqb, lt-ltb, le-ltb}
+use borrow.Author.Tests.{eq-eqb, ne-eqb, lt-ltb}
 use Rattle.language.specs.Instructions.{operation}
 use Rattle.language.specs.Program.{Arg, Instr, Program, no-instr, instr-at}
 use Rattle.language.specs.Program.Arg.{nothing, letter, label, switch, class, text}
@@ -21,12 +20,12 @@ use Rattle.lists.specs.Lists.{any, ahead}
 use Rattle.packed.specs.Packed.{table-of}
 use Rattle.writing.proofs.Growing.{parts, in-parts}
 use Rattle.writing.specs.Writing.{HoldsProgram}
-use Rattle.writing.proofs.Held.{code-count, label-count}
+use Rattle.writing.proofs.Held.{code-count, label-count, switch-count}
 use Rattle.drafts.specs.Marks.{place-by}
 use Rattle.finding.specs.Finding.{Tells}
 use Rattle.statements.specs.declared.Fault.{Fault}
 use Rattle.linking.proofs.Faults.{joined-none, faults-join, fault-one}
-use Rattle.linking.specs.Lookup.{argument, marks-in, instr-marks, instr-uses, asked-by, is-label, label-by, is-switch, joined, known, faults, AskingAt, AskingFor, Judges}
+use Rattle.linking.specs.Lookup.{argument, marks-in, instr-marks, instr-uses, asked-by, is-label, label-by, is-switch, joined, known, faults, Asking, AskingAt, AskingFor, Judges}
 
 argument-cell : (p : Program) (i : Instr) (j : ℕ) → j < 3 → cell (instr-cells p i) (1 + j) ≡ arg-cell p (argument j i)
 argument-cell p i zero h = refl
@@ -84,23 +83,20 @@ of-kind kind x e = ap (λ (b : Bool). cond b (x / 8 ∷ []) []) (eq-eqb (x % 8) 
 pub not-of-kind : (kind x : ℕ) → (x % 8 ≡ kind → ⊥) → marks-in kind x ≡ []
 not-of-kind kind x e = ap (λ (b : Bool). cond b (x / 8 ∷ []) []) (ne-eqb (x % 8) kind e)
 
-ltb-suc : (a n : ℕ) → ltb (suc a) (suc n) ≡ ltb a n
-ltb-suc a n = go (decLt a n)
-  where
-    go : Dec (a < n) → ltb (suc a) (suc n) ≡ ltb a n
-    go (yes l) = lt-ltb (suc a) (suc n) (omega arith) ∙ sym (lt-ltb a n l)
-    go (no l) = le-ltb (suc a) (suc n) (omega arith) ∙ sym (le-ltb a n (omega arith))
-
 -- a name is there where its place is not past the end
-pub ahead-there : {X : Type 0} (q : X → Bool) (xs : List X) → ltb (ahead q xs) (length xs) ≡ any q xs
+ahead-there : {X : Type 0} (q : X → Bool) (xs : List X) → ltb (ahead q xs) (length xs) ≡ any q xs
 ahead-there q [] = refl
 ahead-there q (x ∷ xs) = go (q x) (ahead-there q xs)
   where
     go : (b : Bool) → ltb (ahead q xs) (length xs) ≡ any q xs → ltb (elim b [ true ↦ 0 | false ↦ suc (ahead q xs) ]) (suc (length xs)) ≡ (b || any q xs)
     go true e = lt-ltb 0 (suc (length xs)) (omega arith)
-    go false e = ltb-suc (ahead q xs) (length xs) ∙ e
+    go false e = leb·suc-suc (suc (ahead q xs)) (length xs) ∙ e
 
 -- ---- what the functions tell
+
+-- as many marks as switches
+pub switches-fit : {c sw : List ℕ} (n : ℕ) → Asking c sw → n ≡ cell (table-of c) 2 → n ≤ length sw
+switches-fit {c} n a e = omega (arith, e, switch-count c (a .program) (a .holds), a .holds .tabular .switches-most, a .room)
 
 -- instruction k is in every program that the table holds, with its argument j
 module _ (sw c : List ℕ) (k : ℕ) where

@@ -6,9 +6,10 @@ use mathlib.Core.List.{List, [], _∷_, _++_, map}
 use Prim.Native.Nat.{ℕ, zero, suc, _/_, _%_, _<_}
 use lib.Dec.{eqb}
 use lib.ListN.{length, take}
-use Rattle.language.specs.Instructions.{operation}
+use Rattle.language.specs.Instructions.{number-of}
 use Rattle.language.specs.Limits as limit
 use Rattle.language.specs.Program.{Arg, Instr, Op, Switch, Program}
+use Rattle.language.specs.Program.Op.{SKONA, WYNA, SZUKAJ}
 use Rattle.layout.specs.Kinds.{label-kind}
 use Rattle.layout.specs.Table.{arg-cell}
 use Rattle.lists.specs.Lists.{ahead, any, keep, sameBytes}
@@ -64,16 +65,16 @@ abbrev pub instr-marks : ℕ → Program → Instr → List ℕ
 instr-marks kind p i =
     marks-in kind (arg-cell p (i .first)) ++ (marks-in kind (arg-cell p (i .second)) ++ marks-in kind (arg-cell p (i .third)))
 
--- the instructions that take a switch by name: SKONA, WYNA, SZUKAJ
+-- the operators whose instructions take a switch by name
 abbrev pub names-number : ℕ → Bool
-names-number n = eqb n 25 || (eqb n 27 || eqb n 38)
+names-number n = eqb n (number-of SKONA) || (eqb n (number-of WYNA) || eqb n (number-of SZUKAJ))
 
 -- the marks of an instruction that are used in a way: all labels, and the switches by its operator's number
 abbrev pub asked-by : ℕ → Bool → ℕ → Bool
 asked-by kind named n = eqb kind label-kind || Bool·beq named (names-number n)
 
 abbrev pub asked : ℕ → Bool → Op → Bool
-asked kind named o = asked-by kind named (operation o .number)
+asked kind named o = asked-by kind named (number-of o)
 
 unfoldable pub instr-uses : ℕ → Bool → Program → Instr → List ℕ
 instr-uses kind named p i = cond (asked kind named (i .op)) (instr-marks kind p i) []

@@ -5,8 +5,8 @@ use mathlib.Core.Path.{_≡_, sym, _∙_}
 use Prim.Native.Nat.{_-_, _≤_}
 use denote.Ref.{now}
 use Rattle.finding.proofs.Found.{Missed, missed-none, missed-more}
-use Rattle.writing.proofs.Held.{switch-count}
 use Rattle.linking.proofs.Switches.{switch-hit, switch-found, switch-none, hit-is}
+use Rattle.linking.proofs.Uses.{switches-fit}
 use Rattle.linking.proofs.has_switch.Statement.{statement}
 use Rattle.linking.proofs.has_switch.Tie as tie
 
@@ -23,13 +23,13 @@ loop-holds : tie.Need-loop-holds Inv-loop μ-loop
 loop-holds c = (omega arith, missed-none (switch-hit (now (c .before .before .before .before .args .text)) (now (c .before .before .before .before .args .table)) (now (c .before .before .before .before .args .sw)) (c .before .before .before .before .args .named) (c .before .before .before .before .args .m)))
 
 read-requires : tie.Need-read-requires Inv-loop μ-loop
-read-requires c κs = omega (arith, c .loop-test .taken, c .before .before .switches .ensures .is, switch-count _ _ (c .before .before .before .before .before .before .pre .holds), c .before .before .before .before .before .before .pre .holds .tabular .switches-most, c .before .before .before .before .before .before .pre .room)
+read-requires c κs = omega (arith, c .loop-test .taken, switches-fit (c .before .before .switches .result) (c .before .before .before .before .before .before .pre) (c .before .before .switches .ensures .is), c .before .before .before .before .before .before .pre .room)
 
 same-name-requires : tie.Need-same-name-requires Inv-loop μ-loop
 same-name-requires c κs = search needs
 
 switch-by-name-requires : tie.Need-switch-by-name-requires Inv-loop μ-loop
-switch-by-name-requires c κs = record { long = c .before .before .before .before .before .before .before .before .pre .holds .long; below = omega (arith, c .before .before .loop-test .taken, c .before .before .before .before .switches .ensures .is, switch-count _ _ (c .before .before .before .before .before .before .before .before .pre .holds), c .before .before .before .before .before .before .before .before .pre .holds .tabular .switches-most, c .before .before .before .before .before .before .before .before .pre .room) }
+switch-by-name-requires c κs = record { long = c .before .before .before .before .before .before .before .before .pre .holds .long; below = omega (arith, c .before .before .loop-test .taken, switches-fit (c .before .before .before .before .switches .result) (c .before .before .before .before .before .before .before .before .pre) (c .before .before .before .before .switches .ensures .is), c .before .before .before .before .before .before .before .before .pre .room) }
 
 agree-requires : tie.Need-agree-requires Inv-loop μ-loop
 agree-requires c κs = search needs

@@ -4,9 +4,9 @@ use native.Mathlib.Omega.{arith}
 use Prim.Native.Nat.{_/_}
 use denote.Ref.{now}
 use Rattle.finding.proofs.Found.{labels-counted}
-use Rattle.writing.proofs.Held.{switch-count}
 use Rattle.writing.proofs.Rooms.{argument-place}
 use Rattle.linking.proofs.Steps.{label-put, switch-put, none-put, switch-low}
+use Rattle.linking.proofs.Uses.{switches-fit}
 use Rattle.linking.proofs.resolve_argument.Statement.{statement}
 use Rattle.linking.proofs.resolve_argument.Tie as tie
 
@@ -47,16 +47,16 @@ switches-requires : tie.Need-switches-requires
 switches-requires c κs = c .before .before .before .before .before .before .before .before .pre .at .asking .holds .long
 
 switch-place-requires : tie.Need-switch-place-requires
-switch-place-requires c κs = omega (arith, c .switches .ensures .is, switch-count _ _ (c .before .before .before .before .before .before .before .before .before .pre .at .asking .holds), c .before .before .before .before .before .before .before .before .before .pre .at .asking .holds .tabular .switches-most, c .before .before .before .before .before .before .before .before .before .pre .at .asking .room)
+switch-place-requires c κs = switches-fit (c .switches .result) (c .before .before .before .before .before .before .before .before .before .pre .at .asking) (c .switches .ensures .is)
 
 mul-set-argument-2 : tie.Need-mul-set-argument-2
-mul-set-argument-2 c = omega (arith, (rw (← c .before .switch-place .ensures) at (switch-low (now (c .before .before .before .before .before .before .before .before .before .before .before .args .text)) (now (c .before .before .before .before .before .before .before .before .before .before .before .args .sw)) (c .before .before .switches .result) (c .before .before .before .before .before .before .read .result / 8) (omega (arith, c .before .before .switches .ensures .is, switch-count _ _ (c .before .before .before .before .before .before .before .before .before .before .before .pre .at .asking .holds), c .before .before .before .before .before .before .before .before .before .before .before .pre .at .asking .holds .tabular .switches-most, c .before .before .before .before .before .before .before .before .before .before .before .pre .at .asking .room)))), c .before .before .switches .ensures .is, switch-count _ _ (c .before .before .before .before .before .before .before .before .before .before .before .pre .at .asking .holds), c .before .before .before .before .before .before .before .before .before .before .before .pre .at .asking .holds .tabular .switches-most, c .before .before .before .before .before .before .before .before .before .before .before .pre .at .asking .room)
+mul-set-argument-2 c = omega (arith, switch-low (now (c .before .before .before .before .before .before .before .before .before .before .before .args .text)) (now (c .before .before .before .before .before .before .before .before .before .before .before .args .sw)) (c .before .before .switches .result) (c .before .before .before .before .before .before .read .result / 8) (c .before .switch-place .result) (c .before .before .before .before .before .before .before .before .before .before .before .pre .at .asking) (c .before .before .switches .ensures .is) (c .before .switch-place .ensures))
 
 add-set-argument-2 : tie.Need-add-set-argument-2
-add-set-argument-2 c = omega (arith, (rw (← c .before .switch-place .ensures) at (switch-low (now (c .before .before .before .before .before .before .before .before .before .before .before .args .text)) (now (c .before .before .before .before .before .before .before .before .before .before .before .args .sw)) (c .before .before .switches .result) (c .before .before .before .before .before .before .read .result / 8) (omega (arith, c .before .before .switches .ensures .is, switch-count _ _ (c .before .before .before .before .before .before .before .before .before .before .before .pre .at .asking .holds), c .before .before .before .before .before .before .before .before .before .before .before .pre .at .asking .holds .tabular .switches-most, c .before .before .before .before .before .before .before .before .before .before .before .pre .at .asking .room)))), c .before .before .switches .ensures .is, switch-count _ _ (c .before .before .before .before .before .before .before .before .before .before .before .pre .at .asking .holds), c .before .before .before .before .before .before .before .before .before .before .before .pre .at .asking .holds .tabular .switches-most, c .before .before .before .before .before .before .before .before .before .before .before .pre .at .asking .room)
+add-set-argument-2 c = omega (arith, switch-low (now (c .before .before .before .before .before .before .before .before .before .before .before .args .text)) (now (c .before .before .before .before .before .before .before .before .before .before .before .args .sw)) (c .before .before .switches .result) (c .before .before .before .before .before .before .read .result / 8) (c .before .switch-place .result) (c .before .before .before .before .before .before .before .before .before .before .before .pre .at .asking) (c .before .before .switches .ensures .is) (c .before .switch-place .ensures))
 
 set-argument-requires-2 : tie.Need-set-argument-requires-2
-set-argument-requires-2 c κs = argument-place _ _ (c .before .before .before .before .before .before .before .before .before .before .before .pre .at .asking .holds) _ _ _ (c .before .before .before .before .before .before .before .before .before .before .before .pre .at .there) (c .before .before .before .before .before .before .before .before .before .before .before .pre .place) (omega (arith, (rw (← c .before .switch-place .ensures) at (switch-low (now (c .before .before .before .before .before .before .before .before .before .before .before .args .text)) (now (c .before .before .before .before .before .before .before .before .before .before .before .args .sw)) (c .before .before .switches .result) (c .before .before .before .before .before .before .read .result / 8) (omega (arith, c .before .before .switches .ensures .is, switch-count _ _ (c .before .before .before .before .before .before .before .before .before .before .before .pre .at .asking .holds), c .before .before .before .before .before .before .before .before .before .before .before .pre .at .asking .holds .tabular .switches-most, c .before .before .before .before .before .before .before .before .before .before .before .pre .at .asking .room)))), c .before .before .switches .ensures .is, switch-count _ _ (c .before .before .before .before .before .before .before .before .before .before .before .pre .at .asking .holds), c .before .before .before .before .before .before .before .before .before .before .before .pre .at .asking .holds .tabular .switches-most, c .before .before .before .before .before .before .before .before .before .before .before .pre .at .asking .room))
+set-argument-requires-2 c κs = argument-place _ _ (c .before .before .before .before .before .before .before .before .before .before .before .pre .at .asking .holds) _ _ _ (c .before .before .before .before .before .before .before .before .before .before .before .pre .at .there) (c .before .before .before .before .before .before .before .before .before .before .before .pre .place) (omega (arith, switch-low (now (c .before .before .before .before .before .before .before .before .before .before .before .args .text)) (now (c .before .before .before .before .before .before .before .before .before .before .before .args .sw)) (c .before .before .switches .result) (c .before .before .before .before .before .before .read .result / 8) (c .before .switch-place .result) (c .before .before .before .before .before .before .before .before .before .before .before .pre .at .asking) (c .before .before .switches .ensures .is) (c .before .switch-place .ensures)))
 
 same-length-2 : tie.Need-same-length-2
 same-length-2 c = search needs
