@@ -227,6 +227,10 @@ module _ (i : Item) (o : Op) (place : ℕ) where
         ∙ ap (λ (xs : List (List (List ℕ))). read-as (t .form) ∷ read-by xs js)
         (ap (map (drop 1)) (step .lists ∙ sym (chosen-map place (t .live) (alternatives o))) ∙ drop-again place (chosen (t .live) (alternatives o)))
 
+    -- a form that is found is one that the item reads as
+    pub taken-reads : {f : ℕ} → t .form ≡ f → (f ≡ 45 → ⊥) → reads i f ≡ true
+    taken-reads e n = kept-reads p (headOr [] (headOr [] (keep (takes p) (chosen live ys)))) (step .form ∙ e) n
+
 drops-none : (xs : List (List (List ℕ))) → map (drop 0) xs ≡ xs
 drops-none [] = refl
 drops-none (x ∷ xs) = ap (_∷_ x) (drops-none xs)
