@@ -45,7 +45,7 @@ abbrev pub joined : Fault → List ℕ → Fault
 joined Clear ps = fault-of ps
 joined (At p) ps = At (lowest p ps)
 
--- a name used as a label (of the kind of an argument's cell), or as a switch of a type
+-- a name that arguments of a kind use, as a label or as a switch of a type, is there
 abbrev pub known : List ℕ → List ℕ → ℕ → Bool → Program → ℕ → Bool
 known s sw kind named p m = cond (eqb kind label-kind) (is-label s p m) (is-switch s named m sw (p .switches))
 

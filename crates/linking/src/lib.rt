@@ -1,5 +1,5 @@
-// The second pass over a text's program: questions 12 and 13, "Every used label declared", "Every used switch declared", by the marks of the names that
-// are used; then these names become places.
+// The second pass over a text's program: questions 12 and 13, "Every used label declared" and "Every used switch declared"; then names become places.
+// Until then the table has the marks of the names that are used.
 ghost use mathlib.Core.Path.{_≡_};
 ghost use mathlib.Core.Bool.{true, cond, Bool·beq};
 ghost use mathlib.Core.List.{[], _∷_};
@@ -111,7 +111,7 @@ fn takes_named(operator: u8) -> bool
     (operator == Operator::SKONA) | ((operator == Operator::WYNA) | (operator == Operator::SZUKAJ))
 }
 
-// Whether `m` names a label, or a switch of the type, by the kind of the argument.
+// Whether `m`, the mark of an argument of the kind, names a label or a switch of the type.
 fn is_known(text: &[u8], table: &[u32], sw: &[u32], kind: usize, named: bool, m: usize) -> bool
     requires { ⌜ Asking (now table) (now sw) ⌝ }
     ensures { λ r. ⌜ Judges (now (table .entry)) (λ p. known (now (text .entry)) (now (sw .entry)) kind named p m) r ⌝ }
@@ -144,6 +144,7 @@ fn argument_fault(
     note(f, is_known(text, table, sw, kind, named, m), m)
 }
 
+// Labels are asked of all instructions, switches of a type of those whose operators take it.
 fn is_asked(kind: usize, named: bool, operator: u8) -> bool
     ensures { λ r. ⌜ r ≡ asked-by kind named operator ⌝ }
 {
@@ -196,11 +197,8 @@ fn entries_fault(text: &[u8], table: &[u32], sw: &[u32], en: &[u32], f: Fault) -
     let mut k = 0;
     while k < n {
         let m = cells::read(en, k);
-        g = note(
-            g,
-            is_known(text, table, sw, ArgumentKinds::LABEL, true, m),
-            m,
-        );
+        let fine = is_known(text, table, sw, ArgumentKinds::LABEL, true, m);
+        g = note(g, fine, m);
         k += 1;
     }
     g
@@ -242,6 +240,7 @@ fn resolve_argument(text: &[u8], table: &mut [u32], sw: &[u32], k: usize, j: usi
     }
 }
 
+// The arguments of instruction `k`.
 fn resolve_instruction(text: &[u8], table: &mut [u32], sw: &[u32], k: usize)
     requires { ⌜ AskingAt (now table) (now sw) k ⌝ }
     ensures { λ _. ⌜ Changes (instr-resolved (now (text .entry)) (now (sw .entry)) k) (now (table .entry)) (now (table .exit)) ⌝ }
