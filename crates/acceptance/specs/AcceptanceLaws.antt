@@ -2,7 +2,7 @@
 use mathlib.Core.Path.{_≡_, refl, sym, subst}
 use mathlib.Core.Bool.{Bool, true, false, cond, not, _&&_, Bool·beq}
 use mathlib.Core.List.{List, [], _∷_, _++_, map}
-use Prim.Native.Nat.{ℕ, zero, suc, pred, _≤_, _<_}
+use Prim.Native.Nat.{ℕ, zero, suc, pred, _<_}
 use Prim.Native.String.{String}
 use native.Mathlib.Nat.{not-suc-le-zero, le-of-suc-le-suc}
 use native.Mathlib.Omega.{arith}
@@ -21,9 +21,10 @@ use Rattle.layout.specs.Bounds.{Each}
 use Rattle.layout.specs.CellLaws.{each-left, each-right}
 use Rattle.syntax.specs.ArgumentForms.{form-in, Argument, of-form}
 use Rattle.syntax.specs.Ending.{last-place, absent, end-faults, given-as, used-labels, undeclared-labels, undeclared-switches, last-questions}
-use Rattle.syntax.specs.Items.{Item, is, places, statements-from}
+use Rattle.syntax.specs.Items.{Item, is, places, statements-from, lines-of}
 use Rattle.syntax.specs.Items.Sort.{word}
-use Rattle.syntax.specs.Load.{Loaded, label-place, instr-of, program-of, unless-refused, load-from, loadIn}
+use Rattle.syntax.specs.LineLaws.{text-lined}
+use Rattle.syntax.specs.Load.{Loaded, label-place, instr-of, program-of, unless-refused, load-from, Lined, loadIn}
 use Rattle.syntax.specs.Load.Loaded.{accepted}
 use Rattle.syntax.specs.Questions.{questions}
 use Rattle.syntax.specs.Statements.{entries-in}
@@ -92,7 +93,7 @@ getD-mapped f [] k d e h = absurd (not-suc-le-zero h)
 getD-mapped f (x ∷ xs) zero d e h = refl
 getD-mapped f (x ∷ xs) (suc k) d e h = getD-mapped f xs k d e (le-of-suc-le-suc h)
 
-module _ (s : List ℕ) (t : Tables) where
+module _ (ls : List ℕ) (t : Tables) where
   abbrev ends : Written → Bool
   ends w = is-end (operation (w .op) .flow)
 
@@ -100,7 +101,7 @@ module _ (s : List ℕ) (t : Tables) where
   no-written = record { op = no-instr .op; at = 0; args = [] }
 
   last-ends : 0 < length (t .code) → each (λ w. cond (ends w) [] (w .at ∷ [])) (drop (pred (length (t .code))) (t .code)) ≡ []
-      → T (is-end (operation (getD (map (instr-of s t) (t .code)) (pred (length (map (instr-of s t) (t .code)))) no-instr .op) .flow))
+      → T (is-end (operation (getD (map (instr-of ls t) (t .code)) (pred (length (map (instr-of ls t) (t .code)))) no-instr .op) .flow))
   unfolding instr-of
   last-ends some h =
       let k = pred (length (t .code)) in
@@ -110,8 +111,8 @@ module _ (s : List ℕ) (t : Tables) where
       cond-none (ends w) (w .at) []
       (each-none (λ w. cond (ends w) [] (w .at ∷ [])) (w ∷ drop (suc k) (t .code))
       (subst (λ (ws : List Written). each (λ w. cond (ends w) [] (w .at ∷ [])) ws ≡ []) (drop-cons (t .code) k no-written inside) h) .0) in
-      subst (λ (j : ℕ). T (is-end (operation (getD (map (instr-of s t) (t .code)) (pred j) no-instr .op) .flow))) (sym (length-map (t .code) (instr-of s t)))
-      (subst (λ (i : Instr). T (is-end (operation (i .op) .flow))) (sym (getD-mapped (instr-of s t) (t .code) k no-written no-instr inside)) ended)
+      subst (λ (j : ℕ). T (is-end (operation (getD (map (instr-of ls t) (t .code)) (pred j) no-instr .op) .flow))) (sym (length-map (t .code) (instr-of ls t)))
+      (subst (λ (i : Instr). T (is-end (operation (i .op) .flow))) (sym (getD-mapped (instr-of ls t) (t .code) k no-written no-instr inside)) ended)
     where
       before : (m : ℕ) → 0 < m → pred m < m
       before zero h = h
@@ -140,12 +141,12 @@ ended at d h =
     }
 
 -- The program of a draft that passes all questions
-module _ (s : List ℕ) (short : length s ≤ limit.text) (d : Draft) (h : Sound-draft (length s) d) (a : Answered (last-questions (last-place s) d)) where
+module _ (ls : List ℕ) (lined : Lined ls) (n last : ℕ) (d : Draft) (h : Sound-draft n d) (a : Answered (last-questions last d)) where
   abbrev tables : Tables
   tables = d .tables
 
   abbrev program : Program
-  program = program-of s tables
+  program = program-of ls tables
 
   record Declarations : Type 0 where
     at-end : Ended d
@@ -157,7 +158,7 @@ module _ (s : List ℕ) (short : length s ≤ limit.text) (d : Draft) (h : Sound
   declarations =
       let k = append-none (undeclared-switches true tables) (undeclared-switches false tables) (a .1 .1 .1 .0) in
       record {
-        at-end = ended (last-place s) d (a .1 .0);
+        at-end = ended last d (a .1 .0);
         code-declared = all-declared tables (a .1 .1 .0) (k .0) (k .1);
         switches-declared = entries-declared tables (a .1 .1 .0) (k .0) (k .1);
       }
@@ -165,20 +166,20 @@ module _ (s : List ℕ) (short : length s ≤ limit.text) (d : Draft) (h : Sound
   abbrev switch-of : Choice → Switch
   switch-of c = record { byName = c .byName; entries = entries-in (label-place tables) (c .list) }
 
-  instructions-good : T (all (good-instr program) (map (instr-of s tables) (tables .code)))
+  instructions-good : T (all (good-instr program) (map (instr-of ls tables) (tables .code)))
   instructions-good =
       let u = different-left sameBytes sameBytes-sym (by-names (tables .switches)) (contents (d .waiting)) (h .own-different) in
-      each-all (good-instr program) (map (instr-of s tables) (tables .code))
-      (each-mapped (λ i. T (good-instr program i)) (instr-of s tables) (tables .code)
-      (each-map _ _ (λ w e. instr-good s tables short u w (e .0) (e .1)) (tables .code)
-      (each-both (Sound-written (length s) (tables .texts) (tables .numbers)) (λ w. Each (Declared tables) (w .args)) (tables .code) (h .tables .code) (declarations .code-declared))))
+      each-all (good-instr program) (map (instr-of ls tables) (tables .code))
+      (each-mapped (λ i. T (good-instr program i)) (instr-of ls tables) (tables .code)
+      (each-map _ _ (λ w e. instr-good ls tables lined u n w (e .0) (e .1)) (tables .code)
+      (each-both (Sound-written n (tables .texts) (tables .numbers)) (λ w. Each (Declared tables) (w .args)) (tables .code) (h .tables .code) (declarations .code-declared))))
 
   switches-good : T (all (good-switch program) (map switch-of (tables .switches)))
   switches-good =
       each-all (good-switch program) (map switch-of (tables .switches))
       (each-mapped (λ w. T (good-switch program w)) switch-of (tables .switches)
-      (each-map _ _ (λ c e. switch-good s tables (length s) c (e .0) (e .1)) (tables .switches)
-      (each-both (Sound-choice (length s) (tables .texts)) (λ c. Each (λ i. T (is-label tables i)) (keep (is word) (c .list))) (tables .switches) (h .tables .switches)
+      (each-map _ _ (λ c e. switch-good ls tables n c (e .0) (e .1)) (tables .switches)
+      (each-both (Sound-choice n (tables .texts)) (λ c. Each (λ i. T (is-label tables i)) (keep (is word) (c .list))) (tables .switches) (h .tables .switches)
       (declarations .switches-declared))))
 
   entries-total : (cs : List Choice) → total (λ w. length (w .entries)) (map switch-of cs) ≡ total (λ c. length (keep (is word) (c .list))) cs
@@ -189,20 +190,20 @@ module _ (s : List ℕ) (short : length s ≤ limit.text) (d : Draft) (h : Sound
   unfolding good-program program-of
   program-good =
       let t = h .tables in
-      let code = map (instr-of s tables) (tables .code) in
+      let code = map (instr-of ls tables) (tables .code) in
       let switches = map switch-of (tables .switches) in
-      let counted = length-map (tables .code) (instr-of s tables) in
+      let counted = length-map (tables .code) (instr-of ls tables) in
       let lists : Passed (drop 7 (program-tests program)) = (
         instructions-good,
         (
-          each-all (good-label program) (tables .labels) (each-map _ _ (label-good s tables) (tables .labels) (t .labels)),
+          each-all (good-label program) (tables .labels) (each-map _ _ (label-good ls tables) (tables .labels) (t .labels)),
           (
             switches-good,
             (
               each-all (λ w. ltb 1 (length w) && good-text w) (tables .texts) (t .texts),
               (
                 each-all (λ z. ltb limit.small (natAbs z) && in-range z) (tables .numbers) (t .numbers),
-                (t .texts-different, (t .numbers-different, (last-ends s tables (declarations .at-end .some) (declarations .at-end .last), tt))),
+                (t .texts-different, (t .numbers-different, (last-ends ls tables (declarations .at-end .some) (declarations .at-end .last), tt))),
               ),
             ),
           ),
@@ -230,31 +231,31 @@ module _ (s : List ℕ) (short : length s ≤ limit.text) (d : Draft) (h : Sound
 
 -- Load
 
-passed-on : (s : List ℕ) (v : Verdict) (r : Loaded) (p : Program) → unless-refused s v r ≡ accepted p → (v ≡ Verdict.yes) × (r ≡ accepted p)
+passed-on : (ls : List ℕ) (v : Verdict) (r : Loaded) (p : Program) → unless-refused ls v r ≡ accepted p → (v ≡ Verdict.yes) × (r ≡ accepted p)
 unfolding unless-refused
-passed-on s Verdict.yes r p h = (refl, h)
-passed-on s (refuse number at) r p h = absurd (let z : _≡_ {A = ℕ} 0 1 = cc in omega arith)
+passed-on ls Verdict.yes r p h = (refl, h)
+passed-on ls (refuse number at) r p h = absurd (let z : _≡_ {A = ℕ} 0 1 = cc in omega arith)
 
-load-good : (s : List ℕ) → length s ≤ limit.text → (d : Draft) → Sound-draft (length s) d → (xs : List (List Item)) → Each (Each (Sound-item (length s))) xs
-    → (p : Program) → load-from s d xs ≡ accepted p → T (good-program p)
+load-good : (ls : List ℕ) → Lined ls → (n last : ℕ) (d : Draft) → Sound-draft n d → (xs : List (List Item)) → Each (Each (Sound-item n)) xs
+    → (p : Program) → load-from ls last d xs ≡ accepted p → T (good-program p)
 unfolding load-from
-load-good s short d h [] k p e =
-    let r = passed-on s (first-no (last-questions (last-place s) d)) (accepted (program-of s (d .tables))) p e in
-    let q : program-of s (d .tables) ≡ p = inside (r .1) in
-    subst (λ (p : Program). T (good-program p)) q (program-good s short d h (answered (last-questions (last-place s) d) (r .0)))
+load-good ls lined n last d h [] k p e =
+    let r = passed-on ls (first-no (last-questions last d)) (accepted (program-of ls (d .tables))) p e in
+    let q : program-of ls (d .tables) ≡ p = inside (r .1) in
+    subst (λ (p : Program). T (good-program p)) q (program-good ls lined n last d h (answered (last-questions last d) (r .0)))
   where
     inside : {p q : Program} → accepted p ≡ accepted q → p ≡ q
     inside e = cc
-load-good s short d h (x ∷ xs) k p e =
-    let r = passed-on s (first-no (questions d x)) (load-from s (draft-after d x) xs) p e in
-    load-good s short (draft-after d x) (draft-sound (length s) d x h (k .0) (answered (questions d x) (r .0))) xs (k .1) p (r .1)
+load-good ls lined n last d h (x ∷ xs) k p e =
+    let r = passed-on ls (first-no (questions d x)) (load-from ls last (draft-after d x) xs) p e in
+    load-good ls lined n last (draft-after d x) (draft-sound n d x h (k .0) (answered (questions d x) (r .0))) xs (k .1) p (r .1)
 
 -- The program of an accepted text is well formed
 pub accepted-good : (cells : ℕ) (s : List ℕ) (p : Program) → loadIn cells s ≡ accepted p → T (good-program p)
 unfolding loadIn
 accepted-good cells s p e = go (leb limit.table cells) (leb (length s) limit.text) refl e
   where
-    go : (a b : Bool) → leb (length s) limit.text ≡ b → cond (a && b) (load-from s blank (statements-from 0 s)) (Loaded.refused 40 0) ≡ accepted p → T (good-program p)
-    go true true f e = load-good s (leb→le (length s) limit.text (subst T (sym f) tt)) blank (blank-sound (length s)) (statements-from 0 s) (statements-sound s) p e
+    go : (a b : Bool) → leb (length s) limit.text ≡ b → cond (a && b) (load-from (lines-of s) (last-place s) blank (statements-from 0 s)) (Loaded.refused 40 0) ≡ accepted p → T (good-program p)
+    go true true f e = load-good (lines-of s) (text-lined s (leb→le (length s) limit.text (subst T (sym f) tt))) (length s) (last-place s) blank (blank-sound (length s)) (statements-from 0 s) (statements-sound s) p e
     go true false f e = absurd (let z : _≡_ {A = ℕ} 0 1 = cc in omega arith)
     go false b f e = absurd (let z : _≡_ {A = ℕ} 0 1 = cc in omega arith)

@@ -206,12 +206,12 @@ switch-type place w b (c ∷ cs) h k =
 
 -- The argument that load makes
 
-module _ (s : List ℕ) (t : Tables) (n : ℕ) (i : Item) where
+module _ (ls : List ℕ) (t : Tables) (n : ℕ) (i : Item) where
   abbrev made : ℕ → Arg
   made f = arg-of t (record { item = i; form = f })
 
   abbrev right : ℕ → Type 0
-  right f = (form (program-of s t) (made f) ≡ f) × T (ranged (program-of s t) (made f))
+  right f = (form (program-of ls t) (made f) ≡ f) × T (ranged (program-of ls t) (made f))
 
   made-text : Sound-argument n (t .texts) (t .numbers) (record { item = i; form = 116 }) → right 116
   unfolding arg-of program-of reads
@@ -279,7 +279,7 @@ module _ (s : List ℕ) (t : Tables) (n : ℕ) (i : Item) where
       (λ a d. made-text a) (λ a d. made-number a) (λ a d. made-class a) (λ a d. made-label d) (λ a d. made-switch true u d) (λ a d. made-switch false u d)
       (λ f o a d. made-letter f o a)
 
-pub argument-right : (s : List ℕ) (t : Tables) (n : ℕ) → T (different sameBytes (by-names (t .switches))) → (a : Argument) → Sound-argument n (t .texts) (t .numbers) a
+pub argument-right : (ls : List ℕ) (t : Tables) (n : ℕ) → T (different sameBytes (by-names (t .switches))) → (a : Argument) → Sound-argument n (t .texts) (t .numbers) a
     → Declared t a
-    → (form (program-of s t) (arg-of t a) ≡ a .form) × T (ranged (program-of s t) (arg-of t a))
-argument-right s t n u a h d = made-right s t n (a .item) u (a .form) h d
+    → (form (program-of ls t) (arg-of t a) ≡ a .form) × T (ranged (program-of ls t) (arg-of t a))
+argument-right ls t n u a h d = made-right ls t n (a .item) u (a .form) h d

@@ -15,13 +15,12 @@ use Rattle.language.specs.Program.{Arg, identifier, Instr, Label, Entry, Progra
 use Rattle.machine.specs.WellFormed.{good-text, different, form, ranged, listed, good-instr, good-label, good-entry, good-switch}
 use Rattle.layout.specs.Bounds.{Each}
 use Rattle.syntax.specs.ArgumentForms.{Argument, alternatives}
-use Rattle.syntax.specs.Items.{Sort, same-sort, Item, is, line-of}
+use Rattle.syntax.specs.Items.{Sort, same-sort, Item, is, line-at}
 use Rattle.syntax.specs.Items.Sort.{separator, word, colon, end, text, wrong}
-use Rattle.syntax.specs.Load.{label-place, arg-of, instr-of, program-of}
+use Rattle.syntax.specs.Load.{label-place, arg-of, instr-of, program-of, Lined}
 use Rattle.syntax.specs.Statements.{entry-faults, list-faults, entries-in}
 use Rattle.syntax.specs.Tables.{Written, Choice, Tables}
 use Rattle.acceptance.specs.RowLaws.{or-right, append-none, cond-none, each-map, each-both, each-unkeep, each-every, any-ahead, any-mapped, any-more}
-use Rattle.acceptance.specs.ReaderLaws.{line-least, line-most}
 use Rattle.acceptance.specs.Reading.{fits}
 use Rattle.acceptance.specs.Drafts.{Fine-item, in-texts, Sound-argument, Sound-written, Sound-choice, Sound-label, Declared}
 use Rattle.acceptance.specs.ArgumentLaws.{by-names, argument-right}
@@ -32,9 +31,9 @@ use Rattle.acceptance.specs.ArgumentLaws.{by-names, argument-right}
 abbrev shape : ℕ → ℕ → ℕ → Forms → Bool
 shape x y z f = among x (bytes (f .0)) && (among y (bytes (f .1)) && (among z (bytes (f .2)) && true))
 
-module _ (s : List ℕ) (t : Tables) where
+module _ (ls : List ℕ) (t : Tables) where
   abbrev p : Program
-  p = program-of s t
+  p = program-of ls t
 
   abbrev Right : Argument → Type 0
   Right a = (form p (arg-of t a) ≡ a .form) × T (ranged p (arg-of t a))
@@ -65,14 +64,14 @@ module _ (s : List ℕ) (t : Tables) where
       z : ℕ
       z = form p (i .third)
 
-  placed : (w : Written) → length (w .args) ≤ 3 → Each Right (w .args) → T (any (fits (w .args)) (alternatives (w .op))) → Placed (instr-of s t w)
+  placed : (w : Written) → length (w .args) ≤ 3 → Each Right (w .args) → T (any (fits (w .args)) (alternatives (w .op))) → Placed (instr-of ls t w)
   unfolding instr-of
   placed w few r f = go (w .args) few r (any-mapped (fits (w .args)) _ (operation (w .op) .forms) f)
     where
       made : List Argument → Instr
       made xs =
           let args = map (arg-of t) xs in
-          record { op = w .op; line = line-of s (w .at); first = getD args 0 Arg.nothing; second = getD args 1 Arg.nothing; third = getD args 2 Arg.nothing }
+          record { op = w .op; line = line-at ls (w .at); first = getD args 0 Arg.nothing; second = getD args 1 Arg.nothing; third = getD args 2 Arg.nothing }
 
       go : (xs : List Argument) → length xs ≤ 3 → Each Right xs → T (any (λ f. fits xs (bytes (f .0) ∷ bytes (f .1) ∷ bytes (f .2) ∷ [])) (operation (w .op) .forms))
           → Placed (made xs)
@@ -100,19 +99,19 @@ module _ (s : List ℕ) (t : Tables) where
           }
       go (a ∷ b ∷ c ∷ e ∷ xs) n r f = absurd (omega arith)
 
-  line-is : (w : Written) → instr-of s t w .line ≡ line-of s (w .at)
+  line-is : (w : Written) → instr-of ls t w .line ≡ line-at ls (w .at)
   unfolding instr-of
   line-is w = refl
 
-  pub instr-good : length s ≤ limit.text → T (different sameBytes (by-names (t .switches))) → (w : Written) → Sound-written (length s) (t .texts) (t .numbers) w
-      → Each (Declared t) (w .args) → T (good-instr p (instr-of s t w))
+  pub instr-good : Lined ls → T (different sameBytes (by-names (t .switches))) → (n : ℕ) (w : Written) → Sound-written n (t .texts) (t .numbers) w
+      → Each (Declared t) (w .args) → T (good-instr p (instr-of ls t w))
   unfolding good-instr
-  instr-good short u w h d =
-      let i = instr-of s t w in
+  instr-good lined u n w h d =
+      let i = instr-of ls t w in
       let k =
       placed w (h .few)
-      (each-map _ _ (λ a e. argument-right s t (length s) u a (e .0) (e .1)) (w .args)
-      (each-both (Sound-argument (length s) (t .texts) (t .numbers)) (Declared t) (w .args) (h .each-argument) d))
+      (each-map _ _ (λ a e. argument-right ls t n u a (e .0) (e .1)) (w .args)
+      (each-both (Sound-argument n (t .texts) (t .numbers)) (Declared t) (w .args) (h .each-argument) d))
       (h .fit) in
       let b = ranged p (i .first) in
       let c = ranged p (i .second) in
@@ -121,8 +120,8 @@ module _ (s : List ℕ) (t : Tables) where
       T-both (listed p i && b && c && e && ltb 0 (i .line)) (leb (i .line) limit.text)
       (T-both (listed p i && b && c && e) (ltb 0 (i .line))
       (T-both (listed p i && b && c) e (T-both (listed p i && b) c (T-both (listed p i) b (k .in-forms) (k .first-ranged)) (k .second-ranged)) (k .third-ranged))
-      (lt→ltb 0 (i .line) (omega (arith, l, line-least s (w .at)))))
-      (le→leb (i .line) limit.text (omega (arith, l, short, line-most s (w .at) (h .place))))
+      (lt→ltb 0 (i .line) (omega (arith, l, lined .least (w .at)))))
+      (le→leb (i .line) limit.text (omega (arith, l, lined .most (w .at))))
 
 -- Switches
 
@@ -175,7 +174,7 @@ entries-there byName place (i ∷ js) h k =
         never false h = let z : _≡_ {A = ℕ} 0 1 = cc in omega arith
     go false false c h = absurd (let z : _≡_ {A = ℕ} 0 1 = cc in omega arith)
 
-module _ (s : List ℕ) (t : Tables) (byName : Bool) where
+module _ (ls : List ℕ) (t : Tables) (byName : Bool) where
   abbrev entry-of : Item → List Item → Entry
   entry-of i js = record { label = label-place t (i .chars); text = ifAny [] (λ j. cond (is text j) (j .chars) []) js }
 
@@ -197,7 +196,7 @@ module _ (s : List ℕ) (t : Tables) (byName : Bool) where
       go false e f = tt
 
   entries-good : (before : Bool) (js : List Item) → list-faults byName before js ≡ [] → Each (Entered t) js
-      → T (all (good-entry (program-of s t) byName) (entries-in (label-place t) js))
+      → T (all (good-entry (program-of ls t) byName) (entries-in (label-place t) js))
   unfolding list-faults entries-in program-of
   entries-good before [] h k = tt
   entries-good before (i ∷ js) h k =
@@ -206,35 +205,35 @@ module _ (s : List ℕ) (t : Tables) (byName : Bool) where
       rest : list-faults byName (filled (i .colon)) js ≡ []
       rest = append-none (entry-faults byName before (ifAny false (is text) js) i) (list-faults byName (filled (i .colon)) js) h .1
 
-      go : (b : Bool) → (T b → T (any (λ l. sameBytes (i .chars) (l .name)) (t .labels))) → T (all (good-entry (program-of s t) byName) (entries-in (label-place t) js))
-          → T (all (good-entry (program-of s t) byName) (cond b (entry-of i js ∷ []) [] ++ entries-in (label-place t) js))
+      go : (b : Bool) → (T b → T (any (λ l. sameBytes (i .chars) (l .name)) (t .labels))) → T (all (good-entry (program-of ls t) byName) (entries-in (label-place t) js))
+          → T (all (good-entry (program-of ls t) byName) (cond b (entry-of i js ∷ []) [] ++ entries-in (label-place t) js))
       go true f r =
-          T-both (good-entry (program-of s t) byName (entry-of i js)) (all (good-entry (program-of s t) byName) (entries-in (label-place t) js))
+          T-both (good-entry (program-of ls t) byName (entry-of i js)) (all (good-entry (program-of ls t) byName) (entries-in (label-place t) js))
           (T-both (ltb (label-place t (i .chars)) (length (t .labels))) _
           (lt→ltb (label-place t (i .chars)) (length (t .labels)) (any-ahead (λ l. sameBytes (i .chars) (l .name)) (t .labels) (f tt)))
           (entry-text-good (filled (i .colon)) js rest (k .1))) r
       go false f r = r
 
-pub switch-good : (s : List ℕ) (t : Tables) (n : ℕ) (c : Choice) → Sound-choice n (t .texts) c
+pub switch-good : (ls : List ℕ) (t : Tables) (n : ℕ) (c : Choice) → Sound-choice n (t .texts) c
     → Each (λ i. T (any (λ l. sameBytes (i .chars) (l .name)) (t .labels))) (keep (is word) (c .list))
-    → T (good-switch (program-of s t) (record { byName = c .byName; entries = entries-in (label-place t) (c .list) }))
+    → T (good-switch (program-of ls t) (record { byName = c .byName; entries = entries-in (label-place t) (c .list) }))
 unfolding good-switch
-switch-good s t n c h d =
+switch-good ls t n c h d =
     let entered : Each (Entered t) (c .list) =
     each-map _ _ (λ i e. record { text-good = e .0 .good; text-held = e .1 .0; label-held = e .1 .1 }) (c .list)
     (each-both (Fine-item n) _ (c .list) (h .fine)
     (each-both (λ i. T (is text i) → T (in-texts (t .texts) (i .chars))) (λ i. T (is word i) → T (any (λ l. sameBytes (i .chars) (l .name)) (t .labels))) (c .list) (h .kept)
     (each-unkeep _ (is word) (c .list) d))) in
-    T-both (filled (entries-in (label-place t) (c .list))) (all (good-entry (program-of s t) (c .byName)) (entries-in (label-place t) (c .list)))
+    T-both (filled (entries-in (label-place t) (c .list))) (all (good-entry (program-of ls t) (c .byName)) (entries-in (label-place t) (c .list)))
     (entries-there (c .byName) (label-place t) (c .list) (h .some) (h .faultless))
-    (entries-good s t (c .byName) false (c .list) (h .faultless) entered)
+    (entries-good ls t (c .byName) false (c .list) (h .faultless) entered)
 
 -- Labels
 
-pub label-good : (s : List ℕ) (t : Tables) (l : Label) → Sound-label (length (t .code)) l → T (good-label (program-of s t) l)
+pub label-good : (ls : List ℕ) (t : Tables) (l : Label) → Sound-label (length (t .code)) l → T (good-label (program-of ls t) l)
 unfolding good-label program-of
-label-good s t l h =
+label-good ls t l h =
     let b = identifier (l .name) in
     let c = leb (length (l .name)) limit.item in
-    T-both (b && c) (ltb (l .target) (length (map (instr-of s t) (t .code)))) (T-both b c (h .name) (le→leb (length (l .name)) limit.item (h .short)))
-    (lt→ltb (l .target) (length (map (instr-of s t) (t .code))) (omega (arith, length-map (t .code) (instr-of s t), h .target)))
+    T-both (b && c) (ltb (l .target) (length (map (instr-of ls t) (t .code)))) (T-both b c (h .name) (le→leb (length (l .name)) limit.item (h .short)))
+    (lt→ltb (l .target) (length (map (instr-of ls t) (t .code))) (omega (arith, length-map (t .code) (instr-of ls t), h .target)))

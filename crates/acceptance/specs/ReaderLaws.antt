@@ -4,14 +4,14 @@ use mathlib.Core.List.{List, [], _∷_, _++_}
 use Prim.Native.Nat.{ℕ, _+_, _≤_, _<_}
 use native.Mathlib.Omega.{arith}
 use lib.Dec.{T, eqb}
-use lib.ListN.{length, getD, take, drop, length-take, length-drop}
+use lib.ListN.{length, getD, take, drop, length-drop}
 use Rattle.lists.specs.Lists.{all, ahead, headOr, ifAny, among}
 use Rattle.lists.specs.Quoted.{bytes}
-use Rattle.lists.specs.ListLaws.{T-left, T-right, T-both, all-at, keep-few}
+use Rattle.lists.specs.ListLaws.{T-left, T-right, T-both, all-at}
 use Rattle.characters.specs.Characters.{known}
 use Rattle.layout.specs.Bounds.{Each}
 use Rattle.layout.specs.CellLaws.{each-append, each-drop}
-use Rattle.syntax.specs.Items.{Sort, sort-of, same-sort, Item, places, is, a-word, a-text, a-mark, pairs, is-pair, pair-of, ends-text, takes-next, char-of, allows, Mode, opens, begins, itself, mode-after, items-at, left-over, read, attach, named, parted, statements, statements-from, line-of}
+use Rattle.syntax.specs.Items.{Sort, sort-of, same-sort, Item, places, is, a-word, a-text, a-mark, pairs, is-pair, pair-of, ends-text, takes-next, char-of, allows, Mode, opens, begins, itself, mode-after, items-at, left-over, read, attach, named, parted, statements, statements-from}
 use Rattle.syntax.specs.Items.Sort.{separator, word, colon, end, text, wrong}
 use Rattle.syntax.specs.Items.Stage.{first-star, inside, last-slash}
 use Rattle.syntax.specs.Items.Mode.{outside, in-word, in-comment, in-text}
@@ -164,12 +164,3 @@ statements-sound-from s n h =
 
 pub statements-sound : (s : List ℕ) → Each (Each (Sound-item (length s))) (statements-from 0 s)
 statements-sound s = statements-sound-from s 0 (omega arith)
-
--- a place's line
-pub line-least : (s : List ℕ) (p : ℕ) → 0 < line-of s p
-unfolding line-of
-line-least s p = omega arith
-
-pub line-most : (s : List ℕ) (p : ℕ) → p < length s → line-of s p ≤ length s
-unfolding line-of
-line-most s p h = omega (arith, keep-few (eqb 10) (take p s), length-take p s)

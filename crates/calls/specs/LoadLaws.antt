@@ -5,15 +5,16 @@ use mathlib.Core.Bool.{Bool, true, false, cond, _&&_}
 use mathlib.Core.List.{List, [], _∷_}
 use Prim.Native.Nat.{ℕ, suc, _/_, _%_, _≤_}
 use native.Mathlib.Omega.{arith}
-use lib.Dec.{T, eqb, leb, leb→le}
-use lib.ListN.{length, take, length-take}
+use lib.Dec.{T, leb, leb→le}
+use lib.ListN.{length}
 use Rattle.language.specs.Limits as limit
 use Rattle.language.specs.Program.{Program}
 use Rattle.lists.specs.Lists.{all, among}
-use Rattle.lists.specs.ListLaws.{T-left, T-right, all-among, keep-few}
+use Rattle.lists.specs.ListLaws.{T-left, T-right, all-among}
 use Rattle.syntax.specs.Ending.{last-place, last-questions}
-use Rattle.syntax.specs.Items.{Item, line-of, statements-from}
-use Rattle.syntax.specs.Load.{Loaded, loadIn, load-from, unless-refused, program-of}
+use Rattle.syntax.specs.Items.{Item, statements-from, lines-of}
+use Rattle.syntax.specs.LineLaws.{text-lined}
+use Rattle.syntax.specs.Load.{Loaded, loadIn, load-from, unless-refused, program-of, Lined}
 use Rattle.syntax.specs.Load.Loaded.{refused, accepted}
 use Rattle.syntax.specs.Questions.{questions}
 use Rattle.syntax.specs.Tables.{Draft, blank, draft-after}
@@ -33,35 +34,29 @@ abbrev pub LoadListed : Loaded → Type 0
 LoadListed (refused number line) = T (among number load-refusals) × (line ≤ suc limit.text)
 LoadListed (accepted p) = Unit {0}
 
--- ---- lines
-
-line-most : (s : List ℕ) (at : ℕ) → line-of s at ≤ suc (length s)
-unfolding line-of
-line-most s at = omega (arith, keep-few (eqb 10) (take at s), length-take at s)
-
 -- ---- numbers
 
 abbrev all-listed : List Question → Bool
 all-listed qs = all (λ q. among (q .number) load-refusals) qs
 
-module _ (s : List ℕ) (short : length s ≤ limit.text) where
+module _ (ls : List ℕ) (lined : Lined ls) where
   -- a refusal has the number of one of the questions
-  first-listed : (r : Loaded) → LoadListed r → (qs : List Question) → T (all-listed qs) → LoadListed (unless-refused s (first-no qs) r)
+  first-listed : (r : Loaded) → LoadListed r → (qs : List Question) → T (all-listed qs) → LoadListed (unless-refused ls (first-no qs) r)
   unfolding first-no decide unless-refused
   first-listed r k [] h = k
   first-listed r k (q ∷ qs) h =
       go (q .faults) (T-left (among (q .number) load-refusals) (all-listed qs) h)
       (first-listed r k qs (T-right (among (q .number) load-refusals) (all-listed qs) h))
     where
-      go : (ps : List ℕ) → T (among (q .number) load-refusals) → LoadListed (unless-refused s (first-no qs) r)
-          → LoadListed (unless-refused s (decide (q .number) ps (first-no qs)) r)
+      go : (ps : List ℕ) → T (among (q .number) load-refusals) → LoadListed (unless-refused ls (first-no qs) r)
+          → LoadListed (unless-refused ls (decide (q .number) ps (first-no qs)) r)
       go [] l rest = rest
-      go (p ∷ ps) l rest = (l, omega (arith, line-most s (lowest p ps)))
+      go (p ∷ ps) l rest = (l, omega (arith, lined .most (lowest p ps)))
 
-  from-listed : (d : Draft) (xs : List (List Item)) → LoadListed (load-from s d xs)
+  from-listed : (last : ℕ) (d : Draft) (xs : List (List Item)) → LoadListed (load-from ls last d xs)
   unfolding load-from questions last-questions
-  from-listed d [] = first-listed (accepted (program-of s (d .tables))) tt (last-questions (last-place s) d) tt
-  from-listed d (x ∷ xs) = first-listed (load-from s (draft-after d x) xs) (from-listed (draft-after d x) xs) (questions d x) tt
+  from-listed last d [] = first-listed (accepted (program-of ls (d .tables))) tt (last-questions last d) tt
+  from-listed last d (x ∷ xs) = first-listed (load-from ls last (draft-after d x) xs) (from-listed last (draft-after d x) xs) (questions d x) tt
 
 -- ---- load
 
@@ -82,8 +77,8 @@ module _ (cells : ℕ) (s : List ℕ) where
   unfolding loadIn
   load-within = go (leb limit.table cells) (leb (length s) limit.text) refl
     where
-      go : (a b : Bool) → leb (length s) limit.text ≡ b → LoadListed (cond (a && b) (load-from s blank (statements-from 0 s)) (refused 40 0))
-      go true true e = from-listed s (leb→le (length s) limit.text (subst T (sym e) tt)) blank (statements-from 0 s)
+      go : (a b : Bool) → leb (length s) limit.text ≡ b → LoadListed (cond (a && b) (load-from (lines-of s) (last-place s) blank (statements-from 0 s)) (refused 40 0))
+      go true true e = from-listed (lines-of s) (text-lined s (leb→le (length s) limit.text (subst T (sym e) tt))) (last-place s) blank (statements-from 0 s)
       go true false e = (tt, omega arith)
       go false b e = (tt, omega arith)
 

@@ -33,7 +33,7 @@ use Rattle.statements.specs.StatementAt.{statement-at, stops, fault-of}
 use Rattle.statements.specs.declared.Fault.{Fault}
 use Rattle.statements.specs.declared.Fault.the-variants.{Clear}
 use Rattle.syntax.specs.ArgumentForms.{word-reads, Argument, alternatives, arguments-in, arguments}
-use Rattle.syntax.specs.Items.{Item, is, places, line-of}
+use Rattle.syntax.specs.Items.{Item, is, places, line-at}
 use Rattle.syntax.specs.Items.Sort.{colon}
 use Rattle.syntax.specs.Questions.{beyond, instr-beyond}
 use Rattle.syntax.specs.Statements.{behind, operator, operator-at, rest}
@@ -123,20 +123,20 @@ same-program {c} {d} {l} {m} {w} {t} {u} {n} {o} e f g h =
     ∙ ap (λ (x : List (List ℕ)). record { code = d; labels = m; switches = w; texts = x; numbers = n }) g
     ∙ ap (λ (x : List ℤ). record { code = d; labels = m; switches = w; texts = u; numbers = x }) h
 
-module _ (t : Tables) (op : Op) {s : List ℕ} {ls x : List Item} {o : Token} {ms : List ℕ} {number line : ℕ} (h : Operated s x o) (l : Labelled s ls ms)
-    (number-is : number ≡ operation op .number) (line-is : line ≡ line-of s (o .at)) where
+module _ (lines : List ℕ) (t : Tables) (op : Op) {s : List ℕ} {ls x : List Item} {o : Token} {ms : List ℕ} {number line : ℕ} (h : Operated s x o) (l : Labelled s ls ms)
+    (number-is : number ≡ operation op .number) (line-is : line ≡ line-at lines (o .at)) where
   abbrev p : Program
-  p = draft-program s t
+  p = draft-program lines t
 
   op-is : operator-of number ≡ op
   op-is = ap operator-of number-is ∙ operator-back op
 
-  instr-is : new-instr s (o .next) number line ≡ draft-instr s (record { op = op; at = operator-at x; args = arguments op (rest x) })
+  instr-is : new-instr s (o .next) number line ≡ draft-instr lines (record { op = op; at = operator-at x; args = arguments op (rest x) })
   unfolding draft-instr
   instr-is =
       ap (λ (q : Op). instr-with q (statement-at s (o .next)) line) op-is
       ∙ ap (λ (js : List Item). instr-with op js line) (sym (h .rest-is))
-      ∙ ap (λ (k : ℕ). instr-with op (rest x) k) (line-is ∙ ap (line-of s) (sym (h .place-is)))
+      ∙ ap (λ (k : ℕ). instr-with op (rest x) k) (line-is ∙ ap (line-at lines) (sym (h .place-is)))
     where
       instr-with : Op → List Item → ℕ → Instr
       instr-with q js k =
@@ -148,20 +148,20 @@ module _ (t : Tables) (op : Op) {s : List ℕ} {ls x : List Item} {o : Token} {m
             third = getD (map draft-arg (arguments q js)) 2 Arg.nothing;
           }
 
-  pub program-is : with-labelled s (o .next) number line ms (with-values s (o .next) p) ≡ draft-program s (with-instr t ls x op)
+  pub program-is : with-labelled s (o .next) number line ms (with-values s (o .next) p) ≡ draft-program lines (with-instr t ls x op)
   unfolding with-labelled with-values set-numbers set-texts with-labels writing.with-instr draft-program with-instr
   program-is =
       same-program
-      (ap (λ (i : Instr). map (draft-instr s) (t .code) ++ (i ∷ [])) instr-is ∙ sym (map-append (draft-instr s) (t .code) (record { op = op; at = operator-at x; args = arguments op (rest x) } ∷ [])))
+      (ap (λ (i : Instr). map (draft-instr lines) (t .code) ++ (i ∷ [])) instr-is ∙ sym (map-append (draft-instr lines) (t .code) (record { op = op; at = operator-at x; args = arguments op (rest x) } ∷ [])))
       (ap (λ (xs : List Label). t .labels ++ xs)
-      (ap (λ (k : ℕ). labels-by s k ms) (length-map (t .code) (draft-instr s)) ∙ ap (labels-by s (length (t .code))) (l .marks) ∙ mark-labels s (length (t .code)) ls (l .spelt)))
+      (ap (λ (k : ℕ). labels-by s k ms) (length-map (t .code) (draft-instr lines)) ∙ ap (labels-by s (length (t .code))) (l .marks) ∙ mark-labels s (length (t .code)) ls (l .spelt)))
       (ap (λ (js : List Item). t .texts ++ contents (new-texts t js)) (sym (h .rest-is)))
       (ap (λ (js : List Item). t .numbers ++ map number-in (new-numbers t js)) (sym (h .rest-is)))
 
   pub excess-is : instr-excess s (o .at) (o .next) ms p ≡ instr-beyond t ls x
   unfolding instr-excess instr-beyond draft-program
   excess-is =
-      ap (λ (k : ℕ). beyond 512 k (o .at ∷ []) ++ beyond 128 (length (t .labels)) (map place-by ms) ++ texts (statement-at s (o .next)) ++ numbers (statement-at s (o .next))) (length-map (t .code) (draft-instr s))
+      ap (λ (k : ℕ). beyond 512 k (o .at ∷ []) ++ beyond 128 (length (t .labels)) (map place-by ms) ++ texts (statement-at s (o .next)) ++ numbers (statement-at s (o .next))) (length-map (t .code) (draft-instr lines))
       ∙ ap (λ (ps : List ℕ). beyond 512 (length (t .code)) ps ++ beyond 128 (length (t .labels)) (map place-by ms) ++ texts (statement-at s (o .next)) ++ numbers (statement-at s (o .next))) (sym (ap places (h .operator-is)))
       ∙ ap (λ (ps : List ℕ). beyond 512 (length (t .code)) (places (operator x)) ++ beyond 128 (length (t .labels)) ps ++ texts (statement-at s (o .next)) ++ numbers (statement-at s (o .next)))
       (ap (map place-by) (l .marks) ∙ mark-places ls (l .short))
@@ -179,7 +179,7 @@ module _ (t : Tables) (op : Op) {s : List ℕ} {ls x : List Item} {o : Token} {m
     instr-told g = u .told p g ∙ ap fault-of excess-is
 
     -- and the tables with the instruction
-    module _ {sw en : List ℕ} (v : Tabled s t c sw en) (sound : Sound-tables (length s) (with-instr t ls x op)) (spelt : Each (Spelt s) (rest x)) where
+    module _ {sw en : List ℕ} (v : Tabled s lines t c sw en) (sound : Sound-tables (length s) (with-instr t ls x op)) (spelt : Each (Spelt s) (rest x)) where
       own-argument : Each (Sound-argument (length s) (with-values s (o .next) p .texts) (with-values s (o .next) p .numbers)) (arguments (operator-of number) (statement-at s (o .next)))
       unfolding with-instr with-values set-numbers set-texts draft-program
       own-argument =
@@ -187,7 +187,7 @@ module _ (t : Tables) (op : Op) {s : List ℕ} {ls x : List Item} {o : Token} {m
           (subst (λ (js : List Item). Each (Sound-argument (length s) (t .texts ++ contents (new-texts t js)) (t .numbers ++ map number-in (new-numbers t js))) (arguments op js)) (h .rest-is)
           (each-right (Sound-written (length s) (t .texts ++ contents (new-texts t (rest x))) (t .numbers ++ map number-in (new-numbers t (rest x)))) (t .code) _ (sound .code) .0 .each-argument))
 
-      pub instr-tabled : r ≡ Clear → Tabled s (with-instr t ls x op) d sw en
+      pub instr-tabled : r ≡ Clear → Tabled s lines (with-instr t ls x op) d sw en
       unfolding with-instr
       instr-tabled e =
           record {

@@ -2,13 +2,12 @@
 use mathlib.Core.Path.{_≡_, refl, sym, ap, _∙_, subst}
 use mathlib.Core.Bool.{Bool, true, false}
 use mathlib.Core.List.{List, []}
-use Prim.Native.Nat.{ℕ, _≤_, _<_}
+use Prim.Native.Nat.{ℕ, _≤_}
 use native.Mathlib.Omega.{arith}
-use lib.Dec.{T}
 use lib.ListN.{length, drop}
 use Rattle.acceptance.specs.DraftLaws.{arguments-sound, draft-sound}
 use Rattle.acceptance.specs.Drafts.{Sound-item, Fine-item, Sound-name, Sound-tables}
-use Rattle.acceptance.specs.ReaderLaws.{head-sound, statements-sound-from, line-most}
+use Rattle.acceptance.specs.ReaderLaws.{head-sound, statements-sound-from}
 use Rattle.acceptance.specs.RowLaws.{each-map, each-both, each-keep}
 use Rattle.acceptance.specs.StatementLaws.{fine-items, each-front, each-behind, front-names, label-names}
 use Rattle.argument_cells.specs.ArgumentCells.{Right-argument}
@@ -27,7 +26,6 @@ use Rattle.heads.specs.HeadLaws.{no-keyword}
 use Rattle.heads.specs.Heads.{instr-of}
 use Rattle.heads.specs.declared.Head.{Head}
 use Rattle.language.specs.Instructions.{operation, operator-of}
-use Rattle.language.specs.Limits as limit
 use Rattle.language.specs.Program.{Op}
 use Rattle.layout.specs.ArgumentLaws.{operator-back}
 use Rattle.layout.specs.Bounds.{Each}
@@ -56,7 +54,7 @@ statement-sound s n h = head-sound (length s) (statements-at s n) (statements-so
 abbrev pub table-faults : Draft → List Item → List ℕ
 table-faults d x = by-keyword (λ op. instr-beyond (d .tables) (all-labels d x) x) (λ byName. switch-beyond (d .tables) x) [] (keyword-in x)
 
-module _ {s : List ℕ} {n : ℕ} {d : Draft} {h : Head} {line : ℕ} {ms : List ℕ} {a b : ℕ} {c sw en : List ℕ} (g : Admitted s n d h line ms a b c sw en) where
+module _ {s lines : List ℕ} {n : ℕ} {d : Draft} {h : Head} {line : ℕ} {ms : List ℕ} {a b : ℕ} {c sw en : List ℕ} (g : Admitted s lines n d h line ms a b c sw en) where
   abbrev x : List Item
   x = statement-at s n
 
@@ -122,7 +120,7 @@ record Instructs (x : List Item) (number : ℕ) : Type 0 where
   keyword-is : keyword-in x ≡ Spec.Keyword.instr op
   number-is : number ≡ operation op .number
 
-module _ {s : List ℕ} {n : ℕ} {d : Draft} {h : Head} {line : ℕ} {ms : List ℕ} {a b : ℕ} {c sw en : List ℕ} (g : Admitted s n d h line ms a b c sw en)
+module _ {s lines : List ℕ} {n : ℕ} {d : Draft} {h : Head} {line : ℕ} {ms : List ℕ} {a b : ℕ} {c sw en : List ℕ} (g : Admitted s lines n d h line ms a b c sw en)
     {number : ℕ} (is-number : number ≡ instr-of (h .keyword)) (some : number ≡ 0 → ⊥) where
   abbrev items : List Item
   items = statement-at s n
@@ -169,19 +167,10 @@ module _ {s : List ℕ} {n : ℕ} {d : Draft} {h : Head} {line : ℕ} {ms : List
       each-map _ _ (λ a e. record { as-form = e .as-form; short = e .fine .short }) (arguments own (rest items))
       (arguments-sound (length s) (d .tables) (all-labels d items) items own (fine-here g) counted faultless)
 
-  line-low : line ≤ limit.text
-  line-low = omega (arith, g .line-is, line-most s (h .op .at) (omega (arith, at-low, g .headed .stands .behind, g .headed .stands .most)), g .short)
-    where
-      some-sort : (k : ℕ) → stops k ≡ false → k ≡ 0 → ⊥
-      some-sort k e f = subst T (sym (ap stops f) ∙ e) tt
-
-      at-low : h .op .at < h .op .end
-      at-low = g .headed .stands .some (some-sort (h .op .sort) stands)
-
   pub instr-declarable : {v : Values} → Values-read s (h .op .next) (instr-of (h .keyword)) v → Declarable s (h .op) number v line ms a b c
   instr-declarable {v} w =
       record {
-        held = record { program = draft-program s (d .tables); holds = g .tabled .holds };
+        held = record { program = draft-program lines (d .tables); holds = g .tabled .holds };
         values =
             record {
               numbered = ap (λ (o : Op). operation o .number) operator-is ∙ sym (instructs .number-is);
@@ -189,7 +178,7 @@ module _ {s : List ℕ} {n : ℕ} {d : Draft} {h : Head} {line : ℕ} {ms : List
               right = subst (λ (js : List Item). Each Right-argument (arguments (operator-of number) js)) (here .rest-is)
                   (subst (λ (o : Op). Each Right-argument (arguments o (rest items))) (sym operator-is) right-rest);
             };
-        line-most = line-low;
+        line-most = g .line-most;
         named = g .named;
         index-low = omega (arith, g .named .order, g .named .most, g .room);
         short = subst (λ (js : List Item). Each Short-item js) (here .rest-is) (rest-short g);
@@ -198,20 +187,20 @@ module _ {s : List ℕ} {n : ℕ} {d : Draft} {h : Head} {line : ℕ} {ms : List
   module _ {r : Fault} {c′ : List ℕ} (u : Declares s (h .op) number line (marks-in ms a b) c r c′) where
     pub instr-faults-told : r ≡ fault-of (table-faults d items)
     instr-faults-told =
-        instr-told (d .tables) own here (labelled g) (instructs .number-is) (g .line-is) u (g .tabled .holds)
+        instr-told lines (d .tables) own here (labelled g) (instructs .number-is) (g .line-is) u (g .tabled .holds)
         ∙ ap fault-of (sym (instr-answer (λ op. instr-beyond (d .tables) (all-labels d items) items) (λ byName. switch-beyond (d .tables) items) [] (keyword-in items) own (instructs .keyword-is)))
 
-    pub instr-tables : r ≡ Clear → Tabled s (tables-after (d .tables) (all-labels d items) items) c′ sw en
+    pub instr-tables : r ≡ Clear → Tabled s lines (tables-after (d .tables) (all-labels d items) items) c′ sw en
     instr-tables e =
         let t = d .tables in
         let ks = all-labels d items in
         let q : tables-after t ks items ≡ with-instr t ks items own = instr-answer (with-instr t ks items) (with-switch t ks items) t (keyword-in items) own (instructs .keyword-is) in
         let sound : Sound-tables (length s) (with-instr t ks items own) = subst (λ (v : Tables). Sound-tables (length s) v) q (tables-here g (no-fault (table-faults d items) (sym instr-faults-told ∙ e))) in
-        subst (λ (v : Tables). Tabled s v c′ sw en) (sym q)
-        (instr-tabled t own here (labelled g) (instructs .number-is) (g .line-is) u (g .tabled) sound (spelt-rest g) e)
+        subst (λ (v : Tables). Tabled s lines v c′ sw en) (sym q)
+        (instr-tabled lines t own here (labelled g) (instructs .number-is) (g .line-is) u (g .tabled) sound (spelt-rest g) e)
 
 -- whatever statement it is
 pub instr-admits : {s : List ℕ} {h : Head} {line : ℕ} {ms : List ℕ} {a b : ℕ} {c sw en : List ℕ} {number : ℕ} {r : Fault} {c′ : List ℕ}
     → number ≡ instr-of (h .keyword) → (number ≡ 0 → ⊥) → Declares s (h .op) number line (marks-in ms a b) c r c′ → Admits s h line ms a b c sw en r c′ sw en
 instr-admits e f u =
-    record { told = λ n d g. instr-faults-told g e f u; tabled = λ q n d g. instr-tables g e f u q; beyond = u .beyond-same }
+    record { told = λ lines n d g. instr-faults-told g e f u; tabled = λ q lines n d g. instr-tables g e f u q; beyond = u .beyond-same }

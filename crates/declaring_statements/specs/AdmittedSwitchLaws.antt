@@ -65,7 +65,7 @@ first-mark ms a b m e =
       mark-is = sym (getD-take (b - a) (drop a ms) 0 0 (omega (arith, l)) ∙ getD-drop a ms 0 0 ∙ ap (λ (k : ℕ). getD ms k 0) z) ∙ ap (λ (l : List ℕ). getD l 0 0) e;
     }
 
-module _ {s : List ℕ} {n : ℕ} {d : Draft} {h : Head} {line : ℕ} {ms : List ℕ} {a b : ℕ} {c sw en : List ℕ} (g : Admitted s n d h line ms a b c sw en)
+module _ {s lines : List ℕ} {n : ℕ} {d : Draft} {h : Head} {line : ℕ} {ms : List ℕ} {a b : ℕ} {c sw en : List ℕ} (g : Admitted s lines n d h line ms a b c sw en)
     (some : is-switch (h .keyword) ≡ true) where
   abbrev x : List Item
   x = statement-at s n
@@ -121,10 +121,10 @@ module _ {s : List ℕ} {n : ℕ} {d : Draft} {h : Head} {line : ℕ} {ms : List
       each-map _ _ (λ i e k. T-both (good-text (i .chars)) (in-texts all (i .chars)) (e .0 .good k) (e .1 k)) (rest x)
       (each-both (Fine-item (length s)) (λ i. T (is text i) → T (in-texts all (i .chars))) (rest x) (rest-fine g) (texts-kept (length s) (d .tables) (rest x) (rest-fine g)))
 
-  kept-here : Kept-entries (with-texts s (h .op .next) (draft-program s (d .tables))) (list-entries s (h .op .next))
+  kept-here : Kept-entries (with-texts s (h .op .next) (draft-program lines (d .tables))) (list-entries s (h .op .next))
   unfolding with-texts set-texts draft-program
   kept-here =
-      list-kept (with-texts s (h .op .next) (draft-program s (d .tables))) (statement-at s (h .op .next))
+      list-kept (with-texts s (h .op .next) (draft-program lines (d .tables))) (statement-at s (h .op .next))
       (subst (λ (js : List Item). Each (λ i. T (is text i) → T (good-text (i .chars) && in-texts (d .tables .texts ++ contents (new-texts (d .tables) js)) (i .chars))) js) (here .rest-is) texts-there)
 
   pub switch-declarable : Declarable-switch s (h .op) c sw en
@@ -133,7 +133,7 @@ module _ {s : List ℕ} {n : ℕ} {d : Draft} {h : Head} {line : ℕ} {ms : List
         low = g .short;
         inside = g .headed .stands .most;
         short = subst (λ (js : List Item). Each Short-item js) (here .rest-is) (rest-short g);
-        held = record { program = draft-program s (d .tables); holds = g .tabled .holds };
+        held = record { program = draft-program lines (d .tables); holds = g .tabled .holds };
         kept = kept-here;
         switch-marks = g .tabled .switch-room;
         entry-marks = g .tabled .entry-room;
@@ -145,17 +145,17 @@ module _ {s : List ℕ} {n : ℕ} {d : Draft} {h : Head} {line : ℕ} {ms : List
 
     pub switch-faults-told : r ≡ fault-of (table-faults d x)
     switch-faults-told =
-        switch-told (d .tables) byName ls here u (g .tabled .holds)
+        switch-told lines (d .tables) byName ls here u (g .tabled .holds)
         ∙ ap fault-of (sym (switch-answer (λ op. instr-beyond (d .tables) ls x) (λ b. switch-beyond (d .tables) x) [] (keyword-in x) byName chooses))
 
-    pub switch-tables : r ≡ Clear → Tabled s (tables-after (d .tables) ls x) c′ sw′ en′
+    pub switch-tables : r ≡ Clear → Tabled s lines (tables-after (d .tables) ls x) c′ sw′ en′
     switch-tables e =
         let t = d .tables in
         let q : tables-after t ls x ≡ with-switch t ls x byName = switch-answer (with-instr t ls x) (with-switch t ls x) t (keyword-in x) byName chooses in
         let sound : Sound-tables (length s) (with-switch t ls x byName) =
         subst (λ (v : Tables). Sound-tables (length s) v) q (tables-here g (no-fault (table-faults d x) (sym switch-faults-told ∙ e))) in
-        subst (λ (v : Tables). Tabled s v c′ sw′ en′) (sym q)
-        (switch-tabled t byName ls here u (g .tabled) sound (spelt-rest g) name-spells (g .named .marked a (own-mark .low)) size kept-here e)
+        subst (λ (v : Tables). Tabled s lines v c′ sw′ en′) (sym q)
+        (switch-tabled lines t byName ls here u (g .tabled) sound (spelt-rest g) name-spells (g .named .marked a (own-mark .low)) size kept-here e)
 
 -- whatever statement it is
 pub switch-admits : {s : List ℕ} {h : Head} {line : ℕ} {ms : List ℕ} {a b : ℕ} {c sw en : List ℕ} {byName : Bool} {r : Fault} {c′ sw′ en′ : List ℕ}
@@ -163,7 +163,7 @@ pub switch-admits : {s : List ℕ} {h : Head} {line : ℕ} {ms : List ℕ} {a b 
     → Admits s h line ms a b c sw en r c′ sw′ en′
 switch-admits {s} {h} {line} {ms} {a} {b} {c} {sw} {en} {byName} {r} {c′} {sw′} {en′} e f u size =
     let v : DeclaresSwitch s (h .op) (is-by-name (h .keyword)) (getD ms a 0) c sw en r c′ sw′ en′ = subst (λ (t : Bool). DeclaresSwitch s (h .op) t (getD ms a 0) c sw en r c′ sw′ en′) f u in
-    record { told = λ n d g. switch-faults-told g e v size; tabled = λ q n d g. switch-tables g e v size q; beyond = u .beyond-same }
+    record { told = λ lines n d g. switch-faults-told g e v size; tabled = λ q lines n d g. switch-tables g e v size q; beyond = u .beyond-same }
 
 -- ---- neither
 
@@ -181,15 +181,15 @@ pub none-admits : {s : List ℕ} {h : Head} {line : ℕ} {ms : List ℕ} {a b : 
     → Admits s h line ms a b c sw en Clear c sw en
 none-admits {s} {h} {line} {ms} {a} {b} {c} {sw} {en} e l =
     record {
-      told = λ n d g. ap fault-of (sym (none-here g (λ op. instr-beyond (d .tables) (all-labels d (statement-at s n)) (statement-at s n)) (λ byName. switch-beyond (d .tables) (statement-at s n)) []));
-      tabled = λ q n d g.
+      told = λ lines n d g. ap fault-of (sym (none-here g (λ op. instr-beyond (d .tables) (all-labels d (statement-at s n)) (statement-at s n)) (λ byName. switch-beyond (d .tables) (statement-at s n)) []));
+      tabled = λ q lines n d g.
           let x = statement-at s n in
           let t = d .tables in
-          subst (λ (v : Tables). Tabled s v c sw en) (sym (none-here g (with-instr t (all-labels d x) x) (with-switch t (all-labels d x) x) t)) (g .tabled);
+          subst (λ (v : Tables). Tabled s lines v c sw en) (sym (none-here g (with-instr t (all-labels d x) x) (with-switch t (all-labels d x) x) t)) (g .tabled);
       beyond = refl;
     }
   where
-    none-here : {X : Type 0} {n : ℕ} {d : Draft} → Admitted s n d h line ms a b c sw en → (f : Op → X) (f′ : Bool → X) (z : X) → by-keyword f f′ z (keyword-in (statement-at s n)) ≡ z
-    none-here {X} {n} {d} g f f′ z =
+    none-here : {X : Type 0} {lines : List ℕ} {n : ℕ} {d : Draft} → Admitted s lines n d h line ms a b c sw en → (f : Op → X) (f′ : Bool → X) (z : X) → by-keyword f f′ z (keyword-in (statement-at s n)) ≡ z
+    none-here {n = n} g f f′ z =
         let k = keyword-in (statement-at s n) in
         no-answer f f′ z k (sym (ap instr-of (g .headed .keyword)) ∙ e) (sym (ap is-switch (g .headed .keyword)) ∙ l)

@@ -18,36 +18,38 @@ use Rattle.layout.specs.Bounds.{Each}
 use Rattle.statements.specs.StatementAt.{statement-at, fault-of}
 use Rattle.statements.specs.declared.Fault.{Fault}
 use Rattle.statements.specs.declared.Fault.the-variants.{Clear}
-use Rattle.syntax.specs.Items.{line-of}
+use Rattle.syntax.specs.Items.{line-at}
 use Rattle.syntax.specs.Questions.{instr-beyond, switch-beyond}
 use Rattle.syntax.specs.Statements.{by-keyword, keyword-in}
 use Rattle.syntax.specs.Tables.{Draft, all-labels, tables-after}
 
--- the statement at n after the draft d: its head and its operator's line, and the marks of its labels, those that waited for it included
-pub record Admitted (s : List ℕ) (n : ℕ) (d : Draft) (h : Head) (line : ℕ) (ms : List ℕ) (a b : ℕ) (c sw en : List ℕ) : Type 0 where
+-- the statement at n after the draft d, in a text whose bytes have the lines `lines`: its head and its operator's line, and the marks of its labels, those that waited for it included
+pub record Admitted (s lines : List ℕ) (n : ℕ) (d : Draft) (h : Head) (line : ℕ) (ms : List ℕ) (a b : ℕ) (c sw en : List ℕ) : Type 0 where
   pub short : length s ≤ limit.text
   pub inside : n ≤ length s
   pub headed : Headed s n h
   pub sound : Sound-draft (length s) d
-  pub tabled : Tabled s (d .tables) c sw en
+  pub tabled : Tabled s lines (d .tables) c sw en
   pub answered : Answered (early-questions d (statement-at s n))
-  pub line-is : line ≡ line-of s (h .op .at)
+  pub line-is : line ≡ line-at lines (h .op .at)
+  pub line-most : line ≤ limit.text
   pub named : Named s ms a b
   pub room : length ms ≡ 32768
   pub marks : marks-in ms a b ≡ map mark (all-labels d (statement-at s n))
   pub spelt : Each (Spelt s) (d .waiting)
 
 pub record Admissible (s : List ℕ) (h : Head) (v : Values) (line : ℕ) (ms : List ℕ) (a b : ℕ) (c sw en : List ℕ) : Type 0 where
+  pub lines : List ℕ
   pub at : ℕ
   pub draft : Draft
-  pub admitted : Admitted s at draft h line ms a b c sw en
+  pub admitted : Admitted s lines at draft h line ms a b c sw en
   pub values : Values-read s (h .op .next) (instr-of (h .keyword)) v
 
 -- question 11 is told; where it is answered yes, the tables are those after the statement
 pub record Admits (s : List ℕ) (h : Head) (line : ℕ) (ms : List ℕ) (a b : ℕ) (c sw en : List ℕ) (r : Fault) (c′ sw′ en′ : List ℕ) : Type 0 where
-  pub told : (n : ℕ) (d : Draft) → Admitted s n d h line ms a b c sw en
+  pub told : (lines : List ℕ) (n : ℕ) (d : Draft) → Admitted s lines n d h line ms a b c sw en
       → let x = statement-at s n in
       r ≡ fault-of (by-keyword (λ op. instr-beyond (d .tables) (all-labels d x) x) (λ byName. switch-beyond (d .tables) x) [] (keyword-in x))
-  pub tabled : r ≡ Clear → (n : ℕ) (d : Draft) → Admitted s n d h line ms a b c sw en
-      → let x = statement-at s n in Tabled s (tables-after (d .tables) (all-labels d x) x) c′ sw′ en′
+  pub tabled : r ≡ Clear → (lines : List ℕ) (n : ℕ) (d : Draft) → Admitted s lines n d h line ms a b c sw en
+      → let x = statement-at s n in Tabled s lines (tables-after (d .tables) (all-labels d x) x) c′ sw′ en′
   pub beyond : drop limit.table c′ ≡ drop limit.table c

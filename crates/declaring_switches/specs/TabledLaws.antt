@@ -46,21 +46,21 @@ last-of es [] w = refl
 last-of es (v ∷ []) w = refl
 last-of es (v ∷ u ∷ ws) w = ap (λ (l : List Switch). v ∷ l) (last-of es (u ∷ ws) w)
 
-module _ (t : Tables) (b : Bool) (ls : List Item) {s : List ℕ} {x : List Item} {o : Token} (h : Operated s x o) where
+module _ (lines : List ℕ) (t : Tables) (b : Bool) (ls : List Item) {s : List ℕ} {x : List Item} {o : Token} (h : Operated s x o) where
   abbrev p : Program
-  p = draft-program s t
+  p = draft-program lines t
 
   abbrev choice : Choice
   choice = record { name = headOr [] (contents ls); byName = b; list = rest x }
 
-  pub program-is : with-list s (o .next) b (with-texts s (o .next) p) ≡ draft-program s (with-switch t ls x b)
+  pub program-is : with-list s (o .next) b (with-texts s (o .next) p) ≡ draft-program lines (with-switch t ls x b)
   unfolding with-list with-entries with-texts set-texts writing.with-switch draft-program with-switch draft-switch
   program-is =
-      ap (λ (ws : List Switch). record { code = map (draft-instr s) (t .code); labels = t .labels; switches = ws; texts = t .texts ++ contents (new-texts t (statement-at s (o .next))); numbers = t .numbers })
+      ap (λ (ws : List Switch). record { code = map (draft-instr lines) (t .code); labels = t .labels; switches = ws; texts = t .texts ++ contents (new-texts t (statement-at s (o .next))); numbers = t .numbers })
       (last-of (list-entries s (o .next)) (map draft-switch (t .switches)) (record { byName = b; entries = [] })
       ∙ ap (λ (js : List Item). map draft-switch (t .switches) ++ (record { byName = b; entries = entries-in (λ w. 0) js } ∷ [])) (sym (h .rest-is))
       ∙ sym (map-append draft-switch (t .switches) (record { name = headOr [] (contents ls); byName = b; list = rest x } ∷ [])))
-      ∙ ap (λ (js : List Item). record { code = map (draft-instr s) (t .code); labels = t .labels; switches = map draft-switch (t .switches ++ (record { name = headOr [] (contents ls); byName = b; list = rest x } ∷ [])); texts = t .texts ++ contents (new-texts t js); numbers = t .numbers }) (sym (h .rest-is))
+      ∙ ap (λ (js : List Item). record { code = map (draft-instr lines) (t .code); labels = t .labels; switches = map draft-switch (t .switches ++ (record { name = headOr [] (contents ls); byName = b; list = rest x } ∷ [])); texts = t .texts ++ contents (new-texts t js); numbers = t .numbers }) (sym (h .rest-is))
 
   pub excess-is : switch-excess s (o .at) (o .next) p ≡ switch-beyond t x
   unfolding switch-excess switch-beyond draft-program
@@ -82,7 +82,7 @@ module _ (t : Tables) (b : Bool) (ls : List Item) {s : List ℕ} {x : List Item}
     switch-told g = u .told p g ∙ ap fault-of excess-is
 
     -- and the tables with the switch
-    module _ (v : Tabled s t c sw en) (sound : Sound-tables (length s) (with-switch t ls x b)) (spelt : Each (Spelt s) (rest x))
+    module _ (v : Tabled s lines t c sw en) (sound : Sound-tables (length s) (with-switch t ls x b)) (spelt : Each (Spelt s) (rest x))
         (name-is : word-by s name ≡ headOr [] (contents ls)) (name-there : Marked s name) (size : length en′ ≡ length en)
         (kept : Kept-entries (with-texts s (o .next) p) (list-entries s (o .next))) (e : r ≡ Clear) where
       abbrev k : ℕ
@@ -138,7 +138,7 @@ module _ (t : Tables) (b : Bool) (ls : List Item) {s : List ℕ} {x : List Item}
           ∙ ap (λ (l : List ℕ). l ++ map mark ws) (v .entry-marks)
           ∙ sym (map-append mark (entry-items t) ws)
 
-      pub switch-tabled : Tabled s (with-switch t ls x b) d sw′ en′
+      pub switch-tabled : Tabled s lines (with-switch t ls x b) d sw′ en′
       unfolding with-switch
       switch-tabled =
           record {

@@ -7,7 +7,7 @@ use Rattle.language.specs.Program.{Arg, classes, Instr, Switch, Program}
 use Rattle.language.specs.Values.{amount, valueOf}
 use Rattle.lists.specs.Lists.{headOr}
 use Rattle.syntax.specs.ArgumentForms.{form-in, letter-of, Argument}
-use Rattle.syntax.specs.Items.{line-of}
+use Rattle.syntax.specs.Items.{line-at}
 use Rattle.syntax.specs.Statements.{entries-in}
 use Rattle.syntax.specs.Tables.{Written, Choice, Tables}
 use Rattle.drafts.specs.Marks.{mark}
@@ -22,18 +22,19 @@ draft-arg a =
     (cond (form-in "wx" (a .form)) (Arg.switch (mark (a .item)))
     (Arg.letter (letter-of (headOr 0 w)) (amount 0 (drop 1 w)))))))
 
+-- of a text whose bytes have the lines ls
 unfoldable pub draft-instr : List ℕ → Written → Instr
-draft-instr s i =
+draft-instr ls i =
     let args = map draft-arg (i .args) in
-    record { op = i .op; line = line-of s (i .at); first = getD args 0 Arg.nothing; second = getD args 1 Arg.nothing; third = getD args 2 Arg.nothing }
+    record { op = i .op; line = line-at ls (i .at); first = getD args 0 Arg.nothing; second = getD args 1 Arg.nothing; third = getD args 2 Arg.nothing }
 
 unfoldable pub draft-switch : Choice → Switch
 draft-switch c = record { byName = c .byName; entries = entries-in (λ w. 0) (c .list) }
 
 unfoldable pub draft-program : List ℕ → Tables → Program
-draft-program s t =
+draft-program ls t =
     record {
-      code = map (draft-instr s) (t .code);
+      code = map (draft-instr ls) (t .code);
       labels = t .labels;
       switches = map draft-switch (t .switches);
       texts = t .texts;

@@ -25,10 +25,10 @@ pub record Spelt (s : List ℕ) (i : Item) : Type 0 where
 abbrev pub entry-items : Tables → List Item
 entry-items t = each (λ c. keep (is word) (c .list)) (t .switches)
 
--- c is the lent table, sw and en are the marks of switches and entries
-pub record Tabled (s : List ℕ) (t : Tables) (c sw en : List ℕ) : Type 0 where
+-- s are the bytes of the text and `lines` their lines; c is the lent table, sw and en are the marks of switches and entries
+pub record Tabled (s lines : List ℕ) (t : Tables) (c sw en : List ℕ) : Type 0 where
   pub sound : Sound-tables (length s) t
-  pub holds : HoldsProgram c (draft-program s t)
+  pub holds : HoldsProgram c (draft-program lines t)
   pub spelt-arguments : Each (λ w. Each (λ a. Spelt s (a .item)) (w .args)) (t .code)
   pub spelt-entries : Each (Spelt s) (entry-items t)
   pub switch-room : length sw ≡ limit.switches

@@ -48,17 +48,17 @@ not-yes number at e = let z : _≡_ {A = ℕ} 0 1 = cc in omega arith
 
 module _ {s c sw en d : List ℕ} where
   pub linked-done : {r : Linked} → r ≡ Done → Links s c sw en r d → Names-linked s c sw en Yes d
-  linked-done e h = record { verdict-is = λ t k. rw e at (h .verdict-is t k); holds = λ q. h .holds e; beyond = h .beyond }
+  linked-done e h = record { verdict-is = λ lines t k. rw e at (h .verdict-is lines t k); holds = λ q. h .holds e; beyond = h .beyond }
 
   pub linked-label : {r : Linked} (at : ℕ) → r ≡ Label at → Links s c sw en r d → Names-linked s c sw en (No 12 at) d
-  linked-label at e h = record { verdict-is = λ t k. rw e at (h .verdict-is t k); holds = λ q. absurd (not-yes 12 at q); beyond = h .beyond }
+  linked-label at e h = record { verdict-is = λ lines t k. rw e at (h .verdict-is lines t k); holds = λ q. absurd (not-yes 12 at q); beyond = h .beyond }
 
   pub linked-switch : {r : Linked} (at : ℕ) → r ≡ Switch at → Links s c sw en r d → Names-linked s c sw en (No 13 at) d
-  linked-switch at e h = record { verdict-is = λ t k. rw e at (h .verdict-is t k); holds = λ q. absurd (not-yes 13 at q); beyond = h .beyond }
+  linked-switch at e h = record { verdict-is = λ lines t k. rw e at (h .verdict-is lines t k); holds = λ q. absurd (not-yes 13 at q); beyond = h .beyond }
 
 -- ---- the draft as it is kept
 
-module _ {s : List ℕ} {d : Draft} {g : Progress} {ms c sw en : List ℕ} (h : Drafted s d g ms c sw en) where
+module _ {s lines : List ℕ} {d : Draft} {g : Progress} {ms c sw en : List ℕ} (h : Drafted s lines d g ms c sw en) where
   -- the marks of all labels have a place
   pub names-most : g .names ≤ length ms
   names-most =
@@ -70,11 +70,11 @@ module _ {s : List ℕ} {d : Draft} {g : Progress} {ms c sw en : List ℕ} (h : 
   table-long = h .tabled .holds .long
 
   pub kept : Kept s c sw en
-  kept = record { tables = d .tables; tabled = h .tabled }
+  kept = record { lines = lines; tables = d .tables; tabled = h .tabled }
 
   pub code-is : {n : ℕ} → n ≡ cell (table-of c) 0 → length (d .tables .code) ≡ n
   unfolding draft-program
-  code-is e = sym (e ∙ code-count c (draft-program s (d .tables)) (h .tabled .holds) ∙ length-map (d .tables .code) (draft-instr s))
+  code-is e = sym (e ∙ code-count c (draft-program lines (d .tables)) (h .tabled .holds) ∙ length-map (d .tables .code) (draft-instr lines))
 
   pub waiting-is : {f : Fault} → f ≡ fault-of (map place-by (marks-in ms (g .names - g .waiting) (g .names))) → fault-of (places (d .waiting)) ≡ f
   waiting-is e =
@@ -86,7 +86,7 @@ module _ {s : List ℕ} {d : Draft} {g : Progress} {ms c sw en : List ℕ} (h : 
 
 module _ {s : List ℕ} {g : Progress} {ms c sw en : List ℕ} {last : ℕ} (l : last ≡ last-place s) where
   -- 00 is asked of the draft's section
-  asked : (d : Draft) → Drafted s d g ms c sw en → (b : Bool) → eqb (g .section) 0 ≡ b
+  asked : {lines : List ℕ} (d : Draft) → Drafted s lines d g ms c sw en → (b : Bool) → eqb (g .section) 0 ≡ b
       → first-no (last-questions (last-place s) d)
       ≡ then (decided 0 (fault-of (absent (not b) (last-place s)))) (then (decided 25 (fault-of (end-faults (last-place s) d))) (first-no (last-two (d .tables))))
   unfolding last-questions
@@ -99,7 +99,7 @@ module _ {s : List ℕ} {g : Progress} {ms c sw en : List ℕ} {last : ℕ} (l :
   unfolding spec.lowest
   no-section z =
       record {
-        verdict-is = λ d h. ap (refuse 0) l ∙ sym (asked d h true (eq-eqb (g .section) 0 z));
+        verdict-is = λ lines d h. ap (refuse 0) l ∙ sym (asked d h true (eq-eqb (g .section) 0 z));
         holds = λ q. absurd (not-yes 0 last q);
         beyond = refl;
       }
@@ -107,11 +107,11 @@ module _ {s : List ℕ} {g : Progress} {ms c sw en : List ℕ} {last : ℕ} (l :
   module _ (n : g .section ≡ 0 → ⊥) {k : Closing} {code : ℕ} {ended waiting f : Fault} (u : Ends last k code ended waiting f)
       (k-is : k ≡ g .closing) (code-of : code ≡ cell (table-of c) 0) (ended-is : ended ≡ g .ended)
       (waiting-of : waiting ≡ fault-of (map place-by (marks-in ms (g .names - g .waiting) (g .names)))) where
-    fault-here : (d : Draft) → Drafted s d g ms c sw en → f ≡ fault-of (end-faults (last-place s) d)
+    fault-here : {lines : List ℕ} (d : Draft) → Drafted s lines d g ms c sw en → f ≡ fault-of (end-faults (last-place s) d)
     fault-here d h =
         u d (rw k-is (h .tells .closing)) (code-is h code-of) (h .tells .ended ∙ sym ended-is) (waiting-is h waiting-of) ∙ ap (λ (x : ℕ). fault-of (end-faults x d)) l
 
-    then-asked : (d : Draft) → Drafted s d g ms c sw en
+    then-asked : {lines : List ℕ} (d : Draft) → Drafted s lines d g ms c sw en
         → first-no (last-questions (last-place s) d) ≡ then (decided 25 f) (first-no (last-two (d .tables)))
     then-asked d h =
         asked d h false (ne-eqb (g .section) 0 n) ∙ ap (λ (x : Fault). then (decided 25 x) (first-no (last-two (d .tables)))) (sym (fault-here d h))
@@ -119,7 +119,7 @@ module _ {s : List ℕ} {g : Progress} {ms c sw en : List ℕ} {last : ℕ} (l :
     pub not-ended : (at : ℕ) → f ≡ At at → Finishes s g ms c sw en (No 25 at) c
     not-ended at e =
         record {
-          verdict-is = λ d h. sym (then-asked d h ∙ ap (λ (x : Fault). then (decided 25 x) (first-no (last-two (d .tables)))) e);
+          verdict-is = λ lines d h. sym (then-asked d h ∙ ap (λ (x : Fault). then (decided 25 x) (first-no (last-two (d .tables)))) e);
           holds = λ q. absurd (not-yes 25 at q);
           beyond = refl;
         }
@@ -127,7 +127,7 @@ module _ {s : List ℕ} {g : Progress} {ms c sw en : List ℕ} {last : ℕ} (l :
     pub finished : f ≡ Clear → {r : Verdict} {c′ : List ℕ} → Names-linked s c sw en r c′ → Finishes s g ms c sw en r c′
     finished e w =
         record {
-          verdict-is = λ d h. w .verdict-is (d .tables) (h .tabled) ∙ sym (then-asked d h ∙ ap (λ (x : Fault). then (decided 25 x) (first-no (last-two (d .tables)))) e);
-          holds = λ q d h. w .holds q (d .tables) (h .tabled);
+          verdict-is = λ lines d h. w .verdict-is lines (d .tables) (h .tabled) ∙ sym (then-asked d h ∙ ap (λ (x : Fault). then (decided 25 x) (first-no (last-two (d .tables)))) e);
+          holds = λ q lines d h. w .holds q lines (d .tables) (h .tabled);
           beyond = w .beyond;
         }

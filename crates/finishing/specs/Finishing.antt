@@ -19,17 +19,18 @@ use Rattle.writing.specs.Writing.{HoldsProgram}
 
 -- the verdict of questions 12 and 13 is told; where it is yes, the cells d hold the program
 pub record Names-linked (s c sw en : List ℕ) (r : Verdict) (d : List ℕ) : Type 0 where
-  pub verdict-is : (t : Tables) → Tabled s t c sw en → verdict-of r ≡ first-no (last-two t)
-  pub holds : r ≡ Yes → (t : Tables) → Tabled s t c sw en → HoldsProgram d (program-of s t)
+  pub verdict-is : (lines : List ℕ) (t : Tables) → Tabled s lines t c sw en → verdict-of r ≡ first-no (last-two t)
+  pub holds : r ≡ Yes → (lines : List ℕ) (t : Tables) → Tabled s lines t c sw en → HoldsProgram d (program-of lines t)
   pub beyond : drop limit.table d ≡ drop limit.table c
 
 -- all statements of the text s were read
 pub record Finishable (s : List ℕ) (g : Progress) (ms c sw en : List ℕ) : Type 0 where
+  pub lines : List ℕ
   pub draft : Draft
-  pub drafted : Drafted s draft g ms c sw en
+  pub drafted : Drafted s lines draft g ms c sw en
 
 -- the verdict of all last questions is told; where it is yes, the cells d hold the program of the text
 pub record Finishes (s : List ℕ) (g : Progress) (ms c sw en : List ℕ) (r : Verdict) (d : List ℕ) : Type 0 where
-  pub verdict-is : (t : Draft) → Drafted s t g ms c sw en → verdict-of r ≡ first-no (last-questions (last-place s) t)
-  pub holds : r ≡ Yes → (t : Draft) → Drafted s t g ms c sw en → HoldsProgram d (program-of s (t .tables))
+  pub verdict-is : (lines : List ℕ) (t : Draft) → Drafted s lines t g ms c sw en → verdict-of r ≡ first-no (last-questions (last-place s) t)
+  pub holds : r ≡ Yes → (lines : List ℕ) (t : Draft) → Drafted s lines t g ms c sw en → HoldsProgram d (program-of lines (t .tables))
   pub beyond : drop limit.table d ≡ drop limit.table c

@@ -6,7 +6,7 @@ use Prim.Native.Nat.{ℕ, _+_, _-_, _≤_, _<_}
 use lib.Dec.{eqb}
 use lib.ListN.{length, getD, take, drop}
 use Rattle.lists.specs.Lists.{ifAny}
-use Rattle.syntax.specs.Items.{Sort, Item, is, a-mark, read, named, line-of}
+use Rattle.syntax.specs.Items.{Sort, Item, is, a-mark, read, named}
 use Rattle.syntax.specs.Items.Sort.{separator, word, colon, end, text, wrong}
 use Rattle.syntax.specs.Items.Mode.{outside}
 use Rattle.syntax.specs.Scan.{text-chars, Found, found-here, item-at}
@@ -102,8 +102,3 @@ pub record Next-token (s : List ℕ) (n : ℕ) (t : Token) : Type 0 where
   pub from : n ≤ t .at
   pub stands : Stands s t
   pub is : items-from s n ≡ cond (eqb (t .sort) 0) [] (item-of s t ∷ items-from s (t .next))
-
--- the place e is r lines behind the place a
-pub record Lines (s : List ℕ) (a e r : ℕ) : Type 0 where
-  pub most : r + a ≤ e
-  pub is : line-of s e ≡ line-of s a + r

@@ -2,7 +2,8 @@
 ghost use mathlib.Core.Path.{_≡_};
 ghost use Prim.Native.Nat.{_≤_, _<_};
 ghost use lib.ListN.{length};
-ghost use Rattle.lexer.specs.Tokens.{a-token, Word-at, Text-at, Token-at, Colon-after, Next-token, Lines};
+ghost use Rattle.syntax.specs.Items.{line-at};
+ghost use Rattle.lexer.specs.Tokens.{a-token, Word-at, Text-at, Token-at, Colon-after, Next-token};
 use scanner::NOTHING;
 use scanner::TEXT;
 use scanner::WORD;
@@ -144,16 +145,12 @@ pub fn next_item(text: &[u8], n: usize) -> Token
     }
 }
 
-// How many lines the place `to` is behind the place `from`.
-pub fn count_lines(text: &[u8], from: usize, to: usize) -> usize
-    requires { ⌜ (from ≤ to) × (to ≤ length (now text)) ⌝ }
-    ensures { λ r. ⌜ Lines (now (text .entry)) from to r ⌝ }
+// The line of a place, from the lines of a text's bytes; 1 where no byte stands.
+pub fn line_at(lines: &[u16], at: usize) -> u16
+    ensures { λ r. ⌜ r ≡ line-at (now (lines .entry)) at ⌝ }
 {
-    let mut lines: usize = 0;
-    let mut i = from;
-    while i < to {
-        lines = lines + one_if(b'\n' == text[i]);
-        i += 1;
+    if at < lines.len() {
+        return lines[at];
     }
-    lines
+    1
 }

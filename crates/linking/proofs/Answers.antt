@@ -42,35 +42,35 @@ module _ (s c sw en : List ℕ) where
   pub no-label : {f : Fault} (p : ℕ) → Finds s c sw en label-places f → f ≡ At p → Links s c sw en (Label p) c
   no-label p u e =
       record {
-        verdict-is = λ t h. at-fault 12 p (label-places t) (ask 13 (switch-places t) ∷ []) (sym e ∙ u .is t h);
+        verdict-is = λ lines t h. at-fault 12 p (label-places t) (ask 13 (switch-places t) ∷ []) (sym e ∙ u .is lines t h);
         holds = λ q. absurd (let z : _≡_ {A = ℕ} 0 1 = cc in omega arith);
         beyond = refl;
       }
 
   -- every used label is declared
   module _ {f : Fault} (u : Finds s c sw en label-places f) (e : f ≡ Clear) where
-    declared : (t : Tables) → Tabled s t c sw en → label-places t ≡ []
-    declared t h = clear (label-places t) (sym e ∙ u .is t h)
+    declared : (lines : List ℕ) (t : Tables) → Tabled s lines t c sw en → label-places t ≡ []
+    declared lines t h = clear (label-places t) (sym e ∙ u .is lines t h)
 
     pub no-switch : {g : Fault} (p : ℕ) → Finds s c sw en switch-places g → g ≡ At p → Links s c sw en (Switch p) c
     no-switch p v i =
         record {
-          verdict-is = λ t h. at-fault 13 p (switch-places t) [] (sym i ∙ v .is t h) ∙ sym (goes-on 12 (ask 13 (switch-places t) ∷ []))
-              ∙ ap (λ (ps : List ℕ). first-no (ask 12 ps ∷ ask 13 (switch-places t) ∷ [])) (sym (declared t h));
+          verdict-is = λ lines t h. at-fault 13 p (switch-places t) [] (sym i ∙ v .is lines t h) ∙ sym (goes-on 12 (ask 13 (switch-places t) ∷ []))
+              ∙ ap (λ (ps : List ℕ). first-no (ask 12 ps ∷ ask 13 (switch-places t) ∷ [])) (sym (declared lines t h));
           holds = λ q. absurd (let z : _≡_ {A = ℕ} 0 1 = cc in omega arith);
           beyond = refl;
         }
 
     pub entries-labelled : {d : List ℕ} → Kept s c sw en → Changes (λ p. code-resolved s sw (length (p .code)) p) c d → Labelling s d en
     entries-labelled k x =
-        labelling s (k .tables) c sw en (k .tabled) (declared (k .tables) (k .tabled)) (x .holds (draft-program s (k .tables)) (k .tabled .holds))
+        labelling s (k .lines) (k .tables) c sw en (k .tabled) (declared (k .lines) (k .tables) (k .tabled)) (x .holds (draft-program (k .lines) (k .tables)) (k .tabled .holds))
 
     pub all-linked : {g : Fault} {d d′ : List ℕ} → Finds s c sw en switch-places g → g ≡ Clear → Changes (λ p. code-resolved s sw (length (p .code)) p) c d
         → Changes (λ p. entries-resolved s en (length (all-entries p)) p) d d′ → Links s c sw en Done d′
     all-linked {g} {d} {d′} v i x y =
         record {
-          verdict-is = λ t h. both-clear 12 13 (label-places t) (switch-places t) (declared t h) (clear (switch-places t) (sym i ∙ v .is t h));
-          holds = λ q t h. let p = draft-program s t in
-              subst (HoldsProgram d′) (linked-program s t c sw en h) (y .holds (code-resolved s sw (length (p .code)) p) (x .holds p (h .holds)));
+          verdict-is = λ lines t h. both-clear 12 13 (label-places t) (switch-places t) (declared lines t h) (clear (switch-places t) (sym i ∙ v .is lines t h));
+          holds = λ q lines t h. let p = draft-program lines t in
+              subst (HoldsProgram d′) (linked-program s lines t c sw en h) (y .holds (code-resolved s sw (length (p .code)) p) (x .holds p (h .holds)));
           beyond = y .beyond ∙ x .beyond;
         }

@@ -136,8 +136,8 @@ three p kind fs z (a ∷ b ∷ c ∷ []) l e =
     tail x = append-nil x
 three p kind fs z (a ∷ b ∷ c ∷ d ∷ bs) l e = absurd (omega (arith, l))
 
-module _ (s : List ℕ) (p : Program) (texts : List (List ℕ)) (numbers : List ℤ) (w : Written) (h : Sound-written (length s) texts numbers w) where
-  pub label-uses : (named : Bool) → instr-uses 2 named p (draft-instr s w) ≡ map (λ i. mark i) (of-form "l" (w .args))
+module _ (lines : List ℕ) (n : ℕ) (p : Program) (texts : List (List ℕ)) (numbers : List ℤ) (w : Written) (h : Sound-written n texts numbers w) where
+  pub label-uses : (named : Bool) → instr-uses 2 named p (draft-instr lines w) ≡ map (λ i. mark i) (of-form "l" (w .args))
   unfolding instr-uses draft-instr draft-arg
   label-uses named = three p 2 "l" refl (w .args) (h .few) (go (w .args))
     where
@@ -147,7 +147,7 @@ module _ (s : List ℕ) (p : Program) (texts : List (List ℕ)) (numbers : List 
 
   -- where the operator takes the type, all switches are of it; where not, none is
   typed : (n named : Bool) → Each (λ x. form-in (cond named "w" "x") (x .form) ≡ (Bool·beq named n && form-in "wx" (x .form))) (w .args)
-      → cond (Bool·beq named n) (instr-marks 3 p (draft-instr s w)) [] ≡ map (λ i. mark i) (of-form (cond named "w" "x") (w .args))
+      → cond (Bool·beq named n) (instr-marks 3 p (draft-instr lines w)) [] ≡ map (λ i. mark i) (of-form (cond named "w" "x") (w .args))
   unfolding draft-instr draft-arg
   typed n named e = go (Bool·beq named n) e
     where
@@ -164,20 +164,20 @@ module _ (s : List ℕ) (p : Program) (texts : List (List ℕ)) (numbers : List 
           ∙ sym (marked-cons (cond named "w" "x") b bs ∙ ap (λ (x : Bool). cond x (mark (b .item) ∷ []) [] ++ map (λ i. mark i) (of-form (cond named "w" "x") bs)) (u .0))
 
       go : (q : Bool) → Each (λ x. form-in (cond named "w" "x") (x .form) ≡ (q && form-in "wx" (x .form))) (w .args)
-          → cond q (instr-marks 3 p (draft-instr s w)) [] ≡ map (λ i. mark i) (of-form (cond named "w" "x") (w .args))
+          → cond q (instr-marks 3 p (draft-instr lines w)) [] ≡ map (λ i. mark i) (of-form (cond named "w" "x") (w .args))
       go true u = three p 3 (cond named "w" "x") refl (w .args) (h .few) (all-of (w .args) u)
       go false u = none-of (w .args) u
 
-  pub switch-uses : (named : Bool) → instr-uses 3 named p (draft-instr s w) ≡ map (λ i. mark i) (of-form (cond named "w" "x") (w .args))
+  pub switch-uses : (named : Bool) → instr-uses 3 named p (draft-instr lines w) ≡ map (λ i. mark i) (of-form (cond named "w" "x") (w .args))
   unfolding instr-uses draft-instr
   switch-uses named = typed (names-number (operation (w .op) .number)) named (switch-forms (w .op) (w .args) (h .fit) named)
 
 -- ---- the marks of a text
 
-pub all-uses : (s : List ℕ) (u : Instr → List ℕ) (fs : String) (ws : List Written) → Each (λ w. u (draft-instr s w) ≡ map (λ i. mark i) (of-form fs (w .args))) ws
-    → each u (map (draft-instr s) ws) ≡ map (λ i. mark i) (each (λ w. of-form fs (w .args)) ws)
-all-uses s u fs [] e = refl
-all-uses s u fs (w ∷ ws) e = (λ j. e .0 j ++ all-uses s u fs ws (e .1) j) ∙ sym (map-append (λ i. mark i) (of-form fs (w .args)) (each (λ w. of-form fs (w .args)) ws))
+pub all-uses : (lines : List ℕ) (u : Instr → List ℕ) (fs : String) (ws : List Written) → Each (λ w. u (draft-instr lines w) ≡ map (λ i. mark i) (of-form fs (w .args))) ws
+    → each u (map (draft-instr lines) ws) ≡ map (λ i. mark i) (each (λ w. of-form fs (w .args)) ws)
+all-uses lines u fs [] e = refl
+all-uses lines u fs (w ∷ ws) e = (λ j. e .0 j ++ all-uses lines u fs ws (e .1) j) ∙ sym (map-append (λ i. mark i) (of-form fs (w .args)) (each (λ w. of-form fs (w .args)) ws))
 
 -- ---- names that are used
 

@@ -21,7 +21,7 @@ use Rattle.lists.specs.Lists.{ahead, headOr, sameBytes}
 use Rattle.linking.specs.Lookup.{label-by, switch-by, argument}
 use Rattle.linking.specs.Resolving.{resolved-arg, argument-resolved, instr-resolved, code-resolved}
 use Rattle.syntax.specs.ArgumentForms.{form-in, Argument, letter-of}
-use Rattle.syntax.specs.Items.{Item, line-of}
+use Rattle.syntax.specs.Items.{Item, line-at}
 use Rattle.syntax.specs.Load.{label-place, switch-place, arg-of, instr-of}
 use Rattle.syntax.specs.Tables.{Written, Tables}
 use Rattle.writing.proofs.Growing.{map-snoc}
@@ -113,12 +113,12 @@ ahead-mapped : {X Y : Type 0} (q : Y → Bool) (f : X → Y) (xs : List X) → a
 ahead-mapped q f [] = refl
 ahead-mapped q f (x ∷ xs) = ap (λ (n : ℕ). elim (q (f x)) as (λ b. ℕ) [ true ↦ 0 | false ↦ suc n ]) (ahead-mapped q f xs)
 
-module _ (s : List ℕ) (t : Tables) (c sw en : List ℕ) (h : Tabled s t c sw en) where
-  pub label-placed : (i : Item) → Used s i → label-by s (draft-program s t) (mark i) ≡ label-place t (i .chars)
+module _ (s lines : List ℕ) (t : Tables) (c sw en : List ℕ) (h : Tabled s lines t c sw en) where
+  pub label-placed : (i : Item) → Used s i → label-by s (draft-program lines t) (mark i) ≡ label-place t (i .chars)
   unfolding draft-program
   label-placed i u = ap (label-place t) (u .spells)
 
-  switch-placed : (i : Item) → Used s i → switch-by s sw (length (draft-program s t .switches)) (mark i) ≡ switch-place t (i .chars)
+  switch-placed : (i : Item) → Used s i → switch-by s sw (length (draft-program lines t .switches)) (mark i) ≡ switch-place t (i .chars)
   unfolding draft-program
   switch-placed i u =
       let w : List ℕ = i .chars in
@@ -127,9 +127,9 @@ module _ (s : List ℕ) (t : Tables) (c sw en : List ℕ) (h : Tabled s t c sw e
       ∙ ahead-mapped (sameBytes w) (word-by s) (take (length (t .switches)) sw) ∙ ap (ahead (sameBytes w)) (h .switch-names)
       ∙ sym (ahead-mapped (sameBytes w) (λ c. c .name) (t .switches))
 
-  by-cases : (bt bn bc bl bw : Bool) (w : List ℕ) (z : ℤ) (cs : List ℕ) (m k l x : ℕ) (y : Letter) (n : ℕ) → (T bl → label-by s (draft-program s t) m ≡ l)
-      → (T bw → switch-by s sw (length (draft-program s t .switches)) k ≡ x)
-      → resolved-arg s sw (draft-program s t) (by-form bt bn bc bl bw w z cs (label m) (switch k) y n) ≡ by-form bt bn bc bl bw w z cs (label l) (switch x) y n
+  by-cases : (bt bn bc bl bw : Bool) (w : List ℕ) (z : ℤ) (cs : List ℕ) (m k l x : ℕ) (y : Letter) (n : ℕ) → (T bl → label-by s (draft-program lines t) m ≡ l)
+      → (T bw → switch-by s sw (length (draft-program lines t .switches)) k ≡ x)
+      → resolved-arg s sw (draft-program lines t) (by-form bt bn bc bl bw w z cs (label m) (switch k) y n) ≡ by-form bt bn bc bl bw w z cs (label l) (switch x) y n
   by-cases true bn bc bl bw w z cs m k l x y n e f = refl
   by-cases false true bc bl bw w z cs m k l x y n e f = refl
   by-cases false false true bl bw w z cs m k l x y n e f = refl
@@ -137,7 +137,7 @@ module _ (s : List ℕ) (t : Tables) (c sw en : List ℕ) (h : Tabled s t c sw e
   by-cases false false false false true w z cs m k l x y n e f = ap switch (f tt)
   by-cases false false false false false w z cs m k l x y n e f = refl
 
-  argument-placed : (a : Argument) → Sound-argument (length s) (t .texts) (t .numbers) a → Spelt s (a .item) → resolved-arg s sw (draft-program s t) (draft-arg a) ≡ arg-of t a
+  argument-placed : (a : Argument) → Sound-argument (length s) (t .texts) (t .numbers) a → Spelt s (a .item) → resolved-arg s sw (draft-program lines t) (draft-arg a) ≡ arg-of t a
   unfolding draft-arg arg-of
   argument-placed a o u =
       let f : ℕ = a .form in
@@ -149,23 +149,23 @@ module _ (s : List ℕ) (t : Tables) (c sw en : List ℕ) (h : Tabled s t c sw e
       (λ k. switch-placed i (used-argument s (t .texts) (t .numbers) a o u (only-switch f k)))
 
   arguments-placed : (bs : List Argument) → Each (Sound-argument (length s) (t .texts) (t .numbers)) bs → Each (λ a. Spelt s (a .item)) bs → (j : ℕ)
-      → resolved-arg s sw (draft-program s t) (getD (map draft-arg bs) j nothing) ≡ getD (map (arg-of t) bs) j nothing
+      → resolved-arg s sw (draft-program lines t) (getD (map draft-arg bs) j nothing) ≡ getD (map (arg-of t) bs) j nothing
   arguments-placed [] o u j = refl
   arguments-placed (b ∷ bs) o u zero = argument-placed b (o .0) (u .0)
   arguments-placed (b ∷ bs) o u (suc j) = arguments-placed bs (o .1) (u .1) j
 
   code-placed : (ws : List Written) → Each (Sound-written (length s) (t .texts) (t .numbers)) ws → Each (λ w. Each (λ a. Spelt s (a .item)) (w .args)) ws
-      → map (resolved-instr s sw (draft-program s t)) (map (draft-instr s) ws) ≡ map (instr-of s t) ws
+      → map (resolved-instr s sw (draft-program lines t)) (map (draft-instr lines) ws) ≡ map (instr-of lines t) ws
   unfolding draft-instr instr-of
   code-placed [] o u = refl
   code-placed (w ∷ ws) o u =
-      let a : (j : ℕ) → resolved-arg s sw (draft-program s t) (getD (map draft-arg (w .args)) j nothing) ≡ getD (map (arg-of t) (w .args)) j nothing =
+      let a : (j : ℕ) → resolved-arg s sw (draft-program lines t) (getD (map draft-arg (w .args)) j nothing) ≡ getD (map (arg-of t) (w .args)) j nothing =
       arguments-placed (w .args) (o .0 .each-argument) (u .0) in
-      λ j. record { op = w .op; line = line-of s (w .at); first = a 0 j; second = a 1 j; third = a 2 j } ∷ code-placed ws (o .1) (u .1) j
+      λ j. record { op = w .op; line = line-at lines (w .at); first = a 0 j; second = a 1 j; third = a 2 j } ∷ code-placed ws (o .1) (u .1) j
 
-  draft-code : map (resolved-instr s sw (draft-program s t)) (draft-program s t .code) ≡ map (instr-of s t) (t .code)
+  draft-code : map (resolved-instr s sw (draft-program lines t)) (draft-program lines t .code) ≡ map (instr-of lines t) (t .code)
   unfolding draft-program
   draft-code = code-placed (t .code) (h .sound .code) (h .spelt-arguments)
 
-  pub program-code : code-resolved s sw (length (draft-program s t .code)) (draft-program s t) .code ≡ map (instr-of s t) (t .code)
-  program-code = code-whole s sw (draft-program s t) ∙ draft-code
+  pub program-code : code-resolved s sw (length (draft-program lines t .code)) (draft-program lines t) .code ≡ map (instr-of lines t) (t .code)
+  program-code = code-whole s sw (draft-program lines t) ∙ draft-code

@@ -136,9 +136,9 @@ labels-placed : (s : List ℕ) (f : ℕ → ℕ) (place : List ℕ → ℕ) (js 
 labels-placed s f place [] e = refl
 labels-placed s f place (i ∷ js) e = λ j. e .0 j ∷ labels-placed s f place js (e .1) j
 
-module _ (s : List ℕ) (t : Tables) (c sw en : List ℕ) (h : Tabled s t c sw en) where
+module _ (s lines : List ℕ) (t : Tables) (c sw en : List ℕ) (h : Tabled s lines t c sw en) where
   abbrev draft : Program
-  draft = draft-program s t
+  draft = draft-program lines t
 
   abbrev coded : Program
   coded = code-resolved s sw (length (draft .code)) draft
@@ -155,7 +155,7 @@ module _ (s : List ℕ) (t : Tables) (c sw en : List ℕ) (h : Tabled s t c sw e
   coded-labels = code-only s sw (length (draft .code)) draft .labels
 
   coded-long : length (all-entries coded) ≡ length (entry-items t)
-  coded-long = ap (λ (ws : List Switch). length (each entries-of ws)) (code-only s sw (length (draft .code)) draft .switches) ∙ entries-draft s t c sw en h
+  coded-long = ap (λ (ws : List Switch). length (each entries-of ws)) (code-only s sw (length (draft .code)) draft .switches) ∙ entries-draft s lines t c sw en h
 
   coded-place : (m : ℕ) → label-by s coded m ≡ label-by s draft m
   coded-place m = ap (λ (ls : List Label). ahead (λ l. sameBytes (word-by s m) (l .name)) ls) (code-only s sw (length (draft .code)) draft .labels)
@@ -174,7 +174,7 @@ module _ (s : List ℕ) (t : Tables) (c sw en : List ℕ) (h : Tabled s t c sw e
       ∙ ap (λ (ms : List ℕ). relabel (map (label-by s coded) ms) (each entries-of (map draft-switch (t .switches)))) (h .entry-marks)
       ∙ ap (λ (ls : List ℕ). relabel ls (each entries-of (map draft-switch (t .switches))))
       (labels-placed s (label-by s coded) (label-place t) (entry-items t)
-      (each-map (Used s) _ (λ i u. coded-place (mark i) ∙ label-placed s t c sw en h i u) (entry-items t) (entries-used s t c sw en h)))
+      (each-map (Used s) _ (λ i u. coded-place (mark i) ∙ label-placed s lines t c sw en h i u) (entry-items t) (entries-used s lines t c sw en h)))
       ∙ sym (all-placed (label-place t) (t .switches))
 
   linked-switches : linked .switches ≡ map (switch-of (label-place t)) (t .switches)
@@ -184,8 +184,8 @@ module _ (s : List ℕ) (t : Tables) (c sw en : List ℕ) (h : Tabled s t c sw e
       (resolved-counts s en (length (all-entries coded)) coded ∙ ap counts-of coded-switches ∙ draft-counts (label-place t) (t .switches))
       linked-entries
 
-  linked-code : linked .code ≡ map (instr-of s t) (t .code)
-  linked-code = entries-only s en (length (all-entries coded)) coded .code ∙ program-code s t c sw en h
+  linked-code : linked .code ≡ map (instr-of lines t) (t .code)
+  linked-code = entries-only s en (length (all-entries coded)) coded .code ∙ program-code s lines t c sw en h
 
   linked-labels : linked .labels ≡ t .labels
   linked-labels = entries-only s en (length (all-entries coded)) coded .labels ∙ coded-labels
@@ -198,7 +198,7 @@ module _ (s : List ℕ) (t : Tables) (c sw en : List ℕ) (h : Tabled s t c sw e
   unfolding draft-program
   linked-numbers = entries-only s en (length (all-entries coded)) coded .numbers ∙ code-only s sw (length (draft .code)) draft .numbers
 
-  pub linked-program : linked ≡ program-of s t
+  pub linked-program : linked ≡ program-of lines t
   unfolding program-of
   linked-program = λ j. record { code = linked-code j; labels = linked-labels j; switches = linked-switches j; texts = linked-texts j; numbers = linked-numbers j }
 
@@ -222,8 +222,8 @@ module _ (s : List ℕ) (t : Tables) (c sw en : List ℕ) (h : Tabled s t c sw e
               let b : j < n = omega (arith, coded-long) in
               let i : Item = getD (entry-items t) j no-item in
               let e : getD en j 0 ≡ mark i = sym (getD-take n en j 0 b) ∙ ap (λ (ms : List ℕ). getD ms j 0) (h .entry-marks) ∙ getD-map-at (λ i. mark i) (entry-items t) j no-item 0 b in
-              let u : Used s i = each-in (Used s) (entry-items t) (entries-used s t c sw en h) j no-item b in
-              let p : label-by s coded (getD en j 0) ≡ label-place t (i .chars) = ap (label-by s coded) e ∙ coded-place (mark i) ∙ label-placed s t c sw en h i u in
+              let u : Used s i = each-in (Used s) (entry-items t) (entries-used s lines t c sw en h) j no-item b in
+              let p : label-by s coded (getD en j 0) ≡ label-place t (i .chars) = ap (label-by s coded) e ∙ coded-place (mark i) ∙ label-placed s lines t c sw en h i u in
               let m : label-place t (i .chars) < length (t .labels) =
               any-ahead (λ l. sameBytes (i .chars) (l .name)) (t .labels) (each-in (λ i. T (any (λ l. sameBytes (i .chars) (l .name)) (t .labels))) (entry-items t) declared j no-item b) in
               omega (arith, p, m, h .sound .labels-few);

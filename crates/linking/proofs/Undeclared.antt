@@ -115,14 +115,14 @@ only-switch f h = or-right (eqb f 108) (eqb f 119 || (eqb f 120 || false)) h
 
 -- ---- the marks of a text, in code and in entries
 
-module _ (s : List ℕ) (t : Tables) (c sw en : List ℕ) (h : Tabled s t c sw en) where
+module _ (s lines : List ℕ) (t : Tables) (c sw en : List ℕ) (h : Tabled s lines t c sw en) where
   abbrev draft : Program
-  draft = draft-program s t
+  draft = draft-program lines t
 
-  code-marks : (u : Instr → List ℕ) (fs : String) → Each (λ w. u (draft-instr s w) ≡ map (λ i. mark i) (of-form fs (w .args))) (t .code)
+  code-marks : (u : Instr → List ℕ) (fs : String) → Each (λ w. u (draft-instr lines w) ≡ map (λ i. mark i) (of-form fs (w .args))) (t .code)
       → each u (draft .code) ≡ map (λ i. mark i) (given-as fs t)
   unfolding draft-program
-  code-marks u fs e = all-uses s u fs (t .code) e
+  code-marks u fs e = all-uses lines u fs (t .code) e
 
   pub used-of : (fs : String) → ((f : ℕ) → T (form-in fs f) → T (form-in "lwx" f)) → Each (Used s) (given-as fs t)
   used-of fs only = used-code s (t .texts) (t .numbers) fs only (t .code) (h .sound .code) (h .spelt-arguments)
@@ -147,7 +147,7 @@ module _ (s : List ℕ) (t : Tables) (c sw en : List ℕ) (h : Tabled s t c sw e
   unfolding undeclared-switches
   switch-faults named =
       ap (faults s sw 3 named draft) (code-marks (instr-uses 3 named draft) (cond named "w" "x")
-      (each-map (Sound-written (length s) (t .texts) (t .numbers)) _ (λ w e. switch-uses s draft (t .texts) (t .numbers) w e named) (t .code) (h .sound .code)))
+      (each-map (Sound-written (length s) (t .texts) (t .numbers)) _ (λ w e. switch-uses lines (length s) draft (t .texts) (t .numbers) w e named) (t .code) (h .sound .code)))
       ∙ faults-items s sw 3 named draft (λ i. any (λ c. sameBytes (i .chars) (c .name) && Bool·beq named (c .byName)) (t .switches)) (given-as (cond named "w" "x") t)
       (each-map (Used s) _ (switch-ok named) (given-as (cond named "w" "x") t) (used-of (cond named "w" "x") (only-typed named)))
 
@@ -162,7 +162,7 @@ module _ (s : List ℕ) (t : Tables) (c sw en : List ℕ) (h : Tabled s t c sw e
   unfolding undeclared-labels
   label-faults =
       let a = code-marks (instr-uses 2 true draft) "l"
-      (each-map (Sound-written (length s) (t .texts) (t .numbers)) _ (λ w e. label-uses s draft (t .texts) (t .numbers) w e true) (t .code) (h .sound .code)) in
+      (each-map (Sound-written (length s) (t .texts) (t .numbers)) _ (λ w e. label-uses lines (length s) draft (t .texts) (t .numbers) w e true) (t .code) (h .sound .code)) in
       (λ j. faults s sw 2 true draft (a j ++ entry-marks-are j)) ∙ ap (faults s sw 2 true draft) (sym (map-append (λ i. mark i) (given-as "l" t) (entry-items t)))
       ∙ faults-items s sw 2 true draft (λ i. any (λ l. sameBytes (i .chars) (l .name)) (t .labels)) (used-labels t)
       (each-map (Used s) _ label-ok (used-labels t) (each-append (Used s) (given-as "l" t) (entry-items t) (used-of "l" only-l) entries-used))
@@ -174,20 +174,20 @@ module _ (s c sw en : List ℕ) where
       → Judges c (λ p. joined f (faults s sw 2 true p (take (length (all-entries p)) en))) r → Finds s c sw en label-places r
   labels-found x y =
       record {
-        is = λ t h. let p : Program = draft-program s t in
+        is = λ lines t h. let p : Program = draft-program lines t in
             let a : List ℕ = each (instr-uses 2 true p) (p .code) in
             let b : List ℕ = take (length (all-entries p)) en in
             y .is p (h .holds) ∙ ap (λ (g : Fault). joined g (faults s sw 2 true p b)) (x .is p (h .holds))
-            ∙ joined-join Clear (faults s sw 2 true p a) (faults s sw 2 true p b) ∙ ap fault-of (sym (faults-append s sw 2 true p a b) ∙ label-faults s t c sw en h);
+            ∙ joined-join Clear (faults s sw 2 true p a) (faults s sw 2 true p b) ∙ ap fault-of (sym (faults-append s sw 2 true p a b) ∙ label-faults s lines t c sw en h);
       }
 
   pub switches-found : {f r : Fault} → Judges c (λ p. joined Clear (faults s sw 3 true p (each (instr-uses 3 true p) (p .code)))) f
       → Judges c (λ p. joined f (faults s sw 3 false p (each (instr-uses 3 false p) (p .code)))) r → Finds s c sw en switch-places r
   switches-found x y =
       record {
-        is = λ t h. let p : Program = draft-program s t in
+        is = λ lines t h. let p : Program = draft-program lines t in
             let a : List ℕ = faults s sw 3 true p (each (instr-uses 3 true p) (p .code)) in
             let b : List ℕ = faults s sw 3 false p (each (instr-uses 3 false p) (p .code)) in
             y .is p (h .holds) ∙ ap (λ (g : Fault). joined g b) (x .is p (h .holds)) ∙ joined-join Clear a b
-            ∙ (λ j. fault-of (switch-faults s t c sw en h true j ++ switch-faults s t c sw en h false j));
+            ∙ (λ j. fault-of (switch-faults s lines t c sw en h true j ++ switch-faults s lines t c sw en h false j));
       }

@@ -22,7 +22,7 @@ use Rattle.linking.specs.Lookup.{instr-uses, joined, faults, Asking, Ask
 
 -- the tables of a text are some program with its marks
 pub asking : {s c sw en : List ℕ} → Kept s c sw en → Asking c sw
-asking {s} k = record { program = draft-program s (k .tables); holds = k .tabled .holds; room = k .tabled .switch-room }
+asking k = record { program = draft-program (k .lines) (k .tables); holds = k .tabled .holds; room = k .tabled .switch-room }
 
 pub code-asked : {c sw : List ℕ} (n k : ℕ) → Asking c sw → n ≡ cell (table-of c) 0 → k < n → AskingAt c sw k
 code-asked {c} n k a is l = record { asking = a; there = omega (arith, is, code-count c (a .program) (a .holds)) }

@@ -19,12 +19,13 @@ use Rattle.linking.specs.declared.Linked.the-variants.{Done, Label, Swit
 
 -- the first pass has left the tables of the text s
 pub record Kept (s c sw en : List ℕ) : Type 0 where
+  pub lines : List ℕ
   pub tables : Tables
-  pub tabled : Tabled s tables c sw en
+  pub tabled : Tabled s lines tables c sw en
 
 -- r tells the places at fault of those tables
 pub record Finds (s c sw en : List ℕ) (places : Tables → List ℕ) (r : Fault) : Type 0 where
-  pub is : (t : Tables) → Tabled s t c sw en → r ≡ fault-of (places t)
+  pub is : (lines : List ℕ) (t : Tables) → Tabled s lines t c sw en → r ≡ fault-of (places t)
 
 abbrev pub label-places : Tables → List ℕ
 label-places t = undeclared-labels t
@@ -43,6 +44,6 @@ verdict-of (Switch at) = refuse 13 at
 
 -- the verdict is told; where it is yes, the cells d hold the program; "cells beyond are neither read nor written"
 pub record Links (s c sw en : List ℕ) (r : Linked) (d : List ℕ) : Type 0 where
-  pub verdict-is : (t : Tables) → Tabled s t c sw en → verdict-of r ≡ first-no (last-two t)
-  pub holds : r ≡ Done → (t : Tables) → Tabled s t c sw en → HoldsProgram d (program-of s t)
+  pub verdict-is : (lines : List ℕ) (t : Tables) → Tabled s lines t c sw en → verdict-of r ≡ first-no (last-two t)
+  pub holds : r ≡ Done → (lines : List ℕ) (t : Tables) → Tabled s lines t c sw en → HoldsProgram d (program-of lines t)
   pub beyond : drop limit.table d ≡ drop limit.table c

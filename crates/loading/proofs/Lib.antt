@@ -1,3 +1,4 @@
+pub mod Filling
 pub mod Verdicts
 pub mod Outcomes
 pub mod Walking

@@ -1,14 +1,12 @@
 -- What load answers and leaves: from the end of a text, or its refusal, to number, line and cells.
-use mathlib.Core.Path.{_≡_, refl, sym, ap, _∙_}
+use mathlib.Core.Path.{_≡_, refl, sym, ap, _∙_, subst}
 use mathlib.Core.Logic.{_≢_}
-use mathlib.Core.Bool.{Bool, true, false, cond}
+use mathlib.Core.Bool.{Bool, cond}
 use mathlib.Core.List.{List, _++_}
-use Prim.Native.Nat.{ℕ, suc, _+_, _≤_, _<_, min}
+use Prim.Native.Nat.{ℕ, _≤_, _<_}
 use native.Mathlib.Omega.{arith}
-use borrow.Author.Tests.{leb-true, leb-false, ne-eqb, le-leb, lt-leb}
-use lib.Dec.{leb, eqb}
-use lib.ListN.{length, take, drop, replicate, take-append-drop}
-use lib.Seq.{take-all, take-length}
+use borrow.Author.Tests.{ne-eqb, le-leb, lt-leb}
+use lib.ListN.{length, drop, replicate, take-append-drop}
 use Rattle.calls.specs.Calls.{load-number, load-line, table-after}
 use Rattle.drafts.specs.Drafting.{draft-program}
 use Rattle.acceptance.specs.DraftLaws.{blank-sound}
@@ -18,51 +16,31 @@ use Rattle.faults.specs.declared.Verdict.the-variants.{Yes, No}
 use Rattle.finishing.specs.Finishing.{Finishable, Finishes}
 use Rattle.language.specs.Limits as limit
 use Rattle.layout.specs.Table.{table-cells}
-use Rattle.lexer.specs.Tokens.{Lines}
-use Rattle.lists.specs.Lists.{keep}
 use Rattle.progress.specs.declared.Progress.{Progress}
 use Rattle.reading_statements.specs.declared.Read.{Read}
 use Rattle.reading_statements.specs.declared.Read.the-variants.{Statement, Refused}
 use Rattle.syntax.specs.Ending.{last-place, last-questions}
-use Rattle.syntax.specs.Items.{line-of, statements-from}
-use Rattle.syntax.specs.Load.{unless-refused, load-from, loadIn, program-of}
+use Rattle.syntax.specs.Items.{lines-of, line-at, statements-from}
+use Rattle.syntax.specs.LineLaws.{text-lined}
+use Rattle.syntax.specs.Load.{unless-refused, load-from, Lined, loadIn, program-of}
 use Rattle.syntax.specs.Load as spec
 use Rattle.syntax.specs.Tables.{blank}
 use Rattle.syntax.specs.Verdict.{first-no}
 use Rattle.writing.specs.Writing.{Cleared}
 use Rattle.loading.specs.Loading.{Loads}
-use Rattle.loading.specs.Texts.{text-loads, Unread, Reads-text, Loadable, Loads-text, Refuses}
+use Rattle.loading.specs.Texts.{text-loads, Unread, Reads-text, Loadable, Loads-text, Refuses, Lent, Loads-lined}
 use Rattle.loading.specs.declared.Loaded.{Loaded}
 use Rattle.loading.proofs.Verdicts.{load-not-40}
 
--- ---- lines
-
--- a place behind the text is in the last line
-take-within : (at : ℕ) (s : List ℕ) → take (min at (length s)) s ≡ take at s
-take-within at s = go (leb at (length s)) refl
-  where
-    go : (b : Bool) → leb at (length s) ≡ b → take (min at (length s)) s ≡ take at s
-    go true e = let q : min at (length s) ≡ at = omega (arith, leb-true at (length s) e) in ap (λ (n : ℕ). take n s) q
-    go false e =
-        let l : length s ≤ at = omega (arith, leb-false at (length s) e) in
-        let q : min at (length s) ≡ length s = omega arith in
-        ap (λ (n : ℕ). take n s) q ∙ take-length s ∙ sym (take-all at s l)
-
-pub line-within : (s : List ℕ) (at to : ℕ) {lines : ℕ} → to ≡ min at (length s) → Lines s 0 to lines → lines + 1 ≡ line-of s at
-unfolding line-of
-line-within s at to {lines} e h =
-    let q : take to s ≡ take at s = ap (λ (n : ℕ). take n s) e ∙ take-within at s in
-    let w : line-of s to ≡ line-of s at = ap (λ (x : List ℕ). suc (length (keep (eqb 10) x))) q in
-    omega (arith, h .is, w)
-
 -- ---- a text from its beginning to its end
 
-module _ {s c : List ℕ} (h : Loadable s c) where
-  pub unread : {ms sw en : List ℕ} → length ms ≡ 32768 → length sw ≡ limit.switches → length en ≡ limit.entries → Unread s ms c sw en
+module _ {s lines c : List ℕ} (h : Loadable s lines c) where
+  pub unread : {ms sw en : List ℕ} → length ms ≡ 32768 → length sw ≡ limit.switches → length en ≡ limit.entries → Unread s lines ms c sw en
   unfolding draft-program
   unread x y z =
       record {
         short = h .short;
+        lined = h .lined;
         room = x;
         tabled = record {
           sound = blank-sound (length s) .tables;
@@ -77,32 +55,32 @@ module _ {s c : List ℕ} (h : Loadable s c) where
         };
       }
 
-  module _ {r : Read} {ms c′ sw en : List ℕ} (k : Reads-text s c r ms c′ sw en) where
-    pub text-refused : (number at : ℕ) → r ≡ Refused number at → Loads-text s c (No number at) c′
+  module _ {r : Read} {ms c′ sw en : List ℕ} (k : Reads-text s lines c r ms c′ sw en) where
+    pub text-refused : (number at : ℕ) → r ≡ Refused number at → Loads-text s lines c (No number at) c′
     text-refused number at e =
         record {
           refused = λ i j q. let a : number ≡ i = cc in let b : at ≡ j = cc in
-              k .refused number at e ∙ ap (λ (m : ℕ). spec.Loaded.refused m (line-of s at)) a ∙ ap (λ (m : ℕ). spec.Loaded.refused i (line-of s m)) b;
+              k .refused number at e ∙ ap (λ (m : ℕ). spec.Loaded.refused m (line-at lines at)) a ∙ ap (λ (m : ℕ). spec.Loaded.refused i (line-at lines m)) b;
           accepted = λ q. absurd (let z : _≡_ {A = ℕ} 0 1 = cc in omega arith);
           beyond = k .beyond;
         }
 
     pub finishable : (g : Progress) → r ≡ Statement g → Finishable s g ms c′ sw en
-    finishable g e = let w = k .read g e in record { draft = w .draft; drafted = w .drafted }
+    finishable g e = let w = k .read g e in record { lines = lines; draft = w .draft; drafted = w .drafted }
 
-    pub text-finished : (g : Progress) → r ≡ Statement g → {v : Verdict} {d : List ℕ} → Finishes s g ms c′ sw en v d → Loads-text s c v d
+    pub text-finished : (g : Progress) → r ≡ Statement g → {v : Verdict} {d : List ℕ} → Finishes s g ms c′ sw en v d → Loads-text s lines c v d
     unfolding load-from unless-refused
     text-finished g e {v} {d} f =
         let w = k .read g e in
-        let told : verdict-of v ≡ first-no (last-questions (last-place s) (w .draft)) = f .verdict-is (w .draft) (w .drafted) in
-        let ends : text-loads s ≡ unless-refused s (verdict-of v) (spec.Loaded.accepted (program-of s (w .draft .tables))) =
-        w .left ∙ ap (λ x. unless-refused s x (spec.Loaded.accepted (program-of s (w .draft .tables)))) (sym told) in
+        let told : verdict-of v ≡ first-no (last-questions (last-place s) (w .draft)) = f .verdict-is lines (w .draft) (w .drafted) in
+        let ends : text-loads s lines ≡ unless-refused lines (verdict-of v) (spec.Loaded.accepted (program-of lines (w .draft .tables))) =
+        w .left ∙ ap (λ x. unless-refused lines x (spec.Loaded.accepted (program-of lines (w .draft .tables)))) (sym told) in
         record {
-          refused = λ i j q. ends ∙ ap (λ x. unless-refused s (verdict-of x) (spec.Loaded.accepted (program-of s (w .draft .tables)))) q;
+          refused = λ i j q. ends ∙ ap (λ x. unless-refused lines (verdict-of x) (spec.Loaded.accepted (program-of lines (w .draft .tables)))) q;
           accepted = λ q. record {
-            program = program-of s (w .draft .tables);
-            is = ends ∙ ap (λ x. unless-refused s (verdict-of x) (spec.Loaded.accepted (program-of s (w .draft .tables)))) q;
-            holds = f .holds q (w .draft) (w .drafted);
+            program = program-of lines (w .draft .tables);
+            is = ends ∙ ap (λ x. unless-refused lines (verdict-of x) (spec.Loaded.accepted (program-of lines (w .draft .tables)))) q;
+            holds = f .holds q lines (w .draft) (w .drafted);
           };
           beyond = f .beyond ∙ k .beyond;
         }
@@ -128,43 +106,51 @@ module _ (s c : List ℕ) where
   unfolding loadIn
   long-text l m x y = no-load (rw (le-leb limit.table (length c) l, lt-leb (length s) limit.text m) refl) x y
 
-  module _ (l : limit.table ≤ length c) (m : length s ≤ limit.text) where
-    loads : loadIn (length c) s ≡ text-loads s
-    unfolding loadIn
-    loads = rw (le-leb limit.table (length c) l, le-leb (length s) limit.text m) refl
+  pub lent : limit.table ≤ length c → length s ≤ limit.text → {lines : List ℕ} → lines ≡ lines-of s → Lent s lines c
+  lent l m e = record { short = m; lined = subst (λ (x : List ℕ). Lined x) (sym e) (text-lined s m); long = l }
 
-    module _ {c₁ : List ℕ} (z : Cleared c c₁) where
-      pub loadable : Loadable s c₁
-      loadable = record { short = m; holds = z .holds }
+  pub load-in : limit.table ≤ length c → length s ≤ limit.text → {lines : List ℕ} → lines ≡ lines-of s → {r : Loaded} {d : List ℕ} → Loads-lined s lines c r d → Loads s c r d
+  unfolding loadIn
+  load-in l m {lines} e {r} {d} k =
+      let q : text-loads s lines ≡ loadIn (length c) s =
+      ap (text-loads s) e ∙ sym (rw (le-leb limit.table (length c) l, le-leb (length s) limit.text m) refl) in
+      record {
+        number-is = k .number-is ∙ ap load-number q;
+        line-is = k .line-is ∙ ap load-line q;
+        cells-are = k .cells-are ∙ ap (λ t. table-after t c) q;
+      }
 
-      module _ {v : Verdict} {c₂ : List ℕ} (t : Loads-text s c₁ v c₂) where
-        pub load-accepted : v ≡ Yes → {r : Loaded} → r .number ≡ 80 → r .line ≡ 0 → Loads s c r c₂
-        unfolding table-after
-        load-accepted e x y =
-            let a = t .accepted e in
-            let q = loads ∙ a .is in
-            record {
-              number-is = x ∙ sym (ap load-number q);
-              line-is = y ∙ sym (ap load-line q);
-              cells-are =
-                  sym (take-append-drop limit.table c₂)
-                  ∙ ap (λ (x : List ℕ). x ++ drop limit.table c₂) (a .holds .is)
-                  ∙ ap (λ (x : List ℕ). table-cells (a .program) ++ x) (t .beyond ∙ z .beyond)
-                  ∙ sym (ap (λ t. table-after t c) q);
-            }
+module _ {s lines c : List ℕ} (h : Lent s lines c) {c₁ : List ℕ} (z : Cleared c c₁) where
+  pub loadable : Loadable s lines c₁
+  loadable = record { short = h .short; lined = h .lined; holds = z .holds }
 
-        pub load-refused : (number at : ℕ) → v ≡ No number at → {r : Loaded} {d : List ℕ} → Refuses s number at c₂ r d → Loads s c r d
-        unfolding table-after
-        load-refused number at e {r} {d} w =
-            let a = t .refused number at e in
-            let q = loads ∙ a in
-            let n : number ≢ 40 = load-not-40 s blank (statements-from 0 s) number (line-of s at) a in
-            record {
-              number-is = w .number-is ∙ sym (ap load-number q);
-              line-is = w .line-is ∙ sym (ap load-line q);
-              cells-are =
-                  sym (take-append-drop limit.table d)
-                  ∙ ap (λ (x : List ℕ). x ++ drop limit.table d) (w .cleared .zeros)
-                  ∙ ap (λ (x : List ℕ). replicate limit.table 0 ++ x) (w .cleared .beyond ∙ t .beyond ∙ z .beyond)
-                  ∙ sym (ap (λ t. table-after t c) q ∙ ap (λ (b : Bool). cond b c (replicate limit.table 0 ++ drop limit.table c)) (ne-eqb number 40 n));
-            }
+  module _ {v : Verdict} {c₂ : List ℕ} (t : Loads-text s lines c₁ v c₂) where
+    pub load-accepted : v ≡ Yes → {r : Loaded} → r .number ≡ 80 → r .line ≡ 0 → Loads-lined s lines c r c₂
+    unfolding table-after
+    load-accepted e x y =
+        let a = t .accepted e in
+        let q = a .is in
+        record {
+          number-is = x ∙ sym (ap load-number q);
+          line-is = y ∙ sym (ap load-line q);
+          cells-are =
+              sym (take-append-drop limit.table c₂)
+              ∙ ap (λ (x : List ℕ). x ++ drop limit.table c₂) (a .holds .is)
+              ∙ ap (λ (x : List ℕ). table-cells (a .program) ++ x) (t .beyond ∙ z .beyond)
+              ∙ sym (ap (λ t. table-after t c) q);
+        }
+
+    pub load-refused : (number at : ℕ) → v ≡ No number at → {r : Loaded} {d : List ℕ} → Refuses lines number at c₂ r d → Loads-lined s lines c r d
+    unfolding table-after
+    load-refused number at e {r} {d} w =
+        let q = t .refused number at e in
+        let n : number ≢ 40 = load-not-40 lines (last-place s) blank (statements-from 0 s) number (line-at lines at) q in
+        record {
+          number-is = w .number-is ∙ sym (ap load-number q);
+          line-is = w .line-is ∙ sym (ap load-line q);
+          cells-are =
+              sym (take-append-drop limit.table d)
+              ∙ ap (λ (x : List ℕ). x ++ drop limit.table d) (w .cleared .zeros)
+              ∙ ap (λ (x : List ℕ). replicate limit.table 0 ++ x) (w .cleared .beyond ∙ t .beyond ∙ z .beyond)
+              ∙ sym (ap (λ t. table-after t c) q ∙ ap (λ (b : Bool). cond b c (replicate limit.table 0 ++ drop limit.table c)) (ne-eqb number 40 n));
+        }

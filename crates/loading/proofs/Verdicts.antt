@@ -14,7 +14,7 @@ use Rattle.faults.specs.Groups.{item-questions, head-questions, name-questions,
 use Rattle.language.specs.Limits as limit
 use Rattle.layout.specs.Bounds.{Each}
 use Rattle.lists.specs.Lists.{any, filled, keep}
-use Rattle.syntax.specs.Ending.{last-place, last-questions}
+use Rattle.syntax.specs.Ending.{last-questions}
 use Rattle.syntax.specs.Items.{Item, is, places}
 use Rattle.syntax.specs.Items.Sort.{text, wrong}
 use Rattle.syntax.specs.Load.{Loaded, unless-refused, load-from, program-of}
@@ -52,23 +52,23 @@ last-not-40 : (last : ℕ) (d : Draft) (k at : ℕ) → first-no (last-questions
 unfolding last-questions
 last-not-40 last d k at e q = subst (λ (m : ℕ). T (asked-among m (last-questions last d))) q (refuse-among (last-questions last d) k at e)
 
-unless-not-40 : (s : List ℕ) (v : Verdict) (r : Loaded) (k l : ℕ) → ((j at : ℕ) → v ≡ refuse j at → j ≢ 40) → (r ≡ refused k l → k ≢ 40)
-    → unless-refused s v r ≡ refused k l → k ≢ 40
+unless-not-40 : (lines : List ℕ) (v : Verdict) (r : Loaded) (k l : ℕ) → ((j at : ℕ) → v ≡ refuse j at → j ≢ 40) → (r ≡ refused k l → k ≢ 40)
+    → unless-refused lines v r ≡ refused k l → k ≢ 40
 unfolding unless-refused
-unless-not-40 s yes r k l f g e = g e
-unless-not-40 s (refuse j at) r k l f g e = λ q. f j at refl (same e ∙ q)
+unless-not-40 lines yes r k l f g e = g e
+unless-not-40 lines (refuse j at) r k l f g e = λ q. f j at refl (same e ∙ q)
   where
     same : {i j l m : ℕ} → refused i l ≡ refused j m → i ≡ j
     same e = cc
 
 -- no question of a text has the number 40
-pub load-not-40 : (s : List ℕ) (d : Draft) (xs : List (List Item)) (k l : ℕ) → load-from s d xs ≡ refused k l → k ≢ 40
+pub load-not-40 : (lines : List ℕ) (last : ℕ) (d : Draft) (xs : List (List Item)) (k l : ℕ) → load-from lines last d xs ≡ refused k l → k ≢ 40
 unfolding load-from
-load-not-40 s d [] k l e =
-    unless-not-40 s (first-no (last-questions (last-place s) d)) (accepted (program-of s (d .tables))) k l (last-not-40 (last-place s) d)
+load-not-40 lines last d [] k l e =
+    unless-not-40 lines (first-no (last-questions last d)) (accepted (program-of lines (d .tables))) k l (last-not-40 last d)
     (λ q. absurd (let z : _≡_ {A = ℕ} 0 1 = cc in omega arith)) e
-load-not-40 s d (x ∷ xs) k l e =
-    unless-not-40 s (first-no (questions d x)) (load-from s (draft-after d x) xs) k l (statement-not-40 d x) (load-not-40 s (draft-after d x) xs k l) e
+load-not-40 lines last d (x ∷ xs) k l e =
+    unless-not-40 lines (first-no (questions d x)) (load-from lines last (draft-after d x) xs) k l (statement-not-40 d x) (load-not-40 lines last (draft-after d x) xs k l) e
 
 -- ---- places
 

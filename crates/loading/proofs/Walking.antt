@@ -4,18 +4,15 @@ use mathlib.Core.Bool.{Bool, true, false, cond}
 use mathlib.Core.List.{List, [], _∷_}
 use Prim.Native.Nat.{ℕ, _+_, _-_, _≤_}
 use native.Mathlib.Omega.{arith}
-use lib.Dec.{eqb}
-use lib.ListN.{length, take, drop, length-take, length-drop}
+use lib.ListN.{length, take, drop, length-drop}
 use lib.Seq.{take-all}
 use types.Run.{OneOf, miss}
-use Rattle.lists.specs.ListLaws.{keep-few}
 use Rattle.acceptance.specs.RowLaws.{each-map, answered}
 use Rattle.faults.specs.Faults.{verdict-of}
 use Rattle.faults.specs.Groups.{item-questions}
 use Rattle.faults.specs.declared.Verdict.{Verdict}
 use Rattle.faults.specs.declared.Verdict.the-variants.{Yes, No}
 use Rattle.language.specs.Limits as limit
-use Rattle.lexer.specs.Tokens.{Lines}
 use Rattle.progress.specs.Progress.{Begun}
 use Rattle.progress.specs.ProgressLaws.{before-after}
 use Rattle.progress.specs.declared.Progress.{Progress}
@@ -23,7 +20,8 @@ use Rattle.reading_statements.specs.ReadingStatements.{read-verdict, Standing, 
 use Rattle.reading_statements.specs.declared.Read.{Read}
 use Rattle.reading_statements.specs.declared.Read.the-variants.{Statement, Refused}
 use Rattle.statements.specs.StatementAt.{statements-at, statement-at}
-use Rattle.syntax.specs.Items.{Item, line-of}
+use Rattle.syntax.specs.Ending.{last-place}
+use Rattle.syntax.specs.Items.{Item}
 use Rattle.syntax.specs.Load.{unless-refused, load-from}
 use Rattle.syntax.specs.Tables.{Draft, blank, draft-after}
 use Rattle.syntax.specs.Verdict.{first-no}
@@ -46,7 +44,7 @@ other (Refused number at) k g e = not-read number at g e
 
 -- ---- one statement
 
-module _ {s : List ℕ} {n line : ℕ} {g : Progress} {v : Verdict} {ms c sw en : List ℕ} (h : Judged s n line g v ms c sw en) where
+module _ {s lines : List ℕ} {n : ℕ} {g : Progress} {v : Verdict} {ms c sw en : List ℕ} (h : Judged s lines n g v ms c sw en) where
   judged-no : (number at : ℕ) → v ≡ No number at → first-no (item-questions (statement-at s n)) ≡ refuse number (n + at)
   judged-no number at e = sym (h .verdict-is) ∙ ap (λ (x : Verdict). behind n (verdict-of x)) e
 
@@ -57,13 +55,13 @@ module _ {s : List ℕ} {n line : ℕ} {g : Progress} {v : Verdict} {ms c sw en 
   judged-low number at e =
       omega (arith, items-low (length s) (statement-at s n) number (n + at) (h .inside) (judged-no number at e), h .standing .short)
 
-  reading : v ≡ Yes → (d : Draft) → Standing s n line d g ms c sw en → Reading s n line d g ms c sw en
+  reading : v ≡ Yes → (d : Draft) → Standing s lines n d g ms c sw en → Reading s lines n d g ms c sw en
   reading e d k = record { standing = k; plain = answered (item-questions (statement-at s n)) (judged-yes e) }
 
-  pub readable : v ≡ Yes → Readable s n line g ms c sw en
+  pub readable : v ≡ Yes → Readable s lines n g ms c sw en
   readable e = record { draft = h .draft; reading = reading e (h .draft) (h .standing) }
 
-  pub refused-judged : (number at : ℕ) → v ≡ No number at → Reads-judged s n line g ms c sw en (Refused number (n + at)) ms c sw en
+  pub refused-judged : (number at : ℕ) → v ≡ No number at → Reads-judged s lines n g ms c sw en (Refused number (n + at)) ms c sw en
   refused-judged number at e =
       record {
         told = λ d k. sym (items-refuse d (statement-at s n) (judged-no number at e));
@@ -71,38 +69,37 @@ module _ {s : List ℕ} {n line : ℕ} {g : Progress} {v : Verdict} {ms c sw en 
         beyond = refl;
       }
 
-  pub read-judged : v ≡ Yes → {r : Read} {ms′ c′ sw′ en′ : List ℕ} → Reads s n line g ms c sw en r ms′ c′ sw′ en′
-      → Reads-judged s n line g ms c sw en r ms′ c′ sw′ en′
+  pub read-judged : v ≡ Yes → {r : Read} {ms′ c′ sw′ en′ : List ℕ} → Reads s lines n g ms c sw en r ms′ c′ sw′ en′
+      → Reads-judged s lines n g ms c sw en r ms′ c′ sw′ en′
   read-judged e k =
       record { told = λ d x. k .told d (reading e d x); after = λ d x. k .after d (reading e d x); beyond = k .beyond }
 
 -- ---- the loop
 
 -- the statements before n were read, and the text loads to what is left of it
-pub record Going (s c₀ : List ℕ) (n line : ℕ) (g : Progress) (ms c sw en : List ℕ) : Type 0 where
+pub record Going (s lines c₀ : List ℕ) (n : ℕ) (g : Progress) (ms c sw en : List ℕ) : Type 0 where
   pub draft : Draft
-  pub standing : Standing s n line draft g ms c sw en
-  pub left : text-loads s ≡ load-from s draft (statements-at s n)
+  pub standing : Standing s lines n draft g ms c sw en
+  pub left : text-loads s lines ≡ load-from lines (last-place s) draft (statements-at s n)
   pub beyond : drop limit.table c ≡ drop limit.table c₀
 
 -- and the cells are as many as they were
-pub record Looping (s c₀ : List ℕ) (n line : ℕ) (g : Progress) (ms c sw en : List ℕ) (ms₀ c-length sw₀ en₀ : ℕ) : Type 0 where
-  pub going : Going s c₀ n line g ms c sw en
+pub record Looping (s lines c₀ : List ℕ) (n : ℕ) (g : Progress) (ms c sw en : List ℕ) (ms₀ c-length sw₀ en₀ : ℕ) : Type 0 where
+  pub going : Going s lines c₀ n g ms c sw en
   pub names-is : length ms ≡ ms₀
   pub table-is : length c ≡ c-length
   pub switches-is : length sw ≡ sw₀
   pub entries-is : length en ≡ en₀
 
-pub going-none : {s ms c sw en : List ℕ} {g : Progress} → Unread s ms c sw en → Begun g → Going s c 0 1 g ms c sw en
-unfolding line-of
-going-none {s} {ms} {c} {sw} {en} h b =
+pub going-none : {s lines ms c sw en : List ℕ} {g : Progress} → Unread s lines ms c sw en → Begun g → Going s lines c 0 g ms c sw en
+going-none {s} {lines} {ms} {c} {sw} {en} h b =
     record {
       draft = blank;
       standing = record {
         short = h .short;
         inside = omega arith;
-        line-is = refl;
-        drafted = b s ms c sw en (h .room) (h .tabled);
+        lined = h .lined;
+        drafted = b s lines ms c sw en (h .room) (h .tabled);
         before = record { names-few = omega arith; waiting-low = tt };
       };
       left = refl;
@@ -110,18 +107,13 @@ going-none {s} {ms} {c} {sw} {en} h b =
     }
 
 -- the reader of the rest tells of the statement at n
-pub part-here : {s c₀ : List ℕ} {n line : ℕ} {g : Progress} {ms c sw en : List ℕ} → Going s c₀ n line g ms c sw en
+pub part-here : {s lines c₀ : List ℕ} {n : ℕ} {g : Progress} {ms c sw en : List ℕ} → Going s lines c₀ n g ms c sw en
     → {part : Part} → Reads-part (take (length s - n) (drop n s)) part → Part-of s n part
 part-here {s} {n = n} u k =
     k s n (u .standing .inside) (sym (take-all (length s - n) (drop n s) (rw (length-drop n s) (omega arith))))
 
-pub line-low : {s c₀ : List ℕ} {n line : ℕ} {g : Progress} {ms c sw en : List ℕ} → Going s c₀ n line g ms c sw en → line ≤ 32769
-unfolding line-of
-line-low {s} {n = n} u =
-    omega (arith, u .standing .line-is, u .standing .short, keep-few (eqb 10) (take n s), length-take n s)
-
-module _ {s c₀ : List ℕ} {n line : ℕ} {g : Progress} {ms c sw en : List ℕ} (u : Going s c₀ n line g ms c sw en) {part : Part} (p : Part-of s n part) where
-  pub judged : Judged s n line g (part .verdict) ms c sw en
+module _ {s lines c₀ : List ℕ} {n : ℕ} {g : Progress} {ms c sw en : List ℕ} (u : Going s lines c₀ n g ms c sw en) {part : Part} (p : Part-of s n part) where
+  pub judged : Judged s lines n g (part .verdict) ms c sw en
   judged =
       record {
         draft = u .draft;
@@ -130,7 +122,7 @@ module _ {s c₀ : List ℕ} {n line : ℕ} {g : Progress} {ms c sw en : List �
         inside = each-map _ _ (λ i k. omega (arith, k, p .ends .most)) (statement-at s n) (p .before);
       }
 
-  module _ {r : Read} {ms′ c′ sw′ en′ : List ℕ} (k : Reads-judged s n line g ms c sw en r ms′ c′ sw′ en′) where
+  module _ {r : Read} {ms′ c′ sw′ en′ : List ℕ} (k : Reads-judged s lines n g ms c sw en r ms′ c′ sw′ en′) where
     abbrev here : List Item
     here = statement-at s n
 
@@ -138,36 +130,36 @@ module _ {s c₀ : List ℕ} {n line : ℕ} {g : Progress} {ms c sw en : List �
     rest-of = cond (part .last) [] (statements-at s (n + part .next))
 
     -- what the text loads to, by the verdict of this statement
-    by-verdict : text-loads s ≡ unless-refused s (read-verdict r) (load-from s (draft-after (u .draft) here) rest-of)
+    by-verdict : text-loads s lines ≡ unless-refused lines (read-verdict r) (load-from lines (last-place s) (draft-after (u .draft) here) rest-of)
     unfolding load-from
     by-verdict =
         u .left
-        ∙ ap (load-from s (u .draft)) (p .ends .is)
-        ∙ ap (λ v. unless-refused s v (load-from s (draft-after (u .draft) here) rest-of)) (sym (k .told (u .draft) (u .standing)))
+        ∙ ap (load-from lines (last-place s) (u .draft)) (p .ends .is)
+        ∙ ap (λ v. unless-refused lines v (load-from lines (last-place s) (draft-after (u .draft) here) rest-of)) (sym (k .told (u .draft) (u .standing)))
 
-    pub going-refused : ((q : Progress) → r ≡ Statement q → ⊥) → Reads-text s c₀ r ms′ c′ sw′ en′
+    pub going-refused : ((q : Progress) → r ≡ Statement q → ⊥) → Reads-text s lines c₀ r ms′ c′ sw′ en′
     unfolding unless-refused
     going-refused never =
         record {
-          refused = λ number at e. by-verdict ∙ ap (λ x. unless-refused s (read-verdict x) (load-from s (draft-after (u .draft) here) rest-of)) e;
+          refused = λ number at e. by-verdict ∙ ap (λ x. unless-refused lines (read-verdict x) (load-from lines (last-place s) (draft-after (u .draft) here) rest-of)) e;
           read = λ q e. absurd (never q e);
           beyond = k .beyond ∙ u .beyond;
         }
 
     module _ (q : Progress) (e : r ≡ Statement q) where
-      after-it : text-loads s ≡ load-from s (draft-after (u .draft) here) rest-of
+      after-it : text-loads s lines ≡ load-from lines (last-place s) (draft-after (u .draft) here) rest-of
       unfolding unless-refused
-      after-it = by-verdict ∙ ap (λ x. unless-refused s (read-verdict x) (load-from s (draft-after (u .draft) here) rest-of)) e
+      after-it = by-verdict ∙ ap (λ x. unless-refused lines (read-verdict x) (load-from lines (last-place s) (draft-after (u .draft) here) rest-of)) e
 
-      pub going-last : part .last ≡ true → Reads-text s c₀ (Statement q) ms′ c′ sw′ en′
+      pub going-last : part .last ≡ true → Reads-text s lines c₀ (Statement q) ms′ c′ sw′ en′
       going-last t =
           record {
             refused = λ number at z. absurd (not-read number at q (sym z));
-            read = λ q′ z. subst (λ x. Read-to s x ms′ c′ sw′ en′) (same z)
+            read = λ q′ z. subst (λ x. Read-to s lines x ms′ c′ sw′ en′) (same z)
                 (record {
                   draft = draft-after (u .draft) here;
                   drafted = k .after (u .draft) (u .standing) q e;
-                  left = after-it ∙ ap (λ (b : Bool). load-from s (draft-after (u .draft) here) (cond b [] (statements-at s (n + part .next)))) t;
+                  left = after-it ∙ ap (λ (b : Bool). load-from lines (last-place s) (draft-after (u .draft) here) (cond b [] (statements-at s (n + part .next)))) t;
                 });
             beyond = k .beyond ∙ u .beyond;
           }
@@ -175,17 +167,17 @@ module _ {s c₀ : List ℕ} {n line : ℕ} {g : Progress} {ms c sw en : List �
           same : {a b : Progress} → Statement a ≡ Statement b → a ≡ b
           same e = cc
 
-      pub going-next : part .last ≡ false → {lines : ℕ} → Lines s n (n + part .next) lines → Going s c₀ (n + part .next) (line + lines) q ms′ c′ sw′ en′
-      going-next t l =
+      pub going-next : part .last ≡ false → Going s lines c₀ (n + part .next) q ms′ c′ sw′ en′
+      going-next t =
           record {
             draft = draft-after (u .draft) here;
             standing = record {
               short = u .standing .short;
               inside = p .ends .most;
-              line-is = omega (arith, u .standing .line-is, l .is);
+              lined = u .standing .lined;
               drafted = k .after (u .draft) (u .standing) q e;
               before = before-after here (u .standing .before) (omega arith) (omega (arith, p .count)) (p .before);
             };
-            left = after-it ∙ ap (λ (b : Bool). load-from s (draft-after (u .draft) here) (cond b [] (statements-at s (n + part .next)))) t;
+            left = after-it ∙ ap (λ (b : Bool). load-from lines (last-place s) (draft-after (u .draft) here) (cond b [] (statements-at s (n + part .next)))) t;
             beyond = k .beyond ∙ u .beyond;
           }

@@ -2,7 +2,8 @@
 use mathlib.Core.Path.{_≡_}
 use mathlib.Core.List.{List, []}
 use Prim.Native.Nat.{ℕ, _≤_}
-use lib.ListN.{length, drop}
+use lib.ListN.{length, take, drop}
+use Rattle.calls.specs.Calls.{load-number, load-line, table-after}
 use Rattle.drafts.specs.Tabled.{Tabled}
 use Rattle.faults.specs.Faults.{verdict-of}
 use Rattle.faults.specs.Groups.{item-questions}
@@ -17,74 +18,94 @@ use Rattle.reading_statements.specs.ReadingStatements.{Standing, Reads-after}
 use Rattle.reading_statements.specs.declared.Read.{Read}
 use Rattle.reading_statements.specs.declared.Read.the-variants.{Statement, Refused}
 use Rattle.statements.specs.StatementAt.{statement-at}
-use Rattle.syntax.specs.Items.{line-of, statements-from}
+use Rattle.syntax.specs.Ending.{last-place}
+use Rattle.syntax.specs.Items.{line-at, lines-of, statements-from}
 use Rattle.syntax.specs.Load as spec
-use Rattle.syntax.specs.Load.{load-from}
+use Rattle.syntax.specs.Load.{load-from, Lined}
 use Rattle.syntax.specs.Tables.{Draft, blank}
 use Rattle.syntax.specs.Verdict.{first-no}
 use Rattle.unread.specs.Unread.{behind}
 use Rattle.writing.specs.Writing.{HoldsProgram, Cleared, no-program}
 use Rattle.loading.specs.declared.Loaded.{Loaded}
 
--- what the text s loads to, where table and text have the right lengths
-abbrev pub text-loads : List ℕ → spec.Loaded
-text-loads s = load-from s blank (statements-from 0 s)
+-- what the text s, whose bytes have the lines `lines`, loads to, where table and text have the right lengths
+abbrev pub text-loads : List ℕ → List ℕ → spec.Loaded
+text-loads s lines = load-from lines (last-place s) blank (statements-from 0 s)
+
+-- ---- the lines of a text
+
+pub record Fillable (s l : List ℕ) : Type 0 where
+  pub short : length s ≤ limit.text
+  pub room : length s ≤ length l
+
+abbrev pub Fills : List ℕ → List ℕ → Type 0
+Fills s l = take (length s) l ≡ lines-of s
 
 -- ---- a statement
 
 -- v is the verdict of questions 14, 15 and 16 of the statement at n, with places from n on
-pub record Judged (s : List ℕ) (n line : ℕ) (g : Progress) (v : Verdict) (ms c sw en : List ℕ) : Type 0 where
+pub record Judged (s lines : List ℕ) (n : ℕ) (g : Progress) (v : Verdict) (ms c sw en : List ℕ) : Type 0 where
   pub draft : Draft
-  pub standing : Standing s n line draft g ms c sw en
+  pub standing : Standing s lines n draft g ms c sw en
   pub verdict-is : behind n (verdict-of v) ≡ first-no (item-questions (statement-at s n))
   pub inside : Each (λ i. i .at ≤ length s) (statement-at s n)
 
-abbrev pub Reads-judged : List ℕ → ℕ → ℕ → Progress → List ℕ → List ℕ → List ℕ → List ℕ → Read → List ℕ → List ℕ → List ℕ → List ℕ → Type 0
-Reads-judged s n line g ms c sw en = Reads-after (λ d. Standing s n line d g ms c sw en) s n c
+abbrev pub Reads-judged : List ℕ → List ℕ → ℕ → Progress → List ℕ → List ℕ → List ℕ → List ℕ → Read → List ℕ → List ℕ → List ℕ → List ℕ → Type 0
+Reads-judged s lines n g ms c sw en = Reads-after (λ d. Standing s lines n d g ms c sw en) s lines n c
 
 -- ---- all statements
 
 -- nothing was read yet
-pub record Unread (s ms c sw en : List ℕ) : Type 0 where
+pub record Unread (s lines ms c sw en : List ℕ) : Type 0 where
   pub short : length s ≤ limit.text
+  pub lined : Lined lines
   pub room : length ms ≡ 32768
-  pub tabled : Tabled s (blank .tables) c sw en
+  pub tabled : Tabled s lines (blank .tables) c sw en
 
 -- g and the cells are those of a draft, from which the text still loads to the same
-pub record Read-to (s : List ℕ) (g : Progress) (ms c sw en : List ℕ) : Type 0 where
+pub record Read-to (s lines : List ℕ) (g : Progress) (ms c sw en : List ℕ) : Type 0 where
   pub draft : Draft
-  pub drafted : Drafted s draft g ms c sw en
-  pub left : text-loads s ≡ load-from s draft []
+  pub drafted : Drafted s lines draft g ms c sw en
+  pub left : text-loads s lines ≡ load-from lines (last-place s) draft []
 
-pub record Reads-text (s c : List ℕ) (r : Read) (ms′ c′ sw′ en′ : List ℕ) : Type 0 where
-  pub refused : (number at : ℕ) → r ≡ Refused number at → text-loads s ≡ spec.Loaded.refused number (line-of s at)
-  pub read : (g : Progress) → r ≡ Statement g → Read-to s g ms′ c′ sw′ en′
+pub record Reads-text (s lines c : List ℕ) (r : Read) (ms′ c′ sw′ en′ : List ℕ) : Type 0 where
+  pub refused : (number at : ℕ) → r ≡ Refused number at → text-loads s lines ≡ spec.Loaded.refused number (line-at lines at)
+  pub read : (g : Progress) → r ≡ Statement g → Read-to s lines g ms′ c′ sw′ en′
   pub beyond : drop limit.table c′ ≡ drop limit.table c
 
 -- ---- the whole text, on a table that is all zeros
 
-pub record Loadable (s c : List ℕ) : Type 0 where
+pub record Loadable (s lines c : List ℕ) : Type 0 where
   pub short : length s ≤ limit.text
+  pub lined : Lined lines
   pub holds : HoldsProgram c no-program
 
-pub record Accepts (s d : List ℕ) : Type 0 where
+pub record Accepts (s lines d : List ℕ) : Type 0 where
   pub program : Program
-  pub is : text-loads s ≡ spec.Loaded.accepted program
+  pub is : text-loads s lines ≡ spec.Loaded.accepted program
   pub holds : HoldsProgram d program
 
-pub record Loads-text (s c : List ℕ) (r : Verdict) (d : List ℕ) : Type 0 where
-  pub refused : (number at : ℕ) → r ≡ No number at → text-loads s ≡ spec.Loaded.refused number (line-of s at)
-  pub accepted : r ≡ Yes → Accepts s d
+pub record Loads-text (s lines c : List ℕ) (r : Verdict) (d : List ℕ) : Type 0 where
+  pub refused : (number at : ℕ) → r ≡ No number at → text-loads s lines ≡ spec.Loaded.refused number (line-at lines at)
+  pub accepted : r ≡ Yes → Accepts s lines d
   pub beyond : drop limit.table d ≡ drop limit.table c
 
 -- ---- a refusal
 
-pub record Refusable (s c : List ℕ) : Type 0 where
+-- number and line, and zeros
+pub record Refuses (lines : List ℕ) (number at : ℕ) (c : List ℕ) (r : Loaded) (d : List ℕ) : Type 0 where
+  pub number-is : r .number ≡ number
+  pub line-is : r .line ≡ line-at lines at
+  pub cleared : Cleared c d
+
+-- ---- the whole text, on any table that is long enough
+
+pub record Lent (s lines c : List ℕ) : Type 0 where
   pub short : length s ≤ limit.text
+  pub lined : Lined lines
   pub long : limit.table ≤ length c
 
--- number and line, and zeros
-pub record Refuses (s : List ℕ) (number at : ℕ) (c : List ℕ) (r : Loaded) (d : List ℕ) : Type 0 where
-  pub number-is : r .number ≡ number
-  pub line-is : r .line ≡ line-of s at
-  pub cleared : Cleared c d
+pub record Loads-lined (s lines c : List ℕ) (r : Loaded) (d : List ℕ) : Type 0 where
+  pub number-is : r .number ≡ load-number (text-loads s lines)
+  pub line-is : r .line ≡ load-line (text-loads s lines)
+  pub cells-are : d ≡ table-after (text-loads s lines) c

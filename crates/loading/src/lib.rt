@@ -1,16 +1,16 @@
 // Load: from a text to the program table, or the number and the line of the first question answered no.
-ghost use mathlib.Core.Path.{_≡_};
-ghost use Prim.Native.Nat.{_≤_, min};
+ghost use Prim.Native.Nat.{_≤_};
 ghost use lib.ListN.{length};
-ghost use Rattle.syntax.specs.Items.{line-of};
+ghost use Rattle.language.specs.Limits as limit;
 ghost use Rattle.loading.specs.Loading.{Loads};
-ghost use Rattle.loading.specs.Texts.{Judged, Reads-judged, Unread, Reads-text, Loadable, Loads-text, Refusable, Refuses};
+ghost use Rattle.loading.specs.Texts.{Fillable, Fills, Judged, Reads-judged, Unread, Reads-text, Loadable, Loads-text, Refuses, Lent, Loads-lined};
 use faults::Verdict;
 use language::Machine;
-use lexer::count_lines;
+use lexer::line_at;
 use progress::Progress;
 use reading_statements::Read;
 use reading_statements::read_statement;
+use scanner::one_if;
 use unread::read_part;
 use writing::clear_table;
 
@@ -20,30 +20,25 @@ pub struct Loaded {
     pub line: u32,
 }
 
-fn lesser(a: usize, b: usize) -> usize
-    ensures { λ r. ⌜ r ≡ min a b ⌝ }
+// The line of each byte of a text, from 1.
+fn fill_lines(text: &[u8], lines: &mut [u16])
+    requires { ⌜ Fillable (now text) (now lines) ⌝ }
+    ensures { λ _. ⌜ Fills (now (text .entry)) (now (lines .exit)) ⌝ }
 {
-    if a <= b {
-        return a;
+    let mut line: usize = 1;
+    let mut i: usize = 0;
+    while i < text.len() {
+        lines[i] = line as u16;
+        line = line + one_if(b'\n' == text[i]);
+        i += 1;
     }
-    b
-}
-
-// The line of a place; of one behind the text, the last line.
-fn line_at(text: &[u8], at: usize) -> u32
-    requires { ⌜ length (now text) ≤ 32768 ⌝ }
-    ensures { λ r. ⌜ r ≡ line-of (now (text .entry)) at ⌝ }
-{
-    let to = lesser(at, text.len());
-    let lines = count_lines(text, 0, to);
-    (lines + 1) as u32
 }
 
 // The statement at `n`, after the verdict of questions 14, 15 and 16.
 fn read_judged(
     text: &[u8],
+    lines: &[u16],
     n: usize,
-    line: usize,
     p: Progress,
     verdict: Verdict,
     names: &mut [u32],
@@ -51,68 +46,82 @@ fn read_judged(
     switches: &mut [u32],
     entries: &mut [u32],
 ) -> Read
-    requires { ⌜ Judged (now text) n line p verdict (now names) (now table) (now switches) (now entries) ⌝ }
-    ensures { λ r. ⌜ Reads-judged (now (text .entry)) n line p (now (names .entry)) (now (table .entry)) (now (switches .entry)) (now (entries .entry)) r (now (names .exit)) (now (table .exit)) (now (switches .exit)) (now (entries .exit)) ⌝ }
+    requires { ⌜ Judged (now text) (now lines) n p verdict (now names) (now table) (now switches) (now entries) ⌝ }
+    ensures { λ r. ⌜ Reads-judged (now (text .entry)) (now (lines .entry)) n p (now (names .entry)) (now (table .entry)) (now (switches .entry)) (now (entries .entry)) r (now (names .exit)) (now (table .exit)) (now (switches .exit)) (now (entries .exit)) ⌝ }
 {
     match verdict {
         Verdict::No(number, at) => Read::Refused(number, n + at),
-        Verdict::Yes => read_statement(text, n, line, p, names, table, switches, entries),
+        Verdict::Yes => read_statement(text, lines, n, p, names, table, switches, entries),
     }
 }
 
 // All statements, one after the other.
 fn read_statements(
     text: &[u8],
+    lines: &[u16],
     names: &mut [u32],
     table: &mut [u32],
     switches: &mut [u32],
     entries: &mut [u32],
 ) -> Read
-    requires { ⌜ Unread (now text) (now names) (now table) (now switches) (now entries) ⌝ }
-    ensures { λ r. ⌜ Reads-text (now (text .entry)) (now (table .entry)) r (now (names .exit)) (now (table .exit)) (now (switches .exit)) (now (entries .exit)) ⌝ }
+    requires { ⌜ Unread (now text) (now lines) (now names) (now table) (now switches) (now entries) ⌝ }
+    ensures { λ r. ⌜ Reads-text (now (text .entry)) (now (lines .entry)) (now (table .entry)) r (now (names .exit)) (now (table .exit)) (now (switches .exit)) (now (entries .exit)) ⌝ }
 {
     let mut p = progress::begin();
     let mut n: usize = 0;
-    let mut line: usize = 1;
     loop {
         let part = read_part(&text[n..]);
         let verdict = part.verdict;
-        let r = read_judged(text, n, line, p, verdict, names, table, switches, entries);
+        let r = read_judged(text, lines, n, p, verdict, names, table, switches, entries);
         let Read::Statement(q) = r else {
             return r;
         };
         if part.last {
             return Read::Statement(q);
         }
-        line += count_lines(text, n, n + part.next);
         n += part.next;
         p = q;
     }
 }
 
 // Reads a text on a table of zeros, with room for the names of its labels, its switches and their entries.
-fn load_text(text: &[u8], table: &mut [u32]) -> Verdict
-    requires { ⌜ Loadable (now text) (now table) ⌝ }
-    ensures { λ r. ⌜ Loads-text (now (text .entry)) (now (table .entry)) r (now (table .exit)) ⌝ }
+fn load_text(text: &[u8], lines: &[u16], table: &mut [u32]) -> Verdict
+    requires { ⌜ Loadable (now text) (now lines) (now table) ⌝ }
+    ensures { λ r. ⌜ Loads-text (now (text .entry)) (now (lines .entry)) (now (table .entry)) r (now (table .exit)) ⌝ }
 {
     let mut names = [0u32; Machine::TEXT];
     let mut switches = [0u32; Machine::SWITCHES];
     let mut entries = [0u32; Machine::ENTRIES];
-    match read_statements(text, &mut names, table, &mut switches, &mut entries) {
+    match read_statements(text, lines, &mut names, table, &mut switches, &mut entries) {
         Read::Refused(number, at) => Verdict::No(number, at),
         Read::Statement(p) => finishing::finish(text, p, &names, table, &switches, &entries),
     }
 }
 
 // "after other refusals its 8,192 cells are zeros"
-fn refuse(text: &[u8], number: u8, at: usize, cells: &mut [u32]) -> Loaded
-    requires { ⌜ Refusable (now text) (now cells) ⌝ }
-    ensures { λ r. ⌜ Refuses (now (text .entry)) number at (now (cells .entry)) r (now (cells .exit)) ⌝ }
+fn refuse(lines: &[u16], number: u8, at: usize, cells: &mut [u32]) -> Loaded
+    requires { ⌜ limit.table ≤ length (now cells) ⌝ }
+    ensures { λ r. ⌜ Refuses (now (lines .entry)) number at (now (cells .entry)) r (now (cells .exit)) ⌝ }
 {
     clear_table(cells);
     Loaded {
         number: number,
-        line: line_at(text, at),
+        line: line_at(lines, at) as u32,
+    }
+}
+
+// On a table that is long enough, with the lines of the text's bytes.
+fn load_lined(text: &[u8], lines: &[u16], table: &mut [u32]) -> Loaded
+    requires { ⌜ Lent (now text) (now lines) (now table) ⌝ }
+    ensures { λ r. ⌜ Loads-lined (now (text .entry)) (now (lines .entry)) (now (table .entry)) r (now (table .exit)) ⌝ }
+{
+    clear_table(table);
+    match load_text(text, lines, table) {
+        Verdict::Yes => Loaded {
+            number: 80,
+            line: 0,
+        },
+        Verdict::No(number, at) => refuse(lines, number, at, table),
     }
 }
 
@@ -131,12 +140,7 @@ pub fn load(text: &[u8], table: &mut [u32]) -> Loaded
             line: 0,
         };
     }
-    clear_table(table);
-    match load_text(text, table) {
-        Verdict::Yes => Loaded {
-            number: 80,
-            line: 0,
-        },
-        Verdict::No(number, at) => refuse(text, number, at, table),
-    }
+    let mut lines = [0u16; Machine::TEXT];
+    fill_lines(text, &mut lines);
+    load_lined(text, &lines[..text.len()], table)
 }

@@ -44,10 +44,10 @@ pub record Tells-draft (s : List ℕ) (d : Draft) (g : Progress) (ms : List ℕ)
   pub closing : Tells-closing (d .closing) (g .closing)
   pub ended : fault-of (unended (d .tables .code)) ≡ g .ended
 
--- The draft d of the text s: g and ms, the marks of its labels; c, the lent table; sw and en, the marks of switches and entries
-pub record Drafted (s : List ℕ) (d : Draft) (g : Progress) (ms c sw en : List ℕ) : Type 0 where
+-- The draft d of the text s, whose bytes have the lines `lines`: g and ms, the marks of its labels; c, the lent table; sw and en, the marks of switches and entries
+pub record Drafted (s lines : List ℕ) (d : Draft) (g : Progress) (ms c sw en : List ℕ) : Type 0 where
   pub sound : Sound-draft (length s) d
-  pub tabled : Tabled s (d .tables) c sw en
+  pub tabled : Tabled s lines (d .tables) c sw en
   pub tells : Tells-draft s d g ms
 
 -- all statements of the draft are before place n
@@ -57,4 +57,4 @@ pub record Before (n : ℕ) (d : Draft) : Type 0 where
 
 -- a text of which nothing was read
 abbrev pub Begun : Progress → Type 0
-Begun g = (s ms c sw en : List ℕ) → length ms ≡ 32768 → Tabled s (blank .tables) c sw en → Drafted s blank g ms c sw en
+Begun g = (s lines ms c sw en : List ℕ) → length ms ≡ 32768 → Tabled s lines (blank .tables) c sw en → Drafted s lines blank g ms c sw en

@@ -30,7 +30,7 @@ pub begun : Begun (record {
   ended = Clear;
 })
 unfolding word-by
-begun s ms c sw en room tabled =
+begun s lines ms c sw en room tabled =
     record {
       sound = blank-sound (length s);
       tabled = tabled;

@@ -1,11 +1,10 @@
 -- A statement is read: what each of its parts asks for, and the draft after it.
 use mathlib.Core.Path.{_≡_, refl, sym, ap, _∙_, subst}
 use mathlib.Core.List.{List, [], _∷_, _++_}
-use Prim.Native.Nat.{ℕ, suc, _+_, _-_, _≤_}
+use Prim.Native.Nat.{ℕ, _-_, _≤_}
 use native.Mathlib.Omega.{arith}
 use lib.Dec.{eqb}
-use lib.ListN.{length, take, length-take}
-use Rattle.lists.specs.ListLaws.{keep-few}
+use lib.ListN.{length}
 use Rattle.acceptance.specs.DraftLaws.{draft-sound}
 use Rattle.acceptance.specs.RowLaws.{each-map, answered, Answered}
 use Rattle.advancing.specs.Advancing.{Advanceable, Advancing, Advances}
@@ -20,13 +19,12 @@ use Rattle.heads.specs.Heads.{Headed}
 use Rattle.heads.specs.declared.Head.{Head}
 use Rattle.language.specs.Limits as limit
 use Rattle.layout.specs.CellLaws.{each-append}
-use Rattle.lexer.specs.Tokens.{Lines}
 use Rattle.progress.specs.Progress.{Drafted}
 use Rattle.progress.specs.declared.Progress.{Progress}
 use Rattle.statements.specs.StatementAt.{statement-at, fault-of}
 use Rattle.statements.specs.declared.Fault.{Fault}
 use Rattle.statements.specs.declared.Fault.the-variants.{Clear, At}
-use Rattle.syntax.specs.Items.{Item, line-of}
+use Rattle.syntax.specs.Items.{Item, line-at}
 use Rattle.syntax.specs.Questions.{instr-beyond, switch-beyond, questions}
 use Rattle.syntax.specs.Statements.{by-keyword, labels-in, keyword-in}
 use Rattle.syntax.specs.Tables.{Draft, all-labels, draft-after}
@@ -71,8 +69,8 @@ same-progress e = cc
 abbrev pub from : Progress → ℕ
 from g = g .names - g .waiting
 
-module _ {s : List ℕ} {n : ℕ} {h : Head} (k : Headed s n h) {line : ℕ} {g : Progress} {ms c sw en : List ℕ} where
-  pub judging : {d : Draft} → Reading s n line d g ms c sw en → Judging s n d h ms (from g) (g .names)
+module _ {s : List ℕ} {n : ℕ} {h : Head} (k : Headed s n h) {lines : List ℕ} {g : Progress} {ms c sw en : List ℕ} where
+  pub judging : {d : Draft} → Reading s lines n d g ms c sw en → Judging s n d h ms (from g) (g .names)
   judging {d} r =
       record {
         low = r .standing .short;
@@ -86,13 +84,8 @@ module _ {s : List ℕ} {n : ℕ} {h : Head} (k : Headed s n h) {line : ℕ} {g 
         short = each-map _ (λ i. length (i .chars) ≤ limit.item) (λ i e. e .fine .short) (d .waiting) (r .standing .drafted .sound .waiting);
       }
 
-  pub askable : Readable s n line g ms c sw en → Askable s n h (eqb (g .section) 0) ms (from g) (g .names)
+  pub askable : Readable s lines n g ms c sw en → Askable s n h (eqb (g .section) 0) ms (from g) (g .names)
   askable r = record { draft = r .draft; judging = judging (r .reading); first-is = r .reading .standing .drafted .tells .section .first-is }
-
--- the operator's line
-pub line-low : (s : List ℕ) (p : ℕ) → line-of s p ≤ suc p
-unfolding line-of
-line-low s p = omega (arith, keep-few (eqb 10) (take p s), length-take p s)
 
 -- ---- the questions before 11 are answered yes, and there are i names then
 
@@ -100,9 +93,9 @@ module _ {s : List ℕ} {n : ℕ} {h : Head} (k : Headed s n h) where
   abbrev x : List Item
   x = statement-at s n
 
-  module _ {line : ℕ} {g : Progress} {ms c sw en ms′ : List ℕ} {j : Judged} {i : ℕ} {w : Values}
+  module _ {lines : List ℕ} {g : Progress} {ms c sw en ms′ : List ℕ} {j : Judged} {i : ℕ} {w : Values}
       (a : Asks s n h (eqb (g .section) 0) ms (from g) (g .names) ms′ j) (e : j ≡ judged.Names i w) where
-    module _ {d : Draft} (r : Reading s n line d g ms c sw en) where
+    module _ {d : Draft} (r : Reading s lines n d g ms c sw en) where
       early-yes : first-no (early-questions d x) ≡ yes
       early-yes = sym (a .told d (judging k r) (r .standing .drafted .tells .section .first-is)) ∙ ap judged-verdict e
 
@@ -118,8 +111,8 @@ module _ {s : List ℕ} {n : ℕ} {h : Head} (k : Headed s n h) where
             most = gathered-here .most;
           }
 
-      module _ {lines : ℕ} (l : Lines s n (h .op .at) lines) where
-        admitted : Admitted s n d h (line + lines) ms′ (from g) i c sw en
+      module _ {line : ℕ} (l : line ≡ line-at lines (h .op .at)) where
+        admitted : Admitted s lines n d h line ms′ (from g) i c sw en
         admitted =
             record {
               short = r .standing .short;
@@ -128,7 +121,8 @@ module _ {s : List ℕ} {n : ℕ} {h : Head} (k : Headed s n h) where
               sound = r .standing .drafted .sound;
               tabled = r .standing .drafted .tabled;
               answered = answered (early-questions d x) early-yes;
-              line-is = omega (arith, r .standing .line-is, l .is);
+              line-is = l;
+              line-most = omega (arith, l, r .standing .lined .most (h .op .at));
               named =
                   record {
                     order = gathered-here .order;
@@ -142,10 +136,10 @@ module _ {s : List ℕ} {n : ℕ} {h : Head} (k : Headed s n h) where
             }
 
         -- question 11
-        module _ {f : Fault} {c′ sw′ en′ : List ℕ} (t : Admits s h (line + lines) ms′ (from g) i c sw en f c′ sw′ en′) where
+        module _ {f : Fault} {c′ sw′ en′ : List ℕ} (t : Admits s h line ms′ (from g) i c sw en f c′ sw′ en′) where
           verdict-is : first-no (questions d x) ≡ decided 11 f
           verdict-is =
-              all-verdict d x ∙ ap (λ (v : Verdict). then v (decided 11 (fault-of (beyond-faults d x)))) early-yes ∙ ap (decided 11) (sym (t .told n d admitted))
+              all-verdict d x ∙ ap (λ (v : Verdict). then v (decided 11 (fault-of (beyond-faults d x)))) early-yes ∙ ap (decided 11) (sym (t .told lines n d admitted))
 
           module _ (clear : f ≡ Clear) where
             all-answered : Answered (questions d x)
@@ -164,24 +158,24 @@ module _ {s : List ℕ} {n : ℕ} {h : Head} (k : Headed s n h) where
                   ended = r .standing .drafted .tells .ended;
                 }
 
-            drafted-then : {q : Progress} → Advances s n g ms′ (from g) i q → Drafted s (draft-after d x) q ms′ c′ sw′ en′
+            drafted-then : {q : Progress} → Advances s n g ms′ (from g) i q → Drafted s lines (draft-after d x) q ms′ c′ sw′ en′
             unfolding draft-after
             drafted-then v =
                 record {
                   sound = draft-sound (length s) d x (r .standing .drafted .sound) (statement-sound s n (r .standing .inside)) all-answered;
-                  tabled = t .tabled clear n d admitted;
+                  tabled = t .tabled clear lines n d admitted;
                   tells = v d advancing-here;
                 }
 
-    pub advanceable : Readable s n line g ms c sw en → Advanceable s n g h ms′ (from g) i
+    pub advanceable : Readable s lines n g ms c sw en → Advanceable s n g h ms′ (from g) i
     advanceable r = advanceable-here (r .reading)
 
-    module _ {lines : ℕ} (l : Lines s n (h .op .at) lines) where
-      pub admissible : Readable s n line g ms c sw en → Admissible s h w (line + lines) ms′ (from g) i c sw en
-      admissible r = record { at = n; draft = r .draft; admitted = admitted (r .reading) l; values = a .values-are i w e }
+    module _ {line : ℕ} (l : line ≡ line-at lines (h .op .at)) where
+      pub admissible : Readable s lines n g ms c sw en → Admissible s h w line ms′ (from g) i c sw en
+      admissible r = record { lines = lines; at = n; draft = r .draft; admitted = admitted (r .reading) l; values = a .values-are i w e }
 
-      module _ {f : Fault} {c′ sw′ en′ : List ℕ} (t : Admits s h (line + lines) ms′ (from g) i c sw en f c′ sw′ en′) where
-        pub refused-beyond : {p : ℕ} → f ≡ At p → Reads s n line g ms c sw en (reads.Refused 11 p) ms′ c′ sw′ en′
+      module _ {f : Fault} {c′ sw′ en′ : List ℕ} (t : Admits s h line ms′ (from g) i c sw en f c′ sw′ en′) where
+        pub refused-beyond : {p : ℕ} → f ≡ At p → Reads s lines n g ms c sw en (reads.Refused 11 p) ms′ c′ sw′ en′
         refused-beyond q =
             record {
               told = λ d r. sym (verdict-is r l t ∙ ap (decided 11) q);
@@ -189,21 +183,21 @@ module _ {s : List ℕ} {n : ℕ} {h : Head} (k : Headed s n h) where
               beyond = t .beyond;
             }
 
-        pub statement-read : {q : Progress} → f ≡ Clear → Advances s n g ms′ (from g) i q → Reads s n line g ms c sw en (reads.Statement q) ms′ c′ sw′ en′
+        pub statement-read : {q : Progress} → f ≡ Clear → Advances s n g ms′ (from g) i q → Reads s lines n g ms c sw en (reads.Statement q) ms′ c′ sw′ en′
         statement-read {q} z v =
             record {
               told = λ d r. sym (verdict-is r l t ∙ ap (decided 11) z);
-              after = λ d r g′ o. subst (λ (p : Progress). Drafted s (draft-after d x) p ms′ c′ sw′ en′) (same-progress o) (drafted-then r l t z v);
+              after = λ d r g′ o. subst (λ (p : Progress). Drafted s lines (draft-after d x) p ms′ c′ sw′ en′) (same-progress o) (drafted-then r l t z v);
               beyond = t .beyond;
             }
 
 -- ---- or one of them is answered no
 
-module _ {s : List ℕ} {n : ℕ} {h : Head} (k : Headed s n h) {line : ℕ} {g : Progress} {ms c sw en ms′ : List ℕ} {number at : ℕ} where
+module _ {s : List ℕ} {n : ℕ} {h : Head} (k : Headed s n h) {lines : List ℕ} {g : Progress} {ms c sw en ms′ : List ℕ} {number at : ℕ} where
   pub refused-before : {j : Judged} {u : Read} → Asks s n h (eqb (g .section) 0) ms (from g) (g .names) ms′ j → j ≡ judged.Refused number at → u ≡ refusal-of j
-      → Reads s n line g ms c sw en u ms′ c sw en
+      → Reads s lines n g ms c sw en u ms′ c sw en
   refused-before {j} {u} a e q =
-      subst (λ (v : Read). Reads s n line g ms c sw en v ms′ c sw en) (sym (q ∙ ap refusal-of e))
+      subst (λ (v : Read). Reads s lines n g ms c sw en v ms′ c sw en) (sym (q ∙ ap refusal-of e))
       (record {
         told = λ d r.
             let v : refuse number at ≡ first-no (early-questions d (statement-at s n)) =

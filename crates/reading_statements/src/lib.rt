@@ -11,7 +11,7 @@ use declaring_statements::declare_statement;
 use faults::Verdict;
 use heads::Head;
 use heads::read_head;
-use lexer::count_lines;
+use lexer::line_at;
 use names::collect;
 use progress::Progress;
 use statements::Fault;
@@ -83,19 +83,19 @@ fn refusal_of(j: Judged) -> Read
     }
 }
 
-// The statement at `n`, which stands in line `line`; questions 14, 15 and 16 are answered yes.
+// The statement at `n` of a text, whose bytes have the lines `lines`; questions 14, 15 and 16 are answered yes.
 pub fn read_statement(
     text: &[u8],
+    lines: &[u16],
     n: usize,
-    line: usize,
     p: Progress,
     names: &mut [u32],
     table: &mut [u32],
     switches: &mut [u32],
     entries: &mut [u32],
 ) -> Read
-    requires { ⌜ Readable (now text) n line p (now names) (now table) (now switches) (now entries) ⌝ }
-    ensures { λ r. ⌜ Reads (now (text .entry)) n line p (now (names .entry)) (now (table .entry)) (now (switches .entry)) (now (entries .entry)) r (now (names .exit)) (now (table .exit)) (now (switches .exit)) (now (entries .exit)) ⌝ }
+    requires { ⌜ Readable (now text) (now lines) n p (now names) (now table) (now switches) (now entries) ⌝ }
+    ensures { λ r. ⌜ Reads (now (text .entry)) (now (lines .entry)) n p (now (names .entry)) (now (table .entry)) (now (switches .entry)) (now (entries .entry)) r (now (names .exit)) (now (table .exit)) (now (switches .exit)) (now (entries .exit)) ⌝ }
 {
     let head = read_head(text, n);
     let to = p.names;
@@ -105,12 +105,12 @@ pub fn read_statement(
         return refusal_of(j);
     };
     let op = head.op;
-    let at = line + count_lines(text, n, op.at);
+    let line = line_at(lines, op.at) as usize;
     match declare_statement(
         text,
         head,
         values,
-        at,
+        line,
         names,
         from,
         count,

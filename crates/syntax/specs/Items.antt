@@ -176,3 +176,16 @@ statements-from n r = statements (named (read outside n r))
 -- the line of a place, from 1: one more than the new lines before it
 unfoldable pub line-of : List ℕ → ℕ → ℕ
 line-of s p = suc (length (keep (eqb 10) (take p s)))
+
+-- the places of bytes that follow one another, from a place on
+unfoldable pub up-from : ℕ → List ℕ → List ℕ
+up-from place [] = []
+up-from place (b ∷ w) = place ∷ up-from (suc place) w
+
+-- the lines of all bytes of a text
+unfoldable pub lines-of : List ℕ → List ℕ
+lines-of s = map (line-of s) (up-from 0 s)
+
+-- the line of a place, of a text whose bytes have the lines ls; an empty text has the line 1
+abbrev pub line-at : List ℕ → ℕ → ℕ
+line-at ls p = getD ls p 1

@@ -15,3 +15,4 @@ pub mod Scan
 pub mod ItemLaws
 pub mod LetterLaws
 pub mod LoadLaws
+pub mod LineLaws

@@ -1,7 +1,7 @@
 -- Load: the questions in order, and the program of an accepted text.
 use mathlib.Core.Bool.{cond, _&&_}
 use mathlib.Core.List.{List, [], _∷_, map}
-use Prim.Native.Nat.{ℕ}
+use Prim.Native.Nat.{ℕ, _≤_, _<_}
 use lib.Dec.{leb}
 use lib.ListN.{length, getD, drop}
 use Rattle.language.specs.Limits as limit
@@ -11,7 +11,7 @@ use Rattle.language.specs.Values.{amount, valueOf}
 use Rattle.lists.specs.Lists.{ahead, headOr, sameBytes}
 use Rattle.syntax.specs.ArgumentForms.{form-in, is-index, letter-of, word-reads, reads, Argument, accepting, read-by}
 use Rattle.syntax.specs.Ending.{last-place, end-faults, undeclared-labels, undeclared-switches, last-questions}
-use Rattle.syntax.specs.Items.{sort-of, Item, ends-text, takes-next, char-of, allows, begins, itself, mode-after, items-at, left-over, read, attach, named, parted, statements, statements-from, line-of}
+use Rattle.syntax.specs.Items.{sort-of, Item, ends-text, takes-next, char-of, allows, begins, itself, mode-after, items-at, left-over, read, attach, named, parted, statements, statements-from, line-of, up-from, lines-of, line-at}
 use Rattle.syntax.specs.Questions.{first-faults, operator-faults, label-faults, repeated, count-faults, instr-faults, switch-faults, instr-beyond, switch-beyond, questions}
 use Rattle.syntax.specs.Statements.{by-keyword, keyword-of, front, behind, keyword-in, one-name, entry-faults, list-faults, entries-in}
 use Rattle.syntax.specs.Tables.{Written, Tables, Draft, blank, fresh, with-instr, with-switch, closing-faults, closing-after, draft-after}
@@ -40,34 +40,40 @@ arg-of t a =
     (cond (form-in "wx" (a .form)) (Arg.switch (switch-place t w))
     (Arg.letter (letter-of (headOr 0 w)) (amount 0 (drop 1 w)))))))
 
+-- of a text whose bytes have the lines ls
 unfoldable pub instr-of : List ℕ → Tables → Written → Instr
-instr-of s t i =
+instr-of ls t i =
     let args = map (arg-of t) (i .args) in
-    record { op = i .op; line = line-of s (i .at); first = getD args 0 Arg.nothing; second = getD args 1 Arg.nothing; third = getD args 2 Arg.nothing }
+    record { op = i .op; line = line-at ls (i .at); first = getD args 0 Arg.nothing; second = getD args 1 Arg.nothing; third = getD args 2 Arg.nothing }
 
 unfoldable pub program-of : List ℕ → Tables → Program
-program-of s t =
+program-of ls t =
     record {
-      code = map (instr-of s t) (t .code);
+      code = map (instr-of ls t) (t .code);
       labels = t .labels;
       switches = map (λ c. record { byName = c .byName; entries = entries-in (label-place t) (c .list) }) (t .switches);
       texts = t .texts;
       numbers = t .numbers;
     }
 
--- a verdict on the text s, before what follows from a yes
+-- a verdict on a text whose bytes have the lines ls, before what follows from a yes
 unfoldable pub unless-refused : List ℕ → Verdict → Loaded → Loaded
-unless-refused s yes r = r
-unless-refused s (refuse number at) r = refused number (line-of s at)
+unless-refused ls yes r = r
+unless-refused ls (refuse number at) r = refused number (line-at ls at)
 
--- "Then statement by statement", and at last of the whole text
-unfoldable pub load-from : List ℕ → Draft → List (List Item) → Loaded
-load-from s d [] = unless-refused s (first-no (last-questions (last-place s) d)) (accepted (program-of s (d .tables)))
-load-from s d (x ∷ xs) = unless-refused s (first-no (questions d x)) (load-from s (draft-after d x) xs)
+-- "Then statement by statement", and at last of the whole text, whose last byte is at a place
+unfoldable pub load-from : List ℕ → ℕ → Draft → List (List Item) → Loaded
+load-from ls last d [] = unless-refused ls (first-no (last-questions last d)) (accepted (program-of ls (d .tables)))
+load-from ls last d (x ∷ xs) = unless-refused ls (first-no (questions d x)) (load-from ls last (draft-after d x) xs)
+
+-- what is asked of lines: each is a line of a text of at most 32,768 bytes
+pub record Lined (ls : List ℕ) : Type 0 where
+  pub least : (p : ℕ) → 0 < line-at ls p
+  pub most : (p : ℕ) → line-at ls p ≤ limit.text
 
 -- "Table long enough, text short enough? 40", with the line 0
 unfoldable pub loadIn : ℕ → List ℕ → Loaded
-loadIn cells s = cond (leb limit.table cells && leb (length s) limit.text) (load-from s blank (statements-from 0 s)) (refused 40 0)
+loadIn cells s = cond (leb limit.table cells && leb (length s) limit.text) (load-from (lines-of s) (last-place s) blank (statements-from 0 s)) (refused 40 0)
 
 -- with a table that is long enough
 abbrev pub loadOf : List ℕ → Loaded
@@ -75,5 +81,5 @@ loadOf s = loadIn limit.table s
 
 -- everything that load computes with, to be named on an `unfolding` line
 unfoldable pub opened : Unit {0}
-unfolding known sort-of ends-text takes-next char-of allows begins itself mode-after items-at left-over read attach named parted statements line-of by-keyword keyword-of front behind keyword-in one-name entry-faults list-faults entries-in is-index word-reads reads accepting read-by lowest decide first-no fresh with-instr with-switch closing-faults closing-after draft-after first-faults operator-faults label-faults repeated count-faults instr-faults switch-faults instr-beyond switch-beyond questions end-faults undeclared-labels undeclared-switches last-questions arg-of instr-of program-of unless-refused load-from loadIn
+unfolding known sort-of ends-text takes-next char-of allows begins itself mode-after items-at left-over read attach named parted statements line-of up-from lines-of by-keyword keyword-of front behind keyword-in one-name entry-faults list-faults entries-in is-index word-reads reads accepting read-by lowest decide first-no fresh with-instr with-switch closing-faults closing-after draft-after first-faults operator-faults label-faults repeated count-faults instr-faults switch-faults instr-beyond switch-beyond questions end-faults undeclared-labels undeclared-switches last-questions arg-of instr-of program-of unless-refused load-from loadIn
 opened = tt

@@ -1,8 +1,10 @@
 -- `loading::load` meets its contract.
 use borrow.Author.Needs.{needs}
 use native.Mathlib.Omega.{arith}
-use mathlib.Core.Path.{refl}
-use Rattle.loading.proofs.Outcomes.{short-table, long-text, loadable, load-accepted, load-refused}
+use mathlib.Core.Path.{_≡_, refl, sym}
+use lib.ListN.{length}
+use lib.Seq.{length-take-le}
+use Rattle.loading.proofs.Outcomes.{short-table, long-text, lent, load-in}
 use Rattle.loading.proofs.load.Statement.{statement}
 use Rattle.loading.proofs.load.Tie as tie
 
@@ -12,36 +14,32 @@ returns c = short-table (c .before .before .before .args .text .now) (c .before 
 returns-2 : tie.Need-returns-2
 returns-2 c = long-text (c .before .before .before .before .args .text .now) (c .before .before .before .before .args .table .now) (c .before .if1 .left) (c .if2 .taken) refl refl
 
-clear-table-requires : tie.Need-clear-table-requires
-clear-table-requires c κs = c .before .before .if1 .left
+slice-aggregate-fill-lines : tie.Need-slice-aggregate-fill-lines
+slice-aggregate-fill-lines c = search needs
 
-load-text-requires : tie.Need-load-text-requires
-load-text-requires c κs = loadable (c .before .before .before .before .before .before .before .before .before .args .text .now) (c .before .before .before .before .before .before .before .before .before .args .table .now) (c .before .before .before .before .before .before .if1 .left) (c .before .before .before .before .before .if2 .left) (c .before .before .before .clear-table .ensures)
+fill-lines-requires : tie.Need-fill-lines-requires
+fill-lines-requires c κs = record { short = c .before .if2 .left; room = c .before .if2 .left }
 
-enum-told : tie.Need-enum-told
-enum-told c = search needs
+array-share-prefix-lines : tie.Need-array-share-prefix-lines
+array-share-prefix-lines c = let size : length (c .before .fill-lines .last .1 .0) ≡ 32768 = c .before .fill-lines .kept .1 .0 in omega (arith, size, c .before .before .before .if2 .left)
 
-enum-known-number : tie.Need-enum-known-number
-enum-known-number c = search needs
+slice-aggregate-load-lined : tie.Need-slice-aggregate-load-lined
+slice-aggregate-load-lined c =
+    let size : length (c .before .before .fill-lines .last .1 .0) ≡ 32768 = c .before .before .fill-lines .kept .1 .0 in
+    sym (length-take-le (length (c .before .before .before .before .before .before .before .before .args .text .now)) (c .before .before .fill-lines .last .1 .0) (omega (arith, size, c .before .before .before .before .if2 .left)))
 
-refuse-requires : tie.Need-refuse-requires
-refuse-requires c κs =
-    record {
-      short = c .before .before .before .before .before .before .before .before .before .before .before .before .if2 .left;
-      long = omega (arith, c .before .before .before .before .before .before .load-text .kept .1 .0, c .before .before .before .before .before .before .before .before .before .before .clear-table .kept .0, c .before .before .before .before .before .before .before .before .before .before .before .before .before .if1 .left);
-    }
+load-lined-requires : tie.Need-load-lined-requires
+load-lined-requires c κs =
+    let a = c .before .before .before .before .before .before .before .before .before .args in
+    lent (a .text .now) (a .table .now) (c .before .before .before .before .before .before .if1 .left) (c .before .before .before .before .before .if2 .left) (c .before .before .before .fill-lines .ensures)
 
 same-length : tie.Need-same-length
 same-length c = search needs
 
 returns-3 : tie.Need-returns-3
-returns-3 c = load-accepted (c .before .before .before .before .before .before .before .before .before .before .before .before .before .before .args .text .now) (c .before .before .before .before .before .before .before .before .before .before .before .before .before .before .args .table .now) (c .before .before .before .before .before .before .before .before .before .before .before .if1 .left) (c .before .before .before .before .before .before .before .before .before .before .if2 .left) (c .before .before .before .before .before .before .before .before .clear-table .ensures) (c .before .before .before .before .load-text .ensures) (c .enum-told .given .1) refl refl
-
-same-length-2 : tie.Need-same-length-2
-same-length-2 c = search needs
-
-returns-4 : tie.Need-returns-4
-returns-4 c = load-refused (c .before .before .before .before .before .before .before .before .before .before .before .before .before .before .before .before .before .before .before .args .text .now) (c .before .before .before .before .before .before .before .before .before .before .before .before .before .before .before .before .before .before .before .args .table .now) (c .before .before .before .before .before .before .before .before .before .before .before .before .before .before .before .before .if1 .left) (c .before .before .before .before .before .before .before .before .before .before .before .before .before .before .before .if2 .left) (c .before .before .before .before .before .before .before .before .before .before .before .before .before .clear-table .ensures) (c .before .before .before .before .before .before .before .before .before .load-text .ensures) (c .before .before .before .before .before .number .given .0 .0) (c .before .before .before .before .before .number .given .0 .1 .0) (c .before .before .before .before .before .number .given .1) (c .before .before .refuse .ensures)
+returns-3 c =
+    let a = c .before .before .before .before .before .before .before .before .before .before .before .before .args in
+    load-in (a .text .now) (a .table .now) (c .before .before .before .before .before .before .before .before .before .if1 .left) (c .before .before .before .before .before .before .before .before .if2 .left) (c .before .before .before .before .before .before .fill-lines .ensures) (c .before .before .load-lined .ensures)
 
 pub load-spec : {M : Type 1} → statement M
 load-spec =
@@ -49,12 +47,10 @@ load-spec =
     (tie.spec
     returns
     returns-2
-    clear-table-requires
-    load-text-requires
-    enum-told
-    enum-known-number
-    refuse-requires
+    slice-aggregate-fill-lines
+    fill-lines-requires
+    array-share-prefix-lines
+    slice-aggregate-load-lined
+    load-lined-requires
     same-length
-    returns-3
-    same-length-2
-    returns-4)
+    returns-3)

@@ -15,7 +15,7 @@ slice-aggregate-read-statements-3 : tie.Need-slice-aggregate-read-statements-3
 slice-aggregate-read-statements-3 c = search needs
 
 read-statements-requires : tie.Need-read-statements-requires
-read-statements-requires c κs = unread (c .before .before .before .before .before .before .pre) refl refl refl
+read-statements-requires c κs = unread (c .before .before .before .before .before .before .before .pre) refl refl refl
 
 enum-known-number : tie.Need-enum-known-number
 enum-known-number c = search needs
@@ -33,19 +33,19 @@ slice-aggregate-finish-3 : tie.Need-slice-aggregate-finish-3
 slice-aggregate-finish-3 c = search needs
 
 finish-requires : tie.Need-finish-requires
-finish-requires c κs = finishable (c .before .before .before .before .before .before .before .before .before .before .before .before .before .before .before .before .before .before .before .pre) (c .before .before .before .before .before .before .before .before .before .before .before .before .read-statements .ensures) (c .before .before .before .before .before .p .given .0 .0) (c .before .before .before .before .before .p .given .1)
+finish-requires c κs = finishable (c .before .before .before .before .before .before .before .before .before .before .before .before .before .before .before .before .before .before .before .before .pre) (c .before .before .before .before .before .before .before .before .before .before .before .before .read-statements .ensures) (c .before .before .before .before .before .p .given .0 .0) (c .before .before .before .before .before .p .given .1)
 
 same-length : tie.Need-same-length
 same-length c = search needs
 
 returns : tie.Need-returns
-returns c = text-refused (c .before .before .before .before .before .before .before .before .before .before .before .before .before .before .before .pre) (c .before .before .before .before .before .before .before .before .read-statements .ensures) (c .before .number .given .0 .0) (c .before .number .given .0 .1 .0) (c .before .number .given .1)
+returns c = text-refused (c .before .before .before .before .before .before .before .before .before .before .before .before .before .before .before .before .pre) (c .before .before .before .before .before .before .before .before .read-statements .ensures) (c .before .number .given .0 .0) (c .before .number .given .0 .1 .0) (c .before .number .given .1)
 
 same-length-2 : tie.Need-same-length-2
 same-length-2 c = search needs
 
 returns-2 : tie.Need-returns-2
-returns-2 c = text-finished (c .before .before .before .before .before .before .before .before .before .before .before .before .before .before .before .before .before .before .before .before .before .before .pre) (c .before .before .before .before .before .before .before .before .before .before .before .before .before .before .before .read-statements .ensures) (c .before .before .before .before .before .before .before .before .p .given .0 .0) (c .before .before .before .before .before .before .before .before .p .given .1) (c .before .before .finish .ensures)
+returns-2 c = text-finished (c .before .before .before .before .before .before .before .before .before .before .before .before .before .before .before .before .before .before .before .before .before .before .before .pre) (c .before .before .before .before .before .before .before .before .before .before .before .before .before .before .before .read-statements .ensures) (c .before .before .before .before .before .before .before .before .p .given .0 .0) (c .before .before .before .before .before .before .before .before .p .given .1) (c .before .before .finish .ensures)
 
 pub load-text-spec : {M : Type 1} → statement M
 load-text-spec =

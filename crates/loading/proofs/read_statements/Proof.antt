@@ -4,21 +4,21 @@ use native.Mathlib.Omega.{arith}
 use mathlib.Core.Path.{refl, _∙_}
 use Prim.Native.Nat.{_-_}
 use lib.ListN.{length}
-use Rattle.loading.proofs.Walking.{other, line-low, Looping, going-none, part-here, judged, going-refused, going-last, going-next}
+use Rattle.loading.proofs.Walking.{other, Looping, going-none, part-here, judged, going-refused, going-last, going-next}
 use Rattle.loading.proofs.read_statements.Statement.{statement}
 use Rattle.loading.proofs.read_statements.Tie as tie
 
 abbrev Inv-loop : tie.InvT-loop
-Inv-loop text names₀ table₀ switches₀ entries₀ p₀ n₀ line₀ names table switches entries p n line = Looping text table₀ n line p names table switches entries (length names₀) (length table₀) (length switches₀) (length entries₀)
+Inv-loop text lines names₀ table₀ switches₀ entries₀ p₀ n₀ names table switches entries p n = Looping text lines table₀ n p names table switches entries (length names₀) (length table₀) (length switches₀) (length entries₀)
 
 abbrev μ-loop : tie.MeasureT-loop
-μ-loop text names₀ table₀ switches₀ entries₀ p₀ n₀ line₀ names table switches entries p n line = length text - n
+μ-loop text lines names₀ table₀ switches₀ entries₀ p₀ n₀ names table switches entries p n = length text - n
 
 begin-requires : tie.Need-begin-requires Inv-loop μ-loop
 begin-requires c κs = search needs
 
 loop-holds : tie.Need-loop-holds Inv-loop μ-loop
-loop-holds c = record { going = going-none (c .before .before .before .before .before .before .pre) (c .begin .ensures); names-is = refl; table-is = refl; switches-is = refl; entries-is = refl }
+loop-holds c = record { going = going-none (c .before .before .before .before .before .before .before .pre) (c .begin .ensures); names-is = refl; table-is = refl; switches-is = refl; entries-is = refl }
 
 sub-read-part : tie.Need-sub-read-part Inv-loop μ-loop
 sub-read-part c = omega (arith, (c .loop .inv .going) .standing .inside)
@@ -74,29 +74,17 @@ returns-2 : tie.Need-returns-2 Inv-loop μ-loop
 returns-2 c = let partᵛ = part-here (c .before .before .before .before .before .before .before .before .before .before .before .before .before .before .before .before .before .before .before .loop .inv .going) (c .before .before .before .before .before .before .before .before .before .before .before .before .before .before .before .before .before .read-part .ensures) in
     going-last (c .before .before .before .before .before .before .before .before .before .before .before .before .before .before .before .before .before .before .before .loop .inv .going) partᵛ (c .before .before .before .before .before .before .before .before .before .before .before .before .read-judged .ensures) (c .before .before .r .given .0 .0) (c .before .before .r .given .1) (c .if1 .taken)
 
-add-count-lines : tie.Need-add-count-lines Inv-loop μ-loop
-add-count-lines c = let partᵛ = part-here (c .before .before .before .before .before .before .before .before .before .before .before .before .before .before .before .before .before .before .before .before .loop .inv .going) (c .before .before .before .before .before .before .before .before .before .before .before .before .before .before .before .before .before .before .read-part .ensures) in
+add-n : tie.Need-add-n Inv-loop μ-loop
+add-n c = let partᵛ = part-here (c .before .before .before .before .before .before .before .before .before .before .before .before .before .before .before .before .before .before .before .before .loop .inv .going) (c .before .before .before .before .before .before .before .before .before .before .before .before .before .before .before .before .before .before .read-part .ensures) in
     omega (arith, partᵛ .ends .most, (c .before .before .before .before .before .before .before .before .before .before .before .before .before .before .before .before .before .before .before .before .loop .inv .going) .standing .short)
 
-count-lines-requires : tie.Need-count-lines-requires Inv-loop μ-loop
-count-lines-requires c κs = let partᵛ = part-here (c .before .before .before .before .before .before .before .before .before .before .before .before .before .before .before .before .before .before .before .before .loop .inv .going) (c .before .before .before .before .before .before .before .before .before .before .before .before .before .before .before .before .before .before .read-part .ensures) in
-    (omega arith, partᵛ .ends .most)
-
-add-line : tie.Need-add-line Inv-loop μ-loop
-add-line c = let partᵛ = part-here (c .before .before .before .before .before .before .before .before .before .before .before .before .before .before .before .before .before .before .before .before .before .loop .inv .going) (c .before .before .before .before .before .before .before .before .before .before .before .before .before .before .before .before .before .before .before .read-part .ensures) in
-    omega (arith, c .count-lines .ensures .most, line-low (c .before .before .before .before .before .before .before .before .before .before .before .before .before .before .before .before .before .before .before .before .before .loop .inv .going), partᵛ .ends .most, (c .before .before .before .before .before .before .before .before .before .before .before .before .before .before .before .before .before .before .before .before .before .loop .inv .going) .standing .short)
-
-add-n : tie.Need-add-n Inv-loop μ-loop
-add-n c = let partᵛ = part-here (c .before .before .before .before .before .before .before .before .before .before .before .before .before .before .before .before .before .before .before .before .before .before .loop .inv .going) (c .before .before .before .before .before .before .before .before .before .before .before .before .before .before .before .before .before .before .before .before .read-part .ensures) in
-    omega (arith, partᵛ .ends .most, (c .before .before .before .before .before .before .before .before .before .before .before .before .before .before .before .before .before .before .before .before .before .before .loop .inv .going) .standing .short)
-
 loop-less : tie.Need-loop-less Inv-loop μ-loop
-loop-less c = let partᵛ = part-here (c .before .before .before .before .before .before .before .before .before .before .before .before .before .before .before .before .before .before .before .before .before .before .loop .inv .going) (c .before .before .before .before .before .before .before .before .before .before .before .before .before .before .before .before .before .before .before .before .read-part .ensures) in
-    omega (arith, partᵛ .ends .most, partᵛ .ends .more (c .before .before .before .if1 .left), (c .before .before .before .before .before .before .before .before .before .before .before .before .before .before .before .before .before .before .before .before .before .before .loop .inv .going) .standing .inside)
+loop-less c = let partᵛ = part-here (c .before .before .before .before .before .before .before .before .before .before .before .before .before .before .before .before .before .before .before .before .loop .inv .going) (c .before .before .before .before .before .before .before .before .before .before .before .before .before .before .before .before .before .before .read-part .ensures) in
+    omega (arith, partᵛ .ends .most, partᵛ .ends .more (c .before .if1 .left), (c .before .before .before .before .before .before .before .before .before .before .before .before .before .before .before .before .before .before .before .before .loop .inv .going) .standing .inside)
 
 loop-again : tie.Need-loop-again Inv-loop μ-loop
-loop-again c = let partᵛ = part-here (c .before .before .before .before .before .before .before .before .before .before .before .before .before .before .before .before .before .before .before .before .before .before .loop .inv .going) (c .before .before .before .before .before .before .before .before .before .before .before .before .before .before .before .before .before .before .before .before .read-part .ensures) in
-    record { going = going-next (c .before .before .before .before .before .before .before .before .before .before .before .before .before .before .before .before .before .before .before .before .before .before .loop .inv .going) partᵛ (c .before .before .before .before .before .before .before .before .before .before .before .before .before .before .before .read-judged .ensures) (c .before .before .before .before .before .r .given .0 .0) (c .before .before .before .before .before .r .given .1) (c .before .before .before .if1 .left) (c .before .count-lines .ensures); names-is = c .before .before .before .before .before .before .before .before .before .before .before .before .before .before .before .read-judged .kept .1 .1 .1 .1 .1 .0 ∙ c .before .before .before .before .before .before .before .before .before .before .before .before .before .before .before .before .before .before .before .before .before .before .loop .inv .names-is; table-is = c .before .before .before .before .before .before .before .before .before .before .before .before .before .before .before .read-judged .kept .1 .1 .1 .1 .1 .1 .0 ∙ c .before .before .before .before .before .before .before .before .before .before .before .before .before .before .before .before .before .before .before .before .before .before .loop .inv .table-is; switches-is = c .before .before .before .before .before .before .before .before .before .before .before .before .before .before .before .read-judged .kept .1 .1 .1 .1 .1 .1 .1 .0 ∙ c .before .before .before .before .before .before .before .before .before .before .before .before .before .before .before .before .before .before .before .before .before .before .loop .inv .switches-is; entries-is = c .before .before .before .before .before .before .before .before .before .before .before .before .before .before .before .read-judged .kept .1 .1 .1 .1 .1 .1 .1 .1 .0 ∙ c .before .before .before .before .before .before .before .before .before .before .before .before .before .before .before .before .before .before .before .before .before .before .loop .inv .entries-is }
+loop-again c = let partᵛ = part-here (c .before .before .before .before .before .before .before .before .before .before .before .before .before .before .before .before .before .before .before .before .loop .inv .going) (c .before .before .before .before .before .before .before .before .before .before .before .before .before .before .before .before .before .before .read-part .ensures) in
+    record { going = going-next (c .before .before .before .before .before .before .before .before .before .before .before .before .before .before .before .before .before .before .before .before .loop .inv .going) partᵛ (c .before .before .before .before .before .before .before .before .before .before .before .before .before .read-judged .ensures) (c .before .before .before .r .given .0 .0) (c .before .before .before .r .given .1) (c .before .if1 .left); names-is = c .before .before .before .before .before .before .before .before .before .before .before .before .before .read-judged .kept .1 .1 .1 .1 .1 .0 ∙ c .before .before .before .before .before .before .before .before .before .before .before .before .before .before .before .before .before .before .before .before .loop .inv .names-is; table-is = c .before .before .before .before .before .before .before .before .before .before .before .before .before .read-judged .kept .1 .1 .1 .1 .1 .1 .0 ∙ c .before .before .before .before .before .before .before .before .before .before .before .before .before .before .before .before .before .before .before .before .loop .inv .table-is; switches-is = c .before .before .before .before .before .before .before .before .before .before .before .before .before .read-judged .kept .1 .1 .1 .1 .1 .1 .1 .0 ∙ c .before .before .before .before .before .before .before .before .before .before .before .before .before .before .before .before .before .before .before .before .loop .inv .switches-is; entries-is = c .before .before .before .before .before .before .before .before .before .before .before .before .before .read-judged .kept .1 .1 .1 .1 .1 .1 .1 .1 .0 ∙ c .before .before .before .before .before .before .before .before .before .before .before .before .before .before .before .before .before .before .before .before .loop .inv .entries-is }
 
 pub read-statements-spec : {M : Type 1} → statement M
 read-statements-spec =
@@ -123,9 +111,6 @@ read-statements-spec =
     same-length-7
     same-length-8
     returns-2
-    add-count-lines
-    count-lines-requires
-    add-line
     add-n
     loop-less
     loop-again)
