@@ -12,8 +12,6 @@ use Rattle.finding.specs.Finding.{Tells}
 use Rattle.language.specs.Limits as limit
 use Rattle.language.specs.Program.{Arg, Program}
 use Rattle.layout.specs.Table.{class-mask, text-ref, arg-cell}
-use Rattle.lexer.specs.declared.Token.{Token}
-use Rattle.lexer.specs.Tokens.{Stands}
 use Rattle.syntax.specs.ArgumentForms.{reads}
 use Rattle.syntax.specs.ArgumentForms as syntax
 use Rattle.table.specs.declared.Argument.{Argument}
@@ -25,12 +23,7 @@ use Rattle.writing.specs.Writing.{HoldsProgram, no-program, IsNumber}
 abbrev pub text-cell : List ℕ → Program → ℕ
 text-cell w p = text-ref p w
 
-pub record TextItem (s : List ℕ) (t : Token) (c : List ℕ) : Type 0 where
-  pub stands : Stands s t
-  pub held : Held c
-  pub short : t .len ≤ limit.item
-
--- the same of a text by the number that names it
+-- a text by the number that names it
 pub record Text-named (s : List ℕ) (m : ℕ) (c : List ℕ) : Type 0 where
   pub chars : List ℕ
   pub names : Names-text s m chars

@@ -2,28 +2,15 @@
 // for a label or a switch.
 ghost use mathlib.Core.Path.{_≡_};
 ghost use Prim.Native.Nat.{_<_};
-ghost use Rattle.finding.specs.Finding.{Tells};
 ghost use Rattle.layout.specs.Table.{letter-place};
-ghost use Rattle.lexer.specs.Tokens.{chars-of};
 ghost use Rattle.table.specs.Denote.{letter-of};
-ghost use Rattle.argument_cells.specs.ArgumentCells.{TextItem, text-cell, Text-named, Text-told, Referable, Referred, Encodable, Encodes, Cell-asked, CellOf};
+ghost use Rattle.argument_cells.specs.ArgumentCells.{Text-named, Text-told, Referable, Referred, Encodable, Encodes, Cell-asked, CellOf};
 use layout::ArgumentKinds;
-use lexer::Token;
 use table::Argument;
 use table::Letter;
 
-// The reference of the text of an item.
-pub fn item_text(text: &[u8], t: Token, table: &[u32]) -> usize
-    requires { ⌜ TextItem (now text) t (now table) ⌝ }
-    ensures { λ r. ⌜ Tells (now (table .entry)) (text-cell (chars-of (now (text .entry)) t)) 384 r ⌝ }
-{
-    let mut word = [0u8; 60];
-    let n = spelling::put_chars(text, t, &mut word);
-    finding::text_ref(table, &word[..n])
-}
-
 // The reference of the text that a value names.
-fn text_of(text: &[u8], m: usize, table: &[u32]) -> usize
+pub fn text_of(text: &[u8], m: usize, table: &[u32]) -> usize
     requires { ⌜ Text-named (now text) m (now table) ⌝ }
     ensures { λ r. ⌜ Text-told (now (text .entry)) m (now (table .entry)) r ⌝ }
 {

@@ -1,28 +1,23 @@
 -- How many arguments an instruction has, and the instruction of a keyword.
 use mathlib.Core.Path.{_≡_, refl, ap, sym, _∙_}
-use mathlib.Core.Bool.{Bool, true, false, cond, not, _&&_}
+use mathlib.Core.Bool.{Bool, true, false, cond, not}
 use mathlib.Core.List.{List, [], _∷_}
-use Prim.Native.Nat.{ℕ, _+_, _-_, _≤_, _<_}
+use Prim.Native.Nat.{ℕ, _<_}
 use native.Mathlib.Omega.{arith}
-use lib.Dec.{T, eqb, ltb, ltb→lt}
-use lib.ListN.{length, drop}
-use lib.Seq.{drop-nil}
+use lib.Dec.{eqb, ltb, ltb→lt}
+use lib.ListN.{drop}
 use Rattle.forms.specs.SetLaws.{by-operator}
 use Rattle.heads.specs.declared.Head.{Head}
 use Rattle.heads.specs.Heads.{instr-of, Headed}
-use Rattle.heads.specs.HeadLaws.{one-at-most, no-keyword, rest-here, one-more}
-use Rattle.judging.specs.LabelLaws.{passed-over, first-passed}
+use Rattle.heads.specs.HeadLaws.{no-keyword, rest-here}
 use Rattle.language.specs.Instructions.{operation}
 use Rattle.language.specs.Program.{Op}
 use Rattle.lexer.specs.declared.Token.{Token}
 use Rattle.lexer.specs.Tokens.{item-of, Next-token}
 use Rattle.lexer.proofs.Finding.{is-sort}
-use Rattle.lists.specs.ListLaws.{all-keep}
-use Rattle.statements.specs.LowestLaws.{fault-first}
-use Rattle.statements.specs.declared.Fault.the-variants.{Clear, At}
-use Rattle.statements.specs.PlaceLaws.{stands-from, all-from, statement-from, places-from}
+use Rattle.statements.specs.declared.Fault.the-variants.{Clear}
 use Rattle.statements.specs.StatementAt.{statement-at, stops, fault-of}
-use Rattle.statements.specs.StatementLaws.{at-stop, at-item, on}
+use Rattle.statements.specs.StatementLaws.{at-item}
 use Rattle.syntax.specs.ArgumentForms.{arguments-in, most}
 use Rattle.syntax.specs.Items.{Item, is, places}
 use Rattle.syntax.specs.Items.Sort.{colon}
@@ -35,51 +30,11 @@ use Rattle.words.specs.Keywords.{told}
 abbrev pub is-argument : Item → Bool
 is-argument i = not (is colon i)
 
-pub arguments-from : (s : List ℕ) (p n : ℕ) → p ≤ n → T (all-from p (arguments-in (statement-at s n)))
-arguments-from s p n h = all-keep (stands-from p) is-argument (statement-at s n) (statement-from s n p h)
-
 module _ {s : List ℕ} {n : ℕ} {t : Token} (k : Next-token s n t) (z : stops (t .sort) ≡ false) where
   pub arguments-on : arguments-in (statement-at s n) ≡ cond (not (eqb 2 (t .sort))) (item-of s t ∷ arguments-in (statement-at s (t .next))) (arguments-in (statement-at s (t .next)))
   arguments-on =
       ap arguments-in (at-item k z)
       ∙ ap (λ b. cond (not b) (item-of s t ∷ arguments-in (statement-at s (t .next))) (arguments-in (statement-at s (t .next)))) (is-sort colon (k .stands))
-
-module _ {s : List ℕ} {n : ℕ} {t : Token} (m : ℕ) (k : Next-token s n t) where
-  pub arguments-end : stops (t .sort) ≡ true → fault-of (places (drop m (arguments-in (statement-at s n)))) ≡ Clear
-  arguments-end z = ap (λ js. fault-of (places (drop m (arguments-in js)))) (at-stop k z) ∙ ap (λ js. fault-of (places js)) (drop-nil m)
-
-  module _ (z : stops (t .sort) ≡ false) where
-    abbrev js : List Item
-    js = arguments-in (statement-at s (t .next))
-
-    pub argument-here : (not (eqb 2 (t .sort)) && eqb m 0) ≡ true → fault-of (places (drop m (arguments-in (statement-at s n)))) ≡ At (t .at)
-    argument-here e =
-        ap (λ xs. fault-of (places xs)) (ap (drop m) (arguments-on k z) ∙ first-passed (not (eqb 2 (t .sort))) (item-of s t) js m e)
-        ∙ fault-first (t .at) (places js) (places-from (t .at) js (arguments-from s (t .at) (t .next) (omega (arith, k .stands .own, k .stands .behind))))
-
-    pub argument-passed : (not (eqb 2 (t .sort)) && eqb m 0) ≡ false
-        → drop m (arguments-in (statement-at s n)) ≡ drop (m - cond (not (eqb 2 (t .sort))) 1 0) (arguments-in (statement-at s (t .next)))
-    argument-passed e = ap (drop m) (arguments-on k z) ∙ passed-over (not (eqb 2 (t .sort))) (item-of s t) js m e
-
--- of the arguments from n on, c stand before place i
-pub record Counting (s : List ℕ) (n i c : ℕ) : Type 0 where
-  pub most : i ≤ length s
-  pub few : c ≤ i
-  pub is : length (arguments-in (statement-at s n)) ≡ c + length (arguments-in (statement-at s i))
-
-pub counting-first : {s : List ℕ} {n : ℕ} → n ≤ length s → Counting s n n 0
-counting-first h = record { most = h; few = omega arith; is = omega arith }
-
-module _ {s : List ℕ} {n i c : ℕ} {t : Token} (l : Counting s n i c) (k : Next-token s i t) where
-  pub counting-end : stops (t .sort) ≡ true → c ≡ length (arguments-in (statement-at s n))
-  counting-end z = omega (arith, l .is, ap (λ js. length (arguments-in js)) (at-stop k z))
-
-  pub counting-on : stops (t .sort) ≡ false → {c′ : ℕ} → c′ ≡ c + cond (not (eqb 2 (t .sort))) 1 0 → Counting s n (t .next) c′
-  counting-on z {c′} e =
-      let js : List Item = arguments-in (statement-at s (t .next)) in
-      let w : length (arguments-in (statement-at s i)) ≡ cond (not (eqb 2 (t .sort))) 1 0 + length js =
-      ap length (arguments-on k z) ∙ one-more (not (eqb 2 (t .sort))) (item-of s t) js in
-      record { most = k .stands .most; few = omega (arith, l .few, on k z, one-at-most (not (eqb 2 (t .sort))) {r = cond (not (eqb 2 (t .sort))) 1 0} refl); is = omega (arith, l .is, w, e) }
 
 -- the instruction of a keyword, by its number
 pub numbered : (o : Op) → 0 < operation o .number

@@ -2,7 +2,7 @@
 use mathlib.Core.Path.{_≡_, refl, ap, sym, _∙_, subst}
 use mathlib.Core.Bool.{Bool, true, false, cond, not, _||_}
 use mathlib.Core.List.{List, [], _∷_, _++_, map, map-append, append-assoc, append-nil}
-use Prim.Native.Nat.{ℕ, zero, suc, _+_, _-_, _≤_, _<_}
+use Prim.Native.Nat.{ℕ, zero, suc, _+_, _-_, _≤_, _<_, min}
 use native.Mathlib.Numerals.{add-one}
 use native.Mathlib.Decide.{decLt}
 use native.Mathlib.Omega.{arith}
@@ -10,6 +10,7 @@ use lib.Dec.{T, eqb, ltb}
 use lib.ListN.{length, drop, length-map, length-append}
 use lib.Seq.{drop-append-add}
 use borrow.Author.Tests.{eqb-true, ne-eqb, lt-ltb, le-ltb}
+use Rattle.statements.specs.Checks.{token-code}
 use Rattle.forms.specs.declared.Live.{Live}
 use Rattle.forms.specs.declared.Taken.{Taken}
 use Rattle.forms.specs.Forms.{most-of, least-of}
@@ -32,11 +33,13 @@ use Rattle.syntax.specs.ArgumentForms.{word-reads, reads, Argument, alternative
 use Rattle.syntax.specs.Items.{Item, is, places}
 use Rattle.syntax.specs.Items.Sort.{text}
 use Rattle.arguments.specs.declared.Arguments.{Arguments}
+use Rattle.arguments.specs.declared.Left.{Left}
 use Rattle.arguments.specs.declared.Value.{Value}
 use Rattle.arguments.specs.declared.Values.{Values}
-use Rattle.arguments.specs.Arguments.{read-from, argument-faults, instr-after, missing-or, Refusable, Refuses, Operates, Reads-arguments}
+use Rattle.arguments.specs.Arguments.{read-from, argument-faults, instr-after, missing-or, Reads-left, Refusable, Refuses, Operates, Reads-arguments}
 use Rattle.arguments.specs.ArgumentLaws.{Reading, reading-first, reading-on, place-listed, turned, missing, complete, few-of, items-end}
 use Rattle.arguments.specs.CountLaws.{arguments-on}
+use Rattle.arguments.specs.LeftLaws.{Passing, passing-first, passing-on, passed-worst, passed-end, worst-then, end-then}
 use Rattle.arguments.specs.Valued.{no-values, put-at, Stood, argument-of, First-value, Row, Ordered, Valued}
 
 -- ---- an argument that is listed is not in excess
@@ -155,14 +158,16 @@ pub record Before (s : List ℕ) (n : ℕ) (o : Op) (i : ℕ) (live : Live) (pla
   pub row : Row s xs v
   pub ordered : Ordered-before (map (λ a. a .item) xs) (statement-at s i)
 
-pub record Gathering (s : List ℕ) (n number i : ℕ) (live : Live) (place : ℕ) (v : Values) : Type 0 where
+pub record Gathering (s : List ℕ) (n number begun i : ℕ) (live : Live) (place : ℕ) (v : Values) (w : ℕ) : Type 0 where
+  pub passing : Passing s n begun i w
   pub reading : Reading s n number i live place
   pub below : place ≤ most-of number
   pub before : (o : Op) → operation o .number ≡ number → Before s n o i live place v
 
-pub gathering-first : {s : List ℕ} {t : Token} {number : ℕ} → Operates s t number → {v : Values} → v ≡ no-values → Gathering s (t .next) number (t .next) Live.Both 0 v
-gathering-first {s} {t} {number} g {v} e =
+pub gathering-first : {s : List ℕ} {t : Token} {number w : ℕ} → Operates s t number w → {v : Values} → v ≡ no-values → Gathering s (t .next) number w (t .next) Live.Both 0 v w
+gathering-first {s} {t} {number} {w} g {v} e =
     record {
+      passing = passing-first (g .stands .most) (g .known);
       reading = reading-first (g .stands .most);
       below = omega arith;
       before = λ o h. record {
@@ -176,7 +181,7 @@ gathering-first {s} {t} {number} g {v} e =
       };
     }
 
-module _ {s : List ℕ} {n m i : ℕ} {live : Live} {place : ℕ} {v : Values} (l : Gathering s n m i live place v) where
+module _ {s : List ℕ} {n m begun i : ℕ} {live : Live} {place : ℕ} {v : Values} {low : ℕ} (l : Gathering s n m begun i live place v low) where
   module _ (o : Op) (h : operation o .number ≡ m) where
     abbrev b : Before s n o i live place v
     b = l .before o h
@@ -211,9 +216,10 @@ module _ {s : List ℕ} {n m i : ℕ} {live : Live} {place : ℕ} {v : Values} (
     reads-so o h = subst T (sym (taken-reads (item-of s t) o place live (sym (ap (λ x. x .form) (by o h))) g)) tt
 
     pub gathering-on : (o : Op) → operation o .number ≡ m → t .colon ≡ 0 → {x : Value} → x .at ≡ t .at → Stood s (argument-of s t (b .form)) (x .argument) → {v′ : Values} → v′ ≡ put-at v place x
-        → Gathering s n m (t .next) (b .live) (place + 1) v′
-    gathering-on o₁ h₁ y {x} at-is w {v′} q =
+        → {low′ : ℕ} → low′ ≡ min low (token-code t) → Gathering s n m begun (t .next) (b .live) (place + 1) v′ low′
+    gathering-on o₁ h₁ y {x} at-is w {v′} q u =
         record {
+          passing = passing-on (l .passing) k z u;
           reading = reading-on (l .reading) k z c e f g y;
           below = omega (arith, not-over o₁ live place (item-of s t) (λ d. g (ap (λ u. u .form) (by o₁ h₁) ∙ d)), most-here o₁ h₁);
           before = λ o h. next o h;
@@ -274,14 +280,16 @@ module _ (number at count : ℕ) {least : ℕ} (e : least ≡ least-of number) (
   unfolding missing-or
   enough-arguments l = sym (ap (λ (b : Bool). cond b (At at) f) (le-ltb count (least-of number) (omega (arith, e, l))))
 
-pub refusing : {s : List ℕ} {at number place i p : ℕ} {before all count : ℕ} {over f : Fault} → before ≡ place → all ≡ most-of number
-    → over ≡ fault-of (places (drop (all - before) (arguments-in (statement-at s i)))) → count ≡ length (arguments-in (statement-at s i)) → f ≡ missing-or number at (before + count) (At p)
-    → {v : Values} → Refuses s at number place i p (record { over = over; fault = f; values = v })
-refusing {s} {at} {number} {place} {i} {p} {before} {all} {count} e q over-is count-is fault-is =
+pub refusing : {s : List ℕ} {at number place i p w : ℕ} {before all : ℕ} {left : Left} {f : Fault} → before ≡ place → all ≡ most-of number
+    → Reads-left s i (all - before) w left → f ≡ missing-or number at (before + left .count) (At p)
+    → {v : Values} → Refuses s at number place i p w (record { over = left .over; fault = f; values = v; worst = left .worst; next = left .next; last = left .last })
+refusing {s} {at} {number} {place} {i} {p} {w} {before} {all} {left} e q l fault-is =
     record {
-      over-is = over-is ∙ ap (λ (k : ℕ). fault-of (places (drop (k - before) (arguments-in (statement-at s i))))) q
+      over-is = l .over-is ∙ ap (λ (k : ℕ). fault-of (places (drop (k - before) (arguments-in (statement-at s i))))) q
           ∙ ap (λ (k : ℕ). fault-of (places (drop (most-of number - k) (arguments-in (statement-at s i))))) e;
-      fault-is = fault-is ∙ ap (λ (k : ℕ). missing-or number at (k + count) (At p)) e ∙ ap (λ (k : ℕ). missing-or number at (place + k) (At p)) count-is;
+      fault-is = fault-is ∙ ap (λ (k : ℕ). missing-or number at (k + left .count) (At p)) e ∙ ap (λ (k : ℕ). missing-or number at (place + k) (At p)) (l .count-is);
+      worst-is = l .worst-is;
+      ends = l .ends;
     }
 
 -- ---- the answers
@@ -292,10 +300,10 @@ drop-past zero (x ∷ xs) h = absurd (omega arith)
 drop-past (suc k) [] h = refl
 drop-past (suc k) (x ∷ xs) h = drop-past k xs (omega arith)
 
-module _ {s : List ℕ} {t : Token} {m : ℕ} (g : Operates s t m) {i : ℕ} {live : Live} {place : ℕ} {v : Values} (l : Gathering s (t .next) m i live place v) where
+module _ {s : List ℕ} {t : Token} {m begun : ℕ} (g : Operates s t m begun) {i : ℕ} {live : Live} {place : ℕ} {v : Values} {low : ℕ} (l : Gathering s (t .next) m begun i live place v low) where
   -- no item is left
   pub all-read : {u : Token} → Next-token s i u → stops (u .sort) ≡ true → {f : Fault} → f ≡ missing-or m (t .at) place Clear
-      → Reads-arguments s t m (record { over = Clear; fault = f; values = v })
+      → Reads-arguments s t m begun (record { over = Clear; fault = f; values = v; worst = low; next = u .next; last = eqb (u .sort) 0 })
   unfolding read-by
   all-read {u} k z {f} e =
       record {
@@ -316,20 +324,24 @@ module _ {s : List ℕ} {t : Token} {m : ℕ} (g : Operates s t m) {i : ℕ} {li
               ordered = subst Ordered (sym (b .items ∙ ap (λ (js : List Item). map (λ a. a .item) (b .xs) ++ js) none ∙ append-nil (map (λ a. a .item) (b .xs))))
                   (ordered-all (map (λ a. a .item) (b .xs)) (subst (Ordered-before (map (λ a. a .item) (b .xs))) none (b .ordered)));
             });
+        worst-is = passed-worst (l .passing) k z;
+        ends = passed-end (l .passing) k z;
       }
 
-  pub refusable : Refusable s m place i
-  refusable = record { inside = l .reading .most; low = g .low; below = l .below }
+  pub refusable : Refusable s m place i low
+  refusable = record { left = record { inside = l .reading .most; low = g .low; known = l .passing .known }; below = l .below }
 
   -- place p is at fault
-  pub refused : {p : ℕ} → ((o : Op) → operation o .number ≡ m → fault-of (argument-faults o live place (statement-at s i)) ≡ At p) → {r : Arguments} → Refuses s (t .at) m place i p r
-      → Reads-arguments s t m r
+  pub refused : {p : ℕ} → ((o : Op) → operation o .number ≡ m → fault-of (argument-faults o live place (statement-at s i)) ≡ At p) → {r : Arguments} → Refuses s (t .at) m place i p low r
+      → Reads-arguments s t m begun r
   unfolding missing-or
   refused {p} w {r} k =
       record {
         counted = λ o h. k .over-is ∙ ap (λ (js : List Item). fault-of (places js)) (sym (dropped-on l o h));
         judged = λ o h. k .fault-is ∙ judged-by (g .stands) o h (counted-on l o h) (sym (l .reading .is o h) ∙ w o h);
         values = λ q. absurd (never (ltb (place + length (arguments-in (statement-at s i))) (least-of m)) (sym (k .fault-is) ∙ q));
+        worst-is = worst-then (l .passing) (k .worst-is);
+        ends = end-then (l .passing) (k .ends);
       }
     where
       never : (b : Bool) → cond b (At (t .at)) (At p) ≡ Clear → ⊥

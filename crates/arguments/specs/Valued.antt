@@ -2,30 +2,34 @@
 use mathlib.Core.Path.{_≡_}
 use mathlib.Core.Bool.{Bool, true, false, cond, _&&_}
 use mathlib.Core.List.{List, [], _∷_, map}
-use Prim.Native.Nat.{ℕ, _+_, _/_, _%_, _≤_, _<_}
+use Prim.Native.Nat.{ℕ, _+_, _*_, _/_, _%_, _≤_, _<_}
 use lib.Dec.{T, eqb}
 use lib.ListN.{length, drop}
 use Rattle.drafts.specs.Drafting.{draft-arg}
+use Rattle.forms.specs.Kinds.{word-kinds, item-kinds}
 use Rattle.language.specs.Instructions.{operation}
 use Rattle.language.specs.Limits as limit
 use Rattle.language.specs.Program.{Arg, classes, Op}
-use Rattle.language.specs.Values.{amount, numeral, valueOf}
+use Rattle.language.specs.Values.{amount, numeral, valueOf, in-range}
+use Rattle.layout.specs.Cells.{code}
 use Rattle.layout.specs.Table.{class-mask}
 use Rattle.lexer.specs.declared.Token.{Token}
-use Rattle.lexer.specs.Tokens.{item-of, Stands}
+use Rattle.lexer.specs.Tokens.{item-of, word-of, Stands}
 use Rattle.lists.specs.Lists.{headOr}
 use Rattle.spelling.specs.Spelling.{text-in, Between}
 use Rattle.statements.specs.PlaceLaws.{all-from}
 use Rattle.statements.specs.StatementAt.{statement-at}
 use Rattle.syntax.specs.ArgumentForms as syntax
-use Rattle.syntax.specs.ArgumentForms.{reads, arguments}
+use Rattle.syntax.specs.ArgumentForms.{reads, is-indexed, arguments}
 use Rattle.syntax.specs.Items.{Item, is}
 use Rattle.syntax.specs.Items.Sort.{word, text}
 use Rattle.table.specs.declared.Argument.{Argument}
 use Rattle.table.specs.declared.Argument.the-variants.{Nothing, Indexed, Label, Switch, Class, Text, Number}
 use Rattle.table.specs.declared.Letter.{Letter}
 use Rattle.table.specs.Denote.{letter-of}
+use Rattle.words.specs.Words.{is-class, class-of}
 use Rattle.writing.specs.Writing.{no-program, IsNumber}
+use Rattle.arguments.specs.declared.Kind.{Kind}
 use Rattle.arguments.specs.declared.Value.{Value}
 use Rattle.arguments.specs.declared.Values.{Values}
 
@@ -123,6 +127,31 @@ pub record Letter-value (w : List ℕ) (r : Argument) : Type 0 where
   pub letter-is : letter-of letter ≡ syntax.letter-of (headOr 0 w)
   pub index-is : index ≡ amount 0 (drop 1 w)
   pub small : index < 256
+
+-- the own value x of a word: a number, a class or an indexed letter
+pub record Own-value (w : List ℕ) (x : Argument) : Type 0 where
+  pub number : T (numeral w && in-range (valueOf w)) → x ≡ Number (code (valueOf w))
+  pub class : T (is-class w) → x ≡ Class (class-of w)
+  pub letter : T (is-indexed w (syntax.letter-of (headOr 0 w))) → Letter-value w x
+
+pub record Word-kind (w : List ℕ) (r : Kind) : Type 0 where
+  pub set-is : r .set ≡ word-kinds w
+  pub own-is : Own-value w (r .own)
+
+pub record Found (s : List ℕ) (t : Token) : Type 0 where
+  pub stands : Stands s t
+  pub low : length s ≤ limit.text
+
+pub record Item-kind (s : List ℕ) (t : Token) (r : Kind) : Type 0 where
+  pub set-is : r .set ≡ item-kinds (item-of s t)
+  pub text-is : t .sort ≡ 4 → r .own ≡ Text (t .at * 65536 + t .end)
+  pub word-is : t .sort ≡ 1 → Own-value (word-of s t) (r .own)
+
+-- the value of an argument by the form that it is read by: the mark of a label or a switch, or its own value
+abbrev pub value-of : Token → ℕ → Argument → Argument
+value-of t form own =
+    let mark = t .at * 64 + t .len in
+    cond (eqb form 108) (Label mark) (cond (eqb form 119) (Switch mark) (cond (eqb form 120) (Switch mark) own))
 
 -- ---- a row of them
 

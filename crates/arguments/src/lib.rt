@@ -1,38 +1,28 @@
 // The arguments of an instruction: one pass over the items after its operator gives its faults and its arguments by value.
 ghost use mathlib.Core.Path.{_≡_};
-ghost use mathlib.Core.Bool.{_&&_};
-ghost use Prim.Native.Nat.{_≤_, _<_};
-ghost use lib.Dec.{T};
-ghost use lib.ListN.{length, drop};
-ghost use Rattle.forms.specs.Kinds.{item-kinds};
-ghost use Rattle.language.specs.Values.{numeral, valueOf, in-range};
-ghost use Rattle.layout.specs.Cells.{code};
-ghost use Rattle.lexer.specs.Tokens.{item-of, Stands};
-ghost use Rattle.lists.specs.Lists.{headOr};
-ghost use Rattle.statements.specs.StatementAt.{statement-at, fault-of};
-ghost use Rattle.syntax.specs.ArgumentForms.{arguments-in, is-indexed, letter-of};
-ghost use Rattle.syntax.specs.Items.{places};
-ghost use Rattle.table.specs.declared.Argument.the-variants.{Number};
-ghost use Rattle.arguments.specs.Arguments.{missing-or, Refusable, Refuses, Operates, Reads-arguments};
-ghost use Rattle.arguments.specs.Valued.{no-value, no-values, put-at, argument-of, Valuable, Letter-value, Stood};
+ghost use Prim.Native.Nat.{_≤_};
+ghost use Rattle.arguments.specs.Arguments.{with-excess, missing-or, Leaves, Reads-left, Refusable, Refuses, Operates, Reads-arguments};
+ghost use Rattle.arguments.specs.Valued.{no-value, no-values, put-at, value-of, Word-kind, Found, Item-kind};
 use cells::wide;
 use forms::Live;
-use forms::kinds_of;
 use forms::least;
+use forms::letter_bit;
 use forms::most;
 use forms::take_argument;
-use judging::less_one;
 use lexer::Token;
 use lexer::next_item;
 use scanner::COLON;
+use scanner::NOTHING;
 use scanner::TEXT;
 use scanner::WORD;
 use scanner::one_if;
 use statements::Fault;
+use statements::lower;
 use statements::stops;
+use statements::worse;
 use table::Argument;
 use table::letter_by;
-use words::Letter;
+use words::Lettered;
 use words::Numeral;
 
 // An argument and the place of its item. While a text is read, a label or a switch is the mark of its name, its place 64-fold and its length; and a text is
@@ -49,11 +39,30 @@ pub struct Values {
     pub third: Value,
 }
 
-// An instruction's arguments, and the lowest places at fault of questions 01 and 02. Where one of them has a fault, the values may be any.
+// An instruction's arguments, and the lowest places at fault of questions 01 and 02. Where one of them has a fault, the values may be any. Then questions 14
+// to 16 of its items, the place behind the end of its statement, and whether that is the last one.
 pub struct Arguments {
     pub over: Fault,
     pub fault: Fault,
     pub values: Values,
+    pub worst: usize,
+    pub next: usize,
+    pub last: bool,
+}
+
+// What is left of an instruction that is refused.
+struct Left {
+    over: Fault,
+    count: usize,
+    worst: usize,
+    next: usize,
+    last: bool,
+}
+
+// What an item reads as: the set of its forms; and its own value as a text, a number, a class or an indexed letter, otherwise Nothing.
+struct Kind {
+    set: u32,
+    own: Argument,
 }
 
 fn no_value() -> Value
@@ -65,7 +74,7 @@ fn no_value() -> Value
     }
 }
 
-pub fn no_values() -> Values
+fn no_values() -> Values
     ensures { λ r. ⌜ r ≡ no-values ⌝ }
 {
     Values {
@@ -107,67 +116,40 @@ fn with_value(v: Values, place: u8, at: usize, argument: Argument) -> Values
     }
 }
 
-// The place of the argument that `skip` others stand before, among the items from `n` on.
-fn argument_after(text: &[u8], n: usize, skip: usize) -> Fault
-    requires { ⌜ n ≤ length (now text) ⌝ }
-    ensures { λ r. ⌜ r ≡ fault-of (places (drop skip (arguments-in (statement-at (now (text .entry)) n)))) ⌝ }
+// The lowest place in excess so far, with one more where there is one.
+fn with_excess(over: Fault, more: bool, at: usize) -> Fault
+    ensures { λ r. ⌜ r ≡ with-excess over more at ⌝ }
 {
-    let mut left = skip;
-    let mut i = n;
-    loop {
-        let t = next_item(text, i);
-        if stops(t.sort) {
-            return Fault::Clear;
-        }
-        if !(COLON == t.sort) & (left == 0) {
-            return Fault::At(t.at);
-        }
-        left = less_one(left, !(COLON == t.sort));
-        i = t.next;
+    if more {
+        return lower(over, Fault::At(at));
     }
+    over
 }
 
-// How many arguments the items from `n` on are.
-fn count_arguments(text: &[u8], n: usize) -> usize
-    requires { ⌜ n ≤ length (now text) ⌝ }
-    ensures { λ r. ⌜ (r ≡ length (arguments-in (statement-at (now (text .entry)) n))) × (r ≤ length (now (text .entry))) ⌝ }
+// What the items from `n` on have: how many arguments they are, those in excess, where `skip` are not; questions 14 to 16; and the end of the statement.
+fn read_left(text: &[u8], n: usize, skip: usize, worst: usize) -> Left
+    requires { ⌜ Leaves (now text) n worst ⌝ }
+    ensures { λ r. ⌜ Reads-left (now (text .entry)) n skip worst r ⌝ }
 {
+    let mut over = Fault::Clear;
     let mut count: usize = 0;
+    let mut low = worst;
     let mut i = n;
     loop {
         let t = next_item(text, i);
         if stops(t.sort) {
-            return count;
+            return Left {
+                over: over,
+                count: count,
+                worst: low,
+                next: t.next,
+                last: t.sort == NOTHING,
+            };
         }
+        over = with_excess(over, !(COLON == t.sort) & (skip <= count), t.at);
         count = count + one_if(!(COLON == t.sort));
+        low = worse(low, t);
         i = t.next;
-    }
-}
-
-// The set of forms that an item reads as.
-fn kinds_at(text: &[u8], t: Token) -> u32
-    requires { ⌜ Stands (now text) t ⌝ }
-    ensures { λ r. ⌜ r ≡ item-kinds (item-of (now (text .entry)) t) ⌝ }
-{
-    let at = t.at;
-    let end = t.end;
-    if t.sort == TEXT {
-        return forms::TEXT;
-    }
-    if t.sort == WORD {
-        return kinds_of(&text[at..end]);
-    }
-    0
-}
-
-// The value of a word that is a number in range.
-fn number_value(w: &[u8]) -> Argument
-    requires { ⌜ T (numeral (now w) && in-range (valueOf (now w))) ⌝ }
-    ensures { λ r. ⌜ r ≡ Number (code (valueOf (now (w .entry)))) ⌝ }
-{
-    match words::number_of(w) {
-        Numeral::Not => Argument::Nothing,
-        Numeral::Code(code) => Argument::Number(code),
     }
 }
 
@@ -177,43 +159,78 @@ fn place_of(p: u8) -> u32
     p as u32
 }
 
-// The value of a word that is an indexed letter.
-fn letter_value(w: &[u8]) -> Argument
-    requires { ⌜ T (is-indexed (now w) (letter-of (headOr 0 (now w)))) ⌝ }
-    ensures { λ r. ⌜ Letter-value (now (w .entry)) r ⌝ }
+// What a word reads as.
+fn word_kind(w: &[u8]) -> Kind
+    ensures { λ r. ⌜ Word-kind (now (w .entry)) r ⌝ }
 {
-    match words::indexed(w) {
-        Letter::Not => Argument::Nothing,
-        Letter::At(place, n) => Argument::Indexed(letter_by(place_of(place)), wide(n)),
+    if words::identifier(w) {
+        if words::is_class(w) {
+            return Kind {
+                set: forms::NAMED_CLASS,
+                own: Argument::Class(words::class_mask(w)),
+            };
+        }
+        return match words::indexed(w) {
+            Lettered::At(place, n) => Kind {
+                set: forms::NAME + letter_bit(place),
+                own: Argument::Indexed(letter_by(place_of(place)), wide(n)),
+            },
+            Lettered::Not => Kind {
+                set: forms::NAME,
+                own: Argument::Nothing,
+            },
+        };
+    }
+    match words::number_of(w) {
+        Numeral::Code(code) => Kind {
+            set: forms::NUMBER,
+            own: Argument::Number(code),
+        },
+        Numeral::Not => Kind {
+            set: 0,
+            own: Argument::Nothing,
+        },
     }
 }
 
-// The value of an argument that reads as its form.
-fn value_at(text: &[u8], t: Token, form: u8) -> Argument
-    requires { ⌜ Valuable (now text) t form ⌝ }
-    ensures { λ r. ⌜ Stood (now (text .entry)) (argument-of (now (text .entry)) t form) r ⌝ }
+// What an item reads as.
+fn item_kind(text: &[u8], t: Token) -> Kind
+    requires { ⌜ Found (now text) t ⌝ }
+    ensures { λ r. ⌜ Item-kind (now (text .entry)) t r ⌝ }
 {
-    if form == b't' {
-        return Argument::Text(t.at * 65536 + t.end);
-    }
-    if form == b'l' {
-        return Argument::Label(t.at * 64 + t.len);
-    }
-    if form == b'w' {
-        return Argument::Switch(t.at * 64 + t.len);
-    }
-    if form == b'x' {
-        return Argument::Switch(t.at * 64 + t.len);
-    }
     let at = t.at;
     let end = t.end;
-    if form == b'n' {
-        return number_value(&text[at..end]);
+    if t.sort == TEXT {
+        return Kind {
+            set: forms::TEXT,
+            own: Argument::Text(at * 65536 + end),
+        };
     }
-    if form == b'c' {
-        return Argument::Class(words::class_mask(&text[at..end]));
+    if t.sort == WORD {
+        return word_kind(&text[at..end]);
     }
-    letter_value(&text[at..end])
+    Kind {
+        set: 0,
+        own: Argument::Nothing,
+    }
+}
+
+// The value of an argument by the form that it is read by: the mark of a name, or its own value.
+fn value_by(t: Token, form: u8, own: Argument) -> Argument
+    requires { ⌜ (t .at ≤ 32768) × (t .len ≤ 32768) ⌝ }
+    ensures { λ r. ⌜ r ≡ value-of t form own ⌝ }
+{
+    let mark = t.at * 64 + t.len;
+    if form == b'l' {
+        return Argument::Label(mark);
+    }
+    if form == b'w' {
+        return Argument::Switch(mark);
+    }
+    if form == b'x' {
+        return Argument::Switch(mark);
+    }
+    own
 }
 
 // The operator's place, where there are fewer arguments than an instruction needs; otherwise `fault`.
@@ -227,29 +244,33 @@ fn missing_or(op: u8, at: usize, count: usize, fault: Fault) -> Fault
 }
 
 // Place `p` is at fault among the items from `i` on, which `place` arguments stand before; the operator stands at `at`.
-fn refuse(text: &[u8], at: usize, op: u8, place: u8, i: usize, p: usize) -> Arguments
-    requires { ⌜ Refusable (now text) op place i ⌝ }
-    ensures { λ r. ⌜ Refuses (now (text .entry)) at op place i p r ⌝ }
+fn refuse(text: &[u8], at: usize, op: u8, place: u8, i: usize, p: usize, worst: usize) -> Arguments
+    requires { ⌜ Refusable (now text) op place i worst ⌝ }
+    ensures { λ r. ⌜ Refuses (now (text .entry)) at op place i p worst r ⌝ }
 {
     let before = wide(place);
-    let over = argument_after(text, i, wide(most(op)) - before);
-    let count = before + count_arguments(text, i);
+    let left = read_left(text, i, wide(most(op)) - before, worst);
+    let over = left.over;
     Arguments {
         over: over,
-        fault: missing_or(op, at, count, Fault::At(p)),
+        fault: missing_or(op, at, before + left.count, Fault::At(p)),
         values: no_values(),
+        worst: left.worst,
+        next: left.next,
+        last: left.last,
     }
 }
 
-// The arguments of the instruction with the operator `t` of a number, and its questions 01 and 02.
-pub fn read_arguments(text: &[u8], t: Token, op: u8) -> Arguments
-    requires { ⌜ Operates (now text) t op ⌝ }
-    ensures { λ r. ⌜ Reads-arguments (now (text .entry)) t op r ⌝ }
+// The arguments of the instruction with the operator `t` of a number, and its questions 01 and 02; `worst` is that of the items up to the operator.
+pub fn read_arguments(text: &[u8], t: Token, op: u8, worst: usize) -> Arguments
+    requires { ⌜ Operates (now text) t op worst ⌝ }
+    ensures { λ r. ⌜ Reads-arguments (now (text .entry)) t op worst r ⌝ }
 {
     let at = t.at;
     let mut live = Live::Both;
     let mut place: u8 = 0;
     let mut values = no_values();
+    let mut low = worst;
     let mut i = t.next;
     loop {
         let u = next_item(text, i);
@@ -258,22 +279,28 @@ pub fn read_arguments(text: &[u8], t: Token, op: u8) -> Arguments
                 over: Fault::Clear,
                 fault: missing_or(op, at, wide(place), Fault::Clear),
                 values: values,
+                worst: low,
+                next: u.next,
+                last: u.sort == NOTHING,
             };
         }
         if u.sort == COLON {
-            return refuse(text, at, op, place, i, u.at);
+            return refuse(text, at, op, place, i, u.at, low);
         }
-        let a = take_argument(op, live, place, kinds_at(text, u));
+        let k = item_kind(text, u);
+        let a = take_argument(op, live, place, k.set);
         if a.form == b'-' {
-            return refuse(text, at, op, place, i, u.at);
+            return refuse(text, at, op, place, i, u.at, low);
         }
         if u.colon != 0 {
-            return refuse(text, at, op, place, i, u.colon);
+            return refuse(text, at, op, place, i, u.colon, low);
         }
-        let x = value_at(text, u, a.form);
+        let own = k.own;
+        let x = value_by(u, a.form, own);
         values = with_value(values, place, u.at, x);
         live = a.live;
         place += 1;
+        low = worse(low, u);
         i = u.next;
     }
 }

@@ -11,7 +11,7 @@ use Rattle.arguments.specs.declared.Value.{Value}
 use Rattle.arguments.specs.declared.Values.{Values}
 use Rattle.cells.specs.Cells.{Number}
 use Rattle.drafts.specs.Drafting.{draft-arg}
-use Rattle.drafts.specs.Marks.{place-by}
+use Rattle.drafts.specs.Marks.{place-by, marks-in}
 use Rattle.language.specs.Instructions.{operator-of}
 use Rattle.language.specs.Limits as limit
 use Rattle.language.specs.Program.{Arg, Label, Program}
@@ -19,7 +19,6 @@ use Rattle.language.specs.Program.Arg.{nothing}
 use Rattle.layout.specs.ArgumentLaws.{operator-below}
 use Rattle.layout.specs.Bounds.{Each}
 use Rattle.layout.specs.Cells.{cell}
-use Rattle.lexer.specs.declared.Token.{Token}
 use Rattle.packed.specs.Packed.{table-of}
 use Rattle.statements.specs.StatementAt.{statement-at, fault-of}
 use Rattle.statements.specs.declared.Fault.{Fault}
@@ -32,7 +31,8 @@ use Rattle.writing.specs.Writing.{HoldsProgram, kept-arg, Changes, Writes, Inst
 use Rattle.writing.proofs.Adding.{kept-same}
 use Rattle.writing.proofs.Held.{code-count, label-count}
 use Rattle.argument_cells.specs.ArgumentCells.{Right-argument, Drafts, Cell-asked, CellOf}
-use Rattle.declaring.specs.Declaring.{marks-in, with-labels, labels-by, Labelling, Judges, Judges-values, Judgeable, instr-excess, texts-excess, numbers-excess, with-values, draft-args, new-instr, with-labelled, Right-values, Writable, Writes-values, Declarable, Declares}
+use Rattle.declaring.specs.Declaring.{with-labels, labels-by, Labelling, Judges, Judges-values, Judgeable, instr-excess, texts-excess, numbers-excess, with-values, draft-args, new-instr, with-labelled, Right-values, Writable, Writes-values, Declarable, Declares-values}
+use Rattle.declaring.specs.declared.Instruction.{Instruction}
 
 -- ---- the instruction
 
@@ -89,7 +89,13 @@ module _ {s : List ℕ} {n number : ℕ} {v : Values} (g : Right-values s n numb
   third-drafts : Drafts s (v .third .argument) (nth-arg args 2)
   third-drafts = subst (Drafts s (v .third .argument)) (third-arg args) (value-drafts s (drop 2 args) (v .third) (two-right args (g .right)) (row .third))
 
-module _ {s : List ℕ} {v : Values} {number line : ℕ} {ms : List ℕ} {a b : ℕ} {c : List ℕ} (pre : Writable s v number line ms a b c) where
+module _ {s : List ℕ} {i : Instruction} {ms : List ℕ} {a b : ℕ} {c : List ℕ} (pre : Writable s i ms a b c) where
+  abbrev v : Values
+  v = i .values
+
+  abbrev number : ℕ
+  number = i .number
+
   pub labelling : {target : ℕ} → target ≡ cell (table-of c) 0 → Labelling s ms a b target c
   labelling e = record { named = pre .named; held = pre .held; room = pre .label-room; low = omega (arith, e, pre .code-room) }
 
@@ -117,7 +123,7 @@ module _ {s : List ℕ} {v : Values} {number line : ℕ} {ms : List ℕ} {a b : 
     code-then = code-count d (labelled (pre .held .program)) labels-held ∙ sym (code-count c (pre .held .program) (pre .held .holds))
 
     module _ {o x y z : ℕ} (w : Number number 256 o) (f : CellOf s (v .first .argument) d x) (g : CellOf s (v .second .argument) d y) (k : CellOf s (v .third .argument) d z) where
-      pub instr-room : InstrRoom d o line x y z
+      pub instr-room : InstrRoom d o (i .line) x y z
       instr-room =
           record {
             long = labels-held .long;
@@ -129,16 +135,16 @@ module _ {s : List ℕ} {v : Values} {number line : ℕ} {ms : List ℕ} {a b : 
             z-most = omega (arith, k _ (third-drafts (pre .values)) .most);
           }
 
-      pub instr-written : {d′ : List ℕ} → Writes (IsInstr o line x y z) with-instr d d′ → Writes-values s v number line (marks-in ms a b) c d′
+      pub instr-written : {d′ : List ℕ} → Writes (IsInstr o (i .line) x y z) with-instr d d′ → Writes-values s i (marks-in ms a b) c d′
       unfolding with-labelled
       instr-written {d′} u n q₁ =
           record {
             holds = λ p q r.
                 let t : target ≡ length (p .code) = e ∙ code-count c p q in
                 let l : HoldsProgram d (labelled p) = h .holds p q in
-                let i = new-instr s n number line in
-                let m : HoldsProgram d′ (with-instr i (labelled p)) =
-                u .holds i (labelled p) l (record {
+                let j = new-instr s n number (i .line) in
+                let m : HoldsProgram d′ (with-instr j (labelled p)) =
+                u .holds j (labelled p) l (record {
                   op-is = w .is ∙ sym (q₁ .numbered);
                   line-is = refl;
                   first-is = f _ (first-drafts q₁) .is (labelled p) l;
@@ -150,7 +156,7 @@ module _ {s : List ℕ} {v : Values} {number line : ℕ} {ms : List ℕ} {a b : 
                     third = kept-at p (labels-by s target (marks-in ms a b)) (draft-args s n number) 2 r;
                   };
                 }) in
-                subst (λ (j : ℕ). HoldsProgram d′ (with-instr i (with-labels (labels-by s j (marks-in ms a b)) p))) t m;
+                subst (λ (k : ℕ). HoldsProgram d′ (with-instr j (with-labels (labels-by s k (marks-in ms a b)) p))) t m;
             beyond-same = u .beyond ∙ h .beyond;
           }
 
@@ -160,34 +166,37 @@ pub no-fault : (xs : List ℕ) → Clear ≡ fault-of xs → xs ≡ []
 no-fault [] e = refl
 no-fault (x ∷ xs) e = absurd (let y : _≡_ {A = ℕ} 0 1 = cc in omega arith)
 
-module _ {s : List ℕ} {op : Token} {number : ℕ} {v : Values} {line : ℕ} {ms : List ℕ} {a b : ℕ} {c : List ℕ} (pre : Declarable s op number v line ms a b c) where
-  abbrev valued : Valued s (statement-at s (op .next)) (arguments (operator-of number) (statement-at s (op .next))) v
-  valued = pre .values .read (operator-of number) (pre .values .numbered)
+module _ {s : List ℕ} {i : Instruction} {ms : List ℕ} {a b : ℕ} {c : List ℕ} (pre : Declarable s i ms a b c) where
+  valued : (n : ℕ) → Right-values s n (i .number) (i .values) → Valued s (statement-at s n) (arguments (operator-of (i .number)) (statement-at s n)) (i .values)
+  valued n g = g .read (operator-of (i .number)) (g .numbered)
 
-  pub judgeable : Judgeable s v ms a b c
+  pub judgeable : Judgeable s (i .values) ms a b c
   judgeable =
       record {
         over = record { held = pre .held; most = pre .named .most; low = pre .index-low };
-        enterable = record { items = _; args = _; valued = valued; short = pre .short; held = pre .held };
+        enterable = record { items = _; args = _; valued = valued (pre .next) (pre .values); short = pre .short; held = pre .held };
       }
 
-  module _ {r : Fault} {d : List ℕ} (told : Judges-values s (op .at) v (marks-in ms a b) c r d) where
-    abbrev h : Judges s (op .at) (op .next) (marks-in ms a b) c r d
-    h = told (op .next) _ valued
+  module _ {r : Fault} {d : List ℕ} (told : Judges-values s (i .at) (i .values) (marks-in ms a b) c r d) where
+    judges : (n : ℕ) → Right-values s n (i .number) (i .values) → Judges s (i .at) n (marks-in ms a b) c r d
+    judges n g = told n _ (valued n g)
 
-    pub declared-none : {p : ℕ} → r ≡ At p → Declares s op number line (marks-in ms a b) c (At p) d
-    declared-none {p} e =
+    pub declared-none : {p : ℕ} → r ≡ At p → Declares-values s i (marks-in ms a b) c (At p) d
+    declared-none {p} e n g =
         record {
-          told = λ q g. sym e ∙ h .told q g;
+          told = λ q k. sym e ∙ judges n g .told q k;
           holds = λ f. absurd (let y : _≡_ {A = ℕ} 0 1 = cc in omega arith);
-          beyond-same = h .beyond-same;
+          beyond-same = judges n g .beyond-same;
         }
 
     module _ (e : r ≡ Clear) where
       abbrev p : Program
       p = pre .held .program
 
-      entered : HoldsProgram d (with-values s (op .next) p)
+      abbrev h : Judges s (i .at) (pre .next) (marks-in ms a b) c r d
+      h = judges (pre .next) (pre .values)
+
+      entered : HoldsProgram d (with-values s (pre .next) p)
       entered = h .holds e p (pre .held .holds)
 
       record Rooms : Type 0 where
@@ -197,15 +206,15 @@ module _ {s : List ℕ} {op : Token} {number : ℕ} {v : Values} {line : ℕ} {m
       rooms : Rooms
       unfolding instr-excess
       rooms =
-          let x = beyond limit.instructions (length (p .code)) (op .at ∷ []) in
+          let x = beyond limit.instructions (length (p .code)) (i .at ∷ []) in
           let y = beyond limit.labels (length (p .labels)) (map place-by (marks-in ms a b)) in
-          let z = texts-excess s (op .next) p in
-          let w = numbers-excess s (op .next) p in
+          let z = texts-excess s (pre .next) p in
+          let w = numbers-excess s (pre .next) p in
           let f = no-fault (x ++ y ++ z ++ w) (sym e ∙ h .told p (pre .held .holds)) in
           let g = append-none x y (append-none (x ++ y) z (append-none (x ++ y ++ z) w f .0) .0) in
           let most = pre .held .holds .tabular in
           record {
-            code = omega (arith, drop-none (512 - length (p .code)) (op .at ∷ []) (g .0));
+            code = omega (arith, drop-none (512 - length (p .code)) (i .at ∷ []) (g .0));
             labels =
                 omega (
                   arith,
@@ -218,24 +227,23 @@ module _ {s : List ℕ} {op : Token} {number : ℕ} {v : Values} {line : ℕ} {m
                 );
           }
 
-      pub writable : Writable s v number line ms a b d
+      pub writable : Writable s i ms a b d
       unfolding with-values Rattle.entering.specs.Entering.set-numbers Rattle.entering.specs.Entering.set-texts
       writable =
           record {
-            next = op .next;
+            next = pre .next;
             values = pre .values;
-            held = record { program = with-values s (op .next) p; holds = entered };
+            held = record { program = with-values s (pre .next) p; holds = entered };
             named = pre .named;
-            code-room = omega (arith, code-count d (with-values s (op .next) p) entered, rooms .code);
-            label-room = omega (arith, label-count d (with-values s (op .next) p) entered, rooms .labels);
+            code-room = omega (arith, code-count d (with-values s (pre .next) p) entered, rooms .code);
+            label-room = omega (arith, label-count d (with-values s (pre .next) p) entered, rooms .labels);
             line-most = pre .line-most;
           }
 
-      pub declared : {d′ : List ℕ} → Writes-values s v number line (marks-in ms a b) d d′ → Declares s op number line (marks-in ms a b) c Clear d′
-      declared k₁ =
-          let w = k₁ (op .next) (pre .values) in
+      pub declared : {d′ : List ℕ} → Writes-values s i (marks-in ms a b) d d′ → Declares-values s i (marks-in ms a b) c Clear d′
+      declared w n g =
           record {
-            told = λ q g. sym e ∙ h .told q g;
-            holds = λ f q g k. w .holds (with-values s (op .next) q) (h .holds e q g) k;
-            beyond-same = w .beyond-same ∙ h .beyond-same;
+            told = λ q k. sym e ∙ judges n g .told q k;
+            holds = λ f q k l. w n g .holds (with-values s n q) (judges n g .holds e q k) l;
+            beyond-same = w n g .beyond-same ∙ judges n g .beyond-same;
           }

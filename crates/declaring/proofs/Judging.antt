@@ -3,14 +3,14 @@ use mathlib.Core.Path.{_≡_, refl, sym, ap, _∙_, subst}
 use mathlib.Core.List.{List, [], _∷_, _++_, map}
 use Prim.Native.Nat.{ℕ, zero, suc, _+_, _-_, _≤_, _<_}
 use native.Mathlib.Omega.{arith}
-use lib.ListN.{length, getD, take, drop, length-drop}
-use lib.Seq.{take-suc, getD-drop, drop-drop}
+use lib.ListN.{length, take, drop}
+use lib.Seq.{drop-drop}
 use Rattle.arguments.specs.Valued.{Valued}
 use Rattle.arguments.specs.declared.Values.{Values}
-use Rattle.drafts.specs.Marks.{place-by}
+use Rattle.drafts.specs.Marks.{place-by, marks-in}
 use Rattle.entering.specs.Entering.{Enters, Some-values, Texts-entered, Numbers-entered, long-text, large-number, set-texts, set-numbers}
-use Rattle.faults.specs.Faults.{lower}
-use Rattle.faults.specs.FaultLaws.{fault-both, lower-clear}
+use Rattle.statements.specs.Faults.{lower}
+use Rattle.statements.specs.FaultLaws.{fault-both, lower-clear}
 use Rattle.language.specs.Limits as limit
 use Rattle.language.specs.Program.{Program}
 use Rattle.language.specs.Values.{sameNumber}
@@ -23,53 +23,7 @@ use Rattle.syntax.specs.Questions.{beyond}
 use Rattle.syntax.specs.Tables.{number-in}
 use Rattle.syntax.specs.Verdict.{lowest}
 use Rattle.writing.specs.Writing.{HoldsProgram}
-use Rattle.declaring.specs.Declaring.{marks-in, texts-excess, numbers-excess, Labels-told, Instr-told, instr-excess, with-values, Judgeable, Judges, Judges-values}
-
--- ---- the marks one by one
-
-module _ (ms : List ℕ) (a b : ℕ) (most : b ≤ length ms) where
-  -- those up to index k
-  pub marks-more : (k : ℕ) → a ≤ k → k < b → marks-in ms a (k + 1) ≡ marks-in ms a k ++ (getD ms k 0 ∷ [])
-  marks-more k l h =
-      let e : k + 1 - a ≡ suc (k - a) = omega arith in
-      let q : a + (k - a) ≡ k = omega arith in
-      ap (λ (m : ℕ). take m (drop a ms)) e
-      ∙ take-suc (drop a ms) (k - a) 0 (omega (arith, length-drop a ms))
-      ∙ ap (λ (m : ℕ). take (k - a) (drop a ms) ++ (m ∷ [])) (getD-drop a ms (k - a) 0 ∙ ap (λ (m : ℕ). getD ms m 0) q)
-
-  pub marks-none : marks-in ms a a ≡ []
-  marks-none = let e : a - a ≡ 0 = omega arith in ap (λ (m : ℕ). take m (drop a ms)) e
-
--- place k is reached, and low is the lowest up to it
-pub record Lowest (ms : List ℕ) (a b k : ℕ) (low : Fault) : Type 0 where
-  pub from : a ≤ k
-  pub most : k ≤ a + (b - a)
-  pub is : low ≡ fault-of (map place-by (marks-in ms a k))
-
-module _ (ms : List ℕ) (a b : ℕ) (most : b ≤ length ms) where
-  pub lowest-first : Lowest ms a b a Clear
-  lowest-first = record { from = omega arith; most = omega arith; is = sym (ap (λ (xs : List ℕ). fault-of (map place-by xs)) (marks-none ms a b most)) }
-
-  module _ {k : ℕ} {low : Fault} (h : Lowest ms a b k low) where
-    pub lowest-done : b ≤ k → low ≡ fault-of (map place-by (marks-in ms a b))
-    lowest-done l = let e : k - a ≡ b - a = omega (arith, h .from, h .most) in h .is ∙ ap (λ (m : ℕ). fault-of (map place-by (take m (drop a ms)))) e
-
-    pub lowest-more : k < b → {p : ℕ} {r : Fault} → p ≡ getD ms k 0 → r ≡ lower low (At (place-by p)) → Lowest ms a b (k + 1) r
-    unfolding lowest
-    lowest-more l {p} {r} e f =
-        record {
-          from = omega (arith, h .from);
-          most = omega (arith, h .from, h .most);
-          is = f ∙ ap (λ (x : Fault). lower x (At (place-by p))) (h .is)
-              ∙ ap (λ (m : ℕ). lower (fault-of (map place-by (marks-in ms a k))) (At (place-by m))) e
-              ∙ sym (fault-both (map place-by (marks-in ms a k)) (place-by (getD ms k 0) ∷ []))
-              ∙ ap fault-of (sym (mapped (marks-in ms a k) (getD ms k 0)))
-              ∙ ap (λ (xs : List ℕ). fault-of (map place-by xs)) (sym (marks-more ms a b most k (h .from) l));
-        }
-      where
-        mapped : (xs : List ℕ) (m : ℕ) → map place-by (xs ++ (m ∷ [])) ≡ map place-by xs ++ (place-by m ∷ [])
-        mapped [] m = refl
-        mapped (x ∷ xs) m = ap (λ (ys : List ℕ). place-by x ∷ ys) (mapped xs m)
+use Rattle.declaring.specs.Declaring.{texts-excess, numbers-excess, Labels-told, Instr-told, instr-excess, with-values, Judgeable, Judges, Judges-values}
 
 -- ---- labels and instructions in excess
 

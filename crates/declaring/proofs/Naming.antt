@@ -4,7 +4,7 @@ use mathlib.Core.List.{List, [], _∷_, _++_, map, append-assoc, append-nil}
 use Prim.Native.Nat.{ℕ, _+_, _-_, _/_, _%_, _≤_, _<_}
 use native.Mathlib.Omega.{arith}
 use lib.ListN.{length, getD, take, drop, length-append, length-map, length-take, length-drop}
-use Rattle.drafts.specs.Marks.{length-by, word-by, Marked}
+use Rattle.drafts.specs.Marks.{length-by, word-by, Marked, marks-in}
 use Rattle.entering.specs.Entering.{Held}
 use Rattle.language.specs.Limits as limit
 use Rattle.language.specs.Program.{Label, Program}
@@ -12,8 +12,8 @@ use Rattle.layout.specs.Cells.{cell}
 use Rattle.packed.specs.Packed.{table-of}
 use Rattle.writing.specs.Writing.{HoldsProgram, Changes, LabelRoom, with-label, label-of}
 use Rattle.writing.proofs.Held.{label-count}
-use Rattle.declaring.specs.Declaring.{marks-in, with-labels, labels-by, Nameable, Labelling}
-use Rattle.declaring.proofs.Judging.{marks-more, marks-none}
+use Rattle.declaring.specs.Declaring.{with-labels, labels-by, Nameable, Labelling}
+use Rattle.names.proofs.Lowest.{marks-more, marks-none}
 
 -- ---- one mark
 

@@ -3,7 +3,7 @@ use mathlib.Core.Path.{_≡_}
 use mathlib.Core.List.{List, [], _∷_, _++_, map}
 use Prim.Native.Nat.{ℕ, _+_, _-_, _≤_, _<_}
 use lib.Dec.{T}
-use lib.ListN.{length, getD, take, drop}
+use lib.ListN.{length, getD, drop}
 use Rattle.arguments.specs.Valued.{Valued, Values-read}
 use Rattle.arguments.specs.declared.Values.{Values}
 use Rattle.drafts.specs.Drafting.{draft-arg}
@@ -15,7 +15,6 @@ use Rattle.language.specs.Program.{Arg, Instr, Label, Program}
 use Rattle.language.specs.Values.{sameNumber}
 use Rattle.layout.specs.Bounds.{Each}
 use Rattle.layout.specs.Cells.{cell}
-use Rattle.lexer.specs.declared.Token.{Token}
 use Rattle.lists.specs.Lists.{sameBytes}
 use Rattle.packed.specs.Packed.{table-of}
 use Rattle.statements.specs.StatementAt.{statement-at, fault-of}
@@ -26,10 +25,7 @@ use Rattle.syntax.specs.Questions.{beyond}
 use Rattle.syntax.specs.Tables.{number-in}
 use Rattle.writing.specs.Writing.{HoldsProgram, kept-arg, label-of, with-instr}
 use Rattle.argument_cells.specs.ArgumentCells.{Right-argument}
-
--- the marks from index a to index b
-abbrev pub marks-in : List ℕ → ℕ → ℕ → List ℕ
-marks-in ms a b = take (b - a) (drop a ms)
+use Rattle.declaring.specs.declared.Instruction.{Instruction}
 
 -- labels come to a program
 unfoldable pub with-labels : List Label → Program → Program
@@ -126,33 +122,38 @@ pub record Right-values (s : List ℕ) (n number : ℕ) (v : Values) : Type 0 wh
   pub read : Values-read s n number v
   pub right : Each Right-argument (arguments (operator-of number) (statement-at s n))
 
-pub record Writable (s : List ℕ) (v : Values) (number line : ℕ) (ms : List ℕ) (a b : ℕ) (c : List ℕ) : Type 0 where
+pub record Writable (s : List ℕ) (i : Instruction) (ms : List ℕ) (a b : ℕ) (c : List ℕ) : Type 0 where
   pub next : ℕ
-  pub values : Right-values s next number v
+  pub values : Right-values s next (i .number) (i .values)
   pub held : Held c
   pub named : Named s ms a b
   pub code-room : cell (table-of c) 0 < limit.instructions
   pub label-room : cell (table-of c) 1 + (b - a) ≤ limit.labels
-  pub line-most : line ≤ limit.text
+  pub line-most : i .line ≤ limit.text
 
 pub record WritesInstr (s : List ℕ) (n number line : ℕ) (ms c d : List ℕ) : Type 0 where
   pub holds : (p : Program) → HoldsProgram c p → Kept-args s n number p → HoldsProgram d (with-labelled s n number line ms p)
   pub beyond-same : drop limit.table d ≡ drop limit.table c
 
-abbrev pub Writes-values : List ℕ → Values → ℕ → ℕ → List ℕ → List ℕ → List ℕ → Type 0
-Writes-values s v number line ms c d = (n : ℕ) → Right-values s n number v → WritesInstr s n number line ms c d
+abbrev pub Writes-values : List ℕ → Instruction → List ℕ → List ℕ → List ℕ → Type 0
+Writes-values s i ms c d = (n : ℕ) → Right-values s n (i .number) (i .values) → WritesInstr s n (i .number) (i .line) ms c d
 
--- what the questions up to 02 gave, of the operator's token, its values and the marks of its labels
-pub record Declarable (s : List ℕ) (op : Token) (number : ℕ) (v : Values) (line : ℕ) (ms : List ℕ) (a b : ℕ) (c : List ℕ) : Type 0 where
+-- what the questions up to 02 gave, of an instruction whose items after the operator begin at `next`, and of the marks of its labels
+pub record Declarable (s : List ℕ) (i : Instruction) (ms : List ℕ) (a b : ℕ) (c : List ℕ) : Type 0 where
+  pub next : ℕ
+  pub values : Right-values s next (i .number) (i .values)
   pub held : Held c
-  pub values : Right-values s (op .next) number v
-  pub line-most : line ≤ limit.text
+  pub line-most : i .line ≤ limit.text
   pub named : Named s ms a b
   pub index-low : a ≤ 32768
-  pub short : Each Short-item (statement-at s (op .next))
+  pub short : Each Short-item (statement-at s next)
 
-pub record Declares (s : List ℕ) (op : Token) (number line : ℕ) (ms c : List ℕ) (r : Fault) (d : List ℕ) : Type 0 where
-  pub told : (p : Program) → HoldsProgram c p → r ≡ fault-of (instr-excess s (op .at) (op .next) ms p)
-  pub holds : r ≡ Clear → (p : Program) → HoldsProgram c p → Kept-args s (op .next) number (with-values s (op .next) p)
-      → HoldsProgram d (with-labelled s (op .next) number line ms (with-values s (op .next) p))
+pub record Declares (s : List ℕ) (i : Instruction) (n : ℕ) (ms c : List ℕ) (r : Fault) (d : List ℕ) : Type 0 where
+  pub told : (p : Program) → HoldsProgram c p → r ≡ fault-of (instr-excess s (i .at) n ms p)
+  pub holds : r ≡ Clear → (p : Program) → HoldsProgram c p → Kept-args s n (i .number) (with-values s n p)
+      → HoldsProgram d (with-labelled s n (i .number) (i .line) ms (with-values s n p))
   pub beyond-same : drop limit.table d ≡ drop limit.table c
+
+-- wherever its items after the operator begin
+abbrev pub Declares-values : List ℕ → Instruction → List ℕ → List ℕ → Fault → List ℕ → Type 0
+Declares-values s i ms c r d = (n : ℕ) → Right-values s n (i .number) (i .values) → Declares s i n ms c r d

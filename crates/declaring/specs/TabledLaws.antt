@@ -41,6 +41,7 @@ use Rattle.syntax.specs.Tables.{Tables, contents, new-texts, new-numbers, numbe
 use Rattle.writing.specs.Writing as writing
 use Rattle.writing.specs.Writing.{HoldsProgram, kept-arg, label-of}
 use Rattle.declaring.specs.Declaring.{with-labels, labels-by, with-values, instr-excess, new-instr, with-labelled, Declares}
+use Rattle.declaring.specs.declared.Instruction.{Instruction}
 
 -- the statement x whose operator is the token o, with labels ls of the marks ms
 pub record Operated (s : List ℕ) (x : List Item) (o : Token) : Type 0 where
@@ -123,10 +124,16 @@ same-program {c} {d} {l} {m} {w} {t} {u} {n} {o} e f g h =
     ∙ ap (λ (x : List (List ℕ)). record { code = d; labels = m; switches = w; texts = x; numbers = n }) g
     ∙ ap (λ (x : List ℤ). record { code = d; labels = m; switches = w; texts = u; numbers = x }) h
 
-module _ (lines : List ℕ) (t : Tables) (op : Op) {s : List ℕ} {ls x : List Item} {o : Token} {ms : List ℕ} {number line : ℕ} (h : Operated s x o) (l : Labelled s ls ms)
-    (number-is : number ≡ operation op .number) (line-is : line ≡ line-at lines (o .at)) where
+module _ (lines : List ℕ) (t : Tables) (op : Op) (i : Instruction) {s : List ℕ} {ls x : List Item} {o : Token} {ms : List ℕ} (h : Operated s x o) (l : Labelled s ls ms)
+    (number-is : i .number ≡ operation op .number) (at-is : i .at ≡ o .at) (line-is : i .line ≡ line-at lines (o .at)) where
   abbrev p : Program
   p = draft-program lines t
+
+  abbrev number : ℕ
+  number = i .number
+
+  abbrev line : ℕ
+  line = i .line
 
   op-is : operator-of number ≡ op
   op-is = ap operator-of number-is ∙ operator-back op
@@ -152,16 +159,17 @@ module _ (lines : List ℕ) (t : Tables) (op : Op) {s : List ℕ} {ls x : List I
   unfolding with-labelled with-values set-numbers set-texts with-labels writing.with-instr draft-program with-instr
   program-is =
       same-program
-      (ap (λ (i : Instr). map (draft-instr lines) (t .code) ++ (i ∷ [])) instr-is ∙ sym (map-append (draft-instr lines) (t .code) (record { op = op; at = operator-at x; args = arguments op (rest x) } ∷ [])))
+      (ap (λ (j : Instr). map (draft-instr lines) (t .code) ++ (j ∷ [])) instr-is ∙ sym (map-append (draft-instr lines) (t .code) (record { op = op; at = operator-at x; args = arguments op (rest x) } ∷ [])))
       (ap (λ (xs : List Label). t .labels ++ xs)
       (ap (λ (k : ℕ). labels-by s k ms) (length-map (t .code) (draft-instr lines)) ∙ ap (labels-by s (length (t .code))) (l .marks) ∙ mark-labels s (length (t .code)) ls (l .spelt)))
       (ap (λ (js : List Item). t .texts ++ contents (new-texts t js)) (sym (h .rest-is)))
       (ap (λ (js : List Item). t .numbers ++ map number-in (new-numbers t js)) (sym (h .rest-is)))
 
-  pub excess-is : instr-excess s (o .at) (o .next) ms p ≡ instr-beyond t ls x
+  pub excess-is : instr-excess s (i .at) (o .next) ms p ≡ instr-beyond t ls x
   unfolding instr-excess instr-beyond draft-program
   excess-is =
-      ap (λ (k : ℕ). beyond 512 k (o .at ∷ []) ++ beyond 128 (length (t .labels)) (map place-by ms) ++ texts (statement-at s (o .next)) ++ numbers (statement-at s (o .next))) (length-map (t .code) (draft-instr lines))
+      ap (λ (k : ℕ). instr-excess s k (o .next) ms p) at-is
+      ∙ ap (λ (k : ℕ). beyond 512 k (o .at ∷ []) ++ beyond 128 (length (t .labels)) (map place-by ms) ++ texts (statement-at s (o .next)) ++ numbers (statement-at s (o .next))) (length-map (t .code) (draft-instr lines))
       ∙ ap (λ (ps : List ℕ). beyond 512 (length (t .code)) ps ++ beyond 128 (length (t .labels)) (map place-by ms) ++ texts (statement-at s (o .next)) ++ numbers (statement-at s (o .next))) (sym (ap places (h .operator-is)))
       ∙ ap (λ (ps : List ℕ). beyond 512 (length (t .code)) (places (operator x)) ++ beyond 128 (length (t .labels)) ps ++ texts (statement-at s (o .next)) ++ numbers (statement-at s (o .next)))
       (ap (map place-by) (l .marks) ∙ mark-places ls (l .short))
@@ -173,7 +181,7 @@ module _ (lines : List ℕ) (t : Tables) (op : Op) {s : List ℕ} {ls x : List I
       numbers : List Item → List ℕ
       numbers js = beyond 128 (length (t .numbers)) (places (new-numbers t js))
 
-  module _ {c : List ℕ} {r : Fault} {d : List ℕ} (u : Declares s o number line ms c r d) where
+  module _ {c : List ℕ} {r : Fault} {d : List ℕ} (u : Declares s i (o .next) ms c r d) where
     -- question 11
     pub instr-told : HoldsProgram c p → r ≡ fault-of (instr-beyond t ls x)
     instr-told g = u .told p g ∙ ap fault-of excess-is

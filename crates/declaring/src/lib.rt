@@ -1,32 +1,23 @@
 // A judged statement with an instruction comes to the program table: question 11, then its labels, its texts and numbers, and the instruction.
-ghost use mathlib.Core.Path.{_≡_};
-ghost use mathlib.Core.List.{map};
-ghost use Prim.Native.Nat.{_/_, _≤_};
+ghost use Prim.Native.Nat.{_≤_};
 ghost use lib.ListN.{length};
-ghost use Rattle.drafts.specs.Marks.{place-by, word-by};
-ghost use Rattle.statements.specs.StatementAt.{fault-of};
+ghost use Rattle.drafts.specs.Marks.{word-by, marks-in};
 ghost use Rattle.writing.specs.Writing.{Changes, with-label, label-of};
-ghost use Rattle.declaring.specs.Declaring.{marks-in, with-labels, labels-by, Nameable, Labelling, Over, Labels-told, Instr-told, Judgeable, Judges-values, Writable, Writes-values, Declarable, Declares};
+ghost use Rattle.declaring.specs.Declaring.{with-labels, labels-by, Nameable, Labelling, Over, Labels-told, Instr-told, Judgeable, Judges-values, Writable, Writes-values, Declarable, Declares-values};
 ghost use Rattle.language.specs.Limits as limit;
 use argument_cells::argument_cell;
 use arguments::Values;
-use faults::lower;
 use language::Machine;
-use lexer::Token;
+use names::lowest_mark;
 use statements::Fault;
+use statements::lower;
 
-// The lowest place of the names of the marks from index `from` to index `to`.
-pub fn lowest_mark(names: &[u32], from: usize, to: usize) -> Fault
-    requires { ⌜ to ≤ length (now names) ⌝ }
-    ensures { λ r. ⌜ r ≡ fault-of (map place-by (marks-in (now (names .entry)) from to)) ⌝ }
-{
-    let mut low = Fault::Clear;
-    let mut k = from;
-    while k < to {
-        low = lower(low, Fault::At(cells::read(names, k) / 64));
-        k += 1;
-    }
-    low
+// An instruction: the number of its operator, where that stands and in which line, and its arguments.
+pub struct Instruction {
+    pub number: u8,
+    pub at: usize,
+    pub line: usize,
+    pub values: Values,
 }
 
 // The lowest of the labels in excess.
@@ -49,20 +40,20 @@ fn instruction_beyond(table: &[u32], at: usize) -> Fault
     Fault::At(at)
 }
 
-// Question 11 of an instruction whose operator stands at `at`; the texts and numbers of its arguments come to the table.
+// Question 11 of an instruction; the texts and numbers of its arguments come to the table.
 fn judge_instruction(
     text: &[u8],
-    at: usize,
-    values: Values,
+    i: Instruction,
     names: &[u32],
     from: usize,
     to: usize,
     table: &mut [u32],
 ) -> Fault
-    requires { ⌜ Judgeable (now text) values (now names) from to (now table) ⌝ }
-    ensures { λ r. ⌜ Judges-values (now (text .entry)) at values (marks-in (now (names .entry)) from to) (now (table .entry)) r (now (table .exit)) ⌝ }
+    requires { ⌜ Judgeable (now text) (i .values) (now names) from to (now table) ⌝ }
+    ensures { λ r. ⌜ Judges-values (now (text .entry)) (i .at) (i .values) (marks-in (now (names .entry)) from to) (now (table .entry)) r (now (table .exit)) ⌝ }
 {
-    let a = instruction_beyond(table, at);
+    let values = i.values;
+    let a = instruction_beyond(table, i.at);
     let b = labels_beyond(table, names, from, to);
     let c = entering::enter_text_values(text, values, table);
     let d = entering::enter_number_values(values, table);
@@ -91,20 +82,19 @@ fn put_labels(text: &[u8], names: &[u32], from: usize, to: usize, target: usize,
     }
 }
 
-// Adds the labels and the instruction by its number, its line and its arguments.
+// Adds the labels and the instruction.
 fn write_instruction(
     text: &[u8],
-    values: Values,
-    number: u8,
-    line: usize,
+    i: Instruction,
     names: &[u32],
     from: usize,
     to: usize,
     table: &mut [u32],
 )
-    requires { ⌜ Writable (now text) values number line (now names) from to (now table) ⌝ }
-    ensures { λ _. ⌜ Writes-values (now (text .entry)) values number line (marks-in (now (names .entry)) from to) (now (table .entry)) (now (table .exit)) ⌝ }
+    requires { ⌜ Writable (now text) i (now names) from to (now table) ⌝ }
+    ensures { λ _. ⌜ Writes-values (now (text .entry)) i (marks-in (now (names .entry)) from to) (now (table .entry)) (now (table .exit)) ⌝ }
 {
+    let values = i.values;
     let first = values.first;
     let second = values.second;
     let third = values.third;
@@ -116,28 +106,25 @@ fn write_instruction(
     let x = argument_cell(text, f, table);
     let y = argument_cell(text, s, table);
     let z = argument_cell(text, t, table);
-    writing::put_instruction(table, cells::wide(number), line, x, y, z);
+    writing::put_instruction(table, cells::wide(i.number), i.line, x, y, z);
 }
 
-// Question 11 of an instruction with the operator `op`, and where it is answered yes, the instruction with the labels of the marks from index `from` to index `to`.
+// Question 11 of an instruction, and where it is answered yes, the instruction with the labels of the marks from index `from` to index `to`.
 pub fn declare_instruction(
     text: &[u8],
-    op: Token,
-    number: u8,
-    values: Values,
-    line: usize,
+    i: Instruction,
     names: &[u32],
     from: usize,
     to: usize,
     table: &mut [u32],
 ) -> Fault
-    requires { ⌜ Declarable (now text) op number values line (now names) from to (now table) ⌝ }
-    ensures { λ r. ⌜ Declares (now (text .entry)) op number line (marks-in (now (names .entry)) from to) (now (table .entry)) r (now (table .exit)) ⌝ }
+    requires { ⌜ Declarable (now text) i (now names) from to (now table) ⌝ }
+    ensures { λ r. ⌜ Declares-values (now (text .entry)) i (marks-in (now (names .entry)) from to) (now (table .entry)) r (now (table .exit)) ⌝ }
 {
-    match judge_instruction(text, op.at, values, names, from, to, table) {
+    match judge_instruction(text, i, names, from, to, table) {
         Fault::At(p) => Fault::At(p),
         Fault::Clear => {
-            write_instruction(text, values, number, line, names, from, to, table);
+            write_instruction(text, i, names, from, to, table);
             Fault::Clear
         }
     }

@@ -1,3 +1,5 @@
-pub mod Judging
+pub mod Colons
+pub mod Rows
+pub mod Texts
 pub mod Entries
 pub mod Switches

@@ -1,35 +1,46 @@
--- The entries of a switch come to the program table one by one, with the marks of their labels.
+-- The entries of a switch come to the program table one by one.
 use mathlib.Core.Path.{_≡_}
-use mathlib.Core.Bool.{cond}
-use mathlib.Core.List.{List, [], _∷_, _++_, map}
+use mathlib.Core.Bool.{Bool, true}
+use mathlib.Core.List.{List, [], _∷_, _++_}
 use Prim.Native.Nat.{ℕ, _+_, _≤_, _<_}
-use lib.Dec.{eqb}
-use lib.ListN.{length, take, drop, set}
-use Rattle.drafts.specs.Marks.{mark}
-use Rattle.entering.specs.Entering.{Held, Short-item}
+use lib.ListN.{length, drop}
+use Rattle.entering.specs.Entering.{Held, Short-item, EntersOne, long-text, set-texts}
 use Rattle.language.specs.Limits as limit
 use Rattle.language.specs.Program.{Entry, Switch, Program}
 use Rattle.layout.specs.Bounds.{Each, KeptText}
-use Rattle.layout.specs.Cells.{cell}
-use Rattle.layout.specs.Table.{all-entries}
-use Rattle.lexer.specs.declared.Token.{Token}
-use Rattle.lexer.specs.Tokens.{item-of, Stands}
-use Rattle.lists.specs.Lists.{ifAny, keep}
-use Rattle.packed.specs.Packed.{table-of}
+use Rattle.layout.specs.Table.{text-ref, all-entries}
+use Rattle.lists.specs.Lists.{ifAny, sameBytes}
+use Rattle.finding.specs.Finding.{Tells}
 use Rattle.statements.specs.StatementAt.{statement-at}
-use Rattle.syntax.specs.Items.{Item, is}
-use Rattle.syntax.specs.Items.Sort.{word, text}
+use Rattle.switch_lists.specs.Switches.{Text-cell}
+use Rattle.syntax.specs.Items.{Item}
 use Rattle.syntax.specs.Statements.{entries-in}
 use Rattle.writing.specs.Writing.{HoldsProgram, with-switches, on-last}
+use Rattle.declaring_switches.specs.declared.Declaration.{Declaration}
+use Rattle.declaring_switches.specs.DeclaringSwitches.{Listed-switch}
 
--- the text of an entry, from the items after its label
-abbrev pub next-text : List Item → List ℕ
-next-text js = ifAny [] (λ j. cond (is text j) (j .chars) []) js
+-- the text of an entry, of a row of one item or none
+abbrev pub row-text : List Item → List ℕ
+row-text row = ifAny [] (λ j. j .chars) row
 
-pub record Text-after (s : List ℕ) (n : ℕ) (c : List ℕ) : Type 0 where
-  pub inside : n ≤ length s
+-- a cell names the text of a row
+pub record Row-named (s : List ℕ) (m : ℕ) (c : List ℕ) : Type 0 where
+  pub row : List Item
+  pub named : Text-cell s m row
+  pub short : Each Short-item row
   pub held : Held c
-  pub short : Each Short-item (statement-at s n)
+
+pub record Row-told (s : List ℕ) (m : ℕ) (c : List ℕ) (r : ℕ) : Type 0 where
+  pub of : (row : List Item) → Text-cell s m row → Tells c (λ p. text-ref p (row-text row)) 384 r
+
+-- it comes to the table
+abbrev pub Row-enters : List Item → List ℕ → Bool → List ℕ → Type 0
+Row-enters [] c r d = (r ≡ true) × (d ≡ c)
+Row-enters (j ∷ js) c r d = EntersOne sameBytes (λ i. i .chars) long-text (λ p. p .texts) set-texts j c r d
+
+pub record Row-entered (s : List ℕ) (m : ℕ) (c : List ℕ) (r : Bool) (d : List ℕ) : Type 0 where
+  pub of : (row : List Item) → Text-cell s m row → Row-enters row c r d
+  pub beyond-same : drop limit.table d ≡ drop limit.table c
 
 -- entries of the last switch
 abbrev pub and-entries : List Entry → Switch → Switch
@@ -38,45 +49,20 @@ and-entries es w = record { byName = w .byName; entries = w .entries ++ es }
 unfoldable pub with-entries : List Entry → Program → Program
 with-entries es p = with-switches (on-last (and-entries es) (p .switches)) p
 
--- the entry of a token's item, as a row of one or none; its label is not known yet
-abbrev pub own-entry : List ℕ → Token → List Entry
-own-entry s t = cond (eqb 1 (t .sort)) (record { label = 0; text = next-text (statement-at s (t .next)) } ∷ []) []
-
 abbrev pub Kept-entries : Program → List Entry → Type 0
 Kept-entries p es = Each (λ e. KeptText p (e .text)) es
 
-pub record Puttable (s : List ℕ) (t : Token) (c en : List ℕ) : Type 0 where
-  pub stands : Stands s t
-  pub low : length s ≤ limit.text
-  pub short : t .len ≤ limit.item
-  pub after : Each Short-item (statement-at s (t .next))
-  pub held : Held c
-  pub some : 0 < length (held .program .switches)
-  pub room : t .sort ≡ 1 → length (all-entries (held .program)) < limit.entries
-  pub kept : Kept-entries (held .program) (own-entry s t)
-  pub marks-room : length en ≡ limit.entries
-
-pub record Puts (s : List ℕ) (t : Token) (c en d em : List ℕ) : Type 0 where
-  pub holds : (p : Program) → HoldsProgram c p → Kept-entries p (own-entry s t) → HoldsProgram d (with-entries (own-entry s t) p)
-  pub marks : em ≡ cond (eqb 1 (t .sort)) (set en (cell (table-of c) 3) (mark (item-of s t))) en
-  pub beyond-same : drop limit.table d ≡ drop limit.table c
-
--- all entries of the list from place n on
+-- all entries of the list from place n on; their labels are not known yet
 abbrev pub list-entries : List ℕ → ℕ → List Entry
 list-entries s n = entries-in (λ w. 0) (statement-at s n)
 
-pub record Listing (s : List ℕ) (n : ℕ) (c en : List ℕ) : Type 0 where
-  pub inside : n ≤ length s
-  pub low : length s ≤ limit.text
-  pub short : Each Short-item (statement-at s n)
+pub record Listing (s : List ℕ) (d : Declaration) (c tx : List ℕ) : Type 0 where
+  pub list : Listed-switch s d c tx
   pub held : Held c
   pub some : 0 < length (held .program .switches)
-  pub room : length (all-entries (held .program)) + length (keep (is word) (statement-at s n)) ≤ limit.entries
-  pub kept : Kept-entries (held .program) (list-entries s n)
-  pub marks-room : length en ≡ limit.entries
+  pub room : length (all-entries (held .program)) + d .words ≤ limit.entries
+  pub kept : Kept-entries (held .program) (list-entries s (d .list))
 
-pub record Lists (s : List ℕ) (n : ℕ) (c en d em : List ℕ) : Type 0 where
-  pub holds : (p : Program) → HoldsProgram c p → Kept-entries p (list-entries s n) → HoldsProgram d (with-entries (list-entries s n) p)
-  pub marks : let words = keep (is word) (statement-at s n) in
-      take (cell (table-of c) 3 + length words) em ≡ take (cell (table-of c) 3) en ++ map mark words
-  pub beyond-same : drop limit.table d ≡ drop limit.table c
+pub record Lists (s : List ℕ) (d : Declaration) (c c′ : List ℕ) : Type 0 where
+  pub holds : (p : Program) → HoldsProgram c p → Kept-entries p (list-entries s (d .list)) → HoldsProgram c′ (with-entries (list-entries s (d .list)) p)
+  pub beyond-same : drop limit.table c′ ≡ drop limit.table c

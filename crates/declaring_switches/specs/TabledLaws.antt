@@ -22,12 +22,13 @@ use Rattle.layout.specs.CellLaws.{each-append}
 use Rattle.layout.specs.Cells.{cell}
 use Rattle.layout.specs.Table.{all-entries}
 use Rattle.lexer.specs.declared.Token.{Token}
-use Rattle.lists.specs.Lists.{each, headOr, keep}
+use Rattle.lists.specs.Lists.{each, headOr, ifAny, keep}
 use Rattle.machine.specs.WellFormed.{good-text, kept-text}
 use Rattle.packed.specs.Packed.{table-of}
 use Rattle.statements.specs.StatementAt.{statement-at, fault-of}
 use Rattle.statements.specs.declared.Fault.{Fault}
 use Rattle.statements.specs.declared.Fault.the-variants.{Clear}
+use Rattle.switch_lists.specs.Switches.{Marks-added}
 use Rattle.syntax.specs.Items.{Item, is, places}
 use Rattle.syntax.specs.Items.Sort.{word, text}
 use Rattle.syntax.specs.Questions.{beyond, switch-beyond}
@@ -38,7 +39,7 @@ use Rattle.writing.specs.Writing.{HoldsProgram, on-last}
 use Rattle.writing.proofs.Growing.{each-snoc}
 use Rattle.writing.proofs.Held.{switch-count, entry-count}
 use Rattle.declaring_switches.specs.DeclaringSwitches.{switch-excess, with-texts}
-use Rattle.declaring_switches.specs.Entries.{next-text, and-entries, with-entries, list-entries, Kept-entries}
+use Rattle.declaring_switches.specs.Entries.{and-entries, with-entries, list-entries, Kept-entries}
 use Rattle.declaring_switches.specs.Switches.{with-list, DeclaresSwitch}
 
 last-of : (es : List Entry) (ws : List Switch) (w : Switch) → on-last (and-entries es) (ws ++ (w ∷ [])) ≡ ws ++ (and-entries es w ∷ [])
@@ -76,13 +77,14 @@ module _ (lines : List ℕ) (t : Tables) (b : Bool) (ls : List Item) {s : List �
       texts : List Item → List ℕ
       texts js = beyond 128 (length (t .texts)) (places (new-texts t js))
 
-  module _ {name : ℕ} {c sw en : List ℕ} {r : Fault} {d sw′ en′ : List ℕ} (u : DeclaresSwitch s o b name c sw en r d sw′ en′) where
+  module _ {name words : ℕ} {over : Fault} {c sw : List ℕ} {r : Fault} {d sw′ : List ℕ}
+      (u : DeclaresSwitch s (record { at = o .at; list = o .next; named = b; name = name; words = words; over = over }) c sw r d sw′) where
     -- question 11
     pub switch-told : HoldsProgram c p → r ≡ fault-of (switch-beyond t x)
     switch-told g = u .told p g ∙ ap fault-of excess-is
 
     -- and the tables with the switch
-    module _ (v : Tabled s lines t c sw en) (sound : Sound-tables (length s) (with-switch t ls x b)) (spelt : Each (Spelt s) (rest x))
+    module _ {en : List ℕ} (v : Tabled s lines t c sw en) (en′ : List ℕ) (marks : Marks-added s (o .next) (cell (table-of c) 3) en en′) (sound : Sound-tables (length s) (with-switch t ls x b)) (spelt : Each (Spelt s) (rest x))
         (name-is : word-by s name ≡ headOr [] (contents ls)) (name-there : Marked s name) (size : length en′ ≡ length en)
         (kept : Kept-entries (with-texts s (o .next) p) (list-entries s (o .next))) (e : r ≡ Clear) where
       abbrev k : ℕ
@@ -132,7 +134,7 @@ module _ (lines : List ℕ) (t : Tables) (b : Bool) (ls : List Item) {s : List �
       marks-are =
           let ws = keep (is word) (rest x) in
           let a : take (cell (table-of c) 3 + length ws) en′ ≡ take (cell (table-of c) 3) en ++ map mark ws =
-          subst (λ (js : List Item). take (cell (table-of c) 3 + length (keep (is word) js)) en′ ≡ take (cell (table-of c) 3) en ++ map mark (keep (is word) js)) (sym (h .rest-is)) (u .entry-marks e) in
+          subst (λ (js : List Item). take (cell (table-of c) 3 + length (keep (is word) js)) en′ ≡ take (cell (table-of c) 3) en ++ map mark (keep (is word) js)) (sym (h .rest-is)) marks in
           ap (λ (j : ℕ). take j en′) (length-append (entry-items t) ws)
           ∙ subst (λ (j : ℕ). take (j + length ws) en′ ≡ take j en ++ map mark ws) count-is a
           ∙ ap (λ (l : List ℕ). l ++ map mark ws) (v .entry-marks)
@@ -154,6 +156,10 @@ module _ (lines : List ℕ) (t : Tables) (b : Bool) (ls : List Item) {s : List �
             entry-room = size ∙ v .entry-room;
             entry-marks = subst (λ (js : List Item). take (length js) en′ ≡ map mark js) (sym items-are) marks-are;
           }
+
+-- the text of an entry, from the items after its label
+abbrev next-text : List Item → List ℕ
+next-text js = ifAny [] (λ j. cond (is text j) (j .chars) []) js
 
 -- the texts of the entries are kept, where all texts of the list are good and kept
 pub list-kept : (q : Program) (js : List Item) → Each (λ i. T (is text i) → T (good-text (i .chars) && kept-text q (i .chars))) js

@@ -1,6 +1,6 @@
 -- A word of a text by one number: its place and its length.
 use mathlib.Core.List.{List}
-use Prim.Native.Nat.{ℕ, _+_, _*_, _/_, _%_, _≤_}
+use Prim.Native.Nat.{ℕ, _+_, _-_, _*_, _/_, _%_, _≤_}
 use lib.ListN.{length, take, drop}
 use Rattle.syntax.specs.Items.{Item}
 
@@ -24,3 +24,7 @@ word-by s m = take (length-by m) (drop (place-by m) s)
 -- the word of the mark m is in the text s
 abbrev pub Marked : List ℕ → ℕ → Type 0
 Marked s m = place-by m + length-by m ≤ length s
+
+-- the marks from index a to index b
+abbrev pub marks-in : List ℕ → ℕ → ℕ → List ℕ
+marks-in ms a b = take (b - a) (drop a ms)

@@ -4,7 +4,7 @@ use mathlib.Core.Bool.{Bool, true, false, cond, _&&_, _||_, true≢false}
 use mathlib.Core.List.{List, [], _∷_, _++_}
 use Prim.Native.Nat.{ℕ, suc, _≤_, _<_}
 use native.Mathlib.Omega.{arith}
-use lib.Dec.{ltb, eqb, leb·suc-suc}
+use lib.Dec.{ltb, leb·suc-suc}
 use lib.ListN.{length, take, drop, length-take}
 use borrow.Author.Tests.{lt-ltb, le-ltb, le-leb, lt-leb}
 use Rattle.arguments.specs.Valued.{is-text, text-from, text-to, Spells, Item-valued}
@@ -13,15 +13,11 @@ use Rattle.language.specs.Program.{Program}
 use Rattle.lists.specs.Lists.{any, ahead, sameBytes}
 use Rattle.writing.specs.Writing.{HoldsProgram}
 use Rattle.cells.proofs.Laws.{pasted-front}
-use Rattle.lexer.specs.declared.Token.{Token}
-use Rattle.lexer.specs.Tokens.{chars-of, item-of, Stands}
-use Rattle.lexer.proofs.Finding.{is-sort}
 use Rattle.spelling.specs.Spelling.{Put, text-in, Fits-text}
 use Rattle.syntax.specs.Items.{Item}
-use Rattle.syntax.specs.Items.Sort.{text}
 use Rattle.table.specs.declared.Argument.{Argument}
 use Rattle.table.specs.declared.Argument.the-variants.{Text}
-use Rattle.entering.specs.Entering.{Adds, Addable, EntersOne, Enterable-item, Enterable-value, set-texts, set-numbers, long-text, Short-item}
+use Rattle.entering.specs.Entering.{Adds, Addable, EntersOne, Enterable-value, set-texts, set-numbers, long-text}
 use Rattle.entering.proofs.Rows.{Table-of}
 
 -- the tables of texts and of numbers
@@ -106,22 +102,6 @@ module _ {d o w : List ℕ} {n : ℕ} (h : Put d 0 w n o) where
 
   pub put-long : n ≤ length o
   put-long = omega (arith, ap length put-front, length-take n o, h .next)
-
--- a text of a token
-long-text-is : {s : List ℕ} {t : Token} → Stands s t → {r : Bool} → r ≡ (eqb 4 (t .sort) && ltb 1 (t .len)) → long-text (item-of s t) ≡ r
-long-text-is h q = rw (is-sort text h, h .count) (sym q)
-
-module _ {s : List ℕ} {t : Token} {c : List ℕ} (pre : Enterable-item Short-item s t c) where
-  pub text-past : {r : Bool} → r ≡ (eqb 4 (t .sort) && ltb 1 (t .len)) → r ≡ false
-      → EntersOne sameBytes (λ i. i .chars) long-text (λ p. p .texts) set-texts (item-of s t) c true c
-  text-past q e = enters-past sameBytes (λ i. i .chars) long-text (λ p. p .texts) set-texts texts-laws (item-of s t) (long-text-is (pre .stands) q ∙ e)
-
-  pub text-entered : {r : Bool} → r ≡ (eqb 4 (t .sort) && ltb 1 (t .len)) → r ≡ true → {w : List ℕ} → w ≡ chars-of s t → {a : Bool} {d : List ℕ}
-      → Adds sameBytes (λ p. p .texts) set-texts w c a d → EntersOne sameBytes (λ i. i .chars) long-text (λ p. p .texts) set-texts (item-of s t) c a d
-  text-entered q e {w} z h = enters-value sameBytes (λ i. i .chars) long-text (λ p. p .texts) set-texts texts-laws (item-of s t) (long-text-is (pre .stands) q ∙ e) w z h
-
-  pub text-addable : {d o : List ℕ} {n m : ℕ} → Put d 0 (chars-of s t) n o → m ≡ length (take n o) → Addable c m
-  text-addable {d} {o} {n} h q = record { held = pre .held; short = omega (arith, q, ap length (put-front h), pre .stands .count, pre .as-asked) }
 
 -- the text that a value names
 module _ {s : List ℕ} {i : Item} {x : Argument} (h : Item-valued s i x) where

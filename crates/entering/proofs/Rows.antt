@@ -1,25 +1,21 @@
--- The values of a row of items come to a table one by one, and the loop over the items of a statement: for texts and for numbers alike.
+-- The values of a row of items come to a table one by one: for texts and for numbers alike.
 use mathlib.Core.Path.{_≡_, refl, sym, ap, _∙_, subst}
 use mathlib.Core.Bool.{Bool, true, false, not, _&&_, true≢false}
 use mathlib.Core.List.{List, [], _∷_, append-nil}
-use Prim.Native.Nat.{ℕ, zero, suc, _-_, _≤_, _<_}
+use Prim.Native.Nat.{ℕ, zero, suc, _-_, _≤_}
 use native.Mathlib.Omega.{arith}
 use lib.Dec.{T}
 use lib.ListN.{length, drop}
 use borrow.Author.Tests.{not-true}
 use Rattle.language.specs.Program.{Program}
-use Rattle.layout.specs.Bounds.{Each}
-use Rattle.lexer.specs.declared.Token.{Token}
-use Rattle.lexer.specs.Tokens.{item-of, Next-token}
-use Rattle.statements.specs.PlaceLaws.{all-from, statement-from}
-use Rattle.statements.specs.StatementAt.{statement-at, stops, fault-of}
-use Rattle.statements.specs.StatementLaws.{at-stop, at-item, on}
+use Rattle.statements.specs.PlaceLaws.{all-from}
+use Rattle.statements.specs.StatementAt.{fault-of}
 use Rattle.statements.specs.declared.Fault.{Fault}
 use Rattle.statements.specs.declared.Fault.the-variants.{Clear, At}
 use Rattle.syntax.specs.Items.{Item}
 use Rattle.syntax.specs.Tables.{fresh}
 use Rattle.writing.specs.Writing.{HoldsProgram}
-use Rattle.entering.specs.Entering.{added, full, excess, all-added, Held, Enterable, Enters, EntersOne}
+use Rattle.entering.specs.Entering.{added, full, excess, all-added, Held, Enters, EntersOne}
 use Rattle.entering.specs.EnteringLaws.{excess-past, added-past, excess-on, added-on, excess-here}
 
 -- a table of a program and the program with another
@@ -109,50 +105,3 @@ module _ {X : Type 0} (equal : X → X → Bool) (value-of : Item → X) (passes
 
   pub still-held : (i : Item) {c : List ℕ} {d : List ℕ} {r : Bool} → One i c r d → r ≡ true → Held c → Held d
   still-held i h q u = record { program = _; holds = h .holds q (u .program) (u .holds) }
-
-  -- ---- the items of a statement
-
-  -- place i of the statement at n is reached: what the rest enters, all enters
-  pub record Entering (P : Item → Type 0) (s : List ℕ) (n : ℕ) (c d : List ℕ) (i : ℕ) : Type 0 where
-    pub inside : i ≤ length s
-    pub held : Held d
-    pub within : Each P (statement-at s i)
-    pub goes-on : (f : Fault) (e : List ℕ) → All (statement-at s i) d f e → All (statement-at s n) c f e
-    pub size : length d ≡ length c
-
-  module _ {P : Item → Type 0} {s : List ℕ} {n : ℕ} {c : List ℕ} where
-    pub entering-first : Enterable P s n c → Entering P s n c c n
-    entering-first h = record { inside = h .inside; held = h .held; within = h .within; goes-on = λ f e k. k; size = refl }
-
-    module _ {d : List ℕ} {i : ℕ} (u : Entering P s n c d i) {t : Token} (k : Next-token s i t) where
-      -- no item is left
-      pub entered : stops (t .sort) ≡ true → All (statement-at s n) c Clear d
-      entered z = u .goes-on Clear d (subst (λ (js : List Item). All js d Clear d) (sym (at-stop k z)) none-entered)
-
-      module _ (z : stops (t .sort) ≡ false) where
-        abbrev x : Item
-        x = item-of s t
-
-        pub item-as : P x
-        item-as = subst (λ (xs : List Item). Each P xs) (at-item k z) (u .within) .0
-
-        pub next-on : i < t .next
-        next-on = on k z
-
-        module _ {r : Bool} {d′ : List ℕ} (h : One x d r d′) where
-          -- this one has no place
-          pub entered-none : r ≡ false → All (statement-at s n) c (At (t .at)) d′
-          entered-none q =
-              u .goes-on (At (t .at)) d′
-              (subst (λ (js : List Item). All js d (At (t .at)) d′) (sym (at-item k z)) (all-stop x (statement-at s (t .next)) h q (statement-from s (t .next) (t .at) (omega (arith, k .stands)))))
-
-          -- it has, or needs none
-          pub entering-more : r ≡ true → length d′ ≡ length d → Entering P s n c d′ (t .next)
-          entering-more q l =
-              record {
-                inside = k .stands .most;
-                held = still-held x h q (u .held);
-                within = subst (λ (xs : List Item). Each P xs) (at-item k z) (u .within) .1;
-                goes-on = λ f e y. u .goes-on f e (subst (λ (js : List Item). All js d f e) (sym (at-item k z)) (all-on x (statement-at s (t .next)) h q y));
-                size = l ∙ u .size;
-              }

@@ -12,10 +12,8 @@ use Rattle.language.specs.Limits as limit
 use Rattle.language.specs.Program.{Program}
 use Rattle.language.specs.Values.{sameNumber, numeral}
 use Rattle.layout.specs.Bounds.{Each}
-use Rattle.lexer.specs.declared.Token.{Token}
-use Rattle.lexer.specs.Tokens.{item-of, Stands}
 use Rattle.lists.specs.Lists.{any, keep, sameBytes}
-use Rattle.statements.specs.StatementAt.{statement-at, fault-of}
+use Rattle.statements.specs.StatementAt.{fault-of}
 use Rattle.statements.specs.declared.Fault.{Fault}
 use Rattle.statements.specs.declared.Fault.the-variants.{Clear}
 use Rattle.syntax.specs.ArgumentForms.{Argument as Argument-read}
@@ -65,12 +63,6 @@ pub record Held (c : List ℕ) : Type 0 where
 abbrev pub Short-item : Item → Type 0
 Short-item i = length (i .chars) ≤ limit.item
 
--- each item of the statement at n is as P says, and the cells c hold some program
-pub record Enterable (P : Item → Type 0) (s : List ℕ) (n : ℕ) (c : List ℕ) : Type 0 where
-  pub inside : n ≤ length s
-  pub held : Held c
-  pub within : Each P (statement-at s n)
-
 -- the cells d hold p with some other table
 pub record Still {X : Type 0} (set-table : List X → Program → Program) (p : Program) (d : List ℕ) : Type 0 where
   pub table : List X
@@ -103,12 +95,6 @@ pub record Adds {X : Type 0} (equal : X → X → Bool) (table-of : Program → 
 pub record Addable (c : List ℕ) (n : ℕ) : Type 0 where
   pub held : Held c
   pub short : n ≤ limit.item
-
--- one item of a text that is read
-pub record Enterable-item (P : Item → Type 0) (s : List ℕ) (t : Token) (c : List ℕ) : Type 0 where
-  pub stands : Stands s t
-  pub held : Held c
-  pub as-asked : P (item-of s t)
 
 -- whatever number has this code
 abbrev pub AddsCode : ℕ → List ℕ → Bool → List ℕ → Type 0

@@ -17,7 +17,7 @@ use Rattle.syntax.specs.Tables.{fresh}
 use Rattle.entering.specs.Entering.{added, full, excess, all-added}
 
 module _ {X : Type 0} (equal : X → X → Bool) (value-of : Item → X) (passes : Item → Bool) where
-  fresh-from : (p : ℕ) (u : List X) (ys : List Item) → T (all-from p ys) → T (all-from p (fresh equal value-of u ys))
+  pub fresh-from : (p : ℕ) (u : List X) (ys : List Item) → T (all-from p ys) → T (all-from p (fresh equal value-of u ys))
   unfolding fresh
   fresh-from p u [] h = tt
   fresh-from p u (y ∷ ys) h = go (any (equal (value-of y)) u) (λ v. fresh-from p v ys (all-tail (stands-from p) y ys h))

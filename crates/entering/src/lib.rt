@@ -1,19 +1,13 @@
 // The texts and numbers of a statement come to the tables of a program that is being written: question 11 for them.
 ghost use mathlib.Core.Path.{_≡_};
-ghost use mathlib.Core.Bool.{_&&_, _||_};
-ghost use lib.Dec.{eqb, ltb};
+ghost use mathlib.Core.Bool.{_||_};
+ghost use lib.Dec.{ltb};
 ghost use lib.ListN.{length};
-ghost use Rattle.lexer.specs.Tokens.{item-of};
 ghost use Rattle.lists.specs.Lists.{sameBytes};
-ghost use Rattle.statements.specs.StatementAt.{statement-at};
-ghost use Rattle.entering.specs.Entering.{Short-item, set-texts, long-text, Held, AddsCode, Addable, Adds, Enterable, Enterable-item, EntersOne, Enters, Enterable-value, Enterable-values, Some-values, Text-entered, Number-entered, Texts-entered, Numbers-entered};
+ghost use Rattle.entering.specs.Entering.{set-texts, Held, AddsCode, Addable, Adds, Enterable-value, Enterable-values, Some-values, Text-entered, Number-entered, Texts-entered, Numbers-entered};
 use arguments::Values;
 use language::Machine;
-use lexer::Token;
-use lexer::next_item;
-use scanner::TEXT;
 use statements::Fault;
-use statements::stops;
 use table::Argument;
 
 // Adds a text, unless it is there; whether it is there then.
@@ -30,46 +24,6 @@ fn add_text(table: &mut [u32], word: &[u8]) -> bool
     }
     writing::put_text(table, word);
     true
-}
-
-// Whether an item, by its sort and its length, is a text longer than one character.
-fn is_long_text(sort: u8, len: usize) -> bool
-    ensures { λ r. ⌜ r ≡ (eqb 4 sort && ltb 1 len) ⌝ }
-{
-    (TEXT == sort) & (1 < len)
-}
-
-// The same for the text of an item that is longer than one character.
-fn enter_text(text: &[u8], t: Token, table: &mut [u32]) -> bool
-    requires { ⌜ Enterable-item Short-item (now text) t (now table) ⌝ }
-    ensures { λ r. ⌜ EntersOne sameBytes (λ i. i .chars) long-text (λ p. p .texts) set-texts (item-of (now (text .entry)) t) (now (table .entry)) r (now (table .exit)) ⌝ }
-{
-    if !is_long_text(t.sort, t.len) {
-        return true;
-    }
-    let mut word = [0u8; 60];
-    let n = spelling::put_chars(text, t, &mut word);
-    add_text(table, &word[..n])
-}
-
-// Adds the texts of the items from place `n` on; the first that has no room.
-pub fn enter_texts(text: &[u8], n: usize, table: &mut [u32]) -> Fault
-    requires { ⌜ Enterable Short-item (now text) n (now table) ⌝ }
-    ensures { λ r. ⌜ Enters sameBytes (λ i. i .chars) long-text (λ p. p .texts) set-texts (statement-at (now (text .entry)) n) (now (table .entry)) r (now (table .exit)) ⌝ }
-{
-    let mut i = n;
-    loop {
-        let t = next_item(text, i);
-        if stops(t.sort) {
-            return Fault::Clear;
-        }
-        let at = t.at;
-        let next = t.next;
-        if !enter_text(text, t, table) {
-            return Fault::At(at);
-        }
-        i = next;
-    }
 }
 
 // Adds the number whose value + 8,388,607 is `code`, unless it is there; whether it is there then.
@@ -96,7 +50,7 @@ fn is_large(code: u32) -> bool
 }
 
 // Adds the text of a value, unless it has one character or none; whether it is there then.
-fn enter_text_of(text: &[u8], x: Argument, table: &mut [u32]) -> bool
+pub fn enter_text_of(text: &[u8], x: Argument, table: &mut [u32]) -> bool
     requires { ⌜ Enterable-value (now text) x (now table) ⌝ }
     ensures { λ r. ⌜ Text-entered (now (text .entry)) x (now (table .entry)) r (now (table .exit)) ⌝ }
 {

@@ -7,17 +7,17 @@ use native.Mathlib.Omega.{arith}
 use lib.Dec.{eqb}
 use lib.ListN.{length, take, length-take, length-map}
 use borrow.Author.Tests.{eq-eqb, ne-eqb}
-use Rattle.closing.specs.Closing.{Ends}
-use Rattle.closing.specs.declared.Closing.{Closing}
-use Rattle.declaring.specs.Declaring.{marks-in}
+use Rattle.progress.specs.Closing.{Ends}
+use Rattle.progress.specs.declared.Closing.{Closing}
+use Rattle.drafts.specs.Marks.{marks-in}
 use Rattle.declaring.specs.TabledLaws.{mark-places}
 use Rattle.acceptance.specs.RowLaws.{each-map}
 use Rattle.drafts.specs.Drafting.{draft-program, draft-instr}
 use Rattle.drafts.specs.Marks.{place-by, word-by}
-use Rattle.faults.specs.Faults.{decided, then}
-use Rattle.faults.specs.FaultLaws.{question-decides}
-use Rattle.faults.specs.declared.Verdict.{Verdict}
-use Rattle.faults.specs.declared.Verdict.the-variants.{Yes, No}
+use Rattle.statements.specs.Faults.{decided, then}
+use Rattle.statements.specs.FaultLaws.{question-decides}
+use Rattle.statements.specs.declared.Verdict.{Verdict}
+use Rattle.statements.specs.declared.Verdict.the-variants.{Yes, No}
 use Rattle.layout.specs.Cells.{cell}
 use Rattle.linking.specs.Linking.{Kept, Links, last-two}
 use Rattle.linking.specs.declared.Linked.{Linked}

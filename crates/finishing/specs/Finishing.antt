@@ -4,9 +4,9 @@ use mathlib.Core.List.{List}
 use Prim.Native.Nat.{ℕ}
 use lib.ListN.{drop}
 use Rattle.drafts.specs.Tabled.{Tabled}
-use Rattle.faults.specs.Faults.{verdict-of}
-use Rattle.faults.specs.declared.Verdict.{Verdict}
-use Rattle.faults.specs.declared.Verdict.the-variants.{Yes}
+use Rattle.statements.specs.Faults.{verdict-of}
+use Rattle.statements.specs.declared.Verdict.{Verdict}
+use Rattle.statements.specs.declared.Verdict.the-variants.{Yes}
 use Rattle.language.specs.Limits as limit
 use Rattle.linking.specs.Linking.{last-two}
 use Rattle.progress.specs.Progress.{Drafted}

@@ -3,11 +3,11 @@ ghost use mathlib.Core.Path.{_≡_};
 ghost use Rattle.syntax.specs.Ending.{last-place};
 ghost use Rattle.linking.specs.Linking.{Kept};
 ghost use Rattle.finishing.specs.Finishing.{Names-linked, Finishable, Finishes};
-use declaring::lowest_mark;
-use faults::Verdict;
 use linking::Linked;
+use names::lowest_mark;
 use progress::Progress;
 use statements::Fault;
+use statements::Verdict;
 
 // The place of the last byte, 0 in an empty text.
 fn last_place(text: &[u8]) -> usize
@@ -50,7 +50,7 @@ pub fn finish(
     let waiting = lowest_mark(names, p.names - p.waiting, p.names);
     let code = table::instructions(table);
     let ended = p.ended;
-    match closing::end_fault(last, p.closing, code, ended, waiting) {
+    match progress::end_fault(last, p.closing, code, ended, waiting) {
         Fault::At(at) => Verdict::No(25, at),
         Fault::Clear => link_names(text, table, switches, entries),
     }

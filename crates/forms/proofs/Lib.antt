@@ -1,2 +1,2 @@
 mod Tables
-mod Readings
+pub mod Readings

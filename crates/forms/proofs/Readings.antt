@@ -15,7 +15,7 @@ use Rattle.lists.specs.Lists.{headOr, keep, among}
 use Rattle.lists.specs.TableLaws.{below, Missed, missed}
 use Rattle.syntax.specs.ArgumentForms.{is-indexed, letter-of, word-reads}
 use Rattle.words.specs.Words.{is-class, numeral-of, indexed-of}
-use Rattle.words.specs.declared.Letter as Found
+use Rattle.words.specs.declared.Lettered as Found
 use Rattle.words.specs.declared.Numeral.{Numeral}
 use Rattle.forms.specs.Forms.{forms, bits, mask, bit-of, only}
 use Rattle.forms.specs.Kinds.{kind-reads, OfKind, word-kinds}
@@ -85,19 +85,19 @@ module _ (w : List ℕ) where
   abbrev first : Letter
   first = letter-of (headOr 0 w)
 
-  some-letter : {k n : ℕ} → Found.Letter.At k n ≡ indexed-of w → (is-indexed w first ≡ true) × (k ≡ letter-place first)
+  some-letter : {k n : ℕ} → Found.Lettered.At k n ≡ indexed-of w → (is-indexed w first ≡ true) × (k ≡ letter-place first)
   unfolding indexed-of
   some-letter {k} {n} e = go (is-indexed w first) e
     where
-      go : (t : Bool) → Found.Letter.At k n ≡ cond t (Found.Letter.At (letter-place first) (amount 0 (drop 1 w))) Found.Letter.Not → (t ≡ true) × (k ≡ letter-place first)
+      go : (t : Bool) → Found.Lettered.At k n ≡ cond t (Found.Lettered.At (letter-place first) (amount 0 (drop 1 w))) Found.Lettered.Not → (t ≡ true) × (k ≡ letter-place first)
       go true e = (refl, cc)
       go false e = (cc, cc)
 
-  no-letter : Found.Letter.Not ≡ indexed-of w → is-indexed w first ≡ false
+  no-letter : Found.Lettered.Not ≡ indexed-of w → is-indexed w first ≡ false
   unfolding indexed-of
   no-letter e = go (is-indexed w first) e
     where
-      go : (t : Bool) → Found.Letter.Not ≡ cond t (Found.Letter.At (letter-place first) (amount 0 (drop 1 w))) Found.Letter.Not → t ≡ false
+      go : (t : Bool) → Found.Lettered.Not ≡ cond t (Found.Lettered.At (letter-place first) (amount 0 (drop 1 w))) Found.Lettered.Not → t ≡ false
       go true e = cc
       go false e = refl
 
@@ -113,10 +113,10 @@ module _ (w : List ℕ) where
     class-kind c = kinds-by w (of-class w e c)
 
     module _ (c : is-class w ≡ false) where
-      pub letter-kind : {k n : ℕ} → Found.Letter.At k n ≡ indexed-of w → (k < 12) × (229376 + 2 ^ k ≡ word-kinds w)
+      pub letter-kind : {k n : ℕ} → Found.Lettered.At k n ≡ indexed-of w → (k < 12) × (229376 + 2 ^ k ≡ word-kinds w)
       letter-kind h =
           let s = some-letter h in
           rw (s .1) (place-small first, letter-set (letter-place first) (place-small first) ∙ kinds-by w (of-letter w e c (s .0)))
 
-      pub name-kind : Found.Letter.Not ≡ indexed-of w → 229376 ≡ word-kinds w
+      pub name-kind : Found.Lettered.Not ≡ indexed-of w → 229376 ≡ word-kinds w
       name-kind h = kinds-by w (of-name w e c (no-letter h))

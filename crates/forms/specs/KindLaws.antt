@@ -110,7 +110,7 @@ module _ (l : Letter) where
   most = indices (use-of l .var)
 
   -- an indexed letter is an identifier
-  indexed-name : (w : List ℕ) → T (is-indexed w l) → T (identifier w)
+  pub indexed-name : (w : List ℕ) → T (is-indexed w l) → T (identifier w)
   indexed-name [] h = absurd (index-digits most [] (T-right (eqb 0 (letter-code l)) (is-index most []) h))
   indexed-name (b ∷ w) h =
       let e : b ≡ letter-code l = eqb→eq b (letter-code l) (T-left (eqb b (letter-code l)) (is-index most w) h) in
@@ -118,7 +118,7 @@ module _ (l : Letter) where
       T-both (isCapital b) (all continues w) (rw e (letter-is l)) (all-each isDigit continues digit-continues w d)
 
   -- and no class
-  indexed-class : (w : List ℕ) → T (is-indexed w l) → T (is-class w) → ⊥
+  pub indexed-class : (w : List ℕ) → T (is-indexed w l) → T (is-class w) → ⊥
   unfolding is-class
   indexed-class [] h c = c
   indexed-class (b ∷ w) h c =
@@ -129,7 +129,7 @@ module _ (l : Letter) where
       second (x ∷ v) u k = class-no-digit x (all-head class-letter x v k) (T-left (isDigit x) (all isDigit v) u)
 
 -- a class is an identifier
-class-name : (w : List ℕ) → T (is-class w) → T (identifier w)
+pub class-name : (w : List ℕ) → T (is-class w) → T (identifier w)
 unfolding is-class
 class-name [] h = h
 class-name (b ∷ w) h =
@@ -137,7 +137,7 @@ class-name (b ∷ w) h =
     (all-each class-letter continues (λ x k. letter-continues x (class-letters x k)) w (all-tail class-letter b w h))
 
 -- a number is none
-name-number : (w : List ℕ) → T (identifier w) → numeral w ≡ false
+pub name-number : (w : List ℕ) → T (identifier w) → numeral w ≡ false
 name-number [] h = absurd h
 name-number (b ∷ w) h =
     let l = leb→le 65 b (T-left (leb 65 b) (leb b 90) (T-left (isCapital b) (all continues w) h)) in

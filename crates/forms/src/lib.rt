@@ -1,4 +1,4 @@
-// The argument forms of the 41 instructions as sets of bits, and the forms that a word reads as.
+// The argument forms of the 41 instructions as sets of bits.
 ghost use mathlib.Core.Path.{_≡_};
 ghost use mathlib.Core.Bool.{cond, false};
 ghost use mathlib.Core.List.{[], _∷_};
@@ -6,11 +6,8 @@ ghost use Prim.Native.Nat.{_+_, _^_, _<_, _≤_};
 ghost use lib.Dec.{eqb, ltb};
 ghost use lib.ListN.{getD};
 ghost use Rattle.forms.specs.Forms.{nothing, set-at, lists-of, most-of, least-of, calls, ends, only};
-ghost use Rattle.forms.specs.Kinds.{word-kinds};
 ghost use Rattle.forms.specs.Reading.{lives-first, lives-second, shared, taken, taken-at};
 use language::Operator;
-use words::Letter;
-use words::Numeral;
 
 // A form is a bit: the letters of indexed letters, a number, a class, a text, a label, a NAZWA and an INDEKS switch, nothing.
 pub const A: u32 = 1;
@@ -83,9 +80,9 @@ const TEXT_B: u32 = TEXT + B;
 const RZ_TEST: u32 = NUMBER + TEXT + B + E + N + T;
 
 // What an identifier reads as, besides a class or an indexed letter.
-const NAME: u32 = LABEL + NAZWA + INDEKS;
+pub const NAME: u32 = LABEL + NAZWA + INDEKS;
 
-const NAMED_CLASS: u32 = NAME + CLASS;
+pub const NAMED_CLASS: u32 = NAME + CLASS;
 
 // Which of an instruction's lists take the arguments so far.
 pub enum Live {
@@ -263,27 +260,6 @@ pub fn letter_bit(place: u8) -> u32
     ensures { λ r. ⌜ (r ≡ 2 ^ place) × (r < 4096) ⌝ }
 {
     1u32 << place
-}
-
-// The set of all forms that a word reads as; a text reads as TEXT alone.
-pub fn kinds_of(w: &[u8]) -> u32
-    ensures { λ r. ⌜ r ≡ word-kinds (now (w .entry)) ⌝ }
-{
-    if words::identifier(w) {
-        if words::is_class(w) {
-            return NAMED_CLASS;
-        }
-        let letter = words::indexed(w);
-        return match letter {
-            Letter::At(place, _) => NAME + letter_bit(place),
-            Letter::Not => NAME,
-        };
-    }
-    let number = words::number_of(w);
-    match number {
-        Numeral::Code(_) => NUMBER,
-        Numeral::Not => 0,
-    }
 }
 
 // The form of a set of one; - of any other set.

@@ -7,15 +7,14 @@ use native.Mathlib.Omega.{arith}
 use lib.Dec.{eqb}
 use lib.ListN.{length, take, drop}
 use borrow.Author.Tests.{eq-eqb, ne-eqb}
-use Rattle.lists.specs.Lists.{filled, ifAny, keep}
+use Rattle.lists.specs.Lists.{filled, ifAny}
 use Rattle.lexer.specs.declared.Token.{Token}
-use Rattle.lexer.specs.Tokens.{word-of, chars-of, item-of, colon-of, Stands, Next-token}
+use Rattle.lexer.specs.Tokens.{word-of, chars-of, item-of, colon-of, Stands}
 use Rattle.lexer.proofs.Finding.{is-sort, word-chars}
 use Rattle.statements.specs.StatementAt.{statement-at, stops}
-use Rattle.statements.specs.StatementLaws.{at-stop, at-item, on}
 use Rattle.syntax.specs.Items.{Item, is}
 use Rattle.syntax.specs.Items.Sort.{word, colon}
-use Rattle.syntax.specs.Statements.{keyword-number, same-keyword, keyword-of, is-operator, front, behind, labels-in, operator, keyword-in, rest}
+use Rattle.syntax.specs.Statements.{keyword-number, same-keyword, keyword-of, is-operator, front, behind, operator, keyword-in, rest}
 use Rattle.syntax.specs.Statements as Spec
 use Rattle.words.specs.declared.Keyword.{Keyword}
 use Rattle.words.specs.Keywords.{keyword-by, told}
@@ -88,17 +87,6 @@ filled-colon t = go (eqb (t .colon) 0)
 pub operator-is : {s : List ℕ} {t : Token} → Stands s t → is-operator (item-of s t) ≡ operates t
 operator-is {s} {t} h = rw (is-sort colon h, filled-colon t) refl
 
--- Place i is still in front of the operator of the statement at n, behind k of its labels
-pub record Leading (s : List ℕ) (n i k : ℕ) : Type 0 where
-  pub from : n ≤ i
-  pub most : i ≤ length s
-  pub few : k ≤ i
-  pub labels : length (labels-in (statement-at s n)) ≡ k + length (labels-in (statement-at s i))
-  pub operator : behind (statement-at s n) ≡ behind (statement-at s i)
-
-pub leading-first : {s : List ℕ} {n : ℕ} → n ≤ length s → Leading s n n 0
-leading-first h = record { from = omega arith; most = h; few = omega arith; labels = omega arith; operator = refl }
-
 pub one-at-most : (b : Bool) {r : ℕ} → r ≡ cond b 1 0 → r ≤ 1
 one-at-most true e = omega arith
 one-at-most false e = omega arith
@@ -106,58 +94,6 @@ one-at-most false e = omega arith
 pub one-more : (b : Bool) (i : Item) (js : List Item) → length (cond b (i ∷ js) js) ≡ cond b 1 0 + length js
 one-more true i js = omega arith
 one-more false i js = omega arith
-
-module _ {s : List ℕ} {n i m : ℕ} {t : Token} (l : Leading s n i m) (k : Next-token s i t) where
-  pub no-head : stops (t .sort) ≡ true → Headed s n (record { labels = m; op = t; keyword = Keyword.None })
-  unfolding front behind keyword-in
-  no-head z =
-      let e = at-stop k z in
-      record {
-        from = omega (arith, l .from, k .from);
-        stands = k .stands;
-        labels = omega (arith, l .labels, ap (λ js. length (labels-in js)) e);
-        operator = l .operator ∙ rw (e, z) refl;
-        keyword = rw (l .operator, e) refl;
-      }
-
-  module _ (z : stops (t .sort) ≡ false) where
-    abbrev js : List Item
-    js = statement-at s (t .next)
-
-    pub head-here : operates t ≡ true → {w : Keyword} → w ≡ told (keyword-of (item-of s t)) → Headed s n (record { labels = m; op = t; keyword = w })
-    unfolding keyword-in
-    head-here f {w} g =
-        let e = at-item k z in
-        let o : is-operator (item-of s t) ≡ true = operator-is (k .stands) ∙ f in
-        let b = l .operator ∙ ap behind e ∙ behind-here (item-of s t) js o in
-        record {
-          from = omega (arith, l .from, k .from);
-          stands = k .stands;
-          labels = omega (arith, l .labels, ap (λ xs. length (labels-in xs)) e, ap (λ xs. length (keep (is word) xs)) (front-ends (item-of s t) js o));
-          operator = b ∙ rw z refl;
-          keyword = g ∙ sym (ap (λ xs. told (ifAny Spec.Keyword.none keyword-of xs)) b);
-        }
-
-    pub still-leading : operates t ≡ false → {m′ : ℕ} → m′ ≡ m + cond (eqb 1 (t .sort)) 1 0 → Leading s n (t .next) m′
-    still-leading f {m′} g =
-        let e = at-item k z in
-        let o : is-operator (item-of s t) ≡ false = operator-is (k .stands) ∙ f in
-        let w : length (labels-in (statement-at s i)) ≡ cond (eqb 1 (t .sort)) 1 0 + length (labels-in js) =
-        ap (λ xs. length (labels-in xs)) e
-        ∙ ap (λ xs. length (keep (is word) xs)) (front-goes (item-of s t) js o)
-        ∙ one-more (is word (item-of s t)) (item-of s t) (labels-in js)
-        ∙ ap (λ b. cond b 1 0 + length (labels-in js)) (is-sort word (k .stands)) in
-        record {
-          from = omega (arith, l .from, on k z);
-          most = k .stands .most;
-          few = few-of (eqb 1 (t .sort)) g;
-          labels = omega (arith, l .labels, w, g);
-          operator = l .operator ∙ ap behind e ∙ behind-goes (item-of s t) js o;
-        }
-      where
-        few-of : (b : Bool) → m′ ≡ m + cond b 1 0 → m′ ≤ t .next
-        few-of true q = omega (arith, l .few, on k z)
-        few-of false q = omega (arith, l .few, on k z)
 
 -- a head without an operator has no keyword; the operator, and the items after it
 module _ {s : List ℕ} {n : ℕ} {h : Head} (g : Headed s n h) where

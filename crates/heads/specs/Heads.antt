@@ -1,15 +1,21 @@
 -- What the reader of a statement's head promises.
 use mathlib.Core.Path.{_≡_}
 use mathlib.Core.Bool.{Bool, true, false, cond, not, _||_}
-use mathlib.Core.List.{List, [], _∷_}
-use Prim.Native.Nat.{ℕ, _≤_}
+use mathlib.Core.List.{List, [], _∷_, _++_, map}
+use Prim.Native.Nat.{ℕ, _+_, _≤_}
 use lib.Dec.{eqb}
-use lib.ListN.{length}
+use lib.ListN.{length, take, drop}
+use Rattle.drafts.specs.Marks.{mark}
+use Rattle.statements.specs.Checks.{worst}
+use Rattle.language.specs.Limits as limit
 use Rattle.lexer.specs.declared.Token.{Token}
-use Rattle.lexer.specs.Tokens.{item-of, Stands}
-use Rattle.statements.specs.StatementAt.{statement-at, stops}
-use Rattle.syntax.specs.Items.{Item}
-use Rattle.syntax.specs.Statements.{behind, labels-in, keyword-in}
+use Rattle.lexer.specs.Tokens.{item-of, Stands, Next-token}
+use Rattle.lists.specs.Lists.{filled, keep}
+use Rattle.statements.proofs.Ends.{Within}
+use Rattle.statements.specs.declared.Fault.the-variants.{At}
+use Rattle.statements.specs.StatementAt.{statement-at, stops, fault-of}
+use Rattle.syntax.specs.Items.{Item, places}
+use Rattle.syntax.specs.Statements.{front, behind, labels-in, operator as operator-in, keyword-in, is-name}
 use Rattle.words.specs.declared.Keyword.{Keyword}
 use Rattle.words.specs.Keywords.{told}
 use Rattle.heads.specs.declared.Head.{Head}
@@ -49,10 +55,33 @@ instr-of k = by-kind 0 0 0 0 0 (λ byName. 0) (λ n. n) k
 abbrev pub from-token : List ℕ → Token → List Item
 from-token s t = cond (stops (t .sort)) [] (item-of s t ∷ statement-at s (t .next))
 
--- The head of the statement at n: how many labels it has, and its operator. Without one `op` is the token that ends the statement
+-- The head of the statement x at n: the place of its first item, or of what ends it; the first item in front of the operator that is no name; questions
+-- 14, 15 and 16 of the items up to the operator; and the operator. Without one `op` is the token that ends the statement
 pub record Headed (s : List ℕ) (n : ℕ) (h : Head) : Type 0 where
   pub from : n ≤ h .op .at
   pub stands : Stands s (h .op)
-  pub labels : length (labels-in (statement-at s n)) ≡ h .labels
+  pub place : ℕ
+  pub within : Within s n place
+  pub token : Next-token s place (h .op)
   pub operator : behind (statement-at s n) ≡ from-token s (h .op)
   pub keyword : h .keyword ≡ told (keyword-in (statement-at s n))
+  pub first-is : filled (statement-at s n) ≡ true → fault-of (places (statement-at s n)) ≡ At (h .first)
+  pub front-is : eqb (h .first) (h .op .at) ≡ not (filled (front (statement-at s n)))
+  pub fault-is : h .fault ≡ fault-of (places (keep (λ i. not (is-name i)) (front (statement-at s n))))
+  pub worst-is : h .worst ≡ worst (front (statement-at s n) ++ operator-in (statement-at s n))
+
+-- the marks of the statement's labels stand behind the first `count` of the marks ms; then there are k
+pub record Marks-put (s : List ℕ) (n count : ℕ) (ms ms′ : List ℕ) (k : ℕ) : Type 0 where
+  pub room : length ms′ ≡ length ms
+  pub count-is : k ≡ count + length (labels-in (statement-at s n))
+  pub marks : take k ms′ ≡ take count ms ++ map mark (labels-in (statement-at s n))
+
+-- Each label takes a byte at least, so the names of all labels before place n have a place among 32,768
+pub record Headable (r : List ℕ) (n : ℕ) (ms : List ℕ) (count : ℕ) : Type 0 where
+  pub low : n + length r ≤ limit.text
+  pub room : length ms ≡ 32768
+  pub few : count ≤ n
+
+-- of whatever text s whose rest from place n on is r
+abbrev pub Heads : List ℕ → ℕ → ℕ → List ℕ → List ℕ → Head → Type 0
+Heads r n count ms ms′ h = (s : List ℕ) → n ≤ length s → drop n s ≡ r → Headed s n h × Marks-put s n count ms ms′ (h .names)

@@ -1,34 +1,42 @@
 // The head of a statement: its labels and its operator.
 ghost use mathlib.Core.Path.{_≡_};
-ghost use mathlib.Core.Bool.{not, _&&_, _||_};
+ghost use mathlib.Core.Bool.{cond, not, _||_};
+ghost use mathlib.Core.List.{[], _∷_};
 ghost use Prim.Native.Nat.{_≤_};
 ghost use lib.Dec.{eqb};
-ghost use lib.ListN.{length};
-ghost use Rattle.lists.specs.Lists.{sameBytes};
-ghost use Rattle.lexer.specs.Tokens.{item-of, chars-of, Stands};
-ghost use Rattle.syntax.specs.Items.{is};
-ghost use Rattle.syntax.specs.Items.Sort.{word};
+ghost use Rattle.drafts.specs.Marks.{mark-of};
+ghost use Rattle.lexer.specs.Tokens.{item-of, Stands};
+ghost use Rattle.statements.specs.StatementAt.{fault-of};
 ghost use Rattle.syntax.specs.Statements.{keyword-of, is-name};
 ghost use Rattle.words.specs.Keywords.{told};
-ghost use Rattle.heads.specs.Heads.{opens, bars, is-switch, is-by-name, instr-of, Headed};
+ghost use Rattle.heads.specs.Heads.{opens, bars, is-switch, is-by-name, instr-of, Headable, Heads};
 use lexer::Token;
+use lexer::moved;
 use lexer::next_item;
 use scanner::COLON;
 use scanner::WORD;
 use scanner::one_if;
+use statements::CLEAN;
+use statements::Fault;
+use statements::lower;
 use statements::stops;
+use statements::worse;
 use words::Keyword;
 
-// How many labels stand in front, the operator or the token that ends the statement, and what the operator is. The items
-// after it are read from `op.next` on.
+// The place of the first item, or of what ends the statement; the first item in front of the operator that is no name; how many names there are with
+// its labels; questions 14, 15 and 16 of the items up to the operator; the operator, or the token that ends the statement; and what the operator is.
+// The items after it are read from `op.next` on.
 pub struct Head {
-    pub labels: usize,
+    pub first: usize,
+    pub fault: Fault,
+    pub names: usize,
+    pub worst: usize,
     pub op: Token,
     pub keyword: Keyword,
 }
 
 // Whether a token, by its sort and its colon, is an operator, and does not stand in front of one.
-pub fn is_operator(sort: u8, colon: usize) -> bool
+fn is_operator(sort: u8, colon: usize) -> bool
     ensures { λ r. ⌜ r ≡ not (eqb 2 sort || not (eqb colon 0)) ⌝ }
 {
     !((COLON == sort) | !(colon == 0))
@@ -46,20 +54,7 @@ pub fn is_name(text: &[u8], t: Token) -> bool
     false
 }
 
-// Whether a token is a certain word.
-pub fn is_word(text: &[u8], t: Token, name: &[u8]) -> bool
-    requires { ⌜ Stands (now text) t ⌝ }
-    ensures { λ r. ⌜ r ≡ is word (item-of (now (text .entry)) t) && sameBytes (now (name .entry)) (chars-of (now (text .entry)) t) ⌝ }
-{
-    let at = t.at;
-    let end = t.end;
-    if t.sort == WORD {
-        return words::same(name, &text[at..end]);
-    }
-    false
-}
-
-pub fn keyword_at(text: &[u8], t: Token) -> Keyword
+fn keyword_at(text: &[u8], t: Token) -> Keyword
     requires { ⌜ Stands (now text) t ⌝ }
     ensures { λ r. ⌜ r ≡ told (keyword-of (item-of (now (text .entry)) t)) ⌝ }
 {
@@ -146,30 +141,73 @@ pub fn instr_of(k: Keyword) -> u8
     }
 }
 
-// The head of the statement at `n`.
-pub fn read_head(text: &[u8], n: usize) -> Head
-    requires { ⌜ n ≤ length (now text) ⌝ }
-    ensures { λ r. ⌜ Headed (now (text .entry)) n r ⌝ }
+// Whether a token is no name; it stands at `at` of the whole text.
+fn name_fault(text: &[u8], t: Token, at: usize) -> Fault
+    requires { ⌜ Stands (now text) t ⌝ }
+    ensures { λ r. ⌜ r ≡ fault-of (cond (is-name (item-of (now (text .entry)) t)) [] (at ∷ [])) ⌝ }
 {
-    let mut labels: usize = 0;
-    let mut i = n;
+    if is_name(text, t) {
+        return Fault::Clear;
+    }
+    Fault::At(at)
+}
+
+fn pick(b: bool, x: usize, y: usize) -> usize
+    ensures { λ r. ⌜ r ≡ cond b x y ⌝ }
+{
+    if b {
+        return x;
+    }
+    y
+}
+
+// A word's place and length in one number.
+pub fn mark(at: usize, len: usize) -> u32
+    requires { ⌜ (at ≤ 32768) × (len ≤ 32768) ⌝ }
+    ensures { λ r. ⌜ r ≡ mark-of at len ⌝ }
+{
+    (at * 64 + len) as u32
+}
+
+// The head of the statement with which the unread rest of a text begins, at place `n` of the text. The marks of its labels come behind the first `count`
+// names.
+pub fn read_head(rest: &[u8], n: usize, names: &mut [u32], count: usize) -> Head
+    requires { ⌜ Headable (now rest) n (now names) count ⌝ }
+    ensures { λ r. ⌜ Heads (now (rest .entry)) n count (now (names .entry)) (now (names .exit)) r ⌝ }
+{
+    let mut first = n;
+    let mut fault = Fault::Clear;
+    let mut c = count;
+    let mut worst = CLEAN;
+    let mut i: usize = 0;
     loop {
-        let t = next_item(text, i);
-        if stops(t.sort) {
+        let t = next_item(rest, i);
+        let o = moved(t, n);
+        first = pick(i == 0, o.at, first);
+        if stops(o.sort) {
             return Head {
-                labels: labels,
-                op: t,
+                first: first,
+                fault: fault,
+                names: c,
+                worst: worst,
+                op: o,
                 keyword: Keyword::None,
             };
         }
-        if is_operator(t.sort, t.colon) {
+        worst = worse(worst, o);
+        if is_operator(o.sort, o.colon) {
             return Head {
-                labels: labels,
-                op: t,
-                keyword: keyword_at(text, t),
+                first: first,
+                fault: fault,
+                names: c,
+                worst: worst,
+                op: o,
+                keyword: keyword_at(rest, t),
             };
         }
-        labels = labels + one_if(WORD == t.sort);
+        fault = lower(fault, name_fault(rest, t, o.at));
+        names[c] = mark(o.at, o.len);
+        c = c + one_if(WORD == o.sort);
         i = t.next;
     }
 }

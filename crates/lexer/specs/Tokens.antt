@@ -102,3 +102,17 @@ pub record Next-token (s : List ℕ) (n : ℕ) (t : Token) : Type 0 where
   pub from : n ≤ t .at
   pub stands : Stands s t
   pub is : items-from s n ≡ cond (eqb (t .sort) 0) [] (item-of s t ∷ items-from s (t .next))
+
+-- a token of a text's rest, counted from place n of the text on
+abbrev pub moved-colon : ℕ → ℕ → ℕ
+moved-colon n c = cond (eqb c 0) 0 (n + c)
+
+abbrev pub moved : ℕ → Token → Token
+moved n t =
+    record { sort = t .sort; at = n + t .at; end = n + t .end; next = n + t .next; len = t .len; good = t .good; colon = moved-colon n (t .colon) }
+
+pub record Movable (n : ℕ) (t : Token) : Type 0 where
+  pub own : t .at ≤ t .next
+  pub behind : t .end ≤ t .next
+  pub colon-most : t .colon ≤ t .next
+  pub low : n + t .next ≤ 65536

@@ -1,9 +1,9 @@
 // From a place in a text to the item that stands there and the place behind it.
 ghost use mathlib.Core.Path.{_≡_};
-ghost use Prim.Native.Nat.{_≤_, _<_};
+ghost use Prim.Native.Nat.{_+_, _≤_, _<_};
 ghost use lib.ListN.{length};
 ghost use Rattle.syntax.specs.Items.{line-at};
-ghost use Rattle.lexer.specs.Tokens.{a-token, Word-at, Text-at, Token-at, Colon-after, Next-token};
+ghost use Rattle.lexer.specs.Tokens.{a-token, Word-at, Text-at, Token-at, Colon-after, Next-token, Movable, moved, moved-colon};
 use scanner::NOTHING;
 use scanner::TEXT;
 use scanner::WORD;
@@ -143,6 +143,32 @@ pub fn next_item(text: &[u8], n: usize) -> Token
         good: true,
         colon: a.colon,
     }
+}
+
+// A token of the rest of a text, counted from place `n` of the text on.
+pub fn moved(t: Token, n: usize) -> Token
+    requires { ⌜ Movable n t ⌝ }
+    ensures { λ r. ⌜ r ≡ moved n t ⌝ }
+{
+    Token {
+        sort: t.sort,
+        at: n + t.at,
+        end: n + t.end,
+        next: n + t.next,
+        len: t.len,
+        good: t.good,
+        colon: moved_colon(t.colon, n),
+    }
+}
+
+fn moved_colon(colon: usize, n: usize) -> usize
+    requires { ⌜ n + colon ≤ 65536 ⌝ }
+    ensures { λ r. ⌜ r ≡ moved-colon n colon ⌝ }
+{
+    if colon == 0 {
+        return 0;
+    }
+    n + colon
 }
 
 // The line of a place, from the lines of a text's bytes; 1 where no byte stands.

@@ -5,7 +5,7 @@ use mathlib.Core.List.{List, [], _∷_, _++_, map}
 use Prim.Native.Nat.{ℕ}
 use native.Mathlib.Omega.{arith}
 use Rattle.drafts.specs.Marks.{place-by}
-use Rattle.faults.specs.Faults.{lower}
+use Rattle.statements.specs.Faults.{lower}
 use Rattle.language.specs.Program.{Program}
 use Rattle.lists.specs.Lists.{keep}
 use Rattle.statements.specs.declared.Fault.{Fault}

@@ -15,12 +15,12 @@ ghost use Rattle.writing.specs.Writing.{Changes};
 ghost use Rattle.linking.specs.Lookup.{label-by, switch-by, is-switch, joined, known, faults, marks-in, argument, names-number, asked-by, instr-uses, Asking, AskingAt, AskingFor, Judges};
 ghost use Rattle.linking.specs.Resolving.{argument-resolved, instr-resolved, code-resolved, entries-resolved, Labelling};
 ghost use Rattle.linking.specs.Linking.{Kept, Finds, label-places, switch-places, Links};
-use faults::lesser;
-use faults::lower;
 use language::Operator;
 use layout::ArgumentKinds;
 use layout::TablePlaces;
 use statements::Fault;
+use statements::lesser;
+use statements::lower;
 
 // The names are places now, or the lowest place of a label (12) or of a switch (13) that is not declared.
 pub enum Linked {

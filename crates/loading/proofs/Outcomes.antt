@@ -10,9 +10,9 @@ use lib.ListN.{length, drop, replicate, take-append-drop}
 use Rattle.calls.specs.Calls.{load-number, load-line, table-after}
 use Rattle.drafts.specs.Drafting.{draft-program}
 use Rattle.acceptance.specs.DraftLaws.{blank-sound}
-use Rattle.faults.specs.Faults.{verdict-of}
-use Rattle.faults.specs.declared.Verdict.{Verdict}
-use Rattle.faults.specs.declared.Verdict.the-variants.{Yes, No}
+use Rattle.statements.specs.Faults.{verdict-of}
+use Rattle.statements.specs.declared.Verdict.{Verdict}
+use Rattle.statements.specs.declared.Verdict.the-variants.{Yes, No}
 use Rattle.finishing.specs.Finishing.{Finishable, Finishes}
 use Rattle.language.specs.Limits as limit
 use Rattle.layout.specs.Table.{table-cells}

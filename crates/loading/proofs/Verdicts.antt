@@ -1,27 +1,20 @@
--- Verdicts of questions: the number of a refusal is that of one of the questions, so load answers 40 for nothing in a text; its place is one of those at fault.
-use mathlib.Core.Path.{_≡_, refl, sym, ap, _∙_, subst}
+-- Verdicts of questions: the number of a refusal is that of one of the questions, so load answers 40 for nothing in a text.
+use mathlib.Core.Path.{_≡_, refl, sym, _∙_, subst}
 use mathlib.Core.Logic.{_≢_}
-use mathlib.Core.Bool.{Bool, not, _&&_, _||_}
-use mathlib.Core.List.{List, [], _∷_, _++_}
-use Prim.Native.Nat.{ℕ, _≤_, min}
+use mathlib.Core.Bool.{Bool, _||_}
+use mathlib.Core.List.{List, [], _∷_}
+use Prim.Native.Nat.{ℕ}
 use native.Mathlib.Omega.{arith}
-use lib.Dec.{T, eqb, eqb-refl, ltb}
-use lib.ListN.{length}
-use Rattle.acceptance.specs.RowLaws.{or-left, or-right, each-keep, each-mapped}
-use Rattle.faults.specs.Faults.{then}
-use Rattle.faults.specs.FaultLaws.{first-no-both}
-use Rattle.faults.specs.Groups.{item-questions, head-questions, name-questions, argument-questions, table-questions, questions-grouped}
-use Rattle.language.specs.Limits as limit
-use Rattle.layout.specs.Bounds.{Each}
-use Rattle.lists.specs.Lists.{any, filled, keep}
+use lib.Dec.{T, eqb, eqb-refl}
+use Rattle.acceptance.specs.RowLaws.{or-left, or-right}
+use Rattle.lists.specs.Lists.{any}
 use Rattle.syntax.specs.Ending.{last-questions}
-use Rattle.syntax.specs.Items.{Item, is, places}
-use Rattle.syntax.specs.Items.Sort.{text, wrong}
+use Rattle.syntax.specs.Items.{Item}
 use Rattle.syntax.specs.Load.{Loaded, unless-refused, load-from, program-of}
 use Rattle.syntax.specs.Load.Loaded.{refused, accepted}
 use Rattle.syntax.specs.Questions.{questions}
 use Rattle.syntax.specs.Tables.{Draft, draft-after}
-use Rattle.syntax.specs.Verdict.{Question, Verdict, lowest, decide, first-no}
+use Rattle.syntax.specs.Verdict.{Question, Verdict, decide, first-no}
 use Rattle.syntax.specs.Verdict.Verdict.{yes, refuse}
 
 -- ---- numbers
@@ -69,44 +62,3 @@ load-not-40 lines last d [] k l e =
     (λ q. absurd (let z : _≡_ {A = ℕ} 0 1 = cc in omega arith)) e
 load-not-40 lines last d (x ∷ xs) k l e =
     unless-not-40 lines (first-no (questions d x)) (load-from lines last (draft-after d x) xs) k l (statement-not-40 d x) (load-not-40 lines last (draft-after d x) xs k l) e
-
--- ---- places
-
-lowest-first : (p : ℕ) (ps : List ℕ) → lowest p ps ≤ p
-unfolding lowest
-lowest-first p [] = omega arith
-lowest-first p (q ∷ ps) = omega (arith, lowest-first (min p q) ps)
-
-same-place : {i j p q : ℕ} → refuse i p ≡ refuse j q → p ≡ q
-same-place e = cc
-
-decide-low : (m number : ℕ) (ps : List ℕ) (qs : List Question) (k at : ℕ) → Each (λ p. p ≤ m) ps → decide number ps (first-no qs) ≡ refuse k at
-    → (first-no qs ≡ refuse k at → at ≤ m) → at ≤ m
-unfolding decide
-decide-low m number [] qs k at h e f = f e
-decide-low m number (p ∷ ps) qs k at h e f = omega (arith, lowest-first p ps, same-place e, h .0)
-
-refuse-low : (m : ℕ) (qs : List Question) (k at : ℕ) → Each (λ q. Each (λ p. p ≤ m) (q .faults)) qs → first-no qs ≡ refuse k at → at ≤ m
-unfolding first-no
-refuse-low m [] k at h e = absurd (let z : _≡_ {A = ℕ} 0 1 = cc in omega arith)
-refuse-low m (q ∷ qs) k at h e = decide-low m (q .number) (q .faults) qs k at (h .0) e (refuse-low m qs k at (h .1))
-
--- a refusal by 14, 15 or 16 names the place of an item
-pub items-low : (m : ℕ) (x : List Item) (k at : ℕ) → Each (λ i. i .at ≤ m) x → first-no (item-questions x) ≡ refuse k at → at ≤ m
-items-low m x k at h e =
-    refuse-low m (item-questions x) k at
-    (row (is wrong), (row (λ i. is text i && not (i .good && filled (i .chars))), (row (λ i. ltb limit.item (length (i .chars))), tt))) e
-  where
-    row : (q : Item → Bool) → Each (λ p. p ≤ m) (places (keep q x))
-    row q = each-mapped (λ p. p ≤ m) (λ i. i .at) (keep q x) (each-keep (λ i. i .at ≤ m) q x h)
-
--- ---- the first questions before the others
-
-module _ (d : Draft) (x : List Item) where
-  abbrev others : List Question
-  others = head-questions d x ++ (name-questions d x ++ (argument-questions x ++ table-questions d x))
-
-  -- a refusal by 14, 15 or 16 is the refusal of the statement
-  pub items-refuse : {k at : ℕ} → first-no (item-questions x) ≡ refuse k at → first-no (questions d x) ≡ refuse k at
-  items-refuse e =
-      ap first-no (questions-grouped d x) ∙ first-no-both (item-questions x) others ∙ ap (λ (v : Verdict). then v (first-no others)) e

@@ -5,26 +5,19 @@ use Prim.Native.Nat.{ℕ, _≤_}
 use lib.ListN.{length, take, drop}
 use Rattle.calls.specs.Calls.{load-number, load-line, table-after}
 use Rattle.drafts.specs.Tabled.{Tabled}
-use Rattle.faults.specs.Faults.{verdict-of}
-use Rattle.faults.specs.Groups.{item-questions}
-use Rattle.faults.specs.declared.Verdict.{Verdict}
-use Rattle.faults.specs.declared.Verdict.the-variants.{Yes, No}
+use Rattle.statements.specs.declared.Verdict.{Verdict}
+use Rattle.statements.specs.declared.Verdict.the-variants.{Yes, No}
 use Rattle.language.specs.Limits as limit
 use Rattle.language.specs.Program.{Program}
-use Rattle.layout.specs.Bounds.{Each}
 use Rattle.progress.specs.Progress.{Drafted}
 use Rattle.progress.specs.declared.Progress.{Progress}
-use Rattle.reading_statements.specs.ReadingStatements.{Standing, Reads-after}
 use Rattle.reading_statements.specs.declared.Read.{Read}
 use Rattle.reading_statements.specs.declared.Read.the-variants.{Statement, Refused}
-use Rattle.statements.specs.StatementAt.{statement-at}
 use Rattle.syntax.specs.Ending.{last-place}
 use Rattle.syntax.specs.Items.{line-at, lines-of, statements-from}
 use Rattle.syntax.specs.Load as spec
 use Rattle.syntax.specs.Load.{load-from, Lined}
 use Rattle.syntax.specs.Tables.{Draft, blank}
-use Rattle.syntax.specs.Verdict.{first-no}
-use Rattle.unread.specs.Unread.{behind}
 use Rattle.writing.specs.Writing.{HoldsProgram, Cleared, no-program}
 use Rattle.loading.specs.declared.Loaded.{Loaded}
 
@@ -40,18 +33,6 @@ pub record Fillable (s l : List ℕ) : Type 0 where
 
 abbrev pub Fills : List ℕ → List ℕ → Type 0
 Fills s l = take (length s) l ≡ lines-of s
-
--- ---- a statement
-
--- v is the verdict of questions 14, 15 and 16 of the statement at n, with places from n on
-pub record Judged (s lines : List ℕ) (n : ℕ) (g : Progress) (v : Verdict) (ms c sw en : List ℕ) : Type 0 where
-  pub draft : Draft
-  pub standing : Standing s lines n draft g ms c sw en
-  pub verdict-is : behind n (verdict-of v) ≡ first-no (item-questions (statement-at s n))
-  pub inside : Each (λ i. i .at ≤ length s) (statement-at s n)
-
-abbrev pub Reads-judged : List ℕ → List ℕ → ℕ → Progress → List ℕ → List ℕ → List ℕ → List ℕ → Read → List ℕ → List ℕ → List ℕ → List ℕ → Type 0
-Reads-judged s lines n g ms c sw en = Reads-after (λ d. Standing s lines n d g ms c sw en) s lines n c
 
 -- ---- all statements
 

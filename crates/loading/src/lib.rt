@@ -3,15 +3,13 @@ ghost use Prim.Native.Nat.{_≤_};
 ghost use lib.ListN.{length};
 ghost use Rattle.language.specs.Limits as limit;
 ghost use Rattle.loading.specs.Loading.{Loads};
-ghost use Rattle.loading.specs.Texts.{Fillable, Fills, Judged, Reads-judged, Unread, Reads-text, Loadable, Loads-text, Refuses, Lent, Loads-lined};
-use faults::Verdict;
+ghost use Rattle.loading.specs.Texts.{Fillable, Fills, Unread, Reads-text, Loadable, Loads-text, Refuses, Lent, Loads-lined};
 use language::Machine;
 use lexer::line_at;
-use progress::Progress;
 use reading_statements::Read;
 use reading_statements::read_statement;
 use scanner::one_if;
-use unread::read_part;
+use statements::Verdict;
 use writing::clear_table;
 
 // Number and line; 80 and 0 where the text is accepted.
@@ -34,27 +32,6 @@ fn fill_lines(text: &[u8], lines: &mut [u16])
     }
 }
 
-// The statement at `n`, after the verdict of questions 14, 15 and 16.
-fn read_judged(
-    text: &[u8],
-    lines: &[u16],
-    n: usize,
-    p: Progress,
-    verdict: Verdict,
-    names: &mut [u32],
-    table: &mut [u32],
-    switches: &mut [u32],
-    entries: &mut [u32],
-) -> Read
-    requires { ⌜ Judged (now text) (now lines) n p verdict (now names) (now table) (now switches) (now entries) ⌝ }
-    ensures { λ r. ⌜ Reads-judged (now (text .entry)) (now (lines .entry)) n p (now (names .entry)) (now (table .entry)) (now (switches .entry)) (now (entries .entry)) r (now (names .exit)) (now (table .exit)) (now (switches .exit)) (now (entries .exit)) ⌝ }
-{
-    match verdict {
-        Verdict::No(number, at) => Read::Refused(number, n + at),
-        Verdict::Yes => read_statement(text, lines, n, p, names, table, switches, entries),
-    }
-}
-
 // All statements, one after the other.
 fn read_statements(
     text: &[u8],
@@ -70,16 +47,15 @@ fn read_statements(
     let mut p = progress::begin();
     let mut n: usize = 0;
     loop {
-        let part = read_part(&text[n..]);
-        let verdict = part.verdict;
-        let r = read_judged(text, lines, n, p, verdict, names, table, switches, entries);
+        let a = read_statement(text, lines, n, p, names, table, switches, entries);
+        let r = a.read;
         let Read::Statement(q) = r else {
             return r;
         };
-        if part.last {
+        if a.last {
             return Read::Statement(q);
         }
-        n += part.next;
+        n = a.next;
         p = q;
     }
 }

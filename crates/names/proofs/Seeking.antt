@@ -1,14 +1,15 @@
 -- A name among others.
-use mathlib.Core.Path.{_≡_, refl, sym, ap, _∙_}
+use mathlib.Core.Path.{_≡_, refl, sym, ap, subst, _∙_}
 use mathlib.Core.Bool.{Bool, true, false, _||_}
 use mathlib.Core.List.{List, [], _∷_}
 use Prim.Native.Nat.{ℕ, suc, _+_, _-_, _/_, _%_, _≤_, _<_}
 use native.Mathlib.Numerals.{add-one}
 use native.Mathlib.Omega.{arith}
+use lib.Dec.{T}
 use lib.ListN.{length, getD, take, drop, length-take, length-drop}
-use lib.Seq.{length-take-le, getD-take, drop-cons}
+use lib.Seq.{length-take-le, getD-take, getD-drop, drop-cons}
 use Rattle.lists.specs.Lists.{any, sameBytes}
-use Rattle.lists.specs.ListLaws.{other-length}
+use Rattle.lists.specs.ListLaws.{other-length, sameBytes-eq}
 use Rattle.drafts.specs.Marks.{length-by, word-by}
 use Rattle.lexer.specs.Tokens.{part}
 use Rattle.names.specs.Names.{Fitting, Sought, names-of}
@@ -31,6 +32,20 @@ module _ {s : List ℕ} {m at len : ℕ} (pre : Fitting s m at len) where
       let a : (at + len) - at ≡ len = omega arith in
       let b : (m / 64 + len) - m / 64 ≡ m % 64 = omega arith in
       q ∙ rw (a, b) refl
+
+  -- a word of this length with another last byte
+  pub other-last : m % 64 ≡ len → 0 < len → (getD s (at + (len - 1)) 0 ≡ getD s (m / 64 + (len - 1)) 0 → ⊥) → false ≡ sameBytes (take len (drop at s)) (word-by s m)
+  unfolding word-by
+  other-last e l h = go (sameBytes (take len (drop at s)) (word-by s m)) refl
+    where
+      last-of : (p n : ℕ) → len - 1 < n → getD (take n (drop p s)) (len - 1) 0 ≡ getD s (p + (len - 1)) 0
+      last-of p n q = getD-take n (drop p s) (len - 1) 0 q ∙ getD-drop p s (len - 1) 0
+
+      go : (b : Bool) → sameBytes (take len (drop at s)) (word-by s m) ≡ b → false ≡ b
+      go true q =
+          let v = sameBytes-eq (take len (drop at s)) (word-by s m) (subst T (sym q) tt) in
+          absurd (h (sym (last-of at len (omega arith)) ∙ ap (λ (w : List ℕ). getD w (len - 1) 0) v ∙ last-of (m / 64) (m % 64) (omega arith)))
+      go false q = refl
 
 -- the names from the k-th on
 module _ (q : List ℕ → Bool) (s ms : List ℕ) (count : ℕ) where

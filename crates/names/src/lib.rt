@@ -1,30 +1,16 @@
-// The names of all labels that were met: question 06, "Is each label new?"
+// The names of all labels that were met, by their marks: question 06, "Is each label new?"
 ghost use mathlib.Core.Path.{_≡_};
-ghost use Prim.Native.Nat.{_+_, _≤_};
-ghost use lib.ListN.{take, drop};
+ghost use mathlib.Core.List.{map};
+ghost use Prim.Native.Nat.{_≤_};
+ghost use lib.ListN.{length, getD, take, drop};
 ghost use Rattle.lists.specs.Lists.{any, sameBytes};
-ghost use Rattle.drafts.specs.Marks.{mark-of, word-by};
-ghost use Rattle.names.specs.Names.{Fitting, Sought, names-of, Collectable, Collecting};
-use heads::is_operator;
-use lexer::next_item;
+ghost use Rattle.drafts.specs.Marks.{place-by, word-by, marks-in};
+ghost use Rattle.statements.specs.StatementAt.{fault-of};
+ghost use Rattle.names.specs.Names.{Fitting, Sought, names-of, Askable, own-repeated, repeated-by, Repeatable};
 use statements::Fault;
-use statements::stops;
+use statements::lower;
 
-// How the labels of a statement were met: the first that is not new, and how many names there are then.
-pub struct Collected {
-    pub fault: Fault,
-    pub count: usize,
-}
-
-// A word's place and length in one number.
-pub fn mark(at: usize, len: usize) -> u32
-    requires { ⌜ (at ≤ 32768) × (len ≤ 60) ⌝ }
-    ensures { λ r. ⌜ r ≡ mark-of at len ⌝ }
-{
-    (at * 64 + len) as u32
-}
-
-// Whether the `len` bytes at `at` are the word of a mark.
+// Whether the `len` bytes at `at` are the word of a mark. Most words differ in their length or in their last byte.
 fn name_is(text: &[u8], m: usize, at: usize, len: usize) -> bool
     requires { ⌜ Fitting (now text) m at len ⌝ }
     ensures { λ r. ⌜ r ≡ sameBytes (take len (drop at (now (text .entry)))) (word-by (now (text .entry)) m) ⌝ }
@@ -32,7 +18,13 @@ fn name_is(text: &[u8], m: usize, at: usize, len: usize) -> bool
     if m % 64 != len {
         return false;
     }
-    spelling::same_word(text, at, m / 64, len)
+    let from = m / 64;
+    if 0 < len {
+        if text[at + (len - 1)] != text[from + (len - 1)] {
+            return false;
+        }
+    }
+    spelling::same_word(text, at, from, len)
 }
 
 // Whether one of the first `count` names is the `len` bytes at `at`.
@@ -50,29 +42,42 @@ fn has_name(text: &[u8], names: &[u32], count: usize, at: usize, len: usize) -> 
     false
 }
 
-// Adds the labels of the statement at `n` to the `count` names, up to the first that is not new.
-pub fn collect(text: &[u8], n: usize, names: &mut [u32], count: usize) -> Collected
-    requires { ⌜ Collectable (now text) n (now names) count ⌝ }
-    ensures { λ r. ⌜ Collecting (now (text .entry)) n (now (names .entry)) count (now (names .exit)) r ⌝ }
+// The place of the name number `k`, if it is one of the names before it.
+fn met_before(text: &[u8], names: &[u32], k: usize) -> Fault
+    requires { ⌜ Askable (now text) (now names) k ⌝ }
+    ensures { λ r. ⌜ r ≡ fault-of (own-repeated (now (text .entry)) (names-of (now (text .entry)) (take k (now (names .entry)))) (getD (now (names .entry)) k 0)) ⌝ }
 {
-    let mut c = count;
-    let mut i = n;
-    loop {
-        let t = next_item(text, i);
-        if stops(t.sort) | is_operator(t.sort, t.colon) {
-            return Collected {
-                fault: Fault::Clear,
-                count: c,
-            };
-        }
-        if has_name(text, names, c, t.at, t.len) {
-            return Collected {
-                fault: Fault::At(t.at),
-                count: c,
-            };
-        }
-        names[c] = mark(t.at, t.len);
-        c += 1;
-        i = t.next;
+    let m: usize = cells::read(names, k);
+    if has_name(text, names, k, m / 64, m % 64) {
+        return Fault::At(m / 64);
     }
+    Fault::Clear
+}
+
+// Question 06 of the names from index `from` to index `to`.
+pub fn first_repeated(text: &[u8], names: &[u32], from: usize, to: usize) -> Fault
+    requires { ⌜ Repeatable (now text) (now names) to ⌝ }
+    ensures { λ r. ⌜ r ≡ fault-of (repeated-by (now (text .entry)) (names-of (now (text .entry)) (take from (now (names .entry)))) (marks-in (now (names .entry)) from to)) ⌝ }
+{
+    let mut fault = Fault::Clear;
+    let mut k = from;
+    while k < to {
+        fault = lower(fault, met_before(text, names, k));
+        k += 1;
+    }
+    fault
+}
+
+// The lowest place of the names of the marks from index `from` to index `to`.
+pub fn lowest_mark(names: &[u32], from: usize, to: usize) -> Fault
+    requires { ⌜ to ≤ length (now names) ⌝ }
+    ensures { λ r. ⌜ r ≡ fault-of (map place-by (marks-in (now (names .entry)) from to)) ⌝ }
+{
+    let mut low = Fault::Clear;
+    let mut k = from;
+    while k < to {
+        low = lower(low, Fault::At(cells::read(names, k) / 64));
+        k += 1;
+    }
+    low
 }

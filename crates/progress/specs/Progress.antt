@@ -5,8 +5,8 @@ use Prim.Native.Nat.{ℕ, _-_, _≤_, _<_}
 use lib.Dec.{eqb}
 use lib.ListN.{length, getD, take}
 use Rattle.acceptance.specs.Drafts.{Sound-draft}
-use Rattle.closing.specs.Closing.{Tells-closing, unended}
-use Rattle.declaring.specs.Declaring.{marks-in}
+use Rattle.progress.specs.Closing.{Tells-closing, unended}
+use Rattle.drafts.specs.Marks.{marks-in}
 use Rattle.drafts.specs.Marks.{mark, length-by, word-by, Marked}
 use Rattle.drafts.specs.Tabled.{Spelt, Tabled}
 use Rattle.language.specs.Limits as limit

@@ -1,5 +1,15 @@
+pub mod Judging
+pub mod Asking
+pub mod Admitting
 pub mod ReadingStatements
-pub mod Questioning
 pub mod GatheringLaws
+pub mod NoneLaws
 pub mod QuestionLaws
+pub mod KindLaws
+pub mod AdmittedLaws
+pub mod AdmittedSwitchLaws
 pub mod ReadLaws
+pub mod InstrLaws
+pub mod EndingLaws
+pub mod StandingLaws
+pub mod SwitchReadLaws

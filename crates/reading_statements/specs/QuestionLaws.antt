@@ -1,130 +1,85 @@
--- The questions before 11, one after the other: the verdict of each is handed up, or the next decides.
-use mathlib.Core.Path.{_≡_, refl, sym, ap, _∙_, subst}
-use mathlib.Core.Bool.{Bool}
-use mathlib.Core.List.{List, [], _∷_, _++_}
-use Prim.Native.Nat.{ℕ}
+-- The questions before 11, one after the other.
+use mathlib.Core.Path.{_≡_, sym, ap, _∙_}
+use mathlib.Core.Bool.{Bool, true, false, cond}
+use mathlib.Core.List.{List, [], _∷_, _++_, append-assoc}
+use Prim.Native.Nat.{ℕ, _<_}
 use native.Mathlib.Omega.{arith}
 use lib.ListN.{length}
-use Rattle.acceptance.specs.RowLaws.{answered, Answered}
-use Rattle.faults.specs.FaultLaws.{question-decides, first-no-both}
-use Rattle.faults.specs.Faults.{verdict-of, decided, then}
-use Rattle.arguments.specs.declared.Values.{Values}
-use Rattle.asking.specs.Asking.{Head-asked, Head-values, Arguments-asked}
-use Rattle.asking.specs.declared.Asked.{Asked}
-use Rattle.faults.specs.Groups.{item-questions, head-questions, name-questions, argument-questions, early-questions}
-use Rattle.faults.specs.declared.Verdict as told
-use Rattle.faults.specs.declared.Verdict.the-variants.{Yes, No}
+use Rattle.acceptance.specs.Drafts.{Sound-item}
+use Rattle.acceptance.specs.RowLaws.{each-map}
+use Rattle.statements.specs.CheckLaws.{worst-decides}
+use Rattle.statements.specs.Checks.{worst, code-verdict}
+use Rattle.statements.specs.FaultLaws.{question-decides, then-yes, first-no-both}
+use Rattle.statements.specs.Faults.{decided, then}
+use Rattle.statements.specs.Groups.{item-questions, head-questions, name-questions, argument-questions, early-questions}
 use Rattle.heads.specs.declared.Head.{Head}
-use Rattle.names.specs.Names.{Collecting}
-use Rattle.names.specs.declared.Collected.{Collected}
+use Rattle.progress.specs.declared.Progress.{Progress}
 use Rattle.statements.specs.StatementAt.{statement-at, fault-of}
-use Rattle.statements.specs.declared.Fault.{Fault}
-use Rattle.statements.specs.declared.Fault.the-variants.{Clear, At}
-use Rattle.syntax.specs.Questions.{repeated}
+use Rattle.syntax.specs.Items.{Item}
+use Rattle.syntax.specs.Questions.{first-faults, operator-faults, label-faults, repeated}
 use Rattle.syntax.specs.Statements.{labels-in}
-use Rattle.syntax.specs.Tables.{Draft, is-first}
-use Rattle.syntax.specs.Verdict.{Question, Verdict, decide, first-no}
-use Rattle.syntax.specs.Verdict.Verdict.{yes}
-use Rattle.reading_statements.specs.GatheringLaws as gathering
-use Rattle.reading_statements.specs.Questioning.{Judging, Arguments-judged, Gathered, Gatherable, Gathers, Askable, Asks}
-use Rattle.reading_statements.specs.declared.Judged.{Judged}
-use Rattle.reading_statements.specs.declared.Judged.the-variants as judged
+use Rattle.syntax.specs.Tables.{Draft, is-first, all-labels}
+use Rattle.syntax.specs.Verdict.{Question, Verdict, ask, first-no}
+use Rattle.syntax.specs.Verdict.Verdict.{yes, refuse}
+use Rattle.reading_statements.specs.AdmittedLaws.{statement-sound}
+use Rattle.reading_statements.specs.Asking.{operator-verdict, opening-questions}
+use Rattle.reading_statements.specs.Judging.{Judging}
 
-pub all-yes : (qs : List Question) → Answered qs → first-no qs ≡ yes
-unfolding first-no decide
-all-yes [] h = refl
-all-yes (q ∷ qs) h = ap (λ (ps : List ℕ). decide (q .number) ps (first-no qs)) (h .0) ∙ all-yes qs (h .1)
+pub last-question : (number : ℕ) (ps : List ℕ) → first-no (ask number ps ∷ []) ≡ decided number (fault-of ps)
+unfolding first-no
+last-question number ps = question-decides number ps [] ∙ then-yes (decided number (fault-of ps))
 
-not-names : {number at k : ℕ} {v : Values} → judged.Refused number at ≡ judged.Names k v → ⊥
-not-names e = let y : _≡_ {A = ℕ} 0 1 = cc in omega arith
+pub two-questions : (n m : ℕ) (ps qs : List ℕ) → first-no (ask n ps ∷ ask m qs ∷ []) ≡ then (decided n (fault-of ps)) (decided m (fault-of qs))
+two-questions n m ps qs = question-decides n ps (ask m qs ∷ []) ∙ ap (then (decided n (fault-of ps))) (last-question m qs)
 
-same-count : {k l : ℕ} {v w : Values} → judged.Names k v ≡ judged.Names l w → l ≡ k
-same-count {k} {l} e = let q : k ≡ l = cc in sym q
+-- 00 or 10, 08 and 06
+module _ (d : Draft) (x : List Item) where
+  abbrev labels : List ℕ
+  labels = label-faults (all-labels d x) x
 
-same-values : {k l : ℕ} {v w : Values} → judged.Names k v ≡ judged.Names l w → v ≡ w
-same-values e = cc
+  abbrev again : List ℕ
+  again = repeated (d .names) (labels-in x)
 
--- 01 and 02
-module _ {s : List ℕ} {n : ℕ} {h : Head} (count : ℕ) {a : Asked} (g : Arguments-asked s n h a) where
-  pub arguments-refused : {number at : ℕ} → a .verdict ≡ No number at → Arguments-judged s n h count (judged.Refused number at)
-  arguments-refused e =
-      record {
-        told = sym (ap verdict-of e) ∙ g .verdict-is;
-        count-is = λ k v q. absurd (not-names q);
-        values-are = λ k v q. absurd (not-names q);
-      }
+  abbrev asked : Bool → List Question
+  asked first = ask 0 (cond first (first-faults x) []) ∷ ask 10 (cond first [] (operator-faults x)) ∷ ask 8 labels ∷ ask 6 again ∷ []
 
-  pub arguments-pass : a .verdict ≡ Yes → Arguments-judged s n h count (judged.Names count (a .values))
-  arguments-pass e =
-      record {
-        told = sym (ap verdict-of e) ∙ g .verdict-is;
-        count-is = λ k v q. same-count q;
-        values-are = λ k v q. subst (Head-values s h) (same-values q) (g .values-are e);
-      }
+  each-asked : (first : Bool) → first-no (asked first) ≡ then (operator-verdict x first) (then (decided 8 (fault-of labels)) (decided 6 (fault-of again)))
+  each-asked true =
+      question-decides 0 (first-faults x) (ask 10 [] ∷ ask 8 labels ∷ ask 6 again ∷ [])
+      ∙ ap (then (decided 0 (fault-of (first-faults x)))) (question-decides 10 [] (ask 8 labels ∷ ask 6 again ∷ []) ∙ two-questions 8 6 labels again)
+  each-asked false =
+      question-decides 0 [] (ask 10 (operator-faults x) ∷ ask 8 labels ∷ ask 6 again ∷ []) ∙ question-decides 10 (operator-faults x) (ask 8 labels ∷ ask 6 again ∷ [])
+      ∙ ap (then (decided 10 (fault-of (operator-faults x)))) (two-questions 8 6 labels again)
 
--- 06
-module _ {s : List ℕ} {n : ℕ} {h : Head} {ms : List ℕ} {a b : ℕ} {ms′ : List ℕ} {c : Collected} (k : Collecting s n ms b ms′ c) where
-  name-verdict : (d : Draft) → Judging s n d h ms a b
-      → first-no (name-questions d (statement-at s n) ++ argument-questions (statement-at s n)) ≡ then (decided 6 (c .fault)) (first-no (argument-questions (statement-at s n)))
-  name-verdict d g =
-      question-decides 6 (repeated (d .names) (labels-in (statement-at s n))) (argument-questions (statement-at s n))
-      ∙ sym (ap (λ (f : Fault). then (decided 6 f) (first-no (argument-questions (statement-at s n))))
-      (k .fault-is ∙ ap (λ (ws : List (List ℕ)). fault-of (repeated ws (labels-in (statement-at s n)))) (g .names .names-are)))
+  pub names-told : {first : Bool} {r u v w : Verdict} → is-first d ≡ first → u ≡ operator-verdict x first → v ≡ decided 8 (fault-of labels) → w ≡ decided 6 (fault-of again)
+      → r ≡ then u (then v w) → r ≡ first-no (head-questions d x ++ name-questions d x)
+  names-told {first} {r} {u} {v} {w} g h k l e =
+      e ∙ ap (λ (t : Verdict). then t (then v w)) h ∙ ap (λ (t : Verdict). then (operator-verdict x first) (then t w)) k
+      ∙ ap (λ (t : Verdict). then (operator-verdict x first) (then (decided 8 (fault-of labels)) t)) l
+      ∙ sym (ap (λ (t : Bool). first-no (asked t)) g ∙ each-asked first)
 
-  pub names-refused : {at : ℕ} → c .fault ≡ At at → Gathers s n h ms a b ms′ (judged.Refused 6 at)
-  names-refused e =
-      record {
-        told = λ d g. sym (name-verdict d g ∙ ap (λ (f : Fault). then (decided 6 f) (first-no (argument-questions (statement-at s n)))) e);
-        gathered = λ d g j w q. absurd (not-names q);
-        values-are = λ j w q. absurd (not-names q);
-      }
+  -- before these 14, 15 and 16, and behind them 01 and 02
+  pub opening-told : first-no (opening-questions d x) ≡ then (first-no (item-questions x)) (first-no (head-questions d x ++ name-questions d x))
+  opening-told = first-no-both (item-questions x) (head-questions d x ++ name-questions d x)
 
-  pub names-pass : {r : Judged} → length ms′ ≡ length ms → c .fault ≡ Clear → Arguments-judged s n h (c .count) r → Gathers s n h ms a b ms′ r
-  names-pass kept e j =
-      record {
-        told = λ d g. j .told ∙ sym (name-verdict d g ∙ ap (λ (f : Fault). then (decided 6 f) (first-no (argument-questions (statement-at s n)))) e);
-        gathered = λ d g i v q. subst (Gathered s n d ms′ a) (sym (j .count-is i v q)) (gathering.gathered g kept k e);
-        values-are = j .values-are;
-      }
+  pub early-told : first-no (early-questions d x) ≡ then (first-no (opening-questions d x)) (first-no (argument-questions x))
+  early-told =
+      ap first-no
+      (sym
+      (append-assoc (item-questions x) (head-questions d x ++ name-questions d x) (argument-questions x)
+      ∙ ap (λ (qs : List Question). item-questions x ++ qs) (append-assoc (head-questions d x) (name-questions d x) (argument-questions x))))
+      ∙ first-no-both (opening-questions d x) (argument-questions x)
 
--- 00 or 10, and 08
-module _ {s : List ℕ} {n : ℕ} {h : Head} {first : Bool} {ms : List ℕ} {a b : ℕ} (v : told.Verdict) (k : Head-asked s n first ms a b v) where
-  head-verdict : (d : Draft) → Judging s n d h ms a b → is-first d ≡ first
-      → first-no (early-questions d (statement-at s n)) ≡ then (verdict-of v) (first-no (name-questions d (statement-at s n) ++ argument-questions (statement-at s n)))
-  head-verdict d g f =
-      let x = statement-at s n in
-      let rest = name-questions d x ++ argument-questions x in
-      first-no-both (item-questions x) (head-questions d x ++ rest)
-      ∙ ap (λ (u : Verdict). then u (first-no (head-questions d x ++ rest))) (all-yes (item-questions x) (g .plain))
-      ∙ first-no-both (head-questions d x) rest
-      ∙ sym (ap (λ (u : Verdict). then u (first-no rest)) (k d f (gathering.waits g)))
+  pub opened-no : {number at : ℕ} → first-no (item-questions x) ≡ refuse number at → refuse number at ≡ first-no (opening-questions d x)
+  opened-no e = sym (opening-told ∙ ap (λ (v : Verdict). then v (first-no (head-questions d x ++ name-questions d x))) e)
 
-  pub head-refused : {number at : ℕ} → v ≡ No number at → Asks s n h first ms a b ms (judged.Refused number at)
-  head-refused e =
-      record {
-        told = λ d g f.
-            sym (head-verdict d g f
-            ∙ ap (λ (u : told.Verdict). then (verdict-of u) (first-no (name-questions d (statement-at s n) ++ argument-questions (statement-at s n)))) e);
-        gathered = λ d g j w q. absurd (not-names q);
-        values-are = λ j w q. absurd (not-names q);
-      }
+  pub opened-yes : first-no (item-questions x) ≡ yes → first-no (head-questions d x ++ name-questions d x) ≡ first-no (opening-questions d x)
+  opened-yes e = sym (opening-told ∙ ap (λ (v : Verdict). then v (first-no (head-questions d x ++ name-questions d x))) e)
 
-  module _ (e : v ≡ Yes) where
-    pub gatherable : Askable s n h first ms a b → Gatherable s n h ms a b
-    gatherable o =
-        record {
-          draft = o .draft;
-          judging = o .judging;
-          head-plain = answered (head-questions (o .draft) (statement-at s n)) (sym (k (o .draft) (o .first-is) (gathering.waits (o .judging))) ∙ ap verdict-of e);
-        }
-
-    pub head-passes : {ms′ : List ℕ} {r : Judged} → Gathers s n h ms a b ms′ r → Asks s n h first ms a b ms′ r
-    head-passes j =
-        record {
-          told = λ d g f.
-              j .told d g
-              ∙ sym (head-verdict d g f
-              ∙ ap (λ (u : told.Verdict). then (verdict-of u) (first-no (name-questions d (statement-at s n) ++ argument-questions (statement-at s n)))) e);
-          gathered = j .gathered;
-          values-are = j .values-are;
-        }
+-- 14, 15 and 16 by their number
+pub items-told : {s : List ℕ} {n : ℕ} {d : Draft} {g : Progress} {h : Head} {ms : List ℕ} (j : Judging s n d g h ms) {w : ℕ} → w ≡ worst (statement-at s n)
+    → first-no (item-questions (statement-at s n)) ≡ code-verdict w
+items-told {s} {n} j e =
+    worst-decides (statement-at s n)
+    (each-map (Sound-item (length s)) (λ i. i .at < 65536) (λ i k. omega (arith, k .place, j .low)) (statement-at s n) (statement-sound s n (j .inside)))
+    ∙ ap code-verdict (sym e)

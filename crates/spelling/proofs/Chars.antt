@@ -46,9 +46,6 @@ gives-none star b e = go star (eqb b 42) refl e
 pub puts-none : (d : List ℕ) (j : ℕ) (star : Bool) (b : ℕ) → takes-next star b ≡ true → Put d j (char-of star b) j d
 puts-none d j star b e = rw (gives-none star b e) (record { is = pasted-none d j; next = sym (add-zero j) })
 
-pub puts-nothing : (d : List ℕ) → Put d 0 [] 0 d
-puts-nothing d = record { is = pasted-none d 0; next = refl }
-
 pub puts-one : (d : List ℕ) (j : ℕ) (star : Bool) (b c : ℕ) → Gives star b c → takes-next star b ≡ false → j < length d → Put d j (char-of star b) (j + 1) (set d j c)
 puts-one d j star b c g e h = rw (g .is e) (record { is = rw (set-split d j c h, add-one) refl; next = refl })
 

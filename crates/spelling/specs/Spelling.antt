@@ -7,8 +7,7 @@ use lib.ListN.{length}
 use Rattle.cells.specs.Cells.{pasted}
 use Rattle.syntax.specs.Items.{takes-next, char-of}
 use Rattle.syntax.specs.Scan.{text-chars}
-use Rattle.lexer.specs.declared.Token.{Token}
-use Rattle.lexer.specs.Tokens.{part, Stands}
+use Rattle.lexer.specs.Tokens.{part}
 
 -- the character of a byte that gives one
 pub record Gives (star : Bool) (b c : ℕ) : Type 0 where
@@ -32,10 +31,6 @@ pub record Between (s : List ℕ) (a e : ℕ) : Type 0 where
 pub record Fits-text (s : List ℕ) (a e : ℕ) (d : List ℕ) : Type 0 where
   pub between : Between s a e
   pub room : length (text-in s a e) ≤ length d
-
-pub record Fits-token (s : List ℕ) (t : Token) (d : List ℕ) : Type 0 where
-  pub stands : Stands s t
-  pub room : t .len ≤ length d
 
 -- two places with len bytes from each on
 pub record Two-parts (s : List ℕ) (a b len : ℕ) : Type 0 where

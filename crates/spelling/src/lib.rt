@@ -4,11 +4,8 @@ ghost use Prim.Native.Nat.{_+_, _≤_};
 ghost use lib.ListN.{length};
 ghost use Rattle.lists.specs.Lists.{sameBytes};
 ghost use Rattle.syntax.specs.Items.{char-of};
-ghost use Rattle.lexer.specs.Tokens.{part, chars-of};
-ghost use Rattle.spelling.specs.Spelling.{Gives, Put, text-in, Fits-text, Fits-token, Two-parts};
-use lexer::Token;
-use scanner::TEXT;
-use scanner::WORD;
+ghost use Rattle.lexer.specs.Tokens.{part};
+ghost use Rattle.spelling.specs.Spelling.{Gives, Put, text-in, Fits-text, Two-parts};
 use scanner::pair_of;
 use scanner::takes_next;
 
@@ -46,23 +43,6 @@ pub fn put_text(text: &[u8], at: usize, end: usize, out: &mut [u8]) -> usize
         i += 1;
     }
     j
-}
-
-// Writes the characters of a token to the front of `out`. Their count.
-pub fn put_chars(text: &[u8], t: Token, out: &mut [u8]) -> usize
-    requires { ⌜ Fits-token (now text) t (now out) ⌝ }
-    ensures { λ r. ⌜ Put (now (out .entry)) 0 (chars-of (now (text .entry)) t) r (now (out .exit)) ⌝ }
-{
-    let at = t.at;
-    let end = t.end;
-    if t.sort == TEXT {
-        return put_text(text, at + 1, end, out);
-    }
-    if t.sort == WORD {
-        cells::put(out, 0, &text[at..end]);
-        return t.len;
-    }
-    0
 }
 
 // Whether the same `len` bytes stand at two places: two words of one length.

@@ -2,3 +2,8 @@ pub mod StatementAt
 pub mod StatementLaws
 pub mod LowestLaws
 pub mod PlaceLaws
+pub mod Faults
+pub mod FaultLaws
+pub mod Groups
+pub mod Checks
+pub mod CheckLaws

@@ -5,8 +5,9 @@ use mathlib.Core.List.{List, [], _∷_}
 use Prim.Native.Nat.{ℕ, _+_, _≤_, _<_}
 use lib.Dec.{eqb}
 use lib.ListN.{length, drop}
-use Rattle.lists.specs.Lists.{headOr, keep}
-use Rattle.syntax.specs.Items.{Item, is, places, statements-from}
+use Rattle.layout.specs.Bounds.{Each}
+use Rattle.lists.specs.Lists.{headOr}
+use Rattle.syntax.specs.Items.{Item, is, statements-from}
 use Rattle.syntax.specs.Items.Sort.{end}
 use Rattle.syntax.specs.Verdict.{lowest}
 use Rattle.lexer.specs.Tokens.{items-from}
@@ -36,12 +37,10 @@ pub record Ended (s : List ℕ) (n next : ℕ) (last : Bool) : Type 0 where
   pub more : last ≡ false → n < next
   pub place : behind-end (items-from s n) ≡ cond last [] (next ∷ [])
   pub is : statements-at s n ≡ statement-at s n ∷ cond last [] (statements-at s next)
+  pub count : n + length (statement-at s n) ≤ next
+  pub before : Each (λ i. i .at ≤ next) (statement-at s n)
 
 -- the places at fault: none, or the lowest of them
 abbrev pub fault-of : List ℕ → Fault
 fault-of [] = Clear
 fault-of (p ∷ ps) = At (lowest p ps)
-
--- the places of the statement's items that q finds at fault
-abbrev pub faults-at : (Item → Bool) → List ℕ → ℕ → List ℕ
-faults-at q s n = places (keep q (statement-at s n))

@@ -15,7 +15,7 @@ use Rattle.lists.specs.Lists.{headOr}
 use Rattle.lists.specs.TableLaws.{beq-eq, below}
 use Rattle.syntax.specs.ArgumentForms.{is-index, letter-of}
 use Rattle.words.specs.Words.{capped, beyond, size-of, letter-at, reach, indexed-of}
-use Rattle.words.specs.declared.Letter.{Letter}
+use Rattle.words.specs.declared.Lettered.{Lettered}
 
 -- a byte and its letter, computed for every byte
 is-letter : ℕ → Bool
@@ -68,7 +68,7 @@ index-within m v h z l = go (unsigned v) l
     go true k = (rw (lt-ltb 48 (headOr 0 v) z, le-leb (amount 0 v) m (omega arith)), omega arith)
     go false k = absurd (omega arith)
 
-pub indexed-short : (w : List ℕ) → length w < 2 → Letter.Not ≡ indexed-of w
+pub indexed-short : (w : List ℕ) → length w < 2 → Lettered.Not ≡ indexed-of w
 unfolding indexed-of is-index
 indexed-short [] h = refl
 indexed-short (b ∷ []) h = rw (and-false (eqb b (letter-code (letter-of b))))
@@ -78,27 +78,27 @@ module _ (w : List ℕ) (small : getD w 0 0 < 256) where
   abbrev place : ℕ
   place = letter-at (getD w 0 0)
 
-  pub indexed-other : 11 < place → Letter.Not ≡ indexed-of w
+  pub indexed-other : 11 < place → Lettered.Not ≡ indexed-of w
   unfolding indexed-of
   indexed-other h = rw (first w, known (getD w 0 0) small .letter, le-ltb place 12 h)
 
-  indexed-by : place ≤ 11 → indexed-of w ≡ cond (is-index (reach place) (drop 1 w)) (Letter.At place (amount 0 (drop 1 w))) Letter.Not
+  indexed-by : place ≤ 11 → indexed-of w ≡ cond (is-index (reach place) (drop 1 w)) (Lettered.At place (amount 0 (drop 1 w))) Lettered.Not
   unfolding indexed-of
   indexed-by h =
       let k = known (getD w 0 0) small in
       let l : place < 12 = omega arith in
       rw (first w, k .letter, k .place l, k .most l, lt-ltb place 12 l)
 
-  none-of : place ≤ 11 → is-index (reach place) (drop 1 w) ≡ false → Letter.Not ≡ indexed-of w
+  none-of : place ≤ 11 → is-index (reach place) (drop 1 w) ≡ false → Lettered.Not ≡ indexed-of w
   none-of h e = sym (indexed-by h ∙ rw e)
 
-  pub indexed-zero : place ≤ 11 → getD w 1 0 ≤ 48 → Letter.Not ≡ indexed-of w
+  pub indexed-zero : place ≤ 11 → getD w 1 0 ≤ 48 → Lettered.Not ≡ indexed-of w
   indexed-zero h l = none-of h (index-zero (reach place) (drop 1 w) (rw (second w) l))
 
-  pub indexed-beyond : place ≤ 11 → reach place ≤ 32 → reach place < size-of (drop 1 w) → Letter.Not ≡ indexed-of w
+  pub indexed-beyond : place ≤ 11 → reach place ≤ 32 → reach place < size-of (drop 1 w) → Lettered.Not ≡ indexed-of w
   indexed-beyond h m l = none-of h (index-beyond (reach place) (drop 1 w) m l)
 
-  pub indexed-found : place ≤ 11 → reach place ≤ 32 → 48 < getD w 1 0 → size-of (drop 1 w) ≤ reach place → Letter.At place (size-of (drop 1 w)) ≡ indexed-of w
+  pub indexed-found : place ≤ 11 → reach place ≤ 32 → 48 < getD w 1 0 → size-of (drop 1 w) ≤ reach place → Lettered.At place (size-of (drop 1 w)) ≡ indexed-of w
   indexed-found h m z l =
       let k = index-within (reach place) (drop 1 w) m (rw (second w) z) l in
       sym (indexed-by h ∙ rw (k .0, k .1))

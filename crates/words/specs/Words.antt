@@ -14,7 +14,7 @@ use Rattle.layout.specs.Table.{letter-place, class-mask}
 use Rattle.lists.specs.Lists.{all, ahead, filled, headOr, among}
 use Rattle.lists.specs.Quoted.{bytes}
 use Rattle.syntax.specs.ArgumentForms.{is-indexed, letter-of}
-use Rattle.words.specs.declared.Letter.{Letter}
+use Rattle.words.specs.declared.Lettered.{Lettered}
 use Rattle.words.specs.declared.Numeral.{Numeral}
 
 -- a class, as it is read of a word
@@ -60,7 +60,7 @@ abbrev pub reach : ℕ → ℕ
 reach k = indices (use-of (getD letters k A) .var)
 
 -- the indexed letter that a word is
-unfoldable pub indexed-of : List ℕ → Letter
+unfoldable pub indexed-of : List ℕ → Lettered
 indexed-of w =
     let l = letter-of (headOr 0 w) in
-    cond (is-indexed w l) (Letter.At (letter-place l) (amount 0 (drop 1 w))) Letter.Not
+    cond (is-indexed w l) (Lettered.At (letter-place l) (amount 0 (drop 1 w))) Lettered.Not

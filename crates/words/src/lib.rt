@@ -82,7 +82,7 @@ pub enum Numeral {
 }
 
 // An indexed letter: the letter's place among the twelve, and the index.
-pub enum Letter {
+pub enum Lettered {
     Not,
     At(u8, u8),
 }
@@ -284,24 +284,24 @@ fn reach(place: u8) -> usize
     Machine::EXPRESSIONS
 }
 
-pub fn indexed(w: &[u8]) -> Letter
+pub fn indexed(w: &[u8]) -> Lettered
     ensures { λ r. ⌜ r ≡ indexed-of (now (w .entry)) ⌝ }
 {
     if w.len() < 2 {
-        return Letter::Not;
+        return Lettered::Not;
     }
     let place = letter_at(w[0]);
     if 11 < place {
-        return Letter::Not;
+        return Lettered::Not;
     }
     if w[1] <= b'0' {
-        return Letter::Not;
+        return Lettered::Not;
     }
     let n = size_of(&w[1..]);
     if reach(place) < n {
-        return Letter::Not;
+        return Lettered::Not;
     }
-    Letter::At(place, n as u8)
+    Lettered::At(place, n as u8)
 }
 
 fn wide(b: u8) -> usize

@@ -6,6 +6,8 @@ use mathlib.Core.Path.{refl, sym, ap, _∙_}
 use native.Mathlib.Omega.{arith}
 use Rattle.arguments.specs.ArgumentLaws.{turned, colon-here, unlisted-here, colon-after-argument}
 use Rattle.arguments.specs.Arguments.{missing-or}
+use Rattle.arguments.specs.LeftLaws.{place-low}
+use Rattle.arguments.specs.ValueLaws.{mark-low, value-stood}
 use Rattle.arguments.specs.ReadLaws.{Gathering, gathering-first, reads-so, gathering-on, all-read, refusable, refused}
 use Rattle.language.specs.Instructions.{operator-of}
 use Rattle.statements.specs.StatementLaws.{on}
@@ -14,10 +16,10 @@ use Rattle.arguments.proofs.read_arguments.Statement.{statement}
 use Rattle.arguments.proofs.read_arguments.Tie as tie
 
 abbrev Inv-loop : tie.InvT-loop
-Inv-loop text op at live₀ place₀ values₀ i₀ live place values i = Gathering text i₀ op i live place values
+Inv-loop text op worst at live₀ place₀ values₀ low₀ i₀ live place values low i = Gathering text i₀ op worst i live place values low
 
 abbrev μ-loop : tie.MeasureT-loop
-μ-loop text op at live₀ place₀ values₀ i₀ live place values i = length text - i
+μ-loop text op worst at live₀ place₀ values₀ low₀ i₀ live place values low i = length text - i
 
 no-values-requires : tie.Need-no-values-requires Inv-loop μ-loop
 no-values-requires c κs = search needs
@@ -38,8 +40,10 @@ missing-or-requires : tie.Need-missing-or-requires Inv-loop μ-loop
 missing-or-requires c κs = search needs
 
 returns : tie.Need-returns Inv-loop μ-loop
-returns c = all-read (c .before .before .before .before .before .before .before .before .pre) (c .before .before .before .before .before .loop .inv) (c .before .before .before .before .next-item .ensures) (sym (c .before .before .before .stops .ensures) ∙ c .before .before .if1 .taken)
-    (c .missing-or .ensures ∙ ap (λ (k : ℕ). missing-or (c .before .before .before .before .before .before .before .before .args .op) (c .before .before .before .before .before .before .before .before .args .t .at) k Clear) (c .before .wide .ensures .is))
+returns c =
+    let g = c .before .before .before .before .before .before .before .before .before in
+    all-read (g .pre) (c .before .before .before .before .before .before .loop .inv) (c .before .before .before .before .before .next-item .ensures) (sym (c .before .before .before .before .stops .ensures) ∙ c .before .before .before .if1 .taken)
+    (c .before .missing-or .ensures ∙ ap (λ (k : ℕ). missing-or (g .args .op) (g .args .t .at) k Clear) (c .before .before .wide .ensures .is))
 
 refuse-requires : tie.Need-refuse-requires Inv-loop μ-loop
 refuse-requires c κs = refusable (c .before .before .before .before .before .before .before .before .pre) (c .before .before .before .before .before .loop .inv)
@@ -49,8 +53,8 @@ returns-2 c = let l = c .before .before .before .before .before .before .loop in
     let here = sym (c .before .before .before .before .stops .ensures) ∙ c .before .before .before .if1 .left in
     refused (c .before .before .before .before .before .before .before .before .before .pre) (l .inv) (λ o h. colon-here o (l .live) (l .place) (c .before .before .before .before .before .next-item .ensures) here (c .before .if2 .taken)) (c .refuse .ensures)
 
-kinds-at-requires : tie.Need-kinds-at-requires Inv-loop μ-loop
-kinds-at-requires c κs = c .before .before .before .before .next-item .ensures .stands
+item-kind-requires : tie.Need-item-kind-requires Inv-loop μ-loop
+item-kind-requires c κs = record { stands = c .before .before .before .before .next-item .ensures .stands; low = c .before .before .before .before .before .before .before .before .pre .low }
 
 take-argument-requires : tie.Need-take-argument-requires Inv-loop μ-loop
 take-argument-requires c κs = search needs
@@ -63,7 +67,7 @@ returns-3 c = let l = c .before .before .before .before .before .before .before 
     let here = sym (c .before .before .before .before .before .before .before .before .stops .ensures) ∙ c .before .before .before .before .before .before .before .if1 .left in
     let a = c .before .before .before .take-argument in
     refused (c .before .before .before .before .before .before .before .before .before .before .before .before .before .pre) (l .inv)
-    (λ o h. unlisted-here o (l .live) (l .place) (c .before .before .before .before .before .before .before .before .before .next-item .ensures) here (c .before .before .before .before .before .if2 .left) (a .result) (turned (l .live) (l .place) (a .ensures) (c .before .before .before .before .kinds-at .ensures) o h) (c .before .if3 .taken))
+    (λ o h. unlisted-here o (l .live) (l .place) (c .before .before .before .before .before .before .before .before .before .next-item .ensures) here (c .before .before .before .before .before .if2 .left) (a .result) (turned (l .live) (l .place) (a .ensures) (c .before .before .before .before .item-kind .ensures .set-is) o h) (c .before .if3 .taken))
     (c .refuse2 .ensures)
 
 refuse-requires-3 : tie.Need-refuse-requires-3 Inv-loop μ-loop
@@ -74,17 +78,11 @@ returns-4 c = let l = c .before .before .before .before .before .before .before 
     let here = sym (c .before .before .before .before .before .before .before .before .before .before .stops .ensures) ∙ c .before .before .before .before .before .before .before .before .before .if1 .left in
     let a = c .before .before .before .before .before .take-argument in
     refused (c .before .before .before .before .before .before .before .before .before .before .before .before .before .before .before .pre) (l .inv)
-    (λ o h. colon-after-argument o (l .live) (l .place) (c .before .before .before .before .before .before .before .before .before .before .before .next-item .ensures) here (c .before .before .before .before .before .before .before .if2 .left) (a .result) (turned (l .live) (l .place) (a .ensures) (c .before .before .before .before .before .before .kinds-at .ensures) o h) (c .before .before .before .if3 .left) (c .before .if4 .taken))
+    (λ o h. colon-after-argument o (l .live) (l .place) (c .before .before .before .before .before .before .before .before .before .before .before .next-item .ensures) here (c .before .before .before .before .before .before .before .if2 .left) (a .result) (turned (l .live) (l .place) (a .ensures) (c .before .before .before .before .before .before .item-kind .ensures .set-is) o h) (c .before .before .before .if3 .left) (c .before .if4 .taken))
     (c .refuse3 .ensures)
 
-value-at-requires : tie.Need-value-at-requires Inv-loop μ-loop
-value-at-requires c κs = let g = c .before .before .before .before .before .before .before .before .before .before .before .before .before .before .pre in
-    let here = sym (c .before .before .before .before .before .before .before .before .before .stops .ensures) ∙ c .before .before .before .before .before .before .before .before .if1 .left in
-    record {
-      stands = c .before .before .before .before .before .before .before .before .before .before .next-item .ensures .stands;
-      as-form = reads-so (c .before .before .before .before .before .before .before .before .before .before .before .loop .inv) (c .before .before .before .before .before .before .before .before .before .before .next-item .ensures) here (c .before .before .before .before .before .before .if2 .left) (c .before .before .before .before .take-argument .ensures) (c .before .before .before .before .before .kinds-at .ensures) (c .before .before .if3 .left) (operator-of (c .before .before .before .before .before .before .before .before .before .before .before .before .before .before .args .op)) (g .numbered);
-      low = g .low;
-    }
+value-by-requires : tie.Need-value-by-requires Inv-loop μ-loop
+value-by-requires c κs = mark-low (record { stands = c .before .before .before .before .before .before .before .before .before .before .next-item .ensures .stands; low = c .before .before .before .before .before .before .before .before .before .before .before .before .before .before .pre .low })
 
 with-value-requires : tie.Need-with-value-requires Inv-loop μ-loop
 with-value-requires c κs = search needs
@@ -92,13 +90,24 @@ with-value-requires c κs = search needs
 add-place : tie.Need-add-place Inv-loop μ-loop
 add-place c = omega (arith, c .before .before .before .before .before .before .before .before .before .before .before .before .before .loop .inv .reading .few)
 
+worse-requires : tie.Need-worse-requires Inv-loop μ-loop
+worse-requires c κs = place-low (c .before .before .before .before .before .before .before .before .before .before .before .before .next-item .ensures .stands) (c .before .before .before .before .before .before .before .before .before .before .before .before .before .before .before .before .pre .low)
+
 loop-less : tie.Need-loop-less Inv-loop μ-loop
-loop-less c = let k = c .before .before .before .before .before .before .before .before .before .before .before .before .next-item .ensures in
-    omega (arith, k .stands .most, on k (sym (c .before .before .before .before .before .before .before .before .before .before .before .stops .ensures) ∙ c .before .before .before .before .before .before .before .before .before .before .if1 .left))
+loop-less c =
+    let k = c .before .before .before .before .before .before .before .before .before .before .before .before .before .next-item .ensures in
+    omega (arith, k .stands .most, on k (sym (c .before .before .before .before .before .before .before .before .before .before .before .before .stops .ensures) ∙ c .before .before .before .before .before .before .before .before .before .before .before .if1 .left))
 
 loop-again : tie.Need-loop-again Inv-loop μ-loop
-loop-again c = let here = sym (c .before .before .before .before .before .before .before .before .before .before .before .stops .ensures) ∙ c .before .before .before .before .before .before .before .before .before .before .if1 .left in
-    gathering-on (c .before .before .before .before .before .before .before .before .before .before .before .before .before .loop .inv) (c .before .before .before .before .before .before .before .before .before .before .before .before .next-item .ensures) here (c .before .before .before .before .before .before .before .before .if2 .left) (c .before .before .before .before .before .before .take-argument .ensures) (c .before .before .before .before .before .before .before .kinds-at .ensures) (c .before .before .before .before .if3 .left) (operator-of (c .before .before .before .before .before .before .before .before .before .before .before .before .before .before .before .before .args .op)) (c .before .before .before .before .before .before .before .before .before .before .before .before .before .before .before .before .pre .numbered) (c .before .before .if4 .left) refl (c .before .value-at .ensures) (c .with-value .ensures)
+loop-again c =
+    let g = c .before .before .before .before .before .before .before .before .before .before .before .before .before .before .before .before .before in
+    let k = c .before .before .before .before .before .before .before .before .before .before .before .before .before .next-item .ensures in
+    let here = sym (c .before .before .before .before .before .before .before .before .before .before .before .before .stops .ensures) ∙ c .before .before .before .before .before .before .before .before .before .before .before .if1 .left in
+    let kind = c .before .before .before .before .before .before .before .before .item-kind .ensures in
+    let o = operator-of (g .args .op) in
+    let reads = reads-so (c .before .before .before .before .before .before .before .before .before .before .before .before .before .before .loop .inv) k here (c .before .before .before .before .before .before .before .before .before .if2 .left) (c .before .before .before .before .before .before .before .take-argument .ensures) (kind .set-is) (c .before .before .before .before .before .if3 .left) o (g .pre .numbered) in
+    gathering-on (c .before .before .before .before .before .before .before .before .before .before .before .before .before .before .loop .inv) k here (c .before .before .before .before .before .before .before .before .before .if2 .left) (c .before .before .before .before .before .before .before .take-argument .ensures) (kind .set-is) (c .before .before .before .before .before .if3 .left) o (g .pre .numbered) (c .before .before .before .if4 .left) refl
+    (value-stood (record { stands = k .stands; as-form = reads; low = g .pre .low }) kind (c .before .before .value-by .ensures)) (c .before .with-value .ensures) (c .worse .ensures)
 
 pub read-arguments-spec : {M : Type 1} → statement M
 read-arguments-spec =
@@ -115,14 +124,15 @@ read-arguments-spec =
     returns
     refuse-requires
     returns-2
-    kinds-at-requires
+    item-kind-requires
     take-argument-requires
     refuse-requires-2
     returns-3
     refuse-requires-3
     returns-4
-    value-at-requires
+    value-by-requires
     with-value-requires
     add-place
+    worse-requires
     loop-less
     loop-again)

@@ -15,17 +15,14 @@ most-requires c κs = search needs
 wide-requires-2 : tie.Need-wide-requires-2
 wide-requires-2 c κs = search needs
 
-sub-argument-after : tie.Need-sub-argument-after
-sub-argument-after c = omega (arith, c .wide2 .ensures .is, c .before .most .ensures .0, c .before .before .wide .ensures .is, c .before .before .before .before .pre .below)
+sub-read-left : tie.Need-sub-read-left
+sub-read-left c = omega (arith, c .wide2 .ensures .is, c .before .most .ensures .0, c .before .before .wide .ensures .is, c .before .before .before .before .pre .below)
 
-argument-after-requires : tie.Need-argument-after-requires
-argument-after-requires c κs = c .before .before .before .before .pre .inside
+read-left-requires : tie.Need-read-left-requires
+read-left-requires c κs = c .before .before .before .before .pre .left
 
-count-arguments-requires : tie.Need-count-arguments-requires
-count-arguments-requires c κs = c .before .before .before .before .before .pre .inside
-
-add-count : tie.Need-add-count
-add-count c = omega (arith, c .count-arguments .ensures .1, c .before .before .before .before .wide .ensures .most, c .before .before .before .before .before .before .pre .low)
+add-missing-or : tie.Need-add-missing-or
+add-missing-or c = omega (arith, c .before .read-left .ensures .few, c .before .before .before .before .wide .ensures .most, c .before .before .before .before .before .before .pre .left .low, c .struct-known .given)
 
 missing-or-requires : tie.Need-missing-or-requires
 missing-or-requires c κs = search needs
@@ -34,7 +31,7 @@ no-values-requires : tie.Need-no-values-requires
 no-values-requires c κs = search needs
 
 returns : tie.Need-returns
-returns c = refusing (c .before .before .before .before .before .before .wide .ensures .is) (c .before .before .before .before .wide2 .ensures .is ∙ c .before .before .before .before .before .most .ensures .0) (c .before .before .before .argument-after .ensures) (c .before .before .count-arguments .ensures .0) (c .before .missing-or .ensures)
+returns c = refusing (c .before .before .before .before .before .before .wide .ensures .is) (c .before .before .before .before .wide2 .ensures .is ∙ c .before .before .before .before .before .most .ensures .0) (c .before .before .before .read-left .ensures) (c .before .missing-or .ensures)
 
 pub refuse-spec : {M : Type 1} → statement M
 refuse-spec =
@@ -43,10 +40,9 @@ refuse-spec =
     wide-requires
     most-requires
     wide-requires-2
-    sub-argument-after
-    argument-after-requires
-    count-arguments-requires
-    add-count
+    sub-read-left
+    read-left-requires
+    add-missing-or
     missing-or-requires
     no-values-requires
     returns)

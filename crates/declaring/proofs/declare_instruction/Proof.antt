@@ -18,13 +18,13 @@ write-instruction-requires : tie.Need-write-instruction-requires
 write-instruction-requires c κs = writable (c .before .before .before .before .before .before .before .before .before .before .pre) (c .before .before .before .before .before .judge-instruction .ensures) (c .before .enum-told .given .1)
 
 same-length : tie.Need-same-length
-same-length c = c .before .before .before .before .before .judge-instruction .kept .1 .1 .1 .1 .1 .1 .0
+same-length c = c .before .before .before .before .before .judge-instruction .kept .1 .1 .1 .1 .1 .0
 
 returns : tie.Need-returns
 returns c = declared-none (c .before .before .before .before .before .before .before .before .before .before .pre) (c .before .before .before .before .before .judge-instruction .ensures) (c .before .p .given .1)
 
 same-length-2 : tie.Need-same-length-2
-same-length-2 c = c .before .before .write-instruction .kept .1 .1 .1 .1 .1 .1 .1 .0 ∙ c .before .before .before .before .before .before .before .before .judge-instruction .kept .1 .1 .1 .1 .1 .1 .0
+same-length-2 c = c .before .before .write-instruction .kept .1 .1 .1 .1 .1 .0 ∙ c .before .before .before .before .before .before .before .before .judge-instruction .kept .1 .1 .1 .1 .1 .0
 
 returns-2 : tie.Need-returns-2
 returns-2 c = declared (c .before .before .before .before .before .before .before .before .before .before .before .before .before .pre) (c .before .before .before .before .before .before .before .before .judge-instruction .ensures) (c .before .before .before .before .enum-told .given .1) (c .before .before .write-instruction .ensures)

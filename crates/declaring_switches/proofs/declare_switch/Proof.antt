@@ -6,7 +6,7 @@ use Rattle.declaring_switches.proofs.declare_switch.Statement.{statemen
 use Rattle.declaring_switches.proofs.declare_switch.Tie as tie
 
 judge-switch-requires : tie.Need-judge-switch-requires
-judge-switch-requires c κs = switch-judgeable ((c .before .before .before .before .before .pre))
+judge-switch-requires c κs = switch-judgeable (c .before .before .before .before .before .pre)
 
 enum-known-p : tie.Need-enum-known-p
 enum-known-p c = search needs
@@ -15,25 +15,22 @@ enum-told : tie.Need-enum-told
 enum-told c = search needs
 
 write-switch-requires : tie.Need-write-switch-requires
-write-switch-requires c κs = switch-writable ((c .before .before .before .before .before .before .before .before .before .before .before .before .before .pre)) (c .before .before .before .before .before .before .before .judge-switch .ensures) (c .before .before .before .enum-told .given .1)
+write-switch-requires c κs = switch-writable (c .before .before .before .before .before .before .before .before .before .before .before .before .pre) (c .before .before .before .before .before .before .judge-switch .ensures) (c .before .before .enum-told .given .1)
 
 same-length : tie.Need-same-length
-same-length c = c .before .before .before .before .before .judge-switch .kept .1 .1 .1 .0
+same-length c = c .before .before .before .before .before .judge-switch .kept .1 .1 .0
 
 returns : tie.Need-returns
-returns c = switch-refused ((c .before .before .before .before .before .before .before .before .before .before .before .pre)) (c .before .before .before .before .before .judge-switch .ensures) (c .before .before .before .before .before .before .before .before .before .before .before .args .named) (c .before .before .before .before .before .before .before .before .before .before .before .args .name) (c .before .p .given .1)
+returns c = switch-refused (c .before .before .before .before .before .before .before .before .before .before .before .pre) (c .before .before .before .before .before .judge-switch .ensures) (c .before .p .given .1)
 
 same-length-2 : tie.Need-same-length-2
-same-length-2 c = c .before .before .before .before .before .before .write-switch .kept .1 .1 .1 .1 .0 ∙ c .before .before .before .before .before .before .before .before .before .before .before .before .before .before .judge-switch .kept .1 .1 .1 .0
+same-length-2 c = c .before .before .before .before .write-switch .kept .1 .1 .0 ∙ c .before .before .before .before .before .before .before .before .before .before .before .judge-switch .kept .1 .1 .0
 
 same-length-3 : tie.Need-same-length-3
-same-length-3 c = c .before .before .before .before .before .before .write-switch .kept .1 .1 .1 .1 .1 .0
-
-same-length-4 : tie.Need-same-length-4
-same-length-4 c = c .before .before .before .before .before .before .write-switch .kept .1 .1 .1 .1 .1 .1 .0
+same-length-3 c = c .before .before .before .before .write-switch .kept .1 .1 .1 .0
 
 returns-2 : tie.Need-returns-2
-returns-2 c = switch-declared ((c .before .before .before .before .before .before .before .before .before .before .before .before .before .before .before .before .before .before .before .before .pre)) (c .before .before .before .before .before .before .before .before .before .before .before .before .before .before .judge-switch .ensures) (c .before .before .before .before .before .before .before .before .before .before .enum-told .given .1) (c .before .before .before .before .before .before .write-switch .ensures)
+returns-2 c = switch-declared (c .before .before .before .before .before .before .before .before .before .before .before .before .before .before .before .before .before .pre) (c .before .before .before .before .before .before .before .before .before .before .before .judge-switch .ensures) (c .before .before .before .before .before .before .before .enum-told .given .1) (c .before .before .before .before .write-switch .ensures)
 
 pub declare-switch-spec : {M : Type 1} → statement M
 declare-switch-spec =
@@ -47,5 +44,4 @@ declare-switch-spec =
     returns
     same-length-2
     same-length-3
-    same-length-4
     returns-2)

@@ -1,45 +1,78 @@
 -- `declaring_switches::put_entries` meets its contract.
-use borrow.Author.Needs.{needs}
+use mathlib.Core.Path.{_≡_, refl, ap, _∙_}
+use Prim.Native.Nat.{ℕ, _+_, _-_}
 use native.Mathlib.Omega.{arith}
-use mathlib.Core.Path.{sym, _∙_}
-use Prim.Native.Nat.{_-_}
 use lib.ListN.{length}
-use Rattle.declaring_switches.proofs.Entries.{Filling, filling-first, filled-all, fills-on, puttable, filling-more}
+use Rattle.layout.specs.Cells.{cell}
+use Rattle.packed.specs.Packed.{table-of}
+use Rattle.declaring_switches.specs.declared.Declaration.{Declaration}
+use Rattle.declaring_switches.specs.Entries.{Listing}
+use Rattle.declaring_switches.proofs.Entries.{Filling, filling-first, inside, row-named, room-for-entry, filling-more, filled-all, held-is}
 use Rattle.declaring_switches.proofs.put_entries.Statement.{statement}
 use Rattle.declaring_switches.proofs.put_entries.Tie as tie
 
 abbrev Inv-loop : tie.InvT-loop
-Inv-loop text n table₀ marks₀ i₀ table marks i = Filling text n table₀ marks₀ table marks i
+Inv-loop text table₀ texts k₀ end table k =
+    (length table ≡ length table₀)
+    × ((d : Declaration) → Listing text d table₀ texts → end ≡ cell (table-of table₀) 3 + d .words → Filling text d table₀ table k)
 
 abbrev μ-loop : tie.MeasureT-loop
-μ-loop text n table₀ marks₀ i₀ table marks i = length text - i
+μ-loop text table₀ texts k₀ end table k = end - k
+
+entries-requires : tie.Need-entries-requires Inv-loop μ-loop
+entries-requires c κs = c .before .before .before .before .pre .held .holds .long
+
+add-end : tie.Need-add-end Inv-loop μ-loop
+add-end c =
+    let g = c .before .before .before .before .before .before .pre in omega (arith, g .room, held-is g, c .before .entries .ensures .is)
 
 loop-holds : tie.Need-loop-holds Inv-loop μ-loop
-loop-holds c = filling-first ((c .before .before .before .pre))
+loop-holds c = (refl, λ d g e. filling-first g (c .before .entries .ensures .is))
 
-next-item-requires : tie.Need-next-item-requires Inv-loop μ-loop
-next-item-requires c κs = c .loop .inv .inside
+read-requires : tie.Need-read-requires Inv-loop μ-loop
+read-requires c κs =
+    let g = c .before .before .before .before .before .before .before .before .pre in
+    let e = ap (λ (m : ℕ). m + c .before .before .before .before .before .before .before .before .args .d .words) (c .before .before .before .entries .ensures .is) in
+    let u = c .before .loop .inv .1 (c .before .before .before .before .before .before .before .before .args .d) g e in
+    inside g u (omega (arith, e, c .loop-test .taken))
 
-stops-requires : tie.Need-stops-requires Inv-loop μ-loop
-stops-requires c κs = search needs
+cell-ref-requires : tie.Need-cell-ref-requires Inv-loop μ-loop
+cell-ref-requires c κs =
+    let g = c .before .before .before .before .before .before .before .before .before .before .pre in
+    let e = ap (λ (m : ℕ). m + c .before .before .before .before .before .before .before .before .before .before .args .d .words) (c .before .before .before .before .before .entries .ensures .is) in
+    let u = c .before .before .before .loop .inv .1 (c .before .before .before .before .before .before .before .before .before .before .args .d) g e in
+    row-named g u (omega (arith, e, c .before .before .loop-test .taken)) (c .before .read .ensures .is)
 
-same-length : tie.Need-same-length Inv-loop μ-loop
-same-length c = c .before .before .before .loop .inv .size
+put-entry-requires : tie.Need-put-entry-requires Inv-loop μ-loop
+put-entry-requires c κs =
+    let g = c .before .before .before .before .before .before .before .before .before .before .before .before .pre in
+    let e = ap (λ (m : ℕ). m + c .before .before .before .before .before .before .before .before .before .before .before .before .args .d .words) (c .before .before .before .before .before .before .before .entries .ensures .is) in
+    let u = c .before .before .before .before .before .loop .inv .1 (c .before .before .before .before .before .before .before .before .before .before .before .before .args .d) g e in
+    room-for-entry g u (omega (arith, e, c .before .before .before .before .loop-test .taken)) (c .before .before .before .read .ensures .is) (c .before .cell-ref .ensures)
 
-same-length-2 : tie.Need-same-length-2 Inv-loop μ-loop
-same-length-2 c = c .before .before .before .loop .inv .marks-size
-
-returns : tie.Need-returns Inv-loop μ-loop
-returns c = filled-all ((c .before .before .before .before .before .before .before .pre)) (c .before .before .before .loop .inv) (c .before .before .next-item .ensures) (sym (c .before .stops .ensures) ∙ c .if1 .taken)
-
-put-item-requires : tie.Need-put-item-requires Inv-loop μ-loop
-put-item-requires c κs = puttable ((c .before .before .before .before .before .before .before .before .before .pre)) (c .before .before .before .before .before .loop .inv) (c .before .before .before .before .next-item .ensures) (sym (c .before .before .before .stops .ensures) ∙ c .before .before .if1 .left)
+add-k : tie.Need-add-k Inv-loop μ-loop
+add-k c =
+    let g = c .before .before .before .before .before .before .before .before .before .before .before .before .before .before .before .pre in omega (arith, c .before .before .before .before .before .before .before .loop-test .taken, g .room, held-is g, c .before .before .before .before .before .before .before .before .before .before .entries .ensures .is)
 
 loop-less : tie.Need-loop-less Inv-loop μ-loop
-loop-less c = omega (arith, fills-on ((c .before .before .before .before .before .before .before .before .before .before .before .before .before .before .pre)) (c .before .before .before .before .before .before .before .before .before .before .loop .inv) (c .before .before .before .before .before .before .before .before .before .next-item .ensures) (sym (c .before .before .before .before .before .before .before .before .stops .ensures) ∙ c .before .before .before .before .before .before .before .if1 .left), c .before .before .before .before .before .before .before .before .before .next-item .ensures .stands .most)
+loop-less c =
+    omega (arith, c .before .before .before .before .before .before .before .loop-test .taken)
 
 loop-again : tie.Need-loop-again Inv-loop μ-loop
-loop-again c = filling-more ((c .before .before .before .before .before .before .before .before .before .before .before .before .before .before .pre)) (c .before .before .before .before .before .before .before .before .before .before .loop .inv) (c .before .before .before .before .before .before .before .before .before .next-item .ensures) (sym (c .before .before .before .before .before .before .before .before .stops .ensures) ∙ c .before .before .before .before .before .before .before .if1 .left) (c .before .before .before .before .put-item .ensures) (c .before .before .before .before .put-item .kept .1 .1 .0) (c .before .before .before .before .put-item .kept .1 .1 .1 .0)
+loop-again c = (
+  c .before .before .put-entry .kept .0 ∙ c .before .before .before .before .before .before .before .before .loop .inv .0,
+  λ d g e. filling-more g (c .before .before .before .before .before .before .before .before .loop .inv .1 d g e) (omega (arith, e, c .before .before .before .before .before .before .before .loop-test .taken)) (c .before .before .before .before .before .before .read .ensures .is) (c .before .before .before .before .cell-ref .ensures) (c .before .before .put-entry .ensures),
+)
+
+same-length : tie.Need-same-length Inv-loop μ-loop
+same-length c = c .before .loop .inv .0
+
+returns : tie.Need-returns Inv-loop μ-loop
+returns c =
+    let g = c .before .before .before .before .before .before .before .before .pre in
+    let e = ap (λ (m : ℕ). m + c .before .before .before .before .before .before .before .before .args .d .words) (c .before .before .before .entries .ensures .is) in
+    let u = c .before .loop .inv .1 (c .before .before .before .before .before .before .before .before .args .d) g e in
+    filled-all g u (omega (arith, e, c .loop-test .left))
 
 pub put-entries-spec : {M : Type 1} → statement M
 put-entries-spec =
@@ -47,12 +80,14 @@ put-entries-spec =
     (tie.spec
     Inv-loop
     μ-loop
+    entries-requires
+    add-end
     loop-holds
-    next-item-requires
-    stops-requires
-    same-length
-    same-length-2
-    returns
-    put-item-requires
+    read-requires
+    cell-ref-requires
+    put-entry-requires
+    add-k
     loop-less
-    loop-again)
+    loop-again
+    same-length
+    returns)

@@ -2,7 +2,7 @@
 use borrow.Author.Needs.{needs}
 use mathlib.Core.Path.{_∙_}
 use Rattle.writing.proofs.Held.{switch-count}
-use Rattle.declaring_switches.proofs.Judging.{switch-fits, switch-over}
+use Rattle.declaring_switches.proofs.Texts.{switch-fits, switch-over}
 use Rattle.declaring_switches.proofs.switch_beyond.Statement.{statement}
 use Rattle.declaring_switches.proofs.switch_beyond.Tie as tie
 

@@ -1,7 +1,7 @@
 -- `declaring_switches::write_switch` meets its contract.
 use borrow.Author.Needs.{needs}
-use mathlib.Core.Path.{_∙_}
 use lib.ListN.{length-set}
+use mathlib.Core.Path.{_∙_}
 use Rattle.declaring_switches.proofs.Switches.{room-for-switch, switch-index, listing, switch-written}
 use Rattle.declaring_switches.proofs.write_switch.Statement.{statement}
 use Rattle.declaring_switches.proofs.write_switch.Tie as tie
@@ -10,28 +10,25 @@ switches-requires : tie.Need-switches-requires
 switches-requires c κs = c .before .before .before .before .before .pre .held .holds .long
 
 put-switch-requires : tie.Need-put-switch-requires
-put-switch-requires c κs = room-for-switch ((c .before .before .before .before .before .before .before .pre))
+put-switch-requires c κs = room-for-switch (c .before .before .before .before .before .before .before .pre)
 
 put-entries-requires : tie.Need-put-entries-requires
-put-entries-requires c κs = listing ((c .before .before .before .before .before .before .before .before .before .before .before .before .pre)) (c .before .before .before .before .before .before .before .before .before .before .before .before .args .named) (c .before .before .before .before .put-switch .ensures)
+put-entries-requires c κs = listing (c .before .before .before .before .before .before .before .before .before .before .before .pre) (c .before .before .before .put-switch .ensures)
 
 mul-switches : tie.Need-mul-switches
 mul-switches c = search needs
 
 slice-write-switches : tie.Need-slice-write-switches
-slice-write-switches c = switch-index ((c .before .before .before .before .before .before .before .before .before .before .before .before .before .before .before .before .before .pre)) (c .before .before .before .before .before .before .before .before .before .before .before .switches .ensures .is)
+slice-write-switches c = switch-index (c .before .before .before .before .before .before .before .before .before .before .before .before .before .before .pre) (c .before .before .before .before .before .before .before .before .switches .ensures .is)
 
 same-length : tie.Need-same-length
-same-length c = c .before .before .before .before .put-entries .kept .1 .1 .0 ∙ c .before .before .before .before .before .before .before .before .before .put-switch .kept .0
+same-length c = c .before .before .put-entries .kept .1 .1 .0 ∙ c .before .before .before .before .before .before .put-switch .kept .0
 
 same-length-2 : tie.Need-same-length-2
-same-length-2 c = length-set (c .before .before .before .before .before .before .before .before .before .before .before .before .before .before .before .before .before .args .switches .now) (c .before .before .before .before .before .before .before .before .before .before .before .switches .result) (c .before .before .before .before .before .before .before .before .before .before .before .before .before .before .before .before .before .args .name)
-
-same-length-3 : tie.Need-same-length-3
-same-length-3 c = c .before .before .before .before .put-entries .kept .1 .1 .1 .0
+same-length-2 c = length-set (c .before .before .before .before .before .before .before .before .before .before .before .before .before .before .args .switches .now) (c .before .before .before .before .before .before .before .before .switches .result) (c .before .before .before .before .before .before .before .before .before .before .before .before .before .before .args .d .name)
 
 returns : tie.Need-returns
-returns c = switch-written ((c .before .before .before .before .before .before .before .before .before .before .before .before .before .before .before .before .before .pre)) (c .before .before .before .before .before .before .before .before .before .before .before .before .before .before .before .before .before .args .named) (c .before .before .before .before .before .before .before .before .before .put-switch .ensures) (c .before .before .before .before .put-entries .ensures) (c .before .before .before .before .before .before .before .before .before .before .before .switches .ensures .is) (c .before .before .before .before .before .before .before .before .before .before .before .before .before .before .before .before .before .args .name)
+returns c = switch-written (c .before .before .before .before .before .before .before .before .before .before .before .before .before .before .pre) (c .before .before .before .before .before .before .put-switch .ensures) (c .before .before .put-entries .ensures) (c .before .before .before .before .before .before .before .before .switches .ensures .is)
 
 pub write-switch-spec : {M : Type 1} → statement M
 write-switch-spec =
@@ -44,5 +41,4 @@ write-switch-spec =
     slice-write-switches
     same-length
     same-length-2
-    same-length-3
     returns)

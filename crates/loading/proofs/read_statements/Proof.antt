@@ -4,7 +4,7 @@ use native.Mathlib.Omega.{arith}
 use mathlib.Core.Path.{refl, _∙_}
 use Prim.Native.Nat.{_-_}
 use lib.ListN.{length}
-use Rattle.loading.proofs.Walking.{other, Looping, going-none, part-here, judged, going-refused, going-last, going-next}
+use Rattle.loading.proofs.Walking.{other, Looping, going-none, readable, going-refused, going-last, going-next}
 use Rattle.loading.proofs.read_statements.Statement.{statement}
 use Rattle.loading.proofs.read_statements.Tie as tie
 
@@ -20,21 +20,8 @@ begin-requires c κs = search needs
 loop-holds : tie.Need-loop-holds Inv-loop μ-loop
 loop-holds c = record { going = going-none (c .before .before .before .before .before .before .before .pre) (c .begin .ensures); names-is = refl; table-is = refl; switches-is = refl; entries-is = refl }
 
-sub-read-part : tie.Need-sub-read-part Inv-loop μ-loop
-sub-read-part c = omega (arith, (c .loop .inv .going) .standing .inside)
-
-part-read-part-start : tie.Need-part-read-part-start Inv-loop μ-loop
-part-read-part-start c = omega (arith, (c .loop .inv .going) .standing .inside)
-
-part-read-part-end : tie.Need-part-read-part-end Inv-loop μ-loop
-part-read-part-end c = search needs
-
-read-part-requires : tie.Need-read-part-requires Inv-loop μ-loop
-read-part-requires c κs = search needs
-
-read-judged-requires : tie.Need-read-judged-requires Inv-loop μ-loop
-read-judged-requires c κs = let partᵛ = part-here (c .before .before .before .before .before .before .loop .inv .going) (c .before .before .before .before .read-part .ensures) in
-    judged (c .before .before .before .before .before .before .loop .inv .going) partᵛ
+read-statement-requires : tie.Need-read-statement-requires Inv-loop μ-loop
+read-statement-requires c κs = readable (c .before .before .before .before .loop .inv .going)
 
 enum-known-r : tie.Need-enum-known-r Inv-loop μ-loop
 enum-known-r c = search needs
@@ -43,48 +30,50 @@ enum-told : tie.Need-enum-told Inv-loop μ-loop
 enum-told c = search needs
 
 same-length : tie.Need-same-length Inv-loop μ-loop
-same-length c = c .before .before .before .before .before .before .before .before .before .before .read-judged .kept .1 .1 .1 .1 .1 .0 ∙ c .before .before .before .before .before .before .before .before .before .before .before .before .before .before .before .before .before .loop .inv .names-is
+same-length c = c .before .before .before .before .before .before .before .before .before .before .read-statement .kept .1 .1 .1 .1 .0 ∙ c .before .before .before .before .before .before .before .before .before .before .before .before .before .before .before .loop .inv .names-is
 
 same-length-2 : tie.Need-same-length-2 Inv-loop μ-loop
-same-length-2 c = c .before .before .before .before .before .before .before .before .before .before .read-judged .kept .1 .1 .1 .1 .1 .1 .0 ∙ c .before .before .before .before .before .before .before .before .before .before .before .before .before .before .before .before .before .loop .inv .table-is
+same-length-2 c = c .before .before .before .before .before .before .before .before .before .before .read-statement .kept .1 .1 .1 .1 .1 .0 ∙ c .before .before .before .before .before .before .before .before .before .before .before .before .before .before .before .loop .inv .table-is
 
 same-length-3 : tie.Need-same-length-3 Inv-loop μ-loop
-same-length-3 c = c .before .before .before .before .before .before .before .before .before .before .read-judged .kept .1 .1 .1 .1 .1 .1 .1 .0 ∙ c .before .before .before .before .before .before .before .before .before .before .before .before .before .before .before .before .before .loop .inv .switches-is
+same-length-3 c = c .before .before .before .before .before .before .before .before .before .before .read-statement .kept .1 .1 .1 .1 .1 .1 .0 ∙ c .before .before .before .before .before .before .before .before .before .before .before .before .before .before .before .loop .inv .switches-is
 
 same-length-4 : tie.Need-same-length-4 Inv-loop μ-loop
-same-length-4 c = c .before .before .before .before .before .before .before .before .before .before .read-judged .kept .1 .1 .1 .1 .1 .1 .1 .1 .0 ∙ c .before .before .before .before .before .before .before .before .before .before .before .before .before .before .before .before .before .loop .inv .entries-is
+same-length-4 c = c .before .before .before .before .before .before .before .before .before .before .read-statement .kept .1 .1 .1 .1 .1 .1 .1 .0 ∙ c .before .before .before .before .before .before .before .before .before .before .before .before .before .before .before .loop .inv .entries-is
 
 returns : tie.Need-returns Inv-loop μ-loop
-returns c = let partᵛ = part-here (c .before .before .before .before .before .before .before .before .before .before .before .before .before .before .before .before .before .loop .inv .going) (c .before .before .before .before .before .before .before .before .before .before .before .before .before .before .before .read-part .ensures) in
-    going-refused (c .before .before .before .before .before .before .before .before .before .before .before .before .before .before .before .before .before .loop .inv .going) partᵛ (c .before .before .before .before .before .before .before .before .before .before .read-judged .ensures) (other _ (c .before .match .keys2))
+returns c = going-refused (c .before .before .before .before .before .before .before .before .before .before .before .before .before .before .before .loop .inv .going) (c .before .before .before .before .before .before .before .before .before .before .read-statement .ensures) (other _ (c .before .match .keys2))
 
 same-length-5 : tie.Need-same-length-5 Inv-loop μ-loop
-same-length-5 c = c .before .before .before .before .before .before .before .before .before .before .before .before .read-judged .kept .1 .1 .1 .1 .1 .0 ∙ c .before .before .before .before .before .before .before .before .before .before .before .before .before .before .before .before .before .before .before .loop .inv .names-is
+same-length-5 c = c .before .before .before .before .before .before .before .before .before .before .before .before .read-statement .kept .1 .1 .1 .1 .0 ∙ c .before .before .before .before .before .before .before .before .before .before .before .before .before .before .before .before .before .loop .inv .names-is
 
 same-length-6 : tie.Need-same-length-6 Inv-loop μ-loop
-same-length-6 c = c .before .before .before .before .before .before .before .before .before .before .before .before .read-judged .kept .1 .1 .1 .1 .1 .1 .0 ∙ c .before .before .before .before .before .before .before .before .before .before .before .before .before .before .before .before .before .before .before .loop .inv .table-is
+same-length-6 c = c .before .before .before .before .before .before .before .before .before .before .before .before .read-statement .kept .1 .1 .1 .1 .1 .0 ∙ c .before .before .before .before .before .before .before .before .before .before .before .before .before .before .before .before .before .loop .inv .table-is
 
 same-length-7 : tie.Need-same-length-7 Inv-loop μ-loop
-same-length-7 c = c .before .before .before .before .before .before .before .before .before .before .before .before .read-judged .kept .1 .1 .1 .1 .1 .1 .1 .0 ∙ c .before .before .before .before .before .before .before .before .before .before .before .before .before .before .before .before .before .before .before .loop .inv .switches-is
+same-length-7 c = c .before .before .before .before .before .before .before .before .before .before .before .before .read-statement .kept .1 .1 .1 .1 .1 .1 .0 ∙ c .before .before .before .before .before .before .before .before .before .before .before .before .before .before .before .before .before .loop .inv .switches-is
 
 same-length-8 : tie.Need-same-length-8 Inv-loop μ-loop
-same-length-8 c = c .before .before .before .before .before .before .before .before .before .before .before .before .read-judged .kept .1 .1 .1 .1 .1 .1 .1 .1 .0 ∙ c .before .before .before .before .before .before .before .before .before .before .before .before .before .before .before .before .before .before .before .loop .inv .entries-is
+same-length-8 c = c .before .before .before .before .before .before .before .before .before .before .before .before .read-statement .kept .1 .1 .1 .1 .1 .1 .1 .0 ∙ c .before .before .before .before .before .before .before .before .before .before .before .before .before .before .before .before .before .loop .inv .entries-is
 
 returns-2 : tie.Need-returns-2 Inv-loop μ-loop
-returns-2 c = let partᵛ = part-here (c .before .before .before .before .before .before .before .before .before .before .before .before .before .before .before .before .before .before .before .loop .inv .going) (c .before .before .before .before .before .before .before .before .before .before .before .before .before .before .before .before .before .read-part .ensures) in
-    going-last (c .before .before .before .before .before .before .before .before .before .before .before .before .before .before .before .before .before .before .before .loop .inv .going) partᵛ (c .before .before .before .before .before .before .before .before .before .before .before .before .read-judged .ensures) (c .before .before .r .given .0 .0) (c .before .before .r .given .1) (c .if1 .taken)
-
-add-n : tie.Need-add-n Inv-loop μ-loop
-add-n c = let partᵛ = part-here (c .before .before .before .before .before .before .before .before .before .before .before .before .before .before .before .before .before .before .before .before .loop .inv .going) (c .before .before .before .before .before .before .before .before .before .before .before .before .before .before .before .before .before .before .read-part .ensures) in
-    omega (arith, partᵛ .ends .most, (c .before .before .before .before .before .before .before .before .before .before .before .before .before .before .before .before .before .before .before .before .loop .inv .going) .standing .short)
+returns-2 c = going-last (c .before .before .before .before .before .before .before .before .before .before .before .before .before .before .before .before .before .loop .inv .going) (c .before .before .before .before .before .before .before .before .before .before .before .before .read-statement .ensures) (c .before .before .r .given .0 .0) (c .before .before .r .given .1) (c .if1 .taken)
 
 loop-less : tie.Need-loop-less Inv-loop μ-loop
-loop-less c = let partᵛ = part-here (c .before .before .before .before .before .before .before .before .before .before .before .before .before .before .before .before .before .before .before .before .loop .inv .going) (c .before .before .before .before .before .before .before .before .before .before .before .before .before .before .before .before .before .before .read-part .ensures) in
-    omega (arith, partᵛ .ends .most, partᵛ .ends .more (c .before .if1 .left), (c .before .before .before .before .before .before .before .before .before .before .before .before .before .before .before .before .before .before .before .before .loop .inv .going) .standing .inside)
+loop-less c =
+    let e = c .before .before .before .before .before .before .before .before .before .before .before .before .read-statement .ensures .ends in
+    omega (arith, e .most, e .more (c .if1 .left), (c .before .before .before .before .before .before .before .before .before .before .before .before .before .before .before .before .before .loop .inv .going) .standing .inside)
 
 loop-again : tie.Need-loop-again Inv-loop μ-loop
-loop-again c = let partᵛ = part-here (c .before .before .before .before .before .before .before .before .before .before .before .before .before .before .before .before .before .before .before .before .loop .inv .going) (c .before .before .before .before .before .before .before .before .before .before .before .before .before .before .before .before .before .before .read-part .ensures) in
-    record { going = going-next (c .before .before .before .before .before .before .before .before .before .before .before .before .before .before .before .before .before .before .before .before .loop .inv .going) partᵛ (c .before .before .before .before .before .before .before .before .before .before .before .before .before .read-judged .ensures) (c .before .before .before .r .given .0 .0) (c .before .before .before .r .given .1) (c .before .if1 .left); names-is = c .before .before .before .before .before .before .before .before .before .before .before .before .before .read-judged .kept .1 .1 .1 .1 .1 .0 ∙ c .before .before .before .before .before .before .before .before .before .before .before .before .before .before .before .before .before .before .before .before .loop .inv .names-is; table-is = c .before .before .before .before .before .before .before .before .before .before .before .before .before .read-judged .kept .1 .1 .1 .1 .1 .1 .0 ∙ c .before .before .before .before .before .before .before .before .before .before .before .before .before .before .before .before .before .before .before .before .loop .inv .table-is; switches-is = c .before .before .before .before .before .before .before .before .before .before .before .before .before .read-judged .kept .1 .1 .1 .1 .1 .1 .1 .0 ∙ c .before .before .before .before .before .before .before .before .before .before .before .before .before .before .before .before .before .before .before .before .loop .inv .switches-is; entries-is = c .before .before .before .before .before .before .before .before .before .before .before .before .before .read-judged .kept .1 .1 .1 .1 .1 .1 .1 .1 .0 ∙ c .before .before .before .before .before .before .before .before .before .before .before .before .before .before .before .before .before .before .before .before .loop .inv .entries-is }
+loop-again c =
+    let i = c .before .before .before .before .before .before .before .before .before .before .before .before .before .before .before .before .before .loop .inv in
+    record {
+      going = going-next (i .going) (c .before .before .before .before .before .before .before .before .before .before .before .before .read-statement .ensures) (c .before .before .r .given .0 .0) (c .before .before .r .given .1) (c .if1 .left);
+      names-is = c .before .before .before .before .before .before .before .before .before .before .before .before .read-statement .kept .1 .1 .1 .1 .0 ∙ i .names-is;
+      table-is = c .before .before .before .before .before .before .before .before .before .before .before .before .read-statement .kept .1 .1 .1 .1 .1 .0 ∙ i .table-is;
+      switches-is = c .before .before .before .before .before .before .before .before .before .before .before .before .read-statement .kept .1 .1 .1 .1 .1 .1 .0 ∙ i .switches-is;
+      entries-is = c .before .before .before .before .before .before .before .before .before .before .before .before .read-statement .kept .1 .1 .1 .1 .1 .1 .1 .0 ∙ i .entries-is;
+    }
 
 pub read-statements-spec : {M : Type 1} → statement M
 read-statements-spec =
@@ -94,11 +83,7 @@ read-statements-spec =
     μ-loop
     begin-requires
     loop-holds
-    sub-read-part
-    part-read-part-start
-    part-read-part-end
-    read-part-requires
-    read-judged-requires
+    read-statement-requires
     enum-known-r
     enum-told
     same-length
@@ -111,6 +96,5 @@ read-statements-spec =
     same-length-7
     same-length-8
     returns-2
-    add-n
     loop-less
     loop-again)

@@ -1,101 +1,138 @@
 -- `reading_statements::read_statement` meets its contract.
 use borrow.Author.Needs.{needs}
-use Rattle.reading_statements.specs.ReadLaws.{askable, advanceable, admissible, refused-beyond, statement-read, refused-before}
+use mathlib.Core.Path.{sym, _∙_}
+use Rattle.reading_statements.specs.StandingLaws.{head-here, reading-here, reads-here, reads-empty}
 use Rattle.reading_statements.proofs.read_statement.Statement.{statement}
 use Rattle.reading_statements.proofs.read_statement.Tie as tie
 
+sub-read-head : tie.Need-sub-read-head
+sub-read-head c = search needs
+
+part-read-head-start : tie.Need-part-read-head-start
+part-read-head-start c = search needs
+
+part-read-head-end : tie.Need-part-read-head-end
+part-read-head-end c = search needs
+
 read-head-requires : tie.Need-read-head-requires
-read-head-requires c κs = c .before .before .before .before .before .before .pre .reading .standing .inside
+read-head-requires c κs = search needs
 
-sub-from : tie.Need-sub-from
-sub-from c = c .before .before .before .before .before .before .before .before .pre .reading .standing .drafted .tells .waiting .few
+instr-of-requires : tie.Need-instr-of-requires
+instr-of-requires c κs = search needs
 
-judge-requires : tie.Need-judge-requires
-judge-requires c κs = askable (c .before .before .before .read-head .ensures) (c .before .before .before .before .before .before .before .before .before .before .pre)
-
-enum-known-j : tie.Need-enum-known-j
-enum-known-j c = search needs
-
-enum-told : tie.Need-enum-told
-enum-told c = search needs
-
-refusal-of-requires : tie.Need-refusal-of-requires
-refusal-of-requires c κs = search needs
+is-empty-requires : tie.Need-is-empty-requires
+is-empty-requires c κs = search needs
 
 same-length : tie.Need-same-length
-same-length c = c .before .before .before .before .before .judge .kept .1 .1 .1 .1 .0
+same-length c = search needs
 
 returns : tie.Need-returns
 returns c =
-    let a = c .before .before .before .before .before in
-    refused-before (a .before .before .before .before .read-head .ensures) (a .judge .ensures) (c .before .enum-told .given .1) (c .refusal-of .ensures)
+    let p = c .before .before .before .before .before .before .before .before .before .before .before .before .before .before .before .before .pre in
+    let q = head-here (p .standing .inside) (c .before .before .before .before .before .before .before .read-head .ensures) in
+    reads-empty (q .0) (q .1) (sym (c .before .before .is-empty .ensures) ∙ c .before .if1 .taken)
 
-line-at-requires : tie.Need-line-at-requires
-line-at-requires c κs = search needs
-
-cast-line : tie.Need-cast-line
-cast-line c = search needs
-
-declare-statement-requires : tie.Need-declare-statement-requires
-declare-statement-requires c κs =
-    let l = c .before .before .before .before in
-    let j = l .before .before .before in
-    let a = j .before .before .before .before in
-    let k = a .before .before .before .before in
-    admissible (k .read-head .ensures) (a .judge .ensures) (j .j .given .1) (l .line-at .ensures) (k .before .before .before .before .before .before .before .pre)
-
-enum-known-place : tie.Need-enum-known-place
-enum-known-place c = search needs
-
-enum-told-2 : tie.Need-enum-told-2
-enum-told-2 c = search needs
-
-progress-after-requires : tie.Need-progress-after-requires
-progress-after-requires c κs =
-    let j = c .before .before .before .before .before .before .before .before .before .before .before .before .before .before .before .before .before in
-    let a = j .before .before .before .before in
-    let k = a .before .before .before .before in
-    advanceable (k .read-head .ensures) (a .judge .ensures) (j .j .given .1) (k .before .before .before .before .before .before .before .pre)
+read-instruction-requires : tie.Need-read-instruction-requires
+read-instruction-requires c κs =
+    let p = c .before .before .before .before .before .before .before .before .before .before .before .before .before .before .before .before .before .before .pre in
+    let q = head-here (p .standing .inside) (c .before .before .before .before .before .before .before .before .before .read-head .ensures) in
+    record {
+      switches = _;
+      entries = _;
+      met = record { place = _; draft = p .draft; reading = reading-here (q .0) (q .1) (p .standing) };
+      number-is = c .before .before .before .before .before .instr-of .ensures;
+      some = c .before .before .if2 .taken;
+    }
 
 same-length-2 : tie.Need-same-length-2
-same-length-2 c = c .before .before .before .before .before .before .before .before .before .before .before .before .before .before .before .before .before .before .before .before .before .judge .kept .1 .1 .1 .1 .0
+same-length-2 c = search needs
 
 same-length-3 : tie.Need-same-length-3
-same-length-3 c = c .before .before .before .before .before .before .before .before .before .declare-statement .kept .1 .1 .1 .1 .1 .1 .1 .0
-
-same-length-4 : tie.Need-same-length-4
-same-length-4 c = c .before .before .before .before .before .before .before .before .before .declare-statement .kept .1 .1 .1 .1 .1 .1 .1 .1 .0
-
-same-length-5 : tie.Need-same-length-5
-same-length-5 c = c .before .before .before .before .before .before .before .before .before .declare-statement .kept .1 .1 .1 .1 .1 .1 .1 .1 .1 .0
+same-length-3 c = search needs
 
 returns-2 : tie.Need-returns-2
 returns-2 c =
-    let t = c .before .before .before .before .before .before .before .before .before in
-    let l = t .before .before .before .before .before in
-    let j = l .before .before .before in
-    let a = j .before .before .before .before in
-    refused-beyond (a .before .before .before .before .read-head .ensures) (a .judge .ensures) (j .j .given .1) (l .line-at .ensures) (t .declare-statement .ensures) (c .before .place .given .1)
+    let p = c .before .before .before .before .before .before .before .before .before .before .before .before .before .before .before .before .before .before .before .before .before .pre in
+    let q = head-here (p .standing .inside) (c .before .before .before .before .before .before .before .before .before .before .before .before .read-head .ensures) in
+    reads-here (q .0) (q .1) (c .before .before .read-instruction .ensures _ _)
+
+is-switch-requires : tie.Need-is-switch-requires
+is-switch-requires c κs = search needs
+
+read-switch-requires : tie.Need-read-switch-requires
+read-switch-requires c κs =
+    let p = c .before .before .before .before .before .before .before .before .before .before .before .before .before .before .before .before .before .before .before .before .before .before .pre in
+    let q = head-here (p .standing .inside) (c .before .before .before .before .before .before .before .before .before .before .before .before .before .read-head .ensures) in
+    record {
+      lines = _;
+      met = record { place = _; draft = p .draft; reading = reading-here (q .0) (q .1) (p .standing) };
+      some = sym (c .before .before .before .before .before .is-switch .ensures) ∙ c .before .before .before .before .if3 .taken;
+    }
+
+same-length-4 : tie.Need-same-length-4
+same-length-4 c = search needs
+
+same-length-5 : tie.Need-same-length-5
+same-length-5 c = search needs
 
 same-length-6 : tie.Need-same-length-6
-same-length-6 c = c .before .before .before .before .before .before .before .before .before .before .before .before .before .before .before .before .before .before .before .before .before .before .judge .kept .1 .1 .1 .1 .0
+same-length-6 c = search needs
 
 same-length-7 : tie.Need-same-length-7
-same-length-7 c = c .before .before .before .before .before .before .before .before .before .before .declare-statement .kept .1 .1 .1 .1 .1 .1 .1 .0
-
-same-length-8 : tie.Need-same-length-8
-same-length-8 c = c .before .before .before .before .before .before .before .before .before .before .declare-statement .kept .1 .1 .1 .1 .1 .1 .1 .1 .0
-
-same-length-9 : tie.Need-same-length-9
-same-length-9 c = c .before .before .before .before .before .before .before .before .before .before .declare-statement .kept .1 .1 .1 .1 .1 .1 .1 .1 .1 .0
+same-length-7 c = search needs
 
 returns-3 : tie.Need-returns-3
 returns-3 c =
-    let t = c .before .before .before .before .before .before .before .before .before .before in
-    let l = t .before .before .before .before .before in
-    let j = l .before .before .before in
-    let a = j .before .before .before .before in
-    statement-read (a .before .before .before .before .read-head .ensures) (a .judge .ensures) (j .j .given .1) (l .line-at .ensures) (t .declare-statement .ensures) (c .before .before .enum-told2 .given .1) (c .progress-after .ensures)
+    let p = c .before .before .before .before .before .before .before .before .before .before .before .before .before .before .before .before .before .before .before .before .before .before .before .before .before .before .before .before .before .pre in
+    let q = head-here (p .standing .inside) (c .before .before .before .before .before .before .before .before .before .before .before .before .before .before .before .before .before .before .before .before .read-head .ensures) in
+    reads-here (q .0) (q .1) (c .before .before .before .before .before .before .read-switch .ensures _)
+
+read-ending-requires : tie.Need-read-ending-requires
+read-ending-requires c κs =
+    let p = c .before .before .before .before .before .before .before .before .before .before .before .before .before .before .before .before .before .before .before .pre in
+    let q = head-here (p .standing .inside) (c .before .before .before .before .before .before .before .before .before .before .read-head .ensures) in
+    record {
+      lines = _;
+      table = _;
+      switches = _;
+      entries = _;
+      met = record { place = _; draft = p .draft; reading = reading-here (q .0) (q .1) (p .standing) };
+      no-number = sym (c .before .before .before .before .before .before .instr-of .ensures) ∙ c .before .before .before .if2 .left;
+      no-switch = sym (c .before .before .is-switch .ensures) ∙ c .before .if3 .left;
+    }
+
+same-length-8 : tie.Need-same-length-8
+same-length-8 c = search needs
+
+returns-4 : tie.Need-returns-4
+returns-4 c =
+    let p = c .before .before .before .before .before .before .before .before .before .before .before .before .before .before .before .before .before .before .before .before .pre in
+    let q = head-here (p .standing .inside) (c .before .before .before .before .before .before .before .before .before .before .before .read-head .ensures) in
+    reads-here (q .0) (q .1) (c .read-ending .ensures _ _ _ _)
 
 pub read-statement-spec : {M : Type 1} → statement M
-read-statement-spec = tie.close (tie.spec read-head-requires sub-from judge-requires enum-known-j enum-told refusal-of-requires same-length returns line-at-requires cast-line declare-statement-requires enum-known-place enum-told-2 progress-after-requires same-length-2 same-length-3 same-length-4 same-length-5 returns-2 same-length-6 same-length-7 same-length-8 same-length-9 returns-3)
+read-statement-spec =
+    tie.close
+    (tie.spec
+    sub-read-head
+    part-read-head-start
+    part-read-head-end
+    read-head-requires
+    instr-of-requires
+    is-empty-requires
+    same-length
+    returns
+    read-instruction-requires
+    same-length-2
+    same-length-3
+    returns-2
+    is-switch-requires
+    read-switch-requires
+    same-length-4
+    same-length-5
+    same-length-6
+    same-length-7
+    returns-3
+    read-ending-requires
+    same-length-8
+    returns-4)

@@ -1,3 +1,0 @@
-pub mod Advancing
-pub mod AdvancingLaws
-pub mod WaitingLaws

@@ -1,0 +1,27 @@
+-- `arguments::value_by` meets its contract.
+use borrow.Author.Needs.{needs}
+use mathlib.Core.Path.{refl}
+use borrow.Author.Tests.{eq-eqb, ne-eqb}
+use Rattle.arguments.proofs.value_by.Statement.{statement}
+use Rattle.arguments.proofs.value_by.Tie as tie
+
+mul-mark : tie.Need-mul-mark
+mul-mark c = search needs
+
+add-mark : tie.Need-add-mark
+add-mark c = search needs
+
+returns : tie.Need-returns
+returns c = rw (eq-eqb _ _ (c .if1 .taken)) refl
+
+returns-2 : tie.Need-returns-2
+returns-2 c = rw (ne-eqb _ _ (c .before .if1 .left), eq-eqb _ _ (c .if2 .taken)) refl
+
+returns-3 : tie.Need-returns-3
+returns-3 c = rw (ne-eqb _ _ (c .before .before .if1 .left), ne-eqb _ _ (c .before .if2 .left), eq-eqb _ _ (c .if3 .taken)) refl
+
+returns-4 : tie.Need-returns-4
+returns-4 c = rw (ne-eqb _ _ (c .before .before .if1 .left), ne-eqb _ _ (c .before .if2 .left), ne-eqb _ _ (c .if3 .left)) refl
+
+pub value-by-spec : {M : Type 1} → statement M
+value-by-spec = tie.close (tie.spec mul-mark add-mark returns returns-2 returns-3 returns-4)

@@ -1,3 +1,0 @@
-pub mod Waiting
-pub mod Verdicts
-pub mod Arguments

@@ -1,3 +1,0 @@
-pub mod DeclaringStatements
-pub mod AdmittedLaws
-pub mod AdmittedSwitchLaws

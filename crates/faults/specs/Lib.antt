@@ -1,3 +1,0 @@
-pub mod Faults
-pub mod FaultLaws
-pub mod Groups

@@ -1,0 +1,2 @@
+pub mod Headings
+pub mod HeadingLaws

@@ -1,0 +1,226 @@
+-- The head of a statement item by item.
+use mathlib.Core.Path.{_≡_, refl, ap, sym, _∙_}
+use mathlib.Core.Bool.{Bool, true, false, cond, not, false≢true}
+use mathlib.Core.List.{List, [], _∷_, _++_}
+use Prim.Native.Nat.{ℕ, _≤_, _<_, min}
+use native.Mathlib.Omega.{arith}
+use lib.Dec.{eqb}
+use lib.ListN.{length, take}
+use borrow.Author.Tests.{eq-eqb, ne-eqb, eqb-true, eqb-false}
+use Rattle.statements.specs.Checks.{clean, item-code, worst, token-code}
+use Rattle.statements.specs.CheckLaws.{token-coded, worst-low}
+use Rattle.statements.specs.FaultLaws.{fault-both}
+use Rattle.statements.specs.Faults.{lower}
+use Rattle.lists.specs.Lists.{filled, ifAny, keep}
+use Rattle.lexer.specs.declared.Token.{Token}
+use Rattle.lexer.specs.Tokens.{item-of, Next-token}
+use Rattle.statements.proofs.Ends.{Within, begins-within, still-within}
+use Rattle.statements.specs.declared.Fault.{Fault}
+use Rattle.statements.specs.declared.Fault.the-variants.{Clear, At}
+use Rattle.statements.specs.LowestLaws.{fault-first}
+use Rattle.statements.specs.PlaceLaws.{statement-from, places-from}
+use Rattle.statements.specs.StatementAt.{statement-at, stops, fault-of}
+use Rattle.statements.specs.StatementLaws.{at-stop, at-item, on}
+use Rattle.syntax.specs.Items.{Item, places}
+use Rattle.syntax.specs.Statements.{keyword-of, is-operator, front, behind, operator, keyword-in, is-name}
+use Rattle.syntax.specs.Statements as Spec
+use Rattle.words.specs.declared.Keyword.{Keyword}
+use Rattle.words.specs.Keywords.{told}
+use Rattle.heads.specs.Heads.{operates, Headed}
+use Rattle.heads.specs.HeadLaws.{front-goes, behind-goes, front-ends, behind-here, operator-is}
+
+abbrev name-faults : List Item → List ℕ
+name-faults js = places (keep (λ i. not (is-name i)) js)
+
+lower-assoc : (a b c : Fault) → lower (lower a b) c ≡ lower a (lower b c)
+lower-assoc Clear b c = refl
+lower-assoc (At p) Clear c = refl
+lower-assoc (At p) (At q) Clear = refl
+lower-assoc (At p) (At q) (At r) = ap At (omega arith)
+
+lower-clear : (a : Fault) → lower a Clear ≡ a
+lower-clear Clear = refl
+lower-clear (At p) = refl
+
+-- an item in front of the operator, if it is no name
+abbrev pub own-fault : Item → Fault
+own-fault i = fault-of (cond (is-name i) [] (i .at ∷ []))
+
+name-fault-goes : (i : Item) (js : List Item) → fault-of (name-faults (i ∷ js)) ≡ lower (own-fault i) (fault-of (name-faults js))
+name-fault-goes i js = go (is-name i)
+  where
+    go : (b : Bool) → fault-of (places (cond (not b) (i ∷ keep (λ i. not (is-name i)) js) (keep (λ i. not (is-name i)) js)))
+        ≡ lower (fault-of (cond b [] (i .at ∷ []))) (fault-of (name-faults js))
+    go true = refl
+    go false = fault-both (i .at ∷ []) (name-faults js)
+
+-- the first item of the statement at n is in front of the operator, at f, before place i
+record Begun (s : List ℕ) (n i f : ℕ) : Type 0 where
+  ahead : filled (front (statement-at s n)) ≡ true
+  first : fault-of (places (statement-at s n)) ≡ At f
+  low : f < i
+
+-- Place i is still in front of the operator of the statement at n
+pub record Leading (s : List ℕ) (n i f : ℕ) (fault : Fault) (w : ℕ) : Type 0 where
+  within : Within s n i
+  begun : (i ≡ n → ⊥) → Begun s n i f
+  operator-is : behind (statement-at s n) ≡ behind (statement-at s i)
+  faults : fault-of (name-faults (front (statement-at s n))) ≡ lower fault (fault-of (name-faults (front (statement-at s i))))
+  low : w ≤ clean
+  worsts : worst (front (statement-at s n) ++ operator (statement-at s n)) ≡ min w (worst (front (statement-at s i) ++ operator (statement-at s i)))
+
+pub no-front : {y : List Item} → y ≡ [] → front y ≡ []
+unfolding front
+no-front e = ap front e
+
+pub leading-first : {s : List ℕ} {n : ℕ} → n ≤ length s → Leading s n n n Clear clean
+leading-first {s} {n} h =
+    record {
+      within = begins-within h;
+      begun = λ q. absurd (q refl);
+      operator-is = refl;
+      faults = refl;
+      low = omega arith;
+      worsts = let k = worst-low (front (statement-at s n) ++ operator (statement-at s n)) in omega arith;
+    }
+
+module _ {s : List ℕ} {n i f w : ℕ} {fault : Fault} {t : Token} (l : Leading s n i f fault w) (k : Next-token s i t) {b : Bool} (b-is : b ≡ eqb i n) {f′ : ℕ}
+    (f-is : f′ ≡ cond b (t .at) f) where
+  abbrev x : List Item
+  x = statement-at s n
+
+  same : i ≡ n → x ≡ statement-at s i
+  same e = ap (statement-at s) (sym e)
+
+  abbrev First : ℕ → Type 0
+  First p = (filled x ≡ true → fault-of (places x) ≡ At p) × (eqb p (t .at) ≡ not (filled (front x)))
+
+  -- the first item's place, where no item of the front is left
+  firsts : front (statement-at s i) ≡ [] → (filled (statement-at s i) ≡ true → fault-of (places (statement-at s i)) ≡ At (t .at)) → First f′
+  firsts none h = go b b-is f-is
+    where
+      go : (b : Bool) → b ≡ eqb i n → f′ ≡ cond b (t .at) f → First f′
+      go true e g =
+          let q = same (eqb-true i n (sym e)) in
+          rw g (λ z. ap (λ y. fault-of (places y)) q ∙ h (sym (ap filled q) ∙ z), rw (q, none) (eq-eqb (t .at) (t .at) refl))
+      go false e g =
+          let u = l .begun (eqb-false i n (sym e)) in
+          rw g (λ z. u .first, rw (u .ahead) (ne-eqb f (t .at) (λ y. omega (arith, y, u .low, k .from))))
+
+  abbrev js : List Item
+  js = statement-at s (t .next)
+
+  -- no operator
+  pub no-head : {c : ℕ} → stops (t .sort) ≡ true → Headed s n (record { first = f′; fault = fault; names = c; worst = w; op = t; keyword = Keyword.None })
+  unfolding front behind keyword-in worst
+  no-head z =
+      let e = at-stop k z in
+      let p = firsts (no-front e) (λ q. absurd (false≢true (sym (ap filled e) ∙ q))) in
+      record {
+        from = omega (arith, l .within .from, k .from);
+        stands = k .stands;
+        place = i;
+        within = l .within;
+        token = k;
+        operator = l .operator-is ∙ rw (e, z) refl;
+        keyword = rw (l .operator-is, e) refl;
+        first-is = p .0;
+        front-is = p .1;
+        fault-is = sym (l .faults ∙ ap (λ y. lower fault (fault-of (name-faults (front y)))) e ∙ lower-clear fault);
+        worst-is = sym (l .worsts ∙ ap (λ y. min w (worst (front y ++ operator y))) e ∙ (let h = l .low in omega arith));
+      }
+
+  module _ (z : stops (t .sort) ≡ false) {w′ : ℕ} (w-is : w′ ≡ min w (token-code t)) where
+    abbrev it : Item
+    it = item-of s t
+
+    behind-own : t .at ≤ t .next
+    behind-own = omega (arith, k .stands .own, k .stands .behind)
+
+    first-here : fault-of (places (statement-at s i)) ≡ At (t .at)
+    first-here =
+        ap (λ y. fault-of (places y)) (at-item k z)
+        ∙ fault-first (t .at) (places js) (places-from (t .at) js (statement-from s (t .next) (t .at) behind-own))
+
+    module _ (o : operates t ≡ true) {v : Keyword} (v-is : v ≡ told (keyword-of it)) where
+      op-is : is-operator it ≡ true
+      op-is = operator-is (k .stands) ∙ o
+
+      front-none : front (statement-at s i) ≡ []
+      front-none = ap front (at-item k z) ∙ front-ends it js op-is
+
+      behind-is : behind x ≡ it ∷ js
+      behind-is = l .operator-is ∙ ap behind (at-item k z) ∙ behind-here it js op-is
+
+      worst-here : w′ ≡ min w (worst (front (statement-at s i) ++ operator (statement-at s i)))
+      unfolding worst
+      worst-here =
+          let h = l .low in
+          let e : min w (token-code t) ≡ min w (min (token-code t) clean) = omega arith in
+          w-is ∙ e
+          ∙ ap (λ m. min w (min m clean)) (token-coded (k .stands))
+          ∙ sym (ap (λ y. min w (worst (y ++ operator (statement-at s i)))) front-none ∙ ap (λ y. min w (worst (take 1 y))) (sym (l .operator-is) ∙ behind-is))
+
+      pub head-here : {c : ℕ} → Headed s n (record { first = f′; fault = fault; names = c; worst = w′; op = t; keyword = v })
+      unfolding keyword-in
+      head-here =
+          let p = firsts front-none (λ q. first-here) in
+          record {
+            from = omega (arith, l .within .from, k .from);
+            stands = k .stands;
+            place = i;
+            within = l .within;
+            token = k;
+            operator = behind-is ∙ rw z refl;
+            keyword = v-is ∙ sym (ap (λ xs. told (ifAny Spec.Keyword.none keyword-of xs)) behind-is);
+            first-is = p .0;
+            front-is = p .1;
+            fault-is = sym (l .faults ∙ ap (λ y. lower fault (fault-of (name-faults y))) front-none ∙ lower-clear fault);
+            worst-is = worst-here ∙ sym (l .worsts);
+          }
+
+    module _ (o : operates t ≡ false) where
+      op-no : is-operator it ≡ false
+      op-no = operator-is (k .stands) ∙ o
+
+      front-some : front (statement-at s i) ≡ it ∷ front js
+      front-some = ap front (at-item k z) ∙ front-goes it js op-no
+
+      behind-some : behind (statement-at s i) ≡ behind js
+      behind-some = ap behind (at-item k z) ∙ behind-goes it js op-no
+
+      begun-then : Begun s n (t .next) f′
+      begun-then = go b b-is f-is
+        where
+          go : (b : Bool) → b ≡ eqb i n → f′ ≡ cond b (t .at) f → Begun s n (t .next) f′
+          go true e g =
+              let q = same (eqb-true i n (sym e)) in
+              let m = k .stands .some (λ y. false≢true (sym z ∙ ap stops y)) in
+              record { ahead = ap (λ y. filled (front y)) q ∙ ap filled front-some; first = rw g (ap (λ y. fault-of (places y)) q ∙ first-here); low = omega (arith, g, m, k .stands .behind) }
+          go false e g =
+              let u = l .begun (eqb-false i n (sym e)) in
+              record { ahead = u .ahead; first = rw g (u .first); low = omega (arith, g, u .low, on k z) }
+
+      worst-goes : worst (front (statement-at s i) ++ operator (statement-at s i)) ≡ min (token-code t) (worst (front js ++ operator js))
+      unfolding worst
+      worst-goes =
+          ap (λ y. worst (y ++ operator (statement-at s i))) front-some
+          ∙ ap (λ y. min (item-code it) (worst (front js ++ take 1 y))) behind-some
+          ∙ ap (λ m. min m (worst (front js ++ operator js))) (sym (token-coded (k .stands)))
+
+      pub still-leading : {fault′ : Fault} → fault′ ≡ lower fault (own-fault it) → Leading s n (t .next) f′ fault′ w′
+      still-leading {fault′} g =
+          record {
+            within = still-within (l .within) k z;
+            begun = λ q. begun-then;
+            operator-is = l .operator-is ∙ behind-some;
+            faults =
+                l .faults
+                ∙ ap (λ y. lower fault (fault-of (name-faults y))) front-some
+                ∙ ap (lower fault) (name-fault-goes it (front js))
+                ∙ sym (lower-assoc fault (own-fault it) (fault-of (name-faults (front js))))
+                ∙ ap (λ a. lower a (fault-of (name-faults (front js)))) (sym g);
+            low = let h = l .low in omega arith;
+            worsts =
+                l .worsts ∙ ap (min w) worst-goes ∙ (omega (arith, w-is));
+          }

@@ -1,0 +1,2 @@
+pub mod Leading
+pub mod Reading

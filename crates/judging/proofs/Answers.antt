@@ -1,0 +1,147 @@
+-- Questions 10 and 08 from a statement's head.
+use mathlib.Core.Path.{_≡_, refl, ap, sym, _∙_}
+use mathlib.Core.Bool.{Bool, true, false, cond, not, _||_, true≢false}
+use mathlib.Core.List.{List, [], _∷_, map}
+use Prim.Native.Nat.{ℕ, zero, suc, _+_, _-_, _≤_, _<_}
+use native.Mathlib.Decide.{decLt}
+use native.Mathlib.Omega.{arith}
+use lib.ListN.{length, take, drop, length-take, length-drop}
+use lib.Seq.{drop-drop}
+use Rattle.drafts.specs.DraftingLaws.{place-back}
+use Rattle.drafts.specs.Marks.{mark, place-by, marks-in}
+use Rattle.statements.specs.FaultLaws.{fault-both}
+use Rattle.statements.specs.Faults.{lower}
+use Rattle.heads.specs.Heads.{bars, is-switch, Headed}
+use Rattle.heads.specs.HeadLaws.{told-bars, no-keyword, operator-here}
+use Rattle.heads.specs.declared.Head.{Head}
+use Rattle.language.specs.Limits as limit
+use Rattle.layout.specs.Bounds.{Each}
+use Rattle.lexer.specs.Tokens.{item-of}
+use Rattle.lists.specs.Lists.{filled, ifAny, keep}
+use Rattle.statements.specs.declared.Fault.{Fault}
+use Rattle.statements.specs.declared.Fault.the-variants.{Clear, At}
+use Rattle.statements.specs.StatementAt.{statement-at, stops, fault-of}
+use Rattle.syntax.specs.Items.{Item, places}
+use Rattle.syntax.specs.Questions.{operator-faults, label-faults}
+use Rattle.syntax.specs.Statements.{by-keyword, same-keyword, keyword-of, front, behind, operator, keyword-in, is-name}
+use Rattle.syntax.specs.Statements as Spec
+use Rattle.syntax.specs.Verdict.{lowest}
+use Rattle.words.specs.Keywords.{told}
+
+by-switch : (X : List ℕ) (k : Spec.Keyword) → by-keyword (λ op. []) (λ byName. X) [] k ≡ cond (is-switch (told k)) X []
+unfolding by-keyword
+by-switch X Spec.Keyword.none = refl
+by-switch X Spec.Keyword.unknown = refl
+by-switch X Spec.Keyword.SEKCJA = refl
+by-switch X Spec.Keyword.KONS = refl
+by-switch X Spec.Keyword.KONP = refl
+by-switch X (Spec.Keyword.switch byName) = refl
+by-switch X (Spec.Keyword.instr op) = refl
+
+less : (a b : ℕ) → a ≤ b → (a ≡ b → ⊥) → a < b
+less a b h q = go (decLt a b)
+  where
+    go : Dec (a < b) → a < b
+    go (yes l) = l
+    go (no l) = absurd (q (omega arith))
+
+tail-take : (n : ℕ) (xs : List ℕ) → drop 1 (take n xs) ≡ take (n - 1) (drop 1 xs)
+tail-take zero xs = let e : 0 - 1 ≡ 0 = omega arith in sym (ap (λ (k : ℕ). take k (drop 1 xs)) e)
+tail-take (suc n) [] = sym (none (suc n - 1))
+  where
+    none : (k : ℕ) → take {A = ℕ} k [] ≡ []
+    none zero = refl
+    none (suc k) = refl
+tail-take (suc n) (x ∷ xs) = let e : n ≡ suc n - 1 = omega arith in ap (λ (k : ℕ). take k xs) e
+
+places-back : (ls : List Item) → Each (λ l. length (l .chars) ≤ limit.item) ls → map place-by (map mark ls) ≡ places ls
+places-back [] h = refl
+places-back (l ∷ ls) (h, hs) = rw (place-back (l .at) (length (l .chars)) (omega (arith, h)), places-back ls hs) refl
+
+module _ {s : List ℕ} {n : ℕ} {h : Head} (g : Headed s n h) where
+  abbrev x : List Item
+  x = statement-at s n
+
+  abbrev it : Item
+  it = item-of s (h .op)
+
+  no-operator : stops (h .op .sort) ≡ true → operator x ≡ []
+  no-operator z = ap (take 1) (g .operator ∙ ap (λ (b : Bool). cond b [] (it ∷ statement-at s (h .op .next))) z)
+
+  abbrev barred : Item → Bool
+  barred i = same-keyword Spec.Keyword.unknown (keyword-of i) || same-keyword Spec.Keyword.SEKCJA (keyword-of i)
+
+  -- 10
+  own-fault : (b : Bool) → stops (h .op .sort) ≡ b → fault-of (places (keep barred (operator x))) ≡ cond (bars (h .keyword)) (At (h .op .at)) Clear
+  unfolding keyword-in lowest
+  own-fault true z = ap (λ os. fault-of (places (keep barred os))) (no-operator z) ∙ sym (ap (λ k. cond (bars k) (At (h .op .at)) Clear) (no-keyword g z))
+  own-fault false z =
+      let behind-is : behind x ≡ it ∷ statement-at s (h .op .next) = g .operator ∙ ap (λ (b : Bool). cond b [] (it ∷ statement-at s (h .op .next))) z in
+      let k : h .keyword ≡ told (keyword-of it) = g .keyword ∙ ap (λ xs. told (ifAny Spec.Keyword.none keyword-of xs)) behind-is in
+      ap (λ os. fault-of (places (keep barred os))) (operator-here g z)
+      ∙ ap (λ (b : Bool). fault-of (places (cond b (it ∷ []) []))) (sym (told-bars (keyword-of it)) ∙ ap bars (sym k))
+      ∙ go (bars (h .keyword))
+    where
+      go : (b : Bool) → fault-of (places (cond b (it ∷ []) [])) ≡ cond b (At (h .op .at)) Clear
+      go true = refl
+      go false = refl
+
+  both-faults : lower (h .fault) (cond (bars (h .keyword)) (At (h .op .at)) Clear) ≡ fault-of (operator-faults x)
+  unfolding operator-faults
+  both-faults =
+      ap (λ f. lower f (cond (bars (h .keyword)) (At (h .op .at)) Clear)) (g .fault-is)
+      ∙ ap (lower (fault-of (places (keep (λ i. not (is-name i)) (front x))))) (sym (own-fault (stops (h .op .sort)) refl))
+      ∙ sym (fault-both (places (keep (λ i. not (is-name i)) (front x))) (places (keep barred (operator x))))
+
+  pub operator-barred : bars (h .keyword) ≡ true → {r : Fault} → r ≡ lower (h .fault) (At (h .op .at)) → r ≡ fault-of (operator-faults x)
+  operator-barred e f = f ∙ sym (ap (λ (b : Bool). lower (h .fault) (cond b (At (h .op .at)) Clear)) e) ∙ both-faults
+
+  pub operator-known : bars (h .keyword) ≡ false → h .fault ≡ fault-of (operator-faults x)
+  operator-known e = sym (lower-clear (h .fault)) ∙ sym (ap (λ (b : Bool). lower (h .fault) (cond b (At (h .op .at)) Clear)) e) ∙ both-faults
+    where
+      lower-clear : (a : Fault) → lower a Clear ≡ a
+      lower-clear Clear = refl
+      lower-clear (At p) = refl
+
+  -- 08
+  abbrev asked : List Item → List ℕ
+  asked ls = cond (filled ls) (places (drop 1 ls)) (places (operator x))
+
+  by-head : (b : Bool) → is-switch (h .keyword) ≡ b → (ls : List Item) → label-faults ls x ≡ cond b (asked ls) []
+  unfolding label-faults
+  by-head b e ls = by-switch (asked ls) (keyword-in x) ∙ ap (λ (c : Bool). cond c (asked ls) []) (ap is-switch (sym (g .keyword)) ∙ e)
+
+  pub no-switch : is-switch (h .keyword) ≡ false → (ls : List Item) → Clear ≡ fault-of (label-faults ls x)
+  no-switch e ls = sym (ap fault-of (by-head false e ls))
+
+  module _ (e : is-switch (h .keyword) ≡ true) where
+    operator-of : (b : Bool) → stops (h .op .sort) ≡ b → places (operator x) ≡ h .op .at ∷ []
+    operator-of true z = absurd (true≢false (sym e ∙ ap is-switch (no-keyword g z)))
+    operator-of false z = ap places (operator-here g z)
+
+    -- the switch has no label
+    pub no-label : (ms : List ℕ) (a : ℕ) → a ≡ h .names → (ls : List Item) → map mark ls ≡ marks-in ms a (h .names) → At (h .op .at) ≡ fault-of (label-faults ls x)
+    unfolding lowest
+    no-label ms a q [] m = sym (ap fault-of (by-head true e [] ∙ operator-of (stops (h .op .sort)) refl))
+    no-label ms a q (l ∷ ls) m =
+        let k : h .names - a ≡ 0 = omega arith in
+        let c : length (map mark (l ∷ ls)) ≡ 0 = ap length (m ∙ ap (λ (j : ℕ). take j (drop a ms)) k) in
+        absurd (omega (arith, c))
+
+    -- those in excess
+    pub labels-over : (ms : List ℕ) (a : ℕ) → a ≤ h .names → h .names ≤ length ms → (a ≡ h .names → ⊥) → {r : Fault} → r ≡ fault-of (map place-by (marks-in ms (a + 1) (h .names)))
+        → (ls : List Item) → map mark ls ≡ marks-in ms a (h .names) → Each (λ l. length (l .chars) ≤ limit.item) ls → r ≡ fault-of (label-faults ls x)
+    labels-over ms a o most q f [] m s =
+        let c : 0 ≡ length (take (h .names - a) (drop a ms)) = ap length m in
+        absurd (omega (arith, c, length-take (h .names - a) (drop a ms), length-drop a ms, q-less))
+      where
+        q-less : a < h .names
+        q-less = less a (h .names) o q
+    labels-over ms a o most q f (l ∷ ls) m s =
+        let j : h .names - (a + 1) ≡ h .names - a - 1 = omega arith in
+        let later : marks-in ms (a + 1) (h .names) ≡ map mark ls =
+        ap (λ (k : ℕ). take k (drop (a + 1) ms)) j
+        ∙ ap (take (h .names - a - 1)) (sym (drop-drop 1 a ms))
+        ∙ sym (tail-take (h .names - a) (drop a ms))
+        ∙ sym (ap (drop 1) m) in
+        f ∙ ap (λ (xs : List ℕ). fault-of (map place-by xs)) later ∙ ap fault-of (places-back ls (s .1)) ∙ sym (ap fault-of (by-head true e (l ∷ ls)))

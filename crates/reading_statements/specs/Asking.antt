@@ -1,0 +1,71 @@
+-- The questions of a statement before its arguments, and what the functions that ask them promise.
+use mathlib.Core.Path.{_≡_}
+use mathlib.Core.Bool.{Bool, true, cond}
+use mathlib.Core.List.{List, _++_}
+use Prim.Native.Nat.{ℕ}
+use Rattle.acceptance.specs.RowLaws.{Answered}
+use Rattle.statements.specs.Checks.{worst}
+use Rattle.statements.specs.Faults.{verdict-of, decided, then}
+use Rattle.statements.specs.Groups.{item-questions, head-questions, name-questions}
+use Rattle.statements.specs.declared.Verdict as told
+use Rattle.heads.specs.Heads.{Headed}
+use Rattle.heads.specs.declared.Head.{Head}
+use Rattle.progress.specs.declared.Progress.{Progress}
+use Rattle.statements.specs.StatementAt.{statement-at, fault-of}
+use Rattle.statements.specs.declared.Fault.{Fault}
+use Rattle.syntax.specs.Items.{Item}
+use Rattle.syntax.specs.Questions.{first-faults, operator-faults}
+use Rattle.syntax.specs.Tables.{Draft, is-first}
+use Rattle.syntax.specs.Verdict.{Question, Verdict, first-no}
+use Rattle.reading_statements.specs.Judging.{Judging}
+use Rattle.reading_statements.specs.declared.Found.{Found}
+use Rattle.reading_statements.specs.declared.Found.the-variants.{Nothing}
+use Rattle.reading_statements.specs.declared.Judged.{Judged}
+
+-- 00 of the first statement x, 10 of a later one
+abbrev pub operator-verdict : List Item → Bool → Verdict
+operator-verdict x first = cond first (decided 0 (fault-of (first-faults x))) (decided 10 (fault-of (operator-faults x)))
+
+-- the fault of 00 is `zero`, where the statement is the first
+abbrev pub Zero-told : Bool → List Item → Fault → Type 0
+Zero-told first x zero = first ≡ true → zero ≡ fault-of (first-faults x)
+
+abbrev pub Operator-asked : Head → Bool → Fault → told.Verdict → Type 0
+Operator-asked h first zero r =
+    (s : List ℕ) (n : ℕ) → Headed s n h → Zero-told first (statement-at s n) zero → verdict-of r ≡ operator-verdict (statement-at s n) first
+
+-- 00 or 10, 08 and 06, where 14, 15 and 16 are answered yes
+pub record Names-askable (s : List ℕ) (g : Progress) (h : Head) (ms : List ℕ) : Type 0 where
+  pub place : ℕ
+  pub draft : Draft
+  pub judging : Judging s place draft g h ms
+  pub plain : Answered (item-questions (statement-at s place))
+
+abbrev pub Names-asked : List ℕ → Progress → Head → List ℕ → Fault → told.Verdict → Type 0
+Names-asked s g h ms zero r =
+    (n : ℕ) (d : Draft) → Judging s n d g h ms → Answered (item-questions (statement-at s n)) → Zero-told (is-first d) (statement-at s n) zero
+    → verdict-of r ≡ first-no (head-questions d (statement-at s n) ++ name-questions d (statement-at s n))
+
+-- all of these; w is the number of 14, 15 and 16
+abbrev pub opening-questions : Draft → List Item → List Question
+opening-questions d x = item-questions x ++ (head-questions d x ++ name-questions d x)
+
+pub record Head-askable (s : List ℕ) (w : ℕ) (g : Progress) (h : Head) (ms : List ℕ) : Type 0 where
+  pub place : ℕ
+  pub draft : Draft
+  pub judging : Judging s place draft g h ms
+  pub worst-is : w ≡ worst (statement-at s place)
+
+abbrev pub Head-asked : List ℕ → ℕ → Progress → Head → List ℕ → Fault → told.Verdict → Type 0
+Head-asked s w g h ms zero r =
+    (n : ℕ) (d : Draft) → Judging s n d g h ms → w ≡ worst (statement-at s n) → Zero-told (is-first d) (statement-at s n) zero
+    → verdict-of r ≡ first-no (opening-questions d (statement-at s n))
+
+-- what a statement says, where the verdict on it is yes
+abbrev pub judged-by : told.Verdict → Found → Judged
+judged-by told.Verdict.Yes f = record { number = 80; at = 0; found = f }
+judged-by (told.Verdict.No number at) f = record { number = number; at = at; found = Nothing }
+
+-- f is what was found, after the verdict u on a statement's head, where w is the verdict on the rest
+abbrev pub Judged-as : told.Verdict → Verdict → Found → Judged → Type 0
+Judged-as u w f r = (v : told.Verdict) × (verdict-of v ≡ then (verdict-of u) w) × (r ≡ judged-by v f)

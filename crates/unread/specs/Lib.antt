@@ -1,2 +1,0 @@
-pub mod Unread
-pub mod ShiftLaws
