@@ -12,6 +12,6 @@ pub told-by : {n x y l k : ℕ} → n ≡ min x l → x ≡ y → k ≡ l → n 
 told-by {x = x} {y = y} {l = l} e f g = e ∙ ap (λ (i : ℕ). min i l) f ∙ ap (min y) (sym g)
 
 pub passes-by : (head input expected : List ℕ) {n m : ℕ} {r : Bool} → r ≡ prints-as (take n input) (take m expected)
-    → n ≡ min (three-at 16 head) (length input) → m ≡ min (three-at 20 head) (length expected) → r ≡ passes-as head input expected
+    → n ≡ min (three-at 56 head) (length input) → m ≡ min (three-at 60 head) (length expected) → r ≡ passes-as head input expected
 passes-by head input expected {m = m} e f g =
-    e ∙ ap (λ (k : ℕ). prints-as (take k input) (take m expected)) f ∙ ap (λ (k : ℕ). prints-as (told head 16 input) (take k expected)) g
+    e ∙ ap (λ (k : ℕ). prints-as (take k input) (take m expected)) f ∙ ap (λ (k : ℕ). prints-as (told head 56 input) (take k expected)) g

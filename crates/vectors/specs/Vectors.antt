@@ -8,9 +8,9 @@ use Rattle.lists.specs.Lists.{sameBytes}
 use Rattle.layout.specs.Cells.{three-at}
 use Rattle.console.specs.Console.{printed}
 
--- a head of 24 bytes, and room for what is printed
+-- a head of 64 bytes, and room for what is printed
 pub record Buffers (head out : ℕ) : Type 0 where
-  pub head-is : head ≡ 24
+  pub head-is : head ≡ 64
   pub room : 4224 ≤ out
 
 -- whether the program prints what is expected
@@ -23,4 +23,4 @@ told head at buffer = take (min (three-at at head) (length buffer)) buffer
 
 -- of a head and what then was read into the two buffers
 abbrev pub passes-as : List ℕ → List ℕ → List ℕ → Bool
-passes-as head input expected = prints-as (told head 16 input) (told head 20 expected)
+passes-as head input expected = prints-as (told head 56 input) (told head 60 expected)

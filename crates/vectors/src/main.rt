@@ -36,8 +36,8 @@ fn passes(head: &[u8], input: &mut [u8], expected: &mut [u8], out: &mut [u8]) ->
     requires { ⌜ Buffers (length (now head)) (length (now out)) ⌝ }
     ensures { λ r. ⌜ r ≡ passes-as (now (head .entry)) (now (input .exit)) (now (expected .exit)) ⌝ }
 {
-    let n = capped(cells::three_at(head, 16), input.len());
-    let m = capped(cells::three_at(head, 20), expected.len());
+    let n = capped(cells::three_at(head, 56), input.len());
+    let m = capped(cells::three_at(head, 60), expected.len());
     fill(input, n);
     fill(expected, m);
     prints(&input[..n], &expected[..m], out)
@@ -45,15 +45,15 @@ fn passes(head: &[u8], input: &mut [u8], expected: &mut [u8], out: &mut [u8]) ->
 
 // Prints the name of a vector that does not pass.
 fn differs(head: &[u8])
-    requires { ⌜ 16 ≤ length (now head) ⌝ }
+    requires { ⌜ 56 ≤ length (now head) ⌝ }
 {
     io::write_all(1, b"differs: ");
-    io::write_all(1, &head[..16]);
+    io::write_all(1, &head[..56]);
     io::write_all(1, b"\n");
 }
 
 fn main() {
-    let mut head = [0u8; 24];
+    let mut head = [0u8; 64];
     let mut input = io::large_buffer();
     let mut expected = [0u8; 4224];
     let mut out = [0u8; 4224];

@@ -12,7 +12,7 @@ write-all-requires : tie.Need-write-all-requires
 write-all-requires c κs = search needs
 
 slice-aggregate-write-all-2 : tie.Need-slice-aggregate-write-all-2
-slice-aggregate-write-all-2 c = sym (length-take-le 16 (c .before .before .before .before .args .head .now) (c .before .before .before .before .pre))
+slice-aggregate-write-all-2 c = sym (length-take-le 56 (c .before .before .before .before .args .head .now) (c .before .before .before .before .pre))
 
 write-all-requires-2 : tie.Need-write-all-requires-2
 write-all-requires-2 c κs = search needs

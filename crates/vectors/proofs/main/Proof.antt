@@ -7,7 +7,7 @@ use Rattle.vectors.proofs.main.Statement.{statement}
 use Rattle.vectors.proofs.main.Tie as tie
 
 abbrev Inv-loop : tie.InvT-loop
-Inv-loop head₀ input₀ expected₀ out₀ count₀ t6 head input expected out count = (length head ≡ 24) × (length input ≡ 65536) × (length expected ≡ 4224) × (length out ≡ 4224) × (count ≤ 100000)
+Inv-loop head₀ input₀ expected₀ out₀ count₀ t6 head input expected out count = (length head ≡ 64) × (length input ≡ 65536) × (length expected ≡ 4224) × (length out ≡ 4224) × (count ≤ 100000)
 
 abbrev μ-loop : tie.MeasureT-loop
 μ-loop head₀ input₀ expected₀ out₀ count₀ t6 head input expected out count = 100000 - count
