@@ -14,8 +14,8 @@ static uint8_t ranks[256];
 
 static void make_ranks(void)
 {
-    static const char order[] = " .(+*);-/,:'=[]<>?\x1b\x0e" "ABCDEFGHIJKLMNOPQRSTUVWXYZ\x0f" "0123456789\n\x0c\r\x7f";
-    for (int k = 0; k < 61; k++)
+    static const char order[] = " .(+*);-/,:'=[]<>?\x1b\x0e" "ABCDEFGHIJKLMNOPQRSTUVWXYZ" "abcdefghijklmnopqrstuvwxyz\x0f" "0123456789\n\x0c\r\x7f";
+    for (int k = 0; order[k]; k++)
         ranks[(uint8_t)order[k]] = (uint8_t)(k + 1);
 }
 

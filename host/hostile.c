@@ -13,7 +13,7 @@
 
 enum { FILES = 64, TEXT_MOST = EOL2_TEXT + 4096, CELLS_MOST = EOL2_TABLE + 64, STATE_MOST = EOL2_STATE + 256, INPUT_MOST = EOL2_INPUT + 4096 };
 
-static const char characters[] = " .(+*);-/,:'=[]<>?\x1b\x0e" "ABCDEFGHIJKLMNOPQRSTUVWXYZ\x0f" "0123456789\n\x0c\r\x7f";
+static const char characters[] = " .(+*);-/,:'=[]<>?\x1b\x0e" "ABCDEFGHIJKLMNOPQRSTUVWXYZ" "abcdefghijklmnopqrstuvwxyz\x0f" "0123456789\n\x0c\r\x7f";
 
 static struct lent text, table, i1, i2, state;
 static struct { uint8_t text[EOL2_TEXT], input[EOL2_INPUT]; size_t text_bytes, input_bytes; uint32_t table[EOL2_TABLE]; } good[FILES];
@@ -201,7 +201,7 @@ static void random_bytes(uint8_t *s, size_t n, int few)
 static void random_characters(uint8_t *s, size_t n)
 {
     for (size_t k = 0; k < n; k++)
-        s[k] = (uint8_t)characters[below(61)];
+        s[k] = (uint8_t)characters[below(sizeof characters - 1)];
 }
 
 /* Flips bits, and sets bytes to small numbers. */
@@ -239,7 +239,7 @@ static void lend_text(int k)
 {
     static const char *const pieces[] = {"SEKCJA S\n", "KONS\n", "KONP S\n", "STOP\n", "SKOCZ A\n", "A: ", "B: NAZWA A:'X',A\n", "C: INDEKS A\n",
         "UMIESC 'A',A1\n", "UMIESC 8388608,A1\n", "/*", "*/", "'", ":", ";", "PISZ A1,Q3\n", "DODAJ B1,Z32\n", "*", "\n", "SKONA A1,B\n", "A",
-        "\xff", "UMIESC '*L*,',Z1,2,3,4\n", "WROC\n", "0123456789",
+        "\xff", "UMIESC '*L*,',Z1,2,3,4\n", "WROC\n", "0123456789", "UMIESC 'Rod z',Q1\n", "z: ", "PISZ A1,q1\n", "UMIESC '*l',A1\n",
         "A23456789B123456789C123456789D123456789E123456789F123456789G1:"};
     static uint8_t s[TEXT_MOST];
     size_t n = 0;

@@ -71,7 +71,7 @@ enum eol2_numbers {
 
     /* Refused by eol2_start and eol2_run, in this order */
     EOL2_BAD_TABLE = 62,          /* Table long enough and well formed? Never no for a table that eol2_load left with 80. */
-    EOL2_BAD_INPUTS = 61,         /* Inputs short enough, and of the 61 characters? */
+    EOL2_BAD_INPUTS = 61,         /* Inputs short enough, and of the 87 characters? */
     EOL2_BAD_STATE = 63,          /* State long enough, and for run well formed? Never no after an accepted call with this table and inputs. */
 
     /* Accepted, by eol2_load and eol2_start; paused, by eol2_run */
@@ -165,7 +165,7 @@ uint64_t eol2_run(const uint32_t *table, size_t table_cells, const uint8_t *i1, 
    nothing beyond. They do not check it: what they say of bytes that no call left has no meaning. eol2_run tells, by 62 and 63. */
 
 /* The characters of the output Q1 (which is 1) or Q2 (which is 2): a pointer into the state's EOL2_STATE bytes, their count in *bytes. They
-   may be any of the 61 characters, new lines among them, and have no 0 at their end. Good until the state is written again. NULL and 0 for
+   may be any of the 87 characters, new lines among them, and have no 0 at their end. Good until the state is written again. NULL and 0 for
    another which, and where the place and the length that the bytes give reach beyond the EOL2_STATE bytes; never so for a state that a call
    left, where an empty output is 0 and not NULL. */
 static inline const uint8_t *eol2_output(const uint8_t *state, int which, size_t *bytes)

@@ -1,7 +1,7 @@
-// Writes two lines of 64 bytes: the characters of EOL-2 that can be seen, in the order of their ranks, and the classes of all.
+// Writes two lines of 88 bytes: the characters of EOL-2 that can be seen, in the order of their ranks, and the classes of all.
 
 pub struct Line {
-    pub bytes: [u8; 64],
+    pub bytes: [u8; 88],
     pub len: usize,
 }
 
@@ -9,7 +9,7 @@ impl Line {
     // With one character more, where it can be seen and there is room.
     fn with(self, b: u8) -> Line {
         let at = self.len;
-        if 63 <= at {
+        if 87 <= at {
             return self;
         }
         if !characters::between(b' ', b'~', b) {
@@ -24,7 +24,7 @@ impl Line {
 
 fn characters_seen() -> Line {
     let mut line = Line {
-        bytes: [b' '; 64],
+        bytes: [b' '; 88],
         len: 0,
     };
     for rank in 1..characters::COUNT + 1 {
@@ -35,7 +35,7 @@ fn characters_seen() -> Line {
 
 fn classes_seen() -> Line {
     let mut line = Line {
-        bytes: [b' '; 64],
+        bytes: [b' '; 88],
         len: 0,
     };
     for rank in 1..characters::COUNT + 1 {
@@ -46,7 +46,7 @@ fn classes_seen() -> Line {
 
 fn write_line(line: Line) {
     let mut bytes = line.bytes;
-    bytes[63] = b'\n';
+    bytes[87] = b'\n';
     io::write_all(1, &bytes);
 }
 

@@ -78,7 +78,8 @@ pub record Result : Type 0 where
   pub reply : Reply
   pub cells : List ℕ
 
--- "Table well formed? 62. Inputs short enough and of the 61 characters? 61. State long enough, and for run well formed? 63."
+-- "Table well formed? 62. Inputs short enough and of the 61 characters? 61. State long enough, and for run well formed? 63." Of the 87 characters
+-- since request 2.1
 abbrev pub memory-passes : List ℕ → Call → List ℕ → Bool
 memory-passes c (start-on ins) m = long-enough m
 memory-passes c (run-on ins budget) m = good-memory (program-of c) ins m

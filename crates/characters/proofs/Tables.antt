@@ -20,7 +20,7 @@ by-rank zero h = absurd (h refl)
 by-rank (suc k) h = let e : suc k - 1 ≡ k = omega arith in rw e
 
 abbrev pub classes : List ℕ
-classes = bytes "BRRRRRRRRRRRRRRRRRRRLLLLLLLLLLLLLLLLLLLLLLLLLLRDDDDDDDDDDRRRR"
+classes = bytes "BRRRRRRRRRRRRRRRRRRRLLLLLLLLLLLLLLLLLLLLLLLLLLLLLLLLLLLLLLLLLLLLLLLLLLLLRDDDDDDDDDDRRRR"
 
 pub class-by-rank : (r : ℕ) → (r ≡ 0 → ⊥) → r ≤ count → getD classes (r - 1) 0 ≡ classOf (byteOf r)
 class-by-rank r n h =

@@ -1,16 +1,16 @@
--- Laws of the ranks: rank and byte are inverse to each other on the characters, and every other byte comes after them.
+-- Laws of the ranks: rank and byte are inverse to each other on the characters, every other byte comes after them, and where the small letters stand.
 use mathlib.Core.Path.{_≡_, refl, ap}
 use mathlib.Core.Bool.{Bool, true, false, _||_}
 use mathlib.Core.List.{List, [], _∷_}
-use Prim.Native.Nat.{ℕ, suc, _≤_, _<_}
+use Prim.Native.Nat.{ℕ, suc, _+_, _≤_, _<_}
 use native.Mathlib.Omega.{arith}
 use lib.Dec.{T, leb, ltb, eqb, eqb→eq, leb→le, ltb→lt}
 use lib.ListN.{length}
 use borrow.Author.Tests.{ne-eqb}
 use Rattle.lists.specs.Lists.{ahead, among}
 use Rattle.lists.specs.ListLaws.{all-among}
-use Rattle.lists.specs.TableLaws.{below-unless}
-use Rattle.characters.specs.Characters.{ranked, count, known, rank, byteOf}
+use Rattle.lists.specs.TableLaws.{upTo, below, below-unless}
+use Rattle.characters.specs.Characters.{ranked, count, known, rank, byteOf, classOf}
 
 pub byte-rank : (b : ℕ) → T (known b) → byteOf (rank b) ≡ b
 unfolding known
@@ -42,3 +42,21 @@ none-ahead x (y ∷ xs) h = go (eqb x y) h (none-ahead x xs)
 pub unknown-rank : (b : ℕ) → known b ≡ false → rank b ≡ suc count
 unfolding known
 unknown-rank b h = ap suc (none-ahead b ranked h)
+
+-- ---- "The 26 small letters become characters .. class L, with ranks just after Z. SI and all later ranks move up by 26."
+
+pub small-ranks : (i : ℕ) → i < 26 → (rank (97 + i) ≡ 47 + i) × (classOf (97 + i) ≡ 76)
+small-ranks i h = (
+  eqb→eq (rank (97 + i)) (47 + i) (below (λ k. eqb (rank (97 + k)) (47 + k)) 26 tt i h),
+  eqb→eq (classOf (97 + i)) 76 (below (λ k. eqb (classOf (97 + k)) 76) 26 tt i h),
+)
+
+pub small-after-capitals : (i j : ℕ) → i < 26 → j < 26 → T (ltb (rank (65 + i)) (rank (97 + j)))
+small-after-capitals i j h k =
+    below (λ n. ltb (rank (65 + i)) (rank (97 + n))) 26 (below (λ m. upTo (λ n. ltb (rank (65 + m)) (rank (97 + n))) 26) 26 tt i h) j k
+
+pub small-before-SI : (i : ℕ) → i < 26 → T (ltb (rank (97 + i)) (rank 15))
+small-before-SI i h = below (λ k. ltb (rank (97 + k)) (rank 15)) 26 tt i h
+
+pub si-rank : rank 15 ≡ 73
+si-rank = refl

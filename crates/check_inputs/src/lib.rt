@@ -1,4 +1,4 @@
-// Question 61: inputs short enough and of the 61 characters.
+// Question 61: inputs short enough and of the 87 characters.
 ghost use mathlib.Core.Path.{_≡_};
 ghost use mathlib.Core.Bool.{_&&_};
 ghost use mathlib.Core.List.{[], _∷_};

@@ -78,7 +78,7 @@ module _ (t : List ℕ) where
       && chars-fit (layout.first-name + 16 * k) (cell t (layout.first-label + 16 * k) % 64) true
       && ltb (cell t (layout.first-label + 16 * k) / 64) (cell t layout.instruction-count)
 
-  -- the reference of a text: one of the 61 characters, or a text of the table
+  -- the reference of a text: one of the 87 characters, or a text of the table
   unfoldable pub ref-fits : ℕ → Bool
   ref-fits v = cond (ltb v 256) (known v) (ltb v (256 + cell t layout.text-count))
 

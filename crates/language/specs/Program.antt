@@ -20,7 +20,7 @@ pub data Arg : Type 0 where
   text : List ℕ → Arg
   number : ℤ → Arg
 
--- an identifier (4.1): a letter, then letters and digits
+-- an identifier (4.1): a letter, then letters and digits; "Operators and labels stay in capitals."
 abbrev pub identifier : List ℕ → Bool
 identifier [] = false
 identifier (b ∷ w) = isCapital b && all (λ x. isCapital x || isDigit x) w

@@ -149,7 +149,7 @@ module _ (ins : Inputs) where
         total-at (λ f. total g (records f)) empty-file refl (s .files) (pred (place a)),
       )
 
-  -- inputs of the 61 characters
+  -- inputs of the 87 characters
   pub unread-known : (s : Store) (a : Arg) → total (total strange) ins ≡ 0 → total strange (unread ins s a) ≡ 0
   unread-known s a h =
       let w = getD ins (pred (place a)) [] in

@@ -65,6 +65,6 @@ pub marked : map result examples ≡ map (λ x. x .gives) examples
 unfolding opened started
 marked = refl
 
--- "A is 21, Z 46, SI 47, 0 is 48, LF 58."
-pub ranks : map rank (65 ∷ 90 ∷ 15 ∷ 48 ∷ 10 ∷ []) ≡ 21 ∷ 46 ∷ 47 ∷ 48 ∷ 58 ∷ []
+-- "A is 21, Z 46"; a 47, z 72; "SI and all later ranks move up by 26": SI 73, 0 is 74, LF 84, DEL 87
+pub ranks : map rank (65 ∷ 90 ∷ 97 ∷ 122 ∷ 15 ∷ 48 ∷ 10 ∷ 127 ∷ []) ≡ 21 ∷ 46 ∷ 47 ∷ 72 ∷ 73 ∷ 74 ∷ 84 ∷ 87 ∷ []
 ranks = refl

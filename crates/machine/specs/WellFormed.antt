@@ -21,7 +21,7 @@ use Rattle.machine.specs.Changes.{fits}
 -- Question 62. "Table well formed (every field in its range, unused cells zero, all targets in the table, last instruction as above)?" Every limit
 -- that an accepted text keeps is a range, also those of names, texts, numbers and lines; the cells are the layout's matter
 
--- a word: not empty, of the 61 characters
+-- a word: not empty, of the 87 characters
 abbrev pub good-word : List ℕ → Bool
 good-word w = filled w && all known w
 
@@ -110,7 +110,7 @@ module _ (p : Program) where
   unfoldable pub good-return : ℕ → Bool
   good-return n = ltb 0 n && is-call (operation (instr-at p (pred n) .op) .flow)
 
--- Question 61. "Inputs short enough and of the 61 characters?"
+-- Question 61. "Inputs short enough and of the 61 characters?", 87 with the small letters
 unfoldable pub good-inputs : Inputs → Bool
 good-inputs ins = eqb (length ins) limit.inputs && all (λ w. leb (length w) limit.input && all known w) ins
 
@@ -123,7 +123,7 @@ abbrev pub void : {X : Type 0} → List X → ℕ
 void [] = 1
 void (x ∷ xs) = 0
 
--- 1 for a byte that is none of the 61
+-- 1 for a byte that is none of the 87
 abbrev pub strange : ℕ → ℕ
 strange x = cond (known x) 0 1
 
