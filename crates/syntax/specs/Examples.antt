@@ -31,9 +31,18 @@ unfolding opened
 switched = refl
 
 -- each question is asked of the whole statement before the next, and 14 comes before 15
-late : loadOf (bytes "SEKCJA S\nUMIESC 'a' /*\n*/ #\nSTOP\nKONS\nKONP S\n") ≡ refused 14 3
+late : loadOf (bytes "SEKCJA S\nUMIESC '{' /*\n*/ #\nSTOP\nKONS\nKONP S\n") ≡ refused 14 3
 unfolding opened
 late = refl
+
+-- small letters stand in texts and comments alone, and no pair has one
+small-label : loadOf (bytes "SEKCJA S\nx: STOP\nKONS\nKONP S\n") ≡ refused 14 2
+unfolding opened
+small-label = refl
+
+small-pair : loadOf (bytes "SEKCJA S\nUMIESC 'a*l',A1\nSTOP\nKONS\nKONP S\n") ≡ refused 15 2
+unfolding opened
+small-pair = refl
 
 -- the star of `/*` closes no comment
 open-comment : loadOf (bytes "SEKCJA S\n/*/ STOP\nSTOP\nKONS\nKONP S\n") ≡ refused 14 2

@@ -82,7 +82,7 @@ takes-next star b = eqb b 42 && not star
 unfoldable pub char-of : Bool → ℕ → List ℕ
 char-of star b = cond star (pair-of b ∷ []) (cond (eqb b 42) [] (b ∷ []))
 
--- "All of the 61 but LF, `'` and `*` may also stand themselves"
+-- "All of the 61 but LF, `'` and `*` may also stand themselves", and the small letters
 unfoldable pub allows : Bool → ℕ → Bool
 allows star b = cond star (is-pair b) (eqb b 42 || (known b && not (among b (bytes "\n'"))))
 
