@@ -1,0 +1,219 @@
+/* Runs scripts of calls over the static library, and compares every answer. `host/run` builds it, and runs it on vectors-02/2.NN/NAME.calls.
+
+       calls FILE..
+
+   The first line of a script says the level: `level 3` is EOL-2 with requests 2.1 to 2.3 at least. Then a line is a call: its name, its arguments,
+   ` => ` and the answer, with one space between words; or a comment, which starts with #. Numbers are decimal, bytes hexadecimal, - is no byte.
+   One table and one state serve a whole script.
+
+       load TEXT GRADE => NUMBER LINE
+       start PREVIEW I1 I2 => NUMBER
+       inputs I1 I2                      (no call: the inputs of the runs that follow, in place of those of the last start)
+       run BUDGET => NUMBER COUNT
+       output K => BYTES                 (no call: Q K of the state)
+
+   GRADE and PREVIEW are 0: no call takes them yet. What is lent lies between pages that trap (lent.h); what a call only reads, and what a
+   refused one leaves alone, is compared too. */
+#include "../include/eol2.h"
+#include "lent.h"
+
+#include <stdarg.h>
+
+enum { LEVEL = 1, WORDS_MOST = 64, ANSWER_MOST = 4 * EOL2_INPUT };
+
+static struct lent text, table, i1, i2, state;
+static uint8_t table_now[EOL2_TABLE * 4], state_now[EOL2_STATE];
+static struct { uint8_t at[EOL2_INPUT + 1]; size_t bytes; } inputs[2];
+static const char *script;
+static unsigned long line, calls;
+static char answer[ANSWER_MOST];
+static size_t answer_bytes;
+
+static _Noreturn void stop(int status, const char *form, ...)
+{
+    va_list words;
+    va_start(words, form);
+    printf("%s:%lu: ", script, line);
+    vprintf(form, words);
+    printf("\n");
+    va_end(words);
+    exit(status);
+}
+
+/* ---- words of a script, and the answer in its form */
+
+static uint32_t number(const char *word)
+{
+    char *end;
+    unsigned long n = strtoul(word, &end, 10);
+    if (!*word || *end || n > UINT32_MAX)
+        stop(2, "not a number: %s", word);
+    return (uint32_t)n;
+}
+
+static int digit(char c)
+{
+    const char *all = "0123456789abcdef", *found = c ? strchr(all, c) : NULL;
+    if (!found)
+        stop(2, "not hexadecimal");
+    return (int)(found - all);
+}
+
+static size_t bytes(const char *word, uint8_t *to, size_t most)
+{
+    size_t n = 0;
+    for (; strcmp(word, "-") && *word; word += 2) {
+        if (n == most)
+            stop(2, "too many bytes");
+        to[n++] = (uint8_t)(16 * digit(word[0]) + digit(word[1]));
+    }
+    return n;
+}
+
+static void tell_number(uint32_t n)
+{
+    answer_bytes += (size_t)sprintf(answer + answer_bytes, "%s%u", answer_bytes ? " " : "", (unsigned)n);
+}
+
+static void tell_bytes(const uint8_t *at, size_t n)
+{
+    if (!n)
+        answer_bytes += (size_t)sprintf(answer + answer_bytes, "-");
+    for (size_t k = 0; k < n; k++)
+        answer_bytes += (size_t)sprintf(answer + answer_bytes, "%02x", at[k]);
+}
+
+/* ---- calls */
+
+/* Lends memory with a content: in turns at the front and at the end of its pages, and by a null pointer where it is empty. */
+static void lend(struct lent *l, const uint8_t *content, size_t n)
+{
+    lent_fill(l, content, n, (int)(calls & 1), (int)(calls & 2));
+}
+
+static void lend_all(void)
+{
+    lend(&table, table_now, sizeof table_now);
+    lend(&i1, inputs[0].at, inputs[0].bytes);
+    lend(&i2, inputs[1].at, inputs[1].bytes);
+    lend(&state, state_now, sizeof state_now);
+}
+
+/* After a call that may write `written`, and was refused or not. */
+static void look(struct lent *written, int refused)
+{
+    struct lent *all[5] = {&text, &table, &i1, &i2, &state};
+    calls++;
+    for (int k = 0; k < 5; k++) {
+        if (!lent_guarded(all[k]))
+            stop(1, "the call wrote beside buffer %d", k);
+        if ((all[k] != written || refused) && !lent_same(all[k], 0))
+            stop(1, "the call wrote buffer %d", k);
+    }
+    memcpy(table_now, table.at, sizeof table_now);
+    memcpy(state_now, state.at, sizeof state_now);
+}
+
+static void load(char **words)
+{
+    static uint8_t s[2 * EOL2_TEXT];
+    lend_all();
+    lend(&text, s, bytes(words[1], s, sizeof s));
+    uint64_t a = eol2_load(text.at, text.length, (uint32_t *)(void *)table.at, EOL2_TABLE);
+    look(&table, eol2_number(a) == EOL2_BAD_SIZE);
+    tell_number(eol2_number(a));
+    tell_number(eol2_line(a));
+}
+
+static void take_inputs(char **words)
+{
+    for (int k = 0; k < 2; k++)
+        inputs[k].bytes = bytes(words[1 + k], inputs[k].at, sizeof inputs[k].at);
+}
+
+static void start(char **words)
+{
+    take_inputs(words + 1);
+    lend_all();
+    uint64_t a = eol2_start((const uint32_t *)(const void *)table.at, EOL2_TABLE, i1.at, i1.length, i2.at, i2.length, state.at, EOL2_STATE);
+    look(&state, eol2_number(a) != EOL2_ACCEPTED);
+    tell_number(eol2_number(a));
+}
+
+static void run(char **words)
+{
+    lend_all();
+    uint64_t a = eol2_run((const uint32_t *)(const void *)table.at, EOL2_TABLE, i1.at, i1.length, i2.at, i2.length, state.at, EOL2_STATE,
+                          number(words[1]));
+    uint32_t n = eol2_number(a);
+    look(&state, n == EOL2_BAD_TABLE || n == EOL2_BAD_INPUTS || n == EOL2_BAD_STATE);
+    tell_number(n);
+    tell_number(eol2_count(a));
+}
+
+static void output(char **words)
+{
+    size_t n;
+    const uint8_t *at = eol2_output(state_now, (int)number(words[1]), &n);
+    tell_bytes(at, n);
+}
+
+static const struct { const char *name; int words; void (*make)(char **words); } names[] = {
+    {"load", 3, load}, {"start", 4, start}, {"inputs", 3, take_inputs}, {"run", 2, run}, {"output", 2, output}};
+
+/* ---- scripts */
+
+static void one_line(char *s)
+{
+    static char none[] = "";
+    char *words[WORDS_MOST], *expected = strstr(s, " => ");
+    int count = 0;
+    if (expected)
+        *expected = 0, expected += 4;
+    else
+        expected = none;
+    for (char *word = strtok(s, " "); word && count < WORDS_MOST; word = strtok(NULL, " "))
+        words[count++] = word;
+    for (size_t k = 0; count && k < sizeof names / sizeof *names; k++)
+        if (!strcmp(words[0], names[k].name) && count == names[k].words) {
+            answer_bytes = 0, answer[0] = 0;
+            names[k].make(words);
+            if (strcmp(answer, expected))
+                stop(1, "%s answers %s, not %s", words[0], answer, expected);
+            return;
+        }
+    stop(2, "no call that is known");
+}
+
+static void one_script(const char *name)
+{
+    char *s = NULL;
+    size_t room = 0;
+    FILE *f = fopen(name, "r");
+    script = name, line = 0;
+    memset(table_now, 0, sizeof table_now), memset(state_now, 0, sizeof state_now);
+    inputs[0].bytes = inputs[1].bytes = 0;
+    if (!f)
+        stop(2, "no such file");
+    while (getline(&s, &room, f) > 0) {
+        line++;
+        s[strcspn(s, "\n")] = 0;
+        if (line == 1 && (strncmp(s, "level ", 6) || number(s + 6) > LEVEL))
+            stop(2, "not of a level up to %d", LEVEL);
+        if (line > 1 && s[0] != '#')
+            one_line(s);
+    }
+    free(s);
+    fclose(f);
+}
+
+int main(int count, char **words)
+{
+    lent_make(&text, 2 * EOL2_TEXT), lent_make(&table, sizeof table_now), lent_make(&i1, EOL2_INPUT + 1), lent_make(&i2, EOL2_INPUT + 1);
+    lent_make(&state, sizeof state_now);
+    lend(&text, state_now, 0);
+    for (int k = 1; k < count; k++)
+        one_script(words[k]);
+    printf("scripts: %lu calls in %d, 0 differences\n", calls, count - 1);
+    return 0;
+}
