@@ -51,6 +51,13 @@ static uint32_t number(const char *word)
     return (uint32_t)n;
 }
 
+/* An argument that no call takes yet. */
+static void none(const char *word)
+{
+    if (number(word))
+        stop(2, "no call takes %s here", word);
+}
+
 static int digit(char c)
 {
     const char *all = "0123456789abcdef", *found = c ? strchr(all, c) : NULL;
@@ -117,6 +124,7 @@ static void look(struct lent *written, int refused)
 static void load(char **words)
 {
     static uint8_t s[2 * EOL2_TEXT];
+    none(words[2]);
     lend_all();
     lend(&text, s, bytes(words[1], s, sizeof s));
     uint64_t a = eol2_load(text.at, text.length, (uint32_t *)(void *)table.at, EOL2_TABLE);
@@ -133,6 +141,7 @@ static void take_inputs(char **words)
 
 static void start(char **words)
 {
+    none(words[1]);
     take_inputs(words + 1);
     lend_all();
     uint64_t a = eol2_start((const uint32_t *)(const void *)table.at, EOL2_TABLE, i1.at, i1.length, i2.at, i2.length, state.at, EOL2_STATE);
@@ -165,13 +174,13 @@ static const struct { const char *name; int words; void (*make)(char **words); }
 
 static void one_line(char *s)
 {
-    static char none[] = "";
+    static char nothing[] = "";
     char *words[WORDS_MOST], *expected = strstr(s, " => ");
     int count = 0;
     if (expected)
         *expected = 0, expected += 4;
     else
-        expected = none;
+        expected = nothing;
     for (char *word = strtok(s, " "); word && count < WORDS_MOST; word = strtok(NULL, " "))
         words[count++] = word;
     for (size_t k = 0; count && k < sizeof names / sizeof *names; k++)
@@ -203,6 +212,8 @@ static void one_script(const char *name)
         if (line > 1 && s[0] != '#')
             one_line(s);
     }
+    if (!line)
+        stop(2, "an empty script");
     free(s);
     fclose(f);
 }
