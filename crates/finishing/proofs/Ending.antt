@@ -9,11 +9,10 @@ use lib.ListN.{length, take, length-take, length-map}
 use borrow.Author.Tests.{eq-eqb, ne-eqb}
 use Rattle.progress.specs.Closing.{Ends}
 use Rattle.progress.specs.declared.Closing.{Closing}
-use Rattle.drafts.specs.Marks.{marks-in}
+use Rattle.drafts.specs.Marks.{marks-in, place-by, word-by}
 use Rattle.declaring.specs.TabledLaws.{mark-places}
 use Rattle.acceptance.specs.RowLaws.{each-map}
 use Rattle.drafts.specs.Drafting.{draft-program, draft-instr}
-use Rattle.drafts.specs.Marks.{place-by, word-by}
 use Rattle.statements.specs.Faults.{decided, then}
 use Rattle.statements.specs.FaultLaws.{question-decides}
 use Rattle.statements.specs.declared.Verdict.{Verdict}

@@ -1,12 +1,11 @@
 -- The tables of the source against the one table of instructions.
 use mathlib.Core.Path.{_≡_, refl, ap, sym, _∙_}
-use mathlib.Core.Bool.{Bool, true, false, cond, _&&_, _||_, Bool·beq}
+use mathlib.Core.Bool.{Bool, cond, _&&_, _||_, Bool·beq}
 use mathlib.Core.List.{List, [], _∷_, map}
 use Prim.Native.Nat.{ℕ, zero, suc, _+_, _≤_, _<_}
 use native.Mathlib.Omega.{arith}
 use lib.Dec.{T, ltb, eqb, eqb→eq}
 use lib.ListN.{getD, List·getD-eq-default}
-use borrow.Author.Tests.{eq-eqb, ne-eqb}
 use Rattle.language.specs.Instructions.{Forms, operation, operators}
 use Rattle.language.specs.Program.{Op}
 use Rattle.lists.specs.ListLaws.{T-left, T-right}
@@ -89,50 +88,26 @@ past-list n list place a b =
 listing : ℕ → ℕ
 listing n = cond (eqb n 0 || ltb 41 n) 0 (cond (eqb n 9 || (eqb n 10 || eqb n 13)) 2 1)
 
-module _ (n : ℕ) (small : n < 256) where
-  listed-all : cond (eqb n 0 || ltb 41 n) 0 (cond (eqb n 9 || (eqb n 10 || eqb n 13)) 2 1) ≡ lists-of n
-  unfolding listing lists-of
-  listed-all = eqb→eq (listing n) (lists-of n) (below (λ k. eqb (listing k) (lists-of k)) 256 tt n small)
+pub listed-all : (n : ℕ) → n < 256 → cond (eqb n 0 || ltb 41 n) 0 (cond (eqb n 9 || (eqb n 10 || eqb n 13)) 2 1) ≡ lists-of n
+unfolding listing lists-of
+listed-all n h = eqb→eq (listing n) (lists-of n) (below (λ k. eqb (listing k) (lists-of k)) 256 tt n h)
 
-  pub no-list : (eqb n 0 || ltb 41 n) ≡ true → 0 ≡ lists-of n
-  no-list e = rw e at listed-all
-
-  pub second-too : (eqb n 0 || ltb 41 n) ≡ false → (eqb n 9 || (eqb n 10 || eqb n 13)) ≡ true → 2 ≡ lists-of n
-  second-too e f = rw (e, f) at listed-all
-
-  pub first-only : (eqb n 0 || ltb 41 n) ≡ false → (eqb n 9 || (eqb n 10 || eqb n 13)) ≡ false → 1 ≡ lists-of n
-  first-only e f = rw (e, f) at listed-all
-
-abbrev pub not-empty : ℕ → ℕ
+abbrev not-empty : ℕ → ℕ
 not-empty s = cond (eqb s nothing) 0 1
 
-abbrev pub needed : ℕ → ℕ
+abbrev needed : ℕ → ℕ
 needed s = cond (ltb s nothing) 1 0
 
 abbrev counted : (ℕ → ℕ) → ℕ → ℕ
 counted f n = cond (eqb (lists-of n) 0) 0 (f (set-at n 0 0) + f (set-at n 0 1) + f (set-at n 0 2))
 
-most-counted : (n : ℕ) → n < 256 → counted not-empty n ≡ most-of n
+pub most-counted : (n : ℕ) → n < 256 → counted not-empty n ≡ most-of n
 unfolding lists-of most-of set-at
 most-counted n h = eqb→eq (counted not-empty n) (most-of n) (below (λ k. eqb (counted not-empty k) (most-of k)) 256 tt n h)
 
-least-counted : (n : ℕ) → n < 256 → counted needed n ≡ least-of n
+pub least-counted : (n : ℕ) → n < 256 → counted needed n ≡ least-of n
 unfolding lists-of least-of set-at
 least-counted n h = eqb→eq (counted needed n) (least-of n) (below (λ k. eqb (counted needed k) (least-of k)) 256 tt n h)
-
-module _ (n : ℕ) (small : n < 256) where
-  pub most-none : lists-of n ≡ 0 → 0 ≡ most-of n
-  most-none e = rw (eq-eqb (lists-of n) 0 e) at (most-counted n small)
-
-  pub least-none : lists-of n ≡ 0 → 0 ≡ least-of n
-  least-none e = rw (eq-eqb (lists-of n) 0 e) at (least-counted n small)
-
-  module _ (some : lists-of n ≡ 0 → ⊥) where
-    pub most-sum : not-empty (set-at n 0 0) + not-empty (set-at n 0 1) + not-empty (set-at n 0 2) ≡ most-of n
-    most-sum = rw (ne-eqb (lists-of n) 0 some) at (most-counted n small)
-
-    pub least-sum : needed (set-at n 0 0) + needed (set-at n 0 1) + needed (set-at n 0 2) ≡ least-of n
-    least-sum = rw (ne-eqb (lists-of n) 0 some) at (least-counted n small)
 
 -- which instructions call, and which end
 calling : ℕ → Bool

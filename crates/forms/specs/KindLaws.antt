@@ -1,6 +1,6 @@
 -- Every item is of one of the seventeen kinds, by what its word is.
 use mathlib.Core.Path.{_≡_, refl, ap, sym, _∙_, subst}
-use mathlib.Core.Bool.{Bool, true, false, cond, _&&_, _||_, not, and-false}
+use mathlib.Core.Bool.{Bool, true, false, cond, _&&_, _||_, not, and-false, or-true}
 use mathlib.Core.List.{List, [], _∷_, map}
 use Prim.Native.Nat.{ℕ, _<_}
 use native.Mathlib.Omega.{arith}
@@ -73,18 +73,10 @@ abbrev continues : ℕ → Bool
 continues x = isCapital x || isDigit x
 
 letter-continues : (x : ℕ) → T (isCapital x) → T (continues x)
-letter-continues x h = go (isCapital x) h
-  where
-    go : (t : Bool) → T t → T (t || isDigit x)
-    go true h = tt
-    go false h = absurd h
+letter-continues x h = rw (T-true (isCapital x) h) tt
 
 digit-continues : (x : ℕ) → T (isDigit x) → T (continues x)
-digit-continues x h = go (isCapital x)
-  where
-    go : (t : Bool) → T (t || isDigit x)
-    go true = tt
-    go false = h
+digit-continues x h = rw (T-true (isDigit x) h, or-true (isCapital x)) tt
 
 all-each : (p q : ℕ → Bool) → ((x : ℕ) → T (p x) → T (q x)) → (w : List ℕ) → T (all p w) → T (all q w)
 all-each p q f [] h = tt

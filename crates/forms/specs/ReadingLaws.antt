@@ -1,13 +1,13 @@
 -- The arguments of an instruction, read one by one as `take_argument` does, are those of the specification.
 use mathlib.Core.Path.{_≡_, refl, ap, sym, _∙_, subst}
 use mathlib.Core.Bool.{Bool, true, false, cond, not, _&&_}
-use mathlib.Core.List.{List, [], _∷_, map}
+use mathlib.Core.List.{List, [], _∷_, map, map-id}
 use Prim.Native.Nat.{ℕ, zero, suc, pred, _≤_, _<_}
 use native.Mathlib.Numerals.{add-one}
 use native.Mathlib.Omega.{arith}
 use lib.Bits.{bitAnd}
 use lib.Dec.{leb, ltb, eqb, eqb→eq, leb→le, ltb→lt}
-use lib.ListN.{length, getD, drop}
+use lib.ListN.{length, getD, drop, length-map}
 use lib.Seq.{drop-nil, drop-drop}
 use Rattle.language.specs.Instructions.{operation, operators, is-call, is-end}
 use Rattle.language.specs.Program.{Op}
@@ -142,10 +142,6 @@ getD-drops k [] n = sym (drop-nil k)
 getD-drops k (x ∷ xs) zero = refl
 getD-drops k (x ∷ xs) (suc n) = getD-drops k xs n
 
-length-drops : (k : ℕ) (xs : List (List (List ℕ))) → length (map (drop k) xs) ≡ length xs
-length-drops k [] = refl
-length-drops k (x ∷ xs) = ap suc (length-drops k xs)
-
 chosen-map : (k : ℕ) (live : Live) (xs : List (List (List ℕ))) → map (drop k) (chosen live xs) ≡ chosen live (map (drop k) xs)
 chosen-map k Live.First [] = refl
 chosen-map k Live.First (x ∷ xs) = refl
@@ -213,7 +209,7 @@ module _ (i : Item) (o : Op) (place : ℕ) where
         let b : Bool = lives-second live && takes p (getD ys 1 []) in
         subst (Step p ys live)
         (sym (taken-by-tests p live (in-list (lives-first live) 0) (in-list (lives-second live) 1) (form-in p (getD ys 0 [])) (form-in p (getD ys 1 [])) a b (tested (lives-first live) 0) (tested (lives-second live) 1) (formed (lives-first live) 0) (formed (lives-second live) 1)))
-        (stepped p ys (rw (length-drops place (alternatives o)) (two-lists o)) live)
+        (stepped p ys (rw (length-map (alternatives o) (drop place)) (two-lists o)) live)
 
     abbrev read-as : ℕ → Argument
     read-as f = record { item = i; form = f }
@@ -231,10 +227,6 @@ module _ (i : Item) (o : Op) (place : ℕ) where
     pub taken-reads : {f : ℕ} → t .form ≡ f → (f ≡ 45 → ⊥) → reads i f ≡ true
     taken-reads e n = kept-reads p (headOr [] (headOr [] (keep (takes p) (chosen live ys)))) (step .form ∙ e) n
 
-drops-none : (xs : List (List (List ℕ))) → map (drop 0) xs ≡ xs
-drops-none [] = refl
-drops-none (x ∷ xs) = ap (_∷_ x) (drops-none xs)
-
 -- at first all lists live
 pub lists-first : (o : Op) → alternatives o ≡ lists-at o Live.Both 0
-lists-first o = sym (drops-none (alternatives o))
+lists-first o = sym (map-id (alternatives o))

@@ -1,3 +1,2 @@
 pub mod Finding
 pub mod Naming
-pub mod Lining

@@ -32,31 +32,35 @@ shift-mode n (in-word at w) = in-word (n + at) w
 shift-mode n (in-comment at k) = in-comment (n + at) k
 shift-mode n (in-text at star cs good) = in-text (n + at) star cs good
 
-itself-shifts : (k : Sort) (n p b next : ℕ) → itself k (n + p) b next ≡ shift-all n (itself k p b next)
+-- what a byte is by itself, as a function of its place, is nothing or a mark; and it begins one of four modes
+pub itself-case : (P : (ℕ → List Item) → Type 0) → P (λ n. []) → ((k : Sort) → P (λ n. a-mark k n ∷ [])) → (k : Sort) (b next : ℕ) → P (λ n. itself k n b next)
 unfolding itself
-itself-shifts separator n p b next = refl
-itself-shifts word n p b next = refl
-itself-shifts colon n p b next = refl
-itself-shifts end n p b next = refl
-itself-shifts text n p b next = refl
-itself-shifts wrong n p b next = go (opens b next)
-  where
-    go : (t : Bool) → cond t [] (a-mark wrong (n + p) ∷ []) ≡ shift-all n (cond t [] (a-mark wrong p ∷ []))
-    go true = refl
-    go false = refl
+itself-case P z f separator b next = z
+itself-case P z f word b next = z
+itself-case P z f colon b next = f colon
+itself-case P z f end b next = f end
+itself-case P z f text b next = z
+itself-case P z f wrong b next = elim (opens b next) as (λ t. P (λ n. cond t [] (a-mark wrong n ∷ []))) [ true ↦ z | false ↦ f wrong ]
+
+pub begins-case : (P : (ℕ → Mode) → Type 0) → P (λ n. outside) → ((b : ℕ) → P (λ n. in-word n (b ∷ []))) → P (λ n. in-comment n first-star) → P (λ n. in-text n false [] true)
+    → (k : Sort) (b next : ℕ) → P (λ n. begins k n b next)
+unfolding begins
+begins-case P z w c x separator b next = z
+begins-case P z w c x word b next = w b
+begins-case P z w c x colon b next = z
+begins-case P z w c x end b next = z
+begins-case P z w c x text b next = x
+begins-case P z w c x wrong b next = elim (opens b next) as (λ t. P (λ n. cond t (in-comment n first-star) outside)) [ true ↦ c | false ↦ z ]
+
+itself-shifts : (k : Sort) (n p b next : ℕ) → itself k (n + p) b next ≡ shift-all n (itself k p b next)
+itself-shifts k n p b next = itself-case (λ f. f (n + p) ≡ shift-all n (f p)) refl (λ k. refl) k b next
 
 begins-shifts : (k : Sort) (n p b next : ℕ) → begins k (n + p) b next ≡ shift-mode n (begins k p b next)
-unfolding begins
-begins-shifts separator n p b next = refl
-begins-shifts word n p b next = refl
-begins-shifts colon n p b next = refl
-begins-shifts end n p b next = refl
-begins-shifts text n p b next = refl
-begins-shifts wrong n p b next = go (opens b next)
-  where
-    go : (t : Bool) → cond t (in-comment (n + p) first-star) outside ≡ shift-mode n (cond t (in-comment p first-star) outside)
-    go true = refl
-    go false = refl
+begins-shifts k n p b next = begins-case (λ f. f (n + p) ≡ shift-mode n (f p)) refl (λ b. refl) refl refl k b next
+
+cond-shifts : (n : ℕ) (t : Bool) (xs ys : List Item) → cond t (shift-all n xs) (shift-all n ys) ≡ shift-all n (cond t xs ys)
+cond-shifts n true xs ys = refl
+cond-shifts n false xs ys = refl
 
 abbrev Step : ℕ → Mode → ℕ → ℕ → ℕ → Type 0
 Step n m p b next =
@@ -76,12 +80,8 @@ step-shifts (in-comment at inside) n p b next = (refl, refl)
 step-shifts (in-comment at last-slash) n p b next = (refl, refl)
 step-shifts (in-text at star cs good) n p b next = go (ends-text star b) refl
   where
-    rest : (t : Bool) → cond t [] (a-mark end (n + p) ∷ []) ≡ shift-all n (cond t [] (a-mark end p ∷ []))
-    rest true = refl
-    rest false = refl
-
     go : (t : Bool) → ends-text star b ≡ t → Step n (in-text at star cs good) p b next
-    go true e = rw e (ap (λ js. shift n (a-text at cs (good && eqb b 39)) ∷ js) (rest (eqb b 39)), refl)
+    go true e = rw e (ap (λ js. shift n (a-text at cs (good && eqb b 39)) ∷ js) (cond-shifts n (eqb b 39) [] (a-mark end p ∷ [])), refl)
     go false e = rw e (refl, refl)
 
 left-shifts : (m : Mode) (n : ℕ) → left-over (shift-mode n m) ≡ shift-all n (left-over m)
@@ -116,14 +116,10 @@ any-shifts n (j ∷ js) = refl
 
 attach-shifts : (n : ℕ) (i : Item) (js : List Item) → attach (shift n i) (shift-all n js) ≡ shift-all n (attach i js)
 unfolding attach
-attach-shifts n i js = rw (any-shifts n js, colon-shifts n js, drop-shifts (shift n) js) (go (is word i && ifAny false (is colon) js))
-  where
-    whole : Item
-    whole = record { at = i .at; sort = word; chars = i .chars; good = i .good; colon = places (take 1 js) }
-
-    go : (t : Bool) → cond t (shift n whole ∷ shift-all n (drop 1 js)) (shift n i ∷ shift-all n js) ≡ shift-all n (cond t (whole ∷ drop 1 js) (i ∷ js))
-    go true = refl
-    go false = refl
+attach-shifts n i js =
+    let whole : Item = record { at = i .at; sort = word; chars = i .chars; good = i .good; colon = places (take 1 js) } in
+    rw (any-shifts n js, colon-shifts n js, drop-shifts (shift n) js)
+    (cond-shifts n (is word i && ifAny false (is colon) js) (whole ∷ drop 1 js) (i ∷ js))
 
 named-shifts : (n : ℕ) (js : List Item) → named (shift-all n js) ≡ shift-all n (named js)
 unfolding named
@@ -189,9 +185,6 @@ module _ (s : List ℕ) (n : ℕ) {r : List ℕ} (h : drop n s ≡ r) where
         record {
           from = omega (arith, k .from);
           stands = moved-stands (k .stands);
-          is = items-shift i ∙ ap (shift-all n) (k .is) ∙ go (eqb (t .sort) 0);
+          is = items-shift i ∙ ap (shift-all n) (k .is)
+              ∙ rw (item-moved t, items-shift (t .next)) (sym (cond-shifts n (eqb (t .sort) 0) [] (item-of r t ∷ items-from r (t .next))));
         }
-      where
-        go : (b : Bool) → shift-all n (cond b [] (item-of r t ∷ items-from r (t .next))) ≡ cond b [] (item-of s (moved n t) ∷ items-from s (n + t .next))
-        go true = refl
-        go false = rw (item-moved t, items-shift (t .next)) refl

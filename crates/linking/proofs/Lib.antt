@@ -1,10 +1,7 @@
-pub mod Words
 pub mod Switches
 pub mod Faults
 pub mod Uses
-pub mod Walks
 pub mod Steps
-pub mod Operators
 pub mod Marked
 pub mod Undeclared
 pub mod Placing

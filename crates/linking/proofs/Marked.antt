@@ -1,4 +1,4 @@
--- The names that a text uses, as marks in the draft of its program.
+-- The names that a text uses, as marks in the draft of its program. SKONA, WYNA and SZUKAJ take a switch by name, SKOIN and WYIN one by index.
 use mathlib.Core.Path.{_≡_, refl, sym, ap, _∙_, subst}
 use mathlib.Core.Bool.{Bool, true, false, cond, not, _&&_, _||_, Bool·beq}
 use mathlib.Core.List.{List, [], _∷_, _++_, map, map-append, append-nil}
@@ -10,25 +10,76 @@ use lib.ListN.{length, getD, drop}
 use lib.IntN.{ℤ}
 use borrow.Author.Tests.{eqb-true}
 use Rattle.acceptance.specs.Drafts.{Sound-argument, Sound-written}
+use Rattle.acceptance.specs.RowLaws.{each-every, each-map}
 use Rattle.drafts.specs.Drafting.{draft-arg, draft-instr}
 use Rattle.drafts.specs.DraftingLaws.{place-back}
 use Rattle.drafts.specs.Marks.{mark, place-by, word-by}
 use Rattle.drafts.specs.Tabled.{Spelt}
-use Rattle.language.specs.Instructions.{operation}
+use Rattle.language.specs.Instructions.{operation, operator-of}
 use Rattle.language.specs.Letters.{Letter}
-use Rattle.language.specs.Program.{Arg, Instr, Program, identifier, classes}
+use Rattle.language.specs.Program.{Arg, Instr, Program, identifier, classes, Op}
 use Rattle.language.specs.Program.Arg.{nothing, letter, label, switch, class, text}
 use Rattle.language.specs.Values.{amount, valueOf}
 use Rattle.layout.specs.Bounds.{Each}
 use Rattle.layout.specs.Table.{arg-cell}
-use Rattle.lists.specs.Lists.{each, keep, filled, headOr}
+use Rattle.lists.specs.Lists.{among, each, keep, filled, headOr, all, any}
+use Rattle.lists.specs.Quoted.{bytes}
 use Rattle.linking.proofs.Uses.{kind-of, cell-kind, of-kind}
 use Rattle.linking.specs.Lookup.{marks-in, instr-marks, instr-uses, names-number}
-use Rattle.syntax.specs.ArgumentForms.{form-in, word-reads, reads, Argument, of-form, letter-of}
+use Rattle.syntax.specs.ArgumentForms.{form-in, word-reads, reads, Argument, of-form, letter-of, alternatives}
 use Rattle.syntax.specs.Items.{Item, is}
 use Rattle.syntax.specs.Items.Sort.{word, text as quoted}
 use Rattle.syntax.specs.Tables.{Written}
-use Rattle.linking.proofs.Operators.{switch-forms}
+use Rattle.acceptance.specs.Reading.{fits}
+use Rattle.layout.specs.ArgumentLaws.{operator-back, operator-below}
+use Rattle.lists.specs.ListLaws.{T-left, T-right, all-among}
+use Rattle.lists.specs.TableLaws.{below}
+
+-- a form fits an operator of a type
+abbrev ok : Bool → ℕ → Bool
+ok b f = (not (form-in "w" f) || b) && (not (form-in "x" f) || not b)
+
+abbrev right : Op → Bool
+right o = all (λ a. all (λ fs. all (ok (names-number (operation o .number))) fs) a) (alternatives o)
+
+op-right : (o : Op) → T (right o)
+op-right o = subst (λ (x : Op). T (right x)) (operator-back o) (below (λ n. right (operator-of n)) 64 tt (operation o .number) (operator-below o))
+
+module _ (q : ℕ → Bool) where
+  fit-right : (xs : List Argument) (a : List (List ℕ)) → T (fits xs a) → T (all (λ fs. all q fs) a) → Each (λ x. T (q (x .form))) xs
+  fit-right [] a h k = tt
+  fit-right (x ∷ xs) [] h k = absurd h
+  fit-right (x ∷ xs) (fs ∷ a) h k = (
+    all-among q fs (T-left (all q fs) (all (λ fs. all q fs) a) k) (x .form) (T-left (among (x .form) fs) (fits xs a) h),
+    fit-right xs a (T-right (among (x .form) fs) (fits xs a) h) (T-right (all q fs) (all (λ fs. all q fs) a) k),
+  )
+
+  any-right : (xs : List Argument) (bs : List (List (List ℕ))) → T (any (fits xs) bs) → T (all (λ a. all (λ fs. all q fs) a) bs) → Each (λ x. T (q (x .form))) xs
+  any-right xs [] h k = absurd h
+  any-right xs (a ∷ bs) h k = go (fits xs a) refl h (λ u. any-right xs bs u (T-right (all (λ fs. all q fs) a) (all (λ a. all (λ fs. all q fs) a) bs) k))
+    where
+      go : (b : Bool) → fits xs a ≡ b → T (b || any (fits xs) bs) → (T (any (fits xs) bs) → Each (λ x. T (q (x .form))) xs) → Each (λ x. T (q (x .form))) xs
+      go true e u f = fit-right xs a (subst T (sym e) tt) (T-left (all (λ fs. all q fs) a) (all (λ a. all (λ fs. all q fs) a) bs) k)
+      go false e u f = f u
+
+ok-forms : (b x y named : Bool) → T ((not (x || false) || b) && (not (y || false) || not b)) → cond named (x || false) (y || false) ≡ (Bool·beq named b && (x || (y || false)))
+ok-forms true x true named h = absurd (T-right (not (x || false) || true) false h)
+ok-forms true x false true h = refl
+ok-forms true x false false h = refl
+ok-forms false true y named h = absurd h
+ok-forms false false y true h = refl
+ok-forms false false y false h = refl
+
+form-by : (named : Bool) (f : ℕ) → form-in (cond named "w" "x") f ≡ cond named (eqb f 119 || false) (eqb f 120 || false)
+form-by true f = refl
+form-by false f = refl
+
+-- an argument is a switch of a type where the operator takes that type
+pub switch-forms : (o : Op) (xs : List Argument) → T (any (fits xs) (alternatives o)) → (named : Bool)
+    → Each (λ x. form-in (cond named "w" "x") (x .form) ≡ (Bool·beq named (names-number (operation o .number)) && form-in "wx" (x .form))) xs
+switch-forms o xs h named =
+    let b : Bool = names-number (operation o .number) in
+    each-map (λ x. T (ok b (x .form))) _ (λ x e. form-by named (x .form) ∙ ok-forms b (eqb (x .form) 119) (eqb (x .form) 120) named e) xs (any-right (ok b) xs (alternatives o) h (op-right o))
 
 -- ---- the mark of an argument
 
@@ -42,36 +93,23 @@ of-another p kind a e = ap (λ (k : ℕ). cond (eqb k kind) (arg-cell p a / 8 �
 abbrev pub by-form : Bool → Bool → Bool → Bool → Bool → List ℕ → ℤ → List ℕ → Arg → Arg → Letter → ℕ → Arg
 by-form bt bn bc bl bw w z cs l x y n = cond bt (text w) (cond bn (Arg.number z) (cond bc (class cs) (cond bl l (cond bw x (letter y n)))))
 
-no-label : (bt bn bc bw : Bool) (w : List ℕ) (z : ℤ) (cs : List ℕ) (m k : ℕ) (y : Letter) (n : ℕ) → eqb (kind-of (by-form bt bn bc false bw w z cs (label m) (switch k) y n)) 2 ≡ false
-no-label true bn bc bw w z cs m k y n = refl
-no-label false true bc bw w z cs m k y n = refl
-no-label false false true bw w z cs m k y n = refl
-no-label false false false true w z cs m k y n = refl
-no-label false false false false w z cs m k y n = refl
-
-no-switch : (bt bn bc bl : Bool) (w : List ℕ) (z : ℤ) (cs : List ℕ) (m k : ℕ) (y : Letter) (n : ℕ) → eqb (kind-of (by-form bt bn bc bl false w z cs (label m) (switch k) y n)) 3 ≡ false
-no-switch true bn bc bl w z cs m k y n = refl
-no-switch false true bc bl w z cs m k y n = refl
-no-switch false false true bl w z cs m k y n = refl
-no-switch false false false true w z cs m k y n = refl
-no-switch false false false false w z cs m k y n = refl
+other-kinds : (bt bn bc bl bw : Bool) (w : List ℕ) (z : ℤ) (cs : List ℕ) (m k : ℕ) (y : Letter) (n : ℕ)
+    → let a : Arg = by-form bt bn bc bl bw w z cs (label m) (switch k) y n in (bl ≡ false → eqb (kind-of a) 2 ≡ false) × (bw ≡ false → eqb (kind-of a) 3 ≡ false)
+other-kinds true bn bc bl bw w z cs m k y n = (λ e. refl, λ e. refl)
+other-kinds false true bc bl bw w z cs m k y n = (λ e. refl, λ e. refl)
+other-kinds false false true bl bw w z cs m k y n = (λ e. refl, λ e. refl)
+other-kinds false false false true bw w z cs m k y n = (λ e. e, λ e. refl)
+other-kinds false false false false true w z cs m k y n = (λ e. refl, λ e. e)
+other-kinds false false false false false w z cs m k y n = (λ e. refl, λ e. refl)
 
 -- one of some forms
-one-form : (f : ℕ) → form-in "l" f ≡ true → f ≡ 108
-one-form f e = go (eqb f 108) refl e
+some-form : (P : ℕ → Type 0) (fs : List ℕ) → Each P fs → (f : ℕ) → T (among f fs) → P f
+some-form P [] e f h = absurd h
+some-form P (x ∷ fs) e f h = go (eqb f x) refl h (some-form P fs (e .1) f)
   where
-    go : (b : Bool) → eqb f 108 ≡ b → (b || false) ≡ true → f ≡ 108
-    go true q r = eqb-true f 108 q
-    go false q r = absurd (subst T (sym r) tt)
-
-module _ (P : ℕ → Type 0) where
-  two-forms : (f : ℕ) → form-in "wx" f ≡ true → P 119 → P 120 → P f
-  two-forms f e u v = go (eqb f 119) (eqb f 120) refl refl e
-    where
-      go : (a b : Bool) → eqb f 119 ≡ a → eqb f 120 ≡ b → (a || (b || false)) ≡ true → P f
-      go true b q r h = subst P (sym (eqb-true f 119 q)) u
-      go false true q r h = subst P (sym (eqb-true f 120 r)) v
-      go false false q r h = absurd (subst T (sym h) tt)
+    go : (b : Bool) → eqb f x ≡ b → T (b || among f fs) → (T (among f fs) → P f) → P f
+    go true q h r = subst P (sym (eqb-true f x q)) (e .0)
+    go false q h r = r h
 
 abbrev draft-by : ℕ → Item → Arg
 draft-by f i =
@@ -79,32 +117,21 @@ draft-by f i =
     (letter-of (headOr 0 (i .chars))) (amount 0 (drop 1 (i .chars)))
 
 module _ (p : Program) (f : ℕ) (i : Item) where
+  others : (form-in "l" f ≡ false → eqb (kind-of (draft-by f i)) 2 ≡ false) × (form-in "wx" f ≡ false → eqb (kind-of (draft-by f i)) 3 ≡ false)
+  others =
+      other-kinds (form-in "t" f) (form-in "n" f) (form-in "c" f) (form-in "l" f) (form-in "wx" f) (i .chars) (valueOf (i .chars)) (classes (i .chars)) (mark i) (mark i)
+      (letter-of (headOr 0 (i .chars))) (amount 0 (drop 1 (i .chars)))
+
+  marks-by : (kind : ℕ) → kind < 8 → (b : Bool) → (T b → arg-cell p (draft-by f i) ≡ kind + 8 * mark i) → (b ≡ false → eqb (kind-of (draft-by f i)) kind ≡ false)
+      → marks-in kind (arg-cell p (draft-by f i)) ≡ cond b (mark i ∷ []) []
+  marks-by kind l true c o = ap (marks-in kind) (c tt) ∙ of-its-kind kind (mark i) l
+  marks-by kind l false c o = of-another p kind (draft-by f i) (o refl)
+
   labels-by : marks-in 2 (arg-cell p (draft-by f i)) ≡ cond (form-in "l" f) (mark i ∷ []) []
-  labels-by = go (form-in "l" f) refl
-    where
-      go : (b : Bool) → form-in "l" f ≡ b → marks-in 2 (arg-cell p (draft-by f i)) ≡ cond (form-in "l" f) (mark i ∷ []) []
-      go true e =
-          subst (λ (g : ℕ). marks-in 2 (arg-cell p (draft-by g i)) ≡ cond (form-in "l" g) (mark i ∷ []) []) (sym (one-form f e)) (of-its-kind 2 (mark i) (omega arith))
-      go false e =
-          of-another p 2 (draft-by f i)
-          (ap (λ (b : Bool). eqb (kind-of (by-form (form-in "t" f) (form-in "n" f) (form-in "c" f) b (form-in "wx" f) (i .chars) (valueOf (i .chars)) (classes (i .chars))
-          (label (mark i)) (switch (mark i)) (letter-of (headOr 0 (i .chars))) (amount 0 (drop 1 (i .chars))))) 2) e
-          ∙ no-label (form-in "t" f) (form-in "n" f) (form-in "c" f) (form-in "wx" f) (i .chars) (valueOf (i .chars)) (classes (i .chars)) (mark i) (mark i) (letter-of (headOr 0 (i .chars))) (amount 0 (drop 1 (i .chars))))
-          ∙ sym (ap (λ (b : Bool). cond b (mark i ∷ []) []) e)
+  labels-by = marks-by 2 (omega arith) (form-in "l" f) (some-form (λ (g : ℕ). arg-cell p (draft-by g i) ≡ 2 + 8 * mark i) (bytes "l") (refl, tt) f) (others .0)
 
   switches-by : marks-in 3 (arg-cell p (draft-by f i)) ≡ cond (form-in "wx" f) (mark i ∷ []) []
-  switches-by = go (form-in "wx" f) refl
-    where
-      go : (b : Bool) → form-in "wx" f ≡ b → marks-in 3 (arg-cell p (draft-by f i)) ≡ cond (form-in "wx" f) (mark i ∷ []) []
-      go true e =
-          let m = of-its-kind 3 (mark i) (omega arith) in
-          two-forms (λ (g : ℕ). marks-in 3 (arg-cell p (draft-by g i)) ≡ cond (form-in "wx" g) (mark i ∷ []) []) f e m m
-      go false e =
-          of-another p 3 (draft-by f i)
-          (ap (λ (b : Bool). eqb (kind-of (by-form (form-in "t" f) (form-in "n" f) (form-in "c" f) (form-in "l" f) b (i .chars) (valueOf (i .chars)) (classes (i .chars))
-          (label (mark i)) (switch (mark i)) (letter-of (headOr 0 (i .chars))) (amount 0 (drop 1 (i .chars))))) 3) e
-          ∙ no-switch (form-in "t" f) (form-in "n" f) (form-in "c" f) (form-in "l" f) (i .chars) (valueOf (i .chars)) (classes (i .chars)) (mark i) (mark i) (letter-of (headOr 0 (i .chars))) (amount 0 (drop 1 (i .chars))))
-          ∙ sym (ap (λ (b : Bool). cond b (mark i ∷ []) []) e)
+  switches-by = marks-by 3 (omega arith) (form-in "wx" f) (some-form (λ (g : ℕ). arg-cell p (draft-by g i) ≡ 3 + 8 * mark i) (bytes "wx") (refl, (refl, tt)) f) (others .1)
 
 -- ---- the marks of an instruction
 
@@ -139,11 +166,7 @@ three p kind fs z (a ∷ b ∷ c ∷ d ∷ bs) l e = absurd (omega (arith, l))
 module _ (lines : List ℕ) (n : ℕ) (p : Program) (texts : List (List ℕ)) (numbers : List ℤ) (w : Written) (h : Sound-written n texts numbers w) where
   pub label-uses : (named : Bool) → instr-uses 2 named p (draft-instr lines w) ≡ map (λ i. mark i) (of-form "l" (w .args))
   unfolding instr-uses draft-instr draft-arg
-  label-uses named = three p 2 "l" refl (w .args) (h .few) (go (w .args))
-    where
-      go : (bs : List Argument) → Each (λ a. marks-in 2 (arg-cell p (draft-arg a)) ≡ one "l" a) bs
-      go [] = tt
-      go (b ∷ bs) = (labels-by p (b .form) (b .item), go bs)
+  label-uses named = three p 2 "l" refl (w .args) (h .few) (each-every _ (λ a. labels-by p (a .form) (a .item)) (w .args))
 
   -- where the operator takes the type, all switches are of it; where not, none is
   typed : (n named : Bool) → Each (λ x. form-in (cond named "w" "x") (x .form) ≡ (Bool·beq named n && form-in "wx" (x .form))) (w .args)
@@ -151,12 +174,6 @@ module _ (lines : List ℕ) (n : ℕ) (p : Program) (texts : List (List ℕ)) (n
   unfolding draft-instr draft-arg
   typed n named e = go (Bool·beq named n) e
     where
-      all-of : (bs : List Argument) → Each (λ x. form-in (cond named "w" "x") (x .form) ≡ form-in "wx" (x .form)) bs
-          → Each (λ a. marks-in 3 (arg-cell p (draft-arg a)) ≡ one (cond named "w" "x") a) bs
-      all-of [] u = tt
-      all-of (b ∷ bs) u =
-          (switches-by p (b .form) (b .item) ∙ ap (λ (x : Bool). cond x (mark (b .item) ∷ []) []) (sym (u .0)), all-of bs (u .1))
-
       none-of : (bs : List Argument) → Each (λ x. form-in (cond named "w" "x") (x .form) ≡ false) bs → [] ≡ map (λ i. mark i) (of-form (cond named "w" "x") bs)
       none-of [] u = refl
       none-of (b ∷ bs) u =
@@ -165,7 +182,9 @@ module _ (lines : List ℕ) (n : ℕ) (p : Program) (texts : List (List ℕ)) (n
 
       go : (q : Bool) → Each (λ x. form-in (cond named "w" "x") (x .form) ≡ (q && form-in "wx" (x .form))) (w .args)
           → cond q (instr-marks 3 p (draft-instr lines w)) [] ≡ map (λ i. mark i) (of-form (cond named "w" "x") (w .args))
-      go true u = three p 3 (cond named "w" "x") refl (w .args) (h .few) (all-of (w .args) u)
+      go true u =
+          three p 3 (cond named "w" "x") refl (w .args) (h .few)
+          (each-map _ _ (λ a e. switches-by p (a .form) (a .item) ∙ ap (λ (x : Bool). cond x (mark (a .item) ∷ []) []) (sym e)) (w .args) u)
       go false u = none-of (w .args) u
 
   pub switch-uses : (named : Bool) → instr-uses 3 named p (draft-instr lines w) ≡ map (λ i. mark i) (of-form (cond named "w" "x") (w .args))
@@ -205,13 +224,9 @@ as-name i t n h e = go (is quoted i) h
 
 reads-name : (i : Item) (f : ℕ) → T (form-in "lwx" f) → T (reads i f) → T (identifier (i .chars)) × (is quoted i ≡ false)
 unfolding reads word-reads
-reads-name i f k h = go (eqb f 108) (eqb f 119) (eqb f 120) refl refl refl k
-  where
-    go : (a b c : Bool) → eqb f 108 ≡ a → eqb f 119 ≡ b → eqb f 120 ≡ c → T (a || (b || (c || false))) → T (identifier (i .chars)) × (is quoted i ≡ false)
-    go true b c x y z u = as-name i false (identifier (i .chars)) (subst (λ (g : ℕ). T (reads i g)) (eqb-true f 108 x) h) refl
-    go false true c x y z u = as-name i false (identifier (i .chars)) (subst (λ (g : ℕ). T (reads i g)) (eqb-true f 119 y) h) refl
-    go false false true x y z u = as-name i false (identifier (i .chars)) (subst (λ (g : ℕ). T (reads i g)) (eqb-true f 120 z) h) refl
-    go false false false x y z u = absurd u
+reads-name i f k h =
+    let one : T (cond (is quoted i) false (identifier (i .chars))) → T (identifier (i .chars)) × (is quoted i ≡ false) = λ u. as-name i false (identifier (i .chars)) u refl in
+    some-form (λ (g : ℕ). T (reads i g) → T (identifier (i .chars)) × (is quoted i ≡ false)) (bytes "lwx") (one, (one, (one, tt))) f k h
 
 pub used-word : (s : List ℕ) (i : Item) → Spelt s i → T (is word i) → length (i .chars) ≤ 60 → Used s i
 used-word s i h w l = record { spells = h .spells w; place = place-back (i .at) (length (i .chars)) (omega arith) }

@@ -17,26 +17,21 @@ use Rattle.language.specs.Program.{Arg, Instr, Label, Switch, Program, no-instr
 use Rattle.language.specs.Program.Arg.{nothing, letter, label, switch, class, text}
 use Rattle.language.specs.Values.{amount, valueOf}
 use Rattle.layout.specs.Bounds.{Each}
+use Rattle.lists.specs.ListLaws.{all-among}
+use Rattle.lists.specs.Quoted.{bytes}
 use Rattle.lists.specs.Lists.{ahead, headOr, sameBytes}
 use Rattle.linking.specs.Lookup.{label-by, switch-by, argument}
-use Rattle.linking.specs.Resolving.{resolved-arg, argument-resolved, instr-resolved, code-resolved}
+use Rattle.linking.specs.Resolving.{all-changed, resolved-arg, argument-resolved, instr-resolved, code-resolved}
 use Rattle.syntax.specs.ArgumentForms.{form-in, Argument, letter-of}
 use Rattle.syntax.specs.Items.{Item, line-at}
 use Rattle.syntax.specs.Load.{label-place, switch-place, arg-of, instr-of}
 use Rattle.syntax.specs.Tables.{Written, Tables}
 use Rattle.writing.proofs.Growing.{map-snoc}
 use Rattle.writing.specs.Writing.{with-argument, put-argument}
+use Rattle.linking.proofs.Steps.{untouched}
 use Rattle.linking.proofs.Marked.{by-form, Used, used-argument}
-use Rattle.linking.proofs.Undeclared.{only-l, only-switch}
 
 -- ---- the code after all instructions
-
--- q is p but for its code
-pub record CodeOnly (p q : Program) : Type 0 where
-  pub labels : q .labels ≡ p .labels
-  pub switches : q .switches ≡ p .switches
-  pub texts : q .texts ≡ p .texts
-  pub numbers : q .numbers ≡ p .numbers
 
 same-resolved : (s sw : List ℕ) (p q : Program) → q .labels ≡ p .labels → q .switches ≡ p .switches → (a : Arg) → resolved-arg s sw q a ≡ resolved-arg s sw p a
 same-resolved s sw p q e f nothing = refl
@@ -84,20 +79,19 @@ module _ (s sw : List ℕ) where
       one-argument q₂ k 2 xs ys x₂ l c₂
       ∙ (λ j. xs ++ record { op = x .op; line = x .line; first = same-resolved s sw p q e f (x .first) j; second = same-resolved s sw p q₁ e₁ f₁ (x .second) j; third = same-resolved s sw p q₂ e₂ f₂ (x .third) j } ∷ ys)
 
-  pub code-only : (k : ℕ) (p : Program) → CodeOnly p (code-resolved s sw k p)
-  unfolding code-resolved argument-resolved with-argument
-  code-only zero p = record { labels = refl; switches = refl; texts = refl; numbers = refl }
-  code-only (suc k) p = let r = code-only k p in record { labels = r .labels; switches = r .switches; texts = r .texts; numbers = r .numbers }
+  -- the other parts of the program are as they were
+  pub code-only : {X : Type 0} (g : Program → X) → ((k j : ℕ) (p : Program) → g (argument-resolved s sw k j p) ≡ g p) → (k : ℕ) (p : Program) → g (code-resolved s sw k p) ≡ g p
+  code-only g h = untouched (instr-resolved s sw) g (λ k p. h k 2 _ ∙ h k 1 _ ∙ h k 0 p)
 
   code-so-far : (k : ℕ) (p : Program) → k ≤ length (p .code) → code-resolved s sw k p .code ≡ map (resolved-instr p) (take k (p .code)) ++ drop k (p .code)
-  unfolding code-resolved
+  unfolding all-changed
   code-so-far zero p h = refl
   code-so-far (suc k) p h =
       let x : Instr = getD (p .code) k no-instr in
       let f : Instr → Instr = resolved-instr p in
       let xs : List Instr = map f (take k (p .code)) in
       let l : length xs ≡ k = length-map (take k (p .code)) f ∙ length-take-le k (p .code) (omega arith) in
-      one-instruction p (code-resolved s sw k p) k xs (drop (suc k) (p .code)) x (code-only k p .labels) (code-only k p .switches) l
+      one-instruction p (code-resolved s sw k p) k xs (drop (suc k) (p .code)) x (code-only (λ p. p .labels) argument-labels k p) (code-only (λ p. p .switches) argument-switches k p) l
       (code-so-far k p (omega arith) ∙ ap (λ (ys : List Instr). xs ++ ys) (drop-cons (p .code) k no-instr h))
       ∙ sym (append-snoc xs (f x) (drop (suc k) (p .code)))
       ∙ ap (λ (ys : List Instr). ys ++ drop (suc k) (p .code)) (sym (map-snoc f (take k (p .code)) x) ∙ ap (map f) (sym (take-suc (p .code) k no-instr h)))
@@ -145,8 +139,8 @@ module _ (s lines : List ℕ) (t : Tables) (c sw en : List ℕ) (h : Tabled s li
       let w : List ℕ = i .chars in
       by-cases (form-in "t" f) (form-in "n" f) (form-in "c" f) (form-in "l" f) (form-in "wx" f) w (valueOf w) (classes w) (mark i) (mark i) (label-place t w) (switch-place t w)
       (letter-of (headOr 0 w)) (amount 0 (drop 1 w))
-      (λ k. label-placed i (used-argument s (t .texts) (t .numbers) a o u (only-l f k)))
-      (λ k. switch-placed i (used-argument s (t .texts) (t .numbers) a o u (only-switch f k)))
+      (λ k. label-placed i (used-argument s (t .texts) (t .numbers) a o u (all-among (form-in "lwx") (bytes "l") tt f k)))
+      (λ k. switch-placed i (used-argument s (t .texts) (t .numbers) a o u (all-among (form-in "lwx") (bytes "wx") tt f k)))
 
   arguments-placed : (bs : List Argument) → Each (Sound-argument (length s) (t .texts) (t .numbers)) bs → Each (λ a. Spelt s (a .item)) bs → (j : ℕ)
       → resolved-arg s sw (draft-program lines t) (getD (map draft-arg bs) j nothing) ≡ getD (map (arg-of t) bs) j nothing

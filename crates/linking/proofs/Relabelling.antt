@@ -10,27 +10,27 @@ use lib.Seq.{take-suc, length-take-le, getD-take}
 use Rattle.acceptance.specs.ProgramLaws.{entries-count}
 use Rattle.acceptance.specs.RowLaws.{any-ahead, each-map, keep-none, map-none, not-not}
 use Rattle.drafts.specs.Drafting.{draft-switch, draft-program}
-use Rattle.drafts.specs.Marks.{mark, word-by}
+use Rattle.drafts.specs.Marks.{mark}
 use Rattle.drafts.specs.Tabled.{entry-items, Tabled}
-use Rattle.language.specs.Program.{Entry, Label, Switch, Program, no-entry}
+use Rattle.language.specs.Program.{Entry, Switch, Program, no-entry}
 use Rattle.layout.specs.Bounds.{Each}
 use Rattle.layout.specs.CellLaws.{each-in, each-right, getD-map-at}
 use Rattle.layout.specs.Table.{all-entries}
-use Rattle.lists.specs.Lists.{any, ahead, each, ifAny, keep, sameBytes}
+use Rattle.lists.specs.Lists.{any, each, ifAny, keep, sameBytes}
 use Rattle.linking.specs.Lookup.{label-by}
-use Rattle.linking.specs.Resolving.{code-resolved, entries-resolved, Labelling}
-use Rattle.linking.proofs.Steps.{entries-only, entries-same}
+use Rattle.linking.specs.Resolving.{all-changed, argument-resolved, code-resolved, entry-resolved, entries-resolved, Labelling}
+use Rattle.linking.proofs.Steps.{untouched, entries-same}
 use Rattle.syntax.specs.Ending.{given-as, used-labels, undeclared-labels}
 use Rattle.syntax.specs.Items.{Item, is}
 use Rattle.syntax.specs.Items.Sort.{word, text}
-use Rattle.syntax.specs.Load.{label-place, instr-of, program-of}
+use Rattle.syntax.specs.Load.{label-place, program-of}
 use Rattle.syntax.specs.Statements.{entries-in}
 use Rattle.syntax.specs.Tables.{Choice, Tables}
 use Rattle.writing.proofs.Growing.{map-snoc}
 use Rattle.writing.proofs.Replacing.{relabelled-entries}
 use Rattle.writing.proofs.Shapes.{kinds, counts-of, relabelled-kinds, relabelled-counts, same-switches}
 use Rattle.writing.proofs.Switching.{entries-of}
-use Rattle.writing.specs.Writing.{HoldsProgram, with-entry-label, to-label}
+use Rattle.writing.specs.Writing.{HoldsProgram, with-argument, with-entry-label, to-label}
 use Rattle.linking.proofs.Marked.{Used}
 use Rattle.linking.proofs.Undeclared.{entries-used, entries-draft}
 use Rattle.linking.proofs.Placing.{code-only, label-placed, program-code}
@@ -94,7 +94,7 @@ all-placed place (c ∷ cs) =
 module _ (s en : List ℕ) where
   entries-so-far : (k : ℕ) (q : Program) → k ≤ length (all-entries q) → length (all-entries q) ≤ length en
       → all-entries (entries-resolved s en k q) ≡ relabel (map (label-by s q) (take k en)) (all-entries q)
-  unfolding entries-resolved with-entry-label
+  unfolding all-changed with-entry-label
   entries-so-far zero q h l = refl
   entries-so-far (suc k) q h l =
       let r : Program = entries-resolved s en k q in
@@ -108,18 +108,6 @@ module _ (s en : List ℕ) where
       ∙ relabel-next ls (all-entries q) x (omega (arith, n))
       ∙ ap (λ (ms : List ℕ). relabel ms (all-entries q)) (sym (map-snoc (label-by s q) (take k en) (getD en k 0)) ∙ ap (map (label-by s q)) (sym (take-suc en k 0 (omega arith))))
 
-  resolved-kinds : (k : ℕ) (q : Program) → kinds (entries-resolved s en k q .switches) ≡ kinds (q .switches)
-  unfolding entries-resolved with-entry-label
-  resolved-kinds zero q = refl
-  resolved-kinds (suc k) q =
-      relabelled-kinds k (label-by s (entries-resolved s en k q) (getD en k 0)) (entries-resolved s en k q .switches) ∙ resolved-kinds k q
-
-  resolved-counts : (k : ℕ) (q : Program) → counts-of (entries-resolved s en k q .switches) ≡ counts-of (q .switches)
-  unfolding entries-resolved with-entry-label
-  resolved-counts zero q = refl
-  resolved-counts (suc k) q =
-      relabelled-counts k (label-by s (entries-resolved s en k q) (getD en k 0)) (entries-resolved s en k q .switches) ∙ resolved-counts k q
-
 -- ---- the whole program
 
 draft-kinds : (place : List ℕ → ℕ) (cs : List Choice) → kinds (map draft-switch cs) ≡ kinds (map (switch-of place) cs)
@@ -132,9 +120,9 @@ unfolding draft-switch
 draft-counts place [] = refl
 draft-counts place (c ∷ cs) = λ j. (entries-count (λ w. 0) (c .list) ∙ sym (entries-count place (c .list))) j ∷ draft-counts place cs j
 
-labels-placed : (s : List ℕ) (f : ℕ → ℕ) (place : List ℕ → ℕ) (js : List Item) → Each (λ i. f (mark i) ≡ place (i .chars)) js → map f (map (λ i. mark i) js) ≡ map (λ i. place (i .chars)) js
-labels-placed s f place [] e = refl
-labels-placed s f place (i ∷ js) e = λ j. e .0 j ∷ labels-placed s f place js (e .1) j
+labels-placed : (f : ℕ → ℕ) (place : List ℕ → ℕ) (js : List Item) → Each (λ i. f (mark i) ≡ place (i .chars)) js → map f (map (λ i. mark i) js) ≡ map (λ i. place (i .chars)) js
+labels-placed f place [] e = refl
+labels-placed f place (i ∷ js) e = λ j. e .0 j ∷ labels-placed f place js (e .1) j
 
 module _ (s lines : List ℕ) (t : Tables) (c sw en : List ℕ) (h : Tabled s lines t c sw en) where
   abbrev draft : Program
@@ -143,64 +131,57 @@ module _ (s lines : List ℕ) (t : Tables) (c sw en : List ℕ) (h : Tabled s li
   abbrev coded : Program
   coded = code-resolved s sw (length (draft .code)) draft
 
-  coded-switches : coded .switches ≡ map draft-switch (t .switches)
-  unfolding draft-program
-  coded-switches = code-only s sw (length (draft .code)) draft .switches
+  coded-as : {X : Type 0} (g : Program → X) → ((k j : ℕ) (p : Program) → g (argument-resolved s sw k j p) ≡ g p) → g coded ≡ g draft
+  coded-as g e = code-only s sw g e (length (draft .code)) draft
 
-  coded-entries : all-entries coded ≡ each entries-of (map draft-switch (t .switches))
-  coded-entries = ap (each entries-of) coded-switches
-
-  coded-labels : coded .labels ≡ t .labels
-  unfolding draft-program
-  coded-labels = code-only s sw (length (draft .code)) draft .labels
+  coded-entries : all-entries coded ≡ all-entries draft
+  unfolding argument-resolved with-argument
+  coded-entries = coded-as (λ p. all-entries p) (λ k j p. refl)
 
   coded-long : length (all-entries coded) ≡ length (entry-items t)
-  coded-long = ap (λ (ws : List Switch). length (each entries-of ws)) (code-only s sw (length (draft .code)) draft .switches) ∙ entries-draft s lines t c sw en h
+  coded-long = ap length coded-entries ∙ entries-draft s lines t c sw en h
 
   coded-place : (m : ℕ) → label-by s coded m ≡ label-by s draft m
-  coded-place m = ap (λ (ls : List Label). ahead (λ l. sameBytes (word-by s m) (l .name)) ls) (code-only s sw (length (draft .code)) draft .labels)
+  unfolding argument-resolved with-argument
+  coded-place m = coded-as (λ p. label-by s p m) (λ k j p. refl)
 
   entries-few : length (all-entries coded) ≤ length en
-  entries-few =
-      omega (arith, ap (λ (ws : List Switch). length (each entries-of ws)) (code-only s sw (length (draft .code)) draft .switches), h .holds .tabular .entries-most, h .entry-room)
+  entries-few = omega (arith, coded-long, entries-draft s lines t c sw en h, h .holds .tabular .entries-most, h .entry-room)
 
   abbrev linked : Program
   linked = entries-resolved s en (length (all-entries coded)) coded
 
+  linked-as : {X : Type 0} (g : Program → X) → ((k : ℕ) (p : Program) → g (entry-resolved s en k p) ≡ g p) → g linked ≡ g coded
+  linked-as g e = untouched (entry-resolved s en) g e (length (all-entries coded)) coded
+
   linked-entries : all-entries linked ≡ each entries-of (map (switch-of (label-place t)) (t .switches))
+  unfolding draft-program
   linked-entries =
       entries-so-far s en (length (all-entries coded)) coded (omega arith) entries-few
       ∙ (λ j. relabel (map (label-by s coded) (take (coded-long j) en)) (coded-entries j))
       ∙ ap (λ (ms : List ℕ). relabel (map (label-by s coded) ms) (each entries-of (map draft-switch (t .switches)))) (h .entry-marks)
       ∙ ap (λ (ls : List ℕ). relabel ls (each entries-of (map draft-switch (t .switches))))
-      (labels-placed s (label-by s coded) (label-place t) (entry-items t)
+      (labels-placed (label-by s coded) (label-place t) (entry-items t)
       (each-map (Used s) _ (λ i u. coded-place (mark i) ∙ label-placed s lines t c sw en h i u) (entry-items t) (entries-used s lines t c sw en h)))
       ∙ sym (all-placed (label-place t) (t .switches))
 
   linked-switches : linked .switches ≡ map (switch-of (label-place t)) (t .switches)
+  unfolding draft-program argument-resolved with-argument with-entry-label
   linked-switches =
+      let u : coded .switches ≡ draft .switches = coded-as (λ p. p .switches) (λ k j p. refl) in
       same-switches (linked .switches) (map (switch-of (label-place t)) (t .switches))
-      (resolved-kinds s en (length (all-entries coded)) coded ∙ ap kinds coded-switches ∙ draft-kinds (label-place t) (t .switches))
-      (resolved-counts s en (length (all-entries coded)) coded ∙ ap counts-of coded-switches ∙ draft-counts (label-place t) (t .switches))
-      linked-entries
-
-  linked-code : linked .code ≡ map (instr-of lines t) (t .code)
-  linked-code = entries-only s en (length (all-entries coded)) coded .code ∙ program-code s lines t c sw en h
-
-  linked-labels : linked .labels ≡ t .labels
-  linked-labels = entries-only s en (length (all-entries coded)) coded .labels ∙ coded-labels
-
-  linked-texts : linked .texts ≡ t .texts
-  unfolding draft-program
-  linked-texts = entries-only s en (length (all-entries coded)) coded .texts ∙ code-only s sw (length (draft .code)) draft .texts
-
-  linked-numbers : linked .numbers ≡ t .numbers
-  unfolding draft-program
-  linked-numbers = entries-only s en (length (all-entries coded)) coded .numbers ∙ code-only s sw (length (draft .code)) draft .numbers
+      (linked-as (λ p. kinds (p .switches)) (λ k p. relabelled-kinds k _ (p .switches)) ∙ ap kinds u ∙ draft-kinds (label-place t) (t .switches))
+      (linked-as (λ p. counts-of (p .switches)) (λ k p. relabelled-counts k _ (p .switches)) ∙ ap counts-of u ∙ draft-counts (label-place t) (t .switches)) linked-entries
 
   pub linked-program : linked ≡ program-of lines t
-  unfolding program-of
-  linked-program = λ j. record { code = linked-code j; labels = linked-labels j; switches = linked-switches j; texts = linked-texts j; numbers = linked-numbers j }
+  unfolding program-of draft-program argument-resolved with-argument with-entry-label
+  linked-program = λ j. record {
+    code = (linked-as (λ p. p .code) (λ k p. refl) ∙ program-code s lines t c sw en h) j;
+    labels = (linked-as (λ p. p .labels) (λ k p. refl) ∙ coded-as (λ p. p .labels) (λ k j p. refl)) j;
+    switches = linked-switches j;
+    texts = (linked-as (λ p. p .texts) (λ k p. refl) ∙ coded-as (λ p. p .texts) (λ k j p. refl)) j;
+    numbers = (linked-as (λ p. p .numbers) (λ k p. refl) ∙ coded-as (λ p. p .numbers) (λ k j p. refl)) j;
+  }
 
   -- where every used label is declared, those of the entries are in range
   module _ (none : undeclared-labels t ≡ []) where

@@ -11,21 +11,21 @@ use lib.Seq.{set-getD, length-take-le}
 use borrow.Author.Tests.{eq-eqb, ne-eqb}
 use Rattle.drafts.specs.Marks.{word-by}
 use Rattle.finding.specs.Finding.{Tells}
-use Rattle.language.specs.Program.{Arg, Instr, Label, Program, no-instr, instr-at, no-entry}
+use Rattle.language.specs.Program.{Arg, Instr, Program, no-instr, instr-at, no-entry}
 use Rattle.language.specs.Program.Arg.{nothing, letter, label, switch, class, text}
 use Rattle.layout.specs.Cells.{cell}
 use Rattle.layout.specs.Table.{arg-cell, all-entries}
 use Rattle.layout.specs.Places as layout
-use Rattle.lists.specs.Lists.{ahead, sameBytes}
+use Rattle.lists.specs.Lists.{sameBytes}
 use Rattle.lists.specs.ListLaws.{ahead-le}
 use Rattle.linking.proofs.Uses.{kind-of, cell-kind, switches-fit, argument-is}
 use Rattle.linking.specs.Lookup.{label-by, switch-by, argument, Asking, AskingAt, AskingFor}
 use Rattle.packed.specs.Packed.{table-of}
-use Rattle.writing.proofs.Held.{code-count, entry-count, switch-count}
+use Rattle.writing.proofs.Held.{entry-count, switch-count}
 use Rattle.writing.proofs.Replacing.{relabelled-entries}
 use Rattle.writing.proofs.Rooms.{entry-place}
 use Rattle.writing.specs.Writing.{HoldsProgram, Changes, Writes, IsArg, EntryAt, with-argument, put-argument, with-entry-label, to-label}
-use Rattle.linking.specs.Resolving.{resolved-arg, argument-resolved, instr-resolved, code-resolved, entry-resolved, entries-resolved, Labelling}
+use Rattle.linking.specs.Resolving.{all-changed, resolved-arg, argument-resolved, instr-resolved, code-resolved, entry-resolved, entries-resolved, Labelling}
 
 -- ---- changes
 
@@ -34,6 +34,25 @@ changed-twice {f} x y = record { holds = λ p h. y .holds (f p) (x .holds p h); 
 
 pub changed-as : {f g : Program → Program} {c d : List ℕ} → ((p : Program) → HoldsProgram c p → f p ≡ g p) → Changes f c d → Changes g c d
 changed-as {f} {g} {c} {d} e x = record { holds = λ p h. subst (HoldsProgram d) (e p h) (x .holds p h); beyond = x .beyond }
+
+module _ (f : ℕ → Program → Program) where
+  pub all-first : (c : List ℕ) → Changes (all-changed f 0) c c
+  unfolding all-changed
+  all-first c = record { holds = λ p h. h; beyond = refl }
+
+  pub all-next : {c d e : List ℕ} (k : ℕ) → Changes (all-changed f k) c d → Changes (f k) d e → Changes (all-changed f (k + 1)) c e
+  unfolding all-changed
+  all-next k x y = changed-as (λ p h. ap (λ (j : ℕ). all-changed f j p) (sym (add-one k))) (changed-twice x y)
+
+  pub all-done : {c d : List ℕ} (count : Program → ℕ) {n k : ℕ} → ((p : Program) → HoldsProgram c p → n ≡ count p) → n ≤ k → k ≤ n → Changes (all-changed f k) c d
+      → Changes (λ p. all-changed f (count p) p) c d
+  all-done count {n} {k} q u v x = changed-as (λ p h. let e : k ≡ count p = omega (arith, q p h) in ap (λ (j : ℕ). all-changed f j p) e) x
+
+  -- what no change touches
+  pub untouched : {X : Type 0} (g : Program → X) → ((k : ℕ) (p : Program) → g (f k p) ≡ g p) → (k : ℕ) (p : Program) → g (all-changed f k p) ≡ g p
+  unfolding all-changed
+  untouched g h zero p = refl
+  untouched g h (suc k) p = h k (all-changed f k p) ∙ untouched g h k p
 
 -- ---- an argument by its cell
 
@@ -115,34 +134,11 @@ module _ (s sw : List ℕ) where
   argument-long k j p = length-set (p .code) k _
 
   pub code-long : (k : ℕ) (p : Program) → length (code-resolved s sw k p .code) ≡ length (p .code)
-  unfolding code-resolved
-  code-long zero p = refl
-  code-long (suc k) p =
-      let q : Program = code-resolved s sw k p in
-      argument-long k 2 (argument-resolved s sw k 1 (argument-resolved s sw k 0 q)) ∙ argument-long k 1 (argument-resolved s sw k 0 q) ∙ argument-long k 0 q
-      ∙ code-long k p
-
-  module _ {c d : List ℕ} (n k : ℕ) (is : n ≡ cell (table-of c) 0) where
-    pub code-done : n ≤ k → k ≤ n → Changes (code-resolved s sw k) c d → Changes (λ p. code-resolved s sw (length (p .code)) p) c d
-    code-done u v x =
-        changed-as (λ p h. let e : k ≡ length (p .code) = omega (arith, is, code-count c p h) in ap (λ (k : ℕ). code-resolved s sw k p) e) x
-
-  pub code-first : (c : List ℕ) → Changes (code-resolved s sw 0) c c
-  unfolding code-resolved
-  code-first c = record { holds = λ p h. h; beyond = refl }
-
-  pub code-next : {c d e : List ℕ} (k : ℕ) → Changes (code-resolved s sw k) c d → Changes (instr-resolved s sw k) d e → Changes (code-resolved s sw (k + 1)) c e
-  unfolding code-resolved
-  code-next k x y = changed-as (λ p h. ap (λ (j : ℕ). code-resolved s sw j p) (sym (add-one k))) (changed-twice x y)
+  code-long =
+      untouched (instr-resolved s sw) (λ p. length (p .code))
+      (λ k q. argument-long k 2 (argument-resolved s sw k 1 (argument-resolved s sw k 0 q)) ∙ argument-long k 1 (argument-resolved s sw k 0 q) ∙ argument-long k 0 q)
 
 -- ---- entries
-
--- q is p but for its switches
-pub record EntriesOnly (p q : Program) : Type 0 where
-  pub code : q .code ≡ p .code
-  pub labels : q .labels ≡ p .labels
-  pub texts : q .texts ≡ p .texts
-  pub numbers : q .numbers ≡ p .numbers
 
 module _ (s en : List ℕ) where
   entry-long : (k : ℕ) (p : Program) → length (all-entries (entry-resolved s en k p)) ≡ length (all-entries p)
@@ -152,17 +148,11 @@ module _ (s en : List ℕ) where
       ap length (sym (relabelled-entries k m (p .switches))) ∙ length-set (all-entries p) k (to-label m (getD (all-entries p) k no-entry))
 
   pub entries-long : (k : ℕ) (p : Program) → length (all-entries (entries-resolved s en k p)) ≡ length (all-entries p)
-  unfolding entries-resolved
-  entries-long zero p = refl
-  entries-long (suc k) p = entry-long k (entries-resolved s en k p) ∙ entries-long k p
-
-  pub entries-only : (k : ℕ) (p : Program) → EntriesOnly p (entries-resolved s en k p)
-  unfolding entries-resolved with-entry-label
-  entries-only zero p = record { code = refl; labels = refl; texts = refl; numbers = refl }
-  entries-only (suc k) p = let r = entries-only k p in record { code = r .code; labels = r .labels; texts = r .texts; numbers = r .numbers }
+  entries-long = untouched (entry-resolved s en) (λ p. length (all-entries p)) entry-long
 
   pub entries-same : (k : ℕ) (p : Program) (m : ℕ) → label-by s (entries-resolved s en k p) m ≡ label-by s p m
-  entries-same k p m = ap (λ (ls : List Label). ahead (λ l. sameBytes (word-by s m) (l .name)) ls) (entries-only k p .labels)
+  unfolding with-entry-label
+  entries-same k p m = untouched (entry-resolved s en) (λ p. label-by s p m) (λ k p. refl) k p
 
   pub entry-put : {c d : List ℕ} (k x v : ℕ) → x ≡ getD en k 0 → Tells c (λ p. label-by s p x) 128 v → Changes (with-entry-label k v) c d → Changes (entry-resolved s en k) c d
   entry-put k x v e t w = changed-as (λ p h. ap (λ (m : ℕ). with-entry-label k m p) (t .is p h ∙ ap (label-by s p) e)) w
@@ -182,15 +172,3 @@ module _ (s en : List ℕ) where
           let h : HoldsProgram d q = y .holds p (a .holds) in
           let m : v ≡ label-by s p (getD en k 0) = t .is q h ∙ ap (label-by s q) e ∙ entries-same k p (getD en k 0) in
           entry-place d q h k v (omega (arith, entries-long k p, low-entry)) (omega (arith, m, a .low k low-entry))
-
-    pub entries-done : {d : List ℕ} → n ≤ k → k ≤ n → Changes (entries-resolved s en k) c d → Changes (λ p. entries-resolved s en (length (all-entries p)) p) c d
-    entries-done u v x =
-        changed-as (λ p h. let e : k ≡ length (all-entries p) = omega (arith, is, entry-count c p h) in ap (λ (k : ℕ). entries-resolved s en k p) e) x
-
-  pub entries-first : (c : List ℕ) → Changes (entries-resolved s en 0) c c
-  unfolding entries-resolved
-  entries-first c = record { holds = λ p h. h; beyond = refl }
-
-  pub entries-next : {c d e : List ℕ} (k : ℕ) → Changes (entries-resolved s en k) c d → Changes (entry-resolved s en k) d e → Changes (entries-resolved s en (k + 1)) c e
-  unfolding entries-resolved
-  entries-next k x y = changed-as (λ p h. ap (λ (j : ℕ). entries-resolved s en j p) (sym (add-one k))) (changed-twice x y)

@@ -1,13 +1,13 @@
--- The place of a name among the switches' names; and switches by their types, as they stand in the table.
+-- The word of a mark; the place of a name among the switches' names; and switches by their types, as they stand in the table.
 use mathlib.Core.Path.{_≡_, refl, sym, ap, _∙_}
-use mathlib.Core.Bool.{Bool, true, false, cond, not, _&&_, _||_, Bool·beq}
+use mathlib.Core.Bool.{Bool, true, false, cond, _&&_, _||_, Bool·beq}
 use mathlib.Core.List.{List, [], _∷_}
-use Prim.Native.Nat.{ℕ, zero, suc, _+_, _*_, _%_, _≤_, _<_}
+use Prim.Native.Nat.{ℕ, zero, suc, _+_, _*_, _%_, _≤_, _<_, min, _-_, _/_}
 use native.Mathlib.Nat.{not-suc-le-zero, le-of-suc-le-suc}
 use native.Mathlib.Omega.{arith}
 use lib.Dec.{eqb}
-use lib.ListN.{length, getD, take}
-use lib.Seq.{length-take-le, getD-take}
+use lib.ListN.{length, getD, take, drop, length-drop, drop-of-length-le}
+use lib.Seq.{length-take-le, getD-take, take-all, take-nil}
 use borrow.Author.Tests.{eq-eqb, ne-eqb}
 use Rattle.drafts.specs.Marks.{word-by}
 use Rattle.finding.proofs.Found.{Missed, ahead-at, ahead-past}
@@ -23,14 +23,28 @@ use Rattle.writing.proofs.Held.{switch-count}
 use Rattle.writing.proofs.Parts.{switches-at}
 use Rattle.writing.specs.Writing.{HoldsProgram}
 use Rattle.linking.specs.Lookup.{switch-by, is-switch, Judges}
+use native.Mathlib.Decide.{decLt}
 
-pub beq-true : (b : Bool) → b ≡ Bool·beq true b
-beq-true true = refl
-beq-true false = refl
+cut : (s : List ℕ) (at len a b : ℕ) → a ≡ min at (length s) → b ≡ min (at + len) (length s) → take (b - a) (drop a s) ≡ take len (drop at s)
+cut s at len a b e f = go (decLt at (length s)) (decLt (length s) (at + len))
+  where
+    go : Dec (at < length s) → Dec (length s < at + len) → take (b - a) (drop a s) ≡ take len (drop at s)
+    go (no h) u =
+        let x : drop a s ≡ [] = drop-of-length-le s {i = a} (omega (arith, e)) in
+        let y : drop at s ≡ [] = drop-of-length-le s {i = at} (omega arith) in
+        ap (take (b - a)) x ∙ take-nil (b - a) ∙ sym (ap (take len) y ∙ take-nil len)
+    go (yes h) (yes u) =
+        let z : a ≡ at = omega (arith, e) in
+        let n : length (drop at s) ≡ length s - at = length-drop at s in
+        ap (λ (k : ℕ). take (b - a) (drop k s)) z ∙ take-all (b - a) (drop at s) (omega (arith, n, e, f)) ∙ sym (take-all len (drop at s) (omega (arith, n)))
+    go (yes h) (no u) =
+        let z : a ≡ at = omega (arith, e) in
+        let w : b - a ≡ len = omega (arith, e, f) in
+        λ j. take (w j) (drop (z j) s)
 
-pub beq-false : (b : Bool) → not b ≡ Bool·beq false b
-beq-false true = refl
-beq-false false = refl
+pub word-cut : (s : List ℕ) (m a b : ℕ) → a ≡ min (m / 64) (length s) → b ≡ min (m / 64 + m % 64) (length s) → take (b - a) (drop a s) ≡ word-by s m
+unfolding word-by
+word-cut s m a b e f = cut s (m / 64) (m % 64) a b e f
 
 -- ---- a switch by its name
 
@@ -97,8 +111,8 @@ module _ (s c sw : List ℕ) (named : Bool) (m : ℕ) where
   switch-hit j = sameBytes (word-by s m) (word-by s (getD sw j 0)) && Bool·beq named (switch-in (table-of c) j .byName)
 
   -- what the code computes at k
-  pub hit-is : (k x : ℕ) {a b d : Bool} → x ≡ getD sw k 0 → a ≡ sameBytes (word-by s m) (word-by s x) → b ≡ switch-in (table-of c) k .byName → d ≡ Bool·beq named b → (a && d) ≡ switch-hit k
-  hit-is k x e f g h = (λ j. f j && h j) ∙ (λ j. sameBytes (word-by s m) (word-by s (e j)) && Bool·beq named (g j))
+  pub hit-is : (k x : ℕ) {a b : Bool} → x ≡ getD sw k 0 → a ≡ sameBytes (word-by s m) (word-by s x) → b ≡ switch-in (table-of c) k .byName → (a && Bool·beq named b) ≡ switch-hit k
+  hit-is k x e f g = cc
 
   tests : (p : Program) → HoldsProgram c p → (j : ℕ) → j < length (p .switches) → switch-hit j ≡ hits s named m sw (p .switches) j
   tests p h j l = ap (λ (b : Bool). sameBytes (word-by s m) (word-by s (getD sw j 0)) && Bool·beq named b) (kind-read c p h j l)

@@ -5,11 +5,11 @@ use mathlib.Core.List.{List, [], _∷_, _++_, map, map-append}
 use Prim.Native.Nat.{ℕ}
 use Prim.Native.String.{String}
 use native.Mathlib.Omega.{arith}
-use lib.Dec.{T, eqb}
+use lib.Dec.{T}
 use lib.ListN.{length, take, drop}
 use lib.IntN.{ℤ}
 use Rattle.acceptance.specs.Drafts.{Fine-item, Sound-argument, Sound-written, Sound-choice}
-use Rattle.acceptance.specs.RowLaws.{each-map, or-right}
+use Rattle.acceptance.specs.RowLaws.{each-map}
 use Rattle.drafts.specs.DraftingLaws.{entry-words}
 use Rattle.drafts.specs.Drafting.{draft-instr, draft-switch, draft-program}
 use Rattle.drafts.specs.Marks.{mark, place-by, word-by}
@@ -18,7 +18,9 @@ use Rattle.language.specs.Program.{Instr, Program}
 use Rattle.layout.specs.Bounds.{Each}
 use Rattle.layout.specs.CellLaws.{each-append}
 use Rattle.layout.specs.Table.{all-entries}
-use Rattle.lists.specs.Lists.{any, each, keep, headOr, sameBytes}
+use Rattle.lists.specs.ListLaws.{all-among}
+use Rattle.lists.specs.Quoted.{bytes}
+use Rattle.lists.specs.Lists.{all, any, each, keep, headOr, sameBytes}
 use Rattle.linking.proofs.Faults.{joined-join, faults-append}
 use Rattle.linking.specs.Lookup.{joined, known, faults, instr-uses, is-switch, Judges}
 use Rattle.statements.specs.StatementAt.{fault-of}
@@ -62,14 +64,14 @@ switch-there s named m (x ∷ sw) (c ∷ cs) e =
 
 -- ---- all names that are used
 
-module _ (s : List ℕ) (texts : List (List ℕ)) (numbers : List ℤ) (fs : String) (only : (f : ℕ) → T (form-in fs f) → T (form-in "lwx" f)) where
+module _ (s : List ℕ) (texts : List (List ℕ)) (numbers : List ℤ) (fs : String) (only : T (all (form-in "lwx") (bytes fs))) where
   used-args : (bs : List Argument) → Each (Sound-argument (length s) texts numbers) bs → Each (λ a. Spelt s (a .item)) bs → Each (Used s) (of-form fs bs)
   used-args [] h u = tt
   used-args (b ∷ bs) h u = go (form-in fs (b .form)) refl (used-args bs (h .1) (u .1))
     where
       go : (x : Bool) → form-in fs (b .form) ≡ x → Each (Used s) (of-form fs bs)
           → Each (Used s) (map (λ a. a .item) (cond x (b ∷ keep (λ a. form-in fs (a .form)) bs) (keep (λ a. form-in fs (a .form)) bs)))
-      go true e r = (used-argument s texts numbers b (h .0) (u .0) (only (b .form) (subst T (sym e) tt)), r)
+      go true e r = (used-argument s texts numbers b (h .0) (u .0) (all-among (form-in "lwx") (bytes fs) only (b .form) (subst T (sym e) tt)), r)
       go false e r = r
 
   used-code : (ws : List Written) → Each (Sound-written (length s) texts numbers) ws → Each (λ w. Each (λ a. Spelt s (a .item)) (w .args)) ws
@@ -95,23 +97,9 @@ used-entries s texts (c ∷ cs) h u =
     let r = used-list s (length s) (c .list) (each (λ c. keep (is word) (c .list)) cs) (h .0 .fine) u in
     each-append (Used s) (keep (is word) (c .list)) (each (λ c. keep (is word) (c .list)) cs) (r .0) (used-entries s texts cs (h .1) (r .1))
 
-pub only-l : (f : ℕ) → T (form-in "l" f) → T (form-in "lwx" f)
-only-l f h = go (eqb f 108) h
-  where
-    go : (a : Bool) → T (a || false) → T (a || (eqb f 119 || (eqb f 120 || false)))
-    go true h = tt
-    go false h = absurd h
-
-only-typed : (named : Bool) (f : ℕ) → T (form-in (cond named "w" "x") f) → T (form-in "lwx" f)
-only-typed true f h = or-right (eqb f 108) (eqb f 119 || (eqb f 120 || false)) (go (eqb f 119) h)
-  where
-    go : (a : Bool) → T (a || false) → T (a || (eqb f 120 || false))
-    go true h = tt
-    go false h = absurd h
-only-typed false f h = or-right (eqb f 108) (eqb f 119 || (eqb f 120 || false)) (or-right (eqb f 119) (eqb f 120 || false) h)
-
-pub only-switch : (f : ℕ) → T (form-in "wx" f) → T (form-in "lwx" f)
-only-switch f h = or-right (eqb f 108) (eqb f 119 || (eqb f 120 || false)) h
+typed : (named : Bool) → T (all (form-in "lwx") (bytes (cond named "w" "x")))
+typed true = tt
+typed false = tt
 
 -- ---- the marks of a text, in code and in entries
 
@@ -124,7 +112,7 @@ module _ (s lines : List ℕ) (t : Tables) (c sw en : List ℕ) (h : Tabled s li
   unfolding draft-program
   code-marks u fs e = all-uses lines u fs (t .code) e
 
-  pub used-of : (fs : String) → ((f : ℕ) → T (form-in fs f) → T (form-in "lwx" f)) → Each (Used s) (given-as fs t)
+  pub used-of : (fs : String) → T (all (form-in "lwx") (bytes fs)) → Each (Used s) (given-as fs t)
   used-of fs only = used-code s (t .texts) (t .numbers) fs only (t .code) (h .sound .code) (h .spelt-arguments)
 
   pub entries-used : Each (Used s) (entry-items t)
@@ -149,7 +137,7 @@ module _ (s lines : List ℕ) (t : Tables) (c sw en : List ℕ) (h : Tabled s li
       ap (faults s sw 3 named draft) (code-marks (instr-uses 3 named draft) (cond named "w" "x")
       (each-map (Sound-written (length s) (t .texts) (t .numbers)) _ (λ w e. switch-uses lines (length s) draft (t .texts) (t .numbers) w e named) (t .code) (h .sound .code)))
       ∙ faults-items s sw 3 named draft (λ i. any (λ c. sameBytes (i .chars) (c .name) && Bool·beq named (c .byName)) (t .switches)) (given-as (cond named "w" "x") t)
-      (each-map (Used s) _ (switch-ok named) (given-as (cond named "w" "x") t) (used-of (cond named "w" "x") (only-typed named)))
+      (each-map (Used s) _ (switch-ok named) (given-as (cond named "w" "x") t) (used-of (cond named "w" "x") (typed named)))
 
   pub entries-draft : length (all-entries draft) ≡ length (entry-items t)
   unfolding draft-program
@@ -165,7 +153,7 @@ module _ (s lines : List ℕ) (t : Tables) (c sw en : List ℕ) (h : Tabled s li
       (each-map (Sound-written (length s) (t .texts) (t .numbers)) _ (λ w e. label-uses lines (length s) draft (t .texts) (t .numbers) w e true) (t .code) (h .sound .code)) in
       (λ j. faults s sw 2 true draft (a j ++ entry-marks-are j)) ∙ ap (faults s sw 2 true draft) (sym (map-append (λ i. mark i) (given-as "l" t) (entry-items t)))
       ∙ faults-items s sw 2 true draft (λ i. any (λ l. sameBytes (i .chars) (l .name)) (t .labels)) (used-labels t)
-      (each-map (Used s) _ label-ok (used-labels t) (each-append (Used s) (given-as "l" t) (entry-items t) (used-of "l" only-l) entries-used))
+      (each-map (Used s) _ label-ok (used-labels t) (each-append (Used s) (given-as "l" t) (entry-items t) (used-of "l" tt) entries-used))
 
 -- ---- the answers
 

@@ -19,6 +19,11 @@ resolved-arg s sw p (class cs) = class cs
 resolved-arg s sw p (text t) = text t
 resolved-arg s sw p (Arg.number z) = Arg.number z
 
+-- the first k of some changes, one after the other
+unfoldable pub all-changed : (ℕ → Program → Program) → ℕ → Program → Program
+all-changed f zero p = p
+all-changed f (suc k) p = f k (all-changed f k p)
+
 -- argument j of instruction k, all arguments of instruction k, and those of the first k instructions
 unfoldable pub argument-resolved : List ℕ → List ℕ → ℕ → ℕ → Program → Program
 argument-resolved s sw k j p = with-argument k j (resolved-arg s sw p (argument j (instr-at p k))) p
@@ -26,17 +31,15 @@ argument-resolved s sw k j p = with-argument k j (resolved-arg s sw p (argument 
 abbrev pub instr-resolved : List ℕ → List ℕ → ℕ → Program → Program
 instr-resolved s sw k p = argument-resolved s sw k 2 (argument-resolved s sw k 1 (argument-resolved s sw k 0 p))
 
-unfoldable pub code-resolved : List ℕ → List ℕ → ℕ → Program → Program
-code-resolved s sw zero p = p
-code-resolved s sw (suc k) p = instr-resolved s sw k (code-resolved s sw k p)
+abbrev pub code-resolved : List ℕ → List ℕ → ℕ → Program → Program
+code-resolved s sw = all-changed (instr-resolved s sw)
 
 -- the label of entry k, and those of the first k entries
 abbrev pub entry-resolved : List ℕ → List ℕ → ℕ → Program → Program
 entry-resolved s en k p = with-entry-label k (label-by s p (getD en k 0)) p
 
-unfoldable pub entries-resolved : List ℕ → List ℕ → ℕ → Program → Program
-entries-resolved s en zero p = p
-entries-resolved s en (suc k) p = entry-resolved s en k (entries-resolved s en k p)
+abbrev pub entries-resolved : List ℕ → List ℕ → ℕ → Program → Program
+entries-resolved s en = all-changed (entry-resolved s en)
 
 -- the marks of the entries' labels stand in en, and all those labels are there
 pub record Labelling (s c en : List ℕ) : Type 0 where

@@ -1,7 +1,7 @@
 // The second pass over a text's program: questions 12 and 13, "Every used label declared" and "Every used switch declared"; then names become places.
 // Until then the table has the marks of the names that are used.
 ghost use mathlib.Core.Path.{_≡_};
-ghost use mathlib.Core.Bool.{true, cond, Bool·beq};
+ghost use mathlib.Core.Bool.{true, cond};
 ghost use mathlib.Core.List.{[], _∷_};
 ghost use Prim.Native.Nat.{_≤_};
 ghost use lib.ListN.{length, take};
@@ -43,7 +43,7 @@ fn word(text: &[u8], m: usize) -> &[u8]
 fn same_name(text: &[u8], m: usize, n: usize) -> bool
     ensures { λ r. ⌜ r ≡ sameBytes (word-by (now (text .entry)) m) (word-by (now (text .entry)) n) ⌝ }
 {
-    check::same(word(text, m), word(text, n))
+    words::same(word(text, m), word(text, n))
 }
 
 // The place of the label that `m` names, and the count of the labels where there is none.
@@ -69,15 +69,6 @@ fn switch_place(text: &[u8], sw: &[u32], count: usize, m: usize) -> usize
     count
 }
 
-fn agree(a: bool, b: bool) -> bool
-    ensures { λ r. ⌜ r ≡ Bool·beq a b ⌝ }
-{
-    if a {
-        return b;
-    }
-    !b
-}
-
 // Whether `m` names a switch of the type.
 fn has_switch(text: &[u8], table: &[u32], sw: &[u32], named: bool, m: usize) -> bool
     requires { ⌜ Asking (now table) (now sw) ⌝ }
@@ -86,7 +77,7 @@ fn has_switch(text: &[u8], table: &[u32], sw: &[u32], named: bool, m: usize) -> 
     let n = table::switches(table);
     let mut k = 0;
     while k < n {
-        if same_name(text, m, cells::read(sw, k)) & agree(named, table::switch_by_name(table, k)) {
+        if same_name(text, m, cells::read(sw, k)) & (named == table::switch_by_name(table, k)) {
             return true;
         }
         k += 1;
@@ -148,7 +139,7 @@ fn argument_fault(
 fn is_asked(kind: usize, named: bool, operator: u8) -> bool
     ensures { λ r. ⌜ r ≡ asked-by kind named operator ⌝ }
 {
-    (kind == ArgumentKinds::LABEL) | agree(named, takes_named(operator))
+    (kind == ArgumentKinds::LABEL) | (named == takes_named(operator))
 }
 
 // The arguments of instruction `k`.

@@ -29,36 +29,34 @@ module _ (ms : List ℕ) (a b : ℕ) (most : b ≤ length ms) where
   pub marks-none : marks-in ms a a ≡ []
   marks-none = let e : a - a ≡ 0 = omega arith in ap (λ (m : ℕ). take m (drop a ms)) e
 
--- place k is reached, and low is the lowest up to it
-pub record Lowest (ms : List ℕ) (a b k : ℕ) (low : Fault) : Type 0 where
+-- place k is reached, and f is the fault of the marks up to it, each with its places
+pub record Walking (of : List ℕ → List ℕ) (ms : List ℕ) (a b k : ℕ) (f : Fault) : Type 0 where
   pub from : a ≤ k
   pub most : k ≤ a + (b - a)
-  pub is : low ≡ fault-of (map place-by (marks-in ms a k))
+  pub is : f ≡ fault-of (of (marks-in ms a k))
 
-module _ (ms : List ℕ) (a b : ℕ) (most : b ≤ length ms) where
-  pub lowest-first : Lowest ms a b a Clear
-  lowest-first = record { from = omega arith; most = omega arith; is = sym (ap (λ (xs : List ℕ). fault-of (map place-by xs)) (marks-none ms a b most)) }
+module _ (of : List ℕ → List ℕ) (ms : List ℕ) (a b : ℕ) (most : b ≤ length ms) where
+  pub walk-first : of [] ≡ [] → Walking of ms a b a Clear
+  walk-first e = record { from = omega arith; most = omega arith; is = sym (ap (λ (xs : List ℕ). fault-of (of xs)) (marks-none ms a b most) ∙ ap fault-of e) }
 
-  module _ {k : ℕ} {low : Fault} (h : Lowest ms a b k low) where
-    pub lowest-done : b ≤ k → low ≡ fault-of (map place-by (marks-in ms a b))
-    lowest-done l = let e : k - a ≡ b - a = omega (arith, h .from, h .most) in h .is ∙ ap (λ (m : ℕ). fault-of (map place-by (take m (drop a ms)))) e
+  module _ {k : ℕ} {f : Fault} (h : Walking of ms a b k f) where
+    pub walk-done : b ≤ k → f ≡ fault-of (of (marks-in ms a b))
+    walk-done l = let e : k - a ≡ b - a = omega (arith, h .from, h .most) in h .is ∙ ap (λ (m : ℕ). fault-of (of (take m (drop a ms)))) e
 
-    pub lowest-more : k < b → {p : ℕ} {r : Fault} → p ≡ getD ms k 0 → r ≡ lower low (At (place-by p)) → Lowest ms a b (k + 1) r
-    unfolding lowest
-    lowest-more l {p} {r} e f =
+    walk-on : k < b → (ps : List ℕ) → of (marks-in ms a k ++ (getD ms k 0 ∷ [])) ≡ of (marks-in ms a k) ++ ps → {g r : Fault} → g ≡ fault-of ps → r ≡ lower f g → Walking of ms a b (k + 1) r
+    walk-on l ps x e q =
         record {
           from = omega (arith, h .from);
           most = omega (arith, h .from, h .most);
-          is = f ∙ ap (λ (x : Fault). lower x (At (place-by p))) (h .is)
-              ∙ ap (λ (m : ℕ). lower (fault-of (map place-by (marks-in ms a k))) (At (place-by m))) e
-              ∙ sym (fault-both (map place-by (marks-in ms a k)) (place-by (getD ms k 0) ∷ []))
-              ∙ ap fault-of (sym (mapped (marks-in ms a k) (getD ms k 0)))
-              ∙ ap (λ (xs : List ℕ). fault-of (map place-by xs)) (sym (marks-more ms a b most k (h .from) l));
+          is = q ∙ (λ j. lower (h .is j) (e j)) ∙ sym (fault-both (of (marks-in ms a k)) ps) ∙ ap fault-of (sym (ap of (marks-more ms a b most k (h .from) l) ∙ x));
         }
-      where
-        mapped : (xs : List ℕ) (m : ℕ) → map place-by (xs ++ (m ∷ [])) ≡ map place-by xs ++ (place-by m ∷ [])
-        mapped [] m = refl
-        mapped (x ∷ xs) m = ap (λ (ys : List ℕ). place-by x ∷ ys) (mapped xs m)
+
+-- the lowest place
+pub lowest-more : (ms : List ℕ) (a b : ℕ) → b ≤ length ms → {k : ℕ} {f : Fault} → Walking (map place-by) ms a b k f → k < b → {p : ℕ} {r : Fault} → p ≡ getD ms k 0
+    → r ≡ lower f (At (place-by p)) → Walking (map place-by) ms a b (k + 1) r
+unfolding lowest
+lowest-more ms a b most {k} h l e q =
+    walk-on (map place-by) ms a b most h l (place-by (getD ms k 0) ∷ []) (map-append place-by (marks-in ms a k) (getD ms k 0 ∷ [])) (ap (λ (m : ℕ). At (place-by m)) e) q
 
 -- one mark
 pub own-sought : {s ms : List ℕ} {k m : ℕ} → Repeatable s ms (k + 1) → m ≡ getD ms k 0 → Sought s ms k (m / 64) (m % 64)
@@ -73,12 +71,7 @@ own-asked s names {m} {g} e {r} {b} h q = rw (← e, sym h ∙ q) (go b)
     go true = refl
     go false = refl
 
--- f is the fault of question 06 up to the name number k
-pub record Repeating (s ms : List ℕ) (a b k : ℕ) (f : Fault) : Type 0 where
-  pub from : a ≤ k
-  pub most : k ≤ a + (b - a)
-  pub is : f ≡ fault-of (repeated-by s (names-of s (take a ms)) (marks-in ms a k))
-
+-- question 06
 module _ (s : List ℕ) where
   repeated-more : (names : List (List ℕ)) (xs : List ℕ) (m : ℕ) → repeated-by s names (xs ++ (m ∷ [])) ≡ repeated-by s names xs ++ own-repeated s (names ++ names-of s xs) m
   unfolding repeated-by
@@ -93,29 +86,16 @@ module _ (s : List ℕ) where
       let e : a + (k - a) ≡ k = omega arith in
       sym (map-append (word-by s) (take a ms) (marks-in ms a k)) ∙ ap (names-of s) (sym (take-add a (k - a) ms) ∙ ap (λ (j : ℕ). take j ms) e)
 
-  module _ (ms : List ℕ) (a b : ℕ) (most : b ≤ length ms) where
-    pub repeating-first : Repeating s ms a b a Clear
-    unfolding repeated-by
-    repeating-first = record { from = omega arith; most = omega arith; is = sym (ap (λ (xs : List ℕ). fault-of (repeated-by s (names-of s (take a ms)) xs)) (marks-none ms a b most)) }
+  abbrev pub repeated-in : List ℕ → ℕ → List ℕ → List ℕ
+  repeated-in ms a = repeated-by s (names-of s (take a ms))
 
-    module _ {k : ℕ} {f : Fault} (h : Repeating s ms a b k f) where
-      pub repeating-done : b ≤ k → f ≡ fault-of (repeated-by s (names-of s (take a ms)) (marks-in ms a b))
-      repeating-done l = let e : k - a ≡ b - a = omega (arith, h .from, h .most) in h .is ∙ ap (λ (m : ℕ). fault-of (repeated-by s (names-of s (take a ms)) (take m (drop a ms)))) e
+  pub repeating-first : (ms : List ℕ) (a b : ℕ) → b ≤ length ms → Walking (repeated-in ms a) ms a b a Clear
+  unfolding repeated-by
+  repeating-first ms a b most = walk-first (repeated-in ms a) ms a b most refl
 
-      pub repeating-more : k < b → {g r : Fault} → g ≡ fault-of (own-repeated s (names-of s (take k ms)) (getD ms k 0)) → r ≡ lower f g → Repeating s ms a b (k + 1) r
-      repeating-more l {g} {r} e q =
-          record {
-            from = omega (arith, h .from);
-            most = omega (arith, h .from, h .most);
-            is =
-                q ∙ ap (λ (x : Fault). lower x g) (h .is) ∙ ap (lower (fault-of before)) e
-                ∙ sym (fault-both before (own-repeated s (names-of s (take k ms)) m))
-                ∙ ap (λ (ns : List (List ℕ)). fault-of (before ++ own-repeated s ns m)) (sym (names-up ms a k (h .from)))
-                ∙ sym (ap fault-of (ap (repeated-by s (names-of s (take a ms))) (marks-more ms a b most k (h .from) l) ∙ repeated-more (names-of s (take a ms)) (marks-in ms a k) m));
-          }
-        where
-          m : ℕ
-          m = getD ms k 0
-
-          before : List ℕ
-          before = repeated-by s (names-of s (take a ms)) (marks-in ms a k)
+  pub repeating-more : (ms : List ℕ) (a b : ℕ) → b ≤ length ms → {k : ℕ} {f : Fault} → Walking (repeated-in ms a) ms a b k f → k < b → {g r : Fault}
+      → g ≡ fault-of (own-repeated s (names-of s (take k ms)) (getD ms k 0)) → r ≡ lower f g → Walking (repeated-in ms a) ms a b (k + 1) r
+  repeating-more ms a b most {k} h l e q =
+      let m : ℕ = getD ms k 0 in
+      walk-on (repeated-in ms a) ms a b most h l (own-repeated s (names-of s (take k ms)) m)
+      (repeated-more (names-of s (take a ms)) (marks-in ms a k) m ∙ ap (λ (ns : List (List ℕ)). repeated-in ms a (marks-in ms a k) ++ own-repeated s ns m) (names-up ms a k (h .from))) e q

@@ -1,12 +1,12 @@
 -- A name among others.
 use mathlib.Core.Path.{_≡_, refl, sym, ap, subst, _∙_}
 use mathlib.Core.Bool.{Bool, true, false, _||_}
-use mathlib.Core.List.{List, [], _∷_}
-use Prim.Native.Nat.{ℕ, suc, _+_, _-_, _/_, _%_, _≤_, _<_}
+use mathlib.Core.List.{List, _∷_}
+use Prim.Native.Nat.{ℕ, _+_, _-_, _/_, _%_, _≤_, _<_}
 use native.Mathlib.Numerals.{add-one}
 use native.Mathlib.Omega.{arith}
 use lib.Dec.{T}
-use lib.ListN.{length, getD, take, drop, length-take, length-drop}
+use lib.ListN.{length, getD, take, drop, length-take, length-drop, drop-of-length-le}
 use lib.Seq.{length-take-le, getD-take, getD-drop, drop-cons}
 use Rattle.lists.specs.Lists.{any, sameBytes}
 use Rattle.lists.specs.ListLaws.{other-length, sameBytes-eq}
@@ -60,16 +60,7 @@ module _ (q : List ℕ → Bool) (s ms : List ℕ) (count : ℕ) where
       ap (λ (l : List ℕ). any q (names-of s l)) e
 
   pub left-none : (k : ℕ) → count ≤ length ms → count ≤ k → left k ≡ false
-  left-none k h l = ap (λ (l : List ℕ). any q (names-of s l)) (none k (take count ms) (omega (arith, length-take-le count ms h)))
-    where
-      none : (k : ℕ) (l : List ℕ) → length l ≤ k → drop k l ≡ []
-      none k [] h = all-gone k
-        where
-          all-gone : (k : ℕ) → drop {A = ℕ} k [] ≡ []
-          all-gone Prim.Native.Nat.zero = refl
-          all-gone (suc k) = refl
-      none Prim.Native.Nat.zero (x ∷ l) h = absurd (omega (arith, h))
-      none (suc k) (x ∷ l) h = none k l (omega (arith, h))
+  left-none k h l = ap (λ (l : List ℕ). any q (names-of s l)) (drop-of-length-le (take count ms) {i = k} (omega (arith, length-take-le count ms h)))
 
 -- the loop has found none up to the k-th
 pub record Seeking (s ms : List ℕ) (count at len k : ℕ) : Type 0 where

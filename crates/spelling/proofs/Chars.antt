@@ -1,16 +1,14 @@
 -- One turn of the loops over a text's bytes, as laws over lists; and what two rows of bytes being the same comes to.
-use mathlib.Core.Path.{_≡_, refl, ap, sym, subst, _∙_}
+use mathlib.Core.Path.{_≡_, refl, ap, sym, _∙_}
 use mathlib.Core.Bool.{Bool, true, false, cond, not, _&&_, true≢false, false≢true}
 use mathlib.Core.List.{List, [], _∷_, _++_, append-assoc, append-nil}
 use Prim.Native.Nat.{ℕ, suc, _+_, _-_, _≤_, _<_}
 use native.Mathlib.Nat.{zero-add, add-zero}
 use native.Mathlib.Numerals.{add-one}
 use native.Mathlib.Omega.{arith}
-use lib.Dec.{T, eqb}
+use lib.Dec.{eqb}
 use lib.ListN.{length, getD, set, length-append}
 use lib.Seq.{set-split}
-use Rattle.lists.specs.Lists.{sameBytes}
-use Rattle.lists.specs.ListLaws.{sameBytes-eq, sameBytes-refl}
 use Rattle.cells.specs.Cells.{pasted}
 use Rattle.cells.proofs.Laws.{pasted-none, pasted-pasted}
 use Rattle.syntax.specs.Items.{pair-of, takes-next, char-of}
@@ -112,13 +110,3 @@ pub put-done : {s : List ℕ} {a e : ℕ} {d : List ℕ} {i j : ℕ} {star : Boo
 put-done {s} {a} {e} {d} {i} {j} {star} c h =
     let q : c .done ≡ text-in s a e = sym (append-nil (c .done)) ∙ ap (λ l. c .done ++ l) (sym (left-none s i e star h)) ∙ c .rest in
     record { is = c .is ∙ ap (pasted d 0) q; next = c .place ∙ ap length q ∙ omega arith }
-
--- the answer of a comparison
-pub same-is : (xs ys : List ℕ) (r : Bool) → (r ≡ true → xs ≡ ys) → (xs ≡ ys → r ≡ true) → r ≡ sameBytes xs ys
-same-is xs ys r f g = go r (sameBytes xs ys) refl refl
-  where
-    go : (t u : Bool) → r ≡ t → sameBytes xs ys ≡ u → r ≡ sameBytes xs ys
-    go true true p q = p ∙ sym q
-    go true false p q = absurd (subst T (ap (sameBytes xs) (f p) ∙ q) (sameBytes-refl xs))
-    go false true p q = absurd (false≢true (sym p ∙ g (sameBytes-eq xs ys (subst T (sym q) tt))))
-    go false false p q = p ∙ sym q

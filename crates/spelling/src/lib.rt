@@ -52,5 +52,5 @@ pub fn same_word(text: &[u8], a: usize, b: usize, len: usize) -> bool
 {
     let e = a + len;
     let f = b + len;
-    check::same(&text[a..e], &text[b..f])
+    words::same(&text[a..e], &text[b..f])
 }

@@ -8,11 +8,12 @@ use lib.Dec.{T, leb, eqb, le→leb}
 use lib.ListN.{getD, take, drop}
 use Rattle.lists.specs.Lists.{all, headOr, ifAny}
 use Rattle.lists.specs.ListLaws.{T-left, T-both, all-head, all-tail}
-use Rattle.syntax.specs.Items.{Sort, sort-of, same-sort, Item, is, places, ends-text, Mode, opens, begins, itself, mode-after, items-at, left-over, read, attach, named, parted, statements}
-use Rattle.syntax.specs.Items.Sort.{separator, word, colon, end, text, wrong}
+use Rattle.syntax.specs.Items.{Sort, sort-of, same-sort, Item, is, places, ends-text, Mode, begins, itself, mode-after, items-at, left-over, read, attach, named, parted, statements}
+use Rattle.syntax.specs.Items.Sort.{word, colon, end}
 use Rattle.syntax.specs.Items.Stage.{first-star, inside, last-slash}
 use Rattle.syntax.specs.Items.Mode.{outside, in-word, in-comment, in-text}
 use Rattle.syntax.specs.Verdict.{lowest}
+use Rattle.lexer.specs.MovedLaws.{itself-case, begins-case}
 use Rattle.lexer.specs.Tokens.{items-from}
 use Rattle.statements.specs.declared.Fault.the-variants.{At}
 use Rattle.statements.specs.LowestLaws.{none-before, lowest-first}
@@ -42,30 +43,10 @@ one : (p n : ℕ) → p ≤ n → T ((leb p n && true) && true)
 one p n h = T-both (leb p n && true) true (bare p n h) tt
 
 itself-from : (k : Sort) (p n b next : ℕ) → p ≤ n → T (all-from p (itself k n b next))
-unfolding itself
-itself-from separator p n b next h = tt
-itself-from word p n b next h = tt
-itself-from colon p n b next h = one p n h
-itself-from end p n b next h = one p n h
-itself-from text p n b next h = tt
-itself-from wrong p n b next h = go (opens b next)
-  where
-    go : (t : Bool) → T (all-from p (cond t [] (Rattle.syntax.specs.Items.a-mark wrong n ∷ [])))
-    go true = tt
-    go false = one p n h
+itself-from k p n b next h = itself-case (λ f. T (all-from p (f n))) tt (λ k. one p n h) k b next
 
 begins-from : (k : Sort) (p n b next : ℕ) → p ≤ n → began p (begins k n b next)
-unfolding begins
-begins-from separator p n b next h = tt
-begins-from word p n b next h = h
-begins-from colon p n b next h = tt
-begins-from end p n b next h = tt
-begins-from text p n b next h = h
-begins-from wrong p n b next h = go (opens b next)
-  where
-    go : (t : Bool) → began p (cond t (in-comment n first-star) outside)
-    go true = h
-    go false = tt
+begins-from k p n b next h = begins-case (λ f. began p (f n)) tt (λ b. h) h h k b next
 
 abbrev Step : ℕ → Mode → ℕ → ℕ → ℕ → Type 0
 Step p m n b next = T (all-from p (items-at m n b next)) × began p (mode-after m n b next)
@@ -83,12 +64,12 @@ step-from (in-comment at inside) p n b next h g = (tt, g)
 step-from (in-comment at last-slash) p n b next h g = (tt, tt)
 step-from (in-text at star cs good) p n b next h g = go (ends-text star b) refl
   where
-    rest : (t : Bool) → T (all-from p (cond t [] (Rattle.syntax.specs.Items.a-mark end n ∷ [])))
-    rest true = tt
-    rest false = one p n h
+    marks : Bool → List Item
+    marks t = cond t [] (Rattle.syntax.specs.Items.a-mark end n ∷ [])
 
     go : (t : Bool) → ends-text star b ≡ t → Step p (in-text at star cs good) n b next
-    go true e = rw e (T-both (leb p at && true) (all-from p (cond (eqb b 39) [] (Rattle.syntax.specs.Items.a-mark end n ∷ []))) (bare p at g) (rest (eqb b 39)), tt)
+    go true e =
+        rw e (T-both (leb p at && true) (all-from p (marks (eqb b 39))) (bare p at g) (elim (eqb b 39) as (λ t. T (all-from p (marks t))) [ true ↦ tt | false ↦ one p n h ]), tt)
     go false e = rw e (tt, g)
 
 left-from : (m : Mode) (p : ℕ) → began p m → T (all-from p (left-over m))
@@ -166,17 +147,7 @@ begun n (in-comment at k) = at ≤ n
 begun n (in-text at star cs good) = at ≤ n
 
 begins-begun : (k : Sort) (n b next : ℕ) → begun (n + 1) (begins k n b next)
-unfolding begins
-begins-begun separator n b next = tt
-begins-begun word n b next = omega arith
-begins-begun colon n b next = tt
-begins-begun end n b next = tt
-begins-begun text n b next = omega arith
-begins-begun wrong n b next = go (opens b next)
-  where
-    go : (t : Bool) → begun (n + 1) (cond t (in-comment n first-star) outside)
-    go true = omega arith
-    go false = tt
+begins-begun k n b next = let h : n ≤ n + 1 = omega arith in begins-case (λ f. begun (n + 1) (f n)) tt (λ b. h) h h k b next
 
 -- the first of some items that the reader gives at n is what it has begun, or stands at n
 abbrev Leads : ℕ → Mode → List Item → Type 0
@@ -184,17 +155,7 @@ Leads n m [] = Unit {0}
 Leads n m (i ∷ js) = (i .at ≤ n) × began (i .at) m
 
 itself-leads : (k : Sort) (n b next : ℕ) → Leads n outside (itself k n b next)
-unfolding itself
-itself-leads separator n b next = tt
-itself-leads word n b next = tt
-itself-leads colon n b next = (omega arith, tt)
-itself-leads end n b next = (omega arith, tt)
-itself-leads text n b next = tt
-itself-leads wrong n b next = go (opens b next)
-  where
-    go : (t : Bool) → Leads n outside (cond t [] (Rattle.syntax.specs.Items.a-mark wrong n ∷ []))
-    go true = tt
-    go false = (omega arith, tt)
+itself-leads k n b next = let h : n ≤ n = omega arith in itself-case (λ f. Leads n outside (f n)) tt (λ k. (h, tt)) k b next
 
 step-leads : (m : Mode) (n b next : ℕ) → begun n m → Leads n m (items-at m n b next) × begun (n + 1) (mode-after m n b next)
 unfolding items-at mode-after

@@ -1,6 +1,6 @@
 -- Classes and the letters of arguments.
 use mathlib.Core.Path.{_≡_, refl, ap, sym}
-use mathlib.Core.Bool.{Bool, true, false, cond, _||_}
+use mathlib.Core.Bool.{Bool, true, false, cond, _||_, or-assoc, or-false}
 use mathlib.Core.List.{List}
 use Prim.Native.Nat.{ℕ, _+_, _<_}
 use lib.Dec.{eqb, eqb→eq}
@@ -13,14 +13,7 @@ use Rattle.lists.specs.TableLaws.{below-unless, Missed, missed}
 use Rattle.words.specs.Words.{class-letter, letter-at, reach}
 
 pub class-letters : (b : ℕ) → ((eqb b 76 || eqb b 68) || eqb b 66) || eqb b 82 ≡ class-letter b
-class-letters b = go (eqb b 76) (eqb b 68) (eqb b 66) (eqb b 82)
-  where
-    go : (l d s r : Bool) → ((l || d) || s) || r ≡ l || (d || (s || (r || false)))
-    go true d s r = refl
-    go false true s r = refl
-    go false false true r = refl
-    go false false false true = refl
-    go false false false false = refl
+class-letters b = simp (or-assoc, or-false)
 
 -- the letters of a class, by whether each stands in the word
 abbrev listed : Bool → Bool → Bool → Bool → List ℕ

@@ -2,5 +2,4 @@ mod Loops
 mod Letters
 mod Numbers
 mod Indices
-mod Operators
 mod KeywordLaws

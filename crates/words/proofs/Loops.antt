@@ -1,16 +1,17 @@
 -- One turn of the loops over bytes, as laws of what is still to come.
-use mathlib.Core.Path.{_≡_, refl, _∙_}
-use mathlib.Core.Bool.{Bool, true, false, _&&_, _||_, and-true, and-assoc, or-false, or-assoc}
+use mathlib.Core.Path.{_≡_, refl, sym, ap, _∙_, subst}
+use mathlib.Core.Bool.{Bool, true, false, _&&_, _||_, and-true, and-assoc, or-false, or-assoc, false≢true}
 use mathlib.Core.List.{List, [], _∷_}
 use Prim.Native.Nat.{ℕ, suc, _+_, _≤_, _<_}
 use native.Mathlib.Numerals.{add-one}
 use native.Mathlib.Omega.{arith}
-use lib.Dec.{eqb, ltb}
+use lib.Dec.{T, ltb}
 use lib.ListN.{length, getD, drop, drop-of-length-le}
 use lib.Seq.{drop-cons}
-use borrow.Author.Tests.{eq-eqb, ne-eqb, lt-ltb}
+use borrow.Author.Tests.{lt-ltb}
 use Rattle.characters.specs.Characters.{isCapital, isDigit}
 use Rattle.language.specs.Program.{identifier}
+use Rattle.lists.specs.ListLaws.{sameBytes-eq, sameBytes-refl}
 use Rattle.lists.specs.Lists.{all, any, filled, sameBytes}
 
 module _ (p : ℕ → Bool) (s : List ℕ) (i : ℕ) (t : Bool) where
@@ -41,16 +42,12 @@ pub filled-length : (w : List ℕ) → ltb 0 (length w) ≡ filled w
 filled-length [] = refl
 filled-length (b ∷ w) = lt-ltb 0 (suc (length w)) (omega arith)
 
--- two words, byte by byte
-module _ (v w : List ℕ) (i : ℕ) (hv : i < length v) (hw : i < length w) where
-  same-next : sameBytes (drop i v) (drop i w) ≡ eqb (getD v i 0) (getD w i 0) && sameBytes (drop (i + 1) v) (drop (i + 1) w)
-  same-next = rw (add-one i, drop-cons v i 0 hv, drop-cons w i 0 hw)
-
-  pub same-stops : (getD v i 0 ≡ getD w i 0 → ⊥) → sameBytes (drop i v) (drop i w) ≡ false
-  same-stops h = same-next ∙ rw (ne-eqb (getD v i 0) (getD w i 0) h)
-
-  pub same-goes : getD v i 0 ≡ getD w i 0 → sameBytes (drop i v) (drop i w) ≡ sameBytes (drop (i + 1) v) (drop (i + 1) w)
-  same-goes h = same-next ∙ rw (eq-eqb (getD v i 0) (getD w i 0) h)
-
-pub same-ends : (v w : List ℕ) (i : ℕ) → length v ≤ i → length w ≤ i → sameBytes (drop i v) (drop i w) ≡ true
-same-ends v w i hv hw = rw (drop-of-length-le v hv, drop-of-length-le w hw)
+-- the answer of a comparison
+pub same-is : (xs ys : List ℕ) (r : Bool) → (r ≡ true → xs ≡ ys) → (xs ≡ ys → r ≡ true) → r ≡ sameBytes xs ys
+same-is xs ys r f g = go r (sameBytes xs ys) refl refl
+  where
+    go : (t u : Bool) → r ≡ t → sameBytes xs ys ≡ u → r ≡ sameBytes xs ys
+    go true true p q = p ∙ sym q
+    go true false p q = absurd (subst T (ap (sameBytes xs) (f p) ∙ q) (sameBytes-refl xs))
+    go false true p q = absurd (false≢true (sym p ∙ g (sameBytes-eq xs ys (subst T (sym q) tt))))
+    go false false p q = p ∙ sym q

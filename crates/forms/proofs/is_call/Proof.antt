@@ -4,8 +4,5 @@ use borrow.Author.Needs.{needs}
 use Rattle.forms.proofs.is_call.Statement.{statement}
 use Rattle.forms.proofs.is_call.Tie as tie
 
-returns : tie.Need-returns
-returns c = calls-table (c .args .op) (search needs)
-
 pub is-call-spec : {M : Type 1} → statement M
-is-call-spec = tie.close (tie.spec returns)
+is-call-spec = tie.close (tie.spec (λ c. calls-table (c .args .op) (search needs)))

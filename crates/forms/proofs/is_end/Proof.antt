@@ -4,8 +4,5 @@ use borrow.Author.Needs.{needs}
 use Rattle.forms.proofs.is_end.Statement.{statement}
 use Rattle.forms.proofs.is_end.Tie as tie
 
-returns : tie.Need-returns
-returns c = ends-table (c .args .op) (search needs)
-
 pub is-end-spec : {M : Type 1} → statement M
-is-end-spec = tie.close (tie.spec returns)
+is-end-spec = tie.close (tie.spec (λ c. ends-table (c .args .op) (search needs)))

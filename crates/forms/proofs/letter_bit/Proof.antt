@@ -4,11 +4,6 @@ use borrow.Author.Needs.{needs}
 use Rattle.forms.proofs.letter_bit.Statement.{statement}
 use Rattle.forms.proofs.letter_bit.Tie as tie
 
-shl-result : tie.Need-shl-result
-shl-result c = search needs
-
-returns : tie.Need-returns
-returns c = shifted (c .args .place) ((c .pre))
-
 pub letter-bit-spec : {M : Type 1} → statement M
-letter-bit-spec = tie.close (tie.spec shl-result returns)
+letter-bit-spec =
+    tie.close (tie.spec (λ c. search needs) (λ c. shifted (c .args .place) ((c .pre))))

@@ -4,11 +4,9 @@ use borrow.Author.Needs.{needs}
 use Rattle.forms.proofs.needed.Statement.{statement}
 use Rattle.forms.proofs.needed.Tie as tie
 
-returns : tie.Need-returns
-returns c = (rw (lt-ltb _ _ (c .if1 .taken)), search needs)
-
-returns-2 : tie.Need-returns-2
-returns-2 c = (rw (le-ltb _ _ (c .if1 .left)), search needs)
-
 pub needed-spec : {M : Type 1} → statement M
-needed-spec = tie.close (tie.spec returns returns-2)
+needed-spec =
+    tie.close
+    (tie.spec
+    (λ c. (rw (lt-ltb _ _ (c .if1 .taken)), search needs))
+    (λ c. (rw (le-ltb _ _ (c .if1 .left)), search needs)))

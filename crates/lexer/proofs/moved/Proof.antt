@@ -5,18 +5,6 @@ use borrow.Author.Needs.{needs}
 use Rattle.lexer.proofs.moved.Statement.{statement}
 use Rattle.lexer.proofs.moved.Tie as tie
 
-add-t3 : tie.Need-add-t3
-add-t3 c = search needs
-
-add-t4 : tie.Need-add-t4
-add-t4 c = search needs
-
-add-t5 : tie.Need-add-t5
-add-t5 c = search needs
-
-moved-colon-requires : tie.Need-moved-colon-requires
-moved-colon-requires c κs = search needs
-
 returns : tie.Need-returns
 returns c =
     let t = c .before .before .before .before .args .t in
@@ -24,4 +12,11 @@ returns c =
     ap (λ (m : ℕ). record { sort = t .sort; at = n + t .at; end = n + t .end; next = n + t .next; len = t .len; good = t .good; colon = m }) (c .moved-colon .ensures)
 
 pub moved-spec : {M : Type 1} → statement M
-moved-spec = tie.close (tie.spec add-t3 add-t4 add-t5 moved-colon-requires returns)
+moved-spec =
+    tie.close
+    (tie.spec
+    (λ c. search needs)
+    (λ c. search needs)
+    (λ c. search needs)
+    (λ c κs. search needs)
+    returns)

@@ -7,14 +7,10 @@ use borrow.Author.Tests.{eq-eqb, ne-eqb}
 use Rattle.lexer.proofs.moved_colon.Statement.{statement}
 use Rattle.lexer.proofs.moved_colon.Tie as tie
 
-returns : tie.Need-returns
-returns c = let m : ℕ = c .before .args .n + c .before .args .colon in ap (λ (b : Bool). cond b 0 m) (sym (eq-eqb (c .before .args .colon) 0 (c .if1 .taken)))
-
-add-result : tie.Need-add-result
-add-result c = search needs
-
-returns-2 : tie.Need-returns-2
-returns-2 c = let m : ℕ = c .before .args .n + c .before .args .colon in ap (λ (b : Bool). cond b 0 m) (sym (ne-eqb (c .before .args .colon) 0 (c .if1 .left)))
-
 pub moved-colon-spec : {M : Type 1} → statement M
-moved-colon-spec = tie.close (tie.spec returns add-result returns-2)
+moved-colon-spec =
+    tie.close
+    (tie.spec
+    (λ c. let m : ℕ = c .before .args .n + c .before .args .colon in ap (λ (b : Bool). cond b 0 m) (sym (eq-eqb (c .before .args .colon) 0 (c .if1 .taken))))
+    (λ c. search needs)
+    (λ c. let m : ℕ = c .before .args .n + c .before .args .colon in ap (λ (b : Bool). cond b 0 m) (sym (ne-eqb (c .before .args .colon) 0 (c .if1 .left)))))

@@ -3,7 +3,7 @@ use borrow.Author.Needs.{needs}
 use native.Mathlib.Omega.{arith}
 use Prim.Native.Nat.{_-_}
 use denote.Ref.{now}
-use Rattle.linking.proofs.Walks.{CodeGoing, code-first, code-asked, code-next, code-over}
+use Rattle.linking.proofs.Faults.{CodeGoing, code-first, code-asked, code-next, code-over}
 use Rattle.linking.proofs.code_fault.Statement.{statement}
 use Rattle.linking.proofs.code_fault.Tie as tie
 
@@ -13,20 +13,8 @@ Inv-loop text table sw kind named n g₀ k₀ g k = CodeGoing text sw table kind
 abbrev μ-loop : tie.MeasureT-loop
 μ-loop text table sw kind named n g₀ k₀ g k = n - k
 
-instructions-requires : tie.Need-instructions-requires Inv-loop μ-loop
-instructions-requires c κs = c .before .before .before .pre .holds .long
-
-loop-holds : tie.Need-loop-holds Inv-loop μ-loop
-loop-holds c = code-first (now (c .before .before .before .before .args .text)) (now (c .before .before .before .before .args .sw)) (now (c .before .before .before .before .args .table)) (c .before .before .before .before .args .kind) (c .before .before .before .before .args .named) (c .before .before .before .before .args .f)
-
 instruction-fault-requires : tie.Need-instruction-fault-requires Inv-loop μ-loop
 instruction-fault-requires c κs = code-asked (c .before .before .instructions .result) (c .before .loop .k) (c .before .before .before .before .before .before .pre) (c .before .before .instructions .ensures .is) (c .loop-test .taken)
-
-add-k : tie.Need-add-k Inv-loop μ-loop
-add-k c = search needs
-
-loop-less : tie.Need-loop-less Inv-loop μ-loop
-loop-less c = omega (arith, c .before .loop-test .taken)
 
 loop-again : tie.Need-loop-again Inv-loop μ-loop
 loop-again c = code-next (now (c .before .before .before .before .before .before .before .args .text)) (now (c .before .before .before .before .before .before .before .args .sw)) (now (c .before .before .before .before .before .before .before .args .table)) (c .before .before .before .before .before .before .before .args .kind) (c .before .before .before .before .before .before .before .args .named) (c .before .before .before .before .before .before .before .args .f) (c .before .before .before .instructions .result) (c .before .before .loop .k) (c .before .before .before .instructions .ensures .is) (c .before .loop-test .taken) (c .before .before .loop .inv) (c .instruction-fault .ensures)
@@ -40,10 +28,10 @@ code-fault-spec =
     (tie.spec
     Inv-loop
     μ-loop
-    instructions-requires
-    loop-holds
+    (λ c κs. c .before .before .before .pre .holds .long)
+    (λ c. let a = c .before .before .before .before .args in code-first (now (a .text)) (now (a .sw)) (now (a .table)) (a .kind) (a .named) (a .f))
     instruction-fault-requires
-    add-k
-    loop-less
+    (λ c. search needs)
+    (λ c. omega (arith, c .before .loop-test .taken))
     loop-again
     returns)

@@ -16,35 +16,17 @@ Inv-loop text table sw named m n k₀ k = (k ≤ n) × Missed (switch-hit text t
 abbrev μ-loop : tie.MeasureT-loop
 μ-loop text table sw named m n k₀ k = n - k
 
-switches-requires : tie.Need-switches-requires Inv-loop μ-loop
-switches-requires c κs = c .before .before .before .pre .holds .long
-
-loop-holds : tie.Need-loop-holds Inv-loop μ-loop
-loop-holds c = (omega arith, missed-none (switch-hit (now (c .before .before .before .before .args .text)) (now (c .before .before .before .before .args .table)) (now (c .before .before .before .before .args .sw)) (c .before .before .before .before .args .named) (c .before .before .before .before .args .m)))
-
 read-requires : tie.Need-read-requires Inv-loop μ-loop
 read-requires c κs = omega (arith, c .loop-test .taken, switches-fit (c .before .before .switches .result) (c .before .before .before .before .before .before .pre) (c .before .before .switches .ensures .is), c .before .before .before .before .before .before .pre .room)
-
-same-name-requires : tie.Need-same-name-requires Inv-loop μ-loop
-same-name-requires c κs = search needs
 
 switch-by-name-requires : tie.Need-switch-by-name-requires Inv-loop μ-loop
 switch-by-name-requires c κs = record { long = c .before .before .before .before .before .before .before .before .pre .holds .long; below = omega (arith, c .before .before .loop-test .taken, switches-fit (c .before .before .before .before .switches .result) (c .before .before .before .before .before .before .before .before .pre) (c .before .before .before .before .switches .ensures .is), c .before .before .before .before .before .before .before .before .pre .room) }
 
-agree-requires : tie.Need-agree-requires Inv-loop μ-loop
-agree-requires c κs = search needs
-
 returns : tie.Need-returns Inv-loop μ-loop
-returns c = switch-found (now (c .before .before .before .before .before .before .before .before .before .before .before .args .text)) (now (c .before .before .before .before .before .before .before .before .before .before .before .args .table)) (now (c .before .before .before .before .before .before .before .before .before .before .before .args .sw)) (c .before .before .before .before .before .before .before .before .before .before .before .args .named) (c .before .before .before .before .before .before .before .before .before .before .before .args .m) (c .before .before .before .before .before .before .before .switches .result) (c .before .before .before .before .before .before .loop .k) (c .before .before .before .before .before .before .before .switches .ensures .is) (c .before .before .before .before .before .before .before .before .before .before .before .pre .room) (c .before .before .before .before .before .loop-test .taken) (sym (hit-is (now (c .before .before .before .before .before .before .before .before .before .before .before .args .text)) (now (c .before .before .before .before .before .before .before .before .before .before .before .args .table)) (now (c .before .before .before .before .before .before .before .before .before .before .before .args .sw)) (c .before .before .before .before .before .before .before .before .before .before .before .args .named) (c .before .before .before .before .before .before .before .before .before .before .before .args .m) (c .before .before .before .before .before .before .loop .k) (c .before .before .before .before .read .result) (c .before .before .before .before .read .ensures .is) (c .before .before .before .same-name .ensures) (c .before .before .switch-by-name .ensures) (c .before .agree .ensures)) ∙ c .if1 .taken)
-
-add-k : tie.Need-add-k Inv-loop μ-loop
-add-k c = search needs
-
-loop-less : tie.Need-loop-less Inv-loop μ-loop
-loop-less c = omega (arith, c .before .before .before .before .before .loop-test .taken)
+returns c = switch-found (now (c .before .before .before .before .before .before .before .before .before .before .args .text)) (now (c .before .before .before .before .before .before .before .before .before .before .args .table)) (now (c .before .before .before .before .before .before .before .before .before .before .args .sw)) (c .before .before .before .before .before .before .before .before .before .before .args .named) (c .before .before .before .before .before .before .before .before .before .before .args .m) (c .before .before .before .before .before .before .switches .result) (c .before .before .before .before .before .loop .k) (c .before .before .before .before .before .before .switches .ensures .is) (c .before .before .before .before .before .before .before .before .before .before .pre .room) (c .before .before .before .before .loop-test .taken) (sym (hit-is (now (c .before .before .before .before .before .before .before .before .before .before .args .text)) (now (c .before .before .before .before .before .before .before .before .before .before .args .table)) (now (c .before .before .before .before .before .before .before .before .before .before .args .sw)) (c .before .before .before .before .before .before .before .before .before .before .args .named) (c .before .before .before .before .before .before .before .before .before .before .args .m) (c .before .before .before .before .before .loop .k) (c .before .before .before .read .result) (c .before .before .before .read .ensures .is) (c .before .before .same-name .ensures) (c .before .switch-by-name .ensures)) ∙ c .if1 .taken)
 
 loop-again : tie.Need-loop-again Inv-loop μ-loop
-loop-again c = (omega (arith, c .before .before .before .before .before .loop-test .taken), missed-more (switch-hit (now (c .before .before .before .before .before .before .before .before .before .before .before .args .text)) (now (c .before .before .before .before .before .before .before .before .before .before .before .args .table)) (now (c .before .before .before .before .before .before .before .before .before .before .before .args .sw)) (c .before .before .before .before .before .before .before .before .before .before .before .args .named) (c .before .before .before .before .before .before .before .before .before .before .before .args .m)) (c .before .before .before .before .before .before .loop .k) (c .before .before .before .before .before .before .loop .inv .1) (sym (hit-is (now (c .before .before .before .before .before .before .before .before .before .before .before .args .text)) (now (c .before .before .before .before .before .before .before .before .before .before .before .args .table)) (now (c .before .before .before .before .before .before .before .before .before .before .before .args .sw)) (c .before .before .before .before .before .before .before .before .before .before .before .args .named) (c .before .before .before .before .before .before .before .before .before .before .before .args .m) (c .before .before .before .before .before .before .loop .k) (c .before .before .before .before .read .result) (c .before .before .before .before .read .ensures .is) (c .before .before .before .same-name .ensures) (c .before .before .switch-by-name .ensures) (c .before .agree .ensures)) ∙ c .if1 .left))
+loop-again c = (omega (arith, c .before .before .before .before .loop-test .taken), missed-more (switch-hit (now (c .before .before .before .before .before .before .before .before .before .before .args .text)) (now (c .before .before .before .before .before .before .before .before .before .before .args .table)) (now (c .before .before .before .before .before .before .before .before .before .before .args .sw)) (c .before .before .before .before .before .before .before .before .before .before .args .named) (c .before .before .before .before .before .before .before .before .before .before .args .m)) (c .before .before .before .before .before .loop .k) (c .before .before .before .before .before .loop .inv .1) (sym (hit-is (now (c .before .before .before .before .before .before .before .before .before .before .args .text)) (now (c .before .before .before .before .before .before .before .before .before .before .args .table)) (now (c .before .before .before .before .before .before .before .before .before .before .args .sw)) (c .before .before .before .before .before .before .before .before .before .before .args .named) (c .before .before .before .before .before .before .before .before .before .before .args .m) (c .before .before .before .before .before .loop .k) (c .before .before .before .read .result) (c .before .before .before .read .ensures .is) (c .before .before .same-name .ensures) (c .before .switch-by-name .ensures)) ∙ c .if1 .left))
 
 returns-2 : tie.Need-returns-2 Inv-loop μ-loop
 returns-2 c = let e : c .before .loop .k ≡ c .before .before .switches .result = omega (arith, c .loop-test .left, c .before .loop .inv .0) in switch-none (now (c .before .before .before .before .before .before .args .text)) (now (c .before .before .before .before .before .before .args .table)) (now (c .before .before .before .before .before .before .args .sw)) (c .before .before .before .before .before .before .args .named) (c .before .before .before .before .before .before .args .m) (c .before .before .switches .result) (c .before .before .switches .ensures .is) (rw e at (c .before .loop .inv .1))
@@ -55,14 +37,13 @@ has-switch-spec =
     (tie.spec
     Inv-loop
     μ-loop
-    switches-requires
-    loop-holds
+    (λ c κs. c .before .before .before .pre .holds .long)
+    (λ c. let a = c .before .before .before .before .args in (omega arith, missed-none (switch-hit (now (a .text)) (now (a .table)) (now (a .sw)) (a .named) (a .m))))
     read-requires
-    same-name-requires
+    (λ c κs. search needs)
     switch-by-name-requires
-    agree-requires
     returns
-    add-k
-    loop-less
+    (λ c. search needs)
+    (λ c. omega (arith, c .before .before .before .before .loop-test .taken))
     loop-again
     returns-2)

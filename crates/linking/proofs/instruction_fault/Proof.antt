@@ -7,21 +7,6 @@ use Rattle.linking.proofs.Uses.{instr-other, instr-noted}
 use Rattle.linking.proofs.instruction_fault.Statement.{statement}
 use Rattle.linking.proofs.instruction_fault.Tie as tie
 
-operator-requires : tie.Need-operator-requires
-operator-requires c κs = record { long = c .before .before .before .pre .asking .holds .long; below = omega (arith, c .before .before .before .pre .there, c .before .before .before .pre .asking .holds .tabular .code-most) }
-
-is-asked-requires : tie.Need-is-asked-requires
-is-asked-requires c κs = search needs
-
-argument-fault-requires : tie.Need-argument-fault-requires
-argument-fault-requires c κs = record { at = (c .before .before .before .before .before .before .pre); place = omega arith }
-
-argument-fault-requires-2 : tie.Need-argument-fault-requires-2
-argument-fault-requires-2 c κs = record { at = (c .before .before .before .before .before .before .before .pre); place = omega arith }
-
-argument-fault-requires-3 : tie.Need-argument-fault-requires-3
-argument-fault-requires-3 c κs = record { at = (c .before .before .before .before .before .before .before .before .pre); place = omega arith }
-
 returns : tie.Need-returns
 returns c = instr-noted (now (c .before .before .before .before .before .before .before .before .before .args .text)) (now (c .before .before .before .before .before .before .before .before .before .args .sw)) (now (c .before .before .before .before .before .before .before .before .before .args .table)) (c .before .before .before .before .before .before .before .before .before .args .kind) (c .before .before .before .before .before .before .before .before .before .args .named) (c .before .before .before .before .before .before .before .before .before .args .k) (c .before .before .before .before .before .before .before .before .before .args .f) ((c .before .before .before .before .before .before .before .before .before .pre)) (c .before .before .before .before .before .operator .result) (c .before .before .before .before .before .operator .ensures .is) (sym (c .before .before .before .before .is-asked .ensures) ∙ c .before .before .before .if1 .taken) (c .before .before .argument-fault .ensures) (c .before .argument-fault2 .ensures) (c .argument-fault3 .ensures)
 
@@ -32,10 +17,10 @@ pub instruction-fault-spec : {M : Type 1} → statement M
 instruction-fault-spec =
     tie.close
     (tie.spec
-    operator-requires
-    is-asked-requires
-    argument-fault-requires
-    argument-fault-requires-2
-    argument-fault-requires-3
+    (λ c κs. let a = c .before .before .before .pre in record { long = a .asking .holds .long; below = omega (arith, a .there, a .asking .holds .tabular .code-most) })
+    (λ c κs. search needs)
+    (λ c κs. record { at = (c .before .before .before .before .before .before .pre); place = omega arith })
+    (λ c κs. record { at = (c .before .before .before .before .before .before .before .pre); place = omega arith })
+    (λ c κs. record { at = (c .before .before .before .before .before .before .before .before .pre); place = omega arith })
     returns
     returns-2)

@@ -6,16 +6,15 @@ use Rattle.linking.proofs.Faults.{joined-none, joined-one}
 use Rattle.linking.proofs.note.Statement.{statement}
 use Rattle.linking.proofs.note.Tie as tie
 
-returns : tie.Need-returns
-returns c = rw (c .if1 .taken) (joined-none (c .before .args .f))
-
-lower-requires : tie.Need-lower-requires
-lower-requires c κs = search needs
-
 returns-2 : tie.Need-returns-2
 returns-2 c =
     let a = c .before .before .args in
     rw (c .before .if1 .left) (c .lower .ensures ∙ joined-one (a .f) (place-by (a .m)))
 
 pub note-spec : {M : Type 1} → statement M
-note-spec = tie.close (tie.spec returns lower-requires returns-2)
+note-spec =
+    tie.close
+    (tie.spec
+    (λ c. rw (c .if1 .taken) (joined-none (c .before .args .f)))
+    (λ c κs. search needs)
+    returns-2)

@@ -10,44 +10,11 @@ use Rattle.linking.proofs.Uses.{switches-fit}
 use Rattle.linking.proofs.resolve_argument.Statement.{statement}
 use Rattle.linking.proofs.resolve_argument.Tie as tie
 
-mul-read : tie.Need-mul-read
-mul-read c = omega (arith, c .before .before .before .before .pre .at .there, c .before .before .before .before .pre .at .asking .holds .tabular .code-most, c .before .before .before .before .pre .place)
-
-add-read : tie.Need-add-read
-add-read c = omega (arith, c .before .before .before .before .pre .at .there, c .before .before .before .before .pre .at .asking .holds .tabular .code-most, c .before .before .before .before .pre .place)
-
-add-read-2 : tie.Need-add-read-2
-add-read-2 c = omega (arith, c .before .before .before .before .pre .at .there, c .before .before .before .before .pre .at .asking .holds .tabular .code-most, c .before .before .before .before .pre .place)
-
-add-read-3 : tie.Need-add-read-3
-add-read-3 c = omega (arith, c .before .before .before .before .pre .at .there, c .before .before .before .before .pre .at .asking .holds .tabular .code-most, c .before .before .before .before .pre .place)
-
-read-requires : tie.Need-read-requires
-read-requires c κs = omega (arith, c .before .before .before .before .pre .at .there, c .before .before .before .before .pre .at .asking .holds .tabular .code-most, c .before .before .before .before .pre .place, c .before .before .before .before .pre .at .asking .holds .long)
-
-label-place-requires : tie.Need-label-place-requires
-label-place-requires c κs = labels-counted _ _ (c .before .before .before .before .before .before .before .pre .at .asking .holds)
-
-mul-set-argument : tie.Need-mul-set-argument
-mul-set-argument c = omega (arith, c .before .label-place .ensures .most)
-
-add-set-argument : tie.Need-add-set-argument
-add-set-argument c = omega (arith, c .before .label-place .ensures .most)
-
 set-argument-requires : tie.Need-set-argument-requires
 set-argument-requires c κs = argument-place _ _ (c .before .before .before .before .before .before .before .before .before .pre .at .asking .holds) _ _ _ (c .before .before .before .before .before .before .before .before .before .pre .at .there) (c .before .before .before .before .before .before .before .before .before .pre .place) (omega (arith, c .before .label-place .ensures .most))
 
-same-length : tie.Need-same-length
-same-length c = search needs
-
 returns : tie.Need-returns
 returns c = label-put (now (c .before .before .before .before .before .before .before .before .before .before .before .before .args .text)) (now (c .before .before .before .before .before .before .before .before .before .before .before .before .args .sw)) (now (c .before .before .before .before .before .before .before .before .before .before .before .before .args .table)) (c .before .before .before .before .before .before .before .before .before .before .before .before .args .k) (c .before .before .before .before .before .before .before .before .before .before .before .before .args .j) (c .before .before .before .before .before .before .before .read .result) ((c .before .before .before .before .before .before .before .before .before .before .before .before .pre)) (c .before .before .before .before .before .before .before .read .ensures .is) (c .before .before .before .before .label-place .result) (c .before .before .before .before .before .before .if1 .taken) (c .before .before .before .before .label-place .ensures) (c .before .before .set-argument .ensures)
-
-switches-requires : tie.Need-switches-requires
-switches-requires c κs = c .before .before .before .before .before .before .before .before .pre .at .asking .holds .long
-
-switch-place-requires : tie.Need-switch-place-requires
-switch-place-requires c κs = switches-fit (c .switches .result) (c .before .before .before .before .before .before .before .before .before .pre .at .asking) (c .switches .ensures .is)
 
 mul-set-argument-2 : tie.Need-mul-set-argument-2
 mul-set-argument-2 c = omega (arith, switch-low (now (c .before .before .before .before .before .before .before .before .before .before .before .args .text)) (now (c .before .before .before .before .before .before .before .before .before .before .before .args .sw)) (c .before .before .switches .result) (c .before .before .before .before .before .before .read .result / 8) (c .before .switch-place .result) (c .before .before .before .before .before .before .before .before .before .before .before .pre .at .asking) (c .before .before .switches .ensures .is) (c .before .switch-place .ensures))
@@ -58,14 +25,8 @@ add-set-argument-2 c = omega (arith, switch-low (now (c .before .before .before 
 set-argument-requires-2 : tie.Need-set-argument-requires-2
 set-argument-requires-2 c κs = argument-place _ _ (c .before .before .before .before .before .before .before .before .before .before .before .pre .at .asking .holds) _ _ _ (c .before .before .before .before .before .before .before .before .before .before .before .pre .at .there) (c .before .before .before .before .before .before .before .before .before .before .before .pre .place) (omega (arith, switch-low (now (c .before .before .before .before .before .before .before .before .before .before .before .args .text)) (now (c .before .before .before .before .before .before .before .before .before .before .before .args .sw)) (c .before .before .switches .result) (c .before .before .before .before .before .before .read .result / 8) (c .before .switch-place .result) (c .before .before .before .before .before .before .before .before .before .before .before .pre .at .asking) (c .before .before .switches .ensures .is) (c .before .switch-place .ensures)))
 
-same-length-2 : tie.Need-same-length-2
-same-length-2 c = search needs
-
 returns-2 : tie.Need-returns-2
 returns-2 c = switch-put (now (c .before .before .before .before .before .before .before .before .before .before .before .before .before .before .args .text)) (now (c .before .before .before .before .before .before .before .before .before .before .before .before .before .before .args .sw)) (now (c .before .before .before .before .before .before .before .before .before .before .before .before .before .before .args .table)) (c .before .before .before .before .before .before .before .before .before .before .before .before .before .before .args .k) (c .before .before .before .before .before .before .before .before .before .before .before .before .before .before .args .j) (c .before .before .before .before .before .before .before .before .before .read .result) ((c .before .before .before .before .before .before .before .before .before .before .before .before .before .before .pre)) (c .before .before .before .before .before .before .before .before .before .read .ensures .is) (c .before .before .before .before .before .switches .result) (c .before .before .before .before .switch-place .result) (c .before .before .before .before .before .before .before .if2 .taken) (c .before .before .before .before .before .switches .ensures .is) (c .before .before .before .before .switch-place .ensures) (c .before .before .set-argument2 .ensures)
-
-same-length-3 : tie.Need-same-length-3
-same-length-3 c = search needs
 
 returns-3 : tie.Need-returns-3
 returns-3 c = none-put (now (c .before .before .before .before .before .before .before .args .text)) (now (c .before .before .before .before .before .before .before .args .sw)) (now (c .before .before .before .before .before .before .before .args .table)) (c .before .before .before .before .before .before .before .args .k) (c .before .before .before .before .before .before .before .args .j) (c .before .before .read .result) ((c .before .before .before .before .before .before .before .pre)) (c .before .before .read .ensures .is) (c .before .if1 .left) (c .if2 .left)
@@ -74,23 +35,23 @@ pub resolve-argument-spec : {M : Type 1} → statement M
 resolve-argument-spec =
     tie.close
     (tie.spec
-    mul-read
-    add-read
-    add-read-2
-    add-read-3
-    read-requires
-    label-place-requires
-    mul-set-argument
-    add-set-argument
+    (λ c. let a = c .before .before .before .before .pre in omega (arith, a .at .there, a .at .asking .holds .tabular .code-most, a .place))
+    (λ c. let a = c .before .before .before .before .pre in omega (arith, a .at .there, a .at .asking .holds .tabular .code-most, a .place))
+    (λ c. let a = c .before .before .before .before .pre in omega (arith, a .at .there, a .at .asking .holds .tabular .code-most, a .place))
+    (λ c. let a = c .before .before .before .before .pre in omega (arith, a .at .there, a .at .asking .holds .tabular .code-most, a .place))
+    (λ c κs. let a = c .before .before .before .before .pre in omega (arith, a .at .there, a .at .asking .holds .tabular .code-most, a .place, a .at .asking .holds .long))
+    (λ c κs. labels-counted _ _ (c .before .before .before .before .before .before .before .pre .at .asking .holds))
+    (λ c. omega (arith, c .before .label-place .ensures .most))
+    (λ c. omega (arith, c .before .label-place .ensures .most))
     set-argument-requires
-    same-length
+    (λ c. search needs)
     returns
-    switches-requires
-    switch-place-requires
+    (λ c κs. c .before .before .before .before .before .before .before .before .pre .at .asking .holds .long)
+    (λ c κs. switches-fit (c .switches .result) (c .before .before .before .before .before .before .before .before .before .pre .at .asking) (c .switches .ensures .is))
     mul-set-argument-2
     add-set-argument-2
     set-argument-requires-2
-    same-length-2
+    (λ c. search needs)
     returns-2
-    same-length-3
+    (λ c. search needs)
     returns-3)

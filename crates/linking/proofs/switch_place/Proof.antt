@@ -15,23 +15,8 @@ Inv-loop text sw count m k₀ k = (k ≤ count) × Missed (name-hit text sw m) k
 abbrev μ-loop : tie.MeasureT-loop
 μ-loop text sw count m k₀ k = count - k
 
-loop-holds : tie.Need-loop-holds Inv-loop μ-loop
-loop-holds c = (omega arith, missed-none (name-hit (now (c .before .before .args .text)) (now (c .before .before .args .sw)) (c .before .before .args .m)))
-
-read-requires : tie.Need-read-requires Inv-loop μ-loop
-read-requires c κs = omega (arith, c .loop-test .taken, (c .before .before .before .before .pre))
-
-same-name-requires : tie.Need-same-name-requires Inv-loop μ-loop
-same-name-requires c κs = search needs
-
 returns : tie.Need-returns Inv-loop μ-loop
 returns c = place-found (now (c .before .before .before .before .before .before .before .args .text)) (now (c .before .before .before .before .before .before .before .args .sw)) (c .before .before .before .before .before .before .before .args .m) (c .before .before .before .before .before .before .before .args .count) (c .before .before .before .before .loop .k) ((c .before .before .before .before .before .before .before .pre)) (c .before .before .before .before .loop .inv .1) (c .before .before .before .loop-test .taken) (sym (rw (c .before .before .read .ensures .is) at (c .before .same-name .ensures)) ∙ c .if1 .taken)
-
-add-k : tie.Need-add-k Inv-loop μ-loop
-add-k c = search needs
-
-loop-less : tie.Need-loop-less Inv-loop μ-loop
-loop-less c = omega (arith, c .before .before .before .loop-test .taken)
 
 loop-again : tie.Need-loop-again Inv-loop μ-loop
 loop-again c = (omega (arith, c .before .before .before .loop-test .taken), missed-more (name-hit (now (c .before .before .before .before .before .before .before .args .text)) (now (c .before .before .before .before .before .before .before .args .sw)) (c .before .before .before .before .before .before .before .args .m)) (c .before .before .before .before .loop .k) (c .before .before .before .before .loop .inv .1) (sym (rw (c .before .before .read .ensures .is) at (c .before .same-name .ensures)) ∙ c .if1 .left))
@@ -45,11 +30,11 @@ switch-place-spec =
     (tie.spec
     Inv-loop
     μ-loop
-    loop-holds
-    read-requires
-    same-name-requires
+    (λ c. let a = c .before .before .args in (omega arith, missed-none (name-hit (now (a .text)) (now (a .sw)) (a .m))))
+    (λ c κs. omega (arith, c .loop-test .taken, (c .before .before .before .before .pre)))
+    (λ c κs. search needs)
     returns
-    add-k
-    loop-less
+    (λ c. search needs)
+    (λ c. omega (arith, c .before .before .before .loop-test .taken))
     loop-again
     returns-2)

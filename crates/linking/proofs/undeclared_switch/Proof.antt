@@ -1,18 +1,17 @@
 -- `linking::undeclared_switch` meets its contract.
 use denote.Ref.{now}
 use Rattle.linking.proofs.Undeclared.{switches-found}
-use Rattle.linking.proofs.Walks.{asking}
+use Rattle.linking.proofs.Faults.{asking}
 use Rattle.linking.proofs.undeclared_switch.Statement.{statement}
 use Rattle.linking.proofs.undeclared_switch.Tie as tie
-
-code-fault-requires : tie.Need-code-fault-requires
-code-fault-requires c κs = asking (c .before .before .before .before .pre)
-
-code-fault-requires-2 : tie.Need-code-fault-requires-2
-code-fault-requires-2 c κs = asking (c .before .before .before .before .before .pre)
 
 returns : tie.Need-returns
 returns c = switches-found (now (c .before .before .before .before .before .before .args .text)) (now (c .before .before .before .before .before .before .args .table)) (now (c .before .before .before .before .before .before .args .sw)) (now (c .before .before .before .before .before .before .args .en)) (c .before .code-fault .ensures) (c .code-fault2 .ensures)
 
 pub undeclared-switch-spec : {M : Type 1} → statement M
-undeclared-switch-spec = tie.close (tie.spec code-fault-requires code-fault-requires-2 returns)
+undeclared-switch-spec =
+    tie.close
+    (tie.spec
+    (λ c κs. asking (c .before .before .before .before .pre))
+    (λ c κs. asking (c .before .before .before .before .before .pre))
+    returns)

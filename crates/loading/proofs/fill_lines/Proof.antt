@@ -16,44 +16,14 @@ Inv-loop text lines₀ line₀ i₀ lines line i = Filling text i line lines (le
 abbrev μ-loop : tie.MeasureT-loop
 μ-loop text lines₀ line₀ i₀ lines line i = length text - i
 
-loop-holds : tie.Need-loop-holds Inv-loop μ-loop
-loop-holds c = let a = c .before .before .args in filling-none (now (a .text)) (now (a .lines))
-
-cast-lines : tie.Need-cast-lines Inv-loop μ-loop
-cast-lines c = omega (arith, line-low (c .before .before .before .before .pre) (c .before .loop .inv))
-
-mul-lines : tie.Need-mul-lines Inv-loop μ-loop
-mul-lines c = search needs
-
-slice-write-lines : tie.Need-slice-write-lines Inv-loop μ-loop
-slice-write-lines c = omega (arith, c .before .before .before .before .pre .room, c .before .loop .inv .sized, c .loop-test .taken)
-
-shared-slice-read-one-if : tie.Need-shared-slice-read-one-if Inv-loop μ-loop
-shared-slice-read-one-if c = search needs
-
-one-if-requires : tie.Need-one-if-requires Inv-loop μ-loop
-one-if-requires c κs = search needs
-
 add-line : tie.Need-add-line Inv-loop μ-loop
 add-line c =
     let h = c .before .before .before .loop in
     let f = c .before .before .before .before .before .before in
     omega (arith, line-low (f .pre) (h .inv), c .one-if .ensures, at-most-one (eqb 10 (getD (now (f .args .text)) (h .i) 0)))
 
-add-i : tie.Need-add-i Inv-loop μ-loop
-add-i c = search needs
-
-loop-less : tie.Need-loop-less Inv-loop μ-loop
-loop-less c = omega (arith, c .before .before .loop-test .taken)
-
 loop-again : tie.Need-loop-again Inv-loop μ-loop
 loop-again c = filling-next (c .before .before .before .before .before .before .pre) (c .before .before .before .loop .inv) (c .before .before .loop-test .taken) (c .one-if .ensures)
-
-same-length : tie.Need-same-length Inv-loop μ-loop
-same-length c = c .before .loop .inv .sized
-
-returns : tie.Need-returns Inv-loop μ-loop
-returns c = filling-all (c .before .before .before .before .pre) (c .before .loop .inv) (c .loop-test .left)
 
 pub fill-lines-spec : {M : Type 1} → statement M
 fill-lines-spec =
@@ -61,15 +31,15 @@ fill-lines-spec =
     (tie.spec
     Inv-loop
     μ-loop
-    loop-holds
-    cast-lines
-    mul-lines
-    slice-write-lines
-    shared-slice-read-one-if
-    one-if-requires
+    (λ c. let a = c .before .before .args in filling-none (now (a .text)) (now (a .lines)))
+    (λ c. omega (arith, line-low (c .before .before .before .before .pre) (c .before .loop .inv)))
+    (λ c. search needs)
+    (λ c. omega (arith, c .before .before .before .before .pre .room, c .before .loop .inv .sized, c .loop-test .taken))
+    (λ c. search needs)
+    (λ c κs. search needs)
     add-line
-    add-i
-    loop-less
+    (λ c. search needs)
+    (λ c. omega (arith, c .before .before .loop-test .taken))
     loop-again
-    same-length
-    returns)
+    (λ c. c .before .loop .inv .sized)
+    (λ c. filling-all (c .before .before .before .before .pre) (c .before .loop .inv) (c .loop-test .left)))

@@ -6,35 +6,17 @@ use Rattle.loading.proofs.Outcomes.{loadable, load-accepted, load-refus
 use Rattle.loading.proofs.load_lined.Statement.{statement}
 use Rattle.loading.proofs.load_lined.Tie as tie
 
-clear-table-requires : tie.Need-clear-table-requires
-clear-table-requires c κs = c .before .before .before .before .pre .long
-
-load-text-requires : tie.Need-load-text-requires
-load-text-requires c κs = loadable (c .before .before .before .before .before .before .before .before .pre) (c .before .before .before .clear-table .ensures)
-
-enum-told : tie.Need-enum-told
-enum-told c = search needs
-
-enum-known-number : tie.Need-enum-known-number
-enum-known-number c = search needs
-
 refuse-requires : tie.Need-refuse-requires
 refuse-requires c κs =
     let t = c .before .before .before .before .before .before in
     let z = t .before .before .before .before in
     omega (arith, t .load-text .kept .1 .1 .0, z .clear-table .kept .0, z .before .before .before .before .before .pre .long)
 
-same-length : tie.Need-same-length
-same-length c = search needs
-
 returns : tie.Need-returns
 returns c =
     let t = c .before .before .before .before in
     let z = t .before .before .before .before in
     load-accepted (z .before .before .before .before .before .pre) (z .clear-table .ensures) (t .load-text .ensures) (c .enum-told .given .1) refl refl
-
-same-length-2 : tie.Need-same-length-2
-same-length-2 c = search needs
 
 returns-2 : tie.Need-returns-2
 returns-2 c =
@@ -47,12 +29,12 @@ pub load-lined-spec : {M : Type 1} → statement M
 load-lined-spec =
     tie.close
     (tie.spec
-    clear-table-requires
-    load-text-requires
-    enum-told
-    enum-known-number
+    (λ c κs. c .before .before .before .before .pre .long)
+    (λ c κs. loadable (c .before .before .before .before .before .before .before .before .pre) (c .before .before .before .clear-table .ensures))
+    (λ c. search needs)
+    (λ c. search needs)
     refuse-requires
-    same-length
+    (λ c. search needs)
     returns
-    same-length-2
+    (λ c. search needs)
     returns-2)

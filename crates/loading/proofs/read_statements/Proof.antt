@@ -14,20 +14,8 @@ Inv-loop text lines names₀ table₀ switches₀ entries₀ p₀ n₀ names tab
 abbrev μ-loop : tie.MeasureT-loop
 μ-loop text lines names₀ table₀ switches₀ entries₀ p₀ n₀ names table switches entries p n = length text - n
 
-begin-requires : tie.Need-begin-requires Inv-loop μ-loop
-begin-requires c κs = search needs
-
 loop-holds : tie.Need-loop-holds Inv-loop μ-loop
 loop-holds c = record { going = going-none (c .before .before .before .before .before .before .before .pre) (c .begin .ensures); names-is = refl; table-is = refl; switches-is = refl; entries-is = refl }
-
-read-statement-requires : tie.Need-read-statement-requires Inv-loop μ-loop
-read-statement-requires c κs = readable (c .before .before .before .before .loop .inv .going)
-
-enum-known-r : tie.Need-enum-known-r Inv-loop μ-loop
-enum-known-r c = search needs
-
-enum-told : tie.Need-enum-told Inv-loop μ-loop
-enum-told c = search needs
 
 same-length : tie.Need-same-length Inv-loop μ-loop
 same-length c = c .before .before .before .before .before .before .before .before .before .before .read-statement .kept .1 .1 .1 .1 .0 ∙ c .before .before .before .before .before .before .before .before .before .before .before .before .before .before .before .loop .inv .names-is
@@ -81,11 +69,11 @@ read-statements-spec =
     (tie.spec
     Inv-loop
     μ-loop
-    begin-requires
+    (λ c κs. search needs)
     loop-holds
-    read-statement-requires
-    enum-known-r
-    enum-told
+    (λ c κs. readable (c .before .before .before .before .loop .inv .going))
+    (λ c. search needs)
+    (λ c. search needs)
     same-length
     same-length-2
     same-length-3

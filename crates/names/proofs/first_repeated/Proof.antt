@@ -2,33 +2,21 @@
 use borrow.Author.Needs.{needs}
 use native.Mathlib.Omega.{arith}
 use Prim.Native.Nat.{_-_}
-use Rattle.names.proofs.Lowest.{Repeating, repeating-first, repeating-more, repeating-done}
+use Rattle.names.proofs.Lowest.{Walking, walk-done, repeated-in, repeating-first, repeating-more}
 use Rattle.names.proofs.first_repeated.Statement.{statement}
 use Rattle.names.proofs.first_repeated.Tie as tie
 
 abbrev Inv-loop : tie.InvT-loop
-Inv-loop text names from to fault₀ k₀ fault k = Repeating text names from to k fault
+Inv-loop text names from to fault₀ k₀ fault k = Walking (repeated-in text names from) names from to k fault
 
 abbrev μ-loop : tie.MeasureT-loop
 μ-loop text names from to fault₀ k₀ fault k = to - k
-
-loop-holds : tie.Need-loop-holds Inv-loop μ-loop
-loop-holds c = let d = c .before .before in repeating-first (d .args .text .now) (d .args .names .now) (d .args .from) (d .args .to) (d .pre .most)
 
 met-before-requires : tie.Need-met-before-requires Inv-loop μ-loop
 met-before-requires c κs =
     let p = c .before .before .before .before .pre in
     let l = c .loop-test .taken in
     record { most = omega (arith, p .most); marked = λ j h. p .marked j (omega arith) }
-
-lower-requires : tie.Need-lower-requires Inv-loop μ-loop
-lower-requires c κs = search needs
-
-add-k : tie.Need-add-k Inv-loop μ-loop
-add-k c = search needs
-
-loop-less : tie.Need-loop-less Inv-loop μ-loop
-loop-less c = omega (arith, c .before .before .loop-test .taken)
 
 loop-again : tie.Need-loop-again Inv-loop μ-loop
 loop-again c =
@@ -38,7 +26,7 @@ loop-again c =
 returns : tie.Need-returns Inv-loop μ-loop
 returns c =
     let d = c .before .before .before .before in
-    repeating-done (d .args .text .now) (d .args .names .now) (d .args .from) (d .args .to) (d .pre .most) (c .before .loop .inv) (c .loop-test .left)
+    walk-done (repeated-in (d .args .text .now) (d .args .names .now) (d .args .from)) (d .args .names .now) (d .args .from) (d .args .to) (d .pre .most) (c .before .loop .inv) (c .loop-test .left)
 
 pub first-repeated-spec : {M : Type 1} → statement M
 first-repeated-spec =
@@ -46,10 +34,10 @@ first-repeated-spec =
     (tie.spec
     Inv-loop
     μ-loop
-    loop-holds
+    (λ c. let d = c .before .before in repeating-first (d .args .text .now) (d .args .names .now) (d .args .from) (d .args .to) (d .pre .most))
     met-before-requires
-    lower-requires
-    add-k
-    loop-less
+    (λ c κs. search needs)
+    (λ c. search needs)
+    (λ c. omega (arith, c .before .before .loop-test .taken))
     loop-again
     returns)

@@ -12,29 +12,11 @@ Inv-loop text names count at len k₀ k = Seeking text names count at len k
 abbrev μ-loop : tie.MeasureT-loop
 μ-loop text names count at len k₀ k = count - k
 
-loop-holds : tie.Need-loop-holds Inv-loop μ-loop
-loop-holds c = seeking-first ((c .before .before .pre))
-
-read-requires : tie.Need-read-requires Inv-loop μ-loop
-read-requires c κs = omega (arith, c .before .before .before .before .pre .most, c .loop-test .taken)
-
-name-is-requires : tie.Need-name-is-requires Inv-loop μ-loop
-name-is-requires c κs = fitting ((c .before .before .before .before .before .pre)) (c .before .loop-test .taken) (c .read .ensures .is)
-
 returns : tie.Need-returns Inv-loop μ-loop
 returns c = seek-found ((c .before .before .before .before .before .before .before .pre)) (c .before .before .before .before .loop .inv) (c .before .before .before .loop-test .taken) (c .before .before .read .ensures .is) (c .before .name-is .ensures) (c .if1 .taken)
 
-add-k : tie.Need-add-k Inv-loop μ-loop
-add-k c = search needs
-
-loop-less : tie.Need-loop-less Inv-loop μ-loop
-loop-less c = omega (arith, c .before .before .before .loop-test .taken)
-
 loop-again : tie.Need-loop-again Inv-loop μ-loop
 loop-again c = seek-on ((c .before .before .before .before .before .before .before .pre)) (c .before .before .before .before .loop .inv) (c .before .before .before .loop-test .taken) (c .before .before .read .ensures .is) (c .before .name-is .ensures) (c .if1 .left)
-
-returns-2 : tie.Need-returns-2 Inv-loop μ-loop
-returns-2 c = seek-none ((c .before .before .before .before .pre)) (c .before .loop .inv) (c .loop-test .left)
 
 pub has-name-spec : {M : Type 1} → statement M
 has-name-spec =
@@ -42,11 +24,11 @@ has-name-spec =
     (tie.spec
     Inv-loop
     μ-loop
-    loop-holds
-    read-requires
-    name-is-requires
+    (λ c. seeking-first ((c .before .before .pre)))
+    (λ c κs. omega (arith, c .before .before .before .before .pre .most, c .loop-test .taken))
+    (λ c κs. fitting ((c .before .before .before .before .before .pre)) (c .before .loop-test .taken) (c .read .ensures .is))
     returns
-    add-k
-    loop-less
+    (λ c. search needs)
+    (λ c. omega (arith, c .before .before .before .loop-test .taken))
     loop-again
-    returns-2)
+    (λ c. seek-none ((c .before .before .before .before .pre)) (c .before .loop .inv) (c .loop-test .left)))

@@ -7,12 +7,6 @@ use Rattle.names.proofs.Lowest.{own-sought, own-asked}
 use Rattle.names.proofs.met_before.Statement.{statement}
 use Rattle.names.proofs.met_before.Tie as tie
 
-read-requires : tie.Need-read-requires
-read-requires c κs = omega (arith, c .before .before .pre .most)
-
-has-name-requires : tie.Need-has-name-requires
-has-name-requires c κs = own-sought (c .before .before .before .pre) (c .read .ensures .is)
-
 returns : tie.Need-returns
 returns c =
     let d = c .before .before .before .before .before in
@@ -26,4 +20,10 @@ returns-2 c =
     sym (own-asked s (names-of s (take (d .args .k) (d .args .names .now))) (c .before .before .read .ensures .is) (c .before .has-name .ensures) (c .if1 .left))
 
 pub met-before-spec : {M : Type 1} → statement M
-met-before-spec = tie.close (tie.spec read-requires has-name-requires returns returns-2)
+met-before-spec =
+    tie.close
+    (tie.spec
+    (λ c κs. omega (arith, c .before .before .pre .most))
+    (λ c κs. own-sought (c .before .before .before .pre) (c .read .ensures .is))
+    returns
+    returns-2)

@@ -4,9 +4,6 @@ use Rattle.syntax.specs.Items.{ends-text}
 use Rattle.scanner.proofs.ends_text.Statement.{statement}
 use Rattle.scanner.proofs.ends_text.Tie as tie
 
-returns : tie.Need-returns
-unfolding ends-text
-returns c = refl
-
 pub ends-text-spec : {M : Type 1} → statement M
-ends-text-spec = tie.close (tie.spec returns)
+unfolding ends-text
+ends-text-spec = tie.close (tie.spec (λ c. refl))

@@ -10,12 +10,6 @@ use Rattle.scanner.proofs.Loops.{pass-separator, pass-none, pass-commen
 use Rattle.scanner.proofs.pass.Statement.{statement}
 use Rattle.scanner.proofs.pass.Tie as tie
 
-shared-slice-read-b : tie.Need-shared-slice-read-b
-shared-slice-read-b c = search needs
-
-add-t10 : tie.Need-add-t10
-add-t10 c = search needs
-
 returns : tie.Need-returns
 returns c =
     let s = now (c .before .before .before .args .text) in
@@ -28,20 +22,11 @@ returns-2 c =
     let n = c .before .before .before .before .args .n in
     record { from = omega arith; most = omega arith; opening = λ e. absurd (false≢true e); is = rw (eq-eqb n n refl) (pass-none s n (c .before .before .before .before .pre) (omega (arith, c .before .before .shared-slice-known2 .given n)) (c .before .if1 .left) (rw (ne-eqb _ _ (c .if2 .taken)) refl)) }
 
-add-peek : tie.Need-add-peek
-add-peek c = search needs
-
-peek-requires : tie.Need-peek-requires
-peek-requires c κs = search needs
-
 returns-3 : tie.Need-returns-3
 returns-3 c =
     let s = now (c .before .before .before .before .before .before .args .text) in
     let n = c .before .before .before .before .before .before .args .n in
     record { from = omega arith; most = omega arith; opening = λ e. absurd (false≢true e); is = rw (eq-eqb n n refl) (pass-none s n (c .before .before .before .before .before .before .pre) (omega (arith, c .before .before .before .before .shared-slice-known2 .given n)) (c .before .before .before .if1 .left) (rw (eq-eqb _ _ (c .before .before .if2 .left), ← c .before .peek .ensures, ne-eqb _ _ (c .if3 .taken)) refl)) }
-
-add-past-comment : tie.Need-add-past-comment
-add-past-comment c = search needs
 
 past-comment-requires : tie.Need-past-comment-requires
 past-comment-requires c κs =
@@ -67,14 +52,14 @@ pub pass-spec : {M : Type 1} → statement M
 pass-spec =
     tie.close
     (tie.spec
-    shared-slice-read-b
-    add-t10
+    (λ c. search needs)
+    (λ c. search needs)
     returns
     returns-2
-    add-peek
-    peek-requires
+    (λ c. search needs)
+    (λ c κs. search needs)
     returns-3
-    add-past-comment
+    (λ c. search needs)
     past-comment-requires
     returns-4
     returns-5)

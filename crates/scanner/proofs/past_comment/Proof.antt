@@ -18,15 +18,6 @@ Inv-loop text n i₀ i = (n ≤ i) × (i ≤ length text) × ((p : ℕ) → gap-
 abbrev μ-loop : tie.MeasureT-loop
 μ-loop text n i₀ i = length text - i
 
-loop-holds : tie.Need-loop-holds Inv-loop μ-loop
-loop-holds c = (search needs, search needs, λ p. refl)
-
-closes-at-requires : tie.Need-closes-at-requires Inv-loop μ-loop
-closes-at-requires c κs = search needs
-
-add-t7 : tie.Need-add-t7 Inv-loop μ-loop
-add-t7 c = search needs
-
 returns : tie.Need-returns Inv-loop μ-loop
 returns c =
     let h = c .before .before .before .loop in
@@ -34,12 +25,6 @@ returns c =
     let l = c .before .before .loop-test .taken in
     let e = sym (c .before .closes-at .ensures) ∙ c .if1 .taken in
     record { from = omega arith; most = omega (arith, comment-closed s (h .i) 0 l e .0); is = λ p. sym (h .inv .2 p) ∙ sym (comment-closed s (h .i) p l e .1) }
-
-add-i : tie.Need-add-i Inv-loop μ-loop
-add-i c = search needs
-
-loop-less : tie.Need-loop-less Inv-loop μ-loop
-loop-less c = search needs
 
 loop-again : tie.Need-loop-again Inv-loop μ-loop
 loop-again c =
@@ -58,11 +43,11 @@ past-comment-spec =
     (tie.spec
     Inv-loop
     μ-loop
-    loop-holds
-    closes-at-requires
-    add-t7
+    (λ c. (search needs, search needs, λ p. refl))
+    (λ c κs. search needs)
+    (λ c. search needs)
     returns
-    add-i
-    loop-less
+    (λ c. search needs)
+    (λ c. search needs)
     loop-again
     returns-2)

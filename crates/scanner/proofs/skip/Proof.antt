@@ -18,12 +18,6 @@ Inv-loop text n i₀ i = (n ≤ i) × (i ≤ length text) × (gap-at text i ≡ 
 abbrev μ-loop : tie.MeasureT-loop
 μ-loop text n i₀ i = length text - i
 
-loop-holds : tie.Need-loop-holds Inv-loop μ-loop
-loop-holds c = (search needs, search needs, refl)
-
-pass-requires : tie.Need-pass-requires Inv-loop μ-loop
-pass-requires c κs = search needs
-
 returns : tie.Need-returns Inv-loop μ-loop
 returns c =
     let h = c .before .before .before .loop in
@@ -49,9 +43,6 @@ returns-2 c =
       settled = sym (h .inv .2) ∙ rw (c .if2 .taken) refl;
     }
 
-loop-less : tie.Need-loop-less Inv-loop μ-loop
-loop-less c = search needs
-
 loop-again : tie.Need-loop-again Inv-loop μ-loop
 loop-again c =
     let h = c .before .before .before .before .before .loop in
@@ -75,10 +66,10 @@ skip-spec =
     (tie.spec
     Inv-loop
     μ-loop
-    loop-holds
-    pass-requires
+    (λ c. (search needs, search needs, refl))
+    (λ c κs. search needs)
     returns
     returns-2
-    loop-less
+    (λ c. search needs)
     loop-again
     returns-3)

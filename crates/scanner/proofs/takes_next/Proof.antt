@@ -4,9 +4,6 @@ use Rattle.syntax.specs.Items.{takes-next}
 use Rattle.scanner.proofs.takes_next.Statement.{statement}
 use Rattle.scanner.proofs.takes_next.Tie as tie
 
-returns : tie.Need-returns
-unfolding takes-next
-returns c = refl
-
 pub takes-next-spec : {M : Type 1} → statement M
-takes-next-spec = tie.close (tie.spec returns)
+unfolding takes-next
+takes-next-spec = tie.close (tie.spec (λ c. refl))

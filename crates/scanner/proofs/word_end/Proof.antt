@@ -16,26 +16,11 @@ Inv-loop text n i₀ i = (n ≤ i) × (i ≤ length text) × (i + word-length (d
 abbrev μ-loop : tie.MeasureT-loop
 μ-loop text n i₀ i = length text - i
 
-loop-holds : tie.Need-loop-holds Inv-loop μ-loop
-loop-holds c = (search needs, search needs, refl)
-
-shared-slice-read-is-word : tie.Need-shared-slice-read-is-word Inv-loop μ-loop
-shared-slice-read-is-word c = search needs
-
-is-word-requires : tie.Need-is-word-requires Inv-loop μ-loop
-is-word-requires c κs = search needs
-
 returns : tie.Need-returns Inv-loop μ-loop
 returns c =
     let h = c .before .before .before .before .loop in
     let s = now (c .before .before .before .before .before .before .args .text) in
     record { from = h .inv .0; most = h .inv .1; is = word-stop s (h .i) (c .before .before .before .loop-test .taken) (sym (c .before .is-word .ensures) ∙ not-true _ (c .if1 .taken)) ∙ h .inv .2 }
-
-add-i : tie.Need-add-i Inv-loop μ-loop
-add-i c = search needs
-
-loop-less : tie.Need-loop-less Inv-loop μ-loop
-loop-less c = search needs
 
 loop-again : tie.Need-loop-again Inv-loop μ-loop
 loop-again c =
@@ -54,11 +39,11 @@ word-end-spec =
     (tie.spec
     Inv-loop
     μ-loop
-    loop-holds
-    shared-slice-read-is-word
-    is-word-requires
+    (λ c. (search needs, search needs, refl))
+    (λ c. search needs)
+    (λ c κs. search needs)
     returns
-    add-i
-    loop-less
+    (λ c. search needs)
+    (λ c. search needs)
     loop-again
     returns-2)

@@ -11,27 +11,12 @@ use Rattle.syntax.specs.Items.{char-of, takes-next}
 use Rattle.spelling.proofs.put_char.Statement.{statement}
 use Rattle.spelling.proofs.put_char.Tie as tie
 
-takes-next-requires : tie.Need-takes-next-requires
-takes-next-requires c κs = search needs
-
-returns : tie.Need-returns
-returns c = puts-none (now (c .before .before .before .args .out)) (c .before .before .before .args .j) (c .before .before .before .args .star) (c .before .before .before .args .b) (sym (c .before .takes-next .ensures) ∙ c .if1 .taken)
-
-char-of-requires : tie.Need-char-of-requires
-char-of-requires c κs = search needs
-
 slice-write-out : tie.Need-slice-write-out
 slice-write-out c =
     let a = c .before .before .before .before .args in
     let e : takes-next (a .star) (a .b) ≡ false = sym (c .before .before .takes-next .ensures) ∙ c .before .if1 .left in
     let one : length (char-of (a .star) (a .b)) ≡ 1 = given (a .star) (a .b) ∙ rw e refl in
     omega (arith, c .before .before .before .before .pre)
-
-add-result : tie.Need-add-result
-add-result c = search needs
-
-same-length : tie.Need-same-length
-same-length c = search needs
 
 returns-2 : tie.Need-returns-2
 returns-2 c =
@@ -44,10 +29,10 @@ pub put-char-spec : {M : Type 1} → statement M
 put-char-spec =
     tie.close
     (tie.spec
-    takes-next-requires
-    returns
-    char-of-requires
+    (λ c κs. search needs)
+    (λ c. let a = c .before .before .before .args in puts-none (now (a .out)) (a .j) (a .star) (a .b) (sym (c .before .takes-next .ensures) ∙ c .if1 .taken))
+    (λ c κs. search needs)
     slice-write-out
-    add-result
-    same-length
+    (λ c. search needs)
+    (λ c. search needs)
     returns-2)

@@ -16,33 +16,15 @@ Inv-loop w b found₀ i₀ found i = (i ≤ length w) × (found || any (eqb b) (
 abbrev μ-loop : tie.MeasureT-loop
 μ-loop w b found₀ i₀ found i = length w - i
 
-loop-holds : tie.Need-loop-holds Inv-loop μ-loop
-loop-holds c = (search needs, refl)
-
-shared-slice-read-found : tie.Need-shared-slice-read-found Inv-loop μ-loop
-shared-slice-read-found c = search needs
-
-add-i : tie.Need-add-i Inv-loop μ-loop
-add-i c = search needs
-
-loop-less : tie.Need-loop-less Inv-loop μ-loop
-loop-less c = search needs
-
-loop-again : tie.Need-loop-again Inv-loop μ-loop
-loop-again c = (search needs, any-next (eqb (c .before .before .before .args .b)) _ (c .before .before .loop .i) (c .before .before .loop .found) (search needs) ∙ c .before .before .loop .inv .1)
-
-returns : tie.Need-returns Inv-loop μ-loop
-returns c = sym (any-end (eqb (c .before .before .args .b)) _ (c .before .loop .i) (c .before .loop .found) (c .loop-test .left)) ∙ c .before .loop .inv .1
-
 pub has-spec : {M : Type 1} → statement M
 has-spec =
     tie.close
     (tie.spec
     Inv-loop
     μ-loop
-    loop-holds
-    shared-slice-read-found
-    add-i
-    loop-less
-    loop-again
-    returns)
+    (λ c. (search needs, refl))
+    (λ c. search needs)
+    (λ c. search needs)
+    (λ c. search needs)
+    (λ c. let a = c .before .before .loop in (search needs, any-next (eqb (c .before .before .before .args .b)) _ (a .i) (a .found) (search needs) ∙ a .inv .1))
+    (λ c. sym (any-end (eqb (c .before .before .args .b)) _ (c .before .loop .i) (c .before .loop .found) (c .loop-test .left)) ∙ c .before .loop .inv .1))

@@ -16,38 +16,17 @@ Inv-loop w good₀ i₀ good i = (i ≤ length w) × (good && all class-letter (
 abbrev μ-loop : tie.MeasureT-loop
 μ-loop w good₀ i₀ good i = length w - i
 
-loop-holds : tie.Need-loop-holds Inv-loop μ-loop
-unfolding is-class
-loop-holds c = (search needs, rw (filled-length (c .before .args .w .now)))
-
-shared-slice-read-is-class-letter : tie.Need-shared-slice-read-is-class-letter Inv-loop μ-loop
-shared-slice-read-is-class-letter c = search needs
-
-is-class-letter-requires : tie.Need-is-class-letter-requires Inv-loop μ-loop
-is-class-letter-requires c κs = search needs
-
-add-i : tie.Need-add-i Inv-loop μ-loop
-add-i c = search needs
-
-loop-less : tie.Need-loop-less Inv-loop μ-loop
-loop-less c = search needs
-
-loop-again : tie.Need-loop-again Inv-loop μ-loop
-loop-again c = (search needs, rw (c .is-class-letter .ensures) (all-next class-letter _ (c .before .before .before .loop .i) (c .before .before .before .loop .good) (search needs) ∙ c .before .before .before .loop .inv .1))
-
-returns : tie.Need-returns Inv-loop μ-loop
-returns c = sym (all-end class-letter _ (c .before .loop .i) (c .before .loop .good) (c .loop-test .left)) ∙ c .before .loop .inv .1
-
 pub is-class-spec : {M : Type 1} → statement M
+unfolding is-class
 is-class-spec =
     tie.close
     (tie.spec
     Inv-loop
     μ-loop
-    loop-holds
-    shared-slice-read-is-class-letter
-    is-class-letter-requires
-    add-i
-    loop-less
-    loop-again
-    returns)
+    (λ c. (search needs, rw (filled-length (c .before .args .w .now))))
+    (λ c. search needs)
+    (λ c κs. search needs)
+    (λ c. search needs)
+    (λ c. search needs)
+    (λ c. let a = c .before .before .before .loop in (search needs, rw (c .is-class-letter .ensures) (all-next class-letter _ (a .i) (a .good) (search needs) ∙ a .inv .1)))
+    (λ c. sym (all-end class-letter _ (c .before .loop .i) (c .before .loop .good) (c .loop-test .left)) ∙ c .before .loop .inv .1))

@@ -3,8 +3,5 @@ use Rattle.words.proofs.Letters.{class-letters}
 use Rattle.words.proofs.is_class_letter.Statement.{statement}
 use Rattle.words.proofs.is_class_letter.Tie as tie
 
-returns : tie.Need-returns
-returns c = class-letters (c .args .b)
-
 pub is-class-letter-spec : {M : Type 1} → statement M
-is-class-letter-spec = tie.close (tie.spec returns)
+is-class-letter-spec = tie.close (tie.spec (λ c. class-letters (c .args .b)))

@@ -4,14 +4,10 @@ use borrow.Author.Needs.{needs}
 use Rattle.words.proofs.reach.Statement.{statement}
 use Rattle.words.proofs.reach.Tie as tie
 
-returns : tie.Need-returns
-returns c = search needs
-
-returns-2 : tie.Need-returns-2
-returns-2 c = search needs
-
-returns-3 : tie.Need-returns-3
-returns-3 c = (reach-rest (c .before .before .args .place) (search needs) (c .before .if1 .left) (c .if2 .left), search needs)
-
 pub reach-spec : {M : Type 1} → statement M
-reach-spec = tie.close (tie.spec returns returns-2 returns-3)
+reach-spec =
+    tie.close
+    (tie.spec
+    (λ c. search needs)
+    (λ c. search needs)
+    (λ c. (reach-rest (c .before .before .args .place) (search needs) (c .before .if1 .left) (c .if2 .left), search needs)))

@@ -14,29 +14,11 @@ Inv-loop s n₀ i₀ n i = (i ≤ length s) × (n ≤ beyond) × (size-from n (d
 abbrev μ-loop : tie.MeasureT-loop
 μ-loop s n₀ i₀ n i = length s - i
 
-returns : tie.Need-returns Inv-loop μ-loop
-returns c = size-none (c .before .before .args .s .now) (c .if1 .taken)
-
-loop-holds : tie.Need-loop-holds Inv-loop μ-loop
-loop-holds c = (search needs, search needs, size-starts (c .before .before .args .s .now) (c .if1 .left))
-
-shared-slice-read-b : tie.Need-shared-slice-read-b Inv-loop μ-loop
-shared-slice-read-b c = search needs
-
 returns-2 : tie.Need-returns-2 Inv-loop μ-loop
 returns-2 c = size-stops (c .before .before .before .before .before .before .args .s .now) (c .before .before .before .loop .i) (c .before .before .before .loop .n) (c .before .before .loop-test .taken) (digit-low _ (c .if2 .taken)) ∙ c .before .before .before .loop .inv .2
 
 returns-3 : tie.Need-returns-3 Inv-loop μ-loop
 returns-3 c = size-stops (c .before .before .before .before .before .before .before .args .s .now) (c .before .before .before .before .loop .i) (c .before .before .before .before .loop .n) (c .before .before .before .loop-test .taken) (digit-high _ (c .if3 .taken)) ∙ c .before .before .before .before .loop .inv .2
-
-grown-requires : tie.Need-grown-requires Inv-loop μ-loop
-grown-requires c κs = search needs
-
-add-i : tie.Need-add-i Inv-loop μ-loop
-add-i c = search needs
-
-loop-less : tie.Need-loop-less Inv-loop μ-loop
-loop-less c = search needs
 
 loop-again : tie.Need-loop-again Inv-loop μ-loop
 loop-again c = (search needs, c .grown .ensures .1, rw (c .grown .ensures .0) (size-goes (c .before .before .before .before .before .before .before .before .args .s .now) (c .before .before .before .before .before .loop .i) (c .before .before .before .before .before .loop .n) (c .before .before .before .before .loop-test .taken) (digit _ (c .before .before .if2 .left) (c .before .if3 .left)) ∙ c .before .before .before .before .before .loop .inv .2))
@@ -50,13 +32,13 @@ size-of-spec =
     (tie.spec
     Inv-loop
     μ-loop
-    returns
-    loop-holds
-    shared-slice-read-b
+    (λ c. size-none (c .before .before .args .s .now) (c .if1 .taken))
+    (λ c. (search needs, search needs, size-starts (c .before .before .args .s .now) (c .if1 .left)))
+    (λ c. search needs)
     returns-2
     returns-3
-    grown-requires
-    add-i
-    loop-less
+    (λ c κs. search needs)
+    (λ c. search needs)
+    (λ c. search needs)
     loop-again
     returns-4)
