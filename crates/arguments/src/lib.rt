@@ -88,16 +88,15 @@ fn no_values() -> Values
 fn with_value(v: Values, place: u8, at: usize, argument: Argument) -> Values
     ensures { λ r. ⌜ r ≡ put-at v place (record { at = at; argument = argument }) ⌝ }
 {
-    let x = Value {
-        at: at,
-        argument: argument,
-    };
     let first = v.first;
     let second = v.second;
     let third = v.third;
     if place == 0 {
         return Values {
-            first: x,
+            first: Value {
+                at: at,
+                argument: argument,
+            },
             second: second,
             third: third,
         };
@@ -105,14 +104,20 @@ fn with_value(v: Values, place: u8, at: usize, argument: Argument) -> Values
     if place == 1 {
         return Values {
             first: first,
-            second: x,
+            second: Value {
+                at: at,
+                argument: argument,
+            },
             third: third,
         };
     }
     Values {
         first: first,
         second: second,
-        third: x,
+        third: Value {
+            at: at,
+            argument: argument,
+        },
     }
 }
 

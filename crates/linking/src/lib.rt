@@ -21,6 +21,7 @@ use layout::TablePlaces;
 use statements::Fault;
 use statements::lesser;
 use statements::lower;
+use statements::rebuilt;
 
 // The names are places now, or the lowest place of a label (12) or of a switch (13) that is not declared.
 pub enum Linked {
@@ -90,7 +91,7 @@ fn note(f: Fault, fine: bool, m: usize) -> Fault
     ensures { λ r. ⌜ r ≡ joined f (cond fine [] (place-by m ∷ [])) ⌝ }
 {
     if fine {
-        return f;
+        return rebuilt(f);
     }
     lower(f, Fault::At(m / 64))
 }
@@ -129,7 +130,7 @@ fn argument_fault(
 {
     let x = cells::read(table, TablePlaces::FIRST_INSTRUCTION + 4 * k + 1 + j);
     if x % 8 != kind {
-        return f;
+        return rebuilt(f);
     }
     let m = x / 8;
     note(f, is_known(text, table, sw, kind, named, m), m)
@@ -160,7 +161,7 @@ fn instruction_fault(
         let b = argument_fault(text, table, sw, kind, named, k, 1, a);
         return argument_fault(text, table, sw, kind, named, k, 2, b);
     }
-    f
+    rebuilt(f)
 }
 
 // The lowest place where an instruction uses a name that is not declared, or that of `f`.

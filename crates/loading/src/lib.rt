@@ -56,7 +56,7 @@ fn read_statements(
             return Read::Statement(q);
         }
         n = a.next;
-        p = q;
+        p = progress::renewed(q);
     }
 }
 

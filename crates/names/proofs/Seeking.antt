@@ -2,12 +2,13 @@
 use mathlib.Core.Path.{_≡_, refl, sym, ap, subst, _∙_}
 use mathlib.Core.Bool.{Bool, true, false, _||_}
 use mathlib.Core.List.{List, _∷_}
-use Prim.Native.Nat.{ℕ, _+_, _-_, _/_, _%_, _≤_, _<_}
+use Prim.Native.Nat.{ℕ, _+_, _-_, _*_, _/_, _%_, _≤_, _<_}
 use native.Mathlib.Numerals.{add-one}
 use native.Mathlib.Omega.{arith}
 use lib.Dec.{T}
 use lib.ListN.{length, getD, take, drop, length-take, length-drop, drop-of-length-le}
 use lib.Seq.{length-take-le, getD-take, getD-drop, drop-cons}
+use Rattle.layout.specs.Cells.{four}
 use Rattle.lists.specs.Lists.{any, sameBytes}
 use Rattle.lists.specs.ListLaws.{other-length, sameBytes-eq}
 use Rattle.drafts.specs.Marks.{length-by, word-by}
@@ -33,18 +34,27 @@ module _ {s : List ℕ} {m at len : ℕ} (pre : Fitting s m at len) where
       let b : (m / 64 + len) - m / 64 ≡ m % 64 = omega arith in
       q ∙ rw (a, b) refl
 
-  -- a word of this length with another last byte
-  pub other-last : m % 64 ≡ len → 0 < len → (getD s (at + (len - 1)) 0 ≡ getD s (m / 64 + (len - 1)) 0 → ⊥) → false ≡ sameBytes (take len (drop at s)) (word-by s m)
+  -- a word of this length with other last bytes
+  pub other-end : m % 64 ≡ len → 4 ≤ len → (four (drop (at + (len - 4)) s) ≡ four (drop (m / 64 + (len - 4)) s) → ⊥) → false ≡ sameBytes (take len (drop at s)) (word-by s m)
   unfolding word-by
-  other-last e l h = go (sameBytes (take len (drop at s)) (word-by s m)) refl
+  other-end e l h = go (sameBytes (take len (drop at s)) (word-by s m)) refl
     where
-      last-of : (p n : ℕ) → len - 1 < n → getD (take n (drop p s)) (len - 1) 0 ≡ getD s (p + (len - 1)) 0
-      last-of p n q = getD-take n (drop p s) (len - 1) 0 q ∙ getD-drop p s (len - 1) 0
+      byte : List ℕ → ℕ → ℕ
+      byte w j = getD w (len - 4 + j) 0
+
+      last-byte : (p n j : ℕ) → len - 4 + j < n → getD (drop (p + (len - 4)) s) j 0 ≡ byte (take n (drop p s)) j
+      last-byte p n j q =
+          let a : p + (len - 4) + j ≡ p + (len - 4 + j) = omega arith in
+          getD-drop (p + (len - 4)) s j 0 ∙ ap (λ (i : ℕ). getD s i 0) a ∙ sym (getD-take n (drop p s) (len - 4 + j) 0 q ∙ getD-drop p s (len - 4 + j) 0)
+
+      last-four : (p n : ℕ) → len ≡ n → four (drop (p + (len - 4)) s)
+          ≡ byte (take n (drop p s)) 0 + 256 * byte (take n (drop p s)) 1 + 65536 * byte (take n (drop p s)) 2 + 16777216 * byte (take n (drop p s)) 3
+      last-four p n q = rw (last-byte p n 0 (omega arith), last-byte p n 1 (omega arith), last-byte p n 2 (omega arith), last-byte p n 3 (omega arith))
 
       go : (b : Bool) → sameBytes (take len (drop at s)) (word-by s m) ≡ b → false ≡ b
       go true q =
           let v = sameBytes-eq (take len (drop at s)) (word-by s m) (subst T (sym q) tt) in
-          absurd (h (sym (last-of at len (omega arith)) ∙ ap (λ (w : List ℕ). getD w (len - 1) 0) v ∙ last-of (m / 64) (m % 64) (omega arith)))
+          absurd (h (last-four at len refl ∙ ap (λ (w : List ℕ). byte w 0 + 256 * byte w 1 + 65536 * byte w 2 + 16777216 * byte w 3) v ∙ sym (last-four (m / 64) (m % 64) (sym e))))
       go false q = refl
 
 -- the names from the k-th on

@@ -7,10 +7,11 @@ ghost use Rattle.lists.specs.Lists.{any, sameBytes};
 ghost use Rattle.drafts.specs.Marks.{place-by, word-by, marks-in};
 ghost use Rattle.statements.specs.StatementAt.{fault-of};
 ghost use Rattle.names.specs.Names.{Fitting, Sought, names-of, Askable, own-repeated, repeated-by, Repeatable};
+use packed::cell_of;
 use statements::Fault;
 use statements::lower;
 
-// Whether the `len` bytes at `at` are the word of a mark. Most words differ in their length or in their last byte.
+// Whether the `len` bytes at `at` are the word of a mark. Most words differ in their length or in their last bytes.
 fn name_is(text: &[u8], m: usize, at: usize, len: usize) -> bool
     requires { ⌜ Fitting (now text) m at len ⌝ }
     ensures { λ r. ⌜ r ≡ sameBytes (take len (drop at (now (text .entry)))) (word-by (now (text .entry)) m) ⌝ }
@@ -19,8 +20,8 @@ fn name_is(text: &[u8], m: usize, at: usize, len: usize) -> bool
         return false;
     }
     let from = m / 64;
-    if 0 < len {
-        if text[at + (len - 1)] != text[from + (len - 1)] {
+    if 4 <= len {
+        if cell_of(text, at + (len - 4)) != cell_of(text, from + (len - 4)) {
             return false;
         }
     }

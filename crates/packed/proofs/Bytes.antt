@@ -34,6 +34,10 @@ pub and-true : (a : Bool) → a ≡ (a && true)
 and-true true = refl
 and-true false = refl
 
+and-false : (a : Bool) → (a && false) ≡ false
+and-false true = refl
+and-false false = refl
+
 module _ (x v₀ v₁ v₂ v₃ : ℕ) (x-fits : x < 4294967296) (h₀ : v₀ < 256) (h₁ : v₁ < 256) (h₂ : v₂ < 256) (h₃ : v₃ < 256) where
   abbrev b₀ : ℕ
   b₀ = x % 256
@@ -164,6 +168,11 @@ module _ (l w : List ℕ) (bytes : (j : ℕ) → getD w j 0 < 256) where
         let d : drop q l ≡ getD l q 0 ∷ drop (q + 1) l = next-byte l q h in
         rw d (ap (λ (z : List ℕ). sameBytes z (drop (4 * q) w)) (take-append-le (length w - 4 * q) (unfours (getD l q 0 ∷ [])) (unfours (drop (q + 1) l)) (omega arith)))
 
+  -- what is found at fault behind cell q is at fault in the whole
+  pub same-wrong : (q : ℕ) → q ≤ length l → 4 * q ≤ length w → ((j : ℕ) → j < length l → getD l j 0 < 4294967296) → left-same l w q ≡ false → left-same l w 0 ≡ false
+  same-wrong zero h k fits e = e
+  same-wrong (suc q) h k fits e = same-wrong q (omega arith) (omega arith) fits (same-turn q (omega arith) (omega arith) (fits q (omega arith)) ∙ rw (add-one q, e) (and-false (eqb (getD l q 0) (four (drop (4 * q) w)))))
+
   pub same-end : (q : ℕ) → 4 * q ≡ length w → left-same l w q ≡ true
   same-end q e = let z : length w - 4 * q ≡ 0 = omega arith in rw (z, last-bytes w (4 * q) (omega arith))
 
@@ -178,6 +187,38 @@ module _ (c : List ℕ) (at : ℕ) (inside : at + 15 ≤ 8192) where
 
   pub fifteen-cell : (q : ℕ) → q < 15 → getD (fifteen c at) q 0 ≡ getD c (at + q) 0
   fifteen-cell q h = getD-take 15 (drop at (table-of c)) q 0 h ∙ getD-drop at (table-of c) q 0 ∙ getD-take 8192 c (at + q) 0 (omega arith)
+
+-- a word compared with them from its end on
+module _ (c : List ℕ) (at : ℕ) (inside : at + 15 ≤ 8192) (long : 8192 ≤ length c) (cells : (j : ℕ) → getD c j 0 < 4294967296)
+    (w : List ℕ) (bytes : (j : ℕ) → getD w j 0 < 256) (short : length w ≤ 60) where
+  abbrev whole : Bool
+  whole = sameBytes (take (length w) (unfours (fifteen c at))) w
+
+  cell-fits : (j : ℕ) → j < length (fifteen c at) → getD (fifteen c at) j 0 < 4294967296
+  cell-fits j h =
+      let l = fifteen-long c at inside long in
+      rw (fifteen-cell c at inside j (omega (arith, l))) (cells (at + j))
+
+  pub end-wrong : (q : ℕ) → 4 * q ≤ length w → left-same (fifteen c at) w q ≡ false → false ≡ whole
+  end-wrong q h e =
+      let l = fifteen-long c at inside long in
+      sym (same-start (fifteen c at) w ∙ same-wrong (fifteen c at) w bytes q (omega (arith, l)) h cell-fits e)
+
+  pub end-right : (q : ℕ) → q ≡ 0 → left-same (fifteen c at) w q ≡ true → true ≡ whole
+  end-right q z e = sym (same-start (fifteen c at) w ∙ ap (left-same (fifteen c at) w) (sym z) ∙ e)
+
+  module _ (q : ℕ) (h : 4 * q + 4 ≤ length w) (x : ℕ) (is : x ≡ four (drop (4 * q) w)) where
+    there : q < length (fifteen c at)
+    there = let l = fifteen-long c at inside long in omega (arith, l)
+
+    cell-is : getD (fifteen c at) q 0 ≡ getD c (at + q) 0
+    cell-is = fifteen-cell c at inside q (omega arith)
+
+    pub cell-wrong : (getD c (at + q) 0 ≡ x → ⊥) → false ≡ whole
+    cell-wrong e = end-wrong q (omega arith) (same-off (fifteen c at) w bytes q there (cell-fits q there) h (λ z. e (sym cell-is ∙ z ∙ sym is)))
+
+    pub cell-right : getD c (at + q) 0 ≡ x → left-same (fifteen c at) w (q + 1) ≡ true → left-same (fifteen c at) w q ≡ true
+    cell-right e f = same-on (fifteen c at) w bytes q there (cell-fits q there) h (cell-is ∙ e ∙ is) ∙ f
 
 -- ---- characters, cut to those that there are
 

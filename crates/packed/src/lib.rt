@@ -1,7 +1,7 @@
 // Characters in the cells of a program table: four to a cell, the first in the lowest bits; a name or a text has 15 cells.
 ghost use mathlib.Core.Path.{_≡_};
 ghost use mathlib.Core.List.{[], _∷_, _++_};
-ghost use Prim.Native.Nat.{_+_, _-_, _≤_, _<_, min};
+ghost use Prim.Native.Nat.{_+_, _-_, _*_, _≤_, _<_, min};
 ghost use lib.ListN.{length, take, drop};
 ghost use Rattle.cells.specs.Cells.{Number};
 ghost use Rattle.layout.specs.Cells.{four, unfours};
@@ -34,7 +34,7 @@ fn cut(n: usize) -> usize
 }
 
 // The four bytes of `word` from `k` on, as a cell holds them.
-fn cell_of(word: &[u8], k: usize) -> u32
+pub fn cell_of(word: &[u8], k: usize) -> u32
     requires { ⌜ k + 4 ≤ length (now word) ⌝ }
     ensures { λ r. ⌜ r ≡ four (drop k (now (word .entry))) ⌝ }
 {
@@ -63,23 +63,33 @@ fn rest_is(x: u32, word: &[u8], k: usize) -> bool
     x % 16777216 == two + 65536 * wide(word[k + 2])
 }
 
-// Whether the first characters from cell `at` on, as many as `word` has, are those of `word`.
+// Whether the characters of `word` behind its first `q` fours, fewer than four, are the first in cell `q` from `at` on.
+fn end_is(table: &[u32], at: usize, q: usize, word: &[u8]) -> bool
+    requires { ⌜ Spelling (now table) at (length (now word)) × Rest (4 * q) (length (now word)) ⌝ }
+    ensures { λ r. ⌜ r ≡ sameBytes (take (length (now (word .entry)) - 4 * q) (unfours (drop q (take 15 (drop at (table-of (now (table .entry)))))))) (drop (4 * q) (now (word .entry))) ⌝ }
+{
+    if 4 * q == word.len() {
+        return true;
+    }
+    rest_is(table[at + q], word, 4 * q)
+}
+
+// Whether the first characters from cell `at` on, as many as `word` has, are those of `word`: from the last ones on, in which most words differ.
 fn chars_are(table: &[u32], at: usize, word: &[u8]) -> bool
     requires { ⌜ Spelling (now table) at (length (now word)) ⌝ }
     ensures { λ r. ⌜ r ≡ sameBytes (chars-in (table-of (now (table .entry))) (length (now (word .entry))) at) (now (word .entry)) ⌝ }
 {
-    let n = word.len();
-    let mut q = 0;
-    while 4 * q + 4 <= n {
+    let mut q = word.len() / 4;
+    if !end_is(table, at, q, word) {
+        return false;
+    }
+    while 0 < q {
+        q -= 1;
         if table[at + q] != cell_of(word, 4 * q) {
             return false;
         }
-        q += 1;
     }
-    if 4 * q == n {
-        return true;
-    }
-    rest_is(table[at + q], word, 4 * q)
+    true
 }
 
 // Whether the `n` characters from cell `at` on are `word`.

@@ -15,6 +15,7 @@ use heads::instr_of;
 use names::lowest_mark;
 use statements::Fault;
 use statements::lower;
+use statements::rebuilt;
 use statements::stops;
 
 // Whether KONS and KONP were met, the place of a KONP before any KONS, and the lowest place at fault.
@@ -50,6 +51,28 @@ pub fn begin() -> Progress
             fault: Fault::Clear,
         },
         ended: Fault::Clear,
+    }
+}
+
+// The same, with its faults made from their parts.
+pub fn renewed(p: Progress) -> Progress
+    ensures { λ r. ⌜ r ≡ p ⌝ }
+{
+    let c = p.closing;
+    let early = c.early;
+    let fault = c.fault;
+    let ended = p.ended;
+    Progress {
+        section: p.section,
+        names: p.names,
+        waiting: p.waiting,
+        closing: Closing {
+            kons: c.kons,
+            konp: c.konp,
+            early: rebuilt(early),
+            fault: rebuilt(fault),
+        },
+        ended: rebuilt(ended),
     }
 }
 

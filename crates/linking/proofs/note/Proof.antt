@@ -15,6 +15,7 @@ pub note-spec : {M : Type 1} → statement M
 note-spec =
     tie.close
     (tie.spec
-    (λ c. rw (c .if1 .taken) (joined-none (c .before .args .f)))
+    (λ c κs. search needs)
+    (λ c. rw (c .before .if1 .taken) (c .rebuilt .ensures ∙ joined-none (c .before .before .args .f)))
     (λ c κs. search needs)
     returns-2)

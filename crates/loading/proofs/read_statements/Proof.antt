@@ -49,18 +49,19 @@ returns-2 c = going-last (c .before .before .before .before .before .before .bef
 
 loop-less : tie.Need-loop-less Inv-loop μ-loop
 loop-less c =
-    let e = c .before .before .before .before .before .before .before .before .before .before .before .before .read-statement .ensures .ends in
-    omega (arith, e .most, e .more (c .if1 .left), (c .before .before .before .before .before .before .before .before .before .before .before .before .before .before .before .before .before .loop .inv .going) .standing .inside)
+    let e = c .before .before .before .before .before .before .before .before .before .before .before .before .before .read-statement .ensures .ends in
+    omega (arith, e .most, e .more (c .before .if1 .left), (c .before .before .before .before .before .before .before .before .before .before .before .before .before .before .before .before .before .before .loop .inv .going) .standing .inside)
 
 loop-again : tie.Need-loop-again Inv-loop μ-loop
 loop-again c =
-    let i = c .before .before .before .before .before .before .before .before .before .before .before .before .before .before .before .before .before .loop .inv in
+    let i = c .before .before .before .before .before .before .before .before .before .before .before .before .before .before .before .before .before .before .loop .inv in
+    rw (c .renewed .ensures)
     record {
-      going = going-next (i .going) (c .before .before .before .before .before .before .before .before .before .before .before .before .read-statement .ensures) (c .before .before .r .given .0 .0) (c .before .before .r .given .1) (c .if1 .left);
-      names-is = c .before .before .before .before .before .before .before .before .before .before .before .before .read-statement .kept .1 .1 .1 .1 .0 ∙ i .names-is;
-      table-is = c .before .before .before .before .before .before .before .before .before .before .before .before .read-statement .kept .1 .1 .1 .1 .1 .0 ∙ i .table-is;
-      switches-is = c .before .before .before .before .before .before .before .before .before .before .before .before .read-statement .kept .1 .1 .1 .1 .1 .1 .0 ∙ i .switches-is;
-      entries-is = c .before .before .before .before .before .before .before .before .before .before .before .before .read-statement .kept .1 .1 .1 .1 .1 .1 .1 .0 ∙ i .entries-is;
+      going = going-next (i .going) (c .before .before .before .before .before .before .before .before .before .before .before .before .before .read-statement .ensures) (c .before .before .before .r .given .0 .0) (c .before .before .before .r .given .1) (c .before .if1 .left);
+      names-is = c .before .before .before .before .before .before .before .before .before .before .before .before .before .read-statement .kept .1 .1 .1 .1 .0 ∙ i .names-is;
+      table-is = c .before .before .before .before .before .before .before .before .before .before .before .before .before .read-statement .kept .1 .1 .1 .1 .1 .0 ∙ i .table-is;
+      switches-is = c .before .before .before .before .before .before .before .before .before .before .before .before .before .read-statement .kept .1 .1 .1 .1 .1 .1 .0 ∙ i .switches-is;
+      entries-is = c .before .before .before .before .before .before .before .before .before .before .before .before .before .read-statement .kept .1 .1 .1 .1 .1 .1 .1 .0 ∙ i .entries-is;
     }
 
 pub read-statements-spec : {M : Type 1} → statement M
@@ -84,5 +85,6 @@ read-statements-spec =
     same-length-7
     same-length-8
     returns-2
+    (λ c κs. search needs)
     loop-less
     loop-again)

@@ -1,4 +1,5 @@
 -- `statements::lower` meets its contract.
+use mathlib.Core.Path.{_∙_}
 use borrow.Author.Needs.{needs}
 use Rattle.statements.specs.FaultLaws.{lower-none, lower-one, lower-two}
 use Rattle.statements.proofs.lower.Statement.{statement}
@@ -12,10 +13,11 @@ lower-spec =
     tie.close
     (tie.spec
     (λ c. search needs)
+    (λ c κs. search needs)
     (λ c. search needs)
     (λ c. search needs)
     (λ c. search needs)
     (λ c κs. search needs)
-    (λ c. lower-none (c .before .before .args .a) (c .before .before .args .b) (c .enum-told .given .1))
+    (λ c. let d = c .before .before .before .args in c .rebuilt .ensures ∙ lower-none (d .a) (d .b) (c .before .enum-told .given .1))
     (λ c. let d = c .before .before .before .before .before .args in lower-one (d .a) (d .b) (c .before .before .before .a .given .1) (c .enum-told2 .given .1))
     returns-3)
