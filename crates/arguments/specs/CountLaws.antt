@@ -32,9 +32,7 @@ is-argument i = not (is colon i)
 
 module _ {s : List ℕ} {n : ℕ} {t : Token} (k : Next-token s n t) (z : stops (t .sort) ≡ false) where
   pub arguments-on : arguments-in (statement-at s n) ≡ cond (not (eqb 2 (t .sort))) (item-of s t ∷ arguments-in (statement-at s (t .next))) (arguments-in (statement-at s (t .next)))
-  arguments-on =
-      ap arguments-in (at-item k z)
-      ∙ ap (λ b. cond (not b) (item-of s t ∷ arguments-in (statement-at s (t .next))) (arguments-in (statement-at s (t .next)))) (is-sort colon (k .stands))
+  arguments-on = ap arguments-in (at-item k z) ∙ rw (is-sort colon (k .stands))
 
 -- the instruction of a keyword, by its number
 pub numbered : (o : Op) → 0 < operation o .number
@@ -75,14 +73,9 @@ module _ {s : List ℕ} {n : ℕ} {h : Head} (g : Headed s n h) {m : ℕ} (e : m
     this-instruction = instruction (keyword-in (statement-at s n)) (e ∙ ap instr-of (g .keyword)) z
 
     pub has-operator : stops (h .op .sort) ≡ false
-    has-operator = go (stops (h .op .sort)) refl
-      where
-        go : (b : Bool) → stops (h .op .sort) ≡ b → b ≡ false
-        go true q = absurd (z (e ∙ ap instr-of (no-keyword g q)))
-        go false q = refl
+    has-operator =
+        elim (stops (h .op .sort)) as (λ b. stops (h .op .sort) ≡ b → b ≡ false) [ true ↦ λ q. absurd (z (e ∙ ap instr-of (no-keyword g q))) | false ↦ λ q. refl ] refl
 
     pub counted : count-faults (statement-at s n) ≡ places (drop (most (this-instruction .op)) (arguments-in (statement-at s (h .op .next))))
     unfolding count-faults by-keyword
-    counted =
-        ap (by-keyword (λ op. places (drop (most op) (arguments-in (rest (statement-at s n))))) (λ byName. []) []) (this-instruction .is)
-        ∙ ap (λ js. places (drop (most (this-instruction .op)) (arguments-in js))) (rest-here g has-operator)
+    counted = rw (this-instruction .is, rest-here g has-operator)

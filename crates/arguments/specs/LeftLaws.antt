@@ -11,12 +11,11 @@ use borrow.Author.Tests.{leb-true, leb-false}
 use Rattle.statements.specs.Checks.{clean, worst, token-code}
 use Rattle.statements.specs.CheckLaws.{worst-stop, worst-item}
 use Rattle.statements.specs.FaultLaws.{fault-both}
-use Rattle.statements.specs.Faults.{lower}
 use Rattle.language.specs.Limits as limit
 use Rattle.lexer.specs.declared.Token.{Token}
 use Rattle.lexer.specs.Tokens.{item-of, Stands, Next-token}
 use Rattle.statements.specs.declared.Fault.{Fault}
-use Rattle.statements.specs.declared.Fault.the-variants.{Clear, At}
+use Rattle.statements.specs.declared.Fault.the-variants.{Clear}
 use Rattle.statements.specs.StatementAt.{statement-at, stops, fault-of, Ended}
 use Rattle.statements.specs.StatementLaws.{at-stop, on}
 use Rattle.statements.proofs.Ends.{Within, begins-within, still-within, ends-here, ends-then}
@@ -67,19 +66,16 @@ module _ {s : List ℕ} {n begun i w : ℕ} (p : Passing s n begun i w) where
 
 excess : (skip c : ℕ) (b : Bool) (i : Item) (js : List Item)
     → places (drop (skip - c) (cond b (i ∷ js) js)) ≡ cond (b && leb skip c) (i .at ∷ []) [] ++ places (drop (skip - (c + cond b 1 0)) js)
-excess skip c false i js = let q : skip - c ≡ skip - (c + 0) = omega arith in ap (λ (m : ℕ). places (drop m js)) q
-excess skip c true i js = go (leb skip c) refl
-  where
-    go : (d : Bool) → leb skip c ≡ d → places (drop (skip - c) (i ∷ js)) ≡ cond d (i .at ∷ []) [] ++ places (drop (skip - (c + 1)) js)
-    go true e =
-        let l = leb-true skip c e in
-        let p : skip - c ≡ 0 = omega arith in
-        let q : skip - (c + 1) ≡ 0 = omega arith in
-        ap (λ (m : ℕ). places (drop m (i ∷ js))) p ∙ sym (ap (λ (m : ℕ). i .at ∷ places (drop m js)) q)
-    go false e =
-        let l = leb-false skip c e in
-        let p : skip - c ≡ suc (skip - (c + 1)) = omega arith in
-        ap (λ (m : ℕ). places (drop m (i ∷ js))) p
+excess skip c false i js = let q : skip - c ≡ skip - (c + 0) = omega arith in rw q
+excess skip c true i js =
+    elim (leb skip c) as (λ d. leb skip c ≡ d → places (drop (skip - c) (i ∷ js)) ≡ cond d (i .at ∷ []) [] ++ places (drop (skip - (c + 1)) js)) [
+      | true ↦ λ e.
+          let l = leb-true skip c e in
+          let p : skip - c ≡ 0 = omega arith in
+          let q : skip - (c + 1) ≡ 0 = omega arith in
+          rw (p, q)
+      | false ↦ λ e. let l = leb-false skip c e in let p : skip - c ≡ suc (skip - (c + 1)) = omega arith in rw p
+    ] refl
 
 one-more : (b : Bool) (i : Item) (js : List Item) {r : ℕ} → r ≡ cond b 1 0 → (r ≤ 1) × (length (cond b (i ∷ js) js) ≡ r + length js)
 one-more true i js e = (omega arith, omega arith)
@@ -110,8 +106,7 @@ module _ {s : List ℕ} {n skip begun i c w : ℕ} {over : Fault} {t : Token} (l
   left-end z =
       let none : arguments-in (statement-at s i) ≡ [] = ap arguments-in (at-stop k z) in
       record {
-        over-is = l .over-is
-            ∙ sym (ap fault-of (l .found-is ∙ ap (λ (js : List Item). l .found ++ places (drop (skip - c) js)) none ∙ ap (λ (js : List Item). l .found ++ places js) (drop-nil (skip - c)) ∙ append-nil (l .found)));
+        over-is = rw (l .over-is, l .found-is, none, drop-nil {A = Item} (skip - c), append-nil (l .found));
         count-is = omega (arith, l .count-is, ap length none);
         few = omega (arith, l .few, l .passing .within .most);
         worst-is = passed-worst (l .passing) k z;
@@ -140,14 +135,9 @@ module _ {s : List ℕ} {n skip begun i c w : ℕ} {over : Fault} {t : Token} (l
           few = omega (arith, l .few, on k z, one .0, q);
           count-is = omega (arith, l .count-is, ap length here ∙ one .1, q);
           found = l .found ++ new;
-          over-is = e ∙ more (b && leb skip c);
-          found-is = l .found-is
-              ∙ ap (λ (xs : List Item). l .found ++ places (drop (skip - c) xs)) here
-              ∙ ap (λ (xs : List ℕ). l .found ++ xs) (excess skip c b (item-of s t) js)
-              ∙ sym (append-assoc (l .found) new (places (drop (skip - (c + cond b 1 0)) js)))
-              ∙ ap (λ (m : ℕ). (l .found ++ new) ++ places (drop (skip - m) js)) (sym q);
+          over-is = e ∙ elim (b && leb skip c) as (λ d. with-excess over d (t .at) ≡ fault-of (l .found ++ cond d (t .at ∷ []) [])) [
+            | true ↦ rw (l .over-is, fault-both (l .found) (t .at ∷ []))
+            | false ↦ l .over-is ∙ rw (append-nil (l .found))
+          ];
+          found-is = l .found-is ∙ rw (here, excess skip c b (item-of s t) js, q) (sym (append-assoc (l .found) new (places (drop (skip - (c + cond b 1 0)) js))));
         }
-      where
-        more : (d : Bool) → with-excess over d (t .at) ≡ fault-of (l .found ++ cond d (t .at ∷ []) [])
-        more true = ap (λ (f : Fault). lower f (At (t .at))) (l .over-is) ∙ sym (fault-both (l .found) (t .at ∷ []))
-        more false = l .over-is ∙ sym (ap fault-of (append-nil (l .found)))

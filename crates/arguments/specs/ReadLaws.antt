@@ -1,35 +1,37 @@
 -- One pass over the items after an instruction's operator: what is known of those before a place.
 use mathlib.Core.Path.{_≡_, refl, ap, sym, _∙_, subst}
-use mathlib.Core.Bool.{Bool, true, false, cond, not, _||_}
+use mathlib.Core.Bool.{Bool, true, false, cond, not, _&&_, _||_}
 use mathlib.Core.List.{List, [], _∷_, _++_, map, map-append, append-assoc, append-nil}
 use Prim.Native.Nat.{ℕ, zero, suc, _+_, _-_, _≤_, _<_, min}
 use native.Mathlib.Numerals.{add-one}
 use native.Mathlib.Decide.{decLt}
 use native.Mathlib.Omega.{arith}
-use lib.Dec.{T, eqb, ltb}
+use lib.Dec.{T, eqb, leb, ltb, eqb→eq, leb→le}
 use lib.ListN.{length, drop, length-map, length-append}
-use lib.Seq.{drop-append-add}
-use borrow.Author.Tests.{eqb-true, ne-eqb, lt-ltb, le-ltb}
+use lib.Seq.{drop-append-add, drop-nil}
+use borrow.Author.Tests.{eqb-true, ne-eqb, le-ltb}
 use Rattle.statements.specs.Checks.{token-code}
+use Rattle.acceptance.specs.RowLaws.{or-right}
 use Rattle.forms.specs.declared.Live.{Live}
 use Rattle.forms.specs.declared.Taken.{Taken}
-use Rattle.forms.specs.Forms.{most-of, least-of}
+use Rattle.forms.specs.Forms.{listed, set-at, most-of, least-of}
 use Rattle.forms.specs.Kinds.{item-kinds}
-use Rattle.forms.specs.Reading.{chosen, lists-at, taken-at}
-use Rattle.forms.specs.ReadingLaws.{argument-read, taken-reads, lists-first, most-listed, least-listed}
-use Rattle.forms.specs.SetLaws.{by-operator}
+use Rattle.forms.specs.Reading.{lives-first, lives-second, lists-at, shared, taken, taken-at}
+use Rattle.forms.specs.ReadingLaws.{argument-read, taken-reads, lists-first, set-listed, most-listed, least-listed}
+use Rattle.forms.specs.KindLaws.{item-kind}
+use Rattle.forms.specs.SetLaws.{by-operator, shared-some}
 use Rattle.language.specs.Instructions.{operation}
 use Rattle.language.specs.Program.{Op}
 use Rattle.lexer.specs.declared.Token.{Token}
 use Rattle.lexer.specs.Tokens.{item-of, Stands, Next-token}
-use Rattle.lists.specs.Lists.{all, any, headOr, keep}
-use Rattle.lists.specs.ListLaws.{T-both, all-head, all-tail, all-keep}
+use Rattle.lists.specs.Lists.{all, any}
+use Rattle.lists.specs.ListLaws.{T-left, T-right, all-head, all-tail}
 use Rattle.statements.specs.declared.Fault.{Fault}
 use Rattle.statements.specs.declared.Fault.the-variants.{Clear, At}
-use Rattle.statements.specs.PlaceLaws.{all-from, statement-from}
+use Rattle.statements.specs.PlaceLaws.{statement-from}
 use Rattle.statements.specs.StatementAt.{statement-at, stops, fault-of}
 use Rattle.statements.specs.StatementLaws.{at-stop, at-item}
-use Rattle.syntax.specs.ArgumentForms.{word-reads, reads, Argument, alternatives, accepting, arguments-in, arguments, read-by, most, least}
+use Rattle.syntax.specs.ArgumentForms.{word-reads, reads, Argument, alternatives, arguments-in, arguments, read-by, most}
 use Rattle.syntax.specs.Items.{Item, is, places}
 use Rattle.syntax.specs.Items.Sort.{text}
 use Rattle.arguments.specs.declared.Arguments.{Arguments}
@@ -37,95 +39,56 @@ use Rattle.arguments.specs.declared.Left.{Left}
 use Rattle.arguments.specs.declared.Value.{Value}
 use Rattle.arguments.specs.declared.Values.{Values}
 use Rattle.arguments.specs.Arguments.{read-from, argument-faults, instr-after, missing-or, Reads-left, Refusable, Refuses, Operates, Reads-arguments}
-use Rattle.arguments.specs.ArgumentLaws.{Reading, reading-first, reading-on, place-listed, turned, missing, complete, few-of, items-end}
+use Rattle.arguments.specs.ArgumentLaws.{items-read, turned, items-end, argument-listed, judged-so}
 use Rattle.arguments.specs.CountLaws.{arguments-on}
 use Rattle.arguments.specs.LeftLaws.{Passing, passing-first, passing-on, passed-worst, passed-end, worst-then, end-then}
-use Rattle.arguments.specs.Valued.{no-values, put-at, Stood, argument-of, First-value, Row, Ordered, Valued}
+use Rattle.arguments.specs.Valued.{no-values, put-at, Stood, argument-of, First-value, Row, Ordered}
 
 -- ---- an argument that is listed is not in excess
 
-dashes : (p : ℕ → Bool) → p 45 ≡ false → (fs : List ℕ) → T (all (eqb 45) fs) → keep p fs ≡ []
-dashes p e [] h = refl
-dashes p e (f ∷ fs) h =
-    let q : f ≡ 45 = sym (eqb-true 45 f (is-true (eqb 45 f) (all-head (eqb 45) f fs h))) in
-    ap (λ (b : Bool). cond b (f ∷ keep p fs) (keep p fs)) (ap p q ∙ e) ∙ dashes p e fs (all-tail (eqb 45) f fs h)
-  where
-    is-true : (b : Bool) → T b → b ≡ true
-    is-true true k = refl
-    is-true false k = absurd k
-
--- a list whose first place has no form, and a row of such
-abbrev bare : List (List ℕ) → Bool
-bare x = all (eqb 45) (headOr [] x)
-
-first-bare : (xs : List (List (List ℕ))) → T (all bare xs) → T (bare (headOr [] xs))
-first-bare [] h = tt
-first-bare (x ∷ xs) h = all-head bare x xs h
-
-dropped-bare : (k : ℕ) (xs : List (List (List ℕ))) → T (all (λ x. bare (drop k x)) xs) → T (all bare (map (drop k) xs))
-dropped-bare k [] h = tt
-dropped-bare k (x ∷ xs) h =
-    T-both (bare (drop k x)) (all bare (map (drop k) xs)) (all-head (λ y. bare (drop k y)) x xs h) (dropped-bare k xs (all-tail (λ y. bare (drop k y)) x xs h))
-
-chosen-all : (p : List (List ℕ) → Bool) (live : Live) (xs : List (List (List ℕ))) → T (all p xs) → T (all p (chosen live xs))
-chosen-all p Live.First [] h = tt
-chosen-all p Live.First (x ∷ xs) h = T-both (p x) true (all-head p x xs h) tt
-chosen-all p Live.Second [] h = tt
-chosen-all p Live.Second (x ∷ xs) h = all-tail p x xs h
-chosen-all p Live.Both xs h = h
-
 -- past the last argument that an operator takes, its lists have no form
-abbrev bare-past : ℕ → Op → Bool
-bare-past k o = ltb k (most o) || all (λ x. bare (drop k x)) (alternatives o)
+abbrev none-at : ℕ → Op → Bool
+none-at k o = all (eqb 45) (listed o 0 k) && all (eqb 45) (listed o 1 k)
 
-past : (k : ℕ) → k < 3 → (o : Op) → T (bare-past k o)
-past zero h = by-operator (bare-past 0) tt
-past (suc zero) h = by-operator (bare-past 1) tt
-past (suc (suc zero)) h = by-operator (bare-past 2) tt
-past (suc (suc (suc k))) h = absurd (omega arith)
+abbrev none-past : ℕ → Op → Bool
+none-past k o = ltb k (most o) || none-at k o
 
-no-dash : (i : Item) → reads i 45 ≡ false
+past : (k : ℕ) (o : Op) → T (none-past k o)
+past zero o = by-operator (none-past 0) tt o
+past (suc zero) o = by-operator (none-past 1) tt o
+past (suc (suc zero)) o = by-operator (none-past 2) tt o
+past (suc (suc (suc k))) o = or-right (ltb (suc (suc (suc k))) (most o)) (none-at (suc (suc (suc k))) o) (by-operator (none-at (suc (suc (suc k)))) tt o)
+
+three-most : (o : Op) → most o ≤ 3
+three-most o = leb→le (most o) 3 (by-operator (λ x. leb (most x) 3) tt o)
+
+no-form : (i : Item) (fs : List ℕ) → T (all (eqb 45) fs) → any (reads i) fs ≡ false
 unfolding reads word-reads
-no-dash i = go (is text i)
-  where
-    go : (b : Bool) → cond b false (word-reads (i .chars) 45) ≡ false
-    go true = refl
-    go false = refl
-
-first-form : List Argument → ℕ
-first-form [] = 45
-first-form (a ∷ xs) = a .form
+no-form i [] h = refl
+no-form i (f ∷ fs) h =
+    rw (← eqb→eq 45 f (all-head (eqb 45) f fs h), no-form i fs (all-tail (eqb 45) f fs h))
+    (elim (is text i) as (λ b. (cond b false (word-reads (i .chars) 45) || false) ≡ false) [ true ↦ refl | false ↦ refl ])
 
 module _ (o : Op) (live : Live) (place : ℕ) (i : Item) where
-  abbrev form-here : ℕ
-  form-here = taken-at (operation o .number) live place (item-kinds i) .form
+  none-shared : (lives : Bool) (n : ℕ) → T (all (eqb 45) (listed o n place)) → shared lives (item-kinds i) (set-at (operation o .number) n place) ≡ 0
+  unfolding shared item-kinds
+  none-shared true n h =
+      let k = item-kind i in
+      rw (set-listed o n place) (eqb-true _ 0 (shared-some (reads i) (k .0) (k .1) o n place ∙ ap not (no-form i (listed o n place) h)))
+  none-shared false n h = refl
 
-  form-is : form-here ≡ headOr 45 (keep (reads i) (headOr [] (headOr [] (accepting i (lists-at o live place)))))
-  unfolding read-by first-form accepting
-  form-is = sym (ap first-form (argument-read i o place live []))
-
-  unlisted : place < 3 → most o ≤ place → form-here ≡ 45
-  unfolding accepting
-  unlisted l h =
-      let alts = lists-at o live place in
-      let q : List (List ℕ) → Bool = λ x. bare (drop place x) in
-      let b : T (all bare alts) = dropped-bare place (chosen live (alternatives o)) (chosen-all q live (alternatives o) (right (past place l o))) in
-      let f = first-bare (accepting i alts) (all-keep bare (λ a. any (reads i) (headOr [] a)) alts b) in
-      form-is ∙ ap (headOr 45) (dashes (reads i) (no-dash i) (headOr [] (headOr [] (accepting i alts))) f)
-    where
-      right : T (bare-past place o) → T (all (λ x. bare (drop place x)) (alternatives o))
-      right t = go (ltb place (most o)) (le-ltb place (most o) h) t
-        where
-          go : (b : Bool) → b ≡ false → T (b || all (λ x. bare (drop place x)) (alternatives o)) → T (all (λ x. bare (drop place x)) (alternatives o))
-          go true e t = absurd (subst T e tt)
-          go false e t = t
-
-  pub not-over : (form-here ≡ 45 → ⊥) → place < most o
-  not-over f = go (decLt place (most o))
-    where
-      go : Dec (place < most o) → place < most o
-      go (yes l) = l
-      go (no l) = absurd (f (unlisted (place-listed (operation o .number) live place (item-kinds i) f) (omega arith)))
+  not-over : (taken-at (operation o .number) live place (item-kinds i) .form ≡ 45 → ⊥) → place < most o
+  unfolding taken-at taken
+  not-over f =
+      elim (decLt place (most o)) as (λ d. place < most o) [
+        | yes l ↦ l
+        | no l ↦
+            let none : T (none-at place o) = rw (le-ltb place (most o) (omega arith)) at (past place o) in
+            absurd (f (rw (
+              none-shared (lives-first live) 0 (T-left (all (eqb 45) (listed o 0 place)) (all (eqb 45) (listed o 1 place)) none),
+              none-shared (lives-second live) 1 (T-right (all (eqb 45) (listed o 0 place)) (all (eqb 45) (listed o 1 place)) none),
+            )))
+      ]
 
 -- ---- one value more
 
@@ -135,83 +98,73 @@ row-on s (b ∷ []) v a x r l h = record { first = r .first; second = h; third =
 row-on s (b ∷ c ∷ []) v a x r l h = record { first = r .first; second = r .second; third = h }
 row-on s (b ∷ c ∷ d ∷ xs) v a x r l h = absurd (omega arith)
 
--- items in order before others
-abbrev Ordered-before : List Item → List Item → Type 0
-Ordered-before [] js = Unit {0}
-Ordered-before (i ∷ xs) js = T (all-from (i .at) (xs ++ js)) × Ordered-before xs js
-
-ordered-on : (xs : List Item) (i : Item) (js : List Item) → Ordered-before xs (i ∷ js) → T (all-from (i .at) js) → Ordered-before (xs ++ (i ∷ [])) js
-ordered-on [] i js h k = (k, tt)
-ordered-on (x ∷ xs) i js h k = (subst (λ (ys : List Item). T (all-from (x .at) ys)) (sym (append-assoc xs (i ∷ []) js)) (h .0), ordered-on xs i js (h .1) k)
-
-ordered-all : (xs : List Item) → Ordered-before xs [] → Ordered xs
-ordered-all [] h = tt
-ordered-all (x ∷ xs) h = (subst (λ (ys : List Item). T (all-from (x .at) ys)) (append-nil xs) (h .0), ordered-all xs (h .1))
-
--- of the items from n on, `place` arguments stand before i, and these are their values
+-- of the arguments from n on, `place` stand before i, and these are their values
 pub record Before (s : List ℕ) (n : ℕ) (o : Op) (i : ℕ) (live : Live) (place : ℕ) (v : Values) : Type 0 where
   pub xs : List Argument
   pub count : length xs ≡ place
   pub read : arguments o (statement-at s n) ≡ xs ++ read-from o live place (statement-at s i)
-  pub items : statement-at s n ≡ map (λ a. a .item) xs ++ statement-at s i
-  pub inside : arguments-in (statement-at s n) ≡ map (λ a. a .item) xs ++ arguments-in (statement-at s i)
   pub row : Row s xs v
-  pub ordered : Ordered-before (map (λ a. a .item) xs) (statement-at s i)
+  pub faults : fault-of (argument-faults o live place (statement-at s i)) ≡ fault-of (argument-faults o Live.Both 0 (statement-at s n))
 
+-- place i is reached: the arguments before it are all listed and without a colon
 pub record Gathering (s : List ℕ) (n number begun i : ℕ) (live : Live) (place : ℕ) (v : Values) (w : ℕ) : Type 0 where
   pub passing : Passing s n begun i w
-  pub reading : Reading s n number i live place
+  pub few : place ≤ 3
   pub below : place ≤ most-of number
+  pub plain : arguments-in (statement-at s i) ≡ statement-at s i → arguments-in (statement-at s n) ≡ statement-at s n
+  pub orders : Ordered (statement-at s i) → Ordered (statement-at s n)
   pub before : (o : Op) → operation o .number ≡ number → Before s n o i live place v
 
 pub gathering-first : {s : List ℕ} {t : Token} {number w : ℕ} → Operates s t number w → {v : Values} → v ≡ no-values → Gathering s (t .next) number w (t .next) Live.Both 0 v w
 gathering-first {s} {t} {number} {w} g {v} e =
     record {
       passing = passing-first (g .stands .most) (g .known);
-      reading = reading-first (g .stands .most);
+      few = omega arith;
       below = omega arith;
+      plain = λ q. q;
+      orders = λ q. q;
       before = λ o h. record {
         xs = [];
         count = refl;
         read = ap (λ alts. read-by alts (arguments-in (statement-at s (t .next)))) (lists-first o);
-        items = refl;
-        inside = refl;
-        row = subst (Row s []) (sym e) (record { first = refl; second = refl; third = refl });
-        ordered = tt;
+        row = rw e (record { first = refl; second = refl; third = refl });
+        faults = refl;
       };
     }
 
 module _ {s : List ℕ} {n m begun i : ℕ} {live : Live} {place : ℕ} {v : Values} {low : ℕ} (l : Gathering s n m begun i live place v low) where
   module _ (o : Op) (h : operation o .number ≡ m) where
-    abbrev b : Before s n o i live place v
-    b = l .before o h
-
     most-here : most-of m ≡ most o
     most-here = ap most-of (sym h) ∙ most-listed o
 
-    items-count : length (map (λ a. a .item) (b .xs)) ≡ place
-    items-count = length-map (b .xs) (λ a. a .item) ∙ b .count
+    abbrev own : List Item
+    own = map (λ a. a .item) (l .before o h .xs)
 
-    pub counted-on : length (arguments-in (statement-at s n)) ≡ place + length (arguments-in (statement-at s i))
-    counted-on = ap length (b .inside) ∙ length-append (map (λ a. a .item) (b .xs)) (arguments-in (statement-at s i)) ∙ ap (λ (k : ℕ). k + length (arguments-in (statement-at s i))) items-count
+    abbrev left : List Item
+    left = arguments-in (statement-at s i)
 
-    pub dropped-on : drop (most o) (arguments-in (statement-at s n)) ≡ drop (most-of m - place) (arguments-in (statement-at s i))
+    own-count : length own ≡ place
+    own-count = length-map (l .before o h .xs) (λ a. a .item) ∙ l .before o h .count
+
+    inside : arguments-in (statement-at s n) ≡ own ++ left
+    inside =
+        sym (items-read (alternatives o) (arguments-in (statement-at s n))) ∙ ap (map (λ a. a .item)) (l .before o h .read)
+        ∙ map-append (λ a. a .item) (l .before o h .xs) (read-from o live place (statement-at s i)) ∙ ap (_++_ own) (items-read (lists-at o live place) left)
+
+    pub counted-on : length (arguments-in (statement-at s n)) ≡ place + length left
+    counted-on = omega (arith, ap length inside, length-append own left, own-count)
+
+    pub dropped-on : drop (most o) (arguments-in (statement-at s n)) ≡ drop (most-of m - place) left
     dropped-on =
-        let ys = map (λ a. a .item) (b .xs) in
-        let q : most o ≡ length ys + (most-of m - place) = omega (arith, most-here, l .below, items-count) in
-        ap (drop (most o)) (b .inside)
-        ∙ ap (λ (k : ℕ). drop k (ys ++ arguments-in (statement-at s i))) q
-        ∙ drop-append-add ys (arguments-in (statement-at s i)) (most-of m - place)
+        let q : most o ≡ length own + (most-of m - place) = omega (arith, most-here, l .below, own-count) in
+        rw (inside, q) (drop-append-add own left (most-of m - place))
 
   module _ {t : Token} (k : Next-token s i t) (z : stops (t .sort) ≡ false) (c : t .sort ≡ 2 → ⊥) {kinds : ℕ} {b : Taken} (e : b ≡ taken-at m live place kinds) (f : kinds ≡ item-kinds (item-of s t))
       (g : b .form ≡ 45 → ⊥) where
     by : (o : Op) → operation o .number ≡ m → b ≡ taken-at (operation o .number) live place (item-kinds (item-of s t))
     by o h = turned live place e f o h
 
-    pub place-here : place < 3
-    place-here = place-listed m live place kinds (λ q. g (ap (λ x. x .form) e ∙ q))
-
-    -- its form is one that it reads xs
+    -- its form is one that it reads as
     pub reads-so : (o : Op) → operation o .number ≡ m → T (reads (item-of s t) (b .form))
     reads-so o h = subst T (sym (taken-reads (item-of s t) o place live (sym (ap (λ x. x .form) (by o h))) g)) tt
 
@@ -220,85 +173,53 @@ module _ {s : List ℕ} {n m begun i : ℕ} {live : Live} {place : ℕ} {v : Val
     gathering-on o₁ h₁ y {x} at-is w {v′} q u =
         record {
           passing = passing-on (l .passing) k z u;
-          reading = reading-on (l .reading) k z c e f g y;
-          below = omega (arith, not-over o₁ live place (item-of s t) (λ d. g (ap (λ u. u .form) (by o₁ h₁) ∙ d)), most-here o₁ h₁);
-          before = λ o h. next o h;
+          few = omega (arith, more, three-most o₁);
+          below = omega (arith, more, most-here o₁ h₁);
+          plain = λ d. l .plain (args ∙ ap (_∷_ (item-of s t)) d ∙ sym (at-item k z));
+          orders = λ d. l .orders (rw (at-item k z) (statement-from s (t .next) (t .at) (omega (arith, k .stands .own, k .stands .behind)), d));
+          before = next;
         }
       where
+        more : place < most o₁
+        more = not-over o₁ live place (item-of s t) (λ d. g (ap (λ u. u .form) (by o₁ h₁) ∙ d))
+
+        args : arguments-in (statement-at s i) ≡ item-of s t ∷ arguments-in (statement-at s (t .next))
+        args = rw (ne-eqb 2 (t .sort) (λ d. c (sym d))) at (arguments-on k z)
+
         next : (o : Op) → operation o .number ≡ m → Before s n o (t .next) (b .live) (place + 1) v′
         next o h =
             let p = l .before o h in
             let a = argument-of s t (b .form) in
             let rest = statement-at s (t .next) in
-            let here : statement-at s i ≡ item-of s t ∷ rest = at-item k z in
-            let args : arguments-in (statement-at s i) ≡ item-of s t ∷ arguments-in rest =
-            arguments-on k z ∙ ap (λ d. cond (not d) (item-of s t ∷ arguments-in rest) (arguments-in rest)) (ne-eqb 2 (t .sort) (λ d. c (sym d))) in
             let one : read-from o live place (statement-at s i) ≡ a ∷ read-from o (b .live) (suc place) rest =
-            ap (read-by (lists-at o live place)) args
-            ∙ argument-read (item-of s t) o place live (arguments-in rest)
-            ∙ ap (λ (u : Taken). record { item = item-of s t; form = u .form } ∷ read-from o (u .live) (suc place) rest) (sym (by o h)) in
+            ap (read-by (lists-at o live place)) args ∙ rw (argument-read (item-of s t) o place live (arguments-in rest), ← by o h) in
             record {
               xs = p .xs ++ (a ∷ []);
               count = length-append (p .xs) (a ∷ []) ∙ omega (arith, p .count);
-              read = p .read ∙ ap (λ (r : List Argument). p .xs ++ r) one
-                  ∙ sym (append-assoc (p .xs) (a ∷ []) (read-from o (b .live) (suc place) rest))
-                  ∙ ap (λ (d : ℕ). (p .xs ++ (a ∷ [])) ++ read-from o (b .live) d rest) (sym (add-one place));
-              items = p .items ∙ ap (λ (r : List Item). map (λ d. d .item) (p .xs) ++ r) here ∙ moved (p .xs) a rest;
-              inside = p .inside ∙ ap (λ (r : List Item). map (λ d. d .item) (p .xs) ++ r) args ∙ moved (p .xs) a (arguments-in rest);
-              row = subst (Row s (p .xs ++ (a ∷ []))) (ap (λ (d : ℕ). put-at v d x) (p .count) ∙ sym q)
-                  (row-on s (p .xs) v a x (p .row) (omega (arith, p .count, place-here)) (at-is, w));
-              ordered =
-                  subst (λ (ys : List Item). Ordered-before ys rest) (sym (map-append (λ d. d .item) (p .xs) (a ∷ [])))
-                  (ordered-on (map (λ d. d .item) (p .xs)) (item-of s t) rest (subst (Ordered-before (map (λ d. d .item) (p .xs))) here (p .ordered))
-                  (statement-from s (t .next) (t .at) (omega (arith, k .stands .own, k .stands .behind))));
+              read = p .read ∙ rw (one, add-one place, append-assoc (p .xs) (a ∷ []));
+              row = rw (q, ← p .count) (row-on s (p .xs) v a x (p .row) (omega (arith, p .count, more, three-most o₁)) (at-is, w));
+              faults = rw (add-one place, ← argument-listed o live place k z c b (by o h) g y) (p .faults);
             }
-          where
-            moved : (xs : List Argument) (a : Argument) (js : List Item) → map (λ d. d .item) xs ++ (a .item ∷ js) ≡ map (λ d. d .item) (xs ++ (a ∷ [])) ++ js
-            moved [] a js = refl
-            moved (d ∷ xs) a js = ap (λ (r : List Item). d .item ∷ r) (moved xs a js)
 
 -- ---- 02, by the count of arguments and what is at fault among them
 
-pub judged-by : {s : List ℕ} {t : Token} {number : ℕ} → Stands s t → (o : Op) → operation o .number ≡ number → {count : ℕ} → length (arguments-in (statement-at s (t .next))) ≡ count
+judged-by : {s : List ℕ} {t : Token} {number : ℕ} → Stands s t → (o : Op) → operation o .number ≡ number → {count : ℕ} → length (arguments-in (statement-at s (t .next))) ≡ count
     → {f : Fault} → fault-of (argument-faults o Live.Both 0 (statement-at s (t .next))) ≡ f → missing-or number (t .at) count f ≡ fault-of (instr-after s t o)
 unfolding missing-or
-judged-by {s} {t} {number} g o h {count} e {f} q = go (few-of g o) refl
-  where
-    asked : ltb count (least-of number) ≡ few-of g o
-    asked = ap (λ (k : ℕ). ltb k (least-of number)) (sym e) ∙ ap (λ (k : ℕ). ltb (length (arguments-in (statement-at s (t .next)))) k) (ap least-of (sym h) ∙ least-listed o)
-
-    go : (b : Bool) → few-of g o ≡ b → cond (ltb count (least-of number)) (At (t .at)) f ≡ fault-of (instr-after s t o)
-    go true r = ap (λ (d : Bool). cond d (At (t .at)) f) (asked ∙ r) ∙ sym (missing g o r)
-    go false r = ap (λ (d : Bool). cond d (At (t .at)) f) (asked ∙ r) ∙ sym q ∙ sym (ap fault-of (complete g o r))
-
-module _ (number at count : ℕ) {least : ℕ} (e : least ≡ least-of number) (f : Fault) where
-  pub few-arguments : count < least → At at ≡ missing-or number at count f
-  unfolding missing-or
-  few-arguments l = sym (ap (λ (b : Bool). cond b (At at) f) (lt-ltb count (least-of number) (omega (arith, e, l))))
-
-  pub enough-arguments : least ≤ count → f ≡ missing-or number at count f
-  unfolding missing-or
-  enough-arguments l = sym (ap (λ (b : Bool). cond b (At at) f) (le-ltb count (least-of number) (omega (arith, e, l))))
+judged-by g o h e q = rw (← e, ← h, least-listed o) (judged-so g o q)
 
 pub refusing : {s : List ℕ} {at number place i p w : ℕ} {before all : ℕ} {left : Left} {f : Fault} → before ≡ place → all ≡ most-of number
     → Reads-left s i (all - before) w left → f ≡ missing-or number at (before + left .count) (At p)
     → {v : Values} → Refuses s at number place i p w (record { over = left .over; fault = f; values = v; worst = left .worst; next = left .next; last = left .last })
-refusing {s} {at} {number} {place} {i} {p} {w} {before} {all} {left} e q l fault-is =
+refusing e q l fault-is =
     record {
-      over-is = l .over-is ∙ ap (λ (k : ℕ). fault-of (places (drop (k - before) (arguments-in (statement-at s i))))) q
-          ∙ ap (λ (k : ℕ). fault-of (places (drop (most-of number - k) (arguments-in (statement-at s i))))) e;
-      fault-is = fault-is ∙ ap (λ (k : ℕ). missing-or number at (k + left .count) (At p)) e ∙ ap (λ (k : ℕ). missing-or number at (place + k) (At p)) (l .count-is);
+      over-is = rw (← e, ← q) (l .over-is);
+      fault-is = rw (← e, ← l .count-is) fault-is;
       worst-is = l .worst-is;
       ends = l .ends;
     }
 
 -- ---- the answers
-
-drop-past : {X : Type 0} (k : ℕ) (xs : List X) → length xs ≤ k → drop k xs ≡ []
-drop-past zero [] h = refl
-drop-past zero (x ∷ xs) h = absurd (omega arith)
-drop-past (suc k) [] h = refl
-drop-past (suc k) (x ∷ xs) h = drop-past k xs (omega arith)
 
 module _ {s : List ℕ} {t : Token} {m begun : ℕ} (g : Operates s t m begun) {i : ℕ} {live : Live} {place : ℕ} {v : Values} {low : ℕ} (l : Gathering s (t .next) m begun i live place v low) where
   -- no item is left
@@ -306,30 +227,26 @@ module _ {s : List ℕ} {t : Token} {m begun : ℕ} (g : Operates s t m begun) {
       → Reads-arguments s t m begun (record { over = Clear; fault = f; values = v; worst = low; next = u .next; last = eqb (u .sort) 0 })
   unfolding read-by
   all-read {u} k z {f} e =
+      let none = at-stop k z in
       record {
-        counted = λ o h.
-            sym (ap (λ (js : List Item). fault-of (places js)) (dropped-on l o h ∙ ap (λ (js : List Item). drop (most-of m - place) (arguments-in js)) (at-stop k z) ∙ drop-past (most-of m - place) [] (omega arith)));
+        counted = λ o h. rw (dropped-on l o h, none, drop-nil {A = Item} (most-of m - place));
         judged = λ o h.
-            e ∙ judged-by (g .stands) o h (counted-on l o h ∙ ap (λ (js : List Item). place + length (arguments-in js)) (at-stop k z) ∙ omega arith)
-            (sym (l .reading .is o h) ∙ items-end o live place k z);
+            e ∙ judged-by (g .stands) o h (counted-on l o h ∙ rw none (omega arith)) (sym (l .before o h .faults) ∙ items-end o live place k z);
         values = λ q o h.
             let b = l .before o h in
-            let none = at-stop k z in
-            let done : arguments o (statement-at s (t .next)) ≡ b .xs = b .read ∙ ap (λ (js : List Item). b .xs ++ read-from o live place js) none ∙ append-nil (b .xs) in
-            subst (λ (xs : List Argument). Valued s (statement-at s (t .next)) xs v) (sym done)
-            (record {
-              few = omega (arith, b .count, l .reading .few);
-              items = sym (b .items ∙ ap (λ (js : List Item). map (λ a. a .item) (b .xs) ++ js) none ∙ append-nil (map (λ a. a .item) (b .xs)));
-              row = b .row;
-              ordered = subst Ordered (sym (b .items ∙ ap (λ (js : List Item). map (λ a. a .item) (b .xs) ++ js) none ∙ append-nil (map (λ a. a .item) (b .xs))))
-                  (ordered-all (map (λ a. a .item) (b .xs)) (subst (Ordered-before (map (λ a. a .item) (b .xs))) none (b .ordered)));
-            });
+            let done : arguments o (statement-at s (t .next)) ≡ b .xs = b .read ∙ rw none (append-nil (b .xs)) in
+            record {
+              few = omega (arith, ap length done, b .count, l .few);
+              items = items-read (alternatives o) (arguments-in (statement-at s (t .next))) ∙ l .plain (rw none);
+              row = rw done (b .row);
+              ordered = l .orders (rw none tt);
+            };
         worst-is = passed-worst (l .passing) k z;
         ends = passed-end (l .passing) k z;
       }
 
   pub refusable : Refusable s m place i low
-  refusable = record { left = record { inside = l .reading .most; low = g .low; known = l .passing .known }; below = l .below }
+  refusable = record { left = record { inside = l .passing .within .most; low = g .low; known = l .passing .known }; below = l .below }
 
   -- place p is at fault
   pub refused : {p : ℕ} → ((o : Op) → operation o .number ≡ m → fault-of (argument-faults o live place (statement-at s i)) ≡ At p) → {r : Arguments} → Refuses s (t .at) m place i p low r
@@ -338,7 +255,7 @@ module _ {s : List ℕ} {t : Token} {m begun : ℕ} (g : Operates s t m begun) {
   refused {p} w {r} k =
       record {
         counted = λ o h. k .over-is ∙ ap (λ (js : List Item). fault-of (places js)) (sym (dropped-on l o h));
-        judged = λ o h. k .fault-is ∙ judged-by (g .stands) o h (counted-on l o h) (sym (l .reading .is o h) ∙ w o h);
+        judged = λ o h. k .fault-is ∙ judged-by (g .stands) o h (counted-on l o h) (sym (l .before o h .faults) ∙ w o h);
         values = λ q. absurd (never (ltb (place + length (arguments-in (statement-at s i))) (least-of m)) (sym (k .fault-is) ∙ q));
         worst-is = worst-then (l .passing) (k .worst-is);
         ends = end-then (l .passing) (k .ends);

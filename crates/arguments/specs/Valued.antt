@@ -20,7 +20,7 @@ use Rattle.spelling.specs.Spelling.{text-in, Between}
 use Rattle.statements.specs.PlaceLaws.{all-from}
 use Rattle.statements.specs.StatementAt.{statement-at}
 use Rattle.syntax.specs.ArgumentForms as syntax
-use Rattle.syntax.specs.ArgumentForms.{reads, is-indexed, arguments}
+use Rattle.syntax.specs.ArgumentForms.{is-indexed, arguments}
 use Rattle.syntax.specs.Items.{Item, is}
 use Rattle.syntax.specs.Items.Sort.{word, text}
 use Rattle.table.specs.declared.Argument.{Argument}
@@ -113,11 +113,6 @@ pub record Stood (s : List ℕ) (a : syntax.Argument) (x : Argument) : Type 0 wh
 -- an item, and the form that it reads as
 abbrev pub argument-of : List ℕ → Token → ℕ → syntax.Argument
 argument-of s t form = record { item = item-of s t; form = form }
-
-pub record Valuable (s : List ℕ) (t : Token) (form : ℕ) : Type 0 where
-  pub stands : Stands s t
-  pub as-form : T (reads (item-of s t) form)
-  pub low : length s ≤ limit.text
 
 -- the letter of a word, with its index
 pub record Letter-value (w : List ℕ) (r : Argument) : Type 0 where

@@ -6,7 +6,7 @@ use native.Mathlib.Omega.{arith}
 use lib.Dec.{T}
 use lib.ListN.{length, getD, drop, length-map, length-take, length-drop}
 use Rattle.acceptance.specs.RowLaws.{append-none, drop-none}
-use Rattle.arguments.specs.Valued.{First-value, Row, Valued}
+use Rattle.arguments.specs.Valued.{First-value, Valued}
 use Rattle.arguments.specs.declared.Value.{Value}
 use Rattle.arguments.specs.declared.Values.{Values}
 use Rattle.cells.specs.Cells.{Number}
@@ -18,12 +18,15 @@ use Rattle.language.specs.Program.{Arg, Label, Program}
 use Rattle.language.specs.Program.Arg.{nothing}
 use Rattle.layout.specs.ArgumentLaws.{operator-below}
 use Rattle.layout.specs.Bounds.{Each}
+use Rattle.layout.specs.CellLaws.{each-at}
 use Rattle.layout.specs.Cells.{cell}
 use Rattle.packed.specs.Packed.{table-of}
-use Rattle.statements.specs.StatementAt.{statement-at, fault-of}
+use Rattle.statements.specs.FaultLaws.{no-fault}
+use Rattle.statements.specs.StatementAt.{statement-at}
 use Rattle.statements.specs.declared.Fault.{Fault}
 use Rattle.statements.specs.declared.Fault.the-variants.{Clear, At}
 use Rattle.entering.specs.Entering.{Held}
+use Rattle.entering.proofs.Rows.{nth, row-at}
 use Rattle.syntax.specs.ArgumentForms.{Argument, arguments}
 use Rattle.syntax.specs.Questions.{beyond}
 use Rattle.table.specs.declared.Argument as table
@@ -39,55 +42,25 @@ use Rattle.declaring.specs.declared.Instruction.{Instruction}
 module _ (p : Program) (ls : List Label) where
   kept-at : (xs : List Arg) (k : ℕ) → Each (λ a. T (kept-arg p a)) xs → T (kept-arg (with-labels ls p) (getD xs k nothing))
   unfolding with-labels
-  kept-at [] zero h = tt
-  kept-at [] (suc k) h = tt
-  kept-at (a ∷ xs) zero h = subst T (kept-same p (with-labels ls p) refl refl a) (h .0)
-  kept-at (a ∷ xs) (suc k) h = kept-at xs k (h .1)
+  kept-at xs k h = rw (← kept-same p (with-labels ls p) refl refl (getD xs k nothing)) (each-at (λ a. T (kept-arg p a)) nothing tt xs h k)
 
 -- the values of the first, the second and the third argument, and their cells
 abbrev nth-arg : List Argument → ℕ → Arg
 nth-arg args k = getD (map draft-arg args) k nothing
 
-value-drafts : (s : List ℕ) (args : List Argument) (x : Value) → Each Right-argument args → First-value s args x → Drafts s (x .argument) (nth-arg args 0)
-value-drafts s [] x r h = subst (λ (y : table.Argument). Drafts s y nothing) (sym h) (record { chars = []; short = omega arith; spelt = tt; drafted = refl })
-value-drafts s (a ∷ args) x r h =
+no-drafts : (s : List ℕ) (x : table.Argument) → x ≡ table.Argument.Nothing → Drafts s x nothing
+no-drafts s x h = rw h (record { chars = []; short = omega arith; spelt = tt; drafted = refl })
+
+value-drafts : (s : List ℕ) (args : List Argument) (k : ℕ) (x : Value) → Each Right-argument args → First-value s (drop k args) x → Drafts s (x .argument) (nth-arg args k)
+value-drafts s [] zero x r h = no-drafts s (x .argument) h
+value-drafts s [] (suc k) x r h = no-drafts s (x .argument) h
+value-drafts s (a ∷ args) zero x r h =
     record { chars = a .item .chars; short = r .0 .short; spelt = h .1 .entered .spelt; drafted = h .1 .drafted (r .0 .short) }
+value-drafts s (a ∷ args) (suc k) x r h = value-drafts s args k x (r .1) h
 
-rest-right : (args : List Argument) → Each Right-argument args → Each Right-argument (drop 1 args)
-rest-right [] r = tt
-rest-right (a ∷ args) r = r .1
-
-two-right : (args : List Argument) → Each Right-argument args → Each Right-argument (drop 2 args)
-two-right [] r = tt
-two-right (a ∷ []) r = tt
-two-right (a ∷ b ∷ args) r = r .1 .1
-
-second-arg : (args : List Argument) → nth-arg (drop 1 args) 0 ≡ nth-arg args 1
-second-arg [] = refl
-second-arg (a ∷ []) = refl
-second-arg (a ∷ b ∷ args) = refl
-
-third-arg : (args : List Argument) → nth-arg (drop 2 args) 0 ≡ nth-arg args 2
-third-arg [] = refl
-third-arg (a ∷ []) = refl
-third-arg (a ∷ b ∷ []) = refl
-third-arg (a ∷ b ∷ c ∷ args) = refl
-
-module _ {s : List ℕ} {n number : ℕ} {v : Values} (g : Right-values s n number v) where
-  abbrev args : List Argument
-  args = arguments (operator-of number) (statement-at s n)
-
-  abbrev row : Row s args v
-  row = g .read (operator-of number) (g .numbered) .row
-
-  first-drafts : Drafts s (v .first .argument) (nth-arg args 0)
-  first-drafts = value-drafts s args (v .first) (g .right) (row .first)
-
-  second-drafts : Drafts s (v .second .argument) (nth-arg args 1)
-  second-drafts = subst (Drafts s (v .second .argument)) (second-arg args) (value-drafts s (drop 1 args) (v .second) (rest-right args (g .right)) (row .second))
-
-  third-drafts : Drafts s (v .third .argument) (nth-arg args 2)
-  third-drafts = subst (Drafts s (v .third .argument)) (third-arg args) (value-drafts s (drop 2 args) (v .third) (two-right args (g .right)) (row .third))
+drafts : {s : List ℕ} {n number : ℕ} {v : Values} → Right-values s n number v → (k : ℕ) → Drafts s (nth v k .argument) (nth-arg (arguments (operator-of number) (statement-at s n)) k)
+drafts {s} {n} {number} {v} g k =
+    value-drafts s (arguments (operator-of number) (statement-at s n)) k (nth v k) (g .right) (row-at (g .read (operator-of number) (g .numbered)) k)
 
 module _ {s : List ℕ} {i : Instruction} {ms : List ℕ} {a b : ℕ} {c : List ℕ} (pre : Writable s i ms a b c) where
   abbrev v : Values
@@ -109,14 +82,8 @@ module _ {s : List ℕ} {i : Instruction} {ms : List ℕ} {a b : ℕ} {c : List 
     still : Held d
     still = record { program = labelled (pre .held .program); holds = labels-held }
 
-    pub first-asked : Cell-asked s (v .first .argument) d
-    first-asked = record { arg = _; drafts = first-drafts (pre .values); held = still }
-
-    pub second-asked : Cell-asked s (v .second .argument) d
-    second-asked = record { arg = _; drafts = second-drafts (pre .values); held = still }
-
-    pub third-asked : Cell-asked s (v .third .argument) d
-    third-asked = record { arg = _; drafts = third-drafts (pre .values); held = still }
+    pub asked : (k : ℕ) → Cell-asked s (nth v k .argument) d
+    asked k = record { arg = _; drafts = drafts (pre .values) k; held = still }
 
     code-then : cell (table-of d) 0 ≡ cell (table-of c) 0
     unfolding with-labels
@@ -130,9 +97,9 @@ module _ {s : List ℕ} {i : Instruction} {ms : List ℕ} {a b : ℕ} {c : List 
             room = omega (arith, code-then, pre .code-room);
             op-most = omega (arith, w .is, pre .values .numbered, operator-below (operator-of number));
             line-most = pre .line-most;
-            x-most = omega (arith, f _ (first-drafts (pre .values)) .most);
-            y-most = omega (arith, g _ (second-drafts (pre .values)) .most);
-            z-most = omega (arith, k _ (third-drafts (pre .values)) .most);
+            x-most = omega (arith, f _ (drafts (pre .values) 0) .most);
+            y-most = omega (arith, g _ (drafts (pre .values) 1) .most);
+            z-most = omega (arith, k _ (drafts (pre .values) 2) .most);
           }
 
       pub instr-written : {d′ : List ℕ} → Writes (IsInstr o (i .line) x y z) with-instr d d′ → Writes-values s i (marks-in ms a b) c d′
@@ -147,9 +114,9 @@ module _ {s : List ℕ} {i : Instruction} {ms : List ℕ} {a b : ℕ} {c : List 
                 u .holds j (labelled p) l (record {
                   op-is = w .is ∙ sym (q₁ .numbered);
                   line-is = refl;
-                  first-is = f _ (first-drafts q₁) .is (labelled p) l;
-                  second-is = g _ (second-drafts q₁) .is (labelled p) l;
-                  third-is = k _ (third-drafts q₁) .is (labelled p) l;
+                  first-is = f _ (drafts q₁ 0) .is (labelled p) l;
+                  second-is = g _ (drafts q₁ 1) .is (labelled p) l;
+                  third-is = k _ (drafts q₁ 2) .is (labelled p) l;
                   kept = record {
                     first = kept-at p (labels-by s target (marks-in ms a b)) (draft-args s n number) 0 r;
                     second = kept-at p (labels-by s target (marks-in ms a b)) (draft-args s n number) 1 r;
@@ -161,10 +128,6 @@ module _ {s : List ℕ} {i : Instruction} {ms : List ℕ} {a b : ℕ} {c : List 
           }
 
 -- ---- the statement
-
-pub no-fault : (xs : List ℕ) → Clear ≡ fault-of xs → xs ≡ []
-no-fault [] e = refl
-no-fault (x ∷ xs) e = absurd (let y : _≡_ {A = ℕ} 0 1 = cc in omega arith)
 
 module _ {s : List ℕ} {i : Instruction} {ms : List ℕ} {a b : ℕ} {c : List ℕ} (pre : Declarable s i ms a b c) where
   valued : (n : ℕ) → Right-values s n (i .number) (i .values) → Valued s (statement-at s n) (arguments (operator-of (i .number)) (statement-at s n)) (i .values)
@@ -199,33 +162,26 @@ module _ {s : List ℕ} {i : Instruction} {ms : List ℕ} {a b : ℕ} {c : List 
       entered : HoldsProgram d (with-values s (pre .next) p)
       entered = h .holds e p (pre .held .holds)
 
-      record Rooms : Type 0 where
-        code : length (p .code) < 512
-        labels : length (p .labels) + (b - a) ≤ 128
-
-      rooms : Rooms
+      rooms : (length (p .code) < 512) × (length (p .labels) + (b - a) ≤ 128)
       unfolding instr-excess
       rooms =
           let x = beyond limit.instructions (length (p .code)) (i .at ∷ []) in
           let y = beyond limit.labels (length (p .labels)) (map place-by (marks-in ms a b)) in
           let z = texts-excess s (pre .next) p in
           let w = numbers-excess s (pre .next) p in
-          let f = no-fault (x ++ y ++ z ++ w) (sym e ∙ h .told p (pre .held .holds)) in
-          let g = append-none x y (append-none (x ++ y) z (append-none (x ++ y ++ z) w f .0) .0) in
-          let most = pre .held .holds .tabular in
-          record {
-            code = omega (arith, drop-none (512 - length (p .code)) (i .at ∷ []) (g .0));
-            labels =
-                omega (
-                  arith,
-                  drop-none (128 - length (p .labels)) (map place-by (marks-in ms a b)) (g .1),
-                  length-map (marks-in ms a b) place-by,
-                  length-take (b - a) (drop a ms),
-                  length-drop a ms,
-                  pre .named .most,
-                  most .labels-most,
-                );
-          }
+          let f = no-fault (x ++ y ++ z ++ w) (sym (h .told p (pre .held .holds)) ∙ e) in
+          let g = append-none x y (append-none (x ++ y) z (append-none (x ++ y ++ z) w f .0) .0) in (
+            omega (arith, drop-none (512 - length (p .code)) (i .at ∷ []) (g .0)),
+            omega (
+              arith,
+              drop-none (128 - length (p .labels)) (map place-by (marks-in ms a b)) (g .1),
+              length-map (marks-in ms a b) place-by,
+              length-take (b - a) (drop a ms),
+              length-drop a ms,
+              pre .named .most,
+              pre .held .holds .tabular .labels-most,
+            ),
+          )
 
       pub writable : Writable s i ms a b d
       unfolding with-values Rattle.entering.specs.Entering.set-numbers Rattle.entering.specs.Entering.set-texts
@@ -235,8 +191,8 @@ module _ {s : List ℕ} {i : Instruction} {ms : List ℕ} {a b : ℕ} {c : List 
             values = pre .values;
             held = record { program = with-values s (pre .next) p; holds = entered };
             named = pre .named;
-            code-room = omega (arith, code-count d (with-values s (pre .next) p) entered, rooms .code);
-            label-room = omega (arith, label-count d (with-values s (pre .next) p) entered, rooms .labels);
+            code-room = omega (arith, code-count d (with-values s (pre .next) p) entered, rooms .0);
+            label-room = omega (arith, label-count d (with-values s (pre .next) p) entered, rooms .1);
             line-most = pre .line-most;
           }
 

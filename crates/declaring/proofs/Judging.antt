@@ -1,10 +1,10 @@
 -- Question 11 of an instruction from its parts: the lower fault of two rows of places.
-use mathlib.Core.Path.{_≡_, refl, sym, ap, _∙_, subst}
+use mathlib.Core.Path.{_≡_, refl, sym, ap, _∙_}
 use mathlib.Core.List.{List, [], _∷_, _++_, map}
 use Prim.Native.Nat.{ℕ, zero, suc, _+_, _-_, _≤_, _<_}
 use native.Mathlib.Omega.{arith}
 use lib.ListN.{length, take, drop}
-use lib.Seq.{drop-drop}
+use lib.Seq.{drop-drop, drop-nil, take-nil}
 use Rattle.arguments.specs.Valued.{Valued}
 use Rattle.arguments.specs.declared.Values.{Values}
 use Rattle.drafts.specs.Marks.{place-by, marks-in}
@@ -30,11 +30,7 @@ use Rattle.declaring.specs.Declaring.{texts-excess, numbers-excess, Labe
 drop-take : {X : Type 0} (m n : ℕ) (xs : List X) → drop m (take n xs) ≡ take (n - m) (drop m xs)
 drop-take zero n xs = let e : n ≡ n - 0 = omega arith in ap (λ (k : ℕ). take k xs) e
 drop-take (suc m) zero xs = let e : 0 - suc m ≡ 0 = omega arith in sym (ap (λ (k : ℕ). take k (drop (suc m) xs)) e)
-drop-take {X} (suc m) (suc n) [] = sym (nothing (suc n - suc m))
-  where
-    nothing : (k : ℕ) → take {A = X} k [] ≡ []
-    nothing zero = refl
-    nothing (suc k) = refl
+drop-take {X} (suc m) (suc n) [] = sym (take-nil (suc n - suc m))
 drop-take (suc m) (suc n) (x ∷ xs) = let e : n - m ≡ suc n - suc m = omega arith in drop-take m n xs ∙ ap (λ (k : ℕ). take k (drop m xs)) e
 
 pub drop-map : {X Y : Type 0} (f : X → Y) (m : ℕ) (xs : List X) → drop m (map f xs) ≡ map f (drop m xs)
@@ -46,27 +42,15 @@ pub labels-over : {c : List ℕ} (ms : List ℕ) (a b room : ℕ) {r : Fault} �
     → r ≡ fault-of (map place-by (marks-in ms (a + room) b)) → Labels-told c (marks-in ms a b) r
 labels-over {c} ms a b room {r} e f p h =
     let q : b - (a + room) ≡ b - a - room = omega arith in
-    f
-    ∙ ap (λ (xs : List ℕ). fault-of (map place-by xs))
-    (ap (λ (m : ℕ). take m (drop (a + room) ms)) q ∙ ap (take (b - a - room)) (sym (drop-drop room a ms)) ∙ sym (drop-take room (b - a) (drop a ms)))
-    ∙ ap fault-of (sym (drop-map place-by room (marks-in ms a b)))
-    ∙ ap (λ (m : ℕ). fault-of (drop m (map place-by (marks-in ms a b)))) (e p h)
+    f ∙ rw (← e p h, drop-map place-by room, drop-take room (b - a) (drop a ms), drop-drop room a ms, q)
 
-module _ {c : List ℕ} {n : ℕ} (e : (p : Program) → HoldsProgram c p → n ≡ length (p .code)) (at : ℕ) where
-  pub instr-fits : n < 512 → Instr-told c at Clear
-  instr-fits l p h =
-      let q : 512 - length (p .code) ≡ suc (511 - length (p .code)) = omega (arith, e p h) in
-      sym (ap (λ (m : ℕ). fault-of (drop m (at ∷ []))) q ∙ none (511 - length (p .code)))
-    where
-      none : (m : ℕ) → fault-of (drop m []) ≡ Clear
-      none zero = refl
-      none (suc m) = refl
+-- one place more, within a limit and beyond it
+pub one-fits : (k n at : ℕ) → n < k → Clear ≡ fault-of (beyond k n (at ∷ []))
+one-fits k n at l = let q : k - n ≡ suc (k - suc n) = omega arith in rw (q, drop-nil {A = ℕ} (k - suc n))
 
-  pub instr-over : 512 ≤ n → Instr-told c at (At at)
-  unfolding lowest
-  instr-over l p h =
-      let q : 512 - length (p .code) ≡ 0 = omega (arith, e p h) in
-      sym (ap (λ (m : ℕ). fault-of (drop m (at ∷ []))) q)
+pub one-over : (k n at : ℕ) → k ≤ n → At at ≡ fault-of (beyond k n (at ∷ []))
+unfolding lowest
+one-over k n at l = let q : k - n ≡ 0 = omega arith in rw q
 
 -- ---- all of question 11
 
@@ -95,26 +79,19 @@ module _ {s : List ℕ} {v : Values} {ms : List ℕ} {i j : ℕ} {c : List ℕ} 
       judged =
           record {
             told = λ p h.
-                parts (beyond limit.instructions (length (p .code)) (at ∷ [])) (beyond limit.labels (length (p .labels)) (map place-by (marks-in ms i j))) (texts-excess s n p) (numbers-excess s n p) (a p h) (b p h) (texts .told p h) (numbers-told p h);
+                let xs = beyond limit.instructions (length (p .code)) (at ∷ []) in
+                let ys = beyond limit.labels (length (p .labels)) (map place-by (marks-in ms i j)) in
+                let zs = texts-excess s n p in
+                let ws = numbers-excess s n p in
+                rw (a p h, b p h, texts .told p h, numbers-told p h, fault-both (xs ++ ys ++ zs) ws, fault-both (xs ++ ys) zs, fault-both xs ys);
             holds = λ q p h.
                 let f = lower-clear (lower (lower ir lr) tr) nr q in
                 let g = lower-clear (lower ir lr) tr (f .0) in
                 numbers .holds (f .1) _ (texts .holds (g .1) p h);
             beyond-same = numbers .beyond-same ∙ texts .beyond-same;
           }
-        where
-          parts : (xs ys zs ws : List ℕ) → ir ≡ fault-of xs → lr ≡ fault-of ys → tr ≡ fault-of zs → nr ≡ fault-of ws
-              → lower (lower (lower ir lr) tr) nr ≡ fault-of (xs ++ ys ++ zs ++ ws)
-          parts xs ys zs ws x y z w =
-              ap (λ (f : Fault). lower (lower (lower f lr) tr) nr) x
-              ∙ ap (λ (f : Fault). lower (lower (lower (fault-of xs) f) tr) nr) y
-              ∙ ap (λ (f : Fault). lower (lower (lower (fault-of xs) (fault-of ys)) f) nr) z
-              ∙ ap (λ (f : Fault). lower (lower (lower (fault-of xs) (fault-of ys)) (fault-of zs)) f) w
-              ∙ sym (fault-both (xs ++ ys ++ zs) ws
-              ∙ ap (λ (f : Fault). lower f (fault-of ws)) (fault-both (xs ++ ys) zs ∙ ap (λ (f : Fault). lower f (fault-of zs)) (fault-both xs ys)))
 
 -- the three steps of the code
 pub judged-by : {s : List ℕ} {at : ℕ} {v : Values} {ms c d : List ℕ} (ir lr tr nr : Fault) {x y z : Fault} → Judges-values s at v ms c (lower (lower (lower ir lr) tr) nr) d
     → x ≡ lower ir lr → y ≡ lower x tr → z ≡ lower y nr → Judges-values s at v ms c z d
-judged-by {s} {at} {v} {ms} {c} {d} ir lr tr nr {x} {y} {z} h e f g =
-    subst (λ (r : Fault). Judges-values s at v ms c r d) (sym (g ∙ ap (λ (r : Fault). lower r nr) (f ∙ ap (λ (r : Fault). lower r tr) e))) h
+judged-by ir lr tr nr h e f g = rw (g, f, e) h

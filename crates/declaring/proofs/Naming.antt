@@ -1,16 +1,15 @@
 -- Labels come to a program table mark by mark.
-use mathlib.Core.Path.{_≡_, refl, sym, ap, _∙_, subst}
-use mathlib.Core.List.{List, [], _∷_, _++_, map, append-assoc, append-nil}
+use mathlib.Core.Path.{_≡_, refl, ap, _∙_, subst}
+use mathlib.Core.List.{List, map-append, append-assoc, append-nil}
 use Prim.Native.Nat.{ℕ, _+_, _-_, _/_, _%_, _≤_, _<_}
 use native.Mathlib.Omega.{arith}
 use lib.ListN.{length, getD, take, drop, length-append, length-map, length-take, length-drop}
-use Rattle.drafts.specs.Marks.{length-by, word-by, Marked, marks-in}
+use Rattle.drafts.specs.Marks.{word-by, marks-in}
 use Rattle.entering.specs.Entering.{Held}
-use Rattle.language.specs.Limits as limit
-use Rattle.language.specs.Program.{Label, Program}
+use Rattle.language.specs.Program.{Label}
 use Rattle.layout.specs.Cells.{cell}
 use Rattle.packed.specs.Packed.{table-of}
-use Rattle.writing.specs.Writing.{HoldsProgram, Changes, LabelRoom, with-label, label-of}
+use Rattle.writing.specs.Writing.{Changes, LabelRoom, with-label, label-of}
 use Rattle.writing.proofs.Held.{label-count}
 use Rattle.declaring.specs.Declaring.{with-labels, labels-by, Nameable, Labelling}
 use Rattle.names.proofs.Lowest.{marks-more, marks-none}
@@ -52,18 +51,13 @@ module _ {s ms : List ℕ} {a b target : ℕ} {c : List ℕ} (pre : Labelling s 
       record {
         from = omega arith;
         most = pre .named .order;
-        changes = record { holds = λ p h. subst (λ (q : Program). HoldsProgram c q) (sym (unchanged p)) h; beyond = refl };
+        changes = record { holds = λ p h. rw (marks-none ms a b (pre .named .most), append-nil (p .labels)) h; beyond = refl };
         size = refl;
       }
-    where
-      unchanged : (p : Program) → with-labels (new a) p ≡ p
-      unchanged p =
-          ap (λ (ks : List ℕ). with-labels (labels-by s target ks) p) (marks-none ms a b (pre .named .most))
-          ∙ ap (λ (ls : List Label). record { code = p .code; labels = ls; switches = p .switches; texts = p .texts; numbers = p .numbers }) (append-nil (p .labels))
 
   module _ {d : List ℕ} {k : ℕ} (h : Putting s ms a b target c d k) where
     pub putting-done : b ≤ k → Changes (with-labels (labels-by s target (marks-in ms a b))) c d
-    putting-done l = let e : k ≡ b = omega (arith, h .most) in subst (λ (m : ℕ). Changes (with-labels (new m)) c d) e (h .changes)
+    putting-done l = let e : k ≡ b = omega (arith, h .most) in rw e at (h .changes)
 
     module _ (l : k < b) where
       held-then : Held d
@@ -88,8 +82,8 @@ module _ {s ms : List ℕ} {a b target : ℕ} {c : List ℕ} (pre : Labelling s 
       pub nameable : {m : ℕ} → m ≡ getD ms k 0 → Nameable s m target d
       nameable {m} e =
           record {
-            marked = subst (λ (x : ℕ). Marked s x) (sym e) (pre .named .marked k l);
-            short = subst (λ (x : ℕ). length-by x ≤ limit.item) (sym e) (pre .named .short k l);
+            marked = rw e (pre .named .marked k l);
+            short = rw e (pre .named .short k l);
             long = held-then .holds .long;
             room = omega (arith, count-then, pre .room, h .from);
             low = pre .low;
@@ -104,23 +98,10 @@ module _ {s ms : List ℕ} {a b target : ℕ} {c : List ℕ} (pre : Labelling s 
             most = omega arith;
             changes =
                 record {
-                  holds = λ p u. subst (λ (q : Program). HoldsProgram d′ q) (more p) (g .holds (with-labels (new k) p) (h .changes .holds p u));
+                  holds = λ p u.
+                      rw (marks-more ms a b (pre .named .most) k (h .from) l, ← e, map-append (λ x. label-of (word-by s x) target) (marks-in ms a k), ← append-assoc (p .labels) (new k))
+                      (g .holds (with-labels (new k) p) (h .changes .holds p u));
                   beyond = g .beyond ∙ h .changes .beyond;
                 };
             size = z ∙ h .size;
           }
-        where
-          one : Label
-          one = label-of (word-by s m) target
-
-          mapped : (xs : List ℕ) → map (λ x. label-of (word-by s x) target) (xs ++ (m ∷ [])) ≡ map (λ x. label-of (word-by s x) target) xs ++ (label-of (word-by s m) target ∷ [])
-          mapped [] = refl
-          mapped (x ∷ xs) = ap (λ (ys : List Label). label-of (word-by s x) target ∷ ys) (mapped xs)
-
-          more : (p : Program) → with-label (label-of (word-by s m) target) (with-labels (new k) p) ≡ with-labels (new (k + 1)) p
-          more p =
-              ap (λ (ls : List Label). record { code = p .code; labels = ls; switches = p .switches; texts = p .texts; numbers = p .numbers })
-              (append-assoc (p .labels) (new k) (label-of (word-by s m) target ∷ [])
-              ∙ ap (λ (ls : List Label). p .labels ++ ls)
-              (sym (mapped (marks-in ms a k))
-              ∙ ap (labels-by s target) (ap (λ (x : ℕ). marks-in ms a k ++ (x ∷ [])) e ∙ sym (marks-more ms a b (pre .named .most) k (h .from) l))))

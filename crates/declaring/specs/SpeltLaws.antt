@@ -1,6 +1,6 @@
--- The words of a text are its bytes at their places.
-use mathlib.Core.Path.{_≡_, refl, sym, ap, _∙_, subst}
-use mathlib.Core.Bool.{Bool, true, false, cond, _&&_}
+-- The words of a text are its bytes at their places, and only a word takes a colon.
+use mathlib.Core.Path.{_≡_, refl, sym, ap, _∙_}
+use mathlib.Core.Bool.{Bool, true, false, cond, not, _&&_, _||_}
 use mathlib.Core.List.{List, [], _∷_, _++_, append-assoc}
 use Prim.Native.Nat.{ℕ, _+_, _≤_}
 use native.Mathlib.Omega.{arith}
@@ -13,13 +13,17 @@ use Rattle.drafts.specs.Marks.{mark, place-by, word-by}
 use Rattle.drafts.specs.Tabled.{Spelt}
 use Rattle.language.specs.Limits as limit
 use Rattle.layout.specs.Bounds.{Each}
-use Rattle.layout.specs.CellLaws.{each-append}
-use Rattle.lists.specs.Lists.{headOr, ifAny}
+use Rattle.layout.specs.CellLaws.{each-append, each-drop}
+use Rattle.lists.specs.Lists.{filled, headOr, ifAny}
+use Rattle.lists.specs.ListLaws.{T-left}
 use Rattle.statements.specs.StatementAt.{statement-at}
 use Rattle.syntax.specs.Items.{Sort, sort-of, same-sort, Item, is, places, a-word, a-text, a-mark, ends-text, takes-next, char-of, allows, Mode, opens, begins, itself, mode-after, items-at, left-over, read, attach, named, parted, statements}
 use Rattle.syntax.specs.Items.Sort.{separator, word, colon, end, text, wrong}
 use Rattle.syntax.specs.Items.Stage.{first-star, inside, last-slash}
 use Rattle.syntax.specs.Items.Mode.{outside, in-word, in-comment, in-text}
+
+abbrev pub plain : Item → Bool
+plain i = is word i || not (filled (i .colon))
 
 module _ (s : List ℕ) where
   -- the bytes of a word stand at its place
@@ -27,8 +31,8 @@ module _ (s : List ℕ) where
     pub within : i .at + length (i .chars) ≤ length s
     pub is : take (length (i .chars)) (drop (i .at) s) ≡ i .chars
 
-  abbrev pub As-written : Item → Type 0
-  As-written i = T (is word i) → Stands-at i
+  abbrev As-written : Item → Type 0
+  As-written i = (T (is word i) → Stands-at i) × T (plain i)
 
   -- what the reader has of a word: its bytes are the last of those before it
   abbrev Begun : List ℕ → Mode → Type 0
@@ -41,14 +45,10 @@ module _ (s : List ℕ) where
   unfolding itself
   itself-written separator n b next = tt
   itself-written word n b next = tt
-  itself-written colon n b next = ((λ h. absurd h), tt)
-  itself-written end n b next = ((λ h. absurd h), tt)
+  itself-written colon n b next = (((λ h. absurd h), tt), tt)
+  itself-written end n b next = (((λ h. absurd h), tt), tt)
   itself-written text n b next = tt
-  itself-written wrong n b next = go (opens b next)
-    where
-      go : (t : Bool) → Each As-written (cond t [] (a-mark wrong n ∷ []))
-      go true = tt
-      go false = ((λ h. absurd h), tt)
+  itself-written wrong n b next = elim (opens b next) as (λ t. Each As-written (cond t [] (a-mark wrong n ∷ []))) [ true ↦ tt | false ↦ (((λ h. absurd h), tt), tt) ]
 
   -- a word that ends is as it is written
   word-written : (before r w : List ℕ) (at : ℕ) → s ≡ before ++ r → Begun before (in-word at w) → Stands-at (a-word at w)
@@ -70,37 +70,32 @@ module _ (s : List ℕ) where
     begins-begun colon = tt
     begins-begun end = tt
     begins-begun text = tt
-    begins-begun wrong = go (opens b next)
-      where
-        go : (t : Bool) → Begun then (cond t (in-comment n first-star) outside)
-        go true = tt
-        go false = tt
+    begins-begun wrong = elim (opens b next) as (λ t. Begun then (cond t (in-comment n first-star) outside)) [ true ↦ tt | false ↦ tt ]
 
     step-written : (m : Mode) → Begun before m → Each As-written (items-at m n b next) × Begun then (mode-after m n b next)
     unfolding items-at mode-after
     step-written outside h = (itself-written (sort-of b) n b next, begins-begun (sort-of b))
-    step-written (in-word at w) (front, (g, k)) = go (same-sort word (sort-of b)) refl
-      where
-        go : (t : Bool) → same-sort word (sort-of b) ≡ t
-            → Each As-written (cond t [] (a-word at w ∷ itself (sort-of b) n b next)) × Begun then (cond t (in-word at (w ++ (b ∷ []))) (begins (sort-of b) n b next))
-        go true q = (tt, (front, (ap (λ (v : List ℕ). v ++ (b ∷ [])) g ∙ append-assoc front w (b ∷ []), k)))
-        go false q = (((λ h. word-written before (b ∷ r) w at e (front, (g, k))), itself-written (sort-of b) n b next), begins-begun (sort-of b))
+    step-written (in-word at w) (front, (g, k)) =
+        elim (same-sort word (sort-of b)) as (λ t. Each As-written (cond t [] (a-word at w ∷ itself (sort-of b) n b next)) × Begun then (cond t (in-word at (w ++ (b ∷ []))) (begins (sort-of b) n b next))) [
+          | true ↦ (tt, (front, (ap (λ (v : List ℕ). v ++ (b ∷ [])) g ∙ append-assoc front w (b ∷ []), k)))
+          | false ↦ ((((λ h. word-written before (b ∷ r) w at e (front, (g, k))), tt), itself-written (sort-of b) n b next), begins-begun (sort-of b))
+        ]
     step-written (in-comment at first-star) h = (tt, tt)
     step-written (in-comment at inside) h = (tt, tt)
     step-written (in-comment at last-slash) h = (tt, tt)
     step-written (in-text at star cs good) h = go (ends-text star b) (eqb b 39)
       where
         go : (t u : Bool) → Each As-written (cond t (a-text at cs (good && u) ∷ cond u [] (a-mark end n ∷ [])) []) × Begun then (cond t outside (in-text at (takes-next star b) (cs ++ char-of star b) (good && allows star b)))
-        go true true = (((λ h. absurd h), tt), tt)
-        go true false = (((λ h. absurd h), ((λ h. absurd h), tt)), tt)
+        go true true = ((((λ h. absurd h), tt), tt), tt)
+        go true false = ((((λ h. absurd h), tt), (((λ h. absurd h), tt), tt)), tt)
         go false u = (tt, tt)
 
   left-written : (m : Mode) (before : List ℕ) → s ≡ before ++ [] → Begun before m → Each As-written (left-over m)
   unfolding left-over
   left-written outside before e h = tt
-  left-written (in-word at w) before e h = ((λ k. word-written before [] w at e h), tt)
-  left-written (in-comment at k) before e h = ((λ k. absurd k), tt)
-  left-written (in-text at star cs good) before e h = ((λ k. absurd k), tt)
+  left-written (in-word at w) before e h = (((λ k. word-written before [] w at e h), tt), tt)
+  left-written (in-comment at k) before e h = (((λ k. absurd k), tt), tt)
+  left-written (in-text at star cs good) before e h = (((λ k. absurd k), tt), tt)
 
   read-written : (m : Mode) (n : ℕ) (before r : List ℕ) → s ≡ before ++ r → length before ≡ n → Begun before m → Each As-written (read m n r)
   unfolding read
@@ -114,19 +109,14 @@ module _ (s : List ℕ) where
 
   attach-written : (i : Item) (js : List Item) → As-written i → Each As-written js → Each As-written (attach i js)
   unfolding attach
-  attach-written i js h k = go (is word i) refl (ifAny false (is colon) js)
-    where
-      drop-one : (xs : List Item) → Each As-written xs → Each As-written (drop 1 xs)
-      drop-one [] q = tt
-      drop-one (x ∷ xs) q = q .1
-
-      go : (a : Bool) → is word i ≡ a → (b : Bool)
-          → Each As-written (cond (a && b) (record { at = i .at; sort = word; chars = i .chars; good = i .good; colon = places (take 1 js) } ∷ drop 1 js) (i ∷ js))
-      go true e true =
-          let w = h (subst T (sym e) tt) in
-          ((λ q. record { within = w .within; is = w .is }), drop-one js k)
-      go true e false = (h, k)
-      go false e b = (h, k)
+  attach-written i js h k =
+      let c : Bool = is word i && ifAny false (is colon) js in
+      elim c as (λ b. c ≡ b → Each As-written (cond b (record { at = i .at; sort = word; chars = i .chars; good = i .good; colon = places (take 1 js) } ∷ drop 1 js) (i ∷ js))) [
+        | true ↦ λ e.
+            let w = h .0 (T-left (is word i) (ifAny false (is colon) js) (rw e tt)) in
+            (((λ q. record { within = w .within; is = w .is }), tt), each-drop As-written 1 js k)
+        | false ↦ λ e. (h, k)
+      ] refl
 
   named-written : (js : List Item) → Each As-written js → Each As-written (named js)
   unfolding named
@@ -136,23 +126,26 @@ module _ (s : List ℕ) where
   first-written : (js : List Item) → Each As-written js → Each As-written (headOr [] (statements js))
   unfolding statements parted
   first-written [] h = tt
-  first-written (i ∷ js) h = go (is end i) (first-written js (h .1))
-    where
-      go : (t : Bool) → Each As-written (headOr [] (statements js)) → Each As-written (headOr [] (cond t ([] ∷ statements js) ((i ∷ headOr [] (statements js)) ∷ drop 1 (statements js))))
-      go true k = tt
-      go false k = (h .0, k)
+  first-written (i ∷ js) h =
+      elim (is end i) as (λ t. Each As-written (headOr [] (cond t ([] ∷ statements js) ((i ∷ headOr [] (statements js)) ∷ drop 1 (statements js))))) [
+        | true ↦ tt
+        | false ↦ (h .0, first-written js (h .1))
+      ]
 
   -- the items of a statement
-  pub statement-written : (n : ℕ) → n ≤ length s → Each As-written (statement-at s n)
+  statement-written : (n : ℕ) → n ≤ length s → Each As-written (statement-at s n)
   unfolding statement-at
   statement-written n h =
       first-written (named (read outside n (drop n s)))
       (named-written (read outside n (drop n s))
       (read-written outside n (take n s) (drop n s) (sym (take-append-drop n s)) (length-take-le n s h) tt))
 
+  pub statement-plain : (n : ℕ) → n ≤ length s → Each (λ i. T (plain i)) (statement-at s n)
+  statement-plain n h = each-map As-written _ (λ i e. e .1) (statement-at s n) (statement-written n h)
+
   spelt-item : (i : Item) → As-written i → length (i .chars) ≤ limit.item → Spelt s i
   unfolding word-by
-  spelt-item i h l =
+  spelt-item i (h, p) l =
       let a = place-back (i .at) (length (i .chars)) (omega arith) in
       let b = length-back (i .at) (length (i .chars)) (omega arith) in
       record {

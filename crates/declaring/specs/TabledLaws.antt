@@ -5,8 +5,7 @@ use mathlib.Core.List.{List, [], _∷_, _++_, map, map-append}
 use Prim.Native.Nat.{ℕ, _≤_}
 use native.Mathlib.Omega.{arith}
 use lib.Dec.{T}
-use lib.ListN.{length, getD, take, length-map}
-use lib.IntN.{ℤ}
+use lib.ListN.{length, take, length-map}
 use Rattle.acceptance.specs.Drafts.{Sound-argument, Sound-written, Sound-tables}
 use Rattle.acceptance.specs.ReadingLaws.{Other, by-form, text-reads, as-word, numeral-word, arguments-of}
 use Rattle.acceptance.specs.RowLaws.{each-map, each-keep, each-mapped}
@@ -20,7 +19,7 @@ use Rattle.heads.specs.HeadLaws.{operator-here, rest-here}
 use Rattle.heads.specs.declared.Head.{Head}
 use Rattle.language.specs.Instructions.{operation, operator-of}
 use Rattle.language.specs.Limits as limit
-use Rattle.language.specs.Program.{Op, Arg, Instr, Label, Switch, Program}
+use Rattle.language.specs.Program.{Op, Program}
 use Rattle.language.specs.Values.{numeral, valueOf, in-range}
 use Rattle.layout.specs.ArgumentLaws.{operator-back}
 use Rattle.layout.specs.Bounds.{Each}
@@ -35,12 +34,12 @@ use Rattle.statements.specs.declared.Fault.the-variants.{Clear}
 use Rattle.syntax.specs.ArgumentForms.{word-reads, Argument, alternatives, arguments-in, arguments}
 use Rattle.syntax.specs.Items.{Item, is, places, line-at}
 use Rattle.syntax.specs.Items.Sort.{colon}
-use Rattle.syntax.specs.Questions.{beyond, instr-beyond}
+use Rattle.syntax.specs.Questions.{instr-beyond}
 use Rattle.syntax.specs.Statements.{behind, operator, operator-at, rest}
 use Rattle.syntax.specs.Tables.{Tables, contents, new-texts, new-numbers, number-in, with-instr}
 use Rattle.writing.specs.Writing as writing
-use Rattle.writing.specs.Writing.{HoldsProgram, kept-arg, label-of}
-use Rattle.declaring.specs.Declaring.{with-labels, labels-by, with-values, instr-excess, new-instr, with-labelled, Declares}
+use Rattle.writing.specs.Writing.{HoldsProgram, kept-arg}
+use Rattle.declaring.specs.Declaring.{with-labels, labels-by, with-values, instr-excess, with-labelled, Declares}
 use Rattle.declaring.specs.declared.Instruction.{Instruction}
 
 -- the statement x whose operator is the token o, with labels ls of the marks ms
@@ -65,17 +64,13 @@ pub record Labelled (s : List ℕ) (ls : List Item) (ms : List ℕ) : Type 0 whe
 -- the labels' places and names by their marks
 pub mark-places : (ls : List Item) → Each (λ l. length (l .chars) ≤ limit.item) ls → map place-by (map mark ls) ≡ places ls
 mark-places [] h = refl
-mark-places (l ∷ ls) h =
-    ap (λ (p : ℕ). p ∷ map place-by (map mark ls)) (place-back (l .at) (length (l .chars)) (omega (arith, h .0)))
-    ∙ ap (λ (ps : List ℕ). l .at ∷ ps) (mark-places ls (h .1))
+mark-places (l ∷ ls) h = rw (place-back (l .at) (length (l .chars)) (omega (arith, h .0)), mark-places ls (h .1))
 
 module _ (s : List ℕ) where
   pub mark-labels : (target : ℕ) (ls : List Item) → Each (λ l. word-by s (mark l) ≡ l .chars) ls
       → labels-by s target (map mark ls) ≡ map (λ l. record { name = l .chars; target = target }) ls
   mark-labels target [] h = refl
-  mark-labels target (l ∷ ls) h =
-      ap (λ (w : List ℕ). label-of w target ∷ labels-by s target (map mark ls)) (h .0)
-      ∙ ap (λ (ys : List Label). label-of (l .chars) target ∷ ys) (mark-labels target ls (h .1))
+  mark-labels target (l ∷ ls) h = rw (h .0, mark-labels target ls (h .1))
 
 -- ---- an argument that is kept
 
@@ -116,14 +111,6 @@ arguments-kept n p args h = each-mapped (λ a. T (kept-arg p a)) draft-arg args 
 
 -- ---- the program of the tables
 
-same-program : {c d : List Instr} {l m : List Label} {w : List Switch} {t u : List (List ℕ)} {n o : List ℤ} → c ≡ d → l ≡ m → t ≡ u → n ≡ o
-    → _≡_ {A = Program} (record { code = c; labels = l; switches = w; texts = t; numbers = n }) (record { code = d; labels = m; switches = w; texts = u; numbers = o })
-same-program {c} {d} {l} {m} {w} {t} {u} {n} {o} e f g h =
-    ap (λ (x : List Instr). record { code = x; labels = l; switches = w; texts = t; numbers = n }) e
-    ∙ ap (λ (x : List Label). record { code = d; labels = x; switches = w; texts = t; numbers = n }) f
-    ∙ ap (λ (x : List (List ℕ)). record { code = d; labels = m; switches = w; texts = x; numbers = n }) g
-    ∙ ap (λ (x : List ℤ). record { code = d; labels = m; switches = w; texts = u; numbers = x }) h
-
 module _ (lines : List ℕ) (t : Tables) (op : Op) (i : Instruction) {s : List ℕ} {ls x : List Item} {o : Token} {ms : List ℕ} (h : Operated s x o) (l : Labelled s ls ms)
     (number-is : i .number ≡ operation op .number) (at-is : i .at ≡ o .at) (line-is : i .line ≡ line-at lines (o .at)) where
   abbrev p : Program
@@ -138,48 +125,23 @@ module _ (lines : List ℕ) (t : Tables) (op : Op) (i : Instruction) {s : List �
   op-is : operator-of number ≡ op
   op-is = ap operator-of number-is ∙ operator-back op
 
-  instr-is : new-instr s (o .next) number line ≡ draft-instr lines (record { op = op; at = operator-at x; args = arguments op (rest x) })
-  unfolding draft-instr
-  instr-is =
-      ap (λ (q : Op). instr-with q (statement-at s (o .next)) line) op-is
-      ∙ ap (λ (js : List Item). instr-with op js line) (sym (h .rest-is))
-      ∙ ap (λ (k : ℕ). instr-with op (rest x) k) (line-is ∙ ap (line-at lines) (sym (h .place-is)))
-    where
-      instr-with : Op → List Item → ℕ → Instr
-      instr-with q js k =
-          record {
-            op = q;
-            line = k;
-            first = getD (map draft-arg (arguments q js)) 0 Arg.nothing;
-            second = getD (map draft-arg (arguments q js)) 1 Arg.nothing;
-            third = getD (map draft-arg (arguments q js)) 2 Arg.nothing;
-          }
-
   pub program-is : with-labelled s (o .next) number line ms (with-values s (o .next) p) ≡ draft-program lines (with-instr t ls x op)
-  unfolding with-labelled with-values set-numbers set-texts with-labels writing.with-instr draft-program with-instr
+  unfolding with-labelled with-values set-numbers set-texts with-labels writing.with-instr draft-program draft-instr with-instr
   program-is =
-      same-program
-      (ap (λ (j : Instr). map (draft-instr lines) (t .code) ++ (j ∷ [])) instr-is ∙ sym (map-append (draft-instr lines) (t .code) (record { op = op; at = operator-at x; args = arguments op (rest x) } ∷ [])))
-      (ap (λ (xs : List Label). t .labels ++ xs)
-      (ap (λ (k : ℕ). labels-by s k ms) (length-map (t .code) (draft-instr lines)) ∙ ap (labels-by s (length (t .code))) (l .marks) ∙ mark-labels s (length (t .code)) ls (l .spelt)))
-      (ap (λ (js : List Item). t .texts ++ contents (new-texts t js)) (sym (h .rest-is)))
-      (ap (λ (js : List Item). t .numbers ++ map number-in (new-numbers t js)) (sym (h .rest-is)))
+      rw (
+        op-is,
+        line-is,
+        h .place-is,
+        h .rest-is,
+        l .marks,
+        length-map (t .code) (draft-instr lines),
+        mark-labels s (length (t .code)) ls (l .spelt),
+        map-append (draft-instr lines) (t .code),
+      )
 
   pub excess-is : instr-excess s (i .at) (o .next) ms p ≡ instr-beyond t ls x
   unfolding instr-excess instr-beyond draft-program
-  excess-is =
-      ap (λ (k : ℕ). instr-excess s k (o .next) ms p) at-is
-      ∙ ap (λ (k : ℕ). beyond 512 k (o .at ∷ []) ++ beyond 128 (length (t .labels)) (map place-by ms) ++ texts (statement-at s (o .next)) ++ numbers (statement-at s (o .next))) (length-map (t .code) (draft-instr lines))
-      ∙ ap (λ (ps : List ℕ). beyond 512 (length (t .code)) ps ++ beyond 128 (length (t .labels)) (map place-by ms) ++ texts (statement-at s (o .next)) ++ numbers (statement-at s (o .next))) (sym (ap places (h .operator-is)))
-      ∙ ap (λ (ps : List ℕ). beyond 512 (length (t .code)) (places (operator x)) ++ beyond 128 (length (t .labels)) ps ++ texts (statement-at s (o .next)) ++ numbers (statement-at s (o .next)))
-      (ap (map place-by) (l .marks) ∙ mark-places ls (l .short))
-      ∙ ap (λ (js : List Item). beyond 512 (length (t .code)) (places (operator x)) ++ beyond 128 (length (t .labels)) (places ls) ++ texts js ++ numbers js) (sym (h .rest-is))
-    where
-      texts : List Item → List ℕ
-      texts js = beyond 128 (length (t .texts)) (places (new-texts t js))
-
-      numbers : List Item → List ℕ
-      numbers js = beyond 128 (length (t .numbers)) (places (new-numbers t js))
+  excess-is = rw (at-is, h .operator-is, h .rest-is, l .marks, length-map (t .code) (draft-instr lines), mark-places ls (l .short))
 
   module _ {c : List ℕ} {r : Fault} {d : List ℕ} (u : Declares s i (o .next) ms c r d) where
     -- question 11
@@ -191,17 +153,15 @@ module _ (lines : List ℕ) (t : Tables) (op : Op) (i : Instruction) {s : List �
       own-argument : Each (Sound-argument (length s) (with-values s (o .next) p .texts) (with-values s (o .next) p .numbers)) (arguments (operator-of number) (statement-at s (o .next)))
       unfolding with-instr with-values set-numbers set-texts draft-program
       own-argument =
-          subst (λ (q : Op). Each (Sound-argument (length s) (with-values s (o .next) p .texts) (with-values s (o .next) p .numbers)) (arguments q (statement-at s (o .next)))) (sym op-is)
-          (subst (λ (js : List Item). Each (Sound-argument (length s) (t .texts ++ contents (new-texts t js)) (t .numbers ++ map number-in (new-numbers t js))) (arguments op js)) (h .rest-is)
-          (each-right (Sound-written (length s) (t .texts ++ contents (new-texts t (rest x))) (t .numbers ++ map number-in (new-numbers t (rest x)))) (t .code) _ (sound .code) .0 .each-argument))
+          rw (op-is, ← h .rest-is)
+          (each-right (Sound-written (length s) (t .texts ++ contents (new-texts t (rest x))) (t .numbers ++ map number-in (new-numbers t (rest x)))) (t .code) _ (sound .code) .0 .each-argument)
 
       pub instr-tabled : r ≡ Clear → Tabled s lines (with-instr t ls x op) d sw en
       unfolding with-instr
       instr-tabled e =
           record {
             sound = sound;
-            holds = subst (λ (q : Program). HoldsProgram d q) program-is
-                (u .holds e p (v .holds) (arguments-kept (length s) (with-values s (o .next) p) (arguments (operator-of number) (statement-at s (o .next))) own-argument));
+            holds = rw program-is at (u .holds e p (v .holds) (arguments-kept (length s) (with-values s (o .next) p) (arguments (operator-of number) (statement-at s (o .next))) own-argument));
             spelt-arguments =
                 each-append (λ w. Each (λ a. Spelt s (a .item)) (w .args)) (t .code) _ (v .spelt-arguments)
                 (arguments-of (Spelt s) (arguments-in (rest x)) (alternatives op) (each-keep (Spelt s) (λ i. not (is colon i)) (rest x) spelt), tt);

@@ -1,16 +1,15 @@
 -- The entries of a switch one by one.
-use mathlib.Core.Path.{_≡_, refl, sym, ap, _∙_, subst}
-use mathlib.Core.List.{List, [], _∷_, _++_, map, append-assoc, append-nil}
-use Prim.Native.Nat.{ℕ, zero, suc, _+_, _-_, _≤_, _<_}
+use mathlib.Core.Path.{_≡_, refl, sym, ap, _∙_}
+use mathlib.Core.List.{List, [], _∷_, _++_, append-assoc, append-nil}
+use Prim.Native.Nat.{ℕ, suc, _+_, _-_, _≤_, _<_}
 use native.Mathlib.Omega.{arith}
 use lib.Dec.{T}
 use lib.ListN.{length, getD, take, drop, length-append, length-map, length-take}
 use lib.Seq.{take-suc, take-all}
-use Rattle.entering.specs.Entering.{Short-item}
 use Rattle.language.specs.Program.{Entry, Switch, Program}
 use Rattle.layout.specs.ArgumentLaws.{text-ref-below}
-use Rattle.layout.specs.Bounds.{Each, KeptText}
-use Rattle.layout.specs.CellLaws.{each-at}
+use Rattle.layout.specs.Bounds.{KeptText}
+use Rattle.layout.specs.CellLaws.{each-at, getD-map-at}
 use Rattle.layout.specs.Cells.{cell}
 use Rattle.layout.specs.Table.{all-entries}
 use Rattle.lists.specs.Lists.{each}
@@ -18,7 +17,7 @@ use Rattle.lists.specs.ListLaws.{T-right}
 use Rattle.machine.specs.WellFormed.{good-text, kept-text}
 use Rattle.packed.specs.Packed.{table-of}
 use Rattle.statements.specs.StatementAt.{statement-at}
-use Rattle.switch_lists.specs.Switches.{entry-texts, Text-cell}
+use Rattle.switch_lists.specs.Switches.{Text-cell}
 use Rattle.syntax.specs.Items.{Item}
 use Rattle.writing.specs.Writing.{HoldsProgram, Writes, IsEntry, EntryRoom, with-entry, with-switches, on-last}
 use Rattle.writing.proofs.Held.{entry-count}
@@ -26,7 +25,7 @@ use Rattle.writing.proofs.Rooms.{entry-room}
 use Rattle.writing.proofs.Switching.{last-long}
 use Rattle.declaring_switches.specs.declared.Declaration.{Declaration}
 use Rattle.declaring_switches.specs.Entries.{row-text, Row-named, Row-told, and-entries, with-entries, Kept-entries, list-entries, Listing, Lists}
-use Rattle.declaring_switches.proofs.Rows.{row-entry, entries-are, rows-count, rows-short}
+use Rattle.declaring_switches.proofs.Rows.{row-entry, entries-are, rows-in, rows-are, cell-here, row-named}
 
 same-last : (ws : List Switch) → on-last (and-entries []) ws ≡ ws
 same-last [] = refl
@@ -57,11 +56,6 @@ with-both : (xs ys : List Entry) (p : Program) → with-entries ys (with-entries
 unfolding with-entries
 with-both xs ys p = ap (λ (ws : List Switch). with-switches ws p) (last-twice xs ys (p .switches))
 
-row-at : (rows : List (List Item)) (k : ℕ) → getD (map row-entry rows) k (row-entry []) ≡ row-entry (getD rows k [])
-row-at [] k = refl
-row-at (r ∷ rows) zero = refl
-row-at (r ∷ rows) (suc k) = row-at rows k
-
 -- place k of the cells is reached
 pub record Filling (s : List ℕ) (d : Declaration) (c e : List ℕ) (k : ℕ) : Type 0 where
   pub from : cell (table-of c) 3 ≤ k
@@ -77,7 +71,7 @@ module _ {s : List ℕ} {d : Declaration} {c tx : List ℕ} (pre : Listing s d c
   held = cell (table-of c) 3
 
   abbrev rows : List (List Item)
-  rows = entry-texts (statement-at s (d .list))
+  rows = rows-in (pre .list)
 
   abbrev es : List Entry
   es = list-entries s (d .list)
@@ -85,11 +79,8 @@ module _ {s : List ℕ} {d : Declaration} {c tx : List ℕ} (pre : Listing s d c
   pub held-is : held ≡ length (all-entries p₀)
   held-is = entry-count c p₀ (pre .held .holds)
 
-  rows-are : length rows ≡ d .words
-  rows-are = rows-count (statement-at s (d .list)) ∙ sym (pre .list .words-is)
-
   entries-count : length es ≡ d .words
-  entries-count = ap length (entries-are (statement-at s (d .list))) ∙ length-map rows row-entry ∙ rows-are
+  entries-count = ap length (entries-are (statement-at s (d .list))) ∙ length-map rows row-entry ∙ rows-are (pre .list)
 
   pub filling-first : {k : ℕ} → k ≡ held → Filling s d c c k
   filling-first {k} e =
@@ -97,7 +88,7 @@ module _ {s : List ℕ} {d : Declaration} {c tx : List ℕ} (pre : Listing s d c
       record {
         from = omega (arith, e);
         most = omega (arith, e);
-        holds = λ p h q. subst (λ (x : Program). HoldsProgram c x) (sym (ap (λ (j : ℕ). with-entries (take j es) p) z ∙ with-none p)) h;
+        holds = λ p h q. rw (z, with-none p) h;
         beyond-same = refl;
       }
 
@@ -120,30 +111,18 @@ module _ {s : List ℕ} {d : Declaration} {c tx : List ℕ} (pre : Listing s d c
 
       module _ {m : ℕ} (x : m ≡ getD tx k 0) where
         here : Text-cell s m row
-        here =
-            let y : held + at ≡ k = omega (arith, u .from) in
-            subst (λ (v : ℕ). Text-cell s v row) (ap (λ (j : ℕ). getD tx j 0) y ∙ sym x)
-            (pre .list .texts at (omega (arith, more, u .from, rows-are)) (omega (arith, more, u .from, held-is, pre .room)))
+        here = cell-here (pre .list) (u .from) more (omega (arith, more, held-is, pre .room)) x
 
-        pub row-named : Row-named s m e
-        row-named =
-            record {
-              row = row;
-              named = here;
-              short = each-at (Each Short-item) [] tt rows (rows-short (statement-at s (d .list)) (pre .list .short)) at;
-              held = record { program = now p₀; holds = held-now };
-            }
+        pub row-tellable : Row-named s m e
+        row-tellable = row-named (pre .list) (u .from) more (omega (arith, more, held-is, pre .room)) x (record { program = now p₀; holds = held-now })
 
         module _ {v : ℕ} (g : Row-told s m e v) where
           row-is : getD es at (row-entry []) ≡ row-entry row
-          row-is = ap (λ (xs : List Entry). getD xs at (row-entry [])) (entries-are (statement-at s (d .list))) ∙ row-at rows at
-
-          kept-row : (p : Program) → Kept-entries p es → KeptText p (row-text row)
-          kept-row p h = subst (λ (y : Entry). KeptText p (y .text)) row-is (each-at (λ y. KeptText p (y .text)) (row-entry []) tt es h at)
+          row-is = ap (λ (xs : List Entry). getD xs at (row-entry [])) (entries-are (statement-at s (d .list))) ∙ getD-map-at row-entry rows at [] (row-entry []) (omega (arith, more, u .from, rows-are (pre .list)))
 
           kept-now : (p : Program) → Kept-entries p es → KeptText (now p) (row-text row)
           unfolding with-entries
-          kept-now p h = kept-row p h
+          kept-now p h = rw row-is at (each-at (λ y. KeptText p (y .text)) (row-entry []) tt es h at)
 
           count-now : length (all-entries (now p₀)) ≡ length (all-entries p₀) + length (take at es)
           unfolding with-entries
@@ -169,11 +148,7 @@ module _ {s : List ℕ} {d : Declaration} {c tx : List ℕ} (pre : Listing s d c
                 from = omega (arith, u .from);
                 most = omega (arith, more);
                 holds = λ p h q.
-                    subst (λ (x : Program). HoldsProgram e′ x)
-                    (with-both (take at es) (row-entry row ∷ []) p
-                    ∙ ap (λ (y : Entry). with-entries (take at es ++ (y ∷ [])) p) (sym row-is)
-                    ∙ ap (λ (xs : List Entry). with-entries xs p) (sym (take-suc es at (row-entry []) (omega (arith, more, u .from, entries-count))))
-                    ∙ ap (λ (j : ℕ). with-entries (take j es) p) (sym z))
+                    rw (z, take-suc es at (row-entry []) (omega (arith, more, u .from, entries-count)), row-is, ← with-both (take at es) (row-entry row ∷ []) p)
                     (one-entry p (w .holds (row-entry row) (now p) (u .holds p h q)
                     (record { label-is = refl; ref-is = g .of row here .is (now p) (u .holds p h q); kept = kept-only (now p) (row-text row) (kept-now p q) })));
                 beyond-same = w .beyond ∙ u .beyond-same;
@@ -182,6 +157,6 @@ module _ {s : List ℕ} {d : Declaration} {c tx : List ℕ} (pre : Listing s d c
     pub filled-all : held + d .words ≤ k → Lists s d c e
     filled-all done =
         record {
-          holds = λ p h q. subst (λ (xs : List Entry). HoldsProgram e (with-entries xs p)) (take-all at es (omega (arith, done, entries-count))) (u .holds p h q);
+          holds = λ p h q. rw (take-all at es (omega (arith, done, entries-count))) at (u .holds p h q);
           beyond-same = u .beyond-same;
         }

@@ -1,4 +1,3 @@
-pub mod Colons
 pub mod Rows
 pub mod Texts
 pub mod Entries

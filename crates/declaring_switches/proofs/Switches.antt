@@ -1,5 +1,5 @@
 -- The switch with its list comes to the table, after its texts.
-use mathlib.Core.Path.{_≡_, sym, ap, _∙_, subst}
+use mathlib.Core.Path.{_≡_, sym, ap, _∙_}
 use mathlib.Core.Bool.{Bool}
 use mathlib.Core.List.{List, [], _∷_, _++_, append-nil}
 use Prim.Native.Nat.{ℕ, _+_, _-_, _≤_, _<_}
@@ -9,15 +9,14 @@ use Rattle.acceptance.specs.RowLaws.{append-none, drop-none}
 use Rattle.declaring.specs.Declaring.{texts-excess}
 use Rattle.entering.specs.Entering.{set-texts}
 use Rattle.statements.specs.FaultLaws.{no-fault}
-use Rattle.language.specs.Program.{Entry, Program}
+use Rattle.language.specs.Program.{Program}
 use Rattle.layout.specs.Cells.{cell}
 use Rattle.layout.specs.Table.{all-entries}
 use Rattle.lists.specs.Lists.{keep}
 use Rattle.packed.specs.Packed.{table-of}
-use Rattle.statements.specs.StatementAt.{statement-at, fault-of}
+use Rattle.statements.specs.StatementAt.{statement-at}
 use Rattle.statements.specs.declared.Fault.{Fault}
 use Rattle.statements.specs.declared.Fault.the-variants.{Clear, At}
-use Rattle.switch_lists.specs.Switches.{Texts-named}
 use Rattle.syntax.specs.Items.{Item, is, places}
 use Rattle.syntax.specs.Items.Sort.{word}
 use Rattle.syntax.specs.Questions.{beyond}
@@ -27,16 +26,12 @@ use Rattle.writing.proofs.Held.{switch-count, entry-count}
 use Rattle.writing.proofs.Rooms.{switch-room}
 use Rattle.declaring_switches.specs.declared.Declaration.{Declaration}
 use Rattle.declaring_switches.specs.DeclaringSwitches.{Listed-switch, switch-excess, with-texts, Judgeable-switch, Judges-switch}
-use Rattle.declaring_switches.specs.Entries.{list-entries, Kept-entries, Listing, Lists}
+use Rattle.declaring_switches.specs.Entries.{Listing, Lists}
 use Rattle.declaring_switches.specs.Switches.{with-list, Writable-switch, WritesSwitch, Declarable-switch, DeclaresSwitch}
 
 same-entries : (b : Bool) (p : Program) → all-entries (with-switch b p) ≡ all-entries p
 unfolding with-switch
 same-entries b p = each-snoc (λ w. w .entries) (p .switches) (record { byName = b; entries = [] }) ∙ append-nil (all-entries p)
-
-still-kept : (b : Bool) (p : Program) (es : List Entry) → Kept-entries p es → Kept-entries (with-switch b p) es
-unfolding with-switch
-still-kept b p es h = h
 
 some-switch : (b : Bool) (p : Program) → 0 < length (with-switch b p .switches)
 unfolding with-switch
@@ -49,8 +44,8 @@ same-list {s} {d} {c} {e} {tx} q l =
       inside = l .inside;
       words-is = l .words-is;
       few = l .few;
-      over-is = subst (λ (m : ℕ). d .over ≡ fault-of (beyond 128 m (places (keep (is word) (statement-at s (d .list)))))) (sym q) (l .over-is);
-      texts = subst (λ (m : ℕ). Texts-named s (d .list) m tx) (sym q) (l .texts);
+      over-is = rw q (l .over-is);
+      texts = rw q (l .texts);
       text-room = l .text-room;
       ordered = l .ordered;
       right = l .right;
@@ -73,20 +68,21 @@ module _ {s : List ℕ} {d : Declaration} {c sw tx : List ℕ} (pre : Writable-s
         entry-count e (with-switch (d .named) p₀) (h .holds p₀ (pre .held .holds)) ∙ ap length (same-entries (d .named) p₀) ∙ sym (entry-count c p₀ (pre .held .holds))
 
     pub listing : Listing s d e tx
+    unfolding with-switch
     listing =
         record {
           list = same-list cell-same (pre .list);
           held = record { program = with-switch (d .named) p₀; holds = h .holds p₀ (pre .held .holds) };
           some = some-switch (d .named) p₀;
           room = omega (arith, ap length (same-entries (d .named) p₀), pre .entry-room);
-          kept = still-kept (d .named) p₀ (list-entries s (d .list)) (pre .kept);
+          kept = pre .kept;
         }
 
     pub switch-written : {e′ : List ℕ} → Lists s d e e′ → {k : ℕ} → k ≡ cell (table-of c) 2 → WritesSwitch s d c sw e′ (set sw k (d .name))
-    unfolding with-list
+    unfolding with-list with-switch
     switch-written u e =
         record {
-          holds = λ p g q. u .holds (with-switch (d .named) p) (h .holds p g) (still-kept (d .named) p (list-entries s (d .list)) q);
+          holds = λ p g q. u .holds (with-switch (d .named) p) (h .holds p g) q;
           switch-marks = ap (λ (j : ℕ). set sw j (d .name)) e;
           beyond-same = u .beyond-same ∙ h .beyond;
         }
@@ -112,11 +108,7 @@ module _ {s : List ℕ} {d : Declaration} {c sw tx : List ℕ} (pre : Declarable
       entered : HoldsProgram e (with-texts s (d .list) p)
       entered = h .holds x p (pre .held .holds)
 
-      record Switch-rooms : Type 0 where
-        switches : length (p .switches) < 32
-        entries : length (all-entries p) + d .words ≤ 128
-
-      rooms : Switch-rooms
+      rooms : (length (p .switches) < 32) × (length (all-entries p) + d .words ≤ 128)
       unfolding switch-excess
       rooms =
           let ws = keep (is word) (statement-at s (d .list)) in
@@ -124,18 +116,16 @@ module _ {s : List ℕ} {d : Declaration} {c sw tx : List ℕ} (pre : Declarable
           let qs = beyond 128 (length (all-entries p)) (places ws) in
           let rs = texts-excess s (d .list) p in
           let f = no-fault (ps ++ qs ++ rs) (sym (h .told p (pre .held .holds)) ∙ x) in
-          let g = append-none ps qs (append-none (ps ++ qs) rs f .0) in
-          record {
-            switches = omega (arith, drop-none (32 - length (p .switches)) (d .at ∷ []) (g .0));
-            entries =
-                omega (
-                  arith,
-                  drop-none (128 - length (all-entries p)) (places ws) (g .1),
-                  length-map ws (λ (i : Item). i .at),
-                  pre .held .holds .tabular .entries-most,
-                  pre .list .words-is,
-                );
-          }
+          let g = append-none ps qs (append-none (ps ++ qs) rs f .0) in (
+            omega (arith, drop-none (32 - length (p .switches)) (d .at ∷ []) (g .0)),
+            omega (
+              arith,
+              drop-none (128 - length (all-entries p)) (places ws) (g .1),
+              length-map ws (λ (i : Item). i .at),
+              pre .held .holds .tabular .entries-most,
+              pre .list .words-is,
+            ),
+          )
 
       cells-same : (cell (table-of e) 2 ≡ cell (table-of c) 2) × (cell (table-of e) 3 ≡ cell (table-of c) 3)
       unfolding with-texts set-texts
@@ -150,8 +140,8 @@ module _ {s : List ℕ} {d : Declaration} {c sw tx : List ℕ} (pre : Declarable
           record {
             list = same-list (cells-same .1) (pre .list);
             held = record { program = with-texts s (d .list) p; holds = entered };
-            switch-room = rooms .switches;
-            entry-room = rooms .entries;
+            switch-room = rooms .0;
+            entry-room = rooms .1;
             kept = pre .kept;
             switch-marks = pre .switch-marks;
           }

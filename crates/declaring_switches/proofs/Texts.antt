@@ -1,19 +1,20 @@
 -- The texts of a list come to the table, entry by entry: question 11 for them, and for the switch.
-use mathlib.Core.Path.{_≡_, refl, sym, ap, _∙_, subst}
-use mathlib.Core.Bool.{Bool, true, false, cond, not, _&&_, true≢false}
-use mathlib.Core.List.{List, [], _∷_, _++_, map, append-nil, append-assoc}
+use mathlib.Core.Path.{_≡_, refl, sym, ap, _∙_}
+use mathlib.Core.Bool.{Bool, true, false, _&&_, true≢false}
+use mathlib.Core.List.{List, [], _∷_, _++_, append-nil, append-assoc}
 use Prim.Native.Nat.{ℕ, zero, suc, _+_, _-_, _/_, _≤_, _<_, min}
+use native.Mathlib.Decide.{decLt}
 use native.Mathlib.Omega.{arith}
 use lib.Dec.{T, leb}
 use lib.ListN.{length, getD, drop, length-map, drop-of-length-le}
 use lib.Seq.{drop-cons, drop-nil}
-use borrow.Author.Tests.{not-true, leb-true, leb-false}
 use Rattle.acceptance.specs.RowLaws.{drop-none}
 use Rattle.arguments.specs.Valued.{Item-valued, Ordered}
 use Rattle.argument_cells.specs.ArgumentCells.{Text-named, Text-told}
 use Rattle.declaring.specs.Declaring.{texts-excess}
-use Rattle.entering.specs.Entering.{added, full, excess, all-added, long-text, set-texts, Held, Short-item, Enterable-value, Text-entered}
-use Rattle.entering.specs.EnteringLaws.{excess-past, added-past, excess-on, added-on, excess-here, fresh-from}
+use Rattle.declaring.specs.SpeltLaws.{statement-plain}
+use Rattle.entering.specs.Entering.{excess, all-added, long-text, set-texts, Short-item, Enterable-value, Text-entered}
+use Rattle.entering.specs.EnteringLaws.{goes-on, excess-here, fresh-from}
 use Rattle.entering.proofs.Adding.{texts-laws}
 use Rattle.statements.specs.FaultLaws.{fault-both, lower-clear, no-fault}
 use Rattle.statements.specs.Faults.{lower}
@@ -21,7 +22,6 @@ use Rattle.finding.specs.Finding.{Tells}
 use Rattle.language.specs.Program.{Program}
 use Rattle.language.specs.Values.{numeral}
 use Rattle.layout.specs.Bounds.{Each}
-use Rattle.layout.specs.CellLaws.{each-at}
 use Rattle.layout.specs.Cells.{cell}
 use Rattle.layout.specs.Table.{text-ref, all-entries}
 use Rattle.lists.specs.Lists.{keep, sameBytes}
@@ -44,60 +44,46 @@ use Rattle.writing.proofs.Held.{entry-count}
 use Rattle.declaring_switches.specs.declared.Declaration.{Declaration}
 use Rattle.declaring_switches.specs.DeclaringSwitches.{Listed-switch, Switch-told, switch-excess, with-texts, Judgeable-switch, Enters-texts, Judges-switch}
 use Rattle.declaring_switches.specs.Entries.{row-text, Row-named, Row-told, Row-enters, Row-entered}
-use Rattle.declaring_switches.proofs.Colons.{statement-plain}
-use Rattle.declaring_switches.proofs.Rows.{texts-of, no-word, texts-behind, long-behind, rows-count, rows-short, ordered-keep, ordered-drop, texts-over}
+use Rattle.declaring_switches.proofs.Rows.{texts-of, no-word, texts-behind, long-behind, ordered-keep, ordered-drop, texts-over, rows-in, rows-are, cell-here, row-named}
 
 -- ---- a cell
-
-none-there : {X : Type 0} {m : ℕ} → (m ≡ 0 → ⊥) → m ≡ 0 → X
-none-there f e = absurd (f e)
 
 valued : {s : List ℕ} {m : ℕ} {j : Item} → Names-item s m j → Item-valued s j (Text m)
 valued {s} {m} {j} h =
     record { text-is = h .sort; number-is = ap (λ (b : Bool). b && numeral (j .chars)) (no-word j (h .sort)); spelt = h .names }
 
+by-row : {s : List ℕ} {m : ℕ} (P : List Item → Type 0) → (m ≡ 0 → P []) → ((j : Item) (js : List Item) → Names-item s m j → P (j ∷ js)) → (row : List Item) → Text-cell s m row → P row
+by-row P a b [] h = a h
+by-row P a b (j ∷ js) h = b j js h
+
+abbrev Ref : List ℕ → ℕ → List Item → Type 0
+Ref c r row = Tells c (λ p. text-ref p (row-text row)) 384 r
+
 module _ {s : List ℕ} {m : ℕ} {c : List ℕ} where
-  named-value : (row : List Item) → (m ≡ 0 → ⊥) → Text-cell s m row → Each Short-item row → Held c → Enterable-value s (Text m) c
-  named-value [] f h k u = none-there f h
-  named-value (j ∷ js) f h k u = record { item = j; valued = valued h; short = k .0; held = u }
+  -- the item of a cell that is not 0
+  item-there : Row-named s m c → (m ≡ 0 → ⊥) → (j : Item) × (Names-item s m j × Short-item j)
+  item-there g f =
+      by-row (λ row. Each Short-item row → (j : Item) × (Names-item s m j × Short-item j)) (λ h. absurd (f h)) (λ j js h k. (j, (h, k .0))) (g .row) (g .named) (g .short)
 
   pub cell-enterable : Row-named s m c → (m ≡ 0 → ⊥) → Enterable-value s (Text m) c
-  cell-enterable g f = named-value (g .row) f (g .named) (g .short) (g .held)
-
-  named-text : (row : List Item) → (m ≡ 0 → ⊥) → Text-cell s m row → Each Short-item row → Held c → Text-named s m c
-  named-text [] f h k u = none-there f h
-  named-text (j ∷ js) f h k u = record { chars = j .chars; names = h .names; short = k .0; held = u }
+  cell-enterable g f = let j = item-there g f in record { item = j .0; valued = valued (j .1 .0); short = j .1 .1; held = g .held }
 
   pub cell-named : Row-named s m c → (m ≡ 0 → ⊥) → Text-named s m c
-  cell-named g f = named-text (g .row) f (g .named) (g .short) (g .held)
+  cell-named g f = let j = item-there g f in record { chars = j .0 .chars; names = j .1 .0 .names; short = j .1 .1; held = g .held }
 
   pub none-entered : m ≡ 0 → Row-entered s m c true c
-  none-entered e = record { of = by; beyond-same = refl }
-    where
-      by : (row : List Item) → Text-cell s m row → Row-enters row c true c
-      by [] h = (refl, refl)
-      by (j ∷ js) h = absurd (omega (arith, h .some, e))
+  none-entered e = record { of = by-row (λ row. Row-enters row c true c) (λ h. (refl, refl)) (λ j js h. absurd (omega (arith, h .some, e))); beyond-same = refl }
 
   pub none-told : m ≡ 0 → Row-told s m c 0
-  none-told e = record { of = by }
-    where
-      by : (row : List Item) → Text-cell s m row → Tells c (λ p. text-ref p (row-text row)) 384 0
-      by [] h = record { is = λ p g. refl; most = omega arith }
-      by (j ∷ js) h = absurd (omega (arith, h .some, e))
+  none-told e = record { of = by-row (Ref c 0) (λ h. record { is = λ p g. refl; most = omega arith }) (λ j js h. absurd (omega (arith, h .some, e))) }
 
   pub cell-told : (m ≡ 0 → ⊥) → {r : ℕ} → Text-told s m c r → Row-told s m c r
-  cell-told f {r} u = record { of = by }
-    where
-      by : (row : List Item) → Text-cell s m row → Tells c (λ p. text-ref p (row-text row)) 384 r
-      by [] h = none-there f h
-      by (j ∷ js) h = u (j .chars) (h .names)
+  cell-told f {r} u = record { of = by-row (Ref c r) (λ h. absurd (f h)) (λ j js h. u (j .chars) (h .names)) }
 
   pub cell-entered : Row-named s m c → (m ≡ 0 → ⊥) → {r : Bool} {d : List ℕ} → Text-entered s (Text m) c r d → Row-entered s m c r d
-  cell-entered g f {r} {d} u = record { of = by; beyond-same = (let i = cell-enterable g f in u (i .item) (i .valued) .beyond-same) }
-    where
-      by : (row : List Item) → Text-cell s m row → Row-enters row c r d
-      by [] h = none-there f h
-      by (j ∷ js) h = u j (valued h)
+  cell-entered g f {r} {d} u =
+      let i = cell-enterable g f in
+      record { of = by-row (λ row. Row-enters row c r d) (λ h. absurd (f h)) (λ j js h. u j (valued h)); beyond-same = u (i .item) (i .valued) .beyond-same }
 
 -- ---- the texts of some rows at a table
 
@@ -114,47 +100,20 @@ pub record Entered (all rest : List (List Item)) (p : Program) (d : List ℕ) : 
   pub over-is : over-by (p .texts) all ≡ over-by table rest
   pub all-is : with-all (p .texts) all ≡ with-all table rest
 
-few : {d : List ℕ} (t : List (List ℕ)) (p : Program) → HoldsProgram d (set-texts t p) → length t ≤ 128
-unfolding set-texts
-few t p h = h .tabular .texts-most
-
 module _ {all : List (List Item)} {p : Program} {d : List ℕ} (rest : List (List Item)) where
   entered-row : (row : List Item) → Entered all (row ∷ rest) p d → {r : Bool} {e : List ℕ} → Row-enters row d r e → r ≡ true → Entered all rest p e
   unfolding set-texts
-  entered-row [] u k q =
-      record { table = u .table; holds = subst (λ (c : List ℕ). HoldsProgram c (set-texts (u .table) p)) (sym (k .1)) (u .holds); over-is = u .over-is; all-is = u .all-is }
-  entered-row (j ∷ js) u {r} {e} k q = go (long-text j) refl
-    where
-      go : (b : Bool) → long-text j ≡ b → Entered all rest p e
-      go true z =
-          let room : full sameBytes (j .chars) (u .table) ≡ false =
-          not-true (full sameBytes (j .chars) (u .table)) (sym (k .told (set-texts (u .table) p) (u .holds) ∙ ap (λ (b : Bool). not (b && full sameBytes (j .chars) (u .table))) z) ∙ q) in
-          record {
-            table = added sameBytes (j .chars) (u .table);
-            holds = subst (λ (b : Bool). HoldsProgram e (set-texts (cond b (added sameBytes (j .chars) (u .table)) (u .table)) p)) z (k .holds q (set-texts (u .table) p) (u .holds));
-            over-is = u .over-is ∙ excess-on sameBytes (λ i. i .chars) long-text j (texts-of rest) z (u .table) (few (u .table) p (u .holds)) room;
-            all-is = u .all-is ∙ added-on sameBytes (λ i. i .chars) long-text j (texts-of rest) z (u .table) (few (u .table) p (u .holds)) room;
-          }
-      go false z =
-          record {
-            table = u .table;
-            holds = subst (λ (b : Bool). HoldsProgram e (set-texts (cond b (added sameBytes (j .chars) (u .table)) (u .table)) p)) z (k .holds q (set-texts (u .table) p) (u .holds));
-            over-is = u .over-is ∙ excess-past sameBytes (λ i. i .chars) long-text j (texts-of rest) z (u .table);
-            all-is = u .all-is ∙ added-past sameBytes (λ i. i .chars) long-text j (texts-of rest) z (u .table);
-          }
+  entered-row [] u k q = record { table = u .table; holds = rw (k .1) (u .holds); over-is = u .over-is; all-is = u .all-is }
+  entered-row (j ∷ js) u {r} {e} k q =
+      let on = goes-on sameBytes (λ i. i .chars) long-text j (texts-of rest) (u .table) (sym (k .told (set-texts (u .table) p) (u .holds)) ∙ q) in
+      record { table = _; holds = k .holds q (set-texts (u .table) p) (u .holds); over-is = u .over-is ∙ on .0; all-is = u .all-is ∙ on .1 }
 
   refused-row : (s : List ℕ) (m : ℕ) (row : List Item) → Text-cell s m row → Ordered (texts-of (row ∷ rest)) → Entered all (row ∷ rest) p d → {r : Bool} (e : List ℕ) → Row-enters row d r e → r ≡ false
       → fault-of (over-by (p .texts) all) ≡ At (m / 65536)
   unfolding set-texts
   refused-row s m [] n o u e k q = absurd (true≢false (sym (k .0) ∙ q))
-  refused-row s m (j ∷ js) n o u {r} e′ k q =
-      let e = both (long-text j) (full sameBytes (j .chars) (u .table)) (sym (k .told (set-texts (u .table) p) (u .holds)) ∙ q) in
-      ap fault-of (u .over-is) ∙ excess-here sameBytes (λ i. i .chars) long-text j (texts-of rest) (e .0) (u .table) (few (u .table) p (u .holds)) (e .1) (o .0) ∙ ap At (sym (n .place))
-    where
-      both : (a b : Bool) → not (a && b) ≡ false → (a ≡ true) × (b ≡ true)
-      both true true e = (refl, refl)
-      both true false e = absurd (true≢false e)
-      both false b e = absurd (true≢false e)
+  refused-row s m (j ∷ js) n o u e k q =
+      ap fault-of (u .over-is) ∙ excess-here sameBytes (λ i. i .chars) long-text j (texts-of rest) (u .table) (sym (k .told (set-texts (u .table) p) (u .holds)) ∙ q) (o .0) ∙ ap At (sym (n .place))
 
 no-texts : (t : List (List ℕ)) → over-by t [] ≡ []
 unfolding fresh
@@ -190,30 +149,30 @@ module _ {s : List ℕ} {d : Declaration} {c tx : List ℕ} (pre : Judgeable-swi
   abbrev js : List Item
   js = statement-at s (d .list)
 
-  abbrev rows : List (List Item)
-  rows = entry-texts js
-
   abbrev held : ℕ
   held = cell (table-of c) 3
 
   abbrev l : Listed-switch s d c tx
   l = pre .list
 
-  rows-are : length rows ≡ d .words
-  rows-are = rows-count js ∙ sym (l .words-is)
+  abbrev rows : List (List Item)
+  rows = rows-in l
 
   pub held-most : held ≤ 128
   held-most = omega (arith, entry-count c (pre .held .program) (pre .held .holds), pre .held .holds .tabular .entries-most)
 
   rows-ordered : Ordered (texts-of rows)
-  rows-ordered = subst Ordered (texts-behind (d .named) js (statement-plain s (d .list)) (l .right)) (ordered-keep (is text) js (l .ordered))
+  rows-ordered = rw (texts-behind (d .named) js (statement-plain s (d .list) (l .inside)) (l .right)) at (ordered-keep (is text) js (l .ordered))
 
   -- the texts of the list are those of its rows
+  long-here : keep long-text js ≡ keep long-text (texts-of rows)
+  long-here = long-behind (d .named) js (statement-plain s (d .list) (l .inside)) (l .right)
+
   over-rows : (p : Program) → texts-excess s (d .list) p ≡ over-by (p .texts) rows
-  over-rows p = ap (λ (ks : List Item). drop (128 - length (p .texts)) (places (fresh sameBytes (λ i. i .chars) (p .texts) ks))) (long-behind (d .named) js (statement-plain s (d .list)) (l .right))
+  over-rows p = rw long-here
 
   all-rows : (p : Program) → all-added sameBytes (λ i. i .chars) long-text (p .texts) js ≡ with-all (p .texts) rows
-  all-rows p = ap (λ (ks : List Item). p .texts ++ map (λ i. i .chars) (fresh sameBytes (λ i. i .chars) (p .texts) ks)) (long-behind (d .named) js (statement-plain s (d .list)) (l .right))
+  all-rows p = rw long-here
 
   pub entering-first : {k : ℕ} → k ≡ held → Entering s d c c k
   entering-first {k} e =
@@ -221,13 +180,7 @@ module _ {s : List ℕ} {d : Declaration} {c tx : List ℕ} (pre : Judgeable-swi
       record {
         from = omega (arith, e);
         most = omega (arith, e, held-most);
-        entered = λ p h.
-            record {
-              table = p .texts;
-              holds = subst (λ (x : Program). HoldsProgram c x) (sym (texts-laws .same p)) h;
-              over-is = ap (λ (m : ℕ). over-by (p .texts) (drop m rows)) (sym z);
-              all-is = ap (λ (m : ℕ). with-all (p .texts) (drop m rows)) (sym z);
-            };
+        entered = λ p h. record { table = p .texts; holds = rw (texts-laws .same p) h; over-is = rw z; all-is = rw z };
         beyond-same = refl;
       }
 
@@ -243,27 +196,18 @@ module _ {s : List ℕ} {d : Declaration} {c tx : List ℕ} (pre : Judgeable-swi
       inside = omega (arith, g, more, l .text-room)
 
       rest-is : drop at rows ≡ row ∷ drop (suc at) rows
-      rest-is = drop-cons rows at [] (omega (arith, g, more, u .from, rows-are))
+      rest-is = drop-cons rows at [] (omega (arith, g, more, u .from, rows-are l))
 
       module _ {m : ℕ} (x : m ≡ getD tx k 0) where
         here : Text-cell s m row
-        here =
-            let y : held + at ≡ k = omega (arith, u .from) in
-            subst (λ (v : ℕ). Text-cell s v row) (ap (λ (j : ℕ). getD tx j 0) y ∙ sym x)
-            (l .texts at (omega (arith, g, more, u .from, rows-are)) (omega (arith, g, more, u .from)))
+        here = cell-here l (u .from) (omega (arith, g)) (omega (arith, g)) x
 
-        pub row-named : Row-named s m e
-        row-named =
-            record {
-              row = row;
-              named = here;
-              short = each-at (Each Short-item) [] tt rows (rows-short js (l .short)) at;
-              held = record { program = _; holds = u .entered (pre .held .program) (pre .held .holds) .holds };
-            }
+        pub row-enterable : Row-named s m e
+        row-enterable = row-named l (u .from) (omega (arith, g)) (omega (arith, g)) x (record { program = _; holds = u .entered (pre .held .program) (pre .held .holds) .holds })
 
         module _ {r : Bool} {e′ : List ℕ} (h : Row-entered s m e r e′) where
           now : (p : Program) → HoldsProgram c p → Entered rows (row ∷ drop (suc at) rows) p e
-          now p q = subst (λ (rs : List (List Item)). Entered rows rs p e) rest-is (u .entered p q)
+          now p q = rw rest-is at (u .entered p q)
 
           pub entering-more : r ≡ true → Entering s d c e′ (k + 1)
           entering-more q =
@@ -271,8 +215,7 @@ module _ {s : List ℕ} {d : Declaration} {c tx : List ℕ} (pre : Judgeable-swi
               record {
                 from = omega (arith, u .from);
                 most = omega (arith, g, more);
-                entered = λ p w.
-                    subst (λ (j : ℕ). Entered rows (drop j rows) p e′) (sym z) (entered-row (drop (suc at) rows) row (now p w) (h .of row here) q);
+                entered = λ p w. rw z (entered-row (drop (suc at) rows) row (now p w) (h .of row here) q);
                 beyond-same = h .beyond-same ∙ u .beyond-same;
               }
 
@@ -281,22 +224,19 @@ module _ {s : List ℕ} {d : Declaration} {c tx : List ℕ} (pre : Judgeable-swi
               record {
                 told = λ p w.
                     ap (lower (d .over))
-                    (sym (ap fault-of (over-rows p) ∙ refused-row (drop (suc at) rows) s m row here (subst (λ (rs : List (List Item)). Ordered (texts-of rs)) rest-is (ordered-drop rows rows-ordered at)) (now p w) e′ (h .of row here) q));
+                    (sym (ap fault-of (over-rows p) ∙ refused-row (drop (suc at) rows) s m row here (rw rest-is at (ordered-drop rows rows-ordered at)) (now p w) e′ (h .of row here) q));
                 holds = λ o f. absurd (let y : _≡_ {A = ℕ} 0 1 = cc in omega arith);
                 beyond-same = h .beyond-same ∙ u .beyond-same;
               }
 
     module _ {end : ℕ} (g : end ≡ min (held + d .words) 128) (done : end ≤ k) where
-      abbrev places-over : List ℕ
-      places-over = drop (128 - held) (places (keep (is word) js))
-
       count-over : length (places (keep (is word) js)) ≡ d .words
       count-over = length-map (keep (is word) js) (λ (i : Item). i .at) ∙ sym (l .words-is)
 
       none-left : d .over ≡ Clear → drop at rows ≡ []
       none-left o =
-          let n = drop-none (128 - held) (places (keep (is word) js)) (no-fault places-over (sym (l .over-is) ∙ o)) in
-          drop-of-length-le rows {i = at} (omega (arith, n, count-over, rows-are, g, done, held-most))
+          let n = drop-none (128 - held) (places (keep (is word) js)) (no-fault (drop (128 - held) (places (keep (is word) js))) (sym (l .over-is) ∙ o)) in
+          drop-of-length-le rows {i = at} (omega (arith, n, count-over, rows-are l, g, done, held-most))
 
       told-by : (o : Fault) → d .over ≡ o → (p : Program) → HoldsProgram c p → lower o Clear ≡ lower o (fault-of (over-by (p .texts) rows))
       told-by Clear x p w =
@@ -304,16 +244,16 @@ module _ {s : List ℕ} {d : Declaration} {c tx : List ℕ} (pre : Judgeable-swi
           sym (ap fault-of (v .over-is ∙ ap (over-by (v .table)) (none-left x) ∙ no-texts (v .table)))
       told-by (At q) x p w =
           let v = u .entered p w in
-          let z : 128 - held ≡ at = omega (arith, g, done, u .from, u .most, held-most, many (leb (d .words) (128 - held)) refl) in
+          let many : 128 - held < d .words = elim (decLt (128 - held) (d .words)) as (λ y. 128 - held < d .words) [
+            | yes y ↦ y
+            | no y ↦
+                let e : At q ≡ Clear = sym x ∙ l .over-is ∙ ap fault-of (drop-of-length-le (places (keep (is word) js)) {i = 128 - held} (omega (arith, count-over))) in
+                absurd (let n : _≡_ {A = ℕ} 0 1 = cc in omega arith)
+          ] in
+          let z : 128 - held ≡ at = omega (arith, g, done, u .from, u .most, held-most, many) in
           sym (ap (λ (ps : List ℕ). lower (At q) (fault-of ps)) (v .over-is)
           ∙ low-lower q (over-by (v .table) (drop at rows)) (over-from q (v .table) (texts-of (drop at rows))
-          (subst (λ (m : ℕ). T (all-from q (texts-of (drop m rows)))) z (texts-over js (l .ordered) (128 - held) q (sym (l .over-is) ∙ x)))))
-        where
-          many : (b : Bool) → leb (d .words) (128 - held) ≡ b → 128 - held < d .words
-          many true y =
-              let e = ap fault-of (drop-of-length-le (places (keep (is word) js)) {i = 128 - held} (omega (arith, count-over, leb-true (d .words) (128 - held) y))) in
-              absurd (let v : Clear ≡ At q = sym e ∙ sym (l .over-is) ∙ x in let z : _≡_ {A = ℕ} 0 1 = cc in omega arith)
-          many false y = leb-false (d .words) (128 - held) y
+          (rw z at (texts-over js (l .ordered) (128 - held) q (sym (l .over-is) ∙ x)))))
 
       pub texts-entered : Enters-texts s d c Clear e
       unfolding with-texts
@@ -322,24 +262,12 @@ module _ {s : List ℕ} {d : Declaration} {c tx : List ℕ} (pre : Judgeable-swi
             told = λ p w. told-by (d .over) refl p w ∙ ap (λ (ps : List ℕ). lower (d .over) (fault-of ps)) (sym (over-rows p));
             holds = λ o f p w.
                 let v = u .entered p w in
-                subst (λ (t : List (List ℕ)). HoldsProgram e (set-texts t p))
-                (sym (all-rows p ∙ v .all-is ∙ ap (with-all (v .table)) (none-left o) ∙ no-more (v .table))) (v .holds);
+                let all : all-added sameBytes (λ i. i .chars) long-text (p .texts) js ≡ v .table = all-rows p ∙ v .all-is ∙ ap (with-all (v .table)) (none-left o) ∙ no-more (v .table) in
+                rw all (v .holds);
             beyond-same = u .beyond-same;
           }
 
 -- ---- all of question 11
-
-module _ {c : List ℕ} {n : ℕ} (e : (p : Program) → HoldsProgram c p → n ≡ length (p .switches)) (at : ℕ) where
-  pub switch-fits : n < 32 → Switch-told c at Clear
-  switch-fits l p h =
-      let q : 32 - length (p .switches) ≡ suc (31 - length (p .switches)) = omega (arith, e p h) in
-      sym (ap (λ (m : ℕ). fault-of (drop m (at ∷ []))) q ∙ ap fault-of (drop-nil {A = ℕ} (31 - length (p .switches))))
-
-  pub switch-over : 32 ≤ n → Switch-told c at (At at)
-  unfolding lowest
-  switch-over l p h =
-      let q : 32 - length (p .switches) ≡ 0 = omega (arith, e p h) in
-      sym (ap (λ (m : ℕ). fault-of (drop m (at ∷ []))) q)
 
 pub judged-switch : {s : List ℕ} {d : Declaration} {c tx : List ℕ} → Judgeable-switch s d c tx → {tr : Fault} {e : List ℕ} → Enters-texts s d c tr e → {a x y : Fault}
     → Switch-told c (d .at) a → x ≡ lower (d .over) tr → y ≡ lower a x → Judges-switch s d c y e

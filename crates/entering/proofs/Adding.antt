@@ -1,24 +1,30 @@
--- One value comes to a table, unless it is there or the table is full.
+-- One value comes to a table, unless it is there or the table is full: a text, or a number by its code.
 use mathlib.Core.Path.{_≡_, refl, sym, ap, _∙_, subst}
-use mathlib.Core.Bool.{Bool, true, false, cond, _&&_, _||_, true≢false}
+use mathlib.Core.Bool.{Bool, true, false, _&&_, _||_, true≢false}
 use mathlib.Core.List.{List, [], _∷_, _++_}
 use Prim.Native.Nat.{ℕ, suc, _≤_, _<_}
 use native.Mathlib.Omega.{arith}
 use lib.Dec.{ltb, leb·suc-suc}
 use lib.ListN.{length, take, drop, length-take}
-use borrow.Author.Tests.{lt-ltb, le-ltb, le-leb, lt-leb}
-use Rattle.arguments.specs.Valued.{is-text, text-from, text-to, Spells, Item-valued}
+use borrow.Author.Tests.{lt-ltb, le-ltb, le-leb, lt-leb, ltb-true, ltb-false}
+use Rattle.arguments.specs.Valued.{is-text, text-from, text-to, Spells, Item-valued, is-number}
 use Rattle.language.specs.Limits as limit
 use Rattle.language.specs.Program.{Program}
 use Rattle.lists.specs.Lists.{any, ahead, sameBytes}
-use Rattle.writing.specs.Writing.{HoldsProgram}
+use Rattle.writing.specs.Writing.{HoldsProgram, no-program, IsNumber}
 use Rattle.cells.proofs.Laws.{pasted-front}
 use Rattle.spelling.specs.Spelling.{Put, text-in, Fits-text}
 use Rattle.syntax.specs.Items.{Item}
 use Rattle.table.specs.declared.Argument.{Argument}
-use Rattle.table.specs.declared.Argument.the-variants.{Text}
-use Rattle.entering.specs.Entering.{Adds, Addable, EntersOne, Enterable-value, set-texts, set-numbers, long-text}
+use Rattle.table.specs.declared.Argument.the-variants.{Text, Nothing, Indexed, Label, Switch, Class, Number}
+use Rattle.entering.specs.Entering.{Adds, Addable, EntersOne, Enterable-value, set-texts, set-numbers, long-text, AddsCode, large-number}
 use Rattle.entering.proofs.Rows.{Table-of}
+use types.Run.{OneOf, miss}
+use lib.IntN.{ℤ, natAbs}
+use Rattle.finding.proofs.References.{near, far-below, far-above}
+use Rattle.language.specs.Values.{sameNumber}
+use Rattle.layout.specs.Cells.{code}
+use Rattle.syntax.specs.Tables.{number-in}
 
 -- the tables of texts and of numbers
 pub texts-laws : Table-of (λ p. p .texts) set-texts
@@ -31,11 +37,11 @@ numbers-laws = record { get = λ t p. refl; twice = λ t u p. refl; same = λ p.
 
 any-is : {X : Type 0} (q : X → Bool) (xs : List X) → any q xs ≡ ltb (ahead q xs) (length xs)
 any-is q [] = refl
-any-is q (x ∷ xs) = go (q x) (any-is q xs)
-  where
-    go : (b : Bool) → any q xs ≡ ltb (ahead q xs) (length xs) → (b || any q xs) ≡ ltb (elim b [ true ↦ 0 | false ↦ suc (ahead q xs) ]) (suc (length xs))
-    go true h = sym (lt-ltb 0 (suc (length xs)) (omega arith))
-    go false h = h ∙ sym (leb·suc-suc (suc (ahead q xs)) (length xs))
+any-is q (x ∷ xs) =
+    elim (q x) as (λ b. (b || any q xs) ≡ ltb (elim b [ true ↦ 0 | false ↦ suc (ahead q xs) ]) (suc (length xs))) [
+      | true ↦ sym (lt-ltb 0 (suc (length xs)) (omega arith))
+      | false ↦ any-is q xs ∙ sym (leb·suc-suc (suc (ahead q xs)) (length xs))
+    ]
 
 module _ {X : Type 0} (equal : X → X → Bool) (table-of : Program → List X) (set-table : List X → Program → Program) (laws : Table-of table-of set-table) (x : X)
     {c : List ℕ} {found n : ℕ} (f : (p : Program) → HoldsProgram c p → found ≡ ahead (equal x) (table-of p)) (m : (p : Program) → HoldsProgram c p → n ≡ length (table-of p)) where
@@ -48,7 +54,7 @@ module _ {X : Type 0} (equal : X → X → Bool) (table-of : Program → List X)
     adds-known =
         record {
           told = λ p h. rw (there p h) refl;
-          holds = λ q p h. subst (λ (y : Program). HoldsProgram c y) (sym (ap (λ (a : Bool). set-table (cond a (table-of p) (table-of p ++ (x ∷ []))) p) (there p h) ∙ laws .same p)) h;
+          holds = λ q p h. rw (there p h, laws .same p) h;
           same = λ q. absurd (true≢false q);
           beyond-same = refl;
         }
@@ -84,7 +90,7 @@ module _ {X : Type 0} (equal : X → X → Bool) (value-of : Item → X) (passes
   enters-past e =
       record {
         told = λ p h. rw e refl;
-        holds = λ q p h. rw e (subst (λ (y : Program). HoldsProgram c y) (sym (laws .same p)) h);
+        holds = λ q p h. rw (e, laws .same p) h;
         same = λ q. absurd (true≢false q);
         beyond-same = refl;
       }
@@ -139,3 +145,62 @@ module _ {s : List ℕ} {x : Argument} {c : List ℕ} (u : Enterable-value s x c
   value-addable {d} {o} {n} h q =
       let k = subst (Spells s (u .item .chars)) e (u .valued .spelt) in
       record { held = u .held; short = omega (arith, q, ap length (put-front h), ap length (k .is), u .short) }
+
+-- ---- a number, by its code
+large-is : (z : ℤ) → natAbs z ≤ limit.size → ltb limit.small (natAbs z) ≡ (ltb (code z) 8388592 || ltb 8388622 (code z))
+large-is z h = go (ltb (code z) 8388592) (ltb 8388622 (code z)) refl refl
+  where
+    go : (a b : Bool) → ltb (code z) 8388592 ≡ a → ltb 8388622 (code z) ≡ b → ltb limit.small (natAbs z) ≡ (a || b)
+    go true b e f = lt-ltb limit.small (natAbs z) (far-below z h (ltb-true (code z) 8388592 e))
+    go false true e f = lt-ltb limit.small (natAbs z) (far-above z h (ltb-true 8388622 (code z) f))
+    go false false e f = le-ltb limit.small (natAbs z) (near z h (ltb-false (code z) 8388592 e) (ltb-false 8388622 (code z) f))
+
+-- the number of a value
+module _ {s : List ℕ} {i : Item} {x : Argument} (h : Item-valued s i x) where
+  abbrev One-number : List ℕ → Bool → List ℕ → Type 0
+  One-number c r d = EntersOne sameNumber number-in large-number (λ p. p .numbers) set-numbers i c r d
+
+  past : large-number i ≡ false → {c : List ℕ} → One-number c true c
+  past e = enters-past sameNumber number-in large-number (λ p. p .numbers) set-numbers numbers-laws i e
+
+  pub number-none : is-number x ≡ false → {c : List ℕ} → One-number c true c
+  number-none e = past (ap (λ (b : Bool). b && ltb limit.small (natAbs (number-in i))) (h .number-is ∙ e))
+
+  module _ {v : ℕ} (e : x ≡ Number v) where
+    coded : IsNumber v (number-in i) no-program
+    coded = subst (Spells s (i .chars)) e (h .spelt)
+
+    module _ {r : Bool} (g : r ≡ (ltb v 8388592 || ltb 8388622 v)) where
+      is-large : large-number i ≡ r
+      is-large =
+          ap (λ (b : Bool). b && ltb limit.small (natAbs (number-in i))) (h .number-is ∙ ap is-number e)
+          ∙ large-is (number-in i) (coded .small)
+          ∙ ap (λ (n : ℕ). ltb n 8388592 || ltb 8388622 n) (sym (coded .is)) ∙ sym g
+
+      pub number-small : r ≡ false → {c : List ℕ} → One-number c true c
+      number-small q = past (is-large ∙ q)
+
+      pub number-entered : r ≡ true → {c : List ℕ} {a : Bool} {d : List ℕ} → AddsCode v c a d → One-number c a d
+      number-entered q k =
+          enters-value sameNumber number-in large-number (λ p. p .numbers) set-numbers numbers-laws i (is-large ∙ q) (number-in i) refl (k (number-in i) coded)
+
+abbrev tag : Argument → ℕ
+tag x = denote.Enum.Declared.tagOf Rattle.table.proofs.Argument.the-type x
+
+pub no-number : (x : Argument) → OneOf (0 ∷ 1 ∷ 2 ∷ 3 ∷ 4 ∷ 5 ∷ []) (tag x) → is-number x ≡ false
+no-number Nothing k = refl
+no-number (Indexed l n) k = refl
+no-number (Label n) k = refl
+no-number (Switch n) k = refl
+no-number (Class m) k = refl
+no-number (Text m) k = refl
+no-number (Number v) k = absurd (miss (0 ∷ 1 ∷ 2 ∷ 3 ∷ 4 ∷ 5 ∷ []) 6 tt k)
+
+pub no-text : (x : Argument) → OneOf (0 ∷ 1 ∷ 2 ∷ 3 ∷ 4 ∷ 6 ∷ []) (tag x) → is-text x ≡ false
+no-text Nothing k = refl
+no-text (Indexed l n) k = refl
+no-text (Label n) k = refl
+no-text (Switch n) k = refl
+no-text (Class m) k = refl
+no-text (Text m) k = absurd (miss (0 ∷ 1 ∷ 2 ∷ 3 ∷ 4 ∷ 6 ∷ []) 5 tt k)
+no-text (Number v) k = refl

@@ -1,4 +1,2 @@
 pub mod Rows
 pub mod Adding
-pub mod Numbers
-pub mod ValueRows

@@ -2,26 +2,26 @@
 use mathlib.Core.Path.{_≡_, refl, sym, ap, _∙_, subst}
 use mathlib.Core.Bool.{Bool, true, false, cond, not, _&&_, _||_, true≢false}
 use mathlib.Core.List.{List, [], _∷_, _++_, map, map-append, append-assoc, append-nil}
-use Prim.Native.Nat.{ℕ, suc, _+_, _-_, _*_, _/_, _%_, _≤_, _<_, min}
+use Prim.Native.Nat.{ℕ, suc, _+_, _-_, _*_, _/_, _≤_, _<_, min}
+use native.Mathlib.Decide.{decLt}
 use native.Mathlib.Omega.{arith}
 use lib.Dec.{eqb, leb, ltb}
 use lib.ListN.{length, getD, take, drop, set, length-append, length-map, drop-of-length-le, List·getD-append}
 use lib.Seq.{take-suc-set, getD-set-same, getD-set-other, getD-append-seam, drop-append-le}
-use borrow.Author.Tests.{eq-eqb, eqb-true, eqb-false, lt-ltb, le-ltb, leb-true, leb-false, ltb-true, ltb-false}
+use borrow.Author.Tests.{eq-eqb, eqb-true, eqb-false, lt-ltb, le-ltb, leb-true, leb-false}
 use Rattle.acceptance.specs.RowLaws.{drop-none}
-use Rattle.arguments.specs.Valued.{text-to, Ordered}
+use Rattle.arguments.specs.LeftLaws.{Passing, passing-first, passing-on, passed-worst, passed-end}
+use Rattle.arguments.specs.Valued.{Ordered}
+use Rattle.arguments.specs.ValueLaws.{names-text}
 use Rattle.drafts.specs.Marks.{mark-of, mark}
-use Rattle.statements.specs.Checks.{clean, worst, token-code}
-use Rattle.statements.specs.CheckLaws.{worst-stop, worst-item}
+use Rattle.statements.specs.Checks.{worst, token-code}
 use Rattle.statements.specs.FaultLaws.{fault-both, no-fault}
 use Rattle.statements.specs.Faults.{lower}
 use Rattle.heads.specs.HeadLaws.{filled-colon}
 use Rattle.lexer.specs.declared.Token.{Token}
-use Rattle.lexer.specs.Tokens.{item-of, colon-of, Stands, Next-token}
-use Rattle.lexer.proofs.Finding.{is-sort, text-token-chars}
+use Rattle.lexer.specs.Tokens.{item-of, Stands, Next-token}
+use Rattle.lexer.proofs.Finding.{is-sort}
 use Rattle.lists.specs.Lists.{filled, ifAny, keep}
-use Rattle.spelling.specs.Spelling.{text-in}
-use Rattle.statements.proofs.Ends.{Within, begins-within, still-within, ends-here}
 use Rattle.statements.specs.declared.Fault.{Fault}
 use Rattle.statements.specs.declared.Fault.the-variants.{Clear, At}
 use Rattle.statements.specs.PlaceLaws.{statement-from}
@@ -37,27 +37,18 @@ use Rattle.switch_lists.specs.Switches.{switch-after, text-first, entry-
 -- ---- cells
 
 pub put-there : {xs : List ℕ} {k v : ℕ} → k < length xs → Put-cell xs k v (set xs k v)
-put-there {xs} {k} {v} l = record { is = sym (ap (λ (c : Bool). cond c (set xs k v) xs) (lt-ltb k (length xs) l)) }
+put-there {xs} {k} {v} l = record { is = rw (lt-ltb k (length xs) l) }
 
 pub put-beyond : {xs : List ℕ} {k v : ℕ} → length xs ≤ k → Put-cell xs k v xs
-put-beyond {xs} {k} {v} l = record { is = sym (ap (λ (c : Bool). cond c (set xs k v) xs) (le-ltb k (length xs) l)) }
+put-beyond {xs} {k} {v} l = record { is = rw (le-ltb k (length xs) l) }
 
 -- a number that is put, and the others
 module _ {xs : List ℕ} {k v : ℕ} {ys : List ℕ} (h : Put-cell xs k v ys) where
   put-same : k < length xs → getD ys k 0 ≡ v
-  put-same l = ap (λ (zs : List ℕ). getD zs k 0) (h .is ∙ ap (λ (c : Bool). cond c (set xs k v) xs) (lt-ltb k (length xs) l)) ∙ getD-set-same xs k v 0 l
+  put-same l = rw (h .is, lt-ltb k (length xs) l) (getD-set-same xs k v 0 l)
 
   put-other : (j : ℕ) → (j ≡ k → ⊥) → getD ys j 0 ≡ getD xs j 0
-  put-other j f = ap (λ (zs : List ℕ). getD zs j 0) (h .is) ∙ go (ltb k (length xs))
-    where
-      go : (c : Bool) → getD (cond c (set xs k v) xs) j 0 ≡ getD xs j 0
-      go true = getD-set-other xs k j v 0 f
-      go false = refl
-
-both : (a b : Bool) → (a && b) ≡ true → (a ≡ true) × (b ≡ true)
-both true true e = (refl, refl)
-both true false e = absurd (true≢false (sym e))
-both false b e = absurd (true≢false (sym e))
+  put-other j f = rw (h .is) (elim (ltb k (length xs)) as (λ c. getD (cond c (set xs k v) xs) j 0 ≡ getD xs j 0) [ true ↦ getD-set-other xs k j v 0 f | false ↦ refl ])
 
 module _ {t : Token} {after : Bool} {k : ℕ} {en tx em ty : List ℕ} where
   pub word-put : {m : ℕ} → t .sort ≡ 1 → m ≡ mark-of (t .at) (t .len) → Put-cell en k m em → Put-cell tx k 0 ty → Puts-item t after k en tx em ty
@@ -75,12 +66,20 @@ module _ {t : Token} {after : Bool} {k : ℕ} {en tx : List ℕ} (f : t .sort �
         word-mark = λ q. absurd (f q);
         no-text = λ q. absurd (f q);
         same-marks = λ q. refl;
-        text-put = λ q w. absurd (true≢false (sym (ap (λ (c : Bool). eqb 4 (t .sort) && c) w ∙ ap (λ (c : Bool). c && true) (eq-eqb 4 (t .sort) (sym q))) ∙ e));
+        text-put = λ q w. absurd (true≢false (rw (eq-eqb 4 (t .sort) (sym q), w) at e));
         same-texts = λ q w. refl;
       }
 
 pub entry-before : {t : Token} {after : Bool} {k : ℕ} → Puttable-item t after k → (eqb 4 (t .sort) && after) ≡ true → 0 < k
-entry-before {t} {after} h e = h .some (both (eqb 4 (t .sort)) after e .1)
+entry-before {t} {after} h e = h .some (elim (eqb 4 (t .sort)) as (λ b. (b && after) ≡ true → after ≡ true) [ true ↦ λ q. q | false ↦ λ q. absurd (true≢false (sym q)) ] e)
+
+one-long : {X : Type 0} (w : Bool) (x : X) → length (cond w (x ∷ []) []) ≡ cond w 1 0
+one-long true x = refl
+one-long false x = refl
+
+one-most : (b : Bool) → cond b 1 0 ≤ 1
+one-most true = omega arith
+one-most false = omega arith
 
 -- ---- question 02
 
@@ -119,11 +118,11 @@ entry-parts false b c false false f p q = refl
 
 -- a token that ends the statement is no text
 pub stop-no-text : (t : Token) → stops (t .sort) ≡ true → eqb 4 (t .sort) ≡ false
-stop-no-text t z = go (eqb (t .sort) 0) refl z
-  where
-    go : (a : Bool) → eqb (t .sort) 0 ≡ a → (a || eqb (t .sort) 3) ≡ true → eqb 4 (t .sort) ≡ false
-    go true e z = ap (eqb 4) (eqb-true (t .sort) 0 e)
-    go false e z = ap (eqb 4) (eqb-true (t .sort) 3 z)
+stop-no-text t z =
+    elim (eqb (t .sort) 0) as (λ a. eqb (t .sort) 0 ≡ a → (a || eqb (t .sort) 3) ≡ true → eqb 4 (t .sort) ≡ false) [
+      | true ↦ λ e y. ap (eqb 4) (eqb-true (t .sort) 0 e)
+      | false ↦ λ e y. ap (eqb 4) (eqb-true (t .sort) 3 y)
+    ] refl z
 
 module _ {s : List ℕ} {n : ℕ} {byName : Bool} {fault : Fault} {b : Before} {i : ℕ} (u : Faulted s n byName fault b i) {t : Token} (k : Next-token s i t) where
   abbrev follows : Bool
@@ -134,14 +133,12 @@ module _ {s : List ℕ} {n : ℕ} {byName : Bool} {fault : Fault} {b : Before} {
 
   module _ {a : Fault} (e : a ≡ lower fault (fault-of colon-now)) where
     with-colon : a ≡ fault-of (u .faults ++ colon-now)
-    with-colon = e ∙ ap (λ (f : Fault). lower f (fault-of colon-now)) (u .fault-is) ∙ sym (fault-both (u .faults) colon-now)
+    with-colon = rw (e, u .fault-is, fault-both (u .faults) colon-now)
 
     pub faults-end : stops (t .sort) ≡ true → a ≡ fault-of (list-faults byName false (statement-at s n))
     unfolding list-faults
     faults-end z =
-        with-colon
-        ∙ ap (λ (f : Bool). fault-of (u .faults ++ colon-left b (byName && f))) (stop-no-text t z)
-        ∙ sym (ap fault-of (u .list-is ∙ ap (λ (js : List Item). u .faults ++ left-faults byName b js) (at-stop k z) ∙ ap (λ (xs : List ℕ). u .faults ++ xs) (append-nil (colon-left b (byName && false)))))
+        with-colon ∙ rw (u .list-is, at-stop k z, stop-no-text t z, append-nil (colon-left b (byName && false)))
 
     module _ (z : stops (t .sort) ≡ false) {r : Fault} (word : Bool) {name : Bool} (q : name ≡ is-name (item-of s t))
         (f : r ≡ lower a (fault-of (one-if (not (name || (follows && has-colon b))) (t .at)))) where
@@ -163,21 +160,15 @@ module _ {s : List ℕ} {n : ℕ} {byName : Bool} {fault : Fault} {b : Before} {
       left-is : left-faults byName b (statement-at s i) ≡ colon-now ++ ((own ++ colon-left now (byName && ifAny false (is text) rest)) ++ list-faults byName (has-colon now) rest)
       unfolding list-faults
       left-is =
-          ap (left-faults byName b) (at-item k z)
-          ∙ ap (λ (f : Bool). colon-left b (byName && f) ++ (entry-faults byName (has-colon b) (ifAny false (is text) rest) (item-of s t) ++ list-faults byName (filled (colon-of t)) rest)) (is-sort text (k .stands))
-          ∙ ap (λ (xs : List ℕ). colon-now ++ (xs ++ list-faults byName (filled (colon-of t)) rest)) entry-is
-          ∙ ap (λ (f : Bool). colon-now ++ ((own ++ colon-left now (byName && ifAny false (is text) rest)) ++ list-faults byName f rest)) (filled-colon t)
+          ap (left-faults byName b) (at-item k z) ∙ rw (is-sort text (k .stands), entry-is, filled-colon t)
 
       pub faulted-more : Faulted s n byName r now (t .next)
       faulted-more =
           record {
             faults = (u .faults ++ colon-now) ++ own;
-            fault-is = f ∙ ap (λ (g : Fault). lower g (fault-of own)) with-colon ∙ sym (fault-both (u .faults ++ colon-now) own);
-            list-is = u .list-is ∙ ap (λ (xs : List ℕ). u .faults ++ xs) left-is ∙ regroup (u .faults) colon-now own (colon-left now (byName && ifAny false (is text) rest)) (list-faults byName (has-colon now) rest);
+            fault-is = rw (f, with-colon, fault-both (u .faults ++ colon-now) own);
+            list-is = u .list-is ∙ rw left-is (simp append-assoc);
           }
-        where
-          regroup : (xs c o p l : List ℕ) → xs ++ (c ++ ((o ++ p) ++ l)) ≡ ((xs ++ c) ++ o) ++ (p ++ l)
-          regroup xs c o p l = simp append-assoc
 
 -- ---- words
 
@@ -200,13 +191,8 @@ module _ {s : List ℕ} {n held : ℕ} {en₀ : List ℕ} {over : Fault} {words 
 
   items-next : keep (is word) (statement-at s i) ≡ own-word (eqb 1 (t .sort)) ++ later
   items-next =
-      ap (keep (is word)) (at-item k z)
-      ∙ ap (λ (w : Bool). cond w (item-of s t ∷ later) later) (is-sort word (k .stands))
-      ∙ go (eqb 1 (t .sort))
-    where
-      go : (w : Bool) → cond w (item-of s t ∷ later) later ≡ own-word w ++ later
-      go true = refl
-      go false = refl
+      ap (keep (is word)) (at-item k z) ∙ rw (is-sort word (k .stands))
+      (elim (eqb 1 (t .sort)) as (λ w. cond w (item-of s t ∷ later) later ≡ own-word w ++ later) [ true ↦ refl | false ↦ refl ])
 
   -- one that has no room is the first in excess
   over-next : (w beyond : Bool) → leb 128 (held + words) ≡ beyond
@@ -216,9 +202,6 @@ module _ {s : List ℕ} {n held : ℕ} {en₀ : List ℕ} {over : Fault} {words 
       many : length (places (u .items)) ≡ words
       many = length-map (u .items) (λ (j : Item). j .at) ∙ u .count
 
-      none : (ps : List ℕ) → drop (128 - held) (places (u .items) ++ ps) ≡ drop (128 - held) (places (u .items)) → fault-of (drop (128 - held) (places (u .items) ++ ps)) ≡ lower (fault-of (drop (128 - held) (places (u .items)))) Clear
-      none ps q = ap fault-of (q ∙ sym (append-nil (drop (128 - held) (places (u .items))))) ∙ fault-both (drop (128 - held) (places (u .items))) []
-
       go : (w beyond : Bool) → leb 128 (held + words) ≡ beyond
           → fault-of (drop (128 - held) (places (u .items) ++ places (own-word w))) ≡ lower (fault-of (drop (128 - held) (places (u .items)))) (fault-of (one-if (w && beyond) (t .at)))
       go true true e =
@@ -227,10 +210,8 @@ module _ {s : List ℕ} {n held : ℕ} {en₀ : List ℕ} {over : Fault} {words 
       go true false e =
           let few : held + words < 128 = leb-false 128 (held + words) e in
           let long : length (places (u .items) ++ (t .at ∷ [])) ≡ words + 1 = length-append (places (u .items)) (t .at ∷ []) ∙ ap (λ (m : ℕ). m + 1) many in
-          none (t .at ∷ [])
-          (drop-of-length-le (places (u .items) ++ (t .at ∷ [])) {i = 128 - held} (omega (arith, long, few))
-          ∙ sym (drop-of-length-le (places (u .items)) {i = 128 - held} (omega (arith, many, few))))
-      go false b e = none [] (ap (drop (128 - held)) (append-nil (places (u .items))))
+          rw (drop-of-length-le (places (u .items) ++ (t .at ∷ [])) {i = 128 - held} (omega (arith, long, few)), drop-of-length-le (places (u .items)) {i = 128 - held} (omega (arith, many, few)))
+      go false b e = rw (append-nil (places (u .items))) (ap fault-of (sym (append-nil (drop (128 - held) (places (u .items))))) ∙ fault-both (drop (128 - held) (places (u .items))) [])
 
   marks-next : (w : Bool) → eqb 1 (t .sort) ≡ w → held + (words + cond w 1 0) ≤ 128
       → take (held + (words + cond w 1 0)) em ≡ take held en₀ ++ map mark (u .items ++ own-word w)
@@ -238,33 +219,24 @@ module _ {s : List ℕ} {n held : ℕ} {en₀ : List ℕ} {over : Fault} {words 
       let m = mark (item-of s t) in
       let here : held + words < length en = omega (arith, h, u .size) in
       let put : em ≡ set en (held + words) m =
-      p .word-mark (sym (eqb-true 1 (t .sort) e)) .is ∙ ap (λ (c : Bool). cond c (set en (held + words) (mark-of (t .at) (t .len))) en) (lt-ltb (held + words) (length en) here)
-      ∙ ap (λ (j : ℕ). set en (held + words) (mark-of (t .at) j)) (sym (k .stands .count)) in
+      p .word-mark (sym (eqb-true 1 (t .sort) e)) .is ∙ rw (lt-ltb (held + words) (length en) here, k .stands .count) in
       let a : held + (words + 1) ≡ suc (held + words) = omega arith in
-      ap (λ (j : ℕ). take j em) a ∙ ap (take (suc (held + words))) put ∙ take-suc-set en (held + words) m here
-      ∙ ap (λ (xs : List ℕ). xs ++ (m ∷ [])) (u .marks (omega (arith, h)))
-      ∙ append-assoc (take held en₀) (map mark (u .items)) (m ∷ [])
-      ∙ ap (λ (xs : List ℕ). take held en₀ ++ xs) (sym (map-append mark (u .items) (item-of s t ∷ [])))
+      rw (a, put, take-suc-set en (held + words) m here, u .marks (omega (arith, h)), map-append mark (u .items)) (append-assoc (take held en₀) (map mark (u .items)) (m ∷ []))
   marks-next false e h =
       let a : held + (words + 0) ≡ held + words = omega arith in
-      ap (λ (j : ℕ). take j em) a ∙ ap (take (held + words)) (p .same-marks (λ q. eqb-false 1 (t .sort) e (sym q))) ∙ u .marks (omega (arith, h))
-      ∙ ap (λ (js : List Item). take held en₀ ++ map mark js) (sym (append-nil (u .items)))
+      rw (a, p .same-marks (λ q. eqb-false 1 (t .sort) e (sym q)), append-nil (u .items)) (u .marks (omega (arith, h)))
 
   pub worded-more : {r : Fault} {m : ℕ} → r ≡ lower over (fault-of (one-if (eqb 1 (t .sort) && leb 128 (held + words)) (t .at))) → m ≡ words + cond (eqb 1 (t .sort)) 1 0
       → Worded s n held en₀ r m (t .next) em
   worded-more {r} {m} f g =
       record {
         items = u .items ++ own-word (eqb 1 (t .sort));
-        items-are = u .items-are ∙ ap (λ (js : List Item). u .items ++ js) items-next ∙ sym (append-assoc (u .items) (own-word (eqb 1 (t .sort))) later);
-        count = length-append (u .items) (own-word (eqb 1 (t .sort))) ∙ ap (λ (j : ℕ). j + length (own-word (eqb 1 (t .sort)))) (u .count) ∙ ap (λ (j : ℕ). words + j) (one (eqb 1 (t .sort))) ∙ sym g;
-        over-is = f ∙ ap (λ (x : Fault). lower x (fault-of (one-if (eqb 1 (t .sort) && leb 128 (held + words)) (t .at)))) (u .over-is) ∙ sym (over-next (eqb 1 (t .sort)) (leb 128 (held + words)) refl);
-        marks = subst (λ (j : ℕ). held + j ≤ 128 → take (held + j) em ≡ take held en₀ ++ map mark (u .items ++ own-word (eqb 1 (t .sort)))) (sym g) (marks-next (eqb 1 (t .sort)) refl);
+        items-are = u .items-are ∙ rw items-next (sym (append-assoc (u .items) (own-word (eqb 1 (t .sort))) later));
+        count = rw (length-append (u .items), u .count, one-long (eqb 1 (t .sort)) (item-of s t), g);
+        over-is = rw (f, u .over-is, over-next (eqb 1 (t .sort)) (leb 128 (held + words)) refl);
+        marks = rw g (marks-next (eqb 1 (t .sort)) refl);
         size = l ∙ u .size;
       }
-    where
-      one : (w : Bool) → length (own-word w) ≡ cond w 1 0
-      one true = refl
-      one false = refl
 
 -- ---- texts
 
@@ -285,40 +257,21 @@ rows-named : (s : List ℕ) (held : ℕ) (ty : List ℕ) (rows : List (List Item
     → ((j : ℕ) → j < length rows → held + j < 128 → Text-cell s (getD ty (held + j) 0) (getD rows j []))
     → (after ≡ true → held + length rows < 128 → Text-cell s (getD ty (held + length rows) 0) row)
     → (j : ℕ) → j < length (rows ++ cond after (row ∷ []) []) → held + j < 128 → Text-cell s (getD ty (held + j) 0) (getD (rows ++ cond after (row ∷ []) []) j [])
-rows-named s held ty rows row after old new j m h = go (ltb j (length rows)) refl
-  where
-    last : (c : Bool) → after ≡ c → length rows ≤ j → Text-cell s (getD ty (held + j) 0) (getD (rows ++ cond after (row ∷ []) []) j [])
-    last true x e =
-        let q : j ≡ length rows = omega (arith, e, m, ap (λ (c : Bool). length (rows ++ cond c (row ∷ []) [])) x, length-append rows (row ∷ [])) in
-        subst (λ (k : ℕ). Text-cell s (getD ty (held + k) 0) (getD (rows ++ cond after (row ∷ []) []) k [])) (sym q)
-        (subst (λ (r : List Item). Text-cell s (getD ty (held + length rows) 0) r)
-        (sym (ap (λ (c : Bool). getD (rows ++ cond c (row ∷ []) []) (length rows) []) x ∙ getD-append-seam rows row [] []))
-        (new x (subst (λ (k : ℕ). held + k < 128) q h)))
-    last false x e = absurd (omega (arith, e, m, ap (λ (c : Bool). length (rows ++ cond c (row ∷ []) [])) x, ap length (append-nil rows)))
-
-    go : (b : Bool) → ltb j (length rows) ≡ b → Text-cell s (getD ty (held + j) 0) (getD (rows ++ cond after (row ∷ []) []) j [])
-    go true e =
-        let l = ltb-true j (length rows) e in
-        subst (λ (r : List Item). Text-cell s (getD ty (held + j) 0) r) (sym (List·getD-append rows (cond after (row ∷ []) []) [] j l)) (old j l h)
-    go false e = last after refl (ltb-false j (length rows) e)
+rows-named s held ty rows row true old new j m h =
+    elim (decLt j (length rows)) as (λ d. Text-cell s (getD ty (held + j) 0) (getD (rows ++ (row ∷ [])) j [])) [
+      | yes l ↦ rw (List·getD-append rows (row ∷ []) [] j l) (old j l h)
+      | no l ↦
+          let q : j ≡ length rows = omega (arith, m, length-append rows (row ∷ [])) in
+          rw (q, getD-append-seam rows row [] []) (new refl (rw q at h))
+    ]
+rows-named s held ty rows row false old new j m h = rw (append-nil rows) (old j (omega (arith, m, ap length (append-nil rows))) h)
 
 -- the number of a text
 names-item : {s : List ℕ} {t : Token} → Stands s t → length s ≤ 32768 → t .sort ≡ 4 → Names-item s (t .at * 65536 + t .end) (item-of s t)
 names-item {s} {t} h low e =
-    let m = t .at * 65536 + t .end in
-    let p : m / 65536 ≡ t .at = omega (arith, h .behind, h .most, low) in
-    let q : m % 65536 ≡ t .end = omega (arith, h .behind, h .most, low) in
+    let place : (t .at * 65536 + t .end) / 65536 ≡ t .at = omega (arith, h .behind, h .most, low) in
     let some : t .at < t .end = h .some (λ z. absurd (omega (arith, z, e))) in
-    record {
-      some = omega (arith, some);
-      place = p;
-      sort = is-sort text h ∙ eq-eqb 4 (t .sort) (sym e);
-      names =
-          record {
-            between = record { order = omega (arith, p, q, some); most = omega (arith, q, h .behind, h .most) };
-            is = ap (λ (j : ℕ). text-in s (j + 1) (text-to m)) p ∙ ap (λ (j : ℕ). text-in s (t .at + 1) j) q ∙ sym (text-token-chars s t e);
-          };
-    }
+    record { some = omega (arith, some); place = place; sort = is-sort text h ∙ eq-eqb 4 (t .sort) (sym e); names = names-text (record { stands = h; low = low }) e }
 
 module _ {s : List ℕ} {n held words : ℕ} {after : Bool} {i : ℕ} {tx : List ℕ} (u : Texted s n held words after i tx) (low : length s ≤ 32768)
     {t : Token} (k : Next-token s i t) (z : stops (t .sort) ≡ false) {en em ty : List ℕ} (p : Puts-item t after (held + words) en tx em ty)
@@ -331,11 +284,7 @@ module _ {s : List ℕ} {n held words : ℕ} {after : Bool} {i : ℕ} {tx : List
   rows-next = ap (left-texts after) (at-item k z) ∙ rw (is-sort text (k .stands), is-sort word (k .stands)) refl
 
   all-rows : length (u .rows ++ own-row after) ≡ words
-  all-rows = length-append (u .rows) (own-row after) ∙ ap (λ (j : ℕ). length (u .rows) + j) (one after) ∙ u .count
-    where
-      one : (w : Bool) → length (own-row w) ≡ cond w 1 0
-      one true = refl
-      one false = refl
+  all-rows = rw (length-append (u .rows), one-long after (cond (eqb 4 (t .sort)) (item-of s t ∷ []) [])) (u .count)
 
   -- the cells of other entries stay
   stays : (j : ℕ) → (j ≡ held + words → ⊥) → (after ≡ true → j ≡ held + words - 1 → ⊥) → getD ty j 0 ≡ getD tx j 0
@@ -349,38 +298,33 @@ module _ {s : List ℕ} {n held words : ℕ} {after : Bool} {i : ℕ} {tx : List
 
   -- the cell of the entry before, now that its text is known
   settled : after ≡ true → held + length (u .rows) < 128 → Text-cell s (getD ty (held + length (u .rows)) 0) (cond (eqb 4 (t .sort)) (item-of s t ∷ []) [])
-  settled w h = go (eqb 4 (t .sort)) refl
-    where
-      there : length (u .rows) + 1 ≡ words
-      there = ap (λ (c : Bool). length (u .rows) + cond c 1 0) (sym w) ∙ u .count
-
-      go : (b : Bool) → eqb 4 (t .sort) ≡ b → Text-cell s (getD ty (held + length (u .rows)) 0) (cond b (item-of s t ∷ []) [])
-      go true y =
-          let e : t .sort ≡ 4 = sym (eqb-true 4 (t .sort) y) in
-          let q : held + length (u .rows) ≡ held + words - 1 = omega (arith, there) in
-          subst (λ (m : ℕ). Names-item s m (item-of s t))
-          (sym (ap (λ (j : ℕ). getD ty j 0) q ∙ put-same (p .text-put e w) (omega (arith, q, h, u .size))))
-          (names-item (k .stands) low e)
-      go false y = same (eqb 1 (t .sort)) refl ∙ u .none-yet w h
-        where
-          same : (a : Bool) → eqb 1 (t .sort) ≡ a → getD ty (held + length (u .rows)) 0 ≡ getD tx (held + length (u .rows)) 0
-          same true x = put-other (p .no-text (sym (eqb-true 1 (t .sort) x))) (held + length (u .rows)) (λ q. absurd (omega (arith, q, there)))
-          same false x = ap (λ (zs : List ℕ). getD zs (held + length (u .rows)) 0) (p .same-texts (λ q. eqb-false 1 (t .sort) x (sym q)) (ap (λ (d : Bool). d && after) y))
+  settled w h =
+      let there : length (u .rows) + 1 ≡ words = rw w at (u .count) in
+      let same : held + length (u .rows) ≡ held + words - 1 → eqb 4 (t .sort) ≡ false → getD ty (held + length (u .rows)) 0 ≡ getD tx (held + length (u .rows)) 0 = λ q y.
+      elim (eqb 1 (t .sort)) as (λ a. eqb 1 (t .sort) ≡ a → getD ty (held + length (u .rows)) 0 ≡ getD tx (held + length (u .rows)) 0) [
+        | true ↦ λ x. put-other (p .no-text (sym (eqb-true 1 (t .sort) x))) (held + length (u .rows)) (λ c. absurd (omega (arith, c, there)))
+        | false ↦ λ x. ap (λ (zs : List ℕ). getD zs (held + length (u .rows)) 0) (p .same-texts (λ c. eqb-false 1 (t .sort) x (sym c)) (rw y))
+      ] refl in
+      let q : held + length (u .rows) ≡ held + words - 1 = omega (arith, there) in
+      elim (eqb 4 (t .sort)) as (λ b. eqb 4 (t .sort) ≡ b → Text-cell s (getD ty (held + length (u .rows)) 0) (cond b (item-of s t ∷ []) [])) [
+        | true ↦ λ y.
+            let e : t .sort ≡ 4 = sym (eqb-true 4 (t .sort) y) in
+            rw (q, put-same (p .text-put e w) (omega (arith, q, h, u .size))) (names-item (k .stands) low e)
+        | false ↦ λ y. same q y ∙ u .none-yet w h
+      ] refl
 
   still-named : (j : ℕ) → j < length (u .rows) → held + j < 128 → Text-cell s (getD ty (held + j) 0) (getD (u .rows) j [])
   still-named j m h =
-      subst (λ (v : ℕ). Text-cell s v (getD (u .rows) j [])) (sym (stays (held + j) (λ q. absurd (omega (arith, q, m, u .count))) (λ w q. absurd (omega (arith, q, m, ap (λ (c : Bool). length (u .rows) + cond c 1 0) (sym w) ∙ u .count)))))
-      (u .named j m h)
+      rw (stays (held + j) (λ q. absurd (omega (arith, q, m, u .count))) (λ w q. absurd (omega (arith, q, m, rw w at (u .count))))) (u .named j m h)
 
   pub texted-more : {m : ℕ} → m ≡ words + cond (eqb 1 (t .sort)) 1 0 → Texted s n held m (eqb 1 (t .sort)) (t .next) ty
   texted-more g =
       record {
         rows = u .rows ++ own-row after;
-        rows-are = u .rows-are ∙ ap (λ (rs : List (List Item)). u .rows ++ rs) rows-next ∙ sym (append-assoc (u .rows) (own-row after) (left-texts (eqb 1 (t .sort)) (statement-at s (t .next))));
-        count = ap (λ (j : ℕ). j + cond (eqb 1 (t .sort)) 1 0) all-rows ∙ sym g;
+        rows-are = u .rows-are ∙ rw rows-next (sym (append-assoc (u .rows) (own-row after) (left-texts (eqb 1 (t .sort)) (statement-at s (t .next)))));
+        count = rw (all-rows, g);
         named = rows-named s held ty (u .rows) (cond (eqb 4 (t .sort)) (item-of s t ∷ []) []) after still-named settled;
-        none-yet = λ w h.
-            ap (λ (j : ℕ). getD ty (held + j) 0) all-rows ∙ put-same (p .no-text (sym (eqb-true 1 (t .sort) w))) (omega (arith, h, all-rows, u .size));
+        none-yet = λ w h. rw all-rows (put-same (p .no-text (sym (eqb-true 1 (t .sort) w))) (omega (arith, h, all-rows, u .size)));
         size = l ∙ u .size;
       }
 
@@ -389,15 +333,13 @@ module _ {s : List ℕ} {n held words : ℕ} {after : Bool} {i : ℕ} {tx : List
 pub record Reading (s : List ℕ) (n : ℕ) (byName : Bool) (w₀ held : ℕ) (en₀ tx₀ : List ℕ) (fault over : Fault) (words w : ℕ) (b : Before) (i : ℕ) (en tx : List ℕ) : Type 0 where
   pub low : length s ≤ 32768
   pub held-most : held ≤ 128
-  pub within : Within s n i
+  pub passing : Passing s n w₀ i w
   pub few : n + words ≤ i
   pub some : n < i → filled (statement-at s n) ≡ true
   pub faulted : Faulted s n byName fault b i
   pub worded : Worded s n held en₀ over words i en
   pub texted : Texted s n held words (b .word) i tx
   pub orders : Ordered (statement-at s i) → Ordered (statement-at s n)
-  pub checked : w ≤ clean
-  pub worst-is : min w (worst (statement-at s i)) ≡ min w₀ (worst (statement-at s n))
 
 module _ {s : List ℕ} {t : Token} {w₀ held : ℕ} {en₀ tx₀ : List ℕ} (pre : Listable s t w₀ held en₀ tx₀) {byName : Bool} where
   pub reading-first : Reading s (t .next) byName w₀ held en₀ tx₀ Clear Clear 0 w₀ (record { word = false; name = false; colon = 0 }) (t .next) en₀ tx₀
@@ -406,7 +348,7 @@ module _ {s : List ℕ} {t : Token} {w₀ held : ℕ} {en₀ tx₀ : List ℕ} (
       record {
         low = pre .low;
         held-most = pre .held-most;
-        within = begins-within (pre .stands .most);
+        passing = passing-first (pre .stands .most) (pre .checked);
         few = omega arith;
         some = λ l. absurd (omega (arith, l));
         faulted = record { faults = []; fault-is = refl; list-is = refl };
@@ -429,8 +371,6 @@ module _ {s : List ℕ} {t : Token} {w₀ held : ℕ} {en₀ tx₀ : List ℕ} (
               size = pre .text-room;
             };
         orders = λ o. o;
-        checked = pre .checked;
-        worst-is = refl;
       }
 
   module _ {fault over : Fault} {words w : ℕ} {b : Before} {i : ℕ} {en tx : List ℕ} (u : Reading s (t .next) byName w₀ held en₀ tx₀ fault over words w b i en tx)
@@ -442,20 +382,14 @@ module _ {s : List ℕ} {t : Token} {w₀ held : ℕ} {en₀ tx₀ : List ℕ} (
     module _ (z : stops (x .sort) ≡ true) {a r : Fault} (e : a ≡ lower fault (fault-of (colon-left b (byName && eqb 4 (x .sort))))) (f : r ≡ cond (eqb i n) (At (t .at)) a) where
       fault-now : r ≡ fault-of (switch-after s t byName)
       unfolding switch-after lowest
-      fault-now = f ∙ go (eqb i n) refl
-        where
-          go : (c : Bool) → eqb i n ≡ c → cond c (At (t .at)) a ≡ fault-of (cond (filled (statement-at s n)) (list-faults byName false (statement-at s n)) (t .at ∷ []))
-          go true q =
-              sym (ap (λ (js : List Item). fault-of (cond (filled js) (list-faults byName false js) (t .at ∷ []))) (ap (statement-at s) (sym (eqb-true i n q)) ∙ at-stop k z))
-          go false q =
-              faults-end (u .faulted) k e z
-              ∙ sym (ap (λ (c : Bool). fault-of (cond c (list-faults byName false (statement-at s n)) (t .at ∷ []))) (u .some (omega (arith, eqb-false i n q, u .within .from))))
+      fault-now =
+          f ∙ elim (eqb i n) as (λ c. eqb i n ≡ c → cond c (At (t .at)) a ≡ fault-of (cond (filled (statement-at s n)) (list-faults byName false (statement-at s n)) (t .at ∷ []))) [
+            | true ↦ λ q. let none : statement-at s n ≡ [] = ap (statement-at s) (sym (eqb-true i n q)) ∙ at-stop k z in rw none
+            | false ↦ λ q. faults-end (u .faulted) k e z ∙ rw (u .some (omega (arith, eqb-false i n q, u .passing .within .from)))
+          ] refl
 
       items-now : keep (is word) (statement-at s n) ≡ u .worded .items
-      items-now = u .worded .items-are ∙ ap (λ (js : List Item). u .worded .items ++ keep (is word) js) (at-stop k z) ∙ append-nil (u .worded .items)
-
-      over-now : over ≡ fault-of (drop (128 - held) (places (keep (is word) (statement-at s n))))
-      over-now = u .worded .over-is ∙ ap (λ (js : List Item). fault-of (drop (128 - held) (places js))) (sym items-now)
+      items-now = u .worded .items-are ∙ rw (at-stop k z) (append-nil (u .worded .items))
 
       room-now : over ≡ Clear → held + words ≤ 128
       room-now q =
@@ -469,32 +403,29 @@ module _ {s : List ℕ} {t : Token} {w₀ held : ℕ} {en₀ tx₀ : List ℕ} (
 
       rows-now : entry-texts (statement-at s n) ≡ u .texted .rows ++ cond (b .word) ([] ∷ []) []
       unfolding entry-texts
-      rows-now = u .texted .rows-are ∙ ap (λ (js : List Item). u .texted .rows ++ left-texts (b .word) js) (at-stop k z) ∙ ap (λ (rs : List (List Item)). u .texted .rows ++ rs) (append-nil (cond (b .word) ([] ∷ []) []))
+      rows-now = u .texted .rows-are ∙ rw (at-stop k z, append-nil {A = List Item} (cond (b .word) ([] ∷ []) [])) refl
 
       pub list-read : Reads-list s t byName w₀ held en₀ tx₀ (record { fault = r; words = words; over = over; worst = w; next = x .next; last = eqb (x .sort) 0 }) en tx
       list-read =
           record {
             fault-is = fault-now;
             words-is = sym (ap length items-now ∙ u .worded .count);
-            few = omega (arith, u .few, u .within .most, pre .low);
-            over-is = over-now;
-            worst-is = omega (arith, u .worst-is, worst-stop k z, u .checked);
-            ends = ends-here (u .within) k z;
-            ordered = u .orders (subst Ordered (sym (at-stop k z)) tt);
-            marks = λ q. subst (λ (js : List Item). take (held + length js) en ≡ take held en₀ ++ map mark js) (sym items-now) (subst (λ (m : ℕ). take (held + m) en ≡ take held en₀ ++ map mark (u .worded .items)) (sym (u .worded .count)) (u .worded .marks (room-now q)));
-            texts =
-                subst (λ (rs : List (List Item)). (j : ℕ) → j < length rs → held + j < 128 → Text-cell s (getD tx (held + j) 0) (getD rs j [])) (sym rows-now)
-                (rows-named s held tx (u .texted .rows) [] (b .word) (u .texted .named) (u .texted .none-yet));
+            few = omega (arith, u .few, u .passing .within .most, pre .low);
+            over-is = rw items-now (u .worded .over-is);
+            worst-is = passed-worst (u .passing) k z;
+            ends = passed-end (u .passing) k z;
+            ordered = u .orders (rw (at-stop k z) tt);
+            marks = λ q. rw (items-now, u .worded .count) (u .worded .marks (room-now q));
+            texts = rw rows-now (rows-named s held tx (u .texted .rows) [] (b .word) (u .texted .named) (u .texted .none-yet));
           }
 
 module _ {s : List ℕ} {n : ℕ} {byName : Bool} {w₀ held : ℕ} {en₀ tx₀ : List ℕ} {fault over : Fault} {words w : ℕ} {b : Before} {i : ℕ} {en tx : List ℕ}
     (u : Reading s n byName w₀ held en₀ tx₀ fault over words w b i en tx) where
   pub words-low : held + words ≤ 32896
-  words-low = omega (arith, u .few, u .within .most, u .low, u .held-most)
+  words-low = omega (arith, u .few, u .passing .within .most, u .low, u .held-most)
 
   pub more-low : (c : Bool) {m : ℕ} → m ≡ cond c 1 0 → words + m ≤ 32897
-  more-low true e = omega (arith, words-low, e)
-  more-low false e = omega (arith, words-low, e)
+  more-low c e = omega (arith, words-low, e, one-most c)
 
   -- one more item
   module _ {x : Token} (k : Next-token s i x) (z : stops (x .sort) ≡ false) where
@@ -516,21 +447,14 @@ module _ {s : List ℕ} {n : ℕ} {byName : Bool} {w₀ held : ℕ} {en₀ tx₀
           record {
             low = u .low;
             held-most = u .held-most;
-            within = still-within (u .within) k z;
-            few = omega (arith, u .few, on k z, d, one (eqb 1 (x .sort)));
-            some = λ h. started (eqb i n) refl;
+            passing = passing-on (u .passing) k z c;
+            few = omega (arith, u .few, on k z, d, one-most (eqb 1 (x .sort)));
+            some = λ h. elim (eqb i n) as (λ b. eqb i n ≡ b → filled (statement-at s n) ≡ true) [
+              | true ↦ λ y. rw (← eqb-true i n y, at-item k z)
+              | false ↦ λ y. u .some (omega (arith, eqb-false i n y, u .passing .within .from))
+            ] refl;
             faulted = faulted-more (u .faulted) k e z (eqb 1 (x .sort)) g f;
             worded = worded-more (u .worded) (u .held-most) k z p l q d;
             texted = texted-more (u .texted) (u .low) k z p l′ d;
-            orders = λ o. u .orders (subst Ordered (sym (at-item k z)) (statement-from s (x .next) (x .at) (omega (arith, k .stands .own, k .stands .behind)), o));
-            checked = omega (arith, u .checked, c);
-            worst-is = omega (arith, u .worst-is, worst-item k z, c);
+            orders = λ o. u .orders (rw (at-item k z) (statement-from s (x .next) (x .at) (omega (arith, k .stands .own, k .stands .behind)), o));
           }
-        where
-          one : (b : Bool) → cond b 1 0 ≤ 1
-          one true = omega arith
-          one false = omega arith
-
-          started : (b : Bool) → eqb i n ≡ b → filled (statement-at s n) ≡ true
-          started true h = ap (λ (j : ℕ). filled (statement-at s j)) (sym (eqb-true i n h)) ∙ ap filled (at-item k z)
-          started false h = u .some (omega (arith, eqb-false i n h, u .within .from))

@@ -1,6 +1,6 @@
 -- Question 02 by what the operator is.
 use mathlib.Core.Path.{_≡_, refl, ap, sym, _∙_}
-use mathlib.Core.Bool.{Bool, true, false, cond, true≢false}
+use mathlib.Core.Bool.{Bool, true, false, true≢false}
 use mathlib.Core.List.{List, []}
 use Prim.Native.Nat.{ℕ}
 use native.Mathlib.Omega.{arith}
@@ -11,13 +11,12 @@ use Rattle.arguments.specs.Arguments.{Instr-fault}
 use Rattle.arguments.specs.ArgumentLaws.{instr-is}
 use Rattle.arguments.specs.CountLaws.{numbered, this-instruction, has-operator}
 use Rattle.language.specs.Program.{Op}
-use Rattle.lists.specs.Lists.{filled}
 use Rattle.statements.specs.declared.Fault.{Fault}
 use Rattle.statements.specs.declared.Fault.the-variants.{Clear}
 use Rattle.statements.specs.StatementAt.{statement-at, stops, fault-of}
-use Rattle.syntax.specs.Items.{Item, places}
+use Rattle.syntax.specs.Items.{Item}
 use Rattle.syntax.specs.Questions.{instr-faults, switch-faults}
-use Rattle.syntax.specs.Statements.{by-keyword, keyword-in, operator, list-faults}
+use Rattle.syntax.specs.Statements.{by-keyword, keyword-in}
 use Rattle.syntax.specs.Statements as Spec
 use Rattle.words.specs.Keywords.{told}
 use Rattle.switch_lists.specs.Switches.{switch-after, argument-question}
@@ -55,17 +54,12 @@ module _ {s : List ℕ} {n : ℕ} {h : Head} (g : Headed s n h) where
 
   module _ (e : is-switch (h .keyword) ≡ true) where
     switch-operator : stops (h .op .sort) ≡ false
-    switch-operator = go (stops (h .op .sort)) refl
-      where
-        go : (b : Bool) → stops (h .op .sort) ≡ b → b ≡ false
-        go true z = absurd (true≢false (sym e ∙ ap is-switch (no-keyword g z)))
-        go false z = refl
+    switch-operator =
+        elim (stops (h .op .sort)) as (λ b. stops (h .op .sort) ≡ b → b ≡ false) [ true ↦ λ z. absurd (true≢false (sym e ∙ ap is-switch (no-keyword g z))) | false ↦ λ z. refl ] refl
 
     switch-is : (b : Bool) → switch-faults x b ≡ switch-after s (h .op) b
     unfolding switch-faults switch-after
-    switch-is b =
-        ap (λ js. cond (filled js) (list-faults b false js) (places (operator x))) (rest-here g switch-operator)
-        ∙ ap (λ os. cond (filled (statement-at s (h .op .next))) (list-faults b false (statement-at s (h .op .next))) (places os)) (operator-here g switch-operator)
+    switch-is b = rw (rest-here g switch-operator, operator-here g switch-operator)
 
     pub of-switch : {b : Bool} → b ≡ is-by-name (h .keyword) → argument-question x ≡ switch-after s (h .op) b
     unfolding argument-question by-keyword

@@ -1,12 +1,9 @@
 -- `argument_cells::referred` meets its contract.
 use borrow.Author.Needs.{needs}
-use Rattle.entering.proofs.Numbers.{no-text}
+use Rattle.entering.proofs.Adding.{no-text}
 use Rattle.argument_cells.proofs.Arguing.{text-of-value, text-referred, not-referred}
 use Rattle.argument_cells.proofs.referred.Statement.{statement}
 use Rattle.argument_cells.proofs.referred.Tie as tie
-
-enum-known-x : tie.Need-enum-known-x
-enum-known-x c = search needs
 
 text-of-requires : tie.Need-text-of-requires
 text-of-requires c κs = text-of-value (c .before .before .before .before .before .pre) (c .before .x .given .1)
@@ -18,4 +15,4 @@ returns-2 : tie.Need-returns-2
 returns-2 c = not-referred (no-text (c .before .before .before .args .x) (c .match .keys2))
 
 pub referred-spec : {M : Type 1} → statement M
-referred-spec = tie.close (tie.spec enum-known-x text-of-requires returns returns-2)
+referred-spec = tie.close (tie.spec (search needs) text-of-requires returns returns-2)

@@ -7,12 +7,6 @@ use Rattle.argument_cells.proofs.Arguing.{texts-counted, named-fits, na
 use Rattle.argument_cells.proofs.text_of.Statement.{statement}
 use Rattle.argument_cells.proofs.text_of.Tie as tie
 
-add-put-text : tie.Need-add-put-text
-add-put-text c = search needs
-
-slice-aggregate-put-text : tie.Need-slice-aggregate-put-text
-slice-aggregate-put-text c = search needs
-
 put-text-requires : tie.Need-put-text-requires
 put-text-requires c κs = named-fits (c .before .before .before .pre) (search needs)
 
@@ -32,8 +26,8 @@ pub text-of-spec : {M : Type 1} → statement M
 text-of-spec =
     tie.close
     (tie.spec
-    add-put-text
-    slice-aggregate-put-text
+    (search needs)
+    (search needs)
     put-text-requires
     array-share-prefix-word
     slice-aggregate-text-ref

@@ -21,18 +21,6 @@ returns c =
       word-is = λ e. absurd (omega (arith, e, c .if1 .taken));
     }
 
-sub-word-kind : tie.Need-sub-word-kind
-sub-word-kind c = search needs
-
-part-word-kind-start : tie.Need-part-word-kind-start
-part-word-kind-start c = search needs
-
-part-word-kind-end : tie.Need-part-word-kind-end
-part-word-kind-end c = search needs
-
-word-kind-requires : tie.Need-word-kind-requires
-word-kind-requires c κs = search needs
-
 returns-2 : tie.Need-returns-2
 returns-2 c =
     record {
@@ -56,9 +44,9 @@ item-kind-spec =
     mul-t6
     add-t7
     returns
-    sub-word-kind
-    part-word-kind-start
-    part-word-kind-end
-    word-kind-requires
+    (search needs)
+    (search needs)
+    (search needs)
+    (search needs)
     returns-2
     returns-3)

@@ -6,15 +6,6 @@ use Rattle.arguments.specs.declared.Value.{Value}
 use Rattle.arguments.proofs.no_values.Statement.{statement}
 use Rattle.arguments.proofs.no_values.Tie as tie
 
-no-value-requires : tie.Need-no-value-requires
-no-value-requires c κs = search needs
-
-no-value-requires-2 : tie.Need-no-value-requires-2
-no-value-requires-2 c κs = search needs
-
-no-value-requires-3 : tie.Need-no-value-requires-3
-no-value-requires-3 c κs = search needs
-
 returns : tie.Need-returns
 returns c = ap (λ (x : Value). record { first = x; second = c .before .no-value2 .result; third = c .no-value3 .result }) (c .before .before .no-value .ensures)
     ∙ ap (λ (y : Value). record { first = no-value; second = y; third = c .no-value3 .result }) (c .before .no-value2 .ensures)
@@ -22,4 +13,4 @@ returns c = ap (λ (x : Value). record { first = x; second = c .before .no-value
 
 pub no-values-spec : {M : Type 1} → statement M
 no-values-spec =
-    tie.close (tie.spec no-value-requires no-value-requires-2 no-value-requires-3 returns)
+    tie.close (tie.spec (search needs) (search needs) (search needs) returns)

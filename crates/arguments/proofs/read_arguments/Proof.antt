@@ -21,23 +21,8 @@ Inv-loop text op worst at live₀ place₀ values₀ low₀ i₀ live place valu
 abbrev μ-loop : tie.MeasureT-loop
 μ-loop text op worst at live₀ place₀ values₀ low₀ i₀ live place values low i = length text - i
 
-no-values-requires : tie.Need-no-values-requires Inv-loop μ-loop
-no-values-requires c κs = search needs
-
 loop-holds : tie.Need-loop-holds Inv-loop μ-loop
 loop-holds c = gathering-first (c .before .before .pre) (c .no-values .ensures)
-
-next-item-requires : tie.Need-next-item-requires Inv-loop μ-loop
-next-item-requires c κs = c .loop .inv .reading .most
-
-stops-requires : tie.Need-stops-requires Inv-loop μ-loop
-stops-requires c κs = search needs
-
-wide-requires : tie.Need-wide-requires Inv-loop μ-loop
-wide-requires c κs = search needs
-
-missing-or-requires : tie.Need-missing-or-requires Inv-loop μ-loop
-missing-or-requires c κs = search needs
 
 returns : tie.Need-returns Inv-loop μ-loop
 returns c =
@@ -55,9 +40,6 @@ returns-2 c = let l = c .before .before .before .before .before .before .loop in
 
 item-kind-requires : tie.Need-item-kind-requires Inv-loop μ-loop
 item-kind-requires c κs = record { stands = c .before .before .before .before .next-item .ensures .stands; low = c .before .before .before .before .before .before .before .before .pre .low }
-
-take-argument-requires : tie.Need-take-argument-requires Inv-loop μ-loop
-take-argument-requires c κs = search needs
 
 refuse-requires-2 : tie.Need-refuse-requires-2 Inv-loop μ-loop
 refuse-requires-2 c κs = refusable (c .before .before .before .before .before .before .before .before .before .before .before .before .pre) (c .before .before .before .before .before .before .before .before .before .loop .inv)
@@ -84,11 +66,8 @@ returns-4 c = let l = c .before .before .before .before .before .before .before 
 value-by-requires : tie.Need-value-by-requires Inv-loop μ-loop
 value-by-requires c κs = mark-low (record { stands = c .before .before .before .before .before .before .before .before .before .before .next-item .ensures .stands; low = c .before .before .before .before .before .before .before .before .before .before .before .before .before .before .pre .low })
 
-with-value-requires : tie.Need-with-value-requires Inv-loop μ-loop
-with-value-requires c κs = search needs
-
 add-place : tie.Need-add-place Inv-loop μ-loop
-add-place c = omega (arith, c .before .before .before .before .before .before .before .before .before .before .before .before .before .loop .inv .reading .few)
+add-place c = omega (arith, c .before .before .before .before .before .before .before .before .before .before .before .before .before .loop .inv .few)
 
 worse-requires : tie.Need-worse-requires Inv-loop μ-loop
 worse-requires c κs = place-low (c .before .before .before .before .before .before .before .before .before .before .before .before .next-item .ensures .stands) (c .before .before .before .before .before .before .before .before .before .before .before .before .before .before .before .before .pre .low)
@@ -107,7 +86,7 @@ loop-again c =
     let o = operator-of (g .args .op) in
     let reads = reads-so (c .before .before .before .before .before .before .before .before .before .before .before .before .before .before .loop .inv) k here (c .before .before .before .before .before .before .before .before .before .if2 .left) (c .before .before .before .before .before .before .before .take-argument .ensures) (kind .set-is) (c .before .before .before .before .before .if3 .left) o (g .pre .numbered) in
     gathering-on (c .before .before .before .before .before .before .before .before .before .before .before .before .before .before .loop .inv) k here (c .before .before .before .before .before .before .before .before .before .if2 .left) (c .before .before .before .before .before .before .before .take-argument .ensures) (kind .set-is) (c .before .before .before .before .before .if3 .left) o (g .pre .numbered) (c .before .before .before .if4 .left) refl
-    (value-stood (record { stands = k .stands; as-form = reads; low = g .pre .low }) kind (c .before .before .value-by .ensures)) (c .before .with-value .ensures) (c .worse .ensures)
+    (value-stood (record { stands = k .stands; low = g .pre .low }) kind reads (c .before .before .value-by .ensures)) (c .before .with-value .ensures) (c .worse .ensures)
 
 pub read-arguments-spec : {M : Type 1} → statement M
 read-arguments-spec =
@@ -115,23 +94,23 @@ read-arguments-spec =
     (tie.spec
     Inv-loop
     μ-loop
-    no-values-requires
+    (search needs)
     loop-holds
-    next-item-requires
-    stops-requires
-    wide-requires
-    missing-or-requires
+    (λ c κs. c .loop .inv .passing .within .most)
+    (search needs)
+    (search needs)
+    (search needs)
     returns
     refuse-requires
     returns-2
     item-kind-requires
-    take-argument-requires
+    (search needs)
     refuse-requires-2
     returns-3
     refuse-requires-3
     returns-4
     value-by-requires
-    with-value-requires
+    (search needs)
     add-place
     worse-requires
     loop-less

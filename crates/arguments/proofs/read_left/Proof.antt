@@ -18,20 +18,8 @@ abbrev μ-loop : tie.MeasureT-loop
 loop-holds : tie.Need-loop-holds Inv-loop μ-loop
 loop-holds c = leaving-first (c .before .args .skip) (c .before .pre)
 
-next-item-requires : tie.Need-next-item-requires Inv-loop μ-loop
-next-item-requires c κs = c .loop .inv .passing .within .most
-
-stops-requires : tie.Need-stops-requires Inv-loop μ-loop
-stops-requires c κs = search needs
-
 returns : tie.Need-returns Inv-loop μ-loop
 returns c = left-end (c .before .before .before .before .loop .inv) (c .before .before .before .next-item .ensures) (sym (c .before .before .stops .ensures) ∙ c .before .if1 .taken)
-
-with-excess-requires : tie.Need-with-excess-requires Inv-loop μ-loop
-with-excess-requires c κs = search needs
-
-one-if-requires : tie.Need-one-if-requires Inv-loop μ-loop
-one-if-requires c κs = search needs
 
 add-count : tie.Need-add-count Inv-loop μ-loop
 add-count c =
@@ -59,11 +47,11 @@ read-left-spec =
     Inv-loop
     μ-loop
     loop-holds
-    next-item-requires
-    stops-requires
+    (λ c κs. c .loop .inv .passing .within .most)
+    (search needs)
     returns
-    with-excess-requires
-    one-if-requires
+    (search needs)
+    (search needs)
     add-count
     worse-requires
     loop-less

@@ -5,12 +5,6 @@ use borrow.Author.Tests.{eq-eqb, ne-eqb}
 use Rattle.arguments.proofs.value_by.Statement.{statement}
 use Rattle.arguments.proofs.value_by.Tie as tie
 
-mul-mark : tie.Need-mul-mark
-mul-mark c = search needs
-
-add-mark : tie.Need-add-mark
-add-mark c = search needs
-
 returns : tie.Need-returns
 returns c = rw (eq-eqb _ _ (c .if1 .taken)) refl
 
@@ -24,4 +18,4 @@ returns-4 : tie.Need-returns-4
 returns-4 c = rw (ne-eqb _ _ (c .before .before .if1 .left), ne-eqb _ _ (c .before .if2 .left), ne-eqb _ _ (c .if3 .left)) refl
 
 pub value-by-spec : {M : Type 1} → statement M
-value-by-spec = tie.close (tie.spec mul-mark add-mark returns returns-2 returns-3 returns-4)
+value-by-spec = tie.close (tie.spec (search needs) (search needs) returns returns-2 returns-3 returns-4)

@@ -4,9 +4,6 @@ use mathlib.Core.Path.{refl}
 use Rattle.arguments.proofs.with_excess.Statement.{statement}
 use Rattle.arguments.proofs.with_excess.Tie as tie
 
-lower-requires : tie.Need-lower-requires
-lower-requires c κs = search needs
-
 returns : tie.Need-returns
 returns c = rw (c .before .if1 .taken) (c .lower .ensures)
 
@@ -14,4 +11,4 @@ returns-2 : tie.Need-returns-2
 returns-2 c = rw (c .if1 .left) refl
 
 pub with-excess-spec : {M : Type 1} → statement M
-with-excess-spec = tie.close (tie.spec lower-requires returns returns-2)
+with-excess-spec = tie.close (tie.spec (search needs) returns returns-2)

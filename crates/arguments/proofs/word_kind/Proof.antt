@@ -6,41 +6,11 @@ use Rattle.forms.proofs.Readings.{letter-kind}
 use Rattle.arguments.proofs.word_kind.Statement.{statement}
 use Rattle.arguments.proofs.word_kind.Tie as tie
 
-identifier-requires : tie.Need-identifier-requires
-identifier-requires c κs = search needs
-
-is-class-requires : tie.Need-is-class-requires
-is-class-requires c κs = search needs
-
-class-mask-requires : tie.Need-class-mask-requires
-class-mask-requires c κs = search needs
-
 returns : tie.Need-returns
 returns c = class-read (c .before .before .before .before .before .before .args .w .now) (sym (c .before .before .before .before .identifier .ensures) ∙ c .before .before .before .if1 .taken) (sym (c .before .before .is-class .ensures) ∙ c .before .if2 .taken) (c .class-mask .ensures)
 
-indexed-requires : tie.Need-indexed-requires
-indexed-requires c κs = search needs
-
-enum-known-place : tie.Need-enum-known-place
-enum-known-place c = search needs
-
 letter-bit-requires : tie.Need-letter-bit-requires
 letter-bit-requires c κs = letter-kind (c .before .before .before .before .before .before .before .before .before .args .w .now) (sym (c .before .before .before .before .before .before .before .identifier .ensures) ∙ c .before .before .before .before .before .before .if1 .taken) (sym (c .before .before .before .before .before .is-class .ensures) ∙ c .before .before .before .before .if2 .left) (sym (c .before .place .given .1) ∙ c .before .before .before .indexed .ensures) .0
-
-add-t12 : tie.Need-add-t12
-add-t12 c = search needs
-
-place-of-requires : tie.Need-place-of-requires
-place-of-requires c κs = search needs
-
-letter-by-requires : tie.Need-letter-by-requires
-letter-by-requires c κs = search needs
-
-wide-requires : tie.Need-wide-requires
-wide-requires c κs = search needs
-
-enum-told : tie.Need-enum-told
-enum-told c = search needs
 
 returns-2 : tie.Need-returns-2
 returns-2 c =
@@ -49,15 +19,6 @@ returns-2 c =
 
 returns-3 : tie.Need-returns-3
 returns-3 c = name-read (c .before .before .before .before .before .before .before .before .args .w .now) (sym (c .before .before .before .before .before .before .identifier .ensures) ∙ c .before .before .before .before .before .if1 .taken) (sym (c .before .before .before .before .is-class .ensures) ∙ c .before .before .before .if2 .left) (sym (c .enum-told .given .1) ∙ c .before .before .indexed .ensures)
-
-number-of-requires : tie.Need-number-of-requires
-number-of-requires c κs = search needs
-
-enum-known-code : tie.Need-enum-known-code
-enum-known-code c = search needs
-
-enum-told-2 : tie.Need-enum-told-2
-enum-told-2 c = search needs
 
 returns-4 : tie.Need-returns-4
 returns-4 c = number-read (c .before .before .before .before .before .before .before .args .w .now) (sym (c .before .before .before .before .before .identifier .ensures) ∙ c .before .before .before .before .if1 .left) (sym (c .before .code .given .1) ∙ c .before .before .before .number-of .ensures)
@@ -69,22 +30,22 @@ pub word-kind-spec : {M : Type 1} → statement M
 word-kind-spec =
     tie.close
     (tie.spec
-    identifier-requires
-    is-class-requires
-    class-mask-requires
+    (search needs)
+    (search needs)
+    (search needs)
     returns
-    indexed-requires
-    enum-known-place
+    (search needs)
+    (search needs)
     letter-bit-requires
-    add-t12
-    place-of-requires
-    letter-by-requires
-    wide-requires
-    enum-told
+    (search needs)
+    (search needs)
+    (search needs)
+    (search needs)
+    (search needs)
     returns-2
     returns-3
-    number-of-requires
-    enum-known-code
-    enum-told-2
+    (search needs)
+    (search needs)
+    (search needs)
     returns-4
     returns-5)

@@ -8,17 +8,8 @@ use Rattle.declaring.proofs.declare_instruction.Tie as tie
 judge-instruction-requires : tie.Need-judge-instruction-requires
 judge-instruction-requires c κs = judgeable (c .before .before .before .before .pre)
 
-enum-known-p : tie.Need-enum-known-p
-enum-known-p c = search needs
-
-enum-told : tie.Need-enum-told
-enum-told c = search needs
-
 write-instruction-requires : tie.Need-write-instruction-requires
 write-instruction-requires c κs = writable (c .before .before .before .before .before .before .before .before .before .before .pre) (c .before .before .before .before .before .judge-instruction .ensures) (c .before .enum-told .given .1)
-
-same-length : tie.Need-same-length
-same-length c = c .before .before .before .before .before .judge-instruction .kept .1 .1 .1 .1 .1 .0
 
 returns : tie.Need-returns
 returns c = declared-none (c .before .before .before .before .before .before .before .before .before .before .pre) (c .before .before .before .before .before .judge-instruction .ensures) (c .before .p .given .1)
@@ -34,10 +25,10 @@ declare-instruction-spec =
     tie.close
     (tie.spec
     judge-instruction-requires
-    enum-known-p
-    enum-told
+    (search needs)
+    (search needs)
     write-instruction-requires
-    same-length
+    (λ c. c .before .before .before .before .before .judge-instruction .kept .1 .1 .1 .1 .1 .0)
     returns
     same-length-2
     returns-2)

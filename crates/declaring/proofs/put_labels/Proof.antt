@@ -21,17 +21,11 @@ read-requires c κs = omega (arith, c .loop-test .taken, c .before .before .befo
 put-name-requires : tie.Need-put-name-requires Inv-loop μ-loop
 put-name-requires c κs = nameable ((c .before .before .before .before .before .before .before .pre)) (c .before .before .before .loop .inv) (c .before .before .loop-test .taken) (c .before .read .ensures .is)
 
-add-k : tie.Need-add-k Inv-loop μ-loop
-add-k c = search needs
-
 loop-less : tie.Need-loop-less Inv-loop μ-loop
 loop-less c = omega (arith, c .before .before .before .before .before .loop-test .taken)
 
 loop-again : tie.Need-loop-again Inv-loop μ-loop
 loop-again c = putting-more ((c .before .before .before .before .before .before .before .before .before .before .pre)) (c .before .before .before .before .before .before .loop .inv) (c .before .before .before .before .before .loop-test .taken) (c .before .before .before .before .read .ensures .is) (c .before .before .put-name .ensures) (c .before .before .put-name .kept .1 .1 .1 .0)
-
-same-length : tie.Need-same-length Inv-loop μ-loop
-same-length c = c .before .loop .inv .size
 
 returns : tie.Need-returns Inv-loop μ-loop
 returns c = putting-done ((c .before .before .before .before .before .pre)) (c .before .loop .inv) (c .loop-test .left)
@@ -45,8 +39,8 @@ put-labels-spec =
     loop-holds
     read-requires
     put-name-requires
-    add-k
+    (search needs)
     loop-less
     loop-again
-    same-length
+    (λ c. c .before .loop .inv .size)
     returns)

@@ -8,26 +8,14 @@ use Rattle.declaring_switches.proofs.declare_switch.Tie as tie
 judge-switch-requires : tie.Need-judge-switch-requires
 judge-switch-requires c κs = switch-judgeable (c .before .before .before .before .before .pre)
 
-enum-known-p : tie.Need-enum-known-p
-enum-known-p c = search needs
-
-enum-told : tie.Need-enum-told
-enum-told c = search needs
-
 write-switch-requires : tie.Need-write-switch-requires
 write-switch-requires c κs = switch-writable (c .before .before .before .before .before .before .before .before .before .before .before .before .pre) (c .before .before .before .before .before .before .judge-switch .ensures) (c .before .before .enum-told .given .1)
-
-same-length : tie.Need-same-length
-same-length c = c .before .before .before .before .before .judge-switch .kept .1 .1 .0
 
 returns : tie.Need-returns
 returns c = switch-refused (c .before .before .before .before .before .before .before .before .before .before .before .pre) (c .before .before .before .before .before .judge-switch .ensures) (c .before .p .given .1)
 
 same-length-2 : tie.Need-same-length-2
 same-length-2 c = c .before .before .before .before .write-switch .kept .1 .1 .0 ∙ c .before .before .before .before .before .before .before .before .before .before .before .judge-switch .kept .1 .1 .0
-
-same-length-3 : tie.Need-same-length-3
-same-length-3 c = c .before .before .before .before .write-switch .kept .1 .1 .1 .0
 
 returns-2 : tie.Need-returns-2
 returns-2 c = switch-declared (c .before .before .before .before .before .before .before .before .before .before .before .before .before .before .before .before .before .pre) (c .before .before .before .before .before .before .before .before .before .before .before .judge-switch .ensures) (c .before .before .before .before .before .before .before .enum-told .given .1) (c .before .before .before .before .write-switch .ensures)
@@ -37,11 +25,11 @@ declare-switch-spec =
     tie.close
     (tie.spec
     judge-switch-requires
-    enum-known-p
-    enum-told
+    (search needs)
+    (search needs)
     write-switch-requires
-    same-length
+    (λ c. c .before .before .before .before .before .judge-switch .kept .1 .1 .0)
     returns
     same-length-2
-    same-length-3
+    (λ c. c .before .before .before .before .write-switch .kept .1 .1 .1 .0)
     returns-2)

@@ -9,7 +9,7 @@ use Rattle.layout.specs.Cells.{cell}
 use Rattle.packed.specs.Packed.{table-of}
 use Rattle.declaring_switches.specs.declared.Declaration.{Declaration}
 use Rattle.declaring_switches.specs.DeclaringSwitches.{Judgeable-switch}
-use Rattle.declaring_switches.proofs.Texts.{Entering, entering-first, inside, row-named, entering-more, text-refused, texts-entered, held-most}
+use Rattle.declaring_switches.proofs.Texts.{Entering, entering-first, inside, row-enterable, entering-more, text-refused, texts-entered, held-most}
 use Rattle.declaring_switches.proofs.enter_texts.Statement.{statement}
 use Rattle.declaring_switches.proofs.enter_texts.Tie as tie
 
@@ -21,15 +21,9 @@ Inv-loop text table₀ texts k₀ end table k =
 abbrev μ-loop : tie.MeasureT-loop
 μ-loop text table₀ texts k₀ end table k = end - k
 
-entries-requires : tie.Need-entries-requires Inv-loop μ-loop
-entries-requires c κs = c .before .before .before .before .pre .held .holds .long
-
 add-lesser : tie.Need-add-lesser Inv-loop μ-loop
 add-lesser c =
     let g = c .before .before .before .before .before .before .pre in omega (arith, g .list .few, held-most g, c .before .entries .ensures .is)
-
-lesser-requires : tie.Need-lesser-requires Inv-loop μ-loop
-lesser-requires c κs = search needs
 
 loop-holds : tie.Need-loop-holds Inv-loop μ-loop
 loop-holds c = (refl, λ d g e. entering-first g (c .before .before .entries .ensures .is))
@@ -46,7 +40,7 @@ enter-cell-requires c κs =
     let g = c .before .before .before .before .before .before .before .before .before .before .before .pre in
     let e = c .before .before .before .before .lesser .ensures ∙ ap (λ (m : ℕ). min (m + c .before .before .before .before .before .before .before .before .before .before .before .args .d .words) 128) (c .before .before .before .before .before .before .entries .ensures .is) in
     let u = c .before .before .before .loop .inv .1 (c .before .before .before .before .before .before .before .before .before .before .before .args .d) g e in
-    row-named g u e (c .before .before .loop-test .taken) (c .before .read .ensures .is)
+    row-enterable g u e (c .before .before .loop-test .taken) (c .before .read .ensures .is)
 
 same-length : tie.Need-same-length Inv-loop μ-loop
 same-length c = c .before .before .before .enter-cell .kept .1 .1 .0 ∙ c .before .before .before .before .before .before .before .loop .inv .0
@@ -58,21 +52,11 @@ returns c =
     let u = c .before .before .before .before .before .before .before .loop .inv .1 (c .before .before .before .before .before .before .before .before .before .before .before .before .before .before .before .args .d) g e in
     text-refused g u e (c .before .before .before .before .before .before .loop-test .taken) (c .before .before .before .before .before .read .ensures .is) (c .before .before .before .enter-cell .ensures) (not-true (c .before .before .before .enter-cell .result) (c .if1 .taken))
 
-add-k : tie.Need-add-k Inv-loop μ-loop
-add-k c = omega (arith, c .before .before .before .before .before .before .loop-test .taken, c .before .before .before .before .before .before .before .before .lesser .ensures)
-
-loop-less : tie.Need-loop-less Inv-loop μ-loop
-loop-less c =
-    omega (arith, c .before .before .before .before .before .before .loop-test .taken)
-
 loop-again : tie.Need-loop-again Inv-loop μ-loop
 loop-again c = (
   c .before .before .before .enter-cell .kept .1 .1 .0 ∙ c .before .before .before .before .before .before .before .loop .inv .0,
   λ d g e. entering-more g (c .before .before .before .before .before .before .before .loop .inv .1 d g e) e (c .before .before .before .before .before .before .loop-test .taken) (c .before .before .before .before .before .read .ensures .is) (c .before .before .before .enter-cell .ensures) (not-false (c .before .before .before .enter-cell .result) (c .if1 .left)),
 )
-
-same-length-2 : tie.Need-same-length-2 Inv-loop μ-loop
-same-length-2 c = c .before .loop .inv .0
 
 returns-2 : tie.Need-returns-2 Inv-loop μ-loop
 returns-2 c =
@@ -87,16 +71,16 @@ enter-texts-spec =
     (tie.spec
     Inv-loop
     μ-loop
-    entries-requires
+    (λ c κs. c .before .before .before .before .pre .held .holds .long)
     add-lesser
-    lesser-requires
+    (search needs)
     loop-holds
     read-requires
     enter-cell-requires
     same-length
     returns
-    add-k
-    loop-less
+    (λ c. omega (arith, c .before .before .before .before .before .before .loop-test .taken, c .before .before .before .before .before .before .before .before .lesser .ensures))
+    (λ c. omega (arith, c .before .before .before .before .before .before .loop-test .taken))
     loop-again
-    same-length-2
+    (λ c. c .before .loop .inv .0)
     returns-2)

@@ -7,7 +7,7 @@ use Rattle.layout.specs.Cells.{cell}
 use Rattle.packed.specs.Packed.{table-of}
 use Rattle.declaring_switches.specs.declared.Declaration.{Declaration}
 use Rattle.declaring_switches.specs.Entries.{Listing}
-use Rattle.declaring_switches.proofs.Entries.{Filling, filling-first, inside, row-named, room-for-entry, filling-more, filled-all, held-is}
+use Rattle.declaring_switches.proofs.Entries.{Filling, filling-first, inside, row-tellable, room-for-entry, filling-more, filled-all, held-is}
 use Rattle.declaring_switches.proofs.put_entries.Statement.{statement}
 use Rattle.declaring_switches.proofs.put_entries.Tie as tie
 
@@ -18,9 +18,6 @@ Inv-loop text table₀ texts k₀ end table k =
 
 abbrev μ-loop : tie.MeasureT-loop
 μ-loop text table₀ texts k₀ end table k = end - k
-
-entries-requires : tie.Need-entries-requires Inv-loop μ-loop
-entries-requires c κs = c .before .before .before .before .pre .held .holds .long
 
 add-end : tie.Need-add-end Inv-loop μ-loop
 add-end c =
@@ -41,7 +38,7 @@ cell-ref-requires c κs =
     let g = c .before .before .before .before .before .before .before .before .before .before .pre in
     let e = ap (λ (m : ℕ). m + c .before .before .before .before .before .before .before .before .before .before .args .d .words) (c .before .before .before .before .before .entries .ensures .is) in
     let u = c .before .before .before .loop .inv .1 (c .before .before .before .before .before .before .before .before .before .before .args .d) g e in
-    row-named g u (omega (arith, e, c .before .before .loop-test .taken)) (c .before .read .ensures .is)
+    row-tellable g u (omega (arith, e, c .before .before .loop-test .taken)) (c .before .read .ensures .is)
 
 put-entry-requires : tie.Need-put-entry-requires Inv-loop μ-loop
 put-entry-requires c κs =
@@ -54,18 +51,11 @@ add-k : tie.Need-add-k Inv-loop μ-loop
 add-k c =
     let g = c .before .before .before .before .before .before .before .before .before .before .before .before .before .before .before .pre in omega (arith, c .before .before .before .before .before .before .before .loop-test .taken, g .room, held-is g, c .before .before .before .before .before .before .before .before .before .before .entries .ensures .is)
 
-loop-less : tie.Need-loop-less Inv-loop μ-loop
-loop-less c =
-    omega (arith, c .before .before .before .before .before .before .before .loop-test .taken)
-
 loop-again : tie.Need-loop-again Inv-loop μ-loop
 loop-again c = (
   c .before .before .put-entry .kept .0 ∙ c .before .before .before .before .before .before .before .before .loop .inv .0,
   λ d g e. filling-more g (c .before .before .before .before .before .before .before .before .loop .inv .1 d g e) (omega (arith, e, c .before .before .before .before .before .before .before .loop-test .taken)) (c .before .before .before .before .before .before .read .ensures .is) (c .before .before .before .before .cell-ref .ensures) (c .before .before .put-entry .ensures),
 )
-
-same-length : tie.Need-same-length Inv-loop μ-loop
-same-length c = c .before .loop .inv .0
 
 returns : tie.Need-returns Inv-loop μ-loop
 returns c =
@@ -80,14 +70,14 @@ put-entries-spec =
     (tie.spec
     Inv-loop
     μ-loop
-    entries-requires
+    (λ c κs. c .before .before .before .before .pre .held .holds .long)
     add-end
     loop-holds
     read-requires
     cell-ref-requires
     put-entry-requires
     add-k
-    loop-less
+    (λ c. omega (arith, c .before .before .before .before .before .before .before .loop-test .taken))
     loop-again
-    same-length
+    (λ c. c .before .loop .inv .0)
     returns)

@@ -6,17 +6,11 @@ use Rattle.declaring_switches.proofs.Switches.{room-for-switch, switch-
 use Rattle.declaring_switches.proofs.write_switch.Statement.{statement}
 use Rattle.declaring_switches.proofs.write_switch.Tie as tie
 
-switches-requires : tie.Need-switches-requires
-switches-requires c κs = c .before .before .before .before .before .pre .held .holds .long
-
 put-switch-requires : tie.Need-put-switch-requires
 put-switch-requires c κs = room-for-switch (c .before .before .before .before .before .before .before .pre)
 
 put-entries-requires : tie.Need-put-entries-requires
 put-entries-requires c κs = listing (c .before .before .before .before .before .before .before .before .before .before .before .pre) (c .before .before .before .put-switch .ensures)
-
-mul-switches : tie.Need-mul-switches
-mul-switches c = search needs
 
 slice-write-switches : tie.Need-slice-write-switches
 slice-write-switches c = switch-index (c .before .before .before .before .before .before .before .before .before .before .before .before .before .before .pre) (c .before .before .before .before .before .before .before .before .switches .ensures .is)
@@ -34,10 +28,10 @@ pub write-switch-spec : {M : Type 1} → statement M
 write-switch-spec =
     tie.close
     (tie.spec
-    switches-requires
+    (λ c κs. c .before .before .before .before .before .pre .held .holds .long)
     put-switch-requires
     put-entries-requires
-    mul-switches
+    (search needs)
     slice-write-switches
     same-length
     same-length-2

@@ -10,29 +10,17 @@ use Rattle.entering.proofs.Adding.{numbers-laws, adds-known, adds-none,
 use Rattle.entering.proofs.add_number.Statement.{statement}
 use Rattle.entering.proofs.add_number.Tie as tie
 
-numbers-requires : tie.Need-numbers-requires
-numbers-requires c κs = c .before .before .pre .holds .long
-
 find-number-requires : tie.Need-find-number-requires
 find-number-requires c κs = record { long = c .before .before .before .before .pre .holds .long; most = omega (arith, number-count (c .before .before .before .before .args .table .now) (c .before .before .before .before .pre .program) (c .before .before .before .before .pre .holds), c .before .before .before .before .pre .holds .tabular .numbers-most) }
 
-same-length : tie.Need-same-length
-same-length c = search needs
-
 returns : tie.Need-returns
 returns c = λ z i. adds-known sameNumber (λ y. y .numbers) set-numbers numbers-laws z (λ y g. c .before .find-number .ensures .is z y g (record { is = i .is; small = i .small })) (λ y g. c .before .before .before .numbers .ensures .is ∙ number-count (c .before .before .before .before .before .before .args .table .now) y g) (c .if1 .taken)
-
-same-length-2 : tie.Need-same-length-2
-same-length-2 c = search needs
 
 returns-2 : tie.Need-returns-2
 returns-2 c = λ z i. adds-none sameNumber (λ y. y .numbers) set-numbers numbers-laws z (λ y g. c .before .before .find-number .ensures .is z y g (record { is = i .is; small = i .small })) (λ y g. c .before .before .before .before .numbers .ensures .is ∙ number-count (c .before .before .before .before .before .before .before .args .table .now) y g) (c .before .if1 .left) (c .if2 .taken)
 
 put-number-requires : tie.Need-put-number-requires
 put-number-requires c κs = record { long = c .before .before .before .before .before .before .before .before .pre .holds .long; room = omega (arith, c .before .before .before .before .before .numbers .ensures .is, c .before .if2 .left, number-count (c .before .before .before .before .before .before .before .before .args .table .now) (c .before .before .before .before .before .before .before .before .pre .program) (c .before .before .before .before .before .before .before .before .pre .holds), c .before .before .before .before .before .before .before .before .pre .holds .tabular .numbers-most) }
-
-same-length-3 : tie.Need-same-length-3
-same-length-3 c = search needs
 
 returns-3 : tie.Need-returns-3
 unfolding set-numbers with-number
@@ -42,12 +30,12 @@ pub add-number-spec : {M : Type 1} → statement M
 add-number-spec =
     tie.close
     (tie.spec
-    numbers-requires
+    (λ c κs. c .before .before .pre .holds .long)
     find-number-requires
-    same-length
+    (search needs)
     returns
-    same-length-2
+    (search needs)
     returns-2
     put-number-requires
-    same-length-3
+    (search needs)
     returns-3)

@@ -10,29 +10,17 @@ use Rattle.entering.proofs.Adding.{texts-laws, adds-known, adds-none, a
 use Rattle.entering.proofs.add_text.Statement.{statement}
 use Rattle.entering.proofs.add_text.Tie as tie
 
-texts-requires : tie.Need-texts-requires
-texts-requires c κs = c .before .before .before .pre .held .holds .long
-
 find-text-requires : tie.Need-find-text-requires
 find-text-requires c κs = record { long = c .before .before .before .before .before .pre .held .holds .long; most = omega (arith, text-count (c .before .before .before .before .before .args .table .now) (c .before .before .before .before .before .pre .held .program) (c .before .before .before .before .before .pre .held .holds), c .before .before .before .before .before .pre .held .holds .tabular .texts-most) }
 
-same-length : tie.Need-same-length
-same-length c = search needs
-
 returns : tie.Need-returns
 returns c = adds-known sameBytes (λ p. p .texts) set-texts texts-laws (c .before .before .before .before .before .before .before .args .word .now) (c .before .find-text .ensures .is) (λ p h. c .before .before .before .texts .ensures .is ∙ text-count (c .before .before .before .before .before .before .before .args .table .now) p h) (c .if1 .taken)
-
-same-length-2 : tie.Need-same-length-2
-same-length-2 c = search needs
 
 returns-2 : tie.Need-returns-2
 returns-2 c = adds-none sameBytes (λ p. p .texts) set-texts texts-laws (c .before .before .before .before .before .before .before .before .args .word .now) (c .before .before .find-text .ensures .is) (λ p h. c .before .before .before .before .texts .ensures .is ∙ text-count (c .before .before .before .before .before .before .before .before .args .table .now) p h) (c .before .if1 .left) (c .if2 .taken)
 
 put-text-requires : tie.Need-put-text-requires
 put-text-requires c κs = record { long = c .before .before .before .before .before .before .before .before .before .pre .held .holds .long; room = omega (arith, c .before .before .before .before .before .texts .ensures .is, c .before .if2 .left, text-count (c .before .before .before .before .before .before .before .before .before .args .table .now) (c .before .before .before .before .before .before .before .before .before .pre .held .program) (c .before .before .before .before .before .before .before .before .before .pre .held .holds), c .before .before .before .before .before .before .before .before .before .pre .held .holds .tabular .texts-most); short = c .before .before .before .before .before .before .before .before .before .pre .short }
-
-same-length-3 : tie.Need-same-length-3
-same-length-3 c = search needs
 
 returns-3 : tie.Need-returns-3
 unfolding set-texts with-text
@@ -42,12 +30,12 @@ pub add-text-spec : {M : Type 1} → statement M
 add-text-spec =
     tie.close
     (tie.spec
-    texts-requires
+    (λ c κs. c .before .before .before .pre .held .holds .long)
     find-text-requires
-    same-length
+    (search needs)
     returns
-    same-length-2
+    (search needs)
     returns-2
     put-text-requires
-    same-length-3
+    (search needs)
     returns-3)

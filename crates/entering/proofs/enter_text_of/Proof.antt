@@ -3,19 +3,9 @@ use borrow.Author.Needs.{needs}
 use lib.ListN.{length-take}
 use mathlib.Core.Path.{refl}
 use native.Mathlib.Omega.{arith}
-use Rattle.entering.proofs.Adding.{put-long, value-past, value-small, value-entered, value-fits, value-addable}
-use Rattle.entering.proofs.Numbers.{no-text}
+use Rattle.entering.proofs.Adding.{no-text, put-long, value-past, value-small, value-entered, value-fits, value-addable}
 use Rattle.entering.proofs.enter_text_of.Statement.{statement}
 use Rattle.entering.proofs.enter_text_of.Tie as tie
-
-enum-known-x : tie.Need-enum-known-x
-enum-known-x c = search needs
-
-add-put-text : tie.Need-add-put-text
-add-put-text c = search needs
-
-slice-aggregate-put-text : tie.Need-slice-aggregate-put-text
-slice-aggregate-put-text c = search needs
 
 put-text-requires : tie.Need-put-text-requires
 put-text-requires c κs = value-fits (c .before .before .before .before .before .before .pre) (c .before .before .x .given .1) (search needs)
@@ -32,9 +22,6 @@ slice-aggregate-add-text c = simp length-take (omega (arith, put-long (c .before
 add-text-requires : tie.Need-add-text-requires
 add-text-requires c κs = value-addable (c .before .before .before .before .before .before .before .before .before .before .before .pre) (c .before .before .before .before .before .before .before .x .given .1) (c .before .before .before .before .put-text .ensures) refl
 
-same-length : tie.Need-same-length
-same-length c = search needs
-
 returns-2 : tie.Need-returns-2
 returns-2 c = λ i h. value-entered h (c .before .before .before .before .before .before .before .before .before .before .x .given .1) (c .before .before .before .before .before .before .before .put-text .ensures) (c .before .before .before .before .before .if1 .left) (c .before .before .add-text .ensures)
 
@@ -45,14 +32,14 @@ pub enter-text-of-spec : {M : Type 1} → statement M
 enter-text-of-spec =
     tie.close
     (tie.spec
-    enum-known-x
-    add-put-text
-    slice-aggregate-put-text
+    (search needs)
+    (search needs)
+    (search needs)
     put-text-requires
     returns
     array-share-prefix-word
     slice-aggregate-add-text
     add-text-requires
-    same-length
+    (search needs)
     returns-2
     returns-3)

@@ -23,21 +23,6 @@ abbrev μ-loop : tie.MeasureT-loop
 loop-holds : tie.Need-loop-holds Inv-loop μ-loop
 loop-holds c = reading-first (c .before .before .before .pre)
 
-next-item-requires : tie.Need-next-item-requires Inv-loop μ-loop
-next-item-requires c κs = c .loop .inv .within .most
-
-at-if-requires : tie.Need-at-if-requires Inv-loop μ-loop
-at-if-requires c κs = search needs
-
-lower-requires : tie.Need-lower-requires Inv-loop μ-loop
-lower-requires c κs = search needs
-
-stops-requires : tie.Need-stops-requires Inv-loop μ-loop
-stops-requires c κs = search needs
-
-or-empty-requires : tie.Need-or-empty-requires Inv-loop μ-loop
-or-empty-requires c κs = search needs
-
 same-length : tie.Need-same-length Inv-loop μ-loop
 same-length c = let uᵛ = c .before .before .before .before .before .before .before .before .before .loop .inv in
     let gᵛ = (c .before .before .before .before .before .before .before .before .before .before .before .before .before .pre) in
@@ -55,9 +40,6 @@ returns c = let uᵛ = c .before .before .before .before .before .before .before
     let aᵛ = c .before .before .before .before .lower .ensures ∙ ap (λ (f : Fault). lower (c .before .before .before .before .before .before .before .before .before .loop .fault) f) (c .before .before .before .before .before .at-if .ensures) in
     list-read gᵛ uᵛ kᵛ (sym (c .before .before .before .stops .ensures) ∙ c .before .before .if1 .taken) aᵛ (c .before .or-empty .ensures)
 
-is-name-requires : tie.Need-is-name-requires Inv-loop μ-loop
-is-name-requires c κs = c .before .before .before .before .before .before .next-item .ensures .stands
-
 add-k : tie.Need-add-k Inv-loop μ-loop
 add-k c = omega (arith, words-low (c .before .before .before .before .before .before .before .before .before .loop .inv))
 
@@ -67,26 +49,11 @@ put-item-requires c κs = let uᵛ = c .before .before .before .before .before .
     let onᵛ = sym (c .before .before .before .before .before .stops .ensures) ∙ c .before .before .before .before .if1 .left in
     item-puttable uᵛ kᵛ onᵛ
 
-at-if-requires-2 : tie.Need-at-if-requires-2 Inv-loop μ-loop
-at-if-requires-2 c κs = search needs
-
-lower-requires-2 : tie.Need-lower-requires-2 Inv-loop μ-loop
-lower-requires-2 c κs = search needs
-
-at-if-requires-3 : tie.Need-at-if-requires-3 Inv-loop μ-loop
-at-if-requires-3 c κs = search needs
-
-lower-requires-3 : tie.Need-lower-requires-3 Inv-loop μ-loop
-lower-requires-3 c κs = search needs
-
 worse-requires : tie.Need-worse-requires Inv-loop μ-loop
 worse-requires c κs = let uᵛ = c .before .before .before .before .before .before .before .before .before .before .before .before .before .before .before .before .before .before .before .before .loop .inv in
     let kᵛ = c .before .before .before .before .before .before .before .before .before .before .before .before .before .before .before .before .before .before .before .next-item .ensures in
     let onᵛ = sym (c .before .before .before .before .before .before .before .before .before .before .before .before .before .before .stops .ensures) ∙ c .before .before .before .before .before .before .before .before .before .before .before .before .before .if1 .left in
     omega (arith, item-puttable uᵛ kᵛ onᵛ .low)
-
-one-if-requires : tie.Need-one-if-requires Inv-loop μ-loop
-one-if-requires c κs = search needs
 
 add-words : tie.Need-add-words Inv-loop μ-loop
 add-words c =
@@ -114,23 +81,23 @@ read-list-spec =
     Inv-loop
     μ-loop
     loop-holds
-    next-item-requires
-    at-if-requires
-    lower-requires
-    stops-requires
-    or-empty-requires
+    (λ c κs. c .loop .inv .passing .within .most)
+    (search needs)
+    (search needs)
+    (search needs)
+    (search needs)
     same-length
     same-length-2
     returns
-    is-name-requires
+    (λ c κs. c .before .before .before .before .before .before .next-item .ensures .stands)
     add-k
     put-item-requires
-    at-if-requires-2
-    lower-requires-2
-    at-if-requires-3
-    lower-requires-3
+    (search needs)
+    (search needs)
+    (search needs)
+    (search needs)
     worse-requires
-    one-if-requires
+    (search needs)
     add-words
     loop-less
     loop-again)
