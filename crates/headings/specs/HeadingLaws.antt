@@ -14,14 +14,13 @@ use Rattle.statements.specs.CheckLaws.{worst-stop, worst-item}
 use Rattle.statements.specs.Faults.{lower}
 use Rattle.statements.specs.FaultLaws.{fault-both}
 use Rattle.heads.specs.Heads.{opens, from-token, Headed}
-use Rattle.heads.specs.HeadLaws.{told-asked, told-opens, no-keyword}
+use Rattle.heads.specs.HeadLaws.{lower-clear, lower-assoc, told-asked, told-opens, behind-by, no-keyword}
 use Rattle.heads.specs.declared.Head.{Head}
 use Rattle.language.specs.Program.{identifier}
 use Rattle.lexer.specs.Tokens.{item-of, chars-of, colon-of, Next-token}
 use Rattle.lexer.specs.declared.Token.{Token}
 use Rattle.lists.specs.Lists.{filled, ifAny, sameBytes}
 use Rattle.statements.proofs.Ends.{Within, begins-within, still-within, ends-here, ends-then}
-use Rattle.statements.specs.PlaceLaws.{statement-first}
 use Rattle.statements.specs.StatementAt.{statement-at, stops, fault-of}
 use Rattle.statements.specs.StatementLaws.{at-stop, at-item}
 use Rattle.statements.specs.declared.Fault.{Fault}
@@ -34,9 +33,8 @@ use Rattle.syntax.specs.Statements as Spec
 use Rattle.syntax.specs.Statements.Keyword.{SEKCJA, KONS, KONP}
 use Rattle.syntax.specs.Verdict.{lowest}
 use Rattle.words.specs.Keywords.{told}
-use Rattle.headings.specs.Headings.{is-kons, is-konp, Tailable, Tails, follows, no-items, Restable, Rests, name-fault, after-faults, After-told}
+use Rattle.headings.specs.Headings.{is-kons, is-konp, Tails, follows, no-items, Restable, Rests, name-fault, after-faults, After-told}
 use Rattle.headings.specs.declared.Rest.{Rest}
-use Rattle.headings.specs.declared.Tail.{Tail}
 
 -- ---- places at fault
 
@@ -44,45 +42,36 @@ pub fault-one : (p : ℕ) → At p ≡ fault-of (p ∷ [])
 unfolding lowest
 fault-one p = refl
 
-lower-clear : (a : Fault) → lower a Clear ≡ a
-lower-clear Clear = refl
-lower-clear (At p) = refl
-
-lower-assoc : (a b c : Fault) → lower (lower a b) c ≡ lower a (lower b c)
-lower-assoc Clear b c = refl
-lower-assoc (At p) Clear c = refl
-lower-assoc (At p) (At q) Clear = refl
-lower-assoc (At p) (At q) (At r) = ap At (omega arith)
-
 first-place : (p : ℕ) (ps : List ℕ) → fault-of (p ∷ ps) ≡ lower (At p) (fault-of ps)
 first-place p ps = fault-both (p ∷ []) ps ∙ ap (λ (f : Fault). lower f (fault-of ps)) (sym (fault-one p))
 
 -- ---- from token to token
 
--- place i is within the statement at n; more and v tell the items before it
-pub record Reading (s : List ℕ) (n w : ℕ) (more : Fault) (v i : ℕ) : Type 0 where
-  pub within : Within s n i
-  pub more-is : lower more (fault-of (places (statement-at s i))) ≡ fault-of (places (statement-at s n))
-  pub worst-is : min v (worst (statement-at s i)) ≡ min w (worst (statement-at s n))
+-- place i is behind the item f of its statement; more and v tell the items between
+pub record Reading (s : List ℕ) (f : Token) (w : ℕ) (more : Fault) (v i : ℕ) : Type 0 where
+  pub within : Within s (f .next) i
+  pub more-is : lower more (fault-of (places (statement-at s i))) ≡ fault-of (places (statement-at s (f .next)))
+  pub worst-is : min v (worst (statement-at s i)) ≡ min w (worst (statement-at s (f .next)))
   pub coded : v ≤ clean
 
-pub reads-first : {s : List ℕ} {n w : ℕ} → Tailable s n w → Reading s n w Clear w n
-reads-first h = record { within = begins-within (h .inside); more-is = refl; worst-is = refl; coded = h .coded }
+pub reads-first : {s : List ℕ} {f : Token} {w : ℕ} → Restable s f w → Reading s f w Clear w (f .next)
+reads-first h = record { within = begins-within (h .stands .most); more-is = refl; worst-is = refl; coded = h .coded }
 
-module _ {s : List ℕ} {n w : ℕ} {more : Fault} {v i : ℕ} {t : Token} (r : Reading s n w more v i) (k : Next-token s i t) where
-  pub reads-end : stops (t .sort) ≡ true → Tails s n w (record { more = more; worst = v; next = t .next; last = eqb (t .sort) 0 })
+module _ {s : List ℕ} {f : Token} {w : ℕ} {more : Fault} {v i : ℕ} {t : Token} (r : Reading s f w more v i) (k : Next-token s i t) where
+  pub reads-end : stops (t .sort) ≡ true → Tails s f w (record { first = f; more = more; worst = v; next = t .next; last = eqb (t .sort) 0 })
   reads-end z =
       let c : v ≡ min v clean = omega (arith, r .coded) in
       record {
+        first-is = refl;
         more-is = sym (lower-clear more) ∙ ap (λ (js : List Item). lower more (fault-of (places js))) (sym (at-stop k z)) ∙ r .more-is;
         worst-is = c ∙ ap (min v) (sym (worst-stop k z)) ∙ r .worst-is;
         ends = ends-here (r .within) k z;
       }
 
-  pub reads-on : stops (t .sort) ≡ false → {more′ : Fault} {v′ : ℕ} → more′ ≡ lower more (At (t .at)) → v′ ≡ min v (token-code t) → Reading s n w more′ v′ (t .next)
-  reads-on z {more′} {v′} e f =
+  pub reads-on : stops (t .sort) ≡ false → {more′ : Fault} {v′ : ℕ} → more′ ≡ lower more (At (t .at)) → v′ ≡ min v (token-code t) → Reading s f w more′ v′ (t .next)
+  reads-on z {more′} {v′} e q =
       let js = statement-at s (t .next) in
-      let a : min v′ (worst js) ≡ min v (min (token-code t) (worst js)) = omega (arith, f) in
+      let a : min v′ (worst js) ≡ min v (min (token-code t) (worst js)) = omega (arith, q) in
       record {
         within = still-within (r .within) k z;
         more-is = ap (λ (g : Fault). lower g (fault-of (places js))) e
@@ -90,7 +79,7 @@ module _ {s : List ℕ} {n w : ℕ} {more : Fault} {v i : ℕ} {t : Token} (r : 
             ∙ ap (lower more) (sym (first-place (t .at) (places js)) ∙ ap (λ (xs : List Item). fault-of (places xs)) (sym (at-item k z)))
             ∙ r .more-is;
         worst-is = a ∙ ap (min v) (sym (worst-item k z)) ∙ r .worst-is;
-        coded = omega (arith, r .coded, f);
+        coded = omega (arith, r .coded, q);
       }
 
 -- ---- what follows an operator
@@ -105,8 +94,7 @@ module _ {s : List ℕ} {t : Token} {w : ℕ} (h : Restable s t w) where
         items = rw z refl;
         more-is = λ e. absurd (true≢false (sym z ∙ e));
         worst-is = rw z (omega (arith, h .coded));
-        alone = λ e. (refl, refl);
-        ends = λ e. absurd (true≢false (sym z ∙ e));
+        ends = λ n i w k. ends-here w k z;
       }
 
   module _ (o : stops (t .sort) ≡ false) {f : Token} (k : Next-token s (t .next) f) where
@@ -122,24 +110,22 @@ module _ {s : List ℕ} {t : Token} {w : ℕ} (h : Restable s t w) where
           items = rw (z, o) (sym (at-stop k z));
           more-is = λ e. absurd (true≢false (sym z ∙ e));
           worst-is = rw o (c ∙ ap (min w) (sym (worst-stop k z)));
-          alone = λ e. absurd (true≢false (sym e ∙ o));
-          ends = λ e. ends-here (begins-within (h .stands .most)) k z;
+          ends = λ n i w u. ends-then (still-within w u o) (ends-here (begins-within (h .stands .most)) k z);
         }
 
-    pub rests-some : stops (f .sort) ≡ false → {v : ℕ} → v ≡ min w (token-code f) → {r : Tail} → Tails s (f .next) v r
-        → Rests s t w (record { first = f; more = r .more; worst = r .worst; next = r .next; last = r .last })
+    pub rests-some : stops (f .sort) ≡ false → {v : ℕ} → v ≡ min w (token-code f) → {r : Rest} → Tails s f v r → Rests s t w r
     rests-some z {v} e {r} u =
         let js = statement-at s (f .next) in
         let a : r .worst ≡ min w (min (token-code f) (worst js)) = omega (arith, e, u .worst-is) in
-        record {
+        subst (λ (x : Token). Rests s t w (record { first = x; more = r .more; worst = r .worst; next = r .next; last = r .last })) (sym (u .first-is))
+        (record {
           stands = k .stands;
           low = first-low;
           items = rw (z, o) (sym (at-item k z));
           more-is = λ _. u .more-is;
           worst-is = rw o (a ∙ ap (min w) (sym (worst-item k z)));
-          alone = λ e. absurd (true≢false (sym e ∙ o));
-          ends = λ _. ends-then (still-within (begins-within (h .stands .most)) k z) (u .ends);
-        }
+          ends = λ n i w y. ends-then (still-within w y o) (ends-then (still-within (begins-within (h .stands .most)) k z) (u .ends));
+        })
 
 -- ---- one name
 
@@ -165,23 +151,20 @@ module _ {s : List ℕ} {t : Token} {w : ℕ} {r : Rest} (k : Rests s t w r) whe
       go true z = rw z (fault-one at)
       go false z = rw (z, k .more-is z, e) (by-name (right-first s q f))
 
-  -- no item is right
-  pub items-told : (at : ℕ) → stops (f .sort) ≡ false → name-fault r at false ≡ fault-of (places (follows s t))
-  items-told at z = rw (z, k .more-is z) (sym (first-place (f .at) (places js)) ∙ ap (λ (xs : List Item). fault-of (places xs)) (sym here ∙ k .items))
-    where
-      here : from-token s f ≡ item-of s f ∷ js
-      here = rw z refl
+  pub follows-by : (b : Bool) → stops (f .sort) ≡ b → follows s t ≡ cond b [] (item-of s f ∷ js)
+  follows-by b z = sym (k .items) ∙ ap (λ (c : Bool). cond c [] (item-of s f ∷ js)) z
 
-  pub none-told : stops (f .sort) ≡ true → Clear ≡ fault-of (places (follows s t))
-  none-told z = ap (λ (xs : List Item). fault-of (places xs)) (sym here ∙ k .items)
-    where
-      here : from-token s f ≡ []
-      here = rw z refl
+  -- no item is right
+  items-told : (at : ℕ) → stops (f .sort) ≡ false → name-fault r at false ≡ fault-of (places (follows s t))
+  items-told at z = rw (z, k .more-is z) (sym (ap (λ (xs : List Item). fault-of (places xs)) (follows-by false z) ∙ first-place (f .at) (places js)))
+
+  none-told : stops (f .sort) ≡ true → Clear ≡ fault-of (places (follows s t))
+  none-told z = sym (ap (λ (xs : List Item). fault-of (places xs)) (follows-by true z))
 
 -- ---- the first statement
 
 -- nothing stands in front of the operator
-front-none : (x : List Item) → filled (front x) ≡ false → behind x ≡ x
+pub front-none : (x : List Item) → filled (front x) ≡ false → behind x ≡ x
 unfolding front behind
 front-none [] e = refl
 front-none (i ∷ js) e = go (is-operator i) e
@@ -190,49 +173,27 @@ front-none (i ∷ js) e = go (is-operator i) e
     go true f = refl
     go false f = absurd (true≢false f)
 
-first-operates : (i : Item) (js : List Item) → filled (front (i ∷ js)) ≡ false → is-operator i ≡ true
-unfolding front
-first-operates i js e = go (is-operator i) e
+-- what is at fault in a first statement, by whether something stands in front of its operator
+first-by : (i : Item) (js : List Item) (b : Bool) → filled (front (i ∷ js)) ≡ b
+    → first-faults (i ∷ js) ≡ cond b (i .at ∷ []) (cond (same-keyword SEKCJA (keyword-of i)) (one-name identifier (i .at) js) (i .at ∷ []))
+unfolding first-faults front keyword-of
+first-by i js b e = go (is colon i) refl (filled (i .colon)) refl b e
   where
-    go : (b : Bool) → filled (cond b [] (i ∷ front js)) ≡ false → b ≡ true
-    go true f = refl
-    go false f = absurd (true≢false f)
-
--- the first item is an operator; or it is not, and is at fault
-first-operator : (i : Item) (js : List Item) → is-operator i ≡ true
-    → first-faults (i ∷ js) ≡ cond (same-keyword SEKCJA (keyword-of i)) (one-name identifier (i .at) js) (i .at ∷ [])
-unfolding first-faults
-first-operator i js e = go (is colon i) (filled (i .colon)) e
-  where
-    b : Bool
-    b = same-keyword SEKCJA (keyword-of i)
-
-    go : (a c : Bool) → not (a || c) ≡ true → cond (not c && b) (one-name identifier (i .at) js) (i .at ∷ []) ≡ cond b (one-name identifier (i .at) js) (i .at ∷ [])
-    go true c f = absurd (true≢false (sym f))
-    go false true f = absurd (true≢false (sym f))
-    go false false f = refl
-
-first-leads : (i : Item) (js : List Item) → filled (front (i ∷ js)) ≡ true → is-operator i ≡ false
-unfolding front
-first-leads i js e = go (is-operator i) e
-  where
-    go : (b : Bool) → filled (cond b [] (i ∷ front js)) ≡ true → b ≡ false
-    go true f = absurd (true≢false (sym f))
-    go false f = refl
-
-first-other : (i : Item) (js : List Item) → is-operator i ≡ false → first-faults (i ∷ js) ≡ i .at ∷ []
-unfolding first-faults keyword-of
-first-other i js e = go (filled (i .colon)) (is colon i) refl e
-  where
-    go : (c a : Bool) → is colon i ≡ a → not (a || c) ≡ false
-        → cond (not c && same-keyword SEKCJA (keyword-of i)) (one-name identifier (i .at) js) (i .at ∷ []) ≡ i .at ∷ []
-    go true a q f = refl
-    go false true q f = no-word (is word i) refl
+    go : (a : Bool) → is colon i ≡ a → (c : Bool) → filled (i .colon) ≡ c → (b : Bool) → filled (cond (not (a || c)) [] (i ∷ front js)) ≡ b
+        → cond (not c && same-keyword SEKCJA (keyword-of i)) (one-name identifier (i .at) js) (i .at ∷ [])
+        ≡ cond b (i .at ∷ []) (cond (same-keyword SEKCJA (keyword-of i)) (one-name identifier (i .at) js) (i .at ∷ []))
+    go true p true q true e = refl
+    go false p true q true e = refl
+    go true p true q false e = absurd (true≢false e)
+    go false p true q false e = absurd (true≢false e)
+    go true p false q false e = absurd (true≢false e)
+    go true p false q true e = no-word (is word i) refl
       where
-        no-word : (b : Bool) → is word i ≡ b → cond (same-keyword SEKCJA (keyword-of i)) (one-name identifier (i .at) js) (i .at ∷ []) ≡ i .at ∷ []
-        no-word true w = absurd (subst (λ (d : Bool). T (not d)) q (word-apart i (subst T (sym w) tt) .1))
+        no-word : (t : Bool) → is word i ≡ t → cond (same-keyword SEKCJA (keyword-of i)) (one-name identifier (i .at) js) (i .at ∷ []) ≡ i .at ∷ []
+        no-word true w = absurd (subst (λ (d : Bool). T (not d)) p (word-apart i (subst T (sym w) tt) .1))
         no-word false w = rw w refl
-    go false false q f = absurd (true≢false f)
+    go false p false q true e = absurd (true≢false (sym e))
+    go false p false q false e = refl
 
 -- a name from its mark's place to its end
 pub name-part : (s : List ℕ) (m : ℕ) → take (place-by m + length-by m - place-by m) (drop (place-by m) s) ≡ word-by s m
@@ -250,9 +211,6 @@ module _ {s : List ℕ} {n : ℕ} {h : Head} (g : Headed s n h) where
 
   abbrev behind-operator : List Item
   behind-operator = statement-at s (h .op .next)
-
-  behind-by : (b : Bool) → stops (h .op .sort) ≡ b → behind x ≡ cond b [] (i ∷ behind-operator)
-  behind-by b z = g .operator ∙ ap (λ (c : Bool). cond c [] (i ∷ behind-operator)) z
 
   pub rest-follows : rest x ≡ follows s (h .op)
   rest-follows = ap (drop 1) (g .operator) ∙ go (stops (h .op .sort))
@@ -273,7 +231,7 @@ module _ {s : List ℕ} {n : ℕ} {h : Head} (g : Headed s n h) where
     where
       go : (b : Bool) → stops (h .op .sort) ≡ b → operator-at x ≡ h .op .at
       go true z = absurd (true≢false (sym e ∙ ap is-konp (no-keyword g z)))
-      go false z = ap (ifAny 0 (λ j. j .at)) (behind-by false z)
+      go false z = ap (ifAny 0 (λ j. j .at)) (behind-by g false z)
 
   -- nothing is asked of what follows any other operator
   pub after-other : (section : ℕ) → is-konp (h .keyword) ≡ false → is-kons (h .keyword) ≡ false → After-told s n section Clear
@@ -292,22 +250,12 @@ module _ {s : List ℕ} {n : ℕ} {h : Head} (g : Headed s n h) where
     by-kons : (section : ℕ) → is-konp (h .keyword) ≡ false → is-kons (h .keyword) ≡ true → fault-of (places (follows s (h .op))) ≡ fault-of (after-faults (word-by s section) x)
     by-kons section a b = ap (λ (js : List Item). fault-of (places js)) (sym rest-follows) ∙ sym (rw (konp-told ∙ a, kons-told ∙ b) refl)
 
-    pub after-kons : (section : ℕ) {f : Fault} → is-konp (h .keyword) ≡ false → (is-kons (h .keyword) && not (stops (r .first .sort))) ≡ true
-        → f ≡ name-fault r (h .op .at) false → After-told s n section f
-    after-kons section {f} a e q = go (is-kons (h .keyword)) refl (stops (r .first .sort)) refl e
-      where
-        go : (b : Bool) → is-kons (h .keyword) ≡ b → (d : Bool) → stops (r .first .sort) ≡ d → (b && not d) ≡ true → After-told s n section f
-        go true u false v o = q ∙ items-told k (h .op .at) v ∙ by-kons section a u
-        go true u true v o = absurd (true≢false (sym o))
-        go false u d v o = absurd (true≢false (sym o))
+    module _ (section : ℕ) (a : is-konp (h .keyword) ≡ false) (b : is-kons (h .keyword) ≡ true) where
+      pub after-kons : {f : Fault} → stops (r .first .sort) ≡ false → f ≡ name-fault r (h .op .at) false → After-told s n section f
+      after-kons z q = q ∙ items-told k (h .op .at) z ∙ by-kons section a b
 
-    pub after-none : (section : ℕ) → is-konp (h .keyword) ≡ false → (is-kons (h .keyword) && not (stops (r .first .sort))) ≡ false → After-told s n section Clear
-    after-none section a e = go (is-kons (h .keyword)) refl (stops (r .first .sort)) refl e
-      where
-        go : (b : Bool) → is-kons (h .keyword) ≡ b → (d : Bool) → stops (r .first .sort) ≡ d → (b && not d) ≡ false → After-told s n section Clear
-        go true u true v o = none-told k v ∙ by-kons section a u
-        go true u false v o = absurd (true≢false o)
-        go false u d v o = after-other section a u
+      pub after-none : stops (r .first .sort) ≡ true → After-told s n section Clear
+      after-none z = none-told k z ∙ by-kons section a b
 
   -- ---- the first statement
 
@@ -322,10 +270,9 @@ module _ {s : List ℕ} {n : ℕ} {h : Head} (g : Headed s n h) where
       go : (xs : List Item) → x ≡ xs → At (h .first) ≡ fault-of (first-faults x)
       go [] q = absurd (true≢false (sym some ∙ ap (λ (ys : List Item). filled (front ys)) q))
       go (j ∷ js) q =
-          sym (g .first-is (ap filled q))
-          ∙ statement-first s n j js q
-          ∙ fault-one (j .at)
-          ∙ sym (ap (λ (ys : List Item). fault-of (first-faults ys)) q ∙ ap fault-of (first-other j js (first-leads j js (sym (ap (λ (ys : List Item). filled (front ys)) q) ∙ some))))
+          let z : j .at ∷ [] ≡ h .first ∷ [] = sym (ap (λ (ys : List Item). take 1 (places ys)) q) ∙ g .first-is some in
+          fault-one (h .first)
+          ∙ sym (ap (λ (ys : List Item). fault-of (first-faults ys)) q ∙ ap fault-of (first-by j js true (sym (ap (λ (ys : List Item). filled (front ys)) q) ∙ some) ∙ z))
 
   module _ (e : h .first ≡ h .op .at) where
     no-front : filled (front x) ≡ false
@@ -333,20 +280,20 @@ module _ {s : List ℕ} {n : ℕ} {h : Head} (g : Headed s n h) where
 
     pub first-empty : stops (h .op .sort) ≡ true → Clear ≡ fault-of (first-faults x)
     unfolding first-faults
-    first-empty z = sym (ap (λ (ys : List Item). fault-of (first-faults ys)) (sym (front-none x no-front) ∙ behind-by true z))
+    first-empty z = sym (ap (λ (ys : List Item). fault-of (first-faults ys)) (sym (front-none x no-front) ∙ behind-by g true z))
 
     module _ (z : stops (h .op .sort) ≡ false) where
       here : x ≡ i ∷ behind-operator
-      here = sym (front-none x no-front) ∙ behind-by false z
+      here = sym (front-none x no-front) ∙ behind-by g false z
 
       keyword-here : same-keyword SEKCJA (keyword-of i) ≡ opens (h .keyword)
       unfolding keyword-in
-      keyword-here = sym (told-opens (keyword-of i)) ∙ ap opens (sym (g .keyword ∙ ap (λ (ys : List Item). told (ifAny Spec.Keyword.none keyword-of ys)) (behind-by false z)))
+      keyword-here = sym (told-opens (keyword-of i)) ∙ ap opens (sym (g .keyword ∙ ap (λ (ys : List Item). told (ifAny Spec.Keyword.none keyword-of ys)) (behind-by g false z)))
 
       by-keyword : (b : Bool) → opens (h .keyword) ≡ b → first-faults x ≡ cond b (one-name identifier (h .op .at) behind-operator) (h .op .at ∷ [])
       by-keyword b o =
           ap first-faults here
-          ∙ first-operator i behind-operator (first-operates i behind-operator (sym (ap (λ (ys : List Item). filled (front ys)) here) ∙ no-front))
+          ∙ first-by i behind-operator false (sym (ap (λ (ys : List Item). filled (front ys)) here) ∙ no-front)
           ∙ ap (λ (c : Bool). cond c (one-name identifier (h .op .at) behind-operator) (h .op .at ∷ [])) (keyword-here ∙ o)
 
       pub first-wrong : opens (h .keyword) ≡ false → At (h .op .at) ≡ fault-of (first-faults x)

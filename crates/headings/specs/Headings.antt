@@ -6,12 +6,13 @@ use Prim.Native.Nat.{ℕ, _+_, _≤_, min}
 use lib.Dec.{eqb}
 use lib.ListN.{length}
 use Rattle.drafts.specs.Marks.{word-by, Marked}
+use Rattle.statements.proofs.Ends.{Within}
 use Rattle.statements.specs.Checks.{clean, worst}
 use Rattle.statements.specs.Faults.{lower}
 use Rattle.heads.specs.Heads.{by-kind, from-token, Headed}
 use Rattle.heads.specs.declared.Head.{Head}
 use Rattle.language.specs.Limits as limit
-use Rattle.lexer.specs.Tokens.{colon-of, Stands}
+use Rattle.lexer.specs.Tokens.{colon-of, Stands, Next-token}
 use Rattle.lexer.specs.declared.Token.{Token}
 use Rattle.lists.specs.Lists.{sameBytes}
 use Rattle.statements.specs.StatementAt.{statement-at, stops, fault-of, Ended}
@@ -23,25 +24,12 @@ use Rattle.syntax.specs.Statements.{same-keyword, operator-at, keyword-in, rest
 use Rattle.syntax.specs.Statements.Keyword.{KONS, KONP}
 use Rattle.words.specs.declared.Keyword.{Keyword}
 use Rattle.headings.specs.declared.Rest.{Rest}
-use Rattle.headings.specs.declared.Tail.{Tail}
 
 abbrev pub is-kons : Keyword → Bool
 is-kons k = by-kind false false false true false (λ byName. false) (λ n. false) k
 
 abbrev pub is-konp : Keyword → Bool
 is-konp k = by-kind false false false false true (λ byName. false) (λ n. false) k
-
--- a place in the text, and a number of items before it
-pub record Tailable (s : List ℕ) (n w : ℕ) : Type 0 where
-  pub low : length s ≤ limit.text
-  pub inside : n ≤ length s
-  pub coded : w ≤ clean
-
--- the items of a statement from place n on
-pub record Tails (s : List ℕ) (n w : ℕ) (r : Tail) : Type 0 where
-  pub more-is : r .more ≡ fault-of (places (statement-at s n))
-  pub worst-is : r .worst ≡ min w (worst (statement-at s n))
-  pub ends : Ended s n (r .next) (r .last)
 
 -- what follows the token t, which is an operator, or ends the statement
 abbrev pub follows : List ℕ → Token → List Item
@@ -55,6 +43,13 @@ pub record Restable (s : List ℕ) (t : Token) (w : ℕ) : Type 0 where
   pub stands : Stands s t
   pub coded : w ≤ clean
 
+-- the items of a statement from the item f on
+pub record Tails (s : List ℕ) (f : Token) (w : ℕ) (r : Rest) : Type 0 where
+  pub first-is : r .first ≡ f
+  pub more-is : r .more ≡ fault-of (places (statement-at s (f .next)))
+  pub worst-is : r .worst ≡ min w (worst (statement-at s (f .next)))
+  pub ends : Ended s (f .next) (r .next) (r .last)
+
 -- What follows t: the items, of which all but the first are told by the lowest place; questions 14, 15 and 16 of them and of those before; and the end
 -- of the statement
 pub record Rests (s : List ℕ) (t : Token) (w : ℕ) (r : Rest) : Type 0 where
@@ -63,8 +58,7 @@ pub record Rests (s : List ℕ) (t : Token) (w : ℕ) (r : Rest) : Type 0 where
   pub items : from-token s (r .first) ≡ follows s t
   pub more-is : stops (r .first .sort) ≡ false → r .more ≡ fault-of (places (statement-at s (r .first .next)))
   pub worst-is : r .worst ≡ min w (worst (follows s t))
-  pub alone : stops (t .sort) ≡ true → (r .next ≡ t .next) × (r .last ≡ eqb (t .sort) 0)
-  pub ends : stops (t .sort) ≡ false → Ended s (t .next) (r .next) (r .last)
+  pub ends : (n i : ℕ) → Within s n i → Next-token s i t → Ended s n (r .next) (r .last)
 
 -- "`KEYWORD name`" by its first item, which is the right one or not, and what comes after it
 abbrev pub name-fault : Rest → ℕ → Bool → Fault

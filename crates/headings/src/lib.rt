@@ -9,7 +9,7 @@ ghost use Rattle.lists.specs.Lists.{sameBytes};
 ghost use Rattle.statements.specs.StatementAt.{stops};
 ghost use Rattle.syntax.specs.Items.{is};
 ghost use Rattle.syntax.specs.Items.Sort.{word};
-ghost use Rattle.headings.specs.Headings.{is-kons, is-konp, Tailable, Tails, no-items, Restable, Rests, name-fault, Nameable, First-told, Follows-told};
+ghost use Rattle.headings.specs.Headings.{is-kons, is-konp, Tails, no-items, Restable, Rests, name-fault, Nameable, First-told, Follows-told};
 use heads::Head;
 use heads::is_name;
 use heads::mark;
@@ -32,14 +32,6 @@ pub struct Rest {
     pub worst: usize,
     pub next: usize,
     pub last: bool,
-}
-
-// The same of some items of which none is told apart.
-struct Tail {
-    more: Fault,
-    worst: usize,
-    next: usize,
-    last: bool,
 }
 
 pub fn is_kons(k: Keyword) -> bool
@@ -70,18 +62,19 @@ pub fn is_konp(k: Keyword) -> bool
     }
 }
 
-// The items of a statement from `n` on.
-fn read_tail(text: &[u8], n: usize, worst: usize) -> Tail
-    requires { ⌜ Tailable (now text) n worst ⌝ }
-    ensures { λ r. ⌜ Tails (now (text .entry)) n worst r ⌝ }
+// The items of a statement from its item `first` on.
+fn read_tail(text: &[u8], first: Token, worst: usize) -> Rest
+    requires { ⌜ Restable (now text) first worst ⌝ }
+    ensures { λ r. ⌜ Tails (now (text .entry)) first worst r ⌝ }
 {
     let mut more = Fault::Clear;
     let mut w = worst;
-    let mut i = n;
+    let mut i = first.next;
     loop {
         let t = next_item(text, i);
         if stops(t.sort) {
-            return Tail {
+            return Rest {
+                first: first,
                 more: more,
                 worst: w,
                 next: t.next,
@@ -120,15 +113,7 @@ pub fn read_rest(text: &[u8], t: Token, worst: usize) -> Rest
         return no_items(first, worst);
     }
     let w = worse(worst, first);
-    let tail = read_tail(text, first.next, w);
-    let more = tail.more;
-    Rest {
-        first: first,
-        more: more,
-        worst: tail.worst,
-        next: tail.next,
-        last: tail.last,
-    }
+    read_tail(text, first, w)
 }
 
 // One name that follows the keyword at `at`; `right` tells whether the first item is it.
@@ -196,10 +181,13 @@ pub fn after_fault(text: &[u8], head: Head, rest: Rest, section: u32) -> Fault
     if is_konp(keyword) {
         return name_fault(rest, op.at, is_named(text, first, section));
     }
-    if is_kons(keyword) & !stops(first.sort) {
-        return name_fault(rest, op.at, false);
+    if !is_kons(keyword) {
+        return Fault::Clear;
     }
-    Fault::Clear
+    if stops(first.sort) {
+        return Fault::Clear;
+    }
+    name_fault(rest, op.at, false)
 }
 
 // The mark of the first item, 0 where there is none.

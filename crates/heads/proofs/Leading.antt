@@ -16,9 +16,7 @@ use Rattle.lexer.specs.declared.Token.{Token}
 use Rattle.lexer.specs.Tokens.{item-of, Next-token}
 use Rattle.statements.proofs.Ends.{Within, begins-within, still-within}
 use Rattle.statements.specs.declared.Fault.{Fault}
-use Rattle.statements.specs.declared.Fault.the-variants.{Clear, At}
-use Rattle.statements.specs.LowestLaws.{fault-first}
-use Rattle.statements.specs.PlaceLaws.{statement-from, places-from}
+use Rattle.statements.specs.declared.Fault.the-variants.{Clear}
 use Rattle.statements.specs.StatementAt.{statement-at, stops, fault-of}
 use Rattle.statements.specs.StatementLaws.{at-stop, at-item, on}
 use Rattle.syntax.specs.Items.{Item, places}
@@ -26,21 +24,11 @@ use Rattle.syntax.specs.Statements.{keyword-of, is-operator, front, behind, ope
 use Rattle.syntax.specs.Statements as Spec
 use Rattle.words.specs.declared.Keyword.{Keyword}
 use Rattle.words.specs.Keywords.{told}
-use Rattle.heads.specs.Heads.{operates, Headed}
-use Rattle.heads.specs.HeadLaws.{front-goes, behind-goes, front-ends, behind-here, operator-is}
+use Rattle.heads.specs.Heads.{operates, from-token, Headed}
+use Rattle.heads.specs.HeadLaws.{lower-clear, lower-assoc, front-goes, behind-goes, front-ends, behind-here, operator-is}
 
 abbrev name-faults : List Item → List ℕ
 name-faults js = places (keep (λ i. not (is-name i)) js)
-
-lower-assoc : (a b c : Fault) → lower (lower a b) c ≡ lower a (lower b c)
-lower-assoc Clear b c = refl
-lower-assoc (At p) Clear c = refl
-lower-assoc (At p) (At q) Clear = refl
-lower-assoc (At p) (At q) (At r) = ap At (omega arith)
-
-lower-clear : (a : Fault) → lower a Clear ≡ a
-lower-clear Clear = refl
-lower-clear (At p) = refl
 
 -- an item in front of the operator, if it is no name
 abbrev pub own-fault : Item → Fault
@@ -57,7 +45,7 @@ name-fault-goes i js = go (is-name i)
 -- the first item of the statement at n is in front of the operator, at f, before place i
 record Begun (s : List ℕ) (n i f : ℕ) : Type 0 where
   ahead : filled (front (statement-at s n)) ≡ true
-  first : fault-of (places (statement-at s n)) ≡ At f
+  first : take 1 (places (statement-at s n)) ≡ f ∷ []
   low : f < i
 
 -- Place i is still in front of the operator of the statement at n
@@ -93,16 +81,16 @@ module _ {s : List ℕ} {n i f w : ℕ} {fault : Fault} {t : Token} (l : Leading
   same e = ap (statement-at s) (sym e)
 
   abbrev First : ℕ → Type 0
-  First p = (filled x ≡ true → fault-of (places x) ≡ At p) × (eqb p (t .at) ≡ not (filled (front x)))
+  First p = (filled (front x) ≡ true → take 1 (places x) ≡ p ∷ []) × (eqb p (t .at) ≡ not (filled (front x)))
 
   -- the first item's place, where no item of the front is left
-  firsts : front (statement-at s i) ≡ [] → (filled (statement-at s i) ≡ true → fault-of (places (statement-at s i)) ≡ At (t .at)) → First f′
-  firsts none h = go b b-is f-is
+  firsts : front (statement-at s i) ≡ [] → First f′
+  firsts none = go b b-is f-is
     where
       go : (b : Bool) → b ≡ eqb i n → f′ ≡ cond b (t .at) f → First f′
       go true e g =
           let q = same (eqb-true i n (sym e)) in
-          rw g (λ z. ap (λ y. fault-of (places y)) q ∙ h (sym (ap filled q) ∙ z), rw (q, none) (eq-eqb (t .at) (t .at) refl))
+          rw g (λ z. absurd (false≢true (sym (ap (λ y. filled (front y)) q ∙ ap filled none) ∙ z)), rw (q, none) (eq-eqb (t .at) (t .at) refl))
       go false e g =
           let u = l .begun (eqb-false i n (sym e)) in
           rw g (λ z. u .first, rw (u .ahead) (ne-eqb f (t .at) (λ y. omega (arith, y, u .low, k .from))))
@@ -110,74 +98,42 @@ module _ {s : List ℕ} {n i f w : ℕ} {fault : Fault} {t : Token} (l : Leading
   abbrev js : List Item
   js = statement-at s (t .next)
 
-  -- no operator
-  pub no-head : {c : ℕ} → stops (t .sort) ≡ true → Headed s n (record { first = f′; fault = fault; names = c; worst = w; op = t; keyword = Keyword.None })
-  unfolding front behind keyword-in worst
-  no-head z =
-      let e = at-stop k z in
-      let p = firsts (no-front e) (λ q. absurd (false≢true (sym (ap filled e) ∙ q))) in
+  -- nothing more stands in front: the token t is the operator or ends the statement
+  headed : front (statement-at s i) ≡ [] → behind (statement-at s i) ≡ from-token s t → {v : Keyword} → v ≡ told (ifAny Spec.Keyword.none keyword-of (from-token s t))
+      → {c u : ℕ} → u ≡ min w (worst (take 1 (from-token s t))) → Headed s n (record { first = f′; fault = fault; names = c; worst = u; op = t; keyword = v })
+  unfolding keyword-in
+  headed none own v-is u-is =
       record {
         from = omega (arith, l .within .from, k .from);
         stands = k .stands;
         place = i;
         within = l .within;
         token = k;
-        operator = l .operator-is ∙ rw (e, z) refl;
-        keyword = rw (l .operator-is, e) refl;
-        first-is = p .0;
-        front-is = p .1;
-        fault-is = sym (l .faults ∙ ap (λ y. lower fault (fault-of (name-faults (front y)))) e ∙ lower-clear fault);
-        worst-is = sym (l .worsts ∙ ap (λ y. min w (worst (front y ++ operator y))) e ∙ (let h = l .low in omega arith));
+        operator = l .operator-is ∙ own;
+        keyword = v-is ∙ sym (ap (λ xs. told (ifAny Spec.Keyword.none keyword-of xs)) (l .operator-is ∙ own));
+        first-is = firsts none .0;
+        front-is = firsts none .1;
+        fault-is = sym (l .faults ∙ ap (λ y. lower fault (fault-of (name-faults y))) none ∙ lower-clear fault);
+        worst-is = u-is ∙ sym (l .worsts ∙ ap (λ y. min w (worst (y ++ operator (statement-at s i)))) none ∙ ap (λ y. min w (worst (take 1 y))) own);
       }
+
+  pub no-head : {c : ℕ} → stops (t .sort) ≡ true → Headed s n (record { first = f′; fault = fault; names = c; worst = w; op = t; keyword = Keyword.None })
+  unfolding behind worst
+  no-head z = let h = l .low in headed (no-front (at-stop k z)) (rw (at-stop k z, z) refl) (rw z refl) (rw z (omega arith))
 
   module _ (z : stops (t .sort) ≡ false) {w′ : ℕ} (w-is : w′ ≡ min w (token-code t)) where
     abbrev it : Item
     it = item-of s t
 
-    behind-own : t .at ≤ t .next
-    behind-own = omega (arith, k .stands .own, k .stands .behind)
-
-    first-here : fault-of (places (statement-at s i)) ≡ At (t .at)
-    first-here =
-        ap (λ y. fault-of (places y)) (at-item k z)
-        ∙ fault-first (t .at) (places js) (places-from (t .at) js (statement-from s (t .next) (t .at) behind-own))
-
-    module _ (o : operates t ≡ true) {v : Keyword} (v-is : v ≡ told (keyword-of it)) where
-      op-is : is-operator it ≡ true
-      op-is = operator-is (k .stands) ∙ o
-
-      front-none : front (statement-at s i) ≡ []
-      front-none = ap front (at-item k z) ∙ front-ends it js op-is
-
-      behind-is : behind x ≡ it ∷ js
-      behind-is = l .operator-is ∙ ap behind (at-item k z) ∙ behind-here it js op-is
-
-      worst-here : w′ ≡ min w (worst (front (statement-at s i) ++ operator (statement-at s i)))
-      unfolding worst
-      worst-here =
-          let h = l .low in
-          let e : min w (token-code t) ≡ min w (min (token-code t) clean) = omega arith in
-          w-is ∙ e
-          ∙ ap (λ m. min w (min m clean)) (token-coded (k .stands))
-          ∙ sym (ap (λ y. min w (worst (y ++ operator (statement-at s i)))) front-none ∙ ap (λ y. min w (worst (take 1 y))) (sym (l .operator-is) ∙ behind-is))
-
-      pub head-here : {c : ℕ} → Headed s n (record { first = f′; fault = fault; names = c; worst = w′; op = t; keyword = v })
-      unfolding keyword-in
-      head-here =
-          let p = firsts front-none (λ q. first-here) in
-          record {
-            from = omega (arith, l .within .from, k .from);
-            stands = k .stands;
-            place = i;
-            within = l .within;
-            token = k;
-            operator = behind-is ∙ rw z refl;
-            keyword = v-is ∙ sym (ap (λ xs. told (ifAny Spec.Keyword.none keyword-of xs)) behind-is);
-            first-is = p .0;
-            front-is = p .1;
-            fault-is = sym (l .faults ∙ ap (λ y. lower fault (fault-of (name-faults y))) front-none ∙ lower-clear fault);
-            worst-is = worst-here ∙ sym (l .worsts);
-          }
+    pub head-here : operates t ≡ true → {v : Keyword} → v ≡ told (keyword-of it) → {c : ℕ}
+        → Headed s n (record { first = f′; fault = fault; names = c; worst = w′; op = t; keyword = v })
+    unfolding worst
+    head-here o v-is =
+        let op-is : is-operator it ≡ true = operator-is (k .stands) ∙ o in
+        let h = l .low in
+        let e : min w (token-code t) ≡ min w (min (token-code t) clean) = omega arith in
+        headed (ap front (at-item k z) ∙ front-ends it js op-is) (rw z (ap behind (at-item k z) ∙ behind-here it js op-is)) (rw z v-is)
+        (rw z (w-is ∙ e ∙ ap (λ m. min w (min m clean)) (token-coded (k .stands))))
 
     module _ (o : operates t ≡ false) where
       op-no : is-operator it ≡ false
@@ -196,7 +152,7 @@ module _ {s : List ℕ} {n i f w : ℕ} {fault : Fault} {t : Token} (l : Leading
           go true e g =
               let q = same (eqb-true i n (sym e)) in
               let m = k .stands .some (λ y. false≢true (sym z ∙ ap stops y)) in
-              record { ahead = ap (λ y. filled (front y)) q ∙ ap filled front-some; first = rw g (ap (λ y. fault-of (places y)) q ∙ first-here); low = omega (arith, g, m, k .stands .behind) }
+              record { ahead = ap (λ y. filled (front y)) q ∙ ap filled front-some; first = rw g (ap (λ y. take 1 (places y)) (q ∙ at-item k z)); low = omega (arith, g, m, k .stands .behind) }
           go false e g =
               let u = l .begun (eqb-false i n (sym e)) in
               record { ahead = u .ahead; first = rw g (u .first); low = omega (arith, g, u .low, on k z) }

@@ -11,7 +11,10 @@ use Rattle.lists.specs.Lists.{filled, ifAny}
 use Rattle.lexer.specs.declared.Token.{Token}
 use Rattle.lexer.specs.Tokens.{word-of, chars-of, item-of, colon-of, Stands}
 use Rattle.lexer.proofs.Finding.{is-sort, word-chars}
+use Rattle.statements.specs.Faults.{lower}
 use Rattle.statements.specs.StatementAt.{statement-at, stops}
+use Rattle.statements.specs.declared.Fault.{Fault}
+use Rattle.statements.specs.declared.Fault.the-variants.{Clear, At}
 use Rattle.syntax.specs.Items.{Item, is}
 use Rattle.syntax.specs.Items.Sort.{word, colon}
 use Rattle.syntax.specs.Statements.{keyword-number, same-keyword, keyword-of, is-operator, front, behind, operator, keyword-in, rest}
@@ -21,6 +24,17 @@ use Rattle.words.specs.Keywords.{keyword-by, told}
 use Rattle.words.specs.WordLaws.{keyword-item}
 use Rattle.heads.specs.Heads.{operates, by-kind, opens, bars, Headed}
 use Rattle.heads.specs.declared.Head.{Head}
+
+-- the lower of places at fault
+pub lower-clear : (a : Fault) → lower a Clear ≡ a
+lower-clear Clear = refl
+lower-clear (At p) = refl
+
+pub lower-assoc : (a b c : Fault) → lower (lower a b) c ≡ lower a (lower b c)
+lower-assoc Clear b c = refl
+lower-assoc (At p) Clear c = refl
+lower-assoc (At p) (At q) Clear = refl
+lower-assoc (At p) (At q) (At r) = ap At (omega arith)
 
 -- what is asked of a keyword's number
 pub told-asked : (q : ℕ → Bool) (k : Spec.Keyword) → by-kind (q 0) (q 1) (q 2) (q 3) (q 4) (λ byName. q 5) (λ n. q 6) (told k) ≡ q (keyword-number k)
@@ -100,12 +114,15 @@ module _ {s : List ℕ} {n : ℕ} {h : Head} (g : Headed s n h) where
   abbrev x : List Item
   x = statement-at s n
 
-  behind-by : (b : Bool) → stops (h .op .sort) ≡ b → behind x ≡ cond b [] (item-of s (h .op) ∷ statement-at s (h .op .next))
+  pub behind-by : (b : Bool) → stops (h .op .sort) ≡ b → behind x ≡ cond b [] (item-of s (h .op) ∷ statement-at s (h .op .next))
   behind-by b z = g .operator ∙ ap (λ c. cond c [] (item-of s (h .op) ∷ statement-at s (h .op .next))) z
 
   pub no-keyword : stops (h .op .sort) ≡ true → h .keyword ≡ Keyword.None
   unfolding keyword-in
   no-keyword z = g .keyword ∙ ap (λ js. told (ifAny Spec.Keyword.none keyword-of js)) (behind-by true z)
+
+  pub no-operator : stops (h .op .sort) ≡ true → operator x ≡ []
+  no-operator z = ap (take 1) (behind-by true z)
 
   module _ (z : stops (h .op .sort) ≡ false) where
     pub operator-here : operator x ≡ item-of s (h .op) ∷ []

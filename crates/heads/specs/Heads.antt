@@ -12,7 +12,6 @@ use Rattle.lexer.specs.declared.Token.{Token}
 use Rattle.lexer.specs.Tokens.{item-of, Stands, Next-token}
 use Rattle.lists.specs.Lists.{filled, keep}
 use Rattle.statements.proofs.Ends.{Within}
-use Rattle.statements.specs.declared.Fault.the-variants.{At}
 use Rattle.statements.specs.StatementAt.{statement-at, stops, fault-of}
 use Rattle.syntax.specs.Items.{Item, places}
 use Rattle.syntax.specs.Statements.{front, behind, labels-in, operator as operator-in, keyword-in, is-name}
@@ -65,7 +64,7 @@ pub record Headed (s : List ℕ) (n : ℕ) (h : Head) : Type 0 where
   pub token : Next-token s place (h .op)
   pub operator : behind (statement-at s n) ≡ from-token s (h .op)
   pub keyword : h .keyword ≡ told (keyword-in (statement-at s n))
-  pub first-is : filled (statement-at s n) ≡ true → fault-of (places (statement-at s n)) ≡ At (h .first)
+  pub first-is : filled (front (statement-at s n)) ≡ true → take 1 (places (statement-at s n)) ≡ h .first ∷ []
   pub front-is : eqb (h .first) (h .op .at) ≡ not (filled (front (statement-at s n)))
   pub fault-is : h .fault ≡ fault-of (places (keep (λ i. not (is-name i)) (front (statement-at s n))))
   pub worst-is : h .worst ≡ worst (front (statement-at s n) ++ operator-in (statement-at s n))

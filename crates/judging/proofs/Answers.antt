@@ -2,17 +2,18 @@
 use mathlib.Core.Path.{_≡_, refl, ap, sym, _∙_}
 use mathlib.Core.Bool.{Bool, true, false, cond, not, _||_, true≢false}
 use mathlib.Core.List.{List, [], _∷_, map}
-use Prim.Native.Nat.{ℕ, zero, suc, _+_, _-_, _≤_, _<_}
+use Prim.Native.Nat.{ℕ, suc, _+_, _-_, _≤_, _<_}
 use native.Mathlib.Decide.{decLt}
+use native.Mathlib.Numerals.{add-one}
 use native.Mathlib.Omega.{arith}
-use lib.ListN.{length, take, drop, length-take, length-drop}
-use lib.Seq.{drop-drop}
+use lib.ListN.{length, getD, take, drop, length-take, length-drop}
+use lib.Seq.{drop-cons}
 use Rattle.drafts.specs.DraftingLaws.{place-back}
 use Rattle.drafts.specs.Marks.{mark, place-by, marks-in}
 use Rattle.statements.specs.FaultLaws.{fault-both}
 use Rattle.statements.specs.Faults.{lower}
 use Rattle.heads.specs.Heads.{bars, is-switch, Headed}
-use Rattle.heads.specs.HeadLaws.{told-bars, no-keyword, operator-here}
+use Rattle.heads.specs.HeadLaws.{lower-clear, told-bars, behind-by, no-keyword, no-operator, operator-here}
 use Rattle.heads.specs.declared.Head.{Head}
 use Rattle.language.specs.Limits as limit
 use Rattle.layout.specs.Bounds.{Each}
@@ -23,7 +24,7 @@ use Rattle.statements.specs.declared.Fault.the-variants.{Clear, At}
 use Rattle.statements.specs.StatementAt.{statement-at, stops, fault-of}
 use Rattle.syntax.specs.Items.{Item, places}
 use Rattle.syntax.specs.Questions.{operator-faults, label-faults}
-use Rattle.syntax.specs.Statements.{by-keyword, same-keyword, keyword-of, front, behind, operator, keyword-in, is-name}
+use Rattle.syntax.specs.Statements.{by-keyword, same-keyword, keyword-of, front, operator, keyword-in, is-name}
 use Rattle.syntax.specs.Statements as Spec
 use Rattle.syntax.specs.Verdict.{lowest}
 use Rattle.words.specs.Keywords.{told}
@@ -45,14 +46,11 @@ less a b h q = go (decLt a b)
     go (yes l) = l
     go (no l) = absurd (q (omega arith))
 
-tail-take : (n : ℕ) (xs : List ℕ) → drop 1 (take n xs) ≡ take (n - 1) (drop 1 xs)
-tail-take zero xs = let e : 0 - 1 ≡ 0 = omega arith in sym (ap (λ (k : ℕ). take k (drop 1 xs)) e)
-tail-take (suc n) [] = sym (none (suc n - 1))
-  where
-    none : (k : ℕ) → take {A = ℕ} k [] ≡ []
-    none zero = refl
-    none (suc k) = refl
-tail-take (suc n) (x ∷ xs) = let e : n ≡ suc n - 1 = omega arith in ap (λ (k : ℕ). take k xs) e
+marks-first : (ms : List ℕ) (a b : ℕ) → a < b → b ≤ length ms → marks-in ms a b ≡ getD ms a 0 ∷ marks-in ms (a + 1) b
+marks-first ms a b h k =
+    let e : b - a ≡ suc (b - (a + 1)) = omega arith in
+    let l : a < length ms = omega arith in
+    rw (e, drop-cons ms a 0, add-one) refl
 
 places-back : (ls : List Item) → Each (λ l. length (l .chars) ≤ limit.item) ls → map place-by (map mark ls) ≡ places ls
 places-back [] h = refl
@@ -65,19 +63,15 @@ module _ {s : List ℕ} {n : ℕ} {h : Head} (g : Headed s n h) where
   abbrev it : Item
   it = item-of s (h .op)
 
-  no-operator : stops (h .op .sort) ≡ true → operator x ≡ []
-  no-operator z = ap (take 1) (g .operator ∙ ap (λ (b : Bool). cond b [] (it ∷ statement-at s (h .op .next))) z)
-
   abbrev barred : Item → Bool
   barred i = same-keyword Spec.Keyword.unknown (keyword-of i) || same-keyword Spec.Keyword.SEKCJA (keyword-of i)
 
   -- 10
   own-fault : (b : Bool) → stops (h .op .sort) ≡ b → fault-of (places (keep barred (operator x))) ≡ cond (bars (h .keyword)) (At (h .op .at)) Clear
   unfolding keyword-in lowest
-  own-fault true z = ap (λ os. fault-of (places (keep barred os))) (no-operator z) ∙ sym (ap (λ k. cond (bars k) (At (h .op .at)) Clear) (no-keyword g z))
+  own-fault true z = ap (λ os. fault-of (places (keep barred os))) (no-operator g z) ∙ sym (ap (λ k. cond (bars k) (At (h .op .at)) Clear) (no-keyword g z))
   own-fault false z =
-      let behind-is : behind x ≡ it ∷ statement-at s (h .op .next) = g .operator ∙ ap (λ (b : Bool). cond b [] (it ∷ statement-at s (h .op .next))) z in
-      let k : h .keyword ≡ told (keyword-of it) = g .keyword ∙ ap (λ xs. told (ifAny Spec.Keyword.none keyword-of xs)) behind-is in
+      let k : h .keyword ≡ told (keyword-of it) = g .keyword ∙ ap (λ xs. told (ifAny Spec.Keyword.none keyword-of xs)) (behind-by g false z) in
       ap (λ os. fault-of (places (keep barred os))) (operator-here g z)
       ∙ ap (λ (b : Bool). fault-of (places (cond b (it ∷ []) []))) (sym (told-bars (keyword-of it)) ∙ ap bars (sym k))
       ∙ go (bars (h .keyword))
@@ -98,10 +92,6 @@ module _ {s : List ℕ} {n : ℕ} {h : Head} (g : Headed s n h) where
 
   pub operator-known : bars (h .keyword) ≡ false → h .fault ≡ fault-of (operator-faults x)
   operator-known e = sym (lower-clear (h .fault)) ∙ sym (ap (λ (b : Bool). lower (h .fault) (cond b (At (h .op .at)) Clear)) e) ∙ both-faults
-    where
-      lower-clear : (a : Fault) → lower a Clear ≡ a
-      lower-clear Clear = refl
-      lower-clear (At p) = refl
 
   -- 08
   abbrev asked : List Item → List ℕ
@@ -138,10 +128,6 @@ module _ {s : List ℕ} {n : ℕ} {h : Head} (g : Headed s n h) where
         q-less : a < h .names
         q-less = less a (h .names) o q
     labels-over ms a o most q f (l ∷ ls) m s =
-        let j : h .names - (a + 1) ≡ h .names - a - 1 = omega arith in
-        let later : marks-in ms (a + 1) (h .names) ≡ map mark ls =
-        ap (λ (k : ℕ). take k (drop (a + 1) ms)) j
-        ∙ ap (take (h .names - a - 1)) (sym (drop-drop 1 a ms))
-        ∙ sym (tail-take (h .names - a) (drop a ms))
-        ∙ sym (ap (drop 1) m) in
+        let u = marks-first ms a (h .names) (less a (h .names) o q) most in
+        let later : marks-in ms (a + 1) (h .names) ≡ map mark ls = cc in
         f ∙ ap (λ (xs : List ℕ). fault-of (map place-by xs)) later ∙ ap fault-of (places-back ls (s .1)) ∙ sym (ap fault-of (by-head true e (l ∷ ls)))

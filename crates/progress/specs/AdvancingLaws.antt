@@ -10,6 +10,7 @@ use lib.Seq.{drop-at}
 use borrow.Author.Tests.{ne-eqb}
 use Rattle.acceptance.specs.ArgumentLaws.{word-apart}
 use Rattle.acceptance.specs.StatementLaws.{each-behind}
+use Rattle.arguments.specs.CountLaws.{this-instruction, has-operator}
 use Rattle.acceptance.specs.RowLaws.{fails, append-none}
 use Rattle.progress.specs.Closing.{unended}
 use Rattle.declaring.specs.SpeltLaws.{statement-spelt}
@@ -20,13 +21,12 @@ use Rattle.forms.specs.Forms.{ends}
 use Rattle.forms.specs.ReadingLaws.{ends-listed}
 use Rattle.heads.specs.Heads.{instr-of, Headed}
 use Rattle.headings.specs.Headings.{Rests}
-use Rattle.headings.specs.HeadingLaws.{rest-follows}
+use Rattle.headings.specs.HeadingLaws.{rest-follows, follows-by}
 use Rattle.headings.specs.declared.Rest.{Rest}
-use Rattle.heads.specs.HeadLaws.{no-keyword}
 use Rattle.heads.specs.declared.Head.{Head}
 use Rattle.language.specs.Instructions.{operation, is-end}
 use Rattle.language.specs.Limits as limit
-use Rattle.language.specs.Program.{identifier}
+use Rattle.language.specs.Program.{Op, identifier}
 use Rattle.layout.specs.ArgumentLaws.{operator-range}
 use Rattle.layout.specs.Bounds.{Each}
 use Rattle.layout.specs.CellLaws.{each-drop}
@@ -71,16 +71,9 @@ module _ (t : Tables) (ls x : List Item) where
   no-instr (Spec.Keyword.instr op) e = absurd (omega (arith, operator-range op .0))
 
   -- an instruction is the last one then
-  an-instr : (k : Spec.Keyword) {m at : ℕ} → operator-at x ≡ at → instr-of (told k) ≡ m → (m ≡ 0 → ⊥) → fault-of (unended (tables-by k .code)) ≡ cond (ends m) Clear (At at)
-  unfolding by-keyword with-instr lowest
-  an-instr Spec.Keyword.none p e f = absurd (f (sym e))
-  an-instr Spec.Keyword.unknown p e f = absurd (f (sym e))
-  an-instr Spec.Keyword.SEKCJA p e f = absurd (f (sym e))
-  an-instr Spec.Keyword.KONS p e f = absurd (f (sym e))
-  an-instr Spec.Keyword.KONP p e f = absurd (f (sym e))
-  an-instr (Spec.Keyword.switch byName) p e f = absurd (f (sym e))
-  an-instr (Spec.Keyword.instr op) {m} {at} p e f =
-      ap fault-of (unended-last (t .code) _) ∙ go (is-end (operation op .flow)) (sym (ends-listed op) ∙ ap ends e)
+  an-instr : (op : Op) {m at : ℕ} → operator-at x ≡ at → operation op .number ≡ m → fault-of (unended (with-instr t ls x op .code)) ≡ cond (ends m) Clear (At at)
+  unfolding with-instr lowest
+  an-instr op {m} {at} p e = ap fault-of (unended-last (t .code) _) ∙ go (is-end (operation op .flow)) (sym (ends-listed op) ∙ ap ends e)
     where
       go : (b : Bool) → b ≡ ends m → fault-of (cond b [] (operator-at x ∷ []) ++ []) ≡ cond (ends m) Clear (At at)
       go true q = ap (λ (c : Bool). cond c Clear (At at)) q
@@ -99,18 +92,14 @@ module _ {s : List ℕ} {n : ℕ} {h : Head} (g : Headed s n h) {m : ℕ} (numbe
 
   module _ (z : m ≡ 0 → ⊥) (ended : Fault) where
     last-here : (d : Draft) → fault-of (unended (draft-after d x .tables .code)) ≡ cond (ends m) Clear (At (h .op .at))
-    unfolding draft-after
-    last-here d = an-instr (d .tables) (all-labels d x) x (keyword-in x) (operated g (goes (stops (h .op .sort)) refl) .place-is) number-is z
-      where
-        goes : (b : Bool) → stops (h .op .sort) ≡ b → stops (h .op .sort) ≡ false
-        goes true f = absurd (z (number ∙ ap instr-of (no-keyword g f)))
-        goes false f = f
+    unfolding draft-after by-keyword
+    last-here d =
+        let i = this-instruction g number z in
+        ap (λ (k : Spec.Keyword). fault-of (unended (tables-by (d .tables) (all-labels d x) x k .code))) (i .is)
+        ∙ an-instr (d .tables) (all-labels d x) x (i .op) (operated g (has-operator g number z) .place-is) (i .has)
 
-    pub ended-clear : ends m ≡ true → Ended-told s n ended Clear
-    ended-clear q d e = last-here d ∙ ap (λ (b : Bool). cond b Clear (At (h .op .at))) q
-
-    pub ended-at : ends m ≡ false → Ended-told s n ended (At (h .op .at))
-    ended-at q d e = last-here d ∙ ap (λ (b : Bool). cond b Clear (At (h .op .at))) q
+    pub ended-then : (b : Bool) → ends m ≡ b → Ended-told s n ended (cond b Clear (At (h .op .at)))
+    ended-then b q d e = last-here d ∙ ap (λ (c : Bool). cond c Clear (At (h .op .at))) q
 
 -- ---- the section's name
 
@@ -150,12 +139,6 @@ name-filled : (w : List ℕ) → T (identifier w) → (filled w ≡ true) × (0 
 name-filled [] h = absurd h
 name-filled (b ∷ w) h = (refl, omega arith)
 
-headOr-is : {i j : Item} {xs ys : List Item} → i ∷ xs ≡ j ∷ ys → i ≡ j
-headOr-is {i} e = ap (headOr i) e
-
-headed-filled : {X : Type 0} (x : X) (xs ys : List X) → ys ≡ x ∷ xs → T (filled ys)
-headed-filled x xs ys e = subst (λ zs. T (filled zs)) (sym e) tt
-
 filled-behind : (x : List Item) → T (filled (drop 1 x)) → T (filled x)
 filled-behind [] h = h
 filled-behind (i ∷ js) h = tt
@@ -177,7 +160,7 @@ module _ (s : List ℕ) (n : ℕ) where
     f = r .first
 
     rest-by : (b : Bool) → stops (f .sort) ≡ b → rest y ≡ cond b [] (item-of s f ∷ statement-at s (f .next))
-    rest-by b e = rest-follows g ∙ sym (o .items) ∙ ap (λ (c : Bool). cond c [] (item-of s f ∷ statement-at s (f .next))) e
+    rest-by b e = rest-follows g ∙ follows-by o b e
 
     -- of the first statement: the name is the first item behind the operator
     pub section-first : Section-told s n 0 (cond (stops (f .sort)) 0 (mark-of (f .at) (f .len)))
@@ -192,9 +175,9 @@ module _ (s : List ℕ) (n : ℕ) where
         go false e =
             let b = rest-by false e in
             let faultless : first-faults y ≡ [] = sym (ap (λ (c : Bool). cond c (first-faults y) []) (k .first-is)) ∙ a .1 .1 .1 .0 in
-            let (i, (ks, (q, l))) = section-name y faultless (filled-behind (behind y) (headed-filled (item-of s f) (statement-at s (f .next)) (rest y) b)) in
+            let (i, (ks, (q, l))) = section-name y faultless (filled-behind (behind y) (rw b tt)) in
             let v = name-is (i ∷ ks) q in
-            let j : i ≡ item-of s f = headOr-is (sym q ∙ b) in
+            let j : i ≡ item-of s f = cc in
             let m : mark-of (f .at) (f .len) ≡ mark i = ap (λ (c : ℕ). mark-of (f .at) c) (sym (o .stands .count)) ∙ ap mark (sym j) in
             let p : Spelt s i = subst (Each (Spelt s)) q (each-drop (Spelt s) 1 (behind y) (each-behind (Spelt s) y (statement-spelt s n inside short))) .0 in
             let c = name-filled (i .chars) (T-right (is word i) (identifier (i .chars)) l) in
@@ -209,10 +192,7 @@ module _ (s : List ℕ) (n : ℕ) where
 
 pub empty-draft : (d : Draft) → draft-after d [] ≡ d
 unfolding draft-after by-keyword keyword-in front behind
-empty-draft d =
-    ap (λ (w : List ℕ). record { section = w; names = d .names ++ []; waiting = d .waiting ++ []; tables = d .tables; closing = d .closing }) (name (d .section))
-    ∙ ap (λ (ns : List (List ℕ)). record { section = d .section; names = ns; waiting = d .waiting ++ []; tables = d .tables; closing = d .closing }) (append-nil (d .names))
-    ∙ ap (λ (ls : List Item). record { section = d .section; names = d .names; waiting = ls; tables = d .tables; closing = d .closing }) (append-nil (d .waiting))
+empty-draft d = rw (name (d .section), append-nil (d .names), append-nil (d .waiting)) refl
   where
     name : (w : List ℕ) → cond (not (filled w)) [] w ≡ w
     name [] = refl

@@ -5,18 +5,20 @@ use mathlib.Core.List.{List, [], _∷_}
 use Prim.Native.Nat.{ℕ, pred}
 use lib.ListN.{length, drop}
 use Rattle.drafts.specs.Marks.{word-by}
-use Rattle.headings.specs.Headings.{After-told}
+use Rattle.headings.specs.Headings.{is-kons, is-konp, After-told}
 use Rattle.heads.specs.Heads.{Headed}
 use Rattle.heads.specs.declared.Head.{Head}
 use Rattle.language.specs.Instructions.{operation, is-end}
 use Rattle.lists.specs.Lists.{each, filled}
-use Rattle.statements.specs.StatementAt.{statement-at, fault-of}
+use Rattle.statements.specs.Faults.{lower}
+use Rattle.statements.specs.StatementAt.{statement-at, stops, fault-of}
 use Rattle.statements.specs.declared.Fault.{Fault}
+use Rattle.statements.specs.declared.Fault.the-variants.{Clear, At}
 use Rattle.syntax.specs.Ending.{end-faults}
 use Rattle.syntax.specs.Items.{Item, places}
 use Rattle.syntax.specs.Statements.{operator}
 use Rattle.syntax.specs.Tables as spec
-use Rattle.syntax.specs.Tables.{Written, Draft, closing-faults, closing-after}
+use Rattle.syntax.specs.Tables.{Written, Draft, closing-after}
 use Rattle.progress.specs.declared.Closing.{Closing}
 
 -- c tells the specification's k
@@ -26,16 +28,13 @@ pub record Tells-closing (k : spec.Closing) (c : Closing) : Type 0 where
   pub early-is : fault-of (k .early) ≡ c .early
   pub fault-is : fault-of (k .faults) ≡ c .fault
 
--- what of a statement with an operator is at fault, whatever its labels are
-abbrev pub Closing-fault : List ℕ → ℕ → ℕ → Fault → Closing → Fault → Type 0
-Closing-fault s n section labels c r =
-    (k : spec.Closing) → Tells-closing k c → (ls : List Item) → fault-of (places ls) ≡ labels
-    → fault-of (cond (filled (operator (statement-at s n))) (closing-faults (word-by s section) k ls (statement-at s n)) []) ≡ r
-
--- whatever the statement is, where its head and what follows it are told
-abbrev pub Told-fault : Head → Fault → Fault → Closing → Fault → Type 0
-Told-fault h labels after c r =
-    (s : List ℕ) (n section : ℕ) → Headed s n h → After-told s n section after → Closing-fault s n section labels c r
+-- what of a statement is at fault, by its head, the lowest place of its labels and that of what follows KONS or KONP
+abbrev pub fault-by : Head → Fault → Fault → Closing → Fault
+fault-by h labels after c =
+    let here = lower labels (At (h .op .at)) in
+    let there = lower labels after in
+    cond (stops (h .op .sort)) Clear
+    (cond (c .konp) here (cond (is-konp (h .keyword)) there (cond (c .kons) here (cond (is-kons (h .keyword)) there Clear))))
 
 -- "labels alone" change nothing
 abbrev pub closing-then : List ℕ → spec.Closing → List Item → List Item → spec.Closing

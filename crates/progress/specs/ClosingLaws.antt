@@ -11,7 +11,7 @@ use Rattle.declaring.specs.TabledLaws.{operated}
 use Rattle.drafts.specs.Marks.{word-by}
 use Rattle.statements.specs.Faults.{lower}
 use Rattle.statements.specs.FaultLaws.{fault-both}
-use Rattle.headings.specs.Headings.{is-kons, is-konp, after-faults, After-told}
+use Rattle.headings.specs.Headings.{is-kons, is-konp, After-told}
 use Rattle.headings.specs.HeadingLaws.{fault-one, kons-told, konp-told}
 use Rattle.heads.specs.Heads.{Headed}
 use Rattle.heads.specs.declared.Head.{Head}
@@ -23,10 +23,10 @@ use Rattle.statements.specs.declared.Fault.the-variants.{Clear, At}
 use Rattle.syntax.specs.Ending.{end-faults, absent}
 use Rattle.syntax.specs.Items.{Item, places}
 use Rattle.syntax.specs.Statements.{same-keyword, operator, operator-at, keyword-in, rest, one-name}
-use Rattle.syntax.specs.Statements.Keyword.{KONS, KONP}
+use Rattle.syntax.specs.Statements.Keyword.{KONP}
 use Rattle.syntax.specs.Tables as spec
 use Rattle.syntax.specs.Tables.{closing-faults, closing-after}
-use Rattle.progress.specs.Closing.{Tells-closing, Closing-fault, Closed, unended, Ends}
+use Rattle.progress.specs.Closing.{Tells-closing, fault-by, Closed, unended, Ends}
 use Rattle.progress.specs.declared.Closing.{Closing}
 
 -- two rows of places, by what is at fault in each
@@ -58,96 +58,50 @@ module _ {s : List ℕ} {n : ℕ} {h : Head} (g : Headed s n h) (section : ℕ) 
     operator-place : places (operator x) ≡ h .op .at ∷ []
     operator-place = ap places (operated g z .operator-is)
 
-    there : {X : Type 0} (a b : X) → cond (filled (operator x)) a b ≡ a
-    there a b = ap (λ (t : Bool). cond t a b) (operator-told ∙ ap not z)
+    module _ {labels after : Fault} (told : After-told s n section after) {c : Closing} {k : spec.Closing} (t : Tells-closing k c) (ls : List Item) (f : fault-of (places ls) ≡ labels) where
+      here : fault-of (places (ls ++ operator x)) ≡ lower labels (At (h .op .at))
+      here = fault-places ls (operator x) labels (At (h .op .at)) f (ap fault-of operator-place ∙ sym (fault-one (h .op .at))) refl
 
-    module _ (c : Closing) (k : spec.Closing) (t : Tells-closing k c) (ls : List Item) where
       -- by what was met and the keyword
-      ways : Bool → Bool → Bool → Bool → List ℕ
-      ways a b d e =
-          cond a (places (ls ++ operator x))
-          (cond b (places ls ++ one-name (sameBytes name) (operator-at x) (rest x))
-          (cond d (places (ls ++ operator x))
-          (cond e (places (ls ++ rest x))
-          [])))
+      ways : (a b d e : Bool) → is-konp (h .keyword) ≡ b → is-kons (h .keyword) ≡ e
+          → fault-of
+          (cond a (places (ls ++ operator x))
+          (cond b (places ls ++ one-name (sameBytes name) (operator-at x) (rest x)) (cond d (places (ls ++ operator x)) (cond e (places (ls ++ rest x)) []))))
+          ≡ cond a (lower labels (At (h .op .at))) (cond b (lower labels after) (cond d (lower labels (At (h .op .at))) (cond e (lower labels after) Clear)))
+      ways true b d e u v = here
+      ways false true d e u v =
+          fault-next (places ls) (one-name (sameBytes name) (operator-at x) (rest x)) labels after f (sym (told ∙ rw (konp-told g ∙ u) refl)) refl
+      ways false false true e u v = here
+      ways false false false true u v = fault-places ls (rest x) labels after f (sym (told ∙ rw (konp-told g ∙ u, kons-told g ∙ v) refl)) refl
+      ways false false false false u v = refl
 
-      by-way : (a b d e : Bool) → c .konp ≡ a → is-konp (h .keyword) ≡ b → c .kons ≡ d → is-kons (h .keyword) ≡ e
-          → cond (filled (operator x)) (closing-faults name k ls x) [] ≡ ways a b d e
-      unfolding closing-faults ways
-      by-way a b d e u v w y =
-          there (closing-faults name k ls x) []
-          ∙ ap (λ (i : Bool). ways i (same-keyword KONP (keyword-in x)) (k .after-KONS) (same-keyword KONS (keyword-in x))) (t .konp-is ∙ u)
-          ∙ ap (λ (i : Bool). ways a i (k .after-KONS) (same-keyword KONS (keyword-in x))) (konp-told g ∙ v)
-          ∙ ap (λ (i : Bool). ways a b i (same-keyword KONS (keyword-in x))) (t .kons-is ∙ w)
-          ∙ ap (λ (i : Bool). ways a b d i) (kons-told g ∙ y)
-
-  -- what is at fault after KONP, after KONS, and after neither
-  after-by : (b e : Bool) → is-konp (h .keyword) ≡ b → is-kons (h .keyword) ≡ e
-      → fault-of (after-faults name x) ≡ fault-of (cond b (one-name (sameBytes name) (operator-at x) (rest x)) (cond e (places (rest x)) []))
-  after-by b e u v = rw (konp-told g ∙ u, kons-told g ∙ v) refl
-
-  pub no-operator : {c : Closing} {labels : Fault} → stops (h .op .sort) ≡ true → Closing-fault s n section labels c Clear
-  no-operator z k t ls f = ap (λ (b : Bool). fault-of (cond b (closing-faults name k ls x) [])) (operator-told ∙ ap not z)
-
-  behind-labels : stops (h .op .sort) ≡ false → {labels r : Fault} (ls : List Item) → fault-of (places ls) ≡ labels → r ≡ lower labels (At (h .op .at))
-      → fault-of (places (ls ++ operator x)) ≡ r
-  behind-labels z {labels} ls f e =
-      fault-places ls (operator x) labels (At (h .op .at)) f (ap fault-of (operator-place z) ∙ sym (fault-one (h .op .at))) e
-
-  module _ (z : stops (h .op .sort) ≡ false) {c : Closing} {labels r : Fault} where
-    pub after-konp : c .konp ≡ true → r ≡ lower labels (At (h .op .at)) → Closing-fault s n section labels c r
-    unfolding ways
-    after-konp a e k t ls f = ap fault-of (by-way z c k t ls true (is-konp (h .keyword)) (c .kons) (is-kons (h .keyword)) a refl refl refl) ∙ behind-labels z ls f e
-
-    module _ (a : c .konp ≡ false) where
-      pub at-konp : {after : Fault} → is-konp (h .keyword) ≡ true → After-told s n section after → r ≡ lower labels after → Closing-fault s n section labels c r
-      unfolding ways
-      at-konp {after} b w e k t ls f =
-          ap fault-of (by-way z c k t ls false true (c .kons) (is-kons (h .keyword)) a b refl refl)
-          ∙ fault-next (places ls) (one-name (sameBytes name) (operator-at x) (rest x)) labels after f (sym (w ∙ after-by true (is-kons (h .keyword)) b refl)) e
-
-      module _ (b : is-konp (h .keyword) ≡ false) where
-        pub after-kons : c .kons ≡ true → r ≡ lower labels (At (h .op .at)) → Closing-fault s n section labels c r
-        unfolding ways
-        after-kons d e k t ls f = ap fault-of (by-way z c k t ls false false true (is-kons (h .keyword)) a b d refl) ∙ behind-labels z ls f e
-
-        pub at-kons : {after : Fault} → c .kons ≡ false → is-kons (h .keyword) ≡ true → After-told s n section after → r ≡ lower labels after
-            → Closing-fault s n section labels c r
-        unfolding ways
-        at-kons {after} d m w e k t ls f =
-            ap fault-of (by-way z c k t ls false false false true a b d m) ∙ fault-places ls (rest x) labels after f (sym (w ∙ after-by false true b m)) e
-
-        pub before-kons : c .kons ≡ false → is-kons (h .keyword) ≡ false → r ≡ Clear → Closing-fault s n section labels c r
-        unfolding ways
-        before-kons d m e k t ls f = ap fault-of (by-way z c k t ls false false false false a b d m) ∙ sym e
+      fault-told : fault-of (closing-faults name k ls x) ≡ fault-by h labels after c
+      unfolding closing-faults
+      fault-told = rw (z, t .konp-is, konp-told g, t .kons-is, kons-told g) (ways (c .konp) (is-konp (h .keyword)) (c .kons) (is-kons (h .keyword)) refl refl)
 
   -- what is known after it
   pub labels-only : {c : Closing} {labels : Fault} → stops (h .op .sort) ≡ true → Closed s n section labels c c
   labels-only {c} z k t ls f = subst (λ (b : Bool). Tells-closing (cond b (closing-after name k ls x) k) c) (sym (operator-told ∙ ap not z)) t
 
-  module _ (z : stops (h .op .sort) ≡ false) {c : Closing} {labels : Fault} {kons konp : Bool} {e f early fault : Fault} where
+  module _ (z : stops (h .op .sort) ≡ false) {labels after : Fault} (told : After-told s n section after) {c : Closing} {kons konp : Bool} {e f early fault : Fault} where
     pub closes : kons ≡ is-kons (h .keyword) → konp ≡ is-konp (h .keyword)
         → e ≡ fault-of (cond (konp && not (c .konp || c .kons)) (h .op .at ∷ []) []) → early ≡ lower (c .early) e
-        → Closing-fault s n section labels c f → fault ≡ lower (c .fault) f
+        → f ≡ fault-by h labels after c → fault ≡ lower (c .fault) f
         → Closed s n section labels c (record { kons = c .kons || kons; konp = c .konp || konp; early = early; fault = fault })
     unfolding closing-after
     closes a b u v w y k t ls l =
         let r : Closing = record { kons = c .kons || kons; konp = c .konp || konp; early = early; fault = fault } in
         subst (λ (i : Bool). Tells-closing (cond i (closing-after name k ls x) k) r) (sym (operator-told ∙ ap not z))
         (record {
-          kons-is = ap (λ (i : Bool). i || same-keyword KONS (keyword-in x)) (t .kons-is) ∙ ap (λ (i : Bool). c .kons || i) (kons-told g ∙ sym a);
-          konp-is = ap (λ (i : Bool). i || same-keyword KONP (keyword-in x)) (t .konp-is) ∙ ap (λ (i : Bool). c .konp || i) (konp-told g ∙ sym b);
+          kons-is = rw (t .kons-is, kons-told g ∙ sym a) refl;
+          konp-is = rw (t .konp-is, konp-told g ∙ sym b) refl;
           early-is = fault-next (k .early) _ (c .early) e (t .early-is) (early-here ∙ sym u) v;
-          fault-is = fault-next (k .faults) _ (c .fault) f (t .fault-is) (ap fault-of (sym (there z (closing-faults name k ls x) [])) ∙ w k t ls l) y;
+          fault-is = fault-next (k .faults) _ (c .fault) f (t .fault-is) (fault-told z told t ls l ∙ sym w) y;
         })
       where
         early-here : fault-of (cond (same-keyword KONP (keyword-in x) && not (k .after-KONP || k .after-KONS)) (places (operator x)) [])
             ≡ fault-of (cond (konp && not (c .konp || c .kons)) (h .op .at ∷ []) [])
-        early-here =
-            ap (λ (ps : List ℕ). fault-of (cond (same-keyword KONP (keyword-in x) && not (k .after-KONP || k .after-KONS)) ps [])) (operator-place z)
-            ∙ ap (λ (i : Bool). fault-of (cond (i && not (k .after-KONP || k .after-KONS)) (h .op .at ∷ []) [])) (konp-told g ∙ sym b)
-            ∙ ap (λ (i : Bool). fault-of (cond (konp && not (i || k .after-KONS)) (h .op .at ∷ []) [])) (t .konp-is)
-            ∙ ap (λ (i : Bool). fault-of (cond (konp && not (c .konp || i)) (h .op .at ∷ []) [])) (t .kons-is)
+        early-here = rw (operator-place z, konp-told g ∙ sym b, t .konp-is, t .kons-is) refl
 
 -- ---- the whole text
 

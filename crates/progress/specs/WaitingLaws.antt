@@ -1,7 +1,7 @@
 -- A draft after a statement without fault: the labels that wait, and all that is told of it.
 use mathlib.Core.Path.{_≡_, refl, sym, ap, _∙_, subst}
 use mathlib.Core.Bool.{Bool, true, false, cond}
-use mathlib.Core.List.{List, [], _∷_, map}
+use mathlib.Core.List.{List, [], map}
 use Prim.Native.Nat.{ℕ, _-_, _≤_}
 use native.Mathlib.Omega.{arith}
 use lib.ListN.{length, take, drop, length-map, length-take, length-drop}
@@ -12,10 +12,9 @@ use Rattle.declaring.specs.TabledLaws.{mark-places}
 use Rattle.drafts.specs.Marks.{mark, place-by}
 use Rattle.drafts.specs.Tabled.{Spelt}
 use Rattle.heads.specs.Heads.{Headed}
-use Rattle.heads.specs.HeadLaws.{operator-here}
+use Rattle.heads.specs.HeadLaws.{no-operator, operator-here}
 use Rattle.heads.specs.declared.Head.{Head}
 use Rattle.layout.specs.Bounds.{Each}
-use Rattle.lexer.specs.Tokens.{item-of}
 use Rattle.lists.specs.Lists.{filled}
 use Rattle.progress.specs.Progress.{Names-kept, Waiting-kept}
 use Rattle.progress.specs.declared.Progress.{Progress}
@@ -25,9 +24,6 @@ use Rattle.syntax.specs.Items.{Item}
 use Rattle.syntax.specs.Statements.{operator}
 use Rattle.syntax.specs.Tables.{Draft, all-labels, draft-after}
 use Rattle.progress.specs.Advancing.{Section-told, Ended-told, Advancing, Advances}
-
-no-operator : {s : List ℕ} {n : ℕ} {h : Head} → Headed s n h → stops (h .op .sort) ≡ true → operator (statement-at s n) ≡ []
-no-operator {s} {n} {h} g z = ap (take 1) (g .operator ∙ ap (λ (b : Bool). cond b [] (item-of s (h .op) ∷ statement-at s (h .op .next))) z)
 
 module _ {s : List ℕ} {n : ℕ} {g : Progress} {h : Head} {ms : List ℕ} {a b : ℕ} (f : Headed s n h) (order : a ≤ b) (most : b ≤ length ms) (d : Draft) (k : Advancing s n d g ms a b) where
   abbrev x : List Item

@@ -4,7 +4,7 @@ ghost use mathlib.Core.Bool.{cond};
 ghost use mathlib.Core.List.{[], _∷_};
 ghost use Prim.Native.Nat.{_-_, _≤_};
 ghost use Rattle.statements.specs.StatementAt.{stops, fault-of};
-ghost use Rattle.progress.specs.Closing.{Told-fault, Told-closing, Ends};
+ghost use Rattle.progress.specs.Closing.{fault-by, Told-closing, Ends};
 ghost use Rattle.progress.specs.Progress.{Begun};
 ghost use Rattle.progress.specs.Advancing.{Told-ended, Advanceable, Progresses};
 use forms::is_end;
@@ -88,7 +88,7 @@ fn fault_if(t: bool, at: usize) -> Fault
 
 // What of a statement is at fault; `labels` is the lowest place of its labels, `after` that of what follows KONS or KONP.
 fn closing_fault(head: Head, labels: Fault, after: Fault, c: Closing) -> Fault
-    ensures { λ r. ⌜ Told-fault head labels after c r ⌝ }
+    ensures { λ r. ⌜ r ≡ fault-by head labels after c ⌝ }
 {
     let op = head.op;
     let keyword = head.keyword;

@@ -3,9 +3,8 @@ use mathlib.Core.Path.{_≡_}
 use mathlib.Core.Bool.{Bool, true, cond}
 use mathlib.Core.List.{List, _++_}
 use Prim.Native.Nat.{ℕ}
-use Rattle.acceptance.specs.RowLaws.{Answered}
 use Rattle.statements.specs.Checks.{worst}
-use Rattle.statements.specs.Faults.{verdict-of, decided, then}
+use Rattle.statements.specs.Faults.{verdict-of, decided}
 use Rattle.statements.specs.Groups.{item-questions, head-questions, name-questions}
 use Rattle.statements.specs.declared.Verdict as told
 use Rattle.heads.specs.Heads.{Headed}
@@ -18,9 +17,6 @@ use Rattle.syntax.specs.Questions.{first-faults, operator-faults}
 use Rattle.syntax.specs.Tables.{Draft, is-first}
 use Rattle.syntax.specs.Verdict.{Question, Verdict, first-no}
 use Rattle.reading_statements.specs.Judging.{Judging}
-use Rattle.reading_statements.specs.declared.Found.{Found}
-use Rattle.reading_statements.specs.declared.Found.the-variants.{Nothing}
-use Rattle.reading_statements.specs.declared.Judged.{Judged}
 
 -- 00 of the first statement x, 10 of a later one
 abbrev pub operator-verdict : List Item → Bool → Verdict
@@ -34,19 +30,7 @@ abbrev pub Operator-asked : Head → Bool → Fault → told.Verdict → Type 0
 Operator-asked h first zero r =
     (s : List ℕ) (n : ℕ) → Headed s n h → Zero-told first (statement-at s n) zero → verdict-of r ≡ operator-verdict (statement-at s n) first
 
--- 00 or 10, 08 and 06, where 14, 15 and 16 are answered yes
-pub record Names-askable (s : List ℕ) (g : Progress) (h : Head) (ms : List ℕ) : Type 0 where
-  pub place : ℕ
-  pub draft : Draft
-  pub judging : Judging s place draft g h ms
-  pub plain : Answered (item-questions (statement-at s place))
-
-abbrev pub Names-asked : List ℕ → Progress → Head → List ℕ → Fault → told.Verdict → Type 0
-Names-asked s g h ms zero r =
-    (n : ℕ) (d : Draft) → Judging s n d g h ms → Answered (item-questions (statement-at s n)) → Zero-told (is-first d) (statement-at s n) zero
-    → verdict-of r ≡ first-no (head-questions d (statement-at s n) ++ name-questions d (statement-at s n))
-
--- all of these; w is the number of 14, 15 and 16
+-- 14, 15 and 16, whose number is w, 00 or 10, 08 and 06
 abbrev pub opening-questions : Draft → List Item → List Question
 opening-questions d x = item-questions x ++ (head-questions d x ++ name-questions d x)
 
@@ -60,12 +44,3 @@ abbrev pub Head-asked : List ℕ → ℕ → Progress → Head → List ℕ → 
 Head-asked s w g h ms zero r =
     (n : ℕ) (d : Draft) → Judging s n d g h ms → w ≡ worst (statement-at s n) → Zero-told (is-first d) (statement-at s n) zero
     → verdict-of r ≡ first-no (opening-questions d (statement-at s n))
-
--- what a statement says, where the verdict on it is yes
-abbrev pub judged-by : told.Verdict → Found → Judged
-judged-by told.Verdict.Yes f = record { number = 80; at = 0; found = f }
-judged-by (told.Verdict.No number at) f = record { number = number; at = at; found = Nothing }
-
--- f is what was found, after the verdict u on a statement's head, where w is the verdict on the rest
-abbrev pub Judged-as : told.Verdict → Verdict → Found → Judged → Type 0
-Judged-as u w f r = (v : told.Verdict) × (verdict-of v ≡ then (verdict-of u) w) × (r ≡ judged-by v f)

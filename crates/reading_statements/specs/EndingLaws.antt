@@ -1,79 +1,76 @@
 -- A statement that is neither an instruction nor a switch: SEKCJA, KONS, KONP, or labels alone.
+use mathlib.Core.Bool.{Bool, false, cond}
+use mathlib.Core.List.{List, []}
 use mathlib.Core.Path.{_≡_, refl, sym, ap, _∙_, subst}
-use mathlib.Core.Bool.{Bool, true, false, cond}
-use mathlib.Core.List.{List}
 use Prim.Native.Nat.{ℕ, _≤_}
-use lib.Dec.{eqb}
 use lib.ListN.{length}
-use Rattle.statements.specs.CheckLaws.{worst-low}
-use Rattle.statements.specs.Checks.{clean, worst}
-use Rattle.statements.specs.FaultLaws.{then-yes}
-use Rattle.statements.specs.Faults.{then, verdict-of}
-use Rattle.statements.specs.Groups.{argument-questions, early-questions}
-use Rattle.statements.specs.declared.Verdict as told
-use Rattle.statements.specs.declared.Verdict.the-variants.{Yes, No}
 use Rattle.drafts.specs.Marks.{mark-of}
 use Rattle.headings.specs.Headings.{Restable, Rests, First-told, Follows-told}
 use Rattle.headings.specs.declared.Rest.{Rest}
-use Rattle.heads.specs.Heads.{instr-of, is-switch, Headed}
+use Rattle.heads.specs.Heads.{Headed, instr-of, is-switch}
 use Rattle.heads.specs.declared.Head.{Head}
 use Rattle.language.specs.Limits as limit
+use Rattle.language.specs.Program.{Op}
 use Rattle.progress.specs.Advancing.{Section-told}
 use Rattle.progress.specs.AdvancingLaws.{section-before, section-first}
 use Rattle.progress.specs.declared.Progress.{Progress}
-use Rattle.statements.specs.StatementAt.{statement-at, stops, Ended}
+use Rattle.statements.specs.Checks.{worst}
+use Rattle.statements.specs.FaultLaws.{then-yes}
+use Rattle.statements.specs.Faults.{verdict-of}
+use Rattle.statements.specs.Groups.{early-questions}
+use Rattle.statements.specs.StatementAt.{statement-at, fault-of, stops}
 use Rattle.statements.specs.declared.Fault.{Fault}
 use Rattle.statements.specs.declared.Fault.the-variants.{Clear}
-use Rattle.syntax.specs.Items.{line-at}
-use Rattle.syntax.specs.Tables.{Draft}
-use Rattle.syntax.specs.Verdict.{Verdict, first-no}
+use Rattle.statements.specs.declared.Verdict as told
+use Rattle.statements.specs.declared.Verdict.the-variants.{Yes, No}
+use Rattle.switch_lists.specs.SwitchLaws.{other}
+use Rattle.syntax.specs.Questions.{instr-beyond, switch-beyond}
+use Rattle.syntax.specs.Statements.{by-keyword, keyword-in}
+use Rattle.syntax.specs.Tables.{Draft, all-labels, with-instr, with-switch}
+use Rattle.syntax.specs.Verdict.{first-no}
+use Rattle.reading_statements.specs.Admitting.{Asked-last}
 use Rattle.reading_statements.specs.Asking.{Head-asked}
-use Rattle.reading_statements.specs.GatheringLaws as gathering
-use Rattle.reading_statements.specs.KindLaws.{worst-whole, ends-behind, ends-alone, neither-asked}
-use Rattle.reading_statements.specs.NoneLaws.{none-admits}
+use Rattle.reading_statements.specs.GatheringLaws.{all-short}
+use Rattle.reading_statements.specs.KindLaws.{worst-whole, neither-asked, known}
 use Rattle.reading_statements.specs.QuestionLaws.{early-told}
-use Rattle.reading_statements.specs.ReadLaws.{judging, plain, answers, refused-before, statement-read}
-use Rattle.reading_statements.specs.ReadingStatements.{Reading, Reads-ending, Ending-told, Finishes}
+use Rattle.reading_statements.specs.ReadLaws.{answers, plain, read-as}
+use Rattle.reading_statements.specs.ReadingStatements.{Reading, Finishes, Reads-ending, Ending-told}
 use Rattle.reading_statements.specs.declared.Ending.{Ending}
 use Rattle.reading_statements.specs.declared.Read.{Read}
-use Rattle.reading_statements.specs.declared.Read.the-variants as reads
 
 pub restable : {s : List ℕ} {n : ℕ} {h : Head} → Headed s n h → length s ≤ limit.text → Restable s (h .op) (h .worst)
-restable k low = record { low = low; stands = k .stands; coded = subst (λ (w : ℕ). w ≤ clean) (sym (k .worst-is)) (worst-low _) }
+restable k low = record { low = low; stands = k .stands; coded = known k }
+
+-- 11 has no fault
+none-last : (u : told.Verdict) → Asked-last (λ f. f ≡ Clear) u u
+none-last Yes = (Clear, (refl, refl))
+none-last (No number at) = refl
 
 module _ {s : List ℕ} {h : Head} (no-number : instr-of (h .keyword) ≡ 0) (no-switch : is-switch (h .keyword) ≡ false) {r : Rest} (o : Rests s (h .op) (h .worst) r) where
-  pub whole : {n : ℕ} → Headed s n h → r .worst ≡ worst (statement-at s n)
-  whole k = worst-whole k (o .worst-is)
+  pub whole-rest : {n : ℕ} → Headed s n h → r .worst ≡ worst (statement-at s n)
+  whole-rest k = worst-whole k (o .worst-is)
 
-  ends : (n : ℕ) → Headed s n h → Ended s n (r .next) (r .last)
-  ends n k = go (stops (h .op .sort)) refl
-    where
-      go : (b : Bool) → stops (h .op .sort) ≡ b → Ended s n (r .next) (r .last)
-      go true z =
-          let e = o .alone z in
-          subst (λ (l : Bool). Ended s n (r .next) l) (sym (e .1)) (subst (λ (m : ℕ). Ended s n m (eqb (h .op .sort) 0)) (sym (e .0)) (ends-alone k z))
-      go false z = ends-behind k z (o .ends z)
+  none-here : {X : Type 0} {n : ℕ} → Headed s n h → (f : Op → X) (f′ : Bool → X) (z : X) → by-keyword f f′ z (keyword-in (statement-at s n)) ≡ z
+  none-here {n = n} k f f′ z =
+      other f f′ z (keyword-in (statement-at s n)) (sym (ap instr-of (k .keyword)) ∙ no-number) (sym (ap is-switch (k .keyword)) ∙ no-switch)
 
-  module _ {g : Progress} {ms : List ℕ} {zero : Fault} (v : told.Verdict) (first : First-told s h r zero) (asked : Head-asked s (r .worst) g h ms zero v) where
-    early : {lines c sw en : List ℕ} (n : ℕ) (d : Draft) → Reading s lines n d g h ms c sw en → first-no (early-questions d (statement-at s n)) ≡ verdict-of v
+  module _ {g : Progress} {ms : List ℕ} {zero : Fault} (u : told.Verdict) (first : First-told s h r zero) (asked : Head-asked s (r .worst) g h ms zero u) where
+    early : {lines c sw en : List ℕ} (n : ℕ) (d : Draft) → Reading s lines n d g h ms c sw en → first-no (early-questions d (statement-at s n)) ≡ verdict-of u
     early n d k =
+        let i = k .judging .headed in
+        early-told d (statement-at s n) (asked n d (k .judging) (whole-rest i) (λ e. first n (h .worst) i o)) (neither-asked i no-number no-switch) (sym (then-yes (verdict-of u)))
+
+    pub read-ending : {e : Ending} → Ending-told s h r (g .section) e → {y : Read} → Finishes g h e ms u y → Reads-ending s g h ms (answers y (r .next) (r .last))
+    read-ending t z lines c sw en =
+        read-as {F = λ f. f ≡ Clear} {u = u} early
+        (λ n d k b f q.
         let x = statement-at s n in
-        early-told d x
-        ∙ ap (λ (y : Verdict). then y (first-no (argument-questions x))) (sym (asked n d (judging k) (whole (k .headed)) (λ e. first n (h .worst) (k .headed) o)))
-        ∙ ap (then (verdict-of v)) (neither-asked (k .headed) no-number no-switch)
-        ∙ then-yes (verdict-of v)
-
-    pub refused-ending : {number at : ℕ} → v ≡ No number at → Reads-ending s g h ms (answers (reads.Refused number at) (r .next) (r .last))
-    refused-ending e lines c sw en = refused-before v early ends e
-
-    pub read-ending : v ≡ Yes → {e : Ending} → Ending-told s h r (g .section) e → {y : Read} → Finishes Clear g h e ms y → Reads-ending s g h ms (answers y (r .next) (r .last))
-    read-ending passed t {y} f lines c sw en =
-        let b = f .read refl in
-        subst (λ (u : Read). Rattle.reading_statements.specs.ReadingStatements.Reads s lines g h ms c sw en (answers u (r .next) (r .last)) c sw en) (sym (b .1))
-        (statement-read v early ends passed {line = line-at lines (h .op .at)} refl (none-admits no-number no-switch) refl
-        (λ n d k z.
-        let q = t n (h .worst) (k .headed) o (k .standing .inside) (gathering.all-short (judging k) (plain k z)) in
-        b .2 s n (k .headed) (q .0) (q .1)))
+        let i = k .judging .headed in (
+          q ∙ ap fault-of (sym (none-here i (λ op. instr-beyond (d .tables) (all-labels d x) x) (λ byName. switch-beyond (d .tables) x) [])),
+          λ _. rw (none-here i (with-instr (d .tables) (all-labels d x) x) (with-switch (d .tables) (all-labels d x) x) (d .tables)) (k .tabled),
+        ))
+        (λ n d k b. t n (h .worst) (k .judging .headed) o (k .judging .inside) (all-short (k .judging) (plain k b)))
+        (λ n k. o .ends n (k .place) (k .within) (k .token)) u (record { asked = none-last u; beyond = refl }) z
 
 -- the section's name and what follows, as they are told
 module _ {s : List ℕ} {h : Head} {r : Rest} {section : ℕ} {after : Fault} (f : Follows-told s h r section after) where

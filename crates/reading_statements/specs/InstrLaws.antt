@@ -1,105 +1,138 @@
--- A statement with an instruction: its verdict before question 11, and its value.
-use mathlib.Core.Path.{_≡_, refl, sym, ap, _∙_, subst}
-use mathlib.Core.Bool.{Bool, false, cond}
+-- A statement with an instruction.
+use mathlib.Core.Bool.{Bool}
 use mathlib.Core.List.{List, []}
-use Prim.Native.Nat.{ℕ, _≤_, min}
+use mathlib.Core.Path.{_≡_, refl, sym, ap, _∙_, subst}
+use Prim.Native.Nat.{ℕ, _≤_}
 use native.Mathlib.Omega.{arith}
-use lib.ListN.{length, drop}
+use lib.ListN.{drop, length}
+use Rattle.acceptance.specs.DraftLaws.{arguments-sound}
+use Rattle.acceptance.specs.RowLaws.{Answered, answered, each-map}
+use Rattle.argument_cells.specs.ArgumentCells.{Right-argument}
 use Rattle.arguments.specs.Arguments.{Operates, Reads-arguments}
-use Rattle.arguments.specs.CountLaws.{this-instruction, has-operator}
-use Rattle.arguments.specs.Valued.{Values-read}
+use Rattle.arguments.specs.CountLaws.{Instruction, this-instruction}
 use Rattle.arguments.specs.declared.Arguments.{Arguments}
-use Rattle.declaring.specs.Declaring.{Declarable, Declares-values}
+use Rattle.declaring.specs.Declaring.{Declarable, Declares-values, Right-values, Declares}
+use Rattle.declaring.specs.TabledLaws.{Operated, operated, instr-told, instr-tabled}
+use Rattle.declaring.specs.declared.Instruction as value
+use Rattle.drafts.specs.Drafting.{draft-program}
 use Rattle.drafts.specs.Marks.{marks-in}
-use Rattle.statements.specs.CheckLaws.{worst-low}
-use Rattle.statements.specs.Checks.{clean, worst}
-use Rattle.statements.specs.Faults.{decided, then, verdict-of}
-use Rattle.statements.specs.Groups.{argument-questions, early-questions}
-use Rattle.statements.specs.declared.Verdict as told
-use Rattle.statements.specs.declared.Verdict.the-variants.{Yes, No}
-use Rattle.headings.specs.HeadingLaws.{after-other}
-use Rattle.headings.specs.Headings.{is-kons, is-konp}
-use Rattle.heads.specs.Heads.{instr-of, opens, Headed}
+use Rattle.drafts.specs.Tabled.{Tabled}
+use Rattle.entering.specs.Entering.{Short-item}
+use Rattle.heads.specs.Heads.{Headed, instr-of}
 use Rattle.heads.specs.declared.Head.{Head}
 use Rattle.language.specs.Instructions.{operation, operator-of}
 use Rattle.language.specs.Limits as limit
 use Rattle.language.specs.Program.{Op}
 use Rattle.layout.specs.ArgumentLaws.{operator-back}
-use Rattle.progress.specs.Advancing.{Progresses}
-use Rattle.progress.specs.AdvancingLaws.{section-before}
+use Rattle.layout.specs.Bounds.{Each}
 use Rattle.progress.specs.declared.Progress.{Progress}
-use Rattle.statements.specs.StatementAt.{statement-at, stops, fault-of, Ended}
+use Rattle.statements.specs.Checks.{worst}
+use Rattle.statements.specs.Faults.{decided, then, verdict-of}
+use Rattle.statements.specs.Groups.{early-questions}
+use Rattle.statements.specs.StatementAt.{statement-at, fault-of}
 use Rattle.statements.specs.declared.Fault.{Fault}
-use Rattle.statements.specs.declared.Fault.the-variants.{Clear, At}
-use Rattle.syntax.specs.Items.{line-at}
-use Rattle.syntax.specs.Questions.{first-faults}
-use Rattle.syntax.specs.Tables.{Draft}
-use Rattle.syntax.specs.Verdict as spec
+use Rattle.statements.specs.declared.Fault.the-variants.{At, Clear}
+use Rattle.statements.specs.declared.Verdict as told
+use Rattle.statements.specs.declared.Verdict.the-variants.{Yes}
+use Rattle.switch_lists.specs.SwitchLaws.{of-instr}
+use Rattle.switch_lists.specs.Switches.{argument-question}
+use Rattle.syntax.specs.ArgumentForms.{arguments-in, arguments, most}
+use Rattle.syntax.specs.Items.{Item, places, line-at}
+use Rattle.syntax.specs.Questions.{count-faults, instr-faults, switch-faults, instr-beyond, switch-beyond}
+use Rattle.syntax.specs.Statements.{by-keyword, keyword-in, rest}
+use Rattle.syntax.specs.Tables.{Tables, Draft, all-labels, tables-after, with-instr, with-switch}
 use Rattle.syntax.specs.Verdict.{first-no}
-use Rattle.words.specs.declared.Keyword.{Keyword}
-use Rattle.reading_statements.specs.AdmittedLaws.{instr-declarable, instr-admits}
+use Rattle.reading_statements.specs.Admitting.{Admits}
 use Rattle.reading_statements.specs.Asking.{Head-asked}
+use Rattle.reading_statements.specs.GatheringLaws.{advanceable, names-kept}
 use Rattle.reading_statements.specs.Judging.{from}
-use Rattle.reading_statements.specs.KindLaws.{tail, worst-whole, ends-behind, instr-asked, zero-told}
-use Rattle.reading_statements.specs.QuestionLaws.{early-told}
-use Rattle.reading_statements.specs.ReadLaws.{judging, admitted, answers, later, refused-before, refused-beyond, statement-read}
-use Rattle.reading_statements.specs.ReadingStatements.{Reading, Reads-instr, Finishes}
+use Rattle.reading_statements.specs.KindLaws.{known, there, whole, zero-here, ends-behind, instr-acts, instr-asked}
+use Rattle.reading_statements.specs.QuestionLaws.{early-told, table-faults}
+use Rattle.reading_statements.specs.ReadLaws.{plain, acting, fine-here, labelled, spelt-rest, tables-here, rest-short, answers, read-as}
+use Rattle.reading_statements.specs.ReadingStatements.{Reading, Finishes, Reads-instr}
 use Rattle.reading_statements.specs.declared.Read.{Read}
-use Rattle.reading_statements.specs.declared.Read.the-variants as reads
 
--- yes is the answer of two only where it is that of both
-then-both : (u w : spec.Verdict) → then u w ≡ spec.Verdict.yes → (u ≡ spec.Verdict.yes) × (w ≡ spec.Verdict.yes)
-then-both spec.Verdict.yes w e = (refl, e)
-then-both (spec.Verdict.refuse number at) w e = absurd (let y : _≡_ {A = ℕ} 0 1 = cc in omega arith)
+module _ {s lines : List ℕ} {n : ℕ} {d : Draft} {g : Progress} {h : Head} {ms c sw en : List ℕ} (r : Reading s lines n d g h ms c sw en)
+    (early : Answered (early-questions d (statement-at s n))) {number : ℕ} (number-is : number ≡ instr-of (h .keyword)) (some : number ≡ 0 → ⊥)
+    {a : Arguments} (o : Reads-arguments s (h .op) number (h .worst) a) where
+  abbrev items : List Item
+  items = statement-at s n
 
-clear-by : (number : ℕ) (f : Fault) → decided number f ≡ spec.Verdict.yes → f ≡ Clear
-clear-by number Clear e = refl
-clear-by number (At p) e = absurd (let y : _≡_ {A = ℕ} 0 1 = cc in omega arith)
+  k : Headed s n h
+  k = r .judging .headed
 
--- an instruction is none of the other keywords
-no-opens : (k : Keyword) → (instr-of k ≡ 0 → ⊥) → opens k ≡ false
-no-opens Keyword.None z = absurd (z refl)
-no-opens Keyword.Unknown z = absurd (z refl)
-no-opens Keyword.Sekcja z = absurd (z refl)
-no-opens Keyword.Kons z = absurd (z refl)
-no-opens Keyword.Konp z = absurd (z refl)
-no-opens (Keyword.Switch byName) z = absurd (z refl)
-no-opens (Keyword.Instr m) z = refl
+  own : Instruction (keyword-in items) number
+  own = this-instruction k number-is some
 
-no-kons : (k : Keyword) → (instr-of k ≡ 0 → ⊥) → is-kons k ≡ false
-no-kons Keyword.None z = absurd (z refl)
-no-kons Keyword.Unknown z = absurd (z refl)
-no-kons Keyword.Sekcja z = absurd (z refl)
-no-kons Keyword.Kons z = absurd (z refl)
-no-kons Keyword.Konp z = absurd (z refl)
-no-kons (Keyword.Switch byName) z = absurd (z refl)
-no-kons (Keyword.Instr m) z = refl
+  here : Operated s items (h .op)
+  here = operated k (there k (instr-acts k number-is some))
 
-no-konp : (k : Keyword) → (instr-of k ≡ 0 → ⊥) → is-konp k ≡ false
-no-konp Keyword.None z = absurd (z refl)
-no-konp Keyword.Unknown z = absurd (z refl)
-no-konp Keyword.Sekcja z = absurd (z refl)
-no-konp Keyword.Kons z = absurd (z refl)
-no-konp Keyword.Konp z = absurd (z refl)
-no-konp (Keyword.Switch byName) z = absurd (z refl)
-no-konp (Keyword.Instr m) z = refl
+  by-own : {X : Type 0} (f : Op → X) (f′ : Bool → X) (z : X) → by-keyword f f′ z (keyword-in items) ≡ f (own .op)
+  unfolding by-keyword
+  by-own f f′ z = ap (by-keyword f f′ z) (own .is)
 
--- the values of the arguments, where the verdict of all questions before 11 is yes
-values-here : {s : List ℕ} (h : Head) {number : ℕ} → number ≡ instr-of (h .keyword) → {a : Arguments} → Reads-arguments s (h .op) number (h .worst) a → (u v : told.Verdict)
-    → verdict-of v ≡ then (verdict-of u) (then (decided 1 (a .over)) (decided 2 (a .fault))) → v ≡ Yes → Values-read s (h .op .next) (instr-of (h .keyword)) (a .values)
-values-here {s} h number-is {a} r u v all passed =
-    let b = then-both (verdict-of u) (then (decided 1 (a .over)) (decided 2 (a .fault))) (sym all ∙ ap verdict-of passed) in
-    let c = then-both (decided 1 (a .over)) (decided 2 (a .fault)) (b .1) in
-    subst (λ (m : ℕ). Values-read s (h .op .next) m (a .values)) number-is (r .values (clear-by 2 (a .fault) (c .1)))
+  right-rest : Each Right-argument (arguments (own .op) (rest items))
+  unfolding count-faults
+  right-rest =
+      each-map _ _ (λ a e. record { as-form = e .as-form; short = e .fine .short }) (arguments (own .op) (rest items))
+      (arguments-sound (length s) (d .tables) (all-labels d items) items (own .op) (fine-here r early)
+      (sym (by-own (λ op. places (drop (most op) (arguments-in (rest items)))) (λ byName. []) []) ∙ early .1 .1 .1 .1 .1 .1 .1 .0)
+      (sym (by-own (instr-faults items) (switch-faults items) []) ∙ early .1 .1 .1 .1 .1 .1 .1 .1 .0))
+
+  -- its value
+  abbrev valued : ℕ → value.Instruction
+  valued line = record { number = number; at = h .op .at; line = line; values = a .values }
+
+  right-values : Right-values s (h .op .next) number (a .values)
+  unfolding argument-question
+  right-values =
+      let operator-is : operator-of number ≡ own .op = ap operator-of (sym (own .has)) ∙ operator-back (own .op) in
+      record {
+        numbered = ap (λ (o : Op). operation o .number) operator-is ∙ own .has;
+        read = o .values (of-instr k number-is some (o .judged) ∙ ap fault-of (early .1 .1 .1 .1 .1 .1 .1 .1 .0));
+        right = subst (λ (js : List Item). Each Right-argument (arguments (operator-of number) js)) (here .rest-is)
+            (subst (λ (o : Op). Each Right-argument (arguments o (rest items))) (sym operator-is) right-rest);
+      }
+
+  module _ {line : ℕ} (line-is : line ≡ line-at lines (h .op .at)) where
+    pub instr-declarable : Declarable s (valued line) ms (from g) (h .names) c
+    instr-declarable =
+        let j = r .judging in
+        let m = advanceable j in
+        let q = names-kept j (plain r early) in
+        record {
+          next = h .op .next;
+          values = right-values;
+          held = record { program = draft-program lines (d .tables); holds = r .tabled .holds };
+          line-most = omega (arith, line-is, r .lined .most (h .op .at));
+          named = record { order = omega (arith, m .order); most = m .most; marked = q .marked; short = q .short };
+          index-low = omega (arith, m .order, m .most, q .room);
+          short = subst (λ (js : List Item). Each Short-item js) (here .rest-is) (rest-short r early);
+        }
+
+    -- 11, and the tables after it
+    pub instr-last : (f : Fault) {c′ : List ℕ} → Declares-values s (valued line) (marks-in ms (from g) (h .names)) c f c′
+        → (f ≡ fault-of (table-faults d items)) × (f ≡ Clear → Tabled s lines (tables-after (d .tables) (all-labels d items) items) c′ sw en)
+    instr-last f {c′} all = (told-last, λ e. rw q (instr-tabled lines t (own .op) (valued line) here (labelled r early) (sym (own .has)) refl line-is u (r .tabled) (rw q at (tables-here r early told-last e)) (spelt-rest r early) e))
+      where
+        t : Tables
+        t = d .tables
+
+        u : Declares s (valued line) (h .op .next) (marks-in ms (from g) (h .names)) c f c′
+        u = all (h .op .next) right-values
+
+        told-last : f ≡ fault-of (table-faults d items)
+        told-last =
+            instr-told lines t (own .op) (valued line) here (labelled r early) (sym (own .has)) refl line-is u (r .tabled .holds)
+            ∙ ap fault-of (sym (by-own (λ op. instr-beyond t (all-labels d items) items) (λ byName. switch-beyond t items) []))
+
+        q : tables-after t (all-labels d items) items ≡ with-instr t (all-labels d items) items (own .op)
+        q = by-own (with-instr t (all-labels d items) items) (with-switch t (all-labels d items) items) t
+
+-- ---- it is read
 
 module _ {s : List ℕ} {h : Head} {number : ℕ} (number-is : number ≡ instr-of (h .keyword)) (some : number ≡ 0 → ⊥) where
   module _ {n : ℕ} (k : Headed s n h) where
-    there : stops (h .op .sort) ≡ false
-    there = has-operator k number-is some
-
-    tail-is : tail k ≡ statement-at s (h .op .next)
-    tail-is = ap (λ (b : Bool). cond b [] (statement-at s (h .op .next))) there
-
     pub operates : length s ≤ limit.text → Operates s (h .op) number (h .worst)
     operates low =
         let i = this-instruction k number-is some in
@@ -107,55 +140,28 @@ module _ {s : List ℕ} {h : Head} {number : ℕ} (number-is : number ≡ instr-
           stands = k .stands;
           low = low;
           numbered = ap (λ (o : Op). operation o .number) (ap operator-of (sym (i .has)) ∙ operator-back (i .op)) ∙ i .has;
-          known = subst (λ (w : ℕ). w ≤ clean) (sym (k .worst-is)) (worst-low _);
+          known = known k;
         }
 
-    pub zero-here : At (h .first) ≡ fault-of (first-faults (statement-at s n))
-    zero-here = zero-told k there (no-opens (h .keyword) (λ q. some (number-is ∙ q)))
+    pub whole-instr : {a : Arguments} → Reads-arguments s (h .op) number (h .worst) a → a .worst ≡ worst (statement-at s n)
+    whole-instr o = whole k (instr-acts k number-is some) (o .worst-is)
 
-  module _ {a : Arguments} (r : Reads-arguments s (h .op) number (h .worst) a) where
-    pub whole : {n : ℕ} → Headed s n h → a .worst ≡ worst (statement-at s n)
-    whole k = worst-whole k (r .worst-is ∙ ap (λ js. min (h .worst) (worst js)) (sym (tail-is k)))
+  -- v is the verdict of all questions before 11, where u is that of the questions of the head
+  module _ {a : Arguments} (o : Reads-arguments s (h .op) number (h .worst) a) {lines : List ℕ} {g : Progress} {ms c : List ℕ} (u v : told.Verdict)
+      (asked : Head-asked s (a .worst) g h ms (At (h .first)) u) (all : verdict-of v ≡ then (verdict-of u) (then (decided 1 (a .over)) (decided 2 (a .fault))))
+      {line : ℕ} (l : line ≡ line-at lines (h .op .at)) where
+    early-instr : {sw en : List ℕ} (n : ℕ) (d : Draft) → Reading s lines n d g h ms c sw en → first-no (early-questions d (statement-at s n)) ≡ verdict-of v
+    early-instr n d r =
+        let k = r .judging .headed in
+        early-told d (statement-at s n) (asked n d (r .judging) (whole-instr k o) (λ e. zero-here k (instr-acts k number-is some))) (instr-asked k number-is some o) all
 
-    ends : (n : ℕ) → Headed s n h → Ended s n (a .next) (a .last)
-    ends n k = ends-behind k (there k) (r .ends)
+    pub declarable : {sw en : List ℕ} {n : ℕ} {d : Draft} → Reading s lines n d g h ms c sw en → v ≡ Yes
+        → Declarable s (record { number = number; at = h .op .at; line = line; values = a .values }) ms (from g) (h .names) c
+    declarable {n = n} {d = d} r e = instr-declarable r (answered _ (early-instr n d r ∙ ap verdict-of e)) number-is some o l
 
-    -- v is the verdict of all questions before 11, where u is that of the questions of the head
-    module _ {lines : List ℕ} {g : Progress} {ms c : List ℕ} (u v : told.Verdict) (asked : Head-asked s (a .worst) g h ms (At (h .first)) u)
-        (all : verdict-of v ≡ then (verdict-of u) (then (decided 1 (a .over)) (decided 2 (a .fault)))) where
-      early : {sw en : List ℕ} (n : ℕ) (d : Draft) → Reading s lines n d g h ms c sw en → first-no (early-questions d (statement-at s n)) ≡ verdict-of v
-      early n d k =
-          let x = statement-at s n in
-          early-told d x
-          ∙ ap (λ (y : spec.Verdict). then y (first-no (argument-questions x))) (sym (asked n d (judging k) (whole (k .headed)) (λ e. zero-here (k .headed))))
-          ∙ ap (then (verdict-of u)) (instr-asked (k .headed) number-is some r)
-          ∙ sym all
-
-      pub refused-instr : {number′ at : ℕ} → v ≡ No number′ at → Reads-instr s lines g h ms c (answers (reads.Refused number′ at) (a .next) (a .last)) c
-      refused-instr e sw en = refused-before v early ends e
-
-      module _ (passed : v ≡ Yes) {line : ℕ} (l : line ≡ line-at lines (h .op .at)) where
-        pub declarable-instr : {sw en : List ℕ} {n : ℕ} {d : Draft} → Reading s lines n d g h ms c sw en
-            → Declarable s (record { number = number; at = h .op .at; line = line; values = a .values }) ms (from g) (h .names) c
-        declarable-instr {n = n} {d = d} k = instr-declarable (admitted k (early n d k ∙ ap verdict-of passed) l) number-is some (values-here h number-is r u v all passed)
-
-        module _ {f : Fault} {c′ : List ℕ} (w : Declares-values s (record { number = number; at = h .op .at; line = line; values = a .values }) (marks-in ms (from g) (h .names)) c f c′)
-            (beyond : drop limit.table c′ ≡ drop limit.table c) where
-          refused-11 : {p : ℕ} → f ≡ At p → Reads-instr s lines g h ms c (answers (reads.Refused 11 p) (a .next) (a .last)) c′
-          refused-11 e sw en = refused-beyond v early ends passed l (instr-admits number-is some (values-here h number-is r u v all passed) w beyond) e
-
-          read-instr : {q : Progress} → f ≡ Clear → Progresses g h (g .section) Clear ms q
-              → Reads-instr s lines g h ms c (answers (reads.Statement q) (a .next) (a .last)) c′
-          read-instr e m sw en =
-              statement-read v early ends passed l (instr-admits number-is some (values-here h number-is r u v all passed) w beyond) e
-              (λ n d k z.
-              m s n (k .headed) (section-before s n (later k (zero-here (k .headed)) z))
-              (after-other (k .headed) (g .section) (no-konp (h .keyword) (λ q. some (number-is ∙ q))) (no-kons (h .keyword) (λ q. some (number-is ∙ q)))))
-
-          -- whichever it is
-          pub finished : {y : Read} → Finishes f g h (record { section = g .section; after = Clear }) ms y → Reads-instr s lines g h ms c (answers y (a .next) (a .last)) c′
-          finished {y} z = go f refl
-            where
-              go : (x : Fault) → f ≡ x → Reads-instr s lines g h ms c (answers y (a .next) (a .last)) c′
-              go (At p) e = subst (λ (t : Read). Reads-instr s lines g h ms c (answers t (a .next) (a .last)) c′) (sym (z .refused p e)) (refused-11 e)
-              go Clear e = let b = z .read e in subst (λ (t : Read). Reads-instr s lines g h ms c (answers t (a .next) (a .last)) c′) (sym (b .1)) (read-instr e (b .2))
+    pub read-instr : (w : told.Verdict) {c′ : List ℕ}
+        → Admits (λ f. Declares-values s (record { number = number; at = h .op .at; line = line; values = a .values }) (marks-in ms (from g) (h .names)) c f c′) v w c c′
+        → {y : Read} → Finishes g h (record { section = g .section; after = Clear }) ms w y → Reads-instr s lines g h ms c (answers y (a .next) (a .last)) c′
+    read-instr w t z sw en =
+        read-as early-instr (λ n d r b f. instr-last r b number-is some o l f) (λ n d r b. acting r b (instr-acts (r .judging .headed) number-is some))
+        (λ n k. ends-behind k (there k (instr-acts k number-is some)) (o .ends)) w t z

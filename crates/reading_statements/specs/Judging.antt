@@ -8,12 +8,11 @@ use Rattle.heads.specs.Heads.{Headed}
 use Rattle.heads.specs.declared.Head.{Head}
 use Rattle.language.specs.Limits as limit
 use Rattle.layout.specs.Bounds.{Each}
-use Rattle.drafts.specs.Marks.{marks-in}
-use Rattle.progress.specs.Progress.{Names-kept, Tells-draft, Before}
+use Rattle.progress.specs.Progress.{Tells-draft, Before}
 use Rattle.progress.specs.declared.Progress.{Progress}
 use Rattle.statements.specs.StatementAt.{statement-at}
 use Rattle.syntax.specs.Statements.{labels-in}
-use Rattle.syntax.specs.Tables.{Draft, all-labels, draft-after}
+use Rattle.syntax.specs.Tables.{Draft}
 
 -- d is the draft of all before the statement at n, which g and the marks ms tell; h is the statement's head, and the marks of its labels stand behind
 -- those of the names before it
@@ -30,10 +29,3 @@ pub record Judging (s : List ℕ) (n : ℕ) (d : Draft) (g : Progress) (h : Head
 -- where the labels that wait begin
 abbrev pub from : Progress → ℕ
 from g = g .names - g .waiting
-
--- where 14, 15 and 16 are answered yes, the marks name all labels
-pub record Gathered (s : List ℕ) (n : ℕ) (d : Draft) (ms : List ℕ) (a k : ℕ) : Type 0 where
-  pub names : Names-kept s (draft-after d (statement-at s n)) k ms
-  pub order : a ≤ k
-  pub most : k ≤ length ms
-  pub marks : marks-in ms a k ≡ map mark (all-labels d (statement-at s n))

@@ -3,13 +3,10 @@ pub mod Asking
 pub mod Admitting
 pub mod ReadingStatements
 pub mod GatheringLaws
-pub mod NoneLaws
 pub mod QuestionLaws
 pub mod KindLaws
-pub mod AdmittedLaws
-pub mod AdmittedSwitchLaws
 pub mod ReadLaws
 pub mod InstrLaws
+pub mod SwitchReadLaws
 pub mod EndingLaws
 pub mod StandingLaws
-pub mod SwitchReadLaws

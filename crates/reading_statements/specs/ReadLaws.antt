@@ -1,65 +1,58 @@
--- A statement is read: its verdict, and the draft after it.
+-- A statement is read, whatever its kind: its verdict, and the draft after it.
 use mathlib.Core.Path.{_≡_, refl, sym, ap, _∙_, subst}
 use mathlib.Core.Bool.{Bool, true, cond}
-use mathlib.Core.List.{List, [], _∷_, _++_}
-use Prim.Native.Nat.{ℕ, _≤_}
+use mathlib.Core.List.{List, []}
+use Prim.Native.Nat.{ℕ}
 use native.Mathlib.Omega.{arith}
 use lib.ListN.{length}
 use borrow.Author.Tests.{eq-eqb}
 use Rattle.acceptance.specs.DraftLaws.{draft-sound}
-use Rattle.acceptance.specs.RowLaws.{each-map, answered, Answered}
-use Rattle.progress.specs.Advancing.{Advancing, Advances, Progresses}
-use Rattle.drafts.specs.Tabled.{Spelt}
-use Rattle.statements.specs.FaultLaws.{question-decides, then-yes, first-no-both}
-use Rattle.statements.specs.Faults.{decided, then, verdict-of}
-use Rattle.statements.specs.Groups.{item-questions, early-questions, table-questions}
-use Rattle.statements.specs.declared.Verdict as told
-use Rattle.statements.specs.declared.Verdict.the-variants.{Yes, No}
+use Rattle.acceptance.specs.Drafts.{Fine-item, Sound-tables, Sound-name}
+use Rattle.acceptance.specs.RowLaws.{each-map, answered, Answered, each-both}
+use Rattle.acceptance.specs.StatementLaws.{each-behind, front-names, label-names}
+use Rattle.declaring.specs.TabledLaws.{Labelled}
+use Rattle.drafts.specs.Marks.{marks-in}
+use Rattle.drafts.specs.Tabled.{Spelt, Tabled}
+use Rattle.entering.specs.Entering.{Short-item}
+use Rattle.headings.specs.HeadingLaws.{after-other}
+use Rattle.headings.specs.Headings.{After-told}
 use Rattle.heads.specs.Heads.{Headed}
 use Rattle.heads.specs.declared.Head.{Head}
-use Rattle.language.specs.Limits as limit
-use Rattle.layout.specs.CellLaws.{each-append}
+use Rattle.layout.specs.Bounds.{Each}
+use Rattle.layout.specs.CellLaws.{each-append, each-left, each-drop}
+use Rattle.lists.specs.ListLaws.{T-left}
+use Rattle.progress.specs.Advancing.{Progresses, Section-told}
+use Rattle.progress.specs.AdvancingLaws.{section-before}
 use Rattle.progress.specs.Progress.{Drafted}
 use Rattle.progress.specs.declared.Progress.{Progress}
+use Rattle.statements.specs.FaultLaws.{no-fault}
+use Rattle.statements.specs.Faults.{decided, verdict-of}
+use Rattle.statements.specs.Groups.{item-questions, early-questions, table-questions}
 use Rattle.statements.specs.StatementAt.{statement-at, fault-of, Ended}
 use Rattle.statements.specs.declared.Fault.{Fault}
 use Rattle.statements.specs.declared.Fault.the-variants.{Clear, At}
-use Rattle.syntax.specs.Items.{Item, line-at}
+use Rattle.statements.specs.declared.Verdict as told
+use Rattle.statements.specs.declared.Verdict.the-variants.{Yes, No}
+use Rattle.syntax.specs.Items.{Item, is}
+use Rattle.syntax.specs.Items.Sort.{word}
 use Rattle.syntax.specs.Questions.{first-faults, questions}
-use Rattle.syntax.specs.Statements.{labels-in}
-use Rattle.syntax.specs.Tables.{Draft, is-first, draft-after}
-use Rattle.syntax.specs.Verdict.{ask, Verdict, first-no}
-use Rattle.syntax.specs.Verdict.Verdict.{yes, refuse}
-use Rattle.reading_statements.specs.Admitting.{Admitted, Admits}
-use Rattle.reading_statements.specs.AdmittedLaws.{statement-sound, table-faults}
-use Rattle.reading_statements.specs.GatheringLaws as gathering
-use Rattle.reading_statements.specs.Judging.{Judging, from, Gathered}
-use Rattle.reading_statements.specs.ReadingStatements.{Reading, Reads, Finishes}
+use Rattle.syntax.specs.Statements.{labels-in, behind, rest}
+use Rattle.syntax.specs.Tables.{Draft, is-first, draft-after, all-labels, tables-after}
+use Rattle.syntax.specs.Verdict.{first-no}
+use Rattle.syntax.specs.Verdict.Verdict.{yes}
+use Rattle.reading_statements.specs.Admitting.{Admits, Asked-last}
+use Rattle.reading_statements.specs.GatheringLaws.{Short, statement-sound, labels-have, marks-all, all-short, all-spelt, names-kept, all-fine}
+use Rattle.reading_statements.specs.Judging.{from}
+use Rattle.reading_statements.specs.KindLaws.{acts, acts-alone, zero-here}
+use Rattle.reading_statements.specs.QuestionLaws.{table-faults, all-told}
+use Rattle.reading_statements.specs.ReadingStatements.{Reading, Reads, Finishes, read-verdict}
 use Rattle.reading_statements.specs.declared.Answer.{Answer}
 use Rattle.reading_statements.specs.declared.Ending.{Ending}
 use Rattle.reading_statements.specs.declared.Read.{Read}
-use Rattle.reading_statements.specs.declared.Read.the-variants as reads
 
--- ---- the verdict of all questions
-
-in-two : (d : Draft) (x : List Item) → questions d x ≡ early-questions d x ++ table-questions d x
-unfolding questions
-in-two d x = refl
-
-then-last : (v : Verdict) (number : ℕ) (ps : List ℕ) → then v (first-no (ask number ps ∷ [])) ≡ then v (decided number (fault-of ps))
-unfolding first-no
-then-last v number ps = ap (then v) (question-decides number ps [] ∙ then-yes (decided number (fault-of ps)))
-
-all-verdict : (d : Draft) (x : List Item) → first-no (questions d x) ≡ then (first-no (early-questions d x)) (decided 11 (fault-of (table-faults d x)))
-all-verdict d x =
-    ap first-no (in-two d x) ∙ first-no-both (early-questions d x) (table-questions d x)
-    ∙ then-last (first-no (early-questions d x)) 11 (table-faults d x)
-
-not-statement : {number at : ℕ} {g : Progress} → reads.Refused number at ≡ reads.Statement g → ⊥
-not-statement e = let y : _≡_ {A = ℕ} 0 1 = cc in omega arith
-
-same-progress : {g q : Progress} → reads.Statement g ≡ reads.Statement q → g ≡ q
-same-progress e = cc
+clear-by : (number : ℕ) (f : Fault) → decided number f ≡ yes → f ≡ Clear
+clear-by number Clear e = refl
+clear-by number (At p) e = absurd (let y : _≡_ {A = ℕ} 0 1 = cc in omega arith)
 
 -- ---- one statement
 
@@ -67,145 +60,132 @@ module _ {s lines : List ℕ} {n : ℕ} {d : Draft} {g : Progress} {h : Head} {m
   abbrev x : List Item
   x = statement-at s n
 
-  pub judging : Judging s n d g h ms
-  judging =
-      record {
-        low = r .standing .short;
-        inside = r .standing .inside;
-        headed = r .headed;
-        tells = r .standing .drafted .tells;
-        before = r .standing .before;
-        short = each-map _ (λ i. length (i .chars) ≤ limit.item) (λ i e. e .fine .short) (d .waiting) (r .standing .drafted .sound .waiting);
-        count-is = r .count-is;
-        own = r .own;
-      }
-
-  -- a question before 11 is answered no
-  refused-early : {number at : ℕ} → first-no (early-questions d x) ≡ refuse number at → first-no (questions d x) ≡ refuse number at
-  refused-early e = all-verdict d x ∙ ap (λ (v : Verdict). then v (decided 11 (fault-of (table-faults d x)))) e
-
-  -- or all are answered yes
-  module _ (passed : first-no (early-questions d x) ≡ yes) where
-    all-early : Answered (early-questions d x)
-    all-early = answered (early-questions d x) passed
-
+  module _ (early : Answered (early-questions d x)) where
     pub plain : Answered (item-questions x)
-    plain = (all-early .0, (all-early .1 .0, (all-early .1 .1 .0, tt)))
+    plain = (early .0, (early .1 .0, (early .1 .1 .0, tt)))
 
-    here : Gathered s n d ms (from g) (h .names)
-    here = gathering.gathered judging plain
+    -- an instruction or a switch is not the first statement, and leaves the section and its end as they are
+    pub acting : acts (h .keyword) ≡ true → Section-told s n (g .section) (g .section) × After-told s n (g .section) Clear
+    acting a =
+        let o = acts-alone (h .keyword) a in
+        (section-before s n later, after-other (r .judging .headed) (g .section) (o .1 .0) (o .1 .1))
+      where
+        later : g .section ≡ 0 → ⊥
+        later e =
+            let t : is-first d ≡ true = r .judging .tells .section .first-is ∙ eq-eqb (g .section) 0 e in
+            let q : first-faults x ≡ [] = sym (ap (λ (b : Bool). cond b (first-faults x) []) t) ∙ early .1 .1 .1 .0 in
+            let z : At (h .first) ≡ Clear = zero-here (r .judging .headed) a ∙ ap fault-of q in
+            let y : _≡_ {A = ℕ} 0 1 = cc in
+            omega arith
 
-    pub admitted : {line : ℕ} → line ≡ line-at lines (h .op .at) → Admitted s lines n d h line ms (from g) (h .names) c sw en
-    admitted l =
+    abbrev ls : List Item
+    ls = all-labels d x
+
+    pub fine-here : Each (Fine-item (length s)) x
+    fine-here = all-fine (r .judging) plain
+
+    spelt-here : Each (Spelt s) x
+    spelt-here = all-spelt (r .judging) plain
+
+    names-here : Each (Sound-name (length s)) ls
+    names-here =
+        each-append (Sound-name (length s)) (d .waiting) (labels-in x) (r .sound .waiting)
+        (label-names (length s) x fine-here (front-names (is-first d) x (early .1 .1 .1 .0) (early .1 .1 .1 .1 .0)))
+
+    pub spelt-rest : Each (Spelt s) (rest x)
+    spelt-rest = each-drop (Spelt s) 1 (behind x) (each-behind (Spelt s) x spelt-here)
+
+    -- the labels by their marks
+    pub labelled : Labelled s ls (marks-in ms (from g) (h .names))
+    labelled =
         record {
-          short = r .standing .short;
-          inside = r .standing .inside;
-          headed = r .headed;
-          sound = r .standing .drafted .sound;
-          tabled = r .standing .drafted .tabled;
-          answered = all-early;
-          line-is = l;
-          line-most = omega (arith, l, r .standing .lined .most (h .op .at));
-          named = record { order = here .order; most = here .most; marked = here .names .marked; short = here .names .short };
-          room = here .names .room;
-          marks = here .marks;
-          spelt = r .standing .drafted .tells .waiting .spelt;
+          marks = marks-all (r .judging);
+          spelt = each-map _ _ (λ l e. e .0 .spells (T-left (is word l) _ (e .1 .name))) ls
+              (each-both (Spelt s) (Sound-name (length s)) ls
+              (each-append (Spelt s) (d .waiting) (labels-in x) (r .judging .tells .waiting .spelt) (labels-have (Spelt s) x spelt-here)) names-here);
+          short = each-map _ _ (λ l e. e .fine .short) ls names-here;
         }
 
-    -- question 11
-    module _ {line : ℕ} (l : line ≡ line-at lines (h .op .at)) {f : Fault} {c′ sw′ en′ : List ℕ} (t : Admits s h line ms (from g) (h .names) c sw en f c′ sw′ en′) where
-      verdict-is : first-no (questions d x) ≡ decided 11 f
-      verdict-is =
-          all-verdict d x ∙ ap (λ (v : Verdict). then v (decided 11 (fault-of (table-faults d x)))) passed
-          ∙ ap (decided 11) (sym (t .told lines n d (admitted l)))
+    -- the tables after the statement, where 11 is answered yes too
+    pub tables-here : {f : Fault} → f ≡ fault-of (table-faults d x) → f ≡ Clear → Sound-tables (length s) (tables-after (d .tables) ls x)
+    unfolding questions draft-after
+    tables-here e z = draft-sound (length s) d x (r .sound) (statement-sound s n (r .judging .inside))
+        (each-append (λ q. q .faults ≡ []) (early-questions d x) (table-questions d x) early (no-fault (table-faults d x) (sym e ∙ z), tt)) .tables
 
-      module _ (clear : f ≡ Clear) where
-        all-answered : Answered (questions d x)
-        all-answered = answered (questions d x) (verdict-is ∙ ap (decided 11) clear)
+    pub rest-fine : Each (Fine-item (length s)) (rest x)
+    rest-fine = each-drop (Fine-item (length s)) 1 (behind x) (each-behind (Fine-item (length s)) x fine-here)
 
-        advancing-here : Advancing s n d g ms (from g) (h .names)
-        advancing-here =
-            record {
-              answered = all-answered;
-              section = r .standing .drafted .tells .section;
-              names = here .names;
-              marks = here .marks;
-              spelt = each-append (Spelt s) (d .waiting) (labels-in x) (r .standing .drafted .tells .waiting .spelt) (gathering.labels-spelt s x (gathering.all-spelt judging plain));
-              short = each-append (λ i. length (i .chars) ≤ limit.item) (d .waiting) (labels-in x) (judging .short) (gathering.labels-short x (gathering.all-short judging plain));
-              closing = r .standing .drafted .tells .closing;
-              ended = r .standing .drafted .tells .ended;
-            }
+    pub rest-short : Each Short-item (rest x)
+    rest-short = each-map _ _ (λ i f. f .short) (rest x) rest-fine
 
-        drafted-then : {q : Progress} → Advances s n g ms (from g) (h .names) q → Drafted s lines (draft-after d x) q ms c′ sw′ en′
-        unfolding draft-after
-        drafted-then v =
-            record {
-              sound = draft-sound (length s) d x (r .standing .drafted .sound) (statement-sound s n (r .standing .inside)) all-answered;
-              tabled = t .tabled clear lines n d (admitted l);
-              tells = v d advancing-here;
-            }
+  before : Answered (questions d x) → Answered (early-questions d x)
+  unfolding questions
+  before all = each-left (λ q. q .faults ≡ []) (early-questions d x) (table-questions d x) all
 
--- a statement that is no SEKCJA is not the first, where they are answered yes
-not-clear : {p : ℕ} → At p ≡ Clear → ⊥
-not-clear e = let y : _≡_ {A = ℕ} 0 1 = cc in omega arith
+  -- the draft after it, where all questions are answered yes
+  drafted-then : Answered (questions d x) → {section : ℕ} {after : Fault} {q : Progress} {c′ sw′ en′ : List ℕ} → Progresses g h section after ms q
+      → Section-told s n (g .section) section × After-told s n (g .section) after
+      → Tabled s lines (tables-after (d .tables) (all-labels d x) x) c′ sw′ en′ → Drafted s lines (draft-after d x) q ms c′ sw′ en′
+  unfolding draft-after
+  drafted-then all m t k =
+      let j = r .judging in
+      let p = plain (before all) in
+      record {
+        sound = draft-sound (length s) d x (r .sound) (statement-sound s n (j .inside)) all;
+        tabled = k;
+        tells = m s n (j .headed) (t .0) (t .1) d
+            (record {
+              answered = all;
+              section = j .tells .section;
+              names = names-kept j p;
+              marks = marks-all j;
+              spelt = each-append (Spelt s) (d .waiting) (labels-in x) (j .tells .waiting .spelt) (labels-have (Spelt s) x (all-spelt j p));
+              short = each-append Short (d .waiting) (labels-in x) (j .short) (labels-have Short x (all-short j p));
+              closing = j .tells .closing;
+              ended = j .tells .ended;
+            });
+      }
 
-pub later : {s lines : List ℕ} {n : ℕ} {d : Draft} {g : Progress} {h : Head} {ms c sw en : List ℕ} (r : Reading s lines n d g h ms c sw en) {p : ℕ}
-    → At p ≡ fault-of (first-faults (statement-at s n)) → first-no (early-questions d (statement-at s n)) ≡ yes → g .section ≡ 0 → ⊥
-later {s} {n = n} {d = d} {g = g} r z passed e =
-    let x = statement-at s n in
-    let t : is-first d ≡ true = r .standing .drafted .tells .section .first-is ∙ eq-eqb (g .section) 0 e in
-    let q : first-faults x ≡ [] = sym (ap (λ (b : Bool). cond b (first-faults x) []) t) ∙ answered (early-questions d x) passed .1 .1 .1 .0 in
-    not-clear (z ∙ ap fault-of q)
-
--- ---- whatever statement it is: v is the verdict of the questions before 11
+-- ---- whatever statement it is
 
 abbrev pub answers : Read → ℕ → Bool → Answer
 answers u next last = record { read = u; next = next; last = last }
 
-module _ {s lines : List ℕ} {g : Progress} {h : Head} {ms c sw en : List ℕ} (v : told.Verdict)
-    (early : (n : ℕ) (d : Draft) → Reading s lines n d g h ms c sw en → first-no (early-questions d (statement-at s n)) ≡ verdict-of v)
+-- u is the verdict of the questions before 11, of whose fault F holds; e is what the statement says of the section
+module _ {s lines : List ℕ} {g : Progress} {h : Head} {ms c sw en c′ sw′ en′ : List ℕ} {e : Ending} {F : Fault → Type 0} {u : told.Verdict}
+    (early : (n : ℕ) (d : Draft) → Reading s lines n d g h ms c sw en → first-no (early-questions d (statement-at s n)) ≡ verdict-of u)
+    (last-is : (n : ℕ) (d : Draft) → Reading s lines n d g h ms c sw en → Answered (early-questions d (statement-at s n)) → (f : Fault) → F f
+    → (f ≡ fault-of (table-faults d (statement-at s n))) × (f ≡ Clear → Tabled s lines (tables-after (d .tables) (all-labels d (statement-at s n)) (statement-at s n)) c′ sw′ en′))
+    (says : (n : ℕ) (d : Draft) → Reading s lines n d g h ms c sw en → Answered (early-questions d (statement-at s n))
+    → Section-told s n (g .section) (e .section) × After-told s n (g .section) (e .after))
     {next : ℕ} {last : Bool} (ends : (n : ℕ) → Headed s n h → Ended s n next last) where
-  pub refused-before : {number at : ℕ} {sw′ en′ : List ℕ} → v ≡ No number at → Reads s lines g h ms c sw en (answers (reads.Refused number at) next last) c sw′ en′
-  refused-before e =
+  module _ {n : ℕ} {d : Draft} (r : Reading s lines n d g h ms c sw en) where
+    all-verdict : (w : told.Verdict) → u ≡ w → (v : told.Verdict) → Asked-last F w v → verdict-of v ≡ first-no (questions d (statement-at s n))
+    all-verdict Yes q v (f, (i, k)) =
+        let z = early n d r ∙ ap verdict-of q in
+        i ∙ ap (decided 11) (last-is n d r (answered _ z) f k .0) ∙ sym (all-told d (statement-at s n) z)
+    all-verdict (No number at) q v i = ap verdict-of i ∙ sym (all-told d (statement-at s n) (early n d r ∙ ap verdict-of q))
+
+    tabled-then : (w : told.Verdict) → u ≡ w → Asked-last F w Yes → Tabled s lines (tables-after (d .tables) (all-labels d (statement-at s n)) (statement-at s n)) c′ sw′ en′
+    tabled-then Yes q (f, (i, k)) = last-is n d r (answered _ (early n d r ∙ ap verdict-of q)) f k .1 (clear-by 11 f (sym i))
+    tabled-then (No number at) q i = absurd (let y : _≡_ {A = ℕ} 0 1 = cc in omega arith)
+
+  pub read-as : (v : told.Verdict) → Admits F u v c c′ → {y : Read} → Finishes g h e ms v y → Reads s lines g h ms c sw en (answers y next last) c′ sw′ en′
+  read-as (No number at) t z =
       record {
-        told = λ n d r. sym (refused-early r (early n d r ∙ ap verdict-of e));
-        after = λ n d r g′ z. absurd (not-statement z);
+        told = λ n d r. ap read-verdict z ∙ all-verdict r u refl (No number at) (t .asked);
+        after = λ n d r g′ o. absurd (let y : _≡_ {A = ℕ} 0 1 = cc in omega arith);
         ends = ends;
-        beyond = refl;
+        beyond = t .beyond;
       }
-
-  module _ (passed : v ≡ Yes) {line : ℕ} (l : line ≡ line-at lines (h .op .at)) {f : Fault} {c′ sw′ en′ : List ℕ}
-      (t : Admits s h line ms (from g) (h .names) c sw en f c′ sw′ en′) where
-    pub refused-beyond : {p : ℕ} → f ≡ At p → Reads s lines g h ms c sw en (answers (reads.Refused 11 p) next last) c′ sw′ en′
-    refused-beyond e =
-        record {
-          told = λ n d r. sym (verdict-is r (early n d r ∙ ap verdict-of passed) l t ∙ ap (decided 11) e);
-          after = λ n d r g′ z. absurd (not-statement z);
-          ends = ends;
-          beyond = t .beyond;
-        }
-
-    pub statement-read : {q : Progress} → f ≡ Clear
-        → ((n : ℕ) (d : Draft) → Reading s lines n d g h ms c sw en → first-no (early-questions d (statement-at s n)) ≡ yes → Advances s n g ms (from g) (h .names) q)
-        → Reads s lines g h ms c sw en (answers (reads.Statement q) next last) c′ sw′ en′
-    statement-read {q} z w =
-        record {
-          told = λ n d r. sym (verdict-is r (early n d r ∙ ap verdict-of passed) l t ∙ ap (decided 11) z);
-          after = λ n d r g′ o.
-              let e : first-no (early-questions d (statement-at s n)) ≡ yes = early n d r ∙ ap verdict-of passed in
-              subst (λ (p : Progress). Drafted s lines (draft-after d (statement-at s n)) p ms c′ sw′ en′) (same-progress o) (drafted-then r e l t z (w n d r e));
-          ends = ends;
-          beyond = t .beyond;
-        }
-
--- ---- after question 11
-
-same-place : {p q : ℕ} → At p ≡ At q → p ≡ q
-same-place e = cc
-
-module _ {f : Fault} {g : Progress} {h : Head} {e : Ending} {ms : List ℕ} where
-  pub finishes-at : {p : ℕ} → f ≡ At p → Finishes f g h e ms (reads.Refused 11 p)
-  finishes-at {p} z = record { refused = λ q k. ap (reads.Refused 11) (same-place (sym z ∙ k)); read = λ k. absurd (not-clear (sym z ∙ k)) }
-
-  pub finishes-clear : {q : Progress} → f ≡ Clear → Progresses g h (e .section) (e .after) ms q → Finishes f g h e ms (reads.Statement q)
-  finishes-clear {q} z v = record { refused = λ p k. absurd (not-clear (sym k ∙ z)); read = λ k. (q, refl, v) }
+  read-as Yes t (q, (z, m)) =
+      record {
+        told = λ n d r. ap read-verdict z ∙ all-verdict r u refl Yes (t .asked);
+        after = λ n d r g′ o.
+            let all = answered (questions d (statement-at s n)) (sym (all-verdict r u refl Yes (t .asked))) in
+            let i : q ≡ g′ = cc in
+            subst (λ (p : Progress). Drafted s lines (draft-after d (statement-at s n)) p ms c′ sw′ en′) i
+            (drafted-then r all m (says n d r (before r all)) (tabled-then r u refl (t .asked)));
+        ends = ends;
+        beyond = t .beyond;
+      }

@@ -1,28 +1,28 @@
 -- What the readers of a statement ask and promise.
 use mathlib.Core.Path.{_≡_}
 use mathlib.Core.Bool.{true, false}
-use mathlib.Core.List.{List, _++_, map}
+use mathlib.Core.List.{List}
 use Prim.Native.Nat.{ℕ, _+_, _≤_}
-use lib.ListN.{length, take, drop}
-use Rattle.drafts.specs.Marks.{mark}
+use lib.ListN.{length, drop}
+use Rattle.acceptance.specs.Drafts.{Sound-draft}
+use Rattle.drafts.specs.Tabled.{Tabled}
 use Rattle.headings.specs.Headings.{Rests, Nameable, After-told}
 use Rattle.headings.specs.declared.Rest.{Rest}
 use Rattle.heads.specs.Heads.{Headed, instr-of, is-switch}
 use Rattle.heads.specs.declared.Head.{Head}
 use Rattle.language.specs.Limits as limit
 use Rattle.layout.specs.Bounds.{Each}
-use Rattle.progress.specs.Advancing.{Section-told, Advanceable, Progresses}
+use Rattle.progress.specs.Advancing.{Section-told, Progresses}
 use Rattle.progress.specs.Progress.{Drafted, Before}
 use Rattle.progress.specs.declared.Progress.{Progress}
 use Rattle.statements.specs.StatementAt.{statement-at, Ended}
-use Rattle.statements.specs.declared.Fault.{Fault}
-use Rattle.statements.specs.declared.Fault.the-variants.{Clear, At}
+use Rattle.statements.specs.declared.Verdict as told
 use Rattle.syntax.specs.Load.{Lined}
 use Rattle.syntax.specs.Questions.{questions}
-use Rattle.syntax.specs.Statements.{labels-in}
 use Rattle.syntax.specs.Tables.{Draft, draft-after}
 use Rattle.syntax.specs.Verdict.{Verdict, first-no}
 use Rattle.syntax.specs.Verdict.Verdict.{yes, refuse}
+use Rattle.reading_statements.specs.Judging.{Judging}
 use Rattle.reading_statements.specs.declared.Answer.{Answer}
 use Rattle.reading_statements.specs.declared.Ending.{Ending}
 use Rattle.reading_statements.specs.declared.Read.{Read}
@@ -38,10 +38,10 @@ pub record Standing (s lines : List ℕ) (n : ℕ) (d : Draft) (g : Progress) (m
 
 -- and h is its head, with the marks of its labels behind those of the names before
 pub record Reading (s lines : List ℕ) (n : ℕ) (d : Draft) (g : Progress) (h : Head) (ms c sw en : List ℕ) : Type 0 where
-  pub standing : Standing s lines n d g ms c sw en
-  pub headed : Headed s n h
-  pub count-is : h .names ≡ g .names + length (labels-in (statement-at s n))
-  pub own : take (h .names) ms ≡ take (g .names) ms ++ map mark (labels-in (statement-at s n))
+  pub judging : Judging s n d g h ms
+  pub lined : Lined lines
+  pub sound : Sound-draft (length s) d
+  pub tabled : Tabled s lines (d .tables) c sw en
 
 abbrev pub read-verdict : Read → Verdict
 read-verdict (Statement g) = yes
@@ -105,14 +105,11 @@ pub record Reads-statement (s lines : List ℕ) (n : ℕ) (g : Progress) (ms c s
   pub ends : Ended s n (r .next) (r .last)
   pub beyond : drop limit.table c′ ≡ drop limit.table c
 
--- ---- after question 11
+-- ---- after all questions, whose verdict is v
 
-abbrev pub Finishable : Progress → Head → List ℕ → Type 0
-Finishable g h ms = Advanceable g h ms
-
-pub record Finishes (f : Fault) (g : Progress) (h : Head) (e : Ending) (ms : List ℕ) (r : Read) : Type 0 where
-  pub refused : (p : ℕ) → f ≡ At p → r ≡ Refused 11 p
-  pub read : f ≡ Clear → ((q : Progress) × (r ≡ Statement q) × Progresses g h (e .section) (e .after) ms q)
+abbrev pub Finishes : Progress → Head → Ending → List ℕ → told.Verdict → Read → Type 0
+Finishes g h e ms told.Verdict.Yes r = (q : Progress) × ((r ≡ Statement q) × Progresses g h (e .section) (e .after) ms q)
+Finishes g h e ms (told.Verdict.No number at) r = r ≡ Refused number at
 
 -- ---- what a statement that is neither says
 

@@ -1,85 +1,89 @@
--- A statement with a switch: its verdict before question 11, and its place in the tables.
+-- A statement with a switch.
+use mathlib.Core.Bool.{Bool, false, cond, true, _&&_}
+use mathlib.Core.List.{List, [], _∷_, _++_, map}
 use mathlib.Core.Path.{_≡_, refl, sym, ap, _∙_, subst}
-use mathlib.Core.Bool.{Bool, true, false, cond, true≢false}
-use mathlib.Core.List.{List, []}
-use Prim.Native.Nat.{ℕ, _≤_, _<_, min}
+use Prim.Native.Nat.{ℕ, _+_, _-_, _<_, _≤_}
 use native.Mathlib.Omega.{arith}
-use lib.ListN.{length, getD}
+use lib.Dec.{T}
+use lib.ListN.{drop, length, getD, length-take}
+use lib.Seq.{getD-take, getD-drop}
+use Rattle.acceptance.specs.DraftLaws.{one-label}
+use Rattle.acceptance.specs.Drafts.{Fine-item, in-texts}
+use Rattle.acceptance.specs.RowLaws.{Answered, answered, each-map, each-both, append-none}
+use Rattle.acceptance.specs.StatementLaws.{texts-kept}
+use Rattle.declaring.specs.Declaring.{texts-excess}
+use Rattle.declaring.specs.TabledLaws.{Operated, operated}
+use Rattle.declaring_switches.specs.DeclaringSwitches.{with-texts, switch-excess}
+use Rattle.declaring_switches.specs.Entries.{list-entries, Kept-entries}
 use Rattle.declaring_switches.specs.Switches.{Declarable-switch, DeclaresSwitch}
+use Rattle.declaring_switches.specs.TabledLaws.{switch-told, switch-tabled, list-kept}
+use Rattle.declaring_switches.specs.declared.Declaration.{Declaration}
 use Rattle.drafts.specs.Drafting.{draft-program}
 use Rattle.drafts.specs.DraftingLaws.{entry-words}
+use Rattle.drafts.specs.Marks.{mark, marks-in, word-by}
 use Rattle.drafts.specs.Tabled.{Tabled}
-use Rattle.statements.specs.CheckLaws.{worst-low}
-use Rattle.statements.specs.Checks.{clean, worst}
-use Rattle.statements.specs.Faults.{decided, then, verdict-of}
-use Rattle.statements.specs.Groups.{argument-questions, early-questions}
-use Rattle.statements.specs.declared.Verdict as told
-use Rattle.statements.specs.declared.Verdict.the-variants.{Yes, No}
-use Rattle.headings.specs.HeadingLaws.{after-other}
-use Rattle.headings.specs.Headings.{is-kons, is-konp}
-use Rattle.heads.specs.HeadLaws.{no-keyword}
-use Rattle.heads.specs.Heads.{is-switch, is-by-name, opens, Headed}
+use Rattle.entering.specs.Entering.{Short-item, set-texts}
+use Rattle.heads.specs.Heads.{Headed, is-switch, is-by-name}
 use Rattle.heads.specs.declared.Head.{Head}
 use Rattle.language.specs.Limits as limit
+use Rattle.language.specs.Program.{Op, Program}
+use Rattle.layout.specs.Bounds.{Each}
 use Rattle.layout.specs.Cells.{cell}
 use Rattle.layout.specs.ProgramLaws.{length-each-total}
-use Rattle.lexer.specs.declared.Token.{Token}
-use Rattle.lists.specs.Lists.{keep}
+use Rattle.layout.specs.Table.{all-entries}
+use Rattle.lists.specs.ListLaws.{T-both}
+use Rattle.lists.specs.Lists.{filled, headOr, keep}
+use Rattle.machine.specs.WellFormed.{good-text}
 use Rattle.packed.specs.Packed.{table-of}
-use Rattle.progress.specs.Advancing.{Progresses}
-use Rattle.progress.specs.AdvancingLaws.{section-before}
 use Rattle.progress.specs.declared.Progress.{Progress}
-use Rattle.statements.specs.StatementAt.{statement-at, stops, fault-of, Ended}
+use Rattle.statements.specs.Checks.{worst}
+use Rattle.statements.specs.FaultLaws.{no-fault}
+use Rattle.statements.specs.Faults.{decided, then, verdict-of}
+use Rattle.statements.specs.Groups.{early-questions}
+use Rattle.statements.specs.StatementAt.{statement-at, fault-of, stops}
 use Rattle.statements.specs.declared.Fault.{Fault}
-use Rattle.statements.specs.declared.Fault.the-variants.{Clear, At}
-use Rattle.switch_lists.specs.Switches.{switch-after, Listable, Reads-list}
+use Rattle.statements.specs.declared.Fault.the-variants.{At, Clear}
+use Rattle.statements.specs.declared.Verdict as told
+use Rattle.statements.specs.declared.Verdict.the-variants.{Yes}
+use Rattle.switch_lists.specs.Switches.{Reads-list, Listable}
 use Rattle.switch_lists.specs.declared.Listed.{Listed}
-use Rattle.syntax.specs.Items.{is}
-use Rattle.syntax.specs.Items.Sort.{word}
-use Rattle.syntax.specs.Questions.{first-faults}
-use Rattle.syntax.specs.Tables.{Choice, Tables, Draft}
-use Rattle.syntax.specs.Verdict as spec
+use Rattle.syntax.specs.Items.{Item, is, places}
+use Rattle.syntax.specs.Items.Sort.{word, text}
+use Rattle.syntax.specs.Questions.{instr-faults, switch-faults, instr-beyond, switch-beyond, label-faults, beyond}
+use Rattle.syntax.specs.Statements.{by-keyword, behind, keyword-in, rest, operator, list-faults}
+use Rattle.syntax.specs.Tables.{Choice, Tables, Draft, all-labels, contents, tables-after, new-texts, with-instr, with-switch}
 use Rattle.syntax.specs.Verdict.{first-no}
-use Rattle.words.specs.declared.Keyword.{Keyword}
 use Rattle.writing.proofs.Held.{entry-count}
-use Rattle.reading_statements.specs.AdmittedSwitchLaws.{switch-declarable, switch-admits}
-use Rattle.reading_statements.specs.Admitting.{declaration}
+use Rattle.reading_statements.specs.Admitting.{Admits, declaration}
 use Rattle.reading_statements.specs.Asking.{Head-asked}
-use Rattle.reading_statements.specs.Judging.{from}
-use Rattle.reading_statements.specs.KindLaws.{tail, worst-whole, ends-behind, switch-asked, zero-told}
-use Rattle.reading_statements.specs.QuestionLaws.{early-told}
-use Rattle.reading_statements.specs.ReadLaws.{judging, admitted, answers, later, refused-before, refused-beyond, statement-read}
+use Rattle.reading_statements.specs.GatheringLaws.{marks-all, names-kept}
+use Rattle.reading_statements.specs.Judging.{Judging, from}
+use Rattle.reading_statements.specs.KindLaws.{zero-here, ends-behind, switch-asked, known, there, inside, whole, chooses, switch-acts}
+use Rattle.reading_statements.specs.QuestionLaws.{early-told, table-faults}
+use Rattle.reading_statements.specs.ReadLaws.{answers, plain, acting, labelled, spelt-rest, tables-here, rest-fine, rest-short, read-as}
 use Rattle.reading_statements.specs.ReadingStatements.{Reading, Reads, Finishes}
 use Rattle.reading_statements.specs.declared.Read.{Read}
-use Rattle.reading_statements.specs.declared.Read.the-variants as reads
 
--- a switch is none of the other keywords
-no-opens : (k : Keyword) → is-switch k ≡ true → opens k ≡ false
-no-opens Keyword.None z = refl
-no-opens Keyword.Unknown z = refl
-no-opens Keyword.Sekcja z = absurd (true≢false (sym z))
-no-opens Keyword.Kons z = refl
-no-opens Keyword.Konp z = refl
-no-opens (Keyword.Switch byName) z = refl
-no-opens (Keyword.Instr m) z = refl
+-- where there is one mark, it stands first
+first-mark : (ms : List ℕ) (a b m : ℕ) → marks-in ms a b ≡ m ∷ [] → (a < b) × (getD ms a 0 ≡ m)
+first-mark ms a b m e =
+    let l : a < b = omega (arith, length-take (b - a) (drop a ms), ap length e) in
+    let z : a + 0 ≡ a = omega arith in
+    (l, sym (getD-take (b - a) (drop a ms) 0 0 (omega (arith, l)) ∙ getD-drop a ms 0 0 ∙ ap (λ (k : ℕ). getD ms k 0) z) ∙ ap (λ (l : List ℕ). getD l 0 0) e)
 
-no-kons : (k : Keyword) → is-switch k ≡ true → is-kons k ≡ false
-no-kons Keyword.None z = refl
-no-kons Keyword.Unknown z = refl
-no-kons Keyword.Sekcja z = refl
-no-kons Keyword.Kons z = absurd (true≢false (sym z))
-no-kons Keyword.Konp z = refl
-no-kons (Keyword.Switch byName) z = refl
-no-kons (Keyword.Instr m) z = refl
+-- a list of which 02 is answered yes
+right-list : (b : Bool) (js : List Item) (ps : List ℕ) → cond (filled js) (list-faults b false js) ps ≡ [] → list-faults b false js ≡ []
+unfolding list-faults
+right-list b [] ps e = refl
+right-list b (j ∷ js) ps e = e
 
-no-konp : (k : Keyword) → is-switch k ≡ true → is-konp k ≡ false
-no-konp Keyword.None z = refl
-no-konp Keyword.Unknown z = refl
-no-konp Keyword.Sekcja z = refl
-no-konp Keyword.Kons z = refl
-no-konp Keyword.Konp z = absurd (true≢false (sym z))
-no-konp (Keyword.Switch byName) z = refl
-no-konp (Keyword.Instr m) z = refl
+-- no entry is in excess, where nothing is
+entries-fit : (s : List ℕ) (at n : ℕ) (p : Program) → switch-excess s at n p ≡ [] → beyond limit.entries (length (all-entries p)) (places (keep (is word) (statement-at s n))) ≡ []
+unfolding switch-excess
+entries-fit s at n p e =
+    let ws : List ℕ = beyond limit.entries (length (all-entries p)) (places (keep (is word) (statement-at s n))) in
+    let ps : List ℕ = beyond limit.switches (length (p .switches)) (at ∷ []) in
+    append-none ps ws (append-none (ps ++ ws) (texts-excess s n p) e .0) .1
 
 -- the entries that the table has
 pub held-most : {s lines : List ℕ} {t : Tables} {c sw en : List ℕ} → Tabled s lines t c sw en → cell (table-of c) 3 ≤ limit.entries
@@ -87,93 +91,139 @@ unfolding draft-program
 held-most {lines = lines} {t = t} {c = c} v =
     omega (arith, entry-count c (draft-program lines t) (v .holds), entry-words (t .switches), length-each-total (λ (w : Choice). keep (is word) (w .list)) (t .switches), v .sound .entries-few)
 
-same-list : {s : List ℕ} (t : Token) (w : ℕ) {b : Bool} {held : ℕ} {en tx : List ℕ} {l : Listed} {en′ tx′ : List ℕ} → Reads-list s t b w held en tx l en′ tx′
-    → {named : Bool} {m : ℕ} → b ≡ named → held ≡ m → Reads-list s t named w m en tx l en′ tx′
-same-list {s} t w {b} {held} {en} {tx} {l} {en′} {tx′} r {named} {m} f e =
-    subst (λ (k : ℕ). Reads-list s t named w k en tx l en′ tx′) e (subst (λ (n : Bool). Reads-list s t n w held en tx l en′ tx′) f r)
+module _ {s lines : List ℕ} {n : ℕ} {d : Draft} {g : Progress} {h : Head} {ms c sw en : List ℕ} (r : Reading s lines n d g h ms c sw en)
+    (early : Answered (early-questions d (statement-at s n))) (some : is-switch (h .keyword) ≡ true) {named : Bool} (named-is : named ≡ is-by-name (h .keyword))
+    {w : ℕ} {tx : List ℕ} {l : Listed} {en′ tx′ : List ℕ} (list : Reads-list s (h .op) named w (cell (table-of c) 3) en tx l en′ tx′) where
+  abbrev x : List Item
+  x = statement-at s n
 
-module _ {s : List ℕ} {h : Head} (some : is-switch (h .keyword) ≡ true) where
-  module _ {n : ℕ} (k : Headed s n h) where
-    there : stops (h .op .sort) ≡ false
-    there = go (stops (h .op .sort)) refl
-      where
-        go : (b : Bool) → stops (h .op .sort) ≡ b → b ≡ false
-        go true z = absurd (true≢false (sym some ∙ ap is-switch (no-keyword k z)))
-        go false z = refl
+  abbrev ls : List Item
+  ls = all-labels d x
 
-    tail-is : tail k ≡ statement-at s (h .op .next)
-    tail-is = ap (λ (b : Bool). cond b [] (statement-at s (h .op .next))) there
+  abbrev t : Tables
+  t = d .tables
 
-    pub listable : {held : ℕ} {en tx : List ℕ} → length s ≤ limit.text → held ≤ limit.entries → length en ≡ limit.entries → length tx ≡ limit.entries
-        → Listable s (h .op) (h .worst) held en tx
-    listable low most entries texts =
-        record {
-          stands = k .stands;
-          checked = subst (λ (w : ℕ). w ≤ clean) (sym (k .worst-is)) (worst-low _);
-          low = low;
-          held-most = most;
-          entry-room = entries;
-          text-room = texts;
-        }
+  k : Headed s n h
+  k = r .judging .headed
 
-    pub zero-here : At (h .first) ≡ fault-of (first-faults (statement-at s n))
-    zero-here = zero-told k there (no-opens (h .keyword) some)
+  stands : stops (h .op .sort) ≡ false
+  stands = there k (switch-acts k some named-is)
 
-    -- the operator stands in the text
-    inside : n < length s
-    inside = omega (arith, k .from, k .stands .some (λ z. true≢false (sym (ap stops z) ∙ there)), k .stands .behind, k .stands .most)
+  here : Operated s x (h .op)
+  here = operated k stands
 
+  by-own : {X : Type 0} (f : Op → X) (f′ : Bool → X) (z : X) → by-keyword f f′ z (keyword-in x) ≡ f′ named
+  unfolding by-keyword
+  by-own f f′ z = ap (by-keyword f f′ z) (chooses k some named-is)
+
+  -- 08: its one label, and the mark of that
+  one : (l : Item) × (ls ≡ l ∷ [])
+  unfolding label-faults
+  one =
+      one-label ls (behind x) (rw (k .operator, stands) tt)
+      (sym (by-own (λ op. []) (λ byName. cond (filled ls) (places (drop 1 ls)) (places (operator x))) []) ∙ early .1 .1 .1 .1 .1 .0)
+
+  own-mark : (from g < h .names) × (getD ms (from g) 0 ≡ mark (one .0))
+  own-mark = first-mark ms (from g) (h .names) (mark (one .0)) (marks-all (r .judging) ∙ ap (map mark) (one .1))
+
+  name-spells : word-by s (getD ms (from g) 0) ≡ headOr [] (contents ls)
+  name-spells =
+      ap (word-by s) (own-mark .1)
+      ∙ subst (λ (ks : List Item). Each (λ l. word-by s (mark l) ≡ l .chars) ks) (one .1) (labelled r early .spelt) .0
+      ∙ sym (ap (λ (ks : List Item). headOr [] (contents ks)) (one .1))
+
+  -- the texts of its list
+  kept-here : Kept-entries (with-texts s (h .op .next) (draft-program lines t)) (list-entries s (h .op .next))
+  unfolding with-texts set-texts draft-program
+  kept-here =
+      let all : List Item → List (List ℕ) = λ js. t .texts ++ contents (new-texts t js) in
+      list-kept (with-texts s (h .op .next) (draft-program lines t)) (statement-at s (h .op .next))
+      (subst (λ (js : List Item). Each (λ i. T (is text i) → T (good-text (i .chars) && in-texts (all js) (i .chars))) js) (here .rest-is)
+      (each-map _ _ (λ i e k. T-both (good-text (i .chars)) (in-texts (all (rest x)) (i .chars)) (e .0 .good k) (e .1 k)) (rest x)
+      (each-both (Fine-item (length s)) (λ i. T (is text i) → T (in-texts (all (rest x)) (i .chars))) (rest x) (rest-fine r early) (texts-kept (length s) t (rest x) (rest-fine r early)))))
+
+  faultless : list-faults named false (rest x) ≡ []
+  unfolding switch-faults
+  faultless =
+      right-list named (rest x) (places (operator x)) (sym (by-own (instr-faults x) (switch-faults x) []) ∙ early .1 .1 .1 .1 .1 .1 .1 .1 .0)
+
+  pub switch-declarable : length tx′ ≡ limit.entries → Declarable-switch s (declaration (h .op) named (getD ms (from g) 0) l) c sw tx′
+  switch-declarable room =
+      record {
+        list = record {
+          inside = k .stands .most;
+          words-is = list .words-is;
+          few = list .few;
+          over-is = list .over-is;
+          texts = list .texts;
+          text-room = room;
+          ordered = list .ordered;
+          right = subst (λ (js : List Item). list-faults named false js ≡ []) (here .rest-is) faultless;
+          short = subst (λ (js : List Item). Each Short-item js) (here .rest-is) (rest-short r early);
+        };
+        held = record { program = draft-program lines t; holds = r .tabled .holds };
+        kept = kept-here;
+        switch-marks = r .tabled .switch-room;
+      }
+
+  -- 11, and the tables after it
+  module _ (f : Fault) {c′ sw′ : List ℕ} (u : DeclaresSwitch s (declaration (h .op) named (getD ms (from g) 0) l) c sw f c′ sw′) (size : length en′ ≡ length en) where
+    told-last : f ≡ fault-of (table-faults d x)
+    told-last =
+        switch-told lines t named ls here u (r .tabled .holds)
+        ∙ ap fault-of (sym (by-own (λ op. instr-beyond t ls x) (λ b. switch-beyond t x) []))
+
+    over-clear : f ≡ Clear → l .over ≡ Clear
+    over-clear e =
+        let p : Program = draft-program lines t in
+        let ws : List ℕ = places (keep (is word) (statement-at s (h .op .next))) in
+        list .over-is ∙ ap (λ (k : ℕ). fault-of (beyond limit.entries k ws)) (entry-count c p (r .tabled .holds))
+        ∙ ap fault-of (entries-fit s (h .op .at) (h .op .next) p (no-fault (switch-excess s (h .op .at) (h .op .next) p) (sym (u .told p (r .tabled .holds)) ∙ e)))
+
+    pub switch-last : (f ≡ fault-of (table-faults d x)) × (f ≡ Clear → Tabled s lines (tables-after t ls x) c′ sw′ en′)
+    switch-last = (
+      told-last,
+      λ e.
+          let q : tables-after t ls x ≡ with-switch t ls x named = by-own (with-instr t ls x) (with-switch t ls x) t in
+          rw q
+          (switch-tabled lines t named ls here u (r .tabled) en′ (list .marks (over-clear e)) (rw q at (tables-here r early told-last e)) (spelt-rest r early) name-spells
+          (names-kept (r .judging) (plain r early) .marked (from g) (own-mark .0)) size kept-here e),
+    )
+
+-- ---- it is read
+
+pub listable : {s : List ℕ} {n : ℕ} {h : Head} → Headed s n h → {held : ℕ} {en tx : List ℕ} → length s ≤ limit.text → held ≤ limit.entries → length en ≡ limit.entries → length tx ≡ limit.entries
+    → Listable s (h .op) (h .worst) held en tx
+listable k low most entries texts =
+    record { stands = k .stands; checked = known k; low = low; held-most = most; entry-room = entries; text-room = texts }
+
+module _ {s : List ℕ} {h : Head} (some : is-switch (h .keyword) ≡ true) {named : Bool} (named-is : named ≡ is-by-name (h .keyword)) where
   -- there is room for the mark of its name
-  pub name-inside : {lines : List ℕ} {n : ℕ} {d : Draft} {g : Progress} {ms c sw en : List ℕ} → Reading s lines n d g h ms c sw en → from g < length ms
-  name-inside {n = n} k =
-      let t = k .standing .drafted .tells in
-      omega (arith, inside (k .headed), k .standing .short, k .standing .before .names-few, t .names .count-is, t .names .room)
+  pub name-inside : {n : ℕ} {d : Draft} {g : Progress} {ms : List ℕ} → Judging s n d g h ms → from g < length ms
+  name-inside j = omega (arith, inside (j .headed) (switch-acts (j .headed) some named-is), j .low, j .before .names-few, j .tells .names .count-is, j .tells .names .room)
 
-  module _ {named : Bool} (named-is : named ≡ is-by-name (h .keyword)) {held : ℕ} {en tx : List ℕ} {l : Listed} {en′ tx′ : List ℕ}
-      (r : Reads-list s (h .op) named (h .worst) held en tx l en′ tx′) where
-    pub whole : {n : ℕ} → Headed s n h → l .worst ≡ worst (statement-at s n)
-    whole k = worst-whole k (r .worst-is ∙ ap (λ js. min (h .worst) (worst js)) (sym (tail-is k)))
+  -- v is the verdict of all questions before 11, where u is that of the questions of the head
+  module _ {held : ℕ} {en tx : List ℕ} {l : Listed} {en′ tx′ : List ℕ} (list : Reads-list s (h .op) named (h .worst) held en tx l en′ tx′) where
+    pub whole-list : {n : ℕ} → Headed s n h → l .worst ≡ worst (statement-at s n)
+    whole-list k = whole k (switch-acts k some named-is) (list .worst-is)
 
-    ends : (n : ℕ) → Headed s n h → Ended s n (l .next) (l .last)
-    ends n k = ends-behind k (there k) (r .ends)
-
-    -- v is the verdict of all questions before 11, where u is that of the questions of the head
     module _ {lines : List ℕ} {g : Progress} {ms c sw : List ℕ} (u v : told.Verdict) (asked : Head-asked s (l .worst) g h ms (At (h .first)) u)
-        (all : verdict-of v ≡ then (verdict-of u) (decided 2 (l .fault))) where
-      early : (n : ℕ) (d : Draft) → Reading s lines n d g h ms c sw en → first-no (early-questions d (statement-at s n)) ≡ verdict-of v
-      early n d k =
-          let x = statement-at s n in
-          early-told d x
-          ∙ ap (λ (y : spec.Verdict). then y (first-no (argument-questions x))) (sym (asked n d (judging k) (whole (k .headed)) (λ e. zero-here (k .headed))))
-          ∙ ap (then (verdict-of u)) (switch-asked (k .headed) some (r .fault-is ∙ ap (λ (b : Bool). fault-of (switch-after s (h .op) b)) named-is))
-          ∙ sym all
+        (all : verdict-of v ≡ then (verdict-of u) (decided 2 (l .fault))) (held-is : held ≡ cell (table-of c) 3)
+        {b : Declaration} (b-is : b ≡ declaration (h .op) named (getD ms (from g) 0) l) where
+      early-switch : (n : ℕ) (d : Draft) → Reading s lines n d g h ms c sw en → first-no (early-questions d (statement-at s n)) ≡ verdict-of v
+      early-switch n d r =
+          let k = r .judging .headed in
+          early-told d (statement-at s n) (asked n d (r .judging) (whole-list k) (λ e. zero-here k (switch-acts k some named-is))) (switch-asked k some named-is (list .fault-is)) all
 
-      pub refused-switch : {number at : ℕ} → v ≡ No number at → Reads s lines g h ms c sw en (answers (reads.Refused number at) (l .next) (l .last)) c sw en′
-      refused-switch e = refused-before v early ends e
+      pub declarable-switch : {n : ℕ} {d : Draft} → Reading s lines n d g h ms c sw en → length tx′ ≡ limit.entries → v ≡ Yes → Declarable-switch s b c sw tx′
+      declarable-switch {n} {d} r room e =
+          subst (λ (y : Declaration). Declarable-switch s y c sw tx′) (sym b-is)
+          (switch-declarable r (answered _ (early-switch n d r ∙ ap verdict-of e)) some named-is (rw held-is at list) room)
 
-      module _ (passed : v ≡ Yes) (held-is : held ≡ cell (table-of c) 3) where
-        pub declarable-switch : {n : ℕ} {d : Draft} → Reading s lines n d g h ms c sw en → length tx′ ≡ limit.entries
-            → Declarable-switch s (declaration (h .op) named (getD ms (from g) 0) l) c sw tx′
-        declarable-switch {n} {d} k room =
-            subst (λ (b : Bool). Declarable-switch s (declaration (h .op) b (getD ms (from g) 0) l) c sw tx′) (sym named-is)
-            (switch-declarable (admitted k (early n d k ∙ ap verdict-of passed) refl) some (same-list (h .op) (h .worst) r named-is held-is) room)
-
-        module _ {f : Fault} {c′ sw′ : List ℕ} (w : DeclaresSwitch s (declaration (h .op) named (getD ms (from g) 0) l) c sw f c′ sw′) (size : length en′ ≡ length en) where
-          refused-11 : {p : ℕ} → f ≡ At p → Reads s lines g h ms c sw en (answers (reads.Refused 11 p) (l .next) (l .last)) c′ sw′ en′
-          refused-11 e = refused-beyond v early ends passed refl (switch-admits some (same-list (h .op) (h .worst) r named-is held-is) (subst (λ (b : Bool). DeclaresSwitch s (declaration (h .op) b (getD ms (from g) 0) l) c sw f c′ sw′) named-is w) size) e
-
-          read-switch : {q : Progress} → f ≡ Clear → Progresses g h (g .section) Clear ms q
-              → Reads s lines g h ms c sw en (answers (reads.Statement q) (l .next) (l .last)) c′ sw′ en′
-          read-switch e m =
-              statement-read v early ends passed refl (switch-admits some (same-list (h .op) (h .worst) r named-is held-is) (subst (λ (b : Bool). DeclaresSwitch s (declaration (h .op) b (getD ms (from g) 0) l) c sw f c′ sw′) named-is w) size) e
-              (λ n d k z.
-              m s n (k .headed) (section-before s n (later k (zero-here (k .headed)) z))
-              (after-other (k .headed) (g .section) (no-konp (h .keyword) some) (no-kons (h .keyword) some)))
-
-          -- whichever it is
-          pub finished : {y : Read} → Finishes f g h (record { section = g .section; after = Clear }) ms y → Reads s lines g h ms c sw en (answers y (l .next) (l .last)) c′ sw′ en′
-          finished {y} z = go f refl
-            where
-              go : (x : Fault) → f ≡ x → Reads s lines g h ms c sw en (answers y (l .next) (l .last)) c′ sw′ en′
-              go (At p) e = subst (λ (t : Read). Reads s lines g h ms c sw en (answers t (l .next) (l .last)) c′ sw′ en′) (sym (z .refused p e)) (refused-11 e)
-              go Clear e = let b = z .read e in subst (λ (t : Read). Reads s lines g h ms c sw en (answers t (l .next) (l .last)) c′ sw′ en′) (sym (b .1)) (read-switch e (b .2))
+      pub read-switch : (w : told.Verdict) {c′ sw′ : List ℕ} → Admits (λ f. DeclaresSwitch s b c sw f c′ sw′) v w c c′ → length en′ ≡ length en
+          → {y : Read} → Finishes g h (record { section = g .section; after = Clear }) ms w y → Reads s lines g h ms c sw en (answers y (l .next) (l .last)) c′ sw′ en′
+      read-switch w {c′} {sw′} t size z =
+          read-as early-switch
+          (λ n d r q f u. switch-last r q some named-is (rw held-is at list) f (subst (λ (y : Declaration). DeclaresSwitch s y c sw f c′ sw′) b-is u) size)
+          (λ n d r q. acting r q (switch-acts (r .judging .headed) some named-is))
+          (λ n k. ends-behind k (there k (switch-acts k some named-is)) (list .ends)) w t z

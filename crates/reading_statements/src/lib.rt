@@ -3,12 +3,14 @@ ghost use mathlib.Core.Path.{_≡_};
 ghost use mathlib.Core.Bool.{_&&_};
 ghost use lib.Dec.{eqb};
 ghost use Rattle.statements.specs.StatementAt.{stops};
-ghost use Rattle.statements.specs.Faults.{decided, then};
-ghost use Rattle.reading_statements.specs.Admitting.{declaration};
-ghost use Rattle.reading_statements.specs.Asking.{Operator-asked, Names-askable, Names-asked, Head-askable, Head-asked, judged-by, Judged-as};
-ghost use Rattle.reading_statements.specs.declared.Found.the-variants as Found;
-ghost use Rattle.reading_statements.specs.ReadingStatements.{Finishable, Finishes, Instr-readable, Reads-instr, Switch-readable, Reads-switch, Endable, Ending-told, Ending-readable, Reads-ending, Readable, Reads-statement};
-use arguments::Arguments;
+ghost use Rattle.statements.specs.declared.Verdict.the-variants.{Yes};
+ghost use Rattle.declaring.specs.Declaring.{Declarable, Declares-values};
+ghost use Rattle.declaring_switches.specs.Switches.{Declarable-switch, DeclaresSwitch};
+ghost use Rattle.drafts.specs.Marks.{marks-in};
+ghost use Rattle.progress.specs.Advancing.{Advanceable};
+ghost use Rattle.reading_statements.specs.Admitting.{Finds, declaration, Admits};
+ghost use Rattle.reading_statements.specs.Asking.{Operator-asked, Head-askable, Head-asked};
+ghost use Rattle.reading_statements.specs.ReadingStatements.{Finishes, Instr-readable, Reads-instr, Switch-readable, Reads-switch, Endable, Ending-told, Ending-readable, Reads-ending, Readable, Reads-statement};
 use arguments::read_arguments;
 use declaring::Instruction;
 use declaring::declare_instruction;
@@ -61,19 +63,10 @@ pub struct Ending {
     pub after: Fault,
 }
 
-// What a statement says.
+// The instruction of a statement, where all questions before 11 are answered yes.
 enum Found {
     Nothing,
     Instruction(Instruction),
-    Ending(Ending),
-    Switch(Declaration),
-}
-
-// What a statement says, with the number 80, where its questions before 11 are answered yes; otherwise nothing, and the number and place of the first no.
-struct Judged {
-    number: u8,
-    at: usize,
-    found: Found,
 }
 
 // Question 00 of the first statement, whose fault is `zero`, 10 of a later one.
@@ -84,17 +77,6 @@ fn ask_operator(head: Head, first: bool, zero: Fault) -> Verdict
         return decide(0, zero);
     }
     decide(10, operator_fault(head))
-}
-
-// Questions 00 or 10, 08 and 06.
-fn ask_names(text: &[u8], head: Head, zero: Fault, p: Progress, names: &[u32]) -> Verdict
-    requires { ⌜ Names-askable (now text) p head (now names) ⌝ }
-    ensures { λ r. ⌜ Names-asked (now (text .entry)) p head (now (names .entry)) zero r ⌝ }
-{
-    let operator = ask_operator(head, p.section == 0, zero);
-    let labels = decide(8, label_fault(head, names, p.names - p.waiting));
-    let repeated = decide(6, first_repeated(text, names, p.names, head.names));
-    first_of(operator, first_of(labels, repeated))
 }
 
 // Questions 14, 15 and 16, whose number is `worst`, 00 or 10, 08 and 06.
@@ -111,45 +93,70 @@ fn ask_head(
 {
     match checked(worst) {
         Verdict::No(number, at) => Verdict::No(number, at),
-        Verdict::Yes => ask_names(text, head, zero, p, names),
+        Verdict::Yes => {
+            let operator = ask_operator(head, p.section == 0, zero);
+            let labels = decide(8, label_fault(head, names, p.names - p.waiting));
+            let repeated = decide(6, first_repeated(text, names, p.names, head.names));
+            first_of(operator, first_of(labels, repeated))
+        }
     }
 }
 
-fn found_by(v: Verdict, found: Found) -> Judged
-    ensures { λ r. ⌜ r ≡ judged-by v found ⌝ }
+fn found_by(verdict: Verdict, i: Instruction) -> Found
+    ensures { λ r. ⌜ Finds verdict i r ⌝ }
 {
-    match v {
-        Verdict::No(number, at) => Judged {
-            number: number,
-            at: at,
-            found: Found::Nothing,
-        },
-        Verdict::Yes => Judged {
-            number: 80,
-            at: 0,
-            found: found,
-        },
+    match verdict {
+        Verdict::No(_, _) => Found::Nothing,
+        Verdict::Yes => Found::Instruction(i),
     }
 }
 
-// The verdict of all questions before 11, where `asked` is that of the questions of the head.
-fn judge_instruction(asked: Verdict, a: Arguments, i: Instruction) -> Judged
-    ensures { λ r. ⌜ Judged-as asked (then (decided 1 (a .over)) (decided 2 (a .fault))) (Found.Instruction i) r ⌝ }
+// The verdict with question 11, where `asked` is that of those before: an instruction with the labels of `names` from `from` up to `to` comes to the table.
+fn admit_instruction(
+    text: &[u8],
+    asked: Verdict,
+    i: Instruction,
+    names: &[u32],
+    from: usize,
+    to: usize,
+    table: &mut [u32],
+) -> Verdict
+    requires { ⌜ (asked ≡ Yes → Declarable (now text) i (now names) from to (now table)) ⌝ }
+    ensures { λ r. ⌜ Admits (λ f. Declares-values (now (text .entry)) i (marks-in (now (names .entry)) from to) (now (table .entry)) f (now (table .exit))) asked r (now (table .entry)) (now (table .exit)) ⌝ }
 {
-    let over = a.over;
-    let fault = a.fault;
-    let arguments = first_of(decide(1, over), decide(2, fault));
-    found_by(first_of(asked, arguments), Found::Instruction(i))
+    let found = found_by(asked, i);
+    let Found::Instruction(k) = found else {
+        return asked;
+    };
+    decide(11, declare_instruction(text, k, names, from, to, table))
 }
 
-// After question 11: what is known then, or its refusal.
-fn finish(fault: Fault, p: Progress, head: Head, e: Ending, names: &[u32]) -> Read
-    requires { ⌜ Finishable p head (now names) ⌝ }
-    ensures { λ r. ⌜ Finishes fault p head e (now (names .entry)) r ⌝ }
+// The same of a switch.
+fn admit_switch(
+    text: &[u8],
+    asked: Verdict,
+    d: Declaration,
+    table: &mut [u32],
+    switches: &mut [u32],
+    texts: &[u32],
+) -> Verdict
+    requires { ⌜ (asked ≡ Yes → Declarable-switch (now text) d (now table) (now switches) (now texts)) ⌝ }
+    ensures { λ r. ⌜ Admits (λ f. DeclaresSwitch (now (text .entry)) d (now (table .entry)) (now (switches .entry)) f (now (table .exit)) (now (switches .exit))) asked r (now (table .entry)) (now (table .exit)) ⌝ }
 {
-    match fault {
-        Fault::At(place) => Read::Refused(11, place),
-        Fault::Clear => {
+    match asked {
+        Verdict::No(number, at) => Verdict::No(number, at),
+        Verdict::Yes => decide(11, declare_switch(text, d, table, switches, texts)),
+    }
+}
+
+// After all questions: what is known then, or the refusal.
+fn finish(verdict: Verdict, p: Progress, head: Head, e: Ending, names: &[u32]) -> Read
+    requires { ⌜ Advanceable p head (now names) ⌝ }
+    ensures { λ r. ⌜ Finishes p head e (now (names .entry)) verdict r ⌝ }
+{
+    match verdict {
+        Verdict::No(number, at) => Read::Refused(number, at),
+        Verdict::Yes => {
             let after = e.after;
             Read::Statement(progress_after(p, head, e.section, after, names))
         }
@@ -179,32 +186,27 @@ fn read_instruction(
         line: line_at(lines, op.at) as usize,
         values: values,
     };
-    let j = judge_instruction(asked, a, i);
-    let found = j.found;
-    let Found::Instruction(k) = found else {
-        return Answer {
-            read: Read::Refused(j.number, j.at),
-            next: a.next,
-            last: a.last,
-        };
-    };
-    let beyond = declare_instruction(text, k, names, p.names - p.waiting, head.names, table);
+    let over = a.over;
+    let fault = a.fault;
+    let early = first_of(asked, first_of(decide(1, over), decide(2, fault)));
+    let verdict = admit_instruction(
+        text,
+        early,
+        i,
+        names,
+        p.names - p.waiting,
+        head.names,
+        table,
+    );
     let e = Ending {
         section: p.section,
         after: Fault::Clear,
     };
     Answer {
-        read: finish(beyond, p, head, e, names),
+        read: finish(verdict, p, head, e, names),
         next: a.next,
         last: a.last,
     }
-}
-
-// The same of a switch, whose question 02 has the fault `fault`.
-fn judge_switch(asked: Verdict, fault: Fault, d: Declaration) -> Judged
-    ensures { λ r. ⌜ Judged-as asked (decided 2 fault) (Found.Switch d) r ⌝ }
-{
-    found_by(first_of(asked, decide(2, fault)), Found::Switch(d))
 }
 
 // The switch with the operator `op`, the mark of its name and its list.
@@ -244,22 +246,14 @@ fn read_switch(
     let fault = l.fault;
     let asked = ask_head(text, l.worst, head, Fault::At(head.first), p, names);
     let d = switch_of(op, named, names[p.names - p.waiting], l);
-    let j = judge_switch(asked, fault, d);
-    let found = j.found;
-    let Found::Switch(k) = found else {
-        return Answer {
-            read: Read::Refused(j.number, j.at),
-            next: l.next,
-            last: l.last,
-        };
-    };
-    let beyond = declare_switch(text, k, table, switches, &texts);
+    let early = first_of(asked, decide(2, fault));
+    let verdict = admit_switch(text, early, d, table, switches, &texts);
     let e = Ending {
         section: p.section,
         after: Fault::Clear,
     };
     Answer {
-        read: finish(beyond, p, head, e, names),
+        read: finish(verdict, p, head, e, names),
         next: l.next,
         last: l.last,
     }
@@ -292,17 +286,9 @@ fn read_ending(text: &[u8], head: Head, p: Progress, names: &[u32]) -> Answer
     let rest = read_rest(text, op, head.worst);
     let zero = section_fault(text, head, rest);
     let asked = ask_head(text, rest.worst, head, zero, p, names);
-    let j = found_by(asked, Found::Ending(ending_of(text, head, rest, p.section)));
-    let found = j.found;
-    let Found::Ending(e) = found else {
-        return Answer {
-            read: Read::Refused(j.number, j.at),
-            next: rest.next,
-            last: rest.last,
-        };
-    };
+    let e = ending_of(text, head, rest, p.section);
     Answer {
-        read: finish(Fault::Clear, p, head, e, names),
+        read: finish(asked, p, head, e, names),
         next: rest.next,
         last: rest.last,
     }

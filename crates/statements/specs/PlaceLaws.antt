@@ -1,5 +1,5 @@
 -- The places of a statement's items ascend: no item, and no colon of one, stands before the place where the reader began.
-use mathlib.Core.Path.{_≡_, refl, ap, _∙_, subst}
+use mathlib.Core.Path.{_≡_, refl}
 use mathlib.Core.Bool.{Bool, true, false, cond, _&&_}
 use mathlib.Core.List.{List, [], _∷_, _++_}
 use Prim.Native.Nat.{ℕ, _+_, _≤_}
@@ -15,9 +15,8 @@ use Rattle.syntax.specs.Items.Mode.{outside, in-word, in-comment, in-text}
 use Rattle.syntax.specs.Verdict.{lowest}
 use Rattle.lexer.specs.MovedLaws.{itself-case, begins-case}
 use Rattle.lexer.specs.Tokens.{items-from}
-use Rattle.statements.specs.declared.Fault.the-variants.{At}
 use Rattle.statements.specs.LowestLaws.{none-before, lowest-first}
-use Rattle.statements.specs.StatementAt.{statement-at, fault-of}
+use Rattle.statements.specs.StatementAt.{statement-at}
 
 abbrev pub stands-from : ℕ → Item → Bool
 stands-from p i = leb p (i .at) && all (leb p) (i .colon)
@@ -136,89 +135,3 @@ places-from p (j ∷ js) h =
 -- so the first at fault is the lowest
 pub lowest-places : (p : ℕ) (js : List Item) → T (all-from p js) → lowest p (places js) ≡ p
 lowest-places p js h = lowest-first p (places js) (places-from p js h)
-
--- ---- the first item is the lowest
-
--- what the reader has begun, it began at n or before
-abbrev begun : ℕ → Mode → Type 0
-begun n outside = Unit {0}
-begun n (in-word at w) = at ≤ n
-begun n (in-comment at k) = at ≤ n
-begun n (in-text at star cs good) = at ≤ n
-
-begins-begun : (k : Sort) (n b next : ℕ) → begun (n + 1) (begins k n b next)
-begins-begun k n b next = let h : n ≤ n + 1 = omega arith in begins-case (λ f. begun (n + 1) (f n)) tt (λ b. h) h h k b next
-
--- the first of some items that the reader gives at n is what it has begun, or stands at n
-abbrev Leads : ℕ → Mode → List Item → Type 0
-Leads n m [] = Unit {0}
-Leads n m (i ∷ js) = (i .at ≤ n) × began (i .at) m
-
-itself-leads : (k : Sort) (n b next : ℕ) → Leads n outside (itself k n b next)
-itself-leads k n b next = let h : n ≤ n = omega arith in itself-case (λ f. Leads n outside (f n)) tt (λ k. (h, tt)) k b next
-
-step-leads : (m : Mode) (n b next : ℕ) → begun n m → Leads n m (items-at m n b next) × begun (n + 1) (mode-after m n b next)
-unfolding items-at mode-after
-step-leads outside n b next h = (itself-leads (sort-of b) n b next, begins-begun (sort-of b) n b next)
-step-leads (in-word at w) n b next h = go (same-sort word (sort-of b)) refl
-  where
-    go : (t : Bool) → same-sort word (sort-of b) ≡ t → Leads n (in-word at w) (items-at (in-word at w) n b next) × begun (n + 1) (mode-after (in-word at w) n b next)
-    go true e = rw e (tt, omega arith)
-    go false e = rw e ((h, omega arith), begins-begun (sort-of b) n b next)
-step-leads (in-comment at first-star) n b next h = (tt, omega arith)
-step-leads (in-comment at inside) n b next h = (tt, omega arith)
-step-leads (in-comment at last-slash) n b next h = (tt, tt)
-step-leads (in-text at star cs good) n b next h = go (ends-text star b) refl
-  where
-    go : (t : Bool) → ends-text star b ≡ t
-        → Leads n (in-text at star cs good) (items-at (in-text at star cs good) n b next) × begun (n + 1) (mode-after (in-text at star cs good) n b next)
-    go true e = rw e ((h, omega arith), tt)
-    go false e = rw e (tt, omega arith)
-
-abbrev Lowest : List Item → Type 0
-Lowest [] = Unit {0}
-Lowest (i ∷ js) = T (all-from (i .at) js)
-
-read-lowest : (m : Mode) (n : ℕ) (r : List ℕ) → begun n m → Lowest (read m n r)
-unfolding read left-over
-read-lowest outside n [] h = tt
-read-lowest (in-word at w) n [] h = tt
-read-lowest (in-comment at k) n [] h = tt
-read-lowest (in-text at star cs good) n [] h = tt
-read-lowest m n (b ∷ r) h =
-    let q = step-leads m n b (getD r 0 0) h in
-    go (items-at m n b (getD r 0 0)) refl (q .0) (read-lowest (mode-after m n b (getD r 0 0)) (n + 1) r (q .1))
-  where
-    later : List Item
-    later = read (mode-after m n b (getD r 0 0)) (n + 1) r
-
-    go : (xs : List Item) → items-at m n b (getD r 0 0) ≡ xs → Leads n m xs → Lowest later → Lowest (xs ++ later)
-    go [] e l k = k
-    go (i ∷ js) e l k =
-        let f = step-from m (i .at) n b (getD r 0 0) (l .0) (l .1) in
-        all-joined (i .at) js later (all-tail (stands-from (i .at)) i js (subst (λ xs. T (all-from (i .at) xs)) e (f .0)))
-        (read-from (mode-after m n b (getD r 0 0)) (i .at) (n + 1) r (omega (arith, l .0)) (f .1))
-
-named-lowest : (js : List Item) → Lowest js → Lowest (named js)
-unfolding named attach
-named-lowest [] h = tt
-named-lowest (i ∷ js) h = go (is word i && ifAny false (is colon) (named js))
-  where
-    go : (t : Bool) → Lowest (cond t (record { at = i .at; sort = word; chars = i .chars; good = i .good; colon = places (take 1 (named js)) } ∷ drop 1 (named js)) (i ∷ named js))
-    go true = all-drop (i .at) (named js) (named-from (i .at) js h)
-    go false = named-from (i .at) js h
-
-first-lowest : (js : List Item) → Lowest js → Lowest (headOr [] (statements js))
-unfolding statements parted
-first-lowest [] h = tt
-first-lowest (i ∷ js) h = go (is end i)
-  where
-    go : (t : Bool) → Lowest (headOr [] (cond t ([] ∷ statements js) ((i ∷ headOr [] (statements js)) ∷ drop 1 (statements js))))
-    go true = tt
-    go false = first-from (i .at) js h
-
-pub statement-first : (s : List ℕ) (n : ℕ) (i : Item) (js : List Item) → statement-at s n ≡ i ∷ js → fault-of (places (statement-at s n)) ≡ At (i .at)
-unfolding statement-at
-statement-first s n i js e =
-    ap (λ xs. fault-of (places xs)) e
-    ∙ ap At (lowest-places (i .at) js (subst Lowest e (first-lowest (items-from s n) (named-lowest _ (read-lowest outside n (drop n s) tt)))))

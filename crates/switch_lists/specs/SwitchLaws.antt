@@ -21,7 +21,7 @@ use Rattle.syntax.specs.Statements as Spec
 use Rattle.words.specs.Keywords.{told}
 use Rattle.switch_lists.specs.Switches.{switch-after, argument-question}
 
-choice : (k : Spec.Keyword) → is-switch (told k) ≡ true → k ≡ Spec.Keyword.switch (is-by-name (told k))
+pub choice : (k : Spec.Keyword) → is-switch (told k) ≡ true → k ≡ Spec.Keyword.switch (is-by-name (told k))
 choice Spec.Keyword.none e = absurd (true≢false (sym e))
 choice Spec.Keyword.unknown e = absurd (true≢false (sym e))
 choice Spec.Keyword.SEKCJA e = absurd (true≢false (sym e))
@@ -30,7 +30,7 @@ choice Spec.Keyword.KONP e = absurd (true≢false (sym e))
 choice (Spec.Keyword.switch byName) e = refl
 choice (Spec.Keyword.instr op) e = absurd (true≢false (sym e))
 
-other : {X : Type 0} (f : Op → X) (g : Bool → X) (z : X) (k : Spec.Keyword) → instr-of (told k) ≡ 0 → is-switch (told k) ≡ false → by-keyword f g z k ≡ z
+pub other : {X : Type 0} (f : Op → X) (g : Bool → X) (z : X) (k : Spec.Keyword) → instr-of (told k) ≡ 0 → is-switch (told k) ≡ false → by-keyword f g z k ≡ z
 unfolding by-keyword
 other f g z Spec.Keyword.none e h = refl
 other f g z Spec.Keyword.unknown e h = refl

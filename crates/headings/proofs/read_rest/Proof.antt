@@ -36,7 +36,7 @@ worse-requires c κs =
     omega (arith, k .own, k .behind, k .most, c .before .before .before .before .before .before .pre .low)
 
 read-tail-requires : tie.Need-read-tail-requires
-read-tail-requires c κs = record { low = c .before .before .before .before .before .before .before .pre .low; inside = c .before .before .before .next-item .ensures .stands .most; coded = omega (arith, c .worse .ensures, c .before .before .before .before .before .before .before .pre .coded) }
+read-tail-requires c κs = record { low = c .before .before .before .before .before .before .before .pre .low; stands = c .before .before .before .next-item .ensures .stands; coded = omega (arith, c .worse .ensures, c .before .before .before .before .before .before .before .pre .coded) }
 
 returns-3 : tie.Need-returns-3
 returns-3 c = rests-some (c .before .before .before .before .before .before .before .before .pre) (sym (c .before .before .before .before .before .before .stops .ensures) ∙ c .before .before .before .before .before .if1 .left) (c .before .before .before .before .next-item .ensures) (sym (c .before .before .before .stops2 .ensures) ∙ c .before .before .if2 .left) (c .before .worse .ensures) (c .read-tail .ensures)

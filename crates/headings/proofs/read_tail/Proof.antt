@@ -10,10 +10,10 @@ use Rattle.headings.proofs.read_tail.Statement.{statement}
 use Rattle.headings.proofs.read_tail.Tie as tie
 
 abbrev Inv-loop : tie.InvT-loop
-Inv-loop text n worst more₀ w₀ i₀ more w i = Reading text n worst more w i
+Inv-loop text first worst more₀ w₀ i₀ more w i = Reading text first worst more w i
 
 abbrev μ-loop : tie.MeasureT-loop
-μ-loop text n worst more₀ w₀ i₀ more w i = length text - i
+μ-loop text first worst more₀ w₀ i₀ more w i = length text - i
 
 loop-holds : tie.Need-loop-holds Inv-loop μ-loop
 loop-holds c = reads-first (c .before .pre)

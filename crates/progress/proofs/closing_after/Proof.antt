@@ -31,8 +31,8 @@ lower-requires-2 c κs = search needs
 
 returns-2 : tie.Need-returns-2
 returns-2 c =
-    λ s n section g f. closes g section (sym (c .before .before .before .before .before .before .before .before .before .before .stops .ensures) ∙ c .before .before .before .before .before .before .before .before .before .if1 .left) (c .before .before .before .before .is-kons .ensures) (c .before .before .before .before .before .before .before .before .is-konp .ensures) (c .before .before .before .before .before .before .fault-if .ensures) (c .before .lower .ensures)
-    (c .before .before .before .before .before .closing-fault .ensures s n section g f) (c .lower2 .ensures)
+    λ s n section g f. closes g section (sym (c .before .before .before .before .before .before .before .before .before .before .stops .ensures) ∙ c .before .before .before .before .before .before .before .before .before .if1 .left) f (c .before .before .before .before .is-kons .ensures) (c .before .before .before .before .before .before .before .before .is-konp .ensures) (c .before .before .before .before .before .before .fault-if .ensures) (c .before .lower .ensures)
+    (c .before .before .before .before .before .closing-fault .ensures) (c .lower2 .ensures)
 
 pub closing-after-spec : {M : Type 1} → statement M
 closing-after-spec = tie.close (tie.spec stops-requires returns is-konp-requires fault-if-requires closing-fault-requires is-kons-requires lower-requires lower-requires-2 returns-2)

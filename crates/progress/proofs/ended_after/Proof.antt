@@ -1,7 +1,8 @@
 -- `progress::ended_after` meets its contract.
 use borrow.Author.Needs.{needs}
 use mathlib.Core.Path.{sym, _∙_}
-use Rattle.progress.specs.AdvancingLaws.{ended-before, ended-clear, ended-at}
+use mathlib.Core.Bool.{true, false}
+use Rattle.progress.specs.AdvancingLaws.{ended-before, ended-then}
 use Rattle.progress.proofs.ended_after.Statement.{statement}
 use Rattle.progress.proofs.ended_after.Tie as tie
 
@@ -15,10 +16,10 @@ is-end-requires : tie.Need-is-end-requires
 is-end-requires c κs = search needs
 
 returns-2 : tie.Need-returns-2
-returns-2 c = λ s n g. ended-clear g (c .before .before .before .instr-of .ensures) (c .before .before .if1 .left) _ (sym (c .before .is-end .ensures) ∙ c .if2 .taken)
+returns-2 c = λ s n g. ended-then g (c .before .before .before .instr-of .ensures) (c .before .before .if1 .left) _ true (sym (c .before .is-end .ensures) ∙ c .if2 .taken)
 
 returns-3 : tie.Need-returns-3
-returns-3 c = λ s n g. ended-at g (c .before .before .before .before .instr-of .ensures) (c .before .before .before .if1 .left) _ (sym (c .before .before .is-end .ensures) ∙ c .before .if2 .left)
+returns-3 c = λ s n g. ended-then g (c .before .before .before .before .instr-of .ensures) (c .before .before .before .if1 .left) _ false (sym (c .before .before .is-end .ensures) ∙ c .before .if2 .left)
 
 pub ended-after-spec : {M : Type 1} → statement M
 ended-after-spec = tie.close (tie.spec instr-of-requires returns is-end-requires returns-2 returns-3)

@@ -2,10 +2,10 @@
 use borrow.Author.Needs.{needs}
 use mathlib.Core.Path.{sym, ap, _∙_}
 use Rattle.acceptance.specs.RowLaws.{answered}
-use Rattle.statements.specs.Faults.{verdict-of}
-use Rattle.statements.specs.Groups.{item-questions}
+use Rattle.statements.specs.Faults.{decided, then, verdict-of}
 use Rattle.statements.specs.StatementAt.{statement-at}
-use Rattle.reading_statements.specs.QuestionLaws.{items-told, opened-no, opened-yes}
+use Rattle.reading_statements.specs.GatheringLaws as gathering
+use Rattle.reading_statements.specs.QuestionLaws.{items-told, names-told, opening-told}
 use Rattle.reading_statements.proofs.ask_head.Statement.{statement}
 use Rattle.reading_statements.proofs.ask_head.Tie as tie
 
@@ -18,32 +18,45 @@ enum-known-number c = search needs
 enum-told : tie.Need-enum-told
 enum-told c = search needs
 
-ask-names-requires : tie.Need-ask-names-requires
-ask-names-requires c κs =
-    let p = c .before .before .before .before .before .pre in
-    let s = c .before .before .before .before .before .args .text .now in
-    record {
-      place = p .place;
-      draft = p .draft;
-      judging = p .judging;
-      plain = answered (item-questions (statement-at s (p .place))) (items-told (p .judging) (p .worst-is) ∙ sym (c .before .before .checked .ensures) ∙ ap verdict-of (c .enum-told .given .1));
-    }
+ask-operator-requires : tie.Need-ask-operator-requires
+ask-operator-requires c κs = search needs
+
+sub-label-fault : tie.Need-sub-label-fault
+sub-label-fault c = c .before .before .before .before .before .before .before .before .pre .judging .tells .waiting .few
+
+label-fault-requires : tie.Need-label-fault-requires
+label-fault-requires c κs = let p = (c .before .before .before .before .before .before .before .before .pre) in gathering.labelled (p .judging) (answered _ (items-told (p .judging) (p .worst-is) ∙ (sym (c .before .before .before .before .before .checked .ensures) ∙ ap verdict-of (c .before .before .before .enum-told .given .1))))
+
+decide-requires : tie.Need-decide-requires
+decide-requires c κs = search needs
+
+first-repeated-requires : tie.Need-first-repeated-requires
+first-repeated-requires c κs = let p = (c .before .before .before .before .before .before .before .before .before .before .pre) in gathering.repeatable (p .judging) (answered _ (items-told (p .judging) (p .worst-is) ∙ (sym (c .before .before .before .before .before .before .before .checked .ensures) ∙ ap verdict-of (c .before .before .before .before .before .enum-told .given .1))))
+
+decide-requires-2 : tie.Need-decide-requires-2
+decide-requires-2 c κs = search needs
+
+first-of-requires : tie.Need-first-of-requires
+first-of-requires c κs = search needs
+
+first-of-requires-2 : tie.Need-first-of-requires-2
+first-of-requires-2 c κs = search needs
 
 returns : tie.Need-returns
-returns c =
-    let s = c .before .before .before .before .before .before .args .text .now in
-    let v = c .before .before .before .checked .ensures in
-    λ n d j e z. opened-no d (statement-at s n) (items-told j e ∙ sym v ∙ ap verdict-of (c .before .number .given .1))
+returns c = λ n d j e z. sym (opening-told d (statement-at (c .before .before .before .before .before .before .args .text .now) n) (items-told j e ∙ sym (c .before .before .before .checked .ensures) ∙ ap verdict-of (c .before .number .given .1)))
 
 returns-2 : tie.Need-returns-2
 returns-2 c =
-    let s = c .before .before .before .before .before .before .args .text .now in
-    let v = c .before .before .before .checked .ensures in
     λ n d j e z.
-    let q = items-told j e ∙ sym v ∙ ap verdict-of (c .before .enum-told .given .1) in
-    c .ask-names .ensures n d j (answered (item-questions (statement-at s n)) q) z ∙ opened-yes d (statement-at s n) q
+    let x = statement-at (c .before .before .before .before .before .before .before .before .before .before .before .before .before .before .args .text .now) n in
+    let q = items-told j e ∙ (sym (c .before .before .before .before .before .before .before .before .before .before .before .checked .ensures) ∙ ap verdict-of (c .before .before .before .before .before .before .before .before .before .enum-told .given .1)) in
+    let plain = answered _ q in
+    let first = j .tells .section .first-is in
+    names-told d x first (c .before .before .before .before .before .before .before .ask-operator .ensures _ n (j .headed) (λ e. z (first ∙ e)))
+    (c .before .before .before .before .decide .ensures ∙ ap (decided 8) (gathering.labels-told j plain (c .before .before .before .before .before .label-fault .ensures)))
+    (c .before .before .decide2 .ensures ∙ ap (decided 6) (gathering.names-told j plain (c .before .before .before .first-repeated .ensures)))
+    (c .first-of2 .ensures ∙ ap (then (verdict-of (c .before .before .before .before .before .before .before .ask-operator .result))) (c .before .first-of .ensures))
+    ∙ sym (opening-told d x q)
 
 pub ask-head-spec : {M : Type 1} → statement M
-ask-head-spec =
-    tie.close
-    (tie.spec checked-requires enum-known-number enum-told ask-names-requires returns returns-2)
+ask-head-spec = tie.close (tie.spec checked-requires enum-known-number enum-told ask-operator-requires sub-label-fault label-fault-requires decide-requires first-repeated-requires decide-requires-2 first-of-requires first-of-requires-2 returns returns-2)

@@ -1,7 +1,7 @@
 -- `reading_statements::read_statement` meets its contract.
 use borrow.Author.Needs.{needs}
 use mathlib.Core.Path.{sym, _∙_}
-use Rattle.reading_statements.specs.StandingLaws.{head-here, reading-here, reads-here, reads-empty}
+use Rattle.reading_statements.specs.StandingLaws.{reading-here, reads-here, reads-empty}
 use Rattle.reading_statements.proofs.read_statement.Statement.{statement}
 use Rattle.reading_statements.proofs.read_statement.Tie as tie
 
@@ -29,17 +29,15 @@ same-length c = search needs
 returns : tie.Need-returns
 returns c =
     let p = c .before .before .before .before .before .before .before .before .before .before .before .before .before .before .before .before .pre in
-    let q = head-here (p .standing .inside) (c .before .before .before .before .before .before .before .read-head .ensures) in
-    reads-empty (q .0) (q .1) (sym (c .before .before .is-empty .ensures) ∙ c .before .if1 .taken)
+    reads-empty (p .standing) (c .before .before .before .before .before .before .before .read-head .ensures) (sym (c .before .before .is-empty .ensures) ∙ c .before .if1 .taken)
 
 read-instruction-requires : tie.Need-read-instruction-requires
 read-instruction-requires c κs =
     let p = c .before .before .before .before .before .before .before .before .before .before .before .before .before .before .before .before .before .before .pre in
-    let q = head-here (p .standing .inside) (c .before .before .before .before .before .before .before .before .before .read-head .ensures) in
     record {
       switches = _;
       entries = _;
-      met = record { place = _; draft = p .draft; reading = reading-here (q .0) (q .1) (p .standing) };
+      met = record { place = _; draft = p .draft; reading = reading-here (p .standing) (c .before .before .before .before .before .before .before .before .before .read-head .ensures) };
       number-is = c .before .before .before .before .before .instr-of .ensures;
       some = c .before .before .if2 .taken;
     }
@@ -53,8 +51,7 @@ same-length-3 c = search needs
 returns-2 : tie.Need-returns-2
 returns-2 c =
     let p = c .before .before .before .before .before .before .before .before .before .before .before .before .before .before .before .before .before .before .before .before .before .pre in
-    let q = head-here (p .standing .inside) (c .before .before .before .before .before .before .before .before .before .before .before .before .read-head .ensures) in
-    reads-here (q .0) (q .1) (c .before .before .read-instruction .ensures _ _)
+    reads-here (p .standing) (c .before .before .before .before .before .before .before .before .before .before .before .before .read-head .ensures) (c .before .before .read-instruction .ensures _ _)
 
 is-switch-requires : tie.Need-is-switch-requires
 is-switch-requires c κs = search needs
@@ -62,10 +59,9 @@ is-switch-requires c κs = search needs
 read-switch-requires : tie.Need-read-switch-requires
 read-switch-requires c κs =
     let p = c .before .before .before .before .before .before .before .before .before .before .before .before .before .before .before .before .before .before .before .before .before .before .pre in
-    let q = head-here (p .standing .inside) (c .before .before .before .before .before .before .before .before .before .before .before .before .before .read-head .ensures) in
     record {
       lines = _;
-      met = record { place = _; draft = p .draft; reading = reading-here (q .0) (q .1) (p .standing) };
+      met = record { place = _; draft = p .draft; reading = reading-here (p .standing) (c .before .before .before .before .before .before .before .before .before .before .before .before .before .read-head .ensures) };
       some = sym (c .before .before .before .before .before .is-switch .ensures) ∙ c .before .before .before .before .if3 .taken;
     }
 
@@ -84,19 +80,17 @@ same-length-7 c = search needs
 returns-3 : tie.Need-returns-3
 returns-3 c =
     let p = c .before .before .before .before .before .before .before .before .before .before .before .before .before .before .before .before .before .before .before .before .before .before .before .before .before .before .before .before .before .pre in
-    let q = head-here (p .standing .inside) (c .before .before .before .before .before .before .before .before .before .before .before .before .before .before .before .before .before .before .before .before .read-head .ensures) in
-    reads-here (q .0) (q .1) (c .before .before .before .before .before .before .read-switch .ensures _)
+    reads-here (p .standing) (c .before .before .before .before .before .before .before .before .before .before .before .before .before .before .before .before .before .before .before .before .read-head .ensures) (c .before .before .before .before .before .before .read-switch .ensures _)
 
 read-ending-requires : tie.Need-read-ending-requires
 read-ending-requires c κs =
     let p = c .before .before .before .before .before .before .before .before .before .before .before .before .before .before .before .before .before .before .before .pre in
-    let q = head-here (p .standing .inside) (c .before .before .before .before .before .before .before .before .before .before .read-head .ensures) in
     record {
       lines = _;
       table = _;
       switches = _;
       entries = _;
-      met = record { place = _; draft = p .draft; reading = reading-here (q .0) (q .1) (p .standing) };
+      met = record { place = _; draft = p .draft; reading = reading-here (p .standing) (c .before .before .before .before .before .before .before .before .before .before .read-head .ensures) };
       no-number = sym (c .before .before .before .before .before .before .instr-of .ensures) ∙ c .before .before .before .if2 .left;
       no-switch = sym (c .before .before .is-switch .ensures) ∙ c .before .if3 .left;
     }
@@ -107,8 +101,7 @@ same-length-8 c = search needs
 returns-4 : tie.Need-returns-4
 returns-4 c =
     let p = c .before .before .before .before .before .before .before .before .before .before .before .before .before .before .before .before .before .before .before .before .pre in
-    let q = head-here (p .standing .inside) (c .before .before .before .before .before .before .before .before .before .before .before .read-head .ensures) in
-    reads-here (q .0) (q .1) (c .read-ending .ensures _ _ _ _)
+    reads-here (p .standing) (c .before .before .before .before .before .before .before .before .before .before .before .read-head .ensures) (c .read-ending .ensures _ _ _ _)
 
 pub read-statement-spec : {M : Type 1} → statement M
 read-statement-spec =
