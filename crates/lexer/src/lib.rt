@@ -74,7 +74,7 @@ fn text_at(text: &[u8], at: usize) -> Token
 }
 
 // The item that stands at place `n` or behind separators and comments there.
-fn item_at(text: &[u8], n: usize) -> Token
+pub fn item_at(text: &[u8], n: usize) -> Token
     requires { ⌜ n ≤ length (now text) ⌝ }
     ensures { λ r. ⌜ Token-at (now (text .entry)) n r ⌝ }
 {

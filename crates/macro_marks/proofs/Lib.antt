@@ -1,0 +1,9 @@
+pub mod Passing
+pub mod Seeking
+pub mod Leading
+pub mod Behind
+pub mod Joining
+pub mod Comparing
+pub mod Parting
+pub mod Marking
+pub mod Reaching
