@@ -1,0 +1,4 @@
+pub mod Bytes
+pub mod Marking
+pub mod Linking
+pub mod Tests

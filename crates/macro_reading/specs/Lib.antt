@@ -1,0 +1,5 @@
+pub mod Bodies
+pub mod Headers
+pub mod Definitions
+pub mod Sections
+pub mod Whole
