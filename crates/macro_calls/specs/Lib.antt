@@ -1,0 +1,4 @@
+pub mod Calls
+pub mod TableLaws
+pub mod FaultLaws
+pub mod KeptLaws

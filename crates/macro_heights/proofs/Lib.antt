@@ -1,0 +1,4 @@
+pub mod Rising
+pub mod Aiming
+pub mod Measuring
+pub mod Passes
