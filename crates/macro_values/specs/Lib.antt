@@ -1,0 +1,4 @@
+pub mod Wrote
+pub mod WritingLaws
+pub mod Values
+pub mod ValueLaws
