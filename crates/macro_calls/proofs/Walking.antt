@@ -11,7 +11,8 @@ use Rattle.macros.specs.Macros.{Macro}
 use Rattle.macros.specs.Pieces.{Piece}
 use Rattle.macros.specs.Prepared.{piece-faults}
 use Rattle.macro_code.specs.Code.{change-in, size-at, changes-in, behind-changes, first-change, change-count, body-in, macro-in, macros-in}
-use Rattle.macro_calls.specs.Calls.{near, far, change-faults, typed-in, Told, none-of, both-of}
+use Rattle.macro_code.specs.Bounds.{near, far}
+use Rattle.macro_calls.specs.Calls.{change-faults, typed-in, Told, none-of, both-of}
 use Rattle.macro_calls.specs.FaultLaws.{changes-next, behind-next, behind-most, body-faults, told-none, told-both}
 use Rattle.macro_calls.specs.TableLaws.{each-append, tab-next}
 use Rattle.macro_calls.specs.declared.Faults.{Faults}

@@ -11,6 +11,7 @@ use Rattle.macros.specs.Expansion.{called-by, argument-faults, places-of}
 use Rattle.macros.specs.Macros.{Macro}
 use Rattle.macros.specs.Pieces.{Change}
 use Rattle.macros.specs.Prepared.{piece-faults}
+use Rattle.macro_code.specs.Bounds.{far}
 use Rattle.macro_code.specs.Code.{high, is-call, call-in, body-in, macro-in, macros-in}
 use Rattle.macro_code.specs.Known.{Only, Singles}
 use Rattle.macro_code.specs.Places.{kind-cell, name-cell, typed-kind}
@@ -20,17 +21,6 @@ use Rattle.statements.specs.declared.Fault.{Fault}
 use Rattle.statements.specs.declared.Fault.the-variants.{Clear}
 use Rattle.macro_calls.specs.declared.Faults.{Faults}
 use Rattle.macro_calls.specs.declared.Named.{Named}
-
--- above every cell of a macro, and above every cell of a call, so that sums of cells fit
-abbrev pub near : ℕ
-near = 4294967296
-
-abbrev pub far : ℕ
-far = 1099511627776
-
--- the most cells of a change
-abbrev pub widest : ℕ
-widest = 131074
 
 -- the macros of a name, from a number on
 abbrev pub named-from : List ℕ → List ℕ → List ℕ → ℕ → List ℕ → ℕ → List Macro

@@ -10,9 +10,10 @@ use lib.Dec.{eqb, ltb}
 use lib.ListN.{length, take, drop}
 use Rattle.layout.specs.Cells.{tab}
 use Rattle.layout.specs.CellLaws.{length-tab}
-use Rattle.lists.specs.Lists.{each, keep}
+use Rattle.lists.specs.Lists.{each}
 use Rattle.macros.specs.Expansion as met
 use Rattle.macros.specs.Expansion.{fault, called-by, faults-of, argument-faults, places-of}
+use Rattle.macros.specs.FaultLaws.{places-both}
 use Rattle.macros.specs.Macros.{Macro}
 use Rattle.macros.specs.Pieces.{Call, Change, pieces-from}
 use Rattle.macros.specs.Pieces.Given.{typed, parameter, joined}
@@ -26,7 +27,8 @@ use Rattle.statements.specs.StatementAt.{fault-of}
 use Rattle.statements.specs.declared.Fault.{Fault}
 use Rattle.statements.specs.declared.Fault.the-variants.{Clear, At}
 use Rattle.syntax.specs.Verdict.{lowest}
-use Rattle.macro_calls.specs.Calls.{widest, is-typed-call, change-faults, Told, none-of, both-of}
+use Rattle.macro_code.specs.Bounds.{widest}
+use Rattle.macro_calls.specs.Calls.{is-typed-call, change-faults, Told, none-of, both-of}
 use Rattle.macro_calls.specs.TableLaws.{each-append, drop-next, drop-end}
 use Rattle.macro_calls.specs.declared.Faults.{Faults}
 
@@ -126,16 +128,6 @@ module _ (ms : List Macro) (s c : List ℕ) (i : ℕ) where
       go false x true y true z f = append-nil (typed-faults ms (call-in s c i) (given-in s c (i + name-cell))) ∙ ap (typed-faults ms (call-in s c i)) (typed-given s c (i + name-cell) z)
 
 -- questions 64 and 65 of two rows of faults
-places-both : (number : ℕ) (fs gs : List met.Fault) → places-of number (fs ++ gs) ≡ places-of number fs ++ places-of number gs
-places-both number [] gs = refl
-places-both number (f ∷ fs) gs = go (eqb number (f .number)) (places-both number fs gs)
-  where
-    go : (b : Bool) → places-of number (fs ++ gs) ≡ places-of number fs ++ places-of number gs
-        → map (λ f. f .at) (cond b (f ∷ keep (λ f. eqb number (f .number)) (fs ++ gs)) (keep (λ f. eqb number (f .number)) (fs ++ gs)))
-        ≡ map (λ f. f .at) (cond b (f ∷ keep (λ f. eqb number (f .number)) fs) (keep (λ f. eqb number (f .number)) fs)) ++ places-of number gs
-    go true e = ap (λ ps. f .at ∷ ps) e
-    go false e = e
-
 pub told-none : Told [] none-of
 told-none = record { unknown-is = refl; uneven-is = refl }
 

@@ -10,7 +10,7 @@ use lib.ListN.{length, take, drop, length-take, length-drop}
 use borrow.Author.Tests.{ne-eqb}
 use Rattle.layout.specs.Cells.{tab}
 use Rattle.lexer.specs.Tokens.{part}
-use Rattle.lists.specs.Lists.{ahead, filled, headOr, ifAny}
+use Rattle.lists.specs.Lists.{filled, headOr, ifAny}
 use Rattle.statements.specs.declared.Fault.{Fault}
 use Rattle.statements.specs.declared.Fault.the-variants.{Clear, At}
 use Rattle.statements.specs.Faults.{lower}
@@ -24,7 +24,7 @@ use Rattle.macros.specs.PlainLaws.{equal}
 use Rattle.macros.specs.Pieces.{Given, Change, given-of, is-parameter, number-of, name-faults, call-of, joins-well, call-faults, word-changes, call-stop, call-changes, section-changes, form-faults}
 use Rattle.macros.specs.Pieces.Given.{typed, parameter, joined}
 use Rattle.macros.specs.Pieces.Piece.{value, called}
-use Rattle.macros.specs.StepLaws.{at-plain, at-star, changes-plain, changes-star, form-plain, form-star}
+use Rattle.macros.specs.StepLaws.{at-plain, at-star, call-first, changes-plain, changes-star, form-plain, form-star}
 use Rattle.macro_code.specs.Code.{high, given-in, paired, changes-in, change-in, size-at, behind-changes}
 use Rattle.macro_elements.specs.ElementAt.{elements-from, value-of, Next-element}
 use Rattle.macro_elements.specs.declared.Element.{Element}
@@ -34,7 +34,7 @@ use Rattle.macro_changes.specs.declared.Ending.{Ending}
 use Rattle.macro_changes.specs.declared.Scope.{Scope}
 use Rattle.macro_changes.specs.declared.Step.{Step}
 use Rattle.macro_changes.proofs.Cells.{kept-none, kept-on, kept-below, parameters-same, changes-same, changes-more, behind-more}
-use Rattle.macro_changes.proofs.Searching.{until-on, until-off, from-on, from-off}
+use Rattle.macro_changes.proofs.Searching.{from-on, from-off}
 use Rattle.macro_changes.proofs.Giving.{neither, eqb-no, lower-assoc, keep-first, inside-on, behind-on}
 use Rattle.macro_changes.proofs.Calling.{call-faults-are}
 use Rattle.macro_changes.proofs.Called.{cells, cells-kept, value-is, value-size, call-change}
@@ -107,35 +107,6 @@ module _ {s m c : List ℕ} {x : Scope} {n u : ℕ} (q : Reading s m c x n u) wh
         }
 
 -- The section: a call's stretch tells as much of it as all that follows
-until-first : (p : spec.Element → Bool) (ts : List spec.Element) → until p (until p ts ++ take 1 (from p ts)) ≡ until p ts
-until-first p [] = refl
-until-first p (t ∷ ts) = go (p t) refl (until-first p ts)
-  where
-    go : (b : Bool) → p t ≡ b → until p (until p ts ++ take 1 (from p ts)) ≡ until p ts
-        → until p (take (elim b [ true ↦ 0 | false ↦ suc (ahead p ts) ]) (t ∷ ts) ++ take 1 (drop (elim b [ true ↦ 0 | false ↦ suc (ahead p ts) ]) (t ∷ ts)))
-        ≡ take (elim b [ true ↦ 0 | false ↦ suc (ahead p ts) ]) (t ∷ ts)
-    go true e h = until-off p t [] e
-    go false e h = until-on p t (until p ts ++ take 1 (from p ts)) e ∙ ap (λ (us : List spec.Element). t ∷ us) h
-
-from-first : (p : spec.Element → Bool) (ts : List spec.Element) → from p (until p ts ++ take 1 (from p ts)) ≡ take 1 (from p ts)
-from-first p [] = refl
-from-first p (t ∷ ts) = go (p t) refl (from-first p ts)
-  where
-    go : (b : Bool) → p t ≡ b → from p (until p ts ++ take 1 (from p ts)) ≡ take 1 (from p ts)
-        → from p (take (elim b [ true ↦ 0 | false ↦ suc (ahead p ts) ]) (t ∷ ts) ++ take 1 (drop (elim b [ true ↦ 0 | false ↦ suc (ahead p ts) ]) (t ∷ ts)))
-        ≡ take 1 (drop (elim b [ true ↦ 0 | false ↦ suc (ahead p ts) ]) (t ∷ ts))
-    go true e h = from-off p t [] e
-    go false e h = from-on p t (until p ts ++ take 1 (from p ts)) e ∙ h
-
-stop-first : (stop : ℕ) (ts : List spec.Element) → call-stop stop (take 1 ts) ≡ call-stop stop ts
-unfolding call-stop
-stop-first stop [] = refl
-stop-first stop (t ∷ ts) = refl
-
-call-first : (stop : ℕ) (t : spec.Element) (ts : List spec.Element) → call-changes [] stop (t ∷ (until is-end ts ++ take 1 (from is-end ts))) ≡ call-changes [] stop (t ∷ ts)
-unfolding call-changes
-call-first stop t ts = rw (until-first is-end ts, from-first is-end ts, stop-first stop (from is-end ts)) refl
-
 section-stretch : ℕ → List spec.Element → List Change
 section-stretch stop x = call-changes [] stop (from is-star x)
 
@@ -157,7 +128,7 @@ unfolding section-stretch
 section-star stop t ts s e =
     at-star (section-stretch stop) (λ y. []) (section-none stop) (section-step stop) t ts e
     ∙ ap (λ (cs : List Change). cs ++ section-changes stop (drop 1 (from is-end ts)))
-    (ap (call-changes [] stop) (from-off is-star t (until is-end ts ++ take 1 (from is-end ts)) s) ∙ call-first stop t ts)
+    (ap (call-changes [] stop) (from-off is-star t (until is-end ts ++ take 1 (from is-end ts)) s) ∙ call-first [] stop t ts)
 
 -- In a body and in the section alike
 unfoldable words-of : Bool → List (List ℕ) → spec.Element → List Change

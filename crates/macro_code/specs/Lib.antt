@@ -1,3 +1,4 @@
 pub mod Places
 pub mod Code
 pub mod Known
+pub mod Bounds

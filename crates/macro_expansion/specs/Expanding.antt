@@ -8,6 +8,7 @@ use Rattle.language.specs.Limits as limit
 use Rattle.macros.specs.Expansion.{Writing, just, too-deep, followed-by, filled-in, walk, expand, levels}
 use Rattle.macros.specs.Macros.{Macro}
 use Rattle.macros.specs.Pieces.{Piece, pieces-from}
+use Rattle.macro_code.specs.Bounds.{widest}
 use Rattle.macro_code.specs.Code.{high, low, bytes-at, first-change, change-count, size-at, call-in, change-in, changes-in, body-in, macros-in, arguments-in}
 use Rattle.macro_code.specs.Known.{Heights, Singles}
 use Rattle.macro_code.specs.Places as place
@@ -28,10 +29,6 @@ inner ms (suc l) = expand ms l
 -- the cells of changes are below this number
 abbrev pub reach : ℕ
 reach = 549755813888
-
--- the most cells of a change
-abbrev pub widest : ℕ
-widest = 131074
 
 abbrev pub is-at : told.Fault → Bool
 is-at Clear = false

@@ -18,7 +18,7 @@ use Rattle.macros.specs.Pieces.Piece.{kept, value, called}
 use Rattle.macros.specs.Silence.{right-call, silent-piece, fixed-piece}
 use Rattle.macro_code.specs.Code.{high, low, call-in, change-in, size-at, changes-in, first-change, change-count, body-in, macros-in}
 use Rattle.macro_code.specs.Places.{span-cell, kind-cell}
-use Rattle.macro_calls.specs.Calls.{near, far, widest}
+use Rattle.macro_code.specs.Bounds.{near, far, widest}
 use Rattle.macro_heights.specs.Levels.{Aims, Greater, Lesser, Measures, Quiet, Loose, quiet-at, loose-at}
 
 -- the greater and the lesser of two heights

@@ -4,36 +4,21 @@ use mathlib.Core.Bool.{Bool, true, false, not}
 use mathlib.Core.List.{List, [], _∷_}
 use Prim.Native.Nat.{ℕ, zero, suc}
 use lib.Dec.{T}
-use Rattle.lists.specs.Lists.{all, filled}
+use Rattle.lists.specs.Lists.{all}
 use Rattle.lists.specs.ListLaws.{T-left, T-right, T-both}
-use Rattle.macros.specs.Expansion.{called-by, faults-of}
 use Rattle.macros.specs.Macros.{Macro}
-use Rattle.macros.specs.Pieces.{Given, Call, Piece}
-use Rattle.macros.specs.Pieces.Given.{typed, parameter, joined}
+use Rattle.macros.specs.Pieces.{Piece}
 use Rattle.macros.specs.Pieces.Piece.{kept, value, called}
-use Rattle.macros.specs.Silence.{right-macro, right-call, silent-piece, fixed-piece, silent, fixed}
-use Rattle.macros.specs.SilenceLaws.{silent-higher}
+use Rattle.macros.specs.Silence.{silent-piece, fixed-piece, silent, fixed}
+use Rattle.macros.specs.SilenceLaws.{call-more, silent-higher}
 
 -- a test that passes more lets more pieces pass
 module _ (ms : List Macro) (passes more : List Piece → Bool) (known : (ps : List Piece) → T (passes ps) → T (more ps)) where
-  macro-more : (c : Call) (ns : List Macro) → T (right-macro ms passes c ns) → T (right-macro ms more c ns)
-  unfolding right-macro
-  macro-more c [] h = absurd h
-  macro-more c (m ∷ others) h =
-      let fine = not (filled (faults-of c (m ∷ others))) in
-      T-both fine (more (m .body)) (T-left fine (passes (m .body)) h) (known (m .body) (T-right fine (passes (m .body)) h))
-
-  call-more : (c : Call) (g : Given) → T (right-call ms passes c g) → T (right-call ms more c g)
-  unfolding right-call
-  call-more c (typed w) h = macro-more c (called-by ms w) h
-  call-more c (parameter k) h = absurd h
-  call-more c (joined w k) h = absurd h
-
   fixed-piece-more : (p : Piece) → T (fixed-piece ms passes p) → T (fixed-piece ms more p)
   unfolding fixed-piece
   fixed-piece-more (kept place w) h = tt
   fixed-piece-more (value k) h = tt
-  fixed-piece-more (called c) h = call-more c (c .name) h
+  fixed-piece-more (called c) h = call-more ms passes more known c (c .name) h
 
   fixed-all-more : (ps : List Piece) → T (all (fixed-piece ms passes) ps) → T (all (fixed-piece ms more) ps)
   fixed-all-more [] h = tt

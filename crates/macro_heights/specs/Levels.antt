@@ -11,7 +11,7 @@ use Rattle.macros.specs.Pieces.{Piece}
 use Rattle.macros.specs.Silence.{right-call, silent-piece, fixed-piece, silent, fixed}
 use Rattle.macro_code.specs.Code.{is-call, call-in, body-in, macros-in}
 use Rattle.macro_code.specs.Known.{Singles}
-use Rattle.macro_calls.specs.Calls.{near}
+use Rattle.macro_code.specs.Bounds.{near}
 
 -- a call is right just where a macro has the number r, and its body passes
 pub record Aims (s c firsts : List ℕ) (n i r : ℕ) : Type 0 where

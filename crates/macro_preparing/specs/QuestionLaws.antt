@@ -1,6 +1,5 @@
 -- Questions 64 to 66 of a text, from what its list, its calls as typed and its expansion tell.
 use mathlib.Core.Path.{_≡_, refl, sym, ap, _∙_}
-use mathlib.Core.Bool.{false}
 use mathlib.Core.List.{List, [], _∷_, _++_, append-nil}
 use Prim.Native.Nat.{ℕ}
 use lib.ListN.{drop}
@@ -8,19 +7,19 @@ use Rattle.language.specs.Limits as limit
 use Rattle.lists.specs.Lists.{each}
 use Rattle.macros.specs.Elements.{elements}
 use Rattle.macros.specs.Expansion.{places-of, followed-by, piece-writes, walk, expand, levels}
+use Rattle.macros.specs.FaultLaws.{places-both}
 use Rattle.macros.specs.Macros.{Macro, macro-list-faults, section}
 use Rattle.macros.specs.Pieces.{Piece, is-stray, form-faults}
 use Rattle.macros.specs.Prepared.{piece-faults, writes, deep-places, all-faults, listed, section-of, places-out, macro-questions}
 use Rattle.macro_calls.specs.Calls.{Told}
 use Rattle.macro_calls.specs.declared.Faults.{Faults}
+use Rattle.macro_section.specs.Origins.{none}
 use Rattle.macro_values.specs.Wrote.{Wrote}
-use Rattle.macro_values.specs.WritingLaws.{places-both}
 use Rattle.macro_values.specs.declared.Written.{Written}
 use Rattle.statements.specs.FaultLaws.{fault-both, then-yes}
 use Rattle.statements.specs.Faults.{lower, decided, then}
 use Rattle.statements.specs.StatementAt.{fault-of}
 use Rattle.statements.specs.declared.Fault.{Fault}
-use Rattle.statements.specs.declared.Fault.the-variants.{Clear}
 use Rattle.syntax.specs.Verdict.{Verdict, decide, first-no}
 use Rattle.syntax.specs.Verdict.Verdict.{yes}
 
@@ -39,10 +38,6 @@ decide-then : (number : ℕ) (ps : List ℕ) (v : Verdict) → decide number ps 
 unfolding decide
 decide-then number [] v = refl
 decide-then number (p ∷ ps) v = refl
-
--- before anything is written
-abbrev pub none : Written
-none = record { count = 0; over = false; unknown = Clear; uneven = Clear }
 
 module _ (s : List ℕ) {form : Fault} (form-is : form ≡ fault-of (macro-list-faults (elements s) ++ form-faults (is-stray []) [] (section (elements s))))
     {t : Faults} (typed : Told (each (piece-faults (listed s)) (each (λ m. m .body) (listed s) ++ section-of s)) t)

@@ -19,6 +19,7 @@ use Rattle.syntax.specs.Items.{Sort, same-sort}
 use Rattle.syntax.specs.Items.Sort.{separator, word, colon, end, text, wrong}
 use Rattle.macros.specs.Elements as spec
 use Rattle.macros.specs.Elements.{is-word, is-end, is-star, is-open, is-close, is-bracket, is-mark, places-in, until, from}
+use Rattle.macros.specs.FaultLaws.{keep-both}
 use Rattle.macros.specs.Macros.{from-statement, header-faults}
 use Rattle.macro_changes.proofs.Giving.{eqb-no, lower-assoc, keep-first, some-elements, no-elements, neither}
 use Rattle.macro_changes.proofs.Searching.{until-on, until-off, from-on, from-off}
@@ -125,14 +126,6 @@ pub outer-is : (s : List ℕ) (t : Element) → (is-star (value-of s t) || (is-b
 outer-is s t = ap (λ (b : Bool). is-star (value-of s t) || (is-bracket (value-of s t) || is-mark 39 (value-of s t) || not b)) (sym (joins-none (spec.is-identifier (value-of s t)) (eqb (t .joined) 0) (part s (t .joined) (t .behind))))
 
 -- The stretch that ends the list
-
-keep-both : (p : spec.Element → Bool) (xs ys : List spec.Element) → keep p (xs ++ ys) ≡ keep p xs ++ keep p ys
-keep-both p [] ys = refl
-keep-both p (x ∷ xs) ys = go (p x) (keep-both p xs ys)
-  where
-    go : (b : Bool) → keep p (xs ++ ys) ≡ keep p xs ++ keep p ys → cond b (x ∷ keep p (xs ++ ys)) (keep p (xs ++ ys)) ≡ cond b (x ∷ keep p xs) (keep p xs) ++ keep p ys
-    go true h = ap (λ (us : List spec.Element). x ∷ us) h
-    go false h = h
 
 any-both : (p : spec.Element → Bool) (xs ys : List spec.Element) → any p (xs ++ ys) ≡ (any p xs || any p ys)
 any-both p [] ys = refl

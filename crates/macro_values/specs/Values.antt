@@ -7,10 +7,6 @@ use lib.ListN.{getD}
 use Rattle.macro_code.specs.Code.{high, low, bytes-at, argument-count, argument-cell}
 use Rattle.macro_code.specs.Places as place
 
--- cells are below this number
-abbrev pub far : ℕ
-far = 1099511627776
-
 abbrev pub kind-of : List ℕ → ℕ → ℕ
 kind-of c g = high c (g + place.kind-cell)
 

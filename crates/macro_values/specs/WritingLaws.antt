@@ -1,15 +1,15 @@
 -- What is written in two parts, and what writes nothing.
 use mathlib.Core.Path.{_≡_, refl, sym, ap, _∙_}
-use mathlib.Core.Bool.{Bool, true, false, cond, _||_, true≢false}
-use mathlib.Core.List.{List, [], _∷_, _++_, map, map-append, append-assoc, append-nil}
+use mathlib.Core.Bool.{Bool, true, false, _||_, true≢false}
+use mathlib.Core.List.{List, [], _++_, append-assoc, append-nil}
 use Prim.Native.Nat.{ℕ, _+_, _≤_, _<_}
 use native.Mathlib.Omega.{arith}
 use native.Mathlib.Decide.{decLt}
 use borrow.Author.Tests.{lt-ltb, le-ltb}
-use lib.Dec.{ltb, eqb}
+use lib.Dec.{ltb}
 use lib.ListN.{length, take, drop, length-append, length-take, length-drop}
 use lib.Seq.{length-take-le, take-at}
-use Rattle.lists.specs.Lists.{keep}
+use Rattle.macros.specs.FaultLaws.{places-both}
 use Rattle.macros.specs.Expansion.{Fault, Writing, places-of, followed-by, just}
 use Rattle.statements.specs.Faults.{lower}
 use Rattle.statements.specs.FaultLaws.{fault-both}
@@ -28,19 +28,6 @@ lower-assoc Clear b c = refl
 lower-assoc (At p) Clear c = refl
 lower-assoc (At p) (At q) Clear = refl
 lower-assoc (At p) (At q) (At r) = ap At (omega arith)
-
-keep-both : {X : Type 0} (p : X → Bool) (xs ys : List X) → keep p (xs ++ ys) ≡ keep p xs ++ keep p ys
-keep-both p [] ys = refl
-keep-both p (x ∷ xs) ys = go (p x) (keep-both p xs ys)
-  where
-    go : (b : Bool) → keep p (xs ++ ys) ≡ keep p xs ++ keep p ys → cond b (x ∷ keep p (xs ++ ys)) (keep p (xs ++ ys)) ≡ cond b (x ∷ keep p xs) (keep p xs) ++ keep p ys
-    go true e = ap (λ l. x ∷ l) e
-    go false e = e
-
-pub places-both : (number : ℕ) (xs ys : List Fault) → places-of number (xs ++ ys) ≡ places-of number xs ++ places-of number ys
-places-both number xs ys =
-    ap (map (λ f. f .at)) (keep-both (λ f. eqb number (f .number)) xs ys)
-    ∙ map-append (λ f. f .at) (keep (λ f. eqb number (f .number)) xs) (keep (λ f. eqb number (f .number)) ys)
 
 -- a fault in two steps
 fault-then : (number : ℕ) (xs ys : List Fault) (v u r : told.Fault)

@@ -11,6 +11,7 @@ pub mod Prepared
 pub mod Examples
 pub mod Silence
 pub mod Cleanness
+pub mod FaultLaws
 pub mod SilenceLaws
 pub mod LoudLaws
 pub mod LineLaws

@@ -4,7 +4,7 @@ use mathlib.Core.Bool.{Bool, true, false, cond, not}
 use mathlib.Core.List.{List, [], _∷_, _++_, map, append-nil, map-append}
 use Prim.Native.Nat.{ℕ, suc, _+_, _-_, _≤_, _<_}
 use native.Mathlib.Omega.{arith}
-use lib.ListN.{length, getD, take, drop, length-take, length-drop, take-append-drop}
+use lib.ListN.{length, getD, take, drop, length-take, length-drop, take-append-drop, length-map}
 use lib.Seq.{drop-drop, getD-drop, getD-take, take-all}
 use borrow.Author.Tests.{le-leb, lt-leb, lt-ltb, le-ltb}
 use Rattle.lists.specs.Lists.{each, keep}
@@ -19,7 +19,7 @@ use Rattle.macros.specs.Prepared.Prepared.{ready}
 use Rattle.macros.specs.OrderLaws.{Called-at, Ordered, list-ordered}
 use Rattle.macros.specs.Outside.{replaced, covered, outside-places, stays, all-stay, picked}
 use Rattle.macros.specs.PlaceLaws.{elements-ascend}
-use Rattle.macros.specs.ShapeLaws.{written-by, up-length, map-length, kept-writes, value-writes}
+use Rattle.macros.specs.ShapeLaws.{written-by, up-length, kept-writes, value-writes}
 use Rattle.macros.specs.WrittenLaws.{As-typed, section-typed}
 
 -- picking, part by part
@@ -55,9 +55,9 @@ module _ (ms : List Macro) where
   -- as many marks as bytes
   as-many : (p : Piece) → length (stays ms p) ≡ length (origins ms p)
   unfolding stays origins
-  as-many (kept place w) = map-length (λ b. true) w ∙ sym (up-length place w)
+  as-many (kept place w) = length-map w (λ b. true) ∙ sym (up-length place w)
   as-many (value k) = refl
-  as-many (called c) = map-length (λ b. false) (writes ms (called c) .bytes) ∙ sym (map-length (λ b. c .at) (writes ms (called c) .bytes))
+  as-many (called c) = length-map (writes ms (called c) .bytes) (λ b. false) ∙ sym (length-map (writes ms (called c) .bytes) (λ b. c .at))
 
   piece-picked : (p : Piece) → picked (stays ms p) (origins ms p) ≡ kept-places p
   unfolding stays origins kept-places
@@ -90,14 +90,14 @@ module _ (ms : List Macro) (s : List ℕ) where
   bytes-picked [] h = refl
   bytes-picked (kept place w ∷ ps) h =
       ap (λ (v : List ℕ). picked (map (λ b. true) w ++ each (stays ms) ps) (v ++ each (λ p. writes ms p .bytes) ps)) (kept-writes ms place w ∙ append-nil w)
-      ∙ picked-append (map (λ b. true) w) (each (stays ms) ps) w (each (λ p. writes ms p .bytes) ps) (map-length (λ b. true) w)
+      ∙ picked-append (map (λ b. true) w) (each (stays ms) ps) w (each (λ p. writes ms p .bytes) ps) (length-map w (λ b. true))
       ∙ ap (λ xs. xs ++ picked (each (stays ms) ps) (each (λ p. writes ms p .bytes) ps)) (picked-all w w refl ∙ sym (typed-by s w place (h .0)))
       ∙ ap (λ xs. map (byte-at s) (up-from place w) ++ xs) (bytes-picked ps (h .1))
       ∙ sym (map-append (byte-at s) (up-from place w) (each kept-places ps))
   bytes-picked (value k ∷ ps) h = ap (λ (v : List ℕ). picked (each (stays ms) ps) (v ++ each (λ p. writes ms p .bytes) ps)) (value-writes ms k) ∙ bytes-picked ps h
   bytes-picked (called c ∷ ps) h =
       let v = writes ms (called c) .bytes in
-      picked-append (map (λ b. false) v) (each (stays ms) ps) v (each (λ p. writes ms p .bytes) ps) (map-length (λ b. false) v)
+      picked-append (map (λ b. false) v) (each (stays ms) ps) v (each (λ p. writes ms p .bytes) ps) (length-map v (λ b. false))
       ∙ ap (λ xs. xs ++ picked (each (stays ms) ps) (each (λ p. writes ms p .bytes) ps)) (picked-none v v)
       ∙ bytes-picked ps h
 

@@ -4,7 +4,7 @@ use mathlib.Core.Bool.{Bool, true, false, cond}
 use mathlib.Core.List.{List, [], _∷_, _++_, map, append-assoc, append-nil}
 use Prim.Native.Nat.{ℕ, zero, suc, _≤_}
 use native.Mathlib.Omega.{arith}
-use lib.ListN.{length, getD, drop, length-append, length-drop}
+use lib.ListN.{length, getD, drop, length-append, length-drop, length-map}
 use Rattle.language.specs.Limits as limit
 use Rattle.lists.specs.Lists.{each}
 use Rattle.syntax.specs.Items.{line-of, up-from, lines-of}
@@ -29,10 +29,6 @@ unfolding up-from
 up-length place [] = refl
 up-length place (b ∷ w) = ap suc (up-length (suc place) w)
 
-pub map-length : {X Y : Type 0} (f : X → Y) (xs : List X) → length (map f xs) ≡ length xs
-map-length f [] = refl
-map-length f (x ∷ xs) = ap suc (map-length f xs)
-
 none-there : (k : ℕ) → getD {A = List ℕ} [] k [] ≡ []
 none-there zero = refl
 none-there (suc k) = refl
@@ -49,7 +45,7 @@ origins-length : (ms : List Macro) (p : Piece) → length (origins ms p) ≡ len
 unfolding origins
 origins-length ms (kept place w) = rw (kept-writes ms place w) (up-length place w ∙ omega (arith, length-append w []))
 origins-length ms (value k) = rw (value-writes ms k)
-origins-length ms (called c) = map-length (λ b. c .at) (writes ms (called c) .bytes)
+origins-length ms (called c) = length-map (writes ms (called c) .bytes) (λ b. c .at)
 
 all-origins : (ms : List Macro) (ps : List Piece) → length (each (origins ms) ps) ≡ length (each (λ p. writes ms p .bytes) ps)
 all-origins ms [] = refl
@@ -132,7 +128,7 @@ plain-shape s l =
 written-shape : (s : List ℕ) → first-no (whole-questions s ++ macro-questions s) ≡ yes → Shape s (bytes-out s) (map (line-of s) (places-out s))
 written-shape s h =
     record {
-      lengths = map-length (line-of s) (places-out s) ∙ as-long s;
+      lengths = length-map (places-out s) (line-of s) ∙ as-long s;
       short = omega (arith, fits s h, as-long s);
       rising = from-first s (places-out s) (places-rise s);
     }

@@ -9,7 +9,8 @@ use Rattle.macros.specs.Expansion.{Writing, just, followed-by}
 use Rattle.macro_code.specs.Places.{half}
 use Rattle.macro_values.specs.Wrote.{Wrote}
 use Rattle.macro_values.specs.WritingLaws.{wrote-none}
-use Rattle.macro_expansion.specs.Expanding.{reach, widest, rest-writes}
+use Rattle.macro_code.specs.Bounds.{widest}
+use Rattle.macro_expansion.specs.Expanding.{reach, rest-writes}
 use Rattle.macro_expansion.specs.WalkLaws.{none-followed}
 use Rattle.macro_expansion.specs.RunLaws.{run-turn, run-pauses, run-ends}
 use Rattle.macro_expansion.proofs.run.Statement.{statement}

@@ -11,7 +11,8 @@ use Rattle.macros.specs.Expansion.{expand, levels}
 use Rattle.macros.specs.Prepared.{origins, deep-places}
 use Rattle.macro_code.specs.Code.{body-in, macros-in}
 use Rattle.macro_code.specs.Places.{half}
-use Rattle.macro_expansion.specs.Expanding.{reach, widest}
+use Rattle.macro_code.specs.Bounds.{widest}
+use Rattle.macro_expansion.specs.Expanding.{reach}
 use Rattle.macro_section.specs.Origins.{Going}
 use Rattle.macro_section.specs.Long.{Overs, over-at}
 use Rattle.macro_section.specs.SectionLaws.{fillable, section-begins, section-turn, section-ends}

@@ -10,7 +10,7 @@ use native.Mathlib.Omega.{arith}
 use Rattle.macro_code.specs.Code.{arguments-in}
 use Rattle.macros.specs.Expansion.{just}
 use Rattle.macro_values.specs.Wrote.{Wrote}
-use Rattle.macro_values.specs.Values as values
+use Rattle.macro_code.specs.Bounds.{far}
 use Rattle.macro_values.specs.WritingLaws.{wrote-none, wrote-more}
 use Rattle.macro_values.specs.ValueLaws.{up, climbs, climbed}
 use borrow.Author.Needs.{needs}
@@ -18,7 +18,7 @@ use Rattle.macro_values.proofs.write_given.Statement.{statement}
 use Rattle.macro_values.proofs.write_given.Tie as tie
 
 abbrev Inv-loop : tie.InvT-loop
-Inv-loop text code calls depth g out₀ w₀ cell₀ d₀ out w cell d = (a : List ℕ) × Wrote (just a) w₀ w out₀ out × (up (arguments-in text code calls depth) code g ≡ a ++ up (arguments-in text code calls d) code cell) × (cell < values.far)
+Inv-loop text code calls depth g out₀ w₀ cell₀ d₀ out w cell d = (a : List ℕ) × Wrote (just a) w₀ w out₀ out × (up (arguments-in text code calls depth) code g ≡ a ++ up (arguments-in text code calls d) code cell) × (cell < far)
 
 abbrev μ-loop : tie.MeasureT-loop
 μ-loop text code calls depth g out₀ w₀ cell₀ d₀ out w cell d = d
