@@ -2,11 +2,12 @@
 use mathlib.Core.Path.{_≡_, refl, ap, sym, _∙_}
 use mathlib.Core.Bool.{Bool, true, false, cond, not, _&&_, _||_, false≢true}
 use mathlib.Core.List.{List, [], _∷_, _++_, map, append-nil}
-use Prim.Native.Nat.{ℕ, _+_, _-_, _<_}
+use Prim.Native.Nat.{ℕ, _+_, _≤_, _<_}
 use native.Mathlib.Nat.{le-refl}
 use native.Mathlib.Omega.{arith}
 use lib.Dec.{eqb}
-use lib.ListN.{length, take, drop}
+use lib.ListN.{length, getD, set, take, drop, length-set}
+use lib.Seq.{getD-set-same, getD-set-other}
 use borrow.Author.Tests.{eqb-true}
 use Rattle.layout.specs.Cells.{tab}
 use Rattle.lists.specs.Lists.{any, each, filled, ifAny, keep}
@@ -17,28 +18,27 @@ use Rattle.statements.specs.StatementAt.{fault-of}
 use Rattle.macros.specs.Elements as spec
 use Rattle.macros.specs.Elements.{is-end, is-open, is-close, places-in, until, from, elements, stretches}
 use Rattle.macros.specs.Macros.{macro-of, macros-in, header-faults, definition-faults, ending-faults, place-faults, macro-list-faults, list-change, from-statement, first-statement, behind-first, from-list, section}
-use Rattle.macros.specs.Pieces.{Piece, section-changes, pieces-from, is-stray, form-faults}
-use Rattle.macros.specs.Pieces.Piece.{kept}
-use Rattle.macros.specs.Prepared.{listed, section-of}
+use Rattle.macros.specs.Pieces.{Change, section-changes, is-stray, form-faults}
 use Rattle.macro_code.specs.Code as code
-use Rattle.macro_changes.specs.Changing.{parameters-of, shuts, stop-of, changes-of, wrong-in}
+use Rattle.macro_code.specs.Code.{paired}
+use Rattle.macro_changes.specs.Changing.{Reading, Read-changes, parameters-of, shuts, stop-of, changes-of, wrong-in}
 use Rattle.macro_changes.specs.declared.Scope.{Scope}
-use Rattle.macro_changes.proofs.Cells.{kept-on, kept-below}
+use Rattle.macro_changes.specs.declared.Step.{Step}
+use Rattle.macro_changes.proofs.Cells.{first-of, second-of, kept-set, kept-on, kept-below, changes-agree, changes-same, changes-more}
 use Rattle.macro_changes.proofs.Giving.{eqb-no, keep-first, some-elements, no-elements}
 use Rattle.macro_changes.proofs.Searching.{until-on, from-on}
 use Rattle.macro_elements.specs.ElementAt.{elements-from, value-of, Lent, Next-element}
 use Rattle.macro_elements.specs.declared.Element.{Element}
-use Rattle.macro_reading.specs.Bodies.{Bodied, Body-read}
 use Rattle.macro_reading.specs.Definitions.{stretch, defined-in, last-in, after-in, Listable, Definitions-read}
 use Rattle.macro_reading.specs.Sections.{outer-faults, Skips, First-read, Tailed, tail-faults, Tail-read}
-use Rattle.macro_reading.specs.Whole.{Sectioned, Section-read, follow-faults, Bracketed, List-read, Lent-rows, Macros-read}
-use Rattle.macro_reading.specs.declared.Body.{Body}
+use Rattle.macro_reading.specs.Whole.{Section-cells, Sectioned, Section-read, gone, Puttable, Puts, follow-faults, Bracketed, list-at, list-stop, List-read, Lent-rows, Macros-read}
 use Rattle.macro_reading.specs.declared.Definitions.{Definitions}
 use Rattle.macro_reading.specs.declared.First.{First}
 use Rattle.macro_reading.specs.declared.Listing.{Listing}
 use Rattle.macro_reading.specs.declared.Tail.{Tail}
 use Rattle.macro_reading.proofs.Ending.{stopped, lower-clear}
 use Rattle.macro_reading.proofs.Enlisting.{listing-kept}
+use Rattle.macro_reading.proofs.Reading.{all-changes, fault-there, record-cells, span-there, counts-there, record-kept, above-there}
 use Rattle.macro_reading.proofs.Stretching.{defined-none, last-here, after-here}
 
 -- nothing closes the section
@@ -50,18 +50,12 @@ none-behind : (ts : List spec.Element) → from (shuts false) ts ≡ []
 none-behind [] = refl
 none-behind (t ∷ ts) = from-on (shuts false) t ts refl ∙ none-behind ts
 
-module _ {s m c : List ℕ} {q start n : ℕ} (p : Sectioned s m c q start n) where
+module _ {s m c : List ℕ} {q before u n : ℕ} (p : Sectioned s m c q before u n) where
   abbrev X : Scope
   X = record { params = q + 3; count = 0; closing = false }
 
-  pub section-bodied : Bodied s m c X q start n
-  section-bodied =
-      record {
-        params-at = refl;
-        reading =
-            record { lent = p .lent; plain = λ e. refl; few = omega arith; scoped = le-refl (q + 3 + 0); room = omega (arith, p .room); wide = p .wide };
-        starts = p .starts;
-      }
+  pub section-reading : Reading s m c X n u
+  section-reading = record { lent = p .lent; plain = λ e. refl; few = omega arith; scoped = omega (arith, p .first); room = p .room; wide = p .wide }
 
   no-parameters : parameters-of s c X ≡ []
   unfolding tab
@@ -70,13 +64,78 @@ module _ {s m c : List ℕ} {q start n : ℕ} (p : Sectioned s m c q start n) wh
   stop-there : stop-of s false n ≡ length s
   stop-there = ap (λ (ts : List spec.Element). ifAny (length s) (λ t. t .at) ts) (none-behind (elements-from s n))
 
-  pub section-done : {d : List ℕ} {r : Body} → Body-read s c d X q start n r → Section-read s c d q start n (r .fault)
-  unfolding changes-of wrong-in
-  section-done y =
+  module _ {d : List ℕ} {r : Step} (g : Read-changes s c d X n u r) where
+    abbrev laid : ℕ
+    laid = before + r .count
+
+    pub section-room : q + 3 ≤ length d
+    section-room = omega (arith, p .first, p .room, p .lent .most, g .steps .kept .size)
+
+    pub section-count : laid < 65536
+    section-count = omega (arith, p .few, g .steps .from, g .steps .most, p .lent .size)
+
+    section-size : length s < 65536
+    section-size = omega (arith, p .lent .size)
+
+    abbrev own-cells : List ℕ
+    own-cells = record-cells d q 0 (length s) 0 laid section-room
+
+    span-are : getD own-cells (q + 1) 0 ≡ paired 0 (length s)
+    span-are = span-there d q 0 (length s) 0 laid section-room
+
+    counts-are : (code.parameter-count own-cells q ≡ 0) × (code.change-count own-cells q ≡ laid)
+    counts-are =
+        let e = counts-there d q 0 (length s) 0 laid section-room in
+        (rw e (first-of 0 laid section-count), rw e (second-of 0 laid section-count))
+
+    first-there : code.first-change own-cells q ≡ q + 3
+    first-there = rw (counts-are .0) (omega arith)
+
+    before-same : (code.changes-in s d (q + 3) before ≡ code.changes-in s c (q + 3) before) × (code.behind-changes d (q + 3) before ≡ code.behind-changes c (q + 3) before)
+    before-same = changes-same (g .steps .kept) s before (q + 3) (omega (arith, p .there))
+
+    laid-there : code.changes-in s d (q + 3) laid ≡ code.changes-in s c (q + 3) before ++ section-changes (length s) (elements-from s n)
+    unfolding changes-of
+    laid-there =
+        changes-more s d before (r .count) (q + 3)
+        ∙ (λ i. before-same .0 i ++ code.changes-in s d ((before-same .1 ∙ p .there) i) (r .count))
+        ∙ ap (λ (cs : List Change). code.changes-in s c (q + 3) before ++ cs)
+        (all-changes g ∙ (λ i. section-changes (stop-there i) (all-inside (elements-from s n) i)))
+
+    pub section-done : Section-read s c own-cells q before n (r .fault)
+    unfolding wrong-in
+    section-done =
+        record {
+          kept-is = kept-on (kept-below (g .steps .kept) (omega (arith, p .first))) (record-kept d q 0 (length s) 0 laid section-room) (omega arith);
+          cells = record {
+            starts = rw span-are (first-of 0 (length s) section-size);
+            stops = rw span-are (second-of 0 (length s) section-size);
+            changes-are =
+                (λ i. code.changes-in s own-cells (first-there i) (counts-are .1 i))
+                ∙ changes-agree (above-there d q 0 (length s) 0 laid section-room (code.behind-changes d (q + 3) laid)) s laid (q + 3) (le-refl (q + 3)) (le-refl (code.behind-changes d (q + 3) laid)) .0
+                ∙ laid-there;
+          };
+          fault-is = fault-there g ∙ (λ i. fault-of (form-faults (is-stray (no-parameters i)) (no-parameters i) (all-inside (elements-from s n) i)));
+        }
+
+-- the list, as a change
+module _ {c : List ℕ} {u at stop : ℕ} (p : Puttable c u at stop) where
+  abbrev list-cells : List ℕ
+  list-cells = set (set c u (paired at stop)) (u + 1) (paired 2 0)
+
+  list-there : getD list-cells u 0 ≡ paired at stop
+  list-there = getD-set-other (set c u (paired at stop)) (u + 1) u (paired 2 0) 0 (λ z. omega arith) ∙ getD-set-same c u (paired at stop) 0 (omega (arith, p .room))
+
+  kind-there : getD list-cells (u + 1) 0 ≡ paired 2 0
+  kind-there = getD-set-same (set c u (paired at stop)) (u + 1) (paired 2 0) 0 (simp length-set (omega (arith, p .room)))
+
+  pub list-put : Puts c list-cells u at stop
+  unfolding code.changes-in code.behind-changes code.change-in code.size-at
+  list-put =
       record {
-        kept-is = kept-below (y .kept) (omega arith);
-        body-is = y .body-is ∙ (λ i. pieces-from s start (stop-there i) (section-changes (stop-there i) (all-inside (elements-from s n) i)));
-        fault-is = y .fault-is ∙ (λ i. fault-of (form-faults (is-stray (no-parameters i)) (no-parameters i) (all-inside (elements-from s n) i)));
+        kept = kept-on (kept-set c u (paired at stop) u (le-refl u)) (kept-set (set c u (paired at stop)) (u + 1) (paired 2 0) u (omega arith)) (le-refl u);
+        change-is = λ s. rw (kind-there, list-there, first-of at stop (p .stop-low), second-of at stop (p .stop-low)) refl;
+        behind-is = rw kind-there refl;
       }
 
 or-none : (b : Bool) → (b || false) ≡ b
@@ -147,61 +206,82 @@ module _ {s m c firsts : List ℕ} {n : ℕ} (p : Bracketed s m c firsts n) {t :
     the-last = sym (a .lists .last-is) ∙ last-here (elements-from s (r .next)) (a .done)
 
     module _ {e : List ℕ} {w : Tail} (b : Tail-read s d e (r .next) (r .used) (t .at) (r .defined) w) where
-      pub sectioned : Sectioned s m e (r .used) (w .stop) (w .next)
-      sectioned =
+      pub puttable : Puttable e (r .used + 3) (t .at) (w .stop)
+      puttable =
+          let h = k .held in
           record {
-            lent = record { copy = p .lent .copy; size = p .lent .size; most = b .most };
-            room = omega (arith, a .lists .paid, b .from-here, p .room, p .lent .size, a .lists .size, b .kept .size);
+            room = omega (arith, a .lists .paid, a .lists .most, p .room, p .lent .size, a .lists .size, b .kept .size);
             wide = omega (arith, p .wide, a .lists .size, b .kept .size);
-            starts = b .stop-most;
+            at-low = omega (arith, h .own, h .ends, h .small);
+            stop-low = omega (arith, b .stop-most, p .lent .size);
           }
+
+      pub follows : Lent s m (w .next)
+      follows = record { copy = p .lent .copy; size = p .lent .size; most = b .most }
 
       the-rest : after-in us ≡ elements-from s (w .next)
       the-rest = sym (a .lists .after-is) ∙ after-here (elements-from s (r .next)) (a .done) ∙ sym (b .rest)
 
-      module _ {g : List ℕ} {h : Fault} (y : Section-read s e g (r .used) (w .stop) (w .next) h) where
-        pub list-done : {first follow : Fault} → follow ≡ fault-of (follow-faults (elements-from s (w .next)))
-            → List-read s g f n first (record { count = r .count; section = r .used; listed = true; before = t .at; fault = lower (lower (lower (lower first follow) (r .fault)) (w .fault)) h })
-        list-done {first} {follow} z =
-            let back : us ≡ drop 1 (elements-from s n) = sym (ap (drop 1) all-there) in
+      module _ {e′ : List ℕ} (x : Puts e e′ (r .used + 3) (t .at) (w .stop)) where
+        pub sectioned : Sectioned s m e′ (r .used) 1 (r .used + 3 + 2) (w .next)
+        sectioned =
             record {
-              few = omega (arith, a .lists .counted, a .lists .most, p .lent .size);
-              is-listed = refl;
-              before-is = sym (ap (λ (ts : List spec.Element). ifAny 0 (λ u. u .at) ts) all-there);
-              macros-are =
-                  sym (append-nil (code.macros-in s g f (r .count)))
-                  ∙ ap (λ (xs : List (List spec.Element)). code.macros-in s g f (r .count) ++ each (macro-of s) xs) (sym none-more)
-                  ∙ listing-kept listable (a .lists) (kept-on (b .kept) (y .kept-is) (le-refl (r .used))) .macros-are
-                  ∙ ap (λ (ts : List spec.Element). each (macro-of s) (defined-in ts)) back;
-              section-is =
-                  y .body-is
-                  ∙ (λ i. pieces-from s ((b .stop-is ∙ ap (λ (x : List spec.Element). ifAny (length s) (λ u. u .at + 1) (from is-close x)) (sym the-last)) i) (length s) (section-changes (length s) (sym the-rest i)))
-                  ∙ ap (λ (ts : List spec.Element). pieces-from s (ifAny (length s) (λ u. u .at + 1) (from is-close (last-in ts))) (length s) (section-changes (length s) (after-in ts))) back;
-              fault-is =
-                  (λ i. lower (lower (lower (lower first ((z ∙ ap (λ (ts : List spec.Element). fault-of (follow-faults ts)) (sym the-rest)) i)) (defined-fault i)) (tail-there i)) ((y .fault-is ∙ ap (λ (ts : List spec.Element). fault-of (form-faults (is-stray []) [] ts)) (sym the-rest)) i))
-                  ∙ ap (λ (ts : List spec.Element). lower (lower (lower (lower first (fault-of (follow-faults (after-in ts)))) (fault-of (each definition-faults (defined-in ts)))) (fault-of (tail-faults (t .at) (filled (defined-in ts)) (last-in ts)))) (fault-of (form-faults (is-stray []) [] (after-in ts)))) back;
+              lent = follows;
+              few = omega arith;
+              first = omega arith;
+              there = x .behind-is;
+              room = omega (arith, a .lists .paid, b .from-here, p .room, p .lent .size, a .lists .size, b .kept .size, x .kept .size);
+              wide = omega (arith, p .wide, a .lists .size, b .kept .size, x .kept .size);
             }
-          where
-            defined-fault : r .fault ≡ fault-of (each definition-faults (defined-in us))
-            defined-fault =
-                sym (lower-clear (r .fault))
-                ∙ ap (λ (xs : List (List spec.Element)). lower (r .fault) (fault-of (each definition-faults xs))) (sym none-more)
-                ∙ a .lists .faults
 
-            defined-there : r .defined ≡ filled (defined-in us)
-            defined-there = sym (or-none (r .defined)) ∙ ap (λ (xs : List (List spec.Element)). r .defined || filled xs) (sym none-more) ∙ a .lists .defined-is
+        module _ {g : List ℕ} {h : Fault} (y : Section-read s e′ g (r .used) 1 (w .next) h) where
+          section-there : Section-cells s g (r .used) (gone (list-at (elements-from s n)) (list-stop s (elements-from s n)) ∷ section-changes (length s) (after-in (drop 1 (elements-from s n))))
+          section-there =
+              record {
+                starts = y .cells .starts;
+                stops = y .cells .stops;
+                changes-are =
+                    y .cells .changes-are
+                    ∙ (λ i. x .change-is s i ++ section-changes (length s) (sym the-rest i))
+                    ∙ ap (λ (j : ℕ). gone (t .at) j ∷ section-changes (length s) (after-in us)) (b .stop-is ∙ ap (λ (z : List spec.Element). ifAny (length s) (λ u. u .at + 1) (from is-close z)) (sym the-last))
+                    ∙ ap (λ (ts : List spec.Element). gone (list-at ts) (list-stop s ts) ∷ section-changes (length s) (after-in (drop 1 ts))) (sym all-there);
+              }
 
-            tail-there : w .fault ≡ fault-of (tail-faults (t .at) (filled (defined-in us)) (last-in us))
-            tail-there = b .fault-is ∙ (λ i. fault-of (tail-faults (t .at) (defined-there i) (sym the-last i)))
+          pub list-done : {first follow : Fault} → follow ≡ fault-of (follow-faults (elements-from s (w .next)))
+              → List-read s g f n first (record { count = r .count; section = r .used; fault = lower (lower (lower (lower first follow) (r .fault)) (w .fault)) h })
+          list-done {first} {follow} z =
+              record {
+                few = omega (arith, a .lists .counted, a .lists .most, p .lent .size);
+                low = omega (arith, a .lists .paid, a .lists .most, p .lent .size);
+                macros-are =
+                    sym (append-nil (code.macros-in s g f (r .count)))
+                    ∙ ap (λ (xs : List (List spec.Element)). code.macros-in s g f (r .count) ++ each (macro-of s) xs) (sym none-more)
+                    ∙ listing-kept listable (a .lists) (kept-on (kept-on (b .kept) (x .kept) (omega arith)) (y .kept-is) (le-refl (r .used))) .macros-are
+                    ∙ ap (λ (ts : List spec.Element). each (macro-of s) (defined-in (drop 1 ts))) (sym all-there);
+                cells = section-there;
+                fault-is =
+                    (λ i. lower (lower (lower (lower first ((z ∙ ap (λ (ts : List spec.Element). fault-of (follow-faults ts)) (sym the-rest)) i)) (defined-fault i)) (tail-there i)) ((y .fault-is ∙ ap (λ (ts : List spec.Element). fault-of (form-faults (is-stray []) [] ts)) (sym the-rest)) i))
+                    ∙ ap (λ (ts : List spec.Element). lower (lower (lower (lower first (fault-of (follow-faults (after-in (drop 1 ts))))) (fault-of (each definition-faults (defined-in (drop 1 ts))))) (fault-of (tail-faults (list-at ts) (filled (defined-in (drop 1 ts))) (last-in (drop 1 ts))))) (fault-of (form-faults (is-stray []) [] (after-in (drop 1 ts))))) (sym all-there);
+              }
+            where
+              defined-fault : r .fault ≡ fault-of (each definition-faults (defined-in us))
+              defined-fault =
+                  sym (lower-clear (r .fault))
+                  ∙ ap (λ (xs : List (List spec.Element)). lower (r .fault) (fault-of (each definition-faults xs))) (sym none-more)
+                  ∙ a .lists .faults
+
+              defined-there : r .defined ≡ filled (defined-in us)
+              defined-there = sym (or-none (r .defined)) ∙ ap (λ (xs : List (List spec.Element)). r .defined || filled xs) (sym none-more) ∙ a .lists .defined-is
+
+              tail-there : w .fault ≡ fault-of (tail-faults (t .at) (filled (defined-in us)) (last-in us))
+              tail-there = b .fault-is ∙ (λ i. fault-of (tail-faults (t .at) (defined-there i) (sym the-last i)))
 
 -- The whole text, by what stands from its list on
 abbrev rest-by : List ℕ → List spec.Element → List spec.Element
 rest-by s l = cond (filled (take 1 l)) (after-in (drop 1 l)) (elements s)
 
-abbrev pieces-by : List ℕ → List spec.Element → List Piece
-pieces-by s l =
-    pieces-from s 0 (length s)
-    (map (λ t. record { start = t .at; stop = ifAny (length s) (λ u. u .at + 1) (from is-close (last-in (drop 1 l))); pieces = [] }) (take 1 l) ++ section-changes (length s) (rest-by s l))
+abbrev changes-by : List ℕ → List spec.Element → List Change
+changes-by s l = map (λ t. gone (t .at) (list-stop s l)) (take 1 l) ++ section-changes (length s) (rest-by s l)
 
 abbrev ending-by : List spec.Element → List ℕ
 ending-by l =
@@ -213,27 +293,24 @@ faults-by s l =
     cond (filled (take 1 l))
     (outer-faults (first-statement (elements s)) ++ follow-faults (rest-by s l) ++ each definition-faults (defined-in (drop 1 l)) ++ ending-by l) []
 
-pieces-are : (s : List ℕ) → section-of s ≡ pieces-by s (from-list (elements s))
+changes-whole : (s : List ℕ) → list-change (length s) (elements s) ++ section-changes (length s) (section (elements s)) ≡ changes-by s (from-list (elements s))
 unfolding list-change
-pieces-are s = refl
+changes-whole s = refl
 
 faults-are : (s : List ℕ) → macro-list-faults (elements s) ++ form-faults (is-stray []) [] (section (elements s))
     ≡ faults-by s (from-list (elements s)) ++ form-faults (is-stray []) [] (rest-by s (from-list (elements s)))
 unfolding macro-list-faults place-faults ending-faults
 faults-are s = refl
 
-section-with : (s : List ℕ) (l : List spec.Element) → ifAny false is-open l ≡ true
-    → pieces-by s l ≡ kept 0 (take (ifAny 0 (λ t. t .at) l) s) ∷ pieces-from s (ifAny (length s) (λ t. t .at + 1) (from is-close (last-in (drop 1 l)))) (length s) (section-changes (length s) (after-in (drop 1 l)))
-unfolding pieces-from
-section-with s [] h = absurd (false≢true h)
-section-with s (t ∷ us) h =
-    let e : t .at - 0 ≡ t .at = omega arith in
-    ap (λ (j : ℕ). kept 0 (take j s) ∷ pieces-from s (ifAny (length s) (λ u. u .at + 1) (from is-close (last-in us))) (length s) (section-changes (length s) (after-in us))) e
+changes-with : (s : List ℕ) (l : List spec.Element) → ifAny false is-open l ≡ true
+    → changes-by s l ≡ gone (list-at l) (list-stop s l) ∷ section-changes (length s) (after-in (drop 1 l))
+changes-with s [] h = absurd (false≢true h)
+changes-with s (t ∷ us) h = refl
 
 faults-with : (s : List ℕ) (l : List spec.Element) → ifAny false is-open l ≡ true
     → fault-of (faults-by s l ++ form-faults (is-stray []) [] (rest-by s l))
     ≡ lower (lower (lower (lower (fault-of (outer-faults (first-statement (elements s)))) (fault-of (follow-faults (after-in (drop 1 l))))) (fault-of (each definition-faults (defined-in (drop 1 l)))))
-    (fault-of (tail-faults (ifAny 0 (λ t. t .at) l) (filled (defined-in (drop 1 l))) (last-in (drop 1 l))))) (fault-of (form-faults (is-stray []) [] (after-in (drop 1 l))))
+    (fault-of (tail-faults (list-at l) (filled (defined-in (drop 1 l))) (last-in (drop 1 l))))) (fault-of (form-faults (is-stray []) [] (after-in (drop 1 l))))
 faults-with s [] h = absurd (false≢true h)
 faults-with s (t ∷ us) h =
     let o = outer-faults (first-statement (elements s)) in
@@ -278,8 +355,10 @@ module _ {s m c firsts : List ℕ} (p : Lent-rows s m c firsts) {a : ℕ} (sa : 
   pub bracketed : ifAny false is-open (elements-from s b) ≡ true → Bracketed s m c firsts b
   bracketed h = record { lent = lent-at; room = p .room; wide = p .wide; macros-room = p .macros-room; begins = h }
 
-  pub no-list-section : Sectioned s m c 0 0 0
-  no-list-section = record { lent = start-lent; room = omega (arith, p .room, p .size); wide = p .wide; starts = omega arith }
+  pub no-list-section : Sectioned s m c 0 0 3 0
+  unfolding code.behind-changes
+  no-list-section =
+      record { lent = start-lent; few = omega arith; first = omega arith; there = refl; room = omega (arith, p .room, p .size); wide = p .wide }
 
   pub with-list : ifAny false is-open (elements-from s b) ≡ true → {d g : List ℕ} {r : Listing} → List-read s d g b (f .fault) r → Macros-read s d g r
   unfolding macros-in
@@ -288,32 +367,38 @@ module _ {s m c firsts : List ℕ} (p : Lent-rows s m c firsts) {a : ℕ} (sa : 
       record {
         few = y .few;
         macros-are = y .macros-are ∙ ap (λ (ts : List spec.Element). each (macro-of s) (defined-in (drop 1 ts))) (sym l);
-        section-is =
-            (λ i. cond (y .is-listed i) (kept 0 (take (y .before-is i) s) ∷ []) [] ++ y .section-is i)
-            ∙ sym (section-with s (elements-from s b) h)
-            ∙ ap (pieces-by s) (sym l)
-            ∙ sym (pieces-are s);
+        low = y .low;
+        cells = record {
+          starts = y .cells .starts;
+          stops = y .cells .stops;
+          changes-are = y .cells .changes-are ∙ sym (changes-with s (elements-from s b) h) ∙ ap (changes-by s) (sym l) ∙ sym (changes-whole s);
+        };
         fault-is =
             y .fault-is
-            ∙ (λ i. lower (lower (lower (lower (first-is i) (fault-of (follow-faults (after-in (drop 1 (elements-from s b)))))) (fault-of (each definition-faults (defined-in (drop 1 (elements-from s b)))))) (fault-of (tail-faults (y .before-is i) (filled (defined-in (drop 1 (elements-from s b)))) (last-in (drop 1 (elements-from s b)))))) (fault-of (form-faults (is-stray []) [] (after-in (drop 1 (elements-from s b))))))
+            ∙ (λ i. lower (lower (lower (lower (first-is i) (fault-of (follow-faults (after-in (drop 1 (elements-from s b)))))) (fault-of (each definition-faults (defined-in (drop 1 (elements-from s b)))))) (fault-of (tail-faults (list-at (elements-from s b)) (filled (defined-in (drop 1 (elements-from s b)))) (last-in (drop 1 (elements-from s b)))))) (fault-of (form-faults (is-stray []) [] (after-in (drop 1 (elements-from s b))))))
             ∙ sym (faults-with s (elements-from s b) h)
             ∙ ap (λ (ts : List spec.Element). fault-of (faults-by s ts ++ form-faults (is-stray []) [] (rest-by s ts))) (sym l)
             ∙ sym (ap fault-of (faults-are s));
       }
 
   pub without-list : {t : Element} (k : Next-element s b t) {o : Bool} → o ≡ is-open (value-of s t) → o ≡ false → {d g : List ℕ} {x : Fault} → Section-read s c d 0 0 0 x
-      → Macros-read s d g (record { count = 0; section = 0; listed = false; before = 0; fault = x })
-  unfolding macros-in code.macros-in tab stretches
+      → Macros-read s d g (record { count = 0; section = 0; fault = x })
+  unfolding macros-in code.macros-in code.changes-in tab stretches
   without-list k e q {d} {g} {x} y =
       let l = no-list k e q in
       record {
         few = omega arith;
         macros-are = sym (ap (λ (ts : List spec.Element). each (macro-of s) (defined-in (drop 1 ts))) l);
-        section-is =
-            y .body-is
-            ∙ ap (λ (ts : List spec.Element). pieces-from s 0 (length s) (section-changes (length s) ts)) (sym whole-is)
-            ∙ ap (pieces-by s) (sym l)
-            ∙ sym (pieces-are s);
+        low = omega arith;
+        cells = record {
+          starts = y .cells .starts;
+          stops = y .cells .stops;
+          changes-are =
+              y .cells .changes-are
+              ∙ ap (λ (ts : List spec.Element). section-changes (length s) ts) (sym whole-is)
+              ∙ ap (changes-by s) (sym l)
+              ∙ sym (changes-whole s);
+        };
         fault-is =
             y .fault-is
             ∙ ap (λ (ts : List spec.Element). fault-of (form-faults (is-stray []) [] ts)) (sym whole-is)

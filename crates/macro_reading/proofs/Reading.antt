@@ -59,19 +59,19 @@ module _ {s : List ℕ} {n : ℕ} {t : Element} (k : Next-element s n t) (closin
 
 -- the record
 module _ (d : List ℕ) (q a b e f : ℕ) (room : q + 3 ≤ length d) where
-  abbrev record-cells : List ℕ
+  abbrev pub record-cells : List ℕ
   record-cells = set (set d (q + 1) (paired a b)) (q + 2) (paired e f)
 
-  span-there : getD record-cells (q + 1) 0 ≡ paired a b
+  pub span-there : getD record-cells (q + 1) 0 ≡ paired a b
   span-there = getD-set-other (set d (q + 1) (paired a b)) (q + 2) (q + 1) (paired e f) 0 (λ z. omega arith) ∙ getD-set-same d (q + 1) (paired a b) 0 (omega arith)
 
-  counts-there : getD record-cells (q + 2) 0 ≡ paired e f
+  pub counts-there : getD record-cells (q + 2) 0 ≡ paired e f
   counts-there = getD-set-same (set d (q + 1) (paired a b)) (q + 2) (paired e f) 0 (simp length-set (omega arith))
 
-  record-kept : Kept d record-cells (q + 1)
+  pub record-kept : Kept d record-cells (q + 1)
   record-kept = kept-on (kept-set d (q + 1) (paired a b) (q + 1) (le-refl (q + 1))) (kept-set (set d (q + 1) (paired a b)) (q + 2) (paired e f) (q + 1) (omega arith)) (le-refl (q + 1))
 
-  above-there : (hi : ℕ) → Agree d record-cells (q + 3) hi
+  pub above-there : (hi : ℕ) → Agree d record-cells (q + 3) hi
   above-there hi =
       record {
         same =
@@ -79,6 +79,20 @@ module _ (d : List ℕ) (q a b e f : ℕ) (room : q + 3 ≤ length d) where
             getD-set-other (set d (q + 1) (paired a b)) (q + 2) i (paired e f) 0 (λ z. omega arith)
             ∙ getD-set-other d (q + 1) i (paired a b) 0 (λ z. omega arith);
       }
+
+-- all that is read
+module _ {s c d : List ℕ} {x : Scope} {n u : ℕ} {r : Step} (g : Read-changes s c d x n u r) where
+  pub all-changes : changes-in s d u (r .count) ≡ changes-of (x .closing) (parameters-of s c x) (stop-of s (x .closing) n) (inside s (x .closing) n)
+  all-changes =
+      sym (append-nil (changes-in s d u (r .count)))
+      ∙ ap (λ (cs : List Change). changes-in s d u (r .count) ++ cs) (sym (ap (changes-of (x .closing) (parameters-of s c x) (stop-of s (x .closing) n)) (g .done) ∙ none-changed (x .closing) (parameters-of s c x) (stop-of s (x .closing) n)))
+      ∙ g .steps .changes-are
+
+  pub fault-there : r .fault ≡ fault-of (form-in s (parameters-of s c x) (x .closing) n)
+  fault-there =
+      sym (lower-right (r .fault))
+      ∙ ap (λ (ns : List ℕ). lower (r .fault) (fault-of ns)) (sym (ap (form-faults (wrong-in (x .closing) (parameters-of s c x)) (parameters-of s c x)) (g .done) ∙ none-wrong (wrong-in (x .closing) (parameters-of s c x)) (parameters-of s c x)))
+      ∙ g .steps .faults
 
 module _ {s m c d : List ℕ} {x : Scope} {q start n : ℕ} (p : Bodied s m c x q start n) {r : Step} (g : Read-changes s c d x n (x .params + x .count) r)
     {t : Element} (k : Next-element s (r .next) t) where
@@ -146,18 +160,6 @@ module _ {s m c d : List ℕ} {x : Scope} {q start n : ℕ} (p : Bodied s m c x 
       go true = refl
       go false = refl
 
-  all-changes : changes-in s d first (r .count) ≡ changes-of (x .closing) (parameters-of s c x) (stop-of s (x .closing) n) (inside s (x .closing) n)
-  all-changes =
-      sym (append-nil (changes-in s d first (r .count)))
-      ∙ ap (λ (cs : List Change). changes-in s d first (r .count) ++ cs) (sym (ap (changes-of (x .closing) (parameters-of s c x) (stop-of s (x .closing) n)) (g .done) ∙ none-changed (x .closing) (parameters-of s c x) (stop-of s (x .closing) n)))
-      ∙ g .steps .changes-are
-
-  fault-there : r .fault ≡ fault-of (form-in s (parameters-of s c x) (x .closing) n)
-  fault-there =
-      sym (lower-right (r .fault))
-      ∙ ap (λ (ns : List ℕ). lower (r .fault) (fault-of ns)) (sym (ap (form-faults (wrong-in (x .closing) (parameters-of s c x)) (parameters-of s c x)) (g .done) ∙ none-wrong (wrong-in (x .closing) (parameters-of s c x)) (parameters-of s c x)))
-      ∙ g .steps .faults
-
   forward : (n + cond closed 1 0 ≤ past) × (past ≤ length s) × (r .used + 2 * n + cond closed 2 0 ≤ first + 2 * past)
   forward = go (eqb (t .sort) 0) refl
     where
@@ -197,8 +199,8 @@ module _ {s m c d : List ℕ} {x : Scope} {q start n : ℕ} (p : Bodied s m c x 
         used-is = (λ i. behind-changes written (first-is i) (counts-are .1 i)) ∙ same-changes .1 ∙ g .steps .used-is;
         body-is =
             (λ i. pieces-from s (span-is .0 i) ((span-is .1 ∙ stop-is) i) (changes-in s written (first-is i) (counts-are .1 i)))
-            ∙ ap (pieces-from s start (stop-of s (x .closing) n)) (same-changes .0 ∙ all-changes);
-        fault-is = fault-there;
+            ∙ ap (pieces-from s start (stop-of s (x .closing) n)) (same-changes .0 ∙ all-changes g);
+        fault-is = fault-there g;
         closed-is = closed-is;
         rest = after-is;
       }

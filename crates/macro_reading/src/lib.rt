@@ -6,7 +6,7 @@ ghost use Prim.Native.Nat.{ℕ, _-_, _<_};
 ghost use lib.Dec.{eqb};
 ghost use Rattle.macros.specs.Elements.{is-bracket};
 ghost use Rattle.macro_elements.specs.ElementAt.{elements-from, value-of, Lent};
-ghost use Rattle.macro_reading.specs.Whole.{follow-faults, Sectioned, Section-read, Bracketed, List-read, Lent-rows, Macros-read};
+ghost use Rattle.macro_reading.specs.Whole.{follow-faults, Sectioned, Section-read, Puttable, Puts, Bracketed, List-read, Lent-rows, Macros-read};
 ghost use Rattle.macro_reading.specs.Sections.{outer, Skips, First-read, Tailed, Tail-read};
 ghost use Rattle.statements.specs.Faults.{lower};
 ghost use Rattle.statements.specs.StatementAt.{fault-of};
@@ -328,34 +328,45 @@ fn read_tail(
     }
 }
 
-// The list of macros and the section that were read: the count of macros; the cell of the section; whether there is a list, and the bytes before it;
-// and the lowest place at fault.
+// The list of macros and the section that were read: the count of macros; the cell of the section; and the lowest place at fault.
 pub struct Listing {
     pub count: usize,
     pub section: usize,
-    pub listed: bool,
-    pub before: usize,
     pub fault: Fault,
 }
 
+// The section from place `n` on, with its record at the cell `q`. So many changes stand there already, before the cell `u`.
 fn read_section(
     text: &[u8],
     marked: &[u8],
     code: &mut [u32],
     q: usize,
-    start: usize,
+    before: usize,
+    u: usize,
     n: usize,
 ) -> Fault
-    requires { ⌜ Sectioned (now text) (now marked) (now code) q start n ⌝ }
-    ensures { λ r. ⌜ Section-read (now (text .entry)) (now (code .entry)) (now (code .exit)) q start n r ⌝ }
+    requires { ⌜ Sectioned (now text) (now marked) (now code) q before u n ⌝ }
+    ensures { λ r. ⌜ Section-read (now (text .entry)) (now (code .entry)) (now (code .exit)) q before n r ⌝ }
 {
     let x = Scope {
         params: q + CodePlaces::PARAMETERS,
         count: 0,
         closing: false,
     };
-    let r = read_body(text, marked, code, x, q, start, n);
-    r.fault
+    let r = read_changes(text, marked, code, x, n, u);
+    let fault = r.fault;
+    put(code, q + CodePlaces::SPAN, 0, text.len());
+    put(code, q + CodePlaces::COUNTS, 0, before + r.count);
+    fault
+}
+
+// The list itself is a change of the section, the first: it goes with its brackets.
+fn put_list(code: &mut [u32], u: usize, at: usize, stop: usize)
+    requires { ⌜ Puttable (now code) u at stop ⌝ }
+    ensures { λ _. ⌜ Puts (now (code .entry)) (now (code .exit)) u at stop ⌝ }
+{
+    put(code, u, at, stop);
+    put(code, u + CodePlaces::KIND, CodePlaces::NOTHING, 0);
 }
 
 // What follows the list, if it ends no statement.
@@ -385,12 +396,13 @@ fn read_list(
     let e = read_tail(text, marked, code, d.next, d.used, t.at, d.defined);
     let tail = e.fault;
     let before = lower(first, follow_fault(text, marked, e.next));
-    let section = read_section(text, marked, code, d.used, e.stop, e.next);
+    let u = d.used + CodePlaces::PARAMETERS;
+    put_list(code, u, t.at, e.stop);
+    let on = u + CodePlaces::SMALL_SIZE;
+    let section = read_section(text, marked, code, d.used, 1, on, e.next);
     Listing {
         count: d.count,
         section: d.used,
-        listed: true,
-        before: t.at,
         fault: lower(lower(lower(before, defined), tail), section),
     }
 }
@@ -408,12 +420,10 @@ pub fn read_macros(text: &[u8], marked: &[u8], code: &mut [u32], firsts: &mut [u
     if is_mark(b'(', t) {
         return read_list(text, marked, code, firsts, b, first);
     }
-    let fault = read_section(text, marked, code, 0, 0, 0);
+    let fault = read_section(text, marked, code, 0, 0, CodePlaces::PARAMETERS, 0);
     Listing {
         count: 0,
         section: 0,
-        listed: false,
-        before: 0,
         fault: fault,
     }
 }
