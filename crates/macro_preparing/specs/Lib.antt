@@ -1,1 +1,3 @@
+pub mod Preparing
+pub mod Rows
 pub mod QuestionLaws
