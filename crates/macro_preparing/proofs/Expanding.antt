@@ -19,6 +19,7 @@ use Rattle.macros.specs.Prepared.Prepared.{ready}
 use Rattle.macros.specs.Prepared.{writes, deep-places, listed, section-of, bytes-out, places-out, macro-questions, written-out, unless-unfit, prepared}
 use Rattle.macros.specs.ShapeLaws.{places-rise, prepared-shape}
 use Rattle.macros.specs.WrittenLaws.{written-at-once}
+use Rattle.macro_code.specs.Places as place
 use Rattle.macro_section.specs.Origins.{none, Sectioned}
 use Rattle.macro_section.specs.declared.WrittenOut.{WrittenOut}
 use Rattle.macro_values.specs.Wrote.{Wrote}
@@ -168,12 +169,12 @@ module _ {s o ps : List ℕ} {e : Expanded} (x : Expands s e o ps) where
         fits = rw (f .is) (omega arith);
       }
 
-module _ {s o ls : List ℕ} (p : Preparable s o ls) (v : told.Verdict) (w : verdict-of v ≡ first-no (whole-questions s)) where
-  pub passes : {m : List ℕ} → Marked-row s m → length m ≡ limit.text → v ≡ Yes → Unwritten s m ls
+module _ {s o ls c : List ℕ} (p : Preparable s o ls c) (v : told.Verdict) (w : verdict-of v ≡ first-no (whole-questions s)) where
+  pub passes : {m : List ℕ} → Marked-row s m → length m ≡ limit.text → v ≡ Yes → Unwritten s m ls c
   passes r l y =
-      record { passed = record { macros = p .macros; row = r; room = l; whole = sym w ∙ ap verdict-of y }; lines-room = p .lines-room }
+      record { passed = record { macros = p .macros; row = r; room = l; whole = sym w ∙ ap verdict-of y }; lines-room = p .lines-room; cells = p .code-room }
 
-  pub refuses-whole : {m : List ℕ} {number at : ℕ} {r : answer.Prepared} → length m ≡ limit.text → v ≡ No number at → Refuses s number at r → Prepares s r m ls
+  pub refuses-whole : {m : List ℕ} {number at : ℕ} {r : answer.Prepared} → length m ≡ limit.text → v ≡ No number at → Refuses s number at r → Prepares s r m ls c
   unfolding unless-unfit
   refuses-whole {m} l y f =
       record {
@@ -181,8 +182,9 @@ module _ {s o ls : List ℕ} (p : Preparable s o ls) (v : told.Verdict) (w : ver
         fits = rw (f .is) (omega arith);
         size = l;
         lines-size = p .lines-room;
+        code-size = p .code-room;
       }
 
-  pub prepares : {m ms : List ℕ} {r : answer.Prepared} → v ≡ Yes → length m ≡ limit.text → length ms ≡ limit.text → Writes s r m ms → Prepares s r m ms
-  prepares y l k f =
-      record { is = f .is ∙ sym (prepared-whole s (p .macros) (sym w ∙ ap verdict-of y)); fits = f .fits; size = l; lines-size = k }
+  pub prepares : {m ms d : List ℕ} {r : answer.Prepared} → v ≡ Yes → length m ≡ limit.text → length ms ≡ limit.text → length d ≡ place.cells → Writes s r m ms → Prepares s r m ms d
+  prepares y l k j f =
+      record { is = f .is ∙ sym (prepared-whole s (p .macros) (sym w ∙ ap verdict-of y)); fits = f .fits; size = l; lines-size = k; code-size = j }

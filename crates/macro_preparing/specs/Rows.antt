@@ -110,10 +110,11 @@ pub record Places (s ps : List ℕ) (n : ℕ) : Type 0 where
 pub record Lines (s ps : List ℕ) (n : ℕ) (ls : List ℕ) : Type 0 where
   pub are : take n ls ≡ map (line-of s) (take n ps)
 
--- a text that 14 to 16 let pass, with rows for its written-out bytes and their lines
-pub record Unwritten (s o ls : List ℕ) : Type 0 where
+-- a text that 14 to 16 let pass, with rows for its written-out bytes and their lines, and for cells
+pub record Unwritten (s o ls c : List ℕ) : Type 0 where
   pub passed : Passed s o
   pub lines-room : length ls ≡ limit.text
+  pub cells : length c ≡ place.cells
 
 pub record Writes (s : List ℕ) (r : told.Prepared) (o ls : List ℕ) : Type 0 where
   pub is : made r o ls ≡ unless-unfit s (first-no (macro-questions s)) (written-out s)

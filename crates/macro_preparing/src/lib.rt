@@ -190,14 +190,14 @@ fn expand_in(
     }
 }
 
-fn expand(text: &[u8], out: &mut [u8], places: &mut [u16]) -> Expanded
-    requires { ⌜ Unwritten (now text) (now out) (now places) ⌝ }
+// The same, with rows that are needed here alone.
+fn expand(text: &[u8], out: &mut [u8], places: &mut [u16], code: &mut [u32]) -> Expanded
+    requires { ⌜ Unwritten (now text) (now out) (now places) (now code) ⌝ }
     ensures { λ r. ⌜ Expands (now (text .entry)) r (now (out .exit)) (now (places .exit)) ⌝ }
 {
-    let mut code = [0u32; CodePlaces::CELLS];
     let mut names = [0u16; NAMES];
     let mut heights = [0u8; HEIGHTS];
-    expand_in(text, &mut code, &mut names, &mut heights, out, places)
+    expand_in(text, code, &mut names, &mut heights, out, places)
 }
 
 fn refuse(text: &[u8], number: u8, at: usize) -> Prepared
@@ -216,11 +216,11 @@ fn place_lines(text: &[u8], places: &mut [u16], count: usize)
 }
 
 // The marked text, written out.
-fn write_out(text: &[u8], out: &mut [u8], lines: &mut [u16]) -> Prepared
-    requires { ⌜ Unwritten (now text) (now out) (now lines) ⌝ }
+fn write_out(text: &[u8], out: &mut [u8], lines: &mut [u16], code: &mut [u32]) -> Prepared
+    requires { ⌜ Unwritten (now text) (now out) (now lines) (now code) ⌝ }
     ensures { λ r. ⌜ Writes (now (text .entry)) r (now (out .exit)) (now (lines .exit)) ⌝ }
 {
-    let e = expand(text, out, lines);
+    let e = expand(text, out, lines, code);
     let count = e.count;
     let verdict = e.verdict;
     match verdict {
@@ -233,13 +233,14 @@ fn write_out(text: &[u8], out: &mut [u8], lines: &mut [u16]) -> Prepared
 }
 
 // Makes a text with macros ready for loading: its written-out bytes and the line of each, or the number and line of the first question answered no.
-pub fn prepare(text: &[u8], out: &mut [u8], lines: &mut [u16]) -> Prepared
-    requires { ⌜ Preparable (now text) (now out) (now lines) ⌝ }
-    ensures { λ r. ⌜ Prepares (now (text .entry)) r (now (out .exit)) (now (lines .exit)) ⌝ }
+// The row `code` is for use here alone.
+pub fn prepare(text: &[u8], out: &mut [u8], lines: &mut [u16], code: &mut [u32]) -> Prepared
+    requires { ⌜ Preparable (now text) (now out) (now lines) (now code) ⌝ }
+    ensures { λ r. ⌜ Prepares (now (text .entry)) r (now (out .exit)) (now (lines .exit)) (now (code .exit)) ⌝ }
 {
     mark(text, out);
     match ask_marked(text, out) {
         Verdict::No(number, at) => refuse(text, number, at),
-        Verdict::Yes => write_out(text, out, lines),
+        Verdict::Yes => write_out(text, out, lines, code),
     }
 }
