@@ -2,7 +2,7 @@
 use mathlib.Core.Path.{_≡_, refl, sym, subst}
 use mathlib.Core.Bool.{Bool, true, false, cond, not, _&&_, Bool·beq}
 use mathlib.Core.List.{List, [], _∷_, _++_, map}
-use Prim.Native.Nat.{ℕ, zero, suc, pred, _<_}
+use Prim.Native.Nat.{ℕ, zero, suc, pred, _≤_, _<_}
 use Prim.Native.String.{String}
 use native.Mathlib.Nat.{not-suc-le-zero, le-of-suc-le-suc}
 use native.Mathlib.Omega.{arith}
@@ -21,16 +21,19 @@ use Rattle.layout.specs.Bounds.{Each}
 use Rattle.layout.specs.CellLaws.{each-left, each-right}
 use Rattle.syntax.specs.ArgumentForms.{form-in, Argument, of-form}
 use Rattle.syntax.specs.Ending.{last-place, absent, end-faults, given-as, used-labels, undeclared-labels, undeclared-switches, last-questions}
-use Rattle.syntax.specs.Items.{Item, is, places, statements-from, lines-of}
+use Rattle.syntax.specs.Items.{Item, is, places, statements-from}
 use Rattle.syntax.specs.Items.Sort.{word}
-use Rattle.syntax.specs.LineLaws.{text-lined}
-use Rattle.syntax.specs.Load.{Loaded, label-place, instr-of, program-of, unless-refused, load-from, Lined, loadIn}
+use Rattle.syntax.specs.Load.{Loaded, label-place, instr-of, program-of, unless-refused, load-from, Lined}
 use Rattle.syntax.specs.Load.Loaded.{accepted}
 use Rattle.syntax.specs.Questions.{questions}
 use Rattle.syntax.specs.Statements.{entries-in}
 use Rattle.syntax.specs.Tables.{Written, Choice, Tables, Draft, blank, contents, draft-after}
 use Rattle.syntax.specs.Verdict.{Verdict, first-no}
 use Rattle.syntax.specs.Verdict.Verdict.{refuse}
+use Rattle.macros.specs.Load.{loaded, loadIn}
+use Rattle.macros.specs.LoadLaws.{prepared-lined}
+use Rattle.macros.specs.Prepared.{Prepared, prepared}
+use Rattle.macros.specs.Prepared.Prepared.{unfit, ready}
 use Rattle.acceptance.specs.RowLaws.{not-not, append-none, map-none, cond-none, keep-none, each-none, each-map, each-both, each-all, each-mapped, each-unmapped, each-unkeep, each-each, Answered, answered}
 use Rattle.acceptance.specs.ReaderLaws.{statements-sound}
 use Rattle.acceptance.specs.FreshLaws.{different-left}
@@ -252,10 +255,15 @@ load-good ls lined n last d h (x ∷ xs) k p e =
 
 -- The program of an accepted text is well formed
 pub accepted-good : (cells : ℕ) (s : List ℕ) (p : Program) → loadIn cells s ≡ accepted p → T (good-program p)
-unfolding loadIn
+unfolding loadIn loaded
 accepted-good cells s p e = go (leb limit.table cells) (leb (length s) limit.text) refl e
   where
-    go : (a b : Bool) → leb (length s) limit.text ≡ b → cond (a && b) (load-from (lines-of s) (last-place s) blank (statements-from 0 s)) (Loaded.refused 40 0) ≡ accepted p → T (good-program p)
-    go true true f e = load-good (lines-of s) (text-lined s (leb→le (length s) limit.text (subst T (sym f) tt))) (length s) (last-place s) blank (blank-sound (length s)) (statements-from 0 s) (statements-sound s) p e
+    made : (x : Prepared) → prepared s ≡ x → length s ≤ limit.text → loaded x ≡ accepted p → T (good-program p)
+    made (unfit number line) f short e = absurd (let z : _≡_ {A = ℕ} 0 1 = cc in omega arith)
+    made (ready w ls) f short e =
+        load-good ls (prepared-lined s w ls short f) (length w) (last-place w) blank (blank-sound (length w)) (statements-from 0 w) (statements-sound w) p e
+
+    go : (a b : Bool) → leb (length s) limit.text ≡ b → cond (a && b) (loaded (prepared s)) (Loaded.refused 40 0) ≡ accepted p → T (good-program p)
+    go true true f e = made (prepared s) refl (leb→le (length s) limit.text (subst T (sym f) tt)) e
     go true false f e = absurd (let z : _≡_ {A = ℕ} 0 1 = cc in omega arith)
     go false b f e = absurd (let z : _≡_ {A = ℕ} 0 1 = cc in omega arith)

@@ -12,7 +12,8 @@ use Rattle.language.specs.Values.{Inputs}
 use Rattle.machine.specs.WellFormed.{good-program}
 use Rattle.layout.specs.Table.{table-cells, program-of, good-table}
 use Rattle.layout.specs.TableLaws.{program-of-cells, table-good}
-use Rattle.syntax.specs.Load.{Loaded, loadIn, loadOf}
+use Rattle.macros.specs.Load.{loadIn, loadOf}
+use Rattle.syntax.specs.Load.{Loaded}
 use Rattle.syntax.specs.Load.Loaded.{refused, accepted}
 use Rattle.acceptance.specs.AcceptanceLaws.{accepted-good}
 use Rattle.calls.specs.Calls.{load-number, load-line, load-answer, table-after}

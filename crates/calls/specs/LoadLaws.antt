@@ -9,56 +9,79 @@ use lib.Dec.{T, leb, leb→le}
 use lib.ListN.{length}
 use Rattle.language.specs.Limits as limit
 use Rattle.language.specs.Program.{Program}
-use Rattle.lists.specs.Lists.{all, among}
-use Rattle.lists.specs.ListLaws.{T-left, T-right, all-among}
+use Rattle.lists.specs.Lists.{among}
+use Rattle.lists.specs.ListLaws.{all-among}
+use Rattle.macros.specs.Load.{loaded, loadIn}
+use Rattle.macros.specs.LoadLaws.{prepared-lined, unfit-numbers, unfit-listed}
+use Rattle.macros.specs.Prepared.{Prepared, prepared}
+use Rattle.macros.specs.Prepared.Prepared.{unfit, ready}
 use Rattle.syntax.specs.Ending.{last-place, last-questions}
-use Rattle.syntax.specs.Items.{Item, statements-from, lines-of}
-use Rattle.syntax.specs.LineLaws.{text-lined}
-use Rattle.syntax.specs.Load.{Loaded, loadIn, load-from, unless-refused, program-of, Lined}
+use Rattle.syntax.specs.Items.{Item, statements-from}
+use Rattle.syntax.specs.Load.{Loaded, load-from, unless-refused, program-of, Lined, text-loads}
 use Rattle.syntax.specs.Load.Loaded.{refused, accepted}
+use Rattle.syntax.specs.LoadLaws.{all-listed, refuse-listed}
 use Rattle.syntax.specs.Questions.{questions}
 use Rattle.syntax.specs.Tables.{Draft, blank, draft-after}
-use Rattle.syntax.specs.Verdict.{Question, lowest, decide, first-no}
+use Rattle.syntax.specs.Verdict.{Question, Verdict, first-no}
+use Rattle.syntax.specs.Verdict.Verdict.{yes, refuse}
 use Rattle.calls.specs.Calls.{load-number, load-line, load-answer}
 use Rattle.calls.specs.AnswerLaws.{packed-number, packed-value}
 
--- the numbers of a refused text: of the call, of a statement, of the whole text; 80, of acceptance, is none of them
+-- the numbers of a refused text: of the whole text, of its macros, of a statement, of the end
+abbrev pub text-refusals : List ℕ
+text-refusals = 14 ∷ 15 ∷ 16 ∷ 64 ∷ 65 ∷ 66 ∷ 0 ∷ 10 ∷ 8 ∷ 6 ∷ 1 ∷ 2 ∷ 11 ∷ 25 ∷ 12 ∷ 13 ∷ []
+
+-- and of the call; 80, of acceptance, is none of them
 abbrev pub load-refusals : List ℕ
-load-refusals = 40 ∷ 14 ∷ 15 ∷ 16 ∷ 0 ∷ 10 ∷ 8 ∷ 6 ∷ 1 ∷ 2 ∷ 11 ∷ 25 ∷ 12 ∷ 13 ∷ []
+load-refusals = 40 ∷ text-refusals
 
 abbrev pub load-numbers : List ℕ
 load-numbers = 80 ∷ load-refusals
 
 -- a refusal has one of these numbers and a line of the text, at most 32,769
+abbrev pub Listed : List ℕ → Loaded → Type 0
+Listed ns (refused number line) = T (among number ns) × (line ≤ suc limit.text)
+Listed ns (accepted p) = Unit {0}
+
 abbrev pub LoadListed : Loaded → Type 0
-LoadListed (refused number line) = T (among number load-refusals) × (line ≤ suc limit.text)
-LoadListed (accepted p) = Unit {0}
+LoadListed x = Listed load-refusals x
 
 -- ---- numbers
 
-abbrev all-listed : List Question → Bool
-all-listed qs = all (λ q. among (q .number) load-refusals) qs
-
 module _ (ls : List ℕ) (lined : Lined ls) where
-  -- a refusal has the number of one of the questions
-  first-listed : (r : Loaded) → LoadListed r → (qs : List Question) → T (all-listed qs) → LoadListed (unless-refused ls (first-no qs) r)
-  unfolding first-no decide unless-refused
-  first-listed r k [] h = k
-  first-listed r k (q ∷ qs) h =
-      go (q .faults) (T-left (among (q .number) load-refusals) (all-listed qs) h)
-      (first-listed r k qs (T-right (among (q .number) load-refusals) (all-listed qs) h))
+  first-listed : (r : Loaded) → Listed text-refusals r → (qs : List Question) → T (all-listed text-refusals qs) → Listed text-refusals (unless-refused ls (first-no qs) r)
+  unfolding unless-refused
+  first-listed r k qs h = go (first-no qs) refl
     where
-      go : (ps : List ℕ) → T (among (q .number) load-refusals) → LoadListed (unless-refused ls (first-no qs) r)
-          → LoadListed (unless-refused ls (decide (q .number) ps (first-no qs)) r)
-      go [] l rest = rest
-      go (p ∷ ps) l rest = (l, omega (arith, lined .most (lowest p ps)))
+      go : (v : Verdict) → first-no qs ≡ v → Listed text-refusals (unless-refused ls v r)
+      go yes e = k
+      go (refuse number at) e = (refuse-listed text-refusals qs h number at e, omega (arith, lined .most at))
 
-  from-listed : (last : ℕ) (d : Draft) (xs : List (List Item)) → LoadListed (load-from ls last d xs)
+  from-listed : (last : ℕ) (d : Draft) (xs : List (List Item)) → Listed text-refusals (load-from ls last d xs)
   unfolding load-from questions last-questions
   from-listed last d [] = first-listed (accepted (program-of ls (d .tables))) tt (last-questions last d) tt
   from-listed last d (x ∷ xs) = first-listed (load-from ls last (draft-after d x) xs) (from-listed last (draft-after d x) xs) (questions d x) tt
 
+  -- a text whose bytes have these lines
+  pub text-listed : (s : List ℕ) → Listed text-refusals (text-loads s ls)
+  text-listed s = from-listed (last-place s) blank (statements-from 0 s)
+
+-- a text with macros or without
+pub loaded-listed : (s : List ℕ) → length s ≤ limit.text → Listed text-refusals (loaded (prepared s))
+unfolding loaded
+loaded-listed s short = go (prepared s) refl
+  where
+    go : (x : Prepared) → prepared s ≡ x → Listed text-refusals (loaded x)
+    go (unfit number line) e =
+        let h = unfit-listed s number line e in
+        (all-among (λ n. among n text-refusals) unfit-numbers tt number (h .0), omega (arith, h .1))
+    go (ready w ls) e = text-listed ls (prepared-lined s w ls short e) w
+
 -- ---- load
+
+more-listed : (x : Loaded) → Listed text-refusals x → LoadListed x
+more-listed (refused n l) h = (all-among (λ n. among n load-refusals) text-refusals tt n (h .0), h .1)
+more-listed (accepted p) h = tt
 
 number-in : (x : Loaded) → LoadListed x → T (among (load-number x) load-numbers)
 number-in (refused n l) h = all-among (λ n. among n load-numbers) load-refusals tt n (h .0)
@@ -77,8 +100,8 @@ module _ (cells : ℕ) (s : List ℕ) where
   unfolding loadIn
   load-within = go (leb limit.table cells) (leb (length s) limit.text) refl
     where
-      go : (a b : Bool) → leb (length s) limit.text ≡ b → LoadListed (cond (a && b) (load-from (lines-of s) (last-place s) blank (statements-from 0 s)) (refused 40 0))
-      go true true e = from-listed (lines-of s) (text-lined s (leb→le (length s) limit.text (subst T (sym e) tt))) (last-place s) blank (statements-from 0 s)
+      go : (a b : Bool) → leb (length s) limit.text ≡ b → LoadListed (cond (a && b) (loaded (prepared s)) (refused 40 0))
+      go true true e = more-listed (loaded (prepared s)) (loaded-listed s (leb→le (length s) limit.text (subst T (sym e) tt)))
       go true false e = (tt, omega arith)
       go false b e = (tt, omega arith)
 

@@ -13,7 +13,8 @@ use Rattle.machine.specs.Runs.{Answer, Run, run}
 use Rattle.machine.specs.Runs.Answer.{pause, stopped}
 use Rattle.machine.specs.Steps.{step}
 use Rattle.machine.specs.WellFormed.{good-inputs, started}
-use Rattle.syntax.specs.Load.{Loaded, loadOf}
+use Rattle.macros.specs.Load.{loadOf}
+use Rattle.syntax.specs.Load.{Loaded}
 use Rattle.syntax.specs.Load.Loaded.{refused, accepted}
 
 -- ---- "the text up to the end of the first line starting with KONP (all of it where there is none), the bytes after it being I1"

@@ -8,7 +8,7 @@ use Rattle.calls.specs.Calls.{table-after}
 use Rattle.language.specs.Limits as limit
 use Rattle.language.specs.Program.{Program}
 use Rattle.layout.specs.TableLaws.{program-of-cells, table-good}
-use Rattle.syntax.specs.Load.{loadIn}
+use Rattle.macros.specs.Load.{loadIn}
 use Rattle.syntax.specs.Load.Loaded.{accepted}
 use Rattle.history.specs.AcceptedTable.{AcceptedTable}
 

@@ -17,7 +17,7 @@ use Rattle.layout.specs.Bounds.{Each}
 use Rattle.layout.specs.Memory.{state-of, written}
 use Rattle.layout.specs.Table.{program-of, good-table}
 use Rattle.layout.specs.TableLaws.{program-of-cells, table-good, table-facts}
-use Rattle.syntax.specs.Load.{loadIn}
+use Rattle.macros.specs.Load.{loadIn}
 use Rattle.syntax.specs.Load.Loaded.{accepted}
 use Rattle.acceptance.specs.RowLaws.{each-map}
 use Rattle.acceptance.specs.AcceptanceLaws.{accepted-good}

@@ -12,10 +12,14 @@ use Rattle.layout.specs.Components.{component-bytes, components-bytes, record-b
 use Rattle.layout.specs.Memory.{file-strings, strings, state-cells, threes-in, files-in, twos-in, state-by, state-in, state-of, good-memory, written}
 use Rattle.layout.specs.Strings.{lengths, used, string-cells, lengths-in, cut-by, strings-in}
 use Rattle.layout.specs.Table.{switch-cells, table-cells, program-in, program-of, good-table}
-use Rattle.syntax.specs.Load.{Loaded, loadIn}
+use Rattle.syntax.specs.Load.{Loaded}
 use Rattle.syntax.specs.Load.{opened as opened-load}
 use Rattle.syntax.specs.Load.Loaded.{accepted}
 use Rattle.syntax.specs.Sample.{sample-text, sample}
+use Rattle.macros.specs.Load as macros
+use Rattle.macros.specs.Load.{loadIn}
+use Rattle.macros.specs.Marks.{has-macros}
+use Rattle.macros.specs.Prepared.{prepared}
 use Rattle.calls.specs.Calls.{table-after, Call, reply-number, reply-count, result-of}
 use Rattle.calls.specs.Calls.Call.{start-on, run-on}
 use Rattle.history.specs.History.{Moment, history}
@@ -42,5 +46,5 @@ pub record Sample : Type 0 where
       ≡ (63, 0) ∷ (61, 0) ∷ (80, 0) ∷ (81, 1) ∷ (50, 1) ∷ (81, 0) ∷ []
 
 pub sample-holds : Sample
-unfolding opened-load opened table-after result-of good-table table-cells padded switch-cells fours unfours code uncode tab program-in program-of good-program good-instr listed good-label good-switch good-return good-inputs store-faults good-store good-state started known file-strings strings state-cells threes-in files-in twos-in state-by state-in state-of good-memory written lengths used string-cells lengths-in cut-by strings-in component-bytes components-bytes record-bytes records-bytes component-in components-from components-in record-in records-from records-in
+unfolding has-macros prepared macros.loaded loadIn opened-load opened table-after result-of good-table table-cells padded switch-cells fours unfours code uncode tab program-in program-of good-program good-instr listed good-label good-switch good-return good-inputs store-faults good-store good-state started known file-strings strings state-cells threes-in files-in twos-in state-by state-in state-of good-memory written lengths used string-cells lengths-in cut-by strings-in component-bytes components-bytes record-bytes records-bytes component-in components-from components-in record-in records-from records-in
 sample-holds = record { program = refl; answers = refl }

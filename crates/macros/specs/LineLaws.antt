@@ -73,3 +73,8 @@ line-least s p = omega arith
 pub line-low : (s : List ℕ) (p : ℕ) → line-of s p ≤ suc p
 unfolding line-of
 line-low s p = omega (arith, keep-few (eqb 10) (take p s), length-take p s)
+
+-- and at most one more than the text has bytes
+pub line-high : (s : List ℕ) (p : ℕ) → line-of s p ≤ suc (length s)
+unfolding line-of
+line-high s p = omega (arith, keep-few (eqb 10) (take p s), length-take p s)

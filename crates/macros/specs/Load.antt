@@ -7,7 +7,7 @@ use lib.ListN.{length}
 use Rattle.language.specs.Limits as limit
 use Rattle.syntax.specs.Ending.{last-place, last-questions}
 use Rattle.syntax.specs.Items.{Item, statements-from, line-at}
-use Rattle.syntax.specs.Load.{Loaded, program-of, load-from}
+use Rattle.syntax.specs.Load.{Loaded, program-of, text-loads}
 use Rattle.syntax.specs.Load.Loaded.{refused, accepted}
 use Rattle.syntax.specs.Questions.{questions}
 use Rattle.syntax.specs.Tables.{Tables, Draft, blank, draft-after}
@@ -19,7 +19,7 @@ use Rattle.macros.specs.Prepared.Prepared.{unfit, ready}
 -- the answer to a text made ready
 unfoldable pub loaded : Prepared → Loaded
 loaded (unfit number line) = refused number line
-loaded (ready w ls) = load-from ls (last-place w) blank (statements-from 0 w)
+loaded (ready w ls) = text-loads w ls
 
 -- "Table long enough, text short enough? 40", with the line 0
 unfoldable pub loadIn : ℕ → List ℕ → Loaded

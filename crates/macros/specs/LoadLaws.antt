@@ -1,10 +1,11 @@
 -- A text with macros runs as its written-out text, with the given text's lines; one without loads as before.
 use mathlib.Core.Path.{_≡_, refl, sym, ap, _∙_}
 use mathlib.Core.Bool.{Bool, true, false, cond, _&&_, _||_}
-use mathlib.Core.List.{List, [], _∷_, map}
+use mathlib.Core.List.{List, [], _∷_, _++_, map}
 use Prim.Native.Nat.{ℕ, zero, suc, _≤_, _<_}
 use native.Mathlib.Omega.{arith}
 use lib.ListN.{length, take, drop}
+use lib.Dec.{T}
 use borrow.Author.Tests.{le-leb}
 use Rattle.language.specs.Limits as limit
 use Rattle.language.specs.Program.{Program}
@@ -15,8 +16,9 @@ use Rattle.syntax.specs.Items.{Item, is, Sort, same-sort, attach, named, parted
 use Rattle.syntax.specs.Items.Mode.{outside}
 use Rattle.syntax.specs.Items.Sort.{separator, word, colon, end, text, wrong}
 use Rattle.syntax.specs.LineLaws.{text-lined}
-use Rattle.syntax.specs.Load.{Loaded, Lined, program-of, unless-refused, load-from}
+use Rattle.syntax.specs.Load.{Loaded, Lined, program-of, unless-refused, load-from, load-typed}
 use Rattle.syntax.specs.Load.Loaded.{accepted}
+use Rattle.syntax.specs.LoadLaws.{refuse-listed}
 use Rattle.syntax.specs.Questions.{questions}
 use Rattle.syntax.specs.Tables.{Draft, blank, draft-after}
 use Rattle.syntax.specs.Verdict.{Verdict, first-no}
@@ -24,11 +26,11 @@ use Rattle.syntax.specs.Verdict.Verdict.{yes, refuse}
 use Rattle.macros.specs.AcceptedLaws.{written-plain}
 use Rattle.macros.specs.Load.{loaded, loadIn, Outcome, told, unless-no, outcome-from, outcome}
 use Rattle.macros.specs.Load.Outcome.{accepts}
-use Rattle.macros.specs.Marks.{byte-at, has-macros}
-use Rattle.macros.specs.Prepared.{places-out, prepared}
-use Rattle.macros.specs.Prepared.Prepared.{ready}
-use Rattle.macros.specs.ShapeLaws.{yes-none, places-rise, prepared-shape, written-by, plain-same}
-use Rattle.macros.specs.LineLaws.{line-least, line-low}
+use Rattle.macros.specs.Marks.{byte-at, has-macros, whole-questions}
+use Rattle.macros.specs.Prepared.{bytes-out, places-out, macro-questions, written-out, unless-unfit, prepared}
+use Rattle.macros.specs.Prepared.Prepared.{unfit, ready}
+use Rattle.macros.specs.ShapeLaws.{not-ready, yes-none, places-rise, prepared-shape, written-by, plain-same}
+use Rattle.macros.specs.LineLaws.{line-least, line-low, line-high}
 use Rattle.macros.specs.OrderLaws.{Rising}
 
 -- lines change nothing but lines
@@ -50,7 +52,7 @@ module _ (cells : ℕ) (s : List ℕ) (long : limit.table ≤ cells) (short : le
   load-asked = rw (le-leb limit.table cells long, le-leb (length s) limit.text short) refl
 
   -- a text without star and bracket loads as it stands
-  pub plain-loads : has-macros s ≡ false → loadIn cells s ≡ load-from (lines-of s) (last-place s) blank (statements-from 0 s)
+  pub plain-loads : has-macros s ≡ false → loadIn cells s ≡ load-typed s
   unfolding loaded
   plain-loads h = load-asked ∙ ap loaded (plain-same s h)
 
@@ -87,6 +89,27 @@ prepared-lined s w ls short e = go (has-macros s) refl
       where
         same-lines : {v : List ℕ} → ready v (lines-of s) ≡ ready w ls → lines-of s ≡ ls
         same-lines f = cc
+
+-- a text that is not made ready is refused with the number of one of its questions, and with a line of it
+abbrev pub unfit-numbers : List ℕ
+unfit-numbers = 14 ∷ 15 ∷ 16 ∷ 64 ∷ 65 ∷ 66 ∷ []
+
+pub unfit-listed : (s : List ℕ) (number line : ℕ) → prepared s ≡ unfit number line → T (among number unfit-numbers) × (line ≤ suc (length s))
+unfolding prepared unless-unfit written-out whole-questions macro-questions
+unfit-listed s number line e = go (has-macros s) e
+  where
+    judged : (v : Verdict) → first-no (whole-questions s ++ macro-questions s) ≡ v → unless-unfit s v (written-out s) ≡ unfit number line
+        → T (among number unfit-numbers) × (line ≤ suc (length s))
+    judged yes f k = absurd (not-ready number line (bytes-out s) (map (line-of s) (places-out s)) (sym k))
+    judged (refuse n at) f k =
+        let a : n ≡ number = cc in
+        let b : line-of s at ≡ line = cc in
+        rw (sym a, sym b) (refuse-listed unfit-numbers (whole-questions s ++ macro-questions s) tt n at f, line-high s at)
+
+    go : (b : Bool) → cond b (unless-unfit s (first-no (whole-questions s ++ macro-questions s)) (written-out s)) (ready s (lines-of s)) ≡ unfit number line
+        → T (among number unfit-numbers) × (line ≤ suc (length s))
+    go true k = judged (first-no (whole-questions s ++ macro-questions s)) refl k
+    go false k = absurd (not-ready number line s (lines-of s) (sym k))
 
 -- A text that loads as it stands has no star and no bracket outside texts and comments: every statement is asked 14
 

@@ -1,21 +1,20 @@
--- Load, computed at a few texts.
+-- Load of texts as they stand, computed at a few.
 use mathlib.Core.Path.{_≡_, refl}
 use mathlib.Core.Bool.{true}
 use mathlib.Core.List.{[], _∷_}
-use lib.ListN.{replicate}
 use Rattle.lists.specs.Quoted.{bytes}
 use Rattle.language.specs.Letters.{Letter}
 use Rattle.language.specs.Program.{Arg, Op}
-use Rattle.syntax.specs.Load.{loadIn, loadOf, opened}
+use Rattle.syntax.specs.Load.{load-typed, opened}
 use Rattle.syntax.specs.Load.Loaded.{refused, accepted}
 use Rattle.syntax.specs.Sample.{sample-text, sample}
 
-sample-loads : loadOf sample-text ≡ accepted sample
+sample-loads : load-typed sample-text ≡ accepted sample
 unfolding opened
 sample-loads = refl
 
 -- labels alone belong to the next statement, a switch may follow the last instruction, a class has each letter once, in order
-switched : loadOf (bytes "SEKCJA S;A: B:\n\nSKONA A1,X;USUN I2,DLL;SKOCZ B\nX: NAZWA A,B:'*U-';KONS;KONP S")
+switched : load-typed (bytes "SEKCJA S;A: B:\n\nSKONA A1,X;USUN I2,DLL;SKOCZ B\nX: NAZWA A,B:'*U-';KONS;KONP S")
     ≡ accepted (record {
       code =
           record { op = Op.SKONA; line = 3; first = Arg.letter Letter.A 1; second = Arg.switch 0; third = Arg.nothing }
@@ -31,52 +30,43 @@ unfolding opened
 switched = refl
 
 -- each question is asked of the whole statement before the next, and 14 comes before 15
-late : loadOf (bytes "SEKCJA S\nUMIESC '{' /*\n*/ #\nSTOP\nKONS\nKONP S\n") ≡ refused 14 3
+late : load-typed (bytes "SEKCJA S\nUMIESC '{' /*\n*/ #\nSTOP\nKONS\nKONP S\n") ≡ refused 14 3
 unfolding opened
 late = refl
 
 -- small letters stand in texts and comments alone, and no pair has one
-small-label : loadOf (bytes "SEKCJA S\nx: STOP\nKONS\nKONP S\n") ≡ refused 14 2
+small-label : load-typed (bytes "SEKCJA S\nx: STOP\nKONS\nKONP S\n") ≡ refused 14 2
 unfolding opened
 small-label = refl
 
-small-pair : loadOf (bytes "SEKCJA S\nUMIESC 'a*l',A1\nSTOP\nKONS\nKONP S\n") ≡ refused 15 2
+small-pair : load-typed (bytes "SEKCJA S\nUMIESC 'a*l',A1\nSTOP\nKONS\nKONP S\n") ≡ refused 15 2
 unfolding opened
 small-pair = refl
 
 -- the star of `/*` closes no comment
-open-comment : loadOf (bytes "SEKCJA S\n/*/ STOP\nSTOP\nKONS\nKONP S\n") ≡ refused 14 2
+open-comment : load-typed (bytes "SEKCJA S\n/*/ STOP\nSTOP\nKONS\nKONP S\n") ≡ refused 14 2
 unfolding opened
 open-comment = refl
 
 -- the lowest line counts
-lowest-line : loadOf (bytes "SEKCJA S\nPRZESLIJ /*\n*/ 5\nSTOP\nKONS\nKONP S\n") ≡ refused 2 2
+lowest-line : load-typed (bytes "SEKCJA S\nPRZESLIJ /*\n*/ 5\nSTOP\nKONS\nKONP S\n") ≡ refused 2 2
 unfolding opened
 lowest-line = refl
 
 -- an absent statement's line is the last byte's
-nothing-there : loadOf [] ≡ refused 0 1
+nothing-there : load-typed [] ≡ refused 0 1
 unfolding opened
 nothing-there = refl
 
-no-end : loadOf (bytes "SEKCJA S\nSTOP\nKONP S\n\n\n") ≡ refused 25 5
+no-end : load-typed (bytes "SEKCJA S\nSTOP\nKONP S\n\n\n") ≡ refused 25 5
 unfolding opened
 no-end = refl
 
 -- 25 comes before 12, and 12 before 13, over the whole text
-unended : loadOf (bytes "SEKCJA S\nSKOCZ Y\nKONP S\n") ≡ refused 25 3
+unended : load-typed (bytes "SEKCJA S\nSKOCZ Y\nKONP S\n") ≡ refused 25 3
 unfolding opened
 unended = refl
 
-undeclared : loadOf (bytes "SEKCJA S\nSKONA A1,X\nSKOCZ Y\nKONS\nKONP S\n") ≡ refused 12 3
+undeclared : load-typed (bytes "SEKCJA S\nSKONA A1,X\nSKOCZ Y\nKONS\nKONP S\n") ≡ refused 12 3
 unfolding opened
 undeclared = refl
-
--- a table that is too short and a text that is too long come before everything
-too-short : loadIn 8191 [] ≡ refused 40 0
-unfolding opened
-too-short = refl
-
-too-long : loadOf (replicate 32769 32) ≡ refused 40 0
-unfolding opened
-too-long = refl

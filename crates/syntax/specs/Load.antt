@@ -1,9 +1,8 @@
 -- Load: the questions in order, and the program of an accepted text.
-use mathlib.Core.Bool.{cond, _&&_}
+use mathlib.Core.Bool.{cond}
 use mathlib.Core.List.{List, [], _∷_, map}
 use Prim.Native.Nat.{ℕ, _≤_, _<_}
-use lib.Dec.{leb}
-use lib.ListN.{length, getD, drop}
+use lib.ListN.{getD, drop}
 use Rattle.language.specs.Limits as limit
 use Rattle.characters.specs.Characters.{known}
 use Rattle.language.specs.Program.{Arg, classes, Instr, Program}
@@ -71,15 +70,14 @@ pub record Lined (ls : List ℕ) : Type 0 where
   pub least : (p : ℕ) → 0 < line-at ls p
   pub most : (p : ℕ) → line-at ls p ≤ limit.text
 
--- "Table long enough, text short enough? 40", with the line 0
-unfoldable pub loadIn : ℕ → List ℕ → Loaded
-loadIn cells s = cond (leb limit.table cells && leb (length s) limit.text) (load-from (lines-of s) (last-place s) blank (statements-from 0 s)) (refused 40 0)
+-- The answer to a text whose bytes have the lines ls, where table and text have the right lengths; and to a text as it stands, with its own lines
+abbrev pub text-loads : List ℕ → List ℕ → Loaded
+text-loads s ls = load-from ls (last-place s) blank (statements-from 0 s)
 
--- with a table that is long enough
-abbrev pub loadOf : List ℕ → Loaded
-loadOf s = loadIn limit.table s
+abbrev pub load-typed : List ℕ → Loaded
+load-typed s = text-loads s (lines-of s)
 
 -- everything that load computes with, to be named on an `unfolding` line
 unfoldable pub opened : Unit {0}
-unfolding known sort-of ends-text takes-next char-of allows begins itself mode-after items-at left-over read attach named parted statements line-of up-from lines-of by-keyword keyword-of front behind keyword-in one-name entry-faults list-faults entries-in is-index word-reads reads accepting read-by lowest decide first-no fresh with-instr with-switch closing-faults closing-after draft-after first-faults operator-faults label-faults repeated count-faults instr-faults switch-faults instr-beyond switch-beyond questions end-faults undeclared-labels undeclared-switches last-questions arg-of instr-of program-of unless-refused load-from loadIn
+unfolding known sort-of ends-text takes-next char-of allows begins itself mode-after items-at left-over read attach named parted statements line-of up-from lines-of by-keyword keyword-of front behind keyword-in one-name entry-faults list-faults entries-in is-index word-reads reads accepting read-by lowest decide first-no fresh with-instr with-switch closing-faults closing-after draft-after first-faults operator-faults label-faults repeated count-faults instr-faults switch-faults instr-beyond switch-beyond questions end-faults undeclared-labels undeclared-switches last-questions arg-of instr-of program-of unless-refused load-from
 opened = tt

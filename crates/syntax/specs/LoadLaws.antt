@@ -1,10 +1,13 @@
 -- How faults decide, how a word meets its colon, how statements part: for proofs of code that goes from item to item.
-use mathlib.Core.Path.{_≡_, refl}
+use mathlib.Core.Path.{_≡_, refl, subst}
 use mathlib.Core.Bool.{Bool, true, false}
 use mathlib.Core.List.{List, [], _∷_, _++_}
 use Prim.Native.Nat.{ℕ, min}
+use native.Mathlib.Omega.{arith}
+use lib.Dec.{T}
 use Rattle.language.specs.Values.{chars}
-use Rattle.lists.specs.Lists.{ifAny}
+use Rattle.lists.specs.Lists.{all, among, ifAny}
+use Rattle.lists.specs.ListLaws.{T-left, T-right}
 use Rattle.syntax.specs.Items.{Sort, Item, is, a-word, a-mark, attach, named}
 use Rattle.syntax.specs.Items.Sort.{separator, word, colon, end, text, wrong}
 use Rattle.syntax.specs.Verdict.{Question, ask, lowest, decide, first-no}
@@ -24,6 +27,22 @@ goes-on number qs = refl
 pub decides : (number p : ℕ) (ps : List ℕ) (qs : List Question) → first-no (ask number (p ∷ ps) ∷ qs) ≡ refuse number (lowest p ps)
 unfolding first-no decide
 decides number p ps qs = refl
+
+-- a refusal has the number of one of the questions
+abbrev pub all-listed : List ℕ → List Question → Bool
+all-listed ns qs = all (λ q. among (q .number) ns) qs
+
+pub refuse-listed : (ns : List ℕ) (qs : List Question) → T (all-listed ns qs) → (number at : ℕ) → first-no qs ≡ refuse number at → T (among number ns)
+unfolding first-no decide
+refuse-listed ns [] h number at e = absurd (let z : _≡_ {A = ℕ} 0 1 = cc in omega arith)
+refuse-listed ns (q ∷ qs) h number at e = go (q .faults) e (refuse-listed ns qs (T-right (among (q .number) ns) (all-listed ns qs) h) number at)
+  where
+    same : {i j k l : ℕ} → refuse i k ≡ refuse j l → i ≡ j
+    same f = cc
+
+    go : (ps : List ℕ) → decide (q .number) ps (first-no qs) ≡ refuse number at → (first-no qs ≡ refuse number at → T (among number ns)) → T (among number ns)
+    go [] f rest = rest f
+    go (p ∷ ps) f rest = subst (λ (n : ℕ). T (among n ns)) (same f) (T-left (among (q .number) ns) (all-listed ns qs) h)
 
 -- a name and its colon are one item
 pub name-colon : (p q : ℕ) (w : List ℕ) (js : List Item)
