@@ -1,6 +1,6 @@
 -- Every answer of load is a listed number and a line; both are read back from the 64 bits.
 use mathlib.Core.Path.{_≡_, refl, ap, sym, subst}
-use mathlib.Core.Logic.{_↔_}
+use mathlib.Core.Logic.{_↔_, _≢_}
 use mathlib.Core.Bool.{Bool, true, false, cond, _&&_}
 use mathlib.Core.List.{List, [], _∷_}
 use Prim.Native.Nat.{ℕ, suc, _/_, _%_, _≤_}
@@ -94,6 +94,14 @@ line-in (accepted p) h = omega arith
 accepted-by : (x : Loaded) → LoadListed x → load-number x ≡ 80 → (p : Program) × (x ≡ accepted p)
 accepted-by (refused n l) h e = absurd (subst (λ (n : ℕ). T (among n load-refusals)) e (h .0))
 accepted-by (accepted p) h e = (p, refl)
+
+-- 40 is of the call alone
+pub listed-not-40 : (x : Loaded) → Listed text-refusals x → (number line : ℕ) → x ≡ refused number line → number ≢ 40
+listed-not-40 x h number line e q = subst (λ (n : ℕ). T (among n text-refusals)) q (subst (Listed text-refusals) e h .0)
+
+-- and 80 of an accepted text
+pub listed-accepted : (x : Loaded) → Listed text-refusals x → load-number x ≡ 80 → (p : Program) × (x ≡ accepted p)
+listed-accepted x h e = accepted-by x (more-listed x h) e
 
 module _ (cells : ℕ) (s : List ℕ) where
   pub load-within : LoadListed (loadIn cells s)

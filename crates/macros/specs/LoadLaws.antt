@@ -47,7 +47,7 @@ outcome-told ls last d (x ∷ xs) =
 
 -- a long table and a short text
 module _ (cells : ℕ) (s : List ℕ) (long : limit.table ≤ cells) (short : length s ≤ limit.text) where
-  load-asked : loadIn cells s ≡ loaded (prepared s)
+  pub load-asked : loadIn cells s ≡ loaded (prepared s)
   unfolding loadIn
   load-asked = rw (le-leb limit.table cells long, le-leb (length s) limit.text short) refl
 
