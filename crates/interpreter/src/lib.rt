@@ -6,7 +6,7 @@ ghost use lib.ListN.{length};
 ghost use Rattle.calls.specs.Calls.{packed, startOf, runOf};
 ghost use Rattle.layout.specs.Table.{good-table};
 ghost use Rattle.machine.specs.WellFormed.{good-inputs};
-ghost use Rattle.syntax.specs.Load.{loadIn};
+ghost use Rattle.macros.specs.Load.{loadIn};
 ghost use Rattle.interpreter.specs.Answers.{Answers, Answers-load};
 use language::Machine;
 
@@ -22,7 +22,7 @@ fn packed(number: u8, value: u32) -> u64
 pub extern "C" fn eol2_load(text: &[u8], table: &mut [u32]) -> u64
     ensures { λ r. ⌜ Answers-load (loadIn (length (now (table .entry))) (now (text .entry))) (now (table .entry)) r (now (table .exit)) ⌝ }
 {
-    let r = loading::load(text, table);
+    let r = macro_loading::load(text, table);
     packed(r.number, r.line)
 }
 

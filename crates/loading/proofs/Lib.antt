@@ -1,4 +1,3 @@
 pub mod Filling
-pub mod Verdicts
 pub mod Outcomes
 pub mod Walking

@@ -3,11 +3,12 @@ use mathlib.Core.Path.{_≡_, refl, sym, ap, _∙_, subst}
 use mathlib.Core.Logic.{_≢_}
 use mathlib.Core.Bool.{Bool, cond}
 use mathlib.Core.List.{List, _++_}
-use Prim.Native.Nat.{ℕ, _≤_, _<_}
+use Prim.Native.Nat.{ℕ}
 use native.Mathlib.Omega.{arith}
-use borrow.Author.Tests.{ne-eqb, le-leb, lt-leb}
+use borrow.Author.Tests.{ne-eqb}
 use lib.ListN.{length, drop, replicate, take-append-drop}
 use Rattle.calls.specs.Calls.{load-number, load-line, table-after}
+use Rattle.calls.specs.LoadLaws.{text-listed, listed-not-40}
 use Rattle.drafts.specs.Drafting.{draft-program}
 use Rattle.acceptance.specs.DraftLaws.{blank-sound}
 use Rattle.statements.specs.Faults.{verdict-of}
@@ -20,17 +21,14 @@ use Rattle.progress.specs.declared.Progress.{Progress}
 use Rattle.reading_statements.specs.declared.Read.{Read}
 use Rattle.reading_statements.specs.declared.Read.the-variants.{Statement, Refused}
 use Rattle.syntax.specs.Ending.{last-place, last-questions}
-use Rattle.syntax.specs.Items.{lines-of, line-at, statements-from}
+use Rattle.syntax.specs.Items.{lines-of, line-at}
 use Rattle.syntax.specs.LineLaws.{text-lined}
-use Rattle.syntax.specs.Load.{unless-refused, load-from, Lined, loadIn, program-of}
+use Rattle.syntax.specs.Load.{unless-refused, load-from, Lined, program-of, text-loads, load-typed}
 use Rattle.syntax.specs.Load as spec
-use Rattle.syntax.specs.Tables.{blank}
 use Rattle.syntax.specs.Verdict.{first-no}
 use Rattle.writing.specs.Writing.{Cleared}
-use Rattle.loading.specs.Loading.{Loads}
-use Rattle.loading.specs.Texts.{text-loads, Unread, Reads-text, Loadable, Loads-text, Refuses, Lent, Loads-lined}
+use Rattle.loading.specs.Texts.{Unread, Reads-text, Loadable, Loads-text, Refuses, Lent, Leaves, Fit}
 use Rattle.loading.specs.declared.Loaded.{Loaded}
-use Rattle.loading.proofs.Verdicts.{load-not-40}
 
 -- ---- a text from its beginning to its end
 
@@ -87,45 +85,19 @@ module _ {s lines c : List ℕ} (h : Loadable s lines c) where
 
 -- ---- load
 
-module _ (s c : List ℕ) where
-  -- "Table long enough, text short enough? 40"; "After 40 the table stays"
-  no-load : loadIn (length c) s ≡ spec.Loaded.refused 40 0 → {r : Loaded} → r .number ≡ 40 → r .line ≡ 0 → Loads s c r c
-  unfolding table-after
-  no-load e x y =
-      record {
-        number-is = x ∙ sym (ap load-number e);
-        line-is = y ∙ sym (ap load-line e);
-        cells-are = sym (ap (λ t. table-after t c) e);
-      }
+module _ {s c : List ℕ} (h : Fit s c) {lines : List ℕ} (e : lines ≡ lines-of s) where
+  pub lent : Lent s lines c
+  lent = record { short = h .short; lined = subst (λ (x : List ℕ). Lined x) (sym e) (text-lined s (h .short)); long = h .long }
 
-  pub short-table : length c < limit.table → {r : Loaded} → r .number ≡ 40 → r .line ≡ 0 → Loads s c r c
-  unfolding loadIn
-  short-table l x y = no-load (rw (lt-leb limit.table (length c) l) refl) x y
-
-  pub long-text : limit.table ≤ length c → limit.text < length s → {r : Loaded} → r .number ≡ 40 → r .line ≡ 0 → Loads s c r c
-  unfolding loadIn
-  long-text l m x y = no-load (rw (le-leb limit.table (length c) l, lt-leb (length s) limit.text m) refl) x y
-
-  pub lent : limit.table ≤ length c → length s ≤ limit.text → {lines : List ℕ} → lines ≡ lines-of s → Lent s lines c
-  lent l m e = record { short = m; lined = subst (λ (x : List ℕ). Lined x) (sym e) (text-lined s m); long = l }
-
-  pub load-in : limit.table ≤ length c → length s ≤ limit.text → {lines : List ℕ} → lines ≡ lines-of s → {r : Loaded} {d : List ℕ} → Loads-lined s lines c r d → Loads s c r d
-  unfolding loadIn
-  load-in l m {lines} e {r} {d} k =
-      let q : text-loads s lines ≡ loadIn (length c) s =
-      ap (text-loads s) e ∙ sym (rw (le-leb limit.table (length c) l, le-leb (length s) limit.text m) refl) in
-      record {
-        number-is = k .number-is ∙ ap load-number q;
-        line-is = k .line-is ∙ ap load-line q;
-        cells-are = k .cells-are ∙ ap (λ t. table-after t c) q;
-      }
+  pub load-in : {r : Loaded} {d : List ℕ} → Leaves (text-loads s lines) c r d → Leaves (load-typed s) c r d
+  load-in {r} {d} k = subst (λ x. Leaves (text-loads s x) c r d) e k
 
 module _ {s lines c : List ℕ} (h : Lent s lines c) {c₁ : List ℕ} (z : Cleared c c₁) where
   pub loadable : Loadable s lines c₁
   loadable = record { short = h .short; lined = h .lined; holds = z .holds }
 
   module _ {v : Verdict} {c₂ : List ℕ} (t : Loads-text s lines c₁ v c₂) where
-    pub load-accepted : v ≡ Yes → {r : Loaded} → r .number ≡ 80 → r .line ≡ 0 → Loads-lined s lines c r c₂
+    pub load-accepted : v ≡ Yes → {r : Loaded} → r .number ≡ 80 → r .line ≡ 0 → Leaves (text-loads s lines) c r c₂
     unfolding table-after
     load-accepted e x y =
         let a = t .accepted e in
@@ -140,11 +112,11 @@ module _ {s lines c : List ℕ} (h : Lent s lines c) {c₁ : List ℕ} (z : Clea
               ∙ sym (ap (λ t. table-after t c) q);
         }
 
-    pub load-refused : (number at : ℕ) → v ≡ No number at → {r : Loaded} {d : List ℕ} → Refuses lines number at c₂ r d → Loads-lined s lines c r d
+    pub load-refused : (number at : ℕ) → v ≡ No number at → {r : Loaded} {d : List ℕ} → Refuses lines number at c₂ r d → Leaves (text-loads s lines) c r d
     unfolding table-after
     load-refused number at e {r} {d} w =
         let q = t .refused number at e in
-        let n : number ≢ 40 = load-not-40 lines (last-place s) blank (statements-from 0 s) number (line-at lines at) q in
+        let n : number ≢ 40 = listed-not-40 (text-loads s lines) (text-listed lines (h .lined) s) number (line-at lines at) q in
         record {
           number-is = w .number-is ∙ sym (ap load-number q);
           line-is = w .line-is ∙ sym (ap load-line q);

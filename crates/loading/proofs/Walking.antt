@@ -17,9 +17,9 @@ use Rattle.reading_statements.specs.declared.Read.the-variants.{Statement, Refu
 use Rattle.statements.specs.StatementAt.{statements-at, statement-at}
 use Rattle.syntax.specs.Ending.{last-place}
 use Rattle.syntax.specs.Items.{Item}
-use Rattle.syntax.specs.Load.{unless-refused, load-from}
+use Rattle.syntax.specs.Load.{unless-refused, load-from, text-loads}
 use Rattle.syntax.specs.Tables.{Draft, blank, draft-after}
-use Rattle.loading.specs.Texts.{text-loads, Unread, Read-to, Reads-text}
+use Rattle.loading.specs.Texts.{Unread, Read-to, Reads-text}
 
 not-read : (number at : ℕ) (g : Progress) → Refused number at ≡ Statement g → ⊥
 not-read number at g e = let z : _≡_ {A = ℕ} 0 1 = cc in omega arith

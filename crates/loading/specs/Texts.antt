@@ -14,16 +14,12 @@ use Rattle.progress.specs.declared.Progress.{Progress}
 use Rattle.reading_statements.specs.declared.Read.{Read}
 use Rattle.reading_statements.specs.declared.Read.the-variants.{Statement, Refused}
 use Rattle.syntax.specs.Ending.{last-place}
-use Rattle.syntax.specs.Items.{line-at, lines-of, statements-from}
+use Rattle.syntax.specs.Items.{line-at, lines-of}
 use Rattle.syntax.specs.Load as spec
-use Rattle.syntax.specs.Load.{load-from, Lined}
+use Rattle.syntax.specs.Load.{load-from, Lined, text-loads}
 use Rattle.syntax.specs.Tables.{Draft, blank}
 use Rattle.writing.specs.Writing.{HoldsProgram, Cleared, no-program}
 use Rattle.loading.specs.declared.Loaded.{Loaded}
-
--- what the text s, whose bytes have the lines `lines`, loads to, where table and text have the right lengths
-abbrev pub text-loads : List ℕ → List ℕ → spec.Loaded
-text-loads s lines = load-from lines (last-place s) blank (statements-from 0 s)
 
 -- ---- the lines of a text
 
@@ -86,7 +82,13 @@ pub record Lent (s lines c : List ℕ) : Type 0 where
   pub lined : Lined lines
   pub long : limit.table ≤ length c
 
-pub record Loads-lined (s lines c : List ℕ) (r : Loaded) (d : List ℕ) : Type 0 where
-  pub number-is : r .number ≡ load-number (text-loads s lines)
-  pub line-is : r .line ≡ load-line (text-loads s lines)
-  pub cells-are : d ≡ table-after (text-loads s lines) c
+-- r is the answer of x, and d is what x leaves in the cells c of the table
+pub record Leaves (x : spec.Loaded) (c : List ℕ) (r : Loaded) (d : List ℕ) : Type 0 where
+  pub number-is : r .number ≡ load-number x
+  pub line-is : r .line ≡ load-line x
+  pub cells-are : d ≡ table-after x c
+
+-- the same of a text as it stands, with its own lines
+pub record Fit (s c : List ℕ) : Type 0 where
+  pub short : length s ≤ limit.text
+  pub long : limit.table ≤ length c

@@ -1,9 +1,9 @@
-// Load: from a text to the program table, or the number and the line of the first question answered no.
+// From a text without macros to the program table, or the number and the line of the first question answered no.
 ghost use Prim.Native.Nat.{_≤_};
 ghost use lib.ListN.{length};
 ghost use Rattle.language.specs.Limits as limit;
-ghost use Rattle.loading.specs.Loading.{Loads};
-ghost use Rattle.loading.specs.Texts.{Fillable, Fills, Unread, Reads-text, Loadable, Loads-text, Refuses, Lent, Loads-lined};
+ghost use Rattle.syntax.specs.Load.{text-loads, load-typed};
+ghost use Rattle.loading.specs.Texts.{Fillable, Fills, Unread, Reads-text, Loadable, Loads-text, Refuses, Lent, Leaves, Fit};
 use language::Machine;
 use lexer::line_at;
 use reading_statements::Read;
@@ -87,9 +87,9 @@ fn refuse(lines: &[u16], number: u8, at: usize, cells: &mut [u32]) -> Loaded
 }
 
 // On a table that is long enough, with the lines of the text's bytes.
-fn load_lined(text: &[u8], lines: &[u16], table: &mut [u32]) -> Loaded
+pub fn load_lined(text: &[u8], lines: &[u16], table: &mut [u32]) -> Loaded
     requires { ⌜ Lent (now text) (now lines) (now table) ⌝ }
-    ensures { λ r. ⌜ Loads-lined (now (text .entry)) (now (lines .entry)) (now (table .entry)) r (now (table .exit)) ⌝ }
+    ensures { λ r. ⌜ Leaves (text-loads (now (text .entry)) (now (lines .entry))) (now (table .entry)) r (now (table .exit)) ⌝ }
 {
     clear_table(table);
     match load_text(text, lines, table) {
@@ -101,21 +101,11 @@ fn load_lined(text: &[u8], lines: &[u16], table: &mut [u32]) -> Loaded
     }
 }
 
-pub fn load(text: &[u8], table: &mut [u32]) -> Loaded
-    ensures { λ r. ⌜ Loads (now (text .entry)) (now (table .entry)) r (now (table .exit)) ⌝ }
+// The same of a text as it stands, with its own lines.
+pub fn load_typed(text: &[u8], table: &mut [u32]) -> Loaded
+    requires { ⌜ Fit (now text) (now table) ⌝ }
+    ensures { λ r. ⌜ Leaves (load-typed (now (text .entry))) (now (table .entry)) r (now (table .exit)) ⌝ }
 {
-    if table.len() < Machine::TABLE {
-        return Loaded {
-            number: 40,
-            line: 0,
-        };
-    }
-    if Machine::TEXT < text.len() {
-        return Loaded {
-            number: 40,
-            line: 0,
-        };
-    }
     let mut lines = [0u16; Machine::TEXT];
     fill_lines(text, &mut lines);
     load_lined(text, &lines[..text.len()], table)
