@@ -3,8 +3,8 @@
        hostile SEED ROUNDS FILE...
 
    Each FILE has a program text, and behind it an input: the good memory that is then damaged. A round makes texts, tables, states and inputs
-   (random bytes; random characters; good ones; good ones with bits flipped, bytes replaced, parts cut out or put in; too short, too long,
-   empty, null) and calls load, start and run on them. The last line has the counts; the first difference ends it with status 1. */
+   (random bytes; random characters; good ones; good ones with bits flipped, bytes replaced, parts cut out or put in, lines exchanged; texts
+   with macros made by chance; too short, too long, empty, null) and calls load, start and run on them. The last line has the counts; the first difference ends it with status 1. */
 #include "lent.h"
 #include "text.h"
 
@@ -61,7 +61,7 @@ static int listed(int call, uint32_t number)
     static const uint8_t lists[3][20] = {
         {EOL2_BAD_SIZE, EOL2_BAD_BYTE, EOL2_BAD_TEXT, EOL2_BAD_LENGTH, EOL2_BAD_HEADING, EOL2_BAD_OPERATOR, EOL2_BAD_SWITCH_LABELS,
          EOL2_BAD_REPEATED_LABEL, EOL2_BAD_COUNT, EOL2_BAD_ARGUMENT, EOL2_BAD_ROOM, EOL2_BAD_END, EOL2_BAD_LABEL, EOL2_BAD_SWITCH,
-         EOL2_ACCEPTED, 255},
+         EOL2_BAD_MACROS, EOL2_BAD_CALL, EOL2_BAD_EXPANSION, EOL2_ACCEPTED, 255},
         {EOL2_BAD_TABLE, EOL2_BAD_INPUTS, EOL2_BAD_STATE, EOL2_ACCEPTED, 255},
         {EOL2_BAD_TABLE, EOL2_BAD_INPUTS, EOL2_BAD_STATE, EOL2_PAUSED, EOL2_STOP_STATEMENT, EOL2_STOP_NOTHING, EOL2_STOP_KIND,
          EOL2_STOP_RANGE, EOL2_STOP_DIVISOR, EOL2_STOP_INDEX, EOL2_STOP_RETURN, EOL2_STOP_RECORD, EOL2_STOP_ROOM, EOL2_STOP_ADDRESSES, 255}};
@@ -108,6 +108,15 @@ static int good_input(const struct lent *l)
     return 1;
 }
 
+/* Has the text a star or a round bracket at all? */
+static int starred(void)
+{
+    for (size_t k = 0; k < text.length; k++)
+        if (strchr("*()", text.at[k] ? text.at[k] : ' '))
+            return 1;
+    return 0;
+}
+
 /* ---- the three calls, each with what its declaration says */
 
 static uint64_t load(void)
@@ -125,6 +134,8 @@ static uint64_t load(void)
         differs("load answers %u to its sizes", (unsigned)number);
     if (number == EOL2_BAD_SIZE || number == EOL2_ACCEPTED ? line != 0 : line < 1 || line > lines)
         differs("load answers %u with line %u", (unsigned)number, (unsigned)line);
+    if (number >= EOL2_BAD_MACROS && number <= EOL2_BAD_EXPANSION && !starred())
+        differs("load answers %u to a text without macros", (unsigned)number);
     if (!lent_same(&table, number == EOL2_BAD_SIZE ? 0 : bytes))
         differs("load (answer %u) changed what must stay", (unsigned)number);
     if (number != EOL2_BAD_SIZE && number != EOL2_ACCEPTED && !zeros(table.at, bytes))
@@ -234,60 +245,168 @@ static size_t line_start(const uint8_t *s, size_t at)
     return at;
 }
 
-/* A text: random; pieces of the language, and some that break it; a good text, whole or with damage. */
-static void lend_text(int k)
+/* A text while it is made. */
+static struct { uint8_t at[TEXT_MOST]; size_t bytes; } made;
+
+static void add(const void *piece, size_t bytes)
+{
+    if (bytes && made.bytes + bytes <= sizeof made.at) {
+        memcpy(made.at + made.bytes, piece, bytes);
+        made.bytes += bytes;
+    }
+}
+
+static void add_words(const char *words)
+{
+    add(words, strlen(words));
+}
+
+static void add_one_of(const char *const *pieces, size_t count)
+{
+    add_words(pieces[below(count)]);
+}
+
+/* Pieces of the language, and some that break it. */
+static void add_piece(void)
 {
     static const char *const pieces[] = {"SEKCJA S\n", "KONS\n", "KONP S\n", "STOP\n", "SKOCZ A\n", "A: ", "B: NAZWA A:'X',A\n", "C: INDEKS A\n",
         "UMIESC 'A',A1\n", "UMIESC 8388608,A1\n", "/*", "*/", "'", ":", ";", "PISZ A1,Q3\n", "DODAJ B1,Z32\n", "*", "\n", "SKONA A1,B\n", "A",
         "\xff", "UMIESC '*L*,',Z1,2,3,4\n", "WROC\n", "0123456789", "UMIESC 'Rod z',Q1\n", "z: ", "PISZ A1,q1\n", "UMIESC '*l',A1\n",
         "A23456789B123456789C123456789D123456789E123456789F123456789G1:"};
-    static uint8_t s[TEXT_MOST];
-    size_t n = 0;
-    switch (below(6)) {
+    add_one_of(pieces, sizeof pieces / sizeof *pieces);
+}
+
+/* What may stand in a body with the parameter X (or X and Y), or in the section; now and then what may not. */
+static void add_element(int body)
+{
+    static const char *const both[] = {"*M 1\n", "*M 1;", "*N\n", "*N;", "*O 1,2;", "*O N 2\n", "* M, 'T' /* C */;", "\n", ";;", "/* M */", "UMIESC 1,A1\n",
+        "UMIESC 'X',A1\n", "COFNIJ P1\n", "STOP\n", "L: STOP\n", "SKOCZ L\n"};
+    static const char *const bodies[] = {"*M X\n", "*O A'X X;", "*X;", "*X\n", "UMIESC X,A1\n", "UMIESC 'X',A'X\n", "X: STOP\n", "L'X: STOP\n", "X", "Y\n"};
+    static const char *const wrong[] = {"*", "(", ")", "'", "()", "* \n", "*M\n", "*Q;", "*'M'", "*A'X", "5A", "A'X'Y", "*O 1\n", "/*", "*/", "#"};
+    if (one_in(40))
+        add_one_of(wrong, sizeof wrong / sizeof *wrong);
+    else if (body && one_in(2))
+        add_one_of(bodies, sizeof bodies / sizeof *bodies);
+    else
+        add_one_of(both, sizeof both / sizeof *both);
+}
+
+/* A text with macros, made by chance: a list, mostly well formed, and a section with calls. */
+static void make_macros(void)
+{
+    static const char *const heads[] = {"M X(", "N X(", "N(", "O X,Y(", "O Y X\n(", "\nN\n(", "M,X(", "R X,X(", "M 5(", "O("};
+    add_words("SEKCJA S\n(");
+    add_words(one_in(2) ? "M X(*X\n)N()O X,Y(UMIESC X,A'Y\n)" : "");
+    for (size_t macros = below(4); macros; macros--) {
+        add_one_of(heads, sizeof heads / sizeof *heads);
+        for (size_t elements = below(4); elements; elements--)
+            add_element(1);
+        add_words(one_in(40) ? "" : ")");
+    }
+    add_words(one_in(40) ? "" : ")\n");
+    for (size_t elements = below(6); elements; elements--)
+        add_element(0);
+    add_words("\nSTOP\nKONS\nKONP S\n");
+}
+
+/* A text of few characters, most of them signs of macros, in a good frame. */
+static void make_signs(void)
+{
+    static const char signs[] = "*()';:,*()'  \n\nMMXXA15";
+    add_words(one_in(2) ? "SEKCJA S\n" : "SEKCJA S\n(M X(");
+    for (size_t count = below(one_in(8) ? 400 : 40); count; count--)
+        add(signs + below(sizeof signs - 1), 1);
+    add_words("\nSTOP\nKONS\nKONP S\n");
+}
+
+/* A good text, whole, or with what makes it too long behind it. */
+static void make_good(int k)
+{
+    add(good[k].text, good[k].text_bytes);
+    if (one_in(4))
+        for (size_t most = near(EOL2_TEXT, TEXT_MOST); made.bytes < most;)
+            add_words("\n");
+}
+
+/* A good text with a piece put in, a line of it repeated, and a part cut out. */
+static void make_damaged(int k)
+{
+    const uint8_t *from = good[k].text;
+    const size_t bytes = good[k].text_bytes, cut = one_in(3) ? below(30) : 0, line = line_start(from, below(bytes));
+    const size_t length = strcspn((const char *)from + line, "\n") + 1;
+    size_t at = below(bytes + 1);
+    if (one_in(2))
+        at = line_start(from, at);
+    add(from, at);
+    if (one_in(2))
+        add_piece();
+    else if (one_in(2))
+        add_element(1);
+    for (size_t times = one_in(3) ? below(one_in(4) ? 600 : 3) : 0; times && made.bytes + 2 * bytes < TEXT_MOST; times--)
+        add(from + line, length);
+    at = at + cut < bytes ? at + cut : bytes;
+    add(from + at, bytes - at);
+}
+
+/* A good text with its stars, brackets and apostrophes dropped or doubled here and there, or put around a line. */
+static void make_signs_damaged(int k)
+{
+    const uint8_t *from = good[k].text;
+    const size_t often = 2 + below(20), around = one_in(3) ? line_start(from, below(good[k].text_bytes)) : SIZE_MAX;
+    for (size_t at = 0; at < good[k].text_bytes; at++) {
+        const int sign = strchr("*()'", from[at]) != NULL && one_in(often), closes = from[at] == '\n' && around <= at;
+        add("(", at == around);
+        add(")", closes && line_start(from, at) == around);
+        add(from + at, !sign || one_in(2));
+        add(from + at, sign && one_in(2));
+    }
+}
+
+/* The same lines with some exchanged with the ones before them. */
+static void exchange_lines(size_t times)
+{
+    static uint8_t line[EOL2_TEXT];
+    while (made.bytes && times--) {
+        const size_t second = line_start(made.at, below(made.bytes)), first = second ? line_start(made.at, second - 1) : 0;
+        size_t end = second;
+        while (end < made.bytes && made.at[end++] != '\n')
+            continue;
+        if (second - first > sizeof line)
+            continue;
+        memcpy(line, made.at + first, second - first);
+        memmove(made.at + first, made.at + second, end - second);
+        memcpy(made.at + first + (end - second), line, second - first);
+    }
+}
+
+/* A text: random; pieces; with macros, by chance; a good text, whole or with damage. */
+static void lend_text(int k)
+{
+    made.bytes = 0;
+    switch (below(10)) {
     case 0: /* random bytes, or characters */
-        n = one_in(4) ? near(EOL2_TEXT, TEXT_MOST) : below(400);
+        made.bytes = one_in(4) ? near(EOL2_TEXT, TEXT_MOST) : below(400);
         if (one_in(2))
-            random_bytes(s, n, 0);
+            random_bytes(made.at, made.bytes, 0);
         else
-            random_characters(s, n);
+            random_characters(made.at, made.bytes);
         break;
-    case 1: /* pieces */
-        for (size_t count = below(40); count; count--) {
-            const char *piece = pieces[below(sizeof pieces / sizeof *pieces)];
-            memcpy(s + n, piece, strlen(piece));
-            n += strlen(piece);
-        }
+    case 1:
+        for (size_t count = below(40); count; count--)
+            add_piece();
         break;
-    case 2: /* a good text, whole, or behind it what makes it too long */
-        memcpy(s, good[k].text, n = good[k].text_bytes);
-        if (one_in(4)) {
-            size_t most = near(EOL2_TEXT, TEXT_MOST);
-            memset(s + n, '\n', most > n ? most - n : 0);
-            n = most > n ? most : n;
-        }
-        break;
-    default: { /* a good text with damage: a piece put in, a line of it repeated, a part cut out, bytes replaced */
-        const uint8_t *from = good[k].text;
-        size_t bytes = good[k].text_bytes, at = below(bytes + 1), cut = one_in(3) ? below(30) : 0, line = line_start(from, below(bytes));
-        const char *piece = one_in(2) ? pieces[below(sizeof pieces / sizeof *pieces)] : "";
-        if (one_in(2))
-            at = line_start(from, at);
-        memcpy(s, from, at);
-        memcpy(s + at, piece, strlen(piece));
-        n = at + strlen(piece);
-        for (size_t times = one_in(3) ? below(one_in(4) ? 600 : 3) : 0; times && n + 2 * bytes < TEXT_MOST; times--) {
-            size_t length = strcspn((const char *)from + line, "\n") + 1;
-            memcpy(s + n, from + line, length);
-            n += length;
-        }
-        at = at + cut < bytes ? at + cut : bytes;
-        memcpy(s + n, from + at, bytes - at);
-        n += bytes - at;
-        if (one_in(3))
-            damage(s, n, 1 + below(2));
+    case 2: make_good(k); break;
+    case 3:
+    case 4: make_macros(); break;
+    case 5: make_signs(); break;
+    case 6: make_signs_damaged(k); break;
+    default: make_damaged(k);
     }
-    }
-    lend(&text, s, n);
+    if (one_in(10))
+        exchange_lines(1 + below(3));
+    if (one_in(6))
+        damage(made.at, made.bytes, 1 + below(2));
+    lend(&text, made.at, made.bytes);
 }
 
 /* A table: random; zeros with small numbers; the good table, whole, with its instructions in disorder or with damage. Any length. */
@@ -388,8 +507,14 @@ static void round_of(int k)
         if (table.length >= sizeof first && (eol2_number(load()) != EOL2_ACCEPTED || memcmp(first, table.at, sizeof first)))
             differs("load makes two tables of one text");
         lend(&table, first, sizeof first);
-        if (eol2_number(start()) == EOL2_BAD_TABLE)
+        const uint32_t number = eol2_number(start());
+        if (number == EOL2_BAD_TABLE)
             differs("the table of an accepted text brings 62");
+        if (number == EOL2_ACCEPTED) {
+            again(&state);
+            if (eol2_number(run(100)) < EOL2_STOP_STATEMENT || eol2_number(run(0)) != EOL2_PAUSED)
+                differs("the table of an accepted text does not run");
+        }
     }
     /* start and run on whatever is there */
     lend_table(k), lend_state();

@@ -46,16 +46,17 @@ enum {
     EOL2_TEXT = 32768,   /* bytes that a program text has at most */
     EOL2_INPUT = 65536,  /* bytes that an input has at most */
     EOL2_OUTPUT = 4096,  /* bytes that an output has at most */
-    EOL2_STACK = 262144  /* bytes of stack that are enough for any call */
+    EOL2_STACK = 524288  /* bytes of stack that are enough for any call */
 };
 
 /* ---- the numbers of answers, each with its question; a question answered no gives its number */
 
 enum eol2_numbers {
     /* Refused by eol2_load, in the order in which a statement is asked: 40 first; then 14, 15, 16, 00, 10, 08, 06, 01, 02, 11 of each
-       statement; then 25, 12, 13 of the whole text. The first no decides. */
+       statement; then 25, 12, 13 of the whole text. The first no decides. A text with macros (eol2_load says which) is asked 14, 15, 16,
+       64, 65, 66 as a whole before its statements. */
     EOL2_BAD_SIZE = 40,           /* Table long enough, text short enough? */
-    EOL2_BAD_BYTE = 14,           /* Outside texts and comments, only A to Z, 0 to 9, space , : ; ' + - and new line, each comment closed? */
+    EOL2_BAD_BYTE = 14,           /* Outside texts and comments, only A to Z, 0 to 9, space , : ; ' + - * ( ) and new line, each comment closed? */
     EOL2_BAD_TEXT = 15,           /* Each text closed on its line, not empty, of allowed characters and pairs? */
     EOL2_BAD_LENGTH = 16,         /* Each item within 60 characters: name, number, text, and what is none of them? */
     EOL2_BAD_HEADING = 0,         /* Is the first statement SEKCJA and one name, unlabelled? (Printed 00.) */
@@ -68,6 +69,9 @@ enum eol2_numbers {
     EOL2_BAD_END = 25,            /* KONS and KONP as asked, nothing after, a last instruction STOP, SKOCZ or WROC, one after each label? */
     EOL2_BAD_LABEL = 12,          /* Every used label declared (a switch's name is none)? */
     EOL2_BAD_SWITCH = 13,         /* Every used switch declared, of the type its instruction needs? */
+    EOL2_BAD_MACROS = 64,         /* List of macros and calls well formed, no star or bracket elsewhere, each called macro in the list once? */
+    EOL2_BAD_CALL = 65,           /* Has each call as many arguments as its macro has parameters? */
+    EOL2_BAD_EXPANSION = 66,      /* Calls within calls at most 16 levels deep, and at most EOL2_TEXT written-out bytes? */
 
     /* Refused by eol2_start and eol2_run, in this order */
     EOL2_BAD_TABLE = 62,          /* Table long enough and well formed? Never no for a table that eol2_load left with 80. */
@@ -99,7 +103,8 @@ static inline uint32_t eol2_number(uint64_t answer)
     return (uint32_t)(answer >> 32);
 }
 
-/* Of an answer of eol2_load: the line, from 1, where the statement, byte, comment, text or item at fault begins; 0 with 80 and with 40. */
+/* Of an answer of eol2_load: the line, from 1, where the statement, byte, comment, text or item at fault begins; 0 with 80 and with 40. Lines
+   are those of the given text; what a call of a macro writes has the line of that call, and of calls within calls the outermost one's. */
 static inline uint32_t eol2_line(uint64_t answer)
 {
     return (uint32_t)(answer & 0xffffffffu);
@@ -124,7 +129,15 @@ static inline uint32_t eol2_count(uint64_t answer)
    40, 0                   as it was
    another refusal, line   its first EOL2_TABLE numbers are zeros
 
-   The refusals are the first fourteen of enum eol2_numbers. Numbers beyond the first EOL2_TABLE stay as they were in every case. */
+   The refusals are the first seventeen of enum eol2_numbers. Numbers beyond the first EOL2_TABLE stay as they were in every case.
+
+   A text with a star or a round bracket outside texts and comments is one with macros: a list in brackets is its second statement, and calls
+   have a star. The given text, of EOL2_TEXT bytes at most, is asked 14, 15 and 16 as a whole, then 64, 65 and 66. Then the list goes, each
+   call gives place to the body of its macro with the call's arguments, and the written-out text, of EOL2_TEXT bytes at most, is loaded as if
+   it were typed: its statements are asked as those of any text, and the table is the one of the written-out text, but for lines.
+   The time is some ten nanoseconds for each byte given and each byte written out, and more for calls that write nothing. Their number has no
+   limit: where macros call each other by names that are handed on as arguments, a text of 2 kB can keep load at work for days
+   (docs/DECISIONS.md, 2.2-36). A host that loads texts of strangers sets a limit of its own, by a process or a thread that it can end. */
 uint64_t eol2_load(const uint8_t *text, size_t text_bytes, uint32_t *table, size_t table_cells);
 
 /* Makes the state in which a program starts: H plus, all else empty, the first instruction next, nothing read of the inputs.

@@ -1,0 +1,80 @@
+/* Measures how much stack the three calls take, and fails where it is EOL2_STACK or more. `host/run` builds it, without sanitizers.
+
+       stack FILE..
+
+   Each FILE has a program text, and behind it an input. The calls run in a thread whose stack is filled with one byte beforehand; what is not
+   that byte afterwards was used. What a thread takes that does nothing is left out. */
+#define _GNU_SOURCE
+#include "text.h"
+
+#include <pthread.h>
+#include <sys/mman.h>
+
+enum { ROOM = 4 * EOL2_STACK, PAINT = 0x5a, CALLS = 3, STEPS = 1000 };
+
+static uint8_t *stack, file[HOST_FILE], state[EOL2_STATE];
+static uint32_t table[EOL2_TABLE];
+static size_t text_bytes, file_bytes;
+static uint64_t answer;
+
+static void *idle(void *nothing)
+{
+    return nothing;
+}
+
+static void *load(void *nothing)
+{
+    answer = eol2_load(file, text_bytes, table, EOL2_TABLE);
+    return nothing;
+}
+
+static void *start(void *nothing)
+{
+    answer = eol2_start(table, EOL2_TABLE, file + text_bytes, file_bytes - text_bytes, NULL, 0, state, EOL2_STATE);
+    return nothing;
+}
+
+static void *run(void *nothing)
+{
+    answer = eol2_run(table, EOL2_TABLE, file + text_bytes, file_bytes - text_bytes, NULL, 0, state, EOL2_STATE, STEPS);
+    return nothing;
+}
+
+/* How many bytes of its stack a thread uses. */
+static size_t used(void *(*work)(void *))
+{
+    pthread_attr_t attributes;
+    pthread_t thread;
+    size_t at = 0;
+    memset(stack, PAINT, ROOM);
+    if (pthread_attr_init(&attributes) || pthread_attr_setstack(&attributes, stack, ROOM) || pthread_create(&thread, &attributes, work, NULL)
+        || pthread_join(thread, NULL)) {
+        fprintf(stderr, "stack: no thread\n");
+        exit(2);
+    }
+    while (at < ROOM && stack[at] == PAINT)
+        at++;
+    return ROOM - at;
+}
+
+int main(int count, char **words)
+{
+    static void *(*const works[CALLS])(void *) = {load, start, run};
+    size_t most[CALLS] = {0};
+    stack = mmap(NULL, ROOM, PROT_READ | PROT_WRITE, MAP_PRIVATE | MAP_ANONYMOUS, -1, 0);
+    if (stack == MAP_FAILED) {
+        perror("stack");
+        return 2;
+    }
+    const size_t own = used(idle);
+    for (int k = 1; k < count; k++) {
+        file_bytes = host_read(words[k], file, sizeof file);
+        text_bytes = host_text_end(file, file_bytes);
+        for (int c = 0; c < CALLS; c++) {
+            const size_t n = used(works[c]) - own;
+            most[c] = n > most[c] ? n : most[c];
+        }
+    }
+    printf("stack: load %zu, start %zu, run %zu bytes of %d\n", most[0], most[1], most[2], EOL2_STACK);
+    return most[0] >= EOL2_STACK || most[1] >= EOL2_STACK || most[2] >= EOL2_STACK;
+}
