@@ -5,6 +5,7 @@
    Each FILE has a program text, and behind it an input: the good memory that is then damaged. A round makes texts, tables, states and inputs
    (random bytes; random characters; good ones; good ones with bits flipped, bytes replaced, parts cut out or put in, lines exchanged; texts
    with macros made by chance; too short, too long, empty, null) and calls load, start and run on them. The last line has the counts; the first difference ends it with status 1. */
+#define _GNU_SOURCE
 #include "lent.h"
 #include "text.h"
 
@@ -328,12 +329,13 @@ static void make_good(int k)
             add_words("\n");
 }
 
-/* A good text with a piece put in, a line of it repeated, and a part cut out. */
+/* A good text with a piece put in, a line of it repeated, and a part cut out. A line of a text with macros is repeated twice at most: a body that
+   calls itself and a macro by a parameter takes a time that grows with the sixteenth power of its calls (docs/DECISIONS.md, 2.2-36). */
 static void make_damaged(int k)
 {
     const uint8_t *from = good[k].text;
     const size_t bytes = good[k].text_bytes, cut = one_in(3) ? below(30) : 0, line = line_start(from, below(bytes));
-    const size_t length = strcspn((const char *)from + line, "\n") + 1;
+    const size_t length = strcspn((const char *)from + line, "\n") + 1, most = memmem(from, bytes, "\n(", 2) || !one_in(4) ? 3 : 600;
     size_t at = below(bytes + 1);
     if (one_in(2))
         at = line_start(from, at);
@@ -342,7 +344,7 @@ static void make_damaged(int k)
         add_piece();
     else if (one_in(2))
         add_element(1);
-    for (size_t times = one_in(3) ? below(one_in(4) ? 600 : 3) : 0; times && made.bytes + 2 * bytes < TEXT_MOST; times--)
+    for (size_t times = one_in(3) ? below(most) : 0; times && made.bytes + 2 * bytes < TEXT_MOST; times--)
         add(from + line, length);
     at = at + cut < bytes ? at + cut : bytes;
     add(from + at, bytes - at);
