@@ -1,5 +1,6 @@
-/* Times load: nanoseconds a byte of a text, on a full text of real statements and on texts that cost the most. `bench/run` builds and runs it.
-   Each line has the answer, so that a text that is refused early does not pass for a fast one. */
+/* Times load: nanoseconds a byte of a text, on a full text of real statements and on texts that cost the most; then texts with macros, a byte
+   of the written-out text. `bench/run` builds and runs it. Each line has the answer, so that a text that is refused early does not pass for a
+   fast one. */
 #include "../include/eol2.h"
 #include "clock.h"
 
@@ -120,7 +121,93 @@ static void empty(void)
         add(" ;\n");
 }
 
-static void measure(const char *title, void (*make)(void), int full)
+/* ---- texts with macros */
+
+/* 102 calls that write 510 instructions with a remark to each, some 32,000 bytes */
+static void patterns(void)
+{
+    add("(PATTERN TEXT,N,COUNT(UMIESC TEXT,A'N /* THE NEXT WORD OF THE PATTERN, AS THE RULE HAS IT, IN FRONT */\n"
+        "PRZESLIJ A'N,B2,1 /* IT MOVES ON */\nDODAJ A3,COUNT /* COUNTED IN RODS */\nPISZ B'N,Q1,' ' /* AND SHOWN, WITH A SPACE */\n"
+        "WYKONAJ DALEJ /* AND THE REST OF THE ROW, WHICH IS DONE FOR EACH PATTERN IN THE SAME WAY */))\nDALEJ: COFNIJ P1\n");
+    for (int k = 0; k < 102; k++)
+        add("*PATTERN 'WZOR%02d',%d,%d\n", k, 1 + k % 32, 16 + k);
+}
+
+/* 32 calls that write a comment of 1,000 bytes: nothing but bytes to copy and to pass over */
+static void copies(void)
+{
+    add("(REMARK(/*");
+    for (int k = 0; k < 1000; k++)
+        add("%c", k % 64 ? '-' : '\n');
+    add("*/))\n");
+    for (int k = 0; k < 32; k++)
+        add("*REMARK\n");
+}
+
+/* 24 calls of a macro with 20 calls, of which each calls the macro of a parameter, which joins another: 480 instructions in short pieces */
+static void pieces(void)
+{
+    add("(TWENTY X(");
+    for (int k = 0; k < 20; k++)
+        add("*ONE X,%d\n", k % 9 + 1);
+    add(")ONE X,N(*X N;)STEP N(UMIESC 'ROW',A'N /* THE PATTERN GOES ON AND ON, AS ITS RULE SAYS */))\n");
+    for (int k = 0; k < 24; k++)
+        add("*TWENTY STEP\n");
+}
+
+/* 16 layers of ten macros, each with calls of all ten of the next layer, and the last ones empty, so that nothing is written: 10 to the 15th
+   calls if they were made one by one. Every call has these arguments, and comes so often. */
+static void layers(const char *parameter, const char *argument, int often)
+{
+    add("(");
+    for (int layer = 0; layer < 16; layer++)
+        for (int k = 0; k < 10; k++) {
+            add("L%dX%d%s(", layer, k, parameter);
+            for (int j = 0; layer < 15 && j < 10 * often; j++)
+                add("*L%dX%d%s;", layer + 1, j / often, argument);
+            add(")\n");
+        }
+    add(")\n*L0X0%s\n", *parameter ? " A" : "");
+}
+
+static void once(void)
+{
+    layers("", "", 1);
+}
+
+static void twice(void)
+{
+    layers("", "", 2);
+}
+
+static void joined(void)
+{
+    layers(" P", " A'P", 1);
+}
+
+/* 15 macros one below the other, each calling the next twice with new arguments, the last one the macro of its first parameter: 2 to the 14th
+   calls by a parameter, which have to be made */
+static void handed(void)
+{
+    add("(");
+    for (int k = 1; k < 15; k++)
+        add("D%d Q,P(*D%d Q,A'P;*D%d Q,B'P;)\n", k, k + 1, k + 1);
+    add("D15 Q,P(*Q)N())\n*D1 N,X\n");
+}
+
+/* How many bytes are written out: as many as leave room for some spaces at the end, and no more, up to 66. 0 where it cannot be told so. */
+static size_t written_out(void)
+{
+    size_t room = 0;
+    while (bytes + room < EOL2_TEXT) {
+        text[bytes + room++] = ' ';
+        if (eol2_number(eol2_load((const uint8_t *)text, bytes + room, table, EOL2_TABLE)) == EOL2_BAD_EXPANSION)
+            return EOL2_TEXT + 1 - room;
+    }
+    return 0;
+}
+
+static double measure(const char *title, void (*make)(void), int full)
 {
     bytes = 0;
     add("SEKCJA S\n");
@@ -135,8 +222,17 @@ static void measure(const char *title, void (*make)(void), int full)
         if (b - a < best)
             best = b - a;
     }
-    printf("%-44s %5zu bytes %9.1f us %7.2f ns a byte %7.1f MB/s (answer %02u, line %u)\n", title, bytes, best / 1000, best / (double)bytes,
+    printf("%-45s %5zu bytes %9.1f us %7.2f ns a byte %7.1f MB/s (answer %02u, line %u)\n", title, bytes, best / 1000, best / (double)bytes,
            (double)bytes * 1000 / best, (unsigned)eol2_number(answer), (unsigned)eol2_line(answer));
+    return best;
+}
+
+/* The same for a text with macros, and how fast its written-out text is loaded. */
+static void measure_written(const char *title, void (*make)(void))
+{
+    const double best = measure(title, make, 0);
+    const size_t out = written_out();
+    printf("%-45s %5zu bytes %12s %7.2f ns a byte %7.1f MB/s\n", "    written out", out, "", best / (double)out, (double)out * 1000 / best);
 }
 
 int main(void)
@@ -149,5 +245,12 @@ int main(void)
     measure("128 texts of 60 characters, the last used", texts, 0);
     measure("8,000 different labels alone", alone, 0);
     measure("empty statements", empty, 0);
+    measure_written("macros: 510 instructions in 102 calls", patterns);
+    measure_written("macros: long comments", copies);
+    measure_written("macros: calls by a parameter in calls", pieces);
+    measure("16 layers of ten macros, a full text", once, 1);
+    measure("the same, each call twice", twice, 1);
+    measure("the same, with joined arguments", joined, 1);
+    measure("15 macros that hand a name on, two calls each", handed, 0);
     return 0;
 }
