@@ -185,6 +185,18 @@ static void joined(void)
     layers(" P", " A'P", 1);
 }
 
+/* 2,300 macros, and a call of each, from the last to the first */
+static void many(void)
+{
+    add("(");
+    for (int k = 0; k < 2300; k++)
+        add("A%04d()", k);
+    add(")\n");
+    for (int k = 2299; k >= 0; k--)
+        add("*A%04d;", k);
+    add("\n");
+}
+
 /* 15 macros one below the other, each calling the next twice with new arguments, the last one the macro of its first parameter: 2 to the 14th
    calls by a parameter, which have to be made */
 static void handed(void)
@@ -251,6 +263,7 @@ int main(void)
     measure("16 layers of ten macros, a full text", once, 1);
     measure("the same, each call twice", twice, 1);
     measure("the same, with joined arguments", joined, 1);
+    measure("2,300 macros, each called", many, 0);
     measure("15 macros that hand a name on, two calls each", handed, 0);
     return 0;
 }
