@@ -32,14 +32,14 @@ use Rattle.loading.specs.declared.Loaded.{Loaded}
 
 -- ---- a text from its beginning to its end
 
-module _ {s lines c : List ℕ} (h : Loadable s lines c) where
-  pub unread : {ms sw en : List ℕ} → length ms ≡ 32768 → length sw ≡ limit.switches → length en ≡ limit.entries → Unread s lines ms c sw en
+module _ {s lines names c : List ℕ} (h : Loadable s lines names c) where
+  pub unread : {sw en : List ℕ} → length sw ≡ limit.switches → length en ≡ limit.entries → Unread s lines names c sw en
   unfolding draft-program
-  unread x y z =
+  unread y z =
       record {
         short = h .short;
         lined = h .lined;
-        room = x;
+        room = h .names-room;
         tabled = record {
           sound = blank-sound (length s) .tables;
           holds = h .holds;
@@ -86,15 +86,15 @@ module _ {s lines c : List ℕ} (h : Loadable s lines c) where
 -- ---- load
 
 module _ {s c : List ℕ} (h : Fit s c) {lines : List ℕ} (e : lines ≡ lines-of s) where
-  pub lent : Lent s lines c
-  lent = record { short = h .short; lined = subst (λ (x : List ℕ). Lined x) (sym e) (text-lined s (h .short)); long = h .long }
+  pub lent : {names : List ℕ} → length names ≡ limit.text → Lent s lines names c
+  lent l = record { short = h .short; lined = subst (λ (x : List ℕ). Lined x) (sym e) (text-lined s (h .short)); names-room = l; long = h .long }
 
   pub load-in : {r : Loaded} {d : List ℕ} → Leaves (text-loads s lines) c r d → Leaves (load-typed s) c r d
   load-in {r} {d} k = subst (λ x. Leaves (text-loads s x) c r d) e k
 
-module _ {s lines c : List ℕ} (h : Lent s lines c) {c₁ : List ℕ} (z : Cleared c c₁) where
-  pub loadable : Loadable s lines c₁
-  loadable = record { short = h .short; lined = h .lined; holds = z .holds }
+module _ {s lines names c : List ℕ} (h : Lent s lines names c) {c₁ : List ℕ} (z : Cleared c c₁) where
+  pub loadable : Loadable s lines names c₁
+  loadable = record { short = h .short; lined = h .lined; names-room = h .names-room; holds = z .holds }
 
   module _ {v : Verdict} {c₂ : List ℕ} (t : Loads-text s lines c₁ v c₂) where
     pub load-accepted : v ≡ Yes → {r : Loaded} → r .number ≡ 80 → r .line ≡ 0 → Leaves (text-loads s lines) c r c₂

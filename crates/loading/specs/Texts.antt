@@ -52,9 +52,10 @@ pub record Reads-text (s lines c : List ℕ) (r : Read) (ms′ c′ sw′ en′ 
 
 -- ---- the whole text, on a table that is all zeros
 
-pub record Loadable (s lines c : List ℕ) : Type 0 where
+pub record Loadable (s lines ms c : List ℕ) : Type 0 where
   pub short : length s ≤ limit.text
   pub lined : Lined lines
+  pub names-room : length ms ≡ limit.text
   pub holds : HoldsProgram c no-program
 
 pub record Accepts (s lines d : List ℕ) : Type 0 where
@@ -75,11 +76,12 @@ pub record Refuses (lines : List ℕ) (number at : ℕ) (c : List ℕ) (r : Load
   pub line-is : r .line ≡ line-at lines at
   pub cleared : Cleared c d
 
--- ---- the whole text, on any table that is long enough
+-- ---- the whole text, on any table that is long enough, with a row for the names of its labels
 
-pub record Lent (s lines c : List ℕ) : Type 0 where
+pub record Lent (s lines ms c : List ℕ) : Type 0 where
   pub short : length s ≤ limit.text
   pub lined : Lined lines
+  pub names-room : length ms ≡ limit.text
   pub long : limit.table ≤ length c
 
 -- r is the answer of x, and d is what x leaves in the cells c of the table

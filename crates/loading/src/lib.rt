@@ -60,17 +60,16 @@ fn read_statements(
     }
 }
 
-// Reads a text on a table of zeros, with room for the names of its labels, its switches and their entries.
-fn load_text(text: &[u8], lines: &[u16], table: &mut [u32]) -> Verdict
-    requires { ⌜ Loadable (now text) (now lines) (now table) ⌝ }
+// Reads a text on a table of zeros, with room for its switches and their entries, and with a row for the names of its labels.
+fn load_text(text: &[u8], lines: &[u16], names: &mut [u32], table: &mut [u32]) -> Verdict
+    requires { ⌜ Loadable (now text) (now lines) (now names) (now table) ⌝ }
     ensures { λ r. ⌜ Loads-text (now (text .entry)) (now (lines .entry)) (now (table .entry)) r (now (table .exit)) ⌝ }
 {
-    let mut names = [0u32; Machine::TEXT];
     let mut switches = [0u32; Machine::SWITCHES];
     let mut entries = [0u32; Machine::ENTRIES];
-    match read_statements(text, lines, &mut names, table, &mut switches, &mut entries) {
+    match read_statements(text, lines, names, table, &mut switches, &mut entries) {
         Read::Refused(number, at) => Verdict::No(number, at),
-        Read::Statement(p) => finishing::finish(text, p, &names, table, &switches, &entries),
+        Read::Statement(p) => finishing::finish(text, p, names, table, &switches, &entries),
     }
 }
 
@@ -86,13 +85,13 @@ fn refuse(lines: &[u16], number: u8, at: usize, cells: &mut [u32]) -> Loaded
     }
 }
 
-// On a table that is long enough, with the lines of the text's bytes.
-pub fn load_lined(text: &[u8], lines: &[u16], table: &mut [u32]) -> Loaded
-    requires { ⌜ Lent (now text) (now lines) (now table) ⌝ }
+// On a table that is long enough, with the lines of the text's bytes. The row `names` is for use here alone.
+pub fn load_lined(text: &[u8], lines: &[u16], names: &mut [u32], table: &mut [u32]) -> Loaded
+    requires { ⌜ Lent (now text) (now lines) (now names) (now table) ⌝ }
     ensures { λ r. ⌜ Leaves (text-loads (now (text .entry)) (now (lines .entry))) (now (table .entry)) r (now (table .exit)) ⌝ }
 {
     clear_table(table);
-    match load_text(text, lines, table) {
+    match load_text(text, lines, names, table) {
         Verdict::Yes => Loaded {
             number: 80,
             line: 0,
@@ -108,5 +107,6 @@ pub fn load_typed(text: &[u8], table: &mut [u32]) -> Loaded
 {
     let mut lines = [0u16; Machine::TEXT];
     fill_lines(text, &mut lines);
-    load_lined(text, &lines[..text.len()], table)
+    let mut names = [0u32; Machine::TEXT];
+    load_lined(text, &lines[..text.len()], &mut names, table)
 }

@@ -128,7 +128,7 @@ module _ {s c : List ℕ} (f : Fit s c) where
 
 -- ---- a text with macros
 
-module _ {s c : List ℕ} (h : Rewritable s c) {p : told.Prepared} {o ls : List ℕ} (k : Prepares s p o ls) where
+module _ {s c : List ℕ} (h : Rewritable s c) {p : told.Prepared} {o ls ms : List ℕ} (k : Prepares s p o ls ms) where
   -- not made ready: the table is zeros already
   pub unfit-leaves : (number line : ℕ) → p ≡ Unfit number line → {r : Loaded} → r .number ≡ number → r .line ≡ line → Leaves (loaded (prepared s)) c r c
   unfolding loaded
@@ -151,8 +151,8 @@ module _ {s c : List ℕ} (h : Rewritable s c) {p : told.Prepared} {o ls : List 
     pub within : n ≤ limit.text
     within = rw (sym (ap count-of e)) (k .fits)
 
-    pub lent : Lent (take n o) (take n ls) c
-    lent = record { short = prepared-shape s (take n o) (take n ls) (h .fit .short) made-ready .short; lined = prepared-lined s (take n o) (take n ls) (h .fit .short) made-ready; long = h .fit .long }
+    pub lent : {names : List ℕ} → length names ≡ limit.text → Lent (take n o) (take n ls) names c
+    lent l = record { short = prepared-shape s (take n o) (take n ls) (h .fit .short) made-ready .short; lined = prepared-lined s (take n o) (take n ls) (h .fit .short) made-ready; names-room = l; long = h .fit .long }
 
     pub ready-leaves : {r : Loaded} {d : List ℕ} → Leaves (text-loads (take n o) (take n ls)) c r d → Leaves (loaded (prepared s)) c r d
     unfolding loaded

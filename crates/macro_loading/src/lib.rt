@@ -5,21 +5,27 @@ ghost use Rattle.macros.specs.Load.{loaded};
 ghost use Rattle.macros.specs.Prepared.{prepared};
 use language::Machine;
 use loading::Loaded;
+use macro_code::CodePlaces;
 use macro_preparing::Prepared;
 
-// A text with macros: its written-out text is loaded, with the lines of the given one. The table's cells are zeros.
+// A text with macros: its written-out text is loaded, with the lines of the given one. The table's cells are zeros. The row of cells serves for
+// names again.
 fn load_written(text: &[u8], table: &mut [u32]) -> Loaded
     requires { ⌜ Rewritable (now text) (now table) ⌝ }
     ensures { λ r. ⌜ Leaves (loaded (prepared (now (text .entry)))) (now (table .entry)) r (now (table .exit)) ⌝ }
 {
     let mut out = [0u8; Machine::TEXT];
     let mut lines = [0u16; Machine::TEXT];
-    match macro_preparing::prepare(text, &mut out, &mut lines) {
+    let mut code = [0u32; CodePlaces::CELLS];
+    match macro_preparing::prepare(text, &mut out, &mut lines, &mut code) {
         Prepared::Unfit(number, line) => Loaded {
             number: number,
             line: line,
         },
-        Prepared::Ready(n) => loading::load_lined(&out[..n], &lines[..n], table),
+        Prepared::Ready(n) => {
+            let names = &mut code[..Machine::TEXT];
+            loading::load_lined(&out[..n], &lines[..n], names, table)
+        }
     }
 }
 
