@@ -1,15 +1,15 @@
--- One turn of `all_known` and one call of `precedes`, as laws over lists.
+-- One turn of `all_known` and one of `precedes`, as laws over lists.
 use mathlib.Core.Path.{_≡_, refl, sym, _∙_}
-use mathlib.Core.Bool.{Bool, true, false, _&&_, and-true, and-assoc, or-false}
+use mathlib.Core.Bool.{Bool, _&&_, and-true, and-assoc, or-false}
 use mathlib.Core.List.{List, [], _∷_}
-use Prim.Native.Nat.{ℕ, suc, _+_, _-_, _≤_, _<_}
+use Prim.Native.Nat.{ℕ, zero, suc, _+_, _≤_, _<_, compare·suc-suc}
 use native.Mathlib.Numerals.{add-one}
 use native.Mathlib.Nat.{le-refl}
 use native.Mathlib.Omega.{arith}
 use lib.Dec.{ltb}
-use lib.ListN.{length, getD, take, drop}
-use lib.Seq.{take-all, drop-length, drop-cons}
-use borrow.Author.Tests.{eq-eqb, ne-eqb, le-ltb}
+use lib.ListN.{length, getD, drop}
+use lib.Seq.{drop-length, drop-cons}
+use borrow.Author.Tests.{eq-eqb, ne-eqb, le-ltb, lt-ltb}
 use Rattle.lists.specs.Lists.{all}
 use Rattle.characters.specs.Characters.{known, rank, precedes}
 
@@ -22,29 +22,40 @@ known-next s i good h =
 pub known-end : (s : List ℕ) (i : ℕ) (good : Bool) → length s ≤ i → i ≤ length s → good && all known (drop i s) ≡ good
 known-end s i good l h = let e : i ≡ length s = omega arith in rw (e, drop-length) (and-true good)
 
--- a missing character comes before any other, and no word before the empty one
-pub before-none : (v w : List ℕ) → length w ≡ 0 → precedes v w ≡ false
-before-none v [] h = refl
-before-none v (y ∷ w) h = absurd (omega arith)
+-- ---- two words whose first i characters are the same
 
-pub none-before : (v w : List ℕ) → length v ≡ 0 → (length w ≡ 0 → ⊥) → precedes v w ≡ true
-none-before v [] h k = absurd (k refl)
-none-before [] (y ∷ w) h k = refl
-none-before (x ∷ v) (y ∷ w) h k = absurd (omega arith)
-
-rest-of : (x : ℕ) (v : List ℕ) → take (length (x ∷ v) - 1) (drop 1 (x ∷ v)) ≡ v
-rest-of x v = take-all (suc (length v) - 1) v (omega arith)
-
-pub same-first : (v w : List ℕ) → (length v ≡ 0 → ⊥) → (length w ≡ 0 → ⊥) → getD v 0 0 ≡ getD w 0 0
-    → precedes (take (length v - 1) (drop 1 v)) (take (length w - 1) (drop 1 w)) ≡ precedes v w
-same-first [] w hv hw e = absurd (hv refl)
-same-first (x ∷ v) [] hv hw e = absurd (hw refl)
-same-first (x ∷ v) (y ∷ w) hv hw e =
+same-first : (x y : ℕ) (v w : List ℕ) → x ≡ y → precedes v w ≡ precedes (x ∷ v) (y ∷ w)
+same-first x y v w e =
     let r : rank y ≤ rank x = rw e (le-refl (rank y)) in
-    rw (rest-of x v, rest-of y w, le-ltb (rank x) (rank y) r, eq-eqb x y e)
+    rw (le-ltb (rank x) (rank y) r, eq-eqb x y e)
 
-pub other-first : (v w : List ℕ) → (length v ≡ 0 → ⊥) → (length w ≡ 0 → ⊥) → (getD v 0 0 ≡ getD w 0 0 → ⊥)
-    → ltb (rank (getD v 0 0)) (rank (getD w 0 0)) ≡ precedes v w
-other-first [] w hv hw e = absurd (hv refl)
-other-first (x ∷ v) [] hv hw e = absurd (hw refl)
-other-first (x ∷ v) (y ∷ w) hv hw e = rw (ne-eqb x y e) (sym (or-false (ltb (rank x) (rank y))))
+other-first : (x y : ℕ) (v w : List ℕ) → (x ≡ y → ⊥) → ltb (rank x) (rank y) ≡ precedes (x ∷ v) (y ∷ w)
+other-first x y v w e = rw (ne-eqb x y e) (sym (or-false (ltb (rank x) (rank y))))
+
+-- a missing character comes before any other
+none-first : (w : List ℕ) (i : ℕ) → i ≤ length w → ltb i (length w) ≡ precedes [] (drop i w)
+none-first [] zero h = refl
+none-first [] (suc i) h = absurd (omega arith)
+none-first (y ∷ w) zero h = lt-ltb 0 (suc (length w)) (omega arith)
+none-first (y ∷ w) (suc i) h = rw (compare·suc-suc (suc i) (length w)) (none-first w i (omega arith))
+
+module _ (v w : List ℕ) (i : ℕ) where
+  pub order-next : i < length v → i < length w → getD v i 0 ≡ getD w i 0
+      → precedes (drop (i + 1) v) (drop (i + 1) w) ≡ precedes (drop i v) (drop i w)
+  order-next a b e = rw (add-one, drop-cons v i 0, drop-cons w i 0) (same-first (getD v i 0) (getD w i 0) (drop (suc i) v) (drop (suc i) w) e)
+
+  pub order-here : i < length v → i < length w → (getD v i 0 ≡ getD w i 0 → ⊥)
+      → ltb (rank (getD v i 0)) (rank (getD w i 0)) ≡ precedes (drop i v) (drop i w)
+  order-here a b e = rw (drop-cons v i 0, drop-cons w i 0) (other-first (getD v i 0) (getD w i 0) (drop (suc i) v) (drop (suc i) w) e)
+
+  -- no word comes before one that ends here
+  pub second-ends : i ≤ length v → length w ≤ i → i ≤ length w → ltb (length v) (length w) ≡ precedes (drop i v) (drop i w)
+  second-ends h l k =
+      let e : i ≡ length w = omega arith in
+      le-ltb (length v) (length w) (omega arith) ∙ rw (e, drop-length w)
+
+  -- one that ends here comes before a longer one
+  pub first-ends : length v ≤ i → i ≤ length v → i ≤ length w → ltb (length v) (length w) ≡ precedes (drop i v) (drop i w)
+  first-ends l h k =
+      let e : i ≡ length v = omega arith in
+      rw (← e, e, drop-length v, ← e) (none-first w i k)

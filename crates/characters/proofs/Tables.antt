@@ -1,15 +1,16 @@
 -- The tables of the source against the definitions, each by one computed test.
-use mathlib.Core.Path.{_≡_, refl}
-use mathlib.Core.Bool.{Bool·beq}
+use mathlib.Core.Path.{_≡_, refl, sym, subst}
+use mathlib.Core.Bool.{true, not, _||_, Bool·beq}
 use mathlib.Core.List.{List, _∷_}
-use Prim.Native.Nat.{ℕ, zero, suc, _-_, _%_, _≤_, _<_}
+use Prim.Native.Nat.{ℕ, zero, suc, _+_, _-_, _%_, _≤_, _<_}
 use native.Mathlib.Omega.{arith}
-use lib.Dec.{eqb, eqb→eq}
+use lib.Dec.{T, leb, eqb, eqb→eq, leb→le}
 use lib.ListN.{length, getD, List·getD-eq-default}
 use borrow.Author.Tests.{ne-eqb}
 use Rattle.lists.specs.Quoted.{bytes}
-use Rattle.lists.specs.TableLaws.{beq-eq, below, below-unless}
-use Rattle.characters.specs.Characters.{ranked, count, known, byteOf, classOf, classPlace, classPlaces, knownMarks}
+use Rattle.lists.specs.ListLaws.{T-left, T-right}
+use Rattle.lists.specs.TableLaws.{beq-eq, upTo, below, below-unless}
+use Rattle.characters.specs.Characters.{ranked, count, known, rank, byteOf, between, classOf, classPlace, classPlaces, knownMarks}
 
 -- past the last rank
 pub past : (r : ℕ) → count < r → byteOf r ≡ 0
@@ -26,6 +27,17 @@ pub class-by-rank : (r : ℕ) → (r ≡ 0 → ⊥) → r ≤ count → getD cla
 class-by-rank r n h =
     eqb→eq (getD classes (r - 1) 0) (classOf (byteOf r))
     (below-unless (λ k. eqb k 0) (λ k. eqb (getD classes (k - 1) 0) (classOf (byteOf k))) (suc count) tt r (omega arith) (ne-eqb r 0 n))
+
+-- ---- the bytes from a to z, where they stand in a row from rank r on: letters and digits, whose ranks need no table
+
+pub in-bounds : (a z b : ℕ) → between a z b ≡ true → (a ≤ b) × (b ≤ z)
+in-bounds a z b e =
+    let t : T (between a z b) = subst T (sym e) tt in
+    (leb→le a b (T-left (leb a b) (leb b z) t), leb→le b z (T-right (leb a b) (leb b z) t))
+
+pub in-a-row : (a z r b : ℕ) → T (upTo (λ k. not (between a z k) || eqb (k - a + r) (rank k)) 256) → b < 256 → between a z b ≡ true → b - a + r ≡ rank b
+in-a-row a z r b t h e =
+    eqb→eq (b - a + r) (rank b) (rw e at (below (λ k. not (between a z k) || eqb (k - a + r) (rank k)) 256 t b h))
 
 -- ---- the tables by byte, where one is lent
 

@@ -79,10 +79,19 @@ fn place_in(b: u8, table: &[u8]) -> usize
     i
 }
 
-// A is 21, Z 46, a 47, z 72, SI 73; a byte that is no character comes after the last.
+// A is 21, Z 46, a 47, z 72, SI 73, 0 74; a byte that is no character comes after the last. Letters and digits need no table.
 fn rank(b: u8) -> usize
     ensures { λ r. ⌜ r ≡ rank b ⌝ }
 {
+    if is_capital(b) {
+        return (b - b'A') as usize + 21;
+    }
+    if between(b'a', b'z', b) {
+        return (b - b'a') as usize + 47;
+    }
+    if is_digit(b) {
+        return (b - b'0') as usize + 74;
+    }
     place_in(b, &CHARACTERS) + 1
 }
 
@@ -121,20 +130,18 @@ pub fn all_known(s: &[u8]) -> bool
     are_known(s, &MARKS)
 }
 
-// The first characters are compared, and where they are the same the rest.
+// The first place where the words differ decides, and where there is none their lengths.
 pub fn precedes(v: &[u8], w: &[u8]) -> bool
     ensures { λ r. ⌜ r ≡ precedes (now (v .entry)) (now (w .entry)) ⌝ }
 {
-    if w.len() == 0 {
-        return false;
+    let mut i = 0;
+    while i < v.len() && i < w.len() {
+        let x = v[i];
+        let y = w[i];
+        if x != y {
+            return rank(x) < rank(y);
+        }
+        i += 1;
     }
-    if v.len() == 0 {
-        return true;
-    }
-    let x = v[0];
-    let y = w[0];
-    if x == y {
-        return precedes(&v[1..], &w[1..]);
-    }
-    rank(x) < rank(y)
+    v.len() < w.len()
 }
