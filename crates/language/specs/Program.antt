@@ -1,5 +1,5 @@
 -- A program, as load makes it of a text and as the machine runs it.
-use mathlib.Core.Bool.{Bool, true, false, cond, _&&_, _||_}
+use mathlib.Core.Bool.{Bool, true, false, _&&_, _||_}
 use mathlib.Core.List.{List, [], _∷_}
 use Prim.Native.Nat.{ℕ}
 use lib.ListN.{getD}
@@ -95,6 +95,7 @@ module _ (p : Program) where
   abbrev pub target-of : Entry → ℕ
   target-of e = label-at (e .label) .target
 
-  -- whether an entry is met by a word: "An entry with a text is met by that text only"; one without is met by its label's name (5.5.3)
+  -- whether an entry is met by a word: "From now on an entry with a text is met by either", its text or its label's name; one without is met by its
+  -- label's name (5.5.3)
   unfoldable pub meets : Entry → List ℕ → Bool
-  meets e w = sameBytes (cond (filled (e .text)) (e .text) (label-at (e .label) .name)) w
+  meets e w = (filled (e .text) && sameBytes (e .text) w) || sameBytes (label-at (e .label) .name) w

@@ -18,6 +18,8 @@ pub mod EffectLaws
 pub mod WellFormedLaws
 pub mod ControlLaws
 pub mod StepLaws
+pub mod SwitchLaws
 pub mod Notation
 pub mod Examples
 pub mod Manual
+pub mod SwitchExamples

@@ -75,7 +75,8 @@ name-at t k = record { name = bytes t; target = k }
 abbrev entry : ℕ → String → Entry
 entry k t = record { label = k; text = bytes t }
 
--- the places of the labels ALFA, IF, PLUS and BEGIN, then of LX: INDEKS ALFA, IF, BEGIN and KLUCZ: NAZWA IF, PLUS:'+', BEGIN
+-- the places of the labels ALFA, IF, PLUS and BEGIN, then of LX: INDEKS ALFA, IF, BEGIN, of KLUCZ: NAZWA IF, PLUS:'+', BEGIN, and of
+-- ZNAK: NAZWA PLUS:'+', IF:'PLUS', BEGIN:'+'
 abbrev pub program : List Instr → Program
 program code =
     record {
@@ -84,6 +85,7 @@ program code =
       switches =
           record { byName = false; entries = entry 0 "" ∷ entry 1 "" ∷ entry 3 "" ∷ [] }
           ∷ record { byName = true; entries = entry 1 "" ∷ entry 2 "+" ∷ entry 3 "" ∷ [] }
+          ∷ record { byName = true; entries = entry 2 "+" ∷ entry 1 "PLUS" ∷ entry 3 "+" ∷ [] }
           ∷ [];
       texts = [];
       numbers = [];

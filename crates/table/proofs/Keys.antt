@@ -1,6 +1,6 @@
 -- Names, texts by their references, and entries that are met by a word.
 use mathlib.Core.Path.{_≡_, refl, sym, ap, _∙_, subst}
-use mathlib.Core.Bool.{Bool, true, false, cond}
+use mathlib.Core.Bool.{Bool, true, false, _&&_, _||_}
 use mathlib.Core.List.{List, [], _∷_}
 use Prim.Native.Nat.{ℕ, suc, _+_, _-_, _*_, _/_, _%_, _≤_, _<_}
 use native.Mathlib.Omega.{arith}
@@ -18,7 +18,7 @@ use Rattle.layout.specs.Table.{chars-in, text-in, text-by, label-in, entry-in, 
 use Rattle.layout.specs.Places as layout
 use Rattle.packed.specs.Packed.{table-of, Copied}
 use Rattle.packed.proofs.Bytes.{and-true}
-use Rattle.table.specs.Reads.{entries-from, met}
+use Rattle.table.specs.Reads.{Keyed, entries-from, met}
 use Rattle.table.specs.ReadLaws.{label-is}
 
 -- a text by its reference
@@ -63,31 +63,40 @@ pub none-same : (w : List ℕ) → eqb (length w) 0 ≡ sameBytes [] w
 none-same [] = refl
 none-same (x ∷ w) = ne-eqb (suc (length w)) 0 (λ e. omega (arith, e))
 
--- an entry compared with a word: x is what was read in its cell
-module _ (c w : List ℕ) (e x : ℕ) (is : x ≡ cell (table-of c) (layout.first-entry + e)) where
+is-true : (b : Bool) → T b → b ≡ true
+is-true true h = refl
+is-true false h = absurd h
+
+-- an entry compared with a word: x is what was read in its cell, and named is whether its label's name is the word
+module _ (c w : List ℕ) (e x : ℕ) (is : x ≡ cell (table-of c) (layout.first-entry + e)) (keyed : Keyed c e) {named : Bool}
+    (named-is : named ≡ sameBytes (label-in (table-of c) (x % 128) .name) w) where
   -- the entry of a cell's number
-  abbrev entry-by : ℕ → Entry
-  entry-by y = record { label = y % 128; text = text-by (table-of c) (y / 128) }
-
   abbrev by-cell : ℕ → Bool
-  by-cell y = meets (program-of c) (entry-by y) w
+  by-cell y = meets (program-of c) (record { label = y % 128; text = text-by (table-of c) (y / 128) }) w
 
-  pub met-by-name : x / 128 ≡ 0 → x % 128 < cell (table-of c) layout.label-count → sameBytes (label-in (table-of c) (x % 128) .name) w ≡ meets (program-of c) (entry-in (table-of c) e) w
+  -- by a text l, or by the label's name
+  abbrev met-by : List ℕ → Bool
+  met-by l = (filled l && sameBytes l w) || sameBytes (label-at (program-of c) (x % 128) .name) w
+
+  below : x % 128 < cell (table-of c) layout.label-count
+  below = rw is (keyed .label)
+
+  by-name : named ≡ sameBytes (label-at (program-of c) (x % 128) .name) w
+  by-name = named-is ∙ ap (λ (l : Label). sameBytes (l .name) w) (sym (label-is c (x % 128) below))
+
+  pub met-by-name : x / 128 ≡ 0 → named ≡ meets (program-of c) (entry-in (table-of c) e) w
   unfolding meets
-  met-by-name z h =
-      ap (λ (l : Label). sameBytes (l .name) w) (sym (label-is c (x % 128) h))
-      ∙ ap (λ (l : List ℕ). sameBytes (cond (filled l) l (label-at (program-of c) (x % 128) .name)) w) (sym (text-none (table-of c) (x / 128) z))
-      ∙ ap by-cell is
+  met-by-name z = by-name ∙ ap met-by (sym (text-none (table-of c) (x / 128) z)) ∙ ap by-cell is
 
-  some : (b : Bool) (l m : List ℕ) → T b → l ≡ cond b l m
-  some true l m h = refl
-  some false l m h = absurd h
+  has-text : (x / 128 ≡ 0 → ⊥) → T (filled (text-by (table-of c) (x / 128)))
+  has-text z = rw is (keyed .some (λ y. z (rw is y)))
 
-  pub met-by-text : T (filled (text-by (table-of c) (x / 128))) → sameBytes (text-by (table-of c) (x / 128)) w ≡ meets (program-of c) (entry-in (table-of c) e) w
+  pub met-by-either : {spelled : Bool} → spelled ≡ sameBytes (text-by (table-of c) (x / 128)) w → (x / 128 ≡ 0 → ⊥) → spelled || named ≡ meets (program-of c) (entry-in (table-of c) e) w
   unfolding meets
-  met-by-text h =
+  met-by-either q z =
       let l = text-by (table-of c) (x / 128) in
-      ap (λ (k : List ℕ). sameBytes k w) (some (filled l) l (label-at (program-of c) (x % 128) .name) h) ∙ ap by-cell is
+      ap (λ (b : Bool). b || named) q ∙ ap (λ (b : Bool). sameBytes l w || b) by-name
+      ∙ ap (λ (b : Bool). b && sameBytes l w || sameBytes (label-at (program-of c) (x % 128) .name) w) (sym (is-true (filled l) (has-text z))) ∙ ap by-cell is
 
 -- the first entry that is met: one turn of the search, its success and its end
 module _ {X : Type 0} (q : X → Bool) (d : X) (xs : List X) (k : ℕ) where

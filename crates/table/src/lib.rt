@@ -319,17 +319,18 @@ pub fn entry_text(table: &[u32], e: usize) -> usize
     read(table, TablePlaces::FIRST_ENTRY + e) / 128
 }
 
-// Whether entry `e` is met by `word`: by its text, or where it has none by its label's name.
+// Whether entry `e` is met by `word`: by its label's name, or where it has a text by that.
 fn meets(table: &[u32], e: usize, word: &[u8]) -> bool
     requires { ⌜ Keyed (now table) e ⌝ }
     ensures { λ r. ⌜ r ≡ meets (program-of (now (table .entry))) (entry-in (table-of (now (table .entry))) e) (now (word .entry)) ⌝ }
 {
     let x = read(table, TablePlaces::FIRST_ENTRY + e);
     let v = x / 128;
+    let named = name_is(table, x % 128, word);
     if v == 0 {
-        return name_is(table, x % 128, word);
+        return named;
     }
-    text_is(table, v, word)
+    text_is(table, v, word) | named
 }
 
 // The first of the `count` entries from entry `first` on that is met by `word`, counted from `first`; `count` where there is none.
