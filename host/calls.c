@@ -19,7 +19,7 @@
 
 #include <stdarg.h>
 
-enum { LEVEL = 2, WORDS_MOST = 64, ANSWER_MOST = 4 * EOL2_INPUT };
+enum { LEVEL = 4, WORDS_MOST = 64, ANSWER_MOST = 4 * EOL2_INPUT };
 
 static struct lent text, table, i1, i2, state;
 static uint8_t table_now[EOL2_TABLE * 4], state_now[EOL2_STATE];
