@@ -405,7 +405,7 @@ module _ (n : ℕ) (d : Draft) (x : List Item) (h : Sound-draft n d) (sound : Ea
   unfolding questions
   names-here =
       each-append (Sound-name n) (d .waiting) (labels-in x) (h .waiting)
-      (label-names n x fine-here (front-names (is-first d) x (a .1 .1 .1 .0) (a .1 .1 .1 .1 .0)))
+      (label-names n x fine-here (front-names (is-first d) (d .english) x (a .1 .1 .1 .0) (a .1 .1 .1 .1 .0)))
 
   faultless-here : Faultless n (d .tables) (all-labels d x) x fine-here names-here (h .tables) (keyword-in x)
   unfolding questions label-faults count-faults

@@ -98,10 +98,10 @@ first-front (i ∷ js) h = go (filled (i .colon)) refl (same-keyword SEKCJA (key
     go false e false f h = absurd (let z : _≡_ {A = ℕ} 0 1 = cc in omega arith)
     go false e true f h = rw (fails (is colon i) (word-apart i (sekcja-word i (subst T (sym f) tt)) .1), e) refl
 
-pub front-names : (first : Bool) (x : List Item) → cond first (first-faults x) [] ≡ [] → cond first [] (operator-faults x) ≡ [] → Each (λ i. T (is-name i)) (front x)
+pub front-names : (first english : Bool) (x : List Item) → cond first (first-faults x) [] ≡ [] → cond first [] (operator-faults english x) ≡ [] → Each (λ i. T (is-name i)) (front x)
 unfolding operator-faults
-front-names true x h k = rw (first-front x h) tt
-front-names false x h k =
+front-names true english x h k = rw (first-front x h) tt
+front-names false english x h k =
     let q : Item → Bool = λ i. not (is-name i) in
     each-map _ _ (λ i e. not-not (is-name i) e) (front x)
     (keep-none q (front x) (map-none (λ i. i .at) (keep q (front x)) (append-none (places (keep q (front x))) _ k .0)))

@@ -70,3 +70,12 @@ unended = refl
 undeclared : load-typed (bytes "SEKCJA S\nSKONA A1,X\nSKOCZ Y\nKONS\nKONP S\n") ≡ refused 12 3
 unfolding opened
 undeclared = refl
+
+-- the English edition: the same program; the other edition's own operators bring 10
+english : load-typed (bytes "SECTION S\nSET 'AB',A1\nWRITE A1,Q1\nSTOP\nENDS\nKONP S\n") ≡ accepted sample
+unfolding opened
+english = refl
+
+foreign : load-typed (bytes "SECTION S\nSTOP\nKONS\nKONP S") ≡ refused 10 3
+unfolding opened
+foreign = refl

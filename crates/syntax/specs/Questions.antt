@@ -10,7 +10,7 @@ use Rattle.lists.specs.Lists.{any, filled, keep, each, sameBytes}
 use Rattle.syntax.specs.ArgumentForms.{arguments-in, arguments, of-form, most, least}
 use Rattle.syntax.specs.Items.{Item, is, places}
 use Rattle.syntax.specs.Items.Sort.{word, colon, text, wrong}
-use Rattle.syntax.specs.Statements.{same-keyword, by-keyword, keyword-of, front, labels-in, operator, keyword-in, rest, is-name, one-name, list-faults}
+use Rattle.syntax.specs.Statements.{same-keyword, by-keyword, keyword-of, front, labels-in, operator, keyword-in, own, rest, is-name, one-name, list-faults}
 use Rattle.syntax.specs.Statements.Keyword.{unknown, SEKCJA}
 use Rattle.syntax.specs.Tables.{Tables, Draft, is-first, all-labels, new-texts, new-numbers}
 use Rattle.syntax.specs.Verdict.{Question, ask}
@@ -21,11 +21,11 @@ first-faults [] = []
 first-faults (i ∷ js) =
     cond (not (filled (i .colon)) && same-keyword SEKCJA (keyword-of i)) (one-name identifier (i .at) js) (i .at ∷ [])
 
--- 10. "an item or `:` of no listed form brings 02, before the arguments 10"
-unfoldable pub operator-faults : List Item → List ℕ
-operator-faults x =
+-- 10. "an item or `:` of no listed form brings 02, before the arguments 10"; in a section of one edition "the other's own operators bring 10"
+unfoldable pub operator-faults : Bool → List Item → List ℕ
+operator-faults english x =
     places (keep (λ i. not (is-name i)) (front x))
-    ++ places (keep (λ i. same-keyword unknown (keyword-of i) || same-keyword SEKCJA (keyword-of i)) (operator x))
+    ++ places (keep (λ i. same-keyword unknown (keyword-of i) || same-keyword SEKCJA (keyword-of i) || own (not english) (i .chars)) (operator x))
 
 -- 08. Without a label the operator is at fault, otherwise each label in excess
 unfoldable pub label-faults : List Item → List Item → List ℕ
@@ -80,7 +80,7 @@ questions d x =
     -- "Is the first statement SEKCJA and one name, unlabelled?"
     ∷ ask 0 (cond (is-first d) (first-faults x) [])
     -- "Is the operator known, and no second SEKCJA?"
-    ∷ ask 10 (cond (is-first d) [] (operator-faults x))
+    ∷ ask 10 (cond (is-first d) [] (operator-faults (d .english) x))
     -- "Has each switch exactly one label?"
     ∷ ask 8 (label-faults (all-labels d x) x)
     -- "Is each label new?"

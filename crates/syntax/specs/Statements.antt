@@ -7,7 +7,7 @@ use lib.Dec.{eqb}
 use lib.ListN.{getD, take, drop}
 use Rattle.language.specs.Instructions.{operation, operators}
 use Rattle.language.specs.Program.{identifier, Op, Entry}
-use Rattle.lists.specs.Lists.{ahead, filled, ifAny, keep, sameBytes}
+use Rattle.lists.specs.Lists.{ahead, any, filled, ifAny, keep, sameBytes}
 use Rattle.lists.specs.Quoted.{bytes}
 use Rattle.syntax.specs.Items.{Item, is, places}
 use Rattle.syntax.specs.Items.Sort.{word, colon, text}
@@ -18,10 +18,23 @@ pub data Keyword : Type 0 where
   switch : Bool → Keyword
   instr : Op → Keyword
 
+-- The 46 pairs of words: a keyword's word in the Polish edition, its word in the English one, and what both are (clauses and Appendix E)
+abbrev pub editions : List (String × String × Keyword)
+editions =
+    ("SEKCJA", "SECTION", SEKCJA) ∷ ("KONS", "ENDS", KONS) ∷ ("KONP", "KONP", KONP) ∷ ("INDEKS", "INDEX", switch false) ∷ ("NAZWA", "NAME", switch true)
+    ∷ map (λ o. (operation o .name, operation o .english, instr o)) operators
+
+-- "Load takes either edition": the words of both, the Polish ones first
 abbrev pub keywords : List (String × Keyword)
-keywords =
-    ("SEKCJA", SEKCJA) ∷ ("KONS", KONS) ∷ ("KONP", KONP) ∷ ("INDEKS", switch false) ∷ ("NAZWA", switch true)
-    ∷ map (λ o. (operation o .name, instr o)) operators
+keywords = map (λ r. (r .0, r .2)) editions ++ map (λ r. (r .1, r .2)) editions
+
+-- the words of the English edition, or of the Polish one
+abbrev pub words-of : Bool → List (List ℕ)
+words-of english = map (λ r. bytes (cond english (r .1) (r .0))) editions
+
+-- "the other's own operators": a word of an edition that the other has not
+unfoldable pub own : Bool → List ℕ → Bool
+own english w = any (sameBytes w) (words-of english) && not (any (sameBytes w) (words-of (not english)))
 
 abbrev pub keyword-number : Keyword → ℕ
 keyword-number none = 0
@@ -73,6 +86,10 @@ operator-at x = ifAny 0 (λ i. i .at) (behind x)
 
 unfoldable pub keyword-in : List Item → Keyword
 keyword-in x = ifAny none keyword-of (behind x)
+
+-- "SEKCJA or its English word chooses (1.4)": the operator is the English one
+unfoldable pub chooses-english : List Item → Bool
+chooses-english x = ifAny false (λ i. sameBytes (i .chars) (bytes "SECTION")) (behind x)
 
 abbrev pub rest : List Item → List Item
 rest x = drop 1 (behind x)

@@ -13,7 +13,7 @@ use Rattle.lists.specs.Lists.{any, filled, headOr, keep, sameBytes}
 use Rattle.syntax.specs.ArgumentForms.{Argument, arguments}
 use Rattle.syntax.specs.Items.{Item, is, places}
 use Rattle.syntax.specs.Items.Sort.{word, text}
-use Rattle.syntax.specs.Statements.{same-keyword, by-keyword, labels-in, operator, operator-at, keyword-in, rest, one-name}
+use Rattle.syntax.specs.Statements.{same-keyword, by-keyword, labels-in, operator, operator-at, keyword-in, chooses-english, rest, one-name}
 use Rattle.syntax.specs.Statements.Keyword.{KONS, KONP}
 
 -- an instruction: its operator's place, and its arguments
@@ -42,9 +42,10 @@ pub record Closing : Type 0 where
   pub early : List ℕ
   pub faults : List ℕ
 
--- the section's name, empty before SEKCJA; all labels so far; the labels that wait for their statement
+-- the section's name, empty before SEKCJA; whether its edition is the English one; all labels so far; the labels that wait for their statement
 pub record Draft : Type 0 where
   pub section : List ℕ
+  pub english : Bool
   pub names : List (List ℕ)
   pub waiting : List Item
   pub tables : Tables
@@ -54,6 +55,7 @@ abbrev pub blank : Draft
 blank =
     record {
       section = [];
+      english = false;
       names = [];
       waiting = [];
       tables = record { code = []; labels = []; switches = []; texts = []; numbers = [] };
@@ -135,6 +137,7 @@ unfoldable pub draft-after : Draft → List Item → Draft
 draft-after d x =
     record {
       section = cond (is-first d) (headOr [] (contents (rest x))) (d .section);
+      english = cond (is-first d) (chooses-english x) (d .english);
       names = d .names ++ contents (labels-in x);
       waiting = cond (filled (operator x)) [] (all-labels d x);
       tables = tables-after (d .tables) (all-labels d x) x;
