@@ -1,29 +1,19 @@
 -- What the functions on keywords answer.
 use mathlib.Core.Path.{_≡_}
-use mathlib.Core.Bool.{cond, _||_}
+use mathlib.Core.Bool.{Bool, true, false, cond, _||_}
 use mathlib.Core.List.{List, [], _∷_, map}
-use Prim.Native.Nat.{ℕ, suc, _+_, _*_, _-_, _%_}
-use lib.Dec.{ltb}
-use lib.ListN.{length, getD}
-use Rattle.language.specs.Instructions.{operation, operators, operator-of}
+use Prim.Native.Nat.{ℕ, _+_, _*_, _-_, _%_, _<_, _≤_}
+use lib.Dec.{eqb, ltb}
+use lib.ListN.{length, getD, take, drop}
+use Rattle.language.specs.Instructions.{operation, operator-of}
 use Rattle.lists.specs.Lists.{ahead, joined, sameBytes}
 use Rattle.lists.specs.Quoted.{bytes}
 use Rattle.syntax.specs.Statements as Spec
-use Rattle.syntax.specs.Statements.{keywords}
+use Rattle.syntax.specs.Statements.{editions, keywords, words-of, own}
 use Rattle.words.specs.declared.Keyword.{Keyword}
+use Rattle.words.specs.declared.Known.{Known}
 
--- the names of the operators, by their numbers from 1
-unfoldable pub names : List (List ℕ)
-names = map (λ o. bytes (operation o .name)) operators
-
-abbrev pub name-of : ℕ → List ℕ
-name-of j = getD names j []
-
--- the number of the operator that a word is; 0 for none
-unfoldable pub operator-number : List ℕ → ℕ
-operator-number w = let k = ahead (sameBytes w) names in cond (ltb k (length names)) (suc k) 0
-
--- the keyword that a word is
+-- the keyword that a word is, in either edition
 unfoldable pub keyword-by : List ℕ → Spec.Keyword
 keyword-by w = getD keywords (ahead (λ k. sameBytes w (bytes (k .0))) keywords) ("", Spec.Keyword.unknown) .1
 
@@ -47,31 +37,71 @@ meant Keyword.Konp = Spec.Keyword.KONP
 meant (Keyword.Switch byName) = Spec.Keyword.switch byName
 meant (Keyword.Instr n) = Spec.Keyword.instr (operator-of n)
 
--- A number from a word's length and letters: with it the code guesses the one operator that the word may be
-unfoldable pub slot : List ℕ → ℕ
-slot w =
-    let n = length w in
-    cond (ltb n 2 || ltb 8 n) 0 ((n + 4 * getD w 0 0 + getD w (n - 2) 0 + 6 * getD w (n - 1) 0) % 128)
+-- the keyword of a word, and whether the word is one edition's own
+abbrev pub known : List ℕ → Known
+known w = record { keyword = told (keyword-by w); polish = own false w; english = own true w }
 
--- the constants of the code: the names in a row, where each of them begins and the last ends, and the place of an operator by slot
-unfoldable pub in-a-row : List ℕ
-in-a-row = joined names
+-- ---- by places: the words of a pair have the same place in the two editions
+
+abbrev pub word-at : Bool → ℕ → List ℕ
+word-at english j = getD (words-of english) j []
+
+-- the place of a word in an edition; how many pairs there are for none
+unfoldable pub place-in : Bool → List ℕ → ℕ
+place-in english w = ahead (sameBytes w) (words-of english)
+
+abbrev pub meanings : List Spec.Keyword
+meanings = map (λ r. r .2) editions
+
+unfoldable pub keyword-at : ℕ → Keyword
+keyword-at j = told (getD meanings j Spec.Keyword.unknown)
+
+-- KONP and STOP
+abbrev pub shared : ℕ → Bool
+shared j = eqb j 2 || eqb j 45
+
+-- ---- the code's tables
+
+-- A number from a word's length and letters: with it the code guesses the one place that the word may have in an edition
+unfoldable pub slot : Bool → List ℕ → ℕ
+slot english w =
+    let n = length w in
+    let last-but-one = getD w (n - 2) 0 in
+    let last = getD w (n - 1) 0 in
+    cond (ltb n 2 || ltb 8 n) 0
+    ((2 * n + 3 * getD w 0 0 + cond english 4 9 * last-but-one + cond english 19 13 * last) % 128)
+
+-- the words of an edition in a row, where each of them begins and the last ends, and the place of a word by slot
+unfoldable pub in-a-row : Bool → List ℕ
+in-a-row english = joined (words-of english)
 
 abbrev pub from : ℕ → List (List ℕ) → List ℕ
 from n [] = n ∷ []
 from n (w ∷ ws) = n ∷ from (n + length w) ws
 
-unfoldable pub beginnings : List ℕ
-beginnings = from 0 names
+unfoldable pub beginnings : Bool → List ℕ
+beginnings english = from 0 (words-of english)
 
-unfoldable pub guesses : List ℕ
-guesses = bytes "3:QHOV48BIPW5<C1QXM=DKRW7>ELS18?FMPO7H<NU3:A4OV4BBI2J5<CAQX6=DK90L>3LS18NFMT20@U6U3TDHO>4;BIPV5<CJQF6=DKRE7>E;I18S?MT29=GN@3:KRX"
+unfoldable pub guesses : Bool → List ℕ
+guesses english =
+    bytes
+    (cond english "(+((((1(((?(((.()*=(I(((((5(((((O((((@(((((20U(((:(((D(((K(((((H(B(((,(8((<F((P6T(((;((SM((LG((((N(Q(J-(ER94(7((C(((((((3(((A>/("
+    "((((((((((F(((EOR(3(HN;(G(((((@M((((((((T(((0((B(((((((*(D(I(4(((+(1(((9L(((8(K(,((-<Q((U((((6)(.J(=(((:(P(((A>(?(2((/(C((7(S5((")
 
--- the place of the operator that a word's slot leads to
-unfoldable pub guess : List ℕ → ℕ
-guess w = getD guesses (slot w) 0 - 48
+-- the place to which a word's slot leads
+unfoldable pub guess : Bool → List ℕ → ℕ
+guess english w = getD (guesses english) (slot english w) 0 - 40
 
-pub record Lent (names starts slots : List ℕ) : Type 0 where
-  pub row : names ≡ in-a-row
-  pub begins : starts ≡ beginnings
-  pub by-slot : slots ≡ guesses
+-- the part of a row that begins at the start j, up to the next
+abbrev pub of-row : ℕ → List ℕ → List ℕ → List ℕ
+of-row j row starts = take (getD starts (j + 1) 0 - getD starts j 0) (drop (getD starts j 0) row)
+
+pub record In-row (j : ℕ) (row starts : List ℕ) : Type 0 where
+  pub room : j + 1 < length starts
+  pub order : getD starts j 0 ≤ getD starts (j + 1) 0
+  pub within : getD starts (j + 1) 0 ≤ length row
+
+pub record Lent (english : Bool) (row starts slots : List ℕ) : Type 0 where
+  pub row-is : row ≡ in-a-row english
+  pub starts-are : starts ≡ beginnings english
+  pub slots-are : slots ≡ guesses english

@@ -1,79 +1,133 @@
 // Words of a text: identifiers, classes, numbers, indexed letters and keywords, by their bytes.
 ghost use mathlib.Core.Path.{_≡_};
-ghost use mathlib.Core.Bool.{cond, _||_};
+ghost use mathlib.Core.Bool.{true, false, cond, _||_};
 ghost use Prim.Native.Nat.{_+_, _-_, _*_, _≤_, _<_};
 ghost use Rattle.characters.specs.Characters.{isCapital, isDigit};
 ghost use Rattle.language.specs.Program.{identifier};
 ghost use Rattle.lists.specs.Lists.{among, sameBytes};
 ghost use Rattle.words.specs.Words.{class-letter, is-class, class-of, capped, beyond, size-of, plus, minus, numeral-of, letter-at, reach, indexed-of};
-ghost use Rattle.words.specs.Keywords.{name-of, operator-number, keyword-by, told, slot, guess, in-a-row, beginnings, guesses, Lent};
+ghost use Rattle.words.specs.Keywords.{known, keyword-at, shared, place-in, slot, guess, guesses, of-row, In-row, Lent};
 use language::Machine;
+
+// How many pairs of words the two editions have.
+const PAIRS: u8 = 46;
 
 // The size of what is no number in range.
 const BEYOND: usize = Machine::SIZE + 1;
 
-const SEKCJA: [u8; 6] = *b"SEKCJA";
+// The words of each edition, one after the other by their pairs; that at place j goes from start j to the next. By slot, `(` plus the place of the word
+// that has it; where none has it, any.
+const POLISH: [u8; 221] =
+    *b"SEKCJAKONSKONPINDEKSNAZWAPRZESLIJCZYTAJPISZKOPIUJWSTAWPOBIERZSCHOWAJUSTAWZAMIENUMIESCUSUNSKRESLRWWKMNPPNSRZSKOCZWYKONAJSKOMISKOPLWYMIWYPLSKONASKOINWYNAWYINWROCDODAJODEJMIJMNOZDZIELSLOWOLICZBAZBIJROZBIJSZUKAJOMINCOFNIJSTOP";
 
-const KONS: [u8; 4] = *b"KONS";
-
-const KONP: [u8; 4] = *b"KONP";
-
-const INDEKS: [u8; 6] = *b"INDEKS";
-
-const NAZWA: [u8; 5] = *b"NAZWA";
-
-// The names of the operators, one after the other by their numbers; that at place j goes from start j to the next.
-const NAMES: [u8; 196] =
-    *b"PRZESLIJCZYTAJPISZKOPIUJWSTAWPOBIERZSCHOWAJUSTAWZAMIENUMIESCUSUNSKRESLRWWKMNPPNSRZSKOCZWYKONAJSKOMISKOPLWYMIWYPLSKONASKOINWYNAWYINWROCDODAJODEJMIJMNOZDZIELSLOWOLICZBAZBIJROZBIJSZUKAJOMINCOFNIJSTOP";
-
-const STARTS: [u8; 42] = [
+const POLISH_STARTS: [u8; 47] = [
     0,
-    8,
+    6,
+    10,
     14,
-    18,
-    24,
-    29,
-    36,
+    20,
+    25,
+    33,
+    39,
     43,
-    48,
+    49,
     54,
-    60,
-    64,
-    70,
-    72,
+    61,
+    68,
+    73,
+    79,
+    85,
+    89,
+    95,
+    97,
+    99,
+    101,
+    103,
+    105,
+    107,
+    112,
+    119,
+    124,
+    129,
+    133,
+    137,
+    142,
+    147,
+    151,
+    155,
+    159,
+    164,
+    171,
+    175,
+    180,
+    185,
+    191,
+    195,
+    201,
+    207,
+    211,
+    217,
+    221,
+];
+
+const POLISH_SLOTS: [u8; 128] =
+    *b"((((((((((F(((EOR(3(HN;(G(((((@M((((((((T(((0((B(((((((*(D(I(4(((+(1(((9L(((8(K(,((-<Q((U((((6)(.J(=(((:(P(((A>(?(2((/(C((7(S5((";
+
+const ENGLISH: [u8; 194] =
+    *b"SECTIONENDSKONPINDEXNAMEMOVEREADWRITECOPYPUTGETSAVERESTOREEXCHANGESETCLEARDELETEEQGTLTPRFLERGOTOCALLGOMIGOPLCAMICAPLGONAGOINCANACAINRETURNADDSUBMULTDIVWORDNUMBERCOMPRESSSPLITSEARCHSHIFTRESETSTOP";
+
+const ENGLISH_STARTS: [u8; 47] = [
+    0,
+    7,
+    11,
+    15,
+    20,
+    24,
+    28,
+    32,
+    37,
+    41,
+    44,
+    47,
+    51,
+    58,
+    66,
+    69,
     74,
-    76,
-    78,
     80,
     82,
-    87,
-    94,
-    99,
+    84,
+    86,
+    88,
+    90,
+    92,
+    96,
+    100,
     104,
     108,
     112,
-    117,
-    122,
-    126,
-    130,
-    134,
-    139,
-    146,
-    150,
+    116,
+    120,
+    124,
+    128,
+    132,
+    138,
+    141,
+    144,
+    148,
+    151,
     155,
-    160,
-    166,
-    170,
-    176,
-    182,
-    186,
-    192,
-    196,
+    161,
+    169,
+    174,
+    180,
+    185,
+    190,
+    194,
 ];
 
-// By slot, '0' plus the place of the operator whose name has it; where none has it, any.
-const SLOTS: [u8; 128] =
-    *b"3:QHOV48BIPW5<C1QXM=DKRW7>ELS18?FMPO7H<NU3:A4OV4BBI2J5<CAQX6=DK90L>3LS18NFMT20@U6U3TDHO>4;BIPV5<CJQF6=DKRE7>E;I18S?MT29=GN@3:KRX";
+const ENGLISH_SLOTS: [u8; 128] =
+    *b"(+((((1(((?(((.()*=(I(((((5(((((O((((@(((((20U(((:(((D(((K(((((H(B(((,(8((<F((P6T(((;((SM((LG((((N(Q(J-(ER94(7((C(((((((3(((A>/(";
 
 // A number as the table of a program has it, its value + 8,388,607; or no number in range.
 pub enum Numeral {
@@ -97,6 +151,13 @@ pub enum Keyword {
     Switch(bool),
     // an instruction's number
     Instr(u8),
+}
+
+// The keyword that a word is, and whether the word is the Polish edition's own or the English one's.
+pub struct Known {
+    pub keyword: Keyword,
+    pub polish: bool,
+    pub english: bool,
 }
 
 pub fn same(a: &[u8], b: &[u8]) -> bool
@@ -300,9 +361,9 @@ fn wide(b: u8) -> usize
     b as usize
 }
 
-// A number from a word's length and letters that no two operators share.
-fn slot(w: &[u8]) -> usize
-    ensures { λ r. ⌜ (r ≡ slot (now (w .entry))) × (r < 128) ⌝ }
+// A number from a word's length and letters that no two words of an edition share.
+fn slot(w: &[u8], english: bool) -> usize
+    ensures { λ r. ⌜ (r ≡ slot english (now (w .entry))) × (r < 128) ⌝ }
 {
     let n = w.len();
     if n < 2 {
@@ -311,67 +372,97 @@ fn slot(w: &[u8]) -> usize
     if 8 < n {
         return 0;
     }
-    (n + 4 * wide(w[0]) + wide(w[n - 2]) + 6 * wide(w[n - 1])) % 128
+    let first = wide(w[0]);
+    let before = wide(w[n - 2]);
+    let last = wide(w[n - 1]);
+    if english {
+        return (2 * n + 3 * first + 4 * before + 19 * last) % 128;
+    }
+    (2 * n + 3 * first + 9 * before + 13 * last) % 128
 }
 
-// The place of the operator that a word's slot leads to: the only one that the word can be.
-fn guess(w: &[u8], slots: &[u8]) -> u8
-    requires { ⌜ now slots ≡ guesses ⌝ }
-    ensures { λ r. ⌜ (r ≡ guess (now (w .entry))) × (r < 41) ⌝ }
+// The place to which a word's slot leads: the only one that the word can have in an edition.
+fn guess(w: &[u8], english: bool, slots: &[u8]) -> u8
+    requires { ⌜ now slots ≡ guesses english ⌝ }
+    ensures { λ r. ⌜ (r ≡ guess english (now (w .entry))) × (r < 46) ⌝ }
 {
-    let h = slot(w);
-    slots[h] - b'0'
+    let h = slot(w, english);
+    slots[h] - b'('
 }
 
-// Whether a word is the name of the operator at place j.
-fn is_operator(w: &[u8], j: usize, names: &[u8], starts: &[u8]) -> bool
-    requires { ⌜ (j < 41) × (now names ≡ in-a-row) × (now starts ≡ beginnings) ⌝ }
-    ensures { λ r. ⌜ r ≡ sameBytes (now (w .entry)) (name-of j) ⌝ }
+// Whether a word is that at place j of a row.
+fn is_at(w: &[u8], j: usize, row: &[u8], starts: &[u8]) -> bool
+    requires { ⌜ In-row j (now row) (now starts) ⌝ }
+    ensures { λ r. ⌜ r ≡ sameBytes (now (w .entry)) (of-row j (now (row .entry)) (now (starts .entry))) ⌝ }
 {
     let a = wide(starts[j]);
     let e = wide(starts[j + 1]);
-    same(w, &names[a..e])
+    same(w, &row[a..e])
 }
 
-fn find(w: &[u8], names: &[u8], starts: &[u8], slots: &[u8]) -> u8
-    requires { ⌜ Lent (now names) (now starts) (now slots) ⌝ }
-    ensures { λ r. ⌜ r ≡ operator-number (now (w .entry)) ⌝ }
+fn find(w: &[u8], english: bool, row: &[u8], starts: &[u8], slots: &[u8]) -> u8
+    requires { ⌜ Lent english (now row) (now starts) (now slots) ⌝ }
+    ensures { λ r. ⌜ r ≡ place-in english (now (w .entry)) ⌝ }
 {
-    let j = guess(w, slots);
-    if is_operator(w, wide(j), names, starts) {
-        return j + 1;
+    let j = guess(w, english, slots);
+    if is_at(w, wide(j), row, starts) {
+        return j;
     }
-    0
+    PAIRS
 }
 
-// The number of the operator that a word is; 0 for none.
-fn operator_of(w: &[u8]) -> u8
-    ensures { λ r. ⌜ r ≡ operator-number (now (w .entry)) ⌝ }
+// The place of a word among those of the Polish edition; that of no pair for none.
+fn polish_place(w: &[u8]) -> u8
+    ensures { λ r. ⌜ r ≡ place-in false (now (w .entry)) ⌝ }
 {
-    find(w, &NAMES, &STARTS, &SLOTS)
+    find(w, false, &POLISH, &POLISH_STARTS, &POLISH_SLOTS)
 }
 
-pub fn keyword_of(w: &[u8]) -> Keyword
-    ensures { λ r. ⌜ r ≡ told (keyword-by (now (w .entry))) ⌝ }
+fn english_place(w: &[u8]) -> u8
+    ensures { λ r. ⌜ r ≡ place-in true (now (w .entry)) ⌝ }
 {
-    let op = operator_of(w);
-    if 0 < op {
-        return Keyword::Instr(op);
+    find(w, true, &ENGLISH, &ENGLISH_STARTS, &ENGLISH_SLOTS)
+}
+
+// The keyword whose words have place j.
+fn keyword_at(j: u8) -> Keyword
+    ensures { λ r. ⌜ r ≡ keyword-at j ⌝ }
+{
+    if PAIRS <= j {
+        return Keyword::Unknown;
     }
-    if same(w, &SEKCJA) {
-        return Keyword::Sekcja;
+    match j {
+        0 => Keyword::Sekcja,
+        1 => Keyword::Kons,
+        2 => Keyword::Konp,
+        3 => Keyword::Switch(false),
+        4 => Keyword::Switch(true),
+        _ => Keyword::Instr(j - 4),
     }
-    if same(w, &KONS) {
-        return Keyword::Kons;
+}
+
+// KONP and STOP, the words of both editions.
+fn is_shared(j: u8) -> bool
+    ensures { λ r. ⌜ r ≡ shared j ⌝ }
+{
+    (j == 2) | (j == 45)
+}
+
+pub fn keyword_of(w: &[u8]) -> Known
+    ensures { λ r. ⌜ r ≡ known (now (w .entry)) ⌝ }
+{
+    let j = polish_place(w);
+    if j < PAIRS {
+        return Known {
+            keyword: keyword_at(j),
+            polish: !is_shared(j),
+            english: false,
+        };
     }
-    if same(w, &KONP) {
-        return Keyword::Konp;
+    let k = english_place(w);
+    Known {
+        keyword: keyword_at(k),
+        polish: false,
+        english: k < PAIRS,
     }
-    if same(w, &INDEKS) {
-        return Keyword::Switch(false);
-    }
-    if same(w, &NAZWA) {
-        return Keyword::Switch(true);
-    }
-    Keyword::Unknown
 }
