@@ -23,8 +23,9 @@ use Rattle.syntax.specs.Items.{Item, places}
 use Rattle.syntax.specs.Statements.{keyword-of, is-operator, front, behind, operator, keyword-in, is-name}
 use Rattle.syntax.specs.Statements as Spec
 use Rattle.words.specs.declared.Keyword.{Keyword}
+use Rattle.words.specs.declared.Known.{Known}
 use Rattle.words.specs.Keywords.{told}
-use Rattle.heads.specs.Heads.{operates, from-token, Headed}
+use Rattle.heads.specs.Heads.{own-item, known-item, operates, from-token, Headed}
 use Rattle.heads.specs.HeadLaws.{lower-clear, lower-assoc, front-goes, behind-goes, front-ends, behind-here, operator-is}
 
 abbrev name-faults : List Item → List ℕ
@@ -41,6 +42,25 @@ name-fault-goes i js = go (is-name i)
         ≡ lower (fault-of (cond b [] (i .at ∷ []))) (fault-of (name-faults js))
     go true = refl
     go false = fault-both (i .at ∷ []) (name-faults js)
+
+-- what is known of an operator, and of none
+no-operator : Known
+no-operator = record { keyword = Keyword.None; polish = false; english = false }
+
+abbrev own-known : Bool → Known → Bool
+own-known e k = cond e (k .english) (k .polish)
+
+keyword-of-known : (xs : List Item) → told (ifAny Spec.Keyword.none keyword-of xs) ≡ ifAny no-operator known-item xs .keyword
+unfolding no-operator
+keyword-of-known [] = refl
+keyword-of-known (i ∷ xs) = refl
+
+own-of-known : (e : Bool) (xs : List Item) → ifAny false (own-item e) xs ≡ own-known e (ifAny no-operator known-item xs)
+unfolding no-operator
+own-of-known true [] = refl
+own-of-known false [] = refl
+own-of-known true (i ∷ xs) = refl
+own-of-known false (i ∷ xs) = refl
 
 -- the first item of the statement at n is in front of the operator, at f, before place i
 record Begun (s : List ℕ) (n i f : ℕ) : Type 0 where
@@ -99,8 +119,9 @@ module _ {s : List ℕ} {n i f w : ℕ} {fault : Fault} {t : Token} (l : Leading
   js = statement-at s (t .next)
 
   -- nothing more stands in front: the token t is the operator or ends the statement
-  headed : front (statement-at s i) ≡ [] → behind (statement-at s i) ≡ from-token s t → {v : Keyword} → v ≡ told (ifAny Spec.Keyword.none keyword-of (from-token s t))
-      → {c u : ℕ} → u ≡ min w (worst (take 1 (from-token s t))) → Headed s n (record { first = f′; fault = fault; names = c; worst = u; op = t; keyword = v })
+  headed : front (statement-at s i) ≡ [] → behind (statement-at s i) ≡ from-token s t → {v : Known} → v ≡ ifAny no-operator known-item (from-token s t)
+      → {c u : ℕ} → u ≡ min w (worst (take 1 (from-token s t)))
+      → Headed s n (record { first = f′; fault = fault; names = c; worst = u; op = t; keyword = v .keyword; polish = v .polish; english = v .english })
   unfolding keyword-in
   headed none own v-is u-is =
       record {
@@ -110,23 +131,25 @@ module _ {s : List ℕ} {n i f w : ℕ} {fault : Fault} {t : Token} (l : Leading
         within = l .within;
         token = k;
         operator = l .operator-is ∙ own;
-        keyword = v-is ∙ sym (ap (λ xs. told (ifAny Spec.Keyword.none keyword-of xs)) (l .operator-is ∙ own));
+        keyword = ap (λ (k : Known). k .keyword) v-is ∙ sym (ap (λ xs. told (ifAny Spec.Keyword.none keyword-of xs)) (l .operator-is ∙ own) ∙ keyword-of-known (from-token s t));
+        owned = λ e. ap (own-known e) v-is ∙ sym (ap (ifAny false (own-item e)) (l .operator-is ∙ own) ∙ own-of-known e (from-token s t));
         first-is = firsts none .0;
         front-is = firsts none .1;
         fault-is = sym (l .faults ∙ ap (λ y. lower fault (fault-of (name-faults y))) none ∙ lower-clear fault);
         worst-is = u-is ∙ sym (l .worsts ∙ ap (λ y. min w (worst (y ++ operator (statement-at s i)))) none ∙ ap (λ y. min w (worst (take 1 y))) own);
       }
 
-  pub no-head : {c : ℕ} → stops (t .sort) ≡ true → Headed s n (record { first = f′; fault = fault; names = c; worst = w; op = t; keyword = Keyword.None })
-  unfolding behind worst
+  pub no-head : {c : ℕ} → stops (t .sort) ≡ true
+      → Headed s n (record { first = f′; fault = fault; names = c; worst = w; op = t; keyword = Keyword.None; polish = false; english = false })
+  unfolding behind worst no-operator
   no-head z = let h = l .low in headed (no-front (at-stop k z)) (rw (at-stop k z, z) refl) (rw z refl) (rw z (omega arith))
 
   module _ (z : stops (t .sort) ≡ false) {w′ : ℕ} (w-is : w′ ≡ min w (token-code t)) where
     abbrev it : Item
     it = item-of s t
 
-    pub head-here : operates t ≡ true → {v : Keyword} → v ≡ told (keyword-of it) → {c : ℕ}
-        → Headed s n (record { first = f′; fault = fault; names = c; worst = w′; op = t; keyword = v })
+    pub head-here : operates t ≡ true → {v : Known} → v ≡ known-item it → {c : ℕ}
+        → Headed s n (record { first = f′; fault = fault; names = c; worst = w′; op = t; keyword = v .keyword; polish = v .polish; english = v .english })
     unfolding worst
     head-here o v-is =
         let op-is : is-operator it ≡ true = operator-is (k .stands) ∙ o in

@@ -26,8 +26,8 @@ use Rattle.syntax.specs.Items.{Item, is}
 use Rattle.syntax.specs.Items.Sort.{word}
 use Rattle.syntax.specs.Statements.{keyword-of, front, labels-in, is-name}
 use Rattle.words.specs.declared.Keyword.{Keyword}
-use Rattle.words.specs.Keywords.{told}
-use Rattle.heads.specs.Heads.{operates, Marks-put, Headable, Heads}
+use Rattle.words.specs.declared.Known.{Known}
+use Rattle.heads.specs.Heads.{known-item, operates, Marks-put, Headable, Heads}
 use Rattle.heads.specs.HeadLaws.{front-goes, front-ends, operator-is}
 use Rattle.heads.proofs.Leading.{Leading, leading-first, no-front, own-fault, no-head, head-here, still-leading}
 
@@ -101,9 +101,9 @@ reading-first {r} {n} {ms} {count} p =
       is = λ s le h. rw (add-zero n) (leading-first le, record { counts = refl; marks = refl });
     }
 
-keyword-shift : (n : ℕ) (i : Item) → keyword-of (shift n i) ≡ keyword-of i
+known-shift : (n : ℕ) (i : Item) → known-item (shift n i) ≡ known-item i
 unfolding keyword-of
-keyword-shift n i = refl
+known-shift n i = refl
 
 same-place : (n j : ℕ) → eqb j 0 ≡ eqb (n + j) n
 same-place n j = go (eqb j 0) refl
@@ -144,17 +144,17 @@ module _ {r : List ℕ} {n : ℕ} {ms : List ℕ} {count j f : ℕ} {fault : Fau
       item-is = ap (item-of s) g ∙ item-moved s n h t
 
     module _ {f′ : ℕ} (f-is : f′ ≡ cond (eqb j 0) (o .at) f) where
-      pub none-read : stops (o .sort) ≡ true → Heads r n count ms ms′ (record { first = f′; fault = fault; names = c; worst = w; op = o; keyword = Keyword.None })
+      pub none-read : stops (o .sort) ≡ true → Heads r n count ms ms′ (record { first = f′; fault = fault; names = c; worst = w; op = o; keyword = Keyword.None; polish = false; english = false })
       none-read z s le h =
           let k′ = there s le h in
           (no-head (u .is s le h .0) k′ (same-place n j) f-is z, all-put (u .is s le h .1) k′ (u .same) (no-front (at-stop k′ z)))
 
       module _ (z : stops (o .sort) ≡ false) {w′ : ℕ} (w-is : w′ ≡ min w (token-code o)) where
-        pub head-read : operates o ≡ true → {v : Keyword} → v ≡ told (keyword-of (item-of r t))
-            → Heads r n count ms ms′ (record { first = f′; fault = fault; names = c; worst = w′; op = o; keyword = v })
+        pub head-read : operates o ≡ true → {v : Known} → v ≡ known-item (item-of r t)
+            → Heads r n count ms ms′ (record { first = f′; fault = fault; names = c; worst = w′; op = o; keyword = v .keyword; polish = v .polish; english = v .english })
         head-read y e s le h =
             let k′ = there s le h in
-            let v-is = e ∙ sym (ap (λ i. told (keyword-of i)) (item-is s le h) ∙ ap told (keyword-shift n (item-of r t))) in
+            let v-is = e ∙ sym (ap known-item (item-is s le h) ∙ known-shift n (item-of r t)) in
             (head-here (u .is s le h .0) k′ (same-place n j) f-is z w-is y v-is, operator-put (u .is s le h .1) k′ z (u .same) y)
 
         pub still-reading : operates o ≡ false → {fault′ : Fault} {m c′ : ℕ} → fault′ ≡ lower fault (fault-of (cond (is-name (item-of r t)) [] (o .at ∷ [])))

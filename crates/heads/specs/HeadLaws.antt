@@ -17,12 +17,12 @@ use Rattle.statements.specs.declared.Fault.{Fault}
 use Rattle.statements.specs.declared.Fault.the-variants.{Clear, At}
 use Rattle.syntax.specs.Items.{Item, is}
 use Rattle.syntax.specs.Items.Sort.{word, colon}
-use Rattle.syntax.specs.Statements.{keyword-number, same-keyword, keyword-of, is-operator, front, behind, operator, keyword-in, rest}
+use Rattle.syntax.specs.Statements.{keyword-number, same-keyword, keyword-of, own, is-operator, front, behind, operator, keyword-in, rest}
 use Rattle.syntax.specs.Statements as Spec
 use Rattle.words.specs.declared.Keyword.{Keyword}
-use Rattle.words.specs.Keywords.{keyword-by, told}
+use Rattle.words.specs.Keywords.{keyword-by, told, known}
 use Rattle.words.specs.WordLaws.{keyword-item}
-use Rattle.heads.specs.Heads.{operates, by-kind, opens, bars, Headed}
+use Rattle.heads.specs.Heads.{known-item, operates, by-kind, opens, bars, Headed}
 use Rattle.heads.specs.declared.Head.{Head}
 
 -- the lower of places at fault
@@ -64,6 +64,9 @@ module _ {s : List ℕ} {t : Token} (h : Stands s t) where
         ∙ ap (λ b. cond b (keyword-by (chars-of s t)) Spec.Keyword.unknown) (is-sort word h ∙ eq-eqb 1 (t .sort) (sym w))
         ∙ ap keyword-by (word-chars s t w)
 
+    pub word-known : known (word-of s t) ≡ known-item (item-of s t)
+    word-known = sym (rw (word-keyword, word-passes (own false), word-passes (own true)) refl)
+
   module _ (w : t .sort ≡ 1 → ⊥) where
     pub other-fails : (f : List ℕ → Bool) → (is word (item-of s t) && f (chars-of s t)) ≡ false
     other-fails f = ap (λ b. b && f (chars-of s t)) (is-sort word h ∙ ne-eqb 1 (t .sort) (λ e. w (sym e)))
@@ -72,6 +75,9 @@ module _ {s : List ℕ} {t : Token} (h : Stands s t) where
     other-keyword =
         keyword-item (item-of s t)
         ∙ ap (λ b. cond b (keyword-by (chars-of s t)) Spec.Keyword.unknown) (is-sort word h ∙ ne-eqb 1 (t .sort) (λ e. w (sym e)))
+
+    pub other-known : record { keyword = Keyword.Unknown; polish = false; english = false } ≡ known-item (item-of s t)
+    other-known = sym (rw (other-keyword, other-fails (own false), other-fails (own true)) refl)
 
 -- an item in front of the operator, and the operator
 module _ (i : Item) (js : List Item) where

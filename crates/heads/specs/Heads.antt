@@ -1,6 +1,6 @@
 -- What the reader of a statement's head promises.
 use mathlib.Core.Path.{_≡_}
-use mathlib.Core.Bool.{Bool, true, false, cond, not, _||_}
+use mathlib.Core.Bool.{Bool, true, false, cond, not, _&&_, _||_}
 use mathlib.Core.List.{List, [], _∷_, _++_, map}
 use Prim.Native.Nat.{ℕ, _+_, _≤_}
 use lib.Dec.{eqb}
@@ -10,18 +10,35 @@ use Rattle.statements.specs.Checks.{worst}
 use Rattle.language.specs.Limits as limit
 use Rattle.lexer.specs.declared.Token.{Token}
 use Rattle.lexer.specs.Tokens.{item-of, Stands, Next-token}
-use Rattle.lists.specs.Lists.{filled, keep}
+use Rattle.lists.specs.Lists.{filled, ifAny, keep}
 use Rattle.statements.proofs.Ends.{Within}
 use Rattle.statements.specs.StatementAt.{statement-at, stops, fault-of}
-use Rattle.syntax.specs.Items.{Item, places}
-use Rattle.syntax.specs.Statements.{front, behind, labels-in, operator as operator-in, keyword-in, is-name}
+use Rattle.syntax.specs.Items.{Item, is, places}
+use Rattle.syntax.specs.Items.Sort.{word}
+use Rattle.syntax.specs.Statements.{front, behind, labels-in, operator as operator-in, keyword-of, keyword-in, own, is-name}
 use Rattle.words.specs.declared.Keyword.{Keyword}
+use Rattle.words.specs.declared.Known.{Known}
 use Rattle.words.specs.Keywords.{told}
 use Rattle.heads.specs.declared.Head.{Head}
 
 -- a token that is an operator, and not a colon or a word with its colon
 abbrev pub operates : Token → Bool
 operates t = not (eqb 2 (t .sort) || not (eqb (t .colon) 0))
+
+-- an item that is a word of one edition only
+abbrev pub own-item : Bool → Item → Bool
+own-item english i = is word i && own english (i .chars)
+
+-- what is known of an item as an operator
+abbrev pub known-item : Item → Known
+known-item i = record { keyword = told (keyword-of i); polish = own-item false i; english = own-item true i }
+
+-- of a statement's operator
+abbrev pub own-in : Bool → List Item → Bool
+own-in english x = ifAny false (own-item english) (behind x)
+
+abbrev pub own-by : Bool → Head → Bool
+own-by english h = cond english (h .english) (h .polish)
 
 -- one answer for each keyword: none, unknown, SEKCJA, KONS, KONP, INDEKS and NAZWA, instructions
 abbrev pub by-kind : {X : Type 0} → X → X → X → X → X → (Bool → X) → (ℕ → X) → Keyword → X
@@ -55,7 +72,7 @@ abbrev pub from-token : List ℕ → Token → List Item
 from-token s t = cond (stops (t .sort)) [] (item-of s t ∷ statement-at s (t .next))
 
 -- The head of the statement x at n: the place of its first item, or of what ends it; the first item in front of the operator that is no name; questions
--- 14, 15 and 16 of the items up to the operator; and the operator. Without one `op` is the token that ends the statement
+-- 14, 15 and 16 of the items up to the operator; the operator, and whether it is one edition's own. Without one `op` is the token that ends the statement
 pub record Headed (s : List ℕ) (n : ℕ) (h : Head) : Type 0 where
   pub from : n ≤ h .op .at
   pub stands : Stands s (h .op)
@@ -64,6 +81,7 @@ pub record Headed (s : List ℕ) (n : ℕ) (h : Head) : Type 0 where
   pub token : Next-token s place (h .op)
   pub operator : behind (statement-at s n) ≡ from-token s (h .op)
   pub keyword : h .keyword ≡ told (keyword-in (statement-at s n))
+  pub owned : (english : Bool) → own-by english h ≡ own-in english (statement-at s n)
   pub first-is : filled (front (statement-at s n)) ≡ true → take 1 (places (statement-at s n)) ≡ h .first ∷ []
   pub front-is : eqb (h .first) (h .op .at) ≡ not (filled (front (statement-at s n)))
   pub fault-is : h .fault ≡ fault-of (places (keep (λ i. not (is-name i)) (front (statement-at s n))))

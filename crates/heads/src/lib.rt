@@ -7,9 +7,8 @@ ghost use lib.Dec.{eqb};
 ghost use Rattle.drafts.specs.Marks.{mark-of};
 ghost use Rattle.lexer.specs.Tokens.{item-of, Stands};
 ghost use Rattle.statements.specs.StatementAt.{fault-of};
-ghost use Rattle.syntax.specs.Statements.{keyword-of, is-name};
-ghost use Rattle.words.specs.Keywords.{told};
-ghost use Rattle.heads.specs.Heads.{opens, bars, is-switch, is-by-name, instr-of, Headable, Heads};
+ghost use Rattle.syntax.specs.Statements.{is-name};
+ghost use Rattle.heads.specs.Heads.{known-item, opens, bars, is-switch, is-by-name, instr-of, Headable, Heads};
 use lexer::Token;
 use lexer::moved;
 use lexer::next_item;
@@ -22,10 +21,11 @@ use statements::lower;
 use statements::stops;
 use statements::worse;
 use words::Keyword;
+use words::Known;
 
 // The place of the first item, or of what ends the statement; the first item in front of the operator that is no name; how many names there are with
-// its labels; questions 14, 15 and 16 of the items up to the operator; the operator, or the token that ends the statement; and what the operator is.
-// The items after it are read from `op.next` on.
+// its labels; questions 14, 15 and 16 of the items up to the operator; the operator, or the token that ends the statement; what the operator is, and
+// whether its word is one edition's own. The items after it are read from `op.next` on.
 pub struct Head {
     pub first: usize,
     pub fault: Fault,
@@ -33,6 +33,8 @@ pub struct Head {
     pub worst: usize,
     pub op: Token,
     pub keyword: Keyword,
+    pub polish: bool,
+    pub english: bool,
 }
 
 // Whether a token, by its sort and its colon, is an operator, and does not stand in front of one.
@@ -54,16 +56,20 @@ pub fn is_name(text: &[u8], t: Token) -> bool
     false
 }
 
-fn keyword_at(text: &[u8], t: Token) -> Keyword
+fn keyword_at(text: &[u8], t: Token) -> Known
     requires { ⌜ Stands (now text) t ⌝ }
-    ensures { λ r. ⌜ r ≡ told (keyword-of (item-of (now (text .entry)) t)) ⌝ }
+    ensures { λ r. ⌜ r ≡ known-item (item-of (now (text .entry)) t) ⌝ }
 {
     let at = t.at;
     let end = t.end;
     if t.sort == WORD {
         return words::keyword_of(&text[at..end]);
     }
-    Keyword::Unknown
+    Known {
+        keyword: Keyword::Unknown,
+        polish: false,
+        english: false,
+    }
 }
 
 // SEKCJA, the only operator of a first statement.
@@ -192,17 +198,23 @@ pub fn read_head(rest: &[u8], n: usize, names: &mut [u32], count: usize) -> Head
                 worst: worst,
                 op: o,
                 keyword: Keyword::None,
+                polish: false,
+                english: false,
             };
         }
         worst = worse(worst, o);
         if is_operator(o.sort, o.colon) {
+            let k = keyword_at(rest, t);
+            let keyword = k.keyword;
             return Head {
                 first: first,
                 fault: fault,
                 names: c,
                 worst: worst,
                 op: o,
-                keyword: keyword_at(rest, t),
+                keyword: keyword,
+                polish: k.polish,
+                english: k.english,
             };
         }
         fault = lower(fault, name_fault(rest, t, o.at));

@@ -12,7 +12,7 @@ use Rattle.drafts.specs.DraftingLaws.{place-back}
 use Rattle.drafts.specs.Marks.{mark, place-by, marks-in}
 use Rattle.statements.specs.FaultLaws.{fault-both}
 use Rattle.statements.specs.Faults.{lower}
-use Rattle.heads.specs.Heads.{bars, is-switch, Headed}
+use Rattle.heads.specs.Heads.{own-item, own-by, bars, is-switch, Headed}
 use Rattle.heads.specs.HeadLaws.{lower-clear, told-bars, behind-by, no-keyword, no-operator, operator-here}
 use Rattle.heads.specs.declared.Head.{Head}
 use Rattle.language.specs.Limits as limit
@@ -22,12 +22,14 @@ use Rattle.lists.specs.Lists.{filled, ifAny, keep}
 use Rattle.statements.specs.declared.Fault.{Fault}
 use Rattle.statements.specs.declared.Fault.the-variants.{Clear, At}
 use Rattle.statements.specs.StatementAt.{statement-at, stops, fault-of}
-use Rattle.syntax.specs.Items.{Item, places}
+use Rattle.syntax.specs.Items.{Item, is, places}
+use Rattle.syntax.specs.Items.Sort.{word}
 use Rattle.syntax.specs.Questions.{operator-faults, label-faults}
-use Rattle.syntax.specs.Statements.{by-keyword, same-keyword, keyword-of, front, operator, keyword-in, is-name}
+use Rattle.syntax.specs.Statements.{by-keyword, same-keyword, keyword-of, own, front, operator, keyword-in, is-name}
 use Rattle.syntax.specs.Statements as Spec
 use Rattle.syntax.specs.Verdict.{lowest}
-use Rattle.words.specs.Keywords.{told}
+use Rattle.words.specs.Keywords.{keyword-by, told}
+use Rattle.words.specs.WordLaws.{keyword-item}
 
 by-switch : (X : List ℕ) (k : Spec.Keyword) → by-keyword (λ op. []) (λ byName. X) [] k ≡ cond (is-switch (told k)) X []
 unfolding by-keyword
@@ -56,6 +58,29 @@ places-back : (ls : List Item) → Each (λ l. length (l .chars) ≤ limit.item)
 places-back [] h = refl
 places-back (l ∷ ls) (h, hs) = rw (place-back (l .at) (length (l .chars)) (omega (arith, h)), places-back ls hs) refl
 
+-- an item that is no operator of a statement after the first, as question 10 has it and as the head tells it
+abbrev barred : Bool → Item → Bool
+barred english i = same-keyword Spec.Keyword.unknown (keyword-of i) || same-keyword Spec.Keyword.SEKCJA (keyword-of i) || own (not english) (i .chars)
+
+or-both : (a b c : Bool) → (a || b || c) ≡ ((a || b) || c)
+or-both true b c = refl
+or-both false b c = refl
+
+item-barred : (english : Bool) (i : Item) → barred english i ≡ (bars (told (keyword-of i)) || own-item (not english) i)
+item-barred english i = go (is word i) refl
+  where
+    u : Bool
+    u = same-keyword Spec.Keyword.unknown (keyword-of i)
+
+    e : Bool
+    e = same-keyword Spec.Keyword.SEKCJA (keyword-of i)
+
+    go : (b : Bool) → is word i ≡ b → barred english i ≡ (bars (told (keyword-of i)) || own-item (not english) i)
+    go true w = or-both u e (own (not english) (i .chars)) ∙ rw (told-bars (keyword-of i), w) refl
+    go false w =
+        let k : keyword-of i ≡ Spec.Keyword.unknown = keyword-item i ∙ ap (λ b. cond b (keyword-by (i .chars)) Spec.Keyword.unknown) w in
+        rw k refl
+
 module _ {s : List ℕ} {n : ℕ} {h : Head} (g : Headed s n h) where
   abbrev x : List Item
   x = statement-at s n
@@ -63,35 +88,42 @@ module _ {s : List ℕ} {n : ℕ} {h : Head} (g : Headed s n h) where
   abbrev it : Item
   it = item-of s (h .op)
 
-  abbrev barred : Item → Bool
-  barred i = same-keyword Spec.Keyword.unknown (keyword-of i) || same-keyword Spec.Keyword.SEKCJA (keyword-of i)
-
   -- 10
-  own-fault : (b : Bool) → stops (h .op .sort) ≡ b → fault-of (places (keep barred (operator x))) ≡ cond (bars (h .keyword)) (At (h .op .at)) Clear
-  unfolding keyword-in lowest
-  own-fault true z = ap (λ os. fault-of (places (keep barred os))) (no-operator g z) ∙ sym (ap (λ k. cond (bars k) (At (h .op .at)) Clear) (no-keyword g z))
-  own-fault false z =
-      let k : h .keyword ≡ told (keyword-of it) = g .keyword ∙ ap (λ xs. told (ifAny Spec.Keyword.none keyword-of xs)) (behind-by g false z) in
-      ap (λ os. fault-of (places (keep barred os))) (operator-here g z)
-      ∙ ap (λ (b : Bool). fault-of (places (cond b (it ∷ []) []))) (sym (told-bars (keyword-of it)) ∙ ap bars (sym k))
-      ∙ go (bars (h .keyword))
-    where
-      go : (b : Bool) → fault-of (places (cond b (it ∷ []) [])) ≡ cond b (At (h .op .at)) Clear
-      go true = refl
-      go false = refl
+  module _ (english : Bool) where
+    abbrev wrong : Bool
+    wrong = bars (h .keyword) || own-by (not english) h
 
-  both-faults : lower (h .fault) (cond (bars (h .keyword)) (At (h .op .at)) Clear) ≡ fault-of (operator-faults x)
-  unfolding operator-faults
-  both-faults =
-      ap (λ f. lower f (cond (bars (h .keyword)) (At (h .op .at)) Clear)) (g .fault-is)
-      ∙ ap (lower (fault-of (places (keep (λ i. not (is-name i)) (front x))))) (sym (own-fault (stops (h .op .sort)) refl))
-      ∙ sym (fault-both (places (keep (λ i. not (is-name i)) (front x))) (places (keep barred (operator x))))
+    own-fault : (b : Bool) → stops (h .op .sort) ≡ b → fault-of (places (keep (barred english) (operator x))) ≡ cond wrong (At (h .op .at)) Clear
+    unfolding keyword-in lowest
+    own-fault true z =
+        ap (λ os. fault-of (places (keep (barred english) os))) (no-operator g z)
+        ∙ sym
+        (ap (λ k. cond (bars k || own-by (not english) h) (At (h .op .at)) Clear) (no-keyword g z)
+        ∙ ap (λ (b : Bool). cond b (At (h .op .at)) Clear) (g .owned (not english) ∙ ap (ifAny false (own-item (not english))) (behind-by g true z)))
+    own-fault false z =
+        let k : h .keyword ≡ told (keyword-of it) = g .keyword ∙ ap (λ xs. told (ifAny Spec.Keyword.none keyword-of xs)) (behind-by g false z) in
+        let o : own-by (not english) h ≡ own-item (not english) it = g .owned (not english) ∙ ap (ifAny false (own-item (not english))) (behind-by g false z) in
+        ap (λ os. fault-of (places (keep (barred english) os))) (operator-here g z)
+        ∙ ap (λ (b : Bool). fault-of (places (cond b (it ∷ []) [])))
+        (item-barred english it ∙ ap (λ k. bars k || own-item (not english) it) (sym k) ∙ ap (λ (b : Bool). bars (h .keyword) || b) (sym o))
+        ∙ go wrong
+      where
+        go : (b : Bool) → fault-of (places (cond b (it ∷ []) [])) ≡ cond b (At (h .op .at)) Clear
+        go true = refl
+        go false = refl
 
-  pub operator-barred : bars (h .keyword) ≡ true → {r : Fault} → r ≡ lower (h .fault) (At (h .op .at)) → r ≡ fault-of (operator-faults x)
-  operator-barred e f = f ∙ sym (ap (λ (b : Bool). lower (h .fault) (cond b (At (h .op .at)) Clear)) e) ∙ both-faults
+    both-faults : lower (h .fault) (cond wrong (At (h .op .at)) Clear) ≡ fault-of (operator-faults english x)
+    unfolding operator-faults
+    both-faults =
+        ap (λ f. lower f (cond wrong (At (h .op .at)) Clear)) (g .fault-is)
+        ∙ ap (lower (fault-of (places (keep (λ i. not (is-name i)) (front x))))) (sym (own-fault (stops (h .op .sort)) refl))
+        ∙ sym (fault-both (places (keep (λ i. not (is-name i)) (front x))) (places (keep (barred english) (operator x))))
 
-  pub operator-known : bars (h .keyword) ≡ false → h .fault ≡ fault-of (operator-faults x)
-  operator-known e = sym (lower-clear (h .fault)) ∙ sym (ap (λ (b : Bool). lower (h .fault) (cond b (At (h .op .at)) Clear)) e) ∙ both-faults
+    pub operator-barred : wrong ≡ true → {r : Fault} → r ≡ lower (h .fault) (At (h .op .at)) → r ≡ fault-of (operator-faults english x)
+    operator-barred e f = f ∙ sym (ap (λ (b : Bool). lower (h .fault) (cond b (At (h .op .at)) Clear)) e) ∙ both-faults
+
+    pub operator-known : wrong ≡ false → h .fault ≡ fault-of (operator-faults english x)
+    operator-known e = sym (lower-clear (h .fault)) ∙ sym (ap (λ (b : Bool). lower (h .fault) (cond b (At (h .op .at)) Clear)) e) ∙ both-faults
 
   -- 08
   abbrev asked : List Item → List ℕ

@@ -1,5 +1,6 @@
 -- The questions of a statement on its operator and its labels, by its head.
 use mathlib.Core.Path.{_≡_}
+use mathlib.Core.Bool.{Bool}
 use mathlib.Core.List.{List, map}
 use Prim.Native.Nat.{ℕ, _≤_}
 use lib.ListN.{length}
@@ -13,9 +14,9 @@ use Rattle.statements.specs.StatementAt.{statement-at, fault-of}
 use Rattle.syntax.specs.Items.{Item}
 use Rattle.syntax.specs.Questions.{operator-faults, label-faults}
 
--- 10
-abbrev pub Operator-fault : Head → Fault → Type 0
-Operator-fault h r = (s : List ℕ) (n : ℕ) → Headed s n h → r ≡ fault-of (operator-faults (statement-at s n))
+-- 10, in a section of the English edition or of the Polish one
+abbrev pub Operator-fault : Head → Bool → Fault → Type 0
+Operator-fault h english r = (s : List ℕ) (n : ℕ) → Headed s n h → r ≡ fault-of (operator-faults english (statement-at s n))
 
 -- the marks from index a up to the head's own are there
 pub record Labelled (h : Head) (ms : List ℕ) (a : ℕ) : Type 0 where

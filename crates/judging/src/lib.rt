@@ -1,4 +1,7 @@
 // The questions of a statement on its operator and its labels, by its head: each answered by the lowest place at fault.
+ghost use mathlib.Core.Path.{_≡_};
+ghost use mathlib.Core.Bool.{not};
+ghost use Rattle.heads.specs.Heads.{own-by};
 ghost use Rattle.judging.specs.Judging.{Operator-fault, Labelled, Label-fault};
 use heads::Head;
 use heads::bars;
@@ -7,14 +10,24 @@ use names::lowest_mark;
 use statements::Fault;
 use statements::lower;
 
-// Question 10, of a statement after the first.
-pub fn operator_fault(head: Head) -> Fault
-    ensures { λ r. ⌜ Operator-fault head r ⌝ }
+// Whether the operator is the other edition's own.
+fn is_foreign(head: Head, english: bool) -> bool
+    ensures { λ r. ⌜ r ≡ own-by (not english) head ⌝ }
+{
+    if english {
+        return head.polish;
+    }
+    head.english
+}
+
+// Question 10, of a statement after the first in a section of an edition.
+pub fn operator_fault(head: Head, english: bool) -> Fault
+    ensures { λ r. ⌜ Operator-fault head english r ⌝ }
 {
     let keyword = head.keyword;
     let fault = head.fault;
     let op = head.op;
-    if bars(keyword) {
+    if bars(keyword) | is_foreign(head, english) {
         return lower(fault, Fault::At(op.at));
     }
     fault

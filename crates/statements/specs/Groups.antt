@@ -27,7 +27,7 @@ item-questions x =
 abbrev pub head-questions : Draft → List Item → List Question
 head-questions d x =
     ask 0 (cond (is-first d) (first-faults x) [])
-    ∷ ask 10 (cond (is-first d) [] (operator-faults x))
+    ∷ ask 10 (cond (is-first d) [] (operator-faults (d .english) x))
     ∷ ask 8 (label-faults (all-labels d x) x)
     ∷ []
 

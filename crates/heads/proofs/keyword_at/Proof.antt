@@ -1,8 +1,7 @@
 -- `heads::keyword_at` meets its contract.
-use mathlib.Core.Path.{sym, ap, _∙_}
+use mathlib.Core.Path.{_∙_}
 use borrow.Author.Needs.{needs}
-use Rattle.words.specs.Keywords.{told}
-use Rattle.heads.specs.HeadLaws.{word-keyword, other-keyword}
+use Rattle.heads.specs.HeadLaws.{word-known, other-known}
 use Rattle.heads.proofs.keyword_at.Statement.{statement}
 use Rattle.heads.proofs.keyword_at.Tie as tie
 
@@ -19,10 +18,10 @@ keyword-of-requires : tie.Need-keyword-of-requires
 keyword-of-requires c κs = search needs
 
 returns : tie.Need-returns
-returns c = c .keyword-of .ensures ∙ sym (ap told (word-keyword ((c .before .before .before .before .before .pre)) (c .before .before .if1 .taken)))
+returns c = c .keyword-of .ensures ∙ word-known (c .before .before .before .before .before .pre) (c .before .before .if1 .taken)
 
 returns-2 : tie.Need-returns-2
-returns-2 c = sym (ap told (other-keyword ((c .before .before .before .pre)) (c .if1 .left)))
+returns-2 c = other-known (c .before .before .before .pre) (c .if1 .left)
 
 pub keyword-at-spec : {M : Type 1} → statement M
 keyword-at-spec =
