@@ -2,4 +2,4 @@ mod Loops
 mod Letters
 mod Numbers
 mod Indices
-mod KeywordLaws
+pub mod KeywordLaws
