@@ -13,7 +13,7 @@ use Rattle.heads.specs.Heads.{Headed}
 use Rattle.heads.specs.declared.Head.{Head}
 use Rattle.language.specs.Limits as limit
 use Rattle.layout.specs.Bounds.{Each}
-use Rattle.progress.specs.Progress.{Names-kept, Section-kept, Tells-draft}
+use Rattle.progress.specs.Progress.{Names-kept, Section-kept, Edition-kept, Tells-draft}
 use Rattle.progress.specs.declared.Progress.{Progress}
 use Rattle.statements.specs.StatementAt.{statement-at, fault-of}
 use Rattle.statements.specs.declared.Fault.{Fault}
@@ -43,6 +43,7 @@ pub record Advanceable (g : Progress) (h : Head) (ms : List ℕ) : Type 0 where
 pub record Advancing (s : List ℕ) (n : ℕ) (d : Draft) (g : Progress) (ms : List ℕ) (a b : ℕ) : Type 0 where
   pub answered : Answered (questions d (statement-at s n))
   pub section : Section-kept s d (g .section)
+  pub edition : Edition-kept d (g .english)
   pub names : Names-kept s (draft-after d (statement-at s n)) b ms
   pub marks : marks-in ms a b ≡ map mark (all-labels d (statement-at s n))
   pub spelt : Each (Spelt s) (all-labels d (statement-at s n))

@@ -1,17 +1,17 @@
 -- A draft after a statement without fault: its section and its last instruction; and after an empty one.
 use mathlib.Core.Path.{_≡_, refl, sym, ap, _∙_, subst}
-use mathlib.Core.Bool.{Bool, true, false, cond, not, _&&_}
+use mathlib.Core.Bool.{Bool, true, false, cond, not, _&&_, false≢true}
 use mathlib.Core.List.{List, [], _∷_, _++_, append-nil}
 use Prim.Native.Nat.{ℕ, pred, _≤_, _<_}
 use native.Mathlib.Omega.{arith}
-use lib.Dec.{T}
+use lib.Dec.{T, eqb}
 use lib.ListN.{length, drop, length-append}
 use lib.Seq.{drop-at}
-use borrow.Author.Tests.{ne-eqb}
+use borrow.Author.Tests.{ne-eqb, not-true}
 use Rattle.acceptance.specs.ArgumentLaws.{word-apart}
 use Rattle.acceptance.specs.StatementLaws.{each-behind}
 use Rattle.arguments.specs.CountLaws.{this-instruction, has-operator}
-use Rattle.acceptance.specs.RowLaws.{fails, append-none}
+use Rattle.acceptance.specs.RowLaws.{Answered, fails, append-none}
 use Rattle.progress.specs.Closing.{unended}
 use Rattle.declaring.specs.SpeltLaws.{statement-spelt}
 use Rattle.declaring.specs.TabledLaws.{operated}
@@ -19,7 +19,7 @@ use Rattle.drafts.specs.Marks.{mark, mark-of, word-by, Marked}
 use Rattle.drafts.specs.Tabled.{Spelt}
 use Rattle.forms.specs.Forms.{ends}
 use Rattle.forms.specs.ReadingLaws.{ends-listed}
-use Rattle.heads.specs.Heads.{instr-of, Headed}
+use Rattle.heads.specs.Heads.{own-item, own-in, instr-of, Headed}
 use Rattle.headings.specs.Headings.{Rests}
 use Rattle.headings.specs.HeadingLaws.{rest-follows, follows-by}
 use Rattle.headings.specs.declared.Rest.{Rest}
@@ -32,9 +32,10 @@ use Rattle.layout.specs.Bounds.{Each}
 use Rattle.layout.specs.CellLaws.{each-drop}
 use Rattle.lexer.specs.declared.Token.{Token}
 use Rattle.lexer.specs.Tokens.{item-of}
-use Rattle.lists.specs.Lists.{filled, headOr, each}
+use Rattle.lists.specs.Lists.{filled, headOr, ifAny, each, sameBytes}
+use Rattle.lists.specs.Quoted.{bytes}
 use Rattle.lists.specs.ListLaws.{T-left, T-right}
-use Rattle.progress.specs.Progress.{Section-kept}
+use Rattle.progress.specs.Progress.{Section-kept, Edition-kept}
 use Rattle.statements.specs.StatementAt.{statement-at, stops, fault-of}
 use Rattle.statements.specs.declared.Fault.{Fault}
 use Rattle.statements.specs.declared.Fault.the-variants.{Clear, At}
@@ -42,10 +43,12 @@ use Rattle.syntax.specs.Items.{Item, is}
 use Rattle.syntax.specs.Items.Sort.{word, colon}
 use Rattle.syntax.specs.Questions.{first-faults, questions}
 use Rattle.syntax.specs.Statements as Spec
-use Rattle.syntax.specs.Statements.{same-keyword, by-keyword, keyword-of, is-operator, front, behind, operator-at, keyword-in, rest, one-name}
+use Rattle.syntax.specs.Statements.{same-keyword, by-keyword, keyword-of, own, is-operator, front, behind, operator-at, keyword-in, chooses-english, rest, one-name}
 use Rattle.syntax.specs.Tables.{Written, Tables, Draft, is-first, all-labels, contents, with-instr, with-switch, draft-after}
 use Rattle.syntax.specs.Verdict.{lowest}
-use Rattle.words.specs.Keywords.{told}
+use Rattle.words.specs.Keywords.{keyword-by, told}
+use Rattle.words.specs.WordLaws.{keyword-item}
+use Rattle.words.proofs.KeywordLaws.{chooses-section}
 use Rattle.progress.specs.Advancing.{Section-told, Ended-told}
 
 -- ---- the last instruction
@@ -188,12 +191,72 @@ module _ (s : List ℕ) (n : ℕ) where
               is = ap (word-by s) m ∙ p .spells u ∙ sym v;
             }
 
+-- ---- the edition
+
+-- "SEKCJA and one name, unlabelled": SECTION is the English edition's own word, and a name follows it
+passes : (b : Bool) → T b → b ≡ true
+passes true h = refl
+passes false h = absurd h
+
+section-edition : (x : List Item) → first-faults x ≡ [] → (chooses-english x ≡ own-in true x) × (filled (headOr [] (contents (rest x))) ≡ false → chooses-english x ≡ false)
+unfolding first-faults behind chooses-english
+section-edition [] h = (refl, λ e. refl)
+section-edition (i ∷ js) h = go (filled (i .colon)) refl (same-keyword Spec.Keyword.SEKCJA (keyword-of i)) refl h
+  where
+    Chosen : List Item → Type 0
+    Chosen ys =
+        (ifAny false (λ i. sameBytes (i .chars) (bytes "SECTION")) ys ≡ ifAny false (own-item true) ys)
+        × (filled (headOr [] (contents (drop 1 ys))) ≡ false → ifAny false (λ i. sameBytes (i .chars) (bytes "SECTION")) ys ≡ false)
+
+    go : (a : Bool) → filled (i .colon) ≡ a → (b : Bool) → same-keyword Spec.Keyword.SEKCJA (keyword-of i) ≡ b
+        → cond (not a && b) (one-name identifier (i .at) js) (i .at ∷ []) ≡ [] → Chosen (cond (is-operator i) (i ∷ js) (behind js))
+    go true e b q h = absurd (let z : _≡_ {A = ℕ} 0 1 = cc in omega arith)
+    go false e false q h = absurd (let z : _≡_ {A = ℕ} 0 1 = cc in omega arith)
+    go false e true q h =
+        let w : T (is word i) = sekcja-word i (subst T (sym q) tt) in
+        let (j, (ks, (p, l))) = name-first (i .at) js h in
+        let k : keyword-of i ≡ keyword-by (i .chars) = keyword-item i ∙ ap (λ b. cond b (keyword-by (i .chars)) Spec.Keyword.unknown) (passes (is word i) w) in
+        let c : sameBytes (i .chars) (bytes "SECTION") ≡ own true (i .chars) = chooses-section (i .chars) (subst T (sym (sym (ap (same-keyword Spec.Keyword.SEKCJA) k) ∙ q)) tt) in
+        let f = name-filled (j .chars) (T-right (is word j) (identifier (j .chars)) l) .0 in
+        rw (fails (is colon i) (word-apart i w .1), e, passes (is word i) w, p) (c, λ z. absurd (false≢true (sym z ∙ f)))
+
+module _ {s : List ℕ} {n : ℕ} {h : Head} (g : Headed s n h) where
+  abbrev items : List Item
+  items = statement-at s n
+
+  pub edition-after : {section : ℕ} {english : Bool} (d : Draft) → Section-kept s d section → Edition-kept d english → Answered (questions d items)
+      → Edition-kept (draft-after d items) (cond (eqb section 0) (h .english) english)
+  unfolding draft-after questions
+  edition-after {section} {english} d k e a = go (eqb section 0) (k .first-is)
+    where
+      name : List Item → List ℕ
+      name ys = headOr [] (contents (rest ys))
+
+      go : (b : Bool) → is-first d ≡ b → Edition-kept (draft-after d items) (cond b (h .english) english)
+      go true q =
+          let v = section-edition items (sym (ap (λ (c : Bool). cond c (first-faults items) []) q) ∙ a .1 .1 .1 .0) in
+          let chosen : draft-after d items .english ≡ chooses-english items = ap (λ (c : Bool). cond c (chooses-english items) (d .english)) q in
+          record {
+            is = chosen ∙ v .0 ∙ sym (g .owned true);
+            unchosen = λ z. chosen ∙ v .1 (not-true (filled (name items)) (sym (ap (λ (c : Bool). not (filled (cond c (name items) (d .section)))) q) ∙ z));
+          }
+      go false q =
+          let kept : draft-after d items .english ≡ d .english = ap (λ (c : Bool). cond c (chooses-english items) (d .english)) q in
+          record {
+            is = kept ∙ e .is;
+            unchosen = λ z. absurd (false≢true (sym q ∙ sym (ap (λ (c : Bool). not (filled (cond c (name items) (d .section)))) q) ∙ z));
+          }
+
 -- ---- an empty statement
 
-pub empty-draft : (d : Draft) → draft-after d [] ≡ d
-unfolding draft-after by-keyword keyword-in front behind
-empty-draft d = rw (name (d .section), append-nil (d .names), append-nil (d .waiting)) refl
+pub empty-draft : (d : Draft) {english : Bool} → Edition-kept d english → draft-after d [] ≡ d
+unfolding draft-after by-keyword keyword-in chooses-english front behind
+empty-draft d e = rw (name (d .section), edition (is-first d) refl, append-nil (d .names), append-nil (d .waiting)) refl
   where
+    edition : (b : Bool) → is-first d ≡ b → cond b false (d .english) ≡ d .english
+    edition true q = sym (e .unchosen q)
+    edition false q = refl
+
     name : (w : List ℕ) → cond (not (filled w)) [] w ≡ w
     name [] = refl
     name (b ∷ w) = refl

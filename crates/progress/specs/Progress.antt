@@ -1,5 +1,6 @@
 -- A text while it is read: how the loader keeps the specification's draft.
 use mathlib.Core.Path.{_≡_}
+use mathlib.Core.Bool.{Bool, true, false}
 use mathlib.Core.List.{List, map}
 use Prim.Native.Nat.{ℕ, _-_, _≤_, _<_}
 use lib.Dec.{eqb}
@@ -36,9 +37,15 @@ pub record Section-kept (s : List ℕ) (d : Draft) (section : ℕ) : Type 0 wher
   pub there : Marked s section
   pub is : word-by s section ≡ d .section
 
+-- the edition; it is the Polish one as long as none is chosen
+pub record Edition-kept (d : Draft) (english : Bool) : Type 0 where
+  pub is : d .english ≡ english
+  pub unchosen : is-first d ≡ true → d .english ≡ false
+
 -- g, with the marks ms of the labels, tells the draft d but for its tables
 pub record Tells-draft (s : List ℕ) (d : Draft) (g : Progress) (ms : List ℕ) : Type 0 where
   pub section : Section-kept s d (g .section)
+  pub edition : Edition-kept d (g .english)
   pub names : Names-kept s d (g .names) ms
   pub waiting : Waiting-kept s d (g .names) (g .waiting) ms
   pub closing : Tells-closing (d .closing) (g .closing)

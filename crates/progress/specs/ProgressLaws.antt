@@ -24,6 +24,7 @@ use Rattle.progress.specs.Progress.{Before, Begun}
 
 pub begun : Begun (record {
   section = 0;
+  english = false;
   names = 0;
   waiting = 0;
   closing = record { kons = false; konp = false; early = Clear; fault = Clear };
@@ -36,6 +37,7 @@ begun s lines ms c sw en room tabled =
       tabled = tabled;
       tells = record {
         section = record { first-is = refl; there = omega arith; is = refl };
+        edition = record { is = refl; unchosen = λ e. refl };
         names = record { room = room; count-is = refl; names-are = refl; marked = λ k h. absurd (omega (arith, h)); short = λ k h. absurd (omega (arith, h)) };
         waiting = record { few = omega arith; size = refl; marks = refl; spelt = tt };
         closing = record { kons-is = refl; konp-is = refl; early-is = refl; fault-is = refl };

@@ -4,6 +4,7 @@ use mathlib.Core.Bool.{Bool, true, false, cond}
 use mathlib.Core.List.{List, [], map}
 use Prim.Native.Nat.{ℕ, _-_, _≤_}
 use native.Mathlib.Omega.{arith}
+use lib.Dec.{eqb}
 use lib.ListN.{length, take, drop, length-map, length-take, length-drop}
 use Rattle.progress.specs.Closing.{Tells-closing, Closed, closing-then}
 use Rattle.progress.specs.declared.Closing.{Closing}
@@ -16,7 +17,7 @@ use Rattle.heads.specs.HeadLaws.{no-operator, operator-here}
 use Rattle.heads.specs.declared.Head.{Head}
 use Rattle.layout.specs.Bounds.{Each}
 use Rattle.lists.specs.Lists.{filled}
-use Rattle.progress.specs.Progress.{Names-kept, Waiting-kept}
+use Rattle.progress.specs.Progress.{Names-kept, Waiting-kept, Edition-kept}
 use Rattle.progress.specs.declared.Progress.{Progress}
 use Rattle.statements.specs.StatementAt.{statement-at, stops, fault-of}
 use Rattle.statements.specs.declared.Fault.{Fault}
@@ -24,6 +25,7 @@ use Rattle.syntax.specs.Items.{Item}
 use Rattle.syntax.specs.Statements.{operator}
 use Rattle.syntax.specs.Tables.{Draft, all-labels, draft-after}
 use Rattle.progress.specs.Advancing.{Section-told, Ended-told, Advancing, Advances}
+use Rattle.progress.specs.AdvancingLaws.{edition-after}
 
 module _ {s : List ℕ} {n : ℕ} {g : Progress} {h : Head} {ms : List ℕ} {a b : ℕ} (f : Headed s n h) (order : a ≤ b) (most : b ≤ length ms) (d : Draft) (k : Advancing s n d g ms a b) where
   abbrev x : List Item
@@ -70,12 +72,13 @@ module _ {s : List ℕ} {n : ℕ} {g : Progress} {h : Head} {ms : List ℕ} {a b
 
 -- the parts together
 pub advances : {s : List ℕ} {n : ℕ} {g : Progress} {h : Head} {ms : List ℕ} {a b : ℕ} {r : Progress} {labels : Fault}
-    → Headed s n h → a ≤ b → b ≤ length ms → Section-told s n (g .section) (r .section) → r .names ≡ b → r .waiting ≡ cond (stops (h .op .sort)) (b - a) 0
+    → Headed s n h → a ≤ b → b ≤ length ms → Section-told s n (g .section) (r .section) → r .english ≡ cond (eqb (g .section) 0) (h .english) (g .english) → r .names ≡ b → r .waiting ≡ cond (stops (h .op .sort)) (b - a) 0
     → labels ≡ fault-of (map place-by (marks-in ms a b)) → Closed s n (g .section) labels (g .closing) (r .closing) → Ended-told s n (g .ended) (r .ended)
     → Advances s n g ms a b r
-advances {s} {n} {g} {h} {ms} {a} {b} {r} f order most section names waiting e closing ended d k =
+advances {s} {n} {g} {h} {ms} {a} {b} {r} f order most section english names waiting e closing ended d k =
     record {
       section = section d (k .section) (k .answered);
+      edition = subst (Edition-kept (draft-after d (statement-at s n))) (sym english) (edition-after f d (k .section) (k .edition) (k .answered));
       names = subst (λ (m : ℕ). Names-kept s (draft-after d (statement-at s n)) m ms) (sym names) (k .names);
       waiting = subst (λ (m : ℕ). Waiting-kept s (draft-after d (statement-at s n)) m (r .waiting) ms) (sym names) (waiting-kept f order most d k waiting);
       closing = closing-kept f order most d k e closing;

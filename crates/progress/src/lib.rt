@@ -3,6 +3,7 @@ ghost use mathlib.Core.Path.{_≡_};
 ghost use mathlib.Core.Bool.{cond};
 ghost use mathlib.Core.List.{[], _∷_};
 ghost use Prim.Native.Nat.{_-_, _≤_};
+ghost use lib.Dec.{eqb};
 ghost use Rattle.statements.specs.StatementAt.{stops, fault-of};
 ghost use Rattle.progress.specs.Closing.{fault-by, Told-closing, Ends};
 ghost use Rattle.progress.specs.Progress.{Begun};
@@ -26,10 +27,11 @@ pub struct Closing {
     pub fault: Fault,
 }
 
-// The mark of the section's name, 0 before SEKCJA; how many labels were met, and how many of them, the last ones, wait for their statement; how the
+// The mark of the section's name, 0 before SEKCJA; whether its edition is the English one; how many labels were met, and how many of them, the last ones, wait for their statement; how the
 // section ends; and the place of the last instruction, where a text may not end with it.
 pub struct Progress {
     pub section: u32,
+    pub english: bool,
     pub names: usize,
     pub waiting: usize,
     pub closing: Closing,
@@ -42,6 +44,7 @@ pub fn begin() -> Progress
 {
     Progress {
         section: 0,
+        english: false,
         names: 0,
         waiting: 0,
         closing: Closing {
@@ -64,6 +67,7 @@ pub fn renewed(p: Progress) -> Progress
     let ended = p.ended;
     Progress {
         section: p.section,
+        english: p.english,
         names: p.names,
         waiting: p.waiting,
         closing: Closing {
@@ -131,6 +135,16 @@ fn closing_after(head: Head, labels: Fault, after: Fault, c: Closing) -> Closing
     }
 }
 
+// Whether the edition is the English one: the first statement's operator chooses.
+fn english_after(head: Head, section: u32, english: bool) -> bool
+    ensures { λ r. ⌜ r ≡ cond (eqb section 0) (head .english) english ⌝ }
+{
+    if section == 0 {
+        return head.english;
+    }
+    english
+}
+
 // Labels alone wait.
 fn waiting_after(sort: u8, from: usize, to: usize) -> usize
     requires { ⌜ from ≤ to ⌝ }
@@ -178,6 +192,7 @@ pub fn progress_after(
     let labels = lowest_mark(names, from, to);
     Progress {
         section: section,
+        english: english_after(head, p.section, p.english),
         names: to,
         waiting: waiting_after(op.sort, from, to),
         closing: closing_after(head, labels, after, closing),
