@@ -18,17 +18,17 @@ use Rattle.syntax.specs.Tables.{Draft, is-first}
 use Rattle.syntax.specs.Verdict.{Question, Verdict, first-no}
 use Rattle.reading_statements.specs.Judging.{Judging}
 
--- 00 of the first statement x, 10 of a later one
-abbrev pub operator-verdict : List Item → Bool → Verdict
-operator-verdict x first = cond first (decided 0 (fault-of (first-faults x))) (decided 10 (fault-of (operator-faults x)))
+-- 00 of the first statement x, 10 of a later one in a section of an edition
+abbrev pub operator-verdict : List Item → Bool → Bool → Verdict
+operator-verdict x first english = cond first (decided 0 (fault-of (first-faults x))) (decided 10 (fault-of (operator-faults english x)))
 
 -- the fault of 00 is `zero`, where the statement is the first
 abbrev pub Zero-told : Bool → List Item → Fault → Type 0
 Zero-told first x zero = first ≡ true → zero ≡ fault-of (first-faults x)
 
-abbrev pub Operator-asked : Head → Bool → Fault → told.Verdict → Type 0
-Operator-asked h first zero r =
-    (s : List ℕ) (n : ℕ) → Headed s n h → Zero-told first (statement-at s n) zero → verdict-of r ≡ operator-verdict (statement-at s n) first
+abbrev pub Operator-asked : Head → Bool → Bool → Fault → told.Verdict → Type 0
+Operator-asked h first english zero r =
+    (s : List ℕ) (n : ℕ) → Headed s n h → Zero-told first (statement-at s n) zero → verdict-of r ≡ operator-verdict (statement-at s n) first english
 
 -- 14, 15 and 16, whose number is w, 00 or 10, 08 and 06
 abbrev pub opening-questions : Draft → List Item → List Question

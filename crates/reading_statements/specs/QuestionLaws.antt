@@ -45,15 +45,15 @@ module _ (d : Draft) (x : List Item) where
 
   -- 00 or 10, 08 and 06
   abbrev asked : Bool → List Question
-  asked first = ask 0 (cond first (first-faults x) []) ∷ ask 10 (cond first [] (operator-faults x)) ∷ ask 8 labels ∷ ask 6 again ∷ []
+  asked first = ask 0 (cond first (first-faults x) []) ∷ ask 10 (cond first [] (operator-faults (d .english) x)) ∷ ask 8 labels ∷ ask 6 again ∷ []
 
-  each-asked : (first : Bool) → first-no (asked first) ≡ then (operator-verdict x first) (then (decided 8 (fault-of labels)) (decided 6 (fault-of again)))
+  each-asked : (first : Bool) → first-no (asked first) ≡ then (operator-verdict x first (d .english)) (then (decided 8 (fault-of labels)) (decided 6 (fault-of again)))
   each-asked true = simp (question-decides, none-asked, then-yes)
   each-asked false = simp (question-decides, none-asked, then-yes)
 
-  pub names-told : {first : Bool} {r u v w : Verdict} → is-first d ≡ first → u ≡ operator-verdict x first → v ≡ decided 8 (fault-of labels) → w ≡ decided 6 (fault-of again)
+  pub names-told : {first english : Bool} {r u v w : Verdict} → is-first d ≡ first → d .english ≡ english → u ≡ operator-verdict x first english → v ≡ decided 8 (fault-of labels) → w ≡ decided 6 (fault-of again)
       → r ≡ then u (then v w) → r ≡ first-no (head-questions d x ++ name-questions d x)
-  names-told {first} g h k l e = rw (e, h, k, l, g) (sym (each-asked first))
+  names-told {first} g i h k l e = rw (e, h, k, l, sym i, g) (sym (each-asked first))
 
   -- before these 14, 15 and 16, behind them 01 and 02, and then 11
   pub opening-told : {v : Verdict} → first-no (item-questions x) ≡ v → first-no (opening-questions d x) ≡ then v (first-no (head-questions d x ++ name-questions d x))

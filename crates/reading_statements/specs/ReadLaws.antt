@@ -90,7 +90,7 @@ module _ {s lines : List ℕ} {n : ℕ} {d : Draft} {g : Progress} {h : Head} {m
     names-here : Each (Sound-name (length s)) ls
     names-here =
         each-append (Sound-name (length s)) (d .waiting) (labels-in x) (r .sound .waiting)
-        (label-names (length s) x fine-here (front-names (is-first d) x (early .1 .1 .1 .0) (early .1 .1 .1 .1 .0)))
+        (label-names (length s) x fine-here (front-names (is-first d) (d .english) x (early .1 .1 .1 .0) (early .1 .1 .1 .1 .0)))
 
     pub spelt-rest : Each (Spelt s) (rest x)
     spelt-rest = each-drop (Spelt s) 1 (behind x) (each-behind (Spelt s) x spelt-here)
@@ -137,6 +137,7 @@ module _ {s lines : List ℕ} {n : ℕ} {d : Draft} {g : Progress} {h : Head} {m
             (record {
               answered = all;
               section = j .tells .section;
+              edition = j .tells .edition;
               names = names-kept j p;
               marks = marks-all j;
               spelt = each-append (Spelt s) (d .waiting) (labels-in x) (j .tells .waiting .spelt) (labels-have (Spelt s) x (all-spelt j p));

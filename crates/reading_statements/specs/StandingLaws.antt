@@ -43,6 +43,7 @@ module _ {s : List ℕ} {d : Draft} {g : Progress} {ms ms′ : List ℕ} where
   tells-same same size most t =
       record {
         section = t .section;
+        edition = t .edition;
         names = record {
           room = size ∙ t .names .room;
           count-is = t .names .count-is;
@@ -146,7 +147,7 @@ module _ {s lines : List ℕ} {n : ℕ} {d : Draft} {g : Progress} {h : Head} {m
           after = λ d r g′ q.
               let i : g ≡ g′ = cc in
               subst (λ (y : Progress). Drafted s lines (draft-after d (statement-at s n)) y ms′ c sw en) i
-              (subst (λ (y : Draft). Drafted s lines y g ms′ c sw en) (sym (ap (draft-after d) (x-empty k e) ∙ empty-draft d))
+              (subst (λ (y : Draft). Drafted s lines y g ms′ c sw en) (sym (ap (draft-after d) (x-empty k e) ∙ empty-draft d (r .drafted .tells .edition)))
               (record { sound = r .drafted .sound; tabled = r .drafted .tabled; tells = reading-here r o .judging .tells }));
           ends = ends-here (k .within) (k .token) (at-end k e);
           beyond = refl;

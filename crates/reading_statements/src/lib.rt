@@ -69,14 +69,14 @@ enum Found {
     Instruction(Instruction),
 }
 
-// Question 00 of the first statement, whose fault is `zero`, 10 of a later one.
-fn ask_operator(head: Head, first: bool, zero: Fault) -> Verdict
-    ensures { λ r. ⌜ Operator-asked head first zero r ⌝ }
+// Question 00 of the first statement, whose fault is `zero`, 10 of a later one in a section of an edition.
+fn ask_operator(head: Head, first: bool, english: bool, zero: Fault) -> Verdict
+    ensures { λ r. ⌜ Operator-asked head first english zero r ⌝ }
 {
     if first {
         return decide(0, zero);
     }
-    decide(10, operator_fault(head))
+    decide(10, operator_fault(head, english))
 }
 
 // Questions 14, 15 and 16, whose number is `worst`, 00 or 10, 08 and 06.
@@ -94,7 +94,7 @@ fn ask_head(
     match checked(worst) {
         Verdict::No(number, at) => Verdict::No(number, at),
         Verdict::Yes => {
-            let operator = ask_operator(head, p.section == 0, zero);
+            let operator = ask_operator(head, p.section == 0, p.english, zero);
             let labels = decide(8, label_fault(head, names, p.names - p.waiting));
             let repeated = decide(6, first_repeated(text, names, p.names, head.names));
             first_of(operator, first_of(labels, repeated))

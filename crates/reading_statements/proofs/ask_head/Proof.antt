@@ -52,7 +52,7 @@ returns-2 c =
     let q = items-told j e ∙ (sym (c .before .before .before .before .before .before .before .before .before .before .before .checked .ensures) ∙ ap verdict-of (c .before .before .before .before .before .before .before .before .before .enum-told .given .1)) in
     let plain = answered _ q in
     let first = j .tells .section .first-is in
-    names-told d x first (c .before .before .before .before .before .before .before .ask-operator .ensures _ n (j .headed) (λ e. z (first ∙ e)))
+    names-told d x first (j .tells .edition .is) (c .before .before .before .before .before .before .before .ask-operator .ensures _ n (j .headed) (λ e. z (first ∙ e)))
     (c .before .before .before .before .decide .ensures ∙ ap (decided 8) (gathering.labels-told j plain (c .before .before .before .before .before .label-fault .ensures)))
     (c .before .before .decide2 .ensures ∙ ap (decided 6) (gathering.names-told j plain (c .before .before .before .first-repeated .ensures)))
     (c .first-of2 .ensures ∙ ap (then (verdict-of (c .before .before .before .before .before .before .before .ask-operator .result))) (c .before .first-of .ensures))

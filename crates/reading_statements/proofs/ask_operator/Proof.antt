@@ -11,7 +11,7 @@ decide-requires : tie.Need-decide-requires
 decide-requires c κs = search needs
 
 returns : tie.Need-returns
-returns c = λ s n g z. c .decide .ensures ∙ ap (decided 0) (z (c .before .if1 .taken)) ∙ sym (ap (operator-verdict (statement-at s n)) (c .before .if1 .taken))
+returns c = λ s n g z. c .decide .ensures ∙ ap (decided 0) (z (c .before .if1 .taken)) ∙ sym (ap (λ b. operator-verdict (statement-at s n) b (c .before .before .args .english)) (c .before .if1 .taken))
 
 operator-fault-requires : tie.Need-operator-fault-requires
 operator-fault-requires c κs = search needs
@@ -21,7 +21,7 @@ decide-requires-2 c κs = search needs
 
 returns-2 : tie.Need-returns-2
 returns-2 c = λ s n g z.
-    c .decide2 .ensures ∙ ap (decided 10) (c .before .operator-fault .ensures s n g) ∙ sym (ap (operator-verdict (statement-at s n)) (c .before .before .if1 .left))
+    c .decide2 .ensures ∙ ap (decided 10) (c .before .operator-fault .ensures s n g) ∙ sym (ap (λ b. operator-verdict (statement-at s n) b (c .before .before .before .args .english)) (c .before .before .if1 .left))
 
 pub ask-operator-spec : {M : Type 1} → statement M
 ask-operator-spec =
