@@ -1,7 +1,9 @@
 pub mod Calls
+pub mod Filling
 pub mod Answers
 pub mod QuestionLaws
 pub mod CallLaws
 pub mod AnswerLaws
+pub mod FillingLaws
 pub mod OrderLaws
 pub mod LoadLaws

@@ -125,7 +125,8 @@ none-kept (i ∷ js) h = go (is wrong i) h (none-kept js)
 abbrev wrong-in : List (List Item) → Bool
 wrong-in xs = any (any (is wrong)) xs
 
-passed-verdict : (ls : List ℕ) (v : Verdict) (r : Loaded) (p : Program) → unless-refused ls v r ≡ accepted p → (v ≡ yes) × (r ≡ accepted p)
+-- a verdict before an acceptance is a yes
+pub passed-verdict : (ls : List ℕ) (v : Verdict) (r : Loaded) (p : Program) → unless-refused ls v r ≡ accepted p → (v ≡ yes) × (r ≡ accepted p)
 unfolding unless-refused
 passed-verdict ls yes r p h = (refl, h)
 passed-verdict ls (refuse number at) r p h = absurd (let z : _≡_ {A = ℕ} 0 1 = cc in omega arith)

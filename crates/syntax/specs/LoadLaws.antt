@@ -65,7 +65,8 @@ still-leads end t i js h e = rw h refl
 still-leads text t i js h e = rw h refl
 still-leads wrong t i js h e = rw h refl
 
-named-leads : (js : List Item) → ifAny false (is colon) (named js) ≡ ifAny false (is colon) js
+-- a colon leads with the words' colons taken in or not
+pub named-leads : (js : List Item) → ifAny false (is colon) (named js) ≡ ifAny false (is colon) js
 unfolding named
 named-leads [] = refl
 named-leads (i ∷ js) = still-leads (i .sort) _ i (named js) refl refl
