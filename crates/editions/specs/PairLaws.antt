@@ -62,7 +62,7 @@ abbrev pub spelled : List ℕ → Bool
 spelled w = all (λ b. same-sort word (sort-of b)) w
 
 -- What a word of a pair passes: back again; the same keyword; one edition's own becomes the other's; 2 to 8 bytes, and so many bytes of words
--- beside it; SEKCJA and SECTION choose different editions
+-- beside it; SEKCJA and SECTION choose different editions; KONP is one word
 abbrev pub tests : List ℕ → List Bool
 tests w =
     sameBytes (respell (respell w)) w
@@ -75,6 +75,7 @@ tests w =
     ∷ leb (length (respell w)) 8
     ∷ spelled (respell w)
     ∷ (not (same-keyword SEKCJA (means w)) || Bool·beq (sameBytes (respell w) (bytes "SECTION")) (not (sameBytes w (bytes "SECTION"))))
+    ∷ (not (same-keyword KONP (means w)) || sameBytes w (bytes "KONP"))
     ∷ []
 
 abbrev pub right : List ℕ → Bool
@@ -197,16 +198,25 @@ filled-kept w h = go (either w)
     go (paired t) = long (respell w) (test w t 6)
     go (other a b c d) = subst (λ (v : List ℕ). T (filled v)) (sym a) h
 
+-- a test that passes wherever another does
+chosen : (a b : Bool) → a ≡ true → T (not a || b) → T b
+chosen true b e t = t
+chosen false b e t = absurd (false≢true e)
+
 -- the edition that the first word chooses
 pub edition-turned : (w : List ℕ) → same-keyword SEKCJA (means w) ≡ true → sameBytes (respell w) (bytes "SECTION") ≡ not (sameBytes w (bytes "SECTION"))
 edition-turned w h = go (either w)
   where
-    chosen : (a : Bool) (b : Bool) → a ≡ true → T (not a || b) → T b
-    chosen true b e t = t
-    chosen false b e t = absurd (false≢true e)
-
     go : Either w → sameBytes (respell w) (bytes "SECTION") ≡ not (sameBytes w (bytes "SECTION"))
     go (paired t) =
         beq-eq (sameBytes (respell w) (bytes "SECTION")) (not (sameBytes w (bytes "SECTION")))
         (chosen (same-keyword SEKCJA (means w)) (Bool·beq (sameBytes (respell w) (bytes "SECTION")) (not (sameBytes w (bytes "SECTION")))) h (test w t 9))
     go (other a b c d) = absurd (false≢true (ap (same-keyword SEKCJA) (sym b) ∙ h))
+
+-- "The program of 01 looks for KONP in either edition": no other word is KONP
+pub konp-only : (w : List ℕ) → same-keyword KONP (means w) ≡ true → w ≡ bytes "KONP"
+konp-only w h = go (either w)
+  where
+    go : Either w → w ≡ bytes "KONP"
+    go (paired t) = sameBytes-eq w (bytes "KONP") (chosen (same-keyword KONP (means w)) (sameBytes w (bytes "KONP")) h (test w t 10))
+    go (other a b c d) = absurd (false≢true (ap (same-keyword KONP) (sym b) ∙ h))

@@ -4,8 +4,8 @@ use mathlib.Core.Bool.{Bool, true, false, not, _&&_, _||_, true≢false, false�
 use mathlib.Core.List.{List, [], _∷_, _++_, append-assoc}
 use Prim.Native.Nat.{ℕ, _+_, _-_, _≤_}
 use native.Mathlib.Omega.{arith}
-use lib.ListN.{length, drop, length-take, length-drop, take-append-drop}
-use lib.Seq.{drop-drop}
+use lib.ListN.{length, take, drop, length-take, length-drop, take-append-drop}
+use lib.Seq.{drop-drop, take-add}
 use Rattle.syntax.specs.Items.{Item, Sort, same-sort, is, read, named}
 use Rattle.syntax.specs.Items.Sort.{separator, word, colon, end, text, wrong}
 use Rattle.syntax.specs.Items.Mode.{outside}
@@ -19,6 +19,20 @@ use Rattle.editions.specs.SpliceLaws.{skip-all}
 
 abbrev items : List ℕ → ℕ → List Item
 items s n = named (read outside n (drop n s))
+
+-- bytes that stay, at once
+pub between-joined : (s : List ℕ) (from n m : ℕ) → from ≤ n → n ≤ m → between s from n ++ between s n m ≡ between s from m
+between-joined s from n m h k =
+    let e : from + (n - from) ≡ n = omega arith in
+    let f : n - from + (m - n) ≡ m - from = omega arith in
+    ap (λ r. between s from n ++ take (m - n) r) (ap (λ j. drop j s) (sym e) ∙ sym (drop-drop (n - from) from s))
+    ∙ sym (take-add (n - from) (m - n) (drop from s))
+    ∙ ap (λ j. take j (drop from s)) f
+
+pub between-last : (s : List ℕ) (from n : ℕ) → from ≤ n → between s from n ++ drop n s ≡ drop from s
+between-last s from n h =
+    let e : from + (n - from) ≡ n = omega arith in
+    ap (λ r. between s from n ++ r) (ap (λ j. drop j s) (sym e) ∙ sym (drop-drop (n - from) from s)) ∙ take-append-drop (n - from) (drop from s)
 
 module _ (turn : List ℕ → List ℕ) (s : List ℕ) where
   -- at first all is still to be written
