@@ -1,7 +1,7 @@
 -- What the converter promises: there and back gives the same bytes, and both texts load to the same program, lines included.
 use mathlib.Core.Path.{_≡_, refl, ap, sym, subst, _∙_}
 use mathlib.Core.Bool.{Bool, true, false, cond, not, _&&_, false≢true}
-use mathlib.Core.List.{List, [], map}
+use mathlib.Core.List.{List, map}
 use Prim.Native.Nat.{ℕ, _≤_}
 use native.Mathlib.Omega.{arith}
 use lib.Dec.{leb}
@@ -45,9 +45,9 @@ pub replaced : (turn : List ℕ → List ℕ) (s : List ℕ) → with-operators 
 replaced turn s =
     pass-is turn (respelled s) ∙ ap (rewritten turn true out) (respelled-pass s) ∙ rewritten-twice turn s ∙ sym (pass-is (λ w. turn (respell w)) s)
 
--- "leaving labels, texts and comments": all bytes but the operators' are the same, in the same order
-pub kept-bytes : (s : List ℕ) → with-operators (λ w. []) (respelled s) ≡ with-operators (λ w. []) s
-kept-bytes s = replaced (λ w. []) s
+-- "leaving labels, texts and comments": with any one word for all operators both texts are the same bytes, so all other bytes are
+pub kept-bytes : (v s : List ℕ) → with-operators (λ w. v) (respelled s) ≡ with-operators (λ w. v) s
+kept-bytes v s = replaced (λ w. v) s
 
 -- Of a text s and its text t in the other edition, with functions f and g that tell their lines
 module _ (s : List ℕ) (f g : ℕ → ℕ) (u : Lines f s) (v : Lines g (respelled s)) where
