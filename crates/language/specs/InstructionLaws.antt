@@ -1,6 +1,5 @@
 -- No word means two instructions, in either edition or across them.
-use mathlib.Core.Bool.{Bool, cond, not, _&&_, _||_}
-use mathlib.Core.List.{List, [], _∷_}
+use mathlib.Core.Bool.{Bool, not, _||_}
 use lib.Dec.{T, eqb}
 use Rattle.language.specs.Instructions.{operation, operators}
 use Rattle.language.specs.Program.{Op}
