@@ -22,10 +22,9 @@ use Rattle.statements.specs.StatementLaws.{at-stop, at-item, on}
 use Rattle.syntax.specs.Items.{Item, places}
 use Rattle.syntax.specs.Statements.{keyword-of, is-operator, front, behind, operator, keyword-in, is-name}
 use Rattle.syntax.specs.Statements as Spec
-use Rattle.words.specs.declared.Keyword.{Keyword}
 use Rattle.words.specs.declared.Known.{Known}
 use Rattle.words.specs.Keywords.{told}
-use Rattle.heads.specs.Heads.{own-item, known-item, operates, from-token, Headed}
+use Rattle.heads.specs.Heads.{own-item, known-item, nothing-known, head-with, operates, from-token, Headed}
 use Rattle.heads.specs.HeadLaws.{lower-clear, lower-assoc, front-goes, behind-goes, front-ends, behind-here, operator-is}
 
 abbrev name-faults : List Item → List ℕ
@@ -43,20 +42,15 @@ name-fault-goes i js = go (is-name i)
     go true = refl
     go false = fault-both (i .at ∷ []) (name-faults js)
 
--- what is known of an operator, and of none
-no-operator : Known
-no-operator = record { keyword = Keyword.None; polish = false; english = false }
-
+-- what is known of an operator, or of none
 abbrev own-known : Bool → Known → Bool
 own-known e k = cond e (k .english) (k .polish)
 
-keyword-of-known : (xs : List Item) → told (ifAny Spec.Keyword.none keyword-of xs) ≡ ifAny no-operator known-item xs .keyword
-unfolding no-operator
+keyword-of-known : (xs : List Item) → told (ifAny Spec.Keyword.none keyword-of xs) ≡ ifAny nothing-known known-item xs .keyword
 keyword-of-known [] = refl
 keyword-of-known (i ∷ xs) = refl
 
-own-of-known : (e : Bool) (xs : List Item) → ifAny false (own-item e) xs ≡ own-known e (ifAny no-operator known-item xs)
-unfolding no-operator
+own-of-known : (e : Bool) (xs : List Item) → ifAny false (own-item e) xs ≡ own-known e (ifAny nothing-known known-item xs)
 own-of-known true [] = refl
 own-of-known false [] = refl
 own-of-known true (i ∷ xs) = refl
@@ -119,9 +113,9 @@ module _ {s : List ℕ} {n i f w : ℕ} {fault : Fault} {t : Token} (l : Leading
   js = statement-at s (t .next)
 
   -- nothing more stands in front: the token t is the operator or ends the statement
-  headed : front (statement-at s i) ≡ [] → behind (statement-at s i) ≡ from-token s t → {v : Known} → v ≡ ifAny no-operator known-item (from-token s t)
+  headed : front (statement-at s i) ≡ [] → behind (statement-at s i) ≡ from-token s t → {v : Known} → v ≡ ifAny nothing-known known-item (from-token s t)
       → {c u : ℕ} → u ≡ min w (worst (take 1 (from-token s t)))
-      → Headed s n (record { first = f′; fault = fault; names = c; worst = u; op = t; keyword = v .keyword; polish = v .polish; english = v .english })
+      → Headed s n (head-with f′ fault c u t v)
   unfolding keyword-in
   headed none own v-is u-is =
       record {
@@ -140,8 +134,8 @@ module _ {s : List ℕ} {n i f w : ℕ} {fault : Fault} {t : Token} (l : Leading
       }
 
   pub no-head : {c : ℕ} → stops (t .sort) ≡ true
-      → Headed s n (record { first = f′; fault = fault; names = c; worst = w; op = t; keyword = Keyword.None; polish = false; english = false })
-  unfolding behind worst no-operator
+      → Headed s n (head-with f′ fault c w t nothing-known)
+  unfolding behind worst
   no-head z = let h = l .low in headed (no-front (at-stop k z)) (rw (at-stop k z, z) refl) (rw z refl) (rw z (omega arith))
 
   module _ (z : stops (t .sort) ≡ false) {w′ : ℕ} (w-is : w′ ≡ min w (token-code t)) where
@@ -149,7 +143,7 @@ module _ {s : List ℕ} {n i f w : ℕ} {fault : Fault} {t : Token} (l : Leading
     it = item-of s t
 
     pub head-here : operates t ≡ true → {v : Known} → v ≡ known-item it → {c : ℕ}
-        → Headed s n (record { first = f′; fault = fault; names = c; worst = w′; op = t; keyword = v .keyword; polish = v .polish; english = v .english })
+        → Headed s n (head-with f′ fault c w′ t v)
     unfolding worst
     head-here o v-is =
         let op-is : is-operator it ≡ true = operator-is (k .stands) ∙ o in

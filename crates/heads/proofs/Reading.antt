@@ -25,10 +25,10 @@ use Rattle.statements.specs.StatementLaws.{at-stop, at-item, on}
 use Rattle.syntax.specs.Items.{Item, is}
 use Rattle.syntax.specs.Items.Sort.{word}
 use Rattle.syntax.specs.Statements.{keyword-of, front, labels-in, is-name}
-use Rattle.words.specs.declared.Keyword.{Keyword}
 use Rattle.words.specs.declared.Known.{Known}
-use Rattle.heads.specs.Heads.{known-item, operates, Marks-put, Headable, Heads}
+use Rattle.heads.specs.Heads.{known-item, nothing-known, head-with, operates, Marks-put, Headable, Heads}
 use Rattle.heads.specs.HeadLaws.{front-goes, front-ends, operator-is}
+use Rattle.heads.specs.declared.Head.{Head}
 use Rattle.heads.proofs.Leading.{Leading, leading-first, no-front, own-fault, no-head, head-here, still-leading}
 
 -- the marks of the labels before place i were put
@@ -144,14 +144,15 @@ module _ {r : List ℕ} {n : ℕ} {ms : List ℕ} {count j f : ℕ} {fault : Fau
       item-is = ap (item-of s) g ∙ item-moved s n h t
 
     module _ {f′ : ℕ} (f-is : f′ ≡ cond (eqb j 0) (o .at) f) where
-      pub none-read : stops (o .sort) ≡ true → Heads r n count ms ms′ (record { first = f′; fault = fault; names = c; worst = w; op = o; keyword = Keyword.None; polish = false; english = false })
-      none-read z s le h =
+      pub none-read : stops (o .sort) ≡ true → {q : Head} → q ≡ head-with f′ fault c w o nothing-known → Heads r n count ms ms′ q
+      none-read z q-is =
+          subst (Heads r n count ms ms′) (sym q-is)
+          (λ s le h.
           let k′ = there s le h in
-          (no-head (u .is s le h .0) k′ (same-place n j) f-is z, all-put (u .is s le h .1) k′ (u .same) (no-front (at-stop k′ z)))
+          (no-head (u .is s le h .0) k′ (same-place n j) f-is z, all-put (u .is s le h .1) k′ (u .same) (no-front (at-stop k′ z))))
 
       module _ (z : stops (o .sort) ≡ false) {w′ : ℕ} (w-is : w′ ≡ min w (token-code o)) where
-        pub head-read : operates o ≡ true → {v : Known} → v ≡ known-item (item-of r t)
-            → Heads r n count ms ms′ (record { first = f′; fault = fault; names = c; worst = w′; op = o; keyword = v .keyword; polish = v .polish; english = v .english })
+        pub head-read : operates o ≡ true → {v : Known} → v ≡ known-item (item-of r t) → Heads r n count ms ms′ (head-with f′ fault c w′ o v)
         head-read y e s le h =
             let k′ = there s le h in
             let v-is = e ∙ sym (ap known-item (item-is s le h) ∙ known-shift n (item-of r t)) in

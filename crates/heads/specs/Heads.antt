@@ -12,6 +12,7 @@ use Rattle.lexer.specs.declared.Token.{Token}
 use Rattle.lexer.specs.Tokens.{item-of, Stands, Next-token}
 use Rattle.lists.specs.Lists.{filled, ifAny, keep}
 use Rattle.statements.proofs.Ends.{Within}
+use Rattle.statements.specs.declared.Fault.{Fault}
 use Rattle.statements.specs.StatementAt.{statement-at, stops, fault-of}
 use Rattle.syntax.specs.Items.{Item, is, places}
 use Rattle.syntax.specs.Items.Sort.{word}
@@ -32,6 +33,14 @@ own-item english i = is word i && own english (i .chars)
 -- what is known of an item as an operator
 abbrev pub known-item : Item → Known
 known-item i = record { keyword = told (keyword-of i); polish = own-item false i; english = own-item true i }
+
+-- and of none
+abbrev pub nothing-known : Known
+nothing-known = record { keyword = Keyword.None; polish = false; english = false }
+
+abbrev pub head-with : ℕ → Fault → ℕ → ℕ → Token → Known → Head
+head-with first fault names worst op k =
+    record { first = first; fault = fault; names = names; worst = worst; op = op; keyword = k .keyword; polish = k .polish; english = k .english }
 
 -- of a statement's operator
 abbrev pub own-in : Bool → List Item → Bool

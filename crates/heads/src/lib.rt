@@ -8,7 +8,7 @@ ghost use Rattle.drafts.specs.Marks.{mark-of};
 ghost use Rattle.lexer.specs.Tokens.{item-of, Stands};
 ghost use Rattle.statements.specs.StatementAt.{fault-of};
 ghost use Rattle.syntax.specs.Statements.{is-name};
-ghost use Rattle.heads.specs.Heads.{known-item, opens, bars, is-switch, is-by-name, instr-of, Headable, Heads};
+ghost use Rattle.heads.specs.Heads.{known-item, nothing-known, head-with, opens, bars, is-switch, is-by-name, instr-of, Headable, Heads};
 use lexer::Token;
 use lexer::moved;
 use lexer::next_item;
@@ -67,6 +67,22 @@ fn keyword_at(text: &[u8], t: Token) -> Known
     }
     Known {
         keyword: Keyword::Unknown,
+        polish: false,
+        english: false,
+    }
+}
+
+// The head of a statement without an operator.
+fn without_operator(first: usize, fault: Fault, names: usize, worst: usize, end: Token) -> Head
+    ensures { λ r. ⌜ r ≡ head-with first fault names worst end nothing-known ⌝ }
+{
+    Head {
+        first: first,
+        fault: fault,
+        names: names,
+        worst: worst,
+        op: end,
+        keyword: Keyword::None,
         polish: false,
         english: false,
     }
@@ -191,16 +207,7 @@ pub fn read_head(rest: &[u8], n: usize, names: &mut [u32], count: usize) -> Head
         let o = moved(t, n);
         first = pick(i == 0, o.at, first);
         if stops(o.sort) {
-            return Head {
-                first: first,
-                fault: fault,
-                names: c,
-                worst: worst,
-                op: o,
-                keyword: Keyword::None,
-                polish: false,
-                english: false,
-            };
+            return without_operator(first, fault, c, worst, o);
         }
         worst = worse(worst, o);
         if is_operator(o.sort, o.colon) {

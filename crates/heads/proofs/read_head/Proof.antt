@@ -32,16 +32,18 @@ pick-requires c κs = search needs
 stops-requires : tie.Need-stops-requires Inv-loop μ-loop
 stops-requires c κs = search needs
 
+without-operator-requires : tie.Need-without-operator-requires Inv-loop μ-loop
+without-operator-requires c κs = search needs
+
 same-length : tie.Need-same-length Inv-loop μ-loop
-same-length c = c .before .before .before .before .before .loop .inv .same
+same-length c = c .before .before .before .before .before .before .loop .inv .same
 
 returns : tie.Need-returns Inv-loop μ-loop
 returns c =
-    let u = c .before .before .before .before .before .loop .inv in
-    let k = c .before .before .before .before .next-item .ensures in
-    let g = c .before .before .before .moved .ensures in
-    let f = c .before .before .pick .ensures in
-    none-read u k g f (sym (c .before .stops .ensures) ∙ c .if1 .taken)
+    let a = c .before .before in
+    let z = sym (a .stops .ensures) ∙ c .before .if1 .taken in
+    none-read (a .before .before .before .before .loop .inv) (a .before .before .before .next-item .ensures) (a .before .before .moved .ensures) (a .before .pick .ensures) z
+    (c .without-operator .ensures)
 
 worse-requires : tie.Need-worse-requires Inv-loop μ-loop
 worse-requires c κs = omega (arith, place-low (c .before .before .before .before .before .loop .inv) (c .before .before .before .before .next-item .ensures) (c .before .before .before .moved .ensures))
@@ -57,13 +59,10 @@ same-length-2 c = c .before .before .before .before .before .before .before .bef
 
 returns-2 : tie.Need-returns-2 Inv-loop μ-loop
 returns-2 c =
-    let u = c .before .before .before .before .before .before .before .before .before .loop .inv in
-    let k = c .before .before .before .before .before .before .before .before .next-item .ensures in
-    let g = c .before .before .before .before .before .before .before .moved .ensures in
-    let f = c .before .before .before .before .before .before .pick .ensures in
-    let z = sym (c .before .before .before .before .before .stops .ensures) ∙ c .before .before .before .before .if1 .left in
-    let w = c .before .before .before .worse .ensures in
-    head-read u k g f z w (sym (c .before .before .is-operator .ensures) ∙ c .before .if2 .taken) (c .keyword-at .ensures)
+    let a = c .before .before .before .before .before in
+    let z = sym (a .stops .ensures) ∙ c .before .before .before .before .if1 .left in
+    head-read (a .before .before .before .before .loop .inv) (a .before .before .before .next-item .ensures) (a .before .before .moved .ensures) (a .before .pick .ensures) z
+    (c .before .before .before .worse .ensures) (sym (c .before .before .is-operator .ensures) ∙ c .before .if2 .taken) (c .keyword-at .ensures)
 
 name-fault-requires : tie.Need-name-fault-requires Inv-loop μ-loop
 name-fault-requires c κs = search needs
@@ -121,6 +120,7 @@ read-head-spec =
     moved-requires
     pick-requires
     stops-requires
+    without-operator-requires
     same-length
     returns
     worse-requires
