@@ -15,7 +15,6 @@ use Rattle.syntax.specs.Statements as Spec
 use Rattle.syntax.specs.Statements.{editions, keywords, words-of, own, same-keyword}
 use Rattle.words.specs.Keywords.{keyword-by, told, known, word-at, place-in, meanings, keyword-at, shared, slot, in-a-row, beginnings, guesses, guess, of-row, In-row}
 use Rattle.words.specs.declared.Keyword.{Keyword}
-use Rattle.words.specs.declared.Known.{Known}
 use borrow.Author.Tests.{lt-ltb, le-ltb}
 use Rattle.layout.specs.CellLaws.{found}
 use Rattle.lists.specs.ListLaws.{T-left, T-right, sameBytes-eq, sameBytes-refl}

@@ -4,7 +4,7 @@ use mathlib.Core.Bool.{Bool}
 use mathlib.Core.List.{List}
 use Prim.Native.Nat.{ℕ}
 use Rattle.lists.specs.Lists.{sameBytes}
-use Rattle.words.specs.Keywords.{of-row, In-row, word-at}
+use Rattle.words.specs.Keywords.{of-row, In-row}
 use Rattle.words.proofs.KeywordLaws.{named, guessed-right, guessed-wrong}
 use borrow.Author.Needs.{needs}
 use Rattle.words.proofs.find.Statement.{statement}
