@@ -11,6 +11,7 @@
        inputs I1 I2                      (no call: the inputs of the runs that follow, in place of those of the last start)
        run BUDGET => NUMBER COUNT
        output K => BYTES                 (no call: Q K of the state)
+       convert TEXT LENGTH => NUMBER BYTES   (to a buffer of that length)
 
    GRADE and PREVIEW are 0: no call takes them yet. What is lent lies between pages that trap (lent.h); what a call only reads, and what a
    refused one leaves alone, is compared too. */
@@ -19,10 +20,10 @@
 
 #include <stdarg.h>
 
-enum { LEVEL = 4, WORDS_MOST = 64, ANSWER_MOST = 4 * EOL2_INPUT };
+enum { LEVEL = 5, WORDS_MOST = 64, ANSWER_MOST = 4 * EOL2_INPUT, BUFFER_MOST = 2 * EOL2_TEXT };
 
-static struct lent text, table, i1, i2, state;
-static uint8_t table_now[EOL2_TABLE * 4], state_now[EOL2_STATE];
+static struct lent text, table, i1, i2, state, out;
+static uint8_t table_now[EOL2_TABLE * 4], state_now[EOL2_STATE], before[BUFFER_MOST];
 static struct { uint8_t at[EOL2_INPUT + 1]; size_t bytes; } inputs[2];
 static const char *script;
 static unsigned long line, calls;
@@ -104,14 +105,15 @@ static void lend_all(void)
     lend(&i1, inputs[0].at, inputs[0].bytes);
     lend(&i2, inputs[1].at, inputs[1].bytes);
     lend(&state, state_now, sizeof state_now);
+    lend(&out, before, 0);
 }
 
 /* After a call that may write `written`, and was refused or not. */
 static void look(struct lent *written, int refused)
 {
-    struct lent *all[5] = {&text, &table, &i1, &i2, &state};
+    struct lent *all[] = {&text, &table, &i1, &i2, &state, &out};
     calls++;
-    for (int k = 0; k < 5; k++) {
+    for (int k = 0; k < (int)(sizeof all / sizeof *all); k++) {
         if (!lent_guarded(all[k]))
             stop(1, "the call wrote beside buffer %d", k);
         if ((all[k] != written || refused) && !lent_same(all[k], 0))
@@ -160,6 +162,38 @@ static void run(char **words)
     tell_number(eol2_count(a));
 }
 
+/* A buffer to fill, of a length that a script asks for, with other bytes for each call. */
+static void lend_out(const char *word)
+{
+    const size_t n = number(word);
+    if (n > sizeof before)
+        stop(2, "a buffer too long: %s", word);
+    for (size_t k = 0; k < n; k++)
+        before[k] = (uint8_t)(k + 7 * calls);
+    lend(&out, before, n);
+}
+
+/* After a call that fills the buffer: the rest stays, and all of it where the number is not 80. */
+static void tell_filled(uint64_t a)
+{
+    const uint32_t count = eol2_count(a);
+    look(&out, eol2_number(a) != EOL2_ACCEPTED);
+    if (count > out.length || !lent_same(&out, count))
+        stop(1, "the call wrote beyond its %u bytes", (unsigned)count);
+    tell_number(eol2_number(a));
+    answer_bytes += (size_t)sprintf(answer + answer_bytes, " ");
+    tell_bytes(out.at, count);
+}
+
+static void convert(char **words)
+{
+    static uint8_t s[2 * EOL2_TEXT];
+    lend_all();
+    lend(&text, s, bytes(words[1], s, sizeof s));
+    lend_out(words[2]);
+    tell_filled(eol2_convert(text.at, text.length, out.at, out.length));
+}
+
 static void output(char **words)
 {
     size_t n;
@@ -168,7 +202,8 @@ static void output(char **words)
 }
 
 static const struct { const char *name; int words; void (*make)(char **words); } names[] = {
-    {"load", 3, load}, {"start", 4, start}, {"inputs", 3, take_inputs}, {"run", 2, run}, {"output", 2, output}};
+    {"load", 3, load}, {"start", 4, start}, {"inputs", 3, take_inputs}, {"run", 2, run}, {"output", 2, output},
+    {"convert", 3, convert}};
 
 /* ---- scripts */
 
@@ -221,7 +256,7 @@ static void one_script(const char *name)
 int main(int count, char **words)
 {
     lent_make(&text, 2 * EOL2_TEXT), lent_make(&table, sizeof table_now), lent_make(&i1, EOL2_INPUT + 1), lent_make(&i2, EOL2_INPUT + 1);
-    lent_make(&state, sizeof state_now);
+    lent_make(&state, sizeof state_now), lent_make(&out, sizeof before);
     lend(&text, state_now, 0);
     for (int k = 1; k < count; k++)
         one_script(words[k]);

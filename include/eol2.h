@@ -1,4 +1,4 @@
-/* EOL-2 for C: load a program text, start a state, run it under a budget.
+/* EOL-2 for C: load a program text, start a state, run it under a budget; and turn a text into the other edition.
 
    The library is for x86-64 Linux: `rt staticlib interpreter` writes target/staticlib/libinterpreter.a, which needs memcpy and memset, and
    nothing else. `cc -Iinclude host.c target/staticlib/libinterpreter.a` builds a program over it. host/eol2.c is a short one, and `host/run`
@@ -15,12 +15,13 @@
            q1 = eol2_output(state, 1, &q1_bytes);
        } while (eol2_number(answer) == EOL2_PAUSED);
 
-   What holds of all three calls:
+   What holds of all four calls:
    - Memory is lent by the caller, each buffer as a pointer and a length. The length of a table counts numbers of 32 bits, every other length
      counts bytes. A null pointer is allowed with length 0. A table is aligned as uint32_t.
-   - The buffer that a call writes (the table of eol2_load, the state of eol2_start and eol2_run) overlaps no other buffer of that call, and
-     nobody else reads or writes it while the call lasts. The others are only read, may overlap each other, and stay unwritten by anybody
-     meanwhile. These are the only duties of a caller: any content and any length is answered, and nothing need be checked beforehand.
+   - The buffer that a call writes (the table of eol2_load, the state of eol2_start and eol2_run, the out of eol2_convert) overlaps no other
+     buffer of that call, and nobody else reads or writes it while the call lasts. The others are only read, may overlap each other, and stay
+     unwritten by anybody meanwhile. These are the only duties of a caller: any content and any length is answered, and nothing need be
+     checked beforehand.
    - A table counts as far as its first EOL2_TABLE numbers, a state as far as its first EOL2_STATE bytes. What lies beyond is neither read nor
      written; a buffer may be longer.
    - A call keeps nothing from one to the next and has no variables of its own: all is in the lent memory, so table and state can be copied,
@@ -59,14 +60,14 @@ enum eol2_numbers {
     EOL2_BAD_BYTE = 14,           /* Outside texts and comments, only A to Z, 0 to 9, space , : ; ' + - * ( ) and new line, each comment closed? */
     EOL2_BAD_TEXT = 15,           /* Each text closed on its line, not empty, of allowed characters and pairs? */
     EOL2_BAD_LENGTH = 16,         /* Each item within 60 characters: name, number, text, and what is none of them? */
-    EOL2_BAD_HEADING = 0,         /* Is the first statement SEKCJA and one name, unlabelled? (Printed 00.) */
-    EOL2_BAD_OPERATOR = 10,       /* Is the operator known, and no second SEKCJA? */
+    EOL2_BAD_HEADING = 0,         /* Is the first statement SEKCJA or SECTION and one name, unlabelled? (Printed 00.) */
+    EOL2_BAD_OPERATOR = 10,       /* Is the operator known, of the section's edition, and no second SEKCJA or SECTION? */
     EOL2_BAD_SWITCH_LABELS = 8,   /* Has each switch exactly one label? (Printed 08.) */
     EOL2_BAD_REPEATED_LABEL = 6,  /* Is each label new? (Printed 06.) */
     EOL2_BAD_COUNT = 1,           /* Not too many arguments? (Printed 01.) */
     EOL2_BAD_ARGUMENT = 2,        /* Each argument listed for its place, index and number in range, none missing? (Printed 02.) */
     EOL2_BAD_ROOM = 11,           /* Tables within limits: instructions, labels, switches, entries, texts, numbers? */
-    EOL2_BAD_END = 25,            /* KONS and KONP as asked, nothing after, a last instruction STOP, SKOCZ or WROC, one after each label? */
+    EOL2_BAD_END = 25,            /* KONS (ENDS) and KONP as asked, nothing after, a last instruction STOP, SKOCZ or WROC, one after each label? */
     EOL2_BAD_LABEL = 12,          /* Every used label declared (a switch's name is none)? */
     EOL2_BAD_SWITCH = 13,         /* Every used switch declared, of the type its instruction needs? */
     EOL2_BAD_MACROS = 64,         /* List of macros and calls well formed, no star or bracket elsewhere, each called macro in the list once? */
@@ -78,7 +79,10 @@ enum eol2_numbers {
     EOL2_BAD_INPUTS = 61,         /* Inputs short enough, and of the 87 characters? */
     EOL2_BAD_STATE = 63,          /* State long enough, and for run well formed? Never no after an accepted call with this table and inputs. */
 
-    /* Accepted, by eol2_load and eol2_start; paused, by eol2_run */
+    /* Refused by eol2_convert */
+    EOL2_BAD_CONVERSION = 67,     /* Does the text load, has it no macros, and does the result fit the buffer and EOL2_TEXT bytes? */
+
+    /* Accepted, by eol2_load, eol2_start and eol2_convert; paused, by eol2_run */
     EOL2_ACCEPTED = 80,
     EOL2_PAUSED = 81,             /* the budget is used up */
 
@@ -110,17 +114,18 @@ static inline uint32_t eol2_line(uint64_t answer)
     return (uint32_t)(answer & 0xffffffffu);
 }
 
-/* Of an answer of eol2_run: how many instructions this call completed; 0 where it is refused. Of eol2_start: 0. */
+/* Of an answer of eol2_run: how many instructions this call completed; 0 where it is refused. Of eol2_start: 0. Of eol2_convert: how many bytes
+   it wrote; 0 where it is refused. */
 static inline uint32_t eol2_count(uint64_t answer)
 {
     return (uint32_t)(answer & 0xffffffffu);
 }
 
-/* ---- the three calls */
+/* ---- the four calls */
 
 /* Loads the program of a text.
 
-   text, text_bytes    the text, from SEKCJA to KONP. Only read. More than EOL2_TEXT bytes: refused with 40
+   text, text_bytes    the text, from SEKCJA or SECTION to KONP. Only read. More than EOL2_TEXT bytes: refused with 40
    table, table_cells  the table to fill; table_cells counts numbers of 32 bits. Fewer than EOL2_TABLE: refused with 40
 
    Number, line            The table afterwards
@@ -130,6 +135,10 @@ static inline uint32_t eol2_count(uint64_t answer)
    another refusal, line   its first EOL2_TABLE numbers are zeros
 
    The refusals are the first seventeen of enum eol2_numbers. Numbers beyond the first EOL2_TABLE stay as they were in every case.
+
+   A text is of one edition. Its first operator chooses: after SEKCJA all operators are the Polish ones, after SECTION the English ones, and a
+   word that the other edition alone has is refused with 10. STOP and KONP are words of both. Everything else is the same in both editions, and
+   so is the table: it has no trace of the edition. docs/GUIDE.md has the words.
 
    A text with a star or a round bracket outside texts and comments is one with macros: a list in brackets is its second statement, and calls
    have a star. The given text, of EOL2_TEXT bytes at most, is asked 14, 15 and 16 as a whole, then 64, 65 and 66. Then the list goes, each
@@ -173,6 +182,25 @@ uint64_t eol2_start(const uint32_t *table, size_t table_cells, const uint8_t *i1
    case. */
 uint64_t eol2_run(const uint32_t *table, size_t table_cells, const uint8_t *i1, size_t i1_bytes, const uint8_t *i2, size_t i2_bytes,
                   uint8_t *state, size_t state_bytes, uint32_t budget);
+
+/* Turns a text into the other edition: each operator, from SEKCJA to KONP, into the word of the same meaning there, and nothing else. Labels,
+   arguments, texts, comments, spaces and new lines stay, byte by byte.
+
+   text, text_bytes    a text of either edition. Only read
+   out, out_bytes      the buffer to fill. Its content does not matter; EOL2_TEXT bytes are enough for any result
+
+   Number, count       The buffer afterwards
+   80, count           its first count bytes are the other edition's text, count at most EOL2_TEXT; the bytes behind them as they were
+   67, 0               as it was, all of it
+
+   What it asks, and 67 for each no: would eol2_load accept the text (into a table of EOL2_TABLE numbers)? Has it no star and no round bracket
+   outside texts and comments, so no macros? Has the result at most out_bytes bytes, and at most EOL2_TEXT? Why a text does not load, eol2_load
+   tells.
+
+   Both texts load to the same table, lines included, so they run alike on all inputs, and a state of the one goes on with the other. Converted
+   back, the result is the first text again, byte by byte, where there is room for it. A word of the other edition may be longer or shorter, so
+   a text near EOL2_TEXT bytes may be taken one way only. */
+uint64_t eol2_convert(const uint8_t *text, size_t text_bytes, uint8_t *out, size_t out_bytes);
 
 /* ---- reading a table and a state (docs/LAYOUT.md). Both functions take any content of EOL2_TABLE numbers and EOL2_STATE bytes, and read
    nothing beyond. They do not check it: what they say of bytes that no call left has no meaning. eol2_run tells, by 62 and 63. */
