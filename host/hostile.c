@@ -1,10 +1,11 @@
-/* Hands hostile memory to the three calls, and checks what they answer and leave. `host/run` builds it, with AddressSanitizer and UBSan.
+/* Hands hostile memory to the four calls, and checks what they answer and leave. `host/run` builds it, with AddressSanitizer and UBSan.
 
        hostile SEED ROUNDS FILE...
 
-   Each FILE has a program text, and behind it an input: the good memory that is then damaged. A round makes texts, tables, states and inputs
-   (random bytes; random characters; good ones; good ones with bits flipped, bytes replaced, parts cut out or put in, lines exchanged; texts
-   with macros made by chance; too short, too long, empty, null) and calls load, start and run on them. The last line has the counts; the first difference ends it with status 1. */
+   Each FILE has a program text, and behind it an input: the good memory that is then damaged. Of a text without macros the one in the other
+   edition is good memory too. A round makes texts, tables, states, inputs and buffers (random bytes; random characters; good ones; good ones with
+   bits flipped, bytes replaced, parts cut out or put in, lines exchanged; texts with macros made by chance; too short, too long, empty, null) and
+   calls load, convert, start and run on them. The last line has the counts; the first difference ends it with status 1. */
 #define _GNU_SOURCE
 #include "lent.h"
 #include "text.h"
@@ -12,14 +13,14 @@
 #include <pthread.h>
 #include <stdarg.h>
 
-enum { FILES = 64, TEXT_MOST = EOL2_TEXT + 4096, CELLS_MOST = EOL2_TABLE + 64, STATE_MOST = EOL2_STATE + 256, INPUT_MOST = EOL2_INPUT + 4096 };
+enum { FILES = 128, TEXT_MOST = EOL2_TEXT + 4096, CELLS_MOST = EOL2_TABLE + 64, STATE_MOST = EOL2_STATE + 256, INPUT_MOST = EOL2_INPUT + 4096 };
 
 static const char characters[] = " .(+*);-/,:'=[]<>?\x1b\x0e" "ABCDEFGHIJKLMNOPQRSTUVWXYZ" "abcdefghijklmnopqrstuvwxyz\x0f" "0123456789\n\x0c\r\x7f";
 
-static struct lent text, table, i1, i2, state;
+static struct lent text, table, i1, i2, state, out;
 static struct { uint8_t text[EOL2_TEXT], input[EOL2_INPUT]; size_t text_bytes, input_bytes; uint32_t table[EOL2_TABLE]; } good[FILES];
 static int goods;
-static unsigned long turn, calls[3], answers[3][128];
+static unsigned long turn, calls[4], answers[4][128];
 
 /* ---- numbers at random, the same for the same seed */
 
@@ -51,21 +52,23 @@ static void differs(const char *form, ...)
     va_start(words, form);
     printf("round %lu: ", turn);
     vprintf(form, words);
-    printf("\n(text %zu bytes, table %zu bytes, I1 %zu, I2 %zu, state %zu)\n", text.length, table.length, i1.length, i2.length, state.length);
+    printf("\n(text %zu bytes, table %zu bytes, I1 %zu, I2 %zu, state %zu, buffer %zu)\n", text.length, table.length, i1.length, i2.length,
+           state.length, out.length);
     va_end(words);
     exit(1);
 }
 
-/* Is the number on the list of the call: 0 load, 1 start, 2 run? */
+/* Is the number on the list of the call: 0 load, 1 start, 2 run, 3 convert? */
 static int listed(int call, uint32_t number)
 {
-    static const uint8_t lists[3][20] = {
+    static const uint8_t lists[4][20] = {
         {EOL2_BAD_SIZE, EOL2_BAD_BYTE, EOL2_BAD_TEXT, EOL2_BAD_LENGTH, EOL2_BAD_HEADING, EOL2_BAD_OPERATOR, EOL2_BAD_SWITCH_LABELS,
          EOL2_BAD_REPEATED_LABEL, EOL2_BAD_COUNT, EOL2_BAD_ARGUMENT, EOL2_BAD_ROOM, EOL2_BAD_END, EOL2_BAD_LABEL, EOL2_BAD_SWITCH,
          EOL2_BAD_MACROS, EOL2_BAD_CALL, EOL2_BAD_EXPANSION, EOL2_ACCEPTED, 255},
         {EOL2_BAD_TABLE, EOL2_BAD_INPUTS, EOL2_BAD_STATE, EOL2_ACCEPTED, 255},
         {EOL2_BAD_TABLE, EOL2_BAD_INPUTS, EOL2_BAD_STATE, EOL2_PAUSED, EOL2_STOP_STATEMENT, EOL2_STOP_NOTHING, EOL2_STOP_KIND,
-         EOL2_STOP_RANGE, EOL2_STOP_DIVISOR, EOL2_STOP_INDEX, EOL2_STOP_RETURN, EOL2_STOP_RECORD, EOL2_STOP_ROOM, EOL2_STOP_ADDRESSES, 255}};
+         EOL2_STOP_RANGE, EOL2_STOP_DIVISOR, EOL2_STOP_INDEX, EOL2_STOP_RETURN, EOL2_STOP_RECORD, EOL2_STOP_ROOM, EOL2_STOP_ADDRESSES, 255},
+        {EOL2_BAD_CONVERSION, EOL2_ACCEPTED, 255}};
     for (int k = 0; lists[call][k] != 255; k++)
         if (lists[call][k] == number)
             return 1;
@@ -75,16 +78,16 @@ static int listed(int call, uint32_t number)
 /* Counts a call, and checks what holds of every one: a number of its list, and the guard bytes and what was lent to be read as they were. */
 static uint64_t judged(int call, const char *name, uint64_t answer)
 {
-    struct lent *all[5] = {&text, &table, &i1, &i2, &state};
+    struct lent *all[6] = {&text, &table, &i1, &i2, &state, &out}, *written[4] = {&table, &state, &state, &out};
     uint32_t number = eol2_number(answer);
     calls[call]++;
     if (!listed(call, number))
         differs("%s answers %u", name, (unsigned)number);
     answers[call][number]++;
-    for (int k = 0; k < 5; k++) {
+    for (int k = 0; k < 6; k++) {
         if (!lent_guarded(all[k]))
             differs("%s (answer %u) wrote beside buffer %d", name, (unsigned)number, k);
-        if (all[k] != (call ? &state : &table) && !lent_same(all[k], 0))
+        if (all[k] != written[call] && !lent_same(all[k], 0))
             differs("%s (answer %u) wrote buffer %d", name, (unsigned)number, k);
     }
     return answer;
@@ -118,7 +121,7 @@ static int starred(void)
     return 0;
 }
 
-/* ---- the three calls, each with what its declaration says */
+/* ---- the four calls, each with what its declaration says */
 
 static uint64_t load(void)
 {
@@ -179,6 +182,20 @@ static uint64_t run(uint32_t budget)
         differs("run answers %u with count %u to a budget of %u", (unsigned)number, (unsigned)count, (unsigned)budget);
     if (number != EOL2_BAD_TABLE && (number == EOL2_BAD_INPUTS) == (good_input(&i1) && good_input(&i2)))
         differs("run answers %u to its inputs", (unsigned)number);
+    return answer;
+}
+
+static uint64_t convert(void)
+{
+    lent_writable(&text, 0);
+    uint64_t answer = eol2_convert(text.at, text.length, out.at, out.length);
+    lent_writable(&text, 1);
+    judged(3, "convert", answer);
+    const uint32_t number = eol2_number(answer), count = eol2_count(answer);
+    if (number == EOL2_ACCEPTED ? count == 0 || count > out.length || count > EOL2_TEXT : count != 0)
+        differs("convert answers %u with count %u", (unsigned)number, (unsigned)count);
+    if (!lent_same(&out, count))
+        differs("convert (answer %u) changed what must stay", (unsigned)number);
     return answer;
 }
 
@@ -272,6 +289,7 @@ static void add_piece(void)
 {
     static const char *const pieces[] = {"SEKCJA S\n", "KONS\n", "KONP S\n", "STOP\n", "SKOCZ A\n", "A: ", "B: NAZWA A:'X',A\n", "C: INDEKS A\n",
         "UMIESC 'A',A1\n", "UMIESC 8388608,A1\n", "/*", "*/", "'", ":", ";", "PISZ A1,Q3\n", "DODAJ B1,Z32\n", "*", "\n", "SKONA A1,B\n", "A",
+        "SECTION S\n", "ENDS\n", "GOTO A\n", "D: NAME A\n", "WRITE A1,Q1\n", "SECTION",
         "\xff", "UMIESC '*L*,',Z1,2,3,4\n", "WROC\n", "0123456789", "UMIESC 'Rod z',Q1\n", "z: ", "PISZ A1,q1\n", "UMIESC '*l',A1\n",
         "A23456789B123456789C123456789D123456789E123456789F123456789G1:"};
     add_one_of(pieces, sizeof pieces / sizeof *pieces);
@@ -448,6 +466,13 @@ static void lend_state(void)
     lend(&state, s, one_in(2) ? near(EOL2_STATE, STATE_MOST) : EOL2_STATE);
 }
 
+static void lend_out(size_t length)
+{
+    static uint8_t s[TEXT_MOST];
+    random_bytes(s, length, one_in(2));
+    lend(&out, s, length);
+}
+
 /* ---- a round */
 
 /* What an accepted run leaves is good for the next: a pause goes on, a stop stays. */
@@ -498,6 +523,55 @@ static void runs(void)
     goes_on(whole);
 }
 
+/* Does the lent text load into a table that is long enough? Its cells are then those of `cells`. */
+static int loads(uint8_t *cells)
+{
+    static uint8_t any_cells[EOL2_TABLE * 4];
+    lend(&table, any_cells, sizeof any_cells);
+    const int accepted = eol2_number(load()) == EOL2_ACCEPTED;
+    memcpy(cells, table.at, sizeof any_cells);
+    again(&table);
+    return accepted;
+}
+
+/* The other edition of a text: 80 where it loads and has room, the buffer's exact length enough and one byte less too little; the same table;
+   and back, the same bytes. The lent text is not kept. */
+static void converts(void)
+{
+    static uint8_t given[TEXT_MOST], turned[TEXT_MOST], cells[EOL2_TABLE * 4], other[EOL2_TABLE * 4];
+    const size_t bytes = text.length;
+    const int accepted = loads(cells), plain = !starred();
+    if (bytes)
+        memcpy(given, text.at, bytes);
+    lend_out(one_in(2) ? near(EOL2_TEXT, TEXT_MOST) : below(2 * bytes + 2) % TEXT_MOST);
+    uint64_t answer = convert();
+    if (!accepted && eol2_number(answer) == EOL2_ACCEPTED)
+        differs("convert takes a text that does not load");
+    lend_out(EOL2_TEXT);
+    if (eol2_number(answer) != EOL2_ACCEPTED)
+        answer = convert();
+    else if (convert() != answer)
+        differs("convert answers otherwise to a buffer of another length");
+    /* a word of the other edition is longer by some letters, a statement less than twice as long */
+    if (accepted && plain && 2 * bytes < EOL2_TEXT && eol2_number(answer) != EOL2_ACCEPTED)
+        differs("convert refuses a text that loads");
+    if (eol2_number(answer) != EOL2_ACCEPTED)
+        return;
+    const size_t count = eol2_count(answer);
+    memcpy(turned, out.at, count);
+    lend_out(count);
+    if (convert() != answer || memcmp(turned, out.at, count))
+        differs("convert leaves other bytes in a buffer of the exact length");
+    lend_out(count - 1);
+    if (eol2_number(convert()) != EOL2_BAD_CONVERSION)
+        differs("convert takes a buffer that is one byte too short");
+    lend(&text, turned, count), lend_out(bytes);
+    if (!loads(other) || memcmp(cells, other, sizeof cells))
+        differs("the other edition's text loads to another table");
+    if (convert() != ((uint64_t)EOL2_ACCEPTED << 32 | bytes) || memcmp(given, out.at, bytes))
+        differs("there and back is not the same text");
+}
+
 static void round_of(int k)
 {
     static uint8_t first[EOL2_TABLE * 4];
@@ -518,8 +592,11 @@ static void round_of(int k)
                 differs("the table of an accepted text does not run");
         }
     }
+    /* the text in the other edition */
+    lend_state();
+    converts();
     /* start and run on whatever is there */
-    lend_table(k), lend_state();
+    lend_table(k), lend_state(), lend_out(below(64));
     runs();
     lend_state();
     if (eol2_number(start()) != EOL2_ACCEPTED)
@@ -554,22 +631,31 @@ static void run_rounds(unsigned long rounds)
     }
 }
 
-static void read_good(const char *name)
+static void add_good(const char *name, const uint8_t *from, size_t bytes, const uint8_t *input, size_t input_bytes)
 {
-    static uint8_t file[HOST_FILE];
-    size_t n = host_read(name, file, sizeof file), end = host_text_end(file, n);
-    if (goods == FILES || end == 0 || end > EOL2_TEXT || n - end > EOL2_INPUT || file[end - 1] != '\n') {
+    if (goods == FILES || bytes == 0 || bytes > EOL2_TEXT || input_bytes > EOL2_INPUT || from[bytes - 1] != '\n') {
         fprintf(stderr, "hostile: %s is too long or does not end in a new line, or is one file too many\n", name);
         exit(2);
     }
-    memcpy(good[goods].text, file, good[goods].text_bytes = end);
-    memcpy(good[goods].input, file + end, good[goods].input_bytes = n - end);
-    uint64_t answer = eol2_load(good[goods].text, end, good[goods].table, EOL2_TABLE);
+    memcpy(good[goods].text, from, good[goods].text_bytes = bytes);
+    memcpy(good[goods].input, input, good[goods].input_bytes = input_bytes);
+    uint64_t answer = eol2_load(good[goods].text, bytes, good[goods].table, EOL2_TABLE);
     if (eol2_number(answer) != EOL2_ACCEPTED) {
         printf("%s: load answers %u, line %u\n", name, (unsigned)eol2_number(answer), (unsigned)eol2_line(answer));
         exit(1);
     }
     goods++;
+}
+
+/* A text of a file, and the same in the other edition. */
+static void read_good(const char *name)
+{
+    static uint8_t file[HOST_FILE], other[EOL2_TEXT];
+    const size_t n = host_read(name, file, sizeof file), end = host_text_end(file, n);
+    add_good(name, file, end, file + end, n - end);
+    const uint64_t answer = eol2_convert(file, end, other, sizeof other);
+    if (eol2_number(answer) == EOL2_ACCEPTED)
+        add_good(name, other, eol2_count(answer), file + end, n - end);
 }
 
 int main(int count, char **words)
@@ -583,16 +669,18 @@ int main(int count, char **words)
     for (int k = 3; k < count; k++)
         read_good(words[k]);
     lent_make(&text, TEXT_MOST), lent_make(&table, CELLS_MOST * 4), lent_make(&i1, INPUT_MOST), lent_make(&i2, INPUT_MOST);
-    lent_make(&state, STATE_MOST);
+    lent_make(&state, STATE_MOST), lent_make(&out, TEXT_MOST);
+    lend_out(0);
     run_rounds(rounds);
-    static const char *const names[3] = {"load", "start", "run"};
-    for (int c = 0; c < 3; c++) {
-        printf("%-5s", names[c]);
+    static const char *const names[4] = {"load", "start", "run", "convert"};
+    for (int c = 0; c < 4; c++) {
+        printf("%-7s", names[c]);
         for (int k = 0; k < 128; k++)
             if (answers[c][k])
                 printf(" %02d: %lu", k, answers[c][k]);
         printf("\n");
     }
-    printf("hostile memory: %lu calls (load %lu, start %lu, run %lu), 0 differences\n", calls[0] + calls[1] + calls[2], calls[0], calls[1], calls[2]);
+    printf("hostile memory: %lu calls (load %lu, start %lu, run %lu, convert %lu), 0 differences\n", calls[0] + calls[1] + calls[2] + calls[3],
+           calls[0], calls[1], calls[2], calls[3]);
     return 0;
 }

@@ -1,4 +1,4 @@
-/* Measures how much stack the three calls take, and fails where it is EOL2_STACK or more. `host/run` builds it, without sanitizers.
+/* Measures how much stack the four calls take, and fails where it is EOL2_STACK or more. `host/run` builds it, without sanitizers.
 
        stack FILE..
 
@@ -10,9 +10,9 @@
 #include <pthread.h>
 #include <sys/mman.h>
 
-enum { ROOM = 4 * EOL2_STACK, PAINT = 0x5a, CALLS = 3, STEPS = 1000 };
+enum { ROOM = 4 * EOL2_STACK, PAINT = 0x5a, CALLS = 4, STEPS = 1000 };
 
-static uint8_t *stack, file[HOST_FILE], state[EOL2_STATE];
+static uint8_t *stack, file[HOST_FILE], state[EOL2_STATE], other[EOL2_TEXT];
 static uint32_t table[EOL2_TABLE];
 static size_t text_bytes, file_bytes;
 static uint64_t answer;
@@ -40,6 +40,12 @@ static void *run(void *nothing)
     return nothing;
 }
 
+static void *convert(void *nothing)
+{
+    answer = eol2_convert(file, text_bytes, other, sizeof other);
+    return nothing;
+}
+
 /* How many bytes of its stack a thread uses. */
 static size_t used(void *(*work)(void *))
 {
@@ -59,7 +65,7 @@ static size_t used(void *(*work)(void *))
 
 int main(int count, char **words)
 {
-    static void *(*const works[CALLS])(void *) = {load, start, run};
+    static void *(*const works[CALLS])(void *) = {load, start, run, convert};
     size_t most[CALLS] = {0};
     stack = mmap(NULL, ROOM, PROT_READ | PROT_WRITE, MAP_PRIVATE | MAP_ANONYMOUS, -1, 0);
     if (stack == MAP_FAILED) {
@@ -75,6 +81,9 @@ int main(int count, char **words)
             most[c] = n > most[c] ? n : most[c];
         }
     }
-    printf("stack: load %zu, start %zu, run %zu bytes of %d\n", most[0], most[1], most[2], EOL2_STACK);
-    return most[0] >= EOL2_STACK || most[1] >= EOL2_STACK || most[2] >= EOL2_STACK;
+    printf("stack: load %zu, start %zu, run %zu, convert %zu bytes of %d\n", most[0], most[1], most[2], most[3], EOL2_STACK);
+    for (int c = 0; c < CALLS; c++)
+        if (most[c] >= EOL2_STACK)
+            return 1;
+    return 0;
 }
