@@ -1,5 +1,5 @@
-/* Times load: nanoseconds a byte of a text, on a full text of real statements and on texts that cost the most; then texts with macros, a byte
-   of the written-out text. `bench/run` builds and runs it. Each line has the answer, so that a text that is refused early does not pass for a
+/* Times load and the converter: nanoseconds a byte of a text, on full texts of real statements in both editions and on texts that cost the most;
+   then texts with macros, a byte of the written-out text. `bench/run` builds and runs it. Each line has the answer, so that a text that is refused early does not pass for a
    fast one. */
 #include "../include/eol2.h"
 #include "clock.h"
@@ -12,6 +12,7 @@
 static char text[EOL2_TEXT + 4096];
 static size_t bytes;
 static uint32_t table[EOL2_TABLE];
+static uint8_t other[EOL2_TEXT];
 
 static void add(const char *form, ...)
 {
@@ -219,24 +220,53 @@ static size_t written_out(void)
     return 0;
 }
 
+static uint64_t load(void)
+{
+    return eol2_load((const uint8_t *)text, bytes, table, EOL2_TABLE);
+}
+
+static uint64_t convert(void)
+{
+    return eol2_convert((const uint8_t *)text, bytes, other, sizeof other);
+}
+
+/* The best time of a call on the text as it stands. The value of the answer is load's line, or the converter's count. */
+static double best_of(const char *title, const char *value, uint64_t (*call)(void))
+{
+    double best = 1e18;
+    uint64_t answer = 0;
+    for (int k = 0; k < 25; k++) {
+        double a = now();
+        answer = call();
+        double b = now();
+        if (b - a < best)
+            best = b - a;
+    }
+    printf("%-45s %5zu bytes %9.1f us %7.2f ns a byte %7.1f MB/s (answer %02u, %s %u)\n", title, bytes, best / 1000, best / (double)bytes,
+           (double)bytes * 1000 / best, (unsigned)eol2_number(answer), value, (unsigned)eol2_line(answer));
+    return best;
+}
+
 static double measure(const char *title, void (*make)(void), int full)
 {
     bytes = 0;
     add("SEKCJA S\n");
     make();
     fill(full ? EOL2_TEXT : 0);
-    double best = 1e18;
-    uint64_t answer = 0;
-    for (int k = 0; k < 25; k++) {
-        double a = now();
-        answer = eol2_load((const uint8_t *)text, bytes, table, EOL2_TABLE);
-        double b = now();
-        if (b - a < best)
-            best = b - a;
+    return best_of(title, "line", load);
+}
+
+/* The same in both editions, and the converter both ways. */
+static void measure_editions(const char *title, void (*make)(void), int full)
+{
+    measure(title, make, full);
+    for (int k = 0; k < 2; k++) {
+        best_of(k ? "    converted back" : "    converted", "bytes", convert);
+        bytes = eol2_count(convert());
+        memcpy(text, other, bytes);
+        if (!k)
+            best_of("    in English", "line", load);
     }
-    printf("%-45s %5zu bytes %9.1f us %7.2f ns a byte %7.1f MB/s (answer %02u, line %u)\n", title, bytes, best / 1000, best / (double)bytes,
-           (double)bytes * 1000 / best, (unsigned)eol2_number(answer), (unsigned)eol2_line(answer));
-    return best;
 }
 
 /* The same for a text with macros, and how fast its written-out text is loaded. */
@@ -249,8 +279,8 @@ static void measure_written(const char *title, void (*make)(void))
 
 int main(void)
 {
-    measure("512 statements", statements, 0);
-    measure("512 statements with remarks, a full text", remarks, 1);
+    measure_editions("512 statements", statements, 0);
+    measure_editions("512 statements with remarks, a full text", remarks, 1);
     measure("one long comment", comment, 1);
     measure("128 labels of 60 characters, the last used", labels, 0);
     measure("512 instructions, each with the last label", uses, 0);
