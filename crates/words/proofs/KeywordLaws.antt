@@ -13,7 +13,7 @@ use Rattle.lists.specs.Quoted.{bytes}
 use Rattle.lists.specs.TableLaws.{below, beq-eq, Missed}
 use Rattle.syntax.specs.Statements as Spec
 use Rattle.syntax.specs.Statements.{editions, keywords, words-of, own, same-keyword}
-use Rattle.words.specs.Keywords.{keyword-by, told, known, word-at, place-in, meanings, keyword-at, shared, slot, in-a-row, beginnings, guesses, guess, of-row, In-row}
+use Rattle.words.specs.Keywords.{keyword-by, told, known, word-at, place-in, other-word, meanings, keyword-at, shared, slot, in-a-row, beginnings, guesses, guess, of-row, In-row}
 use Rattle.words.specs.declared.Keyword.{Keyword}
 use borrow.Author.Tests.{lt-ltb, le-ltb}
 use Rattle.layout.specs.CellLaws.{found}
@@ -349,6 +349,21 @@ module _ (w : List ℕ) (j : ℕ) (p : j ≡ place-in false w) where
       let u : any (sameBytes w) (words-of true) ≡ ltb i 46 = has-place true w ∙ ap (λ (n : ℕ). ltb n 46) (sym i-is) in
       let v : k ≡ told (keyword-by w) = k-is ∙ ap keyword-at i-is ∙ sym (ap told (keyword-later w t)) in
       rw (t, u, v, and-true (ltb i 46)) refl
+
+-- a word in the other edition
+module _ (w : List ℕ) {j : ℕ} (p : j ≡ place-in false w) where
+  pub other-english : j < 46 → word-at true j ≡ other-word w
+  unfolding other-word
+  other-english h = rw (← p, lt-ltb j 46 h) refl
+
+  module _ (l : 46 ≤ j) {k : ℕ} (q : k ≡ place-in true w) where
+    pub other-polish : k < 46 → word-at false k ≡ other-word w
+    unfolding other-word
+    other-polish h = rw (← p, le-ltb j 46 l, ← q, lt-ltb k 46 h) refl
+
+    pub other-none : 46 ≤ k → w ≡ other-word w
+    unfolding other-word
+    other-none h = rw (← p, le-ltb j 46 l, ← q, le-ltb k 46 h) refl
 
 -- "SEKCJA or its English word chooses": of the two words the English edition's own one is SECTION
 chosen : Bool → ℕ → Bool

@@ -60,6 +60,11 @@ keyword-at j = told (getD meanings j Spec.Keyword.unknown)
 abbrev pub shared : ℕ → Bool
 shared j = eqb j 2 || eqb j 45
 
+-- a word in the other edition: that of its place there; a word of no edition is itself
+unfoldable pub other-word : List ℕ → List ℕ
+other-word w =
+    cond (ltb (place-in false w) 46) (word-at true (place-in false w)) (cond (ltb (place-in true w) 46) (word-at false (place-in true w)) w)
+
 -- ---- the code's tables
 
 -- A number from a word's length and letters: with it the code guesses the one place that the word may have in an edition

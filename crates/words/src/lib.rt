@@ -2,11 +2,14 @@
 ghost use mathlib.Core.Path.{_≡_};
 ghost use mathlib.Core.Bool.{true, false, cond, _||_};
 ghost use Prim.Native.Nat.{_+_, _-_, _*_, _≤_, _<_};
+ghost use lib.ListN.{length};
+ghost use Rattle.appending.specs.Appending.{Appends};
 ghost use Rattle.characters.specs.Characters.{isCapital, isDigit};
 ghost use Rattle.language.specs.Program.{identifier};
 ghost use Rattle.lists.specs.Lists.{among, sameBytes};
 ghost use Rattle.words.specs.Words.{class-letter, is-class, class-of, capped, beyond, size-of, plus, minus, numeral-of, letter-at, reach, indexed-of};
-ghost use Rattle.words.specs.Keywords.{known, keyword-at, shared, place-in, slot, guess, guesses, of-row, In-row, Lent};
+ghost use Rattle.words.specs.Keywords.{known, keyword-at, shared, word-at, place-in, other-word, slot, guess, guesses, of-row, In-row, Lent};
+use appending::append;
 use language::Machine;
 
 // How many pairs of words the two editions have.
@@ -465,4 +468,44 @@ pub fn keyword_of(w: &[u8]) -> Known
         polish: false,
         english: k < PAIRS,
     }
+}
+
+// Appends the word at place j of a row of words.
+fn append_at(row: &[u8], starts: &[u8], j: usize, out: &mut [u8], at: usize) -> usize
+    requires { ⌜ In-row j (now row) (now starts) × (length (now out) < 4294967296) ⌝ }
+    ensures { λ r. ⌜ Appends (now (out .entry)) at (of-row j (now (row .entry)) (now (starts .entry))) r (now (out .exit)) ⌝ }
+{
+    let a = wide(starts[j]);
+    let e = wide(starts[j + 1]);
+    append(out, at, &row[a..e])
+}
+
+fn append_polish(j: u8, out: &mut [u8], at: usize) -> usize
+    requires { ⌜ (j < 46) × (length (now out) < 4294967296) ⌝ }
+    ensures { λ r. ⌜ Appends (now (out .entry)) at (word-at false j) r (now (out .exit)) ⌝ }
+{
+    append_at(&POLISH, &POLISH_STARTS, wide(j), out, at)
+}
+
+fn append_english(j: u8, out: &mut [u8], at: usize) -> usize
+    requires { ⌜ (j < 46) × (length (now out) < 4294967296) ⌝ }
+    ensures { λ r. ⌜ Appends (now (out .entry)) at (word-at true j) r (now (out .exit)) ⌝ }
+{
+    append_at(&ENGLISH, &ENGLISH_STARTS, wide(j), out, at)
+}
+
+// Appends what a word is in the other edition: the word that has its place there. A word of no edition is itself.
+pub fn append_other(w: &[u8], out: &mut [u8], at: usize) -> usize
+    requires { ⌜ length (now out) < 4294967296 ⌝ }
+    ensures { λ r. ⌜ Appends (now (out .entry)) at (other-word (now (w .entry))) r (now (out .exit)) ⌝ }
+{
+    let j = polish_place(w);
+    if j < PAIRS {
+        return append_english(j, out, at);
+    }
+    let k = english_place(w);
+    if k < PAIRS {
+        return append_polish(k, out, at);
+    }
+    append(out, at, w)
 }
