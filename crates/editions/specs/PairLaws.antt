@@ -97,7 +97,7 @@ all-any f w (v ∷ ws) h e = go (sameBytes w v) refl e (all-any f w ws (all-tail
     go false q k ih = ih k
 
 module _ (w : List ℕ) where
-  none-beside : (rs : List (String × String × Keyword))
+  pub none-beside : (rs : List (String × String × Keyword))
       → any (sameBytes w) (map (λ r. bytes (r .0)) rs) ≡ false → any (sameBytes w) (map (λ r. bytes (r .1)) rs) ≡ false
       → each (λ r. beside w (bytes (r .0)) (bytes (r .1))) rs ≡ []
   none-beside [] g h = refl

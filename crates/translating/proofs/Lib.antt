@@ -1,0 +1,2 @@
+mod Pairs
+mod Passes
