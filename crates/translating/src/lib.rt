@@ -1,13 +1,16 @@
 // The converter: an accepted section in the other edition, "keyword by keyword, leaving labels, texts and comments".
 ghost use mathlib.Core.Path.{_≡_};
 ghost use mathlib.Core.List.{[]};
-ghost use Prim.Native.Nat.{_<_};
+ghost use mathlib.Core.Bool.{true};
+ghost use Prim.Native.Nat.{_≤_, _<_};
 ghost use lib.ListN.{length};
 ghost use Rattle.appending.specs.Appending.{Written};
-ghost use Rattle.editions.specs.Convert.{respelled};
+ghost use Rattle.calls.specs.Filling.{Gives};
+ghost use Rattle.editions.specs.Convert.{respelled, convertOf};
+ghost use Rattle.language.specs.Limits as limit;
 ghost use Rattle.lexer.specs.Tokens.{item-of};
 ghost use Rattle.syntax.specs.Statements.{is-operator};
-ghost use Rattle.translating.specs.Translating.{Passable, Passed};
+ghost use Rattle.translating.specs.Translating.{taken, Passable, Passed};
 use appending::append;
 use language::Machine;
 use lexer::Token;
@@ -17,6 +20,12 @@ use scanner::END;
 use scanner::NOTHING;
 use scanner::WORD;
 use words::append_other;
+
+// A number, and how many bytes were written.
+pub struct Filled {
+    pub number: u8,
+    pub count: u32,
+}
 
 // How far a text is read and written: the place from which the next item is sought, whether the operator of the statement there is still to come, the
 // place up to which all is written, and how many bytes were.
@@ -82,4 +91,59 @@ fn respell(text: &[u8], made: &mut [u8]) -> usize
         }
         p = passed(text, t, p, made);
     }
+}
+
+// Whether a text loads and has no macro list. As it stands, one with a macro list is refused.
+fn is_taken(text: &[u8]) -> bool
+    requires { ⌜ length (now text) ≤ limit.text ⌝ }
+    ensures { λ r. ⌜ r ≡ taken (now (text .entry)) ⌝ }
+{
+    let mut table = [0u32; Machine::TABLE];
+    let r = loading::load_typed(text, &mut table);
+    r.number == 80
+}
+
+// Of a text that is taken. The buffer is written last: where there is no room it stays.
+fn turn(text: &[u8], out: &mut [u8]) -> Filled
+    requires { ⌜ taken (now text) ≡ true ⌝ }
+    ensures { λ r. ⌜ Gives (convertOf (length (now (out .entry))) (now (text .entry))) (r .number) (r .count) (now (out .entry)) (now (out .exit)) ⌝ }
+{
+    let mut made = [0u8; Machine::TEXT];
+    let n = respell(text, &mut made);
+    if Machine::TEXT < n {
+        return Filled {
+            number: 67,
+            count: 0,
+        };
+    }
+    if out.len() < n {
+        return Filled {
+            number: 67,
+            count: 0,
+        };
+    }
+    cells::put(out, 0, &made[..n]);
+    Filled {
+        number: 80,
+        count: n as u32,
+    }
+}
+
+// "does the text load, has it no macro list, and does the result fit the lent buffer and 32,768 bytes?"
+pub fn convert(text: &[u8], out: &mut [u8]) -> Filled
+    ensures { λ r. ⌜ Gives (convertOf (length (now (out .entry))) (now (text .entry))) (r .number) (r .count) (now (out .entry)) (now (out .exit)) ⌝ }
+{
+    if Machine::TEXT < text.len() {
+        return Filled {
+            number: 67,
+            count: 0,
+        };
+    }
+    if !is_taken(text) {
+        return Filled {
+            number: 67,
+            count: 0,
+        };
+    }
+    turn(text, out)
 }
