@@ -5,7 +5,7 @@ use mathlib.Core.List.{List, [], _++_}
 use Prim.Native.Nat.{ℕ, _+_, _≤_, _<_}
 use native.Mathlib.Omega.{arith}
 use lib.Dec.{leb}
-use lib.ListN.{length, take, length-append}
+use lib.ListN.{length, length-append}
 use borrow.Author.Tests.{leb-true, leb-false}
 use Rattle.appending.specs.Appending.{Written, Appends}
 

@@ -4,6 +4,8 @@ ghost use mathlib.Core.Bool.{cond};
 ghost use mathlib.Core.List.{[], _∷_};
 ghost use lib.ListN.{length};
 ghost use Rattle.calls.specs.Calls.{packed, startOf, runOf};
+ghost use Rattle.calls.specs.Filling.{Fills};
+ghost use Rattle.editions.specs.Convert.{convertOf};
 ghost use Rattle.layout.specs.Table.{good-table};
 ghost use Rattle.machine.specs.WellFormed.{good-inputs};
 ghost use Rattle.macros.specs.Load.{loadIn};
@@ -24,6 +26,15 @@ pub extern "C" fn eol2_load(text: &[u8], table: &mut [u32]) -> u64
 {
     let r = macro_loading::load(text, table);
     packed(r.number, r.line)
+}
+
+// The number, and how many bytes of the buffer are the text in the other edition: "67, with the buffer unchanged; else its rest stays".
+#[no_mangle]
+pub extern "C" fn eol2_convert(text: &[u8], out: &mut [u8]) -> u64
+    ensures { λ r. ⌜ Fills (convertOf (length (now (out .entry))) (now (text .entry))) r (now (out .entry)) (now (out .exit)) ⌝ }
+{
+    let r = translating::convert(text, out);
+    packed(r.number, r.count)
 }
 
 // The number of the first question answered no: 62 of the table, then 61 of the inputs; 0 where there is none.

@@ -6,12 +6,12 @@ use Prim.Native.Nat.{ℕ, _+_, _≤_, _<_}
 use native.Mathlib.Omega.{arith}
 use lib.Dec.{eqb}
 use lib.ListN.{length, take, drop}
-use borrow.Author.Tests.{eqb-true, le-leb, lt-leb}
+use borrow.Author.Tests.{eqb-true, lt-leb}
 use Rattle.appending.specs.Appending.{Written}
 use Rattle.appending.specs.AppendingLaws.{written-beyond, written-within}
 use Rattle.calls.specs.Calls.{load-number}
-use Rattle.calls.specs.Filling.{Filling, filled-in, Gives}
-use Rattle.calls.specs.Filling.Filling.{kept, fills}
+use Rattle.calls.specs.Filling.{filled-in, Gives}
+use Rattle.calls.specs.Filling.Filling.{kept}
 use Rattle.calls.specs.LoadLaws.{text-listed, listed-accepted}
 use Rattle.cells.specs.Cells.{pasted}
 use Rattle.editions.specs.AnswerLaws.{loads-by, unloaded-67, macros-67, narrow-67, long-67, fitting-80}
@@ -25,7 +25,6 @@ use Rattle.macros.specs.Marks.{has-macros}
 use Rattle.syntax.specs.Ending.{last-place}
 use Rattle.syntax.specs.Items.{lines-of}
 use Rattle.syntax.specs.LineLaws.{text-lined}
-use Rattle.syntax.specs.Load as spec
 use Rattle.syntax.specs.Load.{load-typed}
 use Rattle.translating.specs.Translating.{taken}
 

@@ -10,7 +10,7 @@ use lib.Seq.{take-length}
 use borrow.Author.Tests.{eq-eqb, ne-eqb, eqb-true}
 use Rattle.lists.specs.Lists.{filled}
 use Rattle.lists.specs.TableLaws.{below, beq-eq}
-use Rattle.syntax.specs.Items.{Sort, Item, is, same-sort}
+use Rattle.syntax.specs.Items.{is, same-sort}
 use Rattle.syntax.specs.Items.Sort.{word, colon, end}
 use Rattle.syntax.specs.Statements.{is-operator}
 use Rattle.appending.specs.Appending.{Written, Appends}

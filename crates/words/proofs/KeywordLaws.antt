@@ -12,7 +12,7 @@ use Rattle.lists.specs.Lists.{any, ahead, sameBytes}
 use Rattle.lists.specs.Quoted.{bytes}
 use Rattle.lists.specs.TableLaws.{below, beq-eq, Missed}
 use Rattle.syntax.specs.Statements as Spec
-use Rattle.syntax.specs.Statements.{editions, keywords, words-of, own, same-keyword}
+use Rattle.syntax.specs.Statements.{editions, words-of, own, same-keyword}
 use Rattle.words.specs.Keywords.{keyword-by, told, known, word-at, place-in, other-word, meanings, keyword-at, shared, slot, in-a-row, beginnings, guesses, guess, of-row, In-row}
 use Rattle.words.specs.declared.Keyword.{Keyword}
 use borrow.Author.Tests.{lt-ltb, le-ltb}

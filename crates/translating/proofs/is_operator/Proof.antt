@@ -1,5 +1,4 @@
 -- `translating::is_operator` meets its contract.
-use borrow.Author.Needs.{needs}
 use Rattle.translating.proofs.Passes.{operator-by}
 use Rattle.translating.proofs.is_operator.Statement.{statement}
 use Rattle.translating.proofs.is_operator.Tie as tie

@@ -1,5 +1,4 @@
 -- `translating::respell` meets its contract. The invariant: the text is read and written as far as p tells.
-use borrow.Author.Needs.{needs}
 use native.Mathlib.Omega.{arith}
 use mathlib.Core.Path.{_≡_, refl, _∙_}
 use Prim.Native.Nat.{_-_}
