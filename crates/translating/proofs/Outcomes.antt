@@ -1,6 +1,6 @@
 -- What the converter answers, way by way.
 use mathlib.Core.Path.{_≡_, refl, ap, sym, subst, _∙_}
-use mathlib.Core.Bool.{Bool, true, false, not, _&&_, true≢false, false≢true}
+use mathlib.Core.Bool.{Bool, true, false, not, _&&_, and-true, and-false, true≢false, false≢true}
 use mathlib.Core.List.{List, _++_}
 use Prim.Native.Nat.{ℕ, _+_, _≤_, _<_}
 use native.Mathlib.Omega.{arith}
@@ -30,14 +30,6 @@ use Rattle.translating.specs.Translating.{taken}
 
 -- ---- "does the text load, has it no macro list"
 
-no-second : (a : Bool) → false ≡ (a && false)
-no-second true = refl
-no-second false = refl
-
-and-true : (a : Bool) → a ≡ (a && true)
-and-true true = refl
-and-true false = refl
-
 -- a text that loads as it stands has no macro list, and one without a macro list loads as it stands
 module _ (s : List ℕ) (short : length s ≤ limit.text) where
   typed-80 : eqb (load-number (load-typed s)) 80 ≡ taken s
@@ -50,9 +42,9 @@ module _ (s : List ℕ) (short : length s ≤ limit.text) where
       listed e false q = refl
 
       go : (b : Bool) → has-macros s ≡ b → eqb (load-number (load-typed s)) 80 ≡ taken s
-      go true e = listed e (eqb (load-number (load-typed s)) 80) refl ∙ no-second (loads (loadOf s)) ∙ ap (λ b. loads (loadOf s) && not b) (sym e)
+      go true e = listed e (eqb (load-number (load-typed s)) 80) refl ∙ sym (and-false (loads (loadOf s))) ∙ ap (λ b. loads (loadOf s) && not b) (sym e)
       go false e =
-          ap (λ l. eqb (load-number l) 80) (sym (plain-loads limit.table s (omega arith) short e)) ∙ sym (loads-by s) ∙ and-true (loads (loadOf s))
+          ap (λ l. eqb (load-number l) 80) (sym (plain-loads limit.table s (omega arith) short e)) ∙ sym (loads-by s) ∙ sym (and-true (loads (loadOf s)))
           ∙ ap (λ b. loads (loadOf s) && not b) (sym e)
 
   pub taken-by : {c d : List ℕ} {r : Loaded} → Leaves (load-typed s) c r d → eqb (r .number) 80 ≡ taken s

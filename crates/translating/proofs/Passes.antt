@@ -1,16 +1,15 @@
 -- From item to item: what is made grows, and what is still to be written shrinks.
 use mathlib.Core.Path.{_≡_, refl, ap, sym, subst, _∙_}
-use mathlib.Core.Bool.{Bool, true, false, cond, not, _&&_, _||_, Bool·beq, false≢true}
+use mathlib.Core.Bool.{Bool, true, false, cond, not, _&&_, _||_, false≢true}
 use mathlib.Core.List.{List, [], _∷_, _++_, append-assoc}
 use Prim.Native.Nat.{ℕ, _+_, _-_, _≤_, _<_}
 use native.Mathlib.Omega.{arith}
 use lib.Dec.{eqb}
 use lib.ListN.{length, take, drop, length-take, length-drop}
 use lib.Seq.{take-length}
-use borrow.Author.Tests.{eq-eqb, ne-eqb, eqb-true}
+use borrow.Author.Tests.{eq-eqb, ne-eqb, eqb-true, eqb-false}
 use Rattle.lists.specs.Lists.{filled}
-use Rattle.lists.specs.TableLaws.{below, beq-eq}
-use Rattle.syntax.specs.Items.{is, same-sort}
+use Rattle.syntax.specs.Items.{Sort, sort-number, same-sort}
 use Rattle.syntax.specs.Items.Sort.{word, colon, end}
 use Rattle.syntax.specs.Statements.{is-operator}
 use Rattle.appending.specs.Appending.{Written, Appends}
@@ -18,6 +17,7 @@ use Rattle.appending.specs.AppendingLaws.{written-none, written-more}
 use Rattle.editions.specs.Convert.{respell, respelled}
 use Rattle.editions.specs.Passing.{remaining, is-awaited, awaited-after, between}
 use Rattle.editions.specs.PassingLaws.{between-joined, between-last, remaining-all, remaining-last, item-stays, operator-turned}
+use Rattle.lexer.proofs.Finding.{number-of-sort}
 use Rattle.lexer.specs.Tokens.{part, sort-at, chars-of, item-of, items-from, Next-token}
 use Rattle.lexer.specs.declared.Token.{Token}
 use Rattle.words.specs.Keywords.{other-word}
@@ -27,17 +27,18 @@ use Rattle.translating.specs.declared.Pass.{Pass}
 
 -- ---- sorts by their numbers
 
-sort-colon : (k : ℕ) → k < 6 → same-sort colon (sort-at k) ≡ eqb k 2
-sort-colon k h = beq-eq (same-sort colon (sort-at k)) (eqb k 2) (below (λ j. Bool·beq (same-sort colon (sort-at j)) (eqb j 2)) 6 tt k h)
+swapped : (m n : ℕ) → eqb m n ≡ eqb n m
+swapped m n = go (eqb m n) refl
+  where
+    go : (b : Bool) → eqb m n ≡ b → eqb m n ≡ eqb n m
+    go true e = e ∙ sym (eq-eqb n m (sym (eqb-true m n e)))
+    go false e = e ∙ sym (ne-eqb n m (λ q. eqb-false m n e (sym q)))
 
-sort-word : (k : ℕ) → k < 6 → same-sort word (sort-at k) ≡ eqb k 1
-sort-word k h = beq-eq (same-sort word (sort-at k)) (eqb k 1) (below (λ j. Bool·beq (same-sort word (sort-at j)) (eqb j 1)) 6 tt k h)
-
-sort-end : (k : ℕ) → k < 6 → same-sort end (sort-at k) ≡ eqb k 3
-sort-end k h = beq-eq (same-sort end (sort-at k)) (eqb k 3) (below (λ j. Bool·beq (same-sort end (sort-at j)) (eqb j 3)) 6 tt k h)
+sort-is : (q : Sort) (k : ℕ) → k < 6 → same-sort q (sort-at k) ≡ eqb k (sort-number q)
+sort-is q k h = rw (number-of-sort k h) (swapped (sort-number q) k)
 
 pub operator-by : (t : Token) → t .sort < 6 → (not (eqb (t .sort) 2) && eqb (t .colon) 0) ≡ is-operator (item-of [] t)
-operator-by t h = rw (sort-colon (t .sort) h) (go (eqb (t .sort) 2) (eqb (t .colon) 0))
+operator-by t h = rw (sort-is colon (t .sort) h) (go (eqb (t .sort) 2) (eqb (t .colon) 0))
   where
     go : (a b : Bool) → (not a && b) ≡ not (a || filled (cond b [] (t .colon ∷ [])))
     go true b = refl
@@ -71,10 +72,10 @@ module _ {s : List ℕ} {t : Token} {p : Pass} {c : List ℕ} (h : Passable s t 
   first = h .found .is ∙ rw (ne-eqb (t .sort) 0 (h .item)) refl
 
   awaits : is-awaited (p .awaited) (item-of s t) ≡ (p .awaited && o && eqb (t .sort) 1)
-  awaits = rw (operates, sort-word (t .sort) (h .found .stands .sorted)) refl
+  awaits = rw (operates, sort-is word (t .sort) (h .found .stands .sorted)) refl
 
   awaits-after : (eqb (t .sort) 3 || (p .awaited && not o)) ≡ awaited-after (p .awaited) (item-of s t)
-  awaits-after = rw (operates, sort-end (t .sort) (h .found .stands .sorted)) refl
+  awaits-after = rw (operates, sort-is end (t .sort) (h .found .stands .sorted)) refl
 
   onward : p .next ≤ t .next
   onward = omega (arith, h .found .from, h .found .stands .own, h .found .stands .behind)
