@@ -11,6 +11,7 @@ ghost use Rattle.machine.specs.WellFormed.{good-inputs};
 ghost use Rattle.macros.specs.Load.{loadIn};
 ghost use Rattle.interpreter.specs.Answers.{Answers, Answers-load};
 use language::Machine;
+use loading::Loaded;
 
 // Number and value in one.
 fn packed(number: u8, value: u32) -> u64
@@ -24,7 +25,7 @@ fn packed(number: u8, value: u32) -> u64
 pub extern "C" fn eol2_load(text: &[u8], table: &mut [u32]) -> u64
     ensures { λ r. ⌜ Answers-load (loadIn (length (now (table .entry))) (now (text .entry))) (now (table .entry)) r (now (table .exit)) ⌝ }
 {
-    let r = macro_loading::load(text, table);
+    let r: Loaded = macro_loading::load(text, table);
     packed(r.number, r.line)
 }
 
