@@ -136,7 +136,7 @@ unfolding inner
 inner-expands ms zero env ps h = absurd (h refl)
 inner-expands ms (suc l) env ps h = let e : suc l - 1 ≡ l = omega arith in rw e
 
-is-T : (b : Bool) → b ≡ true → T b
+pub is-T : (b : Bool) → b ≡ true → T b
 is-T true e = tt
 is-T false e = absurd (false≢true e)
 

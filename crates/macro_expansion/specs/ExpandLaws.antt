@@ -1,6 +1,6 @@
 -- A body with its calls: each call's body is written with one level less.
 use mathlib.Core.Path.{_≡_, refl, sym, ap, _∙_}
-use mathlib.Core.Bool.{true, false}
+use mathlib.Core.Bool.{Bool, true, false}
 use mathlib.Core.List.{List, [], map}
 use Prim.Native.Nat.{ℕ, suc, _+_, _-_, _≤_, _<_}
 use native.Mathlib.Omega.{arith}
@@ -9,13 +9,15 @@ use lib.Seq.{getD-set-same, take-set-le, take-take}
 use Rattle.macros.specs.Expansion.{Writing, just, followed-by, filled-in, expand, levels}
 use Rattle.macro_code.specs.Code.{high, low, size-at, call-in, body-in, macros-in, arguments-in, first-change, change-count}
 use Rattle.macro_code.specs.Places as place
+use Rattle.macro_memory.specs.Memory.{entered-writes, Remembers, Stored}
+use Rattle.macro_memory.specs.MemoryLaws.{absorbed-after}
 use Rattle.macro_values.specs.declared.Written.{Written}
 use Rattle.macro_values.specs.WritingLaws.{wrote-both}
 use Rattle.macro_values.specs.Wrote.{Wrote}
 use Rattle.macro_expansion.specs.declared.Level.{Level}
 use Rattle.macro_expansion.specs.declared.Rest.{Rest}
 use Rattle.macro_expansion.specs.declared.Paused.{Paused}
-use Rattle.macro_expansion.specs.Expanding.{change-writes, Enters, arguments-at, entered-writes, rest-writes, pause-writes, Ran, Whole, Behind, Fits, Expands}
+use Rattle.macro_expansion.specs.Expanding.{change-writes, Enters, arguments-at, rest-writes, pause-writes, Ran, Whole, Behind, Fits, Expands, Keeps}
 use Rattle.macro_expansion.specs.WalkLaws.{followed-assoc, followed-none, none-followed, expand-walks, arguments-same}
 
 -- a body is the rest from its beginning
@@ -38,9 +40,9 @@ pub run-behind : (s c f calls : List ℕ) (at : Level) (x : Paused) (r : Rest) (
     (rest-writes s c f (at .macros) calls (at .left) (low c (x .cell)) (low c (at .cell + place.span-cell)) (x .cell + size-at c (x .cell)) (x .changes - 1)) v e o p
 run-behind s c f calls at x r v e o p w h = rw (w .macros-is, w .left-is, w .stop-is, w .changes-is, w .from-is, w .cell-is) at h
 
-pub fits-rest : (s c f h : List ℕ) (at : Level) (r : Rest) (v : Written) (o : List ℕ) → r .left ≡ at .left → r .macros ≡ at .macros
-    → Fits s c f (at .macros) h (at .left) v o → Fits s c f (r .macros) h (r .left) v o
-fits-rest s c f h at r v o e g k = rw (e, g) k
+pub fits-rest : (s c f h calls : List ℕ) (at : Level) (r : Rest) (v : Written) (o : List ℕ) → r .left ≡ at .left → r .macros ≡ at .macros
+    → Fits s c f (at .macros) h (at .left) calls v o → Fits s c f (r .macros) h (r .left) calls v o
+fits-rest s c f h calls at r v o e g k = rw (e, g) k
 
 -- the arguments within a call that is entered
 module _ (s c calls₀ calls calls₁ : List ℕ) (left i : ℕ) (some : 1 ≤ left) (most : left ≤ levels) (room : levels - left < length calls)
@@ -110,18 +112,37 @@ expand-turn s c f n calls₀ calls calls₁ calls₂ left stop x u v w w′ o q 
       after,
     )
 
--- the body ends
-pub expand-ends : (s c f : List ℕ) (n : ℕ) (calls calls₁ : List ℕ) (left stop k m : ℕ) (u : Writing) (v : Written) (e e′ : Paused) (o q p : List ℕ)
-    → Ran s c f n calls left stop k (expand (macros-in s c f n) left (arguments-at s c calls left) (body-in s c m)) v e o q
-    → Wrote u (e .state) (e′ .state) q p → pause-writes s c f n calls left stop e ≡ followed-by u (pause-writes s c f n calls left stop e′) → e′ .enters ≡ false
-    → take (levels - left) calls₁ ≡ take (levels - left) calls → Expands s c f n calls calls₁ left m v (e′ .state) o p
-expand-ends s c f n calls calls₁ left stop k m u v e e′ o q p run wrote is over stay =
-    let a : expand (macros-in s c f n) left (arguments-at s c calls left) (body-in s c m) ≡ followed-by (run .behind) u =
-    run .is ∙ ap (followed-by (run .behind)) (is ∙ ap (followed-by u) (pause-over s c f n calls left stop e′ over) ∙ followed-none u) in
-    record {
-      wrote = rw a (wrote-both (run .behind) u v (e .state) (e′ .state) o q p (run .wrote) wrote);
-      calls-stay = stay;
-    }
+-- the body ends, and is remembered
+module _ (s c f : List ℕ) (n : ℕ) (calls calls₁ calls₂ : List ℕ) (left stop k m : ℕ) (u : Writing) (v : Written) (e e′ : Paused) (o q p : List ℕ) (steady : Bool)
+    (run : Ran s c f n calls left stop k (expand (macros-in s c f n) left (arguments-at s c calls left) (body-in s c m)) v e o q) (wrote : Wrote u (e .state) (e′ .state) q p)
+    (is : pause-writes s c f n calls left stop e ≡ followed-by u (pause-writes s c f n calls left stop e′)) (over : e′ .enters ≡ false)
+    (stay : take (levels - left) calls₁ ≡ take (levels - left) calls) where
+  abbrev written : List ℕ → Writing
+  written l = expand (macros-in s c f n) left (arguments-at s c l left) (body-in s c m)
+
+  all-written : Wrote (written calls) v (e′ .state) o p
+  all-written =
+      let a : written calls ≡ followed-by (run .behind) u =
+      run .is ∙ ap (followed-by (run .behind)) (is ∙ ap (followed-by u) (pause-over s c f n calls left stop e′ over) ∙ followed-none u) in
+      rw a (wrote-both (run .behind) u v (e .state) (e′ .state) o q p (run .wrote) wrote)
+
+  pub expand-ends : Remembers s c f n calls₁ (e′ .state) → (steady ≡ true → e′ .state .over ≡ false → e′ .state .count ≡ v .count) → Keeps s c calls₁ calls₂ left m steady
+      → Expands s c f n calls calls₂ left m v (e′ .state) o p
+  expand-ends h same keeps =
+      let a : arguments-at s c calls₁ left ≡ arguments-at s c calls left = arguments-same s c calls calls₁ (levels - left) stay in
+      record {
+        wrote = all-written;
+        calls-stay = sym (take-take (levels - left) levels calls₂ (omega arith)) ∙ ap (take (levels - left)) (keeps .calls-stay) ∙ take-take (levels - left) levels calls₁ (omega arith) ∙ stay;
+        remembers = keeps .remembers f n (e′ .state) h (λ z. rw a (absorbed-after (written calls) v (e′ .state) o p all-written (same z)));
+      }
+
+pub keeps-none : (s c calls : List ℕ) (left m : ℕ) (steady : Bool) → Keeps s c calls calls left m steady
+keeps-none s c calls left m steady = record { calls-stay = refl; remembers = λ f n v h k. h }
+
+pub keeps-stored : (s c calls after : List ℕ) (left m : ℕ) (steady : Bool) → steady ≡ true → Stored calls after (left + 1) m → Keeps s c calls after left m steady
+keeps-stored s c calls after left m steady e h =
+    let g : left + 1 - 1 ≡ left = omega arith in
+    record { calls-stay = h .nested; remembers = λ f n v r k. h .remembers s c f n v r (rw g (k e)) }
 
 -- a call alone
 pub change-enters : (s c f : List ℕ) (n : ℕ) (calls calls₁ calls₂ : List ℕ) (left i m : ℕ) (v w w′ : Written) (o q p : List ℕ) → left ≤ levels → levels - left < length calls

@@ -14,6 +14,7 @@ use Rattle.macro_code.specs.Known.{Heights, Singles}
 use Rattle.macro_code.specs.Places as place
 use Rattle.statements.specs.declared.Fault as told
 use Rattle.statements.specs.declared.Fault.the-variants.{Clear, At}
+use Rattle.macro_memory.specs.Memory.{reach, memory, entered-writes, Absorbed, Remembers}
 use Rattle.macro_values.specs.Wrote.{Wrote}
 use Rattle.macro_values.specs.declared.Written.{Written}
 use Rattle.macro_expansion.specs.declared.Level.{Level}
@@ -25,10 +26,6 @@ use Rattle.macro_expansion.specs.declared.Paused.{Paused}
 unfoldable pub inner : List Macro → ℕ → List (List ℕ) → List Piece → Writing
 inner ms zero = λ env ps. too-deep
 inner ms (suc l) = expand ms l
-
--- the cells of changes are below this number
-abbrev pub reach : ℕ
-reach = 549755813888
 
 abbrev pub is-at : told.Fault → Bool
 is-at Clear = false
@@ -57,11 +54,6 @@ abbrev pub change-writes : List ℕ → List ℕ → List ℕ → ℕ → List �
 change-writes s c f n calls left i =
     let ms = macros-in s c f n in
     walk ms (inner ms left) (arguments-at s c calls left) (change-in s c i .pieces)
-
--- the body of a call, which is entered
-abbrev pub entered-writes : List ℕ → List ℕ → List ℕ → ℕ → List ℕ → ℕ → ℕ → ℕ → Writing
-entered-writes s c f n calls left i m =
-    expand (macros-in s c f n) (left - 1) (map (filled-in (arguments-at s c calls left)) (call-in s c i .args)) (body-in s c m)
 
 -- a call that is to be entered, by the cell of its macro
 pub record Enters (s c f : List ℕ) (n : ℕ) (calls : List ℕ) (left i m : ℕ) : Type 0 where
@@ -139,11 +131,20 @@ pub record Behind (c : List ℕ) (at : Level) (e : Paused) (r : Rest) : Type 0 w
   pub near : Near r
 
 -- with so many levels left, in rows that can hold it
-pub record Fits (s c f : List ℕ) (n : ℕ) (h : List ℕ) (left : ℕ) (v : Written) (o : List ℕ) : Type 0 where
+pub record Fits (s c f : List ℕ) (n : ℕ) (h : List ℕ) (left : ℕ) (calls : List ℕ) (v : Written) (o : List ℕ) : Type 0 where
   pub known : Known s c f n h
   pub most : left ≤ levels
   pub count : v .count ≤ length o
+  pub room : memory ≤ length calls
+  pub remembers : Remembers s c f n calls v
 
 pub record Expands (s c f : List ℕ) (n : ℕ) (calls after : List ℕ) (left m : ℕ) (v r : Written) (o p : List ℕ) : Type 0 where
   pub wrote : Wrote (expand (macros-in s c f n) left (arguments-at s c calls left) (body-in s c m)) v r o p
   pub calls-stay : take (levels - left) after ≡ take (levels - left) calls
+  pub remembers : Remembers s c f n after r
+
+-- a body is remembered, if it left the row as it was, or over
+pub record Keeps (s c calls after : List ℕ) (left m : ℕ) (steady : Bool) : Type 0 where
+  pub calls-stay : take levels after ≡ take levels calls
+  pub remembers : (f : List ℕ) (n : ℕ) (v : Written) → Remembers s c f n calls v
+      → (steady ≡ true → Absorbed (expand (macros-in s c f n) left (arguments-at s c calls left) (body-in s c m)) v) → Remembers s c f n after v

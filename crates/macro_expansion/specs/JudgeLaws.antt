@@ -19,6 +19,8 @@ use Rattle.statements.specs.StatementAt.{fault-of}
 use Rattle.statements.specs.declared.Fault as told
 use Rattle.statements.specs.declared.Fault.the-variants.{Clear, At}
 use Rattle.syntax.specs.Verdict.{lowest}
+use Rattle.macro_memory.specs.Memory.{entered-writes, Found, Remembers}
+use Rattle.macro_memory.specs.MemoryLaws.{absorbed-writes}
 use Rattle.macro_values.specs.declared.Written.{Written}
 use Rattle.macro_values.specs.WritingLaws.{lower-none-right, wrote-none, wrote-over}
 use Rattle.macro_values.specs.Wrote.{Wrote}
@@ -26,6 +28,10 @@ use Rattle.macro_expansion.specs.declared.Step.{Step}
 use Rattle.macro_expansion.specs.Expanding.{inner, is-at, arguments-at, change-writes, Known, Judged}
 use Rattle.macro_expansion.specs.CallLaws.{unknown-writes, faulty-writes, right-writes, uneven-alone, no-uneven, some-uneven, wrote-faults, wrote-deep, inner-deep, inner-expands, quiet-writes, fixed-writes}
 use Rattle.macro_expansion.specs.WalkLaws.{walk-one}
+
+pub not-zero : (l : ℕ) → (l ≡ 0 → ⊥) → 1 ≤ l
+not-zero zero e = absurd (e refl)
+not-zero (suc l) e = omega arith
 
 at-some : (f : told.Fault) → is-at f ≡ true → (p : ℕ) × (f ≡ At p)
 at-some Clear e = absurd (false≢true e)
@@ -117,11 +123,7 @@ module _ (s c f : List ℕ) (n : ℕ) (calls : List ℕ) (left i : ℕ) (v : Wri
           entering = right ∙ inner-expands (macros-in s c f n) left given (body-in s c m) some ∙ ap (λ j. expand (macros-in s c f n) (left - 1) given (body-in s c j)) cell
 
           below : left - 1 < levels
-          below = let y : 1 ≤ left = pos left some in omega arith
-            where
-              pos : (l : ℕ) → (l ≡ 0 → ⊥) → 1 ≤ l
-              pos zero y = absurd (y refl)
-              pos (suc l) y = omega arith
+          below = let y : 1 ≤ left = not-zero left some in omega arith
 
           -- it is quiet
           pub judge-quiet : getD h k 0 < left → (r : Step) → r .state ≡ v → r .enters ≡ false → Judged s c f n calls left i v r
@@ -140,6 +142,12 @@ module _ (s c f : List ℕ) (n : ℕ) (calls : List ℕ) (left i : ℕ) (v : Wri
               (λ o l. rw e (wrote-over w v o l (both-left (v .over) (leb left (getD h (n + k) 0)) y)
               (fixed-writes s c f n h (drop n h) (known .heights) k (left - 1) (only .listed) given below (omega arith))))
 
+          -- it is remembered
+          pub judge-found : Found s c calls left i m → Remembers s c f n calls v → (r : Step) → r .state ≡ v → r .enters ≡ false → Judged s c f n calls left i v r
+          judge-found y q r e z =
+              judged-stay (entered-writes s c f n calls left i m) (right ∙ inner-expands (macros-in s c f n) left given (body-in s c m) some) r z
+              (λ o l. rw e (absorbed-writes (entered-writes s c f n calls left i m) v o (y .changes-nothing f n v q) l))
+
           -- it is entered
           pub judge-enters : m < place.half → (r : Step) → r .state ≡ v → r .enters ≡ true → r .body ≡ m → Judged s c f n calls left i v r
           judge-enters y r e z b =
@@ -147,12 +155,8 @@ module _ (s c f : List ℕ) (n : ℕ) (calls : List ℕ) (left i : ℕ) (v : Wri
                 passed = λ a. absurd (true≢false (sym z ∙ a));
                 waits = λ a. e;
                 enters = λ a. record {
-                  deeper = let j = below in omega (arith, pos left some);
+                  deeper = let j = below in omega (arith, not-zero left some);
                   body = rw b y;
                   writes = rw b (right ∙ inner-expands (macros-in s c f n) left given (body-in s c m) some);
                 };
               }
-            where
-              pos : (l : ℕ) → (l ≡ 0 → ⊥) → 1 ≤ l
-              pos zero q = absurd (q refl)
-              pos (suc l) q = omega arith

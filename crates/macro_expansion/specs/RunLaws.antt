@@ -11,12 +11,13 @@ use Rattle.macros.specs.Pieces.{pieces-from}
 use Rattle.macros.specs.Pieces.Piece.{kept, value, called}
 use Rattle.macro_code.specs.Code.{high, low, is-value, is-call, call-in, change-in, changes-in, size-at, macros-in}
 use Rattle.macro_code.specs.Places.{half}
+use Rattle.macro_memory.specs.Memory.{entered-writes}
 use Rattle.macro_values.specs.declared.Written.{Written}
 use Rattle.macro_values.specs.WritingLaws.{wrote-both, wrote-none}
 use Rattle.macro_values.specs.Wrote.{Wrote}
 use Rattle.macro_expansion.specs.declared.Step.{Step}
 use Rattle.macro_expansion.specs.declared.Paused.{Paused}
-use Rattle.macro_expansion.specs.Expanding.{inner, arguments-at, change-writes, entered-writes, rest-writes, pause-writes, Enters, Judged, Met, Ran}
+use Rattle.macro_expansion.specs.Expanding.{inner, arguments-at, change-writes, rest-writes, pause-writes, Enters, Judged, Met, Ran}
 use Rattle.macro_expansion.specs.WalkLaws.{followed-assoc, followed-none, walk-one, walk-kept}
 
 -- a change past the end of the cells is no call

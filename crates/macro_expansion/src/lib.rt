@@ -14,15 +14,15 @@ ghost use Rattle.macro_code.specs.Code.{change-in, call-in};
 ghost use mathlib.Core.Bool.{true, false, _&&_};
 ghost use mathlib.Core.List.{[], _∷_};
 ghost use lib.Dec.{leb};
+ghost use Rattle.macro_memory.specs.Memory.{reach, memory, Found, Remembers};
 ghost use Rattle.macro_values.specs.Wrote.{Wrote};
-ghost use Rattle.macro_expansion.specs.Expanding.{reach, is-at, arguments-at, Short-names, Known, Fits, Judged, Met, Near, Whole, Behind, Ran, Expands, change-writes, rest-writes};
+ghost use Rattle.macro_expansion.specs.Expanding.{is-at, arguments-at, Short-names, Known, Fits, Judged, Met, Near, Whole, Behind, Ran, Expands, Keeps, change-writes, rest-writes};
 use macro_calls::Named;
 use macro_code::CodePlaces;
+use macro_memory::Entered;
+use macro_memory::LEVELS;
 use macro_values::Written;
 use statements::Fault;
-
-// "From level 1 to 16 at most".
-pub const LEVELS: usize = 16;
 
 // Room for a name, more than the 60 bytes that one may have.
 const NAME_ROOM: usize = 64;
@@ -210,6 +210,24 @@ fn is_settled(heights: &[u8], k: usize, left: usize, over: bool) -> bool
     over & (left <= height(heights, k))
 }
 
+// Whether a call is remembered as one that changes nothing. It is looked up only if the macro, whose loose height is at `k`, meets a call by a parameter.
+fn is_done(
+    text: &[u8],
+    code: &[u32],
+    heights: &[u8],
+    calls: &[u32],
+    k: usize,
+    at: Entered,
+) -> bool
+    requires { ⌜ (at .cell < reach) × (1 ≤ at .left) × (at .left ≤ levels) × (at .body < half) × (memory ≤ length (now calls)) ⌝ }
+    ensures { λ r. ⌜ (r ≡ true → Found (now (text .entry)) (now (code .entry)) (now (calls .entry)) (at .left) (at .cell) (at .body)) ⌝ }
+{
+    if at.left <= height(heights, k) {
+        return false;
+    }
+    macro_memory::is_remembered(text, code, calls, at)
+}
+
 // Passes a call, unless it is to be entered: "each called macro in the list once? 64. Are there as many arguments as parameters? 65."
 fn meet_call(
     text: &[u8],
@@ -220,7 +238,7 @@ fn meet_call(
     at: Level,
     v: Written,
 ) -> Step
-    requires { ⌜ (at .cell < reach) × (at .left ≤ levels) × Known (now text) (now code) (now names) (at .macros) (now heights) × (change-in (now text) (now code) (at .cell) .pieces ≡ called (call-in (now text) (now code) (at .cell)) ∷ []) ⌝ }
+    requires { ⌜ (at .cell < reach) × (at .left ≤ levels) × Known (now text) (now code) (now names) (at .macros) (now heights) × (change-in (now text) (now code) (at .cell) .pieces ≡ called (call-in (now text) (now code) (at .cell)) ∷ []) × (memory ≤ length (now calls)) × Remembers (now text) (now code) (now names) (at .macros) (now calls) v ⌝ }
     ensures { λ r. ⌜ Judged (now (text .entry)) (now (code .entry)) (now (names .entry)) (at .macros) (now (calls .entry)) (at .left) (at .cell) v r ⌝ }
 {
     let cell = at.cell;
@@ -244,6 +262,14 @@ fn meet_call(
     if is_settled(heights, at.macros + k, left, v.over) {
         return stay(v);
     }
+    let entered = Entered {
+        cell: cell,
+        left: left,
+        body: body,
+    };
+    if is_done(text, code, heights, calls, at.macros + k, entered) {
+        return stay(v);
+    }
     Step {
         state: v,
         enters: true,
@@ -262,7 +288,7 @@ fn meet(
     at: Level,
     v: Written,
 ) -> Step
-    requires { ⌜ (at .cell < reach) × Fits (now text) (now code) (now names) (at .macros) (now heights) (at .left) v (now out) ⌝ }
+    requires { ⌜ (at .cell < reach) × Fits (now text) (now code) (now names) (at .macros) (now heights) (at .left) (now calls) v (now out) ⌝ }
     ensures { λ r. ⌜ Met (now (text .entry)) (now (code .entry)) (now (names .entry)) (at .macros) (now (calls .entry)) (at .left) (at .cell) v r (now (out .entry)) (now (out .exit)) ⌝ }
 {
     let kind = macro_code::high(code, at.cell + CodePlaces::KIND);
@@ -287,7 +313,7 @@ fn run(
     rest: Rest,
     v: Written,
 ) -> Paused
-    requires { ⌜ Near rest × Fits (now text) (now code) (now names) (rest .macros) (now heights) (rest .left) v (now out) ⌝ }
+    requires { ⌜ Near rest × Fits (now text) (now code) (now names) (rest .macros) (now heights) (rest .left) (now calls) v (now out) ⌝ }
     ensures { λ r. ⌜ Ran (now (text .entry)) (now (code .entry)) (now (names .entry)) (rest .macros) (now (calls .entry)) (rest .left) (rest .stop) (rest .changes) (rest-writes (now (text .entry)) (now (code .entry)) (now (names .entry)) (rest .macros) (now (calls .entry)) (rest .left) (rest .place) (rest .stop) (rest .cell) (rest .changes)) v r (now (out .entry)) (now (out .exit)) ⌝ }
 {
     let mut place = rest.place;
@@ -367,6 +393,27 @@ fn keep_call(calls: &mut [u32], d: usize, cell: usize)
     calls[d] = cell as u32;
 }
 
+// Whether the row is over, or as long as it was.
+fn is_steady(count: usize, r: Written) -> bool
+    ensures { λ s. ⌜ (s ≡ true → r .over ≡ false → r .count ≡ count) ⌝ }
+{
+    if r.over {
+        return true;
+    }
+    r.count == count
+}
+
+// Remembers the body of the innermost call, if it left the row as it was, or over.
+fn keep_body(text: &[u8], code: &[u32], calls: &mut [u32], at: Level, steady: bool)
+    requires { ⌜ (at .cell < half) × (at .left < levels) × (memory ≤ length (now calls)) ⌝ }
+    ensures { λ _. ⌜ Keeps (now (text .entry)) (now (code .entry)) (now (calls .entry)) (now (calls .exit)) (at .left) (at .cell) steady ⌝ }
+{
+    if !steady {
+        return;
+    }
+    macro_memory::remember(text, code, calls, at.left + 1, at.cell);
+}
+
 // Writes a body: recursive expansion; the levels left, 16 at first, fall at each call.
 fn expand_body(
     text: &[u8],
@@ -378,9 +425,10 @@ fn expand_body(
     at: Level,
     v: Written,
 ) -> Written
-    requires { ⌜ (at .cell < half) × (levels ≤ length (now calls)) × Fits (now text) (now code) (now names) (at .macros) (now heights) (at .left) v (now out) ⌝ }
+    requires { ⌜ (at .cell < half) × (at .left < levels) × Fits (now text) (now code) (now names) (at .macros) (now heights) (at .left) (now calls) v (now out) ⌝ }
     ensures { λ r. ⌜ Expands (now (text .entry)) (now (code .entry)) (now (names .entry)) (at .macros) (now (calls .entry)) (now (calls .exit)) (at .left) (at .cell) v r (now (out .entry)) (now (out .exit)) ⌝ }
 {
+    let count = v.count;
     let mut paused = run(text, code, names, heights, calls, out, whole(code, at), v);
     while paused.enters {
         keep_call(calls, LEVELS - at.left, paused.cell);
@@ -402,7 +450,9 @@ fn expand_body(
             written,
         );
     }
-    paused.state
+    let last = paused.state;
+    keep_body(text, code, calls, at, is_steady(count, last));
+    last
 }
 
 // Writes a change, with so many levels left around it.
@@ -416,8 +466,8 @@ pub fn write_change(
     at: Level,
     v: Written,
 ) -> Written
-    requires { ⌜ (at .cell < reach) × (levels ≤ length (now calls)) × Fits (now text) (now code) (now names) (at .macros) (now heights) (at .left) v (now out) ⌝ }
-    ensures { λ r. ⌜ Wrote (change-writes (now (text .entry)) (now (code .entry)) (now (names .entry)) (at .macros) (now (calls .entry)) (at .left) (at .cell)) v r (now (out .entry)) (now (out .exit)) ⌝ }
+    requires { ⌜ (at .cell < reach) × Fits (now text) (now code) (now names) (at .macros) (now heights) (at .left) (now calls) v (now out) ⌝ }
+    ensures { λ r. ⌜ Wrote (change-writes (now (text .entry)) (now (code .entry)) (now (names .entry)) (at .macros) (now (calls .entry)) (at .left) (at .cell)) v r (now (out .entry)) (now (out .exit)) × Remembers (now (text .entry)) (now (code .entry)) (now (names .entry)) (at .macros) (now (calls .exit)) r ⌝ }
 {
     let step = meet(text, code, names, heights, calls, out, at, v);
     let state = step.state;

@@ -13,8 +13,9 @@ ghost use Rattle.macro_section.specs.Origins.{ups, Fillable, Placed, Kep
 ghost use Rattle.macro_section.specs.Long.{Steady, over-at};
 ghost use Rattle.macro_code.specs.Code.{high, changes-in, first-change, change-count};
 use macro_code::CodePlaces;
-use macro_expansion::LEVELS;
 use macro_expansion::Level;
+use macro_memory::LEVELS;
+use macro_memory::MEMORY;
 use macro_values::Written;
 use statements::Fault;
 
@@ -68,6 +69,7 @@ fn section_change(
     code: &[u32],
     names: &[u16],
     heights: &[u8],
+    calls: &mut [u32],
     out: &mut [u8],
     at: Section,
     v: Written,
@@ -75,13 +77,12 @@ fn section_change(
     requires { ⌜ (at .cell < reach) × Known (now text) (now code) (now names) (at .macros) (now heights) × (v .count ≤ length (now out)) ⌝ }
     ensures { λ r. ⌜ Wrote (change-writes (now (text .entry)) (now (code .entry)) (now (names .entry)) (at .macros) [] levels (at .cell)) v r (now (out .entry)) (now (out .exit)) ⌝ }
 {
-    let mut calls = [0u32; LEVELS];
     let level = Level {
         cell: at.cell,
         left: LEVELS,
         macros: at.macros,
     };
-    macro_expansion::write_change(text, code, names, heights, &mut calls, out, level, v)
+    macro_expansion::write_change(text, code, names, heights, calls, out, level, v)
 }
 
 // Writes bytes that stay, and their places.
@@ -144,6 +145,7 @@ pub fn write_section(
     let mut cell = macro_calls::first_change(code, at.cell);
     let mut changes = macro_code::low(code, at.cell + CodePlaces::COUNTS);
     let room = out.len();
+    let mut calls = [0u32; MEMORY];
     let mut w = nothing();
     let mut long = Fault::Clear;
     while changes > 0 {
@@ -153,7 +155,7 @@ pub fn write_section(
             cell: cell,
             macros: at.macros,
         };
-        let next = section_change(text, code, names, heights, out, here, kept);
+        let next = section_change(text, code, names, heights, &mut calls, out, here, kept);
         repeat_place(start as u16, places, kept.count, next);
         let first = over_at(long, w.over, kept.over, place + (room - w.count));
         long = over_at(first, kept.over, next.over, start);

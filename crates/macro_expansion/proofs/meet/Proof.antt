@@ -43,6 +43,8 @@ meet-call-requires c κs = let a = (c .before .before .before .before .before .b
   c .before .before .before .before .before .before .before .before .before .before .pre .1 .known,
   call-piece (now (a .text)) (now (a .code)) (now (a .names)) (a .at .macros) (now (a .calls)) (a .at .left) (a .at .cell)
       (ne-eqb _ _ (λ h. c .before .if1 .left (c .before .before .high .ensures .0 ∙ h))) (eq-eqb _ _ (sym (c .before .before .high .ensures .0) ∙ c .if2 .taken)),
+  c .before .before .before .before .before .before .before .before .before .before .pre .1 .room,
+  c .before .before .before .before .before .before .before .before .before .before .pre .1 .remembers,
 )
 
 returns-2 : tie.Need-returns-2

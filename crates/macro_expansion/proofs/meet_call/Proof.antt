@@ -3,7 +3,7 @@ use denote.Ref.{now}
 use mathlib.Core.Path.{refl, sym, _∙_}
 use native.Mathlib.Omega.{arith}
 use borrow.Author.Tests.{not-true, not-false}
-use Rattle.macro_expansion.specs.JudgeLaws.{judge-unknown, judge-uneven, judge-deep, judge-quiet, judge-settled, judge-enters}
+use Rattle.macro_expansion.specs.JudgeLaws.{judge-unknown, judge-uneven, judge-deep, judge-quiet, judge-settled, judge-found, judge-enters, not-zero}
 use borrow.Author.Needs.{needs}
 use Rattle.macro_expansion.proofs.meet_call.Statement.{statement}
 use Rattle.macro_expansion.proofs.meet_call.Tie as tie
@@ -92,12 +92,28 @@ returns-5 c = let a = (c .before .before .before .before .before .before .before
     (c .before .before .before .before .before .before .before .before .before .count-fault .result) (c .before .before .before .before .before .before .before .before .before .count-fault .ensures .is (now (a .text)))
     (sym (c .before .before .before .before .before .before .before .before .is-at .ensures) ∙ c .before .before .before .before .before .before .before .if2 .left) (c .before .before .before .before .before .before .if3 .left) (sym (c .before .before .is-settled .ensures) ∙ c .before .if5 .taken) (c .stay5 .result) (c .stay5 .ensures .0) (c .stay5 .ensures .1)
 
+add-is-done : tie.Need-add-is-done
+add-is-done c = omega (arith, c .before .before .before .before .before .before .before .before .before .before .before .before .before .called-macro .ensures .only (not-false _ (c .before .before .before .before .before .before .before .before .before .before .before .if1 .left)) .listed, c .before .before .before .before .before .before .before .before .before .before .before .before .before .before .before .before .before .before .before .pre .2 .few)
+
+is-done-requires : tie.Need-is-done-requires
+is-done-requires c κs = (c .before .before .before .before .before .before .before .before .before .before .before .before .before .before .before .before .before .before .before .pre .0, not-zero _ (c .before .before .before .before .before .before .if3 .left), c .before .before .before .before .before .before .before .before .before .before .before .before .before .before .before .before .before .before .before .pre .1, c .before .before .before .before .before .before .before .before .before .before .number-at .ensures .1, c .before .before .before .before .before .before .before .before .before .before .before .before .before .before .before .before .before .before .before .pre .4)
+
+stay-requires-6 : tie.Need-stay-requires-6
+stay-requires-6 c κs = search needs
+
 returns-6 : tie.Need-returns-6
-returns-6 c = let a = (c .before .before .before .before .before .before .before .before .before .before .before .before .before .before .before .before .before .before .args) in
-    judge-enters (now (a .text)) (now (a .code)) (now (a .names)) (a .at .macros) (now (a .calls)) (a .at .left) (a .at .cell) (a .v) (c .before .before .before .before .before .before .before .before .before .before .before .before .before .before .before .before .before .before .pre .3)
-    (now (a .heights)) (c .before .before .before .before .before .before .before .before .before .before .before .before .before .before .before .before .before .before .pre .2) (c .before .before .before .before .before .before .before .before .before .before .before .before .before .before .before .before .before .before .pre .1) (c .before .before .before .before .before .before .before .before .before .before .before .before .called-macro .result .number) (c .before .before .before .before .before .before .before .before .before .number-at .result) (c .before .before .before .before .before .before .before .before .before .before .before .before .called-macro .ensures .only (not-false _ (c .before .before .before .before .before .before .before .before .before .before .if1 .left))) (c .before .before .before .before .before .before .before .before .before .number-at .ensures .0)
-    (c .before .before .before .before .before .before .before .before .count-fault .result) (c .before .before .before .before .before .before .before .before .count-fault .ensures .is (now (a .text)))
-    (sym (c .before .before .before .before .before .before .before .is-at .ensures) ∙ c .before .before .before .before .before .before .if2 .left) (c .before .before .before .before .before .if3 .left) (c .before .before .before .before .before .before .before .before .before .number-at .ensures .1) _ refl refl refl
+returns-6 c = let a = (c .before .before .before .before .before .before .before .before .before .before .before .before .before .before .before .before .before .before .before .before .before .before .args) in
+    judge-found (now (a .text)) (now (a .code)) (now (a .names)) (a .at .macros) (now (a .calls)) (a .at .left) (a .at .cell) (a .v) (c .before .before .before .before .before .before .before .before .before .before .before .before .before .before .before .before .before .before .before .before .before .before .pre .3)
+    (now (a .heights)) (c .before .before .before .before .before .before .before .before .before .before .before .before .before .before .before .before .before .before .before .before .before .before .pre .2) (c .before .before .before .before .before .before .before .before .before .before .before .before .before .before .before .before .before .before .before .before .before .before .pre .1) (c .before .before .before .before .before .before .before .before .before .before .before .before .before .before .before .before .called-macro .result .number) (c .before .before .before .before .before .before .before .before .before .before .before .before .before .number-at .result) (c .before .before .before .before .before .before .before .before .before .before .before .before .before .before .before .before .called-macro .ensures .only (not-false _ (c .before .before .before .before .before .before .before .before .before .before .before .before .before .before .if1 .left))) (c .before .before .before .before .before .before .before .before .before .before .before .before .before .number-at .ensures .0)
+    (c .before .before .before .before .before .before .before .before .before .before .before .before .count-fault .result) (c .before .before .before .before .before .before .before .before .before .before .before .before .count-fault .ensures .is (now (a .text)))
+    (sym (c .before .before .before .before .before .before .before .before .before .before .before .is-at .ensures) ∙ c .before .before .before .before .before .before .before .before .before .before .if2 .left) (c .before .before .before .before .before .before .before .before .before .if3 .left) (c .before .before .is-done .ensures (c .before .if6 .taken)) (c .before .before .before .before .before .before .before .before .before .before .before .before .before .before .before .before .before .before .before .before .before .before .pre .5) (c .stay6 .result) (c .stay6 .ensures .0) (c .stay6 .ensures .1)
+
+returns-7 : tie.Need-returns-7
+returns-7 c = let a = (c .before .before .before .before .before .before .before .before .before .before .before .before .before .before .before .before .before .before .before .before .before .args) in
+    judge-enters (now (a .text)) (now (a .code)) (now (a .names)) (a .at .macros) (now (a .calls)) (a .at .left) (a .at .cell) (a .v) (c .before .before .before .before .before .before .before .before .before .before .before .before .before .before .before .before .before .before .before .before .before .pre .3)
+    (now (a .heights)) (c .before .before .before .before .before .before .before .before .before .before .before .before .before .before .before .before .before .before .before .before .before .pre .2) (c .before .before .before .before .before .before .before .before .before .before .before .before .before .before .before .before .before .before .before .before .before .pre .1) (c .before .before .before .before .before .before .before .before .before .before .before .before .before .before .before .called-macro .result .number) (c .before .before .before .before .before .before .before .before .before .before .before .before .number-at .result) (c .before .before .before .before .before .before .before .before .before .before .before .before .before .before .before .called-macro .ensures .only (not-false _ (c .before .before .before .before .before .before .before .before .before .before .before .before .before .if1 .left))) (c .before .before .before .before .before .before .before .before .before .before .before .before .number-at .ensures .0)
+    (c .before .before .before .before .before .before .before .before .before .before .before .count-fault .result) (c .before .before .before .before .before .before .before .before .before .before .before .count-fault .ensures .is (now (a .text)))
+    (sym (c .before .before .before .before .before .before .before .before .before .before .is-at .ensures) ∙ c .before .before .before .before .before .before .before .before .before .if2 .left) (c .before .before .before .before .before .before .before .before .if3 .left) (c .before .before .before .before .before .before .before .before .before .before .before .before .number-at .ensures .1) _ refl refl refl
 
 pub meet-call-spec : {M : Type 1} → statement M
 meet-call-spec =
@@ -125,4 +141,8 @@ meet-call-spec =
     is-settled-requires
     stay-requires-5
     returns-5
-    returns-6)
+    add-is-done
+    is-done-requires
+    stay-requires-6
+    returns-6
+    returns-7)

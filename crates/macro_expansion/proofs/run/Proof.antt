@@ -7,10 +7,12 @@ use mathlib.Core.List.{[]}
 use Prim.Native.Nat.{_+_, _*_, _<_, _≤_}
 use Rattle.macros.specs.Expansion.{Writing, just, followed-by}
 use Rattle.macro_code.specs.Places.{half}
+use Rattle.macro_memory.specs.Memory.{reach}
+use Rattle.macro_memory.specs.MemoryLaws.{remembers-stays}
 use Rattle.macro_values.specs.Wrote.{Wrote}
 use Rattle.macro_values.specs.WritingLaws.{wrote-none}
 use Rattle.macro_code.specs.Bounds.{widest}
-use Rattle.macro_expansion.specs.Expanding.{reach, rest-writes}
+use Rattle.macro_expansion.specs.Expanding.{rest-writes}
 use Rattle.macro_expansion.specs.WalkLaws.{none-followed}
 use Rattle.macro_expansion.specs.RunLaws.{run-turn, run-pauses, run-ends}
 use Rattle.macro_expansion.proofs.run.Statement.{statement}
@@ -36,7 +38,20 @@ append-requires : tie.Need-append-requires Inv-loop μ-loop
 append-requires c κs = (c .before .before .before .loop .inv .3, c .before .high .ensures .1, omega (arith, c .before .before .before .loop .inv .1 .most, c .before .before .before .loop .inv .1 .size))
 
 meet-requires : tie.Need-meet-requires Inv-loop μ-loop
-meet-requires c κs = (omega (arith, c .before .before .before .before .before .before .before .loop .inv .4), record { known = c .before .before .before .before .before .before .before .before .before .before .before .before .before .before .pre .1 .known; most = c .before .before .before .before .before .before .before .before .before .before .before .before .before .before .pre .1 .most; count = omega (arith, c .before .before .before .append .ensures .most, c .before .before .before .append .ensures .size) })
+meet-requires c κs = let a = (c .before .before .before .before .before .before .before .before .before .before .before .before .before .before .args) in
+    let l = (c .before .before .before .before .before .before .before .loop) in
+    let p = c .before .before .before .before .before .before .before .before .before .before .before .before .before .before .pre .1 in
+    let k = (c .before .before .before .append) in (
+      omega (arith, l .inv .4),
+      record {
+        known = p .known;
+        most = p .most;
+        count = omega (arith, k .ensures .most, k .ensures .size);
+        room = p .room;
+        remembers = remembers-stays (now (a .text)) (now (a .code)) (now (a .names)) (a .rest .macros) (now (a .calls)) _ (l .w) (k .result) _ _
+            (remembers-stays (now (a .text)) (now (a .code)) (now (a .names)) (a .rest .macros) (now (a .calls)) _ (a .v) (l .w) _ _ (p .remembers) (l .inv .1)) (k .ensures);
+      },
+    )
 
 same-length : tie.Need-same-length Inv-loop μ-loop
 same-length c = c .before .before .before .before .meet .ensures .size ∙ c .before .before .before .before .before .before .before .before .append .ensures .size ∙ c .before .before .before .before .before .before .before .before .before .before .before .before .loop .inv .1 .size
