@@ -211,14 +211,7 @@ fn is_settled(heights: &[u8], k: usize, left: usize, over: bool) -> bool
 }
 
 // Whether a call is remembered as one that changes nothing. It is looked up only if the macro, whose loose height is at `k`, meets a call by a parameter.
-fn is_done(
-    text: &[u8],
-    code: &[u32],
-    heights: &[u8],
-    calls: &[u32],
-    k: usize,
-    at: Entered,
-) -> bool
+fn is_done(text: &[u8], code: &[u32], heights: &[u8], calls: &[u32], k: usize, at: Entered) -> bool
     requires { ⌜ (at .cell < reach) × (1 ≤ at .left) × (at .left ≤ levels) × (at .body < half) × (memory ≤ length (now calls)) ⌝ }
     ensures { λ r. ⌜ (r ≡ true → Found (now (text .entry)) (now (code .entry)) (now (calls .entry)) (at .left) (at .cell) (at .body)) ⌝ }
 {

@@ -127,7 +127,7 @@ remembers-nested s c f n calls others d i v l e h =
     let same : (j : ℕ) → levels ≤ j → getD others j 0 ≡ getD calls j 0 = λ j m. rw e (getD-set-other calls d j i 0 (λ z. omega (arith, z, m))) in
     record {
       absorbed = λ k q z.
-        let a = same (slot-at k) (omega arith) in
-        rw (slot-same s c f n calls others (slot-at k) (λ j m r. same j (omega (arith, m))))
-        (h .absorbed k q (λ y. z (a ∙ y)));
+          let a = same (slot-at k) (omega arith) in
+          rw (slot-same s c f n calls others (slot-at k) (λ j m r. same j (omega (arith, m))))
+          (h .absorbed k q (λ y. z (a ∙ y)));
     }

@@ -71,10 +71,10 @@ found s c calls others left i m k e few at a b some most o same =
     let p : levels - (left - 1) ≡ suc (levels - left) = omega arith in
     record {
       changes-nothing = λ f n v h.
-        let x : Absorbed (slot-writes s c f n calls (slot-at k)) v = h .absorbed k few (λ z. nonzero (ap (λ j. getD calls j 0) at ∙ z)) in
-        let y : Absorbed (innermost-writes s c f n others left m) v = rw (o, sym a, sym b, at) x in
-        let g : arguments-in s c others (levels - (left - 1)) ≡ map (filled-in (arguments-in s c calls (levels - left))) (call-in s c i .args) = rw p (sym same) in
-        rw g at y;
+          let x : Absorbed (slot-writes s c f n calls (slot-at k)) v = h .absorbed k few (λ z. nonzero (ap (λ j. getD calls j 0) at ∙ z)) in
+          let y : Absorbed (innermost-writes s c f n others left m) v = rw (o, sym a, sym b, at) x in
+          let g : arguments-in s c others (levels - (left - 1)) ≡ map (filled-in (arguments-in s c calls (levels - left))) (call-in s c i .args) = rw p (sym same) in
+          rw g at y;
     }
   where
     nonzero : getD calls e 0 ≡ 0 → ⊥

@@ -17,8 +17,11 @@ pub const LEVELS: usize = 16;
 
 // How many calls are remembered at most. Each has a slot: the levels left around it, its macro, and the calls around it with itself.
 const SLOTS: usize = 128;
+
 const SLOT_SIZE: usize = 18;
+
 const BODY: usize = 1;
+
 const AROUND: usize = 2;
 
 // The nested calls, and the slots.
@@ -101,7 +104,10 @@ fn same_given(
     if both.over {
         return false;
     }
-    words::same(macro_code::part(row, 0, n), macro_code::part(row, n, both.count - n))
+    words::same(
+        macro_code::part(row, 0, n),
+        macro_code::part(row, n, both.count - n),
+    )
 }
 
 // Whether two calls have the same arguments.

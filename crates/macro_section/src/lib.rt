@@ -6,7 +6,8 @@ ghost use Prim.Native.Nat.{_+_, _-_, _≤_, _<_};
 ghost use lib.ListN.{length, take, drop, replicate};
 ghost use Rattle.language.specs.Limits as limit;
 ghost use Rattle.macro_code.specs.Places.{half, span-cell};
-ghost use Rattle.macro_expansion.specs.Expanding.{reach, Known, change-writes};
+ghost use Rattle.macro_expansion.specs.Expanding.{Known, change-writes};
+ghost use Rattle.macro_memory.specs.Memory.{reach, memory, Remembers};
 ghost use Rattle.macro_values.specs.Wrote.{Wrote};
 ghost use Rattle.macros.specs.Expansion.{levels};
 ghost use Rattle.macro_section.specs.Origins.{ups, Fillable, Placed, Kept, Sectioned, Room, none};
@@ -74,8 +75,8 @@ fn section_change(
     at: Section,
     v: Written,
 ) -> Written
-    requires { ⌜ (at .cell < reach) × Known (now text) (now code) (now names) (at .macros) (now heights) × (v .count ≤ length (now out)) ⌝ }
-    ensures { λ r. ⌜ Wrote (change-writes (now (text .entry)) (now (code .entry)) (now (names .entry)) (at .macros) [] levels (at .cell)) v r (now (out .entry)) (now (out .exit)) ⌝ }
+    requires { ⌜ (at .cell < reach) × Known (now text) (now code) (now names) (at .macros) (now heights) × (v .count ≤ length (now out)) × (memory ≤ length (now calls)) × Remembers (now text) (now code) (now names) (at .macros) (now calls) v ⌝ }
+    ensures { λ r. ⌜ Wrote (change-writes (now (text .entry)) (now (code .entry)) (now (names .entry)) (at .macros) [] levels (at .cell)) v r (now (out .entry)) (now (out .exit)) × Remembers (now (text .entry)) (now (code .entry)) (now (names .entry)) (at .macros) (now (calls .exit)) r ⌝ }
 {
     let level = Level {
         cell: at.cell,
@@ -127,17 +128,18 @@ fn nothing() -> Written
     }
 }
 
-// Writes the section: what stays has its own places, and what calls write those of their stars.
-pub fn write_section(
+// Writes the section within a row that remembers calls.
+fn write_parts(
     text: &[u8],
     code: &[u32],
     names: &[u16],
     heights: &[u8],
+    calls: &mut [u32],
     out: &mut [u8],
     places: &mut [u16],
     at: Section,
 ) -> WrittenOut
-    requires { ⌜ (at .cell < half) × Known (now text) (now code) (now names) (at .macros) (now heights) × Room (now out) (now places) × Steady (high (now code) (at .cell + span-cell)) (changes-in (now text) (now code) (first-change (now code) (at .cell)) (change-count (now code) (at .cell))) ⌝ }
+    requires { ⌜ (at .cell < half) × Known (now text) (now code) (now names) (at .macros) (now heights) × Room (now out) (now places) × Steady (high (now code) (at .cell + span-cell)) (changes-in (now text) (now code) (first-change (now code) (at .cell)) (change-count (now code) (at .cell))) × (memory ≤ length (now calls)) × Remembers (now text) (now code) (now names) (at .macros) (now calls) none ⌝ }
     ensures { λ r. ⌜ Sectioned (now (text .entry)) (now (code .entry)) (now (names .entry)) (at .macros) (at .cell) r (now (out .entry)) (now (out .exit)) (now (places .exit)) ⌝ }
 {
     let stop = macro_code::low(code, at.cell + CodePlaces::SPAN);
@@ -145,7 +147,6 @@ pub fn write_section(
     let mut cell = macro_calls::first_change(code, at.cell);
     let mut changes = macro_code::low(code, at.cell + CodePlaces::COUNTS);
     let room = out.len();
-    let mut calls = [0u32; MEMORY];
     let mut w = nothing();
     let mut long = Fault::Clear;
     while changes > 0 {
@@ -155,7 +156,7 @@ pub fn write_section(
             cell: cell,
             macros: at.macros,
         };
-        let next = section_change(text, code, names, heights, &mut calls, out, here, kept);
+        let next = section_change(text, code, names, heights, calls, out, here, kept);
         repeat_place(start as u16, places, kept.count, next);
         let first = over_at(long, w.over, kept.over, place + (room - w.count));
         long = over_at(first, kept.over, next.over, start);
@@ -169,4 +170,21 @@ pub fn write_section(
         state: last,
         long: over_at(long, w.over, last.over, place + (room - w.count)),
     }
+}
+
+// Writes the section: what stays has its own places, and what calls write those of their stars.
+pub fn write_section(
+    text: &[u8],
+    code: &[u32],
+    names: &[u16],
+    heights: &[u8],
+    out: &mut [u8],
+    places: &mut [u16],
+    at: Section,
+) -> WrittenOut
+    requires { ⌜ (at .cell < half) × Known (now text) (now code) (now names) (at .macros) (now heights) × Room (now out) (now places) × Steady (high (now code) (at .cell + span-cell)) (changes-in (now text) (now code) (first-change (now code) (at .cell)) (change-count (now code) (at .cell))) ⌝ }
+    ensures { λ r. ⌜ Sectioned (now (text .entry)) (now (code .entry)) (now (names .entry)) (at .macros) (at .cell) r (now (out .entry)) (now (out .exit)) (now (places .exit)) ⌝ }
+{
+    let mut calls = [0u32; MEMORY];
+    write_parts(text, code, names, heights, &mut calls, out, places, at)
 }
