@@ -127,7 +127,12 @@ fn is_single(singles: &[u8], k: usize) -> bool
     false
 }
 
-// Whether the call at `i`, by a typed name, is of one macro of the list; and that macro's number. The hint at the place of its star is tried first.
+// Where the hint of a call is kept: the stars of two calls stand more than one byte apart.
+fn hint_at(code: &[u32], i: usize) -> usize {
+    high(code, i) / 2
+}
+
+// Whether the call at `i`, by a typed name, is of one macro of the list; and that macro's number. The hint for it is tried first.
 pub fn find_target(
     text: &[u8],
     code: &[u32],
@@ -142,7 +147,7 @@ pub fn find_target(
 {
     let at = i + CodePlaces::NAME;
     let name = part(text, high(code, at), low(code, at));
-    let hint = number_at(hints, high(code, i));
+    let hint = number_at(hints, hint_at(code, i));
     if hint < count {
         if is_single(singles, hint) {
             if is_name(text, code, number_at(firsts, hint), name) {
@@ -232,7 +237,7 @@ fn narrow(k: usize) -> u16
     k as u16
 }
 
-// The macro of the call whose star is at `at`, for the next time.
+// The macro of a call, for the next time.
 fn keep_hint(names: &mut [u16], count: usize, at: usize, k: usize)
     ensures { λ _. ⌜ Firsts-kept count (now (names .entry)) (now (names .exit)) ⌝ }
 {
@@ -263,7 +268,7 @@ fn change_faults(text: &[u8], code: &[u32], names: &mut [u16], count: usize, i: 
         };
     }
     let uneven = count_fault(code, i, number_at(names, named.number));
-    keep_hint(names, count, high(code, i), named.number);
+    keep_hint(names, count, hint_at(code, i), named.number);
     Faults {
         unknown: Fault::Clear,
         uneven: uneven,

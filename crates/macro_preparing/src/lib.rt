@@ -30,8 +30,8 @@ use statements::decide;
 use statements::first_of;
 use statements::lower;
 
-// The first cell of each macro; behind them, for each place of a text, the macro of the call there.
-const NAMES: usize = CodePlaces::MACROS + Machine::TEXT;
+// The first cell of each macro; behind them, for every other place of a text, the macro of the call there.
+const NAMES: usize = CodePlaces::MACROS + Machine::TEXT / 2;
 
 // Three numbers of each macro.
 const HEIGHTS: usize = 3 * CodePlaces::MACROS;

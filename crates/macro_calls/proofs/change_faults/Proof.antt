@@ -58,8 +58,8 @@ number-at-requires c κs = search needs
 count-fault-requires : tie.Need-count-fault-requires
 count-fault-requires c κs = search needs
 
-high-requires-3 : tie.Need-high-requires-3
-high-requires-3 c κs = search needs
+hint-at-requires : tie.Need-hint-at-requires
+hint-at-requires c κs = search needs
 
 keep-hint-requires : tie.Need-keep-hint-requires
 keep-hint-requires c κs = search needs
@@ -100,7 +100,7 @@ change-faults-spec =
     returns-2
     number-at-requires
     count-fault-requires
-    high-requires-3
+    hint-at-requires
     keep-hint-requires
     same-length-2
     returns-3)

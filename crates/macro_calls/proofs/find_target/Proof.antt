@@ -19,8 +19,8 @@ low-requires c κs = search needs
 part-requires : tie.Need-part-requires
 part-requires c κs = search needs
 
-high-requires-2 : tie.Need-high-requires-2
-high-requires-2 c κs = search needs
+hint-at-requires : tie.Need-hint-at-requires
+hint-at-requires c κs = search needs
 
 number-at-requires : tie.Need-number-at-requires
 number-at-requires c κs = search needs
@@ -67,7 +67,7 @@ find-target-spec =
     high-requires
     low-requires
     part-requires
-    high-requires-2
+    hint-at-requires
     number-at-requires
     is-single-requires
     number-at-requires-2
