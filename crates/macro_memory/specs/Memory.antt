@@ -1,15 +1,17 @@
 -- Calls that change nothing any more, and the row that has them: the cells of the nested calls, then slots, each with the levels left around a call, or 0,
--- the cell of its macro, and the cells of the calls around it and of the call itself.
+-- the cell of its macro, and the cells of the calls around it and of the call itself; then a number for each group of slots, and one for each slot.
 use mathlib.Core.Path.{_≡_}
 use mathlib.Core.Bool.{false}
 use mathlib.Core.List.{List, [], map}
 use Prim.Native.Nat.{ℕ, _+_, _-_, _*_, _≤_, _<_}
-use lib.ListN.{getD, take, drop}
+use lib.ListN.{length, getD, take, drop}
 use Rattle.macros.specs.Expansion.{Writing, places-of, filled-in, expand, levels}
 use Rattle.macro_code.specs.Code.{call-in, body-in, macros-in, arguments-in}
+use Rattle.macro_code.specs.Places.{half}
 use Rattle.statements.specs.Faults.{lower}
 use Rattle.statements.specs.StatementAt.{fault-of}
 use Rattle.macro_values.specs.declared.Written.{Written}
+use Rattle.macro_memory.specs.declared.Entered.{Entered}
 
 -- the cells of changes are below this number
 abbrev pub reach : ℕ
@@ -17,6 +19,9 @@ reach = 549755813888
 
 abbrev pub slots : ℕ
 slots = 128
+
+abbrev pub groups : ℕ
+groups = 16
 
 abbrev pub slot-size : ℕ
 slot-size = 18
@@ -27,8 +32,11 @@ body-cell = 1
 abbrev pub around-cells : ℕ
 around-cells = 2
 
+abbrev pub turns : ℕ
+turns = levels + slot-size * slots
+
 abbrev pub memory : ℕ
-memory = levels + slot-size * slots
+memory = turns + groups + slots
 
 abbrev pub slot-at : ℕ → ℕ
 slot-at k = levels + slot-size * k
@@ -56,6 +64,15 @@ slot-writes s c f n calls e = innermost-writes s c f n (drop (e + around-cells) 
 -- no call that is remembered would change anything
 pub record Remembers (s c f : List ℕ) (n : ℕ) (calls : List ℕ) (v : Written) : Type 0 where
   pub absorbed : (k : ℕ) → k < slots → (getD calls (slot-at k) 0 ≡ 0 → ⊥) → Absorbed (slot-writes s c f n calls (slot-at k)) v
+
+-- a call that can be looked up, in rows that can hold it
+pub record Lookable (at : Entered) (calls row : List ℕ) : Type 0 where
+  pub near : at .cell < reach
+  pub some : 1 ≤ at .left
+  pub most : at .left ≤ levels
+  pub body : at .body < half
+  pub room : memory ≤ length calls
+  pub short : length row < half
 
 -- the arguments of two calls, within as many nested calls, are the same
 abbrev pub Alike : List ℕ → List ℕ → List ℕ → List ℕ → ℕ → ℕ → ℕ → Type 0

@@ -17,7 +17,7 @@ use Rattle.macro_code.specs.Code.{given-in, call-in, body-in, macros-in, argume
 use Rattle.macro_values.specs.declared.Written.{Written}
 use Rattle.macro_values.specs.WritingLaws.{wrote-more}
 use Rattle.macro_values.specs.Wrote.{Wrote}
-use Rattle.macro_memory.specs.Memory.{slots, slot-size, body-cell, around-cells, slot-at, memory, Absorbed, entered-writes, innermost-writes, slot-writes, Remembers, Alike, Found, Copied, Stored}
+use Rattle.macro_memory.specs.Memory.{slots, slot-size, body-cell, around-cells, slot-at, turns, memory, Absorbed, entered-writes, innermost-writes, slot-writes, Remembers, Alike, Found, Copied, Stored}
 use Rattle.macro_memory.specs.MemoryLaws.{or-left, arguments-like, slot-same}
 
 -- two values, one behind the other, in two halves that are the same
@@ -130,6 +130,21 @@ module _ (calls mid after : List ℕ) (left m k e : ℕ) (few : k < slots) (at :
         nested = rw is (take-set-le levels (set mid e left) (e + body-cell) m (omega (arith, at)) ∙ take-set-le levels mid e left (omega (arith, at)) ∙ copied .nested);
         remembers = λ s c f n v h a. record { absorbed = λ i l z. each s c f n v some h a i l z };
       }
+
+-- a number behind the slots is put
+pub stored-turn : (calls after others : List ℕ) (left m p x : ℕ) → turns ≤ p → others ≡ set after p x → Stored calls after left m → Stored calls others left m
+stored-turn calls after others left m p x l e h =
+    let same : (j : ℕ) → j < turns → getD others j 0 ≡ getD after j 0 = λ j q. rw e (getD-set-other after p j x 0 (λ z. omega (arith, z, q, l))) in
+    record {
+      nested = rw e (take-set-le levels after p x (omega (arith, l)) ∙ h .nested);
+      remembers = λ s c f n v r a.
+          let k = h .remembers s c f n v r a in
+          record {
+            absorbed = λ i q z.
+                rw (slot-same s c f n after others (slot-at i) (λ j y o. same j (omega (arith, o, q))))
+                (k .absorbed i q (λ y. z (same (slot-at i) (omega (arith, q)) ∙ y)));
+          };
+    }
 
 -- nothing is remembered
 pub remembers-none : (s c f : List ℕ) (n : ℕ) (calls : List ℕ) (v : Written) → calls ≡ replicate memory 0 → Remembers s c f n calls v

@@ -7,7 +7,7 @@ ghost use Rattle.macro_code.specs.Bounds.{near, far};
 ghost use Rattle.macro_code.specs.Code.{given-in, arguments-in, argument-cell};
 ghost use Rattle.macro_code.specs.Places.{half};
 ghost use Rattle.macros.specs.Expansion.{filled-in, levels};
-ghost use Rattle.macro_memory.specs.Memory.{reach, slots, memory, Alike, Found, Copied, Stored};
+ghost use Rattle.macro_memory.specs.Memory.{reach, slots, memory, Lookable, Alike, Found, Copied, Stored};
 use macro_code::CodePlaces;
 use macro_values::Written;
 use statements::Fault;
@@ -24,8 +24,20 @@ const BODY: usize = 1;
 
 const AROUND: usize = 2;
 
-// The nested calls, and the slots.
-pub const MEMORY: usize = LEVELS + SLOT_SIZE * SLOTS;
+// The slots are in groups, and the numbers of calls, below 65,536, are shared out to these.
+const GROUP: usize = 8;
+
+const GROUPS: usize = 16;
+
+const SHARE: usize = 4096;
+
+// Behind the nested calls and the slots: which slot of each group is taken next, and for each slot a number by its macro, levels and arguments.
+const TURNS: usize = LEVELS + SLOT_SIZE * SLOTS;
+
+const PRINTS: usize = TURNS + GROUPS;
+
+// All of these.
+pub const MEMORY: usize = PRINTS + SLOTS;
 
 // Room for what two arguments stand for.
 const ROOM: usize = 128;
@@ -141,23 +153,23 @@ fn same_arguments(
     true
 }
 
-// A slot's number by some bytes, from a first number on.
+// A number by some bytes, from a first number on.
 fn mix(bytes: &[u8], first: usize) -> usize
-    ensures { λ r. ⌜ r < slots ⌝ }
+    ensures { λ r. ⌜ r < half ⌝ }
 {
     let mut h = first % 65536;
     let mut j = 0;
     while j < bytes.len() {
-        h = (h * 40503 + cells::wide(bytes[j])) % 65536;
+        h = (h + cells::wide(bytes[j])) * 40503 % 65536;
         j += 1;
     }
-    h / 512
+    h
 }
 
-// The slot of a call, by its macro, its levels and its arguments.
-fn choose(text: &[u8], code: &[u32], calls: &[u32], row: &mut [u8], at: Entered) -> usize
+// A number of a call, by its macro, its levels and its arguments.
+fn print_of(text: &[u8], code: &[u32], calls: &[u32], row: &mut [u8], at: Entered) -> usize
     requires { ⌜ (at .cell < reach) × (at .left ≤ levels) × (at .body < half) × (length (now row) < half) ⌝ }
-    ensures { λ r. ⌜ r < slots ⌝ }
+    ensures { λ r. ⌜ r < half ⌝ }
 {
     let n = macro_code::low(code, at.cell + CodePlaces::KIND);
     let depth = LEVELS - at.left;
@@ -171,29 +183,62 @@ fn choose(text: &[u8], code: &[u32], calls: &[u32], row: &mut [u8], at: Entered)
     mix(macro_code::part(row, 0, w.count), at.body * 16 + depth)
 }
 
-// Whether the slot of a call has one of the same macro, levels and arguments.
-fn look(text: &[u8], code: &[u32], calls: &[u32], row: &mut [u8], at: Entered) -> bool
-    requires { ⌜ (at .cell < reach) × (1 ≤ at .left) × (at .left ≤ levels) × (at .body < half) × (memory ≤ length (now calls)) × (length (now row) < half) ⌝ }
+// Whether a slot has a call of the same macro, levels and arguments.
+fn is_in(text: &[u8], code: &[u32], calls: &[u32], row: &mut [u8], at: Entered, slot: usize) -> bool
+    requires { ⌜ Lookable at (now calls) (now row) × (slot < slots) ⌝ }
     ensures { λ r. ⌜ (r ≡ true → Found (now (text .entry)) (now (code .entry)) (now (calls .entry)) (at .left) (at .cell) (at .body)) ⌝ }
 {
-    let cell = at.cell;
-    let left = at.left;
-    let body = at.body;
-    let place = LEVELS + SLOT_SIZE * choose(text, code, calls, row, at);
-    if cell_at(calls, place) != left {
+    let place = LEVELS + SLOT_SIZE * slot;
+    if cell_at(calls, place) != at.left {
         return false;
     }
-    if cell_at(calls, place + BODY) != body {
+    if cell_at(calls, place + BODY) != at.body {
         return false;
     }
-    let depth = LEVELS - left;
+    let depth = LEVELS - at.left;
     let others = behind(calls, place + AROUND);
     let pair = Pair {
         depth: depth,
-        one: cell,
+        one: at.cell,
         other: cell_at(others, depth),
     };
     same_arguments(text, code, calls, others, row, pair)
+}
+
+// The same, where a slot with another number is passed over.
+fn is_near(
+    text: &[u8],
+    code: &[u32],
+    calls: &[u32],
+    row: &mut [u8],
+    at: Entered,
+    slot: usize,
+    print: usize,
+) -> bool
+    requires { ⌜ Lookable at (now calls) (now row) × (slot < slots) ⌝ }
+    ensures { λ r. ⌜ (r ≡ true → Found (now (text .entry)) (now (code .entry)) (now (calls .entry)) (at .left) (at .cell) (at .body)) ⌝ }
+{
+    if cell_at(calls, PRINTS + slot) != print {
+        return false;
+    }
+    is_in(text, code, calls, row, at, slot)
+}
+
+// Whether a slot of its group has it.
+fn look(text: &[u8], code: &[u32], calls: &[u32], row: &mut [u8], at: Entered) -> bool
+    requires { ⌜ Lookable at (now calls) (now row) ⌝ }
+    ensures { λ r. ⌜ (r ≡ true → Found (now (text .entry)) (now (code .entry)) (now (calls .entry)) (at .left) (at .cell) (at .body)) ⌝ }
+{
+    let print = print_of(text, code, calls, row, at);
+    let first = GROUP * (print / SHARE);
+    let mut k = 0;
+    while k < GROUP {
+        if is_near(text, code, calls, row, at, first + k, print) {
+            return true;
+        }
+        k += 1;
+    }
+    false
 }
 
 // Whether a call within the nested calls is remembered.
@@ -217,17 +262,31 @@ fn copy_calls(calls: &mut [u32], to: usize)
     }
 }
 
-// Puts the innermost of the nested calls into its slot.
+// Puts the innermost of the nested calls into a slot.
+fn put_slot(calls: &mut [u32], slot: usize, left: usize, body: usize)
+    requires { ⌜ (slot < slots) × (1 ≤ left) × (left ≤ levels) × (body < half) × (memory ≤ length (now calls)) ⌝ }
+    ensures { λ _. ⌜ Stored (now (calls .entry)) (now (calls .exit)) left body ⌝ }
+{
+    let place = LEVELS + SLOT_SIZE * slot;
+    copy_calls(calls, place + AROUND);
+    cells::write(calls, place, left);
+    cells::write(calls, place + BODY, body);
+}
+
+// Puts it into its group, in place of the one that came first.
 fn store(text: &[u8], code: &[u32], calls: &mut [u32], row: &mut [u8], at: Entered)
-    requires { ⌜ (at .cell < reach) × (1 ≤ at .left) × (at .left ≤ levels) × (at .body < half) × (memory ≤ length (now calls)) × (length (now row) < half) ⌝ }
+    requires { ⌜ Lookable at (now calls) (now row) ⌝ }
     ensures { λ _. ⌜ Stored (now (calls .entry)) (now (calls .exit)) (at .left) (at .body) ⌝ }
 {
     let left = at.left;
     let body = at.body;
-    let place = LEVELS + SLOT_SIZE * choose(text, code, calls, row, at);
-    copy_calls(calls, place + AROUND);
-    cells::write(calls, place, left);
-    cells::write(calls, place + BODY, body);
+    let print = print_of(text, code, calls, row, at);
+    let group = print / SHARE;
+    let turn = cell_at(calls, TURNS + group) % GROUP;
+    let slot = GROUP * group + turn;
+    put_slot(calls, slot, left, body);
+    cells::write(calls, TURNS + group, turn + 1);
+    cells::write(calls, PRINTS + slot, print);
 }
 
 // Remembers the innermost of the nested calls, with so many levels left around it, and the cell of its macro.

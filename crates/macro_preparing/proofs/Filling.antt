@@ -1,12 +1,12 @@
 -- Rows that are filled: the marked text, lines, and the tables of macros.
-use mathlib.Core.Path.{_≡_, refl, ap, _∙_}
+use mathlib.Core.Path.{_≡_, sym, ap, _∙_}
 use mathlib.Core.List.{List, _++_, map}
 use Prim.Native.Nat.{ℕ, suc, min, _+_, _≤_, _<_}
-use native.Mathlib.Decide.{decLt}
 use native.Mathlib.Omega.{arith}
 use lib.Dec.{eqb, leb}
-use lib.ListN.{length, getD, set, take, drop, length-append, length-map, length-set}
-use lib.Seq.{take-at, length-take-le, getD-set-same, getD-set-other, getD-take, getD-drop}
+use lib.ListN.{length, getD, take, drop, length-append, length-map, List·getD-append}
+use lib.Seq.{take-at, length-take-le, getD-take, getD-drop, getD-append-add}
+use Rattle.cells.specs.Cells.{pasted}
 use Rattle.macros.specs.LineLaws.{line-past, line-low}
 use Rattle.macros.specs.Marks.{new-reader, marked}
 use Rattle.macro_code.specs.Known.{Singles, Heights}
@@ -29,33 +29,28 @@ lines-row {s} {ps} {x} {n} p e =
 pub line-few : (s : List ℕ) (at : ℕ) → line-of s at ≤ suc (length s)
 line-few s at = omega (arith, line-past s at, line-low s (min at (length s)))
 
--- a row that is put into rows, number by number
-pub record Putting (rows : List ℕ) (at : ℕ) (row after : List ℕ) (k : ℕ) : Type 0 where
-  pub size : length after ≡ length rows
-  pub puts : Puts rows at row k after
+-- a row that is put into rows
+module _ {rows row part : List ℕ} {at n : ℕ} (p : Puttable rows at row n) (e : part ≡ take n row) where
+  long : length part ≡ n
+  long = ap length e ∙ length-take-le n row (p .there)
 
-pub put-none : (rows : List ℕ) (at : ℕ) (row : List ℕ) → Putting rows at row rows 0
-put-none rows at row = record { size = refl; puts = record { before = λ k l. refl; is = λ k l. absurd (omega arith) } }
+  pub part-fits : at + length part ≤ length rows
+  part-fits = omega (arith, p .room, long)
 
-module _ {rows row after : List ℕ} {at n k : ℕ} (p : Puttable rows at row n) (u : Putting rows at row after k) where
-  pub put-on : k < n → Putting rows at row (set after (at + k) (getD row k 0)) (k + 1)
-  put-on h =
+  pub part-put : {after : List ℕ} → after ≡ pasted rows at part → Puts rows at row n after
+  part-put f =
+      let l : length (take at rows) ≡ at = length-take-le at rows (omega (arith, p .room)) in
+      let rest = part ++ drop (at + length part) rows in
       record {
-        size = length-set after (at + k) (getD row k 0) ∙ u .size;
-        puts = record {
-          before = λ j l. getD-set-other after (at + k) j (getD row k 0) 0 (λ e. omega arith) ∙ u .puts .before j l;
-          is = λ j l. go j l (decLt j k);
-        };
+        before = λ k h. ap (λ x. getD x k 0) f ∙ List·getD-append (take at rows) rest 0 k (omega (arith, l, h)) ∙ getD-take at rows k 0 h;
+        is = λ k h.
+            ap (λ x. getD x (at + k) 0) f
+            ∙ ap (λ j. getD (take at rows ++ rest) (j + k) 0) (sym l)
+            ∙ getD-append-add (take at rows) rest k 0
+            ∙ List·getD-append part (drop (at + length part) rows) 0 k (omega (arith, long, h))
+            ∙ ap (λ x. getD x k 0) e
+            ∙ getD-take n row k 0 h;
       }
-    where
-      go : (j : ℕ) → j < k + 1 → Dec (j < k) → getD (set after (at + k) (getD row k 0)) (at + j) 0 ≡ getD row j 0
-      go j l (yes m) = getD-set-other after (at + k) (at + j) (getD row k 0) 0 (λ e. omega arith) ∙ u .puts .is j m
-      go j l (no m) =
-          let e : j ≡ k = omega arith in
-          rw e (getD-set-same after (at + k) (getD row k 0) 0 (omega (arith, p .room, u .size)))
-
-  pub put-all : n ≤ k → Puts rows at row n after
-  put-all h = record { before = u .puts .before; is = λ j l. u .puts .is j (omega arith) }
 
 -- the tables, one behind the other
 module _ {s c f : List ℕ} {n : ℕ} {quiet loose singles h g : List ℕ} (t : Heights s c f n quiet loose) (o : Singles s c f n singles)

@@ -49,6 +49,7 @@ pub record Readable (s o c f : List ℕ) : Type 0 where
 pub record Puttable (rows : List ℕ) (at : ℕ) (row : List ℕ) (n : ℕ) : Type 0 where
   pub room : at + n ≤ length rows
   pub there : n ≤ length row
+  pub few : n ≤ place.macros
 
 pub record Puts (rows : List ℕ) (at : ℕ) (row : List ℕ) (n : ℕ) (after : List ℕ) : Type 0 where
   pub before : (k : ℕ) → k < at → getD after k 0 ≡ getD rows k 0

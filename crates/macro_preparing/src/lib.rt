@@ -89,11 +89,7 @@ fn put_row(rows: &mut [u8], at: usize, row: &[u8], count: usize)
     requires { ⌜ Puttable (now rows) at (now row) count ⌝ }
     ensures { λ _. ⌜ Puts (now (rows .entry)) at (now (row .entry)) count (now (rows .exit)) ⌝ }
 {
-    let mut k = 0;
-    while k < count {
-        rows[at + k] = row[k];
-        k += 1;
-    }
+    cells::put(rows, at, macro_code::part(row, 0, count));
 }
 
 // Of each macro, its heights and whether it is the only one of its name, in one row. What the row `singles` held goes.

@@ -1,88 +1,70 @@
+-- `macro_memory::look` meets its contract.
 use borrow.Author.Needs.{needs}
 use native.Mathlib.Omega.{arith}
-use denote.Ref.{now}
-use mathlib.Core.Path.{_≡_, refl, sym, _∙_}
+use mathlib.Core.Path.{_≡_, refl}
 use mathlib.Core.Bool.{false≢true}
-use Rattle.macro_memory.specs.SameLaws.{found}
+use Prim.Native.Nat.{_≤_, _-_}
+use lib.ListN.{length}
 use Rattle.macro_memory.proofs.look.Statement.{statement}
 use Rattle.macro_memory.proofs.look.Tie as tie
-use Rattle.macro_memory.proofs.look.Reads as reads
-use Rattle.macro_memory.proofs.look.Lts as lts
-use Rattle.macro_memory.proofs.behind.Reads as behind-reads
-use Rattle.macro_memory.proofs.cell_at.Reads as cell-at-reads
-use Rattle.macro_memory.proofs.choose.Reads as choose-reads
-use Rattle.macro_memory.proofs.same_arguments.Reads as same-arguments-reads
 
-choose-requires : tie.Need-choose-requires
-choose-requires c κs = search needs
+abbrev Inv-loop : tie.InvT-loop
+Inv-loop text code calls row₀ at print first k₀ row k = (length row ≡ length row₀) × (k ≤ 8)
 
-mul-place : tie.Need-mul-place
-mul-place c = search needs
+abbrev μ-loop : tie.MeasureT-loop
+μ-loop text code calls row₀ at print first k₀ row k = 8 - k
 
-add-place : tie.Need-add-place
-add-place c = search needs
+print-of-requires : tie.Need-print-of-requires Inv-loop μ-loop
+print-of-requires c κs = let p = (c .before .before .before .before .before .pre) in (p .near, p .most, p .body, p .short)
 
-cell-at-requires : tie.Need-cell-at-requires
-cell-at-requires c κs = search needs
+mul-first : tie.Need-mul-first Inv-loop μ-loop
+mul-first c = omega (arith, c .before .before .print-of .ensures)
 
-same-length : tie.Need-same-length
+loop-holds : tie.Need-loop-holds Inv-loop μ-loop
+loop-holds c = (search needs, omega arith)
+
+add-is-near : tie.Need-add-is-near Inv-loop μ-loop
+add-is-near c = omega (arith, c .before .before .before .before .before .print-of .ensures, c .before .loop-test .taken)
+
+is-near-requires : tie.Need-is-near-requires Inv-loop μ-loop
+is-near-requires c κs = let p = (c .before .before .before .before .before .before .before .before .before .before .before .pre) in (record { near = p .near; some = p .some; most = p .most; body = p .body; room = p .room; short = omega (arith, p .short, c .before .before .loop .inv .0) }, omega (arith, c .before .before .before .before .before .print-of .ensures, c .before .loop-test .taken))
+
+same-length : tie.Need-same-length Inv-loop μ-loop
 same-length c = search needs
 
-returns : tie.Need-returns
-returns c = λ z. absurd (false≢true z)
+returns : tie.Need-returns Inv-loop μ-loop
+returns c = λ z. c .before .before .before .is-near .ensures (c .if1 .taken)
 
-add-cell-at : tie.Need-add-cell-at
-add-cell-at c = search needs
+add-k : tie.Need-add-k Inv-loop μ-loop
+add-k c = search needs
 
-cell-at-requires-2 : tie.Need-cell-at-requires-2
-cell-at-requires-2 c κs = search needs
+loop-less : tie.Need-loop-less Inv-loop μ-loop
+loop-less c = omega (arith, c .before .before .before .before .before .loop-test .taken)
 
-same-length-2 : tie.Need-same-length-2
+loop-again : tie.Need-loop-again Inv-loop μ-loop
+loop-again c = (search needs, omega (arith, c .before .before .before .before .before .loop-test .taken))
+
+same-length-2 : tie.Need-same-length-2 Inv-loop μ-loop
 same-length-2 c = search needs
 
-returns-2 : tie.Need-returns-2
+returns-2 : tie.Need-returns-2 Inv-loop μ-loop
 returns-2 c = λ z. absurd (false≢true z)
-
-sub-depth : tie.Need-sub-depth
-sub-depth c = search needs
-
-add-behind : tie.Need-add-behind
-add-behind c = search needs
-
-behind-requires : tie.Need-behind-requires
-behind-requires c κs = search needs
-
-cell-at-requires-3 : tie.Need-cell-at-requires-3
-cell-at-requires-3 c κs = search needs
-
-same-arguments-requires : tie.Need-same-arguments-requires
-same-arguments-requires c κs = search needs
-
-same-length-3 : tie.Need-same-length-3
-same-length-3 c = search needs
-
-returns-3 : tie.Need-returns-3
-returns-3 c = let a = (c .before .before .before .before .before .before .before .before .before .before .before .before .before .before .before .before .before .before .args) in
-    λ z. found (now (a .text)) (now (a .code)) (now (a .calls)) (now (c .before .before .before .before .before .behind .result)) (a .at .left) (a .at .cell) (a .at .body) (c .before .before .before .before .before .before .before .before .before .before .before .before .choose .result) _ (c .before .before .before .before .before .before .before .before .before .before .before .before .choose .ensures) refl (sym (c .before .before .before .before .before .before .before .before .before .cell-at .ensures .0) ∙ c .before .before .before .before .before .before .before .before .if1 .left) (sym (c .before .before .before .before .before .before .before .cell-at2 .ensures .0) ∙ c .before .before .before .before .before .before .if2 .left) (c .before .before .before .before .before .before .before .before .before .before .before .before .before .before .before .before .before .before .pre .1) (c .before .before .before .before .before .before .before .before .before .before .before .before .before .before .before .before .before .before .pre .2) (c .before .before .before .before .before .behind .ensures) (rw (c .before .before .before .before .cell-at3 .ensures .0) at (c .before .before .same-arguments .ensures z))
 
 pub look-spec : {M : Type 1} → statement M
 look-spec =
     tie.close
     (tie.spec
-    choose-requires
-    mul-place
-    add-place
-    cell-at-requires
+    Inv-loop
+    μ-loop
+    print-of-requires
+    mul-first
+    loop-holds
+    add-is-near
+    is-near-requires
     same-length
     returns
-    add-cell-at
-    cell-at-requires-2
+    add-k
+    loop-less
+    loop-again
     same-length-2
-    returns-2
-    sub-depth
-    add-behind
-    behind-requires
-    cell-at-requires-3
-    same-arguments-requires
-    same-length-3
-    returns-3)
+    returns-2)

@@ -1,12 +1,10 @@
+-- `macro_memory::mix` meets its contract.
 use borrow.Author.Needs.{needs}
 use native.Mathlib.Omega.{arith}
 use Prim.Native.Nat.{_<_, _-_}
 use lib.ListN.{length}
 use Rattle.macro_memory.proofs.mix.Statement.{statement}
 use Rattle.macro_memory.proofs.mix.Tie as tie
-use Rattle.macro_memory.proofs.mix.Reads as reads
-use Rattle.macro_memory.proofs.mix.Lts as lts
-use Rattle.cells.proofs.wide.Reads as wide-reads
 
 abbrev Inv-loop : tie.InvT-loop
 Inv-loop bytes first h₀ j₀ h j = h < 65536
@@ -17,9 +15,6 @@ abbrev μ-loop : tie.MeasureT-loop
 loop-holds : tie.Need-loop-holds Inv-loop μ-loop
 loop-holds c = omega arith
 
-mul-h : tie.Need-mul-h Inv-loop μ-loop
-mul-h c = omega (arith, c .before .loop .inv)
-
 shared-slice-read-wide : tie.Need-shared-slice-read-wide Inv-loop μ-loop
 shared-slice-read-wide c = search needs
 
@@ -28,6 +23,9 @@ wide-requires c κs = search needs
 
 add-h : tie.Need-add-h Inv-loop μ-loop
 add-h c = omega (arith, c .before .before .before .loop .inv, c .wide .ensures .most)
+
+mul-h : tie.Need-mul-h Inv-loop μ-loop
+mul-h c = omega (arith, c .before .before .before .loop .inv, c .wide .ensures .most)
 
 add-j : tie.Need-add-j Inv-loop μ-loop
 add-j c = search needs
@@ -39,7 +37,7 @@ loop-again : tie.Need-loop-again Inv-loop μ-loop
 loop-again c = omega arith
 
 returns : tie.Need-returns Inv-loop μ-loop
-returns c = omega (arith, c .before .loop .inv)
+returns c = c .before .loop .inv
 
 pub mix-spec : {M : Type 1} → statement M
 mix-spec =
@@ -48,10 +46,10 @@ mix-spec =
     Inv-loop
     μ-loop
     loop-holds
-    mul-h
     shared-slice-read-wide
     wide-requires
     add-h
+    mul-h
     add-j
     loop-less
     loop-again

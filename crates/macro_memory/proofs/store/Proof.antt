@@ -1,42 +1,43 @@
+-- `macro_memory::store` meets its contract.
 use borrow.Author.Needs.{needs}
 use native.Mathlib.Omega.{arith}
 use denote.Ref.{now}
-use mathlib.Core.Path.{_≡_, refl, sym, ap, _∙_}
-use lib.ListN.{set}
-use Prim.Native.Nat.{_+_}
-use Rattle.macro_memory.specs.Memory.{slot-at, body-cell}
-use Rattle.macro_memory.specs.SameLaws.{stored}
+use Rattle.macro_memory.specs.SameLaws.{stored-turn}
 use Rattle.macro_memory.proofs.store.Statement.{statement}
 use Rattle.macro_memory.proofs.store.Tie as tie
-use Rattle.macro_memory.proofs.store.Reads as reads
-use Rattle.macro_memory.proofs.store.Lts as lts
-use Rattle.cells.proofs.write.Reads as write-reads
-use Rattle.macro_memory.proofs.choose.Reads as choose-reads
-use Rattle.macro_memory.proofs.copy_calls.Reads as copy-calls-reads
 
-choose-requires : tie.Need-choose-requires
-choose-requires c κs = search needs
+print-of-requires : tie.Need-print-of-requires
+print-of-requires c κs = let p = (c .before .before .before .before .before .before .pre) in (p .near, p .most, p .body, p .short)
 
-mul-place : tie.Need-mul-place
-mul-place c = search needs
+add-cell-at : tie.Need-add-cell-at
+add-cell-at c = omega (arith, c .before .before .before .print-of .ensures)
 
-add-place : tie.Need-add-place
-add-place c = search needs
+cell-at-requires : tie.Need-cell-at-requires
+cell-at-requires c κs = search needs
 
-add-copy-calls : tie.Need-add-copy-calls
-add-copy-calls c = search needs
+mul-slot : tie.Need-mul-slot
+mul-slot c = omega (arith, c .before .before .before .before .print-of .ensures)
 
-copy-calls-requires : tie.Need-copy-calls-requires
-copy-calls-requires c κs = search needs
+add-slot : tie.Need-add-slot
+add-slot c = omega (arith, c .before .before .before .before .print-of .ensures)
 
-write-requires : tie.Need-write-requires
-write-requires c κs = search needs
+put-slot-requires : tie.Need-put-slot-requires
+put-slot-requires c κs = let p = (c .before .before .before .before .before .before .before .before .before .before .before .before .pre) in (omega (arith, c .before .before .before .before .before .print-of .ensures), p .some, p .most, p .body, p .room)
 
 add-write : tie.Need-add-write
-add-write c = search needs
+add-write c = omega (arith, c .before .before .before .before .before .before .before .before .before .print-of .ensures)
+
+add-write-2 : tie.Need-add-write-2
+add-write-2 c = omega (arith, c .before .before .before .before .before .before .before .before .before .print-of .ensures)
+
+write-requires : tie.Need-write-requires
+write-requires c κs = record { room = omega (arith, c .before .before .before .before .before .before .before .before .before .print-of .ensures, c .before .before .before .put-slot .kept .0, c .before .before .before .before .before .before .before .before .before .before .before .before .before .before .before .before .pre .room); most = omega arith }
+
+add-write-3 : tie.Need-add-write-3
+add-write-3 c = omega (arith, c .before .before .before .before .before .before .before .before .before .before .before .before .before .print-of .ensures)
 
 write-requires-2 : tie.Need-write-requires-2
-write-requires-2 c κs = search needs
+write-requires-2 c κs = record { room = omega (arith, c .before .before .before .before .before .before .before .before .before .before .before .before .before .print-of .ensures, c .before .before .before .write .kept .0, c .before .before .before .before .before .before .before .put-slot .kept .0, c .before .before .before .before .before .before .before .before .before .before .before .before .before .before .before .before .before .before .before .before .pre .room); most = omega (arith, c .before .before .before .before .before .before .before .before .before .before .before .before .before .print-of .ensures) }
 
 same-length : tie.Need-same-length
 same-length c = search needs
@@ -45,21 +46,24 @@ same-length-2 : tie.Need-same-length-2
 same-length-2 c = search needs
 
 returns : tie.Need-returns
-returns c = let a = (c .before .before .before .before .before .before .before .before .before .before .before .before .before .before .before .before .before .before .before .before .before .args) in
-    let k = c .before .before .before .before .before .before .before .before .before .before .before .before .before .before .choose .result in
-    stored (now (a .calls)) _ _ (a .at .left) (a .at .body) k (slot-at k) (c .before .before .before .before .before .before .before .before .before .before .before .before .before .before .choose .ensures) refl (omega (arith, c .before .before .before .before .before .before .before .before .before .before .before .before .before .before .before .before .before .before .before .before .before .pre .4, c .before .before .before .before .before .before .before .before .before .before .copy-calls .kept)) (c .before .before .before .before .before .before .before .before .before .before .copy-calls .ensures) (c .before .before .write2 .ensures ∙ ap (λ l. set l (slot-at k + body-cell) (a .at .body)) (c .before .before .before .before .before .before .write .ensures)) (c .before .before .before .before .before .before .before .before .before .before .before .before .before .before .before .before .before .before .before .before .before .pre .1)
+returns c = let a = (c .before .before .before .before .before .before .before .before .before .before .before .before .before .before .before .before .before .before .before .before .before .before .before .args) in
+    stored-turn (now (a .calls)) _ _ (a .at .left) (a .at .body) _ _ (omega arith) (c .before .before .write2 .ensures)
+    (stored-turn (now (a .calls)) _ _ (a .at .left) (a .at .body) _ _ (omega arith) (c .before .before .before .before .before .before .write .ensures) (c .before .before .before .before .before .before .before .before .before .before .put-slot .ensures))
 
 pub store-spec : {M : Type 1} → statement M
 store-spec =
     tie.close
     (tie.spec
-    choose-requires
-    mul-place
-    add-place
-    add-copy-calls
-    copy-calls-requires
-    write-requires
+    print-of-requires
+    add-cell-at
+    cell-at-requires
+    mul-slot
+    add-slot
+    put-slot-requires
     add-write
+    add-write-2
+    write-requires
+    add-write-3
     write-requires-2
     same-length
     same-length-2

@@ -3,10 +3,10 @@ use native.Mathlib.Omega.{arith}
 use mathlib.Core.Path.{_≡_, refl, sym, _∙_}
 use Prim.Native.Nat.{ℕ, _-_, _<_, _≤_}
 use lib.ListN.{length}
-use Rattle.macro_memory.proofs.choose.Statement.{statement}
-use Rattle.macro_memory.proofs.choose.Tie as tie
-use Rattle.macro_memory.proofs.choose.Reads as reads
-use Rattle.macro_memory.proofs.choose.Lts as lts
+use Rattle.macro_memory.proofs.print_of.Statement.{statement}
+use Rattle.macro_memory.proofs.print_of.Tie as tie
+use Rattle.macro_memory.proofs.print_of.Reads as reads
+use Rattle.macro_memory.proofs.print_of.Lts as lts
 use Rattle.macro_code.proofs.low.Reads as low-reads
 use Rattle.macro_code.proofs.part.Reads as part-reads
 use Rattle.macro_memory.proofs.argument_cell.Reads as argument-cell-reads
@@ -68,8 +68,8 @@ same-length c = search needs
 returns : tie.Need-returns Inv-loop μ-loop
 returns c = search needs
 
-pub choose-spec : {M : Type 1} → statement M
-choose-spec =
+pub print-of-spec : {M : Type 1} → statement M
+print-of-spec =
     tie.close
     (tie.spec
     Inv-loop
