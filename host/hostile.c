@@ -347,13 +347,12 @@ static void make_good(int k)
             add_words("\n");
 }
 
-/* A good text with a piece put in, a line of it repeated, and a part cut out. A line of a text with macros is repeated twice at most: a body that
-   calls itself and a macro by a parameter takes a time that grows with the sixteenth power of its calls (docs/DECISIONS.md, 2.2-36). */
+/* A good text with a piece put in, a line of it repeated, and a part cut out. */
 static void make_damaged(int k)
 {
     const uint8_t *from = good[k].text;
     const size_t bytes = good[k].text_bytes, cut = one_in(3) ? below(30) : 0, line = line_start(from, below(bytes));
-    const size_t length = strcspn((const char *)from + line, "\n") + 1, most = memmem(from, bytes, "\n(", 2) || !one_in(4) ? 3 : 600;
+    const size_t length = strcspn((const char *)from + line, "\n") + 1, most = one_in(4) ? 600 : 3;
     size_t at = below(bytes + 1);
     if (one_in(2))
         at = line_start(from, at);

@@ -145,8 +145,8 @@ static inline uint32_t eol2_count(uint64_t answer)
    call gives place to the body of its macro with the call's arguments, and the written-out text, of EOL2_TEXT bytes at most, is loaded as if
    it were typed: its statements are asked as those of any text, and the table is the one of the written-out text, but for lines.
    The time is some ten nanoseconds for each byte given and each byte written out, and more for calls that write nothing. Their number has no
-   limit: where macros call each other by names that are handed on as arguments, a text of 2 kB can keep load at work for a year
-   (docs/DECISIONS.md, 2.2-36). A host that loads texts of strangers sets a limit of its own, by a process or a thread that it can end. */
+   limit. One that is repeated takes no time, but where macros call each other by names that are handed on as arguments, and all these calls
+   differ in their arguments, a text of 2 kB can keep load at work for a year (docs/DECISIONS.md, 2.2-36). A host that loads texts of strangers sets a limit of its own, by a process or a thread that it can end. */
 uint64_t eol2_load(const uint8_t *text, size_t text_bytes, uint32_t *table, size_t table_cells);
 
 /* Makes the state in which a program starts: H plus, all else empty, the first instruction next, nothing read of the inputs.

@@ -1,15 +1,15 @@
 -- A body written in parts: what a call's body writes with so many levels left, what is left of a body, and what is promised of each part.
 use mathlib.Core.Path.{_≡_}
 use mathlib.Core.Bool.{Bool, true, false, cond}
-use mathlib.Core.List.{List, [], map}
+use mathlib.Core.List.{List, []}
 use Prim.Native.Nat.{ℕ, zero, suc, _+_, _-_, _*_, _≤_, _<_}
 use lib.ListN.{length, getD, take, drop}
 use Rattle.language.specs.Limits as limit
-use Rattle.macros.specs.Expansion.{Writing, just, too-deep, followed-by, filled-in, walk, expand, levels}
+use Rattle.macros.specs.Expansion.{Writing, just, too-deep, followed-by, walk, expand, levels}
 use Rattle.macros.specs.Macros.{Macro}
 use Rattle.macros.specs.Pieces.{Piece, pieces-from}
 use Rattle.macro_code.specs.Bounds.{widest}
-use Rattle.macro_code.specs.Code.{high, low, bytes-at, first-change, change-count, size-at, call-in, change-in, changes-in, body-in, macros-in, arguments-in}
+use Rattle.macro_code.specs.Code.{high, low, bytes-at, first-change, change-count, size-at, change-in, changes-in, body-in, macros-in, arguments-in}
 use Rattle.macro_code.specs.Known.{Heights, Singles}
 use Rattle.macro_code.specs.Places as place
 use Rattle.statements.specs.declared.Fault as told

@@ -2,14 +2,14 @@
 use mathlib.Core.Path.{_≡_, refl, sym, ap, _∙_}
 use mathlib.Core.Bool.{Bool, true, false, _||_, true≢false}
 use mathlib.Core.List.{List, [], _∷_, _++_, map, append-nil}
-use Prim.Native.Nat.{ℕ, zero, suc, _+_, _-_, _*_, _≤_, _<_}
+use Prim.Native.Nat.{ℕ, zero, suc, _+_, _-_, _≤_, _<_}
 use native.Mathlib.Omega.{arith}
 use borrow.Author.Tests.{le-ltb}
 use lib.Dec.{ltb}
 use lib.ListN.{length, getD, take, drop, set}
 use lib.Seq.{getD-drop, getD-set-other}
-use Rattle.macros.specs.Expansion.{Writing, places-of, filled-in, expand, levels}
-use Rattle.macro_code.specs.Code.{call-in, body-in, macros-in, arguments-in}
+use Rattle.macros.specs.Expansion.{Writing, places-of, filled-in, levels}
+use Rattle.macro_code.specs.Code.{call-in, arguments-in}
 use Rattle.statements.specs.Faults.{lower}
 use Rattle.statements.specs.StatementAt.{fault-of}
 use Rattle.statements.specs.declared.Fault as told
@@ -17,7 +17,7 @@ use Rattle.statements.specs.declared.Fault.the-variants.{Clear, At}
 use Rattle.macro_values.specs.declared.Written.{Written}
 use Rattle.macro_values.specs.WritingLaws.{lower-assoc}
 use Rattle.macro_values.specs.Wrote.{Wrote}
-use Rattle.macro_memory.specs.Memory.{slots, slot-size, body-cell, around-cells, slot-at, Absorbed, innermost-writes, slot-writes, Remembers}
+use Rattle.macro_memory.specs.Memory.{slot-size, body-cell, around-cells, slot-at, Absorbed, slot-writes, Remembers}
 
 lower-twice : (a : told.Fault) → lower a a ≡ a
 lower-twice Clear = refl

@@ -1,23 +1,23 @@
 -- Arguments that are the same by their bytes; a call that is found; and one that is stored.
 use mathlib.Core.Path.{_≡_, refl, sym, ap, _∙_}
-use mathlib.Core.Bool.{Bool, true, false, _||_}
+use mathlib.Core.Bool.{Bool, true, false}
 use mathlib.Core.List.{List, [], _∷_, _++_, map}
-use Prim.Native.Nat.{ℕ, zero, suc, _+_, _-_, _*_, _≤_, _<_}
+use Prim.Native.Nat.{ℕ, zero, suc, _+_, _-_, _≤_, _<_}
 use native.Mathlib.Omega.{arith}
 use native.Mathlib.Decide.{decLt}
 use lib.Dec.{T, ltb}
-use lib.ListN.{length, getD, take, drop, set, replicate, length-append, length-set, getD-replicate}
+use lib.ListN.{length, getD, take, drop, set, replicate, length-set, getD-replicate}
 use lib.Seq.{getD-drop, getD-set-same, getD-set-other, take-set-le, take-add, take-at, drop-at, length-take-le}
 use Rattle.layout.specs.Cells.{tab}
 use Rattle.lists.specs.Lists.{sameBytes}
 use Rattle.lists.specs.ListLaws.{sameBytes-eq}
-use Rattle.macros.specs.Expansion.{Writing, just, filled-in, expand, levels}
+use Rattle.macros.specs.Expansion.{just, filled-in, levels}
 use Rattle.macros.specs.Pieces.{Given}
-use Rattle.macro_code.specs.Code.{given-in, call-in, body-in, macros-in, arguments-in, argument-count, argument-cell}
+use Rattle.macro_code.specs.Code.{given-in, call-in, arguments-in, argument-count, argument-cell}
 use Rattle.macro_values.specs.declared.Written.{Written}
 use Rattle.macro_values.specs.WritingLaws.{wrote-more}
 use Rattle.macro_values.specs.Wrote.{Wrote}
-use Rattle.macro_memory.specs.Memory.{slots, slot-size, body-cell, around-cells, slot-at, turns, memory, Absorbed, entered-writes, innermost-writes, slot-writes, Remembers, Alike, Found, Copied, Stored}
+use Rattle.macro_memory.specs.Memory.{slots, slot-size, body-cell, around-cells, slot-at, turns, memory, Absorbed, innermost-writes, slot-writes, Remembers, Alike, Found, Copied, Stored}
 use Rattle.macro_memory.specs.MemoryLaws.{or-left, arguments-like, slot-same}
 
 -- two values, one behind the other, in two halves that are the same

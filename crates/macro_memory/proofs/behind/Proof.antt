@@ -1,3 +1,4 @@
+-- `macro_memory::behind` meets its contract.
 use borrow.Author.Needs.{needs}
 use native.Mathlib.Omega.{arith}
 use denote.Ref.{now}
@@ -6,8 +7,6 @@ use lib.ListN.{length, drop, length-drop}
 use lib.Seq.{take-all}
 use Rattle.macro_memory.proofs.behind.Statement.{statement}
 use Rattle.macro_memory.proofs.behind.Tie as tie
-use Rattle.macro_memory.proofs.behind.Reads as reads
-use Rattle.macro_memory.proofs.behind.Lts as lts
 
 mul-result : tie.Need-mul-result
 mul-result c = search needs

@@ -1,3 +1,4 @@
+-- `macro_memory::cell_at` meets its contract.
 use borrow.Author.Needs.{needs}
 use native.Mathlib.Omega.{arith}
 use denote.Ref.{now}
@@ -5,9 +6,6 @@ use mathlib.Core.Path.{sym}
 use lib.ListN.{List·getD-eq-default}
 use Rattle.macro_memory.proofs.cell_at.Statement.{statement}
 use Rattle.macro_memory.proofs.cell_at.Tie as tie
-use Rattle.macro_memory.proofs.cell_at.Reads as reads
-use Rattle.macro_memory.proofs.cell_at.Lts as lts
-use Rattle.macro_memory.proofs.wide.Reads as wide-reads
 
 mul-wide : tie.Need-mul-wide
 mul-wide c = search needs

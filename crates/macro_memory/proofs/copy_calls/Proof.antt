@@ -1,6 +1,6 @@
+-- `macro_memory::copy_calls` meets its contract.
 use borrow.Author.Needs.{needs}
 use native.Mathlib.Omega.{arith}
-use denote.Ref.{now}
 use mathlib.Core.Path.{_≡_, refl}
 use Prim.Native.Nat.{_-_, _≤_}
 use lib.ListN.{length}
@@ -9,8 +9,6 @@ use Rattle.macro_memory.specs.Memory.{Copied}
 use Rattle.macro_memory.specs.SameLaws.{copied-none, copied-turn}
 use Rattle.macro_memory.proofs.copy_calls.Statement.{statement}
 use Rattle.macro_memory.proofs.copy_calls.Tie as tie
-use Rattle.macro_memory.proofs.copy_calls.Reads as reads
-use Rattle.macro_memory.proofs.copy_calls.Lts as lts
 
 abbrev Inv-loop : tie.InvT-loop
 Inv-loop calls₀ to j₀ calls j = Copied calls₀ calls to j × (length calls ≡ length calls₀) × (j ≤ levels)

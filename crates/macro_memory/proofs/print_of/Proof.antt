@@ -1,18 +1,11 @@
+-- `macro_memory::print_of` meets its contract.
 use borrow.Author.Needs.{needs}
 use native.Mathlib.Omega.{arith}
-use mathlib.Core.Path.{_≡_, refl, sym, _∙_}
-use Prim.Native.Nat.{ℕ, _-_, _<_, _≤_}
+use mathlib.Core.Path.{_≡_, refl}
+use Prim.Native.Nat.{_-_, _≤_}
 use lib.ListN.{length}
 use Rattle.macro_memory.proofs.print_of.Statement.{statement}
 use Rattle.macro_memory.proofs.print_of.Tie as tie
-use Rattle.macro_memory.proofs.print_of.Reads as reads
-use Rattle.macro_memory.proofs.print_of.Lts as lts
-use Rattle.macro_code.proofs.low.Reads as low-reads
-use Rattle.macro_code.proofs.part.Reads as part-reads
-use Rattle.macro_memory.proofs.argument_cell.Reads as argument-cell-reads
-use Rattle.macro_memory.proofs.mix.Reads as mix-reads
-use Rattle.macro_memory.proofs.nothing.Reads as nothing-reads
-use Rattle.macro_values.proofs.write_given.Reads as write-given-reads
 
 abbrev Inv-loop : tie.InvT-loop
 Inv-loop text code calls row₀ at n depth w₀ k₀ row w k = (length row ≡ length row₀) × (k ≤ n) × (w .count ≤ length row)

@@ -1,7 +1,8 @@
+-- `macro_memory::same_arguments` meets its contract.
 use borrow.Author.Needs.{needs}
 use native.Mathlib.Omega.{arith}
 use denote.Ref.{now}
-use mathlib.Core.Path.{_≡_, refl, sym, _∙_}
+use mathlib.Core.Path.{_≡_, refl, _∙_}
 use mathlib.Core.Bool.{false≢true}
 use Prim.Native.Nat.{ℕ, _-_, _<_, _≤_}
 use lib.ListN.{length}
@@ -11,11 +12,6 @@ use Rattle.macro_code.specs.Code.{given-in, arguments-in, argument-cell}
 use Rattle.macro_memory.specs.SameLaws.{alike-all, next-too}
 use Rattle.macro_memory.proofs.same_arguments.Statement.{statement}
 use Rattle.macro_memory.proofs.same_arguments.Tie as tie
-use Rattle.macro_memory.proofs.same_arguments.Reads as reads
-use Rattle.macro_memory.proofs.same_arguments.Lts as lts
-use Rattle.macro_code.proofs.low.Reads as low-reads
-use Rattle.macro_memory.proofs.argument_cell.Reads as argument-cell-reads
-use Rattle.macro_memory.proofs.same_given.Reads as same-given-reads
 
 abbrev Inv-loop : tie.InvT-loop
 Inv-loop text code calls others row₀ at n k₀ row k = (length row ≡ length row₀) × (k ≤ n) × ((j : ℕ) → j < k → filled-in (arguments-in text code calls (at .depth)) (given-in text code (argument-cell (at .one) j)) ≡ filled-in (arguments-in text code others (at .depth)) (given-in text code (argument-cell (at .other) j)))

@@ -1,17 +1,12 @@
+-- `macro_memory::same_given` meets its contract.
 use borrow.Author.Needs.{needs}
 use native.Mathlib.Omega.{arith}
 use denote.Ref.{now}
-use mathlib.Core.Path.{_≡_, sym, _∙_}
+use mathlib.Core.Path.{sym, _∙_}
 use mathlib.Core.Bool.{false≢true}
 use Rattle.macro_memory.specs.SameLaws.{values-same}
 use Rattle.macro_memory.proofs.same_given.Statement.{statement}
 use Rattle.macro_memory.proofs.same_given.Tie as tie
-use Rattle.macro_memory.proofs.same_given.Reads as reads
-use Rattle.macro_memory.proofs.same_given.Lts as lts
-use Rattle.macro_code.proofs.part.Reads as part-reads
-use Rattle.macro_memory.proofs.nothing.Reads as nothing-reads
-use Rattle.macro_values.proofs.write_given.Reads as write-given-reads
-use Rattle.words.proofs.same.Reads as same-reads
 
 nothing-requires : tie.Need-nothing-requires
 nothing-requires c κs = search needs

@@ -1,6 +1,5 @@
 -- `macro_section::write_section` meets its contract.
 use borrow.Author.Needs.{needs}
-use native.Mathlib.Omega.{arith}
 use denote.Ref.{now}
 use mathlib.Core.Path.{refl}
 use Rattle.macro_memory.specs.SameLaws.{remembers-none}
