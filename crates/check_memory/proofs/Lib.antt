@@ -5,5 +5,6 @@ pub mod Wholes
 pub mod Facts
 pub mod Accepts
 pub mod Question
+pub mod Steps
 pub mod Starts
 pub mod Loops

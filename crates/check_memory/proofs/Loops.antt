@@ -30,8 +30,8 @@ use Rattle.records.specs.declared.Sequence.{Sequence}
 use Rattle.records.specs.declared.Totals.{Totals}
 use Rattle.records.specs.Sequences.{part-total, char-total, TookRecords, Totalled}
 use Rattle.check_memory.specs.declared.Sums.{Sums}
-use Rattle.check_memory.specs.Passes.{sizes, sum, zeros, laid, all-strings, expressions, halves, expression-parts, expression-chars, all-parts, all-chars, is-total, counted, distinct}
-use Rattle.check_memory.specs.Reads.{Ended, Readable, Named, StringLent, ExpressionSums, FileSums, Comparable}
+use Rattle.check_memory.specs.Passes.{sizes, sum, zeros, laid, all-strings, expressions, halves, expression-parts, expression-chars, is-total, counted, distinct}
+use Rattle.check_memory.specs.Reads.{Ended, Readable, Named, StringLent, ExpressionSums, FileSums, AllSums, Comparable}
 use Rattle.check_memory.proofs.Readings.{length-expressions, length-halves}
 
 -- ---- the cells
@@ -213,6 +213,7 @@ halves-sums {m} g h =
       records-is = adding-end (g .count) (omega (arith, n));
       parts-most = omega (arith, g .parts .most, g .upto);
       chars-most = omega (arith, g .chars .most, g .upto);
+      records-most = omega (arith, g .count .most, g .upto);
     }
 
 -- ---- addresses
@@ -262,10 +263,7 @@ module _ {m st d : List ℕ} (c : Comparable m st (length d)) {e : List ℕ} {n 
 
 -- ---- totals
 
-pub counted-by : {m : List ℕ} {e f : Sums} → ExpressionSums m e → FileSums m f → {a b c : ℕ} → Number (three-at layout.components-cell m) 16777216 a → Number (three-at layout.characters-cell m) 16777216 b → Number (three-at layout.records-cell m) 16777216 c
-    → {t u v : Bool} → t ≡ is-total 1024 a (e .parts + f .parts) → u ≡ is-total 8192 b (e .chars + f .chars) → v ≡ is-total 256 c (f .records) → t && u && v ≡ counted m
+pub counted-by : {m : List ℕ} {s : Sums} → AllSums m s → {a b c : ℕ} → Number (three-at layout.components-cell m) 16777216 a → Number (three-at layout.characters-cell m) 16777216 b → Number (three-at layout.records-cell m) 16777216 c
+    → {t u v : Bool} → t ≡ is-total 1024 a (s .parts) → u ≡ is-total 8192 b (s .chars) → v ≡ is-total 256 c (s .records) → t && u && v ≡ counted m
 unfolding counted
-counted-by {m} {e} {f} x y a b c t u v =
-    let p : e .parts + f .parts ≡ all-parts m = omega (arith, x .parts-is, y .parts-is) in
-    let q : e .chars + f .chars ≡ all-chars m = omega (arith, x .chars-is, y .chars-is) in
-    rw (t, u, v, p, q, y .records-is, a .is, b .is, c .is) refl
+counted-by x a b c t u v = rw (t, u, v, x .parts-is, x .chars-is, x .records-is, a .is, b .is, c .is) refl

@@ -134,7 +134,7 @@ module _ (p : Program) (i j M : List ℕ) (gp : T (good-program p)) (gi : T (goo
       ap (λ k. drop k m) q ∙ sym (drop-drop (layout.lengths-bytes + used ws) layout.first-length m) ∙ ap (drop (layout.lengths-bytes + used ws)) behind
       ∙ sym (drop-drop (used ws) layout.lengths-bytes (string-cells ws)) ∙ ap (drop (used ws)) (drop-at (lengths ws) (joined ws ++ z) layout.lengths-bytes n) ∙ drop-at (joined ws) z (used ws) refl
 
-  is-laid : Laid m
+  pub is-laid : Laid m
   is-laid = record {
     sign = omega (arith, scalar 0 (omega arith), sign-most (st m .plus));
     last-most = omega (arith, last-is m, fine .last-most);
@@ -173,7 +173,7 @@ module _ (p : Program) (i j M : List ℕ) (gp : T (good-program p)) (gi : T (goo
   addressed : T (all (given l) (addresses (st m)))
   addressed = subst (λ k. T (all (given k) (addresses (st m)))) (last-is m) (test 7)
 
-  is-sound : Strings m
+  pub is-sound : Strings m
   is-sound = record {
     exprs = expressions-close l (expressions m) (record { same = exprs-same; faultless = omega (arith, faultless, faults-is m i j l) });
     files = halves-close l (halves m) (record { same = files-same; faultless = omega (arith, faultless, faults-is m i j l); addressed = subst (λ ns. T (all (given l) ns)) (addresses-is m) addressed });

@@ -9,7 +9,7 @@ use Rattle.layout.specs.Components.{records-in}
 use Rattle.layout.specs.Places as layout
 use Rattle.lists.specs.Lists.{total}
 use Rattle.records.specs.Sequences.{part-total, char-total}
-use Rattle.check_memory.specs.Passes.{sizes, sum, all-strings, expressions, halves, expression-parts, expression-chars, record-count}
+use Rattle.check_memory.specs.Passes.{sizes, sum, all-strings, expressions, halves, expression-parts, expression-chars, all-parts, all-chars, record-count}
 use Rattle.check_memory.specs.declared.Sums.{Sums}
 
 -- m is the cells of a state, and there are places for the starts
@@ -76,6 +76,16 @@ pub record FileSums (m : List ℕ) (r : Sums) : Type 0 where
   pub records-is : r .records ≡ record-count m
   pub parts-most : r .parts ≤ 4194304
   pub chars-most : r .chars ≤ 4194304
+  pub records-most : r .records ≤ 4194304
+
+-- what both hold
+pub record AllSums (m : List ℕ) (r : Sums) : Type 0 where
+  pub parts-is : r .parts ≡ all-parts m
+  pub chars-is : r .chars ≡ all-chars m
+  pub records-is : r .records ≡ record-count m
+  pub parts-most : r .parts < 16777216
+  pub chars-most : r .chars < 16777216
+  pub records-most : r .records < 16777216
 
 -- the addresses of its records have room among `count` places
 pub record Comparable (m st : List ℕ) (count : ℕ) : Type 0 where

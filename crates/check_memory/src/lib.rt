@@ -5,7 +5,7 @@ ghost use Rattle.layout.specs.Cells.{three-at};
 ghost use Rattle.lists.specs.Lists.{all};
 ghost use Rattle.check_strings.specs.Sound.{sound-components, sound-records};
 ghost use Rattle.check_memory.specs.Passes.{zeros, laid, expressions, halves, sound, is-total, counted, distinct};
-ghost use Rattle.check_memory.specs.Reads.{Measurable, Started, Ended, Named, StringLent, Walkable, WholeExpressions, WholeFiles, BothWhole, ExpressionSums, FileSums, Comparable};
+ghost use Rattle.check_memory.specs.Reads.{Measurable, Started, Ended, Named, StringLent, Walkable, WholeExpressions, WholeFiles, BothWhole, ExpressionSums, FileSums, AllSums, Comparable};
 ghost use Rattle.layout.specs.Places.{last-cell};
 use language::Machine;
 use layout::StatePlaces;
@@ -156,27 +156,40 @@ fn is_total(most: usize, told: usize, n: usize) -> bool
     (n == told) & (n <= most)
 }
 
+// What the expressions and the files come to.
+pub fn totals(m: &[u8], starts: &[u32]) -> Sums
+    requires { ⌜ BothWhole (now m) (now starts) ⌝ }
+    ensures { λ r. ⌜ AllSums (now (m .entry)) r ⌝ }
+{
+    let e = expression_sums(m, starts);
+    let f = file_sums(m, starts);
+    Sums {
+        parts: e.parts + f.parts,
+        chars: e.chars + f.chars,
+        records: f.records,
+    }
+}
+
 // Whether the totals are those told, and within their limits.
 pub fn is_counted(m: &[u8], starts: &[u32]) -> bool
     requires { ⌜ BothWhole (now m) (now starts) ⌝ }
     ensures { λ r. ⌜ r ≡ counted (now (m .entry)) ⌝ }
 {
-    let e = expression_sums(m, starts);
-    let f = file_sums(m, starts);
+    let t = totals(m, starts);
     is_total(
         Machine::COMPONENTS,
         cells::three_at(m, StatePlaces::COMPONENTS_CELL),
-        e.parts + f.parts,
+        t.parts,
     )
         & is_total(
             Machine::CHARACTERS,
             cells::three_at(m, StatePlaces::CHARACTERS_CELL),
-            e.chars + f.chars,
+            t.chars,
         )
         & is_total(
             Machine::RECORDS,
             cells::three_at(m, StatePlaces::RECORDS_CELL),
-            f.records,
+            t.records,
         )
 }
 

@@ -1,5 +1,5 @@
 -- What each test that passed gives the next one.
-use mathlib.Core.Path.{_≡_, refl, sym, ap, _∙_, subst}
+use mathlib.Core.Path.{_≡_, refl, sym, ap, _∙_}
 use mathlib.Core.Bool.{Bool, true, false, _&&_}
 use mathlib.Core.List.{List, [], _∷_}
 use Prim.Native.Nat.{ℕ, _≤_, _<_}
@@ -7,11 +7,11 @@ use native.Mathlib.Omega.{arith}
 use lib.Dec.{T, leb, ltb}
 use lib.ListN.{length, take}
 use Rattle.cells.specs.Cells.{Number}
-use Rattle.check_memory.proofs.Facts.{laid-open, sound-open, counted-open}
+use Rattle.check_memory.proofs.Facts.{counted-open}
 use Rattle.check_memory.proofs.Question.{question-63, too-short}
-use Rattle.check_memory.proofs.Wholes.{whole-expressions, whole-halves}
+use Rattle.check_memory.proofs.Steps.{passed, readable, both-whole}
 use Rattle.check_memory.specs.Passes.{laid, sound, counted, distinct, sound-stack, sound-output, fitting}
-use Rattle.check_memory.specs.Reads.{Started, Ended, Readable, StringLent, Walkable, BothWhole, Comparable}
+use Rattle.check_memory.specs.Reads.{Started, StringLent, Comparable}
 use Rattle.check_strings.proofs.ComponentWalks.{bytes-take}
 use Rattle.check_strings.specs.Sound.{Bytes}
 use Rattle.layout.specs.Cells.{cell, three-at}
@@ -24,32 +24,16 @@ use Rattle.packed.specs.Packed.{table-of}
 use Rattle.check_state.specs.Asked.{Asked, Workable, Fittable, passes}
 use Rattle.check_state.proofs.Returns.{code-is}
 
-passed : {t b : Bool} → t ≡ b → t ≡ true → T b
-passed e k = subst T (sym k ∙ e) tt
+module _ {c m : List ℕ} {x y : ℕ} (w : Workable c m x y) {st : List ℕ} {end : ℕ} (g : Started m st end) {t : Bool} (e : t ≡ laid m) (k : t ≡ true) where
+  pub comparable : Bytes m → {u : Bool} → u ≡ sound m → u ≡ true → {v : Bool} → v ≡ counted m → v ≡ true → Comparable m st y
+  comparable b f h q z = record {
+    readable = readable (w .long) g e k;
+    files = both-whole (w .long) g e k b f h .files;
+    room = omega (arith, counted-open m (passed q z) .records .fits, w .addresses-is);
+  }
 
-module _ {c m : List ℕ} {x y : ℕ} (w : Workable c m x y) {st : List ℕ} {end : ℕ} (g : Started m st end) where
-  pub ended : Ended m end
-  ended = record { long = w .long; is = g .ends }
-
-  module _ {t : Bool} (e : t ≡ laid m) (k : t ≡ true) where
-    pub readable : Readable m st
-    readable = record { long = w .long; count = g .count; place = g .place; room = laid-open m (passed e k) .room }
-
-    pub walkable : Walkable m st (three-at layout.last-cell m)
-    walkable = record { readable = readable; last-most = laid-open m (passed e k) .last-most }
-
-    module _ (b : Bytes m) {u : Bool} (f : u ≡ sound m) (h : u ≡ true) where
-      pub both-whole : BothWhole m st
-      both-whole =
-          let l = laid-open m (passed e k) .last-most in
-          let s = sound-open m (passed f h) in
-          record { readable = readable; exprs = whole-expressions m b (three-at layout.last-cell m) l (s .exprs); files = whole-halves m b (three-at layout.last-cell m) l (s .files) }
-
-      pub comparable : {v : Bool} → v ≡ counted m → v ≡ true → Comparable m st y
-      comparable q z = record { readable = readable; files = both-whole .files; room = omega (arith, counted-open m (passed q z) .records .fits, w .addresses-is) }
-
-    pub fittable : Fittable c m st
-    fittable = record { table = w .table; readable = readable }
+  pub fittable : Fittable c m st
+  fittable = record { table = w .table; readable = readable (w .long) g e k }
 
 -- ---- the answers
 

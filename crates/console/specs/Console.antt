@@ -2,7 +2,6 @@
 use mathlib.Core.Bool.{Bool, cond}
 use mathlib.Core.List.{List, [], _∷_, _++_}
 use Prim.Native.Nat.{ℕ, _+_, _/_, _%_}
-use lib.Dec.{eqb}
 use lib.IntN.{pos}
 use lib.ListN.{length, getD, take, drop}
 use Rattle.lists.specs.Lists.{joined, sameBytes}
@@ -14,20 +13,11 @@ use Rattle.machine.specs.Runs.Answer.{pause, stopped}
 use Rattle.machine.specs.Steps.{step}
 use Rattle.machine.specs.WellFormed.{good-inputs, started}
 use Rattle.macros.specs.Load.{loadOf}
+use Rattle.text_lines.specs.Lines.{lines}
 use Rattle.syntax.specs.Load.{Loaded}
 use Rattle.syntax.specs.Load.Loaded.{refused, accepted}
 
 -- ---- "the text up to the end of the first line starting with KONP (all of it where there is none), the bytes after it being I1"
-
--- a byte in front of the first line
-abbrev pub onto : ℕ → List (List ℕ) → List (List ℕ)
-onto b [] = (b ∷ []) ∷ []
-onto b (l ∷ ls) = (b ∷ l) ∷ ls
-
--- the lines, each with the new line that ends it
-unfoldable pub lines : List ℕ → List (List ℕ)
-lines [] = []
-lines (b ∷ s) = cond (eqb b 10) ((b ∷ []) ∷ lines s) (onto b (lines s))
 
 -- "starting with KONP"
 abbrev pub is-last : List ℕ → Bool

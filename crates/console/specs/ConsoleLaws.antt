@@ -2,25 +2,15 @@
 use mathlib.Core.Path.{_≡_, refl, ap, sym, _∙_}
 use mathlib.Core.Bool.{Bool, true, false, cond}
 use mathlib.Core.List.{List, [], _∷_, _++_, append-assoc}
-use Prim.Native.Nat.{ℕ, suc, _+_, _<_}
+use Prim.Native.Nat.{ℕ, _+_, _<_}
 use native.Mathlib.Omega.{arith}
-use lib.Dec.{eqb}
 use lib.ListN.{length, take, drop, length-append}
 use lib.Seq.{take-append-seam}
 use Rattle.lists.specs.Lists.{joined}
-use Rattle.console.specs.Console.{onto, lines, is-last, through, textOf, inputOf}
-use Rattle.console.specs.Parts.{line-length, TextEnd}
-
-pub lines-first : (s : List ℕ) → 0 < length s → lines s ≡ take (line-length s) s ∷ lines (drop (line-length s) s)
-unfolding lines line-length
-lines-first [] h = absurd (omega (arith, h))
-lines-first (b ∷ s) h = go (eqb b 10) s (lines-first s)
-  where
-    go : (x : Bool) (s : List ℕ) → (0 < length s → lines s ≡ take (line-length s) s ∷ lines (drop (line-length s) s))
-        → cond x ((b ∷ []) ∷ lines s) (onto b (lines s)) ≡ take (suc (cond x 0 (line-length s))) (b ∷ s) ∷ lines (drop (suc (cond x 0 (line-length s))) (b ∷ s))
-    go true s k = refl
-    go false [] k = refl
-    go false (c ∷ s) k = ap (onto b) (k (omega arith))
+use Rattle.text_lines.specs.LineLaws.{lines-first, joined-lines}
+use Rattle.text_lines.specs.Lines.{lines, line-length}
+use Rattle.console.specs.Console.{is-last, through, textOf, inputOf}
+use Rattle.console.specs.Parts.{TextEnd}
 
 text-by : (l : List ℕ) (ls : List (List ℕ)) → joined (through (l ∷ ls)) ≡ l ++ cond (is-last l) [] (joined (through ls))
 unfolding through
@@ -35,20 +25,6 @@ pub text-first : (s : List ℕ) → 0 < length s
     → textOf s ≡ take (line-length s) s ++ cond (is-last (take (line-length s) s)) [] (textOf (drop (line-length s) s))
 unfolding textOf
 text-first s h = ap (λ ls. joined (through ls)) (lines-first s h) ∙ text-by (take (line-length s) s) (lines (drop (line-length s) s))
-
--- the lines are all of the input
-joined-onto : (b : ℕ) (ls : List (List ℕ)) → joined (onto b ls) ≡ b ∷ joined ls
-joined-onto b [] = refl
-joined-onto b (l ∷ ls) = refl
-
-joined-lines : (s : List ℕ) → joined (lines s) ≡ s
-unfolding lines
-joined-lines [] = refl
-joined-lines (b ∷ s) = go (eqb b 10) (joined-lines s)
-  where
-    go : (x : Bool) → joined (lines s) ≡ s → joined (cond x ((b ∷ []) ∷ lines s) (onto b (lines s))) ≡ b ∷ s
-    go true k = ap (λ l. b ∷ l) k
-    go false k = joined-onto b (lines s) ∙ ap (λ l. b ∷ l) k
 
 through-front : (ls : List (List ℕ)) → (t : List ℕ) × (joined ls ≡ joined (through ls) ++ t)
 unfolding through

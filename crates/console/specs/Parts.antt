@@ -1,25 +1,14 @@
 -- What the functions of the console ask and promise.
 use mathlib.Core.Path.{_≡_}
 use mathlib.Core.Bool.{cond}
-use mathlib.Core.List.{List, [], _∷_}
-use Prim.Native.Nat.{ℕ, suc, _+_, _≤_, _<_}
+use mathlib.Core.List.{List}
+use Prim.Native.Nat.{ℕ, _+_, _≤_}
 use lib.Dec.{eqb}
 use lib.ListN.{length, take, drop}
 use Rattle.cells.specs.Cells.{pasted}
 use Rattle.machine.specs.Runs.{Answer}
 use Rattle.machine.specs.Runs.Answer.{pause, stopped}
 use Rattle.console.specs.Console.{textOf, inputOf}
-
--- how many bytes the first line has, with the new line that ends it
-unfoldable pub line-length : List ℕ → ℕ
-line-length [] = 0
-line-length (b ∷ s) = suc (cond (eqb b 10) 0 (line-length s))
-
--- r is where the line ends that begins at `at`
-pub record LineEnd (s : List ℕ) (at r : ℕ) : Type 0 where
-  pub is : r ≡ at + line-length (drop at s)
-  pub on : at < r
-  pub within : r ≤ length s
 
 -- r parts the text from I1
 pub record TextEnd (s : List ℕ) (r : ℕ) : Type 0 where

@@ -3,27 +3,12 @@ ghost use mathlib.Core.Path.{_≡_};
 ghost use Prim.Native.Nat.{_+_, _≤_, _<_};
 ghost use lib.ListN.{length};
 ghost use Rattle.console.specs.Console.{is-last, two-digits, field, refusal-line, answer-bytes, end-line};
-ghost use Rattle.console.specs.Parts.{LineEnd, TextEnd, Put, Room, RefusalRoom, EndRoom, answer-by};
+ghost use Rattle.console.specs.Parts.{TextEnd, Put, Room, RefusalRoom, EndRoom, answer-by};
 
 const KONP: [u8; 4] = *b"KONP";
 
 // The number of a pause.
 const PAUSE: usize = 81;
-
-// Where the line that begins at `at` ends, behind its new line.
-fn line_end(input: &[u8], at: usize) -> usize
-    requires { ⌜ at < length (now input) ⌝ }
-    ensures { λ r. ⌜ LineEnd (now (input .entry)) at r ⌝ }
-{
-    let mut i = at;
-    while i < input.len() {
-        if input[i] == b'\n' {
-            return i + 1;
-        }
-        i += 1;
-    }
-    i
-}
 
 // Whether a line is one "starting with KONP".
 fn is_last(line: &[u8]) -> bool
@@ -41,7 +26,7 @@ pub fn text_end(input: &[u8]) -> usize
 {
     let mut at = 0;
     while at < input.len() {
-        let end = line_end(input, at);
+        let end = text_lines::line_end(input, at);
         if is_last(&input[at..end]) {
             return end;
         }

@@ -1,14 +1,12 @@
 // The calls for C. A slice passes as a pointer and a length; the answer has the number in its upper 32 bits and the line or the count in the lower.
 ghost use mathlib.Core.Path.{_≡_};
-ghost use mathlib.Core.Bool.{cond};
 ghost use mathlib.Core.List.{[], _∷_};
 ghost use lib.ListN.{length};
 ghost use Rattle.calls.specs.Calls.{packed, startOf, runOf};
 ghost use Rattle.calls.specs.Filling.{Fills};
 ghost use Rattle.editions.specs.Convert.{convertOf};
-ghost use Rattle.layout.specs.Table.{good-table};
-ghost use Rattle.machine.specs.WellFormed.{good-inputs};
 ghost use Rattle.macros.specs.Load.{loadIn};
+ghost use Rattle.state_frames.specs.Keeping.{writeOf, readOf, Reads};
 ghost use Rattle.interpreter.specs.Answers.{Answers, Answers-load};
 use language::Machine;
 use loading::Loaded;
@@ -38,34 +36,12 @@ pub extern "C" fn eol2_convert(text: &[u8], out: &mut [u8]) -> u64
     packed(r.number, r.count)
 }
 
-// The number of the first question answered no: 62 of the table, then 61 of the inputs; 0 where there is none.
-fn first_no(fine: bool, right: bool) -> u8
-    ensures { λ r. ⌜ r ≡ cond fine (cond right 0 61) 62 ⌝ }
-{
-    if !fine {
-        return 62;
-    }
-    if !right {
-        return 61;
-    }
-    0
-}
-
-// The same of a table and two inputs.
-fn ask(table: &[u32], i1: &[u8], i2: &[u8]) -> u8
-    ensures { λ r. ⌜ r ≡ cond (good-table (now (table .entry))) (cond (good-inputs (now (i1 .entry) ∷ now (i2 .entry) ∷ [])) 0 61) 62 ⌝ }
-{
-    let fine = check_table::is_table(table);
-    let right = check_inputs::are_inputs(i1, i2);
-    first_no(fine, right)
-}
-
 // "Start then makes H plus, all else empty."
 #[no_mangle]
 pub extern "C" fn eol2_start(table: &[u32], i1: &[u8], i2: &[u8], state: &mut [u8]) -> u64
     ensures { λ r. ⌜ Answers (startOf (now (table .entry)) (now (i1 .entry) ∷ now (i2 .entry) ∷ []) (now (state .entry))) r (now (state .exit)) ⌝ }
 {
-    let refused = ask(table, i1, i2);
+    let refused = check_calls::ask(table, i1, i2);
     if refused != 0 {
         return packed(refused, 0);
     }
@@ -87,7 +63,7 @@ pub extern "C" fn eol2_run(
 ) -> u64
     ensures { λ r. ⌜ Answers (runOf (now (table .entry)) (now (i1 .entry) ∷ now (i2 .entry) ∷ []) budget (now (state .entry))) r (now (state .exit)) ⌝ }
 {
-    let refused = ask(table, i1, i2);
+    let refused = check_calls::ask(table, i1, i2);
     if refused != 0 {
         return packed(refused, 0);
     }
@@ -96,4 +72,34 @@ pub extern "C" fn eol2_run(
     }
     let r = running::run(table, i1, i2, state, budget);
     packed(r.number, r.count)
+}
+
+// The number, and how many bytes of the buffer are the state as lines of frames: "An ill-formed state to write, or memory too short, brings 63; the
+// rest of a buffer stays".
+#[no_mangle]
+pub extern "C" fn eol2_write_state(
+    table: &[u32],
+    i1: &[u8],
+    i2: &[u8],
+    state: &[u8],
+    out: &mut [u8],
+) -> u64
+    ensures { λ r. ⌜ Fills (writeOf (now (table .entry)) (now (i1 .entry) ∷ now (i2 .entry) ∷ []) (now (state .entry)) (length (now (out .entry)))) r (now (out .entry)) (now (out .exit)) ⌝ }
+{
+    let r = state_saving::write_state(table, i1, i2, state, out);
+    packed(r.number, r.count)
+}
+
+// The number; the state is the one that the lines of frames give. "A refused call changes nothing."
+#[no_mangle]
+pub extern "C" fn eol2_read_state(
+    table: &[u32],
+    i1: &[u8],
+    i2: &[u8],
+    saved: &[u8],
+    state: &mut [u8],
+) -> u64
+    ensures { λ r. ⌜ Reads (readOf (now (table .entry)) (now (i1 .entry) ∷ now (i2 .entry) ∷ []) (now (saved .entry)) (now (state .entry))) r (now (state .exit)) ⌝ }
+{
+    packed(state_restoring::read_state(table, i1, i2, saved, state), 0)
 }

@@ -12,6 +12,7 @@ ghost use Rattle.lexer.specs.Tokens.{item-of};
 ghost use Rattle.syntax.specs.Statements.{is-operator};
 ghost use Rattle.translating.specs.Translating.{taken, Passable, Passed};
 use appending::append;
+use calls::Filled;
 use language::Machine;
 use lexer::Token;
 use lexer::next_item;
@@ -20,12 +21,6 @@ use scanner::END;
 use scanner::NOTHING;
 use scanner::WORD;
 use words::append_other;
-
-// A number, and how many bytes were written.
-pub struct Filled {
-    pub number: u8,
-    pub count: u32,
-}
 
 // How far a text is read and written: the place from which the next item is sought, whether the operator of the statement there is still to come, the
 // place up to which all is written, and how many bytes were.

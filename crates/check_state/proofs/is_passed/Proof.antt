@@ -2,7 +2,8 @@
 use borrow.Author.Needs.{needs}
 use native.Mathlib.Omega.{arith}
 use borrow.Author.Tests.{not-true, not-false}
-use Rattle.check_state.proofs.Steps.{ended, walkable, both-whole, comparable, fittable, fails-1, fails-2, fails-3, fails-4, last}
+use Rattle.check_memory.proofs.Steps.{ended, walkable, both-whole}
+use Rattle.check_state.proofs.Steps.{comparable, fittable, fails-1, fails-2, fails-3, fails-4, last}
 use Rattle.check_state.proofs.is_passed.Statement.{statement}
 use Rattle.check_state.proofs.is_passed.Tie as tie
 
@@ -12,7 +13,7 @@ starts-of-requires c κs =
     record { long = pre .long; places = pre .starts-is }
 
 is-laid-requires : tie.Need-is-laid-requires
-is-laid-requires c κs = ended (c .before .before .before .before .before .before .before .before .before .before .pre) (c .before .before .starts-of .ensures)
+is-laid-requires c κs = ended (c .before .before .before .before .before .before .before .before .before .before .pre .long) (c .before .before .starts-of .ensures)
 
 same-length : tie.Need-same-length
 same-length c = search needs
@@ -27,7 +28,7 @@ is-sound-requires c κs =
     let pre = c .before .before .before .before .before .before .before .before .before .before .before .before .before .pre in
     let starts-of = c .before .before .before .before .before .starts-of in
     let is-laid = c .before .before .is-laid in
-    walkable pre (starts-of .ensures) (is-laid .ensures) (not-false _ (c .before .if1 .left))
+    walkable (pre .long) (starts-of .ensures) (is-laid .ensures) (not-false _ (c .before .if1 .left))
 
 same-length-2 : tie.Need-same-length-2
 same-length-2 c = search needs
@@ -47,7 +48,7 @@ is-counted-requires c κs =
     let is-laid = c .before .before .before .before .before .is-laid in
     let if1 = c .before .before .before .before .if1 in
     let is-sound = c .before .before .is-sound in
-    both-whole pre (starts-of .ensures) (is-laid .ensures) (not-false _ (if1 .left)) (λ j. omega (arith, shared-slice-known4 .given j)) (is-sound .ensures) (not-false _ (c .before .if2 .left))
+    both-whole (pre .long) (starts-of .ensures) (is-laid .ensures) (not-false _ (if1 .left)) (λ j. omega (arith, shared-slice-known4 .given j)) (is-sound .ensures) (not-false _ (c .before .if2 .left))
 
 same-length-3 : tie.Need-same-length-3
 same-length-3 c = search needs

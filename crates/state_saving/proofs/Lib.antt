@@ -1,0 +1,4 @@
+pub mod Appending
+pub mod Contents
+pub mod Outcomes
+pub mod Parts
