@@ -12,6 +12,8 @@
        run BUDGET => NUMBER COUNT
        output K => BYTES                 (no call: Q K of the state)
        convert TEXT LENGTH => NUMBER BYTES   (to a buffer of that length)
+       write LENGTH => NUMBER BYTES      (the state, to a buffer of that length)
+       read SAVED => NUMBER              (into the state)
 
    GRADE and PREVIEW are 0: no call takes them yet. What is lent lies between pages that trap (lent.h); what a call only reads, and what a
    refused one leaves alone, is compared too. */
@@ -20,9 +22,9 @@
 
 #include <stdarg.h>
 
-enum { LEVEL = 5, WORDS_MOST = 64, ANSWER_MOST = 4 * EOL2_INPUT, BUFFER_MOST = 2 * EOL2_TEXT };
+enum { LEVEL = 6, WORDS_MOST = 64, ANSWER_MOST = 4 * EOL2_INPUT, BUFFER_MOST = 2 * EOL2_TEXT };
 
-static struct lent text, table, i1, i2, state, out;
+static struct lent text, saved, table, i1, i2, state, out;
 static uint8_t table_now[EOL2_TABLE * 4], state_now[EOL2_STATE], before[BUFFER_MOST];
 static struct { uint8_t at[EOL2_INPUT + 1]; size_t bytes; } inputs[2];
 static const char *script;
@@ -105,13 +107,14 @@ static void lend_all(void)
     lend(&i1, inputs[0].at, inputs[0].bytes);
     lend(&i2, inputs[1].at, inputs[1].bytes);
     lend(&state, state_now, sizeof state_now);
+    lend(&saved, before, 0);
     lend(&out, before, 0);
 }
 
 /* After a call that may write `written`, and was refused or not. */
 static void look(struct lent *written, int refused)
 {
-    struct lent *all[] = {&text, &table, &i1, &i2, &state, &out};
+    struct lent *all[] = {&text, &saved, &table, &i1, &i2, &state, &out};
     calls++;
     for (int k = 0; k < (int)(sizeof all / sizeof *all); k++) {
         if (!lent_guarded(all[k]))
@@ -194,6 +197,27 @@ static void convert(char **words)
     tell_filled(eol2_convert(text.at, text.length, out.at, out.length));
 }
 
+static void write_state(char **words)
+{
+    lend_all();
+    lend_out(words[1]);
+    tell_filled(eol2_write_state((const uint32_t *)(const void *)table.at, EOL2_TABLE, i1.at, i1.length, i2.at, i2.length, state.at, EOL2_STATE,
+                                 out.at, out.length));
+}
+
+static void read_state(char **words)
+{
+    static uint8_t s[BUFFER_MOST];
+    lend_all();
+    lend(&saved, s, bytes(words[1], s, sizeof s));
+    uint64_t a = eol2_read_state((const uint32_t *)(const void *)table.at, EOL2_TABLE, i1.at, i1.length, i2.at, i2.length, saved.at, saved.length,
+                                 state.at, EOL2_STATE);
+    look(&state, eol2_number(a) != EOL2_ACCEPTED);
+    if (eol2_count(a))
+        stop(1, "read answers with count %u", (unsigned)eol2_count(a));
+    tell_number(eol2_number(a));
+}
+
 static void output(char **words)
 {
     size_t n;
@@ -203,7 +227,7 @@ static void output(char **words)
 
 static const struct { const char *name; int words; void (*make)(char **words); } names[] = {
     {"load", 3, load}, {"start", 4, start}, {"inputs", 3, take_inputs}, {"run", 2, run}, {"output", 2, output},
-    {"convert", 3, convert}};
+    {"convert", 3, convert}, {"write", 2, write_state}, {"read", 2, read_state}};
 
 /* ---- scripts */
 
@@ -256,7 +280,7 @@ static void one_script(const char *name)
 int main(int count, char **words)
 {
     lent_make(&text, 2 * EOL2_TEXT), lent_make(&table, sizeof table_now), lent_make(&i1, EOL2_INPUT + 1), lent_make(&i2, EOL2_INPUT + 1);
-    lent_make(&state, sizeof state_now), lent_make(&out, sizeof before);
+    lent_make(&state, sizeof state_now), lent_make(&saved, sizeof before), lent_make(&out, sizeof before);
     lend(&text, state_now, 0);
     for (int k = 1; k < count; k++)
         one_script(words[k]);

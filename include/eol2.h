@@ -1,4 +1,5 @@
-/* EOL-2 for C: load a program text, start a state, run it under a budget; and turn a text into the other edition.
+/* EOL-2 for C: load a program text, start a state, run it under a budget; turn a text into the other edition; write a state as text and read it
+   back.
 
    The library is for x86-64 Linux: `rt staticlib interpreter` writes target/staticlib/libinterpreter.a, which needs memcpy and memset, and
    nothing else. `cc -Iinclude host.c target/staticlib/libinterpreter.a` builds a program over it. host/eol2.c is a short one, and `host/run`
@@ -15,17 +16,18 @@
            q1 = eol2_output(state, 1, &q1_bytes);
        } while (eol2_number(answer) == EOL2_PAUSED);
 
-   What holds of all four calls:
+   What holds of all six calls:
    - Memory is lent by the caller, each buffer as a pointer and a length. The length of a table counts numbers of 32 bits, every other length
      counts bytes. A null pointer is allowed with length 0. A table is aligned as uint32_t.
-   - The buffer that a call writes (the table of eol2_load, the state of eol2_start and eol2_run, the out of eol2_convert) overlaps no other
-     buffer of that call, and nobody else reads or writes it while the call lasts. The others are only read, may overlap each other, and stay
-     unwritten by anybody meanwhile. These are the only duties of a caller: any content and any length is answered, and nothing need be
-     checked beforehand.
+   - The buffer that a call writes (the table of eol2_load, the state of eol2_start, eol2_run and eol2_read_state, the out of eol2_convert and
+     eol2_write_state) overlaps no other buffer of that call, and nobody else reads or writes it while the call lasts. The others are only
+     read, may overlap each other, and stay unwritten by anybody meanwhile. These are the only duties of a caller: any content and any length
+     is answered, and nothing need be checked beforehand.
    - A table counts as far as its first EOL2_TABLE numbers, a state as far as its first EOL2_STATE bytes. What lies beyond is neither read nor
      written; a buffer may be longer.
    - A call keeps nothing from one to the next and has no variables of its own: all is in the lent memory, so table and state can be copied,
-     saved, and used again later. Calls on different buffers may run at the same time. docs/LAYOUT.md has what lies where.
+     saved, and used again later; eol2_write_state gives a state as text, for a file. Calls on different buffers may run at the same time.
+     docs/LAYOUT.md has what lies where.
    - The answer is a number of 64 bits: document 01's number in the upper 32, the line or the count in the lower 32. eol2_number, eol2_line
      and eol2_count take it apart.
    - A call works on the stack, and takes less than EOL2_STACK bytes of it. */
@@ -47,6 +49,7 @@ enum {
     EOL2_TEXT = 32768,   /* bytes that a program text has at most */
     EOL2_INPUT = 65536,  /* bytes that an input has at most */
     EOL2_OUTPUT = 4096,  /* bytes that an output has at most */
+    EOL2_SAVED = 47754,  /* bytes that a saved state has at most */
     EOL2_STACK = 524288  /* bytes of stack that are enough for any call */
 };
 
@@ -74,15 +77,20 @@ enum eol2_numbers {
     EOL2_BAD_CALL = 65,           /* Has each call as many arguments as its macro has parameters? */
     EOL2_BAD_EXPANSION = 66,      /* Calls within calls at most 16 levels deep, and at most EOL2_TEXT written-out bytes? */
 
-    /* Refused by eol2_start and eol2_run, in this order */
+    /* Refused by eol2_start, eol2_run, eol2_write_state and eol2_read_state, in this order */
     EOL2_BAD_TABLE = 62,          /* Table long enough and well formed? Never no for a table that eol2_load left with 80. */
     EOL2_BAD_INPUTS = 61,         /* Inputs short enough, and of the 87 characters? */
-    EOL2_BAD_STATE = 63,          /* State long enough, and for run well formed? Never no after an accepted call with this table and inputs. */
+    EOL2_BAD_STATE = 63,          /* State long enough, and for run and the writer well formed, and the writer's buffer long enough? Of the state
+                                     never no after an accepted call with this table and inputs. */
+
+    /* Refused by eol2_read_state, in this order, after 62, 61 and 63 */
+    EOL2_BAD_LINES = 68,          /* Is every line of the saved state hexadecimal with its length and sum right? */
+    EOL2_BAD_FRAMES = 69,         /* Are its frames in order, once each, the head there, none empty, and is the state well formed? */
 
     /* Refused by eol2_convert */
     EOL2_BAD_CONVERSION = 67,     /* Does the text load, has it no macros, and does the result fit the buffer and EOL2_TEXT bytes? */
 
-    /* Accepted, by eol2_load, eol2_start and eol2_convert; paused, by eol2_run */
+    /* Accepted, by all calls but eol2_run; paused, by eol2_run */
     EOL2_ACCEPTED = 80,
     EOL2_PAUSED = 81,             /* the budget is used up */
 
@@ -114,14 +122,14 @@ static inline uint32_t eol2_line(uint64_t answer)
     return (uint32_t)(answer & 0xffffffffu);
 }
 
-/* Of an answer of eol2_run: how many instructions this call completed; 0 where it is refused. Of eol2_start: 0. Of eol2_convert: how many bytes
-   it wrote; 0 where it is refused. */
+/* Of an answer of eol2_run: how many instructions this call completed; 0 where it is refused. Of eol2_start and eol2_read_state: 0. Of
+   eol2_convert and eol2_write_state: how many bytes they wrote; 0 where they are refused. */
 static inline uint32_t eol2_count(uint64_t answer)
 {
     return (uint32_t)(answer & 0xffffffffu);
 }
 
-/* ---- the four calls */
+/* ---- the six calls */
 
 /* Loads the program of a text.
 
@@ -201,6 +209,46 @@ uint64_t eol2_run(const uint32_t *table, size_t table_cells, const uint8_t *i1, 
    back, the result is the first text again, byte by byte, where there is room for it. A word of the other edition may be longer or shorter, so
    a text near EOL2_TEXT bytes may be taken one way only. */
 uint64_t eol2_convert(const uint8_t *text, size_t text_bytes, uint8_t *out, size_t out_bytes);
+
+/* Writes a state as text: lines of hexadecimal in capitals, one for each part of the state that is not empty, each ended by a new line. A state
+   has one such text only. docs/LAYOUT.md has its form.
+
+   table, table_cells    a table as eol2_load left it. Only read
+   i1, i1_bytes          the input I1; likewise I2, both as for eol2_run. Only read
+   state, state_bytes    a state as eol2_start, eol2_run or eol2_read_state left it. Only read
+   out, out_bytes        the buffer to fill. Its content does not matter; EOL2_SAVED bytes are enough for any state
+
+   Number, count         The buffer afterwards
+   80, count             its first count bytes are the saved state, count at most EOL2_SAVED; the bytes behind them as they were
+   62, 61 or 63, 0       as it was, all of it: table not well formed; inputs too long or with another character; state too short, or not well
+                         formed with this table and these inputs, or the buffer shorter than the text
+
+   The text holds the state alone. Who goes on from it needs the same table (of the same program text, in either edition) and the same inputs. */
+uint64_t eol2_write_state(const uint32_t *table, size_t table_cells, const uint8_t *i1, size_t i1_bytes, const uint8_t *i2, size_t i2_bytes,
+                          const uint8_t *state, size_t state_bytes, uint8_t *out, size_t out_bytes);
+
+/* Makes a state of the text that eol2_write_state gave.
+
+   table, table_cells    a table as eol2_load left it. Only read
+   i1, i1_bytes          the input I1; likewise I2, both as for eol2_run. Only read
+   saved, saved_bytes    the text, from its first line to the new line that ends its last one. Only read
+   state, state_bytes    the state to make. Its content does not matter
+
+   Number, count     The state afterwards
+   80, 0             its first EOL2_STATE bytes are the saved state, whatever stood there before
+   62, 61 or 63, 0   as it was: table not well formed; inputs too long or with another character; fewer than EOL2_STATE bytes
+   68, 0             as it was: a line has a sign that is no capital hexadecimal digit, a length or a sum that is not right, or no new line
+                     at its end. So a text that was cut, or in which one digit was changed, is not taken
+   69, 0             as it was: all lines are right in themselves, and they are not the text of a state: they stand in another order, one is
+                     there twice or of an unknown kind, the first one is missing; or that state is not well formed with this table and these
+                     inputs, as eol2_run asks it
+
+   A text is accepted just when it is the one that eol2_write_state gives for the state it makes. With the same table, inputs and budgets that
+   state runs on as the written one does, to the same answers and states. With another table or other inputs a text may be accepted too: if the
+   state is well formed with them, it runs, as any well-formed state does.
+   Bytes beyond the first EOL2_STATE stay as they were in every case. */
+uint64_t eol2_read_state(const uint32_t *table, size_t table_cells, const uint8_t *i1, size_t i1_bytes, const uint8_t *i2, size_t i2_bytes,
+                         const uint8_t *saved, size_t saved_bytes, uint8_t *state, size_t state_bytes);
 
 /* ---- reading a table and a state (docs/LAYOUT.md). Both functions take any content of EOL2_TABLE numbers and EOL2_STATE bytes, and read
    nothing beyond. They do not check it: what they say of bytes that no call left has no meaning. eol2_run tells, by 62 and 63. */
