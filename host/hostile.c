@@ -1,11 +1,12 @@
-/* Hands hostile memory to the four calls, and checks what they answer and leave. `host/run` builds it, with AddressSanitizer and UBSan.
+/* Hands hostile memory to the six calls, and checks what they answer and leave. `host/run` builds it, with AddressSanitizer and UBSan.
 
        hostile SEED ROUNDS FILE...
 
    Each FILE has a program text, and behind it an input: the good memory that is then damaged. Of a text without macros the one in the other
    edition is good memory too. A round makes texts, tables, states, inputs and buffers (random bytes; random characters; good ones; good ones with
    bits flipped, bytes replaced, parts cut out or put in, lines exchanged; texts with macros made by chance; too short, too long, empty, null) and
-   calls load, convert, start and run on them. The last line has the counts; the first difference ends it with status 1. */
+   calls load, convert, start and run on them. States are written as text and read back; the texts are damaged in many ways, also with lengths and
+   sums mended, so that only the state itself tells. The last line has the counts; the first difference ends it with status 1. */
 #define _GNU_SOURCE
 #include "lent.h"
 #include "text.h"
@@ -14,13 +15,15 @@
 #include <stdarg.h>
 
 enum { FILES = 128, TEXT_MOST = EOL2_TEXT + 4096, CELLS_MOST = EOL2_TABLE + 64, STATE_MOST = EOL2_STATE + 256, INPUT_MOST = EOL2_INPUT + 4096 };
+enum { SAVED_MOST = EOL2_SAVED + 4096, OUT_MOST = SAVED_MOST };
+enum { LOAD, START, RUN, CONVERT, WRITE, READ, CALLS };
 
 static const char characters[] = " .(+*);-/,:'=[]<>?\x1b\x0e" "ABCDEFGHIJKLMNOPQRSTUVWXYZ" "abcdefghijklmnopqrstuvwxyz\x0f" "0123456789\n\x0c\r\x7f";
 
-static struct lent text, table, i1, i2, state, out;
+static struct lent text, saved, table, i1, i2, state, out;
 static struct { uint8_t text[EOL2_TEXT], input[EOL2_INPUT]; size_t text_bytes, input_bytes; uint32_t table[EOL2_TABLE]; } good[FILES];
 static int goods;
-static unsigned long turn, calls[4], answers[4][128];
+static unsigned long turn, calls[CALLS], answers[CALLS][128];
 
 /* ---- numbers at random, the same for the same seed */
 
@@ -52,23 +55,25 @@ static void differs(const char *form, ...)
     va_start(words, form);
     printf("round %lu: ", turn);
     vprintf(form, words);
-    printf("\n(text %zu bytes, table %zu bytes, I1 %zu, I2 %zu, state %zu, buffer %zu)\n", text.length, table.length, i1.length, i2.length,
-           state.length, out.length);
+    printf("\n(text %zu bytes, table %zu bytes, I1 %zu, I2 %zu, state %zu, saved %zu, buffer %zu)\n", text.length, table.length, i1.length, i2.length,
+           state.length, saved.length, out.length);
     va_end(words);
     exit(1);
 }
 
-/* Is the number on the list of the call: 0 load, 1 start, 2 run, 3 convert? */
+/* Is the number on the list of the call? */
 static int listed(int call, uint32_t number)
 {
-    static const uint8_t lists[4][20] = {
+    static const uint8_t lists[CALLS][20] = {
         {EOL2_BAD_SIZE, EOL2_BAD_BYTE, EOL2_BAD_TEXT, EOL2_BAD_LENGTH, EOL2_BAD_HEADING, EOL2_BAD_OPERATOR, EOL2_BAD_SWITCH_LABELS,
          EOL2_BAD_REPEATED_LABEL, EOL2_BAD_COUNT, EOL2_BAD_ARGUMENT, EOL2_BAD_ROOM, EOL2_BAD_END, EOL2_BAD_LABEL, EOL2_BAD_SWITCH,
          EOL2_BAD_MACROS, EOL2_BAD_CALL, EOL2_BAD_EXPANSION, EOL2_ACCEPTED, 255},
         {EOL2_BAD_TABLE, EOL2_BAD_INPUTS, EOL2_BAD_STATE, EOL2_ACCEPTED, 255},
         {EOL2_BAD_TABLE, EOL2_BAD_INPUTS, EOL2_BAD_STATE, EOL2_PAUSED, EOL2_STOP_STATEMENT, EOL2_STOP_NOTHING, EOL2_STOP_KIND,
          EOL2_STOP_RANGE, EOL2_STOP_DIVISOR, EOL2_STOP_INDEX, EOL2_STOP_RETURN, EOL2_STOP_RECORD, EOL2_STOP_ROOM, EOL2_STOP_ADDRESSES, 255},
-        {EOL2_BAD_CONVERSION, EOL2_ACCEPTED, 255}};
+        {EOL2_BAD_CONVERSION, EOL2_ACCEPTED, 255},
+        {EOL2_BAD_TABLE, EOL2_BAD_INPUTS, EOL2_BAD_STATE, EOL2_ACCEPTED, 255},
+        {EOL2_BAD_TABLE, EOL2_BAD_INPUTS, EOL2_BAD_STATE, EOL2_BAD_LINES, EOL2_BAD_FRAMES, EOL2_ACCEPTED, 255}};
     for (int k = 0; lists[call][k] != 255; k++)
         if (lists[call][k] == number)
             return 1;
@@ -78,17 +83,17 @@ static int listed(int call, uint32_t number)
 /* Counts a call, and checks what holds of every one: a number of its list, and the guard bytes and what was lent to be read as they were. */
 static uint64_t judged(int call, const char *name, uint64_t answer)
 {
-    struct lent *all[6] = {&text, &table, &i1, &i2, &state, &out}, *written[4] = {&table, &state, &state, &out};
+    struct lent *all[] = {&text, &saved, &table, &i1, &i2, &state, &out}, *written[CALLS] = {&table, &state, &state, &out, &out, &state};
     uint32_t number = eol2_number(answer);
     calls[call]++;
     if (!listed(call, number))
         differs("%s answers %u", name, (unsigned)number);
     answers[call][number]++;
-    for (int k = 0; k < 6; k++) {
+    for (size_t k = 0; k < sizeof all / sizeof *all; k++) {
         if (!lent_guarded(all[k]))
-            differs("%s (answer %u) wrote beside buffer %d", name, (unsigned)number, k);
+            differs("%s (answer %u) wrote beside buffer %zu", name, (unsigned)number, k);
         if (all[k] != written[call] && !lent_same(all[k], 0))
-            differs("%s (answer %u) wrote buffer %d", name, (unsigned)number, k);
+            differs("%s (answer %u) wrote buffer %zu", name, (unsigned)number, k);
     }
     return answer;
 }
@@ -104,10 +109,13 @@ static int zeros(const uint8_t *s, size_t n)
 /* The rule of question 61, for one input. */
 static int good_input(const struct lent *l)
 {
+    static uint8_t known[256];
+    for (size_t k = 0; !known[' '] && k < sizeof characters - 1; k++)
+        known[(uint8_t)characters[sizeof characters - 2 - k]] = 1;
     if (l->length > EOL2_INPUT)
         return 0;
     for (size_t k = 0; k < l->length; k++)
-        if (!memchr(characters, l->at[k], sizeof characters - 1))
+        if (!known[l->at[k]])
             return 0;
     return 1;
 }
@@ -121,7 +129,28 @@ static int starred(void)
     return 0;
 }
 
-/* ---- the four calls, each with what its declaration says */
+/* Question 68: lines of capital hexadecimal digits, two a byte, each with its length in the third and fourth byte, a sum that is a multiple of
+   256, and a new line at its end. */
+static int sound_lines(const uint8_t *s, size_t n)
+{
+    static const char digits[] = "0123456789ABCDEF";
+    for (size_t at = 0; at < n;) {
+        unsigned bytes = 0, sum = 0, length = 0;
+        for (; at + 1 < n && s[at] != '\n'; at += 2, bytes++) {
+            const char *high = memchr(digits, s[at], 16), *low = memchr(digits, s[at + 1], 16);
+            if (!high || !low)
+                return 0;
+            const unsigned byte = (unsigned)(16 * (high - digits) + (low - digits));
+            sum += byte;
+            length += bytes == 2 ? 256 * byte : bytes == 3 ? byte : 0;
+        }
+        if (at == n || s[at++] != '\n' || bytes < 5 || length != bytes - 5 || sum % 256)
+            return 0;
+    }
+    return 1;
+}
+
+/* ---- the six calls, each with what its declaration says */
 
 static uint64_t load(void)
 {
@@ -129,7 +158,7 @@ static uint64_t load(void)
     lent_writable(&text, 0);
     uint64_t answer = eol2_load(text.at, text.length, (uint32_t *)(void *)table.at, cells);
     lent_writable(&text, 1);
-    judged(0, "load", answer);
+    judged(LOAD, "load", answer);
     const uint32_t number = eol2_number(answer), line = eol2_line(answer);
     uint32_t lines = 1;
     for (size_t k = 0; k < text.length; k++)
@@ -153,7 +182,7 @@ static uint64_t start(void)
     uint64_t answer =
         eol2_start((uint32_t *)(void *)table.at, table.length / 4, i1.at, i1.length, i2.at, i2.length, state.at, state.length);
     lent_writable(&table, 1), lent_writable(&i1, 1), lent_writable(&i2, 1);
-    judged(1, "start", answer);
+    judged(START, "start", answer);
     const uint32_t number = eol2_number(answer);
     const int inputs = good_input(&i1) && good_input(&i2), room = state.length >= EOL2_STATE;
     if (eol2_count(answer) || !lent_same(&state, number == EOL2_ACCEPTED ? EOL2_STATE : 0))
@@ -173,7 +202,7 @@ static uint64_t run(uint32_t budget)
     uint64_t answer =
         eol2_run((uint32_t *)(void *)table.at, table.length / 4, i1.at, i1.length, i2.at, i2.length, state.at, state.length, budget);
     lent_writable(&table, 1), lent_writable(&i1, 1), lent_writable(&i2, 1);
-    judged(2, "run", answer);
+    judged(RUN, "run", answer);
     const uint32_t number = eol2_number(answer), count = eol2_count(answer);
     const int refused = number == EOL2_BAD_TABLE || number == EOL2_BAD_INPUTS || number == EOL2_BAD_STATE;
     if (!lent_same(&state, refused ? 0 : EOL2_STATE))
@@ -190,12 +219,48 @@ static uint64_t convert(void)
     lent_writable(&text, 0);
     uint64_t answer = eol2_convert(text.at, text.length, out.at, out.length);
     lent_writable(&text, 1);
-    judged(3, "convert", answer);
+    judged(CONVERT, "convert", answer);
     const uint32_t number = eol2_number(answer), count = eol2_count(answer);
     if (number == EOL2_ACCEPTED ? count == 0 || count > out.length || count > EOL2_TEXT : count != 0)
         differs("convert answers %u with count %u", (unsigned)number, (unsigned)count);
     if (!lent_same(&out, count))
         differs("convert (answer %u) changed what must stay", (unsigned)number);
+    return answer;
+}
+
+static uint64_t write_state(void)
+{
+    lent_writable(&table, 0), lent_writable(&i1, 0), lent_writable(&i2, 0), lent_writable(&state, 0);
+    uint64_t answer = eol2_write_state((uint32_t *)(void *)table.at, table.length / 4, i1.at, i1.length, i2.at, i2.length, state.at, state.length,
+                                       out.at, out.length);
+    lent_writable(&table, 1), lent_writable(&i1, 1), lent_writable(&i2, 1), lent_writable(&state, 1);
+    judged(WRITE, "write", answer);
+    const uint32_t number = eol2_number(answer), count = eol2_count(answer);
+    if (number == EOL2_ACCEPTED ? count == 0 || count > out.length || count > EOL2_SAVED : count != 0)
+        differs("write answers %u with count %u", (unsigned)number, (unsigned)count);
+    if (!lent_same(&out, count))
+        differs("write (answer %u) changed what must stay", (unsigned)number);
+    if (number != EOL2_BAD_TABLE && (number == EOL2_BAD_INPUTS) == (good_input(&i1) && good_input(&i2)))
+        differs("write answers %u to its inputs", (unsigned)number);
+    if (number == EOL2_ACCEPTED && !sound_lines(out.at, count))
+        differs("write gives lines that are not right");
+    return answer;
+}
+
+static uint64_t read_state(void)
+{
+    lent_writable(&table, 0), lent_writable(&i1, 0), lent_writable(&i2, 0), lent_writable(&saved, 0);
+    uint64_t answer = eol2_read_state((uint32_t *)(void *)table.at, table.length / 4, i1.at, i1.length, i2.at, i2.length, saved.at, saved.length,
+                                      state.at, state.length);
+    lent_writable(&table, 1), lent_writable(&i1, 1), lent_writable(&i2, 1), lent_writable(&saved, 1);
+    judged(READ, "read", answer);
+    const uint32_t number = eol2_number(answer);
+    const int inputs = good_input(&i1) && good_input(&i2), room = state.length >= EOL2_STATE, lines = sound_lines(saved.at, saved.length);
+    const uint32_t first = !inputs ? EOL2_BAD_INPUTS : !room ? EOL2_BAD_STATE : !lines ? EOL2_BAD_LINES : 0;
+    if (eol2_count(answer) || !lent_same(&state, number == EOL2_ACCEPTED ? EOL2_STATE : 0))
+        differs("read (answer %u) counts, or changed what must stay", (unsigned)number);
+    if (number != EOL2_BAD_TABLE && (first ? number != first : number != EOL2_BAD_FRAMES && number != EOL2_ACCEPTED))
+        differs("read answers %u where inputs are %d, room is %d and lines are %d", (unsigned)number, inputs, room, lines);
     return answer;
 }
 
@@ -223,8 +288,12 @@ static size_t near(size_t size, size_t most)
 
 static void random_bytes(uint8_t *s, size_t n, int few)
 {
-    for (size_t k = 0; k < n; k++)
-        s[k] = (uint8_t)(few ? one_in(8) ? below(9) : 0 : any());
+    for (size_t k = 0; k < n; k += 6) {
+        const uint64_t bits = any();
+        memcpy(s + k, &bits, n - k < 6 ? n - k : 6);
+    }
+    for (size_t k = 0; few && k < n; k++)
+        s[k] = s[k] % 8 ? 0 : s[k] / 16;
 }
 
 static void random_characters(uint8_t *s, size_t n)
@@ -467,9 +536,121 @@ static void lend_state(void)
 
 static void lend_out(size_t length)
 {
-    static uint8_t s[TEXT_MOST];
+    static uint8_t s[OUT_MOST];
     random_bytes(s, length, one_in(2));
     lend(&out, s, length);
+}
+
+/* ---- saved states to lend */
+
+/* A saved state while it is made, and one of before, of another program mostly. */
+static struct kept { uint8_t at[SAVED_MOST]; size_t bytes; } kept, other;
+
+static void keep(struct kept *k, const uint8_t *s, size_t n)
+{
+    memcpy(k->at, s, k->bytes = n);
+}
+
+/* Puts bytes in the place of n that stand there. */
+static void replace(size_t at, size_t n, const uint8_t *s, size_t bytes)
+{
+    if (kept.bytes - n + bytes > sizeof kept.at)
+        return;
+    memmove(kept.at + at + bytes, kept.at + at + n, kept.bytes - at - n);
+    memcpy(kept.at + at, s, bytes);
+    kept.bytes = kept.bytes - n + bytes;
+}
+
+static size_t line_end(size_t at)
+{
+    while (at < kept.bytes && kept.at[at++] != '\n')
+        continue;
+    return at;
+}
+
+static void put_digits(uint8_t *s, unsigned byte)
+{
+    s[0] = (uint8_t)"0123456789ABCDEF"[byte / 16 % 16], s[1] = (uint8_t)"0123456789ABCDEF"[byte % 16];
+}
+
+/* Gives the line that begins there its length and its sum again, where it is long enough. */
+static void mend(size_t at)
+{
+    const size_t end = line_end(at), bytes = (end - at) / 2;
+    unsigned sum = 0;
+    if (bytes < 5)
+        return;
+    put_digits(kept.at + at + 4, (unsigned)((bytes - 5) / 256));
+    put_digits(kept.at + at + 6, (unsigned)((bytes - 5) % 256));
+    for (size_t k = 0; k + 1 < bytes; k++) {
+        char digits[3] = {(char)kept.at[at + 2 * k], (char)kept.at[at + 2 * k + 1], 0};
+        sum += (unsigned)strtoul(digits, NULL, 16);
+    }
+    put_digits(kept.at + at + 2 * (bytes - 1), (256 - sum % 256) % 256);
+}
+
+/* A frame by chance, of a kind and an index that are mostly there, put in at the beginning of a line. */
+static void put_frame(size_t at)
+{
+    uint8_t s[64];
+    const size_t contents = below(one_in(8) ? 25 : 10);
+    for (size_t k = 0; k < contents + 5; k++)
+        put_digits(s + 2 * k, k == 0 ? (unsigned)below(7) : k == 1 && one_in(4) ? (unsigned)below(35) : (unsigned)below(one_in(4) ? 256 : 4));
+    s[2 * (contents + 5)] = '\n';
+    replace(at, 0, s, 2 * (contents + 5) + 1);
+    mend(at);
+}
+
+/* Bytes of a line changed, in its contents mostly; its length and its sum mended, mostly. */
+static void change_line(size_t at, size_t end)
+{
+    uint8_t digits[2];
+    for (size_t times = 1 + below(2); times && end - at > 11; times--) {
+        const size_t byte = one_in(6) ? below((end - at) / 2) : 4 + below((end - at - 11) / 2);
+        put_digits(digits, one_in(2) ? (unsigned)below(8) : (unsigned)any() % 256);
+        memcpy(kept.at + at + 2 * byte, digits, 2);
+    }
+    if (end - at > 11 && one_in(4)) /* one byte of the contents more, or less */
+        replace(at + 8, one_in(2) ? 2 : 0, digits, one_in(2) ? 2 : 0);
+    if (!one_in(6))
+        mend(at);
+}
+
+/* A line put to another place, or there once more. */
+static void move_line(size_t at, size_t end)
+{
+    static uint8_t line[SAVED_MOST];
+    const size_t n = end - at;
+    memcpy(line, kept.at + at, n);
+    if (one_in(2))
+        replace(at, n, line, 0);
+    if (!one_in(4))
+        replace(line_start(kept.at, below(kept.bytes + 1)), 0, line, n);
+}
+
+/* Damage to the saved state. */
+static void damage_saved(void)
+{
+    const size_t at = line_start(kept.at, below(kept.bytes + 1)), end = line_end(at), place = below(kept.bytes + 1);
+    const uint8_t sign = one_in(4) ? (uint8_t)any() : (uint8_t)"0123456789ABCDEFabcdef \r\n"[below(25)];
+    switch (below(10)) {
+    case 0: /* one byte changed, or put in */
+        replace(place, place < kept.bytes && !one_in(4), &sign, 1);
+        break;
+    case 1: /* cut, or a part cut out */
+        replace(place, one_in(2) ? kept.bytes - place : below(kept.bytes - place + 1), &sign, 0);
+        break;
+    case 2:
+    case 3: move_line(at, end); break;
+    case 4: put_frame(at); break;
+    case 5: /* another program's state, whole or from a line on */
+        if (one_in(2))
+            kept = other;
+        else
+            replace(at, kept.bytes - at, other.at, line_start(other.at, below(other.bytes + 1)));
+        break;
+    default: change_line(at, end);
+    }
 }
 
 /* ---- a round */
@@ -520,6 +701,57 @@ static void runs(void)
             differs("a run that stops depends on its budget");
     }
     goes_on(whole);
+}
+
+/* The saved state that is lent: read, it is refused and changes nothing, or it is the text of the state that is read, and that runs. */
+static void reads(void)
+{
+    lend(&saved, kept.at, kept.bytes);
+    if (eol2_number(read_state()) != EOL2_ACCEPTED)
+        return;
+    again(&state);
+    if (run(0) != (uint64_t)EOL2_PAUSED << 32 || !lent_same(&state, 0))
+        differs("a state that is read does not run");
+    lend_out(EOL2_SAVED);
+    if (write_state() != ((uint64_t)EOL2_ACCEPTED << 32 | kept.bytes) || memcmp(out.at, kept.at, kept.bytes))
+        differs("a text that is read is not the one that its state has");
+    lend_out(below(64));
+}
+
+/* A state, written, in buffers of several lengths, and read back into any memory; then its text with damage, so often. The lent state is not
+   kept. */
+static void keeps(int times)
+{
+    static uint8_t first[STATE_MOST];
+    static struct kept whole;
+    const size_t n = state.length;
+    if (n)
+        memcpy(first, state.at, n);
+    const uint32_t number = eol2_number(run(0));
+    lend(&state, first, n), lend_out(EOL2_SAVED + below(64));
+    const uint64_t answer = write_state();
+    const size_t count = eol2_count(answer);
+    if (eol2_number(answer) != (number == EOL2_PAUSED ? EOL2_ACCEPTED : number))
+        differs("write answers %u where run answers %u", (unsigned)eol2_number(answer), (unsigned)number);
+    if (number == EOL2_PAUSED) {
+        other = kept;
+        keep(&kept, out.at, count);
+        lend_out(count);
+        if (write_state() != answer || memcmp(kept.at, out.at, count))
+            differs("write leaves other bytes in a buffer of the exact length");
+        lend_out(one_in(2) ? count - 1 : below(count));
+        if (eol2_number(write_state()) != EOL2_BAD_STATE)
+            differs("write takes a buffer that is too short");
+        lend(&saved, kept.at, count), lend_state(), lend_out(below(64));
+        if (state.length >= EOL2_STATE && (eol2_number(read_state()) != EOL2_ACCEPTED || memcmp(first, state.at, EOL2_STATE)))
+            differs("a state is not read back");
+    }
+    for (; kept.bytes && times; times--) {
+        whole = kept;
+        damage_saved();
+        lend_state(), reads();
+        kept = whole;
+    }
 }
 
 /* Does the lent text load into a table that is long enough? Its cells are then those of `cells`. */
@@ -573,7 +805,8 @@ static void converts(void)
 
 static void round_of(int k)
 {
-    static uint8_t first[EOL2_TABLE * 4];
+    static uint8_t first[EOL2_TABLE * 4], now[STATE_MOST];
+    size_t n;
     lend_text(k), lend_table(k), lend_input(&i1, k), lend_input(&i2, k), lend_state();
     /* load, and on an accepted text once more into another table: the same cells; start never brings 62 */
     if (eol2_number(load()) == EOL2_ACCEPTED) {
@@ -597,16 +830,21 @@ static void round_of(int k)
     /* start and run on whatever is there */
     lend_table(k), lend_state(), lend_out(below(64));
     runs();
+    lend_state(), keeps(1);
     lend_state();
     if (eol2_number(start()) != EOL2_ACCEPTED)
         return;
     again(&state);
     runs();
-    /* run on from there with damage to the state */
-    again(&state);
+    /* run on from there with damage to the state, after it was written and read back */
+    memcpy(now, state.at, n = state.length);
+    keeps(4);
+    lend(&state, now, n);
     damage(state.at, one_in(2) ? EOL2_STATE : 400, 1 + below(2));
     again(&state);
     runs();
+    if (one_in(4))
+        keeps(1);
 }
 
 /* The rounds, on a stack of their own: what a call may take, and some for this program. */
@@ -668,18 +906,22 @@ int main(int count, char **words)
     for (int k = 3; k < count; k++)
         read_good(words[k]);
     lent_make(&text, TEXT_MOST), lent_make(&table, CELLS_MOST * 4), lent_make(&i1, INPUT_MOST), lent_make(&i2, INPUT_MOST);
-    lent_make(&state, STATE_MOST), lent_make(&out, TEXT_MOST);
-    lend_out(0);
+    lent_make(&state, STATE_MOST), lent_make(&saved, SAVED_MOST), lent_make(&out, OUT_MOST);
+    lend_out(0), lend(&saved, kept.at, 0);
     run_rounds(rounds);
-    static const char *const names[4] = {"load", "start", "run", "convert"};
-    for (int c = 0; c < 4; c++) {
+    static const char *const names[CALLS] = {"load", "start", "run", "convert", "write", "read"};
+    unsigned long all = 0;
+    for (int c = 0; c < CALLS; c++) {
         printf("%-7s", names[c]);
         for (int k = 0; k < 128; k++)
             if (answers[c][k])
                 printf(" %02d: %lu", k, answers[c][k]);
         printf("\n");
+        all += calls[c];
     }
-    printf("hostile memory: %lu calls (load %lu, start %lu, run %lu, convert %lu), 0 differences\n", calls[0] + calls[1] + calls[2] + calls[3],
-           calls[0], calls[1], calls[2], calls[3]);
+    printf("hostile memory: %lu calls (", all);
+    for (int c = 0; c < CALLS; c++)
+        printf("%s%s %lu", c ? ", " : "", names[c], calls[c]);
+    printf("), 0 differences\n");
     return 0;
 }

@@ -1,4 +1,4 @@
-/* Measures how much stack the four calls take, and fails where it is EOL2_STACK or more. `host/run` builds it, without sanitizers.
+/* Measures how much stack the six calls take, and fails where it is EOL2_STACK or more. `host/run` builds it, without sanitizers.
 
        stack FILE..
 
@@ -10,11 +10,11 @@
 #include <pthread.h>
 #include <sys/mman.h>
 
-enum { ROOM = 4 * EOL2_STACK, PAINT = 0x5a, CALLS = 4, STEPS = 1000 };
+enum { ROOM = 4 * EOL2_STACK, PAINT = 0x5a, CALLS = 6, STEPS = 1000 };
 
-static uint8_t *stack, file[HOST_FILE], state[EOL2_STATE], other[EOL2_TEXT];
+static uint8_t *stack, file[HOST_FILE], state[EOL2_STATE], other[EOL2_TEXT], saved[EOL2_SAVED];
 static uint32_t table[EOL2_TABLE];
-static size_t text_bytes, file_bytes;
+static size_t text_bytes, file_bytes, saved_bytes;
 static uint64_t answer;
 
 static void *idle(void *nothing)
@@ -46,6 +46,19 @@ static void *convert(void *nothing)
     return nothing;
 }
 
+static void *write_state(void *nothing)
+{
+    answer = eol2_write_state(table, EOL2_TABLE, file + text_bytes, file_bytes - text_bytes, NULL, 0, state, EOL2_STATE, saved, sizeof saved);
+    saved_bytes = eol2_count(answer);
+    return nothing;
+}
+
+static void *read_state(void *nothing)
+{
+    answer = eol2_read_state(table, EOL2_TABLE, file + text_bytes, file_bytes - text_bytes, NULL, 0, saved, saved_bytes, state, EOL2_STATE);
+    return nothing;
+}
+
 /* How many bytes of its stack a thread uses. */
 static size_t used(void *(*work)(void *))
 {
@@ -65,7 +78,7 @@ static size_t used(void *(*work)(void *))
 
 int main(int count, char **words)
 {
-    static void *(*const works[CALLS])(void *) = {load, start, run, convert};
+    static void *(*const works[CALLS])(void *) = {load, start, run, convert, write_state, read_state};
     size_t most[CALLS] = {0};
     stack = mmap(NULL, ROOM, PROT_READ | PROT_WRITE, MAP_PRIVATE | MAP_ANONYMOUS, -1, 0);
     if (stack == MAP_FAILED) {
@@ -81,7 +94,8 @@ int main(int count, char **words)
             most[c] = n > most[c] ? n : most[c];
         }
     }
-    printf("stack: load %zu, start %zu, run %zu, convert %zu bytes of %d\n", most[0], most[1], most[2], most[3], EOL2_STACK);
+    printf("stack: load %zu, start %zu, run %zu, convert %zu, write %zu, read %zu bytes of %d\n", most[0], most[1], most[2], most[3], most[4],
+           most[5], EOL2_STACK);
     for (int c = 0; c < CALLS; c++)
         if (most[c] >= EOL2_STACK)
             return 1;
