@@ -1,6 +1,6 @@
 /* Times what start and run do beside their steps: the checks of a full table (62), of full inputs (61) and of a full state (63), and a state laid
-   out for work and written back; and moves of a word in states that are more and less full. `bench/run` builds and runs it. docs/LAYOUT.md has the
-   places. */
+   out for work and written back; a full state written as text and read back; and moves of a word in states that are more and less full.
+   `bench/run` builds and runs it. docs/LAYOUT.md has the places. */
 #include "../include/eol2.h"
 #include "clock.h"
 
@@ -10,7 +10,7 @@
 
 static uint32_t table[EOL2_TABLE];
 static uint8_t state[EOL2_STATE];
-static uint8_t input[EOL2_INPUT];
+static uint8_t input[EOL2_INPUT], saved[EOL2_SAVED], twin[EOL2_STATE];
 
 /* ---- a full table */
 
@@ -65,6 +65,39 @@ static size_t eight(size_t at)
     state[at] = 8;
     memset(state + at + 1, 'A', 8);
     return at + 9;
+}
+
+/* A state whose text is nearly the longest: 991 numbers, a word of 255 characters in each expression and one of 32, 256 records, 64 returns, both
+   outputs. */
+static void fill_longest(void)
+{
+    const uint32_t scalars[8] = {1, EOL2_INPUT, EOL2_INPUT, 511, 256, 1024, 8192, 256};
+    memset(state, 0, sizeof state);
+    for (int k = 0; k < 8; k++)
+        number((size_t)(3 * k), scalars[k], 3);
+    size_t at = 222;
+    for (int s = 0; s < 99; s++) {
+        size_t from = at;
+        for (int k = 0; s < 32 && k < (s ? 23 : 22); k++)
+            at = number(number(at, 256, 2), 16777214, 3);
+        for (int k = 0; s < 32 && k < (s ? 1 : 2); k++) {
+            const size_t length = k ? 32 : 255;
+            state[at] = (uint8_t)length;
+            memset(state + at + 1, 'A' + s % 26, length);
+            at += length + 1;
+        }
+        for (int k = 0; s >= 32 && s < 96 && k < 4; k++) {
+            at = number(number(at, (uint32_t)(4 * (s - 32) + k + 1), 3), 5, 2);
+            at = number(number(number(at, 256, 2), 0, 3), 5, 2);
+        }
+        for (int k = 0; s == 96 && k < 64; k++)
+            at = number(at, 1, 2);
+        if (s > 96) {
+            memset(state + at, 'Q', EOL2_OUTPUT);
+            at += EOL2_OUTPUT;
+        }
+        number(24 + 2 * (size_t)s, (uint32_t)(at - from), 2);
+    }
 }
 
 /* So many sixteenths of a full state: of 512 words in expressions, 256 records of two words, 64 returns and both outputs, which are 1,024 components
@@ -138,6 +171,59 @@ static void checks(void)
     printf("full state   laid out and written back in %7.0f ns\n", r - s);
 }
 
+static uint64_t write_state(size_t bytes)
+{
+    (void)bytes;
+    return eol2_write_state(table, EOL2_TABLE, input, EOL2_INPUT, input, EOL2_INPUT, state, EOL2_STATE, saved, EOL2_SAVED);
+}
+
+static uint64_t read_state(size_t bytes)
+{
+    return eol2_read_state(table, EOL2_TABLE, input, EOL2_INPUT, input, EOL2_INPUT, saved, bytes, twin, EOL2_STATE);
+}
+
+/* The best of 200 calls, in nanoseconds, and the answer's count. */
+static double timed_call(uint64_t (*call)(size_t), size_t bytes, size_t *count, unsigned expected)
+{
+    double best = 1e18;
+    for (int k = 0; k < 200; k++) {
+        double a = now();
+        uint64_t answer = call(bytes);
+        double b = now();
+        if (eol2_number(answer) != expected) {
+            printf("calls: answer %u for %u\n", (unsigned)eol2_number(answer), expected);
+            exit(1);
+        }
+        *count = eol2_count(answer);
+        if (b - a < best)
+            best = b - a;
+    }
+    return best;
+}
+
+/* With the full table and full inputs, which both calls check first. */
+static void keeping(void)
+{
+    static const char *const titles[] = {"full state   of words", "full state   of numbers"};
+    size_t bytes, none;
+    for (int k = 0; k < 2; k++) {
+        if (k)
+            fill_longest();
+        else
+            fill_state(16, 511, EOL2_INPUT);
+        const double w = timed_call(write_state, 0, &bytes, EOL2_ACCEPTED), r = timed_call(read_state, bytes, &none, EOL2_ACCEPTED);
+        if (memcmp(state, twin, sizeof state)) {
+            printf("calls: another state is read back\n");
+            exit(1);
+        }
+        printf("%-23s written as %zu bytes in %7.0f ns, read back in %7.0f ns, with the checks of table and inputs\n", titles[k], bytes, w, r);
+    }
+    /* lines that are all right, of a frame that belongs nowhere, and as many as a text can have */
+    for (bytes = 0; bytes + 11 <= EOL2_SAVED; bytes += 11)
+        memcpy(saved + bytes, "05000000FB\n", 11);
+    printf("4,341 lines  that are no state refused in %7.0f ns\n", timed_call(read_state, bytes, &none, EOL2_BAD_FRAMES));
+}
+
 /* nanoseconds a step of a text that moves words, less what a run of no steps takes; its second instruction is next */
 static double timed_moves(const char *text, int sixteenths)
 {
@@ -173,6 +259,7 @@ static void moves(void)
 int main(void)
 {
     checks();
+    keeping();
     moves();
     return 0;
 }
