@@ -628,15 +628,18 @@ static void move_line(size_t at, size_t end)
         replace(line_start(kept.at, below(kept.bytes + 1)), 0, line, n);
 }
 
-/* Damage to the saved state. */
-static void damage_saved(void)
+/* Damage to the saved state. Tells whether it is that of one byte, which no text outlives. */
+static int damage_saved(void)
 {
     const size_t at = line_start(kept.at, below(kept.bytes + 1)), end = line_end(at), place = below(kept.bytes + 1);
+    const size_t before = kept.bytes;
     const uint8_t sign = one_in(4) ? (uint8_t)any() : (uint8_t)"0123456789ABCDEFabcdef \r\n"[below(25)];
     switch (below(10)) {
-    case 0: /* one byte changed, or put in */
-        replace(place, place < kept.bytes && !one_in(4), &sign, 1);
-        break;
+    case 0: /* one byte changed, left out or put in */
+        if (place == kept.bytes || kept.at[place] == sign)
+            break;
+        replace(place, !one_in(4), &sign, !one_in(4));
+        return kept.bytes != before || kept.at[place] == sign;
     case 1: /* cut, or a part cut out */
         replace(place, one_in(2) ? kept.bytes - place : below(kept.bytes - place + 1), &sign, 0);
         break;
@@ -651,6 +654,7 @@ static void damage_saved(void)
         break;
     default: change_line(at, end);
     }
+    return 0;
 }
 
 /* ---- a round */
@@ -748,7 +752,8 @@ static void keeps(int times)
     }
     for (; kept.bytes && times; times--) {
         whole = kept;
-        damage_saved();
+        if (damage_saved() && sound_lines(kept.at, kept.bytes))
+            differs("lines are right with one byte changed");
         lend_state(), reads();
         kept = whole;
     }

@@ -238,14 +238,14 @@ uint64_t eol2_write_state(const uint32_t *table, size_t table_cells, const uint8
    80, 0             its first EOL2_STATE bytes are the saved state, whatever stood there before
    62, 61 or 63, 0   as it was: table not well formed; inputs too long or with another character; fewer than EOL2_STATE bytes
    68, 0             as it was: a line has a sign that is no capital hexadecimal digit, a length or a sum that is not right, or no new line
-                     at its end. So a text that was cut, or in which one digit was changed, is not taken
+                     at its end. So a text in which one byte was changed, left out or put in, or which was cut within a line, is not taken
    69, 0             as it was: all lines are right in themselves, and they are not the text of a state: they stand in another order, one is
                      there twice or of an unknown kind, the first one is missing; or that state is not well formed with this table and these
                      inputs, as eol2_run asks it
 
-   A text is accepted just when it is the one that eol2_write_state gives for the state it makes. With the same table, inputs and budgets that
-   state runs on as the written one does, to the same answers and states. With another table or other inputs a text may be accepted too: if the
-   state is well formed with them, it runs, as any well-formed state does.
+   A text is accepted just when it is the one that eol2_write_state gives for the state it makes. (A text without some of its later lines may be
+   the one of another state.) With the same table, inputs and budgets the state runs on as the written one does, to the same answers and
+   states. With another table or other inputs a text may be accepted too: where the state is well formed with them, it runs as any such state.
    Bytes beyond the first EOL2_STATE stay as they were in every case. */
 uint64_t eol2_read_state(const uint32_t *table, size_t table_cells, const uint8_t *i1, size_t i1_bytes, const uint8_t *i2, size_t i2_bytes,
                          const uint8_t *saved, size_t saved_bytes, uint8_t *state, size_t state_bytes);
