@@ -628,13 +628,24 @@ static void move_line(size_t at, size_t end)
         replace(line_start(kept.at, below(kept.bytes + 1)), 0, line, n);
 }
 
+/* No saved state at all: nothing, random bytes, random digits, right lines of frames made by chance; sometimes more than any state has. */
+static void make_lines(void)
+{
+    const size_t most = one_in(8) ? near(EOL2_SAVED, SAVED_MOST - 64) : below(200), kind = below(3);
+    random_bytes(kept.at, kept.bytes = kind < 2 ? most : 0, 0);
+    for (size_t k = 0; kind == 1 && k < most; k++)
+        kept.at[k] = (uint8_t)"0123456789ABCDEF"[kept.at[k] % 16];
+    while (kind == 2 && kept.bytes < most)
+        put_frame(kept.bytes);
+}
+
 /* Damage to the saved state. Tells whether it is that of one byte, which no text outlives. */
 static int damage_saved(void)
 {
     const size_t at = line_start(kept.at, below(kept.bytes + 1)), end = line_end(at), place = below(kept.bytes + 1);
     const size_t before = kept.bytes;
     const uint8_t sign = one_in(4) ? (uint8_t)any() : (uint8_t)"0123456789ABCDEFabcdef \r\n"[below(25)];
-    switch (below(10)) {
+    switch (below(11)) {
     case 0: /* one byte changed, left out or put in */
         if (place == kept.bytes || kept.at[place] == sign)
             break;
@@ -652,6 +663,7 @@ static int damage_saved(void)
         else
             replace(at, kept.bytes - at, other.at, line_start(other.at, below(other.bytes + 1)));
         break;
+    case 6: make_lines(); break;
     default: change_line(at, end);
     }
     return 0;
