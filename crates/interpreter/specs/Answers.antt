@@ -2,6 +2,9 @@
 use mathlib.Core.Path.{_≡_}
 use mathlib.Core.List.{List}
 use Prim.Native.Nat.{ℕ}
+use lib.ListN.{length}
+use Rattle.calls.specs.Filling.{Fills}
+use Rattle.shorten_calls.specs.Shortening.{shortenOf, table-shortened}
 use Rattle.calls.specs.Calls.{load-answer, table-after, reply-answer, Result}
 use Rattle.syntax.specs.Load.{Loaded}
 
@@ -14,3 +17,8 @@ pub record Answers (x : Result) (r : ℕ) (m : List ℕ) : Type 0 where
 pub record Answers-load (x : Loaded) (c : List ℕ) (r : ℕ) (d : List ℕ) : Type 0 where
   pub answer : r ≡ load-answer x
   pub cells : d ≡ table-after x c
+
+-- r is the answer of the call for a short part of the text s, d what it leaves in the cells c of the table, and b′ in the buffer b
+pub record Answers-shorten (s c b : List ℕ) (r : ℕ) (d b′ : List ℕ) : Type 0 where
+  pub fills : Fills (shortenOf (length c) (length b) s) r b b′
+  pub cells : d ≡ table-shortened c (length b) s

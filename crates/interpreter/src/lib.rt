@@ -7,7 +7,7 @@ ghost use Rattle.calls.specs.Filling.{Fills};
 ghost use Rattle.editions.specs.Convert.{convertOf};
 ghost use Rattle.macros.specs.Load.{loadIn};
 ghost use Rattle.state_frames.specs.Keeping.{writeOf, readOf, Reads};
-ghost use Rattle.interpreter.specs.Answers.{Answers, Answers-load};
+ghost use Rattle.interpreter.specs.Answers.{Answers, Answers-load, Answers-shorten};
 use language::Machine;
 use loading::Loaded;
 
@@ -33,6 +33,16 @@ pub extern "C" fn eol2_convert(text: &[u8], out: &mut [u8]) -> u64
     ensures { λ r. ⌜ Fills (convertOf (length (now (out .entry))) (now (text .entry))) r (now (out .entry)) (now (out .exit)) ⌝ }
 {
     let r = translating::convert(text, out);
+    packed(r.number, r.count)
+}
+
+// The number that load gives, and how many bytes of the buffer are a part of the text that it refuses with the same number, or the text that it
+// accepts; the table "is left as loading the part leaves it".
+#[no_mangle]
+pub extern "C" fn eol2_shorten(text: &[u8], table: &mut [u32], out: &mut [u8]) -> u64
+    ensures { λ r. ⌜ Answers-shorten (now (text .entry)) (now (table .entry)) (now (out .entry)) r (now (table .exit)) (now (out .exit)) ⌝ }
+{
+    let r = shortening::shorten(text, table, out);
     packed(r.number, r.count)
 }
 
