@@ -14,6 +14,7 @@
        convert TEXT LENGTH => NUMBER BYTES   (to a buffer of that length)
        write LENGTH => NUMBER BYTES      (the state, to a buffer of that length)
        read SAVED => NUMBER              (into the state)
+       shorten TEXT LENGTH => NUMBER BYTES   (to a buffer of that length, with a table of its own)
 
    GRADE and PREVIEW are 0: no call takes them yet. What is lent lies between pages that trap (lent.h); what a call only reads, and what a
    refused one leaves alone, is compared too. */
@@ -22,7 +23,7 @@
 
 #include <stdarg.h>
 
-enum { LEVEL = 6, WORDS_MOST = 64, ANSWER_MOST = 4 * EOL2_INPUT, BUFFER_MOST = 2 * EOL2_TEXT };
+enum { LEVEL = 7, WORDS_MOST = 64, ANSWER_MOST = 4 * EOL2_INPUT, BUFFER_MOST = 2 * EOL2_TEXT };
 
 static struct lent text, saved, table, i1, i2, state, out;
 static uint8_t table_now[EOL2_TABLE * 4], state_now[EOL2_STATE], before[BUFFER_MOST];
@@ -111,17 +112,22 @@ static void lend_all(void)
     lend(&out, before, 0);
 }
 
-/* After a call that may write `written`, and was refused or not. */
-static void look(struct lent *written, int refused)
+/* After a call that may write `written`, and `second` where it is one, and was refused or not. */
+static void look_twice(struct lent *written, struct lent *second, int refused)
 {
     struct lent *all[] = {&text, &saved, &table, &i1, &i2, &state, &out};
     calls++;
     for (int k = 0; k < (int)(sizeof all / sizeof *all); k++) {
         if (!lent_guarded(all[k]))
             stop(1, "the call wrote beside buffer %d", k);
-        if ((all[k] != written || refused) && !lent_same(all[k], 0))
+        if (((all[k] != written && all[k] != second) || refused) && !lent_same(all[k], 0))
             stop(1, "the call wrote buffer %d", k);
     }
+}
+
+static void look(struct lent *written, int refused)
+{
+    look_twice(written, NULL, refused);
     memcpy(table_now, table.at, sizeof table_now);
     memcpy(state_now, state.at, sizeof state_now);
 }
@@ -176,16 +182,22 @@ static void lend_out(const char *word)
     lend(&out, before, n);
 }
 
-/* After a call that fills the buffer: the rest stays, and all of it where the number is not 80. */
-static void tell_filled(uint64_t a)
+/* The answer of a call that fills the buffer, whose rest stays. */
+static void tell_part(uint64_t a)
 {
     const uint32_t count = eol2_count(a);
-    look(&out, eol2_number(a) != EOL2_ACCEPTED);
     if (count > out.length || !lent_same(&out, count))
         stop(1, "the call wrote beyond its %u bytes", (unsigned)count);
     tell_number(eol2_number(a));
     answer_bytes += (size_t)sprintf(answer + answer_bytes, " ");
     tell_bytes(out.at, count);
+}
+
+/* After a call that fills the buffer, and leaves it as it was where the number is not 80. */
+static void tell_filled(uint64_t a)
+{
+    look(&out, eol2_number(a) != EOL2_ACCEPTED);
+    tell_part(a);
 }
 
 static void convert(char **words)
@@ -218,6 +230,24 @@ static void read_state(char **words)
     tell_number(eol2_number(a));
 }
 
+/* The table is one of its own, not the script's; loading the part leaves the same in another. */
+static void shorten(char **words)
+{
+    static uint8_t s[2 * EOL2_TEXT], cells[EOL2_TABLE * 4];
+    static uint32_t twin[EOL2_TABLE];
+    lend_all();
+    memset(cells, (int)(calls & 255), sizeof cells);
+    lend(&table, cells, sizeof cells);
+    lend(&text, s, bytes(words[1], s, sizeof s));
+    lend_out(words[2]);
+    uint64_t a = eol2_shorten(text.at, text.length, (uint32_t *)(void *)table.at, EOL2_TABLE, out.at, out.length);
+    look_twice(&out, &table, eol2_number(a) == EOL2_BAD_SIZE);
+    tell_part(a);
+    if (eol2_number(a) != EOL2_BAD_SIZE
+        && (eol2_number(eol2_load(out.at, eol2_count(a), twin, EOL2_TABLE)) != eol2_number(a) || memcmp(twin, table.at, sizeof twin)))
+        stop(1, "loading the part answers otherwise, or leaves another table");
+}
+
 static void output(char **words)
 {
     size_t n;
@@ -227,7 +257,8 @@ static void output(char **words)
 
 static const struct { const char *name; int words; void (*make)(char **words); } names[] = {
     {"load", 3, load}, {"start", 4, start}, {"inputs", 3, take_inputs}, {"run", 2, run}, {"output", 2, output},
-    {"convert", 3, convert}, {"write", 2, write_state}, {"read", 2, read_state}};
+    {"convert", 3, convert}, {"write", 2, write_state}, {"read", 2, read_state},
+    {"shorten", 3, shorten}};
 
 /* ---- scripts */
 

@@ -1,4 +1,4 @@
-/* Hands hostile memory to the six calls, and checks what they answer and leave. `host/run` builds it, with AddressSanitizer and UBSan.
+/* Hands hostile memory to the seven calls, and checks what they answer and leave. `host/run` builds it, with AddressSanitizer and UBSan.
 
        hostile SEED ROUNDS FILE...
 
@@ -6,7 +6,8 @@
    edition is good memory too. A round makes texts, tables, states, inputs and buffers (random bytes; random characters; good ones; good ones with
    bits flipped, bytes replaced, parts cut out or put in, lines exchanged; texts with macros made by chance; too short, too long, empty, null) and
    calls load, convert, start and run on them. States are written as text and read back; the texts are damaged in many ways, also with lengths and
-   sums mended, so that only the state itself tells. The last line has the counts; the first difference ends it with status 1. */
+   sums mended, so that only the state itself tells. Of texts with few lines the short part is compared with one that is found here, by trials with
+   load. The last line has the counts; the first difference ends it with status 1. */
 #define _GNU_SOURCE
 #include "lent.h"
 #include "text.h"
@@ -16,7 +17,7 @@
 
 enum { FILES = 128, TEXT_MOST = EOL2_TEXT + 4096, CELLS_MOST = EOL2_TABLE + 64, STATE_MOST = EOL2_STATE + 256, INPUT_MOST = EOL2_INPUT + 4096 };
 enum { SAVED_MOST = EOL2_SAVED + 4096, OUT_MOST = SAVED_MOST };
-enum { LOAD, START, RUN, CONVERT, WRITE, READ, CALLS };
+enum { LOAD, START, RUN, CONVERT, WRITE, READ, SHORTEN, CALLS };
 
 static const char characters[] = " .(+*);-/,:'=[]<>?\x1b\x0e" "ABCDEFGHIJKLMNOPQRSTUVWXYZ" "abcdefghijklmnopqrstuvwxyz\x0f" "0123456789\n\x0c\r\x7f";
 
@@ -74,6 +75,8 @@ static int listed(int call, uint32_t number)
         {EOL2_BAD_CONVERSION, EOL2_ACCEPTED, 255},
         {EOL2_BAD_TABLE, EOL2_BAD_INPUTS, EOL2_BAD_STATE, EOL2_ACCEPTED, 255},
         {EOL2_BAD_TABLE, EOL2_BAD_INPUTS, EOL2_BAD_STATE, EOL2_BAD_LINES, EOL2_BAD_FRAMES, EOL2_ACCEPTED, 255}};
+    if (call == SHORTEN) /* what load answers */
+        call = LOAD;
     for (int k = 0; lists[call][k] != 255; k++)
         if (lists[call][k] == number)
             return 1;
@@ -83,7 +86,8 @@ static int listed(int call, uint32_t number)
 /* Counts a call, and checks what holds of every one: a number of its list, and the guard bytes and what was lent to be read as they were. */
 static uint64_t judged(int call, const char *name, uint64_t answer)
 {
-    struct lent *all[] = {&text, &saved, &table, &i1, &i2, &state, &out}, *written[CALLS] = {&table, &state, &state, &out, &out, &state};
+    struct lent *all[] = {&text, &saved, &table, &i1, &i2, &state, &out}, *written[CALLS] = {&table, &state, &state, &out, &out, &state, &out};
+    struct lent *second = call == SHORTEN ? &table : NULL;
     uint32_t number = eol2_number(answer);
     calls[call]++;
     if (!listed(call, number))
@@ -92,7 +96,7 @@ static uint64_t judged(int call, const char *name, uint64_t answer)
     for (size_t k = 0; k < sizeof all / sizeof *all; k++) {
         if (!lent_guarded(all[k]))
             differs("%s (answer %u) wrote beside buffer %zu", name, (unsigned)number, k);
-        if (all[k] != written[call] && !lent_same(all[k], 0))
+        if (all[k] != written[call] && all[k] != second && !lent_same(all[k], 0))
             differs("%s (answer %u) wrote buffer %zu", name, (unsigned)number, k);
     }
     return answer;
@@ -150,7 +154,7 @@ static int sound_lines(const uint8_t *s, size_t n)
     return 1;
 }
 
-/* ---- the six calls, each with what its declaration says */
+/* ---- the seven calls, each with what its declaration says */
 
 static uint64_t load(void)
 {
@@ -261,6 +265,25 @@ static uint64_t read_state(void)
         differs("read (answer %u) counts, or changed what must stay", (unsigned)number);
     if (number != EOL2_BAD_TABLE && (first ? number != first : number != EOL2_BAD_FRAMES && number != EOL2_ACCEPTED))
         differs("read answers %u where inputs are %d, room is %d and lines are %d", (unsigned)number, inputs, room, lines);
+    return answer;
+}
+
+static uint64_t shorten(void)
+{
+    const size_t cells = table.length / 4;
+    lent_writable(&text, 0);
+    uint64_t answer = eol2_shorten(text.at, text.length, (uint32_t *)(void *)table.at, cells, out.at, out.length);
+    lent_writable(&text, 1);
+    judged(SHORTEN, "shorten", answer);
+    const uint32_t number = eol2_number(answer), count = eol2_count(answer);
+    if ((number == EOL2_BAD_SIZE) != (cells < EOL2_TABLE || text.length > EOL2_TEXT || out.length < text.length))
+        differs("shorten answers %u to its sizes", (unsigned)number);
+    if (number == EOL2_BAD_SIZE ? count != 0 : number == EOL2_ACCEPTED ? count != text.length : count > text.length)
+        differs("shorten answers %u with count %u", (unsigned)number, (unsigned)count);
+    if (!lent_same(&out, count) || !lent_same(&table, number == EOL2_BAD_SIZE ? 0 : EOL2_TABLE * 4))
+        differs("shorten (answer %u) changed what must stay", (unsigned)number);
+    if (number != EOL2_BAD_SIZE && number != EOL2_ACCEPTED && !zeros(table.at, EOL2_TABLE * 4))
+        differs("shorten (answer %u) leaves more than zeros in the table", (unsigned)number);
     return answer;
 }
 
@@ -820,6 +843,61 @@ static void converts(void)
         differs("there and back is not the same text");
 }
 
+/* The part of the lent text with so many bytes, by trials: a line is cut out, and put back where the number is another. */
+static size_t short_part(uint8_t *part, uint32_t number)
+{
+    static uint8_t line[TEXT_MOST];
+    static uint32_t cells[EOL2_TABLE];
+    size_t n = text.length, before;
+    if (n)
+        memcpy(part, text.at, n);
+    do {
+        before = n;
+        for (size_t end = n; end;) {
+            const size_t from = line_start(part, end - 1), bytes = end - from;
+            memcpy(line, part + from, bytes);
+            memmove(part + from, part + end, n - end);
+            n -= bytes;
+            if (eol2_number(eol2_load(part, n, cells, EOL2_TABLE)) != number) {
+                memmove(part + end, part + from, n - from);
+                memcpy(part + from, line, bytes);
+                n += bytes;
+            }
+            end = from;
+        }
+    } while (n != before);
+    return n;
+}
+
+/* The short part of a text, in buffers of several lengths and with tables of several lengths: 40 where one is too short; else the part that the
+   trials find, with load's number. A text that loads is its own part. Where trials would take long, only the refusals for the sizes. */
+static void shortens(int k)
+{
+    static uint8_t part[TEXT_MOST], given[TEXT_MOST];
+    size_t lines = 0, n = text.length;
+    for (size_t at = 0; at < n; at++)
+        lines += text.at[at] == '\n';
+    if (lines <= (starred() ? 25 : 60)) {
+        if (n)
+            memcpy(given, text.at, n);
+        lend_table(k), lend_out(one_in(2) ? near(n < 8 ? 8 : n, OUT_MOST) : n + below(64));
+        shorten();
+        lend_table(k), lend_out(n);
+        const uint64_t answer = shorten();
+        const uint32_t number = eol2_number(answer);
+        if (number == EOL2_BAD_SIZE)
+            return;
+        if (table.length >= EOL2_TABLE * 4 && number != eol2_number(eol2_load(text.at, n, (uint32_t *)(void *)table.at, EOL2_TABLE)))
+            differs("shorten answers %u, and load otherwise", (unsigned)number);
+        const size_t count = number == EOL2_ACCEPTED ? n : short_part(part, number);
+        if (count != eol2_count(answer) || (count && memcmp(out.at, number == EOL2_ACCEPTED ? given : part, count)))
+            differs("shorten (answer %u) leaves another part, of %u bytes for %zu", (unsigned)number, (unsigned)eol2_count(answer), count);
+    }
+    lend_table(k), lend_out(n ? n - 1 : 0);
+    if (n && eol2_number(shorten()) != EOL2_BAD_SIZE)
+        differs("shorten takes a buffer that is one byte too short");
+}
+
 static void round_of(int k)
 {
     static uint8_t first[EOL2_TABLE * 4], now[STATE_MOST];
@@ -841,8 +919,9 @@ static void round_of(int k)
                 differs("the table of an accepted text does not run");
         }
     }
-    /* the text in the other edition */
+    /* its short part, and the text in the other edition */
     lend_state();
+    shortens(k);
     converts();
     /* start and run on whatever is there */
     lend_table(k), lend_state(), lend_out(below(64));
@@ -926,7 +1005,7 @@ int main(int count, char **words)
     lent_make(&state, STATE_MOST), lent_make(&saved, SAVED_MOST), lent_make(&out, OUT_MOST);
     lend_out(0), lend(&saved, kept.at, 0);
     run_rounds(rounds);
-    static const char *const names[CALLS] = {"load", "start", "run", "convert", "write", "read"};
+    static const char *const names[CALLS] = {"load", "start", "run", "convert", "write", "read", "shorten"};
     unsigned long all = 0;
     for (int c = 0; c < CALLS; c++) {
         printf("%-7s", names[c]);

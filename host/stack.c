@@ -1,4 +1,4 @@
-/* Measures how much stack the six calls take, and fails where it is EOL2_STACK or more. `host/run` builds it, without sanitizers.
+/* Measures how much stack the seven calls take, and fails where it is EOL2_STACK or more. `host/run` builds it, without sanitizers.
 
        stack FILE..
 
@@ -10,7 +10,7 @@
 #include <pthread.h>
 #include <sys/mman.h>
 
-enum { ROOM = 4 * EOL2_STACK, PAINT = 0x5a, CALLS = 6, STEPS = 1000 };
+enum { ROOM = 4 * EOL2_STACK, PAINT = 0x5a, CALLS = 7, STEPS = 1000 };
 
 static uint8_t *stack, file[HOST_FILE], state[EOL2_STATE], other[EOL2_TEXT], saved[EOL2_SAVED];
 static uint32_t table[EOL2_TABLE];
@@ -59,6 +59,13 @@ static void *read_state(void *nothing)
     return nothing;
 }
 
+static void *shorten(void *nothing)
+{
+    static uint32_t own[EOL2_TABLE];
+    answer = eol2_shorten(file, text_bytes, own, EOL2_TABLE, other, sizeof other);
+    return nothing;
+}
+
 /* How many bytes of its stack a thread uses. */
 static size_t used(void *(*work)(void *))
 {
@@ -78,7 +85,7 @@ static size_t used(void *(*work)(void *))
 
 int main(int count, char **words)
 {
-    static void *(*const works[CALLS])(void *) = {load, start, run, convert, write_state, read_state};
+    static void *(*const works[CALLS])(void *) = {load, start, run, convert, write_state, read_state, shorten};
     size_t most[CALLS] = {0};
     stack = mmap(NULL, ROOM, PROT_READ | PROT_WRITE, MAP_PRIVATE | MAP_ANONYMOUS, -1, 0);
     if (stack == MAP_FAILED) {
@@ -94,8 +101,8 @@ int main(int count, char **words)
             most[c] = n > most[c] ? n : most[c];
         }
     }
-    printf("stack: load %zu, start %zu, run %zu, convert %zu, write %zu, read %zu bytes of %d\n", most[0], most[1], most[2], most[3], most[4],
-           most[5], EOL2_STACK);
+    printf("stack: load %zu, start %zu, run %zu, convert %zu, write %zu, read %zu, shorten %zu bytes of %d\n", most[0], most[1], most[2],
+           most[3], most[4], most[5], most[6], EOL2_STACK);
     for (int c = 0; c < CALLS; c++)
         if (most[c] >= EOL2_STACK)
             return 1;

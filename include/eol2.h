@@ -1,5 +1,5 @@
 /* EOL-2 for C: load a program text, start a state, run it under a budget; turn a text into the other edition; write a state as text and read it
-   back.
+   back; give the short part of a text that shows its fault.
 
    The library is for x86-64 Linux: `rt staticlib interpreter` writes target/staticlib/libinterpreter.a, which needs memcpy and memset, and
    nothing else. `cc -Iinclude host.c target/staticlib/libinterpreter.a` builds a program over it. host/eol2.c is a short one, and `host/run`
@@ -16,13 +16,13 @@
            q1 = eol2_output(state, 1, &q1_bytes);
        } while (eol2_number(answer) == EOL2_PAUSED);
 
-   What holds of all six calls:
+   What holds of all seven calls:
    - Memory is lent by the caller, each buffer as a pointer and a length. The length of a table counts numbers of 32 bits, every other length
      counts bytes. A null pointer is allowed with length 0. A table is aligned as uint32_t.
-   - The buffer that a call writes (the table of eol2_load, the state of eol2_start, eol2_run and eol2_read_state, the out of eol2_convert and
-     eol2_write_state) overlaps no other buffer of that call, and nobody else reads or writes it while the call lasts. The others are only
-     read, may overlap each other, and stay unwritten by anybody meanwhile. These are the only duties of a caller: any content and any length
-     is answered, and nothing need be checked beforehand.
+   - A buffer that a call writes (the table of eol2_load, the state of eol2_start, eol2_run and eol2_read_state, the out of eol2_convert and
+     eol2_write_state, the table and the out of eol2_shorten) overlaps no other buffer of that call, and nobody else reads or writes it while
+     the call lasts. The others are only read, may overlap each other, and stay unwritten by anybody meanwhile. These are the only duties of a
+     caller: any content and any length is answered, and nothing need be checked beforehand.
    - A table counts as far as its first EOL2_TABLE numbers, a state as far as its first EOL2_STATE bytes. What lies beyond is neither read nor
      written; a buffer may be longer.
    - A call keeps nothing from one to the next and has no variables of its own: all is in the lent memory, so table and state can be copied,
@@ -56,10 +56,10 @@ enum {
 /* ---- the numbers of answers, each with its question; a question answered no gives its number */
 
 enum eol2_numbers {
-    /* Refused by eol2_load, in the order in which a statement is asked: 40 first; then 14, 15, 16, 00, 10, 08, 06, 01, 02, 11 of each
-       statement; then 25, 12, 13 of the whole text. The first no decides. A text with macros (eol2_load says which) is asked 14, 15, 16,
-       64, 65, 66 as a whole before its statements. */
-    EOL2_BAD_SIZE = 40,           /* Table long enough, text short enough? */
+    /* Refused by eol2_load, and the numbers of eol2_shorten, in the order in which a statement is asked: 40 first; then 14, 15, 16, 00, 10, 08,
+       06, 01, 02, 11 of each statement; then 25, 12, 13 of the whole text. The first no decides. A text with macros (eol2_load says which) is
+       asked 14, 15, 16, 64, 65, 66 as a whole before its statements. */
+    EOL2_BAD_SIZE = 40,           /* Table long enough, text short enough? Of eol2_shorten also: buffer as long as the text? */
     EOL2_BAD_BYTE = 14,           /* Outside texts and comments, only A to Z, 0 to 9, space , : ; ' + - * ( ) and new line, each comment closed? */
     EOL2_BAD_TEXT = 15,           /* Each text closed on its line, not empty, of allowed characters and pairs? */
     EOL2_BAD_LENGTH = 16,         /* Each item within 60 characters: name, number, text, and what is none of them? */
@@ -123,13 +123,14 @@ static inline uint32_t eol2_line(uint64_t answer)
 }
 
 /* Of an answer of eol2_run: how many instructions this call completed; 0 where it is refused. Of eol2_start and eol2_read_state: 0. Of
-   eol2_convert and eol2_write_state: how many bytes they wrote; 0 where they are refused. */
+   eol2_convert and eol2_write_state: how many bytes they wrote; 0 where they are refused. Of eol2_shorten: how many bytes the part has, with
+   every number; 0 with 40. */
 static inline uint32_t eol2_count(uint64_t answer)
 {
     return (uint32_t)(answer & 0xffffffffu);
 }
 
-/* ---- the six calls */
+/* ---- the seven calls */
 
 /* Loads the program of a text.
 
@@ -249,6 +250,32 @@ uint64_t eol2_write_state(const uint32_t *table, size_t table_cells, const uint8
    Bytes beyond the first EOL2_STATE stay as they were in every case. */
 uint64_t eol2_read_state(const uint32_t *table, size_t table_cells, const uint8_t *i1, size_t i1_bytes, const uint8_t *i2, size_t i2_bytes,
                          const uint8_t *saved, size_t saved_bytes, uint8_t *state, size_t state_bytes);
+
+/* Gives the short part of a refused text that shows the same fault: some of its lines, in their order, that eol2_load refuses with the same
+   number. For a report of a fault, and for a customer who sends it.
+
+   text, text_bytes    a text of either edition, with macros or without. Only read
+   table, table_cells  a table to load into, as for eol2_load. Its content does not matter
+   out, out_bytes      the buffer to fill, no shorter than the text. Its content does not matter
+
+   Number, count            The buffer afterwards                              The table afterwards, its first EOL2_TABLE numbers
+   80, text_bytes           its first bytes are the text, which loads          the program of the text
+   a refusal's, count       its first count bytes are the part                 zeros, as eol2_load leaves them for the part
+   40, 0                    as it was, all of it                               as they were
+
+   What it asks first, and 40 for each no: is the buffer as long as the text (also for a text that loads)? Has the table EOL2_TABLE numbers, the
+   text at most EOL2_TEXT bytes? Then the number is the one that eol2_load gives for the text, and for the part. Bytes behind the part stay as
+   they were in every case, and so do numbers beyond the first EOL2_TABLE. The part's own line of the fault, eol2_load tells.
+
+   How the part is found: the lines are tried in rounds from the last to the first, each is dropped if without it the number stays, and a round
+   in which none is dropped is the last one. So no single line of the part can be left out; another part may still be shorter. A line goes up to
+   and with its new line, and a last one without a new line is a line as it stands. The part of a text refused with 00 is often empty, as the
+   empty text is 00.
+
+   The time is that of one eol2_load for each line and each round. 300 lines with one fault take some milliseconds, 32,000 lines some seconds.
+   A text whose lines need each other can take a round for each of them, and with macros there may be thousands (docs/requests/2.7.md); and a text
+   of macros can keep eol2_load itself at work for very long. A host that takes texts of strangers sets a limit of its own, as for eol2_load. */
+uint64_t eol2_shorten(const uint8_t *text, size_t text_bytes, uint32_t *table, size_t table_cells, uint8_t *out, size_t out_bytes);
 
 /* ---- reading a table and a state (docs/LAYOUT.md). Both functions take any content of EOL2_TABLE numbers and EOL2_STATE bytes, and read
    nothing beyond. They do not check it: what they say of bytes that no call left has no meaning. eol2_run tells, by 62 and 63. */
