@@ -8,7 +8,8 @@
    that loads is printed whole, with no such line behind it; that it loads is said on standard error, and the exit status is 0. Of a text that is
    too long there is no part, and `BLAD 40 LINE 0` is all. Status 2: wrong use, or standard input or output failed.
 
-   A text of some hundred lines takes milliseconds, 32,000 lines some seconds; macros can be made for which it takes days (docs/requests/2.7.md). */
+   A text of some hundred lines takes milliseconds, 32,000 lines some seconds; macros can be written for which it takes many hours
+   (docs/requests/2.7.md). */
 #include "text.h"
 
 static uint8_t file[HOST_FILE], part[EOL2_TEXT];
