@@ -234,7 +234,7 @@ module _ (ls : List ℕ) (lined : Lined ls) (n last : ℕ) (d : Draft) (h : Soun
 
 -- Load
 
-passed-on : (ls : List ℕ) (v : Verdict) (r : Loaded) (p : Program) → unless-refused ls v r ≡ accepted p → (v ≡ Verdict.yes) × (r ≡ accepted p)
+pub passed-on : (ls : List ℕ) (v : Verdict) (r : Loaded) (p : Program) → unless-refused ls v r ≡ accepted p → (v ≡ Verdict.yes) × (r ≡ accepted p)
 unfolding unless-refused
 passed-on ls Verdict.yes r p h = (refl, h)
 passed-on ls (refuse number at) r p h = absurd (let z : _≡_ {A = ℕ} 0 1 = cc in omega arith)

@@ -411,7 +411,7 @@ module _ (n : ℕ) (d : Draft) (x : List Item) (h : Sound-draft n d) (sound : Ea
   unfolding questions label-faults count-faults
   faultless-here =
       let b = a .1 .1 .1 .1 .1 in
-      record { labelled = b .0; counted = b .1 .1 .0; right = b .1 .1 .1 .0; few = b .1 .1 .1 .1 .0 }
+      record { labelled = b .0; counted = b .1 .1 .1 .0; right = b .1 .1 .1 .1 .0; few = b .1 .1 .1 .1 .1 .0 }
 
   new-here : Each (λ l. T (not (any (sameBytes l) (d .names)))) new-names × T (different sameBytes new-names)
   unfolding questions

@@ -29,7 +29,7 @@ use Rattle.calls.specs.AnswerLaws.{packed-number, packed-value}
 
 -- the numbers of a refused text: of the whole text, of its macros, of a statement, of the end
 abbrev pub text-refusals : List ℕ
-text-refusals = 14 ∷ 15 ∷ 16 ∷ 64 ∷ 65 ∷ 66 ∷ 0 ∷ 10 ∷ 8 ∷ 6 ∷ 1 ∷ 2 ∷ 11 ∷ 25 ∷ 12 ∷ 13 ∷ []
+text-refusals = 14 ∷ 15 ∷ 16 ∷ 64 ∷ 65 ∷ 66 ∷ 0 ∷ 10 ∷ 8 ∷ 6 ∷ 70 ∷ 1 ∷ 2 ∷ 11 ∷ 25 ∷ 12 ∷ 13 ∷ []
 
 -- and of the call; 80, of acceptance, is none of them
 abbrev pub load-refusals : List ℕ

@@ -11,10 +11,15 @@ use Rattle.macros.specs.Marks.{has-macros}
 use Rattle.calls.specs.Filling.Filling.{kept, fills}
 use Rattle.editions.specs.Convert.{respell, splice, with-operators, respelled, convertOf}
 
--- labels, spaces and commas stay, also where a label is spelled as an operator
-labels-stay : convertOf 99 (bytes "SEKCJA S\n,PISZ:  SKOCZ , PISZ;KONS;KONP S") ≡ fills 80 (bytes "SECTION S\n,PISZ:  GOTO , PISZ;ENDS;KONP S")
+-- labels, spaces and commas stay, also where a label begins as an operator
+labels-stay : convertOf 99 (bytes "SEKCJA S\n,PISZ1:  SKOCZ , PISZ1;KONS;KONP S") ≡ fills 80 (bytes "SECTION S\n,PISZ1:  GOTO , PISZ1;ENDS;KONP S")
 unfolding opened has-macros prepared loaded loadIn respell splice with-operators respelled convertOf
 labels-stay = refl
+
+-- one that is spelled as an operator of either edition is 70 for load
+operator-label : convertOf 99 (bytes "SEKCJA S\nWRITE: SKOCZ WRITE;KONS;KONP S") ≡ kept 67
+unfolding opened has-macros prepared loaded loadIn respell splice with-operators respelled convertOf
+operator-label = refl
 
 -- a word is a label if a colon follows, past comments too; names, texts and comments stay
 texts-stay : convertOf 99 (bytes "SECTION NAME\nA /*:*/ : SET 'SET',A1 /* SET */;GOTO A\nENDS\nKONP NAME")

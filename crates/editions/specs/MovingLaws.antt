@@ -17,7 +17,7 @@ use Rattle.lists.specs.Quoted.{bytes}
 use Rattle.syntax.specs.ArgumentForms.{Argument, reads, accepting, read-by, alternatives, arguments, arguments-in, of-form, form-in, most, least}
 use Rattle.syntax.specs.Items.{Item, is, places}
 use Rattle.syntax.specs.Items.Sort.{word, colon, text, wrong}
-use Rattle.syntax.specs.Statements.{Keyword, by-keyword, own, chooses-english, keyword-of, same-keyword, is-operator, front, behind, labels-in, operator, operator-at, keyword-in, rest, is-name, one-name, entry-faults, list-faults, entries-in}
+use Rattle.syntax.specs.Statements.{Keyword, by-keyword, own, reserved, chooses-english, keyword-of, same-keyword, is-operator, front, behind, labels-in, operator, operator-at, keyword-in, rest, is-name, one-name, entry-faults, list-faults, entries-in}
 use Rattle.syntax.specs.Statements.Keyword.{none, unknown, SEKCJA, KONS, KONP, switch, instr}
 use Rattle.syntax.specs.Tables.{Written, Choice, Tables, Closing, Draft, is-first, all-labels, contents, fresh, new-texts, number-in, new-numbers, with-instr, with-switch, tables-after, closing-faults, closing-after, draft-after}
 use Rattle.syntax.specs.Questions.{first-faults, operator-faults, label-faults, repeated, count-faults, instr-faults, switch-faults, beyond, instr-beyond, switch-beyond, questions}
@@ -324,6 +324,7 @@ module _ (f : ℕ → ℕ) where
       (ask-row 10 (con (is-first d) (is-first d) refl (via refl) (via (moved-operator-faults (d .english) x)))
       (ask-row 8 (via (ap (λ zs. label-faults zs (map (moved f) x)) (moved-all-labels d x) ∙ moved-label-faults (all-labels d x) x))
       (ask-row 6 (via (ap (repeated (d .names)) (moved-labels x) ∙ moved-repeated (d .names) (labels-in x)))
+      (ask-row 70 (via (ap (λ zs. places (keep (λ l. reserved (l .chars)) zs)) (moved-labels x) ∙ moved-kept (λ l. reserved (l .chars)) (labels-in x)))
       (ask-row 1 (via (moved-count-faults x))
       (ask-row 2
       (via (ap (by-keyword (instr-faults (map (moved f) x)) (switch-faults (map (moved f) x)) []) (moved-keyword x)
@@ -337,7 +338,7 @@ module _ (f : ℕ → ℕ) where
       (λ n. switch-beyond (d .tables) x) (λ n. switch-beyond (moved-tables f (d .tables)) (map (moved f) x)) [] []
       (λ o. ap (λ zs. instr-beyond (moved-tables f (d .tables)) zs (map (moved f) x)) (moved-all-labels d x) ∙ moved-instr-beyond (d .tables) (all-labels d x) x)
       (λ n. moved-switch-beyond (d .tables) x) refl (keyword-in x)))
-      ask-done)))))))))
+      ask-done))))))))))
 
   pub moved-questions : (d : Draft) (x : List Item) → questions (moved-draft f d) (map (moved f) x) ≡ map (moved-question f) (questions d x)
   moved-questions d x = all-asked d x .asked

@@ -15,7 +15,7 @@ use Rattle.syntax.specs.Ending.{end-faults, last-questions}
 use Rattle.syntax.specs.Items.{Sort, same-sort, Item, is, places}
 use Rattle.syntax.specs.Items.Sort.{separator, word, colon, end, text, wrong}
 use Rattle.syntax.specs.Questions.{first-faults, operator-faults, label-faults, repeated, count-faults, instr-faults, switch-faults, beyond, instr-beyond, switch-beyond, questions}
-use Rattle.syntax.specs.Statements.{same-keyword, by-keyword, own, chooses-english, keyword-of, is-operator, front, behind, labels-in, operator, operator-at, keyword-in, rest, is-name, one-name, list-faults}
+use Rattle.syntax.specs.Statements.{same-keyword, by-keyword, own, reserved, chooses-english, keyword-of, is-operator, front, behind, labels-in, operator, operator-at, keyword-in, rest, is-name, one-name, list-faults}
 use Rattle.syntax.specs.Statements.Keyword.{none, unknown, SEKCJA, KONS, KONP}
 use Rattle.syntax.specs.Tables.{Tables, Closing, Draft, is-first, all-labels, contents, new-texts, number-in, new-numbers, with-instr, with-switch, tables-after, closing-faults, closing-after, draft-after}
 use Rattle.syntax.specs.Verdict.{ask, first-no}
@@ -274,6 +274,7 @@ turned-questions d x =
     ∷ ask 10 (turned-asked-10 (is-first d) (d .english) x k)
     ∷ ask 8 ((ap (λ ls. label-faults ls (turned x)) (turned-all-labels d x) ∙ turned-label-faults (all-labels d x) x) k)
     ∷ ask 6 (ap (repeated (d .names)) (turned-labels x) k)
+    ∷ ask 70 (ap (λ ls. places (keep (λ l. reserved (l .chars)) ls)) (turned-labels x) k)
     ∷ ask 1 (turned-count x k)
     ∷ ask 2 (turned-argued x k)
     ∷ ask 11 ((ap (λ ls. by-keyword (λ o. instr-beyond (d .tables) ls (turned x)) (λ n. switch-beyond (d .tables) (turned x)) [] (keyword-in (turned x))) (turned-all-labels d x)

@@ -3,5 +3,7 @@ pub mod Demand
 pub mod TrailLaws
 pub mod AcceptedTable
 pub mod AcceptedTableLaws
+pub mod OldTables
+pub mod OldTableLaws
 pub mod DemandLaws
 pub mod Examples

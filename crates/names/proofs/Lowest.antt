@@ -1,4 +1,4 @@
--- Marks one by one: the lowest place, and question 06.
+-- Marks one by one: the lowest place, and questions 06 and 70.
 use mathlib.Core.Path.{_≡_, refl, sym, ap, _∙_}
 use mathlib.Core.Bool.{Bool, true, false, cond}
 use mathlib.Core.List.{List, [], _∷_, _++_, map, append-assoc, append-nil, map-append}
@@ -13,8 +13,9 @@ use Rattle.statements.specs.StatementAt.{fault-of}
 use Rattle.statements.specs.declared.Fault.{Fault}
 use Rattle.statements.specs.declared.Fault.the-variants.{Clear, At}
 use Rattle.syntax.specs.Verdict.{lowest}
-use Rattle.lists.specs.Lists.{any, sameBytes}
-use Rattle.names.specs.Names.{Sought, names-of, own-repeated, repeated-by, Repeatable}
+use Rattle.syntax.specs.Statements.{reserved}
+use Rattle.lists.specs.Lists.{any, keep, sameBytes}
+use Rattle.names.specs.Names.{Sought, names-of, own-repeated, repeated-by, reserved-by, Repeatable}
 
 module _ (ms : List ℕ) (a b : ℕ) (most : b ≤ length ms) where
   -- those up to index k
@@ -99,3 +100,36 @@ module _ (s : List ℕ) where
       let m : ℕ = getD ms k 0 in
       walk-on (repeated-in ms a) ms a b most h l (own-repeated s (names-of s (take k ms)) m)
       (repeated-more (names-of s (take a ms)) (marks-in ms a k) m ∙ ap (λ (ns : List (List ℕ)). repeated-in ms a (marks-in ms a k) ++ own-repeated s ns m) (names-up ms a k (h .from))) e q
+
+-- question 70: one mark
+pub own-told : (s : List ℕ) (m : ℕ) {r b : Bool} → r ≡ reserved (take (m / 64 + m % 64 - m / 64) (drop (m / 64) s)) → r ≡ b → cond b (At (m / 64)) Clear ≡ fault-of (reserved-by s (m ∷ []))
+unfolding word-by lowest
+own-told s m {r} {b} h q =
+    let e : m / 64 + m % 64 - m / 64 ≡ m % 64 = omega arith in
+    rw (sym (ap (λ (n : ℕ). reserved (take n (drop (m / 64) s))) e) ∙ sym h ∙ q) (go b)
+  where
+    go : (b : Bool) → cond b (At (m / 64)) Clear ≡ fault-of (map place-by (cond b (m ∷ []) []))
+    go true = refl
+    go false = refl
+
+module _ (s : List ℕ) where
+  reserved-more : (xs : List ℕ) (m : ℕ) → reserved-by s (xs ++ (m ∷ [])) ≡ reserved-by s xs ++ reserved-by s (m ∷ [])
+  reserved-more [] m = refl
+  reserved-more (x ∷ xs) m = go (reserved (word-by s x)) (reserved-more xs m)
+    where
+      of : List ℕ → List ℕ
+      of ms = keep (λ m. reserved (word-by s m)) ms
+
+      go : (b : Bool) → map place-by (of (xs ++ (m ∷ []))) ≡ map place-by (of xs) ++ map place-by (of (m ∷ []))
+          → map place-by (cond b (x ∷ of (xs ++ (m ∷ []))) (of (xs ++ (m ∷ [])))) ≡ map place-by (cond b (x ∷ of xs) (of xs)) ++ map place-by (of (m ∷ []))
+      go true e = ap (λ ps. place-by x ∷ ps) e
+      go false e = e
+
+  pub reserved-first : (ms : List ℕ) (a b : ℕ) → b ≤ length ms → Walking (reserved-by s) ms a b a Clear
+  reserved-first ms a b most = walk-first (reserved-by s) ms a b most refl
+
+  pub reserved-next : (ms : List ℕ) (a b : ℕ) → b ≤ length ms → {k : ℕ} {f : Fault} → Walking (reserved-by s) ms a b k f → k < b → {m : ℕ} → m ≡ getD ms k 0 → {g r : Fault}
+      → g ≡ fault-of (reserved-by s (m ∷ [])) → r ≡ lower f g → Walking (reserved-by s) ms a b (k + 1) r
+  reserved-next ms a b most {k} h l {m} e {g} d q =
+      walk-on (reserved-by s) ms a b most h l (reserved-by s (getD ms k 0 ∷ [])) (reserved-more (marks-in ms a k) (getD ms k 0))
+      (d ∙ ap (λ (n : ℕ). fault-of (reserved-by s (n ∷ []))) e) q

@@ -4,7 +4,8 @@ use mathlib.Core.List.{List, [], _∷_, _++_, map}
 use Prim.Native.Nat.{ℕ, _+_, _≤_, _<_}
 use lib.ListN.{length, getD}
 use Rattle.drafts.specs.Marks.{place-by, word-by, Marked}
-use Rattle.lists.specs.Lists.{any, sameBytes}
+use Rattle.lists.specs.Lists.{any, keep, sameBytes}
+use Rattle.syntax.specs.Statements.{reserved}
 
 -- the word of the mark m, and len bytes at a place, are in the text s
 pub record Fitting (s : List ℕ) (m at len : ℕ) : Type 0 where
@@ -27,6 +28,10 @@ own-repeated s names m = cond (any (sameBytes (word-by s m)) names) (place-by m 
 unfoldable pub repeated-by : List ℕ → List (List ℕ) → List ℕ → List ℕ
 repeated-by s names [] = []
 repeated-by s names (m ∷ ms) = own-repeated s names m ++ repeated-by s (names ++ (word-by s m ∷ [])) ms
+
+-- 70 of them: the places of those that are keywords
+abbrev pub reserved-by : List ℕ → List ℕ → List ℕ
+reserved-by s ms = map place-by (keep (λ m. reserved (word-by s m)) ms)
 
 -- the words of the first marks are in the text
 pub record Repeatable (s ms : List ℕ) (count : ℕ) : Type 0 where

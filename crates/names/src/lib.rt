@@ -1,12 +1,12 @@
-// The names of all labels that were met, by their marks: question 06, "Is each label new?"
+// The names of all labels that were met, by their marks: question 06, "Is each label new?", and 70, "is the label none of these?"
 ghost use mathlib.Core.Path.{_≡_};
-ghost use mathlib.Core.List.{map};
+ghost use mathlib.Core.List.{[], _∷_, map};
 ghost use Prim.Native.Nat.{_≤_};
 ghost use lib.ListN.{length, getD, take, drop};
 ghost use Rattle.lists.specs.Lists.{any, sameBytes};
-ghost use Rattle.drafts.specs.Marks.{place-by, word-by, marks-in};
+ghost use Rattle.drafts.specs.Marks.{place-by, word-by, Marked, marks-in};
 ghost use Rattle.statements.specs.StatementAt.{fault-of};
-ghost use Rattle.names.specs.Names.{Fitting, Sought, names-of, Askable, own-repeated, repeated-by, Repeatable};
+ghost use Rattle.names.specs.Names.{Fitting, Sought, names-of, Askable, own-repeated, repeated-by, reserved-by, Repeatable};
 use packed::cell_of;
 use statements::Fault;
 use statements::lower;
@@ -64,6 +64,32 @@ pub fn first_repeated(text: &[u8], names: &[u32], from: usize, to: usize) -> Fau
     let mut k = from;
     while k < to {
         fault = lower(fault, met_before(text, names, k));
+        k += 1;
+    }
+    fault
+}
+
+// The place of the word of a mark, if it is a keyword of either edition.
+fn own_reserved(text: &[u8], m: usize) -> Fault
+    requires { ⌜ Marked (now text) m ⌝ }
+    ensures { λ r. ⌜ r ≡ fault-of (reserved-by (now (text .entry)) (m ∷ [])) ⌝ }
+{
+    let at = m / 64;
+    if words::is_reserved(&text[at..at + m % 64]) {
+        return Fault::At(at);
+    }
+    Fault::Clear
+}
+
+// Question 70 of the names from index `from` to index `to`.
+pub fn first_reserved(text: &[u8], names: &[u32], from: usize, to: usize) -> Fault
+    requires { ⌜ Repeatable (now text) (now names) to ⌝ }
+    ensures { λ r. ⌜ r ≡ fault-of (reserved-by (now (text .entry)) (marks-in (now (names .entry)) from to)) ⌝ }
+{
+    let mut fault = Fault::Clear;
+    let mut k = from;
+    while k < to {
+        fault = lower(fault, own_reserved(text, cells::read(names, k)));
         k += 1;
     }
     fault

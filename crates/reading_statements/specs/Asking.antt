@@ -3,8 +3,11 @@ use mathlib.Core.Path.{_≡_}
 use mathlib.Core.Bool.{Bool, true, cond}
 use mathlib.Core.List.{List, _++_}
 use Prim.Native.Nat.{ℕ}
+use lib.ListN.{take}
+use Rattle.drafts.specs.Marks.{marks-in}
+use Rattle.names.specs.Names.{names-of, repeated-by, reserved-by}
 use Rattle.statements.specs.Checks.{worst}
-use Rattle.statements.specs.Faults.{verdict-of, decided}
+use Rattle.statements.specs.Faults.{verdict-of, decided, then}
 use Rattle.statements.specs.Groups.{item-questions, head-questions, name-questions}
 use Rattle.statements.specs.declared.Verdict as told
 use Rattle.heads.specs.Heads.{Headed}
@@ -30,7 +33,12 @@ abbrev pub Operator-asked : Head → Bool → Bool → Fault → told.Verdict �
 Operator-asked h first english zero r =
     (s : List ℕ) (n : ℕ) → Headed s n h → Zero-told first (statement-at s n) zero → verdict-of r ≡ operator-verdict (statement-at s n) first english
 
--- 14, 15 and 16, whose number is w, 00 or 10, 08 and 06
+-- 06 and 70 of the labels of a text s whose marks stand in ms from index a to index b
+abbrev pub names-verdict : List ℕ → List ℕ → ℕ → ℕ → Verdict
+names-verdict s ms a b =
+    then (decided 6 (fault-of (repeated-by s (names-of s (take a ms)) (marks-in ms a b)))) (decided 70 (fault-of (reserved-by s (marks-in ms a b))))
+
+-- 14, 15 and 16, whose number is w, 00 or 10, 08, 06 and 70
 abbrev pub opening-questions : Draft → List Item → List Question
 opening-questions d x = item-questions x ++ (head-questions d x ++ name-questions d x)
 

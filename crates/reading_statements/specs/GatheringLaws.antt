@@ -14,24 +14,27 @@ use Rattle.declaring.specs.SpeltLaws.{statement-spelt}
 use Rattle.drafts.specs.DraftingLaws.{length-back}
 use Rattle.drafts.specs.Marks.{mark, length-by, word-by, Marked, marks-in}
 use Rattle.drafts.specs.Tabled.{Spelt}
+use Rattle.lists.specs.Lists.{keep}
+use Rattle.statements.specs.Faults.{decided, then}
 use Rattle.statements.specs.Groups.{item-questions}
 use Rattle.heads.specs.declared.Head.{Head}
 use Rattle.language.specs.Limits as limit
 use Rattle.layout.specs.Bounds.{Each}
 use Rattle.judging.specs.Judging.{Labelled, Label-fault}
 use Rattle.layout.specs.CellLaws.{each-append, each-at}
-use Rattle.names.specs.Names.{names-of, repeated-by, Repeatable}
-use Rattle.names.specs.RepeatedLaws.{Named-label, repeated-marks}
+use Rattle.names.specs.Names.{names-of, Repeatable}
+use Rattle.names.specs.RepeatedLaws.{Named-label, repeated-marks, reserved-marks}
 use Rattle.progress.specs.Advancing.{Advanceable}
 use Rattle.progress.specs.Progress.{Names-kept}
 use Rattle.progress.specs.declared.Progress.{Progress}
 use Rattle.statements.specs.StatementAt.{statements-at, statement-at, fault-of}
 use Rattle.statements.specs.declared.Fault.{Fault}
-use Rattle.syntax.specs.Items.{Item, is}
+use Rattle.syntax.specs.Items.{Item, is, places}
 use Rattle.syntax.specs.Items.Sort.{word}
 use Rattle.syntax.specs.Questions.{label-faults, repeated}
-use Rattle.syntax.specs.Statements.{front, labels-in}
+use Rattle.syntax.specs.Statements.{front, reserved, labels-in}
 use Rattle.syntax.specs.Tables.{Draft, all-labels, contents, draft-after}
+use Rattle.reading_statements.specs.Asking.{names-verdict}
 use Rattle.reading_statements.specs.Judging.{Judging, from}
 
 abbrev pub Short : Item → Type 0
@@ -134,7 +137,7 @@ module _ {s : List ℕ} {n : ℕ} {d : Draft} {g : Progress} {h : Head} {ms : Li
               (each-map Short _ (λ l e. omega (arith, length-back (l .at) (length (l .chars)) (omega (arith, e)), e)) ls (labels-have Short x all-short));
         }
 
-    -- 08 and 06, as they are asked of the marks
+    -- 08, 06 and 70, as they are asked of the marks
     pub labelled : Labelled h ms (from g)
     labelled = record { order = omega (arith, j .count-is); most = all-most; low = omega (arith, few, j .inside, j .low) }
 
@@ -144,10 +147,9 @@ module _ {s : List ℕ} {n : ℕ} {d : Draft} {g : Progress} {h : Head} {ms : Li
     pub labels-told : {f : Fault} → Label-fault h ms (from g) f → f ≡ fault-of (label-faults (all-labels d x) x)
     labels-told e = e s n (j .headed) (all-labels d x) (sym marks-all) (each-append Short (d .waiting) ls (j .short) (labels-have Short x all-short))
 
-    pub names-told : {f : Fault} → f ≡ fault-of (repeated-by s (names-of s (take (g .names) ms)) (marks-in ms (g .names) (h .names))) → f ≡ fault-of (repeated (d .names) ls)
-    names-told e =
-        e
-        ∙ rw (j .tells .names .names-are, marks-own) refl
-        ∙ ap fault-of
-        (repeated-marks s (d .names) ls
-        (each-map _ (Named-label s) (λ l e. record { is-word = e .0 .1; spelt = e .0 .0; short = e .1 }) ls (each-both (Spelt-word s) Short ls words (labels-have Short x all-short))))
+    named : Each (Named-label s) ls
+    named = each-map _ (Named-label s) (λ l e. record { is-word = e .0 .1; spelt = e .0 .0; short = e .1 }) ls (each-both (Spelt-word s) Short ls words (labels-have Short x all-short))
+
+    pub names-told : names-verdict s ms (g .names) (h .names)
+        ≡ then (decided 6 (fault-of (repeated (d .names) ls))) (decided 70 (fault-of (places (keep (λ l. reserved (l .chars)) ls))))
+    names-told = rw (j .tells .names .names-are, marks-own, repeated-marks s (d .names) ls named, reserved-marks s ls named) refl

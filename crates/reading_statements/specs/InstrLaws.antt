@@ -76,8 +76,8 @@ module _ {s lines : List ℕ} {n : ℕ} {d : Draft} {g : Progress} {h : Head} {m
   right-rest =
       each-map _ _ (λ a e. record { as-form = e .as-form; short = e .fine .short }) (arguments (own .op) (rest items))
       (arguments-sound (length s) (d .tables) (all-labels d items) items (own .op) (fine-here r early)
-      (sym (by-own (λ op. places (drop (most op) (arguments-in (rest items)))) (λ byName. []) []) ∙ early .1 .1 .1 .1 .1 .1 .1 .0)
-      (sym (by-own (instr-faults items) (switch-faults items) []) ∙ early .1 .1 .1 .1 .1 .1 .1 .1 .0))
+      (sym (by-own (λ op. places (drop (most op) (arguments-in (rest items)))) (λ byName. []) []) ∙ early .1 .1 .1 .1 .1 .1 .1 .1 .0)
+      (sym (by-own (instr-faults items) (switch-faults items) []) ∙ early .1 .1 .1 .1 .1 .1 .1 .1 .1 .0))
 
   -- its value
   abbrev valued : ℕ → value.Instruction
@@ -89,7 +89,7 @@ module _ {s lines : List ℕ} {n : ℕ} {d : Draft} {g : Progress} {h : Head} {m
       let operator-is : operator-of number ≡ own .op = ap operator-of (sym (own .has)) ∙ operator-back (own .op) in
       record {
         numbered = ap (λ (o : Op). operation o .number) operator-is ∙ own .has;
-        read = o .values (of-instr k number-is some (o .judged) ∙ ap fault-of (early .1 .1 .1 .1 .1 .1 .1 .1 .0));
+        read = o .values (of-instr k number-is some (o .judged) ∙ ap fault-of (early .1 .1 .1 .1 .1 .1 .1 .1 .1 .0));
         right = subst (λ (js : List Item). Each Right-argument (arguments (operator-of number) js)) (here .rest-is)
             (subst (λ (o : Op). Each Right-argument (arguments o (rest items))) (sym operator-is) right-rest);
       }

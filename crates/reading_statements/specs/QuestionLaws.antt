@@ -15,9 +15,10 @@ use Rattle.statements.specs.Groups.{item-questions, head-questions, name-questi
 use Rattle.heads.specs.declared.Head.{Head}
 use Rattle.progress.specs.declared.Progress.{Progress}
 use Rattle.statements.specs.StatementAt.{statement-at, fault-of}
-use Rattle.syntax.specs.Items.{Item}
+use Rattle.lists.specs.Lists.{keep}
+use Rattle.syntax.specs.Items.{Item, places}
 use Rattle.syntax.specs.Questions.{first-faults, operator-faults, label-faults, repeated, instr-beyond, switch-beyond, questions}
-use Rattle.syntax.specs.Statements.{by-keyword, labels-in, keyword-in}
+use Rattle.syntax.specs.Statements.{by-keyword, reserved, labels-in, keyword-in}
 use Rattle.syntax.specs.Tables.{Draft, is-first, all-labels}
 use Rattle.syntax.specs.Verdict.{Question, Verdict, ask, first-no}
 use Rattle.syntax.specs.Verdict.Verdict.{yes}
@@ -43,15 +44,19 @@ module _ (d : Draft) (x : List Item) where
   abbrev again : List ℕ
   again = repeated (d .names) (labels-in x)
 
-  -- 00 or 10, 08 and 06
-  abbrev asked : Bool → List Question
-  asked first = ask 0 (cond first (first-faults x) []) ∷ ask 10 (cond first [] (operator-faults (d .english) x)) ∷ ask 8 labels ∷ ask 6 again ∷ []
+  abbrev as-keyword : List ℕ
+  as-keyword = places (keep (λ l. reserved (l .chars)) (labels-in x))
 
-  each-asked : (first : Bool) → first-no (asked first) ≡ then (operator-verdict x first (d .english)) (then (decided 8 (fault-of labels)) (decided 6 (fault-of again)))
+  -- 00 or 10, 08, 06 and 70
+  abbrev asked : Bool → List Question
+  asked first = ask 0 (cond first (first-faults x) []) ∷ ask 10 (cond first [] (operator-faults (d .english) x)) ∷ ask 8 labels ∷ ask 6 again ∷ ask 70 as-keyword ∷ []
+
+  each-asked : (first : Bool)
+      → first-no (asked first) ≡ then (operator-verdict x first (d .english)) (then (decided 8 (fault-of labels)) (then (decided 6 (fault-of again)) (decided 70 (fault-of as-keyword))))
   each-asked true = simp (question-decides, none-asked, then-yes)
   each-asked false = simp (question-decides, none-asked, then-yes)
 
-  pub names-told : {first english : Bool} {r u v w : Verdict} → is-first d ≡ first → d .english ≡ english → u ≡ operator-verdict x first english → v ≡ decided 8 (fault-of labels) → w ≡ decided 6 (fault-of again)
+  pub names-told : {first english : Bool} {r u v w : Verdict} → is-first d ≡ first → d .english ≡ english → u ≡ operator-verdict x first english → v ≡ decided 8 (fault-of labels) → w ≡ then (decided 6 (fault-of again)) (decided 70 (fault-of as-keyword))
       → r ≡ then u (then v w) → r ≡ first-no (head-questions d x ++ name-questions d x)
   names-told {first} g i h k l e = rw (e, h, k, l, sym i, g) (sym (each-asked first))
 

@@ -145,7 +145,7 @@ module _ {s lines : List ℕ} {n : ℕ} {d : Draft} {g : Progress} {h : Head} {m
   faultless : list-faults named false (rest x) ≡ []
   unfolding switch-faults
   faultless =
-      right-list named (rest x) (places (operator x)) (sym (by-own (instr-faults x) (switch-faults x) []) ∙ early .1 .1 .1 .1 .1 .1 .1 .1 .0)
+      right-list named (rest x) (places (operator x)) (sym (by-own (instr-faults x) (switch-faults x) []) ∙ early .1 .1 .1 .1 .1 .1 .1 .1 .1 .0)
 
   pub switch-declarable : length tx′ ≡ limit.entries → Declarable-switch s (declaration (h .op) named (getD ms (from g) 0) l) c sw tx′
   switch-declarable room =

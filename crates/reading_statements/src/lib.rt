@@ -2,14 +2,16 @@
 ghost use mathlib.Core.Path.{_≡_};
 ghost use mathlib.Core.Bool.{_&&_};
 ghost use lib.Dec.{eqb};
+ghost use Rattle.statements.specs.Faults.{verdict-of};
 ghost use Rattle.statements.specs.StatementAt.{stops};
 ghost use Rattle.statements.specs.declared.Verdict.the-variants.{Yes};
 ghost use Rattle.declaring.specs.Declaring.{Declarable, Declares-values};
 ghost use Rattle.declaring_switches.specs.Switches.{Declarable-switch, DeclaresSwitch};
 ghost use Rattle.drafts.specs.Marks.{marks-in};
+ghost use Rattle.names.specs.Names.{Repeatable};
 ghost use Rattle.progress.specs.Advancing.{Advanceable};
 ghost use Rattle.reading_statements.specs.Admitting.{Finds, declaration, Admits};
-ghost use Rattle.reading_statements.specs.Asking.{Operator-asked, Head-askable, Head-asked};
+ghost use Rattle.reading_statements.specs.Asking.{Operator-asked, names-verdict, Head-askable, Head-asked};
 ghost use Rattle.reading_statements.specs.ReadingStatements.{Finishes, Instr-readable, Reads-instr, Switch-readable, Reads-switch, Endable, Ending-told, Ending-readable, Reads-ending, Readable, Reads-statement};
 use arguments::read_arguments;
 use declaring::Instruction;
@@ -32,6 +34,7 @@ use language::Machine;
 use lexer::Token;
 use lexer::line_at;
 use names::first_repeated;
+use names::first_reserved;
 use progress::Progress;
 use progress::progress_after;
 use scanner::NOTHING;
@@ -79,7 +82,17 @@ fn ask_operator(head: Head, first: bool, english: bool, zero: Fault) -> Verdict
     decide(10, operator_fault(head, english))
 }
 
-// Questions 14, 15 and 16, whose number is `worst`, 00 or 10, 08 and 06.
+// Questions 06 and 70 of the labels whose marks stand from index `from` to index `to`. What is at fault in 70 is found first, which
+// is faster; 06 decides before it.
+fn ask_names(text: &[u8], names: &[u32], from: usize, to: usize) -> Verdict
+    requires { ⌜ Repeatable (now text) (now names) to ⌝ }
+    ensures { λ r. ⌜ verdict-of r ≡ names-verdict (now (text .entry)) (now (names .entry)) from to ⌝ }
+{
+    let reserved = decide(70, first_reserved(text, names, from, to));
+    first_of(decide(6, first_repeated(text, names, from, to)), reserved)
+}
+
+// Questions 14, 15 and 16, whose number is `worst`, 00 or 10, 08, 06 and 70.
 fn ask_head(
     text: &[u8],
     worst: usize,
@@ -96,8 +109,8 @@ fn ask_head(
         Verdict::Yes => {
             let operator = ask_operator(head, p.section == 0, p.english, zero);
             let labels = decide(8, label_fault(head, names, p.names - p.waiting));
-            let repeated = decide(6, first_repeated(text, names, p.names, head.names));
-            first_of(operator, first_of(labels, repeated))
+            let named = ask_names(text, names, p.names, head.names);
+            first_of(operator, first_of(labels, named))
         }
     }
 }

@@ -9,7 +9,7 @@ use Rattle.lists.specs.Lists.{filled, keep}
 use Rattle.syntax.specs.Items.{Item, is, places}
 use Rattle.syntax.specs.Items.Sort.{text, wrong}
 use Rattle.syntax.specs.Questions.{first-faults, operator-faults, label-faults, repeated, count-faults, instr-faults, switch-faults, instr-beyond, switch-beyond}
-use Rattle.syntax.specs.Statements.{by-keyword, labels-in, keyword-in}
+use Rattle.syntax.specs.Statements.{by-keyword, reserved, labels-in, keyword-in}
 use Rattle.syntax.specs.Tables.{Draft, is-first, all-labels}
 use Rattle.syntax.specs.Verdict.{Question, ask}
 
@@ -32,7 +32,7 @@ head-questions d x =
     ∷ []
 
 abbrev pub name-questions : Draft → List Item → List Question
-name-questions d x = ask 6 (repeated (d .names) (labels-in x)) ∷ []
+name-questions d x = ask 6 (repeated (d .names) (labels-in x)) ∷ ask 70 (places (keep (λ l. reserved (l .chars)) (labels-in x))) ∷ []
 
 abbrev pub argument-questions : List Item → List Question
 argument-questions x = ask 1 (count-faults x) ∷ ask 2 (by-keyword (instr-faults x) (switch-faults x) [] (keyword-in x)) ∷ []

@@ -79,3 +79,22 @@ english = refl
 foreign : load-typed (bytes "SECTION S\nSTOP\nKONS\nKONP S") ≡ refused 10 3
 unfolding opened
 foreign = refl
+
+-- no label is named as an operator of either edition; 06 of all labels of the statement comes before, 01 after
+english-label : load-typed (bytes "SEKCJA S\nA: /*\n*/ GOTO: COFNIJ P1,P2\nSTOP\nKONS\nKONP S") ≡ refused 70 3
+unfolding opened
+english-label = refl
+
+polish-label : load-typed (bytes "SECTION S\nNAZWA: STOP\nENDS\nKONP S") ≡ refused 70 2
+unfolding opened
+polish-label = refl
+
+repeated-label : load-typed (bytes "SEKCJA S\nA:\nGOTO: /*\n*/ A: COFNIJ P1\nSTOP\nKONS\nKONP S") ≡ refused 6 4
+unfolding opened
+repeated-label = refl
+
+-- the section may have such a name, and words that are no keywords may name labels
+named-stop : load-typed (bytes "SECTION STOP\nSTART: SET 'AB',A1\nWRITE A1,Q1\nSTOP\nENDS\nKONP STOP\n")
+    ≡ accepted (record { code = sample .code; labels = record { name = bytes "START"; target = 0 } ∷ []; switches = []; texts = sample .texts; numbers = [] })
+unfolding opened
+named-stop = refl

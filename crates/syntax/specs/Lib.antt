@@ -1,7 +1,7 @@
 -- The loader. Bytes to items and statements (Items); a statement's parts (Statements); how arguments are read by their places (ArgumentForms);
 -- questions and how they decide (Verdict); what is known after some statements (Tables); the questions of each statement (Questions) and of
 -- the whole text (Ending); load itself (Load). Then a sample and examples; what loops over places find (Scan), the laws for proofs of code, and
--- what small letters are in a text (SmallLetters).
+-- what small letters (SmallLetters) and the names of labels (ReservedLaws) are in a text.
 pub mod Items
 pub mod Statements
 pub mod ArgumentForms
@@ -17,4 +17,5 @@ pub mod ItemLaws
 pub mod LetterLaws
 pub mod SmallLetters
 pub mod LoadLaws
+pub mod ReservedLaws
 pub mod LineLaws

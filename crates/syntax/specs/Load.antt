@@ -12,7 +12,7 @@ use Rattle.syntax.specs.ArgumentForms.{form-in, is-index, letter-of, wor
 use Rattle.syntax.specs.Ending.{last-place, end-faults, undeclared-labels, undeclared-switches, last-questions}
 use Rattle.syntax.specs.Items.{sort-of, Item, ends-text, takes-next, char-of, allows, begins, itself, mode-after, items-at, left-over, read, attach, named, parted, statements, statements-from, line-of, up-from, lines-of, line-at}
 use Rattle.syntax.specs.Questions.{first-faults, operator-faults, label-faults, repeated, count-faults, instr-faults, switch-faults, instr-beyond, switch-beyond, questions}
-use Rattle.syntax.specs.Statements.{by-keyword, own, chooses-english, keyword-of, front, behind, keyword-in, one-name, entry-faults, list-faults, entries-in}
+use Rattle.syntax.specs.Statements.{by-keyword, own, reserved, chooses-english, keyword-of, front, behind, keyword-in, one-name, entry-faults, list-faults, entries-in}
 use Rattle.syntax.specs.Tables.{Written, Tables, Draft, blank, fresh, with-instr, with-switch, closing-faults, closing-after, draft-after}
 use Rattle.syntax.specs.Verdict.{Verdict, lowest, decide, first-no}
 use Rattle.syntax.specs.Verdict.Verdict.{yes, refuse}
@@ -79,5 +79,5 @@ load-typed s = text-loads s (lines-of s)
 
 -- everything that load computes with, to be named on an `unfolding` line
 unfoldable pub opened : Unit {0}
-unfolding known sort-of ends-text takes-next char-of allows begins itself mode-after items-at left-over read attach named parted statements line-of up-from lines-of by-keyword own chooses-english keyword-of front behind keyword-in one-name entry-faults list-faults entries-in is-index word-reads reads accepting read-by lowest decide first-no fresh with-instr with-switch closing-faults closing-after draft-after first-faults operator-faults label-faults repeated count-faults instr-faults switch-faults instr-beyond switch-beyond questions end-faults undeclared-labels undeclared-switches last-questions arg-of instr-of program-of unless-refused load-from
+unfolding known sort-of ends-text takes-next char-of allows begins itself mode-after items-at left-over read attach named parted statements line-of up-from lines-of by-keyword own reserved chooses-english keyword-of front behind keyword-in one-name entry-faults list-faults entries-in is-index word-reads reads accepting read-by lowest decide first-no fresh with-instr with-switch closing-faults closing-after draft-after first-faults operator-faults label-faults repeated count-faults instr-faults switch-faults instr-beyond switch-beyond questions end-faults undeclared-labels undeclared-switches last-questions arg-of instr-of program-of unless-refused load-from
 opened = tt

@@ -10,7 +10,7 @@ use Rattle.lists.specs.Lists.{any, filled, keep, each, sameBytes}
 use Rattle.syntax.specs.ArgumentForms.{arguments-in, arguments, of-form, most, least}
 use Rattle.syntax.specs.Items.{Item, is, places}
 use Rattle.syntax.specs.Items.Sort.{word, colon, text, wrong}
-use Rattle.syntax.specs.Statements.{same-keyword, by-keyword, keyword-of, front, labels-in, operator, keyword-in, own, rest, is-name, one-name, list-faults}
+use Rattle.syntax.specs.Statements.{same-keyword, by-keyword, keyword-of, front, labels-in, operator, keyword-in, own, reserved, rest, is-name, one-name, list-faults}
 use Rattle.syntax.specs.Statements.Keyword.{unknown, SEKCJA}
 use Rattle.syntax.specs.Tables.{Tables, Draft, is-first, all-labels, new-texts, new-numbers}
 use Rattle.syntax.specs.Verdict.{Question, ask}
@@ -85,6 +85,8 @@ questions d x =
     ∷ ask 8 (label-faults (all-labels d x) x)
     -- "Is each label new?"
     ∷ ask 6 (repeated (d .names) (labels-in x))
+    -- "after 06, is the label none of these?"
+    ∷ ask 70 (places (keep (λ l. reserved (l .chars)) (labels-in x)))
     -- "Not too many arguments?"
     ∷ ask 1 (count-faults x)
     -- "Each argument listed for its place, index and number in range, none missing?"

@@ -36,6 +36,10 @@ words-of english = map (λ r. bytes (cond english (r .1) (r .0))) editions
 unfoldable pub own : Bool → List ℕ → Bool
 own english w = any (sameBytes w) (words-of english) && not (any (sameBytes w) (words-of (not english)))
 
+-- "spelled as an instruction, a declaration, SEKCJA, KONS or KONP of either edition"
+unfoldable pub reserved : List ℕ → Bool
+reserved w = any (sameBytes w) (words-of false) || any (sameBytes w) (words-of true)
+
 abbrev pub keyword-number : Keyword → ℕ
 keyword-number none = 0
 keyword-number unknown = 1

@@ -12,7 +12,7 @@ use Rattle.lists.specs.Lists.{any, ahead, sameBytes}
 use Rattle.lists.specs.Quoted.{bytes}
 use Rattle.lists.specs.TableLaws.{below, beq-eq, Missed}
 use Rattle.syntax.specs.Statements as Spec
-use Rattle.syntax.specs.Statements.{editions, words-of, own, same-keyword}
+use Rattle.syntax.specs.Statements.{editions, words-of, own, reserved, same-keyword}
 use Rattle.words.specs.Keywords.{keyword-by, told, known, word-at, place-in, other-word, meanings, keyword-at, shared, slot, in-a-row, beginnings, guesses, guess, of-row, In-row}
 use Rattle.words.specs.declared.Keyword.{Keyword}
 use borrow.Author.Tests.{lt-ltb, le-ltb}
@@ -364,6 +364,18 @@ module _ (w : List ℕ) {j : ℕ} (p : j ≡ place-in false w) where
     pub other-none : 46 ≤ k → w ≡ other-word w
     unfolding other-word
     other-none h = rw (← p, le-ltb j 46 l, ← q, le-ltb k 46 h) refl
+
+-- whether a word is one of either edition
+module _ (w : List ℕ) {j : ℕ} (p : j ≡ place-in false w) where
+  pub reserved-polish : j < 46 → true ≡ reserved w
+  unfolding reserved
+  reserved-polish h = let t : any (sameBytes w) (words-of false) ≡ true = has-place false w ∙ lt-ltb (place-in false w) 46 (omega arith) in rw t refl
+
+  pub reserved-english : 46 ≤ j → {k : ℕ} → k ≡ place-in true w → ltb k 46 ≡ reserved w
+  unfolding reserved
+  reserved-english h q =
+      let t : any (sameBytes w) (words-of false) ≡ false = has-place false w ∙ le-ltb (place-in false w) 46 (omega arith) in
+      rw t (ap (λ (n : ℕ). ltb n 46) q ∙ sym (has-place true w))
 
 -- "SEKCJA or its English word chooses": of the two words the English edition's own one is SECTION
 chosen : Bool → ℕ → Bool

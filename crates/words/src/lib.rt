@@ -7,6 +7,7 @@ ghost use Rattle.appending.specs.Appending.{Appends};
 ghost use Rattle.characters.specs.Characters.{isCapital, isDigit};
 ghost use Rattle.language.specs.Program.{identifier};
 ghost use Rattle.lists.specs.Lists.{among, sameBytes};
+ghost use Rattle.syntax.specs.Statements.{reserved};
 ghost use Rattle.words.specs.Words.{class-letter, is-class, class-of, capped, beyond, size-of, plus, minus, numeral-of, letter-at, reach, indexed-of};
 ghost use Rattle.words.specs.Keywords.{known, keyword-at, shared, word-at, place-in, other-word, slot, guess, guesses, of-row, In-row, Lent};
 use appending::append;
@@ -468,6 +469,16 @@ pub fn keyword_of(w: &[u8]) -> Known
         polish: false,
         english: k < PAIRS,
     }
+}
+
+// Whether a word is a keyword of either edition.
+pub fn is_reserved(w: &[u8]) -> bool
+    ensures { λ r. ⌜ r ≡ reserved (now (w .entry)) ⌝ }
+{
+    if polish_place(w) < PAIRS {
+        return true;
+    }
+    english_place(w) < PAIRS
 }
 
 // Appends the word at place j of a row of words.

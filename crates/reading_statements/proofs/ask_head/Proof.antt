@@ -30,11 +30,8 @@ label-fault-requires c κs = let p = (c .before .before .before .before .before 
 decide-requires : tie.Need-decide-requires
 decide-requires c κs = search needs
 
-first-repeated-requires : tie.Need-first-repeated-requires
-first-repeated-requires c κs = let p = (c .before .before .before .before .before .before .before .before .before .before .pre) in gathering.repeatable (p .judging) (answered _ (items-told (p .judging) (p .worst-is) ∙ (sym (c .before .before .before .before .before .before .before .checked .ensures) ∙ ap verdict-of (c .before .before .before .before .before .enum-told .given .1))))
-
-decide-requires-2 : tie.Need-decide-requires-2
-decide-requires-2 c κs = search needs
+ask-names-requires : tie.Need-ask-names-requires
+ask-names-requires c κs = let p = (c .before .before .before .before .before .before .before .before .before .before .pre) in gathering.repeatable (p .judging) (answered _ (items-told (p .judging) (p .worst-is) ∙ (sym (c .before .before .before .before .before .before .before .checked .ensures) ∙ ap verdict-of (c .before .before .before .before .before .enum-told .given .1))))
 
 first-of-requires : tie.Need-first-of-requires
 first-of-requires c κs = search needs
@@ -48,15 +45,15 @@ returns c = λ n d j e z. sym (opening-told d (statement-at (c .before .before .
 returns-2 : tie.Need-returns-2
 returns-2 c =
     λ n d j e z.
-    let x = statement-at (c .before .before .before .before .before .before .before .before .before .before .before .before .before .before .args .text .now) n in
-    let q = items-told j e ∙ (sym (c .before .before .before .before .before .before .before .before .before .before .before .checked .ensures) ∙ ap verdict-of (c .before .before .before .before .before .before .before .before .before .enum-told .given .1)) in
+    let x = statement-at (c .before .before .before .before .before .before .before .before .before .before .before .before .before .args .text .now) n in
+    let q = items-told j e ∙ (sym (c .before .before .before .before .before .before .before .before .before .before .checked .ensures) ∙ ap verdict-of (c .before .before .before .before .before .before .before .before .enum-told .given .1)) in
     let plain = answered _ q in
     let first = j .tells .section .first-is in
-    names-told d x first (j .tells .edition .is) (c .before .before .before .before .before .before .before .ask-operator .ensures _ n (j .headed) (λ e. z (first ∙ e)))
-    (c .before .before .before .before .decide .ensures ∙ ap (decided 8) (gathering.labels-told j plain (c .before .before .before .before .before .label-fault .ensures)))
-    (c .before .before .decide2 .ensures ∙ ap (decided 6) (gathering.names-told j plain (c .before .before .before .first-repeated .ensures)))
-    (c .first-of2 .ensures ∙ ap (then (verdict-of (c .before .before .before .before .before .before .before .ask-operator .result))) (c .before .first-of .ensures))
+    names-told d x first (j .tells .edition .is) (c .before .before .before .before .before .before .ask-operator .ensures _ n (j .headed) (λ e. z (first ∙ e)))
+    (c .before .before .before .decide .ensures ∙ ap (decided 8) (gathering.labels-told j plain (c .before .before .before .before .label-fault .ensures)))
+    (c .before .before .ask-names .ensures ∙ gathering.names-told j plain)
+    (c .first-of2 .ensures ∙ ap (then (verdict-of (c .before .before .before .before .before .before .ask-operator .result))) (c .before .first-of .ensures))
     ∙ sym (opening-told d x q)
 
 pub ask-head-spec : {M : Type 1} → statement M
-ask-head-spec = tie.close (tie.spec checked-requires enum-known-number enum-told ask-operator-requires sub-label-fault label-fault-requires decide-requires first-repeated-requires decide-requires-2 first-of-requires first-of-requires-2 returns returns-2)
+ask-head-spec = tie.close (tie.spec checked-requires enum-known-number enum-told ask-operator-requires sub-label-fault label-fault-requires decide-requires ask-names-requires first-of-requires first-of-requires-2 returns returns-2)
