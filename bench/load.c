@@ -107,11 +107,11 @@ static void texts(void)
         add("UMIESC '%s',A1\n", name(60, 127));
 }
 
-/* 8,000 different labels of three characters, and no other statement but the end */
+/* 8,000 different labels of three characters, a digit last, and no other statement but the end */
 static void alone(void)
 {
     for (int k = 0; k < 8000; k++)
-        add("%c%c%c:", 'A' + k / 26 / 36 % 26, "ABCDEFGHIJKLMNOPQRSTUVWXYZ0123456789"[k / 26 % 36], 'A' + k % 26);
+        add("%c%c%c:", 'A' + k / 10 / 36 % 26, "ABCDEFGHIJKLMNOPQRSTUVWXYZ0123456789"[k / 10 % 36], '0' + k % 10);
     add("\n");
 }
 

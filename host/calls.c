@@ -23,7 +23,7 @@
 
 #include <stdarg.h>
 
-enum { LEVEL = 7, WORDS_MOST = 64, ANSWER_MOST = 4 * EOL2_INPUT, BUFFER_MOST = 2 * EOL2_TEXT };
+enum { LEVEL = 8, WORDS_MOST = 64, ANSWER_MOST = 4 * EOL2_INPUT, BUFFER_MOST = 2 * EOL2_TEXT };
 
 static struct lent text, saved, table, i1, i2, state, out;
 static uint8_t table_now[EOL2_TABLE * 4], state_now[EOL2_STATE], before[BUFFER_MOST];
