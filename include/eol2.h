@@ -57,8 +57,8 @@ enum {
 
 enum eol2_numbers {
     /* Refused by eol2_load, and the numbers of eol2_shorten, in the order in which a statement is asked: 40 first; then 14, 15, 16, 00, 10, 08,
-       06, 01, 02, 11 of each statement; then 25, 12, 13 of the whole text. The first no decides. A text with macros (eol2_load says which) is
-       asked 14, 15, 16, 64, 65, 66 as a whole before its statements. */
+       06, 70, 01, 02, 11 of each statement; then 25, 12, 13 of the whole text. The first no decides. A text with macros (eol2_load says which)
+       is asked 14, 15, 16, 64, 65, 66 as a whole before its statements. */
     EOL2_BAD_SIZE = 40,           /* Table long enough, text short enough? Of eol2_shorten also: buffer as long as the text? */
     EOL2_BAD_BYTE = 14,           /* Outside texts and comments, only A to Z, 0 to 9, space , : ; ' + - * ( ) and new line, each comment closed? */
     EOL2_BAD_TEXT = 15,           /* Each text closed on its line, not empty, of allowed characters and pairs? */
@@ -67,6 +67,7 @@ enum eol2_numbers {
     EOL2_BAD_OPERATOR = 10,       /* Is the operator known, of the section's edition, and no second SEKCJA or SECTION? */
     EOL2_BAD_SWITCH_LABELS = 8,   /* Has each switch exactly one label? (Printed 08.) */
     EOL2_BAD_REPEATED_LABEL = 6,  /* Is each label new? (Printed 06.) */
+    EOL2_BAD_LABEL_NAME = 70,     /* Is no label or switch spelled as an operator of either edition? (A table made before may have such labels.) */
     EOL2_BAD_COUNT = 1,           /* Not too many arguments? (Printed 01.) */
     EOL2_BAD_ARGUMENT = 2,        /* Each argument listed for its place, index and number in range, none missing? (Printed 02.) */
     EOL2_BAD_ROOM = 11,           /* Tables within limits: instructions, labels, switches, entries, texts, numbers? */
