@@ -5,7 +5,8 @@ use Prim.Native.Nat.{ℕ}
 use lib.ListN.{length}
 use Rattle.calls.specs.Filling.{Fills}
 use Rattle.shorten_calls.specs.Shortening.{shortenOf, table-shortened}
-use Rattle.calls.specs.Calls.{load-answer, table-after, reply-answer, Result}
+use Rattle.class_calls.specs.Class.{Lent, classOf, class-number, results-after, outputs-after}
+use Rattle.calls.specs.Calls.{packed, load-answer, table-after, reply-answer, Result}
 use Rattle.syntax.specs.Load.{Loaded}
 
 -- r is the answer of x, and m is what x leaves in the state memory
@@ -22,3 +23,9 @@ pub record Answers-load (x : Loaded) (c : List ℕ) (r : ℕ) (d : List ℕ) : T
 pub record Answers-shorten (s c b : List ℕ) (r : ℕ) (d b′ : List ℕ) : Type 0 where
   pub fills : Fills (shortenOf (length c) (length b) s) r b b′
   pub cells : d ≡ table-shortened c (length b) s
+
+-- r is the answer of the call for a class, res and out are what it leaves of the results and of the buffer
+pub record Answers-class (c : List ℕ) (x : Lent) (r : ℕ) (res out : List ℕ) : Type 0 where
+  pub answer : r ≡ packed (class-number (classOf c x)) 0
+  pub results : res ≡ results-after (classOf c x) (x .results)
+  pub outputs : out ≡ outputs-after (classOf c x) (x .out)

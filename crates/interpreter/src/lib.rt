@@ -2,12 +2,13 @@
 ghost use mathlib.Core.Path.{_≡_};
 ghost use mathlib.Core.List.{[], _∷_};
 ghost use lib.ListN.{length};
+ghost use Rattle.class_calls.specs.Class.{lent-of};
 ghost use Rattle.calls.specs.Calls.{packed, startOf, runOf};
 ghost use Rattle.calls.specs.Filling.{Fills};
 ghost use Rattle.editions.specs.Convert.{convertOf};
 ghost use Rattle.macros.specs.Load.{loadIn};
 ghost use Rattle.state_frames.specs.Keeping.{writeOf, readOf, Reads};
-ghost use Rattle.interpreter.specs.Answers.{Answers, Answers-load, Answers-shorten};
+ghost use Rattle.interpreter.specs.Answers.{Answers, Answers-load, Answers-shorten, Answers-class};
 use language::Machine;
 use loading::Loaded;
 
@@ -112,4 +113,23 @@ pub extern "C" fn eol2_read_state(
     ensures { λ r. ⌜ Reads (readOf (now (table .entry)) (now (i1 .entry) ∷ now (i2 .entry) ∷ []) (now (saved .entry)) (now (state .entry))) r (now (state .exit)) ⌝ }
 {
     packed(state_restoring::read_state(table, i1, i2, saved, state), 0)
+}
+
+// The number; for each pupil of a class three numbers of the results and a part of the buffer: "the answer, count, Q1 and its length that a separate
+// start and run would give, in order".
+#[no_mangle]
+pub extern "C" fn eol2_class(
+    table: &[u32],
+    inputs: &[u8],
+    lengths: &[u32],
+    budgets: &[u32],
+    results: &mut [u32],
+    out: &mut [u8],
+) -> u64
+    ensures { λ r. ⌜ Answers-class (now (table .entry)) (lent-of (now (inputs .entry)) (now (lengths .entry)) (now (budgets .entry)) (now (results .entry)) (now (out .entry))) r (now (results .exit)) (now (out .exit)) ⌝ }
+{
+    packed(
+        class_running::run_class(table, inputs, lengths, budgets, results, out),
+        0,
+    )
 }
