@@ -15,6 +15,7 @@
        write LENGTH => NUMBER BYTES      (the state, to a buffer of that length)
        read SAVED => NUMBER              (into the state)
        shorten TEXT LENGTH => NUMBER BYTES   (to a buffer of that length, with a table of its own)
+       class LENGTH LENGTHS BUDGETS DATA => NUMBER [ANSWER:COUNT:Q1 ..]   (to a buffer of that length; numbers with commas between, - for none)
 
    GRADE and PREVIEW are 0: no call takes them yet. What is lent lies between pages that trap (lent.h); what a call only reads, and what a
    refused one leaves alone, is compared too. */
@@ -23,9 +24,9 @@
 
 #include <stdarg.h>
 
-enum { LEVEL = 8, WORDS_MOST = 64, ANSWER_MOST = 4 * EOL2_INPUT, BUFFER_MOST = 2 * EOL2_TEXT };
+enum { LEVEL = 9, WORDS_MOST = 64, ANSWER_MOST = 4 * EOL2_INPUT, BUFFER_MOST = 3 * EOL2_TEXT, CLASS_MOST = 64, DATA_MOST = 4 * EOL2_INPUT };
 
-static struct lent text, saved, table, i1, i2, state, out;
+static struct lent text, saved, table, i1, i2, state, out, data, lengths, budgets, results;
 static uint8_t table_now[EOL2_TABLE * 4], state_now[EOL2_STATE], before[BUFFER_MOST];
 static struct { uint8_t at[EOL2_INPUT + 1]; size_t bytes; } inputs[2];
 static const char *script;
@@ -110,12 +111,13 @@ static void lend_all(void)
     lend(&state, state_now, sizeof state_now);
     lend(&saved, before, 0);
     lend(&out, before, 0);
+    lend(&data, before, 0), lend(&lengths, before, 0), lend(&budgets, before, 0), lend(&results, before, 0);
 }
 
 /* After a call that may write `written`, and `second` where it is one, and was refused or not. */
 static void look_twice(struct lent *written, struct lent *second, int refused)
 {
-    struct lent *all[] = {&text, &saved, &table, &i1, &i2, &state, &out};
+    struct lent *all[] = {&text, &saved, &table, &i1, &i2, &state, &out, &data, &lengths, &budgets, &results};
     calls++;
     for (int k = 0; k < (int)(sizeof all / sizeof *all); k++) {
         if (!lent_guarded(all[k]))
@@ -248,6 +250,61 @@ static void shorten(char **words)
         stop(1, "loading the part answers otherwise, or leaves another table");
 }
 
+/* Numbers with commas between, lent; how many there are. */
+static size_t lend_numbers(struct lent *l, char *word)
+{
+    uint32_t all[CLASS_MOST];
+    size_t n = 0;
+    for (char *rest = strcmp(word, "-") ? word : NULL; (word = strsep(&rest, ","));) {
+        if (n == CLASS_MOST)
+            stop(2, "too many numbers");
+        all[n++] = number(word);
+    }
+    lend(l, (const uint8_t *)all, 4 * n);
+    return n;
+}
+
+static uint32_t result(size_t k)
+{
+    uint32_t n;
+    memcpy(&n, results.at + 4 * k, sizeof n);
+    return n;
+}
+
+/* The three results of a pupil, and that the bytes behind its Q1 stay, up to the next part. */
+static void tell_pupil(size_t k, size_t pupils)
+{
+    const size_t from = EOL2_OUTPUT * k, q1 = result(3 * k + 2), end = k + 1 < pupils ? from + EOL2_OUTPUT : out.length;
+    if (q1 > EOL2_OUTPUT || memcmp(out.at + from + q1, out.before + from + q1, end - from - q1))
+        stop(1, "class wrote behind the Q1 of pupil %zu", k);
+    tell_number(result(3 * k));
+    answer_bytes += (size_t)sprintf(answer + answer_bytes, ":%u:", (unsigned)result(3 * k + 1));
+    tell_bytes(out.at + from, q1);
+}
+
+/* With as many results as the pupils need, and where there are some with one too few before: 71. */
+static void class(char **words)
+{
+    static uint8_t s[DATA_MOST], cells[12 * CLASS_MOST];
+    lend_all();
+    const size_t n = lend_numbers(&lengths, words[2]), m = lend_numbers(&budgets, words[3]);
+    const uint32_t *const t = (const uint32_t *)(const void *)table.at;
+    lend(&data, s, bytes(words[4], s, sizeof s)), lend_out(words[1]);
+    memset(cells, (int)(calls & 255), sizeof cells);
+    uint64_t a = 0;
+    for (int few = n != 0; few >= 0; few--) {
+        lend(&results, cells, 12 * n - 4 * (size_t)few);
+        a = eol2_class(t, EOL2_TABLE, data.at, data.length, (uint32_t *)(void *)lengths.at, n, (uint32_t *)(void *)budgets.at, m,
+                       (uint32_t *)(void *)results.at, results.length / 4, out.at, out.length);
+        look_twice(&out, &results, few || eol2_number(a) != EOL2_ACCEPTED);
+        if (eol2_count(a) || (few && eol2_number(a) != EOL2_BAD_CLASS && eol2_number(a) != EOL2_BAD_TABLE))
+            stop(1, "class answers %u with count %u to %zu results", (unsigned)eol2_number(a), (unsigned)eol2_count(a), results.length / 4);
+    }
+    tell_number(eol2_number(a));
+    for (size_t k = 0; eol2_number(a) == EOL2_ACCEPTED && k < n; k++)
+        tell_pupil(k, n);
+}
+
 static void output(char **words)
 {
     size_t n;
@@ -258,7 +315,7 @@ static void output(char **words)
 static const struct { const char *name; int words; void (*make)(char **words); } names[] = {
     {"load", 3, load}, {"start", 4, start}, {"inputs", 3, take_inputs}, {"run", 2, run}, {"output", 2, output},
     {"convert", 3, convert}, {"write", 2, write_state}, {"read", 2, read_state},
-    {"shorten", 3, shorten}};
+    {"shorten", 3, shorten}, {"class", 5, class}};
 
 /* ---- scripts */
 
@@ -312,6 +369,7 @@ int main(int count, char **words)
 {
     lent_make(&text, 2 * EOL2_TEXT), lent_make(&table, sizeof table_now), lent_make(&i1, EOL2_INPUT + 1), lent_make(&i2, EOL2_INPUT + 1);
     lent_make(&state, sizeof state_now), lent_make(&saved, sizeof before), lent_make(&out, sizeof before);
+    lent_make(&data, DATA_MOST), lent_make(&lengths, 4 * CLASS_MOST), lent_make(&budgets, 4 * CLASS_MOST), lent_make(&results, 12 * CLASS_MOST);
     lend(&text, state_now, 0);
     for (int k = 1; k < count; k++)
         one_script(words[k]);

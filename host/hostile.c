@@ -1,4 +1,4 @@
-/* Hands hostile memory to the seven calls, and checks what they answer and leave. `host/run` builds it, with AddressSanitizer and UBSan.
+/* Hands hostile memory to the eight calls, and checks what they answer and leave. `host/run` builds it, with AddressSanitizer and UBSan.
 
        hostile SEED ROUNDS FILE...
 
@@ -7,7 +7,8 @@
    bits flipped, bytes replaced, parts cut out or put in, lines exchanged; texts with macros made by chance; too short, too long, empty, null) and
    calls load, convert, start and run on them. States are written as text and read back; the texts are damaged in many ways, also with lengths and
    sums mended, so that only the state itself tells. Of texts with few lines the short part is compared with one that is found here, by trials with
-   load. The last line has the counts; the first difference ends it with status 1. */
+   load. Classes are made of such inputs, with lengths, budgets and buffers that fit and that do not, and each pupil is compared with a start and a
+   run of its own. The last line has the counts; the first difference ends it with status 1. */
 #define _GNU_SOURCE
 #include "lent.h"
 #include "text.h"
@@ -17,11 +18,13 @@
 
 enum { FILES = 128, TEXT_MOST = EOL2_TEXT + 4096, CELLS_MOST = EOL2_TABLE + 64, STATE_MOST = EOL2_STATE + 256, INPUT_MOST = EOL2_INPUT + 4096 };
 enum { SAVED_MOST = EOL2_SAVED + 4096, OUT_MOST = SAVED_MOST };
-enum { LOAD, START, RUN, CONVERT, WRITE, READ, SHORTEN, CALLS };
+enum { LOAD, START, RUN, CONVERT, WRITE, READ, SHORTEN, CLASS, CALLS };
+enum { PUPILS_MOST = EOL2_CLASS + 4, WORK_MOST = 4 * INPUT_MOST, PARTS_MOST = EOL2_CLASS * EOL2_OUTPUT + 4096 };
 
 static const char characters[] = " .(+*);-/,:'=[]<>?\x1b\x0e" "ABCDEFGHIJKLMNOPQRSTUVWXYZ" "abcdefghijklmnopqrstuvwxyz\x0f" "0123456789\n\x0c\r\x7f";
 
 static struct lent text, saved, table, i1, i2, state, out;
+static struct lent work, lengths, budgets, results, parts; /* of a class */
 static struct { uint8_t text[EOL2_TEXT], input[EOL2_INPUT]; size_t text_bytes, input_bytes; uint32_t table[EOL2_TABLE]; } good[FILES];
 static int goods;
 static unsigned long turn, calls[CALLS], answers[CALLS][128];
@@ -74,7 +77,8 @@ static int listed(int call, uint32_t number)
          EOL2_STOP_RANGE, EOL2_STOP_DIVISOR, EOL2_STOP_INDEX, EOL2_STOP_RETURN, EOL2_STOP_RECORD, EOL2_STOP_ROOM, EOL2_STOP_ADDRESSES, 255},
         {EOL2_BAD_CONVERSION, EOL2_ACCEPTED, 255},
         {EOL2_BAD_TABLE, EOL2_BAD_INPUTS, EOL2_BAD_STATE, EOL2_ACCEPTED, 255},
-        {EOL2_BAD_TABLE, EOL2_BAD_INPUTS, EOL2_BAD_STATE, EOL2_BAD_LINES, EOL2_BAD_FRAMES, EOL2_ACCEPTED, 255}};
+        {EOL2_BAD_TABLE, EOL2_BAD_INPUTS, EOL2_BAD_STATE, EOL2_BAD_LINES, EOL2_BAD_FRAMES, EOL2_ACCEPTED, 255},
+        [CLASS] = {EOL2_BAD_TABLE, EOL2_BAD_CLASS, EOL2_ACCEPTED, 255}};
     if (call == SHORTEN) /* what load answers */
         call = LOAD;
     for (int k = 0; lists[call][k] != 255; k++)
@@ -86,8 +90,9 @@ static int listed(int call, uint32_t number)
 /* Counts a call, and checks what holds of every one: a number of its list, and the guard bytes and what was lent to be read as they were. */
 static uint64_t judged(int call, const char *name, uint64_t answer)
 {
-    struct lent *all[] = {&text, &saved, &table, &i1, &i2, &state, &out}, *written[CALLS] = {&table, &state, &state, &out, &out, &state, &out};
-    struct lent *second = call == SHORTEN ? &table : NULL;
+    struct lent *all[] = {&text, &saved, &table, &i1, &i2, &state, &out, &work, &lengths, &budgets, &results, &parts};
+    struct lent *written[CALLS] = {&table, &state, &state, &out, &out, &state, &out, &parts};
+    struct lent *second = call == SHORTEN ? &table : call == CLASS ? &results : NULL;
     uint32_t number = eol2_number(answer);
     calls[call]++;
     if (!listed(call, number))
@@ -154,7 +159,7 @@ static int sound_lines(const uint8_t *s, size_t n)
     return 1;
 }
 
-/* ---- the seven calls, each with what its declaration says */
+/* ---- the eight calls, each with what its declaration says */
 
 static uint64_t load(void)
 {
@@ -898,6 +903,113 @@ static void shortens(int k)
         differs("shorten takes a buffer that is one byte too short");
 }
 
+/* ---- a class */
+
+static uint32_t number_at(const struct lent *l, size_t k)
+{
+    uint32_t n;
+    memcpy(&n, l->at + 4 * k, sizeof n);
+    return n;
+}
+
+/* Inputs end to end, a length and a budget for each; then, now and then, lengths and budgets that do not belong to them: more or fewer, one more or
+   less, exchanged, sums that are right but for 2 to the 32nd. Results and parts as long as they need, or not. */
+static void lend_class(int k)
+{
+    static uint8_t s[WORK_MOST], any_bytes[PARTS_MOST];
+    static uint32_t of_pupils[PUPILS_MOST], steps[PUPILS_MOST];
+    const size_t pupils = one_in(8) ? below(PUPILS_MOST + 1) : below(one_in(4) ? EOL2_CLASS + 1 : 4);
+    size_t bytes = 0, count = pupils;
+    for (size_t p = 0; p < pupils; p++) {
+        size_t n = one_in(40) ? near(EOL2_INPUT, INPUT_MOST) : one_in(4) ? good[k].input_bytes : below(60);
+        n = bytes + n < WORK_MOST ? n : 0;
+        if (n == good[k].input_bytes && n)
+            memcpy(s + bytes, good[k].input, n);
+        else
+            random_characters(s + bytes, n);
+        if (n && one_in(8))
+            damage(s + bytes, n, 1);
+        of_pupils[p] = (uint32_t)n, steps[p] = (uint32_t)below(one_in(8) ? 3000 : 60);
+        bytes += n;
+    }
+    if (pupils && one_in(8))
+        of_pupils[below(pupils)] += one_in(2) ? 1 : (uint32_t)any();
+    if (pupils > 1 && one_in(8)) { /* the sum is right in 32 bits */
+        const uint32_t more = (uint32_t)any();
+        of_pupils[0] += more, of_pupils[pupils - 1] -= more;
+    }
+    if (pupils && one_in(20))
+        for (size_t p = 0; p < pupils; p++)
+            of_pupils[p] = UINT32_MAX;
+    if (one_in(10) && count < PUPILS_MOST)
+        of_pupils[count++] = 0;
+    lend(&work, s, bytes), lend(&lengths, (const uint8_t *)of_pupils, 4 * count);
+    lend(&budgets, (const uint8_t *)steps, 4 * (one_in(10) ? below(PUPILS_MOST + 1) : count));
+    random_bytes(any_bytes, sizeof any_bytes, one_in(2));
+    const size_t cells = 3 * count + (one_in(4) ? below(9) : 0), needed = EOL2_OUTPUT * count + (one_in(4) ? below(4096) : 0);
+    const size_t room = needed < PARTS_MOST ? needed : PARTS_MOST;
+    lend(&results, any_bytes, 4 * (one_in(12) && cells ? below(cells) : cells));
+    lend(&parts, any_bytes, one_in(12) && room ? one_in(2) ? room - 1 : below(room) : room);
+}
+
+/* Question 71. */
+static int fits(void)
+{
+    const size_t count = lengths.length / 4;
+    uint64_t sum = 0;
+    for (size_t p = 0; p < count; p++)
+        sum += number_at(&lengths, p);
+    return count <= EOL2_CLASS && budgets.length == lengths.length && sum == work.length && results.length >= 12 * count
+        && parts.length >= EOL2_OUTPUT * count;
+}
+
+/* What the pupil p got is what a start and a run of its own give, on a state with any content. Bytes behind its Q1 stay. */
+static void check_pupil(size_t p, size_t from)
+{
+    static uint8_t own[EOL2_STATE];
+    const uint32_t *const t = (const uint32_t *)(const void *)table.at;
+    const uint8_t *const input = work.at ? work.at + from : NULL, *q1 = NULL;
+    const size_t cells = table.length / 4, bytes = number_at(&lengths, p), at = EOL2_OUTPUT * p;
+    size_t length = 0;
+    memset(own, (int)below(256), sizeof own);
+    uint64_t answer = eol2_start(t, cells, input, bytes, NULL, 0, own, sizeof own);
+    if (eol2_number(answer) == EOL2_ACCEPTED) {
+        answer = eol2_run(t, cells, input, bytes, NULL, 0, own, sizeof own, number_at(&budgets, p));
+        q1 = eol2_output(own, 1, &length);
+    }
+    if (number_at(&results, 3 * p) != eol2_number(answer) || number_at(&results, 3 * p + 1) != eol2_count(answer)
+        || number_at(&results, 3 * p + 2) != length)
+        differs("pupil %zu gets another answer than by itself (%u)", p, (unsigned)eol2_number(answer));
+    if ((length && memcmp(parts.at + at, q1, length)) || memcmp(parts.at + at + length, parts.before + at + length, EOL2_OUTPUT - length))
+        differs("pupil %zu gets another Q1 than by itself, or more is written", p);
+}
+
+static void classes(int k)
+{
+    const size_t cells = table.length / 4;
+    lend_class(k);
+    struct lent *const read[] = {&table, &work, &lengths, &budgets};
+    for (int b = 0; b < 4; b++)
+        lent_writable(read[b], 0);
+    const uint64_t answer = eol2_class((const uint32_t *)(const void *)table.at, cells, work.at, work.length, (uint32_t *)(void *)lengths.at,
+                                       lengths.length / 4, (uint32_t *)(void *)budgets.at, budgets.length / 4, (uint32_t *)(void *)results.at,
+                                       results.length / 4, parts.at, parts.length);
+    for (int b = 0; b < 4; b++)
+        lent_writable(read[b], 1);
+    judged(CLASS, "class", answer);
+    const size_t count = lengths.length / 4;
+    const uint32_t number = eol2_number(answer);
+    static uint8_t own[EOL2_STATE];
+    const int table_good = eol2_number(eol2_start((const uint32_t *)(const void *)table.at, cells, NULL, 0, NULL, 0, own, sizeof own)) != EOL2_BAD_TABLE;
+    if (eol2_count(answer) || number != (uint32_t)(!table_good ? EOL2_BAD_TABLE : !fits() ? EOL2_BAD_CLASS : EOL2_ACCEPTED))
+        differs("class answers %u where its table is %d and its sizes are %d", (unsigned)number, table_good, fits());
+    if (!lent_same(&results, number == EOL2_ACCEPTED ? 12 * count : 0) || !lent_same(&parts, number == EOL2_ACCEPTED ? EOL2_OUTPUT * count : 0))
+        differs("class (answer %u) changed what must stay", (unsigned)number);
+    for (size_t p = 0, from = 0; number == EOL2_ACCEPTED && p < count; from += number_at(&lengths, p++))
+        check_pupil(p, from);
+    lend(&results, own, 0), lend(&parts, own, 0);
+}
+
 static void round_of(int k)
 {
     static uint8_t first[EOL2_TABLE * 4], now[STATE_MOST];
@@ -923,8 +1035,9 @@ static void round_of(int k)
     lend_state();
     shortens(k);
     converts();
-    /* start and run on whatever is there */
+    /* a class, start and run on whatever is there */
     lend_table(k), lend_state(), lend_out(below(64));
+    classes(k);
     runs();
     lend_state(), keeps(1);
     lend_state();
@@ -1003,9 +1116,12 @@ int main(int count, char **words)
         read_good(words[k]);
     lent_make(&text, TEXT_MOST), lent_make(&table, CELLS_MOST * 4), lent_make(&i1, INPUT_MOST), lent_make(&i2, INPUT_MOST);
     lent_make(&state, STATE_MOST), lent_make(&saved, SAVED_MOST), lent_make(&out, OUT_MOST);
-    lend_out(0), lend(&saved, kept.at, 0);
+    lent_make(&work, WORK_MOST), lent_make(&lengths, 4 * PUPILS_MOST), lent_make(&budgets, 4 * PUPILS_MOST);
+    lent_make(&results, 12 * PUPILS_MOST + 64), lent_make(&parts, PARTS_MOST);
+    lend_out(0), lend(&saved, kept.at, 0), lend(&work, kept.at, 0), lend(&lengths, kept.at, 0), lend(&budgets, kept.at, 0);
+    lend(&results, kept.at, 0), lend(&parts, kept.at, 0);
     run_rounds(rounds);
-    static const char *const names[CALLS] = {"load", "start", "run", "convert", "write", "read", "shorten"};
+    static const char *const names[CALLS] = {"load", "start", "run", "convert", "write", "read", "shorten", "class"};
     unsigned long all = 0;
     for (int c = 0; c < CALLS; c++) {
         printf("%-7s", names[c]);

@@ -1,4 +1,4 @@
-/* Measures how much stack the seven calls take, and fails where it is EOL2_STACK or more. `host/run` builds it, without sanitizers.
+/* Measures how much stack the eight calls take, and fails where it is EOL2_STACK or more. `host/run` builds it, without sanitizers.
 
        stack FILE..
 
@@ -10,7 +10,7 @@
 #include <pthread.h>
 #include <sys/mman.h>
 
-enum { ROOM = 4 * EOL2_STACK, PAINT = 0x5a, CALLS = 7, STEPS = 1000 };
+enum { ROOM = 4 * EOL2_STACK, PAINT = 0x5a, CALLS = 8, STEPS = 1000 };
 
 static uint8_t *stack, file[HOST_FILE], state[EOL2_STATE], other[EOL2_TEXT], saved[EOL2_SAVED];
 static uint32_t table[EOL2_TABLE];
@@ -66,6 +66,21 @@ static void *shorten(void *nothing)
     return nothing;
 }
 
+/* A class of as many pupils as there may be, all with the same work. */
+static void *class(void *nothing)
+{
+    static uint8_t work[EOL2_CLASS * HOST_FILE], out[EOL2_CLASS * EOL2_OUTPUT];
+    static uint32_t lengths[EOL2_CLASS], budgets[EOL2_CLASS], results[3 * EOL2_CLASS];
+    const size_t bytes = file_bytes - text_bytes;
+    for (size_t k = 0; k < EOL2_CLASS; k++) {
+        memcpy(work + k * bytes, file + text_bytes, bytes);
+        lengths[k] = (uint32_t)bytes, budgets[k] = STEPS;
+    }
+    answer = eol2_class(table, EOL2_TABLE, work, EOL2_CLASS * bytes, lengths, EOL2_CLASS, budgets, EOL2_CLASS, results, 3 * EOL2_CLASS, out,
+                        sizeof out);
+    return nothing;
+}
+
 /* How many bytes of its stack a thread uses. */
 static size_t used(void *(*work)(void *))
 {
@@ -85,7 +100,7 @@ static size_t used(void *(*work)(void *))
 
 int main(int count, char **words)
 {
-    static void *(*const works[CALLS])(void *) = {load, start, run, convert, write_state, read_state, shorten};
+    static void *(*const works[CALLS])(void *) = {load, start, run, convert, write_state, read_state, shorten, class};
     size_t most[CALLS] = {0};
     stack = mmap(NULL, ROOM, PROT_READ | PROT_WRITE, MAP_PRIVATE | MAP_ANONYMOUS, -1, 0);
     if (stack == MAP_FAILED) {
@@ -101,8 +116,8 @@ int main(int count, char **words)
             most[c] = n > most[c] ? n : most[c];
         }
     }
-    printf("stack: load %zu, start %zu, run %zu, convert %zu, write %zu, read %zu, shorten %zu bytes of %d\n", most[0], most[1], most[2],
-           most[3], most[4], most[5], most[6], EOL2_STACK);
+    printf("stack: load %zu, start %zu, run %zu, convert %zu, write %zu, read %zu, shorten %zu, class %zu bytes of %d\n", most[0], most[1],
+           most[2], most[3], most[4], most[5], most[6], most[7], EOL2_STACK);
     for (int c = 0; c < CALLS; c++)
         if (most[c] >= EOL2_STACK)
             return 1;

@@ -1,5 +1,5 @@
 /* EOL-2 for C: load a program text, start a state, run it under a budget; turn a text into the other edition; write a state as text and read it
-   back; give the short part of a text that shows its fault.
+   back; give the short part of a text that shows its fault; run a program on the work of a class.
 
    The library is for x86-64 Linux: `rt staticlib interpreter` writes target/staticlib/libinterpreter.a, which needs memcpy and memset, and
    nothing else. `cc -Iinclude host.c target/staticlib/libinterpreter.a` builds a program over it. host/eol2.c is a short one, and `host/run`
@@ -16,13 +16,14 @@
            q1 = eol2_output(state, 1, &q1_bytes);
        } while (eol2_number(answer) == EOL2_PAUSED);
 
-   What holds of all seven calls:
-   - Memory is lent by the caller, each buffer as a pointer and a length. The length of a table counts numbers of 32 bits, every other length
-     counts bytes. A null pointer is allowed with length 0. A table is aligned as uint32_t.
+   What holds of all eight calls:
+   - Memory is lent by the caller, each buffer as a pointer and a length. The length of a table counts numbers of 32 bits, and so do those of
+     the lengths, budgets and results of eol2_class; every other length counts bytes. A null pointer is allowed with length 0. What is counted
+     in numbers is aligned as uint32_t.
    - A buffer that a call writes (the table of eol2_load, the state of eol2_start, eol2_run and eol2_read_state, the out of eol2_convert and
-     eol2_write_state, the table and the out of eol2_shorten) overlaps no other buffer of that call, and nobody else reads or writes it while
-     the call lasts. The others are only read, may overlap each other, and stay unwritten by anybody meanwhile. These are the only duties of a
-     caller: any content and any length is answered, and nothing need be checked beforehand.
+     eol2_write_state, the table and the out of eol2_shorten, the results and the out of eol2_class) overlaps no other buffer of that call, and
+     nobody else reads or writes it while the call lasts. The others are only read, may overlap each other, and stay unwritten by anybody
+     meanwhile. These are the only duties of a caller: any content and any length is answered, and nothing need be checked beforehand.
    - A table counts as far as its first EOL2_TABLE numbers, a state as far as its first EOL2_STATE bytes. What lies beyond is neither read nor
      written; a buffer may be longer.
    - A call keeps nothing from one to the next and has no variables of its own: all is in the lent memory, so table and state can be copied,
@@ -50,6 +51,7 @@ enum {
     EOL2_INPUT = 65536,  /* bytes that an input has at most */
     EOL2_OUTPUT = 4096,  /* bytes that an output has at most */
     EOL2_SAVED = 47754,  /* bytes that a saved state has at most */
+    EOL2_CLASS = 16,     /* inputs that a class has at most */
     EOL2_STACK = 524288  /* bytes of stack that are enough for any call */
 };
 
@@ -91,6 +93,10 @@ enum eol2_numbers {
     /* Refused by eol2_convert */
     EOL2_BAD_CONVERSION = 67,     /* Does the text load, has it no macros, and does the result fit the buffer and EOL2_TEXT bytes? */
 
+    /* Refused by eol2_class, after 62 */
+    EOL2_BAD_CLASS = 71,          /* At most EOL2_CLASS lengths, as many budgets, the lengths adding up to the bytes given, three results and
+                                     EOL2_OUTPUT bytes of the buffer for each? */
+
     /* Accepted, by all calls but eol2_run; paused, by eol2_run */
     EOL2_ACCEPTED = 80,
     EOL2_PAUSED = 81,             /* the budget is used up */
@@ -123,7 +129,7 @@ static inline uint32_t eol2_line(uint64_t answer)
     return (uint32_t)(answer & 0xffffffffu);
 }
 
-/* Of an answer of eol2_run: how many instructions this call completed; 0 where it is refused. Of eol2_start and eol2_read_state: 0. Of
+/* Of an answer of eol2_run: how many instructions this call completed; 0 where it is refused. Of eol2_start, eol2_read_state and eol2_class: 0. Of
    eol2_convert and eol2_write_state: how many bytes they wrote; 0 where they are refused. Of eol2_shorten: how many bytes the part has, with
    every number; 0 with 40. */
 static inline uint32_t eol2_count(uint64_t answer)
@@ -131,7 +137,7 @@ static inline uint32_t eol2_count(uint64_t answer)
     return (uint32_t)(answer & 0xffffffffu);
 }
 
-/* ---- the seven calls */
+/* ---- the eight calls */
 
 /* Loads the program of a text.
 
@@ -277,6 +283,30 @@ uint64_t eol2_read_state(const uint32_t *table, size_t table_cells, const uint8_
    A text whose lines need each other can take a round for each of them, and with macros there may be thousands (docs/requests/2.7.md); and a text
    of macros can keep eol2_load itself at work for very long. A host that takes texts of strangers sets a limit of its own, as for eol2_load. */
 uint64_t eol2_shorten(const uint8_t *text, size_t text_bytes, uint32_t *table, size_t table_cells, uint8_t *out, size_t out_bytes);
+
+/* Runs one program on the work of a class: up to EOL2_CLASS inputs, each with a budget, as eol2_start and eol2_run would for each by itself. The
+   table is checked once for all.
+
+   table, table_cells      a table as eol2_load left it. Only read
+   inputs, inputs_bytes    the inputs I1 of all pupils, end to end, the first one's first. Only read. I2 is empty for each
+   lengths, lengths_count  how many bytes each of them has; lengths_count is how many pupils there are, also none. Only read
+   budgets, budgets_count  a budget for each, any number, as for eol2_run. Only read
+   results, results_cells  three numbers for each pupil, to be filled
+   out, out_bytes          EOL2_OUTPUT bytes for each pupil, end to end, to be filled
+
+   Number, count   The results and the buffer afterwards
+   80, 0           of the pupil k, counted from 0: results[3 * k] is the number, results[3 * k + 1] the count and results[3 * k + 2] the bytes of
+                   Q1, and these stand from out[EOL2_OUTPUT * k] on: what eol2_run answers and shows after eol2_start, on a state of its own. Where
+                   that pupil's input is refused, number 61, count 0 and no bytes. All other numbers and bytes as they were
+   62 or 71, 0     as they were, all of them: table not well formed; else more than EOL2_CLASS lengths, not as many budgets, lengths that do not
+                   add up to inputs_bytes, fewer than three results or EOL2_OUTPUT bytes of the buffer for a pupil
+
+   Longer results and buffers are fine. A refused input concerns its pupil alone, and so does one of more than EOL2_INPUT bytes; all inputs
+   together may have any length. What a pupil gets depends on the table, its input and its budget, and on nothing else: not on its place, on the
+   others, or on what the buffers held. */
+uint64_t eol2_class(const uint32_t *table, size_t table_cells, const uint8_t *inputs, size_t inputs_bytes, const uint32_t *lengths,
+                    size_t lengths_count, const uint32_t *budgets, size_t budgets_count, uint32_t *results, size_t results_cells, uint8_t *out,
+                    size_t out_bytes);
 
 /* ---- reading a table and a state (docs/LAYOUT.md). Both functions take any content of EOL2_TABLE numbers and EOL2_STATE bytes, and read
    nothing beyond. They do not check it: what they say of bytes that no call left has no meaning. eol2_run tells, by 62 and 63. */
