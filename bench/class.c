@@ -18,7 +18,10 @@ static void load(int more)
 {
     int n = sprintf(text, "SEKCJA S\nX: CZYTAJ I1,A1,B\nPISZ A1,Q1\nUMIESC '-',Q1\nUSUN I1,1\nSKOPL X\nSTOP\n");
     for (int k = 0; k < more; k++)
-        n += sprintf(text + n, k < 126 ? "A%03dA%03dA%03dA%03dA%03d: UMIESC 'WZOR%03dWZOR%03dWZOR%03d',A1\n" : "UMIESC %d,A1\n", k % 126 + 16, k, k, k, k, k, k, k);
+        if (k < 126)
+            n += sprintf(text + n, "A%015d: UMIESC 'WZOR%017d',A1\n", k, k);
+        else
+            n += sprintf(text + n, "UMIESC %d,A1\n", k % 126 + 16);
     n += sprintf(text + n, "STOP\nKONS\nKONP S\n");
     const uint64_t answer = eol2_load((const uint8_t *)text, (size_t)n, table, EOL2_TABLE);
     if (eol2_number(answer) != EOL2_ACCEPTED) {

@@ -1000,7 +1000,8 @@ static void classes(int k)
     const size_t count = lengths.length / 4;
     const uint32_t number = eol2_number(answer);
     static uint8_t own[EOL2_STATE];
-    const int table_good = eol2_number(eol2_start((const uint32_t *)(const void *)table.at, cells, NULL, 0, NULL, 0, own, sizeof own)) != EOL2_BAD_TABLE;
+    const uint64_t alone = eol2_start((const uint32_t *)(const void *)table.at, cells, NULL, 0, NULL, 0, own, sizeof own);
+    const int table_good = eol2_number(alone) != EOL2_BAD_TABLE;
     if (eol2_count(answer) || number != (uint32_t)(!table_good ? EOL2_BAD_TABLE : !fits() ? EOL2_BAD_CLASS : EOL2_ACCEPTED))
         differs("class answers %u where its table is %d and its sizes are %d", (unsigned)number, table_good, fits());
     if (!lent_same(&results, number == EOL2_ACCEPTED ? 12 * count : 0) || !lent_same(&parts, number == EOL2_ACCEPTED ? EOL2_OUTPUT * count : 0))
