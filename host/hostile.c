@@ -70,8 +70,8 @@ static int listed(int call, uint32_t number)
 {
     static const uint8_t lists[CALLS][20] = {
         {EOL2_BAD_SIZE, EOL2_BAD_BYTE, EOL2_BAD_TEXT, EOL2_BAD_LENGTH, EOL2_BAD_HEADING, EOL2_BAD_OPERATOR, EOL2_BAD_SWITCH_LABELS,
-         EOL2_BAD_REPEATED_LABEL, EOL2_BAD_COUNT, EOL2_BAD_ARGUMENT, EOL2_BAD_ROOM, EOL2_BAD_END, EOL2_BAD_LABEL, EOL2_BAD_SWITCH,
-         EOL2_BAD_MACROS, EOL2_BAD_CALL, EOL2_BAD_EXPANSION, EOL2_ACCEPTED, 255},
+         EOL2_BAD_REPEATED_LABEL, EOL2_BAD_LABEL_NAME, EOL2_BAD_COUNT, EOL2_BAD_ARGUMENT, EOL2_BAD_ROOM, EOL2_BAD_END, EOL2_BAD_LABEL,
+         EOL2_BAD_SWITCH, EOL2_BAD_MACROS, EOL2_BAD_CALL, EOL2_BAD_EXPANSION, EOL2_ACCEPTED, 255},
         {EOL2_BAD_TABLE, EOL2_BAD_INPUTS, EOL2_BAD_STATE, EOL2_ACCEPTED, 255},
         {EOL2_BAD_TABLE, EOL2_BAD_INPUTS, EOL2_BAD_STATE, EOL2_PAUSED, EOL2_STOP_STATEMENT, EOL2_STOP_NOTHING, EOL2_STOP_KIND,
          EOL2_STOP_RANGE, EOL2_STOP_DIVISOR, EOL2_STOP_INDEX, EOL2_STOP_RETURN, EOL2_STOP_RECORD, EOL2_STOP_ROOM, EOL2_STOP_ADDRESSES, 255},
@@ -384,8 +384,8 @@ static void add_one_of(const char *const *pieces, size_t count)
 /* Pieces of the language, and some that break it. */
 static void add_piece(void)
 {
-    static const char *const pieces[] = {"SEKCJA S\n", "KONS\n", "KONP S\n", "STOP\n", "SKOCZ A\n", "A: ", "B: NAZWA A:'X',A\n", "C: INDEKS A\n",
-        "UMIESC 'A',A1\n", "UMIESC 8388608,A1\n", "/*", "*/", "'", ":", ";", "PISZ A1,Q3\n", "DODAJ B1,Z32\n", "*", "\n", "SKONA A1,B\n", "A",
+    static const char *const pieces[] = {"SEKCJA S\n", "KONS\n", "KONP S\n", "STOP\n", "SKOCZ A\n", "A: ", "STOP: ", "GOTO: ", "B: NAZWA A:'X',A\n",
+        "C: INDEKS A\n", "UMIESC 'A',A1\n", "UMIESC 8388608,A1\n", "/*", "*/", "'", ":", ";", "PISZ A1,Q3\n", "DODAJ B1,Z32\n", "*", "\n", "SKONA A1,B\n", "A",
         "SECTION S\n", "ENDS\n", "GOTO A\n", "D: NAME A\n", "WRITE A1,Q1\n", "SECTION",
         "\xff", "UMIESC '*L*,',Z1,2,3,4\n", "WROC\n", "0123456789", "UMIESC 'Rod z',Q1\n", "z: ", "PISZ A1,q1\n", "UMIESC '*l',A1\n",
         "A23456789B123456789C123456789D123456789E123456789F123456789G1:"};
