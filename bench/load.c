@@ -1,30 +1,13 @@
 /* Times load and the converter: nanoseconds a byte of a text, on full texts of real statements in both editions and on texts that cost the most;
-   then texts with macros, a byte of the written-out text. `bench/run` builds and runs it. Each line has the answer, so that a text that is refused early does not pass for a
-   fast one. */
-#include "../include/eol2.h"
+   then texts with macros, a byte of the written-out text. `bench/run` builds and runs it. Each line has the answer, so that a text that is refused
+   early does not pass for a fast one. */
 #include "clock.h"
+#include "made.h"
 
-#include <stdarg.h>
-#include <stdio.h>
-#include <stdlib.h>
 #include <string.h>
 
-static char text[EOL2_TEXT + 4096];
-static size_t bytes;
 static uint32_t table[EOL2_TABLE];
 static uint8_t other[EOL2_TEXT];
-
-static void add(const char *form, ...)
-{
-    va_list words;
-    va_start(words, form);
-    bytes += (size_t)vsnprintf(text + bytes, sizeof text - bytes, form, words);
-    va_end(words);
-    if (bytes > EOL2_TEXT) {
-        fprintf(stderr, "load: a text of this benchmark is too long\n");
-        exit(2);
-    }
-}
 
 /* What is left up to a full text, as one comment with spaces before it, and the end. */
 static void fill(size_t most)

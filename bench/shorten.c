@@ -1,28 +1,10 @@
 /* Times the short part of a text (eol2_shorten), in processor time: 300 lines with one fault, which are to take less than 0.2 s; then texts that
    cost much, each once. `bench/run` builds and runs it. Each line has the answer and the length of the part. */
-#include "../include/eol2.h"
 #include "clock.h"
+#include "made.h"
 
-#include <stdarg.h>
-#include <stdio.h>
-#include <stdlib.h>
-
-static char text[EOL2_TEXT + 4096];
-static size_t bytes;
 static uint32_t table[EOL2_TABLE];
 static uint8_t part[EOL2_TEXT];
-
-static void add(const char *form, ...)
-{
-    va_list words;
-    va_start(words, form);
-    bytes += (size_t)vsnprintf(text + bytes, sizeof text - bytes, form, words);
-    va_end(words);
-    if (bytes > EOL2_TEXT) {
-        fprintf(stderr, "shorten: a text of this benchmark is too long\n");
-        exit(2);
-    }
-}
 
 /* ---- the texts */
 

@@ -223,17 +223,23 @@ static uint64_t run(uint32_t budget)
     return answer;
 }
 
+/* After a call that fills the buffer: a count of at most so many bytes with 80, else 0; and the rest stays. */
+static void filled(const char *name, uint64_t answer, size_t most)
+{
+    const uint32_t number = eol2_number(answer), count = eol2_count(answer);
+    if (number == EOL2_ACCEPTED ? count == 0 || count > out.length || count > most : count != 0)
+        differs("%s answers %u with count %u", name, (unsigned)number, (unsigned)count);
+    if (!lent_same(&out, count))
+        differs("%s (answer %u) changed what must stay", name, (unsigned)number);
+}
+
 static uint64_t convert(void)
 {
     lent_writable(&text, 0);
     uint64_t answer = eol2_convert(text.at, text.length, out.at, out.length);
     lent_writable(&text, 1);
     judged(CONVERT, "convert", answer);
-    const uint32_t number = eol2_number(answer), count = eol2_count(answer);
-    if (number == EOL2_ACCEPTED ? count == 0 || count > out.length || count > EOL2_TEXT : count != 0)
-        differs("convert answers %u with count %u", (unsigned)number, (unsigned)count);
-    if (!lent_same(&out, count))
-        differs("convert (answer %u) changed what must stay", (unsigned)number);
+    filled("convert", answer, EOL2_TEXT);
     return answer;
 }
 
@@ -245,10 +251,7 @@ static uint64_t write_state(void)
     lent_writable(&table, 1), lent_writable(&i1, 1), lent_writable(&i2, 1), lent_writable(&state, 1);
     judged(WRITE, "write", answer);
     const uint32_t number = eol2_number(answer), count = eol2_count(answer);
-    if (number == EOL2_ACCEPTED ? count == 0 || count > out.length || count > EOL2_SAVED : count != 0)
-        differs("write answers %u with count %u", (unsigned)number, (unsigned)count);
-    if (!lent_same(&out, count))
-        differs("write (answer %u) changed what must stay", (unsigned)number);
+    filled("write", answer, EOL2_SAVED);
     if (number != EOL2_BAD_TABLE && (number == EOL2_BAD_INPUTS) == (good_input(&i1) && good_input(&i2)))
         differs("write answers %u to its inputs", (unsigned)number);
     if (number == EOL2_ACCEPTED && !sound_lines(out.at, count))
