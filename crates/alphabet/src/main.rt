@@ -1,4 +1,5 @@
 // Writes two lines of 88 bytes: the characters of EOL-2 that can be seen, in the order of their ranks, and the classes of all.
+#![tactic(auto)]
 
 #[derive(Drop)]
 pub struct Line {

@@ -1,5 +1,6 @@
 // The cells of an instruction's arguments in a program table that is being written: texts and numbers refer to their tables, and the mark of its name stands
 // for a label or a switch.
+#![tactic(auto)]
 ghost use Rattle.std.specs.Prelude.{◌≡◌, ◌<◌};
 ghost use Rattle.layout.specs.Table.{letter_place};
 ghost use Rattle.table.specs.Denote.{letter_of};

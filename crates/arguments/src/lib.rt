@@ -1,4 +1,5 @@
 // The arguments of an instruction: one pass over the items after its operator gives its faults and its arguments by value.
+#![tactic(auto)]
 ghost use Rattle.std.specs.Prelude.{◌≡◌, ◌≤◌};
 ghost use Rattle.arguments.specs.Arguments.{with_excess, missing_or, Leaves, ReadsLeft, Refusable, Refuses, Operates, ReadsArguments};
 ghost use Rattle.arguments.specs.Valued.{no_value, no_values, put_at, argument_value, WordKind, Found, ItemKind};
@@ -13,14 +14,14 @@ use words::{Lettered, Numeral};
 
 // An argument and the place of its item. While a text is read, a label or a switch is the mark of its name, its place 64-fold and its length; and a text is
 // the place of its item 65,536-fold and the place of its closing apostrophe.
-#[derive(Drop)]
+#[derive(Clone, Copy)]
 pub struct Value {
     pub at: usize,
     pub argument: Argument,
 }
 
 // The three arguments of an instruction, Nothing where there is none.
-#[derive(Drop)]
+#[derive(Clone, Copy)]
 pub struct Values {
     pub first: Value,
     pub second: Value,
@@ -29,7 +30,7 @@ pub struct Values {
 
 // An instruction's arguments, and the lowest places at fault of questions 01 and 02. Where one of them has a fault, the values may be any. Then questions 14
 // to 16 of its items, the place behind the end of its statement, and whether that is the last one.
-#[derive(Drop)]
+#[derive(Clone, Copy)]
 pub struct Arguments {
     pub over: Fault,
     pub fault: Fault,
@@ -40,7 +41,7 @@ pub struct Arguments {
 }
 
 // What is left of an instruction that is refused.
-#[derive(Drop)]
+#[derive(Clone, Copy)]
 struct Left {
     over: Fault,
     count: usize,
@@ -50,7 +51,7 @@ struct Left {
 }
 
 // What an item reads as: the set of its forms; and its own value as a text, a number, a class or an indexed letter, otherwise Nothing.
-#[derive(Drop)]
+#[derive(Clone, Copy)]
 struct Kind {
     set: u32,
     own: Argument,

@@ -1,4 +1,5 @@
 // Cells of 32 bits written in blocks: zeros, four numbers, and a number with characters behind it, four to a cell.
+#![tactic(auto)]
 ghost use Rattle.std.specs.Prelude.{◌≡◌, [], ◌∷◌, ◌+◌, ◌≤◌, ◌<◌, length, drop};
 ghost use Rattle.cells.specs.Cells.{pasted, cleared, Number, Writable};
 ghost use Rattle.layout.specs.Cells.{cell, four, fours};

@@ -1,4 +1,5 @@
 // Cells of lent memory: copy a slice in at a place, clear a run, and read and write numbers.
+#![tactic(auto)]
 ghost use Rattle.std.specs.Prelude.{◌≡◌, ◌+◌, ◌≤◌, ◌<◌, length, get_or, set};
 ghost use Rattle.cells.specs.Cells.{pasted, cleared, two, three, two_at, three_at, Number, Writable};
 

@@ -1,4 +1,5 @@
 // Question 63 as tests of the cells, one after the other: numbers and zeros, strings, totals, addresses.
+#![tactic(auto)]
 ghost use Rattle.std.specs.Prelude.{◌≡◌, length};
 ghost use Rattle.layout.specs.Cells.{three_at};
 ghost use Rattle.lists.specs.Lists.{all};
@@ -11,7 +12,7 @@ use language::Machine;
 use layout::StatePlaces;
 
 // What the components and the records of some strings come to.
-#[derive(Drop)]
+#[derive(Clone, Copy)]
 pub struct Sums {
     pub parts: usize,
     pub chars: usize,

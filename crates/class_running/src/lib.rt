@@ -1,4 +1,5 @@
 // A class of sixteen: one program on the work of up to sixteen pupils.
+#![tactic(auto)]
 ghost use Rattle.std.specs.Prelude.{◌≡◌, [], ◌∷◌, ◌+◌, ◌≤◌, length};
 ghost use Rattle.cells.specs.Cells.{pasted};
 ghost use Rattle.class_calls.specs.Class.{pupil, sum, fits_by, lent_of};
@@ -10,7 +11,7 @@ use language::Machine;
 const CLASS: usize = 16;
 
 // Number, count and length of Q1.
-#[derive(Drop)]
+#[derive(Clone, Copy)]
 pub struct Told {
     pub number: u8,
     pub count: u32,

@@ -1,4 +1,5 @@
 // What a relation compares with: the components that its second argument offers, put beside.
+#![tactic(auto)]
 ghost use Rattle.std.specs.Prelude.{[], ◌∷◌, length, take};
 ghost use Rattle.language.specs.Letters as letters;
 ghost use Rattle.language.specs.Values as values;
@@ -11,7 +12,7 @@ ghost use Rattle.tests.specs.Prepares.{ExprReadable, TextReadable};
 ghost use Rattle.comparands.specs.Offers.{LetterHoldable, Holdable, Offers, LetterOffers, ArgumentOffers, CodeHoldable};
 
 // A question answered no, or 0 and how many bytes the components take.
-#[derive(Drop)]
+#[derive(Clone, Copy)]
 pub struct Held {
     pub stop: u8,
     pub len: usize,

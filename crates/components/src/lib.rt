@@ -1,4 +1,5 @@
 // Components in bytes, read and made, over parts of strings.
+#![tactic(auto)]
 ghost use Rattle.std.specs.Prelude.{◌≡◌, cond, map, reverse, ◌+◌, ◌*◌, ◌≤◌, length};
 ghost use Rattle.language.specs.Values.{value, kind, link};
 ghost use Rattle.language.specs.Values.Component.{word, number, address};

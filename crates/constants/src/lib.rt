@@ -1,4 +1,5 @@
 // Constants of the program: UMIESC to an expression, a file and an output.
+#![tactic(auto)]
 ghost use Rattle.std.specs.Prelude.{Bool, length};
 ghost use Rattle.language.specs.Limits as limit;
 ghost use Rattle.language.specs.Letters.Letter.{Q};
@@ -17,7 +18,7 @@ use language::Machine;
 use layout::StatePlaces;
 
 // A component that was written: how many bytes and characters it has.
-#[derive(Drop)]
+#[derive(Clone, Copy)]
 pub struct Constant {
     pub bytes: usize,
     pub chars: usize,

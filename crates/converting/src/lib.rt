@@ -1,4 +1,5 @@
 // Numbers to words and back: SLOWO and LICZBA.
+#![tactic(auto)]
 ghost use Rattle.std.specs.Prelude.{length};
 ghost use Rattle.language.specs.Letters.Letter.{E};
 ghost use Rattle.language.specs.Program.Arg.{nothing};
@@ -11,7 +12,7 @@ ghost use Rattle.instructions.specs.Does.{DoesFor};
 ghost use Rattle.converting.specs.Converting.{NumeralPut, NumeralRoom, ReadsNumeral, Convertible};
 
 // A question answered no, or 0 and the number that a word writes, with 8,388,607 added; and how many letters the word has.
-#[derive(Drop)]
+#[derive(Clone, Copy)]
 pub struct Spelled {
     pub stop: u8,
     pub code: usize,

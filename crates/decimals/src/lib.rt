@@ -1,4 +1,5 @@
 // Numbers as decimal words, and back.
+#![tactic(auto)]
 ghost use Rattle.std.specs.Prelude.{◌≡◌, ◌+◌, ◌*◌, ◌-◌, ◌<◌, min, length};
 ghost use Rattle.language.specs.Values.{decimal};
 ghost use Rattle.layout.specs.Cells.{uncode};
@@ -7,7 +8,7 @@ ghost use Rattle.components.specs.Parts.{Written};
 ghost use Rattle.decimals.specs.Numerals.{measured, coded, reads, Width, DigitsRoom, DigitsPut, Growable};
 
 // What a word is as a number: none, one out of range, or its value with 8,388,607 added.
-#[derive(Drop)]
+#[derive(Clone, Copy)]
 pub enum Numeral {
     NotNumeral,
     OutOfRange,

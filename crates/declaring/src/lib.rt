@@ -1,4 +1,5 @@
 // A judged statement with an instruction comes to the program table: question 11, then its labels, its texts and numbers, and the instruction.
+#![tactic(auto)]
 ghost use Rattle.std.specs.Prelude.{◌≤◌, length};
 ghost use Rattle.drafts.specs.Marks.{word_by, marks_in};
 ghost use Rattle.writing.specs.Writing.{Changes, with_label, label_of};
@@ -12,7 +13,7 @@ use names::lowest_mark;
 use statements::{Fault, lower};
 
 // An instruction: the number of its operator, where that stands and in which line, and its arguments.
-#[derive(Drop)]
+#[derive(Clone, Copy)]
 pub struct Instruction {
     pub number: u8,
     pub at: usize,

@@ -1,4 +1,5 @@
 // A judged statement with a switch comes to the program table: question 11, then its texts, the switch and its entries.
+#![tactic(auto)]
 ghost use Rattle.std.specs.Prelude.{◌≤◌, length};
 ghost use Rattle.language.specs.Limits as limit;
 ghost use Rattle.declaring_switches.specs.DeclaringSwitches.{SwitchTold, JudgeableSwitch, EntersTexts, JudgesSwitch};
@@ -11,7 +12,7 @@ use table::Argument;
 
 // A switch as its statement gives it: the place of its operator, the place where its list begins, whether it is NAZWA, the mark of its name, how many words its
 // list has and the first of them that is an entry in excess.
-#[derive(Drop)]
+#[derive(Clone, Copy)]
 pub struct Declaration {
     pub at: usize,
     pub list: usize,

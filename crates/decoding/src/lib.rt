@@ -1,4 +1,5 @@
 // The operands of an instruction, from its arguments: which variable, and how it is read or written.
+#![tactic(auto)]
 ghost use Rattle.std.specs.Prelude.{◌≡◌};
 ghost use Rattle.language.specs.Letters.{use_of};
 ghost use Rattle.lists.specs.Quoted.{bytes};
@@ -7,28 +8,28 @@ ghost use Rattle.table.specs.declared.Argument.TheVariants.{Label, Switch};
 ghost use Rattle.decoding.specs.Operands.{Lettered, Named, Labelled, Switched, IsOpened, IsSource, IsTarget, IsFile, IsIndex, IsVariable, var_of};
 
 // A letter and the index of its variable, from 0.
-#[derive(Drop)]
+#[derive(Clone, Copy)]
 pub struct Opened {
     pub letter: table::Letter,
     pub i: usize,
 }
 
 // What components or records are read from, and whether they are removed there.
-#[derive(Drop)]
+#[derive(Clone, Copy)]
 pub struct Source {
     pub removes: bool,
     pub i: usize,
 }
 
 // What components are written to: turned round or not, at the end or in front.
-#[derive(Drop)]
+#[derive(Clone, Copy)]
 pub struct Target {
     pub reverses: bool,
     pub at_end: bool,
     pub j: usize,
 }
 
-#[derive(Drop)]
+#[derive(Clone, Copy)]
 pub enum Variable {
     Expression,
     Input,

@@ -1,1 +1,2 @@
 // What a text is while it is read: definitions alone.
+#![tactic(auto)]

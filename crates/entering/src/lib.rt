@@ -1,4 +1,5 @@
 // The texts and numbers of a statement come to the tables of a program that is being written: question 11 for them.
+#![tactic(auto)]
 ghost use Rattle.std.specs.Prelude.{◌≡◌, ◌||◌, ltb, length};
 ghost use Rattle.lists.specs.Lists.{bytes_equal};
 ghost use Rattle.entering.specs.Entering.{set_texts, Held, AddsCode, Addable, Adds, EnterableValue, EnterableValues, SomeValues, TextEntered, NumberEntered, TextsEntered, NumbersEntered};

@@ -1,4 +1,5 @@
 // The program of document 01: reads at most 65,536 bytes of standard input, loads the text among them, runs it and prints.
+#![tactic(auto)]
 ghost use Rattle.std.specs.Prelude.{◌≤◌, length};
 
 // Prints what the input brings.

@@ -1,4 +1,5 @@
 // Equality: RW of an expression, of its first component or any of them.
+#![tactic(auto)]
 ghost use Rattle.std.specs.Prelude.{◌≡◌, length};
 ghost use Rattle.language.specs.Letters as letters;
 ghost use Rattle.language.specs.Letters.{use_of};

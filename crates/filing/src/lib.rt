@@ -1,4 +1,5 @@
 // The files of the state at work: the records before the pointer and after it, and the changes that instructions make in them.
+#![tactic(auto)]
 ghost use Rattle.std.specs.Prelude.{◌≡◌, true, false, ◌+◌, ◌-◌, length, get_or, set};
 ghost use Rattle.language.specs.Letters.Letter.{P};
 ghost use Rattle.machine.specs.Arguments.{file_of};

@@ -1,4 +1,5 @@
 // The end of a text: the last questions, and the program in the table.
+#![tactic(auto)]
 ghost use Rattle.std.specs.Prelude.{◌≡◌};
 ghost use Rattle.syntax.specs.Ending.{last_place};
 ghost use Rattle.linking.specs.Linking.{Kept};

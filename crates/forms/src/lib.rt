@@ -1,4 +1,5 @@
 // The argument forms of the 41 instructions as sets of bits.
+#![tactic(auto)]
 ghost use Rattle.std.specs.Prelude.{◌≡◌, cond, false, [], ◌∷◌, ◌+◌, ◌^◌, ◌<◌, ◌≤◌, eqb, ltb, get_or};
 ghost use Rattle.forms.specs.Forms.{nothing, set_at, lists_of, most_of, least_of, calls, ends, only};
 ghost use Rattle.forms.specs.Reading.{lives_first, lives_second, shared, taken, taken_at};
@@ -81,7 +82,7 @@ pub const NAME: u32 = LABEL + NAZWA + INDEKS;
 pub const NAMED_CLASS: u32 = NAME + CLASS;
 
 // Which of an instruction's lists take the arguments so far.
-#[derive(Drop)]
+#[derive(Clone, Copy)]
 pub enum Live {
     First,
     Second,
@@ -89,14 +90,14 @@ pub enum Live {
 }
 
 // The form that an argument is read by, - where it is not listed; and the lists that are left.
-#[derive(Drop)]
+#[derive(Clone, Copy)]
 pub struct Taken {
     pub form: u8,
     pub live: Live,
 }
 
 // The sets of an instruction's three places.
-#[derive(Drop)]
+#[derive(Clone, Copy)]
 pub struct Places(u32, u32, u32);
 
 // An instruction's first list.

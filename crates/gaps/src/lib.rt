@@ -1,4 +1,5 @@
 // Ninety-nine strings in a pool with gaps between them: where each lies, how one is laid in, and how room is made.
+#![tactic(auto)]
 ghost use Rattle.std.specs.Prelude.{◌≡◌, ◌+◌, length};
 ghost use Rattle.layout.specs.Strings.{used};
 ghost use Rattle.gaps.specs.Pool.{abs, Fine, Holds};

@@ -1,4 +1,5 @@
 // What follows SEKCJA, KONS or KONP, or nothing where a statement is labels alone: read once, and what of it is at fault.
+#![tactic(auto)]
 ghost use Rattle.std.specs.Prelude.{◌≡◌, cond, ◌&&◌, ◌+◌, ◌≤◌};
 ghost use Rattle.drafts.specs.Marks.{mark_of, word_by};
 ghost use Rattle.language.specs.Limits as limit;
@@ -17,7 +18,7 @@ use words::Keyword;
 
 // The first item, or the token that ends the statement; the place of an item after it; questions 14, 15 and 16 of all items so far; the place behind the
 // statement, and whether it is the last one.
-#[derive(Drop)]
+#[derive(Clone, Copy)]
 pub struct Rest {
     pub first: Token,
     pub more: Fault,

@@ -1,4 +1,5 @@
 // The head of a statement: its labels and its operator.
+#![tactic(auto)]
 ghost use Rattle.std.specs.Prelude.{◌≡◌, cond, not, ◌||◌, [], ◌∷◌, ◌≤◌, eqb};
 ghost use Rattle.drafts.specs.Marks.{mark_of};
 ghost use Rattle.lexer.specs.Tokens.{item_of, Stands};
@@ -14,7 +15,7 @@ use words::{Keyword, Known};
 // The place of the first item, or of what ends the statement; the first item in front of the operator that is no name; how many names there are with
 // its labels; questions 14, 15 and 16 of the items up to the operator; the operator, or the token that ends the statement; what the operator is, and
 // whether its word is one edition's own. The items after it are read from `op.next` on.
-#[derive(Drop)]
+#[derive(Clone, Copy)]
 pub struct Head {
     pub first: usize,
     pub fault: Fault,

@@ -1,4 +1,5 @@
 // What the function of an instruction promises, and whether what one writes has room.
+#![tactic(auto)]
 ghost use Rattle.std.specs.Prelude.{◌≡◌, ◌&&◌, ◌+◌, leb};
 ghost use Rattle.language.specs.Limits as limit;
 ghost use Rattle.layout.specs.Memory.{components_held, chars_held};

@@ -1,4 +1,5 @@
 // Joining words: ZBIJ, and characters made one word.
+#![tactic(auto)]
 ghost use Rattle.std.specs.Prelude.{◌≡◌, length};
 ghost use Rattle.language.specs.Program.Arg.{nothing};
 ghost use Rattle.language.specs.Program.Op.{ZBIJ};

@@ -1,4 +1,5 @@
 // The questions of a statement on its operator and its labels, by its head: each answered by the lowest place at fault.
+#![tactic(auto)]
 ghost use Rattle.std.specs.Prelude.{◌≡◌, not};
 ghost use Rattle.heads.specs.Heads.{own_by};
 ghost use Rattle.judging.specs.Judging.{OperatorFault, Labelled, LabelFault};

@@ -1,10 +1,11 @@
 // The machine's own type, with the limits of document 01 as its constants, and the operators by their numbers.
+#![tactic(auto)]
 ghost use Rattle.std.specs.Prelude.{◌≡◌};
 ghost use Rattle.language.specs.Limits.{listed};
 ghost use Rattle.language.specs.Instructions.{operator_numbers};
 
 // The machine. Its state is lent memory, so a value of this type holds nothing; its constants are the limits, as in specs/Limits.antt.
-#[derive(Drop)]
+#[derive(Clone, Copy)]
 pub struct Machine {}
 
 impl Machine {
@@ -90,7 +91,7 @@ pub fn limits() -> [usize; 24]
 }
 
 // The operators. Their constants are the numbers that the table of instructions has for them, specs/Instructions.antt.
-#[derive(Drop)]
+#[derive(Clone, Copy)]
 pub struct Operator {}
 
 impl Operator {

@@ -1,10 +1,11 @@
 // The places of a program table and of a state at rest and the kinds of arguments, as constants of three types; the layouts themselves are definitions and laws.
+#![tactic(auto)]
 ghost use Rattle.std.specs.Prelude.{◌≡◌, ◌++◌};
 ghost use Rattle.layout.specs.Kinds.{kinds};
 ghost use Rattle.layout.specs.Places.{listed};
 
 // A program table. Its cells are lent memory, so a value of this type holds nothing; its constants are places of cells, as in specs/Places.antt.
-#[derive(Drop)]
+#[derive(Clone, Copy)]
 pub struct TablePlaces {}
 
 impl TablePlaces {
@@ -48,7 +49,7 @@ impl TablePlaces {
 }
 
 // A state: scalars, strings and cells, in the same way.
-#[derive(Drop)]
+#[derive(Clone, Copy)]
 pub struct StatePlaces {}
 
 impl StatePlaces {
@@ -112,7 +113,7 @@ impl StatePlaces {
 }
 
 // An argument's cell, kind + 8 · value: the kinds, as in specs/Kinds.antt.
-#[derive(Drop)]
+#[derive(Clone, Copy)]
 pub struct ArgumentKinds {}
 
 impl ArgumentKinds {

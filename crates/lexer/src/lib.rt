@@ -1,4 +1,5 @@
 // From a place in a text to the item that stands there and the place behind it.
+#![tactic(auto)]
 ghost use Rattle.std.specs.Prelude.{◌≡◌, ◌+◌, ◌≤◌, ◌<◌, length};
 ghost use Rattle.syntax.specs.Items.{line_at};
 ghost use Rattle.lexer.specs.Tokens.{a_token, WordAt, TextAt, TokenAt, ColonAfter, NextToken, Movable, moved, moved_colon};
@@ -8,7 +9,7 @@ use scanner::{NOTHING, TEXT, WORD, WRONG, one_if, scan_text, skip, sort_of, word
 // An item: its sort; the place where it begins, the place where its own bytes end, which of a text is that of its closing
 // apostrophe, and the place from which the next item is sought; the count of its characters; of a text whether it is closed
 // and allowed; of a word the place of the colon that follows it, or 0.
-#[derive(Drop)]
+#[derive(Clone, Copy)]
 pub struct Token {
     pub sort: u8,
     pub at: usize,
@@ -89,7 +90,7 @@ pub fn item_at(text: &[u8], n: usize) -> Token
 }
 
 // What follows a word: the place of a colon, or 0, and the place from which the next item is sought.
-#[derive(Drop)]
+#[derive(Clone, Copy)]
 struct After {
     colon: usize,
     next: usize,

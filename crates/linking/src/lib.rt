@@ -1,5 +1,6 @@
 // The second pass over a text's program: questions 12 and 13, "Every used label declared" and "Every used switch declared"; then names become places.
 // Until then the table has the marks of the names that are used.
+#![tactic(auto)]
 ghost use Rattle.std.specs.Prelude.{◌≡◌, true, cond, [], ◌∷◌, ◌≤◌, length, take};
 ghost use Rattle.layout.specs.Kinds.{label_kind};
 ghost use Rattle.layout.specs.Table.{arg_cell, all_entries};
@@ -17,7 +18,7 @@ use layout::{ArgumentKinds, TablePlaces};
 use statements::{Fault, lesser, lower, rebuilt};
 
 // The names are places now, or the lowest place of a label (12) or of a switch (13) that is not declared.
-#[derive(Drop)]
+#[derive(Clone, Copy)]
 pub enum Linked {
     Done,
     Label(usize),

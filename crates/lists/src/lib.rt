@@ -1,1 +1,2 @@
 // Lists and quoted texts: definitions and laws for the specification; no code.
+#![tactic(auto)]

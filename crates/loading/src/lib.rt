@@ -1,4 +1,5 @@
 // From a text without macros to the program table, or the number and the line of the first question answered no.
+#![tactic(auto)]
 ghost use Rattle.std.specs.Prelude.{◌≤◌, length};
 ghost use Rattle.language.specs.Limits as limit;
 ghost use Rattle.syntax.specs.Load.{text_loads, load_typed};
@@ -12,7 +13,7 @@ use statements::Verdict;
 use writing::clear_table;
 
 // Number and line; 80 and 0 where the text is accepted.
-#[derive(Drop)]
+#[derive(Clone, Copy)]
 pub struct Loaded {
     pub number: u8,
     pub line: u32,

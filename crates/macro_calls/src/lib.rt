@@ -1,4 +1,5 @@
 // The calls by a typed name: the macro that each calls, and questions 64 and 65 "as typed, in the list too".
+#![tactic(auto)]
 ghost use Rattle.std.specs.Prelude.{◌≡◌, cond, ◌+◌, ◌≤◌, ◌<◌, eqb, length, get_or};
 ghost use Rattle.lists.specs.Lists.{each, bytes_equal};
 ghost use Rattle.macros.specs.Prepared.{piece_faults};
@@ -12,14 +13,14 @@ use macro_code::{CodePlaces, high, low, part};
 use statements::{Fault, lower};
 
 // "Each called macro in the list once? 64. Are there as many arguments as parameters? 65": the lowest place at fault of each.
-#[derive(Drop)]
+#[derive(Clone, Copy)]
 pub struct Faults {
     pub unknown: Fault,
     pub uneven: Fault,
 }
 
 // Of a name: whether one macro of the list alone has it; and that macro's number.
-#[derive(Drop)]
+#[derive(Clone, Copy)]
 pub struct Named {
     pub once: bool,
     pub number: usize,

@@ -1,4 +1,5 @@
 // The changes of a macro's body or of the section, read into cells.
+#![tactic(auto)]
 ghost use Rattle.std.specs.Prelude.{◌≡◌, cond, ◌&&◌, ◌||◌, List, [], ◌∷◌, ℕ, ◌<◌, eqb, length, set};
 ghost use Rattle.macros.specs.Elements.{is_text, is_listed};
 ghost use Rattle.macro_code.specs.Code.{paired};
@@ -14,7 +15,7 @@ use statements::{Fault, lower};
 use words::same;
 
 // Where changes are read: the first cell and the count of a body's parameters, and whether a bracket closes it. The section has none.
-#[derive(Drop)]
+#[derive(Clone, Copy)]
 pub struct Scope {
     pub params: usize,
     pub count: usize,
@@ -22,7 +23,7 @@ pub struct Scope {
 }
 
 // What was read: the place and the cell behind it, the count of changes or arguments, and the lowest place at fault.
-#[derive(Drop)]
+#[derive(Clone, Copy)]
 pub struct Step {
     pub next: usize,
     pub used: usize,
@@ -31,7 +32,7 @@ pub struct Step {
 }
 
 // What an element is as a name or an argument, with a parameter's number; and whether what is joined to it may be.
-#[derive(Drop)]
+#[derive(Clone, Copy)]
 struct Answer {
     kind: usize,
     number: usize,
@@ -174,7 +175,7 @@ fn name_fault(text: &[u8], marked: &[u8], closing: bool, star: usize, n: usize) 
 }
 
 // Where a call ends, and the place behind it.
-#[derive(Drop)]
+#[derive(Clone, Copy)]
 struct Ending {
     stop: usize,
     next: usize,

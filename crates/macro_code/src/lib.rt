@@ -1,10 +1,11 @@
 // The list of macros and the section of a text, in cells of two numbers each.
+#![tactic(auto)]
 ghost use Rattle.std.specs.Prelude.{◌≡◌, ◌<◌, ◌≤◌, min, get_or, take, drop};
 ghost use Rattle.macro_code.specs.Code.{high, low, paired};
 ghost use Rattle.macro_code.specs.Places.{half, all_places};
 
 // The cells are lent memory, so a value of this type holds nothing; its constants are places of cells, as in specs/Places.antt.
-#[derive(Drop)]
+#[derive(Clone, Copy)]
 pub struct CodePlaces {}
 
 impl CodePlaces {

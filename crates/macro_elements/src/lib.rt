@@ -1,4 +1,5 @@
 // From a place in a text to the element that stands there and the place behind it.
+#![tactic(auto)]
 ghost use Rattle.std.specs.Prelude.{◌≡◌, List, ℕ, ◌<◌, ◌≤◌, length, get_or, drop};
 ghost use Rattle.characters.specs.Characters.{is_digit};
 ghost use Rattle.language.specs.Values.{numeral};
@@ -12,7 +13,7 @@ use scanner::{TEXT, WORD, WRONG, scan_text, word_end};
 
 // An element: its sort and its first byte; the places where it begins, where the bytes that it is known by end, and from which
 // the next one is sought; the places where a parameter that is joined to it begins and ends, both 0 where none is.
-#[derive(Drop)]
+#[derive(Clone, Copy)]
 pub struct Element {
     pub sort: u8,
     pub byte: u8,

@@ -1,4 +1,5 @@
 // The expansion of macros: recursive, each call with one level less.
+#![tactic(auto)]
 ghost use Rattle.std.specs.Prelude.{◌≡◌, ◌+◌, ◌-◌, ◌≤◌, ◌<◌, length, get_or, set, true, false, ◌&&◌, [], ◌∷◌, leb};
 ghost use Rattle.language.specs.Limits as limit;
 ghost use Rattle.macro_calls.specs.Calls.{Finds};
@@ -23,7 +24,7 @@ use statements::Fault;
 const NAME_ROOM: usize = 64;
 
 // A macro, the section or a change: its cell; how many levels are left there; and how many macros the list has.
-#[derive(Drop)]
+#[derive(Clone, Copy)]
 pub struct Level {
     pub cell: usize,
     pub left: usize,
@@ -31,7 +32,7 @@ pub struct Level {
 }
 
 // A change that is passed; or a call that is to be entered, with the cell of its macro.
-#[derive(Drop)]
+#[derive(Clone, Copy)]
 pub struct Step {
     pub state: Written,
     pub enters: bool,
@@ -39,7 +40,7 @@ pub struct Step {
 }
 
 // The rest of a body: from a place of the text up to another, with so many changes from a cell on; and its level.
-#[derive(Drop)]
+#[derive(Clone, Copy)]
 pub struct Rest {
     pub place: usize,
     pub stop: usize,
@@ -50,7 +51,7 @@ pub struct Rest {
 }
 
 // A body that is written up to a call that is to be entered, or to its end.
-#[derive(Drop)]
+#[derive(Clone, Copy)]
 pub struct Paused {
     pub state: Written,
     pub enters: bool,

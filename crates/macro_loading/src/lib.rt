@@ -1,4 +1,5 @@
 // Load: from a text to the program table, or the number and the line of the first question answered no.
+#![tactic(auto)]
 ghost use Rattle.loading.specs.Texts.{Leaves};
 ghost use Rattle.macro_loading.specs.Loading.{Loads, Rewritable};
 ghost use Rattle.macros.specs.Load.{loaded};

@@ -1,4 +1,5 @@
 // Which texts have macros, and where their joining apostrophes stand.
+#![tactic(auto)]
 ghost use Rattle.std.specs.Prelude.{◌≡◌, true, cond, ◌&&◌, ◌||◌, ◌≤◌, ◌<◌, eqb, length, set};
 ghost use Rattle.lexer.specs.Tokens.{part, chars_of};
 ghost use Rattle.lists.specs.Lists.{any, among, bytes_equal};
@@ -11,7 +12,7 @@ use scanner::{END, NOTHING, WORD, WRONG, word_end};
 
 // Where the reader stands in the list of macros: before the first statement; in it; behind it, where the list may begin; after the
 // list, or where there is none; in the list but in no body, and in a body, each with the place where the macro's header begins.
-#[derive(Drop)]
+#[derive(Clone, Copy)]
 enum ListPart {
     Before,
     First,

@@ -1,4 +1,5 @@
 // Calls that change nothing any more, remembered behind the cells of the nested calls.
+#![tactic(auto)]
 ghost use Rattle.std.specs.Prelude.{◌≡◌, true, false, ◌+◌, ◌-◌, ◌≤◌, ◌<◌, length, get_or, drop};
 ghost use Rattle.macro_code.specs.Bounds.{near, far};
 ghost use Rattle.macro_code.specs.Code.{given_in, arguments_in, argument_cell};
@@ -41,7 +42,7 @@ pub const MEMORY: usize = PRINTS + SLOTS;
 const ROOM: usize = 128;
 
 // A call or an argument within so many nested calls; and another within as many others.
-#[derive(Drop)]
+#[derive(Clone, Copy)]
 struct Pair {
     depth: usize,
     one: usize,
@@ -49,7 +50,7 @@ struct Pair {
 }
 
 // A call: its cell; how many levels are left around it; and the cell of its macro.
-#[derive(Drop)]
+#[derive(Clone, Copy)]
 pub struct Entered {
     pub cell: usize,
     pub left: usize,

@@ -1,4 +1,5 @@
 // A text with macros made ready for loading: it "meets 14 to 16 as a whole, then 64 to 66; then the written-out text is loaded as if typed".
+#![tactic(auto)]
 ghost use Rattle.std.specs.Prelude.{◌≡◌, ◌≤◌, length};
 ghost use Rattle.language.specs.Limits as limit;
 ghost use Rattle.macros.specs.Marks.{whole_questions};
@@ -26,7 +27,7 @@ const NAMES: usize = CodePlaces::MACROS + Machine::TEXT / 2;
 const HEIGHTS: usize = 3 * CodePlaces::MACROS;
 
 // So many written-out bytes, with a line for each; or the number and the line of the first question answered no.
-#[derive(Drop)]
+#[derive(Clone, Copy)]
 pub enum Prepared {
     Ready(usize),
     Unfit(u8, u32),
@@ -34,7 +35,7 @@ pub enum Prepared {
 
 // The list of macros and the section that were read: the count of macros; the cell of the section; and the lowest places at fault, of their form
 // and of the calls as typed.
-#[derive(Drop)]
+#[derive(Clone, Copy)]
 struct Reading {
     count: usize,
     section: usize,
@@ -43,7 +44,7 @@ struct Reading {
 }
 
 // The section that was written out: the verdict of questions 64 to 66, and the count of bytes.
-#[derive(Drop)]
+#[derive(Clone, Copy)]
 struct Expanded {
     verdict: Verdict,
     count: usize,

@@ -1,4 +1,5 @@
 // The list of macros and the section of a text, read into cells.
+#![tactic(auto)]
 ghost use Rattle.std.specs.Prelude.{◌≡◌, cond, not, ◌||◌, List, [], ◌∷◌, ℕ, ◌-◌, ◌<◌, eqb};
 ghost use Rattle.macros.specs.Elements.{is_bracket};
 ghost use Rattle.macro_elements.specs.ElementAt.{elements_from, argument_value, Lent};
@@ -17,7 +18,7 @@ use scanner::{END, NOTHING, WORD, one_if};
 use statements::{Fault, lower, stops};
 
 // A body that was read: the place and the cell behind it, whether a bracket closes it, and the lowest place at fault.
-#[derive(Drop)]
+#[derive(Clone, Copy)]
 struct Body {
     next: usize,
     used: usize,
@@ -60,7 +61,7 @@ fn read_body(
 
 // A header that was read: the place where it ends; the count of its words, and the place of the first; whether anything but new lines stands in
 // it; and the lowest place at fault.
-#[derive(Drop)]
+#[derive(Clone, Copy)]
 struct Header {
     next: usize,
     words: usize,
@@ -120,7 +121,7 @@ fn read_header(text: &[u8], marked: &[u8], code: &mut [u32], n: usize, q: usize)
 }
 
 // A definition that was read: whether there is one, and whether it has a name; the place and the cell behind it, and the lowest place at fault.
-#[derive(Drop)]
+#[derive(Clone, Copy)]
 struct Definition {
     opened: bool,
     named: bool,
@@ -182,7 +183,7 @@ fn read_definition(text: &[u8], marked: &[u8], code: &mut [u32], n: usize, q: us
 
 // The definitions that were read: the place where the stretch behind them begins, the cell behind them, the count of macros, whether there is a
 // definition, and the lowest place at fault.
-#[derive(Drop)]
+#[derive(Clone, Copy)]
 struct Definitions {
     next: usize,
     used: usize,
@@ -244,7 +245,7 @@ fn skip_ends(text: &[u8], marked: &[u8], n: usize) -> usize
 }
 
 // The first statement that was read: the place where it ends, and the lowest place at fault.
-#[derive(Drop)]
+#[derive(Clone, Copy)]
 struct First {
     next: usize,
     fault: Fault,
@@ -279,7 +280,7 @@ fn read_first(text: &[u8], marked: &[u8], n: usize) -> First
 }
 
 // The stretch that ends the list: the places where the list stops and where the section goes on, and the lowest place at fault.
-#[derive(Drop)]
+#[derive(Clone, Copy)]
 struct Tail {
     stop: usize,
     next: usize,
@@ -320,7 +321,7 @@ fn read_tail(
 }
 
 // The list of macros and the section that were read: the count of macros; the cell of the section; and the lowest place at fault.
-#[derive(Drop)]
+#[derive(Clone, Copy)]
 pub struct Listing {
     pub count: usize,
     pub section: usize,

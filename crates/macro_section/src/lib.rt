@@ -1,4 +1,5 @@
 // The section written out, with the place that each written byte comes from.
+#![tactic(auto)]
 ghost use Rattle.std.specs.Prelude.{◌≡◌, false, [], ◌+◌, ◌-◌, ◌≤◌, ◌<◌, length, take, drop, replicate};
 ghost use Rattle.language.specs.Limits as limit;
 ghost use Rattle.macro_code.specs.Places.{half, span_cell};
@@ -17,14 +18,14 @@ use macro_values::Written;
 use statements::Fault;
 
 // The section or a change in it: its cell; and how many macros the list has.
-#[derive(Drop)]
+#[derive(Clone, Copy)]
 pub struct Section {
     pub cell: usize,
     pub macros: usize,
 }
 
 // The section written out: what is written, and the place of question 66.
-#[derive(Drop)]
+#[derive(Clone, Copy)]
 pub struct WrittenOut {
     pub state: Written,
     pub long: Fault,

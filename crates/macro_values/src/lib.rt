@@ -1,4 +1,5 @@
 // Bytes written behind those that are written already, and what a name or an argument within nested calls stands for.
+#![tactic(auto)]
 ghost use Rattle.std.specs.Prelude.{◌≡◌, [], ◌≤◌, ◌<◌, ◌-◌, length, get_or, take, drop};
 ghost use Rattle.macro_code.specs.Code.{given_in, arguments_in};
 ghost use Rattle.macro_code.specs.Places.{half};
@@ -11,7 +12,7 @@ use macro_code::CodePlaces;
 use statements::Fault;
 
 // What is written: how many bytes; whether there is no room for all, or a call is too deep; and the faults of 64 and of 65 that are met.
-#[derive(Drop)]
+#[derive(Clone, Copy)]
 pub struct Written {
     pub count: usize,
     pub over: bool,

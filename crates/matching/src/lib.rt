@@ -1,4 +1,5 @@
 // Tests of components and characters in bytes, and how much of a sequence a test takes.
+#![tactic(auto)]
 ghost use Rattle.std.specs.Prelude.{◌≡◌, [], length};
 ghost use Rattle.lists.specs.Lists.{all, any, ahead, among};
 ghost use Rattle.characters.specs.Characters.{class_places};
@@ -9,7 +10,7 @@ ghost use Rattle.components.specs.Parts.{Leading, Written};
 ghost use Rattle.matching.specs.Tests.{in_class, first_chars, until, until_chars, reached_by, stops_before, Comparable, Stoppable, Countable, FirstRoom, FirstPut, FirstsRoom, Took, TookChars};
 
 // A test of a move. `Class` has the mask of its class: L 1, D 2, B 4, R 8; what `Among` compares with stands beside it.
-#[derive(Drop)]
+#[derive(Clone, Copy)]
 pub enum Test {
     All,
     Count(usize),
@@ -18,7 +19,7 @@ pub enum Test {
 }
 
 // How much a test takes: components, cells, characters; whether it was reached, and whether all that is taken are words.
-#[derive(Drop)]
+#[derive(Clone, Copy)]
 pub struct Taken {
     pub parts: usize,
     pub bytes: usize,
@@ -28,7 +29,7 @@ pub struct Taken {
 }
 
 // How many characters a test takes, and whether it was reached.
-#[derive(Drop)]
+#[derive(Clone, Copy)]
 pub struct CharsTaken {
     pub taken: usize,
     pub reached: bool,

@@ -1,4 +1,5 @@
 // Moves of components: PRZESLIJ and USUN A.
+#![tactic(auto)]
 ghost use Rattle.std.specs.Prelude.{true, false, length};
 ghost use Rattle.language.specs.Limits as limit;
 ghost use Rattle.language.specs.Program.Arg.{nothing};

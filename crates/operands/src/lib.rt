@@ -1,4 +1,5 @@
 // What two operands of an instruction are, with questions 52 and 53, and components in the place of the first.
+#![tactic(auto)]
 ghost use Rattle.std.specs.Prelude.{◌≡◌, true, cond, length, take};
 ghost use Rattle.language.specs.Letters.Letter.{E};
 ghost use Rattle.machine.specs.Arguments.{expr, listed_pair};
@@ -12,7 +13,7 @@ use language::Machine;
 use layout::StatePlaces;
 
 // The pairs of kinds that two operands may have.
-#[derive(Drop)]
+#[derive(Clone, Copy)]
 pub enum Kinds {
     Words,
     Numbers,
@@ -25,21 +26,21 @@ pub const ABSENT: u8 = 255;
 const ZERO: usize = 8388607;
 
 // The kind of a component, and the code of its value: of a number, the value with 8,388,607 added, of others that of 0.
-#[derive(Drop)]
+#[derive(Clone, Copy)]
 pub struct Offered {
     pub kind: u8,
     pub code: usize,
 }
 
 // A question answered no, or 0 and the code of a number.
-#[derive(Drop)]
+#[derive(Clone, Copy)]
 pub struct Operand {
     pub stop: u8,
     pub code: usize,
 }
 
 // A question answered no, or 0; and the codes of two values.
-#[derive(Drop)]
+#[derive(Clone, Copy)]
 pub struct Pair {
     pub stop: u8,
     pub left: usize,

@@ -1,4 +1,5 @@
 // Order: WK and MN of numbers, PP and NS of words.
+#![tactic(auto)]
 ghost use Rattle.std.specs.Prelude.{length, take, false};
 ghost use Rattle.language.specs.Letters.Letter.{E};
 ghost use Rattle.language.specs.Program.Arg.{nothing};
@@ -15,7 +16,7 @@ ghost use Rattle.tests.specs.Prepares.{TextReadable};
 ghost use Rattle.ordering.specs.Ordering.{TextIs, WordReadable, OtherReadable, Comparable, ReadsWord, ReadsOther};
 
 // The kind of a component, and how many characters it has.
-#[derive(Drop)]
+#[derive(Clone, Copy)]
 pub struct Worded {
     pub kind: u8,
     pub len: usize,

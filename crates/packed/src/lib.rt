@@ -1,4 +1,5 @@
 // Characters in the cells of a program table: four to a cell, the first in the lowest bits; a name or a text has 15 cells.
+#![tactic(auto)]
 ghost use Rattle.std.specs.Prelude.{◌≡◌, [], ◌∷◌, ◌++◌, ◌+◌, ◌-◌, ◌*◌, ◌≤◌, ◌<◌, min, length, take, drop};
 ghost use Rattle.cells.specs.Cells.{Number};
 ghost use Rattle.layout.specs.Cells.{four, unfours};

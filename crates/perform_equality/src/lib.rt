@@ -1,4 +1,5 @@
 // The relations of equality from an instruction's arguments: RW and RZ. Each tells 0, or the question answered no.
+#![tactic(auto)]
 ghost use Rattle.std.specs.Prelude.{◌≡◌, length};
 ghost use Rattle.decoding.specs.Operands.{Lettered};
 ghost use Rattle.performing.specs.Performing.{Performs};

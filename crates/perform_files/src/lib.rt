@@ -1,4 +1,5 @@
 // The instructions of files and constants, from their arguments. Each tells 0, or the question answered no.
+#![tactic(auto)]
 ghost use Rattle.std.specs.Prelude.{length};
 ghost use Rattle.performing.specs.Operating.{Carrying, PerformsFor};
 ghost use Rattle.perform_files.specs.Filing.{Filing};

@@ -1,4 +1,5 @@
 // Instructions that move components and characters, from their arguments. Each tells 0, or the question answered no; next is left to the caller.
+#![tactic(auto)]
 ghost use Rattle.std.specs.Prelude.{length};
 ghost use Rattle.performing.specs.Performing.{Performing, Performs};
 ghost use Rattle.performing.specs.Operating.{Carrying, PerformsFor};

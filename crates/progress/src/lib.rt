@@ -1,4 +1,5 @@
 // How far a text was read: what is known of its statements so far, beside the tables, and after one more of them. Question 25: how the section ends.
+#![tactic(auto)]
 ghost use Rattle.std.specs.Prelude.{◌≡◌, cond, [], ◌∷◌, ◌-◌, ◌≤◌, eqb};
 ghost use Rattle.statements.specs.StatementAt.{stops, fault_of};
 ghost use Rattle.progress.specs.Closing.{fault_by, ToldClosing, Ends};
@@ -12,7 +13,7 @@ use names::lowest_mark;
 use statements::{Fault, lower, rebuilt, stops};
 
 // Whether KONS and KONP were met, the place of a KONP before any KONS, and the lowest place at fault.
-#[derive(Drop)]
+#[derive(Clone, Copy)]
 pub struct Closing {
     pub kons: bool,
     pub konp: bool,
@@ -22,7 +23,7 @@ pub struct Closing {
 
 // The mark of the section's name, 0 before SEKCJA; whether its edition is the English one; how many labels were met, and how many of them, the last ones, wait for their statement; how the
 // section ends; and the place of the last instruction, where a text may not end with it.
-#[derive(Drop)]
+#[derive(Clone, Copy)]
 pub struct Progress {
     pub section: u32,
     pub english: bool,

@@ -1,4 +1,5 @@
 // One statement: read in one pass, its questions in order, its place in the tables, and what is known after it.
+#![tactic(auto)]
 ghost use Rattle.std.specs.Prelude.{◌≡◌, ◌&&◌, eqb};
 ghost use Rattle.statements.specs.Faults.{verdict_of};
 ghost use Rattle.statements.specs.StatementAt.{stops};
@@ -27,14 +28,14 @@ use statements::{Fault, Verdict, checked, decide, first_of, stops};
 use switch_lists::{Listed, read_list};
 
 // A statement was read, or the number of the first question answered no and its place.
-#[derive(Drop)]
+#[derive(Clone, Copy)]
 pub enum Read {
     Statement(Progress),
     Refused(u8, usize),
 }
 
 // And where the next statement begins, unless it is the last.
-#[derive(Drop)]
+#[derive(Clone, Copy)]
 pub struct Answer {
     pub read: Read,
     pub next: usize,
@@ -42,14 +43,14 @@ pub struct Answer {
 }
 
 // What a statement without an instruction or a switch says: the mark of the section's name from then on, and the place at fault behind KONS or KONP.
-#[derive(Drop)]
+#[derive(Clone, Copy)]
 pub struct Ending {
     pub section: u32,
     pub after: Fault,
 }
 
 // The instruction of a statement, where all questions before 11 are answered yes.
-#[derive(Drop)]
+#[derive(Clone, Copy)]
 enum Found {
     Nothing,
     Instruction(Instruction),

@@ -1,4 +1,5 @@
 // Reading inputs: CZYTAJ, and USUN of an input.
+#![tactic(auto)]
 ghost use Rattle.std.specs.Prelude.{true, [], ◌∷◌, length};
 ghost use Rattle.language.specs.Letters.Letter.{I};
 ghost use Rattle.language.specs.Program.Arg.{nothing};

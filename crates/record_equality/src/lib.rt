@@ -1,4 +1,5 @@
 // RZ: the record after a file's pointer, compared with a component or, by E, with a whole expression.
+#![tactic(auto)]
 ghost use Rattle.std.specs.Prelude.{◌≡◌, length};
 ghost use Rattle.language.specs.Letters as letters;
 ghost use Rattle.language.specs.Letters.{use_of};

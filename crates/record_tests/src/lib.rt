@@ -1,4 +1,5 @@
 // Reading the values of a test of records, for KOPIUJ, SKRESL and OMIN.
+#![tactic(auto)]
 ghost use Rattle.std.specs.Prelude.{◌≡◌, length};
 ghost use Rattle.language.specs.Letters.Letter.{E};
 ghost use Rattle.packed.specs.Packed.{table_of};
@@ -8,7 +9,7 @@ ghost use Rattle.tests.specs.Prepares.{ExprReadable};
 ghost use Rattle.record_tests.specs.RecordPrepares.{whole_letter, whole_index, RecordTestReadable, PreparesRecords};
 
 // A question answered no, or 0 and the test, with the first `len` bytes of `given` beside it.
-#[derive(Drop)]
+#[derive(Clone, Copy)]
 pub struct RecordsPrepared {
     pub stop: u8,
     pub test: records::RecordTest,

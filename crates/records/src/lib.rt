@@ -1,4 +1,5 @@
 // Records in cells: where one ends, its address and contents, the record of an address, what a test takes, totals, and new records.
+#![tactic(auto)]
 ghost use Rattle.std.specs.Prelude.{◌≡◌, map, reverse, ◌+◌, take, drop};
 ghost use Rattle.language.specs.Values.{same};
 ghost use Rattle.layout.specs.Components.{components_in, record_bytes, records_bytes, record_in, records_in};
@@ -12,7 +13,7 @@ ghost use Rattle.records.specs.Places.{Starts, Ends, Part, next_contents, BothWh
 ghost use Rattle.records.specs.Sequences.{until_records, stops_void, reached_records, FirstStoppable, RecordStoppable, RecordsCountable, TookRecords, Totalled};
 
 // Where a search ended: whether the record was there, and the records up to it, it included, with their cells.
-#[derive(Drop)]
+#[derive(Clone, Copy)]
 pub struct Found {
     pub found: bool,
     pub records: usize,
@@ -20,14 +21,14 @@ pub struct Found {
 }
 
 // A test of records: of their first components, or whether all components of one are those in the bytes beside it.
-#[derive(Drop)]
+#[derive(Clone, Copy)]
 pub enum RecordTest {
     First(matching::Test),
     Whole,
 }
 
 // How many records a test takes, with their cells; whether it was reached.
-#[derive(Drop)]
+#[derive(Clone, Copy)]
 pub struct Sequence {
     pub records: usize,
     pub bytes: usize,
@@ -35,7 +36,7 @@ pub struct Sequence {
 }
 
 // How many components and characters records have.
-#[derive(Drop)]
+#[derive(Clone, Copy)]
 pub struct Totals {
     pub parts: usize,
     pub chars: usize,

@@ -1,4 +1,5 @@
 // A run under a budget: the lent state is laid out, stepped and written back.
+#![tactic(auto)]
 ghost use Rattle.std.specs.Prelude.{length};
 ghost use Rattle.performing.specs.Stepping.{Steppable};
 ghost use Rattle.running.specs.Running.{RanTo, Runnable, RanOn};
@@ -6,7 +7,7 @@ ghost use Rattle.running.specs.Running.{RanTo, Runnable, RanOn};
 use layout::StatePlaces;
 
 // The answer of a run: 81 for a pause, or the number of a stop; and how many instructions were completed.
-#[derive(Drop)]
+#[derive(Clone, Copy)]
 pub struct Ran {
     pub number: u8,
     pub count: u32,

@@ -1,4 +1,5 @@
 // How far separators and comments, a word, and a text go in a text of bytes, from a place on.
+#![tactic(auto)]
 ghost use Rattle.std.specs.Prelude.{◌≡◌, cond, ◌+◌, ◌≤◌, ◌<◌, length, get_or};
 ghost use Rattle.characters.specs.Characters.{known_marks};
 ghost use Rattle.syntax.specs.Items.{sort_of, sort_number, same_sort, pair_of, ends_text, takes_next, allows, closes};
@@ -21,7 +22,7 @@ pub const TEXT: u8 = 4;
 pub const WRONG: u8 = 5;
 
 // The place where separators and comments end, or where a comment begins that stays open.
-#[derive(Drop)]
+#[derive(Clone, Copy)]
 pub struct Gap {
     pub at: usize,
     pub open: bool,
@@ -29,7 +30,7 @@ pub struct Gap {
 
 // The bytes of a text after its apostrophe: the place of its end, the count of its characters, whether all are allowed, and
 // whether an apostrophe closes it.
-#[derive(Drop)]
+#[derive(Clone, Copy)]
 pub struct Scan {
     pub end: usize,
     pub count: usize,

@@ -1,4 +1,5 @@
 // A short part of a refused text that load refuses with the same number.
+#![tactic(auto)]
 ghost use Rattle.std.specs.Prelude.{◌≡◌, length, take};
 ghost use Rattle.shorten_calls.specs.Shortening.{part};
 ghost use Rattle.shortening.specs.Trying.{Ending, LineStart, Exchangeable, exchanged, Cuttable, Tried, Tryable, Rounded, Finished, Givable, Given, Refused, Shortens};

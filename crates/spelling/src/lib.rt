@@ -1,4 +1,5 @@
 // The characters of an item: written out, and compared with others.
+#![tactic(auto)]
 ghost use Rattle.std.specs.Prelude.{◌≡◌, ◌+◌, ◌≤◌, length};
 ghost use Rattle.lists.specs.Lists.{bytes_equal};
 ghost use Rattle.syntax.specs.Items.{char_of};

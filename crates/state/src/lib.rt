@@ -1,4 +1,5 @@
 // The state at work: what instructions read of it, and the changes that they make in it. Pool and ends hold its strings, `nums` its scalars.
+#![tactic(auto)]
 ghost use Rattle.std.specs.Prelude.{◌≡◌, true, ◌+◌, ◌-◌, length, get_or};
 ghost use Rattle.language.specs.Letters.Letter.{I, Q};
 ghost use Rattle.machine.specs.Changes.{with_plus, minus_unless, into, printed, past};

@@ -1,4 +1,5 @@
 // The contents of frames, and a state at rest laid out from them.
+#![tactic(auto)]
 ghost use Rattle.std.specs.Prelude.{◌≡◌, [], ◌≤◌, T, length, get_or, replicate};
 ghost use Rattle.language.specs.Limits as limit;
 ghost use Rattle.state_frames.specs.Frames.{head, file, sound_text, frames_in};
@@ -10,7 +11,7 @@ use layout::StatePlaces;
 use state_lines::Kinds;
 
 // Where a string stands in a row.
-#[derive(Drop)]
+#[derive(Clone, Copy)]
 struct Span {
     from: usize,
     to: usize,

@@ -1,4 +1,5 @@
 // Lines of frames: a frame written as a line; question 68, of one line and of a text.
+#![tactic(auto)]
 ghost use Rattle.std.specs.Prelude.{◌≡◌, [], ◌∷◌, ◌++◌, ◌+◌, ◌*◌, ◌-◌, ◌/◌, ◌%◌, ◌≤◌, ◌<◌, length};
 ghost use Rattle.cells.specs.Cells.{pasted, Number};
 ghost use Rattle.state_frames.specs.Hexadecimal.{two_digits, hexadecimal};
@@ -8,7 +9,7 @@ ghost use Rattle.state_lines.specs.Writing.{FrontRoom, FrameRoom, EndRoom, Lengt
 ghost use Rattle.state_frames.specs.Saved.{file_contents};
 
 // The kinds of frames. A value of this type holds nothing.
-#[derive(Drop)]
+#[derive(Clone, Copy)]
 pub struct Kinds {}
 
 impl Kinds {

@@ -1,4 +1,5 @@
 // The reader: a state at rest from lines of frames.
+#![tactic(auto)]
 ghost use Rattle.std.specs.Prelude.{◌≡◌, [], ◌∷◌, length};
 ghost use Rattle.language.specs.Limits as limit;
 ghost use Rattle.layout.specs.Memory.{state_of};

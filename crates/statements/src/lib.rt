@@ -1,4 +1,5 @@
 // A statement's items and what is at fault in them: the token that ends it, the lower of two places at fault, and the verdict that they give.
+#![tactic(auto)]
 ghost use Rattle.std.specs.Prelude.{◌≡◌, not, ◌&&◌, eqb, ltb, min, ◌<◌};
 ghost use Rattle.statements.specs.Checks.{token_code, code_verdict};
 ghost use Rattle.statements.specs.Faults.{lower, decided, verdict_of, then};
@@ -16,14 +17,14 @@ const LENGTHS: usize = 131072;
 pub const CLEAN: usize = 196608;
 
 // Of a question: no place is at fault, or the lowest of those that are.
-#[derive(Drop)]
+#[derive(Clone, Copy)]
 pub enum Fault {
     Clear,
     At(usize),
 }
 
 // Of some questions: all are answered yes, or the number of the first no and its place.
-#[derive(Drop)]
+#[derive(Clone, Copy)]
 pub enum Verdict {
     Yes,
     No(u8, usize),

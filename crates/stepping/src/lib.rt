@@ -1,4 +1,5 @@
 // One step: the next instruction is read, carried out, and followed by the one that comes next.
+#![tactic(auto)]
 ghost use Rattle.std.specs.Prelude.{◌≡◌, ◌≤◌, length};
 ghost use Rattle.language.specs.Instructions.{operator_of, number_of};
 ghost use Rattle.language.specs.Program.Op.{STOP};

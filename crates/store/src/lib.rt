@@ -1,5 +1,6 @@
 // The working store of 99 strings: readers that lend, edits at both ends of a string, and moves between strings. A string costs what is
 // moved of it, whatever the others hold.
+#![tactic(auto)]
 ghost use Rattle.std.specs.Prelude.{◌≡◌, ◌-◌, length, take, drop};
 ghost use Rattle.cells.specs.Cells.{pasted};
 ghost use Rattle.gaps.specs.Pool.{abs, string, Holds};

@@ -1,4 +1,5 @@
 // The list of a switch: one pass over the items after its operator gives the faults of its questions, the marks of its labels and the places of its texts.
+#![tactic(auto)]
 ghost use Rattle.std.specs.Prelude.{◌≡◌, cond, [], ◌∷◌};
 ghost use Rattle.statements.specs.StatementAt.{fault_of};
 ghost use Rattle.statements.specs.declared.Fault.TheVariants.{At};
@@ -12,7 +13,7 @@ use statements::{Fault, lower, stops, worse};
 
 // A list: the lowest place at fault of question 02, how many words it has, the first of them that is an entry in excess, the questions 14 to 16 with its
 // items, and where the next statement begins, unless this is the last.
-#[derive(Drop)]
+#[derive(Clone, Copy)]
 pub struct Listed {
     pub fault: Fault,
     pub words: usize,
@@ -23,7 +24,7 @@ pub struct Listed {
 }
 
 // An item that another follows: whether it is a word, whether it is a name, and the place of its colon or 0.
-#[derive(Drop)]
+#[derive(Clone, Copy)]
 struct Before {
     word: bool,
     name: bool,

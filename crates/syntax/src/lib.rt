@@ -1,1 +1,2 @@
 // The loader's specification: from a text to its program or its refusal; no code.
+#![tactic(auto)]

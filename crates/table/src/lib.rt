@@ -1,4 +1,5 @@
 // Reading a program table, "a table of 8,192 numbers of 32 bits": the only code that reads its cells. docs/LAYOUT.md has their places.
+#![tactic(auto)]
 ghost use Rattle.std.specs.Prelude.{◌≡◌, [], ◌∷◌, ◌+◌, ◌*◌, ◌%◌, ◌≤◌, ◌<◌, length};
 ghost use Rattle.lists.specs.Lists.{bytes_equal};
 ghost use Rattle.language.specs.Program.{meets};
@@ -14,7 +15,7 @@ ghost use Rattle.layout.specs.Places.{instruction_count, label_count, switch_cou
 use language::Machine;
 use layout::TablePlaces;
 
-#[derive(Drop)]
+#[derive(Clone, Copy)]
 pub enum Letter {
     A,
     B,
@@ -33,7 +34,7 @@ pub enum Letter {
 // "An argument is an indexed letter, a label, a class, a text, a number or nothing." A label and a switch are their places, a class is its
 // mask (L 1, D 2, B 4, R 8), and a number its value + 8,388,607. A text is its reference: 0 for none, its byte for one character, otherwise 256 and
 // its place in the table of texts.
-#[derive(Drop)]
+#[derive(Clone, Copy)]
 pub enum Argument {
     Nothing,
     Indexed(Letter, usize),

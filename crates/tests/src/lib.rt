@@ -1,4 +1,5 @@
 // Reading the values of a test: "A move first reads its test's values".
+#![tactic(auto)]
 ghost use Rattle.std.specs.Prelude.{length};
 ghost use Rattle.language.specs.Letters.Letter.{B, T};
 ghost use Rattle.language.specs.Program.Arg.{letter};
@@ -10,7 +11,7 @@ ghost use Rattle.table.specs.Denote.{letter_of, arg_of};
 ghost use Rattle.tests.specs.Prepares.{ExprReadable, LetterReadable, TextReadable, TestReadable, Prepares, NumberPrepares, CountPrepares, TextPrepares};
 
 // A question answered no, or 0 and the test, with the first `len` bytes of `given` beside it.
-#[derive(Drop)]
+#[derive(Clone, Copy)]
 pub struct Prepared {
     pub stop: u8,
     pub test: matching::Test,

@@ -1,4 +1,5 @@
 // Between expressions and files: WSTAW and POBIERZ; and whether new records have room.
+#![tactic(auto)]
 ghost use Rattle.std.specs.Prelude.{◌≡◌, cond, length};
 ghost use Rattle.language.specs.Limits as limit;
 ghost use Rattle.language.specs.Program.Arg.{nothing};

@@ -1,4 +1,5 @@
 // The converter: an accepted section in the other edition, "keyword by keyword, leaving labels, texts and comments".
+#![tactic(auto)]
 ghost use Rattle.std.specs.Prelude.{◌≡◌, [], true, ◌≤◌, ◌<◌, length};
 ghost use Rattle.appending.specs.Appending.{Written};
 ghost use Rattle.calls.specs.Filling.{Gives};
@@ -17,7 +18,7 @@ use words::append_other;
 
 // How far a text is read and written: the place from which the next item is sought, whether the operator of the statement there is still to come, the
 // place up to which all is written, and how many bytes were.
-#[derive(Drop)]
+#[derive(Clone, Copy)]
 struct Pass {
     next: usize,
     awaited: bool,

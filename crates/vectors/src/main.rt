@@ -1,4 +1,5 @@
 // Runs each vector of standard input through the program and compares what it prints. tools/pack-vectors has the form of the vectors.
+#![tactic(auto)]
 ghost use Rattle.std.specs.Prelude.{◌≡◌, ◌≤◌, min, length, drop};
 ghost use Rattle.vectors.specs.Vectors.{Buffers, prints_as, passes_as};
 

@@ -1,4 +1,5 @@
 // Words of a text: identifiers, classes, numbers, indexed letters and keywords, by their bytes.
+#![tactic(auto)]
 ghost use Rattle.std.specs.Prelude.{◌≡◌, true, false, cond, ◌||◌, ◌+◌, ◌-◌, ◌*◌, ◌≤◌, ◌<◌, length};
 ghost use Rattle.appending.specs.Appending.{Appends};
 ghost use Rattle.characters.specs.Characters.{is_capital, is_digit};
@@ -44,20 +45,20 @@ const ENGLISH_SLOTS: [u8; 128] =
     *b"(+((((1(((?(((.()*=(I(((((5(((((O((((@(((((20U(((:(((D(((K(((((H(B(((,(8((<F((P6T(((;((SM((LG((((N(Q(J-(ER94(7((C(((((((3(((A>/(";
 
 // A number as the table of a program has it, its value + 8,388,607; or no number in range.
-#[derive(Drop)]
+#[derive(Clone, Copy)]
 pub enum Numeral {
     Not,
     Code(u32),
 }
 
 // An indexed letter: the letter's place among the twelve, and the index.
-#[derive(Drop)]
+#[derive(Clone, Copy)]
 pub enum Lettered {
     Not,
     At(u8, u8),
 }
 
-#[derive(Drop)]
+#[derive(Clone, Copy)]
 pub enum Keyword {
     None,
     Unknown,
@@ -71,7 +72,7 @@ pub enum Keyword {
 }
 
 // The keyword that a word is, and whether the word is the Polish edition's own or the English one's.
-#[derive(Drop)]
+#[derive(Clone, Copy)]
 pub struct Known {
     pub keyword: Keyword,
     pub polish: bool,

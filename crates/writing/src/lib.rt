@@ -1,5 +1,6 @@
 // Writing a program table, "a table of 8,192 numbers of 32 bits", cell by cell while a text is read: the only code that writes its cells.
 // docs/LAYOUT.md has their places. A text or a number goes to its table before the argument that refers to it.
+#![tactic(auto)]
 ghost use Rattle.std.specs.Prelude.{cond, ◌≤◌, length};
 ghost use Rattle.cells.specs.Cells.{Number};
 ghost use Rattle.writing.specs.Writing.{with_text, with_number, with_label, with_instr, with_switch, with_entry, with_argument, with_entry_label, label_of, Cleared, Changes, Writes, Room, WordRoom, LabelRoom, InstrRoom, SwitchRoom, EntryRoom, ArgumentAt, EntryAt, IsNumber, IsInstr, IsEntry, IsArg};

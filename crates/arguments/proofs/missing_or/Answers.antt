@@ -1,0 +1,13 @@
+-- `arguments::missing_or` meets its contract.
+use borrow.Author.Rules.{rules}
+use borrow.Author.Tests.{lt-ltb, le-ltb}
+use Rattle.arguments.specs.Arguments.{missing_or}
+use Rattle.arguments.proofs.missing_or.Goals as goal
+
+pub returns-then-count-wide : goal.returns-then-count-wide
+unfolding missing_or
+returns-then-count-wide c = rw (← c.least.ensures.0, ← c.wide.ensures.is, lt-ltb _ _ c.if-count-wide.true)
+
+pub returns : goal.returns
+unfolding missing_or
+returns c = rw (← c.least.ensures.0, ← c.wide.ensures.is, le-ltb _ _ c.if-count-wide.false)

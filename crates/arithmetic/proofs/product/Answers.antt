@@ -1,0 +1,30 @@
+-- `arithmetic::product` meets its contract.
+use borrow.Author.Rules.{rules}
+use mathlib.Core.Path.{ap, ◌∙◌}
+use mathlib.Core.Bool.{Bool}
+use Rattle.layout.specs.Cells.{uncode}
+use Rattle.arithmetic.specs.Arithmetic.{negative, differ}
+use Rattle.arithmetic.proofs.Numbers.{product-most, product-right}
+use Rattle.arithmetic.proofs.product.Goals as goal
+
+pub size-requires : goal.size-requires
+size-requires c =
+    let preᶜ = c.requires in
+    preᶜ.left
+
+pub size-requires-2 : goal.size-requires-2
+size-requires-2 c =
+    let preᶜ = c.requires in
+    preᶜ.right
+
+pub overflow_mul-size : goal.overflow_mul-size
+overflow_mul-size c = record { fits = product-most c.size.ensures.most c.size-2.ensures.most }
+
+pub returns : goal.returns
+returns c =
+    let sizeᶜ = c.size in
+    let differsᶜ = c.differs-minus in
+    let is-negative2ᶜ = c.is_negative-2 in
+    let is-negativeᶜ = c.is_negative in
+    let argsᶜ = c.args in
+    product-right sizeᶜ.ensures c.size-2.ensures (differsᶜ.ensures ∙ ap (λ (t : Bool). differ t is-negative2ᶜ.result) is-negativeᶜ.ensures ∙ ap (λ (t : Bool). differ (negative (uncode argsᶜ.a)) t) is-negative2ᶜ.ensures) c.with_sign.ensures

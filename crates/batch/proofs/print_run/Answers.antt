@@ -1,0 +1,14 @@
+-- `batch::print_run` meets its contract.
+use mathlib.Core.Path.{refl}
+use Rattle.batch.proofs.Lines.{line-place, end-room, all-printed}
+use borrow.Author.Rules.{rules}
+use Rattle.batch.proofs.print_run.Goals as goal
+
+pub line-line-requires : goal.line-line-requires
+line-line-requires c = line-place c.requires c.next.ensures
+
+pub put_end-requires : goal.put_end-requires
+put_end-requires c = end-room c.requires c.next.ensures c.line-line.ensures c.output.ensures refl c.put-a.ensures c.put-b.ensures
+
+pub returns : goal.returns
+returns c = all-printed c.requires c.next.ensures c.line-line.ensures c.output.ensures refl c.put-a.ensures c.put-b.ensures c.put_end.ensures

@@ -1,0 +1,18 @@
+-- `blocks::put_chars` meets its contract.
+use borrow.Author.Rules.{rules}
+use native.Mathlib.Omega.{arith}
+use mathlib.Core.Path.{◌≡◌, refl}
+use Prim.Native.Nat.{◌-◌, ◌≤◌}
+use lib.ListN.{length}
+use lib.Seq.{paste, paste-zero}
+use Rattle.layout.specs.Cells.{fours}
+use Rattle.layout.specs.CellLaws.{length-fours}
+use Rattle.cells.proofs.Laws.{put-end}
+use Rattle.blocks.proofs.Laws.{chars-turn}
+use Rattle.blocks.proofs.put_chars.Given as goal
+
+abbrev pub invariant-loop-q : goal.invariant-loop-q
+invariant-loop-q l = (l.q ≤ 15) × (length l.table ≡ length l.initial.table) × (l.table ≡ paste l.initial.table l.at (fours 15 l.word) l.q)
+
+abbrev pub decreases-loop-q : goal.decreases-loop-q
+decreases-loop-q l = 15 - l.q

@@ -1,0 +1,10 @@
+-- `characters::is_known` meets its contract.
+use borrow.Author.Rules.{rules}
+use Rattle.characters.proofs.Tables.{known-listed, known_by}
+use Rattle.characters.proofs.is_known.Goals as goal
+
+pub bounds-marks-b : goal.bounds-marks-b
+bounds-marks-b c = known-listed _ (search rules) c.requires
+
+pub returns : goal.returns
+returns c = known_by _ (search rules) c.requires

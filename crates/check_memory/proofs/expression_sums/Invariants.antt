@@ -1,0 +1,12 @@
+-- `check_memory::expression_sums` meets its contract.
+use borrow.Author.Rules.{rules}
+use native.Mathlib.Omega.{arith}
+use Prim.Native.Nat.{◌-◌}
+use Rattle.check_memory.proofs.Loops.{named, ExpressionsAdded, expressions-none, whole-expression, taken-all, expressions-next, expressions-sums}
+use Rattle.check_memory.proofs.expression_sums.Given as goal
+
+abbrev pub invariant-loop-i : goal.invariant-loop-i
+invariant-loop-i l = ExpressionsAdded l.m l.i l.parts l.chars
+
+abbrev pub decreases-loop-i : goal.decreases-loop-i
+decreases-loop-i l = 32 - l.i

@@ -1,0 +1,55 @@
+-- `check_memory::file_sums` meets its contract.
+use borrow.Author.Rules.{rules}
+use native.Mathlib.Omega.{arith}
+use Prim.Native.Nat.{◌-◌}
+use Rattle.check_memory.proofs.Loops.{named, HalvesAdded, halves-none, whole-half, count_is, halves-next, halves-sums}
+use Rattle.check_memory.proofs.file_sums.Goals as goal
+
+pub loop-i-init : goal.loop-i-init
+loop-i-init c = halves-none c.args.m.now
+
+pub string_at-v-requires : goal.string_at-v-requires
+string_at-v-requires c = named c.requires.readable (omega arith)
+
+pub totals_of-t-requires : goal.totals_of-t-requires
+totals_of-t-requires c = whole-half c.requires.whole c.loop-i-test.true c.string_at-v.ensures
+
+pub count-q-requires : goal.count-q-requires
+count-q-requires c =
+    let pre = c.requires in
+    let loop-test = c.loop-i-test in
+    record { whole = whole-half pre.whole loop-test.true c.string_at-v.ensures; fitting = tt }
+
+pub overflow_add-parts : goal.overflow_add-parts
+overflow_add-parts c =
+    let loop = c.loop-i in
+    let string-at = c.string_at-v in
+    let totals-of = c.totals_of-t in
+    omega (arith, loop.invariant.parts.most, totals-of.ensures.parts_most, string-at.ensures.small)
+
+pub overflow_add-chars : goal.overflow_add-chars
+overflow_add-chars c =
+    let loop = c.loop-i in
+    let string-at = c.string_at-v in
+    let totals-of = c.totals_of-t in
+    omega (arith, loop.invariant.chars.most, totals-of.ensures.chars_most, string-at.ensures.small)
+
+pub overflow_add-count : goal.overflow_add-count
+overflow_add-count c =
+    let loop = c.loop-i in
+    let string-at = c.string_at-v in
+    let count = c.count-q in
+    omega (arith, loop.invariant.count.most, count_is count.ensures, string-at.ensures.small)
+
+pub loop-i-preserved : goal.loop-i-preserved
+loop-i-preserved c =
+    let pre = c.requires in
+    let loop = c.loop-i in
+    let loop-test = c.loop-i-test in
+    let string-at = c.string_at-v in
+    let totals-of = c.totals_of-t in
+    let count = c.count-q in
+    halves-next pre.whole loop-test.true string-at.ensures loop.invariant totals-of.ensures count.ensures
+
+pub returns : goal.returns
+returns c = halves-sums c.loop-i.invariant c.loop-i-test.false

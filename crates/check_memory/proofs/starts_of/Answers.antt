@@ -1,0 +1,29 @@
+-- `check_memory::starts_of` meets its contract.
+use borrow.Author.Rules.{rules}
+use native.Mathlib.Omega.{arith}
+use Prim.Native.Nat.{◌-◌}
+use Rattle.check_memory.proofs.Starts.{Starting, starting-none, starting-next, started}
+use Rattle.layout.specs.Places as layout
+use Rattle.check_memory.proofs.starts_of.Goals as goal
+
+pub loop-i-init : goal.loop-i-init
+loop-i-init c = starting-none c.args.m.now c.args.starts.now c.requires.places
+
+pub write-requires : goal.write-requires
+write-requires c = record { room = omega (arith, c.loop-i.invariant.count); most = omega (arith, c.loop-i.invariant.small) }
+
+pub two_at-at-requires : goal.two_at-at-requires
+two_at-at-requires c = omega (arith, c.requires.long)
+
+pub overflow_add-at : goal.overflow_add-at
+overflow_add-at c = omega (arith, c.loop-i.invariant.small, c.two_at-at.ensures.most)
+
+pub loop-i-preserved : goal.loop-i-preserved
+loop-i-preserved c =
+    let loop = c.loop-i in
+    let loop-test = c.loop-i-test in
+    let write = c.write in
+    starting-next loop.invariant loop-test.true c.two_at-at.ensures write.ensures
+
+pub returns : goal.returns
+returns c = started c.loop-i.invariant c.loop-i-test.false

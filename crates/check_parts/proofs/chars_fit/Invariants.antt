@@ -1,0 +1,16 @@
+-- `check_parts::chars_fit` meets its contract.
+use borrow.Author.Rules.{rules}
+use mathlib.Core.Path.{◌≡◌, refl}
+use Prim.Native.Nat.{◌-◌, ◌≤◌}
+use native.Mathlib.Omega.{arith}
+use borrow.Author.Tests.{not-true, not-false}
+use Rattle.packed.specs.Packed.{table_of}
+use Rattle.check_parts.specs.Parts.{passes, char_fits, chars_fit}
+use Rattle.check_parts.specs.PassLaws.{loop-stop, loop-on, loop-end}
+use Rattle.check_parts.proofs.chars_fit.Given as goal
+
+abbrev pub invariant-loop-j : goal.invariant-loop-j
+invariant-loop-j l = (l.j ≤ 60) × (passes (char_fits (table_of l.table) l.at l.n l.name) (60 - l.j) l.j ≡ chars_fit (table_of l.table) l.at l.n l.name)
+
+abbrev pub decreases-loop-j : goal.decreases-loop-j
+decreases-loop-j l = 60 - l.j

@@ -1,0 +1,17 @@
+-- `check_parts::zeros` meets its contract.
+use borrow.Author.Rules.{rules}
+use mathlib.Core.Path.{◌≡◌, refl, ap}
+use Prim.Native.Nat.{ℕ, ◌-◌}
+use lib.Dec.{eqb}
+use borrow.Author.Tests.{eq-eqb, ne_eqb}
+use Rattle.layout.specs.Cells.{cell}
+use Rattle.packed.specs.Packed.{table_of}
+use Rattle.check_parts.specs.Parts.{passes, zeros}
+use Rattle.check_parts.specs.PassLaws.{loop-stop, loop-on, loop-end}
+use Rattle.check_parts.proofs.zeros.Given as goal
+
+abbrev pub invariant-loop-k : goal.invariant-loop-k
+invariant-loop-k l = passes (λ i. eqb (cell (table_of l.table) i) 0) (l.to - l.k) l.k ≡ zeros (table_of l.table) l.from l.to
+
+abbrev pub decreases-loop-k : goal.decreases-loop-k
+decreases-loop-k l = l.to - l.k

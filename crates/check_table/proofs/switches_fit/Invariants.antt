@@ -1,0 +1,16 @@
+-- `check_table::switches_fit` meets its contract.
+use borrow.Author.Rules.{rules}
+use mathlib.Core.Path.{◌≡◌}
+use Prim.Native.Nat.{◌*◌, ◌-◌, ◌≤◌}
+use native.Mathlib.Omega.{arith}
+use borrow.Author.Tests.{not-true, not-false}
+use Rattle.packed.specs.Packed.{table_of}
+use Rattle.check_table.specs.Checks.{switch_fits, switches_fit}
+use Rattle.check_table.proofs.Turns.{switches-start, switches-stop, switches_on, switches-end}
+use Rattle.check_table.proofs.switches_fit.Given as goal
+
+abbrev pub invariant-loop-k : goal.invariant-loop-k
+invariant-loop-k l = (l.k ≤ l.n) × (l.from ≤ 255 * l.k) × (switches_fit (table_of l.table) (l.n - l.k) l.k l.from ≡ switches_fit (table_of l.table) l.n 0 0)
+
+abbrev pub decreases-loop-k : goal.decreases-loop-k
+decreases-loop-k l = l.n - l.k

@@ -1,0 +1,40 @@
+-- `class_running::run_pupils` meets its contract.
+use Rattle.class_running.proofs.Sitting.{Sitting, sit-begin, few, a-budget, seated, three-cells, end-within, sit-next, sit-end}
+use native.Mathlib.Omega.{arith}
+use Prim.Native.Nat.{◌-◌}
+use lib.ListN.{length}
+use borrow.Author.Rules.{rules}
+use Rattle.class_running.proofs.run_pupils.Goals as goal
+
+pub loop-k-init : goal.loop-k-init
+loop-k-init c = sit-begin c.requires
+
+pub overflow_add-end : goal.overflow_add-end
+overflow_add-end c = omega (arith, end-within c.requires c.loop-k.invariant c.loop-k-test.true c.read.ensures)
+
+pub slice_bounds-run_pupil-end : goal.slice_bounds-run_pupil-end
+slice_bounds-run_pupil-end c = end-within c.requires c.loop-k.invariant c.loop-k-test.true c.read.ensures
+
+pub offset_bounds-budgets-k : goal.offset_bounds-budgets-k
+offset_bounds-budgets-k c = omega (arith, few c.requires c.loop-k.invariant c.loop-k-test.true)
+
+pub bounds-budgets-k : goal.bounds-budgets-k
+bounds-budgets-k c = a-budget c.requires c.loop-k.invariant c.loop-k-test.true
+
+pub overflow_mul-k : goal.overflow_mul-k
+overflow_mul-k c = omega (arith, few c.requires c.loop-k.invariant c.loop-k-test.true)
+
+pub run_pupil-t-requires : goal.run_pupil-t-requires
+run_pupil-t-requires c = seated c.requires c.loop-k.invariant c.loop-k-test.true
+
+pub overflow_mul-k-in-loop-k : goal.overflow_mul-k-in-loop-k
+overflow_mul-k-in-loop-k c = omega (arith, few c.requires c.loop-k.invariant c.loop-k-test.true)
+
+pub write_result-requires : goal.write_result-requires
+write_result-requires c = three-cells c.requires c.loop-k.invariant c.loop-k-test.true
+
+pub loop-k-preserved : goal.loop-k-preserved
+loop-k-preserved c = sit-next c.requires c.loop-k.invariant c.loop-k-test.true c.read.ensures c.run_pupil-t.ensures c.write_result.ensures c.run_pupil-t.auto.1.1.1.0 c.write_result.auto.0 c.run_pupil-t.auto.1.1.1.1.0
+
+pub returns : goal.returns
+returns c = sit-end c.requires c.loop-k.invariant c.loop-k-test.false

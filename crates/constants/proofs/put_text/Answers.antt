@@ -1,0 +1,36 @@
+-- `constants::put_text` meets its contract.
+use borrow.Author.Rules.{rules}
+use native.Mathlib.Omega.{arith}
+use lib.ListN.{length-take}
+use Rattle.tests.proofs.Values.{copied-in}
+use Rattle.constants.proofs.Rows.{text_put}
+use Rattle.constants.proofs.put_text.Goals as goal
+
+pub put_text-n-requires : goal.put_text-n-requires
+put_text-n-requires c =
+    let preᶜ = c.requires in
+    record { long = preᶜ.long; below = preᶜ.good.below; room = omega arith }
+
+pub slice_bounds-w-end : goal.slice_bounds-w-end
+slice_bounds-w-end c =
+    let put-textᶜ = c.put_text-n in
+    copied-in put-textᶜ.ensures
+
+pub slice_bounds-put_word-end : goal.slice_bounds-put_word-end
+slice_bounds-put_word-end c =
+    let put-textᶜ = c.put_text-n in
+    simp length-take (omega (arith, copied-in put-textᶜ.ensures))
+
+pub put_word-requires : goal.put_word-requires
+put_word-requires c =
+    let put-textᶜ = c.put_text-n in
+    let preᶜ = c.requires in
+    record { room = simp length-take (omega (arith, put-textᶜ.ensures.short, preᶜ.room)); most = simp length-take (omega (arith, put-textᶜ.ensures.short)) }
+
+pub returns : goal.returns
+returns c =
+    let put-textᶜ = c.put_text-n in
+    let preᶜ = c.requires in
+    let argsᶜ = c.args in
+    let put-wordᶜ = c.put_word in
+    text_put put-textᶜ.ensures preᶜ.good.some argsᶜ.out.now put-wordᶜ.ensures

@@ -1,0 +1,24 @@
+-- `declaring::put_labels` meets its contract.
+use borrow.Author.Rules.{rules}
+use native.Mathlib.Omega.{arith}
+use Prim.Native.Nat.{◌-◌}
+use Rattle.declaring.proofs.Naming.{Putting, putting-first, putting-done, nameable, putting-more}
+use Rattle.declaring.proofs.put_labels.Goals as goal
+
+pub loop-k-init : goal.loop-k-init
+loop-k-init c = putting-first (c.requires)
+
+pub read-requires : goal.read-requires
+read-requires c = omega (arith, c.loop-k-test.true, c.requires.named.most)
+
+pub put_name-requires : goal.put_name-requires
+put_name-requires c = nameable (c.requires) c.loop-k.invariant c.loop-k-test.true c.read.ensures.is
+
+pub loop-k-smaller : goal.loop-k-smaller
+loop-k-smaller c = omega (arith, c.loop-k-test.true)
+
+pub loop-k-preserved : goal.loop-k-preserved
+loop-k-preserved c = putting-more (c.requires) c.loop-k.invariant c.loop-k-test.true c.read.ensures.is c.put_name.ensures c.put_name.auto.1.1.1.0
+
+pub returns : goal.returns
+returns c = putting-done (c.requires) c.loop-k.invariant c.loop-k-test.false

@@ -1,0 +1,16 @@
+-- `declaring_switches::judge_switch` meets its contract.
+use Rattle.declaring_switches.proofs.Texts.{judged-switch}
+use borrow.Author.Rules.{rules}
+use Rattle.declaring_switches.proofs.judge_switch.Goals as goal
+
+pub switch_beyond-a-requires : goal.switch_beyond-a-requires
+switch_beyond-a-requires c = c.requires.held.holds.long
+
+pub enter_texts-b-requires : goal.enter_texts-b-requires
+enter_texts-b-requires c = c.requires
+
+pub lower-requires-2 : goal.lower-requires-2
+lower-requires-2 c = c.enter_texts-b.auto.1.1.0
+
+pub returns : goal.returns
+returns c = judged-switch c.requires c.enter_texts-b.ensures c.switch_beyond-a.ensures c.lower.ensures c.lower-2.ensures

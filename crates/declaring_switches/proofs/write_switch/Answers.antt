@@ -1,0 +1,21 @@
+-- `declaring_switches::write_switch` meets its contract.
+use borrow.Author.Rules.{rules}
+use lib.ListN.{length-set}
+use mathlib.Core.Path.{◌∙◌}
+use Rattle.declaring_switches.proofs.Switches.{room-for-switch, switch-index, listing, switch-written}
+use Rattle.declaring_switches.proofs.write_switch.Goals as goal
+
+pub switches-n-requires : goal.switches-n-requires
+switches-n-requires c = c.requires.held.holds.long
+
+pub put_switch-requires : goal.put_switch-requires
+put_switch-requires c = room-for-switch c.requires
+
+pub put_entries-requires : goal.put_entries-requires
+put_entries-requires c = listing c.requires c.put_switch.ensures
+
+pub bounds-switches-n : goal.bounds-switches-n
+bounds-switches-n c = switch-index c.requires c.switches-n.ensures.is
+
+pub returns : goal.returns
+returns c = switch-written c.requires c.put_switch.ensures c.put_entries.ensures c.switches-n.ensures.is

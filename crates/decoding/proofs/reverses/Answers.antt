@@ -1,0 +1,10 @@
+-- `decoding::reverses` meets its contract.
+use borrow.Author.Rules.{rules}
+use Rattle.decoding.proofs.Letters.{not-turning}
+use Rattle.decoding.proofs.reverses.Goals as goal
+
+pub returns-in_default : goal.returns-in_default
+returns-in_default c =
+    let argsᶜ = c.args in
+    let matchᶜ = c.in_default.in_default-own in
+    not-turning argsᶜ.l matchᶜ.keys4

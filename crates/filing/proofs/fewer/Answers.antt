@@ -1,0 +1,9 @@
+-- `filing::fewer` meets its contract.
+use borrow.Author.Rules.{rules}
+use Rattle.filing.proofs.fewer.Goals as goal
+
+pub returns : goal.returns
+returns c =
+    let write = c.write in
+    let read = c.read-n in
+    rw (write.ensures, read.ensures.is)

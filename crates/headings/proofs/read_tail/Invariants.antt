@@ -1,0 +1,14 @@
+-- `headings::read_tail` meets its contract.
+use borrow.Author.Rules.{rules}
+use native.Mathlib.Omega.{arith}
+use mathlib.Core.Path.{sym, ◌∙◌}
+use Prim.Native.Nat.{◌-◌}
+use lib.ListN.{length}
+use Rattle.headings.specs.HeadingLaws.{Reading, reads_first, reads_end, reads_on}
+use Rattle.headings.proofs.read_tail.Given as goal
+
+abbrev pub invariant-loop-first : goal.invariant-loop-first
+invariant-loop-first l = Reading l.text l.first l.worst l.more l.w l.i
+
+abbrev pub decreases-loop-first : goal.decreases-loop-first
+decreases-loop-first l = length l.text - l.i

@@ -1,0 +1,15 @@
+-- `heads::name_fault` meets its contract.
+use mathlib.Core.Path.{sym, ap, ◌∙◌}
+use mathlib.Core.Bool.{Bool, cond}
+use mathlib.Core.List.{[], ◌∷◌}
+use Prim.Native.Nat.{ℕ}
+use borrow.Author.Rules.{rules}
+use Rattle.syntax.specs.Verdict as spec
+use Rattle.heads.proofs.name_fault.Goals as goal
+
+pub returns-then-is_name : goal.returns-then-is_name
+returns-then-is_name c = let at : ℕ = c.args.at in ap (λ (b : Bool). fault_of (cond b [] (at ∷ []))) (sym c.if-is_name.true ∙ c.is_name.ensures)
+
+pub returns : goal.returns
+unfolding spec.lowest
+returns c = let at : ℕ = c.args.at in ap (λ (b : Bool). fault_of (cond b [] (at ∷ []))) (sym c.if-is_name.false ∙ c.is_name.ensures)

@@ -1,0 +1,12 @@
+-- `linking::code_fault` meets its contract.
+use borrow.Author.Rules.{rules}
+use native.Mathlib.Omega.{arith}
+use Prim.Native.Nat.{◌-◌}
+use Rattle.linking.proofs.Faults.{CodeGoing, code-first, code-asked, code-next, code-over}
+use Rattle.linking.proofs.code_fault.Given as goal
+
+abbrev pub invariant-loop-k : goal.invariant-loop-k
+invariant-loop-k l = CodeGoing l.text l.sw l.table l.kind l.named l.initial.g l.k l.g
+
+abbrev pub decreases-loop-k : goal.decreases-loop-k
+decreases-loop-k l = l.n - l.k

@@ -1,0 +1,14 @@
+-- `linking::switch_place` meets its contract.
+use borrow.Author.Rules.{rules}
+use native.Mathlib.Omega.{arith}
+use mathlib.Core.Path.{◌≡◌, sym, ◌∙◌}
+use Prim.Native.Nat.{◌-◌, ◌≤◌}
+use Rattle.finding.proofs.Found.{Missed, missed-none, missed_more}
+use Rattle.linking.proofs.Switches.{name_hit, place_found, place_none}
+use Rattle.linking.proofs.switch_place.Given as goal
+
+abbrev pub invariant-loop-k : goal.invariant-loop-k
+invariant-loop-k l = (l.k ≤ l.count) × Missed (name_hit l.text l.sw l.m) l.k
+
+abbrev pub decreases-loop-k : goal.decreases-loop-k
+decreases-loop-k l = l.count - l.k

@@ -1,0 +1,43 @@
+-- `loading::read_statements` meets its contract.
+use borrow.Author.Rules.{rules}
+use native.Mathlib.Omega.{arith}
+use mathlib.Core.Path.{refl, ◌∙◌}
+use Prim.Native.Nat.{◌-◌}
+use lib.ListN.{length}
+use Rattle.loading.proofs.Walking.{other, Looping, going-none, readable, going-refused, going-last, going_next}
+use Rattle.loading.proofs.read_statements.Goals as goal
+
+pub begin-p-requires : goal.begin-p-requires
+begin-p-requires c = search rules
+
+pub loop-q-init : goal.loop-q-init
+loop-q-init c = record { going = going-none c.requires c.begin-p.ensures; names_is = refl; table_is = refl; switches_is = refl; entries_is = refl }
+
+pub read_statement-a-requires : goal.read_statement-a-requires
+read_statement-a-requires c = search rules
+
+pub returns-in_default : goal.returns-in_default
+returns-in_default c = going-refused c.loop-q.invariant.going c.read_statement-a.ensures (other _ c.in_default.in_default-own.keys2)
+
+pub returns-then-a : goal.returns-then-a
+returns-then-a c = going-last c.loop-q.invariant.going c.read_statement-a.ensures c.in-Statement.q c.in-Statement.is c.if-a.true
+
+pub renewed-p-requires : goal.renewed-p-requires
+renewed-p-requires c = search rules
+
+pub loop-q-smaller : goal.loop-q-smaller
+loop-q-smaller c =
+    let e = c.read_statement-a.ensures.ends in
+    omega (arith, e.most, e.more c.if-a.false, c.loop-q.invariant.going.standing.inside)
+
+pub loop-q-preserved : goal.loop-q-preserved
+loop-q-preserved c =
+    let i = c.loop-q.invariant in
+    rw c.renewed-p.ensures
+    record {
+      going = going_next i.going c.read_statement-a.ensures c.in-Statement.q c.in-Statement.is c.if-a.false;
+      names_is = c.read_statement-a.auto.1.1.1.1.0 ∙ i.names_is;
+      table_is = c.read_statement-a.auto.1.1.1.1.1.0 ∙ i.table_is;
+      switches_is = c.read_statement-a.auto.1.1.1.1.1.1.0 ∙ i.switches_is;
+      entries_is = c.read_statement-a.auto.1.1.1.1.1.1.1.0 ∙ i.entries_is;
+    }

@@ -1,0 +1,25 @@
+-- `macro_calls::count_fault` meets its contract.
+use Rattle.macro_calls.proofs.Reading.{counts-few, counts-many, counts-right}
+use borrow.Author.Rules.{rules}
+use Rattle.macro_calls.proofs.count_fault.Goals as goal
+
+pub returns-then-given-taken : goal.returns-then-given-taken
+returns-then-given-taken c =
+    let argsᶜ = c.args in
+    let lowᶜ = c.low-given in
+    let highᶜ = c.high-taken in
+    counts-few argsᶜ.code.now argsᶜ.i argsᶜ.m lowᶜ.ensures.0 highᶜ.ensures.0 c.if-given-taken.true c.high.ensures.0
+
+pub returns-then-taken-given : goal.returns-then-taken-given
+returns-then-taken-given c =
+    let argsᶜ = c.args in
+    let lowᶜ = c.low-given in
+    let highᶜ = c.high-taken in
+    counts-many argsᶜ.code.now argsᶜ.i argsᶜ.m lowᶜ.ensures.0 highᶜ.ensures.0 c.if-taken-given.true c.high-then-taken-given.ensures.0
+
+pub returns : goal.returns
+returns c =
+    let argsᶜ = c.args in
+    let lowᶜ = c.low-given in
+    let highᶜ = c.high-taken in
+    counts-right argsᶜ.code.now argsᶜ.i argsᶜ.m lowᶜ.ensures.0 highᶜ.ensures.0 c.if-given-taken.false c.if-taken-given.false

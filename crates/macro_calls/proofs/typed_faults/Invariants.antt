@@ -1,0 +1,16 @@
+-- `macro_calls::typed_faults` meets its contract.
+use borrow.Author.Rules.{rules}
+use native.Mathlib.Omega.{arith}
+use Rattle.macro_calls.proofs.Walking.{PassingBodies, bodies-first, bodies-on, bodies-end}
+use Rattle.macro_calls.specs.Calls.{FirstsKept}
+use Rattle.macro_calls.specs.KeptLaws.{kept-all, kept_on, macros-kept}
+use mathlib.Core.Path.{◌≡◌, refl, ◌∙◌}
+use lib.ListN.{length}
+use Prim.Native.Nat.{◌-◌}
+use Rattle.macro_calls.proofs.typed_faults.Given as goal
+
+abbrev pub invariant-loop-k : goal.invariant-loop-k
+invariant-loop-k l = PassingBodies l.text l.code l.initial.names l.count l.k l.faults × (length l.names ≡ length l.initial.names) × FirstsKept l.count l.initial.names l.names
+
+abbrev pub decreases-loop-k : goal.decreases-loop-k
+decreases-loop-k l = l.count - l.k

@@ -1,0 +1,29 @@
+-- `macro_elements::next_element` meets its contract.
+use native.Mathlib.Omega.{arith}
+use borrow.Author.Rules.{rules}
+use Rattle.macro_elements.proofs.Linking.{same_length, text-next, mark-next, word_next, joined_next}
+use Rattle.macro_elements.proofs.next_element.Goals as goal
+
+pub item_at-t-requires : goal.item_at-t-requires
+item_at-t-requires c = omega (arith, same_length c.args.text.now c.args.marked.now c.requires.copy)
+
+pub text_end-requires : goal.text_end-requires
+text_end-requires c = let y = c.item_at-t.ensures.stands in let z = y.some (λ e. omega arith) in omega (arith, same_length c.args.text.now c.args.marked.now c.requires.copy, y.behind, y.most)
+
+pub returns-then-t-eq-TEXT : goal.returns-then-t-eq-TEXT
+returns-then-t-eq-TEXT c = rw c.alone.ensures (rw c.if-t-eq-TEXT.true at (text-next c.requires c.item_at-t.ensures _ _ c.byte_at-byte.ensures c.if-t-eq-TEXT.true c.text_end.ensures))
+
+pub returns-then-t-ne-WORD : goal.returns-then-t-ne-WORD
+returns-then-t-ne-WORD c = rw c.alone-then-t-ne-WORD.ensures (mark-next c.requires c.item_at-t.ensures _ c.byte_at-byte.ensures c.if-t-ne-WORD.true c.if-t-eq-TEXT.false)
+
+pub joined_end-behind-requires : goal.joined_end-behind-requires
+joined_end-behind-requires c = record { copy = c.requires.copy; size = c.requires.size; most = omega (arith, same_length c.args.text.now c.args.marked.now c.requires.copy, c.item_at-t.ensures.stands.most) }
+
+pub returns-then-behind-eq0 : goal.returns-then-behind-eq0
+returns-then-behind-eq0 c = rw c.alone-then-behind-eq0.ensures (rw c.if-t-ne-WORD.false at (word_next c.requires c.item_at-t.ensures c.if-t-ne-WORD.false _ c.byte_at-byte.ensures (rw c.if-behind-eq0.true at c.joined_end-behind.ensures)))
+
+pub overflow_add-result : goal.overflow_add-result
+overflow_add-result c = omega (arith, same_length c.args.text.now c.args.marked.now c.requires.copy, c.item_at-t.ensures.stands.most, c.requires.size)
+
+pub returns : goal.returns
+returns c = rw c.if-t-ne-WORD.false at (joined_next c.requires c.item_at-t.ensures c.if-t-ne-WORD.false c.joined_end-behind.ensures c.if-behind-eq0.false _ c.byte_at-byte.ensures)

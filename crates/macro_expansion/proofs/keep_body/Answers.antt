@@ -1,0 +1,15 @@
+-- `macro_expansion::keep_body` meets its contract.
+use borrow.Author.Rules.{rules}
+use borrow.Author.Tests.{not-false}
+use Rattle.macro_expansion.specs.ExpandLaws.{keeps-none, keeps-stored}
+use Rattle.macro_expansion.proofs.keep_body.Goals as goal
+
+pub returns-then-not-steady : goal.returns-then-not-steady
+returns-then-not-steady c =
+    let a = c.args in
+    keeps-none a.text.now a.code.now a.calls.now a.at.left a.at.cell a.steady
+
+pub returns : goal.returns
+returns c =
+    let a = c.args in
+    keeps-stored a.text.now a.code.now a.calls.now _ a.at.left a.at.cell a.steady (not-false _ c.if-not-steady.false-raw) c.remember.ensures

@@ -1,0 +1,15 @@
+-- `macro_heights::settle_loose` meets its contract.
+use native.Mathlib.Omega.{arith}
+use Rattle.macro_heights.proofs.Passes.{InPass, pass-first, pass_on, pass-end, loose-found, loose-climbs}
+use Rattle.macro_heights.specs.Levels.{loose_table}
+use lib.ListN.{length}
+use mathlib.Core.Path.{◌≡◌, refl}
+use Prim.Native.Nat.{◌-◌}
+use borrow.Author.Rules.{rules}
+use Rattle.macro_heights.proofs.settle_loose.Given as goal
+
+abbrev pub invariant-loop-k : goal.invariant-loop-k
+invariant-loop-k l = InPass (loose_table l.text l.code l.firsts l.count) l.count l.level l.k l.loose × (length l.loose ≡ length l.initial.loose)
+
+abbrev pub decreases-loop-k : goal.decreases-loop-k
+decreases-loop-k l = l.count - l.k

@@ -1,0 +1,43 @@
+-- `macro_heights::settle_quiet` meets its contract.
+use native.Mathlib.Omega.{arith}
+use Rattle.macro_heights.proofs.Passes.{InPass, pass-first, pass_on, pass-end, quiet-found, quiet-climbs}
+use Rattle.macro_heights.specs.Levels.{quiet_table}
+use lib.ListN.{length}
+use mathlib.Core.Path.{◌≡◌, refl}
+use Prim.Native.Nat.{◌-◌}
+use borrow.Author.Rules.{rules}
+use Rattle.macro_heights.proofs.settle_quiet.Goals as goal
+
+pub loop-k-init : goal.loop-k-init
+loop-k-init c =
+    let argsᶜ = c.args in
+    let preᶜ = c.requires in
+    (pass-first (quiet_table argsᶜ.text.now argsᶜ.code.now argsᶜ.firsts.now argsᶜ.count) argsᶜ.count argsᶜ.level preᶜ.below, refl)
+
+pub quiet_body-height-requires : goal.quiet_body-height-requires
+quiet_body-height-requires c =
+    let preᶜ = c.requires in
+    record { low = omega (arith, c.number_at.ensures.1); singles_are = preᶜ.singles_are }
+
+pub settle-requires : goal.settle-requires
+settle-requires c =
+    let loopᶜ = c.loop-k in
+    let loop-testᶜ = c.loop-k-test in
+    let preᶜ = c.requires in
+    (omega (arith, loopᶜ.invariant.0.room, loop-testᶜ.true), preᶜ.low)
+
+pub loop-k-preserved : goal.loop-k-preserved
+loop-k-preserved c =
+    let argsᶜ = c.args in
+    let loopᶜ = c.loop-k in
+    let loop-testᶜ = c.loop-k-test in
+    let preᶜ = c.requires in
+    let number-atᶜ = c.number_at in
+    let quiet-bodyᶜ = c.quiet_body-height in
+    let settleᶜ = c.settle in
+    (pass_on (quiet_table argsᶜ.text.now argsᶜ.code.now argsᶜ.firsts.now argsᶜ.count) argsᶜ.count argsᶜ.level loopᶜ.invariant.0 loop-testᶜ.true preᶜ.low (quiet-climbs argsᶜ.text.now argsᶜ.code.now argsᶜ.firsts.now argsᶜ.count) (quiet-found argsᶜ.text.now argsᶜ.code.now argsᶜ.firsts.now argsᶜ.count argsᶜ.level preᶜ.low number-atᶜ.ensures.0 loopᶜ.invariant.0 quiet-bodyᶜ.ensures) settleᶜ.ensures, omega (arith, settleᶜ.auto.0, loopᶜ.invariant.1))
+
+pub returns : goal.returns
+returns c =
+    let argsᶜ = c.args in
+    pass-end (quiet_table argsᶜ.text.now argsᶜ.code.now argsᶜ.firsts.now argsᶜ.count) argsᶜ.count argsᶜ.level c.loop-k.invariant.0 c.loop-k-test.false

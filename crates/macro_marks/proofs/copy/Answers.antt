@@ -1,0 +1,20 @@
+-- `macro_marks::copy` meets its contract.
+use mathlib.Core.Path.{sym, ◌∙◌}
+use Prim.Native.Nat.{◌-◌}
+use native.Mathlib.Omega.{arith}
+use lib.ListN.{length}
+use Rattle.macro_marks.proofs.Marking.{Copied, copied-first, copied_on, copied_all}
+use borrow.Author.Rules.{rules}
+use Rattle.macro_marks.proofs.copy.Goals as goal
+
+pub loop-i-init : goal.loop-i-init
+loop-i-init c = copied-first _ _ c.requires
+
+pub bounds-out-i : goal.bounds-out-i
+bounds-out-i c = omega (arith, c.loop-i.invariant.same)
+
+pub loop-i-preserved : goal.loop-i-preserved
+loop-i-preserved c = copied_on c.loop-i.invariant c.loop-i-test.true
+
+pub returns : goal.returns
+returns c = copied_all c.loop-i.invariant c.loop-i-test.false

@@ -1,0 +1,14 @@
+-- `macro_marks::star` meets its contract.
+use borrow.Author.Tests.{not-true, not-false}
+use mathlib.Core.Path.{refl}
+use borrow.Author.Rules.{rules}
+use Rattle.macro_marks.proofs.star.Goals as goal
+
+pub returns-then-not-joins : goal.returns-then-not-joins
+returns-then-not-joins c = rw (not-true c.args.joins c.if-not-joins.true-raw) refl
+
+pub bounds-out-at : goal.bounds-out-at
+bounds-out-at c = c.requires (not-false c.args.joins c.if-not-joins.false-raw)
+
+pub returns : goal.returns
+returns c = rw (not-false c.args.joins c.if-not-joins.false-raw) refl

@@ -1,0 +1,27 @@
+-- `macro_reading::read_first` meets its contract.
+use native.Mathlib.Omega.{arith}
+use borrow.Author.Rules.{rules}
+use mathlib.Core.Path.{sym, ◌∙◌}
+use Prim.Native.Nat.{◌-◌}
+use lib.ListN.{length}
+use Rattle.macro_reading.specs.Sections.{Firsts}
+use Rattle.macro_reading.proofs.Ending.{firsts-none, firsts-on, first_more, first_done}
+use Rattle.macro_reading.proofs.read_first.Goals as goal
+
+pub loop-t-init : goal.loop-t-init
+loop-t-init c = firsts-none c.requires
+
+pub next_element-t-requires : goal.next_element-t-requires
+next_element-t-requires c = record { copy = c.requires.copy; size = c.requires.size; most = c.loop-t.invariant.most }
+
+pub returns-then-stops : goal.returns-then-stops
+returns-then-stops c = first_done c.loop-t.invariant c.next_element-t.ensures (sym c.stops.ensures ∙ c.if-stops.true)
+
+pub is_outer-requires : goal.is_outer-requires
+is_outer-requires c = c.next_element-t.ensures.held.sorted
+
+pub loop-t-smaller : goal.loop-t-smaller
+loop-t-smaller c = omega (arith, first_more c.loop-t.invariant c.next_element-t.ensures (sym c.stops.ensures ∙ c.if-stops.false), c.next_element-t.ensures.held.most)
+
+pub loop-t-preserved : goal.loop-t-preserved
+loop-t-preserved c = rw (c.lower-fault.ensures, c.fault_if.ensures) (firsts-on c.loop-t.invariant c.next_element-t.ensures (sym c.stops.ensures ∙ c.if-stops.false) _ (c.is_outer.ensures c.args.text.now))

@@ -1,0 +1,25 @@
+-- `macro_reading::skip_ends` meets its contract.
+use native.Mathlib.Omega.{arith}
+use mathlib.Core.Path.{◌≡◌, refl, sym, ◌∙◌}
+use Prim.Native.Nat.{◌≤◌, ◌-◌}
+use native.Mathlib.Nat.{le_refl}
+use lib.ListN.{length}
+use Rattle.macros.specs.Macros.{from_statement}
+use Rattle.macro_elements.specs.ElementAt.{elements_from}
+use Rattle.macro_reading.proofs.Ending.{end_on, end-off}
+use Rattle.macro_reading.proofs.skip_ends.Goals as goal
+
+pub loop-t-init : goal.loop-t-init
+loop-t-init c = (le_refl c.args.n, c.requires.most, refl)
+
+pub next_element-t-requires : goal.next_element-t-requires
+next_element-t-requires c = record { copy = c.requires.copy; size = c.requires.size; most = c.loop-t.invariant.1 }
+
+pub returns-then-t-ne-END : goal.returns-then-t-ne-END
+returns-then-t-ne-END c = record { from_here = c.loop-t.invariant.0; most = c.loop-t.invariant.1; is = end-off c.next_element-t.ensures c.if-t-ne-END.true ∙ c.loop-t.invariant.2 }
+
+pub loop-t-smaller : goal.loop-t-smaller
+loop-t-smaller c = omega (arith, (end_on c.next_element-t.ensures c.if-t-ne-END.false).0, c.next_element-t.ensures.held.most)
+
+pub loop-t-preserved : goal.loop-t-preserved
+loop-t-preserved c = let e = end_on c.next_element-t.ensures c.if-t-ne-END.false in (omega (arith, e.0, c.loop-t.invariant.0), c.next_element-t.ensures.held.most, sym e.1 ∙ c.loop-t.invariant.2)

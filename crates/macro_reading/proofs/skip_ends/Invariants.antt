@@ -1,0 +1,16 @@
+-- `macro_reading::skip_ends` meets its contract.
+use native.Mathlib.Omega.{arith}
+use mathlib.Core.Path.{◌≡◌, refl, sym, ◌∙◌}
+use Prim.Native.Nat.{◌≤◌, ◌-◌}
+use native.Mathlib.Nat.{le_refl}
+use lib.ListN.{length}
+use Rattle.macros.specs.Macros.{from_statement}
+use Rattle.macro_elements.specs.ElementAt.{elements_from}
+use Rattle.macro_reading.proofs.Ending.{end_on, end-off}
+use Rattle.macro_reading.proofs.skip_ends.Given as goal
+
+abbrev pub invariant-loop-t : goal.invariant-loop-t
+invariant-loop-t l = (l.n ≤ l.i) × (l.i ≤ length l.text) × (from_statement (elements_from l.text l.i) ≡ from_statement (elements_from l.text l.n))
+
+abbrev pub decreases-loop-t : goal.decreases-loop-t
+decreases-loop-t l = length l.text - l.i

@@ -1,0 +1,12 @@
+-- `macro_section::write_section` meets its contract.
+use borrow.Author.Rules.{rules}
+use mathlib.Core.Path.{refl}
+use Rattle.macro_memory.specs.SameLaws.{remembers-none}
+use Rattle.macro_section.specs.Origins.{none}
+use Rattle.macro_section.proofs.write_section.Goals as goal
+
+pub write_parts-requires : goal.write_parts-requires
+write_parts-requires c =
+    let a = c.args in
+    let p = c.requires in
+    (p.0, p.1, p.2, p.3, search rules, remembers-none a.text.now a.code.now a.names.now a.at.macros _ none refl)

@@ -1,0 +1,16 @@
+-- `matching::ahead_of_class` meets its contract.
+use mathlib.Core.Path.{◌≡◌, sym, ◌∙◌}
+use Prim.Native.Nat.{◌≤◌, ◌-◌, ◌+◌}
+use native.Mathlib.Omega.{arith}
+use lib.ListN.{length, drop}
+use borrow.Author.Rules.{rules}
+use Rattle.lists.specs.Lists.{ahead}
+use Rattle.matching.specs.Tests.{in_class}
+use Rattle.lists.specs.LoopLaws.{ahead-here, ahead-next, ahead-end}
+use Rattle.matching.proofs.ahead_of_class.Given as goal
+
+abbrev pub invariant-loop-i : goal.invariant-loop-i
+invariant-loop-i l = (l.i ≤ length l.s) × (l.i + ahead (in_class l.mask) (drop l.i l.s) ≡ ahead (in_class l.mask) l.s)
+
+abbrev pub decreases-loop-i : goal.decreases-loop-i
+decreases-loop-i l = length l.s - l.i

@@ -1,0 +1,19 @@
+-- `matching::among` meets its contract.
+use mathlib.Core.Path.{◌≡◌, refl, sym, ◌∙◌}
+use Prim.Native.Nat.{◌≤◌, ◌-◌}
+use native.Mathlib.Omega.{arith}
+use lib.ListN.{length, drop}
+use borrow.Author.Rules.{rules}
+use Rattle.lists.specs.Lists.{any}
+use Rattle.language.specs.Values.{same}
+use Rattle.layout.specs.Bounds.{WholeComponents}
+use Rattle.layout.specs.Components.{component_in, components_in}
+use Rattle.components.proofs.Walks.{step, none_left}
+use Rattle.matching.proofs.Equals.{any_same, any-other}
+use Rattle.matching.proofs.among.Given as goal
+
+abbrev pub invariant-loop-at : goal.invariant-loop-at
+invariant-loop-at l = (l.at ≤ length l.given) × WholeComponents (drop l.at l.given) × (any (same (component_in l.x)) (components_in l.given) ≡ any (same (component_in l.x)) (components_in (drop l.at l.given)))
+
+abbrev pub decreases-loop-at : goal.decreases-loop-at
+decreases-loop-at l = length l.given - l.at

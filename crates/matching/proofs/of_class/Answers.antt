@@ -1,0 +1,29 @@
+-- `matching::of_class` meets its contract.
+use mathlib.Core.Path.{refl, sym, ap, ◌∙◌}
+use mathlib.Core.List.{[]}
+use native.Mathlib.Omega.{arith}
+use borrow.Author.Rules.{rules}
+use Rattle.characters.specs.Characters.{class_places}
+use Rattle.lists.specs.Lists.{all}
+use Rattle.layout.specs.Table.{class_by}
+use Rattle.components.proofs.Fronts.{leading-chars}
+use Rattle.matching.specs.Tests.{in_class}
+use Rattle.matching.proofs.Classes.{class-none, class-word}
+use Rattle.matching.proofs.of_class.Goals as goal
+
+pub bounds-x-0 : goal.bounds-x-0
+bounds-x-0 c = omega (arith, leading-chars (c.requires))
+
+pub returns-then-x-eq0 : goal.returns-then-x-eq0
+returns-then-x-eq0 c =
+    let a = c.args in
+    sym (class-none (class_by [] a.mask) a.x.now c.if-x-eq0.true)
+
+pub all_in_class-requires : goal.all_in_class-requires
+unfolding class_places
+all_in_class-requires c = refl
+
+pub returns : goal.returns
+returns c =
+    let a = c.args in
+    c.all_in_class.ensures ∙ ap (all (in_class a.mask)) c.chars_of.ensures.is ∙ sym (class-word (class_by [] a.mask) a.x.now c.if-x-eq0.false)

@@ -1,0 +1,12 @@
+-- `names::first_repeated` meets its contract.
+use borrow.Author.Rules.{rules}
+use native.Mathlib.Omega.{arith}
+use Prim.Native.Nat.{◌-◌}
+use Rattle.names.proofs.Lowest.{Walking, walk-done, repeated_in, repeating-first, repeating-more}
+use Rattle.names.proofs.first_repeated.Given as goal
+
+abbrev pub invariant-loop-k : goal.invariant-loop-k
+invariant-loop-k l = Walking (repeated_in l.text l.names l.from) l.names l.from l.to l.k l.fault
+
+abbrev pub decreases-loop-k : goal.decreases-loop-k
+decreases-loop-k l = l.to - l.k

@@ -1,0 +1,8 @@
+-- `packed::cell_of` meets its contract.
+use native.Mathlib.Omega.{arith}
+use borrow.Author.Rules.{rules}
+use Rattle.packed.proofs.Bytes.{four-of}
+use Rattle.packed.proofs.cell_of.Goals as goal
+
+pub returns : goal.returns
+returns c = omega (arith, four-of c.args.word.now c.args.k c.requires)

@@ -1,0 +1,16 @@
+-- `packed::put_chars` meets its contract.
+use mathlib.Core.Path.{◌≡◌, refl}
+use Prim.Native.Nat.{◌+◌, ◌*◌, ◌-◌, ◌≤◌}
+use native.Mathlib.Omega.{arith}
+use lib.ListN.{get_or, length}
+use borrow.Author.Rules.{rules}
+use Rattle.layout.specs.Cells.{unfours}
+use Rattle.packed.proofs.Bytes.{fronted, copy-turn, copy_rest, copied, fifteen, fifteen-long, fifteen-cell}
+use Rattle.packed.proofs.put_chars.Given as goal
+
+abbrev pub invariant-loop-q : goal.invariant-loop-q
+invariant-loop-q l =
+    (4 * l.q ≤ l.m) × (l.m ≤ 60) × (length l.out ≡ length l.initial.out) × (l.out ≡ fronted (unfours (fifteen l.table l.at)) l.initial.out (4 * l.q))
+
+abbrev pub decreases-loop-q : goal.decreases-loop-q
+decreases-loop-q l = l.m - 4 * l.q

@@ -1,0 +1,13 @@
+-- `packing::pack_strings` meets its contract. The invariant: the first j strings are in place.
+use Prim.Native.Nat.{◌-◌}
+use Rattle.packing.proofs.Writing.{Stringing, stringing-none, string-room, stringing-more, stringing-all}
+use borrow.Author.Rules.{rules}
+use native.Mathlib.Omega.{arith}
+use Rattle.layout.specs.Places as layout
+use Rattle.packing.proofs.pack_strings.Given as goal
+
+abbrev pub invariant-loop-j : goal.invariant-loop-j
+invariant-loop-j l = Stringing l.pool l.ends l.initial.state l.state l.at l.j
+
+abbrev pub decreases-loop-j : goal.decreases-loop-j
+decreases-loop-j l = layout.strings_count - l.j

@@ -1,0 +1,13 @@
+-- `progress::closing_after` meets its contract.
+use borrow.Author.Rules.{rules}
+use mathlib.Core.Path.{sym, ◌∙◌}
+use Rattle.progress.specs.ClosingLaws.{labels-only, closes}
+use Rattle.progress.proofs.closing_after.Goals as goal
+
+pub returns-then-stops : goal.returns-then-stops
+returns-then-stops c = λ s n section g f. labels-only g section (sym c.stops.ensures ∙ c.if-stops.true)
+
+pub returns : goal.returns
+returns c =
+    λ s n section g f. closes g section (sym c.stops.ensures ∙ c.if-stops.false) f c.is_kons.ensures c.is_konp-konp.ensures c.fault_if-now_early.ensures c.lower.ensures
+    c.closing_fault-now_fault.ensures c.lower-2.ensures

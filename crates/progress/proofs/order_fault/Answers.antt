@@ -1,0 +1,10 @@
+-- `progress::order_fault` meets its contract.
+use mathlib.Core.Path.{refl}
+use Rattle.headings.specs.HeadingLaws.{fault-one}
+use Rattle.progress.proofs.order_fault.Goals as goal
+
+pub returns-then-c : goal.returns-then-c
+returns-then-c c = rw c.if-c.true refl
+
+pub returns : goal.returns
+returns c = rw c.if-c.false (fault-one c.args.last)

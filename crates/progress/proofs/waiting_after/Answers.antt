@@ -1,0 +1,10 @@
+-- `progress::waiting_after` meets its contract.
+use borrow.Author.Rules.{rules}
+use mathlib.Core.Path.{refl, sym, ◌∙◌}
+use Rattle.progress.proofs.waiting_after.Goals as goal
+
+pub returns-then-stops : goal.returns-then-stops
+returns-then-stops c = rw (sym c.stops.ensures ∙ c.if-stops.true) refl
+
+pub returns : goal.returns
+returns c = rw (sym c.stops.ensures ∙ c.if-stops.false) refl

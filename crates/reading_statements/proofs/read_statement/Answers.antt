@@ -1,0 +1,58 @@
+-- `reading_statements::read_statement` meets its contract.
+use borrow.Author.Rules.{rules}
+use mathlib.Core.Path.{sym, ◌∙◌}
+use Rattle.reading_statements.specs.StandingLaws.{reading-here, reads_here, reads-empty}
+use Rattle.reading_statements.proofs.read_statement.Goals as goal
+
+pub returns-then-is_empty : goal.returns-then-is_empty
+returns-then-is_empty c =
+    let p = c.requires in
+    reads-empty p.standing c.read_head-head.ensures (sym c.is_empty.ensures ∙ c.if-is_empty.true)
+
+pub read_instruction-requires : goal.read_instruction-requires
+read_instruction-requires c =
+    let p = c.requires in
+    record {
+      switches = _;
+      entries = _;
+      met = record { place = _; draft = p.draft; reading = reading-here p.standing c.read_head-head.ensures };
+      number_is = c.instr_of-number.ensures;
+      some = c.if-number-ne0.true;
+    }
+
+pub returns-then-number-ne0 : goal.returns-then-number-ne0
+returns-then-number-ne0 c =
+    let p = c.requires in
+    reads_here p.standing c.read_head-head.ensures (c.read_instruction.ensures _ _)
+
+pub read_switch-requires : goal.read_switch-requires
+read_switch-requires c =
+    let p = c.requires in
+    record {
+      lines = _;
+      met = record { place = _; draft = p.draft; reading = reading-here p.standing c.read_head-head.ensures };
+      some = sym c.is_switch.ensures ∙ c.if-is_switch.true;
+    }
+
+pub returns-then-is_switch : goal.returns-then-is_switch
+returns-then-is_switch c =
+    let p = c.requires in
+    reads_here p.standing c.read_head-head.ensures (c.read_switch.ensures _)
+
+pub read_ending-requires : goal.read_ending-requires
+read_ending-requires c =
+    let p = c.requires in
+    record {
+      lines = _;
+      table = _;
+      switches = _;
+      entries = _;
+      met = record { place = _; draft = p.draft; reading = reading-here p.standing c.read_head-head.ensures };
+      no_number = sym c.instr_of-number.ensures ∙ c.if-number-ne0.false;
+      no_switch = sym c.is_switch.ensures ∙ c.if-is_switch.false;
+    }
+
+pub returns : goal.returns
+returns c =
+    let p = c.requires in
+    reads_here p.standing c.read_head-head.ensures (c.read_ending.ensures _ _ _ _)

@@ -1,0 +1,46 @@
+-- `reading_statements::read_switch` meets its contract.
+use borrow.Author.Rules.{rules}
+use native.Mathlib.Omega.{arith}
+use mathlib.Core.Path.{refl, ap, ◌∙◌}
+use Rattle.statements.specs.Faults.{then, verdict_of}
+use Rattle.reading_statements.specs.GatheringLaws.{advanceable}
+use Rattle.reading_statements.specs.SwitchReadLaws.{held_most, listable, name-inside, whole-list, declarable-switch, read-switch}
+use Rattle.reading_statements.proofs.read_switch.Goals as goal
+
+pub read_list-l-requires : goal.read_list-l-requires
+read_list-l-requires c =
+    let r = c.requires.met.reading in
+    listable r.judging.headed r.judging.low (omega (arith, c.entries-held.ensures.is, held_most r.tabled)) r.tabled.entry_room refl
+
+pub ask_head-asked-requires : goal.ask_head-asked-requires
+ask_head-asked-requires c =
+    let p = c.requires in
+    let j = p.met.reading.judging in
+    record { place = p.met.place; draft = p.met.draft; judging = j; worst_is = whole-list p.some c.is_by_name-named.ensures c.read_list-l.ensures j.headed }
+
+pub overflow_sub-p : goal.overflow_sub-p
+overflow_sub-p c = c.requires.met.reading.judging.tells.waiting.few
+
+pub offset_bounds-names-p : goal.offset_bounds-names-p
+offset_bounds-names-p c =
+    let p = c.requires in
+    let j = p.met.reading.judging in
+    omega (arith, name-inside p.some c.is_by_name-named.ensures j, j.tells.names.room)
+
+pub bounds-names-p : goal.bounds-names-p
+bounds-names-p c = let p = c.requires in name-inside p.some c.is_by_name-named.ensures p.met.reading.judging
+
+pub admit_switch-verdict-requires : goal.admit_switch-verdict-requires
+admit_switch-verdict-requires c =
+    let p = c.requires in
+    declarable-switch p.some c.is_by_name-named.ensures c.read_list-l.ensures c.ask_head-asked.result c.first_of-early.result c.ask_head-asked.ensures (c.first_of-early.ensures ∙ ap (then (verdict_of c.ask_head-asked.result)) c.decide.ensures) c.entries-held.ensures.is c.switch_of-d.ensures p.met.reading c.read_list-l.auto.1.1.1.1.1.1.0
+
+pub finish-requires : goal.finish-requires
+finish-requires c = advanceable c.requires.met.reading.judging
+
+pub returns : goal.returns
+returns c =
+    let p = c.requires in
+    λ lines.
+    read-switch p.some c.is_by_name-named.ensures c.read_list-l.ensures c.ask_head-asked.result c.first_of-early.result c.ask_head-asked.ensures (c.first_of-early.ensures ∙ ap (then (verdict_of c.ask_head-asked.result)) c.decide.ensures) c.entries-held.ensures.is c.switch_of-d.ensures c.admit_switch-verdict.result
+    c.admit_switch-verdict.ensures c.read_list-l.auto.1.1.1.1.1.0 c.finish.ensures

@@ -1,0 +1,18 @@
+-- `record_tests::whole_index` meets its contract.
+use borrow.Author.Rules.{rules}
+use mathlib.Core.Path.{sym, ap, ◌∙◌}
+use Rattle.record_tests.specs.RecordPrepares.{whole_index}
+use Rattle.record_tests.proofs.Wholes.{argument-left}
+use Rattle.record_tests.proofs.whole_index.Goals as goal
+
+pub returns-in-Indexed : goal.returns-in-Indexed
+returns-in-Indexed c =
+    let whole-letterᶜ = c.whole_letter in
+    let argᶜ = c.arg-1 in
+    whole-letterᶜ.ensures ∙ ap whole_index (sym argᶜ.given.1)
+
+pub returns-in_default : goal.returns-in_default
+returns-in_default c =
+    let argsᶜ = c.args in
+    let matchᶜ = c.in_default.in_default-own in
+    argument-left argsᶜ.arg matchᶜ.keys2

@@ -1,0 +1,15 @@
+-- `records::count` meets its contract. The invariant: the test takes the first k records, which end before cell `at`.
+use Prim.Native.Nat.{◌-◌}
+use lib.ListN.{length}
+use Rattle.records.specs.Sequences.{until_records}
+use Rattle.records.proofs.Cuts.{cut-starts}
+use Rattle.records.proofs.Walking.{Going, going-none, going-stop, going_next, going_end, reached-is}
+use borrow.Author.Rules.{rules}
+use native.Mathlib.Omega.{arith}
+use Rattle.records.proofs.count.Given as goal
+
+abbrev pub invariant-loop-at : goal.invariant-loop-at
+invariant-loop-at l = Going l.s (until_records l.test l.given) l.at l.k
+
+abbrev pub decreases-loop-at : goal.decreases-loop-at
+decreases-loop-at l = length l.s - l.at

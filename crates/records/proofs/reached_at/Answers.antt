@@ -1,0 +1,11 @@
+-- `records::reached_at` meets its contract.
+use borrow.Author.Rules.{rules}
+use Rattle.records.proofs.reached_at.Goals as goal
+
+pub returns-in-First : goal.returns-in-First
+returns-in-First c =
+    let test = c.test-1 in
+    rw test.given.1 c.reached.ensures
+
+pub returns-in-Whole : goal.returns-in-Whole
+returns-in-Whole c = rw c.in-Whole.is

@@ -1,0 +1,15 @@
+-- `records::stamp` meets its contract. The invariant: `dst` has the records up to cell `at` with new addresses, and behind them the rest as it was.
+use Prim.Native.Nat.{◌-◌}
+use lib.ListN.{length}
+use Rattle.records.proofs.Cuts.{cut-starts}
+use Rattle.records.proofs.Steps.{start-room}
+use Rattle.records.proofs.Stamps.{Stamping, stamping-none, stamping-next, stamping-end}
+use borrow.Author.Rules.{rules}
+use native.Mathlib.Omega.{arith}
+use Rattle.records.proofs.stamp.Given as goal
+
+abbrev pub invariant-loop-at : goal.invariant-loop-at
+invariant-loop-at l = Stamping l.initial.dst l.src l.last l.dst l.at l.next
+
+abbrev pub decreases-loop-at : goal.decreases-loop-at
+decreases-loop-at l = length l.src - l.at

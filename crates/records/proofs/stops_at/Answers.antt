@@ -1,0 +1,47 @@
+-- `records::stops_at` meets its contract.
+use mathlib.Core.Path.{subst}
+use lib.ListN.{drop}
+use Rattle.layout.specs.ComponentLaws.{components-of, whole-components}
+use Rattle.layout.specs.Components.{components_in, record_in}
+use Rattle.matching.specs.Tests.{until}
+use Rattle.records.specs.Sequences.{FittingRecords}
+use Rattle.records.proofs.Walking.{first-stoppable, first_stops}
+use borrow.Author.Rules.{rules}
+use Rattle.records.proofs.stops_at.Goals as goal
+
+pub contents_at-contents-requires : goal.contents_at-contents-requires
+contents_at-contents-requires c =
+    let pre = c.requires in
+    pre.starts
+
+pub first_of-requires : goal.first_of-requires
+first_of-requires c =
+    let contents_at = c.contents_at-contents in
+    whole-components contents_at.ensures.cells
+
+pub stops_first-requires : goal.stops_first-requires
+stops_first-requires c =
+    let contents_at = c.contents_at-contents in
+    let args = c.args in
+    let test = c.test-1 in
+    let pre = c.requires in
+    first-stoppable (components_in contents_at.result.now) c.first_of.ensures (subst (λ t. FittingRecords t args.given.now) test.given.1 pre.fitting)
+
+pub same_contents-requires : goal.same_contents-requires
+same_contents-requires c =
+    let contents_at = c.contents_at-contents in
+    let args = c.args in
+    let pre = c.requires in
+    record { left = whole-components contents_at.ensures.cells; right = subst (λ t. FittingRecords t args.given.now) c.in-Whole.is pre.fitting }
+
+pub returns-in-First : goal.returns-in-First
+returns-in-First c =
+    let test = c.test-1 in
+    let args = c.args in
+    let contents_at = c.contents_at-contents in
+    rw test.given.1 (first_stops (until test.given.0.0 args.given.now) args.k (record_in (drop args.at args.s.now)) contents_at.ensures c.first_of.ensures c.stops_first.ensures)
+
+pub returns-in-Whole : goal.returns-in-Whole
+returns-in-Whole c =
+    let contents_at = c.contents_at-contents in
+    rw (c.in-Whole.is, ← components-of contents_at.ensures.cells) c.same_contents.ensures

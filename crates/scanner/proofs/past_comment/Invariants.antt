@@ -1,0 +1,17 @@
+-- `scanner::past_comment` meets its contract.
+use mathlib.Core.Path.{◌≡◌, refl, sym, ◌∙◌}
+use Prim.Native.Nat.{ℕ, ◌-◌, ◌≤◌}
+use native.Mathlib.Omega.{arith}
+use lib.ListN.{length, drop}
+use borrow.Author.Rules.{rules}
+use Rattle.scanner.proofs.Loops.{comment-on, comment-closed, comment-out}
+use Rattle.syntax.specs.Items.Stage.{inside}
+use Rattle.syntax.specs.Items.Mode.{in_comment}
+use Rattle.syntax.specs.Scan.{gap_from}
+use Rattle.scanner.proofs.past_comment.Given as goal
+
+abbrev pub invariant-loop-i : goal.invariant-loop-i
+invariant-loop-i l = (l.n ≤ l.i) × (l.i ≤ length l.text) × ((p : ℕ) → gap_from (in_comment p inside) l.i (drop l.i l.text) ≡ gap_from (in_comment p inside) l.n (drop l.n l.text))
+
+abbrev pub decreases-loop-i : goal.decreases-loop-i
+decreases-loop-i l = length l.text - l.i

@@ -1,0 +1,11 @@
+-- `scanner::scan_text` meets its contract: the table lent is that of the definition.
+use mathlib.Core.Path.{refl}
+use Rattle.characters.specs.Characters.{known_marks}
+use borrow.Author.Rules.{rules}
+use Rattle.scanner.proofs.scan_text.Goals as goal
+
+pub scan_by-requires : goal.scan_by-requires
+scan_by-requires c = (search rules, refl)
+
+pub returns : goal.returns
+returns c = search rules

@@ -1,0 +1,15 @@
+-- `scanner::word_end` meets its contract.
+use mathlib.Core.Path.{◌≡◌, refl, sym, ◌∙◌}
+use Prim.Native.Nat.{◌+◌, ◌-◌, ◌≤◌}
+use lib.ListN.{length, drop}
+use borrow.Author.Tests.{not-true, not-false}
+use borrow.Author.Rules.{rules}
+use Rattle.scanner.proofs.Loops.{word_on, word-stop, word_out}
+use Rattle.syntax.specs.Scan.{word_length}
+use Rattle.scanner.proofs.word_end.Given as goal
+
+abbrev pub invariant-loop-i : goal.invariant-loop-i
+invariant-loop-i l = (l.n ≤ l.i) × (l.i ≤ length l.text) × (l.i + word_length (drop l.i l.text) ≡ l.n + word_length (drop l.n l.text))
+
+abbrev pub decreases-loop-i : goal.decreases-loop-i
+decreases-loop-i l = length l.text - l.i

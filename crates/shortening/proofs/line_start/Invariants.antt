@@ -1,0 +1,11 @@
+-- `shortening::line_start` meets its contract.
+use native.Mathlib.Omega.{arith}
+use Rattle.shortening.proofs.LastLine.{Scanned, scan-begin, scan-more, scan-lf, scan-end}
+use borrow.Author.Rules.{rules}
+use Rattle.shortening.proofs.line_start.Given as goal
+
+abbrev pub invariant-loop-at : goal.invariant-loop-at
+invariant-loop-at l = Scanned l.text l.end l.at
+
+abbrev pub decreases-loop-at : goal.decreases-loop-at
+decreases-loop-at l = l.at

@@ -1,0 +1,23 @@
+-- `shortening::rounds` meets its contract.
+use mathlib.Core.Path.{◌∙◌}
+use lib.ListN.{length}
+use Rattle.shortening.proofs.Rounding.{InRounds, in-rounds, may-try, on-rounds, finished, falls}
+use Rattle.shortening.proofs.rounds.Goals as goal
+
+pub loop-size-init : goal.loop-size-init
+loop-size-init c = in-rounds c.requires
+
+pub round-left-requires : goal.round-left-requires
+round-left-requires c = may-try c.requires c.loop-size.invariant
+
+pub returns-then-left-size : goal.returns-then-left-size
+returns-then-left-size c =
+    finished c.requires c.loop-size.invariant c.round-left.ensures c.round-left.auto.0 c.if-left-size.true
+
+pub loop-size-smaller : goal.loop-size-smaller
+loop-size-smaller c =
+    falls c.loop-size.invariant.going c.round-left.ensures c.round-left.auto.0 c.if-left-size.false
+
+pub loop-size-preserved : goal.loop-size-preserved
+loop-size-preserved c =
+    on-rounds c.requires c.loop-size.invariant c.round-left.ensures c.round-left.auto.0 c.if-left-size.false c.round-left.auto.1.1.1.0

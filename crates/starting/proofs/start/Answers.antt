@@ -1,0 +1,7 @@
+-- `starting::start` meets its contract.
+use borrow.Author.Rules.{rules}
+use Rattle.starting.proofs.Laws.{started-is}
+use Rattle.starting.proofs.start.Goals as goal
+
+pub returns : goal.returns
+returns c = started-is c.args.state.now (c.requires) c.clear.ensures

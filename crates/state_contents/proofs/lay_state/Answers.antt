@@ -1,0 +1,21 @@
+-- `state_contents::lay_state` meets its contract.
+use mathlib.Core.Path.{◌∙◌}
+use Rattle.state_contents.proofs.Laying.{zeros-long, state-laid}
+use borrow.Author.Rules.{rules}
+use Rattle.state_contents.proofs.lay_state.Goals as goal
+
+pub lay_head-requires : goal.lay_head-requires
+lay_head-requires c =
+    let pre = c.requires in
+    record { sound = pre.0; long = zeros-long pre.1; room = search rules }
+
+pub lay_strings-requires : goal.lay_strings-requires
+lay_strings-requires c =
+    let pre = c.requires in
+    record { sound = pre.0; long = c.lay_head.auto.1.0 ∙ zeros-long pre.1; room = search rules }
+
+pub returns : goal.returns
+returns c =
+    let head = c.lay_head in
+    let strings = c.lay_strings in
+    state-laid c.requires.1 head.ensures strings.ensures head.auto.1.0 strings.auto.1.0

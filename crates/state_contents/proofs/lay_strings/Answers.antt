@@ -1,0 +1,43 @@
+-- `state_contents::lay_strings` meets its contract. The invariant: the first j strings are laid, if all have room.
+use borrow.Author.Rules.{rules}
+use mathlib.Core.Path.{◌≡◌, ◌∙◌}
+use Prim.Native.Nat.{◌-◌}
+use lib.ListN.{length}
+use Rattle.language.specs.Limits as limit
+use Rattle.layout.specs.Places as layout
+use Rattle.state_contents.proofs.Laying.{Laying, laying-none, laying-more, laying-all}
+use Rattle.state_contents.proofs.lay_strings.Goals as goal
+
+pub loop-j-init : goal.loop-j-init
+loop-j-init c =
+    let a = c.args in
+    let pre = c.requires in
+    (pre.room, laying-none a.text.now a.m.now pre.long)
+
+pub string-s-requires : goal.string-s-requires
+string-s-requires c = record { sound = c.requires.sound; one = c.loop-j-test.true; room = c.loop-j.invariant.0 }
+
+pub slice_bounds-put_string-count : goal.slice_bounds-put_string-count
+slice_bounds-put_string-count c = c.string-s.ensures.order
+
+pub slice_bounds-put_string-start : goal.slice_bounds-put_string-start
+slice_bounds-put_string-start c = c.string-s.ensures.order
+
+pub slice_bounds-put_string-end : goal.slice_bounds-put_string-end
+slice_bounds-put_string-end c = c.string-s.ensures.within
+
+pub put_string-at-requires : goal.put_string-at-requires
+put_string-at-requires c =
+    let laid = c.loop-j.invariant.1 in
+    record { all = laid.long; one = c.loop-j-test.true; place = laid.place }
+
+pub loop-j-preserved : goal.loop-j-preserved
+loop-j-preserved c =
+    let loop = c.loop-j in
+    let string = c.string-s in
+    let put = c.put_string-at in
+    let laid = laying-more c.requires.long loop.invariant.1 c.loop-j-test.true string.ensures.is put.ensures put.auto.0 in
+    (string.auto.1.1.0 ∙ loop.invariant.0, laid)
+
+pub returns : goal.returns
+returns c = laying-all c.loop-j.invariant.1 c.loop-j-test.false

@@ -1,0 +1,57 @@
+-- `state_restoring::fill_totals` meets its contract.
+use borrow.Author.Rules.{rules}
+use native.Mathlib.Omega.{arith}
+use borrow.Author.Tests.{not-true, not-false}
+use Rattle.check_memory.proofs.Steps.{walkable, both-whole}
+use Rattle.state_restoring.proofs.Totals.{not-laid, not_sound, totalled}
+use Rattle.state_restoring.proofs.fill_totals.Goals as goal
+
+pub slice_bounds-starts_of-end : goal.slice_bounds-starts_of-end
+slice_bounds-starts_of-end c = search rules
+
+pub starts_of-end-requires : goal.starts_of-end-requires
+starts_of-end-requires c = search rules
+
+pub returns-then-not-is_laid : goal.returns-then-not-is_laid
+returns-then-not-is_laid c =
+    let pre = c.requires in
+    not-laid pre c.is_laid.ensures (not-true _ c.if-not-is_laid.true-raw)
+
+pub is_sound-requires : goal.is_sound-requires
+is_sound-requires c =
+    let pre = c.requires in
+    let starts-of = c.starts_of-end in
+    let is-laid = c.is_laid in
+    walkable pre starts-of.ensures is-laid.ensures (not-false _ c.if-not-is_laid.false-raw)
+
+pub returns-then-not-is_sound : goal.returns-then-not-is_sound
+returns-then-not-is_sound c =
+    let pre = c.requires in
+    not_sound pre c.is_sound.ensures (not-true _ c.if-not-is_sound.true-raw)
+
+pub totals-t-requires : goal.totals-t-requires
+totals-t-requires c =
+    let pre = c.requires in
+    let slice-known = c.slice_known-1 in
+    let starts-of = c.starts_of-end in
+    let is-laid = c.is_laid in
+    let if1 = c.if-not-is_laid in
+    let is-sound = c.is_sound in
+    both-whole pre starts-of.ensures is-laid.ensures (not-false _ if1.false) (λ j. omega (arith, slice-known.given j)) is-sound.ensures (not-false _ c.if-not-is_sound.false-raw)
+
+pub put_three-requires : goal.put_three-requires
+put_three-requires c = search rules
+
+pub put_three-requires-2 : goal.put_three-requires-2
+put_three-requires-2 c = search rules
+
+pub put_three-requires-3 : goal.put_three-requires-3
+put_three-requires-3 c = search rules
+
+pub returns : goal.returns
+returns c =
+    let pre = c.requires in
+    let totals = c.totals-t in
+    let put_three = c.put_three in
+    let put-three2 = c.put_three-2 in
+    totalled pre totals.ensures put_three.ensures put-three2.ensures c.put_three-3.ensures

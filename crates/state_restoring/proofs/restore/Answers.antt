@@ -1,0 +1,41 @@
+-- `state_restoring::restore` meets its contract.
+use borrow.Author.Rules.{rules}
+use borrow.Author.Tests.{not-true, not-false}
+use Rattle.state_restoring.proofs.Reader.{too_long, not-state, saveable, compared}
+use Rattle.state_restoring.proofs.restore.Goals as goal
+
+pub returns-then-text-gt-SAVED : goal.returns-then-text-gt-SAVED
+returns-then-text-gt-SAVED c = too_long c.requires c.if-text-gt-SAVED.true
+
+pub lay_state-requires : goal.lay_state-requires
+lay_state-requires c =
+    let pre = c.requires in
+    (pre.sound, pre.zeros)
+
+pub fill_totals-requires : goal.fill_totals-requires
+fill_totals-requires c = search rules
+
+pub is_state-requires : goal.is_state-requires
+is_state-requires c = search rules
+
+pub returns-then-not-is_state : goal.returns-then-not-is_state
+returns-then-not-is_state c =
+    let pre = c.requires in
+    let lay-state = c.lay_state in
+    let fill-totals = c.fill_totals in
+    not-state pre lay-state.ensures fill-totals.ensures c.is_state.ensures (not-true _ c.if-not-is_state.true-raw)
+
+pub is_saved-requires : goal.is_saved-requires
+is_saved-requires c =
+    let pre = c.requires in
+    let lay-state = c.lay_state in
+    let fill-totals = c.fill_totals in
+    saveable pre lay-state.ensures fill-totals.ensures c.is_state.ensures (not-false _ c.if-not-is_state.false-raw)
+
+pub returns : goal.returns
+returns c =
+    let pre = c.requires in
+    let lay-state = c.lay_state in
+    let fill-totals = c.fill_totals in
+    let is_state = c.is_state in
+    compared pre lay-state.ensures fill-totals.ensures is_state.ensures (not-false _ c.if-not-is_state.false-raw) c.is_saved.ensures

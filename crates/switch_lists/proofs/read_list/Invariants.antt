@@ -1,0 +1,19 @@
+-- `switch_lists::read_list` meets its contract.
+use borrow.Author.Rules.{rules}
+use mathlib.Core.Path.{sym, ap, ◌∙◌}
+use native.Mathlib.Omega.{arith}
+use Prim.Native.Nat.{ℕ, ◌-◌, ◌+◌}
+use lib.Dec.{eqb}
+use lib.ListN.{length}
+use Rattle.statements.specs.Faults.{lower}
+use Rattle.statements.specs.declared.Fault.{Fault}
+use Rattle.switch_lists.proofs.Reading.{Reading, reading-first, words-low, more-low, list_read, item-puttable, reading-more}
+use Rattle.switch_lists.proofs.read_list.Given as goal
+
+abbrev pub invariant-loop-before : goal.invariant-loop-before
+invariant-loop-before l =
+    Reading l.text l.first l.named l.worst l.held l.initial.entries l.initial.texts l.fault l.over l.words l.w l.before l.i l.entries l.texts
+
+abbrev pub decreases-loop-before : goal.decreases-loop-before
+decreases-loop-before l =
+    length l.text - l.i

@@ -1,0 +1,68 @@
+-- `switches::skona` meets its contract.
+use borrow.Author.Rules.{rules}
+use Rattle.switches.proofs.Fronts.{switch-placed}
+use Rattle.switches.proofs.Rows.{named-expr, searchable, entered, following, skona-stop, skona-goes, skona-on}
+use Rattle.switches.proofs.skona.Goals as goal
+
+pub ask_front-stop-requires : goal.ask_front-stop-requires
+ask_front-stop-requires c =
+    let preᶜ = c.requires in
+    named-expr preᶜ.looks
+
+pub returns-then-stop-ne0 : goal.returns-then-stop-ne0
+returns-then-stop-ne0 c =
+    let preᶜ = c.requires in
+    let if1ᶜ = c.if-stop-ne0 in
+    let argsᶜ = c.args in
+    let ask-frontᶜ = c.ask_front-stop in
+    skona-stop preᶜ.looks if1ᶜ.true argsᶜ.removes ask-frontᶜ.ensures
+
+pub find-j-requires : goal.find-j-requires
+find-j-requires c =
+    let preᶜ = c.requires in
+    let ask-frontᶜ = c.ask_front-stop in
+    let if1ᶜ = c.if-stop-ne0 in
+    searchable preᶜ.looks 0 ask-frontᶜ.ensures if1ᶜ.false
+
+pub switch_count-requires : goal.switch_count-requires
+switch_count-requires c =
+    let preᶜ = c.requires in
+    switch-placed preᶜ.looks.switch
+
+pub jump_by-requires : goal.jump_by-requires
+jump_by-requires c =
+    let preᶜ = c.requires in
+    let ask-frontᶜ = c.ask_front-stop in
+    let if1ᶜ = c.if-stop-ne0 in
+    let switch-countᶜ = c.switch_count in
+    let if2ᶜ = c.if-j-switch_count in
+    record { fronted = (searchable preᶜ.looks 0 ask-frontᶜ.ensures if1ᶜ.false).fronted; entered = entered preᶜ switch-countᶜ.ensures if2ᶜ.true }
+
+pub returns-then-j-switch_count : goal.returns-then-j-switch_count
+returns-then-j-switch_count c =
+    let preᶜ = c.requires in
+    let switch-countᶜ = c.switch_count in
+    let if1ᶜ = c.if-stop-ne0 in
+    let ask-frontᶜ = c.ask_front-stop in
+    let findᶜ = c.find-j in
+    let argsᶜ = c.args in
+    let if2ᶜ = c.if-j-switch_count in
+    let jump-byᶜ = c.jump_by in
+    skona-goes preᶜ switch-countᶜ.ensures if1ᶜ.false ask-frontᶜ.ensures findᶜ.ensures argsᶜ.removes if2ᶜ.true jump-byᶜ.ensures
+
+pub go_on-requires : goal.go_on-requires
+go_on-requires c =
+    let preᶜ = c.requires in
+    following preᶜ
+
+pub returns : goal.returns
+returns c =
+    let preᶜ = c.requires in
+    let switch-countᶜ = c.switch_count in
+    let if1ᶜ = c.if-stop-ne0 in
+    let ask-frontᶜ = c.ask_front-stop in
+    let findᶜ = c.find-j in
+    let argsᶜ = c.args in
+    let if2ᶜ = c.if-j-switch_count in
+    let go-onᶜ = c.go_on in
+    skona-on preᶜ switch-countᶜ.ensures if1ᶜ.false ask-frontᶜ.ensures findᶜ.ensures argsᶜ.removes if2ᶜ.false go-onᶜ.ensures

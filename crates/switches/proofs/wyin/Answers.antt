@@ -1,0 +1,62 @@
+-- `switches::wyin` meets its contract.
+use borrow.Author.Rules.{rules}
+use Rattle.switches.proofs.Fronts.{switch-placed}
+use Rattle.switches.proofs.Rows.{named-expr, countable, entered, wyin-stop, wyin-goes, wyin-outside}
+use Rattle.switches.proofs.wyin.Goals as goal
+
+pub ask_front-stop-requires : goal.ask_front-stop-requires
+ask_front-stop-requires c =
+    let preᶜ = c.requires in
+    named-expr preᶜ.switches.looks
+
+pub returns-then-stop-ne0 : goal.returns-then-stop-ne0
+returns-then-stop-ne0 c =
+    let preᶜ = c.requires in
+    let if1ᶜ = c.if-stop-ne0 in
+    let argsᶜ = c.args in
+    let ask-frontᶜ = c.ask_front-stop in
+    wyin-stop preᶜ.switches.looks if1ᶜ.true argsᶜ.removes ask-frontᶜ.ensures
+
+pub index_in-j-requires : goal.index_in-j-requires
+index_in-j-requires c =
+    let preᶜ = c.requires in
+    let ask-frontᶜ = c.ask_front-stop in
+    let if1ᶜ = c.if-stop-ne0 in
+    countable preᶜ.switches.looks ask-frontᶜ.ensures if1ᶜ.false
+
+pub switch_count-requires : goal.switch_count-requires
+switch_count-requires c =
+    let preᶜ = c.requires in
+    switch-placed preᶜ.switches.looks.switch
+
+pub call_by-requires : goal.call_by-requires
+call_by-requires c =
+    let preᶜ = c.requires in
+    let ask-frontᶜ = c.ask_front-stop in
+    let if1ᶜ = c.if-stop-ne0 in
+    let switch-countᶜ = c.switch_count in
+    let if2ᶜ = c.if-j-switch_count in
+    record { jump = record { fronted = (countable preᶜ.switches.looks ask-frontᶜ.ensures if1ᶜ.false).searchable.fronted; entered = entered preᶜ.switches switch-countᶜ.ensures if2ᶜ.true }; following = preᶜ.switches.following; spare = preᶜ.spare }
+
+pub returns-then-j-switch_count : goal.returns-then-j-switch_count
+returns-then-j-switch_count c =
+    let preᶜ = c.requires in
+    let switch-countᶜ = c.switch_count in
+    let if1ᶜ = c.if-stop-ne0 in
+    let ask-frontᶜ = c.ask_front-stop in
+    let index-inᶜ = c.index_in-j in
+    let argsᶜ = c.args in
+    let if2ᶜ = c.if-j-switch_count in
+    let call-byᶜ = c.call_by in
+    wyin-goes preᶜ.switches switch-countᶜ.ensures if1ᶜ.false ask-frontᶜ.ensures index-inᶜ.ensures argsᶜ.removes if2ᶜ.true call-byᶜ.ensures
+
+pub returns : goal.returns
+returns c =
+    let preᶜ = c.requires in
+    let switch-countᶜ = c.switch_count in
+    let if1ᶜ = c.if-stop-ne0 in
+    let ask-frontᶜ = c.ask_front-stop in
+    let index-inᶜ = c.index_in-j in
+    let argsᶜ = c.args in
+    let if2ᶜ = c.if-j-switch_count in
+    wyin-outside preᶜ.switches switch-countᶜ.ensures if1ᶜ.false ask-frontᶜ.ensures index-inᶜ.ensures argsᶜ.removes if2ᶜ.false

@@ -1,0 +1,66 @@
+-- `table::argument_at` meets its contract.
+use mathlib.Core.Path.{◌≡◌}
+use native.Mathlib.Omega.{arith}
+use lib.ListN.{get_or}
+use borrow.Author.Rules.{rules}
+use Rattle.layout.specs.Cells.{cell}
+use Rattle.table.proofs.Decode.{cell_in, indexed, labelled, switched, classed, texted, numbered, absent}
+use Rattle.packed.specs.Packed.{table_of}
+use Rattle.table.proofs.argument_at.Goals as goal
+
+pub returns-in-1 : goal.returns-in-1
+returns-in-1 c =
+    let t = table_of c.args.table.now in
+    let k = c.args.k in
+    let x = get_or c.args.table.now k 0 in
+    let e : cell t k ≡ x = cell_in c.args.table.now k c.requires.below in
+    indexed t k x e c.letter_by.result c.wide.result c.in-1.is c.letter_by.ensures c.wide.ensures.is
+
+pub returns-in-2 : goal.returns-in-2
+returns-in-2 c =
+    let t = table_of c.args.table.now in
+    let k = c.args.k in
+    let x = get_or c.args.table.now k 0 in
+    let e : cell t k ≡ x = cell_in c.args.table.now k c.requires.below in
+    labelled t k x e c.wide-in-2.result (omega (arith, c.shared_slice_known-1.given k)) c.in-2.is c.wide-in-2.ensures.is
+
+pub returns-in-3 : goal.returns-in-3
+returns-in-3 c =
+    let t = table_of c.args.table.now in
+    let k = c.args.k in
+    let x = get_or c.args.table.now k 0 in
+    let e : cell t k ≡ x = cell_in c.args.table.now k c.requires.below in
+    switched t k x e c.wide-in-3.result (omega (arith, c.shared_slice_known-1.given k)) c.in-3.is c.wide-in-3.ensures.is
+
+pub returns-in-4 : goal.returns-in-4
+returns-in-4 c =
+    let t = table_of c.args.table.now in
+    let k = c.args.k in
+    let x = get_or c.args.table.now k 0 in
+    let e : cell t k ≡ x = cell_in c.args.table.now k c.requires.below in
+    classed t k x e c.narrow.result c.in-4.is c.narrow.ensures.is
+
+pub returns-in-5 : goal.returns-in-5
+returns-in-5 c =
+    let t = table_of c.args.table.now in
+    let k = c.args.k in
+    let x = get_or c.args.table.now k 0 in
+    let e : cell t k ≡ x = cell_in c.args.table.now k c.requires.below in
+    texted t k x e c.wide-in-5.result (omega (arith, c.shared_slice_known-1.given k)) c.in-5.is c.wide-in-5.ensures.is
+
+pub returns-in-6 : goal.returns-in-6
+returns-in-6 c =
+    let t = table_of c.args.table.now in
+    let k = c.args.k in
+    let x = get_or c.args.table.now k 0 in
+    let e : cell t k ≡ x = cell_in c.args.table.now k c.requires.below in
+    numbered t k x e c.number_by.result (omega (arith, c.number_by.type-inv)) c.in-6.is c.number_by.ensures
+
+pub returns-in_default : goal.returns-in_default
+returns-in_default c =
+    let t = table_of c.args.table.now in
+    let k = c.args.k in
+    let x = get_or c.args.table.now k 0 in
+    let e : cell t k ≡ x = cell_in c.args.table.now k c.requires.below in
+    let r = c.in_default.in_default-own.rest in
+    absent t k x e r.0.0.0.0.0.1 r.0.0.0.0.1 r.0.0.0.1 r.0.0.1 r.0.1 r.1

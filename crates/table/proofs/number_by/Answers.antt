@@ -1,0 +1,18 @@
+-- `table::number_by` meets its contract.
+use mathlib.Core.Path.{ap, ◌∙◌}
+use Prim.Native.Nat.{ℕ, ◌+◌}
+use borrow.Author.Rules.{rules}
+use Rattle.layout.specs.Cells.{uncode, cell}
+use Rattle.layout.specs.Places as layout
+use Rattle.table.proofs.Decode.{small-number, large_number}
+use Rattle.packed.specs.Packed.{table_of}
+use Rattle.table.proofs.number_by.Goals as goal
+
+pub returns-then-v-lt31 : goal.returns-then-v-lt31
+returns-then-v-lt31 c = small-number (table_of c.args.table.now) c.args.v c.if-v-lt31.true
+
+pub returns : goal.returns
+returns c =
+    let t = table_of c.args.table.now in
+    ap uncode c.cell_at.ensures ∙ ap (λ (k : ℕ). uncode (cell t (layout.first_number + k))) c.wide.ensures.is
+    ∙ large_number t c.args.v c.if-v-lt31.false

@@ -1,0 +1,9 @@
+-- `tests::prepare_number` meets its contract.
+use Rattle.tests.proofs.Values.{number_low, number-high}
+use Rattle.tests.proofs.prepare_number.Goals as goal
+
+pub returns-then-code-lt8388607 : goal.returns-then-code-lt8388607
+returns-then-code-lt8388607 c = λ s g. number_low s g c.args.code c.if-code-lt8388607.true
+
+pub returns : goal.returns
+returns c = λ s g. number-high s g c.args.code c.if-code-lt8388607.false

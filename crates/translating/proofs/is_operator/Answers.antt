@@ -1,0 +1,6 @@
+-- `translating::is_operator` meets its contract.
+use Rattle.translating.proofs.Passes.{operator-by}
+use Rattle.translating.proofs.is_operator.Goals as goal
+
+pub returns : goal.returns
+returns c = operator-by c.args.t c.requires

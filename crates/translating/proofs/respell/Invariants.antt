@@ -1,0 +1,14 @@
+-- `translating::respell` meets its contract. The invariant: the text is read and written as far as p tells.
+use native.Mathlib.Omega.{arith}
+use mathlib.Core.Path.{◌≡◌, refl, ◌∙◌}
+use Prim.Native.Nat.{◌-◌}
+use lib.ListN.{length}
+use Rattle.translating.specs.Translating.{Reached}
+use Rattle.translating.proofs.Passes.{reached-none, reached-last}
+use Rattle.translating.proofs.respell.Given as goal
+
+abbrev pub invariant-loop-t : goal.invariant-loop-t
+invariant-loop-t l = (Reached l.text l.p l.made) × (length l.made ≡ length l.initial.made)
+
+abbrev pub decreases-loop-t : goal.decreases-loop-t
+decreases-loop-t l = length l.text - l.p.next

@@ -1,0 +1,44 @@
+-- `translating::turn` meets its contract.
+use borrow.Author.Rules.{rules}
+use native.Mathlib.Omega.{arith}
+use mathlib.Core.Path.{sym}
+use lib.Seq.{length-take-le}
+use Rattle.translating.proofs.Outcomes.{beyond-gives, narrow_gives, fitting-gives}
+use Rattle.translating.proofs.turn.Goals as goal
+
+pub slice_bounds-respell-end : goal.slice_bounds-respell-end
+slice_bounds-respell-end c = search rules
+
+pub respell-n-requires : goal.respell-n-requires
+respell-n-requires c = search rules
+
+pub returns-then-n-gt-TEXT : goal.returns-then-n-gt-TEXT
+returns-then-n-gt-TEXT c =
+    let r = c.respell-n in
+    beyond-gives c.args.text.now c.requires r.ensures r.auto.1.0 c.args.out.now c.if-n-gt-TEXT.true
+
+pub returns-then-out-n : goal.returns-then-out-n
+returns-then-out-n c =
+    let r = c.respell-n in
+    narrow_gives c.args.text.now c.requires r.ensures r.auto.1.0 c.args.out.now c.if-n-gt-TEXT.false c.if-out-n.true
+
+pub slice_bounds-made-end : goal.slice_bounds-made-end
+slice_bounds-made-end c = search rules
+
+pub slice_bounds-put-end : goal.slice_bounds-put-end
+slice_bounds-put-end c =
+    let r = c.respell-n in
+    sym (length-take-le r.result r.new.1.0 (omega (arith, r.auto.1.0, c.if-n-gt-TEXT.false)))
+
+pub put-requires : goal.put-requires
+put-requires c =
+    let r = c.respell-n in
+    omega (arith, length-take-le r.result r.new.1.0 (omega (arith, r.auto.1.0, c.if-n-gt-TEXT.false)), c.if-out-n.false)
+
+pub overflow_cast-result : goal.overflow_cast-result
+overflow_cast-result c = search rules
+
+pub returns : goal.returns
+returns c =
+    let r = c.respell-n in
+    fitting-gives c.args.text.now c.requires r.ensures r.auto.1.0 c.args.out.now c.if-n-gt-TEXT.false c.if-out-n.false c.put.ensures

@@ -1,0 +1,8 @@
+-- `writing::clear_table` meets its contract.
+use borrow.Author.Rules.{rules}
+use Rattle.writing.proofs.Rooms.{cleared-holds}
+use Rattle.writing.proofs.clear_table.Goals as goal
+
+pub returns : goal.returns
+returns c =
+    cleared-holds c.args.table.now c.clear_cells.new.0 (c.requires) c.clear_cells.ensures

@@ -1,0 +1,11 @@
+-- `writing::put_instruction` meets its contract.
+use borrow.Author.Rules.{rules}
+use native.Mathlib.Omega.{arith}
+use Rattle.writing.proofs.Held.{instr-done}
+use Rattle.writing.proofs.put_instruction.Goals as goal
+
+pub returns : goal.returns
+returns c =
+    let put_four = c.put_four in
+    let instructions = c.instructions-n in
+    instr-done c.args.table.now put_four.new.0 c.write.new.0 instructions.result c.requires.long c.args.op c.args.line c.args.x c.args.y c.args.z instructions.ensures.is (omega (arith, instructions.ensures.is, c.requires.room)) put_four.ensures c.write.ensures

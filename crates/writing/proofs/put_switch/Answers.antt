@@ -1,0 +1,13 @@
+-- `writing::put_switch` meets its contract.
+use borrow.Author.Rules.{rules}
+use native.Mathlib.Omega.{arith}
+use Rattle.writing.proofs.Settled.{switch-done}
+use Rattle.writing.proofs.put_switch.Goals as goal
+
+pub returns : goal.returns
+returns c =
+    let write = c.write in
+    let switches = c.switches-n in
+    let entries = c.entries-first in
+    let bit = c.bit in
+    switch-done c.args.table.now write.new.0 c.write-2.new.0 switches.result entries.result bit.result c.args.named c.requires.long switches.ensures.is (omega (arith, switches.ensures.is, c.requires.room)) entries.ensures.is bit.ensures.is write.ensures c.write-2.ensures

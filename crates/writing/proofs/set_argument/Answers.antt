@@ -1,0 +1,9 @@
+-- `writing::set_argument` meets its contract.
+use borrow.Author.Rules.{rules}
+use native.Mathlib.Omega.{arith}
+use Rattle.writing.proofs.Settled.{argument-done}
+use Rattle.writing.proofs.set_argument.Goals as goal
+
+pub returns : goal.returns
+returns c =
+    argument-done c.args.table.now c.write.new.0 c.args.k c.args.j c.args.cell _ (omega arith) c.requires.there c.requires.few c.requires.place c.write.ensures
