@@ -51,5 +51,5 @@ module _ {S : Type 0} (step : S → Outcome S) where
   pub run-stop : {n k : ℕ} {s t : S} (b : ℕ) → Goes step n s t → n < b → step t ≡ stop k → run step b s ≡ ran (stopped k) n t
   run-stop zero g l e = absurd (not-suc-le-zero l)
   run-stop (suc b) (here {s = s}) l e = ap (after s (run step b)) e
-  run-stop (suc b) (on {s = s} {t = t} d g) l e =
-      ap (after s (run step b)) d ∙ ap (λ r. ran r.answer (suc r.count) r.state) (run-stop b g (le_of_suc-le-suc l) e)
+  run-stop (suc b) (on {n = n} {s = s} {t = t} d g) l e =
+      ap (after s (run step b)) d ∙ ap (λ r. ran r.answer (suc r.count) r.state) (run-stop {n = n} b g (le_of_suc-le-suc l) e)
