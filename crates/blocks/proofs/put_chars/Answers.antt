@@ -22,7 +22,7 @@ pub loop-q-preserved : goal.loop-q-preserved
 loop-q-preserved c =
     let loop = c.loop-q in
     let four-at = c.four_at in
-    (omega arith, omega (arith, c.write.auto), chars-turn loop.table c.args.table.now c.args.at c.args.word.now loop.q four-at.result c.write.new.0 loop.invariant.2 (c.requires) c.loop-q-test.true four-at.ensures.is c.write.ensures)
+    (omega arith, omega arith, chars-turn loop.table c.args.table.now c.args.at c.args.word.now loop.q four-at.result c.write.new.cells loop.invariant.2 (c.requires) c.loop-q-test.true four-at.ensures.is c.write.ensures)
 
 pub returns : goal.returns
 returns c =

@@ -9,4 +9,4 @@ use Rattle.blocks.proofs.put_named.Goals as goal
 pub returns : goal.returns
 returns c =
     let write = c.write in
-    set-and-paste c.args.table.now c.args.at c.args.head (fours 15 c.args.word.now) write.new.0 c.put_chars.new.0 (omega (arith, c.requires.room, length-fours 15 c.args.word.now)) write.ensures c.put_chars.ensures
+    set-and-paste c.args.table.now c.args.at c.args.head (fours 15 c.args.word.now) write.new.cells c.put_chars.new.table (omega (arith, c.requires.room, length-fours 15 c.args.word.now)) write.ensures c.put_chars.ensures

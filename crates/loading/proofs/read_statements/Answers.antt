@@ -36,8 +36,8 @@ loop-q-preserved c =
     rw c.renewed-p.ensures
     record {
       going = going_next i.going c.read_statement-a.ensures c.in-Statement.q c.in-Statement.is c.if-a.false;
-      names_is = c.read_statement-a.auto.1.1.1.1.0 ∙ i.names_is;
-      table_is = c.read_statement-a.auto.1.1.1.1.1.0 ∙ i.table_is;
-      switches_is = c.read_statement-a.auto.1.1.1.1.1.1.0 ∙ i.switches_is;
-      entries_is = c.read_statement-a.auto.1.1.1.1.1.1.1.0 ∙ i.entries_is;
+      names_is = (omega arith) ∙ i.names_is;
+      table_is = (omega arith) ∙ i.table_is;
+      switches_is = (omega arith) ∙ i.switches_is;
+      entries_is = (omega arith) ∙ i.entries_is;
     }
