@@ -70,7 +70,7 @@ module _ {X : Type 0} (equal : X → X → Bool) (symmetric : (x y : X) → equa
     fresh_holds t [] = tt
     fresh_holds t (i ∷ js) =
         let u = t ++ map value_of_lem (cond (any (equal (value_of_lem i)) t) [] (i ∷ [])) in
-        rw (after-step t i js) (any_left (equal (value_of_lem i)) u (map value_of_lem (fresh equal value_of_lem u js)) (held (any (equal (value_of_lem i)) t) t i refl), fresh_holds u js)
+        subst (λ (l : List X). Each (λ k. T (any (equal (value_of_lem k)) l)) (i ∷ js)) (sym (after-step t i js)) (any_left (equal (value_of_lem i)) u (map value_of_lem (fresh equal value_of_lem u js)) (held (any (equal (value_of_lem i)) t) t i refl), fresh_holds u js)
 
     still-different : (b : Bool) (t : List X) (i : Item) → any (equal (value_of_lem i)) t ≡ b → T (different equal t)
         → T (different equal (t ++ map value_of_lem (cond b [] (i ∷ []))))

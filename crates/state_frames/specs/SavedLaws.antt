@@ -1,6 +1,6 @@
 -- Laws of saved states: the frames of a state give it back, and they have a place in a text.
 use Rattle.std.specs.Prelude.{◌≡◌, Bool, true, ℕ, zero, suc, ◌+◌, ◌≤◌, ◌<◌, T, get_or, take, drop}
-use Rattle.std.proofs.Math.Path.{refl, sym, ap}
+use Rattle.std.proofs.Math.Path.{refl, sym, ap, subst}
 use Rattle.std.proofs.Common.{◌∙◌, arith, length-append}
 use Rattle.std.proofs.Math.Bool.{false, cond}
 use mathlib.Core.List.{List, [], ◌∷◌, ◌++◌, map, append-nil, append_assoc}
@@ -68,7 +68,8 @@ unfolding contents_at numbered
 contents-numbered k n i [] = refl
 contents-numbered k n zero (c ∷ cs) =
     let z : n + 0 ≡ n = omega arith in
-    rw (z, eq-eqb k k refl, eq-eqb n n refl) (ap (λ (t : List ℕ). c ++ t) (contents-before k n (suc n) cs (omega arith)) ∙ append-nil c)
+    subst (λ (m : ℕ). contents_at k m (numbered k n (c ∷ cs)) ≡ c) (sym z)
+    (rw (eq-eqb k k refl, eq-eqb n n refl) (ap (λ (t : List ℕ). c ++ t) (contents-before k n (suc n) cs (omega arith)) ∙ append-nil c))
 contents-numbered k n (suc i) (c ∷ cs) =
     let e : eqb (n + suc i) n ≡ false = ne_eqb (n + suc i) n (λ q. omega arith) in
     let z : n + suc i ≡ suc n + i = omega arith in
