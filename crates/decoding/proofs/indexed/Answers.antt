@@ -7,15 +7,13 @@ use Rattle.decoding.proofs.indexed.Goals as goal
 
 pub overflow_sub-result : goal.overflow_sub-result
 overflow_sub-result c =
-    let aᶜ = c.a-1 in
     let preᶜ = c.requires in
-    omega (arith, (good_of aᶜ.given.0.0 aᶜ.given.0.1.0 preᶜ aᶜ.given.1).from)
+    omega (arith, (good_of c.in-Indexed.l c.in-Indexed.n preᶜ c.in-Indexed.is).from)
 
 pub returns-in-Indexed : goal.returns-in-Indexed
 returns-in-Indexed c =
-    let aᶜ = c.a-1 in
     let preᶜ = c.requires in
-    opened aᶜ.given.0.0 aᶜ.given.0.1.0 preᶜ aᶜ.given.1
+    opened c.in-Indexed.l c.in-Indexed.n preᶜ c.in-Indexed.is
 
 pub returns-in_default : goal.returns-in_default
 returns-in_default c =

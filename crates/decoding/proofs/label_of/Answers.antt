@@ -5,8 +5,7 @@ use Rattle.decoding.proofs.label_of.Goals as goal
 
 pub returns-in-Label : goal.returns-in-Label
 returns-in-Label c =
-    let aᶜ = c.a-1 in
-    aᶜ.given.1
+    c.in-Label.is
 
 pub returns-in_default : goal.returns-in_default
 returns-in_default c =

@@ -5,8 +5,7 @@ use Rattle.decoding.proofs.switch_of.Goals as goal
 
 pub returns-in-Switch : goal.returns-in-Switch
 returns-in-Switch c =
-    let aᶜ = c.a-1 in
-    aᶜ.given.1
+    c.in-Switch.is
 
 pub returns-in_default : goal.returns-in_default
 returns-in_default c =

@@ -5,8 +5,7 @@ use Rattle.perform_equality.proofs.any_letter.Goals as goal
 
 pub returns-in-T : goal.returns-in-T
 returns-in-T c =
-    let enum-toldᶜ = c.enum_told-1 in
-    an-any enum-toldᶜ.given.1
+    an-any c.in-T.is
 
 pub returns-in_default : goal.returns-in_default
 returns-in_default c =

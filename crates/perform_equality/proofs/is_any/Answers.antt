@@ -5,9 +5,8 @@ use Rattle.perform_equality.proofs.is_any.Goals as goal
 
 pub returns-in-Indexed : goal.returns-in-Indexed
 returns-in-Indexed c =
-    let aᶜ = c.a-1 in
     let any-letterᶜ = c.any_letter in
-    record { letter = aᶜ.given.0.0; index = aᶜ.given.0.1.0; is = aᶜ.given.1; any = any-letterᶜ.ensures }
+    record { letter = c.in-Indexed.l; index = c.in-Indexed.field-1; is = c.in-Indexed.is; any = any-letterᶜ.ensures }
 
 pub returns-in_default : goal.returns-in_default
 returns-in_default c =

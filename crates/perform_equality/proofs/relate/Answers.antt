@@ -18,8 +18,7 @@ rw_input-requires c =
     let preᶜ = c.requires in
     let index-ofᶜ = c.index_of-i in
     let variable-ofᶜ = c.variable_of in
-    let enum-toldᶜ = c.enum_told-1 in
-    input-relatable preᶜ index-ofᶜ.ensures variable-ofᶜ.ensures enum-toldᶜ.given.1
+    input-relatable preᶜ index-ofᶜ.ensures variable-ofᶜ.ensures c.in-Input.is
 
 pub relate_expression-requires : goal.relate_expression-requires
 relate_expression-requires c =
@@ -33,9 +32,8 @@ returns-in-Input c =
     let preᶜ = c.requires in
     let index-ofᶜ = c.index_of-i in
     let variable-ofᶜ = c.variable_of in
-    let enum-toldᶜ = c.enum_told-1 in
     let rw-inputᶜ = c.rw_input in
-    input-related preᶜ index-ofᶜ.ensures variable-ofᶜ.ensures enum-toldᶜ.given.1 rw-inputᶜ.ensures
+    input-related preᶜ index-ofᶜ.ensures variable-ofᶜ.ensures c.in-Input.is rw-inputᶜ.ensures
 
 pub returns-in_default : goal.returns-in_default
 returns-in_default c =

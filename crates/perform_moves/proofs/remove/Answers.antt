@@ -18,8 +18,7 @@ usun_input-requires c =
     let preᶜ = c.requires in
     let index-ofᶜ = c.index_of-i in
     let variable-ofᶜ = c.variable_of in
-    let enum-toldᶜ = c.enum_told-1 in
-    passable preᶜ index-ofᶜ.ensures variable-ofᶜ.ensures enum-toldᶜ.given.1
+    passable preᶜ index-ofᶜ.ensures variable-ofᶜ.ensures c.in-Input.is
 
 pub usun-requires : goal.usun-requires
 usun-requires c =
@@ -34,9 +33,8 @@ returns-in-Input c =
     let preᶜ = c.requires in
     let index-ofᶜ = c.index_of-i in
     let variable-ofᶜ = c.variable_of in
-    let enum-toldᶜ = c.enum_told-1 in
     let usun-inputᶜ = c.usun_input in
-    passed_by preᶜ index-ofᶜ.ensures variable-ofᶜ.ensures enum-toldᶜ.given.1 usun-inputᶜ.ensures
+    passed_by preᶜ index-ofᶜ.ensures variable-ofᶜ.ensures c.in-Input.is usun-inputᶜ.ensures
 
 pub returns-in_default : goal.returns-in_default
 returns-in_default c =

@@ -24,11 +24,10 @@ variable_of-requires c =
 pub zamien_exprs-requires : goal.zamien_exprs-requires
 zamien_exprs-requires c =
     let preᶜ = c.requires in
-    let enum-toldᶜ = c.enum_told-1 in
     let variable-ofᶜ = c.variable_of in
     let index-ofᶜ = c.index_of-i in
     let index-of2ᶜ = c.index_of-j in
-    let b = of-exprs preᶜ enum-toldᶜ.given.1 variable-ofᶜ.ensures in exprs preᶜ (indexed-below letters.Letter.E b.0 index-ofᶜ.ensures) (indexed-below letters.Letter.E b.1 index-of2ᶜ.ensures)
+    let b = of-exprs preᶜ c.in-Expression.is variable-ofᶜ.ensures in exprs preᶜ (indexed-below letters.Letter.E b.0 index-ofᶜ.ensures) (indexed-below letters.Letter.E b.1 index-of2ᶜ.ensures)
 
 pub zamien_files-requires : goal.zamien_files-requires
 zamien_files-requires c =
@@ -42,12 +41,11 @@ zamien_files-requires c =
 pub returns-in-Expression : goal.returns-in-Expression
 returns-in-Expression c =
     let preᶜ = c.requires in
-    let enum-toldᶜ = c.enum_told-1 in
     let variable-ofᶜ = c.variable_of in
     let index-ofᶜ = c.index_of-i in
     let index-of2ᶜ = c.index_of-j in
     let zamien-exprsᶜ = c.zamien_exprs in
-    let b = of-exprs preᶜ enum-toldᶜ.given.1 variable-ofᶜ.ensures in performed preᶜ (indexed-is letters.Letter.E b.0 index-ofᶜ.ensures _) (indexed-is letters.Letter.E b.1 index-of2ᶜ.ensures _) b.2 zamien-exprsᶜ.ensures
+    let b = of-exprs preᶜ c.in-Expression.is variable-ofᶜ.ensures in performed preᶜ (indexed-is letters.Letter.E b.0 index-ofᶜ.ensures _) (indexed-is letters.Letter.E b.1 index-of2ᶜ.ensures _) b.2 zamien-exprsᶜ.ensures
 
 pub returns-in_default : goal.returns-in_default
 returns-in_default c =

@@ -5,8 +5,7 @@ use Rattle.perform_pointers.proofs.text_of.Goals as goal
 
 pub returns-in-Text : goal.returns-in-Text
 returns-in-Text c =
-    let aᶜ = c.a-1 in
-    aᶜ.given.1
+    c.in-Text.is
 
 pub returns-in_default : goal.returns-in_default
 returns-in_default c =

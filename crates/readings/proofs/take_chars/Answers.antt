@@ -12,8 +12,7 @@ pub first_chars-n-requires : goal.first_chars-n-requires
 first_chars-n-requires c =
     let argsᶜ = c.args in
     let preᶜ = c.requires in
-    let enum-toldᶜ = c.enum_told-1 in
-    firsts-room argsᶜ.test argsᶜ.given.now (preᶜ) enum-toldᶜ.given.1
+    firsts-room argsᶜ.test argsᶜ.given.now (preᶜ) c.in-Among.is
 
 pub slice_bounds-count_chars-end : goal.slice_bounds-count_chars-end
 slice_bounds-count_chars-end c =

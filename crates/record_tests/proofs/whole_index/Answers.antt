@@ -8,8 +8,7 @@ use Rattle.record_tests.proofs.whole_index.Goals as goal
 pub returns-in-Indexed : goal.returns-in-Indexed
 returns-in-Indexed c =
     let whole-letterᶜ = c.whole_letter in
-    let argᶜ = c.arg-1 in
-    whole-letterᶜ.ensures ∙ ap whole_index (sym argᶜ.given.1)
+    whole-letterᶜ.ensures ∙ ap whole_index (sym c.in-Indexed.is)
 
 pub returns-in_default : goal.returns-in_default
 returns-in_default c =

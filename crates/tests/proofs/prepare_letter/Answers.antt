@@ -49,10 +49,9 @@ returns-in-N c =
 
 pub returns-in-T : goal.returns-in-T
 returns-in-T c =
-    let enum-told2ᶜ = c.enum_told-in-T-1 in
     let preᶜ = c.requires in
     let prepare-anyᶜ = c.prepare_any in
-    letter-told enum-told2ᶜ.given.1 preᶜ.index prepare-anyᶜ.ensures
+    letter-told c.in-T.is preᶜ.index prepare-anyᶜ.ensures
 
 pub returns-in_default : goal.returns-in_default
 returns-in_default c =
