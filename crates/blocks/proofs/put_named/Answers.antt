@@ -2,7 +2,7 @@
 use borrow.Author.Rules.{rules}
 use native.Mathlib.Omega.{arith}
 use Rattle.layout.specs.Cells.{fours}
-use Rattle.layout.specs.CellLaws.{length-fours}
+use Rattle.layout.proofs.CellLaws.{length-fours}
 use Rattle.blocks.proofs.Laws.{set-and-paste}
 use Rattle.blocks.proofs.put_named.Goals as goal
 

@@ -4,7 +4,7 @@ use native.Mathlib.Omega.{arith}
 use lib.ListN.{length-take}
 use mathlib.Core.Path.{sym}
 use lib.Seq.{length-take-le}
-use Rattle.layout.specs.ComponentLaws.{whole-records}
+use Rattle.layout.proofs.ComponentLaws.{whole-records}
 use Rattle.transfers.proofs.Rooms.{left_most}
 use Rattle.copying.proofs.Taking.{front, part-long, bytes-few, droppable, records-few, parts-few, chars-few, copy-stop, copyable, copy-writable, copy_done}
 use Rattle.copying.proofs.copy_taken.Goals as goal

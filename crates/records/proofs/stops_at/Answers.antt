@@ -1,7 +1,7 @@
 -- `records::stops_at` meets its contract.
 use mathlib.Core.Path.{subst}
 use lib.ListN.{drop}
-use Rattle.layout.specs.ComponentLaws.{components-of, whole-components}
+use Rattle.layout.proofs.ComponentLaws.{components-of, whole-components}
 use Rattle.layout.specs.Components.{components_in, record_in}
 use Rattle.matching.specs.Tests.{until}
 use Rattle.records.specs.Sequences.{FittingRecords}
