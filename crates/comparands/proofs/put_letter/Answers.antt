@@ -1,5 +1,6 @@
 -- `comparands::put_letter` meets its contract.
 -- the letters left by N, T and E
+use borrow.Enum.Refused.{opened}
 use borrow.Author.Rules.{rules}
 use native.Mathlib.Omega.{arith}
 use mathlib.Core.Path.{◌≡◌, refl}
@@ -76,4 +77,4 @@ returns-in_default c =
     let preᶜ = c.requires in
     let matchᶜ = c.in_default.in_default-own in
     let put-firstᶜ = c.put_first in
-    letter-offered (state_at argsᶜ.pool.now argsᶜ.ends.now argsᶜ.nums.now).store (first-left argsᶜ.l preᶜ.form matchᶜ.keys4) preᶜ.index (λ ins. put-firstᶜ.ensures)
+    letter-offered (state_at argsᶜ.pool.now argsᶜ.ends.now argsᶜ.nums.now).store (first-left argsᶜ.l preᶜ.form (opened matchᶜ.keys4)) preᶜ.index (λ ins. put-firstᶜ.ensures)

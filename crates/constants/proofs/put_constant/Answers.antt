@@ -1,4 +1,5 @@
 -- `constants::put_constant` meets its contract.
+use borrow.Enum.Refused.{opened}
 use borrow.Author.Rules.{rules}
 use native.Mathlib.Omega.{arith}
 use Rattle.packed.specs.Packed.{table_of}
@@ -33,4 +34,4 @@ returns-in_default c =
     let argsᶜ = c.args in
     let preᶜ = c.requires in
     let matchᶜ = c.in_default.in_default-own in
-    absurd (no-constant argsᶜ.arg preᶜ.form matchᶜ.keys3)
+    absurd (no-constant argsᶜ.arg preᶜ.form (opened matchᶜ.keys3))

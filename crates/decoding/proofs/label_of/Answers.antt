@@ -1,4 +1,5 @@
 -- `decoding::label_of` meets its contract.
+use borrow.Enum.Refused.{opened}
 use borrow.Author.Rules.{rules}
 use Rattle.decoding.proofs.Letters.{is-labelled}
 use Rattle.decoding.proofs.label_of.Goals as goal
@@ -12,4 +13,4 @@ returns-in_default c =
     let argsᶜ = c.args in
     let preᶜ = c.requires in
     let matchᶜ = c.in_default.in_default-own in
-    absurd (is-labelled argsᶜ.a preᶜ matchᶜ.keys2)
+    absurd (is-labelled argsᶜ.a preᶜ (opened matchᶜ.keys2))

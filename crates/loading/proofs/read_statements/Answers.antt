@@ -1,4 +1,5 @@
 -- `loading::read_statements` meets its contract.
+use borrow.Enum.Refused.{opened}
 use borrow.Author.Rules.{rules}
 use native.Mathlib.Omega.{arith}
 use mathlib.Core.Path.{refl, ◌∙◌}
@@ -17,7 +18,7 @@ pub read_statement-a-requires : goal.read_statement-a-requires
 read_statement-a-requires c = search rules
 
 pub returns-in_default : goal.returns-in_default
-returns-in_default c = going-refused c.loop-q.invariant.going c.read_statement-a.ensures (other _ c.in_default.in_default-own.keys2)
+returns-in_default c = going-refused c.loop-q.invariant.going c.read_statement-a.ensures (other _ (opened c.in_default.in_default-own.keys2))
 
 pub returns-then-a : goal.returns-then-a
 returns-then-a c = going-last c.loop-q.invariant.going c.read_statement-a.ensures c.in-Statement.q c.in-Statement.is c.if-a.true

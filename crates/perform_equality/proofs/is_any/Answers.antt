@@ -1,4 +1,5 @@
 -- `perform_equality::is_any` meets its contract.
+use borrow.Enum.Refused.{opened}
 use borrow.Author.Rules.{rules}
 use Rattle.decoding.proofs.Letters.{is-lettered}
 use Rattle.perform_equality.proofs.is_any.Goals as goal
@@ -13,4 +14,4 @@ returns-in_default c =
     let argsᶜ = c.args in
     let preᶜ = c.requires in
     let matchᶜ = c.in_default.in_default-own in
-    absurd (is-lettered argsᶜ.a preᶜ matchᶜ.keys2)
+    absurd (is-lettered argsᶜ.a preᶜ (opened matchᶜ.keys2))

@@ -1,4 +1,5 @@
 -- `perform_equality::relate` meets its contract.
+use borrow.Enum.Refused.{opened}
 use borrow.Author.Rules.{rules}
 use Rattle.perform_equality.proofs.Operands.{related-named, input-relatable, input-related, expression-relating}
 use Rattle.perform_equality.proofs.relate.Goals as goal
@@ -25,7 +26,7 @@ relate_expression-requires c =
     let preᶜ = c.requires in
     let variable-ofᶜ = c.variable_of in
     let matchᶜ = c.in_default.in_default-own in
-    expression-relating preᶜ _ variable-ofᶜ.ensures matchᶜ.keys2
+    expression-relating preᶜ _ variable-ofᶜ.ensures (opened matchᶜ.keys2)
 
 pub returns-in-Input : goal.returns-in-Input
 returns-in-Input c =

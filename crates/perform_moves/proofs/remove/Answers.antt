@@ -1,4 +1,5 @@
 -- `perform_moves::remove` meets its contract.
+use borrow.Enum.Refused.{opened}
 use borrow.Author.Rules.{rules}
 use Rattle.perform_moves.proofs.Operands.{drop-from, passable, passed_by, removable, removed}
 use Rattle.perform_moves.proofs.remove.Goals as goal
@@ -26,7 +27,7 @@ usun-requires c =
     let index-ofᶜ = c.index_of-i in
     let variable-ofᶜ = c.variable_of in
     let matchᶜ = c.in_default.in_default-own in
-    removable preᶜ index-ofᶜ.ensures _ variable-ofᶜ.ensures matchᶜ.keys2
+    removable preᶜ index-ofᶜ.ensures _ variable-ofᶜ.ensures (opened matchᶜ.keys2)
 
 pub returns-in-Input : goal.returns-in-Input
 returns-in-Input c =
@@ -43,4 +44,4 @@ returns-in_default c =
     let variable-ofᶜ = c.variable_of in
     let matchᶜ = c.in_default.in_default-own in
     let usunᶜ = c.usun in
-    removed preᶜ index-ofᶜ.ensures _ variable-ofᶜ.ensures matchᶜ.keys2 usunᶜ.ensures
+    removed preᶜ index-ofᶜ.ensures _ variable-ofᶜ.ensures (opened matchᶜ.keys2) usunᶜ.ensures

@@ -1,4 +1,5 @@
 -- `perform_pointers::text_of` meets its contract.
+use borrow.Enum.Refused.{opened}
 use borrow.Author.Rules.{rules}
 use Rattle.perform_pointers.proofs.Operands.{text-left}
 use Rattle.perform_pointers.proofs.text_of.Goals as goal
@@ -12,4 +13,4 @@ returns-in_default c =
     let argsᶜ = c.args in
     let preᶜ = c.requires in
     let matchᶜ = c.in_default.in_default-own in
-    absurd (text-left argsᶜ.a preᶜ matchᶜ.keys2)
+    absurd (text-left argsᶜ.a preᶜ (opened matchᶜ.keys2))

@@ -1,4 +1,5 @@
 -- `readings::take_chars` meets its contract.
+use borrow.Enum.Refused.{opened}
 use borrow.Author.Rules.{rules}
 use mathlib.Core.List.{List}
 use mathlib.Core.Path.{subst}
@@ -36,4 +37,4 @@ returns-in_default c =
     let argsᶜ = c.args in
     let matchᶜ = c.in_default.in_default-own in
     let count-chars2ᶜ = c.count_chars-in_default in
-    took-free argsᶜ.test argsᶜ.given.now matchᶜ.keys2 count-chars2ᶜ.ensures
+    took-free argsᶜ.test argsᶜ.given.now (opened matchᶜ.keys2) count-chars2ᶜ.ensures

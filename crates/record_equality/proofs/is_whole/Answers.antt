@@ -1,4 +1,5 @@
 -- `record_equality::is_whole` meets its contract.
+use borrow.Enum.Refused.{opened}
 use borrow.Author.Rules.{rules}
 use Rattle.record_equality.proofs.Wholes.{argument-left}
 use Rattle.record_equality.proofs.is_whole.Goals as goal
@@ -17,4 +18,4 @@ pub returns-in_default : goal.returns-in_default
 returns-in_default c =
     let argsᶜ = c.args in
     let matchᶜ = c.in_default.in_default-own in
-    argument-left argsᶜ.arg matchᶜ.keys2
+    argument-left argsᶜ.arg (opened matchᶜ.keys2)

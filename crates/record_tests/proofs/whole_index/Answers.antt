@@ -1,4 +1,5 @@
 -- `record_tests::whole_index` meets its contract.
+use borrow.Enum.Refused.{opened}
 use borrow.Author.Rules.{rules}
 use mathlib.Core.Path.{sym, ap, ◌∙◌}
 use Rattle.record_tests.specs.RecordPrepares.{whole_index}
@@ -14,4 +15,4 @@ pub returns-in_default : goal.returns-in_default
 returns-in_default c =
     let argsᶜ = c.args in
     let matchᶜ = c.in_default.in_default-own in
-    argument-left argsᶜ.arg matchᶜ.keys2
+    argument-left argsᶜ.arg (opened matchᶜ.keys2)

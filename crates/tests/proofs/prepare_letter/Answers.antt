@@ -1,5 +1,6 @@
 -- `tests::prepare_letter` meets its contract.
 -- the letters left by N and T
+use borrow.Enum.Refused.{opened}
 use borrow.Author.Rules.{rules}
 use native.Mathlib.Omega.{arith}
 use mathlib.Core.Path.{◌≡◌, refl}
@@ -59,4 +60,4 @@ returns-in_default c =
     let preᶜ = c.requires in
     let matchᶜ = c.in_default.in_default-own in
     let prepare-firstᶜ = c.prepare_first in
-    letter-told (first-left argsᶜ.l preᶜ.form matchᶜ.keys3) preᶜ.index prepare-firstᶜ.ensures
+    letter-told (first-left argsᶜ.l preᶜ.form (opened matchᶜ.keys3)) preᶜ.index prepare-firstᶜ.ensures
