@@ -60,7 +60,7 @@ expand_body-written-requires t c = let a = c.args in
           known = p.known;
           most = omega (arith, p.most);
           count = omega (arith, l.invariant.1.most, l.invariant.1.size);
-          room = omega (arith, c.keep_call.auto.0, l.invariant.4, p.room);
+          room = omega (arith, l.invariant.4, p.room);
           remembers = remembers-nested a.text.now a.code.now a.names.now a.at.macros l.calls _ (levels - a.at.left) l.paused.cell l.paused.state (omega (arith, s.deeper, p.most)) c.keep_call.ensures l.invariant.6;
         },
       ),
@@ -80,7 +80,7 @@ run-paused-requires-in-loop-paused t c = let a = c.args in
             known = p.known;
             most = p.most;
             count = omega (arith, x.ensures.wrote.most, x.ensures.wrote.size);
-            room = omega (arith, x.auto.1.1.1.1.0, c.keep_call.auto.0, c.loop-paused.invariant.4, p.room);
+            room = omega (arith, c.loop-paused.invariant.4, p.room);
             remembers = x.ensures.remembers;
           }),
     )
@@ -96,7 +96,7 @@ loop-paused-preserved t c = let a = c.args in
     let turn = expand-turn a.text.now a.code.now a.names.now a.at.macros a.calls.now l.calls _ _ a.at.left (low a.code.now (a.at.cell + 1)) _ l.invariant.0
     c.run-paused.result.state l.paused.state c.expand_body-written.result _ l.out _ _ l.paused c.run-paused-in-loop-paused.result s.deeper c.requires.1.2.most
     (omega (arith, s.deeper, l.invariant.4, c.requires.1.2.room, c.requires.1.2.most)) l.invariant.3 c.keep_call.ensures l.invariant.1 l.invariant.2 c.loop-paused-test.true c.expand_body-written.ensures h in
-    (turn.0, turn.1, turn.2, turn.3, c.expand_body-written.auto.1.1.1.1.0 ∙ c.keep_call.auto.0 ∙ l.invariant.4, h.enters, remembers-stays a.text.now a.code.now a.names.now a.at.macros _ h.behind c.expand_body-written.result c.run-paused-in-loop-paused.result.state _ _ c.expand_body-written.ensures.remembers h.wrote)
+    (turn.0, turn.1, turn.2, turn.3, omega (arith, l.invariant.4), h.enters, remembers-stays a.text.now a.code.now a.names.now a.at.macros _ h.behind c.expand_body-written.result c.run-paused-in-loop-paused.result.state _ _ c.expand_body-written.ensures.remembers h.wrote)
 
 pub keep_body-requires : goal.keep_body-requires
 keep_body-requires t c = (c.requires.1.0, c.requires.1.1, omega (arith, c.loop-paused.invariant.4, c.requires.1.2.room))
