@@ -2,15 +2,5 @@
 -- (ReaderLaws), the arguments' forms (Reading, ReadingLaws, ArgumentLaws), the tables' new entries (FreshLaws) and a statement's parts
 -- (StatementLaws): every statement without faults keeps it (DraftLaws). Then the program's parts (ProgramLaws) and the theorem (AcceptanceLaws);
 -- and none of the text's labels is a keyword (NameLaws).
-pub mod RowLaws
 pub mod Reading
 pub mod Drafts
-pub mod ReaderLaws
-pub mod FreshLaws
-pub mod ReadingLaws
-pub mod ArgumentLaws
-pub mod StatementLaws
-pub mod DraftLaws
-pub mod ProgramLaws
-pub mod AcceptanceLaws
-pub mod NameLaws

@@ -8,8 +8,8 @@ use lib.IntN.{pos, nat_abs}
 use Rattle.finding.proofs.Found.{text-read, number_read}
 use Rattle.language.specs.Limits as limit
 use Rattle.language.specs.Program.{Arg, Program}
-use Rattle.layout.specs.ArgumentLaws.{arg-back}
-use Rattle.layout.specs.CellLaws.{each_in, uncode-code}
+use Rattle.layout.proofs.ArgumentLaws.{arg-back}
+use Rattle.layout.proofs.CellLaws.{each_in, uncode-code}
 use Rattle.layout.specs.Cells.{cell, uncode}
 use Rattle.layout.specs.Table.{number_in, arg_by}
 use Rattle.machine.specs.WellFormed.{ranged}

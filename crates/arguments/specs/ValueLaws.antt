@@ -6,8 +6,8 @@ use Rattle.std.proofs.Math.Bool.{and-false}
 use mathlib.Core.List.{List, []}
 use Rattle.std.proofs.Math.Dec.{T}
 use borrow.Author.Tests.{eqb-true, eqb-false}
-use Rattle.acceptance.specs.ArgumentLaws.{first_is, number-form}
-use Rattle.acceptance.specs.ReadingLaws.{Other, by_form, other-reads, text-reads, as-word}
+use Rattle.acceptance.proofs.ArgumentLaws.{first_is, number-form}
+use Rattle.acceptance.proofs.ReadingLaws.{Other, by_form, other-reads, text-reads, as-word}
 use Rattle.cells.specs.Cells as Cells
 use Rattle.drafts.specs.Drafting.{draft_arg}
 use Rattle.forms.specs.KindLaws.{indexed-name, indexed-class, class-name, name-number}
@@ -16,7 +16,7 @@ use Rattle.language.specs.Letters.{Letter, letter_code, use_of, indices}
 use Rattle.language.specs.Limits as limit
 use Rattle.language.specs.Program.{Arg, classes, identifier}
 use Rattle.language.specs.Values.{numeral, value_of, in_range, amount}
-use Rattle.layout.specs.ArgumentLaws.{letter-back}
+use Rattle.layout.proofs.ArgumentLaws.{letter-back}
 use Rattle.layout.specs.Cells.{code}
 use Rattle.layout.specs.Table.{letter_place, class_mask}
 use Rattle.lexer.specs.declared.Token.{Token}
@@ -28,7 +28,7 @@ use Rattle.spelling.specs.Spelling.{text_in}
 use Rattle.syntax.specs.ArgumentForms.{word_reads, reads, is_index, is_indexed, letter_of}
 use Rattle.syntax.specs.Items.{Item, is}
 use Rattle.syntax.specs.Items.Sort.{word, text}
-use Rattle.syntax.specs.LetterLaws.{letter_of-code}
+use Rattle.syntax.proofs.LetterLaws.{letter_of-code}
 use Rattle.table.specs.declared.Argument.{Argument}
 use Rattle.table.specs.declared.Argument.TheVariants.{Nothing, Indexed, Label, Switch, Class, Number}
 use Rattle.table.specs.Denote as denote

@@ -10,7 +10,7 @@ use lib.Signed.{quot_z, rem_z}
 use borrow.Author.Tests.{leb-true, ltb-true, ltb-false, le-leb, lt-leb}
 use Rattle.language.specs.Values.{in_range}
 use Rattle.layout.specs.Cells.{code, uncode}
-use Rattle.layout.specs.CellLaws.{uncode-code}
+use Rattle.layout.proofs.CellLaws.{uncode-code}
 use Rattle.operands.proofs.Codes.{code_most, code-back, abs-most}
 use Rattle.tests.proofs.Values.{low, high}
 use Rattle.arithmetic.specs.Arithmetic.{result, negative, differ, signed, Coded, Size, Codes}

@@ -11,8 +11,8 @@ use borrow.Author.Tests.{leb-true}
 use Rattle.language.specs.Values.{Component, in_range}
 use Rattle.layout.specs.Bounds.{Encoded}
 use Rattle.layout.specs.Cells.{uncode}
-use Rattle.layout.specs.CellLaws.{uncode-code}
-use Rattle.layout.specs.ComponentLaws.{components-of, whole-components}
+use Rattle.layout.proofs.CellLaws.{uncode-code}
+use Rattle.layout.proofs.ComponentLaws.{components-of, whole-components}
 use Rattle.layout.specs.Components.{component_bytes, components_bytes, components_in}
 use Rattle.cells.specs.Cells.{pasted}
 use Rattle.cells.proofs.Laws.{pasted-front}

@@ -13,22 +13,22 @@ use Rattle.language.specs.Values.{State, Inputs}
 use Rattle.machine.specs.Runs.{Answer, Run, Says, run, ran}
 use Rattle.machine.specs.Runs.Answer.{pause, stopped}
 use Rattle.machine.specs.Runs.Says.{halted}
-use Rattle.machine.specs.RunLaws.{run-lawful}
+use Rattle.machine.proofs.RunLaws.{run-lawful}
 use Rattle.machine.specs.Steps.{step}
-use Rattle.machine.specs.StepLaws.{run-good}
+use Rattle.machine.proofs.StepLaws.{run-good}
 use Rattle.machine.specs.WellFormed.{good_program, good_inputs, good_state, started}
-use Rattle.machine.specs.WellFormedLaws.{started-good, open-state}
+use Rattle.machine.proofs.WellFormedLaws.{started-good, open-state}
 use Rattle.layout.specs.Bounds.{Fine}
-use Rattle.layout.specs.FineLaws.{good-fine}
+use Rattle.layout.proofs.FineLaws.{good-fine}
 use Rattle.layout.specs.Memory.{state_of, good_memory, written}
-use Rattle.layout.specs.MemoryLaws.{written_back, written-good, memory-facts}
+use Rattle.layout.proofs.MemoryLaws.{written_back, written-good, memory-facts}
 use Rattle.layout.specs.Table.{program_of, good_table}
-use Rattle.layout.specs.TableLaws.{table-facts}
+use Rattle.layout.proofs.TableLaws.{table-facts}
 use Rattle.calls.specs.Calls.{packed, Result, Reply, reply_number, reply_count, reply_answer, run_reply, start_of, run_of, accepted_result}
 use Rattle.calls.specs.Calls.Call.{start_on, run_on}
-use Rattle.calls.specs.OrderLaws.{refused_as, is-62, is-61, is-accepted}
-use Rattle.calls.specs.CallLaws.{run_ends}
-use Rattle.calls.specs.AnswerLaws.{number_most, count-within, packed-number, packed-value}
+use Rattle.calls.proofs.OrderLaws.{refused_as, is-62, is-61, is-accepted}
+use Rattle.calls.proofs.CallLaws.{run_ends}
+use Rattle.calls.proofs.AnswerLaws.{number_most, count-within, packed-number, packed-value}
 use Rattle.interpreter.specs.Answers.{Answers}
 use Rattle.viewing.specs.Viewing.{Rests}
 use Rattle.console.specs.Console.{budget, refusal_line, ran_bytes, program_bytes}

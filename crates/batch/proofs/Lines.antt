@@ -10,7 +10,7 @@ use Rattle.cells.specs.Cells.{Number}
 use Rattle.layout.specs.Cells.{cell}
 use Rattle.layout.specs.Memory.{state_of}
 use Rattle.layout.specs.Table.{program_of, instr_in}
-use Rattle.layout.specs.TableLaws.{table-facts}
+use Rattle.layout.proofs.TableLaws.{table-facts}
 use Rattle.packed.specs.Packed.{table_of}
 use Rattle.table.specs.Good.{GoodInstruction}
 use Rattle.table.specs.GoodLaws.{good-instruction}

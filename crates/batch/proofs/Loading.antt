@@ -11,13 +11,13 @@ use Rattle.language.specs.Limits as limit
 use Rattle.language.specs.Values.{Inputs}
 use Rattle.machine.specs.WellFormed.{good_program}
 use Rattle.layout.specs.Table.{table_cells, program_of, good_table}
-use Rattle.layout.specs.TableLaws.{program_of-cells, table_good}
+use Rattle.layout.proofs.TableLaws.{program_of-cells, table_good}
 use Rattle.macros.specs.Load.{load_in, load_of}
 use Rattle.syntax.specs.Load.{Loaded}
 use Rattle.syntax.specs.Load.Loaded.{refused, accepted}
-use Rattle.acceptance.specs.AcceptanceLaws.{accepted-good}
+use Rattle.acceptance.proofs.AcceptanceLaws.{accepted-good}
 use Rattle.calls.specs.Calls.{load_number, load_line, load_answer, table_after}
-use Rattle.calls.specs.LoadLaws.{load-accepts, line-within, number-back, line-back}
+use Rattle.calls.proofs.LoadLaws.{load-accepts, line-within, number-back, line-back}
 use Rattle.console.specs.Console.{text_of, input_of, refusal_line, program_bytes, loaded_bytes, printed}
 use Rattle.console.specs.Parts.{Put, TextEnd, RefusalRoom}
 use Rattle.console.proofs.Putting.{put_same}

@@ -9,7 +9,7 @@ use lib.ListN.{length, get_or, set, take, drop, replicate}
 use lib.Seq.{paste, get_or-drop, drop-drop, sets-eq, set_split}
 use Rattle.cells.proofs.Laws.{put-turn, clear-turn, pasted-pasted}
 use Rattle.cells.specs.Cells.{pasted}
-use Rattle.layout.specs.CellLaws.{length-fours}
+use Rattle.layout.proofs.CellLaws.{length-fours}
 use Rattle.layout.specs.Cells.{cell, four, fours}
 
 -- cell q of the characters of w

@@ -1,9 +1,3 @@
 pub mod Calls
 pub mod Filling
 pub mod Answers
-pub mod QuestionLaws
-pub mod CallLaws
-pub mod AnswerLaws
-pub mod FillingLaws
-pub mod OrderLaws
-pub mod LoadLaws

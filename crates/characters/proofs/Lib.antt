@@ -1,2 +1,3 @@
 mod Tables
 mod Steps
+pub mod CharacterLaws

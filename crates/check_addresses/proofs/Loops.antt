@@ -10,7 +10,7 @@ use lib.ListN.{length, get_or, take, drop, set, length-drop, length-set}
 use lib.Seq.{take_all, drop-cons, drop-length, take-suc-set}
 use Rattle.layout.specs.Bounds.{WholeRecords}
 use Rattle.layout.specs.Components.{record_in, records_in, addresses_in}
-use Rattle.layout.specs.ComponentLaws.{records-none}
+use Rattle.layout.proofs.ComponentLaws.{records-none}
 use Rattle.lists.specs.Lists.{any}
 use Rattle.machine.specs.WellFormed.{different}
 use Rattle.records.specs.Places.{Starts, Ends}

@@ -14,7 +14,7 @@ use Rattle.check_strings.specs.Sound.{Bytes, given}
 use Rattle.language.specs.Limits as limit
 use Rattle.language.specs.Program.{Program}
 use Rattle.language.specs.Values.{Inputs, chars}
-use Rattle.layout.specs.CellLaws.{length-each}
+use Rattle.layout.proofs.CellLaws.{length-each}
 use Rattle.layout.specs.Cells.{two, three, three_at}
 use Rattle.layout.specs.Memory.{scalars, strings, state_cells, threes_in, twos_in, state_by, state_in}
 use Rattle.layout.specs.Strings.{string_cells}
@@ -22,7 +22,7 @@ use Rattle.layout.specs.Places as layout
 use Rattle.lists.specs.ListLaws.{Passed, parts, T-left, T-right, T-both}
 use Rattle.lists.specs.Lists.{total, all, each}
 use Rattle.machine.specs.Changes.{held, recorded, fits}
-use Rattle.machine.specs.WellFormedLaws.{shut-state}
+use Rattle.machine.proofs.WellFormedLaws.{shut-state}
 use Rattle.machine.specs.WellFormed.{strange, different, good_return, store_faults, addresses, store_tests, good_store, good_state}
 use Rattle.check_memory.specs.Passes.{sizes, sum, zeros, expressions, halves, distinct, sound_output}
 use Rattle.check_memory.proofs.Cells.{threes-at, each-threes, each-twos, string_cells-back}

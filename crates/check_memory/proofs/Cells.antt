@@ -12,7 +12,7 @@ use Rattle.check_strings.proofs.RecordWalks.{two_cells, three-front}
 use Rattle.check_strings.specs.Sound.{Bytes}
 use Rattle.layout.specs.Cells.{two, two_at, three, three_at}
 use Rattle.layout.specs.Memory.{threes_in, twos_in}
-use Rattle.layout.specs.StringLaws.{used-cons}
+use Rattle.layout.proofs.StringLaws.{used-cons}
 use Rattle.layout.specs.Strings.{lengths, used, string_cells, lengths_in, cut_by, strings_in}
 use Rattle.layout.specs.Places as layout
 use Rattle.lists.specs.ListLaws.{T-left, T-right}

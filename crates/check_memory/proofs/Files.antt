@@ -10,7 +10,7 @@ use Rattle.check_strings.proofs.ComponentWalks.{parts-open, parts-close}
 use Rattle.check_strings.proofs.RecordWalks.{rows-open, rows-close}
 use Rattle.check_strings.specs.Sound.{sound_components, given, sound_records}
 use Rattle.language.specs.Values.{Record}
-use Rattle.layout.specs.CellLaws.{twice}
+use Rattle.layout.proofs.CellLaws.{twice}
 use Rattle.layout.specs.Components.{components_bytes, records_bytes, components_in, records_in, addresses_in}
 use Rattle.layout.specs.Memory.{file_strings, files_in}
 use Rattle.lists.specs.ListLaws.{T-left, T-right, T-both, total-append}

@@ -15,7 +15,7 @@ use Rattle.check_addresses.specs.Collected.{Collectable, Collected}
 use Rattle.language.specs.Limits as limit
 use Rattle.language.specs.Values.{chars}
 use Rattle.layout.specs.Bounds.{Each, WholeComponents, WholeRecords}
-use Rattle.layout.specs.CellLaws.{each_in}
+use Rattle.layout.proofs.CellLaws.{each_in}
 use Rattle.layout.specs.Cells.{three_at}
 use Rattle.layout.specs.Components.{components_in, records_in, addresses_in}
 use Rattle.layout.specs.Places as layout

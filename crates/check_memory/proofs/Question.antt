@@ -15,12 +15,12 @@ use Rattle.language.specs.Limits as limit
 use Rattle.language.specs.Program.{Program}
 use Rattle.language.specs.Values.{Inputs, chars}
 use Rattle.layout.specs.Bounds.{Fine, AtRest}
-use Rattle.layout.specs.CellLaws.{length-each}
+use Rattle.layout.proofs.CellLaws.{length-each}
 use Rattle.layout.specs.Cells.{two, three, three_at}
-use Rattle.layout.specs.FineLaws.{fine-room}
+use Rattle.layout.proofs.FineLaws.{fine-room}
 use Rattle.layout.specs.Memory.{scalars, strings, state_cells, threes_in, twos_in, state_of, long_enough, good_memory}
-use Rattle.layout.specs.MemoryLaws.{memory-facts, memory-fine, memory-strings, memory-scalars}
-use Rattle.layout.specs.StringLaws.{length-lengths, lengths_in-lengths}
+use Rattle.layout.proofs.MemoryLaws.{memory-facts, memory-fine, memory-strings, memory-scalars}
+use Rattle.layout.proofs.StringLaws.{length-lengths, lengths_in-lengths}
 use Rattle.layout.specs.Strings.{lengths, used, string_cells, lengths_in}
 use Rattle.layout.specs.Places as layout
 use Rattle.lists.specs.ListLaws.{part, T-left, T-right, T-both, same_bytes-refl}
@@ -28,7 +28,7 @@ use Rattle.lists.specs.Lists.{total, all, each, head_or, joined, bytes_equal}
 use Rattle.machine.specs.Changes.{held, recorded, fits}
 use Rattle.machine.specs.Facts.{StateFacts}
 use Rattle.machine.specs.WellFormed.{strange, different, good_program, good_return, good_inputs, store_faults, addresses, store_tests, good_store, good_state}
-use Rattle.machine.specs.WellFormedLaws.{open-state}
+use Rattle.machine.proofs.WellFormedLaws.{open-state}
 use Rattle.check_memory.specs.Passes.{sizes, sum, zeros, laid, expressions, halves, sound, counted, distinct, sound_output, fitting}
 use Rattle.check_memory.proofs.Accepts.{cells_same, state_good}
 use Rattle.check_memory.proofs.Cells.{threes-at, sum-lengths, replicated-zeros}

@@ -17,7 +17,7 @@ use Rattle.machine.specs.Arguments.{records}
 use Rattle.machine.specs.Changes.{held, recorded}
 use Rattle.machine.specs.WellFormed.{strange, faults, record_faults, overrun, store_faults, addresses}
 use Rattle.check_memory.specs.Passes.{all_strings, expressions, halves, record_count}
-use Rattle.layout.specs.StringLaws.{length-strings_in}
+use Rattle.layout.proofs.StringLaws.{length-strings_in}
 use Rattle.layout.specs.Places as layout
 use Rattle.check_memory.proofs.Cells.{threes-at}
 use Rattle.check_memory.proofs.Files.{again, again_records, length-files_in, strings_of-files, total-of-files, addresses-of-files}

@@ -15,7 +15,7 @@ use Rattle.layout.specs.Strings.{lengths_in, cut_by, strings_in}
 use Rattle.lists.specs.Lists.{all}
 use Rattle.check_memory.specs.Passes.{sizes, sum}
 use Rattle.check_memory.specs.Reads.{Started, Named, StringLent}
-use Rattle.layout.specs.StringLaws.{length-lengths_in}
+use Rattle.layout.proofs.StringLaws.{length-lengths_in}
 use Rattle.layout.specs.Places as layout
 
 -- a test of all cells, from front to back

@@ -14,7 +14,7 @@ use Rattle.language.specs.Limits as limit
 use Rattle.language.specs.Values.{Component, Record, chars}
 use Rattle.language.specs.Values.Component.{word, address}
 use Rattle.layout.specs.Bounds.{Each, Ok, RecordOk, WholeComponents, WholeRecords}
-use Rattle.layout.specs.CellLaws.{each_left, each-drop, each_at}
+use Rattle.layout.proofs.CellLaws.{each_left, each-drop, each_at}
 use Rattle.layout.specs.Components.{components_in, records_in}
 use Rattle.layout.specs.Strings.{lengths_in, cut_by, strings_in}
 use Rattle.layout.specs.Places as layout

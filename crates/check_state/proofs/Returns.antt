@@ -17,10 +17,10 @@ use Rattle.layout.specs.Places as layout
 use Rattle.layout.specs.Cells.{cell, two_at}
 use Rattle.layout.specs.Memory.{twos_in}
 use Rattle.layout.specs.Table.{program_of, good_table}
-use Rattle.layout.specs.TableLaws.{table-facts}
+use Rattle.layout.proofs.TableLaws.{table-facts}
 use Rattle.lists.specs.Lists.{all}
 use Rattle.machine.specs.WellFormed.{good_return}
-use Rattle.machine.specs.WellFormedLaws.{open-program}
+use Rattle.machine.proofs.WellFormedLaws.{open-program}
 use Rattle.packed.specs.Packed.{table_of}
 use Rattle.table.specs.GoodLaws.{good-instruction}
 use Rattle.table.specs.ReadLaws.{code_count}

@@ -17,7 +17,7 @@ use Rattle.check_strings.specs.Sound.{Bytes}
 use Rattle.layout.specs.Cells.{cell, three_at}
 use Rattle.layout.specs.Memory.{good_memory}
 use Rattle.layout.specs.Table.{program_of, good_table}
-use Rattle.layout.specs.TableLaws.{table-facts}
+use Rattle.layout.proofs.TableLaws.{table-facts}
 use Rattle.layout.specs.Places as layout
 use Rattle.language.specs.Limits as limit
 use Rattle.packed.specs.Packed.{table_of}

@@ -18,7 +18,7 @@ use Rattle.language.specs.Values.Component.{word, address}
 use Rattle.layout.specs.Bounds.{Each, Ok, WholeComponents}
 use Rattle.layout.specs.Cells.{cell, three, three_at, uncode}
 use Rattle.layout.specs.Components.{component_bytes, components_bytes, component_size, component_in, components_from, components_in}
-use Rattle.layout.specs.ComponentLaws.{components-front, next-component}
+use Rattle.layout.proofs.ComponentLaws.{components-front, next-component}
 use Rattle.lists.specs.ListLaws.{T-left, T-right, T-both, same_bytes-eq, same_bytes-refl, all-total, none-fail}
 use Rattle.lists.specs.Lists.{total, all, bytes_equal}
 use Rattle.machine.specs.WellFormed.{void, strange, faults}

@@ -11,10 +11,10 @@ use borrow.Author.Tests.{eq-eqb}
 use Rattle.language.specs.Limits as limit
 use Rattle.language.specs.Values.{Record}
 use Rattle.layout.specs.Bounds.{Each, RecordOk, WholeComponents, WholeRecords}
-use Rattle.layout.specs.CellLaws.{two_back}
+use Rattle.layout.proofs.CellLaws.{two_back}
 use Rattle.layout.specs.Cells.{two, two_at, three, three_at}
 use Rattle.layout.specs.Components.{components_bytes, record_bytes, records_bytes, components_in, record_in, records_from, records_in, addresses_in}
-use Rattle.layout.specs.ComponentLaws.{next-component, components-none, record-length, records-front, next-record}
+use Rattle.layout.proofs.ComponentLaws.{next-component, components-none, record-length, records-front, next-record}
 use Rattle.lists.specs.ListLaws.{T-left, T-right, T-both, same_bytes-eq, same_bytes-refl, all_head, all_tail, all_cons}
 use Rattle.lists.specs.Lists.{total, all, bytes_equal}
 use Rattle.machine.specs.WellFormed.{void, faults, record_faults}

@@ -16,7 +16,7 @@ use Rattle.lists.specs.ListLaws.{T-left, T-right, T-both}
 use Rattle.lists.specs.Lists.{filled, bytes_equal}
 use Rattle.lists.specs.TableLaws.{beq-eq, below}
 use Rattle.machine.specs.WellFormed.{good_text, kept_text, kept_number, ranged}
-use Rattle.layout.specs.ArgumentLaws.{class_mask-most}
+use Rattle.layout.proofs.ArgumentLaws.{class_mask-most}
 use Rattle.layout.specs.Cells.{cell}
 use Rattle.layout.specs.Table.{letter_place, class_mask, arg_cell, text_by, number_by, class_by, arg_by}
 use Rattle.check_parts.specs.Parts.{index_top, letter_fits, class_fits, ref_fits, arg_fits}

@@ -9,7 +9,7 @@ use Rattle.characters.specs.Characters.{known}
 use Rattle.lists.specs.ListLaws.{T-both, all-at}
 use Rattle.lists.specs.Lists.{all}
 use Rattle.layout.specs.Bounds.{Below}
-use Rattle.layout.specs.CellLaws.{length-fours, each_at, each-drop}
+use Rattle.layout.proofs.CellLaws.{length-fours, each_at, each-drop}
 use Rattle.layout.specs.Cells.{cell, four, fours, unfours}
 use Rattle.check_parts.specs.Parts.{alphanumeric, char, char_fits, chars_fit}
 use Rattle.check_parts.specs.PassLaws.{each_below, all-below}

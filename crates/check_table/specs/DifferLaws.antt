@@ -12,7 +12,7 @@ use Rattle.language.specs.Values.{same_number}
 use Rattle.lists.specs.ListLaws.{T-left, T-right, T-both, same_bytes-eq, same_bytes-refl}
 use Rattle.lists.specs.Lists.{bytes_equal}
 use Rattle.machine.specs.WellFormed.{different}
-use Rattle.layout.specs.CellLaws.{length-fours}
+use Rattle.layout.proofs.CellLaws.{length-fours}
 use Rattle.layout.specs.Cells.{cell, unfours, tab}
 use Rattle.layout.specs.Table.{text_cells, text_in, number_in}
 use Rattle.layout.specs.Places as layout

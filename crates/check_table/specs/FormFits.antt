@@ -20,7 +20,7 @@ use Rattle.syntax.specs.ArgumentForms.{alternatives}
 use Rattle.forms.specs.Forms.{forms, bits, mask, listed as listed_at}
 use Rattle.forms.specs.ReadingLaws.{set-listed, two-lists}
 use Rattle.forms.specs.SetLaws.{and_mask}
-use Rattle.layout.specs.CellLaws.{get_d-tab}
+use Rattle.layout.proofs.CellLaws.{get_d-tab}
 use Rattle.layout.specs.Cells.{cell}
 use Rattle.layout.specs.Table.{arg_by, switch_in}
 use Rattle.layout.specs.Places as layout

@@ -10,8 +10,8 @@ use Rattle.lists.specs.ListLaws.{T-left, T-right, T-both}
 use Rattle.lists.specs.TableLaws.{below}
 use Rattle.machine.specs.Facts.{InstrFacts}
 use Rattle.machine.specs.WellFormed.{ranged, listed, good_instr}
-use Rattle.machine.specs.WellFormedLaws.{open-instr}
-use Rattle.layout.specs.ArgumentLaws.{operator-range}
+use Rattle.machine.proofs.WellFormedLaws.{open-instr}
+use Rattle.layout.proofs.ArgumentLaws.{operator-range}
 use Rattle.layout.specs.Cells.{cell}
 use Rattle.layout.specs.Table.{arg_cell, instr_cells, instr_in}
 use Rattle.layout.specs.Places as layout

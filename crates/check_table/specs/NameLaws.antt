@@ -11,9 +11,9 @@ use Rattle.lists.specs.ListLaws.{T-left, T-right, T-both, all_cons, all_tail}
 use Rattle.lists.specs.Lists.{all, filled}
 use Rattle.machine.specs.Facts.{LabelFacts}
 use Rattle.machine.specs.WellFormed.{good_word, good_text, good_label}
-use Rattle.machine.specs.WellFormedLaws.{open-label}
+use Rattle.machine.proofs.WellFormedLaws.{open-label}
 use Rattle.layout.specs.Cells.{cell, fours}
-use Rattle.layout.specs.ProgramLaws.{known-below, identifier-below}
+use Rattle.layout.proofs.ProgramLaws.{known-below, identifier-below}
 use Rattle.layout.specs.Table.{label_cells, text_cells, text_in, label_in}
 use Rattle.layout.specs.Places as layout
 use Rattle.check_parts.specs.Parts.{alphanumeric, char, chars_fit, text_fits, label_fits}

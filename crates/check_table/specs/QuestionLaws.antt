@@ -14,14 +14,14 @@ use Rattle.lists.specs.ListLaws.{T-left, T-right, T-both, part, parts}
 use Rattle.lists.specs.Lists.{total, all, each, bytes_equal}
 use Rattle.machine.specs.Facts.{ProgramFacts}
 use Rattle.machine.specs.WellFormed.{good_instr, good_label, good_switch, different, program_tests, good_program}
-use Rattle.machine.specs.WellFormedLaws.{open-program}
+use Rattle.machine.proofs.WellFormedLaws.{open-program}
 use Rattle.forms.specs.Forms.{ends}
 use Rattle.forms.specs.ReadingLaws.{ends-listed}
-use Rattle.layout.specs.CellLaws.{get_d-tab}
+use Rattle.layout.proofs.CellLaws.{get_d-tab}
 use Rattle.layout.specs.Cells.{cell, tab}
-use Rattle.layout.specs.ProgramLaws.{program-ok, length-each-total}
+use Rattle.layout.proofs.ProgramLaws.{program-ok, length-each-total}
 use Rattle.layout.specs.Table.{instr_cells, label_cells, text_cells, switch_cells, entry_cell, all_entries, counts, table_cells, text_in, number_in, instr_in, label_in, switch_in, program_in, program_of, good_table}
-use Rattle.layout.specs.TableLaws.{length-table_cells}
+use Rattle.layout.proofs.TableLaws.{length-table_cells}
 use Rattle.layout.specs.Places as layout
 use Rattle.packed.specs.Packed.{table_of}
 use Rattle.check_parts.specs.Parts.{passes, instr_fits, label_fits}

@@ -14,11 +14,11 @@ use Rattle.language.specs.Program.{Program}
 use Rattle.language.specs.Values.{same_number, in_range}
 use Rattle.lists.specs.ListLaws.{T-left, T-right, T-both, same_bytes-eq, same_bytes-refl}
 use Rattle.lists.specs.Lists.{any, all, ahead, filled, bytes_equal}
-use Rattle.machine.specs.ValueLaws.{same_number-eq, same_number-refl}
+use Rattle.machine.proofs.ValueLaws.{same_number-eq, same_number-refl}
 use Rattle.machine.specs.WellFormed.{good_word, good_text, kept_text, kept_number, different}
-use Rattle.layout.specs.CellLaws.{length-tab, get_d-tab, each_at, found}
+use Rattle.layout.proofs.CellLaws.{length-tab, get_d-tab, each_at, found}
 use Rattle.layout.specs.Cells.{cell, code, uncode, tab}
-use Rattle.layout.specs.ProgramLaws.{known-below}
+use Rattle.layout.proofs.ProgramLaws.{known-below}
 use Rattle.layout.specs.Table.{text_ref, number_ref, text_in, number_in, text_by, number_by, switch_in}
 use Rattle.check_parts.specs.Parts.{ref_fits}
 use Rattle.check_table.specs.NameLaws.{kept_good}

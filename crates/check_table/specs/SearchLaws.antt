@@ -5,7 +5,7 @@ use Rattle.std.proofs.Math.Dec.{eqb_refl}
 use Rattle.language.specs.Values.{same_number, in_range}
 use Rattle.lists.specs.ListLaws.{T-left, T-right, T-both}
 use Rattle.lists.specs.Lists.{any, ahead}
-use Rattle.machine.specs.ValueLaws.{same_number-eq, same_number-refl}
+use Rattle.machine.proofs.ValueLaws.{same_number-eq, same_number-refl}
 use Rattle.machine.specs.WellFormed.{different}
 use Rattle.layout.specs.Cells.{cell, code, uncode}
 use Rattle.layout.specs.Places as layout

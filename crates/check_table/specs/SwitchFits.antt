@@ -13,7 +13,7 @@ use Rattle.language.specs.Program.{Entry, Switch, Program}
 use Rattle.lists.specs.ListLaws.{T-left, T-right, T-both}
 use Rattle.lists.specs.Lists.{total, all, filled, each}
 use Rattle.machine.specs.WellFormed.{good_text, kept_text, good_entry, good_switch}
-use Rattle.layout.specs.CellLaws.{length-tab}
+use Rattle.layout.proofs.CellLaws.{length-tab}
 use Rattle.layout.specs.Cells.{cell, tab}
 use Rattle.layout.specs.Table.{text_ref, switch_cell, switch_cells, entry_cell, text_by, entry_in, switch_in}
 use Rattle.layout.specs.Places as layout

@@ -10,7 +10,7 @@ use Rattle.std.proofs.lemmas.List.{length-map}
 use Rattle.language.specs.Program.{Label, Switch, Program}
 use Rattle.lists.specs.ListLaws.{T-left, T-right, T-both}
 use Rattle.lists.specs.Lists.{each}
-use Rattle.layout.specs.CellLaws.{length-tab, length-each, length-fours, length-padded}
+use Rattle.layout.proofs.CellLaws.{length-tab, length-each, length-fours, length-padded}
 use Rattle.layout.specs.Cells.{cell, code, tab, padded}
 use Rattle.layout.specs.Table.{instr_cells, label_cells, text_cells, switch_cells, entry_cell, all_entries, counts, table_cells, text_in, number_in, instr_in, label_in, switch_in, program_in}
 use Rattle.layout.specs.Places as layout

@@ -11,7 +11,7 @@ use borrow.Author.Tests.{le-leb, lt-leb, eq-eqb, ne_eqb}
 use Rattle.cells.specs.Cells.{Number}
 use Rattle.language.specs.Limits as limit
 use Rattle.class_calls.specs.Class.{class, sum, fits_by}
-use Rattle.class_calls.specs.WritingLaws.{sum-next}
+use Rattle.class_calls.proofs.WritingLaws.{sum-next}
 
 pub record Adding (ns : List ℕ) (sum_so_far k : ℕ) : Type 0 where
   pub is : sum_so_far ≡ sum (take k ns)

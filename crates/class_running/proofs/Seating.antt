@@ -13,20 +13,20 @@ use Rattle.language.specs.Values.{State}
 use Rattle.machine.specs.Runs.{Answer, Run, run}
 use Rattle.machine.specs.Runs.Answer.{pause, stopped}
 use Rattle.machine.specs.Steps.{step}
-use Rattle.machine.specs.StepLaws.{run-good}
+use Rattle.machine.proofs.StepLaws.{run-good}
 use Rattle.machine.specs.WellFormed.{good_inputs, good_state, started}
-use Rattle.machine.specs.WellFormedLaws.{started-good}
+use Rattle.machine.proofs.WellFormedLaws.{started-good}
 use Rattle.layout.specs.Memory.{state_of, long_enough, good_memory, written}
-use Rattle.layout.specs.MemoryLaws.{written_back, written-good, memory-facts}
+use Rattle.layout.proofs.MemoryLaws.{written_back, written-good, memory-facts}
 use Rattle.layout.specs.Table.{program_of}
-use Rattle.layout.specs.TableLaws.{table-facts}
+use Rattle.layout.proofs.TableLaws.{table-facts}
 use Rattle.cells.specs.Cells.{pasted}
 use Rattle.calls.specs.Calls.{reply_number, reply_count, run_reply}
 use Rattle.running.specs.Running.{answer_number, run_on, Runnable, RanOn}
 use Rattle.running.specs.declared.Ran.{Ran}
 use Rattle.viewing.specs.Viewing.{Rests, Shows}
 use Rattle.class_calls.specs.Class.{Pupil, inputs_of, shown, pupil}
-use Rattle.class_calls.specs.ClassLaws.{pupil-fine, from_start, memory-good, pupil-refused, pupil-accepted}
+use Rattle.class_calls.proofs.ClassLaws.{pupil-fine, from_start, memory-good, pupil-refused, pupil-accepted}
 use Rattle.class_running.specs.ClassRunning.{Showable, Shown, Seated, Answered}
 use Rattle.class_running.specs.declared.Told.{Told}
 

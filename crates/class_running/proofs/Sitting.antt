@@ -15,10 +15,10 @@ use Rattle.layout.specs.Table.{good_table}
 use Rattle.cells.specs.Cells.{pasted, Number}
 use Rattle.class_calls.specs.Class.{lent_of, Pupil, refused_pupil, pupil, Lent, sum, class_fits, pupils, ClassReply, class_of, class_number, result_cells, results_of, results_after, outputs_of, outputs_after}
 use Rattle.class_calls.specs.Class.ClassReply.{class_refused, taken}
-use Rattle.class_calls.specs.ClassLaws.{q1-most}
-use Rattle.class_calls.specs.FitLaws.{ClassFits, fits-facts}
-use Rattle.class_calls.specs.UnawareLaws.{pupil-at, length-pupils, length_cut}
-use Rattle.class_calls.specs.WritingLaws.{sum-next, sum-within, cut_at, results-none, results_next, AllShort, outputs-none, outputs-next}
+use Rattle.class_calls.proofs.ClassLaws.{q1-most}
+use Rattle.class_calls.proofs.FitLaws.{ClassFits, fits-facts}
+use Rattle.class_calls.proofs.UnawareLaws.{pupil-at, length-pupils, length_cut}
+use Rattle.class_calls.proofs.WritingLaws.{sum-next, sum-within, cut_at, results-none, results_next, AllShort, outputs-none, outputs-next}
 use Rattle.class_running.specs.ClassRunning.{Seated, Answered, Classable, Written, Classes}
 use Rattle.class_running.specs.declared.Told.{Told}
 

@@ -10,7 +10,7 @@ use Rattle.language.specs.Values.Component.{word}
 use Rattle.machine.specs.Arguments.{expr, none, needs, present, ◌&◌}
 use Rattle.layout.specs.Bounds.{Encoded}
 use Rattle.layout.specs.Cells.{cell, uncode}
-use Rattle.layout.specs.ComponentLaws.{components_bytes-one}
+use Rattle.layout.proofs.ComponentLaws.{components_bytes-one}
 use Rattle.layout.specs.Components.{component_bytes, component_size, components_bytes}
 use Rattle.layout.specs.Table.{text_by}
 use Rattle.cells.specs.Cells.{pasted, Number}

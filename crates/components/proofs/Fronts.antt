@@ -14,7 +14,7 @@ use Rattle.language.specs.Values.Component.{word, address}
 use Rattle.layout.specs.Bounds.{EncodedOne}
 use Rattle.layout.specs.Cells.{cell, three_at, code, uncode}
 use Rattle.layout.specs.Components.{component_bytes, component_size, component_in}
-use Rattle.layout.specs.ComponentLaws.{component-long}
+use Rattle.layout.proofs.ComponentLaws.{component-long}
 use Rattle.components.specs.Parts.{Leading, LentChars}
 
 -- ---- how many cells there are

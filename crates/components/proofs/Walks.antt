@@ -13,10 +13,10 @@ use Rattle.cells.specs.Cells.{Number}
 use Rattle.language.specs.Values.{Component, chars, kind}
 use Rattle.language.specs.Values.Component.{word, address}
 use Rattle.layout.specs.Bounds.{Each, Ok, EncodedOne, Encoded, WholeComponents}
-use Rattle.layout.specs.CellLaws.{each_left, each_right}
+use Rattle.layout.proofs.CellLaws.{each_left, each_right}
 use Rattle.layout.specs.Cells.{cell}
 use Rattle.layout.specs.Components.{component_bytes, components_bytes, component_size, component_in, components_in}
-use Rattle.layout.specs.ComponentLaws.{next-component, components-none, components_bytes-append, components_bytes-one}
+use Rattle.layout.proofs.ComponentLaws.{next-component, components-none, components_bytes-append, components_bytes-one}
 use Rattle.machine.specs.Arguments.{first}
 use Rattle.components.specs.Parts.{first_size}
 

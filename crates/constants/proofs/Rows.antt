@@ -23,7 +23,7 @@ use Rattle.machine.specs.Effects.{Row, set_to, row}
 use Rattle.machine.specs.Effects.Go.{on}
 use Rattle.layout.specs.Bounds.{EncodedRecords}
 use Rattle.layout.specs.Cells.{uncode}
-use Rattle.layout.specs.ComponentLaws.{components-of, whole-components, components_bytes-one}
+use Rattle.layout.proofs.ComponentLaws.{components-of, whole-components, components_bytes-one}
 use Rattle.layout.specs.Components.{component_bytes, components_bytes, record_bytes, components_in}
 use Rattle.layout.specs.Memory.{components_held, chars_held}
 use Rattle.packed.specs.Packed.{Copied}

@@ -13,9 +13,9 @@ use Rattle.machine.specs.Effects.Go.{on, jump, call, back}
 use Rattle.machine.specs.Steps.{made}
 use Rattle.layout.specs.Bounds.{Below, Fine}
 use Rattle.layout.specs.Cells.{two, two_at}
-use Rattle.layout.specs.CellLaws.{each-drop, length-each, two_back}
+use Rattle.layout.proofs.CellLaws.{each-drop, length-each, two_back}
 use Rattle.layout.specs.Memory.{strings}
-use Rattle.layout.specs.MemoryLaws.{string-stack}
+use Rattle.layout.proofs.MemoryLaws.{string-stack}
 use Rattle.layout.specs.Places as layout
 use Rattle.gaps.specs.Gaps.{pushed_front}
 use Rattle.gaps.specs.Pool.{abs, string, Holds}

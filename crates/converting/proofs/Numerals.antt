@@ -14,8 +14,8 @@ use Rattle.language.specs.Values.Component.{word, address}
 use Rattle.machine.specs.Arguments.{expr}
 use Rattle.layout.specs.Bounds.{Encoded}
 use Rattle.layout.specs.Cells.{code, uncode}
-use Rattle.layout.specs.CellLaws.{uncode-code}
-use Rattle.layout.specs.ComponentLaws.{components_bytes-one}
+use Rattle.layout.proofs.CellLaws.{uncode-code}
+use Rattle.layout.proofs.ComponentLaws.{components_bytes-one}
 use Rattle.layout.specs.Components.{component_bytes, component_in}
 use Rattle.cells.specs.Cells.{pasted}
 use Rattle.cells.proofs.Laws.{pasted-front}

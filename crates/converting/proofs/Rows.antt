@@ -16,7 +16,7 @@ use Rattle.machine.specs.Arguments.{expr, first, needs}
 use Rattle.machine.specs.Effects.{Row, changed, row}
 use Rattle.machine.specs.Effects.Go.{on}
 use Rattle.layout.specs.Cells.{uncode}
-use Rattle.layout.specs.ComponentLaws.{components-of, whole-components}
+use Rattle.layout.proofs.ComponentLaws.{components-of, whole-components}
 use Rattle.layout.specs.Components.{component_bytes, components_in}
 use Rattle.cells.specs.Cells.{pasted}
 use Rattle.state.specs.Working.{state_at, Stands, nth, reading}

@@ -16,7 +16,7 @@ use Rattle.language.specs.Values.{Component, Record, Store, chars}
 use Rattle.machine.specs.Arguments.{file_of, Until, taken}
 use Rattle.machine.specs.Changes.{with_files, put_file, minus_unless, stamped, stored, past_file, past_by, past}
 use Rattle.layout.specs.Bounds.{Each, Ok, RecordOk, EncodedRecords}
-use Rattle.layout.specs.ComponentLaws.{records-of, whole-records}
+use Rattle.layout.proofs.ComponentLaws.{records-of, whole-records}
 use Rattle.layout.specs.Components.{records_bytes, records_in}
 use Rattle.records.specs.Places.{Copyable}
 use Rattle.records.specs.Sequences.{TookRecords, Totalled}

@@ -5,7 +5,7 @@ use Prim.Native.Nat.{ℕ, zero, suc, ◌+◌, ◌-◌, ◌≤◌, ◌<◌}
 use native.Mathlib.Omega.{arith}
 use lib.Dec.{T}
 use lib.ListN.{length, get_or, drop, length-map, length-take, length-drop}
-use Rattle.acceptance.specs.RowLaws.{append-none, drop-none}
+use Rattle.acceptance.proofs.RowLaws.{append-none, drop-none}
 use Rattle.arguments.specs.Valued.{FirstValue, Valued}
 use Rattle.arguments.specs.declared.Value.{Value}
 use Rattle.arguments.specs.declared.Values.{Values}
@@ -16,9 +16,9 @@ use Rattle.language.specs.Instructions.{operator_of}
 use Rattle.language.specs.Limits as limit
 use Rattle.language.specs.Program.{Arg, Label, Program}
 use Rattle.language.specs.Program.Arg.{nothing}
-use Rattle.layout.specs.ArgumentLaws.{operator-below}
+use Rattle.layout.proofs.ArgumentLaws.{operator-below}
 use Rattle.layout.specs.Bounds.{Each}
-use Rattle.layout.specs.CellLaws.{each_at}
+use Rattle.layout.proofs.CellLaws.{each_at}
 use Rattle.layout.specs.Cells.{cell}
 use Rattle.packed.specs.Packed.{table_of}
 use Rattle.statements.specs.FaultLaws.{no-fault}

@@ -6,13 +6,13 @@ use Rattle.std.proofs.Math.Bool.{Bool, true, false, cond}
 use mathlib.Core.List.{List, [], ◌∷◌, ◌++◌, append_assoc}
 use Prim.Native.Nat.{ℕ, ◌+◌, ◌≤◌}
 use Rattle.std.proofs.Math.ListN.{length, get_or, take, drop, length-append}
-use Rattle.acceptance.specs.RowLaws.{each_map, each_both}
+use Rattle.acceptance.proofs.RowLaws.{each_map, each_both}
 use Rattle.drafts.specs.DraftingLaws.{place-back, length_back}
 use Rattle.drafts.specs.Marks.{mark, place_by, word_by}
 use Rattle.drafts.specs.Tabled.{Spelt}
 use Rattle.language.specs.Limits as limit
 use Rattle.layout.specs.Bounds.{Each}
-use Rattle.layout.specs.CellLaws.{each_append, each-drop}
+use Rattle.layout.proofs.CellLaws.{each_append, each-drop}
 use Rattle.lists.specs.Lists.{filled, head_or, if_any}
 use Rattle.lists.specs.ListLaws.{T-left}
 use Rattle.statements.specs.StatementAt.{statement_at}

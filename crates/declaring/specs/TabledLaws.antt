@@ -7,8 +7,8 @@ use mathlib.Core.List.{List, [], ◌∷◌, ◌++◌, map, map-append}
 use Rattle.std.proofs.Math.Dec.{T}
 use Rattle.std.proofs.Math.ListN.{length-map}
 use Rattle.acceptance.specs.Drafts.{SoundArgument, SoundWritten, SoundTables}
-use Rattle.acceptance.specs.ReadingLaws.{Other, by_form, text-reads, as-word, numeral-word, arguments-of}
-use Rattle.acceptance.specs.RowLaws.{each_map, each_keep, each-mapped}
+use Rattle.acceptance.proofs.ReadingLaws.{Other, by_form, text-reads, as-word, numeral-word, arguments-of}
+use Rattle.acceptance.proofs.RowLaws.{each_map, each_keep, each-mapped}
 use Rattle.drafts.specs.Drafting.{draft_arg, draft_instr, draft_program}
 use Rattle.drafts.specs.DraftingLaws.{place-back}
 use Rattle.drafts.specs.Marks.{mark, place_by, word_by}
@@ -21,9 +21,9 @@ use Rattle.language.specs.Instructions.{operation, operator_of}
 use Rattle.language.specs.Limits as limit
 use Rattle.language.specs.Program.{Op, Program}
 use Rattle.language.specs.Values.{numeral, value_of, in_range}
-use Rattle.layout.specs.ArgumentLaws.{operator-back}
+use Rattle.layout.proofs.ArgumentLaws.{operator-back}
 use Rattle.layout.specs.Bounds.{Each}
-use Rattle.layout.specs.CellLaws.{each_append, each_right}
+use Rattle.layout.proofs.CellLaws.{each_append, each_right}
 use Rattle.lexer.specs.declared.Token.{Token}
 use Rattle.lexer.specs.Tokens.{item_of}
 use Rattle.lists.specs.Lists.{if_any}

@@ -7,9 +7,9 @@ use lib.Dec.{T}
 use lib.ListN.{length, get_or, take, drop, length-append, length-map, length-take}
 use lib.Seq.{take-suc, take_all}
 use Rattle.language.specs.Program.{Entry, Switch, Program}
-use Rattle.layout.specs.ArgumentLaws.{text_ref-below}
+use Rattle.layout.proofs.ArgumentLaws.{text_ref-below}
 use Rattle.layout.specs.Bounds.{KeptText}
-use Rattle.layout.specs.CellLaws.{each_at, get_d-map-at}
+use Rattle.layout.proofs.CellLaws.{each_at, get_d-map-at}
 use Rattle.layout.specs.Cells.{cell}
 use Rattle.layout.specs.Table.{all_entries}
 use Rattle.lists.specs.Lists.{each}

@@ -7,14 +7,14 @@ use native.Mathlib.Omega.{arith}
 use lib.Dec.{T, not_T}
 use lib.ListN.{length, get_or, take, drop}
 use lib.Seq.{drop-nil}
-use Rattle.acceptance.specs.ArgumentLaws.{word-apart}
-use Rattle.acceptance.specs.RowLaws.{fails, append-none, cond-none}
+use Rattle.acceptance.proofs.ArgumentLaws.{word-apart}
+use Rattle.acceptance.proofs.RowLaws.{fails, append-none, cond-none}
 use Rattle.arguments.specs.Valued.{Ordered}
 use Rattle.declaring.specs.SpeltLaws.{plain}
 use Rattle.entering.specs.Entering.{long_text, Held, ShortItem}
 use Rattle.language.specs.Program.{Entry}
 use Rattle.layout.specs.Bounds.{Each}
-use Rattle.layout.specs.CellLaws.{each_at}
+use Rattle.layout.proofs.CellLaws.{each_at}
 use Rattle.layout.specs.Cells.{cell}
 use Rattle.lists.specs.Lists.{each, filled, if_any, keep}
 use Rattle.lists.specs.ListLaws.{T-left, T-right, all_head, all_tail, all_cons, all_keep}

@@ -5,7 +5,7 @@ use mathlib.Core.List.{List, [], ◌∷◌, ◌++◌, append-nil}
 use Prim.Native.Nat.{ℕ, ◌+◌, ◌-◌, ◌≤◌, ◌<◌}
 use native.Mathlib.Omega.{arith}
 use lib.ListN.{length, set, length-append, length-map}
-use Rattle.acceptance.specs.RowLaws.{append-none, drop-none}
+use Rattle.acceptance.proofs.RowLaws.{append-none, drop-none}
 use Rattle.declaring.specs.Declaring.{texts_excess}
 use Rattle.entering.specs.Entering.{set_texts}
 use Rattle.statements.specs.FaultLaws.{no-fault}

@@ -8,7 +8,7 @@ use native.Mathlib.Omega.{arith}
 use lib.Dec.{T, leb}
 use lib.ListN.{length, get_or, drop, length-map, drop_of_length-le}
 use lib.Seq.{drop-cons, drop-nil}
-use Rattle.acceptance.specs.RowLaws.{drop-none}
+use Rattle.acceptance.proofs.RowLaws.{drop-none}
 use Rattle.arguments.specs.Valued.{ItemValued, Ordered}
 use Rattle.argument_cells.specs.ArgumentCells.{TextNamed, TextTold}
 use Rattle.declaring.specs.Declaring.{texts_excess}

@@ -6,7 +6,7 @@ use mathlib.Core.List.{List, [], ◌∷◌, ◌++◌, map, map-append}
 use Rattle.std.proofs.Math.ListN.{length, length-map, length-set}
 use Rattle.std.proofs.lemmas.Bool.{eqb-false}
 use Rattle.acceptance.specs.Drafts.{SoundTables}
-use Rattle.acceptance.specs.RowLaws.{each_keep}
+use Rattle.acceptance.proofs.RowLaws.{each_keep}
 use Rattle.declaring.specs.TabledLaws.{Operated}
 use Rattle.drafts.specs.Drafting.{draft_switch, draft_program}
 use Rattle.drafts.specs.DraftingLaws.{entry-words}
@@ -15,7 +15,7 @@ use Rattle.drafts.specs.Tabled.{Spelt, entry_items, Tabled}
 use Rattle.entering.specs.Entering.{set_texts}
 use Rattle.language.specs.Program.{Program}
 use Rattle.layout.specs.Bounds.{Each, KeptText}
-use Rattle.layout.specs.CellLaws.{each_append}
+use Rattle.layout.proofs.CellLaws.{each_append}
 use Rattle.layout.specs.Cells.{cell}
 use Rattle.lexer.specs.declared.Token.{Token}
 use Rattle.lists.specs.Lists.{each, head_or, if_any, keep}

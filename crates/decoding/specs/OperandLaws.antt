@@ -12,17 +12,17 @@ use Rattle.language.specs.Letters.{indices, letter_code, use_of}
 use Rattle.language.specs.Program.{Arg, Instr, Op, Program, instr_at}
 use Rattle.language.specs.Program.Arg.{nothing, letter}
 use Rattle.language.specs.Values.{State, Inputs}
-use Rattle.machine.specs.ControlLaws.{gone-in}
+use Rattle.machine.proofs.ControlLaws.{gone-in}
 use Rattle.machine.specs.Effects.{row}
 use Rattle.machine.specs.Effects.Go.{on}
 use Rattle.machine.specs.Facts.{ProgramFacts}
 use Rattle.machine.specs.Steps.{meaning}
 use Rattle.machine.specs.WellFormed.{form}
-use Rattle.layout.specs.ArgumentLaws.{letter-back}
+use Rattle.layout.proofs.ArgumentLaws.{letter-back}
 use Rattle.layout.specs.Cells.{cell}
-use Rattle.layout.specs.ProgramLaws.{program-ok}
+use Rattle.layout.proofs.ProgramLaws.{program-ok}
 use Rattle.layout.specs.Table.{program_of, good_table}
-use Rattle.layout.specs.TableLaws.{table-facts}
+use Rattle.layout.proofs.TableLaws.{table-facts}
 use Rattle.layout.specs.Places as layout
 use Rattle.packed.specs.Packed.{table_of}
 use Rattle.state.specs.Working.{nth}

@@ -1,7 +1,7 @@
 -- Marks are read back, and each word of a list is an entry.
 use Rattle.std.specs.Prelude.{◌≡◌, refl, List, [], ◌∷◌, map, ℕ, ◌<◌, length}
 use Rattle.std.proofs.Common.{arith, length-append}
-use Rattle.acceptance.specs.ProgramLaws.{entries-count}
+use Rattle.acceptance.proofs.ProgramLaws.{entries-count}
 use Rattle.lists.specs.Lists.{each, keep}
 use Rattle.syntax.specs.Items.{is}
 use Rattle.syntax.specs.Items.Sort.{word}

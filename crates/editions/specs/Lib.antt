@@ -5,22 +5,7 @@
 -- proofs of code the answer question by question (AnswerLaws) and the text from item to item (Passing, PassingLaws).
 pub mod Convert
 pub mod Examples
-pub mod PairLaws
-pub mod MapLaws
 pub mod Moving
-pub mod MovingLaws
-pub mod AcceptLaws
 pub mod Turning
-pub mod TurningLaws
 pub mod Rewriting
-pub mod ReadingLaws
-pub mod RewritingLaws
-pub mod BackLaws
-pub mod LateLaws
-pub mod SpliceLaws
-pub mod ConvertLaws
-pub mod RunLaws
-pub mod EditionLaws
-pub mod AnswerLaws
 pub mod Passing
-pub mod PassingLaws

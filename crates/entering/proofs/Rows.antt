@@ -19,7 +19,7 @@ use Rattle.entering.specs.EnteringLaws.{GoesOn, goes_on, excess-here}
 use Rattle.arguments.specs.Valued.{no_value, ItemValued, FirstValue, Ordered, Valued}
 use Rattle.arguments.specs.declared.Value.{Value}
 use Rattle.arguments.specs.declared.Values.{Values}
-use Rattle.layout.specs.CellLaws.{each_at}
+use Rattle.layout.proofs.CellLaws.{each_at}
 use Rattle.syntax.specs.ArgumentForms.{Argument}
 use Rattle.syntax.specs.Items.Sort.{wrong}
 

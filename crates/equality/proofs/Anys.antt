@@ -15,7 +15,7 @@ use Rattle.machine.specs.Changes.{minus_unless, past_by, used_by, used}
 use Rattle.machine.specs.Effects.{relation, equality, row}
 use Rattle.machine.specs.Effects.Go.{on}
 use Rattle.layout.specs.Components.{components_in}
-use Rattle.layout.specs.ComponentLaws.{components-of}
+use Rattle.layout.proofs.ComponentLaws.{components-of}
 use Rattle.matching.specs.Tests.{until, Took}
 use Rattle.matching.specs.declared.Taken.{Taken}
 use Rattle.matching.specs.declared.Test.{Test}

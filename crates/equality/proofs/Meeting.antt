@@ -13,7 +13,7 @@ use Rattle.language.specs.Values.{Component, Store, Inputs, same}
 use Rattle.machine.specs.Arguments.{expr, side, matches, taken}
 use Rattle.layout.specs.Bounds.{Encoded, WholeComponents}
 use Rattle.layout.specs.Cells.{cell, uncode}
-use Rattle.layout.specs.ComponentLaws.{next-component, component-some, whole-components, components-of}
+use Rattle.layout.proofs.ComponentLaws.{next-component, component-some, whole-components, components-of}
 use Rattle.layout.specs.Components.{component_in, component_size, components_bytes, components_in}
 use Rattle.layout.specs.Table.{text_by}
 use Rattle.cells.specs.Cells.{Number}

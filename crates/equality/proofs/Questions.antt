@@ -13,7 +13,7 @@ use Rattle.language.specs.Values.{Component, Store, Inputs, kind}
 use Rattle.machine.specs.Arguments.{Asks, use_by, side, is_count, single, ask, ◌&◌, when}
 use Rattle.machine.specs.Effects.Go.{on}
 use Rattle.layout.specs.Bounds.{WholeComponents}
-use Rattle.layout.specs.ComponentLaws.{components-of, components-none}
+use Rattle.layout.proofs.ComponentLaws.{components-of, components-none}
 use Rattle.layout.specs.Components.{component_in, components_in}
 use Rattle.components.specs.Parts.{Leading}
 use Rattle.packed.specs.Packed.{table_of}

@@ -14,11 +14,11 @@ use Rattle.language.specs.Values.{Record, File, Store}
 use Rattle.machine.specs.Arguments.{file_of, records}
 use Rattle.machine.specs.Changes.{put_file, past_file, past_by, past, records_to, pointed}
 use Rattle.layout.specs.Bounds.{Each, RecordOk}
-use Rattle.layout.specs.CellLaws.{each_append, each_left, each_right}
-use Rattle.layout.specs.ComponentLaws.{records_bytes-append}
+use Rattle.layout.proofs.CellLaws.{each_append, each_left, each_right}
+use Rattle.layout.proofs.ComponentLaws.{records_bytes-append}
 use Rattle.layout.specs.Components.{records_bytes}
 use Rattle.layout.specs.Memory.{components_held, chars_held, records_held}
-use Rattle.layout.specs.MemoryLaws.{before-encoded, after-encoded}
+use Rattle.layout.proofs.MemoryLaws.{before-encoded, after-encoded}
 use Rattle.gaps.specs.Gaps.{pushed_front, pushed_back}
 use Rattle.gaps.specs.Pool.{abs, string, Holds}
 use Rattle.store.specs.Store.{Long, Movable, dropped_front, dropped_back, moved_front_to_back, moved_back_to_front}

@@ -13,11 +13,11 @@ use Rattle.language.specs.Values.{Component, Record, File, Store, chars, empty_f
 use Rattle.machine.specs.Arguments.{file_of, records}
 use Rattle.machine.specs.Changes.{put_file, past_file, past_by, past, held, recorded}
 use Rattle.layout.specs.Bounds.{EncodedRecords, RecordOk}
-use Rattle.layout.specs.CellLaws.{each-drop}
-use Rattle.layout.specs.ComponentLaws.{records_bytes-append, records-of, whole-records}
+use Rattle.layout.proofs.CellLaws.{each-drop}
+use Rattle.layout.proofs.ComponentLaws.{records_bytes-append, records-of, whole-records}
 use Rattle.layout.specs.Components.{records_bytes}
 use Rattle.layout.specs.Memory.{components_held, chars_held, records_held, strings}
-use Rattle.layout.specs.MemoryLaws.{before-encoded, after-encoded}
+use Rattle.layout.proofs.MemoryLaws.{before-encoded, after-encoded}
 use Rattle.layout.specs.Places as layout
 use Rattle.gaps.specs.Pool.{abs, string, Holds}
 use Rattle.store.specs.Store.{Whole, Droppable, dropped_front}

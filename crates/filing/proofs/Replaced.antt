@@ -9,7 +9,7 @@ use Rattle.language.specs.Letters.Letter.{P}
 use Rattle.language.specs.Values.{File, State, chars}
 use Rattle.machine.specs.Arguments.{file_of, records}
 use Rattle.machine.specs.Changes.{with_files, put_file, held, recorded}
-use Rattle.machine.specs.SumLaws.{held-put_file, recorded-put_file}
+use Rattle.machine.proofs.SumLaws.{held-put_file, recorded-put_file}
 use Rattle.layout.specs.Bounds.{FileOk, Fine}
 use Rattle.layout.specs.Components.{records_bytes}
 use Rattle.layout.specs.Memory.{components_held, chars_held, records_held, scalars, strings}

@@ -14,12 +14,12 @@ use Rattle.language.specs.Values.{Component, Record, File, Store, chars}
 use Rattle.machine.specs.Arguments.{file_of, records}
 use Rattle.machine.specs.Changes.{with_files, stamped, stored}
 use Rattle.layout.specs.Bounds.{Each, EncodedRecords, RecordOk, FileOk}
-use Rattle.layout.specs.CellLaws.{each_append}
-use Rattle.layout.specs.ComponentLaws.{records_bytes-append, records-of}
+use Rattle.layout.proofs.CellLaws.{each_append}
+use Rattle.layout.proofs.ComponentLaws.{records_bytes-append, records-of}
 use Rattle.layout.specs.Components.{records_bytes, records_in}
 use Rattle.layout.specs.Memory.{components_held, chars_held, records_held, strings}
-use Rattle.layout.specs.MemoryLaws.{before-encoded, after-encoded}
-use Rattle.layout.specs.FineLaws.{fine-room}
+use Rattle.layout.proofs.MemoryLaws.{before-encoded, after-encoded}
+use Rattle.layout.proofs.FineLaws.{fine-room}
 use Rattle.layout.specs.Strings.{used}
 use Rattle.layout.specs.Places as layout
 use Rattle.gaps.proofs.Laws.{length-abs}

@@ -12,7 +12,7 @@ use Rattle.machine.specs.Arguments.{records}
 use Rattle.machine.specs.Changes.{with_files, put_file, held, recorded}
 use Rattle.layout.specs.Bounds.{FileOk, Fine}
 use Rattle.layout.specs.Memory.{scalars, strings}
-use Rattle.layout.specs.MemoryLaws.{string-before, string-after}
+use Rattle.layout.proofs.MemoryLaws.{string-before, string-after}
 use Rattle.gaps.specs.Pool as pool
 use Rattle.gaps.specs.Pool.{abs, string, Holds}
 use Rattle.gaps.proofs.Laws.{after}

@@ -11,16 +11,16 @@ use lib.ListN.{length, get_or, drop, replicate, length-map}
 use lib.IntN.{ℤ, pos, nat_abs}
 use lib.Seq.{take_at, drop-drop, get_or-take}
 use borrow.Author.Tests.{eq-eqb, ne_eqb}
-use Rattle.acceptance.specs.StatementLaws.{same_bytes-sym}
+use Rattle.acceptance.proofs.StatementLaws.{same_bytes-sym}
 use Rattle.language.specs.Limits as limit
 use Rattle.language.specs.Program.{Label, Program, no_label}
 use Rattle.language.specs.Values.{same_number}
-use Rattle.layout.specs.CellLaws.{each_in, uncode-code, length-fours, take-unfours, block_at, first_cell, padded-at, get_d-map-at}
+use Rattle.layout.proofs.CellLaws.{each_in, uncode-code, length-fours, take-unfours, block_at, first_cell, padded-at, get_d-map-at}
 use Rattle.layout.specs.Cells.{cell, fours, code, uncode}
 use Rattle.layout.specs.Table.{label_cells, text_cells, counts, chars_in, text_in, text_by, label_in}
 use Rattle.layout.specs.Places as layout
 use Rattle.lists.specs.Lists.{ahead, bytes_equal}
-use Rattle.machine.specs.ValueLaws.{same_number-eq, same_number-refl}
+use Rattle.machine.proofs.ValueLaws.{same_number-eq, same_number-refl}
 use Rattle.packed.specs.Packed.{table_of}
 use Rattle.table.proofs.Keys.{text-many}
 use Rattle.writing.proofs.Growing.{code_part, labels_part, texts_part, switches_part, entries_part, numbers_part, parts, in_parts, label-long, text-long, sizes}

@@ -11,7 +11,7 @@ use Rattle.progress.specs.Closing.{Ends}
 use Rattle.progress.specs.declared.Closing.{Closing}
 use Rattle.drafts.specs.Marks.{marks_in, place_by, word_by}
 use Rattle.declaring.specs.TabledLaws.{mark-places}
-use Rattle.acceptance.specs.RowLaws.{each_map}
+use Rattle.acceptance.proofs.RowLaws.{each_map}
 use Rattle.drafts.specs.Drafting.{draft_program, draft_instr}
 use Rattle.statements.specs.Faults.{decided, then}
 use Rattle.statements.specs.FaultLaws.{question-decides}

@@ -15,7 +15,7 @@ use Rattle.lists.specs.ListLaws.{T-left, T-right, T-both, all_head, all_tail, al
 use Rattle.lists.specs.Lists.{all, any, head_or}
 use Rattle.lists.specs.Quoted.{bytes}
 use Rattle.syntax.specs.ArgumentForms.{form_in, is_index, is_indexed, letter_of, word_reads, reads}
-use Rattle.syntax.specs.LetterLaws.{letter_of-code, every-letter}
+use Rattle.syntax.proofs.LetterLaws.{letter_of-code, every-letter}
 use Rattle.syntax.specs.Items.{Item, is}
 use Rattle.syntax.specs.Items.Sort.{text}
 use Rattle.words.specs.Words.{class_letter, is_class}

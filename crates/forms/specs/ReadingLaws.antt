@@ -10,7 +10,7 @@ use Rattle.std.proofs.lemmas.List.{length-map}
 use Rattle.std.proofs.Math.Seq.{drop-nil}
 use Rattle.language.specs.Instructions.{operation, operators, is_call, is_end}
 use Rattle.language.specs.Program.{Op}
-use Rattle.layout.specs.ArgumentLaws.{operator-back}
+use Rattle.layout.proofs.ArgumentLaws.{operator-back}
 use Rattle.lists.specs.Lists.{any, ahead, filled, head_or, if_any, keep}
 use Rattle.syntax.specs.ArgumentForms.{reads, Argument, alternatives, accepting, read_by, most, least}
 use Rattle.syntax.specs.Items.{Item}

@@ -10,7 +10,7 @@ use Rattle.std.proofs.Math.Dec.{eqb, eqb→eq}
 use Rattle.std.proofs.Math.Pow.{high, low}
 use Rattle.language.specs.Instructions.{operation, operators}
 use Rattle.language.specs.Program.{Op}
-use Rattle.layout.specs.ArgumentLaws.{operator-back}
+use Rattle.layout.proofs.ArgumentLaws.{operator-back}
 use Rattle.lists.specs.ListLaws.{T-left, T-right, all_head, all_tail, all-at}
 use Rattle.lists.specs.Lists.{all, any, head_or, keep, among}
 use Rattle.lists.specs.TableLaws.{beq-eq}

@@ -8,7 +8,7 @@ use native.Mathlib.Omega.{arith}
 use lib.ListN.{length, set}
 use lib.Seq.{take-length}
 use Rattle.layout.specs.Strings.{used}
-use Rattle.layout.specs.StringLaws.{used-cons, joined_next, joined-within}
+use Rattle.layout.proofs.StringLaws.{used-cons, joined_next, joined-within}
 use Rattle.gaps.specs.Pool.{string, offset}
 
 -- what is put in is added, and what it replaces is taken away

@@ -8,7 +8,7 @@ use lib.ListN.{length, take, drop, get_or, set, length-append, length-take, leng
 use lib.Seq.{get_or-set_same, get_or-set_other}
 use Rattle.cells.specs.Cells.{pasted}
 use Rattle.cells.proofs.Laws.{length-pasted}
-use Rattle.layout.specs.CellLaws.{length-tab, get_d-tab, tab-ext}
+use Rattle.layout.proofs.CellLaws.{length-tab, get_d-tab, tab-ext}
 use Rattle.layout.specs.Strings.{used}
 use Rattle.layout.specs.Places as layout
 use Rattle.gaps.specs.Pool.{lo, hi, str, abs, string, Ordered, Fine, Holds}

@@ -12,7 +12,7 @@ use borrow.Author.Tests.{lt-ltb, le-ltb}
 use Rattle.lists.specs.ListLaws.{T-left, T-right, T-both, all_head, all_tail, total-append}
 use Rattle.lists.specs.Lists.{all, any, ahead}
 use Rattle.lists.specs.TableLaws.{below}
-use Rattle.layout.specs.CellLaws.{length-each}
+use Rattle.layout.proofs.CellLaws.{length-each}
 use Rattle.cells.proofs.Laws.{pasted-pasted, length-pasted, pasted-none, set-two}
 use Rattle.cells.specs.Cells.{pasted}
 use Rattle.state_frames.specs.Hexadecimal.{digits, digit, digit_value, is_digit, two_digits, hexadecimal, bytes_in}

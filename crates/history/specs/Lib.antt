@@ -1,9 +1,5 @@
 pub mod History
 pub mod Demand
-pub mod TrailLaws
 pub mod AcceptedTable
-pub mod AcceptedTableLaws
 pub mod OldTables
-pub mod OldTableLaws
-pub mod DemandLaws
 pub mod Examples

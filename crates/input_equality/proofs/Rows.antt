@@ -17,7 +17,7 @@ use Rattle.machine.specs.Arguments.{Asks, use_by, unread, char, side, is_count, 
 use Rattle.machine.specs.Changes.{minus_unless, used_by, used}
 use Rattle.machine.specs.Effects.{relation, equality, row}
 use Rattle.machine.specs.Effects.Go.{on}
-use Rattle.layout.specs.ComponentLaws.{components-of}
+use Rattle.layout.proofs.ComponentLaws.{components-of}
 use Rattle.layout.specs.Components.{component_in}
 use Rattle.packed.specs.Packed.{table_of}
 use Rattle.state.specs.Working.{state_at, HoldsState, Stands, on_store, nth}

@@ -10,7 +10,7 @@ use Rattle.language.specs.Limits as limit
 use Rattle.language.specs.Values.{Component, Store}
 use Rattle.machine.specs.Changes.{put_expr, placed, into, fits}
 use Rattle.layout.specs.Bounds.{Encoded}
-use Rattle.layout.specs.ComponentLaws.{components-of, whole-components}
+use Rattle.layout.proofs.ComponentLaws.{components-of, whole-components}
 use Rattle.layout.specs.Components.{components_in}
 use Rattle.layout.specs.Memory.{components_held, chars_held}
 use Rattle.state.specs.Blocks.{PartsWritable}

@@ -17,7 +17,7 @@ use Rattle.running.specs.Running.{answer_number, run_on, Runnable, RanOn}
 use Rattle.running.specs.declared.Ran.{Ran}
 use Rattle.calls.specs.Calls.{packed, Call, call_inputs, Result, reply_number, reply_count, reply_answer, memory_passes, run_reply, result_of, start_of, run_of}
 use Rattle.calls.specs.Calls.Call.{start_on}
-use Rattle.calls.specs.OrderLaws.{is-62, is-61, is-63, is-accepted}
+use Rattle.calls.proofs.OrderLaws.{is-62, is-61, is-63, is-accepted}
 use Rattle.check_calls.specs.Asked.{first_no}
 use Rattle.check_calls.specs.AskedLaws.{both_yes}
 use Rattle.check_state.specs.Asked.{Asked}

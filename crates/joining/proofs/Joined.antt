@@ -11,7 +11,7 @@ use Rattle.language.specs.Values.{Component, Store}
 use Rattle.machine.specs.Arguments.{expr, Until}
 use Rattle.machine.specs.Changes.{minus_unless, into, past, fits}
 use Rattle.layout.specs.Bounds.{Encoded}
-use Rattle.layout.specs.ComponentLaws.{components-of, whole-components}
+use Rattle.layout.proofs.ComponentLaws.{components-of, whole-components}
 use Rattle.layout.specs.Components.{components_bytes, components_in}
 use Rattle.layout.specs.Memory.{components_held, chars_held}
 use Rattle.components.specs.Parts.{spelled, Written}

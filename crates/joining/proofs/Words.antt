@@ -12,7 +12,7 @@ use Rattle.language.specs.Limits as limit
 use Rattle.language.specs.Values.{Store}
 use Rattle.language.specs.Values.Component.{word}
 use Rattle.layout.specs.Bounds.{Each, Ok, Encoded}
-use Rattle.layout.specs.ComponentLaws.{components_bytes-one}
+use Rattle.layout.proofs.ComponentLaws.{components_bytes-one}
 use Rattle.layout.specs.Components.{component_bytes, components_bytes}
 use Rattle.layout.specs.Memory.{components_held, chars_held}
 use Rattle.cells.specs.Cells.{pasted}

@@ -3,5 +3,3 @@ pub mod Letters
 pub mod Values
 pub mod Program
 pub mod Instructions
-pub mod EntryLaws
-pub mod InstructionLaws

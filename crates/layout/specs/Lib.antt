@@ -1,5 +1,4 @@
 pub mod Places
-pub mod PlaceLaws
 pub mod Cells
 pub mod Table
 pub mod Kinds
@@ -7,12 +6,4 @@ pub mod Components
 pub mod Strings
 pub mod Memory
 pub mod Bounds
-pub mod CellLaws
-pub mod StringLaws
-pub mod ComponentLaws
-pub mod ProgramLaws
-pub mod FineLaws
-pub mod MemoryLaws
-pub mod ArgumentLaws
-pub mod TableLaws
 pub mod Examples

@@ -12,8 +12,8 @@ use Rattle.lists.specs.TableLaws.{beq-eq, below}
 use Rattle.syntax.specs.Items.{Sort, sort_of, same_sort, Item, is, a_word, a_mark, read, named}
 use Rattle.syntax.specs.Items.Sort.{separator, word, colon, end, text, wrong}
 use Rattle.syntax.specs.Items.Mode.{outside}
-use Rattle.syntax.specs.ItemLaws.{items-found}
-use Rattle.syntax.specs.LoadLaws.{name-colon, item-alone, word-alone}
+use Rattle.syntax.proofs.ItemLaws.{items-found}
+use Rattle.syntax.proofs.LoadLaws.{name-colon, item-alone, word-alone}
 use Rattle.syntax.specs.Scan.{text_found, found_here, found_in, found_after, items_then}
 use Rattle.scanner.specs.declared.Gap.{Gap}
 use Rattle.scanner.specs.Scans.{Skipped}

@@ -12,7 +12,7 @@ use Rattle.linking.specs.Resolving.{code_resolved, entries_resolved, Labelling}
 use Rattle.statements.specs.StatementAt.{fault_of}
 use Rattle.statements.specs.declared.Fault.{Fault}
 use Rattle.statements.specs.declared.Fault.TheVariants.{Clear, At}
-use Rattle.syntax.specs.LoadLaws.{goes_on, decides}
+use Rattle.syntax.proofs.LoadLaws.{goes_on, decides}
 use Rattle.syntax.specs.Tables.{Tables}
 use Rattle.syntax.specs.Verdict.{Question, ask, first_no}
 use Rattle.syntax.specs.Verdict.Verdict.{yes, refuse}

@@ -10,7 +10,7 @@ use Rattle.language.specs.Program.{Program, no_instr, instr_at}
 use Rattle.lists.specs.Lists.{keep, each}
 use Rattle.statements.specs.declared.Fault.{Fault}
 use Rattle.statements.specs.declared.Fault.TheVariants.{Clear, At}
-use Rattle.syntax.specs.LoadLaws.{lowest-append}
+use Rattle.syntax.proofs.LoadLaws.{lowest-append}
 use Rattle.syntax.specs.Verdict.{lowest}
 use Rattle.linking.specs.Lookup.{joined, known, faults, instr_uses, Asking, AskingAt, Judges}
 use native.Mathlib.Numerals.{add-one}

@@ -10,7 +10,7 @@ use lib.ListN.{length, get_or, drop}
 use lib.IntN.{ℤ}
 use borrow.Author.Tests.{eqb-true}
 use Rattle.acceptance.specs.Drafts.{SoundArgument, SoundWritten}
-use Rattle.acceptance.specs.RowLaws.{each-every, each_map}
+use Rattle.acceptance.proofs.RowLaws.{each-every, each_map}
 use Rattle.drafts.specs.Drafting.{draft_arg, draft_instr}
 use Rattle.drafts.specs.DraftingLaws.{place-back}
 use Rattle.drafts.specs.Marks.{mark, place_by, word_by}
@@ -31,7 +31,7 @@ use Rattle.syntax.specs.Items.{Item, is}
 use Rattle.syntax.specs.Items.Sort.{word, text as quoted}
 use Rattle.syntax.specs.Tables.{Written}
 use Rattle.acceptance.specs.Reading.{fits}
-use Rattle.layout.specs.ArgumentLaws.{operator-back, operator-below}
+use Rattle.layout.proofs.ArgumentLaws.{operator-back, operator-below}
 use Rattle.lists.specs.ListLaws.{T-left, T-right, all_among}
 use Rattle.lists.specs.TableLaws.{below}
 

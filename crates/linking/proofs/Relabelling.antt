@@ -7,14 +7,14 @@ use native.Mathlib.Omega.{arith}
 use lib.Dec.{T}
 use lib.ListN.{length, get_or, set, take, length-map}
 use lib.Seq.{take-suc, length-take-le, get_or-take}
-use Rattle.acceptance.specs.ProgramLaws.{entries-count}
-use Rattle.acceptance.specs.RowLaws.{any-ahead, each_map, keep-none, map-none, not-not}
+use Rattle.acceptance.proofs.ProgramLaws.{entries-count}
+use Rattle.acceptance.proofs.RowLaws.{any-ahead, each_map, keep-none, map-none, not-not}
 use Rattle.drafts.specs.Drafting.{draft_switch, draft_program}
 use Rattle.drafts.specs.Marks.{mark}
 use Rattle.drafts.specs.Tabled.{entry_items, Tabled}
 use Rattle.language.specs.Program.{Entry, Switch, Program, no_entry}
 use Rattle.layout.specs.Bounds.{Each}
-use Rattle.layout.specs.CellLaws.{each_in, each_right, get_d-map-at}
+use Rattle.layout.proofs.CellLaws.{each_in, each_right, get_d-map-at}
 use Rattle.layout.specs.Table.{all_entries}
 use Rattle.lists.specs.Lists.{any, each, if_any, keep, bytes_equal}
 use Rattle.linking.specs.Lookup.{label_by}

@@ -12,7 +12,7 @@ use borrow.Author.Tests.{eq-eqb, ne_eqb}
 use Rattle.drafts.specs.Marks.{word_by}
 use Rattle.finding.proofs.Found.{Missed, ahead-at, ahead_past}
 use Rattle.language.specs.Program.{Switch, Program, no_switch}
-use Rattle.layout.specs.CellLaws.{padded-at}
+use Rattle.layout.proofs.CellLaws.{padded-at}
 use Rattle.layout.specs.Cells.{cell}
 use Rattle.layout.specs.Table.{switch_cells, switch_in, counts}
 use Rattle.layout.specs.Places as layout

@@ -9,14 +9,14 @@ use lib.Dec.{T}
 use lib.ListN.{length, take, drop}
 use lib.IntN.{ℤ}
 use Rattle.acceptance.specs.Drafts.{FineItem, SoundArgument, SoundWritten, SoundChoice}
-use Rattle.acceptance.specs.RowLaws.{each_map}
+use Rattle.acceptance.proofs.RowLaws.{each_map}
 use Rattle.drafts.specs.DraftingLaws.{entry-words}
 use Rattle.drafts.specs.Drafting.{draft_instr, draft_switch, draft_program}
 use Rattle.drafts.specs.Marks.{mark, place_by, word_by}
 use Rattle.drafts.specs.Tabled.{Spelt, entry_items, Tabled}
 use Rattle.language.specs.Program.{Instr, Program}
 use Rattle.layout.specs.Bounds.{Each}
-use Rattle.layout.specs.CellLaws.{each_append}
+use Rattle.layout.proofs.CellLaws.{each_append}
 use Rattle.layout.specs.Table.{all_entries}
 use Rattle.lists.specs.ListLaws.{all_among}
 use Rattle.lists.specs.Quoted.{bytes}

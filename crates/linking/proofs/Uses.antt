@@ -11,8 +11,8 @@ use borrow.Author.Tests.{eq-eqb, ne_eqb, lt-ltb}
 use Rattle.language.specs.Instructions.{operation}
 use Rattle.language.specs.Program.{Arg, Instr, Program, no_instr, instr_at}
 use Rattle.language.specs.Program.Arg.{nothing, letter, label, switch, class, text}
-use Rattle.layout.specs.ArgumentLaws.{operator-below}
-use Rattle.layout.specs.CellLaws.{block_at, next_cell}
+use Rattle.layout.proofs.ArgumentLaws.{operator-below}
+use Rattle.layout.proofs.CellLaws.{block_at, next_cell}
 use Rattle.layout.specs.Cells.{cell}
 use Rattle.layout.specs.Table.{arg_cell, instr_cells}
 use Rattle.layout.specs.Places as layout

@@ -12,7 +12,7 @@ use Rattle.language.specs.Limits as limit
 use Rattle.lists.specs.Lists.{keep}
 use Rattle.lists.specs.ListLaws.{keep-few}
 use Rattle.syntax.specs.Items.{line_of, lines_of}
-use Rattle.syntax.specs.LineLaws.{length-lines, line-here}
+use Rattle.syntax.proofs.LineLaws.{length-lines, line-here}
 use Rattle.loading.specs.Texts.{Fillable, Fills}
 
 keep_append : (p : ℕ → Bool) (xs ys : List ℕ) → keep p (xs ++ ys) ≡ keep p xs ++ keep p ys

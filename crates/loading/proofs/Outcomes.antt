@@ -8,9 +8,9 @@ use native.Mathlib.Omega.{arith}
 use borrow.Author.Tests.{ne_eqb}
 use lib.ListN.{length, drop, replicate, take-append-drop}
 use Rattle.calls.specs.Calls.{load_number, load_line, table_after}
-use Rattle.calls.specs.LoadLaws.{text-listed, listed-not_40}
+use Rattle.calls.proofs.LoadLaws.{text-listed, listed-not_40}
 use Rattle.drafts.specs.Drafting.{draft_program}
-use Rattle.acceptance.specs.DraftLaws.{blank-sound}
+use Rattle.acceptance.proofs.DraftLaws.{blank-sound}
 use Rattle.statements.specs.Faults.{verdict_of}
 use Rattle.statements.specs.declared.Verdict.{Verdict}
 use Rattle.statements.specs.declared.Verdict.TheVariants.{Yes, No}
@@ -22,7 +22,7 @@ use Rattle.reading_statements.specs.declared.Read.{Read}
 use Rattle.reading_statements.specs.declared.Read.TheVariants.{Statement, Refused}
 use Rattle.syntax.specs.Ending.{last_place, last_questions}
 use Rattle.syntax.specs.Items.{lines_of, line_at}
-use Rattle.syntax.specs.LineLaws.{text-lined}
+use Rattle.syntax.proofs.LineLaws.{text-lined}
 use Rattle.syntax.specs.Load.{unless_refused, load_from, Lined, program_of, text_loads, load_typed}
 use Rattle.syntax.specs.Load as spec
 use Rattle.syntax.specs.Verdict.{first_no}

@@ -10,11 +10,11 @@ use native.Mathlib.Omega.{arith}
 use borrow.Author.Tests.{eqb-true, lt-ltb, le-ltb}
 use Rattle.std.proofs.Math.Dec.{ltb}
 use Rattle.layout.specs.Cells.{tab}
-use Rattle.layout.specs.CellLaws.{length-tab}
+use Rattle.layout.proofs.CellLaws.{length-tab}
 use Rattle.lists.specs.Lists.{each}
 use Rattle.macros.specs.Expansion as met
 use Rattle.macros.specs.Expansion.{fault, called_by, faults_of, argument_faults, places_of}
-use Rattle.macros.specs.FaultLaws.{places-both}
+use Rattle.macros.proofs.FaultLaws.{places-both}
 use Rattle.macros.specs.Macros.{Macro}
 use Rattle.macros.specs.Pieces.{Call, Change, pieces_from}
 use Rattle.macros.specs.Pieces.Given.{typed, parameter, joined}

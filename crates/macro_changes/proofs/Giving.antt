@@ -8,7 +8,7 @@ use lib.Dec.{eqb, ltb}
 use lib.ListN.{length, set}
 use borrow.Author.Tests.{eq-eqb, ne_eqb, eqb-true, lt-ltb, le-ltb}
 use Rattle.layout.specs.Cells.{tab}
-use Rattle.layout.specs.CellLaws.{length-tab}
+use Rattle.layout.proofs.CellLaws.{length-tab}
 use Rattle.lexer.specs.Tokens.{part, sort_at}
 use Rattle.lists.specs.Lists.{keep, bytes_equal}
 use Rattle.statements.specs.declared.Fault.{Fault}

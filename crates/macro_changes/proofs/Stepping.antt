@@ -20,11 +20,11 @@ use Rattle.syntax.specs.Items.{Sort, same_sort}
 use Rattle.syntax.specs.Items.Sort.{separator, word, colon, end, text, wrong}
 use Rattle.macros.specs.Elements as spec
 use Rattle.macros.specs.Elements.{is_word, is_end, is_star, is_mark, end_of, places_in, until, from}
-use Rattle.macros.specs.PlainLaws.{equal}
+use Rattle.macros.proofs.PlainLaws.{equal}
 use Rattle.macros.specs.Pieces.{Given, Change, given_of, is_parameter, number_of, name_faults, call_of, joins_well, call_faults, word_changes, call_stop, call_changes, section_changes, form_faults}
 use Rattle.macros.specs.Pieces.Given.{typed, parameter, joined}
 use Rattle.macros.specs.Pieces.Piece.{value, called}
-use Rattle.macros.specs.StepLaws.{at_plain, at-star, call-first, changes-plain, changes-star, form-plain, form-star}
+use Rattle.macros.proofs.StepLaws.{at_plain, at-star, call-first, changes-plain, changes-star, form-plain, form-star}
 use Rattle.macro_code.specs.Code.{high, given_in, paired, changes_in, change_in, size_at, behind_changes}
 use Rattle.macro_elements.specs.ElementAt.{elements_from, argument_value, NextElement}
 use Rattle.macro_elements.specs.declared.Element.{Element}

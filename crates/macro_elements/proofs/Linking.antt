@@ -14,7 +14,7 @@ use Rattle.lists.specs.Lists.{filled, if_any}
 use Rattle.syntax.specs.Items.{Sort, sort_of, same_sort, Item, is, a_word, a_mark, begins, itself, mode_after, items_at, left_over, read}
 use Rattle.syntax.specs.Items.Sort.{separator, word, colon, end, text, wrong}
 use Rattle.syntax.specs.Items.Mode.{outside}
-use Rattle.syntax.specs.ItemLaws.{reads_word, items-found}
+use Rattle.syntax.proofs.ItemLaws.{reads_word, items-found}
 use Rattle.syntax.specs.Scan.{word_length, text_length, is_closed, text_found, Gap, gap_from, in_gap, passes, Found, found_here, found_in, found_after, items_then}
 use Rattle.syntax.specs.Scan.Gap.{clear, unclosed}
 use Rattle.syntax.specs.Scan.Found.{no_item, found}
@@ -24,7 +24,7 @@ use Rattle.lexer.specs.Tokens.{part, chars_of, item_of, found_by, TokenAt}
 use Rattle.lexer.proofs.Finding.{is-sort, no-chars}
 use Rattle.macros.specs.Elements.{Element, element_of, end_of, is_word, is_mark, is_joined, link, linked}
 use Rattle.macros.specs.Marks.{byte_at, new_reader, marked}
-use Rattle.macros.specs.PlainLaws.{equal}
+use Rattle.macros.proofs.PlainLaws.{equal}
 use Rattle.macro_elements.specs.ElementAt.{elements_from, argument_value, Lent, Held, JoinedEnd, TextEnd, NextElement}
 use Rattle.macro_elements.specs.declared.Element as code
 use Rattle.macro_elements.proofs.Bytes.{any-default}

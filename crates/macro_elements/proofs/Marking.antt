@@ -12,7 +12,7 @@ use Rattle.syntax.specs.Items.{sort_of, same_sort}
 use Rattle.syntax.specs.Items.Sort.{word}
 use Rattle.syntax.specs.Scan.{word_length}
 use Rattle.macros.specs.Marks.{Reader, parameters_in, word_in, joins, reader_after, marked_from}
-use Rattle.macros.specs.PlainLaws.{equal}
+use Rattle.macros.proofs.PlainLaws.{equal}
 
 pub both_true : (a b : Bool) → (a && b) ≡ true → (a ≡ true) × (b ≡ true)
 both_true true b h = (refl, h)

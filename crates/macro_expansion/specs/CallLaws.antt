@@ -12,7 +12,7 @@ use Rattle.macros.specs.Expansion.{Fault, fault, places_of, called_by, argument_
 use Rattle.macros.specs.Macros.{Macro}
 use Rattle.macros.specs.Pieces.{Call, Piece}
 use Rattle.macros.specs.Silence.{fixed}
-use Rattle.macros.specs.SilenceLaws.{silent-writes, fixed-faults}
+use Rattle.macros.proofs.SilenceLaws.{silent-writes, fixed-faults}
 use Rattle.macro_code.specs.Places as place
 use Rattle.macro_values.specs.Values.{kind_of}
 use Rattle.macro_code.specs.Code.{bytes_at, given_in, body_in, macro_in, macros_in}

@@ -10,7 +10,7 @@ use Rattle.macros.specs.Macros.{Macro}
 use Rattle.macros.specs.Pieces.{Piece}
 use Rattle.macros.specs.Pieces.Piece.{kept, value, called}
 use Rattle.macros.specs.Silence.{silent_piece, fixed_piece, silent, fixed}
-use Rattle.macros.specs.SilenceLaws.{call-more, silent-higher}
+use Rattle.macros.proofs.SilenceLaws.{call-more, silent-higher}
 
 -- a test that passes more lets more pieces pass
 module _ (ms : List Macro) (passes more : List Piece → Bool) (known : (ps : List Piece) → T (passes ps) → T (more ps)) where

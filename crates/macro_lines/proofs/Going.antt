@@ -9,9 +9,9 @@ use lib.Dec.{eqb}
 use lib.ListN.{length, get_or, take, drop, set, length-set}
 use lib.Seq.{take-suc, take-suc-set, take-length, drop-cons, drop-set-lt, get_or-drop}
 use Rattle.language.specs.Limits as limit
-use Rattle.macros.specs.OrderLaws.{Rising}
+use Rattle.macros.proofs.OrderLaws.{Rising}
 use Rattle.syntax.specs.Items.{line_of}
-use Rattle.macros.specs.LineLaws.{line_low, line_on}
+use Rattle.macros.proofs.LineLaws.{line_low, line_on}
 use Rattle.macro_lines.specs.Lines.{Ahead, Placed}
 
 -- from the beginning

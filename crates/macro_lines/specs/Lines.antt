@@ -1,7 +1,7 @@
 -- What the lines of places are asked with.
 use Rattle.std.specs.Prelude.{◌≡◌, List, ℕ, ◌≤◌, length}
 use Rattle.language.specs.Limits as limit
-use Rattle.macros.specs.OrderLaws.{Rising}
+use Rattle.macros.proofs.OrderLaws.{Rising}
 use Rattle.syntax.specs.Items.{line_of}
 
 -- the line of a place is known, and another place of the text is not before it

@@ -9,7 +9,7 @@ use borrow.Author.Tests.{ne_eqb, le-leb, lt-leb}
 use lib.ListN.{length, take, drop, replicate, length-append, length-replicate, take-append-drop}
 use lib.Seq.{take-append_seam, drop-append_seam}
 use Rattle.calls.specs.Calls.{load_number, load_line, table_after}
-use Rattle.calls.specs.LoadLaws.{text_refusals, Listed, text-listed, loaded-listed, listed-not_40, listed-accepted}
+use Rattle.calls.proofs.LoadLaws.{text_refusals, Listed, text-listed, loaded-listed, listed-not_40, listed-accepted}
 use Rattle.language.specs.Limits as limit
 use Rattle.layout.specs.Table.{table_cells}
 use Rattle.loading.specs.Texts.{Lent, Leaves, Fit}
@@ -18,14 +18,14 @@ use Rattle.macro_preparing.specs.Preparing.{made, count_of, Prepares}
 use Rattle.macro_preparing.specs.declared.Prepared as told
 use Rattle.macro_preparing.specs.declared.Prepared.TheVariants.{Ready, Unfit}
 use Rattle.macros.specs.Load.{loaded, load_in}
-use Rattle.macros.specs.LoadLaws.{load-asked, plain-loads, prepared-lined, accepted-plain}
+use Rattle.macros.proofs.LoadLaws.{load-asked, plain-loads, prepared-lined, accepted-plain}
 use Rattle.macros.specs.Marks.{has_macros}
 use Rattle.macros.specs.Prepared.{prepared}
 use Rattle.macros.specs.Prepared.Prepared.{unfit, ready}
-use Rattle.macros.specs.ShapeLaws.{prepared-shape}
+use Rattle.macros.proofs.ShapeLaws.{prepared-shape}
 use Rattle.syntax.specs.Ending.{last_place}
 use Rattle.syntax.specs.Items.{lines_of}
-use Rattle.syntax.specs.LineLaws.{text-lined}
+use Rattle.syntax.proofs.LineLaws.{text-lined}
 use Rattle.syntax.specs.Load as spec
 use Rattle.syntax.specs.Load.{text_loads, load_typed}
 use Rattle.syntax.specs.Load.Loaded.{refused, accepted}

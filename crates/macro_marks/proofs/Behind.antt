@@ -13,7 +13,7 @@ use Rattle.language.specs.Program.{identifier}
 use Rattle.lexer.specs.declared.Token.{Token}
 use Rattle.lexer.specs.Tokens.{item_of, chars_of, found_by, TokenAt}
 use Rattle.macros.specs.Marks.{byte_at, Part, passed_by, item_passed, part_after, Reader, parameters_in, word_in, joins}
-use Rattle.macros.specs.PlainLaws.{here}
+use Rattle.macros.proofs.PlainLaws.{here}
 use Rattle.syntax.specs.Items.{Sort, sort_of, Item, is, a_mark, opens, begins, itself, mode_after, items_at}
 use Rattle.syntax.specs.Items.Sort.{separator, word, colon, end, text, wrong}
 use Rattle.syntax.specs.Items.Mode.{outside, in_word, in_text}

@@ -12,7 +12,7 @@ use Rattle.lexer.specs.Tokens.{item_of, chars_of, TokenAt}
 use Rattle.lists.specs.Lists.{any, bytes_equal}
 use Rattle.macros.specs.Marks.{byte_at, Part, passed_by, part_after, Reader, parameters_in, joins, reader_after, marked_from}
 use Rattle.macros.specs.Marks.Part.{in_body}
-use Rattle.macros.specs.PlainLaws.{equal, here}
+use Rattle.macros.proofs.PlainLaws.{equal, here}
 use Rattle.syntax.specs.Items.{sort_of, same_sort, is, itself, items_at}
 use Rattle.syntax.specs.Items.Sort.{word}
 use Rattle.syntax.specs.Items.Mode.{outside, in_word}

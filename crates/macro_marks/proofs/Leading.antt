@@ -9,7 +9,7 @@ use lib.Dec.{eqb}
 use lib.ListN.{length, get_or, take, drop, length-append}
 use Rattle.language.specs.Program.{identifier}
 use Rattle.macros.specs.Marks.{Part, passed_by, part_after, Reader, word_in, joins, reader_after, marked_from}
-use Rattle.macros.specs.PlainLaws.{equal, here}
+use Rattle.macros.proofs.PlainLaws.{equal, here}
 use Rattle.syntax.specs.Items.{Sort, sort_of, same_sort, is, ends_text, takes_next, char_of, allows, Mode, opens, begins, itself, mode_after, items_at}
 use Rattle.syntax.specs.Items.Sort.{separator, word, colon, end, text, wrong}
 use Rattle.syntax.specs.Items.Stage.{first-star, inside, last-slash}

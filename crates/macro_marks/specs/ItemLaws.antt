@@ -6,7 +6,7 @@ use Rattle.std.proofs.Math.ListN.{get_or-eq_default}
 use Rattle.lexer.specs.declared.Token.{Token}
 use Rattle.lexer.specs.Tokens.{item_of, found_by, TokenAt}
 use Rattle.macros.specs.Marks.{byte_at}
-use Rattle.syntax.specs.ItemLaws.{items-found}
+use Rattle.syntax.proofs.ItemLaws.{items-found}
 use Rattle.syntax.specs.Scan.{items_then}
 use Rattle.macro_marks.specs.Parts.{items_from}
 

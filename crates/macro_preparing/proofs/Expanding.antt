@@ -9,7 +9,7 @@ use lib.ListN.{length, take, drop}
 use borrow.Author.Tests.{le-ltb}
 use Rattle.language.specs.Limits as limit
 use Rattle.lists.specs.Lists.{each}
-use Rattle.macros.specs.AcceptedLaws.{yes-at}
+use Rattle.macros.proofs.AcceptedLaws.{yes-at}
 use Rattle.macros.specs.Expansion.{followed_by, piece_writes, walk, expand, levels}
 use Rattle.macros.specs.Macros.{Macro}
 use Rattle.macros.specs.Marks.{has_macros, whole_questions}
@@ -17,8 +17,8 @@ use Rattle.macros.specs.Pieces.{Piece}
 use Rattle.macros.specs.Pieces.Piece.{kept, value, called}
 use Rattle.macros.specs.Prepared.Prepared.{ready}
 use Rattle.macros.specs.Prepared.{writes, deep_places, listed, section_of, bytes_out, places_out, macro_questions, written_out, unless_unfit, prepared}
-use Rattle.macros.specs.ShapeLaws.{places-rise, prepared-shape}
-use Rattle.macros.specs.WrittenLaws.{written-at-once}
+use Rattle.macros.proofs.ShapeLaws.{places-rise, prepared-shape}
+use Rattle.macros.proofs.WrittenLaws.{written-at-once}
 use Rattle.macro_code.specs.Places as place
 use Rattle.macro_section.specs.Origins.{none, Sectioned}
 use Rattle.macro_section.specs.declared.WrittenOut.{WrittenOut}

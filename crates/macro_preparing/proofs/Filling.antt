@@ -7,7 +7,7 @@ use lib.Dec.{eqb, leb}
 use lib.ListN.{length, get_or, take, drop, length-append, length-map, get_or-append}
 use lib.Seq.{take_at, length-take-le, get_or-take, get_or-drop, get_or-append-add}
 use Rattle.cells.specs.Cells.{pasted}
-use Rattle.macros.specs.LineLaws.{line-past, line_low}
+use Rattle.macros.proofs.LineLaws.{line-past, line_low}
 use Rattle.macros.specs.Marks.{new_reader, marked}
 use Rattle.macro_code.specs.Known.{Singles, Heights}
 use Rattle.macro_questions.specs.WholeLaws.{marked-length}

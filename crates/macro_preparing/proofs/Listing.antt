@@ -5,15 +5,15 @@ use Prim.Native.Nat.{ℕ, ◌≤◌}
 use native.Mathlib.Omega.{arith}
 use lib.ListN.{length, get_or}
 use Rattle.language.specs.Limits as limit
-use Rattle.layout.specs.CellLaws.{length-tab, get_d-tab}
+use Rattle.layout.proofs.CellLaws.{length-tab, get_d-tab}
 use Rattle.macros.specs.Elements.{elements}
 use Rattle.macros.specs.Macros.{Macro, section, list_change}
 use Rattle.macros.specs.Marks.{whole_questions}
-use Rattle.macros.specs.OrderLaws.{Ordered, list-ordered}
+use Rattle.macros.proofs.OrderLaws.{Ordered, list-ordered}
 use Rattle.macros.specs.Pieces.{Change, section_changes, pieces_from}
-use Rattle.macros.specs.PlaceLaws.{elements-ascend}
+use Rattle.macros.proofs.PlaceLaws.{elements-ascend}
 use Rattle.macros.specs.Prepared.{listed, section_of}
-use Rattle.macros.specs.ShortLaws.{name-short}
+use Rattle.macros.proofs.ShortLaws.{name-short}
 use Rattle.macro_calls.specs.Calls.{typed_in, Told, FirstsKept}
 use Rattle.macro_calls.specs.KeptLaws.{macros-kept}
 use Rattle.macro_calls.specs.declared.Faults.{Faults}

@@ -8,7 +8,7 @@ use Rattle.language.specs.Limits as limit
 use Rattle.lists.specs.Lists.{each}
 use Rattle.macros.specs.Elements.{elements}
 use Rattle.macros.specs.Expansion.{places_of, followed_by, piece_writes, walk, expand, levels}
-use Rattle.macros.specs.FaultLaws.{places-both}
+use Rattle.macros.proofs.FaultLaws.{places-both}
 use Rattle.macros.specs.Macros.{Macro, macro_list_faults, section}
 use Rattle.macros.specs.Pieces.{Piece, is_stray, form_faults}
 use Rattle.macros.specs.Prepared.{piece_faults, writes, deep_places, all_faults, listed, section_of, places_out, macro_questions}

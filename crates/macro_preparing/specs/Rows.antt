@@ -5,7 +5,7 @@ use Rattle.lists.specs.Lists.{each}
 use Rattle.macros.specs.Elements.{elements}
 use Rattle.macros.specs.Macros.{macro_list_faults, section}
 use Rattle.macros.specs.Marks.{has_macros, marked, whole_questions}
-use Rattle.macros.specs.OrderLaws.{Rising}
+use Rattle.macros.proofs.OrderLaws.{Rising}
 use Rattle.macros.specs.Pieces.{is_stray, form_faults}
 use Rattle.macros.specs.Prepared.{piece_faults, listed, section_of, bytes_out, places_out, macro_questions, written_out, unless_unfit}
 use Rattle.macro_calls.specs.Calls.{Told}

@@ -18,7 +18,7 @@ use Rattle.statements.specs.StatementAt.{fault_of}
 use Rattle.macros.specs.Elements as spec
 use Rattle.macros.specs.Elements.{is_open, is_close, is_bracket, places_in, until, from}
 use Rattle.macros.specs.Macros.{Macro, header_words, header_faults, body_of, body_start, body_stop, macro_of, definition_faults}
-use Rattle.macros.specs.PlainLaws.{equal}
+use Rattle.macros.proofs.PlainLaws.{equal}
 use Rattle.macros.specs.Pieces.{changes, form_faults, is_misplaced, pieces_from}
 use Rattle.macro_code.specs.Code.{bytes_at, macro_in}
 use Rattle.macro_changes.specs.Changing.{parameters_of, inside, behind, stop_of, changes_of, wrong_in}

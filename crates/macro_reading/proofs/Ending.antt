@@ -19,7 +19,7 @@ use Rattle.syntax.specs.Items.{Sort, same_sort}
 use Rattle.syntax.specs.Items.Sort.{separator, word, colon, end, text, wrong}
 use Rattle.macros.specs.Elements as spec
 use Rattle.macros.specs.Elements.{is_word, is_end, is_star, is_open, is_close, is_bracket, is_mark, places_in, until, from}
-use Rattle.macros.specs.FaultLaws.{keep-both}
+use Rattle.macros.proofs.FaultLaws.{keep-both}
 use Rattle.macros.specs.Macros.{from_statement, header_faults}
 use Rattle.macro_changes.proofs.Giving.{eqb_no, lower-assoc, keep-first, some-elements, no-elements, neither}
 use Rattle.macro_changes.proofs.Searching.{until-on, until-off, from_on, from-off}

@@ -12,8 +12,8 @@ use Rattle.syntax.specs.Items.{same_sort}
 use Rattle.syntax.specs.Items.Sort.{wrong}
 use Rattle.macros.specs.Elements.{Element, is_open, is_close, is_bracket, until, from, cut_off, stretches}
 use Rattle.macros.specs.Macros.{has_body}
-use Rattle.macros.specs.PlaceLaws.{joined-stretches}
-use Rattle.macros.specs.PlainLaws.{equal}
+use Rattle.macros.proofs.PlaceLaws.{joined-stretches}
+use Rattle.macros.proofs.PlainLaws.{equal}
 use Rattle.macro_changes.proofs.Giving.{neither}
 use Rattle.macro_reading.specs.Definitions.{stretch, bodiless, defined_in, last_in, after_in}
 use Rattle.macro_changes.proofs.Searching.{until-on, until-off, from_on, from-off}

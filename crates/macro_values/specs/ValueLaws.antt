@@ -7,7 +7,7 @@ use mathlib.Core.List.{List, [], ◌++◌, map, append-nil, append_assoc}
 use Prim.Native.Nat.{ℕ, zero, suc, ◌-◌, ◌<◌, ◌≤◌}
 use Rattle.std.proofs.Math.ListN.{length, get_or, length-map, get_or-map, get_or-eq_default}
 use Rattle.layout.specs.Cells.{tab}
-use Rattle.layout.specs.CellLaws.{length-tab, get_d-tab}
+use Rattle.layout.proofs.CellLaws.{length-tab, get_d-tab}
 use Rattle.macros.specs.Expansion.{filled_in}
 use Rattle.macros.specs.Pieces.{Given}
 use Rattle.macros.specs.Pieces.Given.{typed, parameter, joined}

@@ -2,7 +2,7 @@
 use Rattle.std.specs.Prelude.{◌≡◌, refl, Bool, true, false, ◌||◌, List, [], ◌++◌, ℕ, ◌+◌, ◌≤◌, ◌<◌, ltb, length, take, drop}
 use Rattle.std.proofs.Common.{sym, ap, ◌∙◌, true≢false, append_assoc, append-nil, arith, lt-ltb, le-ltb, length-append, length-take, length-drop, length-take-le, take_at}
 use Rattle.std.proofs.Math.Decide.{dec_lt}
-use Rattle.macros.specs.FaultLaws.{places-both}
+use Rattle.macros.proofs.FaultLaws.{places-both}
 use Rattle.macros.specs.Expansion.{Fault, Writing, places_of, followed_by, just}
 use Rattle.statements.specs.Faults.{lower}
 use Rattle.statements.specs.FaultLaws.{fault-both}

@@ -14,7 +14,7 @@ use Rattle.language.specs.Values.Component.{word, address}
 use Rattle.layout.specs.Bounds.{WholeComponents}
 use Rattle.layout.specs.Cells.{cell}
 use Rattle.layout.specs.Components.{component_bytes, components_bytes, component_in, components_in}
-use Rattle.layout.specs.ComponentLaws.{components_bytes-append, components_bytes-one, one_of}
+use Rattle.layout.proofs.ComponentLaws.{components_bytes-append, components_bytes-one, one_of}
 use Rattle.lists.specs.Lists.{any, ahead}
 use Rattle.lists.specs.ListLaws.{ahead-le, total-append}
 use Rattle.machine.specs.Arguments.{Until, everything, number_of, up_to, taken}

@@ -9,9 +9,9 @@ use Rattle.components.proofs.Walks.{Step}
 use Rattle.language.specs.Values.{Component, same}
 use Rattle.layout.specs.Bounds.{OneComponent}
 use Rattle.layout.specs.Components.{component_bytes, component_in, components_in}
-use Rattle.layout.specs.ComponentLaws.{one_of}
+use Rattle.layout.proofs.ComponentLaws.{one_of}
 use Rattle.lists.specs.Lists.{any}
-use Rattle.machine.specs.ValueLaws.{same-eq, same_refl}
+use Rattle.machine.proofs.ValueLaws.{same-eq, same_refl}
 
 truth : (b : Bool) → T b → b ≡ true
 truth true t = refl

@@ -13,7 +13,7 @@ use Rattle.language.specs.Values.{Component, Store, chars}
 use Rattle.machine.specs.Arguments.{expr, Until}
 use Rattle.machine.specs.Changes.{minus_unless, into, past_by, past, fits}
 use Rattle.layout.specs.Bounds.{Each, Ok, Encoded}
-use Rattle.layout.specs.ComponentLaws.{component-some, components-of, whole-components}
+use Rattle.layout.proofs.ComponentLaws.{component-some, components-of, whole-components}
 use Rattle.layout.specs.Components.{component_bytes, components_bytes, components_in}
 use Rattle.layout.specs.Memory.{components_held, chars_held}
 use Rattle.cells.specs.Cells.{pasted}

@@ -10,7 +10,7 @@ use Rattle.language.specs.Limits as limit
 use Rattle.language.specs.Letters.Letter.{E}
 use Rattle.language.specs.Values.{Component, Store}
 use Rattle.machine.specs.Arguments.{expr, Until, number_of}
-use Rattle.layout.specs.ComponentLaws.{components-of}
+use Rattle.layout.proofs.ComponentLaws.{components-of}
 use Rattle.layout.specs.Components.{components_in}
 use Rattle.components.specs.Parts.{spelled}
 use Rattle.matching.specs.Tests.{Took}

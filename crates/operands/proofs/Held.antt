@@ -6,7 +6,7 @@ use lib.ListN.{take}
 use Rattle.language.specs.Values.{Component}
 use Rattle.layout.specs.Bounds.{Encoded}
 use Rattle.layout.specs.Cells.{uncode}
-use Rattle.layout.specs.ComponentLaws.{components_bytes-one}
+use Rattle.layout.proofs.ComponentLaws.{components_bytes-one}
 use Rattle.layout.specs.Components.{component_bytes}
 use Rattle.cells.specs.Cells.{pasted}
 use Rattle.tests.proofs.Values.{copied-front}

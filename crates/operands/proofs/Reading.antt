@@ -17,7 +17,7 @@ use Rattle.language.specs.Values.Component.{word, address}
 use Rattle.machine.specs.Arguments.{expr, first, side, needs, listed_pair, of_kinds}
 use Rattle.layout.specs.Bounds.{Ok}
 use Rattle.layout.specs.Cells.{code, uncode}
-use Rattle.layout.specs.ComponentLaws.{next-component}
+use Rattle.layout.proofs.ComponentLaws.{next-component}
 use Rattle.layout.specs.Components.{component_in}
 use Rattle.cells.specs.Cells.{Number}
 use Rattle.state.specs.Working.{state_at, nth, reading}

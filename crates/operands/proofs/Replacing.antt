@@ -13,7 +13,7 @@ use Rattle.language.specs.Values.{Component, Store, kind}
 use Rattle.language.specs.Values.Component.{word, address}
 use Rattle.machine.specs.Arguments.{first, of_kinds}
 use Rattle.machine.specs.Changes.{with_exprs, put_expr, placed, into, front, past_by, past, used_by, used, fits}
-use Rattle.layout.specs.ComponentLaws.{components_bytes-one}
+use Rattle.layout.proofs.ComponentLaws.{components_bytes-one}
 use Rattle.layout.specs.Components.{component_bytes, components_in}
 use Rattle.layout.specs.Memory.{components_held, chars_held}
 use Rattle.state.specs.Working.{state_at, HoldsState, on_store, nth, reading, writing, char_count}

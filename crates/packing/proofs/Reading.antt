@@ -7,9 +7,9 @@ use lib.ListN.{length, take, drop, get_or, replicate, get_or-append}
 use lib.Seq.{drop_at, drop-drop, take-append_seam, drop-append_seam}
 use Rattle.lists.specs.Lists.{joined}
 use Rattle.layout.specs.Cells.{two_at}
-use Rattle.layout.specs.CellLaws.{two_back}
+use Rattle.layout.proofs.CellLaws.{two_back}
 use Rattle.layout.specs.Strings.{lengths, used, string_cells, strings_in}
-use Rattle.layout.specs.StringLaws.{joined-split, length-lengths, lengths-low, lengths-high, length-strings_in, length-string_cells}
+use Rattle.layout.proofs.StringLaws.{joined-split, length-lengths, lengths-low, lengths-high, length-strings_in, length-string_cells}
 use Rattle.layout.specs.Places as layout
 use Rattle.cells.specs.Cells.{Number}
 use Rattle.gaps.specs.Pool.{string, offset, Holds}

@@ -10,7 +10,7 @@ use lib.Seq.{take-suc, take-length, length-take-le}
 use Rattle.lists.specs.Lists.{joined}
 use Rattle.layout.specs.Cells.{two}
 use Rattle.layout.specs.Strings.{lengths, used, string_cells}
-use Rattle.layout.specs.StringLaws.{joined-append, length-lengths}
+use Rattle.layout.proofs.StringLaws.{joined-append, length-lengths}
 use Rattle.layout.specs.Places as layout
 use Rattle.cells.specs.Cells.{pasted, cleared}
 use Rattle.cells.proofs.Laws.{cleared-is, pasted-none, pasted-pasted, pasted-whole}

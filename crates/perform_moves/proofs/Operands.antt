@@ -22,7 +22,7 @@ use Rattle.language.specs.Values.{Inputs}
 use Rattle.layout.specs.Table.{program_of}
 use Rattle.machine.specs.Effects.{row}
 use Rattle.machine.specs.WellFormed.{good_inputs, overrun, store_faults}
-use Rattle.machine.specs.WellFormedLaws.{open-state, open-store}
+use Rattle.machine.proofs.WellFormedLaws.{open-state, open-store}
 use Rattle.packed.specs.Packed.{table_of}
 use Rattle.decoding.specs.Operands.{Named, IsSource, IsTarget, IsIndex, IsVariable, Listed, Shaped, SwitchOf}
 use Rattle.decoding.specs.OperandLaws.{named, switched-by-name, no-argument, form-letter, narrowed, indexed-is, indexed-below, shape}

@@ -5,9 +5,9 @@ use Rattle.language.specs.Instructions.{operation, operator_of, is_end}
 use Rattle.language.specs.Limits as limit
 use Rattle.language.specs.Program.{Arg}
 use Rattle.machine.specs.Effects.{Row, row}
-use Rattle.machine.specs.WellFormedLaws.{open-state}
+use Rattle.machine.proofs.WellFormedLaws.{open-state}
 use Rattle.layout.specs.Table.{program_of}
-use Rattle.layout.specs.TableLaws.{table-facts}
+use Rattle.layout.proofs.TableLaws.{table-facts}
 use Rattle.packed.specs.Packed.{table_of}
 use Rattle.decoding.specs.OperandLaws.{has-following, meaning-is}
 use Rattle.instructions.specs.Does.{Does, Goes}

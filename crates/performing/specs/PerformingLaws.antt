@@ -13,7 +13,7 @@ use Rattle.language.specs.Program.Op.{PRZESLIJ, CZYTAJ, PISZ, KOPIUJ, WSTAW, POB
 use Rattle.language.specs.Values.{Store, State, Inputs}
 use Rattle.machine.specs.Effects.{Row, relation, equality, ordered, computed, changed, row}
 use Rattle.machine.specs.Effects.Go.{on}
-use Rattle.machine.specs.WellFormedLaws.{open-state}
+use Rattle.machine.proofs.WellFormedLaws.{open-state}
 use Rattle.machine.specs.Runs.Outcome.{stop, went}
 use Rattle.machine.specs.Steps.{made, meaning, numbers, questions, refusals, step}
 use Rattle.layout.specs.Table.{program_of}

@@ -8,7 +8,7 @@ use Rattle.language.specs.Values.{State, Inputs}
 use Rattle.machine.specs.Runs.{Outcome}
 use Rattle.machine.specs.Runs.Outcome.{stop, went}
 use Rattle.machine.specs.Steps.{meaning, numbers, questions, refusals, step, asks_after}
-use Rattle.machine.specs.StepLaws.{step-first}
+use Rattle.machine.proofs.StepLaws.{step-first}
 use Rattle.layout.specs.Table.{program_of}
 use Rattle.state.specs.Working.{state_at, HoldsState}
 use Rattle.state.proofs.Standing.{state_of}

@@ -23,7 +23,7 @@ use Rattle.cells.specs.Cells.{Number, pasted}
 use Rattle.cells.proofs.Laws.{pasted-front}
 use Rattle.components.specs.Parts.{Leading}
 use Rattle.layout.specs.Bounds.{Encoded}
-use Rattle.layout.specs.ComponentLaws.{next-component, components-none, components-of, components_bytes-one}
+use Rattle.layout.proofs.ComponentLaws.{next-component, components-none, components-of, components_bytes-one}
 use Rattle.layout.specs.Components.{component_bytes, records_bytes, component_in, components_in, records_in}
 use Rattle.layout.specs.Memory.{components_held, chars_held}
 use Rattle.state.specs.Blocks.{ExprLent, PartsDroppable, PartsWritable, exprs_exchanged}

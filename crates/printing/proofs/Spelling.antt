@@ -12,7 +12,7 @@ use Rattle.language.specs.Letters.Letter.{E, Q}
 use Rattle.language.specs.Values.{Component, Store}
 use Rattle.machine.specs.Arguments.{at, expr, Until}
 use Rattle.machine.specs.Changes.{with_exprs, put_expr, minus_unless, printed, past_by, past, fits}
-use Rattle.layout.specs.ComponentLaws.{whole-components}
+use Rattle.layout.proofs.ComponentLaws.{whole-components}
 use Rattle.layout.specs.Components.{components_in}
 use Rattle.cells.proofs.Laws.{pasted-front, length-pasted}
 use Rattle.components.specs.Parts.{spelled, JoinRoom, Written}

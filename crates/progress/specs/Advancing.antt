@@ -1,6 +1,6 @@
 -- What is known of a text after a statement without fault, and what the functions that tell it ask and promise.
 use Rattle.std.specs.Prelude.{◌≡◌, List, map, ℕ, ◌-◌, ◌≤◌, length}
-use Rattle.acceptance.specs.RowLaws.{Answered}
+use Rattle.acceptance.proofs.RowLaws.{Answered}
 use Rattle.progress.specs.Closing.{TellsClosing, unended}
 use Rattle.drafts.specs.Marks.{marks_in}
 use Rattle.drafts.specs.Marks.{mark}

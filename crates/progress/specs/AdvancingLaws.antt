@@ -7,10 +7,10 @@ use Rattle.std.proofs.lemmas.Bool.{false≢true}
 use mathlib.Core.List.{List, [], ◌∷◌, ◌++◌, append-nil}
 use Prim.Native.Nat.{ℕ, pred, ◌≤◌, ◌<◌}
 use borrow.Author.Tests.{ne_eqb, not-true}
-use Rattle.acceptance.specs.ArgumentLaws.{word-apart}
-use Rattle.acceptance.specs.StatementLaws.{each-behind}
+use Rattle.acceptance.proofs.ArgumentLaws.{word-apart}
+use Rattle.acceptance.proofs.StatementLaws.{each-behind}
 use Rattle.arguments.specs.CountLaws.{this-instruction, has-operator}
-use Rattle.acceptance.specs.RowLaws.{Answered, fails, append-none}
+use Rattle.acceptance.proofs.RowLaws.{Answered, fails, append-none}
 use Rattle.progress.specs.Closing.{unended}
 use Rattle.declaring.specs.SpeltLaws.{statement-spelt}
 use Rattle.declaring.specs.TabledLaws.{operated}
@@ -26,9 +26,9 @@ use Rattle.heads.specs.declared.Head.{Head}
 use Rattle.language.specs.Instructions.{operation, is_end}
 use Rattle.language.specs.Limits as limit
 use Rattle.language.specs.Program.{Op, identifier}
-use Rattle.layout.specs.ArgumentLaws.{operator-range}
+use Rattle.layout.proofs.ArgumentLaws.{operator-range}
 use Rattle.layout.specs.Bounds.{Each}
-use Rattle.layout.specs.CellLaws.{each-drop}
+use Rattle.layout.proofs.CellLaws.{each-drop}
 use Rattle.lexer.specs.declared.Token.{Token}
 use Rattle.lexer.specs.Tokens.{item_of}
 use Rattle.lists.specs.Lists.{filled, head_or, if_any, each, bytes_equal}

@@ -3,12 +3,12 @@ use Rattle.std.specs.Prelude.{refl, Bool, true, false, cond, List, [], ◌∷◌
 use Rattle.std.proofs.Common.{arith, length-append}
 use Rattle.std.proofs.lemmas.List.{length-map}
 use Rattle.lists.specs.ListLaws.{keep-few}
-use Rattle.acceptance.specs.RowLaws.{each_map, each_keep}
-use Rattle.acceptance.specs.DraftLaws.{blank-sound}
-use Rattle.acceptance.specs.StatementLaws.{each-front}
+use Rattle.acceptance.proofs.RowLaws.{each_map, each_keep}
+use Rattle.acceptance.proofs.DraftLaws.{blank-sound}
+use Rattle.acceptance.proofs.StatementLaws.{each-front}
 use Rattle.drafts.specs.Marks.{word_by}
 use Rattle.layout.specs.Bounds.{Each}
-use Rattle.layout.specs.CellLaws.{each_append}
+use Rattle.layout.proofs.CellLaws.{each_append}
 use Rattle.lists.specs.Lists.{filled}
 use Rattle.statements.specs.declared.Fault.TheVariants.{Clear}
 use Rattle.syntax.specs.Items.{Item, is}

@@ -6,9 +6,9 @@ use mathlib.Core.List.{List, [], ◌∷◌, ◌++◌, map, map-append}
 use Rattle.std.proofs.Math.ListN.{length-append, length-map}
 use Rattle.std.proofs.lemmas.List.{drop-append-le}
 use Rattle.acceptance.specs.Drafts.{SoundItem, FineItem}
-use Rattle.acceptance.specs.ReaderLaws.{head-sound, statements-sound-from}
-use Rattle.acceptance.specs.RowLaws.{each_map, each_both, each_keep, each-kept, each-mapped, Answered}
-use Rattle.acceptance.specs.StatementLaws.{fine-items, each-front}
+use Rattle.acceptance.proofs.ReaderLaws.{head-sound, statements-sound-from}
+use Rattle.acceptance.proofs.RowLaws.{each_map, each_both, each_keep, each-kept, each-mapped, Answered}
+use Rattle.acceptance.proofs.StatementLaws.{fine-items, each-front}
 use Rattle.declaring.specs.SpeltLaws.{statement-spelt}
 use Rattle.drafts.specs.DraftingLaws.{length_back}
 use Rattle.drafts.specs.Marks.{mark, length_by, word_by, Marked, marks_in}
@@ -20,7 +20,7 @@ use Rattle.heads.specs.declared.Head.{Head}
 use Rattle.language.specs.Limits as limit
 use Rattle.layout.specs.Bounds.{Each}
 use Rattle.judging.specs.Judging.{Labelled, LabelFault}
-use Rattle.layout.specs.CellLaws.{each_append, each_at}
+use Rattle.layout.proofs.CellLaws.{each_append, each_at}
 use Rattle.names.specs.Names.{names_of, Repeatable}
 use Rattle.names.specs.RepeatedLaws.{NamedLabel, repeated-marks, reserved-marks}
 use Rattle.progress.specs.Advancing.{Advanceable}

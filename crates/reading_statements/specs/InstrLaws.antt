@@ -3,8 +3,8 @@ use Rattle.std.specs.Prelude.{Bool, ◌≡◌, refl, ℕ, ◌≤◌, drop, lengt
 use mathlib.Core.List.{List, []}
 use Rattle.std.proofs.Common.{sym, ◌∙◌, arith}
 use Rattle.std.proofs.Math.Path.{ap, subst}
-use Rattle.acceptance.specs.DraftLaws.{arguments_sound}
-use Rattle.acceptance.specs.RowLaws.{Answered, answered, each_map}
+use Rattle.acceptance.proofs.DraftLaws.{arguments_sound}
+use Rattle.acceptance.proofs.RowLaws.{Answered, answered, each_map}
 use Rattle.argument_cells.specs.ArgumentCells.{RightArgument}
 use Rattle.arguments.specs.Arguments.{Operates, ReadsArguments}
 use Rattle.arguments.specs.CountLaws.{Instruction, this-instruction}
@@ -21,7 +21,7 @@ use Rattle.heads.specs.declared.Head.{Head}
 use Rattle.language.specs.Instructions.{operation, operator_of}
 use Rattle.language.specs.Limits as limit
 use Rattle.language.specs.Program.{Op}
-use Rattle.layout.specs.ArgumentLaws.{operator-back}
+use Rattle.layout.proofs.ArgumentLaws.{operator-back}
 use Rattle.layout.specs.Bounds.{Each}
 use Rattle.progress.specs.declared.Progress.{Progress}
 use Rattle.statements.specs.Checks.{worst}

@@ -3,7 +3,7 @@ use Rattle.std.specs.Prelude.{◌≡◌, Bool, true, false, cond, List, [], ◌�
 use Rattle.std.proofs.Math.Path.{refl}
 use Rattle.std.proofs.Common.{sym, ap, ◌∙◌, arith}
 use Rattle.acceptance.specs.Drafts.{SoundItem}
-use Rattle.acceptance.specs.RowLaws.{each_map}
+use Rattle.acceptance.proofs.RowLaws.{each_map}
 use Rattle.statements.specs.CheckLaws.{worst-decides}
 use Rattle.statements.specs.Checks.{worst, code_verdict}
 use Rattle.statements.specs.FaultLaws.{question-decides, then-yes, first_no-both}

@@ -1,10 +1,10 @@
 -- A statement is read, whatever its kind: its verdict, and the draft after it.
 use Rattle.std.specs.Prelude.{◌≡◌, refl, Bool, true, cond, List, [], ℕ, length}
 use Rattle.std.proofs.Common.{sym, ap, ◌∙◌, subst, arith, eq-eqb}
-use Rattle.acceptance.specs.DraftLaws.{draft-sound}
+use Rattle.acceptance.proofs.DraftLaws.{draft-sound}
 use Rattle.acceptance.specs.Drafts.{FineItem, SoundTables, SoundName}
-use Rattle.acceptance.specs.RowLaws.{each_map, answered, Answered, each_both}
-use Rattle.acceptance.specs.StatementLaws.{each-behind, front-names, label-names}
+use Rattle.acceptance.proofs.RowLaws.{each_map, answered, Answered, each_both}
+use Rattle.acceptance.proofs.StatementLaws.{each-behind, front-names, label-names}
 use Rattle.declaring.specs.TabledLaws.{Labelled}
 use Rattle.drafts.specs.Marks.{marks_in}
 use Rattle.drafts.specs.Tabled.{Spelt, Tabled}
@@ -14,7 +14,7 @@ use Rattle.headings.specs.Headings.{AfterTold}
 use Rattle.heads.specs.Heads.{Headed}
 use Rattle.heads.specs.declared.Head.{Head}
 use Rattle.layout.specs.Bounds.{Each}
-use Rattle.layout.specs.CellLaws.{each_append, each_left, each-drop}
+use Rattle.layout.proofs.CellLaws.{each_append, each_left, each-drop}
 use Rattle.lists.specs.ListLaws.{T-left}
 use Rattle.progress.specs.Advancing.{Progresses, SectionTold}
 use Rattle.progress.specs.AdvancingLaws.{section-before}

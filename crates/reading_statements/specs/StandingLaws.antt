@@ -2,7 +2,7 @@
 use Rattle.std.specs.Prelude.{◌≡◌, refl, Bool, true, false, ◌&&◌, List, [], ◌++◌, map, ℕ, ◌-◌, ◌≤◌, ◌<◌, eqb, length, get_or, take, drop}
 use Rattle.std.proofs.Common.{sym, ap, ◌∙◌, subst, true≢false, arith, length-drop, length-take-le, take_all, take-take, take_at, get_or-take}
 use Rattle.std.proofs.lemmas.Bool.{not-true}
-use Rattle.acceptance.specs.RowLaws.{each_map}
+use Rattle.acceptance.proofs.RowLaws.{each_map}
 use Rattle.drafts.specs.Marks.{mark, length_by, Marked}
 use Rattle.headings.specs.HeadingLaws.{front-none}
 use Rattle.heads.specs.HeadLaws.{behind-by}

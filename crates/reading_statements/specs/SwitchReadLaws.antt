@@ -5,10 +5,10 @@ use mathlib.Core.List.{List, [], ◌∷◌, ◌++◌, map}
 use Rattle.std.proofs.Common.{sym, ◌∙◌, subst, arith, length-take, get_or-take, get_or-drop}
 use Rattle.std.proofs.Math.Path.{ap}
 use Rattle.std.proofs.Math.Dec.{T}
-use Rattle.acceptance.specs.DraftLaws.{one_label}
+use Rattle.acceptance.proofs.DraftLaws.{one_label}
 use Rattle.acceptance.specs.Drafts.{FineItem, in_texts}
-use Rattle.acceptance.specs.RowLaws.{Answered, answered, each_map, each_both, append-none}
-use Rattle.acceptance.specs.StatementLaws.{texts-kept}
+use Rattle.acceptance.proofs.RowLaws.{Answered, answered, each_map, each_both, append-none}
+use Rattle.acceptance.proofs.StatementLaws.{texts-kept}
 use Rattle.declaring.specs.Declaring.{texts_excess}
 use Rattle.declaring.specs.TabledLaws.{Operated, operated}
 use Rattle.declaring_switches.specs.DeclaringSwitches.{with_texts, switch_excess}
@@ -27,7 +27,7 @@ use Rattle.language.specs.Limits as limit
 use Rattle.language.specs.Program.{Op, Program}
 use Rattle.layout.specs.Bounds.{Each}
 use Rattle.layout.specs.Cells.{cell}
-use Rattle.layout.specs.ProgramLaws.{length-each-total}
+use Rattle.layout.proofs.ProgramLaws.{length-each-total}
 use Rattle.layout.specs.Table.{all_entries}
 use Rattle.lists.specs.ListLaws.{T-both}
 use Rattle.lists.specs.Lists.{filled, head_or, keep}

@@ -12,7 +12,7 @@ use Rattle.language.specs.Values.{Component, Store, chars}
 use Rattle.machine.specs.Arguments.{Until, taken}
 use Rattle.machine.specs.Changes.{with_places, minus_unless, into, past_by, past, held, fits}
 use Rattle.layout.specs.Bounds.{Encoded}
-use Rattle.layout.specs.ComponentLaws.{components-of, whole-components}
+use Rattle.layout.proofs.ComponentLaws.{components-of, whole-components}
 use Rattle.layout.specs.Components.{components_bytes, components_in}
 use Rattle.layout.specs.Memory.{components_held, chars_held}
 use Rattle.components.specs.Parts.{Written}

@@ -14,7 +14,7 @@ use Rattle.machine.specs.Arguments.{use_by, expr, file_of, next_parts, side, is_
 use Rattle.machine.specs.Changes.{minus_unless, used_by, used}
 use Rattle.machine.specs.Effects.{relation, equality, row}
 use Rattle.machine.specs.Effects.Go.{on}
-use Rattle.layout.specs.ComponentLaws.{components-of, whole-components}
+use Rattle.layout.proofs.ComponentLaws.{components-of, whole-components}
 use Rattle.layout.specs.Components.{components_in, records_in}
 use Rattle.filing.specs.Files.{RecordsLent}
 use Rattle.matching.specs.Tests.{until, Took}

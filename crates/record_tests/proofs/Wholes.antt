@@ -16,7 +16,7 @@ use Rattle.lists.specs.Lists.{same_list}
 use Rattle.lists.specs.Quoted.{bytes}
 use Rattle.machine.specs.Arguments.{use_by, is_whole, expr, up_to}
 use Rattle.layout.specs.Bounds.{Encoded}
-use Rattle.layout.specs.ComponentLaws.{components-of, whole-components}
+use Rattle.layout.proofs.ComponentLaws.{components-of, whole-components}
 use Rattle.matching.specs.declared.Test.{Test}
 use Rattle.records.specs.Sequences.{on_first}
 use Rattle.records.specs.declared.RecordTest.TheVariants.{First, Whole}

@@ -9,8 +9,8 @@ use lib.ListN.{length, take, drop, length-drop}
 use lib.Seq.{take-add, length-take-le}
 use Rattle.language.specs.Values.{Record}
 use Rattle.layout.specs.Bounds.{RecordOk, WholeRecords}
-use Rattle.layout.specs.CellLaws.{each_append}
-use Rattle.layout.specs.ComponentLaws.{records_bytes-append, records_bytes-one, records-of, whole-records, records-none}
+use Rattle.layout.proofs.CellLaws.{each_append}
+use Rattle.layout.proofs.ComponentLaws.{records_bytes-append, records_bytes-one, records-of, whole-records, records-none}
 use Rattle.layout.specs.Components.{record_bytes, records_bytes, record_in, records_in}
 use Rattle.lists.specs.Lists.{any, ahead}
 use Rattle.matching.proofs.Loops.{Split, split}

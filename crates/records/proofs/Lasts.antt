@@ -7,7 +7,7 @@ use lib.ListN.{length, take, drop}
 use Rattle.language.specs.Values.{Record}
 use Rattle.layout.specs.Bounds.{EncodedRecords, WholeRecords, last_size}
 use Rattle.layout.specs.Cells.{two_at}
-use Rattle.layout.specs.ComponentLaws.{records_bytes-one, last-record, whole-records, records-none}
+use Rattle.layout.proofs.ComponentLaws.{records_bytes-one, last-record, whole-records, records-none}
 use Rattle.layout.specs.Components.{record_bytes, record_in, records_in}
 use Rattle.machine.specs.Changes.{address_of_last}
 use Rattle.records.specs.Places.{Starts}

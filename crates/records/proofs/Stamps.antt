@@ -11,7 +11,7 @@ use Rattle.cells.proofs.Laws.{pasted-pasted}
 use Rattle.cells.specs.Cells.{pasted}
 use Rattle.language.specs.Values.{Component, Record}
 use Rattle.layout.specs.Cells.{two, three}
-use Rattle.layout.specs.ComponentLaws.{record-length, records_bytes-append, records_bytes-one}
+use Rattle.layout.proofs.ComponentLaws.{record-length, records_bytes-append, records_bytes-one}
 use Rattle.layout.specs.Components.{record_bytes, records_bytes, components_in, record_in, records_in}
 use Rattle.machine.specs.Changes.{stamped}
 use Rattle.lists.specs.Lists.{total}

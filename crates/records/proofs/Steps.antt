@@ -10,7 +10,7 @@ use Rattle.cells.specs.Cells.{Number}
 use Rattle.language.specs.Values.{Record}
 use Rattle.layout.specs.Bounds.{WholeRecords, NextRecord}
 use Rattle.layout.specs.Cells.{two, two_at, three_at}
-use Rattle.layout.specs.ComponentLaws.{next-record, record-length, records-none}
+use Rattle.layout.proofs.ComponentLaws.{next-record, record-length, records-none}
 use Rattle.layout.specs.Components.{components_bytes, record_bytes, record_in, records_in}
 use Rattle.records.specs.Places.{Starts, Ends, Part, next_contents}
 

@@ -10,7 +10,7 @@ use lib.Seq.{take-length}
 use Rattle.language.specs.Values.{Component, Record, chars}
 use Rattle.language.specs.Values.Component.{word}
 use Rattle.layout.specs.Bounds.{Encoded, EncodedOne, OneComponent, WholeRecords}
-use Rattle.layout.specs.ComponentLaws.{component-some, components_bytes-one, components-of, whole-components, one-component, one_of, components-none, record-length}
+use Rattle.layout.proofs.ComponentLaws.{component-some, components_bytes-one, components-of, whole-components, one-component, one_of, components-none, record-length}
 use Rattle.layout.specs.Components.{component_in, components_in, components_bytes, record_in, records_in}
 use Rattle.lists.specs.Lists.{total}
 use Rattle.lists.specs.ListLaws.{total-append}

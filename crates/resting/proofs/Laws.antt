@@ -10,13 +10,13 @@ use lib.Seq.{take-suc-set, take-length, length-take-le, get_or-drop, drop-drop, 
 use Rattle.language.specs.Limits as limit
 use Rattle.lists.specs.Lists.{each}
 use Rattle.layout.specs.Cells.{three, three_at}
-use Rattle.layout.specs.CellLaws.{length-each}
+use Rattle.layout.proofs.CellLaws.{length-each}
 use Rattle.language.specs.Values.{State}
-use Rattle.layout.specs.FineLaws.{fine-room}
+use Rattle.layout.proofs.FineLaws.{fine-room}
 use Rattle.layout.specs.Memory.{scalars, strings, state_cells, threes_in, state_of, written}
-use Rattle.layout.specs.MemoryLaws.{threes-back, length-strings}
+use Rattle.layout.proofs.MemoryLaws.{threes-back, length-strings}
 use Rattle.layout.specs.Strings.{string_cells, strings_in}
-use Rattle.layout.specs.StringLaws.{length-string_cells, strings-back}
+use Rattle.layout.proofs.StringLaws.{length-string_cells, strings-back}
 use Rattle.layout.specs.Places as layout
 use Rattle.cells.specs.Cells.{pasted}
 use Rattle.gaps.specs.Pool.{abs, Holds}

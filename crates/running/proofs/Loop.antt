@@ -11,14 +11,14 @@ use Rattle.language.specs.Values.{State}
 use Rattle.machine.specs.Runs.{ran, Goes}
 use Rattle.machine.specs.Runs.Answer.{pause, stopped}
 use Rattle.machine.specs.Runs.Goes.{here}
-use Rattle.machine.specs.RunLaws.{goes-snoc, run-pause, run-stop}
+use Rattle.machine.proofs.RunLaws.{goes-snoc, run-pause, run-stop}
 use Rattle.machine.specs.Steps.{step}
-use Rattle.machine.specs.StepLaws.{step-good}
+use Rattle.machine.proofs.StepLaws.{step-good}
 use Rattle.machine.specs.WellFormed.{good_program}
 use Rattle.layout.specs.Memory.{state_of, written}
-use Rattle.layout.specs.MemoryLaws.{memory-facts, memory-fine}
+use Rattle.layout.proofs.MemoryLaws.{memory-facts, memory-fine}
 use Rattle.layout.specs.Table.{program_of}
-use Rattle.layout.specs.TableLaws.{table-facts}
+use Rattle.layout.proofs.TableLaws.{table-facts}
 use Rattle.layout.specs.Places as layout
 use Rattle.resting.specs.Resting.{Openable, Closable}
 use Rattle.state.specs.Working.{state_at, HoldsState}

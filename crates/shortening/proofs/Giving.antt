@@ -24,10 +24,10 @@ use Rattle.macros.specs.Load.{loaded, load_in, load_of}
 use Rattle.macros.specs.Prepared.{prepared}
 use Rattle.syntax.specs.Load.{Loaded}
 use Rattle.syntax.specs.Load.Loaded.{refused, accepted}
-use Rattle.shorten_calls.specs.CellLaws.{loads-same, part_same}
-use Rattle.shorten_calls.specs.LineLaws.{lighter}
-use Rattle.shorten_calls.specs.PartLaws.{part-number, part-refused, number_is, loads-back}
-use Rattle.shorten_calls.specs.RoundLaws.{rounds-order}
+use Rattle.shorten_calls.proofs.CellLaws.{loads-same, part_same}
+use Rattle.shorten_calls.proofs.LineLaws.{lighter}
+use Rattle.shorten_calls.proofs.PartLaws.{part-number, part-refused, number_is, loads-back}
+use Rattle.shorten_calls.proofs.RoundLaws.{rounds-order}
 use Rattle.shorten_calls.specs.Shortening.{rounds, part, brings_40, shorten_of, table_shortened}
 use Rattle.text_lines.specs.LineLaws.{joined-lines}
 use Rattle.text_lines.specs.Lines.{lines}

@@ -7,7 +7,7 @@ use native.Mathlib.Omega.{arith}
 use lib.ListN.{length, get_or, take, drop, drop_of_length-le}
 use lib.Seq.{length-take-le, take-take, drop-cons, split_at, take-suc, get_or-take}
 use Rattle.text_lines.specs.Lines.{lines}
-use Rattle.shorten_calls.specs.LineLaws.{lf-split, one_byte, one_more, no_lines}
+use Rattle.shorten_calls.proofs.LineLaws.{lf-split, one_byte, one_more, no_lines}
 use Rattle.shortening.specs.Trying.{Ending, LineStart}
 
 -- from `at` on there is one line

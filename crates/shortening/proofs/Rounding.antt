@@ -16,8 +16,8 @@ use Rattle.text_lines.specs.LineLaws.{joined-lines}
 use Rattle.text_lines.specs.Lines.{lines}
 use Rattle.shorten_calls.specs.Shortening.{number_of, round, round_of, rounds}
 use Rattle.shorten_calls.specs.Parts.{InOrder}
-use Rattle.shorten_calls.specs.RoundLaws.{of-order, fewer, as_many}
-use Rattle.shorten_calls.specs.LineLaws.{joined-append, lines-lined, some-lined, lines-back, lighter, as-heavy, no_lines}
+use Rattle.shorten_calls.proofs.RoundLaws.{of-order, fewer, as_many}
+use Rattle.shorten_calls.proofs.LineLaws.{joined-append, lines-lined, some-lined, lines-back, lighter, as-heavy, no_lines}
 use Rattle.shortening.specs.Trying.{Ending, LineStart, cut, cut_number, Tryable, Cuttable, Tried, Rounded, Finished}
 
 -- ---- one round

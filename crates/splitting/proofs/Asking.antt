@@ -11,7 +11,7 @@ use Rattle.language.specs.Letters.Letter.{E}
 use Rattle.language.specs.Values.{Component, Store, kind}
 use Rattle.machine.specs.Arguments.{expr}
 use Rattle.layout.specs.Cells.{cell}
-use Rattle.layout.specs.ComponentLaws.{next-component, components-none}
+use Rattle.layout.proofs.ComponentLaws.{next-component, components-none}
 use Rattle.layout.specs.Components.{component_in, components_in, component_size}
 use Rattle.components.specs.Parts.{Leading}
 use Rattle.state.specs.Working.{state_at, nth}

@@ -14,7 +14,7 @@ use Rattle.language.specs.Values.Component.{word, address}
 use Rattle.machine.specs.Arguments.{expr, first, char, Until}
 use Rattle.machine.specs.Changes.{minus_unless, into, past, fits}
 use Rattle.layout.specs.Bounds.{Each, Ok, Encoded}
-use Rattle.layout.specs.ComponentLaws.{components_bytes-one, components-of, whole-components}
+use Rattle.layout.proofs.ComponentLaws.{components_bytes-one, components-of, whole-components}
 use Rattle.layout.specs.Components.{component_bytes, components_bytes, component_in, components_in}
 use Rattle.layout.specs.Memory.{components_held, chars_held}
 use Rattle.components.specs.Parts.{LentChars, Written}

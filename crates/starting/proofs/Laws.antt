@@ -6,7 +6,7 @@ use native.Mathlib.Omega.{arith}
 use lib.ListN.{length, drop, set}
 use Rattle.machine.specs.WellFormed.{started}
 use Rattle.layout.specs.Memory.{written}
-use Rattle.layout.specs.MemoryLaws.{started-cells}
+use Rattle.layout.proofs.MemoryLaws.{started-cells}
 use Rattle.language.specs.Limits as limit
 use Rattle.cells.specs.Cells.{cleared}
 

@@ -11,7 +11,7 @@ use Rattle.language.specs.Values.{State}
 use Rattle.machine.specs.Changes.{with_plus, minus_unless, with_outputs, with_places, printed, past, past_by, held, recorded}
 use Rattle.layout.specs.Bounds.{Fine}
 use Rattle.layout.specs.Memory.{scalars, strings}
-use Rattle.layout.specs.MemoryLaws.{string-output}
+use Rattle.layout.proofs.MemoryLaws.{string-output}
 use Rattle.layout.specs.Places as layout
 use Rattle.gaps.specs.Gaps.{pushed_back}
 use Rattle.gaps.specs.Pool.{abs, Holds}

@@ -10,7 +10,7 @@ use Rattle.language.specs.Values.{Component, State, chars}
 use Rattle.machine.specs.Changes.{with_exprs, put_expr, held}
 use Rattle.layout.specs.Bounds.{Each, Ok, Fine}
 use Rattle.layout.specs.Memory.{scalars, strings}
-use Rattle.layout.specs.MemoryLaws.{string-expr}
+use Rattle.layout.proofs.MemoryLaws.{string-expr}
 use Rattle.gaps.specs.Pool.{abs, Holds}
 use Rattle.gaps.proofs.Laws.{after}
 use Rattle.store.specs.Store.{Exchangeable, exchanged}

@@ -12,13 +12,13 @@ use Rattle.language.specs.Letters.Letter.{E}
 use Rattle.language.specs.Values.{Component, Store, State, chars}
 use Rattle.machine.specs.Arguments.{expr}
 use Rattle.machine.specs.Changes.{put_expr, into, placed, past, past_by, held}
-use Rattle.machine.specs.SumLaws.{held-put_expr}
+use Rattle.machine.proofs.SumLaws.{held-put_expr}
 use Rattle.layout.specs.Bounds.{Each, Ok, Fine}
-use Rattle.layout.specs.CellLaws.{each_append, each-drop}
-use Rattle.layout.specs.ComponentLaws.{components_bytes-append}
+use Rattle.layout.proofs.CellLaws.{each_append, each-drop}
+use Rattle.layout.proofs.ComponentLaws.{components_bytes-append}
 use Rattle.layout.specs.Components.{components_bytes, components_in}
 use Rattle.layout.specs.Memory.{components_held, chars_held, scalars, strings}
-use Rattle.layout.specs.MemoryLaws.{expr-encoded}
+use Rattle.layout.proofs.MemoryLaws.{expr-encoded}
 use Rattle.layout.specs.Places as layout
 use Rattle.gaps.specs.Gaps.{pushed_front, pushed_back}
 use Rattle.gaps.specs.Pool.{abs, string, Holds}

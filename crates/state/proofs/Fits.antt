@@ -16,8 +16,8 @@ use Rattle.language.specs.Values.{Component, Record, File, Store, State, chars, 
 use Rattle.language.specs.Values.Component.{word, address}
 use Rattle.machine.specs.Arguments.{place, use_by, at, expr, file_of, records}
 use Rattle.machine.specs.Changes.{with_exprs, with_files, with_plus, with_outputs, put, put_expr, minus_unless, placed, into, printed, stamped, stored, held, recorded, fits}
-use Rattle.machine.specs.ChangeLaws.{placed_total}
-use Rattle.machine.specs.SumLaws.{held-put_expr, recorded-put_expr, outputs-put}
+use Rattle.machine.proofs.ChangeLaws.{placed_total}
+use Rattle.machine.proofs.SumLaws.{held-put_expr, recorded-put_expr, outputs-put}
 use Rattle.layout.specs.Bounds.{Each, Ok, RecordOk, FileOk, Fine}
 use Rattle.layout.specs.Memory.{components_held, chars_held, records_held}
 use Rattle.state.specs.Working.{turned, filed, char_count}

@@ -15,7 +15,7 @@ use Rattle.lists.specs.Lists.{total}
 use Rattle.lists.specs.ListLaws.{failing, total-append, total-split, total-put}
 use Rattle.machine.specs.Arguments.{place, use_by, expr, file_of, records}
 use Rattle.machine.specs.Changes.{with_exprs, with_files, with_places, put, put_expr, put_file, past_file, past_by, past, held, recorded}
-use Rattle.machine.specs.SumLaws.{held-put_expr, recorded-put_expr, held-put_file, recorded-put_file}
+use Rattle.machine.proofs.SumLaws.{held-put_expr, recorded-put_expr, held-put_file, recorded-put_file}
 use Rattle.layout.specs.Memory.{components_held, chars_held}
 use Rattle.state.specs.Limited.{short_word, Limited}
 use Rattle.state.specs.Blocks.{FirstParts}

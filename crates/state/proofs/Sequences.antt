@@ -11,7 +11,7 @@ use Rattle.lists.specs.Lists.{total}
 use Rattle.lists.specs.ListLaws.{total-reverse, total-set}
 use Rattle.language.specs.Values.{Component}
 use Rattle.layout.specs.Bounds.{Each}
-use Rattle.layout.specs.CellLaws.{each_at}
+use Rattle.layout.proofs.CellLaws.{each_at}
 use Rattle.layout.specs.Components.{component_bytes, components_bytes}
 use Rattle.gaps.proofs.Parts.{same_or}
 use Rattle.state.specs.Working.{turned}

@@ -11,10 +11,10 @@ use Rattle.language.specs.Letters.Letter.{E}
 use Rattle.language.specs.Values.{Store, State}
 use Rattle.machine.specs.Arguments.{expr}
 use Rattle.layout.specs.Memory.{scalars, strings}
-use Rattle.layout.specs.MemoryLaws.{length-strings, state_by-back, string-output, expr-encoded}
-use Rattle.layout.specs.ComponentLaws.{components-of, whole-components}
-use Rattle.layout.specs.CellLaws.{each_at}
-use Rattle.layout.specs.FineLaws.{fine-room}
+use Rattle.layout.proofs.MemoryLaws.{length-strings, state_by-back, string-output, expr-encoded}
+use Rattle.layout.proofs.ComponentLaws.{components-of, whole-components}
+use Rattle.layout.proofs.CellLaws.{each_at}
+use Rattle.layout.proofs.FineLaws.{fine-room}
 use Rattle.layout.specs.Bounds.{Each, Encoded, Fine}
 use Rattle.layout.specs.Strings.{used}
 use Rattle.layout.specs.Places as layout

@@ -11,10 +11,10 @@ use Rattle.language.specs.Limits as limit
 use Rattle.language.specs.Values.{Component, File, State}
 use Rattle.machine.specs.Changes.{with_exprs, with_files, with_outputs}
 use Rattle.layout.specs.Cells.{two}
-use Rattle.layout.specs.CellLaws.{twice, twice-one}
+use Rattle.layout.proofs.CellLaws.{twice, twice-one}
 use Rattle.layout.specs.Components.{components_bytes, records_bytes}
 use Rattle.layout.specs.Memory.{file_strings, strings}
-use Rattle.layout.specs.MemoryLaws.{length-file_strings}
+use Rattle.layout.proofs.MemoryLaws.{length-file_strings}
 use Rattle.layout.specs.Places as layout
 use Rattle.layout.specs.Places.{before_string, after_string, output_string, stack_string}
 use Rattle.state.specs.Working.{on_store}

@@ -11,11 +11,11 @@ use lib.Seq.{drop_at, drop-drop, get_or-drop, get_or-take, take-take, take_all, 
 use Rattle.gaps.proofs.Parts.{drop-take}
 use Rattle.language.specs.Limits as limit
 use Rattle.lists.specs.Lists.{each}
-use Rattle.layout.specs.CellLaws.{length-each, length-tab, get_d-tab}
+use Rattle.layout.proofs.CellLaws.{length-each, length-tab, get_d-tab}
 use Rattle.layout.specs.Cells.{two_at}
 use Rattle.layout.specs.Places as layout
 use Rattle.layout.specs.Strings.{used}
-use Rattle.layout.specs.StringLaws.{joined_next, joined-within}
+use Rattle.layout.proofs.StringLaws.{joined_next, joined-within}
 use Rattle.state_frames.specs.Frames.{Frame, expression, file, output, stack, frames_in}
 use Rattle.state_frames.specs.Saved.{contents_at, contents_of, before_half, after_half, halves, strings_by}
 use Rattle.state_contents.specs.Contents.{Gathered, Standing, half_of, strings_of, Fitting}

@@ -13,13 +13,13 @@ use Rattle.lists.specs.Lists.{all}
 use Rattle.text_lines.specs.LineLaws.{lines-first}
 use Rattle.text_lines.specs.Lines.{lines, line_length}
 use Rattle.layout.specs.Bounds.{Below}
-use Rattle.layout.specs.CellLaws.{each_left}
+use Rattle.layout.proofs.CellLaws.{each_left}
 use Rattle.cells.specs.Cells.{pasted}
 use Rattle.cells.proofs.Laws.{pasted-none}
 use Rattle.state_frames.specs.Hexadecimal.{digit, is_digit, hexadecimal, line, is_line, bytes_in}
-use Rattle.state_frames.specs.HexadecimalLaws.{digit-back, digit-is, bytes_below}
+use Rattle.state_frames.proofs.HexadecimalLaws.{digit-back, digit-is, bytes_below}
 use Rattle.state_frames.specs.Frames.{Frame, check, front_bytes, frame_bytes, frame_line, frame_in, right_length, right_sum, sound_line, sound_text, frames_in}
-use Rattle.state_frames.specs.FrameLaws.{frame-of-bytes, line-of-frame}
+use Rattle.state_frames.proofs.FrameLaws.{frame-of-bytes, line-of-frame}
 use Rattle.state_frames.specs.Saved.{is_at, contents_at}
 use Rattle.hexadecimal.specs.Digits.{byte_of, digits_at, Got}
 use Rattle.hexadecimal.proofs.Laws.{byte-yes, two-digit, and-false, length-hexadecimal, hexadecimal-append}

@@ -11,19 +11,19 @@ use Rattle.language.specs.Limits as limit
 use Rattle.language.specs.Values.{State}
 use Rattle.lists.specs.Lists.{each, joined}
 use Rattle.layout.specs.Cells.{two, three}
-use Rattle.layout.specs.FineLaws.{good-fine, fine-room}
+use Rattle.layout.proofs.FineLaws.{good-fine, fine-room}
 use Rattle.layout.specs.Memory.{strings}
-use Rattle.layout.specs.MemoryLaws.{length-strings}
+use Rattle.layout.proofs.MemoryLaws.{length-strings}
 use Rattle.layout.specs.Places as layout
 use Rattle.layout.specs.Strings.{lengths, used, string_cells}
-use Rattle.layout.specs.StringLaws.{joined-append, joined-within, length-lengths}
+use Rattle.layout.proofs.StringLaws.{joined-append, joined-within, length-lengths}
 use Rattle.cells.specs.Cells.{pasted}
 use Rattle.cells.proofs.Laws.{pasted-none, pasted-pasted, length-pasted, drop_past}
 use Rattle.writing.proofs.Parts.{pasted-left, pasted-right}
 use Rattle.state_frames.specs.Frames.{head, frames_in}
 use Rattle.state_frames.specs.Saved.{head_numbers, contents_at, frames_of, strings_by}
-use Rattle.state_frames.specs.SavedLaws.{head_at, strings-back}
-use Rattle.state_frames.specs.KeepingLaws.{saved-frames}
+use Rattle.state_frames.proofs.SavedLaws.{head_at, strings-back}
+use Rattle.state_frames.proofs.KeepingLaws.{saved-frames}
 use Rattle.state_frames.specs.MemoryFrames.{untotalled, SavedAs}
 use Rattle.state_contents.specs.Contents.{Gathered, strings_of, Fitting, PutOne, StringsLaid, HeadLaid, Laid}
 use Rattle.state_contents.proofs.Finding.{length-strings_of}

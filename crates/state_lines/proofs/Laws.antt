@@ -10,7 +10,7 @@ use lib.Seq.{get_or-take}
 use borrow.Author.Tests.{eq-eqb, ne_eqb}
 use Rattle.lists.specs.ListLaws.{T-both, all-at, total-append}
 use Rattle.lists.specs.Lists.{all, total}
-use Rattle.layout.specs.CellLaws.{twice}
+use Rattle.layout.proofs.CellLaws.{twice}
 use Rattle.layout.specs.Cells.{cell}
 use Rattle.state_frames.specs.Hexadecimal.{digit_value, is_digit, is_line, bytes_in}
 use Rattle.state_frames.specs.Frames.{sum, right_length, right_sum, sound_line}

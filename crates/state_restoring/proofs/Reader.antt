@@ -18,19 +18,19 @@ use Rattle.check_strings.proofs.ComponentWalks.{same_test}
 use Rattle.language.specs.Limits as limit
 use Rattle.language.specs.Program.{Program}
 use Rattle.language.specs.Values.{State, Inputs}
-use Rattle.layout.specs.FineLaws.{good-fine}
+use Rattle.layout.proofs.FineLaws.{good-fine}
 use Rattle.layout.specs.Memory.{state_cells, state_of, good_memory, written}
-use Rattle.layout.specs.MemoryLaws.{memory-facts}
+use Rattle.layout.proofs.MemoryLaws.{memory-facts}
 use Rattle.layout.specs.Table.{program_of, good_table}
-use Rattle.layout.specs.TableLaws.{table-facts}
+use Rattle.layout.proofs.TableLaws.{table-facts}
 use Rattle.lists.specs.ListLaws.{same_bytes-eq, same_bytes-refl}
 use Rattle.lists.specs.Lists.{bytes_equal}
 use Rattle.machine.specs.WellFormed.{good_program, good_inputs, good_state}
 use Rattle.state_contents.specs.Contents.{Laid}
 use Rattle.state_frames.specs.Frames.{sound_text, frames_in}
 use Rattle.state_frames.specs.Keeping.{Reading, read_refused, read_accepted, read_of, Restores}
-use Rattle.state_frames.specs.KeepingLaws.{ReadYes, read-good, read-text, saved-framed, saved-back}
-use Rattle.state_frames.specs.LengthLaws.{saved-most}
+use Rattle.state_frames.proofs.KeepingLaws.{ReadYes, read-good, read-text, saved-framed, saved-back}
+use Rattle.state_frames.proofs.LengthLaws.{saved-most}
 use Rattle.state_frames.specs.MemoryFrames.{SavedAs, Saveable}
 use Rattle.state_frames.specs.Saved.{saved, restored, well_framed}
 use Rattle.state_saving.specs.Saving.{longest, Put}

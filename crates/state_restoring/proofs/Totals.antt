@@ -21,9 +21,9 @@ use Rattle.language.specs.Program.{Program}
 use Rattle.language.specs.Values.{State, Inputs, chars}
 use Rattle.layout.specs.Bounds.{Fine}
 use Rattle.layout.specs.Cells.{three, three_at}
-use Rattle.layout.specs.FineLaws.{good-fine}
+use Rattle.layout.proofs.FineLaws.{good-fine}
 use Rattle.layout.specs.Memory.{components_held, chars_held, records_held, state_cells, state_of, good_memory, written}
-use Rattle.layout.specs.MemoryLaws.{length-state_cells, state-back, written_back, written-good}
+use Rattle.layout.proofs.MemoryLaws.{length-state_cells, state-back, written_back, written-good}
 use Rattle.layout.specs.Places as layout
 use Rattle.lists.specs.ListLaws.{T-left}
 use Rattle.lists.specs.Lists.{all}

@@ -12,10 +12,10 @@ use Rattle.check_memory.specs.Passes.{all_strings}
 use Rattle.check_memory.specs.Reads.{Named, StringLent}
 use Rattle.language.specs.Limits as limit
 use Rattle.layout.specs.Places as layout
-use Rattle.layout.specs.StringLaws.{length-strings_in, joined_next, joined-within}
+use Rattle.layout.proofs.StringLaws.{length-strings_in, joined_next, joined-within}
 use Rattle.layout.specs.Strings.{used}
 use Rattle.state_frames.specs.Frames.{framed, file, frame_line, frames_text}
-use Rattle.state_frames.specs.LengthLaws.{length-frame}
+use Rattle.state_frames.proofs.LengthLaws.{length-frame}
 use Rattle.state_frames.specs.MemoryFrames.{files_by}
 use Rattle.state_frames.specs.Saved.{file_contents}
 use Rattle.state_lines.specs.Writing.{FrameRoom, FileRoom}

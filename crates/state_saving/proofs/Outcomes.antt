@@ -17,7 +17,7 @@ use Rattle.check_state.specs.Asked.{Asked}
 use Rattle.language.specs.Values.{Inputs}
 use Rattle.layout.specs.Memory.{state_of, good_memory}
 use Rattle.layout.specs.Table.{program_of, good_table}
-use Rattle.layout.specs.TableLaws.{table-facts}
+use Rattle.layout.proofs.TableLaws.{table-facts}
 use Rattle.lists.specs.Lists.{if_any}
 use Rattle.machine.specs.Steps.{refusals}
 use Rattle.machine.specs.WellFormed.{good_inputs}

@@ -12,18 +12,18 @@ use Rattle.check_memory.specs.Reads.{Measurable, Started, StringLent}
 use Rattle.language.specs.Limits as limit
 use Rattle.language.specs.Values.{State}
 use Rattle.layout.specs.Bounds.{Fine, AtRest}
-use Rattle.layout.specs.CellLaws.{length-each}
+use Rattle.layout.proofs.CellLaws.{length-each}
 use Rattle.layout.specs.Cells.{three}
-use Rattle.layout.specs.FineLaws.{fine-room}
+use Rattle.layout.proofs.FineLaws.{fine-room}
 use Rattle.layout.specs.Memory.{scalars, strings, state_cells, state_of}
-use Rattle.layout.specs.MemoryLaws.{length-strings, memory-facts, memory-fine, memory-strings}
+use Rattle.layout.proofs.MemoryLaws.{length-strings, memory-facts, memory-fine, memory-strings}
 use Rattle.layout.specs.Places as layout
-use Rattle.layout.specs.StringLaws.{length-strings_in, lengths_in-lengths}
+use Rattle.layout.proofs.StringLaws.{length-strings_in, lengths_in-lengths}
 use Rattle.layout.specs.Strings.{lengths, used, string_cells, lengths_in}
 use Rattle.lists.specs.Lists.{each, joined, keep}
 use Rattle.state_frames.specs.Frames.{Frame, framed, head, expression, output, stack, frames_text}
-use Rattle.state_frames.specs.LengthLaws.{saved-most}
-use Rattle.state_frames.specs.MemoryFrameLaws.{slots-of-memory}
+use Rattle.state_frames.proofs.LengthLaws.{saved-most}
+use Rattle.state_frames.proofs.MemoryFrameLaws.{slots-of-memory}
 use Rattle.state_frames.specs.MemoryFrames.{slots_by, slots_in, Saveable}
 use Rattle.state_frames.specs.Saved.{numbered, nonempty, frames_of, saved}
 use Rattle.state_saving.specs.Saving.{longest, Put, text_of, Appended, FrameFits, string_frames, file_frames, StringsFit, FilesFit, memory_frames, FramesFit}

@@ -4,7 +4,7 @@ use Rattle.std.proofs.Common.{sym, ap, ◌∙◌, arith}
 use Rattle.statements.specs.StatementAt.{fault_of}
 use Rattle.statements.specs.declared.Fault.{Fault}
 use Rattle.statements.specs.declared.Fault.TheVariants.{Clear, At}
-use Rattle.syntax.specs.LoadLaws.{lowest-append}
+use Rattle.syntax.proofs.LoadLaws.{lowest-append}
 use Rattle.syntax.specs.Verdict.{Question, ask, Verdict, lowest, decide, first_no}
 use Rattle.syntax.specs.Verdict.Verdict.{yes, refuse}
 use Rattle.statements.specs.Faults.{lower, decided, then}

@@ -8,10 +8,10 @@ use lib.Dec.{T, ltb, ltb→lt}
 use borrow.Author.Tests.{ltb-true, ltb-false}
 use Rattle.language.specs.Letters as letters
 use Rattle.layout.specs.Cells.{cell, uncode}
-use Rattle.layout.specs.CellLaws.{each_at}
-use Rattle.layout.specs.ProgramLaws.{program-ok}
+use Rattle.layout.proofs.CellLaws.{each_at}
+use Rattle.layout.proofs.ProgramLaws.{program-ok}
 use Rattle.layout.specs.Table.{number_by, program_of, table_cells, good_table}
-use Rattle.layout.specs.TableLaws.{table-facts, table_cells-below}
+use Rattle.layout.proofs.TableLaws.{table-facts, table_cells-below}
 use Rattle.layout.specs.Places as layout
 use Rattle.packed.specs.Packed.{table_of}
 use Rattle.table.proofs.Decode.{small-number, large_number, indexed, labelled, switched, classed, texted, numbered, absent}

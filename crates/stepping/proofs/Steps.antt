@@ -12,10 +12,10 @@ use Rattle.lists.specs.TableLaws.{beq-eq, below, below-unless}
 use Rattle.language.specs.Instructions.{operator_of}
 use Rattle.machine.specs.Effects.Go.{on}
 use Rattle.machine.specs.Facts.{ProgramFacts}
-use Rattle.machine.specs.WellFormedLaws.{open-state}
-use Rattle.layout.specs.ProgramLaws.{program-ok}
+use Rattle.machine.proofs.WellFormedLaws.{open-state}
+use Rattle.layout.proofs.ProgramLaws.{program-ok}
 use Rattle.layout.specs.Table.{program_of}
-use Rattle.layout.specs.TableLaws.{table-facts}
+use Rattle.layout.proofs.TableLaws.{table-facts}
 use Rattle.layout.specs.Places as layout
 use Rattle.control.specs.Going.{going, Following}
 use Rattle.packed.specs.Packed.{table_of}

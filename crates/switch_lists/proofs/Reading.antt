@@ -9,7 +9,7 @@ use lib.Dec.{eqb, leb, ltb}
 use lib.ListN.{length, get_or, take, drop, set, length-append, length-map, drop_of_length-le, get_or-append}
 use lib.Seq.{take-suc-set, get_or-set_same, get_or-set_other, get_or-append_seam, drop-append-le}
 use borrow.Author.Tests.{eq-eqb, eqb-true, eqb-false, lt-ltb, le-ltb, leb-true, leb-false}
-use Rattle.acceptance.specs.RowLaws.{drop-none}
+use Rattle.acceptance.proofs.RowLaws.{drop-none}
 use Rattle.arguments.specs.LeftLaws.{Passing, passing-first, passing-on, passed-worst, passed-end}
 use Rattle.arguments.specs.Valued.{Ordered}
 use Rattle.arguments.specs.ValueLaws.{names-text}

@@ -17,7 +17,7 @@ use Rattle.machine.specs.Arguments.{expr, first, needs}
 use Rattle.machine.specs.Changes.{past, used, used_by}
 use Rattle.cells.specs.Cells.{Number}
 use Rattle.layout.specs.Cells.{cell, code}
-use Rattle.layout.specs.ComponentLaws.{components-none, next-component}
+use Rattle.layout.proofs.ComponentLaws.{components-none, next-component}
 use Rattle.layout.specs.Components.{component_size, component_in, components_bytes, components_in}
 use Rattle.layout.specs.Table.{label_in, entry_in, program_of}
 use Rattle.packed.specs.Packed.{table_of}

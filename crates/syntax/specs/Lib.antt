@@ -13,9 +13,4 @@ pub mod Load
 pub mod Sample
 pub mod Examples
 pub mod Scan
-pub mod ItemLaws
-pub mod LetterLaws
 pub mod SmallLetters
-pub mod LoadLaws
-pub mod ReservedLaws
-pub mod LineLaws

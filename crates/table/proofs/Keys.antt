@@ -12,7 +12,7 @@ use borrow.Author.Tests.{eq-eqb, ne_eqb, lt-ltb, le-ltb}
 use Rattle.lists.specs.Lists.{ahead, filled, bytes_equal}
 use Rattle.lists.specs.ListLaws.{other_length}
 use Rattle.language.specs.Program.{Label, Entry, no_entry, label_at, meets}
-use Rattle.layout.specs.CellLaws.{length-tab, get_d-tab}
+use Rattle.layout.proofs.CellLaws.{length-tab, get_d-tab}
 use Rattle.layout.specs.Cells.{cell}
 use Rattle.layout.specs.Table.{chars_in, text_in, text_by, label_in, entry_in, program_of}
 use Rattle.layout.specs.Places as layout

@@ -11,7 +11,7 @@ use Rattle.language.specs.Instructions.{Forms, operation}
 use Rattle.language.specs.Letters.{letter_code}
 use Rattle.language.specs.Program.{Instr, Op, Program, switch_at}
 use Rattle.machine.specs.WellFormed.{form, listed}
-use Rattle.layout.specs.ArgumentLaws.{T-or}
+use Rattle.layout.proofs.ArgumentLaws.{T-or}
 use Rattle.table.specs.Denote.{letter_of, arg_of, kind, kind_of_form}
 use Rattle.table.specs.Good.{Formed}
 use Rattle.table.specs.LetterLaws.{every-letter}

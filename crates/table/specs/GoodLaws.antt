@@ -12,13 +12,13 @@ use Rattle.language.specs.Program.Arg.{label, switch, class, text}
 use Rattle.language.specs.Values.{in_range}
 use Rattle.machine.specs.Facts.{InstrFacts, LabelFacts}
 use Rattle.machine.specs.WellFormed.{good_word, good_text, kept_text, kept_number, ranged, good_entry, good_switch}
-use Rattle.layout.specs.ArgumentLaws.{T-or, operator-back, operator-range, index-most, text_ref-below}
+use Rattle.layout.proofs.ArgumentLaws.{T-or, operator-back, operator-range, index-most, text_ref-below}
 use Rattle.layout.specs.Bounds.{ProgramOk, EntryOk, Tabled}
-use Rattle.layout.specs.CellLaws.{each_in, each_within, each-most, get_d-each, length-tab, get_d-tab}
+use Rattle.layout.proofs.CellLaws.{each_in, each_within, each-most, get_d-each, length-tab, get_d-tab}
 use Rattle.layout.specs.Cells.{cell, uncode}
-use Rattle.layout.specs.ProgramLaws.{program-ok}
+use Rattle.layout.proofs.ProgramLaws.{program-ok}
 use Rattle.layout.specs.Table.{text_ref, arg_cell, instr_cells, switch_cell, entry_cell, all_entries, table_cells, text_by, class_by, arg_in, label_in, entry_in, switch_in, program_of, good_table}
-use Rattle.layout.specs.TableLaws.{table-facts, instr_at-cell, arg-at-cell, entry-at-cell, switch_at-cell, switch-parts}
+use Rattle.layout.proofs.TableLaws.{table-facts, instr_at-cell, arg-at-cell, entry-at-cell, switch_at-cell, switch-parts}
 use Rattle.layout.specs.Places as layout
 use Rattle.packed.specs.Packed.{table_of}
 use Rattle.table.specs.Denote.{letter_of, arg_of}

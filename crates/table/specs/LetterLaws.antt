@@ -6,7 +6,7 @@ use Rattle.lists.specs.TableLaws.{up_to, below}
 use Rattle.characters.specs.Characters.{is_capital}
 use Rattle.language.specs.Letters as letters
 use Rattle.language.specs.Letters.{letter_code}
-use Rattle.layout.specs.ArgumentLaws.{letter-most}
+use Rattle.layout.proofs.ArgumentLaws.{letter-most}
 use Rattle.layout.specs.Bounds.{Each}
 use Rattle.layout.specs.Table.{letter_place}
 use Rattle.table.specs.Denote.{letter_of}

@@ -16,9 +16,9 @@ use Rattle.language.specs.Values.{Component, Store, Inputs, value, kind, same}
 use Rattle.language.specs.Values.Component.{word, address}
 use Rattle.machine.specs.Arguments.{expr, test_asks, number_of, up_to, on_parts}
 use Rattle.layout.specs.Bounds.{Ok, Encoded, WholeComponents}
-use Rattle.layout.specs.CellLaws.{uncode-code}
+use Rattle.layout.proofs.CellLaws.{uncode-code}
 use Rattle.layout.specs.Cells.{cell, code, uncode}
-use Rattle.layout.specs.ComponentLaws.{components_bytes-one, components-of, whole-components, components-none, next-component}
+use Rattle.layout.proofs.ComponentLaws.{components_bytes-one, components-of, whole-components, components-none, next-component}
 use Rattle.layout.specs.Components.{component_bytes, component_size, component_in, components_in}
 use Rattle.layout.specs.Table.{class_by}
 use Rattle.cells.specs.Cells.{pasted, Number}

@@ -22,7 +22,7 @@ use Rattle.machine.specs.Effects.{Row, moved, row}
 use Rattle.machine.specs.Effects.Go.{on}
 use Rattle.layout.specs.Bounds.{Ok, Encoded}
 use Rattle.layout.specs.Cells.{two_at}
-use Rattle.layout.specs.ComponentLaws.{next-record, records-none, record-length, records_bytes-one, components-of, whole-components}
+use Rattle.layout.proofs.ComponentLaws.{next-record, records-none, record-length, records_bytes-one, components-of, whole-components}
 use Rattle.layout.specs.Components.{components_bytes, components_in, record_in, records_in}
 use Rattle.layout.specs.Memory.{components_held, chars_held}
 use Rattle.matching.specs.Tests.{Took}

@@ -20,7 +20,7 @@ use Rattle.machine.specs.Changes.{with_exprs, with_plus, put_expr, minus, minus_
 use Rattle.machine.specs.Effects.{Row, moved, row}
 use Rattle.machine.specs.Effects.Go.{on}
 use Rattle.layout.specs.Bounds.{Each, Ok, RecordOk, EncodedRecords}
-use Rattle.layout.specs.ComponentLaws.{next-component, components-none, components_most, record-length}
+use Rattle.layout.proofs.ComponentLaws.{next-component, components-none, components_most, record-length}
 use Rattle.layout.specs.Components.{components_bytes, record_bytes, components_in}
 use Rattle.layout.specs.Memory.{records_held}
 use Rattle.matching.specs.Tests.{Took}

@@ -14,7 +14,7 @@ use Rattle.machine.specs.Arguments.{Asks}
 use Rattle.machine.specs.Changes.{with_files, with_plus, minus_unless, stamped, stored, fits}
 use Rattle.machine.specs.Effects.Go.{on}
 use Rattle.layout.specs.Bounds.{EncodedRecords}
-use Rattle.layout.specs.ComponentLaws.{whole-records}
+use Rattle.layout.proofs.ComponentLaws.{whole-records}
 use Rattle.layout.specs.Memory.{components_held, chars_held, records_held}
 use Rattle.state.specs.Working.{state_at, HoldsState, Stands, on_store, nth, filing, turned, char_count}
 use Rattle.state.proofs.Fits.{fits-stored, fits-minus_unless}

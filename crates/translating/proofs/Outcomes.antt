@@ -12,19 +12,19 @@ use Rattle.appending.specs.AppendingLaws.{written-beyond, written-within}
 use Rattle.calls.specs.Calls.{load_number}
 use Rattle.calls.specs.Filling.{filled_in, Gives}
 use Rattle.calls.specs.Filling.Filling.{kept}
-use Rattle.calls.specs.LoadLaws.{text-listed, listed-accepted}
+use Rattle.calls.proofs.LoadLaws.{text-listed, listed-accepted}
 use Rattle.cells.specs.Cells.{pasted}
-use Rattle.editions.specs.AnswerLaws.{loads-by, unloaded-67, macros-67, narrow-67, long-67, fitting-80}
+use Rattle.editions.proofs.AnswerLaws.{loads-by, unloaded-67, macros-67, narrow-67, long-67, fitting-80}
 use Rattle.editions.specs.Convert.{respelled, loads, convert_of}
 use Rattle.language.specs.Limits as limit
 use Rattle.loading.specs.Texts.{Leaves}
 use Rattle.loading.specs.declared.Loaded.{Loaded}
 use Rattle.macros.specs.Load.{load_in, load_of}
-use Rattle.macros.specs.LoadLaws.{plain-loads, accepted-plain}
+use Rattle.macros.proofs.LoadLaws.{plain-loads, accepted-plain}
 use Rattle.macros.specs.Marks.{has_macros}
 use Rattle.syntax.specs.Ending.{last_place}
 use Rattle.syntax.specs.Items.{lines_of}
-use Rattle.syntax.specs.LineLaws.{text-lined}
+use Rattle.syntax.proofs.LineLaws.{text-lined}
 use Rattle.syntax.specs.Load.{load_typed}
 use Rattle.translating.specs.Translating.{taken}
 

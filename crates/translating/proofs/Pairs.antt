@@ -10,7 +10,7 @@ use Rattle.lists.specs.ListLaws.{same_bytes-eq}
 use Rattle.lists.specs.TableLaws.{below}
 use Rattle.syntax.specs.Statements.{editions, words_of}
 use Rattle.editions.specs.Convert.{respell}
-use Rattle.editions.specs.PairLaws.{none_beside}
+use Rattle.editions.proofs.PairLaws.{none_beside}
 use Rattle.words.specs.Keywords.{word_at, place_in, other_word}
 use Rattle.words.proofs.KeywordLaws.{Case, case, no_place, other_none}
 

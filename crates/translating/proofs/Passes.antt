@@ -16,7 +16,7 @@ use Rattle.appending.specs.Appending.{Written, Appends}
 use Rattle.appending.specs.AppendingLaws.{written_none, written-more}
 use Rattle.editions.specs.Convert.{respell, respelled}
 use Rattle.editions.specs.Passing.{remaining, is_awaited, awaited_after, between}
-use Rattle.editions.specs.PassingLaws.{between-joined, between-last, remaining-all, remaining-last, item-stays, operator-turned}
+use Rattle.editions.proofs.PassingLaws.{between-joined, between-last, remaining-all, remaining-last, item-stays, operator-turned}
 use Rattle.lexer.proofs.Finding.{number-of-sort}
 use Rattle.lexer.specs.Tokens.{part, sort_at, chars_of, item_of, items_from, NextToken}
 use Rattle.lexer.specs.declared.Token.{Token}

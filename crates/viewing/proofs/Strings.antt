@@ -6,11 +6,11 @@ use native.Mathlib.Omega.{arith}
 use lib.ListN.{length, take, drop, get_or}
 use lib.Seq.{get_or-drop, drop-drop}
 use Rattle.language.specs.Limits as limit
-use Rattle.layout.specs.CellLaws.{each_at}
+use Rattle.layout.proofs.CellLaws.{each_at}
 use Rattle.layout.specs.Cells.{two_at, three_at}
 use Rattle.layout.specs.Memory.{strings, state_cells, threes_in, state_of}
-use Rattle.layout.specs.MemoryLaws.{string-output, strings_in-cells}
-use Rattle.layout.specs.StringLaws.{length-strings_in}
+use Rattle.layout.proofs.MemoryLaws.{string-output, strings_in-cells}
+use Rattle.layout.proofs.StringLaws.{length-strings_in}
 use Rattle.layout.specs.Strings.{strings_in}
 use Rattle.layout.specs.Places as layout
 use Rattle.cells.specs.Cells.{Number}

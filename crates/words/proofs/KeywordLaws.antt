@@ -16,7 +16,7 @@ use Rattle.syntax.specs.Statements.{editions, words_of, own, reserved, same_keyw
 use Rattle.words.specs.Keywords.{keyword_by, told, known, word_at, place_in, other_word, meanings, keyword_at, shared, slot, in_a_row, beginnings, guesses, guess, of_row, InRow}
 use Rattle.words.specs.declared.Keyword.{Keyword}
 use borrow.Author.Tests.{lt-ltb, le-ltb}
-use Rattle.layout.specs.CellLaws.{found}
+use Rattle.layout.proofs.CellLaws.{found}
 use Rattle.lists.specs.ListLaws.{T-left, T-right, same_bytes-eq, same_bytes-refl}
 
 pub many : (e : Bool) → length (words_of e) ≡ 46

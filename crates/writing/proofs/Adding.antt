@@ -13,7 +13,7 @@ use Rattle.language.specs.Limits as limit
 use Rattle.language.specs.Program.{Arg, Instr, Label, Entry, Program}
 use Rattle.language.specs.Program.Arg.{nothing, letter, label, switch, class, text}
 use Rattle.language.specs.Values.{same_number}
-use Rattle.layout.specs.CellLaws.{each_append}
+use Rattle.layout.proofs.CellLaws.{each_append}
 use Rattle.layout.specs.Cells.{cell, code, padded}
 use Rattle.layout.specs.Table.{text_ref, arg_cell, instr_cells, label_cells, entry_cell, all_entries, counts, table_cells}
 use Rattle.layout.specs.Places as layout

@@ -14,7 +14,7 @@ use Rattle.language.specs.Program.{Arg, Instr, Label, Entry, Switch, Program}
 use Rattle.language.specs.Program.Arg.{nothing, letter, label, switch, class, text}
 use Rattle.language.specs.Values.{same_number}
 use Rattle.layout.specs.Bounds.{Each}
-use Rattle.layout.specs.CellLaws.{each_append, length-each, length-padded, length-fours}
+use Rattle.layout.proofs.CellLaws.{each_append, length-each, length-padded, length-fours}
 use Rattle.layout.specs.Cells.{cell, code, padded}
 use Rattle.layout.specs.Table.{text_ref, number_ref, arg_cell, instr_cells, label_cells, text_cells, switch_cells, entry_cell, all_entries, counts, table_cells}
 use Rattle.layout.specs.Places as layout

@@ -8,7 +8,7 @@ use lib.Seq.{take-append-le, drop-append-le, take-append-add, drop-append-add, t
 use Rattle.blocks.proofs.Laws.{set-one}
 use Rattle.cells.proofs.Laws.{length-pasted}
 use Rattle.cells.specs.Cells.{pasted}
-use Rattle.layout.specs.CellLaws.{length-padded}
+use Rattle.layout.proofs.CellLaws.{length-padded}
 use Rattle.layout.specs.Cells.{padded}
 use Rattle.layout.specs.Places as layout
 

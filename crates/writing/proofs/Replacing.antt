@@ -11,7 +11,7 @@ use lib.Seq.{set-append_left, get_or-append-add}
 use borrow.Author.Tests.{ltb-true, ltb-false}
 use Rattle.language.specs.Program.{Arg, Instr, Entry, Switch, Program, no_instr, no_entry}
 use Rattle.layout.specs.Bounds.{Each}
-use Rattle.layout.specs.CellLaws.{each_in, padded-at, get_d-map-at}
+use Rattle.layout.proofs.CellLaws.{each_in, padded-at, get_d-map-at}
 use Rattle.layout.specs.Cells.{cell, padded}
 use Rattle.layout.specs.Table.{text_ref, arg_cell, instr_cells, switch_cell, switch_cells, entry_cell, all_entries, counts, table_cells}
 use Rattle.layout.specs.Places as layout

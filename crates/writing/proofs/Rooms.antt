@@ -7,9 +7,9 @@ use lib.ListN.{length, take, drop, replicate, length-append, length-replicate, r
 use lib.Seq.{take_at, drop_at}
 use Rattle.cells.specs.Cells.{cleared}
 use Rattle.language.specs.Program.{Switch, Program}
-use Rattle.layout.specs.ArgumentLaws.{bit-most}
+use Rattle.layout.proofs.ArgumentLaws.{bit-most}
 use Rattle.layout.specs.Bounds.{Below}
-use Rattle.layout.specs.CellLaws.{each_at}
+use Rattle.layout.proofs.CellLaws.{each_at}
 use Rattle.layout.specs.Cells.{cell, padded}
 use Rattle.layout.specs.Table.{switch_cells, all_entries, table_cells}
 use Rattle.layout.specs.Places as layout

@@ -8,7 +8,7 @@ use lib.ListN.{length, set, replicate, length-append, length-map, length-set}
 use Rattle.cells.specs.Cells.{pasted}
 use Rattle.language.specs.Program.{Entry, Switch, Program}
 use Rattle.layout.specs.Bounds.{Each}
-use Rattle.layout.specs.CellLaws.{each_append, padded-at}
+use Rattle.layout.proofs.CellLaws.{each_append, padded-at}
 use Rattle.layout.specs.Cells.{cell, padded}
 use Rattle.layout.specs.Table.{switch_cell, switch_cells, entry_cell, all_entries, counts, table_cells}
 use Rattle.layout.specs.Places as layout

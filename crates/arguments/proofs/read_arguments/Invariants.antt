@@ -1,4 +1,5 @@
 -- `arguments::read_arguments` meets its contract.
+use Rattle.statements.specs.StatementLaws.{on}
 use borrow.Author.Rules.{rules}
 use Prim.Native.Nat.{ℕ, ◌-◌}
 use lib.ListN.{length}

@@ -1,4 +1,5 @@
 -- `arguments::read_left` meets its contract.
+use Rattle.statements.specs.StatementLaws.{on}
 use borrow.Author.Rules.{rules}
 use mathlib.Core.Path.{sym, ap, ◌∙◌}
 use Prim.Native.Nat.{◌-◌, ◌+◌}

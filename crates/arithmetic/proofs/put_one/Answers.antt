@@ -19,7 +19,7 @@ slice_bounds-replace-end-2 c =
     let argsᶜ = c.args in
     let put-numberᶜ = c.put_number in
     let preᶜ = c.requires in
-    front_long 5 argsᶜ.hold.now put-numberᶜ.new.0 put-numberᶜ.auto.0 preᶜ.numbered.room (omega arith)
+    front_long 5 argsᶜ.hold.now put-numberᶜ.new.out (omega arith) preᶜ.numbered.room (omega arith)
 
 pub replace-requires : goal.replace-requires
 replace-requires c =

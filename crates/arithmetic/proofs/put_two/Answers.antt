@@ -14,7 +14,7 @@ slice_bounds-replace-end-2 c =
     let argsᶜ = c.args in
     let put-number2ᶜ = c.put_number-2 in
     let preᶜ = c.requires in
-    front_long 10 argsᶜ.hold.now put-number2ᶜ.new.0 (search rules) preᶜ.numbered.room (omega arith)
+    front_long 10 argsᶜ.hold.now put-number2ᶜ.new.out (search rules) preᶜ.numbered.room (omega arith)
 
 pub replace-requires : goal.replace-requires
 replace-requires c =

@@ -6,7 +6,7 @@ use Prim.Native.Nat.{◌-◌, ◌≤◌}
 use lib.ListN.{length}
 use lib.Seq.{paste, paste-zero}
 use Rattle.layout.specs.Cells.{fours}
-use Rattle.layout.specs.CellLaws.{length-fours}
+use Rattle.layout.proofs.CellLaws.{length-fours}
 use Rattle.cells.proofs.Laws.{put-end}
 use Rattle.blocks.proofs.Laws.{chars-turn}
 use Rattle.blocks.proofs.put_chars.Goals as goal
@@ -22,7 +22,7 @@ pub loop-q-preserved : goal.loop-q-preserved
 loop-q-preserved c =
     let loop = c.loop-q in
     let four-at = c.four_at in
-    (omega arith, omega (arith, c.write.auto), chars-turn loop.table c.args.table.now c.args.at c.args.word.now loop.q four-at.result c.write.new.0 loop.invariant.2 (c.requires) c.loop-q-test.true four-at.ensures.is c.write.ensures)
+    (omega arith, omega arith, chars-turn loop.table c.args.table.now c.args.at c.args.word.now loop.q four-at.result c.write.new.cells loop.invariant.2 (c.requires) c.loop-q-test.true four-at.ensures.is c.write.ensures)
 
 pub returns : goal.returns
 returns c =

@@ -6,7 +6,7 @@ use Prim.Native.Nat.{◌-◌, ◌≤◌}
 use lib.ListN.{length}
 use lib.Seq.{paste, paste-zero}
 use Rattle.layout.specs.Cells.{fours}
-use Rattle.layout.specs.CellLaws.{length-fours}
+use Rattle.layout.proofs.CellLaws.{length-fours}
 use Rattle.cells.proofs.Laws.{put-end}
 use Rattle.blocks.proofs.Laws.{chars-turn}
 use Rattle.blocks.proofs.put_chars.Given as goal

@@ -1,14 +1,14 @@
 -- `characters::precedes` meets its contract. The invariant: the words are ordered as their rests from index i on.
 use mathlib.Core.Path.{◌≡◌, refl, ◌∙◌}
-use mathlib.Core.Logic.{⊎_elim}
 use Prim.Native.Nat.{◌-◌, ◌≤◌}
 use native.Mathlib.Omega.{arith}
 use lib.ListN.{length, drop}
 use borrow.Author.Rules.{rules}
-use borrow.Author.Tests.{ltb-true, ltb-false}
+use borrow.Author.Tests.{ltb-true}
 use Rattle.characters.specs.Characters.{precedes}
 use Rattle.characters.proofs.Steps.{order-next, order-here, second-ends, first_ends}
 use Rattle.characters.proofs.precedes.Goals as goal
+use Rattle.characters.proofs.precedes.Goals.{then-loop-i-test+else-i-w, else-loop-i-test}
 
 pub loop-i-init : goal.loop-i-init
 loop-i-init c = (search rules, search rules, refl)
@@ -31,6 +31,7 @@ pub returns : goal.returns
 returns c =
     let h = c.loop-i in
     let a = c.args in
-    ⊎_elim (λ d. second-ends a.v.now a.w.now h.i h.invariant.0 (ltb-false _ _ d.1.left) h.invariant.1)
-    (λ d. first_ends a.v.now a.w.now h.i d.left h.invariant.0 h.invariant.1) c.loop-i-test.branch
-    ∙ h.invariant.2
+    elim c.loop-i-test.branch [
+      then-loop-i-test+else-i-w w ↦ second-ends a.v.now a.w.now h.i h.invariant.0 (omega arith) h.invariant.1 ∙ h.invariant.2
+    | else-loop-i-test w ↦ first_ends a.v.now a.w.now h.i (omega arith) h.invariant.0 h.invariant.1 ∙ h.invariant.2
+    ]

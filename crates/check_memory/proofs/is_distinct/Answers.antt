@@ -27,7 +27,7 @@ loop-i-preserved c =
     let loop-test = c.loop-i-test in
     let string-at = c.string_at in
     let collect = c.collect-n in
-    gathering-next pre loop.invariant loop-test.true string-at.ensures collect.ensures collect.auto.1.0
+    gathering-next pre loop.invariant loop-test.true string-at.ensures collect.ensures (omega arith)
 
 pub slice_bounds-are_different-end : goal.slice_bounds-are_different-end
 slice_bounds-are_different-end c = within c.requires c.loop-i.invariant

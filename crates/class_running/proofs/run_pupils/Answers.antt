@@ -34,7 +34,7 @@ pub write_result-requires : goal.write_result-requires
 write_result-requires c = three-cells c.requires c.loop-k.invariant c.loop-k-test.true
 
 pub loop-k-preserved : goal.loop-k-preserved
-loop-k-preserved c = sit-next c.requires c.loop-k.invariant c.loop-k-test.true c.read.ensures c.run_pupil-t.ensures c.write_result.ensures c.run_pupil-t.auto.1.1.1.0 c.write_result.auto.0 c.run_pupil-t.auto.1.1.1.1.0
+loop-k-preserved c = sit-next c.requires c.loop-k.invariant c.loop-k-test.true c.read.ensures c.run_pupil-t.ensures c.write_result.ensures (omega arith) (omega arith) (omega arith)
 
 pub returns : goal.returns
 returns c = sit-end c.requires c.loop-k.invariant c.loop-k-test.false

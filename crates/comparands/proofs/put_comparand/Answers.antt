@@ -7,41 +7,35 @@ use Rattle.comparands.proofs.put_comparand.Goals as goal
 pub put_letter-requires : goal.put_letter-requires
 put_letter-requires c =
     let preᶜ = c.requires in
-    let argᶜ = c.arg-1 in
-    letter-holdable preᶜ argᶜ.given.1
+    letter-holdable preᶜ c.in-Indexed.is
 
 pub put_text-requires : goal.put_text-requires
 put_text-requires c =
     let preᶜ = c.requires in
-    let arg2ᶜ = c.arg-in-Text-1 in
-    text-holdable preᶜ arg2ᶜ.given.1
+    text-holdable preᶜ c.in-Text.is
 
 pub put_code-requires : goal.put_code-requires
 put_code-requires c =
     let preᶜ = c.requires in
-    let arg3ᶜ = c.arg-in-Number-1 in
-    code-holdable preᶜ arg3ᶜ.given.1
+    code-holdable preᶜ c.in-Number.is
 
 pub returns-in-Indexed : goal.returns-in-Indexed
 returns-in-Indexed c =
     let argsᶜ = c.args in
-    let argᶜ = c.arg-1 in
     let put-letterᶜ = c.put_letter in
-    as_read argsᶜ.table.now (state_at argsᶜ.pool.now argsᶜ.ends.now argsᶜ.nums.now).store argᶜ.given.1 put-letterᶜ.ensures
+    as_read argsᶜ.table.now (state_at argsᶜ.pool.now argsᶜ.ends.now argsᶜ.nums.now).store c.in-Indexed.is put-letterᶜ.ensures
 
 pub returns-in-Text : goal.returns-in-Text
 returns-in-Text c =
     let argsᶜ = c.args in
-    let arg2ᶜ = c.arg-in-Text-1 in
     let put-textᶜ = c.put_text in
-    as_read argsᶜ.table.now (state_at argsᶜ.pool.now argsᶜ.ends.now argsᶜ.nums.now).store arg2ᶜ.given.1 (text-argument argsᶜ.table.now (state_at argsᶜ.pool.now argsᶜ.ends.now argsᶜ.nums.now).store arg2ᶜ.given.0.0 put-textᶜ.ensures)
+    as_read argsᶜ.table.now (state_at argsᶜ.pool.now argsᶜ.ends.now argsᶜ.nums.now).store c.in-Text.is (text-argument argsᶜ.table.now (state_at argsᶜ.pool.now argsᶜ.ends.now argsᶜ.nums.now).store c.in-Text.v put-textᶜ.ensures)
 
 pub returns-in-Number : goal.returns-in-Number
 returns-in-Number c =
     let argsᶜ = c.args in
-    let arg3ᶜ = c.arg-in-Number-1 in
     let put-codeᶜ = c.put_code in
-    as_read argsᶜ.table.now (state_at argsᶜ.pool.now argsᶜ.ends.now argsᶜ.nums.now).store arg3ᶜ.given.1 (code-argument argsᶜ.table.now (state_at argsᶜ.pool.now argsᶜ.ends.now argsᶜ.nums.now).store arg3ᶜ.given.0.0 put-codeᶜ.ensures)
+    as_read argsᶜ.table.now (state_at argsᶜ.pool.now argsᶜ.ends.now argsᶜ.nums.now).store c.in-Number.is (code-argument argsᶜ.table.now (state_at argsᶜ.pool.now argsᶜ.ends.now argsᶜ.nums.now).store c.in-Number.v put-codeᶜ.ensures)
 
 pub returns-in-Class : goal.returns-in-Class
 returns-in-Class c =

@@ -1,5 +1,6 @@
 -- `comparands::put_letter` meets its contract.
 -- the letters left by N, T and E
+use borrow.Enum.Refused.{opened}
 use borrow.Author.Rules.{rules}
 use native.Mathlib.Omega.{arith}
 use mathlib.Core.Path.{◌≡◌, refl}
@@ -52,26 +53,23 @@ put_first-requires c =
 pub returns-in-N : goal.returns-in-N
 returns-in-N c =
     let argsᶜ = c.args in
-    let enum-toldᶜ = c.enum_told-1 in
     let preᶜ = c.requires in
     let put-countᶜ = c.put_count in
-    letter-offered (state_at argsᶜ.pool.now argsᶜ.ends.now argsᶜ.nums.now).store enum-toldᶜ.given.1 preᶜ.index (λ ins. put-countᶜ.ensures)
+    letter-offered (state_at argsᶜ.pool.now argsᶜ.ends.now argsᶜ.nums.now).store c.in-N.is preᶜ.index (λ ins. put-countᶜ.ensures)
 
 pub returns-in-T : goal.returns-in-T
 returns-in-T c =
     let argsᶜ = c.args in
-    let enum-told2ᶜ = c.enum_told-in-T-1 in
     let preᶜ = c.requires in
     let put-allᶜ = c.put_all in
-    letter-offered (state_at argsᶜ.pool.now argsᶜ.ends.now argsᶜ.nums.now).store enum-told2ᶜ.given.1 preᶜ.index (λ ins. put-allᶜ.ensures)
+    letter-offered (state_at argsᶜ.pool.now argsᶜ.ends.now argsᶜ.nums.now).store c.in-T.is preᶜ.index (λ ins. put-allᶜ.ensures)
 
 pub returns-in-E : goal.returns-in-E
 returns-in-E c =
     let argsᶜ = c.args in
-    let enum-told3ᶜ = c.enum_told-in-E-1 in
     let preᶜ = c.requires in
     let put-all2ᶜ = c.put_all-in-E in
-    letter-offered (state_at argsᶜ.pool.now argsᶜ.ends.now argsᶜ.nums.now).store enum-told3ᶜ.given.1 preᶜ.index (λ ins. put-all2ᶜ.ensures)
+    letter-offered (state_at argsᶜ.pool.now argsᶜ.ends.now argsᶜ.nums.now).store c.in-E.is preᶜ.index (λ ins. put-all2ᶜ.ensures)
 
 pub returns-in_default : goal.returns-in_default
 returns-in_default c =
@@ -79,4 +77,4 @@ returns-in_default c =
     let preᶜ = c.requires in
     let matchᶜ = c.in_default.in_default-own in
     let put-firstᶜ = c.put_first in
-    letter-offered (state_at argsᶜ.pool.now argsᶜ.ends.now argsᶜ.nums.now).store (first-left argsᶜ.l preᶜ.form matchᶜ.keys4) preᶜ.index (λ ins. put-firstᶜ.ensures)
+    letter-offered (state_at argsᶜ.pool.now argsᶜ.ends.now argsᶜ.nums.now).store (first-left argsᶜ.l preᶜ.form (opened matchᶜ.keys4)) preᶜ.index (λ ins. put-firstᶜ.ensures)

@@ -5,7 +5,7 @@ use native.Mathlib.Omega.{arith}
 use lib.ListN.{length}
 use borrow.Author.Rules.{rules}
 use Rattle.language.specs.Values.{chars}
-use Rattle.layout.specs.ComponentLaws.{one_of}
+use Rattle.layout.proofs.ComponentLaws.{one_of}
 use Rattle.components.proofs.Fronts.{leading-one}
 use Rattle.components.proofs.Walks.{step}
 use Rattle.components.proofs.Makings.{Gathering, gathering-none, gathering-room, gathering-next, gathering-all}

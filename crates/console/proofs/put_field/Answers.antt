@@ -6,7 +6,7 @@ use borrow.Author.Rules.{rules}
 use Rattle.console.proofs.put_field.Goals as goal
 
 pub slice_bounds-put-end : goal.slice_bounds-put-end
-slice_bounds-put-end c = simp length-take (omega (arith, c.put_decimal-count.ensures.fits, c.put_decimal-count.auto.0))
+slice_bounds-put-end c = simp length-take (omega (arith, c.put_decimal-count.ensures.fits))
 
 pub put-requires : goal.put-requires
 put-requires c = simp length-take (omega (arith, put-long c.put-next.ensures, c.put-next.ensures.count, c.put_decimal-count.ensures.fits, c.requires.room))

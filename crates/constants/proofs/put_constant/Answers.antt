@@ -1,4 +1,5 @@
 -- `constants::put_constant` meets its contract.
+use borrow.Enum.Refused.{opened}
 use borrow.Author.Rules.{rules}
 use native.Mathlib.Omega.{arith}
 use Rattle.packed.specs.Packed.{table_of}
@@ -8,33 +9,29 @@ use Rattle.constants.proofs.put_constant.Goals as goal
 pub put_text-requires : goal.put_text-requires
 put_text-requires c =
     let preᶜ = c.requires in
-    let argᶜ = c.arg-1 in
-    record { long = preᶜ.long; good = preᶜ.good.text argᶜ.given.0.0 argᶜ.given.1; room = preᶜ.room }
+    record { long = preᶜ.long; good = preᶜ.good.text c.in-Text.v c.in-Text.is; room = preᶜ.room }
 
 pub put_number-requires : goal.put_number-requires
 put_number-requires c =
     let preᶜ = c.requires in
-    let arg2ᶜ = c.arg-in-Number-1 in
-    record { room = omega (arith, preᶜ.room); most = omega (arith, preᶜ.good.number arg2ᶜ.given.0.0 arg2ᶜ.given.1) }
+    record { room = omega (arith, preᶜ.room); most = omega (arith, preᶜ.good.number c.in-Number.v c.in-Number.is) }
 
 pub returns-in-Text : goal.returns-in-Text
 returns-in-Text c =
     let argsᶜ = c.args in
-    let argᶜ = c.arg-1 in
     let put-textᶜ = c.put_text in
-    as-put (table_of argsᶜ.table.now) argᶜ.given.1 put-textᶜ.ensures
+    as-put (table_of argsᶜ.table.now) c.in-Text.is put-textᶜ.ensures
 
 pub returns-in-Number : goal.returns-in-Number
 returns-in-Number c =
     let argsᶜ = c.args in
-    let arg2ᶜ = c.arg-in-Number-1 in
     let preᶜ = c.requires in
     let put-numberᶜ = c.put_number in
-    as-put (table_of argsᶜ.table.now) arg2ᶜ.given.1 (number_put arg2ᶜ.given.0.0 (preᶜ.good.number arg2ᶜ.given.0.0 arg2ᶜ.given.1) argsᶜ.out.now put-numberᶜ.ensures)
+    as-put (table_of argsᶜ.table.now) c.in-Number.is (number_put c.in-Number.v (preᶜ.good.number c.in-Number.v c.in-Number.is) argsᶜ.out.now put-numberᶜ.ensures)
 
 pub returns-in_default : goal.returns-in_default
 returns-in_default c =
     let argsᶜ = c.args in
     let preᶜ = c.requires in
     let matchᶜ = c.in_default.in_default-own in
-    absurd (no-constant argsᶜ.arg preᶜ.form matchᶜ.keys3)
+    absurd (no-constant argsᶜ.arg preᶜ.form (opened matchᶜ.keys3))

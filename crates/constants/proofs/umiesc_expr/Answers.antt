@@ -30,13 +30,13 @@ pub slice_bounds-write_parts-end : goal.slice_bounds-write_parts-end
 slice_bounds-write_parts-end c =
     let put-constantᶜ = c.put_constant-c in
     let preᶜ = c.requires in
-    omega (arith, put-constantᶜ.ensures.bytes_most, put-constantᶜ.auto, preᶜ.room)
+    omega (arith, put-constantᶜ.ensures.bytes_most, preᶜ.room)
 
 pub slice_bounds-write_parts-end-2 : goal.slice_bounds-write_parts-end-2
 slice_bounds-write_parts-end-2 c =
     let put-constantᶜ = c.put_constant-c in
     let preᶜ = c.requires in
-    simp length-take (omega (arith, put-constantᶜ.ensures.bytes_most, put-constantᶜ.auto, preᶜ.room))
+    simp length-take (omega (arith, put-constantᶜ.ensures.bytes_most, preᶜ.room))
 
 pub write_parts-requires : goal.write_parts-requires
 write_parts-requires c =

@@ -39,13 +39,13 @@ pub slice_bounds-put_record-end : goal.slice_bounds-put_record-end
 slice_bounds-put_record-end c =
     let put-constantᶜ = c.put_constant-c in
     let preᶜ = c.requires in
-    omega (arith, put-constantᶜ.ensures.bytes_most, put-constantᶜ.auto, preᶜ.values)
+    omega (arith, put-constantᶜ.ensures.bytes_most, preᶜ.values)
 
 pub slice_bounds-put_record-end-2 : goal.slice_bounds-put_record-end-2
 slice_bounds-put_record-end-2 c =
     let put-constantᶜ = c.put_constant-c in
     let preᶜ = c.requires in
-    simp length-take (omega (arith, put-constantᶜ.ensures.bytes_most, put-constantᶜ.auto, preᶜ.values))
+    simp length-take (omega (arith, put-constantᶜ.ensures.bytes_most, preᶜ.values))
 
 pub put_record-requires : goal.put_record-requires
 put_record-requires c =
@@ -56,7 +56,7 @@ put_record-requires c =
     let if1ᶜ = c.if-stop-ne0 in
     let numberᶜ = c.number-last in
     file-recordable preᶜ.placeable.stands put-constantᶜ.ensures argsᶜ.turned preᶜ.placeable.index room-forᶜ.ensures if1ᶜ.false numberᶜ.ensures.is preᶜ.placeable.room
-    (simp length-take (omega (arith, put-constantᶜ.ensures.bytes_most, put-constantᶜ.auto, preᶜ.values)))
+    (simp length-take (omega (arith, put-constantᶜ.ensures.bytes_most, preᶜ.values)))
 
 pub overflow_add-bytes : goal.overflow_add-bytes
 overflow_add-bytes c =
@@ -68,14 +68,14 @@ slice_bounds-write_records-end c =
     let put-constantᶜ = c.put_constant-c in
     let put-recordᶜ = c.put_record in
     let preᶜ = c.requires in
-    omega (arith, put-constantᶜ.ensures.bytes_most, put-recordᶜ.auto, preᶜ.placeable.room)
+    omega (arith, put-constantᶜ.ensures.bytes_most, preᶜ.placeable.room)
 
 pub slice_bounds-write_records-end-2 : goal.slice_bounds-write_records-end-2
 slice_bounds-write_records-end-2 c =
     let put-constantᶜ = c.put_constant-c in
     let put-recordᶜ = c.put_record in
     let preᶜ = c.requires in
-    simp length-take (omega (arith, put-constantᶜ.ensures.bytes_most, put-recordᶜ.auto, preᶜ.placeable.room))
+    simp length-take (omega (arith, put-constantᶜ.ensures.bytes_most, preᶜ.placeable.room))
 
 pub write_records-requires : goal.write_records-requires
 write_records-requires c =
@@ -87,7 +87,7 @@ write_records-requires c =
     let numberᶜ = c.number-last in
     let put-recordᶜ = c.put_record in
     file-writable preᶜ.placeable.stands put-constantᶜ.ensures argsᶜ.turned preᶜ.placeable.index room-forᶜ.ensures if1ᶜ.false numberᶜ.ensures.is
-    (simp length-take (omega (arith, put-constantᶜ.ensures.bytes_most, put-constantᶜ.auto, preᶜ.values))) argsᶜ.hold.now put-recordᶜ.ensures preᶜ.placeable.spare
+    (simp length-take (omega (arith, put-constantᶜ.ensures.bytes_most, preᶜ.values))) argsᶜ.hold.now put-recordᶜ.ensures preᶜ.placeable.spare
 
 pub returns : goal.returns
 returns c =
@@ -100,4 +100,4 @@ returns c =
     let put-recordᶜ = c.put_record in
     let write-recordsᶜ = c.write_records in
     file-done preᶜ.placeable.stands put-constantᶜ.ensures argsᶜ.turned preᶜ.placeable.index room-forᶜ.ensures if1ᶜ.false numberᶜ.ensures.is
-    (simp length-take (omega (arith, put-constantᶜ.ensures.bytes_most, put-constantᶜ.auto, preᶜ.values))) argsᶜ.hold.now put-recordᶜ.ensures write-recordsᶜ.ensures
+    (simp length-take (omega (arith, put-constantᶜ.ensures.bytes_most, preᶜ.values))) argsᶜ.hold.now put-recordᶜ.ensures write-recordsᶜ.ensures

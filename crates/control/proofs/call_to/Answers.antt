@@ -24,7 +24,7 @@ pub push_front-requires : goal.push_front-requires
 push_front-requires c =
     let pre = c.requires in
     let put_two = c.put_two in
-    return-pushable pre (omega (arith, put_two.auto))
+    return-pushable pre (omega arith)
 
 pub write-requires : goal.write-requires
 write-requires c =

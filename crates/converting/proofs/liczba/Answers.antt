@@ -30,14 +30,14 @@ pub slice_bounds-replace-end : goal.slice_bounds-replace-end
 slice_bounds-replace-end c =
     let put-numberᶜ = c.put_number in
     let preᶜ = c.requires in
-    omega (arith, put-numberᶜ.auto.0, preᶜ.room)
+    omega (arith, preᶜ.room)
 
 pub slice_bounds-replace-end-2 : goal.slice_bounds-replace-end-2
 slice_bounds-replace-end-2 c =
     let argsᶜ = c.args in
     let put-numberᶜ = c.put_number in
     let preᶜ = c.requires in
-    front_long 5 argsᶜ.hold.now put-numberᶜ.new.0 put-numberᶜ.auto.0 preᶜ.room (omega arith)
+    front_long 5 argsᶜ.hold.now put-numberᶜ.new.out (omega arith) preᶜ.room (omega arith)
 
 pub replace-requires : goal.replace-requires
 replace-requires c =

@@ -30,14 +30,14 @@ pub slice_bounds-replace-end : goal.slice_bounds-replace-end
 slice_bounds-replace-end c =
     let put-numeralᶜ = c.put_numeral-n in
     let preᶜ = c.requires in
-    omega (arith, put-numeralᶜ.auto.0, put-numeralᶜ.ensures.most, preᶜ.room)
+    omega (arith, put-numeralᶜ.ensures.most, preᶜ.room)
 
 pub slice_bounds-replace-end-2 : goal.slice_bounds-replace-end-2
 slice_bounds-replace-end-2 c =
     let argsᶜ = c.args in
     let put-numeralᶜ = c.put_numeral-n in
     let preᶜ = c.requires in
-    front_long _ argsᶜ.hold.now put-numeralᶜ.new.0 put-numeralᶜ.auto.0 preᶜ.room (omega (arith, put-numeralᶜ.ensures.most))
+    front_long _ argsᶜ.hold.now put-numeralᶜ.new.hold (omega arith) preᶜ.room (omega (arith, put-numeralᶜ.ensures.most))
 
 pub replace-requires : goal.replace-requires
 replace-requires c =

@@ -4,7 +4,7 @@ use native.Mathlib.Omega.{arith}
 use lib.ListN.{length-take}
 use mathlib.Core.Path.{sym}
 use lib.Seq.{length-take-le}
-use Rattle.layout.specs.ComponentLaws.{whole-records}
+use Rattle.layout.proofs.ComponentLaws.{whole-records}
 use Rattle.transfers.proofs.Rooms.{left_most}
 use Rattle.copying.proofs.Taking.{front, part-long, bytes-few, droppable, records-few, parts-few, chars-few, copy-stop, copyable, copy-writable, copy_done}
 use Rattle.copying.proofs.copy_taken.Goals as goal
@@ -112,7 +112,7 @@ slice_bounds-file_copies-end c =
     let after-bytesᶜ = c.after_bytes-f in
     let countᶜ = c.count-t in
     let restampᶜ = c.restamp in
-    omega (arith, bytes-few preᶜ.droppable.stands preᶜ.droppable.source after-bytesᶜ.ensures countᶜ.ensures, restampᶜ.auto, preᶜ.room)
+    omega (arith, bytes-few preᶜ.droppable.stands preᶜ.droppable.source after-bytesᶜ.ensures countᶜ.ensures, preᶜ.room)
 
 pub slice_bounds-file_copies-end-2 : goal.slice_bounds-file_copies-end-2
 slice_bounds-file_copies-end-2 c =
@@ -120,7 +120,7 @@ slice_bounds-file_copies-end-2 c =
     let after-bytesᶜ = c.after_bytes-f in
     let countᶜ = c.count-t in
     let restampᶜ = c.restamp in
-    simp length-take (omega (arith, bytes-few preᶜ.droppable.stands preᶜ.droppable.source after-bytesᶜ.ensures countᶜ.ensures, restampᶜ.auto, preᶜ.room))
+    simp length-take (omega (arith, bytes-few preᶜ.droppable.stands preᶜ.droppable.source after-bytesᶜ.ensures countᶜ.ensures, preᶜ.room))
 
 pub file_copies-requires : goal.file_copies-requires
 file_copies-requires c =
@@ -137,7 +137,7 @@ file_copies-requires c =
     let numberᶜ = c.number-last in
     let restampᶜ = c.restamp in
     let past-recordsᶜ = c.past_records in
-    copy-writable preᶜ.droppable.stands preᶜ.droppable.source after-bytesᶜ.ensures countᶜ.ensures totals-ofᶜ.ensures argsᶜ.removes argsᶜ.reverses preᶜ.target leftᶜ.ensures left2ᶜ.ensures left3ᶜ.ensures room-forᶜ.ensures if1ᶜ.false numberᶜ.ensures.is argsᶜ.hold.now restampᶜ.ensures past-recordsᶜ.ensures (omega (arith, preᶜ.spare, past-recordsᶜ.auto.1.1.1.0))
+    copy-writable preᶜ.droppable.stands preᶜ.droppable.source after-bytesᶜ.ensures countᶜ.ensures totals-ofᶜ.ensures argsᶜ.removes argsᶜ.reverses preᶜ.target leftᶜ.ensures left2ᶜ.ensures left3ᶜ.ensures room-forᶜ.ensures if1ᶜ.false numberᶜ.ensures.is argsᶜ.hold.now restampᶜ.ensures past-recordsᶜ.ensures (omega (arith, preᶜ.spare))
 
 pub returns : goal.returns
 returns c =

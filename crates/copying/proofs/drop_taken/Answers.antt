@@ -1,7 +1,7 @@
 -- `copying::drop_taken` meets its contract.
 use borrow.Author.Rules.{rules}
 use mathlib.Core.Bool.{true}
-use Rattle.layout.specs.ComponentLaws.{whole-records}
+use Rattle.layout.proofs.ComponentLaws.{whole-records}
 use Rattle.machine.specs.Changes.{minus_unless, past}
 use Rattle.state.specs.Working.{state_at, nth, filing}
 use Rattle.state.proofs.Standing.{stands}

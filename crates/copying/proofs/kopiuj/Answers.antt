@@ -24,7 +24,7 @@ copy_taken-requires c =
     let preᶜ = c.requires in
     let prepareᶜ = c.prepare-q in
     let if1ᶜ = c.if-stop-ne0 in
-    record { droppable = record { stands = preᶜ.skippable.removable.test.stands; fitting = prepareᶜ.ensures.fitting if1ᶜ.false; source = preᶜ.skippable.removable.source }; inside = prepareᶜ.ensures.inside; spare = preᶜ.skippable.spare; room = preᶜ.skippable.room; values = omega (arith, preᶜ.skippable.removable.test.room, prepareᶜ.auto); target = preᶜ.target }
+    record { droppable = record { stands = preᶜ.skippable.removable.test.stands; fitting = prepareᶜ.ensures.fitting if1ᶜ.false; source = preᶜ.skippable.removable.source }; inside = prepareᶜ.ensures.inside; spare = preᶜ.skippable.spare; room = preᶜ.skippable.room; values = omega (arith, preᶜ.skippable.removable.test.room); target = preᶜ.target }
 
 pub returns : goal.returns
 returns c =

@@ -18,7 +18,7 @@ pub loop-k-smaller : goal.loop-k-smaller
 loop-k-smaller c = omega (arith, c.loop-k-test.true)
 
 pub loop-k-preserved : goal.loop-k-preserved
-loop-k-preserved c = putting-more (c.requires) c.loop-k.invariant c.loop-k-test.true c.read.ensures.is c.put_name.ensures c.put_name.auto.1.1.1.0
+loop-k-preserved c = putting-more (c.requires) c.loop-k.invariant c.loop-k-test.true c.read.ensures.is c.put_name.ensures (omega arith)
 
 pub returns : goal.returns
 returns c = putting-done (c.requires) c.loop-k.invariant c.loop-k-test.false

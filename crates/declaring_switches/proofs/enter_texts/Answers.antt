@@ -53,7 +53,7 @@ loop-k-smaller c = omega (arith, c.loop-k-test.true)
 
 pub loop-k-preserved : goal.loop-k-preserved
 loop-k-preserved c = (
-  c.enter_cell.auto.1.1.0 ∙ c.loop-k.invariant.0,
+  (omega arith) ∙ c.loop-k.invariant.0,
   λ d g e. entering-more g (c.loop-k.invariant.1 d g e) e c.loop-k-test.true c.read-m.ensures.is c.enter_cell.ensures (not-false c.enter_cell.result c.if-not-enter_cell.false-raw),
 
 pub returns : goal.returns

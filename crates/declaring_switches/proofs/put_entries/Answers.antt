@@ -52,7 +52,7 @@ loop-k-smaller c = omega (arith, c.loop-k-test.true)
 
 pub loop-k-preserved : goal.loop-k-preserved
 loop-k-preserved c = (
-  c.put_entry.auto.0 ∙ c.loop-k.invariant.0,
+  (omega arith) ∙ c.loop-k.invariant.0,
   λ d g e. filling-more g (c.loop-k.invariant.1 d g e) (omega (arith, e, c.loop-k-test.true)) c.read.ensures.is c.cell_ref-v.ensures c.put_entry.ensures,
 
 pub returns : goal.returns

@@ -1,4 +1,5 @@
 -- `decoding::indexed` meets its contract.
+use borrow.Enum.Refused.{opened}
 use borrow.Author.Rules.{rules}
 use native.Mathlib.Omega.{arith}
 use Rattle.decoding.specs.OperandLaws.{good_of}
@@ -7,19 +8,17 @@ use Rattle.decoding.proofs.indexed.Goals as goal
 
 pub overflow_sub-result : goal.overflow_sub-result
 overflow_sub-result c =
-    let aᶜ = c.a-1 in
     let preᶜ = c.requires in
-    omega (arith, (good_of aᶜ.given.0.0 aᶜ.given.0.1.0 preᶜ aᶜ.given.1).from)
+    omega (arith, (good_of c.in-Indexed.l c.in-Indexed.n preᶜ c.in-Indexed.is).from)
 
 pub returns-in-Indexed : goal.returns-in-Indexed
 returns-in-Indexed c =
-    let aᶜ = c.a-1 in
     let preᶜ = c.requires in
-    opened aᶜ.given.0.0 aᶜ.given.0.1.0 preᶜ aᶜ.given.1
+    opened c.in-Indexed.l c.in-Indexed.n preᶜ c.in-Indexed.is
 
 pub returns-in_default : goal.returns-in_default
 returns-in_default c =
     let argsᶜ = c.args in
     let preᶜ = c.requires in
     let matchᶜ = c.in_default.in_default-own in
-    absurd (is-lettered argsᶜ.a preᶜ matchᶜ.keys2)
+    absurd (is-lettered argsᶜ.a preᶜ (opened matchᶜ.keys2))

@@ -1,4 +1,5 @@
 -- `decoding::removes` meets its contract.
+use borrow.Enum.Refused.{opened}
 use borrow.Author.Rules.{rules}
 use Rattle.decoding.proofs.Letters.{not-removing}
 use Rattle.decoding.proofs.removes.Goals as goal
@@ -7,4 +8,4 @@ pub returns-in_default : goal.returns-in_default
 returns-in_default c =
     let argsᶜ = c.args in
     let matchᶜ = c.in_default.in_default-own in
-    not-removing argsᶜ.l matchᶜ.keys4
+    not-removing argsᶜ.l (opened matchᶜ.keys4)

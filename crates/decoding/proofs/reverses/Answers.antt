@@ -1,4 +1,5 @@
 -- `decoding::reverses` meets its contract.
+use borrow.Enum.Refused.{opened}
 use borrow.Author.Rules.{rules}
 use Rattle.decoding.proofs.Letters.{not-turning}
 use Rattle.decoding.proofs.reverses.Goals as goal
@@ -7,4 +8,4 @@ pub returns-in_default : goal.returns-in_default
 returns-in_default c =
     let argsᶜ = c.args in
     let matchᶜ = c.in_default.in_default-own in
-    not-turning argsᶜ.l matchᶜ.keys4
+    not-turning argsᶜ.l (opened matchᶜ.keys4)

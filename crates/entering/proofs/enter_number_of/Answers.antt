@@ -1,4 +1,5 @@
 -- `entering::enter_number_of` meets its contract.
+use borrow.Enum.Refused.{opened}
 use borrow.Author.Rules.{rules}
 use borrow.Author.Tests.{not-true, not-false}
 use Rattle.entering.proofs.Adding.{no_number, number-none, number_small, number-entered}
@@ -14,4 +15,4 @@ pub returns-else-not-is_large : goal.returns-else-not-is_large
 returns-else-not-is_large c = λ s i h. number-entered h c.in-Number.is c.is_large.ensures (not-false c.is_large.result c.if-not-is_large.false-raw) c.add_number.ensures
 
 pub returns-in_default : goal.returns-in_default
-returns-in_default c = λ s i h. number-none h (no_number c.args.x c.in_default.in_default-own.keys2)
+returns-in_default c = λ s i h. number-none h (no_number c.args.x (opened c.in_default.in_default-own.keys2))

@@ -1,4 +1,5 @@
 -- `entering::enter_text_of` meets its contract.
+use borrow.Enum.Refused.{opened}
 use borrow.Author.Rules.{rules}
 use lib.ListN.{length-take}
 use mathlib.Core.Path.{refl}
@@ -25,4 +26,4 @@ pub returns-else-n-lt2 : goal.returns-else-n-lt2
 returns-else-n-lt2 c = λ i h. value-entered h c.in-Text.is c.put_text-n.ensures c.if-n-lt2.false c.add_text.ensures
 
 pub returns-in_default : goal.returns-in_default
-returns-in_default c = λ i h. value-past h (no_text c.args.x c.in_default.in_default-own.keys2)
+returns-in_default c = λ i h. value-past h (no_text c.args.x (opened c.in_default.in_default-own.keys2))

@@ -1,5 +1,6 @@
 -- `equality::is_one` meets its contract.
 -- the letters left by E and T
+use borrow.Enum.Refused.{opened}
 use borrow.Author.Rules.{rules}
 use mathlib.Core.Path.{◌≡◌, refl}
 use mathlib.Core.Bool.{true}
@@ -31,4 +32,4 @@ pub returns-in-T : goal.returns-in-T
 returns-in-T c = rw c.in-T.is refl
 
 pub returns-in_default : goal.returns-in_default
-returns-in_default c = one_left c.args.l c.requires c.in_default.in_default-own.keys3
+returns-in_default c = one_left c.args.l c.requires (opened c.in_default.in_default-own.keys3)

@@ -10,8 +10,7 @@ is_one-requires c =
 
 pub returns-in-Indexed : goal.returns-in-Indexed
 returns-in-Indexed c =
-    let argᶜ = c.arg-1 in
-    λ t. rw argᶜ.given.1 c.is_one.ensures
+    λ t. rw c.in-Indexed.is c.is_one.ensures
 
 pub returns-in-Text : goal.returns-in-Text
 returns-in-Text c = λ t. rw c.in-Text.is refl

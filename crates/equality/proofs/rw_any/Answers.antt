@@ -1,7 +1,7 @@
 -- `equality::rw_any` meets its contract.
 use borrow.Author.Rules.{rules}
 use mathlib.Core.List.{[]}
-use Rattle.layout.specs.ComponentLaws.{whole-components}
+use Rattle.layout.proofs.ComponentLaws.{whole-components}
 use Rattle.equality.proofs.Meeting.{fitting-by}
 use Rattle.equality.proofs.Rows.{held-long}
 use Rattle.equality.proofs.Anys.{any-stop, any-done}

@@ -3,7 +3,7 @@ use borrow.Author.Rules.{rules}
 use mathlib.Core.List.{[]}
 use Rattle.packed.specs.Packed.{table_of}
 use Rattle.state.specs.Working.{state_at}
-use Rattle.layout.specs.ComponentLaws.{whole-components}
+use Rattle.layout.proofs.ComponentLaws.{whole-components}
 use Rattle.tests.proofs.Values.{leading}
 use Rattle.equality.proofs.Meeting.{filled-there}
 use Rattle.equality.proofs.Questions.{leading-other}

@@ -1,6 +1,6 @@
 -- `equality::settle` meets its contract.
 use borrow.Author.Rules.{rules}
-use Rattle.layout.specs.ComponentLaws.{whole-components}
+use Rattle.layout.proofs.ComponentLaws.{whole-components}
 use Rattle.tests.proofs.Values.{leading}
 use Rattle.equality.proofs.Meeting.{some-there, first-long, first-whole, first-parts, settled-done, fitting-by}
 use Rattle.equality.proofs.settle.Goals as goal

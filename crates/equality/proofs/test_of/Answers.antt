@@ -1,5 +1,6 @@
 -- `equality::test_of` meets its contract.
 -- the arguments left by a class
+use borrow.Enum.Refused.{opened}
 use borrow.Author.Rules.{rules}
 use mathlib.Core.Path.{◌≡◌, refl}
 use mathlib.Core.List.{List, [], ◌∷◌}
@@ -30,4 +31,4 @@ pub returns-in-Class : goal.returns-in-Class
 returns-in-Class c = rw c.in-Class.is refl
 
 pub returns-in_default : goal.returns-in_default
-returns-in_default c = among-left c.args.arg c.in_default.in_default-own.keys2
+returns-in_default c = among-left c.args.arg (opened c.in_default.in_default-own.keys2)

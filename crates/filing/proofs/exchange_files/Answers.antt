@@ -63,7 +63,7 @@ pub exchange-requires-2 : goal.exchange-requires-2
 exchange-requires-2 c =
     let pre = c.requires in
     let exchange = c.exchange in
-    after-exchangeable pre exchange.ensures.fine (omega (arith, exchange.auto, pre.spare)) (omega (arith, exchange.auto, pre.room))
+    after-exchangeable pre exchange.ensures.fine (omega (arith, pre.spare)) (omega (arith, pre.room))
 
 pub returns : goal.returns
 returns c =

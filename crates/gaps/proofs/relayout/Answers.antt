@@ -37,7 +37,7 @@ loop-j-preserved c =
     let loop-test = c.loop-j-test in
     let only_at = c.only_at in
     let carry = c.carry-at in
-    moving-more pre loop.invariant loop-test.true only_at.ensures pre.spare carry.ensures carry.auto.1.1.0
+    moving-more pre loop.invariant loop-test.true only_at.ensures pre.spare carry.ensures (omega arith)
 
 pub settle-requires : goal.settle-requires
 settle-requires c =

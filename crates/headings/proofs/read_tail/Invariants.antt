@@ -1,4 +1,5 @@
 -- `headings::read_tail` meets its contract.
+use Rattle.statements.specs.StatementLaws.{on}
 use borrow.Author.Rules.{rules}
 use native.Mathlib.Omega.{arith}
 use mathlib.Core.Path.{sym, ◌∙◌}

@@ -1,4 +1,5 @@
 -- `heads::name_fault` meets its contract.
+use Rattle.statements.specs.StatementAt.{fault_of}
 use mathlib.Core.Path.{sym, ap, ◌∙◌}
 use mathlib.Core.Bool.{Bool, cond}
 use mathlib.Core.List.{[], ◌∷◌}

@@ -4,7 +4,7 @@ use Rattle.input_equality.proofs.Rows.{input-stop, input-unlike, input-first, in
 use Rattle.readings.proofs.Rows.{first-unread, second-unread}
 use Rattle.equality.proofs.Rows.{held-long}
 use Rattle.equality.proofs.Questions.{leading-other}
-use Rattle.layout.specs.ComponentLaws.{whole-components}
+use Rattle.layout.proofs.ComponentLaws.{whole-components}
 use Rattle.state.specs.Working.{state_at}
 use Rattle.packed.specs.Packed.{table_of}
 use mathlib.Core.List.{[]}

@@ -100,7 +100,7 @@ deliver-requires c =
     let join-wordᶜ = c.join_word-n in
     let someᶜ = c.some-parts in
     let past-partsᶜ = c.past_parts in
-    writable preᶜ.stands preᶜ.source expr-bytesᶜ.ensures countᶜ.ensures argsᶜ.removes (sym has-word-roomᶜ.ensures ∙ not-false has-word-roomᶜ.result if2ᶜ.false) join-wordᶜ.ensures (length join-wordᶜ.new.0) (omega (arith, join-wordᶜ.auto.0, preᶜ.spare)) someᶜ.ensures past-partsᶜ.ensures
+    writable preᶜ.stands preᶜ.source expr-bytesᶜ.ensures countᶜ.ensures argsᶜ.removes (sym has-word-roomᶜ.ensures ∙ not-false has-word-roomᶜ.result if2ᶜ.false) join-wordᶜ.ensures (length join-wordᶜ.new.scratch) (omega (arith, preᶜ.spare)) someᶜ.ensures past-partsᶜ.ensures
 
 pub returns : goal.returns
 returns c =
@@ -116,4 +116,4 @@ returns c =
     let deliverᶜ = c.deliver in
     done-right preᶜ.stands (joined_up (until argsᶜ.test argsᶜ.given.now) argsᶜ.removes argsᶜ.i) ((words_right preᶜ.stands preᶜ.source expr-bytesᶜ.ensures countᶜ.ensures) ∙ not-false countᶜ.result.words if1ᶜ.false)
     (joined-done preᶜ.stands preᶜ.source expr-bytesᶜ.ensures countᶜ.ensures argsᶜ.removes (sym has-word-roomᶜ.ensures ∙ not-false has-word-roomᶜ.result if2ᶜ.false) join-wordᶜ.ensures
-    (one-after (state_at argsᶜ.pool.now argsᶜ.ends.now argsᶜ.nums.now) (past (nth (reading argsᶜ.removes) argsᶜ.i) countᶜ.result.parts) (λ z. minus_unless countᶜ.result.reached (into (nth (writing false) argsᶜ.i) (components_in (take join-wordᶜ.result join-wordᶜ.new.1.0)) z)) past-partsᶜ.ensures deliverᶜ.ensures))
+    (one-after (state_at argsᶜ.pool.now argsᶜ.ends.now argsᶜ.nums.now) (past (nth (reading argsᶜ.removes) argsᶜ.i) countᶜ.result.parts) (λ z. minus_unless countᶜ.result.reached (into (nth (writing false) argsᶜ.i) (components_in (take join-wordᶜ.result join-wordᶜ.new.out)) z)) past-partsᶜ.ensures deliverᶜ.ensures))

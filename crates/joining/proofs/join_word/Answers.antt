@@ -36,4 +36,4 @@ returns c =
     let argsᶜ = c.args in
     let make-wordᶜ = c.make_word in
     let joinᶜ = c.join-n in
-    subst (λ (l : List ℕ). Written argsᶜ.out.now (components_bytes (word_if l)) make-wordᶜ.new.0 make-wordᶜ.result) (written_is joinᶜ.ensures) make-wordᶜ.ensures
+    subst (λ (l : List ℕ). Written argsᶜ.out.now (components_bytes (word_if l)) make-wordᶜ.new.out make-wordᶜ.result) (written_is joinᶜ.ensures) make-wordᶜ.ensures

@@ -27,7 +27,7 @@ pub loop-k-smaller : goal.loop-k-smaller
 loop-k-smaller c = omega (arith, c.loop-k-test.true)
 
 pub loop-k-preserved : goal.loop-k-preserved
-loop-k-preserved c = (omega (arith, c.loop-k-test.true), (omega (arith, c.resolve_instruction.auto.1.0, c.loop-k.invariant.1.0), all-next (instr_resolved c.args.text.now c.args.sw.now) c.loop-k.k c.loop-k.invariant.1.1 c.resolve_instruction.ensures))
+loop-k-preserved c = (omega (arith, c.loop-k-test.true), (omega (arith, c.loop-k.invariant.1.0), all-next (instr_resolved c.args.text.now c.args.sw.now) c.loop-k.k c.loop-k.invariant.1.1 c.resolve_instruction.ensures))
 
 pub returns : goal.returns
 returns c = all_done (instr_resolved c.args.text.now c.args.sw.now) (λ p. length p.code) (λ p h. c.instructions-n.ensures.is ∙ code_count _ p h) c.loop-k-test.false c.loop-k.invariant.0 c.loop-k.invariant.1.1

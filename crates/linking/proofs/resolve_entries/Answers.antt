@@ -34,7 +34,7 @@ pub loop-k-smaller : goal.loop-k-smaller
 loop-k-smaller c = omega (arith, c.loop-k-test.true)
 
 pub loop-k-preserved : goal.loop-k-preserved
-loop-k-preserved c = (omega (arith, c.loop-k-test.true), (omega (arith, c.set_entry_label.auto.0, c.loop-k.invariant.1.0), all-next (entry_resolved c.args.text.now c.args.en.now) c.loop-k.k c.loop-k.invariant.1.1 (entry-put c.args.text.now c.args.en.now c.loop-k.k c.read.result c.label_place-v.result c.read.ensures.is c.label_place-v.ensures c.set_entry_label.ensures)))
+loop-k-preserved c = (omega (arith, c.loop-k-test.true), (omega (arith, c.loop-k.invariant.1.0), all-next (entry_resolved c.args.text.now c.args.en.now) c.loop-k.k c.loop-k.invariant.1.1 (entry-put c.args.text.now c.args.en.now c.loop-k.k c.read.result c.label_place-v.result c.read.ensures.is c.label_place-v.ensures c.set_entry_label.ensures)))
 
 pub returns : goal.returns
 returns c = all_done (entry_resolved c.args.text.now c.args.en.now) (λ p. length (all_entries p)) (λ p h. c.entries-n.ensures.is ∙ entry_count _ p h) c.loop-k-test.false c.loop-k.invariant.0 c.loop-k.invariant.1.1

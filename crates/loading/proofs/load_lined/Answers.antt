@@ -12,7 +12,7 @@ pub load_text-requires : goal.load_text-requires
 load_text-requires c = search rules
 
 pub refuse-requires : goal.refuse-requires
-refuse-requires c = omega (arith, c.load_text.auto.1.1.1.0, c.clear_table.auto.0, c.requires.long)
+refuse-requires c = omega (arith, c.requires.long)
 
 pub returns-in-Yes : goal.returns-in-Yes
 returns-in-Yes c = load-accepted c.requires c.clear_table.ensures c.load_text.ensures c.in-Yes.is refl refl

@@ -1,4 +1,5 @@
 -- `loading::read_statements` meets its contract.
+use borrow.Enum.Refused.{opened}
 use borrow.Author.Rules.{rules}
 use native.Mathlib.Omega.{arith}
 use mathlib.Core.Path.{refl, ◌∙◌}
@@ -17,7 +18,7 @@ pub read_statement-a-requires : goal.read_statement-a-requires
 read_statement-a-requires c = search rules
 
 pub returns-in_default : goal.returns-in_default
-returns-in_default c = going-refused c.loop-q.invariant.going c.read_statement-a.ensures (other _ c.in_default.in_default-own.keys2)
+returns-in_default c = going-refused c.loop-q.invariant.going c.read_statement-a.ensures (other _ (opened c.in_default.in_default-own.keys2))
 
 pub returns-then-a : goal.returns-then-a
 returns-then-a c = going-last c.loop-q.invariant.going c.read_statement-a.ensures c.in-Statement.q c.in-Statement.is c.if-a.true
@@ -36,8 +37,8 @@ loop-q-preserved c =
     rw c.renewed-p.ensures
     record {
       going = going_next i.going c.read_statement-a.ensures c.in-Statement.q c.in-Statement.is c.if-a.false;
-      names_is = c.read_statement-a.auto.1.1.1.1.0 ∙ i.names_is;
-      table_is = c.read_statement-a.auto.1.1.1.1.1.0 ∙ i.table_is;
-      switches_is = c.read_statement-a.auto.1.1.1.1.1.1.0 ∙ i.switches_is;
-      entries_is = c.read_statement-a.auto.1.1.1.1.1.1.1.0 ∙ i.entries_is;
+      names_is = (omega arith) ∙ i.names_is;
+      table_is = (omega arith) ∙ i.table_is;
+      switches_is = (omega arith) ∙ i.switches_is;
+      entries_is = (omega arith) ∙ i.entries_is;
     }

@@ -37,7 +37,7 @@ loop-k-preserved c =
     let loopᶜ = c.loop-k in
     let loop-testᶜ = c.loop-k-test in
     let change-faultsᶜ = c.change_faults in
-    (walking_on (macros_in argsᶜ.text.now argsᶜ.code.now argsᶜ.names.now argsᶜ.count) argsᶜ.text.now argsᶜ.code.now argsᶜ.q loopᶜ.invariant.0 (omega (arith, loop-testᶜ.true, loopᶜ.invariant.1)) (rw (macros-kept loopᶜ.invariant.3 argsᶜ.text.now argsᶜ.code.now) at change-faultsᶜ.ensures.0) c.both-faults.ensures c.change_size-i.ensures.0, loopᶜ.invariant.1, omega (arith, change-faultsᶜ.auto.1.1.0, loopᶜ.invariant.2), kept_on loopᶜ.invariant.3 change-faultsᶜ.ensures.1)
+    (walking_on (macros_in argsᶜ.text.now argsᶜ.code.now argsᶜ.names.now argsᶜ.count) argsᶜ.text.now argsᶜ.code.now argsᶜ.q loopᶜ.invariant.0 (omega (arith, loop-testᶜ.true, loopᶜ.invariant.1)) (rw (macros-kept loopᶜ.invariant.3 argsᶜ.text.now argsᶜ.code.now) at change-faultsᶜ.ensures.0) c.both-faults.ensures c.change_size-i.ensures.0, loopᶜ.invariant.1, omega (arith, loopᶜ.invariant.2), kept_on loopᶜ.invariant.3 change-faultsᶜ.ensures.1)
 
 pub returns : goal.returns
 returns c =

@@ -21,7 +21,7 @@ loop-k-preserved c =
     let loop-testᶜ = c.loop-k-test in
     let number-atᶜ = c.number_at-m in
     let body-faultsᶜ = c.body_faults in
-    (bodies-on argsᶜ.text.now argsᶜ.code.now argsᶜ.names.now argsᶜ.count loopᶜ.invariant.0 loop-testᶜ.true (number-atᶜ.ensures.0 ∙ loopᶜ.invariant.2.same loopᶜ.k loop-testᶜ.true) (rw (macros-kept loopᶜ.invariant.2 argsᶜ.text.now argsᶜ.code.now) at body-faultsᶜ.ensures.0) c.both-faults.ensures, omega (arith, body-faultsᶜ.auto.1.1.0, loopᶜ.invariant.1), kept_on loopᶜ.invariant.2 body-faultsᶜ.ensures.1)
+    (bodies-on argsᶜ.text.now argsᶜ.code.now argsᶜ.names.now argsᶜ.count loopᶜ.invariant.0 loop-testᶜ.true (number-atᶜ.ensures.0 ∙ loopᶜ.invariant.2.same loopᶜ.k loop-testᶜ.true) (rw (macros-kept loopᶜ.invariant.2 argsᶜ.text.now argsᶜ.code.now) at body-faultsᶜ.ensures.0) c.both-faults.ensures, omega (arith, loopᶜ.invariant.1), kept_on loopᶜ.invariant.2 body-faultsᶜ.ensures.1)
 
 pub returns : goal.returns
 returns c =

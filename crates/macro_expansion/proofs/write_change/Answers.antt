@@ -39,7 +39,7 @@ expand_body-requires c =
         known = p.known;
         most = omega (arith, p.most);
         count = omega (arith, k.most, k.size);
-        room = omega (arith, c.keep_call.auto.0, p.room);
+        room = omega (arith, p.room);
         remembers = remembers-nested a.text.now a.code.now a.names.now a.at.macros a.calls.now _ (levels - a.at.left) a.at.cell c.meet-step.result.state
             (omega (arith, e.deeper, p.most)) c.keep_call.ensures
             (remembers-stays a.text.now a.code.now a.names.now a.at.macros a.calls.now _ a.v c.meet-step.result.state _ _ p.remembers k);

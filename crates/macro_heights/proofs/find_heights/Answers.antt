@@ -21,7 +21,7 @@ loop-level-init c =
     let preᶜ = c.requires in
     let unsetᶜ = c.unset in
     let unset2ᶜ = c.unset-2 in
-    (up-to-none argsᶜ.text.now argsᶜ.code.now argsᶜ.firsts.now argsᶜ.count (quiet_table argsᶜ.text.now argsᶜ.code.now argsᶜ.firsts.now argsᶜ.count) (omega (arith, preᶜ.quiet_room, unsetᶜ.auto.0)) unsetᶜ.ensures, up-to-none argsᶜ.text.now argsᶜ.code.now argsᶜ.firsts.now argsᶜ.count (loose_table argsᶜ.text.now argsᶜ.code.now argsᶜ.firsts.now argsᶜ.count) (omega (arith, preᶜ.loose_room, unset2ᶜ.auto.0)) unset2ᶜ.ensures, refl, refl)
+    (up-to-none argsᶜ.text.now argsᶜ.code.now argsᶜ.firsts.now argsᶜ.count (quiet_table argsᶜ.text.now argsᶜ.code.now argsᶜ.firsts.now argsᶜ.count) (omega (arith, preᶜ.quiet_room)) unsetᶜ.ensures, up-to-none argsᶜ.text.now argsᶜ.code.now argsᶜ.firsts.now argsᶜ.count (loose_table argsᶜ.text.now argsᶜ.code.now argsᶜ.firsts.now argsᶜ.count) (omega (arith, preᶜ.loose_room)) unset2ᶜ.ensures, refl, refl)
 
 pub settle_quiet-requires : goal.settle_quiet-requires
 settle_quiet-requires c =
@@ -41,7 +41,7 @@ loop-level-preserved c =
     let settle-quietᶜ = c.settle_quiet in
     let settle-looseᶜ = c.settle_loose in
     let loopᶜ = c.loop-level in
-    (settle-quietᶜ.ensures, settle-looseᶜ.ensures, omega (arith, settle-quietᶜ.auto.1.1.1.1.1.1.0, loopᶜ.invariant.2), omega (arith, settle-looseᶜ.auto.1.1.1.1.1.1.0, loopᶜ.invariant.3))
+    (settle-quietᶜ.ensures, settle-looseᶜ.ensures, omega (arith, loopᶜ.invariant.2), omega (arith, loopᶜ.invariant.3))
 
 pub returns : goal.returns
 returns c =

@@ -35,7 +35,7 @@ loop-k-preserved c =
     let number-atᶜ = c.number_at in
     let loose-bodyᶜ = c.loose_body-height in
     let settleᶜ = c.settle in
-    (pass_on (loose_table argsᶜ.text.now argsᶜ.code.now argsᶜ.firsts.now argsᶜ.count) argsᶜ.count argsᶜ.level loopᶜ.invariant.0 loop-testᶜ.true preᶜ.low (loose-climbs argsᶜ.text.now argsᶜ.code.now argsᶜ.firsts.now argsᶜ.count) (loose-found argsᶜ.text.now argsᶜ.code.now argsᶜ.firsts.now argsᶜ.count argsᶜ.level preᶜ.low number-atᶜ.ensures.0 loopᶜ.invariant.0 loose-bodyᶜ.ensures) settleᶜ.ensures, omega (arith, settleᶜ.auto.0, loopᶜ.invariant.1))
+    (pass_on (loose_table argsᶜ.text.now argsᶜ.code.now argsᶜ.firsts.now argsᶜ.count) argsᶜ.count argsᶜ.level loopᶜ.invariant.0 loop-testᶜ.true preᶜ.low (loose-climbs argsᶜ.text.now argsᶜ.code.now argsᶜ.firsts.now argsᶜ.count) (loose-found argsᶜ.text.now argsᶜ.code.now argsᶜ.firsts.now argsᶜ.count argsᶜ.level preᶜ.low number-atᶜ.ensures.0 loopᶜ.invariant.0 loose-bodyᶜ.ensures) settleᶜ.ensures, omega (arith, loopᶜ.invariant.1))
 
 pub returns : goal.returns
 returns c =

@@ -1,7 +1,7 @@
 -- `macro_lines::line_of` meets its contract.
 use mathlib.Core.Path.{ap, ◌∙◌}
 use Rattle.syntax.specs.Items.{line_of}
-use Rattle.macros.specs.LineLaws.{line-past}
+use Rattle.macros.proofs.LineLaws.{line-past}
 use Rattle.macro_lines.proofs.Going.{from_start}
 use borrow.Author.Rules.{rules}
 use Rattle.macro_lines.proofs.line_of.Goals as goal

@@ -30,7 +30,7 @@ slice_bounds-out-end c = search rules
 pub slice_bounds-load_lined-end : goal.slice_bounds-load_lined-end
 slice_bounds-load_lined-end c =
     let n = c.n-1.given in
-    sym (length-take-le n.0.0 c.prepare.new.1.0 (omega (arith, within c.requires c.prepare.ensures n.0.0 n.1, c.prepare.ensures.size)))
+    sym (length-take-le n.0.0 c.prepare.new.out (omega (arith, within c.requires c.prepare.ensures n.0.0 n.1, c.prepare.ensures.size)))
 
 pub slice_bounds-lines-end : goal.slice_bounds-lines-end
 slice_bounds-lines-end c =
@@ -40,12 +40,12 @@ slice_bounds-lines-end c =
 pub slice_bounds-load_lined-end-in-Ready : goal.slice_bounds-load_lined-end-in-Ready
 slice_bounds-load_lined-end-in-Ready c =
     let n = c.n-1.given in
-    sym (length-take-le n.0.0 c.prepare.new.1.1.0 (omega (arith, within c.requires c.prepare.ensures n.0.0 n.1, c.prepare.ensures.lines_size)))
+    sym (length-take-le n.0.0 c.prepare.new.lines (omega (arith, within c.requires c.prepare.ensures n.0.0 n.1, c.prepare.ensures.lines_size)))
 
 pub load_lined-requires : goal.load_lined-requires
 load_lined-requires c =
     let n = c.n-1.given in
-    lent c.requires c.prepare.ensures n.0.0 n.1 (length-take-le 32768 c.prepare.new.1.1.1.0 (omega (arith, c.prepare.ensures.code_size)))
+    lent c.requires c.prepare.ensures n.0.0 n.1 (length-take-le 32768 c.prepare.new.code (omega (arith, c.prepare.ensures.code_size)))
 
 pub returns-in-Unfit : goal.returns-in-Unfit
 returns-in-Unfit c =

@@ -26,5 +26,5 @@ overflow_add-place-3 c = omega (arith, c.requires.0)
 pub returns : goal.returns
 returns c = let a = c.args in
     let k = a.slot in
-    stored a.calls.now _ _ a.left a.body k (slot_at k) c.requires.0 refl (omega (arith, c.requires.4, c.copy_calls.auto)) c.copy_calls.ensures
+    stored a.calls.now _ _ a.left a.body k (slot_at k) c.requires.0 refl (omega (arith, c.requires.4)) c.copy_calls.ensures
     (c.write-2.ensures ∙ ap (λ l. set l (slot_at k + body_cell) a.body) c.write.ensures) c.requires.1

@@ -26,13 +26,13 @@ pub overflow_add-turn : goal.overflow_add-turn
 overflow_add-turn c = omega (arith, c.print_of-print.ensures)
 
 pub write-requires : goal.write-requires
-write-requires c = record { room = omega (arith, c.print_of-print.ensures, c.put_slot.auto.0, c.requires.room); most = omega arith }
+write-requires c = record { room = omega (arith, c.print_of-print.ensures, c.requires.room); most = omega arith }
 
 pub overflow_add-slot-2 : goal.overflow_add-slot-2
 overflow_add-slot-2 c = omega (arith, c.print_of-print.ensures)
 
 pub write-requires-2 : goal.write-requires-2
-write-requires-2 c = record { room = omega (arith, c.print_of-print.ensures, c.write.auto.0, c.put_slot.auto.0, c.requires.room); most = omega (arith, c.print_of-print.ensures) }
+write-requires-2 c = record { room = omega (arith, c.print_of-print.ensures, c.requires.room); most = omega (arith, c.print_of-print.ensures) }
 
 pub returns : goal.returns
 returns c = let a = c.args in

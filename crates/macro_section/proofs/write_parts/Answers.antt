@@ -95,7 +95,7 @@ loop-changes-preserved c = let a = c.args in
           i.1.wrote.size i.5 (omega (arith, i.1.wrote.most, i.1.wrote.size)) c.section_change-next.result c.over_at-long.result _ c.low-place.result c.change_size-cell.result c.loop-changes-test.true k.wrote c.over_at-first.ensures
           c.section_change-next.ensures.0 (c.over_at-long.ensures ∙ ap (over_at c.over_at-first.result c.write_kept-kept.result.over c.section_change-next.result.over) c.high-start.ensures.0) c.low-place.ensures.0 c.change_size-cell.ensures.0,
       c.section_change-next.ensures.1,
-      c.section_change-next.auto.1.1.1.1.0 ∙ i.7,
+      (omega arith) ∙ i.7,
     )
 
 pub write_kept-last-requires : goal.write_kept-last-requires

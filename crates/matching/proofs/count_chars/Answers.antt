@@ -22,8 +22,7 @@ returns-else-n-k c = rw c.in-Count.is (chars-enough c.args.s.now _ c.if-n-k.fals
 
 pub returns-in-Class : goal.returns-in-Class
 returns-in-Class c =
-    let test2ᶜ = c.test-in-Class-1 in
-    rw test2ᶜ.given.1 (chars-met c.args.s.now _ (in_class test2ᶜ.given.0.0) c.ahead_of_class-k.ensures)
+    rw c.in-Class.is (chars-met c.args.s.now _ (in_class c.in-Class.mask) c.ahead_of_class-k.ensures)
 
 pub returns-in-Among : goal.returns-in-Among
 returns-in-Among c =

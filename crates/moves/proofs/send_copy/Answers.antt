@@ -58,7 +58,7 @@ slice_bounds-deliver-end c =
     let expr-bytesᶜ = c.expr_bytes-x in
     let countᶜ = c.count-t in
     let copyᶜ = c.copy in
-    omega (arith, bytes-few preᶜ.stands preᶜ.source expr-bytesᶜ.ensures countᶜ.ensures, preᶜ.room, copyᶜ.auto.0)
+    omega (arith, bytes-few preᶜ.stands preᶜ.source expr-bytesᶜ.ensures countᶜ.ensures, preᶜ.room)
 
 pub slice_bounds-deliver-end-2 : goal.slice_bounds-deliver-end-2
 slice_bounds-deliver-end-2 c =
@@ -67,7 +67,7 @@ slice_bounds-deliver-end-2 c =
     let countᶜ = c.count-t in
     let preᶜ = c.requires in
     let expr-bytesᶜ = c.expr_bytes-x in
-    held_fits argsᶜ.hold.now copyᶜ.new.0 countᶜ.result.bytes copyᶜ.auto.0 (bytes-few preᶜ.stands preᶜ.source expr-bytesᶜ.ensures countᶜ.ensures) preᶜ.room
+    held_fits argsᶜ.hold.now copyᶜ.new.out countᶜ.result.bytes (omega arith) (bytes-few preᶜ.stands preᶜ.source expr-bytesᶜ.ensures countᶜ.ensures) preᶜ.room
 
 pub deliver-requires : goal.deliver-requires
 deliver-requires c =

@@ -47,7 +47,7 @@ slice_bounds-deliver-end c =
     let expr-bytesᶜ = c.expr_bytes-x in
     let countᶜ = c.count-t in
     let copyᶜ = c.copy in
-    omega (arith, bytes-few preᶜ.stands preᶜ.source expr-bytesᶜ.ensures countᶜ.ensures, preᶜ.room, copyᶜ.auto.0)
+    omega (arith, bytes-few preᶜ.stands preᶜ.source expr-bytesᶜ.ensures countᶜ.ensures, preᶜ.room)
 
 pub slice_bounds-deliver-end-2 : goal.slice_bounds-deliver-end-2
 slice_bounds-deliver-end-2 c =
@@ -56,7 +56,7 @@ slice_bounds-deliver-end-2 c =
     let countᶜ = c.count-t in
     let preᶜ = c.requires in
     let expr-bytesᶜ = c.expr_bytes-x in
-    held_fits argsᶜ.hold.now copyᶜ.new.0 countᶜ.result.bytes copyᶜ.auto.0 (bytes-few preᶜ.stands preᶜ.source expr-bytesᶜ.ensures countᶜ.ensures) preᶜ.room
+    held_fits argsᶜ.hold.now copyᶜ.new.out countᶜ.result.bytes (omega arith) (bytes-few preᶜ.stands preᶜ.source expr-bytesᶜ.ensures countᶜ.ensures) preᶜ.room
 
 pub deliver-requires : goal.deliver-requires
 deliver-requires c =
@@ -78,4 +78,4 @@ returns c =
     let drop-partsᶜ = c.drop_parts in
     let deliverᶜ = c.deliver in
     sent-off preᶜ.stands preᶜ.source expr-bytesᶜ.ensures countᶜ.ensures _ argsᶜ.j preᶜ.spare preᶜ.target argsᶜ.reverses (held-turned argsᶜ.hold.now argsᶜ.reverses countᶜ.result.bytes copyᶜ.ensures (taken-part preᶜ.stands preᶜ.source expr-bytesᶜ.ensures countᶜ.ensures) (took preᶜ.stands preᶜ.source expr-bytesᶜ.ensures countᶜ.ensures).bytes_is) argsᶜ.at_end
-    (one-after (state_at argsᶜ.pool.now argsᶜ.ends.now argsᶜ.nums.now) (past (nth (reading true) argsᶜ.i) countᶜ.result.parts) (λ z. minus_unless countᶜ.result.reached (into (nth (writing argsᶜ.at_end) argsᶜ.j) (components_in (take countᶜ.result.bytes copyᶜ.new.0)) z)) drop-partsᶜ.ensures deliverᶜ.ensures)
+    (one-after (state_at argsᶜ.pool.now argsᶜ.ends.now argsᶜ.nums.now) (past (nth (reading true) argsᶜ.i) countᶜ.result.parts) (λ z. minus_unless countᶜ.result.reached (into (nth (writing argsᶜ.at_end) argsᶜ.j) (components_in (take countᶜ.result.bytes copyᶜ.new.out)) z)) drop-partsᶜ.ensures deliverᶜ.ensures)

@@ -18,8 +18,7 @@ first_offered-requires c =
 pub returns-in-Indexed : goal.returns-in-Indexed
 returns-in-Indexed c =
     let preᶜ = c.requires in
-    let argᶜ = c.arg-1 in
-    letter-told preᶜ argᶜ.given.1 c.first_offered.ensures
+    letter-told preᶜ c.in-Indexed.is c.first_offered.ensures
 
 pub returns-in-Number : goal.returns-in-Number
 returns-in-Number c =

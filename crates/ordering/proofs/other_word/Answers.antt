@@ -8,34 +8,29 @@ use Rattle.ordering.proofs.other_word.Goals as goal
 pub overflow_sub-n : goal.overflow_sub-n
 overflow_sub-n c =
     let preᶜ = c.requires in
-    let argᶜ = c.arg-1 in
-    omega (arith, (preᶜ.good.index _ _ argᶜ.given.1).from)
+    omega (arith, (preᶜ.good.index _ _ c.in-Indexed.is).from)
 
 pub first_word-requires : goal.first_word-requires
 first_word-requires c =
     let preᶜ = c.requires in
-    let argᶜ = c.arg-1 in
-    other-named preᶜ argᶜ.given.1
+    other-named preᶜ c.in-Indexed.is
 
 pub text_word-requires : goal.text_word-requires
 text_word-requires c =
     let preᶜ = c.requires in
-    let arg2ᶜ = c.arg-in-Text-1 in
-    other_text preᶜ arg2ᶜ.given.1
+    other_text preᶜ c.in-Text.is
 
 pub returns-in-Indexed : goal.returns-in-Indexed
 returns-in-Indexed c =
     let preᶜ = c.requires in
-    let argᶜ = c.arg-1 in
     let first-wordᶜ = c.first_word in
-    letter-told preᶜ argᶜ.given.1 first-wordᶜ.ensures
+    letter-told preᶜ c.in-Indexed.is first-wordᶜ.ensures
 
 pub returns-in-Text : goal.returns-in-Text
 returns-in-Text c =
     let preᶜ = c.requires in
-    let arg2ᶜ = c.arg-in-Text-1 in
     let text-wordᶜ = c.text_word in
-    text-told preᶜ arg2ᶜ.given.1 text-wordᶜ.ensures
+    text-told preᶜ c.in-Text.is text-wordᶜ.ensures
 
 pub returns-in-Number : goal.returns-in-Number
 returns-in-Number c =

@@ -21,8 +21,8 @@ loop-q-preserved c = let t = c.args.table.now in
     let x : get_or (fifteen t at) q 0 ≡ get_or t (at + q) 0 = fifteen-cell t at c.requires.inside q (omega arith) in (
       omega arith,
       h.invariant.1,
-      omega (arith, c.put_four.auto),
-      copy-turn (fifteen t at) o q (omega arith) (get_or t (at + q) 0) x h.out c.put_four.new.0 (omega arith) h.invariant.3 c.put_four.ensures,
+      omega arith,
+      copy-turn (fifteen t at) o q (omega arith) (get_or t (at + q) 0) x h.out c.put_four.new.out (omega arith) h.invariant.3 c.put_four.ensures,
     )
 
 pub returns-then-q-m : goal.returns-then-q-m
@@ -44,6 +44,6 @@ returns c = let t = c.args.table.now in
     let x : get_or (fifteen t at) q 0 ≡ get_or t (at + q) 0 = fifteen-cell t at c.requires.inside q (omega arith) in
     let m = c.cut-m.result in
     let n = m - 4 * q in
-    let y = c.put_rest.new.0 in
+    let y = c.put_rest.new.out in
     copied t at c.requires.inside c.requires.long c.args.n m (4 * q + n) o y c.cut-m.ensures (omega arith)
     (copy_rest (fifteen t at) o q (omega arith) (get_or t (at + q) 0) x h.out y n (omega arith) (omega arith) h.invariant.3 c.put_rest.ensures)

@@ -23,7 +23,7 @@ loop-j-preserved c =
     let loop-test = c.loop-j-test in
     let len_of_lem = c.len_of-n in
     let put_two = c.put_two in
-    lengthing-more pre loop.invariant loop-test.true len_of_lem.ensures put_two.ensures put_two.auto.0
+    lengthing-more pre loop.invariant loop-test.true len_of_lem.ensures put_two.ensures (omega arith)
 
 pub returns : goal.returns
 returns c = lengthing-all c.loop-j.invariant c.loop-j-test.false

@@ -29,7 +29,7 @@ loop-j-preserved c =
     let loop-test = c.loop-j-test in
     let string-of = c.string_of-bytes in
     let put = c.put in
-    stringing-more pre loop.invariant loop-test.true string-of.ensures put.ensures put.auto.0
+    stringing-more pre loop.invariant loop-test.true string-of.ensures put.ensures (omega arith)
 
 pub returns : goal.returns
 returns c = stringing-all c.loop-j.invariant c.loop-j-test.false

@@ -60,7 +60,7 @@ loop-j-preserved c =
     let loop-test = c.loop-j-test in
     let two_at = c.two_at-n in
     let lay = c.lay in
-    unpacking-more pre loop.invariant loop-test.true two_at.ensures lay.ensures lay.auto.0
+    unpacking-more pre loop.invariant loop-test.true two_at.ensures lay.ensures (omega arith)
 
 pub returns : goal.returns
 returns c =

@@ -1,17 +1,17 @@
 -- `perform_equality::is_any` meets its contract.
+use borrow.Enum.Refused.{opened}
 use borrow.Author.Rules.{rules}
 use Rattle.decoding.proofs.Letters.{is-lettered}
 use Rattle.perform_equality.proofs.is_any.Goals as goal
 
 pub returns-in-Indexed : goal.returns-in-Indexed
 returns-in-Indexed c =
-    let aᶜ = c.a-1 in
     let any-letterᶜ = c.any_letter in
-    record { letter = aᶜ.given.0.0; index = aᶜ.given.0.1.0; is = aᶜ.given.1; any = any-letterᶜ.ensures }
+    record { letter = c.in-Indexed.l; index = c.in-Indexed.field-1; is = c.in-Indexed.is; any = any-letterᶜ.ensures }
 
 pub returns-in_default : goal.returns-in_default
 returns-in_default c =
     let argsᶜ = c.args in
     let preᶜ = c.requires in
     let matchᶜ = c.in_default.in_default-own in
-    absurd (is-lettered argsᶜ.a preᶜ matchᶜ.keys2)
+    absurd (is-lettered argsᶜ.a preᶜ (opened matchᶜ.keys2))

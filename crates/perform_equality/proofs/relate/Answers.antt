@@ -1,4 +1,5 @@
 -- `perform_equality::relate` meets its contract.
+use borrow.Enum.Refused.{opened}
 use borrow.Author.Rules.{rules}
 use Rattle.perform_equality.proofs.Operands.{related-named, input-relatable, input-related, expression-relating}
 use Rattle.perform_equality.proofs.relate.Goals as goal
@@ -18,24 +19,22 @@ rw_input-requires c =
     let preᶜ = c.requires in
     let index-ofᶜ = c.index_of-i in
     let variable-ofᶜ = c.variable_of in
-    let enum-toldᶜ = c.enum_told-1 in
-    input-relatable preᶜ index-ofᶜ.ensures variable-ofᶜ.ensures enum-toldᶜ.given.1
+    input-relatable preᶜ index-ofᶜ.ensures variable-ofᶜ.ensures c.in-Input.is
 
 pub relate_expression-requires : goal.relate_expression-requires
 relate_expression-requires c =
     let preᶜ = c.requires in
     let variable-ofᶜ = c.variable_of in
     let matchᶜ = c.in_default.in_default-own in
-    expression-relating preᶜ _ variable-ofᶜ.ensures matchᶜ.keys2
+    expression-relating preᶜ _ variable-ofᶜ.ensures (opened matchᶜ.keys2)
 
 pub returns-in-Input : goal.returns-in-Input
 returns-in-Input c =
     let preᶜ = c.requires in
     let index-ofᶜ = c.index_of-i in
     let variable-ofᶜ = c.variable_of in
-    let enum-toldᶜ = c.enum_told-1 in
     let rw-inputᶜ = c.rw_input in
-    input-related preᶜ index-ofᶜ.ensures variable-ofᶜ.ensures enum-toldᶜ.given.1 rw-inputᶜ.ensures
+    input-related preᶜ index-ofᶜ.ensures variable-ofᶜ.ensures c.in-Input.is rw-inputᶜ.ensures
 
 pub returns-in_default : goal.returns-in_default
 returns-in_default c =

@@ -7,56 +7,47 @@ use Rattle.perform_files.proofs.perform_file.Goals as goal
 pub do_kopiuj-requires : goal.do_kopiuj-requires
 do_kopiuj-requires c =
     let preᶜ = c.requires in
-    let matchᶜ = c.in-4 in
-    known preᶜ.carrying matchᶜ.keys1
+    known preᶜ.carrying c.in-4.is
 
 pub do_wstaw-requires : goal.do_wstaw-requires
 do_wstaw-requires c =
     let preᶜ = c.requires in
-    let matchᶜ = c.in-5 in
-    known preᶜ.carrying matchᶜ.keys2
+    known preᶜ.carrying c.in-5.is
 
 pub do_pobierz-requires : goal.do_pobierz-requires
 do_pobierz-requires c =
     let preᶜ = c.requires in
-    let matchᶜ = c.in-6 in
-    known preᶜ.carrying matchᶜ.keys3
+    known preᶜ.carrying c.in-6.is
 
 pub do_schowaj-requires : goal.do_schowaj-requires
 do_schowaj-requires c =
     let preᶜ = c.requires in
-    let matchᶜ = c.in-7 in
-    known preᶜ.carrying matchᶜ.keys4
+    known preᶜ.carrying c.in-7.is
 
 pub do_ustaw-requires : goal.do_ustaw-requires
 do_ustaw-requires c =
     let preᶜ = c.requires in
-    let matchᶜ = c.in-8 in
-    known preᶜ.carrying matchᶜ.keys5
+    known preᶜ.carrying c.in-8.is
 
 pub do_zamien-requires : goal.do_zamien-requires
 do_zamien-requires c =
     let preᶜ = c.requires in
-    let matchᶜ = c.in-9 in
-    known preᶜ.carrying matchᶜ.keys6
+    known preᶜ.carrying c.in-9.is
 
 pub do_umiesc-requires : goal.do_umiesc-requires
 do_umiesc-requires c =
     let preᶜ = c.requires in
-    let matchᶜ = c.in-10 in
-    known preᶜ.carrying matchᶜ.keys7
+    known preᶜ.carrying c.in-10.is
 
 pub do_skresl-requires : goal.do_skresl-requires
 do_skresl-requires c =
     let preᶜ = c.requires in
-    let matchᶜ = c.in-12 in
-    known preᶜ.carrying matchᶜ.keys8
+    known preᶜ.carrying c.in-12.is
 
 pub do_omin-requires : goal.do_omin-requires
 do_omin-requires c =
     let preᶜ = c.requires in
-    let matchᶜ = c.in-39 in
-    known preᶜ.carrying matchᶜ.keys9
+    known preᶜ.carrying c.in-39.is
 
 pub do_cofnij-requires : goal.do_cofnij-requires
 do_cofnij-requires c =

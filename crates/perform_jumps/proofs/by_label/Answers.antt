@@ -11,27 +11,23 @@ skocz-requires c =
 
 pub wykonaj-requires : goal.wykonaj-requires
 wykonaj-requires c =
-    let matchᶜ = c.in-20 in
     let preᶜ = c.requires in
-    let q = matchᶜ.keys2 in calls preᶜ (omega (arith, q))
+    let q = c.in-20.is in calls preᶜ (omega (arith, q))
 
 pub skomi-requires : goal.skomi-requires
 skomi-requires c =
-    let matchᶜ = c.in-21 in
     let preᶜ = c.requires in
-    let q = matchᶜ.keys3 in turns preᶜ (omega (arith, q))
+    let q = c.in-21.is in turns preᶜ (omega (arith, q))
 
 pub skopl-requires : goal.skopl-requires
 skopl-requires c =
-    let matchᶜ = c.in-22 in
     let preᶜ = c.requires in
-    let q = matchᶜ.keys4 in turns preᶜ (omega (arith, q))
+    let q = c.in-22.is in turns preᶜ (omega (arith, q))
 
 pub wymi-requires : goal.wymi-requires
 wymi-requires c =
-    let matchᶜ = c.in-23 in
     let preᶜ = c.requires in
-    let q = matchᶜ.keys5 in calls preᶜ (omega (arith, q))
+    let q = c.in-23.is in calls preᶜ (omega (arith, q))
 
 pub wypl-requires : goal.wypl-requires
 wypl-requires c =
@@ -42,37 +38,32 @@ wypl-requires c =
 pub returns-in-19 : goal.returns-in-19
 returns-in-19 c =
     let preᶜ = c.requires in
-    let matchᶜ = c.in-19 in
     let skoczᶜ = c.skocz in
-    label-arm preᶜ 19 matchᶜ.keys1 skoczᶜ.ensures
+    label-arm preᶜ 19 c.in-19.is skoczᶜ.ensures
 
 pub returns-in-20 : goal.returns-in-20
 returns-in-20 c =
     let preᶜ = c.requires in
-    let matchᶜ = c.in-20 in
     let wykonajᶜ = c.wykonaj in
-    label-arm preᶜ 20 matchᶜ.keys2 wykonajᶜ.ensures
+    label-arm preᶜ 20 c.in-20.is wykonajᶜ.ensures
 
 pub returns-in-21 : goal.returns-in-21
 returns-in-21 c =
     let preᶜ = c.requires in
-    let matchᶜ = c.in-21 in
     let skomiᶜ = c.skomi in
-    label-arm preᶜ 21 matchᶜ.keys3 skomiᶜ.ensures
+    label-arm preᶜ 21 c.in-21.is skomiᶜ.ensures
 
 pub returns-in-22 : goal.returns-in-22
 returns-in-22 c =
     let preᶜ = c.requires in
-    let matchᶜ = c.in-22 in
     let skoplᶜ = c.skopl in
-    label-arm preᶜ 22 matchᶜ.keys4 skoplᶜ.ensures
+    label-arm preᶜ 22 c.in-22.is skoplᶜ.ensures
 
 pub returns-in-23 : goal.returns-in-23
 returns-in-23 c =
     let preᶜ = c.requires in
-    let matchᶜ = c.in-23 in
     let wymiᶜ = c.wymi in
-    label-arm preᶜ 23 matchᶜ.keys5 wymiᶜ.ensures
+    label-arm preᶜ 23 c.in-23.is wymiᶜ.ensures
 
 pub returns-in_default : goal.returns-in_default
 returns-in_default c =

@@ -26,26 +26,23 @@ wyin-requires c =
 pub returns-in-25 : goal.returns-in-25
 returns-in-25 c =
     let preᶜ = c.requires in
-    let matchᶜ = c.in-25 in
     let argsᶜ = c.args in
     let skonaᶜ = c.skona in
-    switch-arm preᶜ 25 matchᶜ.keys1 argsᶜ.removes skonaᶜ.ensures
+    switch-arm preᶜ 25 c.in-25.is argsᶜ.removes skonaᶜ.ensures
 
 pub returns-in-26 : goal.returns-in-26
 returns-in-26 c =
     let preᶜ = c.requires in
-    let matchᶜ = c.in-26 in
     let argsᶜ = c.args in
     let skoinᶜ = c.skoin in
-    switch-arm preᶜ 26 matchᶜ.keys2 argsᶜ.removes skoinᶜ.ensures
+    switch-arm preᶜ 26 c.in-26.is argsᶜ.removes skoinᶜ.ensures
 
 pub returns-in-27 : goal.returns-in-27
 returns-in-27 c =
     let preᶜ = c.requires in
-    let matchᶜ = c.in-27 in
     let argsᶜ = c.args in
     let wynaᶜ = c.wyna in
-    switch-arm preᶜ 27 matchᶜ.keys3 argsᶜ.removes wynaᶜ.ensures
+    switch-arm preᶜ 27 c.in-27.is argsᶜ.removes wynaᶜ.ensures
 
 pub returns-in_default : goal.returns-in_default
 returns-in_default c =

@@ -7,38 +7,32 @@ use Rattle.perform_moves.proofs.perform_move.Goals as goal
 pub send-requires : goal.send-requires
 send-requires c =
     let preᶜ = c.requires in
-    let matchᶜ = c.in-1 in
-    carrying (numbered preᶜ 1 matchᶜ.keys1)
+    carrying (numbered preᶜ 1 c.in-1.is)
 
 pub read-requires : goal.read-requires
 read-requires c =
     let preᶜ = c.requires in
-    let matchᶜ = c.in-2 in
-    numbered preᶜ 2 matchᶜ.keys2
+    numbered preᶜ 2 c.in-2.is
 
 pub print-requires : goal.print-requires
 print-requires c =
     let preᶜ = c.requires in
-    let matchᶜ = c.in-3 in
-    carrying (numbered preᶜ 3 matchᶜ.keys3)
+    carrying (numbered preᶜ 3 c.in-3.is)
 
 pub remove-requires : goal.remove-requires
 remove-requires c =
     let preᶜ = c.requires in
-    let matchᶜ = c.in-11 in
-    dropping preᶜ matchᶜ.keys4
+    dropping preᶜ c.in-11.is
 
 pub join-requires : goal.join-requires
 join-requires c =
     let preᶜ = c.requires in
-    let matchᶜ = c.in-36 in
-    paired preᶜ 36 matchᶜ.keys5
+    paired preᶜ 36 c.in-36.is
 
 pub split-requires : goal.split-requires
 split-requires c =
     let preᶜ = c.requires in
-    let matchᶜ = c.in-37 in
-    paired preᶜ 37 matchᶜ.keys6
+    paired preᶜ 37 c.in-37.is
 
 pub seek-requires : goal.seek-requires
 seek-requires c =

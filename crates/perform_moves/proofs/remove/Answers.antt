@@ -1,4 +1,5 @@
 -- `perform_moves::remove` meets its contract.
+use borrow.Enum.Refused.{opened}
 use borrow.Author.Rules.{rules}
 use Rattle.perform_moves.proofs.Operands.{drop-from, passable, passed_by, removable, removed}
 use Rattle.perform_moves.proofs.remove.Goals as goal
@@ -18,8 +19,7 @@ usun_input-requires c =
     let preᶜ = c.requires in
     let index-ofᶜ = c.index_of-i in
     let variable-ofᶜ = c.variable_of in
-    let enum-toldᶜ = c.enum_told-1 in
-    passable preᶜ index-ofᶜ.ensures variable-ofᶜ.ensures enum-toldᶜ.given.1
+    passable preᶜ index-ofᶜ.ensures variable-ofᶜ.ensures c.in-Input.is
 
 pub usun-requires : goal.usun-requires
 usun-requires c =
@@ -27,16 +27,15 @@ usun-requires c =
     let index-ofᶜ = c.index_of-i in
     let variable-ofᶜ = c.variable_of in
     let matchᶜ = c.in_default.in_default-own in
-    removable preᶜ index-ofᶜ.ensures _ variable-ofᶜ.ensures matchᶜ.keys2
+    removable preᶜ index-ofᶜ.ensures _ variable-ofᶜ.ensures (opened matchᶜ.keys2)
 
 pub returns-in-Input : goal.returns-in-Input
 returns-in-Input c =
     let preᶜ = c.requires in
     let index-ofᶜ = c.index_of-i in
     let variable-ofᶜ = c.variable_of in
-    let enum-toldᶜ = c.enum_told-1 in
     let usun-inputᶜ = c.usun_input in
-    passed_by preᶜ index-ofᶜ.ensures variable-ofᶜ.ensures enum-toldᶜ.given.1 usun-inputᶜ.ensures
+    passed_by preᶜ index-ofᶜ.ensures variable-ofᶜ.ensures c.in-Input.is usun-inputᶜ.ensures
 
 pub returns-in_default : goal.returns-in_default
 returns-in_default c =
@@ -45,4 +44,4 @@ returns-in_default c =
     let variable-ofᶜ = c.variable_of in
     let matchᶜ = c.in_default.in_default-own in
     let usunᶜ = c.usun in
-    removed preᶜ index-ofᶜ.ensures _ variable-ofᶜ.ensures matchᶜ.keys2 usunᶜ.ensures
+    removed preᶜ index-ofᶜ.ensures _ variable-ofᶜ.ensures (opened matchᶜ.keys2) usunᶜ.ensures

@@ -1,4 +1,5 @@
 -- `perform_pointers::do_umiesc` meets its contract.
+use borrow.Enum.Refused.{opened}
 use borrow.Author.Rules.{rules}
 use mathlib.Core.Path.{refl, ap}
 use Rattle.language.specs.Letters as letters
@@ -16,9 +17,8 @@ variable_of-requires c =
 pub file_of-t-requires : goal.file_of-t-requires
 file_of-t-requires c =
     let preᶜ = c.requires in
-    let enum-toldᶜ = c.enum_told-1 in
     let variable-ofᶜ = c.variable_of in
-    to-file preᶜ enum-toldᶜ.given.1 variable-ofᶜ.ensures
+    to-file preᶜ c.in-File.is variable-ofᶜ.ensures
 
 pub umiesc_file-requires : goal.umiesc_file-requires
 umiesc_file-requires c =
@@ -34,25 +34,23 @@ index_of-j-requires c =
 pub text_of-v-requires : goal.text_of-v-requires
 text_of-v-requires c =
     let preᶜ = c.requires in
-    let enum-told2ᶜ = c.enum_told-in-Output-1 in
     let variable-ofᶜ = c.variable_of in
-    (to-output preᶜ enum-told2ᶜ.given.1 variable-ofᶜ.ensures).0
+    (to-output preᶜ c.in-Output.is variable-ofᶜ.ensures).0
 
 pub umiesc_output-requires : goal.umiesc_output-requires
 umiesc_output-requires c =
     let preᶜ = c.requires in
     let text-ofᶜ = c.text_of-v in
-    let enum-told2ᶜ = c.enum_told-in-Output-1 in
     let variable-ofᶜ = c.variable_of in
     let index-ofᶜ = c.index_of-j in
-    text-placeable preᶜ text-ofᶜ.ensures (indexed-below letters.Letter.Q (to-output preᶜ enum-told2ᶜ.given.1 variable-ofᶜ.ensures).1 index-ofᶜ.ensures)
+    text-placeable preᶜ text-ofᶜ.ensures (indexed-below letters.Letter.Q (to-output preᶜ c.in-Output.is variable-ofᶜ.ensures).1 index-ofᶜ.ensures)
 
 pub target_of-t-requires : goal.target_of-t-requires
 target_of-t-requires c =
     let preᶜ = c.requires in
     let variable-ofᶜ = c.variable_of in
     let matchᶜ = c.in_default.in_default-own in
-    to-expr preᶜ variable-ofᶜ.result matchᶜ.keys3 variable-ofᶜ.ensures
+    to-expr preᶜ variable-ofᶜ.result (opened matchᶜ.keys3) variable-ofᶜ.ensures
 
 pub umiesc_expr-requires : goal.umiesc_expr-requires
 umiesc_expr-requires c =
@@ -71,11 +69,10 @@ pub returns-in-Output : goal.returns-in-Output
 returns-in-Output c =
     let preᶜ = c.requires in
     let text-ofᶜ = c.text_of-v in
-    let enum-told2ᶜ = c.enum_told-in-Output-1 in
     let variable-ofᶜ = c.variable_of in
     let index-ofᶜ = c.index_of-j in
     let umiesc-outputᶜ = c.umiesc_output in
-    performed preᶜ (ap (arg_of _) text-ofᶜ.ensures) (indexed-is letters.Letter.Q (to-output preᶜ enum-told2ᶜ.given.1 variable-ofᶜ.ensures).1 index-ofᶜ.ensures _) (none-third preᶜ) umiesc-outputᶜ.ensures
+    performed preᶜ (ap (arg_of _) text-ofᶜ.ensures) (indexed-is letters.Letter.Q (to-output preᶜ c.in-Output.is variable-ofᶜ.ensures).1 index-ofᶜ.ensures _) (none-third preᶜ) umiesc-outputᶜ.ensures
 
 pub returns-in_default : goal.returns-in_default
 returns-in_default c =

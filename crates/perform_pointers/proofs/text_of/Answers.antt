@@ -1,16 +1,16 @@
 -- `perform_pointers::text_of` meets its contract.
+use borrow.Enum.Refused.{opened}
 use borrow.Author.Rules.{rules}
 use Rattle.perform_pointers.proofs.Operands.{text-left}
 use Rattle.perform_pointers.proofs.text_of.Goals as goal
 
 pub returns-in-Text : goal.returns-in-Text
 returns-in-Text c =
-    let aᶜ = c.a-1 in
-    aᶜ.given.1
+    c.in-Text.is
 
 pub returns-in_default : goal.returns-in_default
 returns-in_default c =
     let argsᶜ = c.args in
     let preᶜ = c.requires in
     let matchᶜ = c.in_default.in_default-own in
-    absurd (text-left argsᶜ.a preᶜ matchᶜ.keys2)
+    absurd (text-left argsᶜ.a preᶜ (opened matchᶜ.keys2))

@@ -16,23 +16,20 @@ index_of-i-requires c =
 pub dodaj-requires : goal.dodaj-requires
 dodaj-requires c =
     let preᶜ = c.requires in
-    let matchᶜ = c.in-30 in
     let index-ofᶜ = c.index_of-i in
-    let w = known preᶜ.carrying matchᶜ.keys1 in computable w (indexed-below letters.Letter.A (first-named w ("A", "nB", "-") refl tt) index-ofᶜ.ensures) (formed w ("A", "nB", "-") refl).second
+    let w = known preᶜ.carrying c.in-30.is in computable w (indexed-below letters.Letter.A (first-named w ("A", "nB", "-") refl tt) index-ofᶜ.ensures) (formed w ("A", "nB", "-") refl).second
 
 pub odejmij-requires : goal.odejmij-requires
 odejmij-requires c =
     let preᶜ = c.requires in
-    let matchᶜ = c.in-31 in
     let index-ofᶜ = c.index_of-i in
-    let w = known preᶜ.carrying matchᶜ.keys2 in computable w (indexed-below letters.Letter.A (first-named w ("A", "nB", "-") refl tt) index-ofᶜ.ensures) (formed w ("A", "nB", "-") refl).second
+    let w = known preᶜ.carrying c.in-31.is in computable w (indexed-below letters.Letter.A (first-named w ("A", "nB", "-") refl tt) index-ofᶜ.ensures) (formed w ("A", "nB", "-") refl).second
 
 pub mnoz-requires : goal.mnoz-requires
 mnoz-requires c =
     let preᶜ = c.requires in
-    let matchᶜ = c.in-32 in
     let index-ofᶜ = c.index_of-i in
-    let w = known preᶜ.carrying matchᶜ.keys3 in computable w (indexed-below letters.Letter.A (first-named w ("A", "nB", "-") refl tt) index-ofᶜ.ensures) (formed w ("A", "nB", "-") refl).second
+    let w = known preᶜ.carrying c.in-32.is in computable w (indexed-below letters.Letter.A (first-named w ("A", "nB", "-") refl tt) index-ofᶜ.ensures) (formed w ("A", "nB", "-") refl).second
 
 pub dziel-requires : goal.dziel-requires
 dziel-requires c =
@@ -44,26 +41,23 @@ dziel-requires c =
 pub returns-in-30 : goal.returns-in-30
 returns-in-30 c =
     let preᶜ = c.requires in
-    let matchᶜ = c.in-30 in
     let index-ofᶜ = c.index_of-i in
     let dodajᶜ = c.dodaj in
-    let w = known preᶜ.carrying matchᶜ.keys1 in performed w (indexed-is letters.Letter.A (first-named w ("A", "nB", "-") refl tt) index-ofᶜ.ensures _) refl (third-none w "A" "nB" refl) (dodajᶜ.ensures _)
+    let w = known preᶜ.carrying c.in-30.is in performed w (indexed-is letters.Letter.A (first-named w ("A", "nB", "-") refl tt) index-ofᶜ.ensures _) refl (third-none w "A" "nB" refl) (dodajᶜ.ensures _)
 
 pub returns-in-31 : goal.returns-in-31
 returns-in-31 c =
     let preᶜ = c.requires in
-    let matchᶜ = c.in-31 in
     let index-ofᶜ = c.index_of-i in
     let odejmijᶜ = c.odejmij in
-    let w = known preᶜ.carrying matchᶜ.keys2 in performed w (indexed-is letters.Letter.A (first-named w ("A", "nB", "-") refl tt) index-ofᶜ.ensures _) refl (third-none w "A" "nB" refl) (odejmijᶜ.ensures _)
+    let w = known preᶜ.carrying c.in-31.is in performed w (indexed-is letters.Letter.A (first-named w ("A", "nB", "-") refl tt) index-ofᶜ.ensures _) refl (third-none w "A" "nB" refl) (odejmijᶜ.ensures _)
 
 pub returns-in-32 : goal.returns-in-32
 returns-in-32 c =
     let preᶜ = c.requires in
-    let matchᶜ = c.in-32 in
     let index-ofᶜ = c.index_of-i in
     let mnozᶜ = c.mnoz in
-    let w = known preᶜ.carrying matchᶜ.keys3 in performed w (indexed-is letters.Letter.A (first-named w ("A", "nB", "-") refl tt) index-ofᶜ.ensures _) refl (third-none w "A" "nB" refl) (mnozᶜ.ensures _)
+    let w = known preᶜ.carrying c.in-32.is in performed w (indexed-is letters.Letter.A (first-named w ("A", "nB", "-") refl tt) index-ofᶜ.ensures _) refl (third-none w "A" "nB" refl) (mnozᶜ.ensures _)
 
 pub returns-in_default : goal.returns-in_default
 returns-in_default c =

@@ -25,7 +25,7 @@ pub slice_bounds-write_parts-end-2 : goal.slice_bounds-write_parts-end-2
 slice_bounds-write_parts-end-2 c =
     let preᶜ = c.requires in
     let put-addressᶜ = c.put_address in
-    simp length-take (omega (arith, preᶜ.room, put-addressᶜ.auto))
+    simp length-take (omega (arith, preᶜ.room))
 
 pub write_parts-requires : goal.write_parts-requires
 write_parts-requires c =

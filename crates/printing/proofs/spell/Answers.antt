@@ -118,4 +118,4 @@ returns c =
     let put-outᶜ = c.put_out in
     done-right preᶜ.stands (spelled_out (until argsᶜ.test argsᶜ.given.now) argsᶜ.removes argsᶜ.i argsᶜ.j) (words_right preᶜ.stands preᶜ.source expr-bytesᶜ.ensures countᶜ.ensures ∙ not-false countᶜ.result.words if1ᶜ.false)
     (spelled-done preᶜ.stands preᶜ.source expr-bytesᶜ.ensures countᶜ.ensures joinᶜ.ensures argsᶜ.removes argsᶜ.j
-    (one-after (state_at argsᶜ.pool.now argsᶜ.ends.now argsᶜ.nums.now) (past (nth (reading argsᶜ.removes) argsᶜ.i) countᶜ.result.parts) (λ z. minus_unless countᶜ.result.reached (printed (nth Q argsᶜ.j) (take joinᶜ.result joinᶜ.new.0) z)) past-partsᶜ.ensures put-outᶜ.ensures))
+    (one-after (state_at argsᶜ.pool.now argsᶜ.ends.now argsᶜ.nums.now) (past (nth (reading argsᶜ.removes) argsᶜ.i) countᶜ.result.parts) (λ z. minus_unless countᶜ.result.reached (printed (nth Q argsᶜ.j) (take joinᶜ.result joinᶜ.new.out) z)) past-partsᶜ.ensures put-outᶜ.ensures))

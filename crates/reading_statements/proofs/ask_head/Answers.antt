@@ -1,7 +1,8 @@
 -- `reading_statements::ask_head` meets its contract.
+use Rattle.statements.specs.StatementAt.{statement_at}
 use borrow.Author.Rules.{rules}
 use mathlib.Core.Path.{sym, ap, ◌∙◌}
-use Rattle.acceptance.specs.RowLaws.{answered}
+use Rattle.acceptance.proofs.RowLaws.{answered}
 use Rattle.statements.specs.Faults.{decided, then, verdict_of}
 use Rattle.reading_statements.specs.GatheringLaws as gathering
 use Rattle.reading_statements.specs.QuestionLaws.{items-told, names-told, opening-told}

@@ -33,7 +33,7 @@ bounds-names-p c = let p = c.requires in name-inside p.some c.is_by_name-named.e
 pub admit_switch-verdict-requires : goal.admit_switch-verdict-requires
 admit_switch-verdict-requires c =
     let p = c.requires in
-    declarable-switch p.some c.is_by_name-named.ensures c.read_list-l.ensures c.ask_head-asked.result c.first_of-early.result c.ask_head-asked.ensures (c.first_of-early.ensures ∙ ap (then (verdict_of c.ask_head-asked.result)) c.decide.ensures) c.entries-held.ensures.is c.switch_of-d.ensures p.met.reading c.read_list-l.auto.1.1.1.1.1.1.0
+    declarable-switch p.some c.is_by_name-named.ensures c.read_list-l.ensures c.ask_head-asked.result c.first_of-early.result c.ask_head-asked.ensures (c.first_of-early.ensures ∙ ap (then (verdict_of c.ask_head-asked.result)) c.decide.ensures) c.entries-held.ensures.is c.switch_of-d.ensures p.met.reading (omega arith)
 
 pub finish-requires : goal.finish-requires
 finish-requires c = advanceable c.requires.met.reading.judging
@@ -43,4 +43,4 @@ returns c =
     let p = c.requires in
     λ lines.
     read-switch p.some c.is_by_name-named.ensures c.read_list-l.ensures c.ask_head-asked.result c.first_of-early.result c.ask_head-asked.ensures (c.first_of-early.ensures ∙ ap (then (verdict_of c.ask_head-asked.result)) c.decide.ensures) c.entries-held.ensures.is c.switch_of-d.ensures c.admit_switch-verdict.result
-    c.admit_switch-verdict.ensures c.read_list-l.auto.1.1.1.1.1.0 c.finish.ensures
+    c.admit_switch-verdict.ensures (omega arith) c.finish.ensures

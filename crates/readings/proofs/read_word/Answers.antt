@@ -74,7 +74,7 @@ make_word-n-requires c =
     let placeᶜ = c.place-from in
     let has-word-roomᶜ = c.has_word_room in
     let if1ᶜ = c.if-not-has_word_room in
-    record { room = omega (arith, take-charsᶜ.auto.1.1.1.0, preᶜ.room); most = word-most preᶜ.unread placeᶜ.ensures take-charsᶜ.ensures preᶜ.target (sym has-word-roomᶜ.ensures ∙ not-false has-word-roomᶜ.result if1ᶜ.false) }
+    record { room = omega (arith, preᶜ.room); most = word-most preᶜ.unread placeᶜ.ensures take-charsᶜ.ensures preᶜ.target (sym has-word-roomᶜ.ensures ∙ not-false has-word-roomᶜ.result if1ᶜ.false) }
 
 pub read_past-requires : goal.read_past-requires
 read_past-requires c =
@@ -118,4 +118,4 @@ returns c =
     let deliverᶜ = c.deliver in
     done-right preᶜ.unread.stands (read_up (until_chars argsᶜ.test (first_chars (components_in argsᶜ.given.now))) argsᶜ.input.now argsᶜ.i argsᶜ.at_end argsᶜ.j) refl
     (read_done preᶜ.unread placeᶜ.ensures take-charsᶜ.ensures preᶜ.target (sym has-word-roomᶜ.ensures ∙ not-false has-word-roomᶜ.result if1ᶜ.false) make-wordᶜ.ensures argsᶜ.at_end
-    (one-after (state_at argsᶜ.pool.now argsᶜ.ends.now argsᶜ.nums.now) (past (nth I argsᶜ.i) take-charsᶜ.result.taken) (λ z. minus_unless take-charsᶜ.result.reached (into (nth (writing argsᶜ.at_end) argsᶜ.j) (components_in (take make-wordᶜ.result make-wordᶜ.new.0)) z)) read-pastᶜ.ensures deliverᶜ.ensures))
+    (one-after (state_at argsᶜ.pool.now argsᶜ.ends.now argsᶜ.nums.now) (past (nth I argsᶜ.i) take-charsᶜ.result.taken) (λ z. minus_unless take-charsᶜ.result.reached (into (nth (writing argsᶜ.at_end) argsᶜ.j) (components_in (take make-wordᶜ.result make-wordᶜ.new.out)) z)) read-pastᶜ.ensures deliverᶜ.ensures))

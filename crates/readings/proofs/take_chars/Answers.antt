@@ -1,4 +1,5 @@
 -- `readings::take_chars` meets its contract.
+use borrow.Enum.Refused.{opened}
 use borrow.Author.Rules.{rules}
 use mathlib.Core.List.{List}
 use mathlib.Core.Path.{subst}
@@ -12,8 +13,7 @@ pub first_chars-n-requires : goal.first_chars-n-requires
 first_chars-n-requires c =
     let argsᶜ = c.args in
     let preᶜ = c.requires in
-    let enum-toldᶜ = c.enum_told-1 in
-    firsts-room argsᶜ.test argsᶜ.given.now (preᶜ) enum-toldᶜ.given.1
+    firsts-room argsᶜ.test argsᶜ.given.now (preᶜ) c.in-Among.is
 
 pub slice_bounds-count_chars-end : goal.slice_bounds-count_chars-end
 slice_bounds-count_chars-end c =
@@ -37,4 +37,4 @@ returns-in_default c =
     let argsᶜ = c.args in
     let matchᶜ = c.in_default.in_default-own in
     let count-chars2ᶜ = c.count_chars-in_default in
-    took-free argsᶜ.test argsᶜ.given.now matchᶜ.keys2 count-chars2ᶜ.ensures
+    took-free argsᶜ.test argsᶜ.given.now (opened matchᶜ.keys2) count-chars2ᶜ.ensures

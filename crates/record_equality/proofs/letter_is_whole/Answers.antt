@@ -1,4 +1,5 @@
 -- `record_equality::letter_is_whole` meets its contract.
+use borrow.Enum.Refused.{opened}
 use borrow.Author.Rules.{rules}
 use Rattle.record_equality.proofs.Wholes.{letter-left}
 use Rattle.record_equality.proofs.letter_is_whole.Goals as goal
@@ -8,4 +9,4 @@ returns-in_default c =
     let argsᶜ = c.args in
     let preᶜ = c.requires in
     let matchᶜ = c.in_default.in_default-own in
-    letter-left argsᶜ.l (preᶜ) matchᶜ.keys2
+    letter-left argsᶜ.l (preᶜ) (opened matchᶜ.keys2)

@@ -2,7 +2,7 @@
 use borrow.Author.Rules.{rules}
 use Rattle.record_equality.proofs.Rows.{meets-whole, meets-first}
 use Rattle.equality.proofs.Meeting.{fitting-by}
-use Rattle.layout.specs.ComponentLaws.{whole-components}
+use Rattle.layout.proofs.ComponentLaws.{whole-components}
 use Rattle.record_equality.proofs.meets.Goals as goal
 
 pub is_whole-requires : goal.is_whole-requires

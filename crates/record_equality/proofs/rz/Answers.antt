@@ -4,7 +4,7 @@ use Rattle.record_equality.proofs.Rows.{rz-none, rz-stop, rz-unlike, rz-done}
 use Rattle.equality.proofs.Rows.{held-long}
 use Rattle.equality.proofs.Questions.{leading-other}
 use Rattle.tests.proofs.Values.{leading}
-use Rattle.layout.specs.ComponentLaws.{whole-components}
+use Rattle.layout.proofs.ComponentLaws.{whole-components}
 use Rattle.state.specs.Working.{state_at}
 use Rattle.packed.specs.Packed.{table_of}
 use mathlib.Core.List.{[]}

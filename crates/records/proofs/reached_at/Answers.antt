@@ -4,8 +4,7 @@ use Rattle.records.proofs.reached_at.Goals as goal
 
 pub returns-in-First : goal.returns-in-First
 returns-in-First c =
-    let test = c.test-1 in
-    rw test.given.1 c.reached.ensures
+    rw c.in-First.is c.reached.ensures
 
 pub returns-in-Whole : goal.returns-in-Whole
 returns-in-Whole c = rw c.in-Whole.is

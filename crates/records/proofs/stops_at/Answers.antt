@@ -1,7 +1,7 @@
 -- `records::stops_at` meets its contract.
 use mathlib.Core.Path.{subst}
 use lib.ListN.{drop}
-use Rattle.layout.specs.ComponentLaws.{components-of, whole-components}
+use Rattle.layout.proofs.ComponentLaws.{components-of, whole-components}
 use Rattle.layout.specs.Components.{components_in, record_in}
 use Rattle.matching.specs.Tests.{until}
 use Rattle.records.specs.Sequences.{FittingRecords}
@@ -23,9 +23,8 @@ pub stops_first-requires : goal.stops_first-requires
 stops_first-requires c =
     let contents_at = c.contents_at-contents in
     let args = c.args in
-    let test = c.test-1 in
     let pre = c.requires in
-    first-stoppable (components_in contents_at.result.now) c.first_of.ensures (subst (λ t. FittingRecords t args.given.now) test.given.1 pre.fitting)
+    first-stoppable (components_in contents_at.result.now) c.first_of.ensures (subst (λ t. FittingRecords t args.given.now) c.in-First.is pre.fitting)
 
 pub same_contents-requires : goal.same_contents-requires
 same_contents-requires c =
@@ -36,10 +35,9 @@ same_contents-requires c =
 
 pub returns-in-First : goal.returns-in-First
 returns-in-First c =
-    let test = c.test-1 in
     let args = c.args in
     let contents_at = c.contents_at-contents in
-    rw test.given.1 (first_stops (until test.given.0.0 args.given.now) args.k (record_in (drop args.at args.s.now)) contents_at.ensures c.first_of.ensures c.stops_first.ensures)
+    rw c.in-First.is (first_stops (until c.in-First.t args.given.now) args.k (record_in (drop args.at args.s.now)) contents_at.ensures c.first_of.ensures c.stops_first.ensures)
 
 pub returns-in-Whole : goal.returns-in-Whole
 returns-in-Whole c =

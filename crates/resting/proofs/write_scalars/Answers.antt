@@ -18,7 +18,7 @@ pub loop-k-smaller : goal.loop-k-smaller
 loop-k-smaller c = omega (arith, c.loop-k-test.true)
 
 pub loop-k-preserved : goal.loop-k-preserved
-loop-k-preserved c = writing_more (c.requires) c.loop-k.invariant c.loop-k-test.true c.read-n.ensures.is c.put_three.ensures c.put_three.auto.0
+loop-k-preserved c = writing_more (c.requires) c.loop-k.invariant c.loop-k-test.true c.read-n.ensures.is c.put_three.ensures (omega arith)
 
 pub returns : goal.returns
 returns c = writing-all (c.requires) c.loop-k.invariant c.loop-k-test.false

@@ -29,13 +29,13 @@ loop-count-preserved c =
     let step = c.step-stop in
     let loop = c.loop-count in
     record {
-      going = going_more loop.invariant.going step.ensures c.loop-count-test.true c.if-stop-ne0.false step.auto.1.1.1.1.1.1.0 step.auto.1.1.1.1.1.1.1.0 step.auto.1.1.1.1.1.1.1.1.0;
-      pool_is = step.auto.1.1.1.0 ∙ loop.invariant.pool_is;
-      ends_is = step.auto.1.1.1.1.0 ∙ loop.invariant.ends_is;
-      nums_is = step.auto.1.1.1.1.1.0 ∙ loop.invariant.nums_is;
-      scratch_is = step.auto.1.1.1.1.1.1.0 ∙ loop.invariant.scratch_is;
-      hold_is = step.auto.1.1.1.1.1.1.1.0 ∙ loop.invariant.hold_is;
-      given_is = step.auto.1.1.1.1.1.1.1.1.0 ∙ loop.invariant.given_is;
+      going = going_more loop.invariant.going step.ensures c.loop-count-test.true c.if-stop-ne0.false (omega arith) (omega arith) (omega arith);
+      pool_is = (omega arith) ∙ loop.invariant.pool_is;
+      ends_is = (omega arith) ∙ loop.invariant.ends_is;
+      nums_is = (omega arith) ∙ loop.invariant.nums_is;
+      scratch_is = (omega arith) ∙ loop.invariant.scratch_is;
+      hold_is = (omega arith) ∙ loop.invariant.hold_is;
+      given_is = (omega arith) ∙ loop.invariant.given_is;
     }
 
 pub returns : goal.returns

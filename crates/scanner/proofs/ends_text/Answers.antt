@@ -4,4 +4,5 @@ use Rattle.syntax.specs.Items.{ends_text}
 use Rattle.scanner.proofs.ends_text.Goals as goal
 
 pub returns : goal.returns
+unfolding ends_text
 returns c = refl

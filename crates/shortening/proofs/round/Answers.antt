@@ -19,7 +19,7 @@ loop-left-smaller c = c.line_start-from.ensures.below
 
 pub loop-left-preserved : goal.loop-left-preserved
 loop-left-preserved c =
-    on-round c.requires c.loop-left.invariant c.line_start-from.ensures c.try_without-size.ensures c.try_without-size.auto.0 c.try_without-size.auto.1.1.1.1.1.0
+    on-round c.requires c.loop-left.invariant c.line_start-from.ensures c.try_without-size.ensures (omega arith) (omega arith)
 
 pub returns : goal.returns
 returns c = round-end c.loop-left.invariant.trying (omega (arith, c.loop-left-test.false))

@@ -1,4 +1,5 @@
 -- `shortening::rounds` meets its contract.
+use native.Mathlib.Omega.{arith}
 use mathlib.Core.Path.{◌∙◌}
 use lib.ListN.{length}
 use Rattle.shortening.proofs.Rounding.{InRounds, in-rounds, may-try, on-rounds, finished, falls}
@@ -12,12 +13,12 @@ round-left-requires c = may-try c.requires c.loop-size.invariant
 
 pub returns-then-left-size : goal.returns-then-left-size
 returns-then-left-size c =
-    finished c.requires c.loop-size.invariant c.round-left.ensures c.round-left.auto.0 c.if-left-size.true
+    finished c.requires c.loop-size.invariant c.round-left.ensures (omega arith) c.if-left-size.true
 
 pub loop-size-smaller : goal.loop-size-smaller
 loop-size-smaller c =
-    falls c.loop-size.invariant.going c.round-left.ensures c.round-left.auto.0 c.if-left-size.false
+    falls c.loop-size.invariant.going c.round-left.ensures (omega arith) c.if-left-size.false
 
 pub loop-size-preserved : goal.loop-size-preserved
 loop-size-preserved c =
-    on-rounds c.requires c.loop-size.invariant c.round-left.ensures c.round-left.auto.0 c.if-left-size.false c.round-left.auto.1.1.1.0
+    on-rounds c.requires c.loop-size.invariant c.round-left.ensures (omega arith) c.if-left-size.false (omega arith)

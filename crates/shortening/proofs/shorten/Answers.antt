@@ -29,8 +29,8 @@ returns-then-r-eq80 c =
 
 pub shorten_refused-requires : goal.shorten_refused-requires
 shorten_refused-requires c =
-    refused-text c.args.text.now c.args.table.now c.args.out.now c.load-r.ensures c.if-r-eq40.false c.if-out-text.false c.if-r-eq80.false c.load-r.auto.1.0
+    refused-text c.args.text.now c.args.table.now c.args.out.now c.load-r.ensures c.if-r-eq40.false c.if-out-text.false c.if-r-eq80.false (omega arith)
 
 pub returns : goal.returns
 returns c =
-    refused-given c.args.text.now c.args.table.now c.args.out.now c.load-r.ensures c.if-r-eq40.false c.if-out-text.false c.if-r-eq80.false c.load-r.auto.1.0 c.shorten_refused.ensures
+    refused-given c.args.text.now c.args.table.now c.args.out.now c.load-r.ensures c.if-r-eq40.false c.if-out-text.false c.if-r-eq80.false (omega arith) c.shorten_refused.ensures

@@ -1,4 +1,5 @@
 -- `shortening::shorten_refused` meets its contract.
+use native.Mathlib.Omega.{arith}
 use mathlib.Core.Path.{sym}
 use lib.Seq.{length-take-le}
 use Rattle.shortening.proofs.Giving.{table-long, first-cells, fits-row, tryable, within-row, givable, part-written}
@@ -24,11 +25,11 @@ slice_bounds-rounds-end-3 c =
 
 pub rounds-size-requires : goal.rounds-size-requires
 rounds-size-requires c =
-    tryable c.args.table.now c.requires c.put.auto.0
+    tryable c.args.table.now c.requires (omega arith)
 
 pub slice_bounds-part-end : goal.slice_bounds-part-end
 slice_bounds-part-end c =
-    within-row c.args.table.now c.requires c.put.auto.0 c.put.ensures c.rounds-size.ensures c.rounds-size.auto.0
+    within-row c.args.table.now c.requires (omega arith) c.put.ensures c.rounds-size.ensures (omega arith)
 
 pub slice_bounds-give-end : goal.slice_bounds-give-end
 slice_bounds-give-end c = search rules
@@ -38,4 +39,4 @@ give-requires c = search rules
 
 pub returns : goal.returns
 returns c =
-    part-written c.args.table.now c.requires c.put.ensures c.rounds-size.ensures c.rounds-size.new.1.1.1.0 c.rounds-size.auto.1.1.1.0 c.give.ensures
+    part-written c.args.table.now c.requires c.put.ensures c.rounds-size.ensures c.rounds-size.new.table (omega arith) c.give.ensures

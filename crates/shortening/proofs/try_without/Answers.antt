@@ -30,7 +30,7 @@ returns-then-r-number c =
 
 pub exchange-requires-2 : goal.exchange-requires-2
 exchange-requires-2 c =
-    exchangeable-back c.requires c.exchange.ensures c.exchange.auto.0
+    exchangeable-back c.requires c.exchange.ensures (omega arith)
 
 pub returns : goal.returns
 returns c =

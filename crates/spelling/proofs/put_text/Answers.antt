@@ -1,4 +1,5 @@
 -- `spelling::put_text` meets its contract.
+use native.Mathlib.Omega.{arith}
 use mathlib.Core.Path.{◌≡◌, refl, ◌∙◌}
 use Prim.Native.Nat.{◌-◌}
 use lib.ListN.{length}
@@ -28,7 +29,7 @@ pub loop-i-preserved : goal.loop-i-preserved
 loop-i-preserved c =
     let h = c.loop-i in
     let p = c.put_char-j in
-    (p.auto.0 ∙ h.invariant.0, rw c.takes_next-star.ensures (put_on c.requires h.invariant.1 c.loop-i-test.true p.ensures))
+    ((omega arith) ∙ h.invariant.0, rw c.takes_next-star.ensures (put_on c.requires h.invariant.1 c.loop-i-test.true p.ensures))
 
 pub returns : goal.returns
 returns c = put-done c.loop-i.invariant.1 c.loop-i-test.false

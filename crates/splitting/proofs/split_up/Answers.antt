@@ -67,7 +67,7 @@ split-n-requires c =
     let expr-bytesᶜ = c.expr_bytes-x in
     let chars-ofᶜ = c.chars_of-w in
     let take-charsᶜ = c.take_chars-t in
-    split-fits preᶜ.stands preᶜ.source expr-bytesᶜ.ensures preᶜ.first_word chars-ofᶜ.ensures take-charsᶜ.ensures (length take-charsᶜ.new.1.1.1.0) (omega (arith, take-charsᶜ.auto.1.1.1.0, preᶜ.room))
+    split-fits preᶜ.stands preᶜ.source expr-bytesᶜ.ensures preᶜ.first_word chars-ofᶜ.ensures take-charsᶜ.ensures (length take-charsᶜ.new.hold) (omega (arith, preᶜ.room))
 
 pub overflow_add-m : goal.overflow_add-m
 overflow_add-m c =
@@ -116,4 +116,4 @@ returns c =
     let deliverᶜ = c.deliver in
     done-right preᶜ.stands (split_up (until_chars argsᶜ.test (first_chars (components_in argsᶜ.given.now))) argsᶜ.removes argsᶜ.i) refl
     (split_done preᶜ.stands preᶜ.source expr-bytesᶜ.ensures preᶜ.first_word chars-ofᶜ.ensures take-charsᶜ.ensures argsᶜ.removes splitᶜ.ensures
-    (one-after (state_at argsᶜ.pool.now argsᶜ.ends.now argsᶜ.nums.now) (past (nth (reading argsᶜ.removes) argsᶜ.i) 1) (λ z. minus_unless take-charsᶜ.result.reached (into (nth (writing false) argsᶜ.i) (components_in (take splitᶜ.result splitᶜ.new.0)) z)) past-partsᶜ.ensures deliverᶜ.ensures))
+    (one-after (state_at argsᶜ.pool.now argsᶜ.ends.now argsᶜ.nums.now) (past (nth (reading argsᶜ.removes) argsᶜ.i) 1) (λ z. minus_unless take-charsᶜ.result.reached (into (nth (writing false) argsᶜ.i) (components_in (take splitᶜ.result splitᶜ.new.out)) z)) past-partsᶜ.ensures deliverᶜ.ensures))

@@ -54,7 +54,7 @@ loop-at-preserved c =
     let a = c.byte_at in
     let b = c.byte_at-in-loop-at in
     let gather = c.gather-n in
-    let kept = gather.auto.1.1.1.1.1.0 in
+    let kept = (omega arith) in
     let size = size-next loop.invariant.1 h a.result b.result a.ensures.is b.ensures.is in
     (kept ∙ loop.invariant.0, gathering-more loop.invariant.1 h size gather.ensures kept c.line_length-at.ensures)
 

@@ -1,4 +1,5 @@
 -- `state_contents::lay_state` meets its contract.
+use native.Mathlib.Omega.{arith}
 use mathlib.Core.Path.{◌∙◌}
 use Rattle.state_contents.proofs.Laying.{zeros-long, state-laid}
 use borrow.Author.Rules.{rules}
@@ -12,10 +13,10 @@ lay_head-requires c =
 pub lay_strings-requires : goal.lay_strings-requires
 lay_strings-requires c =
     let pre = c.requires in
-    record { sound = pre.0; long = c.lay_head.auto.1.0 ∙ zeros-long pre.1; room = search rules }
+    record { sound = pre.0; long = (omega arith) ∙ zeros-long pre.1; room = search rules }
 
 pub returns : goal.returns
 returns c =
     let head = c.lay_head in
     let strings = c.lay_strings in
-    state-laid c.requires.1 head.ensures strings.ensures head.auto.1.0 strings.auto.1.0
+    state-laid c.requires.1 head.ensures strings.ensures (omega arith) (omega arith)

@@ -1,4 +1,5 @@
 -- `state_contents::lay_strings` meets its contract. The invariant: the first j strings are laid, if all have room.
+use native.Mathlib.Omega.{arith}
 use borrow.Author.Rules.{rules}
 use mathlib.Core.Path.{◌≡◌, ◌∙◌}
 use Prim.Native.Nat.{◌-◌}
@@ -36,8 +37,8 @@ loop-j-preserved c =
     let loop = c.loop-j in
     let string = c.string-s in
     let put = c.put_string-at in
-    let laid = laying-more c.requires.long loop.invariant.1 c.loop-j-test.true string.ensures.is put.ensures put.auto.0 in
-    (string.auto.1.1.0 ∙ loop.invariant.0, laid)
+    let laid = laying-more c.requires.long loop.invariant.1 c.loop-j-test.true string.ensures.is put.ensures (omega arith) in
+    ((omega arith) ∙ loop.invariant.0, laid)
 
 pub returns : goal.returns
 returns c = laying-all c.loop-j.invariant.1 c.loop-j-test.false

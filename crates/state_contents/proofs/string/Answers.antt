@@ -12,7 +12,7 @@ pub returns-then-j-lt-FIRST_FILE : goal.returns-then-j-lt-FIRST_FILE
 returns-then-j-lt-FIRST_FILE c =
     let a = c.args in
     let w = c.whole in
-    expr-stands a.text.now a.j (w.auto.1.1.1.0 ∙ c.requires.room) c.if-j-lt-FIRST_FILE.true w.ensures
+    expr-stands a.text.now a.j ((omega arith) ∙ c.requires.room) c.if-j-lt-FIRST_FILE.true w.ensures
 
 pub half-requires : goal.half-requires
 half-requires c = c.requires.sound
@@ -21,7 +21,7 @@ pub returns-then-j-lt-STACK_STRING : goal.returns-then-j-lt-STACK_STRING
 returns-then-j-lt-STACK_STRING c =
     let a = c.args in
     let w = c.half in
-    file-stands a.text.now a.j (w.auto.1.1.1.0 ∙ c.requires.room) c.if-j-lt-FIRST_FILE.false c.if-j-lt-STACK_STRING.true w.ensures
+    file-stands a.text.now a.j ((omega arith) ∙ c.requires.room) c.if-j-lt-FIRST_FILE.false c.if-j-lt-STACK_STRING.true w.ensures
 
 pub whole-requires-then-j-eq-STACK_STRING : goal.whole-requires-then-j-eq-STACK_STRING
 whole-requires-then-j-eq-STACK_STRING c = c.requires.sound
@@ -30,7 +30,7 @@ pub returns-then-j-eq-STACK_STRING : goal.returns-then-j-eq-STACK_STRING
 returns-then-j-eq-STACK_STRING c =
     let a = c.args in
     let w = c.whole-then-j-eq-STACK_STRING in
-    stack-stands a.text.now a.j (w.auto.1.1.1.0 ∙ c.requires.room) c.if-j-eq-STACK_STRING.true w.ensures
+    stack-stands a.text.now a.j ((omega arith) ∙ c.requires.room) c.if-j-eq-STACK_STRING.true w.ensures
 
 pub whole-requires-2 : goal.whole-requires-2
 whole-requires-2 c = c.requires.sound
@@ -39,4 +39,4 @@ pub returns : goal.returns
 returns c =
     let a = c.args in
     let w = c.whole-2 in
-    output-stands a.text.now a.j (w.auto.1.1.1.0 ∙ c.requires.room) (omega (arith, c.if-j-lt-STACK_STRING.false, c.if-j-eq-STACK_STRING.false)) c.requires.one w.ensures
+    output-stands a.text.now a.j ((omega arith) ∙ c.requires.room) (omega (arith, c.if-j-lt-STACK_STRING.false, c.if-j-eq-STACK_STRING.false)) c.requires.one w.ensures

@@ -56,12 +56,12 @@ slice_bounds-made-end c = search rules
 pub slice_bounds-put-end : goal.slice_bounds-put-end
 slice_bounds-put-end c =
     let r = c.put_saved-n in
-    sym (length-take-le r.result r.new.1.0 (omega (arith, r.auto.1.0, r.ensures.most)))
+    sym (length-take-le r.result r.new.out (omega (arith, r.ensures.most)))
 
 pub put-requires : goal.put-requires
 put-requires c =
     let r = c.put_saved-n in
-    omega (arith, length-take-le r.result r.new.1.0 (omega (arith, r.auto.1.0, r.ensures.most)), c.if-out-n.false)
+    omega (arith, length-take-le r.result r.new.out (omega (arith, r.ensures.most)), c.if-out-n.false)
 
 pub overflow_cast-result : goal.overflow_cast-result
 overflow_cast-result c = search rules

@@ -17,7 +17,7 @@ move_back_to_front-requires c =
     let len_of_lem = c.len_of-n in
     let len-of2 = c.len_of-m in
     let move-front = c.move_front in
-    second-movable pre len_of_lem.ensures len-of2.ensures move-front.ensures (omega (arith, move-front.auto, pre.spare)) (omega (arith, move-front.auto, pre.room))
+    second-movable pre len_of_lem.ensures len-of2.ensures move-front.ensures (omega (arith, pre.spare)) (omega (arith, pre.room))
 
 pub returns : goal.returns
 returns c =

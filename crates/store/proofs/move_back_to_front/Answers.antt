@@ -17,13 +17,13 @@ pub slice_bounds-push_front-end : goal.slice_bounds-push_front-end
 slice_bounds-push_front-end c =
     let pre = c.requires in
     let copy-out = c.copy_out in
-    omega (arith, n-most pre, copy-out.auto, pre.room)
+    omega (arith, n-most pre, pre.room)
 
 pub slice_bounds-push_front-end-2 : goal.slice_bounds-push_front-end-2
 slice_bounds-push_front-end-2 c =
     let pre = c.requires in
     let copy-out = c.copy_out in
-    simp length-take (omega (arith, n-most pre, copy-out.auto, pre.room))
+    simp length-take (omega (arith, n-most pre, pre.room))
 
 pub push_front-requires : goal.push_front-requires
 push_front-requires c =

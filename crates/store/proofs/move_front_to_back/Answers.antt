@@ -16,13 +16,13 @@ pub slice_bounds-push_back-end : goal.slice_bounds-push_back-end
 slice_bounds-push_back-end c =
     let pre = c.requires in
     let copy-out = c.copy_out in
-    omega (arith, n-most pre, copy-out.auto, pre.room)
+    omega (arith, n-most pre, pre.room)
 
 pub slice_bounds-push_back-end-2 : goal.slice_bounds-push_back-end-2
 slice_bounds-push_back-end-2 c =
     let pre = c.requires in
     let copy-out = c.copy_out in
-    simp length-take (omega (arith, n-most pre, copy-out.auto, pre.room))
+    simp length-take (omega (arith, n-most pre, pre.room))
 
 pub push_back-requires : goal.push_back-requires
 push_back-requires c =

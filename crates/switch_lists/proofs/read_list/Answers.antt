@@ -1,4 +1,5 @@
 -- `switch_lists::read_list` meets its contract.
+use Rattle.statements.specs.StatementLaws.{on}
 use borrow.Author.Rules.{rules}
 use mathlib.Core.Path.{sym, ap, ◌∙◌}
 use native.Mathlib.Omega.{arith}
@@ -56,6 +57,6 @@ loop-before-preserved c = let uᵛ = c.loop-before.invariant in
     let kᵛ = c.next_item-u.ensures in
     let onᵛ = sym c.stops.ensures ∙ c.if-stops.false in
     let aᵛ = c.lower-a.ensures ∙ ap (λ (f : Fault). lower c.loop-before.fault f) c.at_if.ensures in
-    reading-more uᵛ kᵛ onᵛ aᵛ c.is_name-name.ensures c.put_item.ensures c.put_item.auto.1.1.1.0 c.put_item.auto.1.1.1.1.0
+    reading-more uᵛ kᵛ onᵛ aᵛ c.is_name-name.ensures c.put_item.ensures (omega arith) (omega arith)
     (c.lower-fault.ensures ∙ ap (λ (f : Fault). lower c.lower-a.result f) c.at_if-in-loop-before.ensures)
     (c.lower-over.ensures ∙ ap (λ (f : Fault). lower c.loop-before.over f) c.at_if-in-loop-before-2.ensures) c.worse-w.ensures (ap (λ (j : ℕ). c.loop-before.words + j) c.one_if-words.ensures)

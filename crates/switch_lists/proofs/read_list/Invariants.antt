@@ -1,4 +1,5 @@
 -- `switch_lists::read_list` meets its contract.
+use Rattle.statements.specs.StatementLaws.{on}
 use borrow.Author.Rules.{rules}
 use mathlib.Core.Path.{sym, ap, ◌∙◌}
 use native.Mathlib.Omega.{arith}

@@ -54,7 +54,7 @@ returns-in-6 c =
     let k = c.args.k in
     let x = get_or c.args.table.now k 0 in
     let e : cell t k ≡ x = cell_in c.args.table.now k c.requires.below in
-    numbered t k x e c.number_by.result (omega (arith, c.number_by.type-inv)) c.in-6.is c.number_by.ensures
+    numbered t k x e c.number_by.result (omega (arith, c.number_by.type_inv)) c.in-6.is c.number_by.ensures
 
 pub returns-in_default : goal.returns-in_default
 returns-in_default c =

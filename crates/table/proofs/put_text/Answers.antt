@@ -26,4 +26,4 @@ returns-then-v-lt256 c = let t = table_of c.args.table.now in
 pub returns : goal.returns
 returns c =
     let z = c.put_chars in
-    text-copied c.args.table.now c.args.out.now z.new.1.1.1.0 c.read.result z.result c.args.v c.if-v-lt256.false c.read.ensures.is z.ensures
+    text-copied c.args.table.now c.args.out.now z.new.out c.read.result z.result c.args.v c.if-v-lt256.false c.read.ensures.is z.ensures

@@ -8,21 +8,18 @@ use Rattle.tests.proofs.prepare.Goals as goal
 pub prepare_letter-requires : goal.prepare_letter-requires
 prepare_letter-requires c =
     let preᶜ = c.requires in
-    let argᶜ = c.arg-1 in
-    letter-readable (preᶜ) argᶜ.given.1
+    letter-readable (preᶜ) c.in-Indexed.is
 
 pub prepare_text-requires : goal.prepare_text-requires
 prepare_text-requires c =
     let preᶜ = c.requires in
-    let arg3ᶜ = c.arg-in-Text-1 in
-    text-readable (preᶜ) arg3ᶜ.given.1
+    text-readable (preᶜ) c.in-Text.is
 
 pub returns-in-Indexed : goal.returns-in-Indexed
 returns-in-Indexed c =
     let argsᶜ = c.args in
-    let argᶜ = c.arg-1 in
     let prepare-letterᶜ = c.prepare_letter in
-    as_read (table_of argsᶜ.table.now) argᶜ.given.1 prepare-letterᶜ.ensures
+    as_read (table_of argsᶜ.table.now) c.in-Indexed.is prepare-letterᶜ.ensures
 
 pub returns-in-Class : goal.returns-in-Class
 returns-in-Class c =
@@ -32,15 +29,13 @@ returns-in-Class c =
 pub returns-in-Text : goal.returns-in-Text
 returns-in-Text c =
     let argsᶜ = c.args in
-    let arg3ᶜ = c.arg-in-Text-1 in
     let prepare-textᶜ = c.prepare_text in
-    as_read (table_of argsᶜ.table.now) arg3ᶜ.given.1 (prepare-textᶜ.ensures (state_at argsᶜ.pool.now argsᶜ.ends.now argsᶜ.nums.now).store)
+    as_read (table_of argsᶜ.table.now) c.in-Text.is (prepare-textᶜ.ensures (state_at argsᶜ.pool.now argsᶜ.ends.now argsᶜ.nums.now).store)
 
 pub returns-in-Number : goal.returns-in-Number
 returns-in-Number c =
     let argsᶜ = c.args in
-    let arg4ᶜ = c.arg-in-Number-1 in
-    as_read (table_of argsᶜ.table.now) arg4ᶜ.given.1 (c.prepare_number.ensures (state_at argsᶜ.pool.now argsᶜ.ends.now argsᶜ.nums.now).store argsᶜ.given.now)
+    as_read (table_of argsᶜ.table.now) c.in-Number.is (c.prepare_number.ensures (state_at argsᶜ.pool.now argsᶜ.ends.now argsᶜ.nums.now).store argsᶜ.given.now)
 
 pub returns-in-Nothing : goal.returns-in-Nothing
 returns-in-Nothing c =

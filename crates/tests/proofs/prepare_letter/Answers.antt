@@ -1,5 +1,6 @@
 -- `tests::prepare_letter` meets its contract.
 -- the letters left by N and T
+use borrow.Enum.Refused.{opened}
 use borrow.Author.Rules.{rules}
 use native.Mathlib.Omega.{arith}
 use mathlib.Core.Path.{◌≡◌, refl}
@@ -49,10 +50,9 @@ returns-in-N c =
 
 pub returns-in-T : goal.returns-in-T
 returns-in-T c =
-    let enum-told2ᶜ = c.enum_told-in-T-1 in
     let preᶜ = c.requires in
     let prepare-anyᶜ = c.prepare_any in
-    letter-told enum-told2ᶜ.given.1 preᶜ.index prepare-anyᶜ.ensures
+    letter-told c.in-T.is preᶜ.index prepare-anyᶜ.ensures
 
 pub returns-in_default : goal.returns-in_default
 returns-in_default c =
@@ -60,4 +60,4 @@ returns-in_default c =
     let preᶜ = c.requires in
     let matchᶜ = c.in_default.in_default-own in
     let prepare-firstᶜ = c.prepare_first in
-    letter-told (first-left argsᶜ.l preᶜ.form matchᶜ.keys3) preᶜ.index prepare-firstᶜ.ensures
+    letter-told (first-left argsᶜ.l preᶜ.form (opened matchᶜ.keys3)) preᶜ.index prepare-firstᶜ.ensures

@@ -3,7 +3,7 @@ use borrow.Author.Rules.{rules}
 use native.Mathlib.Omega.{arith}
 use lib.ListN.{length-take}
 use borrow.Author.Tests.{not-true, not-false}
-use Rattle.layout.specs.ComponentLaws.{whole-components}
+use Rattle.layout.proofs.ComponentLaws.{whole-components}
 use Rattle.transfers.proofs.Rooms.{left_most}
 use Rattle.transfers.proofs.Fetching.{pobierz-none, starts, parts_most, chars_most, first, pobierz-full, pobierz-writable, pobierz-done}
 use Rattle.transfers.proofs.pobierz.Goals as goal
@@ -94,7 +94,7 @@ slice_bounds-write_parts-end c =
     let after-bytesᶜ = c.after_bytes-f in
     let preᶜ = c.requires in
     let copyᶜ = c.copy in
-    omega (arith, contents-atᶜ.ensures.most, after-bytesᶜ.ensures.most, preᶜ.ready.room, copyᶜ.auto)
+    omega (arith, contents-atᶜ.ensures.most, after-bytesᶜ.ensures.most, preᶜ.ready.room)
 
 pub slice_bounds-write_parts-end-2 : goal.slice_bounds-write_parts-end-2
 slice_bounds-write_parts-end-2 c =
@@ -102,7 +102,7 @@ slice_bounds-write_parts-end-2 c =
     let after-bytesᶜ = c.after_bytes-f in
     let preᶜ = c.requires in
     let copyᶜ = c.copy in
-    simp length-take (omega (arith, contents-atᶜ.ensures.most, after-bytesᶜ.ensures.most, preᶜ.ready.room, copyᶜ.auto))
+    simp length-take (omega (arith, contents-atᶜ.ensures.most, after-bytesᶜ.ensures.most, preᶜ.ready.room))
 
 pub write_parts-requires : goal.write_parts-requires
 write_parts-requires c =
@@ -118,7 +118,7 @@ write_parts-requires c =
     let if2ᶜ = c.if-not-has_room in
     let copyᶜ = c.copy in
     let past-recordsᶜ = c.past_records in
-    pobierz-writable preᶜ.ready.stands argsᶜ.removes preᶜ.source after-bytesᶜ.ensures argsᶜ.reverses argsᶜ.at_end preᶜ.target if1ᶜ.false contents-atᶜ.ensures countᶜ.ensures leftᶜ.ensures left2ᶜ.ensures has-roomᶜ.ensures (not-false has-roomᶜ.result if2ᶜ.false) argsᶜ.hold.now copyᶜ.ensures past-recordsᶜ.ensures (omega (arith, preᶜ.ready.spare, past-recordsᶜ.auto.1.1.1.0))
+    pobierz-writable preᶜ.ready.stands argsᶜ.removes preᶜ.source after-bytesᶜ.ensures argsᶜ.reverses argsᶜ.at_end preᶜ.target if1ᶜ.false contents-atᶜ.ensures countᶜ.ensures leftᶜ.ensures left2ᶜ.ensures has-roomᶜ.ensures (not-false has-roomᶜ.result if2ᶜ.false) argsᶜ.hold.now copyᶜ.ensures past-recordsᶜ.ensures (omega (arith, preᶜ.ready.spare))
 
 pub returns : goal.returns
 returns c =

@@ -100,7 +100,7 @@ slice_bounds-write_records-end c =
     let if1ᶜ = c.if-n-eq0 in
     let countᶜ = c.count-t in
     let put-recordᶜ = c.put_record in
-    omega (arith, few_bytes preᶜ.stands argsᶜ.removes preᶜ.first expr-bytesᶜ.ensures argsᶜ.turned preᶜ.second if1ᶜ.false countᶜ.ensures, put-recordᶜ.auto, preᶜ.room)
+    omega (arith, few_bytes preᶜ.stands argsᶜ.removes preᶜ.first expr-bytesᶜ.ensures argsᶜ.turned preᶜ.second if1ᶜ.false countᶜ.ensures, preᶜ.room)
 
 pub slice_bounds-write_records-end-2 : goal.slice_bounds-write_records-end-2
 slice_bounds-write_records-end-2 c =
@@ -110,7 +110,7 @@ slice_bounds-write_records-end-2 c =
     let if1ᶜ = c.if-n-eq0 in
     let countᶜ = c.count-t in
     let put-recordᶜ = c.put_record in
-    simp length-take (omega (arith, few_bytes preᶜ.stands argsᶜ.removes preᶜ.first expr-bytesᶜ.ensures argsᶜ.turned preᶜ.second if1ᶜ.false countᶜ.ensures, put-recordᶜ.auto, preᶜ.room))
+    simp length-take (omega (arith, few_bytes preᶜ.stands argsᶜ.removes preᶜ.first expr-bytesᶜ.ensures argsᶜ.turned preᶜ.second if1ᶜ.false countᶜ.ensures, preᶜ.room))
 
 pub write_records-requires : goal.write_records-requires
 write_records-requires c =

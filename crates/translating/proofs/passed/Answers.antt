@@ -1,4 +1,5 @@
 -- `translating::passed` meets its contract.
+use native.Mathlib.Omega.{arith}
 use borrow.Author.Rules.{rules}
 use borrow.Author.Tests.{not-true, not-false}
 use Rattle.translating.proofs.Passes.{item_passed, operator-passed}
@@ -36,4 +37,4 @@ append_other-requires c = search rules
 
 pub returns : goal.returns
 returns c =
-    operator-passed c.requires c.is_operator-operates.ensures (not-false _ c.if-not-is_awaited.false-raw) c.append-n.ensures c.append-n.auto.0 c.append_other.ensures c.append_other.auto.1.0
+    operator-passed c.requires c.is_operator-operates.ensures (not-false _ c.if-not-is_awaited.false-raw) c.append-n.ensures (omega arith) c.append_other.ensures (omega arith)

@@ -26,7 +26,7 @@ pub append-requires : goal.append-requires
 append-requires c = omega (arith, c.loop-t.invariant.1, c.requires)
 
 pub returns-then-t-eq-NOTHING : goal.returns-then-t-eq-NOTHING
-returns-then-t-eq-NOTHING c = reached-last c.loop-t.invariant.0 c.next_item-t.ensures c.if-t-eq-NOTHING.true c.append.ensures c.append.auto.0
+returns-then-t-eq-NOTHING c = reached-last c.loop-t.invariant.0 c.next_item-t.ensures c.if-t-eq-NOTHING.true c.append.ensures (omega arith)
 
 pub passed-p-requires : goal.passed-p-requires
 passed-p-requires c = record { reached = c.loop-t.invariant.0; found = c.next_item-t.ensures; item = c.if-t-eq-NOTHING.false; low = omega (arith, c.loop-t.invariant.1, c.requires) }
@@ -37,4 +37,4 @@ loop-t-smaller c =
     omega (arith, c.passed-p.ensures.behind, f.from, f.stands.some c.if-t-eq-NOTHING.false, f.stands.behind, f.stands.most)
 
 pub loop-t-preserved : goal.loop-t-preserved
-loop-t-preserved c = (c.passed-p.ensures.reached, c.passed-p.auto.1.1.1.0 ∙ c.loop-t.invariant.1)
+loop-t-preserved c = (c.passed-p.ensures.reached, (omega arith) ∙ c.loop-t.invariant.1)

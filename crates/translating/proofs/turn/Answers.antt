@@ -15,12 +15,12 @@ respell-n-requires c = search rules
 pub returns-then-n-gt-TEXT : goal.returns-then-n-gt-TEXT
 returns-then-n-gt-TEXT c =
     let r = c.respell-n in
-    beyond-gives c.args.text.now c.requires r.ensures r.auto.1.0 c.args.out.now c.if-n-gt-TEXT.true
+    beyond-gives c.args.text.now c.requires r.ensures (omega arith) c.args.out.now c.if-n-gt-TEXT.true
 
 pub returns-then-out-n : goal.returns-then-out-n
 returns-then-out-n c =
     let r = c.respell-n in
-    narrow_gives c.args.text.now c.requires r.ensures r.auto.1.0 c.args.out.now c.if-n-gt-TEXT.false c.if-out-n.true
+    narrow_gives c.args.text.now c.requires r.ensures (omega arith) c.args.out.now c.if-n-gt-TEXT.false c.if-out-n.true
 
 pub slice_bounds-made-end : goal.slice_bounds-made-end
 slice_bounds-made-end c = search rules
@@ -28,12 +28,12 @@ slice_bounds-made-end c = search rules
 pub slice_bounds-put-end : goal.slice_bounds-put-end
 slice_bounds-put-end c =
     let r = c.respell-n in
-    sym (length-take-le r.result r.new.1.0 (omega (arith, r.auto.1.0, c.if-n-gt-TEXT.false)))
+    sym (length-take-le r.result r.new.made (omega (arith, c.if-n-gt-TEXT.false)))
 
 pub put-requires : goal.put-requires
 put-requires c =
     let r = c.respell-n in
-    omega (arith, length-take-le r.result r.new.1.0 (omega (arith, r.auto.1.0, c.if-n-gt-TEXT.false)), c.if-out-n.false)
+    omega (arith, length-take-le r.result r.new.made (omega (arith, c.if-n-gt-TEXT.false)), c.if-out-n.false)
 
 pub overflow_cast-result : goal.overflow_cast-result
 overflow_cast-result c = search rules
@@ -41,4 +41,4 @@ overflow_cast-result c = search rules
 pub returns : goal.returns
 returns c =
     let r = c.respell-n in
-    fitting-gives c.args.text.now c.requires r.ensures r.auto.1.0 c.args.out.now c.if-n-gt-TEXT.false c.if-out-n.false c.put.ensures
+    fitting-gives c.args.text.now c.requires r.ensures (omega arith) c.args.out.now c.if-n-gt-TEXT.false c.if-out-n.false c.put.ensures

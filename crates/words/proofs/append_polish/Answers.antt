@@ -25,4 +25,4 @@ returns c =
     let args = c.args in
     let j = c.wide.ensures.0 in
     let w = ap (λ (n : ℕ). of_row n (in_a_row false) (beginnings false)) j ∙ (named false args.j c.requires.0 refl refl).1 in
-    subst (λ (x : List ℕ). Appends args.out.now args.at x c.append_at.result c.append_at.new.1.1.1.0) w c.append_at.ensures
+    subst (λ (x : List ℕ). Appends args.out.now args.at x c.append_at.result c.append_at.new.out) w c.append_at.ensures

@@ -5,25 +5,33 @@ use Rattle.words.proofs.KeywordLaws.{keyword-instr, keyword-beyond, keyword-arm,
 use Rattle.words.proofs.keyword_at.Goals as goal
 
 pub returns-then-j-ge-PAIRS : goal.returns-then-j-ge-PAIRS
+unfolding keyword_at
 returns-then-j-ge-PAIRS c = keyword-beyond c.args.j c.if-j-ge-PAIRS.true
 
 pub overflow_sub-result : goal.overflow_sub-result
+unfolding keyword_at
 overflow_sub-result c = omega (arith, behind-arms c.args.j c.in_default.in_default-own.rest)
 
 pub returns-in-0 : goal.returns-in-0
+unfolding keyword_at
 returns-in-0 c = keyword-arm c.in-0.is
 
 pub returns-in-1 : goal.returns-in-1
+unfolding keyword_at
 returns-in-1 c = keyword-arm c.in-1.is
 
 pub returns-in-2 : goal.returns-in-2
+unfolding keyword_at
 returns-in-2 c = keyword-arm c.in-2.is
 
 pub returns-in-3 : goal.returns-in-3
+unfolding keyword_at
 returns-in-3 c = keyword-arm c.in-3.is
 
 pub returns-in-4 : goal.returns-in-4
+unfolding keyword_at
 returns-in-4 c = keyword-arm c.in-4.is
 
 pub returns-in_default : goal.returns-in_default
+unfolding keyword_at
 returns-in_default c = keyword-instr c.args.j (behind-arms c.args.j c.in_default.in_default-own.rest) c.if-j-ge-PAIRS.false

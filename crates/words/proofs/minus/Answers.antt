@@ -5,10 +5,13 @@ use borrow.Author.Rules.{rules}
 use Rattle.words.proofs.minus.Goals as goal
 
 pub overflow_cast-result : goal.overflow_cast-result
+unfolding minus
 overflow_cast-result c = search rules
 
 pub returns-then-n-le-SIZE : goal.returns-then-n-le-SIZE
+unfolding minus
 returns-then-n-le-SIZE c = rw (le-leb _ _ c.if-n-le-SIZE.true)
 
 pub returns : goal.returns
+unfolding minus
 returns c = rw (lt-leb _ _ c.if-n-le-SIZE.false)

@@ -5,4 +5,4 @@ use Rattle.writing.proofs.clear_table.Goals as goal
 
 pub returns : goal.returns
 returns c =
-    cleared-holds c.args.table.now c.clear_cells.new.0 (c.requires) c.clear_cells.ensures
+    cleared-holds c.args.table.now c.clear_cells.new.table (c.requires) c.clear_cells.ensures

@@ -18,7 +18,7 @@ pub write-requires-2 : goal.write-requires-2
 write-requires-2 c =
     let switches = c.switches in
     let read = c.read-switch in
-    record { room = omega (arith, c.requires.few, switches.ensures.is, c.requires.long, c.write.auto); most = omega (arith, last-read c.args.table.now switches.result read.result switches.ensures.is c.requires.few read.ensures.is c.requires.last) }
+    record { room = omega (arith, c.requires.few, switches.ensures.is, c.requires.long); most = omega (arith, last-read c.args.table.now switches.result read.result switches.ensures.is c.requires.few read.ensures.is c.requires.last) }
 
 pub overflow_add-n-2 : goal.overflow_add-n-2
 overflow_add-n-2 c = omega (arith, c.read-switch.ensures.most)
@@ -30,4 +30,4 @@ returns c =
     let entries = c.entries-n in
     let switches = c.switches in
     let read = c.read-switch in
-    entry_done c.args.table.now write.new.0 write2.new.0 c.write-3.new.0 entries.result switches.result read.result c.args.label c.args.text c.requires.long entries.ensures.is (omega (arith, entries.ensures.is, c.requires.room)) switches.ensures.is (omega (arith, switches.ensures.is, c.requires.some)) (omega (arith, switches.ensures.is, c.requires.few)) c.requires.label_low read.ensures.is write.ensures write2.ensures c.write-3.ensures
+    entry_done c.args.table.now write.new.cells write2.new.cells c.write-3.new.cells entries.result switches.result read.result c.args.label c.args.text c.requires.long entries.ensures.is (omega (arith, entries.ensures.is, c.requires.room)) switches.ensures.is (omega (arith, switches.ensures.is, c.requires.some)) (omega (arith, switches.ensures.is, c.requires.few)) c.requires.label_low read.ensures.is write.ensures write2.ensures c.write-3.ensures

@@ -8,4 +8,4 @@ pub returns : goal.returns
 returns c =
     let put_four = c.put_four in
     let instructions = c.instructions-n in
-    instr-done c.args.table.now put_four.new.0 c.write.new.0 instructions.result c.requires.long c.args.op c.args.line c.args.x c.args.y c.args.z instructions.ensures.is (omega (arith, instructions.ensures.is, c.requires.room)) put_four.ensures c.write.ensures
+    instr-done c.args.table.now put_four.new.table c.write.new.cells instructions.result c.requires.long c.args.op c.args.line c.args.x c.args.y c.args.z instructions.ensures.is (omega (arith, instructions.ensures.is, c.requires.room)) put_four.ensures c.write.ensures

@@ -12,4 +12,4 @@ write-requires c = record { room = simp length-set (omega arith); most = omega a
 pub returns : goal.returns
 returns c =
     let numbers = c.numbers-n in
-    number-done c.args.table.now _ c.write.new.0 numbers.result c.requires.long c.args.code numbers.ensures.is (omega (arith, numbers.ensures.is, c.requires.room)) refl c.write.ensures
+    number-done c.args.table.now _ c.write.new.cells numbers.result c.requires.long c.args.code numbers.ensures.is (omega (arith, numbers.ensures.is, c.requires.room)) refl c.write.ensures

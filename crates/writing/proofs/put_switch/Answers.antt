@@ -10,4 +10,4 @@ returns c =
     let switches = c.switches-n in
     let entries = c.entries-first in
     let bit = c.bit in
-    switch-done c.args.table.now write.new.0 c.write-2.new.0 switches.result entries.result bit.result c.args.named c.requires.long switches.ensures.is (omega (arith, switches.ensures.is, c.requires.room)) entries.ensures.is bit.ensures.is write.ensures c.write-2.ensures
+    switch-done c.args.table.now write.new.cells c.write-2.new.cells switches.result entries.result bit.result c.args.named c.requires.long switches.ensures.is (omega (arith, switches.ensures.is, c.requires.room)) entries.ensures.is bit.ensures.is write.ensures c.write-2.ensures

@@ -8,4 +8,4 @@ pub returns : goal.returns
 returns c =
     let put-named = c.put_named in
     let texts = c.texts-n in
-    text-done c.args.table.now put-named.new.0 c.write.new.0 texts.result c.requires.long c.args.word.now texts.ensures.is (omega (arith, texts.ensures.is, c.requires.room)) (record { most = c.requires.short; below = below_of 256 c.args.word.now (λ j. omega (arith, c.shared_slice_known-1.given j)) }) put-named.ensures c.write.ensures
+    text-done c.args.table.now put-named.new.table c.write.new.cells texts.result c.requires.long c.args.word.now texts.ensures.is (omega (arith, texts.ensures.is, c.requires.room)) (record { most = c.requires.short; below = below_of 256 c.args.word.now (λ j. omega (arith, c.shared_slice_known-1.given j)) }) put-named.ensures c.write.ensures

@@ -6,4 +6,4 @@ use Rattle.writing.proofs.set_argument.Goals as goal
 
 pub returns : goal.returns
 returns c =
-    argument-done c.args.table.now c.write.new.0 c.args.k c.args.j c.args.cell _ (omega arith) c.requires.there c.requires.few c.requires.place c.write.ensures
+    argument-done c.args.table.now c.write.new.cells c.args.k c.args.j c.args.cell _ (omega arith) c.requires.there c.requires.few c.requires.place c.write.ensures

@@ -6,4 +6,4 @@ use Rattle.writing.proofs.set_entry_label.Goals as goal
 pub returns : goal.returns
 returns c =
     let entry-text = c.entry_text-text in
-    relabelled-done c.args.table.now c.write.new.0 c.args.k c.args.label entry-text.result c.requires.there c.requires.few c.requires.label_low entry-text.ensures.is c.write.ensures
+    relabelled-done c.args.table.now c.write.new.cells c.args.k c.args.label entry-text.result c.requires.there c.requires.few c.requires.label_low entry-text.ensures.is c.write.ensures

@@ -1,0 +1,10 @@
+pub mod RowLaws
+pub mod ReaderLaws
+pub mod FreshLaws
+pub mod ReadingLaws
+pub mod ArgumentLaws
+pub mod StatementLaws
+pub mod DraftLaws
+pub mod ProgramLaws
+pub mod AcceptanceLaws
+pub mod NameLaws

@@ -1,0 +1,29 @@
+-- The answer of a call that fills a buffer is read back from the 64 bits; "its rest stays".
+use Rattle.std.specs.Prelude.{◌≡◌, refl, List, ℕ, ◌/◌, ◌%◌, ◌≤◌, ◌<◌, length, drop}
+use Rattle.std.proofs.Common.{ap, ◌∙◌, arith, length-append, length-drop, drop_at}
+use Rattle.calls.proofs.AnswerLaws.{packed-number, packed-value}
+use Rattle.calls.specs.Calls.{packed}
+use Rattle.calls.specs.Filling.{Filling, filling_number, filling_count, filling_answer, filled_in, Fills, Gives}
+use Rattle.calls.specs.Filling.Filling.{kept, fills}
+
+-- number and count, put together
+pub gives-fills : (x : Filling) (number count : ℕ) (b b' : List ℕ) → Gives x number count b b' → Fills x (packed number count) b b'
+gives-fills x number count b b' g =
+    record { answer = ap (λ n. packed n count) g.number_is ∙ ap (packed (filling_number x)) g.count_is; cells = g.cells_are }
+
+pub rest-stays : (x : Filling) (b : List ℕ) → drop (filling_count x) (filled_in x b) ≡ drop (filling_count x) b
+unfolding filled_in
+rest-stays (kept number) b = refl
+rest-stays (fills number t) b = drop_at t (drop (length t) b) (length t) refl
+
+pub filled-length : (x : Filling) (b : List ℕ) → filling_count x ≤ length b → length (filled_in x b) ≡ length b
+unfolding filled_in
+filled-length (kept number) b h = refl
+filled-length (fills number t) b h = omega (arith, length-append t (drop (length t) b), length-drop (length t) b)
+
+module _ (x : Filling) (low : filling_count x < 4294967296) where
+  pub number-back : filling_answer x / 4294967296 ≡ filling_number x
+  number-back = packed-number (filling_number x) (filling_count x) low
+
+  pub count-back : filling_answer x % 4294967296 ≡ filling_count x
+  count-back = packed-value (filling_number x) (filling_count x) low

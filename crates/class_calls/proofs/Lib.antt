@@ -1,0 +1,4 @@
+pub mod ClassLaws
+pub mod FitLaws
+pub mod UnawareLaws
+pub mod WritingLaws

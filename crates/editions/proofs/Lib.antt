@@ -1,0 +1,15 @@
+pub mod PairLaws
+pub mod MapLaws
+pub mod MovingLaws
+pub mod AcceptLaws
+pub mod TurningLaws
+pub mod ReadingLaws
+pub mod RewritingLaws
+pub mod BackLaws
+pub mod LateLaws
+pub mod SpliceLaws
+pub mod ConvertLaws
+pub mod RunLaws
+pub mod EditionLaws
+pub mod AnswerLaws
+pub mod PassingLaws

@@ -1,0 +1,4 @@
+pub mod TrailLaws
+pub mod AcceptedTableLaws
+pub mod OldTableLaws
+pub mod DemandLaws

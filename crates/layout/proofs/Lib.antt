@@ -1,0 +1,9 @@
+pub mod PlaceLaws
+pub mod CellLaws
+pub mod StringLaws
+pub mod ComponentLaws
+pub mod ProgramLaws
+pub mod FineLaws
+pub mod MemoryLaws
+pub mod ArgumentLaws
+pub mod TableLaws

@@ -1,0 +1,12 @@
+pub mod RunLaws
+pub mod SumLaws
+pub mod ValueLaws
+pub mod AddressLaws
+pub mod KeepLaws
+pub mod ChangeLaws
+pub mod CleanLaws
+pub mod EffectLaws
+pub mod WellFormedLaws
+pub mod ControlLaws
+pub mod StepLaws
+pub mod SwitchLaws

@@ -1,0 +1,4 @@
+pub mod RoundLaws
+pub mod LineLaws
+pub mod PartLaws
+pub mod CellLaws

@@ -1,0 +1,9 @@
+pub mod HexadecimalLaws
+pub mod FrameLaws
+pub mod SavedLaws
+pub mod KeepingLaws
+pub mod OutcomeLaws
+pub mod OrderLaws
+pub mod ContentLaws
+pub mod LengthLaws
+pub mod MemoryFrameLaws

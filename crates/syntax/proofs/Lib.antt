@@ -1,0 +1,5 @@
+pub mod ItemLaws
+pub mod LetterLaws
+pub mod LoadLaws
+pub mod ReservedLaws
+pub mod LineLaws
