@@ -1,11 +1,13 @@
 // The cells of an instruction's arguments in a program table that is being written: texts and numbers refer to their tables, and the mark of its name stands
 // for a label or a switch.
 #![tactic(auto)]
+
 ghost use Rattle.std.specs.Prelude.{◌≡◌, ◌<◌};
 ghost use Rattle.layout.specs.Table.{letter_place};
 ghost use Rattle.table.specs.Denote.{letter_of};
 ghost use Rattle.argument_cells.specs.ArgumentCells.{TextNamed, TextTold, Referable, Referred, Encodable, Encodes, CellAsked, CellOf};
 
+use entering::from_finding as finding;
 use layout::ArgumentKinds;
 use table::{Argument, Letter};
 
@@ -72,4 +74,14 @@ pub fn argument_cell(text: &[u8], x: Argument, table: &[u32]) -> usize
     ensures { CellOf text.now x table.now result }
 {
     encode(table, referred(text, x, table))
+}
+
+// Of `arguments`, passed on to the crates above.
+pub mod from_arguments {
+    pub use entering::from_arguments::Values;
+}
+
+// Of `entering`, passed on to the crates above.
+pub mod from_entering {
+    pub use entering::{enter_number_values, enter_text_of, enter_text_values};
 }

@@ -1,5 +1,6 @@
 // The calls for C. A slice passes as a pointer and a length; the answer has the number in its upper 32 bits and the line or the count in the lower.
 #![tactic(auto)]
+
 ghost use Rattle.std.specs.Prelude.{◌≡◌, [], ◌∷◌, length};
 ghost use Rattle.class_calls.specs.Class.{lent_of};
 ghost use Rattle.calls.specs.Calls.{packed, start_of, run_of};
@@ -9,8 +10,11 @@ ghost use Rattle.macros.specs.Load.{load_in};
 ghost use Rattle.state_frames.specs.Keeping.{write_of, read_of, Reads};
 ghost use Rattle.interpreter.specs.Answers.{Answers, AnswersLoad, AnswersShorten, AnswersClass};
 
+use class_running::from_running as running;
 use language::Machine;
-use loading::Loaded;
+use shortening::from_macro_loading as macro_loading;
+use state_restoring::from_state_saving as state_saving;
+use translating::from_loading::Loaded;
 
 // Number and value in one.
 fn packed(number: u8, value: u32) -> u64

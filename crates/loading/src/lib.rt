@@ -1,10 +1,12 @@
 // From a text without macros to the program table, or the number and the line of the first question answered no.
 #![tactic(auto)]
+
 ghost use Rattle.std.specs.Prelude.{◌≤◌, length};
 ghost use Rattle.language.specs.Limits as limit;
 ghost use Rattle.syntax.specs.Load.{text_loads, load_typed};
 ghost use Rattle.loading.specs.Texts.{Fillable, Fills, Unread, ReadsText, Loadable, LoadsText, Refuses, Lent, Leaves, Fit};
 
+use finishing::from_progress as progress;
 use language::Machine;
 use lexer::line_at;
 use reading_statements::{Read, read_statement};

@@ -1,5 +1,6 @@
 // Instructions that move components and characters, from their arguments. Each tells 0, or the question answered no; next is left to the caller.
 #![tactic(auto)]
+
 ghost use Rattle.std.specs.Prelude.{length};
 ghost use Rattle.performing.specs.Performing.{Performing, Performs};
 ghost use Rattle.performing.specs.Operating.{Carrying, PerformsFor};
@@ -8,6 +9,7 @@ ghost use Rattle.language.specs.Instructions.{number_of};
 ghost use Rattle.language.specs.Program.Op.{PRZESLIJ, CZYTAJ, PISZ, ZBIJ, ROZBIJ};
 
 use language::Operator;
+use splitting::{from_joining as joining, from_readings as readings};
 
 // PRZESLIJ.
 fn send(

@@ -1,5 +1,6 @@
 // Splitting a word: ROZBIJ.
 #![tactic(auto)]
+
 ghost use Rattle.std.specs.Prelude.{◌≡◌, true, length};
 ghost use Rattle.language.specs.Program.Arg.{nothing};
 ghost use Rattle.language.specs.Program.Op.{ROZBIJ};
@@ -12,6 +13,8 @@ ghost use Rattle.state.specs.Blocks.{ExprNamed};
 ghost use Rattle.table.specs.Denote.{arg_of};
 ghost use Rattle.instructions.specs.Does.{Tried, DoesFor};
 ghost use Rattle.splitting.specs.Splitting.{split_up, split_room, WordAsked, FewMore, Splittable, WordSplittable};
+
+use readings::from_joining as joining;
 
 // The first question answered no: a component (52) that is a word (53), and those of a test, of which `stop` is the first answered no.
 fn word_stop(pool: &[u8], ends: &[u32], nums: &[u32], i: usize, stop: u8) -> u8
@@ -116,4 +119,14 @@ pub fn rozbij(
         removes,
         i,
     )
+}
+
+// Of `joining`, passed on to the crates above.
+pub mod from_joining {
+    pub use readings::from_joining::zbij;
+}
+
+// Of `readings`, passed on to the crates above.
+pub mod from_readings {
+    pub use readings::{czytaj, usun_input};
 }

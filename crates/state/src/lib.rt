@@ -1,16 +1,18 @@
 // The state at work: what instructions read of it, and the changes that they make in it. Pool and ends hold its strings, `nums` its scalars.
 #![tactic(auto)]
+
 ghost use Rattle.std.specs.Prelude.{◌≡◌, true, ◌+◌, ◌-◌, length, get_or};
-ghost use Rattle.language.specs.Letters.Letter.{I, Q};
-ghost use Rattle.machine.specs.Changes.{with_plus, minus_unless, into, printed, past};
-ghost use Rattle.layout.specs.Components.{components_in};
-ghost use Rattle.gaps.specs.Pool.{abs, Holds};
+ghost use Rattle.store.specs.Below.Letters.Letter.{I, Q};
+ghost use Rattle.store.specs.Below.Changes.{with_plus, minus_unless, into, printed, past};
+ghost use Rattle.store.specs.Below.Components.{components_in};
+ghost use Rattle.store.specs.Below.Pool.{abs, Holds};
 ghost use Rattle.store.specs.Store.{Pushable};
 ghost use Rattle.state.specs.Working.{state_at, HoldsState, Stands, on_store, nth, reading, writing};
 ghost use Rattle.state.specs.Blocks.{Numbered, Told, InputNamed, ReadTo, ExprNamed, ExprLent, OutputNamed, OutputLong, totalled, Raisable, Lowerable, PartsDroppable, PartsWritable, pushed, ExprsExchangeable, exprs_exchanged, Printable, Readable};
-ghost use Rattle.layout.specs.Places.{components_scalar, characters_scalar};
+ghost use Rattle.store.specs.Below.LayoutPlaces.{components_scalar, characters_scalar};
 
-use layout::StatePlaces;
+use store::from_cells as cells;
+use store::from_layout::StatePlaces;
 
 // Scalar `k`: H (1 for plus), the read places, the next instruction, the last address, and the totals of components, characters and records.
 pub fn number(pool: &[u8], ends: &[u32], nums: &[u32], k: usize) -> usize
@@ -203,4 +205,14 @@ pub fn read_past(pool: &[u8], ends: &[u32], nums: &mut [u32], i: usize, k: usize
 {
     let n = cells::read(nums, StatePlaces::FIRST_PLACE + i);
     cells::write(nums, StatePlaces::FIRST_PLACE + i, n + k);
+}
+
+// Of `language`, passed on to the crates above.
+pub mod from_language {
+    pub use store::from_language::Machine;
+}
+
+// Of `layout`, passed on to the crates above.
+pub mod from_layout {
+    pub use store::from_layout::StatePlaces;
 }

@@ -1,11 +1,14 @@
 // The working store of 99 strings: readers that lend, edits at both ends of a string, and moves between strings. A string costs what is
 // moved of it, whatever the others hold.
 #![tactic(auto)]
+
 ghost use Rattle.std.specs.Prelude.{◌≡◌, ◌-◌, length, take, drop};
-ghost use Rattle.cells.specs.Cells.{pasted};
+ghost use Rattle.gaps.specs.Below.Cells.{pasted};
 ghost use Rattle.gaps.specs.Pool.{abs, string, Holds};
 ghost use Rattle.gaps.specs.Gaps.{pushed_front, pushed_back};
 ghost use Rattle.store.specs.Store.{Named, Long, Whole, Within, Part, Copyable, Droppable, dropped_front, dropped_back, Pushable, Movable, moved_front, moved_front_to_back, moved_back_to_front, Exchangeable, exchanged};
+
+use gaps::from_cells as cells;
 
 // The length of string `i`.
 pub fn len_of(pool: &[u8], ends: &[u32], i: usize) -> usize
@@ -152,4 +155,19 @@ pub fn exchange(
     let m = len_of(pool, ends, j);
     move_front(pool, ends, scratch, hold, i, j, n);
     move_back_to_front(pool, ends, scratch, hold, j, i, m);
+}
+
+// Of `cells`, passed on to the crates above.
+pub mod from_cells {
+    pub use gaps::from_cells::{read, write};
+}
+
+// Of `language`, passed on to the crates above.
+pub mod from_language {
+    pub use gaps::from_language::Machine;
+}
+
+// Of `layout`, passed on to the crates above.
+pub mod from_layout {
+    pub use gaps::from_layout::StatePlaces;
 }

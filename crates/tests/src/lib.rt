@@ -1,14 +1,18 @@
 // Reading the values of a test: "A move first reads its test's values".
 #![tactic(auto)]
+
 ghost use Rattle.std.specs.Prelude.{length};
-ghost use Rattle.language.specs.Letters.Letter.{B, T};
-ghost use Rattle.language.specs.Program.Arg.{letter};
-ghost use Rattle.layout.specs.Table.{text_by};
-ghost use Rattle.packed.specs.Packed.{table_of};
-ghost use Rattle.state.specs.Working.{state_at, nth};
-ghost use Rattle.state.specs.Blocks.{ExprNamed};
+ghost use Rattle.matching.specs.Below.Letters.Letter.{B, T};
+ghost use Rattle.matching.specs.Below.Program.Arg.{letter};
+ghost use Rattle.matching.specs.Below.Table.{text_by};
+ghost use Rattle.table.specs.Below.Packed.{table_of};
+ghost use Rattle.instructions.specs.Below.Working.{state_at, nth};
+ghost use Rattle.instructions.specs.Below.Blocks.{ExprNamed};
 ghost use Rattle.table.specs.Denote.{letter_of, arg_of};
 ghost use Rattle.tests.specs.Prepares.{ExprReadable, LetterReadable, TextReadable, TestReadable, Prepares, NumberPrepares, CountPrepares, TextPrepares};
+
+use instructions::from_state as state;
+use matching::{from_cells as cells, from_components as components};
 
 // A question answered no, or 0 and the test, with the first `len` bytes of `given` beside it.
 #[derive(Clone, Copy)]

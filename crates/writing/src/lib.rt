@@ -1,14 +1,16 @@
 // Writing a program table, "a table of 8,192 numbers of 32 bits", cell by cell while a text is read: the only code that writes its cells.
 // docs/LAYOUT.md has their places. A text or a number goes to its table before the argument that refers to it.
 #![tactic(auto)]
-ghost use Rattle.std.specs.Prelude.{cond, ◌≤◌, length};
-ghost use Rattle.cells.specs.Cells.{Number};
-ghost use Rattle.writing.specs.Writing.{with_text, with_number, with_label, with_instr, with_switch, with_entry, with_argument, with_entry_label, label_of, Cleared, Changes, Writes, Room, WordRoom, LabelRoom, InstrRoom, SwitchRoom, EntryRoom, ArgumentAt, EntryAt, IsNumber, IsInstr, IsEntry, IsArg};
-ghost use Rattle.language.specs.Limits as limit;
-ghost use Rattle.layout.specs.Places.{text_count, number_count};
 
-use language::Machine;
-use layout::TablePlaces;
+ghost use Rattle.std.specs.Prelude.{cond, ◌≤◌, length};
+ghost use Rattle.blocks.specs.Below.Cells.{Number};
+ghost use Rattle.writing.specs.Writing.{with_text, with_number, with_label, with_instr, with_switch, with_entry, with_argument, with_entry_label, label_of, Cleared, Changes, Writes, Room, WordRoom, LabelRoom, InstrRoom, SwitchRoom, EntryRoom, ArgumentAt, EntryAt, IsNumber, IsInstr, IsEntry, IsArg};
+ghost use Rattle.blocks.specs.Below.Limits as limit;
+ghost use Rattle.blocks.specs.Below.LayoutPlaces.{text_count, number_count};
+
+use blocks::from_cells as cells;
+use blocks::from_language::Machine;
+use blocks::from_layout::TablePlaces;
 
 fn bit(b: bool) -> usize
     ensures { Number (cond b 1 0) 2 result }

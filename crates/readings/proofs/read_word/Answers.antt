@@ -10,7 +10,7 @@ use Rattle.layout.specs.Components.{components_in}
 use Rattle.matching.specs.Tests.{first_chars, until_chars}
 use Rattle.state.specs.Working.{state_at, nth, writing}
 use Rattle.instructions.proofs.Answers.{one-after, tried-full}
-use Rattle.moves.proofs.Rows.{done-right}
+use Rattle.joining.proofs.Below.MovesRows.{done-right}
 use Rattle.joining.proofs.Words.{written-fits, written-size}
 use Rattle.readings.specs.Readings.{read_up}
 use Rattle.readings.proofs.Reading.{from-inside, part-size, readable, fits_read, word-most, writable, read_done}

@@ -11,7 +11,7 @@ use Rattle.matching.specs.Tests.{first_chars, until_chars}
 use Rattle.state.specs.Working.{state_at, nth, reading, writing}
 use Rattle.instructions.proofs.Answers.{one-after, tried-full}
 use Rattle.moves.proofs.Rows.{done-right}
-use Rattle.joining.proofs.Words.{written-fits, written-size}
+use Rattle.readings.proofs.Below.Words.{written-fits, written-size}
 use Rattle.splitting.specs.Splitting.{split_up}
 use Rattle.splitting.proofs.Asking.{leading}
 use Rattle.splitting.proofs.Splits.{some_bytes, droppable, few, part-size, split-fits, fits-split, writable, split_done}
