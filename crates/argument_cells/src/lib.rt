@@ -7,7 +7,7 @@ ghost use Rattle.layout.specs.Table.{letter_place};
 ghost use Rattle.table.specs.Denote.{letter_of};
 ghost use Rattle.argument_cells.specs.ArgumentCells.{TextNamed, TextTold, Referable, Referred, Encodable, Encodes, CellAsked, CellOf};
 
-use entering::from_finding as finding;
+use entering::from_finding;
 use layout::ArgumentKinds;
 use table::{Argument, Letter};
 
@@ -18,7 +18,7 @@ pub fn text_of(text: &[u8], m: usize, table: &[u32]) -> usize
 {
     let mut word = [0u8; 60];
     let n = spelling::put_text(text, m / 65536 + 1, m % 65536, &mut word);
-    finding::text_ref(table, &word[..n])
+    from_finding::text_ref(table, &word[..n])
 }
 
 // An argument with its text by its reference.
@@ -64,7 +64,7 @@ fn encode(table: &[u32], x: Argument) -> usize
         Argument::Switch(k) => ArgumentKinds::SWITCH + 8 * k,
         Argument::Class(m) => ArgumentKinds::CLASS + 8 * cells::wide(m),
         Argument::Text(v) => ArgumentKinds::TEXT + 8 * v,
-        Argument::Number(code) => ArgumentKinds::NUMBER + 8 * finding::number_ref(table, code),
+        Argument::Number(code) => ArgumentKinds::NUMBER + 8 * from_finding::number_ref(table, code),
     }
 }
 

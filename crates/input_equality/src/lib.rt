@@ -12,7 +12,7 @@ ghost use Rattle.table.specs.Denote.{arg_of};
 ghost use Rattle.readings.specs.Readings.{DoesPassing};
 ghost use Rattle.input_equality.specs.InputEquality.{Spellable, NotWord, compared, InputComparable, InputRelatable};
 
-use readings::from_joining as joining;
+use readings::from_joining;
 
 // Whether an argument offers a single component that is not a word.
 fn not_word(given: &[u8], arg: table::Argument) -> bool
@@ -41,7 +41,7 @@ fn compare(
 {
     let from = state::place(pool, ends, nums, i);
     let rest = &input[from..];
-    let n = joining::some(rest.len());
+    let n = from_joining::some(rest.len());
     let t = readings::take_chars(&rest[..n], equality::test_of(arg), given, hold);
     state::minus_unless(pool, ends, nums, t.reached);
 }

@@ -8,7 +8,7 @@ ghost use Rattle.perform_moves.specs.Below.Operating.{PerformsFor};
 ghost use Rattle.perform_equality.specs.Equating.{any_letter, IsAny, RelatingExpression, RelatingRecord, Relating, Equating};
 
 use language::Operator;
-use record_equality::from_equality as equality;
+use record_equality::from_equality;
 
 // Whether a letter, an argument stands for any component (T).
 fn any_letter(l: table::Letter) -> bool
@@ -45,10 +45,10 @@ fn relate_expression(
 {
     if is_any(x) {
         let i = decoding::index_of(x);
-        return equality::rw_any(table, pool, ends, nums, given, i, y);
+        return from_equality::rw_any(table, pool, ends, nums, given, i, y);
     }
     let s = decoding::source_of(x);
-    equality::rw_one(table, pool, ends, nums, given, s.removes, s.i, y)
+    from_equality::rw_one(table, pool, ends, nums, given, s.removes, s.i, y)
 }
 
 // RZ.

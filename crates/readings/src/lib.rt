@@ -15,7 +15,7 @@ ghost use Rattle.instructions.specs.Does.{Tried};
 ghost use Rattle.instructions.specs.Operands.{target};
 ghost use Rattle.readings.specs.Readings.{read_up, passed, DoesReading, DoesPassing, CharsTakeable, Passable, WordReadable, InputPassable, InputReadable};
 
-use joining::from_moves as moves;
+use joining::from_moves;
 
 // How many of the characters of `s` a test takes; what `Among` compares with are the first characters of the words in `given`.
 pub fn take_chars(
@@ -63,7 +63,7 @@ fn read_word(
     let n = joining::make_word(hold, &rest[..k]);
     let parts = joining::some(k);
     state::read_past(pool, ends, nums, i, k);
-    moves::deliver(
+    from_moves::deliver(
         pool,
         ends,
         nums,

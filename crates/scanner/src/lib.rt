@@ -7,7 +7,7 @@ ghost use Rattle.syntax.specs.Items.{sort_of, sort_number, same_sort, pair_of, e
 ghost use Rattle.syntax.specs.Items.Sort.{word};
 ghost use Rattle.scanner.specs.Scans.{Closing, Passed, Skipped, WordEnd, Scanned};
 
-use syntax::from_characters as characters;
+use syntax::from_characters;
 use syntax::from_characters::{is_capital, is_digit, is_known};
 
 // The sorts of items by their numbers. No item is a separator, so 0 is also none.
@@ -250,5 +250,5 @@ pub fn scan_text(text: &[u8], n: usize) -> Scan
     requires { n ≤ length text.now }
     ensures { Scanned text.now n result }
 {
-    scan_by(text, n, &characters::MARKS)
+    scan_by(text, n, &from_characters::MARKS)
 }

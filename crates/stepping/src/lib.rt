@@ -16,7 +16,7 @@ ghost use Rattle.perform_files.specs.Filing.{file_operators};
 
 use language::Operator;
 use layout::StatePlaces;
-use perform_equality::from_perform_moves as perform_moves;
+use perform_equality::from_perform_moves;
 
 // Whether an operator is a jump, call or return, or STOP.
 fn leading(op: u8) -> bool
@@ -88,7 +88,7 @@ fn carry_move(
     let x = table::first(table, i);
     let y = table::second(table, i);
     let z = table::third(table, i);
-    perform_moves::perform_move(
+    from_perform_moves::perform_move(
         op, table, i1, i2, pool, ends, nums, scratch, hold, given, x, y, z,
     )
 }

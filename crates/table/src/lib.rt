@@ -13,7 +13,7 @@ ghost use Rattle.table.specs.Reads.{Place, IsArgument, Into, switch_first, switc
 ghost use Rattle.packed.specs.Below.Limits as limit;
 ghost use Rattle.packed.specs.Below.LayoutPlaces.{instruction_count, label_count, switch_count, entry_count, text_count, number_count, first_instruction};
 
-use packed::from_cells as cells;
+use packed::from_cells;
 use packed::from_language::Machine;
 use packed::from_layout::TablePlaces;
 
@@ -143,7 +143,7 @@ fn read(table: &[u32], k: usize) -> usize
     requires { Place table.now k limit.table }
     ensures { Number (cell (table_of table.now) k) 4294967296 result }
 {
-    cells::read(table, k)
+    from_cells::read(table, k)
 }
 
 // How many instructions, labels, switches, entries, texts and numbers the program has.

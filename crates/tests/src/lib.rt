@@ -11,7 +11,7 @@ ghost use Rattle.instructions.specs.Below.Blocks.{ExprNamed};
 ghost use Rattle.table.specs.Denote.{letter_of, arg_of};
 ghost use Rattle.tests.specs.Prepares.{ExprReadable, LetterReadable, TextReadable, TestReadable, Prepares, NumberPrepares, CountPrepares, TextPrepares};
 
-use instructions::from_state as state;
+use instructions::from_state;
 use matching::{from_cells as cells, from_components as components};
 
 // A question answered no, or 0 and the test, with the first `len` bytes of `given` beside it.
@@ -27,7 +27,7 @@ fn prepare_first(pool: &[u8], ends: &[u32], nums: &[u32], given: &mut [u8], i: u
     requires { ExprReadable pool.now ends.now nums.now i (length given.old) }
     ensures { Prepares (state_at pool.now ends.now nums.now).store (nth B i) given.new result }
 {
-    let x = state::expr_bytes(pool, ends, nums, i);
+    let x = from_state::expr_bytes(pool, ends, nums, i);
     if x.len() == 0 {
         return Prepared {
             stop: 52,
@@ -49,7 +49,7 @@ fn prepare_any(pool: &[u8], ends: &[u32], nums: &[u32], given: &mut [u8], i: usi
     requires { ExprReadable pool.now ends.now nums.now i (length given.old) }
     ensures { Prepares (state_at pool.now ends.now nums.now).store (nth T i) given.new result }
 {
-    let x = state::expr_bytes(pool, ends, nums, i);
+    let x = from_state::expr_bytes(pool, ends, nums, i);
     cells::put(given, 0, x);
     Prepared {
         stop: 0,
@@ -81,7 +81,7 @@ fn prepare_count(pool: &[u8], ends: &[u32], nums: &[u32], i: usize) -> Prepared
     requires { ExprNamed pool.now ends.now nums.now i }
     ensures { CountPrepares (state_at pool.now ends.now nums.now).store i result }
 {
-    let x = state::expr_bytes(pool, ends, nums, i);
+    let x = from_state::expr_bytes(pool, ends, nums, i);
     if x.len() == 0 {
         return Prepared {
             stop: 52,

@@ -11,7 +11,7 @@ ghost use Rattle.words.specs.Words.{class_letter, is_class, class_of, capped, be
 ghost use Rattle.words.specs.Keywords.{known, keyword_at, shared, word_at, place_in, other_word, slot, guess, guesses, of_row, InRow, Lent};
 
 use appending::append;
-use syntax::from_characters as characters;
+use syntax::from_characters;
 use syntax::from_language::Machine;
 
 // How many pairs of words the two editions have.
@@ -90,7 +90,7 @@ pub fn same(a: &[u8], b: &[u8]) -> bool
 fn continues(b: u8) -> bool
     ensures { result ≡ is_capital b || is_digit b }
 {
-    characters::is_capital(b) | characters::is_digit(b)
+    from_characters::is_capital(b) | from_characters::is_digit(b)
 }
 
 pub fn identifier(w: &[u8]) -> bool
@@ -99,7 +99,7 @@ pub fn identifier(w: &[u8]) -> bool
     if w.len() == 0 {
         return false;
     }
-    let mut good = characters::is_capital(w[0]);
+    let mut good = from_characters::is_capital(w[0]);
     let mut i = 1;
     while i < w.len() {
         good = good & continues(w[i]);
