@@ -7,8 +7,8 @@ ghost use Rattle.writing.specs.Writing.{Changes, with_label, label_of};
 ghost use Rattle.declaring.specs.Declaring.{with_labels, labels_by, Nameable, Labelling, Over, LabelsTold, InstrTold, Judgeable, JudgesValues, Writable, WritesValues, Declarable, DeclaresValues};
 ghost use Rattle.language.specs.Limits as limit;
 
+use argument_cells::argument_cell;
 use argument_cells::from_arguments::Values;
-use argument_cells::{argument_cell, from_entering as entering};
 use language::Machine;
 use names::lowest_mark;
 use statements::{Fault, lower};
@@ -57,8 +57,8 @@ fn judge_instruction(
     let values = i.values;
     let a = instruction_beyond(table, i.at);
     let b = labels_beyond(table, names, from, to);
-    let c = entering::enter_text_values(text, values, table);
-    let d = entering::enter_number_values(values, table);
+    let c = argument_cells::from_entering::enter_text_values(text, values, table);
+    let d = argument_cells::from_entering::enter_number_values(values, table);
     lower(lower(lower(a, b), c), d)
 }
 

@@ -7,7 +7,7 @@ ghost use Rattle.declaring_switches.specs.DeclaringSwitches.{SwitchTold, Judgeab
 ghost use Rattle.declaring_switches.specs.Entries.{RowNamed, RowTold, RowEntered, Listing, Lists};
 ghost use Rattle.declaring_switches.specs.Switches.{WritableSwitch, WritesSwitch, DeclarableSwitch, DeclaresSwitch};
 
-use declaring::{from_argument_cells as argument_cells, from_entering as entering};
+use declaring::{from_argument_cells, from_entering};
 use language::Machine;
 use statements::{Fault, lesser, lower};
 use table::Argument;
@@ -43,7 +43,7 @@ fn enter_cell(text: &[u8], m: usize, table: &mut [u32]) -> bool
     if m == 0 {
         return true;
     }
-    entering::enter_text_of(text, Argument::Text(m), table)
+    from_entering::enter_text_of(text, Argument::Text(m), table)
 }
 
 // Adds the texts of the list, entry by entry; the place of the first that has no room.
@@ -82,7 +82,7 @@ fn cell_ref(text: &[u8], m: usize, table: &[u32]) -> usize
     if m == 0 {
         return 0;
     }
-    argument_cells::text_of(text, m, table)
+    from_argument_cells::text_of(text, m, table)
 }
 
 // Adds the entries of the list to the last switch.

@@ -10,8 +10,6 @@ ghost use Rattle.components.specs.Below.Table.{class_by};
 ghost use Rattle.components.specs.Parts.{Leading, Written};
 ghost use Rattle.matching.specs.Tests.{in_class, first_chars, until, until_chars, reached_by, stops_before, Comparable, Stoppable, Countable, FirstRoom, FirstPut, FirstsRoom, Took, TookChars};
 
-use components::from_cells;
-
 // A test of a move. `Class` has the mask of its class: L 1, D 2, B 4, R 8; what `Among` compares with stands beside it.
 #[derive(Clone, Copy)]
 pub enum Test {
@@ -134,7 +132,7 @@ pub fn count(s: &[u8], test: Test, given: &[u8]) -> Taken
                 words: words,
             };
         }
-        chars += from_cells::wide(b);
+        chars += components::from_cells::wide(b);
         words = words & (b != 0);
         at = e;
         k += 1;

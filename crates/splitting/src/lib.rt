@@ -14,8 +14,6 @@ ghost use Rattle.table.specs.Denote.{arg_of};
 ghost use Rattle.instructions.specs.Does.{Tried, DoesFor};
 ghost use Rattle.splitting.specs.Splitting.{split_up, split_room, WordAsked, FewMore, Splittable, WordSplittable};
 
-use readings::from_joining;
-
 // The first question answered no: a component (52) that is a word (53), and those of a test, of which `stop` is the first answered no.
 fn word_stop(pool: &[u8], ends: &[u32], nums: &[u32], i: usize, stop: u8) -> u8
     requires { ExprNamed pool.now ends.now nums.now i }
@@ -40,7 +38,7 @@ fn has_split_room(pool: &[u8], ends: &[u32], nums: &[u32], removes: bool, k: usi
     ensures { result ≡ split_room removes k (state_at pool.now ends.now nums.now).store }
 {
     if removes {
-        return instructions::has_room(pool, ends, nums, k - from_joining::some(k), 0);
+        return instructions::has_room(pool, ends, nums, k - readings::from_joining::some(k), 0);
     }
     instructions::has_room(pool, ends, nums, k, k)
 }

@@ -8,15 +8,13 @@ ghost use Rattle.gaps.specs.Pool.{abs, string, Holds};
 ghost use Rattle.gaps.specs.Gaps.{pushed_front, pushed_back};
 ghost use Rattle.store.specs.Store.{Named, Long, Whole, Within, Part, Copyable, Droppable, dropped_front, dropped_back, Pushable, Movable, moved_front, moved_front_to_back, moved_back_to_front, Exchangeable, exchanged};
 
-use gaps::from_cells;
-
 // The length of string `i`.
 pub fn len_of(pool: &[u8], ends: &[u32], i: usize) -> usize
     requires { Named pool.now ends.now i }
     ensures { Long pool.now ends.now i result }
 {
-    let a = from_cells::read(ends, 2 * i);
-    let b = from_cells::read(ends, 2 * i + 1);
+    let a = gaps::from_cells::read(ends, 2 * i);
+    let b = gaps::from_cells::read(ends, 2 * i + 1);
     b - a
 }
 
@@ -25,8 +23,8 @@ pub fn string_of<'a>(pool: &'a [u8], ends: &[u32], i: usize) -> &'a [u8]
     requires { Named pool.now ends.now i }
     ensures { Whole pool.now ends.now i result.now }
 {
-    let a = from_cells::read(ends, 2 * i);
-    let b = from_cells::read(ends, 2 * i + 1);
+    let a = gaps::from_cells::read(ends, 2 * i);
+    let b = gaps::from_cells::read(ends, 2 * i + 1);
     &pool[a..b]
 }
 
@@ -35,7 +33,7 @@ pub fn part_of<'a>(pool: &'a [u8], ends: &[u32], i: usize, at: usize, n: usize) 
     requires { Within pool.now ends.now i at n }
     ensures { Part pool.now ends.now i at n result.now }
 {
-    let a = from_cells::read(ends, 2 * i) + at;
+    let a = gaps::from_cells::read(ends, 2 * i) + at;
     let b = a + n;
     &pool[a..b]
 }
@@ -45,7 +43,7 @@ fn copy_out(pool: &[u8], ends: &[u32], hold: &mut [u8], i: usize, at: usize, n: 
     requires { Copyable pool.now ends.now i at n (length hold.old) }
     ensures { hold.new ≡ pasted hold.old 0 (take n (drop at (string i (abs pool.now ends.now)))) }
 {
-    from_cells::put(hold, 0, part_of(pool, ends, i, at, n));
+    gaps::from_cells::put(hold, 0, part_of(pool, ends, i, at, n));
 }
 
 // Takes the first `n` bytes of string `i` away.
@@ -53,8 +51,8 @@ pub fn drop_front(pool: &[u8], ends: &mut [u32], i: usize, n: usize)
     requires { Droppable pool.now ends.old i n }
     ensures { Holds pool.now ends.new (dropped_front i n (abs pool.now ends.old)) }
 {
-    let a = from_cells::read(ends, 2 * i);
-    from_cells::write(ends, 2 * i, a + n);
+    let a = gaps::from_cells::read(ends, 2 * i);
+    gaps::from_cells::write(ends, 2 * i, a + n);
 }
 
 // Takes the last `n` bytes of string `i` away.
@@ -62,8 +60,8 @@ fn drop_back(pool: &[u8], ends: &mut [u32], i: usize, n: usize)
     requires { Droppable pool.now ends.old i n }
     ensures { Holds pool.now ends.new (dropped_back i n (abs pool.now ends.old)) }
 {
-    let b = from_cells::read(ends, 2 * i + 1);
-    from_cells::write(ends, 2 * i + 1, b - n);
+    let b = gaps::from_cells::read(ends, 2 * i + 1);
+    gaps::from_cells::write(ends, 2 * i + 1, b - n);
 }
 
 // Puts `bytes` before string `i`.
