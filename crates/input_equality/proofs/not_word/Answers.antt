@@ -20,7 +20,7 @@ kind_of-requires c =
     let preᶜ = c.requires in
     let is-singleᶜ = c.is_single in
     let if1ᶜ = c.if-not-is_single in
-    preᶜ.front (λ t. sym (is-singleᶜ.ensures t) ∙ not-false is-singleᶜ.result if1ᶜ.false)
+    preᶜ.front (λ t. sym (is-singleᶜ.ensures t) ∙ if1ᶜ.false)
 
 pub returns : goal.returns
 returns c =
