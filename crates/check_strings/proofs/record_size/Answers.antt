@@ -7,16 +7,16 @@ use Rattle.check_strings.proofs.Sizes.{framed-fits, record-none, record-shown}
 use Rattle.check_strings.proofs.record_size.Goals as goal
 
 pub returns-then-not-is_framed : goal.returns-then-not-is_framed
-returns-then-not-is_framed c = record-none c.is_framed.ensures (c.if-not-is_framed.true-raw)
+returns-then-not-is_framed c = record-none c.is_framed.ensures (c.if-not-is_framed.true)
 
 pub two_at-n-requires : goal.two_at-n-requires
-two_at-n-requires c = omega (arith, framed-fits c.args.b.now c.is_framed.ensures (c.if-not-is_framed.false-raw))
+two_at-n-requires c = omega (arith, framed-fits c.args.b.now c.is_framed.ensures (c.if-not-is_framed.false))
 
 pub three_at-address-requires : goal.three_at-address-requires
 three_at-address-requires c =
     let args = c.args in
     let is_framed = c.is_framed in
-    omega (arith, framed-fits args.b.now is_framed.ensures (c.if-not-is_framed.false-raw))
+    omega (arith, framed-fits args.b.now is_framed.ensures (c.if-not-is_framed.false))
 
 pub slice_bounds-are_components-end : goal.slice_bounds-are_components-end
 slice_bounds-are_components-end c =

@@ -21,7 +21,7 @@ pub kind_of-requires-2 : goal.kind_of-requires-2
 kind_of-requires-2 c =
     let preᶜ = c.requires in
     let is-singleᶜ = c.is_single in
-    preᶜ.right (λ t. sym (is-singleᶜ.ensures t) ∙ c.if-not-is_single.false-raw)
+    preᶜ.right (λ t. sym (is-singleᶜ.ensures t) ∙ c.if-not-is_single.false)
 
 pub returns : goal.returns
 returns c =

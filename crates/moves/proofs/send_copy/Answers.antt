@@ -36,7 +36,7 @@ returns-then-not-has_room c =
     let expr-bytesᶜ = c.expr_bytes-x in
     let countᶜ = c.count-t in
     tried-full preᶜ.stands ((sent (until argsᶜ.test argsᶜ.given.now) false argsᶜ.i argsᶜ.reverses argsᶜ.at_end argsᶜ.j) (state_at argsᶜ.pool.now argsᶜ.ends.now argsᶜ.nums.now).store) refl
-    (fits-copy preᶜ.stands preᶜ.source expr-bytesᶜ.ensures countᶜ.ensures argsᶜ.j preᶜ.target argsᶜ.reverses argsᶜ.at_end ∙ sym c.has_room.ensures ∙ c.if-not-has_room.true-raw)
+    (fits-copy preᶜ.stands preᶜ.source expr-bytesᶜ.ensures countᶜ.ensures argsᶜ.j preᶜ.target argsᶜ.reverses argsᶜ.at_end ∙ sym c.has_room.ensures ∙ c.if-not-has_room.true)
 
 pub slice_bounds-copy-end : goal.slice_bounds-copy-end
 slice_bounds-copy-end c =
