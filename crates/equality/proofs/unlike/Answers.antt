@@ -27,4 +27,4 @@ pub returns : goal.returns
 returns c =
     let is-singleᶜ = c.is_single in
     let if1ᶜ = c.if-not-is_single in
-    λ t. unlike-yes c.kind_of.ensures.is c.kind_of-2.ensures.is (is-singleᶜ.ensures t) if1ᶜ.false
+    λ t. unlike-yes c.kind_of.ensures.is c.kind_of-2.ensures.is (is-singleᶜ.ensures t) if1ᶜ.false-raw
