@@ -10,26 +10,26 @@ use Prim.Native.String.{String}
 use native.Mathlib.Omega.{arith}
 use Rattle.std.proofs.Math.Dec.{T, ltb, lt→ltb, le→leb}
 use Rattle.std.proofs.Math.ListN.{length, get_or, drop, length-map}
-use Rattle.lists.specs.Lists.{total, all, any, filled, keep, each, bytes_equal}
-use Rattle.lists.specs.ListLaws.{Passed, parts}
-use Rattle.language.specs.Limits as limit
-use Rattle.language.specs.Instructions.{operation, is_end}
-use Rattle.language.specs.Program.{Instr, Switch, Program, no_instr}
-use Rattle.language.specs.Values.{in_range}
-use Rattle.machine.specs.WellFormed.{good_text, good_instr, good_label, good_switch, program_tests, good_program}
+use Rattle.layout.specs.Below.Lists.{total, all, any, filled, keep, each, bytes_equal}
+use Rattle.layout.specs.Below.ListLaws.{Passed, parts}
+use Rattle.layout.specs.Below.Limits as limit
+use Rattle.layout.specs.Below.Instructions.{operation, is_end}
+use Rattle.layout.specs.Below.Program.{Instr, Switch, Program, no_instr}
+use Rattle.layout.specs.Below.LanguageValues.{in_range}
+use Rattle.layout.specs.Below.WellFormed.{good_text, good_instr, good_label, good_switch, program_tests, good_program}
 use Rattle.layout.specs.Bounds.{Each}
 use Rattle.layout.proofs.CellLaws.{each_left, each_right}
-use Rattle.syntax.specs.ArgumentForms.{form_in, Argument, of_form}
-use Rattle.syntax.specs.Ending.{last_place, absent, end_faults, given_as, used_labels, undeclared_labels, undeclared_switches, last_questions}
-use Rattle.syntax.specs.Items.{Item, is, places, statements_from}
-use Rattle.syntax.specs.Items.Sort.{word}
-use Rattle.syntax.specs.Load.{Loaded, label_place, instr_of, program_of, unless_refused, load_from, Lined}
-use Rattle.syntax.specs.Load.Loaded.{accepted}
-use Rattle.syntax.specs.Questions.{questions}
-use Rattle.syntax.specs.Statements.{entries_in}
-use Rattle.syntax.specs.Tables.{Written, Choice, Tables, Draft, blank, contents, draft_after}
-use Rattle.syntax.specs.Verdict.{Verdict, first_no}
-use Rattle.syntax.specs.Verdict.Verdict.{refuse}
+use Rattle.macros.specs.Below.ArgumentForms.{form_in, Argument, of_form}
+use Rattle.macros.specs.Below.Ending.{last_place, absent, end_faults, given_as, used_labels, undeclared_labels, undeclared_switches, last_questions}
+use Rattle.macros.specs.Below.Items.{Item, is, places, statements_from}
+use Rattle.macros.specs.Below.Items.Sort.{word}
+use Rattle.macros.specs.Below.SyntaxLoad.{Loaded, label_place, instr_of, program_of, unless_refused, load_from, Lined}
+use Rattle.macros.specs.Below.SyntaxLoad.Loaded.{accepted}
+use Rattle.macros.specs.Below.Questions.{questions}
+use Rattle.macros.specs.Below.Statements.{entries_in}
+use Rattle.macros.specs.Below.Tables.{Written, Choice, Tables, Draft, blank, contents, draft_after}
+use Rattle.macros.specs.Below.SyntaxVerdict.{Verdict, first_no}
+use Rattle.macros.specs.Below.SyntaxVerdict.Verdict.{refuse}
 use Rattle.macros.specs.Load.{loaded, load_in}
 use Rattle.macros.proofs.LoadLaws.{prepared-lined}
 use Rattle.macros.specs.Prepared.{Prepared, prepared}

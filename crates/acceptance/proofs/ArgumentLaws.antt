@@ -6,22 +6,22 @@ use Rattle.std.proofs.Math.Bool.{true, false, cond}
 use Rattle.std.specs.Bool.{beq}
 use Rattle.std.proofs.Math.Dec.{T, lt→ltb, eqb_refl}
 use Rattle.std.proofs.lemmas.List.{length-map}
-use Rattle.lists.specs.Lists.{all, any, ahead, filled, head_or, bytes_equal, among}
-use Rattle.lists.specs.Quoted.{bytes}
-use Rattle.lists.specs.ListLaws.{T-left, T-right, T-both, all_among, all_head, same_bytes-eq}
-use Rattle.lists.specs.TableLaws.{beq-eq}
-use Rattle.characters.specs.Characters.{is_capital, is_digit}
-use Rattle.language.specs.Letters.{Letter, letter_code, indices, use_of}
-use Rattle.language.specs.Program.{Arg, identifier, classes, Switch, no_switch}
-use Rattle.language.specs.Values.{amount, unsigned, numeral, value_of, in_range}
-use Rattle.machine.specs.WellFormed.{good_text, form, ranged, different}
-use Rattle.syntax.specs.ArgumentForms.{is_index, letter_of, word_reads, reads, Argument}
-use Rattle.syntax.specs.Items.{Sort, same_sort, Item, is}
-use Rattle.syntax.specs.Items.Sort.{separator, word, colon, end, text, wrong}
-use Rattle.syntax.proofs.LetterLaws.{letter_of-code, every-letter}
-use Rattle.syntax.specs.Load.{arg_of, program_of, switch_place, label_place}
-use Rattle.syntax.specs.Statements.{entries_in}
-use Rattle.syntax.specs.Tables.{Choice, Tables, number_in}
+use Rattle.layout.specs.Below.Lists.{all, any, ahead, filled, head_or, bytes_equal, among}
+use Rattle.layout.specs.Below.Quoted.{bytes}
+use Rattle.layout.specs.Below.ListLaws.{T-left, T-right, T-both, all_among, all_head, same_bytes-eq}
+use Rattle.layout.specs.Below.ListsTableLaws.{beq-eq}
+use Rattle.layout.specs.Below.Characters.{is_capital, is_digit}
+use Rattle.layout.specs.Below.Letters.{Letter, letter_code, indices, use_of}
+use Rattle.layout.specs.Below.Program.{Arg, identifier, classes, Switch, no_switch}
+use Rattle.layout.specs.Below.LanguageValues.{amount, unsigned, numeral, value_of, in_range}
+use Rattle.layout.specs.Below.WellFormed.{good_text, form, ranged, different}
+use Rattle.macros.specs.Below.ArgumentForms.{is_index, letter_of, word_reads, reads, Argument}
+use Rattle.macros.specs.Below.Items.{Sort, same_sort, Item, is}
+use Rattle.macros.specs.Below.Items.Sort.{separator, word, colon, end, text, wrong}
+use Rattle.macros.proofs.Below.LetterLaws.{letter_of-code, every-letter}
+use Rattle.macros.specs.Below.SyntaxLoad.{arg_of, program_of, switch_place, label_place}
+use Rattle.macros.specs.Below.Statements.{entries_in}
+use Rattle.macros.specs.Below.Tables.{Choice, Tables, number_in}
 use Rattle.acceptance.proofs.RowLaws.{or_left, or_right, any-ahead}
 use Rattle.acceptance.specs.Drafts.{in_texts, in_numbers, SoundArgument, Declared}
 use Rattle.acceptance.proofs.ReadingLaws.{Other, by_form, Lettered, other-reads, text-reads, as-word, numeral-word}

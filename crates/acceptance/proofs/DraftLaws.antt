@@ -8,22 +8,22 @@ use Prim.Native.Nat.{ℕ, ◌≤◌, ◌<◌}
 use native.Mathlib.Omega.{arith}
 use Rattle.std.proofs.Math.Dec.{T}
 use Rattle.std.proofs.Math.ListN.{length, length-append, length-map}
-use Rattle.lists.specs.Lists.{any, filled, head_or, if_any, keep, each, bytes_equal}
-use Rattle.lists.specs.ListLaws.{T-right, T-both, total-append, same_bytes-eq, same_bytes-refl}
-use Rattle.language.specs.Limits as limit
-use Rattle.language.specs.Program.{identifier, Op, Label}
-use Rattle.language.specs.Values.{same_number, numeral, in_range}
-use Rattle.machine.specs.WellFormed.{different}
+use Rattle.layout.specs.Below.Lists.{any, filled, head_or, if_any, keep, each, bytes_equal}
+use Rattle.layout.specs.Below.ListLaws.{T-right, T-both, total-append, same_bytes-eq, same_bytes-refl}
+use Rattle.layout.specs.Below.Limits as limit
+use Rattle.layout.specs.Below.Program.{identifier, Op, Label}
+use Rattle.layout.specs.Below.LanguageValues.{same_number, numeral, in_range}
+use Rattle.layout.specs.Below.WellFormed.{different}
 use Rattle.layout.specs.Bounds.{Each}
 use Rattle.layout.proofs.CellLaws.{each_append, each_left, each_right, each-drop}
 use Rattle.layout.proofs.ProgramLaws.{length-each-total}
-use Rattle.syntax.specs.ArgumentForms.{form_in, reads, Argument, alternatives, arguments_in, arguments, of_form, most, least}
-use Rattle.syntax.specs.Items.{Item, is, places}
-use Rattle.syntax.specs.Items.Sort.{word, colon, text}
-use Rattle.syntax.specs.Questions.{label_faults, repeated, count_faults, instr_faults, switch_faults, beyond, instr_beyond, switch_beyond, questions}
-use Rattle.syntax.specs.Statements.{Keyword, same_keyword, by_keyword, behind, labels_in, operator, operator_at, keyword_of, keyword_in, rest, list_faults}
-use Rattle.syntax.specs.Statements.Keyword.{none, unknown, SEKCJA, KONS, KONP, switch, instr}
-use Rattle.syntax.specs.Tables.{Written, Choice, Tables, Draft, blank, is_first, all_labels, contents, new_texts, new_numbers, number_in, with_instr, with_switch, draft_after}
+use Rattle.macros.specs.Below.ArgumentForms.{form_in, reads, Argument, alternatives, arguments_in, arguments, of_form, most, least}
+use Rattle.macros.specs.Below.Items.{Item, is, places}
+use Rattle.macros.specs.Below.Items.Sort.{word, colon, text}
+use Rattle.macros.specs.Below.Questions.{label_faults, repeated, count_faults, instr_faults, switch_faults, beyond, instr_beyond, switch_beyond, questions}
+use Rattle.macros.specs.Below.Statements.{Keyword, same_keyword, by_keyword, behind, labels_in, operator, operator_at, keyword_of, keyword_in, rest, list_faults}
+use Rattle.macros.specs.Below.Statements.Keyword.{none, unknown, SEKCJA, KONS, KONP, switch, instr}
+use Rattle.macros.specs.Below.Tables.{Written, Choice, Tables, Draft, blank, is_first, all_labels, contents, new_texts, new_numbers, number_in, with_instr, with_switch, draft_after}
 use Rattle.acceptance.proofs.RowLaws.{or_left, or_right, append-none, map-none, drop-none, keep-none, each_map, each_both, each_keep, each-mapped, each-unkeep, any_left, any-right, Answered}
 use Rattle.acceptance.proofs.FreshLaws.{none_each, each-none-passes, different-left, different-append}
 use Rattle.acceptance.proofs.ReadingLaws.{NoDash, arguments-fit, arguments-read, arguments-of, of-arguments, arguments-count}

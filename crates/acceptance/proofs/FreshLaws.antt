@@ -4,13 +4,13 @@ use Rattle.std.proofs.Math.Path.{refl, ap, sym}
 use Rattle.std.proofs.Common.{◌∙◌, subst}
 use Rattle.std.proofs.Math.Bool.{true, false, cond}
 use mathlib.Core.List.{List, [], ◌∷◌, ◌++◌, map, map-append, append_assoc, append-nil}
-use Rattle.lists.specs.Lists.{any}
-use Rattle.lists.specs.ListLaws.{T-left, T-right, T-both}
+use Rattle.layout.specs.Below.Lists.{any}
+use Rattle.layout.specs.Below.ListLaws.{T-left, T-right, T-both}
 use Rattle.layout.specs.Bounds.{Each}
 use Rattle.layout.proofs.CellLaws.{each_append, each_left}
-use Rattle.machine.specs.WellFormed.{different}
-use Rattle.syntax.specs.Items.{Item}
-use Rattle.syntax.specs.Tables.{fresh}
+use Rattle.layout.specs.Below.WellFormed.{different}
+use Rattle.macros.specs.Below.Items.{Item}
+use Rattle.macros.specs.Below.Tables.{fresh}
 use Rattle.acceptance.proofs.RowLaws.{or_left, any_left, any-right, each_map}
 
 -- none passes: each fails

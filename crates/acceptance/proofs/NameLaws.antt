@@ -1,21 +1,21 @@
 -- "A label or switch name spelled as an instruction, a declaration, SEKCJA, KONS or KONP of either edition is refused": no accepted text has one.
 use Rattle.std.specs.Prelude.{◌≡◌, Bool, true, false, not, cond, ◌&&◌, List, [], ◌∷◌, ℕ, T, leb, length}
 use Rattle.std.proofs.Common.{subst, arith}
-use Rattle.language.specs.Limits as limit
-use Rattle.language.specs.Program.{Program}
+use Rattle.layout.specs.Below.Limits as limit
+use Rattle.layout.specs.Below.Program.{Program}
 use Rattle.layout.specs.Bounds.{Each}
-use Rattle.lists.specs.Lists.{keep}
+use Rattle.layout.specs.Below.Lists.{keep}
 use Rattle.macros.specs.Load.{loaded, load_in}
 use Rattle.macros.specs.Prepared.{Prepared, prepared}
 use Rattle.macros.specs.Prepared.Prepared.{ready}
-use Rattle.syntax.specs.Ending.{last_place}
-use Rattle.syntax.specs.Items.{Item, statements_from}
-use Rattle.syntax.specs.Load.{Loaded, load_from}
-use Rattle.syntax.specs.Load.Loaded.{accepted}
-use Rattle.syntax.specs.Questions.{questions}
-use Rattle.syntax.specs.Statements.{reserved, labels_in}
-use Rattle.syntax.specs.Tables.{Draft, blank, draft_after}
-use Rattle.syntax.specs.Verdict.{first_no}
+use Rattle.macros.specs.Below.Ending.{last_place}
+use Rattle.macros.specs.Below.Items.{Item, statements_from}
+use Rattle.macros.specs.Below.SyntaxLoad.{Loaded, load_from}
+use Rattle.macros.specs.Below.SyntaxLoad.Loaded.{accepted}
+use Rattle.macros.specs.Below.Questions.{questions}
+use Rattle.macros.specs.Below.Statements.{reserved, labels_in}
+use Rattle.macros.specs.Below.Tables.{Draft, blank, draft_after}
+use Rattle.macros.specs.Below.SyntaxVerdict.{first_no}
 use Rattle.acceptance.proofs.AcceptanceLaws.{passed_on}
 use Rattle.acceptance.proofs.RowLaws.{map-none, keep-none, answered}
 

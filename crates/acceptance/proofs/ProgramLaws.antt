@@ -8,20 +8,20 @@ use Prim.Native.Nat.{ℕ, suc, ◌≤◌}
 use Rattle.std.proofs.Math.Dec.{T, ltb}
 use Rattle.std.proofs.Math.ListN.{get_or}
 use Rattle.std.proofs.lemmas.List.{length-map}
-use Rattle.lists.specs.Lists.{all, any, filled, if_any, keep, bytes_equal, among}
-use Rattle.lists.specs.Quoted.{bytes}
-use Rattle.lists.specs.ListLaws.{T-left, T-right, T-both}
-use Rattle.language.specs.Limits as limit
-use Rattle.language.specs.Instructions.{Forms, operation}
-use Rattle.language.specs.Program.{Arg, identifier, Instr, Label, Entry, Program}
-use Rattle.machine.specs.WellFormed.{good_text, different, form, ranged, listed, good_instr, good_label, good_entry, good_switch}
+use Rattle.layout.specs.Below.Lists.{all, any, filled, if_any, keep, bytes_equal, among}
+use Rattle.layout.specs.Below.Quoted.{bytes}
+use Rattle.layout.specs.Below.ListLaws.{T-left, T-right, T-both}
+use Rattle.layout.specs.Below.Limits as limit
+use Rattle.layout.specs.Below.Instructions.{Forms, operation}
+use Rattle.layout.specs.Below.Program.{Arg, identifier, Instr, Label, Entry, Program}
+use Rattle.layout.specs.Below.WellFormed.{good_text, different, form, ranged, listed, good_instr, good_label, good_entry, good_switch}
 use Rattle.layout.specs.Bounds.{Each}
-use Rattle.syntax.specs.ArgumentForms.{Argument, alternatives}
-use Rattle.syntax.specs.Items.{Sort, same_sort, Item, is, line_at}
-use Rattle.syntax.specs.Items.Sort.{separator, word, colon, end, text, wrong}
-use Rattle.syntax.specs.Load.{label_place, arg_of, instr_of, program_of, Lined}
-use Rattle.syntax.specs.Statements.{entry_faults, list_faults, entries_in}
-use Rattle.syntax.specs.Tables.{Written, Choice, Tables}
+use Rattle.macros.specs.Below.ArgumentForms.{Argument, alternatives}
+use Rattle.macros.specs.Below.Items.{Sort, same_sort, Item, is, line_at}
+use Rattle.macros.specs.Below.Items.Sort.{separator, word, colon, end, text, wrong}
+use Rattle.macros.specs.Below.SyntaxLoad.{label_place, arg_of, instr_of, program_of, Lined}
+use Rattle.macros.specs.Below.Statements.{entry_faults, list_faults, entries_in}
+use Rattle.macros.specs.Below.Tables.{Written, Choice, Tables}
 use Rattle.acceptance.proofs.RowLaws.{or_right, append-none, cond-none, each_map, each_both, each-unkeep, each-every, any-ahead, any-mapped, any-more}
 use Rattle.acceptance.specs.Reading.{fits}
 use Rattle.acceptance.specs.Drafts.{FineItem, in_texts, SoundArgument, SoundWritten, SoundChoice, SoundLabel, Declared}

@@ -6,16 +6,16 @@ use native.Mathlib.Omega.{arith}
 use Rattle.std.proofs.Math.Dec.{T, eqb}
 use Rattle.std.proofs.Math.ListN.{drop}
 use Rattle.std.proofs.Common.{length-drop}
-use Rattle.lists.specs.Lists.{all, ahead, head_or, if_any, among}
-use Rattle.lists.specs.Quoted.{bytes}
-use Rattle.lists.specs.ListLaws.{T-left, T-right, T-both, all-at}
-use Rattle.characters.specs.Characters.{known}
+use Rattle.layout.specs.Below.Lists.{all, ahead, head_or, if_any, among}
+use Rattle.layout.specs.Below.Quoted.{bytes}
+use Rattle.layout.specs.Below.ListLaws.{T-left, T-right, T-both, all-at}
+use Rattle.layout.specs.Below.Characters.{known}
 use Rattle.layout.specs.Bounds.{Each}
 use Rattle.layout.proofs.CellLaws.{each_append, each-drop}
-use Rattle.syntax.specs.Items.{Sort, sort_of, same_sort, Item, places, is, a_word, a_text, a_mark, pairs, is_pair, pair_of, ends_text, takes_next, char_of, allows, Mode, opens, begins, itself, mode_after, items_at, left_over, read, attach, named, parted, statements, statements_from}
-use Rattle.syntax.specs.Items.Sort.{separator, word, colon, end, text, wrong}
-use Rattle.syntax.specs.Items.Stage.{first-star, inside, last-slash}
-use Rattle.syntax.specs.Items.Mode.{outside, in_word, in_comment, in_text}
+use Rattle.macros.specs.Below.Items.{Sort, sort_of, same_sort, Item, places, is, a_word, a_text, a_mark, pairs, is_pair, pair_of, ends_text, takes_next, char_of, allows, Mode, opens, begins, itself, mode_after, items_at, left_over, read, attach, named, parted, statements, statements_from}
+use Rattle.macros.specs.Below.Items.Sort.{separator, word, colon, end, text, wrong}
+use Rattle.macros.specs.Below.Items.Stage.{first-star, inside, last-slash}
+use Rattle.macros.specs.Below.Items.Mode.{outside, in_word, in_comment, in_text}
 use Rattle.acceptance.specs.Drafts.{SoundItem}
 use Rattle.acceptance.proofs.RowLaws.{any-ahead}
 

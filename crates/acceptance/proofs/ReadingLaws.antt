@@ -3,21 +3,21 @@ use Rattle.std.specs.Prelude.{◌≡◌, refl, Bool, true, false, cond, not, ◌
 use Rattle.std.proofs.Common.{ap, sym, ◌∙◌, subst, arith, T_not, eqb→eq, leb→le, eqb-true, le-ltb}
 use Rattle.std.proofs.Math.Dec.{eqb_refl}
 use Rattle.std.proofs.Math.Seq.{drop-nil}
-use Rattle.lists.specs.Lists.{all, any, ahead, filled, head_or, keep, among}
-use Rattle.lists.specs.Quoted.{bytes}
-use Rattle.lists.specs.ListLaws.{T-left, T-right, T-both, all_among}
-use Rattle.lists.specs.TableLaws.{up_to, below}
-use Rattle.language.specs.Letters.{Letter, letters, letter_code}
-use Rattle.language.specs.Letters.Letter.{A}
-use Rattle.language.specs.Instructions.{operation, operator_of}
-use Rattle.language.specs.Program.{Op}
-use Rattle.language.specs.Values.{numeral}
+use Rattle.layout.specs.Below.Lists.{all, any, ahead, filled, head_or, keep, among}
+use Rattle.layout.specs.Below.Quoted.{bytes}
+use Rattle.layout.specs.Below.ListLaws.{T-left, T-right, T-both, all_among}
+use Rattle.layout.specs.Below.ListsTableLaws.{up_to, below}
+use Rattle.layout.specs.Below.Letters.{Letter, letters, letter_code}
+use Rattle.layout.specs.Below.Letters.Letter.{A}
+use Rattle.layout.specs.Below.Instructions.{operation, operator_of}
+use Rattle.layout.specs.Below.Program.{Op}
+use Rattle.layout.specs.Below.LanguageValues.{numeral}
 use Rattle.layout.proofs.ArgumentLaws.{operator-back, operator-below}
 use Rattle.layout.specs.Bounds.{Each}
 use Rattle.layout.proofs.CellLaws.{each_of}
-use Rattle.syntax.specs.ArgumentForms.{form_in, is_indexed, word_reads, reads, Argument, accepting, read_by, alternatives, most, least}
-use Rattle.syntax.specs.Items.{Item, is}
-use Rattle.syntax.specs.Items.Sort.{word, text}
+use Rattle.macros.specs.Below.ArgumentForms.{form_in, is_indexed, word_reads, reads, Argument, accepting, read_by, alternatives, most, least}
+use Rattle.macros.specs.Below.Items.{Item, is}
+use Rattle.macros.specs.Below.Items.Sort.{word, text}
 use Rattle.acceptance.specs.Reading.{fits, apart, agree, agreed, may_end, right_number, right_forms}
 use Rattle.acceptance.proofs.RowLaws.{fails, or_left, or_right, or-not, any_found, any-more, any-unkeep, any-mapped, each_map, each_keep, each-kept, each-mapped, each_both}
 

@@ -1,11 +1,11 @@
 -- Rows without faults and what then holds of each element; searches that succeed; and what a yes to all questions says.
 use Rattle.std.specs.Prelude.{◌≡◌, refl, Bool, true, false, cond, not, ◌||◌, List, [], ◌∷◌, ◌++◌, map, ℕ, suc, ◌≤◌, ◌<◌, T, length, get_or, drop}
 use Rattle.std.proofs.Common.{ap, sym, subst, arith, length-drop}
-use Rattle.lists.specs.Lists.{all, any, ahead, keep, each}
-use Rattle.lists.specs.ListLaws.{T-both}
+use Rattle.layout.specs.Below.Lists.{all, any, ahead, keep, each}
+use Rattle.layout.specs.Below.ListLaws.{T-both}
 use Rattle.layout.specs.Bounds.{Each}
 use Rattle.layout.proofs.CellLaws.{each_left, each_right}
-use Rattle.syntax.specs.Verdict.{Question, Verdict, decide, first_no}
+use Rattle.macros.specs.Below.SyntaxVerdict.{Question, Verdict, decide, first_no}
 
 -- Tests
 

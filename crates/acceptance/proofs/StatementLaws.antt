@@ -3,21 +3,21 @@ use Rattle.std.specs.Prelude.{◌≡◌, refl, Bool, true, false, cond, not, ◌
 use Rattle.std.proofs.Common.{sym, subst, arith, lt→ltb, le→leb, nltb→le, leb-false}
 use Rattle.std.proofs.lemmas.List.{length-map}
 use Rattle.std.specs.Int.Signed.{le_z}
-use Rattle.lists.specs.Lists.{all, any, filled, keep, bytes_equal}
-use Rattle.lists.specs.ListLaws.{T-left, T-right, T-both, same_bytes-eq, same_bytes-refl}
-use Rattle.characters.specs.Characters.{known}
-use Rattle.language.specs.Limits as limit
-use Rattle.language.specs.Program.{identifier}
-use Rattle.language.specs.Values.{same_number, numeral, in_range}
-use Rattle.machine.specs.WellFormed.{good_word, good_text, different}
+use Rattle.layout.specs.Below.Lists.{all, any, filled, keep, bytes_equal}
+use Rattle.layout.specs.Below.ListLaws.{T-left, T-right, T-both, same_bytes-eq, same_bytes-refl}
+use Rattle.layout.specs.Below.Characters.{known}
+use Rattle.layout.specs.Below.Limits as limit
+use Rattle.layout.specs.Below.Program.{identifier}
+use Rattle.layout.specs.Below.LanguageValues.{same_number, numeral, in_range}
+use Rattle.layout.specs.Below.WellFormed.{good_word, good_text, different}
 use Rattle.layout.specs.Bounds.{Each}
 use Rattle.layout.proofs.CellLaws.{each_append}
-use Rattle.syntax.specs.Items.{Item, is, places}
-use Rattle.syntax.specs.Items.Sort.{word, colon, text}
-use Rattle.syntax.specs.Questions.{first_faults, operator_faults, beyond}
-use Rattle.syntax.specs.Statements.{Keyword, same_keyword, keyword_of, is_operator, front, behind, labels_in, is_name, one_name}
-use Rattle.syntax.specs.Statements.Keyword.{unknown, SEKCJA}
-use Rattle.syntax.specs.Tables.{Tables, contents, new_texts, new_numbers, number_in}
+use Rattle.macros.specs.Below.Items.{Item, is, places}
+use Rattle.macros.specs.Below.Items.Sort.{word, colon, text}
+use Rattle.macros.specs.Below.Questions.{first_faults, operator_faults, beyond}
+use Rattle.macros.specs.Below.Statements.{Keyword, same_keyword, keyword_of, is_operator, front, behind, labels_in, is_name, one_name}
+use Rattle.macros.specs.Below.Statements.Keyword.{unknown, SEKCJA}
+use Rattle.macros.specs.Below.Tables.{Tables, contents, new_texts, new_numbers, number_in}
 use Rattle.acceptance.proofs.RowLaws.{fails, not-not, append-none, map-none, drop-none, keep-none, each_map, each_both, each_keep, each-kept, each-unkeep, each-mapped}
 use Rattle.acceptance.proofs.ArgumentLaws.{word-apart}
 use Rattle.acceptance.proofs.FreshLaws.{fresh_holds, fresh-different, fresh-from}

@@ -1,18 +1,18 @@
 -- What holds of the tables while a text has no fault: each argument reads as its form, the texts and numbers are kept, the limits hold.
 use Rattle.std.specs.Prelude.{◌≡◌, Bool, false, cond, not, ◌&&◌, ◌||◌, List, [], ◌++◌, map, ℕ, ◌≤◌, ◌<◌, T, leb, ltb, length, ℤ, nat_abs}
 use Rattle.std.specs.Bool.{beq}
-use Rattle.lists.specs.Lists.{total, all, any, filled, keep, bytes_equal}
-use Rattle.language.specs.Limits as limit
-use Rattle.language.specs.Program.{identifier, Label}
-use Rattle.language.specs.Values.{same_number, numeral, in_range}
-use Rattle.machine.specs.WellFormed.{good_text, different}
+use Rattle.layout.specs.Below.Lists.{total, all, any, filled, keep, bytes_equal}
+use Rattle.layout.specs.Below.Limits as limit
+use Rattle.layout.specs.Below.Program.{identifier, Label}
+use Rattle.layout.specs.Below.LanguageValues.{same_number, numeral, in_range}
+use Rattle.layout.specs.Below.WellFormed.{good_text, different}
 use Rattle.layout.specs.Bounds.{Each}
-use Rattle.syntax.specs.ArgumentForms.{form_in, reads, Argument, alternatives}
-use Rattle.syntax.specs.Items.{Item, is}
-use Rattle.syntax.specs.Items.Sort.{word, text}
-use Rattle.syntax.specs.Statements.{is_name, list_faults}
-use Rattle.syntax.specs.Tables.{Written, Choice, Tables, Draft, contents, number_in}
-use Rattle.characters.specs.Characters.{known}
+use Rattle.macros.specs.Below.ArgumentForms.{form_in, reads, Argument, alternatives}
+use Rattle.macros.specs.Below.Items.{Item, is}
+use Rattle.macros.specs.Below.Items.Sort.{word, text}
+use Rattle.macros.specs.Below.Statements.{is_name, list_faults}
+use Rattle.macros.specs.Below.Tables.{Written, Choice, Tables, Draft, contents, number_in}
+use Rattle.layout.specs.Below.Characters.{known}
 use Rattle.acceptance.specs.Reading.{fits}
 
 -- an item of a text of n bytes

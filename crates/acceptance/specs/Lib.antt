@@ -4,3 +4,4 @@
 -- and none of the text's labels is a keyword (NameLaws).
 pub mod Reading
 pub mod Drafts
+pub mod Below

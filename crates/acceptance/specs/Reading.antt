@@ -1,9 +1,9 @@
 -- How the arguments of an instruction stand in one list of its forms.
 use Rattle.std.specs.Prelude.{Bool, true, not, ◌&&◌, ◌||◌, List, [], ◌∷◌, ℕ, zero, suc, leb, ltb, eqb, drop}
-use Rattle.lists.specs.Lists.{all, filled, head_or, among}
-use Rattle.lists.specs.TableLaws.{up_to}
-use Rattle.language.specs.Program.{Op}
-use Rattle.syntax.specs.ArgumentForms.{form_in, Argument, alternatives, most, least}
+use Rattle.layout.specs.Below.Lists.{all, filled, head_or, among}
+use Rattle.layout.specs.Below.ListsTableLaws.{up_to}
+use Rattle.layout.specs.Below.Program.{Op}
+use Rattle.macros.specs.Below.ArgumentForms.{form_in, Argument, alternatives, most, least}
 
 -- each argument's form is listed for its place, and the places after them may be empty
 abbrev pub fits : List Argument → List (List ℕ) → Bool

@@ -1,1 +1,2 @@
 mod Putting
+pub mod Below

@@ -5,11 +5,11 @@ use mathlib.Core.List.{List}
 use Prim.Native.Nat.{ℕ, ◌+◌, ◌*◌, ◌≤◌, ◌<◌}
 use native.Mathlib.Omega.{arith}
 use lib.ListN.{length, take}
-use Rattle.arguments.specs.Valued.{is_text, text_from, text_to, Spells}
+use Rattle.entering.specs.Below.Valued.{is_text, text_from, text_to, Spells}
 use Rattle.cells.specs.Cells.{Number as Wide}
 use Rattle.entering.specs.Entering.{Held}
 use Rattle.entering.proofs.Adding.{put_front}
-use Rattle.finding.specs.Finding.{Counted, Tells, TellsFor}
+use Rattle.entering.specs.Below.Finding.{Counted, Tells, TellsFor}
 use Rattle.language.specs.Program.{Arg, Program}
 use Rattle.layout.specs.Table.{letter_place, number_ref, arg_cell}
 use Rattle.spelling.specs.Spelling.{Put, text_in, FitsText}
@@ -17,8 +17,8 @@ use Rattle.table.specs.declared.Argument.{Argument}
 use Rattle.table.specs.declared.Argument.TheVariants.{Nothing, Indexed, Label, Switch, Class, Text, Number}
 use Rattle.table.specs.declared.Letter.{Letter}
 use Rattle.table.specs.Denote.{letter_of}
-use Rattle.writing.specs.Writing.{HoldsProgram, IsNumber}
-use Rattle.writing.proofs.Held.{text_count, number_count}
+use Rattle.entering.specs.Below.Writing.{HoldsProgram, IsNumber}
+use Rattle.entering.proofs.Below.WritingHeld.{text_count, number_count}
 use Rattle.argument_cells.specs.ArgumentCells.{text_cell, TextNamed, TextTold, Refers, Low, Encodable, Encodes, Referred, Drafts, CellAsked, CellOf, Referable}
 
 -- ---- what a table that holds a program has

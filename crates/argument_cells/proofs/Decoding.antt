@@ -5,7 +5,7 @@ use Prim.Native.Nat.{ℕ, ◌%◌, ◌/◌, ◌≤◌, ◌<◌}
 use lib.Dec.{T}
 use lib.ListN.{length, get_or}
 use lib.IntN.{pos, nat_abs}
-use Rattle.finding.proofs.Found.{text-read, number_read}
+use Rattle.entering.proofs.Below.Found.{text-read, number_read}
 use Rattle.language.specs.Limits as limit
 use Rattle.language.specs.Program.{Arg, Program}
 use Rattle.layout.proofs.ArgumentLaws.{arg-back}
@@ -17,7 +17,7 @@ use Rattle.packed.specs.Packed.{table_of}
 use Rattle.table.specs.Denote.{arg_of}
 use Rattle.table.specs.Reads.{IsArgument}
 use Rattle.table.specs.declared.Argument.{Argument}
-use Rattle.writing.specs.Writing.{HoldsProgram}
+use Rattle.entering.specs.Below.Writing.{HoldsProgram}
 use Rattle.argument_cells.specs.ArgumentCells.{Refers, Encodes}
 
 module _ {c : List ℕ} {p : Program} (h : HoldsProgram c p) where

@@ -1,2 +1,3 @@
 pub mod Arguing
 pub mod Decoding
+pub mod Below

@@ -1,8 +1,8 @@
 -- The cells of arguments in a program table that is being written: what is asked and promised.
 use Rattle.std.specs.Prelude.{◌≡◌, false, List, ℕ, ◌≤◌, ◌<◌, T, length, ℤ}
-use Rattle.arguments.specs.Valued.{is_text, NamesText, Spells, Drafted}
+use Rattle.entering.specs.Below.Valued.{is_text, NamesText, Spells, Drafted}
 use Rattle.entering.specs.Entering.{Held}
-use Rattle.finding.specs.Finding.{Tells}
+use Rattle.entering.specs.Below.Finding.{Tells}
 use Rattle.language.specs.Limits as limit
 use Rattle.language.specs.Program.{Arg, Program}
 use Rattle.layout.specs.Table.{class_mask, text_ref, arg_cell}
@@ -11,7 +11,7 @@ use Rattle.syntax.specs.ArgumentForms as syntax
 use Rattle.table.specs.declared.Argument.{Argument}
 use Rattle.table.specs.declared.Argument.TheVariants.{Nothing, Indexed, Label, Switch, Class, Text, Number}
 use Rattle.table.specs.Denote.{letter_of}
-use Rattle.writing.specs.Writing.{HoldsProgram, no_program, IsNumber}
+use Rattle.entering.specs.Below.Writing.{HoldsProgram, no_program, IsNumber}
 
 -- the reference of a text
 abbrev pub text_cell : List ℕ → Program → ℕ

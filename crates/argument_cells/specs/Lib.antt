@@ -1,1 +1,2 @@
 pub mod ArgumentCells
+pub mod Below

@@ -1,11 +1,13 @@
 // The cells of an instruction's arguments in a program table that is being written: texts and numbers refer to their tables, and the mark of its name stands
 // for a label or a switch.
 #![tactic(auto)]
+
 ghost use Rattle.std.specs.Prelude.{◌≡◌, ◌<◌};
 ghost use Rattle.layout.specs.Table.{letter_place};
 ghost use Rattle.table.specs.Denote.{letter_of};
 ghost use Rattle.argument_cells.specs.ArgumentCells.{TextNamed, TextTold, Referable, Referred, Encodable, Encodes, CellAsked, CellOf};
 
+use entering::from_finding;
 use layout::ArgumentKinds;
 use table::{Argument, Letter};
 
@@ -16,7 +18,7 @@ pub fn text_of(text: &[u8], m: usize, table: &[u32]) -> usize
 {
     let mut word = [0u8; 60];
     let n = spelling::put_text(text, m / 65536 + 1, m % 65536, &mut word);
-    finding::text_ref(table, &word[..n])
+    from_finding::text_ref(table, &word[..n])
 }
 
 // An argument with its text by its reference.
@@ -62,7 +64,7 @@ fn encode(table: &[u32], x: Argument) -> usize
         Argument::Switch(k) => ArgumentKinds::SWITCH + 8 * k,
         Argument::Class(m) => ArgumentKinds::CLASS + 8 * cells::wide(m),
         Argument::Text(v) => ArgumentKinds::TEXT + 8 * v,
-        Argument::Number(code) => ArgumentKinds::NUMBER + 8 * finding::number_ref(table, code),
+        Argument::Number(code) => ArgumentKinds::NUMBER + 8 * from_finding::number_ref(table, code),
     }
 }
 
@@ -72,4 +74,14 @@ pub fn argument_cell(text: &[u8], x: Argument, table: &[u32]) -> usize
     ensures { CellOf text.now x table.now result }
 {
     encode(table, referred(text, x, table))
+}
+
+// Of `arguments`, passed on to the crates above.
+pub mod from_arguments {
+    pub use entering::from_arguments::Values;
+}
+
+// Of `entering`, passed on to the crates above.
+pub mod from_entering {
+    pub use entering::{enter_number_values, enter_text_of, enter_text_values};
 }

@@ -1,5 +1,5 @@
 -- The items after an instruction's operator, one by one: what is at fault among them.
-use Rattle.std.specs.Prelude.{◌≡◌, ◌||◌, ℕ, suc, ◌-◌, leb, ltb, eqb, length}
+use Rattle.std.specs.Prelude.{◌≡◌, ◌||◌, ℕ, suc, ◌-◌, leb, ltb, eqb, length, drop}
 use Rattle.std.proofs.Math.Path.{refl, ap}
 use Rattle.std.proofs.Common.{sym, ◌∙◌, arith, le→leb}
 use Rattle.std.proofs.Math.Bool.{true, false, cond}
@@ -20,7 +20,7 @@ use Rattle.language.specs.Program.{Op}
 use Rattle.lexer.specs.declared.Token.{Token}
 use Rattle.lexer.specs.Tokens.{word_of, chars_of, item_of, colon_of, Stands, NextToken}
 use Rattle.lexer.proofs.Finding.{is-sort, word-chars, no-chars}
-use Rattle.lists.specs.Lists.{keep}
+use Rattle.lists.specs.Lists.{filled, keep}
 use Rattle.lists.specs.ListLaws.{T-left, T-right, T-both, all_head, all_tail, all_cons, all_keep}
 use Rattle.statements.specs.LowestLaws.{none_before, none-before-both, fault-first, fault-within}
 use Rattle.statements.specs.declared.Fault.{Fault}
@@ -28,7 +28,7 @@ use Rattle.statements.specs.declared.Fault.TheVariants.{Clear, At}
 use Rattle.statements.specs.PlaceLaws.{stands_from, all_from, statement-from, places-from}
 use Rattle.statements.specs.StatementAt.{statement_at, stops, fault_of}
 use Rattle.statements.specs.StatementLaws.{at-stop, at_item}
-use Rattle.syntax.specs.ArgumentForms.{form_in, word_reads, Argument, alternatives, arguments_in, arguments, read_by, of_form, least}
+use Rattle.syntax.specs.ArgumentForms.{accepting, form_in, word_reads, Argument, alternatives, arguments_in, arguments, read_by, of_form, least}
 use Rattle.syntax.specs.Items.{Item, is, places}
 use Rattle.syntax.specs.Items.Sort.{colon, text}
 use Rattle.syntax.specs.Questions.{instr_faults}
@@ -39,7 +39,7 @@ use Rattle.arguments.specs.CountLaws.{is_argument}
 pub items-read : (alts : List (List (List ℕ))) (xs : List Item) → map (λ a. a.item) (read_by alts xs) ≡ xs
 unfolding read_by
 items-read alts [] = refl
-items-read alts (x ∷ xs) = ap (◌∷◌ x) (items-read _ xs)
+items-read alts (x ∷ xs) = ap (◌∷◌ x) (items-read (map (drop 1) (cond (filled (accepting x alts)) (accepting x alts) alts)) xs)
 
 -- none of these faults stands before the items
 module _ (p : ℕ) where

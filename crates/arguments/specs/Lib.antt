@@ -5,3 +5,4 @@ pub mod CountLaws
 pub mod LeftLaws
 pub mod ArgumentLaws
 pub mod ReadLaws
+pub mod Below

@@ -11,7 +11,7 @@ use Rattle.std.proofs.Math.ListN.{length}
 use Rattle.std.proofs.lemmas.List.{length-map}
 use Rattle.std.proofs.Math.Seq.{drop-append-add, drop-nil}
 use Rattle.statements.specs.Checks.{token_code}
-use Rattle.acceptance.proofs.RowLaws.{or_right}
+use Rattle.heads.proofs.Below.RowLaws.{or_right}
 use Rattle.forms.specs.declared.Live.{Live}
 use Rattle.forms.specs.declared.Taken.{Taken}
 use Rattle.forms.specs.Forms.{listed, set_at, most_of, least_of}

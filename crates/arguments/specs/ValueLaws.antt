@@ -6,10 +6,10 @@ use Rattle.std.proofs.Math.Bool.{and-false}
 use mathlib.Core.List.{List, []}
 use Rattle.std.proofs.Math.Dec.{T}
 use borrow.Author.Tests.{eqb-true, eqb-false}
-use Rattle.acceptance.proofs.ArgumentLaws.{first_is, number-form}
-use Rattle.acceptance.proofs.ReadingLaws.{Other, by_form, other-reads, text-reads, as-word}
+use Rattle.heads.proofs.Below.AcceptanceArgumentLaws.{first_is, number-form}
+use Rattle.heads.proofs.Below.ReadingLaws.{Other, by_form, other-reads, text-reads, as-word}
 use Rattle.cells.specs.Cells as Cells
-use Rattle.drafts.specs.Drafting.{draft_arg}
+use Rattle.heads.specs.Below.Drafting.{draft_arg}
 use Rattle.forms.specs.KindLaws.{indexed-name, indexed-class, class-name, name-number}
 use Rattle.forms.proofs.Readings.{class-kind, letter-kind, name-kind, number-kind, no_kind}
 use Rattle.language.specs.Letters.{Letter, letter_code, use_of, indices}

@@ -1,6 +1,6 @@
 -- The values of an instruction's arguments while its text is read: a label, a switch and a text are places and lengths in the text.
 use Rattle.std.specs.Prelude.{◌≡◌, Bool, true, false, cond, ◌&&◌, List, [], ◌∷◌, map, ℕ, ◌+◌, ◌*◌, ◌/◌, ◌%◌, ◌≤◌, ◌<◌, T, eqb, length, drop}
-use Rattle.drafts.specs.Drafting.{draft_arg}
+use Rattle.heads.specs.Below.Drafting.{draft_arg}
 use Rattle.forms.specs.Kinds.{word_kinds, item_kinds}
 use Rattle.language.specs.Instructions.{operation}
 use Rattle.language.specs.Limits as limit
@@ -23,7 +23,7 @@ use Rattle.table.specs.declared.Argument.TheVariants.{Nothing, Indexed, Label, S
 use Rattle.table.specs.declared.Letter.{Letter}
 use Rattle.table.specs.Denote.{letter_of}
 use Rattle.words.specs.Words.{is_class, class_of}
-use Rattle.writing.specs.Writing.{no_program, IsNumber}
+use Rattle.heads.specs.Below.Writing.{no_program, IsNumber}
 use Rattle.arguments.specs.declared.Kind.{Kind}
 use Rattle.arguments.specs.declared.Value.{Value}
 use Rattle.arguments.specs.declared.Values.{Values}

@@ -9,8 +9,8 @@ use lib.ListN.{length, get_or, set, take, drop, replicate}
 use lib.Seq.{paste, get_or-drop, drop-drop, sets-eq, set_split}
 use Rattle.cells.proofs.Laws.{put-turn, clear-turn, pasted-pasted}
 use Rattle.cells.specs.Cells.{pasted}
-use Rattle.layout.proofs.CellLaws.{length-fours}
-use Rattle.layout.specs.Cells.{cell, four, fours}
+use Rattle.cells.proofs.Below.LayoutCellLaws.{length-fours}
+use Rattle.cells.specs.Below.LayoutCells.{cell, four, fours}
 
 -- cell q of the characters of w
 pub fours-at : (n : ℕ) (w : List ℕ) (q : ℕ) → q < n → get_or (fours n w) q 0 ≡ four (drop (4 * q) w)

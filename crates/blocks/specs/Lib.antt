@@ -1,1 +1,2 @@
 pub mod Blocks
+pub mod Below

@@ -1,8 +1,9 @@
 // Cells of 32 bits written in blocks: zeros, four numbers, and a number with characters behind it, four to a cell.
 #![tactic(auto)]
+
 ghost use Rattle.std.specs.Prelude.{◌≡◌, [], ◌∷◌, ◌+◌, ◌≤◌, ◌<◌, length, drop};
 ghost use Rattle.cells.specs.Cells.{pasted, cleared, Number, Writable};
-ghost use Rattle.layout.specs.Cells.{cell, four, fours};
+ghost use Rattle.cells.specs.Below.LayoutCells.{cell, four, fours};
 ghost use Rattle.blocks.specs.Blocks.{FourNumbers};
 
 // Byte `k` of `word`, and 0 past its end.
@@ -67,4 +68,19 @@ pub fn clear_cells(table: &mut [u32], n: usize)
         table[j] = 0;
         j += 1;
     }
+}
+
+// Of `cells`, passed on to the crates above.
+pub mod from_cells {
+    pub use cells::{read, write};
+}
+
+// Of `language`, passed on to the crates above.
+pub mod from_language {
+    pub use cells::from_language::Machine;
+}
+
+// Of `layout`, passed on to the crates above.
+pub mod from_layout {
+    pub use cells::from_layout::TablePlaces;
 }

@@ -5,12 +5,12 @@ use Rattle.lists.specs.Lists.{all, among}
 use Rattle.lists.specs.ListLaws.{all_among}
 use Rattle.language.specs.Program.{Program}
 use Rattle.language.specs.Values.{State, Inputs}
-use Rattle.machine.specs.Runs.{Answer, run, Says}
-use Rattle.machine.specs.Runs.Answer.{pause, stopped}
-use Rattle.machine.specs.Runs.Says.{used_up, halted}
-use Rattle.machine.specs.Steps.{numbers, step}
-use Rattle.machine.proofs.RunLaws.{run-lawful}
-use Rattle.machine.proofs.StepLaws.{step-first}
+use Rattle.layout.specs.Below.Runs.{Answer, run, Says}
+use Rattle.layout.specs.Below.Runs.Answer.{pause, stopped}
+use Rattle.layout.specs.Below.Runs.Says.{used_up, halted}
+use Rattle.layout.specs.Below.Steps.{numbers, step}
+use Rattle.layout.proofs.Below.RunLaws.{run-lawful}
+use Rattle.layout.proofs.Below.MachineStepLaws.{step-first}
 use Rattle.layout.specs.Memory.{state_of}
 use Rattle.layout.specs.Table.{program_of}
 use Rattle.calls.specs.Calls.{packed, Call, reply_number, reply_count, Result, call_questions, run_reply, accepted_result, result_of, start_of, run_of}

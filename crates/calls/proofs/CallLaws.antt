@@ -6,15 +6,15 @@ use Rattle.lists.specs.ListLaws.{T-left, T-right}
 use Rattle.language.specs.Limits as limit
 use Rattle.language.specs.Program.{Program}
 use Rattle.language.specs.Values.{State, Inputs}
-use Rattle.machine.specs.Runs.{Answer, run, Goes, Says}
-use Rattle.machine.specs.Runs.Outcome.{stop}
-use Rattle.machine.specs.Runs.Answer.{pause, stopped}
-use Rattle.machine.specs.Runs.Says.{used_up, halted}
-use Rattle.machine.specs.Steps.{numbers, refusals, step}
-use Rattle.machine.specs.WellFormed.{good_program, good_inputs, good_state, started}
-use Rattle.machine.proofs.RunLaws.{run-lawful}
-use Rattle.machine.proofs.WellFormedLaws.{started-good}
-use Rattle.machine.proofs.StepLaws.{step-first, run-good}
+use Rattle.layout.specs.Below.Runs.{Answer, run, Goes, Says}
+use Rattle.layout.specs.Below.Runs.Outcome.{stop}
+use Rattle.layout.specs.Below.Runs.Answer.{pause, stopped}
+use Rattle.layout.specs.Below.Runs.Says.{used_up, halted}
+use Rattle.layout.specs.Below.Steps.{numbers, refusals, step}
+use Rattle.layout.specs.Below.WellFormed.{good_program, good_inputs, good_state, started}
+use Rattle.layout.proofs.Below.RunLaws.{run-lawful}
+use Rattle.layout.proofs.Below.WellFormedLaws.{started-good}
+use Rattle.layout.proofs.Below.MachineStepLaws.{step-first, run-good}
 use Rattle.layout.specs.Memory.{state_of, good_memory, written}
 use Rattle.layout.specs.Table.{program_of, good_table}
 use Rattle.layout.proofs.FineLaws.{good-fine}

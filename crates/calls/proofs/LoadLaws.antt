@@ -13,15 +13,15 @@ use Rattle.macros.specs.Load.{loaded, load_in}
 use Rattle.macros.proofs.LoadLaws.{prepared-lined, unfit_numbers, unfit-listed}
 use Rattle.macros.specs.Prepared.{Prepared, prepared}
 use Rattle.macros.specs.Prepared.Prepared.{unfit, ready}
-use Rattle.syntax.specs.Ending.{last_place, last_questions}
-use Rattle.syntax.specs.Items.{Item, statements_from}
-use Rattle.syntax.specs.Load.{Loaded, load_from, unless_refused, program_of, Lined, text_loads}
-use Rattle.syntax.specs.Load.Loaded.{refused, accepted}
-use Rattle.syntax.proofs.LoadLaws.{all_listed, refuse-listed}
-use Rattle.syntax.specs.Questions.{questions}
-use Rattle.syntax.specs.Tables.{Draft, blank, draft_after}
-use Rattle.syntax.specs.Verdict.{Question, Verdict, first_no}
-use Rattle.syntax.specs.Verdict.Verdict.{yes, refuse}
+use Rattle.macros.specs.Below.Ending.{last_place, last_questions}
+use Rattle.macros.specs.Below.Items.{Item, statements_from}
+use Rattle.macros.specs.Below.SyntaxLoad.{Loaded, load_from, unless_refused, program_of, Lined, text_loads}
+use Rattle.macros.specs.Below.SyntaxLoad.Loaded.{refused, accepted}
+use Rattle.macros.proofs.Below.SyntaxLoadLaws.{all_listed, refuse-listed}
+use Rattle.macros.specs.Below.Questions.{questions}
+use Rattle.macros.specs.Below.Tables.{Draft, blank, draft_after}
+use Rattle.macros.specs.Below.SyntaxVerdict.{Question, Verdict, first_no}
+use Rattle.macros.specs.Below.SyntaxVerdict.Verdict.{yes, refuse}
 use Rattle.calls.specs.Calls.{load_number, load_line, load_answer}
 use Rattle.calls.proofs.AnswerLaws.{packed-number, packed-value}
 

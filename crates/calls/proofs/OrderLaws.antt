@@ -1,7 +1,7 @@
 -- The questions on a start or run one by one: the first no decides, and three yeses accept.
 use Rattle.std.specs.Prelude.{◌≡◌, true, false, List, ℕ}
 use Rattle.std.proofs.Math.Path.{refl}
-use Rattle.machine.specs.WellFormed.{good_inputs}
+use Rattle.layout.specs.Below.WellFormed.{good_inputs}
 use Rattle.layout.specs.Table.{good_table}
 use Rattle.calls.specs.Calls.{Call, call_inputs, Result, memory_passes, accepted_result, result_of}
 use Rattle.calls.specs.Calls.Reply.{refusal}

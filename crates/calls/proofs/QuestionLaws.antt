@@ -5,7 +5,7 @@ use Rattle.std.proofs.Math.Dec.{eqb_refl}
 use Rattle.lists.specs.Lists.{all, any, among}
 use Rattle.language.specs.Program.{Program}
 use Rattle.language.specs.Values.{State, Inputs}
-use Rattle.machine.specs.Steps.{Question, numbers, questions, refusals}
+use Rattle.layout.specs.Below.Steps.{Question, numbers, questions, refusals}
 use Rattle.calls.specs.Answers.{FirstNo}
 
 -- where no question is answered no, all are answered yes

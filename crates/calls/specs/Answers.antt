@@ -2,8 +2,8 @@
 use Rattle.std.specs.Prelude.{◌≡◌, ◌↔◌, ◌≢◌, List, [], ◌∷◌, ℕ, ◌<◌}
 use Rattle.language.specs.Program.{Program}
 use Rattle.language.specs.Values.{Inputs}
-use Rattle.machine.specs.Runs.{Goes}
-use Rattle.machine.specs.Steps.{Question, numbers, questions, refusals, step}
+use Rattle.layout.specs.Below.Runs.{Goes}
+use Rattle.layout.specs.Below.Steps.{Question, numbers, questions, refusals, step}
 use Rattle.layout.specs.Memory.{state_of}
 use Rattle.calls.specs.Calls.{Reply, reply_number, reply_count, Result}
 use Rattle.calls.specs.Calls.Reply.{refusal}

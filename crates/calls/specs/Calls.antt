@@ -3,14 +3,14 @@ use Rattle.std.specs.Prelude.{Bool, cond, List, [], ◌∷◌, ◌++◌, ℕ, �
 use Rattle.language.specs.Limits as limit
 use Rattle.lists.specs.Lists.{if_any}
 use Rattle.language.specs.Values.{State, Inputs}
-use Rattle.machine.specs.Runs.{Answer, Run, run}
-use Rattle.machine.specs.Runs.Answer.{pause, stopped}
-use Rattle.machine.specs.Steps.{Question, refusals, step}
-use Rattle.machine.specs.WellFormed.{good_inputs, started}
+use Rattle.layout.specs.Below.Runs.{Answer, Run, run}
+use Rattle.layout.specs.Below.Runs.Answer.{pause, stopped}
+use Rattle.layout.specs.Below.Steps.{Question, refusals, step}
+use Rattle.layout.specs.Below.WellFormed.{good_inputs, started}
 use Rattle.layout.specs.Memory.{state_of, long_enough, good_memory, written}
 use Rattle.layout.specs.Table.{table_cells, program_of, good_table}
-use Rattle.syntax.specs.Load.{Loaded}
-use Rattle.syntax.specs.Load.Loaded.{refused, accepted}
+use Rattle.macros.specs.Below.SyntaxLoad.{Loaded}
+use Rattle.macros.specs.Below.SyntaxLoad.Loaded.{refused, accepted}
 
 -- The answer of a call is one number of 64 bits: the number in the upper 32, the line or the count in the lower
 abbrev pub packed : ℕ → ℕ → ℕ

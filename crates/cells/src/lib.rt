@@ -1,5 +1,6 @@
 // Cells of lent memory: copy a slice in at a place, clear a run, and read and write numbers.
 #![tactic(auto)]
+
 ghost use Rattle.std.specs.Prelude.{◌≡◌, ◌+◌, ◌≤◌, ◌<◌, length, get_or, set};
 ghost use Rattle.cells.specs.Cells.{pasted, cleared, two, three, two_at, three_at, Number, Writable};
 
@@ -95,4 +96,14 @@ pub fn write(cells: &mut [u32], k: usize, n: usize)
     ensures { cells.new ≡ set cells.old k n }
 {
     cells[k] = n as u32;
+}
+
+// Of `language`, passed on to the crates above.
+pub mod from_language {
+    pub use layout::from_language::Machine;
+}
+
+// Of `layout`, passed on to the crates above.
+pub mod from_layout {
+    pub use layout::{StatePlaces, TablePlaces};
 }

@@ -8,3 +8,4 @@ pub mod Question
 pub mod Steps
 pub mod Starts
 pub mod Loops
+pub mod Below

@@ -1,2 +1,3 @@
 pub mod Passes
 pub mod Reads
+pub mod Below

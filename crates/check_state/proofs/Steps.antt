@@ -12,8 +12,8 @@ use Rattle.check_memory.proofs.Question.{question-63, too_short}
 use Rattle.check_memory.proofs.Steps.{passed, readable, both-whole}
 use Rattle.check_memory.specs.Passes.{laid, sound, counted, distinct, sound_stack, sound_output, fitting}
 use Rattle.check_memory.specs.Reads.{Started, StringLent, Comparable}
-use Rattle.check_strings.proofs.ComponentWalks.{bytes_take}
-use Rattle.check_strings.specs.Sound.{Bytes}
+use Rattle.check_memory.proofs.Below.ComponentWalks.{bytes_take}
+use Rattle.check_memory.specs.Below.Sound.{Bytes}
 use Rattle.layout.specs.Cells.{cell, three_at}
 use Rattle.layout.specs.Memory.{good_memory}
 use Rattle.layout.specs.Table.{program_of, good_table}

@@ -1,1 +1,2 @@
 pub mod ClassRunning
+pub mod Below

@@ -1,5 +1,6 @@
 // A class of sixteen: one program on the work of up to sixteen pupils.
 #![tactic(auto)]
+
 ghost use Rattle.std.specs.Prelude.{◌≡◌, [], ◌∷◌, ◌+◌, ◌≤◌, length};
 ghost use Rattle.cells.specs.Cells.{pasted};
 ghost use Rattle.class_calls.specs.Class.{pupil, sum, fits_by, lent_of};
@@ -158,4 +159,9 @@ pub fn run_class(
     let mut state = [0u8; Machine::STATE];
     run_pupils(table, inputs, lengths, budgets, &mut state, results, out);
     80
+}
+
+// Of `running`, passed on to the crates above.
+pub mod from_running {
+    pub use running::run;
 }

@@ -1,1 +1,2 @@
 pub mod Offering
+pub mod Below

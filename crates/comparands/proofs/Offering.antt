@@ -22,8 +22,8 @@ use Rattle.table.specs.Good.{GoodIndex}
 use Rattle.table.specs.declared.Letter.{Letter}
 use Rattle.table.specs.declared.Argument.{Argument}
 use Rattle.table.specs.declared.Argument.TheVariants as argument
-use Rattle.tests.specs.Prepares.{ExprReadable, TextReadable}
-use Rattle.tests.proofs.Values.{none-there, one-there, front_fits, front-encoded, copied-front, copied_is, word-encoded, index_back}
+use Rattle.operands.specs.Below.Prepares.{ExprReadable, TextReadable}
+use Rattle.operands.proofs.Below.Values.{none-there, one-there, front_fits, front-encoded, copied-front, copied_is, word-encoded, index_back}
 use Rattle.operands.specs.Operands.{ReadsNumber}
 use Rattle.operands.specs.declared.Operand.{Operand}
 use Rattle.operands.proofs.Codes.{abs-most}

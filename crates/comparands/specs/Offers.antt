@@ -10,7 +10,7 @@ use Rattle.table.specs.Denote.{letter_of, arg_of}
 use Rattle.table.specs.declared.Letter.{Letter}
 use Rattle.table.specs.declared.Argument.{Argument}
 use Rattle.instructions.specs.Does.{stop_of}
-use Rattle.tests.specs.Prepares.{OtherLetter, LetterGiven, ArgumentGiven}
+use Rattle.operands.specs.Below.Prepares.{OtherLetter, LetterGiven, ArgumentGiven}
 use Rattle.comparands.specs.declared.Held.{Held}
 
 abbrev pub LetterHoldable : List ℕ → List ℕ → List ℕ → Letter → ℕ → ℕ → Type 0

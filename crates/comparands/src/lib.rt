@@ -1,5 +1,6 @@
 // What a relation compares with: the components that its second argument offers, put beside.
 #![tactic(auto)]
+
 ghost use Rattle.std.specs.Prelude.{[], ◌∷◌, length, take};
 ghost use Rattle.language.specs.Letters as letters;
 ghost use Rattle.language.specs.Values as values;
@@ -8,7 +9,7 @@ ghost use Rattle.layout.specs.Cells.{uncode};
 ghost use Rattle.layout.specs.Table.{text_by};
 ghost use Rattle.packed.specs.Packed.{table_of};
 ghost use Rattle.state.specs.Working.{state_at, nth};
-ghost use Rattle.tests.specs.Prepares.{ExprReadable, TextReadable};
+ghost use Rattle.operands.specs.Below.Prepares.{ExprReadable, TextReadable};
 ghost use Rattle.comparands.specs.Offers.{LetterHoldable, Holdable, Offers, LetterOffers, ArgumentOffers, CodeHoldable};
 
 // A question answered no, or 0 and how many bytes the components take.

@@ -9,12 +9,12 @@ use lib.ListN.{length, take, drop, length-take}
 use lib.Seq.{drop-cons}
 use borrow.Author.Tests.{eq-eqb, ne_eqb, eqb-true, leb-true, leb-false}
 use Rattle.cells.specs.Cells.{Number}
-use Rattle.language.specs.Values.{Component, chars, value, link, kind}
-use Rattle.language.specs.Values.Component.{word, address}
-use Rattle.layout.specs.Bounds.{EncodedOne}
-use Rattle.layout.specs.Cells.{cell, three_at, code, uncode}
-use Rattle.layout.specs.Components.{component_bytes, component_size, component_in}
-use Rattle.layout.proofs.ComponentLaws.{component-long}
+use Rattle.cells.specs.Below.LanguageValues.{Component, chars, value, link, kind}
+use Rattle.cells.specs.Below.LanguageValues.Component.{word, address}
+use Rattle.cells.specs.Below.LayoutBounds.{EncodedOne}
+use Rattle.cells.specs.Below.LayoutCells.{cell, three_at, code, uncode}
+use Rattle.cells.specs.Below.Components.{component_bytes, component_size, component_in}
+use Rattle.cells.proofs.Below.ComponentLaws.{component-long}
 use Rattle.components.specs.Parts.{Leading, LentChars}
 
 -- ---- how many cells there are

@@ -1,3 +1,4 @@
 pub mod Fronts
 pub mod Walks
 pub mod Makings
+pub mod Below

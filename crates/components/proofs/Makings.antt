@@ -9,11 +9,11 @@ use lib.ListN.{length, get_or, take, drop, set, length-append, drop_of_length-le
 use lib.Seq.{length-take-le, drop_at, drop-cons, set_split}
 use Rattle.cells.proofs.Laws.{length-pasted, pasted-none, pasted-pasted, set-two}
 use Rattle.cells.specs.Cells.{pasted}
-use Rattle.language.specs.Values.{Component}
-use Rattle.layout.specs.Bounds.{WholeComponents}
-use Rattle.layout.specs.Components.{component_bytes, components_bytes, component_in, components_in}
-use Rattle.lists.specs.Lists.{joined}
-use Rattle.machine.specs.Arguments.{char}
+use Rattle.cells.specs.Below.LanguageValues.{Component}
+use Rattle.cells.specs.Below.LayoutBounds.{WholeComponents}
+use Rattle.cells.specs.Below.Components.{component_bytes, components_bytes, component_in, components_in}
+use Rattle.cells.specs.Below.Lists.{joined}
+use Rattle.cells.specs.Below.MachineArguments.{char}
 use Rattle.components.specs.Parts.{Written}
 use Rattle.components.proofs.Walks.{Step, none_left, part-long, bytes_at}
 

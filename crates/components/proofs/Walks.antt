@@ -10,14 +10,14 @@ use lib.ListN.{length, get_or, take, drop, length-drop, take-append-drop}
 use lib.Seq.{get_or-drop, get_or-take, drop-drop, length-take-le, take-append_seam, drop-append_seam}
 use borrow.Author.Tests.{ne_eqb}
 use Rattle.cells.specs.Cells.{Number}
-use Rattle.language.specs.Values.{Component, chars, kind}
-use Rattle.language.specs.Values.Component.{word, address}
-use Rattle.layout.specs.Bounds.{Each, Ok, EncodedOne, Encoded, WholeComponents}
-use Rattle.layout.proofs.CellLaws.{each_left, each_right}
-use Rattle.layout.specs.Cells.{cell}
-use Rattle.layout.specs.Components.{component_bytes, components_bytes, component_size, component_in, components_in}
-use Rattle.layout.proofs.ComponentLaws.{next-component, components-none, components_bytes-append, components_bytes-one}
-use Rattle.machine.specs.Arguments.{first}
+use Rattle.cells.specs.Below.LanguageValues.{Component, chars, kind}
+use Rattle.cells.specs.Below.LanguageValues.Component.{word, address}
+use Rattle.cells.specs.Below.LayoutBounds.{Each, Ok, EncodedOne, Encoded, WholeComponents}
+use Rattle.cells.proofs.Below.LayoutCellLaws.{each_left, each_right}
+use Rattle.cells.specs.Below.LayoutCells.{cell}
+use Rattle.cells.specs.Below.Components.{component_bytes, components_bytes, component_size, component_in, components_in}
+use Rattle.cells.proofs.Below.ComponentLaws.{next-component, components-none, components_bytes-append, components_bytes-one}
+use Rattle.cells.specs.Below.MachineArguments.{first}
 use Rattle.components.specs.Parts.{first_size}
 
 -- the step of a walk, in the places that the code has: `at`, and e behind the component there

@@ -1,12 +1,12 @@
 -- What the readers and makers of components ask and tell.
 use Rattle.std.specs.Prelude.{◌≡◌, cond, List, map, ℕ, ◌+◌, ◌≤◌, eqb, length}
 use Rattle.cells.specs.Cells.{pasted}
-use Rattle.language.specs.Limits as limit
-use Rattle.language.specs.Values.{Component, chars, kind}
-use Rattle.layout.specs.Bounds.{WholeComponents}
-use Rattle.layout.specs.Cells.{cell}
-use Rattle.layout.specs.Components.{component_size, component_in, components_in}
-use Rattle.lists.specs.Lists.{joined}
+use Rattle.cells.specs.Below.Limits as limit
+use Rattle.cells.specs.Below.LanguageValues.{Component, chars, kind}
+use Rattle.cells.specs.Below.LayoutBounds.{WholeComponents}
+use Rattle.cells.specs.Below.LayoutCells.{cell}
+use Rattle.cells.specs.Below.Components.{component_size, component_in, components_in}
+use Rattle.cells.specs.Below.Lists.{joined}
 
 -- how many cells the first component of a sequence takes
 abbrev pub first_size : List ℕ → ℕ

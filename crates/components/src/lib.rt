@@ -1,11 +1,12 @@
 // Components in bytes, read and made, over parts of strings.
 #![tactic(auto)]
+
 ghost use Rattle.std.specs.Prelude.{◌≡◌, cond, map, reverse, ◌+◌, ◌*◌, ◌≤◌, length};
-ghost use Rattle.language.specs.Values.{value, kind, link};
-ghost use Rattle.language.specs.Values.Component.{word, number, address};
-ghost use Rattle.machine.specs.Arguments.{char};
-ghost use Rattle.layout.specs.Cells.{code, uncode};
-ghost use Rattle.layout.specs.Components.{component_bytes, components_bytes, component_size, component_in, components_in};
+ghost use Rattle.cells.specs.Below.LanguageValues.{value, kind, link};
+ghost use Rattle.cells.specs.Below.LanguageValues.Component.{word, number, address};
+ghost use Rattle.cells.specs.Below.MachineArguments.{char};
+ghost use Rattle.cells.specs.Below.LayoutCells.{code, uncode};
+ghost use Rattle.cells.specs.Below.Components.{component_bytes, components_bytes, component_size, component_in, components_in};
 ghost use Rattle.cells.specs.Cells.{pasted, Number, Writable};
 ghost use Rattle.components.specs.Parts.{first_size, spelled, Leading, LeadingKind, LentChars, WordRoom, CopyRoom, JoinRoom, Written};
 
@@ -152,4 +153,9 @@ pub fn split(out: &mut [u8], w: &[u8]) -> usize
         i += 1;
     }
     2 * i
+}
+
+// Of `cells`, passed on to the crates above.
+pub mod from_cells {
+    pub use cells::{put, wide};
 }

@@ -17,8 +17,8 @@ use Rattle.layout.proofs.CellLaws.{each-drop, length-each, two_back}
 use Rattle.layout.specs.Memory.{strings}
 use Rattle.layout.proofs.MemoryLaws.{string-stack}
 use Rattle.layout.specs.Places as layout
-use Rattle.gaps.specs.Gaps.{pushed_front}
-use Rattle.gaps.specs.Pool.{abs, string, Holds}
+use Rattle.store.specs.Below.Gaps.{pushed_front}
+use Rattle.store.specs.Below.Pool.{abs, string, Holds}
 use Rattle.store.specs.Store.{Pushable, Droppable, Within, dropped_front}
 use Rattle.layout.specs.Places.{stack_string}
 use Rattle.state.specs.Working.{state_at, HoldsState, Stands, on_store}

@@ -5,13 +5,13 @@ use Prim.Native.Nat.{ℕ, zero, suc, ◌+◌, ◌-◌, ◌≤◌, ◌<◌}
 use native.Mathlib.Omega.{arith}
 use lib.Dec.{T}
 use lib.ListN.{length, get_or, drop, length-map, length-take, length-drop}
-use Rattle.acceptance.proofs.RowLaws.{append-none, drop-none}
-use Rattle.arguments.specs.Valued.{FirstValue, Valued}
-use Rattle.arguments.specs.declared.Value.{Value}
-use Rattle.arguments.specs.declared.Values.{Values}
+use Rattle.names.proofs.Below.RowLaws.{append-none, drop-none}
+use Rattle.argument_cells.specs.Below.Valued.{FirstValue, Valued}
+use Rattle.argument_cells.specs.Below.Value.{Value}
+use Rattle.argument_cells.specs.Below.ArgumentsValues.{Values}
 use Rattle.cells.specs.Cells.{Number}
-use Rattle.drafts.specs.Drafting.{draft_arg}
-use Rattle.drafts.specs.Marks.{place_by, marks_in}
+use Rattle.names.specs.Below.Drafting.{draft_arg}
+use Rattle.names.specs.Below.DraftsMarks.{place_by, marks_in}
 use Rattle.language.specs.Instructions.{operator_of}
 use Rattle.language.specs.Limits as limit
 use Rattle.language.specs.Program.{Arg, Label, Program}
@@ -25,8 +25,8 @@ use Rattle.statements.specs.FaultLaws.{no-fault}
 use Rattle.statements.specs.StatementAt.{statement_at}
 use Rattle.statements.specs.declared.Fault.{Fault}
 use Rattle.statements.specs.declared.Fault.TheVariants.{Clear, At}
-use Rattle.entering.specs.Entering.{Held}
-use Rattle.entering.proofs.Rows.{nth, row_at}
+use Rattle.argument_cells.specs.Below.Entering.{Held}
+use Rattle.argument_cells.proofs.Below.EnteringRows.{nth, row_at}
 use Rattle.syntax.specs.ArgumentForms.{Argument, arguments}
 use Rattle.syntax.specs.Questions.{beyond}
 use Rattle.table.specs.declared.Argument as table
@@ -184,7 +184,7 @@ module _ {s : List ℕ} {i : Instruction} {ms : List ℕ} {a b : ℕ} {c : List 
           )
 
       pub writable : Writable s i ms a b d
-      unfolding with_values Rattle.entering.specs.Entering.set_numbers Rattle.entering.specs.Entering.set_texts
+      unfolding with_values Rattle.argument_cells.specs.Below.Entering.set_numbers Rattle.argument_cells.specs.Below.Entering.set_texts
       writable =
           record {
             next = pre.next;

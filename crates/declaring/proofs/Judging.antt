@@ -5,10 +5,10 @@ use Prim.Native.Nat.{ℕ, zero, suc, ◌+◌, ◌-◌, ◌≤◌, ◌<◌}
 use native.Mathlib.Omega.{arith}
 use lib.ListN.{length, take, drop}
 use lib.Seq.{drop-drop, drop-nil, take-nil}
-use Rattle.arguments.specs.Valued.{Valued}
-use Rattle.arguments.specs.declared.Values.{Values}
-use Rattle.drafts.specs.Marks.{place_by, marks_in}
-use Rattle.entering.specs.Entering.{Enters, SomeValues, TextsEntered, NumbersEntered, long_text, large_number, set_texts, set_numbers}
+use Rattle.argument_cells.specs.Below.Valued.{Valued}
+use Rattle.argument_cells.specs.Below.ArgumentsValues.{Values}
+use Rattle.names.specs.Below.DraftsMarks.{place_by, marks_in}
+use Rattle.argument_cells.specs.Below.Entering.{Enters, SomeValues, TextsEntered, NumbersEntered, long_text, large_number, set_texts, set_numbers}
 use Rattle.statements.specs.Faults.{lower}
 use Rattle.statements.specs.FaultLaws.{fault-both, lower-clear}
 use Rattle.language.specs.Limits as limit

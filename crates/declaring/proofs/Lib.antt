@@ -1,3 +1,4 @@
 pub mod Naming
 pub mod Judging
 pub mod Instructing
+pub mod Below

@@ -4,8 +4,8 @@ use mathlib.Core.List.{List, map-append, append_assoc, append-nil}
 use Prim.Native.Nat.{ℕ, ◌+◌, ◌-◌, ◌/◌, ◌%◌, ◌≤◌, ◌<◌}
 use native.Mathlib.Omega.{arith}
 use lib.ListN.{length, get_or, take, drop, length-append, length-map, length-take, length-drop}
-use Rattle.drafts.specs.Marks.{word_by, marks_in}
-use Rattle.entering.specs.Entering.{Held}
+use Rattle.names.specs.Below.DraftsMarks.{word_by, marks_in}
+use Rattle.argument_cells.specs.Below.Entering.{Held}
 use Rattle.language.specs.Program.{Label}
 use Rattle.layout.specs.Cells.{cell}
 use Rattle.packed.specs.Packed.{table_of}

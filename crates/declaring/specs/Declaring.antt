@@ -1,10 +1,10 @@
 -- A statement with an instruction comes to the program table: question 11, and the program with it.
 use Rattle.std.specs.Prelude.{◌≡◌, List, [], ◌∷◌, ◌++◌, map, ℕ, ◌+◌, ◌-◌, ◌≤◌, ◌<◌, T, length, get_or, drop}
-use Rattle.arguments.specs.Valued.{Valued, ValuesRead}
-use Rattle.arguments.specs.declared.Values.{Values}
-use Rattle.drafts.specs.Drafting.{draft_arg}
-use Rattle.drafts.specs.Marks.{place_by, length_by, word_by, Marked}
-use Rattle.entering.specs.Entering.{excess, all_added, long_text, large_number, set_texts, set_numbers, Held, ShortItem, EnterableValues}
+use Rattle.argument_cells.specs.Below.Valued.{Valued, ValuesRead}
+use Rattle.argument_cells.specs.Below.ArgumentsValues.{Values}
+use Rattle.names.specs.Below.Drafting.{draft_arg}
+use Rattle.names.specs.Below.DraftsMarks.{place_by, length_by, word_by, Marked}
+use Rattle.argument_cells.specs.Below.Entering.{excess, all_added, long_text, large_number, set_texts, set_numbers, Held, ShortItem, EnterableValues}
 use Rattle.language.specs.Instructions.{operation, operator_of}
 use Rattle.language.specs.Limits as limit
 use Rattle.language.specs.Program.{Arg, Instr, Label, Program}

@@ -1,3 +1,4 @@
 pub mod Declaring
 pub mod TabledLaws
 pub mod SpeltLaws
+pub mod Below

@@ -6,10 +6,10 @@ use Rattle.std.proofs.Math.Bool.{Bool, true, false, cond}
 use mathlib.Core.List.{List, [], ◌∷◌, ◌++◌, append_assoc}
 use Prim.Native.Nat.{ℕ, ◌+◌, ◌≤◌}
 use Rattle.std.proofs.Math.ListN.{length, get_or, take, drop, length-append}
-use Rattle.acceptance.proofs.RowLaws.{each_map, each_both}
-use Rattle.drafts.specs.DraftingLaws.{place-back, length_back}
-use Rattle.drafts.specs.Marks.{mark, place_by, word_by}
-use Rattle.drafts.specs.Tabled.{Spelt}
+use Rattle.names.proofs.Below.RowLaws.{each_map, each_both}
+use Rattle.names.specs.Below.DraftingLaws.{place-back, length_back}
+use Rattle.names.specs.Below.DraftsMarks.{mark, place_by, word_by}
+use Rattle.names.specs.Below.Tabled.{Spelt}
 use Rattle.language.specs.Limits as limit
 use Rattle.layout.specs.Bounds.{Each}
 use Rattle.layout.proofs.CellLaws.{each_append, each-drop}

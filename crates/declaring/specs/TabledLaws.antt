@@ -6,17 +6,17 @@ use Rattle.std.proofs.Math.Bool.{not}
 use mathlib.Core.List.{List, [], ◌∷◌, ◌++◌, map, map-append}
 use Rattle.std.proofs.Math.Dec.{T}
 use Rattle.std.proofs.Math.ListN.{length-map}
-use Rattle.acceptance.specs.Drafts.{SoundArgument, SoundWritten, SoundTables}
-use Rattle.acceptance.proofs.ReadingLaws.{Other, by_form, text-reads, as-word, numeral-word, arguments-of}
-use Rattle.acceptance.proofs.RowLaws.{each_map, each_keep, each-mapped}
-use Rattle.drafts.specs.Drafting.{draft_arg, draft_instr, draft_program}
-use Rattle.drafts.specs.DraftingLaws.{place-back}
-use Rattle.drafts.specs.Marks.{mark, place_by, word_by}
-use Rattle.drafts.specs.Tabled.{Spelt, Tabled}
-use Rattle.entering.specs.Entering.{set_texts, set_numbers}
-use Rattle.heads.specs.Heads.{Headed}
-use Rattle.heads.specs.HeadLaws.{operator-here, rest-here}
-use Rattle.heads.specs.declared.Head.{Head}
+use Rattle.names.specs.Below.Drafts.{SoundArgument, SoundWritten, SoundTables}
+use Rattle.names.proofs.Below.ReadingLaws.{Other, by_form, text-reads, as-word, numeral-word, arguments-of}
+use Rattle.names.proofs.Below.RowLaws.{each_map, each_keep, each-mapped}
+use Rattle.names.specs.Below.Drafting.{draft_arg, draft_instr, draft_program}
+use Rattle.names.specs.Below.DraftingLaws.{place-back}
+use Rattle.names.specs.Below.DraftsMarks.{mark, place_by, word_by}
+use Rattle.names.specs.Below.Tabled.{Spelt, Tabled}
+use Rattle.argument_cells.specs.Below.Entering.{set_texts, set_numbers}
+use Rattle.argument_cells.specs.Below.Heads.{Headed}
+use Rattle.argument_cells.specs.Below.HeadLaws.{operator-here, rest-here}
+use Rattle.argument_cells.specs.Below.Head.{Head}
 use Rattle.language.specs.Instructions.{operation, operator_of}
 use Rattle.language.specs.Limits as limit
 use Rattle.language.specs.Program.{Op, Program}

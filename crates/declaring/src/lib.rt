@@ -1,13 +1,14 @@
 // A judged statement with an instruction comes to the program table: question 11, then its labels, its texts and numbers, and the instruction.
 #![tactic(auto)]
+
 ghost use Rattle.std.specs.Prelude.{◌≤◌, length};
-ghost use Rattle.drafts.specs.Marks.{word_by, marks_in};
+ghost use Rattle.names.specs.Below.DraftsMarks.{word_by, marks_in};
 ghost use Rattle.writing.specs.Writing.{Changes, with_label, label_of};
 ghost use Rattle.declaring.specs.Declaring.{with_labels, labels_by, Nameable, Labelling, Over, LabelsTold, InstrTold, Judgeable, JudgesValues, Writable, WritesValues, Declarable, DeclaresValues};
 ghost use Rattle.language.specs.Limits as limit;
 
 use argument_cells::argument_cell;
-use arguments::Values;
+use argument_cells::from_arguments::Values;
 use language::Machine;
 use names::lowest_mark;
 use statements::{Fault, lower};
@@ -56,8 +57,8 @@ fn judge_instruction(
     let values = i.values;
     let a = instruction_beyond(table, i.at);
     let b = labels_beyond(table, names, from, to);
-    let c = entering::enter_text_values(text, values, table);
-    let d = entering::enter_number_values(values, table);
+    let c = argument_cells::from_entering::enter_text_values(text, values, table);
+    let d = argument_cells::from_entering::enter_number_values(values, table);
     lower(lower(lower(a, b), c), d)
 }
 
@@ -129,4 +130,19 @@ pub fn declare_instruction(
             Fault::Clear
         }
     }
+}
+
+// Of `argument_cells`, passed on to the crates above.
+pub mod from_argument_cells {
+    pub use argument_cells::text_of;
+}
+
+// Of `entering`, passed on to the crates above.
+pub mod from_entering {
+    pub use argument_cells::from_entering::enter_text_of;
+}
+
+// Of `names`, passed on to the crates above.
+pub mod from_names {
+    pub use names::lowest_mark;
 }

@@ -9,9 +9,9 @@ use lib.ListN.{length, get_or, take, drop}
 use lib.Seq.{drop-nil}
 use Rattle.acceptance.proofs.ArgumentLaws.{word-apart}
 use Rattle.acceptance.proofs.RowLaws.{fails, append-none, cond-none}
-use Rattle.arguments.specs.Valued.{Ordered}
+use Rattle.switch_lists.specs.Below.Valued.{Ordered}
 use Rattle.declaring.specs.SpeltLaws.{plain}
-use Rattle.entering.specs.Entering.{long_text, Held, ShortItem}
+use Rattle.declaring.specs.Below.Entering.{long_text, Held, ShortItem}
 use Rattle.language.specs.Program.{Entry}
 use Rattle.layout.specs.Bounds.{Each}
 use Rattle.layout.proofs.CellLaws.{each_at}

@@ -7,7 +7,7 @@ use native.Mathlib.Omega.{arith}
 use lib.ListN.{length, set, length-append, length-map}
 use Rattle.acceptance.proofs.RowLaws.{append-none, drop-none}
 use Rattle.declaring.specs.Declaring.{texts_excess}
-use Rattle.entering.specs.Entering.{set_texts}
+use Rattle.declaring.specs.Below.Entering.{set_texts}
 use Rattle.statements.specs.FaultLaws.{no-fault}
 use Rattle.language.specs.Program.{Program}
 use Rattle.layout.specs.Cells.{cell}

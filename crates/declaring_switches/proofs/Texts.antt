@@ -9,16 +9,16 @@ use lib.Dec.{T, leb}
 use lib.ListN.{length, get_or, drop, length-map, drop_of_length-le}
 use lib.Seq.{drop-cons, drop-nil}
 use Rattle.acceptance.proofs.RowLaws.{drop-none}
-use Rattle.arguments.specs.Valued.{ItemValued, Ordered}
-use Rattle.argument_cells.specs.ArgumentCells.{TextNamed, TextTold}
+use Rattle.switch_lists.specs.Below.Valued.{ItemValued, Ordered}
+use Rattle.declaring.specs.Below.ArgumentCells.{TextNamed, TextTold}
 use Rattle.declaring.specs.Declaring.{texts_excess}
 use Rattle.declaring.specs.SpeltLaws.{statement-plain}
-use Rattle.entering.specs.Entering.{excess, all_added, long_text, set_texts, ShortItem, EnterableValue, TextEntered}
-use Rattle.entering.specs.EnteringLaws.{goes_on, excess-here, fresh-from}
-use Rattle.entering.proofs.Adding.{texts-laws}
+use Rattle.declaring.specs.Below.Entering.{excess, all_added, long_text, set_texts, ShortItem, EnterableValue, TextEntered}
+use Rattle.declaring.specs.Below.EnteringLaws.{goes_on, excess-here, fresh-from}
+use Rattle.declaring.proofs.Below.EnteringAdding.{texts-laws}
 use Rattle.statements.specs.FaultLaws.{fault-both, lower-clear, no-fault}
 use Rattle.statements.specs.Faults.{lower}
-use Rattle.finding.specs.Finding.{Tells}
+use Rattle.declaring.specs.Below.Finding.{Tells}
 use Rattle.language.specs.Program.{Program}
 use Rattle.language.specs.Values.{numeral}
 use Rattle.layout.specs.Bounds.{Each}

@@ -1,8 +1,8 @@
 -- A statement with a switch comes to the program table: question 11, and the program with it.
 use Rattle.std.specs.Prelude.{◌≡◌, false, List, [], ◌∷◌, ◌++◌, ℕ, ◌≤◌, length, drop}
-use Rattle.arguments.specs.Valued.{Ordered}
+use Rattle.switch_lists.specs.Below.Valued.{Ordered}
 use Rattle.declaring.specs.Declaring.{texts_excess}
-use Rattle.entering.specs.Entering.{all_added, long_text, set_texts, Held, ShortItem}
+use Rattle.declaring.specs.Below.Entering.{all_added, long_text, set_texts, Held, ShortItem}
 use Rattle.statements.specs.Faults.{lower}
 use Rattle.language.specs.Limits as limit
 use Rattle.language.specs.Program.{Program}

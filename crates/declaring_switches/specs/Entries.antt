@@ -1,12 +1,12 @@
 -- The entries of a switch come to the program table one by one.
 use Rattle.std.specs.Prelude.{◌≡◌, Bool, true, List, [], ◌∷◌, ◌++◌, ℕ, ◌+◌, ◌≤◌, ◌<◌, length, drop}
-use Rattle.entering.specs.Entering.{Held, ShortItem, EntersOne, long_text, set_texts}
+use Rattle.declaring.specs.Below.Entering.{Held, ShortItem, EntersOne, long_text, set_texts}
 use Rattle.language.specs.Limits as limit
 use Rattle.language.specs.Program.{Entry, Switch, Program}
 use Rattle.layout.specs.Bounds.{Each, KeptText}
 use Rattle.layout.specs.Table.{text_ref, all_entries}
 use Rattle.lists.specs.Lists.{if_any, bytes_equal}
-use Rattle.finding.specs.Finding.{Tells}
+use Rattle.declaring.specs.Below.Finding.{Tells}
 use Rattle.statements.specs.StatementAt.{statement_at}
 use Rattle.switch_lists.specs.Switches.{TextCell}
 use Rattle.syntax.specs.Items.{Item}

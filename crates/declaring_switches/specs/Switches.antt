@@ -1,6 +1,6 @@
 -- A switch comes to the program table, with the mark of its name.
 use Rattle.std.specs.Prelude.{◌≡◌, Bool, List, ℕ, ◌+◌, ◌≤◌, ◌<◌, length, drop, set}
-use Rattle.entering.specs.Entering.{Held}
+use Rattle.declaring.specs.Below.Entering.{Held}
 use Rattle.language.specs.Limits as limit
 use Rattle.language.specs.Program.{Program}
 use Rattle.layout.specs.Cells.{cell}

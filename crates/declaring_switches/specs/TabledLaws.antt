@@ -12,7 +12,7 @@ use Rattle.drafts.specs.Drafting.{draft_switch, draft_program}
 use Rattle.drafts.specs.DraftingLaws.{entry-words}
 use Rattle.drafts.specs.Marks.{mark, word_by, Marked}
 use Rattle.drafts.specs.Tabled.{Spelt, entry_items, Tabled}
-use Rattle.entering.specs.Entering.{set_texts}
+use Rattle.declaring.specs.Below.Entering.{set_texts}
 use Rattle.language.specs.Program.{Program}
 use Rattle.layout.specs.Bounds.{Each, KeptText}
 use Rattle.layout.proofs.CellLaws.{each_append}

@@ -1,11 +1,13 @@
 // A judged statement with a switch comes to the program table: question 11, then its texts, the switch and its entries.
 #![tactic(auto)]
+
 ghost use Rattle.std.specs.Prelude.{◌≤◌, length};
 ghost use Rattle.language.specs.Limits as limit;
 ghost use Rattle.declaring_switches.specs.DeclaringSwitches.{SwitchTold, JudgeableSwitch, EntersTexts, JudgesSwitch};
 ghost use Rattle.declaring_switches.specs.Entries.{RowNamed, RowTold, RowEntered, Listing, Lists};
 ghost use Rattle.declaring_switches.specs.Switches.{WritableSwitch, WritesSwitch, DeclarableSwitch, DeclaresSwitch};
 
+use declaring::{from_argument_cells, from_entering};
 use language::Machine;
 use statements::{Fault, lesser, lower};
 use table::Argument;
@@ -41,7 +43,7 @@ fn enter_cell(text: &[u8], m: usize, table: &mut [u32]) -> bool
     if m == 0 {
         return true;
     }
-    entering::enter_text_of(text, Argument::Text(m), table)
+    from_entering::enter_text_of(text, Argument::Text(m), table)
 }
 
 // Adds the texts of the list, entry by entry; the place of the first that has no room.
@@ -80,7 +82,7 @@ fn cell_ref(text: &[u8], m: usize, table: &[u32]) -> usize
     if m == 0 {
         return 0;
     }
-    argument_cells::text_of(text, m, table)
+    from_argument_cells::text_of(text, m, table)
 }
 
 // Adds the entries of the list to the last switch.
@@ -127,4 +129,19 @@ pub fn declare_switch(
             Fault::Clear
         }
     }
+}
+
+// Of `arguments`, passed on to the crates above.
+pub mod from_arguments {
+    pub use switch_lists::from_arguments::read_arguments;
+}
+
+// Of `declaring`, passed on to the crates above.
+pub mod from_declaring {
+    pub use declaring::{Instruction, declare_instruction};
+}
+
+// Of `switch_lists`, passed on to the crates above.
+pub mod from_switch_lists {
+    pub use switch_lists::{Listed, read_list};
 }

@@ -11,7 +11,7 @@ use Rattle.lists.specs.Quoted.{bytes}
 use Rattle.language.specs.Letters as letters
 use Rattle.language.specs.Letters.{letter_code, use_of}
 use Rattle.language.specs.Letters.Var.{expression}
-use Rattle.state.specs.Working.{nth, reading, filing}
+use Rattle.instructions.specs.Below.Working.{nth, reading, filing}
 use Rattle.table.specs.Denote.{letter_of, arg_of}
 use Rattle.table.specs.LetterLaws.{listed-letter}
 use Rattle.table.specs.Good.{GoodIndex}

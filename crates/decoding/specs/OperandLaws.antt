@@ -18,14 +18,14 @@ use Rattle.machine.specs.Effects.Go.{on}
 use Rattle.machine.specs.Facts.{ProgramFacts}
 use Rattle.machine.specs.Steps.{meaning}
 use Rattle.machine.specs.WellFormed.{form}
-use Rattle.layout.proofs.ArgumentLaws.{letter-back}
-use Rattle.layout.specs.Cells.{cell}
-use Rattle.layout.proofs.ProgramLaws.{program-ok}
-use Rattle.layout.specs.Table.{program_of, good_table}
-use Rattle.layout.proofs.TableLaws.{table-facts}
-use Rattle.layout.specs.Places as layout
-use Rattle.packed.specs.Packed.{table_of}
-use Rattle.state.specs.Working.{nth}
+use Rattle.table.proofs.Below.LayoutArgumentLaws.{letter-back}
+use Rattle.table.specs.Below.LayoutCells.{cell}
+use Rattle.table.proofs.Below.LayoutProgramLaws.{program-ok}
+use Rattle.table.specs.Below.Table.{program_of, good_table}
+use Rattle.table.proofs.Below.TableLaws.{table-facts}
+use Rattle.table.specs.Below.LayoutPlaces as layout
+use Rattle.table.specs.Below.Packed.{table_of}
+use Rattle.instructions.specs.Below.Working.{nth}
 use Rattle.table.specs.Denote.{letter_of, arg_of}
 use Rattle.table.specs.FormLaws.{one_list, two-lists, letter-told, nothing-told, label-told, name-told, index-told}
 use Rattle.table.specs.LetterLaws.{every-letter}

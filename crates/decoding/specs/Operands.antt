@@ -6,11 +6,11 @@ use Rattle.language.specs.Limits as limit
 use Rattle.language.specs.Letters.{Var, letter_code, use_of}
 use Rattle.language.specs.Letters.Var.{expression, input, output, file}
 use Rattle.language.specs.Program.{instr_at}
-use Rattle.layout.specs.Table.{program_of}
+use Rattle.table.specs.Below.Table.{program_of}
 use Rattle.machine.specs.WellFormed.{form}
 use Rattle.instructions.specs.Operands.{target}
-use Rattle.packed.specs.Packed.{table_of}
-use Rattle.state.specs.Working.{nth, reading, filing}
+use Rattle.table.specs.Below.Packed.{table_of}
+use Rattle.instructions.specs.Below.Working.{nth, reading, filing}
 use Rattle.table.specs.Denote.{letter_of, arg_of}
 use Rattle.table.specs.Good.{GoodIndex, GoodLabel, GoodSwitch, GoodArgument, GoodInstruction}
 use Rattle.table.specs.declared.Letter.{Letter}

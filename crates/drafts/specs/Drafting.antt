@@ -1,12 +1,12 @@
 -- A program while its text is read. Where a label or a switch is used, the mark of its name stands for it, and entries have no labels yet.
 use Rattle.std.specs.Prelude.{cond, List, map, ℕ, get_or, drop}
-use Rattle.language.specs.Program.{Arg, classes, Instr, Switch, Program}
-use Rattle.language.specs.Values.{amount, value_of}
+use Rattle.acceptance.specs.Below.Program.{Arg, classes, Instr, Switch, Program}
+use Rattle.acceptance.specs.Below.LanguageValues.{amount, value_of}
 use Rattle.lists.specs.Lists.{head_or}
-use Rattle.syntax.specs.ArgumentForms.{form_in, letter_of, Argument}
-use Rattle.syntax.specs.Items.{line_at}
-use Rattle.syntax.specs.Statements.{entries_in}
-use Rattle.syntax.specs.Tables.{Written, Choice, Tables}
+use Rattle.acceptance.specs.Below.ArgumentForms.{form_in, letter_of, Argument}
+use Rattle.acceptance.specs.Below.Items.{line_at}
+use Rattle.acceptance.specs.Below.Statements.{entries_in}
+use Rattle.acceptance.specs.Below.Tables.{Written, Choice, Tables}
 use Rattle.drafts.specs.Marks.{mark}
 
 unfoldable pub draft_arg : Argument → Arg

@@ -3,10 +3,10 @@ use Rattle.std.specs.Prelude.{◌≡◌, refl, List, [], ◌∷◌, map, ℕ, �
 use Rattle.std.proofs.Common.{arith, length-append}
 use Rattle.acceptance.proofs.ProgramLaws.{entries-count}
 use Rattle.lists.specs.Lists.{each, keep}
-use Rattle.syntax.specs.Items.{is}
-use Rattle.syntax.specs.Items.Sort.{word}
-use Rattle.syntax.specs.Statements.{entries_in}
-use Rattle.syntax.specs.Tables.{Choice}
+use Rattle.acceptance.specs.Below.Items.{is}
+use Rattle.acceptance.specs.Below.Items.Sort.{word}
+use Rattle.acceptance.specs.Below.Statements.{entries_in}
+use Rattle.acceptance.specs.Below.Tables.{Choice}
 use Rattle.drafts.specs.Drafting.{draft_switch}
 use Rattle.drafts.specs.Marks.{mark_of, place_by, length_by}
 

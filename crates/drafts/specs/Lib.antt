@@ -2,3 +2,4 @@ pub mod Marks
 pub mod Drafting
 pub mod DraftingLaws
 pub mod Tabled
+pub mod Below

@@ -1,6 +1,6 @@
 -- A word of a text by one number: its place and its length.
 use Rattle.std.specs.Prelude.{List, ℕ, ◌+◌, ◌-◌, ◌*◌, ◌/◌, ◌%◌, ◌≤◌, length, take, drop}
-use Rattle.syntax.specs.Items.{Item}
+use Rattle.acceptance.specs.Below.Items.{Item}
 
 -- "Each length within 60?", so the length has a place below 64
 abbrev pub mark_of : ℕ → ℕ → ℕ

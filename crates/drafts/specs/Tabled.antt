@@ -1,13 +1,13 @@
 -- The tables of a text that is being read, as the loader keeps them: the program table holds the draft of the program; beside it stand the marks of
 -- the switches' names and of the entries' labels.
 use Rattle.std.specs.Prelude.{◌≡◌, List, map, ℕ, ◌<◌, T, length, get_or, take}
-use Rattle.language.specs.Limits as limit
-use Rattle.layout.specs.Bounds.{Each}
+use Rattle.acceptance.specs.Below.Limits as limit
+use Rattle.acceptance.specs.Below.LayoutBounds.{Each}
 use Rattle.lists.specs.Lists.{each, keep}
 use Rattle.acceptance.specs.Drafts.{SoundTables}
-use Rattle.syntax.specs.Items.{Item, is}
-use Rattle.syntax.specs.Items.Sort.{word}
-use Rattle.syntax.specs.Tables.{Tables}
+use Rattle.acceptance.specs.Below.Items.{Item, is}
+use Rattle.acceptance.specs.Below.Items.Sort.{word}
+use Rattle.acceptance.specs.Below.Tables.{Tables}
 use Rattle.writing.specs.Writing.{HoldsProgram}
 use Rattle.drafts.specs.Marks.{mark, word_by, Marked}
 use Rattle.drafts.specs.Drafting.{draft_program}

@@ -1,2 +1,3 @@
 pub mod Entering
 pub mod EnteringLaws
+pub mod Below

@@ -1,5 +1,6 @@
 // The texts and numbers of a statement come to the tables of a program that is being written: question 11 for them.
 #![tactic(auto)]
+
 ghost use Rattle.std.specs.Prelude.{◌≡◌, ◌||◌, ltb, length};
 ghost use Rattle.lists.specs.Lists.{bytes_equal};
 ghost use Rattle.entering.specs.Entering.{set_texts, Held, AddsCode, Addable, Adds, EnterableValue, EnterableValues, SomeValues, TextEntered, NumberEntered, TextsEntered, NumbersEntered};
@@ -126,4 +127,14 @@ pub fn enter_number_values(v: Values, table: &mut [u32]) -> Fault
         return Fault::At(third.at);
     }
     Fault::Clear
+}
+
+// Of `arguments`, passed on to the crates above.
+pub mod from_arguments {
+    pub use arguments::Values;
+}
+
+// Of `finding`, passed on to the crates above.
+pub mod from_finding {
+    pub use finding::{number_ref, text_ref};
 }

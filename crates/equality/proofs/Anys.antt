@@ -19,7 +19,7 @@ use Rattle.layout.proofs.ComponentLaws.{components-of}
 use Rattle.matching.specs.Tests.{until, Took}
 use Rattle.matching.specs.declared.Taken.{Taken}
 use Rattle.matching.specs.declared.Test.{Test}
-use Rattle.operands.proofs.Signs.{kept-or-minus}
+use Rattle.comparands.proofs.Below.Signs.{kept-or-minus}
 use Rattle.packed.specs.Packed.{table_of}
 use Rattle.state.specs.Working.{state_at, HoldsState, Stands, on_store, nth}
 use Rattle.state.specs.Blocks.{ExprLent}

@@ -26,7 +26,7 @@ use Rattle.state.specs.Blocks.{ExprLent, FirstParts}
 use Rattle.table.specs.Denote.{arg_of}
 use Rattle.table.specs.declared.Argument.{Argument}
 use Rattle.table.specs.declared.Argument.TheVariants as argument
-use Rattle.tests.proofs.Values.{front_fits, front-encoded, none-there, one-there}
+use Rattle.comparands.proofs.Below.Values.{front_fits, front-encoded, none-there, one-there}
 use Rattle.equality.specs.Equality.{test_of, related, settled}
 
 pub false-true : false ≡ true → ⊥

@@ -20,7 +20,7 @@ use Rattle.packed.specs.Packed.{table_of}
 use Rattle.state.specs.Working.{state_at, HoldsState, Stands}
 use Rattle.table.specs.Denote.{arg_of}
 use Rattle.table.specs.declared.Argument.{Argument}
-use Rattle.tests.proofs.Values.{front_is}
+use Rattle.comparands.proofs.Below.Values.{front_is}
 use Rattle.instructions.specs.Does.{with_store, Does, Quiet, stop_of}
 use Rattle.instructions.proofs.Answers.{quiet-stop, quiet-done}
 use Rattle.comparands.specs.Offers.{ArgumentOffers}

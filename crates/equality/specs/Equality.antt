@@ -19,7 +19,7 @@ use Rattle.table.specs.declared.Letter.{Letter}
 use Rattle.table.specs.declared.Argument.{Argument}
 use Rattle.table.specs.declared.Argument.TheVariants.{Nothing, Indexed, Label, Switch, Class, Text, Number}
 use Rattle.comparands.specs.Offers.{Holdable}
-use Rattle.tests.specs.Prepares.{OtherLetter}
+use Rattle.comparands.specs.Below.Prepares.{OtherLetter}
 
 -- what a component is compared by: a class, or the components that the argument offers
 abbrev pub test_of : Argument → Test

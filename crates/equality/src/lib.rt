@@ -1,5 +1,6 @@
 // Equality: RW of an expression, of its first component or any of them.
 #![tactic(auto)]
+
 ghost use Rattle.std.specs.Prelude.{◌≡◌, length};
 ghost use Rattle.language.specs.Letters as letters;
 ghost use Rattle.language.specs.Letters.{use_of};
@@ -11,7 +12,7 @@ ghost use Rattle.packed.specs.Packed.{table_of};
 ghost use Rattle.state.specs.Working.{state_at, HoldsState, on_store, nth, reading};
 ghost use Rattle.table.specs.Denote.{letter_of, arg_of};
 ghost use Rattle.instructions.specs.Does.{DoesFor};
-ghost use Rattle.tests.specs.Prepares.{OtherLetter};
+ghost use Rattle.comparands.specs.Below.Prepares.{OtherLetter};
 ghost use Rattle.equality.specs.Equality.{test_of, OtherArgument, Singles, Alikeable, Unlike, related, settled, Finishable, Settleable, Relatable};
 
 // What a component is compared by: a class, or the components beside.

@@ -19,8 +19,8 @@ use Rattle.layout.proofs.ComponentLaws.{records_bytes-append}
 use Rattle.layout.specs.Components.{records_bytes}
 use Rattle.layout.specs.Memory.{components_held, chars_held, records_held}
 use Rattle.layout.proofs.MemoryLaws.{before-encoded, after-encoded}
-use Rattle.gaps.specs.Gaps.{pushed_front, pushed_back}
-use Rattle.gaps.specs.Pool.{abs, string, Holds}
+use Rattle.store.specs.Below.Gaps.{pushed_front, pushed_back}
+use Rattle.store.specs.Below.Pool.{abs, string, Holds}
 use Rattle.store.specs.Store.{Long, Movable, dropped_front, dropped_back, moved_front_to_back, moved_back_to_front}
 use Rattle.state.specs.Blocks.{totalled}
 use Rattle.layout.specs.Places.{before_string, after_string}

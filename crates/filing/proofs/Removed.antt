@@ -19,7 +19,7 @@ use Rattle.layout.specs.Components.{records_bytes}
 use Rattle.layout.specs.Memory.{components_held, chars_held, records_held, strings}
 use Rattle.layout.proofs.MemoryLaws.{before-encoded, after-encoded}
 use Rattle.layout.specs.Places as layout
-use Rattle.gaps.specs.Pool.{abs, string, Holds}
+use Rattle.store.specs.Below.Pool.{abs, string, Holds}
 use Rattle.store.specs.Store.{Whole, Droppable, dropped_front}
 use Rattle.state.specs.Blocks.{totalled, Lowerable}
 use Rattle.layout.specs.Places.{before_string, after_string}

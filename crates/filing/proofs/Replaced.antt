@@ -13,7 +13,7 @@ use Rattle.machine.proofs.SumLaws.{held-put_file, recorded-put_file}
 use Rattle.layout.specs.Bounds.{FileOk, Fine}
 use Rattle.layout.specs.Components.{records_bytes}
 use Rattle.layout.specs.Memory.{components_held, chars_held, records_held, scalars, strings}
-use Rattle.gaps.specs.Pool.{Holds}
+use Rattle.store.specs.Below.Pool.{Holds}
 use Rattle.state.specs.Blocks.{totalled}
 use Rattle.layout.specs.Places.{before_string, after_string}
 use Rattle.state.specs.Working.{HoldsState, on_store, nth, part_total, char_total}

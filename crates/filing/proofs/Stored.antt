@@ -22,10 +22,10 @@ use Rattle.layout.proofs.MemoryLaws.{before-encoded, after-encoded}
 use Rattle.layout.proofs.FineLaws.{fine-room}
 use Rattle.layout.specs.Strings.{used}
 use Rattle.layout.specs.Places as layout
-use Rattle.gaps.proofs.Laws.{length-abs}
+use Rattle.store.proofs.Below.GapsLaws.{length-abs}
 use Rattle.store.proofs.Laws.{used-pushed-front, used-pushed-back}
-use Rattle.gaps.specs.Gaps.{pushed_front, pushed_back}
-use Rattle.gaps.specs.Pool.{abs, string, Holds}
+use Rattle.store.specs.Below.Gaps.{pushed_front, pushed_back}
+use Rattle.store.specs.Below.Pool.{abs, string, Holds}
 use Rattle.state.specs.Blocks.{totalled, Raisable}
 use Rattle.layout.specs.Places.{before_string, after_string}
 use Rattle.state.specs.Working.{state_at, HoldsState, on_store, nth, filing, turned, filed, part_total, char_total}

@@ -13,9 +13,9 @@ use Rattle.machine.specs.Changes.{with_files, put_file, held, recorded}
 use Rattle.layout.specs.Bounds.{FileOk, Fine}
 use Rattle.layout.specs.Memory.{scalars, strings}
 use Rattle.layout.proofs.MemoryLaws.{string-before, string-after}
-use Rattle.gaps.specs.Pool as pool
-use Rattle.gaps.specs.Pool.{abs, string, Holds}
-use Rattle.gaps.proofs.Laws.{after}
+use Rattle.store.specs.Below.Pool as pool
+use Rattle.store.specs.Below.Pool.{abs, string, Holds}
+use Rattle.store.proofs.Below.GapsLaws.{after}
 use Rattle.store.specs.Store.{Exchangeable, exchanged}
 use Rattle.state.specs.Blocks.{totalled}
 use Rattle.layout.specs.Places.{before_string, after_string}

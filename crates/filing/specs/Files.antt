@@ -11,8 +11,8 @@ use Rattle.layout.specs.Components.{records_bytes, records_in}
 use Rattle.layout.specs.Memory.{components_held, chars_held, records_held}
 use Rattle.layout.specs.Strings.{used}
 use Rattle.layout.specs.Places as layout
-use Rattle.gaps.specs.Gaps.{pushed_front, pushed_back}
-use Rattle.gaps.specs.Pool.{abs, Fine}
+use Rattle.store.specs.Below.Gaps.{pushed_front, pushed_back}
+use Rattle.store.specs.Below.Pool.{abs, Fine}
 use Rattle.layout.specs.Places.{before_string, after_string}
 use Rattle.state.specs.Working.{state_at, Stands, nth, turned, part_total, char_total}
 

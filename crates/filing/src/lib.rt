@@ -1,10 +1,11 @@
 // The files of the state at work: the records before the pointer and after it, and the changes that instructions make in them.
 #![tactic(auto)]
+
 ghost use Rattle.std.specs.Prelude.{◌≡◌, true, false, ◌+◌, ◌-◌, length, get_or, set};
 ghost use Rattle.language.specs.Letters.Letter.{P};
 ghost use Rattle.machine.specs.Arguments.{file_of};
 ghost use Rattle.machine.specs.Changes.{past, stored};
-ghost use Rattle.gaps.specs.Pool.{abs, Holds};
+ghost use Rattle.store.specs.Below.Pool.{abs, Holds};
 ghost use Rattle.state.specs.Working.{state_at, HoldsState, on_store, nth, filing};
 ghost use Rattle.filing.specs.Files.{FileNamed, RecordsLent, RecordsDroppable, Fewer, Passable, RecordsReadable, Pointable, pointed_at, bodies, RecordsWritable, More, Insertable, inserted, FilesExchangeable, files_exchanged};
 ghost use Rattle.layout.specs.Places.{records_scalar, last_scalar};

@@ -10,7 +10,7 @@ use borrow.Author.Tests.{eq-eqb, ne_eqb}
 use Rattle.progress.specs.Closing.{Ends}
 use Rattle.progress.specs.declared.Closing.{Closing}
 use Rattle.drafts.specs.Marks.{marks_in, place_by, word_by}
-use Rattle.declaring.specs.TabledLaws.{mark-places}
+use Rattle.progress.specs.Below.DeclaringTabledLaws.{mark-places}
 use Rattle.acceptance.proofs.RowLaws.{each_map}
 use Rattle.drafts.specs.Drafting.{draft_program, draft_instr}
 use Rattle.statements.specs.Faults.{decided, then}

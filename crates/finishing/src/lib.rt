@@ -1,5 +1,6 @@
 // The end of a text: the last questions, and the program in the table.
 #![tactic(auto)]
+
 ghost use Rattle.std.specs.Prelude.{◌≡◌};
 ghost use Rattle.syntax.specs.Ending.{last_place};
 ghost use Rattle.linking.specs.Linking.{Kept};
@@ -55,4 +56,9 @@ pub fn finish(
         Fault::At(at) => Verdict::No(25, at),
         Fault::Clear => link_names(text, table, switches, entries),
     }
+}
+
+// Of `progress`, passed on to the crates above.
+pub mod from_progress {
+    pub use progress::{begin, renewed};
 }

@@ -8,12 +8,12 @@ use lib.ListN.{drop}
 use Rattle.language.specs.Letters.{Letter}
 use Rattle.language.specs.Program.{identifier}
 use Rattle.language.specs.Values.{amount, numeral, value_of, in_range}
-use Rattle.layout.specs.Cells.{code}
-use Rattle.layout.specs.Table.{letter_place}
+use Rattle.words.specs.Below.LayoutCells.{code}
+use Rattle.words.specs.Below.Table.{letter_place}
 use Rattle.lists.specs.ListLaws.{T-left, T-right}
 use Rattle.lists.specs.Lists.{head_or, keep, among}
 use Rattle.lists.specs.TableLaws.{below, Missed, missed}
-use Rattle.syntax.specs.ArgumentForms.{is_indexed, letter_of, word_reads}
+use Rattle.words.specs.Below.ArgumentForms.{is_indexed, letter_of, word_reads}
 use Rattle.words.specs.Words.{is_class, numeral_of, indexed_of}
 use Rattle.words.specs.declared.Lettered as Found
 use Rattle.words.specs.declared.Numeral.{Numeral}

@@ -12,7 +12,7 @@ use Rattle.lists.specs.ListLaws.{T-left, T-right}
 use Rattle.lists.specs.Lists.{if_any, keep, among}
 use Rattle.lists.specs.Quoted.{bytes}
 use Rattle.lists.specs.TableLaws.{beq-eq, below, below-unless, Missed, missed}
-use Rattle.syntax.specs.ArgumentForms.{alternatives}
+use Rattle.words.specs.Below.ArgumentForms.{alternatives}
 use Rattle.forms.specs.Forms.{nothing, set_of, listed, set_at, lists_of, most_of, least_of, calls, ends}
 use Rattle.forms.specs.ReadingLaws.{two-lists}
 

@@ -4,7 +4,7 @@ use Rattle.language.specs.Instructions.{operation, operators, is_call, is_end}
 use Rattle.language.specs.Program.{Op}
 use Rattle.lists.specs.Lists.{ahead, head_or, if_any, keep, among}
 use Rattle.lists.specs.Quoted.{bytes}
-use Rattle.syntax.specs.ArgumentForms.{alternatives, most, least}
+use Rattle.words.specs.Below.ArgumentForms.{alternatives, most, least}
 
 -- the forms, by their bits
 abbrev pub forms : List ℕ

@@ -10,14 +10,14 @@ use Rattle.language.specs.Letters.{Letter, letters, letter_code, indices, use_of
 use Rattle.language.specs.Letters.Letter.{A, B, C, D, E, I, N, P, Q, T as T', Y, Z}
 use Rattle.language.specs.Program.{identifier}
 use Rattle.language.specs.Values.{amount, unsigned, numeral, value_of, in_range}
-use Rattle.layout.specs.Table.{letter_place}
+use Rattle.words.specs.Below.Table.{letter_place}
 use Rattle.lists.specs.ListLaws.{T-left, T-right, T-both, all_head, all_tail, all_cons, all_among}
 use Rattle.lists.specs.Lists.{all, any, head_or}
 use Rattle.lists.specs.Quoted.{bytes}
-use Rattle.syntax.specs.ArgumentForms.{form_in, is_index, is_indexed, letter_of, word_reads, reads}
-use Rattle.syntax.proofs.LetterLaws.{letter_of-code, every-letter}
-use Rattle.syntax.specs.Items.{Item, is}
-use Rattle.syntax.specs.Items.Sort.{text}
+use Rattle.words.specs.Below.ArgumentForms.{form_in, is_index, is_indexed, letter_of, word_reads, reads}
+use Rattle.words.proofs.Below.LetterLaws.{letter_of-code, every-letter}
+use Rattle.words.specs.Below.Items.{Item, is}
+use Rattle.words.specs.Below.Items.Sort.{text}
 use Rattle.words.specs.Words.{class_letter, is_class}
 use Rattle.forms.specs.Forms.{forms, bits, bit_of}
 use Rattle.forms.specs.Kinds.{kind_reads, OfKind, word_kinds, item_kinds}

@@ -3,8 +3,8 @@ use Rattle.std.specs.Prelude.{◌≡◌, Bool, List, [], ◌∷◌, ◌++◌, ma
 use Rattle.language.specs.Letters.{letters, letter_code}
 use Rattle.lists.specs.Lists.{among}
 use Rattle.lists.specs.Quoted.{bytes}
-use Rattle.syntax.specs.ArgumentForms.{word_reads, reads}
-use Rattle.syntax.specs.Items.{Item}
+use Rattle.words.specs.Below.ArgumentForms.{word_reads, reads}
+use Rattle.words.specs.Below.Items.{Item}
 use Rattle.forms.specs.Forms.{forms, mask}
 
 -- each indexed letter, a number, a class, a text, another name, nothing

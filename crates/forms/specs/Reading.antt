@@ -2,7 +2,7 @@
 use Rattle.std.specs.Prelude.{Bool, true, false, cond, List, map, ℕ, eqb, take, drop}
 use Rattle.std.specs.Int.Bits.{bit_and}
 use Rattle.language.specs.Program.{Op}
-use Rattle.syntax.specs.ArgumentForms.{alternatives}
+use Rattle.words.specs.Below.ArgumentForms.{alternatives}
 use Rattle.forms.specs.Forms.{set_at, only}
 use Rattle.forms.specs.declared.Live.{Live}
 use Rattle.forms.specs.declared.Taken.{Taken}

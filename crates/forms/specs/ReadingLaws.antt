@@ -10,10 +10,10 @@ use Rattle.std.proofs.lemmas.List.{length-map}
 use Rattle.std.proofs.Math.Seq.{drop-nil}
 use Rattle.language.specs.Instructions.{operation, operators, is_call, is_end}
 use Rattle.language.specs.Program.{Op}
-use Rattle.layout.proofs.ArgumentLaws.{operator-back}
+use Rattle.words.proofs.Below.LayoutArgumentLaws.{operator-back}
 use Rattle.lists.specs.Lists.{any, ahead, filled, head_or, if_any, keep}
-use Rattle.syntax.specs.ArgumentForms.{reads, Argument, alternatives, accepting, read_by, most, least}
-use Rattle.syntax.specs.Items.{Item}
+use Rattle.words.specs.Below.ArgumentForms.{reads, Argument, alternatives, accepting, read_by, most, least}
+use Rattle.words.specs.Below.Items.{Item}
 use Rattle.forms.specs.Forms.{set_of, by_number, listed, set_at, most_of, least_of, calls, ends, only}
 use Rattle.forms.specs.Kinds.{item_kinds}
 use Rattle.forms.specs.KindLaws.{item-kind}

@@ -10,11 +10,11 @@ use Rattle.std.proofs.Math.Dec.{eqb, eqb→eq}
 use Rattle.std.proofs.Math.Pow.{high, low}
 use Rattle.language.specs.Instructions.{operation, operators}
 use Rattle.language.specs.Program.{Op}
-use Rattle.layout.proofs.ArgumentLaws.{operator-back}
+use Rattle.words.proofs.Below.LayoutArgumentLaws.{operator-back}
 use Rattle.lists.specs.ListLaws.{T-left, T-right, all_head, all_tail, all-at}
 use Rattle.lists.specs.Lists.{all, any, head_or, keep, among}
 use Rattle.lists.specs.TableLaws.{beq-eq}
-use Rattle.syntax.specs.ArgumentForms.{alternatives}
+use Rattle.words.specs.Below.ArgumentForms.{alternatives}
 use Rattle.forms.specs.Forms.{forms, bits, mask, set_of, listed, only}
 use Rattle.forms.specs.Kinds.{kinds, kind_reads, OfKind}
 

@@ -7,8 +7,8 @@ use native.Mathlib.Numerals.{add-one}
 use native.Mathlib.Omega.{arith}
 use lib.ListN.{length, set}
 use lib.Seq.{take-length}
-use Rattle.layout.specs.Strings.{used}
-use Rattle.layout.proofs.StringLaws.{used-cons, joined_next, joined-within}
+use Rattle.cells.specs.Below.Strings.{used}
+use Rattle.cells.proofs.Below.StringLaws.{used-cons, joined_next, joined-within}
 use Rattle.gaps.specs.Pool.{string, offset}
 
 -- what is put in is added, and what it replaces is taken away

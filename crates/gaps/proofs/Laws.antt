@@ -8,9 +8,9 @@ use lib.ListN.{length, take, drop, get_or, set, length-append, length-take, leng
 use lib.Seq.{get_or-set_same, get_or-set_other}
 use Rattle.cells.specs.Cells.{pasted}
 use Rattle.cells.proofs.Laws.{length-pasted}
-use Rattle.layout.proofs.CellLaws.{length-tab, get_d-tab, tab-ext}
-use Rattle.layout.specs.Strings.{used}
-use Rattle.layout.specs.Places as layout
+use Rattle.cells.proofs.Below.LayoutCellLaws.{length-tab, get_d-tab, tab-ext}
+use Rattle.cells.specs.Below.Strings.{used}
+use Rattle.cells.specs.Below.LayoutPlaces as layout
 use Rattle.gaps.specs.Pool.{lo, hi, str, abs, string, Ordered, Fine, Holds}
 use Rattle.gaps.specs.Gaps.{GapStart, GapEnd, Gap, pushed_front, pushed_back, Made}
 use Rattle.gaps.proofs.Index.{used-set}

@@ -2,3 +2,4 @@ pub mod Index
 pub mod Parts
 pub mod Laws
 pub mod Spread
+pub mod Below

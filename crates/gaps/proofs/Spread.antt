@@ -8,8 +8,8 @@ use lib.ListN.{length, get_or, set, length-set}
 use lib.Seq.{get_or-set_same, get_or-set_other}
 use Rattle.cells.specs.Cells.{pasted}
 use Rattle.cells.proofs.Laws.{length-pasted}
-use Rattle.layout.specs.Strings.{used}
-use Rattle.layout.specs.Places as layout
+use Rattle.cells.specs.Below.Strings.{used}
+use Rattle.cells.specs.Below.LayoutPlaces as layout
 use Rattle.gaps.specs.Pool.{lo, hi, str, abs, string, offset, Ordered, Fine, Holds}
 use Rattle.gaps.specs.Gaps.{LaidOne, Carriable, Carried, Extra, Settleable, Settled, Spreadable, Made}
 use Rattle.gaps.proofs.Index.{offset-zero, offset-next, offset-within, offset-all}

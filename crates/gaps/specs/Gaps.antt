@@ -1,8 +1,8 @@
 -- The gaps between the strings, and how strings are laid into the pool. The gap i is the one before string i; the gap 99 is behind the last.
 use Rattle.std.specs.Prelude.{◌≡◌, List, ◌++◌, ℕ, ◌+◌, ◌-◌, ◌*◌, ◌≤◌, ◌<◌, length, get_or, set}
 use Rattle.cells.specs.Cells.{pasted}
-use Rattle.layout.specs.Strings.{used}
-use Rattle.layout.specs.Places as layout
+use Rattle.cells.specs.Below.Strings.{used}
+use Rattle.cells.specs.Below.LayoutPlaces as layout
 use Rattle.gaps.specs.Pool.{lo, hi, str, abs, string, Ordered, Fine, Holds}
 
 -- no cell before the gap i is more than r, and none behind it is less

@@ -1,9 +1,9 @@
 -- The working memory of 99 strings: a pool of 65,536 bytes, and for each string the two cells where it starts and ends there. The cells
 -- never fall; the gaps between the strings hold anything. `abs` is the list of strings that pool and cells hold: 32,768 bytes at most.
 use Rattle.std.specs.Prelude.{◌≡◌, List, [], ℕ, ◌+◌, ◌-◌, ◌*◌, ◌≤◌, ◌<◌, length, take, drop, get_or}
-use Rattle.layout.specs.Cells.{tab}
-use Rattle.layout.specs.Strings.{used}
-use Rattle.layout.specs.Places as layout
+use Rattle.cells.specs.Below.LayoutCells.{tab}
+use Rattle.cells.specs.Below.Strings.{used}
+use Rattle.cells.specs.Below.LayoutPlaces as layout
 
 -- where string i starts and ends
 abbrev pub lo : List ℕ → ℕ → ℕ

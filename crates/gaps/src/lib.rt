@@ -1,12 +1,13 @@
 // Ninety-nine strings in a pool with gaps between them: where each lies, how one is laid in, and how room is made.
 #![tactic(auto)]
+
 ghost use Rattle.std.specs.Prelude.{◌≡◌, ◌+◌, length};
-ghost use Rattle.layout.specs.Strings.{used};
+ghost use Rattle.cells.specs.Below.Strings.{used};
 ghost use Rattle.gaps.specs.Pool.{abs, Fine, Holds};
 ghost use Rattle.gaps.specs.Gaps.{GapStart, GapEnd, Edge, Roomy, pushed_front, pushed_back, Layable, LaidOne, Carriable, Carried, Extra, Settleable, Settled, Spreadable, Wanted, Made};
-ghost use Rattle.layout.specs.Places.{strings_count};
+ghost use Rattle.cells.specs.Below.LayoutPlaces.{strings_count};
 
-use layout::StatePlaces;
+use cells::from_layout::StatePlaces;
 
 // How many bytes the pool has, and how far apart strings are laid.
 pub const SIZE: usize = 65536;
@@ -151,4 +152,19 @@ pub fn make_room(pool: &mut [u8], ends: &mut [u32], scratch: &mut [u8], i: usize
         i,
         SIZE - StatePlaces::STRINGS_COUNT * APART - held,
     );
+}
+
+// Of `cells`, passed on to the crates above.
+pub mod from_cells {
+    pub use cells::{put, read, write};
+}
+
+// Of `language`, passed on to the crates above.
+pub mod from_language {
+    pub use cells::from_language::Machine;
+}
+
+// Of `layout`, passed on to the crates above.
+pub mod from_layout {
+    pub use cells::from_layout::StatePlaces;
 }

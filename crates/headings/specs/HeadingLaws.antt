@@ -6,7 +6,7 @@ use Rattle.std.proofs.Math.Bool.{true, false}
 use mathlib.Core.List.{List, [], ◌∷◌, ◌++◌}
 use borrow.Author.Tests.{eq-eqb, ne_eqb, not-true, not-false}
 use Rattle.acceptance.proofs.ArgumentLaws.{word-apart}
-use Rattle.drafts.specs.Marks.{place_by, length_by, word_by}
+use Rattle.heads.specs.Below.DraftsMarks.{place_by, length_by, word_by}
 use Rattle.statements.specs.Checks.{clean, worst, token_code}
 use Rattle.statements.specs.CheckLaws.{worst-stop, worst-item}
 use Rattle.statements.specs.Faults.{lower}

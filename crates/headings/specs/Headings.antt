@@ -1,6 +1,6 @@
 -- What follows SEKCJA, KONS or KONP, and what the functions on it ask and promise.
 use Rattle.std.specs.Prelude.{◌≡◌, Bool, true, false, cond, List, [], ℕ, ◌+◌, ◌≤◌, min, eqb, length}
-use Rattle.drafts.specs.Marks.{word_by, Marked}
+use Rattle.heads.specs.Below.DraftsMarks.{word_by, Marked}
 use Rattle.statements.proofs.Ends.{Within}
 use Rattle.statements.specs.Checks.{clean, worst}
 use Rattle.statements.specs.Faults.{lower}

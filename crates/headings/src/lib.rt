@@ -1,7 +1,8 @@
 // What follows SEKCJA, KONS or KONP, or nothing where a statement is labels alone: read once, and what of it is at fault.
 #![tactic(auto)]
+
 ghost use Rattle.std.specs.Prelude.{◌≡◌, cond, ◌&&◌, ◌+◌, ◌≤◌};
-ghost use Rattle.drafts.specs.Marks.{mark_of, word_by};
+ghost use Rattle.heads.specs.Below.DraftsMarks.{mark_of, word_by};
 ghost use Rattle.language.specs.Limits as limit;
 ghost use Rattle.lexer.specs.Tokens.{item_of, chars_of, Stands};
 ghost use Rattle.lists.specs.Lists.{bytes_equal};
@@ -193,4 +194,9 @@ pub fn section_mark(rest: Rest) -> u32
         return 0;
     }
     mark(first.at, first.len)
+}
+
+// Of `heads`, passed on to the crates above.
+pub mod from_heads {
+    pub use heads::{Head, instr_of};
 }

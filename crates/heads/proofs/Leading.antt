@@ -19,9 +19,9 @@ use Rattle.statements.specs.declared.Fault.{Fault}
 use Rattle.statements.specs.declared.Fault.TheVariants.{Clear}
 use Rattle.statements.specs.StatementAt.{statement_at, stops, fault_of}
 use Rattle.statements.specs.StatementLaws.{at-stop, at_item, on}
-use Rattle.syntax.specs.Items.{Item, places}
-use Rattle.syntax.specs.Statements.{keyword_of, is_operator, front, behind, operator, keyword_in, is_name}
-use Rattle.syntax.specs.Statements as Spec
+use Rattle.scanner.specs.Below.Items.{Item, places}
+use Rattle.scanner.specs.Below.Statements.{keyword_of, is_operator, front, behind, operator, keyword_in, is_name}
+use Rattle.scanner.specs.Below.Statements as Spec
 use Rattle.words.specs.declared.Known.{Known}
 use Rattle.words.specs.Keywords.{told}
 use Rattle.heads.specs.Heads.{own_item, known_item, nothing_known, head_with, operates, from_token, Headed}

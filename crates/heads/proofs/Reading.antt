@@ -22,9 +22,9 @@ use Rattle.statements.specs.declared.Fault.{Fault}
 use Rattle.statements.specs.declared.Fault.TheVariants.{Clear}
 use Rattle.statements.specs.StatementAt.{statement_at, stops, fault_of}
 use Rattle.statements.specs.StatementLaws.{at-stop, at_item, on}
-use Rattle.syntax.specs.Items.{Item, is}
-use Rattle.syntax.specs.Items.Sort.{word}
-use Rattle.syntax.specs.Statements.{keyword_of, front, labels_in, is_name}
+use Rattle.scanner.specs.Below.Items.{Item, is}
+use Rattle.scanner.specs.Below.Items.Sort.{word}
+use Rattle.scanner.specs.Below.Statements.{keyword_of, front, labels_in, is_name}
 use Rattle.words.specs.declared.Known.{Known}
 use Rattle.heads.specs.Heads.{known_item, nothing_known, head_with, operates, MarksPut, Headable, Heads}
 use Rattle.heads.specs.HeadLaws.{front_goes, front_ends, operator_is}

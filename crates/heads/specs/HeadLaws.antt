@@ -11,10 +11,10 @@ use Rattle.statements.specs.Faults.{lower}
 use Rattle.statements.specs.StatementAt.{statement_at, stops}
 use Rattle.statements.specs.declared.Fault.{Fault}
 use Rattle.statements.specs.declared.Fault.TheVariants.{Clear, At}
-use Rattle.syntax.specs.Items.{Item, is}
-use Rattle.syntax.specs.Items.Sort.{word, colon}
-use Rattle.syntax.specs.Statements.{keyword_number, same_keyword, keyword_of, own, is_operator, front, behind, operator, keyword_in, rest}
-use Rattle.syntax.specs.Statements as Spec
+use Rattle.scanner.specs.Below.Items.{Item, is}
+use Rattle.scanner.specs.Below.Items.Sort.{word, colon}
+use Rattle.scanner.specs.Below.Statements.{keyword_number, same_keyword, keyword_of, own, is_operator, front, behind, operator, keyword_in, rest}
+use Rattle.scanner.specs.Below.Statements as Spec
 use Rattle.words.specs.declared.Keyword.{Keyword}
 use Rattle.words.specs.Keywords.{keyword_by, told, known}
 use Rattle.words.specs.WordLaws.{keyword-item}

@@ -9,9 +9,9 @@ use Rattle.lists.specs.Lists.{filled, if_any, keep}
 use Rattle.statements.proofs.Ends.{Within}
 use Rattle.statements.specs.declared.Fault.{Fault}
 use Rattle.statements.specs.StatementAt.{statement_at, stops, fault_of}
-use Rattle.syntax.specs.Items.{Item, is, places}
-use Rattle.syntax.specs.Items.Sort.{word}
-use Rattle.syntax.specs.Statements.{front, behind, labels_in, operator as operator-in, keyword_of, keyword_in, own, is_name}
+use Rattle.scanner.specs.Below.Items.{Item, is, places}
+use Rattle.scanner.specs.Below.Items.Sort.{word}
+use Rattle.scanner.specs.Below.Statements.{front, behind, labels_in, operator as operator-in, keyword_of, keyword_in, own, is_name}
 use Rattle.words.specs.declared.Keyword.{Keyword}
 use Rattle.words.specs.declared.Known.{Known}
 use Rattle.words.specs.Keywords.{told}

@@ -1,10 +1,11 @@
 // The head of a statement: its labels and its operator.
 #![tactic(auto)]
+
 ghost use Rattle.std.specs.Prelude.{◌≡◌, cond, not, ◌||◌, [], ◌∷◌, ◌≤◌, eqb};
 ghost use Rattle.drafts.specs.Marks.{mark_of};
 ghost use Rattle.lexer.specs.Tokens.{item_of, Stands};
 ghost use Rattle.statements.specs.StatementAt.{fault_of};
-ghost use Rattle.syntax.specs.Statements.{is_name};
+ghost use Rattle.scanner.specs.Below.Statements.{is_name};
 ghost use Rattle.heads.specs.Heads.{known_item, nothing_known, head_with, opens, bars, is_switch, is_by_name, instr_of, Headable, Heads};
 
 use lexer::{Token, moved, next_item};

@@ -20,7 +20,7 @@ use Rattle.state.specs.Working.{state_at, HoldsState, on_store}
 use Rattle.table.specs.Denote.{arg_of}
 use Rattle.table.specs.declared.Argument.{Argument}
 use Rattle.table.specs.declared.Argument.TheVariants as argument
-use Rattle.joining.specs.Joining.{some}
+use Rattle.readings.specs.Below.Joining.{some}
 use Rattle.equality.specs.Equality.{test_of}
 use Rattle.equality.proofs.Meeting.{or-false}
 use Rattle.readings.specs.Readings.{read_place, Unread}

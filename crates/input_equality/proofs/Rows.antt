@@ -27,7 +27,7 @@ use Rattle.instructions.specs.Does.{Quiet, stop_of}
 use Rattle.instructions.proofs.Answers.{quiet-stop, quiet-done}
 use Rattle.comparands.specs.Offers.{ArgumentOffers}
 use Rattle.comparands.specs.declared.Held.{Held}
-use Rattle.operands.proofs.Signs.{kept-or-minus}
+use Rattle.comparands.proofs.Below.Signs.{kept-or-minus}
 use Rattle.equality.proofs.Meeting.{leads}
 use Rattle.equality.proofs.Questions.{offer_by, unlike_by, numeric, quiet_by, some-by, single-there}
 use Rattle.readings.specs.Readings.{input_of, DoesPassing}

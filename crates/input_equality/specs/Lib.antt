@@ -1,1 +1,2 @@
 pub mod InputEquality
+pub mod Below

@@ -1,5 +1,6 @@
 // RW of an input: its next character, compared as a word.
 #![tactic(auto)]
+
 ghost use Rattle.std.specs.Prelude.{[], ◌∷◌, length};
 ghost use Rattle.language.specs.Letters.Letter.{I};
 ghost use Rattle.language.specs.Program.Arg.{nothing};
@@ -10,6 +11,8 @@ ghost use Rattle.state.specs.Working.{state_at, HoldsState, on_store, nth};
 ghost use Rattle.table.specs.Denote.{arg_of};
 ghost use Rattle.readings.specs.Readings.{DoesPassing};
 ghost use Rattle.input_equality.specs.InputEquality.{Spellable, NotWord, compared, InputComparable, InputRelatable};
+
+use readings::from_joining;
 
 // Whether an argument offers a single component that is not a word.
 fn not_word(given: &[u8], arg: table::Argument) -> bool
@@ -38,7 +41,7 @@ fn compare(
 {
     let from = state::place(pool, ends, nums, i);
     let rest = &input[from..];
-    let n = joining::some(rest.len());
+    let n = from_joining::some(rest.len());
     let t = readings::take_chars(&rest[..n], equality::test_of(arg), given, hold);
     state::minus_unless(pool, ends, nums, t.reached);
 }

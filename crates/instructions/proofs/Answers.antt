@@ -7,16 +7,16 @@ use native.Mathlib.Omega.{arith}
 use lib.Dec.{T, leb, ltb, ltb→lt}
 use lib.ListN.{length}
 use borrow.Author.Tests.{le-leb}
-use Rattle.lists.specs.Lists.{all, head_or, if_any}
-use Rattle.lists.specs.ListLaws.{T-left, T-right}
-use Rattle.language.specs.Limits as limit
-use Rattle.language.specs.Values.{Store, State}
-use Rattle.machine.specs.Arguments.{Asks}
-use Rattle.machine.specs.Changes.{fits}
-use Rattle.machine.specs.Effects.{Row}
-use Rattle.machine.specs.Effects.Go.{on}
-use Rattle.machine.specs.Steps.{made, numbers, refusals}
-use Rattle.layout.specs.Bounds.{Each}
+use Rattle.state.specs.Below.Lists.{all, head_or, if_any}
+use Rattle.state.specs.Below.ListLaws.{T-left, T-right}
+use Rattle.state.specs.Below.Limits as limit
+use Rattle.state.specs.Below.LanguageValues.{Store, State}
+use Rattle.state.specs.Below.MachineArguments.{Asks}
+use Rattle.state.specs.Below.Changes.{fits}
+use Rattle.state.specs.Below.Effects.{Row}
+use Rattle.state.specs.Below.Effects.Go.{on}
+use Rattle.state.specs.Below.Steps.{made, numbers, refusals}
+use Rattle.state.specs.Below.LayoutBounds.{Each}
 use Rattle.state.specs.Working.{state_at, HoldsState, Stands, on_store}
 use Rattle.state.proofs.Standing.{after-state, on-store-twice}
 use Rattle.state.proofs.Fits.{fine-limited, fits-limited}

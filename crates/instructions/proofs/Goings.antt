@@ -7,14 +7,14 @@ use native.Mathlib.Omega.{arith}
 use lib.Dec.{leb}
 use lib.ListN.{length}
 use borrow.Author.Tests.{le-leb}
-use Rattle.language.specs.Limits as limit
-use Rattle.language.specs.Values.{Store, State}
-use Rattle.lists.specs.Lists.{head_or, if_any}
-use Rattle.machine.specs.Arguments.{Asks, none}
-use Rattle.machine.specs.Changes.{fits}
-use Rattle.machine.specs.Effects.{Go, Row}
-use Rattle.machine.specs.Steps.{made, can_go, Question, numbers, refusals}
-use Rattle.layout.specs.Bounds.{Each, Fine}
+use Rattle.state.specs.Below.Limits as limit
+use Rattle.state.specs.Below.LanguageValues.{Store, State}
+use Rattle.state.specs.Below.Lists.{head_or, if_any}
+use Rattle.state.specs.Below.MachineArguments.{Asks, none}
+use Rattle.state.specs.Below.Changes.{fits}
+use Rattle.state.specs.Below.Effects.{Go, Row}
+use Rattle.state.specs.Below.Steps.{made, can_go, Question, numbers, refusals}
+use Rattle.state.specs.Below.LayoutBounds.{Each, Fine}
 use Rattle.state.specs.Working.{state_at, HoldsState, Stands}
 use Rattle.state.proofs.Fits.{fine-limited, fits-limited}
 use Rattle.instructions.specs.Does.{asked_of, answer_of, Goes, stop_of}

@@ -4,7 +4,7 @@ use mathlib.Core.Bool.{Bool, false, ◌&&◌}
 use Prim.Native.Nat.{ℕ, ◌+◌, ◌≤◌, ◌<◌}
 use lib.Dec.{leb}
 use borrow.Author.Tests.{le-leb, lt-leb}
-use Rattle.language.specs.Limits as limit
+use Rattle.state.specs.Below.Limits as limit
 
 pub no_room : {x h : ℕ} (k : ℕ) (b : Bool) → x ≡ h → limit.components < x + k → false ≡ (leb (h + k) limit.components && b)
 no_room {x} {h} k b q l = rw (← q, lt-leb (x + k) limit.components l) refl

@@ -5,11 +5,11 @@ use mathlib.Core.List.{List}
 use Prim.Native.Nat.{ℕ, ◌<◌}
 use native.Mathlib.Omega.{arith}
 use borrow.Author.Tests.{lt-leb}
-use Rattle.language.specs.Limits as limit
-use Rattle.language.specs.Values.{Store}
-use Rattle.machine.specs.Arguments.{Asks, none}
-use Rattle.machine.specs.Changes.{fits}
-use Rattle.machine.specs.Effects.Go.{on}
+use Rattle.state.specs.Below.Limits as limit
+use Rattle.state.specs.Below.LanguageValues.{Store}
+use Rattle.state.specs.Below.MachineArguments.{Asks, none}
+use Rattle.state.specs.Below.Changes.{fits}
+use Rattle.state.specs.Below.Effects.Go.{on}
 use Rattle.state.specs.Working.{state_at, HoldsState, Stands, on_store}
 use Rattle.instructions.specs.Does.{with_store, Does, Quiet, stop_of}
 use Rattle.instructions.proofs.Answers.{does-stop, answer-on, quiet-done}

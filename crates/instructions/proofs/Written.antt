@@ -6,13 +6,13 @@ use Prim.Native.Nat.{ℕ, ◌+◌, ◌≤◌, ◌<◌}
 use lib.Dec.{leb}
 use lib.ListN.{length}
 use borrow.Author.Tests.{leb-true}
-use Rattle.language.specs.Limits as limit
-use Rattle.language.specs.Values.{Component, Store}
-use Rattle.machine.specs.Changes.{put_expr, placed, into, fits}
-use Rattle.layout.specs.Bounds.{Encoded}
-use Rattle.layout.proofs.ComponentLaws.{components-of, whole-components}
-use Rattle.layout.specs.Components.{components_in}
-use Rattle.layout.specs.Memory.{components_held, chars_held}
+use Rattle.state.specs.Below.Limits as limit
+use Rattle.state.specs.Below.LanguageValues.{Component, Store}
+use Rattle.state.specs.Below.Changes.{put_expr, placed, into, fits}
+use Rattle.state.specs.Below.LayoutBounds.{Encoded}
+use Rattle.state.proofs.Below.ComponentLaws.{components-of, whole-components}
+use Rattle.state.specs.Below.Components.{components_in}
+use Rattle.state.specs.Below.LayoutMemory.{components_held, chars_held}
 use Rattle.state.specs.Blocks.{PartsWritable}
 use Rattle.state.specs.Working.{state_at, Stands, nth, writing, turned, char_count}
 use Rattle.state.proofs.Fits.{fine-limited, fits-into-ok}

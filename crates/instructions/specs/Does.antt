@@ -1,12 +1,12 @@
 -- What the function of an instruction promises: the number of the first question answered no, or 0, and the state that is held then.
 use Rattle.std.specs.Prelude.{◌≡◌, Bool, true, cond, ◌&&◌, List, map, ℕ, ◌≤◌}
-use Rattle.language.specs.Program.{Program}
-use Rattle.language.specs.Values.{Store, State, Inputs}
-use Rattle.lists.specs.Lists.{head_or, if_any}
-use Rattle.machine.specs.Arguments.{Asks}
-use Rattle.machine.specs.Changes.{fits}
-use Rattle.machine.specs.Effects.{Row}
-use Rattle.machine.specs.Steps.{made, Question, numbers, asks_after, refusals}
+use Rattle.state.specs.Below.Program.{Program}
+use Rattle.state.specs.Below.LanguageValues.{Store, State, Inputs}
+use Rattle.state.specs.Below.Lists.{head_or, if_any}
+use Rattle.state.specs.Below.MachineArguments.{Asks}
+use Rattle.state.specs.Below.Changes.{fits}
+use Rattle.state.specs.Below.Effects.{Row}
+use Rattle.state.specs.Below.Steps.{made, Question, numbers, asks_after, refusals}
 use Rattle.state.specs.Working.{state_at, HoldsState, Stands}
 
 -- the questions that a row asks on a state

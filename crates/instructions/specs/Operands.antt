@@ -1,7 +1,7 @@
 -- Decoded operands: the letters that they stand for, and what the functions of instructions without a test ask.
 use Rattle.std.specs.Prelude.{Bool, true, false, List, ℕ, ◌≤◌, ◌<◌}
-use Rattle.language.specs.Letters.{Letter}
-use Rattle.language.specs.Letters.Letter.{A, B, Y, Z}
+use Rattle.state.specs.Below.Letters.{Letter}
+use Rattle.state.specs.Below.Letters.Letter.{A, B, Y, Z}
 use Rattle.state.specs.Working.{Stands}
 
 -- the letters that write components: turned round or not, at the end or in front

@@ -13,8 +13,8 @@ use Rattle.machine.specs.Runs.{Answer}
 use Rattle.machine.specs.Runs.Answer.{pause, stopped}
 use Rattle.layout.specs.Memory.{state_of, good_memory, written}
 use Rattle.layout.specs.Table.{program_of, good_table}
-use Rattle.running.specs.Running.{answer_number, run_on, Runnable, RanOn}
-use Rattle.running.specs.declared.Ran.{Ran}
+use Rattle.class_running.specs.Below.Running.{answer_number, run_on, Runnable, RanOn}
+use Rattle.class_running.specs.Below.Ran.{Ran}
 use Rattle.calls.specs.Calls.{packed, Call, call_inputs, Result, reply_number, reply_count, reply_answer, memory_passes, run_reply, result_of, start_of, run_of}
 use Rattle.calls.specs.Calls.Call.{start_on}
 use Rattle.calls.proofs.OrderLaws.{is-62, is-61, is-63, is-accepted}

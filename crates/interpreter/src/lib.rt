@@ -1,5 +1,6 @@
 // The calls for C. A slice passes as a pointer and a length; the answer has the number in its upper 32 bits and the line or the count in the lower.
 #![tactic(auto)]
+
 ghost use Rattle.std.specs.Prelude.{◌≡◌, [], ◌∷◌, length};
 ghost use Rattle.class_calls.specs.Class.{lent_of};
 ghost use Rattle.calls.specs.Calls.{packed, start_of, run_of};
@@ -9,8 +10,11 @@ ghost use Rattle.macros.specs.Load.{load_in};
 ghost use Rattle.state_frames.specs.Keeping.{write_of, read_of, Reads};
 ghost use Rattle.interpreter.specs.Answers.{Answers, AnswersLoad, AnswersShorten, AnswersClass};
 
+use class_running::from_running;
 use language::Machine;
-use loading::Loaded;
+use shortening::from_macro_loading;
+use state_restoring::from_state_saving;
+use translating::from_loading::Loaded;
 
 // Number and value in one.
 fn packed(number: u8, value: u32) -> u64
@@ -24,7 +28,7 @@ fn packed(number: u8, value: u32) -> u64
 pub extern "C" fn eol2_load(text: &[u8], table: &mut [u32]) -> u64
     ensures { AnswersLoad (load_in (length table.old) text.now) table.old result table.new }
 {
-    let r: Loaded = macro_loading::load(text, table);
+    let r: Loaded = from_macro_loading::load(text, table);
     packed(r.number, r.line)
 }
 
@@ -81,7 +85,7 @@ pub extern "C" fn eol2_run(
     if !check_state::is_state(table, i1, i2, state) {
         return packed(63, 0);
     }
-    let r = running::run(table, i1, i2, state, budget);
+    let r = from_running::run(table, i1, i2, state, budget);
     packed(r.number, r.count)
 }
 
@@ -97,7 +101,7 @@ pub extern "C" fn eol2_write_state(
 ) -> u64
     ensures { Fills (write_of table.now (i1.now ∷ i2.now ∷ []) state.now (length out.old)) result out.old out.new }
 {
-    let r = state_saving::write_state(table, i1, i2, state, out);
+    let r = from_state_saving::write_state(table, i1, i2, state, out);
     packed(r.number, r.count)
 }
 

@@ -1,3 +1,4 @@
 pub mod Words
 pub mod Joined
 pub mod Rows
+pub mod Below

@@ -1,5 +1,6 @@
 // Joining words: ZBIJ, and characters made one word.
 #![tactic(auto)]
+
 ghost use Rattle.std.specs.Prelude.{◌≡◌, length};
 ghost use Rattle.language.specs.Program.Arg.{nothing};
 ghost use Rattle.language.specs.Program.Op.{ZBIJ};
@@ -136,4 +137,9 @@ pub fn zbij(
         removes,
         i,
     )
+}
+
+// Of `moves`, passed on to the crates above.
+pub mod from_moves {
+    pub use moves::deliver;
 }

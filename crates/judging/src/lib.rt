@@ -1,5 +1,6 @@
 // The questions of a statement on its operator and its labels, by its head: each answered by the lowest place at fault.
 #![tactic(auto)]
+
 ghost use Rattle.std.specs.Prelude.{◌≡◌, not};
 ghost use Rattle.heads.specs.Heads.{own_by};
 ghost use Rattle.judging.specs.Judging.{OperatorFault, Labelled, LabelFault};
@@ -46,4 +47,9 @@ pub fn label_fault(head: Head, names: &[u32], from: usize) -> Fault
         return Fault::At(op.at);
     }
     lowest_mark(names, from + 1, to)
+}
+
+// Of `names`, passed on to the crates above.
+pub mod from_names {
+    pub use names::{first_repeated, first_reserved};
 }

@@ -3,8 +3,8 @@ use Rattle.std.specs.Prelude.{◌≡◌, Bool, true, false, ◌&&◌, ◌||◌, 
 use mathlib.Core.List.{List, []}
 use Rattle.std.proofs.Common.{inl, inr}
 use Prim.Native.Nat.{ℕ}
-use Rattle.lists.specs.Lists.{filled, bytes_equal}
-use Rattle.lists.specs.ListLaws.{same_bytes-eq, same_bytes-refl}
+use Rattle.characters.specs.Below.Lists.{filled, bytes_equal}
+use Rattle.characters.specs.Below.ListLaws.{same_bytes-eq, same_bytes-refl}
 use Rattle.language.specs.Program.{Program, Entry, label_at, meets}
 
 module _ (p : Program) (e : Entry) (w : List ℕ) where

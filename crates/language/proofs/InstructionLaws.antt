@@ -2,8 +2,8 @@
 use Rattle.std.specs.Prelude.{Bool, not, ◌||◌, T, eqb}
 use Rattle.language.specs.Instructions.{operation, operators}
 use Rattle.language.specs.Program.{Op}
-use Rattle.lists.specs.Lists.{all, bytes_equal}
-use Rattle.lists.specs.Quoted.{bytes}
+use Rattle.characters.specs.Below.Lists.{all, bytes_equal}
+use Rattle.characters.specs.Below.Quoted.{bytes}
 
 -- two instructions are one, or share no word
 abbrev apart : Op → Op → Bool

@@ -1,2 +1,3 @@
 pub mod EntryLaws
 pub mod InstructionLaws
+pub mod Below

@@ -3,3 +3,4 @@ pub mod Letters
 pub mod Values
 pub mod Program
 pub mod Instructions
+pub mod Below

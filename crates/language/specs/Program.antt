@@ -2,8 +2,8 @@
 use Rattle.std.specs.Prelude.{Bool, true, false, ◌&&◌, ◌||◌, List, [], ◌∷◌, ℕ, get_or, ℤ}
 use Rattle.characters.specs.Characters.{is_capital, is_digit}
 use Rattle.language.specs.Letters.{Letter}
-use Rattle.lists.specs.Lists.{all, filled, keep, among, bytes_equal}
-use Rattle.lists.specs.Quoted.{bytes}
+use Rattle.characters.specs.Below.Lists.{all, filled, keep, among, bytes_equal}
+use Rattle.characters.specs.Below.Quoted.{bytes}
 
 -- "An argument is an indexed letter, a label, a class, a text, a number or nothing." A label and a switch stand for their places in the
 -- program's lists; a class for those of its letters L, D, B, R that stand in it, in this order

@@ -3,7 +3,7 @@ use Rattle.std.specs.Prelude.{Bool, true, false, cond, ◌&&◌, ◌||◌, List,
 use Rattle.std.specs.Int.Signed.{le_z}
 use Rattle.language.specs.Limits as limit
 use Rattle.characters.specs.Characters.{is_digit, class_of}
-use Rattle.lists.specs.Lists.{all, every, bytes_equal, among}
+use Rattle.characters.specs.Below.Lists.{all, every, bytes_equal, among}
 
 -- a component: a word (its bytes), a number, a record's address
 pub data Component : Type 0 where

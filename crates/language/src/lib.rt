@@ -1,5 +1,6 @@
 // The machine's own type, with the limits of document 01 as its constants, and the operators by their numbers.
 #![tactic(auto)]
+
 ghost use Rattle.std.specs.Prelude.{◌≡◌};
 ghost use Rattle.language.specs.Limits.{listed};
 ghost use Rattle.language.specs.Instructions.{operator_numbers};
@@ -225,4 +226,9 @@ pub fn operators() -> [u8; 41]
         Operator::COFNIJ,
         Operator::STOP,
     ]
+}
+
+// Of `characters`, passed on to the crates above.
+pub mod from_characters {
+    pub use characters::{MARKS, is_capital, is_digit, is_known};
 }

@@ -2,19 +2,19 @@
 use Rattle.std.specs.Prelude.{◌≡◌, refl, Bool, true, false, not, cond, ◌&&◌, ◌||◌, List, [], ◌∷◌, ℕ, zero, suc, pred, ◌+◌, ◌*◌, ◌-◌, ◌/◌, ◌%◌, ◌≤◌, ◌<◌, T, leb, ltb, eqb, length, get_or, ℤ, pos, negsuc, nat_abs}
 use Rattle.std.proofs.Common.{sym, ap, ◌∙◌, subst, arith, leb→le, ltb→lt, lt-ltb, le-ltb, ne_eqb, leb-true}
 use Rattle.std.proofs.lemmas.Bool.{lt-leb}
-use Rattle.language.specs.Limits as limit
-use Rattle.lists.specs.ListLaws.{T-left, T-right, all_among, all_head, all_tail, ahead-le, same_bytes-eq}
-use Rattle.lists.specs.Lists.{any, ahead, filled, all, bytes_equal, among}
-use Rattle.characters.proofs.CharacterLaws.{known-byte}
-use Rattle.characters.specs.Characters.{ranked, known}
-use Rattle.language.specs.Instructions.{operation, operators, operator_of}
-use Rattle.language.specs.Letters.{Letter, letters, letter_code, Var, indices, use_of}
-use Rattle.language.specs.Letters.Letter.{A, B, C, D, E, I, N, P, Q, T as T-letter, Y, Z}
-use Rattle.language.specs.Letters.Var.{expression, input, output, file}
-use Rattle.language.specs.Program.{Arg, classes, Op, Program}
-use Rattle.language.specs.Program.Arg.{nothing, letter, label, switch, class, text}
-use Rattle.language.specs.Program.Op.{PRZESLIJ, CZYTAJ, PISZ, KOPIUJ, WSTAW, POBIERZ, SCHOWAJ, USTAW, ZAMIEN, UMIESC, USUN, SKRESL, RW, WK, MN, PP, NS, RZ, SKOCZ, WYKONAJ, SKOMI, SKOPL, WYMI, WYPL, SKONA, SKOIN, WYNA, WYIN, WROC, DODAJ, ODEJMIJ, MNOZ, DZIEL, SLOWO, LICZBA, ZBIJ, ROZBIJ, SZUKAJ, OMIN, COFNIJ, STOP}
-use Rattle.language.specs.Values.{same_number, in_range}
+use Rattle.machine.specs.Below.Limits as limit
+use Rattle.machine.specs.Below.ListLaws.{T-left, T-right, all_among, all_head, all_tail, ahead-le, same_bytes-eq}
+use Rattle.machine.specs.Below.Lists.{any, ahead, filled, all, bytes_equal, among}
+use Rattle.machine.proofs.Below.CharacterLaws.{known-byte}
+use Rattle.machine.specs.Below.Characters.{ranked, known}
+use Rattle.machine.specs.Below.Instructions.{operation, operators, operator_of}
+use Rattle.machine.specs.Below.Letters.{Letter, letters, letter_code, Var, indices, use_of}
+use Rattle.machine.specs.Below.Letters.Letter.{A, B, C, D, E, I, N, P, Q, T as T-letter, Y, Z}
+use Rattle.machine.specs.Below.Letters.Var.{expression, input, output, file}
+use Rattle.machine.specs.Below.Program.{Arg, classes, Op, Program}
+use Rattle.machine.specs.Below.Program.Arg.{nothing, letter, label, switch, class, text}
+use Rattle.machine.specs.Below.Program.Op.{PRZESLIJ, CZYTAJ, PISZ, KOPIUJ, WSTAW, POBIERZ, SCHOWAJ, USTAW, ZAMIEN, UMIESC, USUN, SKRESL, RW, WK, MN, PP, NS, RZ, SKOCZ, WYKONAJ, SKOMI, SKOPL, WYMI, WYPL, SKONA, SKOIN, WYNA, WYIN, WROC, DODAJ, ODEJMIJ, MNOZ, DZIEL, SLOWO, LICZBA, ZBIJ, ROZBIJ, SZUKAJ, OMIN, COFNIJ, STOP}
+use Rattle.machine.specs.Below.LanguageValues.{same_number, in_range}
 use Rattle.machine.proofs.ValueLaws.{same_number-eq}
 use Rattle.machine.specs.WellFormed.{good_text, kept_text, kept_number, ranged}
 use Rattle.layout.specs.Bounds.{KeptText, ProgramOk}

@@ -8,8 +8,8 @@ use Rattle.std.proofs.Math.ListN.{length, replicate, get_or-append}
 use Rattle.std.proofs.lemmas.List.{length-replicate}
 use Rattle.std.proofs.Math.Seq.{drop-append-add, get_or-append_seam}
 use Rattle.std.proofs.lemmas.Bool.{lt-leb}
-use Rattle.lists.specs.ListLaws.{all_head, all_tail}
-use Rattle.lists.specs.Lists.{total, all, any, ahead, each}
+use Rattle.machine.specs.Below.ListLaws.{all_head, all_tail}
+use Rattle.machine.specs.Below.Lists.{total, all, any, ahead, each}
 use Rattle.layout.specs.Bounds.{Each, Below}
 use Rattle.layout.specs.Cells.{cell, two, two_at, three, four, fours, unfours, code, uncode, tab, padded}
 

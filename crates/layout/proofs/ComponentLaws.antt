@@ -2,10 +2,10 @@
 use Rattle.std.specs.Prelude.{◌≡◌, refl, Bool, true, false, List, [], ◌∷◌, ◌++◌, ℕ, zero, suc, ◌+◌, ◌*◌, ◌-◌, ◌/◌, ◌%◌, ◌≤◌, ◌<◌, T, length, take, drop}
 use Rattle.std.proofs.Common.{sym, ap, ◌∙◌, subst, append_assoc, append-nil, not-suc-le-zero, arith, length-append, length-drop, ne_eqb}
 use Rattle.std.proofs.Math.Seq.{take-append_seam, drop-append_seam}
-use Rattle.lists.specs.ListLaws.{same_bytes-eq, same_bytes-refl}
-use Rattle.lists.specs.Lists.{total, bytes_equal}
-use Rattle.language.specs.Values.{Component, Record, chars, same}
-use Rattle.language.specs.Values.Component.{word, address}
+use Rattle.machine.specs.Below.ListLaws.{same_bytes-eq, same_bytes-refl}
+use Rattle.machine.specs.Below.Lists.{total, bytes_equal}
+use Rattle.machine.specs.Below.LanguageValues.{Component, Record, chars, same}
+use Rattle.machine.specs.Below.LanguageValues.Component.{word, address}
 use Rattle.machine.proofs.ValueLaws.{same-eq, same_refl}
 use Rattle.layout.specs.Bounds.{Each, Below, Ok, RecordOk, EncodedOne, Encoded, EncodedRecords, OneComponent, WholeComponents, WholeRecords, last_size, NextComponent, NextRecord, LastRecord}
 use Rattle.layout.proofs.CellLaws.{each_left, each_right, below-append, three_back, three-below, two_back, two-at_end, two-below, code_below, uncode-code}

@@ -3,13 +3,13 @@ use Rattle.std.specs.Prelude.{◌≡◌, Bool, true, false, cond, ◌&&◌, ℕ,
 use Rattle.std.proofs.Math.Path.{refl}
 use Rattle.std.proofs.Common.{sym, subst, arith, leb→le, ltb→lt, length-append, leb-true}
 use mathlib.Core.List.{List, [], ◌∷◌, ◌++◌, map}
-use Rattle.language.specs.Limits as limit
-use Rattle.lists.specs.ListLaws.{all-total, part, all_head, all_tail, total-append, T-left, T-right}
-use Rattle.lists.specs.Lists.{total, all, each}
-use Rattle.characters.specs.Characters.{known}
-use Rattle.language.specs.Program.{Program}
-use Rattle.language.specs.Values.{Component, Record, File, Store, State, Inputs, chars}
-use Rattle.language.specs.Values.Component.{word, address}
+use Rattle.machine.specs.Below.Limits as limit
+use Rattle.machine.specs.Below.ListLaws.{all-total, part, all_head, all_tail, total-append, T-left, T-right}
+use Rattle.machine.specs.Below.Lists.{total, all, each}
+use Rattle.machine.specs.Below.Characters.{known}
+use Rattle.machine.specs.Below.Program.{Program}
+use Rattle.machine.specs.Below.LanguageValues.{Component, Record, File, Store, State, Inputs, chars}
+use Rattle.machine.specs.Below.LanguageValues.Component.{word, address}
 use Rattle.machine.specs.Arguments.{records}
 use Rattle.machine.specs.Changes.{held, recorded, fits}
 use Rattle.machine.proofs.CleanLaws.{chars-known}

@@ -7,3 +7,4 @@ pub mod FineLaws
 pub mod MemoryLaws
 pub mod ArgumentLaws
 pub mod TableLaws
+pub mod Below

@@ -7,11 +7,11 @@ use Rattle.std.proofs.Math.Dec.{leb→le}
 use Rattle.std.proofs.Math.ListN.{length, take, length-append, get_or-append, get_or-map}
 use Rattle.std.proofs.lemmas.List.{length-map}
 use Rattle.std.proofs.Math.Seq.{take_at, drop_at}
-use Rattle.language.specs.Limits as limit
-use Rattle.lists.specs.ListLaws.{T-left, T-right, T-both, same_bytes-eq, same_bytes-refl}
-use Rattle.lists.specs.Lists.{each, bytes_equal}
-use Rattle.language.specs.Program.{Program}
-use Rattle.language.specs.Values.{Component, File, State, Inputs, empty_file}
+use Rattle.machine.specs.Below.Limits as limit
+use Rattle.machine.specs.Below.ListLaws.{T-left, T-right, T-both, same_bytes-eq, same_bytes-refl}
+use Rattle.machine.specs.Below.Lists.{each, bytes_equal}
+use Rattle.machine.specs.Below.Program.{Program}
+use Rattle.machine.specs.Below.LanguageValues.{Component, File, State, Inputs, empty_file}
 use Rattle.machine.specs.Changes.{held, recorded}
 use Rattle.machine.specs.WellFormed.{good_program, good_inputs, good_state, started}
 use Rattle.layout.specs.Bounds.{Each, Below, Ok, FileOk, Fine, Encoded, EncodedRecords, AtRest}

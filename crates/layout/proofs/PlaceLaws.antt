@@ -1,6 +1,6 @@
 -- How the places hang together: each block begins where the one before it ends.
 use Rattle.std.specs.Prelude.{◌≡◌, refl, [], ◌∷◌, ◌+◌, ◌*◌}
-use Rattle.language.specs.Limits as limit
+use Rattle.machine.specs.Below.Limits as limit
 use Rattle.layout.specs.Places.{first_instruction, first_argument, second_argument, third_argument, first_label, first_name, first_text, first_characters, first_switch, first_entry, first_number, first_place, second_place, next_scalar, scalars_count, plus_scalar, last_scalar, components_scalar, characters_scalar, records_scalar, plus_cell, first_place_cell, second_place_cell, next_cell, last_cell, components_cell, characters_cell, records_cell, first_length, first_byte, first_file, file_strings_count, stack_string, first_output, second_output, strings_count, ends_count, lengths_bytes, strings_bytes, room}
 
 -- an instruction has 4 cells, a label and a text 16

@@ -4,13 +4,13 @@ use mathlib.Core.List.{List, [], ◌∷◌}
 use Rattle.std.proofs.Common.{arith, leb→le, ltb→lt, length-append}
 use Rattle.std.proofs.Math.Dec.{ltb}
 use Rattle.std.proofs.Math.IntN.{nat_abs}
-use Rattle.language.specs.Limits as limit
-use Rattle.lists.specs.ListLaws.{part, all_head, all_tail, T-left, T-right}
-use Rattle.lists.specs.Lists.{total, all, filled, each}
-use Rattle.characters.proofs.CharacterLaws.{known-byte}
-use Rattle.characters.specs.Characters.{known, is_capital, is_digit}
-use Rattle.language.specs.Program.{identifier, Entry, Switch, Program}
-use Rattle.language.specs.Values.{in_range}
+use Rattle.machine.specs.Below.Limits as limit
+use Rattle.machine.specs.Below.ListLaws.{part, all_head, all_tail, T-left, T-right}
+use Rattle.machine.specs.Below.Lists.{total, all, filled, each}
+use Rattle.machine.proofs.Below.CharacterLaws.{known-byte}
+use Rattle.machine.specs.Below.Characters.{known, is_capital, is_digit}
+use Rattle.machine.specs.Below.Program.{identifier, Entry, Switch, Program}
+use Rattle.machine.specs.Below.LanguageValues.{in_range}
 use Rattle.machine.specs.Facts.{InstrFacts, LabelFacts, ProgramFacts}
 use Rattle.machine.specs.WellFormed.{good_word, good_text, kept_text, good_instr, good_label, good_entry, good_switch, program_tests, good_program}
 use Rattle.machine.proofs.WellFormedLaws.{open-instr, open-label, open-program}

@@ -6,7 +6,7 @@ use Prim.Native.Nat.{ℕ, zero, suc, ◌+◌, ◌*◌, ◌-◌, ◌/◌, ◌%◌
 use Rattle.std.proofs.Math.ListN.{replicate}
 use Rattle.std.proofs.lemmas.List.{length-replicate}
 use Rattle.std.proofs.Math.Seq.{take-append_seam, drop-append_seam}
-use Rattle.lists.specs.Lists.{joined}
+use Rattle.machine.specs.Below.Lists.{joined}
 use Rattle.layout.specs.Bounds.{Each, Below}
 use Rattle.layout.proofs.CellLaws.{twice, twice-one, below-append, below-zeros, two_back, two-below}
 use Rattle.layout.specs.Cells.{two}

@@ -10,11 +10,11 @@ use Rattle.std.proofs.Math.Dec.{leb}
 use Rattle.std.proofs.Math.ListN.{length, length-append, length-replicate}
 use Rattle.std.proofs.lemmas.List.{length-map}
 use Rattle.std.proofs.Math.IntN.{nat_abs}
-use Rattle.language.specs.Limits as limit
-use Rattle.lists.specs.ListLaws.{T-left, T-right, T-both, same_bytes-eq, same_bytes-refl}
-use Rattle.lists.specs.Lists.{total, each, bytes_equal}
-use Rattle.language.specs.Instructions.{operation, operator_of}
-use Rattle.language.specs.Program.{Arg, Instr, Label, Entry, Switch, Program, no_instr, no_label, no_switch, no_entry}
+use Rattle.machine.specs.Below.Limits as limit
+use Rattle.machine.specs.Below.ListLaws.{T-left, T-right, T-both, same_bytes-eq, same_bytes-refl}
+use Rattle.machine.specs.Below.Lists.{total, each, bytes_equal}
+use Rattle.machine.specs.Below.Instructions.{operation, operator_of}
+use Rattle.machine.specs.Below.Program.{Arg, Instr, Label, Entry, Switch, Program, no_instr, no_label, no_switch, no_entry}
 use Rattle.machine.specs.Facts.{InstrFacts, LabelFacts}
 use Rattle.machine.specs.WellFormed.{ranged, good_program}
 use Rattle.layout.proofs.ArgumentLaws.{bit-most, operator-back, operator-below, text-back, arg-back, arg_cell-below, text_ref-below}

@@ -1,10 +1,10 @@
 -- What the layouts ask of a program and of a state, and cells that are the bytes of whole components or records.
 use Rattle.std.specs.Prelude.{◌≡◌, not, ◌&&◌, ◌||◌, List, [], ◌∷◌, ◌++◌, ℕ, ◌+◌, ◌-◌, ◌≤◌, ◌<◌, T, length, take, drop, nat_abs}
-use Rattle.language.specs.Limits as limit
-use Rattle.lists.specs.Lists.{filled}
-use Rattle.language.specs.Program.{Entry, Program}
-use Rattle.language.specs.Values.{Component, Record, File, State, Inputs}
-use Rattle.language.specs.Values.Component.{word, address}
+use Rattle.machine.specs.Below.Limits as limit
+use Rattle.machine.specs.Below.Lists.{filled}
+use Rattle.machine.specs.Below.Program.{Entry, Program}
+use Rattle.machine.specs.Below.LanguageValues.{Component, Record, File, State, Inputs}
+use Rattle.machine.specs.Below.LanguageValues.Component.{word, address}
 use Rattle.machine.specs.Facts.{InstrFacts, LabelFacts, ProgramFacts}
 use Rattle.machine.specs.WellFormed.{good_text, kept_text, good_program, good_state}
 use Rattle.layout.specs.Cells.{cell, two_at}

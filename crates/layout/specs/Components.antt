@@ -3,8 +3,8 @@
 -- that the last record of a string is found from its end. Equal components have equal bytes, and the first cell tells how many cells a component
 -- takes.
 use Rattle.std.specs.Prelude.{cond, List, [], ◌∷◌, ◌++◌, map, ℕ, zero, suc, ◌+◌, eqb, length, take, drop}
-use Rattle.language.specs.Values.{Component, Record}
-use Rattle.language.specs.Values.Component.{word, address}
+use Rattle.machine.specs.Below.LanguageValues.{Component, Record}
+use Rattle.machine.specs.Below.LanguageValues.Component.{word, address}
 use Rattle.layout.specs.Cells.{cell, two, two_at, three, three_at, code, uncode}
 
 unfoldable pub component_bytes : Component → List ℕ

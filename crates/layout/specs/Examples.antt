@@ -1,14 +1,14 @@
 -- The examples of docs/LAYOUT.md: the table of a small program, and components and a record in bytes.
 use Rattle.std.specs.Prelude.{◌≡◌, refl, true, List, [], ◌∷◌, ℕ, take, drop, negsuc}
 use Prim.Native.String.{String}
-use Rattle.lists.specs.Quoted.{bytes}
-use Rattle.characters.specs.Characters.{known}
-use Rattle.language.specs.Letters.Letter.{A, I, Q}
-use Rattle.language.specs.Program.{Arg, Op, Instr, Program}
-use Rattle.language.specs.Program.Arg.{nothing, letter, label, switch, text}
-use Rattle.language.specs.Program.Op.{CZYTAJ, UMIESC, SKOCZ, SKONA, STOP}
-use Rattle.language.specs.Values.{Component}
-use Rattle.language.specs.Values.Component.{word, address}
+use Rattle.machine.specs.Below.Quoted.{bytes}
+use Rattle.machine.specs.Below.Characters.{known}
+use Rattle.machine.specs.Below.Letters.Letter.{A, I, Q}
+use Rattle.machine.specs.Below.Program.{Arg, Op, Instr, Program}
+use Rattle.machine.specs.Below.Program.Arg.{nothing, letter, label, switch, text}
+use Rattle.machine.specs.Below.Program.Op.{CZYTAJ, UMIESC, SKOCZ, SKONA, STOP}
+use Rattle.machine.specs.Below.LanguageValues.{Component}
+use Rattle.machine.specs.Below.LanguageValues.Component.{word, address}
 use Rattle.machine.specs.WellFormed.{listed, good_instr, good_label, good_switch, good_program}
 use Rattle.layout.specs.Cells.{fours, code, padded}
 use Rattle.layout.specs.Components.{component_bytes, components_bytes, record_bytes}

@@ -1,9 +1,9 @@
 -- The kinds of arguments in the cells of a program table. The same numbers are constants of a type in src/, and `places` there ties the two.
 use Rattle.std.specs.Prelude.{List, [], ◌∷◌, ℕ, ◌%◌}
 use Rattle.std.proofs.Math.IntN.ℤ.{pos}
-use Rattle.language.specs.Letters.Letter.{A}
-use Rattle.language.specs.Program.{Arg}
-use Rattle.language.specs.Program.Arg.{letter, label, switch, class, text}
+use Rattle.machine.specs.Below.Letters.Letter.{A}
+use Rattle.machine.specs.Below.Program.{Arg}
+use Rattle.machine.specs.Below.Program.Arg.{letter, label, switch, class, text}
 use Rattle.layout.specs.Table.{arg_cell}
 
 abbrev kind_of : Arg → ℕ

@@ -7,3 +7,4 @@ pub mod Strings
 pub mod Memory
 pub mod Bounds
 pub mod Examples
+pub mod Below

@@ -1,9 +1,9 @@
 -- The state at rest: the 40,960 bytes of a state, and the state that bytes read as (docs/LAYOUT.md has the same in words).
 use Rattle.std.specs.Prelude.{Bool, cond, ◌&&◌, List, [], ◌∷◌, ◌++◌, map, ℕ, zero, suc, ◌+◌, ◌*◌, leb, eqb, length, get_or, take, drop}
-use Rattle.language.specs.Limits as limit
-use Rattle.lists.specs.Lists.{each, bytes_equal}
-use Rattle.language.specs.Program.{Program}
-use Rattle.language.specs.Values.{File, Store, State, Inputs, chars}
+use Rattle.machine.specs.Below.Limits as limit
+use Rattle.machine.specs.Below.Lists.{each, bytes_equal}
+use Rattle.machine.specs.Below.Program.{Program}
+use Rattle.machine.specs.Below.LanguageValues.{File, Store, State, Inputs, chars}
 use Rattle.machine.specs.Changes.{held, recorded}
 use Rattle.machine.specs.WellFormed.{good_state}
 use Rattle.layout.specs.Cells.{two, three, three_at}

@@ -2,7 +2,7 @@
 use Rattle.std.specs.Prelude.{List, [], ◌∷◌, ◌++◌, ℕ, zero, suc, ◌-◌, length, take, drop, replicate}
 use Rattle.layout.specs.Cells.{two, two_at}
 use Rattle.layout.specs.Places as layout
-use Rattle.lists.specs.Lists.{joined}
+use Rattle.machine.specs.Below.Lists.{joined}
 
 unfoldable pub lengths : List (List ℕ) → List ℕ
 lengths [] = []

@@ -1,13 +1,13 @@
 -- The program table: the 8,192 cells of a program, and the program that cells read as (docs/LAYOUT.md has the same in words).
 use Rattle.std.specs.Prelude.{Bool, cond, ◌&&◌, List, [], ◌∷◌, ◌++◌, map, ℕ, ◌+◌, ◌*◌, ◌-◌, ◌/◌, ◌%◌, leb, ltb, eqb, length, get_or, take, drop, replicate, ℤ, nat_abs}
-use Rattle.language.specs.Limits as limit
-use Rattle.lists.specs.Lists.{ahead, each, bytes_equal, among}
-use Rattle.language.specs.Instructions.{operation, operator_of}
-use Rattle.language.specs.Letters.{Letter, letters, letter_code}
-use Rattle.language.specs.Letters.Letter.{A}
-use Rattle.language.specs.Program.{Arg, Instr, Label, Entry, Switch, Program}
-use Rattle.language.specs.Program.Arg.{nothing, letter, label, switch, class, text}
-use Rattle.language.specs.Values.{same_number}
+use Rattle.machine.specs.Below.Limits as limit
+use Rattle.machine.specs.Below.Lists.{ahead, each, bytes_equal, among}
+use Rattle.machine.specs.Below.Instructions.{operation, operator_of}
+use Rattle.machine.specs.Below.Letters.{Letter, letters, letter_code}
+use Rattle.machine.specs.Below.Letters.Letter.{A}
+use Rattle.machine.specs.Below.Program.{Arg, Instr, Label, Entry, Switch, Program}
+use Rattle.machine.specs.Below.Program.Arg.{nothing, letter, label, switch, class, text}
+use Rattle.machine.specs.Below.LanguageValues.{same_number}
 use Rattle.machine.specs.WellFormed.{good_program}
 use Rattle.layout.specs.Cells.{cell, fours, unfours, code, uncode, tab, padded}
 use Rattle.layout.specs.Places as layout

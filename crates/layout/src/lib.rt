@@ -1,5 +1,6 @@
 // The places of a program table and of a state at rest and the kinds of arguments, as constants of three types; the layouts themselves are definitions and laws.
 #![tactic(auto)]
+
 ghost use Rattle.std.specs.Prelude.{◌≡◌, ◌++◌};
 ghost use Rattle.layout.specs.Kinds.{kinds};
 ghost use Rattle.layout.specs.Places.{listed};
@@ -190,4 +191,9 @@ pub fn places() -> [usize; 54]
         ArgumentKinds::TEXT,
         ArgumentKinds::NUMBER,
     ]
+}
+
+// Of `language`, passed on to the crates above.
+pub mod from_language {
+    pub use machine::from_language::Machine;
 }

@@ -10,11 +10,11 @@ use lib.Dec.{eqb, eqb→eq}
 use lib.ListN.{length, get_or, take, drop, length-take, length-drop, drop_of_length-le}
 use lib.Seq.{drop-drop}
 use borrow.Author.Tests.{ne_eqb}
-use Rattle.lists.specs.TableLaws.{below}
-use Rattle.syntax.specs.Items.{Sort, sort_of, sort_number, Item, is, a_text}
-use Rattle.syntax.specs.Items.Sort.{separator, word, colon, end, text, wrong}
-use Rattle.syntax.specs.Scan.{word_length, text_length, text_chars, is_closed, text_found, found_here, found_in, found_after}
-use Rattle.syntax.specs.Scan.Found.{found}
+use Rattle.scanner.specs.Below.ListsTableLaws.{below}
+use Rattle.scanner.specs.Below.Items.{Sort, sort_of, sort_number, Item, is, a_text}
+use Rattle.scanner.specs.Below.Items.Sort.{separator, word, colon, end, text, wrong}
+use Rattle.scanner.specs.Below.SyntaxScan.{word_length, text_length, text_chars, is_closed, text_found, found_here, found_in, found_after}
+use Rattle.scanner.specs.Below.SyntaxScan.Found.{found}
 use Rattle.scanner.specs.declared.Gap.{Gap}
 use Rattle.scanner.specs.declared.Scan.{Scan}
 use Rattle.scanner.specs.Scans.{Skipped, WordEnd, Scanned}

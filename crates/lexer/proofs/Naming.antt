@@ -7,14 +7,14 @@ use native.Mathlib.Omega.{arith}
 use lib.Dec.{eqb}
 use lib.ListN.{length, get_or, drop, drop_of_length-le}
 use borrow.Author.Tests.{eqb-true, ne_eqb}
-use Rattle.lists.specs.Lists.{if_any}
-use Rattle.lists.specs.TableLaws.{beq-eq, below}
-use Rattle.syntax.specs.Items.{Sort, sort_of, same_sort, Item, is, a_word, a_mark, read, named}
-use Rattle.syntax.specs.Items.Sort.{separator, word, colon, end, text, wrong}
-use Rattle.syntax.specs.Items.Mode.{outside}
-use Rattle.syntax.proofs.ItemLaws.{items-found}
-use Rattle.syntax.proofs.LoadLaws.{name-colon, item-alone, word-alone}
-use Rattle.syntax.specs.Scan.{text_found, found_here, found_in, found_after, items_then}
+use Rattle.scanner.specs.Below.Lists.{if_any}
+use Rattle.scanner.specs.Below.ListsTableLaws.{beq-eq, below}
+use Rattle.scanner.specs.Below.Items.{Sort, sort_of, same_sort, Item, is, a_word, a_mark, read, named}
+use Rattle.scanner.specs.Below.Items.Sort.{separator, word, colon, end, text, wrong}
+use Rattle.scanner.specs.Below.Items.Mode.{outside}
+use Rattle.scanner.proofs.Below.ItemLaws.{items-found}
+use Rattle.scanner.proofs.Below.SyntaxLoadLaws.{name-colon, item-alone, word-alone}
+use Rattle.scanner.specs.Below.SyntaxScan.{text_found, found_here, found_in, found_after, items_then}
 use Rattle.scanner.specs.declared.Gap.{Gap}
 use Rattle.scanner.specs.Scans.{Skipped}
 use Rattle.lexer.specs.declared.After.{After}

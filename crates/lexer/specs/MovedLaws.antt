@@ -5,11 +5,11 @@ use Rattle.std.proofs.Common.{sym, ap, ◌∙◌, length-drop, drop-drop, ne_eqb
 use Rattle.std.proofs.lemmas.List.{map-append}
 use native.Mathlib.Omega.{arith}
 use Rattle.std.proofs.lemmas.Bool.{eqb-false}
-use Rattle.lists.specs.Lists.{if_any}
-use Rattle.syntax.specs.Items.{Sort, sort_of, same_sort, Item, is, places, a_word, a_text, a_mark, ends_text, Mode, opens, begins, itself, mode_after, items_at, left_over, read, attach, named}
-use Rattle.syntax.specs.Items.Sort.{separator, word, colon, end, text, wrong}
-use Rattle.syntax.specs.Items.Stage.{first-star, inside, last-slash}
-use Rattle.syntax.specs.Items.Mode.{outside, in_word, in_comment, in_text}
+use Rattle.scanner.specs.Below.Lists.{if_any}
+use Rattle.scanner.specs.Below.Items.{Sort, sort_of, same_sort, Item, is, places, a_word, a_text, a_mark, ends_text, Mode, opens, begins, itself, mode_after, items_at, left_over, read, attach, named}
+use Rattle.scanner.specs.Below.Items.Sort.{separator, word, colon, end, text, wrong}
+use Rattle.scanner.specs.Below.Items.Stage.{first-star, inside, last-slash}
+use Rattle.scanner.specs.Below.Items.Mode.{outside, in_word, in_comment, in_text}
 use Rattle.lexer.specs.declared.Token.{Token}
 use Rattle.lexer.specs.Tokens.{part, chars_of, colon_of, item_of, items_from, Stands, NextToken, moved}
 

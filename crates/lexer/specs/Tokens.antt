@@ -1,11 +1,11 @@
 -- Tokens: what the lexer gives of the items of Items.antt, with places of the text s in place of characters. And what its functions promise.
 use Rattle.std.specs.Prelude.{◌≡◌, true, false, cond, List, [], ◌∷◌, ℕ, ◌+◌, ◌-◌, ◌≤◌, ◌<◌, eqb, length, get_or, take, drop}
-use Rattle.lists.specs.Lists.{if_any}
-use Rattle.syntax.specs.Items.{Sort, Item, is, a_mark, read, named}
-use Rattle.syntax.specs.Items.Sort.{separator, word, colon, end, text, wrong}
-use Rattle.syntax.specs.Items.Mode.{outside}
-use Rattle.syntax.specs.Scan.{text_chars, Found, found_here, item_at}
-use Rattle.syntax.specs.Scan.Found.{no_item, found}
+use Rattle.scanner.specs.Below.Lists.{if_any}
+use Rattle.scanner.specs.Below.Items.{Sort, Item, is, a_mark, read, named}
+use Rattle.scanner.specs.Below.Items.Sort.{separator, word, colon, end, text, wrong}
+use Rattle.scanner.specs.Below.Items.Mode.{outside}
+use Rattle.scanner.specs.Below.SyntaxScan.{text_chars, Found, found_here, item_at}
+use Rattle.scanner.specs.Below.SyntaxScan.Found.{no_item, found}
 use Rattle.lexer.specs.declared.After.{After}
 use Rattle.lexer.specs.declared.Token.{Token}
 

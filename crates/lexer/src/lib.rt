@@ -1,7 +1,8 @@
 // From a place in a text to the item that stands there and the place behind it.
 #![tactic(auto)]
+
 ghost use Rattle.std.specs.Prelude.{◌≡◌, ◌+◌, ◌≤◌, ◌<◌, length};
-ghost use Rattle.syntax.specs.Items.{line_at};
+ghost use Rattle.scanner.specs.Below.Items.{line_at};
 ghost use Rattle.lexer.specs.Tokens.{a_token, WordAt, TextAt, TokenAt, ColonAfter, NextToken, Movable, moved, moved_colon};
 
 use scanner::{NOTHING, TEXT, WORD, WRONG, one_if, scan_text, skip, sort_of, word_end};
@@ -173,4 +174,9 @@ pub fn line_at(lines: &[u16], at: usize) -> u16
         return lines[at];
     }
     1
+}
+
+// Of `scanner`, passed on to the crates above.
+pub mod from_scanner {
+    pub use scanner::{END, NOTHING, TEXT, WRONG};
 }

@@ -17,7 +17,7 @@ use Rattle.statements.specs.declared.Verdict.TheVariants.{Yes, No}
 use Rattle.finishing.specs.Finishing.{Finishable, Finishes}
 use Rattle.language.specs.Limits as limit
 use Rattle.layout.specs.Table.{table_cells}
-use Rattle.progress.specs.declared.Progress.{Progress}
+use Rattle.finishing.specs.Below.ProgressTypeProgress.{Progress}
 use Rattle.reading_statements.specs.declared.Read.{Read}
 use Rattle.reading_statements.specs.declared.Read.TheVariants.{Statement, Refused}
 use Rattle.syntax.specs.Ending.{last_place, last_questions}

@@ -7,9 +7,9 @@ use native.Mathlib.Omega.{arith}
 use lib.ListN.{length, drop}
 use types.Run.{OneOf, miss}
 use Rattle.language.specs.Limits as limit
-use Rattle.progress.specs.Progress.{Begun}
-use Rattle.progress.specs.ProgressLaws.{before-after}
-use Rattle.progress.specs.declared.Progress.{Progress}
+use Rattle.finishing.specs.Below.Progress.{Begun}
+use Rattle.finishing.specs.Below.ProgressLaws.{before-after}
+use Rattle.finishing.specs.Below.ProgressTypeProgress.{Progress}
 use Rattle.reading_statements.specs.ReadingStatements.{read_verdict, Standing, Readable, ReadsStatement}
 use Rattle.reading_statements.specs.declared.Answer.{Answer}
 use Rattle.reading_statements.specs.declared.Read.{Read}

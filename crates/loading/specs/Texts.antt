@@ -6,8 +6,8 @@ use Rattle.statements.specs.declared.Verdict.{Verdict}
 use Rattle.statements.specs.declared.Verdict.TheVariants.{Yes, No}
 use Rattle.language.specs.Limits as limit
 use Rattle.language.specs.Program.{Program}
-use Rattle.progress.specs.Progress.{Drafted}
-use Rattle.progress.specs.declared.Progress.{Progress}
+use Rattle.finishing.specs.Below.Progress.{Drafted}
+use Rattle.finishing.specs.Below.ProgressTypeProgress.{Progress}
 use Rattle.reading_statements.specs.declared.Read.{Read}
 use Rattle.reading_statements.specs.declared.Read.TheVariants.{Statement, Refused}
 use Rattle.syntax.specs.Ending.{last_place}

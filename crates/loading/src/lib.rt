@@ -1,10 +1,12 @@
 // From a text without macros to the program table, or the number and the line of the first question answered no.
 #![tactic(auto)]
+
 ghost use Rattle.std.specs.Prelude.{◌≤◌, length};
 ghost use Rattle.language.specs.Limits as limit;
 ghost use Rattle.syntax.specs.Load.{text_loads, load_typed};
 ghost use Rattle.loading.specs.Texts.{Fillable, Fills, Unread, ReadsText, Loadable, LoadsText, Refuses, Lent, Leaves, Fit};
 
+use finishing::from_progress;
 use language::Machine;
 use lexer::line_at;
 use reading_statements::{Read, read_statement};
@@ -45,7 +47,7 @@ fn read_statements(
     requires { Unread text.now lines.now names.old table.old switches.old entries.old }
     ensures { ReadsText text.now lines.now table.old result names.new table.new switches.new entries.new }
 {
-    let mut p = progress::begin();
+    let mut p = from_progress::begin();
     let mut n: usize = 0;
     loop {
         let a = read_statement(text, lines, n, p, names, table, switches, entries);
@@ -57,7 +59,7 @@ fn read_statements(
             return Read::Statement(q);
         }
         n = a.next;
-        p = progress::renewed(q);
+        p = from_progress::renewed(q);
     }
 }
 

@@ -3,8 +3,8 @@ use Rattle.std.specs.Prelude.{◌≡◌, refl, Bool, true, false, not, cond, ◌
 use Rattle.std.proofs.Common.{arith, T_not, eqb-true}
 use Rattle.std.proofs.Math.Decide.{dec_le}
 use Rattle.std.proofs.Math.Dec.{eqb_refl, not_T}
-use Rattle.lists.specs.Lists.{total, all, among}
-use Rattle.lists.specs.ListLaws.{T-left, T-right, T-both, all_among, all_cons, total-append, total-map}
+use Rattle.language.specs.Below.Lists.{total, all, among}
+use Rattle.language.specs.Below.ListLaws.{T-left, T-right, T-both, all_among, all_cons, total-append, total-map}
 use Rattle.language.specs.Values.{File, Store}
 use Rattle.machine.specs.Arguments.{records}
 use Rattle.machine.specs.Changes.{recorded}

@@ -6,8 +6,8 @@ use Rattle.std.proofs.Math.Bool.{true, false}
 use mathlib.Core.List.{List, [], ◌∷◌, ◌++◌, reverse}
 use native.Mathlib.Omega.{arith}
 use Rattle.std.proofs.Math.ListN.{length, get_or, take, length-set, length-drop}
-use Rattle.lists.specs.Lists.{total}
-use Rattle.lists.specs.ListLaws.{total-append, total-reverse, total-split, total-put, total-at, total_mono, total-exchange}
+use Rattle.language.specs.Below.Lists.{total}
+use Rattle.language.specs.Below.ListLaws.{total-append, total-reverse, total-split, total-put, total-at, total_mono, total-exchange}
 use Rattle.language.specs.Letters.{Var, Use}
 use Rattle.language.specs.Letters.Var.{expression, input, output, file}
 use Rattle.language.specs.Program.{Arg}

@@ -5,9 +5,9 @@ use Prim.Native.Nat.{ℕ, zero, suc, pred, ◌+◌, ◌-◌, ◌≤◌, ◌<◌,
 use native.Mathlib.Omega.{arith}
 use Rattle.std.proofs.Math.Decide.{dec_lt}
 use Rattle.std.proofs.Common.{leb→le, ltb-true}
-use Rattle.lists.specs.Lists.{total, all, if_any, joined}
-use Rattle.lists.specs.ListLaws.{T-left, all_head, all_tail, ahead-le, none-fail, total-append, total-split, total-at, total-map}
-use Rattle.characters.specs.Characters.{known}
+use Rattle.language.specs.Below.Lists.{total, all, if_any, joined}
+use Rattle.language.specs.Below.ListLaws.{T-left, all_head, all_tail, ahead-le, none-fail, total-append, total-split, total-at, total-map}
+use Rattle.language.specs.Below.Characters.{known}
 use Rattle.language.specs.Limits as limit
 use Rattle.language.specs.Letters.{Var, Reading, use_of}
 use Rattle.language.specs.Letters.Var.{expression, input, output, file}

@@ -9,8 +9,8 @@ use Rattle.std.proofs.Math.Decide.{dec_lt}
 use Rattle.std.proofs.Math.Dec.{T}
 use Rattle.std.proofs.Math.ListN.{get_or-eq_default}
 use Rattle.std.specs.Int.Signed.{lt_z}
-use Rattle.lists.specs.Lists.{all, filled, if_any, among}
-use Rattle.lists.specs.ListLaws.{T-left, T-right, T-both, all_head, all_tail, all_cons, all-at, all_keep}
+use Rattle.language.specs.Below.Lists.{all, filled, if_any, among}
+use Rattle.language.specs.Below.ListLaws.{T-left, T-right, T-both, all_head, all_tail, all_cons, all-at, all_keep}
 use Rattle.language.specs.Instructions.{Flow, operation, is_call, is_end}
 use Rattle.language.specs.Instructions.Flow.{through, calls, ends}
 use Rattle.language.specs.Letters.{Letter, letter_code}

@@ -3,8 +3,8 @@ use Rattle.std.specs.Prelude.{◌≡◌, refl, Bool, cond, ℕ, T, take, ℤ, po
 use Rattle.std.proofs.Math.Bool.{true}
 use mathlib.Core.List.{List, [], ◌∷◌, map}
 use Rattle.std.proofs.Common.{arith}
-use Rattle.lists.specs.Lists.{all, total, filled, if_any, joined, among}
-use Rattle.lists.specs.ListLaws.{T-left}
+use Rattle.language.specs.Below.Lists.{all, total, filled, if_any, joined, among}
+use Rattle.language.specs.Below.ListLaws.{T-left}
 use Rattle.language.specs.Letters.{Var}
 use Rattle.language.specs.Letters.Var.{expression, input, output, file}
 use Rattle.language.specs.Program.{Arg, Op, Entry, Program}

@@ -10,3 +10,4 @@ pub mod WellFormedLaws
 pub mod ControlLaws
 pub mod StepLaws
 pub mod SwitchLaws
+pub mod Below

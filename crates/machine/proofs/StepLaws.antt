@@ -1,8 +1,8 @@
 -- A step from a well-formed state leads to a well-formed state, keeps records' addresses distinct and gives none again. So do whole runs.
 use Rattle.std.specs.Prelude.{◌≡◌, Bool, true, false, cond, ◌&&◌, List, [], ◌∷◌, map, ℕ, ◌≤◌, T, leb, length}
 use Rattle.std.proofs.Common.{◌∙◌, subst, arith, leb→le}
-use Rattle.lists.specs.Lists.{all, if_any, among}
-use Rattle.lists.specs.ListLaws.{T-left, T-right, all-at, all_among}
+use Rattle.language.specs.Below.Lists.{all, if_any, among}
+use Rattle.language.specs.Below.ListLaws.{T-left, T-right, all-at, all_among}
 use Rattle.language.specs.Limits as limit
 use Rattle.language.specs.Program.{Program, no_instr, instr_at}
 use Rattle.language.specs.Values.{State, Inputs}

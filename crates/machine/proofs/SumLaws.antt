@@ -3,8 +3,8 @@ use Rattle.std.specs.Prelude.{◌≡◌, ℕ, zero, suc, pred, ◌+◌, ◌-◌,
 use Rattle.std.proofs.Math.Path.{refl}
 use mathlib.Core.List.{List, [], ◌∷◌, ◌++◌}
 use native.Mathlib.Omega.{arith}
-use Rattle.lists.specs.Lists.{total, all}
-use Rattle.lists.specs.ListLaws.{total-set, all_set}
+use Rattle.language.specs.Below.Lists.{total, all}
+use Rattle.language.specs.Below.ListLaws.{total-set, all_set}
 use Rattle.language.specs.Limits as limit
 use Rattle.language.specs.Program.{Arg}
 use Rattle.language.specs.Values.{Component, Record, Store, empty_file}

@@ -3,7 +3,7 @@ use Rattle.std.specs.Prelude.{◌≡◌, Bool, true, false, not, cond, ◌&&◌,
 use Rattle.std.proofs.Math.Path.{refl}
 use Rattle.language.specs.Program.{Arg, Entry, Program, label_at, target_of, meets}
 use Rattle.language.specs.Values.{Store, Inputs, chars}
-use Rattle.lists.specs.Lists.{all, filled, keep, bytes_equal}
+use Rattle.language.specs.Below.Lists.{all, filled, keep, bytes_equal}
 use Rattle.machine.specs.Arguments.{first, side}
 use Rattle.machine.specs.Changes.{used}
 use Rattle.machine.specs.Effects.{Go, entries_of, named, by_name}

@@ -3,7 +3,7 @@ use Rattle.std.specs.Prelude.{◌≡◌, T, ℤ, pos, negsuc}
 use Rattle.std.proofs.Common.{ap, le_antisymm, eqb→eq, leb→le}
 use Rattle.std.proofs.Math.Dec.{eqb_refl}
 use Rattle.std.specs.Int.Signed.{le_z, ≤ℤ_refl}
-use Rattle.lists.specs.ListLaws.{T-left, T-right, T-both, part, parts, same_bytes-eq, same_bytes-refl}
+use Rattle.language.specs.Below.ListLaws.{T-left, T-right, T-both, part, parts, same_bytes-eq, same_bytes-refl}
 use Rattle.language.specs.Values.{Component, chars, value, link, kind, same_number, same_tests, same}
 use Rattle.language.specs.Values.Component.{word, address}
 

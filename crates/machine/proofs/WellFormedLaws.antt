@@ -4,9 +4,9 @@ use Rattle.std.proofs.Common.{arith, le→leb, lt→ltb}
 use Rattle.std.proofs.Math.Decide.{dec_le}
 use Rattle.std.proofs.Math.Dec.{T, leb, ltb, leb→le, ltb→lt, eqb→eq, eqb_refl}
 use Rattle.std.proofs.Math.ListN.{length}
-use Rattle.lists.specs.Lists.{total, all}
-use Rattle.lists.specs.ListLaws.{T-left, T-right, T-both, part, Passed, parts, all_head, all_tail, none-fail}
-use Rattle.characters.specs.Characters.{known}
+use Rattle.language.specs.Below.Lists.{total, all}
+use Rattle.language.specs.Below.ListLaws.{T-left, T-right, T-both, part, Passed, parts, all_head, all_tail, none-fail}
+use Rattle.language.specs.Below.Characters.{known}
 use Rattle.language.specs.Limits as limit
 use Rattle.language.specs.Program.{Instr, Label, Program, identifier}
 use Rattle.language.specs.Values.{Store, State, Inputs}

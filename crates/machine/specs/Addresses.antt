@@ -1,6 +1,6 @@
 -- Addresses of records: how many records have one, and whether it is still to be given.
 use Rattle.std.specs.Prelude.{cond, List, ℕ, ◌+◌, ◌-◌, min, eqb}
-use Rattle.lists.specs.Lists.{total}
+use Rattle.language.specs.Below.Lists.{total}
 use Rattle.language.specs.Values.{Store}
 use Rattle.machine.specs.Changes.{recorded}
 

@@ -9,7 +9,7 @@ use Rattle.language.specs.Program.{Arg}
 use Rattle.language.specs.Program.Arg.{nothing, letter, label, switch, class, text}
 use Rattle.language.specs.Values.{Component, Record, File, Store, Inputs, empty_file, value, kind, same, of_class}
 use Rattle.language.specs.Values.Component.{word, address}
-use Rattle.lists.specs.Lists.{all, any, ahead, filled, head_or, if_any, same_list}
+use Rattle.language.specs.Below.Lists.{all, any, ahead, filled, head_or, if_any, same_list}
 
 -- an argument's index, or its label's or switch's place
 abbrev pub place : Arg → ℕ

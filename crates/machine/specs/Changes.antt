@@ -5,7 +5,7 @@ use Rattle.language.specs.Letters.{Var, Use}
 use Rattle.language.specs.Letters.Var.{expression, input, output, file}
 use Rattle.language.specs.Program.{Arg}
 use Rattle.language.specs.Values.{Component, Record, File, Store, chars}
-use Rattle.lists.specs.Lists.{total, all, ahead}
+use Rattle.language.specs.Below.Lists.{total, all, ahead}
 use Rattle.machine.specs.Arguments.{place, use_by, at, expr, file_of, records}
 
 -- One field replaced; files together with the last address given

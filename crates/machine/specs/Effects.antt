@@ -1,7 +1,7 @@
 -- Chapter 5: what each of the 41 instructions asks and what it makes of the state.
 use Rattle.std.specs.Prelude.{Bool, true, false, not, cond, ◌&&◌, ◌||◌, List, [], ◌∷◌, map, ℕ, pred, leb, eqb, length, get_or, take, ℤ, pos, ◌+ℤ◌, ◌-ℤ◌, ◌*ℤ◌, nat_abs}
 use Rattle.std.specs.Int.Signed.{lt_z, quot_z, rem_z}
-use Rattle.characters.specs.Characters.{precedes}
+use Rattle.language.specs.Below.Characters.{precedes}
 use Rattle.language.specs.Instructions.{kinds_of}
 use Rattle.language.specs.Letters.{Var}
 use Rattle.language.specs.Letters.Var.{expression, input, output, file}
@@ -10,7 +10,7 @@ use Rattle.language.specs.Program.Arg.{nothing}
 use Rattle.language.specs.Program.Op.{PRZESLIJ, CZYTAJ, PISZ, KOPIUJ, WSTAW, POBIERZ, SCHOWAJ, USTAW, ZAMIEN, UMIESC, USUN, SKRESL, RW, WK, MN, PP, NS, RZ, SKOCZ, WYKONAJ, SKOMI, SKOPL, WYMI, WYPL, SKONA, SKOIN, WYNA, WYIN, WROC, DODAJ, ODEJMIJ, MNOZ, DZIEL, SLOWO, LICZBA, ZBIJ, ROZBIJ, SZUKAJ, OMIN, COFNIJ, STOP}
 use Rattle.language.specs.Values.{Component, Store, Inputs, chars, value, link, kind, same, decimal, numeral, value_of, in_range}
 use Rattle.language.specs.Values.Component.{word, address}
-use Rattle.lists.specs.Lists.{all, any, filled, if_any, keep, joined, same_list}
+use Rattle.language.specs.Below.Lists.{all, any, filled, if_any, keep, joined, same_list}
 use Rattle.machine.specs.Arguments.{place, use_by, expr, file_of, records, next_parts, unread, first, char, side, is_count, is_whole, single, Asks, none, ask, ◌&◌, present, is, alike, of_kinds, when, needs, taken, matches, cut, on_chars, reach, test_asks}
 use Rattle.machine.specs.Changes.{with_plus, put_expr, put_file, minus, minus_unless, into, front, printed, stored, past, used, pointed, address_of_last}
 

@@ -1,6 +1,6 @@
 -- "Marked to be proved": the eleven examples of document 01, as one checked table.
 use Rattle.std.specs.Prelude.{◌≡◌, refl, List, [], ◌∷◌, map, pos}
-use Rattle.characters.specs.Characters.{rank}
+use Rattle.language.specs.Below.Characters.{rank}
 use Rattle.language.specs.Letters.Letter.{A, B, C, P}
 use Rattle.language.specs.Program.Arg.{nothing, letter}
 use Rattle.language.specs.Program.Op.{PRZESLIJ, KOPIUJ, USTAW, SKRESL, RW, WK, DODAJ, DZIEL, SLOWO, LICZBA, ROZBIJ}

@@ -1,6 +1,6 @@
 -- What the tests of well-formed programs and states say, as facts with names.
 use Rattle.std.specs.Prelude.{◌≡◌, not, ℕ, pred, ◌≤◌, ◌<◌, T, ltb, length}
-use Rattle.lists.specs.Lists.{total, all}
+use Rattle.language.specs.Below.Lists.{total, all}
 use Rattle.language.specs.Limits as limit
 use Rattle.language.specs.Instructions.{operation, is_call, is_end}
 use Rattle.language.specs.Program.{Op, Instr, Label, Program, instr_at, identifier}

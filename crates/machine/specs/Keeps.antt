@@ -1,6 +1,6 @@
 -- What every step keeps: how the store after a step stands to the store before it.
 use Rattle.std.specs.Prelude.{◌≡◌, List, ℕ, ◌≤◌, length}
-use Rattle.lists.specs.Lists.{total}
+use Rattle.language.specs.Below.Lists.{total}
 use Rattle.language.specs.Letters.{Var}
 use Rattle.language.specs.Letters.Var.{expression, input, output, file}
 use Rattle.language.specs.Program.{Arg}

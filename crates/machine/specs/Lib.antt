@@ -11,3 +11,4 @@ pub mod Notation
 pub mod Examples
 pub mod Manual
 pub mod SwitchExamples
+pub mod Below

@@ -1,6 +1,6 @@
 -- Examples of chapter 5 of the manual, one of each kind and some shortened, as a second checked table.
 use Rattle.std.specs.Prelude.{◌≡◌, refl, List, [], ◌∷◌, map, pos}
-use Rattle.lists.specs.Quoted.{bytes}
+use Rattle.language.specs.Below.Quoted.{bytes}
 use Rattle.language.specs.Letters.Letter.{A, B, C, D, I, P, Q, T, Y}
 use Rattle.language.specs.Program.Arg.{nothing, letter, label, switch, class}
 use Rattle.language.specs.Program.Op.{PRZESLIJ, CZYTAJ, PISZ, KOPIUJ, UMIESC, SKRESL, WK, NS, RZ, SKOPL, WYMI, SKOIN, ZBIJ, SZUKAJ, OMIN}

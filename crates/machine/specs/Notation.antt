@@ -1,7 +1,7 @@
 -- Ways to write an example down: a few instructions, a store before them, and the run that they give.
 use Rattle.std.specs.Prelude.{true, false, List, [], ◌∷◌, ◌++◌, ℕ, length, replicate, ℤ, pos, neg_ℤ}
 use Prim.Native.String.{String}
-use Rattle.lists.specs.Quoted.{bytes}
+use Rattle.language.specs.Below.Quoted.{bytes}
 use Rattle.language.specs.Letters.Letter.{E, P}
 use Rattle.language.specs.Program.{Arg, Op, Instr, Label, Entry, Program, no_instr}
 use Rattle.language.specs.Program.Arg.{letter}

@@ -3,7 +3,7 @@ use Rattle.std.specs.Prelude.{Bool, true, cond, ◌&&◌, List, [], ◌∷◌, m
 use Rattle.language.specs.Limits as limit
 use Rattle.language.specs.Program.{Program, instr_at, meets}
 use Rattle.language.specs.Values.{State, Inputs}
-use Rattle.lists.specs.Lists.{filled, head_or, if_any}
+use Rattle.language.specs.Below.Lists.{filled, head_or, if_any}
 use Rattle.machine.specs.Arguments.{Asks, ask, ◌&◌}
 use Rattle.machine.specs.Changes.{with_exprs, with_files, with_plus, with_outputs, with_places, put_expr, put_file, minus, minus_unless, placed, into, front, printed, stamped, stored, past_file, past_by, past, used_by, used, pointed, held, recorded, fits}
 use Rattle.machine.specs.Effects.{Go, Row, moved, jump_if, relation, equality, ordered, by_name, by_index, computed, changed, set_to, exchanged, row}

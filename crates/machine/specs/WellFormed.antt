@@ -1,15 +1,15 @@
 -- Well-formed programs, inputs and states: questions 62, 61 and 63; and the state that start makes.
 use Rattle.std.specs.Prelude.{Bool, true, not, cond, ◌&&◌, ◌||◌, List, [], ◌∷◌, ◌++◌, map, ℕ, pred, ◌+◌, ◌-◌, leb, ltb, eqb, length, replicate, ℤ, nat_abs}
 use Rattle.language.specs.Limits as limit
-use Rattle.characters.specs.Characters.{known}
+use Rattle.language.specs.Below.Characters.{known}
 use Rattle.language.specs.Instructions.{operation, is_call, is_end}
 use Rattle.language.specs.Letters.{letter_code, indices, use_of}
 use Rattle.language.specs.Program.{Arg, identifier, classes, Instr, Label, Entry, Switch, Program, instr_at, switch_at}
 use Rattle.language.specs.Program.Arg.{nothing, letter, label, switch, class, text}
 use Rattle.language.specs.Values.{Component, Record, File, Store, State, Inputs, empty_file, same_number, same, in_range}
 use Rattle.language.specs.Values.Component.{word, address}
-use Rattle.lists.specs.Lists.{total, all, any, filled, every, bytes_equal, among}
-use Rattle.lists.specs.Quoted.{bytes}
+use Rattle.language.specs.Below.Lists.{total, all, any, filled, every, bytes_equal, among}
+use Rattle.language.specs.Below.Quoted.{bytes}
 use Rattle.machine.specs.Arguments.{records}
 use Rattle.machine.specs.Changes.{fits}
 

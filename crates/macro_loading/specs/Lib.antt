@@ -1,1 +1,2 @@
 pub mod Loading
+pub mod Below

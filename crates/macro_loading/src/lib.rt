@@ -1,5 +1,6 @@
 // Load: from a text to the program table, or the number and the line of the first question answered no.
 #![tactic(auto)]
+
 ghost use Rattle.loading.specs.Texts.{Leaves};
 ghost use Rattle.macro_loading.specs.Loading.{Loads, Rewritable};
 ghost use Rattle.macros.specs.Load.{loaded};
@@ -55,4 +56,9 @@ pub fn load(text: &[u8], table: &mut [u32]) -> Loaded
         return typed;
     }
     load_written(text, table)
+}
+
+// Of `loading`, passed on to the crates above.
+pub mod from_loading {
+    pub use loading::Loaded;
 }

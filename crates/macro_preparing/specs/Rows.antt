@@ -12,7 +12,7 @@ use Rattle.macro_calls.specs.Calls.{Told}
 use Rattle.macro_code.specs.Code.{high, change_count, first_change, changes_in, body_in, macros_in}
 use Rattle.macro_code.specs.Known.{Singles, Heights}
 use Rattle.macro_code.specs.Places as place
-use Rattle.macro_expansion.specs.Expanding.{Known}
+use Rattle.macro_section.specs.Below.Expanding.{Known}
 use Rattle.macro_section.specs.Long.{Steady}
 use Rattle.statements.specs.Faults.{verdict_of}
 use Rattle.statements.specs.StatementAt.{fault_of}

@@ -4,3 +4,4 @@ pub mod SectionLaws
 pub mod Long
 pub mod LongLaws
 pub mod DeepLaws
+pub mod Below

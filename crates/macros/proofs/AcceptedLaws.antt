@@ -2,10 +2,10 @@
 use Rattle.std.specs.Prelude.{◌≡◌, refl, Bool, true, false, cond, not, ◌&&◌, ◌||◌, List, [], ◌∷◌, ◌++◌, map, ℕ, zero, suc, ◌+◌, T, eqb, length, get_or, take, drop}
 use Rattle.std.proofs.Common.{ap, sym, subst, ◌∙◌, true≢false, append_assoc, arith}
 use Rattle.std.proofs.lemmas.Bool.{false≢true}
-use Rattle.language.specs.Program.{identifier}
-use Rattle.lists.specs.Lists.{ahead, all, any, among, each, filled, head_or, if_any, joined, keep}
-use Rattle.lists.specs.ListLaws.{T-left, T-right, T-both}
-use Rattle.lists.specs.Quoted.{bytes}
+use Rattle.syntax.specs.Below.Program.{identifier}
+use Rattle.syntax.specs.Below.Lists.{ahead, all, any, among, each, filled, head_or, if_any, joined, keep}
+use Rattle.syntax.specs.Below.ListLaws.{T-left, T-right, T-both}
+use Rattle.syntax.specs.Below.Quoted.{bytes}
 use Rattle.syntax.specs.Items.{Sort, same_sort, Item, is, places, line_of, lines_of}
 use Rattle.syntax.specs.Items.Sort.{separator, word, colon, end, text, wrong}
 use Rattle.syntax.specs.Verdict.{Question, Verdict, first_no}

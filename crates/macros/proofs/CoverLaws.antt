@@ -6,9 +6,9 @@ use Rattle.std.proofs.Math.Bool.{true, false, cond}
 use Rattle.std.proofs.lemmas.Bool.{false≢true}
 use mathlib.Core.List.{List, [], ◌∷◌, ◌++◌, map, append_assoc}
 use Rattle.std.proofs.Math.Dec.{T}
-use Rattle.language.specs.Program.{identifier}
-use Rattle.lists.specs.Lists.{ahead, all, each, filled, if_any, joined}
-use Rattle.lists.specs.ListLaws.{T-left, T-right, T-both}
+use Rattle.syntax.specs.Below.Program.{identifier}
+use Rattle.syntax.specs.Below.Lists.{ahead, all, each, filled, if_any, joined}
+use Rattle.syntax.specs.Below.ListLaws.{T-left, T-right, T-both}
 use Rattle.syntax.specs.Items.{Sort, same_sort}
 use Rattle.syntax.specs.Items.Sort.{separator, word, colon, end, text, wrong}
 use Rattle.macros.specs.Elements.{Element, end_of, is_word, is_end, until, from, cut_off, stretches}

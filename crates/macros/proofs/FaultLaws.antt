@@ -2,7 +2,7 @@
 use Rattle.std.specs.Prelude.{◌≡◌, refl, Bool, true, false, cond, List, [], ◌∷◌, ◌++◌, map, ℕ, eqb}
 use Rattle.std.proofs.Common.{ap, ◌∙◌}
 use Rattle.std.proofs.lemmas.List.{map-append}
-use Rattle.lists.specs.Lists.{keep}
+use Rattle.syntax.specs.Below.Lists.{keep}
 use Rattle.macros.specs.Expansion.{Fault, places_of}
 
 pub keep-both : {X : Type 0} (p : X → Bool) (xs ys : List X) → keep p (xs ++ ys) ≡ keep p xs ++ keep p ys

@@ -1,10 +1,10 @@
 -- Nothing that a macro of an accepted text may write by a parameter is empty: the premise of `loud-writes`.
 use Rattle.std.specs.Prelude.{◌≡◌, refl, Bool, true, false, cond, not, ◌&&◌, ◌||◌, List, [], ◌∷◌, ◌++◌, map, ℕ, zero, suc, ◌+◌, ◌<◌, T, eqb, ltb, length, take, drop}
 use Rattle.std.proofs.Common.{true≢false, arith, lt→ltb}
-use Rattle.language.specs.Program.{identifier}
-use Rattle.language.specs.Values.{numeral}
-use Rattle.lists.specs.Lists.{ahead, all, any, each, filled, if_any, joined, keep, bytes_equal}
-use Rattle.lists.specs.ListLaws.{T-left, T-right, T-both}
+use Rattle.syntax.specs.Below.Program.{identifier}
+use Rattle.syntax.specs.Below.LanguageValues.{numeral}
+use Rattle.syntax.specs.Below.Lists.{ahead, all, any, each, filled, if_any, joined, keep, bytes_equal}
+use Rattle.syntax.specs.Below.ListLaws.{T-left, T-right, T-both}
 use Rattle.syntax.specs.Verdict.{first_no}
 use Rattle.syntax.specs.Verdict.Verdict.{yes}
 use Rattle.macros.specs.Marks.{whole_questions}

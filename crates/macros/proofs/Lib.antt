@@ -16,3 +16,4 @@ pub mod FullLaws
 pub mod ShortLaws
 pub mod LoadLaws
 pub mod OutsideLaws
+pub mod Below

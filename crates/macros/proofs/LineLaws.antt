@@ -2,8 +2,8 @@
 use Rattle.std.specs.Prelude.{◌≡◌, refl, Bool, true, false, cond, List, [], ◌∷◌, ℕ, zero, suc, min, ◌+◌, ◌≤◌, ◌<◌, eqb, length, get_or, take}
 use Rattle.std.proofs.Math.Decide.{dec_lt}
 use Rattle.std.proofs.Common.{add-one, arith, length-take, take_all}
-use Rattle.lists.specs.Lists.{keep}
-use Rattle.lists.specs.ListLaws.{keep-few}
+use Rattle.syntax.specs.Below.Lists.{keep}
+use Rattle.syntax.specs.Below.ListLaws.{keep-few}
 use Rattle.syntax.specs.Items.{line_of}
 
 -- the new lines before a place

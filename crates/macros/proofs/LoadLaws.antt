@@ -3,10 +3,10 @@ use Rattle.std.specs.Prelude.{◌≡◌, Bool, true, false, cond, ◌&&◌, ◌|
 use Rattle.std.proofs.Math.Path.{refl, ap}
 use Rattle.std.proofs.Common.{sym, ◌∙◌, arith}
 use borrow.Author.Tests.{le-leb}
-use Rattle.language.specs.Limits as limit
-use Rattle.language.specs.Program.{Program}
-use Rattle.lists.specs.Lists.{any, among, if_any, keep, head_or}
-use Rattle.lists.specs.Quoted.{bytes}
+use Rattle.syntax.specs.Below.Limits as limit
+use Rattle.syntax.specs.Below.Program.{Program}
+use Rattle.syntax.specs.Below.Lists.{any, among, if_any, keep, head_or}
+use Rattle.syntax.specs.Below.Quoted.{bytes}
 use Rattle.syntax.specs.Ending.{last_place, last_questions}
 use Rattle.syntax.specs.Items.{Item, is, Sort, same_sort, attach, named, parted, places, read, statements, statements_from, line_of, line_at, lines_of}
 use Rattle.syntax.specs.Items.Mode.{outside}

@@ -5,7 +5,7 @@ use Rattle.std.proofs.Math.Bool.{true, false}
 use mathlib.Core.List.{List, [], ◌∷◌, ◌++◌, map}
 use native.Mathlib.Omega.{arith}
 use Rattle.std.proofs.Math.Dec.{T}
-use Rattle.lists.specs.Lists.{ahead, each, filled, head_or, if_any, joined}
+use Rattle.syntax.specs.Below.Lists.{ahead, each, filled, head_or, if_any, joined}
 use Rattle.syntax.specs.Items.{Sort, same_sort, up_from}
 use Rattle.syntax.specs.Items.Sort.{separator, word, colon, end, text, wrong}
 use Rattle.macros.specs.Elements.{Element, is_end, is_star, is_open, is_close, places_in, elements, until, from, stretches}

@@ -5,7 +5,7 @@ use Rattle.std.proofs.Common.{◌∙◌, arith, length-take, length-drop, take-a
 use mathlib.Core.List.{List, [], ◌∷◌, ◌++◌, map, append-nil, map-append}
 use Rattle.std.proofs.Math.ListN.{length-map}
 use Rattle.std.proofs.lemmas.Bool.{lt-leb}
-use Rattle.lists.specs.Lists.{each, keep}
+use Rattle.syntax.specs.Below.Lists.{each, keep}
 use Rattle.syntax.specs.Items.{up_from, line_of}
 use Rattle.macros.specs.Elements.{elements}
 use Rattle.macros.specs.Marks.{byte_at, has_macros}

@@ -1,10 +1,10 @@
 -- The two readings agree: a text of clean bytes has no macros.
 use Rattle.std.specs.Prelude.{◌≡◌, refl, Bool, true, false, cond, not, ◌&&◌, ◌||◌, List, [], ◌∷◌, ◌++◌, ℕ, zero, suc, ◌+◌, T, eqb, get_or, drop}
 use Rattle.std.proofs.Common.{sym, subst, true≢false, add-one, arith, eqb→eq}
-use Rattle.lists.specs.Lists.{all, any, among, each}
-use Rattle.lists.specs.ListLaws.{T-left, T-right, T-both, all_head, all_tail}
-use Rattle.lists.specs.Quoted.{bytes}
-use Rattle.characters.specs.Characters.{is_capital, is_digit}
+use Rattle.syntax.specs.Below.Lists.{all, any, among, each}
+use Rattle.syntax.specs.Below.ListLaws.{T-left, T-right, T-both, all_head, all_tail}
+use Rattle.syntax.specs.Below.Quoted.{bytes}
+use Rattle.syntax.specs.Below.Characters.{is_capital, is_digit}
 use Rattle.syntax.specs.Items.{Sort, sort_of, same_sort, Item, is, a_word, a_text, a_mark, ends_text, takes_next, char_of, allows, Stage, Mode, opens, begins, itself, mode_after, items_at, left_over, read}
 use Rattle.syntax.specs.Items.Sort.{separator, word, colon, end, text, wrong}
 use Rattle.syntax.specs.Items.Stage.{first-star, inside, last-slash}

@@ -2,8 +2,8 @@
 use Rattle.std.specs.Prelude.{◌≡◌, refl, Bool, true, false, cond, List, [], ◌∷◌, ◌++◌, map, ℕ, zero, suc, ◌≤◌, length, get_or, drop}
 use Rattle.std.proofs.Common.{sym, ap, ◌∙◌, append_assoc, append-nil, arith, length-append, length-drop}
 use Rattle.std.proofs.lemmas.List.{length-map}
-use Rattle.language.specs.Limits as limit
-use Rattle.lists.specs.Lists.{each}
+use Rattle.syntax.specs.Below.Limits as limit
+use Rattle.syntax.specs.Below.Lists.{each}
 use Rattle.syntax.specs.Items.{line_of, up_from, lines_of}
 use Rattle.syntax.proofs.LineLaws.{length-lines}
 use Rattle.syntax.specs.Verdict.{Question, ask, Verdict, lowest, decide, first_no}

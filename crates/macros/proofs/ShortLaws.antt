@@ -1,9 +1,9 @@
 -- A macro of a text that 16 lets pass has a name of at most as many characters as an item.
 use Rattle.std.specs.Prelude.{◌≡◌, Bool, true, false, cond, not, ◌&&◌, ◌||◌, List, [], ◌∷◌, map, ℕ, zero, suc, ◌+◌, ◌≤◌, ◌<◌, T, leb, ltb, length, get_or, take, drop}
 use Rattle.std.proofs.Common.{ltb-false, leb→le, le→leb}
-use Rattle.language.specs.Limits as limit
-use Rattle.lists.specs.Lists.{ahead, all, each, joined, keep}
-use Rattle.lists.specs.ListLaws.{T-left, T-right, T-both, all-at}
+use Rattle.syntax.specs.Below.Limits as limit
+use Rattle.syntax.specs.Below.Lists.{ahead, all, each, joined, keep}
+use Rattle.syntax.specs.Below.ListLaws.{T-left, T-right, T-both, all-at}
 use Rattle.syntax.specs.Items.{Sort, same_sort, Item, places}
 use Rattle.syntax.specs.Items.Sort.{separator, word, colon, end, text, wrong}
 use Rattle.syntax.specs.Scan.{text_length}

@@ -2,11 +2,11 @@
 use Rattle.std.specs.Prelude.{◌≡◌, refl, Bool, true, false, cond, not, ◌&&◌, ◌||◌, List, [], ◌∷◌, ◌++◌, map, ℕ, suc, ◌+◌, ◌-◌, T, eqb, length, get_or, take, drop}
 use Rattle.std.proofs.Common.{ap, sym, subst, ◌∙◌, true≢false, append_assoc, arith, length-append}
 use Rattle.std.proofs.lemmas.Bool.{false≢true}
-use Rattle.language.specs.Program.{identifier}
-use Rattle.lists.specs.Lists.{all, any, among, filled, if_any, bytes_equal}
-use Rattle.lists.specs.ListLaws.{T-left, T-right, T-both}
-use Rattle.lists.specs.Quoted.{bytes}
-use Rattle.characters.specs.Characters.{is_capital, is_digit}
+use Rattle.syntax.specs.Below.Program.{identifier}
+use Rattle.syntax.specs.Below.Lists.{all, any, among, filled, if_any, bytes_equal}
+use Rattle.syntax.specs.Below.ListLaws.{T-left, T-right, T-both}
+use Rattle.syntax.specs.Below.Quoted.{bytes}
+use Rattle.syntax.specs.Below.Characters.{is_capital, is_digit}
 use Rattle.syntax.specs.Items.{Sort, sort_of, sort_number, same_sort, Item, is, a_word, a_text, a_mark, ends_text, takes_next, char_of, allows, Stage, Mode, opens, closes, begins, itself, mode_after, items_at, left_over, read}
 use Rattle.syntax.specs.Items.Sort.{separator, word, colon, end, text, wrong}
 use Rattle.syntax.specs.Items.Stage.{first-star, inside, last-slash}

@@ -13,3 +13,4 @@ pub mod Silence
 pub mod Cleanness
 pub mod Load
 pub mod Outside
+pub mod Below

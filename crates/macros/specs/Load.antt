@@ -1,6 +1,6 @@
 -- Load: "then the written-out text is loaded as if typed".
 use Rattle.std.specs.Prelude.{cond, ◌&&◌, List, [], ◌∷◌, ℕ, leb, length}
-use Rattle.language.specs.Limits as limit
+use Rattle.syntax.specs.Below.Limits as limit
 use Rattle.syntax.specs.Ending.{last_place, last_questions}
 use Rattle.syntax.specs.Items.{Item, statements_from, line_at}
 use Rattle.syntax.specs.Load.{Loaded, program_of, text_loads}

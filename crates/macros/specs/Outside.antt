@@ -1,6 +1,6 @@
 -- "Bytes outside the list .. stay as typed, save calls": what of a text is outside its list and its calls, and what of its written-out text comes from there.
 use Rattle.std.specs.Prelude.{Bool, true, false, cond, not, ◌&&◌, List, [], ◌∷◌, ◌++◌, map, ℕ, leb, ltb, length}
-use Rattle.lists.specs.Lists.{any, each, keep}
+use Rattle.syntax.specs.Below.Lists.{any, each, keep}
 use Rattle.syntax.specs.Items.{up_from}
 use Rattle.macros.specs.Elements.{elements}
 use Rattle.macros.specs.Pieces.{Piece, Change, section_changes}

@@ -1,8 +1,8 @@
 -- The questions 64 to 66, and the text as it is loaded: "then the written_out text is loaded as if typed".
 use Rattle.std.specs.Prelude.{cond, List, [], ◌∷◌, ◌++◌, map, ℕ, drop}
-use Rattle.language.specs.Limits as limit
-use Rattle.lists.specs.Lists.{each}
-use Rattle.characters.specs.Characters.{known}
+use Rattle.syntax.specs.Below.Limits as limit
+use Rattle.syntax.specs.Below.Lists.{each}
+use Rattle.syntax.specs.Below.Characters.{known}
 use Rattle.syntax.specs.Items.{sort_of, ends_text, takes_next, char_of, allows, begins, itself, mode_after, items_at, left_over, read, line_of, up_from, lines_of}
 use Rattle.syntax.specs.Scan.{word_length, text_length}
 use Rattle.syntax.specs.Verdict.{Question, ask, Verdict, lowest, decide, first_no}

@@ -8,11 +8,11 @@ use lib.Dec.{eqb}
 use borrow.Author.Tests.{eq-eqb, ne_eqb}
 use Rattle.characters.specs.Characters.{is_letter, is_digit, class_of, class_place}
 use Rattle.components.proofs.Fronts.{front-kind}
-use Rattle.language.specs.Values.{chars, of_class}
-use Rattle.layout.specs.Cells.{cell}
-use Rattle.layout.specs.Components.{component_in}
-use Rattle.lists.specs.Lists.{all, ahead, among}
-use Rattle.lists.specs.Quoted.{bytes}
+use Rattle.components.specs.Below.LanguageValues.{chars, of_class}
+use Rattle.components.specs.Below.LayoutCells.{cell}
+use Rattle.components.specs.Below.Components.{component_in}
+use Rattle.characters.specs.Below.Lists.{all, ahead, among}
+use Rattle.characters.specs.Below.Quoted.{bytes}
 use Rattle.matching.specs.Tests.{in_class}
 
 -- whether c is in a list of letters that stand there or not

@@ -9,15 +9,15 @@ use lib.Dec.{leb, ltb, eqb}
 use lib.ListN.{length, take, drop, length-append}
 use borrow.Author.Tests.{le-leb, lt-leb, leb-true, leb-false}
 use Rattle.components.proofs.Walks.{Step, none_left, chars-at, word_at, bytes_at}
-use Rattle.language.specs.Values.{Component, chars}
-use Rattle.language.specs.Values.Component.{word, address}
-use Rattle.layout.specs.Bounds.{WholeComponents}
-use Rattle.layout.specs.Cells.{cell}
-use Rattle.layout.specs.Components.{component_bytes, components_bytes, component_in, components_in}
-use Rattle.layout.proofs.ComponentLaws.{components_bytes-append, components_bytes-one, one_of}
-use Rattle.lists.specs.Lists.{any, ahead}
-use Rattle.lists.specs.ListLaws.{ahead-le, total-append}
-use Rattle.machine.specs.Arguments.{Until, everything, number_of, up_to, taken}
+use Rattle.components.specs.Below.LanguageValues.{Component, chars}
+use Rattle.components.specs.Below.LanguageValues.Component.{word, address}
+use Rattle.components.specs.Below.LayoutBounds.{WholeComponents}
+use Rattle.components.specs.Below.LayoutCells.{cell}
+use Rattle.components.specs.Below.Components.{component_bytes, components_bytes, component_in, components_in}
+use Rattle.components.proofs.Below.ComponentLaws.{components_bytes-append, components_bytes-one, one_of}
+use Rattle.characters.specs.Below.Lists.{any, ahead}
+use Rattle.characters.specs.Below.ListLaws.{ahead-le, total-append}
+use Rattle.components.specs.Below.MachineArguments.{Until, everything, number_of, up_to, taken}
 use Rattle.matching.specs.Tests.{until, reached_by, stops_before, ends, walked, char_count, all_word, Took, TookChars}
 use Rattle.matching.specs.declared.Taken.{Taken}
 use Rattle.matching.specs.declared.Test.{Test}

@@ -6,12 +6,12 @@ use Prim.Native.Nat.{ℕ, ◌-◌}
 use lib.Dec.{T}
 use lib.ListN.{take, drop}
 use Rattle.components.proofs.Walks.{Step}
-use Rattle.language.specs.Values.{Component, same}
-use Rattle.layout.specs.Bounds.{OneComponent}
-use Rattle.layout.specs.Components.{component_bytes, component_in, components_in}
-use Rattle.layout.proofs.ComponentLaws.{one_of}
-use Rattle.lists.specs.Lists.{any}
-use Rattle.machine.proofs.ValueLaws.{same-eq, same_refl}
+use Rattle.components.specs.Below.LanguageValues.{Component, same}
+use Rattle.components.specs.Below.LayoutBounds.{OneComponent}
+use Rattle.components.specs.Below.Components.{component_bytes, component_in, components_in}
+use Rattle.components.proofs.Below.ComponentLaws.{one_of}
+use Rattle.characters.specs.Below.Lists.{any}
+use Rattle.components.proofs.Below.ValueLaws.{same-eq, same_refl}
 
 truth : (b : Bool) → T b → b ≡ true
 truth true t = refl

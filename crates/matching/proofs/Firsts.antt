@@ -6,11 +6,11 @@ use native.Mathlib.Numerals.{add-one}
 use native.Mathlib.Omega.{arith}
 use lib.ListN.{length, take, set}
 use lib.Seq.{set_split}
-use Rattle.cells.proofs.Laws.{pasted-none}
+use Rattle.components.proofs.Below.CellsLaws.{pasted-none}
 use Rattle.components.proofs.Fronts.{front-one, front-none}
-use Rattle.language.specs.Values.{chars}
-use Rattle.layout.specs.Cells.{cell}
-use Rattle.layout.specs.Components.{component_in}
+use Rattle.components.specs.Below.LanguageValues.{chars}
+use Rattle.components.specs.Below.LayoutCells.{cell}
+use Rattle.components.specs.Below.Components.{component_in}
 use Rattle.matching.specs.Tests.{FirstRoom, FirstPut}
 
 pub first-none : (d : List ℕ) (n : ℕ) (x : List ℕ) → cell x 0 ≡ 0 → FirstPut d n x d n

@@ -4,3 +4,4 @@ pub mod Counting
 pub mod Equals
 pub mod OnChars
 pub mod Firsts
+pub mod Below

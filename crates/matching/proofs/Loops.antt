@@ -7,7 +7,7 @@ use native.Mathlib.Omega.{arith}
 use lib.Dec.{ltb, leb-suc-suc}
 use lib.ListN.{length, take, drop}
 use borrow.Author.Tests.{lt-ltb}
-use Rattle.lists.specs.Lists.{all, any, ahead}
+use Rattle.characters.specs.Below.Lists.{all, any, ahead}
 
 module _ {X : Type 0} (p : X → Bool) where
   -- one has p where the count stops before the end

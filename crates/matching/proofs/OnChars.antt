@@ -6,14 +6,14 @@ use Prim.Native.Nat.{ℕ, ◌≤◌}
 use native.Mathlib.Omega.{arith}
 use lib.Dec.{eqb}
 use lib.ListN.{length, take, length-append, length-take}
-use Rattle.language.specs.Letters.{Letter, Reading}
-use Rattle.language.specs.Letters.Reading.{one, any_of}
-use Rattle.language.specs.Program.Arg.{letter, class, text}
-use Rattle.language.specs.Values.{Component, Store, Inputs, chars, same, of_class}
-use Rattle.language.specs.Values.Component.{word, address}
-use Rattle.layout.specs.Table.{class_by}
-use Rattle.lists.specs.Lists.{any, among}
-use Rattle.machine.specs.Arguments.{char, side, Until, up_to, by_reading, cut, on_chars}
+use Rattle.components.specs.Below.Letters.{Letter, Reading}
+use Rattle.components.specs.Below.Letters.Reading.{one, any_of}
+use Rattle.components.specs.Below.Program.Arg.{letter, class, text}
+use Rattle.components.specs.Below.LanguageValues.{Component, Store, Inputs, chars, same, of_class}
+use Rattle.components.specs.Below.LanguageValues.Component.{word, address}
+use Rattle.components.specs.Below.Table.{class_by}
+use Rattle.characters.specs.Below.Lists.{any, among}
+use Rattle.components.specs.Below.MachineArguments.{char, side, Until, up_to, by_reading, cut, on_chars}
 use Rattle.matching.specs.Tests.{in_class, first_chars, until_chars}
 use Rattle.matching.specs.declared.Test.TheVariants.{Class, Among}
 

@@ -1,14 +1,14 @@
 -- Tests as the code has them: what they mean, what they ask, and what is told of what they take.
 use Rattle.std.specs.Prelude.{◌≡◌, Bool, true, false, cond, List, [], ◌∷◌, map, ℕ, suc, ◌+◌, ◌≤◌, leb, eqb, length, take}
-use Rattle.cells.specs.Cells.{pasted}
+use Rattle.components.specs.Below.Cells.{pasted}
 use Rattle.characters.specs.Characters.{class_of}
 use Rattle.components.specs.Parts.{Leading}
-use Rattle.language.specs.Values.{Component, chars, kind, same, of_class}
-use Rattle.layout.specs.Bounds.{OneComponent, WholeComponents}
-use Rattle.layout.specs.Components.{components_bytes, component_in, components_in}
-use Rattle.layout.specs.Table.{class_by}
-use Rattle.lists.specs.Lists.{total, all, any, joined, among}
-use Rattle.machine.specs.Arguments.{Until, everything, number_of, up_to, taken}
+use Rattle.components.specs.Below.LanguageValues.{Component, chars, kind, same, of_class}
+use Rattle.components.specs.Below.LayoutBounds.{OneComponent, WholeComponents}
+use Rattle.components.specs.Below.Components.{components_bytes, component_in, components_in}
+use Rattle.components.specs.Below.Table.{class_by}
+use Rattle.characters.specs.Below.Lists.{total, all, any, joined, among}
+use Rattle.components.specs.Below.MachineArguments.{Until, everything, number_of, up_to, taken}
 use Rattle.matching.specs.declared.Test.{Test}
 use Rattle.matching.specs.declared.Test.TheVariants.{All, Count, Class, Among}
 use Rattle.matching.specs.declared.Taken.{Taken}

@@ -1,11 +1,12 @@
 // Tests of components and characters in bytes, and how much of a sequence a test takes.
 #![tactic(auto)]
+
 ghost use Rattle.std.specs.Prelude.{◌≡◌, [], length};
-ghost use Rattle.lists.specs.Lists.{all, any, ahead, among};
+ghost use Rattle.characters.specs.Below.Lists.{all, any, ahead, among};
 ghost use Rattle.characters.specs.Characters.{class_places};
-ghost use Rattle.language.specs.Values.{same, of_class};
-ghost use Rattle.layout.specs.Components.{component_in, components_in};
-ghost use Rattle.layout.specs.Table.{class_by};
+ghost use Rattle.components.specs.Below.LanguageValues.{same, of_class};
+ghost use Rattle.components.specs.Below.Components.{component_in, components_in};
+ghost use Rattle.components.specs.Below.Table.{class_by};
 ghost use Rattle.components.specs.Parts.{Leading, Written};
 ghost use Rattle.matching.specs.Tests.{in_class, first_chars, until, until_chars, reached_by, stops_before, Comparable, Stoppable, Countable, FirstRoom, FirstPut, FirstsRoom, Took, TookChars};
 
@@ -131,7 +132,7 @@ pub fn count(s: &[u8], test: Test, given: &[u8]) -> Taken
                 words: words,
             };
         }
-        chars += cells::wide(b);
+        chars += components::from_cells::wide(b);
         words = words & (b != 0);
         at = e;
         k += 1;
@@ -253,4 +254,14 @@ pub fn count_chars(s: &[u8], test: Test, given: &[u8]) -> CharsTaken
             }
         }
     }
+}
+
+// Of `cells`, passed on to the crates above.
+pub mod from_cells {
+    pub use components::from_cells::put;
+}
+
+// Of `components`, passed on to the crates above.
+pub mod from_components {
+    pub use components::{kind_of, number_of, put_word, size_by};
 }

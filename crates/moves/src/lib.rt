@@ -1,5 +1,6 @@
 // Moves of components: PRZESLIJ and USUN A.
 #![tactic(auto)]
+
 ghost use Rattle.std.specs.Prelude.{true, false, length};
 ghost use Rattle.language.specs.Limits as limit;
 ghost use Rattle.language.specs.Program.Arg.{nothing};
@@ -8,7 +9,7 @@ ghost use Rattle.layout.specs.Components.{components_in};
 ghost use Rattle.machine.specs.Changes.{minus_unless, into};
 ghost use Rattle.machine.specs.Effects.{row};
 ghost use Rattle.matching.specs.Tests.{until};
-ghost use Rattle.packed.specs.Packed.{table_of};
+ghost use Rattle.table.specs.Below.Packed.{table_of};
 ghost use Rattle.state.specs.Working.{state_at, HoldsState, on_store, nth, reading, writing};
 ghost use Rattle.state.specs.Blocks.{PartsWritable};
 ghost use Rattle.table.specs.Denote.{arg_of};

@@ -1,2 +1,3 @@
 pub mod Seeking
 pub mod Lowest
+pub mod Below

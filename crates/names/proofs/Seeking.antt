@@ -12,7 +12,7 @@ use Rattle.layout.specs.Cells.{four}
 use Rattle.lists.specs.Lists.{any, bytes_equal}
 use Rattle.lists.specs.ListLaws.{other_length, same_bytes-eq}
 use Rattle.drafts.specs.Marks.{length_by, word_by}
-use Rattle.lexer.specs.Tokens.{part}
+use Rattle.statements.specs.Below.Tokens.{part}
 use Rattle.names.specs.Names.{Fitting, Sought, names_of}
 
 module _ {s : List ℕ} {m at len : ℕ} (pre : Fitting s m at len) where

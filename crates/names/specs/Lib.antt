@@ -1,2 +1,3 @@
 pub mod Names
 pub mod RepeatedLaws
+pub mod Below

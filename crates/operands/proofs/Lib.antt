@@ -3,3 +3,4 @@ pub mod Held
 pub mod Reading
 pub mod Replacing
 pub mod Signs
+pub mod Below

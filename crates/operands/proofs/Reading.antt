@@ -27,8 +27,8 @@ use Rattle.table.specs.declared.Letter.{Letter}
 use Rattle.table.specs.declared.Letter.TheVariants.{B}
 use Rattle.table.specs.declared.Argument.{Argument}
 use Rattle.table.specs.declared.Argument.TheVariants as argument
-use Rattle.instructions.specs.Does.{stop_of}
-use Rattle.instructions.proofs.Answers.{unstopped}
+use Rattle.tests.specs.Below.Does.{stop_of}
+use Rattle.tests.proofs.Below.Answers.{unstopped}
 use Rattle.tests.proofs.Values.{high, none-there, one-there, front-value, index_back}
 use Rattle.operands.specs.Operands.{kind_offered, kinds_stop, OperandReadable, ReadsNumber, ReadsOffered, ReadsOperand, ReadsOperands}
 use Rattle.operands.specs.declared.Offered.{Offered}

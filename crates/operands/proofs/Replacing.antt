@@ -22,8 +22,8 @@ use Rattle.state.specs.Limited.{Limited}
 use Rattle.state.proofs.Fits.{fine-limited, fits-into-ok}
 use Rattle.state.proofs.Freed.{limited-past, components-past, chars-past}
 use Rattle.state.proofs.Standing.{state_of, stands}
-use Rattle.instructions.specs.Does.{Tried, stop_of}
-use Rattle.instructions.proofs.Answers.{tried-full, tried-done}
+use Rattle.tests.specs.Below.Does.{Tried, stop_of}
+use Rattle.tests.proofs.Below.Answers.{tried-full, tried-done}
 use Rattle.operands.specs.Operands.{replaced, Replaceable}
 use Rattle.operands.proofs.Reading.{wordless, left-kind}
 

@@ -19,7 +19,7 @@ use Rattle.table.specs.declared.Letter.{Letter}
 use Rattle.table.specs.declared.Letter.TheVariants.{B}
 use Rattle.table.specs.declared.Argument.{Argument}
 use Rattle.table.specs.declared.Argument.TheVariants.{Indexed, Number}
-use Rattle.instructions.specs.Does.{stop_of, DoesFor}
+use Rattle.tests.specs.Below.Does.{stop_of, DoesFor}
 use Rattle.operands.specs.declared.Kinds.{Kinds}
 use Rattle.operands.specs.declared.Kinds.TheVariants.{Words, Numbers}
 use Rattle.operands.specs.declared.Offered.{Offered}

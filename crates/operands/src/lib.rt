@@ -1,12 +1,13 @@
 // What two operands of an instruction are, with questions 52 and 53, and components in the place of the first.
 #![tactic(auto)]
+
 ghost use Rattle.std.specs.Prelude.{◌≡◌, true, cond, length, take};
 ghost use Rattle.language.specs.Letters.Letter.{E};
 ghost use Rattle.machine.specs.Arguments.{expr, listed_pair};
 ghost use Rattle.layout.specs.Components.{components_in};
 ghost use Rattle.state.specs.Working.{state_at, nth};
 ghost use Rattle.state.specs.Blocks.{ExprNamed};
-ghost use Rattle.instructions.specs.Does.{Tried};
+ghost use Rattle.tests.specs.Below.Does.{Tried};
 ghost use Rattle.operands.specs.Operands.{kinds_by, kinds_stop, OperandReadable, PairReadable, ReadsNumber, ReadsOffered, ReadsOperand, ReadsPair, replaced, Replaceable};
 
 use language::Machine;

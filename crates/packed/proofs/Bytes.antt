@@ -11,10 +11,10 @@ use lib.Dec.{eqb}
 use lib.ListN.{length, get_or, take, drop, set, take-append-drop, drop_of_length-le, length-take, length-drop}
 use lib.Seq.{take_all, take_at, take-add, drop_at, drop-nil, drop-drop, drop-cons, get_or-take, get_or-drop, take-append-le, length-take-le, sets-eq}
 use borrow.Author.Tests.{eq-eqb, ne_eqb}
-use Rattle.lists.specs.Lists.{bytes_equal}
-use Rattle.lists.specs.ListLaws.{other_length}
-use Rattle.layout.specs.Cells.{four, unfours}
-use Rattle.layout.specs.Table.{chars_in}
+use Rattle.cells.specs.Below.Lists.{bytes_equal}
+use Rattle.cells.specs.Below.ListLaws.{other_length}
+use Rattle.cells.specs.Below.LayoutCells.{four, unfours}
+use Rattle.cells.specs.Below.Table.{chars_in}
 use Rattle.packed.specs.Packed.{table_of, Copied}
 
 -- ---- a cell and bytes

@@ -1,6 +1,6 @@
 -- Characters in the cells of a program table, four to a cell, the first in the lowest bits; a name or a text has 15 cells. What the functions ask and promise.
 use Rattle.std.specs.Prelude.{◌≡◌, List, ◌++◌, ℕ, ◌+◌, ◌≤◌, ◌<◌, length, take, drop}
-use Rattle.language.specs.Limits as limit
+use Rattle.cells.specs.Below.Limits as limit
 
 -- the cells of a lent table; "cells beyond are neither read nor written"
 abbrev pub table_of : List ℕ → List ℕ

@@ -1,13 +1,14 @@
 // Characters in the cells of a program table: four to a cell, the first in the lowest bits; a name or a text has 15 cells.
 #![tactic(auto)]
+
 ghost use Rattle.std.specs.Prelude.{◌≡◌, [], ◌∷◌, ◌++◌, ◌+◌, ◌-◌, ◌*◌, ◌≤◌, ◌<◌, min, length, take, drop};
 ghost use Rattle.cells.specs.Cells.{Number};
-ghost use Rattle.layout.specs.Cells.{four, unfours};
-ghost use Rattle.layout.specs.Table.{chars_in};
-ghost use Rattle.lists.specs.Lists.{bytes_equal};
+ghost use Rattle.cells.specs.Below.LayoutCells.{four, unfours};
+ghost use Rattle.cells.specs.Below.Table.{chars_in};
+ghost use Rattle.cells.specs.Below.Lists.{bytes_equal};
 ghost use Rattle.packed.specs.Packed.{table_of, Fifteen, Spelling, Rest, Copyable, RestRoom, Copied};
 
-use language::Machine;
+use cells::from_language::Machine;
 
 fn wide(b: u8) -> u32
     ensures { Number b 256 result }
@@ -148,4 +149,19 @@ pub fn put_chars(table: &[u32], at: usize, n: usize, out: &mut [u8]) -> usize
     }
     put_rest(out, 4 * q, m - 4 * q, table[at + q]);
     m
+}
+
+// Of `cells`, passed on to the crates above.
+pub mod from_cells {
+    pub use cells::read;
+}
+
+// Of `language`, passed on to the crates above.
+pub mod from_language {
+    pub use cells::from_language::Machine;
+}
+
+// Of `layout`, passed on to the crates above.
+pub mod from_layout {
+    pub use cells::from_layout::TablePlaces;
 }

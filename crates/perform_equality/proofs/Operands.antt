@@ -24,12 +24,12 @@ use Rattle.decoding.specs.OperandLaws.{good_of, listed_of, named, narrowed, no-a
 use Rattle.decoding.specs.declared.Source.{Source}
 use Rattle.decoding.specs.declared.Variable.{Variable}
 use Rattle.decoding.specs.declared.Variable.TheVariants.{Expression, Input, Output, File}
-use Rattle.comparands.specs.Offers.{Holdable}
+use Rattle.record_equality.specs.Below.Offers.{Holdable}
 use Rattle.tests.specs.Prepares.{OtherLetter}
-use Rattle.equality.specs.Equality.{Relatable}
+use Rattle.record_equality.specs.Below.Equality.{Relatable}
 use Rattle.record_equality.specs.RecordEquality.{RecordRelatable}
 use Rattle.input_equality.specs.InputEquality.{InputRelatable}
-use Rattle.readings.specs.Readings.{DoesPassing}
+use Rattle.input_equality.specs.Below.Readings.{DoesPassing}
 use Rattle.instructions.specs.Does.{DoesFor}
 use Rattle.state.specs.Working.{state_at, nth, reading}
 use Rattle.table.specs.Denote.{letter_of, arg_of}
@@ -39,10 +39,10 @@ use Rattle.table.proofs.Letters.{tag, left-letter}
 use Rattle.table.specs.declared.Letter.{Letter}
 use Rattle.table.specs.declared.Letter.TheVariants.{I, P, T as T-letter}
 use Rattle.table.specs.declared.Argument.{Argument}
-use Rattle.performing.specs.Stepping.{inputs}
-use Rattle.performing.specs.Performing.{Performing, Performs}
-use Rattle.performing.specs.Operating.{Operating, PerformsFor}
-use Rattle.performing.specs.OperatingLaws.{operating, long, performs}
+use Rattle.perform_moves.specs.Below.Stepping.{inputs}
+use Rattle.perform_moves.specs.Below.Performing.{Performing, Performs}
+use Rattle.perform_moves.specs.Below.Operating.{Operating, PerformsFor}
+use Rattle.perform_moves.specs.Below.OperatingLaws.{operating, long, performs}
 use Rattle.perform_moves.proofs.Operands.{unread}
 use Rattle.perform_equality.specs.Equating.{any_letter, IsAny, RelatingExpression, RelatingRecord, Relating, Equating}
 

@@ -12,8 +12,8 @@ use Rattle.table.specs.declared.Letter.{Letter}
 use Rattle.table.specs.declared.Argument.{Argument}
 use Rattle.table.specs.declared.Argument.TheVariants.{Indexed}
 use Rattle.decoding.specs.Operands.{Named}
-use Rattle.performing.specs.Performing.{Performing}
-use Rattle.performing.specs.Operating.{Operating}
+use Rattle.perform_moves.specs.Below.Performing.{Performing}
+use Rattle.perform_moves.specs.Below.Operating.{Operating}
 
 -- whether a letter is T
 abbrev pub any_letter : Letter → Bool

@@ -1,12 +1,14 @@
 // The relations of equality from an instruction's arguments: RW and RZ. Each tells 0, or the question answered no.
 #![tactic(auto)]
+
 ghost use Rattle.std.specs.Prelude.{◌≡◌, length};
 ghost use Rattle.decoding.specs.Operands.{Lettered};
-ghost use Rattle.performing.specs.Performing.{Performs};
-ghost use Rattle.performing.specs.Operating.{PerformsFor};
+ghost use Rattle.perform_moves.specs.Below.Performing.{Performs};
+ghost use Rattle.perform_moves.specs.Below.Operating.{PerformsFor};
 ghost use Rattle.perform_equality.specs.Equating.{any_letter, IsAny, RelatingExpression, RelatingRecord, Relating, Equating};
 
 use language::Operator;
+use record_equality::from_equality;
 
 // Whether a letter, an argument stands for any component (T).
 fn any_letter(l: table::Letter) -> bool
@@ -43,10 +45,10 @@ fn relate_expression(
 {
     if is_any(x) {
         let i = decoding::index_of(x);
-        return equality::rw_any(table, pool, ends, nums, given, i, y);
+        return from_equality::rw_any(table, pool, ends, nums, given, i, y);
     }
     let s = decoding::source_of(x);
-    equality::rw_one(table, pool, ends, nums, given, s.removes, s.i, y)
+    from_equality::rw_one(table, pool, ends, nums, given, s.removes, s.i, y)
 }
 
 // RZ.
@@ -111,4 +113,9 @@ pub fn perform_equality(
         return relate(table, i1, i2, pool, ends, nums, hold, given, x, y);
     }
     relate_record(table, pool, ends, nums, given, x, y)
+}
+
+// Of `perform_moves`, passed on to the crates above.
+pub mod from_perform_moves {
+    pub use perform_moves::perform_move;
 }

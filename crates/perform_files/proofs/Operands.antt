@@ -18,8 +18,8 @@ use Rattle.table.specs.declared.Argument.{Argument}
 use Rattle.copying.specs.Copies.{RecordsRemovable, RecordsSkippable, RecordsMovable}
 use Rattle.table.specs.LetterLaws.{listed-letter}
 use Rattle.tests.specs.Prepares.{OtherLetter}
-use Rattle.performing.specs.Operating.{Carrying}
-use Rattle.performing.specs.CarryingLaws.{good-itself, table-long}
+use Rattle.perform_pointers.specs.Below.Operating.{Carrying}
+use Rattle.perform_pointers.specs.Below.CarryingLaws.{good-itself, table-long}
 use Rattle.perform_files.specs.Filing.{file_operators}
 
 -- ---- the last arm of the match on operators

@@ -5,7 +5,7 @@ use Rattle.lists.specs.Lists.{among}
 use Rattle.language.specs.Instructions.{number_of}
 use Rattle.language.specs.Program.Op.{KOPIUJ, WSTAW, POBIERZ, SCHOWAJ, USTAW, ZAMIEN, UMIESC, SKRESL, OMIN, COFNIJ}
 use Rattle.table.specs.declared.Argument.{Argument}
-use Rattle.performing.specs.Operating.{Carrying}
+use Rattle.perform_pointers.specs.Below.Operating.{Carrying}
 
 -- KOPIUJ, WSTAW, POBIERZ, SCHOWAJ, USTAW, ZAMIEN, UMIESC, SKRESL, OMIN and COFNIJ
 abbrev pub file_operators : List ℕ

@@ -1,7 +1,8 @@
 // The instructions of files and constants, from their arguments. Each tells 0, or the question answered no.
 #![tactic(auto)]
+
 ghost use Rattle.std.specs.Prelude.{length};
-ghost use Rattle.performing.specs.Operating.{Carrying, PerformsFor};
+ghost use Rattle.perform_pointers.specs.Below.Operating.{Carrying, PerformsFor};
 ghost use Rattle.perform_files.specs.Filing.{Filing};
 ghost use Rattle.language.specs.Instructions.{number_of};
 ghost use Rattle.language.specs.Program.Op.{KOPIUJ, WSTAW, POBIERZ, SKRESL, OMIN};

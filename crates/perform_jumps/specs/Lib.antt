@@ -1,1 +1,2 @@
 pub mod Jumping
+pub mod Below

@@ -34,8 +34,8 @@ use Rattle.decoding.specs.contracts.Variable.{enum as of-variables}
 use Rattle.instructions.specs.Does.{DoesIn, DoesFor}
 use Rattle.instructions.specs.Operands.{target}
 use Rattle.moves.specs.Moves.{Movable, Removable}
-use Rattle.joining.specs.Joining.{WordsJoinable}
-use Rattle.readings.specs.Readings.{input_of, Unread, InputPassable, InputReadable, DoesReading, DoesPassing}
+use Rattle.splitting.specs.Below.Joining.{WordsJoinable}
+use Rattle.splitting.specs.Below.Readings.{input_of, Unread, InputPassable, InputReadable, DoesReading, DoesPassing}
 use Rattle.switches.specs.Switches.{Looks}
 use Rattle.state.specs.Working.{state_at, nth, reading}
 use Rattle.table.specs.Denote.{arg_of}

@@ -1,5 +1,6 @@
 // Instructions that move components and characters, from their arguments. Each tells 0, or the question answered no; next is left to the caller.
 #![tactic(auto)]
+
 ghost use Rattle.std.specs.Prelude.{length};
 ghost use Rattle.performing.specs.Performing.{Performing, Performs};
 ghost use Rattle.performing.specs.Operating.{Carrying, PerformsFor};
@@ -8,6 +9,7 @@ ghost use Rattle.language.specs.Instructions.{number_of};
 ghost use Rattle.language.specs.Program.Op.{PRZESLIJ, CZYTAJ, PISZ, ZBIJ, ROZBIJ};
 
 use language::Operator;
+use splitting::{from_joining, from_readings};
 
 // PRZESLIJ.
 fn send(
@@ -52,7 +54,7 @@ fn read(
 {
     let i = decoding::index_of(x);
     let t = decoding::target_of(y);
-    readings::czytaj(
+    from_readings::czytaj(
         table, i1, i2, pool, ends, nums, scratch, hold, given, i, t.at_end, t.j, z,
     )
 }
@@ -98,7 +100,7 @@ fn remove(
 {
     let i = decoding::index_of(x);
     match decoding::variable_of(x) {
-        decoding::Variable::Input => readings::usun_input(
+        decoding::Variable::Input => from_readings::usun_input(
             table, i1, i2, pool, ends, nums, hold, given, i, y,
         ),
         _ => moves::usun(table, pool, ends, nums, given, i, y),
@@ -121,7 +123,7 @@ fn join(
     ensures { PerformsFor table.now pool.old ends.old nums.old result pool.new ends.new nums.new }
 {
     let s = decoding::source_of(x);
-    joining::zbij(
+    from_joining::zbij(
         table, pool, ends, nums, scratch, hold, given, s.removes, s.i, y,
     )
 }

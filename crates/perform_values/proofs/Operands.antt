@@ -16,7 +16,7 @@ use Rattle.decoding.specs.OperandLaws.{form-letter}
 use Rattle.table.specs.LetterLaws.{listed-letter}
 use Rattle.table.specs.declared.Letter.TheVariants.{B}
 use Rattle.table.specs.declared.Argument.{Argument}
-use Rattle.operands.specs.Operands.{PairReadable}
+use Rattle.arithmetic.specs.Below.Operands.{PairReadable}
 use Rattle.arithmetic.specs.Arithmetic.{Computable}
 use Rattle.converting.specs.Converting.{Convertible}
 use Rattle.ordering.specs.Ordering.{Comparable}

@@ -2,12 +2,12 @@
 use Rattle.std.specs.Prelude.{◌≡◌, List, map, ℕ, ◌-◌, ◌≤◌, length}
 use Rattle.acceptance.proofs.RowLaws.{Answered}
 use Rattle.progress.specs.Closing.{TellsClosing, unended}
-use Rattle.drafts.specs.Marks.{marks_in}
-use Rattle.drafts.specs.Marks.{mark}
-use Rattle.drafts.specs.Tabled.{Spelt}
+use Rattle.headings.specs.Below.DraftsMarks.{marks_in}
+use Rattle.headings.specs.Below.DraftsMarks.{mark}
+use Rattle.headings.specs.Below.Tabled.{Spelt}
 use Rattle.headings.specs.Headings.{AfterTold}
-use Rattle.heads.specs.Heads.{Headed}
-use Rattle.heads.specs.declared.Head.{Head}
+use Rattle.headings.specs.Below.Heads.{Headed}
+use Rattle.headings.specs.Below.Head.{Head}
 use Rattle.language.specs.Limits as limit
 use Rattle.layout.specs.Bounds.{Each}
 use Rattle.progress.specs.Progress.{NamesKept, SectionKept, EditionKept, TellsDraft}

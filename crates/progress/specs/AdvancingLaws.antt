@@ -9,20 +9,20 @@ use Prim.Native.Nat.{ℕ, pred, ◌≤◌, ◌<◌}
 use borrow.Author.Tests.{ne_eqb, not-true}
 use Rattle.acceptance.proofs.ArgumentLaws.{word-apart}
 use Rattle.acceptance.proofs.StatementLaws.{each-behind}
-use Rattle.arguments.specs.CountLaws.{this-instruction, has-operator}
+use Rattle.declaring.specs.Below.CountLaws.{this-instruction, has-operator}
 use Rattle.acceptance.proofs.RowLaws.{Answered, fails, append-none}
 use Rattle.progress.specs.Closing.{unended}
 use Rattle.declaring.specs.SpeltLaws.{statement-spelt}
 use Rattle.declaring.specs.TabledLaws.{operated}
-use Rattle.drafts.specs.Marks.{mark, mark_of, word_by, Marked}
-use Rattle.drafts.specs.Tabled.{Spelt}
+use Rattle.headings.specs.Below.DraftsMarks.{mark, mark_of, word_by, Marked}
+use Rattle.headings.specs.Below.Tabled.{Spelt}
 use Rattle.forms.specs.Forms.{ends}
 use Rattle.forms.specs.ReadingLaws.{ends-listed}
-use Rattle.heads.specs.Heads.{own_item, own_in, instr_of, Headed}
+use Rattle.headings.specs.Below.Heads.{own_item, own_in, instr_of, Headed}
 use Rattle.headings.specs.Headings.{Rests}
 use Rattle.headings.specs.HeadingLaws.{rest-follows, follows_by}
 use Rattle.headings.specs.declared.Rest.{Rest}
-use Rattle.heads.specs.declared.Head.{Head}
+use Rattle.headings.specs.Below.Head.{Head}
 use Rattle.language.specs.Instructions.{operation, is_end}
 use Rattle.language.specs.Limits as limit
 use Rattle.language.specs.Program.{Op, identifier}

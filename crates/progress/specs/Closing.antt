@@ -1,9 +1,9 @@
 -- Question 25 as it is kept while a text is read, and what its functions promise.
 use Rattle.std.specs.Prelude.{◌≡◌, cond, List, [], ◌∷◌, ℕ, pred, length, drop}
-use Rattle.drafts.specs.Marks.{word_by}
+use Rattle.headings.specs.Below.DraftsMarks.{word_by}
 use Rattle.headings.specs.Headings.{is_kons, is_konp, AfterTold}
-use Rattle.heads.specs.Heads.{Headed}
-use Rattle.heads.specs.declared.Head.{Head}
+use Rattle.headings.specs.Below.Heads.{Headed}
+use Rattle.headings.specs.Below.Head.{Head}
 use Rattle.language.specs.Instructions.{operation, is_end}
 use Rattle.lists.specs.Lists.{each, filled}
 use Rattle.statements.specs.Faults.{lower}

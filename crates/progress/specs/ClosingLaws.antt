@@ -5,13 +5,13 @@ use Rattle.std.proofs.Common.{◌∙◌, arith, ne_eqb}
 use Rattle.std.proofs.Math.Bool.{cond, not}
 use Rattle.std.proofs.lemmas.List.{map-append}
 use Rattle.declaring.specs.TabledLaws.{operated}
-use Rattle.drafts.specs.Marks.{word_by}
+use Rattle.headings.specs.Below.DraftsMarks.{word_by}
 use Rattle.statements.specs.Faults.{lower}
 use Rattle.statements.specs.FaultLaws.{fault-both}
 use Rattle.headings.specs.Headings.{is_kons, is_konp, AfterTold}
 use Rattle.headings.specs.HeadingLaws.{fault-one, kons-told, konp-told}
-use Rattle.heads.specs.Heads.{Headed}
-use Rattle.heads.specs.declared.Head.{Head}
+use Rattle.headings.specs.Below.Heads.{Headed}
+use Rattle.headings.specs.Below.Head.{Head}
 use Rattle.lexer.specs.Tokens.{item_of}
 use Rattle.lists.specs.Lists.{filled, bytes_equal}
 use Rattle.statements.specs.StatementAt.{statement_at, stops, fault_of}

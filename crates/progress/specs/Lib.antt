@@ -5,3 +5,4 @@ pub mod ProgressLaws
 pub mod Advancing
 pub mod AdvancingLaws
 pub mod WaitingLaws
+pub mod Below

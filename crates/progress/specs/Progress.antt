@@ -2,12 +2,12 @@
 use Rattle.std.specs.Prelude.{◌≡◌, Bool, true, false, List, map, ℕ, ◌-◌, ◌≤◌, ◌<◌, eqb, length, get_or, take}
 use Rattle.acceptance.specs.Drafts.{SoundDraft}
 use Rattle.progress.specs.Closing.{TellsClosing, unended}
-use Rattle.drafts.specs.Marks.{marks_in}
-use Rattle.drafts.specs.Marks.{mark, length_by, word_by, Marked}
-use Rattle.drafts.specs.Tabled.{Spelt, Tabled}
+use Rattle.headings.specs.Below.DraftsMarks.{marks_in}
+use Rattle.headings.specs.Below.DraftsMarks.{mark, length_by, word_by, Marked}
+use Rattle.headings.specs.Below.Tabled.{Spelt, Tabled}
 use Rattle.language.specs.Limits as limit
 use Rattle.layout.specs.Bounds.{Each}
-use Rattle.names.specs.Names.{names_of}
+use Rattle.declaring.specs.Below.Names.{names_of}
 use Rattle.statements.specs.StatementAt.{fault_of}
 use Rattle.syntax.specs.Tables.{Draft, blank, is_first}
 use Rattle.progress.specs.declared.Progress.{Progress}

@@ -6,7 +6,7 @@ use Rattle.lists.specs.ListLaws.{keep-few}
 use Rattle.acceptance.proofs.RowLaws.{each_map, each_keep}
 use Rattle.acceptance.proofs.DraftLaws.{blank-sound}
 use Rattle.acceptance.proofs.StatementLaws.{each-front}
-use Rattle.drafts.specs.Marks.{word_by}
+use Rattle.headings.specs.Below.DraftsMarks.{word_by}
 use Rattle.layout.specs.Bounds.{Each}
 use Rattle.layout.proofs.CellLaws.{each_append}
 use Rattle.lists.specs.Lists.{filled}

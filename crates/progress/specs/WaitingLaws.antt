@@ -7,13 +7,13 @@ use mathlib.Core.List.{List, [], map}
 use Rattle.std.proofs.lemmas.List.{length-map}
 use Rattle.progress.specs.Closing.{TellsClosing, Closed, closing_then}
 use Rattle.progress.specs.declared.Closing.{Closing}
-use Rattle.drafts.specs.Marks.{marks_in}
+use Rattle.headings.specs.Below.DraftsMarks.{marks_in}
 use Rattle.declaring.specs.TabledLaws.{mark-places}
-use Rattle.drafts.specs.Marks.{mark, place_by}
-use Rattle.drafts.specs.Tabled.{Spelt}
-use Rattle.heads.specs.Heads.{Headed}
-use Rattle.heads.specs.HeadLaws.{no_operator, operator-here}
-use Rattle.heads.specs.declared.Head.{Head}
+use Rattle.headings.specs.Below.DraftsMarks.{mark, place_by}
+use Rattle.headings.specs.Below.Tabled.{Spelt}
+use Rattle.headings.specs.Below.Heads.{Headed}
+use Rattle.headings.specs.Below.HeadLaws.{no_operator, operator-here}
+use Rattle.headings.specs.Below.Head.{Head}
 use Rattle.layout.specs.Bounds.{Each}
 use Rattle.lists.specs.Lists.{filled}
 use Rattle.progress.specs.Progress.{NamesKept, WaitingKept, EditionKept}

@@ -1,15 +1,16 @@
 // How far a text was read: what is known of its statements so far, beside the tables, and after one more of them. Question 25: how the section ends.
 #![tactic(auto)]
+
 ghost use Rattle.std.specs.Prelude.{◌≡◌, cond, [], ◌∷◌, ◌-◌, ◌≤◌, eqb};
 ghost use Rattle.statements.specs.StatementAt.{stops, fault_of};
 ghost use Rattle.progress.specs.Closing.{fault_by, ToldClosing, Ends};
 ghost use Rattle.progress.specs.Progress.{Begun};
 ghost use Rattle.progress.specs.Advancing.{ToldEnded, Advanceable, Progresses};
 
+use declaring::from_names::lowest_mark;
 use forms::is_end;
+use headings::from_heads::{Head, instr_of};
 use headings::{is_konp, is_kons};
-use heads::{Head, instr_of};
-use names::lowest_mark;
 use statements::{Fault, lower, rebuilt, stops};
 
 // Whether KONS and KONP were met, the place of a KONP before any KONS, and the lowest place at fault.
@@ -222,4 +223,9 @@ pub fn end_fault(
     let section = lower(statements, fault_if(!c.konp, last));
     let code = lower(section, fault_if(instructions == 0, last));
     lower(lower(code, ended), waiting)
+}
+
+// Of `headings`, passed on to the crates above.
+pub mod from_headings {
+    pub use headings::{Rest, after_fault, read_rest, section_fault, section_mark};
 }

@@ -2,8 +2,8 @@
 use mathlib.Core.Path.{◌≡◌, refl, sym, subst}
 use mathlib.Core.List.{List}
 use Prim.Native.Nat.{ℕ}
-use Rattle.declaring.specs.Declaring.{Declarable, DeclaresValues}
-use Rattle.declaring.specs.declared.Instruction.{Instruction}
+use Rattle.declaring_switches.specs.Below.Declaring.{Declarable, DeclaresValues}
+use Rattle.declaring_switches.specs.Below.Instruction.{Instruction}
 use Rattle.statements.specs.Faults.{decided, verdict_of}
 use Rattle.statements.specs.declared.Fault.{Fault}
 use Rattle.statements.specs.declared.Verdict.{Verdict}

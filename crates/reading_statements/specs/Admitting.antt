@@ -1,6 +1,6 @@
 -- A statement whose questions before 11 are answered yes comes to the tables.
 use Rattle.std.specs.Prelude.{◌≡◌, Bool, List, ℕ, drop}
-use Rattle.declaring.specs.declared.Instruction.{Instruction}
+use Rattle.declaring_switches.specs.Below.Instruction.{Instruction}
 use Rattle.declaring_switches.specs.declared.Declaration.{Declaration}
 use Rattle.language.specs.Limits as limit
 use Rattle.lexer.specs.declared.Token.{Token}
@@ -8,7 +8,7 @@ use Rattle.statements.specs.Faults.{decided, verdict_of}
 use Rattle.statements.specs.declared.Fault.{Fault}
 use Rattle.statements.specs.declared.Verdict.{Verdict}
 use Rattle.statements.specs.declared.Verdict.TheVariants.{Yes, No}
-use Rattle.switch_lists.specs.declared.Listed.{Listed}
+use Rattle.declaring_switches.specs.Below.Listed.{Listed}
 use Rattle.reading_statements.specs.declared.Found.{Found}
 use Rattle.reading_statements.specs.declared.Found.TheVariants as found
 

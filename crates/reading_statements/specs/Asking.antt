@@ -1,7 +1,7 @@
 -- The questions of a statement before its arguments, and what the functions that ask them promise.
 use Rattle.std.specs.Prelude.{◌≡◌, Bool, true, cond, List, ◌++◌, ℕ, take}
 use Rattle.drafts.specs.Marks.{marks_in}
-use Rattle.names.specs.Names.{names_of, repeated_by, reserved_by}
+use Rattle.judging.specs.Below.Names.{names_of, repeated_by, reserved_by}
 use Rattle.statements.specs.Checks.{worst}
 use Rattle.statements.specs.Faults.{verdict_of, decided, then}
 use Rattle.statements.specs.Groups.{item_questions, head_questions, name_questions}

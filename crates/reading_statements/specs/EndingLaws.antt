@@ -2,8 +2,8 @@
 use Rattle.std.specs.Prelude.{Bool, false, cond, List, [], ◌≡◌, refl, ℕ, ◌≤◌, length}
 use Rattle.std.proofs.Common.{sym, ap, ◌∙◌, subst}
 use Rattle.drafts.specs.Marks.{mark_of}
-use Rattle.headings.specs.Headings.{Restable, Rests, FirstTold, FollowsTold}
-use Rattle.headings.specs.declared.Rest.{Rest}
+use Rattle.progress.specs.Below.Headings.{Restable, Rests, FirstTold, FollowsTold}
+use Rattle.progress.specs.Below.Rest.{Rest}
 use Rattle.heads.specs.Heads.{Headed, instr_of, is_switch}
 use Rattle.heads.specs.declared.Head.{Head}
 use Rattle.language.specs.Limits as limit
@@ -20,7 +20,7 @@ use Rattle.statements.specs.declared.Fault.{Fault}
 use Rattle.statements.specs.declared.Fault.TheVariants.{Clear}
 use Rattle.statements.specs.declared.Verdict as told
 use Rattle.statements.specs.declared.Verdict.TheVariants.{Yes, No}
-use Rattle.switch_lists.specs.SwitchLaws.{other}
+use Rattle.declaring_switches.specs.Below.SwitchLaws.{other}
 use Rattle.syntax.specs.Questions.{instr_beyond, switch_beyond}
 use Rattle.syntax.specs.Statements.{by_keyword, keyword_in}
 use Rattle.syntax.specs.Tables.{Draft, all_labels, with_instr, with_switch}

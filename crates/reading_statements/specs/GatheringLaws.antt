@@ -9,7 +9,7 @@ use Rattle.acceptance.specs.Drafts.{SoundItem, FineItem}
 use Rattle.acceptance.proofs.ReaderLaws.{head-sound, statements-sound-from}
 use Rattle.acceptance.proofs.RowLaws.{each_map, each_both, each_keep, each-kept, each-mapped, Answered}
 use Rattle.acceptance.proofs.StatementLaws.{fine-items, each-front}
-use Rattle.declaring.specs.SpeltLaws.{statement-spelt}
+use Rattle.declaring_switches.specs.Below.SpeltLaws.{statement-spelt}
 use Rattle.drafts.specs.DraftingLaws.{length_back}
 use Rattle.drafts.specs.Marks.{mark, length_by, word_by, Marked, marks_in}
 use Rattle.drafts.specs.Tabled.{Spelt}
@@ -21,8 +21,8 @@ use Rattle.language.specs.Limits as limit
 use Rattle.layout.specs.Bounds.{Each}
 use Rattle.judging.specs.Judging.{Labelled, LabelFault}
 use Rattle.layout.proofs.CellLaws.{each_append, each_at}
-use Rattle.names.specs.Names.{names_of, Repeatable}
-use Rattle.names.specs.RepeatedLaws.{NamedLabel, repeated-marks, reserved-marks}
+use Rattle.judging.specs.Below.Names.{names_of, Repeatable}
+use Rattle.judging.specs.Below.RepeatedLaws.{NamedLabel, repeated-marks, reserved-marks}
 use Rattle.progress.specs.Advancing.{Advanceable}
 use Rattle.progress.specs.Progress.{NamesKept}
 use Rattle.progress.specs.declared.Progress.{Progress}

@@ -5,17 +5,17 @@ use Rattle.std.proofs.Common.{sym, ◌∙◌, arith}
 use Rattle.std.proofs.Math.Path.{ap, subst}
 use Rattle.acceptance.proofs.DraftLaws.{arguments_sound}
 use Rattle.acceptance.proofs.RowLaws.{Answered, answered, each_map}
-use Rattle.argument_cells.specs.ArgumentCells.{RightArgument}
-use Rattle.arguments.specs.Arguments.{Operates, ReadsArguments}
-use Rattle.arguments.specs.CountLaws.{Instruction, this-instruction}
-use Rattle.arguments.specs.declared.Arguments.{Arguments}
-use Rattle.declaring.specs.Declaring.{Declarable, DeclaresValues, RightValues, Declares}
-use Rattle.declaring.specs.TabledLaws.{Operated, operated, instr-told, instr-tabled}
-use Rattle.declaring.specs.declared.Instruction as value
+use Rattle.declaring_switches.specs.Below.ArgumentCells.{RightArgument}
+use Rattle.declaring_switches.specs.Below.Arguments.{Operates, ReadsArguments}
+use Rattle.declaring_switches.specs.Below.CountLaws.{Instruction, this-instruction}
+use Rattle.declaring_switches.specs.Below.ArgumentsTypeArguments.{Arguments}
+use Rattle.declaring_switches.specs.Below.Declaring.{Declarable, DeclaresValues, RightValues, Declares}
+use Rattle.declaring_switches.specs.Below.DeclaringTabledLaws.{Operated, operated, instr-told, instr-tabled}
+use Rattle.declaring_switches.specs.Below.Instruction as value
 use Rattle.drafts.specs.Drafting.{draft_program}
 use Rattle.drafts.specs.Marks.{marks_in}
 use Rattle.drafts.specs.Tabled.{Tabled}
-use Rattle.entering.specs.Entering.{ShortItem}
+use Rattle.declaring_switches.specs.Below.Entering.{ShortItem}
 use Rattle.heads.specs.Heads.{Headed, instr_of}
 use Rattle.heads.specs.declared.Head.{Head}
 use Rattle.language.specs.Instructions.{operation, operator_of}
@@ -32,8 +32,8 @@ use Rattle.statements.specs.declared.Fault.{Fault}
 use Rattle.statements.specs.declared.Fault.TheVariants.{At, Clear}
 use Rattle.statements.specs.declared.Verdict as told
 use Rattle.statements.specs.declared.Verdict.TheVariants.{Yes}
-use Rattle.switch_lists.specs.SwitchLaws.{of-instr}
-use Rattle.switch_lists.specs.Switches.{argument_question}
+use Rattle.declaring_switches.specs.Below.SwitchLaws.{of-instr}
+use Rattle.declaring_switches.specs.Below.SwitchListsSwitches.{argument_question}
 use Rattle.syntax.specs.ArgumentForms.{arguments_in, arguments, most}
 use Rattle.syntax.specs.Items.{Item, places, line_at}
 use Rattle.syntax.specs.Questions.{count_faults, instr_faults, switch_faults, instr_beyond, switch_beyond}

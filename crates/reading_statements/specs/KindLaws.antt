@@ -1,15 +1,15 @@
 -- A statement by its kind: an instruction, a switch, or neither. Its questions 01 and 02, and what its readers tell of all its items.
 use Rattle.std.specs.Prelude.{◌≡◌, refl, Bool, true, false, cond, List, [], ◌∷◌, ◌++◌, ℕ, ◌≤◌, ◌<◌, min, eqb, length, take, drop}
 use Rattle.std.proofs.Common.{sym, ap, ◌∙◌, subst, true≢false, arith, eqb-true, eq-eqb}
-use Rattle.arguments.specs.Arguments.{ReadsArguments}
-use Rattle.arguments.specs.CountLaws.{this-instruction, not-counted, counted}
-use Rattle.arguments.specs.declared.Arguments.{Arguments}
+use Rattle.declaring_switches.specs.Below.Arguments.{ReadsArguments}
+use Rattle.declaring_switches.specs.Below.CountLaws.{this-instruction, not-counted, counted}
+use Rattle.declaring_switches.specs.Below.ArgumentsTypeArguments.{Arguments}
 use Rattle.statements.specs.CheckLaws.{worst-low, worst-append}
 use Rattle.statements.specs.Checks.{clean, worst}
 use Rattle.statements.specs.Faults.{decided, then}
 use Rattle.statements.specs.Groups.{argument_questions}
-use Rattle.headings.specs.HeadingLaws.{rest-follows, first-in_front, first-wrong}
-use Rattle.headings.specs.Headings.{is_kons, is_konp, follows}
+use Rattle.progress.specs.Below.HeadingLaws.{rest-follows, first-in_front, first-wrong}
+use Rattle.progress.specs.Below.Headings.{is_kons, is_konp, follows}
 use Rattle.heads.specs.HeadLaws.{no-keyword}
 use Rattle.heads.specs.Heads.{by_kind, instr_of, is_switch, is_by_name, opens, Headed}
 use Rattle.heads.specs.declared.Head.{Head}
@@ -17,8 +17,8 @@ use Rattle.statements.proofs.Ends.{still-within, ends-then}
 use Rattle.statements.specs.StatementAt.{statement_at, stops, fault_of, Ended}
 use Rattle.statements.specs.declared.Fault.{Fault}
 use Rattle.statements.specs.declared.Fault.TheVariants.{At}
-use Rattle.switch_lists.specs.SwitchLaws.{choice, of-instr, of-switch, of-neither}
-use Rattle.switch_lists.specs.Switches.{switch_after, argument_question}
+use Rattle.declaring_switches.specs.Below.SwitchLaws.{choice, of-instr, of-switch, of-neither}
+use Rattle.declaring_switches.specs.Below.SwitchListsSwitches.{switch_after, argument_question}
 use Rattle.syntax.specs.Items.{Item}
 use Rattle.syntax.specs.Questions.{first_faults, count_faults}
 use Rattle.syntax.specs.Statements as Spec

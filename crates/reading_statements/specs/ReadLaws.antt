@@ -5,12 +5,12 @@ use Rattle.acceptance.proofs.DraftLaws.{draft-sound}
 use Rattle.acceptance.specs.Drafts.{FineItem, SoundTables, SoundName}
 use Rattle.acceptance.proofs.RowLaws.{each_map, answered, Answered, each_both}
 use Rattle.acceptance.proofs.StatementLaws.{each-behind, front-names, label-names}
-use Rattle.declaring.specs.TabledLaws.{Labelled}
+use Rattle.declaring_switches.specs.Below.DeclaringTabledLaws.{Labelled}
 use Rattle.drafts.specs.Marks.{marks_in}
 use Rattle.drafts.specs.Tabled.{Spelt, Tabled}
-use Rattle.entering.specs.Entering.{ShortItem}
-use Rattle.headings.specs.HeadingLaws.{after-other}
-use Rattle.headings.specs.Headings.{AfterTold}
+use Rattle.declaring_switches.specs.Below.Entering.{ShortItem}
+use Rattle.progress.specs.Below.HeadingLaws.{after-other}
+use Rattle.progress.specs.Below.Headings.{AfterTold}
 use Rattle.heads.specs.Heads.{Headed}
 use Rattle.heads.specs.declared.Head.{Head}
 use Rattle.layout.specs.Bounds.{Each}

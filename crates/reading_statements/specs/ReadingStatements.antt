@@ -2,8 +2,8 @@
 use Rattle.std.specs.Prelude.{◌≡◌, true, false, List, ℕ, ◌+◌, ◌≤◌, length, drop}
 use Rattle.acceptance.specs.Drafts.{SoundDraft}
 use Rattle.drafts.specs.Tabled.{Tabled}
-use Rattle.headings.specs.Headings.{Rests, Nameable, AfterTold}
-use Rattle.headings.specs.declared.Rest.{Rest}
+use Rattle.progress.specs.Below.Headings.{Rests, Nameable, AfterTold}
+use Rattle.progress.specs.Below.Rest.{Rest}
 use Rattle.heads.specs.Heads.{Headed, instr_of, is_switch}
 use Rattle.heads.specs.declared.Head.{Head}
 use Rattle.language.specs.Limits as limit

@@ -4,12 +4,12 @@ use Rattle.std.proofs.Common.{sym, ap, ◌∙◌, subst, true≢false, arith, le
 use Rattle.std.proofs.lemmas.Bool.{not-true}
 use Rattle.acceptance.proofs.RowLaws.{each_map}
 use Rattle.drafts.specs.Marks.{mark, length_by, Marked}
-use Rattle.headings.specs.HeadingLaws.{front-none}
+use Rattle.progress.specs.Below.HeadingLaws.{front-none}
 use Rattle.heads.specs.HeadLaws.{behind-by}
 use Rattle.heads.specs.Heads.{Headed, MarksPut, Heads}
 use Rattle.heads.specs.declared.Head.{Head}
 use Rattle.lists.specs.Lists.{filled}
-use Rattle.names.specs.Names.{names_of}
+use Rattle.judging.specs.Below.Names.{names_of}
 use Rattle.progress.specs.AdvancingLaws.{empty-draft}
 use Rattle.progress.specs.Progress.{TellsDraft, Drafted}
 use Rattle.progress.specs.declared.Progress.{Progress}

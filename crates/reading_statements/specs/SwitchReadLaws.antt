@@ -9,8 +9,8 @@ use Rattle.acceptance.proofs.DraftLaws.{one_label}
 use Rattle.acceptance.specs.Drafts.{FineItem, in_texts}
 use Rattle.acceptance.proofs.RowLaws.{Answered, answered, each_map, each_both, append-none}
 use Rattle.acceptance.proofs.StatementLaws.{texts-kept}
-use Rattle.declaring.specs.Declaring.{texts_excess}
-use Rattle.declaring.specs.TabledLaws.{Operated, operated}
+use Rattle.declaring_switches.specs.Below.Declaring.{texts_excess}
+use Rattle.declaring_switches.specs.Below.DeclaringTabledLaws.{Operated, operated}
 use Rattle.declaring_switches.specs.DeclaringSwitches.{with_texts, switch_excess}
 use Rattle.declaring_switches.specs.Entries.{list_entries, KeptEntries}
 use Rattle.declaring_switches.specs.Switches.{DeclarableSwitch, DeclaresSwitch}
@@ -20,7 +20,7 @@ use Rattle.drafts.specs.Drafting.{draft_program}
 use Rattle.drafts.specs.DraftingLaws.{entry-words}
 use Rattle.drafts.specs.Marks.{mark, marks_in, word_by}
 use Rattle.drafts.specs.Tabled.{Tabled}
-use Rattle.entering.specs.Entering.{ShortItem, set_texts}
+use Rattle.declaring_switches.specs.Below.Entering.{ShortItem, set_texts}
 use Rattle.heads.specs.Heads.{Headed, is_switch, is_by_name}
 use Rattle.heads.specs.declared.Head.{Head}
 use Rattle.language.specs.Limits as limit
@@ -43,8 +43,8 @@ use Rattle.statements.specs.declared.Fault.{Fault}
 use Rattle.statements.specs.declared.Fault.TheVariants.{At, Clear}
 use Rattle.statements.specs.declared.Verdict as told
 use Rattle.statements.specs.declared.Verdict.TheVariants.{Yes}
-use Rattle.switch_lists.specs.Switches.{ReadsList, Listable}
-use Rattle.switch_lists.specs.declared.Listed.{Listed}
+use Rattle.declaring_switches.specs.Below.SwitchListsSwitches.{ReadsList, Listable}
+use Rattle.declaring_switches.specs.Below.Listed.{Listed}
 use Rattle.syntax.specs.Items.{Item, is, places}
 use Rattle.syntax.specs.Items.Sort.{word, text}
 use Rattle.syntax.specs.Questions.{instr_faults, switch_faults, instr_beyond, switch_beyond, label_faults, beyond}

@@ -1,31 +1,32 @@
 // One statement: read in one pass, its questions in order, its place in the tables, and what is known after it.
 #![tactic(auto)]
+
 ghost use Rattle.std.specs.Prelude.{◌≡◌, ◌&&◌, eqb};
 ghost use Rattle.statements.specs.Faults.{verdict_of};
 ghost use Rattle.statements.specs.StatementAt.{stops};
 ghost use Rattle.statements.specs.declared.Verdict.TheVariants.{Yes};
-ghost use Rattle.declaring.specs.Declaring.{Declarable, DeclaresValues};
+ghost use Rattle.declaring_switches.specs.Below.Declaring.{Declarable, DeclaresValues};
 ghost use Rattle.declaring_switches.specs.Switches.{DeclarableSwitch, DeclaresSwitch};
 ghost use Rattle.drafts.specs.Marks.{marks_in};
-ghost use Rattle.names.specs.Names.{Repeatable};
+ghost use Rattle.judging.specs.Below.Names.{Repeatable};
 ghost use Rattle.progress.specs.Advancing.{Advanceable};
 ghost use Rattle.reading_statements.specs.Admitting.{Finds, declaration, Admits};
 ghost use Rattle.reading_statements.specs.Asking.{OperatorAsked, names_verdict, HeadAskable, HeadAsked};
 ghost use Rattle.reading_statements.specs.ReadingStatements.{Finishes, InstrReadable, ReadsInstr, SwitchReadable, ReadsSwitch, Endable, EndingTold, EndingReadable, ReadsEnding, Readable, ReadsStatement};
 
-use arguments::read_arguments;
-use declaring::{Instruction, declare_instruction};
+use declaring_switches::from_arguments::read_arguments;
+use declaring_switches::from_declaring::{Instruction, declare_instruction};
+use declaring_switches::from_switch_lists::{Listed, read_list};
 use declaring_switches::{Declaration, declare_switch};
-use headings::{Rest, after_fault, read_rest, section_fault, section_mark};
 use heads::{Head, instr_of, is_by_name, is_switch, read_head};
+use judging::from_names::{first_repeated, first_reserved};
 use judging::{label_fault, operator_fault};
 use language::Machine;
 use lexer::{Token, line_at};
-use names::{first_repeated, first_reserved};
+use progress::from_headings::{Rest, after_fault, read_rest, section_fault, section_mark};
 use progress::{Progress, progress_after};
 use scanner::NOTHING;
 use statements::{Fault, Verdict, checked, decide, first_of, stops};
-use switch_lists::{Listed, read_list};
 
 // A statement was read, or the number of the first question answered no and its place.
 #[derive(Clone, Copy)]

@@ -16,7 +16,7 @@ use Rattle.matching.specs.declared.CharsTaken.{CharsTaken}
 use Rattle.matching.proofs.OnChars.{firsts-most}
 use Rattle.tests.specs.Prepares.{Prepares}
 use Rattle.tests.specs.declared.Prepared.{Prepared}
-use Rattle.moves.proofs.Taking.{parts-least}
+use Rattle.joining.proofs.Below.Taking.{parts-least}
 use Rattle.readings.specs.Readings.{CharsTakeable}
 
 pub firsts-room : (t : Test) (g : List ℕ) {hold : ℕ} → CharsTakeable t g hold → t ≡ Among → FirstsRoom hold g

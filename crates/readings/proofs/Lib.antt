@@ -1,3 +1,4 @@
 pub mod Beside
 pub mod Reading
 pub mod Rows
+pub mod Below

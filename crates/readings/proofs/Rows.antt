@@ -22,7 +22,7 @@ use Rattle.tests.specs.Prepares.{Prepares}
 use Rattle.tests.specs.declared.Prepared.{Prepared}
 use Rattle.tests.proofs.Asked.{test-stop, test-tried}
 use Rattle.instructions.specs.Operands.{target}
-use Rattle.moves.proofs.Rows.{done-right}
+use Rattle.joining.proofs.Below.MovesRows.{done-right}
 use Rattle.joining.specs.Joining.{word_if}
 use Rattle.readings.specs.Readings.{input_of, read_up, passed, DoesReading, DoesPassing, Unread}
 

@@ -1,5 +1,6 @@
 // Reading inputs: CZYTAJ, and USUN of an input.
 #![tactic(auto)]
+
 ghost use Rattle.std.specs.Prelude.{true, [], ◌∷◌, length};
 ghost use Rattle.language.specs.Letters.Letter.{I};
 ghost use Rattle.language.specs.Program.Arg.{nothing};
@@ -13,6 +14,8 @@ ghost use Rattle.table.specs.Denote.{arg_of};
 ghost use Rattle.instructions.specs.Does.{Tried};
 ghost use Rattle.instructions.specs.Operands.{target};
 ghost use Rattle.readings.specs.Readings.{read_up, passed, DoesReading, DoesPassing, CharsTakeable, Passable, WordReadable, InputPassable, InputReadable};
+
+use joining::from_moves;
 
 // How many of the characters of `s` a test takes; what `Among` compares with are the first characters of the words in `given`.
 pub fn take_chars(
@@ -60,7 +63,7 @@ fn read_word(
     let n = joining::make_word(hold, &rest[..k]);
     let parts = joining::some(k);
     state::read_past(pool, ends, nums, i, k);
-    moves::deliver(
+    from_moves::deliver(
         pool,
         ends,
         nums,
@@ -181,4 +184,9 @@ pub fn usun_input(
     }
     pass(i2, pool, ends, nums, hold, &given[..len], test, i);
     0
+}
+
+// Of `joining`, passed on to the crates above.
+pub mod from_joining {
+    pub use joining::{some, zbij};
 }

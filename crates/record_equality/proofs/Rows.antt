@@ -31,7 +31,7 @@ use Rattle.comparands.specs.declared.Held.{Held}
 use Rattle.equality.specs.Equality.{test_of, OtherArgument, Unlike}
 use Rattle.equality.proofs.Meeting.{met}
 use Rattle.equality.proofs.Questions.{equal_by, kinds_alike, numeric, related-none, related-stop, related-unlike, related-done}
-use Rattle.operands.proofs.Signs.{kept-or-minus}
+use Rattle.comparands.proofs.Below.Signs.{kept-or-minus}
 use Rattle.record_equality.specs.RecordEquality.{NextLent, Meets}
 use Rattle.record_equality.proofs.Wholes.{all-offered}
 

@@ -1,1 +1,2 @@
 pub mod RecordEquality
+pub mod Below

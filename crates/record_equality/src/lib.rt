@@ -1,5 +1,6 @@
 // RZ: the record after a file's pointer, compared with a component or, by E, with a whole expression.
 #![tactic(auto)]
+
 ghost use Rattle.std.specs.Prelude.{◌≡◌, length};
 ghost use Rattle.language.specs.Letters as letters;
 ghost use Rattle.language.specs.Letters.{use_of};
@@ -86,4 +87,9 @@ pub fn rz(
     let holds = meets(x, &given[..len], arg);
     state::minus_unless(pool, ends, nums, holds);
     0
+}
+
+// Of `equality`, passed on to the crates above.
+pub mod from_equality {
+    pub use equality::{rw_any, rw_one};
 }

@@ -8,7 +8,7 @@ use Rattle.language.specs.Letters.Reading.{one, count, any_of, whole}
 use Rattle.language.specs.Program.{Arg}
 use Rattle.language.specs.Program.Arg.{nothing, letter, label, switch, class, text}
 use Rattle.language.specs.Values.{Store, Inputs}
-use Rattle.machine.specs.Arguments.{use_by, is_whole, first, by_reading, on_parts, on_records}
+use Rattle.cells.specs.Below.MachineArguments.{use_by, is_whole, first, by_reading, on_parts, on_records}
 use Rattle.records.specs.Sequences.{on_first}
 
 module _ (ins : Inputs) (s : Store) where

@@ -12,13 +12,13 @@ use Rattle.language.specs.Values.{Component, same}
 use Rattle.language.specs.Values.Component.{word, address}
 use Rattle.cells.specs.Cells.{Number}
 use Rattle.components.specs.Parts.{first_size}
-use Rattle.layout.specs.Bounds.{Each, Ok, Encoded, WholeComponents}
-use Rattle.layout.specs.Cells.{cell}
-use Rattle.layout.proofs.ComponentLaws.{components_bytes-one, next-component, components-none}
-use Rattle.layout.specs.Components.{components_bytes, component_size, component_in, components_in}
+use Rattle.cells.specs.Below.LayoutBounds.{Each, Ok, Encoded, WholeComponents}
+use Rattle.cells.specs.Below.LayoutCells.{cell}
+use Rattle.cells.proofs.Below.ComponentLaws.{components_bytes-one, next-component, components-none}
+use Rattle.cells.specs.Below.Components.{components_bytes, component_size, component_in, components_in}
 use Rattle.lists.specs.Lists.{any, same_list}
 use Rattle.lists.specs.ListLaws.{T-left, T-right, T-both}
-use Rattle.machine.proofs.ValueLaws.{same-eq, same_refl}
+use Rattle.cells.proofs.Below.ValueLaws.{same-eq, same_refl}
 use Rattle.records.specs.Places.{Part}
 
 same_list-eq : (xs ys : List Component) → T (same_list same xs ys) → xs ≡ ys

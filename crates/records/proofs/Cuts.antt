@@ -8,10 +8,10 @@ use native.Mathlib.Omega.{arith}
 use lib.ListN.{length, take, drop, length-drop}
 use lib.Seq.{take-add, length-take-le}
 use Rattle.language.specs.Values.{Record}
-use Rattle.layout.specs.Bounds.{RecordOk, WholeRecords}
-use Rattle.layout.proofs.CellLaws.{each_append}
-use Rattle.layout.proofs.ComponentLaws.{records_bytes-append, records_bytes-one, records-of, whole-records, records-none}
-use Rattle.layout.specs.Components.{record_bytes, records_bytes, record_in, records_in}
+use Rattle.cells.specs.Below.LayoutBounds.{RecordOk, WholeRecords}
+use Rattle.cells.proofs.Below.LayoutCellLaws.{each_append}
+use Rattle.cells.proofs.Below.ComponentLaws.{records_bytes-append, records_bytes-one, records-of, whole-records, records-none}
+use Rattle.cells.specs.Below.Components.{record_bytes, records_bytes, record_in, records_in}
 use Rattle.lists.specs.Lists.{any, ahead}
 use Rattle.matching.proofs.Loops.{Split, split}
 use Rattle.records.proofs.Searches.{ahead-here, ahead-next}

@@ -5,11 +5,11 @@ use Prim.Native.Nat.{ℕ, ◌+◌, ◌-◌, ◌≤◌, ◌<◌}
 use native.Mathlib.Omega.{arith}
 use lib.ListN.{length, take, drop}
 use Rattle.language.specs.Values.{Record}
-use Rattle.layout.specs.Bounds.{EncodedRecords, WholeRecords, last_size}
-use Rattle.layout.specs.Cells.{two_at}
-use Rattle.layout.proofs.ComponentLaws.{records_bytes-one, last-record, whole-records, records-none}
-use Rattle.layout.specs.Components.{record_bytes, record_in, records_in}
-use Rattle.machine.specs.Changes.{address_of_last}
+use Rattle.cells.specs.Below.LayoutBounds.{EncodedRecords, WholeRecords, last_size}
+use Rattle.cells.specs.Below.LayoutCells.{two_at}
+use Rattle.cells.proofs.Below.ComponentLaws.{records_bytes-one, last-record, whole-records, records-none}
+use Rattle.cells.specs.Below.Components.{record_bytes, record_in, records_in}
+use Rattle.cells.specs.Below.Changes.{address_of_last}
 use Rattle.records.specs.Places.{Starts}
 
 last_of : (n : ℕ) (rs : List Record) (r : Record) → address_of_last n (rs ++ (r ∷ [])) ≡ r.addr

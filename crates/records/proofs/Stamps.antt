@@ -10,10 +10,10 @@ use lib.Seq.{take_at, drop_at, drop-drop, drop-append_seam, take-length, length-
 use Rattle.cells.proofs.Laws.{pasted-pasted}
 use Rattle.cells.specs.Cells.{pasted}
 use Rattle.language.specs.Values.{Component, Record}
-use Rattle.layout.specs.Cells.{two, three}
-use Rattle.layout.proofs.ComponentLaws.{record-length, records_bytes-append, records_bytes-one}
-use Rattle.layout.specs.Components.{record_bytes, records_bytes, components_in, record_in, records_in}
-use Rattle.machine.specs.Changes.{stamped}
+use Rattle.cells.specs.Below.LayoutCells.{two, three}
+use Rattle.cells.proofs.Below.ComponentLaws.{record-length, records_bytes-append, records_bytes-one}
+use Rattle.cells.specs.Below.Components.{record_bytes, records_bytes, components_in, record_in, records_in}
+use Rattle.cells.specs.Below.Changes.{stamped}
 use Rattle.lists.specs.Lists.{total}
 use Rattle.lists.specs.ListLaws.{total-reverse}
 use Rattle.records.proofs.Cuts.{cut-none, cut-split, cut-next, cut_all, cut-long}

@@ -8,10 +8,10 @@ use lib.ListN.{length, take, drop, length-drop, take-append-drop}
 use lib.Seq.{get_or-drop, drop-drop, length-take-le, take_at}
 use Rattle.cells.specs.Cells.{Number}
 use Rattle.language.specs.Values.{Record}
-use Rattle.layout.specs.Bounds.{WholeRecords, NextRecord}
-use Rattle.layout.specs.Cells.{two, two_at, three_at}
-use Rattle.layout.proofs.ComponentLaws.{next-record, record-length, records-none}
-use Rattle.layout.specs.Components.{components_bytes, record_bytes, record_in, records_in}
+use Rattle.cells.specs.Below.LayoutBounds.{WholeRecords, NextRecord}
+use Rattle.cells.specs.Below.LayoutCells.{two, two_at, three_at}
+use Rattle.cells.proofs.Below.ComponentLaws.{next-record, record-length, records-none}
+use Rattle.cells.specs.Below.Components.{components_bytes, record_bytes, record_in, records_in}
 use Rattle.records.specs.Places.{Starts, Ends, Part, next_contents}
 
 -- a number in the cells from `at` on

@@ -9,12 +9,12 @@ use lib.ListN.{length, take, drop, length-append, length-take}
 use lib.Seq.{take-length}
 use Rattle.language.specs.Values.{Component, Record, chars}
 use Rattle.language.specs.Values.Component.{word}
-use Rattle.layout.specs.Bounds.{Encoded, EncodedOne, OneComponent, WholeRecords}
-use Rattle.layout.proofs.ComponentLaws.{component-some, components_bytes-one, components-of, whole-components, one-component, one_of, components-none, record-length}
-use Rattle.layout.specs.Components.{component_in, components_in, components_bytes, record_in, records_in}
+use Rattle.cells.specs.Below.LayoutBounds.{Encoded, EncodedOne, OneComponent, WholeRecords}
+use Rattle.cells.proofs.Below.ComponentLaws.{component-some, components_bytes-one, components-of, whole-components, one-component, one_of, components-none, record-length}
+use Rattle.cells.specs.Below.Components.{component_in, components_in, components_bytes, record_in, records_in}
 use Rattle.lists.specs.Lists.{total}
 use Rattle.lists.specs.ListLaws.{total-append}
-use Rattle.machine.specs.Arguments.{Until, everything, number_of, up_to, first}
+use Rattle.cells.specs.Below.MachineArguments.{Until, everything, number_of, up_to, first}
 use Rattle.matching.specs.declared.Taken.{Taken}
 use Rattle.matching.specs.declared.Test.{Test}
 use Rattle.matching.specs.declared.Test.TheVariants.{All, Count, Class, Among}

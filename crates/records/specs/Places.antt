@@ -2,8 +2,8 @@
 use Rattle.std.specs.Prelude.{◌≡◌, Bool, cond, List, [], ◌∷◌, ◌++◌, ℕ, suc, ◌+◌, ◌*◌, ◌≤◌, ◌<◌, eqb, length, take, drop}
 use Rattle.language.specs.Limits as limit
 use Rattle.language.specs.Values.{Component, Record}
-use Rattle.layout.specs.Bounds.{Encoded, EncodedRecords, WholeComponents, WholeRecords, RecordOk}
-use Rattle.layout.specs.Components.{record_bytes, record_in, records_in}
+use Rattle.cells.specs.Below.LayoutBounds.{Encoded, EncodedRecords, WholeComponents, WholeRecords, RecordOk}
+use Rattle.cells.specs.Below.Components.{record_bytes, record_in, records_in}
 use Rattle.lists.specs.Lists.{any, ahead, if_any}
 use Rattle.records.specs.declared.Found.{Found}
 

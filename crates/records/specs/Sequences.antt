@@ -1,10 +1,10 @@
 -- Tests of records: what they mean, what they ask, and what is told of the records that they take.
 use Rattle.std.specs.Prelude.{◌≡◌, Bool, true, false, List, ℕ, ◌≤◌, leb, length}
 use Rattle.language.specs.Values.{Component, Record, chars, same}
-use Rattle.layout.specs.Bounds.{WholeComponents, WholeRecords}
-use Rattle.layout.specs.Components.{components_in, records_in}
+use Rattle.cells.specs.Below.LayoutBounds.{WholeComponents, WholeRecords}
+use Rattle.cells.specs.Below.Components.{components_in, records_in}
 use Rattle.lists.specs.Lists.{total, same_list}
-use Rattle.machine.specs.Arguments.{Until, everything, number_of, up_to, taken, first}
+use Rattle.cells.specs.Below.MachineArguments.{Until, everything, number_of, up_to, taken, first}
 use Rattle.matching.specs.declared.Test.{Test}
 use Rattle.matching.specs.declared.Test.TheVariants.{All, Count, Class, Among}
 use Rattle.matching.specs.Tests.{until, reached_by, Fitting}

@@ -1,12 +1,13 @@
 // Records in cells: where one ends, its address and contents, the record of an address, what a test takes, totals, and new records.
 #![tactic(auto)]
+
 ghost use Rattle.std.specs.Prelude.{◌≡◌, map, reverse, ◌+◌, take, drop};
 ghost use Rattle.language.specs.Values.{same};
-ghost use Rattle.layout.specs.Components.{components_in, record_bytes, records_bytes, record_in, records_in};
-ghost use Rattle.layout.specs.Bounds.{WholeComponents, WholeRecords};
+ghost use Rattle.cells.specs.Below.Components.{components_in, record_bytes, records_bytes, record_in, records_in};
+ghost use Rattle.cells.specs.Below.LayoutBounds.{WholeComponents, WholeRecords};
 ghost use Rattle.lists.specs.Lists.{same_list};
-ghost use Rattle.machine.specs.Changes.{stamped, address_of_last};
-ghost use Rattle.machine.specs.Arguments.{first};
+ghost use Rattle.cells.specs.Below.Changes.{stamped, address_of_last};
+ghost use Rattle.cells.specs.Below.MachineArguments.{first};
 ghost use Rattle.matching.specs.Tests.{until, stops_before};
 ghost use Rattle.cells.specs.Cells.{pasted, Number};
 ghost use Rattle.records.specs.Places.{Starts, Ends, Part, next_contents, BothWhole, Sought, Recordable, Copyable};

@@ -23,8 +23,8 @@ use Rattle.layout.specs.Places as layout
 use Rattle.resting.specs.Resting.{Openable, Closable}
 use Rattle.state.specs.Working.{state_at, HoldsState}
 use Rattle.state.proofs.Standing as standing
-use Rattle.performing.specs.Stepping.{inputs, Steppable, Stepped}
-use Rattle.performing.specs.SteppingLaws as laws
+use Rattle.stepping.specs.Below.Stepping.{inputs, Steppable, Stepped}
+use Rattle.stepping.specs.Below.SteppingLaws as laws
 use Rattle.running.specs.Running.{run_on, Tells, RanTo, Runnable, RanOn}
 use Rattle.running.specs.declared.Ran.{Ran}
 

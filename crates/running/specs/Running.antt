@@ -8,7 +8,7 @@ use Rattle.machine.specs.WellFormed.{good_inputs}
 use Rattle.layout.specs.Memory.{state_of, good_memory, written}
 use Rattle.layout.specs.Table.{program_of, good_table}
 use Rattle.state.specs.Working.{state_at, HoldsState}
-use Rattle.performing.specs.Stepping.{inputs}
+use Rattle.stepping.specs.Below.Stepping.{inputs}
 use Rattle.running.specs.declared.Ran.{Ran}
 
 -- the number of an answer: "pause 81"

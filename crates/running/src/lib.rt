@@ -1,7 +1,8 @@
 // A run under a budget: the lent state is laid out, stepped and written back.
 #![tactic(auto)]
+
 ghost use Rattle.std.specs.Prelude.{length};
-ghost use Rattle.performing.specs.Stepping.{Steppable};
+ghost use Rattle.stepping.specs.Below.Stepping.{Steppable};
 ghost use Rattle.running.specs.Running.{RanTo, Runnable, RanOn};
 
 use layout::StatePlaces;

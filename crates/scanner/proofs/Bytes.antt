@@ -5,9 +5,9 @@ use mathlib.Core.List.{List, [], ◌∷◌}
 use Prim.Native.Nat.{ℕ, ◌<◌}
 use lib.Dec.{eqb, eqb→eq}
 use borrow.Author.Tests.{eqb-true}
-use Rattle.lists.specs.Lists.{among}
-use Rattle.lists.specs.TableLaws.{beq-eq, below, below-unless, Missed, missed}
-use Rattle.characters.specs.Characters.{known, is_capital, is_digit}
+use Rattle.syntax.specs.Below.Lists.{among}
+use Rattle.syntax.specs.Below.ListsTableLaws.{beq-eq, below, below-unless, Missed, missed}
+use Rattle.syntax.specs.Below.Characters.{known, is_capital, is_digit}
 use Rattle.syntax.specs.Items.{sort_of, sort_number, same_sort, pair_of, is_pair, allows}
 use Rattle.syntax.specs.Items.Sort.{separator, word}
 

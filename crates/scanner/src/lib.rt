@@ -1,12 +1,14 @@
 // How far separators and comments, a word, and a text go in a text of bytes, from a place on.
 #![tactic(auto)]
+
 ghost use Rattle.std.specs.Prelude.{◌≡◌, cond, ◌+◌, ◌≤◌, ◌<◌, length, get_or};
-ghost use Rattle.characters.specs.Characters.{known_marks};
+ghost use Rattle.syntax.specs.Below.Characters.{known_marks};
 ghost use Rattle.syntax.specs.Items.{sort_of, sort_number, same_sort, pair_of, ends_text, takes_next, allows, closes};
 ghost use Rattle.syntax.specs.Items.Sort.{word};
 ghost use Rattle.scanner.specs.Scans.{Closing, Passed, Skipped, WordEnd, Scanned};
 
-use characters::{is_capital, is_digit, is_known};
+use syntax::from_characters;
+use syntax::from_characters::{is_capital, is_digit, is_known};
 
 // The sorts of items by their numbers. No item is a separator, so 0 is also none.
 pub const NOTHING: u8 = 0;
@@ -248,5 +250,5 @@ pub fn scan_text(text: &[u8], n: usize) -> Scan
     requires { n ≤ length text.now }
     ensures { Scanned text.now n result }
 {
-    scan_by(text, n, &characters::MARKS)
+    scan_by(text, n, &from_characters::MARKS)
 }

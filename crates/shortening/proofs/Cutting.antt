@@ -9,7 +9,7 @@ use lib.ListN.{length, take, drop, length-append, length-drop}
 use lib.Seq.{length-take-le, take-take, take_at}
 use borrow.Author.Tests.{eq-eqb, ne_eqb}
 use Rattle.calls.specs.Calls.{load_number}
-use Rattle.loading.specs.declared.Loaded.{Loaded}
+use Rattle.macro_loading.specs.Below.Loaded.{Loaded}
 use Rattle.macro_loading.specs.Loading.{Loads}
 use Rattle.macros.specs.Load.{load_in}
 use Rattle.shortening.specs.Trying.{Exchangeable, exchanged, cut, cut_number, Cuttable, Tried}

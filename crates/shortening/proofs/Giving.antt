@@ -18,7 +18,7 @@ use Rattle.calls.specs.Calls.{load_number, table_after}
 use Rattle.calls.specs.Filling.{Filling, filling_number, filling_count, filled_in}
 use Rattle.calls.specs.Filling.Filling.{kept, fills}
 use Rattle.calls.specs.declared.Filled.{Filled}
-use Rattle.loading.specs.declared.Loaded as told
+use Rattle.macro_loading.specs.Below.Loaded as told
 use Rattle.macro_loading.specs.Loading.{Loads}
 use Rattle.macros.specs.Load.{loaded, load_in, load_of}
 use Rattle.macros.specs.Prepared.{prepared}

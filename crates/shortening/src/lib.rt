@@ -1,5 +1,6 @@
 // A short part of a refused text that load refuses with the same number.
 #![tactic(auto)]
+
 ghost use Rattle.std.specs.Prelude.{◌≡◌, length, take};
 ghost use Rattle.shorten_calls.specs.Shortening.{part};
 ghost use Rattle.shortening.specs.Trying.{Ending, LineStart, Exchangeable, exchanged, Cuttable, Tried, Tryable, Rounded, Finished, Givable, Given, Refused, Shortens};
@@ -7,7 +8,7 @@ ghost use Rattle.shortening.specs.Trying.{Ending, LineStart, Exchangeable, excha
 use bytes::reverse;
 use calls::Filled;
 use language::Machine;
-use loading::Loaded;
+use macro_loading::from_loading::Loaded;
 
 // The place where the line begins that ends at `end`.
 fn line_start(text: &[u8], end: usize) -> usize
@@ -136,4 +137,9 @@ pub fn shorten(text: &[u8], table: &mut [u32], out: &mut [u8]) -> Filled
         };
     }
     shorten_refused(text, r.number, table, out)
+}
+
+// Of `macro_loading`, passed on to the crates above.
+pub mod from_macro_loading {
+    pub use macro_loading::load;
 }

@@ -9,10 +9,10 @@ use native.Mathlib.Omega.{arith}
 use lib.Dec.{eqb}
 use lib.ListN.{length, get_or, set, length-append}
 use lib.Seq.{set_split}
-use Rattle.cells.specs.Cells.{pasted}
-use Rattle.cells.proofs.Laws.{pasted-none, pasted-pasted}
-use Rattle.syntax.specs.Items.{pair_of, takes_next, char_of}
-use Rattle.syntax.specs.Scan.{text_chars}
+use Rattle.words.specs.Below.Cells.{pasted}
+use Rattle.words.proofs.Below.CellsLaws.{pasted-none, pasted-pasted}
+use Rattle.scanner.specs.Below.Items.{pair_of, takes_next, char_of}
+use Rattle.scanner.specs.Below.SyntaxScan.{text_chars}
 use Rattle.scanner.proofs.Loops.{drop_here}
 use Rattle.lexer.specs.Tokens.{part}
 use Rattle.spelling.specs.Spelling.{Gives, Put, text_in, FitsText}

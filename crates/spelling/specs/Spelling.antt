@@ -1,8 +1,8 @@
 -- What the functions on the characters of a token promise.
 use Rattle.std.specs.Prelude.{◌≡◌, Bool, false, List, [], ◌∷◌, ℕ, ◌+◌, ◌≤◌, length}
-use Rattle.cells.specs.Cells.{pasted}
-use Rattle.syntax.specs.Items.{takes_next, char_of}
-use Rattle.syntax.specs.Scan.{text_chars}
+use Rattle.words.specs.Below.Cells.{pasted}
+use Rattle.scanner.specs.Below.Items.{takes_next, char_of}
+use Rattle.scanner.specs.Below.SyntaxScan.{text_chars}
 use Rattle.lexer.specs.Tokens.{part}
 
 -- the character of a byte that gives one

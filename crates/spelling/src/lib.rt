@@ -1,8 +1,9 @@
 // The characters of an item: written out, and compared with others.
 #![tactic(auto)]
+
 ghost use Rattle.std.specs.Prelude.{◌≡◌, ◌+◌, ◌≤◌, length};
 ghost use Rattle.lists.specs.Lists.{bytes_equal};
-ghost use Rattle.syntax.specs.Items.{char_of};
+ghost use Rattle.scanner.specs.Below.Items.{char_of};
 ghost use Rattle.lexer.specs.Tokens.{part};
 ghost use Rattle.spelling.specs.Spelling.{Gives, Put, text_in, FitsText, TwoParts};
 

@@ -28,8 +28,8 @@ use Rattle.state.proofs.Freed.{limited-past, components-past, chars-past}
 use Rattle.state.proofs.Standing.{state_of, stands}
 use Rattle.instructions.proofs.Written.{both}
 use Rattle.moves.proofs.Taking.{parts-least}
-use Rattle.joining.specs.Joining.{some}
-use Rattle.joining.proofs.Words.{written_is}
+use Rattle.readings.specs.Below.Joining.{some}
+use Rattle.readings.proofs.Below.Words.{written_is}
 use Rattle.splitting.specs.Splitting.{front_part, split_up, split_room, FirstWord, FewMore}
 use Rattle.splitting.proofs.Asking.{first-in}
 

@@ -10,7 +10,7 @@ use Rattle.matching.specs.declared.Test.{Test}
 use Rattle.state.specs.Working.{state_at, Stands, nth, reading, writing}
 use Rattle.table.specs.declared.Argument.{Argument}
 use Rattle.instructions.specs.Does.{stop_of}
-use Rattle.joining.specs.Joining.{WordsJoinable}
+use Rattle.readings.specs.Below.Joining.{WordsJoinable}
 use Rattle.readings.specs.Readings.{CharsTakeable}
 
 -- the first component of expression i, if it has one

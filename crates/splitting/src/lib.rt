@@ -1,5 +1,6 @@
 // Splitting a word: ROZBIJ.
 #![tactic(auto)]
+
 ghost use Rattle.std.specs.Prelude.{◌≡◌, true, length};
 ghost use Rattle.language.specs.Program.Arg.{nothing};
 ghost use Rattle.language.specs.Program.Op.{ROZBIJ};
@@ -37,7 +38,7 @@ fn has_split_room(pool: &[u8], ends: &[u32], nums: &[u32], removes: bool, k: usi
     ensures { result ≡ split_room removes k (state_at pool.now ends.now nums.now).store }
 {
     if removes {
-        return instructions::has_room(pool, ends, nums, k - joining::some(k), 0);
+        return instructions::has_room(pool, ends, nums, k - readings::from_joining::some(k), 0);
     }
     instructions::has_room(pool, ends, nums, k, k)
 }
@@ -116,4 +117,14 @@ pub fn rozbij(
         removes,
         i,
     )
+}
+
+// Of `joining`, passed on to the crates above.
+pub mod from_joining {
+    pub use readings::from_joining::zbij;
+}
+
+// Of `readings`, passed on to the crates above.
+pub mod from_readings {
+    pub use readings::{czytaj, usun_input};
 }

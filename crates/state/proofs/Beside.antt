@@ -5,18 +5,18 @@ use mathlib.Core.List.{List, [], ◌∷◌, ◌++◌}
 use Prim.Native.Nat.{ℕ, zero, suc, ◌+◌, ◌≤◌, ◌<◌}
 use native.Mathlib.Omega.{arith}
 use lib.ListN.{length, get_or, drop, set, length-set, length-append}
-use Rattle.language.specs.Limits as limit
-use Rattle.language.specs.Letters.Letter.{I, Q}
-use Rattle.language.specs.Values.{State}
-use Rattle.machine.specs.Changes.{with_plus, minus_unless, with_outputs, with_places, printed, past, past_by, held, recorded}
-use Rattle.layout.specs.Bounds.{Fine}
-use Rattle.layout.specs.Memory.{scalars, strings}
-use Rattle.layout.proofs.MemoryLaws.{string-output}
-use Rattle.layout.specs.Places as layout
-use Rattle.gaps.specs.Gaps.{pushed_back}
-use Rattle.gaps.specs.Pool.{abs, Holds}
+use Rattle.store.specs.Below.Limits as limit
+use Rattle.store.specs.Below.Letters.Letter.{I, Q}
+use Rattle.store.specs.Below.LanguageValues.{State}
+use Rattle.store.specs.Below.Changes.{with_plus, minus_unless, with_outputs, with_places, printed, past, past_by, held, recorded}
+use Rattle.store.specs.Below.LayoutBounds.{Fine}
+use Rattle.store.specs.Below.LayoutMemory.{scalars, strings}
+use Rattle.store.proofs.Below.MemoryLaws.{string-output}
+use Rattle.store.specs.Below.LayoutPlaces as layout
+use Rattle.store.specs.Below.Gaps.{pushed_back}
+use Rattle.store.specs.Below.Pool.{abs, Holds}
 use Rattle.store.specs.Store.{Pushable}
-use Rattle.layout.specs.Places.{output_string}
+use Rattle.store.specs.Below.LayoutPlaces.{output_string}
 use Rattle.state.specs.Working.{state_at, HoldsState, on_store, nth}
 use Rattle.state.specs.Blocks.{Printable, Readable}
 use Rattle.state.proofs.Standing.{pushable, place_is}

@@ -4,15 +4,15 @@ use mathlib.Core.List.{List, []}
 use Prim.Native.Nat.{ℕ, ◌<◌}
 use native.Mathlib.Omega.{arith}
 use lib.ListN.{length, get_or, set, length-set}
-use Rattle.lists.specs.Lists.{total}
-use Rattle.language.specs.Limits as limit
-use Rattle.language.specs.Values.{Component, State, chars}
-use Rattle.machine.specs.Changes.{with_exprs, put_expr, held}
-use Rattle.layout.specs.Bounds.{Each, Ok, Fine}
-use Rattle.layout.specs.Memory.{scalars, strings}
-use Rattle.layout.proofs.MemoryLaws.{string-expr}
-use Rattle.gaps.specs.Pool.{abs, Holds}
-use Rattle.gaps.proofs.Laws.{after}
+use Rattle.store.specs.Below.Lists.{total}
+use Rattle.store.specs.Below.Limits as limit
+use Rattle.store.specs.Below.LanguageValues.{Component, State, chars}
+use Rattle.store.specs.Below.Changes.{with_exprs, put_expr, held}
+use Rattle.store.specs.Below.LayoutBounds.{Each, Ok, Fine}
+use Rattle.store.specs.Below.LayoutMemory.{scalars, strings}
+use Rattle.store.proofs.Below.MemoryLaws.{string-expr}
+use Rattle.store.specs.Below.Pool.{abs, Holds}
+use Rattle.store.proofs.Below.GapsLaws.{after}
 use Rattle.store.specs.Store.{Exchangeable, exchanged}
 use Rattle.state.specs.Working.{state_at, HoldsState, on_store}
 use Rattle.state.specs.Blocks.{totalled, ExprsExchangeable, exprs_exchanged}

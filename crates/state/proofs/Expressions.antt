@@ -5,23 +5,23 @@ use mathlib.Core.List.{List, [], ◌++◌}
 use Prim.Native.Nat.{ℕ, ◌+◌, ◌-◌, ◌≤◌, ◌<◌}
 use native.Mathlib.Omega.{arith}
 use lib.ListN.{length, get_or, take, drop, set, length-set, length-append, length-drop}
-use Rattle.lists.specs.Lists.{total}
-use Rattle.lists.specs.ListLaws.{total-append, total-split, total-at}
-use Rattle.language.specs.Limits as limit
-use Rattle.language.specs.Letters.Letter.{E}
-use Rattle.language.specs.Values.{Component, Store, State, chars}
-use Rattle.machine.specs.Arguments.{expr}
-use Rattle.machine.specs.Changes.{put_expr, into, placed, past, past_by, held}
-use Rattle.machine.proofs.SumLaws.{held-put_expr}
-use Rattle.layout.specs.Bounds.{Each, Ok, Fine}
-use Rattle.layout.proofs.CellLaws.{each_append, each-drop}
-use Rattle.layout.proofs.ComponentLaws.{components_bytes-append}
-use Rattle.layout.specs.Components.{components_bytes, components_in}
-use Rattle.layout.specs.Memory.{components_held, chars_held, scalars, strings}
-use Rattle.layout.proofs.MemoryLaws.{expr-encoded}
-use Rattle.layout.specs.Places as layout
-use Rattle.gaps.specs.Gaps.{pushed_front, pushed_back}
-use Rattle.gaps.specs.Pool.{abs, string, Holds}
+use Rattle.store.specs.Below.Lists.{total}
+use Rattle.store.specs.Below.ListLaws.{total-append, total-split, total-at}
+use Rattle.store.specs.Below.Limits as limit
+use Rattle.store.specs.Below.Letters.Letter.{E}
+use Rattle.store.specs.Below.LanguageValues.{Component, Store, State, chars}
+use Rattle.store.specs.Below.MachineArguments.{expr}
+use Rattle.store.specs.Below.Changes.{put_expr, into, placed, past, past_by, held}
+use Rattle.store.proofs.Below.SumLaws.{held-put_expr}
+use Rattle.store.specs.Below.LayoutBounds.{Each, Ok, Fine}
+use Rattle.store.proofs.Below.LayoutCellLaws.{each_append, each-drop}
+use Rattle.store.proofs.Below.ComponentLaws.{components_bytes-append}
+use Rattle.store.specs.Below.Components.{components_bytes, components_in}
+use Rattle.store.specs.Below.LayoutMemory.{components_held, chars_held, scalars, strings}
+use Rattle.store.proofs.Below.MemoryLaws.{expr-encoded}
+use Rattle.store.specs.Below.LayoutPlaces as layout
+use Rattle.store.specs.Below.Gaps.{pushed_front, pushed_back}
+use Rattle.store.specs.Below.Pool.{abs, string, Holds}
 use Rattle.store.specs.Store.{Droppable, dropped_front, Pushable}
 use Rattle.state.specs.Working.{state_at, HoldsState, Stands, on_store, nth, reading, writing, char_count}
 use Rattle.state.specs.Blocks.{totalled, Lowerable, Raisable, pushed, PartsDroppable, PartsWritable}

@@ -4,11 +4,11 @@ use mathlib.Core.Bool.{Bool}
 use mathlib.Core.List.{List}
 use Prim.Native.Nat.{ℕ, ◌≤◌, ◌<◌}
 use lib.ListN.{length}
-use Rattle.language.specs.Limits as limit
-use Rattle.language.specs.Values.{Component, File, State}
-use Rattle.machine.specs.Changes.{with_exprs, with_files, held, recorded}
-use Rattle.layout.specs.Bounds.{Each, Below, Ok, FileOk, Fine}
-use Rattle.layout.specs.Memory.{components_held, chars_held, records_held}
+use Rattle.store.specs.Below.Limits as limit
+use Rattle.store.specs.Below.LanguageValues.{Component, File, State}
+use Rattle.store.specs.Below.Changes.{with_exprs, with_files, held, recorded}
+use Rattle.store.specs.Below.LayoutBounds.{Each, Below, Ok, FileOk, Fine}
+use Rattle.store.specs.Below.LayoutMemory.{components_held, chars_held, records_held}
 use Rattle.state.specs.Working.{on_store}
 
 module _ (s : State) (f : Fine s) where

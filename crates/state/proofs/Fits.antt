@@ -7,19 +7,19 @@ use native.Mathlib.Omega.{arith}
 use lib.Dec.{T, leb}
 use lib.ListN.{length, length-append}
 use borrow.Author.Tests.{le-leb}
-use Rattle.lists.specs.Lists.{total, all}
-use Rattle.lists.specs.ListLaws.{total-append, total-set, all-total, failing}
-use Rattle.language.specs.Limits as limit
-use Rattle.language.specs.Letters.Letter.{P}
-use Rattle.language.specs.Program.{Arg}
-use Rattle.language.specs.Values.{Component, Record, File, Store, State, chars, empty_file}
-use Rattle.language.specs.Values.Component.{word, address}
-use Rattle.machine.specs.Arguments.{place, use_by, at, expr, file_of, records}
-use Rattle.machine.specs.Changes.{with_exprs, with_files, with_plus, with_outputs, put, put_expr, minus_unless, placed, into, printed, stamped, stored, held, recorded, fits}
-use Rattle.machine.proofs.ChangeLaws.{placed_total}
-use Rattle.machine.proofs.SumLaws.{held-put_expr, recorded-put_expr, outputs-put}
-use Rattle.layout.specs.Bounds.{Each, Ok, RecordOk, FileOk, Fine}
-use Rattle.layout.specs.Memory.{components_held, chars_held, records_held}
+use Rattle.store.specs.Below.Lists.{total, all}
+use Rattle.store.specs.Below.ListLaws.{total-append, total-set, all-total, failing}
+use Rattle.store.specs.Below.Limits as limit
+use Rattle.store.specs.Below.Letters.Letter.{P}
+use Rattle.store.specs.Below.Program.{Arg}
+use Rattle.store.specs.Below.LanguageValues.{Component, Record, File, Store, State, chars, empty_file}
+use Rattle.store.specs.Below.LanguageValues.Component.{word, address}
+use Rattle.store.specs.Below.MachineArguments.{place, use_by, at, expr, file_of, records}
+use Rattle.store.specs.Below.Changes.{with_exprs, with_files, with_plus, with_outputs, put, put_expr, minus_unless, placed, into, printed, stamped, stored, held, recorded, fits}
+use Rattle.store.proofs.Below.ChangeLaws.{placed_total}
+use Rattle.store.proofs.Below.SumLaws.{held-put_expr, recorded-put_expr, outputs-put}
+use Rattle.store.specs.Below.LayoutBounds.{Each, Ok, RecordOk, FileOk, Fine}
+use Rattle.store.specs.Below.LayoutMemory.{components_held, chars_held, records_held}
 use Rattle.state.specs.Working.{turned, filed, char_count}
 use Rattle.state.specs.Limited.{short_word, short_outputs, Limited}
 use Rattle.state.proofs.Sequences.{total-ones, total-same, turned-total}

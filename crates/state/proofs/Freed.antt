@@ -6,17 +6,17 @@ use Prim.Native.Nat.{ℕ, pred, ◌+◌, ◌≤◌, ◌<◌}
 use native.Mathlib.Omega.{arith}
 use lib.ListN.{length, get_or, take, drop, length-set}
 use lib.Seq.{length-take-le}
-use Rattle.language.specs.Letters.Letter.{E, P}
-use Rattle.language.specs.Letters.{Var}
-use Rattle.language.specs.Letters.Var.{expression, input, output, file}
-use Rattle.language.specs.Program.{Arg}
-use Rattle.language.specs.Values.{Component, Record, File, Store, chars, empty_file}
-use Rattle.lists.specs.Lists.{total}
-use Rattle.lists.specs.ListLaws.{failing, total-append, total-split, total-put}
-use Rattle.machine.specs.Arguments.{place, use_by, expr, file_of, records}
-use Rattle.machine.specs.Changes.{with_exprs, with_files, with_places, put, put_expr, put_file, past_file, past_by, past, held, recorded}
-use Rattle.machine.proofs.SumLaws.{held-put_expr, recorded-put_expr, held-put_file, recorded-put_file}
-use Rattle.layout.specs.Memory.{components_held, chars_held}
+use Rattle.store.specs.Below.Letters.Letter.{E, P}
+use Rattle.store.specs.Below.Letters.{Var}
+use Rattle.store.specs.Below.Letters.Var.{expression, input, output, file}
+use Rattle.store.specs.Below.Program.{Arg}
+use Rattle.store.specs.Below.LanguageValues.{Component, Record, File, Store, chars, empty_file}
+use Rattle.store.specs.Below.Lists.{total}
+use Rattle.store.specs.Below.ListLaws.{failing, total-append, total-split, total-put}
+use Rattle.store.specs.Below.MachineArguments.{place, use_by, expr, file_of, records}
+use Rattle.store.specs.Below.Changes.{with_exprs, with_files, with_places, put, put_expr, put_file, past_file, past_by, past, held, recorded}
+use Rattle.store.proofs.Below.SumLaws.{held-put_expr, recorded-put_expr, held-put_file, recorded-put_file}
+use Rattle.store.specs.Below.LayoutMemory.{components_held, chars_held}
 use Rattle.state.specs.Limited.{short_word, Limited}
 use Rattle.state.specs.Blocks.{FirstParts}
 use Rattle.state.proofs.Sequences.{total-ones}

@@ -9,3 +9,4 @@ pub mod Beside
 pub mod Ties
 pub mod Fits
 pub mod Freed
+pub mod Below

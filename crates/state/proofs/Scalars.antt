@@ -4,9 +4,9 @@ use mathlib.Core.Bool.{cond}
 use mathlib.Core.List.{List, [], ◌∷◌}
 use Prim.Native.Nat.{ℕ}
 use lib.ListN.{get_or, set}
-use Rattle.language.specs.Values.{Component, File, Store, State}
-use Rattle.machine.specs.Changes.{with_exprs, with_files, recorded}
-use Rattle.layout.specs.Memory.{components_held, chars_held, records_held, scalars}
+use Rattle.store.specs.Below.LanguageValues.{Component, File, Store, State}
+use Rattle.store.specs.Below.Changes.{with_exprs, with_files, recorded}
+use Rattle.store.specs.Below.LayoutMemory.{components_held, chars_held, records_held, scalars}
 use Rattle.state.specs.Working.{on_store}
 use Rattle.state.specs.Blocks.{totalled}
 

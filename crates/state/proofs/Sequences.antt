@@ -7,13 +7,13 @@ use Prim.Native.Nat.{ℕ, zero, suc, ◌≤◌, ◌<◌}
 use native.Mathlib.Omega.{arith}
 use lib.ListN.{length, get_or, take, drop, set, length-set, length-append, length-reverse, take-append-drop}
 use lib.Seq.{take-append_seam, drop-append_seam, get_or-set_other, set-get_or}
-use Rattle.lists.specs.Lists.{total}
-use Rattle.lists.specs.ListLaws.{total-reverse, total-set}
-use Rattle.language.specs.Values.{Component}
-use Rattle.layout.specs.Bounds.{Each}
-use Rattle.layout.proofs.CellLaws.{each_at}
-use Rattle.layout.specs.Components.{component_bytes, components_bytes}
-use Rattle.gaps.proofs.Parts.{same_or}
+use Rattle.store.specs.Below.Lists.{total}
+use Rattle.store.specs.Below.ListLaws.{total-reverse, total-set}
+use Rattle.store.specs.Below.LanguageValues.{Component}
+use Rattle.store.specs.Below.LayoutBounds.{Each}
+use Rattle.store.proofs.Below.LayoutCellLaws.{each_at}
+use Rattle.store.specs.Below.Components.{component_bytes, components_bytes}
+use Rattle.store.proofs.Below.GapsParts.{same_or}
 use Rattle.state.specs.Working.{turned}
 
 module _ {X : Type 0} where

@@ -6,22 +6,22 @@ use mathlib.Core.List.{List, [], ◌∷◌}
 use native.Mathlib.Omega.{arith}
 use lib.Dec.{eqb}
 use lib.ListN.{length, get_or, drop, set}
-use Rattle.language.specs.Limits as limit
-use Rattle.language.specs.Letters.Letter.{E}
-use Rattle.language.specs.Values.{Store, State}
-use Rattle.machine.specs.Arguments.{expr}
-use Rattle.layout.specs.Memory.{scalars, strings}
-use Rattle.layout.proofs.MemoryLaws.{length-strings, state_by-back, string-output, expr-encoded}
-use Rattle.layout.proofs.ComponentLaws.{components-of, whole-components}
-use Rattle.layout.proofs.CellLaws.{each_at}
-use Rattle.layout.proofs.FineLaws.{fine-room}
-use Rattle.layout.specs.Bounds.{Each, Encoded, Fine}
-use Rattle.layout.specs.Strings.{used}
-use Rattle.layout.specs.Places as layout
-use Rattle.gaps.proofs.Index.{used-set}
-use Rattle.gaps.specs.Pool.{abs, string}
+use Rattle.store.specs.Below.Limits as limit
+use Rattle.store.specs.Below.Letters.Letter.{E}
+use Rattle.store.specs.Below.LanguageValues.{Store, State}
+use Rattle.store.specs.Below.MachineArguments.{expr}
+use Rattle.store.specs.Below.LayoutMemory.{scalars, strings}
+use Rattle.store.proofs.Below.MemoryLaws.{length-strings, state_by-back, string-output, expr-encoded}
+use Rattle.store.proofs.Below.ComponentLaws.{components-of, whole-components}
+use Rattle.store.proofs.Below.LayoutCellLaws.{each_at}
+use Rattle.store.proofs.Below.FineLaws.{fine-room}
+use Rattle.store.specs.Below.LayoutBounds.{Each, Encoded, Fine}
+use Rattle.store.specs.Below.Strings.{used}
+use Rattle.store.specs.Below.LayoutPlaces as layout
+use Rattle.store.proofs.Below.Index.{used-set}
+use Rattle.store.specs.Below.Pool.{abs, string}
 use Rattle.store.specs.Store.{Named, Long, Whole, Pushable}
-use Rattle.layout.specs.Places.{output_string}
+use Rattle.store.specs.Below.LayoutPlaces.{output_string}
 use Rattle.state.specs.Working.{state_at, HoldsState, Stands, on_store, nth}
 use Rattle.state.specs.Blocks.{Numbered, Told, InputNamed, ReadTo, ExprNamed, ExprLent, OutputNamed, OutputLong}
 

@@ -6,17 +6,17 @@ use native.Mathlib.Nat.{suc-add, zero-add}
 use native.Mathlib.Omega.{arith}
 use lib.ListN.{length, set, length-set, length-append, length-map}
 use lib.Seq.{set-append_left}
-use Rattle.lists.specs.Lists.{each}
-use Rattle.language.specs.Limits as limit
-use Rattle.language.specs.Values.{Component, File, State}
-use Rattle.machine.specs.Changes.{with_exprs, with_files, with_outputs}
-use Rattle.layout.specs.Cells.{two}
-use Rattle.layout.proofs.CellLaws.{twice, twice-one}
-use Rattle.layout.specs.Components.{components_bytes, records_bytes}
-use Rattle.layout.specs.Memory.{file_strings, strings}
-use Rattle.layout.proofs.MemoryLaws.{length-file_strings}
-use Rattle.layout.specs.Places as layout
-use Rattle.layout.specs.Places.{before_string, after_string, output_string, stack_string}
+use Rattle.store.specs.Below.Lists.{each}
+use Rattle.store.specs.Below.Limits as limit
+use Rattle.store.specs.Below.LanguageValues.{Component, File, State}
+use Rattle.store.specs.Below.Changes.{with_exprs, with_files, with_outputs}
+use Rattle.store.specs.Below.LayoutCells.{two}
+use Rattle.store.proofs.Below.LayoutCellLaws.{twice, twice-one}
+use Rattle.store.specs.Below.Components.{components_bytes, records_bytes}
+use Rattle.store.specs.Below.LayoutMemory.{file_strings, strings}
+use Rattle.store.proofs.Below.MemoryLaws.{length-file_strings}
+use Rattle.store.specs.Below.LayoutPlaces as layout
+use Rattle.store.specs.Below.LayoutPlaces.{before_string, after_string, output_string, stack_string}
 use Rattle.state.specs.Working.{on_store}
 
 set_append_right : {X : Type 0} (xs ys : List X) (k i : ℕ) (y : X) → length xs ≡ k → set (xs ++ ys) (k + i) y ≡ xs ++ set ys i y

@@ -4,11 +4,11 @@ use mathlib.Core.Bool.{Bool, true, false, cond}
 use mathlib.Core.List.{List, ◌++◌, reverse}
 use Prim.Native.Nat.{◌+◌}
 use lib.ListN.{length}
-use Rattle.language.specs.Letters.{use_of}
-use Rattle.language.specs.Program.{Arg}
-use Rattle.language.specs.Values.{Component, Record, File, Store}
-use Rattle.machine.specs.Arguments.{use_by, file_of}
-use Rattle.machine.specs.Changes.{with_files, put, stamped, stored}
+use Rattle.store.specs.Below.Letters.{use_of}
+use Rattle.store.specs.Below.Program.{Arg}
+use Rattle.store.specs.Below.LanguageValues.{Component, Record, File, Store}
+use Rattle.store.specs.Below.MachineArguments.{use_by, file_of}
+use Rattle.store.specs.Below.Changes.{with_files, put, stamped, stored}
 use Rattle.state.specs.Working.{filing, turned, filed}
 
 pub turns-so : (b : Bool) → (use_of (filing b)).reverses ≡ b

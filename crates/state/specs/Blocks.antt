@@ -1,16 +1,16 @@
 -- What the functions on the working state ask and tell. p, e and n are pool, ends and scalars; scratch and hold are how long the two further
 -- buffers are, one for laying the strings out anew and one for bytes on the way.
 use Rattle.std.specs.Prelude.{◌≡◌, Bool, true, false, List, [], ℕ, ◌+◌, ◌≤◌, ◌<◌, length, get_or, take, set}
-use Rattle.language.specs.Limits as limit
-use Rattle.language.specs.Letters.Letter.{E, I, Q}
-use Rattle.language.specs.Values.{Component, Store}
-use Rattle.machine.specs.Arguments.{at, expr}
-use Rattle.machine.specs.Changes.{put_expr}
-use Rattle.layout.specs.Bounds.{Encoded, WholeComponents}
-use Rattle.layout.specs.Components.{components_bytes, components_in}
-use Rattle.layout.specs.Memory.{components_held, chars_held, scalars}
-use Rattle.layout.specs.Places as layout
-use Rattle.gaps.specs.Gaps.{pushed_front, pushed_back}
+use Rattle.store.specs.Below.Limits as limit
+use Rattle.store.specs.Below.Letters.Letter.{E, I, Q}
+use Rattle.store.specs.Below.LanguageValues.{Component, Store}
+use Rattle.store.specs.Below.MachineArguments.{at, expr}
+use Rattle.store.specs.Below.Changes.{put_expr}
+use Rattle.store.specs.Below.LayoutBounds.{Encoded, WholeComponents}
+use Rattle.store.specs.Below.Components.{components_bytes, components_in}
+use Rattle.store.specs.Below.LayoutMemory.{components_held, chars_held, scalars}
+use Rattle.store.specs.Below.LayoutPlaces as layout
+use Rattle.store.specs.Below.Gaps.{pushed_front, pushed_back}
 use Rattle.state.specs.Working.{state_at, Stands, nth, char_count}
 
 -- ---- reading

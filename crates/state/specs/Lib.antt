@@ -1,3 +1,4 @@
 pub mod Working
 pub mod Blocks
 pub mod Limited
+pub mod Below

@@ -1,10 +1,10 @@
 -- A store with as many variables as the machine has, within its limits.
 use Rattle.std.specs.Prelude.{◌≡◌, Bool, cond, ◌≤◌, T, leb, length}
-use Rattle.language.specs.Limits as limit
-use Rattle.language.specs.Values.{Component, Store, chars}
-use Rattle.lists.specs.Lists.{all}
-use Rattle.machine.specs.Changes.{held}
-use Rattle.layout.specs.Memory.{components_held, chars_held, records_held}
+use Rattle.store.specs.Below.Limits as limit
+use Rattle.store.specs.Below.LanguageValues.{Component, Store, chars}
+use Rattle.store.specs.Below.Lists.{all}
+use Rattle.store.specs.Below.Changes.{held}
+use Rattle.store.specs.Below.LayoutMemory.{components_held, chars_held, records_held}
 
 -- "a word 255 characters; each Q 4,096"
 abbrev pub short_word : Component → Bool

@@ -1,14 +1,14 @@
 -- The state at work: the pool and the ends of the store, which hold its strings, and its eight scalars in cells of 32 bits.
 use Rattle.std.specs.Prelude.{◌≡◌, Bool, true, false, cond, List, ◌++◌, reverse, ℕ, suc, length}
-use Rattle.lists.specs.Lists.{total}
-use Rattle.language.specs.Letters.{Letter}
-use Rattle.language.specs.Letters.Letter.{A, B, C, D, Z}
-use Rattle.language.specs.Program.{Arg}
-use Rattle.language.specs.Program.Arg.{letter}
-use Rattle.language.specs.Values.{Component, Record, File, Store, State, chars}
-use Rattle.layout.specs.Bounds.{Fine}
-use Rattle.layout.specs.Memory.{scalars, strings, state_by}
-use Rattle.gaps.specs.Pool.{abs, Holds}
+use Rattle.store.specs.Below.Lists.{total}
+use Rattle.store.specs.Below.Letters.{Letter}
+use Rattle.store.specs.Below.Letters.Letter.{A, B, C, D, Z}
+use Rattle.store.specs.Below.Program.{Arg}
+use Rattle.store.specs.Below.Program.Arg.{letter}
+use Rattle.store.specs.Below.LanguageValues.{Component, Record, File, Store, State, chars}
+use Rattle.store.specs.Below.LayoutBounds.{Fine}
+use Rattle.store.specs.Below.LayoutMemory.{scalars, strings, state_by}
+use Rattle.store.specs.Below.Pool.{abs, Holds}
 
 -- the state of the strings that pool p and ends e hold, and of the scalars n
 unfoldable pub state_at : List ℕ → List ℕ → List ℕ → State

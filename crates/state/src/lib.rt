@@ -1,23 +1,25 @@
 // The state at work: what instructions read of it, and the changes that they make in it. Pool and ends hold its strings, `nums` its scalars.
 #![tactic(auto)]
+
 ghost use Rattle.std.specs.Prelude.{◌≡◌, true, ◌+◌, ◌-◌, length, get_or};
-ghost use Rattle.language.specs.Letters.Letter.{I, Q};
-ghost use Rattle.machine.specs.Changes.{with_plus, minus_unless, into, printed, past};
-ghost use Rattle.layout.specs.Components.{components_in};
-ghost use Rattle.gaps.specs.Pool.{abs, Holds};
+ghost use Rattle.store.specs.Below.Letters.Letter.{I, Q};
+ghost use Rattle.store.specs.Below.Changes.{with_plus, minus_unless, into, printed, past};
+ghost use Rattle.store.specs.Below.Components.{components_in};
+ghost use Rattle.store.specs.Below.Pool.{abs, Holds};
 ghost use Rattle.store.specs.Store.{Pushable};
 ghost use Rattle.state.specs.Working.{state_at, HoldsState, Stands, on_store, nth, reading, writing};
 ghost use Rattle.state.specs.Blocks.{Numbered, Told, InputNamed, ReadTo, ExprNamed, ExprLent, OutputNamed, OutputLong, totalled, Raisable, Lowerable, PartsDroppable, PartsWritable, pushed, ExprsExchangeable, exprs_exchanged, Printable, Readable};
-ghost use Rattle.layout.specs.Places.{components_scalar, characters_scalar};
+ghost use Rattle.store.specs.Below.LayoutPlaces.{components_scalar, characters_scalar};
 
-use layout::StatePlaces;
+use store::from_cells;
+use store::from_layout::StatePlaces;
 
 // Scalar `k`: H (1 for plus), the read places, the next instruction, the last address, and the totals of components, characters and records.
 pub fn number(pool: &[u8], ends: &[u32], nums: &[u32], k: usize) -> usize
     requires { Numbered pool.now ends.now nums.now k }
     ensures { Told pool.now ends.now nums.now k result }
 {
-    cells::read(nums, k)
+    from_cells::read(nums, k)
 }
 
 // Whether H is plus.
@@ -25,7 +27,7 @@ pub fn is_plus(pool: &[u8], ends: &[u32], nums: &[u32]) -> bool
     requires { Stands pool.now ends.now nums.now }
     ensures { result ≡ (state_at pool.now ends.now nums.now).store.plus }
 {
-    cells::read(nums, StatePlaces::PLUS_SCALAR) == 1
+    from_cells::read(nums, StatePlaces::PLUS_SCALAR) == 1
 }
 
 // How many characters of input `i` are read.
@@ -33,7 +35,7 @@ pub fn place(pool: &[u8], ends: &[u32], nums: &[u32], i: usize) -> usize
     requires { InputNamed pool.now ends.now nums.now i }
     ensures { ReadTo pool.now ends.now nums.now i result }
 {
-    cells::read(nums, StatePlaces::FIRST_PLACE + i)
+    from_cells::read(nums, StatePlaces::FIRST_PLACE + i)
 }
 
 // The bytes of expression `i`.
@@ -57,10 +59,10 @@ pub fn raise(nums: &mut [u32], parts: usize, chars: usize)
     requires { Raisable nums.old parts chars }
     ensures { nums.new ≡ totalled (get_or nums.old components_scalar 0 + parts) (get_or nums.old characters_scalar 0 + chars) nums.old }
 {
-    let c = cells::read(nums, StatePlaces::COMPONENTS_SCALAR);
-    let d = cells::read(nums, StatePlaces::CHARACTERS_SCALAR);
-    cells::write(nums, StatePlaces::COMPONENTS_SCALAR, c + parts);
-    cells::write(nums, StatePlaces::CHARACTERS_SCALAR, d + chars);
+    let c = from_cells::read(nums, StatePlaces::COMPONENTS_SCALAR);
+    let d = from_cells::read(nums, StatePlaces::CHARACTERS_SCALAR);
+    from_cells::write(nums, StatePlaces::COMPONENTS_SCALAR, c + parts);
+    from_cells::write(nums, StatePlaces::CHARACTERS_SCALAR, d + chars);
 }
 
 // Takes from the totals of components and characters.
@@ -68,10 +70,10 @@ pub fn lower(nums: &mut [u32], parts: usize, chars: usize)
     requires { Lowerable nums.old parts chars }
     ensures { nums.new ≡ totalled (get_or nums.old components_scalar 0 - parts) (get_or nums.old characters_scalar 0 - chars) nums.old }
 {
-    let c = cells::read(nums, StatePlaces::COMPONENTS_SCALAR);
-    let d = cells::read(nums, StatePlaces::CHARACTERS_SCALAR);
-    cells::write(nums, StatePlaces::COMPONENTS_SCALAR, c - parts);
-    cells::write(nums, StatePlaces::CHARACTERS_SCALAR, d - chars);
+    let c = from_cells::read(nums, StatePlaces::COMPONENTS_SCALAR);
+    let d = from_cells::read(nums, StatePlaces::CHARACTERS_SCALAR);
+    from_cells::write(nums, StatePlaces::COMPONENTS_SCALAR, c - parts);
+    from_cells::write(nums, StatePlaces::CHARACTERS_SCALAR, d - chars);
 }
 
 // Takes the first components of expression `i` away: how many, their bytes and their characters.
@@ -179,10 +181,10 @@ pub fn set_plus(pool: &[u8], ends: &[u32], nums: &mut [u32], plus: bool)
     ensures { HoldsState pool.now ends.now nums.new (on_store (with_plus plus) (state_at pool.now ends.now nums.old)) }
 {
     if plus {
-        cells::write(nums, StatePlaces::PLUS_SCALAR, 1);
+        from_cells::write(nums, StatePlaces::PLUS_SCALAR, 1);
         return;
     }
-    cells::write(nums, StatePlaces::PLUS_SCALAR, 0);
+    from_cells::write(nums, StatePlaces::PLUS_SCALAR, 0);
 }
 
 // Turns H minus, unless the test was reached.
@@ -193,7 +195,7 @@ pub fn minus_unless(pool: &[u8], ends: &[u32], nums: &mut [u32], reached: bool)
     if reached {
         return;
     }
-    cells::write(nums, StatePlaces::PLUS_SCALAR, 0);
+    from_cells::write(nums, StatePlaces::PLUS_SCALAR, 0);
 }
 
 // Reads past `k` characters of input `i`.
@@ -201,6 +203,16 @@ pub fn read_past(pool: &[u8], ends: &[u32], nums: &mut [u32], i: usize, k: usize
     requires { Readable pool.now ends.now nums.old i k }
     ensures { HoldsState pool.now ends.now nums.new (on_store (past (nth I i) k) (state_at pool.now ends.now nums.old)) }
 {
-    let n = cells::read(nums, StatePlaces::FIRST_PLACE + i);
-    cells::write(nums, StatePlaces::FIRST_PLACE + i, n + k);
+    let n = from_cells::read(nums, StatePlaces::FIRST_PLACE + i);
+    from_cells::write(nums, StatePlaces::FIRST_PLACE + i, n + k);
+}
+
+// Of `language`, passed on to the crates above.
+pub mod from_language {
+    pub use store::from_language::Machine;
+}
+
+// Of `layout`, passed on to the crates above.
+pub mod from_layout {
+    pub use store::from_layout::StatePlaces;
 }

@@ -12,8 +12,8 @@ use Rattle.lists.specs.ListLaws.{T-both, all-at, total-append}
 use Rattle.lists.specs.Lists.{all, total}
 use Rattle.layout.proofs.CellLaws.{twice}
 use Rattle.layout.specs.Cells.{cell}
-use Rattle.state_frames.specs.Hexadecimal.{digit_value, is_digit, is_line, bytes_in}
-use Rattle.state_frames.specs.Frames.{sum, right_length, right_sum, sound_line}
+use Rattle.hexadecimal.specs.Below.Hexadecimal.{digit_value, is_digit, is_line, bytes_in}
+use Rattle.hexadecimal.specs.Below.Frames.{sum, right_length, right_sum, sound_line}
 use Rattle.hexadecimal.specs.Digits.{byte_of, digits_at}
 use Rattle.hexadecimal.proofs.Laws.{byte-yes, byte-under, byte-over, digits-next, length_digits, all_two, bytes-two, digits-stop, and-true, and-false}
 use Rattle.state_lines.specs.Sums.{digits_sum}

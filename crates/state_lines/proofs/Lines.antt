@@ -9,7 +9,7 @@ use lib.Seq.{drop-drop}
 use Rattle.lists.specs.Lists.{all}
 use Rattle.text_lines.specs.LineLaws.{lines-first}
 use Rattle.text_lines.specs.Lines.{lines, line_length, LineEnd}
-use Rattle.state_frames.specs.Frames.{sound_line, sound_text}
+use Rattle.hexadecimal.specs.Below.Frames.{sound_line, sound_text}
 
 -- ---- from line to line: those before `at` are sound
 

@@ -6,9 +6,9 @@ use native.Mathlib.Omega.{arith}
 use lib.ListN.{length, set, length-append}
 use Rattle.cells.proofs.Laws.{pasted-pasted, length-pasted}
 use Rattle.cells.specs.Cells.{pasted}
-use Rattle.state_frames.specs.Hexadecimal.{two_digits, hexadecimal, line}
-use Rattle.state_frames.specs.Frames.{framed, sum, check, front_bytes, frame_bytes, frame_line}
-use Rattle.state_frames.specs.Saved.{file_contents}
+use Rattle.hexadecimal.specs.Below.Hexadecimal.{two_digits, hexadecimal, line}
+use Rattle.hexadecimal.specs.Below.Frames.{framed, sum, check, front_bytes, frame_bytes, frame_line}
+use Rattle.hexadecimal.specs.Below.Saved.{file_contents}
 use Rattle.layout.specs.Cells.{two}
 use Rattle.lists.specs.ListLaws.{total-append}
 use Rattle.hexadecimal.proofs.Laws.{length-hexadecimal, hexadecimal-append, hexadecimal-one, set-one}

@@ -1,8 +1,8 @@
 -- The sum of bytes in hexadecimal.
 use Rattle.std.specs.Prelude.{cond, List, ℕ, ◌%◌}
 use Rattle.lists.specs.Lists.{all}
-use Rattle.state_frames.specs.Hexadecimal.{is_digit, bytes_in}
-use Rattle.state_frames.specs.Frames.{sum}
+use Rattle.hexadecimal.specs.Below.Hexadecimal.{is_digit, bytes_in}
+use Rattle.hexadecimal.specs.Below.Frames.{sum}
 use Rattle.hexadecimal.specs.Digits.{digits_at}
 
 -- of the first n bytes of a line, modulo 256; 256 where these are not all digits

@@ -1,12 +1,13 @@
 // Lines of frames: a frame written as a line; question 68, of one line and of a text.
 #![tactic(auto)]
+
 ghost use Rattle.std.specs.Prelude.{◌≡◌, [], ◌∷◌, ◌++◌, ◌+◌, ◌*◌, ◌-◌, ◌/◌, ◌%◌, ◌≤◌, ◌<◌, length};
 ghost use Rattle.cells.specs.Cells.{pasted, Number};
-ghost use Rattle.state_frames.specs.Hexadecimal.{two_digits, hexadecimal};
-ghost use Rattle.state_frames.specs.Frames.{framed, frame_line, sound_line, sound_text};
+ghost use Rattle.hexadecimal.specs.Below.Hexadecimal.{two_digits, hexadecimal};
+ghost use Rattle.hexadecimal.specs.Below.Frames.{framed, frame_line, sound_line, sound_text};
 ghost use Rattle.state_lines.specs.Sums.{digits_sum};
 ghost use Rattle.state_lines.specs.Writing.{FrontRoom, FrameRoom, EndRoom, LengthsRoom, FileRoom};
-ghost use Rattle.state_frames.specs.Saved.{file_contents};
+ghost use Rattle.hexadecimal.specs.Below.Saved.{file_contents};
 
 // The kinds of frames. A value of this type holds nothing.
 #[derive(Clone, Copy)]

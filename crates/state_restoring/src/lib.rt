@@ -1,5 +1,6 @@
 // The reader: a state at rest from lines of frames.
 #![tactic(auto)]
+
 ghost use Rattle.std.specs.Prelude.{◌≡◌, [], ◌∷◌, length};
 ghost use Rattle.language.specs.Limits as limit;
 ghost use Rattle.layout.specs.Memory.{state_of};
@@ -80,4 +81,9 @@ pub fn read_state(table: &[u32], i1: &[u8], i2: &[u8], text: &[u8], state: &mut 
     }
     cells::put(state, 0, &m);
     80
+}
+
+// Of `state_saving`, passed on to the crates above.
+pub mod from_state_saving {
+    pub use state_saving::write_state;
 }

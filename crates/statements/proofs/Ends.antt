@@ -12,7 +12,7 @@ use Rattle.layout.specs.Bounds.{Each}
 use Rattle.lexer.specs.Tokens.{item_of, items_from, NextToken}
 use Rattle.statements.specs.StatementAt.{statements_at, statement_at, stops, behind_end, Ended}
 use Rattle.statements.specs.StatementLaws.{first_statement, no-statement, statement-ends, statement-goes, at-stop, at_item, on}
-use Rattle.syntax.specs.Items.{Item}
+use Rattle.lexer.specs.Below.Items.{Item}
 
 -- place i is still within the statement at n
 pub record Within (s : List ℕ) (n i : ℕ) : Type 0 where

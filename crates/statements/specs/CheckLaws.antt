@@ -7,12 +7,12 @@ use Rattle.layout.specs.Bounds.{Each}
 use Rattle.lexer.specs.declared.Token.{Token}
 use Rattle.lexer.specs.Tokens.{item_of, chars_of, Stands, NextToken}
 use Rattle.lexer.proofs.Finding.{is-sort}
-use Rattle.lists.specs.Lists.{filled, keep}
+use Rattle.layout.specs.Below.Lists.{filled, keep}
 use Rattle.statements.specs.StatementAt.{statement_at, stops}
 use Rattle.statements.specs.StatementLaws.{at-stop, at_item}
-use Rattle.syntax.specs.Items.{Item, is, places}
-use Rattle.syntax.specs.Items.Sort.{text, wrong}
-use Rattle.syntax.specs.Verdict.{ask, lowest, decide, first_no}
+use Rattle.lexer.specs.Below.Items.{Item, is, places}
+use Rattle.lexer.specs.Below.Items.Sort.{text, wrong}
+use Rattle.lexer.specs.Below.SyntaxVerdict.{ask, lowest, decide, first_no}
 use Rattle.statements.specs.Checks.{clean, item_code, worst, code_verdict, token_code}
 use Rattle.statements.specs.FaultLaws.{lowest-min}
 use Rattle.statements.specs.Groups.{bad_text, too_long, item_questions}

@@ -1,12 +1,12 @@
 -- Questions 14, 15 and 16 of some items as one number, so that a reader can ask them on its way: each item has a number by the first of the questions
 -- that finds it at fault and by its place, and the lowest is that of "the first no" and of the lowest place.
 use Rattle.std.specs.Prelude.{cond, not, ◌&&◌, List, [], ◌∷◌, ℕ, ◌+◌, ◌-◌, min, eqb, ltb}
-use Rattle.language.specs.Limits as limit
+use Rattle.layout.specs.Below.Limits as limit
 use Rattle.lexer.specs.declared.Token.{Token}
-use Rattle.syntax.specs.Items.{Item, is}
-use Rattle.syntax.specs.Items.Sort.{wrong}
-use Rattle.syntax.specs.Verdict.{Verdict}
-use Rattle.syntax.specs.Verdict.Verdict.{yes, refuse}
+use Rattle.lexer.specs.Below.Items.{Item, is}
+use Rattle.lexer.specs.Below.Items.Sort.{wrong}
+use Rattle.lexer.specs.Below.SyntaxVerdict.{Verdict}
+use Rattle.lexer.specs.Below.SyntaxVerdict.Verdict.{yes, refuse}
 use Rattle.statements.specs.Groups.{bad_text, too_long}
 
 -- the number of an item that is not at fault

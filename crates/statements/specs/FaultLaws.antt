@@ -4,9 +4,9 @@ use Rattle.std.proofs.Common.{sym, ap, ◌∙◌, arith}
 use Rattle.statements.specs.StatementAt.{fault_of}
 use Rattle.statements.specs.declared.Fault.{Fault}
 use Rattle.statements.specs.declared.Fault.TheVariants.{Clear, At}
-use Rattle.syntax.proofs.LoadLaws.{lowest-append}
-use Rattle.syntax.specs.Verdict.{Question, ask, Verdict, lowest, decide, first_no}
-use Rattle.syntax.specs.Verdict.Verdict.{yes, refuse}
+use Rattle.lexer.proofs.Below.SyntaxLoadLaws.{lowest-append}
+use Rattle.lexer.specs.Below.SyntaxVerdict.{Question, ask, Verdict, lowest, decide, first_no}
+use Rattle.lexer.specs.Below.SyntaxVerdict.Verdict.{yes, refuse}
 use Rattle.statements.specs.Faults.{lower, decided, then}
 
 pub lowest-min : (a y : ℕ) (ys : List ℕ) → lowest (min a y) ys ≡ min a (lowest y ys)

@@ -2,7 +2,7 @@
 use Rattle.std.specs.Prelude.{ℕ, min}
 use Rattle.statements.specs.declared.Fault.{Fault}
 use Rattle.statements.specs.declared.Fault.TheVariants.{Clear, At}
-use Rattle.syntax.specs.Verdict as spec
+use Rattle.lexer.specs.Below.SyntaxVerdict as spec
 use Rattle.statements.specs.declared.Verdict.{Verdict}
 use Rattle.statements.specs.declared.Verdict.TheVariants.{Yes, No}
 

@@ -1,14 +1,14 @@
 -- The questions of a statement x after the draft d, in the groups in which the loader asks them: of its items, its head, its names, its arguments, and
 -- the tables.
 use Rattle.std.specs.Prelude.{Bool, cond, not, ◌&&◌, List, [], ◌∷◌, ◌++◌, ltb, length}
-use Rattle.language.specs.Limits as limit
-use Rattle.lists.specs.Lists.{filled, keep}
-use Rattle.syntax.specs.Items.{Item, is, places}
-use Rattle.syntax.specs.Items.Sort.{text, wrong}
-use Rattle.syntax.specs.Questions.{first_faults, operator_faults, label_faults, repeated, count_faults, instr_faults, switch_faults, instr_beyond, switch_beyond}
-use Rattle.syntax.specs.Statements.{by_keyword, reserved, labels_in, keyword_in}
-use Rattle.syntax.specs.Tables.{Draft, is_first, all_labels}
-use Rattle.syntax.specs.Verdict.{Question, ask}
+use Rattle.layout.specs.Below.Limits as limit
+use Rattle.layout.specs.Below.Lists.{filled, keep}
+use Rattle.lexer.specs.Below.Items.{Item, is, places}
+use Rattle.lexer.specs.Below.Items.Sort.{text, wrong}
+use Rattle.lexer.specs.Below.Questions.{first_faults, operator_faults, label_faults, repeated, count_faults, instr_faults, switch_faults, instr_beyond, switch_beyond}
+use Rattle.lexer.specs.Below.Statements.{by_keyword, reserved, labels_in, keyword_in}
+use Rattle.lexer.specs.Below.Tables.{Draft, is_first, all_labels}
+use Rattle.lexer.specs.Below.SyntaxVerdict.{Question, ask}
 
 -- 15: a text that is open, empty or of what may not stand in one. 16: an item that is too long
 abbrev pub bad_text : Item → Bool

@@ -7,3 +7,4 @@ pub mod FaultLaws
 pub mod Groups
 pub mod Checks
 pub mod CheckLaws
+pub mod Below

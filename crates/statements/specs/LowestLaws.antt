@@ -2,11 +2,11 @@
 use Rattle.std.specs.Prelude.{◌≡◌, refl, Bool, List, [], ◌∷◌, ◌++◌, ℕ, ◌≤◌, min, T, leb}
 use Rattle.std.proofs.Common.{ap, ◌∙◌, arith, leb→le}
 use Rattle.std.proofs.Math.Nat.{min-eq_left}
-use Rattle.lists.specs.Lists.{all}
-use Rattle.lists.specs.ListLaws.{T-both, all_head, all_tail}
+use Rattle.layout.specs.Below.Lists.{all}
+use Rattle.layout.specs.Below.ListLaws.{T-both, all_head, all_tail}
 use Rattle.statements.specs.declared.Fault.TheVariants.{At}
 use Rattle.statements.specs.StatementAt.{fault_of}
-use Rattle.syntax.specs.Verdict.{lowest}
+use Rattle.lexer.specs.Below.SyntaxVerdict.{lowest}
 
 -- all of these places are p or later
 abbrev pub none_before : ℕ → List ℕ → Bool

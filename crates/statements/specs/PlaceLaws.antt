@@ -1,13 +1,13 @@
 -- The places of a statement's items ascend: no item, and no colon of one, stands before the place where the reader began.
 use Rattle.std.specs.Prelude.{◌≡◌, refl, Bool, true, false, cond, ◌&&◌, List, [], ◌∷◌, ◌++◌, ℕ, ◌+◌, ◌≤◌, T, leb, eqb, get_or, take, drop}
 use Rattle.std.proofs.Common.{arith, le→leb}
-use Rattle.lists.specs.Lists.{all, head_or, if_any}
-use Rattle.lists.specs.ListLaws.{T-left, T-both, all_head, all_tail}
-use Rattle.syntax.specs.Items.{Sort, sort_of, same_sort, Item, is, places, ends_text, Mode, begins, itself, mode_after, items_at, left_over, read, attach, named, parted, statements}
-use Rattle.syntax.specs.Items.Sort.{word, colon, end}
-use Rattle.syntax.specs.Items.Stage.{first-star, inside, last-slash}
-use Rattle.syntax.specs.Items.Mode.{outside, in_word, in_comment, in_text}
-use Rattle.syntax.specs.Verdict.{lowest}
+use Rattle.layout.specs.Below.Lists.{all, head_or, if_any}
+use Rattle.layout.specs.Below.ListLaws.{T-left, T-both, all_head, all_tail}
+use Rattle.lexer.specs.Below.Items.{Sort, sort_of, same_sort, Item, is, places, ends_text, Mode, begins, itself, mode_after, items_at, left_over, read, attach, named, parted, statements}
+use Rattle.lexer.specs.Below.Items.Sort.{word, colon, end}
+use Rattle.lexer.specs.Below.Items.Stage.{first-star, inside, last-slash}
+use Rattle.lexer.specs.Below.Items.Mode.{outside, in_word, in_comment, in_text}
+use Rattle.lexer.specs.Below.SyntaxVerdict.{lowest}
 use Rattle.lexer.specs.MovedLaws.{itself-case, begins-case}
 use Rattle.lexer.specs.Tokens.{items_from}
 use Rattle.statements.specs.LowestLaws.{none_before, lowest-first}
@@ -59,7 +59,7 @@ step_from (in_comment at last-slash) p n b next h g = (tt, tt)
 step_from (in_text at star cs good) p n b next h g = go (ends_text star b) refl
   where
     marks : Bool → List Item
-    marks t = cond t [] (Rattle.syntax.specs.Items.a_mark end n ∷ [])
+    marks t = cond t [] (Rattle.lexer.specs.Below.Items.a_mark end n ∷ [])
 
     go : (t : Bool) → ends_text star b ≡ t → Step p (in_text at star cs good) n b next
     go true e =

@@ -1,10 +1,10 @@
 -- The statement that begins at a place of the text s, the place behind its end, and the places in it that are at fault.
 use Rattle.std.specs.Prelude.{◌≡◌, Bool, false, cond, ◌||◌, List, [], ◌∷◌, ℕ, ◌+◌, ◌≤◌, ◌<◌, eqb, length, drop}
 use Rattle.layout.specs.Bounds.{Each}
-use Rattle.lists.specs.Lists.{head_or}
-use Rattle.syntax.specs.Items.{Item, is, statements_from}
-use Rattle.syntax.specs.Items.Sort.{end}
-use Rattle.syntax.specs.Verdict.{lowest}
+use Rattle.layout.specs.Below.Lists.{head_or}
+use Rattle.lexer.specs.Below.Items.{Item, is, statements_from}
+use Rattle.lexer.specs.Below.Items.Sort.{end}
+use Rattle.lexer.specs.Below.SyntaxVerdict.{lowest}
 use Rattle.lexer.specs.Tokens.{items_from}
 use Rattle.statements.specs.declared.Fault.{Fault}
 use Rattle.statements.specs.declared.Fault.TheVariants.{Clear, At}

@@ -6,9 +6,9 @@ use Rattle.std.proofs.Math.Bool.{true, false}
 use Rattle.std.proofs.lemmas.Bool.{false≢true}
 use mathlib.Core.List.{List, [], ◌∷◌}
 use Rattle.std.proofs.Math.Dec.{eqb}
-use Rattle.lists.specs.Lists.{head_or}
-use Rattle.syntax.specs.Items.{Item, is, parted, statements}
-use Rattle.syntax.specs.Items.Sort.{end}
+use Rattle.layout.specs.Below.Lists.{head_or}
+use Rattle.lexer.specs.Below.Items.{Item, is, parted, statements}
+use Rattle.lexer.specs.Below.Items.Sort.{end}
 use Rattle.lexer.specs.declared.Token.{Token}
 use Rattle.lexer.specs.Tokens.{item_of, items_from, NextToken}
 use Rattle.lexer.proofs.Finding.{is-sort}

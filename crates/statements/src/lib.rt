@@ -1,13 +1,14 @@
 // A statement's items and what is at fault in them: the token that ends it, the lower of two places at fault, and the verdict that they give.
 #![tactic(auto)]
+
 ghost use Rattle.std.specs.Prelude.{◌≡◌, not, ◌&&◌, eqb, ltb, min, ◌<◌};
 ghost use Rattle.statements.specs.Checks.{token_code, code_verdict};
 ghost use Rattle.statements.specs.Faults.{lower, decided, verdict_of, then};
 ghost use Rattle.statements.specs.StatementAt.{stops};
 
-use language::Machine;
+use layout::from_language::Machine;
 use lexer::Token;
-use scanner::{END, NOTHING, TEXT, WRONG};
+use lexer::from_scanner::{END, NOTHING, TEXT, WRONG};
 
 // Questions 14, 15 and 16 of some items in one number: where those of 15 and 16 begin, and that of items without fault.
 const TEXTS: usize = 65536;

@@ -25,13 +25,13 @@ use Rattle.state.specs.Working.{state_at, HoldsState}
 use Rattle.table.specs.GoodLaws.{good-instruction}
 use Rattle.table.specs.Reads.{Place, IsArgument}
 use Rattle.table.specs.declared.Argument.{Argument}
-use Rattle.performing.specs.Stepping.{inputs, Steppable, Stepped}
-use Rattle.performing.specs.Performing.{leads, Performing, Performs}
-use Rattle.performing.specs.PerformingLaws.{stepped, stepped-stop, following, stepped-on, row_on, has-next}
-use Rattle.performing.specs.Operating.{LeadsFor}
-use Rattle.performing.specs.OperatingLaws.{operating, carrying}
+use Rattle.perform_jumps.specs.Below.Stepping.{inputs, Steppable, Stepped}
+use Rattle.perform_jumps.specs.Below.Performing.{leads, Performing, Performs}
+use Rattle.perform_jumps.specs.Below.PerformingLaws.{stepped, stepped-stop, following, stepped-on, row_on, has-next}
+use Rattle.perform_jumps.specs.Below.Operating.{LeadsFor}
+use Rattle.perform_jumps.specs.Below.OperatingLaws.{operating, carrying}
 use Rattle.perform_jumps.specs.Jumping.{Jumping}
-use Rattle.perform_moves.specs.Moving.{movers, Moving}
+use Rattle.perform_equality.specs.Below.Moving.{movers, Moving}
 use Rattle.stepping.specs.Orders.{NumbersOperator, Fetched, GoingOn, FetchedJump, FetchedMove, FetchedEquality, FetchedOf}
 use Rattle.stepping.proofs.Arguments.{some-argument}
 use Rattle.perform_files.specs.Filing.{file_operators, Filing}

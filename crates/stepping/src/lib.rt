@@ -1,13 +1,14 @@
 // One step: the next instruction is read, carried out, and followed by the one that comes next.
 #![tactic(auto)]
+
 ghost use Rattle.std.specs.Prelude.{◌≡◌, ◌≤◌, length};
 ghost use Rattle.language.specs.Instructions.{operator_of, number_of};
 ghost use Rattle.language.specs.Program.Op.{STOP};
-ghost use Rattle.performing.specs.Stepping.{Steppable, Stepped};
-ghost use Rattle.performing.specs.Performing.{leads, Performs};
-ghost use Rattle.performing.specs.Operating.{PerformsFor, LeadsFor};
+ghost use Rattle.perform_jumps.specs.Below.Stepping.{Steppable, Stepped};
+ghost use Rattle.perform_jumps.specs.Below.Performing.{leads, Performs};
+ghost use Rattle.perform_jumps.specs.Below.Operating.{PerformsFor, LeadsFor};
 ghost use Rattle.lists.specs.Lists.{among};
-ghost use Rattle.perform_moves.specs.Moving.{movers};
+ghost use Rattle.perform_equality.specs.Below.Moving.{movers};
 ghost use Rattle.stepping.specs.Orders.{NumbersOperator, Fetched, GoingOn, FetchedJump, FetchedMove, FetchedOf, FetchedEquality};
 ghost use Rattle.perform_values.specs.Valuing.{value_operators};
 ghost use Rattle.perform_equality.specs.Equating.{equality_operators};
@@ -15,6 +16,7 @@ ghost use Rattle.perform_files.specs.Filing.{file_operators};
 
 use language::Operator;
 use layout::StatePlaces;
+use perform_equality::from_perform_moves;
 
 // Whether an operator is a jump, call or return, or STOP.
 fn leading(op: u8) -> bool
@@ -86,7 +88,7 @@ fn carry_move(
     let x = table::first(table, i);
     let y = table::second(table, i);
     let z = table::third(table, i);
-    perform_moves::perform_move(
+    from_perform_moves::perform_move(
         op, table, i1, i2, pool, ends, nums, scratch, hold, given, x, y, z,
     )
 }

@@ -6,8 +6,8 @@ use Prim.Native.Nat.{ℕ, ◌+◌, ◌-◌, ◌*◌, ◌≤◌, ◌<◌}
 use native.Mathlib.Omega.{arith}
 use lib.ListN.{length, take, drop, set, length-append, length-take, length-drop}
 use lib.Seq.{take-take, drop-drop}
-use Rattle.layout.specs.Strings.{used}
-use Rattle.layout.specs.Places as layout
+use Rattle.gaps.specs.Below.Strings.{used}
+use Rattle.gaps.specs.Below.LayoutPlaces as layout
 use Rattle.gaps.specs.Pool.{lo, hi, str, abs, string, Ordered, Fine, Holds}
 use Rattle.gaps.specs.Gaps.{pushed_front, pushed_back}
 pub use Rattle.gaps.proofs.Index.{used-set}

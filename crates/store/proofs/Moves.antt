@@ -6,9 +6,9 @@ use Prim.Native.Nat.{ℕ, ◌+◌, ◌-◌, ◌≤◌, ◌<◌}
 use native.Mathlib.Omega.{arith}
 use lib.ListN.{length, take, drop, set, length-append, length-take, length-drop, length-set, take-append-drop}
 use lib.Seq.{take_all, take-append_seam, drop-append_seam, get_or-set_same, get_or-set_other, set-set, set_comm, set-get_or}
-use Rattle.cells.specs.Cells.{pasted}
-use Rattle.cells.proofs.Laws.{pasted-front}
-use Rattle.layout.specs.Strings.{used}
+use Rattle.gaps.specs.Below.Cells.{pasted}
+use Rattle.gaps.proofs.Below.CellsLaws.{pasted-front}
+use Rattle.gaps.specs.Below.Strings.{used}
 use Rattle.gaps.specs.Pool.{abs, string, Holds}
 use Rattle.gaps.specs.Gaps.{pushed_front}
 use Rattle.gaps.proofs.Parts.{same_or}

@@ -1,8 +1,8 @@
 -- The operations of the store: what each asks, and what it makes of the strings. p and e are pool and cells, i and j strings, n a count of bytes,
 -- scratch and hold the lengths of two buffers: one to lay the strings out anew, one for bytes on the way from string to string.
 use Rattle.std.specs.Prelude.{◌≡◌, List, [], ℕ, ◌+◌, ◌-◌, ◌≤◌, ◌<◌, length, take, drop, set}
-use Rattle.layout.specs.Strings.{used}
-use Rattle.layout.specs.Places as layout
+use Rattle.gaps.specs.Below.Strings.{used}
+use Rattle.gaps.specs.Below.LayoutPlaces as layout
 pub use Rattle.gaps.specs.Pool.{abs, string, Fine, Holds}
 unfoldable pub use Rattle.gaps.specs.Gaps.{pushed_front, pushed_back}
 

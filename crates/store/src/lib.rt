@@ -1,8 +1,9 @@
 // The working store of 99 strings: readers that lend, edits at both ends of a string, and moves between strings. A string costs what is
 // moved of it, whatever the others hold.
 #![tactic(auto)]
+
 ghost use Rattle.std.specs.Prelude.{◌≡◌, ◌-◌, length, take, drop};
-ghost use Rattle.cells.specs.Cells.{pasted};
+ghost use Rattle.gaps.specs.Below.Cells.{pasted};
 ghost use Rattle.gaps.specs.Pool.{abs, string, Holds};
 ghost use Rattle.gaps.specs.Gaps.{pushed_front, pushed_back};
 ghost use Rattle.store.specs.Store.{Named, Long, Whole, Within, Part, Copyable, Droppable, dropped_front, dropped_back, Pushable, Movable, moved_front, moved_front_to_back, moved_back_to_front, Exchangeable, exchanged};
@@ -12,8 +13,8 @@ pub fn len_of(pool: &[u8], ends: &[u32], i: usize) -> usize
     requires { Named pool.now ends.now i }
     ensures { Long pool.now ends.now i result }
 {
-    let a = cells::read(ends, 2 * i);
-    let b = cells::read(ends, 2 * i + 1);
+    let a = gaps::from_cells::read(ends, 2 * i);
+    let b = gaps::from_cells::read(ends, 2 * i + 1);
     b - a
 }
 
@@ -22,8 +23,8 @@ pub fn string_of<'a>(pool: &'a [u8], ends: &[u32], i: usize) -> &'a [u8]
     requires { Named pool.now ends.now i }
     ensures { Whole pool.now ends.now i result.now }
 {
-    let a = cells::read(ends, 2 * i);
-    let b = cells::read(ends, 2 * i + 1);
+    let a = gaps::from_cells::read(ends, 2 * i);
+    let b = gaps::from_cells::read(ends, 2 * i + 1);
     &pool[a..b]
 }
 
@@ -32,7 +33,7 @@ pub fn part_of<'a>(pool: &'a [u8], ends: &[u32], i: usize, at: usize, n: usize) 
     requires { Within pool.now ends.now i at n }
     ensures { Part pool.now ends.now i at n result.now }
 {
-    let a = cells::read(ends, 2 * i) + at;
+    let a = gaps::from_cells::read(ends, 2 * i) + at;
     let b = a + n;
     &pool[a..b]
 }
@@ -42,7 +43,7 @@ fn copy_out(pool: &[u8], ends: &[u32], hold: &mut [u8], i: usize, at: usize, n: 
     requires { Copyable pool.now ends.now i at n (length hold.old) }
     ensures { hold.new ≡ pasted hold.old 0 (take n (drop at (string i (abs pool.now ends.now)))) }
 {
-    cells::put(hold, 0, part_of(pool, ends, i, at, n));
+    gaps::from_cells::put(hold, 0, part_of(pool, ends, i, at, n));
 }
 
 // Takes the first `n` bytes of string `i` away.
@@ -50,8 +51,8 @@ pub fn drop_front(pool: &[u8], ends: &mut [u32], i: usize, n: usize)
     requires { Droppable pool.now ends.old i n }
     ensures { Holds pool.now ends.new (dropped_front i n (abs pool.now ends.old)) }
 {
-    let a = cells::read(ends, 2 * i);
-    cells::write(ends, 2 * i, a + n);
+    let a = gaps::from_cells::read(ends, 2 * i);
+    gaps::from_cells::write(ends, 2 * i, a + n);
 }
 
 // Takes the last `n` bytes of string `i` away.
@@ -59,8 +60,8 @@ fn drop_back(pool: &[u8], ends: &mut [u32], i: usize, n: usize)
     requires { Droppable pool.now ends.old i n }
     ensures { Holds pool.now ends.new (dropped_back i n (abs pool.now ends.old)) }
 {
-    let b = cells::read(ends, 2 * i + 1);
-    cells::write(ends, 2 * i + 1, b - n);
+    let b = gaps::from_cells::read(ends, 2 * i + 1);
+    gaps::from_cells::write(ends, 2 * i + 1, b - n);
 }
 
 // Puts `bytes` before string `i`.
@@ -152,4 +153,19 @@ pub fn exchange(
     let m = len_of(pool, ends, j);
     move_front(pool, ends, scratch, hold, i, j, n);
     move_back_to_front(pool, ends, scratch, hold, j, i, m);
+}
+
+// Of `cells`, passed on to the crates above.
+pub mod from_cells {
+    pub use gaps::from_cells::{read, write};
+}
+
+// Of `language`, passed on to the crates above.
+pub mod from_language {
+    pub use gaps::from_language::Machine;
+}
+
+// Of `layout`, passed on to the crates above.
+pub mod from_layout {
+    pub use gaps::from_layout::StatePlaces;
 }

@@ -1,2 +1,3 @@
 pub mod Switches
 pub mod SwitchLaws
+pub mod Below

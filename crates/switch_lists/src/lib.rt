@@ -1,5 +1,6 @@
 // The list of a switch: one pass over the items after its operator gives the faults of its questions, the marks of its labels and the places of its texts.
 #![tactic(auto)]
+
 ghost use Rattle.std.specs.Prelude.{◌≡◌, cond, [], ◌∷◌};
 ghost use Rattle.statements.specs.StatementAt.{fault_of};
 ghost use Rattle.statements.specs.declared.Fault.TheVariants.{At};
@@ -129,4 +130,9 @@ pub fn read_list(
         };
         i = u.next;
     }
+}
+
+// Of `arguments`, passed on to the crates above.
+pub mod from_arguments {
+    pub use arguments::read_arguments;
 }

@@ -3,8 +3,8 @@ use Rattle.std.specs.Prelude.{◌≡◌, refl, Bool, List, [], ◌∷◌, T, eqb
 use Rattle.std.proofs.Common.{subst}
 use Rattle.language.specs.Letters.{Letter, letters, letter_code}
 use Rattle.language.specs.Letters.Letter.{A, B, C, D, E, I, N, P, Q, T as letter-T, Y, Z}
-use Rattle.lists.specs.Lists.{all, head_or, keep}
-use Rattle.lists.specs.ListLaws.{all_head, all_keep}
+use Rattle.language.specs.Below.Lists.{all, head_or, keep}
+use Rattle.language.specs.Below.ListLaws.{all_head, all_keep}
 use Rattle.syntax.specs.ArgumentForms.{letter_of}
 
 pub letter_of-code : (l : Letter) → letter_of (letter_code l) ≡ l

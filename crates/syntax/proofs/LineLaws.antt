@@ -2,7 +2,7 @@
 use Rattle.std.specs.Prelude.{◌≡◌, refl, List, [], ◌∷◌, map, ℕ, zero, suc, ◌+◌, ◌≤◌, ◌<◌, eqb, length, get_or, take}
 use Rattle.std.proofs.Common.{ap, ◌∙◌, not-suc-le-zero, le_of_suc-le-suc, arith, length-take}
 use Rattle.std.proofs.lemmas.List.{length-map}
-use Rattle.lists.specs.ListLaws.{keep-few}
+use Rattle.language.specs.Below.ListLaws.{keep-few}
 use Rattle.language.specs.Limits as limit
 use Rattle.syntax.specs.Items.{line_of, up_from, lines_of}
 use Rattle.syntax.specs.Load.{Lined}

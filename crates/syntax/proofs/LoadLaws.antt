@@ -2,8 +2,8 @@
 use Rattle.std.specs.Prelude.{◌≡◌, refl, Bool, true, false, List, [], ◌∷◌, ◌++◌, ℕ, min, T}
 use Rattle.std.proofs.Common.{subst, arith}
 use Rattle.language.specs.Values.{chars}
-use Rattle.lists.specs.Lists.{all, among, if_any}
-use Rattle.lists.specs.ListLaws.{T-left, T-right}
+use Rattle.language.specs.Below.Lists.{all, among, if_any}
+use Rattle.language.specs.Below.ListLaws.{T-left, T-right}
 use Rattle.syntax.specs.Items.{Sort, Item, is, a_word, a_mark, attach, named}
 use Rattle.syntax.specs.Items.Sort.{separator, word, colon, end, text, wrong}
 use Rattle.syntax.specs.Verdict.{Question, ask, lowest, decide, first_no}

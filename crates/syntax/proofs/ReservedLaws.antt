@@ -3,9 +3,9 @@
 use Rattle.std.specs.Prelude.{◌≡◌, refl, Bool, true, false, not, ◌||◌, List, [], ◌∷◌, ◌++◌, map, ℕ, suc, T, length, get_or, take, drop}
 use Rattle.std.proofs.Common.{ap, sym, ◌∙◌, arith}
 use Prim.Native.String.{String}
-use Rattle.lists.specs.Lists.{all, any, ahead, keep, bytes_equal}
-use Rattle.lists.specs.ListLaws.{all_head, all_tail}
-use Rattle.lists.specs.Quoted.{bytes}
+use Rattle.language.specs.Below.Lists.{all, any, ahead, keep, bytes_equal}
+use Rattle.language.specs.Below.ListLaws.{all_head, all_tail}
+use Rattle.language.specs.Below.Quoted.{bytes}
 use Rattle.syntax.specs.Items.{Item, is, places}
 use Rattle.syntax.specs.Items.Sort.{word}
 use Rattle.syntax.proofs.LoadLaws.{decides}

@@ -6,8 +6,8 @@ use Rattle.language.specs.Letters.{Letter, letters, letter_code, indices, use_of
 use Rattle.language.specs.Letters.Letter.{A}
 use Rattle.language.specs.Program.{identifier, Op}
 use Rattle.language.specs.Values.{amount, unsigned, numeral, value_of, in_range}
-use Rattle.lists.specs.Lists.{all, any, filled, head_or, keep, bytes_equal, among}
-use Rattle.lists.specs.Quoted.{bytes}
+use Rattle.language.specs.Below.Lists.{all, any, filled, head_or, keep, bytes_equal, among}
+use Rattle.language.specs.Below.Quoted.{bytes}
 use Rattle.syntax.specs.Items.{Item, is}
 use Rattle.syntax.specs.Items.Sort.{colon, text}
 

@@ -3,7 +3,7 @@ use Rattle.std.specs.Prelude.{Bool, true, false, cond, not, ◌&&◌, List, [], 
 use Rattle.std.specs.Bool.{beq}
 use Prim.Native.String.{String}
 use Rattle.language.specs.Instructions.{operation, is_end}
-use Rattle.lists.specs.Lists.{any, filled, keep, each, bytes_equal}
+use Rattle.language.specs.Below.Lists.{any, filled, keep, each, bytes_equal}
 use Rattle.syntax.specs.ArgumentForms.{of_form}
 use Rattle.syntax.specs.Items.{Item, is, places}
 use Rattle.syntax.specs.Items.Sort.{word}

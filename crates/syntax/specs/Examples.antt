@@ -1,6 +1,6 @@
 -- Load of texts as they stand, computed at a few.
 use Rattle.std.specs.Prelude.{◌≡◌, refl, true, [], ◌∷◌}
-use Rattle.lists.specs.Quoted.{bytes}
+use Rattle.language.specs.Below.Quoted.{bytes}
 use Rattle.language.specs.Letters.{Letter}
 use Rattle.language.specs.Program.{Arg, Op}
 use Rattle.syntax.specs.Load.{load_typed, opened}

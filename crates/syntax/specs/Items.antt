@@ -1,8 +1,8 @@
 -- From bytes to items, and from items to statements ("What a program may hold").
 use Rattle.std.specs.Prelude.{Bool, true, false, cond, not, ◌&&◌, ◌||◌, List, [], ◌∷◌, ◌++◌, map, ℕ, suc, ◌+◌, eqb, length, get_or, take, drop}
-use Rattle.characters.specs.Characters.{known, is_capital, is_digit}
-use Rattle.lists.specs.Lists.{any, ahead, head_or, if_any, keep, among}
-use Rattle.lists.specs.Quoted.{bytes}
+use Rattle.language.specs.Below.Characters.{known, is_capital, is_digit}
+use Rattle.language.specs.Below.Lists.{any, ahead, head_or, if_any, keep, among}
+use Rattle.language.specs.Below.Quoted.{bytes}
 
 -- What a byte begins outside texts and comments: "only A to Z, 0 to 9, space , : ; ' + - and new line". An item has the sort of its first byte
 pub data Sort : Type 0 where

@@ -14,3 +14,4 @@ pub mod Sample
 pub mod Examples
 pub mod Scan
 pub mod SmallLetters
+pub mod Below

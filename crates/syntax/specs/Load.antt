@@ -1,10 +1,10 @@
 -- Load: the questions in order, and the program of an accepted text.
 use Rattle.std.specs.Prelude.{cond, List, [], ◌∷◌, map, ℕ, ◌≤◌, ◌<◌, get_or, drop}
 use Rattle.language.specs.Limits as limit
-use Rattle.characters.specs.Characters.{known}
+use Rattle.language.specs.Below.Characters.{known}
 use Rattle.language.specs.Program.{Arg, classes, Instr, Program}
 use Rattle.language.specs.Values.{amount, value_of}
-use Rattle.lists.specs.Lists.{ahead, head_or, bytes_equal}
+use Rattle.language.specs.Below.Lists.{ahead, head_or, bytes_equal}
 use Rattle.syntax.specs.ArgumentForms.{form_in, is_index, letter_of, word_reads, reads, Argument, accepting, read_by}
 use Rattle.syntax.specs.Ending.{last_place, end_faults, undeclared_labels, undeclared_switches, last_questions}
 use Rattle.syntax.specs.Items.{sort_of, Item, ends_text, takes_next, char_of, allows, begins, itself, mode_after, items_at, left_over, read, attach, named, parted, statements, statements_from, line_of, up_from, lines_of, line_at}

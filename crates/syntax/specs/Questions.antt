@@ -2,7 +2,7 @@
 use Rattle.std.specs.Prelude.{Bool, false, cond, not, ◌&&◌, ◌||◌, List, [], ◌∷◌, ◌++◌, ℕ, ◌-◌, ltb, length, drop}
 use Rattle.language.specs.Limits as limit
 use Rattle.language.specs.Program.{identifier, Op}
-use Rattle.lists.specs.Lists.{any, filled, keep, each, bytes_equal}
+use Rattle.language.specs.Below.Lists.{any, filled, keep, each, bytes_equal}
 use Rattle.syntax.specs.ArgumentForms.{arguments_in, arguments, of_form, most, least}
 use Rattle.syntax.specs.Items.{Item, is, places}
 use Rattle.syntax.specs.Items.Sort.{word, colon, text, wrong}

@@ -4,7 +4,7 @@ use Rattle.language.specs.Letters.Letter.{A, Q}
 use Rattle.language.specs.Program.{Program}
 use Rattle.language.specs.Program.Arg.{nothing, letter, text}
 use Rattle.language.specs.Program.Op.{PISZ, UMIESC, STOP}
-use Rattle.lists.specs.Quoted.{bytes}
+use Rattle.language.specs.Below.Quoted.{bytes}
 
 abbrev pub sample_text : List ℕ
 sample_text = bytes "SEKCJA S\nUMIESC 'AB',A1\nPISZ A1,Q1\nSTOP\nKONS\nKONP S\n"

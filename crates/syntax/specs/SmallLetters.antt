@@ -1,10 +1,10 @@
 -- Laws of the small letters in a text, each by one computed test: "The 26 small letters become characters in data and texts .. Operators and labels
 -- stay in capitals."
 use Rattle.std.specs.Prelude.{Bool, true, false, not, ◌||◌, List, [], ◌∷◌, ℕ, ◌+◌, ◌<◌, T}
-use Rattle.lists.specs.Lists.{all, among}
-use Rattle.lists.specs.ListLaws.{T-left, T-right, all_cons, all_among}
-use Rattle.lists.specs.TableLaws.{below}
-use Rattle.characters.specs.Characters.{known, is_capital, is_digit}
+use Rattle.language.specs.Below.Lists.{all, among}
+use Rattle.language.specs.Below.ListLaws.{T-left, T-right, all_cons, all_among}
+use Rattle.language.specs.Below.ListsTableLaws.{below}
+use Rattle.language.specs.Below.Characters.{known, is_capital, is_digit}
 use Rattle.language.specs.Program.{identifier}
 use Rattle.syntax.specs.Items.{sort_of, same_sort, allows}
 use Rattle.syntax.specs.Items.Sort.{wrong}

@@ -3,8 +3,8 @@ use Rattle.std.specs.Prelude.{Bool, true, false, cond, not, ◌&&◌, ◌||◌, 
 use Prim.Native.String.{String}
 use Rattle.language.specs.Instructions.{operation, operators}
 use Rattle.language.specs.Program.{identifier, Op, Entry}
-use Rattle.lists.specs.Lists.{ahead, any, filled, if_any, keep, bytes_equal}
-use Rattle.lists.specs.Quoted.{bytes}
+use Rattle.language.specs.Below.Lists.{ahead, any, filled, if_any, keep, bytes_equal}
+use Rattle.language.specs.Below.Quoted.{bytes}
 use Rattle.syntax.specs.Items.{Item, is, places}
 use Rattle.syntax.specs.Items.Sort.{word, colon, text}
 

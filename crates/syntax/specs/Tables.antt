@@ -4,7 +4,7 @@ use Rattle.std.specs.Prelude.{Bool, false, cond, not, ◌&&◌, ◌||◌, List, 
 use Rattle.language.specs.Limits as limit
 use Rattle.language.specs.Program.{Op, Label}
 use Rattle.language.specs.Values.{same_number, numeral, value_of}
-use Rattle.lists.specs.Lists.{any, filled, head_or, keep, bytes_equal}
+use Rattle.language.specs.Below.Lists.{any, filled, head_or, keep, bytes_equal}
 use Rattle.syntax.specs.ArgumentForms.{Argument, arguments}
 use Rattle.syntax.specs.Items.{Item, is, places}
 use Rattle.syntax.specs.Items.Sort.{word, text}

@@ -1,2 +1,12 @@
 // The loader's specification: from a text to its program or its refusal; no code.
 #![tactic(auto)]
+
+// Of `characters`, passed on to the crates above.
+pub mod from_characters {
+    pub use language::from_characters::{MARKS, is_capital, is_digit, is_known};
+}
+
+// Of `language`, passed on to the crates above.
+pub mod from_language {
+    pub use language::Machine;
+}

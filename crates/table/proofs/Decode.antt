@@ -7,12 +7,12 @@ use native.Mathlib.Omega.{arith}
 use lib.ListN.{get_or, get_or-eq_default, length-take}
 use lib.Seq.{get_or-take}
 use borrow.Author.Tests.{lt-ltb, le-ltb, ne_eqb}
-use Rattle.language.specs.Letters as letters
-use Rattle.language.specs.Program.{Arg}
-use Rattle.language.specs.Program.Arg.{nothing, letter, label, switch, class, text}
-use Rattle.layout.specs.Cells.{cell, uncode}
-use Rattle.layout.specs.Table.{arg_in, arg_by, class_by, text_by, number_by}
-use Rattle.layout.specs.Places as layout
+use Rattle.packed.specs.Below.Letters as letters
+use Rattle.packed.specs.Below.Program.{Arg}
+use Rattle.packed.specs.Below.Program.Arg.{nothing, letter, label, switch, class, text}
+use Rattle.packed.specs.Below.LayoutCells.{cell, uncode}
+use Rattle.packed.specs.Below.Table.{arg_in, arg_by, class_by, text_by, number_by}
+use Rattle.packed.specs.Below.LayoutPlaces as layout
 use Rattle.packed.specs.Packed.{table_of}
 use Rattle.table.specs.Denote.{letter_of, letter_at}
 use Rattle.table.specs.Reads.{IsArgument}

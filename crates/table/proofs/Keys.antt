@@ -9,13 +9,13 @@ use lib.Dec.{T, eqb}
 use lib.ListN.{length, get_or, drop, drop_of_length-le}
 use lib.Seq.{drop-cons}
 use borrow.Author.Tests.{eq-eqb, ne_eqb, lt-ltb, le-ltb}
-use Rattle.lists.specs.Lists.{ahead, filled, bytes_equal}
-use Rattle.lists.specs.ListLaws.{other_length}
-use Rattle.language.specs.Program.{Label, Entry, no_entry, label_at, meets}
-use Rattle.layout.proofs.CellLaws.{length-tab, get_d-tab}
-use Rattle.layout.specs.Cells.{cell}
-use Rattle.layout.specs.Table.{chars_in, text_in, text_by, label_in, entry_in, program_of}
-use Rattle.layout.specs.Places as layout
+use Rattle.packed.specs.Below.Lists.{ahead, filled, bytes_equal}
+use Rattle.packed.specs.Below.ListLaws.{other_length}
+use Rattle.packed.specs.Below.Program.{Label, Entry, no_entry, label_at, meets}
+use Rattle.packed.proofs.Below.LayoutCellLaws.{length-tab, get_d-tab}
+use Rattle.packed.specs.Below.LayoutCells.{cell}
+use Rattle.packed.specs.Below.Table.{chars_in, text_in, text_by, label_in, entry_in, program_of}
+use Rattle.packed.specs.Below.LayoutPlaces as layout
 use Rattle.packed.specs.Packed.{table_of, Copied}
 use Rattle.packed.proofs.Bytes.{and-true}
 use Rattle.table.specs.Reads.{Keyed, entries_from, met}

@@ -4,7 +4,7 @@ use mathlib.Core.List.{List, [], ◌∷◌}
 use mathlib.Core.Logic.{inl, inr}
 use Prim.Native.Nat.{ℕ}
 use types.Run.{OneOf}
-use Rattle.layout.specs.Bounds.{Each}
+use Rattle.packed.specs.Below.LayoutBounds.{Each}
 use Rattle.table.specs.LetterLaws.{nth_letter, Given, given}
 use Rattle.table.specs.declared.Letter.{Letter}
 use Rattle.table.specs.declared.Letter.TheVariants.{A, B, C, D, E, I, N, P, Q, T, Y, Z}

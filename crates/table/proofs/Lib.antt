@@ -1,3 +1,4 @@
 pub mod Decode
 pub mod Keys
 pub mod Letters
+pub mod Below

@@ -1,11 +1,11 @@
 -- What the enums of the program table stand for: a letter, and an argument of the program that the cells c read as.
 use Rattle.std.specs.Prelude.{cond, ◌||◌, List, ℕ, eqb, get_or}
-use Rattle.characters.specs.Characters.{is_capital}
-use Rattle.language.specs.Letters as letters
-use Rattle.language.specs.Program.{Arg}
-use Rattle.language.specs.Program.Arg.{nothing, letter, label, switch, class, text}
-use Rattle.layout.specs.Cells.{uncode}
-use Rattle.layout.specs.Table.{class_by, text_by}
+use Rattle.packed.specs.Below.Characters.{is_capital}
+use Rattle.packed.specs.Below.Letters as letters
+use Rattle.packed.specs.Below.Program.{Arg}
+use Rattle.packed.specs.Below.Program.Arg.{nothing, letter, label, switch, class, text}
+use Rattle.packed.specs.Below.LayoutCells.{uncode}
+use Rattle.packed.specs.Below.Table.{class_by, text_by}
 use Rattle.table.specs.declared.Letter.{Letter}
 use Rattle.table.specs.declared.Letter.TheVariants.{A, B, C, D, E, I, N, P, Q, T, Y, Z}
 use Rattle.table.specs.declared.Argument.{Argument}

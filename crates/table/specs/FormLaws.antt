@@ -3,15 +3,15 @@ use Rattle.std.specs.Prelude.{◌≡◌, refl, Bool, true, false, cond, ◌&&◌
 use Rattle.std.proofs.Common.{sym, inl, inr, eqb→eq, eqb-true, eq-eqb}
 use Rattle.std.proofs.Math.Path.{subst}
 use Rattle.std.proofs.Math.Dec.{T}
-use Rattle.lists.specs.Lists.{all, any, among}
-use Rattle.lists.specs.ListLaws.{T-left, T-right, all_among}
-use Rattle.lists.specs.Quoted.{bytes}
-use Rattle.characters.specs.Characters.{is_capital}
-use Rattle.language.specs.Instructions.{Forms, operation}
-use Rattle.language.specs.Letters.{letter_code}
-use Rattle.language.specs.Program.{Instr, Op, Program, switch_at}
-use Rattle.machine.specs.WellFormed.{form, listed}
-use Rattle.layout.proofs.ArgumentLaws.{T-or}
+use Rattle.packed.specs.Below.Lists.{all, any, among}
+use Rattle.packed.specs.Below.ListLaws.{T-left, T-right, all_among}
+use Rattle.packed.specs.Below.Quoted.{bytes}
+use Rattle.packed.specs.Below.Characters.{is_capital}
+use Rattle.packed.specs.Below.Instructions.{Forms, operation}
+use Rattle.packed.specs.Below.Letters.{letter_code}
+use Rattle.packed.specs.Below.Program.{Instr, Op, Program, switch_at}
+use Rattle.packed.specs.Below.WellFormed.{form, listed}
+use Rattle.packed.proofs.Below.LayoutArgumentLaws.{T-or}
 use Rattle.table.specs.Denote.{letter_of, arg_of, kind, kind_of_form}
 use Rattle.table.specs.Good.{Formed}
 use Rattle.table.specs.LetterLaws.{every-letter}

@@ -1,15 +1,15 @@
 -- What a well-formed table says of what is read from it.
 use Rattle.std.specs.Prelude.{◌≡◌, List, ℕ, ◌≤◌, ◌<◌, T, length}
-use Rattle.lists.specs.Lists.{all, among}
-use Rattle.lists.specs.Quoted.{bytes}
-use Rattle.characters.specs.Characters.{known}
-use Rattle.language.specs.Instructions.{Forms, operation, operator_of}
-use Rattle.language.specs.Letters.{indices, use_of}
-use Rattle.language.specs.Program.{Arg, Instr, Program, instr_at, label_at, switch_at}
-use Rattle.machine.specs.Facts.{InstrFacts}
-use Rattle.machine.specs.WellFormed.{form}
-use Rattle.layout.specs.Cells.{cell}
-use Rattle.layout.specs.Table.{text_by, instr_in, label_in, switch_in, program_of}
+use Rattle.packed.specs.Below.Lists.{all, among}
+use Rattle.packed.specs.Below.Quoted.{bytes}
+use Rattle.packed.specs.Below.Characters.{known}
+use Rattle.packed.specs.Below.Instructions.{Forms, operation, operator_of}
+use Rattle.packed.specs.Below.Letters.{indices, use_of}
+use Rattle.packed.specs.Below.Program.{Arg, Instr, Program, instr_at, label_at, switch_at}
+use Rattle.packed.specs.Below.Facts.{InstrFacts}
+use Rattle.packed.specs.Below.WellFormed.{form}
+use Rattle.packed.specs.Below.LayoutCells.{cell}
+use Rattle.packed.specs.Below.Table.{text_by, instr_in, label_in, switch_in, program_of}
 use Rattle.packed.specs.Packed.{table_of}
 use Rattle.table.specs.Denote.{letter_of, arg_of}
 use Rattle.table.specs.Reads.{switch_first, switch_size, Entries}

@@ -1,25 +1,25 @@
 -- From a table that is well formed (question 62) to what its readers' callers use.
 use Rattle.std.specs.Prelude.{◌≡◌, refl, Bool, true, false, cond, not, ◌&&◌, List, [], ◌∷◌, ℕ, zero, suc, ◌+◌, ◌-◌, ◌*◌, ◌/◌, ◌%◌, ◌≤◌, ◌<◌, T, leb, ltb, length, get_or, take, pos, negsuc}
 use Rattle.std.proofs.Common.{sym, ap, ◌∙◌, subst, arith, leb→le, ltb→lt, leb-false}
-use Rattle.lists.specs.Lists.{total, all, filled, bytes_equal}
-use Rattle.lists.specs.ListLaws.{T-left, T-right, all-at}
-use Rattle.characters.specs.Characters.{known}
-use Rattle.language.specs.Limits as limit
-use Rattle.language.specs.Instructions.{operation, operator_of}
-use Rattle.language.specs.Letters.{indices, use_of}
-use Rattle.language.specs.Program.{Arg, Instr, Label as LabelOf, Switch as SwitchOf, Entry, Program, no_instr, no_label, no_switch, no_entry, classes, instr_at, label_at, switch_at, target_of}
-use Rattle.language.specs.Program.Arg.{label, switch, class, text}
-use Rattle.language.specs.Values.{in_range}
-use Rattle.machine.specs.Facts.{InstrFacts, LabelFacts}
-use Rattle.machine.specs.WellFormed.{good_word, good_text, kept_text, kept_number, ranged, good_entry, good_switch}
-use Rattle.layout.proofs.ArgumentLaws.{T-or, operator-back, operator-range, index-most, text_ref-below}
-use Rattle.layout.specs.Bounds.{ProgramOk, EntryOk, Tabled}
-use Rattle.layout.proofs.CellLaws.{each_in, each_within, each-most, get_d-each, length-tab, get_d-tab}
-use Rattle.layout.specs.Cells.{cell, uncode}
-use Rattle.layout.proofs.ProgramLaws.{program-ok}
-use Rattle.layout.specs.Table.{text_ref, arg_cell, instr_cells, switch_cell, entry_cell, all_entries, table_cells, text_by, class_by, arg_in, label_in, entry_in, switch_in, program_of, good_table}
-use Rattle.layout.proofs.TableLaws.{table-facts, instr_at-cell, arg-at-cell, entry-at-cell, switch_at-cell, switch-parts}
-use Rattle.layout.specs.Places as layout
+use Rattle.packed.specs.Below.Lists.{total, all, filled, bytes_equal}
+use Rattle.packed.specs.Below.ListLaws.{T-left, T-right, all-at}
+use Rattle.packed.specs.Below.Characters.{known}
+use Rattle.packed.specs.Below.Limits as limit
+use Rattle.packed.specs.Below.Instructions.{operation, operator_of}
+use Rattle.packed.specs.Below.Letters.{indices, use_of}
+use Rattle.packed.specs.Below.Program.{Arg, Instr, Label as LabelOf, Switch as SwitchOf, Entry, Program, no_instr, no_label, no_switch, no_entry, classes, instr_at, label_at, switch_at, target_of}
+use Rattle.packed.specs.Below.Program.Arg.{label, switch, class, text}
+use Rattle.packed.specs.Below.LanguageValues.{in_range}
+use Rattle.packed.specs.Below.Facts.{InstrFacts, LabelFacts}
+use Rattle.packed.specs.Below.WellFormed.{good_word, good_text, kept_text, kept_number, ranged, good_entry, good_switch}
+use Rattle.packed.proofs.Below.LayoutArgumentLaws.{T-or, operator-back, operator-range, index-most, text_ref-below}
+use Rattle.packed.specs.Below.LayoutBounds.{ProgramOk, EntryOk, Tabled}
+use Rattle.packed.proofs.Below.LayoutCellLaws.{each_in, each_within, each-most, get_d-each, length-tab, get_d-tab}
+use Rattle.packed.specs.Below.LayoutCells.{cell, uncode}
+use Rattle.packed.proofs.Below.LayoutProgramLaws.{program-ok}
+use Rattle.packed.specs.Below.Table.{text_ref, arg_cell, instr_cells, switch_cell, entry_cell, all_entries, table_cells, text_by, class_by, arg_in, label_in, entry_in, switch_in, program_of, good_table}
+use Rattle.packed.proofs.Below.TableLaws.{table-facts, instr_at-cell, arg-at-cell, entry-at-cell, switch_at-cell, switch-parts}
+use Rattle.packed.specs.Below.LayoutPlaces as layout
 use Rattle.packed.specs.Packed.{table_of}
 use Rattle.table.specs.Denote.{letter_of, arg_of}
 use Rattle.table.specs.Good.{GoodIndex, GoodLabel, GoodSwitch, GoodText, GoodArgument, GoodInstruction}

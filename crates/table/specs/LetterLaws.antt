@@ -1,14 +1,14 @@
 -- Laws of the twelve letters: what all of them pass by one computed test, and what holds of those whose bytes are in a list.
 use Rattle.std.specs.Prelude.{◌≡◌, refl, Bool, true, false, cond, ◌||◌, List, [], ◌∷◌, ℕ, T, eqb, get_or}
 use Rattle.std.proofs.Common.{sym, subst, arith, eqb-true}
-use Rattle.lists.specs.Lists.{ahead, among, keep}
-use Rattle.lists.specs.TableLaws.{up_to, below}
-use Rattle.characters.specs.Characters.{is_capital}
-use Rattle.language.specs.Letters as letters
-use Rattle.language.specs.Letters.{letter_code}
-use Rattle.layout.proofs.ArgumentLaws.{letter-most}
-use Rattle.layout.specs.Bounds.{Each}
-use Rattle.layout.specs.Table.{letter_place}
+use Rattle.packed.specs.Below.Lists.{ahead, among, keep}
+use Rattle.packed.specs.Below.ListsTableLaws.{up_to, below}
+use Rattle.packed.specs.Below.Characters.{is_capital}
+use Rattle.packed.specs.Below.Letters as letters
+use Rattle.packed.specs.Below.Letters.{letter_code}
+use Rattle.packed.proofs.Below.LayoutArgumentLaws.{letter-most}
+use Rattle.packed.specs.Below.LayoutBounds.{Each}
+use Rattle.packed.specs.Below.Table.{letter_place}
 use Rattle.table.specs.Denote.{letter_of}
 use Rattle.table.specs.declared.Letter.{Letter}
 use Rattle.table.specs.declared.Letter.TheVariants.{A, B, C, D, E, I, N, P, Q, T as T-letter, Y, Z}

@@ -6,3 +6,4 @@ pub mod GoodLaws
 pub mod LetterLaws
 pub mod FormLaws
 pub mod MetLaws
+pub mod Below

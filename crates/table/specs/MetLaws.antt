@@ -2,7 +2,7 @@
 use Rattle.std.specs.Prelude.{◌≡◌, refl, Bool, true, false, cond, List, [], ◌∷◌, ℕ, suc, ltb, length, get_or}
 use Rattle.std.proofs.Common.{◌∙◌, arith, lt-ltb}
 use Rattle.std.proofs.Math.Dec.{leb-suc-suc}
-use Rattle.lists.specs.Lists.{ahead, filled, if_any, keep}
+use Rattle.packed.specs.Below.Lists.{ahead, filled, if_any, keep}
 
 module _ {X : Type 0} (q : X → Bool) (d : X) where
   -- whether one passes the test, and the first that does

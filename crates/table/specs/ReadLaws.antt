@@ -1,9 +1,9 @@
 -- The program of a lent table, part by part: what stands in its lists is what the readers read.
 use Rattle.std.specs.Prelude.{◌≡◌, List, ℕ, ◌<◌, length}
-use Rattle.language.specs.Program.{no_instr, no_label, no_switch, instr_at, label_at, switch_at}
-use Rattle.layout.proofs.CellLaws.{length-tab, get_d-tab}
-use Rattle.layout.specs.Cells.{cell}
-use Rattle.layout.specs.Table.{instr_in, label_in, switch_in, program_in, program_of}
+use Rattle.packed.specs.Below.Program.{no_instr, no_label, no_switch, instr_at, label_at, switch_at}
+use Rattle.packed.proofs.Below.LayoutCellLaws.{length-tab, get_d-tab}
+use Rattle.packed.specs.Below.LayoutCells.{cell}
+use Rattle.packed.specs.Below.Table.{instr_in, label_in, switch_in, program_in, program_of}
 use Rattle.packed.specs.Packed.{table_of}
 
 module _ (c : List ℕ) where

@@ -1,11 +1,11 @@
 -- What the readers of a program table ask and promise.
 use Rattle.std.specs.Prelude.{◌≡◌, List, ℕ, ◌+◌, ◌/◌, ◌%◌, ◌≤◌, ◌<◌, T, length}
-use Rattle.lists.specs.Lists.{ahead, filled}
-use Rattle.language.specs.Limits as limit
-use Rattle.language.specs.Program.{Entry, meets}
-use Rattle.layout.specs.Cells.{cell, tab}
-use Rattle.layout.specs.Table.{text_by, arg_in, entry_in, program_of}
-use Rattle.layout.specs.Places as layout
+use Rattle.packed.specs.Below.Lists.{ahead, filled}
+use Rattle.packed.specs.Below.Limits as limit
+use Rattle.packed.specs.Below.Program.{Entry, meets}
+use Rattle.packed.specs.Below.LayoutCells.{cell, tab}
+use Rattle.packed.specs.Below.Table.{text_by, arg_in, entry_in, program_of}
+use Rattle.packed.specs.Below.LayoutPlaces as layout
 use Rattle.packed.specs.Packed.{table_of}
 use Rattle.table.specs.Denote.{arg_of}
 use Rattle.table.specs.declared.Argument.{Argument}

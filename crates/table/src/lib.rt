@@ -1,19 +1,21 @@
 // Reading a program table, "a table of 8,192 numbers of 32 bits": the only code that reads its cells. docs/LAYOUT.md has their places.
 #![tactic(auto)]
+
 ghost use Rattle.std.specs.Prelude.{◌≡◌, [], ◌∷◌, ◌+◌, ◌*◌, ◌%◌, ◌≤◌, ◌<◌, length};
-ghost use Rattle.lists.specs.Lists.{bytes_equal};
-ghost use Rattle.language.specs.Program.{meets};
-ghost use Rattle.cells.specs.Cells.{Number};
-ghost use Rattle.layout.specs.Cells.{cell, uncode};
-ghost use Rattle.layout.specs.Table.{number_by, text_by, instr_in, label_in, switch_in, entry_in, program_of};
+ghost use Rattle.packed.specs.Below.Lists.{bytes_equal};
+ghost use Rattle.packed.specs.Below.Program.{meets};
+ghost use Rattle.packed.specs.Below.Cells.{Number};
+ghost use Rattle.packed.specs.Below.LayoutCells.{cell, uncode};
+ghost use Rattle.packed.specs.Below.Table.{number_by, text_by, instr_in, label_in, switch_in, entry_in, program_of};
 ghost use Rattle.packed.specs.Packed.{table_of, Copied};
 ghost use Rattle.table.specs.Denote.{letter_of, letter_at};
 ghost use Rattle.table.specs.Reads.{Place, IsArgument, Into, switch_first, switch_size, entry_ref, Keyed, Entries, entries_from, met};
-ghost use Rattle.language.specs.Limits as limit;
-ghost use Rattle.layout.specs.Places.{instruction_count, label_count, switch_count, entry_count, text_count, number_count, first_instruction};
+ghost use Rattle.packed.specs.Below.Limits as limit;
+ghost use Rattle.packed.specs.Below.LayoutPlaces.{instruction_count, label_count, switch_count, entry_count, text_count, number_count, first_instruction};
 
-use language::Machine;
-use layout::TablePlaces;
+use packed::from_cells;
+use packed::from_language::Machine;
+use packed::from_layout::TablePlaces;
 
 #[derive(Clone, Copy)]
 pub enum Letter {
@@ -141,7 +143,7 @@ fn read(table: &[u32], k: usize) -> usize
     requires { Place table.now k limit.table }
     ensures { Number (cell (table_of table.now) k) 4294967296 result }
 {
-    cells::read(table, k)
+    from_cells::read(table, k)
 }
 
 // How many instructions, labels, switches, entries, texts and numbers the program has.

@@ -3,13 +3,13 @@ use mathlib.Core.Path.{◌≡◌, refl, sym, ◌∙◌}
 use mathlib.Core.Bool.{Bool, true, false, ◌&&◌}
 use mathlib.Core.List.{List}
 use Prim.Native.Nat.{ℕ}
-use Rattle.language.specs.Letters.{use_of}
-use Rattle.language.specs.Program.{Arg}
-use Rattle.language.specs.Program.Arg.{nothing, letter, label, switch, class, text}
-use Rattle.language.specs.Values.{Store, Inputs}
-use Rattle.machine.specs.Arguments.{Asks, is_one, is_count, ask, when, ◌&◌, test_asks}
-use Rattle.machine.specs.Effects.Go.{on}
-use Rattle.state.specs.Working.{state_at, Stands}
+use Rattle.matching.specs.Below.Letters.{use_of}
+use Rattle.matching.specs.Below.Program.{Arg}
+use Rattle.matching.specs.Below.Program.Arg.{nothing, letter, label, switch, class, text}
+use Rattle.matching.specs.Below.LanguageValues.{Store, Inputs}
+use Rattle.matching.specs.Below.MachineArguments.{Asks, is_one, is_count, ask, when, ◌&◌, test_asks}
+use Rattle.matching.specs.Below.Effects.Go.{on}
+use Rattle.instructions.specs.Below.Working.{state_at, Stands}
 use Rattle.instructions.specs.Does.{Does, Quiet, Tried}
 use Rattle.instructions.proofs.Answers.{stop_by, unstopped, quiet-stop, quiet-tried}
 use Rattle.instructions.proofs.Storing.{quiet_none}

@@ -9,29 +9,29 @@ use lib.ListN.{length, take, drop, length-take, length-append}
 use lib.Seq.{take_at}
 use borrow.Author.Tests.{le-leb, lt-leb, ne_eqb}
 use Rattle.lists.specs.Lists.{any}
-use Rattle.language.specs.Letters.Letter.{B, E, N, T}
-use Rattle.language.specs.Program.{Arg}
-use Rattle.language.specs.Program.Arg.{nothing, letter, label, switch, class, text}
-use Rattle.language.specs.Values.{Component, Store, Inputs, value, kind, same}
-use Rattle.language.specs.Values.Component.{word, address}
-use Rattle.machine.specs.Arguments.{expr, test_asks, number_of, up_to, on_parts}
-use Rattle.layout.specs.Bounds.{Ok, Encoded, WholeComponents}
-use Rattle.layout.proofs.CellLaws.{uncode-code}
-use Rattle.layout.specs.Cells.{cell, code, uncode}
-use Rattle.layout.proofs.ComponentLaws.{components_bytes-one, components-of, whole-components, components-none, next-component}
-use Rattle.layout.specs.Components.{component_bytes, component_size, component_in, components_in}
-use Rattle.layout.specs.Table.{class_by}
-use Rattle.cells.specs.Cells.{pasted, Number}
-use Rattle.cells.proofs.Laws.{pasted-front, length-pasted}
-use Rattle.packed.specs.Packed.{Copied}
-use Rattle.state.specs.Working.{state_at, nth}
-use Rattle.state.specs.Blocks.{ExprNamed, ExprLent}
+use Rattle.matching.specs.Below.Letters.Letter.{B, E, N, T}
+use Rattle.matching.specs.Below.Program.{Arg}
+use Rattle.matching.specs.Below.Program.Arg.{nothing, letter, label, switch, class, text}
+use Rattle.matching.specs.Below.LanguageValues.{Component, Store, Inputs, value, kind, same}
+use Rattle.matching.specs.Below.LanguageValues.Component.{word, address}
+use Rattle.matching.specs.Below.MachineArguments.{expr, test_asks, number_of, up_to, on_parts}
+use Rattle.matching.specs.Below.LayoutBounds.{Ok, Encoded, WholeComponents}
+use Rattle.matching.proofs.Below.LayoutCellLaws.{uncode-code}
+use Rattle.matching.specs.Below.LayoutCells.{cell, code, uncode}
+use Rattle.matching.proofs.Below.ComponentLaws.{components_bytes-one, components-of, whole-components, components-none, next-component}
+use Rattle.matching.specs.Below.Components.{component_bytes, component_size, component_in, components_in}
+use Rattle.matching.specs.Below.Table.{class_by}
+use Rattle.matching.specs.Below.Cells.{pasted, Number}
+use Rattle.matching.proofs.Below.CellsLaws.{pasted-front, length-pasted}
+use Rattle.table.specs.Below.Packed.{Copied}
+use Rattle.instructions.specs.Below.Working.{state_at, nth}
+use Rattle.instructions.specs.Below.Blocks.{ExprNamed, ExprLent}
 use Rattle.matching.specs.Tests.{first_chars, until_chars}
 use Rattle.matching.specs.declared.Test.{Test}
 use Rattle.matching.specs.declared.Test.TheVariants.{All, Count, Class, Among}
 use Rattle.matching.proofs.OnChars.{chars-class, chars-text, chars-one, chars-any}
 use Rattle.instructions.specs.Does.{stop_of}
-use Rattle.components.specs.Parts.{Leading}
+use Rattle.matching.specs.Below.ComponentsParts.{Leading}
 use Rattle.table.specs.Denote.{letter_of, arg_of}
 use Rattle.table.specs.Good.{GoodIndex}
 use Rattle.table.specs.declared.Argument.{Argument}

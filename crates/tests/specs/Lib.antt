@@ -1,1 +1,2 @@
 pub mod Prepares
+pub mod Below

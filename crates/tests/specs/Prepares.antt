@@ -2,18 +2,18 @@
 use Rattle.std.specs.Prelude.{◌≡◌, List, ℕ, ◌≤◌, T, length, take}
 use Rattle.lists.specs.Lists.{among}
 use Rattle.lists.specs.Quoted.{bytes}
-use Rattle.language.specs.Limits as limit
-use Rattle.language.specs.Letters as letters
-use Rattle.language.specs.Letters.{letter_code}
-use Rattle.language.specs.Program.{Arg}
-use Rattle.language.specs.Program.Arg.{text}
-use Rattle.language.specs.Values.{Store, Inputs}
-use Rattle.machine.specs.Arguments.{test_asks, number_of, on_parts, on_chars}
-use Rattle.layout.specs.Cells.{uncode}
-use Rattle.layout.specs.Components.{components_in}
-use Rattle.packed.specs.Packed.{table_of}
-use Rattle.state.specs.Working.{Stands, nth}
-use Rattle.state.specs.Blocks.{ExprNamed}
+use Rattle.matching.specs.Below.Limits as limit
+use Rattle.matching.specs.Below.Letters as letters
+use Rattle.matching.specs.Below.Letters.{letter_code}
+use Rattle.matching.specs.Below.Program.{Arg}
+use Rattle.matching.specs.Below.Program.Arg.{text}
+use Rattle.matching.specs.Below.LanguageValues.{Store, Inputs}
+use Rattle.matching.specs.Below.MachineArguments.{test_asks, number_of, on_parts, on_chars}
+use Rattle.matching.specs.Below.LayoutCells.{uncode}
+use Rattle.matching.specs.Below.Components.{components_in}
+use Rattle.table.specs.Below.Packed.{table_of}
+use Rattle.instructions.specs.Below.Working.{Stands, nth}
+use Rattle.instructions.specs.Below.Blocks.{ExprNamed}
 use Rattle.table.specs.Denote.{letter_of, arg_of}
 use Rattle.table.specs.Good.{GoodIndex, GoodText, GoodArgument}
 use Rattle.table.specs.declared.Letter.{Letter}

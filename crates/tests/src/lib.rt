@@ -1,14 +1,18 @@
 // Reading the values of a test: "A move first reads its test's values".
 #![tactic(auto)]
+
 ghost use Rattle.std.specs.Prelude.{length};
-ghost use Rattle.language.specs.Letters.Letter.{B, T};
-ghost use Rattle.language.specs.Program.Arg.{letter};
-ghost use Rattle.layout.specs.Table.{text_by};
-ghost use Rattle.packed.specs.Packed.{table_of};
-ghost use Rattle.state.specs.Working.{state_at, nth};
-ghost use Rattle.state.specs.Blocks.{ExprNamed};
+ghost use Rattle.matching.specs.Below.Letters.Letter.{B, T};
+ghost use Rattle.matching.specs.Below.Program.Arg.{letter};
+ghost use Rattle.matching.specs.Below.Table.{text_by};
+ghost use Rattle.table.specs.Below.Packed.{table_of};
+ghost use Rattle.instructions.specs.Below.Working.{state_at, nth};
+ghost use Rattle.instructions.specs.Below.Blocks.{ExprNamed};
 ghost use Rattle.table.specs.Denote.{letter_of, arg_of};
 ghost use Rattle.tests.specs.Prepares.{ExprReadable, LetterReadable, TextReadable, TestReadable, Prepares, NumberPrepares, CountPrepares, TextPrepares};
+
+use instructions::from_state;
+use matching::{from_cells, from_components};
 
 // A question answered no, or 0 and the test, with the first `len` bytes of `given` beside it.
 #[derive(Clone, Copy)]
@@ -23,7 +27,7 @@ fn prepare_first(pool: &[u8], ends: &[u32], nums: &[u32], given: &mut [u8], i: u
     requires { ExprReadable pool.now ends.now nums.now i (length given.old) }
     ensures { Prepares (state_at pool.now ends.now nums.now).store (nth B i) given.new result }
 {
-    let x = state::expr_bytes(pool, ends, nums, i);
+    let x = from_state::expr_bytes(pool, ends, nums, i);
     if x.len() == 0 {
         return Prepared {
             stop: 52,
@@ -31,8 +35,8 @@ fn prepare_first(pool: &[u8], ends: &[u32], nums: &[u32], given: &mut [u8], i: u
             len: 0,
         };
     }
-    let n = components::size_by(x[0]);
-    cells::put(given, 0, &x[..n]);
+    let n = from_components::size_by(x[0]);
+    from_cells::put(given, 0, &x[..n]);
     Prepared {
         stop: 0,
         test: matching::Test::Among,
@@ -45,8 +49,8 @@ fn prepare_any(pool: &[u8], ends: &[u32], nums: &[u32], given: &mut [u8], i: usi
     requires { ExprReadable pool.now ends.now nums.now i (length given.old) }
     ensures { Prepares (state_at pool.now ends.now nums.now).store (nth T i) given.new result }
 {
-    let x = state::expr_bytes(pool, ends, nums, i);
-    cells::put(given, 0, x);
+    let x = from_state::expr_bytes(pool, ends, nums, i);
+    from_cells::put(given, 0, x);
     Prepared {
         stop: 0,
         test: matching::Test::Among,
@@ -77,7 +81,7 @@ fn prepare_count(pool: &[u8], ends: &[u32], nums: &[u32], i: usize) -> Prepared
     requires { ExprNamed pool.now ends.now nums.now i }
     ensures { CountPrepares (state_at pool.now ends.now nums.now).store i result }
 {
-    let x = state::expr_bytes(pool, ends, nums, i);
+    let x = from_state::expr_bytes(pool, ends, nums, i);
     if x.len() == 0 {
         return Prepared {
             stop: 52,
@@ -85,14 +89,14 @@ fn prepare_count(pool: &[u8], ends: &[u32], nums: &[u32], i: usize) -> Prepared
             len: 0,
         };
     }
-    if components::kind_of(x) != 1 {
+    if from_components::kind_of(x) != 1 {
         return Prepared {
             stop: 53,
             test: matching::Test::All,
             len: 0,
         };
     }
-    prepare_number(components::number_of(x))
+    prepare_number(from_components::number_of(x))
 }
 
 // A text as a word.
@@ -102,7 +106,7 @@ fn prepare_text(table: &[u32], given: &mut [u8], v: usize) -> Prepared
 {
     let mut w = [0u8; 60];
     let n = table::put_text(table, v, &mut w);
-    components::put_word(given, 0, &w[..n]);
+    from_components::put_word(given, 0, &w[..n]);
     Prepared {
         stop: 0,
         test: matching::Test::Among,

@@ -1,5 +1,6 @@
 // The converter: an accepted section in the other edition, "keyword by keyword, leaving labels, texts and comments".
 #![tactic(auto)]
+
 ghost use Rattle.std.specs.Prelude.{◌≡◌, [], true, ◌≤◌, ◌<◌, length};
 ghost use Rattle.appending.specs.Appending.{Written};
 ghost use Rattle.calls.specs.Filling.{Gives};
@@ -136,4 +137,9 @@ pub fn convert(text: &[u8], out: &mut [u8]) -> Filled
         };
     }
     turn(text, out)
+}
+
+// Of `loading`, passed on to the crates above.
+pub mod from_loading {
+    pub use loading::Loaded;
 }

@@ -7,12 +7,12 @@ use native.Mathlib.Omega.{arith}
 use lib.Dec.{leb, ltb, eqb, eqb→eq}
 use lib.ListN.{length, get_or, drop}
 use borrow.Author.Tests.{le-leb, lt-leb, lt-ltb, le-ltb}
-use Rattle.language.specs.Letters.{letter_code, indices, use_of}
-use Rattle.language.specs.Values.{amount, unsigned}
-use Rattle.layout.specs.Table.{letter_place}
-use Rattle.lists.specs.ListLaws.{T-left, T-right}
-use Rattle.lists.specs.Lists.{head_or}
-use Rattle.lists.specs.TableLaws.{beq-eq, below}
+use Rattle.syntax.specs.Below.Letters.{letter_code, indices, use_of}
+use Rattle.syntax.specs.Below.LanguageValues.{amount, unsigned}
+use Rattle.appending.specs.Below.Table.{letter_place}
+use Rattle.syntax.specs.Below.ListLaws.{T-left, T-right}
+use Rattle.syntax.specs.Below.Lists.{head_or}
+use Rattle.syntax.specs.Below.ListsTableLaws.{beq-eq, below}
 use Rattle.syntax.specs.ArgumentForms.{is_index, letter_of}
 use Rattle.words.specs.Words.{capped, beyond, size_of, letter_at, reach, indexed_of}
 use Rattle.words.specs.declared.Lettered.{Lettered}

@@ -8,16 +8,16 @@ use native.Mathlib.Omega.{arith}
 use lib.Dec.{eqb, eqb→eq, T, leb, leb→le, ltb}
 use lib.ListN.{get_or, length, get_or-append, get_or-map, get_or-eq_default}
 use lib.Seq.{get_or-append-add}
-use Rattle.lists.specs.Lists.{any, ahead, bytes_equal}
-use Rattle.lists.specs.Quoted.{bytes}
-use Rattle.lists.specs.TableLaws.{below, beq-eq, Missed}
+use Rattle.syntax.specs.Below.Lists.{any, ahead, bytes_equal}
+use Rattle.syntax.specs.Below.Quoted.{bytes}
+use Rattle.syntax.specs.Below.ListsTableLaws.{below, beq-eq, Missed}
 use Rattle.syntax.specs.Statements as Spec
 use Rattle.syntax.specs.Statements.{editions, words_of, own, reserved, same_keyword}
 use Rattle.words.specs.Keywords.{keyword_by, told, known, word_at, place_in, other_word, meanings, keyword_at, shared, slot, in_a_row, beginnings, guesses, guess, of_row, InRow}
 use Rattle.words.specs.declared.Keyword.{Keyword}
 use borrow.Author.Tests.{lt-ltb, le-ltb}
-use Rattle.layout.proofs.CellLaws.{found}
-use Rattle.lists.specs.ListLaws.{T-left, T-right, same_bytes-eq, same_bytes-refl}
+use Rattle.appending.proofs.Below.LayoutCellLaws.{found}
+use Rattle.syntax.specs.Below.ListLaws.{T-left, T-right, same_bytes-eq, same_bytes-refl}
 
 pub many : (e : Bool) → length (words_of e) ≡ 46
 many true = refl

@@ -5,11 +5,11 @@ use mathlib.Core.List.{List}
 use Prim.Native.Nat.{ℕ, ◌+◌, ◌<◌}
 use lib.Dec.{eqb, eqb→eq}
 use borrow.Author.Tests.{ne_eqb}
-use Rattle.language.specs.Program.{classes}
-use Rattle.layout.specs.Table.{class_mask}
-use Rattle.lists.specs.Lists.{keep, among}
-use Rattle.lists.specs.Quoted.{bytes}
-use Rattle.lists.specs.TableLaws.{below-unless, Missed, missed}
+use Rattle.syntax.specs.Below.Program.{classes}
+use Rattle.appending.specs.Below.Table.{class_mask}
+use Rattle.syntax.specs.Below.Lists.{keep, among}
+use Rattle.syntax.specs.Below.Quoted.{bytes}
+use Rattle.syntax.specs.Below.ListsTableLaws.{below-unless, Missed, missed}
 use Rattle.words.specs.Words.{class_letter, letter_at, reach}
 
 pub class-letters : (b : ℕ) → ((eqb b 76 || eqb b 68) || eqb b 66) || eqb b 82 ≡ class_letter b

@@ -3,3 +3,4 @@ mod Letters
 mod Numbers
 mod Indices
 pub mod KeywordLaws
+pub mod Below

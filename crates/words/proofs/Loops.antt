@@ -9,10 +9,10 @@ use lib.Dec.{T, ltb}
 use lib.ListN.{length, get_or, drop, drop_of_length-le}
 use lib.Seq.{drop-cons}
 use borrow.Author.Tests.{lt-ltb}
-use Rattle.characters.specs.Characters.{is_capital, is_digit}
-use Rattle.language.specs.Program.{identifier}
-use Rattle.lists.specs.ListLaws.{same_bytes-eq, same_bytes-refl}
-use Rattle.lists.specs.Lists.{all, any, filled, bytes_equal}
+use Rattle.syntax.specs.Below.Characters.{is_capital, is_digit}
+use Rattle.syntax.specs.Below.Program.{identifier}
+use Rattle.syntax.specs.Below.ListLaws.{same_bytes-eq, same_bytes-refl}
+use Rattle.syntax.specs.Below.Lists.{all, any, filled, bytes_equal}
 
 module _ (p : ℕ → Bool) (s : List ℕ) (i : ℕ) (t : Bool) where
   -- a test of each byte: what was found of the first i, and the rest

@@ -11,11 +11,11 @@ use lib.IntN.{pos, neg_ℤ, nat_abs}
 use lib.ListN.{length, get_or, take, drop, drop_of_length-le}
 use lib.Seq.{drop-cons, take_all}
 use borrow.Author.Tests.{ne_eqb, le-leb, lt-leb}
-use Rattle.characters.specs.Characters.{is_digit}
-use Rattle.language.specs.Limits as limit
-use Rattle.language.specs.Values.{amount, unsigned}
-use Rattle.layout.specs.Cells.{code}
-use Rattle.lists.specs.Lists.{all}
+use Rattle.syntax.specs.Below.Characters.{is_digit}
+use Rattle.syntax.specs.Below.Limits as limit
+use Rattle.syntax.specs.Below.LanguageValues.{amount, unsigned}
+use Rattle.appending.specs.Below.LayoutCells.{code}
+use Rattle.syntax.specs.Below.Lists.{all}
 use Rattle.words.specs.Words.{beyond, capped, size_of, plus, minus, numeral_of}
 use Rattle.words.specs.declared.Numeral.{Numeral}
 

@@ -1,8 +1,8 @@
 -- What the functions on keywords answer.
 use Rattle.std.specs.Prelude.{◌≡◌, Bool, true, false, cond, ◌||◌, List, [], ◌∷◌, map, ℕ, ◌+◌, ◌*◌, ◌-◌, ◌%◌, ◌<◌, ◌≤◌, eqb, ltb, length, get_or, take, drop}
-use Rattle.language.specs.Instructions.{operation, operator_of}
-use Rattle.lists.specs.Lists.{ahead, joined, bytes_equal}
-use Rattle.lists.specs.Quoted.{bytes}
+use Rattle.syntax.specs.Below.Instructions.{operation, operator_of}
+use Rattle.syntax.specs.Below.Lists.{ahead, joined, bytes_equal}
+use Rattle.syntax.specs.Below.Quoted.{bytes}
 use Rattle.syntax.specs.Statements as Spec
 use Rattle.syntax.specs.Statements.{editions, keywords, words_of, own}
 use Rattle.words.specs.declared.Keyword.{Keyword}

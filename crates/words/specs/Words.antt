@@ -1,14 +1,14 @@
 -- What the functions on words answer: classes, numbers and indexed letters.
 use Rattle.std.specs.Prelude.{Bool, cond, ◌&&◌, List, ℕ, ◌+◌, ◌-◌, min, leb, eqb, get_or, drop}
-use Rattle.language.specs.Letters.{letters, letter_code, indices, use_of}
-use Rattle.language.specs.Letters.Letter.{A}
-use Rattle.language.specs.Limits as limit
-use Rattle.language.specs.Program.{classes}
-use Rattle.language.specs.Values.{amount, unsigned, numeral, value_of, in_range}
-use Rattle.layout.specs.Cells.{code}
-use Rattle.layout.specs.Table.{letter_place, class_mask}
-use Rattle.lists.specs.Lists.{all, ahead, filled, head_or, among}
-use Rattle.lists.specs.Quoted.{bytes}
+use Rattle.syntax.specs.Below.Letters.{letters, letter_code, indices, use_of}
+use Rattle.syntax.specs.Below.Letters.Letter.{A}
+use Rattle.syntax.specs.Below.Limits as limit
+use Rattle.syntax.specs.Below.Program.{classes}
+use Rattle.syntax.specs.Below.LanguageValues.{amount, unsigned, numeral, value_of, in_range}
+use Rattle.appending.specs.Below.LayoutCells.{code}
+use Rattle.appending.specs.Below.Table.{letter_place, class_mask}
+use Rattle.syntax.specs.Below.Lists.{all, ahead, filled, head_or, among}
+use Rattle.syntax.specs.Below.Quoted.{bytes}
 use Rattle.syntax.specs.ArgumentForms.{is_indexed, letter_of}
 use Rattle.words.specs.declared.Lettered.{Lettered}
 use Rattle.words.specs.declared.Numeral.{Numeral}

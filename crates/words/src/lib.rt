@@ -1,16 +1,18 @@
 // Words of a text: identifiers, classes, numbers, indexed letters and keywords, by their bytes.
 #![tactic(auto)]
+
 ghost use Rattle.std.specs.Prelude.{◌≡◌, true, false, cond, ◌||◌, ◌+◌, ◌-◌, ◌*◌, ◌≤◌, ◌<◌, length};
 ghost use Rattle.appending.specs.Appending.{Appends};
-ghost use Rattle.characters.specs.Characters.{is_capital, is_digit};
-ghost use Rattle.language.specs.Program.{identifier};
-ghost use Rattle.lists.specs.Lists.{among, bytes_equal};
+ghost use Rattle.syntax.specs.Below.Characters.{is_capital, is_digit};
+ghost use Rattle.syntax.specs.Below.Program.{identifier};
+ghost use Rattle.syntax.specs.Below.Lists.{among, bytes_equal};
 ghost use Rattle.syntax.specs.Statements.{reserved};
 ghost use Rattle.words.specs.Words.{class_letter, is_class, class_of, capped, beyond, size_of, plus, minus, numeral_of, letter_at, reach, indexed_of};
 ghost use Rattle.words.specs.Keywords.{known, keyword_at, shared, word_at, place_in, other_word, slot, guess, guesses, of_row, InRow, Lent};
 
 use appending::append;
-use language::Machine;
+use syntax::from_characters;
+use syntax::from_language::Machine;
 
 // How many pairs of words the two editions have.
 const PAIRS: u8 = 46;
@@ -88,7 +90,7 @@ pub fn same(a: &[u8], b: &[u8]) -> bool
 fn continues(b: u8) -> bool
     ensures { result ≡ is_capital b || is_digit b }
 {
-    characters::is_capital(b) | characters::is_digit(b)
+    from_characters::is_capital(b) | from_characters::is_digit(b)
 }
 
 pub fn identifier(w: &[u8]) -> bool
@@ -97,7 +99,7 @@ pub fn identifier(w: &[u8]) -> bool
     if w.len() == 0 {
         return false;
     }
-    let mut good = characters::is_capital(w[0]);
+    let mut good = from_characters::is_capital(w[0]);
     let mut i = 1;
     while i < w.len() {
         good = good & continues(w[i]);

@@ -7,18 +7,18 @@ use native.Mathlib.Omega.{arith}
 use lib.Dec.{T, leb}
 use lib.ListN.{length, set}
 use lib.IntN.{ℤ, nat_abs}
-use Rattle.cells.specs.Cells.{pasted}
-use Rattle.language.specs.Instructions.{operation}
-use Rattle.language.specs.Limits as limit
-use Rattle.language.specs.Program.{Arg, Instr, Label, Entry, Program}
-use Rattle.language.specs.Program.Arg.{nothing, letter, label, switch, class, text}
-use Rattle.language.specs.Values.{same_number}
-use Rattle.layout.proofs.CellLaws.{each_append}
-use Rattle.layout.specs.Cells.{cell, code, padded}
-use Rattle.layout.specs.Table.{text_ref, arg_cell, instr_cells, label_cells, entry_cell, all_entries, counts, table_cells}
-use Rattle.layout.specs.Places as layout
-use Rattle.lists.specs.Lists.{any, ahead, each, bytes_equal}
-use Rattle.machine.specs.WellFormed.{kept_text}
+use Rattle.blocks.specs.Below.Cells.{pasted}
+use Rattle.blocks.specs.Below.Instructions.{operation}
+use Rattle.blocks.specs.Below.Limits as limit
+use Rattle.blocks.specs.Below.Program.{Arg, Instr, Label, Entry, Program}
+use Rattle.blocks.specs.Below.Program.Arg.{nothing, letter, label, switch, class, text}
+use Rattle.blocks.specs.Below.LanguageValues.{same_number}
+use Rattle.blocks.proofs.Below.LayoutCellLaws.{each_append}
+use Rattle.blocks.specs.Below.LayoutCells.{cell, code, padded}
+use Rattle.blocks.specs.Below.Table.{text_ref, arg_cell, instr_cells, label_cells, entry_cell, all_entries, counts, table_cells}
+use Rattle.blocks.specs.Below.LayoutPlaces as layout
+use Rattle.blocks.specs.Below.Lists.{any, ahead, each, bytes_equal}
+use Rattle.blocks.specs.Below.WellFormed.{kept_text}
 use Rattle.writing.specs.Writing.{Short, kept_arg, KeptInstr, KeptEntry, Tabular, with_label, with_instr}
 use Rattle.writing.proofs.Parts.{padded-more, laid, in_code, in-labels}
 use Rattle.writing.proofs.Growing.{each_snoc, each_over, one_more, code_part, labels_part, texts_part, switches_part, entries_part, numbers_part, parts, label-long, code-long, labels-long, sizes}

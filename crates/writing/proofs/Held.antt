@@ -7,14 +7,14 @@ use native.Mathlib.Omega.{arith}
 use lib.ListN.{length, get_or, set, take, drop, length-set}
 use lib.Seq.{take-set-lt, drop-set-lt}
 use Rattle.blocks.proofs.Laws.{set-one}
-use Rattle.cells.proofs.Laws.{length-pasted}
-use Rattle.cells.specs.Cells.{pasted}
-use Rattle.language.specs.Program.{Label, Program}
-use Rattle.layout.specs.Bounds.{Below}
-use Rattle.layout.specs.Cells.{cell, code}
-use Rattle.layout.specs.Table.{instr_cells, label_cells, text_cells, all_entries, table_cells}
-use Rattle.layout.specs.Places as layout
-use Rattle.packed.specs.Packed.{table_of}
+use Rattle.blocks.proofs.Below.CellsLaws.{length-pasted}
+use Rattle.blocks.specs.Below.Cells.{pasted}
+use Rattle.blocks.specs.Below.Program.{Label, Program}
+use Rattle.blocks.specs.Below.LayoutBounds.{Below}
+use Rattle.blocks.specs.Below.LayoutCells.{cell, code}
+use Rattle.blocks.specs.Below.Table.{instr_cells, label_cells, text_cells, all_entries, table_cells}
+use Rattle.blocks.specs.Below.LayoutPlaces as layout
+use Rattle.table.specs.Below.Packed.{table_of}
 use Rattle.writing.specs.Writing.{Short, Tabular, HoldsProgram, with_text, with_number, with_label, with_instr, Changes, Writes, IsNumber, IsInstr}
 use Rattle.writing.proofs.Adding.{label-added, label-tabular, instr-added, instr-tabular}
 use Rattle.writing.proofs.Growing.{parts, in_parts, text-long, label-long, text-added, text-tabular, number-added, number-tabular}

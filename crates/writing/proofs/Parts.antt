@@ -6,11 +6,11 @@ use native.Mathlib.Omega.{arith}
 use lib.ListN.{length, set, take, drop, replicate, length-append, length-set, length-replicate, replicate-append-replicate, take-append-drop}
 use lib.Seq.{take-append-le, drop-append-le, take-append-add, drop-append-add, take-append_seam, take_at, drop_at, drop-drop, set-append_left, length-take-le}
 use Rattle.blocks.proofs.Laws.{set-one}
-use Rattle.cells.proofs.Laws.{length-pasted}
-use Rattle.cells.specs.Cells.{pasted}
-use Rattle.layout.proofs.CellLaws.{length-padded}
-use Rattle.layout.specs.Cells.{padded}
-use Rattle.layout.specs.Places as layout
+use Rattle.blocks.proofs.Below.CellsLaws.{length-pasted}
+use Rattle.blocks.specs.Below.Cells.{pasted}
+use Rattle.blocks.proofs.Below.LayoutCellLaws.{length-padded}
+use Rattle.blocks.specs.Below.LayoutCells.{padded}
+use Rattle.blocks.specs.Below.LayoutPlaces as layout
 
 -- ---- a run in one of two lists
 

@@ -9,13 +9,13 @@ use lib.Dec.{T, ltb}
 use lib.ListN.{length, get_or, set, replicate, length-map, length-set, get_or-append}
 use lib.Seq.{set-append_left, get_or-append-add}
 use borrow.Author.Tests.{ltb-true, ltb-false}
-use Rattle.language.specs.Program.{Arg, Instr, Entry, Switch, Program, no_instr, no_entry}
-use Rattle.layout.specs.Bounds.{Each}
-use Rattle.layout.proofs.CellLaws.{each_in, padded-at, get_d-map-at}
-use Rattle.layout.specs.Cells.{cell, padded}
-use Rattle.layout.specs.Table.{text_ref, arg_cell, instr_cells, switch_cell, switch_cells, entry_cell, all_entries, counts, table_cells}
-use Rattle.layout.specs.Places as layout
-use Rattle.lists.specs.Lists.{each}
+use Rattle.blocks.specs.Below.Program.{Arg, Instr, Entry, Switch, Program, no_instr, no_entry}
+use Rattle.blocks.specs.Below.LayoutBounds.{Each}
+use Rattle.blocks.proofs.Below.LayoutCellLaws.{each_in, padded-at, get_d-map-at}
+use Rattle.blocks.specs.Below.LayoutCells.{cell, padded}
+use Rattle.blocks.specs.Below.Table.{text_ref, arg_cell, instr_cells, switch_cell, switch_cells, entry_cell, all_entries, counts, table_cells}
+use Rattle.blocks.specs.Below.LayoutPlaces as layout
+use Rattle.blocks.specs.Below.Lists.{each}
 use Rattle.writing.specs.Writing.{kept_arg, KeptInstr, KeptEntry, Tabular, with_argument, put_argument, with_entry_label, relabelled, to_label}
 use Rattle.writing.proofs.Adding.{code_same, entries-same, instr-again, entry-again}
 use Rattle.writing.proofs.Growing.{each_over, code_part, labels_part, texts_part, switches_part, entries_part, numbers_part, parts, code-long, sizes}

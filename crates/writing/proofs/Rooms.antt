@@ -5,16 +5,16 @@ use Prim.Native.Nat.{ℕ, suc, ◌+◌, ◌-◌, ◌≤◌, ◌<◌}
 use native.Mathlib.Omega.{arith}
 use lib.ListN.{length, take, drop, replicate, length-append, length-replicate, replicate-append-replicate, length-drop}
 use lib.Seq.{take_at, drop_at}
-use Rattle.cells.specs.Cells.{cleared}
-use Rattle.language.specs.Program.{Switch, Program}
-use Rattle.layout.proofs.ArgumentLaws.{bit-most}
-use Rattle.layout.specs.Bounds.{Below}
-use Rattle.layout.proofs.CellLaws.{each_at}
-use Rattle.layout.specs.Cells.{cell, padded}
-use Rattle.layout.specs.Table.{switch_cells, all_entries, table_cells}
-use Rattle.layout.specs.Places as layout
-use Rattle.lists.specs.Lists.{each}
-use Rattle.packed.specs.Packed.{table_of}
+use Rattle.blocks.specs.Below.Cells.{cleared}
+use Rattle.blocks.specs.Below.Program.{Switch, Program}
+use Rattle.blocks.proofs.Below.LayoutArgumentLaws.{bit-most}
+use Rattle.blocks.specs.Below.LayoutBounds.{Below}
+use Rattle.blocks.proofs.Below.LayoutCellLaws.{each_at}
+use Rattle.blocks.specs.Below.LayoutCells.{cell, padded}
+use Rattle.blocks.specs.Below.Table.{switch_cells, all_entries, table_cells}
+use Rattle.blocks.specs.Below.LayoutPlaces as layout
+use Rattle.blocks.specs.Below.Lists.{each}
+use Rattle.table.specs.Below.Packed.{table_of}
 use Rattle.writing.specs.Writing.{no_program, Tabular, HoldsProgram, Cleared, SwitchRoom, EntryRoom, ArgumentAt, EntryAt}
 use Rattle.writing.proofs.Growing.{in_parts}
 use Rattle.writing.proofs.Held.{code_count, switch_count, entry_count}

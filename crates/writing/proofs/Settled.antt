@@ -8,11 +8,11 @@ use native.Mathlib.Omega.{arith}
 use lib.ListN.{length, get_or, set, take, drop, length-set}
 use lib.Seq.{take-set-lt, drop-set-lt, get_or-take}
 use Rattle.blocks.proofs.Laws.{set-one}
-use Rattle.language.specs.Program.{Program}
-use Rattle.layout.specs.Cells.{cell}
-use Rattle.layout.specs.Table.{entry_cell, all_entries, table_cells}
-use Rattle.layout.specs.Places as layout
-use Rattle.packed.specs.Packed.{table_of}
+use Rattle.blocks.specs.Below.Program.{Program}
+use Rattle.blocks.specs.Below.LayoutCells.{cell}
+use Rattle.blocks.specs.Below.Table.{entry_cell, all_entries, table_cells}
+use Rattle.blocks.specs.Below.LayoutPlaces as layout
+use Rattle.table.specs.Below.Packed.{table_of}
 use Rattle.writing.specs.Writing.{Tabular, HoldsProgram, with_switch, with_entry, with_argument, with_entry_label, Changes, Writes, IsEntry, IsArg}
 use Rattle.writing.proofs.Growing.{parts, in_parts}
 use Rattle.writing.proofs.Held.{switch_count, code_count, entry_count, both-beyond, both_hold}

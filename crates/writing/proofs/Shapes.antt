@@ -8,8 +8,8 @@ use native.Mathlib.Omega.{arith}
 use lib.Dec.{ltb}
 use lib.ListN.{length, get_or, set, take, drop, length-set}
 use lib.Seq.{take_at, drop_at}
-use Rattle.language.specs.Program.{Entry, Switch, Program, no_entry}
-use Rattle.lists.specs.Lists.{each, head_or}
+use Rattle.blocks.specs.Below.Program.{Entry, Switch, Program, no_entry}
+use Rattle.blocks.specs.Below.Lists.{each, head_or}
 use Rattle.writing.specs.Writing.{with_switches, with_entry, and_entry, to_label, relabelled}
 use Rattle.writing.proofs.Switching.{entries_of, on_last-snoc}
 

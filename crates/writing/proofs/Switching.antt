@@ -5,14 +5,14 @@ use mathlib.Core.List.{List, [], ◌∷◌, ◌++◌, map, append_assoc, append-
 use Prim.Native.Nat.{ℕ, zero, suc, ◌+◌, ◌*◌, ◌<◌}
 use native.Mathlib.Omega.{arith}
 use lib.ListN.{length, set, replicate, length-append, length-map, length-set}
-use Rattle.cells.specs.Cells.{pasted}
-use Rattle.language.specs.Program.{Entry, Switch, Program}
-use Rattle.layout.specs.Bounds.{Each}
-use Rattle.layout.proofs.CellLaws.{each_append, padded-at}
-use Rattle.layout.specs.Cells.{cell, padded}
-use Rattle.layout.specs.Table.{switch_cell, switch_cells, entry_cell, all_entries, counts, table_cells}
-use Rattle.layout.specs.Places as layout
-use Rattle.lists.specs.Lists.{each}
+use Rattle.blocks.specs.Below.Cells.{pasted}
+use Rattle.blocks.specs.Below.Program.{Entry, Switch, Program}
+use Rattle.blocks.specs.Below.LayoutBounds.{Each}
+use Rattle.blocks.proofs.Below.LayoutCellLaws.{each_append, padded-at}
+use Rattle.blocks.specs.Below.LayoutCells.{cell, padded}
+use Rattle.blocks.specs.Below.Table.{switch_cell, switch_cells, entry_cell, all_entries, counts, table_cells}
+use Rattle.blocks.specs.Below.LayoutPlaces as layout
+use Rattle.blocks.specs.Below.Lists.{each}
 use Rattle.writing.specs.Writing.{KeptInstr, KeptEntry, Tabular, with_switch, with_entry, and_entry, on_last}
 use Rattle.writing.proofs.Adding.{code_same, entries-same, instr-again, entry-again}
 use Rattle.writing.proofs.Growing.{each_snoc, map_snoc, each_over, one_more, code_part, labels_part, texts_part, switches_part, entries_part, numbers_part, parts, switches-long, sizes}

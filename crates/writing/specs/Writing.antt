@@ -1,14 +1,14 @@
 -- A program table while it is written: the program that it holds, finished or not, the changes of that program, and what the functions ask and promise.
 use Rattle.std.specs.Prelude.{◌≡◌, Bool, true, cond, List, [], ◌∷◌, ◌++◌, ℕ, zero, suc, ◌+◌, ◌-◌, ◌≤◌, ◌<◌, T, ltb, length, get_or, set, drop, replicate, ℤ, nat_abs}
-use Rattle.language.specs.Instructions.{operation}
-use Rattle.language.specs.Limits as limit
-use Rattle.language.specs.Program.{Arg, Instr, Label, Entry, Switch, Program, no_instr, no_entry}
-use Rattle.language.specs.Program.Arg.{nothing, letter, label, switch, class, text}
-use Rattle.layout.specs.Bounds.{Each, Below}
-use Rattle.layout.specs.Cells.{cell, code}
-use Rattle.layout.specs.Table.{text_ref, arg_cell, all_entries, table_cells}
-use Rattle.machine.specs.WellFormed.{kept_text, kept_number}
-use Rattle.packed.specs.Packed.{table_of}
+use Rattle.blocks.specs.Below.Instructions.{operation}
+use Rattle.blocks.specs.Below.Limits as limit
+use Rattle.blocks.specs.Below.Program.{Arg, Instr, Label, Entry, Switch, Program, no_instr, no_entry}
+use Rattle.blocks.specs.Below.Program.Arg.{nothing, letter, label, switch, class, text}
+use Rattle.blocks.specs.Below.LayoutBounds.{Each, Below}
+use Rattle.blocks.specs.Below.LayoutCells.{cell, code}
+use Rattle.blocks.specs.Below.Table.{text_ref, arg_cell, all_entries, table_cells}
+use Rattle.blocks.specs.Below.WellFormed.{kept_text, kept_number}
+use Rattle.table.specs.Below.Packed.{table_of}
 
 -- ---- the program that a table holds
 

@@ -1,14 +1,16 @@
 // Writing a program table, "a table of 8,192 numbers of 32 bits", cell by cell while a text is read: the only code that writes its cells.
 // docs/LAYOUT.md has their places. A text or a number goes to its table before the argument that refers to it.
 #![tactic(auto)]
-ghost use Rattle.std.specs.Prelude.{cond, ◌≤◌, length};
-ghost use Rattle.cells.specs.Cells.{Number};
-ghost use Rattle.writing.specs.Writing.{with_text, with_number, with_label, with_instr, with_switch, with_entry, with_argument, with_entry_label, label_of, Cleared, Changes, Writes, Room, WordRoom, LabelRoom, InstrRoom, SwitchRoom, EntryRoom, ArgumentAt, EntryAt, IsNumber, IsInstr, IsEntry, IsArg};
-ghost use Rattle.language.specs.Limits as limit;
-ghost use Rattle.layout.specs.Places.{text_count, number_count};
 
-use language::Machine;
-use layout::TablePlaces;
+ghost use Rattle.std.specs.Prelude.{cond, ◌≤◌, length};
+ghost use Rattle.blocks.specs.Below.Cells.{Number};
+ghost use Rattle.writing.specs.Writing.{with_text, with_number, with_label, with_instr, with_switch, with_entry, with_argument, with_entry_label, label_of, Cleared, Changes, Writes, Room, WordRoom, LabelRoom, InstrRoom, SwitchRoom, EntryRoom, ArgumentAt, EntryAt, IsNumber, IsInstr, IsEntry, IsArg};
+ghost use Rattle.blocks.specs.Below.Limits as limit;
+ghost use Rattle.blocks.specs.Below.LayoutPlaces.{text_count, number_count};
+
+use blocks::from_cells;
+use blocks::from_language::Machine;
+use blocks::from_layout::TablePlaces;
 
 fn bit(b: bool) -> usize
     ensures { Number (cond b 1 0) 2 result }
@@ -34,7 +36,7 @@ pub fn put_text(table: &mut [u32], word: &[u8])
 {
     let n = table::texts(table);
     blocks::put_named(table, TablePlaces::FIRST_TEXT + 16 * n, word.len(), word);
-    cells::write(table, TablePlaces::TEXT_COUNT, n + 1);
+    from_cells::write(table, TablePlaces::TEXT_COUNT, n + 1);
 }
 
 // Adds the number whose value + 8,388,607 is `code`.
@@ -44,7 +46,7 @@ pub fn put_number(table: &mut [u32], code: u32)
 {
     let n = table::numbers(table);
     table[TablePlaces::FIRST_NUMBER + n] = code;
-    cells::write(table, TablePlaces::NUMBER_COUNT, n + 1);
+    from_cells::write(table, TablePlaces::NUMBER_COUNT, n + 1);
 }
 
 // Adds a label of instruction `target`.
@@ -59,7 +61,7 @@ pub fn put_label(table: &mut [u32], name: &[u8], target: usize)
         name.len() + 64 * target,
         name,
     );
-    cells::write(table, TablePlaces::LABEL_COUNT, n + 1);
+    from_cells::write(table, TablePlaces::LABEL_COUNT, n + 1);
 }
 
 // Adds an instruction: its operator's number, its line, and the cells of its three arguments.
@@ -76,7 +78,7 @@ pub fn put_instruction(table: &mut [u32], op: usize, line: usize, x: usize, y: u
         y,
         z,
     );
-    cells::write(table, TablePlaces::INSTRUCTION_COUNT, n + 1);
+    from_cells::write(table, TablePlaces::INSTRUCTION_COUNT, n + 1);
 }
 
 // Adds a switch, NAZWA or INDEKS, that has no entries yet.
@@ -86,12 +88,12 @@ pub fn put_switch(table: &mut [u32], named: bool)
 {
     let n = table::switches(table);
     let first = table::entries(table);
-    cells::write(
+    from_cells::write(
         table,
         TablePlaces::FIRST_SWITCH + n,
         bit(named) + 512 * first,
     );
-    cells::write(table, TablePlaces::SWITCH_COUNT, n + 1);
+    from_cells::write(table, TablePlaces::SWITCH_COUNT, n + 1);
 }
 
 // Adds an entry to the last switch: its label, and the reference of its text.
@@ -101,10 +103,10 @@ pub fn put_entry(table: &mut [u32], label: usize, text: usize)
 {
     let n = table::entries(table);
     let last = TablePlaces::FIRST_SWITCH - 1 + table::switches(table);
-    let switch = cells::read(table, last);
-    cells::write(table, TablePlaces::FIRST_ENTRY + n, label + 128 * text);
-    cells::write(table, last, switch + 2);
-    cells::write(table, TablePlaces::ENTRY_COUNT, n + 1);
+    let switch = from_cells::read(table, last);
+    from_cells::write(table, TablePlaces::FIRST_ENTRY + n, label + 128 * text);
+    from_cells::write(table, last, switch + 2);
+    from_cells::write(table, TablePlaces::ENTRY_COUNT, n + 1);
 }
 
 // Puts `cell` in the place of argument `j`, counted from 0, of instruction `k`.
@@ -112,7 +114,7 @@ pub fn set_argument(table: &mut [u32], k: usize, j: usize, cell: usize)
     requires { ArgumentAt table.old k j cell }
     ensures { Writes (IsArg cell) (with_argument k j) table.old table.new }
 {
-    cells::write(table, TablePlaces::FIRST_INSTRUCTION + 4 * k + 1 + j, cell);
+    from_cells::write(table, TablePlaces::FIRST_INSTRUCTION + 4 * k + 1 + j, cell);
 }
 
 // Gives entry `k` of all entries the label `label`.
@@ -121,5 +123,5 @@ pub fn set_entry_label(table: &mut [u32], k: usize, label: usize)
     ensures { Changes (with_entry_label k label) table.old table.new }
 {
     let text = table::entry_text(table, k);
-    cells::write(table, TablePlaces::FIRST_ENTRY + k, label + 128 * text);
+    from_cells::write(table, TablePlaces::FIRST_ENTRY + k, label + 128 * text);
 }

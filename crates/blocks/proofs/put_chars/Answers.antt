@@ -5,8 +5,8 @@ use mathlib.Core.Path.{◌≡◌, refl}
 use Prim.Native.Nat.{◌-◌, ◌≤◌}
 use lib.ListN.{length}
 use lib.Seq.{paste, paste-zero}
-use Rattle.layout.specs.Cells.{fours}
-use Rattle.layout.proofs.CellLaws.{length-fours}
+use Rattle.cells.specs.Below.LayoutCells.{fours}
+use Rattle.cells.proofs.Below.LayoutCellLaws.{length-fours}
 use Rattle.cells.proofs.Laws.{put-end}
 use Rattle.blocks.proofs.Laws.{chars-turn}
 use Rattle.blocks.proofs.put_chars.Goals as goal

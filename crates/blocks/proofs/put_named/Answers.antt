@@ -1,8 +1,8 @@
 -- `blocks::put_named` meets its contract.
 use borrow.Author.Rules.{rules}
 use native.Mathlib.Omega.{arith}
-use Rattle.layout.specs.Cells.{fours}
-use Rattle.layout.proofs.CellLaws.{length-fours}
+use Rattle.cells.specs.Below.LayoutCells.{fours}
+use Rattle.cells.proofs.Below.LayoutCellLaws.{length-fours}
 use Rattle.blocks.proofs.Laws.{set-and-paste}
 use Rattle.blocks.proofs.put_named.Goals as goal
 

@@ -17,13 +17,13 @@ pub returns-then-not-instr_fits : goal.returns-then-not-instr_fits
 returns-then-not-instr_fits c =
     let h = c.loop-i in
     let t = table_of c.args.table.now in
-    loop-stop (instr_fits t) c.args.n h.i _ h.invariant.1 _ c.instr_fits.ensures c.loop-i-test.true (not-true _ c.if-not-instr_fits.true-raw)
+    loop-stop (instr_fits t) c.args.n h.i _ h.invariant.1 _ c.instr_fits.ensures c.loop-i-test.true (c.if-not-instr_fits.true)
 
 pub loop-i-preserved : goal.loop-i-preserved
 loop-i-preserved c =
     let h = c.loop-i in
     let t = table_of c.args.table.now in
-    (omega arith, loop-on (instr_fits t) c.args.n h.i _ h.invariant.1 _ c.instr_fits.ensures c.loop-i-test.true (not-false _ c.if-not-instr_fits.false-raw))
+    (omega arith, loop-on (instr_fits t) c.args.n h.i _ h.invariant.1 _ c.instr_fits.ensures c.loop-i-test.true (c.if-not-instr_fits.false))
 
 pub returns : goal.returns
 returns c =

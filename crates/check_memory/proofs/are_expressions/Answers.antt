@@ -24,7 +24,7 @@ returns-then-not-are_components c =
     let loop = c.loop-i in
     let loop-test = c.loop-i-test in
     let string-at = c.string_at in
-    testing-fails (expressions args.m.now) (length-expressions args.m.now) loop.invariant loop-test.true (lent-expression loop-test.true string-at.ensures) c.are_components.ensures (not-true _ c.if-not-are_components.true-raw)
+    testing-fails (expressions args.m.now) (length-expressions args.m.now) loop.invariant loop-test.true (lent-expression loop-test.true string-at.ensures) c.are_components.ensures (c.if-not-are_components.true)
 
 pub loop-i-preserved : goal.loop-i-preserved
 loop-i-preserved c =
@@ -32,7 +32,7 @@ loop-i-preserved c =
     let loop = c.loop-i in
     let loop-test = c.loop-i-test in
     let string-at = c.string_at in
-    testing-next (expressions args.m.now) (length-expressions args.m.now) loop.invariant loop-test.true (lent-expression loop-test.true string-at.ensures) c.are_components.ensures (not-false _ c.if-not-are_components.false-raw)
+    testing-next (expressions args.m.now) (length-expressions args.m.now) loop.invariant loop-test.true (lent-expression loop-test.true string-at.ensures) c.are_components.ensures (c.if-not-are_components.false)
 
 pub returns : goal.returns
 returns c =

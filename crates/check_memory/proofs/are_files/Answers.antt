@@ -24,7 +24,7 @@ returns-then-not-are_records c =
     let loop = c.loop-i in
     let loop-test = c.loop-i-test in
     let string-at = c.string_at in
-    testing-fails (halves args.m.now) (length-halves args.m.now) loop.invariant loop-test.true (lent-half loop-test.true string-at.ensures) c.are_records.ensures (not-true _ c.if-not-are_records.true-raw)
+    testing-fails (halves args.m.now) (length-halves args.m.now) loop.invariant loop-test.true (lent-half loop-test.true string-at.ensures) c.are_records.ensures (c.if-not-are_records.true)
 
 pub loop-i-preserved : goal.loop-i-preserved
 loop-i-preserved c =
@@ -32,7 +32,7 @@ loop-i-preserved c =
     let loop = c.loop-i in
     let loop-test = c.loop-i-test in
     let string-at = c.string_at in
-    testing-next (halves args.m.now) (length-halves args.m.now) loop.invariant loop-test.true (lent-half loop-test.true string-at.ensures) c.are_records.ensures (not-false _ c.if-not-are_records.false-raw)
+    testing-next (halves args.m.now) (length-halves args.m.now) loop.invariant loop-test.true (lent-half loop-test.true string-at.ensures) c.are_records.ensures (c.if-not-are_records.false)
 
 pub returns : goal.returns
 returns c =

@@ -16,13 +16,13 @@ pub returns-then-not-char_fits : goal.returns-then-not-char_fits
 returns-then-not-char_fits c =
     let h = c.loop-j in
     let t = table_of c.args.table.now in
-    loop-stop (char_fits t c.args.at c.args.n c.args.name) 60 h.j _ h.invariant.1 _ c.char_fits.ensures c.loop-j-test.true (not-true _ c.if-not-char_fits.true-raw)
+    loop-stop (char_fits t c.args.at c.args.n c.args.name) 60 h.j _ h.invariant.1 _ c.char_fits.ensures c.loop-j-test.true (c.if-not-char_fits.true)
 
 pub loop-j-preserved : goal.loop-j-preserved
 loop-j-preserved c =
     let h = c.loop-j in
     let t = table_of c.args.table.now in
-    (omega arith, loop-on (char_fits t c.args.at c.args.n c.args.name) 60 h.j _ h.invariant.1 _ c.char_fits.ensures c.loop-j-test.true (not-false _ c.if-not-char_fits.false-raw))
+    (omega arith, loop-on (char_fits t c.args.at c.args.n c.args.name) 60 h.j _ h.invariant.1 _ c.char_fits.ensures c.loop-j-test.true (c.if-not-char_fits.false))
 
 pub returns : goal.returns
 returns c =

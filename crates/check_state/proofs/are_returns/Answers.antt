@@ -27,7 +27,7 @@ returns-then-not-is_return c =
     let loop = c.loop-i in
     let loop-test = c.loop-i-test in
     let two_at = c.two_at in
-    sym (loop.invariant.1 ∙ entries-fail (good_return (program_of args.table.now)) args.s.now loop.i loop-test.true two_at.ensures c.is_return.ensures (not-true _ c.if-not-is_return.true-raw))
+    sym (loop.invariant.1 ∙ entries-fail (good_return (program_of args.table.now)) args.s.now loop.i loop-test.true two_at.ensures c.is_return.ensures (c.if-not-is_return.true))
 
 pub overflow_add-i-in-loop-i : goal.overflow_add-i-in-loop-i
 overflow_add-i-in-loop-i c = omega (arith, c.loop-i-test.true)
@@ -41,7 +41,7 @@ loop-i-preserved c =
     let loop = c.loop-i in
     let loop-test = c.loop-i-test in
     let two_at = c.two_at in
-    (omega (arith, loop-test.true), loop.invariant.1 ∙ entries-go (good_return (program_of args.table.now)) args.s.now loop.i loop-test.true two_at.ensures c.is_return.ensures (not-false _ c.if-not-is_return.false-raw))
+    (omega (arith, loop-test.true), loop.invariant.1 ∙ entries-go (good_return (program_of args.table.now)) args.s.now loop.i loop-test.true two_at.ensures c.is_return.ensures (c.if-not-is_return.false))
 
 pub returns : goal.returns
 returns c =

@@ -15,13 +15,13 @@ pub returns-then-not-entry_fits : goal.returns-then-not-entry_fits
 returns-then-not-entry_fits c =
     let h = c.loop-k in
     let t = table_of c.args.table.now in
-    loop-stop (entry_fits t c.args.named) c.args.to h.k _ h.invariant _ c.entry_fits.ensures c.loop-k-test.true (not-true _ c.if-not-entry_fits.true-raw)
+    loop-stop (entry_fits t c.args.named) c.args.to h.k _ h.invariant _ c.entry_fits.ensures c.loop-k-test.true (c.if-not-entry_fits.true)
 
 pub loop-k-preserved : goal.loop-k-preserved
 loop-k-preserved c =
     let h = c.loop-k in
     let t = table_of c.args.table.now in
-    loop-on (entry_fits t c.args.named) c.args.to h.k _ h.invariant _ c.entry_fits.ensures c.loop-k-test.true (not-false _ c.if-not-entry_fits.false-raw)
+    loop-on (entry_fits t c.args.named) c.args.to h.k _ h.invariant _ c.entry_fits.ensures c.loop-k-test.true (c.if-not-entry_fits.false)
 
 pub returns : goal.returns
 returns c =

@@ -10,10 +10,10 @@ pub returns-then-table-lt-TABLE : goal.returns-then-table-lt-TABLE
 returns-then-table-lt-TABLE c = too_short c.args.table.now c.if-table-lt-TABLE.true
 
 pub returns-then-not-counts_fit : goal.returns-then-not-counts_fit
-returns-then-not-counts_fit c = no-counts c.args.table.now c.if-table-lt-TABLE.false (sym c.counts_fit.ensures ∙ not-true _ c.if-not-counts_fit.true-raw)
+returns-then-not-counts_fit c = no-counts c.args.table.now c.if-table-lt-TABLE.false (sym c.counts_fit.ensures ∙ c.if-not-counts_fit.true)
 
 pub parts_fit-requires : goal.parts_fit-requires
-parts_fit-requires c = counted_of c.args.table.now c.if-table-lt-TABLE.false (sym c.counts_fit.ensures ∙ not-false _ c.if-not-counts_fit.false-raw)
+parts_fit-requires c = counted_of c.args.table.now c.if-table-lt-TABLE.false (sym c.counts_fit.ensures ∙ c.if-not-counts_fit.false)
 
 pub returns : goal.returns
-returns c = c.parts_fit.ensures ∙ by_parts c.args.table.now c.if-table-lt-TABLE.false (sym c.counts_fit.ensures ∙ not-false _ c.if-not-counts_fit.false-raw)
+returns c = c.parts_fit.ensures ∙ by_parts c.args.table.now c.if-table-lt-TABLE.false (sym c.counts_fit.ensures ∙ c.if-not-counts_fit.false)

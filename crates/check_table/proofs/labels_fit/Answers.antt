@@ -17,13 +17,13 @@ pub returns-then-not-label_fits : goal.returns-then-not-label_fits
 returns-then-not-label_fits c =
     let h = c.loop-k in
     let t = table_of c.args.table.now in
-    loop-stop (label_fits t) c.args.n h.k _ h.invariant.1 _ c.label_fits.ensures c.loop-k-test.true (not-true _ c.if-not-label_fits.true-raw)
+    loop-stop (label_fits t) c.args.n h.k _ h.invariant.1 _ c.label_fits.ensures c.loop-k-test.true (c.if-not-label_fits.true)
 
 pub loop-k-preserved : goal.loop-k-preserved
 loop-k-preserved c =
     let h = c.loop-k in
     let t = table_of c.args.table.now in
-    (omega arith, loop-on (label_fits t) c.args.n h.k _ h.invariant.1 _ c.label_fits.ensures c.loop-k-test.true (not-false _ c.if-not-label_fits.false-raw))
+    (omega arith, loop-on (label_fits t) c.args.n h.k _ h.invariant.1 _ c.label_fits.ensures c.loop-k-test.true (c.if-not-label_fits.false))
 
 pub returns : goal.returns
 returns c =

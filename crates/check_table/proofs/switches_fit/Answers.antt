@@ -17,13 +17,13 @@ pub returns-then-not-switch_fits : goal.returns-then-not-switch_fits
 returns-then-not-switch_fits c =
     let h = c.loop-k in
     let t = table_of c.args.table.now in
-    switches-stop t c.args.n h.k h.from _ h.invariant.2 _ c.switch_fits.ensures c.loop-k-test.true (not-true _ c.if-not-switch_fits.true-raw)
+    switches-stop t c.args.n h.k h.from _ h.invariant.2 _ c.switch_fits.ensures c.loop-k-test.true (c.if-not-switch_fits.true)
 
 pub loop-k-preserved : goal.loop-k-preserved
 loop-k-preserved c =
     let h = c.loop-k in
     let t = table_of c.args.table.now in
-    (omega arith, omega (arith, h.invariant.1, c.switch_size-from.ensures.most), switches_on t c.args.n h.k h.from _ h.invariant.2 _ c.switch_fits.ensures c.loop-k-test.true (not-false _ c.if-not-switch_fits.false-raw) c.switch_size-from.result c.switch_size-from.ensures.is)
+    (omega arith, omega (arith, h.invariant.1, c.switch_size-from.ensures.most), switches_on t c.args.n h.k h.from _ h.invariant.2 _ c.switch_fits.ensures c.loop-k-test.true (c.if-not-switch_fits.false) c.switch_size-from.result c.switch_size-from.ensures.is)
 
 pub returns : goal.returns
 returns c =

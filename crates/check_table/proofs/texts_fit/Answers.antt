@@ -18,13 +18,13 @@ pub returns-then-not-text_stays : goal.returns-then-not-text_stays
 returns-then-not-text_stays c =
     let h = c.loop-i in
     let t = table_of c.args.table.now in
-    loop-stop (text_stays t c.args.n) c.args.n h.i _ h.invariant.1 _ c.text_stays.ensures c.loop-i-test.true (not-true _ c.if-not-text_stays.true-raw)
+    loop-stop (text_stays t c.args.n) c.args.n h.i _ h.invariant.1 _ c.text_stays.ensures c.loop-i-test.true (c.if-not-text_stays.true)
 
 pub loop-i-preserved : goal.loop-i-preserved
 loop-i-preserved c =
     let h = c.loop-i in
     let t = table_of c.args.table.now in
-    (omega arith, loop-on (text_stays t c.args.n) c.args.n h.i _ h.invariant.1 _ c.text_stays.ensures c.loop-i-test.true (not-false _ c.if-not-text_stays.false-raw))
+    (omega arith, loop-on (text_stays t c.args.n) c.args.n h.i _ h.invariant.1 _ c.text_stays.ensures c.loop-i-test.true (c.if-not-text_stays.false))
 
 pub returns : goal.returns
 returns c =

@@ -6,13 +6,13 @@ use borrow.Author.Rules.{rules}
 use Rattle.class_running.proofs.run_pupil.Goals as goal
 
 pub returns-then-not-are_inputs : goal.returns-then-not-are_inputs
-returns-then-not-are_inputs c = refused-told c.requires c.args.input.now c.args.budget c.are_inputs.ensures (not-true c.are_inputs.result c.if-not-are_inputs.true-raw) refl
+returns-then-not-are_inputs c = refused-told c.requires c.args.input.now c.args.budget c.are_inputs.ensures (c.if-not-are_inputs.true) refl
 
 pub run-r-requires : goal.run-r-requires
-run-r-requires c = runnable c.requires c.args.input.now c.args.budget c.args.state.now c.are_inputs.ensures (not-false c.are_inputs.result c.if-not-are_inputs.false-raw) refl c.start.ensures
+run-r-requires c = runnable c.requires c.args.input.now c.args.budget c.args.state.now c.are_inputs.ensures (c.if-not-are_inputs.false) refl c.start.ensures
 
 pub show-shown-requires : goal.show-shown-requires
-show-shown-requires c = showable c.requires c.args.input.now c.args.budget c.args.state.now c.are_inputs.ensures (not-false c.are_inputs.result c.if-not-are_inputs.false-raw) refl c.start.ensures c.run-r.ensures
+show-shown-requires c = showable c.requires c.args.input.now c.args.budget c.args.state.now c.are_inputs.ensures (c.if-not-are_inputs.false) refl c.start.ensures c.run-r.ensures
 
 pub returns : goal.returns
-returns c = answered c.requires c.args.input.now c.args.budget c.args.state.now c.are_inputs.ensures (not-false c.are_inputs.result c.if-not-are_inputs.false-raw) refl c.start.ensures c.run-r.ensures c.show-shown.ensures refl
+returns c = answered c.requires c.args.input.now c.args.budget c.args.state.now c.are_inputs.ensures (c.if-not-are_inputs.false) refl c.start.ensures c.run-r.ensures c.show-shown.ensures refl

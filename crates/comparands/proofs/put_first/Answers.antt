@@ -2,7 +2,7 @@
 use borrow.Author.Rules.{rules}
 use native.Mathlib.Omega.{arith}
 use lib.ListN.{length-take}
-use Rattle.tests.proofs.Values.{front_fits}
+use Rattle.operands.proofs.Below.Values.{front_fits}
 use Rattle.comparands.proofs.Offering.{none-offered, first-offered}
 use Rattle.comparands.proofs.put_first.Goals as goal
 

@@ -13,7 +13,7 @@ use Rattle.lists.specs.Quoted.{bytes}
 use Rattle.table.specs.LetterLaws.{listed-letter}
 use Rattle.table.specs.declared.Letter.TheVariants.{B}
 use Rattle.table.proofs.Letters.{tag}
-use Rattle.tests.specs.Prepares.{OtherLetter}
+use Rattle.operands.specs.Below.Prepares.{OtherLetter}
 use Rattle.comparands.proofs.Offering.{readable, letter-offered}
 use Rattle.comparands.proofs.put_letter.Goals as goal
 

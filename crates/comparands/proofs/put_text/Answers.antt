@@ -2,7 +2,7 @@
 use borrow.Author.Rules.{rules}
 use native.Mathlib.Omega.{arith}
 use lib.ListN.{length-take}
-use Rattle.tests.proofs.Values.{copied-in}
+use Rattle.operands.proofs.Below.Values.{copied-in}
 use Rattle.comparands.proofs.Offering.{text-offered}
 use Rattle.comparands.proofs.put_text.Goals as goal
 

@@ -4,8 +4,8 @@ use Prim.Native.Nat.{◌-◌}
 use native.Mathlib.Omega.{arith}
 use lib.ListN.{length}
 use borrow.Author.Rules.{rules}
-use Rattle.language.specs.Values.{chars}
-use Rattle.layout.proofs.ComponentLaws.{one_of}
+use Rattle.cells.specs.Below.LanguageValues.{chars}
+use Rattle.cells.proofs.Below.ComponentLaws.{one_of}
 use Rattle.components.proofs.Fronts.{leading-one}
 use Rattle.components.proofs.Walks.{step}
 use Rattle.components.proofs.Makings.{Gathering, gathering-none, gathering-room, gathering-next, gathering-all}

@@ -3,8 +3,8 @@ use mathlib.Core.Path.{◌∙◌}
 use native.Mathlib.Omega.{arith}
 use lib.ListN.{length-set}
 use borrow.Author.Rules.{rules}
-use Rattle.layout.specs.Components.{component_bytes}
-use Rattle.layout.specs.Cells.{three}
+use Rattle.cells.specs.Below.Components.{component_bytes}
+use Rattle.cells.specs.Below.LayoutCells.{three}
 use Rattle.components.proofs.Makings.{behind-two}
 use Rattle.components.proofs.put_address.Goals as goal
 

@@ -2,7 +2,7 @@
 use mathlib.Core.Path.{◌∙◌}
 use lib.ListN.{length-set}
 use borrow.Author.Rules.{rules}
-use Rattle.layout.specs.Components.{component_bytes}
+use Rattle.cells.specs.Below.Components.{component_bytes}
 use Rattle.components.proofs.Makings.{behind-one}
 use Rattle.components.proofs.put_word.Goals as goal
 

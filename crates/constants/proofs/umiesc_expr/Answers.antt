@@ -24,7 +24,7 @@ returns-then-not-has_room c =
     let argsᶜ = c.args in
     let has-roomᶜ = c.has_room in
     let if1ᶜ = c.if-not-has_room in
-    expr-full preᶜ.stands put-constantᶜ.ensures argsᶜ.at_end preᶜ.index has-roomᶜ.ensures (not-true has-roomᶜ.result if1ᶜ.true)
+    expr-full preᶜ.stands put-constantᶜ.ensures argsᶜ.at_end preᶜ.index has-roomᶜ.ensures (if1ᶜ.true)
 
 pub slice_bounds-write_parts-end : goal.slice_bounds-write_parts-end
 slice_bounds-write_parts-end c =
@@ -45,7 +45,7 @@ write_parts-requires c =
     let argsᶜ = c.args in
     let has-roomᶜ = c.has_room in
     let if1ᶜ = c.if-not-has_room in
-    expr-writable preᶜ.stands put-constantᶜ.ensures argsᶜ.at_end preᶜ.index has-roomᶜ.ensures (not-false has-roomᶜ.result if1ᶜ.false) preᶜ.spare
+    expr-writable preᶜ.stands put-constantᶜ.ensures argsᶜ.at_end preᶜ.index has-roomᶜ.ensures (if1ᶜ.false) preᶜ.spare
 
 pub returns : goal.returns
 returns c =

@@ -15,15 +15,15 @@ pub loop-i-init : goal.loop-i-init
 loop-i-init c = measuring-none c.args.s.now
 
 pub returns-then-not-is_digit : goal.returns-then-not-is_digit
-returns-then-not-is_digit c = sym (measuring-no c.loop-i.invariant c.loop-i-test.true (sym c.is_digit.ensures ∙ not-true _ c.if-not-is_digit.true-raw))
+returns-then-not-is_digit c = sym (measuring-no c.loop-i.invariant c.loop-i-test.true (sym c.is_digit.ensures ∙ c.if-not-is_digit.true))
 
 pub grown-n-requires : goal.grown-n-requires
 grown-n-requires c =
     let is-digitᶜ = c.is_digit in
-    record { most = c.loop-i.invariant.most; low = (digit-bounds _ (sym is-digitᶜ.ensures ∙ not-false _ c.if-not-is_digit.false-raw)).0; high = (digit-bounds _ (sym is-digitᶜ.ensures ∙ not-false _ c.if-not-is_digit.false-raw)).1 }
+    record { most = c.loop-i.invariant.most; low = (digit-bounds _ (sym is-digitᶜ.ensures ∙ c.if-not-is_digit.false)).0; high = (digit-bounds _ (sym is-digitᶜ.ensures ∙ c.if-not-is_digit.false)).1 }
 
 pub loop-i-preserved : goal.loop-i-preserved
-loop-i-preserved c = measuring-next c.loop-i.invariant c.loop-i-test.true (sym c.is_digit.ensures ∙ not-false _ c.if-not-is_digit.false-raw) c.grown-n.ensures
+loop-i-preserved c = measuring-next c.loop-i.invariant c.loop-i-test.true (sym c.is_digit.ensures ∙ c.if-not-is_digit.false) c.grown-n.ensures
 
 pub returns : goal.returns
 returns c = measuring-all c.loop-i.invariant (omega arith) c.loop-i-test.false

@@ -43,7 +43,7 @@ returns-then-not-enter_cell c =
     let g = c.requires in
     let e = c.lesser-end.ensures ∙ ap (λ (m : ℕ). min (m + c.args.d.words) 128) c.entries-k.ensures.is in
     let u = c.loop-k.invariant.1 c.args.d g e in
-    text-refused g u e c.loop-k-test.true c.read-m.ensures.is c.enter_cell.ensures (not-true c.enter_cell.result c.if-not-enter_cell.true-raw)
+    text-refused g u e c.loop-k-test.true c.read-m.ensures.is c.enter_cell.ensures (c.if-not-enter_cell.true)
 
 pub overflow_add-k-in-loop-k : goal.overflow_add-k-in-loop-k
 overflow_add-k-in-loop-k c = omega (arith, c.loop-k-test.true, c.lesser-end.ensures)
@@ -54,7 +54,7 @@ loop-k-smaller c = omega (arith, c.loop-k-test.true)
 pub loop-k-preserved : goal.loop-k-preserved
 loop-k-preserved c = (
   (omega arith) ∙ c.loop-k.invariant.0,
-  λ d g e. entering-more g (c.loop-k.invariant.1 d g e) e c.loop-k-test.true c.read-m.ensures.is c.enter_cell.ensures (not-false c.enter_cell.result c.if-not-enter_cell.false-raw),
+  λ d g e. entering-more g (c.loop-k.invariant.1 d g e) e c.loop-k-test.true c.read-m.ensures.is c.enter_cell.ensures (c.if-not-enter_cell.false),
 
 pub returns : goal.returns
 returns c =

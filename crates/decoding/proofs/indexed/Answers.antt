@@ -1,5 +1,5 @@
 -- `decoding::indexed` meets its contract.
-use borrow.Enum.Refused.{opened}
+use borrow.Enum.Refused.{opened as unsealed}
 use borrow.Author.Rules.{rules}
 use native.Mathlib.Omega.{arith}
 use Rattle.decoding.specs.OperandLaws.{good_of}
@@ -21,4 +21,4 @@ returns-in_default c =
     let argsᶜ = c.args in
     let preᶜ = c.requires in
     let matchᶜ = c.in_default.in_default-own in
-    absurd (is-lettered argsᶜ.a preᶜ (opened matchᶜ.keys2))
+    absurd (is-lettered argsᶜ.a preᶜ (unsealed matchᶜ.keys2))

@@ -12,19 +12,19 @@ pub enter_text_of-requires : goal.enter_text_of-requires
 enter_text_of-requires c = let u = c.requires in enterable u 0 u.held
 
 pub returns-then-not-enter_text_of : goal.returns-then-not-enter_text_of
-returns-then-not-enter_text_of c = λ js args w. going-stops (going-first bytes_equal (λ j. j.chars) long_text texts-laws refl w c.requires.held) c.enter_text_of.ensures (not-true c.enter_text_of.result c.if-not-enter_text_of.true-raw)
+returns-then-not-enter_text_of c = λ js args w. going-stops (going-first bytes_equal (λ j. j.chars) long_text texts-laws refl w c.requires.held) c.enter_text_of.ensures (c.if-not-enter_text_of.true)
 
 pub enter_text_of-requires-2 : goal.enter_text_of-requires-2
-enter_text_of-requires-2 c = enterable c.requires 1 (going_on (going-first bytes_equal (λ j. j.chars) long_text texts-laws refl c.requires.valued c.requires.held) c.enter_text_of.ensures (not-false c.enter_text_of.result c.if-not-enter_text_of.false-raw)).held
+enter_text_of-requires-2 c = enterable c.requires 1 (going_on (going-first bytes_equal (λ j. j.chars) long_text texts-laws refl c.requires.valued c.requires.held) c.enter_text_of.ensures (c.if-not-enter_text_of.false)).held
 
 pub returns-then-not-enter_text_of-2 : goal.returns-then-not-enter_text_of-2
-returns-then-not-enter_text_of-2 c = λ js args w. going-stops (going_on (going-first bytes_equal (λ j. j.chars) long_text texts-laws refl w c.requires.held) c.enter_text_of.ensures (not-false c.enter_text_of.result c.if-not-enter_text_of.false-raw)) c.enter_text_of-2.ensures (not-true c.enter_text_of-2.result c.if-not-enter_text_of-2.true-raw)
+returns-then-not-enter_text_of-2 c = λ js args w. going-stops (going_on (going-first bytes_equal (λ j. j.chars) long_text texts-laws refl w c.requires.held) c.enter_text_of.ensures (c.if-not-enter_text_of.false)) c.enter_text_of-2.ensures (c.if-not-enter_text_of-2.true)
 
 pub enter_text_of-requires-3 : goal.enter_text_of-requires-3
-enter_text_of-requires-3 c = enterable c.requires 2 (going_on (going_on (going-first bytes_equal (λ j. j.chars) long_text texts-laws refl c.requires.valued c.requires.held) c.enter_text_of.ensures (not-false c.enter_text_of.result c.if-not-enter_text_of.false-raw)) c.enter_text_of-2.ensures (not-false c.enter_text_of-2.result c.if-not-enter_text_of-2.false-raw)).held
+enter_text_of-requires-3 c = enterable c.requires 2 (going_on (going_on (going-first bytes_equal (λ j. j.chars) long_text texts-laws refl c.requires.valued c.requires.held) c.enter_text_of.ensures (c.if-not-enter_text_of.false)) c.enter_text_of-2.ensures (c.if-not-enter_text_of-2.false)).held
 
 pub returns-then-not-enter_text_of-3 : goal.returns-then-not-enter_text_of-3
-returns-then-not-enter_text_of-3 c = λ js args w. going-stops (going_on (going_on (going-first bytes_equal (λ j. j.chars) long_text texts-laws refl w c.requires.held) c.enter_text_of.ensures (not-false c.enter_text_of.result c.if-not-enter_text_of.false-raw)) c.enter_text_of-2.ensures (not-false c.enter_text_of-2.result c.if-not-enter_text_of-2.false-raw)) c.enter_text_of-3.ensures (not-true c.enter_text_of-3.result c.if-not-enter_text_of-3.true-raw)
+returns-then-not-enter_text_of-3 c = λ js args w. going-stops (going_on (going_on (going-first bytes_equal (λ j. j.chars) long_text texts-laws refl w c.requires.held) c.enter_text_of.ensures (c.if-not-enter_text_of.false)) c.enter_text_of-2.ensures (c.if-not-enter_text_of-2.false)) c.enter_text_of-3.ensures (c.if-not-enter_text_of-3.true)
 
 pub returns : goal.returns
-returns c = λ js args w. going-ends (going_on (going_on (going_on (going-first bytes_equal (λ j. j.chars) long_text texts-laws refl w c.requires.held) c.enter_text_of.ensures (not-false c.enter_text_of.result c.if-not-enter_text_of.false-raw)) c.enter_text_of-2.ensures (not-false c.enter_text_of-2.result c.if-not-enter_text_of-2.false-raw)) c.enter_text_of-3.ensures (not-false c.enter_text_of-3.result c.if-not-enter_text_of-3.false-raw))
+returns c = λ js args w. going-ends (going_on (going_on (going_on (going-first bytes_equal (λ j. j.chars) long_text texts-laws refl w c.requires.held) c.enter_text_of.ensures (c.if-not-enter_text_of.false)) c.enter_text_of-2.ensures (c.if-not-enter_text_of-2.false)) c.enter_text_of-3.ensures (c.if-not-enter_text_of-3.false))

@@ -14,7 +14,7 @@ use Rattle.table.specs.declared.Letter.{Letter}
 use Rattle.lists.specs.Quoted.{bytes}
 use Rattle.table.specs.LetterLaws.{listed-letter}
 use Rattle.table.proofs.Letters.{tag}
-use Rattle.tests.specs.Prepares.{OtherLetter}
+use Rattle.comparands.specs.Below.Prepares.{OtherLetter}
 use Rattle.equality.proofs.is_one.Goals as goal
 
 abbrev others : List ℕ

@@ -4,7 +4,7 @@ use mathlib.Core.List.{[]}
 use Rattle.packed.specs.Packed.{table_of}
 use Rattle.state.specs.Working.{state_at}
 use Rattle.layout.proofs.ComponentLaws.{whole-components}
-use Rattle.tests.proofs.Values.{leading}
+use Rattle.comparands.proofs.Below.Values.{leading}
 use Rattle.equality.proofs.Meeting.{filled-there}
 use Rattle.equality.proofs.Questions.{leading-other}
 use Rattle.equality.proofs.Rows.{held-long, rw_none, rw-stop, rw-unlike, rw-done}

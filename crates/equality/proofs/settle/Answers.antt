@@ -1,7 +1,7 @@
 -- `equality::settle` meets its contract.
 use borrow.Author.Rules.{rules}
 use Rattle.layout.proofs.ComponentLaws.{whole-components}
-use Rattle.tests.proofs.Values.{leading}
+use Rattle.comparands.proofs.Below.Values.{leading}
 use Rattle.equality.proofs.Meeting.{some-there, first-long, first-whole, first-parts, settled-done, fitting-by}
 use Rattle.equality.proofs.settle.Goals as goal
 

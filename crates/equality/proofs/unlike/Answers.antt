@@ -21,10 +21,10 @@ pub kind_of-requires-2 : goal.kind_of-requires-2
 kind_of-requires-2 c =
     let preᶜ = c.requires in
     let is-singleᶜ = c.is_single in
-    preᶜ.right (λ t. sym (is-singleᶜ.ensures t) ∙ not-false is-singleᶜ.result c.if-not-is_single.false-raw)
+    preᶜ.right (λ t. sym (is-singleᶜ.ensures t) ∙ c.if-not-is_single.false)
 
 pub returns : goal.returns
 returns c =
     let is-singleᶜ = c.is_single in
     let if1ᶜ = c.if-not-is_single in
-    λ t. unlike-yes c.kind_of.ensures.is c.kind_of-2.ensures.is (is-singleᶜ.ensures t) if1ᶜ.false
+    λ t. unlike-yes c.kind_of.ensures.is c.kind_of-2.ensures.is (is-singleᶜ.ensures t) if1ᶜ.false-raw

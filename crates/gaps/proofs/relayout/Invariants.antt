@@ -3,7 +3,7 @@ use Prim.Native.Nat.{◌-◌}
 use Rattle.gaps.proofs.Spread.{Moving, moving-none, moving-more, settleable, moved, carriable, at-fits}
 use borrow.Author.Rules.{rules}
 use native.Mathlib.Omega.{arith}
-use Rattle.layout.specs.Places as layout
+use Rattle.cells.specs.Below.LayoutPlaces as layout
 use Rattle.gaps.proofs.relayout.Given as goal
 
 abbrev pub invariant-loop-j : goal.invariant-loop-j

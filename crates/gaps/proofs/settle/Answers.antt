@@ -7,7 +7,7 @@ use Rattle.gaps.proofs.Laws.{spanned}
 use Rattle.gaps.proofs.Spread.{settled-none, settled-more, settled-all}
 use borrow.Author.Rules.{rules}
 use native.Mathlib.Omega.{arith}
-use Rattle.layout.specs.Places as layout
+use Rattle.cells.specs.Below.LayoutPlaces as layout
 use Rattle.gaps.proofs.settle.Goals as goal
 
 pub loop-j-init : goal.loop-j-init

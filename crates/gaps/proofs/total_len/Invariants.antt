@@ -4,7 +4,7 @@ use Rattle.gaps.proofs.Laws.{shaped}
 use Rattle.gaps.proofs.Spread.{Counted, counted_none, counted_more, counted-all}
 use borrow.Author.Rules.{rules}
 use native.Mathlib.Omega.{arith}
-use Rattle.layout.specs.Places as layout
+use Rattle.cells.specs.Below.LayoutPlaces as layout
 use Rattle.gaps.proofs.total_len.Given as goal
 
 abbrev pub invariant-loop-j : goal.invariant-loop-j

@@ -12,10 +12,10 @@ pub returns-then-is_konp : goal.returns-then-is_konp
 returns-then-is_konp c = λ n w g k. after-konp g k c.args.section (sym c.is_konp.ensures ∙ c.if-is_konp.true) c.is_named.ensures c.name_fault.ensures
 
 pub returns-then-not-is_kons : goal.returns-then-not-is_kons
-returns-then-not-is_kons c = λ n w g k. after-other g c.args.section (sym c.is_konp.ensures ∙ c.if-is_konp.false) (sym c.is_kons.ensures ∙ not-true c.is_kons.result c.if-not-is_kons.true-raw)
+returns-then-not-is_kons c = λ n w g k. after-other g c.args.section (sym c.is_konp.ensures ∙ c.if-is_konp.false) (sym c.is_kons.ensures ∙ c.if-not-is_kons.true)
 
 pub returns-then-stops : goal.returns-then-stops
-returns-then-stops c = λ n w g k. after_none g k c.args.section (sym c.is_konp.ensures ∙ c.if-is_konp.false) (sym c.is_kons.ensures ∙ not-false c.is_kons.result c.if-not-is_kons.false-raw) (sym c.stops.ensures ∙ c.if-stops.true)
+returns-then-stops c = λ n w g k. after_none g k c.args.section (sym c.is_konp.ensures ∙ c.if-is_konp.false) (sym c.is_kons.ensures ∙ c.if-not-is_kons.false) (sym c.stops.ensures ∙ c.if-stops.true)
 
 pub returns : goal.returns
-returns c = λ n w g k. after-kons g k c.args.section (sym c.is_konp.ensures ∙ c.if-is_konp.false) (sym c.is_kons.ensures ∙ not-false c.is_kons.result c.if-not-is_kons.false-raw) (sym c.stops.ensures ∙ c.if-stops.false) c.name_fault-2.ensures
+returns c = λ n w g k. after-kons g k c.args.section (sym c.is_konp.ensures ∙ c.if-is_konp.false) (sym c.is_kons.ensures ∙ c.if-not-is_kons.false) (sym c.stops.ensures ∙ c.if-stops.false) c.name_fault-2.ensures

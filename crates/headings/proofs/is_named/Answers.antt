@@ -2,7 +2,7 @@
 use borrow.Author.Rules.{rules}
 use native.Mathlib.Omega.{arith}
 use mathlib.Core.Path.{sym, ap, ◌∙◌}
-use Rattle.drafts.specs.Marks.{word_by}
+use Rattle.heads.specs.Below.DraftsMarks.{word_by}
 use Rattle.lists.specs.Lists.{bytes_equal}
 use Rattle.heads.specs.HeadLaws.{word-passes, other-fails}
 use Rattle.lexer.specs.Tokens.{word_of}

@@ -5,7 +5,7 @@ use mathlib.Core.Bool.{Bool, cond}
 use mathlib.Core.List.{[], ◌∷◌}
 use Prim.Native.Nat.{ℕ}
 use borrow.Author.Rules.{rules}
-use Rattle.syntax.specs.Verdict as spec
+use Rattle.scanner.specs.Below.SyntaxVerdict as spec
 use Rattle.heads.proofs.name_fault.Goals as goal
 
 pub returns-then-is_name : goal.returns-then-is_name

@@ -13,18 +13,18 @@ pub returns-then-not-is_single : goal.returns-then-not-is_single
 returns-then-not-is_single c =
     let is-singleᶜ = c.is_single in
     let if1ᶜ = c.if-not-is_single in
-    λ t. unlike-no (is-singleᶜ.ensures t) if1ᶜ.true _
+    λ t. unlike-no (is-singleᶜ.ensures t) if1ᶜ.true-raw _
 
 pub kind_of-requires : goal.kind_of-requires
 kind_of-requires c =
     let preᶜ = c.requires in
     let is-singleᶜ = c.is_single in
     let if1ᶜ = c.if-not-is_single in
-    preᶜ.front (λ t. sym (is-singleᶜ.ensures t) ∙ not-false is-singleᶜ.result if1ᶜ.false)
+    preᶜ.front (λ t. sym (is-singleᶜ.ensures t) ∙ if1ᶜ.false)
 
 pub returns : goal.returns
 returns c =
     let kind-ofᶜ = c.kind_of in
     let is-singleᶜ = c.is_single in
     let if1ᶜ = c.if-not-is_single in
-    λ t. unlike-yes kind-ofᶜ.ensures.is refl (is-singleᶜ.ensures t) if1ᶜ.false
+    λ t. unlike-yes kind-ofᶜ.ensures.is refl (is-singleᶜ.ensures t) if1ᶜ.false-raw

@@ -18,7 +18,7 @@ returns-then-not-taken c =
     let argsᶜ = c.args in
     let if1ᶜ = c.if-not-taken in
     let jump-whenᶜ = c.jump_when in
-    if-not preᶜ.turns.leads argsᶜ.taken (not-true argsᶜ.taken if1ᶜ.true) jump-whenᶜ.ensures
+    if-not preᶜ.turns.leads argsᶜ.taken (if1ᶜ.true) jump-whenᶜ.ensures
 
 pub depth-requires : goal.depth-requires
 depth-requires c =
@@ -32,7 +32,7 @@ returns-then-depth-eq-STACK c =
     let if1ᶜ = c.if-not-taken in
     let depthᶜ = c.depth in
     let if2ᶜ = c.if-depth-eq-STACK in
-    if-full preᶜ.turns.leads argsᶜ.taken (not-false argsᶜ.taken if1ᶜ.false) depthᶜ.ensures if2ᶜ.true
+    if-full preᶜ.turns.leads argsᶜ.taken (if1ᶜ.false) depthᶜ.ensures if2ᶜ.true
 
 pub target-t-requires : goal.target-t-requires
 target-t-requires c =
@@ -60,4 +60,4 @@ returns c =
     let targetᶜ = c.target-t in
     let call-toᶜ = c.call_to in
     let set-plusᶜ = c.set_plus in
-    if-gone preᶜ.turns.leads argsᶜ.taken call (λ t. refl) (not-false argsᶜ.taken if1ᶜ.false) (target_is preᶜ.turns.leads targetᶜ.ensures) call-toᶜ.ensures set-plusᶜ.ensures
+    if-gone preᶜ.turns.leads argsᶜ.taken call (λ t. refl) (if1ᶜ.false) (target_is preᶜ.turns.leads targetᶜ.ensures) call-toᶜ.ensures set-plusᶜ.ensures

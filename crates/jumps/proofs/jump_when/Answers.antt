@@ -25,7 +25,7 @@ returns-then-not-taken c =
     let if1ᶜ = c.if-not-taken in
     let go-onᶜ = c.go_on in
     let set-plusᶜ = c.set_plus in
-    if-on preᶜ.leads argsᶜ.taken (jump (led_to argsᶜ.table.now argsᶜ.label)) (not-true argsᶜ.taken if1ᶜ.true) go-onᶜ.ensures set-plusᶜ.ensures
+    if-on preᶜ.leads argsᶜ.taken (jump (led_to argsᶜ.table.now argsᶜ.label)) (if1ᶜ.true) go-onᶜ.ensures set-plusᶜ.ensures
 
 pub target-t-requires : goal.target-t-requires
 target-t-requires c =
@@ -51,4 +51,4 @@ returns c =
     let targetᶜ = c.target-t in
     let go-toᶜ = c.go_to in
     let set-plus2ᶜ = c.set_plus-2 in
-    if-gone preᶜ.leads argsᶜ.taken jump (λ t. refl) (not-false argsᶜ.taken if1ᶜ.false) (target_is preᶜ.leads targetᶜ.ensures) go-toᶜ.ensures set-plus2ᶜ.ensures
+    if-gone preᶜ.leads argsᶜ.taken jump (λ t. refl) (if1ᶜ.false) (target_is preᶜ.leads targetᶜ.ensures) go-toᶜ.ensures set-plus2ᶜ.ensures

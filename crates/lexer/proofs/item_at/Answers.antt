@@ -2,7 +2,7 @@
 use mathlib.Core.Path.{refl, ◌∙◌}
 use lib.ListN.{get_or}
 use borrow.Author.Rules.{rules}
-use Rattle.syntax.specs.Items.{sort_of}
+use Rattle.scanner.specs.Below.Items.{sort_of}
 use Rattle.lexer.proofs.Finding.{of_number, mark-begins, open-found, end-found, item-found}
 use Rattle.lexer.proofs.item_at.Goals as goal
 

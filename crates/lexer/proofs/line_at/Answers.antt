@@ -3,7 +3,7 @@ use borrow.Author.Rules.{rules}
 use mathlib.Core.Path.{sym, ap, ◌∙◌}
 use lib.ListN.{get_or-eq_default}
 use lib.Seq.{drop-cons}
-use Rattle.lists.specs.Lists.{head_or}
+use Rattle.scanner.specs.Below.Lists.{head_or}
 use Rattle.lexer.proofs.line_at.Goals as goal
 
 pub offset_bounds-lines-at : goal.offset_bounds-lines-at

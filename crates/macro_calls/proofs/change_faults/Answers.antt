@@ -22,7 +22,7 @@ returns-then-not-named c =
     let if1ᶜ = c.if-not-is_typed_call in
     let find-macroᶜ = c.find_macro-named in
     let name = bytes_read argsᶜ.text.now argsᶜ.code.now (argsᶜ.i + 2) partᶜ.ensures highᶜ.ensures.0 lowᶜ.ensures.0 in
-    (told-lost argsᶜ.text.now argsᶜ.code.now argsᶜ.names.now argsᶜ.count argsᶜ.i is-typed-callᶜ.ensures if1ᶜ.false name find-macroᶜ.ensures c.if-not-named.true c.high-then-not-named.ensures.0, kept-all argsᶜ.count argsᶜ.names.now)
+    (told-lost argsᶜ.text.now argsᶜ.code.now argsᶜ.names.now argsᶜ.count argsᶜ.i is-typed-callᶜ.ensures if1ᶜ.false-raw name find-macroᶜ.ensures c.if-not-named.true c.high-then-not-named.ensures.0, kept-all argsᶜ.count argsᶜ.names.now)
 
 pub returns : goal.returns
 returns c =
@@ -38,4 +38,4 @@ returns c =
     let count-faultᶜ = c.count_fault-uneven in
     let keep-hintᶜ = c.keep_hint in
     let name = bytes_read argsᶜ.text.now argsᶜ.code.now (argsᶜ.i + 2) partᶜ.ensures highᶜ.ensures.0 lowᶜ.ensures.0 in
-    (told-found argsᶜ.text.now argsᶜ.code.now argsᶜ.names.now argsᶜ.count argsᶜ.i is-typed-callᶜ.ensures if1ᶜ.false name find-macroᶜ.ensures if2ᶜ.false number-atᶜ.ensures.0 count-faultᶜ.ensures, keep-hintᶜ.ensures)
+    (told-found argsᶜ.text.now argsᶜ.code.now argsᶜ.names.now argsᶜ.count argsᶜ.i is-typed-callᶜ.ensures if1ᶜ.false-raw name find-macroᶜ.ensures if2ᶜ.false number-atᶜ.ensures.0 count-faultᶜ.ensures, keep-hintᶜ.ensures)

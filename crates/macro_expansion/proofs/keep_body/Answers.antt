@@ -12,4 +12,4 @@ returns-then-not-steady c =
 pub returns : goal.returns
 returns c =
     let a = c.args in
-    keeps-stored a.text.now a.code.now a.calls.now _ a.at.left a.at.cell a.steady (not-false _ c.if-not-steady.false-raw) c.remember.ensures
+    keeps-stored a.text.now a.code.now a.calls.now _ a.at.left a.at.cell a.steady (c.if-not-steady.false) c.remember.ensures

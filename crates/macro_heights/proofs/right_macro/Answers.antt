@@ -14,7 +14,7 @@ returns-then-not-named c =
     let is-typed-callᶜ = c.is_typed_call in
     let if1ᶜ = c.if-not-is_typed_call in
     let find-targetᶜ = c.find_target-named in
-    aims-lost argsᶜ.text.now argsᶜ.code.now argsᶜ.firsts.now argsᶜ.count argsᶜ.i is-typed-callᶜ.ensures if1ᶜ.false find-targetᶜ.ensures c.if-not-named.true
+    aims-lost argsᶜ.text.now argsᶜ.code.now argsᶜ.firsts.now argsᶜ.count argsᶜ.i is-typed-callᶜ.ensures if1ᶜ.false-raw find-targetᶜ.ensures c.if-not-named.true
 
 pub returns-in-Clear : goal.returns-in-Clear
 returns-in-Clear c =
@@ -25,7 +25,7 @@ returns-in-Clear c =
     let if2ᶜ = c.if-not-named in
     let number-atᶜ = c.number_at in
     let count-faultᶜ = c.count_fault-fault in
-    aims-right argsᶜ.text.now argsᶜ.code.now argsᶜ.firsts.now argsᶜ.count argsᶜ.i is-typed-callᶜ.ensures if1ᶜ.false find-targetᶜ.ensures if2ᶜ.false number-atᶜ.ensures.0 count-faultᶜ.ensures c.in-Clear.is
+    aims-right argsᶜ.text.now argsᶜ.code.now argsᶜ.firsts.now argsᶜ.count argsᶜ.i is-typed-callᶜ.ensures if1ᶜ.false-raw find-targetᶜ.ensures if2ᶜ.false number-atᶜ.ensures.0 count-faultᶜ.ensures c.in-Clear.is
 
 pub returns-in-At : goal.returns-in-At
 returns-in-At c =
@@ -36,4 +36,4 @@ returns-in-At c =
     let if2ᶜ = c.if-not-named in
     let number-atᶜ = c.number_at in
     let count-faultᶜ = c.count_fault-fault in
-    aims-uneven argsᶜ.text.now argsᶜ.code.now argsᶜ.firsts.now argsᶜ.count argsᶜ.i is-typed-callᶜ.ensures if1ᶜ.false find-targetᶜ.ensures if2ᶜ.false number-atᶜ.ensures.0 count-faultᶜ.ensures c.in-At.is
+    aims-uneven argsᶜ.text.now argsᶜ.code.now argsᶜ.firsts.now argsᶜ.count argsᶜ.i is-typed-callᶜ.ensures if1ᶜ.false-raw find-targetᶜ.ensures if2ᶜ.false number-atᶜ.ensures.0 count-faultᶜ.ensures c.in-At.is

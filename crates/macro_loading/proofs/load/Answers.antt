@@ -23,11 +23,11 @@ has_macros-requires c = search rules
 
 pub returns-then-not-has_macros : goal.returns-then-not-has_macros
 returns-then-not-has_macros c =
-    loads-plain (record { short = c.if-text-gt-TEXT.false; long = c.if-table-lt-TABLE.false }) c.load_typed-typed.ensures (sym c.has_macros.ensures ∙ not-true c.has_macros.result c.if-not-has_macros.true-raw)
+    loads-plain (record { short = c.if-text-gt-TEXT.false; long = c.if-table-lt-TABLE.false }) c.load_typed-typed.ensures (sym c.has_macros.ensures ∙ c.if-not-has_macros.true)
 
 pub load_written-requires : goal.load_written-requires
 load_written-requires c =
-    rewritable (record { short = c.if-text-gt-TEXT.false; long = c.if-table-lt-TABLE.false }) c.load_typed-typed.ensures c.if-typed-eq80.false (sym c.has_macros.ensures ∙ not-false c.has_macros.result c.if-not-has_macros.false-raw)
+    rewritable (record { short = c.if-text-gt-TEXT.false; long = c.if-table-lt-TABLE.false }) c.load_typed-typed.ensures c.if-typed-eq80.false (sym c.has_macros.ensures ∙ c.if-not-has_macros.false)
 
 pub returns : goal.returns
 returns c =

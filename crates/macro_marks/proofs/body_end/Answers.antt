@@ -19,7 +19,7 @@ returns-then-byte_at-ne39 c =
 pub returns-then-not-identifier : goal.returns-then-not-identifier
 returns-then-not-identifier c =
     let a = c.args in
-    no-identifier a.text.now (parameters a.text.now a.header) a.t c.if-t-ne-WORD.false c.byte_at.ensures c.if-byte_at-ne39.false c.identifier.ensures (not-true c.identifier.result c.if-not-identifier.true-raw)
+    no-identifier a.text.now (parameters a.text.now a.header) a.t c.if-t-ne-WORD.false c.byte_at.ensures c.if-byte_at-ne39.false c.identifier.ensures (c.if-not-identifier.true)
 
 pub word_end-end-requires : goal.word_end-end-requires
 word_end-end-requires c =
@@ -29,14 +29,14 @@ word_end-end-requires c =
 pub returns-then-not-identifier-2 : goal.returns-then-not-identifier-2
 returns-then-not-identifier-2 c =
     let a = c.args in
-    no_second a.text.now (parameters a.text.now a.header) a.t c.if-t-ne-WORD.false c.byte_at.ensures c.if-byte_at-ne39.false c.identifier.ensures (not-false c.identifier.result c.if-not-identifier.false-raw) c.word_end-end.ensures c.identifier-2.ensures (not-true c.identifier-2.result c.if-not-identifier-2.true-raw)
+    no_second a.text.now (parameters a.text.now a.header) a.t c.if-t-ne-WORD.false c.byte_at.ensures c.if-byte_at-ne39.false c.identifier.ensures (c.if-not-identifier.false) c.word_end-end.ensures c.identifier-2.ensures (c.if-not-identifier-2.true)
 
 pub returns-then-is_parameter : goal.returns-then-is_parameter
 returns-then-is_parameter c =
     let a = c.args in
-    joined-here a.text.now (parameters a.text.now a.header) a.t c.if-t-ne-WORD.false c.byte_at.ensures c.if-byte_at-ne39.false c.identifier.ensures (not-false c.identifier.result c.if-not-identifier.false-raw) c.word_end-end.ensures c.identifier-2.ensures (not-false c.identifier-2.result c.if-not-identifier-2.false-raw) c.is_parameter.ensures c.if-is_parameter.true
+    joined-here a.text.now (parameters a.text.now a.header) a.t c.if-t-ne-WORD.false c.byte_at.ensures c.if-byte_at-ne39.false c.identifier.ensures (c.if-not-identifier.false) c.word_end-end.ensures c.identifier-2.ensures (c.if-not-identifier-2.false) c.is_parameter.ensures c.if-is_parameter.true
 
 pub returns : goal.returns
 returns c =
     let a = c.args in
-    no-parameter a.text.now (parameters a.text.now a.header) a.t c.if-t-ne-WORD.false c.byte_at.ensures c.if-byte_at-ne39.false c.identifier.ensures (not-false c.identifier.result c.if-not-identifier.false-raw) c.word_end-end.ensures c.identifier-2.ensures (not-false c.identifier-2.result c.if-not-identifier-2.false-raw) c.is_parameter.ensures c.if-is_parameter.false
+    no-parameter a.text.now (parameters a.text.now a.header) a.t c.if-t-ne-WORD.false c.byte_at.ensures c.if-byte_at-ne39.false c.identifier.ensures (c.if-not-identifier.false) c.word_end-end.ensures c.identifier-2.ensures (c.if-not-identifier-2.false) c.is_parameter.ensures c.if-is_parameter.false

@@ -5,10 +5,10 @@ use borrow.Author.Rules.{rules}
 use Rattle.macro_marks.proofs.star.Goals as goal
 
 pub returns-then-not-joins : goal.returns-then-not-joins
-returns-then-not-joins c = rw (not-true c.args.joins c.if-not-joins.true-raw) refl
+returns-then-not-joins c = rw (c.if-not-joins.true) refl
 
 pub bounds-out-at : goal.bounds-out-at
-bounds-out-at c = c.requires (not-false c.args.joins c.if-not-joins.false-raw)
+bounds-out-at c = c.requires (c.if-not-joins.false)
 
 pub returns : goal.returns
-returns c = rw (not-false c.args.joins c.if-not-joins.false-raw) refl
+returns c = rw (c.if-not-joins.false) refl

@@ -26,7 +26,7 @@ loop-k-smaller c = omega (arith, c.loop-k-test.true)
 pub loop-k-preserved : goal.loop-k-preserved
 loop-k-preserved c = let a = c.args in
     let l = c.loop-k in
-    (search rules, omega (arith, c.loop-k-test.true), next-too (λ j. filled_in (arguments_in a.text.now a.code.now a.calls.now a.at.depth) (given_in a.text.now a.code.now (argument_cell a.at.one j))) (λ j. filled_in (arguments_in a.text.now a.code.now a.others.now a.at.depth) (given_in a.text.now a.code.now (argument_cell a.at.other j))) l.k l.invariant.2 (rw (c.argument_cell.ensures.0, c.argument_cell-in-loop-k.ensures.0) at (c.same_given.ensures (not-false _ c.if-not-same_given.false-raw))))
+    (search rules, omega (arith, c.loop-k-test.true), next-too (λ j. filled_in (arguments_in a.text.now a.code.now a.calls.now a.at.depth) (given_in a.text.now a.code.now (argument_cell a.at.one j))) (λ j. filled_in (arguments_in a.text.now a.code.now a.others.now a.at.depth) (given_in a.text.now a.code.now (argument_cell a.at.other j))) l.k l.invariant.2 (rw (c.argument_cell.ensures.0, c.argument_cell-in-loop-k.ensures.0) at (c.same_given.ensures (c.if-not-same_given.false))))
 
 pub returns : goal.returns
 returns c = let a = c.args in

@@ -14,10 +14,10 @@ pub is_mark-requires : goal.is_mark-requires
 is_mark-requires c = c.next_element-b.ensures.held.sorted
 
 pub returns-then-not-is_mark : goal.returns-then-not-is_mark
-returns-then-not-is_mark c = not-defined c.requires c.read_header-h.ensures c.next_element-b.ensures (sym (c.is_mark.ensures c.args.text.now) ∙ not-true c.is_mark.result c.if-not-is_mark.true-raw)
+returns-then-not-is_mark c = not-defined c.requires c.read_header-h.ensures c.next_element-b.ensures (sym (c.is_mark.ensures c.args.text.now) ∙ c.if-not-is_mark.true)
 
 pub read_body-r-requires : goal.read_body-r-requires
-read_body-r-requires c = rw c.less_one.ensures (bodied c.requires c.read_header-h.ensures c.next_element-b.ensures (sym (c.is_mark.ensures c.args.text.now) ∙ not-false c.is_mark.result c.if-not-is_mark.false-raw))
+read_body-r-requires c = rw c.less_one.ensures (bodied c.requires c.read_header-h.ensures c.next_element-b.ensures (sym (c.is_mark.ensures c.args.text.now) ∙ c.if-not-is_mark.false))
 
 pub returns : goal.returns
-returns c = rw c.definition_fault.ensures (definition-done c.requires c.read_header-h.ensures c.next_element-b.ensures (sym (c.is_mark.ensures c.args.text.now) ∙ not-false c.is_mark.result c.if-not-is_mark.false-raw) (rw c.less_one.ensures at c.read_body-r.ensures))
+returns c = rw c.definition_fault.ensures (definition-done c.requires c.read_header-h.ensures c.next_element-b.ensures (sym (c.is_mark.ensures c.args.text.now) ∙ c.if-not-is_mark.false) (rw c.less_one.ensures at c.read_body-r.ensures))

@@ -4,9 +4,9 @@ use Prim.Native.Nat.{◌≤◌, ◌-◌, ◌+◌}
 use native.Mathlib.Omega.{arith}
 use lib.ListN.{length, drop}
 use borrow.Author.Rules.{rules}
-use Rattle.lists.specs.Lists.{ahead}
+use Rattle.characters.specs.Below.Lists.{ahead}
 use Rattle.matching.specs.Tests.{in_class}
-use Rattle.lists.specs.LoopLaws.{ahead-here, ahead-next, ahead-end}
+use Rattle.characters.specs.Below.LoopLaws.{ahead-here, ahead-next, ahead-end}
 use Rattle.matching.proofs.ahead_of_class.Given as goal
 
 abbrev pub invariant-loop-i : goal.invariant-loop-i

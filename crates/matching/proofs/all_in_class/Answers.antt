@@ -5,9 +5,9 @@ use native.Mathlib.Omega.{arith}
 use lib.ListN.{length, drop}
 use borrow.Author.Rules.{rules}
 use borrow.Author.Tests.{not-true, not-false}
-use Rattle.lists.specs.Lists.{all}
+use Rattle.characters.specs.Below.Lists.{all}
 use Rattle.matching.specs.Tests.{in_class}
-use Rattle.lists.specs.LoopLaws.{all_here, all-next, all_end}
+use Rattle.characters.specs.Below.LoopLaws.{all_here, all-next, all_end}
 use Rattle.matching.proofs.all_in_class.Goals as goal
 
 pub loop-i-init : goal.loop-i-init
@@ -17,13 +17,13 @@ pub returns-then-not-in_class : goal.returns-then-not-in_class
 returns-then-not-in_class c =
     let h = c.loop-i in
     let a = c.args in
-    sym (h.invariant.1 ∙ all_here (in_class a.mask) a.w.now h.i c.loop-i-test.true (sym c.in_class.ensures ∙ not-true _ c.if-not-in_class.true-raw))
+    sym (h.invariant.1 ∙ all_here (in_class a.mask) a.w.now h.i c.loop-i-test.true (sym c.in_class.ensures ∙ c.if-not-in_class.true))
 
 pub loop-i-preserved : goal.loop-i-preserved
 loop-i-preserved c =
     let h = c.loop-i in
     let a = c.args in
-    (omega arith, h.invariant.1 ∙ all-next (in_class a.mask) a.w.now h.i c.loop-i-test.true (sym c.in_class.ensures ∙ not-false _ c.if-not-in_class.false-raw))
+    (omega arith, h.invariant.1 ∙ all-next (in_class a.mask) a.w.now h.i c.loop-i-test.true (sym c.in_class.ensures ∙ c.if-not-in_class.false))
 
 pub returns : goal.returns
 returns c =

@@ -5,9 +5,9 @@ use native.Mathlib.Omega.{arith}
 use lib.ListN.{length, drop}
 use borrow.Author.Rules.{rules}
 use borrow.Author.Tests.{not-true, not-false}
-use Rattle.lists.specs.Lists.{all}
+use Rattle.characters.specs.Below.Lists.{all}
 use Rattle.matching.specs.Tests.{in_class}
-use Rattle.lists.specs.LoopLaws.{all_here, all-next, all_end}
+use Rattle.characters.specs.Below.LoopLaws.{all_here, all-next, all_end}
 use Rattle.matching.proofs.all_in_class.Given as goal
 
 abbrev pub invariant-loop-i : goal.invariant-loop-i

@@ -4,10 +4,10 @@ use Prim.Native.Nat.{◌≤◌, ◌-◌}
 use native.Mathlib.Omega.{arith}
 use lib.ListN.{length, drop}
 use borrow.Author.Rules.{rules}
-use Rattle.lists.specs.Lists.{any}
-use Rattle.language.specs.Values.{same}
-use Rattle.layout.specs.Bounds.{WholeComponents}
-use Rattle.layout.specs.Components.{component_in, components_in}
+use Rattle.characters.specs.Below.Lists.{any}
+use Rattle.components.specs.Below.LanguageValues.{same}
+use Rattle.components.specs.Below.LayoutBounds.{WholeComponents}
+use Rattle.components.specs.Below.Components.{component_in, components_in}
 use Rattle.components.proofs.Walks.{step, none_left}
 use Rattle.matching.proofs.Equals.{any_same, any-other}
 use Rattle.matching.proofs.among.Goals as goal

@@ -2,7 +2,7 @@
 use mathlib.Core.Path.{refl}
 use borrow.Author.Rules.{rules}
 use Rattle.characters.specs.Characters.{class_places}
-use Rattle.lists.specs.Lists.{among}
+use Rattle.characters.specs.Below.Lists.{among}
 use Rattle.matching.specs.Tests.{in_class}
 use Rattle.matching.proofs.Counting.{chars-all, chars-short, chars-enough, chars-met}
 use Rattle.matching.proofs.count_chars.Goals as goal

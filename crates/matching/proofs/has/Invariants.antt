@@ -6,8 +6,8 @@ use lib.ListN.{length, drop}
 use lib.Dec.{eqb}
 use borrow.Author.Rules.{rules}
 use borrow.Author.Tests.{eq-eqb, ne_eqb}
-use Rattle.lists.specs.Lists.{among}
-use Rattle.lists.specs.LoopLaws.{any_here, any_next, any-end}
+use Rattle.characters.specs.Below.Lists.{among}
+use Rattle.characters.specs.Below.LoopLaws.{any_here, any_next, any-end}
 use Rattle.matching.proofs.has.Given as goal
 
 abbrev pub invariant-loop-i : goal.invariant-loop-i

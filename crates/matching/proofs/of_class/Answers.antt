@@ -4,8 +4,8 @@ use mathlib.Core.List.{[]}
 use native.Mathlib.Omega.{arith}
 use borrow.Author.Rules.{rules}
 use Rattle.characters.specs.Characters.{class_places}
-use Rattle.lists.specs.Lists.{all}
-use Rattle.layout.specs.Table.{class_by}
+use Rattle.characters.specs.Below.Lists.{all}
+use Rattle.components.specs.Below.Table.{class_by}
 use Rattle.components.proofs.Fronts.{leading-chars}
 use Rattle.matching.specs.Tests.{in_class}
 use Rattle.matching.proofs.Classes.{class-none, class-word}

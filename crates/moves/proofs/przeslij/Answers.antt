@@ -1,6 +1,6 @@
 -- `moves::przeslij` meets its contract.
 use borrow.Author.Rules.{rules}
-use Rattle.packed.specs.Packed.{table_of}
+use Rattle.table.specs.Below.Packed.{table_of}
 use Rattle.table.specs.Denote.{arg_of}
 use Rattle.moves.proofs.Rows.{beside_long, przeslij-stop, przeslij-off, przeslij-copy}
 use Rattle.moves.proofs.przeslij.Goals as goal

@@ -36,7 +36,7 @@ returns-then-not-has_room c =
     let expr-bytesᶜ = c.expr_bytes-x in
     let countᶜ = c.count-t in
     tried-full preᶜ.stands ((sent (until argsᶜ.test argsᶜ.given.now) false argsᶜ.i argsᶜ.reverses argsᶜ.at_end argsᶜ.j) (state_at argsᶜ.pool.now argsᶜ.ends.now argsᶜ.nums.now).store) refl
-    (fits-copy preᶜ.stands preᶜ.source expr-bytesᶜ.ensures countᶜ.ensures argsᶜ.j preᶜ.target argsᶜ.reverses argsᶜ.at_end ∙ sym c.has_room.ensures ∙ not-true c.has_room.result c.if-not-has_room.true-raw)
+    (fits-copy preᶜ.stands preᶜ.source expr-bytesᶜ.ensures countᶜ.ensures argsᶜ.j preᶜ.target argsᶜ.reverses argsᶜ.at_end ∙ sym c.has_room.ensures ∙ c.if-not-has_room.true)
 
 pub slice_bounds-copy-end : goal.slice_bounds-copy-end
 slice_bounds-copy-end c =
@@ -78,7 +78,7 @@ deliver-requires c =
     let copyᶜ = c.copy in
     let has-roomᶜ = c.has_room in
     let if1ᶜ = c.if-not-has_room in
-    writable-copy preᶜ.stands preᶜ.source expr-bytesᶜ.ensures countᶜ.ensures _ argsᶜ.j preᶜ.spare preᶜ.target argsᶜ.reverses (held-turned argsᶜ.hold.now argsᶜ.reverses countᶜ.result.bytes copyᶜ.ensures (taken-part preᶜ.stands preᶜ.source expr-bytesᶜ.ensures countᶜ.ensures) (took preᶜ.stands preᶜ.source expr-bytesᶜ.ensures countᶜ.ensures).bytes_is) (sym has-roomᶜ.ensures ∙ not-false has-roomᶜ.result if1ᶜ.false)
+    writable-copy preᶜ.stands preᶜ.source expr-bytesᶜ.ensures countᶜ.ensures _ argsᶜ.j preᶜ.spare preᶜ.target argsᶜ.reverses (held-turned argsᶜ.hold.now argsᶜ.reverses countᶜ.result.bytes copyᶜ.ensures (taken-part preᶜ.stands preᶜ.source expr-bytesᶜ.ensures countᶜ.ensures) (took preᶜ.stands preᶜ.source expr-bytesᶜ.ensures countᶜ.ensures).bytes_is) (sym has-roomᶜ.ensures ∙ if1ᶜ.false)
 
 pub returns : goal.returns
 returns c =

@@ -1,6 +1,6 @@
 -- `moves::usun` meets its contract.
 use borrow.Author.Rules.{rules}
-use Rattle.packed.specs.Packed.{table_of}
+use Rattle.table.specs.Below.Packed.{table_of}
 use Rattle.table.specs.Denote.{arg_of}
 use Rattle.moves.proofs.Rows.{beside_long, usun-stop, usun-done}
 use Rattle.moves.proofs.usun.Goals as goal

@@ -4,7 +4,7 @@ use native.Mathlib.Omega.{arith}
 use Rattle.layout.specs.Components.{components_in}
 use Rattle.machine.specs.Changes.{into, past}
 use Rattle.state.specs.Working.{state_at, nth, reading, writing}
-use Rattle.instructions.proofs.Answers.{one-after}
+use Rattle.tests.proofs.Below.Answers.{one-after}
 use mathlib.Core.Bool.{false}
 use Rattle.operands.proofs.Replacing.{picked-most, full-parts, full-chars, droppable, writable, replaced-done}
 use Rattle.operands.proofs.replace.Goals as goal

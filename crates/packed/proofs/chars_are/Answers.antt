@@ -14,10 +14,10 @@ returns-then-not-end_is c =
     let b : (j : ℕ) → get_or c.args.word.now j 0 < 256 = λ j. omega (arith, c.shared_slice_known-2-1.given j) in
     let f : (j : ℕ) → get_or c.args.table.now j 0 < 4294967296 = λ j. omega (arith, c.shared_slice_known-1.given j) in
     end-wrong c.args.table.now c.args.at c.requires.inside c.requires.long f c.args.word.now b c.requires.short (length c.args.word.now / 4) (omega arith)
-    (sym c.end_is.ensures ∙ not-true _ c.if-not-end_is.true-raw)
+    (sym c.end_is.ensures ∙ c.if-not-end_is.true)
 
 pub loop-q-init : goal.loop-q-init
-loop-q-init c = (omega arith, sym c.end_is.ensures ∙ not-false _ c.if-not-end_is.false-raw)
+loop-q-init c = (omega arith, sym c.end_is.ensures ∙ c.if-not-end_is.false)
 
 pub returns-then-table-at : goal.returns-then-table-at
 returns-then-table-at c =

@@ -5,8 +5,8 @@ use Prim.Native.Nat.{ℕ, ◌+◌, ◌*◌, ◌-◌, ◌<◌}
 use native.Mathlib.Omega.{arith}
 use lib.ListN.{get_or, length, take, drop}
 use borrow.Author.Rules.{rules}
-use Rattle.lists.specs.Lists.{bytes_equal}
-use Rattle.layout.specs.Cells.{unfours}
+use Rattle.cells.specs.Below.Lists.{bytes_equal}
+use Rattle.cells.specs.Below.LayoutCells.{unfours}
 use Rattle.packed.proofs.Bytes.{same_rest, same_end, fifteen, fifteen-long, fifteen-cell}
 use Rattle.packed.proofs.end_is.Goals as goal
 

@@ -4,7 +4,7 @@ use Prim.Native.Nat.{◌+◌, ◌*◌, ◌-◌, ◌≤◌}
 use native.Mathlib.Omega.{arith}
 use lib.ListN.{get_or, length}
 use borrow.Author.Rules.{rules}
-use Rattle.layout.specs.Cells.{unfours}
+use Rattle.cells.specs.Below.LayoutCells.{unfours}
 use Rattle.packed.proofs.Bytes.{fronted, copy-turn, copy_rest, copied, fifteen, fifteen-long, fifteen-cell}
 use Rattle.packed.proofs.put_chars.Goals as goal
 

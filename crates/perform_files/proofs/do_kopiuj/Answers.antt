@@ -1,7 +1,7 @@
 -- `perform_files::do_kopiuj` meets its contract.
 use borrow.Author.Rules.{rules}
 use mathlib.Core.Path.{refl}
-use Rattle.performing.specs.CarryingLaws.{formed, first-named, second-named, performed}
+use Rattle.perform_pointers.specs.Below.CarryingLaws.{formed, first-named, second-named, performed}
 use Rattle.perform_files.proofs.Operands.{movable}
 use Rattle.perform_files.proofs.do_kopiuj.Goals as goal
 

@@ -3,7 +3,7 @@ use borrow.Author.Rules.{rules}
 use mathlib.Core.Path.{refl}
 use Rattle.language.specs.Letters as letters
 use Rattle.decoding.specs.OperandLaws.{indexed-is, indexed-below}
-use Rattle.performing.specs.CarryingLaws.{formed, first-named, third-none, performed}
+use Rattle.perform_pointers.specs.Below.CarryingLaws.{formed, first-named, third-none, performed}
 use Rattle.perform_files.proofs.Operands.{removable}
 use Rattle.perform_files.proofs.do_skresl.Goals as goal
 

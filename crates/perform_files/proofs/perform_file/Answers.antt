@@ -1,6 +1,6 @@
 -- `perform_files::perform_file` meets its contract.
 use borrow.Author.Rules.{rules}
-use Rattle.performing.specs.CarryingLaws.{known}
+use Rattle.perform_pointers.specs.Below.CarryingLaws.{known}
 use Rattle.perform_files.proofs.Operands.{last}
 use Rattle.perform_files.proofs.perform_file.Goals as goal
 

@@ -19,7 +19,7 @@ returns-then-not-has_room c =
     let last-addressᶜ = c.last_address-a in
     let has-roomᶜ = c.has_room in
     let if1ᶜ = c.if-not-has_room in
-    schowaj-full preᶜ.stands argsᶜ.i argsᶜ.at_end preᶜ.second (last-told before-bytesᶜ.ensures last-addressᶜ.ensures) has-roomᶜ.ensures (not-true has-roomᶜ.result if1ᶜ.true)
+    schowaj-full preᶜ.stands argsᶜ.i argsᶜ.at_end preᶜ.second (last-told before-bytesᶜ.ensures last-addressᶜ.ensures) has-roomᶜ.ensures (if1ᶜ.true)
 
 pub slice_bounds-write_parts-end-2 : goal.slice_bounds-write_parts-end-2
 slice_bounds-write_parts-end-2 c =
@@ -36,7 +36,7 @@ write_parts-requires c =
     let put-addressᶜ = c.put_address in
     let has-roomᶜ = c.has_room in
     let if1ᶜ = c.if-not-has_room in
-    address-writable preᶜ.stands argsᶜ.i argsᶜ.at_end preᶜ.second (last-told before-bytesᶜ.ensures last-addressᶜ.ensures) argsᶜ.hold.now put-addressᶜ.ensures preᶜ.spare has-roomᶜ.ensures (not-false has-roomᶜ.result if1ᶜ.false)
+    address-writable preᶜ.stands argsᶜ.i argsᶜ.at_end preᶜ.second (last-told before-bytesᶜ.ensures last-addressᶜ.ensures) argsᶜ.hold.now put-addressᶜ.ensures preᶜ.spare has-roomᶜ.ensures (if1ᶜ.false)
 
 pub returns : goal.returns
 returns c =

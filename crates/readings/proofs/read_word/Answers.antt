@@ -10,7 +10,7 @@ use Rattle.layout.specs.Components.{components_in}
 use Rattle.matching.specs.Tests.{first_chars, until_chars}
 use Rattle.state.specs.Working.{state_at, nth, writing}
 use Rattle.instructions.proofs.Answers.{one-after, tried-full}
-use Rattle.moves.proofs.Rows.{done-right}
+use Rattle.joining.proofs.Below.MovesRows.{done-right}
 use Rattle.joining.proofs.Words.{written-fits, written-size}
 use Rattle.readings.specs.Readings.{read_up}
 use Rattle.readings.proofs.Reading.{from-inside, part-size, readable, fits_read, word-most, writable, read_done}
@@ -58,7 +58,7 @@ returns-then-not-has_word_room c =
     let has-word-roomᶜ = c.has_word_room in
     let if1ᶜ = c.if-not-has_word_room in
     tried-full preᶜ.unread.stands ((read_up (until_chars argsᶜ.test (first_chars (components_in argsᶜ.given.now))) argsᶜ.input.now argsᶜ.i argsᶜ.at_end argsᶜ.j) (state_at argsᶜ.pool.now argsᶜ.ends.now argsᶜ.nums.now).store) refl
-    (fits_read preᶜ.unread placeᶜ.ensures take-charsᶜ.ensures preᶜ.target argsᶜ.at_end ∙ sym has-word-roomᶜ.ensures ∙ not-true has-word-roomᶜ.result if1ᶜ.true)
+    (fits_read preᶜ.unread placeᶜ.ensures take-charsᶜ.ensures preᶜ.target argsᶜ.at_end ∙ sym has-word-roomᶜ.ensures ∙ if1ᶜ.true)
 
 pub slice_bounds-make_word-end : goal.slice_bounds-make_word-end
 slice_bounds-make_word-end c =
@@ -74,7 +74,7 @@ make_word-n-requires c =
     let placeᶜ = c.place-from in
     let has-word-roomᶜ = c.has_word_room in
     let if1ᶜ = c.if-not-has_word_room in
-    record { room = omega (arith, preᶜ.room); most = word-most preᶜ.unread placeᶜ.ensures take-charsᶜ.ensures preᶜ.target (sym has-word-roomᶜ.ensures ∙ not-false has-word-roomᶜ.result if1ᶜ.false) }
+    record { room = omega (arith, preᶜ.room); most = word-most preᶜ.unread placeᶜ.ensures take-charsᶜ.ensures preᶜ.target (sym has-word-roomᶜ.ensures ∙ if1ᶜ.false) }
 
 pub read_past-requires : goal.read_past-requires
 read_past-requires c =
@@ -103,7 +103,7 @@ deliver-requires c =
     let make-wordᶜ = c.make_word-n in
     let someᶜ = c.some-parts in
     let read-pastᶜ = c.read_past in
-    writable preᶜ.unread placeᶜ.ensures take-charsᶜ.ensures preᶜ.target (sym has-word-roomᶜ.ensures ∙ not-false has-word-roomᶜ.result if1ᶜ.false) make-wordᶜ.ensures _ preᶜ.spare someᶜ.ensures read-pastᶜ.ensures
+    writable preᶜ.unread placeᶜ.ensures take-charsᶜ.ensures preᶜ.target (sym has-word-roomᶜ.ensures ∙ if1ᶜ.false) make-wordᶜ.ensures _ preᶜ.spare someᶜ.ensures read-pastᶜ.ensures
 
 pub returns : goal.returns
 returns c =
@@ -117,5 +117,5 @@ returns c =
     let read-pastᶜ = c.read_past in
     let deliverᶜ = c.deliver in
     done-right preᶜ.unread.stands (read_up (until_chars argsᶜ.test (first_chars (components_in argsᶜ.given.now))) argsᶜ.input.now argsᶜ.i argsᶜ.at_end argsᶜ.j) refl
-    (read_done preᶜ.unread placeᶜ.ensures take-charsᶜ.ensures preᶜ.target (sym has-word-roomᶜ.ensures ∙ not-false has-word-roomᶜ.result if1ᶜ.false) make-wordᶜ.ensures argsᶜ.at_end
+    (read_done preᶜ.unread placeᶜ.ensures take-charsᶜ.ensures preᶜ.target (sym has-word-roomᶜ.ensures ∙ if1ᶜ.false) make-wordᶜ.ensures argsᶜ.at_end
     (one-after (state_at argsᶜ.pool.now argsᶜ.ends.now argsᶜ.nums.now) (past (nth I argsᶜ.i) take-charsᶜ.result.taken) (λ z. minus_unless take-charsᶜ.result.reached (into (nth (writing argsᶜ.at_end) argsᶜ.j) (components_in (take make-wordᶜ.result make-wordᶜ.new.out)) z)) read-pastᶜ.ensures deliverᶜ.ensures))

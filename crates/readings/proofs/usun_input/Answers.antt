@@ -2,7 +2,7 @@
 use borrow.Author.Rules.{rules}
 use Rattle.packed.specs.Packed.{table_of}
 use Rattle.table.specs.Denote.{arg_of}
-use Rattle.moves.proofs.Rows.{beside_long}
+use Rattle.joining.proofs.Below.MovesRows.{beside_long}
 use Rattle.readings.proofs.Rows.{first-unread, second-unread, usun-stop, usun-first, usun-second}
 use Rattle.readings.proofs.Beside.{beside-fits}
 use Rattle.readings.proofs.usun_input.Goals as goal

@@ -1,8 +1,8 @@
 -- `records::stops_at` meets its contract.
 use mathlib.Core.Path.{subst}
 use lib.ListN.{drop}
-use Rattle.layout.proofs.ComponentLaws.{components-of, whole-components}
-use Rattle.layout.specs.Components.{components_in, record_in}
+use Rattle.cells.proofs.Below.ComponentLaws.{components-of, whole-components}
+use Rattle.cells.specs.Below.Components.{components_in, record_in}
 use Rattle.matching.specs.Tests.{until}
 use Rattle.records.specs.Sequences.{FittingRecords}
 use Rattle.records.proofs.Walking.{first-stoppable, first_stops}

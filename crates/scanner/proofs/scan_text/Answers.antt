@@ -1,6 +1,6 @@
 -- `scanner::scan_text` meets its contract: the table lent is that of the definition.
 use mathlib.Core.Path.{refl}
-use Rattle.characters.specs.Characters.{known_marks}
+use Rattle.syntax.specs.Below.Characters.{known_marks}
 use borrow.Author.Rules.{rules}
 use Rattle.scanner.proofs.scan_text.Goals as goal
 

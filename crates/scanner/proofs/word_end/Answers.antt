@@ -21,7 +21,7 @@ pub returns-then-not-is_word : goal.returns-then-not-is_word
 returns-then-not-is_word c =
     let h = c.loop-i in
     let s = c.args.text.now in
-    record { from = h.invariant.0; most = h.invariant.1; is = word-stop s h.i c.loop-i-test.true (sym c.is_word.ensures ∙ not-true _ c.if-not-is_word.true-raw) ∙ h.invariant.2 }
+    record { from = h.invariant.0; most = h.invariant.1; is = word-stop s h.i c.loop-i-test.true (sym c.is_word.ensures ∙ c.if-not-is_word.true) ∙ h.invariant.2 }
 
 pub overflow_add-i : goal.overflow_add-i
 overflow_add-i c = search rules
@@ -33,7 +33,7 @@ pub loop-i-preserved : goal.loop-i-preserved
 loop-i-preserved c =
     let h = c.loop-i in
     let s = c.args.text.now in
-    (search rules, search rules, word_on s h.i c.loop-i-test.true (sym c.is_word.ensures ∙ not-false _ c.if-not-is_word.false-raw) ∙ h.invariant.2)
+    (search rules, search rules, word_on s h.i c.loop-i-test.true (sym c.is_word.ensures ∙ c.if-not-is_word.false) ∙ h.invariant.2)
 
 pub returns : goal.returns
 returns c =

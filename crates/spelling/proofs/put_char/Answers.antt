@@ -6,7 +6,7 @@ use lib.ListN.{length}
 use borrow.Author.Rules.{rules}
 use Rattle.spelling.proofs.Chars.{puts_none, puts_one}
 use Rattle.scanner.proofs.Loops.{given}
-use Rattle.syntax.specs.Items.{char_of, takes_next}
+use Rattle.scanner.specs.Below.Items.{char_of, takes_next}
 use Rattle.spelling.proofs.put_char.Goals as goal
 
 pub takes_next-requires : goal.takes_next-requires

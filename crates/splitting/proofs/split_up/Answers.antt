@@ -11,7 +11,7 @@ use Rattle.matching.specs.Tests.{first_chars, until_chars}
 use Rattle.state.specs.Working.{state_at, nth, reading, writing}
 use Rattle.instructions.proofs.Answers.{one-after, tried-full}
 use Rattle.moves.proofs.Rows.{done-right}
-use Rattle.joining.proofs.Words.{written-fits, written-size}
+use Rattle.readings.proofs.Below.Words.{written-fits, written-size}
 use Rattle.splitting.specs.Splitting.{split_up}
 use Rattle.splitting.proofs.Asking.{leading}
 use Rattle.splitting.proofs.Splits.{some_bytes, droppable, few, part-size, split-fits, fits-split, writable, split_done}
@@ -51,7 +51,7 @@ returns-then-not-has_split_room c =
     let has-split-roomᶜ = c.has_split_room in
     let if1ᶜ = c.if-not-has_split_room in
     tried-full preᶜ.stands ((split_up (until_chars argsᶜ.test (first_chars (components_in argsᶜ.given.now))) argsᶜ.removes argsᶜ.i) (state_at argsᶜ.pool.now argsᶜ.ends.now argsᶜ.nums.now).store) refl
-    (fits-split preᶜ.stands preᶜ.source expr-bytesᶜ.ensures preᶜ.first_word chars-ofᶜ.ensures take-charsᶜ.ensures argsᶜ.removes ∙ sym has-split-roomᶜ.ensures ∙ not-true has-split-roomᶜ.result if1ᶜ.true)
+    (fits-split preᶜ.stands preᶜ.source expr-bytesᶜ.ensures preᶜ.first_word chars-ofᶜ.ensures take-charsᶜ.ensures argsᶜ.removes ∙ sym has-split-roomᶜ.ensures ∙ if1ᶜ.true)
 
 pub slice_bounds-split-end : goal.slice_bounds-split-end
 slice_bounds-split-end c =
@@ -102,7 +102,7 @@ deliver-requires c =
     let has-split-roomᶜ = c.has_split_room in
     let if1ᶜ = c.if-not-has_split_room in
     let past-partsᶜ = c.past_parts in
-    writable preᶜ.stands preᶜ.source expr-bytesᶜ.ensures preᶜ.first_word chars-ofᶜ.ensures take-charsᶜ.ensures argsᶜ.removes splitᶜ.ensures (sym has-split-roomᶜ.ensures ∙ not-false has-split-roomᶜ.result if1ᶜ.false) _ preᶜ.spare past-partsᶜ.ensures
+    writable preᶜ.stands preᶜ.source expr-bytesᶜ.ensures preᶜ.first_word chars-ofᶜ.ensures take-charsᶜ.ensures argsᶜ.removes splitᶜ.ensures (sym has-split-roomᶜ.ensures ∙ if1ᶜ.false) _ preᶜ.spare past-partsᶜ.ensures
 
 pub returns : goal.returns
 returns c =

@@ -21,13 +21,13 @@ pub slice_bounds-is_sound-end : goal.slice_bounds-is_sound-end
 slice_bounds-is_sound-end c = omega (arith, c.line_end-end.ensures.within)
 
 pub returns-then-not-is_sound : goal.returns-then-not-is_sound
-returns-then-not-is_sound c = sounding-stop c.loop-at.invariant c.loop-at-test.true c.line_end-end.ensures refl (sym c.is_sound.ensures ∙ not-true _ c.if-not-is_sound.true-raw)
+returns-then-not-is_sound c = sounding-stop c.loop-at.invariant c.loop-at-test.true c.line_end-end.ensures refl (sym c.is_sound.ensures ∙ c.if-not-is_sound.true)
 
 pub loop-at-smaller : goal.loop-at-smaller
 loop-at-smaller c = omega (arith, c.line_end-end.ensures.on, c.loop-at-test.true)
 
 pub loop-at-preserved : goal.loop-at-preserved
-loop-at-preserved c = sounding-next c.loop-at.invariant c.loop-at-test.true c.line_end-end.ensures refl (sym c.is_sound.ensures ∙ not-false _ c.if-not-is_sound.false-raw)
+loop-at-preserved c = sounding-next c.loop-at.invariant c.loop-at-test.true c.line_end-end.ensures refl (sym c.is_sound.ensures ∙ c.if-not-is_sound.false)
 
 pub returns : goal.returns
 returns c = sounding-all c.loop-at.invariant c.loop-at-test.false

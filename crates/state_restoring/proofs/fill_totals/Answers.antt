@@ -15,19 +15,19 @@ starts_of-end-requires c = search rules
 pub returns-then-not-is_laid : goal.returns-then-not-is_laid
 returns-then-not-is_laid c =
     let pre = c.requires in
-    not-laid pre c.is_laid.ensures (not-true _ c.if-not-is_laid.true-raw)
+    not-laid pre c.is_laid.ensures (c.if-not-is_laid.true)
 
 pub is_sound-requires : goal.is_sound-requires
 is_sound-requires c =
     let pre = c.requires in
     let starts-of = c.starts_of-end in
     let is-laid = c.is_laid in
-    walkable pre starts-of.ensures is-laid.ensures (not-false _ c.if-not-is_laid.false-raw)
+    walkable pre starts-of.ensures is-laid.ensures (c.if-not-is_laid.false)
 
 pub returns-then-not-is_sound : goal.returns-then-not-is_sound
 returns-then-not-is_sound c =
     let pre = c.requires in
-    not_sound pre c.is_sound.ensures (not-true _ c.if-not-is_sound.true-raw)
+    not_sound pre c.is_sound.ensures (c.if-not-is_sound.true)
 
 pub totals-t-requires : goal.totals-t-requires
 totals-t-requires c =
@@ -37,7 +37,7 @@ totals-t-requires c =
     let is-laid = c.is_laid in
     let if1 = c.if-not-is_laid in
     let is-sound = c.is_sound in
-    both-whole pre starts-of.ensures is-laid.ensures (not-false _ if1.false) (λ j. omega (arith, slice-known.given j)) is-sound.ensures (not-false _ c.if-not-is_sound.false-raw)
+    both-whole pre starts-of.ensures is-laid.ensures (if1.false) (λ j. omega (arith, slice-known.given j)) is-sound.ensures (c.if-not-is_sound.false)
 
 pub put_three-requires : goal.put_three-requires
 put_three-requires c = search rules

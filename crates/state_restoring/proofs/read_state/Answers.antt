@@ -26,7 +26,7 @@ returns-then-not-is_sound_text c =
     let args = c.args in
     let ask = c.ask-no in
     let if1 = c.if-no-ne0 in
-    refused-68 args.table.now args.i1.now args.i2.now args.text.now args.state.now ask.ensures if1.false c.if-state-lt-STATE.false c.is_sound_text.ensures (not-true _ c.if-not-is_sound_text.true-raw)
+    refused-68 args.table.now args.i1.now args.i2.now args.text.now args.state.now ask.ensures if1.false c.if-state-lt-STATE.false c.is_sound_text.ensures (c.if-not-is_sound_text.true)
 
 pub restore-requires : goal.restore-requires
 restore-requires c =
@@ -34,7 +34,7 @@ restore-requires c =
     let ask = c.ask-no in
     let if1 = c.if-no-ne0 in
     let if2 = c.if-state-lt-STATE in
-    restorable args.table.now args.i1.now args.i2.now args.text.now args.state.now ask.ensures if1.false if2.false c.is_sound_text.ensures (not-false _ c.if-not-is_sound_text.false-raw) refl
+    restorable args.table.now args.i1.now args.i2.now args.text.now args.state.now ask.ensures if1.false if2.false c.is_sound_text.ensures (c.if-not-is_sound_text.false) refl
 
 pub returns-then-not-restore : goal.returns-then-not-restore
 returns-then-not-restore c =
@@ -44,7 +44,7 @@ returns-then-not-restore c =
     let if2 = c.if-state-lt-STATE in
     let is-sound-text = c.is_sound_text in
     let if3 = c.if-not-is_sound_text in
-    refused-69 args.table.now args.i1.now args.i2.now args.text.now args.state.now ask.ensures if1.false if2.false is-sound-text.ensures (not-false _ if3.false) c.restore.ensures (not-true _ c.if-not-restore.true-raw)
+    refused-69 args.table.now args.i1.now args.i2.now args.text.now args.state.now ask.ensures if1.false if2.false is-sound-text.ensures (if3.false) c.restore.ensures (c.if-not-restore.true)
 
 pub slice_bounds-put-end : goal.slice_bounds-put-end
 slice_bounds-put-end c = search rules
@@ -59,4 +59,4 @@ returns c =
     let if3 = c.if-not-is_sound_text in
     let restore = c.restore in
     let if4 = c.if-not-restore in
-    accepted args.table.now args.i1.now args.i2.now args.text.now args.state.now ask.ensures if1.false if2.false is-sound-text.ensures (not-false _ if3.false) restore.ensures (not-false _ if4.false) c.put.ensures
+    accepted args.table.now args.i1.now args.i2.now args.text.now args.state.now ask.ensures if1.false if2.false is-sound-text.ensures (if3.false) restore.ensures (if4.false) c.put.ensures

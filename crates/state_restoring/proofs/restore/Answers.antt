@@ -23,14 +23,14 @@ returns-then-not-is_state c =
     let pre = c.requires in
     let lay-state = c.lay_state in
     let fill-totals = c.fill_totals in
-    not-state pre lay-state.ensures fill-totals.ensures c.is_state.ensures (not-true _ c.if-not-is_state.true-raw)
+    not-state pre lay-state.ensures fill-totals.ensures c.is_state.ensures (c.if-not-is_state.true)
 
 pub is_saved-requires : goal.is_saved-requires
 is_saved-requires c =
     let pre = c.requires in
     let lay-state = c.lay_state in
     let fill-totals = c.fill_totals in
-    saveable pre lay-state.ensures fill-totals.ensures c.is_state.ensures (not-false _ c.if-not-is_state.false-raw)
+    saveable pre lay-state.ensures fill-totals.ensures c.is_state.ensures (c.if-not-is_state.false)
 
 pub returns : goal.returns
 returns c =
@@ -38,4 +38,4 @@ returns c =
     let lay-state = c.lay_state in
     let fill-totals = c.fill_totals in
     let is_state = c.is_state in
-    compared pre lay-state.ensures fill-totals.ensures is_state.ensures (not-false _ c.if-not-is_state.false-raw) c.is_saved.ensures
+    compared pre lay-state.ensures fill-totals.ensures is_state.ensures (c.if-not-is_state.false) c.is_saved.ensures

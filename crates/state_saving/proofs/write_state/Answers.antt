@@ -30,7 +30,7 @@ pub returns-then-not-is_state : goal.returns-then-not-is_state
 returns-then-not-is_state c =
     let a = c.args in
     let y = asked a.table.now a.i1.now a.i2.now a.state.now a.out.now c.ask-no.ensures c.if-no-ne0.false in
-    ill-gives a.table.now a.i1.now a.i2.now a.state.now a.out.now y c.is_state.ensures (not-true _ c.if-not-is_state.true-raw) c.refused-then-not-is_state.ensures
+    ill-gives a.table.now a.i1.now a.i2.now a.state.now a.out.now y c.is_state.ensures (c.if-not-is_state.true) c.refused-then-not-is_state.ensures
 
 pub slice_bounds-put_saved-end : goal.slice_bounds-put_saved-end
 slice_bounds-put_saved-end c = search rules
@@ -39,7 +39,7 @@ pub put_saved-n-requires : goal.put_saved-n-requires
 put_saved-n-requires c =
     let a = c.args in
     let y = asked a.table.now a.i1.now a.i2.now a.state.now a.out.now c.ask-no.ensures c.if-no-ne0.false in
-    (saveable a.table.now a.i1.now a.i2.now a.state.now a.out.now y c.is_state.ensures (not-false _ c.if-not-is_state.false-raw), omega arith)
+    (saveable a.table.now a.i1.now a.i2.now a.state.now a.out.now y c.is_state.ensures (c.if-not-is_state.false), omega arith)
 
 pub refused-requires-then-out-n : goal.refused-requires-then-out-n
 refused-requires-then-out-n c = search rules
@@ -48,7 +48,7 @@ pub returns-then-out-n : goal.returns-then-out-n
 returns-then-out-n c =
     let a = c.args in
     let y = asked a.table.now a.i1.now a.i2.now a.state.now a.out.now c.ask-no.ensures c.if-no-ne0.false in
-    narrow_gives a.table.now a.i1.now a.i2.now a.state.now a.out.now y c.is_state.ensures (not-false _ c.if-not-is_state.false-raw) c.put_saved-n.ensures c.if-out-n.true c.refused-then-out-n.ensures
+    narrow_gives a.table.now a.i1.now a.i2.now a.state.now a.out.now y c.is_state.ensures (c.if-not-is_state.false) c.put_saved-n.ensures c.if-out-n.true c.refused-then-out-n.ensures
 
 pub slice_bounds-made-end : goal.slice_bounds-made-end
 slice_bounds-made-end c = search rules
@@ -70,4 +70,4 @@ pub returns : goal.returns
 returns c =
     let a = c.args in
     let y = asked a.table.now a.i1.now a.i2.now a.state.now a.out.now c.ask-no.ensures c.if-no-ne0.false in
-    fitting-gives a.table.now a.i1.now a.i2.now a.state.now a.out.now y c.is_state.ensures (not-false _ c.if-not-is_state.false-raw) c.put_saved-n.ensures c.if-out-n.false c.put.ensures
+    fitting-gives a.table.now a.i1.now a.i2.now a.state.now a.out.now y c.is_state.ensures (c.if-not-is_state.false) c.put_saved-n.ensures c.if-out-n.false c.put.ensures

@@ -1,6 +1,6 @@
 -- `store::push_front` meets its contract.
 use mathlib.Core.Path.{ap}
-use Rattle.layout.specs.Strings.{used}
+use Rattle.gaps.specs.Below.Strings.{used}
 use Rattle.gaps.specs.Gaps.{pushed_front}
 use Rattle.gaps.proofs.Laws.{after}
 use borrow.Author.Rules.{rules}

@@ -3,7 +3,7 @@ use mathlib.Core.Path.{◌≡◌}
 use native.Mathlib.Omega.{arith}
 use lib.ListN.{get_or}
 use borrow.Author.Rules.{rules}
-use Rattle.layout.specs.Cells.{cell}
+use Rattle.packed.specs.Below.LayoutCells.{cell}
 use Rattle.table.proofs.Decode.{cell_in, indexed, labelled, switched, classed, texted, numbered, absent}
 use Rattle.packed.specs.Packed.{table_of}
 use Rattle.table.proofs.argument_at.Goals as goal

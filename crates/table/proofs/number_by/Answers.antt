@@ -2,8 +2,8 @@
 use mathlib.Core.Path.{ap, ◌∙◌}
 use Prim.Native.Nat.{ℕ, ◌+◌}
 use borrow.Author.Rules.{rules}
-use Rattle.layout.specs.Cells.{uncode, cell}
-use Rattle.layout.specs.Places as layout
+use Rattle.packed.specs.Below.LayoutCells.{uncode, cell}
+use Rattle.packed.specs.Below.LayoutPlaces as layout
 use Rattle.table.proofs.Decode.{small-number, large_number}
 use Rattle.packed.specs.Packed.{table_of}
 use Rattle.table.proofs.number_by.Goals as goal

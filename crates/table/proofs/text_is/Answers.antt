@@ -3,7 +3,7 @@ use mathlib.Core.List.{List}
 use mathlib.Core.Path.{sym, ap, ◌∙◌}
 use Prim.Native.Nat.{ℕ}
 use borrow.Author.Rules.{rules}
-use Rattle.lists.specs.Lists.{bytes_equal}
+use Rattle.packed.specs.Below.Lists.{bytes_equal}
 use Rattle.table.proofs.Keys.{text-spelled, text-none, text-one, none-same}
 use Rattle.packed.specs.Packed.{table_of}
 use Rattle.table.proofs.text_is.Goals as goal

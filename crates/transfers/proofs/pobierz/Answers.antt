@@ -64,7 +64,7 @@ returns-then-not-has_room c =
     let left2ᶜ = c.left-2 in
     let has-roomᶜ = c.has_room in
     let if2ᶜ = c.if-not-has_room in
-    pobierz-full preᶜ.ready.stands argsᶜ.removes preᶜ.source after-bytesᶜ.ensures argsᶜ.reverses argsᶜ.at_end preᶜ.target if1ᶜ.false contents-atᶜ.ensures countᶜ.ensures leftᶜ.ensures left2ᶜ.ensures has-roomᶜ.ensures (not-true has-roomᶜ.result if2ᶜ.true)
+    pobierz-full preᶜ.ready.stands argsᶜ.removes preᶜ.source after-bytesᶜ.ensures argsᶜ.reverses argsᶜ.at_end preᶜ.target if1ᶜ.false contents-atᶜ.ensures countᶜ.ensures leftᶜ.ensures left2ᶜ.ensures has-roomᶜ.ensures (if2ᶜ.true)
 
 pub copy-requires : goal.copy-requires
 copy-requires c =
@@ -118,7 +118,7 @@ write_parts-requires c =
     let if2ᶜ = c.if-not-has_room in
     let copyᶜ = c.copy in
     let past-recordsᶜ = c.past_records in
-    pobierz-writable preᶜ.ready.stands argsᶜ.removes preᶜ.source after-bytesᶜ.ensures argsᶜ.reverses argsᶜ.at_end preᶜ.target if1ᶜ.false contents-atᶜ.ensures countᶜ.ensures leftᶜ.ensures left2ᶜ.ensures has-roomᶜ.ensures (not-false has-roomᶜ.result if2ᶜ.false) argsᶜ.hold.now copyᶜ.ensures past-recordsᶜ.ensures (omega (arith, preᶜ.ready.spare))
+    pobierz-writable preᶜ.ready.stands argsᶜ.removes preᶜ.source after-bytesᶜ.ensures argsᶜ.reverses argsᶜ.at_end preᶜ.target if1ᶜ.false contents-atᶜ.ensures countᶜ.ensures leftᶜ.ensures left2ᶜ.ensures has-roomᶜ.ensures (if2ᶜ.false) argsᶜ.hold.now copyᶜ.ensures past-recordsᶜ.ensures (omega (arith, preᶜ.ready.spare))
 
 pub returns : goal.returns
 returns c =
@@ -135,4 +135,4 @@ returns c =
     let copyᶜ = c.copy in
     let past-recordsᶜ = c.past_records in
     let write-partsᶜ = c.write_parts in
-    pobierz-done preᶜ.ready.stands argsᶜ.removes preᶜ.source after-bytesᶜ.ensures argsᶜ.reverses argsᶜ.at_end preᶜ.target if1ᶜ.false contents-atᶜ.ensures countᶜ.ensures leftᶜ.ensures left2ᶜ.ensures has-roomᶜ.ensures (not-false has-roomᶜ.result if2ᶜ.false) argsᶜ.hold.now copyᶜ.ensures past-recordsᶜ.ensures write-partsᶜ.ensures
+    pobierz-done preᶜ.ready.stands argsᶜ.removes preᶜ.source after-bytesᶜ.ensures argsᶜ.reverses argsᶜ.at_end preᶜ.target if1ᶜ.false contents-atᶜ.ensures countᶜ.ensures leftᶜ.ensures left2ᶜ.ensures has-roomᶜ.ensures (if2ᶜ.false) argsᶜ.hold.now copyᶜ.ensures past-recordsᶜ.ensures write-partsᶜ.ensures

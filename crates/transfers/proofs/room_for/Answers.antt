@@ -15,7 +15,7 @@ returns-then-not-has_room c =
     let argsᶜ = c.args in
     let has-roomᶜ = c.has_room in
     let if1ᶜ = c.if-not-has_room in
-    answer-full (state_at argsᶜ.pool.now argsᶜ.ends.now argsᶜ.nums.now).store argsᶜ.records argsᶜ.parts argsᶜ.chars argsᶜ.given has-roomᶜ.ensures (not-true has-roomᶜ.result if1ᶜ.true)
+    answer-full (state_at argsᶜ.pool.now argsᶜ.ends.now argsᶜ.nums.now).store argsᶜ.records argsᶜ.parts argsᶜ.chars argsᶜ.given has-roomᶜ.ensures (if1ᶜ.true)
 
 pub number-requires : goal.number-requires
 number-requires c =
@@ -35,7 +35,7 @@ returns-then-number-records-gt-RECORDS c =
     let if1ᶜ = c.if-not-has_room in
     let numberᶜ = c.number in
     let if2ᶜ = c.if-number-records-gt-RECORDS in
-    answer-records (state_at argsᶜ.pool.now argsᶜ.ends.now argsᶜ.nums.now).store argsᶜ.records argsᶜ.parts argsᶜ.chars argsᶜ.given has-roomᶜ.ensures (not-false has-roomᶜ.result if1ᶜ.false) (omega (arith, numberᶜ.ensures.is, if2ᶜ.true))
+    answer-records (state_at argsᶜ.pool.now argsᶜ.ends.now argsᶜ.nums.now).store argsᶜ.records argsᶜ.parts argsᶜ.chars argsᶜ.given has-roomᶜ.ensures (if1ᶜ.false) (omega (arith, numberᶜ.ensures.is, if2ᶜ.true))
 
 pub number-requires-2 : goal.number-requires-2
 number-requires-2 c =
@@ -57,7 +57,7 @@ returns-then-number-given-gt-ADDRESSES c =
     let if2ᶜ = c.if-number-records-gt-RECORDS in
     let number2ᶜ = c.number-2 in
     let if3ᶜ = c.if-number-given-gt-ADDRESSES in
-    answer-given (state_at argsᶜ.pool.now argsᶜ.ends.now argsᶜ.nums.now).store argsᶜ.records argsᶜ.parts argsᶜ.chars argsᶜ.given has-roomᶜ.ensures (not-false has-roomᶜ.result if1ᶜ.false) (omega (arith, numberᶜ.ensures.is, if2ᶜ.false)) (omega (arith, number2ᶜ.ensures.is, if3ᶜ.true))
+    answer-given (state_at argsᶜ.pool.now argsᶜ.ends.now argsᶜ.nums.now).store argsᶜ.records argsᶜ.parts argsᶜ.chars argsᶜ.given has-roomᶜ.ensures (if1ᶜ.false) (omega (arith, numberᶜ.ensures.is, if2ᶜ.false)) (omega (arith, number2ᶜ.ensures.is, if3ᶜ.true))
 
 pub returns : goal.returns
 returns c =
@@ -68,4 +68,4 @@ returns c =
     let if2ᶜ = c.if-number-records-gt-RECORDS in
     let number2ᶜ = c.number-2 in
     let if3ᶜ = c.if-number-given-gt-ADDRESSES in
-    answer-room (state_at argsᶜ.pool.now argsᶜ.ends.now argsᶜ.nums.now).store argsᶜ.records argsᶜ.parts argsᶜ.chars argsᶜ.given has-roomᶜ.ensures (not-false has-roomᶜ.result if1ᶜ.false) (omega (arith, numberᶜ.ensures.is, if2ᶜ.false)) (omega (arith, number2ᶜ.ensures.is, if3ᶜ.false))
+    answer-room (state_at argsᶜ.pool.now argsᶜ.ends.now argsᶜ.nums.now).store argsᶜ.records argsᶜ.parts argsᶜ.chars argsᶜ.given has-roomᶜ.ensures (if1ᶜ.false) (omega (arith, numberᶜ.ensures.is, if2ᶜ.false)) (omega (arith, number2ᶜ.ensures.is, if3ᶜ.false))

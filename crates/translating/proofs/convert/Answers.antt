@@ -12,10 +12,10 @@ pub is_taken-requires : goal.is_taken-requires
 is_taken-requires c = search rules
 
 pub returns-then-not-is_taken : goal.returns-then-not-is_taken
-returns-then-not-is_taken c = untaken-gives c.args.text.now c.args.out.now (sym c.is_taken.ensures ∙ not-true c.is_taken.result c.if-not-is_taken.true-raw)
+returns-then-not-is_taken c = untaken-gives c.args.text.now c.args.out.now (sym c.is_taken.ensures ∙ c.if-not-is_taken.true)
 
 pub turn-requires : goal.turn-requires
-turn-requires c = sym c.is_taken.ensures ∙ not-false c.is_taken.result c.if-not-is_taken.false-raw
+turn-requires c = sym c.is_taken.ensures ∙ c.if-not-is_taken.false
 
 pub returns : goal.returns
 returns c = search rules

@@ -9,7 +9,7 @@ pub is_operator-operates-requires : goal.is_operator-operates-requires
 is_operator-operates-requires c = search rules
 
 pub returns-then-not-is_awaited : goal.returns-then-not-is_awaited
-returns-then-not-is_awaited c = item_passed c.requires c.is_operator-operates.ensures (not-true _ c.if-not-is_awaited.true-raw)
+returns-then-not-is_awaited c = item_passed c.requires c.is_operator-operates.ensures (c.if-not-is_awaited.true)
 
 pub slice_bounds-append-count : goal.slice_bounds-append-count
 slice_bounds-append-count c = search rules
@@ -37,4 +37,4 @@ append_other-requires c = search rules
 
 pub returns : goal.returns
 returns c =
-    operator-passed c.requires c.is_operator-operates.ensures (not-false _ c.if-not-is_awaited.false-raw) c.append-n.ensures (omega arith) c.append_other.ensures (omega arith)
+    operator-passed c.requires c.is_operator-operates.ensures (c.if-not-is_awaited.false) c.append-n.ensures (omega arith) c.append_other.ensures (omega arith)

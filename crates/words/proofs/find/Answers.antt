@@ -4,7 +4,7 @@ use mathlib.Core.Path.{◌≡◌, sym, ◌∙◌, ap, subst}
 use mathlib.Core.Bool.{Bool}
 use mathlib.Core.List.{List}
 use Prim.Native.Nat.{ℕ}
-use Rattle.lists.specs.Lists.{bytes_equal}
+use Rattle.syntax.specs.Below.Lists.{bytes_equal}
 use Rattle.words.specs.Keywords.{of_row, InRow}
 use Rattle.words.proofs.KeywordLaws.{named, guessed-right, guessed-wrong}
 use borrow.Author.Rules.{rules}

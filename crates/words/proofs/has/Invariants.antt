@@ -4,7 +4,7 @@ use mathlib.Core.Bool.{◌||◌}
 use Prim.Native.Nat.{◌≤◌, ◌-◌}
 use lib.Dec.{eqb}
 use lib.ListN.{length, drop}
-use Rattle.lists.specs.Lists.{among, any}
+use Rattle.syntax.specs.Below.Lists.{among, any}
 use Rattle.words.proofs.Loops.{any_next, any-end}
 use borrow.Author.Rules.{rules}
 use Rattle.words.proofs.has.Given as goal

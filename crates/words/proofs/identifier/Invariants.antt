@@ -3,9 +3,9 @@ use mathlib.Core.Path.{◌≡◌, sym, ap, ◌∙◌}
 use mathlib.Core.Bool.{◌&&◌, ◌||◌}
 use Prim.Native.Nat.{◌≤◌, ◌-◌}
 use lib.ListN.{length, drop}
-use Rattle.characters.specs.Characters.{is_capital, is_digit}
-use Rattle.language.specs.Program.{identifier}
-use Rattle.lists.specs.Lists.{all}
+use Rattle.syntax.specs.Below.Characters.{is_capital, is_digit}
+use Rattle.syntax.specs.Below.Program.{identifier}
+use Rattle.syntax.specs.Below.Lists.{all}
 use Rattle.words.proofs.Loops.{none, identifier-starts, all-next, all_end}
 use borrow.Author.Rules.{rules}
 use Rattle.words.proofs.identifier.Given as goal

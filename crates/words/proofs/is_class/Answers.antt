@@ -3,7 +3,7 @@ use mathlib.Core.Path.{◌≡◌, sym, ◌∙◌}
 use mathlib.Core.Bool.{◌&&◌}
 use Prim.Native.Nat.{◌≤◌, ◌-◌}
 use lib.ListN.{length, drop}
-use Rattle.lists.specs.Lists.{all}
+use Rattle.syntax.specs.Below.Lists.{all}
 use Rattle.words.specs.Words.{class_letter, is_class}
 use Rattle.words.proofs.Loops.{filled-length, all-next, all_end}
 use borrow.Author.Rules.{rules}

@@ -1,0 +1,5 @@
+-- Modules of the crates below, passed on to those above. Declares nothing.
+pub use Rattle.drafts.specs.Below.Writing
+pub use Rattle.drafts.specs.Drafting
+pub use Rattle.drafts.specs.Marks as DraftsMarks
+pub use Rattle.drafts.specs.Tabled

@@ -1,0 +1,3 @@
+-- Modules of the crates below, passed on to those above. Declares nothing.
+pub use Rattle.readings.specs.Below.Joining
+pub use Rattle.readings.specs.Readings

@@ -1,0 +1,19 @@
+-- Modules of the crates below, passed on to those above. Declares nothing.
+pub use Rattle.gaps.specs.Below.Changes
+pub use Rattle.gaps.specs.Below.Components
+pub use Rattle.gaps.specs.Below.Effects
+pub use Rattle.gaps.specs.Below.LanguageValues
+pub use Rattle.gaps.specs.Below.LayoutBounds
+pub use Rattle.gaps.specs.Below.LayoutCells
+pub use Rattle.gaps.specs.Below.LayoutMemory
+pub use Rattle.gaps.specs.Below.LayoutPlaces
+pub use Rattle.gaps.specs.Below.Letters
+pub use Rattle.gaps.specs.Below.Limits
+pub use Rattle.gaps.specs.Below.ListLaws
+pub use Rattle.gaps.specs.Below.Lists
+pub use Rattle.gaps.specs.Below.MachineArguments
+pub use Rattle.gaps.specs.Below.Program
+pub use Rattle.gaps.specs.Below.Steps
+pub use Rattle.gaps.specs.Below.Strings
+pub use Rattle.gaps.specs.Gaps
+pub use Rattle.gaps.specs.Pool
