@@ -1,7 +1,7 @@
 // The calls for C: those of the crate `interpreter`, with its clauses. A slice passes as a pointer and a length.
 #![tactic(auto)]
 
-ghost use Rattle.std.specs.Prelude.{◌≡◌, [], ◌∷◌, length};
+ghost use Rattle.std.specs.Prelude.{[], ◌∷◌, length};
 ghost use Rattle.class_calls.specs.Class.{lent_of};
 ghost use Rattle.calls.specs.Calls.{start_of, run_of};
 ghost use Rattle.calls.specs.Filling.{Fills};
