@@ -1,6 +1,9 @@
 // Writes two lines of 88 bytes: the characters of EOL-2 that can be seen, in the order of their ranks, and the classes of all.
 #![tactic(auto)]
 
+use std::io;
+use std::io::Write;
+
 #[derive(Drop)]
 pub struct Line {
     pub bytes: [u8; 88],
@@ -46,13 +49,13 @@ fn classes_seen() -> Line {
     line
 }
 
-fn write_line(line: Line) {
+fn write_line(rt: &impl Print, line: Line) {
     let mut bytes = line.bytes;
     bytes[87] = b'\n';
-    io::write_all(1, &bytes);
+    let _ = io::writer(rt).write_all(&bytes);
 }
 
-fn main() {
-    write_line(characters_seen());
-    write_line(classes_seen());
+fn main(rt: HostRuntime) {
+    write_line(&rt, characters_seen());
+    write_line(&rt, classes_seen());
 }

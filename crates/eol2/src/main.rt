@@ -1,18 +1,49 @@
 // The program of document 01: reads at most 65,536 bytes of standard input, loads the text among them, runs it and prints.
 #![tactic(auto)]
-ghost use Rattle.std.specs.Prelude.{◌≤◌, length};
 
-// Prints what the input brings.
-fn print(input: &[u8], out: &mut [u8])
-    requires { 4224 ≤ length out.old }
+ghost use Rattle.std.specs.Prelude.{◌≤◌, length, take, OnOk};
+ghost use Rattle.std.specs.Io.KnownBytes.{Appends, Consumes};
+ghost use Rattle.console.specs.Console.{printed};
+ghost use Rattle.eol2.specs.Answering.{Answers};
+
+use std::io;
+use std::io::{Read, Write};
+
+// Reads until the buffer is full, the input ends or a read fails, and returns how many bytes are then at its front.
+fn read_full<R: Read>(input: &mut R, buffer: &mut [u8]) -> usize
+    ensures within { result ≤ length buffer.new }
+    ensures bytes { Consumes (R.remaining input.old) (R.remaining input.new) (take result buffer.new) }
 {
-    let n = batch::answer(input, out);
-    io::write_all(1, &out[..n]);
+    let mut done = 0;
+    while done < buffer.len() {
+        match input.read(&mut buffer[done..]) {
+            Ok(0) => return done,
+            Ok(n) => done += n,
+            Err(_) => return done,
+        }
+    }
+    done
 }
 
-fn main() {
-    let mut input = io::large_buffer();
-    let n = io::read_full(0, &mut input);
+// Prints what the input brings. Where it is known which bytes a writer holds, they are then the last ones.
+fn print<W: Write>(to: &mut W, input: &[u8], out: &mut [u8]) -> io::Result<()>
+    requires { 4224 ≤ length out.old }
+    ensures { OnOk result (Appends (W.contents to.old) (W.contents to.new) (printed input.now)) }
+{
+    let n = batch::answer(input, out);
+    to.write_all(&out[..n])
+}
+
+// Reads, loads, runs and prints.
+fn answer<R: Read, W: Write>(from: &mut R, to: &mut W) -> io::Result<()>
+    ensures { Answers (R.remaining from.old) (R.remaining from.new) (W.contents to.old) (W.contents to.new) result }
+{
+    let mut input = [0u8; 65536];
+    let n = read_full(from, &mut input);
     let mut out = [0u8; 4224];
-    print(&input[..n], &mut out);
+    print(to, &input[..n], &mut out)
+}
+
+fn main(rt: HostRuntime) {
+    let _ = answer(&mut rt.reader(), &mut io::writer(&rt));
 }

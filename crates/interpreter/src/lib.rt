@@ -1,4 +1,4 @@
-// The calls for C. A slice passes as a pointer and a length; the answer has the number in its upper 32 bits and the line or the count in the lower.
+// The eight calls, which `interpreter_c` gives to C. An answer has the number in its upper 32 bits and the line or the count in the lower.
 #![tactic(auto)]
 
 ghost use Rattle.std.specs.Prelude.{◌≡◌, [], ◌∷◌, length};
@@ -24,8 +24,7 @@ fn packed(number: u8, value: u32) -> u64
 }
 
 // The number and the line of a text: "Accepted is 80 (load: line 0)".
-#[unsafe(no_mangle)]
-pub extern "C" fn eol2_load(text: &[u8], table: &mut [u32]) -> u64
+pub fn eol2_load(text: &[u8], table: &mut [u32]) -> u64
     ensures { AnswersLoad (load_in (length table.old) text.now) table.old result table.new }
 {
     let r: Loaded = from_macro_loading::load(text, table);
@@ -33,8 +32,7 @@ pub extern "C" fn eol2_load(text: &[u8], table: &mut [u32]) -> u64
 }
 
 // The number, and how many bytes of the buffer are the text in the other edition: "67, with the buffer unchanged; else its rest stays".
-#[unsafe(no_mangle)]
-pub extern "C" fn eol2_convert(text: &[u8], out: &mut [u8]) -> u64
+pub fn eol2_convert(text: &[u8], out: &mut [u8]) -> u64
     ensures { Fills (convert_of (length out.old) text.now) result out.old out.new }
 {
     let r = translating::convert(text, out);
@@ -43,8 +41,7 @@ pub extern "C" fn eol2_convert(text: &[u8], out: &mut [u8]) -> u64
 
 // The number that load gives, and how many bytes of the buffer are a part of the text that it refuses with the same number, or the text that it
 // accepts; the table "is left as loading the part leaves it".
-#[unsafe(no_mangle)]
-pub extern "C" fn eol2_shorten(text: &[u8], table: &mut [u32], out: &mut [u8]) -> u64
+pub fn eol2_shorten(text: &[u8], table: &mut [u32], out: &mut [u8]) -> u64
     ensures { AnswersShorten text.now table.old out.old result table.new out.new }
 {
     let r = shortening::shorten(text, table, out);
@@ -52,8 +49,7 @@ pub extern "C" fn eol2_shorten(text: &[u8], table: &mut [u32], out: &mut [u8]) -
 }
 
 // "Start then makes H plus, all else empty."
-#[unsafe(no_mangle)]
-pub extern "C" fn eol2_start(table: &[u32], i1: &[u8], i2: &[u8], state: &mut [u8]) -> u64
+pub fn eol2_start(table: &[u32], i1: &[u8], i2: &[u8], state: &mut [u8]) -> u64
     ensures { Answers (start_of table.now (i1.now ∷ i2.now ∷ []) state.old) result state.new }
 {
     let refused = check_calls::ask(table, i1, i2);
@@ -68,8 +64,7 @@ pub extern "C" fn eol2_start(table: &[u32], i1: &[u8], i2: &[u8], state: &mut [u
 }
 
 // Run "takes at most the budget of steps"; the answer has the count of completed instructions.
-#[unsafe(no_mangle)]
-pub extern "C" fn eol2_run(
+pub fn eol2_run(
     table: &[u32],
     i1: &[u8],
     i2: &[u8],
@@ -91,8 +86,7 @@ pub extern "C" fn eol2_run(
 
 // The number, and how many bytes of the buffer are the state as lines of frames: "An ill-formed state to write, or memory too short, brings 63; the
 // rest of a buffer stays".
-#[unsafe(no_mangle)]
-pub extern "C" fn eol2_write_state(
+pub fn eol2_write_state(
     table: &[u32],
     i1: &[u8],
     i2: &[u8],
@@ -106,8 +100,7 @@ pub extern "C" fn eol2_write_state(
 }
 
 // The number; the state is the one that the lines of frames give. "A refused call changes nothing."
-#[unsafe(no_mangle)]
-pub extern "C" fn eol2_read_state(
+pub fn eol2_read_state(
     table: &[u32],
     i1: &[u8],
     i2: &[u8],
@@ -121,8 +114,7 @@ pub extern "C" fn eol2_read_state(
 
 // The number; for each pupil of a class three numbers of the results and a part of the buffer: "the answer, count, Q1 and its length that a separate
 // start and run would give, in order".
-#[unsafe(no_mangle)]
-pub extern "C" fn eol2_class(
+pub fn eol2_class(
     table: &[u32],
     inputs: &[u8],
     lengths: &[u32],

@@ -5,7 +5,6 @@ ghost use Rattle.std.specs.Prelude.{◌≡◌, length, take};
 ghost use Rattle.shorten_calls.specs.Shortening.{part};
 ghost use Rattle.shortening.specs.Trying.{Ending, LineStart, Exchangeable, exchanged, Cuttable, Tried, Tryable, Rounded, Finished, Givable, Given, Refused, Shortens};
 
-use bytes::reverse;
 use calls::Filled;
 use language::Machine;
 use macro_loading::from_loading::Loaded;
@@ -30,9 +29,7 @@ fn exchange(row: &mut [u8], from: usize, middle: usize, to: usize)
     requires { Exchangeable row.old from middle to }
     ensures { row.new ≡ exchanged row.old from middle to }
 {
-    reverse(row, from, middle);
-    reverse(row, middle, to);
-    reverse(row, from, to);
+    row[from..to].rotate_left(middle - from);
 }
 
 // Drops the bytes from `from` to `to` of the first `n` if the number stays; returns how many bytes are left. For the trial they are put behind the
