@@ -1,5 +1,6 @@
 // Bytes put behind those that stand in a row already, as long as there is room.
 #![tactic(auto)]
+
 ghost use Rattle.std.specs.Prelude.{◌<◌, length};
 ghost use Rattle.appending.specs.Appending.{Appends};
 

@@ -1,5 +1,6 @@
 // The arguments of an instruction: one pass over the items after its operator gives its faults and its arguments by value.
 #![tactic(auto)]
+
 ghost use Rattle.std.specs.Prelude.{◌≡◌, ◌≤◌};
 ghost use Rattle.arguments.specs.Arguments.{with_excess, missing_or, Leaves, ReadsLeft, Refusable, Refuses, Operates, ReadsArguments};
 ghost use Rattle.arguments.specs.Valued.{no_value, no_values, put_at, argument_value, WordKind, Found, ItemKind};

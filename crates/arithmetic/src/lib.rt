@@ -1,5 +1,6 @@
 // Arithmetic: DODAJ, ODEJMIJ, MNOZ and DZIEL. Numbers are their codes, the value with 8,388,607 added.
 #![tactic(auto)]
+
 ghost use Rattle.std.specs.Prelude.{◌≡◌, true, [], ◌∷◌, length, ◌+ℤ◌, ◌-ℤ◌, ◌*ℤ◌, ◌≤◌};
 ghost use Rattle.std.specs.Int.Signed.{quot_z, rem_z};
 ghost use Rattle.language.specs.Program.Arg.{nothing};

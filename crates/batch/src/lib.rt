@@ -1,5 +1,6 @@
 // Load, start and run on the bytes of standard input, and what is printed.
 #![tactic(auto)]
+
 ghost use Rattle.std.specs.Prelude.{◌≡◌, [], ◌∷◌, ◌/◌, ◌%◌, ◌≤◌, length};
 ghost use Rattle.layout.specs.Memory.{state_of};
 ghost use Rattle.layout.specs.Table.{program_of};

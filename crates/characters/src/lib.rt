@@ -1,5 +1,6 @@
 // The 87 characters: their ranks and classes, and the order of two words.
 #![tactic(auto)]
+
 ghost use Rattle.std.specs.Prelude.{◌≡◌, ◌<◌, eqb};
 ghost use Rattle.lists.specs.Lists.{all, ahead};
 ghost use Rattle.characters.specs.Characters.{rank, byte_of, known, between, is_capital, is_digit, class_of, class_place, class_places, known_marks, precedes};

@@ -1,5 +1,6 @@
 // Addresses of records: collected from the strings of files, and all different. "Records' addresses from 1 and distinct".
 #![tactic(auto)]
+
 ghost use Rattle.std.specs.Prelude.{◌≡◌, ◌<◌, eqb, length};
 ghost use Rattle.lists.specs.Lists.{any};
 ghost use Rattle.machine.specs.WellFormed.{different};

@@ -1,5 +1,6 @@
 // The questions that every call asks first that is lent a table and inputs: 62 and 61.
 #![tactic(auto)]
+
 ghost use Rattle.std.specs.Prelude.{◌≡◌, cond, [], ◌∷◌};
 ghost use Rattle.check_calls.specs.Asked.{first_no};
 

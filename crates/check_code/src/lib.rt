@@ -1,5 +1,6 @@
 // The instructions of a program table, for question 62: operator and line, and arguments in range and of the forms that the instruction lists.
 #![tactic(auto)]
+
 ghost use Rattle.std.specs.Prelude.{◌≡◌, cond, ◌+◌, ◌*◌, ◌%◌, ◌^◌, ◌<◌, ◌≤◌, eqb, ltb, length};
 ghost use Rattle.forms.specs.Forms.{ends};
 ghost use Rattle.layout.specs.Cells.{cell};

@@ -1,5 +1,6 @@
 // Question 61: inputs short enough and of the 87 characters.
 #![tactic(auto)]
+
 ghost use Rattle.std.specs.Prelude.{◌≡◌, ◌&&◌, [], ◌∷◌, leb, length};
 ghost use Rattle.lists.specs.Lists.{all};
 ghost use Rattle.characters.specs.Characters.{known};

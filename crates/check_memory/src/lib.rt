@@ -1,5 +1,6 @@
 // Question 63 as tests of the cells, one after the other: numbers and zeros, strings, totals, addresses.
 #![tactic(auto)]
+
 ghost use Rattle.std.specs.Prelude.{◌≡◌, length};
 ghost use Rattle.layout.specs.Cells.{three_at};
 ghost use Rattle.lists.specs.Lists.{all};

@@ -1,6 +1,7 @@
 // The parts of a program table, one by one, for question 62: characters, texts, numbers, labels, entries, arguments and instructions. Cells past
 // the table count as zero.
 #![tactic(auto)]
+
 ghost use Rattle.std.specs.Prelude.{◌≡◌, ◌+◌, ◌<◌, ◌≤◌, length};
 ghost use Rattle.cells.specs.Cells.{Number};
 ghost use Rattle.characters.specs.Characters.{known_marks};

@@ -1,5 +1,6 @@
 // Question 63: "State long enough, and for run well formed?" It is asked after 62 and 61.
 #![tactic(auto)]
+
 ghost use Rattle.std.specs.Prelude.{◌≡◌, [], ◌∷◌, T, length};
 ghost use Rattle.lists.specs.Lists.{all};
 ghost use Rattle.layout.specs.Memory.{twos_in, good_memory};

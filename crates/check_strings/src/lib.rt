@@ -1,5 +1,6 @@
 // Question 63 of one string: whole components or records without faults. The walks take any bytes.
 #![tactic(auto)]
+
 ghost use Rattle.std.specs.Prelude.{◌≡◌, cond, ◌≤◌, ◌<◌, length};
 ghost use Rattle.characters.specs.Characters.{known_marks};
 ghost use Rattle.check_strings.specs.Sound.{sound_components, sound_short, FrontSize, given, framed, sound_records, RecordSize};

@@ -1,5 +1,6 @@
 // Question 62: whether a lent table is well formed. Cells beyond the 8,192 are neither read nor needed.
 #![tactic(auto)]
+
 ghost use Rattle.std.specs.Prelude.{◌≡◌, ◌+◌, ◌*◌, ◌-◌, ◌<◌, ◌≤◌, length};
 ghost use Rattle.cells.specs.Cells.{Number};
 ghost use Rattle.layout.specs.Table.{good_table};

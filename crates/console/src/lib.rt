@@ -1,5 +1,6 @@
 // The program on standard input: where the text ends, and the lines that it prints.
 #![tactic(auto)]
+
 ghost use Rattle.std.specs.Prelude.{◌≡◌, ◌+◌, ◌≤◌, ◌<◌, length};
 ghost use Rattle.console.specs.Console.{is_last, two_digits, field, refusal_line, answer_bytes, end_line};
 ghost use Rattle.console.specs.Parts.{TextEnd, Put, Room, RefusalRoom, EndRoom, answer_by};

@@ -1,5 +1,6 @@
 // Constants of the program: UMIESC to an expression, a file and an output.
 #![tactic(auto)]
+
 ghost use Rattle.std.specs.Prelude.{Bool, length};
 ghost use Rattle.language.specs.Limits as limit;
 ghost use Rattle.language.specs.Letters.Letter.{Q};

@@ -1,5 +1,6 @@
 // Where a run goes on: the next instruction and the return stack of the state at work.
 #![tactic(auto)]
+
 ghost use Rattle.std.specs.Prelude.{length};
 ghost use Rattle.machine.specs.Effects.Go.{on, jump, call, back};
 ghost use Rattle.state.specs.Working.{state_at, HoldsState, Stands};

@@ -1,5 +1,6 @@
 // Numbers to words and back: SLOWO and LICZBA.
 #![tactic(auto)]
+
 ghost use Rattle.std.specs.Prelude.{length};
 ghost use Rattle.language.specs.Letters.Letter.{E};
 ghost use Rattle.language.specs.Program.Arg.{nothing};

@@ -1,5 +1,6 @@
 // Moves of records: KOPIUJ, SKRESL and OMIN.
 #![tactic(auto)]
+
 ghost use Rattle.std.specs.Prelude.{◌≡◌, true, false, map, length, take};
 ghost use Rattle.language.specs.Letters.Letter.{P};
 ghost use Rattle.language.specs.Program.Arg.{nothing};

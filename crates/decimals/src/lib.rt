@@ -1,5 +1,6 @@
 // Numbers as decimal words, and back.
 #![tactic(auto)]
+
 ghost use Rattle.std.specs.Prelude.{◌≡◌, ◌+◌, ◌*◌, ◌-◌, ◌<◌, min, length};
 ghost use Rattle.language.specs.Values.{decimal};
 ghost use Rattle.layout.specs.Cells.{uncode};

@@ -1,5 +1,6 @@
 // The operands of an instruction, from its arguments: which variable, and how it is read or written.
 #![tactic(auto)]
+
 ghost use Rattle.std.specs.Prelude.{◌≡◌};
 ghost use Rattle.language.specs.Letters.{use_of};
 ghost use Rattle.lists.specs.Quoted.{bytes};

@@ -1,6 +1,7 @@
 // Searches in a program table while it is written: the place of a text, a number or a label, which is the count of them where there is none such; and the references
 // of texts and numbers in the cells of arguments and entries.
 #![tactic(auto)]
+
 ghost use Rattle.language.specs.Values.{same_number};
 ghost use Rattle.cells.specs.Cells.{Number};
 ghost use Rattle.layout.specs.Table.{text_ref, number_ref};

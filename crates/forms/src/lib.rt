@@ -1,5 +1,6 @@
 // The argument forms of the 41 instructions as sets of bits.
 #![tactic(auto)]
+
 ghost use Rattle.std.specs.Prelude.{◌≡◌, cond, false, [], ◌∷◌, ◌+◌, ◌^◌, ◌<◌, ◌≤◌, eqb, ltb, get_or};
 ghost use Rattle.forms.specs.Forms.{nothing, set_at, lists_of, most_of, least_of, calls, ends, only};
 ghost use Rattle.forms.specs.Reading.{lives_first, lives_second, shared, taken, taken_at};

@@ -1,5 +1,6 @@
 // Hexadecimal in capitals, two digits a byte: bytes written and read, and their sum modulo 256.
 #![tactic(auto)]
+
 ghost use Rattle.std.specs.Prelude.{◌≡◌, ◌+◌, ◌*◌, ◌%◌, ◌≤◌, ◌<◌, length, get_or};
 ghost use Rattle.cells.specs.Cells.{pasted, Number, Writable};
 ghost use Rattle.state_frames.specs.Hexadecimal.{digit, digit_value, two_digits, hexadecimal};

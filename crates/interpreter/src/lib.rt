@@ -64,13 +64,7 @@ pub fn eol2_start(table: &[u32], i1: &[u8], i2: &[u8], state: &mut [u8]) -> u64
 }
 
 // Run "takes at most the budget of steps"; the answer has the count of completed instructions.
-pub fn eol2_run(
-    table: &[u32],
-    i1: &[u8],
-    i2: &[u8],
-    state: &mut [u8],
-    budget: u32,
-) -> u64
+pub fn eol2_run(table: &[u32], i1: &[u8], i2: &[u8], state: &mut [u8], budget: u32) -> u64
     ensures { Answers (run_of table.now (i1.now ∷ i2.now ∷ []) budget state.old) result state.new }
 {
     let refused = check_calls::ask(table, i1, i2);
@@ -86,13 +80,7 @@ pub fn eol2_run(
 
 // The number, and how many bytes of the buffer are the state as lines of frames: "An ill-formed state to write, or memory too short, brings 63; the
 // rest of a buffer stays".
-pub fn eol2_write_state(
-    table: &[u32],
-    i1: &[u8],
-    i2: &[u8],
-    state: &[u8],
-    out: &mut [u8],
-) -> u64
+pub fn eol2_write_state(table: &[u32], i1: &[u8], i2: &[u8], state: &[u8], out: &mut [u8]) -> u64
     ensures { Fills (write_of table.now (i1.now ∷ i2.now ∷ []) state.now (length out.old)) result out.old out.new }
 {
     let r = from_state_saving::write_state(table, i1, i2, state, out);
@@ -100,13 +88,7 @@ pub fn eol2_write_state(
 }
 
 // The number; the state is the one that the lines of frames give. "A refused call changes nothing."
-pub fn eol2_read_state(
-    table: &[u32],
-    i1: &[u8],
-    i2: &[u8],
-    saved: &[u8],
-    state: &mut [u8],
-) -> u64
+pub fn eol2_read_state(table: &[u32], i1: &[u8], i2: &[u8], saved: &[u8], state: &mut [u8]) -> u64
     ensures { Reads (read_of table.now (i1.now ∷ i2.now ∷ []) saved.now state.old) result state.new }
 {
     packed(state_restoring::read_state(table, i1, i2, saved, state), 0)

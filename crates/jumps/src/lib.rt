@@ -1,5 +1,6 @@
 // Jumps and calls by a label, the return, and STOP. Each tells 0, or the question answered no.
 #![tactic(auto)]
+
 ghost use Rattle.std.specs.Prelude.{length};
 ghost use Rattle.language.specs.Program.Arg.{nothing, label as by-label};
 ghost use Rattle.language.specs.Program.Op.{SKOCZ, WYKONAJ, SKOMI, SKOPL, WYMI, WYPL, WROC, STOP};

@@ -1,6 +1,7 @@
 // The second pass over a text's program: questions 12 and 13, "Every used label declared" and "Every used switch declared"; then names become places.
 // Until then the table has the marks of the names that are used.
 #![tactic(auto)]
+
 ghost use Rattle.std.specs.Prelude.{◌≡◌, true, cond, [], ◌∷◌, ◌≤◌, length, take};
 ghost use Rattle.layout.specs.Kinds.{label_kind};
 ghost use Rattle.layout.specs.Table.{arg_cell, all_entries};

@@ -1,5 +1,6 @@
 // The calls by a typed name: the macro that each calls, and questions 64 and 65 "as typed, in the list too".
 #![tactic(auto)]
+
 ghost use Rattle.std.specs.Prelude.{◌≡◌, cond, ◌+◌, ◌≤◌, ◌<◌, eqb, length, get_or};
 ghost use Rattle.lists.specs.Lists.{each, bytes_equal};
 ghost use Rattle.macros.specs.Prepared.{piece_faults};

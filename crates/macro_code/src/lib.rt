@@ -1,5 +1,6 @@
 // The list of macros and the section of a text, in cells of two numbers each.
 #![tactic(auto)]
+
 ghost use Rattle.std.specs.Prelude.{◌≡◌, ◌<◌, ◌≤◌, min, get_or, take, drop};
 ghost use Rattle.macro_code.specs.Code.{high, low, paired};
 ghost use Rattle.macro_code.specs.Places.{half, all_places};

@@ -1,5 +1,6 @@
 // From a place in a text to the element that stands there and the place behind it.
 #![tactic(auto)]
+
 ghost use Rattle.std.specs.Prelude.{◌≡◌, List, ℕ, ◌<◌, ◌≤◌, length, get_or, drop};
 ghost use Rattle.characters.specs.Characters.{is_digit};
 ghost use Rattle.language.specs.Values.{numeral};

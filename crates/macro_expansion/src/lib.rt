@@ -1,5 +1,6 @@
 // The expansion of macros: recursive, each call with one level less.
 #![tactic(auto)]
+
 ghost use Rattle.std.specs.Prelude.{◌≡◌, ◌+◌, ◌-◌, ◌≤◌, ◌<◌, length, get_or, set, true, false, ◌&&◌, [], ◌∷◌, leb};
 ghost use Rattle.language.specs.Limits as limit;
 ghost use Rattle.macro_calls.specs.Calls.{Finds};

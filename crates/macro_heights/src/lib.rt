@@ -1,5 +1,6 @@
 // The heights of macros: with how many levels at least a body writes nothing, and with how many at least a call by a parameter is met.
 #![tactic(auto)]
+
 ghost use Rattle.std.specs.Prelude.{◌≡◌, cond, ◌+◌, ◌-◌, ◌≤◌, ◌<◌, length, get_or, take, drop};
 ghost use Rattle.lists.specs.Lists.{filled};
 ghost use Rattle.macros.specs.Expansion.{levels};

@@ -1,5 +1,6 @@
 // Lines of a given text: of a place in it, and of all places that the bytes of its written-out text come from.
 #![tactic(auto)]
+
 ghost use Rattle.std.specs.Prelude.{◌≡◌, map, ◌≤◌, length};
 ghost use Rattle.language.specs.Limits as limit;
 ghost use Rattle.syntax.specs.Items.{line_of};

@@ -1,5 +1,6 @@
 // Which texts have macros, and where their joining apostrophes stand.
 #![tactic(auto)]
+
 ghost use Rattle.std.specs.Prelude.{◌≡◌, true, cond, ◌&&◌, ◌||◌, ◌≤◌, ◌<◌, eqb, length, set};
 ghost use Rattle.lexer.specs.Tokens.{part, chars_of};
 ghost use Rattle.lists.specs.Lists.{any, among, bytes_equal};

@@ -1,5 +1,6 @@
 // A text with macros made ready for loading: it "meets 14 to 16 as a whole, then 64 to 66; then the written-out text is loaded as if typed".
 #![tactic(auto)]
+
 ghost use Rattle.std.specs.Prelude.{◌≡◌, ◌≤◌, length};
 ghost use Rattle.language.specs.Limits as limit;
 ghost use Rattle.macros.specs.Marks.{whole_questions};

@@ -1,5 +1,6 @@
 // Questions 14, 15 and 16 of a text with macros, "as a whole".
 #![tactic(auto)]
+
 ghost use Rattle.std.specs.Prelude.{◌≡◌, ◌&&◌, eqb};
 ghost use Rattle.lists.specs.Lists.{among};
 ghost use Rattle.lists.specs.Quoted.{bytes};

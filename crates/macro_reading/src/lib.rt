@@ -1,5 +1,6 @@
 // The list of macros and the section of a text, read into cells.
 #![tactic(auto)]
+
 ghost use Rattle.std.specs.Prelude.{◌≡◌, cond, not, ◌||◌, List, [], ◌∷◌, ℕ, ◌-◌, ◌<◌, eqb};
 ghost use Rattle.macros.specs.Elements.{is_bracket};
 ghost use Rattle.macro_elements.specs.ElementAt.{elements_from, argument_value, Lent};

@@ -1,5 +1,6 @@
 // The section written out, with the place that each written byte comes from.
 #![tactic(auto)]
+
 ghost use Rattle.std.specs.Prelude.{◌≡◌, false, [], ◌+◌, ◌-◌, ◌≤◌, ◌<◌, length, take, drop, replicate};
 ghost use Rattle.language.specs.Limits as limit;
 ghost use Rattle.macro_code.specs.Places.{half, span_cell};

@@ -1,5 +1,6 @@
 // Bytes written behind those that are written already, and what a name or an argument within nested calls stands for.
 #![tactic(auto)]
+
 ghost use Rattle.std.specs.Prelude.{◌≡◌, [], ◌≤◌, ◌<◌, ◌-◌, length, get_or, take, drop};
 ghost use Rattle.macro_code.specs.Code.{given_in, arguments_in};
 ghost use Rattle.macro_code.specs.Places.{half};

@@ -1,5 +1,6 @@
 // The names of all labels that were met, by their marks: question 06, "Is each label new?", and 70, "is the label none of these?"
 #![tactic(auto)]
+
 ghost use Rattle.std.specs.Prelude.{◌≡◌, [], ◌∷◌, map, ◌≤◌, length, get_or, take, drop};
 ghost use Rattle.lists.specs.Lists.{any, bytes_equal};
 ghost use Rattle.drafts.specs.Marks.{place_by, word_by, Marked, marks_in};

@@ -1,5 +1,6 @@
 // Order: WK and MN of numbers, PP and NS of words.
 #![tactic(auto)]
+
 ghost use Rattle.std.specs.Prelude.{length, take, false};
 ghost use Rattle.language.specs.Letters.Letter.{E};
 ghost use Rattle.language.specs.Program.Arg.{nothing};

@@ -1,5 +1,6 @@
 // The working store and the strings at rest: `unpack` lays the strings out with gaps, `pack` writes them back in their one form.
 #![tactic(auto)]
+
 ghost use Rattle.std.specs.Prelude.{◌≡◌, length};
 ghost use Rattle.layout.specs.Strings.{lengths, string_cells, strings_in};
 ghost use Rattle.cells.specs.Cells.{pasted};

@@ -1,5 +1,6 @@
 // Jumps, calls, the return and STOP, from the arguments of an instruction. Each tells 0, or the question answered no.
 #![tactic(auto)]
+
 ghost use Rattle.std.specs.Prelude.{length};
 ghost use Rattle.language.specs.Instructions.{operator_of};
 ghost use Rattle.language.specs.Program.Arg.{nothing, label as by-label, switch as by-switch};

@@ -1,5 +1,6 @@
 // The instructions of pointers, exchanges and constants, from their arguments. Each tells 0, or the question answered no.
 #![tactic(auto)]
+
 ghost use Rattle.std.specs.Prelude.{◌≡◌, length};
 ghost use Rattle.table.specs.declared.Argument.TheVariants.{Text};
 ghost use Rattle.performing.specs.Operating.{Carrying, PerformsFor};

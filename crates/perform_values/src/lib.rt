@@ -1,5 +1,6 @@
 // The instructions of numbers and words, from their arguments. Each tells 0, or the question answered no.
 #![tactic(auto)]
+
 ghost use Rattle.std.specs.Prelude.{length};
 ghost use Rattle.performing.specs.Operating.{PerformsFor};
 ghost use Rattle.perform_values.specs.Valuing.{Between, Valuing};

@@ -1,5 +1,6 @@
 // The pointers of files, addresses and exchanges: COFNIJ, SCHOWAJ, USTAW and ZAMIEN.
 #![tactic(auto)]
+
 ghost use Rattle.std.specs.Prelude.{Bool, length};
 ghost use Rattle.language.specs.Limits as limit;
 ghost use Rattle.language.specs.Letters.Letter.{E, P};

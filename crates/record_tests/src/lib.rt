@@ -1,5 +1,6 @@
 // Reading the values of a test of records, for KOPIUJ, SKRESL and OMIN.
 #![tactic(auto)]
+
 ghost use Rattle.std.specs.Prelude.{◌≡◌, length};
 ghost use Rattle.language.specs.Letters.Letter.{E};
 ghost use Rattle.packed.specs.Packed.{table_of};

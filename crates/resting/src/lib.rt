@@ -1,5 +1,6 @@
 // Between the state at rest in lent memory and the state at work: `unpack_state` before a run, `pack_state` behind it.
 #![tactic(auto)]
+
 ghost use Rattle.std.specs.Prelude.{◌≡◌, ◌++◌, length, take, drop};
 ghost use Rattle.layout.specs.Cells.{three};
 ghost use Rattle.layout.specs.Memory.{state_of, threes_in, written};

@@ -1,5 +1,6 @@
 // The state that start makes: "H plus, all else empty".
 #![tactic(auto)]
+
 ghost use Rattle.std.specs.Prelude.{◌≡◌, ◌≤◌, length};
 ghost use Rattle.machine.specs.WellFormed.{started};
 ghost use Rattle.layout.specs.Memory.{written};

@@ -1,5 +1,6 @@
 // The contents of frames, and a state at rest laid out from them.
 #![tactic(auto)]
+
 ghost use Rattle.std.specs.Prelude.{◌≡◌, [], ◌≤◌, T, length, get_or, replicate};
 ghost use Rattle.language.specs.Limits as limit;
 ghost use Rattle.state_frames.specs.Frames.{head, file, sound_text, frames_in};

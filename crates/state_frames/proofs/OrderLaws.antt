@@ -228,7 +228,7 @@ sparse (g ∷ ss) (f ∷ fs) x = go (at g f) refl (sparse ss)
     go true e ih =
         let k : (g.kind ≡ f.kind) × (g.index ≡ f.index) = at_same g f (rw e tt) in
         let c : contents_at g.kind g.index (f ∷ fs) ≡ f.contents =
-            ap (λ (i : ℕ). contents_at i g.index (f ∷ fs)) k.0 ∙ ap (λ (i : ℕ). contents_at f.kind i (f ∷ fs)) k.1 ∙ found_first f fs before-fs
+        ap (λ (i : ℕ). contents_at i g.index (f ∷ fs)) k.0 ∙ ap (λ (i : ℕ). contents_at f.kind i (f ∷ fs)) k.1 ∙ found_first f fs before-fs
         in
         let c' : f.contents ≡ g.contents = sym c ∙ x.found.0 in
         let same : f ≡ g = λ j. framed (sym k.0 j) (sym k.1 j) (c' j) in

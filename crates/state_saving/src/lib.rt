@@ -1,5 +1,6 @@
 // The writer: a state as frames, a line each.
 #![tactic(auto)]
+
 ghost use Rattle.std.specs.Prelude.{◌≡◌, [], ◌∷◌, ◌≤◌, length};
 ghost use Rattle.calls.specs.Filling.{Gives};
 ghost use Rattle.layout.specs.Memory.{state_of};

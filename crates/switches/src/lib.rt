@@ -1,5 +1,6 @@
 // Instructions with a switch: jumps and calls by a word or a number, and SZUKAJ. Each tells 0, or the question answered no.
 #![tactic(auto)]
+
 ghost use Rattle.std.specs.Prelude.{◌≡◌, length};
 ghost use Rattle.language.specs.Program.Arg.{nothing, switch as by-switch};
 ghost use Rattle.language.specs.Program.Op.{SKONA, SKOIN, WYNA, WYIN, SZUKAJ};

@@ -1,5 +1,6 @@
 // The lines of a text, each with the new line that ends it.
 #![tactic(auto)]
+
 ghost use Rattle.std.specs.Prelude.{◌<◌, length};
 ghost use Rattle.text_lines.specs.Lines.{LineEnd};
 

@@ -1,5 +1,6 @@
 // Between expressions and files: WSTAW and POBIERZ; and whether new records have room.
 #![tactic(auto)]
+
 ghost use Rattle.std.specs.Prelude.{◌≡◌, cond, length};
 ghost use Rattle.language.specs.Limits as limit;
 ghost use Rattle.language.specs.Program.Arg.{nothing};

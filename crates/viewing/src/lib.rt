@@ -1,5 +1,6 @@
 // A state at rest in lent memory, looked at: its first output and its next instruction.
 #![tactic(auto)]
+
 ghost use Rattle.std.specs.Prelude.{◌≡◌};
 ghost use Rattle.layout.specs.Memory.{state_of};
 ghost use Rattle.layout.specs.Strings.{strings_in};

@@ -32,6 +32,6 @@ returns c =
     let h = c.loop-i in
     let a = c.args in
     elim c.loop-i-test.branch [
-      then-loop-i-test+else-i-w w ↦ second-ends a.v.now a.w.now h.i h.invariant.0 (omega arith) h.invariant.1 ∙ h.invariant.2
-    | else-loop-i-test w ↦ first_ends a.v.now a.w.now h.i (omega arith) h.invariant.0 h.invariant.1 ∙ h.invariant.2
+      | then-loop-i-test+else-i-w w ↦ second-ends a.v.now a.w.now h.i h.invariant.0 (omega arith) h.invariant.1 ∙ h.invariant.2
+      | else-loop-i-test w ↦ first_ends a.v.now a.w.now h.i (omega arith) h.invariant.0 h.invariant.1 ∙ h.invariant.2
     ]
