@@ -12,8 +12,6 @@ use Rattle.declaring_switches.specs.DeclaringSwitches.{JudgeableSwitch}
 use Rattle.declaring_switches.proofs.Texts.{Entering, entering-first, inside, row-enterable, entering-more, text-refused, texts-entered, held_most}
 use Rattle.declaring_switches.proofs.enter_texts.Goals as goal
 
-)
-
 pub entries-k-requires : goal.entries-k-requires
 entries-k-requires c = c.requires.held.holds.long
 
@@ -55,6 +53,7 @@ pub loop-k-preserved : goal.loop-k-preserved
 loop-k-preserved c = (
   (omega arith) ∙ c.loop-k.invariant.0,
   λ d g e. entering-more g (c.loop-k.invariant.1 d g e) e c.loop-k-test.true c.read-m.ensures.is c.enter_cell.ensures (c.if-not-enter_cell.false),
+)
 
 pub returns : goal.returns
 returns c =

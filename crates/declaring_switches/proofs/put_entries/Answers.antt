@@ -10,8 +10,6 @@ use Rattle.declaring_switches.specs.Entries.{Listing}
 use Rattle.declaring_switches.proofs.Entries.{Filling, filling-first, inside, row-tellable, room-for-entry, filling-more, filled-all, held-is}
 use Rattle.declaring_switches.proofs.put_entries.Goals as goal
 
-)
-
 pub entries-k-requires : goal.entries-k-requires
 entries-k-requires c = c.requires.held.holds.long
 
@@ -54,6 +52,7 @@ pub loop-k-preserved : goal.loop-k-preserved
 loop-k-preserved c = (
   (omega arith) ∙ c.loop-k.invariant.0,
   λ d g e. filling-more g (c.loop-k.invariant.1 d g e) (omega (arith, e, c.loop-k-test.true)) c.read.ensures.is c.cell_ref-v.ensures c.put_entry.ensures,
+)
 
 pub returns : goal.returns
 returns c =

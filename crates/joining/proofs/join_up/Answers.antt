@@ -36,7 +36,7 @@ returns-then-not-t c =
     let expr-bytesᶜ = c.expr_bytes-x in
     let countᶜ = c.count-t in
     let if1ᶜ = c.if-not-t in
-    tried-wrong preᶜ.stands ((joined_up (until argsᶜ.test argsᶜ.given.now) argsᶜ.removes argsᶜ.i) (state_at argsᶜ.pool.now argsᶜ.ends.now argsᶜ.nums.now).store) ((words_right preᶜ.stands preᶜ.source expr-bytesᶜ.ensures countᶜ.ensures) ∙ if1ᶜ.true)
+    tried-wrong preᶜ.stands ((joined_up (until argsᶜ.test argsᶜ.given.now) argsᶜ.removes argsᶜ.i) (state_at argsᶜ.pool.now argsᶜ.ends.now argsᶜ.nums.now).store) ((words_right preᶜ.stands preᶜ.source expr-bytesᶜ.ensures countᶜ.ensures) ∙ not-true countᶜ.result.words if1ᶜ.true)
 
 pub has_word_room-requires : goal.has_word_room-requires
 has_word_room-requires c =
@@ -52,7 +52,7 @@ returns-then-not-has_word_room c =
     let if1ᶜ = c.if-not-t in
     let has-word-roomᶜ = c.has_word_room in
     let if2ᶜ = c.if-not-has_word_room in
-    tried-full preᶜ.stands ((joined_up (until argsᶜ.test argsᶜ.given.now) argsᶜ.removes argsᶜ.i) (state_at argsᶜ.pool.now argsᶜ.ends.now argsᶜ.nums.now).store) ((words_right preᶜ.stands preᶜ.source expr-bytesᶜ.ensures countᶜ.ensures) ∙ if1ᶜ.false)
+    tried-full preᶜ.stands ((joined_up (until argsᶜ.test argsᶜ.given.now) argsᶜ.removes argsᶜ.i) (state_at argsᶜ.pool.now argsᶜ.ends.now argsᶜ.nums.now).store) ((words_right preᶜ.stands preᶜ.source expr-bytesᶜ.ensures countᶜ.ensures) ∙ not-false countᶜ.result.words if1ᶜ.false)
     (fits-joined preᶜ.stands preᶜ.source expr-bytesᶜ.ensures countᶜ.ensures argsᶜ.removes ∙ sym has-word-roomᶜ.ensures ∙ if2ᶜ.true)
 
 pub slice_bounds-join_word-end : goal.slice_bounds-join_word-end
@@ -114,6 +114,6 @@ returns c =
     let join-wordᶜ = c.join_word-n in
     let past-partsᶜ = c.past_parts in
     let deliverᶜ = c.deliver in
-    done-right preᶜ.stands (joined_up (until argsᶜ.test argsᶜ.given.now) argsᶜ.removes argsᶜ.i) ((words_right preᶜ.stands preᶜ.source expr-bytesᶜ.ensures countᶜ.ensures) ∙ if1ᶜ.false)
+    done-right preᶜ.stands (joined_up (until argsᶜ.test argsᶜ.given.now) argsᶜ.removes argsᶜ.i) ((words_right preᶜ.stands preᶜ.source expr-bytesᶜ.ensures countᶜ.ensures) ∙ not-false countᶜ.result.words if1ᶜ.false)
     (joined-done preᶜ.stands preᶜ.source expr-bytesᶜ.ensures countᶜ.ensures argsᶜ.removes (sym has-word-roomᶜ.ensures ∙ if2ᶜ.false) join-wordᶜ.ensures
     (one-after (state_at argsᶜ.pool.now argsᶜ.ends.now argsᶜ.nums.now) (past (nth (reading argsᶜ.removes) argsᶜ.i) countᶜ.result.parts) (λ z. minus_unless countᶜ.result.reached (into (nth (writing false) argsᶜ.i) (components_in (take join-wordᶜ.result join-wordᶜ.new.out)) z)) past-partsᶜ.ensures deliverᶜ.ensures))

@@ -5,8 +5,6 @@ use Rattle.macro_expansion.specs.RunLaws.{met-value, met-nothing, call-piece, me
 use borrow.Author.Rules.{rules}
 use Rattle.macro_expansion.proofs.meet.Goals as goal
 
-)
-
 pub write_value-requires : goal.write_value-requires
 write_value-requires c = (c.low-k.ensures.1, c.requires.1.count)
 
@@ -24,6 +22,7 @@ meet_call-requires c = let a = c.args in (
       (ne_eqb _ _ (λ h. c.if-kind-eq-VALUE.false (c.high-kind.ensures.0 ∙ h))) (eq-eqb _ _ (sym c.high-kind.ensures.0 ∙ c.if-kind-eq-CALL.true)),
   c.requires.1.room,
   c.requires.1.remembers,
+)
 
 pub returns-then-kind-eq-CALL : goal.returns-then-kind-eq-CALL
 returns-then-kind-eq-CALL c = let a = c.args in

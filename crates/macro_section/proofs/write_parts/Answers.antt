@@ -19,8 +19,6 @@ use Rattle.macro_section.specs.SectionLaws.{fillable, section-begins, section-tu
 use Rattle.macro_section.specs.DeepLaws.{overs-begin, overs-turn, overs-end}
 use Rattle.macro_section.proofs.write_parts.Goals as goal
 
-)
-
 pub first_change-cell-requires : goal.first_change-cell-requires
 first_change-cell-requires c = omega (arith, c.requires.0)
 
@@ -36,6 +34,7 @@ loop-changes-init c = let a = c.args in (
       (ap (λ v. v.count) c.nothing-w.ensures) (ap (λ v. v.over) c.nothing-w.ensures) c.high-place.ensures.0 c.low-stop.ensures.0 c.first_change-cell.ensures.0 c.low-changes.ensures.0 c.requires.3,
   rw c.nothing-w.ensures c.requires.5,
   refl,
+)
 
 pub write_kept-kept-requires : goal.write_kept-kept-requires
 write_kept-kept-requires c = let i = c.loop-changes.invariant in

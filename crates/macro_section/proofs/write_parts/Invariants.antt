@@ -19,8 +19,6 @@ use Rattle.macro_section.specs.SectionLaws.{fillable, section-begins, section-tu
 use Rattle.macro_section.specs.DeepLaws.{overs-begin, overs-turn, overs-end}
 use Rattle.macro_section.proofs.write_parts.Given as goal
 
-)
-
 abbrev pub invariant-loop-changes : goal.invariant-loop-changes
 invariant-loop-changes l =
     (from : List ℕ)

@@ -56,7 +56,7 @@ returns-then-not-f c =
     let address-ofᶜ = c.address_of in
     let locateᶜ = c.locate-f in
     let if3ᶜ = c.if-not-f in
-    ustaw-missing preᶜ.stands argsᶜ.removes preᶜ.first expr-bytesᶜ.ensures preᶜ.second if1ᶜ.false (sym kind-ofᶜ.ensures.is ∙ if2ᶜ.false) address-ofᶜ.ensures locateᶜ.ensures (if3ᶜ.true)
+    ustaw-missing preᶜ.stands argsᶜ.removes preᶜ.first expr-bytesᶜ.ensures preᶜ.second if1ᶜ.false (sym kind-ofᶜ.ensures.is ∙ if2ᶜ.false) address-ofᶜ.ensures locateᶜ.ensures (not-true locateᶜ.result.found if3ᶜ.true)
 
 pub past_parts-requires : goal.past_parts-requires
 past_parts-requires c =
@@ -80,7 +80,7 @@ point-requires c =
     let locateᶜ = c.locate-f in
     let if3ᶜ = c.if-not-f in
     let past-partsᶜ = c.past_parts in
-    then-pointable preᶜ.stands argsᶜ.removes preᶜ.first expr-bytesᶜ.ensures preᶜ.second if1ᶜ.false (sym kind-ofᶜ.ensures.is ∙ if2ᶜ.false) address-ofᶜ.ensures locateᶜ.ensures (if3ᶜ.false) past-partsᶜ.ensures preᶜ.spare preᶜ.room
+    then-pointable preᶜ.stands argsᶜ.removes preᶜ.first expr-bytesᶜ.ensures preᶜ.second if1ᶜ.false (sym kind-ofᶜ.ensures.is ∙ if2ᶜ.false) address-ofᶜ.ensures locateᶜ.ensures (not-false locateᶜ.result.found if3ᶜ.false) past-partsᶜ.ensures preᶜ.spare preᶜ.room
 
 pub returns : goal.returns
 returns c =
@@ -95,5 +95,5 @@ returns c =
     let if3ᶜ = c.if-not-f in
     let past-partsᶜ = c.past_parts in
     let pointᶜ = c.point in
-    ustaw-done preᶜ.stands argsᶜ.removes preᶜ.first expr-bytesᶜ.ensures preᶜ.second if1ᶜ.false (sym kind-ofᶜ.ensures.is ∙ if2ᶜ.false) address-ofᶜ.ensures locateᶜ.ensures (if3ᶜ.false)
+    ustaw-done preᶜ.stands argsᶜ.removes preᶜ.first expr-bytesᶜ.ensures preᶜ.second if1ᶜ.false (sym kind-ofᶜ.ensures.is ∙ if2ᶜ.false) address-ofᶜ.ensures locateᶜ.ensures (not-false locateᶜ.result.found if3ᶜ.false)
     (one-after (state_at argsᶜ.pool.now argsᶜ.ends.now argsᶜ.nums.now) (past (nth (reading argsᶜ.removes) argsᶜ.i) 1) (pointed_at argsᶜ.j locateᶜ.result.records) past-partsᶜ.ensures pointᶜ.ensures)

@@ -32,7 +32,7 @@ returns-then-not-t c =
     let argsᶜ = c.args in
     let expr-bytesᶜ = c.expr_bytes-x in
     let countᶜ = c.count-t in
-    tried-wrong preᶜ.stands ((spelled_out (until argsᶜ.test argsᶜ.given.now) argsᶜ.removes argsᶜ.i argsᶜ.j) (state_at argsᶜ.pool.now argsᶜ.ends.now argsᶜ.nums.now).store) (words_right preᶜ.stands preᶜ.source expr-bytesᶜ.ensures countᶜ.ensures ∙ c.if-not-t.true)
+    tried-wrong preᶜ.stands ((spelled_out (until argsᶜ.test argsᶜ.given.now) argsᶜ.removes argsᶜ.i argsᶜ.j) (state_at argsᶜ.pool.now argsᶜ.ends.now argsᶜ.nums.now).store) (words_right preᶜ.stands preᶜ.source expr-bytesᶜ.ensures countᶜ.ensures ∙ not-true countᶜ.result.words c.if-not-t.true)
 
 pub output_len-requires : goal.output_len-requires
 output_len-requires c =
@@ -54,7 +54,7 @@ returns-then-output_len-t-gt-OUTPUT c =
     let countᶜ = c.count-t in
     let if1ᶜ = c.if-not-t in
     let output-lenᶜ = c.output_len in
-    tried-full preᶜ.stands ((spelled_out (until argsᶜ.test argsᶜ.given.now) argsᶜ.removes argsᶜ.i argsᶜ.j) (state_at argsᶜ.pool.now argsᶜ.ends.now argsᶜ.nums.now).store) (words_right preᶜ.stands preᶜ.source expr-bytesᶜ.ensures countᶜ.ensures ∙ if1ᶜ.false)
+    tried-full preᶜ.stands ((spelled_out (until argsᶜ.test argsᶜ.given.now) argsᶜ.removes argsᶜ.i argsᶜ.j) (state_at argsᶜ.pool.now argsᶜ.ends.now argsᶜ.nums.now).store) (words_right preᶜ.stands preᶜ.source expr-bytesᶜ.ensures countᶜ.ensures ∙ not-false countᶜ.result.words if1ᶜ.false)
     (spelled-full preᶜ.stands preᶜ.source expr-bytesᶜ.ensures countᶜ.ensures argsᶜ.removes argsᶜ.j preᶜ.target output-lenᶜ.ensures.is c.if-output_len-t-gt-OUTPUT.true)
 
 pub slice_bounds-join-end : goal.slice_bounds-join-end
@@ -116,6 +116,6 @@ returns c =
     let joinᶜ = c.join-n in
     let past-partsᶜ = c.past_parts in
     let put-outᶜ = c.put_out in
-    done-right preᶜ.stands (spelled_out (until argsᶜ.test argsᶜ.given.now) argsᶜ.removes argsᶜ.i argsᶜ.j) (words_right preᶜ.stands preᶜ.source expr-bytesᶜ.ensures countᶜ.ensures ∙ if1ᶜ.false)
+    done-right preᶜ.stands (spelled_out (until argsᶜ.test argsᶜ.given.now) argsᶜ.removes argsᶜ.i argsᶜ.j) (words_right preᶜ.stands preᶜ.source expr-bytesᶜ.ensures countᶜ.ensures ∙ not-false countᶜ.result.words if1ᶜ.false)
     (spelled-done preᶜ.stands preᶜ.source expr-bytesᶜ.ensures countᶜ.ensures joinᶜ.ensures argsᶜ.removes argsᶜ.j
     (one-after (state_at argsᶜ.pool.now argsᶜ.ends.now argsᶜ.nums.now) (past (nth (reading argsᶜ.removes) argsᶜ.i) countᶜ.result.parts) (λ z. minus_unless countᶜ.result.reached (printed (nth Q argsᶜ.j) (take joinᶜ.result joinᶜ.new.out) z)) past-partsᶜ.ensures put-outᶜ.ensures))
