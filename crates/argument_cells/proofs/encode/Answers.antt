@@ -1,5 +1,4 @@
 -- `argument_cells::encode` meets its contract.
-use borrow.Author.Rules.{rules}
 use mathlib.Core.Path.{subst}
 use native.Mathlib.Omega.{arith}
 use Rattle.argument_cells.specs.ArgumentCells.{Low}

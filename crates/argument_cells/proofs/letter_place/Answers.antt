@@ -1,5 +1,4 @@
 -- `argument_cells::letter_place` meets its contract.
-use borrow.Author.Rules.{rules}
 use mathlib.Core.Path.{◌≡◌, refl}
 use Prim.Native.Nat.{◌<◌}
 use lib.Dec.{T, ltb, lit<}

@@ -1,6 +1,5 @@
 -- `argument_cells::referred` meets its contract.
 use borrow.Enum.Refused.{opened}
-use borrow.Author.Rules.{rules}
 use Rattle.entering.proofs.Adding.{no_text}
 use Rattle.argument_cells.proofs.Arguing.{text-of-value, text-referred, not-referred}
 use Rattle.argument_cells.proofs.referred.Goals as goal

@@ -1,5 +1,4 @@
 -- `arguments::item_kind` meets its contract.
-use borrow.Author.Rules.{rules}
 use mathlib.Core.Path.{refl, sym, ◌∙◌}
 use native.Mathlib.Omega.{arith}
 use Rattle.arguments.specs.ArgumentLaws.{kinds-text, kinds-word, kinds-none}

@@ -1,5 +1,4 @@
 -- `arguments::missing_or` meets its contract.
-use borrow.Author.Rules.{rules}
 use borrow.Author.Tests.{lt-ltb, le-ltb}
 use Rattle.arguments.specs.Arguments.{missing_or}
 use Rattle.arguments.proofs.missing_or.Goals as goal

@@ -1,5 +1,4 @@
 -- `arguments::no_values` meets its contract.
-use borrow.Author.Rules.{rules}
 use mathlib.Core.Path.{ap, ◌∙◌}
 use Rattle.arguments.specs.Valued.{no_value}
 use Rattle.arguments.specs.declared.Value.{Value}

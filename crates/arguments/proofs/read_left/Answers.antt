@@ -1,11 +1,9 @@
 -- `arguments::read_left` meets its contract.
 use Rattle.statements.specs.StatementLaws.{on}
-use borrow.Author.Rules.{rules}
 use mathlib.Core.Path.{sym, ap, ◌∙◌}
-use Prim.Native.Nat.{◌-◌, ◌+◌}
+use Prim.Native.Nat.{◌+◌}
 use native.Mathlib.Omega.{arith}
-use lib.ListN.{length}
-use Rattle.arguments.specs.LeftLaws.{Leaving, leaving-first, left_end, leaving-on, place-low, counts-on}
+use Rattle.arguments.specs.LeftLaws.{leaving-first, left_end, leaving-on, place-low, counts-on}
 use Rattle.arguments.proofs.read_left.Goals as goal
 
 pub loop-over-init : goal.loop-over-init

@@ -1,11 +1,7 @@
 -- `arguments::read_left` meets its contract.
-use Rattle.statements.specs.StatementLaws.{on}
-use borrow.Author.Rules.{rules}
-use mathlib.Core.Path.{sym, ap, ◌∙◌}
-use Prim.Native.Nat.{◌-◌, ◌+◌}
-use native.Mathlib.Omega.{arith}
+use Prim.Native.Nat.{◌-◌}
 use lib.ListN.{length}
-use Rattle.arguments.specs.LeftLaws.{Leaving, leaving-first, left_end, leaving-on, place-low, counts-on}
+use Rattle.arguments.specs.LeftLaws.{Leaving}
 use Rattle.arguments.proofs.read_left.Given as goal
 
 abbrev pub invariant-loop-over : goal.invariant-loop-over

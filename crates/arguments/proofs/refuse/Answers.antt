@@ -1,5 +1,4 @@
 -- `arguments::refuse` meets its contract.
-use borrow.Author.Rules.{rules}
 use mathlib.Core.Path.{◌∙◌}
 use native.Mathlib.Omega.{arith}
 use Rattle.arguments.specs.ReadLaws.{refusing}

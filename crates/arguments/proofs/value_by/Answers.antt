@@ -1,5 +1,4 @@
 -- `arguments::value_by` meets its contract.
-use borrow.Author.Rules.{rules}
 use mathlib.Core.Path.{refl}
 use borrow.Author.Tests.{eq-eqb, ne_eqb}
 use Rattle.arguments.proofs.value_by.Goals as goal

@@ -1,5 +1,4 @@
 -- `arguments::with_excess` meets its contract.
-use borrow.Author.Rules.{rules}
 use mathlib.Core.Path.{refl}
 use Rattle.arguments.proofs.with_excess.Goals as goal
 

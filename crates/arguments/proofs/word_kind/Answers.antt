@@ -1,5 +1,4 @@
 -- `arguments::word_kind` meets its contract.
-use borrow.Author.Rules.{rules}
 use mathlib.Core.Path.{sym, ◌∙◌}
 use Rattle.arguments.specs.ValueLaws.{class-read, name-read, letter-read, number_read, nothing_read}
 use Rattle.forms.proofs.Readings.{letter-kind}

@@ -1,5 +1,4 @@
 -- `arithmetic::difference` meets its contract.
-use borrow.Author.Rules.{rules}
 use native.Mathlib.Omega.{arith}
 use mathlib.Core.Path.{ap, ◌∙◌}
 use lib.IntN.{ℤ, ◌+ℤ◌}

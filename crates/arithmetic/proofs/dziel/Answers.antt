@@ -1,5 +1,4 @@
 -- `arithmetic::dziel` meets its contract.
-use borrow.Author.Rules.{rules}
 use Rattle.arithmetic.proofs.Rows.{divisible, numbered, dziel-stops, dziel-zeros, dziel-dones}
 use Rattle.arithmetic.proofs.dziel.Goals as goal
 

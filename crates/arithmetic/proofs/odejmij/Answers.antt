@@ -1,5 +1,4 @@
 -- `arithmetic::odejmij` meets its contract.
-use borrow.Author.Rules.{rules}
 use lib.IntN.{◌-ℤ◌}
 use Rattle.layout.specs.Cells.{uncode}
 use Rattle.arithmetic.proofs.Numbers.{result_fits}

@@ -1,5 +1,4 @@
 -- `arithmetic::product` meets its contract.
-use borrow.Author.Rules.{rules}
 use mathlib.Core.Path.{ap, ◌∙◌}
 use mathlib.Core.Bool.{Bool}
 use Rattle.layout.specs.Cells.{uncode}

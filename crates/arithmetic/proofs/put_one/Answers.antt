@@ -1,5 +1,4 @@
 -- `arithmetic::put_one` meets its contract.
-use borrow.Author.Rules.{rules}
 use native.Mathlib.Omega.{arith}
 use Rattle.arithmetic.proofs.Results.{front_long, one-replaceable, one-computed, one-over}
 use Rattle.arithmetic.proofs.put_one.Goals as goal

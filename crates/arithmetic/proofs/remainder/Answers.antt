@@ -1,5 +1,4 @@
 -- `arithmetic::remainder` meets its contract.
-use borrow.Author.Rules.{rules}
 use Rattle.arithmetic.proofs.Numbers.{size-some, remainder-right}
 use Rattle.arithmetic.proofs.remainder.Goals as goal
 

@@ -1,5 +1,4 @@
 -- `arithmetic::size` meets its contract.
-use borrow.Author.Rules.{rules}
 use Rattle.arithmetic.proofs.Numbers.{size_low, size-high}
 use Rattle.arithmetic.proofs.size.Goals as goal
 

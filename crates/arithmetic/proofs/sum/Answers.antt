@@ -1,5 +1,4 @@
 -- `arithmetic::sum` meets its contract.
-use borrow.Author.Rules.{rules}
 use Rattle.arithmetic.proofs.Numbers.{sum_low, sum-high, sum-in}
 use Rattle.arithmetic.proofs.sum.Goals as goal
 

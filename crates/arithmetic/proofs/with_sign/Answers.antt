@@ -1,5 +1,4 @@
 -- `arithmetic::with_sign` meets its contract.
-use borrow.Author.Rules.{rules}
 use Rattle.arithmetic.proofs.Numbers.{signed-out, signed-minus, signed-plus}
 use Rattle.arithmetic.proofs.with_sign.Goals as goal
 

@@ -4,7 +4,6 @@ use Prim.Native.Nat.{ℕ}
 use lib.Seq.{length-take-le}
 use Rattle.batch.proofs.Loading.{rest_is, refusal-room, refusal-put, table-put}
 use mathlib.Core.Path.{refl, sym}
-use borrow.Author.Rules.{rules}
 use Rattle.batch.proofs.answer.Goals as goal
 
 pub slice_bounds-eol2_load-end : goal.slice_bounds-eol2_load-end

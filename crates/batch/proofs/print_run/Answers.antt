@@ -1,7 +1,6 @@
 -- `batch::print_run` meets its contract.
 use mathlib.Core.Path.{refl}
 use Rattle.batch.proofs.Lines.{line-place, end-room, all-printed}
-use borrow.Author.Rules.{rules}
 use Rattle.batch.proofs.print_run.Goals as goal
 
 pub line-line-requires : goal.line-line-requires

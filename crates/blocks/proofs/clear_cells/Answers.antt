@@ -1,10 +1,8 @@
 -- `blocks::clear_cells` meets its contract.
-use borrow.Author.Rules.{rules}
 use native.Mathlib.Omega.{arith}
-use mathlib.Core.Path.{◌≡◌, refl}
-use Prim.Native.Nat.{◌-◌, ◌≤◌}
-use lib.ListN.{length, length-set, replicate}
-use lib.Seq.{paste, paste-zero}
+use mathlib.Core.Path.{refl}
+use lib.ListN.{length-set, replicate}
+use lib.Seq.{paste-zero}
 use Rattle.cells.proofs.Laws.{clear-end}
 use Rattle.blocks.proofs.Laws.{zeros-turn}
 use Rattle.blocks.proofs.clear_cells.Goals as goal

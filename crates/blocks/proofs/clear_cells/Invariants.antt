@@ -1,12 +1,8 @@
 -- `blocks::clear_cells` meets its contract.
-use borrow.Author.Rules.{rules}
-use native.Mathlib.Omega.{arith}
-use mathlib.Core.Path.{◌≡◌, refl}
+use mathlib.Core.Path.{◌≡◌}
 use Prim.Native.Nat.{◌-◌, ◌≤◌}
-use lib.ListN.{length, length-set, replicate}
-use lib.Seq.{paste, paste-zero}
-use Rattle.cells.proofs.Laws.{clear-end}
-use Rattle.blocks.proofs.Laws.{zeros-turn}
+use lib.ListN.{length, replicate}
+use lib.Seq.{paste}
 use Rattle.blocks.proofs.clear_cells.Given as goal
 
 abbrev pub invariant-loop-j : goal.invariant-loop-j

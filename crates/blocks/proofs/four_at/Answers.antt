@@ -1,5 +1,4 @@
 -- `blocks::four_at` meets its contract.
-use borrow.Author.Rules.{rules}
 use native.Mathlib.Omega.{arith}
 use Rattle.blocks.proofs.Laws.{four-of}
 use Rattle.blocks.proofs.four_at.Goals as goal

@@ -1,10 +1,7 @@
 -- `blocks::put_chars` meets its contract.
-use borrow.Author.Rules.{rules}
 use native.Mathlib.Omega.{arith}
-use mathlib.Core.Path.{◌≡◌, refl}
-use Prim.Native.Nat.{◌-◌, ◌≤◌}
-use lib.ListN.{length}
-use lib.Seq.{paste, paste-zero}
+use mathlib.Core.Path.{refl}
+use lib.Seq.{paste-zero}
 use Rattle.cells.specs.Below.LayoutCells.{fours}
 use Rattle.cells.proofs.Below.LayoutCellLaws.{length-fours}
 use Rattle.cells.proofs.Laws.{put-end}

@@ -1,14 +1,9 @@
 -- `blocks::put_chars` meets its contract.
-use borrow.Author.Rules.{rules}
-use native.Mathlib.Omega.{arith}
-use mathlib.Core.Path.{◌≡◌, refl}
+use mathlib.Core.Path.{◌≡◌}
 use Prim.Native.Nat.{◌-◌, ◌≤◌}
 use lib.ListN.{length}
-use lib.Seq.{paste, paste-zero}
+use lib.Seq.{paste}
 use Rattle.cells.specs.Below.LayoutCells.{fours}
-use Rattle.cells.proofs.Below.LayoutCellLaws.{length-fours}
-use Rattle.cells.proofs.Laws.{put-end}
-use Rattle.blocks.proofs.Laws.{chars-turn}
 use Rattle.blocks.proofs.put_chars.Given as goal
 
 abbrev pub invariant-loop-q : goal.invariant-loop-q

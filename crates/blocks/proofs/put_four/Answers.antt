@@ -1,5 +1,4 @@
 -- `blocks::put_four` meets its contract.
-use borrow.Author.Rules.{rules}
 use Rattle.blocks.proofs.Laws.{four-set}
 use Rattle.blocks.proofs.put_four.Goals as goal
 

@@ -1,5 +1,4 @@
 -- `blocks::put_named` meets its contract.
-use borrow.Author.Rules.{rules}
 use native.Mathlib.Omega.{arith}
 use Rattle.cells.specs.Below.LayoutCells.{fours}
 use Rattle.cells.proofs.Below.LayoutCellLaws.{length-fours}

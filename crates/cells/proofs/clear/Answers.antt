@@ -1,8 +1,7 @@
 -- `cells::clear` meets its contract. The invariant: the first j zeros are in place.
-use mathlib.Core.Path.{◌≡◌, refl}
-use Prim.Native.Nat.{◌-◌, ◌≤◌}
-use lib.ListN.{length, length-set, replicate}
-use lib.Seq.{paste, paste-zero}
+use mathlib.Core.Path.{refl}
+use lib.ListN.{length-set, replicate}
+use lib.Seq.{paste-zero}
 use Rattle.cells.proofs.Laws.{clear-turn, clear-end}
 use borrow.Author.Rules.{rules}
 use native.Mathlib.Omega.{arith}

@@ -1,11 +1,8 @@
 -- `cells::clear` meets its contract. The invariant: the first j zeros are in place.
-use mathlib.Core.Path.{◌≡◌, refl}
+use mathlib.Core.Path.{◌≡◌}
 use Prim.Native.Nat.{◌-◌, ◌≤◌}
-use lib.ListN.{length, length-set, replicate}
-use lib.Seq.{paste, paste-zero}
-use Rattle.cells.proofs.Laws.{clear-turn, clear-end}
-use borrow.Author.Rules.{rules}
-use native.Mathlib.Omega.{arith}
+use lib.ListN.{length, replicate}
+use lib.Seq.{paste}
 use Rattle.cells.proofs.clear.Given as goal
 
 abbrev pub invariant-loop-j : goal.invariant-loop-j

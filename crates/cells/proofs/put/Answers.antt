@@ -1,8 +1,7 @@
 -- `cells::put` meets its contract. The invariant: the first j bytes of `src` are in place.
-use mathlib.Core.Path.{◌≡◌, refl}
-use Prim.Native.Nat.{◌-◌, ◌≤◌}
-use lib.ListN.{length, length-set}
-use lib.Seq.{paste, paste-zero}
+use mathlib.Core.Path.{refl}
+use lib.ListN.{length-set}
+use lib.Seq.{paste-zero}
 use Rattle.cells.proofs.Laws.{put-turn, put-end}
 use borrow.Author.Rules.{rules}
 use native.Mathlib.Omega.{arith}

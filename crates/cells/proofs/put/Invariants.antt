@@ -1,11 +1,8 @@
 -- `cells::put` meets its contract. The invariant: the first j bytes of `src` are in place.
-use mathlib.Core.Path.{◌≡◌, refl}
+use mathlib.Core.Path.{◌≡◌}
 use Prim.Native.Nat.{◌-◌, ◌≤◌}
-use lib.ListN.{length, length-set}
-use lib.Seq.{paste, paste-zero}
-use Rattle.cells.proofs.Laws.{put-turn, put-end}
-use borrow.Author.Rules.{rules}
-use native.Mathlib.Omega.{arith}
+use lib.ListN.{length}
+use lib.Seq.{paste}
 use Rattle.cells.proofs.put.Given as goal
 
 abbrev pub invariant-loop-j : goal.invariant-loop-j

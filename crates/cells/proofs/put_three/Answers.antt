@@ -1,7 +1,6 @@
 -- `cells::put_three` meets its contract.
 use lib.ListN.{length-set}
 use Rattle.cells.proofs.Laws.{set-three}
-use borrow.Author.Rules.{rules}
 use native.Mathlib.Omega.{arith}
 use Rattle.cells.proofs.put_three.Goals as goal
 

@@ -1,7 +1,6 @@
 -- `cells::put_two` meets its contract.
 use lib.ListN.{length-set}
 use Rattle.cells.proofs.Laws.{set-two}
-use borrow.Author.Rules.{rules}
 use native.Mathlib.Omega.{arith}
 use Rattle.cells.proofs.put_two.Goals as goal
 

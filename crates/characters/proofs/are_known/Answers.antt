@@ -1,10 +1,5 @@
 -- `characters::are_known` meets its contract. The invariant: what was found of the first i bytes, and all of the rest known, is all of them known.
-use mathlib.Core.Path.{◌≡◌, refl, sym, ◌∙◌}
-use mathlib.Core.Bool.{◌&&◌}
-use Prim.Native.Nat.{◌≤◌, ◌-◌}
-use lib.ListN.{length, drop}
-use Rattle.lists.specs.Lists.{all}
-use Rattle.characters.specs.Characters.{known}
+use mathlib.Core.Path.{refl, sym, ◌∙◌}
 use Rattle.characters.proofs.Steps.{known_next, known-end}
 use borrow.Author.Rules.{rules}
 use Rattle.characters.proofs.are_known.Goals as goal

@@ -1,7 +1,6 @@
 -- `characters::byte_of` meets its contract: the constant is the list of the definition.
 use mathlib.Core.Path.{sym}
 use Rattle.characters.proofs.Tables.{past, by_rank}
-use borrow.Author.Rules.{rules}
 use Rattle.characters.proofs.byte_of.Goals as goal
 
 pub returns-then-r-gt-COUNT : goal.returns-then-r-gt-COUNT

@@ -2,7 +2,6 @@
 use mathlib.Core.Path.{ap, sym}
 use Rattle.characters.specs.Characters.{byte_of, class_of}
 use Rattle.characters.proofs.Tables.{past, class_by-rank}
-use borrow.Author.Rules.{rules}
 use Rattle.characters.proofs.class_at.Goals as goal
 
 pub returns-then-r-eq0 : goal.returns-then-r-eq0

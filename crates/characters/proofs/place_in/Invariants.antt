@@ -1,13 +1,9 @@
 -- `characters::place_in` meets its contract. The invariant: what stands before the byte from index i on, and i, is what stands before it.
-use mathlib.Core.Path.{◌≡◌, sym, ◌∙◌}
+use mathlib.Core.Path.{◌≡◌}
 use Prim.Native.Nat.{◌+◌, ◌-◌, ◌≤◌}
-use native.Mathlib.Omega.{arith}
 use lib.Dec.{eqb}
 use lib.ListN.{length, drop}
-use borrow.Author.Rules.{rules}
-use borrow.Author.Tests.{eq-eqb, ne_eqb}
 use Rattle.lists.specs.Lists.{ahead}
-use Rattle.lists.specs.LoopLaws.{ahead-here, ahead-next, ahead-end}
 use Rattle.characters.proofs.place_in.Given as goal
 
 abbrev pub invariant-loop-i : goal.invariant-loop-i

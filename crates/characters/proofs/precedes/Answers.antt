@@ -1,11 +1,9 @@
 -- `characters::precedes` meets its contract. The invariant: the words are ordered as their rests from index i on.
-use mathlib.Core.Path.{◌≡◌, refl, ◌∙◌}
-use Prim.Native.Nat.{◌-◌, ◌≤◌}
+use mathlib.Core.Path.{refl, ◌∙◌}
 use native.Mathlib.Omega.{arith}
-use lib.ListN.{length, drop}
+use lib.ListN.{length}
 use borrow.Author.Rules.{rules}
 use borrow.Author.Tests.{ltb-true}
-use Rattle.characters.specs.Characters.{precedes}
 use Rattle.characters.proofs.Steps.{order-next, order-here, second-ends, first_ends}
 use Rattle.characters.proofs.precedes.Goals as goal
 use Rattle.characters.proofs.precedes.Goals.{then-loop-i-test+else-i-w, else-loop-i-test}

@@ -1,13 +1,8 @@
 -- `characters::precedes` meets its contract. The invariant: the words are ordered as their rests from index i on.
-use mathlib.Core.Path.{◌≡◌, refl, ◌∙◌}
-use mathlib.Core.Logic.{⊎_elim}
+use mathlib.Core.Path.{◌≡◌}
 use Prim.Native.Nat.{◌-◌, ◌≤◌}
-use native.Mathlib.Omega.{arith}
 use lib.ListN.{length, drop}
-use borrow.Author.Rules.{rules}
-use borrow.Author.Tests.{ltb-true, ltb-false}
 use Rattle.characters.specs.Characters.{precedes}
-use Rattle.characters.proofs.Steps.{order-next, order-here, second-ends, first_ends}
 use Rattle.characters.proofs.precedes.Given as goal
 
 abbrev pub invariant-loop-i : goal.invariant-loop-i

@@ -1,11 +1,7 @@
 -- `check_addresses::are_different` meets its contract.
 use borrow.Author.Rules.{rules}
 use native.Mathlib.Omega.{arith}
-use mathlib.Core.Path.{◌≡◌, refl, sym, ◌∙◌}
-use Prim.Native.Nat.{◌≤◌, ◌-◌}
-use lib.Dec.{eqb}
-use lib.ListN.{length, drop}
-use Rattle.machine.specs.WellFormed.{different}
+use mathlib.Core.Path.{refl, sym, ◌∙◌}
 use Rattle.check_addresses.proofs.Loops.{different-met, different-next, different-end}
 use Rattle.check_addresses.proofs.are_different.Goals as goal
 

@@ -1,12 +1,9 @@
 -- `check_addresses::are_different` meets its contract.
-use borrow.Author.Rules.{rules}
-use native.Mathlib.Omega.{arith}
-use mathlib.Core.Path.{◌≡◌, refl, sym, ◌∙◌}
+use mathlib.Core.Path.{◌≡◌}
 use Prim.Native.Nat.{◌≤◌, ◌-◌}
 use lib.Dec.{eqb}
 use lib.ListN.{length, drop}
 use Rattle.machine.specs.WellFormed.{different}
-use Rattle.check_addresses.proofs.Loops.{different-met, different-next, different-end}
 use Rattle.check_addresses.proofs.are_different.Given as goal
 
 abbrev pub invariant-loop-i : goal.invariant-loop-i

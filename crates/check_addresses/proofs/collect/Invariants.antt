@@ -1,10 +1,7 @@
 -- `check_addresses::collect` meets its contract.
-use borrow.Author.Rules.{rules}
-use native.Mathlib.Omega.{arith}
-use mathlib.Core.Path.{◌∙◌}
 use Prim.Native.Nat.{◌-◌}
 use lib.ListN.{length}
-use Rattle.check_addresses.proofs.Loops.{Collecting, collecting-none, starts, room, collecting-next, collected}
+use Rattle.check_addresses.proofs.Loops.{Collecting}
 use Rattle.check_addresses.proofs.collect.Given as goal
 
 abbrev pub invariant-loop-at : goal.invariant-loop-at

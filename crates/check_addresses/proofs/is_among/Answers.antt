@@ -1,11 +1,7 @@
 -- `check_addresses::is_among` meets its contract.
 use borrow.Author.Rules.{rules}
-use mathlib.Core.Path.{◌≡◌, refl, sym, ◌∙◌}
-use mathlib.Core.Bool.{◌||◌}
-use Prim.Native.Nat.{◌≤◌, ◌-◌}
+use mathlib.Core.Path.{refl, sym, ◌∙◌}
 use lib.Dec.{eqb}
-use lib.ListN.{length, drop}
-use Rattle.lists.specs.Lists.{any}
 use Rattle.check_addresses.proofs.Loops.{any_next, any-end}
 use Rattle.check_addresses.proofs.is_among.Goals as goal
 

@@ -1,5 +1,4 @@
 -- `check_calls::ask` meets its contract.
-use borrow.Author.Rules.{rules}
 use Rattle.check_calls.proofs.Deciding.{both-asked}
 use Rattle.check_calls.proofs.ask.Goals as goal
 

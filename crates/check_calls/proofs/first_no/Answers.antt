@@ -1,5 +1,4 @@
 -- `check_calls::first_no` meets its contract.
-use borrow.Author.Tests.{not-true, not-false}
 use Rattle.check_calls.proofs.Deciding.{is-62-of, is-61-of, is-0-of}
 use Rattle.check_calls.proofs.first_no.Goals as goal
 

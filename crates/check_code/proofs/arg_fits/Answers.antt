@@ -1,5 +1,4 @@
 -- `check_code::arg_fits` meets its contract.
-use borrow.Author.Rules.{rules}
 use mathlib.Core.Path.{◌∙◌}
 use Rattle.packed.specs.Packed.{table_of}
 use Rattle.check_parts.specs.Parts.{letter_fits}

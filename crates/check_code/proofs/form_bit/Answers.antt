@@ -1,5 +1,4 @@
 -- `check_code::form_bit` meets its contract.
-use borrow.Author.Rules.{rules}
 use mathlib.Core.Path.{◌∙◌}
 use Rattle.packed.specs.Packed.{table_of}
 use Rattle.check_code.proofs.ByKind.{form-1, form-2, form-3, form-4, form-5, form-6, form-none}

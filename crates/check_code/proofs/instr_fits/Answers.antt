@@ -1,5 +1,4 @@
 -- `check_code::instr_fits` meets its contract.
-use borrow.Author.Rules.{rules}
 use Rattle.check_parts.specs.Parts.{lists_take, head_fits, arg_fits, form_bit, instr_fits}
 use Rattle.check_code.proofs.instr_fits.Goals as goal
 

@@ -1,11 +1,7 @@
 -- `check_code::instructions_fit` meets its contract.
-use borrow.Author.Rules.{rules}
-use mathlib.Core.Path.{◌≡◌}
-use Prim.Native.Nat.{◌-◌, ◌≤◌}
 use native.Mathlib.Omega.{arith}
-use borrow.Author.Tests.{not-true, not-false}
 use Rattle.packed.specs.Packed.{table_of}
-use Rattle.check_parts.specs.Parts.{passes, instr_fits}
+use Rattle.check_parts.specs.Parts.{instr_fits}
 use Rattle.check_parts.specs.PassLaws.{loop-stop, loop-on, loop-end, from-0}
 use Rattle.check_code.proofs.instructions_fit.Goals as goal
 

@@ -1,5 +1,4 @@
 -- `check_code::last_ends` meets its contract.
-use borrow.Author.Rules.{rules}
 use Rattle.check_code.proofs.last_ends.Goals as goal
 
 pub returns : goal.returns

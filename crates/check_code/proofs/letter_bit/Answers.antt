@@ -1,5 +1,4 @@
 -- `check_code::letter_bit` meets its contract.
-use borrow.Author.Rules.{rules}
 use borrow.Author.Tests.{lt-ltb, le-ltb}
 use Rattle.check_code.proofs.letter_bit.Goals as goal
 

@@ -1,5 +1,4 @@
 -- `check_code::letter_fits` meets its contract.
-use borrow.Author.Rules.{rules}
 use Rattle.check_parts.specs.Parts.{index_top, letter_fits}
 use Rattle.check_code.proofs.letter_fits.Goals as goal
 

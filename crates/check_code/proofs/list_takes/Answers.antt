@@ -1,5 +1,4 @@
 -- `check_code::list_takes` meets its contract.
-use borrow.Author.Rules.{rules}
 use Rattle.check_parts.specs.Parts.{takes}
 use Rattle.check_code.proofs.list_takes.Goals as goal
 

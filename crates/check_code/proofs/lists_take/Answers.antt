@@ -1,5 +1,4 @@
 -- `check_code::lists_take` meets its contract.
-use borrow.Author.Rules.{rules}
 use Rattle.check_parts.specs.Parts.{list_takes, lists_take}
 use Rattle.check_code.proofs.lists_take.Goals as goal
 

@@ -1,5 +1,4 @@
 -- `check_code::switch_bit` meets its contract.
-use borrow.Author.Rules.{rules}
 use Prim.Native.Nat.{◌%◌}
 use borrow.Author.Tests.{eq-eqb, ne_eqb}
 use Rattle.check_code.proofs.switch_bit.Goals as goal

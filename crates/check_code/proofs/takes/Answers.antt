@@ -1,5 +1,4 @@
 -- `check_code::takes` meets its contract.
-use borrow.Author.Rules.{rules}
 use Rattle.check_parts.specs.Parts.{takes}
 use Rattle.check_code.proofs.takes.Goals as goal
 

@@ -1,11 +1,7 @@
 -- `check_memory::are_zeros` meets its contract.
 use borrow.Author.Rules.{rules}
-use mathlib.Core.Path.{◌≡◌, refl, sym, ◌∙◌}
-use mathlib.Core.Bool.{◌&&◌}
-use Prim.Native.Nat.{◌≤◌, ◌-◌}
+use mathlib.Core.Path.{refl, sym, ◌∙◌}
 use lib.Dec.{eqb}
-use lib.ListN.{length, drop}
-use Rattle.check_memory.specs.Passes.{zeros}
 use Rattle.check_memory.proofs.Starts.{all-next, all_end}
 use Rattle.check_memory.proofs.are_zeros.Goals as goal
 

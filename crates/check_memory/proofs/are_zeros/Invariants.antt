@@ -1,12 +1,9 @@
 -- `check_memory::are_zeros` meets its contract.
-use borrow.Author.Rules.{rules}
-use mathlib.Core.Path.{◌≡◌, refl, sym, ◌∙◌}
+use mathlib.Core.Path.{◌≡◌}
 use mathlib.Core.Bool.{◌&&◌}
 use Prim.Native.Nat.{◌≤◌, ◌-◌}
-use lib.Dec.{eqb}
 use lib.ListN.{length, drop}
 use Rattle.check_memory.specs.Passes.{zeros}
-use Rattle.check_memory.proofs.Starts.{all-next, all_end}
 use Rattle.check_memory.proofs.are_zeros.Given as goal
 
 abbrev pub invariant-loop-i : goal.invariant-loop-i

@@ -1,8 +1,6 @@
 -- `check_memory::expression_sums` meets its contract.
-use borrow.Author.Rules.{rules}
-use native.Mathlib.Omega.{arith}
 use Prim.Native.Nat.{◌-◌}
-use Rattle.check_memory.proofs.Loops.{named, ExpressionsAdded, expressions-none, whole-expression, taken-all, expressions-next, expressions-sums}
+use Rattle.check_memory.proofs.Loops.{ExpressionsAdded}
 use Rattle.check_memory.proofs.expression_sums.Given as goal
 
 abbrev pub invariant-loop-i : goal.invariant-loop-i

@@ -1,8 +1,6 @@
 -- `check_memory::file_sums` meets its contract.
-use borrow.Author.Rules.{rules}
-use native.Mathlib.Omega.{arith}
 use Prim.Native.Nat.{◌-◌}
-use Rattle.check_memory.proofs.Loops.{named, HalvesAdded, halves-none, whole-half, count_is, halves-next, halves-sums}
+use Rattle.check_memory.proofs.Loops.{HalvesAdded}
 use Rattle.check_memory.proofs.file_sums.Given as goal
 
 abbrev pub invariant-loop-i : goal.invariant-loop-i

@@ -1,8 +1,6 @@
 -- `check_memory::is_distinct` meets its contract.
-use borrow.Author.Rules.{rules}
 use native.Mathlib.Omega.{arith}
-use Prim.Native.Nat.{◌-◌}
-use Rattle.check_memory.proofs.Loops.{named, Gathering, gathering-none, within, gathering-room, gathering-next, gathered}
+use Rattle.check_memory.proofs.Loops.{named, gathering-none, within, gathering-room, gathering-next, gathered}
 use mathlib.Core.Path.{sym}
 use lib.Seq.{length-take-le}
 use Rattle.check_memory.proofs.is_distinct.Goals as goal

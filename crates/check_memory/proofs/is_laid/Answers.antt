@@ -1,5 +1,4 @@
 -- `check_memory::is_laid` meets its contract.
-use borrow.Author.Rules.{rules}
 use native.Mathlib.Omega.{arith}
 use Rattle.check_memory.proofs.Loops.{laid-beyond, laid-within}
 use Rattle.check_memory.proofs.is_laid.Goals as goal

@@ -1,9 +1,6 @@
 -- `check_memory::starts_of` meets its contract.
-use borrow.Author.Rules.{rules}
 use native.Mathlib.Omega.{arith}
-use Prim.Native.Nat.{◌-◌}
-use Rattle.check_memory.proofs.Starts.{Starting, starting-none, starting-next, started}
-use Rattle.layout.specs.Places as layout
+use Rattle.check_memory.proofs.Starts.{starting-none, starting-next, started}
 use Rattle.check_memory.proofs.starts_of.Goals as goal
 
 pub loop-i-init : goal.loop-i-init

@@ -1,5 +1,4 @@
 -- `check_memory::string_at` meets its contract.
-use borrow.Author.Rules.{rules}
 use native.Mathlib.Omega.{arith}
 use Rattle.check_memory.proofs.Starts.{string-within, string-lent}
 use Rattle.check_memory.proofs.string_at.Goals as goal

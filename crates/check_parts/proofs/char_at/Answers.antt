@@ -1,5 +1,4 @@
 -- `check_parts::char_at` meets its contract.
-use borrow.Author.Rules.{rules}
 use native.Mathlib.Omega.{arith}
 use Rattle.packed.specs.Packed.{table_of}
 use Rattle.check_parts.proofs.Chars.{char-0, char-1, char-2, char-3}

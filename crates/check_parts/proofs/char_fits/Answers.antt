@@ -1,5 +1,4 @@
 -- `check_parts::char_fits` meets its contract.
-use borrow.Author.Rules.{rules}
 use mathlib.Core.Path.{◌∙◌}
 use Rattle.packed.specs.Packed.{table_of}
 use Rattle.check_parts.proofs.Chars.{char-behind, char-of-name, char-of-text}

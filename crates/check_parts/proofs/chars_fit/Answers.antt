@@ -1,11 +1,8 @@
 -- `check_parts::chars_fit` meets its contract.
-use borrow.Author.Rules.{rules}
-use mathlib.Core.Path.{◌≡◌, refl}
-use Prim.Native.Nat.{◌-◌, ◌≤◌}
+use mathlib.Core.Path.{refl}
 use native.Mathlib.Omega.{arith}
-use borrow.Author.Tests.{not-true, not-false}
 use Rattle.packed.specs.Packed.{table_of}
-use Rattle.check_parts.specs.Parts.{passes, char_fits, chars_fit}
+use Rattle.check_parts.specs.Parts.{char_fits}
 use Rattle.check_parts.specs.PassLaws.{loop-stop, loop-on, loop-end}
 use Rattle.check_parts.proofs.chars_fit.Goals as goal
 

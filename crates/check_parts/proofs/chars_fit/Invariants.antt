@@ -1,12 +1,8 @@
 -- `check_parts::chars_fit` meets its contract.
-use borrow.Author.Rules.{rules}
-use mathlib.Core.Path.{◌≡◌, refl}
+use mathlib.Core.Path.{◌≡◌}
 use Prim.Native.Nat.{◌-◌, ◌≤◌}
-use native.Mathlib.Omega.{arith}
-use borrow.Author.Tests.{not-true, not-false}
 use Rattle.packed.specs.Packed.{table_of}
 use Rattle.check_parts.specs.Parts.{passes, char_fits, chars_fit}
-use Rattle.check_parts.specs.PassLaws.{loop-stop, loop-on, loop-end}
 use Rattle.check_parts.proofs.chars_fit.Given as goal
 
 abbrev pub invariant-loop-j : goal.invariant-loop-j

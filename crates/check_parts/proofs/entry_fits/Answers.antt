@@ -1,5 +1,4 @@
 -- `check_parts::entry_fits` meets its contract.
-use borrow.Author.Rules.{rules}
 use Rattle.check_parts.specs.Parts.{ref_fits, entry_fits}
 use Rattle.check_parts.proofs.entry_fits.Goals as goal
 

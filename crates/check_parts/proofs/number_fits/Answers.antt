@@ -1,5 +1,4 @@
 -- `check_parts::number_fits` meets its contract.
-use borrow.Author.Rules.{rules}
 use Rattle.check_parts.specs.Parts.{number_fits}
 use Rattle.check_parts.proofs.number_fits.Goals as goal
 

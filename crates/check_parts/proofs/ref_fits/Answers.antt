@@ -1,5 +1,4 @@
 -- `check_parts::ref_fits` meets its contract.
-use borrow.Author.Rules.{rules}
 use mathlib.Core.Path.{refl, ap, ◌∙◌}
 use Rattle.characters.specs.Characters.{known, known_marks}
 use Rattle.packed.specs.Packed.{table_of}

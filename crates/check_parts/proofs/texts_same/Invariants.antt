@@ -1,15 +1,11 @@
 -- `check_parts::texts_same` meets its contract.
-use borrow.Author.Rules.{rules}
-use mathlib.Core.Path.{◌≡◌, refl}
+use mathlib.Core.Path.{◌≡◌}
 use Prim.Native.Nat.{◌+◌, ◌*◌, ◌-◌, ◌≤◌}
-use native.Mathlib.Omega.{arith}
 use lib.Dec.{eqb}
-use borrow.Author.Tests.{eq-eqb, ne_eqb}
 use Rattle.layout.specs.Cells.{cell}
 use Rattle.layout.specs.Places as layout
 use Rattle.packed.specs.Packed.{table_of}
 use Rattle.check_parts.specs.Parts.{passes, texts_same}
-use Rattle.check_parts.specs.PassLaws.{loop-stop, loop-on, loop-end}
 use Rattle.check_parts.proofs.texts_same.Given as goal
 
 abbrev pub invariant-loop-q : goal.invariant-loop-q

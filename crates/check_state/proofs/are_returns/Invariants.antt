@@ -1,15 +1,11 @@
 -- `check_state::are_returns` meets its contract.
-use borrow.Author.Rules.{rules}
-use native.Mathlib.Omega.{arith}
-use mathlib.Core.Path.{◌≡◌, refl, sym, ◌∙◌}
+use mathlib.Core.Path.{◌≡◌}
 use Prim.Native.Nat.{◌≤◌, ◌-◌}
 use lib.ListN.{length, drop}
-use borrow.Author.Tests.{not-true, not-false}
 use Rattle.lists.specs.Lists.{all}
 use Rattle.layout.specs.Memory.{twos_in}
 use Rattle.layout.specs.Table.{program_of}
 use Rattle.machine.specs.WellFormed.{good_return}
-use Rattle.check_state.proofs.Returns.{entries-fail, entries-go, entries-end}
 use Rattle.check_state.proofs.are_returns.Given as goal
 
 abbrev pub invariant-loop-i : goal.invariant-loop-i

@@ -1,5 +1,4 @@
 -- `check_state::is_fitting` meets its contract.
-use borrow.Author.Rules.{rules}
 use native.Mathlib.Omega.{arith}
 use Rattle.check_memory.proofs.Loops.{named}
 use Rattle.check_state.proofs.Returns.{table-long}

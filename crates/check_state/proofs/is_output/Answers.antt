@@ -1,5 +1,4 @@
 -- `check_state::is_output` meets its contract.
-use borrow.Author.Rules.{rules}
 use mathlib.Core.Path.{refl}
 use Rattle.check_state.proofs.is_output.Goals as goal
 

@@ -1,7 +1,5 @@
 -- `check_state::is_passed` meets its contract.
-use borrow.Author.Rules.{rules}
 use native.Mathlib.Omega.{arith}
-use borrow.Author.Tests.{not-true, not-false}
 use Rattle.check_memory.proofs.Steps.{ended, walkable, both-whole}
 use Rattle.check_state.proofs.Steps.{comparable, fittable, fails-1, fails-2, fails-3, fails-4, last}
 use Rattle.check_state.proofs.is_passed.Goals as goal

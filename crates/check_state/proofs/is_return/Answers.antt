@@ -1,5 +1,4 @@
 -- `check_state::is_return` meets its contract.
-use borrow.Author.Rules.{rules}
 use Rattle.check_state.proofs.Returns.{table-long, return-none, return-beyond, place, return-is}
 use Rattle.check_state.proofs.is_return.Goals as goal
 

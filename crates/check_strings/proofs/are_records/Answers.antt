@@ -1,10 +1,6 @@
 -- `check_strings::are_records` meets its contract. The invariant: the cells from `at` on decide.
-use borrow.Author.Rules.{rules}
 use native.Mathlib.Omega.{arith}
-use mathlib.Core.Path.{◌≡◌, refl, sym, ◌∙◌}
-use Prim.Native.Nat.{◌≤◌, ◌-◌}
-use lib.ListN.{length, drop}
-use Rattle.check_strings.specs.Sound.{sound_records}
+use mathlib.Core.Path.{refl, sym, ◌∙◌}
 use Rattle.check_strings.proofs.Sizes.{record-fits, records-fault, records-next, records-over}
 use Rattle.check_strings.proofs.are_records.Goals as goal
 

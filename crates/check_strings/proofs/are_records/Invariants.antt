@@ -1,11 +1,8 @@
 -- `check_strings::are_records` meets its contract. The invariant: the cells from `at` on decide.
-use borrow.Author.Rules.{rules}
-use native.Mathlib.Omega.{arith}
-use mathlib.Core.Path.{◌≡◌, refl, sym, ◌∙◌}
+use mathlib.Core.Path.{◌≡◌}
 use Prim.Native.Nat.{◌≤◌, ◌-◌}
 use lib.ListN.{length, drop}
 use Rattle.check_strings.specs.Sound.{sound_records}
-use Rattle.check_strings.proofs.Sizes.{record-fits, records-fault, records-next, records-over}
 use Rattle.check_strings.proofs.are_records.Given as goal
 
 abbrev pub invariant-loop-at : goal.invariant-loop-at

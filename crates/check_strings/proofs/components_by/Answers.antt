@@ -1,10 +1,6 @@
 -- `check_strings::components_by` meets its contract. The invariant: the cells from `at` on decide.
-use borrow.Author.Rules.{rules}
 use native.Mathlib.Omega.{arith}
-use mathlib.Core.Path.{◌≡◌, refl, sym, ◌∙◌}
-use Prim.Native.Nat.{◌≤◌, ◌-◌}
-use lib.ListN.{length, drop}
-use Rattle.check_strings.specs.Sound.{sound_components}
+use mathlib.Core.Path.{refl, sym, ◌∙◌}
 use Rattle.check_strings.proofs.Sizes.{some-lent, front_fits, components-fault, components-next, components-over}
 use Rattle.check_strings.proofs.components_by.Goals as goal
 

@@ -1,11 +1,8 @@
 -- `check_strings::components_by` meets its contract. The invariant: the cells from `at` on decide.
-use borrow.Author.Rules.{rules}
-use native.Mathlib.Omega.{arith}
-use mathlib.Core.Path.{◌≡◌, refl, sym, ◌∙◌}
+use mathlib.Core.Path.{◌≡◌}
 use Prim.Native.Nat.{◌≤◌, ◌-◌}
 use lib.ListN.{length, drop}
 use Rattle.check_strings.specs.Sound.{sound_components}
-use Rattle.check_strings.proofs.Sizes.{some-lent, front_fits, components-fault, components-next, components-over}
 use Rattle.check_strings.proofs.components_by.Given as goal
 
 abbrev pub invariant-loop-at : goal.invariant-loop-at

@@ -1,5 +1,4 @@
 -- `check_strings::front_size` meets its contract. How large the component in front is.
-use borrow.Author.Rules.{rules}
 use native.Mathlib.Omega.{arith}
 use Rattle.layout.specs.Cells.{cell}
 use Rattle.components.proofs.Fronts.{size-short, size-most}

@@ -1,5 +1,4 @@
 -- `check_strings::is_framed` meets its contract.
-use borrow.Author.Rules.{rules}
 use Rattle.check_strings.proofs.Sizes.{framed-short, framed-cut, framed-end}
 use Rattle.check_strings.proofs.is_framed.Goals as goal
 

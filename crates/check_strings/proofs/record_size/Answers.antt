@@ -1,8 +1,6 @@
 -- `check_strings::record_size` meets its contract.
-use borrow.Author.Rules.{rules}
 use native.Mathlib.Omega.{arith}
 use mathlib.Core.Path.{sym, ◌∙◌}
-use borrow.Author.Tests.{not-true, not-false}
 use Rattle.check_strings.proofs.Sizes.{framed-fits, record-none, record-shown}
 use Rattle.check_strings.proofs.record_size.Goals as goal
 

@@ -1,5 +1,4 @@
 -- `check_table::counts_fit` meets its contract.
-use borrow.Author.Rules.{rules}
 use Rattle.check_table.specs.Checks.{counts_fit}
 use Rattle.check_table.proofs.counts_fit.Goals as goal
 

@@ -1,11 +1,8 @@
 -- `check_table::entries_fit` meets its contract.
-use borrow.Author.Rules.{rules}
-use mathlib.Core.Path.{◌≡◌, refl}
+use mathlib.Core.Path.{◌≡◌}
 use Prim.Native.Nat.{◌-◌}
-use borrow.Author.Tests.{not-true, not-false}
 use Rattle.packed.specs.Packed.{table_of}
 use Rattle.check_parts.specs.Parts.{passes, entry_fits}
-use Rattle.check_parts.specs.PassLaws.{loop-stop, loop-on, loop-end}
 use Rattle.check_table.proofs.entries_fit.Given as goal
 
 abbrev pub invariant-loop-k : goal.invariant-loop-k

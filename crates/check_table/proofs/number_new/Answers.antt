@@ -1,14 +1,12 @@
 -- `check_table::number_new` meets its contract.
-use borrow.Author.Rules.{rules}
-use mathlib.Core.Path.{◌≡◌, refl, ap}
+use mathlib.Core.Path.{refl, ap}
 use mathlib.Core.Bool.{not}
-use Prim.Native.Nat.{◌+◌, ◌-◌}
+use Prim.Native.Nat.{◌+◌}
 use lib.Dec.{eqb}
 use borrow.Author.Tests.{eq-eqb, ne_eqb}
 use Rattle.layout.specs.Cells.{cell}
 use Rattle.layout.specs.Places as layout
 use Rattle.packed.specs.Packed.{table_of}
-use Rattle.check_parts.specs.Parts.{passes}
 use Rattle.check_parts.specs.PassLaws.{loop-stop, loop-on, loop-end}
 use Rattle.check_table.specs.Checks.{number_new}
 use Rattle.check_table.proofs.number_new.Goals as goal

@@ -1,5 +1,4 @@
 -- `check_table::number_stays` meets its contract.
-use borrow.Author.Rules.{rules}
 use Rattle.check_table.specs.Checks.{number_new, number_stays}
 use Rattle.check_table.proofs.number_stays.Goals as goal
 

@@ -1,11 +1,6 @@
 -- `check_table::numbers_fit` meets its contract.
-use borrow.Author.Rules.{rules}
-use mathlib.Core.Path.{◌≡◌}
-use Prim.Native.Nat.{◌-◌, ◌≤◌}
 use native.Mathlib.Omega.{arith}
-use borrow.Author.Tests.{not-true, not-false}
 use Rattle.packed.specs.Packed.{table_of}
-use Rattle.check_parts.specs.Parts.{passes}
 use Rattle.check_parts.specs.PassLaws.{loop-stop, loop-on, loop-end, from-0}
 use Rattle.check_table.specs.Checks.{number_stays}
 use Rattle.check_table.proofs.numbers_fit.Goals as goal

@@ -1,5 +1,4 @@
 -- `check_table::rest_zero` meets its contract.
-use borrow.Author.Rules.{rules}
 use native.Mathlib.Omega.{arith}
 use Rattle.check_table.specs.Checks.{rest_zero}
 use Rattle.check_table.proofs.rest_zero.Goals as goal

@@ -1,5 +1,4 @@
 -- `check_table::switch_fits` meets its contract.
-use borrow.Author.Rules.{rules}
 use Rattle.check_table.specs.Checks.{switch_fits}
 use Rattle.check_table.proofs.switch_fits.Goals as goal
 

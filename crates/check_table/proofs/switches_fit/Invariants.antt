@@ -1,12 +1,8 @@
 -- `check_table::switches_fit` meets its contract.
-use borrow.Author.Rules.{rules}
 use mathlib.Core.Path.{◌≡◌}
 use Prim.Native.Nat.{◌*◌, ◌-◌, ◌≤◌}
-use native.Mathlib.Omega.{arith}
-use borrow.Author.Tests.{not-true, not-false}
 use Rattle.packed.specs.Packed.{table_of}
-use Rattle.check_table.specs.Checks.{switch_fits, switches_fit}
-use Rattle.check_table.proofs.Turns.{switches-start, switches-stop, switches_on, switches-end}
+use Rattle.check_table.specs.Checks.{switches_fit}
 use Rattle.check_table.proofs.switches_fit.Given as goal
 
 abbrev pub invariant-loop-k : goal.invariant-loop-k

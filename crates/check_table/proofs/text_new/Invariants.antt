@@ -1,11 +1,9 @@
 -- `check_table::text_new` meets its contract.
-use borrow.Author.Rules.{rules}
-use mathlib.Core.Path.{◌≡◌, refl, ap}
+use mathlib.Core.Path.{◌≡◌}
 use mathlib.Core.Bool.{not}
 use Prim.Native.Nat.{◌-◌}
 use Rattle.packed.specs.Packed.{table_of}
 use Rattle.check_parts.specs.Parts.{passes, texts_same}
-use Rattle.check_parts.specs.PassLaws.{loop-stop, loop-on, loop-end}
 use Rattle.check_table.specs.Checks.{text_new}
 use Rattle.check_table.proofs.text_new.Given as goal
 

@@ -1,5 +1,4 @@
 -- `check_table::text_stays` meets its contract.
-use borrow.Author.Rules.{rules}
 use Rattle.check_table.specs.Checks.{text_new, text_stays}
 use Rattle.check_table.proofs.text_stays.Goals as goal
 

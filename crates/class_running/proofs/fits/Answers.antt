@@ -1,7 +1,6 @@
 -- `class_running::fits` meets its contract.
 use Rattle.class_running.proofs.Adding.{too_many, other-budgets, other-sum, few-cells, last-part}
 use mathlib.Core.Path.{refl}
-use borrow.Author.Rules.{rules}
 use Rattle.class_running.proofs.fits.Goals as goal
 
 pub returns-then-n-gt-CLASS : goal.returns-then-n-gt-CLASS

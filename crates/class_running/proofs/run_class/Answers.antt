@@ -1,8 +1,6 @@
 -- `class_running::run_class` meets its contract.
 use Rattle.class_running.proofs.Sitting.{no_table, no-fit, classable, all_done}
 use mathlib.Core.Path.{refl}
-use borrow.Author.Tests.{not-true, not-false}
-use borrow.Author.Rules.{rules}
 use Rattle.class_running.proofs.run_class.Goals as goal
 
 pub returns-then-not-is_table : goal.returns-then-not-is_table

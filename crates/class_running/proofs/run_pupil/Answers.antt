@@ -1,8 +1,6 @@
 -- `class_running::run_pupil` meets its contract.
 use Rattle.class_running.proofs.Seating.{refused-told, runnable, showable, answered}
 use mathlib.Core.Path.{refl}
-use borrow.Author.Tests.{not-true, not-false}
-use borrow.Author.Rules.{rules}
 use Rattle.class_running.proofs.run_pupil.Goals as goal
 
 pub returns-then-not-are_inputs : goal.returns-then-not-are_inputs

@@ -1,9 +1,6 @@
 -- `class_running::run_pupils` meets its contract.
-use Rattle.class_running.proofs.Sitting.{Sitting, sit-begin, few, a-budget, seated, three-cells, end-within, sit-next, sit-end}
+use Rattle.class_running.proofs.Sitting.{sit-begin, few, a-budget, seated, three-cells, end-within, sit-next, sit-end}
 use native.Mathlib.Omega.{arith}
-use Prim.Native.Nat.{◌-◌}
-use lib.ListN.{length}
-use borrow.Author.Rules.{rules}
 use Rattle.class_running.proofs.run_pupils.Goals as goal
 
 pub loop-k-init : goal.loop-k-init

@@ -1,9 +1,7 @@
 -- `class_running::run_pupils` meets its contract.
-use Rattle.class_running.proofs.Sitting.{Sitting, sit-begin, few, a-budget, seated, three-cells, end-within, sit-next, sit-end}
-use native.Mathlib.Omega.{arith}
+use Rattle.class_running.proofs.Sitting.{Sitting}
 use Prim.Native.Nat.{◌-◌}
 use lib.ListN.{length}
-use borrow.Author.Rules.{rules}
 use Rattle.class_running.proofs.run_pupils.Given as goal
 
 abbrev pub invariant-loop-k : goal.invariant-loop-k

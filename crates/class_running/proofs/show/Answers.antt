@@ -1,7 +1,6 @@
 -- `class_running::show` meets its contract.
 use Rattle.class_running.proofs.Seating.{shown-so}
 use mathlib.Core.Path.{refl}
-use borrow.Author.Rules.{rules}
 use Rattle.class_running.proofs.show.Goals as goal
 
 pub returns : goal.returns

@@ -1,9 +1,6 @@
 -- `class_running::sum` meets its contract.
-use Rattle.class_running.proofs.Adding.{Adding, add_begin, add-next, add-end}
+use Rattle.class_running.proofs.Adding.{add_begin, add-next, add-end}
 use native.Mathlib.Omega.{arith}
-use Prim.Native.Nat.{◌-◌}
-use lib.ListN.{length}
-use borrow.Author.Rules.{rules}
 use Rattle.class_running.proofs.sum.Goals as goal
 
 pub loop-k-init : goal.loop-k-init

@@ -1,9 +1,7 @@
 -- `class_running::sum` meets its contract.
-use Rattle.class_running.proofs.Adding.{Adding, add_begin, add-next, add-end}
-use native.Mathlib.Omega.{arith}
+use Rattle.class_running.proofs.Adding.{Adding}
 use Prim.Native.Nat.{◌-◌}
 use lib.ListN.{length}
-use borrow.Author.Rules.{rules}
 use Rattle.class_running.proofs.sum.Given as goal
 
 abbrev pub invariant-loop-k : goal.invariant-loop-k

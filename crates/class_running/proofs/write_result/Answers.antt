@@ -2,7 +2,6 @@
 use native.Mathlib.Omega.{arith}
 use lib.ListN.{length-set}
 use Rattle.cells.proofs.Laws.{set-three}
-use borrow.Author.Rules.{rules}
 use Rattle.class_running.proofs.write_result.Goals as goal
 
 pub bounds-results-at-2 : goal.bounds-results-at-2

@@ -1,5 +1,4 @@
 -- `comparands::put_all` meets its contract.
-use borrow.Author.Rules.{rules}
 use native.Mathlib.Omega.{arith}
 use Rattle.comparands.proofs.Offering.{all-offered}
 use Rattle.comparands.proofs.put_all.Goals as goal

@@ -1,5 +1,4 @@
 -- `comparands::put_code` meets its contract.
-use borrow.Author.Rules.{rules}
 use native.Mathlib.Omega.{arith}
 use Rattle.comparands.proofs.Offering.{code-offered}
 use Rattle.comparands.proofs.put_code.Goals as goal

@@ -1,5 +1,4 @@
 -- `comparands::put_comparand` meets its contract.
-use borrow.Author.Rules.{rules}
 use Rattle.state.specs.Working.{state_at}
 use Rattle.comparands.proofs.Offering.{letter-holdable, text-holdable, code-holdable, as_read, text-argument, code-argument, class-offered, nothing-offered, label-offered, switch-offered}
 use Rattle.comparands.proofs.put_comparand.Goals as goal

@@ -1,5 +1,4 @@
 -- `comparands::put_count` meets its contract.
-use borrow.Author.Rules.{rules}
 use native.Mathlib.Omega.{arith}
 use Rattle.comparands.proofs.Offering.{count-refused, count-offered}
 use Rattle.comparands.proofs.put_count.Goals as goal

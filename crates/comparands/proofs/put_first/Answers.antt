@@ -1,5 +1,4 @@
 -- `comparands::put_first` meets its contract.
-use borrow.Author.Rules.{rules}
 use native.Mathlib.Omega.{arith}
 use lib.ListN.{length-take}
 use Rattle.operands.proofs.Below.Values.{front_fits}

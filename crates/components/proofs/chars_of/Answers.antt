@@ -1,6 +1,5 @@
 -- `components::chars_of` meets its contract.
 use native.Mathlib.Omega.{arith}
-use borrow.Author.Rules.{rules}
 use Rattle.components.proofs.Fronts.{leading-chars, lent-chars}
 use Rattle.components.proofs.chars_of.Goals as goal
 

@@ -1,5 +1,4 @@
 -- `components::copy` meets its contract.
-use borrow.Author.Rules.{rules}
 use Rattle.components.proofs.copy.Goals as goal
 
 pub returns-then-reverses : goal.returns-then-reverses

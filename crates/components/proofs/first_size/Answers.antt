@@ -1,6 +1,5 @@
 -- `components::first_size` meets its contract.
 use native.Mathlib.Omega.{arith}
-use borrow.Author.Rules.{rules}
 use borrow.Author.Tests.{eq-eqb, ne_eqb}
 use Rattle.components.proofs.first_size.Goals as goal
 

@@ -1,14 +1,8 @@
 -- `components::join` meets its contract.
-use mathlib.Core.Path.{ap, ◌∙◌}
 use Prim.Native.Nat.{◌-◌}
-use native.Mathlib.Omega.{arith}
 use lib.ListN.{length}
-use borrow.Author.Rules.{rules}
 use Rattle.cells.specs.Below.LanguageValues.{chars}
-use Rattle.cells.proofs.Below.ComponentLaws.{one_of}
-use Rattle.components.proofs.Fronts.{leading-one}
-use Rattle.components.proofs.Walks.{step}
-use Rattle.components.proofs.Makings.{Gathering, gathering-none, gathering-room, gathering-next, gathering-all}
+use Rattle.components.proofs.Makings.{Gathering}
 use Rattle.components.proofs.join.Given as goal
 
 abbrev pub invariant-loop-at : goal.invariant-loop-at

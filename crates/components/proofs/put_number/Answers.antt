@@ -2,7 +2,6 @@
 use mathlib.Core.Path.{◌∙◌}
 use native.Mathlib.Omega.{arith}
 use lib.ListN.{length-set}
-use borrow.Author.Rules.{rules}
 use Rattle.cells.specs.Below.Components.{component_bytes}
 use Rattle.cells.specs.Below.LayoutCells.{three}
 use Rattle.components.proofs.Fronts.{code-uncode}

@@ -1,7 +1,5 @@
 -- `components::put_word` meets its contract.
 use mathlib.Core.Path.{◌∙◌}
-use lib.ListN.{length-set}
-use borrow.Author.Rules.{rules}
 use Rattle.cells.specs.Below.Components.{component_bytes}
 use Rattle.components.proofs.Makings.{behind-one}
 use Rattle.components.proofs.put_word.Goals as goal

@@ -1,6 +1,5 @@
 -- `components::size_by` meets its contract.
 use native.Mathlib.Omega.{arith}
-use borrow.Author.Rules.{rules}
 use Rattle.components.proofs.Fronts.{size-short, size-long}
 use Rattle.components.proofs.size_by.Goals as goal
 

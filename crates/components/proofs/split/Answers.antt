@@ -1,10 +1,8 @@
 -- `components::split` meets its contract.
 use mathlib.Core.Path.{refl}
-use Prim.Native.Nat.{◌-◌}
 use native.Mathlib.Omega.{arith}
-use lib.ListN.{length, length-set}
-use borrow.Author.Rules.{rules}
-use Rattle.components.proofs.Makings.{Splitting, splitting-none, splitting-next, splitting-all}
+use lib.ListN.{length-set}
+use Rattle.components.proofs.Makings.{splitting-none, splitting-next, splitting-all}
 use Rattle.components.proofs.split.Goals as goal
 
 pub loop-i-init : goal.loop-i-init

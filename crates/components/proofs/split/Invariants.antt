@@ -1,10 +1,7 @@
 -- `components::split` meets its contract.
-use mathlib.Core.Path.{refl}
 use Prim.Native.Nat.{◌-◌}
-use native.Mathlib.Omega.{arith}
-use lib.ListN.{length, length-set}
-use borrow.Author.Rules.{rules}
-use Rattle.components.proofs.Makings.{Splitting, splitting-none, splitting-next, splitting-all}
+use lib.ListN.{length}
+use Rattle.components.proofs.Makings.{Splitting}
 use Rattle.components.proofs.split.Given as goal
 
 abbrev pub invariant-loop-i : goal.invariant-loop-i

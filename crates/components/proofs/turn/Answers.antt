@@ -1,9 +1,7 @@
 -- `components::turn` meets its contract.
-use Prim.Native.Nat.{◌-◌}
 use native.Mathlib.Omega.{arith}
-use borrow.Author.Rules.{rules}
 use Rattle.components.proofs.Walks.{step, part-long}
-use Rattle.components.proofs.Makings.{Turning, turning-none, turning-next, turning-all}
+use Rattle.components.proofs.Makings.{turning-none, turning-next, turning-all}
 use Rattle.components.proofs.turn.Goals as goal
 
 pub loop-at-init : goal.loop-at-init

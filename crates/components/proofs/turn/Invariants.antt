@@ -1,9 +1,6 @@
 -- `components::turn` meets its contract.
 use Prim.Native.Nat.{◌-◌}
-use native.Mathlib.Omega.{arith}
-use borrow.Author.Rules.{rules}
-use Rattle.components.proofs.Walks.{step, part-long}
-use Rattle.components.proofs.Makings.{Turning, turning-none, turning-next, turning-all}
+use Rattle.components.proofs.Makings.{Turning}
 use Rattle.components.proofs.turn.Given as goal
 
 abbrev pub invariant-loop-at : goal.invariant-loop-at

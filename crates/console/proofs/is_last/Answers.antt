@@ -1,7 +1,6 @@
 -- `console::is_last` meets its contract.
 use mathlib.Core.Path.{sym}
 use lib.Seq.{length-take-le}
-use borrow.Author.Rules.{rules}
 use Rattle.console.proofs.Lines.{too_short}
 use Rattle.console.proofs.is_last.Goals as goal
 

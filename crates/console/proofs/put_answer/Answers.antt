@@ -1,7 +1,6 @@
 -- `console::put_answer` meets its contract.
 use mathlib.Core.Path.{sym}
 use Rattle.console.proofs.Putting.{put_same, is-pause, is_stop}
-use borrow.Author.Rules.{rules}
 use Rattle.console.proofs.put_answer.Goals as goal
 
 pub returns-then-number-eq-PAUSE : goal.returns-then-number-eq-PAUSE

@@ -3,7 +3,6 @@ use Rattle.lists.specs.Quoted.{bytes}
 use Rattle.console.specs.Console.{end_line}
 use Rattle.console.proofs.Putting.{put-long, put_then, field-most, answer-most}
 use native.Mathlib.Omega.{arith}
-use borrow.Author.Rules.{rules}
 use Rattle.console.proofs.put_end.Goals as goal
 
 pub put_field-b-requires : goal.put_field-b-requires

@@ -2,7 +2,6 @@
 use lib.ListN.{length-take}
 use Rattle.console.proofs.Putting.{put-long, put_then, put_same, number-told}
 use native.Mathlib.Omega.{arith}
-use borrow.Author.Rules.{rules}
 use Rattle.console.proofs.put_field.Goals as goal
 
 pub slice_bounds-put-end : goal.slice_bounds-put-end

@@ -3,7 +3,6 @@ use Rattle.lists.specs.Quoted.{bytes}
 use Rattle.console.specs.Console.{refusal_line}
 use Rattle.console.proofs.Putting.{put-long, put_then, field-most}
 use native.Mathlib.Omega.{arith}
-use borrow.Author.Rules.{rules}
 use Rattle.console.proofs.refusal.Goals as goal
 
 pub put-requires : goal.put-requires

@@ -1,10 +1,7 @@
 -- `console::text_end` meets its contract.
-use borrow.Author.Rules.{rules}
 use native.Mathlib.Omega.{arith}
 use mathlib.Core.Path.{refl, sym, ◌∙◌}
-use Prim.Native.Nat.{◌-◌}
-use lib.ListN.{length}
-use Rattle.console.proofs.Lines.{Parting, parting-none, parting-stop, parting-next, parting-all}
+use Rattle.console.proofs.Lines.{parting-none, parting-stop, parting-next, parting-all}
 use Rattle.console.proofs.text_end.Goals as goal
 
 pub loop-at-init : goal.loop-at-init

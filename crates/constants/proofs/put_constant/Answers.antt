@@ -1,6 +1,5 @@
 -- `constants::put_constant` meets its contract.
 use borrow.Enum.Refused.{opened}
-use borrow.Author.Rules.{rules}
 use native.Mathlib.Omega.{arith}
 use Rattle.packed.specs.Packed.{table_of}
 use Rattle.constants.proofs.Rows.{as-put, number_put, no-constant}

@@ -1,5 +1,4 @@
 -- `constants::put_text` meets its contract.
-use borrow.Author.Rules.{rules}
 use native.Mathlib.Omega.{arith}
 use lib.ListN.{length-take}
 use Rattle.tests.proofs.Values.{copied-in}

@@ -1,8 +1,6 @@
 -- `constants::umiesc_expr` meets its contract.
-use borrow.Author.Rules.{rules}
 use native.Mathlib.Omega.{arith}
 use lib.ListN.{length-take}
-use borrow.Author.Tests.{not-true, not-false}
 use Rattle.constants.proofs.Rows.{expr-full, expr-writable, expr-done}
 use Rattle.constants.proofs.umiesc_expr.Goals as goal
 

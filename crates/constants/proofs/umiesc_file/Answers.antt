@@ -1,5 +1,4 @@
 -- `constants::umiesc_file` meets its contract.
-use borrow.Author.Rules.{rules}
 use native.Mathlib.Omega.{arith}
 use lib.ListN.{length-take}
 use Rattle.constants.proofs.Rows.{file-stop, file-recordable, file-writable, file-done}

@@ -1,7 +1,6 @@
 -- `control::call_to` meets its contract.
 use Rattle.state.proofs.Standing.{numbers-long, number_most}
 use Rattle.control.proofs.Laws.{back_is, return-pushable, called}
-use borrow.Author.Rules.{rules}
 use native.Mathlib.Omega.{arith}
 use Rattle.control.proofs.call_to.Goals as goal
 

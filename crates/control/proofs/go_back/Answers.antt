@@ -2,7 +2,6 @@
 use mathlib.Core.Path.{◌∙◌}
 use Rattle.state.proofs.Standing.{numbers-long}
 use Rattle.control.proofs.Laws.{top_within, top-droppable, top_read, returned}
-use borrow.Author.Rules.{rules}
 use native.Mathlib.Omega.{arith}
 use Rattle.control.proofs.go_back.Goals as goal
 

@@ -1,7 +1,6 @@
 -- `control::go_on` meets its contract.
 use Rattle.state.proofs.Standing.{numbers-long, number_most}
 use Rattle.control.proofs.Laws.{went_on}
-use borrow.Author.Rules.{rules}
 use native.Mathlib.Omega.{arith}
 use Rattle.control.proofs.go_on.Goals as goal
 

@@ -1,7 +1,6 @@
 -- `control::go_to` meets its contract.
 use Rattle.state.proofs.Standing.{numbers-long}
 use Rattle.control.proofs.Laws.{jumped}
-use borrow.Author.Rules.{rules}
 use native.Mathlib.Omega.{arith}
 use Rattle.control.proofs.go_to.Goals as goal
 

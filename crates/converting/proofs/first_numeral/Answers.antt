@@ -1,5 +1,4 @@
 -- `converting::first_numeral` meets its contract.
-use borrow.Author.Rules.{rules}
 use mathlib.Core.Path.{sym, ◌∙◌}
 use Rattle.tests.proofs.Values.{leading}
 use Rattle.converting.proofs.Numerals.{none_told, kind-told, wrong-told, over-told, code-told}

@@ -1,5 +1,4 @@
 -- `converting::liczba` meets its contract.
-use borrow.Author.Rules.{rules}
 use native.Mathlib.Omega.{arith}
 use Rattle.converting.proofs.Rows.{number-replaceable, front_long, liczba-stop, liczba-done}
 use Rattle.converting.proofs.liczba.Goals as goal

@@ -1,5 +1,4 @@
 -- `converting::put_numeral` meets its contract.
-use borrow.Author.Rules.{rules}
 use native.Mathlib.Omega.{arith}
 use lib.ListN.{length-take}
 use Rattle.converting.proofs.Numerals.{numeral-put}

@@ -1,5 +1,4 @@
 -- `converting::slowo` meets its contract.
-use borrow.Author.Rules.{rules}
 use native.Mathlib.Omega.{arith}
 use Rattle.converting.proofs.Rows.{word-replaceable, front_long, slowo-stop, slowo-done}
 use Rattle.converting.proofs.slowo.Goals as goal

@@ -1,5 +1,4 @@
 -- `copying::drop_taken` meets its contract.
-use borrow.Author.Rules.{rules}
 use mathlib.Core.Bool.{true}
 use Rattle.layout.proofs.ComponentLaws.{whole-records}
 use Rattle.machine.specs.Changes.{minus_unless, past}

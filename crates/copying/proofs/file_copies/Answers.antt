@@ -1,5 +1,4 @@
 -- `copying::file_copies` meets its contract.
-use borrow.Author.Rules.{rules}
 use Rattle.machine.specs.Changes.{minus_unless, stored}
 use Rattle.state.specs.Working.{state_at, nth, filing}
 use Rattle.state.proofs.Standing.{stands}

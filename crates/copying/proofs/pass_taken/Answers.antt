@@ -1,5 +1,4 @@
 -- `copying::pass_taken` meets its contract.
-use borrow.Author.Rules.{rules}
 use mathlib.Core.Bool.{false}
 use Rattle.machine.specs.Changes.{minus_unless, past}
 use Rattle.state.specs.Working.{state_at, nth, filing}

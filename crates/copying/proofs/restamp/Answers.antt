@@ -1,5 +1,4 @@
 -- `copying::restamp` meets its contract.
-use borrow.Author.Rules.{rules}
 use mathlib.Core.List.{map}
 use Rattle.layout.specs.Components.{records_in}
 use Rattle.machine.specs.Changes.{stamped}

@@ -1,5 +1,4 @@
 -- `decimals::coded` meets its contract.
-use borrow.Author.Rules.{rules}
 use borrow.Author.Tests.{lt-ltb, le-ltb}
 use Rattle.decimals.specs.Numerals.{coded}
 use Rattle.decimals.proofs.coded.Goals as goal

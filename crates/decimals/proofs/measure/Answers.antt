@@ -1,11 +1,7 @@
 -- `decimals::measure` meets its contract.
 use mathlib.Core.Path.{sym, ◌∙◌}
-use Prim.Native.Nat.{◌-◌}
 use native.Mathlib.Omega.{arith}
-use lib.ListN.{length}
-use borrow.Author.Rules.{rules}
-use borrow.Author.Tests.{not-true, not-false}
-use Rattle.decimals.proofs.Amounts.{digit-bounds, Measuring, measuring-none, measured-none, measuring-no, measuring-next, measuring-all}
+use Rattle.decimals.proofs.Amounts.{digit-bounds, measuring-none, measured-none, measuring-no, measuring-next, measuring-all}
 use Rattle.decimals.proofs.measure.Goals as goal
 
 pub returns-then-s-eq0 : goal.returns-then-s-eq0

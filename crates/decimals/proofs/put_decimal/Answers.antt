@@ -1,6 +1,4 @@
 -- `decimals::put_decimal` meets its contract.
-use lib.ListN.{length-set}
-use borrow.Author.Rules.{rules}
 use Rattle.decimals.proofs.Digits.{minus-put, plus-put}
 use Rattle.decimals.proofs.put_decimal.Goals as goal
 

@@ -1,9 +1,8 @@
 -- `decimals::put_digits` meets its contract.
 use mathlib.Core.Path.{refl, ap}
-use Prim.Native.Nat.{ℕ, ◌-◌, ◌+◌, ◌≤◌}
+use Prim.Native.Nat.{ℕ, ◌+◌}
 use native.Mathlib.Omega.{arith}
-use borrow.Author.Rules.{rules}
-use Rattle.decimals.proofs.Digits.{Digiting, digiting-none, digiting-next, digiting-all}
+use Rattle.decimals.proofs.Digits.{digiting-none, digiting-next, digiting-all}
 use Rattle.decimals.proofs.put_digits.Goals as goal
 
 pub loop-i-init : goal.loop-i-init

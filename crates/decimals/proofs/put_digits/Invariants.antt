@@ -1,9 +1,6 @@
 -- `decimals::put_digits` meets its contract.
-use mathlib.Core.Path.{refl, ap}
-use Prim.Native.Nat.{ℕ, ◌-◌, ◌+◌, ◌≤◌}
-use native.Mathlib.Omega.{arith}
-use borrow.Author.Rules.{rules}
-use Rattle.decimals.proofs.Digits.{Digiting, digiting-none, digiting-next, digiting-all}
+use Prim.Native.Nat.{◌-◌, ◌≤◌}
+use Rattle.decimals.proofs.Digits.{Digiting}
 use Rattle.decimals.proofs.put_digits.Given as goal
 
 abbrev pub invariant-loop-i : goal.invariant-loop-i

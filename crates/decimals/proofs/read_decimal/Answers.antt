@@ -2,7 +2,6 @@
 use mathlib.Core.Path.{ap, ◌∙◌}
 use mathlib.Core.Bool.{true, false}
 use native.Mathlib.Omega.{arith}
-use borrow.Author.Rules.{rules}
 use Rattle.decimals.specs.Numerals.{measured, coded}
 use Rattle.decimals.proofs.Amounts.{reads_none, reads-minus, reads-plus, reads_plain, behind_first}
 use Rattle.decimals.proofs.read_decimal.Goals as goal

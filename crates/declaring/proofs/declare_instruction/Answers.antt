@@ -1,6 +1,4 @@
 -- `declaring::declare_instruction` meets its contract.
-use borrow.Author.Rules.{rules}
-use mathlib.Core.Path.{◌∙◌}
 use Rattle.declaring.proofs.Instructing.{judgeable, declared-none, writable, declared}
 use Rattle.declaring.proofs.declare_instruction.Goals as goal
 

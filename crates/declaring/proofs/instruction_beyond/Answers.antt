@@ -1,5 +1,4 @@
 -- `declaring::instruction_beyond` meets its contract.
-use borrow.Author.Rules.{rules}
 use lib.ListN.{length}
 use native.Mathlib.Omega.{arith}
 use Rattle.writing.proofs.Held.{code_count}

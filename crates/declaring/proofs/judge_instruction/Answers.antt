@@ -1,5 +1,4 @@
 -- `declaring::judge_instruction` meets its contract.
-use borrow.Author.Rules.{rules}
 use Rattle.declaring.proofs.Judging.{numbers-enterable, judged, judged-by}
 use Rattle.declaring.proofs.judge_instruction.Goals as goal
 

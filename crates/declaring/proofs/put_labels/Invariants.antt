@@ -1,8 +1,6 @@
 -- `declaring::put_labels` meets its contract.
-use borrow.Author.Rules.{rules}
-use native.Mathlib.Omega.{arith}
 use Prim.Native.Nat.{◌-◌}
-use Rattle.declaring.proofs.Naming.{Putting, putting-first, putting-done, nameable, putting-more}
+use Rattle.declaring.proofs.Naming.{Putting}
 use Rattle.declaring.proofs.put_labels.Given as goal
 
 abbrev pub invariant-loop-k : goal.invariant-loop-k

@@ -1,5 +1,4 @@
 -- `declaring::put_name` meets its contract.
-use borrow.Author.Rules.{rules}
 use native.Mathlib.Omega.{arith}
 use mathlib.Core.Path.{refl}
 use Rattle.declaring.proofs.Naming.{name-inside, name-room, name-put}

@@ -1,6 +1,4 @@
 -- `declaring::write_instruction` meets its contract.
-use borrow.Author.Rules.{rules}
-use mathlib.Core.Path.{◌∙◌}
 use Rattle.declaring.proofs.Instructing.{labelling, asked, instr-room, instr-written}
 use Rattle.declaring.proofs.write_instruction.Goals as goal
 

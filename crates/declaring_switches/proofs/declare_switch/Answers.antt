@@ -1,6 +1,4 @@
 -- `declaring_switches::declare_switch` meets its contract.
-use borrow.Author.Rules.{rules}
-use mathlib.Core.Path.{◌∙◌}
 use Rattle.declaring_switches.proofs.Switches.{switch-judgeable, switch-refused, switch-writable, switch-declared}
 use Rattle.declaring_switches.proofs.declare_switch.Goals as goal
 

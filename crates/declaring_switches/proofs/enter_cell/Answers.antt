@@ -1,6 +1,5 @@
 -- `declaring_switches::enter_cell` meets its contract.
 use Rattle.declaring_switches.proofs.Texts.{cell-enterable, none-entered, cell-entered}
-use borrow.Author.Rules.{rules}
 use Rattle.declaring_switches.proofs.enter_cell.Goals as goal
 
 pub returns-then-m-eq0 : goal.returns-then-m-eq0

@@ -1,15 +1,8 @@
 -- `declaring_switches::enter_texts` meets its contract.
-use mathlib.Core.Path.{◌≡◌, refl, ap, ◌∙◌}
-use Prim.Native.Nat.{ℕ, ◌+◌, ◌-◌, min}
+use mathlib.Core.Path.{refl, ap, ◌∙◌}
+use Prim.Native.Nat.{ℕ, ◌+◌, min}
 use native.Mathlib.Omega.{arith}
-use lib.ListN.{length}
-use borrow.Author.Rules.{rules}
-use borrow.Author.Tests.{not-true, not-false}
-use Rattle.layout.specs.Cells.{cell}
-use Rattle.packed.specs.Packed.{table_of}
-use Rattle.declaring_switches.specs.declared.Declaration.{Declaration}
-use Rattle.declaring_switches.specs.DeclaringSwitches.{JudgeableSwitch}
-use Rattle.declaring_switches.proofs.Texts.{Entering, entering-first, inside, row-enterable, entering-more, text-refused, texts-entered, held_most}
+use Rattle.declaring_switches.proofs.Texts.{entering-first, inside, row-enterable, entering-more, text-refused, texts-entered, held_most}
 use Rattle.declaring_switches.proofs.enter_texts.Goals as goal
 
 pub entries-k-requires : goal.entries-k-requires

@@ -1,15 +1,12 @@
 -- `declaring_switches::enter_texts` meets its contract.
-use mathlib.Core.Path.{◌≡◌, refl, ap, ◌∙◌}
-use Prim.Native.Nat.{ℕ, ◌+◌, ◌-◌, min}
-use native.Mathlib.Omega.{arith}
+use mathlib.Core.Path.{◌≡◌}
+use Prim.Native.Nat.{◌+◌, ◌-◌, min}
 use lib.ListN.{length}
-use borrow.Author.Rules.{rules}
-use borrow.Author.Tests.{not-true, not-false}
 use Rattle.layout.specs.Cells.{cell}
 use Rattle.packed.specs.Packed.{table_of}
 use Rattle.declaring_switches.specs.declared.Declaration.{Declaration}
 use Rattle.declaring_switches.specs.DeclaringSwitches.{JudgeableSwitch}
-use Rattle.declaring_switches.proofs.Texts.{Entering, entering-first, inside, row-enterable, entering-more, text-refused, texts-entered, held_most}
+use Rattle.declaring_switches.proofs.Texts.{Entering}
 use Rattle.declaring_switches.proofs.enter_texts.Given as goal
 
 abbrev pub invariant-loop-k : goal.invariant-loop-k

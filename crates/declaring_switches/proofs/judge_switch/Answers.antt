@@ -1,7 +1,6 @@
 -- `declaring_switches::judge_switch` meets its contract.
 use native.Mathlib.Omega.{arith}
 use Rattle.declaring_switches.proofs.Texts.{judged-switch}
-use borrow.Author.Rules.{rules}
 use Rattle.declaring_switches.proofs.judge_switch.Goals as goal
 
 pub switch_beyond-a-requires : goal.switch_beyond-a-requires

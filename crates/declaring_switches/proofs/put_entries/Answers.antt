@@ -1,13 +1,8 @@
 -- `declaring_switches::put_entries` meets its contract.
-use mathlib.Core.Path.{◌≡◌, refl, ap, ◌∙◌}
-use Prim.Native.Nat.{ℕ, ◌+◌, ◌-◌}
+use mathlib.Core.Path.{refl, ap, ◌∙◌}
+use Prim.Native.Nat.{ℕ, ◌+◌}
 use native.Mathlib.Omega.{arith}
-use lib.ListN.{length}
-use Rattle.layout.specs.Cells.{cell}
-use Rattle.packed.specs.Packed.{table_of}
-use Rattle.declaring_switches.specs.declared.Declaration.{Declaration}
-use Rattle.declaring_switches.specs.Entries.{Listing}
-use Rattle.declaring_switches.proofs.Entries.{Filling, filling-first, inside, row-tellable, room-for-entry, filling-more, filled-all, held-is}
+use Rattle.declaring_switches.proofs.Entries.{filling-first, inside, row-tellable, room-for-entry, filling-more, filled-all, held-is}
 use Rattle.declaring_switches.proofs.put_entries.Goals as goal
 
 pub entries-k-requires : goal.entries-k-requires

@@ -1,7 +1,4 @@
 -- `declaring_switches::write_switch` meets its contract.
-use borrow.Author.Rules.{rules}
-use lib.ListN.{length-set}
-use mathlib.Core.Path.{◌∙◌}
 use Rattle.declaring_switches.proofs.Switches.{room-for-switch, switch-index, listing, switch-written}
 use Rattle.declaring_switches.proofs.write_switch.Goals as goal
 

@@ -1,6 +1,5 @@
 -- `decoding::at_end` meets its contract.
 use borrow.Enum.Refused.{opened}
-use borrow.Author.Rules.{rules}
 use Rattle.decoding.proofs.Letters.{not_behind}
 use Rattle.decoding.proofs.at_end.Goals as goal
 

@@ -1,5 +1,4 @@
 -- `decoding::file_of` meets its contract.
-use borrow.Author.Rules.{rules}
 use Rattle.decoding.proofs.Letters.{file-told}
 use Rattle.decoding.proofs.file_of.Goals as goal
 

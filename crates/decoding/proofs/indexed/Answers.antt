@@ -1,6 +1,5 @@
 -- `decoding::indexed` meets its contract.
 use borrow.Enum.Refused.{opened as unsealed}
-use borrow.Author.Rules.{rules}
 use native.Mathlib.Omega.{arith}
 use Rattle.decoding.specs.OperandLaws.{good_of}
 use Rattle.decoding.proofs.Letters.{opened, is-lettered}

@@ -1,6 +1,5 @@
 -- `decoding::label_of` meets its contract.
 use borrow.Enum.Refused.{opened}
-use borrow.Author.Rules.{rules}
 use Rattle.decoding.proofs.Letters.{is-labelled}
 use Rattle.decoding.proofs.label_of.Goals as goal
 

@@ -1,6 +1,5 @@
 -- `decoding::removes` meets its contract.
 use borrow.Enum.Refused.{opened}
-use borrow.Author.Rules.{rules}
 use Rattle.decoding.proofs.Letters.{not-removing}
 use Rattle.decoding.proofs.removes.Goals as goal
 

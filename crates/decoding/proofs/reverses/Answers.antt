@@ -1,6 +1,5 @@
 -- `decoding::reverses` meets its contract.
 use borrow.Enum.Refused.{opened}
-use borrow.Author.Rules.{rules}
 use Rattle.decoding.proofs.Letters.{not-turning}
 use Rattle.decoding.proofs.reverses.Goals as goal
 

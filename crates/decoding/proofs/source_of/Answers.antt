@@ -1,5 +1,4 @@
 -- `decoding::source_of` meets its contract.
-use borrow.Author.Rules.{rules}
 use Rattle.decoding.proofs.Letters.{source_told}
 use Rattle.decoding.proofs.source_of.Goals as goal
 

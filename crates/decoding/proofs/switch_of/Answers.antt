@@ -1,6 +1,5 @@
 -- `decoding::switch_of` meets its contract.
 use borrow.Enum.Refused.{opened}
-use borrow.Author.Rules.{rules}
 use Rattle.decoding.proofs.Letters.{is-switched}
 use Rattle.decoding.proofs.switch_of.Goals as goal
 

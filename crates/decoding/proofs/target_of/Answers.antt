@@ -1,5 +1,4 @@
 -- `decoding::target_of` meets its contract.
-use borrow.Author.Rules.{rules}
 use Rattle.decoding.proofs.Letters.{target_told}
 use Rattle.decoding.proofs.target_of.Goals as goal
 

@@ -1,6 +1,5 @@
 -- `decoding::variable_by` meets its contract.
 use borrow.Enum.Refused.{opened}
-use borrow.Author.Rules.{rules}
 use Rattle.decoding.proofs.Letters.{an-expression}
 use Rattle.decoding.proofs.variable_by.Goals as goal
 

@@ -1,5 +1,4 @@
 -- `decoding::variable_of` meets its contract.
-use borrow.Author.Rules.{rules}
 use Prim.Native.Nat.{suc}
 use Rattle.decoding.proofs.variable_of.Goals as goal
 

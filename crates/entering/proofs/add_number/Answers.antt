@@ -1,5 +1,4 @@
 -- `entering::add_number` meets its contract.
-use borrow.Author.Rules.{rules}
 use native.Mathlib.Omega.{arith}
 use mathlib.Core.Path.{◌∙◌}
 use Rattle.language.specs.Values.{same_number}

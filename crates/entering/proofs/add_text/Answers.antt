@@ -1,5 +1,4 @@
 -- `entering::add_text` meets its contract.
-use borrow.Author.Rules.{rules}
 use native.Mathlib.Omega.{arith}
 use mathlib.Core.Path.{◌∙◌}
 use Rattle.lists.specs.Lists.{bytes_equal}

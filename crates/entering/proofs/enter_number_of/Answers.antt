@@ -1,7 +1,5 @@
 -- `entering::enter_number_of` meets its contract.
 use borrow.Enum.Refused.{opened}
-use borrow.Author.Rules.{rules}
-use borrow.Author.Tests.{not-true, not-false}
 use Rattle.entering.proofs.Adding.{no_number, number-none, number_small, number-entered}
 use Rattle.entering.proofs.enter_number_of.Goals as goal
 

@@ -1,6 +1,4 @@
 -- `entering::enter_number_values` meets its contract.
-use borrow.Author.Rules.{rules}
-use borrow.Author.Tests.{not-true, not-false}
 use mathlib.Core.Path.{refl}
 use Rattle.entering.specs.Entering.{large_number}
 use Rattle.language.specs.Values.{same_number}

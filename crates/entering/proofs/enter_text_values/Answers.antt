@@ -1,6 +1,4 @@
 -- `entering::enter_text_values` meets its contract.
-use borrow.Author.Rules.{rules}
-use borrow.Author.Tests.{not-true, not-false}
 use mathlib.Core.Path.{refl}
 use Rattle.entering.specs.Entering.{long_text}
 use Rattle.lists.specs.Lists.{bytes_equal}

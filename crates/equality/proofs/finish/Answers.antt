@@ -1,5 +1,4 @@
 -- `equality::finish` meets its contract.
-use borrow.Author.Rules.{rules}
 use Rattle.state.specs.Working.{state_at}
 use Rattle.equality.proofs.Rows.{finish-done, finish-failed}
 use Rattle.equality.proofs.finish.Goals as goal

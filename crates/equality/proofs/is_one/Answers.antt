@@ -1,7 +1,6 @@
 -- `equality::is_one` meets its contract.
 -- the letters left by E and T
 use borrow.Enum.Refused.{opened}
-use borrow.Author.Rules.{rules}
 use mathlib.Core.Path.{◌≡◌, refl}
 use mathlib.Core.Bool.{true}
 use mathlib.Core.List.{List, [], ◌∷◌}

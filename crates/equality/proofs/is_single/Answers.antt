@@ -1,5 +1,4 @@
 -- `equality::is_single` meets its contract.
-use borrow.Author.Rules.{rules}
 use mathlib.Core.Path.{refl}
 use Rattle.equality.proofs.is_single.Goals as goal
 

@@ -1,5 +1,4 @@
 -- `equality::rw_any` meets its contract.
-use borrow.Author.Rules.{rules}
 use mathlib.Core.List.{[]}
 use Rattle.layout.proofs.ComponentLaws.{whole-components}
 use Rattle.equality.proofs.Meeting.{fitting-by}

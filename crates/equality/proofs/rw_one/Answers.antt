@@ -1,5 +1,4 @@
 -- `equality::rw_one` meets its contract.
-use borrow.Author.Rules.{rules}
 use mathlib.Core.List.{[]}
 use Rattle.packed.specs.Packed.{table_of}
 use Rattle.state.specs.Working.{state_at}

@@ -1,5 +1,4 @@
 -- `equality::settle` meets its contract.
-use borrow.Author.Rules.{rules}
 use Rattle.layout.proofs.ComponentLaws.{whole-components}
 use Rattle.comparands.proofs.Below.Values.{leading}
 use Rattle.equality.proofs.Meeting.{some-there, first-long, first-whole, first-parts, settled-done, fitting-by}

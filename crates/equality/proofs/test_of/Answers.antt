@@ -1,7 +1,6 @@
 -- `equality::test_of` meets its contract.
 -- the arguments left by a class
 use borrow.Enum.Refused.{opened}
-use borrow.Author.Rules.{rules}
 use mathlib.Core.Path.{◌≡◌, refl}
 use mathlib.Core.List.{List, [], ◌∷◌}
 use Prim.Native.Nat.{ℕ}

@@ -1,6 +1,5 @@
 -- `equality::unlike` meets its contract.
 use mathlib.Core.Path.{sym, ◌∙◌}
-use borrow.Author.Tests.{not-false}
 use Rattle.equality.proofs.Meeting.{unlike-no, unlike-yes}
 use Rattle.equality.proofs.unlike.Goals as goal
 

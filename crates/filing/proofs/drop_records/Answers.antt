@@ -1,6 +1,5 @@
 -- `filing::drop_records` meets its contract.
 use Rattle.filing.proofs.Removed.{records-droppable, records-lowerable, records-fewer, records-dropped}
-use borrow.Author.Rules.{rules}
 use native.Mathlib.Omega.{arith}
 use Rattle.filing.proofs.drop_records.Goals as goal
 

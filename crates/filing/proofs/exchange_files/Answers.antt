@@ -1,6 +1,5 @@
 -- `filing::exchange_files` meets its contract.
 use Rattle.filing.proofs.Swapped.{before-exchangeable, after-exchangeable, files-swapped}
-use borrow.Author.Rules.{rules}
 use native.Mathlib.Omega.{arith}
 use Rattle.filing.proofs.exchange_files.Goals as goal
 

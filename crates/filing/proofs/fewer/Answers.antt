@@ -1,5 +1,4 @@
 -- `filing::fewer` meets its contract.
-use borrow.Author.Rules.{rules}
 use Rattle.filing.proofs.fewer.Goals as goal
 
 pub returns : goal.returns

@@ -1,6 +1,5 @@
 -- `filing::insert` meets its contract.
 use Rattle.filing.specs.Files.{inserted}
-use borrow.Author.Rules.{rules}
 use native.Mathlib.Omega.{arith}
 use Rattle.filing.proofs.insert.Goals as goal
 

@@ -1,5 +1,4 @@
 -- `filing::more` meets its contract.
-use borrow.Author.Rules.{rules}
 use Rattle.filing.proofs.more.Goals as goal
 
 pub returns : goal.returns

@@ -1,6 +1,5 @@
 -- `filing::pass_records` meets its contract.
 use Rattle.filing.proofs.Pointers.{pass-movable, records-passed}
-use borrow.Author.Rules.{rules}
 use native.Mathlib.Omega.{arith}
 use Rattle.filing.proofs.pass_records.Goals as goal
 

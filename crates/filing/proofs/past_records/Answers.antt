@@ -1,6 +1,5 @@
 -- `filing::past_records` meets its contract.
 use Rattle.filing.proofs.Pointers.{passable}
-use borrow.Author.Rules.{rules}
 use Rattle.filing.proofs.past_records.Goals as goal
 
 pub drop_records-requires : goal.drop_records-requires

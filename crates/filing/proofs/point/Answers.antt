@@ -1,7 +1,6 @@
 -- `filing::point` meets its contract.
 use Rattle.state.proofs.Standing.{named}
 use Rattle.filing.proofs.Pointers.{point-back-movable, point-on-movable, pointed-back, pointed-on}
-use borrow.Author.Rules.{rules}
 use native.Mathlib.Omega.{arith}
 use Rattle.filing.proofs.point.Goals as goal
 

@@ -1,6 +1,5 @@
 -- `filing::write_records` meets its contract.
 use Rattle.filing.proofs.Stored.{records-insertable, records-raisable, records-more-then, records-stored}
-use borrow.Author.Rules.{rules}
 use Rattle.filing.proofs.write_records.Goals as goal
 
 pub insert-requires : goal.insert-requires

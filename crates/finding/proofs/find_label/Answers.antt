@@ -1,9 +1,7 @@
 -- `finding::find_label` meets its contract.
-use borrow.Author.Rules.{rules}
 use native.Mathlib.Omega.{arith}
 use mathlib.Core.Path.{◌≡◌, sym, ◌∙◌}
-use Prim.Native.Nat.{◌-◌, ◌≤◌}
-use Rattle.finding.proofs.Found.{Missed, missed-none, missed_more, name_hit, name-found, name-none}
+use Rattle.finding.proofs.Found.{missed-none, missed_more, name_hit, name-found, name-none}
 use Rattle.finding.proofs.find_label.Goals as goal
 
 pub loop-k-init : goal.loop-k-init

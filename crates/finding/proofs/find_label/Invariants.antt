@@ -1,9 +1,6 @@
 -- `finding::find_label` meets its contract.
-use borrow.Author.Rules.{rules}
-use native.Mathlib.Omega.{arith}
-use mathlib.Core.Path.{◌≡◌, sym, ◌∙◌}
 use Prim.Native.Nat.{◌-◌, ◌≤◌}
-use Rattle.finding.proofs.Found.{Missed, missed-none, missed_more, name_hit, name-found, name-none}
+use Rattle.finding.proofs.Found.{Missed, name_hit}
 use Rattle.finding.proofs.find_label.Given as goal
 
 abbrev pub invariant-loop-k : goal.invariant-loop-k

@@ -1,12 +1,6 @@
 -- `finding::find_number` meets its contract.
-use borrow.Author.Rules.{rules}
-use native.Mathlib.Omega.{arith}
-use mathlib.Core.Path.{◌≡◌}
-use Prim.Native.Nat.{◌-◌, ◌≤◌, ◌+◌}
-use lib.ListN.{get_or}
-use borrow.Author.Tests.{eq-eqb, ne_eqb}
-use Rattle.finding.proofs.Found.{Missed, missed-none, missed_more, number_hit, number-found, number-none}
-use Rattle.layout.specs.Places as layout
+use Prim.Native.Nat.{◌-◌, ◌≤◌}
+use Rattle.finding.proofs.Found.{Missed, number_hit}
 use Rattle.finding.proofs.find_number.Given as goal
 
 abbrev pub invariant-loop-k : goal.invariant-loop-k

@@ -1,9 +1,6 @@
 -- `finding::find_text` meets its contract.
-use borrow.Author.Rules.{rules}
-use native.Mathlib.Omega.{arith}
-use mathlib.Core.Path.{◌≡◌, sym, ◌∙◌}
 use Prim.Native.Nat.{◌-◌, ◌≤◌}
-use Rattle.finding.proofs.Found.{Missed, missed-none, missed_more, text_hit, text_found, text-none}
+use Rattle.finding.proofs.Found.{Missed, text_hit}
 use Rattle.finding.proofs.find_text.Given as goal
 
 abbrev pub invariant-loop-k : goal.invariant-loop-k

@@ -1,5 +1,4 @@
 -- `finding::number_ref` meets its contract.
-use borrow.Author.Rules.{rules}
 use Rattle.finding.proofs.References.{small-number, number-below, number-above}
 use Rattle.finding.proofs.number_ref.Goals as goal
 

@@ -1,5 +1,4 @@
 -- `finding::text_ref` meets its contract.
-use borrow.Author.Rules.{rules}
 use native.Mathlib.Omega.{arith}
 use Rattle.finding.proofs.References.{no_text, one-character, long_text}
 use Rattle.finding.proofs.text_ref.Goals as goal

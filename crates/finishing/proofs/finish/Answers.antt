@@ -1,8 +1,7 @@
 -- `finishing::finish` meets its contract.
 use borrow.Author.Rules.{rules}
-use native.Mathlib.Omega.{arith}
 use mathlib.Core.Path.{refl}
-use Rattle.finishing.proofs.Ending.{names-most, table-long, kept, no-section, not-ended, finished}
+use Rattle.finishing.proofs.Ending.{names-most, table-long, kept, not-ended, finished}
 use Rattle.finishing.proofs.finish.Goals as goal
 
 pub last_place-last-requires : goal.last_place-last-requires

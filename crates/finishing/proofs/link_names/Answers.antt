@@ -1,6 +1,6 @@
 -- `finishing::link_names` meets its contract.
 use borrow.Author.Rules.{rules}
-use Rattle.finishing.proofs.Ending.{linked-done, linked-label, linked-switch}
+use Rattle.finishing.proofs.Ending.{linked-switch}
 use Rattle.finishing.proofs.link_names.Goals as goal
 
 pub resolve-requires : goal.resolve-requires

@@ -1,7 +1,6 @@
 -- `gaps::carry` meets its contract.
 use lib.ListN.{length-take, length-drop}
 use Rattle.gaps.specs.Pool.{str}
-use borrow.Author.Rules.{rules}
 use native.Mathlib.Omega.{arith}
 use Rattle.gaps.proofs.carry.Goals as goal
 

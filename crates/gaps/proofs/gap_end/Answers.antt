@@ -1,6 +1,5 @@
 -- `gaps::gap_end` meets its contract.
 use Prim.Native.Nat.{◌*◌}
-use borrow.Author.Rules.{rules}
 use native.Mathlib.Omega.{arith}
 use Rattle.gaps.proofs.gap_end.Goals as goal
 

@@ -1,5 +1,4 @@
 -- `gaps::lay` meets its contract.
-use borrow.Author.Rules.{rules}
 use Rattle.gaps.proofs.lay.Goals as goal
 
 pub returns : goal.returns

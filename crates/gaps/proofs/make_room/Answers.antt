@@ -1,6 +1,5 @@
 -- `gaps::make_room` meets its contract.
 use Rattle.gaps.proofs.Laws.{same-made, less-made}
-use borrow.Author.Rules.{rules}
 use native.Mathlib.Omega.{arith}
 use Rattle.gaps.proofs.make_room.Goals as goal
 

@@ -1,6 +1,5 @@
 -- `gaps::put_back` meets its contract.
 use Rattle.gaps.proofs.Laws.{back-room, back-pushed}
-use borrow.Author.Rules.{rules}
 use native.Mathlib.Omega.{arith}
 use Rattle.gaps.proofs.put_back.Goals as goal
 

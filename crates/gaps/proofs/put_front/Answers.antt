@@ -1,6 +1,5 @@
 -- `gaps::put_front` meets its contract.
 use Rattle.gaps.proofs.Laws.{shaped, front-room, front-pushed}
-use borrow.Author.Rules.{rules}
 use native.Mathlib.Omega.{arith}
 use Rattle.gaps.proofs.put_front.Goals as goal
 

@@ -1,9 +1,6 @@
 -- `gaps::relayout` meets its contract. The invariant: the first j strings are laid out in `scratch`.
-use Prim.Native.Nat.{◌-◌}
-use Rattle.gaps.proofs.Spread.{Moving, moving-none, moving-more, settleable, moved, carriable, at-fits}
-use borrow.Author.Rules.{rules}
+use Rattle.gaps.proofs.Spread.{moving-none, moving-more, settleable, moved, carriable, at-fits}
 use native.Mathlib.Omega.{arith}
-use Rattle.cells.specs.Below.LayoutPlaces as layout
 use Rattle.gaps.proofs.relayout.Goals as goal
 
 pub loop-j-init : goal.loop-j-init

@@ -1,8 +1,6 @@
 -- `gaps::relayout` meets its contract. The invariant: the first j strings are laid out in `scratch`.
 use Prim.Native.Nat.{◌-◌}
-use Rattle.gaps.proofs.Spread.{Moving, moving-none, moving-more, settleable, moved, carriable, at-fits}
-use borrow.Author.Rules.{rules}
-use native.Mathlib.Omega.{arith}
+use Rattle.gaps.proofs.Spread.{Moving}
 use Rattle.cells.specs.Below.LayoutPlaces as layout
 use Rattle.gaps.proofs.relayout.Given as goal
 

@@ -1,13 +1,9 @@
 -- `gaps::settle` meets its contract. The invariant: the first j strings lie in `pool` as in `scratch`.
-use Prim.Native.Nat.{◌-◌}
 use lib.ListN.{length-take, length-drop}
 use Rattle.gaps.specs.Pool.{str}
-use Rattle.gaps.specs.Gaps.{Settled}
 use Rattle.gaps.proofs.Laws.{spanned}
 use Rattle.gaps.proofs.Spread.{settled-none, settled-more, settled-all}
-use borrow.Author.Rules.{rules}
 use native.Mathlib.Omega.{arith}
-use Rattle.cells.specs.Below.LayoutPlaces as layout
 use Rattle.gaps.proofs.settle.Goals as goal
 
 pub loop-j-init : goal.loop-j-init

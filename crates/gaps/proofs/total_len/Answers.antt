@@ -1,10 +1,7 @@
 -- `gaps::total_len` meets its contract. The invariant: n is how many bytes the first j strings have.
-use Prim.Native.Nat.{◌-◌}
 use Rattle.gaps.proofs.Laws.{shaped}
-use Rattle.gaps.proofs.Spread.{Counted, counted_none, counted_more, counted-all}
-use borrow.Author.Rules.{rules}
+use Rattle.gaps.proofs.Spread.{counted_none, counted_more, counted-all}
 use native.Mathlib.Omega.{arith}
-use Rattle.cells.specs.Below.LayoutPlaces as layout
 use Rattle.gaps.proofs.total_len.Goals as goal
 
 pub loop-j-init : goal.loop-j-init

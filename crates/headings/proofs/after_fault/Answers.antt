@@ -1,7 +1,5 @@
 -- `headings::after_fault` meets its contract.
-use borrow.Author.Rules.{rules}
 use mathlib.Core.Path.{sym, ◌∙◌}
-use borrow.Author.Tests.{not-true, not-false}
 use Rattle.headings.specs.HeadingLaws.{after-konp, after-other, after-kons, after_none}
 use Rattle.headings.proofs.after_fault.Goals as goal
 

@@ -1,5 +1,4 @@
 -- `headings::is_named` meets its contract.
-use borrow.Author.Rules.{rules}
 use native.Mathlib.Omega.{arith}
 use mathlib.Core.Path.{sym, ap, ◌∙◌}
 use Rattle.heads.specs.Below.DraftsMarks.{word_by}

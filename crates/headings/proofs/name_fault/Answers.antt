@@ -1,7 +1,6 @@
 -- `headings::name_fault` meets its contract.
-use borrow.Author.Rules.{rules}
 use mathlib.Core.Path.{refl, sym, ◌∙◌}
-use borrow.Author.Tests.{eq-eqb, ne_eqb, not-true, not-false}
+use borrow.Author.Tests.{eq-eqb, ne_eqb}
 use Rattle.syntax.specs.Verdict.{lowest}
 use Rattle.headings.proofs.name_fault.Goals as goal
 

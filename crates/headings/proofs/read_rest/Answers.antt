@@ -1,5 +1,4 @@
 -- `headings::read_rest` meets its contract.
-use borrow.Author.Rules.{rules}
 use native.Mathlib.Omega.{arith}
 use mathlib.Core.Path.{sym, ◌∙◌, subst}
 use Rattle.headings.specs.Headings.{Rests}

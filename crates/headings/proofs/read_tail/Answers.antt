@@ -1,11 +1,8 @@
 -- `headings::read_tail` meets its contract.
 use Rattle.statements.specs.StatementLaws.{on}
-use borrow.Author.Rules.{rules}
 use native.Mathlib.Omega.{arith}
 use mathlib.Core.Path.{sym, ◌∙◌}
-use Prim.Native.Nat.{◌-◌}
-use lib.ListN.{length}
-use Rattle.headings.specs.HeadingLaws.{Reading, reads_first, reads_end, reads_on}
+use Rattle.headings.specs.HeadingLaws.{reads_first, reads_end, reads_on}
 use Rattle.headings.proofs.read_tail.Goals as goal
 
 pub loop-first-init : goal.loop-first-init

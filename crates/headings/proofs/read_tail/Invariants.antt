@@ -1,11 +1,7 @@
 -- `headings::read_tail` meets its contract.
-use Rattle.statements.specs.StatementLaws.{on}
-use borrow.Author.Rules.{rules}
-use native.Mathlib.Omega.{arith}
-use mathlib.Core.Path.{sym, ◌∙◌}
 use Prim.Native.Nat.{◌-◌}
 use lib.ListN.{length}
-use Rattle.headings.specs.HeadingLaws.{Reading, reads_first, reads_end, reads_on}
+use Rattle.headings.specs.HeadingLaws.{Reading}
 use Rattle.headings.proofs.read_tail.Given as goal
 
 abbrev pub invariant-loop-first : goal.invariant-loop-first

@@ -1,5 +1,4 @@
 -- `headings::section_fault` meets its contract.
-use borrow.Author.Rules.{rules}
 use mathlib.Core.Path.{sym, ◌∙◌}
 use Rattle.headings.specs.HeadingLaws.{first-in_front, first-empty, first-named, first-wrong}
 use Rattle.headings.proofs.section_fault.Goals as goal

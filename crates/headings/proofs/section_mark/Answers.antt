@@ -1,5 +1,4 @@
 -- `headings::section_mark` meets its contract.
-use borrow.Author.Rules.{rules}
 use native.Mathlib.Omega.{arith}
 use mathlib.Core.Path.{refl, sym, ◌∙◌}
 use Rattle.headings.proofs.section_mark.Goals as goal

@@ -1,6 +1,5 @@
 -- `heads::is_name` meets its contract.
 use mathlib.Core.Path.{sym, ◌∙◌}
-use borrow.Author.Rules.{rules}
 use Rattle.language.specs.Program.{identifier}
 use Rattle.heads.specs.HeadLaws.{word-passes, other-fails}
 use Rattle.heads.proofs.is_name.Goals as goal

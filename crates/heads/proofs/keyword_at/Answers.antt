@@ -1,6 +1,5 @@
 -- `heads::keyword_at` meets its contract.
 use mathlib.Core.Path.{◌∙◌}
-use borrow.Author.Rules.{rules}
 use Rattle.heads.specs.HeadLaws.{word-known, other-known}
 use Rattle.heads.proofs.keyword_at.Goals as goal
 

@@ -1,13 +1,11 @@
 -- `heads::read_head` meets its contract.
 use mathlib.Core.Path.{sym, ap, ◌∙◌}
-use Prim.Native.Nat.{◌-◌, ◌+◌}
+use Prim.Native.Nat.{◌+◌}
 use native.Mathlib.Omega.{arith}
 use lib.Dec.{eqb}
-use lib.ListN.{length}
-use borrow.Author.Rules.{rules}
 use Rattle.statements.specs.Faults.{lower}
 use Rattle.heads.specs.HeadLaws.{one_at_most}
-use Rattle.heads.proofs.Reading.{Reading, reading-first, movable, place-low, length-low, none_read, head_read, still-reading, goes_on, room-left}
+use Rattle.heads.proofs.Reading.{reading-first, movable, place-low, length-low, none_read, head_read, still-reading, goes_on, room-left}
 use Rattle.heads.proofs.read_head.Goals as goal
 
 pub loop-t-init : goal.loop-t-init

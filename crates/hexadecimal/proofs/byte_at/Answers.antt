@@ -3,7 +3,6 @@ use Rattle.hexadecimal.proofs.Laws.{byte-1, byte-2, byte-3}
 use native.Mathlib.Omega.{arith}
 use Prim.Native.Nat.{◌+◌}
 use lib.ListN.{get_or}
-use borrow.Author.Rules.{rules}
 use Rattle.hexadecimal.proofs.byte_at.Goals as goal
 
 pub returns-then-high-ge16 : goal.returns-then-high-ge16

@@ -1,6 +1,5 @@
 -- `hexadecimal::digit_of` meets its contract.
 use Rattle.hexadecimal.proofs.Laws.{digit_low, digit-high}
-use borrow.Author.Rules.{rules}
 use Rattle.hexadecimal.proofs.digit_of.Goals as goal
 
 pub returns-then-n-lt10 : goal.returns-then-n-lt10

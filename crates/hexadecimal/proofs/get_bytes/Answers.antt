@@ -1,10 +1,8 @@
 -- `hexadecimal::get_bytes` meets its contract. The invariant: the first j bytes are read.
 use native.Mathlib.Omega.{arith}
-use mathlib.Core.Path.{◌≡◌, refl}
-use Prim.Native.Nat.{◌-◌, ◌≤◌}
-use lib.ListN.{length, length-set}
-use Rattle.hexadecimal.proofs.Laws.{Read, read_none, read-turn, read-stops, read_all}
-use borrow.Author.Rules.{rules}
+use mathlib.Core.Path.{refl}
+use lib.ListN.{length-set}
+use Rattle.hexadecimal.proofs.Laws.{read_none, read-turn, read-stops, read_all}
 use Rattle.hexadecimal.proofs.get_bytes.Goals as goal
 
 pub loop-j-init : goal.loop-j-init

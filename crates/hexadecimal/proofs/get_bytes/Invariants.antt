@@ -1,10 +1,8 @@
 -- `hexadecimal::get_bytes` meets its contract. The invariant: the first j bytes are read.
-use native.Mathlib.Omega.{arith}
-use mathlib.Core.Path.{◌≡◌, refl}
+use mathlib.Core.Path.{◌≡◌}
 use Prim.Native.Nat.{◌-◌, ◌≤◌}
-use lib.ListN.{length, length-set}
-use Rattle.hexadecimal.proofs.Laws.{Read, read_none, read-turn, read-stops, read_all}
-use borrow.Author.Rules.{rules}
+use lib.ListN.{length}
+use Rattle.hexadecimal.proofs.Laws.{Read}
 use Rattle.hexadecimal.proofs.get_bytes.Given as goal
 
 abbrev pub invariant-loop-j : goal.invariant-loop-j

@@ -2,7 +2,6 @@
 use native.Mathlib.Omega.{arith}
 use lib.ListN.{length-set}
 use Rattle.hexadecimal.proofs.Laws.{two-set}
-use borrow.Author.Rules.{rules}
 use Rattle.hexadecimal.proofs.put_byte.Goals as goal
 
 pub bounds-dst-at-2 : goal.bounds-dst-at-2

@@ -1,10 +1,7 @@
 -- `hexadecimal::put_bytes` meets its contract. The invariant: the first j bytes of `src` are written.
 use native.Mathlib.Omega.{arith}
-use mathlib.Core.Path.{◌≡◌, refl}
-use Prim.Native.Nat.{◌-◌, ◌≤◌}
-use lib.ListN.{length}
-use Rattle.hexadecimal.proofs.Laws.{written, written_none, written-turn, written_all}
-use borrow.Author.Rules.{rules}
+use mathlib.Core.Path.{refl}
+use Rattle.hexadecimal.proofs.Laws.{written_none, written-turn, written_all}
 use Rattle.hexadecimal.proofs.put_bytes.Goals as goal
 
 pub loop-j-init : goal.loop-j-init

@@ -1,10 +1,8 @@
 -- `hexadecimal::put_bytes` meets its contract. The invariant: the first j bytes of `src` are written.
-use native.Mathlib.Omega.{arith}
-use mathlib.Core.Path.{◌≡◌, refl}
+use mathlib.Core.Path.{◌≡◌}
 use Prim.Native.Nat.{◌-◌, ◌≤◌}
 use lib.ListN.{length}
-use Rattle.hexadecimal.proofs.Laws.{written, written_none, written-turn, written_all}
-use borrow.Author.Rules.{rules}
+use Rattle.hexadecimal.proofs.Laws.{written}
 use Rattle.hexadecimal.proofs.put_bytes.Given as goal
 
 abbrev pub invariant-loop-j : goal.invariant-loop-j

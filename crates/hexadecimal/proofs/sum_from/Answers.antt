@@ -1,11 +1,6 @@
 -- `hexadecimal::sum_from` meets its contract. The invariant: t is the sum of the first j bytes.
 use native.Mathlib.Omega.{arith}
-use mathlib.Core.Path.{◌≡◌}
-use Prim.Native.Nat.{◌+◌, ◌%◌, ◌-◌, ◌≤◌, ◌<◌}
-use lib.ListN.{length, take}
-use Rattle.state_frames.specs.Frames.{sum}
 use Rattle.hexadecimal.proofs.Laws.{sum-none, sum-turn, sum-all}
-use borrow.Author.Rules.{rules}
 use Rattle.hexadecimal.proofs.sum_from.Goals as goal
 
 pub loop-j-init : goal.loop-j-init

@@ -1,7 +1,6 @@
 -- `hexadecimal::value_of` meets its contract.
 use Rattle.hexadecimal.proofs.Laws.{value-1, value-2, value-3, value-4, value-5}
 use native.Mathlib.Omega.{arith}
-use borrow.Author.Rules.{rules}
 use Rattle.hexadecimal.proofs.value_of.Goals as goal
 
 pub returns-then-n-lt48 : goal.returns-then-n-lt48

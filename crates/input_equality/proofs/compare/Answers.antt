@@ -1,5 +1,4 @@
 -- `input_equality::compare` meets its contract.
-use borrow.Author.Rules.{rules}
 use Rattle.input_equality.proofs.Characters.{next-long, compared-done}
 use Rattle.readings.proofs.Reading.{from-inside}
 use Rattle.equality.proofs.Meeting.{fitting-by}

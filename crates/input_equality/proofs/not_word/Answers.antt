@@ -1,6 +1,5 @@
 -- `input_equality::not_word` meets its contract.
 use Rattle.equality.proofs.Meeting.{unlike-no, unlike-yes}
-use borrow.Author.Tests.{not-false}
 use mathlib.Core.Path.{refl, sym, ◌∙◌}
 use Rattle.input_equality.proofs.not_word.Goals as goal
 

@@ -1,5 +1,4 @@
 -- `input_equality::rw_input` meets its contract.
-use borrow.Author.Rules.{rules}
 use Rattle.input_equality.proofs.Rows.{input-stop, input-unlike, input-first, input-second}
 use Rattle.readings.proofs.Rows.{first-unread, second-unread}
 use Rattle.equality.proofs.Rows.{held-long}

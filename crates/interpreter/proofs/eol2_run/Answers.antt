@@ -1,7 +1,5 @@
-use borrow.Author.Rules.{rules}
 use mathlib.Core.Path.{sym, ◌∙◌}
 use mathlib.Core.List.{[], ◌∷◌}
-use borrow.Author.Tests.{not-true, not-false}
 use Rattle.calls.specs.Calls.Call.{run_on}
 use Rattle.interpreter.proofs.Deciding.{refused-early, refused-63, asked, runnable, run-made}
 use Rattle.interpreter.proofs.eol2_run.Goals as goal

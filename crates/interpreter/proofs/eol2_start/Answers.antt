@@ -1,4 +1,3 @@
-use borrow.Author.Rules.{rules}
 use mathlib.Core.List.{[], ◌∷◌}
 use Rattle.calls.specs.Calls.Call.{start_on}
 use Rattle.interpreter.proofs.Deciding.{refused-early, short-63, start-made}

@@ -1,5 +1,4 @@
 -- `joining::has_word_room` meets its contract.
-use borrow.Author.Rules.{rules}
 use native.Mathlib.Omega.{arith}
 use Rattle.state.specs.Working.{state_at}
 use Rattle.joining.proofs.Words.{some-most, room-long, room-removed, room-asked}

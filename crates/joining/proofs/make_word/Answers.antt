@@ -1,5 +1,4 @@
 -- `joining::make_word` meets its contract.
-use borrow.Author.Rules.{rules}
 use native.Mathlib.Omega.{arith}
 use Rattle.joining.proofs.Words.{made_none, made}
 use Rattle.joining.proofs.make_word.Goals as goal

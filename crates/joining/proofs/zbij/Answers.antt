@@ -1,5 +1,4 @@
 -- `joining::zbij` meets its contract.
-use borrow.Author.Rules.{rules}
 use Rattle.packed.specs.Packed.{table_of}
 use Rattle.table.specs.Denote.{arg_of}
 use Rattle.moves.proofs.Rows.{beside_long}

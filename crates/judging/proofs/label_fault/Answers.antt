@@ -1,7 +1,5 @@
 -- `judging::label_fault` meets its contract.
 use mathlib.Core.Path.{sym, ◌∙◌}
-use borrow.Author.Rules.{rules}
-use borrow.Author.Tests.{not-true, not-false}
 use Rattle.judging.proofs.Answers.{no_switch, no_label, labels-over}
 use Rattle.judging.proofs.label_fault.Goals as goal
 

@@ -1,7 +1,6 @@
 -- `judging::operator_fault` meets its contract.
 use mathlib.Core.Path.{◌≡◌, sym, ap, ◌∙◌}
 use mathlib.Core.Bool.{Bool, ◌||◌}
-use borrow.Author.Rules.{rules}
 use Rattle.judging.proofs.Answers.{operator-barred, operator-known}
 use Rattle.judging.proofs.operator_fault.Goals as goal
 

@@ -1,7 +1,5 @@
 -- `jumps::call_when` meets its contract.
 use mathlib.Core.Path.{refl}
-use borrow.Author.Rules.{rules}
-use borrow.Author.Tests.{not-true, not-false}
 use Rattle.machine.specs.Effects.Go.{call}
 use Rattle.state.proofs.Standing.{stands}
 use Rattle.jumps.proofs.Rows.{placed, target_is, callable, if-not, if-gone, if-full}

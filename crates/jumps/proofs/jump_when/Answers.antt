@@ -1,7 +1,5 @@
 -- `jumps::jump_when` meets its contract.
 use mathlib.Core.Path.{refl}
-use borrow.Author.Rules.{rules}
-use borrow.Author.Tests.{not-true, not-false}
 use Rattle.state.proofs.Standing.{stands}
 use Rattle.jumps.proofs.Rows.{placed, target_is, reachable, following, if-on, if-gone}
 use Rattle.machine.specs.Effects.Go.{jump}

@@ -1,5 +1,4 @@
 -- `jumps::skocz` meets its contract.
-use borrow.Author.Rules.{rules}
 use Rattle.jumps.proofs.Rows.{placed, target_is, reachable, skocz-done}
 use Rattle.jumps.proofs.skocz.Goals as goal
 

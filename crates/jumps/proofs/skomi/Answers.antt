@@ -1,5 +1,4 @@
 -- `jumps::skomi` meets its contract.
-use borrow.Author.Rules.{rules}
 use Rattle.jumps.proofs.Rows.{skomi-goes}
 use Rattle.jumps.proofs.skomi.Goals as goal
 

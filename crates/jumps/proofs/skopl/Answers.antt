@@ -1,5 +1,4 @@
 -- `jumps::skopl` meets its contract.
-use borrow.Author.Rules.{rules}
 use Rattle.jumps.proofs.Rows.{skopl-goes}
 use Rattle.jumps.proofs.skopl.Goals as goal
 

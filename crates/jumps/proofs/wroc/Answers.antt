@@ -1,5 +1,4 @@
 -- `jumps::wroc` meets its contract.
-use borrow.Author.Rules.{rules}
 use Rattle.jumps.proofs.Rows.{returnable, wroc-none, wroc-done}
 use Rattle.jumps.proofs.wroc.Goals as goal
 

@@ -1,5 +1,4 @@
 -- `jumps::wykonaj` meets its contract.
-use borrow.Author.Rules.{rules}
 use Rattle.jumps.proofs.Rows.{placed, target_is, callable, wykonaj-done, wykonaj-full}
 use Rattle.jumps.proofs.wykonaj.Goals as goal
 

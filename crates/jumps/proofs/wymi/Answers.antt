@@ -1,5 +1,4 @@
 -- `jumps::wymi` meets its contract.
-use borrow.Author.Rules.{rules}
 use Rattle.jumps.proofs.Rows.{wymi-goes}
 use Rattle.jumps.proofs.wymi.Goals as goal
 

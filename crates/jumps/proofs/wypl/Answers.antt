@@ -1,5 +1,4 @@
 -- `jumps::wypl` meets its contract.
-use borrow.Author.Rules.{rules}
 use Rattle.jumps.proofs.Rows.{wypl-goes}
 use Rattle.jumps.proofs.wypl.Goals as goal
 

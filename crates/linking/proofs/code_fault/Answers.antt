@@ -1,8 +1,7 @@
 -- `linking::code_fault` meets its contract.
 use borrow.Author.Rules.{rules}
 use native.Mathlib.Omega.{arith}
-use Prim.Native.Nat.{◌-◌}
-use Rattle.linking.proofs.Faults.{CodeGoing, code-first, code-asked, code-next, code-over}
+use Rattle.linking.proofs.Faults.{code-first, code-asked, code-next, code-over}
 use Rattle.linking.proofs.code_fault.Goals as goal
 
 pub instructions-n-requires : goal.instructions-n-requires

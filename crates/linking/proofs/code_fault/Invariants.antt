@@ -1,8 +1,6 @@
 -- `linking::code_fault` meets its contract.
-use borrow.Author.Rules.{rules}
-use native.Mathlib.Omega.{arith}
 use Prim.Native.Nat.{◌-◌}
-use Rattle.linking.proofs.Faults.{CodeGoing, code-first, code-asked, code-next, code-over}
+use Rattle.linking.proofs.Faults.{CodeGoing}
 use Rattle.linking.proofs.code_fault.Given as goal
 
 abbrev pub invariant-loop-k : goal.invariant-loop-k

@@ -2,10 +2,9 @@
 use borrow.Author.Rules.{rules}
 use native.Mathlib.Omega.{arith}
 use mathlib.Core.Bool.{true}
-use Prim.Native.Nat.{◌-◌}
 use Rattle.writing.proofs.Held.{entry_count}
 use Rattle.linking.proofs.Uses.{noted}
-use Rattle.linking.proofs.Faults.{asking, EntriesGoing, entries-first, entries_next, entries_over}
+use Rattle.linking.proofs.Faults.{asking, entries-first, entries_next, entries_over}
 use Rattle.linking.proofs.entries_fault.Goals as goal
 
 pub entries-n-requires : goal.entries-n-requires

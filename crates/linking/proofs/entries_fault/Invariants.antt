@@ -1,11 +1,6 @@
 -- `linking::entries_fault` meets its contract.
-use borrow.Author.Rules.{rules}
-use native.Mathlib.Omega.{arith}
-use mathlib.Core.Bool.{true}
 use Prim.Native.Nat.{◌-◌}
-use Rattle.writing.proofs.Held.{entry_count}
-use Rattle.linking.proofs.Uses.{noted}
-use Rattle.linking.proofs.Faults.{asking, EntriesGoing, entries-first, entries_next, entries_over}
+use Rattle.linking.proofs.Faults.{EntriesGoing}
 use Rattle.linking.proofs.entries_fault.Given as goal
 
 abbrev pub invariant-loop-k : goal.invariant-loop-k

@@ -2,8 +2,7 @@
 use borrow.Author.Rules.{rules}
 use native.Mathlib.Omega.{arith}
 use mathlib.Core.Path.{◌≡◌, sym, ◌∙◌}
-use Prim.Native.Nat.{◌-◌, ◌≤◌}
-use Rattle.finding.proofs.Found.{Missed, missed-none, missed_more}
+use Rattle.finding.proofs.Found.{missed-none, missed_more}
 use Rattle.linking.proofs.Switches.{switch_hit, switch-found, switch-none, hit-is}
 use Rattle.linking.proofs.Uses.{switches_fit}
 use Rattle.linking.proofs.has_switch.Goals as goal

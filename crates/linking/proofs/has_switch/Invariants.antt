@@ -1,11 +1,7 @@
 -- `linking::has_switch` meets its contract.
-use borrow.Author.Rules.{rules}
-use native.Mathlib.Omega.{arith}
-use mathlib.Core.Path.{◌≡◌, sym, ◌∙◌}
 use Prim.Native.Nat.{◌-◌, ◌≤◌}
-use Rattle.finding.proofs.Found.{Missed, missed-none, missed_more}
-use Rattle.linking.proofs.Switches.{switch_hit, switch-found, switch-none, hit-is}
-use Rattle.linking.proofs.Uses.{switches_fit}
+use Rattle.finding.proofs.Found.{Missed}
+use Rattle.linking.proofs.Switches.{switch_hit}
 use Rattle.linking.proofs.has_switch.Given as goal
 
 abbrev pub invariant-loop-k : goal.invariant-loop-k

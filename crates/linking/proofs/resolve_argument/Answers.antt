@@ -1,5 +1,4 @@
 -- `linking::resolve_argument` meets its contract.
-use borrow.Author.Rules.{rules}
 use native.Mathlib.Omega.{arith}
 use Prim.Native.Nat.{◌/◌}
 use Rattle.finding.proofs.Found.{labels-counted}

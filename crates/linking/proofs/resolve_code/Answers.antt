@@ -1,12 +1,10 @@
 -- `linking::resolve_code` meets its contract.
 use borrow.Author.Rules.{rules}
 use native.Mathlib.Omega.{arith}
-use mathlib.Core.Path.{◌≡◌, refl, ◌∙◌}
-use Prim.Native.Nat.{◌-◌, ◌≤◌}
+use mathlib.Core.Path.{refl, ◌∙◌}
 use lib.ListN.{length}
 use Rattle.writing.proofs.Held.{code_count}
-use Rattle.writing.specs.Writing.{Changes}
-use Rattle.linking.specs.Resolving.{instr_resolved, code_resolved}
+use Rattle.linking.specs.Resolving.{instr_resolved}
 use Rattle.linking.proofs.Steps.{asking-after, code-long, all_first, all-next, all_done}
 use Rattle.linking.proofs.Faults.{code-asked}
 use Rattle.linking.proofs.resolve_code.Goals as goal

@@ -1,14 +1,12 @@
 -- `linking::resolve_entries` meets its contract.
 use borrow.Author.Rules.{rules}
 use native.Mathlib.Omega.{arith}
-use mathlib.Core.Path.{◌≡◌, refl, ◌∙◌}
-use Prim.Native.Nat.{◌-◌, ◌≤◌}
+use mathlib.Core.Path.{refl, ◌∙◌}
 use lib.ListN.{length}
 use Rattle.finding.proofs.Found.{labels-counted}
 use Rattle.layout.specs.Table.{all_entries}
 use Rattle.writing.proofs.Held.{entry_count}
-use Rattle.writing.specs.Writing.{Changes}
-use Rattle.linking.specs.Resolving.{entry_resolved, entries_resolved}
+use Rattle.linking.specs.Resolving.{entry_resolved}
 use Rattle.linking.proofs.Steps.{mark-there, entry_ready, entry-put, all_first, all-next, all_done}
 use Rattle.linking.proofs.resolve_entries.Goals as goal
 

@@ -1,5 +1,4 @@
 -- `linking::resolve_instruction` meets its contract.
-use borrow.Author.Rules.{rules}
 use native.Mathlib.Omega.{arith}
 use Rattle.linking.proofs.Steps.{argument-long, asking-after, changed-twice}
 use Rattle.linking.proofs.resolve_instruction.Goals as goal

@@ -2,8 +2,7 @@
 use borrow.Author.Rules.{rules}
 use native.Mathlib.Omega.{arith}
 use mathlib.Core.Path.{◌≡◌, sym, ◌∙◌}
-use Prim.Native.Nat.{◌-◌, ◌≤◌}
-use Rattle.finding.proofs.Found.{Missed, missed-none, missed_more}
+use Rattle.finding.proofs.Found.{missed-none, missed_more}
 use Rattle.linking.proofs.Switches.{name_hit, place_found, place_none}
 use Rattle.linking.proofs.switch_place.Goals as goal
 

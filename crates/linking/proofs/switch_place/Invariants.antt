@@ -1,10 +1,7 @@
 -- `linking::switch_place` meets its contract.
-use borrow.Author.Rules.{rules}
-use native.Mathlib.Omega.{arith}
-use mathlib.Core.Path.{◌≡◌, sym, ◌∙◌}
 use Prim.Native.Nat.{◌-◌, ◌≤◌}
-use Rattle.finding.proofs.Found.{Missed, missed-none, missed_more}
-use Rattle.linking.proofs.Switches.{name_hit, place_found, place_none}
+use Rattle.finding.proofs.Found.{Missed}
+use Rattle.linking.proofs.Switches.{name_hit}
 use Rattle.linking.proofs.switch_place.Given as goal
 
 abbrev pub invariant-loop-k : goal.invariant-loop-k

@@ -1,11 +1,10 @@
 -- `loading::fill_lines` meets its contract.
-use Prim.Native.Nat.{◌-◌}
 use native.Mathlib.Omega.{arith}
 use lib.Dec.{eqb}
-use lib.ListN.{length, get_or}
+use lib.ListN.{get_or}
 use borrow.Author.Rules.{rules}
 use Rattle.scanner.proofs.Loops.{at_most_one}
-use Rattle.loading.proofs.Filling.{Filling, filling-none, line_low, filling-next, filling-all}
+use Rattle.loading.proofs.Filling.{filling-none, line_low, filling-next, filling-all}
 use Rattle.loading.proofs.fill_lines.Goals as goal
 
 pub loop-i-init : goal.loop-i-init

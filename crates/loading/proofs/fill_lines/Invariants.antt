@@ -1,11 +1,7 @@
 -- `loading::fill_lines` meets its contract.
 use Prim.Native.Nat.{◌-◌}
-use native.Mathlib.Omega.{arith}
-use lib.Dec.{eqb}
-use lib.ListN.{length, get_or}
-use borrow.Author.Rules.{rules}
-use Rattle.scanner.proofs.Loops.{at_most_one}
-use Rattle.loading.proofs.Filling.{Filling, filling-none, line_low, filling-next, filling-all}
+use lib.ListN.{length}
+use Rattle.loading.proofs.Filling.{Filling}
 use Rattle.loading.proofs.fill_lines.Given as goal
 
 abbrev pub invariant-loop-i : goal.invariant-loop-i

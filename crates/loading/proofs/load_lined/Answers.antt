@@ -2,7 +2,7 @@
 use borrow.Author.Rules.{rules}
 use native.Mathlib.Omega.{arith}
 use mathlib.Core.Path.{refl}
-use Rattle.loading.proofs.Outcomes.{loadable, load-accepted, load-refused}
+use Rattle.loading.proofs.Outcomes.{load-accepted, load-refused}
 use Rattle.loading.proofs.load_lined.Goals as goal
 
 pub clear_table-requires : goal.clear_table-requires

@@ -1,9 +1,6 @@
 -- `loading::load_typed` meets its contract.
 use borrow.Author.Rules.{rules}
-use native.Mathlib.Omega.{arith}
-use mathlib.Core.Path.{◌≡◌, refl, sym}
-use lib.ListN.{length}
-use lib.Seq.{length-take-le}
+use mathlib.Core.Path.{refl}
 use Rattle.loading.proofs.Outcomes.{lent, load-in}
 use Rattle.loading.proofs.load_typed.Goals as goal
 

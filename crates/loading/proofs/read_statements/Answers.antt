@@ -3,9 +3,7 @@ use borrow.Enum.Refused.{opened}
 use borrow.Author.Rules.{rules}
 use native.Mathlib.Omega.{arith}
 use mathlib.Core.Path.{refl, ◌∙◌}
-use Prim.Native.Nat.{◌-◌}
-use lib.ListN.{length}
-use Rattle.loading.proofs.Walking.{other, Looping, going-none, readable, going-refused, going-last, going_next}
+use Rattle.loading.proofs.Walking.{other, going-none, going-refused, going-last, going_next}
 use Rattle.loading.proofs.read_statements.Goals as goal
 
 pub begin-p-requires : goal.begin-p-requires

@@ -1,10 +1,7 @@
 -- `loading::read_statements` meets its contract.
-use borrow.Author.Rules.{rules}
-use native.Mathlib.Omega.{arith}
-use mathlib.Core.Path.{refl, ◌∙◌}
 use Prim.Native.Nat.{◌-◌}
 use lib.ListN.{length}
-use Rattle.loading.proofs.Walking.{other, Looping, going-none, readable, going-refused, going-last, going_next}
+use Rattle.loading.proofs.Walking.{Looping}
 use Rattle.loading.proofs.read_statements.Given as goal
 
 abbrev pub invariant-loop-q : goal.invariant-loop-q

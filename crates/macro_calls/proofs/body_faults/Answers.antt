@@ -1,13 +1,9 @@
 -- `macro_calls::body_faults` meets its contract.
-use borrow.Author.Rules.{rules}
 use native.Mathlib.Omega.{arith}
-use Rattle.macro_calls.proofs.Walking.{Walking, not-far, walking-first, walking_on, walking-end}
-use Rattle.macro_calls.specs.Calls.{FirstsKept}
+use Rattle.macro_calls.proofs.Walking.{not-far, walking-first, walking_on, walking-end}
 use Rattle.macro_calls.specs.KeptLaws.{kept-all, kept_on, macros-kept}
-use Rattle.macro_code.specs.Code.{macros_in, change_count}
-use mathlib.Core.Path.{◌≡◌, refl}
-use lib.ListN.{length}
-use Prim.Native.Nat.{◌-◌}
+use Rattle.macro_code.specs.Code.{macros_in}
+use mathlib.Core.Path.{refl}
 use Rattle.macro_calls.proofs.body_faults.Goals as goal
 
 pub loop-k-init : goal.loop-k-init

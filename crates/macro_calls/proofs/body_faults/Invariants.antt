@@ -1,11 +1,8 @@
 -- `macro_calls::body_faults` meets its contract.
-use borrow.Author.Rules.{rules}
-use native.Mathlib.Omega.{arith}
-use Rattle.macro_calls.proofs.Walking.{Walking, not-far, walking-first, walking_on, walking-end}
+use Rattle.macro_calls.proofs.Walking.{Walking}
 use Rattle.macro_calls.specs.Calls.{FirstsKept}
-use Rattle.macro_calls.specs.KeptLaws.{kept-all, kept_on, macros-kept}
 use Rattle.macro_code.specs.Code.{macros_in, change_count}
-use mathlib.Core.Path.{◌≡◌, refl}
+use mathlib.Core.Path.{◌≡◌}
 use lib.ListN.{length}
 use Prim.Native.Nat.{◌-◌}
 use Rattle.macro_calls.proofs.body_faults.Given as goal

@@ -1,6 +1,5 @@
 -- `macro_calls::both` meets its contract.
 use mathlib.Core.Path.{refl}
-use borrow.Author.Rules.{rules}
 use Rattle.macro_calls.proofs.both.Goals as goal
 
 pub returns : goal.returns

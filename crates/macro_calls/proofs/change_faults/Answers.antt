@@ -1,5 +1,4 @@
 -- `macro_calls::change_faults` meets its contract.
-use borrow.Author.Rules.{rules}
 use Prim.Native.Nat.{◌+◌}
 use Rattle.macro_calls.proofs.Reading.{told-other, told-lost, told-found}
 use Rattle.macro_calls.proofs.Seeking.{bytes_read}

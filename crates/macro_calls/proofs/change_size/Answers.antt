@@ -1,7 +1,6 @@
 -- `macro_calls::change_size` meets its contract.
 use native.Mathlib.Omega.{arith}
 use Rattle.macro_calls.proofs.Reading.{other-size, call-size}
-use borrow.Author.Rules.{rules}
 use Rattle.macro_calls.proofs.change_size.Goals as goal
 
 pub returns-then-high-ne-CALL : goal.returns-then-high-ne-CALL

@@ -1,6 +1,5 @@
 -- `macro_calls::count_fault` meets its contract.
 use Rattle.macro_calls.proofs.Reading.{counts-few, counts-many, counts-right}
-use borrow.Author.Rules.{rules}
 use Rattle.macro_calls.proofs.count_fault.Goals as goal
 
 pub returns-then-given-taken : goal.returns-then-given-taken

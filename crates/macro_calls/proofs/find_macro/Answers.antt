@@ -1,5 +1,4 @@
 -- `macro_calls::find_macro` meets its contract.
-use borrow.Author.Rules.{rules}
 use native.Mathlib.Omega.{arith}
 use mathlib.Core.Path.{refl}
 use Rattle.macro_calls.proofs.Seeking.{finds-none, finds-one}

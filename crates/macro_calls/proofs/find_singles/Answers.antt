@@ -1,9 +1,7 @@
 -- `macro_calls::find_singles` meets its contract.
-use Rattle.macro_calls.proofs.Seeking.{bytes_read, Singling, singling-first, singling-on, singling-end}
-use mathlib.Core.Path.{◌≡◌, refl}
-use lib.ListN.{length, length-set}
-use Prim.Native.Nat.{◌-◌}
-use borrow.Author.Rules.{rules}
+use Rattle.macro_calls.proofs.Seeking.{bytes_read, singling-first, singling-on, singling-end}
+use mathlib.Core.Path.{refl}
+use lib.ListN.{length-set}
 use Rattle.macro_calls.proofs.find_singles.Goals as goal
 
 pub loop-k-init : goal.loop-k-init

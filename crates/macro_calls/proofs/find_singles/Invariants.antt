@@ -1,9 +1,8 @@
 -- `macro_calls::find_singles` meets its contract.
-use Rattle.macro_calls.proofs.Seeking.{bytes_read, Singling, singling-first, singling-on, singling-end}
-use mathlib.Core.Path.{◌≡◌, refl}
-use lib.ListN.{length, length-set}
+use Rattle.macro_calls.proofs.Seeking.{Singling}
+use mathlib.Core.Path.{◌≡◌}
+use lib.ListN.{length}
 use Prim.Native.Nat.{◌-◌}
-use borrow.Author.Rules.{rules}
 use Rattle.macro_calls.proofs.find_singles.Given as goal
 
 abbrev pub invariant-loop-k : goal.invariant-loop-k

@@ -3,7 +3,6 @@ use native.Mathlib.Omega.{arith}
 use Rattle.macro_calls.proofs.Seeking.{bytes_read, hinted, searched}
 use Rattle.macro_code.specs.Code.{bytes_at}
 use Prim.Native.Nat.{◌+◌}
-use borrow.Author.Rules.{rules}
 use Rattle.macro_calls.proofs.find_target.Goals as goal
 
 pub overflow_add-at : goal.overflow_add-at

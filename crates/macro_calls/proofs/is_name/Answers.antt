@@ -1,5 +1,4 @@
 -- `macro_calls::is_name` meets its contract.
-use borrow.Author.Rules.{rules}
 use mathlib.Core.Path.{ap, ◌∙◌}
 use Rattle.lists.specs.Lists.{bytes_equal}
 use Rattle.macro_calls.proofs.Seeking.{bytes_read}

@@ -1,6 +1,5 @@
 -- `macro_calls::is_single` meets its contract.
 use lib.ListN.{get_or-eq_default}
-use borrow.Author.Rules.{rules}
 use Rattle.macro_calls.proofs.is_single.Goals as goal
 
 pub returns : goal.returns

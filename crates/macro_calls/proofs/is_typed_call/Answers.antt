@@ -1,6 +1,5 @@
 -- `macro_calls::is_typed_call` meets its contract.
 use Rattle.macro_calls.proofs.Reading.{other-untyped, call-typed}
-use borrow.Author.Rules.{rules}
 use Rattle.macro_calls.proofs.is_typed_call.Goals as goal
 
 pub returns-then-high-ne-CALL : goal.returns-then-high-ne-CALL

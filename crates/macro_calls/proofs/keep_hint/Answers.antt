@@ -1,5 +1,4 @@
 -- `macro_calls::keep_hint` meets its contract.
-use borrow.Author.Rules.{rules}
 use Rattle.macro_calls.specs.KeptLaws.{kept-behind}
 use Rattle.macro_calls.proofs.keep_hint.Goals as goal
 

@@ -1,7 +1,6 @@
 -- `macro_calls::next_macro` meets its contract.
-use borrow.Author.Rules.{rules}
 use Prim.Native.Nat.{◌-◌}
-use Rattle.macro_calls.proofs.Seeking.{Passing, name_of, passing-first, passing-on, passing-found, passing-end}
+use Rattle.macro_calls.proofs.Seeking.{Passing}
 use Rattle.macro_calls.proofs.next_macro.Given as goal
 
 abbrev pub invariant-loop-k : goal.invariant-loop-k

@@ -1,12 +1,8 @@
 -- `macro_calls::typed_faults` meets its contract.
-use borrow.Author.Rules.{rules}
 use native.Mathlib.Omega.{arith}
-use Rattle.macro_calls.proofs.Walking.{PassingBodies, bodies-first, bodies-on, bodies-end}
-use Rattle.macro_calls.specs.Calls.{FirstsKept}
+use Rattle.macro_calls.proofs.Walking.{bodies-first, bodies-on, bodies-end}
 use Rattle.macro_calls.specs.KeptLaws.{kept-all, kept_on, macros-kept}
-use mathlib.Core.Path.{◌≡◌, refl, ◌∙◌}
-use lib.ListN.{length}
-use Prim.Native.Nat.{◌-◌}
+use mathlib.Core.Path.{refl, ◌∙◌}
 use Rattle.macro_calls.proofs.typed_faults.Goals as goal
 
 pub loop-k-init : goal.loop-k-init

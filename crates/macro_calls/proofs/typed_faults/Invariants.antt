@@ -1,10 +1,7 @@
 -- `macro_calls::typed_faults` meets its contract.
-use borrow.Author.Rules.{rules}
-use native.Mathlib.Omega.{arith}
-use Rattle.macro_calls.proofs.Walking.{PassingBodies, bodies-first, bodies-on, bodies-end}
+use Rattle.macro_calls.proofs.Walking.{PassingBodies}
 use Rattle.macro_calls.specs.Calls.{FirstsKept}
-use Rattle.macro_calls.specs.KeptLaws.{kept-all, kept_on, macros-kept}
-use mathlib.Core.Path.{◌≡◌, refl, ◌∙◌}
+use mathlib.Core.Path.{◌≡◌}
 use lib.ListN.{length}
 use Prim.Native.Nat.{◌-◌}
 use Rattle.macro_calls.proofs.typed_faults.Given as goal

@@ -1,5 +1,4 @@
 -- `macro_changes::closes` meets its contract.
-use borrow.Author.Rules.{rules}
 use lib.Dec.{eqb}
 use Rattle.macros.specs.Elements.{is_mark}
 use Rattle.macro_elements.specs.ElementAt.{argument_value}

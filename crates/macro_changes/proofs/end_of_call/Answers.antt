@@ -1,6 +1,5 @@
 -- `macro_changes::end_of_call` meets its contract.
 use native.Mathlib.Omega.{arith}
-use borrow.Author.Rules.{rules}
 use Rattle.macro_changes.proofs.Calling.{ends-at_end, ends-at-none, ends-at-close}
 use Rattle.macro_changes.proofs.end_of_call.Goals as goal
 

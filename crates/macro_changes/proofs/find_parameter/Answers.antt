@@ -1,9 +1,8 @@
 -- `macro_changes::find_parameter` meets its contract.
 use native.Mathlib.Omega.{arith}
-use borrow.Author.Rules.{rules}
 use mathlib.Core.Path.{◌≡◌, sym, ◌∙◌}
 use mathlib.Core.Bool.{false}
-use Prim.Native.Nat.{ℕ, ◌+◌, ◌-◌, ◌≤◌, ◌<◌}
+use Prim.Native.Nat.{ℕ, ◌+◌}
 use Rattle.lexer.specs.Tokens.{part}
 use Rattle.lists.specs.Lists.{bytes_equal}
 use Rattle.macro_code.specs.Code.{bytes_at}

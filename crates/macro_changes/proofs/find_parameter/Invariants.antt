@@ -1,13 +1,10 @@
 -- `macro_changes::find_parameter` meets its contract.
-use native.Mathlib.Omega.{arith}
-use borrow.Author.Rules.{rules}
-use mathlib.Core.Path.{◌≡◌, sym, ◌∙◌}
+use mathlib.Core.Path.{◌≡◌}
 use mathlib.Core.Bool.{false}
 use Prim.Native.Nat.{ℕ, ◌+◌, ◌-◌, ◌≤◌, ◌<◌}
 use Rattle.lexer.specs.Tokens.{part}
 use Rattle.lists.specs.Lists.{bytes_equal}
 use Rattle.macro_code.specs.Code.{bytes_at}
-use Rattle.macro_changes.proofs.Searching.{ahead-here, ahead_none, none_more, test-is}
 use Rattle.macro_changes.proofs.find_parameter.Given as goal
 
 abbrev pub invariant-loop-i : goal.invariant-loop-i

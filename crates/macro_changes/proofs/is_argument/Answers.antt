@@ -1,5 +1,4 @@
 -- `macro_changes::is_argument` meets its contract.
-use borrow.Author.Rules.{rules}
 use mathlib.Core.Path.{refl}
 use Rattle.syntax.specs.Items.Sort.{text}
 use Rattle.macro_elements.proofs.Tests.{sort-is}

@@ -1,5 +1,4 @@
 -- `macro_changes::name_fault` meets its contract.
-use borrow.Author.Rules.{rules}
 use lib.Dec.{eqb}
 use mathlib.Core.Bool.{◌||◌}
 use Rattle.macro_elements.specs.ElementAt.{argument_value}

@@ -1,5 +1,4 @@
 -- `macro_changes::put` meets its contract.
-use borrow.Author.Rules.{rules}
 use mathlib.Core.Path.{refl}
 use Rattle.macro_changes.proofs.put.Goals as goal
 

@@ -1,6 +1,5 @@
 -- `macro_changes::read_call` meets its contract.
 use native.Mathlib.Omega.{arith}
-use borrow.Author.Rules.{rules}
 use Rattle.macros.specs.Elements.{is_star}
 use Rattle.macro_changes.proofs.Stepping.{some-given, call-stepped, first_more}
 use Rattle.macro_changes.proofs.read_call.Goals as goal

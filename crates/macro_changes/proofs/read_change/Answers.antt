@@ -1,5 +1,4 @@
 -- `macro_changes::read_change` meets its contract.
-use borrow.Author.Rules.{rules}
 use Rattle.macro_changes.proofs.Stepping.{begins-star, begins-word}
 use Rattle.macro_changes.proofs.read_change.Goals as goal
 

@@ -1,12 +1,7 @@
 -- `macro_changes::read_changes` meets its contract.
-use native.Mathlib.Omega.{arith}
-use borrow.Author.Rules.{rules}
-use mathlib.Core.Path.{sym, ◌∙◌}
 use Prim.Native.Nat.{◌-◌}
 use lib.ListN.{length}
 use Rattle.macro_changes.specs.Changing.{Stepped}
-use Rattle.macro_changes.proofs.Giving.{inside-none}
-use Rattle.macro_changes.proofs.Stepping.{stepped-none, reading-on, stepped-on, begins-inner}
 use Rattle.macro_changes.proofs.read_changes.Given as goal
 
 abbrev pub invariant-loop-x : goal.invariant-loop-x

@@ -1,6 +1,5 @@
 -- `macro_changes::read_word` meets its contract.
 use native.Mathlib.Omega.{arith}
-use borrow.Author.Rules.{rules}
 use lib.ListN.{length-set}
 use Rattle.macro_changes.proofs.Stepping.{Wordly, word_none, word-one, room_word, places-low}
 use Rattle.macro_changes.proofs.read_word.Goals as goal

@@ -1,6 +1,5 @@
 -- `macro_changes::write_call` meets its contract.
 use native.Mathlib.Omega.{arith}
-use borrow.Author.Rules.{rules}
 use mathlib.Core.Path.{refl}
 use Rattle.macro_changes.proofs.write_call.Goals as goal
 

@@ -1,5 +1,4 @@
 -- `macro_elements::byte_at` meets its contract.
-use borrow.Author.Rules.{rules}
 use Rattle.macro_code.proofs.Cutting.{beyond}
 use Rattle.macro_elements.proofs.Bytes.{any-default}
 use Rattle.macro_elements.proofs.byte_at.Goals as goal

@@ -1,10 +1,6 @@
 -- `macro_elements::digits` meets its contract. The invariant: what was found of the bytes before i, and the rest, is the whole.
-use mathlib.Core.Path.{◌≡◌, refl, sym, ◌∙◌}
-use mathlib.Core.Bool.{◌&&◌}
-use Prim.Native.Nat.{◌≤◌, ◌-◌}
-use lib.ListN.{length, drop}
+use mathlib.Core.Path.{refl, sym, ◌∙◌}
 use Rattle.characters.specs.Characters.{is_digit}
-use Rattle.lists.specs.Lists.{all}
 use Rattle.macro_elements.proofs.Bytes.{all-next, all_end}
 use borrow.Author.Rules.{rules}
 use Rattle.macro_elements.proofs.digits.Goals as goal

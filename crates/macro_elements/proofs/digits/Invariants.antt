@@ -1,12 +1,10 @@
 -- `macro_elements::digits` meets its contract. The invariant: what was found of the bytes before i, and the rest, is the whole.
-use mathlib.Core.Path.{◌≡◌, refl, sym, ◌∙◌}
+use mathlib.Core.Path.{◌≡◌}
 use mathlib.Core.Bool.{◌&&◌}
 use Prim.Native.Nat.{◌≤◌, ◌-◌}
 use lib.ListN.{length, drop}
 use Rattle.characters.specs.Characters.{is_digit}
 use Rattle.lists.specs.Lists.{all}
-use Rattle.macro_elements.proofs.Bytes.{all-next, all_end}
-use borrow.Author.Rules.{rules}
 use Rattle.macro_elements.proofs.digits.Given as goal
 
 abbrev pub invariant-loop-i : goal.invariant-loop-i

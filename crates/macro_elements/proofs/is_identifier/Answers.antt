@@ -1,5 +1,4 @@
 -- `macro_elements::is_identifier` meets its contract.
-use borrow.Author.Rules.{rules}
 use Rattle.macro_elements.proofs.Tests.{no-identifier, word-identifier}
 use Rattle.macro_elements.proofs.is_identifier.Goals as goal
 

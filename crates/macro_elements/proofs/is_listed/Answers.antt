@@ -1,5 +1,4 @@
 -- `macro_elements::is_listed` meets its contract.
-use borrow.Author.Rules.{rules}
 use Rattle.macro_elements.proofs.Tests.{not_listed, word-listed}
 use Rattle.macro_elements.proofs.is_listed.Goals as goal
 

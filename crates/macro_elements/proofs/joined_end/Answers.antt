@@ -1,6 +1,5 @@
 -- `macro_elements::joined_end` meets its contract.
 use native.Mathlib.Omega.{arith}
-use borrow.Author.Rules.{rules}
 use Rattle.macro_elements.proofs.Linking.{same_length}
 use mathlib.Core.Path.{refl}
 use Rattle.macro_elements.proofs.joined_end.Goals as goal

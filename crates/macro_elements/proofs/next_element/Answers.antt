@@ -1,6 +1,5 @@
 -- `macro_elements::next_element` meets its contract.
 use native.Mathlib.Omega.{arith}
-use borrow.Author.Rules.{rules}
 use Rattle.macro_elements.proofs.Linking.{same_length, text-next, mark-next, word_next, joined_next}
 use Rattle.macro_elements.proofs.next_element.Goals as goal
 

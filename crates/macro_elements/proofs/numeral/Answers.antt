@@ -1,5 +1,4 @@
 -- `macro_elements::numeral` meets its contract.
-use borrow.Author.Rules.{rules}
 use Rattle.macro_elements.proofs.Bytes.{numeral-none, numeral-signed, numeral-plain}
 use Rattle.macro_elements.proofs.numeral.Goals as goal
 

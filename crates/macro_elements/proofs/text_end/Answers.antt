@@ -1,6 +1,5 @@
 -- `macro_elements::text_end` meets its contract.
 use native.Mathlib.Omega.{arith}
-use borrow.Author.Rules.{rules}
 use Rattle.macro_elements.proofs.Bytes.{text-ends}
 use Rattle.macro_elements.proofs.text_end.Goals as goal
 

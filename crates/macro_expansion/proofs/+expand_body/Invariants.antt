@@ -1,21 +1,13 @@
 -- `macro_expansion::expand_body` meets its contract. It ends since the levels left fall with each call.
-use mathlib.Core.Path.{◌≡◌, refl, sym, ◌∙◌}
+use mathlib.Core.Path.{◌≡◌}
 use mathlib.Core.Bool.{true}
-use mathlib.Core.List.{[]}
 use Prim.Native.Nat.{◌+◌, ◌-◌}
-use native.Mathlib.Omega.{arith}
 use lib.ListN.{length, take}
-use Rattle.macros.specs.Expansion.{Writing, just, followed_by, levels}
+use Rattle.macros.specs.Expansion.{Writing, followed_by, levels}
 use Rattle.macro_code.specs.Code.{low}
-use borrow.Author.Rules.{rules}
 use Rattle.macro_memory.specs.Memory.{Remembers}
-use Rattle.macro_memory.specs.MemoryLaws.{remembers-stays, remembers-nested}
 use Rattle.macro_values.specs.Wrote.{Wrote}
-use Rattle.macro_values.specs.WritingLaws.{wrote_none}
 use Rattle.macro_expansion.specs.Expanding.{pause_writes, Stops}
-use Rattle.macro_expansion.specs.WalkLaws.{none-followed}
-use Rattle.macro_expansion.specs.ExpandLaws.{run-whole, run-behind, fits-rest, expand-turn, expand-ends}
-use Prim.Native.Nat.{ℕ, ◌<◌}
 use Rattle.macro_expansion.proofs.+expand_body.Given as goal
 
 abbrev pub decreases-expand_body : goal.decreases-expand_body

@@ -4,7 +4,6 @@ use native.Mathlib.Omega.{arith}
 use Prim.Native.Nat.{◌+◌}
 use Rattle.macro_expansion.specs.Expanding.{arguments_at}
 use Rattle.macro_expansion.specs.CallLaws.{typed-given}
-use borrow.Author.Rules.{rules}
 use Rattle.macro_expansion.proofs.called_macro.Goals as goal
 
 pub find_target-requires : goal.find_target-requires

@@ -6,7 +6,6 @@ use Rattle.macro_code.specs.Code.{given_in}
 use Rattle.macros.specs.Expansion.{filled_in}
 use Rattle.macro_expansion.specs.Expanding.{arguments_at}
 use Rattle.macro_expansion.specs.CallLaws.{long-unknown}
-use borrow.Author.Rules.{rules}
 use Rattle.macro_expansion.proofs.find_written.Goals as goal
 
 pub returns-then-written : goal.returns-then-written

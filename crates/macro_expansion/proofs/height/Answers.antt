@@ -1,8 +1,6 @@
 -- `macro_expansion::height` meets its contract.
 use mathlib.Core.Path.{sym}
-use native.Mathlib.Omega.{arith}
 use lib.ListN.{get_or-eq_default}
-use borrow.Author.Rules.{rules}
 use Rattle.macro_expansion.proofs.height.Goals as goal
 
 pub returns : goal.returns

@@ -1,5 +1,4 @@
 -- `macro_expansion::is_done` meets its contract.
-use borrow.Author.Rules.{rules}
 use mathlib.Core.Bool.{false≢true}
 use Rattle.macro_expansion.proofs.is_done.Goals as goal
 

@@ -2,7 +2,6 @@
 use mathlib.Core.Path.{ap}
 use mathlib.Core.Bool.{◌&&◌}
 use lib.Dec.{leb}
-use borrow.Author.Rules.{rules}
 use Rattle.macro_expansion.proofs.is_settled.Goals as goal
 
 pub returns : goal.returns

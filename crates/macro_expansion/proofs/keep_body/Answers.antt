@@ -1,6 +1,4 @@
 -- `macro_expansion::keep_body` meets its contract.
-use borrow.Author.Rules.{rules}
-use borrow.Author.Tests.{not-false}
 use Rattle.macro_expansion.specs.ExpandLaws.{keeps-none, keeps-stored}
 use Rattle.macro_expansion.proofs.keep_body.Goals as goal
 

@@ -2,7 +2,6 @@
 use mathlib.Core.Path.{sym, ◌∙◌}
 use borrow.Author.Tests.{eq-eqb, ne_eqb}
 use Rattle.macro_expansion.specs.RunLaws.{met-value, met-nothing, call-piece, met-call}
-use borrow.Author.Rules.{rules}
 use Rattle.macro_expansion.proofs.meet.Goals as goal
 
 pub write_value-requires : goal.write_value-requires

@@ -3,7 +3,6 @@ use mathlib.Core.Path.{refl, sym, ◌∙◌}
 use native.Mathlib.Omega.{arith}
 use borrow.Author.Tests.{not-true, not-false}
 use Rattle.macro_expansion.specs.JudgeLaws.{judge-unknown, judge-uneven, judge-deep, judge-quiet, judge-settled, judge-found, judge-enters, not-zero}
-use borrow.Author.Rules.{rules}
 use Rattle.macro_expansion.proofs.meet_call.Goals as goal
 
 pub returns-then-not-named : goal.returns-then-not-named

@@ -1,19 +1,12 @@
 -- `macro_expansion::run` meets its contract.
-use borrow.Author.Rules.{rules}
-use mathlib.Core.Path.{◌≡◌, refl, sym, ◌∙◌}
-use native.Mathlib.Omega.{arith}
-use mathlib.Core.List.{[]}
+use mathlib.Core.Path.{◌≡◌}
 use Prim.Native.Nat.{◌+◌, ◌*◌, ◌<◌, ◌≤◌}
-use Rattle.macros.specs.Expansion.{Writing, just, followed_by}
+use Rattle.macros.specs.Expansion.{Writing, followed_by}
 use Rattle.macro_code.specs.Places.{half}
 use Rattle.macro_memory.specs.Memory.{reach}
-use Rattle.macro_memory.specs.MemoryLaws.{remembers-stays}
 use Rattle.macro_values.specs.Wrote.{Wrote}
-use Rattle.macro_values.specs.WritingLaws.{wrote_none}
 use Rattle.macro_code.specs.Bounds.{widest}
 use Rattle.macro_expansion.specs.Expanding.{rest_writes}
-use Rattle.macro_expansion.specs.WalkLaws.{none-followed}
-use Rattle.macro_expansion.specs.RunLaws.{run-turn, run-pauses, run_ends}
 use Rattle.macro_expansion.proofs.run.Given as goal
 
 abbrev pub invariant-loop-changes : goal.invariant-loop-changes

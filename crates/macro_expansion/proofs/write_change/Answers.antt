@@ -5,7 +5,6 @@ use Prim.Native.Nat.{◌-◌}
 use Rattle.macros.specs.Expansion.{levels}
 use Rattle.macro_memory.specs.MemoryLaws.{remembers-stays, remembers-nested}
 use Rattle.macro_expansion.specs.ExpandLaws.{change-enters}
-use borrow.Author.Rules.{rules}
 use Rattle.macro_expansion.proofs.write_change.Goals as goal
 
 pub meet-step-requires : goal.meet-step-requires

@@ -1,12 +1,8 @@
 -- `macro_heights::find_heights` meets its contract.
 use native.Mathlib.Omega.{arith}
 use Rattle.macro_heights.proofs.Passes.{up-to-none, all-heights}
-use Rattle.macro_heights.specs.Levels.{quiet_table, loose_table, UpTo}
-use Rattle.macros.specs.Expansion.{levels}
-use lib.ListN.{length}
-use Prim.Native.Nat.{◌-◌}
-use mathlib.Core.Path.{◌≡◌, refl}
-use borrow.Author.Rules.{rules}
+use Rattle.macro_heights.specs.Levels.{quiet_table, loose_table}
+use mathlib.Core.Path.{refl}
 use Rattle.macro_heights.proofs.find_heights.Goals as goal
 
 pub unset-requires : goal.unset-requires

@@ -1,13 +1,12 @@
 -- `macro_heights::loose_body` meets its contract.
 use native.Mathlib.Omega.{arith}
-use Rattle.macro_heights.proofs.Measuring.{rest-first, loose-near, LooseRest, loose-on, loose-end}
+use Rattle.macro_heights.proofs.Measuring.{rest-first, loose-near, loose-on, loose-end}
 use Rattle.macro_heights.specs.Levels.{loose_at}
 use Rattle.macros.specs.Silence.{fixed_piece}
-use Rattle.macro_code.specs.Code.{high, low, change_count, macros_in}
+use Rattle.macro_code.specs.Code.{high, low, macros_in}
 use borrow.Author.Tests.{lt-ltb}
-use mathlib.Core.Path.{◌≡◌, refl}
-use Prim.Native.Nat.{ℕ, ◌+◌, ◌-◌}
-use borrow.Author.Rules.{rules}
+use mathlib.Core.Path.{refl}
+use Prim.Native.Nat.{◌+◌}
 use Rattle.macro_heights.proofs.loose_body.Goals as goal
 
 pub loop-k-init : goal.loop-k-init

@@ -1,7 +1,6 @@
 -- `macro_heights::loose_change` meets its contract.
 use native.Mathlib.Omega.{arith}
 use Rattle.macro_heights.proofs.Measuring.{loose-other, loose-call, loose-refused}
-use borrow.Author.Rules.{rules}
 use Rattle.macro_heights.proofs.loose_change.Goals as goal
 
 pub overflow_add-i : goal.overflow_add-i

@@ -1,13 +1,10 @@
 -- `macro_heights::quiet_body` meets its contract.
 use native.Mathlib.Omega.{arith}
-use Rattle.macro_heights.proofs.Measuring.{rest-first, quiet-near, QuietRest, quiet-on, quiet-end}
+use Rattle.macro_heights.proofs.Measuring.{rest-first, quiet-near, quiet-on, quiet-end}
 use Rattle.macro_heights.specs.Levels.{quiet_at}
 use Rattle.macros.specs.Silence.{silent_piece}
-use Rattle.macro_code.specs.Code.{change_count, macros_in}
+use Rattle.macro_code.specs.Code.{macros_in}
 use borrow.Author.Tests.{le-leb}
-use mathlib.Core.Path.{◌≡◌}
-use Prim.Native.Nat.{◌-◌}
-use borrow.Author.Rules.{rules}
 use Rattle.macro_heights.proofs.quiet_body.Goals as goal
 
 pub loop-k-init : goal.loop-k-init

@@ -1,7 +1,6 @@
 -- `macro_heights::quiet_change` meets its contract.
 use native.Mathlib.Omega.{arith}
 use Rattle.macro_heights.proofs.Measuring.{quiet-value, quiet-nothing, quiet-call, quiet-refused}
-use borrow.Author.Rules.{rules}
 use Rattle.macro_heights.proofs.quiet_change.Goals as goal
 
 pub overflow_add-i : goal.overflow_add-i

@@ -1,6 +1,5 @@
 -- `macro_heights::right_macro` meets its contract.
 use Rattle.macro_heights.proofs.Aiming.{aims-untyped, aims-lost, aims-uneven, aims-right}
-use borrow.Author.Rules.{rules}
 use Rattle.macro_heights.proofs.right_macro.Goals as goal
 
 pub returns-then-not-is_typed_call : goal.returns-then-not-is_typed_call

@@ -1,6 +1,5 @@
 -- `macro_heights::settle` meets its contract.
 use Rattle.macro_heights.proofs.Passes.{settled-put, settled-full, settled-above}
-use borrow.Author.Rules.{rules}
 use Rattle.macro_heights.proofs.settle.Goals as goal
 
 pub returns-then-wide-ge-LEVELS : goal.returns-then-wide-ge-LEVELS

@@ -1,11 +1,8 @@
 -- `macro_heights::settle_loose` meets its contract.
 use native.Mathlib.Omega.{arith}
-use Rattle.macro_heights.proofs.Passes.{InPass, pass-first, pass_on, pass-end, loose-found, loose-climbs}
+use Rattle.macro_heights.proofs.Passes.{pass-first, pass_on, pass-end, loose-found, loose-climbs}
 use Rattle.macro_heights.specs.Levels.{loose_table}
-use lib.ListN.{length}
-use mathlib.Core.Path.{◌≡◌, refl}
-use Prim.Native.Nat.{◌-◌}
-use borrow.Author.Rules.{rules}
+use mathlib.Core.Path.{refl}
 use Rattle.macro_heights.proofs.settle_loose.Goals as goal
 
 pub loop-k-init : goal.loop-k-init

@@ -1,11 +1,9 @@
 -- `macro_heights::settle_quiet` meets its contract.
-use native.Mathlib.Omega.{arith}
-use Rattle.macro_heights.proofs.Passes.{InPass, pass-first, pass_on, pass-end, quiet-found, quiet-climbs}
+use Rattle.macro_heights.proofs.Passes.{InPass}
 use Rattle.macro_heights.specs.Levels.{quiet_table}
 use lib.ListN.{length}
-use mathlib.Core.Path.{◌≡◌, refl}
+use mathlib.Core.Path.{◌≡◌}
 use Prim.Native.Nat.{◌-◌}
-use borrow.Author.Rules.{rules}
 use Rattle.macro_heights.proofs.settle_quiet.Given as goal
 
 abbrev pub invariant-loop-k : goal.invariant-loop-k

@@ -1,11 +1,9 @@
 -- `macro_heights::unset` meets its contract.
 use native.Mathlib.Omega.{arith}
 use Rattle.macro_calls.specs.TableLaws.{below_set}
-use lib.ListN.{length, get_or, length-set}
+use lib.ListN.{length-set}
 use native.Mathlib.Nat.{not-suc-le-zero}
 use mathlib.Core.Path.{◌≡◌, refl}
-use Prim.Native.Nat.{ℕ, ◌<◌, ◌≤◌, ◌-◌}
-use borrow.Author.Rules.{rules}
 use Rattle.macro_heights.proofs.unset.Goals as goal
 
 pub loop-k-init : goal.loop-k-init

@@ -1,11 +1,7 @@
 -- `macro_heights::unset` meets its contract.
-use native.Mathlib.Omega.{arith}
-use Rattle.macro_calls.specs.TableLaws.{below_set}
-use lib.ListN.{length, get_or, length-set}
-use native.Mathlib.Nat.{not-suc-le-zero}
-use mathlib.Core.Path.{◌≡◌, refl}
+use lib.ListN.{length, get_or}
+use mathlib.Core.Path.{◌≡◌}
 use Prim.Native.Nat.{ℕ, ◌<◌, ◌≤◌, ◌-◌}
-use borrow.Author.Rules.{rules}
 use Rattle.macro_heights.proofs.unset.Given as goal
 
 abbrev pub invariant-loop-k : goal.invariant-loop-k

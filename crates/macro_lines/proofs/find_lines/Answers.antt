@@ -1,9 +1,6 @@
 -- `macro_lines::find_lines` meets its contract.
-use Prim.Native.Nat.{◌-◌}
 use native.Mathlib.Omega.{arith}
-use lib.ListN.{length}
-use Rattle.macro_lines.proofs.Going.{line-fits, Finding, finding-none, ahead, finding-next, found_all}
-use borrow.Author.Rules.{rules}
+use Rattle.macro_lines.proofs.Going.{line-fits, finding-none, ahead, finding-next, found_all}
 use Rattle.macro_lines.proofs.find_lines.Goals as goal
 
 pub loop-j-init : goal.loop-j-init

@@ -1,11 +1,9 @@
 -- `macro_lines::line_ahead` meets its contract.
-use Prim.Native.Nat.{◌-◌}
 use native.Mathlib.Omega.{arith}
 use lib.Dec.{eqb}
 use lib.ListN.{get_or}
-use borrow.Author.Rules.{rules}
 use Rattle.scanner.proofs.Loops.{at_most_one}
-use Rattle.macro_lines.proofs.Going.{Going, line_most, going_on, arrived}
+use Rattle.macro_lines.proofs.Going.{line_most, going_on, arrived}
 use Rattle.macro_lines.proofs.line_ahead.Goals as goal
 
 pub loop-i-init : goal.loop-i-init

@@ -3,7 +3,6 @@ use mathlib.Core.Path.{ap, ◌∙◌}
 use Rattle.syntax.specs.Items.{line_of}
 use Rattle.macros.proofs.LineLaws.{line-past}
 use Rattle.macro_lines.proofs.Going.{from_start}
-use borrow.Author.Rules.{rules}
 use Rattle.macro_lines.proofs.line_of.Goals as goal
 
 pub line_ahead-requires : goal.line_ahead-requires

@@ -1,8 +1,7 @@
 -- `macro_loading::load` meets its contract.
 use borrow.Author.Rules.{rules}
-use borrow.Author.Tests.{not-true, not-false}
 use mathlib.Core.Path.{refl, sym, ◌∙◌}
-use Rattle.macro_loading.proofs.Outcomes.{short-table, long_text, loads-accepted, loads-plain, rewritable, loads-written}
+use Rattle.macro_loading.proofs.Outcomes.{long_text, loads-accepted, loads-plain, rewritable, loads-written}
 use Rattle.macro_loading.proofs.load.Goals as goal
 
 pub returns-then-table-lt-TABLE : goal.returns-then-table-lt-TABLE

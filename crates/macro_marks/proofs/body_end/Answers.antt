@@ -1,9 +1,7 @@
 -- `macro_marks::body_end` meets its contract.
 use native.Mathlib.Omega.{arith}
-use borrow.Author.Tests.{not-true, not-false}
 use Rattle.macro_marks.specs.Parts.{parameters}
 use Rattle.macro_marks.proofs.Reaching.{quote-within, no_word, no-apostrophe, no-identifier, no_second, joined-here, no-parameter}
-use borrow.Author.Rules.{rules}
 use Rattle.macro_marks.proofs.body_end.Goals as goal
 
 pub returns-then-t-ne-WORD : goal.returns-then-t-ne-WORD

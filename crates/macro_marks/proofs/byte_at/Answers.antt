@@ -1,5 +1,4 @@
 -- `macro_marks::byte_at` meets its contract.
-use borrow.Author.Rules.{rules}
 use Rattle.macro_marks.specs.ItemLaws.{byte-within, byte_past}
 use Rattle.macro_marks.proofs.byte_at.Goals as goal
 

@@ -1,5 +1,4 @@
 -- `macro_marks::closed` meets its contract.
-use borrow.Author.Rules.{rules}
 use mathlib.Core.Path.{sym, ap}
 use Rattle.macro_marks.specs.Parts.{closed}
 use Rattle.macro_marks.proofs.closed.Goals as goal

@@ -1,10 +1,7 @@
 -- `macro_marks::copy` meets its contract.
-use mathlib.Core.Path.{sym, ◌∙◌}
 use Prim.Native.Nat.{◌-◌}
-use native.Mathlib.Omega.{arith}
 use lib.ListN.{length}
-use Rattle.macro_marks.proofs.Marking.{Copied, copied-first, copied_on, copied_all}
-use borrow.Author.Rules.{rules}
+use Rattle.macro_marks.proofs.Marking.{Copied}
 use Rattle.macro_marks.proofs.copy.Given as goal
 
 abbrev pub invariant-loop-i : goal.invariant-loop-i

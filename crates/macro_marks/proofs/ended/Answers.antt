@@ -1,5 +1,4 @@
 -- `macro_marks::ended` meets its contract.
-use borrow.Author.Rules.{rules}
 use mathlib.Core.Path.{sym, ap}
 use Rattle.macro_marks.specs.Parts.{ended}
 use Rattle.macro_marks.proofs.ended.Goals as goal

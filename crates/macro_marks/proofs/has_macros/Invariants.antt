@@ -1,10 +1,7 @@
 -- `macro_marks::has_macros` meets its contract.
 use Prim.Native.Nat.{◌-◌}
-use native.Mathlib.Omega.{arith}
 use lib.ListN.{length}
-use Rattle.macro_marks.specs.ItemLaws.{further}
-use Rattle.macro_marks.proofs.Seeking.{Seeking, seeking-first, seeking-past, none_left, one-here, seeking-on}
-use borrow.Author.Rules.{rules}
+use Rattle.macro_marks.proofs.Seeking.{Seeking}
 use Rattle.macro_marks.proofs.has_macros.Given as goal
 
 abbrev pub invariant-loop-t : goal.invariant-loop-t

@@ -1,6 +1,5 @@
 -- `macro_marks::is_mark` meets its contract.
 use mathlib.Core.Path.{refl}
-use borrow.Author.Rules.{rules}
 use Rattle.macro_marks.proofs.is_mark.Goals as goal
 
 pub returns : goal.returns

@@ -1,11 +1,7 @@
 -- `macro_marks::is_parameter` meets its contract.
-use Prim.Native.Nat.{◌-◌}
 use native.Mathlib.Omega.{arith}
-use lib.ListN.{length}
-use Rattle.lexer.specs.Tokens.{part}
 use Rattle.macro_marks.specs.ItemLaws.{further}
-use Rattle.macro_marks.proofs.Comparing.{Comparing, comparing-first, compared-none, compared-end, compared_same, comparing-on}
-use borrow.Author.Rules.{rules}
+use Rattle.macro_marks.proofs.Comparing.{comparing-first, compared-none, compared-end, compared_same, comparing-on}
 use Rattle.macro_marks.proofs.is_parameter.Goals as goal
 
 pub loop-t-init : goal.loop-t-init

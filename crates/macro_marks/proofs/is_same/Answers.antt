@@ -2,7 +2,6 @@
 use mathlib.Core.Path.{sym, refl}
 use borrow.Author.Tests.{eq-eqb, ne_eqb}
 use Rattle.lexer.proofs.Finding.{word-chars}
-use borrow.Author.Rules.{rules}
 use Rattle.macro_marks.proofs.is_same.Goals as goal
 
 pub returns-then-t-eq-WORD : goal.returns-then-t-eq-WORD

@@ -3,7 +3,6 @@ use mathlib.Core.Path.{sym, ap, ◌∙◌}
 use mathlib.Core.List.{[]}
 use Rattle.macro_marks.specs.Parts.{parameters_of, joined_end}
 use Rattle.macro_marks.proofs.Reaching.{nothing-joined}
-use borrow.Author.Rules.{rules}
 use Rattle.macro_marks.proofs.joined_end.Goals as goal
 
 pub body_end-requires : goal.body_end-requires

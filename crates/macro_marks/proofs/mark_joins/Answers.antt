@@ -1,13 +1,9 @@
 -- `macro_marks::mark_joins` meets its contract.
-use mathlib.Core.Path.{sym, ◌∙◌}
-use Prim.Native.Nat.{◌-◌}
 use native.Mathlib.Omega.{arith}
-use lib.ListN.{length}
 use Rattle.macro_marks.specs.ItemLaws.{further}
 use Rattle.macro_marks.specs.Parts.{parameters_of}
-use Rattle.macro_marks.proofs.Marking.{Marking, marking-first, joinable, all-marked, star-room, marking-on}
+use Rattle.macro_marks.proofs.Marking.{marking-first, joinable, all-marked, star-room, marking-on}
 use Rattle.macro_marks.proofs.Reaching.{reaches}
-use borrow.Author.Rules.{rules}
 use Rattle.macro_marks.proofs.mark_joins.Goals as goal
 
 pub loop-p-init : goal.loop-p-init

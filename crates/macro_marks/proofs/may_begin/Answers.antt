@@ -1,6 +1,5 @@
 -- `macro_marks::may_begin` meets its contract.
 use mathlib.Core.Path.{refl}
-use borrow.Author.Rules.{rules}
 use Rattle.macro_marks.proofs.may_begin.Goals as goal
 
 pub returns : goal.returns

@@ -1,5 +1,4 @@
 -- `macro_marks::opened` meets its contract.
-use borrow.Author.Rules.{rules}
 use mathlib.Core.Path.{sym, ap}
 use Rattle.macro_marks.specs.Parts.{opened}
 use Rattle.macro_marks.proofs.opened.Goals as goal

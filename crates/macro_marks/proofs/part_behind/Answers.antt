@@ -1,5 +1,4 @@
 -- `macro_marks::part_behind` meets its contract.
-use borrow.Author.Rules.{rules}
 use borrow.Author.Tests.{eq-eqb, ne_eqb}
 use Rattle.macro_marks.proofs.part_behind.Goals as goal
 

@@ -1,5 +1,4 @@
 -- `macro_marks::passed` meets its contract.
-use borrow.Author.Rules.{rules}
 use mathlib.Core.Path.{sym, ap}
 use Rattle.macro_marks.specs.Parts.{passed}
 use Rattle.macro_marks.proofs.passed.Goals as goal

@@ -1,9 +1,5 @@
 -- `macro_marks::plain_end` meets its contract.
-use Prim.Native.Nat.{◌-◌}
-use lib.ListN.{length}
-use Rattle.macro_marks.specs.Parts.{Plain}
 use Rattle.macro_marks.proofs.Passing.{plain-first, plain-on}
-use borrow.Author.Rules.{rules}
 use Rattle.macro_marks.proofs.plain_end.Goals as goal
 
 pub loop-i-init : goal.loop-i-init

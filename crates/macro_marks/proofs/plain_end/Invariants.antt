@@ -2,8 +2,6 @@
 use Prim.Native.Nat.{◌-◌}
 use lib.ListN.{length}
 use Rattle.macro_marks.specs.Parts.{Plain}
-use Rattle.macro_marks.proofs.Passing.{plain-first, plain-on}
-use borrow.Author.Rules.{rules}
 use Rattle.macro_marks.proofs.plain_end.Given as goal
 
 abbrev pub invariant-loop-i : goal.invariant-loop-i

@@ -1,7 +1,5 @@
 -- `macro_marks::star` meets its contract.
-use borrow.Author.Tests.{not-true, not-false}
 use mathlib.Core.Path.{refl}
-use borrow.Author.Rules.{rules}
 use Rattle.macro_marks.proofs.star.Goals as goal
 
 pub returns-then-not-joins : goal.returns-then-not-joins

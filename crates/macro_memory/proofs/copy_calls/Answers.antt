@@ -2,10 +2,7 @@
 use borrow.Author.Rules.{rules}
 use native.Mathlib.Omega.{arith}
 use mathlib.Core.Path.{◌≡◌, refl}
-use Prim.Native.Nat.{◌-◌, ◌≤◌}
-use lib.ListN.{length}
 use Rattle.macros.specs.Expansion.{levels}
-use Rattle.macro_memory.specs.Memory.{Copied}
 use Rattle.macro_memory.specs.SameLaws.{copied_none, copied-turn}
 use Rattle.macro_memory.proofs.copy_calls.Goals as goal
 

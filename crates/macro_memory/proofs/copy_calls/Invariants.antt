@@ -1,12 +1,9 @@
 -- `macro_memory::copy_calls` meets its contract.
-use borrow.Author.Rules.{rules}
-use native.Mathlib.Omega.{arith}
-use mathlib.Core.Path.{◌≡◌, refl}
+use mathlib.Core.Path.{◌≡◌}
 use Prim.Native.Nat.{◌-◌, ◌≤◌}
 use lib.ListN.{length}
 use Rattle.macros.specs.Expansion.{levels}
 use Rattle.macro_memory.specs.Memory.{Copied}
-use Rattle.macro_memory.specs.SameLaws.{copied_none, copied-turn}
 use Rattle.macro_memory.proofs.copy_calls.Given as goal
 
 abbrev pub invariant-loop-j : goal.invariant-loop-j

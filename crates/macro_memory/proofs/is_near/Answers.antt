@@ -1,5 +1,4 @@
 -- `macro_memory::is_near` meets its contract.
-use borrow.Author.Rules.{rules}
 use mathlib.Core.Bool.{false≢true}
 use Rattle.macro_memory.proofs.is_near.Goals as goal
 

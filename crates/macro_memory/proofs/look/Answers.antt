@@ -1,10 +1,7 @@
 -- `macro_memory::look` meets its contract.
 use borrow.Author.Rules.{rules}
 use native.Mathlib.Omega.{arith}
-use mathlib.Core.Path.{◌≡◌}
 use mathlib.Core.Bool.{false≢true}
-use Prim.Native.Nat.{◌≤◌, ◌-◌}
-use lib.ListN.{length}
 use Rattle.macro_memory.proofs.look.Goals as goal
 
 pub print_of-print-requires : goal.print_of-print-requires

@@ -1,8 +1,5 @@
 -- `macro_memory::mix` meets its contract.
-use borrow.Author.Rules.{rules}
 use native.Mathlib.Omega.{arith}
-use Prim.Native.Nat.{◌<◌, ◌-◌}
-use lib.ListN.{length}
 use Rattle.macro_memory.proofs.mix.Goals as goal
 
 pub overflow_add-h : goal.overflow_add-h

@@ -1,6 +1,4 @@
 -- `macro_memory::mix` meets its contract.
-use borrow.Author.Rules.{rules}
-use native.Mathlib.Omega.{arith}
 use Prim.Native.Nat.{◌<◌, ◌-◌}
 use lib.ListN.{length}
 use Rattle.macro_memory.proofs.mix.Given as goal

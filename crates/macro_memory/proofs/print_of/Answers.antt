@@ -1,9 +1,7 @@
 -- `macro_memory::print_of` meets its contract.
 use borrow.Author.Rules.{rules}
 use native.Mathlib.Omega.{arith}
-use mathlib.Core.Path.{◌≡◌, refl}
-use Prim.Native.Nat.{◌-◌, ◌≤◌}
-use lib.ListN.{length}
+use mathlib.Core.Path.{refl}
 use Rattle.macro_memory.proofs.print_of.Goals as goal
 
 pub loop-k-init : goal.loop-k-init

@@ -1,11 +1,8 @@
 -- `macro_memory::same_arguments` meets its contract.
 use borrow.Author.Rules.{rules}
 use native.Mathlib.Omega.{arith}
-use mathlib.Core.Path.{◌≡◌, refl, ◌∙◌}
+use mathlib.Core.Path.{refl, ◌∙◌}
 use mathlib.Core.Bool.{false≢true}
-use Prim.Native.Nat.{ℕ, ◌-◌, ◌<◌, ◌≤◌}
-use lib.ListN.{length}
-use borrow.Author.Tests.{not-false}
 use Rattle.macros.specs.Expansion.{filled_in}
 use Rattle.macro_code.specs.Code.{given_in, arguments_in, argument_cell}
 use Rattle.macro_memory.specs.SameLaws.{alike_all, next-too}

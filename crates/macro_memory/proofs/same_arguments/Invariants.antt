@@ -1,14 +1,9 @@
 -- `macro_memory::same_arguments` meets its contract.
-use borrow.Author.Rules.{rules}
-use native.Mathlib.Omega.{arith}
-use mathlib.Core.Path.{◌≡◌, refl, ◌∙◌}
-use mathlib.Core.Bool.{false≢true}
+use mathlib.Core.Path.{◌≡◌}
 use Prim.Native.Nat.{ℕ, ◌-◌, ◌<◌, ◌≤◌}
 use lib.ListN.{length}
-use borrow.Author.Tests.{not-false}
 use Rattle.macros.specs.Expansion.{filled_in}
 use Rattle.macro_code.specs.Code.{given_in, arguments_in, argument_cell}
-use Rattle.macro_memory.specs.SameLaws.{alike_all, next-too}
 use Rattle.macro_memory.proofs.same_arguments.Given as goal
 
 abbrev pub invariant-loop-k : goal.invariant-loop-k

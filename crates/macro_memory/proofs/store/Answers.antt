@@ -1,5 +1,4 @@
 -- `macro_memory::store` meets its contract.
-use borrow.Author.Rules.{rules}
 use native.Mathlib.Omega.{arith}
 use Rattle.macro_memory.specs.SameLaws.{stored-turn}
 use Rattle.macro_memory.proofs.store.Goals as goal

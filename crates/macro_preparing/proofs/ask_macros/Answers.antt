@@ -1,6 +1,5 @@
 -- `macro_preparing::ask_macros` meets its contract.
 use mathlib.Core.Path.{refl}
-use borrow.Author.Rules.{rules}
 use Rattle.macro_preparing.proofs.ask_macros.Goals as goal
 
 pub returns : goal.returns

@@ -1,7 +1,6 @@
 -- `macro_preparing::expand_in` meets its contract.
 use Rattle.macro_preparing.proofs.Expanding.{expands}
 use native.Mathlib.Omega.{arith}
-use borrow.Author.Rules.{rules}
 use Rattle.macro_preparing.proofs.expand_in.Goals as goal
 
 pub write_section-w-requires : goal.write_section-w-requires

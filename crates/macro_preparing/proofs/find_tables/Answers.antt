@@ -1,6 +1,5 @@
 -- `macro_preparing::find_tables` meets its contract.
 use Rattle.macro_preparing.proofs.Filling.{tabled}
-use borrow.Author.Rules.{rules}
 use Rattle.macro_preparing.proofs.find_tables.Goals as goal
 
 pub returns : goal.returns

@@ -2,7 +2,6 @@
 use lib.ListN.{length-take}
 use Rattle.macro_preparing.proofs.Filling.{marked_row}
 use native.Mathlib.Omega.{arith}
-use borrow.Author.Rules.{rules}
 use Rattle.macro_preparing.proofs.mark.Goals as goal
 
 pub slice_bounds-mark_joins-end-2 : goal.slice_bounds-mark_joins-end-2

@@ -2,7 +2,6 @@
 use lib.ListN.{length-take}
 use Rattle.macro_preparing.proofs.Filling.{lines-row}
 use native.Mathlib.Omega.{arith}
-use borrow.Author.Rules.{rules}
 use Rattle.macro_preparing.proofs.place_lines.Goals as goal
 
 pub slice_bounds-find_lines-end-2 : goal.slice_bounds-find_lines-end-2

@@ -1,5 +1,4 @@
 -- `macro_preparing::put_row` meets its contract.
-use borrow.Author.Rules.{rules}
 use native.Mathlib.Omega.{arith}
 use Rattle.macro_preparing.proofs.Filling.{part-fits, part-put}
 use Rattle.macro_preparing.proofs.put_row.Goals as goal

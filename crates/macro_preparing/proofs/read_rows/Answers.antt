@@ -1,7 +1,6 @@
 -- `macro_preparing::read_rows` meets its contract.
 use Rattle.macro_preparing.proofs.Listing.{rows-read}
 use native.Mathlib.Omega.{arith}
-use borrow.Author.Rules.{rules}
 use Rattle.macro_preparing.proofs.read_rows.Goals as goal
 
 pub returns : goal.returns

@@ -1,7 +1,6 @@
 -- `macro_preparing::refuse` meets its contract.
 use Rattle.macro_preparing.proofs.Filling.{line-few}
 use native.Mathlib.Omega.{arith}
-use borrow.Author.Rules.{rules}
 use Rattle.macro_preparing.proofs.refuse.Goals as goal
 
 pub overflow_cast-result : goal.overflow_cast-result

@@ -1,5 +1,4 @@
 -- `macro_questions::judged_sort` meets its contract.
-use borrow.Author.Rules.{rules}
 use mathlib.Core.Path.{refl}
 use Rattle.macro_questions.proofs.judged_sort.Goals as goal
 

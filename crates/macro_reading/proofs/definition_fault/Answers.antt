@@ -1,5 +1,4 @@
 -- `macro_reading::definition_fault` meets its contract.
-use borrow.Author.Rules.{rules}
 use mathlib.Core.Path.{refl}
 use Rattle.macro_reading.proofs.definition_fault.Goals as goal
 

@@ -1,5 +1,4 @@
 -- `macro_reading::follow_fault` meets its contract.
-use borrow.Author.Rules.{rules}
 use Rattle.macro_reading.proofs.Finishing.{follow-is}
 use Rattle.macro_reading.proofs.follow_fault.Goals as goal
 

@@ -2,7 +2,6 @@
 use lib.ListN.{length-set}
 use Rattle.macro_reading.proofs.Finishing.{list_put}
 use native.Mathlib.Omega.{arith}
-use borrow.Author.Rules.{rules}
 use Rattle.macro_reading.proofs.put_list.Goals as goal
 
 pub put-requires : goal.put-requires

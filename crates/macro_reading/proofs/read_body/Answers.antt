@@ -1,6 +1,5 @@
 -- `macro_reading::read_body` meets its contract.
 use native.Mathlib.Omega.{arith}
-use borrow.Author.Rules.{rules}
 use lib.ListN.{length-set}
 use Rattle.macro_reading.proofs.Reading.{record-room, stop_low, count_low, body-done}
 use Rattle.macro_reading.proofs.read_body.Goals as goal

@@ -1,7 +1,6 @@
 -- `macro_reading::read_definition` meets its contract.
-use borrow.Author.Rules.{rules}
 use mathlib.Core.Path.{sym, ◌∙◌}
-use Rattle.macro_reading.proofs.Defining.{headable, not-defined, bodied, definition-done, not-true, not-false}
+use Rattle.macro_reading.proofs.Defining.{headable, not-defined, bodied, definition-done}
 use Rattle.macro_reading.proofs.read_definition.Goals as goal
 
 pub read_header-h-requires : goal.read_header-h-requires

@@ -1,10 +1,6 @@
 -- `macro_reading::read_definitions` meets its contract. The invariant: the macros so far are in cells, and the others follow from place i on.
 use native.Mathlib.Omega.{arith}
-use borrow.Author.Rules.{rules}
 use mathlib.Core.Path.{sym, ◌∙◌}
-use Prim.Native.Nat.{◌-◌}
-use lib.ListN.{length}
-use Rattle.macro_reading.specs.Definitions.{Listing}
 use Rattle.macro_reading.proofs.Defining.{not-true, not-false}
 use Rattle.macro_reading.proofs.Heading.{one-most}
 use Rattle.macro_reading.proofs.Enlisting.{listing_none, definable, listing-kept, few, below, first-low, listing-on, onward}

@@ -1,11 +1,7 @@
 -- `macro_reading::read_first` meets its contract.
-use native.Mathlib.Omega.{arith}
-use borrow.Author.Rules.{rules}
-use mathlib.Core.Path.{sym, ◌∙◌}
 use Prim.Native.Nat.{◌-◌}
 use lib.ListN.{length}
 use Rattle.macro_reading.specs.Sections.{Firsts}
-use Rattle.macro_reading.proofs.Ending.{firsts-none, firsts-on, first_more, first_done}
 use Rattle.macro_reading.proofs.read_first.Given as goal
 
 abbrev pub invariant-loop-t : goal.invariant-loop-t

@@ -1,14 +1,11 @@
 -- `macro_reading::read_header` meets its contract.
 use native.Mathlib.Omega.{arith}
-use borrow.Author.Rules.{rules}
 use mathlib.Core.Path.{refl, ap, sym, ◌∙◌}
-use Prim.Native.Nat.{ℕ, ◌+◌, ◌-◌}
+use Prim.Native.Nat.{ℕ, ◌+◌}
 use lib.Dec.{eqb}
-use lib.ListN.{length}
 use Rattle.macros.specs.Elements.{is_bracket}
 use Rattle.syntax.specs.Items.Sort.{word}
 use Rattle.macro_elements.proofs.Tests.{sort-is}
-use Rattle.macro_reading.specs.Headers.{Heading}
 use Rattle.macro_reading.proofs.Heading.{stretch-none, heading-none, header-forward, header-room, header-long, heading-on, one-most}
 use Rattle.macro_reading.proofs.read_header.Goals as goal
 

@@ -1,8 +1,6 @@
 -- `macro_reading::read_list` meets its contract.
 use Rattle.macro_reading.proofs.Finishing.{listable, tailed, puttable, follows, sectioned, list_done}
-use mathlib.Core.Path.{◌∙◌}
 use native.Mathlib.Omega.{arith}
-use borrow.Author.Rules.{rules}
 use Rattle.macro_reading.proofs.read_list.Goals as goal
 
 pub next_element-t-requires : goal.next_element-t-requires

@@ -1,5 +1,4 @@
 -- `macro_reading::read_macros` meets its contract.
-use borrow.Author.Rules.{rules}
 use Rattle.macro_reading.proofs.Finishing.{opens, bracketed, no-list-section, with_list, without-list}
 use Rattle.macro_reading.proofs.read_macros.Goals as goal
 

@@ -2,7 +2,6 @@
 use lib.ListN.{length-set}
 use Rattle.macro_reading.proofs.Finishing.{section-reading, section-room, section-count, section-done}
 use native.Mathlib.Omega.{arith}
-use borrow.Author.Rules.{rules}
 use Rattle.macro_reading.proofs.read_section.Goals as goal
 
 pub overflow_add-x : goal.overflow_add-x

@@ -1,7 +1,5 @@
 -- `macro_reading::read_tail` meets its contract.
-use borrow.Author.Rules.{rules}
 use Rattle.macro_changes.proofs.Giving.{eqb_no}
-use Rattle.macro_reading.proofs.Defining.{not-true, not-false}
 use borrow.Author.Tests.{eqb-true}
 use Rattle.macro_reading.proofs.Ending.{tail-fault, tail-closed, tail-open}
 use Rattle.macro_reading.proofs.read_tail.Goals as goal

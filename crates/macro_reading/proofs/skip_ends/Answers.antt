@@ -1,11 +1,7 @@
 -- `macro_reading::skip_ends` meets its contract.
 use native.Mathlib.Omega.{arith}
-use mathlib.Core.Path.{◌≡◌, refl, sym, ◌∙◌}
-use Prim.Native.Nat.{◌≤◌, ◌-◌}
+use mathlib.Core.Path.{refl, sym, ◌∙◌}
 use native.Mathlib.Nat.{le_refl}
-use lib.ListN.{length}
-use Rattle.macros.specs.Macros.{from_statement}
-use Rattle.macro_elements.specs.ElementAt.{elements_from}
 use Rattle.macro_reading.proofs.Ending.{end_on, end-off}
 use Rattle.macro_reading.proofs.skip_ends.Goals as goal
 

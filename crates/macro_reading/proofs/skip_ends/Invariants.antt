@@ -1,12 +1,9 @@
 -- `macro_reading::skip_ends` meets its contract.
-use native.Mathlib.Omega.{arith}
-use mathlib.Core.Path.{◌≡◌, refl, sym, ◌∙◌}
+use mathlib.Core.Path.{◌≡◌}
 use Prim.Native.Nat.{◌≤◌, ◌-◌}
-use native.Mathlib.Nat.{le_refl}
 use lib.ListN.{length}
 use Rattle.macros.specs.Macros.{from_statement}
 use Rattle.macro_elements.specs.ElementAt.{elements_from}
-use Rattle.macro_reading.proofs.Ending.{end_on, end-off}
 use Rattle.macro_reading.proofs.skip_ends.Given as goal
 
 abbrev pub invariant-loop-t : goal.invariant-loop-t

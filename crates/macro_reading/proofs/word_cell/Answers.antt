@@ -1,5 +1,4 @@
 -- `macro_reading::word_cell` meets its contract.
-use borrow.Author.Rules.{rules}
 use mathlib.Core.Path.{refl}
 use borrow.Author.Tests.{eq-eqb, ne_eqb}
 use Rattle.macro_reading.proofs.word_cell.Goals as goal

@@ -1,5 +1,4 @@
 -- `macro_section::over_at` meets its contract.
-use borrow.Author.Rules.{rules}
 use Rattle.macro_section.proofs.over_at.Goals as goal
 
 pub returns-then-after : goal.returns-then-after

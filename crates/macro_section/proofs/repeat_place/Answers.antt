@@ -1,10 +1,7 @@
 -- `macro_section::repeat_place` meets its contract.
-use borrow.Author.Rules.{rules}
 use mathlib.Core.Path.{◌≡◌, refl}
-use mathlib.Core.List.{◌++◌}
-use Prim.Native.Nat.{◌-◌, ◌≤◌}
 use native.Mathlib.Omega.{arith}
-use lib.ListN.{length, take, replicate, length-set}
+use lib.ListN.{length-set}
 use Rattle.macro_section.specs.OriginLaws.{placed-over, repeat-none, repeat-turn}
 use Rattle.macro_section.proofs.repeat_place.Goals as goal
 

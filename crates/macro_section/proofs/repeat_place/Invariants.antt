@@ -1,11 +1,8 @@
 -- `macro_section::repeat_place` meets its contract.
-use borrow.Author.Rules.{rules}
-use mathlib.Core.Path.{◌≡◌, refl}
+use mathlib.Core.Path.{◌≡◌}
 use mathlib.Core.List.{◌++◌}
 use Prim.Native.Nat.{◌-◌, ◌≤◌}
-use native.Mathlib.Omega.{arith}
-use lib.ListN.{length, take, replicate, length-set}
-use Rattle.macro_section.specs.OriginLaws.{placed-over, repeat-none, repeat-turn}
+use lib.ListN.{length, take, replicate}
 use Rattle.macro_section.proofs.repeat_place.Given as goal
 
 abbrev pub invariant-loop-j : goal.invariant-loop-j

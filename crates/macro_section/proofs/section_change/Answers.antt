@@ -1,7 +1,6 @@
 -- `macro_section::section_change` meets its contract.
 use native.Mathlib.Omega.{arith}
 use Rattle.macro_section.specs.SectionLaws.{bare-change}
-use borrow.Author.Rules.{rules}
 use Rattle.macro_section.proofs.section_change.Goals as goal
 
 pub write_change-requires : goal.write_change-requires

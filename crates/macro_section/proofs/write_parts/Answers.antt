@@ -1,20 +1,10 @@
 -- `macro_section::write_parts` meets its contract.
-use borrow.Author.Rules.{rules}
-use mathlib.Core.Path.{◌≡◌, refl, sym, ap, ◌∙◌}
-use mathlib.Core.List.{List, []}
-use Prim.Native.Nat.{ℕ, ◌+◌, ◌*◌, ◌<◌}
+use mathlib.Core.Path.{refl, sym, ap, ◌∙◌}
+use mathlib.Core.List.{[]}
 use native.Mathlib.Omega.{arith}
 use lib.ListN.{length}
-use Rattle.lists.specs.Lists.{each}
-use Rattle.macros.specs.Expansion.{expand, levels}
-use Rattle.macros.specs.Prepared.{origins, deep_places}
-use Rattle.macro_code.specs.Code.{body_in, macros_in}
-use Rattle.macro_code.specs.Places.{half}
-use Rattle.macro_code.specs.Bounds.{widest}
-use Rattle.macro_memory.specs.Memory.{reach, Remembers}
 use Rattle.macro_memory.specs.MemoryLaws.{remembers-stays}
-use Rattle.macro_section.specs.Origins.{Going}
-use Rattle.macro_section.specs.Long.{Overs, over_at}
+use Rattle.macro_section.specs.Long.{over_at}
 use Rattle.macro_section.specs.SectionLaws.{fillable, section-begins, section-turn, section-ends}
 use Rattle.macro_section.specs.DeepLaws.{overs-begin, overs-turn, overs-end}
 use Rattle.macro_section.proofs.write_parts.Goals as goal

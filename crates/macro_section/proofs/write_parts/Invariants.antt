@@ -1,9 +1,7 @@
 -- `macro_section::write_parts` meets its contract.
-use borrow.Author.Rules.{rules}
-use mathlib.Core.Path.{◌≡◌, refl, sym, ap, ◌∙◌}
+use mathlib.Core.Path.{◌≡◌}
 use mathlib.Core.List.{List, []}
 use Prim.Native.Nat.{ℕ, ◌+◌, ◌*◌, ◌<◌}
-use native.Mathlib.Omega.{arith}
 use lib.ListN.{length}
 use Rattle.lists.specs.Lists.{each}
 use Rattle.macros.specs.Expansion.{expand, levels}
@@ -12,11 +10,8 @@ use Rattle.macro_code.specs.Code.{body_in, macros_in}
 use Rattle.macro_code.specs.Places.{half}
 use Rattle.macro_code.specs.Bounds.{widest}
 use Rattle.macro_memory.specs.Memory.{reach, Remembers}
-use Rattle.macro_memory.specs.MemoryLaws.{remembers-stays}
 use Rattle.macro_section.specs.Origins.{Going}
-use Rattle.macro_section.specs.Long.{Overs, over_at}
-use Rattle.macro_section.specs.SectionLaws.{fillable, section-begins, section-turn, section-ends}
-use Rattle.macro_section.specs.DeepLaws.{overs-begin, overs-turn, overs-end}
+use Rattle.macro_section.specs.Long.{Overs}
 use Rattle.macro_section.proofs.write_parts.Given as goal
 
 abbrev pub invariant-loop-changes : goal.invariant-loop-changes

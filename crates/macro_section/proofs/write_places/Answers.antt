@@ -1,11 +1,8 @@
 -- `macro_section::write_places` meets its contract.
-use borrow.Author.Rules.{rules}
 use mathlib.Core.Path.{◌≡◌, refl}
-use mathlib.Core.List.{◌++◌}
-use Prim.Native.Nat.{◌+◌, ◌-◌, ◌≤◌}
+use Prim.Native.Nat.{◌+◌, ◌-◌}
 use native.Mathlib.Omega.{arith}
-use lib.ListN.{length, take, length-set}
-use Rattle.macro_section.specs.Origins.{ups}
+use lib.ListN.{length-set}
 use Rattle.macro_section.specs.OriginLaws.{placed-over, ups-none, rise-turn}
 use Rattle.macro_section.proofs.write_places.Goals as goal
 

@@ -1,12 +1,9 @@
 -- `macro_section::write_places` meets its contract.
-use borrow.Author.Rules.{rules}
-use mathlib.Core.Path.{◌≡◌, refl}
+use mathlib.Core.Path.{◌≡◌}
 use mathlib.Core.List.{◌++◌}
-use Prim.Native.Nat.{◌+◌, ◌-◌, ◌≤◌}
-use native.Mathlib.Omega.{arith}
-use lib.ListN.{length, take, length-set}
+use Prim.Native.Nat.{◌-◌, ◌≤◌}
+use lib.ListN.{length, take}
 use Rattle.macro_section.specs.Origins.{ups}
-use Rattle.macro_section.specs.OriginLaws.{placed-over, ups-none, rise-turn}
 use Rattle.macro_section.proofs.write_places.Given as goal
 
 abbrev pub invariant-loop-j : goal.invariant-loop-j

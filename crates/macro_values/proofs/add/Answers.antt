@@ -1,5 +1,4 @@
 -- `macro_values::add` meets its contract.
-use borrow.Author.Rules.{rules}
 use native.Mathlib.Omega.{arith}
 use mathlib.Core.Path.{refl}
 use Rattle.macro_values.specs.WritingLaws.{wrote-over, wrote-put, wrote-full}

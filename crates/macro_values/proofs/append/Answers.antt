@@ -1,7 +1,6 @@
 -- `macro_values::append` meets its contract.
 use lib.ListN.{take, drop}
 use Prim.Native.Nat.{◌-◌}
-use borrow.Author.Rules.{rules}
 use mathlib.Core.Path.{◌≡◌, ap, ◌∙◌}
 use Rattle.macro_values.proofs.append.Goals as goal
 

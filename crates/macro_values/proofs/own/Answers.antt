@@ -1,6 +1,5 @@
 -- `macro_values::own` meets its contract.
 use lib.ListN.{take, drop}
-use borrow.Author.Rules.{rules}
 use mathlib.Core.Path.{sym, ap, ◌∙◌}
 use borrow.Author.Tests.{eq-eqb, ne_eqb}
 use Rattle.macro_code.specs.Code as code

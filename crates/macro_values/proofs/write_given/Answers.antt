@@ -3,16 +3,11 @@ use Rattle.macro_values.specs.ValueLaws.{climb-told}
 use Rattle.macros.specs.Expansion.{filled_in}
 use Rattle.macro_code.specs.Code.{given_in}
 use mathlib.Core.Path.{◌≡◌, refl, sym, ap, ◌∙◌}
-use mathlib.Core.List.{List, [], ◌++◌}
-use Prim.Native.Nat.{ℕ, ◌<◌}
+use mathlib.Core.List.{[], ◌++◌}
 use native.Mathlib.Omega.{arith}
 use Rattle.macro_code.specs.Code.{arguments_in}
-use Rattle.macros.specs.Expansion.{just}
-use Rattle.macro_values.specs.Wrote.{Wrote}
-use Rattle.macro_code.specs.Bounds.{far}
 use Rattle.macro_values.specs.WritingLaws.{wrote_none, wrote-more}
-use Rattle.macro_values.specs.ValueLaws.{up, climbs, climbed}
-use borrow.Author.Rules.{rules}
+use Rattle.macro_values.specs.ValueLaws.{climbs, climbed}
 use Rattle.macro_values.proofs.write_given.Goals as goal
 
 pub add-w-requires : goal.add-w-requires

@@ -3,7 +3,6 @@ use Prim.Native.Nat.{◌≤◌, ◌<◌}
 use native.Mathlib.Omega.{arith}
 use Rattle.macro_code.specs.Code.{argument_count}
 use Rattle.macro_values.specs.ValueLaws.{value-bare, value_none, value-here}
-use borrow.Author.Rules.{rules}
 use Rattle.macro_values.proofs.write_value.Goals as goal
 
 pub returns-then-depth-eq0 : goal.returns-then-depth-eq0

@@ -1,10 +1,7 @@
 -- `matching::ahead_of` meets its contract.
-use mathlib.Core.Path.{◌≡◌, sym, ◌∙◌}
-use Prim.Native.Nat.{◌≤◌, ◌-◌, ◌+◌}
+use mathlib.Core.Path.{sym, ◌∙◌}
 use native.Mathlib.Omega.{arith}
-use lib.ListN.{length, drop}
-use borrow.Author.Rules.{rules}
-use Rattle.characters.specs.Below.Lists.{ahead, among}
+use Rattle.characters.specs.Below.Lists.{among}
 use Rattle.characters.specs.Below.LoopLaws.{ahead-here, ahead-next, ahead-end}
 use Rattle.matching.proofs.ahead_of.Goals as goal
 

@@ -1,11 +1,8 @@
 -- `matching::ahead_of` meets its contract.
-use mathlib.Core.Path.{◌≡◌, sym, ◌∙◌}
+use mathlib.Core.Path.{◌≡◌}
 use Prim.Native.Nat.{◌≤◌, ◌-◌, ◌+◌}
-use native.Mathlib.Omega.{arith}
 use lib.ListN.{length, drop}
-use borrow.Author.Rules.{rules}
 use Rattle.characters.specs.Below.Lists.{ahead, among}
-use Rattle.characters.specs.Below.LoopLaws.{ahead-here, ahead-next, ahead-end}
 use Rattle.matching.proofs.ahead_of.Given as goal
 
 abbrev pub invariant-loop-i : goal.invariant-loop-i

@@ -1,10 +1,6 @@
 -- `matching::ahead_of_class` meets its contract.
-use mathlib.Core.Path.{◌≡◌, sym, ◌∙◌}
-use Prim.Native.Nat.{◌≤◌, ◌-◌, ◌+◌}
+use mathlib.Core.Path.{sym, ◌∙◌}
 use native.Mathlib.Omega.{arith}
-use lib.ListN.{length, drop}
-use borrow.Author.Rules.{rules}
-use Rattle.characters.specs.Below.Lists.{ahead}
 use Rattle.matching.specs.Tests.{in_class}
 use Rattle.characters.specs.Below.LoopLaws.{ahead-here, ahead-next, ahead-end}
 use Rattle.matching.proofs.ahead_of_class.Goals as goal

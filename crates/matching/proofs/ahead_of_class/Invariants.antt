@@ -1,12 +1,9 @@
 -- `matching::ahead_of_class` meets its contract.
-use mathlib.Core.Path.{◌≡◌, sym, ◌∙◌}
+use mathlib.Core.Path.{◌≡◌}
 use Prim.Native.Nat.{◌≤◌, ◌-◌, ◌+◌}
-use native.Mathlib.Omega.{arith}
 use lib.ListN.{length, drop}
-use borrow.Author.Rules.{rules}
 use Rattle.characters.specs.Below.Lists.{ahead}
 use Rattle.matching.specs.Tests.{in_class}
-use Rattle.characters.specs.Below.LoopLaws.{ahead-here, ahead-next, ahead-end}
 use Rattle.matching.proofs.ahead_of_class.Given as goal
 
 abbrev pub invariant-loop-i : goal.invariant-loop-i

@@ -1,11 +1,6 @@
 -- `matching::all_in_class` meets its contract.
-use mathlib.Core.Path.{◌≡◌, refl, sym, ◌∙◌}
-use Prim.Native.Nat.{◌≤◌, ◌-◌}
+use mathlib.Core.Path.{refl, sym, ◌∙◌}
 use native.Mathlib.Omega.{arith}
-use lib.ListN.{length, drop}
-use borrow.Author.Rules.{rules}
-use borrow.Author.Tests.{not-true, not-false}
-use Rattle.characters.specs.Below.Lists.{all}
 use Rattle.matching.specs.Tests.{in_class}
 use Rattle.characters.specs.Below.LoopLaws.{all_here, all-next, all_end}
 use Rattle.matching.proofs.all_in_class.Goals as goal

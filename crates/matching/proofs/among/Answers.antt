@@ -1,13 +1,7 @@
 -- `matching::among` meets its contract.
-use mathlib.Core.Path.{◌≡◌, refl, sym, ◌∙◌}
-use Prim.Native.Nat.{◌≤◌, ◌-◌}
+use mathlib.Core.Path.{refl, sym, ◌∙◌}
 use native.Mathlib.Omega.{arith}
-use lib.ListN.{length, drop}
-use borrow.Author.Rules.{rules}
-use Rattle.characters.specs.Below.Lists.{any}
 use Rattle.components.specs.Below.LanguageValues.{same}
-use Rattle.components.specs.Below.LayoutBounds.{WholeComponents}
-use Rattle.components.specs.Below.Components.{component_in, components_in}
 use Rattle.components.proofs.Walks.{step, none_left}
 use Rattle.matching.proofs.Equals.{any_same, any-other}
 use Rattle.matching.proofs.among.Goals as goal

@@ -1,12 +1,9 @@
 -- `matching::count` meets its contract.
-use borrow.Author.Rules.{rules}
 use native.Mathlib.Omega.{arith}
-use Prim.Native.Nat.{◌-◌}
-use lib.ListN.{length}
 use Rattle.components.proofs.Below.ComponentLaws.{one-component}
 use Rattle.components.proofs.Walks.{step}
 use Rattle.matching.specs.Tests.{until}
-use Rattle.matching.proofs.Counting.{ends-reached, Going, going-none, going-stop, going_next, going_end}
+use Rattle.matching.proofs.Counting.{ends-reached, going-none, going-stop, going_next, going_end}
 use Rattle.matching.proofs.count.Goals as goal
 
 pub loop-at-init : goal.loop-at-init

@@ -1,6 +1,5 @@
 -- `matching::count_chars` meets its contract.
 use mathlib.Core.Path.{refl}
-use borrow.Author.Rules.{rules}
 use Rattle.characters.specs.Characters.{class_places}
 use Rattle.characters.specs.Below.Lists.{among}
 use Rattle.matching.specs.Tests.{in_class}

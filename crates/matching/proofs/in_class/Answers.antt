@@ -1,6 +1,5 @@
 -- `matching::in_class` meets its contract.
 use native.Mathlib.Omega.{arith}
-use borrow.Author.Rules.{rules}
 use Rattle.matching.proofs.Classes.{class_bit-is}
 use Rattle.matching.proofs.in_class.Goals as goal
 

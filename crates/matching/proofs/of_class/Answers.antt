@@ -2,7 +2,6 @@
 use mathlib.Core.Path.{refl, sym, ap, ◌∙◌}
 use mathlib.Core.List.{[]}
 use native.Mathlib.Omega.{arith}
-use borrow.Author.Rules.{rules}
 use Rattle.characters.specs.Characters.{class_places}
 use Rattle.characters.specs.Below.Lists.{all}
 use Rattle.components.specs.Below.Table.{class_by}

@@ -1,6 +1,5 @@
 -- `matching::put_first` meets its contract.
 use native.Mathlib.Omega.{arith}
-use borrow.Author.Rules.{rules}
 use Rattle.components.proofs.Fronts.{leading-chars}
 use Rattle.matching.proofs.Firsts.{first-none, first-room, first-put}
 use Rattle.matching.proofs.put_first.Goals as goal

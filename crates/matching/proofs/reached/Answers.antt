@@ -1,5 +1,4 @@
 -- `matching::reached` meets its contract.
-use borrow.Author.Rules.{rules}
 use Rattle.matching.proofs.reached.Goals as goal
 
 pub returns-in-All : goal.returns-in-All

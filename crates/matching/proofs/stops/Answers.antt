@@ -1,6 +1,5 @@
 -- `matching::stops` meets its contract.
 use mathlib.Core.Path.{subst}
-use borrow.Author.Rules.{rules}
 use Rattle.components.proofs.Fronts.{leading-one}
 use Rattle.matching.specs.Tests.{Fitting}
 use Rattle.matching.proofs.stops.Goals as goal

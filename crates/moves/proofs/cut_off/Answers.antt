@@ -1,5 +1,4 @@
 -- `moves::cut_off` meets its contract.
-use borrow.Author.Rules.{rules}
 use mathlib.Core.Bool.{true}
 use Rattle.machine.specs.Changes.{minus_unless, past}
 use Rattle.state.specs.Working.{state_at, nth, reading}

@@ -1,5 +1,4 @@
 -- `moves::deliver` meets its contract.
-use borrow.Author.Rules.{rules}
 use Rattle.machine.specs.Changes.{minus_unless, into}
 use Rattle.layout.specs.Components.{components_in}
 use Rattle.state.specs.Working.{state_at, nth, writing}

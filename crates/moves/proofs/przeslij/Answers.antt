@@ -1,5 +1,4 @@
 -- `moves::przeslij` meets its contract.
-use borrow.Author.Rules.{rules}
 use Rattle.table.specs.Below.Packed.{table_of}
 use Rattle.table.specs.Denote.{arg_of}
 use Rattle.moves.proofs.Rows.{beside_long, przeslij-stop, przeslij-off, przeslij-copy}

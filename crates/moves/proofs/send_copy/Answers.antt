@@ -1,9 +1,7 @@
 -- `moves::send_copy` meets its contract.
-use borrow.Author.Rules.{rules}
 use native.Mathlib.Omega.{arith}
 use mathlib.Core.Path.{refl, sym, ◌∙◌}
 use mathlib.Core.Bool.{false}
-use borrow.Author.Tests.{not-true, not-false}
 use Rattle.matching.specs.Tests.{until}
 use Rattle.state.specs.Working.{state_at}
 use Rattle.instructions.proofs.Answers.{tried-full}

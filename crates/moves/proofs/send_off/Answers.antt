@@ -1,5 +1,4 @@
 -- `moves::send_off` meets its contract.
-use borrow.Author.Rules.{rules}
 use native.Mathlib.Omega.{arith}
 use mathlib.Core.Bool.{true}
 use Rattle.machine.specs.Changes.{minus_unless, into, past}

@@ -1,8 +1,7 @@
 -- `names::first_repeated` meets its contract.
 use borrow.Author.Rules.{rules}
 use native.Mathlib.Omega.{arith}
-use Prim.Native.Nat.{◌-◌}
-use Rattle.names.proofs.Lowest.{Walking, walk-done, repeated_in, repeating-first, repeating-more}
+use Rattle.names.proofs.Lowest.{walk-done, repeated_in, repeating-first, repeating-more}
 use Rattle.names.proofs.first_repeated.Goals as goal
 
 pub loop-k-init : goal.loop-k-init

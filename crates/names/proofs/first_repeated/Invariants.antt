@@ -1,8 +1,6 @@
 -- `names::first_repeated` meets its contract.
-use borrow.Author.Rules.{rules}
-use native.Mathlib.Omega.{arith}
 use Prim.Native.Nat.{◌-◌}
-use Rattle.names.proofs.Lowest.{Walking, walk-done, repeated_in, repeating-first, repeating-more}
+use Rattle.names.proofs.Lowest.{Walking, repeated_in}
 use Rattle.names.proofs.first_repeated.Given as goal
 
 abbrev pub invariant-loop-k : goal.invariant-loop-k

@@ -2,10 +2,9 @@
 use borrow.Author.Rules.{rules}
 use mathlib.Core.Path.{sym, subst}
 use native.Mathlib.Omega.{arith}
-use Prim.Native.Nat.{◌-◌}
 use Rattle.drafts.specs.Marks.{Marked}
 use Rattle.names.specs.Names.{reserved_by}
-use Rattle.names.proofs.Lowest.{Walking, walk-done, reserved-first, reserved-next}
+use Rattle.names.proofs.Lowest.{walk-done, reserved-first, reserved-next}
 use Rattle.names.proofs.first_reserved.Goals as goal
 
 pub loop-k-init : goal.loop-k-init

@@ -1,11 +1,7 @@
 -- `names::first_reserved` meets its contract.
-use borrow.Author.Rules.{rules}
-use mathlib.Core.Path.{sym, subst}
-use native.Mathlib.Omega.{arith}
 use Prim.Native.Nat.{◌-◌}
-use Rattle.drafts.specs.Marks.{Marked}
 use Rattle.names.specs.Names.{reserved_by}
-use Rattle.names.proofs.Lowest.{Walking, walk-done, reserved-first, reserved-next}
+use Rattle.names.proofs.Lowest.{Walking}
 use Rattle.names.proofs.first_reserved.Given as goal
 
 abbrev pub invariant-loop-k : goal.invariant-loop-k

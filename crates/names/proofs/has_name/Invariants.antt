@@ -1,8 +1,6 @@
 -- `names::has_name` meets its contract.
-use borrow.Author.Rules.{rules}
-use native.Mathlib.Omega.{arith}
 use Prim.Native.Nat.{◌-◌}
-use Rattle.names.proofs.Seeking.{Seeking, seeking-first, fitting, seek_found, seek-on, seek-none}
+use Rattle.names.proofs.Seeking.{Seeking}
 use Rattle.names.proofs.has_name.Given as goal
 
 abbrev pub invariant-loop-k : goal.invariant-loop-k

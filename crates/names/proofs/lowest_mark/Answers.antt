@@ -3,9 +3,8 @@ use borrow.Author.Rules.{rules}
 use native.Mathlib.Omega.{arith}
 use mathlib.Core.Path.{refl}
 use mathlib.Core.List.{map}
-use Prim.Native.Nat.{◌-◌}
 use Rattle.drafts.specs.Marks.{place_by}
-use Rattle.names.proofs.Lowest.{Walking, walk_first, walk-done, lowest-more}
+use Rattle.names.proofs.Lowest.{walk_first, walk-done, lowest-more}
 use Rattle.names.proofs.lowest_mark.Goals as goal
 
 pub loop-k-init : goal.loop-k-init

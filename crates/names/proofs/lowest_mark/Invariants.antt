@@ -1,11 +1,8 @@
 -- `names::lowest_mark` meets its contract.
-use borrow.Author.Rules.{rules}
-use native.Mathlib.Omega.{arith}
-use mathlib.Core.Path.{refl}
 use mathlib.Core.List.{map}
 use Prim.Native.Nat.{◌-◌}
 use Rattle.drafts.specs.Marks.{place_by}
-use Rattle.names.proofs.Lowest.{Walking, walk_first, walk-done, lowest-more}
+use Rattle.names.proofs.Lowest.{Walking}
 use Rattle.names.proofs.lowest_mark.Given as goal
 
 abbrev pub invariant-loop-k : goal.invariant-loop-k

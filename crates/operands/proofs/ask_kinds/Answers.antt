@@ -1,6 +1,5 @@
 -- `operands::ask_kinds` meets its contract.
 use mathlib.Core.Path.{sym, ◌∙◌}
-use borrow.Author.Rules.{rules}
 use borrow.Author.Tests.{eq-eqb, ne_eqb}
 use Rattle.operands.proofs.ask_kinds.Goals as goal
 

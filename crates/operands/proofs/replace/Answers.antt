@@ -1,5 +1,4 @@
 -- `operands::replace` meets its contract.
-use borrow.Author.Rules.{rules}
 use native.Mathlib.Omega.{arith}
 use Rattle.layout.specs.Components.{components_in}
 use Rattle.machine.specs.Changes.{into, past}

@@ -1,5 +1,4 @@
 -- `operands::second_offered` meets its contract.
-use borrow.Author.Rules.{rules}
 use native.Mathlib.Omega.{arith}
 use Rattle.state.specs.Working.{state_at}
 use Rattle.operands.proofs.Reading.{operand-named, as_read, letter-told, number-told, text-told, class-told, nothing-told, label-told, switch-told}

@@ -1,7 +1,6 @@
 -- `operands::takes` meets its contract.
 use mathlib.Core.Path.{◌≡◌, refl}
 use mathlib.Core.Bool.{Bool, true, false, ◌||◌}
-use borrow.Author.Rules.{rules}
 use Rattle.operands.proofs.takes.Goals as goal
 
 one-listed : (b : Bool) → b ≡ (b || false)

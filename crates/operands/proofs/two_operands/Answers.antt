@@ -1,5 +1,4 @@
 -- `operands::two_operands` meets its contract.
-use borrow.Author.Rules.{rules}
 use Rattle.state.specs.Working.{state_at}
 use Rattle.machine.specs.Arguments.{side}
 use Rattle.table.specs.Denote.{arg_of}

@@ -1,5 +1,4 @@
 -- `ordering::first_word` meets its contract.
-use borrow.Author.Rules.{rules}
 use native.Mathlib.Omega.{arith}
 use mathlib.Core.Path.{sym, ◌∙◌}
 use Rattle.tests.proofs.Values.{leading}

@@ -1,5 +1,4 @@
 -- `ordering::mn` meets its contract.
-use borrow.Author.Rules.{rules}
 use Rattle.ordering.proofs.Rows.{mn-stop, mn-done}
 use Rattle.ordering.proofs.mn.Goals as goal
 

@@ -1,5 +1,4 @@
 -- `ordering::ns` meets its contract.
-use borrow.Author.Rules.{rules}
 use mathlib.Core.List.{[]}
 use Rattle.ordering.proofs.Rows.{word-long, ns-stop, ns-done}
 use Rattle.ordering.proofs.ns.Goals as goal

@@ -1,5 +1,4 @@
 -- `ordering::other_word` meets its contract.
-use borrow.Author.Rules.{rules}
 use native.Mathlib.Omega.{arith}
 use Rattle.state.specs.Working.{state_at}
 use Rattle.ordering.proofs.Spelling.{other-named, other_text, letter-told, text-told, as_read, number-told, class-told, nothing-told, label-told, switch-told}

@@ -1,5 +1,4 @@
 -- `ordering::pp` meets its contract.
-use borrow.Author.Rules.{rules}
 use mathlib.Core.List.{[]}
 use Rattle.ordering.proofs.Rows.{word-long, pp-stop, pp-done}
 use Rattle.ordering.proofs.pp.Goals as goal

@@ -1,5 +1,4 @@
 -- `ordering::text_word` meets its contract.
-use borrow.Author.Rules.{rules}
 use native.Mathlib.Omega.{arith}
 use Rattle.ordering.proofs.Spelling.{text_is}
 use Rattle.ordering.proofs.text_word.Goals as goal

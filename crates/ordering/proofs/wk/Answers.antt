@@ -1,5 +1,4 @@
 -- `ordering::wk` meets its contract.
-use borrow.Author.Rules.{rules}
 use Rattle.ordering.proofs.Rows.{wk-stop, wk-done}
 use Rattle.ordering.proofs.wk.Goals as goal
 

@@ -1,6 +1,5 @@
 -- `packed::cell_of` meets its contract.
 use native.Mathlib.Omega.{arith}
-use borrow.Author.Rules.{rules}
 use Rattle.packed.proofs.Bytes.{four-of}
 use Rattle.packed.proofs.cell_of.Goals as goal
 

@@ -1,12 +1,10 @@
 -- `packed::chars_are` meets its contract.
 use mathlib.Core.Bool.{true}
 use mathlib.Core.Path.{◌≡◌, sym, ◌∙◌}
-use Prim.Native.Nat.{ℕ, ◌+◌, ◌*◌, ◌-◌, ◌/◌, ◌<◌, ◌≤◌}
+use Prim.Native.Nat.{ℕ, ◌+◌, ◌-◌, ◌/◌, ◌<◌}
 use native.Mathlib.Omega.{arith}
 use lib.ListN.{get_or, length}
-use borrow.Author.Tests.{not-true, not-false}
-use borrow.Author.Rules.{rules}
-use Rattle.packed.proofs.Bytes.{left_same, fifteen, end-wrong, end-right, cell-wrong, cell-right}
+use Rattle.packed.proofs.Bytes.{end-wrong, end-right, cell-wrong, cell-right}
 use Rattle.packed.proofs.chars_are.Goals as goal
 
 pub returns-then-not-end_is : goal.returns-then-not-end_is

@@ -4,7 +4,6 @@ use mathlib.Core.Path.{◌≡◌, ap, sym, ◌∙◌}
 use Prim.Native.Nat.{ℕ, ◌+◌, ◌*◌, ◌-◌, ◌<◌}
 use native.Mathlib.Omega.{arith}
 use lib.ListN.{get_or, length, take, drop}
-use borrow.Author.Rules.{rules}
 use Rattle.cells.specs.Below.Lists.{bytes_equal}
 use Rattle.cells.specs.Below.LayoutCells.{unfours}
 use Rattle.packed.proofs.Bytes.{same_rest, same_end, fifteen, fifteen-long, fifteen-cell}

@@ -1,11 +1,9 @@
 -- `packed::put_chars` meets its contract.
 use mathlib.Core.Path.{◌≡◌, refl}
-use Prim.Native.Nat.{◌+◌, ◌*◌, ◌-◌, ◌≤◌}
+use Prim.Native.Nat.{◌+◌, ◌*◌, ◌-◌}
 use native.Mathlib.Omega.{arith}
 use lib.ListN.{get_or, length}
-use borrow.Author.Rules.{rules}
-use Rattle.cells.specs.Below.LayoutCells.{unfours}
-use Rattle.packed.proofs.Bytes.{fronted, copy-turn, copy_rest, copied, fifteen, fifteen-long, fifteen-cell}
+use Rattle.packed.proofs.Bytes.{copy-turn, copy_rest, copied, fifteen, fifteen-long, fifteen-cell}
 use Rattle.packed.proofs.put_chars.Goals as goal
 
 pub loop-q-init : goal.loop-q-init

@@ -1,7 +1,6 @@
 -- `packed::put_four` meets its contract.
 use native.Mathlib.Omega.{arith}
 use lib.ListN.{length-set}
-use borrow.Author.Rules.{rules}
 use Rattle.packed.proofs.Bytes.{put_four}
 use Rattle.packed.proofs.put_four.Goals as goal
 

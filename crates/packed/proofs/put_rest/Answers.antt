@@ -3,7 +3,6 @@ use mathlib.Core.Path.{refl}
 use Prim.Native.Nat.{◌/◌, ◌%◌}
 use native.Mathlib.Omega.{arith}
 use lib.ListN.{length-set}
-use borrow.Author.Rules.{rules}
 use Rattle.packed.proofs.Bytes.{put-none, put_one, put_two, put_three}
 use Rattle.packed.proofs.put_rest.Goals as goal
 

@@ -4,7 +4,6 @@ use Prim.Native.Nat.{ℕ, ◌+◌, ◌*◌, ◌%◌, ◌<◌}
 use native.Mathlib.Omega.{arith}
 use lib.Dec.{eqb}
 use lib.ListN.{get_or}
-use borrow.Author.Rules.{rules}
 use Rattle.packed.proofs.Bytes.{rest-none, rest-one, rest-two, rest-three}
 use Rattle.packed.proofs.rest_is.Goals as goal
 

@@ -1,6 +1,5 @@
 -- `packed::spells` meets its contract.
 use mathlib.Core.Path.{◌∙◌}
-use borrow.Author.Rules.{rules}
 use Rattle.packed.proofs.Bytes.{spells-other, spells-same}
 use Rattle.packed.proofs.spells.Goals as goal
 

@@ -1,7 +1,6 @@
 -- `packing::pack` meets its contract.
 use Rattle.gaps.proofs.Laws.{length-abs}
 use Rattle.packing.proofs.Writing.{written}
-use borrow.Author.Rules.{rules}
 use Rattle.packing.proofs.pack.Goals as goal
 
 pub returns : goal.returns

@@ -1,9 +1,6 @@
 -- `packing::pack_lengths` meets its contract. The invariant: the lengths of the first j strings are in place.
-use Prim.Native.Nat.{◌-◌}
-use Rattle.packing.proofs.Writing.{Lengthing, lengthing-none, lengthing-more, lengthing-all}
-use borrow.Author.Rules.{rules}
+use Rattle.packing.proofs.Writing.{lengthing-none, lengthing-more, lengthing-all}
 use native.Mathlib.Omega.{arith}
-use Rattle.layout.specs.Places as layout
 use Rattle.packing.proofs.pack_lengths.Goals as goal
 
 pub loop-j-init : goal.loop-j-init

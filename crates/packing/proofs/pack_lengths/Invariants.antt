@@ -1,8 +1,6 @@
 -- `packing::pack_lengths` meets its contract. The invariant: the lengths of the first j strings are in place.
 use Prim.Native.Nat.{◌-◌}
-use Rattle.packing.proofs.Writing.{Lengthing, lengthing-none, lengthing-more, lengthing-all}
-use borrow.Author.Rules.{rules}
-use native.Mathlib.Omega.{arith}
+use Rattle.packing.proofs.Writing.{Lengthing}
 use Rattle.layout.specs.Places as layout
 use Rattle.packing.proofs.pack_lengths.Given as goal
 

@@ -1,9 +1,6 @@
 -- `packing::pack_strings` meets its contract. The invariant: the first j strings are in place.
-use Prim.Native.Nat.{◌-◌}
-use Rattle.packing.proofs.Writing.{Stringing, stringing-none, string-room, stringing-more, stringing-all}
-use borrow.Author.Rules.{rules}
+use Rattle.packing.proofs.Writing.{stringing-none, string-room, stringing-more, stringing-all}
 use native.Mathlib.Omega.{arith}
-use Rattle.layout.specs.Places as layout
 use Rattle.packing.proofs.pack_strings.Goals as goal
 
 pub loop-j-init : goal.loop-j-init

@@ -1,8 +1,6 @@
 -- `packing::pack_strings` meets its contract. The invariant: the first j strings are in place.
 use Prim.Native.Nat.{◌-◌}
-use Rattle.packing.proofs.Writing.{Stringing, stringing-none, string-room, stringing-more, stringing-all}
-use borrow.Author.Rules.{rules}
-use native.Mathlib.Omega.{arith}
+use Rattle.packing.proofs.Writing.{Stringing}
 use Rattle.layout.specs.Places as layout
 use Rattle.packing.proofs.pack_strings.Given as goal
 

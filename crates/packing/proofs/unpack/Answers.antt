@@ -1,10 +1,7 @@
 -- `packing::unpack` meets its contract. The invariant: the first j strings are laid out.
-use Prim.Native.Nat.{◌-◌}
 use lib.ListN.{length-take, length-drop}
-use Rattle.packing.proofs.Reading.{Unpacking, unpacking-none, turn-numbers, unpacking-more, unpacked, packed-long}
-use borrow.Author.Rules.{rules}
+use Rattle.packing.proofs.Reading.{unpacking-none, turn-numbers, unpacking-more, unpacked, packed-long}
 use native.Mathlib.Omega.{arith}
-use Rattle.layout.specs.Places as layout
 use Rattle.packing.proofs.unpack.Goals as goal
 
 pub loop-j-init : goal.loop-j-init

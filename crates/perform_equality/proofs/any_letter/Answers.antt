@@ -1,6 +1,5 @@
 -- `perform_equality::any_letter` meets its contract.
 use borrow.Enum.Refused.{opened}
-use borrow.Author.Rules.{rules}
 use Rattle.perform_equality.proofs.Operands.{not-any, an-any}
 use Rattle.perform_equality.proofs.any_letter.Goals as goal
 

@@ -1,6 +1,5 @@
 -- `perform_equality::is_any` meets its contract.
 use borrow.Enum.Refused.{opened}
-use borrow.Author.Rules.{rules}
 use Rattle.decoding.proofs.Letters.{is-lettered}
 use Rattle.perform_equality.proofs.is_any.Goals as goal
 

@@ -1,5 +1,4 @@
 -- `perform_equality::perform_equality` meets its contract.
-use borrow.Author.Rules.{rules}
 use Rattle.perform_equality.proofs.Operands.{relating, record-relating}
 use Rattle.perform_equality.proofs.perform_equality.Goals as goal
 

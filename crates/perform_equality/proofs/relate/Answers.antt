@@ -1,6 +1,5 @@
 -- `perform_equality::relate` meets its contract.
 use borrow.Enum.Refused.{opened}
-use borrow.Author.Rules.{rules}
 use Rattle.perform_equality.proofs.Operands.{related-named, input-relatable, input-related, expression-relating}
 use Rattle.perform_equality.proofs.relate.Goals as goal
 

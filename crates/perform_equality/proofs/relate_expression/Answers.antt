@@ -1,5 +1,4 @@
 -- `perform_equality::relate_expression` meets its contract.
-use borrow.Author.Rules.{rules}
 use Rattle.perform_equality.proofs.Operands.{one-named, any-relatable, any-related, one-relatable, one-related}
 use Rattle.perform_equality.proofs.relate_expression.Goals as goal
 

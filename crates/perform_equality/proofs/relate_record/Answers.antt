@@ -1,5 +1,4 @@
 -- `perform_equality::relate_record` meets its contract.
-use borrow.Author.Rules.{rules}
 use Rattle.perform_equality.proofs.Operands.{record-named, record-relatable, record-related}
 use Rattle.perform_equality.proofs.relate_record.Goals as goal
 

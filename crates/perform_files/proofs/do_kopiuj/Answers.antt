@@ -1,5 +1,4 @@
 -- `perform_files::do_kopiuj` meets its contract.
-use borrow.Author.Rules.{rules}
 use mathlib.Core.Path.{refl}
 use Rattle.perform_pointers.specs.Below.CarryingLaws.{formed, first-named, second-named, performed}
 use Rattle.perform_files.proofs.Operands.{movable}

@@ -1,5 +1,4 @@
 -- `perform_files::do_pobierz` meets its contract.
-use borrow.Author.Rules.{rules}
 use mathlib.Core.Path.{refl}
 use Rattle.perform_pointers.specs.Below.CarryingLaws.{first-named, second-named, third-none, performed}
 use Rattle.perform_files.proofs.do_pobierz.Goals as goal

@@ -1,5 +1,4 @@
 -- `perform_files::perform_file` meets its contract.
-use borrow.Author.Rules.{rules}
 use Rattle.perform_pointers.specs.Below.CarryingLaws.{known}
 use Rattle.perform_files.proofs.Operands.{last}
 use Rattle.perform_files.proofs.perform_file.Goals as goal

@@ -1,5 +1,4 @@
 -- `perform_jumps::by_label` meets its contract.
-use borrow.Author.Rules.{rules}
 use native.Mathlib.Omega.{arith}
 use Rattle.perform_jumps.proofs.Operands.{turns, calls, last-label, label-arm}
 use Rattle.perform_jumps.proofs.by_label.Goals as goal

@@ -1,5 +1,4 @@
 -- `perform_jumps::by_switch` meets its contract.
-use borrow.Author.Rules.{rules}
 use Rattle.perform_jumps.proofs.Operands.{last-switch, switch-arm}
 use Rattle.perform_jumps.proofs.by_switch.Goals as goal
 

@@ -1,5 +1,4 @@
 -- `perform_jumps::perform_jump` meets its contract.
-use borrow.Author.Rules.{rules}
 use Rattle.perform_jumps.proofs.Operands.{label-asked, by-label-asked, label-led, switching, by-switch-asked, switch-led, wroc-led, stop-led}
 use Rattle.perform_jumps.proofs.perform_jump.Goals as goal
 

@@ -1,5 +1,4 @@
 -- `perform_moves::join` meets its contract.
-use borrow.Author.Rules.{rules}
 use mathlib.Core.Path.{refl}
 use Rattle.perform_moves.proofs.Operands.{pair-from, joinable, pair-done}
 use Rattle.perform_moves.proofs.join.Goals as goal

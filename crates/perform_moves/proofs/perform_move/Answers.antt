@@ -1,5 +1,4 @@
 -- `perform_moves::perform_move` meets its contract.
-use borrow.Author.Rules.{rules}
 use Rattle.performing.specs.OperatingLaws.{carrying}
 use Rattle.perform_moves.proofs.Operands.{numbered, paired, dropping, seeking}
 use Rattle.perform_moves.proofs.perform_move.Goals as goal

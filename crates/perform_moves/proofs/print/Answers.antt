@@ -1,5 +1,4 @@
 -- `perform_moves::print` meets its contract.
-use borrow.Author.Rules.{rules}
 use Rattle.perform_moves.proofs.Operands.{print-from, print-to, printable, printed}
 use Rattle.perform_moves.proofs.print.Goals as goal
 

@@ -1,5 +1,4 @@
 -- `perform_moves::read` meets its contract.
-use borrow.Author.Rules.{rules}
 use Rattle.perform_moves.proofs.Operands.{read_from, read-to, readable, have-read}
 use Rattle.perform_moves.proofs.read.Goals as goal
 

@@ -1,6 +1,5 @@
 -- `perform_moves::remove` meets its contract.
 use borrow.Enum.Refused.{opened}
-use borrow.Author.Rules.{rules}
 use Rattle.perform_moves.proofs.Operands.{drop-from, passable, passed_by, removable, removed}
 use Rattle.perform_moves.proofs.remove.Goals as goal
 

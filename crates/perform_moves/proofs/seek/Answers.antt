@@ -1,5 +1,4 @@
 -- `perform_moves::seek` meets its contract.
-use borrow.Author.Rules.{rules}
 use Rattle.perform_moves.proofs.Operands.{seek-from, seek-by, seekable, sought}
 use Rattle.perform_moves.proofs.seek.Goals as goal
 

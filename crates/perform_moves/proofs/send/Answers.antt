@@ -1,5 +1,4 @@
 -- `perform_moves::send` meets its contract.
-use borrow.Author.Rules.{rules}
 use Rattle.perform_moves.proofs.Operands.{send-from, send-to, sendable, sent}
 use Rattle.perform_moves.proofs.send.Goals as goal
 

@@ -1,6 +1,5 @@
 -- `perform_pointers::do_umiesc` meets its contract.
 use borrow.Enum.Refused.{opened}
-use borrow.Author.Rules.{rules}
 use mathlib.Core.Path.{refl, ap}
 use Rattle.language.specs.Letters as letters
 use Rattle.table.specs.Denote.{arg_of}

@@ -1,6 +1,5 @@
 -- `perform_pointers::text_of` meets its contract.
 use borrow.Enum.Refused.{opened}
-use borrow.Author.Rules.{rules}
 use Rattle.perform_pointers.proofs.Operands.{text-left}
 use Rattle.perform_pointers.proofs.text_of.Goals as goal
 

@@ -1,5 +1,4 @@
 -- `perform_values::convert` meets its contract.
-use borrow.Author.Rules.{rules}
 use mathlib.Core.Path.{refl}
 use Rattle.performing.specs.CarryingLaws.{known, first-named, second_none, third-none, performed}
 use Rattle.perform_values.proofs.Operands.{convert-forms, convertible, liczba-op}

@@ -1,5 +1,4 @@
 -- `perform_values::perform_value` meets its contract.
-use borrow.Author.Rules.{rules}
 use Rattle.perform_values.proofs.Operands.{to-numbers, to-words, to-compute, to-convert}
 use Rattle.perform_values.proofs.perform_value.Goals as goal
 

@@ -1,5 +1,4 @@
 -- `pointers::cofnij` meets its contract.
-use borrow.Author.Rules.{rules}
 use Rattle.pointers.proofs.Rows.{front-pointable, cofnij-done}
 use Rattle.pointers.proofs.cofnij.Goals as goal
 

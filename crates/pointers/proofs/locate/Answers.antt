@@ -1,5 +1,4 @@
 -- `pointers::locate` meets its contract.
-use borrow.Author.Rules.{rules}
 use Rattle.language.specs.Letters.Letter.{P}
 use Rattle.machine.specs.Arguments.{file_of, records}
 use Rattle.state.specs.Working.{state_at, nth}

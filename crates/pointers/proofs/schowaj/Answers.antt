@@ -1,8 +1,6 @@
 -- `pointers::schowaj` meets its contract.
-use borrow.Author.Rules.{rules}
 use native.Mathlib.Omega.{arith}
 use lib.ListN.{length-take}
-use borrow.Author.Tests.{not-true, not-false}
 use Rattle.pointers.proofs.Rows.{last-told, schowaj-full, address-writable, schowaj-done}
 use Rattle.pointers.proofs.schowaj.Goals as goal
 

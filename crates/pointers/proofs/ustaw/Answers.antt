@@ -1,5 +1,4 @@
 -- `pointers::ustaw` meets its contract.
-use borrow.Author.Rules.{rules}
 use mathlib.Core.Path.{sym, ◌∙◌}
 use borrow.Author.Tests.{not-true, not-false}
 use Rattle.machine.specs.Changes.{past}

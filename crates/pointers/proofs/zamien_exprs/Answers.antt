@@ -1,5 +1,4 @@
 -- `pointers::zamien_exprs` meets its contract.
-use borrow.Author.Rules.{rules}
 use Rattle.pointers.proofs.Rows.{zamien-exprs}
 use Rattle.pointers.proofs.zamien_exprs.Goals as goal
 

@@ -1,5 +1,4 @@
 -- `pointers::zamien_files` meets its contract.
-use borrow.Author.Rules.{rules}
 use Rattle.pointers.proofs.Rows.{zamien-files}
 use Rattle.pointers.proofs.zamien_files.Goals as goal
 

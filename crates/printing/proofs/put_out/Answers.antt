@@ -1,5 +1,4 @@
 -- `printing::put_out` meets its contract.
-use borrow.Author.Rules.{rules}
 use Rattle.language.specs.Letters.Letter.{Q}
 use Rattle.machine.specs.Changes.{minus_unless, printed}
 use Rattle.state.specs.Working.{state_at, nth}

@@ -1,5 +1,4 @@
 -- `progress::closing_after` meets its contract.
-use borrow.Author.Rules.{rules}
 use mathlib.Core.Path.{sym, ◌∙◌}
 use Rattle.progress.specs.ClosingLaws.{labels-only, closes}
 use Rattle.progress.proofs.closing_after.Goals as goal

@@ -1,5 +1,4 @@
 -- `progress::closing_fault` meets its contract.
-use borrow.Author.Rules.{rules}
 use mathlib.Core.Path.{refl, sym, ◌∙◌}
 use Rattle.progress.proofs.closing_fault.Goals as goal
 

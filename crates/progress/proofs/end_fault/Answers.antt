@@ -1,5 +1,4 @@
 -- `progress::end_fault` meets its contract.
-use borrow.Author.Rules.{rules}
 use Rattle.progress.specs.ClosingLaws.{ends}
 use Rattle.progress.proofs.end_fault.Goals as goal
 

@@ -1,5 +1,4 @@
 -- `progress::ended_after` meets its contract.
-use borrow.Author.Rules.{rules}
 use mathlib.Core.Path.{sym, ◌∙◌}
 use mathlib.Core.Bool.{true, false}
 use Rattle.progress.specs.AdvancingLaws.{ended-before, ended-then}

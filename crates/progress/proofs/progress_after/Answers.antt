@@ -1,5 +1,4 @@
 -- `progress::progress_after` meets its contract.
-use borrow.Author.Rules.{rules}
 use native.Mathlib.Omega.{arith}
 use mathlib.Core.Path.{refl}
 use Rattle.progress.specs.WaitingLaws.{advances}

@@ -1,5 +1,4 @@
 -- `progress::waiting_after` meets its contract.
-use borrow.Author.Rules.{rules}
 use mathlib.Core.Path.{refl, sym, ◌∙◌}
 use Rattle.progress.proofs.waiting_after.Goals as goal
 

@@ -1,5 +1,4 @@
 -- `reading_statements::admit_instruction` meets its contract.
-use borrow.Author.Rules.{rules}
 use mathlib.Core.Path.{refl}
 use Rattle.reading_statements.proofs.Finding.{nothing, declarable-found, admits-found}
 use Rattle.reading_statements.proofs.admit_instruction.Goals as goal

@@ -1,5 +1,4 @@
 -- `reading_statements::admit_switch` meets its contract.
-use borrow.Author.Rules.{rules}
 use mathlib.Core.Path.{refl}
 use Rattle.reading_statements.proofs.Finding.{asked-last}
 use Rattle.reading_statements.proofs.admit_switch.Goals as goal

@@ -1,6 +1,5 @@
 -- `reading_statements::ask_head` meets its contract.
 use Rattle.statements.specs.StatementAt.{statement_at}
-use borrow.Author.Rules.{rules}
 use mathlib.Core.Path.{sym, ap, ◌∙◌}
 use Rattle.acceptance.proofs.RowLaws.{answered}
 use Rattle.statements.specs.Faults.{decided, then, verdict_of}

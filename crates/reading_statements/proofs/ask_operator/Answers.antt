@@ -1,6 +1,5 @@
 -- `reading_statements::ask_operator` meets its contract.
 use Rattle.statements.specs.StatementAt.{statement_at}
-use borrow.Author.Rules.{rules}
 use mathlib.Core.Path.{sym, ap, ◌∙◌}
 use Rattle.statements.specs.Faults.{decided}
 use Rattle.reading_statements.specs.Asking.{operator_verdict}

@@ -1,5 +1,4 @@
 -- `reading_statements::ending_of` meets its contract.
-use borrow.Author.Rules.{rules}
 use Rattle.reading_statements.specs.EndingLaws.{told-first, told-later}
 use Rattle.reading_statements.proofs.ending_of.Goals as goal
 

@@ -1,5 +1,4 @@
 -- `reading_statements::finish` meets its contract.
-use borrow.Author.Rules.{rules}
 use mathlib.Core.Path.{refl}
 use Rattle.reading_statements.proofs.finish.Goals as goal
 

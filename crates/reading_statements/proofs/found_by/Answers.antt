@@ -1,5 +1,4 @@
 -- `reading_statements::found_by` meets its contract.
-use borrow.Author.Rules.{rules}
 use mathlib.Core.Path.{refl}
 use Rattle.reading_statements.proofs.found_by.Goals as goal
 

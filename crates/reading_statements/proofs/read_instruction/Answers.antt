@@ -1,5 +1,4 @@
 -- `reading_statements::read_instruction` meets its contract.
-use borrow.Author.Rules.{rules}
 use mathlib.Core.Path.{ap, ◌∙◌}
 use Rattle.statements.specs.Faults.{decided, then, verdict_of}
 use Rattle.syntax.specs.Verdict.{Verdict}

@@ -1,5 +1,4 @@
 -- `reading_statements::read_statement` meets its contract.
-use borrow.Author.Rules.{rules}
 use mathlib.Core.Path.{sym, ◌∙◌}
 use Rattle.reading_statements.specs.StandingLaws.{reading-here, reads_here, reads-empty}
 use Rattle.reading_statements.proofs.read_statement.Goals as goal

@@ -1,5 +1,4 @@
 -- `reading_statements::read_switch` meets its contract.
-use borrow.Author.Rules.{rules}
 use native.Mathlib.Omega.{arith}
 use mathlib.Core.Path.{refl, ap, ◌∙◌}
 use Rattle.statements.specs.Faults.{then, verdict_of}

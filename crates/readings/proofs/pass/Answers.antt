@@ -1,5 +1,4 @@
 -- `readings::pass` meets its contract.
-use borrow.Author.Rules.{rules}
 use native.Mathlib.Omega.{arith}
 use Rattle.language.specs.Letters.Letter.{I}
 use Rattle.machine.specs.Changes.{minus_unless, past}

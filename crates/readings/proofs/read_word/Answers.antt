@@ -1,9 +1,7 @@
 -- `readings::read_word` meets its contract.
-use borrow.Author.Rules.{rules}
 use native.Mathlib.Omega.{arith}
 use mathlib.Core.Path.{refl, sym, ◌∙◌}
 use lib.ListN.{take}
-use borrow.Author.Tests.{not-true, not-false}
 use Rattle.language.specs.Letters.Letter.{I}
 use Rattle.machine.specs.Changes.{minus_unless, into, past}
 use Rattle.layout.specs.Components.{components_in}

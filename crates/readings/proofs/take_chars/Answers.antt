@@ -1,6 +1,5 @@
 -- `readings::take_chars` meets its contract.
 use borrow.Enum.Refused.{opened}
-use borrow.Author.Rules.{rules}
 use mathlib.Core.List.{List}
 use mathlib.Core.Path.{subst}
 use Prim.Native.Nat.{ℕ}

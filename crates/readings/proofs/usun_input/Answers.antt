@@ -1,5 +1,4 @@
 -- `readings::usun_input` meets its contract.
-use borrow.Author.Rules.{rules}
 use Rattle.packed.specs.Packed.{table_of}
 use Rattle.table.specs.Denote.{arg_of}
 use Rattle.joining.proofs.Below.MovesRows.{beside_long}

@@ -1,6 +1,5 @@
 -- `record_equality::is_whole` meets its contract.
 use borrow.Enum.Refused.{opened}
-use borrow.Author.Rules.{rules}
 use Rattle.record_equality.proofs.Wholes.{argument-left}
 use Rattle.record_equality.proofs.is_whole.Goals as goal
 

@@ -1,6 +1,5 @@
 -- `record_equality::letter_is_whole` meets its contract.
 use borrow.Enum.Refused.{opened}
-use borrow.Author.Rules.{rules}
 use Rattle.record_equality.proofs.Wholes.{letter-left}
 use Rattle.record_equality.proofs.letter_is_whole.Goals as goal
 

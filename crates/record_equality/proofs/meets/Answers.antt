@@ -1,5 +1,4 @@
 -- `record_equality::meets` meets its contract.
-use borrow.Author.Rules.{rules}
 use Rattle.record_equality.proofs.Rows.{meets-whole, meets-first}
 use Rattle.equality.proofs.Meeting.{fitting-by}
 use Rattle.layout.proofs.ComponentLaws.{whole-components}

@@ -1,5 +1,4 @@
 -- `record_equality::next_record` meets its contract.
-use borrow.Author.Rules.{rules}
 use Rattle.record_equality.proofs.Rows.{next-lent}
 use Rattle.state.specs.Working.{state_at}
 use Rattle.record_equality.proofs.next_record.Goals as goal

@@ -1,5 +1,4 @@
 -- `record_equality::rz` meets its contract.
-use borrow.Author.Rules.{rules}
 use Rattle.record_equality.proofs.Rows.{rz-none, rz-stop, rz-unlike, rz-done}
 use Rattle.equality.proofs.Rows.{held-long}
 use Rattle.equality.proofs.Questions.{leading-other}

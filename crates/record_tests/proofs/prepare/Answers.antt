@@ -1,5 +1,4 @@
 -- `record_tests::prepare` meets its contract.
-use borrow.Author.Rules.{rules}
 use Rattle.packed.specs.Packed.{table_of}
 use Rattle.record_tests.proofs.Wholes.{whole-readable, whole-told, parts-readable, parts-told}
 use Rattle.record_tests.proofs.prepare.Goals as goal

@@ -1,5 +1,4 @@
 -- `record_tests::prepare_whole` meets its contract.
-use borrow.Author.Rules.{rules}
 use Rattle.record_tests.proofs.Wholes.{whole-prepared}
 use Rattle.record_tests.proofs.prepare_whole.Goals as goal
 

@@ -1,6 +1,5 @@
 -- `record_tests::whole_index` meets its contract.
 use borrow.Enum.Refused.{opened}
-use borrow.Author.Rules.{rules}
 use mathlib.Core.Path.{sym, ap, ◌∙◌}
 use Rattle.record_tests.specs.RecordPrepares.{whole_index}
 use Rattle.record_tests.proofs.Wholes.{argument-left}

@@ -1,6 +1,5 @@
 -- `record_tests::whole_letter` meets its contract.
 use borrow.Enum.Refused.{opened}
-use borrow.Author.Rules.{rules}
 use Rattle.record_tests.proofs.Wholes.{letter-left}
 use Rattle.record_tests.proofs.whole_letter.Goals as goal
 

@@ -1,10 +1,7 @@
 -- `records::count` meets its contract. The invariant: the test takes the first k records, which end before cell `at`.
-use Prim.Native.Nat.{◌-◌}
-use lib.ListN.{length}
 use Rattle.records.specs.Sequences.{until_records}
 use Rattle.records.proofs.Cuts.{cut-starts}
-use Rattle.records.proofs.Walking.{Going, going-none, going-stop, going_next, going_end, reached-is}
-use borrow.Author.Rules.{rules}
+use Rattle.records.proofs.Walking.{going-none, going-stop, going_next, going_end, reached-is}
 use native.Mathlib.Omega.{arith}
 use Rattle.records.proofs.count.Goals as goal
 

@@ -2,10 +2,7 @@
 use Prim.Native.Nat.{◌-◌}
 use lib.ListN.{length}
 use Rattle.records.specs.Sequences.{until_records}
-use Rattle.records.proofs.Cuts.{cut-starts}
-use Rattle.records.proofs.Walking.{Going, going-none, going-stop, going_next, going_end, reached-is}
-use borrow.Author.Rules.{rules}
-use native.Mathlib.Omega.{arith}
+use Rattle.records.proofs.Walking.{Going}
 use Rattle.records.proofs.count.Given as goal
 
 abbrev pub invariant-loop-at : goal.invariant-loop-at

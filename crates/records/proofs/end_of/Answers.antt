@@ -1,6 +1,5 @@
 -- `records::end_of` meets its contract.
 use Rattle.records.proofs.Steps.{start-room, ends_at}
-use borrow.Author.Rules.{rules}
 use native.Mathlib.Omega.{arith}
 use Rattle.records.proofs.end_of.Goals as goal
 

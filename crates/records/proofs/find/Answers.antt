@@ -1,9 +1,7 @@
 -- `records::find` meets its contract. The invariant: the address is not among the first k records, which end before cell `at`.
-use Prim.Native.Nat.{◌-◌}
-use lib.ListN.{length}
 use borrow.Author.Tests.{eq-eqb, ne_eqb}
 use mathlib.Core.Path.{sym, ◌∙◌}
-use Rattle.records.proofs.Cuts.{Seeking, seeking-none, seeking-next, seeking-here, seeking-end, cut-starts}
+use Rattle.records.proofs.Cuts.{seeking-none, seeking-next, seeking-here, seeking-end, cut-starts}
 use native.Mathlib.Omega.{arith}
 use Rattle.records.proofs.find.Goals as goal
 

@@ -1,7 +1,6 @@
 -- `records::first_of` meets its contract.
 use lib.ListN.{length-take}
 use Rattle.records.proofs.Contents.{first_fits, first_part}
-use borrow.Author.Rules.{rules}
 use native.Mathlib.Omega.{arith}
 use Rattle.records.proofs.first_of.Goals as goal
 

@@ -1,6 +1,5 @@
 -- `records::next_contents` meets its contract.
 use Rattle.records.proofs.Steps.{next-some, next-none}
-use borrow.Author.Rules.{rules}
 use native.Mathlib.Omega.{arith}
 use Rattle.records.proofs.next_contents.Goals as goal
 

@@ -1,6 +1,5 @@
 -- `records::put_record` meets its contract.
 use Rattle.records.proofs.Stamps.{put_record}
-use borrow.Author.Rules.{rules}
 use Rattle.records.proofs.put_record.Goals as goal
 
 pub returns : goal.returns

@@ -1,5 +1,4 @@
 -- `records::reached_at` meets its contract.
-use borrow.Author.Rules.{rules}
 use Rattle.records.proofs.reached_at.Goals as goal
 
 pub returns-in-First : goal.returns-in-First

@@ -1,6 +1,5 @@
 -- `records::same_contents` meets its contract.
 use Rattle.records.proofs.Contents.{alike_is}
-use borrow.Author.Rules.{rules}
 use Rattle.records.proofs.same_contents.Goals as goal
 
 pub returns : goal.returns

@@ -1,10 +1,7 @@
 -- `records::stamp` meets its contract. The invariant: `dst` has the records up to cell `at` with new addresses, and behind them the rest as it was.
-use Prim.Native.Nat.{◌-◌}
-use lib.ListN.{length}
 use Rattle.records.proofs.Cuts.{cut-starts}
 use Rattle.records.proofs.Steps.{start-room}
-use Rattle.records.proofs.Stamps.{Stamping, stamping-none, stamping-next, stamping-end}
-use borrow.Author.Rules.{rules}
+use Rattle.records.proofs.Stamps.{stamping-none, stamping-next, stamping-end}
 use native.Mathlib.Omega.{arith}
 use Rattle.records.proofs.stamp.Goals as goal
 

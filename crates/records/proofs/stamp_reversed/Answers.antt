@@ -1,8 +1,6 @@
 -- `records::stamp_reversed` meets its contract. The invariant: the records up to cell `at` stand in `dst` before cell n, the last one first, with new addresses.
-use Prim.Native.Nat.{◌-◌}
 use Rattle.records.proofs.Cuts.{cut-starts}
-use Rattle.records.proofs.Stamps.{Turning, turning-none, turning-next, turning-end}
-use borrow.Author.Rules.{rules}
+use Rattle.records.proofs.Stamps.{turning-none, turning-next, turning-end}
 use native.Mathlib.Omega.{arith}
 use Rattle.records.proofs.stamp_reversed.Goals as goal
 

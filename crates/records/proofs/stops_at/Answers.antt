@@ -6,7 +6,6 @@ use Rattle.cells.specs.Below.Components.{components_in, record_in}
 use Rattle.matching.specs.Tests.{until}
 use Rattle.records.specs.Sequences.{FittingRecords}
 use Rattle.records.proofs.Walking.{first-stoppable, first_stops}
-use borrow.Author.Rules.{rules}
 use Rattle.records.proofs.stops_at.Goals as goal
 
 pub contents_at-contents-requires : goal.contents_at-contents-requires

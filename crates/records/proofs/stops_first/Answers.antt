@@ -2,7 +2,6 @@
 use mathlib.Core.Path.{ap, sym, ◌∙◌}
 use Rattle.matching.specs.Tests.{until, stops_before}
 use Rattle.records.proofs.Walking.{void-is, first-none, first-single, first_is}
-use borrow.Author.Rules.{rules}
 use native.Mathlib.Omega.{arith}
 use Rattle.records.proofs.stops_first.Goals as goal
 

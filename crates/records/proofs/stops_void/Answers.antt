@@ -1,5 +1,4 @@
 -- `records::stops_void` meets its contract.
-use borrow.Author.Rules.{rules}
 use Rattle.records.proofs.stops_void.Goals as goal
 
 pub returns-in-Count : goal.returns-in-Count

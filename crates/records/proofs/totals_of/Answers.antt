@@ -1,9 +1,7 @@
 -- `records::totals_of` meets its contract. The invariant: `parts` and `chars` are the sums over the records that end before cell `at`.
-use Prim.Native.Nat.{◌-◌}
-use lib.ListN.{length}
 use Rattle.cells.proofs.Below.ComponentLaws.{whole-components}
 use Rattle.records.proofs.Cuts.{cut-starts}
-use Rattle.records.proofs.Walking.{Summing, summing-none, summing-next, summing-end, all-taken}
+use Rattle.records.proofs.Walking.{summing-none, summing-next, summing-end, all-taken}
 use native.Mathlib.Omega.{arith}
 use Rattle.records.proofs.totals_of.Goals as goal
 

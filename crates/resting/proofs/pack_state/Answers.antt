@@ -1,5 +1,4 @@
 -- `resting::pack_state` meets its contract.
-use borrow.Author.Rules.{rules}
 use native.Mathlib.Omega.{arith}
 use Rattle.resting.proofs.Laws.{numbers_fit, closed}
 use Rattle.resting.proofs.pack_state.Goals as goal

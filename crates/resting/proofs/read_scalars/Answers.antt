@@ -1,8 +1,6 @@
 -- `resting::read_scalars` meets its contract.
-use borrow.Author.Rules.{rules}
 use native.Mathlib.Omega.{arith}
-use Prim.Native.Nat.{◌-◌}
-use Rattle.resting.proofs.Laws.{Reading, reading-none, reading-more, reading-all}
+use Rattle.resting.proofs.Laws.{reading-none, reading-more, reading-all}
 use Rattle.resting.proofs.read_scalars.Goals as goal
 
 pub loop-k-init : goal.loop-k-init

@@ -1,5 +1,4 @@
 -- `resting::unpack_state` meets its contract.
-use borrow.Author.Rules.{rules}
 use mathlib.Core.Path.{refl}
 use Rattle.resting.proofs.Laws.{unpackable, opened}
 use Rattle.resting.proofs.unpack_state.Goals as goal

@@ -1,8 +1,6 @@
 -- `resting::write_scalars` meets its contract.
-use borrow.Author.Rules.{rules}
 use native.Mathlib.Omega.{arith}
-use Prim.Native.Nat.{◌-◌}
-use Rattle.resting.proofs.Laws.{Writing, writing-none, writing_more, writing-all}
+use Rattle.resting.proofs.Laws.{writing-none, writing_more, writing-all}
 use Rattle.resting.proofs.write_scalars.Goals as goal
 
 pub loop-k-init : goal.loop-k-init

@@ -1,8 +1,6 @@
 -- `resting::write_scalars` meets its contract.
-use borrow.Author.Rules.{rules}
-use native.Mathlib.Omega.{arith}
 use Prim.Native.Nat.{◌-◌}
-use Rattle.resting.proofs.Laws.{Writing, writing-none, writing_more, writing-all}
+use Rattle.resting.proofs.Laws.{Writing}
 use Rattle.resting.proofs.write_scalars.Given as goal
 
 abbrev pub invariant-loop-k : goal.invariant-loop-k

@@ -1,5 +1,4 @@
 -- `resting::write_strings` meets its contract.
-use borrow.Author.Rules.{rules}
 use Rattle.resting.proofs.Laws.{strung}
 use Rattle.resting.proofs.write_strings.Goals as goal
 

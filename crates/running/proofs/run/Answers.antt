@@ -1,5 +1,4 @@
 -- `running::run` meets its contract.
-use borrow.Author.Rules.{rules}
 use native.Mathlib.Omega.{arith}
 use mathlib.Core.Path.{refl}
 use Rattle.running.proofs.Loop.{openable, steppable, closable, ran_on}

@@ -1,11 +1,8 @@
 -- `running::run_steps` meets its contract.
-use borrow.Author.Rules.{rules}
-use native.Mathlib.Omega.{arith}
-use mathlib.Core.Path.{refl, ◌∙◌}
 use Prim.Native.Nat.{◌-◌}
 use lib.ListN.{length}
 use Rattle.state.specs.Working.{state_at}
-use Rattle.running.proofs.Loop.{Looping, going-none, going_more, ran-stop, ran-pause}
+use Rattle.running.proofs.Loop.{Looping}
 use Rattle.running.proofs.run_steps.Given as goal
 
 abbrev pub invariant-loop-count : goal.invariant-loop-count

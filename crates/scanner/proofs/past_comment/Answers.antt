@@ -1,13 +1,8 @@
 -- `scanner::past_comment` meets its contract.
-use mathlib.Core.Path.{◌≡◌, refl, sym, ◌∙◌}
-use Prim.Native.Nat.{ℕ, ◌-◌, ◌≤◌}
+use mathlib.Core.Path.{refl, sym, ◌∙◌}
 use native.Mathlib.Omega.{arith}
-use lib.ListN.{length, drop}
 use borrow.Author.Rules.{rules}
 use Rattle.scanner.proofs.Loops.{comment-on, comment-closed, comment-out}
-use Rattle.syntax.specs.Items.Stage.{inside}
-use Rattle.syntax.specs.Items.Mode.{in_comment}
-use Rattle.syntax.specs.Scan.{gap_from}
 use Rattle.scanner.proofs.past_comment.Goals as goal
 
 pub loop-i-init : goal.loop-i-init

@@ -1,10 +1,7 @@
 -- `scanner::past_comment` meets its contract.
-use mathlib.Core.Path.{◌≡◌, refl, sym, ◌∙◌}
+use mathlib.Core.Path.{◌≡◌}
 use Prim.Native.Nat.{ℕ, ◌-◌, ◌≤◌}
-use native.Mathlib.Omega.{arith}
 use lib.ListN.{length, drop}
-use borrow.Author.Rules.{rules}
-use Rattle.scanner.proofs.Loops.{comment-on, comment-closed, comment-out}
 use Rattle.syntax.specs.Items.Stage.{inside}
 use Rattle.syntax.specs.Items.Mode.{in_comment}
 use Rattle.syntax.specs.Scan.{gap_from}

@@ -1,11 +1,9 @@
 -- `scanner::scan_by` meets its contract.
 use mathlib.Core.Path.{refl, sym, ◌∙◌}
 use mathlib.Core.Bool.{not}
-use Prim.Native.Nat.{◌-◌}
 use native.Mathlib.Omega.{arith}
-use lib.ListN.{length}
 use borrow.Author.Rules.{rules}
-use Rattle.scanner.proofs.Loops.{Scanning, scan_begins, scan-on, scan-ends, scan-out, at_most_one}
+use Rattle.scanner.proofs.Loops.{scan_begins, scan-on, scan-ends, scan-out, at_most_one}
 use Rattle.scanner.proofs.scan_by.Goals as goal
 
 pub loop-i-init : goal.loop-i-init

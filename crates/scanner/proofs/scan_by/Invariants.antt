@@ -1,11 +1,7 @@
 -- `scanner::scan_by` meets its contract.
-use mathlib.Core.Path.{refl, sym, ◌∙◌}
-use mathlib.Core.Bool.{not}
 use Prim.Native.Nat.{◌-◌}
-use native.Mathlib.Omega.{arith}
 use lib.ListN.{length}
-use borrow.Author.Rules.{rules}
-use Rattle.scanner.proofs.Loops.{Scanning, scan_begins, scan-on, scan-ends, scan-out, at_most_one}
+use Rattle.scanner.proofs.Loops.{Scanning}
 use Rattle.scanner.proofs.scan_by.Given as goal
 
 abbrev pub invariant-loop-i : goal.invariant-loop-i

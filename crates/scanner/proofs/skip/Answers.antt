@@ -1,13 +1,10 @@
 -- `scanner::skip` meets its contract.
 use mathlib.Core.Bool.{true≢false, false≢true}
-use mathlib.Core.Path.{◌≡◌, refl, sym, ◌∙◌}
-use Prim.Native.Nat.{◌-◌, ◌≤◌}
+use mathlib.Core.Path.{refl, sym, ◌∙◌}
 use native.Mathlib.Omega.{arith}
-use lib.ListN.{length}
 use borrow.Author.Tests.{eq-eqb, ne_eqb}
 use borrow.Author.Rules.{rules}
 use Rattle.scanner.proofs.Loops.{gap-out}
-use Rattle.scanner.specs.Scans.{gap_at}
 use Rattle.scanner.proofs.skip.Goals as goal
 
 pub loop-i-init : goal.loop-i-init

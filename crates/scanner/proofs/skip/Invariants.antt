@@ -1,12 +1,7 @@
 -- `scanner::skip` meets its contract.
-use mathlib.Core.Bool.{true≢false, false≢true}
-use mathlib.Core.Path.{◌≡◌, refl, sym, ◌∙◌}
+use mathlib.Core.Path.{◌≡◌}
 use Prim.Native.Nat.{◌-◌, ◌≤◌}
-use native.Mathlib.Omega.{arith}
 use lib.ListN.{length}
-use borrow.Author.Tests.{eq-eqb, ne_eqb}
-use borrow.Author.Rules.{rules}
-use Rattle.scanner.proofs.Loops.{gap-out}
 use Rattle.scanner.specs.Scans.{gap_at}
 use Rattle.scanner.proofs.skip.Given as goal
 

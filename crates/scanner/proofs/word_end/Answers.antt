@@ -1,11 +1,7 @@
 -- `scanner::word_end` meets its contract.
-use mathlib.Core.Path.{◌≡◌, refl, sym, ◌∙◌}
-use Prim.Native.Nat.{◌+◌, ◌-◌, ◌≤◌}
-use lib.ListN.{length, drop}
-use borrow.Author.Tests.{not-true, not-false}
+use mathlib.Core.Path.{refl, sym, ◌∙◌}
 use borrow.Author.Rules.{rules}
 use Rattle.scanner.proofs.Loops.{word_on, word-stop, word_out}
-use Rattle.syntax.specs.Scan.{word_length}
 use Rattle.scanner.proofs.word_end.Goals as goal
 
 pub loop-i-init : goal.loop-i-init

@@ -1,10 +1,7 @@
 -- `scanner::word_end` meets its contract.
-use mathlib.Core.Path.{◌≡◌, refl, sym, ◌∙◌}
+use mathlib.Core.Path.{◌≡◌}
 use Prim.Native.Nat.{◌+◌, ◌-◌, ◌≤◌}
 use lib.ListN.{length, drop}
-use borrow.Author.Tests.{not-true, not-false}
-use borrow.Author.Rules.{rules}
-use Rattle.scanner.proofs.Loops.{word_on, word-stop, word_out}
 use Rattle.syntax.specs.Scan.{word_length}
 use Rattle.scanner.proofs.word_end.Given as goal
 

@@ -1,6 +1,6 @@
 -- `shortening::line_start` meets its contract.
 use native.Mathlib.Omega.{arith}
-use Rattle.shortening.proofs.LastLine.{Scanned, scan-begin, scan-more, scan-lf, scan-end}
+use Rattle.shortening.proofs.LastLine.{scan-begin, scan-more, scan-lf, scan-end}
 use borrow.Author.Rules.{rules}
 use Rattle.shortening.proofs.line_start.Goals as goal
 

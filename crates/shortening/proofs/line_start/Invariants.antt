@@ -1,7 +1,5 @@
 -- `shortening::line_start` meets its contract.
-use native.Mathlib.Omega.{arith}
-use Rattle.shortening.proofs.LastLine.{Scanned, scan-begin, scan-more, scan-lf, scan-end}
-use borrow.Author.Rules.{rules}
+use Rattle.shortening.proofs.LastLine.{Scanned}
 use Rattle.shortening.proofs.line_start.Given as goal
 
 abbrev pub invariant-loop-at : goal.invariant-loop-at

@@ -1,7 +1,6 @@
 -- `shortening::round` meets its contract.
 use native.Mathlib.Omega.{arith}
-use lib.ListN.{length}
-use Rattle.shortening.proofs.Rounding.{InRound, in-round, may-cut, on-round, ending, round-end}
+use Rattle.shortening.proofs.Rounding.{in-round, may-cut, on-round, ending, round-end}
 use Rattle.shortening.proofs.round.Goals as goal
 
 pub loop-left-init : goal.loop-left-init

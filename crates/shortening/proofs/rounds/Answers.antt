@@ -1,8 +1,6 @@
 -- `shortening::rounds` meets its contract.
 use native.Mathlib.Omega.{arith}
-use mathlib.Core.Path.{◌∙◌}
-use lib.ListN.{length}
-use Rattle.shortening.proofs.Rounding.{InRounds, in-rounds, may-try, on-rounds, finished, falls}
+use Rattle.shortening.proofs.Rounding.{in-rounds, may-try, on-rounds, finished, falls}
 use Rattle.shortening.proofs.rounds.Goals as goal
 
 pub loop-size-init : goal.loop-size-init

@@ -1,7 +1,6 @@
 -- `shortening::rounds` meets its contract.
-use mathlib.Core.Path.{◌∙◌}
 use lib.ListN.{length}
-use Rattle.shortening.proofs.Rounding.{InRounds, in-rounds, may-try, on-rounds, finished, falls}
+use Rattle.shortening.proofs.Rounding.{InRounds}
 use Rattle.shortening.proofs.rounds.Given as goal
 
 abbrev pub invariant-loop-size : goal.invariant-loop-size

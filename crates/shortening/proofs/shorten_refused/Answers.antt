@@ -1,8 +1,7 @@
 -- `shortening::shorten_refused` meets its contract.
 use native.Mathlib.Omega.{arith}
 use mathlib.Core.Path.{sym}
-use lib.Seq.{length-take-le}
-use Rattle.shortening.proofs.Giving.{table-long, first-cells, fits-row, tryable, within-row, givable, part-written}
+use Rattle.shortening.proofs.Giving.{table-long, first-cells, fits-row, tryable, within-row, part-written}
 use borrow.Author.Rules.{rules}
 use Rattle.shortening.proofs.shorten_refused.Goals as goal
 

@@ -1,6 +1,5 @@
 -- `shortening::try_without` meets its contract.
 use native.Mathlib.Omega.{arith}
-use lib.ListN.{length-take}
 use mathlib.Core.Path.{refl}
 use Rattle.shortening.proofs.Cutting.{exchangeable-back, dropped, not-dropped}
 use borrow.Author.Rules.{rules}

@@ -1,10 +1,8 @@
 -- `spelling::put_text` meets its contract.
 use native.Mathlib.Omega.{arith}
-use mathlib.Core.Path.{◌≡◌, refl, ◌∙◌}
-use Prim.Native.Nat.{◌-◌}
-use lib.ListN.{length}
+use mathlib.Core.Path.{refl, ◌∙◌}
 use borrow.Author.Rules.{rules}
-use Rattle.spelling.proofs.Chars.{Putting, put-begins, put-room, put_on, put-done}
+use Rattle.spelling.proofs.Chars.{put-begins, put-room, put_on, put-done}
 use Rattle.spelling.proofs.put_text.Goals as goal
 
 pub loop-i-init : goal.loop-i-init

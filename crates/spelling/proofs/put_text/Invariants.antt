@@ -1,9 +1,8 @@
 -- `spelling::put_text` meets its contract.
-use mathlib.Core.Path.{◌≡◌, refl, ◌∙◌}
+use mathlib.Core.Path.{◌≡◌}
 use Prim.Native.Nat.{◌-◌}
 use lib.ListN.{length}
-use borrow.Author.Rules.{rules}
-use Rattle.spelling.proofs.Chars.{Putting, put-begins, put-room, put_on, put-done}
+use Rattle.spelling.proofs.Chars.{Putting}
 use Rattle.spelling.proofs.put_text.Given as goal
 
 abbrev pub invariant-loop-i : goal.invariant-loop-i

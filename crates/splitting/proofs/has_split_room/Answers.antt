@@ -1,5 +1,4 @@
 -- `splitting::has_split_room` meets its contract.
-use borrow.Author.Rules.{rules}
 use native.Mathlib.Omega.{arith}
 use Rattle.state.specs.Working.{state_at}
 use Rattle.splitting.proofs.Splits.{some_below, room-removed, room-left}

@@ -1,10 +1,8 @@
 -- `splitting::split_up` meets its contract.
-use borrow.Author.Rules.{rules}
 use native.Mathlib.Omega.{arith}
 use mathlib.Core.Path.{refl, sym, ◌∙◌}
 use mathlib.Core.Bool.{false}
 use lib.ListN.{length, take}
-use borrow.Author.Tests.{not-true, not-false}
 use Rattle.machine.specs.Changes.{minus_unless, into, past}
 use Rattle.layout.specs.Components.{components_in}
 use Rattle.matching.specs.Tests.{first_chars, until_chars}

@@ -1,5 +1,4 @@
 -- `starting::start` meets its contract.
-use borrow.Author.Rules.{rules}
 use Rattle.starting.proofs.Laws.{started-is}
 use Rattle.starting.proofs.start.Goals as goal
 

@@ -1,6 +1,5 @@
 -- `state::drop_parts` meets its contract.
 use Rattle.state.proofs.Expressions.{parts-droppable, parts-lowerable, parts-dropped}
-use borrow.Author.Rules.{rules}
 use Rattle.state.proofs.drop_parts.Goals as goal
 
 pub drop_front-requires : goal.drop_front-requires

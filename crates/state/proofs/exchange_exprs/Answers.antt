@@ -1,6 +1,5 @@
 -- `state::exchange_exprs` meets its contract.
 use Rattle.state.proofs.Exchanges.{exprs-exchangeable, exprs-swapped}
-use borrow.Author.Rules.{rules}
 use Rattle.state.proofs.exchange_exprs.Goals as goal
 
 pub exchange-requires : goal.exchange-requires

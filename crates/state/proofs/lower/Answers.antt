@@ -1,6 +1,5 @@
 -- `state::lower` meets its contract.
 use Rattle.state.specs.Blocks.{totalled}
-use borrow.Author.Rules.{rules}
 use Rattle.state.proofs.lower.Goals as goal
 
 pub returns : goal.returns

@@ -1,7 +1,6 @@
 -- `state::minus_unless` meets its contract.
 use Rattle.state.proofs.Standing.{numbers-long}
 use Rattle.state.proofs.Beside.{plus-kept, plus-lost}
-use borrow.Author.Rules.{rules}
 use native.Mathlib.Omega.{arith}
 use Rattle.state.proofs.minus_unless.Goals as goal
 

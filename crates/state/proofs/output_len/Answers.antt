@@ -1,6 +1,5 @@
 -- `state::output_len` meets its contract.
 use Rattle.state.proofs.Standing.{named, output-long}
-use borrow.Author.Rules.{rules}
 use native.Mathlib.Omega.{arith}
 use Rattle.state.proofs.output_len.Goals as goal
 

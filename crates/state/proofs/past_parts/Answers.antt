@@ -1,6 +1,5 @@
 -- `state::past_parts` meets its contract.
 use Rattle.state.proofs.Expressions.{parts-left}
-use borrow.Author.Rules.{rules}
 use Rattle.state.proofs.past_parts.Goals as goal
 
 pub drop_parts-requires : goal.drop_parts-requires

@@ -1,6 +1,5 @@
 -- `state::print` meets its contract.
 use Rattle.state.proofs.Beside.{printable, output-written}
-use borrow.Author.Rules.{rules}
 use Rattle.state.proofs.print.Goals as goal
 
 pub push_back-requires : goal.push_back-requires

@@ -1,6 +1,5 @@
 -- `state::push` meets its contract.
 use Rattle.state.specs.Blocks.{pushed}
-use borrow.Author.Rules.{rules}
 use Rattle.state.proofs.push.Goals as goal
 
 pub returns-then-at_end : goal.returns-then-at_end

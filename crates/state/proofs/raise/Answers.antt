@@ -1,6 +1,5 @@
 -- `state::raise` meets its contract.
 use Rattle.state.specs.Blocks.{totalled}
-use borrow.Author.Rules.{rules}
 use Rattle.state.proofs.raise.Goals as goal
 
 pub returns : goal.returns

@@ -1,7 +1,6 @@
 -- `state::read_past` meets its contract.
 use Rattle.state.proofs.Standing.{numbers-long}
 use Rattle.state.proofs.Beside.{place-then, read_past}
-use borrow.Author.Rules.{rules}
 use native.Mathlib.Omega.{arith}
 use Rattle.state.proofs.read_past.Goals as goal
 

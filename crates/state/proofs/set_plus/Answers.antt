@@ -1,7 +1,6 @@
 -- `state::set_plus` meets its contract.
 use Rattle.state.proofs.Standing.{numbers-long}
 use Rattle.state.proofs.Beside.{plus-on, plus-off}
-use borrow.Author.Rules.{rules}
 use native.Mathlib.Omega.{arith}
 use Rattle.state.proofs.set_plus.Goals as goal
 

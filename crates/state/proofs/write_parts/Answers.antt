@@ -1,7 +1,6 @@
 -- `state::write_parts` meets its contract.
 use mathlib.Core.Bool.{true}
 use Rattle.state.proofs.Expressions.{parts-pushable, parts-raisable, parts-written}
-use borrow.Author.Rules.{rules}
 use Rattle.state.proofs.write_parts.Goals as goal
 
 pub push-requires : goal.push-requires

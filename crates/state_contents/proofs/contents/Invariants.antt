@@ -1,10 +1,8 @@
 -- `state_contents::contents` meets its contract. The invariant: what the frames before `at` add stands in the row.
-use borrow.Author.Rules.{rules}
-use native.Mathlib.Omega.{arith}
 use Prim.Native.Nat.{◌-◌}
 use lib.ListN.{length}
-use mathlib.Core.Path.{◌≡◌, refl, ◌∙◌}
-use Rattle.state_contents.proofs.Gathering.{Gathering, gathering-none, next, size-next, line-fits, gathering-more, gathering-all}
+use mathlib.Core.Path.{◌≡◌}
+use Rattle.state_contents.proofs.Gathering.{Gathering}
 use Rattle.state_contents.proofs.contents.Given as goal
 
 abbrev pub invariant-loop-at : goal.invariant-loop-at

@@ -1,6 +1,5 @@
 -- `state_contents::gather` meets its contract.
 use Rattle.state_contents.proofs.Gathering.{other-kind, other-index, no_room, got-one}
-use borrow.Author.Rules.{rules}
 use Rattle.state_contents.proofs.gather.Goals as goal
 
 pub returns-then-byte_at-kind : goal.returns-then-byte_at-kind

@@ -1,6 +1,5 @@
 -- `state_contents::half` meets its contract.
 use Rattle.state_contents.proofs.Finding.{half-none, half-short, half-after-none, half-after, half-before-all, half-before}
-use borrow.Author.Rules.{rules}
 use Rattle.state_contents.proofs.half.Goals as goal
 
 pub contents-n-requires : goal.contents-n-requires

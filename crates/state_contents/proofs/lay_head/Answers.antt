@@ -1,5 +1,4 @@
 -- `state_contents::lay_head` meets its contract.
-use borrow.Author.Rules.{rules}
 use native.Mathlib.Omega.{arith}
 use lib.ListN.{length-take}
 use Rattle.state_contents.proofs.Laying.{head-other, head-put}

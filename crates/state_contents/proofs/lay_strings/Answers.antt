@@ -1,12 +1,7 @@
 -- `state_contents::lay_strings` meets its contract. The invariant: the first j strings are laid, if all have room.
 use native.Mathlib.Omega.{arith}
-use borrow.Author.Rules.{rules}
-use mathlib.Core.Path.{◌≡◌, ◌∙◌}
-use Prim.Native.Nat.{◌-◌}
-use lib.ListN.{length}
-use Rattle.language.specs.Limits as limit
-use Rattle.layout.specs.Places as layout
-use Rattle.state_contents.proofs.Laying.{Laying, laying-none, laying-more, laying-all}
+use mathlib.Core.Path.{◌∙◌}
+use Rattle.state_contents.proofs.Laying.{laying-none, laying-more, laying-all}
 use Rattle.state_contents.proofs.lay_strings.Goals as goal
 
 pub loop-j-init : goal.loop-j-init

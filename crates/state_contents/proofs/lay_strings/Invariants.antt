@@ -1,11 +1,10 @@
 -- `state_contents::lay_strings` meets its contract. The invariant: the first j strings are laid, if all have room.
-use borrow.Author.Rules.{rules}
-use mathlib.Core.Path.{◌≡◌, ◌∙◌}
+use mathlib.Core.Path.{◌≡◌}
 use Prim.Native.Nat.{◌-◌}
 use lib.ListN.{length}
 use Rattle.language.specs.Limits as limit
 use Rattle.layout.specs.Places as layout
-use Rattle.state_contents.proofs.Laying.{Laying, laying-none, laying-more, laying-all}
+use Rattle.state_contents.proofs.Laying.{Laying}
 use Rattle.state_contents.proofs.lay_strings.Given as goal
 
 abbrev pub invariant-loop-j : goal.invariant-loop-j

@@ -1,6 +1,5 @@
 -- `state_contents::put_string` meets its contract.
 use Rattle.state_contents.proofs.Laying.{put-none, put_one}
-use borrow.Author.Rules.{rules}
 use Rattle.state_contents.proofs.put_string.Goals as goal
 
 pub returns-then-at-n-gt-STATE : goal.returns-then-at-n-gt-STATE

@@ -1,5 +1,4 @@
 -- `state_contents::string` meets its contract.
-use borrow.Author.Rules.{rules}
 use mathlib.Core.Path.{◌∙◌}
 use Rattle.state_contents.proofs.Finding.{expr-stands, file-stands, stack-stands, output-stands}
 use native.Mathlib.Omega.{arith}

@@ -1,5 +1,4 @@
 -- `state_contents::whole` meets its contract.
-use borrow.Author.Rules.{rules}
 use Rattle.state_contents.proofs.Finding.{whole-none, whole-all}
 use Rattle.state_contents.proofs.whole.Goals as goal
 

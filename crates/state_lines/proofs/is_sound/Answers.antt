@@ -4,7 +4,6 @@ use mathlib.Core.Path.{refl, sym, ◌∙◌}
 use Prim.Native.Nat.{◌/◌}
 use lib.ListN.{length}
 use Rattle.state_lines.proofs.Laws.{out-even, out-last, out-short, out-sum, out-all}
-use borrow.Author.Rules.{rules}
 use Rattle.state_lines.proofs.is_sound.Goals as goal
 
 pub returns-then-n-eq0 : goal.returns-then-n-eq0

@@ -1,11 +1,7 @@
 -- `state_lines::is_sound_text` meets its contract. The invariant: the lines before `at` are sound.
-use native.Mathlib.Omega.{arith}
-use mathlib.Core.Path.{refl, sym, ◌∙◌}
 use Prim.Native.Nat.{◌-◌}
 use lib.ListN.{length}
-use borrow.Author.Tests.{not-true, not-false}
-use Rattle.state_lines.proofs.Lines.{Sounding, sounding-none, sounding-stop, sounding-next, sounding-all}
-use borrow.Author.Rules.{rules}
+use Rattle.state_lines.proofs.Lines.{Sounding}
 use Rattle.state_lines.proofs.is_sound_text.Given as goal
 
 abbrev pub invariant-loop-at : goal.invariant-loop-at

@@ -1,7 +1,6 @@
 -- `state_lines::put_end` meets its contract.
 use Rattle.state_lines.proofs.Writing.{end-put}
 use Prim.Native.Nat.{◌-◌, ◌%◌}
-use borrow.Author.Rules.{rules}
 use Rattle.state_lines.proofs.put_end.Goals as goal
 
 pub returns : goal.returns

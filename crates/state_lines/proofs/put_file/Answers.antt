@@ -1,6 +1,5 @@
 -- `state_lines::put_file` meets its contract.
 use Rattle.state_lines.proofs.Writing.{file-put}
-use borrow.Author.Rules.{rules}
 use Rattle.state_lines.proofs.put_file.Goals as goal
 
 pub returns : goal.returns

@@ -1,8 +1,5 @@
 -- `state_lines::put_frame` meets its contract.
-use native.Mathlib.Omega.{arith}
-use lib.ListN.{length-set}
 use Rattle.state_lines.proofs.Writing.{frame-put}
-use borrow.Author.Rules.{rules}
 use Rattle.state_lines.proofs.put_frame.Goals as goal
 
 pub returns : goal.returns

@@ -1,7 +1,6 @@
 -- `state_lines::put_front` meets its contract.
 use Rattle.state_lines.proofs.Writing.{front-put}
 use Prim.Native.Nat.{◌/◌, ◌%◌}
-use borrow.Author.Rules.{rules}
 use Rattle.state_lines.proofs.put_front.Goals as goal
 
 pub returns : goal.returns

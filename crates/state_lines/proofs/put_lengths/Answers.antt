@@ -1,7 +1,6 @@
 -- `state_lines::put_lengths` meets its contract.
 use Rattle.state_lines.proofs.Writing.{lengths-put}
 use Prim.Native.Nat.{◌/◌, ◌%◌}
-use borrow.Author.Rules.{rules}
 use Rattle.state_lines.proofs.put_lengths.Goals as goal
 
 pub returns : goal.returns

@@ -1,8 +1,6 @@
 -- `state_lines::sum_digits` meets its contract. The invariant: s is the sum of the first j bytes, all digits.
 use native.Mathlib.Omega.{arith}
-use Prim.Native.Nat.{◌-◌, ◌≤◌, ◌<◌}
-use Rattle.state_lines.proofs.Laws.{Summed, summed-none, summed_turn, summed-stops, summed-all}
-use borrow.Author.Rules.{rules}
+use Rattle.state_lines.proofs.Laws.{summed-none, summed_turn, summed-stops, summed-all}
 use Rattle.state_lines.proofs.sum_digits.Goals as goal
 
 pub loop-j-init : goal.loop-j-init

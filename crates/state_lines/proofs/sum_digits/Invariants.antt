@@ -1,8 +1,6 @@
 -- `state_lines::sum_digits` meets its contract. The invariant: s is the sum of the first j bytes, all digits.
-use native.Mathlib.Omega.{arith}
 use Prim.Native.Nat.{◌-◌, ◌≤◌, ◌<◌}
-use Rattle.state_lines.proofs.Laws.{Summed, summed-none, summed_turn, summed-stops, summed-all}
-use borrow.Author.Rules.{rules}
+use Rattle.state_lines.proofs.Laws.{Summed}
 use Rattle.state_lines.proofs.sum_digits.Given as goal
 
 abbrev pub invariant-loop-j : goal.invariant-loop-j

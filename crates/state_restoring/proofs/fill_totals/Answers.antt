@@ -1,7 +1,6 @@
 -- `state_restoring::fill_totals` meets its contract.
 use borrow.Author.Rules.{rules}
 use native.Mathlib.Omega.{arith}
-use borrow.Author.Tests.{not-true, not-false}
 use Rattle.check_memory.proofs.Steps.{walkable, both-whole}
 use Rattle.state_restoring.proofs.Totals.{not-laid, not_sound, totalled}
 use Rattle.state_restoring.proofs.fill_totals.Goals as goal

@@ -1,7 +1,6 @@
 -- `state_restoring::read_state` meets its contract.
 use borrow.Author.Rules.{rules}
 use mathlib.Core.Path.{refl}
-use borrow.Author.Tests.{not-true, not-false}
 use Rattle.state_restoring.proofs.Reader.{refused-early, refused-63, refused-68, restorable, refused-69, accepted}
 use Rattle.state_restoring.proofs.read_state.Goals as goal
 

@@ -1,6 +1,5 @@
 -- `state_restoring::restore` meets its contract.
 use borrow.Author.Rules.{rules}
-use borrow.Author.Tests.{not-true, not-false}
 use Rattle.state_restoring.proofs.Reader.{too_long, not-state, saveable, compared}
 use Rattle.state_restoring.proofs.restore.Goals as goal
 

@@ -1,10 +1,8 @@
 -- `state_saving::put_files` meets its contract. The invariant: the frames of the first i files are written.
 use native.Mathlib.Omega.{arith}
-use Prim.Native.Nat.{◌-◌}
-use Rattle.language.specs.Limits as limit
 use Rattle.state_frames.specs.Frames.{file}
 use Rattle.state_saving.specs.Saving.{files_from}
-use Rattle.state_saving.proofs.Appending.{appended-long, Writing, writing-none, writing-room, writing-next, writing-end}
+use Rattle.state_saving.proofs.Appending.{writing-none, writing-room, writing-next, writing-end}
 use Rattle.state_saving.proofs.Contents.{length-files, before-named, after-named, file-met, file-short}
 use Rattle.state_saving.proofs.put_files.Goals as goal
 

@@ -1,5 +1,4 @@
 -- `state_saving::put_frames` meets its contract.
-use borrow.Author.Rules.{rules}
 use native.Mathlib.Omega.{arith}
 use mathlib.Core.Path.{sym}
 use Rattle.state_saving.proofs.Parts.{head-long, head_fits, expressions-fit, files-fit, outputs-fit, stack-fits, all-appended}

@@ -1,7 +1,6 @@
 -- `state_saving::put_saved` meets its contract.
 use borrow.Author.Rules.{rules}
-use mathlib.Core.Path.{sym}
-use Rattle.state_saving.proofs.Parts.{cells-long, measurable, frames-fit, saved-put}
+use Rattle.state_saving.proofs.Parts.{measurable, frames-fit, saved-put}
 use Rattle.state_saving.proofs.put_saved.Goals as goal
 
 pub slice_bounds-m-end : goal.slice_bounds-m-end

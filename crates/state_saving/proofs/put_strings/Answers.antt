@@ -1,8 +1,7 @@
 -- `state_saving::put_strings` meets its contract. The invariant: the frames of the first i strings are written.
 use native.Mathlib.Omega.{arith}
-use Prim.Native.Nat.{◌-◌}
 use Rattle.state_saving.specs.Saving.{strings_from}
-use Rattle.state_saving.proofs.Appending.{appended-long, Writing, writing-none, writing-room, writing-next, writing-end}
+use Rattle.state_saving.proofs.Appending.{writing-none, writing-room, writing-next, writing-end}
 use Rattle.state_saving.proofs.Contents.{length-strings, string-named, string-met}
 use Rattle.state_saving.proofs.put_strings.Goals as goal
 

@@ -1,9 +1,7 @@
 -- `state_saving::put_strings` meets its contract. The invariant: the frames of the first i strings are written.
-use native.Mathlib.Omega.{arith}
 use Prim.Native.Nat.{◌-◌}
 use Rattle.state_saving.specs.Saving.{strings_from}
-use Rattle.state_saving.proofs.Appending.{appended-long, Writing, writing-none, writing-room, writing-next, writing-end}
-use Rattle.state_saving.proofs.Contents.{length-strings, string-named, string-met}
+use Rattle.state_saving.proofs.Appending.{Writing}
 use Rattle.state_saving.proofs.put_strings.Given as goal
 
 abbrev pub invariant-loop-i : goal.invariant-loop-i

@@ -1,5 +1,4 @@
 -- `statements::decide` meets its contract.
-use borrow.Author.Rules.{rules}
 use mathlib.Core.Path.{sym, ap}
 use Rattle.statements.specs.Faults.{decided}
 use Rattle.statements.proofs.decide.Goals as goal

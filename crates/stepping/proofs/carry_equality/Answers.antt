@@ -1,5 +1,4 @@
 -- `stepping::carry_equality` meets its contract.
-use borrow.Author.Rules.{rules}
 use Rattle.stepping.proofs.Steps.{placed, equating}
 use Rattle.stepping.proofs.carry_equality.Goals as goal
 

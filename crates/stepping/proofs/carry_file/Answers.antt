@@ -1,5 +1,4 @@
 -- `stepping::carry_file` meets its contract.
-use borrow.Author.Rules.{rules}
 use Rattle.stepping.proofs.Steps.{placed, filing}
 use Rattle.stepping.proofs.carry_file.Goals as goal
 

@@ -1,5 +1,4 @@
 -- `stepping::carry_jump` meets its contract.
-use borrow.Author.Rules.{rules}
 use Rattle.stepping.proofs.Steps.{placed, jumping}
 use Rattle.stepping.proofs.carry_jump.Goals as goal
 

@@ -1,5 +1,4 @@
 -- `stepping::carry_move` meets its contract.
-use borrow.Author.Rules.{rules}
 use Rattle.stepping.proofs.Steps.{placed, moving}
 use Rattle.stepping.proofs.carry_move.Goals as goal
 

@@ -1,6 +1,4 @@
 -- `stepping::carry_out` meets its contract.
-use borrow.Author.Rules.{rules}
-use mathlib.Core.Path.{◌∙◌}
 use Rattle.stepping.proofs.Steps.{an-operator, for-jumps, going_on, jumped, stopped, follows, followed}
 use Rattle.stepping.proofs.carry_out.Goals as goal
 

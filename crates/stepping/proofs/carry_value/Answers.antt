@@ -1,5 +1,4 @@
 -- `stepping::carry_value` meets its contract.
-use borrow.Author.Rules.{rules}
 use Rattle.stepping.proofs.Steps.{placed, valuing}
 use Rattle.stepping.proofs.carry_value.Goals as goal
 

@@ -1,5 +1,4 @@
 -- `stepping::perform` meets its contract.
-use borrow.Author.Rules.{rules}
 use mathlib.Core.Path.{sym, ◌∙◌}
 use Rattle.stepping.proofs.Steps.{an-operator, for-moves, for-values, for-equality, for-files}
 use Rattle.stepping.proofs.perform.Goals as goal

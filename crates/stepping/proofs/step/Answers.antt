@@ -1,5 +1,4 @@
 -- `stepping::step` meets its contract.
-use borrow.Author.Rules.{rules}
 use native.Mathlib.Omega.{arith}
 use Rattle.stepping.proofs.Steps.{next_place}
 use Rattle.stepping.proofs.step.Goals as goal

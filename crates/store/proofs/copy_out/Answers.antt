@@ -1,5 +1,4 @@
 -- `store::copy_out` meets its contract.
-use borrow.Author.Rules.{rules}
 use Rattle.store.proofs.copy_out.Goals as goal
 
 pub returns : goal.returns

@@ -1,7 +1,6 @@
 -- `store::drop_front` meets its contract.
 use Rattle.gaps.proofs.Laws.{shaped}
 use Rattle.store.proofs.Laws.{front-dropped}
-use borrow.Author.Rules.{rules}
 use native.Mathlib.Omega.{arith}
 use Rattle.store.proofs.drop_front.Goals as goal
 

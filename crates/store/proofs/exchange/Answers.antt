@@ -1,6 +1,5 @@
 -- `store::exchange` meets its contract.
 use Rattle.store.proofs.Moves.{first-movable, second-movable, exchange-end}
-use borrow.Author.Rules.{rules}
 use native.Mathlib.Omega.{arith}
 use Rattle.store.proofs.exchange.Goals as goal
 

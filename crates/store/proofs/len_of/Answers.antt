@@ -1,7 +1,6 @@
 -- `store::len_of` meets its contract.
 use Rattle.gaps.proofs.Laws.{shaped}
 use Rattle.store.proofs.Laws.{length-told}
-use borrow.Author.Rules.{rules}
 use native.Mathlib.Omega.{arith}
 use Rattle.store.proofs.len_of.Goals as goal
 

@@ -3,7 +3,6 @@ use lib.ListN.{length-take}
 use Rattle.gaps.specs.Gaps.{pushed_front}
 use Rattle.store.specs.Store.{moved_back_to_front}
 use Rattle.store.proofs.Moves.{n-most, back-copyable, back-pushable, back-moved}
-use borrow.Author.Rules.{rules}
 use native.Mathlib.Omega.{arith}
 use Rattle.store.proofs.move_back_to_front.Goals as goal
 

@@ -3,7 +3,6 @@ use lib.ListN.{length-take}
 use Rattle.gaps.specs.Gaps.{pushed_front}
 use Rattle.store.specs.Store.{moved_front}
 use Rattle.store.proofs.Moves.{n-most, front-copyable, front-pushable, front-moved}
-use borrow.Author.Rules.{rules}
 use native.Mathlib.Omega.{arith}
 use Rattle.store.proofs.move_front.Goals as goal
 

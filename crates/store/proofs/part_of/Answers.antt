@@ -1,7 +1,6 @@
 -- `store::part_of` meets its contract.
 use Rattle.gaps.proofs.Laws.{shaped}
 use Rattle.store.proofs.Laws.{part-told}
-use borrow.Author.Rules.{rules}
 use native.Mathlib.Omega.{arith}
 use Rattle.store.proofs.part_of.Goals as goal
 

@@ -3,7 +3,6 @@ use mathlib.Core.Path.{ap}
 use Rattle.gaps.specs.Below.Strings.{used}
 use Rattle.gaps.specs.Gaps.{pushed_front}
 use Rattle.gaps.proofs.Laws.{after}
-use borrow.Author.Rules.{rules}
 use native.Mathlib.Omega.{arith}
 use Rattle.store.proofs.push_front.Goals as goal
 

@@ -1,7 +1,6 @@
 -- `store::string_of` meets its contract.
 use Rattle.gaps.proofs.Laws.{shaped}
 use Rattle.store.proofs.Laws.{string-told}
-use borrow.Author.Rules.{rules}
 use native.Mathlib.Omega.{arith}
 use Rattle.store.proofs.string_of.Goals as goal
 

@@ -1,6 +1,5 @@
 -- `switch_lists::put` meets its contract.
 use Rattle.switch_lists.proofs.Reading.{put-there, put-beyond}
-use borrow.Author.Rules.{rules}
 use Rattle.switch_lists.proofs.put.Goals as goal
 
 pub returns-then-k-cells : goal.returns-then-k-cells

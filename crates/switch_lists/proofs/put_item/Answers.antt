@@ -1,7 +1,6 @@
 -- `switch_lists::put_item` meets its contract.
 use native.Mathlib.Omega.{arith}
 use Rattle.switch_lists.proofs.Reading.{word-put, text_put, none-put, entry-before}
-use borrow.Author.Rules.{rules}
 use Rattle.switch_lists.proofs.put_item.Goals as goal
 
 pub returns-then-t-eq-WORD : goal.returns-then-t-eq-WORD

@@ -1,14 +1,12 @@
 -- `switch_lists::read_list` meets its contract.
 use Rattle.statements.specs.StatementLaws.{on}
-use borrow.Author.Rules.{rules}
 use mathlib.Core.Path.{sym, ap, ◌∙◌}
 use native.Mathlib.Omega.{arith}
-use Prim.Native.Nat.{ℕ, ◌-◌, ◌+◌}
+use Prim.Native.Nat.{ℕ, ◌+◌}
 use lib.Dec.{eqb}
-use lib.ListN.{length}
 use Rattle.statements.specs.Faults.{lower}
 use Rattle.statements.specs.declared.Fault.{Fault}
-use Rattle.switch_lists.proofs.Reading.{Reading, reading-first, words-low, more-low, list_read, item-puttable, reading-more}
+use Rattle.switch_lists.proofs.Reading.{reading-first, words-low, more-low, list_read, item-puttable, reading-more}
 use Rattle.switch_lists.proofs.read_list.Goals as goal
 
 pub loop-before-init : goal.loop-before-init

@@ -1,5 +1,4 @@
 -- `switches::call_by` meets its contract.
-use borrow.Author.Rules.{rules}
 use mathlib.Core.Path.{refl}
 use Rattle.machine.specs.Effects.Go.{call}
 use Rattle.switches.proofs.Rows.{callable, full, fronted-after, went-by}

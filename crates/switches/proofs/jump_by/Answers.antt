@@ -1,5 +1,4 @@
 -- `switches::jump_by` meets its contract.
-use borrow.Author.Rules.{rules}
 use mathlib.Core.Path.{refl}
 use Rattle.machine.specs.Effects.Go.{jump}
 use Rattle.switches.proofs.Rows.{reachable, fronted-after, went-by}

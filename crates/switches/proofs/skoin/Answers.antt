@@ -1,5 +1,4 @@
 -- `switches::skoin` meets its contract.
-use borrow.Author.Rules.{rules}
 use Rattle.switches.proofs.Fronts.{switch-placed}
 use Rattle.switches.proofs.Rows.{named-expr, countable, entered, skoin-stop, skoin-goes, skoin-outside}
 use Rattle.switches.proofs.skoin.Goals as goal

@@ -1,5 +1,4 @@
 -- `switches::skona` meets its contract.
-use borrow.Author.Rules.{rules}
 use Rattle.switches.proofs.Fronts.{switch-placed}
 use Rattle.switches.proofs.Rows.{named-expr, searchable, entered, following, skona-stop, skona-goes, skona-on}
 use Rattle.switches.proofs.skona.Goals as goal

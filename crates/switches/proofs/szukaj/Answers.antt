@@ -1,5 +1,4 @@
 -- `switches::szukaj` meets its contract.
-use borrow.Author.Rules.{rules}
 use Rattle.switches.proofs.Fronts.{switch-placed}
 use Rattle.switches.proofs.Rows.{named-expr, searchable, szukaj-stop, szukaj-met, szukaj-none}
 use Rattle.switches.proofs.szukaj.Goals as goal

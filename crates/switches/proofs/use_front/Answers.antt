@@ -1,5 +1,4 @@
 -- `switches::use_front` meets its contract.
-use borrow.Author.Rules.{rules}
 use Rattle.state.specs.Working.{state_at}
 use Rattle.switches.proofs.Fronts.{leading, some-there, droppable, used-front}
 use Rattle.switches.proofs.use_front.Goals as goal

@@ -1,5 +1,4 @@
 -- `switches::wyin` meets its contract.
-use borrow.Author.Rules.{rules}
 use Rattle.switches.proofs.Fronts.{switch-placed}
 use Rattle.switches.proofs.Rows.{named-expr, countable, entered, wyin-stop, wyin-goes, wyin-outside}
 use Rattle.switches.proofs.wyin.Goals as goal

@@ -1,5 +1,4 @@
 -- `switches::wyna` meets its contract.
-use borrow.Author.Rules.{rules}
 use Rattle.state.proofs.Standing.{stands}
 use Rattle.switches.proofs.Fronts.{switch-placed}
 use Rattle.switches.proofs.Rows.{named-expr, searchable, entered, following, wyna-stop, wyna-goes, wyna-on}

@@ -2,7 +2,6 @@
 use mathlib.Core.Path.{◌≡◌}
 use native.Mathlib.Omega.{arith}
 use lib.ListN.{get_or}
-use borrow.Author.Rules.{rules}
 use Rattle.packed.specs.Below.LayoutCells.{cell}
 use Rattle.table.proofs.Decode.{cell_in, indexed, labelled, switched, classed, texted, numbered, absent}
 use Rattle.packed.specs.Packed.{table_of}

@@ -1,6 +1,5 @@
 -- `table::cell_at` meets its contract.
 use mathlib.Core.Path.{sym}
-use borrow.Author.Rules.{rules}
 use Rattle.table.proofs.Decode.{cell_in, cell-past}
 use Rattle.table.proofs.cell_at.Goals as goal
 

@@ -1,9 +1,7 @@
 -- `table::find_entry` meets its contract.
 use mathlib.Core.Path.{sym, ◌∙◌}
-use Prim.Native.Nat.{◌-◌, ◌≤◌}
 use native.Mathlib.Omega.{arith}
-use borrow.Author.Rules.{rules}
-use Rattle.table.proofs.Keys.{Searched, search-start, search-on, search-found, search-end}
+use Rattle.table.proofs.Keys.{search-start, search-on, search-found, search-end}
 use Rattle.table.proofs.find_entry.Goals as goal
 
 pub loop-k-init : goal.loop-k-init

@@ -1,9 +1,6 @@
 -- `table::find_entry` meets its contract.
-use mathlib.Core.Path.{sym, ◌∙◌}
 use Prim.Native.Nat.{◌-◌, ◌≤◌}
-use native.Mathlib.Omega.{arith}
-use borrow.Author.Rules.{rules}
-use Rattle.table.proofs.Keys.{Searched, search-start, search-on, search-found, search-end}
+use Rattle.table.proofs.Keys.{Searched}
 use Rattle.table.proofs.find_entry.Given as goal
 
 abbrev pub invariant-loop-k : goal.invariant-loop-k

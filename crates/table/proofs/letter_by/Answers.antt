@@ -1,6 +1,5 @@
 -- `table::letter_by` meets its contract.
 use mathlib.Core.Path.{sym}
-use borrow.Author.Rules.{rules}
 use Rattle.table.proofs.Decode.{first-letter}
 use Rattle.table.proofs.letter_by.Goals as goal
 

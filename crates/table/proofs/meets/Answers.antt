@@ -1,5 +1,4 @@
 -- `table::meets` meets its contract.
-use borrow.Author.Rules.{rules}
 use Rattle.table.proofs.Keys.{met-by-name, met-by-either}
 use Rattle.table.proofs.meets.Goals as goal
 

@@ -1,5 +1,4 @@
 -- `table::name_is` meets its contract.
-use borrow.Author.Rules.{rules}
 use Rattle.table.proofs.Keys.{name-spelled}
 use Rattle.table.proofs.name_is.Goals as goal
 

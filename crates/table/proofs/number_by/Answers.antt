@@ -1,7 +1,6 @@
 -- `table::number_by` meets its contract.
 use mathlib.Core.Path.{ap, ◌∙◌}
 use Prim.Native.Nat.{ℕ, ◌+◌}
-use borrow.Author.Rules.{rules}
 use Rattle.packed.specs.Below.LayoutCells.{uncode, cell}
 use Rattle.packed.specs.Below.LayoutPlaces as layout
 use Rattle.table.proofs.Decode.{small-number, large_number}

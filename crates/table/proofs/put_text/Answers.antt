@@ -5,7 +5,6 @@ use Prim.Native.Nat.{ℕ}
 use native.Mathlib.Omega.{arith}
 use lib.ListN.{drop, set}
 use lib.Seq.{set_split}
-use borrow.Author.Rules.{rules}
 use Rattle.table.proofs.Keys.{text-copied, text-none, text-one}
 use Rattle.packed.specs.Packed.{table_of, Copied}
 use Rattle.table.proofs.put_text.Goals as goal

@@ -1,6 +1,5 @@
 -- `table::read` meets its contract.
 use mathlib.Core.Path.{sym, ◌∙◌}
-use borrow.Author.Rules.{rules}
 use Rattle.table.proofs.Decode.{cell_in}
 use Rattle.table.proofs.read.Goals as goal
 

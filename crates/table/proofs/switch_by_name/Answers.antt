@@ -2,7 +2,6 @@
 use mathlib.Core.Path.{ap}
 use Prim.Native.Nat.{ℕ, ◌%◌}
 use lib.Dec.{eqb}
-use borrow.Author.Rules.{rules}
 use Rattle.table.proofs.switch_by_name.Goals as goal
 
 pub returns : goal.returns

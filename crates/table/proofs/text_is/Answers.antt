@@ -2,7 +2,6 @@
 use mathlib.Core.List.{List}
 use mathlib.Core.Path.{sym, ap, ◌∙◌}
 use Prim.Native.Nat.{ℕ}
-use borrow.Author.Rules.{rules}
 use Rattle.packed.specs.Below.Lists.{bytes_equal}
 use Rattle.table.proofs.Keys.{text-spelled, text-none, text-one, none-same}
 use Rattle.packed.specs.Packed.{table_of}

@@ -1,5 +1,4 @@
 -- `tests::prepare` meets its contract.
-use borrow.Author.Rules.{rules}
 use Rattle.table.specs.Below.Packed.{table_of}
 use Rattle.instructions.specs.Below.Working.{state_at}
 use Rattle.tests.proofs.Values.{letter-readable, text-readable, as_read, class-met, nothing-all, label-all, switch-all}

@@ -1,5 +1,4 @@
 -- `tests::prepare_any` meets its contract.
-use borrow.Author.Rules.{rules}
 use native.Mathlib.Omega.{arith}
 use Rattle.tests.proofs.Values.{any_told}
 use Rattle.tests.proofs.prepare_any.Goals as goal

@@ -1,5 +1,4 @@
 -- `tests::prepare_count` meets its contract.
-use borrow.Author.Rules.{rules}
 use mathlib.Core.Path.{sym, ◌∙◌}
 use Rattle.tests.proofs.Values.{count_none, count-kind, count-told, none-there, one-there, leading}
 use Rattle.tests.proofs.prepare_count.Goals as goal

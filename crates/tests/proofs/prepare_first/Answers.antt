@@ -1,5 +1,4 @@
 -- `tests::prepare_first` meets its contract.
-use borrow.Author.Rules.{rules}
 use native.Mathlib.Omega.{arith}
 use lib.ListN.{length-take}
 use Rattle.tests.proofs.Values.{first-none, none-there, front_fits, first-told}

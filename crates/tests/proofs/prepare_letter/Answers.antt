@@ -1,7 +1,6 @@
 -- `tests::prepare_letter` meets its contract.
 -- the letters left by N and T
 use borrow.Enum.Refused.{opened}
-use borrow.Author.Rules.{rules}
 use native.Mathlib.Omega.{arith}
 use mathlib.Core.Path.{◌≡◌, refl}
 use mathlib.Core.List.{List, [], ◌∷◌}

@@ -1,5 +1,4 @@
 -- `tests::prepare_text` meets its contract.
-use borrow.Author.Rules.{rules}
 use native.Mathlib.Omega.{arith}
 use lib.ListN.{length-take}
 use Rattle.tests.proofs.Values.{copied-in, text-told}

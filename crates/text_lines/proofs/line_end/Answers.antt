@@ -1,8 +1,5 @@
 -- `text_lines::line_end` meets its contract.
-use borrow.Author.Rules.{rules}
-use Prim.Native.Nat.{◌-◌}
-use lib.ListN.{length}
-use Rattle.text_lines.proofs.Reaching.{Reaching, reaching-none, reaching-stop, reaching-next, reaching-all}
+use Rattle.text_lines.proofs.Reaching.{reaching-none, reaching-stop, reaching-next, reaching-all}
 use Rattle.text_lines.proofs.line_end.Goals as goal
 
 pub loop-i-init : goal.loop-i-init

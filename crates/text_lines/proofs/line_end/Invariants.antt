@@ -1,8 +1,7 @@
 -- `text_lines::line_end` meets its contract.
-use borrow.Author.Rules.{rules}
 use Prim.Native.Nat.{◌-◌}
 use lib.ListN.{length}
-use Rattle.text_lines.proofs.Reaching.{Reaching, reaching-none, reaching-stop, reaching-next, reaching-all}
+use Rattle.text_lines.proofs.Reaching.{Reaching}
 use Rattle.text_lines.proofs.line_end.Given as goal
 
 abbrev pub invariant-loop-i : goal.invariant-loop-i

@@ -1,8 +1,6 @@
 -- `transfers::pobierz` meets its contract.
-use borrow.Author.Rules.{rules}
 use native.Mathlib.Omega.{arith}
 use lib.ListN.{length-take}
-use borrow.Author.Tests.{not-true, not-false}
 use Rattle.layout.proofs.ComponentLaws.{whole-components}
 use Rattle.transfers.proofs.Rooms.{left_most}
 use Rattle.transfers.proofs.Fetching.{pobierz-none, starts, parts_most, chars_most, first, pobierz-full, pobierz-writable, pobierz-done}

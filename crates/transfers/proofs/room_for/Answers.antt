@@ -1,6 +1,5 @@
 -- `transfers::room_for` meets its contract.
 use native.Mathlib.Omega.{arith}
-use borrow.Author.Tests.{not-true, not-false}
 use Rattle.state.specs.Working.{state_at}
 use Rattle.transfers.proofs.Rooms.{answer-full, answer-records, answer-given, answer-room}
 use Rattle.transfers.proofs.room_for.Goals as goal

@@ -1,5 +1,4 @@
 -- `transfers::wstaw` meets its contract.
-use borrow.Author.Rules.{rules}
 use native.Mathlib.Omega.{arith}
 use lib.ListN.{length-take}
 use Rattle.transfers.proofs.Rooms.{left_most}

@@ -1,6 +1,5 @@
 -- `translating::convert` meets its contract.
 use borrow.Author.Rules.{rules}
-use borrow.Author.Tests.{not-true, not-false}
 use mathlib.Core.Path.{sym, ◌∙◌}
 use Rattle.translating.proofs.Outcomes.{long-gives, untaken-gives}
 use Rattle.translating.proofs.convert.Goals as goal

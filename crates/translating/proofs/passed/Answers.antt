@@ -1,7 +1,6 @@
 -- `translating::passed` meets its contract.
 use native.Mathlib.Omega.{arith}
 use borrow.Author.Rules.{rules}
-use borrow.Author.Tests.{not-true, not-false}
 use Rattle.translating.proofs.Passes.{item_passed, operator-passed}
 use Rattle.translating.proofs.passed.Goals as goal
 

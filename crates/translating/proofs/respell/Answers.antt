@@ -1,9 +1,6 @@
 -- `translating::respell` meets its contract. The invariant: the text is read and written as far as p tells.
 use native.Mathlib.Omega.{arith}
-use mathlib.Core.Path.{◌≡◌, refl, ◌∙◌}
-use Prim.Native.Nat.{◌-◌}
-use lib.ListN.{length}
-use Rattle.translating.specs.Translating.{Reached}
+use mathlib.Core.Path.{refl, ◌∙◌}
 use Rattle.translating.proofs.Passes.{reached-none, reached-last}
 use Rattle.translating.proofs.respell.Goals as goal
 

@@ -1,10 +1,8 @@
 -- `translating::respell` meets its contract. The invariant: the text is read and written as far as p tells.
-use native.Mathlib.Omega.{arith}
-use mathlib.Core.Path.{◌≡◌, refl, ◌∙◌}
+use mathlib.Core.Path.{◌≡◌}
 use Prim.Native.Nat.{◌-◌}
 use lib.ListN.{length}
 use Rattle.translating.specs.Translating.{Reached}
-use Rattle.translating.proofs.Passes.{reached-none, reached-last}
 use Rattle.translating.proofs.respell.Given as goal
 
 abbrev pub invariant-loop-t : goal.invariant-loop-t

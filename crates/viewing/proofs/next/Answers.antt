@@ -1,6 +1,5 @@
 -- `viewing::next` meets its contract.
 use Rattle.viewing.proofs.Strings.{next-told}
-use borrow.Author.Rules.{rules}
 use Rattle.viewing.proofs.next.Goals as goal
 
 pub returns : goal.returns

@@ -1,6 +1,5 @@
 -- `viewing::output` meets its contract.
 use mathlib.Core.Path.{refl}
-use borrow.Author.Rules.{rules}
 use Rattle.viewing.proofs.Strings.{outputs-lie, output-shown}
 use Rattle.viewing.proofs.output.Goals as goal
 

@@ -1,9 +1,7 @@
 -- `viewing::string_at` meets its contract.
-use Prim.Native.Nat.{◌-◌}
-use Rattle.viewing.proofs.Strings.{Passing, passing-none, turn, passing-more, last_turn, string-told}
+use Rattle.viewing.proofs.Strings.{passing-none, turn, passing-more, last_turn, string-told}
 use Rattle.packing.proofs.Reading.{packed-long}
 use native.Mathlib.Omega.{arith}
-use borrow.Author.Rules.{rules}
 use Rattle.viewing.proofs.string_at.Goals as goal
 
 pub loop-j-init : goal.loop-j-init

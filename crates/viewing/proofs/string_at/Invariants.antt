@@ -1,9 +1,6 @@
 -- `viewing::string_at` meets its contract.
 use Prim.Native.Nat.{◌-◌}
-use Rattle.viewing.proofs.Strings.{Passing, passing-none, turn, passing-more, last_turn, string-told}
-use Rattle.packing.proofs.Reading.{packed-long}
-use native.Mathlib.Omega.{arith}
-use borrow.Author.Rules.{rules}
+use Rattle.viewing.proofs.Strings.{Passing}
 use Rattle.viewing.proofs.string_at.Given as goal
 
 abbrev pub invariant-loop-j : goal.invariant-loop-j

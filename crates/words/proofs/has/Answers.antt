@@ -1,10 +1,6 @@
 -- `words::has` meets its contract.
-use mathlib.Core.Path.{◌≡◌, refl, sym, ◌∙◌}
-use mathlib.Core.Bool.{◌||◌}
-use Prim.Native.Nat.{◌≤◌, ◌-◌}
+use mathlib.Core.Path.{refl, sym, ◌∙◌}
 use lib.Dec.{eqb}
-use lib.ListN.{length, drop}
-use Rattle.syntax.specs.Below.Lists.{among, any}
 use Rattle.words.proofs.Loops.{any_next, any-end}
 use borrow.Author.Rules.{rules}
 use Rattle.words.proofs.has.Goals as goal

@@ -1,12 +1,10 @@
 -- `words::has` meets its contract.
-use mathlib.Core.Path.{◌≡◌, refl, sym, ◌∙◌}
+use mathlib.Core.Path.{◌≡◌}
 use mathlib.Core.Bool.{◌||◌}
 use Prim.Native.Nat.{◌≤◌, ◌-◌}
 use lib.Dec.{eqb}
 use lib.ListN.{length, drop}
 use Rattle.syntax.specs.Below.Lists.{among, any}
-use Rattle.words.proofs.Loops.{any_next, any-end}
-use borrow.Author.Rules.{rules}
 use Rattle.words.proofs.has.Given as goal
 
 abbrev pub invariant-loop-i : goal.invariant-loop-i

@@ -1,13 +1,11 @@
 -- `words::identifier` meets its contract. The invariant: what was found of the first i bytes, and the rest, is the whole.
-use mathlib.Core.Path.{◌≡◌, sym, ap, ◌∙◌}
+use mathlib.Core.Path.{◌≡◌}
 use mathlib.Core.Bool.{◌&&◌, ◌||◌}
 use Prim.Native.Nat.{◌≤◌, ◌-◌}
 use lib.ListN.{length, drop}
 use Rattle.syntax.specs.Below.Characters.{is_capital, is_digit}
 use Rattle.syntax.specs.Below.Program.{identifier}
 use Rattle.syntax.specs.Below.Lists.{all}
-use Rattle.words.proofs.Loops.{none, identifier-starts, all-next, all_end}
-use borrow.Author.Rules.{rules}
 use Rattle.words.proofs.identifier.Given as goal
 
 abbrev pub invariant-loop-i : goal.invariant-loop-i

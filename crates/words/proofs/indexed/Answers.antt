@@ -1,5 +1,4 @@
 -- `words::indexed` meets its contract: a letter, and digits after it that are no more than its indices and do not begin with 0.
-use Rattle.words.specs.Words.{size_of}
 use Rattle.words.proofs.Numbers.{rest_of}
 use Rattle.words.proofs.Indices.{indexed-short, indexed-other, indexed-zero, indexed-beyond, indexed-found}
 use borrow.Author.Rules.{rules}

@@ -1,12 +1,10 @@
 -- `words::is_class` meets its contract.
-use mathlib.Core.Path.{◌≡◌, sym, ◌∙◌}
+use mathlib.Core.Path.{◌≡◌}
 use mathlib.Core.Bool.{◌&&◌}
 use Prim.Native.Nat.{◌≤◌, ◌-◌}
 use lib.ListN.{length, drop}
 use Rattle.syntax.specs.Below.Lists.{all}
 use Rattle.words.specs.Words.{class_letter, is_class}
-use Rattle.words.proofs.Loops.{filled-length, all-next, all_end}
-use borrow.Author.Rules.{rules}
 use Rattle.words.proofs.is_class.Given as goal
 
 abbrev pub invariant-loop-i : goal.invariant-loop-i

@@ -1,10 +1,9 @@
 -- `words::size_of` meets its contract. The invariant: the size so far and the digits still to come give the whole.
-use mathlib.Core.Path.{◌≡◌, sym, ◌∙◌}
+use mathlib.Core.Path.{◌≡◌}
 use Prim.Native.Nat.{◌≤◌, ◌-◌}
 use lib.ListN.{length, drop}
 use Rattle.words.specs.Words.{beyond, size_of}
-use Rattle.words.proofs.Numbers.{size_from, size_none, size-starts, size-stops, size-goes, size-ends, digit_low, digit-high, digit}
-use borrow.Author.Rules.{rules}
+use Rattle.words.proofs.Numbers.{size_from}
 use Rattle.words.proofs.size_of.Given as goal
 
 abbrev pub invariant-loop-i : goal.invariant-loop-i

@@ -1,5 +1,4 @@
 -- `writing::clear_table` meets its contract.
-use borrow.Author.Rules.{rules}
 use Rattle.writing.proofs.Rooms.{cleared-holds}
 use Rattle.writing.proofs.clear_table.Goals as goal
 

@@ -1,5 +1,4 @@
 -- `writing::put_entry` meets its contract.
-use borrow.Author.Rules.{rules}
 use native.Mathlib.Omega.{arith}
 use Rattle.writing.proofs.Settled.{entry_done, last-read}
 use Rattle.writing.proofs.put_entry.Goals as goal

@@ -1,5 +1,4 @@
 -- `writing::put_instruction` meets its contract.
-use borrow.Author.Rules.{rules}
 use native.Mathlib.Omega.{arith}
 use Rattle.writing.proofs.Held.{instr-done}
 use Rattle.writing.proofs.put_instruction.Goals as goal

@@ -1,5 +1,4 @@
 -- `writing::put_label` meets its contract.
-use borrow.Author.Rules.{rules}
 use native.Mathlib.Omega.{arith}
 use Rattle.writing.specs.Writing.{label_of}
 use Rattle.writing.proofs.Held.{below_of, label-done}

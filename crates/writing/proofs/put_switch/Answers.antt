@@ -1,5 +1,4 @@
 -- `writing::put_switch` meets its contract.
-use borrow.Author.Rules.{rules}
 use native.Mathlib.Omega.{arith}
 use Rattle.writing.proofs.Settled.{switch-done}
 use Rattle.writing.proofs.put_switch.Goals as goal

@@ -1,5 +1,4 @@
 -- `writing::put_text` meets its contract.
-use borrow.Author.Rules.{rules}
 use native.Mathlib.Omega.{arith}
 use Rattle.writing.proofs.Held.{below_of, text-done}
 use Rattle.writing.proofs.put_text.Goals as goal

@@ -1,5 +1,4 @@
 -- `writing::set_argument` meets its contract.
-use borrow.Author.Rules.{rules}
 use native.Mathlib.Omega.{arith}
 use Rattle.writing.proofs.Settled.{argument-done}
 use Rattle.writing.proofs.set_argument.Goals as goal

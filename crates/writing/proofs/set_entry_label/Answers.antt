@@ -1,5 +1,4 @@
 -- `writing::set_entry_label` meets its contract.
-use borrow.Author.Rules.{rules}
 use Rattle.writing.proofs.Settled.{relabelled-done}
 use Rattle.writing.proofs.set_entry_label.Goals as goal
 
