@@ -1,5 +1,4 @@
 -- `finishing::last_place` meets its contract.
-use borrow.Author.Rules.{rules}
 use mathlib.Core.Path.{sym, ap}
 use Prim.Native.Nat.{pred}
 use Rattle.finishing.proofs.Ending.{pred-less}
@@ -7,9 +6,6 @@ use Rattle.finishing.proofs.last_place.Goals as goal
 
 pub returns-then-text-eq0 : goal.returns-then-text-eq0
 returns-then-text-eq0 c = sym (ap pred c.if-text-eq0.true)
-
-pub overflow_sub-result : goal.overflow_sub-result
-overflow_sub-result c = search rules
 
 pub returns : goal.returns
 returns c = pred-less _

@@ -1,5 +1,4 @@
 -- `linking::argument_fault` meets its contract.
-use borrow.Author.Rules.{rules}
 use native.Mathlib.Omega.{arith}
 use Rattle.linking.proofs.Uses.{argument-other, argument-noted}
 use Rattle.linking.proofs.argument_fault.Goals as goal
@@ -19,9 +18,6 @@ overflow_add-k-3 c = let a = c.requires in omega (arith, a.at.there, a.at.asking
 pub read-x-requires : goal.read-x-requires
 read-x-requires c = let a = c.requires in omega (arith, a.at.there, a.at.asking.holds.tabular.code_most, a.place, a.at.asking.holds.long)
 
-pub rebuilt-requires : goal.rebuilt-requires
-rebuilt-requires c = search rules
-
 pub returns-then-x-kind : goal.returns-then-x-kind
 returns-then-x-kind c =
     let a = c.args in
@@ -30,9 +26,6 @@ returns-then-x-kind c =
 
 pub is_known-requires : goal.is_known-requires
 is_known-requires c = c.requires.at.asking
-
-pub note-requires : goal.note-requires
-note-requires c = search rules
 
 pub returns : goal.returns
 returns c = argument-noted c.args.text.now c.args.sw.now c.args.table.now c.args.kind c.args.named c.args.k c.args.j c.args.f c.read-x.result (c.requires) c.read-x.ensures.is c.if-x-kind.false c.is_known.ensures c.note.ensures

@@ -1,5 +1,4 @@
 -- `linking::code_fault` meets its contract.
-use borrow.Author.Rules.{rules}
 use native.Mathlib.Omega.{arith}
 use Rattle.linking.proofs.Faults.{code-first, code-asked, code-next, code-over}
 use Rattle.linking.proofs.code_fault.Goals as goal
@@ -12,9 +11,6 @@ loop-k-init c = let a = c.args in code-first a.text.now a.sw.now a.table.now a.k
 
 pub instruction_fault-g-requires : goal.instruction_fault-g-requires
 instruction_fault-g-requires c = code-asked c.instructions-n.result c.loop-k.k c.requires c.instructions-n.ensures.is c.loop-k-test.true
-
-pub overflow_add-k : goal.overflow_add-k
-overflow_add-k c = search rules
 
 pub loop-k-smaller : goal.loop-k-smaller
 loop-k-smaller c = omega (arith, c.loop-k-test.true)

@@ -1,5 +1,4 @@
 -- `linking::entries_fault` meets its contract.
-use borrow.Author.Rules.{rules}
 use native.Mathlib.Omega.{arith}
 use mathlib.Core.Bool.{true}
 use Rattle.writing.proofs.Held.{entry_count}
@@ -18,12 +17,6 @@ read-m-requires c = omega (arith, c.loop-k-test.true, c.entries-n.ensures.is, en
 
 pub is_known-fine-requires : goal.is_known-fine-requires
 is_known-fine-requires c = asking c.requires
-
-pub note-g-requires : goal.note-g-requires
-note-g-requires c = search rules
-
-pub overflow_add-k : goal.overflow_add-k
-overflow_add-k c = search rules
 
 pub loop-k-smaller : goal.loop-k-smaller
 loop-k-smaller c = omega (arith, c.loop-k-test.true)

@@ -1,5 +1,4 @@
 -- `linking::has_switch` meets its contract.
-use borrow.Author.Rules.{rules}
 use native.Mathlib.Omega.{arith}
 use mathlib.Core.Path.{◌≡◌, sym, ◌∙◌}
 use Rattle.finding.proofs.Found.{missed-none, missed_more}
@@ -16,17 +15,11 @@ loop-k-init c = let a = c.args in (omega arith, missed-none (switch_hit a.text.n
 pub read-requires : goal.read-requires
 read-requires c = omega (arith, c.loop-k-test.true, switches_fit c.switches-n.result c.requires c.switches-n.ensures.is, c.requires.room)
 
-pub same_name-requires : goal.same_name-requires
-same_name-requires c = search rules
-
 pub switch_by_name-requires : goal.switch_by_name-requires
 switch_by_name-requires c = record { long = c.requires.holds.long; below = omega (arith, c.loop-k-test.true, switches_fit c.switches-n.result c.requires c.switches-n.ensures.is, c.requires.room) }
 
 pub returns-then-same_name-named : goal.returns-then-same_name-named
 returns-then-same_name-named c = switch-found c.args.text.now c.args.table.now c.args.sw.now c.args.named c.args.m c.switches-n.result c.loop-k.k c.switches-n.ensures.is c.requires.room c.loop-k-test.true (sym (hit-is c.args.text.now c.args.table.now c.args.sw.now c.args.named c.args.m c.loop-k.k c.read.result c.read.ensures.is c.same_name.ensures c.switch_by_name.ensures) ∙ c.if-same_name-named.true)
-
-pub overflow_add-k : goal.overflow_add-k
-overflow_add-k c = search rules
 
 pub loop-k-smaller : goal.loop-k-smaller
 loop-k-smaller c = omega (arith, c.loop-k-test.true)

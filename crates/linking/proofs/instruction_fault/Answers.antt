@@ -1,5 +1,4 @@
 -- `linking::instruction_fault` meets its contract.
-use borrow.Author.Rules.{rules}
 use native.Mathlib.Omega.{arith}
 use mathlib.Core.Path.{sym, ◌∙◌}
 use Rattle.linking.proofs.Uses.{instr-other, instr-noted}
@@ -7,9 +6,6 @@ use Rattle.linking.proofs.instruction_fault.Goals as goal
 
 pub operator-requires : goal.operator-requires
 operator-requires c = let a = c.requires in record { long = a.asking.holds.long; below = omega (arith, a.there, a.asking.holds.tabular.code_most) }
-
-pub is_asked-requires : goal.is_asked-requires
-is_asked-requires c = search rules
 
 pub argument_fault-a-requires : goal.argument_fault-a-requires
 argument_fault-a-requires c = record { at = c.requires; place = omega arith }
@@ -22,9 +18,6 @@ argument_fault-requires c = record { at = c.requires; place = omega arith }
 
 pub returns-then-is_asked : goal.returns-then-is_asked
 returns-then-is_asked c = instr-noted c.args.text.now c.args.sw.now c.args.table.now c.args.kind c.args.named c.args.k c.args.f (c.requires) c.operator.result c.operator.ensures.is (sym c.is_asked.ensures ∙ c.if-is_asked.true) c.argument_fault-a.ensures c.argument_fault-b.ensures c.argument_fault.ensures
-
-pub rebuilt-requires : goal.rebuilt-requires
-rebuilt-requires c = search rules
 
 pub returns : goal.returns
 returns c =

@@ -1,18 +1,11 @@
 -- `linking::note` meets its contract.
 use mathlib.Core.Path.{◌∙◌}
-use borrow.Author.Rules.{rules}
 use Rattle.drafts.specs.Marks.{place_by}
 use Rattle.linking.proofs.Faults.{joined-none, joined-one}
 use Rattle.linking.proofs.note.Goals as goal
 
-pub rebuilt-requires : goal.rebuilt-requires
-rebuilt-requires c = search rules
-
 pub returns-then-fine : goal.returns-then-fine
 returns-then-fine c = rw c.if-fine.true (c.rebuilt.ensures ∙ joined-none c.args.f)
-
-pub lower-requires : goal.lower-requires
-lower-requires c = search rules
 
 pub returns : goal.returns
 returns c =

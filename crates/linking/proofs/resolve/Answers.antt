@@ -1,5 +1,4 @@
 -- `linking::resolve` meets its contract.
-use borrow.Author.Rules.{rules}
 use Rattle.linking.proofs.Answers.{no_label, no_switch, entries-labelled, all-linked}
 use Rattle.linking.proofs.Faults.{asking}
 use Rattle.linking.proofs.resolve.Goals as goal
@@ -8,7 +7,7 @@ pub undeclared_label-f-requires : goal.undeclared_label-f-requires
 undeclared_label-f-requires c = c.requires
 
 pub undeclared_switch-g-requires : goal.undeclared_switch-g-requires
-undeclared_switch-g-requires c = search rules
+undeclared_switch-g-requires c = c.requires
 
 pub resolve_code-requires : goal.resolve_code-requires
 resolve_code-requires c = asking c.requires

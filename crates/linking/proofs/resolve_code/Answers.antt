@@ -1,5 +1,4 @@
 -- `linking::resolve_code` meets its contract.
-use borrow.Author.Rules.{rules}
 use native.Mathlib.Omega.{arith}
 use mathlib.Core.Path.{refl, ◌∙◌}
 use lib.ListN.{length}
@@ -17,9 +16,6 @@ loop-k-init c = let a = c.args in (omega arith, (refl, all_first (instr_resolved
 
 pub resolve_instruction-requires : goal.resolve_instruction-requires
 resolve_instruction-requires c = asking-after (code-long c.args.text.now c.args.sw.now c.loop-k.k) (code-asked c.instructions-n.result c.loop-k.k c.requires c.instructions-n.ensures.is c.loop-k-test.true) c.loop-k.invariant.1.1
-
-pub overflow_add-k : goal.overflow_add-k
-overflow_add-k c = search rules
 
 pub loop-k-smaller : goal.loop-k-smaller
 loop-k-smaller c = omega (arith, c.loop-k-test.true)

@@ -1,5 +1,4 @@
 -- `linking::resolve_entries` meets its contract.
-use borrow.Author.Rules.{rules}
 use native.Mathlib.Omega.{arith}
 use mathlib.Core.Path.{refl, ◌∙◌}
 use lib.ListN.{length}
@@ -24,9 +23,6 @@ label_place-v-requires c = labels-counted _ _ (c.loop-k.invariant.1.1.holds c.re
 
 pub set_entry_label-requires : goal.set_entry_label-requires
 set_entry_label-requires c = entry_ready c.args.text.now c.args.en.now c.entries-n.result c.loop-k.k c.entries-n.ensures.is c.requires c.loop-k-test.true c.read.result c.label_place-v.result c.read.ensures.is c.loop-k.invariant.1.1 c.label_place-v.ensures
-
-pub overflow_add-k : goal.overflow_add-k
-overflow_add-k c = search rules
 
 pub loop-k-smaller : goal.loop-k-smaller
 loop-k-smaller c = omega (arith, c.loop-k-test.true)

@@ -1,5 +1,4 @@
 -- `linking::switch_place` meets its contract.
-use borrow.Author.Rules.{rules}
 use native.Mathlib.Omega.{arith}
 use mathlib.Core.Path.{◌≡◌, sym, ◌∙◌}
 use Rattle.finding.proofs.Found.{missed-none, missed_more}
@@ -12,14 +11,8 @@ loop-k-init c = let a = c.args in (omega arith, missed-none (name_hit a.text.now
 pub read-requires : goal.read-requires
 read-requires c = omega (arith, c.loop-k-test.true, c.requires)
 
-pub same_name-requires : goal.same_name-requires
-same_name-requires c = search rules
-
 pub returns-then-same_name : goal.returns-then-same_name
 returns-then-same_name c = place_found c.args.text.now c.args.sw.now c.args.m c.args.count c.loop-k.k (c.requires) c.loop-k.invariant.1 c.loop-k-test.true (sym (rw c.read.ensures.is at c.same_name.ensures) ∙ c.if-same_name.true)
-
-pub overflow_add-k : goal.overflow_add-k
-overflow_add-k c = search rules
 
 pub loop-k-smaller : goal.loop-k-smaller
 loop-k-smaller c = omega (arith, c.loop-k-test.true)

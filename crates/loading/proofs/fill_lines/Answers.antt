@@ -2,7 +2,6 @@
 use native.Mathlib.Omega.{arith}
 use lib.Dec.{eqb}
 use lib.ListN.{get_or}
-use borrow.Author.Rules.{rules}
 use Rattle.scanner.proofs.Loops.{at_most_one}
 use Rattle.loading.proofs.Filling.{filling-none, line_low, filling-next, filling-all}
 use Rattle.loading.proofs.fill_lines.Goals as goal
@@ -13,25 +12,13 @@ loop-i-init c = let a = c.args in filling-none a.text.now a.lines.now
 pub overflow_cast-lines : goal.overflow_cast-lines
 overflow_cast-lines c = omega (arith, line_low c.requires c.loop-i.invariant)
 
-pub offset_bounds-lines-i : goal.offset_bounds-lines-i
-offset_bounds-lines-i c = search rules
-
 pub bounds-lines-i : goal.bounds-lines-i
 bounds-lines-i c = omega (arith, c.requires.room, c.loop-i.invariant.sized, c.loop-i-test.true)
-
-pub bounds-text-i : goal.bounds-text-i
-bounds-text-i c = search rules
-
-pub one_if-line-requires : goal.one_if-line-requires
-one_if-line-requires c = search rules
 
 pub overflow_add-line : goal.overflow_add-line
 overflow_add-line c =
     let h = c.loop-i in
     omega (arith, line_low c.requires h.invariant, c.one_if-line.ensures, at_most_one (eqb 10 (get_or c.args.text.now h.i 0)))
-
-pub overflow_add-i : goal.overflow_add-i
-overflow_add-i c = search rules
 
 pub loop-i-smaller : goal.loop-i-smaller
 loop-i-smaller c = omega (arith, c.loop-i-test.true)

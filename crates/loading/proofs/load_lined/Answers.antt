@@ -1,15 +1,14 @@
 -- `loading::load_lined` meets its contract.
-use borrow.Author.Rules.{rules}
 use native.Mathlib.Omega.{arith}
 use mathlib.Core.Path.{refl}
-use Rattle.loading.proofs.Outcomes.{load-accepted, load-refused}
+use Rattle.loading.proofs.Outcomes.{loadable, load-accepted, load-refused}
 use Rattle.loading.proofs.load_lined.Goals as goal
 
 pub clear_table-requires : goal.clear_table-requires
-clear_table-requires c = search rules
+clear_table-requires c = c.requires.long
 
 pub load_text-requires : goal.load_text-requires
-load_text-requires c = search rules
+load_text-requires c = loadable c.requires c.clear_table.ensures
 
 pub refuse-requires : goal.refuse-requires
 refuse-requires c = omega (arith, c.requires.long)

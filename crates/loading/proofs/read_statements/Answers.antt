@@ -1,28 +1,21 @@
 -- `loading::read_statements` meets its contract.
-use borrow.Enum.Refused.{opened}
-use borrow.Author.Rules.{rules}
+use borrow.Enum.Refused.{opened as unsealed}
 use native.Mathlib.Omega.{arith}
 use mathlib.Core.Path.{refl, ◌∙◌}
-use Rattle.loading.proofs.Walking.{other, going-none, going-refused, going-last, going_next}
+use Rattle.loading.proofs.Walking.{other, going-none, readable, going-refused, going-last, going_next}
 use Rattle.loading.proofs.read_statements.Goals as goal
-
-pub begin-p-requires : goal.begin-p-requires
-begin-p-requires c = search rules
 
 pub loop-q-init : goal.loop-q-init
 loop-q-init c = record { going = going-none c.requires c.begin-p.ensures; names_is = refl; table_is = refl; switches_is = refl; entries_is = refl }
 
 pub read_statement-a-requires : goal.read_statement-a-requires
-read_statement-a-requires c = search rules
+read_statement-a-requires c = readable c.loop-q.invariant.going
 
 pub returns-in_default : goal.returns-in_default
-returns-in_default c = going-refused c.loop-q.invariant.going c.read_statement-a.ensures (other _ (opened c.in_default.in_default-own.keys2))
+returns-in_default c = going-refused c.loop-q.invariant.going c.read_statement-a.ensures (other _ (unsealed c.in_default.in_default-own.keys2))
 
 pub returns-then-a : goal.returns-then-a
 returns-then-a c = going-last c.loop-q.invariant.going c.read_statement-a.ensures c.in-Statement.q c.in-Statement.is c.if-a.true
-
-pub renewed-p-requires : goal.renewed-p-requires
-renewed-p-requires c = search rules
 
 pub loop-q-smaller : goal.loop-q-smaller
 loop-q-smaller c =

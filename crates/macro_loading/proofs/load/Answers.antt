@@ -1,24 +1,17 @@
 -- `macro_loading::load` meets its contract.
-use borrow.Author.Rules.{rules}
 use mathlib.Core.Path.{refl, sym, ◌∙◌}
-use Rattle.macro_loading.proofs.Outcomes.{long_text, loads-accepted, loads-plain, rewritable, loads-written}
+use Rattle.macro_loading.proofs.Outcomes.{short-table, long_text, loads-accepted, loads-plain, rewritable, loads-written}
 use Rattle.macro_loading.proofs.load.Goals as goal
 
 pub returns-then-table-lt-TABLE : goal.returns-then-table-lt-TABLE
-returns-then-table-lt-TABLE c = long_text c.args.text.now c.args.table.now c.if-table-lt-TABLE.false c.if-table-lt-TABLE.true refl refl
+returns-then-table-lt-TABLE c = short-table c.args.text.now c.args.table.now c.if-table-lt-TABLE.true refl refl
 
 pub returns-then-text-gt-TEXT : goal.returns-then-text-gt-TEXT
-returns-then-text-gt-TEXT c = search rules
-
-pub load_typed-typed-requires : goal.load_typed-typed-requires
-load_typed-typed-requires c = search rules
+returns-then-text-gt-TEXT c = long_text c.args.text.now c.args.table.now c.if-table-lt-TABLE.false c.if-text-gt-TEXT.true refl refl
 
 pub returns-then-typed-eq80 : goal.returns-then-typed-eq80
 returns-then-typed-eq80 c =
     loads-accepted (record { short = c.if-text-gt-TEXT.false; long = c.if-table-lt-TABLE.false }) c.load_typed-typed.ensures c.if-typed-eq80.true
-
-pub has_macros-requires : goal.has_macros-requires
-has_macros-requires c = search rules
 
 pub returns-then-not-has_macros : goal.returns-then-not-has_macros
 returns-then-not-has_macros c =

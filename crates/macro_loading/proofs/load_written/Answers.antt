@@ -1,31 +1,21 @@
 -- `macro_loading::load_written` meets its contract.
-use borrow.Author.Rules.{rules}
 use native.Mathlib.Omega.{arith}
 use mathlib.Core.Path.{refl, sym}
 use lib.Seq.{length-take-le}
 use Rattle.macro_loading.proofs.Outcomes.{unfit-leaves, within, lent, ready-leaves}
 use Rattle.macro_loading.proofs.load_written.Goals as goal
 
-pub slice_bounds-prepare-end : goal.slice_bounds-prepare-end
-slice_bounds-prepare-end c = search rules
-
-pub slice_bounds-prepare-end-2 : goal.slice_bounds-prepare-end-2
-slice_bounds-prepare-end-2 c = search rules
-
-pub slice_bounds-prepare-end-3 : goal.slice_bounds-prepare-end-3
-slice_bounds-prepare-end-3 c = search rules
-
 pub prepare-requires : goal.prepare-requires
 prepare-requires c = record { macros = c.requires.macros; short = c.requires.fit.short; room = refl; lines_room = refl; code_room = refl }
 
-pub slice_bounds-code-end : goal.slice_bounds-code-end
-slice_bounds-code-end c = search rules
-
 pub slice_bounds-names-end : goal.slice_bounds-names-end
-slice_bounds-names-end c = search rules
+slice_bounds-names-end c =
+    sym (length-take-le 32768 c.prepare.new.code (omega (arith, c.prepare.ensures.code_size)))
 
 pub slice_bounds-out-end : goal.slice_bounds-out-end
-slice_bounds-out-end c = search rules
+slice_bounds-out-end c =
+    let n = c.n-1.given in
+    omega (arith, within c.requires c.prepare.ensures n.0.0 n.1, c.prepare.ensures.size)
 
 pub slice_bounds-load_lined-end : goal.slice_bounds-load_lined-end
 slice_bounds-load_lined-end c =

@@ -2,14 +2,5 @@
 use borrow.Author.Rules.{rules}
 use Rattle.macro_preparing.proofs.expand.Goals as goal
 
-pub slice_bounds-expand_in-end : goal.slice_bounds-expand_in-end
-slice_bounds-expand_in-end c = search rules
-
-pub slice_bounds-expand_in-end-2 : goal.slice_bounds-expand_in-end-2
-slice_bounds-expand_in-end-2 c = search rules
-
 pub expand_in-requires : goal.expand_in-requires
 expand_in-requires c = record { lent = record { passed = c.requires.passed; cells = c.requires.cells; names = search rules; heights = search rules }; places = c.requires.lines_room }
-
-pub returns : goal.returns
-returns c = search rules

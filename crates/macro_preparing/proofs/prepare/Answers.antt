@@ -1,17 +1,7 @@
 -- `macro_preparing::prepare` meets its contract.
-use borrow.Author.Rules.{rules}
 use native.Mathlib.Omega.{arith}
 use Rattle.macro_preparing.proofs.Expanding.{passes, refuses-whole, prepares}
 use Rattle.macro_preparing.proofs.prepare.Goals as goal
-
-pub mark-requires : goal.mark-requires
-mark-requires c = search rules
-
-pub ask_marked-requires : goal.ask_marked-requires
-ask_marked-requires c = search rules
-
-pub refuse-requires : goal.refuse-requires
-refuse-requires c = search rules
 
 pub write_out-requires : goal.write_out-requires
 write_out-requires c = passes c.requires c.ask_marked.result c.ask_marked.ensures c.mark.ensures (omega (arith, c.requires.room)) c.in-Yes.is

@@ -1,14 +1,7 @@
 -- `macro_preparing::write_out` meets its contract.
-use borrow.Author.Rules.{rules}
 use native.Mathlib.Omega.{arith}
 use Rattle.macro_preparing.proofs.Expanding.{in_order, written-ready, written-unfit}
 use Rattle.macro_preparing.proofs.write_out.Goals as goal
-
-pub expand-e-requires : goal.expand-e-requires
-expand-e-requires c = search rules
-
-pub refuse-requires : goal.refuse-requires
-refuse-requires c = search rules
 
 pub place_lines-requires : goal.place_lines-requires
 place_lines-requires c = in_order c.expand-e.ensures c.requires.passed (omega (arith, c.requires.lines_room)) c.in-Yes.is

@@ -1,5 +1,4 @@
 -- `names::first_repeated` meets its contract.
-use borrow.Author.Rules.{rules}
 use native.Mathlib.Omega.{arith}
 use Rattle.names.proofs.Lowest.{walk-done, repeated_in, repeating-first, repeating-more}
 use Rattle.names.proofs.first_repeated.Goals as goal
@@ -12,12 +11,6 @@ met_before-requires c =
     let p = c.requires in
     let l = c.loop-k-test.true in
     record { most = omega (arith, p.most); marked = λ j h. p.marked j (omega arith) }
-
-pub lower-fault-requires : goal.lower-fault-requires
-lower-fault-requires c = search rules
-
-pub overflow_add-k : goal.overflow_add-k
-overflow_add-k c = search rules
 
 pub loop-k-smaller : goal.loop-k-smaller
 loop-k-smaller c = omega (arith, c.loop-k-test.true)

@@ -1,5 +1,4 @@
 -- `names::first_reserved` meets its contract.
-use borrow.Author.Rules.{rules}
 use mathlib.Core.Path.{sym, subst}
 use native.Mathlib.Omega.{arith}
 use Rattle.drafts.specs.Marks.{Marked}
@@ -17,12 +16,6 @@ pub own_reserved-requires : goal.own_reserved-requires
 own_reserved-requires c =
     let p = c.requires in
     subst (Marked c.args.text.now) (sym c.read.ensures.is) (p.marked c.loop-k.k c.loop-k-test.true)
-
-pub lower-fault-requires : goal.lower-fault-requires
-lower-fault-requires c = search rules
-
-pub overflow_add-k : goal.overflow_add-k
-overflow_add-k c = search rules
 
 pub loop-k-smaller : goal.loop-k-smaller
 loop-k-smaller c = omega (arith, c.loop-k-test.true)

@@ -1,5 +1,4 @@
 -- `names::has_name` meets its contract.
-use borrow.Author.Rules.{rules}
 use native.Mathlib.Omega.{arith}
 use Rattle.names.proofs.Seeking.{seeking-first, fitting, seek_found, seek-on, seek-none}
 use Rattle.names.proofs.has_name.Goals as goal
@@ -15,9 +14,6 @@ name_is-requires c = fitting (c.requires) c.loop-k-test.true c.read.ensures.is
 
 pub returns-then-name_is : goal.returns-then-name_is
 returns-then-name_is c = seek_found (c.requires) c.loop-k.invariant c.loop-k-test.true c.read.ensures.is c.name_is.ensures c.if-name_is.true
-
-pub overflow_add-k : goal.overflow_add-k
-overflow_add-k c = search rules
 
 pub loop-k-smaller : goal.loop-k-smaller
 loop-k-smaller c = omega (arith, c.loop-k-test.true)

@@ -1,5 +1,4 @@
 -- `names::lowest_mark` meets its contract.
-use borrow.Author.Rules.{rules}
 use native.Mathlib.Omega.{arith}
 use mathlib.Core.Path.{refl}
 use mathlib.Core.List.{map}
@@ -9,15 +8,6 @@ use Rattle.names.proofs.lowest_mark.Goals as goal
 
 pub loop-k-init : goal.loop-k-init
 loop-k-init c = walk_first (map place_by) c.args.names.now c.args.from c.args.to c.requires refl
-
-pub read-requires : goal.read-requires
-read-requires c = search rules
-
-pub lower-low-requires : goal.lower-low-requires
-lower-low-requires c = search rules
-
-pub overflow_add-k : goal.overflow_add-k
-overflow_add-k c = search rules
 
 pub loop-k-smaller : goal.loop-k-smaller
 loop-k-smaller c = omega (arith, c.loop-k-test.true)

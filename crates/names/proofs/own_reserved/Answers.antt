@@ -1,5 +1,4 @@
 -- `names::own_reserved` meets its contract.
-use borrow.Author.Rules.{rules}
 use native.Mathlib.Omega.{arith}
 use Rattle.names.proofs.Lowest.{own-told}
 use Rattle.names.proofs.own_reserved.Goals as goal
@@ -9,9 +8,6 @@ overflow_add-at c = omega (arith, c.ranges.m)
 
 pub slice_bounds-is_reserved-end : goal.slice_bounds-is_reserved-end
 slice_bounds-is_reserved-end c = omega (arith, c.requires)
-
-pub is_reserved-requires : goal.is_reserved-requires
-is_reserved-requires c = search rules
 
 pub returns-then-is_reserved : goal.returns-then-is_reserved
 returns-then-is_reserved c = own-told c.args.text.now c.args.m c.is_reserved.ensures c.if-is_reserved.true

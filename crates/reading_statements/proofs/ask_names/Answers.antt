@@ -1,23 +1,7 @@
 -- `reading_statements::ask_names` meets its contract.
-use borrow.Author.Rules.{rules}
 use mathlib.Core.Path.{ap, ◌∙◌}
 use Rattle.statements.specs.Faults.{decided, then}
 use Rattle.reading_statements.proofs.ask_names.Goals as goal
-
-pub first_reserved-requires : goal.first_reserved-requires
-first_reserved-requires c = search rules
-
-pub decide-reserved-requires : goal.decide-reserved-requires
-decide-reserved-requires c = search rules
-
-pub first_repeated-requires : goal.first_repeated-requires
-first_repeated-requires c = search rules
-
-pub decide-requires : goal.decide-requires
-decide-requires c = search rules
-
-pub first_of-requires : goal.first_of-requires
-first_of-requires c = search rules
 
 pub returns : goal.returns
 returns c =

@@ -1,17 +1,10 @@
 -- `shortening::line_start` meets its contract.
 use native.Mathlib.Omega.{arith}
 use Rattle.shortening.proofs.LastLine.{scan-begin, scan-more, scan-lf, scan-end}
-use borrow.Author.Rules.{rules}
 use Rattle.shortening.proofs.line_start.Goals as goal
-
-pub overflow_sub-at : goal.overflow_sub-at
-overflow_sub-at c = search rules
 
 pub loop-at-init : goal.loop-at-init
 loop-at-init c = scan-begin c.args.text.now c.args.end c.requires
-
-pub overflow_sub-at-in-loop-at : goal.overflow_sub-at-in-loop-at
-overflow_sub-at-in-loop-at c = search rules
 
 pub bounds-text-at : goal.bounds-text-at
 bounds-text-at c = omega (arith, c.loop-at.invariant.below, c.loop-at.invariant.within)
@@ -19,12 +12,6 @@ bounds-text-at c = omega (arith, c.loop-at.invariant.below, c.loop-at.invariant.
 pub returns-then-text-at-eq10 : goal.returns-then-text-at-eq10
 returns-then-text-at-eq10 c =
     scan-lf c.args.text.now c.args.end c.loop-at.invariant c.loop-at-test.true c.if-text-at-eq10.true
-
-pub overflow_sub-at-in-loop-at-2 : goal.overflow_sub-at-in-loop-at-2
-overflow_sub-at-in-loop-at-2 c = search rules
-
-pub loop-at-smaller : goal.loop-at-smaller
-loop-at-smaller c = search rules
 
 pub loop-at-preserved : goal.loop-at-preserved
 loop-at-preserved c =

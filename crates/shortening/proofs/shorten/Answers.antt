@@ -2,22 +2,15 @@
 use mathlib.Core.Path.{refl}
 use native.Mathlib.Omega.{arith}
 use Rattle.shortening.proofs.Giving.{buffer-40, load-40, text-short, given_back, refused-text, refused-given}
-use borrow.Author.Rules.{rules}
 use Rattle.shortening.proofs.shorten.Goals as goal
 
 pub returns-then-out-text : goal.returns-then-out-text
 returns-then-out-text c =
     buffer-40 c.args.text.now c.args.table.now c.args.out.now c.if-out-text.true refl refl
 
-pub load-r-requires : goal.load-r-requires
-load-r-requires c = search rules
-
 pub returns-then-r-eq40 : goal.returns-then-r-eq40
 returns-then-r-eq40 c =
     load-40 c.args.text.now c.args.table.now c.args.out.now c.load-r.ensures c.if-r-eq40.true refl refl
-
-pub put-requires : goal.put-requires
-put-requires c = search rules
 
 pub overflow_cast-result : goal.overflow_cast-result
 overflow_cast-result c =

@@ -1,18 +1,12 @@
 -- `shortening::shorten_refused` meets its contract.
 use native.Mathlib.Omega.{arith}
 use mathlib.Core.Path.{sym}
-use Rattle.shortening.proofs.Giving.{table-long, first-cells, fits-row, tryable, within-row, part-written}
-use borrow.Author.Rules.{rules}
+use lib.Seq.{length-take-le}
+use Rattle.shortening.proofs.Giving.{table-long, first-cells, fits-row, tryable, within-row, givable, part-written}
 use Rattle.shortening.proofs.shorten_refused.Goals as goal
-
-pub slice_bounds-put-end : goal.slice_bounds-put-end
-slice_bounds-put-end c = search rules
 
 pub put-requires : goal.put-requires
 put-requires c = fits-row c.args.table.now c.requires
-
-pub slice_bounds-rounds-end : goal.slice_bounds-rounds-end
-slice_bounds-rounds-end c = search rules
 
 pub slice_bounds-rounds-end-2 : goal.slice_bounds-rounds-end-2
 slice_bounds-rounds-end-2 c =
@@ -31,10 +25,12 @@ slice_bounds-part-end c =
     within-row c.args.table.now c.requires (omega arith) c.put.ensures c.rounds-size.ensures (omega arith)
 
 pub slice_bounds-give-end : goal.slice_bounds-give-end
-slice_bounds-give-end c = search rules
+slice_bounds-give-end c =
+    sym (length-take-le c.rounds-size.result c.rounds-size.new.part (within-row c.args.table.now c.requires (omega arith) c.put.ensures c.rounds-size.ensures (omega arith)))
 
 pub give-requires : goal.give-requires
-give-requires c = search rules
+give-requires c =
+    givable c.args.table.now c.requires c.put.ensures c.rounds-size.ensures
 
 pub returns : goal.returns
 returns c =

@@ -1,27 +1,13 @@
 -- `shortening::try_without` meets its contract.
 use native.Mathlib.Omega.{arith}
+use lib.ListN.{length-take}
 use mathlib.Core.Path.{refl}
 use Rattle.shortening.proofs.Cutting.{exchangeable-back, dropped, not-dropped}
-use borrow.Author.Rules.{rules}
 use Rattle.shortening.proofs.try_without.Goals as goal
 
-pub overflow_sub-size : goal.overflow_sub-size
-overflow_sub-size c = search rules
-
-pub overflow_add-size : goal.overflow_add-size
-overflow_add-size c = search rules
-
-pub exchange-requires : goal.exchange-requires
-exchange-requires c = search rules
-
-pub slice_bounds-load-end : goal.slice_bounds-load-end
-slice_bounds-load-end c = search rules
-
 pub slice_bounds-load-end-2 : goal.slice_bounds-load-end-2
-slice_bounds-load-end-2 c = search rules
-
-pub load-r-requires : goal.load-r-requires
-load-r-requires c = search rules
+slice_bounds-load-end-2 c =
+    simp length-take (omega (arith, c.requires.some, c.requires.upto, c.requires.tryable.within))
 
 pub returns-then-r-number : goal.returns-then-r-number
 returns-then-r-number c =

@@ -1,15 +1,8 @@
 -- `state_restoring::fill_totals` meets its contract.
-use borrow.Author.Rules.{rules}
 use native.Mathlib.Omega.{arith}
 use Rattle.check_memory.proofs.Steps.{walkable, both-whole}
 use Rattle.state_restoring.proofs.Totals.{not-laid, not_sound, totalled}
 use Rattle.state_restoring.proofs.fill_totals.Goals as goal
-
-pub slice_bounds-starts_of-end : goal.slice_bounds-starts_of-end
-slice_bounds-starts_of-end c = search rules
-
-pub starts_of-end-requires : goal.starts_of-end-requires
-starts_of-end-requires c = search rules
 
 pub returns-then-not-is_laid : goal.returns-then-not-is_laid
 returns-then-not-is_laid c =
@@ -37,15 +30,6 @@ totals-t-requires c =
     let if1 = c.if-not-is_laid in
     let is-sound = c.is_sound in
     both-whole pre starts-of.ensures is-laid.ensures (if1.false) (λ j. omega (arith, slice-known.given j)) is-sound.ensures (c.if-not-is_sound.false)
-
-pub put_three-requires : goal.put_three-requires
-put_three-requires c = search rules
-
-pub put_three-requires-2 : goal.put_three-requires-2
-put_three-requires-2 c = search rules
-
-pub put_three-requires-3 : goal.put_three-requires-3
-put_three-requires-3 c = search rules
 
 pub returns : goal.returns
 returns c =

@@ -1,5 +1,4 @@
 -- `state_restoring::is_saved` meets its contract.
-use borrow.Author.Rules.{rules}
 use native.Mathlib.Omega.{arith}
 use mathlib.Core.Path.{ap, ◌∙◌}
 use Rattle.lists.specs.Lists.{bytes_equal}
@@ -11,9 +10,6 @@ put_saved-n-requires c = (c.requires, omega arith)
 
 pub slice_bounds-same-end : goal.slice_bounds-same-end
 slice_bounds-same-end c = written-length c.put_saved-n.ensures
-
-pub same-requires : goal.same-requires
-same-requires c = search rules
 
 pub returns : goal.returns
 returns c =

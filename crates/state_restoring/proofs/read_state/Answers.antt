@@ -1,11 +1,7 @@
 -- `state_restoring::read_state` meets its contract.
-use borrow.Author.Rules.{rules}
 use mathlib.Core.Path.{refl}
 use Rattle.state_restoring.proofs.Reader.{refused-early, refused-63, refused-68, restorable, refused-69, accepted}
 use Rattle.state_restoring.proofs.read_state.Goals as goal
-
-pub ask-no-requires : goal.ask-no-requires
-ask-no-requires c = search rules
 
 pub returns-then-no-ne0 : goal.returns-then-no-ne0
 returns-then-no-ne0 c =
@@ -16,9 +12,6 @@ pub returns-then-state-lt-STATE : goal.returns-then-state-lt-STATE
 returns-then-state-lt-STATE c =
     let args = c.args in
     refused-63 args.table.now args.i1.now args.i2.now args.text.now args.state.now c.ask-no.ensures c.if-no-ne0.false c.if-state-lt-STATE.true
-
-pub is_sound_text-requires : goal.is_sound_text-requires
-is_sound_text-requires c = search rules
 
 pub returns-then-not-is_sound_text : goal.returns-then-not-is_sound_text
 returns-then-not-is_sound_text c =
@@ -44,9 +37,6 @@ returns-then-not-restore c =
     let is-sound-text = c.is_sound_text in
     let if3 = c.if-not-is_sound_text in
     refused-69 args.table.now args.i1.now args.i2.now args.text.now args.state.now ask.ensures if1.false if2.false is-sound-text.ensures (if3.false) c.restore.ensures (c.if-not-restore.true)
-
-pub slice_bounds-put-end : goal.slice_bounds-put-end
-slice_bounds-put-end c = search rules
 
 pub returns : goal.returns
 returns c =

@@ -1,5 +1,4 @@
 -- `state_restoring::restore` meets its contract.
-use borrow.Author.Rules.{rules}
 use Rattle.state_restoring.proofs.Reader.{too_long, not-state, saveable, compared}
 use Rattle.state_restoring.proofs.restore.Goals as goal
 
@@ -10,12 +9,6 @@ pub lay_state-requires : goal.lay_state-requires
 lay_state-requires c =
     let pre = c.requires in
     (pre.sound, pre.zeros)
-
-pub fill_totals-requires : goal.fill_totals-requires
-fill_totals-requires c = search rules
-
-pub is_state-requires : goal.is_state-requires
-is_state-requires c = search rules
 
 pub returns-then-not-is_state : goal.returns-then-not-is_state
 returns-then-not-is_state c =

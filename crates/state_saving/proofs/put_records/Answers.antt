@@ -1,13 +1,9 @@
 -- `state_saving::put_records` meets its contract.
-use borrow.Author.Rules.{rules}
 use native.Mathlib.Omega.{arith}
 use Rattle.state_frames.specs.Frames.{file}
 use Rattle.state_frames.specs.Saved.{file_contents}
 use Rattle.state_saving.proofs.Contents.{empty-put, line-put, length-contents, no-contents, file-room}
 use Rattle.state_saving.proofs.put_records.Goals as goal
-
-pub overflow_add-n : goal.overflow_add-n
-overflow_add-n c = search rules
 
 pub returns-then-n-eq0 : goal.returns-then-n-eq0
 returns-then-n-eq0 c =
@@ -18,15 +14,6 @@ returns-then-n-eq0 c =
 
 pub put_file-requires : goal.put_file-requires
 put_file-requires c = file-room c.requires (omega (arith, c.if-n-eq0.false))
-
-pub overflow_add-n-2 : goal.overflow_add-n-2
-overflow_add-n-2 c = search rules
-
-pub line_length-requires : goal.line_length-requires
-line_length-requires c = search rules
-
-pub overflow_add-result : goal.overflow_add-result
-overflow_add-result c = search rules
 
 pub returns : goal.returns
 returns c =

@@ -1,5 +1,4 @@
 -- `state_saving::put_some` meets its contract.
-use borrow.Author.Rules.{rules}
 use native.Mathlib.Omega.{arith}
 use Rattle.state_saving.proofs.Contents.{empty-put, line-put, frame-room}
 use Rattle.state_saving.proofs.put_some.Goals as goal
@@ -11,12 +10,6 @@ returns-then-n-eq0 c =
 
 pub put_frame-requires : goal.put_frame-requires
 put_frame-requires c = frame-room c.requires (omega (arith, c.if-n-eq0.false))
-
-pub line_length-requires : goal.line_length-requires
-line_length-requires c = search rules
-
-pub overflow_add-result : goal.overflow_add-result
-overflow_add-result c = search rules
 
 pub returns : goal.returns
 returns c =

@@ -1,16 +1,9 @@
 -- `state_saving::write_state` meets its contract.
-use borrow.Author.Rules.{rules}
 use native.Mathlib.Omega.{arith}
 use mathlib.Core.Path.{sym}
 use lib.Seq.{length-take-le}
 use Rattle.state_saving.proofs.Outcomes.{first_gives, asked, ill-gives, saveable, narrow_gives, fitting-gives}
 use Rattle.state_saving.proofs.write_state.Goals as goal
-
-pub ask-no-requires : goal.ask-no-requires
-ask-no-requires c = search rules
-
-pub refused-requires : goal.refused-requires
-refused-requires c = search rules
 
 pub returns-then-no-ne0 : goal.returns-then-no-ne0
 returns-then-no-ne0 c =
@@ -22,17 +15,11 @@ is_state-requires c =
     let a = c.args in
     asked a.table.now a.i1.now a.i2.now a.state.now a.out.now c.ask-no.ensures c.if-no-ne0.false
 
-pub refused-requires-then-not-is_state : goal.refused-requires-then-not-is_state
-refused-requires-then-not-is_state c = search rules
-
 pub returns-then-not-is_state : goal.returns-then-not-is_state
 returns-then-not-is_state c =
     let a = c.args in
     let y = asked a.table.now a.i1.now a.i2.now a.state.now a.out.now c.ask-no.ensures c.if-no-ne0.false in
     ill-gives a.table.now a.i1.now a.i2.now a.state.now a.out.now y c.is_state.ensures (c.if-not-is_state.true) c.refused-then-not-is_state.ensures
-
-pub slice_bounds-put_saved-end : goal.slice_bounds-put_saved-end
-slice_bounds-put_saved-end c = search rules
 
 pub put_saved-n-requires : goal.put_saved-n-requires
 put_saved-n-requires c =
@@ -40,17 +27,11 @@ put_saved-n-requires c =
     let y = asked a.table.now a.i1.now a.i2.now a.state.now a.out.now c.ask-no.ensures c.if-no-ne0.false in
     (saveable a.table.now a.i1.now a.i2.now a.state.now a.out.now y c.is_state.ensures (c.if-not-is_state.false), omega arith)
 
-pub refused-requires-then-out-n : goal.refused-requires-then-out-n
-refused-requires-then-out-n c = search rules
-
 pub returns-then-out-n : goal.returns-then-out-n
 returns-then-out-n c =
     let a = c.args in
     let y = asked a.table.now a.i1.now a.i2.now a.state.now a.out.now c.ask-no.ensures c.if-no-ne0.false in
     narrow_gives a.table.now a.i1.now a.i2.now a.state.now a.out.now y c.is_state.ensures (c.if-not-is_state.false) c.put_saved-n.ensures c.if-out-n.true c.refused-then-out-n.ensures
-
-pub slice_bounds-made-end : goal.slice_bounds-made-end
-slice_bounds-made-end c = search rules
 
 pub slice_bounds-put-end : goal.slice_bounds-put-end
 slice_bounds-put-end c =
@@ -61,9 +42,6 @@ pub put-requires : goal.put-requires
 put-requires c =
     let r = c.put_saved-n in
     omega (arith, length-take-le r.result r.new.out (omega (arith, r.ensures.most)), c.if-out-n.false)
-
-pub overflow_cast-result : goal.overflow_cast-result
-overflow_cast-result c = search rules
 
 pub returns : goal.returns
 returns c =

@@ -1,5 +1,4 @@
 -- `translating::convert` meets its contract.
-use borrow.Author.Rules.{rules}
 use mathlib.Core.Path.{sym, ◌∙◌}
 use Rattle.translating.proofs.Outcomes.{long-gives, untaken-gives}
 use Rattle.translating.proofs.convert.Goals as goal
@@ -7,14 +6,8 @@ use Rattle.translating.proofs.convert.Goals as goal
 pub returns-then-text-gt-TEXT : goal.returns-then-text-gt-TEXT
 returns-then-text-gt-TEXT c = long-gives c.args.text.now c.args.out.now c.if-text-gt-TEXT.true
 
-pub is_taken-requires : goal.is_taken-requires
-is_taken-requires c = search rules
-
 pub returns-then-not-is_taken : goal.returns-then-not-is_taken
 returns-then-not-is_taken c = untaken-gives c.args.text.now c.args.out.now (sym c.is_taken.ensures ∙ c.if-not-is_taken.true)
 
 pub turn-requires : goal.turn-requires
 turn-requires c = sym c.is_taken.ensures ∙ c.if-not-is_taken.false
-
-pub returns : goal.returns
-returns c = search rules

@@ -1,16 +1,9 @@
 -- `translating::turn` meets its contract.
-use borrow.Author.Rules.{rules}
 use native.Mathlib.Omega.{arith}
 use mathlib.Core.Path.{sym}
 use lib.Seq.{length-take-le}
 use Rattle.translating.proofs.Outcomes.{beyond-gives, narrow_gives, fitting-gives}
 use Rattle.translating.proofs.turn.Goals as goal
-
-pub slice_bounds-respell-end : goal.slice_bounds-respell-end
-slice_bounds-respell-end c = search rules
-
-pub respell-n-requires : goal.respell-n-requires
-respell-n-requires c = search rules
 
 pub returns-then-n-gt-TEXT : goal.returns-then-n-gt-TEXT
 returns-then-n-gt-TEXT c =
@@ -22,9 +15,6 @@ returns-then-out-n c =
     let r = c.respell-n in
     narrow_gives c.args.text.now c.requires r.ensures (omega arith) c.args.out.now c.if-n-gt-TEXT.false c.if-out-n.true
 
-pub slice_bounds-made-end : goal.slice_bounds-made-end
-slice_bounds-made-end c = search rules
-
 pub slice_bounds-put-end : goal.slice_bounds-put-end
 slice_bounds-put-end c =
     let r = c.respell-n in
@@ -34,9 +24,6 @@ pub put-requires : goal.put-requires
 put-requires c =
     let r = c.respell-n in
     omega (arith, length-take-le r.result r.new.made (omega (arith, c.if-n-gt-TEXT.false)), c.if-out-n.false)
-
-pub overflow_cast-result : goal.overflow_cast-result
-overflow_cast-result c = search rules
 
 pub returns : goal.returns
 returns c =
