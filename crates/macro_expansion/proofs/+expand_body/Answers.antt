@@ -13,11 +13,11 @@ use Rattle.macro_expansion.specs.ExpandLaws.{run-whole, run-behind, fits-rest, e
 use Rattle.macro_expansion.proofs.+expand_body.Goals as goal
 
 pub whole-requires : goal.whole-requires
-whole-requires t c = c.requires.1.0
+whole-requires t c = c.requires.0
 
 pub run-paused-requires : goal.run-paused-requires
 run-paused-requires t c = let a = c.args in
-    (c.whole.ensures.near, fits-rest a.text.now a.code.now a.names.now a.heights.now a.calls.now a.at c.whole.result a.v a.out.now c.whole.ensures.left_is c.whole.ensures.macros_is c.requires.1.2)
+    (c.whole.ensures.near, fits-rest a.text.now a.code.now a.names.now a.heights.now a.calls.now a.at c.whole.result a.v a.out.now c.whole.ensures.left_is c.whole.ensures.macros_is c.requires.2)
 
 pub loop-paused-init : goal.loop-paused-init
 loop-paused-init t c = let a = c.args in
@@ -28,15 +28,15 @@ loop-paused-init t c = let a = c.args in
       refl,
       refl,
       h.enters,
-      remembers-stays a.text.now a.code.now a.names.now a.at.macros a.calls.now h.behind a.v c.run-paused.result.state _ _ c.requires.1.2.remembers h.wrote,
+      remembers-stays a.text.now a.code.now a.names.now a.at.macros a.calls.now h.behind a.v c.run-paused.result.state _ _ c.requires.2.remembers h.wrote,
     )
 
 pub overflow_sub-at : goal.overflow_sub-at
-overflow_sub-at t c = omega (arith, c.requires.1.2.most)
+overflow_sub-at t c = omega (arith, c.requires.2.most)
 
 pub keep_call-requires : goal.keep_call-requires
 keep_call-requires t c = let s = c.loop-paused.invariant.5 c.loop-paused-test.true in
-    (omega (arith, s.deeper, c.loop-paused.invariant.4, c.requires.1.2.room, c.requires.1.2.most), omega (arith, s.there, c.requires.1.2.known.cells))
+    (omega (arith, s.deeper, c.loop-paused.invariant.4, c.requires.2.room, c.requires.2.most), omega (arith, s.there, c.requires.2.known.cells))
 
 pub overflow_sub-inner : goal.overflow_sub-inner
 overflow_sub-inner t c = (c.loop-paused.invariant.5 c.loop-paused-test.true).deeper
@@ -44,9 +44,9 @@ overflow_sub-inner t c = (c.loop-paused.invariant.5 c.loop-paused-test.true).dee
 pub expand_body-written-requires : goal.expand_body-written-requires
 expand_body-written-requires t c = let a = c.args in
     let l = c.loop-paused in
-    let p = c.requires.1.2 in
+    let p = c.requires.2 in
     let s = l.invariant.5 c.loop-paused-test.true in (
-      omega (arith, s.deeper, c.requires.0),
+      omega (arith, s.deeper),
       (
         s.body,
         omega (arith, s.deeper, p.most),
@@ -62,11 +62,11 @@ expand_body-written-requires t c = let a = c.args in
 
 pub behind-requires : goal.behind-requires
 behind-requires t c = let s = c.loop-paused.invariant.5 c.loop-paused-test.true in
-    (c.requires.1.0, omega (arith, s.there, c.requires.1.2.known.cells), s.some, s.few)
+    (c.requires.0, omega (arith, s.there, c.requires.2.known.cells), s.some, s.few)
 
 pub run-paused-requires-in-loop-paused : goal.run-paused-requires-in-loop-paused
 run-paused-requires-in-loop-paused t c = let a = c.args in
-    let p = c.requires.1.2 in
+    let p = c.requires.2 in
     let x = c.expand_body-written in (
       c.behind.ensures.near,
       fits-rest a.text.now a.code.now a.names.now a.heights.now _ a.at c.behind.result x.result _ c.behind.ensures.left_is c.behind.ensures.macros_is
@@ -88,12 +88,12 @@ loop-paused-preserved t c = let a = c.args in
     let s = l.invariant.5 c.loop-paused-test.true in
     let h = run-behind a.text.now a.code.now a.names.now _ a.at l.paused c.behind.result c.expand_body-written.result c.run-paused-in-loop-paused.result _ _ c.behind.ensures c.run-paused-in-loop-paused.ensures in
     let turn = expand-turn a.text.now a.code.now a.names.now a.at.macros a.calls.now l.calls _ _ a.at.left (low a.code.now (a.at.cell + 1)) _ l.invariant.0
-    c.run-paused.result.state l.paused.state c.expand_body-written.result _ l.out _ _ l.paused c.run-paused-in-loop-paused.result s.deeper c.requires.1.2.most
-    (omega (arith, s.deeper, l.invariant.4, c.requires.1.2.room, c.requires.1.2.most)) l.invariant.3 c.keep_call.ensures l.invariant.1 l.invariant.2 c.loop-paused-test.true c.expand_body-written.ensures h in
+    c.run-paused.result.state l.paused.state c.expand_body-written.result _ l.out _ _ l.paused c.run-paused-in-loop-paused.result s.deeper c.requires.2.most
+    (omega (arith, s.deeper, l.invariant.4, c.requires.2.room, c.requires.2.most)) l.invariant.3 c.keep_call.ensures l.invariant.1 l.invariant.2 c.loop-paused-test.true c.expand_body-written.ensures h in
     (turn.0, turn.1, turn.2, turn.3, omega (arith, l.invariant.4), h.enters, remembers-stays a.text.now a.code.now a.names.now a.at.macros _ h.behind c.expand_body-written.result c.run-paused-in-loop-paused.result.state _ _ c.expand_body-written.ensures.remembers h.wrote)
 
 pub keep_body-requires : goal.keep_body-requires
-keep_body-requires t c = (c.requires.1.0, c.requires.1.1, omega (arith, c.loop-paused.invariant.4, c.requires.1.2.room))
+keep_body-requires t c = (c.requires.0, c.requires.1, omega (arith, c.loop-paused.invariant.4, c.requires.2.room))
 
 pub returns : goal.returns
 returns t c = let a = c.args in
