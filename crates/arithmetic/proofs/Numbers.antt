@@ -13,7 +13,7 @@ use Rattle.layout.specs.Cells.{code, uncode}
 use Rattle.layout.proofs.CellLaws.{uncode-code}
 use Rattle.operands.proofs.Codes.{code_most, code-back, abs-most}
 use Rattle.tests.proofs.Values.{low, high}
-use Rattle.arithmetic.specs.Arithmetic.{result, negative, differ, signed, Coded, Size, Codes}
+use Rattle.arithmetic.specs.Arithmetic.{coded_result, negative, differ, signed, Coded, Size, Codes}
 
 -- ---- codes
 
@@ -32,23 +32,23 @@ size-high n h k = record { is = rw (high n h) refl; most = omega arith }
 
 -- ---- results
 
-pub result-out : (z : ℤ) → 8388607 < nat_abs z → 16777215 ≡ result z
-unfolding result
+pub result-out : (z : ℤ) → 8388607 < nat_abs z → 16777215 ≡ coded_result z
+unfolding coded_result
 result-out z h = rw (lt-leb (nat_abs z) 8388607 h) refl
 
-pub result-in : (z : ℤ) → nat_abs z ≤ 8388607 → code z ≡ result z
-unfolding result
+pub result-in : (z : ℤ) → nat_abs z ≤ 8388607 → code z ≡ coded_result z
+unfolding coded_result
 result-in z h = rw (le-leb (nat_abs z) 8388607 h) refl
 
-result-most : (z : ℤ) → result z ≤ 16777215
-unfolding result
+result-most : (z : ℤ) → coded_result z ≤ 16777215
+unfolding coded_result
 result-most z = go (in_range z) refl
   where
     go : (t : Bool) → in_range z ≡ t → cond t (code z) 16777215 ≤ 16777215
     go true e = omega (arith, code_most z (leb-true (nat_abs z) 8388607 e))
     go false e = omega arith
 
-pub result_fits : {r : ℕ} (z : ℤ) → r ≡ result z → r ≤ 16777215
+pub result_fits : {r : ℕ} (z : ℤ) → r ≡ coded_result z → r ≤ 16777215
 result_fits z e = rw e (result-most z)
 
 abs-signed : (t : Bool) (n : ℕ) → nat_abs (signed t n) ≡ n
@@ -62,16 +62,16 @@ code-signed true zero h = omega arith
 code-signed true (suc n) h = omega arith
 code-signed false n h = refl
 
-pub signed-out : (t : Bool) (n : ℕ) → 8388607 < n → 16777215 ≡ result (signed t n)
+pub signed-out : (t : Bool) (n : ℕ) → 8388607 < n → 16777215 ≡ coded_result (signed t n)
 signed-out t n h = result-out (signed t n) (rw (abs-signed t n) h)
 
-pub signed-in : (t : Bool) (n : ℕ) → n ≤ 8388607 → cond t (8388607 - n) (8388607 + n) ≡ result (signed t n)
+pub signed-in : (t : Bool) (n : ℕ) → n ≤ 8388607 → cond t (8388607 - n) (8388607 + n) ≡ coded_result (signed t n)
 signed-in t n h = code-signed t n h ∙ result-in (signed t n) (rw (abs-signed t n) h)
 
-pub signed-minus : (t : Bool) (n : ℕ) → t ≡ true → n ≤ 8388607 → 8388607 - n ≡ result (signed t n)
+pub signed-minus : (t : Bool) (n : ℕ) → t ≡ true → n ≤ 8388607 → 8388607 - n ≡ coded_result (signed t n)
 signed-minus t n e h = sym (rw e refl) ∙ signed-in t n h
 
-pub signed-plus : (t : Bool) (n : ℕ) → t ≡ false → n ≤ 8388607 → 8388607 + n ≡ result (signed t n)
+pub signed-plus : (t : Bool) (n : ℕ) → t ≡ false → n ≤ 8388607 → 8388607 + n ≡ coded_result (signed t n)
 signed-plus t n e h = sym (rw e refl) ∙ signed-in t n h
 
 -- ---- sums: s is z with 16,777,214 added
@@ -111,13 +111,13 @@ offset-in (pos k) s h l m = (omega (arith, h), omega (arith, h))
 offset-in (negsuc k) s h l m = (omega (arith, h), omega (arith, h))
 
 module _ {a b : ℕ} (h : Coded a b) where
-  pub sum_low : a + b < 8388607 → 16777215 ≡ result (uncode a +ℤ uncode b)
+  pub sum_low : a + b < 8388607 → 16777215 ≡ coded_result (uncode a +ℤ uncode b)
   sum_low l = result-out (uncode a +ℤ uncode b) (offset-low (uncode a +ℤ uncode b) (a + b) (coded-sum h) l)
 
-  pub sum-high : 25165821 < a + b → 16777215 ≡ result (uncode a +ℤ uncode b)
+  pub sum-high : 25165821 < a + b → 16777215 ≡ coded_result (uncode a +ℤ uncode b)
   sum-high l = result-out (uncode a +ℤ uncode b) (offset-high (uncode a +ℤ uncode b) (a + b) (coded-sum h) l)
 
-  pub sum-in : 8388607 ≤ a + b → a + b ≤ 25165821 → (a + b) - 8388607 ≡ result (uncode a +ℤ uncode b)
+  pub sum-in : 8388607 ≤ a + b → a + b ≤ 25165821 → (a + b) - 8388607 ≡ coded_result (uncode a +ℤ uncode b)
   sum-in l m =
       let k = offset-in (uncode a +ℤ uncode b) (a + b) (coded-sum h) l m in
       k.0 ∙ result-in (uncode a +ℤ uncode b) k.1
@@ -162,21 +162,21 @@ pub product-most : {x y : ℕ} → x ≤ 8388607 → y ≤ 8388607 → x * y < 1
 product-most {x} {y} h k = omega (arith, mul-le-mul h k)
 
 -- the code of a signed number of the machine
-codes-signed : (z : ℤ) (t : Bool) (n : ℕ) {r : ℕ} → z ≡ signed t n → n ≤ 8388607 → r ≡ result (signed t n) → Codes z r
+codes-signed : (z : ℤ) (t : Bool) (n : ℕ) {r : ℕ} → z ≡ signed t n → n ≤ 8388607 → r ≡ coded_result (signed t n) → Codes z r
 codes-signed z t n {r} e h q =
     let m : nat_abs z ≤ 8388607 = rw (e, abs-signed t n) h in
-    let c : r ≡ code z = q ∙ ap result (sym e) ∙ sym (result-in z m) in
+    let c : r ≡ code z = q ∙ ap coded_result (sym e) ∙ sym (result-in z m) in
     record { is = rw c (uncode-code z m); range = le-leb (nat_abs z) 8388607 m; most = rw c (code_most z m) }
 
 module _ {a b x y : ℕ} (h : Size a x) (k : Size b y) where
-  pub product-right : {t : Bool} {r : ℕ} → t ≡ differ (negative (uncode a)) (negative (uncode b)) → r ≡ result (signed t (x * y)) → r ≡ result (uncode a *ℤ uncode b)
-  product-right e q = q ∙ rw (e, h.is, k.is) (ap result (sym (product_is (uncode a) (uncode b))))
+  pub product-right : {t : Bool} {r : ℕ} → t ≡ differ (negative (uncode a)) (negative (uncode b)) → r ≡ coded_result (signed t (x * y)) → r ≡ coded_result (uncode a *ℤ uncode b)
+  product-right e q = q ∙ rw (e, h.is, k.is) (ap coded_result (sym (product_is (uncode a) (uncode b))))
 
-  pub quotient-right : {t : Bool} {r : ℕ} → t ≡ differ (negative (uncode a)) (negative (uncode b)) → r ≡ result (signed t (x / y)) → Codes (quot_z (uncode a) (uncode b)) r
+  pub quotient-right : {t : Bool} {r : ℕ} → t ≡ differ (negative (uncode a)) (negative (uncode b)) → r ≡ coded_result (signed t (x / y)) → Codes (quot_z (uncode a) (uncode b)) r
   quotient-right {t} e q =
       codes-signed (quot_z (uncode a) (uncode b)) t (x / y) (quotient_is (uncode a) (uncode b) ∙ rw (e, h.is, k.is) refl) (omega (arith, div-le_self x y, h.most)) q
 
-  pub remainder-right : {t : Bool} {r : ℕ} → t ≡ negative (uncode a) → r ≡ result (signed t (x % y)) → Codes (rem_z (uncode a) (uncode b)) r
+  pub remainder-right : {t : Bool} {r : ℕ} → t ≡ negative (uncode a) → r ≡ coded_result (signed t (x % y)) → Codes (rem_z (uncode a) (uncode b)) r
   remainder-right {t} e q =
       codes-signed (rem_z (uncode a) (uncode b)) t (x % y) (remainder_is (uncode a) (uncode b) ∙ rw (e, h.is, k.is) refl) (omega (arith, mod-le x y, h.most)) q
 

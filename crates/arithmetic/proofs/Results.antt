@@ -21,7 +21,7 @@ use Rattle.instructions.specs.Does.{Tried}
 use Rattle.operands.specs.Operands.{replaced, Replaceable}
 use Rattle.operands.proofs.Codes.{code_most, abs-most}
 use Rattle.operands.proofs.Held.{number-held}
-use Rattle.arithmetic.specs.Arithmetic.{result, Numbered, Computed, TwoResults}
+use Rattle.arithmetic.specs.Arithmetic.{coded_result, Numbered, Computed, TwoResults}
 use Rattle.arithmetic.proofs.Numbers.{result-in}
 
 -- ---- in bytes
@@ -67,11 +67,11 @@ front_long k d d' q r l = simp length-take (omega (arith, q))
 
 -- ---- one result
 
-result-back : {c : ℕ} (z : ℤ) → c ≡ result z → in_range z ≡ true → uncode c ≡ z
+result-back : {c : ℕ} (z : ℤ) → c ≡ coded_result z → in_range z ≡ true → uncode c ≡ z
 result-back z e r = let l = leb-true (nat_abs z) 8388607 r in rw (e, ← result-in z l) (uncode-code z l)
 
-result-out-of : {c : ℕ} (z : ℤ) → c ≡ result z → c ≤ 16777214 → in_range z ≡ false → ⊥
-unfolding result
+result-out-of : {c : ℕ} (z : ℤ) → c ≡ coded_result z → c ≤ 16777214 → in_range z ≡ false → ⊥
+unfolding coded_result
 result-out-of {c} z e m r = let l : c ≡ 16777215 = e ∙ rw r refl in omega (arith, l, m)
 
 module _ {c : ℕ} (d : List ℕ) {d' : List ℕ} (q : d' ≡ pasted d 0 (component_bytes (Component.number (uncode c)))) (m : c ≤ 16777214) where
@@ -82,7 +82,7 @@ module _ {c : ℕ} (d : List ℕ) {d' : List ℕ} (q : d' ≡ pasted d 0 (compon
   one-replaceable h = replaceable h held_one refl (omega arith) refl
 
   pub one-computed : {p e n : List ℕ} {i k : ℕ} {p' e' n' : List ℕ} → Tried p e n k p' e' n' true (replaced true i (components_in (take 5 d')) (state_at p e n).store)
-      → (z : ℤ) → c ≡ result z → Computed p e n k p' e' n' i z
+      → (z : ℤ) → c ≡ coded_result z → Computed p e n k p' e' n' i z
   one-computed {p} {e} {n} {i} {k} {p'} {e'} {n'} w z y =
       record {
         over = λ r. absurd (result-out-of z y m r);
@@ -92,7 +92,7 @@ module _ {c : ℕ} (d : List ℕ) {d' : List ℕ} (q : d' ≡ pasted d 0 (compon
             (components-of held_one ∙ ap (λ (x : ℤ). Component.number x ∷ []) (result-back z y r)) w;
       }
 
-pub one-over : {p e n : List ℕ} {i c : ℕ} → Stands p e n → c ≡ 16777215 → (z : ℤ) → c ≡ result z → Computed p e n 54 p e n i z
+pub one-over : {p e n : List ℕ} {i c : ℕ} → Stands p e n → c ≡ 16777215 → (z : ℤ) → c ≡ coded_result z → Computed p e n 54 p e n i z
 one-over {c = c} h q z e =
     record { over = λ r. refl; kept = λ r. h; within = λ r. absurd (let l = leb-true (nat_abs z) 8388607 r in omega (arith, q, e, result-in z l, code_most z l)) }
 

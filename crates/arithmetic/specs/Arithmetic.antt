@@ -13,8 +13,8 @@ use Rattle.instructions.specs.Does.{Tried}
 use Rattle.operands.specs.Operands.{PairReadable, replaced}
 
 -- the code of a result; 16,777,215 where it is out of range
-unfoldable pub result : ℤ → ℕ
-result z = cond (in_range z) (code z) 16777215
+unfoldable pub coded_result : ℤ → ℕ
+coded_result z = cond (in_range z) (code z) 16777215
 
 abbrev pub negative : ℤ → Bool
 negative z = not (non_neg z)
@@ -72,9 +72,9 @@ pub record Computed (p e n : List ℕ) (told : ℕ) (p' e' n' : List ℕ) (i : �
   pub kept : in_range z ≡ false → HoldsState p' e' n' (state_at p e n)
   pub within : in_range z ≡ true → Tried p e n told p' e' n' true (replaced true i (Component.number z ∷ []) (state_at p e n).store)
 
--- of every number that c is the result of
+-- of every number that c is the coded result of
 abbrev pub ComputedBy : List ℕ → List ℕ → List ℕ → ℕ → List ℕ → List ℕ → List ℕ → ℕ → ℕ → Type 0
-ComputedBy p e n told p' e' n' i c = (z : ℤ) → c ≡ result z → Computed p e n told p' e' n' i z
+ComputedBy p e n told p' e' n' i c = (z : ℤ) → c ≡ coded_result z → Computed p e n told p' e' n' i z
 
 pub record Computable (p e n : List ℕ) (scratch hold i : ℕ) (a : Argument) : Type 0 where
   pub pair : PairReadable p e n i a

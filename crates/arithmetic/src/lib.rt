@@ -12,7 +12,7 @@ ghost use Rattle.state.specs.Working.{state_at, nth, reading};
 ghost use Rattle.table.specs.Denote.{arg_of};
 ghost use Rattle.instructions.specs.Does.{Tried};
 ghost use Rattle.operands.specs.Operands.{replaced, DoesWith};
-ghost use Rattle.arithmetic.specs.Arithmetic.{result, negative, differ, signed, Coded, Divisible, Size, Codes, OneResult, TwoResults, ComputedBy, Computable};
+ghost use Rattle.arithmetic.specs.Arithmetic.{coded_result, negative, differ, signed, Coded, Divisible, Size, Codes, OneResult, TwoResults, ComputedBy, Computable};
 
 // The code of 0.
 const ZERO: usize = 8388607;
@@ -21,13 +21,13 @@ const ZERO: usize = 8388607;
 const OUT: usize = 16777215;
 
 fn is_negative(code: usize) -> bool
-    ensures* { λ r. ⌜ r ≡ negative (uncode code) ⌝ }
+    ensures { result ≡ negative (uncode code) }
 {
     code < ZERO
 }
 
 fn differs(a: bool, b: bool) -> bool
-    ensures* { λ r. ⌜ r ≡ differ a b ⌝ }
+    ensures { result ≡ differ a b }
 {
     if a {
         return !b;
@@ -38,7 +38,7 @@ fn differs(a: bool, b: bool) -> bool
 // The size of a number.
 fn size(code: usize) -> usize
     requires { code ≤ 16777214 }
-    ensures* { λ r. ⌜ Size code r ⌝ }
+    ensures { Size code result }
 {
     if code < ZERO {
         return ZERO - code;
@@ -48,7 +48,7 @@ fn size(code: usize) -> usize
 
 // The number of a sign and a size.
 fn with_sign(minus: bool, n: usize) -> usize
-    ensures* { λ r. ⌜ r ≡ result (signed minus n) ⌝ }
+    ensures { result ≡ coded_result (signed minus n) }
 {
     if ZERO < n {
         return OUT;
@@ -61,7 +61,7 @@ fn with_sign(minus: bool, n: usize) -> usize
 
 fn sum(a: usize, b: usize) -> usize
     requires { Coded a b }
-    ensures* { λ r. ⌜ r ≡ result (uncode a +ℤ uncode b) ⌝ }
+    ensures { result ≡ coded_result (uncode a +ℤ uncode b) }
 {
     let s = a + b;
     if s < ZERO {
@@ -75,14 +75,14 @@ fn sum(a: usize, b: usize) -> usize
 
 fn difference(a: usize, b: usize) -> usize
     requires { Coded a b }
-    ensures* { λ r. ⌜ r ≡ result (uncode a -ℤ uncode b) ⌝ }
+    ensures { result ≡ coded_result (uncode a -ℤ uncode b) }
 {
     sum(a, 2 * ZERO - b)
 }
 
 fn product(a: usize, b: usize) -> usize
     requires { Coded a b }
-    ensures* { λ r. ⌜ r ≡ result (uncode a *ℤ uncode b) ⌝ }
+    ensures { result ≡ coded_result (uncode a *ℤ uncode b) }
 {
     let minus = differs(is_negative(a), is_negative(b));
     with_sign(minus, size(a) * size(b))
@@ -91,7 +91,7 @@ fn product(a: usize, b: usize) -> usize
 // "DZIEL cuts toward zero."
 fn quotient(a: usize, b: usize) -> usize
     requires { Divisible a b }
-    ensures* { λ r. ⌜ Codes (quot_z (uncode a) (uncode b)) r ⌝ }
+    ensures { Codes (quot_z (uncode a) (uncode b)) result }
 {
     let minus = differs(is_negative(a), is_negative(b));
     with_sign(minus, size(a) / size(b))
@@ -100,7 +100,7 @@ fn quotient(a: usize, b: usize) -> usize
 // The remainder has the dividend's sign.
 fn remainder(a: usize, b: usize) -> usize
     requires { Divisible a b }
-    ensures* { λ r. ⌜ Codes (rem_z (uncode a) (uncode b)) r ⌝ }
+    ensures { Codes (rem_z (uncode a) (uncode b)) result }
 {
     with_sign(is_negative(a), size(a) % size(b))
 }
@@ -116,7 +116,7 @@ fn put_one(
     code: usize,
 ) -> u8
     requires { OneResult pool.old ends.old nums.old (length scratch.old) (length hold.old) i code }
-    ensures* { λ r. ⌜ ComputedBy pool.old ends.old nums.old r pool.new ends.new nums.new i code ⌝ }
+    ensures { ComputedBy pool.old ends.old nums.old result pool.new ends.new nums.new i code }
 {
     if code == OUT {
         return 54;
@@ -137,7 +137,7 @@ fn put_two(
     second: usize,
 ) -> u8
     requires { TwoResults pool.old ends.old nums.old (length scratch.old) (length hold.old) i first second }
-    ensures* { λ r. ⌜ Tried pool.old ends.old nums.old r pool.new ends.new nums.new true (replaced true i (values.Component.number (uncode first) ∷ values.Component.number (uncode second) ∷ []) (state_at pool.old ends.old nums.old).store) ⌝ }
+    ensures { Tried pool.old ends.old nums.old result pool.new ends.new nums.new true (replaced true i (values.Component.number (uncode first) ∷ values.Component.number (uncode second) ∷ []) (state_at pool.old ends.old nums.old).store) }
 {
     components::put_number(hold, 0, first);
     components::put_number(hold, 5, second);
@@ -155,7 +155,7 @@ pub fn dodaj(
     arg: table::Argument,
 ) -> u8
     requires { Computable pool.old ends.old nums.old (length scratch.old) (length hold.old) i arg }
-    ensures* { λ r. ⌜ DoesWith pool.old ends.old nums.old r pool.new ends.new nums.new (λ c g ins. row g ins (state_at pool.old ends.old nums.old).store (nth (reading true) i) (arg_of c arg) nothing DODAJ) ⌝ }
+    ensures { DoesWith pool.old ends.old nums.old result pool.new ends.new nums.new (λ c g ins. row g ins (state_at pool.old ends.old nums.old).store (nth (reading true) i) (arg_of c arg) nothing DODAJ) }
 {
     let q = operands::two_operands(pool, ends, nums, i, arg, operands::Kinds::Numbers);
     let stop = q.stop;
@@ -178,7 +178,7 @@ pub fn odejmij(
     arg: table::Argument,
 ) -> u8
     requires { Computable pool.old ends.old nums.old (length scratch.old) (length hold.old) i arg }
-    ensures* { λ r. ⌜ DoesWith pool.old ends.old nums.old r pool.new ends.new nums.new (λ c g ins. row g ins (state_at pool.old ends.old nums.old).store (nth (reading true) i) (arg_of c arg) nothing ODEJMIJ) ⌝ }
+    ensures { DoesWith pool.old ends.old nums.old result pool.new ends.new nums.new (λ c g ins. row g ins (state_at pool.old ends.old nums.old).store (nth (reading true) i) (arg_of c arg) nothing ODEJMIJ) }
 {
     let q = operands::two_operands(pool, ends, nums, i, arg, operands::Kinds::Numbers);
     let stop = q.stop;
@@ -201,7 +201,7 @@ pub fn mnoz(
     arg: table::Argument,
 ) -> u8
     requires { Computable pool.old ends.old nums.old (length scratch.old) (length hold.old) i arg }
-    ensures* { λ r. ⌜ DoesWith pool.old ends.old nums.old r pool.new ends.new nums.new (λ c g ins. row g ins (state_at pool.old ends.old nums.old).store (nth (reading true) i) (arg_of c arg) nothing MNOZ) ⌝ }
+    ensures { DoesWith pool.old ends.old nums.old result pool.new ends.new nums.new (λ c g ins. row g ins (state_at pool.old ends.old nums.old).store (nth (reading true) i) (arg_of c arg) nothing MNOZ) }
 {
     let q = operands::two_operands(pool, ends, nums, i, arg, operands::Kinds::Numbers);
     let stop = q.stop;
@@ -224,7 +224,7 @@ pub fn dziel(
     arg: table::Argument,
 ) -> u8
     requires { Computable pool.old ends.old nums.old (length scratch.old) (length hold.old) i arg }
-    ensures* { λ r. ⌜ DoesWith pool.old ends.old nums.old r pool.new ends.new nums.new (λ c g ins. row g ins (state_at pool.old ends.old nums.old).store (nth (reading true) i) (arg_of c arg) nothing DZIEL) ⌝ }
+    ensures { DoesWith pool.old ends.old nums.old result pool.new ends.new nums.new (λ c g ins. row g ins (state_at pool.old ends.old nums.old).store (nth (reading true) i) (arg_of c arg) nothing DZIEL) }
 {
     let q = operands::two_operands(pool, ends, nums, i, arg, operands::Kinds::Numbers);
     let stop = q.stop;
