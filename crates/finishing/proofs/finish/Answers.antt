@@ -16,8 +16,8 @@ lowest_mark-waiting-requires c = names-most c.requires.drafted
 pub instructions-code-requires : goal.instructions-code-requires
 instructions-code-requires c = table-long c.requires.drafted
 
-pub end_fault-requires : goal.end_fault-requires
-end_fault-requires c = kept c.requires.drafted
+pub link_names-requires : goal.link_names-requires
+link_names-requires c = kept c.requires.drafted
 
 pub returns-in-At : goal.returns-in-At
 returns-in-At c = not-ended c.last_place-last.ensures c.if-p-eq0.false c.end_fault.ensures refl c.instructions-code.ensures.is refl c.lowest_mark-waiting.ensures c.in-At.at c.in-At.is

@@ -3,8 +3,8 @@ use mathlib.Core.Path.{refl}
 use Rattle.loading.proofs.Outcomes.{unread, text-refused, finishable, text-finished}
 use Rattle.loading.proofs.load_text.Goals as goal
 
-pub slice_bounds-read_statements-end : goal.slice_bounds-read_statements-end
-slice_bounds-read_statements-end c = unread c.requires refl refl
+pub read_statements-requires : goal.read_statements-requires
+read_statements-requires c = unread c.requires refl refl
 
 pub finish-requires : goal.finish-requires
 finish-requires c = finishable c.requires c.read_statements.ensures c.in-Statement.p c.in-Statement.is

@@ -1,5 +1,5 @@
 -- `loading::read_statements` meets its contract.
-use borrow.Enum.Refused.{opened as unsealed}
+
 use native.Mathlib.Omega.{arith}
 use mathlib.Core.Path.{refl, ◌∙◌}
 use Rattle.loading.proofs.Walking.{other, going-none, readable, going-refused, going-last, going_next}
@@ -12,7 +12,7 @@ pub read_statement-a-requires : goal.read_statement-a-requires
 read_statement-a-requires c = readable c.loop-q.invariant.going
 
 pub returns-in_default : goal.returns-in_default
-returns-in_default c = going-refused c.loop-q.invariant.going c.read_statement-a.ensures (other _ (unsealed c.in_default.in_default-own.keys2))
+returns-in_default c = going-refused c.loop-q.invariant.going c.read_statement-a.ensures (other _ c.in_default.in_default-own.keys2)
 
 pub returns-then-a : goal.returns-then-a
 returns-then-a c = going-last c.loop-q.invariant.going c.read_statement-a.ensures c.in-Statement.q c.in-Statement.is c.if-a.true

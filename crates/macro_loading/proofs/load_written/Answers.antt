@@ -14,35 +14,28 @@ slice_bounds-names-end c =
 
 pub slice_bounds-out-end : goal.slice_bounds-out-end
 slice_bounds-out-end c =
-    let n = c.n-1.given in
-    omega (arith, within c.requires c.prepare.ensures n.0.0 n.1, c.prepare.ensures.size)
+    omega (arith, within c.requires c.prepare.ensures c.in-Ready.n c.in-Ready.is, c.prepare.ensures.size)
 
 pub slice_bounds-load_lined-end : goal.slice_bounds-load_lined-end
 slice_bounds-load_lined-end c =
-    let n = c.n-1.given in
-    sym (length-take-le n.0.0 c.prepare.new.out (omega (arith, within c.requires c.prepare.ensures n.0.0 n.1, c.prepare.ensures.size)))
+    sym (length-take-le c.in-Ready.n c.prepare.new.out (omega (arith, within c.requires c.prepare.ensures c.in-Ready.n c.in-Ready.is, c.prepare.ensures.size)))
 
 pub slice_bounds-lines-end : goal.slice_bounds-lines-end
 slice_bounds-lines-end c =
-    let n = c.n-1.given in
-    omega (arith, within c.requires c.prepare.ensures n.0.0 n.1, c.prepare.ensures.lines_size)
+    omega (arith, within c.requires c.prepare.ensures c.in-Ready.n c.in-Ready.is, c.prepare.ensures.lines_size)
 
 pub slice_bounds-load_lined-end-in-Ready : goal.slice_bounds-load_lined-end-in-Ready
 slice_bounds-load_lined-end-in-Ready c =
-    let n = c.n-1.given in
-    sym (length-take-le n.0.0 c.prepare.new.lines (omega (arith, within c.requires c.prepare.ensures n.0.0 n.1, c.prepare.ensures.lines_size)))
+    sym (length-take-le c.in-Ready.n c.prepare.new.lines (omega (arith, within c.requires c.prepare.ensures c.in-Ready.n c.in-Ready.is, c.prepare.ensures.lines_size)))
 
 pub load_lined-requires : goal.load_lined-requires
 load_lined-requires c =
-    let n = c.n-1.given in
-    lent c.requires c.prepare.ensures n.0.0 n.1 (length-take-le 32768 c.prepare.new.code (omega (arith, c.prepare.ensures.code_size)))
+    lent c.requires c.prepare.ensures c.in-Ready.n c.in-Ready.is (length-take-le 32768 c.prepare.new.code (omega (arith, c.prepare.ensures.code_size)))
 
 pub returns-in-Unfit : goal.returns-in-Unfit
 returns-in-Unfit c =
-    let n = c.number-1.given in
-    unfit-leaves c.requires c.prepare.ensures n.0.0 n.0.1.0 n.1 refl refl
+    unfit-leaves c.requires c.prepare.ensures c.in-Unfit.number c.in-Unfit.line c.in-Unfit.is refl refl
 
 pub returns-in-Ready : goal.returns-in-Ready
 returns-in-Ready c =
-    let n = c.n-1.given in
-    ready-leaves c.requires c.prepare.ensures n.0.0 n.1 c.load_lined.ensures
+    ready-leaves c.requires c.prepare.ensures c.in-Ready.n c.in-Ready.is c.load_lined.ensures

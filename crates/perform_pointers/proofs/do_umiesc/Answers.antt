@@ -1,5 +1,5 @@
 -- `perform_pointers::do_umiesc` meets its contract.
-use borrow.Enum.Refused.{opened}
+
 use mathlib.Core.Path.{refl, ap}
 use Rattle.language.specs.Letters as letters
 use Rattle.table.specs.Denote.{arg_of}
@@ -49,7 +49,7 @@ target_of-t-requires c =
     let preᶜ = c.requires in
     let variable-ofᶜ = c.variable_of in
     let matchᶜ = c.in_default.in_default-own in
-    to-expr preᶜ variable-ofᶜ.result (opened matchᶜ.keys3) variable-ofᶜ.ensures
+    to-expr preᶜ variable-ofᶜ.result matchᶜ.keys3 variable-ofᶜ.ensures
 
 pub umiesc_expr-requires : goal.umiesc_expr-requires
 umiesc_expr-requires c =

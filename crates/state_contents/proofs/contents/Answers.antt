@@ -51,9 +51,8 @@ loop-at-preserved c =
     let a = c.byte_at in
     let b = c.byte_at-in-loop-at in
     let gather = c.gather-n in
-    let kept = (omega arith) in
     let size = size-next loop.invariant.1 h a.result b.result a.ensures.is b.ensures.is in
-    (kept ∙ loop.invariant.0, gathering-more loop.invariant.1 h size gather.ensures kept c.line_length-at.ensures)
+    (omega (arith, loop.invariant.0), gathering-more loop.invariant.1 h size gather.ensures (omega arith) c.line_length-at.ensures)
 
 pub returns : goal.returns
 returns c = gathering-all c.loop-at.invariant.1 c.loop-at-test.false
