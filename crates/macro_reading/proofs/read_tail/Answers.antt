@@ -1,6 +1,4 @@
 -- `macro_reading::read_tail` meets its contract.
-use Rattle.macro_changes.proofs.Giving.{eqb_no}
-use borrow.Author.Tests.{eqb-true}
 use Rattle.macro_reading.proofs.Ending.{tail-fault, tail-closed, tail-open}
 use Rattle.macro_reading.proofs.read_tail.Goals as goal
 

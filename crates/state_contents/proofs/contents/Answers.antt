@@ -1,6 +1,6 @@
 -- `state_contents::contents` meets its contract. The invariant: what the frames before `at` add stands in the row.
 use native.Mathlib.Omega.{arith}
-use mathlib.Core.Path.{refl, ◌∙◌}
+use mathlib.Core.Path.{refl}
 use Rattle.state_contents.proofs.Gathering.{gathering-none, next, size-next, line-fits, gathering-more, gathering-all}
 use Rattle.state_contents.proofs.contents.Goals as goal
 
