@@ -1,14 +1,13 @@
 -- The tables of the source against the definitions, each by one computed test.
-use mathlib.Core.Path.{◌≡◌, refl, sym, subst}
+use mathlib.Core.Path.{◌≡◌, refl}
 use mathlib.Core.Bool.{true, not, ◌||◌, beq}
 use mathlib.Core.List.{List, ◌∷◌}
 use Prim.Native.Nat.{ℕ, zero, suc, ◌+◌, ◌-◌, ◌%◌, ◌≤◌, ◌<◌}
 use native.Mathlib.Omega.{arith}
-use lib.Dec.{T, leb, eqb, eqb→eq, leb→le}
+use lib.Dec.{T, eqb, eqb→eq}
 use lib.ListN.{length, get_or, get_or-eq_default}
 use borrow.Author.Tests.{ne_eqb}
 use Rattle.lists.specs.Quoted.{bytes}
-use Rattle.lists.specs.ListLaws.{T-left, T-right}
 use Rattle.lists.specs.TableLaws.{beq-eq, up_to, below, below-unless}
 use Rattle.characters.specs.Characters.{ranked, count, known, rank, byte_of, between, class_of, class_place, class_places, known_marks}
 
@@ -29,11 +28,6 @@ class_by-rank r n h =
     (below-unless (λ k. eqb k 0) (λ k. eqb (get_or classes (k - 1) 0) (class_of (byte_of k))) (suc count) tt r (omega arith) (ne_eqb r 0 n))
 
 -- ---- the bytes from a to z, where they stand in a row from rank r on: letters and digits, whose ranks need no table
-
-pub in_bounds : (a z b : ℕ) → between a z b ≡ true → (a ≤ b) × (b ≤ z)
-in_bounds a z b e =
-    let t : T (between a z b) = subst T (sym e) tt in
-    (leb→le a b (T-left (leb a b) (leb b z) t), leb→le b z (T-right (leb a b) (leb b z) t))
 
 pub in_a_row : (a z r b : ℕ) → T (up_to (λ k. not (between a z k) || eqb (k - a + r) (rank k)) 256) → b < 256 → between a z b ≡ true → b - a + r ≡ rank b
 in_a_row a z r b t h e =

@@ -1,8 +1,8 @@
 // The 87 characters: their ranks and classes, and the order of two words.
 #![tactic(auto)]
 
-ghost use Rattle.std.specs.Prelude.{◌≡◌, ◌<◌, eqb};
-ghost use Rattle.lists.specs.Lists.{all, ahead};
+ghost use Rattle.std.specs.Prelude.{◌≡◌, ◌<◌, eqb, position};
+ghost use Rattle.lists.specs.Lists.{all};
 ghost use Rattle.characters.specs.Characters.{rank, byte_of, known, between, is_capital, is_digit, class_of, class_place, class_places, known_marks, precedes};
 
 pub const COUNT: usize = 87;
@@ -22,6 +22,7 @@ pub const MARKS: [u8; 256] =
 pub const PLACES: [u8; 256] =
     *b"3333333333333333333333333333333323333333333333331111111111333333300000000000000000000000000333333000000000000000000000000003333333333333333333333333333333333333333333333333333333333333333333333333333333333333333333333333333333333333333333333333333333333333";
 
+// Both bounds are tested by hand, here and in `class_at`: a `get` would hide that rank 0 has no place.
 pub fn byte_of(r: usize) -> u8
     ensures { result ≡ byte_of r }
 {
@@ -65,18 +66,11 @@ pub fn is_digit(b: u8) -> bool
     between(b'0', b'9', b)
 }
 
-// How many entries of a table stand before that of a byte.
-fn place_in(b: u8, table: &[u8]) -> usize
-    ensures { result ≡ ahead (eqb b) table.now }
+// The place of a byte in a table.
+fn place_in(b: u8, table: &[u8]) -> Option<usize>
+    ensures { result ≡ position (eqb b) table.now }
 {
-    let mut i = 0;
-    while i < table.len() {
-        if b == table[i] {
-            return i;
-        }
-        i += 1;
-    }
-    i
+    table.iter().position(|x| b == *x)
 }
 
 // A is 21, Z 46, a 47, z 72, SI 73, 0 74; a byte that is no character comes after the last. Letters and digits need no table.
@@ -84,15 +78,15 @@ fn rank(b: u8) -> usize
     ensures { result ≡ rank b }
 {
     if is_capital(b) {
-        return (b - b'A') as usize + 21;
+        return usize::from(b - b'A') + 21;
     }
     if between(b'a', b'z', b) {
-        return (b - b'a') as usize + 47;
+        return usize::from(b - b'a') + 47;
     }
     if is_digit(b) {
-        return (b - b'0') as usize + 74;
+        return usize::from(b - b'0') + 74;
     }
-    place_in(b, &CHARACTERS) + 1
+    place_in(b, &CHARACTERS).unwrap_or(COUNT) + 1
 }
 
 // Whether a byte is a character, by the table lent.
@@ -100,7 +94,7 @@ pub fn is_known(b: u8, marks: &[u8]) -> bool
     requires { marks.now ≡ known_marks }
     ensures { result ≡ known b }
 {
-    marks[b as usize] == b'1'
+    marks[usize::from(b)] == b'1'
 }
 
 // The class of a byte, by its place in LDBR and by the table lent.
@@ -108,20 +102,14 @@ pub fn class_of(b: u8, places: &[u8]) -> u8
     requires { places.now ≡ class_places }
     ensures { (result ≡ class_place b) × (result < 4) }
 {
-    places[b as usize] % 4
+    places[usize::from(b)] % 4
 }
 
 pub fn are_known(s: &[u8], marks: &[u8]) -> bool
     requires { marks.now ≡ known_marks }
     ensures { result ≡ all known s.now }
 {
-    let mut good = true;
-    let mut i = 0;
-    while i < s.len() {
-        good = good & is_known(s[i], marks);
-        i += 1;
-    }
-    good
+    s.iter().all(|b| is_known(*b, marks))
 }
 
 pub fn all_known(s: &[u8]) -> bool
@@ -134,14 +122,10 @@ pub fn all_known(s: &[u8]) -> bool
 pub fn precedes(v: &[u8], w: &[u8]) -> bool
     ensures { result ≡ precedes v.now w.now }
 {
-    let mut i = 0;
-    while i < v.len() && i < w.len() {
-        let x = v[i];
-        let y = w[i];
+    for (x, y) in v.iter().zip(w) {
         if x != y {
-            return rank(x) < rank(y);
+            return rank(*x) < rank(*y);
         }
-        i += 1;
     }
     v.len() < w.len()
 }

@@ -6,6 +6,7 @@ ghost use Rattle.language.specs.Limits.{listed};
 ghost use Rattle.language.specs.Instructions.{operator_numbers};
 
 // The machine. Its state is lent memory, so a value of this type holds nothing; its constants are the limits, as in specs/Limits.antt.
+// The constants stand in a type: a use reads `Machine::TEXT`, and who passes the type on passes all; a module would read no plainer.
 #[derive(Clone, Copy)]
 pub struct Machine {}
 

@@ -6,6 +6,7 @@ ghost use Rattle.layout.specs.Kinds.{kinds};
 ghost use Rattle.layout.specs.Places.{listed};
 
 // A program table. Its cells are lent memory, so a value of this type holds nothing; its constants are places of cells, as in specs/Places.antt.
+// The constants stand in a type: a use reads `TablePlaces::FIRST_TEXT`, and who passes the type on passes all; a module would read no plainer.
 #[derive(Clone, Copy)]
 pub struct TablePlaces {}
 
@@ -50,6 +51,7 @@ impl TablePlaces {
 }
 
 // A state: scalars, strings and cells, in the same way.
+// The constants stand in a type: a use reads `StatePlaces::FIRST_FILE`, and who passes the type on passes all; a module would read no plainer.
 #[derive(Clone, Copy)]
 pub struct StatePlaces {}
 

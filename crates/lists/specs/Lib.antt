@@ -3,3 +3,4 @@ pub mod Lists
 pub mod Quoted
 pub mod ListLaws
 pub mod LoopLaws
+pub mod SearchLaws

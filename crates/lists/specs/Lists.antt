@@ -1,5 +1,6 @@
 -- Lists: the sums, tests and searches that the specification is written with. Every count of the machine is a `total`.
-use Rattle.std.specs.Prelude.{Bool, true, false, cond, ◌&&◌, ◌||◌, List, [], ◌∷◌, ◌++◌, ℕ, suc, ◌+◌, eqb}
+use Rattle.std.specs.List.{filter, flat_map, list_all, list_any}
+use Rattle.std.specs.Prelude.{Bool, true, false, ◌&&◌, List, [], ◌∷◌, ◌++◌, ℕ, suc, ◌+◌, eqb}
 
 module _ {X : Type 0} where
   -- the sum of f over a list
@@ -7,13 +8,12 @@ module _ {X : Type 0} where
   total f [] = 0
   total f (x ∷ xs) = f x + total f xs
 
+  -- the words of std for what iterators answer
   abbrev pub all : (X → Bool) → List X → Bool
-  all p [] = true
-  all p (x ∷ xs) = p x && all p xs
+  all p xs = list_all p xs
 
   abbrev pub any : (X → Bool) → List X → Bool
-  any p [] = false
-  any p (x ∷ xs) = p x || any p xs
+  any p xs = list_any p xs
 
   -- how many elements stand before the first with p
   abbrev pub ahead : (X → Bool) → List X → ℕ
@@ -34,13 +34,11 @@ module _ {X : Type 0} where
   if_any d f (x ∷ xs) = f x
 
   abbrev pub keep : (X → Bool) → List X → List X
-  keep p [] = []
-  keep p (x ∷ xs) = cond (p x) (x ∷ keep p xs) (keep p xs)
+  keep p xs = filter p xs
 
   -- f of every element, one after the other
   abbrev pub each : {Y : Type 0} → (X → List Y) → List X → List Y
-  each f [] = []
-  each f (x ∷ xs) = f x ++ each f xs
+  each f xs = flat_map f xs
 
   abbrev pub joined : List (List X) → List X
   joined [] = []

@@ -4,8 +4,8 @@ use borrow.Author.Rules.{rules}
 use Rattle.characters.proofs.Tables.{class-listed, class_by}
 use Rattle.characters.proofs.class_of.Goals as goal
 
-pub bounds-places-b : goal.bounds-places-b
-bounds-places-b c = class-listed _ (search rules) c.requires
+pub bounds-places-from : goal.bounds-places-from
+bounds-places-from c = rw c.from.ensures (class-listed _ (search rules) c.requires)
 
 pub returns : goal.returns
-returns c = (class_by _ (search rules) c.requires, omega arith)
+returns c = (rw c.from.ensures (class_by _ (search rules) c.requires), omega arith)

@@ -1,35 +1,21 @@
--- `characters::precedes` meets its contract. The invariant: the words are ordered as their rests from index i on.
-use mathlib.Core.Path.{refl, ◌∙◌}
+-- `characters::precedes` meets its contract. The invariant: as many characters of both words were met, and what is left of them is ordered as they are.
+use mathlib.Core.Path.{sym, ap, ◌∙◌}
 use native.Mathlib.Omega.{arith}
 use lib.ListN.{length}
-use borrow.Author.Rules.{rules}
-use borrow.Author.Tests.{ltb-true}
-use Rattle.characters.proofs.Steps.{order-next, order-here, second-ends, first_ends}
+use Rattle.std.proofs.Common.{⊎_elim, inl, inr}
+use Rattle.std.specs.Iterator.Adapters.{zip_first, zip_second}
+use Rattle.std.specs.Slice.Iter.{iter_rest}
+use Rattle.characters.proofs.Steps.{same_first, one_ends}
 use Rattle.characters.proofs.precedes.Goals as goal
-use Rattle.characters.proofs.precedes.Goals.{then-loop-i-test+else-i-w, else-loop-i-test}
 
-pub loop-i-init : goal.loop-i-init
-loop-i-init c = (search rules, search rules, refl)
-
-pub returns-then-x-y : goal.returns-then-x-y
-returns-then-x-y c =
-    let h = c.loop-i in
-    let a = c.args in
-    rw (c.rank.ensures, c.rank-then-x-y.ensures)
-    (order-here a.v.now a.w.now h.i (search rules) (ltb-true _ _ c.if-i-w.true-raw) c.if-x-y.true ∙ h.invariant.2)
-
-pub loop-i-preserved : goal.loop-i-preserved
-loop-i-preserved c =
-    let h = c.loop-i in
-    let a = c.args in
-    let l = ltb-true h.i (length a.w.now) c.if-i-w.true-raw in
-    (search rules, omega arith, order-next a.v.now a.w.now h.i (search rules) l c.if-x-y.false ∙ h.invariant.2)
+pub loop-x-preserved : goal.loop-x-preserved
+loop-x-preserved c =
+    let h = c.in-Some.ensures.steps in
+    let next = c.next.new.self in
+    let e = same_first c.in-Some.x.now c.in-Some.y.now (iter_rest (zip_first next)) (iter_rest (zip_second next)) c.if-x-y.false in
+    (omega (arith, ap length h.0, ap length h.1, c.loop-x.invariant.0), sym e ∙ (rw (h.0, h.1) at c.loop-x.invariant.1))
 
 pub returns : goal.returns
 returns c =
-    let h = c.loop-i in
-    let a = c.args in
-    elim c.loop-i-test.branch [
-      | then-loop-i-test+else-i-w w ↦ second-ends a.v.now a.w.now h.i h.invariant.0 (omega arith) h.invariant.1 ∙ h.invariant.2
-      | else-loop-i-test w ↦ first_ends a.v.now a.w.now h.i (omega arith) h.invariant.0 h.invariant.1 ∙ h.invariant.2
-    ]
+    let h = c.in-None.ensures.steps in
+    one_ends _ _ _ _ c.loop-x.invariant.0 (⊎_elim (λ a. inl a.1.0) (λ b. inr b.1.0) h) ∙ c.loop-x.invariant.1
