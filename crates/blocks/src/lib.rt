@@ -10,13 +10,11 @@ ghost use Rattle.blocks.specs.Blocks.{FourNumbers};
 fn byte_at(word: &[u8], k: usize) -> usize
     ensures { Number (cell word.now k) 256 result }
 {
-    if k < word.len() {
-        return cells::wide(word[k]);
-    }
-    0
+    word.get(k).map_or(0, |b| usize::from(*b))
 }
 
 // The four bytes of `word` from `k` on, as a cell holds them.
+// Unlike `packed::cell_of`, which reads four bytes at once, it goes past the end of `word`.
 fn four_at(word: &[u8], k: usize) -> usize
     requires { k < 65536 }
     ensures { Number (four (drop k word.now)) 4294967296 result }
@@ -31,10 +29,8 @@ fn put_chars(table: &mut [u32], at: usize, word: &[u8])
     requires { at + 15 ≤ length table.old }
     ensures { table.new ≡ pasted table.old at (fours 15 word.now) }
 {
-    let mut q = 0;
-    while q < 15 {
+    for q in 0..15 {
         cells::write(table, at + q, four_at(word, 4 * q));
-        q += 1;
     }
 }
 
@@ -52,10 +48,7 @@ pub fn put_four(table: &mut [u32], at: usize, a: usize, b: usize, c: usize, d: u
     requires { FourNumbers at (length table.old) a b c d }
     ensures { table.new ≡ pasted table.old at (a ∷ b ∷ c ∷ d ∷ []) }
 {
-    cells::write(table, at, a);
-    cells::write(table, at + 1, b);
-    cells::write(table, at + 2, c);
-    cells::write(table, at + 3, d);
+    table[at..at + 4].copy_from_slice(&[a as u32, b as u32, c as u32, d as u32]);
 }
 
 // Sets the first `n` cells to 0.
@@ -63,11 +56,7 @@ pub fn clear_cells(table: &mut [u32], n: usize)
     requires { n ≤ length table.old }
     ensures { table.new ≡ cleared table.old 0 n }
 {
-    let mut j = 0;
-    while j < n {
-        table[j] = 0;
-        j += 1;
-    }
+    table[..n].fill(0);
 }
 
 // Of `cells`, passed on to the crates above.

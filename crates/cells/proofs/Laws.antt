@@ -1,10 +1,10 @@
--- The laws of copied runs: one turn of the loops that copy and clear, runs behind one another, and numbers in cells.
+-- The laws of copied runs: one turn of a loop that copies, runs behind one another, and numbers in cells.
 use mathlib.Core.Path.{◌≡◌, sym, ◌∙◌}
 use mathlib.Core.List.{List, [], ◌∷◌, ◌++◌, append_assoc, append-nil}
-use Prim.Native.Nat.{ℕ, suc, ◌+◌, ◌≤◌, ◌<◌}
+use Prim.Native.Nat.{ℕ, ◌+◌, ◌≤◌, ◌<◌}
 use native.Mathlib.Numerals.{add-one}
 use native.Mathlib.Omega.{arith}
-use lib.ListN.{length, take, drop, get_or, set, replicate, length-append, length-take, length-drop, length-replicate, get_or-replicate, drop_of_length-le, take-append-drop}
+use lib.ListN.{length, take, drop, get_or, set, replicate, length-append, length-take, length-drop, length-replicate, drop_of_length-le, take-append-drop}
 use lib.Seq.{paste, paste-suc, take-length, take_at, drop-drop, drop-append-add, sets-eq}
 use Rattle.cells.specs.Cells.{pasted, cleared}
 
@@ -16,17 +16,6 @@ pub put-end : (dst d : List ℕ) (at : ℕ) (s : List ℕ) (j : ℕ) → dst ≡
 put-end dst d at s j e h k =
     let q : j ≡ length s = omega arith in
     e ∙ rw (q, take-length, append_assoc)
-
--- the same where what is copied is zeros
-pub clear-turn : (dst d : List ℕ) (at n j : ℕ) → dst ≡ paste d at (replicate n 0) j → at + n ≤ length d → j < n → set dst (at + j) 0 ≡ paste d at (replicate n 0) (j + 1)
-clear-turn dst d at n j e h k =
-    rw (get_or-replicate {A = ℕ} n j 0 0 k) at
-    (put-turn dst d at (replicate n 0) j e (rw length-replicate h) (rw length-replicate k))
-
-pub clear-end : (dst d : List ℕ) (at n j : ℕ) → dst ≡ paste d at (replicate n 0) j → j ≤ n → n ≤ j → dst ≡ cleared d at n
-clear-end dst d at n j e h k =
-    rw (length-replicate {A = ℕ} n 0) at
-    (put-end dst d at (replicate n 0) j e (rw length-replicate h) (rw length-replicate k))
 
 pub length-pasted : (d : List ℕ) (at : ℕ) (s : List ℕ) → at + length s ≤ length d → length (pasted d at s) ≡ length d
 length-pasted d at s h = simp (length-append, length-take, length-drop) (omega arith)
@@ -61,8 +50,3 @@ pasted-front d x n l = take_at x (drop (0 + length x) d) n l
 -- cells set one after the other
 pub set-two : (d : List ℕ) (at x y : ℕ) → at + 2 ≤ length d → set (set d at x) (at + 1) y ≡ pasted d at (x ∷ y ∷ [])
 set-two d at x y h = rw add-one (sets-eq (x ∷ y ∷ []) d at h ∙ append_assoc (take at d) (x ∷ y ∷ []) (drop (at + 2) d))
-
-pub set-three : (d : List ℕ) (at x y z : ℕ) → at + 3 ≤ length d → set (set (set d at x) (at + 1) y) (at + 2) z ≡ pasted d at (x ∷ y ∷ z ∷ [])
-set-three d at x y z h =
-    let q : at + 2 ≡ suc (suc at) = omega arith in
-    rw (q, add-one) (sets-eq (x ∷ y ∷ z ∷ []) d at h ∙ append_assoc (take at d) (x ∷ y ∷ z ∷ []) (drop (at + 3) d))

@@ -9,11 +9,7 @@ pub fn put(dst: &mut [u8], at: usize, src: &[u8])
     requires { at + length src.now ≤ length dst.old }
     ensures { dst.new ≡ pasted dst.old at src.now }
 {
-    let mut j = 0;
-    while j < src.len() {
-        dst[at + j] = src[j];
-        j += 1;
-    }
+    dst[at..at + src.len()].copy_from_slice(src);
 }
 
 // Sets the `n` cells of `dst` from index `at` to 0.
@@ -21,27 +17,25 @@ pub fn clear(dst: &mut [u8], at: usize, n: usize)
     requires { at + n ≤ length dst.old }
     ensures { dst.new ≡ cleared dst.old at n }
 {
-    let mut j = 0;
-    while j < n {
-        dst[at + j] = 0;
-        j += 1;
-    }
+    dst[at..at + n].fill(0);
 }
 
 // A byte as a number.
 pub fn wide(b: u8) -> usize
     ensures { Number b 256 result }
 {
-    b as usize
+    usize::from(b)
 }
+
+// Two and three cells byte by byte: `from_le_bytes` takes two, four or eight, so three have no other form.
 
 // The number in the two cells from `at` on.
 pub fn two_at(cells: &[u8], at: usize) -> usize
     requires { at + 2 ≤ length cells.now }
     ensures { Number (two_at at cells.now) 65536 result }
 {
-    let low = wide(cells[at]);
-    let high = wide(cells[1 + at]);
+    let low = usize::from(cells[at]);
+    let high = usize::from(cells[1 + at]);
     low + 256 * high
 }
 
@@ -50,9 +44,9 @@ pub fn three_at(cells: &[u8], at: usize) -> usize
     requires { at + 3 ≤ length cells.now }
     ensures { Number (three_at at cells.now) 16777216 result }
 {
-    let low = wide(cells[at]);
-    let middle = wide(cells[1 + at]);
-    let high = wide(cells[2 + at]);
+    let low = usize::from(cells[at]);
+    let middle = usize::from(cells[1 + at]);
+    let high = usize::from(cells[2 + at]);
     low + 256 * middle + 65536 * high
 }
 
@@ -75,19 +69,12 @@ pub fn put_three(dst: &mut [u8], at: usize, n: usize)
     dst[at + 2] = (n / 65536) as u8;
 }
 
-// A number of 32 bits.
-fn widen(n: u32) -> usize
-    ensures { Number n 4294967296 result }
-{
-    n as usize
-}
-
 // The number in cell `k` of 32 bits.
 pub fn read(cells: &[u32], k: usize) -> usize
     requires { k < length cells.now }
     ensures { Number (get_or cells.now k 0) 4294967296 result }
 {
-    widen(cells[k])
+    cells[k] as usize
 }
 
 // Writes `n` into cell `k` of 32 bits.

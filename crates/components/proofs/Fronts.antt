@@ -38,9 +38,6 @@ module _ {l : List ℕ} (h : Leading l) where
   pub leading-chars : 1 + cell l 0 ≤ length l
   leading-chars = omega (arith, size-most (cell l 0), h.fits)
 
-  pub leading-short : cell l 0 ≡ 0 → 5 ≤ length l
-  leading-short e = omega (arith, size-short (cell l 0) e, h.fits)
-
 -- ---- what it is
 
 -- a number's code is any number

@@ -7,7 +7,7 @@ use native.Mathlib.Numerals.{add-one}
 use native.Mathlib.Omega.{arith}
 use lib.ListN.{length, get_or, take, drop, set, length-append, drop_of_length-le}
 use lib.Seq.{length-take-le, drop_at, drop-cons, set_split}
-use Rattle.cells.proofs.Laws.{length-pasted, pasted-none, pasted-pasted, set-two}
+use Rattle.cells.proofs.Laws.{length-pasted, pasted-pasted, set-two}
 use Rattle.cells.specs.Cells.{pasted}
 use Rattle.cells.specs.Below.LanguageValues.{Component}
 use Rattle.cells.specs.Below.LayoutBounds.{WholeComponents}
@@ -79,9 +79,6 @@ pub record Writing (d₀ whole left d : List ℕ) (n : ℕ) : Type 0 where
   pub count : n ≡ length gone
   pub long : length d ≡ length d₀
 
-pub writing-none : (d₀ whole : List ℕ) → Writing d₀ whole whole d₀ 0
-writing-none d₀ whole = record { gone = []; whole_is = refl; is = pasted-none d₀ 0; count = refl; long = refl }
-
 module _ {d₀ whole left d : List ℕ} {n : ℕ} (w : Writing d₀ whole left d n) (h : length whole ≤ length d₀) where
   -- a piece v is written next
   module _ (v rest : List ℕ) (e : left ≡ v ++ rest) where
@@ -112,9 +109,6 @@ pub record Gathering (f : Component → List ℕ) (d₀ l d : List ℕ) (n at : 
   pub within : at ≤ length l
   pub rest : WholeComponents (drop at l)
   pub written : Writing d₀ (joined (map f (components_in l))) (joined (map f (components_in (drop at l)))) d n
-
-pub gathering-none : (f : Component → List ℕ) (d l : List ℕ) → WholeComponents l → Gathering f d l d 0 0
-gathering-none f d l w = record { within = omega arith; rest = w; written = writing-none d (joined (map f (components_in l))) }
 
 module _ {f : Component → List ℕ} {d₀ l d : List ℕ} {n at : ℕ} (g : Gathering f d₀ l d n at) (h : length (joined (map f (components_in l))) ≤ length d₀) where
   module _ {e : ℕ} (s : Step l at e) where
@@ -149,9 +143,6 @@ unfolding components_bytes component_bytes
 split-long [] = refl
 split-long (x ∷ w) = omega (arith, split-long w)
 
-pub splitting-none : (d w : List ℕ) → Splitting d w d 0
-splitting-none d w = record { within = omega arith; written = writing-none d (components_bytes (map char w)) }
-
 module _ {d₀ w d : List ℕ} {i : ℕ} (s : Splitting d₀ w d i) (h : 2 * length w ≤ length d₀) where
   room : length (components_bytes (map char w)) ≤ length d₀
   room = omega (arith, split-long w)
@@ -176,8 +167,5 @@ pub behind-one : (d : List ℕ) (at x : ℕ) (s : List ℕ) → at + 1 + length 
 behind-one d at x s h =
     let one : set d at x ≡ pasted d at (x ∷ []) = set_split d at x (omega arith) ∙ rw add-one in
     rw one (pasted-pasted d at (x ∷ []) s (omega arith))
-
-pub behind-two : (d : List ℕ) (at x y : ℕ) (s : List ℕ) → at + 2 + length s ≤ length d → pasted (set (set d at x) (at + 1) y) (at + 2) s ≡ pasted d at (x ∷ y ∷ s)
-behind-two d at x y s h = rw (set-two d at x y (omega arith)) (pasted-pasted d at (x ∷ y ∷ []) s (omega arith))
 
 -- ---- what a caller finds

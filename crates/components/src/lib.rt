@@ -1,11 +1,11 @@
 // Components in bytes, read and made, over parts of strings.
 #![tactic(auto)]
 
-ghost use Rattle.std.specs.Prelude.{◌≡◌, cond, map, reverse, ◌+◌, ◌*◌, ◌≤◌, length};
+ghost use Rattle.std.specs.Prelude.{◌≡◌, ◌∷◌, cond, map, reverse, ◌+◌, ◌*◌, ◌≤◌, length};
 ghost use Rattle.cells.specs.Below.LanguageValues.{value, kind, link};
 ghost use Rattle.cells.specs.Below.LanguageValues.Component.{word, number, address};
 ghost use Rattle.cells.specs.Below.MachineArguments.{char};
-ghost use Rattle.cells.specs.Below.LayoutCells.{code, uncode};
+ghost use Rattle.cells.specs.Below.LayoutCells.{three, code, uncode};
 ghost use Rattle.cells.specs.Below.Components.{component_bytes, components_bytes, component_size, component_in, components_in};
 ghost use Rattle.cells.specs.Cells.{pasted, Number, Writable};
 ghost use Rattle.components.specs.Parts.{first_size, spelled, Leading, LeadingKind, LentChars, WordRoom, CopyRoom, JoinRoom, Written};
@@ -17,17 +17,15 @@ pub fn size_by(b: u8) -> usize
     if b == 0 {
         return 5;
     }
-    1 + cells::wide(b)
+    1 + usize::from(b)
 }
 
 // How many cells the first component of a sequence takes, 0 where there is none.
+// 0 and no Option: what is asked is where the first component ends, and of nothing that is 0.
 pub fn first_size(s: &[u8]) -> usize
     ensures { Number (first_size s.now) 257 result }
 {
-    if s.len() == 0 {
-        return 0;
-    }
-    size_by(s[0])
+    s.first().map_or(0, |b| size_by(*b))
 }
 
 // The kind of the component in front: 0 a word, 1 a number, 2 an address.
@@ -45,6 +43,7 @@ pub fn kind_of(x: &[u8]) -> u8
 }
 
 // The value of the number in front, with 8,388,607 added.
+// Not one with `address_of`: each asks for its own kind of component and promises its own value.
 pub fn number_of(x: &[u8]) -> usize
     requires { LeadingKind 1 x.now }
     ensures { Number (code (value (component_in x.now))) 16777216 result }
@@ -65,8 +64,7 @@ pub fn chars_of(x: &[u8]) -> &[u8]
     requires { Leading x.now }
     ensures { LentChars (component_in x.now) result.now }
 {
-    let e = 1 + cells::wide(x[0]);
-    &x[1..e]
+    &x[1..1 + usize::from(x[0])]
 }
 
 // Writes a word of these characters from index `at` on.
@@ -78,14 +76,22 @@ pub fn put_word(out: &mut [u8], at: usize, w: &[u8])
     cells::put(out, at + 1, w);
 }
 
+// Writes 0, a kind, 1 a number and 2 an address, and a number of three cells from index `at` on.
+fn put_short(out: &mut [u8], at: usize, kind: u8, n: usize)
+    requires { Writable at 5 (length out.old) n 16777216 }
+    ensures { out.new ≡ pasted out.old at (0 ∷ kind ∷ three n) }
+{
+    out[at] = 0;
+    out[at + 1] = kind;
+    cells::put_three(out, at + 2, n);
+}
+
 // Writes the number of this code from index `at` on.
 pub fn put_number(out: &mut [u8], at: usize, code: usize)
     requires { Writable at 5 (length out.old) code 16777216 }
     ensures { out.new ≡ pasted out.old at (component_bytes (number (uncode code))) }
 {
-    out[at] = 0;
-    out[at + 1] = 1;
-    cells::put_three(out, at + 2, code);
+    put_short(out, at, 1, code);
 }
 
 // Writes an address from index `at` on.
@@ -93,12 +99,11 @@ pub fn put_address(out: &mut [u8], at: usize, n: usize)
     requires { Writable at 5 (length out.old) n 16777216 }
     ensures { out.new ≡ pasted out.old at (component_bytes (address n)) }
 {
-    out[at] = 0;
-    out[at + 1] = 2;
-    cells::put_three(out, at + 2, n);
+    put_short(out, at, 2, n);
 }
 
 // Writes the components of `src` at the front of `out`, the last one first.
+// By index, here and in `join`: the laws of the loops tell what is done of the sequence up to a place in it.
 fn turn(out: &mut [u8], src: &[u8])
     requires { CopyRoom (length out.old) src.now }
     ensures { out.new ≡ pasted out.old 0 (components_bytes (reverse (components_in src.now))) }
@@ -146,13 +151,11 @@ pub fn split(out: &mut [u8], w: &[u8]) -> usize
     requires { 2 * length w.now ≤ length out.old }
     ensures { Written out.old (components_bytes (map char w.now)) out.new result }
 {
-    let mut i = 0;
-    while i < w.len() {
+    for (i, c) in w.iter().enumerate() {
         out[2 * i] = 1;
-        out[2 * i + 1] = w[i];
-        i += 1;
+        out[2 * i + 1] = *c;
     }
-    2 * i
+    2 * w.len()
 }
 
 // Of `cells`, passed on to the crates above.

@@ -9,6 +9,7 @@ ghost use Rattle.control.specs.Going.{going, Deep, Following, Reachable, Callabl
 use layout::StatePlaces;
 
 // How many entries the return stack has.
+// The stack is one of the 99 strings, two bytes an entry, as it is at rest: it is packed and unpacked like the others.
 pub fn depth(pool: &[u8], ends: &[u32], nums: &[u32]) -> usize
     requires { Stands pool.now ends.now nums.now }
     ensures { Deep pool.now ends.now nums.now result }

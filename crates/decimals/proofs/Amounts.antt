@@ -1,15 +1,16 @@
 -- The number that digits write, cut at 8,388,608, and what a sign makes of it.
-use mathlib.Core.Path.{◌≡◌, refl, sym, ap, ◌∙◌, subst}
-use mathlib.Core.Bool.{Bool, true, false, cond, ◌&&◌}
+use mathlib.Core.Path.{◌≡◌, refl, sym, ap, ◌∙◌}
+use mathlib.Core.Bool.{Bool, true, false, cond}
 use mathlib.Core.List.{List, [], ◌∷◌}
 use Prim.Native.Nat.{ℕ, zero, suc, ◌+◌, ◌*◌, ◌-◌, ◌≤◌, ◌<◌, min}
 use native.Mathlib.Numerals.{add-one}
 use native.Mathlib.Omega.{arith}
-use lib.Dec.{T, leb}
-use lib.ListN.{length, get_or, take, drop, length-drop, drop_of_length-le}
+use lib.Dec.{leb}
+use lib.ListN.{length, get_or, drop, drop_of_length-le}
 use lib.IntN.{ℤ, pos, neg_ℤ, nat_abs}
-use lib.Seq.{take_all, drop-cons}
+use lib.Seq.{drop-cons}
 use borrow.Author.Tests.{ne_eqb, leb-true, leb-false, le-ltb}
+use Rattle.std.specs.Prelude.{Some, None}
 use Rattle.characters.specs.Characters.{is_digit}
 use Rattle.language.specs.Values.{amount, unsigned, in_range}
 use Rattle.layout.specs.Cells.{code}
@@ -27,14 +28,6 @@ amount-cut (x ∷ s) n =
     let e : min (min n 8388608 * 10 + d) 8388608 ≡ min (n * 10 + d) 8388608 = omega arith in
     sym (amount-cut s (min n 8388608 * 10 + d)) ∙ ap (λ (k : ℕ). min (amount k s) 8388608) e ∙ amount-cut s (n * 10 + d)
 
-pub digit-bounds : (b : ℕ) → is_digit b ≡ true → (48 ≤ b) × (b ≤ 57)
-digit-bounds b h = go (leb 48 b) refl (leb b 57) refl h
-  where
-    go : (x : Bool) → leb 48 b ≡ x → (y : Bool) → leb b 57 ≡ y → (x && y) ≡ true → (48 ≤ b) × (b ≤ 57)
-    go true e true f k = (leb-true 48 b e, leb-true b 57 f)
-    go true e false f k = absurd (subst T (sym k) tt)
-    go false e y f k = absurd (subst T (sym k) tt)
-
 -- the loop: the first i are digits, and n is their number, cut
 pub record Measuring (s : List ℕ) (n i : ℕ) : Type 0 where
   pub within : i ≤ length s
@@ -42,20 +35,17 @@ pub record Measuring (s : List ℕ) (n i : ℕ) : Type 0 where
   pub digits_is : all is_digit s ≡ all is_digit (drop i s)
   pub amount_is : min (amount 0 s) 8388608 ≡ min (amount n (drop i s)) 8388608
 
-pub measuring-none : (s : List ℕ) → Measuring s 0 0
-measuring-none s = record { within = omega arith; most = omega arith; digits_is = refl; amount_is = refl }
-
 some-unsigned : (s : List ℕ) → 0 < length s → unsigned s ≡ all is_digit s
 some-unsigned [] h = absurd (omega (arith, h))
 some-unsigned (x ∷ s) h = refl
 
-pub measured-none : (s : List ℕ) → length s ≡ 0 → measured s ≡ 8388609
+pub measured-none : (s : List ℕ) → length s ≡ 0 → measured s ≡ None
 unfolding measured
 measured-none [] h = refl
 measured-none (x ∷ s) h = absurd (omega (arith, h))
 
 module _ {s : List ℕ} {n i : ℕ} (m : Measuring s n i) where
-  pub measuring-no : i < length s → is_digit (get_or s i 0) ≡ false → measured s ≡ 8388609
+  pub measuring-no : i < length s → is_digit (get_or s i 0) ≡ false → measured s ≡ None
   unfolding measured
   measuring-no h e =
       let none : all is_digit (drop i s) ≡ false = rw (drop-cons s i 0 h, e) in
@@ -75,7 +65,7 @@ module _ {s : List ℕ} {n i : ℕ} (m : Measuring s n i) where
         amount_is = m.amount_is ∙ ap (λ k. min (amount n k) 8388608) here ∙ amt;
       }
 
-  pub measuring-all : 0 < length s → length s ≤ i → n ≡ measured s
+  pub measuring-all : 0 < length s → length s ≤ i → Some n ≡ measured s
   unfolding measured
   measuring-all h k =
       let end : drop i s ≡ [] = drop_of_length-le s k in
@@ -94,12 +84,12 @@ pub coded-is : {negative : Bool} {s : List ℕ} {z : ℤ} → Signed negative s 
 unfolding coded measured
 coded-is {negative} {s} {z} h = rw h.size_is (go (unsigned s) (leb (amount 0 s) 8388607) refl)
   where
-    go : (u b : Bool) → leb (amount 0 s) 8388607 ≡ b → coded negative (cond u (min (amount 0 s) 8388608) 8388609) ≡ cond u (cond b (Code (code z)) OutOfRange) NotNumeral
+    go : (u b : Bool) → leb (amount 0 s) 8388607 ≡ b → coded negative (cond u (Some (min (amount 0 s) 8388608)) None) ≡ cond u (cond b (Code (code z)) OutOfRange) NotNumeral
     go false b e = refl
     go true true e =
         let l : amount 0 s ≤ 8388607 = leb-true (amount 0 s) 8388607 e in
         let m : min (amount 0 s) 8388608 ≡ amount 0 s = omega arith in
-        rw (m, le-ltb 8388608 (amount 0 s) (omega arith), le-ltb 8388607 (amount 0 s) l, h.code_is l)
+        rw (m, le-ltb 8388607 (amount 0 s) l, h.code_is l)
     go true false e =
         let l : 8388607 < amount 0 s = leb-false (amount 0 s) 8388607 e in
         let m : min (amount 0 s) 8388608 ≡ 8388608 = omega arith in
@@ -128,21 +118,15 @@ unfolding reads
 reads_none [] h = refl
 reads_none (x ∷ w) h = absurd (omega (arith, h))
 
-pub reads-minus : (w : List ℕ) → 0 < length w → get_or w 0 0 ≡ 45 → coded true (measured (drop 1 w)) ≡ reads w
-unfolding reads
-reads-minus [] h e = absurd (omega (arith, h))
-reads-minus (x ∷ w) h e = rw e (coded-is (minus w))
+module _ (w : List ℕ) (x : ℕ) (ds : List ℕ) (e : w ≡ x ∷ ds) where
+  pub reads-minus : x ≡ 45 → coded true (measured ds) ≡ reads w
+  unfolding reads
+  reads-minus h = rw (e, h) (coded-is (minus ds))
 
-pub reads-plus : (w : List ℕ) → 0 < length w → get_or w 0 0 ≡ 43 → coded false (measured (drop 1 w)) ≡ reads w
-unfolding reads
-reads-plus [] h e = absurd (omega (arith, h))
-reads-plus (x ∷ w) h e = rw e (coded-is (plus w))
+  pub reads-plus : x ≡ 43 → coded false (measured ds) ≡ reads w
+  unfolding reads
+  reads-plus h = rw (e, h) (coded-is (plus ds))
 
-pub reads_plain : (w : List ℕ) → 0 < length w → (get_or w 0 0 ≡ 45 → ⊥) → (get_or w 0 0 ≡ 43 → ⊥) → coded false (measured w) ≡ reads w
-unfolding reads
-reads_plain [] h m p = absurd (omega (arith, h))
-reads_plain (x ∷ w) h m p = rw (ne_eqb x 43 p, ne_eqb x 45 m) (coded-is (plus (x ∷ w)))
-
--- what is left behind the first character
-pub behind_first : (w : List ℕ) → take (length w - 1) (drop 1 w) ≡ drop 1 w
-behind_first w = take_all (length w - 1) (drop 1 w) (rw length-drop (omega arith))
+  pub reads_plain : (x ≡ 45 → ⊥) → (x ≡ 43 → ⊥) → coded false (measured w) ≡ reads w
+  unfolding reads
+  reads_plain m p = rw (e, ne_eqb x 43 p, ne_eqb x 45 m) (coded-is (plus (x ∷ ds)))

@@ -85,18 +85,6 @@ module _ {d₀ : List ℕ} {at n : ℕ} {d : List ℕ} {i m : ℕ} (g : Digiting
         long = ap length q ∙ length-set d (i - 1) x ∙ g.long;
       }
 
-  pub digiting-all : i ≤ at → {e : ℕ} → e ≡ at + length (digits 7 n) → e ≤ length d₀ → DigitsPut d₀ at n d e
-  digiting-all h q r =
-      let whole : length (digits 7 n) ≡ length (digits g.fuel m) + length g.done = ap length g.whole_is ∙ length-append (digits g.fuel m) g.done in
-      let none : digits g.fuel m ≡ [] = no_cells (digits g.fuel m) (omega (arith, g.place)) in
-      let all : digits 7 n ≡ g.done = g.whole_is ∙ ap (λ l. l ++ g.done) none in
-      let here : i ≡ at = omega (arith, g.place) in
-      record { is = g.is ∙ rw (here, all); count = q; fits = r }
-    where
-      no_cells : (l : List ℕ) → length l ≡ 0 → l ≡ []
-      no_cells [] z = refl
-      no_cells (x ∷ l) z = absurd (omega (arith, z))
-
 -- ---- how many digits a number has
 
 pub wide : (k w n : ℕ) → w < k → 10 ^ w ≤ n → n < 10 ^ suc w → length (digits k n) ≡ suc w

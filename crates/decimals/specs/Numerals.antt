@@ -1,5 +1,5 @@
 -- Numbers as words: what the functions ask and tell.
-use Rattle.std.specs.Prelude.{◌≡◌, Bool, cond, List, ℕ, ◌+◌, ◌-◌, ◌≤◌, ◌<◌, min, ltb, length}
+use Rattle.std.specs.Prelude.{◌≡◌, Option, Some, None, Bool, cond, List, ℕ, ◌+◌, ◌-◌, ◌≤◌, ◌<◌, min, ltb, length}
 use Rattle.cells.specs.Cells.{pasted}
 use Rattle.language.specs.Values.{digits, amount, unsigned, numeral, value_of}
 use Rattle.layout.specs.Cells.{code}
@@ -11,12 +11,13 @@ use Rattle.decimals.specs.declared.Numeral.TheVariants.{NotNumeral, OutOfRange, 
 unfoldable pub reads : List ℕ → Numeral
 reads w = cond (numeral w) (cond (in_range (value_of w)) (Code (code (value_of w))) OutOfRange) NotNumeral
 
--- the number that digits write, cut at what is out of range; 8,388,609 where they write none
-unfoldable pub measured : List ℕ → ℕ
-measured s = cond (unsigned s) (min (amount 0 s) 8388608) 8388609
+-- the number that digits write, cut at what is out of range; none where they write none
+unfoldable pub measured : List ℕ → Option ℕ
+measured s = cond (unsigned s) (Some (min (amount 0 s) 8388608)) None
 
-unfoldable pub coded : Bool → ℕ → Numeral
-coded negative n = cond (ltb 8388608 n) NotNumeral (cond (ltb 8388607 n) OutOfRange (Code (cond negative (8388607 - n) (8388607 + n))))
+unfoldable pub coded : Bool → Option ℕ → Numeral
+coded negative None = NotNumeral
+coded negative (Some n) = cond (ltb 8388607 n) OutOfRange (Code (cond negative (8388607 - n) (8388607 + n)))
 
 -- how many digits n has
 pub record Width (n r : ℕ) : Type 0 where

@@ -17,6 +17,7 @@ pub enum Numeral {
 }
 
 // How many digits a number of at most seven has.
+// Comparisons and no `ilog10`: the bounds are what the digits are counted by.
 fn width(n: usize) -> usize
     requires { n < 10000000 }
     ensures { Width n result }
@@ -48,12 +49,10 @@ fn put_digits(out: &mut [u8], at: usize, n: usize) -> usize
     ensures { DigitsPut out.old at n out.new result }
 {
     let e = at + width(n);
-    let mut i = e;
     let mut m = n;
-    while at < i {
-        i -= 1;
-        out[i] = (48 + m % 10) as u8;
-        m = m / 10;
+    for i in (at..e).rev() {
+        out[i] = b'0' + (m % 10) as u8;
+        m /= 10;
     }
     e
 }
@@ -75,39 +74,34 @@ fn grown(n: usize, digit: u8) -> usize
     requires { Growable n digit }
     ensures { result ≡ min (n * 10 + (digit - 48)) 8388608 }
 {
-    let m = n * 10 + cells::wide(digit - 48);
-    if 8388608 < m {
-        return 8388608;
-    }
-    m
+    (n * 10 + usize::from(digit - b'0')).min(8388608)
 }
 
-// The number that digits write, at most 8,388,608; 8,388,609 where they are none or not all digits.
-fn measure(s: &[u8]) -> usize
+// The number that digits write, at most 8,388,608; none where they are none or not all digits.
+fn measure(s: &[u8]) -> Option<usize>
     ensures { result ≡ measured s.now }
 {
-    if s.len() == 0 {
-        return 8388609;
+    if s.is_empty() {
+        return None;
     }
     let mut n = 0;
-    let mut i = 0;
-    while i < s.len() {
-        if !characters::is_digit(s[i]) {
-            return 8388609;
+    for b in s {
+        if !characters::is_digit(*b) {
+            return None;
         }
-        n = grown(n, s[i]);
-        i += 1;
+        n = grown(n, *b);
     }
-    n
+    Some(n)
 }
 
 // The number of a sign and what `measure` told.
-fn coded(negative: bool, size: usize) -> Numeral
+#[tactic(auto, unfolding(crate::specs::Numerals::coded))]
+fn coded(negative: bool, size: Option<usize>) -> Numeral
     ensures { result ≡ coded negative size }
 {
-    if 8388608 < size {
+    let Some(size) = size else {
         return Numeral::NotNumeral;
-    }
+    };
     if 8388607 < size {
         return Numeral::OutOfRange;
     }
@@ -121,15 +115,14 @@ fn coded(negative: bool, size: usize) -> Numeral
 pub fn read_decimal(w: &[u8]) -> Numeral
     ensures { result ≡ reads w.now }
 {
-    if w.len() == 0 {
+    let Some((sign, digits)) = w.split_first() else {
         return Numeral::NotNumeral;
+    };
+    if *sign == b'-' {
+        return coded(true, measure(digits));
     }
-    let sign = w[0];
-    if sign == b'-' {
-        return coded(true, measure(&w[1..]));
-    }
-    if sign == b'+' {
-        return coded(false, measure(&w[1..]));
+    if *sign == b'+' {
+        return coded(false, measure(digits));
     }
     coded(false, measure(w))
 }

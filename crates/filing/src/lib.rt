@@ -13,6 +13,7 @@ ghost use Rattle.layout.specs.Places.{records_scalar, last_scalar};
 use layout::StatePlaces;
 
 // The bytes of the records before the pointer of file `i`.
+// Not one with `after_bytes`: the promise of each names its own side of the file.
 pub fn before_bytes<'a>(pool: &'a [u8], ends: &[u32], nums: &[u32], i: usize) -> &'a [u8]
     requires { FileNamed pool.now ends.now nums.now i }
     ensures { RecordsLent (file_of (state_at pool.now ends.now nums.now).store (nth P i)).before result.now }

@@ -1,16 +1,19 @@
 -- A search by its index, and what it says of the program that a table holds.
 use mathlib.Core.Path.{◌≡◌, refl, sym, ap, ◌∙◌, subst}
-use mathlib.Core.Bool.{Bool, true, false}
+use mathlib.Core.Bool.{Bool, true, false, ◌||◌}
 use mathlib.Core.List.{List, [], ◌∷◌, ◌++◌, map}
 use Prim.Native.Nat.{ℕ, zero, suc, ◌+◌, ◌*◌, ◌-◌, ◌%◌, ◌≤◌, ◌<◌}
 use native.Mathlib.Nat.{not-suc-le-zero, le_of_suc-le-suc}
 use native.Mathlib.Omega.{arith}
 use native.Mathlib.Decide.{dec_lt}
-use lib.Dec.{T, eqb}
+use lib.Dec.{T, eqb, ltb, leb-suc-suc}
 use lib.ListN.{length, get_or, drop, replicate, length-map}
 use lib.IntN.{ℤ, pos, nat_abs}
 use lib.Seq.{take_at, drop-drop, get_or-take}
-use borrow.Author.Tests.{eq-eqb, ne_eqb}
+use borrow.Author.Tests.{eq-eqb, ne_eqb, lt-ltb}
+use Rattle.std.specs.Option.{IfSome}
+use Rattle.std.specs.Prelude.{Option, Some, None, cond, position, unwrap_or, is_some}
+use Rattle.std.specs.List.{position_or_len}
 use Rattle.acceptance.proofs.StatementLaws.{same_bytes-sym}
 use Rattle.language.specs.Limits as limit
 use Rattle.language.specs.Program.{Label, Program, no_label}
@@ -19,24 +22,22 @@ use Rattle.layout.proofs.CellLaws.{each_in, uncode-code, length-fours, take-unfo
 use Rattle.layout.specs.Cells.{cell, fours, code, uncode}
 use Rattle.layout.specs.Table.{label_cells, text_cells, counts, chars_in, text_in, text_by, label_in}
 use Rattle.layout.specs.Places as layout
-use Rattle.lists.specs.Lists.{ahead, bytes_equal}
+use Rattle.lists.specs.Lists.{any, ahead, bytes_equal}
+use Rattle.lists.specs.SearchLaws.{ahead-is, position_or_length}
 use Rattle.machine.proofs.ValueLaws.{same_number-eq, same_number-refl}
 use Rattle.packed.specs.Packed.{table_of}
-use Rattle.table.proofs.Keys.{text-many}
+use Rattle.table.proofs.Keys.{text-many, place-some, place-none}
 use Rattle.writing.proofs.Growing.{code_part, labels_part, texts_part, switches_part, entries_part, numbers_part, parts, in_parts, label-long, text-long, sizes}
 use Rattle.writing.proofs.Held.{text_count, label_count, number_count}
 use Rattle.writing.proofs.Parts.{labels_at, texts-at, numbers-at}
 use Rattle.writing.specs.Writing.{Short, HoldsProgram, IsNumber}
-use Rattle.finding.specs.Finding.{Counted, Tells, TellsFor}
+use Rattle.finding.specs.Finding.{Counted, Locates, LocatesFor, Tells, TellsFor}
 
 -- ---- a search by its index
 
 -- none of the first k passes
 abbrev pub Missed : (ℕ → Bool) → ℕ → Type 0
 Missed hit k = (j : ℕ) → j < k → hit j ≡ false
-
-pub missed-none : (hit : ℕ → Bool) → Missed hit 0
-missed-none hit j h = absurd (not-suc-le-zero h)
 
 pub missed_more : (hit : ℕ → Bool) (k : ℕ) → Missed hit k → hit k ≡ false → Missed hit (k + 1)
 missed_more hit k m e j h = go (dec_lt j k)
@@ -64,11 +65,11 @@ module _ {X : Type 0} (q : X → Bool) (d : X) where
 
   -- hit j is the test of element j
   module _ (xs : List X) (hit : ℕ → Bool) (tests : (j : ℕ) → j < length xs → hit j ≡ q (get_or xs j d)) where
-    found_at : (k : ℕ) → k < length xs → Missed hit k → hit k ≡ true → k ≡ ahead q xs
-    found_at k h m e = ahead-at xs k h (λ j l. sym (tests j (omega arith)) ∙ m j l) (sym (tests k h) ∙ e)
+    found_at : (k : ℕ) → k < length xs → Missed hit k → hit k ≡ true → Some k ≡ position q xs
+    found_at k h m e = place-some q xs k h (ahead-at xs k h (λ j l. sym (tests j (omega arith)) ∙ m j l) (sym (tests k h) ∙ e))
 
-    found_none : (n : ℕ) → n ≡ length xs → Missed hit n → n ≡ ahead q xs
-    found_none n e m = e ∙ ahead_past xs (λ j l. sym (tests j l) ∙ m j (omega (arith, e)))
+    found_none : (n : ℕ) → n ≡ length xs → Missed hit n → None ≡ position q xs
+    found_none n e m = place-none q xs (ahead_past xs (λ j l. sym (tests j l) ∙ m j (omega (arith, e))))
 
 -- ---- names and texts as they stand in the table
 
@@ -143,27 +144,27 @@ module _ (c w : List ℕ) where
   name-tests : (p : Program) → HoldsProgram c p → (j : ℕ) → j < length p.labels → name_hit j ≡ bytes_equal w (get_or p.labels j no_label).name
   name-tests p h j l = ap (λ (t : List ℕ). bytes_equal t w) (name-read c p h j l) ∙ same_bytes-sym (get_or p.labels j no_label).name w
 
-  pub text_found : (n k : ℕ) → n ≡ cell (table_of c) 4 → n ≤ 128 → Missed text_hit k → k < n → text_hit k ≡ true → Tells c (λ p. ahead (bytes_equal w) p.texts) 128 k
+  pub text_found : (n k : ℕ) → n ≡ cell (table_of c) 4 → n ≤ 128 → Missed text_hit k → k < n → text_hit k ≡ true → Locates c (λ p. p.texts) (bytes_equal w) (Some k)
   text_found n k is top m l e =
       record {
         is = λ p h. found_at (bytes_equal w) [] p.texts text_hit (text-tests p h) k (omega (arith, is, text_count c p h)) m e;
         most = omega arith;
       }
 
-  pub text-none : (n : ℕ) → n ≡ cell (table_of c) 4 → n ≤ 128 → Missed text_hit n → Tells c (λ p. ahead (bytes_equal w) p.texts) 128 n
-  text-none n is top m =
-      record { is = λ p h. found_none (bytes_equal w) [] p.texts text_hit (text-tests p h) n (is ∙ text_count c p h) m; most = top }
+  pub text-none : (n : ℕ) → n ≡ cell (table_of c) 4 → Missed text_hit n → Locates c (λ p. p.texts) (bytes_equal w) None
+  text-none n is m =
+      record { is = λ p h. found_none (bytes_equal w) [] p.texts text_hit (text-tests p h) n (is ∙ text_count c p h) m; most = tt }
 
-  pub name-found : (n k : ℕ) → n ≡ cell (table_of c) 1 → n ≤ 128 → Missed name_hit k → k < n → name_hit k ≡ true → Tells c (λ p. ahead (λ l. bytes_equal w l.name) p.labels) 128 k
+  pub name-found : (n k : ℕ) → n ≡ cell (table_of c) 1 → n ≤ 128 → Missed name_hit k → k < n → name_hit k ≡ true → Locates c (λ p. p.labels) (λ l. bytes_equal w l.name) (Some k)
   name-found n k is top m l e =
       record {
         is = λ p h. found_at (λ x. bytes_equal w x.name) no_label p.labels name_hit (name-tests p h) k (omega (arith, is, label_count c p h)) m e;
         most = omega arith;
       }
 
-  pub name-none : (n : ℕ) → n ≡ cell (table_of c) 1 → n ≤ 128 → Missed name_hit n → Tells c (λ p. ahead (λ l. bytes_equal w l.name) p.labels) 128 n
-  name-none n is top m =
-      record { is = λ p h. found_none (λ x. bytes_equal w x.name) no_label p.labels name_hit (name-tests p h) n (is ∙ label_count c p h) m; most = top }
+  pub name-none : (n : ℕ) → n ≡ cell (table_of c) 1 → Missed name_hit n → Locates c (λ p. p.labels) (λ l. bytes_equal w l.name) None
+  name-none n is m =
+      record { is = λ p h. found_none (λ x. bytes_equal w x.name) no_label p.labels name_hit (name-tests p h) n (is ∙ label_count c p h) m; most = tt }
 
 module _ (c : List ℕ) (v : ℕ) where
   abbrev pub number_hit : ℕ → Bool
@@ -175,7 +176,7 @@ module _ (c : List ℕ) (v : ℕ) where
       (λ i. eqb (r i) (a.is i)) ∙ same_code z (get_or p.numbers j (pos 0)) a.small (each_in (λ y. nat_abs y ≤ limit.size) p.numbers h.tabular.numbers_small j (pos 0) l)
 
   pub number-found : (n k : ℕ) → n ≡ cell (table_of c) 5 → n ≤ 128 → Missed number_hit k → k < n → number_hit k ≡ true
-      → TellsFor c (IsNumber v) (λ z p. ahead (same_number z) p.numbers) 128 k
+      → LocatesFor c (IsNumber v) (λ p. p.numbers) same_number (Some k)
   number-found n k is top m l e =
       record {
         is = λ z p h a. let x : n ≡ length p.numbers = is ∙ number_count c p h in
@@ -183,12 +184,55 @@ module _ (c : List ℕ) (v : ℕ) where
         most = omega arith;
       }
 
-  pub number-none : (n : ℕ) → n ≡ cell (table_of c) 5 → n ≤ 128 → Missed number_hit n → TellsFor c (IsNumber v) (λ z p. ahead (same_number z) p.numbers) 128 n
-  number-none n is top m =
+  pub number-none : (n : ℕ) → n ≡ cell (table_of c) 5 → Missed number_hit n → LocatesFor c (IsNumber v) (λ p. p.numbers) same_number None
+  number-none n is m =
       record {
         is = λ z p h a. let x : n ≡ length p.numbers = is ∙ number_count c p h in found_none (same_number z) (pos 0) p.numbers number_hit (number-tests z p h a) n x m;
-        most = top;
+        most = tt;
       }
+
+-- ---- a place, or the count where there is none
+
+module _ {X : Type 0} (q : X → Bool) where
+  pub place_or : (xs : List X) {o : Option ℕ} {n v : ℕ} → o ≡ position q xs → n ≡ length xs → v ≡ unwrap_or o n → v ≡ ahead q xs
+  place_or xs e f g = g ∙ (λ i. unwrap_or (e i) (f i)) ∙ position_or_length q xs
+
+pub most-or : (o : Option ℕ) (n v : ℕ) → IfSome o (λ k. k < 128) → n ≤ 128 → v ≡ unwrap_or o n → v ≤ 128
+most-or (Some k) n v h l e = omega (arith, h, e)
+most-or None n v h l e = omega (arith, l, e)
+
+-- the place in the list, or the count, of whatever program the cells c hold
+pub told_or : {X : Type 0} {c : List ℕ} {f : Program → List X} {q : X → Bool} {o : Option ℕ} {n v : ℕ} → Locates c f q o → ((p : Program) → HoldsProgram c p → n ≡ length (f p)) → n ≤ 128 → v ≡ unwrap_or o n
+    → Tells c (λ p. ahead q (f p)) 128 v
+told_or {X} {c} {f} {q} {o} {n} {v} t m l e = record { is = λ p h. place_or q (f p) (t.is p h) (m p h) e; most = most-or o n v t.most l e }
+
+pub number_told : (c : List ℕ) (v : ℕ) {o : Option ℕ} {n k : ℕ} → LocatesFor c (IsNumber v) (λ p. p.numbers) same_number o → n ≡ cell (table_of c) 5 → n ≤ 128 → k ≡ unwrap_or o n
+    → TellsFor c (IsNumber v) (λ z p. ahead (same_number z) p.numbers) 128 k
+number_told c v {o} {n} {k} t is l e = record { is = λ z p h a. place_or (same_number z) p.numbers (t.is z p h a) (is ∙ number_count c p h) e; most = most-or o n k t.most l e }
+
+pub text_told : (c w : List ℕ) {o : Option ℕ} {n v : ℕ} → Locates c (λ p. p.texts) (bytes_equal w) o → n ≡ cell (table_of c) 4 → n ≤ 128 → v ≡ unwrap_or o n
+    → Tells c (λ p. ahead (bytes_equal w) p.texts) 128 v
+text_told c w t is l e = told_or t (λ p h. is ∙ text_count c p h) l e
+
+pub label_told : (c w : List ℕ) {o : Option ℕ} {n v : ℕ} → Locates c (λ p. p.labels) (λ l. bytes_equal w l.name) o → n ≡ cell (table_of c) 1 → n ≤ 128 → v ≡ unwrap_or o n
+    → Tells c (λ p. ahead (λ l. bytes_equal w l.name) p.labels) 128 v
+label_told c w t is l e = told_or t (λ p h. is ∙ label_count c p h) l e
+
+-- something passes where there is a place
+pub some_any : {X : Type 0} (q : X → Bool) (xs : List X) {o : Option ℕ} → o ≡ position q xs → any q xs ≡ is_some o
+some_any {X} q xs e = any_ahead xs ∙ ap (λ (n : ℕ). ltb n (length xs)) (ahead-is q xs) ∙ sym (some_cond (ltb (position_or_len q xs) (length xs))) ∙ ap is_some (sym e)
+  where
+    some_cond : (b : Bool) → is_some (cond b (Some (position_or_len q xs)) None) ≡ b
+    some_cond true = refl
+    some_cond false = refl
+
+    any_ahead : (ys : List X) → any q ys ≡ ltb (ahead q ys) (length ys)
+    any_ahead [] = refl
+    any_ahead (y ∷ ys) =
+        elim (q y) as (λ b. (b || any q ys) ≡ ltb (elim b [ true ↦ 0 | false ↦ suc (ahead q ys) ]) (suc (length ys))) [
+          | true ↦ sym (lt-ltb 0 (suc (length ys)) (omega arith))
+          | false ↦ any_ahead ys ∙ sym (leb-suc-suc (suc (ahead q ys)) (length ys))
+        ]
 
 -- ---- what is asked, from the program that the table holds
 

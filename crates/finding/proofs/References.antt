@@ -1,9 +1,9 @@
--- References of texts and numbers, from the searches.
-use mathlib.Core.Path.{◌≡◌, refl, ap, ◌∙◌}
-use mathlib.Core.List.{List, [], ◌∷◌}
+-- References of numbers, from the searches.
+use mathlib.Core.Path.{◌≡◌, ap, ◌∙◌}
+use mathlib.Core.List.{List}
 use Prim.Native.Nat.{ℕ, ◌+◌, ◌-◌, ◌≤◌, ◌<◌}
 use native.Mathlib.Omega.{arith}
-use lib.ListN.{length, get_or}
+use lib.ListN.{length}
 use lib.IntN.{ℤ, pos, negsuc, nat_abs}
 use borrow.Author.Tests.{le-leb, lt-leb}
 use Rattle.language.specs.Limits as limit
@@ -14,25 +14,6 @@ use Rattle.layout.specs.Table.{text_ref, number_ref}
 use Rattle.lists.specs.Lists.{ahead, bytes_equal}
 use Rattle.writing.specs.Writing.{IsNumber}
 use Rattle.finding.specs.Finding.{Tells, TellsFor}
-
--- ---- texts
-
-module _ (c w : List ℕ) where
-  pub no_text : length w ≡ 0 → Tells c (λ p. text_ref p w) 384 0
-  no_text e = record { is = λ p h. go w e p; most = omega arith }
-    where
-      go : (v : List ℕ) → length v ≡ 0 → (p : Program) → 0 ≡ text_ref p v
-      go [] f p = refl
-      go (x ∷ v) f p = absurd (omega (arith, f))
-
-  pub one-character : (r : ℕ) → length w ≡ 1 → r ≡ get_or w 0 0 → r < 256 → Tells c (λ p. text_ref p w) 384 r
-  one-character r e f b = record { is = λ p h. f ∙ rw (le-leb (length w) 1 (omega arith)); most = omega arith }
-
-  pub long_text : (k : ℕ) → 1 < length w → Tells c (λ p. ahead (bytes_equal w) p.texts) 128 k → Tells c (λ p. text_ref p w) 384 (256 + k)
-  long_text k l t =
-      record { is = λ p h. ap (λ (n : ℕ). 256 + n) (t.is p h) ∙ rw (lt-leb (length w) 1 l); most = omega (arith, t.most) }
-
--- ---- numbers
 
 pub near : (z : ℤ) → nat_abs z ≤ limit.size → 8388592 ≤ code z → code z ≤ 8388622 → nat_abs z ≤ limit.small
 unfolding code
@@ -48,6 +29,10 @@ pub far-above : (z : ℤ) → nat_abs z ≤ limit.size → 8388622 < code z → 
 unfolding code
 far-above (pos n) s l = omega arith
 far-above (negsuc n) s l = omega arith
+
+-- a text of many characters
+pub text_many : (c w : List ℕ) {k : ℕ} → 2 ≤ length w → Tells c (λ p. ahead (bytes_equal w) p.texts) 128 k → Tells c (λ p. text_ref p w) 384 (256 + k)
+text_many c w l t = record { is = λ p h. ap (λ (n : ℕ). 256 + n) (t.is p h) ∙ rw (lt-leb (length w) 1 l); most = omega (arith, t.most) }
 
 module _ (c : List ℕ) (v : ℕ) where
   pub small-number : (r : ℕ) → 8388592 ≤ v → v ≤ 8388622 → r ≡ v - 8388592 → TellsFor c (IsNumber v) (λ z p. number_ref p z) 159 r

@@ -64,6 +64,9 @@ pub length-str : (p e : List ℕ) (i : ℕ) → lo e i ≤ hi e i → hi e i ≤
 unfolding str
 length-str p e i h k = rw (length-take, length-drop) (omega arith)
 
+pub length-lent : (p e : List ℕ) (i : ℕ) {b : List ℕ} → lo e i ≤ hi e i → hi e i ≤ length p → b ≡ str p e i → lo e i + length b ≡ hi e i
+length-lent p e i h k q = rw q (length-str p e i h k)
+
 pub record Shape (p e : List ℕ) (i : ℕ) : Type 0 where
   pub ordered : lo e i ≤ hi e i
   pub most : hi e i ≤ 65536

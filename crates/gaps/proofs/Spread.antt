@@ -14,7 +14,7 @@ use Rattle.gaps.specs.Pool.{lo, hi, str, abs, string, offset, Ordered, Fine, Hol
 use Rattle.gaps.specs.Gaps.{LaidOne, Carriable, Carried, Extra, Settleable, Settled, Spreadable, Made}
 use Rattle.gaps.proofs.Index.{offset-zero, offset-next, offset-within, offset-all}
 use Rattle.gaps.proofs.Parts.{below_or, same_or, part-before, part-pasted}
-use Rattle.gaps.proofs.Laws.{length-abs, string-part, hold, spanned, length-str, shaped, str-pasted}
+use Rattle.gaps.proofs.Laws.{length-abs, string-is, string-part, hold, spanned, length-str, shaped, str-pasted}
 
 -- two cells are set
 
@@ -276,12 +276,6 @@ module _ {p e₀ q₀ e q : List ℕ} {i n at j sc : ℕ} (pre : Spreadable p e�
       none k a b c = omega arith
 
 -- the loop that copies them back
-pub settled-none : {p e q : List ℕ} → Settleable p e q → Settled p e q 0
-settled-none pre = record { upto = omega arith; size = pre.size; is = λ k h. absurd (none k h) }
-  where
-    none : (k : ℕ) → k < 0 → ⊥
-    none k h = omega arith
-
 pub settled-more : {p₀ p e q p' : List ℕ} {j : ℕ} → Settleable p₀ e q → Settled p e q j → j < layout.strings_count → p' ≡ pasted p (lo e j) (str q e j) → Settled p' e q (j + 1)
 unfolding str
 settled-more {p = p} {e} {q} {j = j} pre m h o =
@@ -299,9 +293,6 @@ settled-more {p = p} {e} {q} {j = j} pre m h o =
           (below_or k j);
     }
 
-pub settled-all : {p e q : List ℕ} {j : ℕ} → Settled p e q j → layout.strings_count ≤ j → Settled p e q layout.strings_count
-settled-all m h = record { upto = omega arith; size = m.size; is = λ k x. m.is k (omega arith) }
-
 -- the loop that counts them
 pub record Counted (p e : List ℕ) (n j : ℕ) : Type 0 where
   pub upto : j ≤ layout.strings_count
@@ -311,10 +302,10 @@ pub record Counted (p e : List ℕ) (n j : ℕ) : Type 0 where
 pub counted_none : {p e : List ℕ} → Counted p e 0 0
 counted_none {p} {e} = record { upto = omega arith; is = sym (offset-zero (abs p e)); most = omega arith }
 
-pub counted_more : {p e : List ℕ} {n j a b : ℕ} → Fine p e → Counted p e n j → j < layout.strings_count → a ≡ lo e j → b ≡ hi e j → Counted p e (n + (b - a)) (j + 1)
-counted_more {p} {e} {j = j} f c h aq bq =
-    let s = shaped f h in
-    let q = offset-next (abs p e) j (rw (length-abs p e) h) in
+pub counted_more : {p e b : List ℕ} {n j : ℕ} → Fine p e → Counted p e n j → j < layout.strings_count → b ≡ str p e j → Counted p e (n + length b) (j + 1)
+counted_more {p} {e} {j = j} f c h q =
+    let k = ap length (q ∙ sym (string-is p e j h)) in
+    let next = offset-next (abs p e) j (rw (length-abs p e) h) in
     let w = offset-within (abs p e) j in
     record { upto = omega arith; is = omega (arith, c.is); most = omega (arith, c.is, f.fits) }
 

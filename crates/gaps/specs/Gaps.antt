@@ -50,6 +50,13 @@ pub record LaidOne (p e : List ℕ) (j at : ℕ) (b p' e' : List ℕ) : Type 0 w
   pub pool : p' ≡ pasted p at b
   pub ends : e' ≡ set (set e (2 * j) at) (2 * j + 1) (at + length b)
 
+-- string j lies in the pool p
+pub record Lies (p e : List ℕ) (j : ℕ) : Type 0 where
+  pub index : j < layout.strings_count
+  pub cells : length e ≡ layout.ends_count
+  pub ordered : lo e j ≤ hi e j
+  pub most : hi e j ≤ length p
+
 -- string j of the pool p can be laid into the pool q from `at` on, and was, up to r
 pub record Carriable (p e q : List ℕ) (j at : ℕ) : Type 0 where
   pub index : j < layout.strings_count

@@ -1,10 +1,12 @@
 // Ninety-nine strings in a pool with gaps between them: where each lies, how one is laid in, and how room is made.
+// The ends are one array, start and end of each string in turn, so that their order is one law over one list.
+// Pool, ends and scratch stay arguments of their own: the clauses speak of their cells, which a struct of them would hide.
 #![tactic(auto)]
 
 ghost use Rattle.std.specs.Prelude.{◌≡◌, ◌+◌, length};
 ghost use Rattle.cells.specs.Below.Strings.{used};
-ghost use Rattle.gaps.specs.Pool.{abs, Fine, Holds};
-ghost use Rattle.gaps.specs.Gaps.{GapStart, GapEnd, Edge, Roomy, pushed_front, pushed_back, Layable, LaidOne, Carriable, Carried, Extra, Settleable, Settled, Spreadable, Wanted, Made};
+ghost use Rattle.gaps.specs.Pool.{str, abs, Fine, Holds};
+ghost use Rattle.gaps.specs.Gaps.{GapStart, GapEnd, Edge, Roomy, pushed_front, pushed_back, Lies, Layable, LaidOne, Carriable, Carried, Extra, Settleable, Settled, Spreadable, Wanted, Made};
 ghost use Rattle.cells.specs.Below.LayoutPlaces.{strings_count};
 
 use cells::from_layout::StatePlaces;
@@ -15,6 +17,7 @@ pub const SIZE: usize = 65536;
 pub const APART: usize = 320;
 
 // Where the gap before string `i` starts.
+// The pool's own ends stand in no cell: the first gap and the last are told by a test of the index, here and in `gap_end`.
 fn gap_start(ends: &[u32], i: usize) -> usize
     requires { Edge ends.now i }
     ensures { GapStart ends.now i result }
@@ -36,7 +39,7 @@ fn gap_end(ends: &[u32], i: usize) -> usize
     cells::read(ends, 2 * i)
 }
 
-// Puts `bytes` before string `i`, where the gap before it has room.
+// Puts `bytes` before string `i`, where the gap before it has room. With `put_back` in one, an end and a match would be longer than both.
 pub fn put_front(pool: &mut [u8], ends: &mut [u32], i: usize, bytes: &[u8])
     requires { Roomy pool.old ends.old i i (length bytes.now) }
     ensures { Holds pool.new ends.new (pushed_front i bytes.now (abs pool.old ends.old)) }
@@ -68,14 +71,22 @@ pub fn lay(pool: &mut [u8], ends: &mut [u32], j: usize, at: usize, bytes: &[u8])
     cells::write(ends, 2 * j + 1, to);
 }
 
-// `n` where `j` is `i`, and 0 elsewhere.
+// `n` where `j` is `i`, and 0 elsewhere: a function, since in the loop each of three goals would need the two cases again.
+// 0 is no mark for "elsewhere": it is the number of bytes that is added there.
 fn only_at(j: usize, i: usize, n: usize) -> usize
     ensures { Extra j i n result }
 {
-    if j == i {
-        return n;
-    }
-    0
+    if j == i { n } else { 0 }
+}
+
+// The bytes of string `j`.
+pub fn string_at<'a>(pool: &'a [u8], ends: &[u32], j: usize) -> &'a [u8]
+    requires { Lies pool.now ends.now j }
+    ensures { result.now ≡ str pool.now ends.now j }
+{
+    let a = cells::read(ends, 2 * j);
+    let b = cells::read(ends, 2 * j + 1);
+    &pool[a..b]
 }
 
 // Lays string `j` of `pool` into `scratch` from `at` on, and tells where it ends there.
@@ -83,10 +94,9 @@ fn carry(pool: &[u8], ends: &mut [u32], scratch: &mut [u8], j: usize, at: usize)
     requires { Carriable pool.now ends.old scratch.old j at }
     ensures { Carried pool.now ends.old scratch.old j at result scratch.new ends.new }
 {
-    let a = cells::read(ends, 2 * j);
-    let b = cells::read(ends, 2 * j + 1);
-    lay(scratch, ends, j, at, &pool[a..b]);
-    at + (b - a)
+    let bytes = string_at(pool, ends, j);
+    lay(scratch, ends, j, at, bytes);
+    at + bytes.len()
 }
 
 // Copies each string from where it lies in `scratch` to the same place in `pool`.
@@ -94,12 +104,9 @@ fn settle(pool: &mut [u8], ends: &[u32], scratch: &[u8])
     requires { Settleable pool.old ends.now scratch.now }
     ensures { Settled pool.new ends.now scratch.now strings_count }
 {
-    let mut j = 0;
-    while j < StatePlaces::STRINGS_COUNT {
-        let a = cells::read(ends, 2 * j);
-        let b = cells::read(ends, 2 * j + 1);
-        cells::put(pool, a, &scratch[a..b]);
-        j += 1;
+    for j in 0..StatePlaces::STRINGS_COUNT {
+        let at = cells::read(ends, 2 * j);
+        cells::put(pool, at, string_at(scratch, ends, j));
     }
 }
 
@@ -109,11 +116,9 @@ fn relayout(pool: &mut [u8], ends: &mut [u32], scratch: &mut [u8], i: usize, n: 
     ensures { Made pool.new ends.new (abs pool.old ends.old) i n }
 {
     let mut at = 0;
-    let mut j = 0;
-    while j < StatePlaces::STRINGS_COUNT {
+    for j in 0..StatePlaces::STRINGS_COUNT {
         let to = at + APART + only_at(j, i, n);
         at = carry(pool, ends, scratch, j, to);
-        j += 1;
     }
     settle(pool, ends, scratch);
 }
@@ -124,12 +129,8 @@ fn total_len(pool: &[u8], ends: &[u32]) -> usize
     ensures { result ≡ used (abs pool.now ends.now) }
 {
     let mut n = 0;
-    let mut j = 0;
-    while j < StatePlaces::STRINGS_COUNT {
-        let a = cells::read(ends, 2 * j);
-        let b = cells::read(ends, 2 * j + 1);
-        n += b - a;
-        j += 1;
+    for j in 0..StatePlaces::STRINGS_COUNT {
+        n += string_at(pool, ends, j).len();
     }
     n
 }

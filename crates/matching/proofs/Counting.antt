@@ -7,7 +7,11 @@ use native.Mathlib.Numerals.{add-one}
 use native.Mathlib.Omega.{arith}
 use lib.Dec.{leb, ltb, eqb}
 use lib.ListN.{length, take, drop, length-append}
-use borrow.Author.Tests.{le-leb, lt-leb, leb-true, leb-false}
+use Rattle.std.specs.List.{position_or_len}
+use Rattle.std.specs.Option.{is_some}
+use Rattle.std.specs.Prelude.{Option, Some, None, position, unwrap_or}
+use Rattle.lists.specs.SearchLaws.{ahead-is, position_or_length}
+use borrow.Author.Tests.{le-leb, leb-true, leb-false}
 use Rattle.components.proofs.Walks.{Step, none_left, chars-at, word_at, bytes_at}
 use Rattle.components.specs.Below.LanguageValues.{Component, chars}
 use Rattle.components.specs.Below.LanguageValues.Component.{word, address}
@@ -168,19 +172,12 @@ module _ {l : List ℕ} {u : Until Component} {at k n : ℕ} {w : Bool} (g : Goi
 -- ---- characters
 
 module _ (s : List ℕ) where
-  pub chars-all : TookChars everything s (record { taken = length s; reached = true })
-  chars-all = record { is = refl; most = omega arith }
-
-  module _ (k : ℕ) where
-    pub chars-short : length s < k → TookChars (number_of k) s (record { taken = length s; reached = false })
-    chars-short h =
-        let m : min k (length s) ≡ length s = omega arith in
-        record { is = rw (m, lt-leb k (length s) h); most = omega arith }
-
-    pub chars-enough : k ≤ length s → TookChars (number_of k) s (record { taken = k; reached = true })
-    chars-enough h =
-        let m : min k (length s) ≡ k = omega arith in
-        record { is = rw (m, le-leb k (length s) h); most = h }
-
-    pub chars-met : (p : ℕ → Bool) → k ≡ ahead p s → TookChars (up_to p) s (record { taken = k; reached = ltb k (length s) })
-    chars-met p e = rw e record { is = ap (λ b. (ahead p s, b)) (any-ahead p s); most = ahead-le p s }
+  -- the place where a test is reached
+  pub chars-met : (place : Option ℕ) (p : ℕ → Bool) → place ≡ position p s → TookChars (up_to p) s (record { taken = unwrap_or place (length s); reached = is_some place })
+  chars-met place p e =
+      let some : is_some (position p s) ≡ any p s = told (ltb (position_or_len p s) (length s)) ∙ ap (λ k. ltb k (length s)) (sym (ahead-is p s)) ∙ sym (any-ahead p s) in
+      rw (e, position_or_length p s, some) record { is = refl; most = ahead-le p s }
+    where
+      told : (b : Bool) → is_some (cond b (Some (position_or_len p s)) None) ≡ b
+      told true = refl
+      told false = refl

@@ -1,8 +1,9 @@
 // Tests of components and characters in bytes, and how much of a sequence a test takes.
 #![tactic(auto)]
 
-ghost use Rattle.std.specs.Prelude.{◌≡◌, [], length};
-ghost use Rattle.characters.specs.Below.Lists.{all, any, ahead, among};
+ghost use Rattle.std.specs.Prelude.{◌≡◌, [], length, position, unwrap_or};
+ghost use Rattle.std.specs.Option.{is_some};
+ghost use Rattle.characters.specs.Below.Lists.{all, any, among};
 ghost use Rattle.characters.specs.Characters.{class_places};
 ghost use Rattle.components.specs.Below.LanguageValues.{same, of_class};
 ghost use Rattle.components.specs.Below.Components.{component_in, components_in};
@@ -30,6 +31,7 @@ pub struct Taken {
 }
 
 // How many characters a test takes, and whether it was reached.
+// Not one with `Taken`: of characters there are no components, cells or words to tell.
 #[derive(Clone, Copy)]
 pub struct CharsTaken {
     pub taken: usize,
@@ -49,14 +51,7 @@ fn all_in_class(w: &[u8], mask: u8, places: &[u8]) -> bool
     requires { places.now ≡ class_places }
     ensures { result ≡ all (in_class mask) w.now }
 {
-    let mut i = 0;
-    while i < w.len() {
-        if !in_class(w[i], mask, places) {
-            return false;
-        }
-        i += 1;
-    }
-    true
+    w.iter().all(|b| in_class(*b, mask, places))
 }
 
 // Whether the component in front is of a class.
@@ -71,6 +66,7 @@ fn of_class(x: &[u8], mask: u8) -> bool
 }
 
 // Whether a component is one of those in `given`.
+// By index, here, in `count` and in `first_chars`: the laws of the loops speak of the sequence and a place in it.
 fn among(x: &[u8], given: &[u8]) -> bool
     requires { Comparable x.now given.now }
     ensures { result ≡ any (same (component_in x.now)) (components_in given.now) }
@@ -78,7 +74,7 @@ fn among(x: &[u8], given: &[u8]) -> bool
     let mut at = 0;
     while at < given.len() {
         let e = at + components::size_by(given[at]);
-        if check::same(x, &given[at..e]) {
+        if x == &given[at..e] {
             return true;
         }
         at = e;
@@ -106,8 +102,7 @@ pub fn reached(test: Test, k: usize) -> bool
     match test {
         Test::All => true,
         Test::Count(n) => n <= k,
-        Test::Class(_) => false,
-        Test::Among => false,
+        Test::Class(_) | Test::Among => false,
     }
 }
 
@@ -127,38 +122,23 @@ pub fn count(s: &[u8], test: Test, given: &[u8]) -> Taken
             return Taken {
                 parts: k,
                 bytes: at,
-                chars: chars,
+                chars,
                 reached: true,
-                words: words,
+                words,
             };
         }
-        chars += components::from_cells::wide(b);
-        words = words & (b != 0);
+        chars += usize::from(b);
+        words &= b != 0;
         at = e;
         k += 1;
     }
-    let done = reached(test, k);
     Taken {
         parts: k,
         bytes: at,
-        chars: chars,
-        reached: done,
-        words: words,
+        chars,
+        reached: reached(test, k),
+        words,
     }
-}
-
-// Whether a character is in a list.
-fn has(list: &[u8], b: u8) -> bool
-    ensures { result ≡ among b list.now }
-{
-    let mut i = 0;
-    while i < list.len() {
-        if b == list[i] {
-            return true;
-        }
-        i += 1;
-    }
-    false
 }
 
 // Writes the first character of the word in front of `x`, if it is one, at index `n`, and tells the index behind.
@@ -188,33 +168,29 @@ pub fn first_chars(out: &mut [u8], given: &[u8]) -> usize
     n
 }
 
-// How many characters stand before the first of a class.
-fn ahead_of_class(s: &[u8], mask: u8, places: &[u8]) -> usize
+// The place of the first character of a class.
+fn place_of_class(s: &[u8], mask: u8, places: &[u8]) -> Option<usize>
     requires { places.now ≡ class_places }
-    ensures { result ≡ ahead (in_class mask) s.now }
+    ensures { result ≡ position (in_class mask) s.now }
 {
-    let mut i = 0;
-    while i < s.len() {
-        if in_class(s[i], mask, places) {
-            return i;
-        }
-        i += 1;
-    }
-    i
+    s.iter().position(|b| in_class(*b, mask, places))
 }
 
-// How many characters stand before the first that is in `given`.
-fn ahead_of(s: &[u8], given: &[u8]) -> usize
-    ensures { result ≡ ahead (λ b. among b given.now) s.now }
+// The place of the first character that is in `given`.
+fn place_of(s: &[u8], given: &[u8]) -> Option<usize>
+    ensures { result ≡ position (λ b. among b given.now) s.now }
 {
-    let mut i = 0;
-    while i < s.len() {
-        if has(given, s[i]) {
-            return i;
-        }
-        i += 1;
+    s.iter().position(|b| given.contains(b))
+}
+
+// What a test takes of `n` characters that is reached at a place, or not at all.
+fn taken_to(place: Option<usize>, n: usize) -> CharsTaken
+    ensures { result ≡ record { taken = unwrap_or place n; reached = is_some place } }
+{
+    CharsTaken {
+        taken: place.unwrap_or(n),
+        reached: place.is_some(),
     }
-    i
 }
 
 // How many of the characters of `s` a test takes; what `Among` compares with are the characters in `given`.
@@ -227,32 +203,12 @@ pub fn count_chars(s: &[u8], test: Test, given: &[u8]) -> CharsTaken
             taken: n,
             reached: true,
         },
-        Test::Count(k) => {
-            if n < k {
-                return CharsTaken {
-                    taken: n,
-                    reached: false,
-                };
-            }
-            CharsTaken {
-                taken: k,
-                reached: true,
-            }
-        }
-        Test::Class(mask) => {
-            let k = ahead_of_class(s, mask, &characters::PLACES);
-            CharsTaken {
-                taken: k,
-                reached: k < n,
-            }
-        }
-        Test::Among => {
-            let k = ahead_of(s, given);
-            CharsTaken {
-                taken: k,
-                reached: k < n,
-            }
-        }
+        Test::Count(k) => CharsTaken {
+            taken: k.min(n),
+            reached: k <= n,
+        },
+        Test::Class(mask) => taken_to(place_of_class(s, mask, &characters::PLACES), n),
+        Test::Among => taken_to(place_of(s, given), n),
     }
 }
 

@@ -4,13 +4,16 @@ use mathlib.Core.Bool.{Bool, true, false, ◌&&◌}
 use mathlib.Core.List.{List, [], ◌∷◌, ◌++◌, append_assoc}
 use Prim.Native.Nat.{ℕ, zero, suc, ◌+◌, ◌-◌, ◌*◌, ◌/◌, ◌%◌, ◌≤◌, ◌<◌, min}
 use native.Mathlib.Nat.{add-mul-mod_self_left, mod-eq_of_lt, sub-zero}
-use native.Mathlib.Numerals.{add-one, add-two, add-three}
+use native.Mathlib.Numerals.{add-one}
 use native.Mathlib.Decide.{ℕ_discrete, dec_le}
 use native.Mathlib.Omega.{arith}
 use lib.Dec.{eqb}
-use lib.ListN.{length, get_or, take, drop, set, take-append-drop, drop_of_length-le, length-take, length-drop}
-use lib.Seq.{take_all, take_at, take-add, drop_at, drop-nil, drop-drop, drop-cons, get_or-take, get_or-drop, take-append-le, length-take-le, sets-eq}
+use lib.ListN.{length, get_or, take, drop, drop_of_length-le, length-take, length-drop}
+use lib.Seq.{take_all, take_at, take-add, drop_at, drop-nil, drop-drop, drop-cons, get_or-take, get_or-drop, take-append-le, length-take-le}
 use borrow.Author.Tests.{eq-eqb, ne_eqb}
+use Rattle.std.specs.Int.{w32, to_le_bytes}
+use lib.Pointwise.{pointwise}
+use Rattle.cells.specs.Cells.{pasted}
 use Rattle.cells.specs.Below.Lists.{bytes_equal}
 use Rattle.cells.specs.Below.ListLaws.{other_length}
 use Rattle.cells.specs.Below.LayoutCells.{four, unfours}
@@ -18,6 +21,14 @@ use Rattle.cells.specs.Below.Table.{chars_in}
 use Rattle.packed.specs.Packed.{table_of, Copied}
 
 -- ---- a cell and bytes
+
+-- what `==` of two rows of bytes tells
+pointwise-is : (v w : List ℕ) → pointwise eqb v w ≡ bytes_equal v w
+pointwise-is v w = refl
+
+pub le_bytes-is : (x : ℕ) → x < 4294967296 → to_le_bytes w32 x ≡ unfours (x ∷ [])
+unfolding unfours
+le_bytes-is x h = let e : x / 16777216 % 256 ≡ x / 16777216 = omega arith in rw e
 
 low : (b m : ℕ) → b < 256 → (b + 256 * m) % 256 ≡ b
 low b m h = add-mul-mod_self_left b 256 m ∙ mod-eq_of_lt h
@@ -29,10 +40,6 @@ pair_same b w m n h k = go (ℕ_discrete b w) (ℕ_discrete m n)
     go (yes e) (yes f) = rw (eq-eqb b w e, eq-eqb m n f) (eq-eqb (b + 256 * m) (w + 256 * n) (omega arith))
     go (yes e) (no f) = rw (eq-eqb b w e, ne_eqb m n f) (ne_eqb (b + 256 * m) (w + 256 * n) (λ q. f (omega arith)))
     go (no e) d = rw (ne_eqb b w e) (ne_eqb (b + 256 * m) (w + 256 * n) (λ q. e (sym (low b m h) ∙ ap (λ (y : ℕ). y % 256) q ∙ low w n k)))
-
-pub and-true : (a : Bool) → a ≡ (a && true)
-and-true true = refl
-and-true false = refl
 
 and-false : (a : Bool) → (a && false) ≡ false
 and-false true = refl
@@ -50,21 +57,6 @@ module _ (x v₀ v₁ v₂ v₃ : ℕ) (x_Fits : x < 4294967296) (h₀ : v₀ < 
 
   abbrev b₃ : ℕ
   b₃ = x / 16777216
-
-  pub same-one : eqb (x % 256) v₀ ≡ (eqb b₀ v₀ && true)
-  same-one = and-true (eqb b₀ v₀)
-
-  pub same-two : eqb (x % 65536) (v₀ + 256 * v₁) ≡ (eqb b₀ v₀ && (eqb b₁ v₁ && true))
-  same-two =
-      let e : x % 65536 ≡ b₀ + 256 * b₁ = omega arith in
-      ap (λ (y : ℕ). eqb y (v₀ + 256 * v₁)) e ∙ pair_same b₀ v₀ b₁ v₁ (omega arith) h₀ ∙ ap (λ (z : Bool). eqb b₀ v₀ && z) (and-true (eqb b₁ v₁))
-
-  pub same-three : eqb (x % 16777216) (v₀ + 256 * v₁ + 65536 * v₂) ≡ (eqb b₀ v₀ && (eqb b₁ v₁ && (eqb b₂ v₂ && true)))
-  same-three =
-      let e : x % 16777216 ≡ b₀ + 256 * (b₁ + 256 * b₂) = omega arith in
-      let f : v₀ + 256 * v₁ + 65536 * v₂ ≡ v₀ + 256 * (v₁ + 256 * v₂) = omega arith in
-      ap₂ eqb e f ∙ pair_same b₀ v₀ (b₁ + 256 * b₂) (v₁ + 256 * v₂) (omega arith) h₀
-      ∙ ap (λ (z : Bool). eqb b₀ v₀ && z) (pair_same b₁ v₁ b₂ v₂ (omega arith) h₁ ∙ ap (λ (z : Bool). eqb b₁ v₁ && z) (and-true (eqb b₂ v₂)))
 
   pub same-four : eqb x (v₀ + 256 * v₁ + 65536 * v₂ + 16777216 * v₃) ≡ (eqb b₀ v₀ && (eqb b₁ v₁ && (eqb b₂ v₂ && eqb b₃ v₃)))
   same-four =
@@ -86,39 +78,8 @@ next-four w k h =
     let e₄ : k + 3 + 1 ≡ k + 4 = omega arith in
     rw (next-byte w k (omega arith), next-byte w (k + 1) (omega arith), e₂, next-byte w (k + 2) (omega arith), e₃, next-byte w (k + 3) (omega arith), e₄)
 
-pub four-of : (w : List ℕ) (k : ℕ) → k + 4 ≤ length w
-    → four (drop k w) ≡ get_or w k 0 + 256 * get_or w (k + 1) 0 + 65536 * get_or w (k + 2) 0 + 16777216 * get_or w (k + 3) 0
-four-of w k h = rw (next-four w k h)
-
 pub last-bytes : (w : List ℕ) (k : ℕ) → length w ≤ k → drop k w ≡ []
 last-bytes w k h = drop_of_length-le w h
-
--- the bytes of w from k on, fewer than four, and the first bytes of the cell x
-module _ (x : ℕ) (w : List ℕ) (k : ℕ) (x_Fits : x < 4294967296) (bytes : (j : ℕ) → get_or w j 0 < 256) where
-  abbrev rest_same : Bool
-  rest_same = bytes_equal (take (length w - k) (unfours (x ∷ []))) (drop k w)
-
-  pub rest-none : length w - k ≡ 0 → true ≡ rest_same
-  rest-none e = rw (e, last-bytes w k (omega arith))
-
-  pub rest-one : length w - k ≡ 1 → eqb (x % 256) (get_or w k 0) ≡ rest_same
-  unfolding unfours
-  rest-one e = rw (e, next-byte w k (omega arith), last-bytes w (k + 1) (omega arith)) (same-one x (get_or w k 0) 0 0 0 x_Fits (bytes k) (omega arith) (omega arith) (omega arith))
-
-  pub rest-two : length w - k ≡ 2 → eqb (x % 65536) (get_or w k 0 + 256 * get_or w (k + 1) 0) ≡ rest_same
-  unfolding unfours
-  rest-two e =
-      let e₂ : k + 1 + 1 ≡ k + 2 = omega arith in
-      rw (e, next-byte w k (omega arith), next-byte w (k + 1) (omega arith), e₂, last-bytes w (k + 2) (omega arith))
-      (same-two x (get_or w k 0) (get_or w (k + 1) 0) 0 0 x_Fits (bytes k) (bytes (k + 1)) (omega arith) (omega arith))
-
-  pub rest-three : length w - k ≡ 3 → eqb (x % 16777216) (get_or w k 0 + 256 * get_or w (k + 1) 0 + 65536 * get_or w (k + 2) 0) ≡ rest_same
-  unfolding unfours
-  rest-three e =
-      let e₂ : k + 1 + 1 ≡ k + 2 = omega arith in
-      let e₃ : k + 2 + 1 ≡ k + 3 = omega arith in
-      rw (e, next-byte w k (omega arith), next-byte w (k + 1) (omega arith), e₂, next-byte w (k + 2) (omega arith), e₃, last-bytes w (k + 3) (omega arith))
-      (same-three x (get_or w k 0) (get_or w (k + 1) 0) (get_or w (k + 2) 0) 0 x_Fits (bytes k) (bytes (k + 1)) (bytes (k + 2)) (omega arith))
 
 -- ---- a word compared with cells
 
@@ -253,30 +214,22 @@ module _ (c : List ℕ) (at : ℕ) (inside : at + 15 ≤ 8192) (long : 8192 ≤ 
 
 -- ---- a word copied from cells
 
-module _ (d : List ℕ) (k x a b e f : ℕ) (ha : a ≡ x % 256) (hb : b ≡ x / 256 % 256) (he : e ≡ x / 65536 % 256) (hf : f ≡ x / 16777216) where
-  -- the list d after n bytes of the cell x are put at index k
-  abbrev pub with_bytes : ℕ → List ℕ
-  with_bytes n = take k d ++ (take n (unfours (x ∷ [])) ++ drop (k + n) d)
+-- the list d after the first n bytes of the cell x were put at index k
+pub put-bytes : (d z b : List ℕ) (k n x : ℕ) → x < 4294967296 → n ≤ 4 → b ≡ to_le_bytes w32 x → z ≡ pasted d k (take n b) → z ≡ take k d ++ (take n (unfours (x ∷ [])) ++ drop (k + n) d)
+put-bytes d z b k n x h m e f =
+    let g : b ≡ unfours (x ∷ []) = e ∙ le_bytes-is x h in
+    let l : length (take n (unfours (x ∷ []))) ≡ n = length-take-le n (unfours (x ∷ [])) (rw (length-unfours (x ∷ [])) m) in
+    f ∙ rw (g, l)
 
-  pub put-none : (n : ℕ) → n ≡ 0 → d ≡ with_bytes n
-  put-none n z = let y : k + 0 ≡ k = omega arith in rw (z, y) (sym (take-append-drop k d))
+pub put_bytes : (d z b : List ℕ) (k x : ℕ) → x < 4294967296 → b ≡ to_le_bytes w32 x → z ≡ pasted d k b → z ≡ take k d ++ (unfours (x ∷ []) ++ drop (k + 4) d)
+put_bytes d z b k x h e f = f ∙ rw (e ∙ le_bytes-is x h, length-unfours (x ∷ []))
 
-  pub put_one : (n : ℕ) → n ≡ 1 → k + 1 ≤ length d → set d k a ≡ with_bytes n
-  unfolding unfours
-  put_one n z h = rw z (sets-eq (a ∷ []) d k h ∙ append_assoc (take k d) (a ∷ []) (drop (k + 1) d) ∙ rw ha)
-
-  pub put_two : (n : ℕ) → n ≡ 2 → k + 2 ≤ length d → set (set d k a) (k + 1) b ≡ with_bytes n
-  unfolding unfours
-  put_two n z h = rw (z, add-one k) (sets-eq (a ∷ b ∷ []) d k h ∙ append_assoc (take k d) (a ∷ b ∷ []) (drop (k + 2) d) ∙ rw (ha, hb))
-
-  pub put_three : (n : ℕ) → n ≡ 3 → k + 3 ≤ length d → set (set (set d k a) (k + 1) b) (k + 2) e ≡ with_bytes n
-  unfolding unfours
-  put_three n z h = rw (z, add-one k, add-two k) (sets-eq (a ∷ b ∷ e ∷ []) d k h ∙ append_assoc (take k d) (a ∷ b ∷ e ∷ []) (drop (k + 3) d) ∙ rw (ha, hb, he))
-
-  pub put_four : k + 4 ≤ length d → set (set (set (set d k a) (k + 1) b) (k + 2) e) (k + 3) f ≡ take k d ++ (unfours (x ∷ []) ++ drop (k + 4) d)
-  unfolding unfours
-  put_four h =
-      rw (add-one k, add-two k, add-three k) (sets-eq (a ∷ b ∷ e ∷ f ∷ []) d k h ∙ append_assoc (take k d) (a ∷ b ∷ e ∷ f ∷ []) (drop (k + 4) d) ∙ rw (ha, hb, he, hf))
+-- as many of its first bytes as are left of the word w from k on, and these
+pub bytes-same : (w b : List ℕ) (k x : ℕ) (r : Bool) → x < 4294967296 → b ≡ to_le_bytes w32 x → r ≡ pointwise eqb (take (length w - k) b) (take (length w - k) (drop k w))
+    → r ≡ bytes_equal (take (length w - k) (unfours (x ∷ []))) (drop k w)
+bytes-same w b k x r h e f =
+    let l : length (drop k w) ≤ length w - k = omega (arith, length-drop k w) in
+    f ∙ rw (e ∙ le_bytes-is x h, take_all (length w - k) (drop k w) l) (pointwise-is _ (drop k w))
 
 unfours-drop : (q : ℕ) (l : List ℕ) → drop (4 * q) (unfours l) ≡ unfours (drop q l)
 unfolding unfours

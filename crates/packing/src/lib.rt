@@ -14,11 +14,9 @@ fn pack_lengths(pool: &[u8], ends: &[u32], state: &mut [u8])
     requires { Packable pool.now ends.now (length state.old) }
     ensures { state.new ≡ pasted state.old 0 (lengths (abs pool.now ends.now)) }
 {
-    let mut j = 0;
-    while j < StatePlaces::STRINGS_COUNT {
+    for j in 0..StatePlaces::STRINGS_COUNT {
         let n = store::len_of(pool, ends, j);
         cells::put_two(state, 2 * j, n);
-        j += 1;
     }
 }
 
@@ -28,12 +26,10 @@ fn pack_strings(pool: &[u8], ends: &[u32], state: &mut [u8]) -> usize
     ensures { Stringed state.old (abs pool.now ends.now) result state.new }
 {
     let mut at = StatePlaces::LENGTHS_BYTES;
-    let mut j = 0;
-    while j < StatePlaces::STRINGS_COUNT {
+    for j in 0..StatePlaces::STRINGS_COUNT {
         let bytes = store::string_of(pool, ends, j);
         cells::put(state, at, bytes);
         at += bytes.len();
-        j += 1;
     }
     at
 }
@@ -55,14 +51,11 @@ pub fn unpack(state: &[u8], pool: &mut [u8], ends: &mut [u32])
 {
     let mut at = 0;
     let mut from = StatePlaces::LENGTHS_BYTES;
-    let mut j = 0;
-    while j < StatePlaces::STRINGS_COUNT {
+    for j in 0..StatePlaces::STRINGS_COUNT {
         let n = cells::two_at(state, 2 * j);
         let to = at + gaps::APART;
-        let end = from + n;
-        gaps::lay(pool, ends, j, to, &state[from..end]);
+        gaps::lay(pool, ends, j, to, &state[from..from + n]);
         at = to + n;
-        from = end;
-        j += 1;
+        from += n;
     }
 }

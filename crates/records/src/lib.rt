@@ -65,8 +65,7 @@ pub fn contents_at(s: &[u8], at: usize) -> &[u8]
     ensures { Part s.now (record_in (drop at s.now)).parts result.now }
 {
     let a = at + 5;
-    let e = a + cells::two_at(s, at + 3);
-    &s[a..e]
+    &s[a..a + cells::two_at(s, at + 3)]
 }
 
 // The components of the first record, none where there is no record.
@@ -74,7 +73,7 @@ pub fn next_contents(s: &[u8]) -> &[u8]
     requires { WholeRecords s.now }
     ensures { Part s.now (next_contents (records_in s.now)) result.now }
 {
-    if s.len() == 0 {
+    if s.is_empty() {
         return &s[..0];
     }
     contents_at(s, 0)
@@ -85,8 +84,7 @@ pub fn first_of(contents: &[u8]) -> &[u8]
     requires { WholeComponents contents.now }
     ensures { Part contents.now (take 1 (components_in contents.now)) result.now }
 {
-    let n = components::first_size(contents);
-    &contents[..n]
+    &contents[..components::first_size(contents)]
 }
 
 // Whether two records have the same components.
@@ -94,7 +92,7 @@ pub fn same_contents(a: &[u8], b: &[u8]) -> bool
     requires { BothWhole a.now b.now }
     ensures { result ≡ same_list same (components_in a.now) (components_in b.now) }
 {
-    check::same(a, b)
+    a == b
 }
 
 // The address of the last record, 0 where there is none.
@@ -111,6 +109,7 @@ pub fn last_address(s: &[u8]) -> usize
 }
 
 // The record of an address.
+// By index, as in all loops here: their laws speak of the sequence and a place in it.
 pub fn find(s: &[u8], address: usize) -> Found
     requires { WholeRecords s.now }
     ensures { Sought address s.now result }
@@ -141,10 +140,9 @@ fn stops_void(test: matching::Test, k: usize) -> bool
     ensures { result ≡ stops_void test k }
 {
     match test {
-        matching::Test::All => false,
+        matching::Test::All | matching::Test::Among => false,
         matching::Test::Count(n) => n <= k,
         matching::Test::Class(_) => true,
-        matching::Test::Among => false,
     }
 }
 
@@ -153,7 +151,7 @@ fn stops_first(test: matching::Test, k: usize, x: &[u8], given: &[u8]) -> bool
     requires { FirstStoppable test x.now given.now }
     ensures { result ≡ stops_before (until test given.now) k (first (components_in x.now)) }
 {
-    if x.len() == 0 {
+    if x.is_empty() {
         return stops_void(test, k);
     }
     matching::stops(test, k, x, given)
@@ -199,11 +197,10 @@ pub fn count(s: &[u8], test: RecordTest, given: &[u8]) -> Sequence
         at = end_of(s, at);
         k += 1;
     }
-    let reached = reached_at(test, k);
     Sequence {
         records: k,
         bytes: at,
-        reached: reached,
+        reached: reached_at(test, k),
     }
 }
 
@@ -221,10 +218,7 @@ pub fn totals_of(s: &[u8]) -> Totals
         chars += t.chars;
         at = end_of(s, at);
     }
-    Totals {
-        parts: parts,
-        chars: chars,
-    }
+    Totals { parts, chars }
 }
 
 // Writes the record of an address and components at the front of `dst`.
@@ -255,6 +249,7 @@ pub fn stamp(dst: &mut [u8], src: &[u8], last: usize)
 }
 
 // Writes them with the same addresses, the last record first.
+// Not one with `stamp`: there only the addresses change in a copy of the whole.
 pub fn stamp_reversed(dst: &mut [u8], src: &[u8], last: usize)
     requires { Copyable dst.old src.now last }
     ensures { dst.new ≡ pasted dst.old 0 (records_bytes (reverse (stamped last (map (λ r. r.parts) (records_in src.now))))) }

@@ -16,15 +16,13 @@ use language::Machine;
 use layout::StatePlaces;
 
 // Reads the scalars, three cells each.
+// By `cells::three_at`, and written by `put_three`: `u32::from_le_bytes` takes four bytes, and these are three.
 fn read_scalars(state: &[u8], nums: &mut [u32])
     requires { Scalars (length state.now) (length nums.old) }
     ensures { nums.new ≡ threes_in scalars_count state.now }
 {
-    let mut k = 0;
-    while k < StatePlaces::SCALARS_COUNT {
-        let n = cells::three_at(state, 3 * k);
-        cells::write(nums, k, n);
-        k += 1;
+    for (k, n) in nums.iter_mut().enumerate() {
+        *n = cells::three_at(state, 3 * k) as u32;
     }
 }
 
@@ -33,11 +31,8 @@ fn write_scalars(nums: &[u32], state: &mut [u8])
     requires { Numbers nums.now (length state.old) }
     ensures { state.new ≡ each three nums.now ++ drop first_length state.old }
 {
-    let mut k = 0;
-    while k < StatePlaces::SCALARS_COUNT {
-        let n = cells::read(nums, k);
-        cells::put_three(state, 3 * k, n);
-        k += 1;
+    for (k, n) in nums.iter().enumerate() {
+        cells::put_three(state, 3 * k, *n as usize);
     }
 }
 

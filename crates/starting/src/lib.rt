@@ -9,7 +9,7 @@ ghost use Rattle.language.specs.Limits as limit;
 use language::Machine;
 use layout::StatePlaces;
 
-// Writes it to lent memory: of its cells only the first, H, is not 0.
+// Writes it to lent memory: of its cells only the first, H, is not 0. `clear` has as its promise what `fill` leaves to prove cell by cell.
 pub fn start(state: &mut [u8])
     requires { limit.state ≤ length state.old }
     ensures { state.new ≡ written started state.old }

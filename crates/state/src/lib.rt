@@ -15,6 +15,7 @@ use store::from_cells;
 use store::from_layout::StatePlaces;
 
 // Scalar `k`: H (1 for plus), the read places, the next instruction, the last address, and the totals of components, characters and records.
+// The scalars are one list, as at rest, and any is read by its place: a struct of eight would need a conversion both ways.
 pub fn number(pool: &[u8], ends: &[u32], nums: &[u32], k: usize) -> usize
     requires { Numbered pool.now ends.now nums.now k }
     ensures { Told pool.now ends.now nums.now k result }
@@ -23,6 +24,7 @@ pub fn number(pool: &[u8], ends: &[u32], nums: &[u32], k: usize) -> usize
 }
 
 // Whether H is plus.
+// H is a number, 1 or 0, since it is one of the scalars, which are a list of cells.
 pub fn is_plus(pool: &[u8], ends: &[u32], nums: &[u32]) -> bool
     requires { Stands pool.now ends.now nums.now }
     ensures { result ≡ (state_at pool.now ends.now nums.now).store.plus }
@@ -114,6 +116,7 @@ pub fn past_parts(
 }
 
 // Puts bytes behind string `i` or before it.
+// The end is a flag, here and in `write_parts`, as the specification has it: `pushed` and `writing` are over a Bool.
 fn push(pool: &mut [u8], ends: &mut [u32], scratch: &mut [u8], i: usize, at_end: bool, bytes: &[u8])
     requires { Pushable pool.old ends.old i (length bytes.now) (length scratch.old) }
     ensures { Holds pool.new ends.new (pushed at_end i bytes.now (abs pool.old ends.old)) }

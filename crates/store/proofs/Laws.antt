@@ -14,8 +14,8 @@ pub use Rattle.gaps.proofs.Index.{used-set}
 use Rattle.gaps.proofs.Index.{offset-within}
 use Rattle.gaps.proofs.Parts.{drop-take}
 pub use Rattle.gaps.proofs.Laws.{abs-of, good, after, fine-holds, count, length-abs}
-use Rattle.gaps.proofs.Laws.{string-is, string-part, shaped, changed, ordered-set, str-other, str-lo, str-hi, low-cell, high-cell}
-use Rattle.store.specs.Store.{Long, Whole, Part, dropped_front, dropped_back}
+use Rattle.gaps.proofs.Laws.{string-is, shaped, changed, ordered-set, str-other, str-lo, str-hi, low-cell, high-cell}
+use Rattle.store.specs.Store.{Whole, dropped_front, dropped_back}
 
 -- reading
 
@@ -23,22 +23,8 @@ pub string-most : {p e : List ℕ} → Fine p e → (i : ℕ) → length (string
 string-most {p} {e} f i = omega (arith, offset-within (abs p e) i, f.fits)
 
 module _ {p e : List ℕ} {i : ℕ} (f : Fine p e) (b : i < layout.strings_count) where
-  pub length-told : {x y : ℕ} → x ≡ lo e i → y ≡ hi e i → Long p e i (y - x)
-  length-told q r = let s = shaped f b in record { is = omega arith; most = omega (arith, string-most f i) }
-
-  pub string-told : {x y : ℕ} → x ≡ lo e i → y ≡ hi e i → Whole p e i (take (y - x) (drop x p))
-  string-told q r =
-      let w : take (hi e i - lo e i) (drop (lo e i) p) ≡ string i (abs p e) = sym (string-part p e i b) in
-      record { is = rw (q, r) w; most = rw (q, r, w) (string-most f i) }
-
-  pub part-told : (at n : ℕ) {x : ℕ} → x ≡ lo e i → at + n ≤ length (string i (abs p e)) → Part p e i at n (take ((x + at + n) - (x + at)) (drop (x + at) p))
-  part-told at n {x} q h =
-      let s = shaped f b in
-      let r : (x + at + n) - (x + at) ≡ n = omega arith in
-      let y : n ≤ (hi e i - lo e i) - at = omega arith in
-      let v : take n (drop (x + at) p) ≡ take n (drop at (string i (abs p e))) =
-      rw (q, string-part p e i b, drop-take at (hi e i - lo e i) (drop (lo e i) p), take-take n ((hi e i - lo e i) - at) (drop at (drop (lo e i) p)) y, drop-drop) in
-      record { is = rw r v; long = rw r (simp (length-take, length-drop) (omega (arith, f.size))); most = omega (arith, string-most f i) }
+  pub string-told : {r : List ℕ} → r ≡ str p e i → Whole p e i r
+  string-told q = let w = q ∙ sym (string-is p e i b) in record { is = w; most = rw w (string-most f i) }
 
   -- taking away
 

@@ -13,9 +13,7 @@ pub fn len_of(pool: &[u8], ends: &[u32], i: usize) -> usize
     requires { Named pool.now ends.now i }
     ensures { Long pool.now ends.now i result }
 {
-    let a = gaps::from_cells::read(ends, 2 * i);
-    let b = gaps::from_cells::read(ends, 2 * i + 1);
-    b - a
+    string_of(pool, ends, i).len()
 }
 
 // The bytes of string `i`.
@@ -23,9 +21,7 @@ pub fn string_of<'a>(pool: &'a [u8], ends: &[u32], i: usize) -> &'a [u8]
     requires { Named pool.now ends.now i }
     ensures { Whole pool.now ends.now i result.now }
 {
-    let a = gaps::from_cells::read(ends, 2 * i);
-    let b = gaps::from_cells::read(ends, 2 * i + 1);
-    &pool[a..b]
+    gaps::string_at(pool, ends, i)
 }
 
 // The `n` bytes of string `i` from `at` on.
@@ -33,9 +29,8 @@ pub fn part_of<'a>(pool: &'a [u8], ends: &[u32], i: usize, at: usize, n: usize) 
     requires { Within pool.now ends.now i at n }
     ensures { Part pool.now ends.now i at n result.now }
 {
-    let a = gaps::from_cells::read(ends, 2 * i) + at;
-    let b = a + n;
-    &pool[a..b]
+    let bytes = string_of(pool, ends, i);
+    &bytes[at..at + n]
 }
 
 // Copies the `n` bytes of string `i` from `at` on to the front of `hold`.
@@ -46,7 +41,7 @@ fn copy_out(pool: &[u8], ends: &[u32], hold: &mut [u8], i: usize, at: usize, n: 
     gaps::from_cells::put(hold, 0, part_of(pool, ends, i, at, n));
 }
 
-// Takes the first `n` bytes of string `i` away.
+// Takes the first `n` bytes of string `i` away. Front and back stay two functions here and below: each has its theorem, and two to four lines.
 pub fn drop_front(pool: &[u8], ends: &mut [u32], i: usize, n: usize)
     requires { Droppable pool.now ends.old i n }
     ensures { Holds pool.now ends.new (dropped_front i n (abs pool.now ends.old)) }

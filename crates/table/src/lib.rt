@@ -1,7 +1,7 @@
 // Reading a program table, "a table of 8,192 numbers of 32 bits": the only code that reads its cells. docs/LAYOUT.md has their places.
 #![tactic(auto)]
 
-ghost use Rattle.std.specs.Prelude.{◌≡◌, [], ◌∷◌, ◌+◌, ◌*◌, ◌%◌, ◌≤◌, ◌<◌, length};
+ghost use Rattle.std.specs.Prelude.{◌≡◌, ◌+◌, ◌*◌, ◌%◌, ◌≤◌, ◌<◌, length, position};
 ghost use Rattle.packed.specs.Below.Lists.{bytes_equal};
 ghost use Rattle.packed.specs.Below.Program.{meets};
 ghost use Rattle.packed.specs.Below.Cells.{Number};
@@ -9,7 +9,7 @@ ghost use Rattle.packed.specs.Below.LayoutCells.{cell, uncode};
 ghost use Rattle.packed.specs.Below.Table.{number_by, text_by, instr_in, label_in, switch_in, entry_in, program_of};
 ghost use Rattle.packed.specs.Packed.{table_of, Copied};
 ghost use Rattle.table.specs.Denote.{letter_of, letter_at};
-ghost use Rattle.table.specs.Reads.{Place, IsArgument, Into, switch_first, switch_size, entry_ref, Keyed, Entries, entries_from, met};
+ghost use Rattle.table.specs.Reads.{Place, IsArgument, Into, switch_first, switch_size, entry_ref, Keyed, Entries, entries_from};
 ghost use Rattle.packed.specs.Below.Limits as limit;
 ghost use Rattle.packed.specs.Below.LayoutPlaces.{instruction_count, label_count, switch_count, entry_count, text_count, number_count, first_instruction};
 
@@ -47,46 +47,12 @@ pub enum Argument {
     Number(u32),
 }
 
-fn wide(x: u32) -> usize
-    ensures { Number x 4294967296 result }
-{
-    x as usize
-}
-
-fn narrow(x: u32) -> u8
-    requires { x < 256 }
-    ensures { Number x 256 result }
-{
-    x as u8
-}
-
-fn byte(n: usize) -> u8
-    requires { n < 256 }
-    ensures { result ≡ n }
-{
-    n as u8
-}
-
-// Whether `word` is the one character `b`.
-fn byte_is(b: usize, word: &[u8]) -> bool
-    requires { b < 256 }
-    ensures { result ≡ bytes_equal (b ∷ []) word.now }
-{
-    if word.len() != 1 {
-        return false;
-    }
-    byte(b) == word[0]
-}
-
 // Cell `k`, and 0 past the table.
 fn cell_at(table: &[u32], k: usize) -> u32
     requires { limit.table ≤ length table.now }
     ensures { result ≡ cell (table_of table.now) k }
 {
-    if k < Machine::TABLE {
-        return table[k];
-    }
-    0
+    table[..Machine::TABLE].get(k).copied().unwrap_or(0)
 }
 
 // The letter at a place among the twelve.
@@ -117,7 +83,7 @@ fn number_by(table: &[u32], v: u32) -> u32
     if v < 31 {
         return v + 8388592;
     }
-    cell_at(table, TablePlaces::FIRST_NUMBER + wide(v - 31))
+    cell_at(table, TablePlaces::FIRST_NUMBER + (v - 31) as usize)
 }
 
 // The argument in cell `k`.
@@ -128,11 +94,11 @@ fn argument_at(table: &[u32], k: usize) -> Argument
     let x = table[k];
     let v = x / 8;
     match x % 8 {
-        1 => Argument::Indexed(letter_by(v / 64), wide(v % 64)),
-        2 => Argument::Label(wide(v)),
-        3 => Argument::Switch(wide(v)),
-        4 => Argument::Class(narrow(v % 16)),
-        5 => Argument::Text(wide(v)),
+        1 => Argument::Indexed(letter_by(v / 64), (v % 64) as usize),
+        2 => Argument::Label(v as usize),
+        3 => Argument::Switch(v as usize),
+        4 => Argument::Class((v % 16) as u8),
+        5 => Argument::Text(v as usize),
         6 => Argument::Number(number_by(table, v)),
         _ => Argument::Nothing,
     }
@@ -147,6 +113,7 @@ fn read(table: &[u32], k: usize) -> usize
 }
 
 // How many instructions, labels, switches, entries, texts and numbers the program has.
+// One reader each, of one line: a number for which count is wanted would be no plainer.
 pub fn instructions(table: &[u32]) -> usize
     requires { limit.table ≤ length table.now }
     ensures { Number (cell (table_of table.now) instruction_count) 4294967296 result }
@@ -194,7 +161,7 @@ pub fn operator(table: &[u32], i: usize) -> u8
     requires { Place table.now i 512 }
     ensures { Number (cell (table_of table.now) (first_instruction + 4 * i) % 64) 64 result }
 {
-    byte(read(table, TablePlaces::FIRST_INSTRUCTION + 4 * i) % 64)
+    (read(table, TablePlaces::FIRST_INSTRUCTION + 4 * i) % 64) as u8
 }
 
 // The line of instruction `i`.
@@ -206,6 +173,7 @@ pub fn line(table: &[u32], i: usize) -> usize
 }
 
 // The arguments of instruction `i`.
+// One reader each, of one line: a number for which argument is wanted would be no plainer.
 pub fn first(table: &[u32], i: usize) -> Argument
     requires { Place table.now i 512 }
     ensures { IsArgument (table_of table.now) (1 + (first_instruction + 4 * i)) result }
@@ -236,6 +204,7 @@ pub fn target(table: &[u32], k: usize) -> usize
 }
 
 // Whether the name of label `k` is `word`.
+// All that this and `text_is` share is a call of `packed::spells`: the first cell of a label has its instruction too.
 pub fn name_is(table: &[u32], k: usize, word: &[u8]) -> bool
     requires { Place table.now k 128 }
     ensures { result ≡ bytes_equal (label_in (table_of table.now) k).name word.now }
@@ -245,15 +214,16 @@ pub fn name_is(table: &[u32], k: usize, word: &[u8]) -> bool
 }
 
 // Whether a text is `word`.
+// The three ways of a reference stand here and in `put_text`, since each does something else with a text.
 pub fn text_is(table: &[u32], v: usize, word: &[u8]) -> bool
     requires { Place table.now v 384 }
     ensures { result ≡ bytes_equal (text_by (table_of table.now) v) word.now }
 {
     if v == 0 {
-        return word.len() == 0;
+        return word.is_empty();
     }
     if v < 256 {
-        return byte_is(v, word);
+        return [v as u8].as_slice() == word;
     }
     let k = v - 256;
     packed::spells(
@@ -273,7 +243,7 @@ pub fn put_text(table: &[u32], v: usize, out: &mut [u8]) -> usize
         return 0;
     }
     if v < 256 {
-        out[0] = byte(v);
+        out[0] = v as u8;
         return 1;
     }
     let k = v - 256;
@@ -336,17 +306,15 @@ fn meets(table: &[u32], e: usize, word: &[u8]) -> bool
     text_is(table, v, word) | named
 }
 
-// The first of the `count` entries from entry `first` on that is met by `word`, counted from `first`; `count` where there is none.
-pub fn find_entry(table: &[u32], first: usize, count: usize, word: &[u8]) -> usize
+// The first of the `count` entries from entry `first` on that is met by `word`, counted from `first`.
+pub fn find_entry(table: &[u32], first: usize, count: usize, word: &[u8]) -> Option<usize>
     requires { Entries table.now first count }
-    ensures { result ≡ met table.now word.now (entries_from (table_of table.now) first count) }
+    ensures { result ≡ position (λ x. meets (program_of table.now) x word.now) (entries_from (table_of table.now) first count) }
 {
-    let mut k = 0;
-    while k < count {
+    for k in 0..count {
         if meets(table, first + k, word) {
-            return k;
+            return Some(k);
         }
-        k += 1;
     }
-    count
+    None
 }

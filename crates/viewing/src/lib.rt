@@ -17,13 +17,10 @@ fn string_at<'a>(strings: &'a [u8], i: usize) -> &'a [u8]
     ensures { result.now ≡ string i (strings_in strings.now) }
 {
     let mut from = StatePlaces::LENGTHS_BYTES;
-    let mut j = 0;
-    while j < i {
+    for j in 0..i {
         from += cells::two_at(strings, 2 * j);
-        j += 1;
     }
-    let end = from + cells::two_at(strings, 2 * i);
-    &strings[from..end]
+    &strings[from..from + cells::two_at(strings, 2 * i)]
 }
 
 // Q1.

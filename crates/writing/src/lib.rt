@@ -2,8 +2,7 @@
 // docs/LAYOUT.md has their places. A text or a number goes to its table before the argument that refers to it.
 #![tactic(auto)]
 
-ghost use Rattle.std.specs.Prelude.{cond, ◌≤◌, length};
-ghost use Rattle.blocks.specs.Below.Cells.{Number};
+ghost use Rattle.std.specs.Prelude.{◌≤◌, length};
 ghost use Rattle.writing.specs.Writing.{with_text, with_number, with_label, with_instr, with_switch, with_entry, with_argument, with_entry_label, label_of, Cleared, Changes, Writes, Room, WordRoom, LabelRoom, InstrRoom, SwitchRoom, EntryRoom, ArgumentAt, EntryAt, IsNumber, IsInstr, IsEntry, IsArg};
 ghost use Rattle.blocks.specs.Below.Limits as limit;
 ghost use Rattle.blocks.specs.Below.LayoutPlaces.{text_count, number_count};
@@ -11,15 +10,6 @@ ghost use Rattle.blocks.specs.Below.LayoutPlaces.{text_count, number_count};
 use blocks::from_cells;
 use blocks::from_language::Machine;
 use blocks::from_layout::TablePlaces;
-
-fn bit(b: bool) -> usize
-    ensures { Number (cond b 1 0) 2 result }
-{
-    if b {
-        return 1;
-    }
-    0
-}
 
 // Sets all cells to 0, which is the empty program.
 pub fn clear_table(table: &mut [u32])
@@ -30,6 +20,7 @@ pub fn clear_table(table: &mut [u32])
 }
 
 // Adds a text.
+// Not one with `put_label`: all that they share is `put_named` and a count.
 pub fn put_text(table: &mut [u32], word: &[u8])
     requires { WordRoom table.old text_count limit.texts (length word.now) }
     ensures { Changes (with_text word.now) table.old table.new }
@@ -91,7 +82,7 @@ pub fn put_switch(table: &mut [u32], named: bool)
     from_cells::write(
         table,
         TablePlaces::FIRST_SWITCH + n,
-        bit(named) + 512 * first,
+        usize::from(named) + 512 * first,
     );
     from_cells::write(table, TablePlaces::SWITCH_COUNT, n + 1);
 }

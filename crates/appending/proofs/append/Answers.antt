@@ -1,5 +1,4 @@
 -- `appending::append` meets its contract.
-use borrow.Author.Rules.{rules}
 use native.Mathlib.Omega.{arith}
 use Prim.Native.Nat.{◌+◌}
 use lib.ListN.{length}
@@ -11,22 +10,10 @@ returns-then-row-at c =
     let args = c.args in
     no_room args.row.now args.at args.bytes.now (omega arith) args.at (omega arith)
 
-pub overflow_sub-row : goal.overflow_sub-row
-overflow_sub-row c = search rules
-
-pub overflow_add-result : goal.overflow_add-result
-overflow_add-result c = search rules
-
 pub returns-then-row-at-2 : goal.returns-then-row-at-2
 returns-then-row-at-2 c =
     let args = c.args in
     no_room args.row.now args.at args.bytes.now (omega arith) (length args.row.now + 1) (omega arith)
-
-pub put-requires : goal.put-requires
-put-requires c = search rules
-
-pub overflow_add-result-2 : goal.overflow_add-result-2
-overflow_add-result-2 c = search rules
 
 pub returns : goal.returns
 returns c =

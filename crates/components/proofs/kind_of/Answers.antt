@@ -2,17 +2,11 @@
 use mathlib.Core.Path.{refl, sym, ◌∙◌}
 use native.Mathlib.Omega.{arith}
 use borrow.Author.Tests.{eq-eqb, ne_eqb}
-use Rattle.components.proofs.Fronts.{leading-chars, leading-short, front-kind}
+use Rattle.components.proofs.Fronts.{front-kind}
 use Rattle.components.proofs.kind_of.Goals as goal
-
-pub bounds-x-0 : goal.bounds-x-0
-bounds-x-0 c = omega (arith, leading-chars (c.requires))
 
 pub returns-then-x-ne0 : goal.returns-then-x-ne0
 returns-then-x-ne0 c = record { is = sym (front-kind c.args.x.now ∙ rw (ne_eqb _ _ c.if-x-ne0.true) refl); most = omega arith }
-
-pub bounds-x-1 : goal.bounds-x-1
-bounds-x-1 c = omega (arith, leading-short (c.requires) c.if-x-ne0.false)
 
 pub returns-then-x-eq1 : goal.returns-then-x-eq1
 returns-then-x-eq1 c = record { is = sym (front-kind c.args.x.now ∙ rw (eq-eqb _ _ c.if-x-ne0.false, eq-eqb _ _ c.if-x-eq1.true) refl); most = omega arith }

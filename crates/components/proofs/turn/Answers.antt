@@ -1,6 +1,6 @@
 -- `components::turn` meets its contract.
 use native.Mathlib.Omega.{arith}
-use Rattle.components.proofs.Walks.{step, part-long}
+use Rattle.components.proofs.Walks.{step}
 use Rattle.components.proofs.Makings.{turning-none, turning-next, turning-all}
 use Rattle.components.proofs.turn.Goals as goal
 
@@ -18,17 +18,6 @@ pub slice_bounds-put-end : goal.slice_bounds-put-end
 slice_bounds-put-end c =
     let s = step c.loop-at.invariant.rest c.loop-at-test.true c.size_by.ensures in
     omega (arith, s.fits)
-
-pub put-requires : goal.put-requires
-put-requires c =
-    let h = c.loop-at in
-    let s = step h.invariant.rest c.loop-at-test.true c.size_by.ensures in
-    omega (arith, s.fits, s.more, part-long s, h.invariant.long, c.requires.room)
-
-pub loop-at-smaller : goal.loop-at-smaller
-loop-at-smaller c =
-    let s = step c.loop-at.invariant.rest c.loop-at-test.true c.size_by.ensures in
-    omega (arith, s.fits, s.more)
 
 pub loop-at-preserved : goal.loop-at-preserved
 loop-at-preserved c =

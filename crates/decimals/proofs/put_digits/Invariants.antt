@@ -1,10 +1,6 @@
 -- `decimals::put_digits` meets its contract.
-use Prim.Native.Nat.{◌-◌, ◌≤◌}
 use Rattle.decimals.proofs.Digits.{Digiting}
 use Rattle.decimals.proofs.put_digits.Given as goal
 
 abbrev pub invariant-loop-i : goal.invariant-loop-i
-invariant-loop-i l = (l.i ≤ l.e) × Digiting l.initial.out l.at l.n l.out l.i l.m
-
-abbrev pub decreases-loop-i : goal.decreases-loop-i
-decreases-loop-i l = l.i - l.at
+invariant-loop-i l = Digiting l.initial.out l.at l.n l.out l.i l.m

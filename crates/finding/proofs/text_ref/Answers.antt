@@ -1,19 +1,9 @@
 -- `finding::text_ref` meets its contract.
 use native.Mathlib.Omega.{arith}
-use Rattle.finding.proofs.References.{no_text, one-character, long_text}
+use Rattle.finding.proofs.Found.{text_told}
+use Rattle.finding.proofs.References.{text_many}
 use Rattle.finding.proofs.text_ref.Goals as goal
 
-pub returns-then-word-eq0 : goal.returns-then-word-eq0
-returns-then-word-eq0 c =
-    no_text c.args.table.now c.args.word.now c.if-word-eq0.true
-
-pub returns-then-word-eq1 : goal.returns-then-word-eq1
-returns-then-word-eq1 c =
-    one-character c.args.table.now c.args.word.now c.wide.result c.if-word-eq1.true c.wide.ensures.is c.wide.ensures.most
-
-pub overflow_add-result : goal.overflow_add-result
-overflow_add-result c = omega (arith, c.find_text.ensures.most)
-
-pub returns : goal.returns
-returns c =
-    long_text c.args.table.now c.args.word.now c.find_text.result (omega (arith, c.if-word-eq0.false, c.if-word-eq1.false)) c.find_text.ensures
+pub returns-in_default : goal.returns-in_default
+returns-in_default c =
+    text_many c.args.table.now c.args.word.now c.in_default.len_at_least (text_told c.args.table.now c.args.word.now c.find_text.ensures c.texts.ensures.is (omega (arith, c.texts.ensures.is, c.requires.most)) c.unwrap_or.ensures)

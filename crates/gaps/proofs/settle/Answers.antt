@@ -1,57 +1,15 @@
--- `gaps::settle` meets its contract. The invariant: the first j strings lie in `pool` as in `scratch`.
-use lib.ListN.{length-take, length-drop}
-use Rattle.gaps.specs.Pool.{str}
-use Rattle.gaps.proofs.Laws.{spanned}
-use Rattle.gaps.proofs.Spread.{settled-none, settled-more, settled-all}
+-- `gaps::settle` meets its contract.
 use native.Mathlib.Omega.{arith}
+use Rattle.gaps.proofs.Laws.{spanned, length-lent}
+use Rattle.gaps.proofs.Spread.{settled-more}
 use Rattle.gaps.proofs.settle.Goals as goal
-
-pub loop-j-init : goal.loop-j-init
-loop-j-init c = settled-none c.requires
-
-pub slice_bounds-put-count : goal.slice_bounds-put-count
-slice_bounds-put-count c =
-    let pre = c.requires in
-    let loop-test = c.loop-j-test in
-    let read = c.read-a in
-    let read2 = c.read-b in
-    omega (arith, spanned pre.ordered loop-test.true, pre.spare, read.ensures, read2.ensures)
-
-pub slice_bounds-put-start : goal.slice_bounds-put-start
-slice_bounds-put-start c =
-    let pre = c.requires in
-    let loop-test = c.loop-j-test in
-    let read = c.read-a in
-    let read2 = c.read-b in
-    omega (arith, spanned pre.ordered loop-test.true, pre.spare, read.ensures, read2.ensures)
-
-pub slice_bounds-put-end : goal.slice_bounds-put-end
-slice_bounds-put-end c =
-    let pre = c.requires in
-    let loop-test = c.loop-j-test in
-    let read = c.read-a in
-    let read2 = c.read-b in
-    omega (arith, spanned pre.ordered loop-test.true, pre.spare, read.ensures, read2.ensures)
 
 pub put-requires : goal.put-requires
 put-requires c =
     let pre = c.requires in
-    let loop = c.loop-j in
-    let loop-test = c.loop-j-test in
-    let read = c.read-a in
-    let read2 = c.read-b in
-    simp (length-take, length-drop) (omega (arith, spanned pre.ordered loop-test.true, pre.spare, read.ensures, read2.ensures, loop.invariant.size))
+    let s = spanned pre.ordered c.loop-j-test.true in
+    let long = length-lent c.args.scratch.now c.args.ends.now c.loop-j.j s.ordered (omega (arith, s.most, pre.spare)) c.string_at.ensures in
+    omega (arith, long, s.most, c.read-at.ensures.is, c.loop-j.invariant.size)
 
 pub loop-j-preserved : goal.loop-j-preserved
-unfolding str
-loop-j-preserved c =
-    let pre = c.requires in
-    let loop = c.loop-j in
-    let loop-test = c.loop-j-test in
-    let read = c.read-a in
-    let read2 = c.read-b in
-    let put = c.put in
-    settled-more pre loop.invariant loop-test.true (rw (← read.ensures.is, ← read2.ensures.is) put.ensures)
-
-pub returns : goal.returns
-returns c = settled-all c.loop-j.invariant c.loop-j-test.false
+loop-j-preserved c = settled-more c.requires c.loop-j.invariant c.loop-j-test.true (rw (← c.read-at.ensures.is, ← c.string_at.ensures) c.put.ensures)

@@ -1,11 +1,6 @@
 -- `gaps::settle` meets its contract. The invariant: the first j strings lie in `pool` as in `scratch`.
-use Prim.Native.Nat.{◌-◌}
 use Rattle.gaps.specs.Gaps.{Settled}
-use Rattle.cells.specs.Below.LayoutPlaces as layout
 use Rattle.gaps.proofs.settle.Given as goal
 
 abbrev pub invariant-loop-j : goal.invariant-loop-j
 invariant-loop-j l = Settled l.pool l.ends l.scratch l.j
-
-abbrev pub decreases-loop-j : goal.decreases-loop-j
-decreases-loop-j l = layout.strings_count - l.j

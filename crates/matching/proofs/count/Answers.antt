@@ -27,19 +27,14 @@ returns-then-stops c =
     let s = step h.invariant.rest c.loop-at-test.true c.size_by.ensures in
     going-stop h.invariant s c.requires.whole c.stops.ensures c.if-stops.true
 
-pub loop-at-smaller : goal.loop-at-smaller
-loop-at-smaller c =
-    let s = step c.loop-at.invariant.rest c.loop-at-test.true c.size_by.ensures in
-    omega (arith, s.more, s.fits)
-
 pub loop-at-preserved : goal.loop-at-preserved
 loop-at-preserved c =
     let h = c.loop-at in
     let s = step h.invariant.rest c.loop-at-test.true c.size_by.ensures in
-    rw c.wide-chars.ensures.is (going_next h.invariant s c.stops.ensures c.if-stops.false)
+    rw c.from-chars.ensures (going_next h.invariant s c.stops.ensures c.if-stops.false)
 
 pub returns : goal.returns
 returns c =
     let a = c.args in
     let h = c.loop-at in
-    rw (c.reached-done.ensures, ← ends-reached a.test a.given.now h.k) (going_end h.invariant c.requires.whole c.loop-at-test.false)
+    rw (c.reached.ensures, ← ends-reached a.test a.given.now h.k) (going_end h.invariant c.requires.whole c.loop-at-test.false)

@@ -1,18 +1,12 @@
 -- `matching::first_chars` meets its contract.
 use mathlib.Core.Path.{ap}
-use native.Mathlib.Omega.{arith}
 use lib.ListN.{take}
 use Rattle.components.specs.Below.LanguageValues.{chars}
 use Rattle.components.proofs.Below.ComponentLaws.{one_of}
 use Rattle.components.proofs.Fronts.{leading-one}
 use Rattle.components.proofs.Walks.{step}
-use Rattle.components.proofs.Makings.{gathering-none, gathering-room, gathering-next, gathering-all}
+use Rattle.components.proofs.Makings.{gathering-room, gathering-next, gathering-all}
 use Rattle.matching.proofs.first_chars.Goals as goal
-
-pub loop-at-init : goal.loop-at-init
-loop-at-init c =
-    let a = c.args in
-    gathering-none (λ x. take 1 (chars x)) a.out.now a.given.now c.requires.whole
 
 pub slice_bounds-put_first-end : goal.slice_bounds-put_first-end
 slice_bounds-put_first-end c =
@@ -24,11 +18,6 @@ put_first-n-requires c =
     let h = c.loop-at in
     let s = step h.invariant.rest c.loop-at-test.true c.size_by.ensures in
     record { front = leading-one s.one; room = rw (one_of s.one) (gathering-room h.invariant c.requires.room s) }
-
-pub loop-at-smaller : goal.loop-at-smaller
-loop-at-smaller c =
-    let s = step c.loop-at.invariant.rest c.loop-at-test.true c.size_by.ensures in
-    omega (arith, s.fits, s.more)
 
 pub loop-at-preserved : goal.loop-at-preserved
 loop-at-preserved c =

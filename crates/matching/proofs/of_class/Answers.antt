@@ -1,17 +1,12 @@
 -- `matching::of_class` meets its contract.
 use mathlib.Core.Path.{refl, sym, ap, ◌∙◌}
 use mathlib.Core.List.{[]}
-use native.Mathlib.Omega.{arith}
 use Rattle.characters.specs.Characters.{class_places}
 use Rattle.characters.specs.Below.Lists.{all}
 use Rattle.components.specs.Below.Table.{class_by}
-use Rattle.components.proofs.Fronts.{leading-chars}
 use Rattle.matching.specs.Tests.{in_class}
 use Rattle.matching.proofs.Classes.{class-none, class-word}
 use Rattle.matching.proofs.of_class.Goals as goal
-
-pub bounds-x-0 : goal.bounds-x-0
-bounds-x-0 c = omega (arith, leading-chars (c.requires))
 
 pub returns-then-x-eq0 : goal.returns-then-x-eq0
 returns-then-x-eq0 c =

@@ -1,19 +1,11 @@
 -- `matching::put_first` meets its contract.
-use native.Mathlib.Omega.{arith}
-use Rattle.components.proofs.Fronts.{leading-chars}
 use Rattle.matching.proofs.Firsts.{first-none, first-room, first-put}
 use Rattle.matching.proofs.put_first.Goals as goal
-
-pub bounds-x-0 : goal.bounds-x-0
-bounds-x-0 c = omega (arith, leading-chars c.requires.front)
 
 pub returns-then-x-eq0 : goal.returns-then-x-eq0
 returns-then-x-eq0 c =
     let a = c.args in
     first-none a.out.now a.n a.x.now c.if-x-eq0.true
-
-pub bounds-x-1 : goal.bounds-x-1
-bounds-x-1 c = omega (arith, leading-chars c.requires.front)
 
 pub bounds-out-n : goal.bounds-out-n
 bounds-out-n c = first-room c.args.out.now (c.requires) c.if-x-eq0.false

@@ -9,37 +9,30 @@ use Rattle.packed.proofs.chars_are.Goals as goal
 
 pub returns-then-not-end_is : goal.returns-then-not-end_is
 returns-then-not-end_is c =
-    let b : (j : ℕ) → get_or c.args.word.now j 0 < 256 = λ j. omega (arith, c.shared_slice_known-2-1.given j) in
-    let f : (j : ℕ) → get_or c.args.table.now j 0 < 4294967296 = λ j. omega (arith, c.shared_slice_known-1.given j) in
+    let b : (j : ℕ) → get_or c.args.word.now j 0 < 256 = λ j. omega (arith, c.type_inv.word j) in
+    let f : (j : ℕ) → get_or c.args.table.now j 0 < 4294967296 = λ j. omega (arith, c.type_inv.table j) in
     end-wrong c.args.table.now c.args.at c.requires.inside c.requires.long f c.args.word.now b c.requires.short (length c.args.word.now / 4) (omega arith)
     (sym c.end_is.ensures ∙ c.if-not-end_is.true)
 
-pub loop-q-init : goal.loop-q-init
-loop-q-init c = (omega arith, sym c.end_is.ensures ∙ c.if-not-end_is.false)
-
 pub returns-then-table-at : goal.returns-then-table-at
 returns-then-table-at c =
-    let b : (j : ℕ) → get_or c.args.word.now j 0 < 256 = λ j. omega (arith, c.shared_slice_known-2-1.given j) in
-    let f : (j : ℕ) → get_or c.args.table.now j 0 < 4294967296 = λ j. omega (arith, c.shared_slice_known-1.given j) in
+    let b : (j : ℕ) → get_or c.args.word.now j 0 < 256 = λ j. omega (arith, c.type_inv.word j) in
+    let f : (j : ℕ) → get_or c.args.table.now j 0 < 4294967296 = λ j. omega (arith, c.type_inv.table j) in
     let l = c.loop-q in
-    let t = c.loop-q-test.true in
-    cell-wrong c.args.table.now c.args.at c.requires.inside c.requires.long f c.args.word.now b c.requires.short (l.q - 1) (omega (arith, t, l.invariant)) c.cell_of.result
+    cell-wrong c.args.table.now c.args.at c.requires.inside c.requires.long f c.args.word.now b c.requires.short (l.q - 1) (omega arith) c.cell_of.result
     c.cell_of.ensures c.if-table-at.true
 
 pub loop-q-preserved : goal.loop-q-preserved
 loop-q-preserved c =
-    let b : (j : ℕ) → get_or c.args.word.now j 0 < 256 = λ j. omega (arith, c.shared_slice_known-2-1.given j) in
-    let f : (j : ℕ) → get_or c.args.table.now j 0 < 4294967296 = λ j. omega (arith, c.shared_slice_known-1.given j) in
+    let b : (j : ℕ) → get_or c.args.word.now j 0 < 256 = λ j. omega (arith, c.type_inv.word j) in
+    let f : (j : ℕ) → get_or c.args.table.now j 0 < 4294967296 = λ j. omega (arith, c.type_inv.table j) in
     let l = c.loop-q in
-    let t = c.loop-q-test.true in
-    let e : l.q - 1 + 1 ≡ l.q = omega (arith, t) in (
-      omega (arith, l.invariant),
-      cell-right c.args.table.now c.args.at c.requires.inside c.requires.long f c.args.word.now b c.requires.short (l.q - 1) (omega (arith, t, l.invariant)) c.cell_of.result
-          c.cell_of.ensures c.if-table-at.false (rw e l.invariant.1),
-    )
+    let e : l.q - 1 + 1 ≡ l.q = omega arith in
+    cell-right c.args.table.now c.args.at c.requires.inside c.requires.long f c.args.word.now b c.requires.short (l.q - 1) (omega arith) c.cell_of.result
+    c.cell_of.ensures c.if-table-at.false (rw e l.invariant)
 
 pub returns : goal.returns
 returns c =
-    let b : (j : ℕ) → get_or c.args.word.now j 0 < 256 = λ j. omega (arith, c.shared_slice_known-2-1.given j) in
-    let f : (j : ℕ) → get_or c.args.table.now j 0 < 4294967296 = λ j. omega (arith, c.shared_slice_known-1.given j) in
-    end-right c.args.table.now c.args.at c.requires.inside c.requires.long f c.args.word.now b c.requires.short c.loop-q.q (omega (arith, c.loop-q-test.false)) c.loop-q.invariant.1
+    let b : (j : ℕ) → get_or c.args.word.now j 0 < 256 = λ j. omega (arith, c.type_inv.word j) in
+    let f : (j : ℕ) → get_or c.args.table.now j 0 < 4294967296 = λ j. omega (arith, c.type_inv.table j) in
+    end-right c.args.table.now c.args.at c.requires.inside c.requires.long f c.args.word.now b c.requires.short c.loop-q.q (omega arith) c.loop-q.invariant

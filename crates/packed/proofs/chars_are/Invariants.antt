@@ -1,13 +1,8 @@
 -- `packed::chars_are` meets its contract.
 use mathlib.Core.Bool.{true}
 use mathlib.Core.Path.{◌≡◌}
-use Prim.Native.Nat.{◌*◌, ◌≤◌}
-use lib.ListN.{length}
 use Rattle.packed.proofs.Bytes.{left_same, fifteen}
 use Rattle.packed.proofs.chars_are.Given as goal
 
 abbrev pub invariant-loop-q : goal.invariant-loop-q
-invariant-loop-q l = (4 * l.q ≤ length l.word) × (left_same (fifteen l.table l.at) l.word l.q ≡ true)
-
-abbrev pub decreases-loop-q : goal.decreases-loop-q
-decreases-loop-q l = l.q
+invariant-loop-q l = left_same (fifteen l.table l.at) l.word l.q ≡ true

@@ -3,12 +3,10 @@ use mathlib.Core.Path.{◌∙◌}
 use Rattle.packed.proofs.Bytes.{spells-other, spells-same}
 use Rattle.packed.proofs.spells.Goals as goal
 
-pub returns-then-cut-word : goal.returns-then-cut-word
-returns-then-cut-word c = let t = c.args.table.now in
-    let w = c.args.word.now in
-    spells-other t c.args.at c.requires.inside c.requires.long c.args.n c.cut.result w c.cut.ensures c.if-cut-word.true
+pub returns-then-min-word : goal.returns-then-min-word
+returns-then-min-word c =
+    spells-other c.args.table.now c.args.at c.requires.inside c.requires.long c.args.n c.min.result c.args.word.now c.min.ensures c.if-min-word.true
 
 pub returns : goal.returns
-returns c = let t = c.args.table.now in
-    let w = c.args.word.now in
-    c.chars_are.ensures ∙ spells-same t c.args.at c.requires.inside c.requires.long c.args.n c.cut.result w c.cut.ensures c.if-cut-word.false
+returns c =
+    c.chars_are.ensures ∙ spells-same c.args.table.now c.args.at c.requires.inside c.requires.long c.args.n c.min.result c.args.word.now c.min.ensures c.if-min-word.false

@@ -20,12 +20,6 @@ overflow_add-to c =
     let loop = c.loop-j in
     omega (arith, turn-numbers pre loop.invariant c.loop-j-test.true c.two_at-n.ensures)
 
-pub overflow_add-end : goal.overflow_add-end
-overflow_add-end c =
-    let pre = c.requires in
-    let loop = c.loop-j in
-    omega (arith, turn-numbers pre loop.invariant c.loop-j-test.true c.two_at-n.ensures)
-
 pub slice_bounds-lay-end : goal.slice_bounds-lay-end
 slice_bounds-lay-end c =
     let pre = c.requires in
@@ -49,6 +43,9 @@ overflow_add-at c =
     let loop-test = c.loop-j-test in
     let two_at = c.two_at-n in
     omega (arith, turn-numbers pre loop.invariant loop-test.true two_at.ensures)
+
+pub overflow_add-from : goal.overflow_add-from
+overflow_add-from c = omega (arith, turn-numbers c.requires c.loop-j.invariant c.loop-j-test.true c.two_at-n.ensures)
 
 pub loop-j-preserved : goal.loop-j-preserved
 loop-j-preserved c =

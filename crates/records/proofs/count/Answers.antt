@@ -2,7 +2,6 @@
 use Rattle.records.specs.Sequences.{until_records}
 use Rattle.records.proofs.Cuts.{cut-starts}
 use Rattle.records.proofs.Walking.{going-none, going-stop, going_next, going_end, reached-is}
-use native.Mathlib.Omega.{arith}
 use Rattle.records.proofs.count.Goals as goal
 
 pub loop-at-init : goal.loop-at-init
@@ -28,14 +27,6 @@ end_of-at-requires c =
     let loop-test = c.loop-at-test in
     cut-starts loop.invariant.cut loop-test.true
 
-pub overflow_add-k : goal.overflow_add-k
-overflow_add-k c =
-    let loop = c.loop-at in
-    omega (arith, loop.invariant.cut)
-
-pub loop-at-smaller : goal.loop-at-smaller
-loop-at-smaller c = omega (arith, c.end_of-at.ensures)
-
 pub loop-at-preserved : goal.loop-at-preserved
 loop-at-preserved c =
     let loop = c.loop-at in
@@ -46,4 +37,4 @@ pub returns : goal.returns
 returns c =
     let args = c.args in
     let loop = c.loop-at in
-    rw (c.reached_at-reached.ensures, ← reached-is args.test args.given.now loop.k) (going_end loop.invariant c.loop-at-test.false)
+    rw (c.reached_at.ensures, ← reached-is args.test args.given.now loop.k) (going_end loop.invariant c.loop-at-test.false)

@@ -2,7 +2,6 @@
 use borrow.Author.Tests.{eq-eqb, ne_eqb}
 use mathlib.Core.Path.{sym, ◌∙◌}
 use Rattle.records.proofs.Cuts.{seeking-none, seeking-next, seeking-here, seeking-end, cut-starts}
-use native.Mathlib.Omega.{arith}
 use Rattle.records.proofs.find.Goals as goal
 
 pub loop-at-init : goal.loop-at-init
@@ -10,11 +9,6 @@ loop-at-init c = seeking-none c.args.address (c.requires)
 
 pub end_of-e-requires : goal.end_of-e-requires
 end_of-e-requires c = cut-starts c.loop-at.invariant.cut c.loop-at-test.true
-
-pub overflow_add-k : goal.overflow_add-k
-overflow_add-k c =
-    let loop = c.loop-at in
-    omega (arith, loop.invariant.cut)
 
 pub address_at-requires : goal.address_at-requires
 address_at-requires c =
@@ -26,11 +20,6 @@ returns-then-address_at-address c =
     let loop = c.loop-at in
     let end_of = c.end_of-e in
     seeking-here loop.invariant end_of.ensures (eq-eqb _ _ (sym c.address_at.ensures.is ∙ c.if-address_at-address.true))
-
-pub loop-at-smaller : goal.loop-at-smaller
-loop-at-smaller c =
-    let end_of = c.end_of-e in
-    omega (arith, end_of.ensures)
 
 pub loop-at-preserved : goal.loop-at-preserved
 loop-at-preserved c =

@@ -7,9 +7,9 @@ use Rattle.records.proofs.first_of.Goals as goal
 pub slice_bounds-result-end : goal.slice_bounds-result-end
 slice_bounds-result-end c =
     let pre = c.requires in
-    simp length-take (omega (arith, first_fits (pre) c.first_size-n.ensures))
+    simp length-take (omega (arith, first_fits (pre) c.first_size.ensures))
 
 pub returns : goal.returns
 returns c =
     let pre = c.requires in
-    first_part (pre) c.first_size-n.ensures
+    first_part (pre) c.first_size.ensures

@@ -5,11 +5,6 @@ use Rattle.records.proofs.Stamps.{stamping-none, stamping-next, stamping-end}
 use native.Mathlib.Omega.{arith}
 use Rattle.records.proofs.stamp.Goals as goal
 
-pub overflow_add-next : goal.overflow_add-next
-overflow_add-next c =
-    let pre = c.requires in
-    omega (arith, pre.given)
-
 pub loop-at-init : goal.loop-at-init
 loop-at-init c =
     let pre = c.requires in
@@ -27,15 +22,6 @@ end_of-at-requires c =
     let loop = c.loop-at in
     let loop-test = c.loop-at-test in
     cut-starts loop.invariant.cut loop-test.true
-
-pub overflow_add-next-in-loop-at : goal.overflow_add-next-in-loop-at
-overflow_add-next-in-loop-at c =
-    let loop = c.loop-at in
-    let pre = c.requires in
-    omega (arith, loop.invariant.count, loop.invariant.cut.most, pre.given)
-
-pub loop-at-smaller : goal.loop-at-smaller
-loop-at-smaller c = omega (arith, c.end_of-at.ensures)
 
 pub loop-at-preserved : goal.loop-at-preserved
 loop-at-preserved c =

@@ -4,11 +4,6 @@ use Rattle.records.proofs.Stamps.{turning-none, turning-next, turning-end}
 use native.Mathlib.Omega.{arith}
 use Rattle.records.proofs.stamp_reversed.Goals as goal
 
-pub overflow_add-address : goal.overflow_add-address
-overflow_add-address c =
-    let pre = c.requires in
-    omega (arith, pre.given)
-
 pub loop-at-init : goal.loop-at-init
 loop-at-init c =
     let pre = c.requires in
@@ -16,25 +11,6 @@ loop-at-init c =
 
 pub end_of-e-requires : goal.end_of-e-requires
 end_of-e-requires c = cut-starts c.loop-at.invariant.cut (omega (arith, c.loop-at.invariant.size_is))
-
-pub overflow_sub-to : goal.overflow_sub-to
-overflow_sub-to c =
-    let loop = c.loop-at in
-    omega (arith, c.end_of-e.ensures, loop.invariant.size_is)
-
-pub slice_bounds-put-end : goal.slice_bounds-put-end
-slice_bounds-put-end c = omega (arith, c.end_of-e.ensures)
-
-pub overflow_add-address-in-loop-at : goal.overflow_add-address-in-loop-at
-overflow_add-address-in-loop-at c =
-    let loop = c.loop-at in
-    let pre = c.requires in
-    omega (arith, loop.invariant.count, loop.invariant.cut.most, pre.given)
-
-pub loop-at-smaller : goal.loop-at-smaller
-loop-at-smaller c =
-    let end_of = c.end_of-e in
-    omega (arith, end_of.ensures)
 
 pub loop-at-preserved : goal.loop-at-preserved
 loop-at-preserved c =

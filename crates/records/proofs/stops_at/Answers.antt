@@ -8,11 +8,6 @@ use Rattle.records.specs.Sequences.{FittingRecords}
 use Rattle.records.proofs.Walking.{first-stoppable, first_stops}
 use Rattle.records.proofs.stops_at.Goals as goal
 
-pub contents_at-contents-requires : goal.contents_at-contents-requires
-contents_at-contents-requires c =
-    let pre = c.requires in
-    pre.starts
-
 pub first_of-requires : goal.first_of-requires
 first_of-requires c =
     let contents_at = c.contents_at-contents in

@@ -33,9 +33,6 @@ end_of-at-requires c =
     let loop-test = c.loop-at-test in
     cut-starts loop.invariant.cut loop-test.true
 
-pub loop-at-smaller : goal.loop-at-smaller
-loop-at-smaller c = omega (arith, c.end_of-at.ensures)
-
 pub loop-at-preserved : goal.loop-at-preserved
 loop-at-preserved c =
     let loop = c.loop-at in

@@ -1,10 +1,6 @@
 -- `resting::read_scalars` meets its contract.
-use Prim.Native.Nat.{◌-◌}
 use Rattle.resting.proofs.Laws.{Reading}
 use Rattle.resting.proofs.read_scalars.Given as goal
 
 abbrev pub invariant-loop-k : goal.invariant-loop-k
 invariant-loop-k l = Reading l.state l.nums l.k
-
-abbrev pub decreases-loop-k : goal.decreases-loop-k
-decreases-loop-k l = 8 - l.k

@@ -1,5 +1,6 @@
 -- `table::argument_at` meets its contract.
-use mathlib.Core.Path.{◌≡◌}
+use mathlib.Core.Path.{◌≡◌, refl}
+use Prim.Native.Nat.{◌/◌, ◌%◌}
 use native.Mathlib.Omega.{arith}
 use lib.ListN.{get_or}
 use Rattle.packed.specs.Below.LayoutCells.{cell}
@@ -13,7 +14,7 @@ returns-in-1 c =
     let k = c.args.k in
     let x = get_or c.args.table.now k 0 in
     let e : cell t k ≡ x = cell_in c.args.table.now k c.requires.below in
-    indexed t k x e c.letter_by.result c.wide.result c.in-1.is c.letter_by.ensures c.wide.ensures.is
+    indexed t k x e c.letter_by.result (x / 8 % 64) c.in-1.is c.letter_by.ensures refl
 
 pub returns-in-2 : goal.returns-in-2
 returns-in-2 c =
@@ -21,7 +22,7 @@ returns-in-2 c =
     let k = c.args.k in
     let x = get_or c.args.table.now k 0 in
     let e : cell t k ≡ x = cell_in c.args.table.now k c.requires.below in
-    labelled t k x e c.wide-in-2.result (omega (arith, c.shared_slice_known-1.given k)) c.in-2.is c.wide-in-2.ensures.is
+    labelled t k x e (x / 8) (omega (arith, c.type_inv.table k)) c.in-2.is refl
 
 pub returns-in-3 : goal.returns-in-3
 returns-in-3 c =
@@ -29,7 +30,7 @@ returns-in-3 c =
     let k = c.args.k in
     let x = get_or c.args.table.now k 0 in
     let e : cell t k ≡ x = cell_in c.args.table.now k c.requires.below in
-    switched t k x e c.wide-in-3.result (omega (arith, c.shared_slice_known-1.given k)) c.in-3.is c.wide-in-3.ensures.is
+    switched t k x e (x / 8) (omega (arith, c.type_inv.table k)) c.in-3.is refl
 
 pub returns-in-4 : goal.returns-in-4
 returns-in-4 c =
@@ -37,7 +38,7 @@ returns-in-4 c =
     let k = c.args.k in
     let x = get_or c.args.table.now k 0 in
     let e : cell t k ≡ x = cell_in c.args.table.now k c.requires.below in
-    classed t k x e c.narrow.result c.in-4.is c.narrow.ensures.is
+    classed t k x e (x / 8 % 16) c.in-4.is refl
 
 pub returns-in-5 : goal.returns-in-5
 returns-in-5 c =
@@ -45,7 +46,7 @@ returns-in-5 c =
     let k = c.args.k in
     let x = get_or c.args.table.now k 0 in
     let e : cell t k ≡ x = cell_in c.args.table.now k c.requires.below in
-    texted t k x e c.wide-in-5.result (omega (arith, c.shared_slice_known-1.given k)) c.in-5.is c.wide-in-5.ensures.is
+    texted t k x e (x / 8) (omega (arith, c.type_inv.table k)) c.in-5.is refl
 
 pub returns-in-6 : goal.returns-in-6
 returns-in-6 c =

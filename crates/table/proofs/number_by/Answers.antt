@@ -1,8 +1,6 @@
 -- `table::number_by` meets its contract.
 use mathlib.Core.Path.{ap, ◌∙◌}
-use Prim.Native.Nat.{ℕ, ◌+◌}
-use Rattle.packed.specs.Below.LayoutCells.{uncode, cell}
-use Rattle.packed.specs.Below.LayoutPlaces as layout
+use Rattle.packed.specs.Below.LayoutCells.{uncode}
 use Rattle.table.proofs.Decode.{small-number, large_number}
 use Rattle.packed.specs.Packed.{table_of}
 use Rattle.table.proofs.number_by.Goals as goal
@@ -13,5 +11,5 @@ returns-then-v-lt31 c = small-number (table_of c.args.table.now) c.args.v c.if-v
 pub returns : goal.returns
 returns c =
     let t = table_of c.args.table.now in
-    ap uncode c.cell_at.ensures ∙ ap (λ (k : ℕ). uncode (cell t (layout.first_number + k))) c.wide.ensures.is
+    ap uncode c.cell_at.ensures
     ∙ large_number t c.args.v c.if-v-lt31.false

@@ -1,9 +1,9 @@
 -- `table::put_text` meets its contract.
-use mathlib.Core.List.{List, ◌∷◌}
-use mathlib.Core.Path.{refl, sym, ap, ◌∙◌, subst}
+use mathlib.Core.List.{List}
+use mathlib.Core.Path.{refl, sym, subst}
 use Prim.Native.Nat.{ℕ}
 use native.Mathlib.Omega.{arith}
-use lib.ListN.{drop, set}
+use lib.ListN.{set}
 use lib.Seq.{set_split}
 use Rattle.table.proofs.Keys.{text-copied, text-none, text-one}
 use Rattle.packed.specs.Packed.{table_of, Copied}
@@ -19,8 +19,8 @@ returns-then-v-lt256 c = let t = table_of c.args.table.now in
     let o = c.args.out.now in
     let v = c.args.v in
     let e = text-one t v c.if-v-eq0.false c.if-v-lt256.true in
-    subst (λ (l : List ℕ). Copied l o (set o 0 c.byte.result) 1) (sym e)
-    (record { count = refl; short = omega arith; is = set_split o 0 c.byte.result (omega arith) ∙ ap (λ (b : ℕ). b ∷ drop 1 o) c.byte.ensures })
+    subst (λ (l : List ℕ). Copied l o (set o 0 v) 1) (sym e)
+    (record { count = refl; short = omega arith; is = set_split o 0 v (omega arith) })
 
 pub returns : goal.returns
 returns c =

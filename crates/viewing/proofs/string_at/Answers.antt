@@ -19,8 +19,8 @@ loop-j-preserved c = passing-more c.requires c.loop-j.invariant c.two_at-from.en
 pub two_at-requires : goal.two_at-requires
 two_at-requires c = omega (arith, packed-long c.requires.packed, c.requires.below)
 
-pub overflow_add-end : goal.overflow_add-end
-overflow_add-end c = omega (arith, last_turn c.requires c.loop-j.invariant c.loop-j-test.false c.two_at.ensures)
+pub overflow_add-result : goal.overflow_add-result
+overflow_add-result c = omega (arith, last_turn c.requires c.loop-j.invariant c.loop-j-test.false c.two_at.ensures)
 
 pub slice_bounds-result-end : goal.slice_bounds-result-end
 slice_bounds-result-end c = omega (arith, last_turn c.requires c.loop-j.invariant c.loop-j-test.false c.two_at.ensures)
