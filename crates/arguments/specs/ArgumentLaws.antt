@@ -1,16 +1,17 @@
 -- The items after an instruction's operator, one by one: what is at fault among them.
-use Rattle.std.specs.Prelude.{◌≡◌, ◌||◌, ℕ, suc, ◌-◌, leb, ltb, eqb, length, drop}
+use Rattle.std.specs.Prelude.{◌≡◌, ◌||◌, ℕ, suc, leb, ltb, eqb, length, drop}
 use Rattle.std.proofs.Math.Path.{refl, ap}
 use Rattle.std.proofs.Common.{sym, ◌∙◌, arith, le→leb}
-use Rattle.std.proofs.Math.Bool.{true, false, cond}
+use Rattle.std.proofs.Math.Bool.{Bool, true, false, cond}
 use mathlib.Core.List.{List, [], ◌∷◌, ◌++◌, map, append_assoc, append-nil}
 use Rattle.std.proofs.Math.Dec.{T}
-use borrow.Author.Tests.{eq-eqb, ne_eqb, eqb-false}
+use borrow.Author.Tests.{eq-eqb, ne_eqb, eqb-true, eqb-false}
+use Rattle.std.proofs.Common.{Some, None}
 use Rattle.forms.specs.declared.Live.{Live}
 use Rattle.forms.specs.declared.Taken.{Taken}
 use Rattle.forms.specs.Kinds.{word_kinds, item_kinds}
 use Rattle.forms.specs.KindLaws.{text-kinds, word_kinds-of}
-use Rattle.forms.specs.Reading.{lists_at, taken_at}
+use Rattle.forms.specs.Reading.{if_taken, lists_at, taken_at}
 use Rattle.forms.specs.ReadingLaws.{argument-read, lists-first}
 use Rattle.heads.specs.declared.Head.{Head}
 use Rattle.heads.specs.Heads.{Headed}
@@ -154,6 +155,21 @@ module _ {s : List ℕ} {t : Token} (h : Stands s t) where
 
 pub turned : (live : Live) (place : ℕ) {m kinds j : ℕ} {b : Taken} → b ≡ taken_at m live place kinds → kinds ≡ j → (o : Op) → (operation o).number ≡ m → b ≡ taken_at (operation o).number live place j
 turned live place e f o h = rw (e, f, h)
+
+-- what is taken, or is not, by the answer of `take_argument`
+taken-by : {t b : Taken} (z : Bool) → eqb t.form 45 ≡ z → Some b ≡ cond z None (Some t) → (b ≡ t) × (b.form ≡ 45 → ⊥)
+taken-by true e h = cc
+taken-by {t} {b} false e h = let q : b ≡ t = cc in (q, λ f. eqb-false t.form 45 e (sym (ap (λ (x : Taken). x.form) q) ∙ f))
+
+pub taken-some : (t : Taken) {b : Taken} → Some b ≡ if_taken t → (b ≡ t) × (b.form ≡ 45 → ⊥)
+taken-some t h = taken-by (eqb t.form 45) refl h
+
+none-by : (t : Taken) (z : Bool) → eqb t.form 45 ≡ z → None ≡ cond z None (Some t) → t.form ≡ 45
+none-by t true e h = eqb-true t.form 45 e
+none-by t false e h = cc
+
+pub taken-none : (t : Taken) → None ≡ if_taken t → t.form ≡ 45
+taken-none t h = none-by t (eqb t.form 45) refl h
 
 -- 02 of an instruction: an argument is missing, or what is at fault among them
 pub judged-so : {s : List ℕ} {t : Token} → Stands s t → (o : Op) {f : Fault} → fault_of (argument_faults o Live.Both 0 (statement_at s t.next)) ≡ f

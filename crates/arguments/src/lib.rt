@@ -8,7 +8,7 @@ ghost use Rattle.arguments.specs.Valued.{no_value, no_values, put_at, argument_v
 use cells::wide;
 use forms::{Live, least, letter_bit, most, take_argument};
 use lexer::{Token, next_item};
-use scanner::{COLON, NOTHING, TEXT, WORD, one_if};
+use scanner::{COLON, NOTHING, TEXT, WORD};
 use statements::{Fault, lower, stops, worse};
 use table::{Argument, letter_by};
 use words::{Lettered, Numeral};
@@ -52,6 +52,7 @@ struct Left {
 }
 
 // What an item reads as: the set of its forms; and its own value as a text, a number, a class or an indexed letter, otherwise Nothing.
+// No Option around `own`: Argument has Nothing for none, and `value_by` hands `own` on as the argument.
 #[derive(Clone, Copy)]
 struct Kind {
     set: u32,
@@ -70,10 +71,11 @@ fn no_value() -> Value
 fn no_values() -> Values
     ensures { result ≡ no_values }
 {
+    let none = no_value();
     Values {
-        first: no_value(),
-        second: no_value(),
-        third: no_value(),
+        first: none,
+        second: none,
+        third: none,
     }
 }
 
@@ -81,36 +83,11 @@ fn no_values() -> Values
 fn with_value(v: Values, place: u8, at: usize, argument: Argument) -> Values
     ensures { result ≡ put_at v place (record { at = at; argument = argument }) }
 {
-    let first = v.first;
-    let second = v.second;
-    let third = v.third;
-    if place == 0 {
-        return Values {
-            first: Value {
-                at: at,
-                argument: argument,
-            },
-            second: second,
-            third: third,
-        };
-    }
-    if place == 1 {
-        return Values {
-            first: first,
-            second: Value {
-                at: at,
-                argument: argument,
-            },
-            third: third,
-        };
-    }
-    Values {
-        first: first,
-        second: second,
-        third: Value {
-            at: at,
-            argument: argument,
-        },
+    let value = Value { at, argument };
+    match place {
+        0 => Values { first: value, ..v },
+        1 => Values { second: value, ..v },
+        _ => Values { third: value, ..v },
     }
 }
 
@@ -119,12 +96,14 @@ fn with_excess(over: Fault, more: bool, at: usize) -> Fault
     ensures { result ≡ with_excess over more at }
 {
     if more {
-        return lower(over, Fault::At(at));
+        lower(over, Fault::At(at))
+    } else {
+        over
     }
-    over
 }
 
 // What the items from `n` on have: how many arguments they are, those in excess, where `skip` are not; questions 14 to 16; and the end of the statement.
+// Here and in `read_arguments` each turn goes on behind the item that it read, so there is no range to run over.
 fn read_left(text: &[u8], n: usize, skip: usize, worst: usize) -> Left
     requires { Leaves text.now n worst }
     ensures { ReadsLeft text.now n skip worst result }
@@ -137,24 +116,18 @@ fn read_left(text: &[u8], n: usize, skip: usize, worst: usize) -> Left
         let t = next_item(text, i);
         if stops(t.sort) {
             return Left {
-                over: over,
-                count: count,
+                over,
+                count,
                 worst: low,
                 next: t.next,
                 last: t.sort == NOTHING,
             };
         }
         over = with_excess(over, !(COLON == t.sort) & (skip <= count), t.at);
-        count = count + one_if(!(COLON == t.sort));
+        count += usize::from(!(COLON == t.sort));
         low = worse(low, t);
         i = t.next;
     }
-}
-
-fn place_of(p: u8) -> u32
-    ensures { result ≡ p }
-{
-    p as u32
 }
 
 // What a word reads as.
@@ -171,7 +144,7 @@ fn word_kind(w: &[u8]) -> Kind
         return match words::indexed(w) {
             Lettered::At(place, n) => Kind {
                 set: forms::NAME + letter_bit(place),
-                own: Argument::Indexed(letter_by(place_of(place)), wide(n)),
+                own: Argument::Indexed(letter_by(u32::from(place)), wide(n)),
             },
             Lettered::Not => Kind {
                 set: forms::NAME,
@@ -196,20 +169,16 @@ fn item_kind(text: &[u8], t: Token) -> Kind
     requires { Found text.now t }
     ensures { ItemKind text.now t result }
 {
-    let at = t.at;
-    let end = t.end;
-    if t.sort == TEXT {
-        return Kind {
+    match t.sort {
+        TEXT => Kind {
             set: forms::TEXT,
-            own: Argument::Text(at * 65536 + end),
-        };
-    }
-    if t.sort == WORD {
-        return word_kind(&text[at..end]);
-    }
-    Kind {
-        set: 0,
-        own: Argument::Nothing,
+            own: Argument::Text(t.at * 65536 + t.end),
+        },
+        WORD => word_kind(&text[t.at..t.end]),
+        _ => Kind {
+            set: 0,
+            own: Argument::Nothing,
+        },
     }
 }
 
@@ -219,16 +188,11 @@ fn value_by(t: Token, form: u8, own: Argument) -> Argument
     ensures { result ≡ argument_value t form own }
 {
     let mark = t.at * 64 + t.len;
-    if form == b'l' {
-        return Argument::Label(mark);
+    match form {
+        b'l' => Argument::Label(mark),
+        b'w' | b'x' => Argument::Switch(mark),
+        _ => own,
     }
-    if form == b'w' {
-        return Argument::Switch(mark);
-    }
-    if form == b'x' {
-        return Argument::Switch(mark);
-    }
-    own
 }
 
 // The operator's place, where there are fewer arguments than an instruction needs; otherwise `fault`.
@@ -236,21 +200,22 @@ fn missing_or(op: u8, at: usize, count: usize, fault: Fault) -> Fault
     ensures { result ≡ missing_or op at count fault }
 {
     if count < wide(least(op)) {
-        return Fault::At(at);
+        Fault::At(at)
+    } else {
+        fault
     }
-    fault
 }
 
 // Place `p` is at fault among the items from `i` on, which `place` arguments stand before; the operator stands at `at`.
+// Seven parameters: a struct of them would be built for each of the three calls, and read once.
 fn refuse(text: &[u8], at: usize, op: u8, place: u8, i: usize, p: usize, worst: usize) -> Arguments
     requires { Refusable text.now op place i worst }
     ensures { Refuses text.now at op place i p worst result }
 {
     let before = wide(place);
     let left = read_left(text, i, wide(most(op)) - before, worst);
-    let over = left.over;
     Arguments {
-        over: over,
+        over: left.over,
         fault: missing_or(op, at, before + left.count, Fault::At(p)),
         values: no_values(),
         worst: left.worst,
@@ -276,7 +241,7 @@ pub fn read_arguments(text: &[u8], t: Token, op: u8, worst: usize) -> Arguments
             return Arguments {
                 over: Fault::Clear,
                 fault: missing_or(op, at, wide(place), Fault::Clear),
-                values: values,
+                values,
                 worst: low,
                 next: u.next,
                 last: u.sort == NOTHING,
@@ -286,16 +251,13 @@ pub fn read_arguments(text: &[u8], t: Token, op: u8, worst: usize) -> Arguments
             return refuse(text, at, op, place, i, u.at, low);
         }
         let k = item_kind(text, u);
-        let a = take_argument(op, live, place, k.set);
-        if a.form == b'-' {
+        let Some(a) = take_argument(op, live, place, k.set) else {
             return refuse(text, at, op, place, i, u.at, low);
-        }
+        };
         if u.colon != 0 {
             return refuse(text, at, op, place, i, u.colon, low);
         }
-        let own = k.own;
-        let x = value_by(u, a.form, own);
-        values = with_value(values, place, u.at, x);
+        values = with_value(values, place, u.at, value_by(u, a.form, k.own));
         live = a.live;
         place += 1;
         low = worse(low, u);

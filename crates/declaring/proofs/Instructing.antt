@@ -4,14 +4,14 @@ use mathlib.Core.List.{List, [], ◌∷◌, ◌++◌, map}
 use Prim.Native.Nat.{ℕ, zero, suc, ◌+◌, ◌-◌, ◌≤◌, ◌<◌}
 use native.Mathlib.Omega.{arith}
 use lib.Dec.{T}
-use lib.ListN.{length, get_or, drop, length-map, length-take, length-drop}
+use lib.ListN.{length, get_or, drop, length-map}
 use Rattle.names.proofs.Below.RowLaws.{append-none, drop-none}
 use Rattle.argument_cells.specs.Below.Valued.{FirstValue, Valued}
 use Rattle.argument_cells.specs.Below.Value.{Value}
 use Rattle.argument_cells.specs.Below.ArgumentsValues.{Values}
 use Rattle.cells.specs.Cells.{Number}
 use Rattle.names.specs.Below.Drafting.{draft_arg}
-use Rattle.names.specs.Below.DraftsMarks.{place_by, marks_in}
+use Rattle.names.specs.Below.DraftsMarks.{place_by}
 use Rattle.language.specs.Instructions.{operator_of}
 use Rattle.language.specs.Limits as limit
 use Rattle.language.specs.Program.{Arg, Label, Program}
@@ -25,7 +25,7 @@ use Rattle.statements.specs.FaultLaws.{no-fault}
 use Rattle.statements.specs.StatementAt.{statement_at}
 use Rattle.statements.specs.declared.Fault.{Fault}
 use Rattle.statements.specs.declared.Fault.TheVariants.{Clear, At}
-use Rattle.argument_cells.specs.Below.Entering.{Held}
+use Rattle.argument_cells.specs.Below.Entering.{Held, EnterableValues}
 use Rattle.argument_cells.proofs.Below.EnteringRows.{nth, row_at}
 use Rattle.syntax.specs.ArgumentForms.{Argument, arguments}
 use Rattle.syntax.specs.Questions.{beyond}
@@ -34,7 +34,7 @@ use Rattle.writing.specs.Writing.{HoldsProgram, kept_arg, Changes, Writes, Instr
 use Rattle.writing.proofs.Adding.{kept_same}
 use Rattle.writing.proofs.Held.{code_count, label_count}
 use Rattle.argument_cells.specs.ArgumentCells.{RightArgument, Drafts, CellAsked, CellOf}
-use Rattle.declaring.specs.Declaring.{with_labels, labels_by, Labelling, Judges, JudgesValues, Judgeable, instr_excess, texts_excess, numbers_excess, with_values, draft_args, new_instr, with_labelled, RightValues, Writable, WritesValues, Declarable, DeclaresValues}
+use Rattle.declaring.specs.Declaring.{with_labels, labels_by, Labelling, Judges, JudgesValues, instr_excess, texts_excess, numbers_excess, with_values, draft_args, new_instr, with_labelled, RightValues, Writable, WritesValues, Declarable, DeclaresValues}
 use Rattle.declaring.specs.declared.Instruction.{Instruction}
 
 -- ---- the instruction
@@ -62,19 +62,19 @@ drafts : {s : List ℕ} {n number : ℕ} {v : Values} → RightValues s n number
 drafts {s} {n} {number} {v} g k =
     value-drafts s (arguments (operator_of number) (statement_at s n)) k (nth v k) g.right (row_at (g.read (operator_of number) g.numbered) k)
 
-module _ {s : List ℕ} {i : Instruction} {ms : List ℕ} {a b : ℕ} {c : List ℕ} (pre : Writable s i ms a b c) where
+module _ {s : List ℕ} {i : Instruction} {ms c : List ℕ} (pre : Writable s i ms c) where
   abbrev v : Values
   v = i.values
 
   abbrev number : ℕ
   number = i.number
 
-  pub labelling : {target : ℕ} → target ≡ cell (table_of c) 0 → Labelling s ms a b target c
+  pub labelling : {target : ℕ} → target ≡ cell (table_of c) 0 → Labelling s ms target c
   labelling e = record { named = pre.named; held = pre.held; room = pre.label_room; low = omega (arith, e, pre.code_room) }
 
-  module _ {target : ℕ} (e : target ≡ cell (table_of c) 0) {d : List ℕ} (h : Changes (with_labels (labels_by s target (marks_in ms a b))) c d) where
+  module _ {target : ℕ} (e : target ≡ cell (table_of c) 0) {d : List ℕ} (h : Changes (with_labels (labels_by s target ms)) c d) where
     abbrev labelled : Program → Program
-    labelled p = with_labels (labels_by s target (marks_in ms a b)) p
+    labelled p = with_labels (labels_by s target ms) p
 
     labels-held : HoldsProgram d (labelled pre.held.program)
     labels-held = h.holds pre.held.program pre.held.holds
@@ -102,7 +102,7 @@ module _ {s : List ℕ} {i : Instruction} {ms : List ℕ} {a b : ℕ} {c : List 
             z_most = omega (arith, (k _ (drafts pre.values 2)).most);
           }
 
-      pub instr-written : {d' : List ℕ} → Writes (IsInstr o i.line x y z) with_instr d d' → WritesValues s i (marks_in ms a b) c d'
+      pub instr-written : {d' : List ℕ} → Writes (IsInstr o i.line x y z) with_instr d d' → WritesValues s i ms c d'
       unfolding with_labelled
       instr-written {d'} u n q₁ =
           record {
@@ -118,33 +118,29 @@ module _ {s : List ℕ} {i : Instruction} {ms : List ℕ} {a b : ℕ} {c : List 
                   second_is = (g _ (drafts q₁ 1)).is (labelled p) l;
                   third_is = (k _ (drafts q₁ 2)).is (labelled p) l;
                   kept = record {
-                    first = kept_at p (labels_by s target (marks_in ms a b)) (draft_args s n number) 0 r;
-                    second = kept_at p (labels_by s target (marks_in ms a b)) (draft_args s n number) 1 r;
-                    third = kept_at p (labels_by s target (marks_in ms a b)) (draft_args s n number) 2 r;
+                    first = kept_at p (labels_by s target ms) (draft_args s n number) 0 r;
+                    second = kept_at p (labels_by s target ms) (draft_args s n number) 1 r;
+                    third = kept_at p (labels_by s target ms) (draft_args s n number) 2 r;
                   };
                 }) in
-                subst (λ (k : ℕ). HoldsProgram d' (with_instr j (with_labels (labels_by s k (marks_in ms a b)) p))) t m;
+                subst (λ (k : ℕ). HoldsProgram d' (with_instr j (with_labels (labels_by s k ms) p))) t m;
             beyond_same = u.beyond ∙ h.beyond;
           }
 
 -- ---- the statement
 
-module _ {s : List ℕ} {i : Instruction} {ms : List ℕ} {a b : ℕ} {c : List ℕ} (pre : Declarable s i ms a b c) where
+module _ {s : List ℕ} {i : Instruction} {ms c : List ℕ} (pre : Declarable s i ms c) where
   valued : (n : ℕ) → RightValues s n i.number i.values → Valued s (statement_at s n) (arguments (operator_of i.number) (statement_at s n)) i.values
   valued n g = g.read (operator_of i.number) g.numbered
 
-  pub judgeable : Judgeable s i.values ms a b c
-  judgeable =
-      record {
-        over = record { held = pre.held; most = pre.named.most; low = pre.index_low };
-        enterable = record { items = _; args = _; valued = valued pre.next pre.values; short = pre.short; held = pre.held };
-      }
+  pub enterable : EnterableValues s i.values c
+  enterable = record { items = _; args = _; valued = valued pre.next pre.values; short = pre.short; held = pre.held }
 
-  module _ {r : Fault} {d : List ℕ} (told : JudgesValues s i.at i.values (marks_in ms a b) c r d) where
-    judges : (n : ℕ) → RightValues s n i.number i.values → Judges s i.at n (marks_in ms a b) c r d
+  module _ {r : Fault} {d : List ℕ} (told : JudgesValues s i.at i.values ms c r d) where
+    judges : (n : ℕ) → RightValues s n i.number i.values → Judges s i.at n ms c r d
     judges n g = told n _ (valued n g)
 
-    pub declared-none : {p : ℕ} → r ≡ At p → DeclaresValues s i (marks_in ms a b) c (At p) d
+    pub declared-none : {p : ℕ} → r ≡ At p → DeclaresValues s i ms c (At p) d
     declared-none {p} e n g =
         record {
           told = λ q k. sym e ∙ (judges n g).told q k;
@@ -156,17 +152,17 @@ module _ {s : List ℕ} {i : Instruction} {ms : List ℕ} {a b : ℕ} {c : List 
       abbrev p : Program
       p = pre.held.program
 
-      abbrev h : Judges s i.at pre.next (marks_in ms a b) c r d
+      abbrev h : Judges s i.at pre.next ms c r d
       h = judges pre.next pre.values
 
       entered : HoldsProgram d (with_values s pre.next p)
       entered = h.holds e p pre.held.holds
 
-      rooms : (length p.code < 512) × (length p.labels + (b - a) ≤ 128)
+      rooms : (length p.code < 512) × (length p.labels + length ms ≤ 128)
       unfolding instr_excess
       rooms =
           let x = beyond limit.instructions (length p.code) (i.at ∷ []) in
-          let y = beyond limit.labels (length p.labels) (map place_by (marks_in ms a b)) in
+          let y = beyond limit.labels (length p.labels) (map place_by ms) in
           let z = texts_excess s pre.next p in
           let w = numbers_excess s pre.next p in
           let f = no-fault (x ++ y ++ z ++ w) (sym (h.told p pre.held.holds) ∙ e) in
@@ -174,16 +170,13 @@ module _ {s : List ℕ} {i : Instruction} {ms : List ℕ} {a b : ℕ} {c : List 
             omega (arith, drop-none (512 - length p.code) (i.at ∷ []) g.0),
             omega (
               arith,
-              drop-none (128 - length p.labels) (map place_by (marks_in ms a b)) g.1,
-              length-map (marks_in ms a b) place_by,
-              length-take (b - a) (drop a ms),
-              length-drop a ms,
-              pre.named.most,
+              drop-none (128 - length p.labels) (map place_by ms) g.1,
+              length-map ms place_by,
               pre.held.holds.tabular.labels_most,
             ),
           )
 
-      pub writable : Writable s i ms a b d
+      pub writable : Writable s i ms d
       unfolding with_values Rattle.argument_cells.specs.Below.Entering.set_numbers Rattle.argument_cells.specs.Below.Entering.set_texts
       writable =
           record {
@@ -196,7 +189,7 @@ module _ {s : List ℕ} {i : Instruction} {ms : List ℕ} {a b : ℕ} {c : List 
             line_most = pre.line_most;
           }
 
-      pub declared : {d' : List ℕ} → WritesValues s i (marks_in ms a b) d d' → DeclaresValues s i (marks_in ms a b) c Clear d'
+      pub declared : {d' : List ℕ} → WritesValues s i ms d d' → DeclaresValues s i ms c Clear d'
       declared w n g =
           record {
             told = λ q k. sym e ∙ (judges n g).told q k;

@@ -1,14 +1,15 @@
 -- Question 11 of an instruction from its parts: the lower fault of two rows of places.
-use mathlib.Core.Path.{◌≡◌, refl, sym, ap, ◌∙◌}
+use mathlib.Core.Path.{◌≡◌, ◌∙◌}
 use mathlib.Core.List.{List, [], ◌∷◌, ◌++◌, map}
-use Prim.Native.Nat.{ℕ, zero, suc, ◌+◌, ◌-◌, ◌≤◌, ◌<◌}
+use Prim.Native.Nat.{ℕ, suc, ◌-◌, ◌≤◌, ◌<◌}
 use native.Mathlib.Omega.{arith}
-use lib.ListN.{length, take, drop}
-use lib.Seq.{drop-drop, drop-nil, take-nil}
+use lib.ListN.{length, take, drop, length-drop}
+use lib.Seq.{drop-nil, take_all}
+use Rattle.std.proofs.lemmas.List.{drop-map}
 use Rattle.argument_cells.specs.Below.Valued.{Valued}
 use Rattle.argument_cells.specs.Below.ArgumentsValues.{Values}
 use Rattle.names.specs.Below.DraftsMarks.{place_by, marks_in}
-use Rattle.argument_cells.specs.Below.Entering.{Enters, SomeValues, TextsEntered, NumbersEntered, long_text, large_number, set_texts, set_numbers}
+use Rattle.argument_cells.specs.Below.Entering.{Enters, EnterableValues, SomeValues, TextsEntered, NumbersEntered, long_text, large_number, set_texts, set_numbers}
 use Rattle.statements.specs.Faults.{lower}
 use Rattle.statements.specs.FaultLaws.{fault-both, lower-clear}
 use Rattle.language.specs.Limits as limit
@@ -23,26 +24,16 @@ use Rattle.syntax.specs.Questions.{beyond}
 use Rattle.syntax.specs.Tables.{number_in}
 use Rattle.syntax.specs.Verdict.{lowest}
 use Rattle.writing.specs.Writing.{HoldsProgram}
-use Rattle.declaring.specs.Declaring.{texts_excess, numbers_excess, LabelsTold, InstrTold, instr_excess, with_values, Judgeable, Judges, JudgesValues}
+use Rattle.declaring.specs.Declaring.{texts_excess, numbers_excess, LabelsTold, InstrTold, instr_excess, with_values, Judges, JudgesValues}
 
 -- ---- labels and instructions in excess
 
-drop-take : {X : Type 0} (m n : ℕ) (xs : List X) → drop m (take n xs) ≡ take (n - m) (drop m xs)
-drop-take zero n xs = let e : n ≡ n - 0 = omega arith in ap (λ (k : ℕ). take k xs) e
-drop-take (suc m) zero xs = let e : 0 - suc m ≡ 0 = omega arith in sym (ap (λ (k : ℕ). take k (drop (suc m) xs)) e)
-drop-take {X} (suc m) (suc n) [] = sym (take-nil (suc n - suc m))
-drop-take (suc m) (suc n) (x ∷ xs) = let e : n - m ≡ suc n - suc m = omega arith in drop-take m n xs ∙ ap (λ (k : ℕ). take k (drop m xs)) e
+take-rest : (m : ℕ) (xs : List ℕ) → take (length xs - m) (drop m xs) ≡ drop m xs
+take-rest m xs = take_all (length xs - m) (drop m xs) (omega (arith, length-drop m xs))
 
-pub drop-map : {X Y : Type 0} (f : X → Y) (m : ℕ) (xs : List X) → drop m (map f xs) ≡ map f (drop m xs)
-drop-map f zero xs = refl
-drop-map f (suc m) [] = refl
-drop-map f (suc m) (x ∷ xs) = drop-map f m xs
-
-pub labels-over : {c : List ℕ} (ms : List ℕ) (a b room : ℕ) {r : Fault} → ((p : Program) → HoldsProgram c p → room ≡ 128 - length p.labels)
-    → r ≡ fault_of (map place_by (marks_in ms (a + room) b)) → LabelsTold c (marks_in ms a b) r
-labels-over {c} ms a b room {r} e f p h =
-    let q : b - (a + room) ≡ b - a - room = omega arith in
-    f ∙ rw (← e p h, drop-map place_by room, drop-take room (b - a) (drop a ms), drop-drop room a ms, q)
+pub labels-over : {c : List ℕ} (ms : List ℕ) (room : ℕ) {r : Fault} → ((p : Program) → HoldsProgram c p → room ≡ 128 - length p.labels)
+    → r ≡ fault_of (map place_by (marks_in ms room (length ms))) → LabelsTold c ms r
+labels-over {c} ms room {r} e f p h = f ∙ rw (← e p h, drop-map place_by room, take-rest room ms)
 
 -- one place more, within a limit and beyond it
 pub one-fits : (k n at : ℕ) → n < k → Clear ≡ fault_of (beyond k n (at ∷ []))
@@ -54,16 +45,14 @@ one-over k n at l = let q : k - n ≡ 0 = omega arith in rw q
 
 -- ---- all of question 11
 
-module _ {s : List ℕ} {v : Values} {ms : List ℕ} {i j : ℕ} {c : List ℕ} (pre : Judgeable s v ms i j c) where
+module _ {s : List ℕ} {v : Values} {c : List ℕ} (pre : EnterableValues s v c) where
   module _ {tr : Fault} {d : List ℕ} (t : TextsEntered s v c tr d) where
     pub numbers-enterable : SomeValues v d
     numbers-enterable =
-        let q = pre.enterable in
-        let k = (t q.items q.args q.valued).still q.held.program q.held.holds in
-        record { text = s; enterable = record { items = q.items; args = q.args; valued = q.valued; short = q.short; held = record { program = _; holds = k.holds } } }
+        let k = (t pre.items pre.args pre.valued).still pre.held.program pre.held.holds in
+        record { text = s; enterable = record { items = pre.items; args = pre.args; valued = pre.valued; short = pre.short; held = record { program = _; holds = k.holds } } }
 
-    module _ {nr : Fault} {e : List ℕ} (u : NumbersEntered v d nr e) (at : ℕ) {ir lr : Fault} (a : InstrTold c at ir) (b : LabelsTold c (marks_in ms i j) lr)
-        (n : ℕ) (args : List Argument) (w : Valued s (statement_at s n) args v) where
+    module _ {nr : Fault} {e : List ℕ} (u : NumbersEntered v d nr e) (n : ℕ) (args : List Argument) (w : Valued s (statement_at s n) args v) where
       abbrev texts : Enters bytes_equal (λ i. i.chars) long_text (λ p. p.texts) set_texts (statement_at s n) c tr d
       texts = t (statement_at s n) args w
 
@@ -74,13 +63,13 @@ module _ {s : List ℕ} {v : Values} {ms : List ℕ} {i j : ℕ} {c : List ℕ} 
       unfolding set_texts
       numbers-told p h = numbers.told (set_texts (texts.still p h).table p) (texts.still p h).holds
 
-      pub judged : Judges s at n (marks_in ms i j) c (lower (lower (lower ir lr) tr) nr) e
+      judged-here : (at : ℕ) (ms : List ℕ) {ir lr : Fault} → InstrTold c at ir → LabelsTold c ms lr → Judges s at n ms c (lower (lower (lower ir lr) tr) nr) e
       unfolding instr_excess with_values set_texts
-      judged =
+      judged-here at ms {ir} {lr} a b =
           record {
             told = λ p h.
                 let xs = beyond limit.instructions (length p.code) (at ∷ []) in
-                let ys = beyond limit.labels (length p.labels) (map place_by (marks_in ms i j)) in
+                let ys = beyond limit.labels (length p.labels) (map place_by ms) in
                 let zs = texts_excess s n p in
                 let ws = numbers_excess s n p in
                 rw (a p h, b p h, texts.told p h, numbers-told p h, fault-both (xs ++ ys ++ zs) ws, fault-both (xs ++ ys) zs, fault-both xs ys);
@@ -90,6 +79,10 @@ module _ {s : List ℕ} {v : Values} {ms : List ℕ} {i j : ℕ} {c : List ℕ} 
                 numbers.holds f.1 _ (texts.holds g.1 p h);
             beyond_same = numbers.beyond_same ∙ texts.beyond_same;
           }
+
+    pub judged : {nr : Fault} {e : List ℕ} → NumbersEntered v d nr e → (at : ℕ) {ms : List ℕ} {ir lr : Fault} → InstrTold c at ir → LabelsTold c ms lr
+        → JudgesValues s at v ms c (lower (lower (lower ir lr) tr) nr) e
+    judged u at {ms} a b n args w = judged-here u n args w at ms a b
 
 -- the three steps of the code
 pub judged-by : {s : List ℕ} {at : ℕ} {v : Values} {ms c d : List ℕ} (ir lr tr nr : Fault) {x y z : Fault} → JudgesValues s at v ms c (lower (lower (lower ir lr) tr) nr) d

@@ -3,8 +3,10 @@ use mathlib.Core.Path.{◌≡◌, refl, ap, ◌∙◌, subst}
 use mathlib.Core.List.{List, map-append, append_assoc, append-nil}
 use Prim.Native.Nat.{ℕ, ◌+◌, ◌-◌, ◌/◌, ◌%◌, ◌≤◌, ◌<◌}
 use native.Mathlib.Omega.{arith}
-use lib.ListN.{length, get_or, take, drop, length-append, length-map, length-take, length-drop}
-use Rattle.names.specs.Below.DraftsMarks.{word_by, marks_in}
+use native.Mathlib.Numerals.{add-one}
+use lib.ListN.{length, get_or, take, drop, length-append, length-map, length-take}
+use lib.Seq.{take-suc, take_all}
+use Rattle.names.specs.Below.DraftsMarks.{word_by}
 use Rattle.argument_cells.specs.Below.Entering.{Held}
 use Rattle.language.specs.Program.{Label}
 use Rattle.layout.specs.Cells.{cell}
@@ -12,7 +14,6 @@ use Rattle.packed.specs.Packed.{table_of}
 use Rattle.writing.specs.Writing.{Changes, LabelRoom, with_label, label_of}
 use Rattle.writing.proofs.Held.{label_count}
 use Rattle.declaring.specs.Declaring.{with_labels, labels_by, Nameable, Labelling}
-use Rattle.names.proofs.Lowest.{marks-more, marks-none}
 
 -- ---- one mark
 
@@ -35,35 +36,27 @@ module _ {s : List ℕ} {m target : ℕ} {c : List ℕ} (h : Nameable s m target
 
 -- ---- all of them
 
-pub record Putting (s ms : List ℕ) (a b target : ℕ) (c d : List ℕ) (k : ℕ) : Type 0 where
-  pub from : a ≤ k
-  pub most : k ≤ b
-  pub changes : Changes (with_labels (labels_by s target (marks_in ms a k))) c d
+pub record Putting (s ms : List ℕ) (target : ℕ) (c d : List ℕ) (k : ℕ) : Type 0 where
+  pub changes : Changes (with_labels (labels_by s target (take k ms))) c d
   pub size : length d ≡ length c
 
-module _ {s ms : List ℕ} {a b target : ℕ} {c : List ℕ} (pre : Labelling s ms a b target c) where
+module _ {s ms : List ℕ} {target : ℕ} {c : List ℕ} (pre : Labelling s ms target c) where
   abbrev new : ℕ → List Label
-  new k = labels_by s target (marks_in ms a k)
+  new k = labels_by s target (take k ms)
 
-  pub putting-first : Putting s ms a b target c c a
+  pub putting-first : Putting s ms target c c 0
   unfolding with_labels
-  putting-first =
-      record {
-        from = omega arith;
-        most = pre.named.order;
-        changes = record { holds = λ p h. rw (marks-none ms a b pre.named.most, append-nil p.labels) h; beyond = refl };
-        size = refl;
-      }
+  putting-first = record { changes = record { holds = λ p h. rw (append-nil p.labels) h; beyond = refl }; size = refl }
 
-  module _ {d : List ℕ} {k : ℕ} (h : Putting s ms a b target c d k) where
-    pub putting-done : b ≤ k → Changes (with_labels (labels_by s target (marks_in ms a b))) c d
-    putting-done l = let e : k ≡ b = omega (arith, h.most) in rw e at h.changes
+  module _ {d : List ℕ} {k : ℕ} (h : Putting s ms target c d k) where
+    pub putting-done : length ms ≤ k → Changes (with_labels (labels_by s target ms)) c d
+    putting-done l = rw (take_all k ms l) at h.changes
 
-    module _ (l : k < b) where
+    module _ (l : k < length ms) where
       held_then : Held d
       held_then = record { program = _; holds = h.changes.holds pre.held.program pre.held.holds }
 
-      count-then : cell (table_of d) 1 ≡ cell (table_of c) 1 + (k - a)
+      count-then : cell (table_of d) 1 ≡ cell (table_of c) 1 + k
       unfolding with_labels
       count-then =
           let p = pre.held.program in
@@ -72,11 +65,8 @@ module _ {s ms : List ℕ} {a b target : ℕ} {c : List ℕ} (pre : Labelling s 
             label_count d (with_labels (new k) p) (h.changes.holds p pre.held.holds),
             label_count c p pre.held.holds,
             length-append p.labels (new k),
-            length-map (marks_in ms a k) (λ m. label_of (word_by s m) target),
-            length-take (k - a) (drop a ms),
-            length-drop a ms,
-            h.from,
-            pre.named.most,
+            length-map (take k ms) (λ m. label_of (word_by s m) target),
+            length-take k ms,
           )
 
       pub nameable : {m : ℕ} → m ≡ get_or ms k 0 → Nameable s m target d
@@ -85,21 +75,19 @@ module _ {s ms : List ℕ} {a b target : ℕ} {c : List ℕ} (pre : Labelling s 
             marked = rw e (pre.named.marked k l);
             short = rw e (pre.named.short k l);
             long = held_then.holds.long;
-            room = omega (arith, count-then, pre.room, h.from);
+            room = omega (arith, count-then, pre.room);
             low = pre.low;
           }
 
       pub putting-more : {m : ℕ} → m ≡ get_or ms k 0 → {d' : List ℕ} → Changes (with_label (label_of (word_by s m) target)) d d' → length d' ≡ length d
-          → Putting s ms a b target c d' (k + 1)
+          → Putting s ms target c d' (k + 1)
       unfolding with_labels with_label
       putting-more {m} e {d'} g z =
           record {
-            from = omega (arith, h.from);
-            most = omega arith;
             changes =
                 record {
                   holds = λ p u.
-                      rw (marks-more ms a b pre.named.most k h.from l, ← e, map-append (λ x. label_of (word_by s x) target) (marks_in ms a k), ← append_assoc p.labels (new k))
+                      rw (add-one k, take-suc ms k 0 l, ← e, map-append (λ x. label_of (word_by s x) target) (take k ms), ← append_assoc p.labels (new k))
                       (g.holds (with_labels (new k) p) (h.changes.holds p u));
                   beyond = g.beyond ∙ h.changes.beyond;
                 };

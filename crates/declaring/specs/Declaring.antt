@@ -1,10 +1,10 @@
 -- A statement with an instruction comes to the program table: question 11, and the program with it.
-use Rattle.std.specs.Prelude.{◌≡◌, List, [], ◌∷◌, ◌++◌, map, ℕ, ◌+◌, ◌-◌, ◌≤◌, ◌<◌, T, length, get_or, drop}
+use Rattle.std.specs.Prelude.{◌≡◌, List, [], ◌∷◌, ◌++◌, map, ℕ, ◌+◌, ◌≤◌, ◌<◌, T, length, get_or, drop}
 use Rattle.argument_cells.specs.Below.Valued.{Valued, ValuesRead}
 use Rattle.argument_cells.specs.Below.ArgumentsValues.{Values}
 use Rattle.names.specs.Below.Drafting.{draft_arg}
 use Rattle.names.specs.Below.DraftsMarks.{place_by, length_by, word_by, Marked}
-use Rattle.argument_cells.specs.Below.Entering.{excess, all_added, long_text, large_number, set_texts, set_numbers, Held, ShortItem, EnterableValues}
+use Rattle.argument_cells.specs.Below.Entering.{excess, all_added, long_text, large_number, set_texts, set_numbers, Held, ShortItem}
 use Rattle.language.specs.Instructions.{operation, operator_of}
 use Rattle.language.specs.Limits as limit
 use Rattle.language.specs.Program.{Arg, Instr, Label, Program}
@@ -31,11 +31,9 @@ abbrev pub labels_by : List ℕ → ℕ → List ℕ → List Label
 labels_by s target ms = map (λ m. label_of (word_by s m) target) ms
 
 -- marks of names in the text s that have a place in the table
-pub record Named (s ms : List ℕ) (a b : ℕ) : Type 0 where
-  pub order : a ≤ b
-  pub most : b ≤ length ms
-  pub marked : (k : ℕ) → k < b → Marked s (get_or ms k 0)
-  pub short : (k : ℕ) → k < b → length_by (get_or ms k 0) ≤ limit.item
+pub record Named (s ms : List ℕ) : Type 0 where
+  pub marked : (k : ℕ) → k < length ms → Marked s (get_or ms k 0)
+  pub short : (k : ℕ) → k < length ms → length_by (get_or ms k 0) ≤ limit.item
 
 pub record Nameable (s : List ℕ) (m target : ℕ) (c : List ℕ) : Type 0 where
   pub marked : Marked s m
@@ -44,18 +42,13 @@ pub record Nameable (s : List ℕ) (m target : ℕ) (c : List ℕ) : Type 0 wher
   pub room : cell (table_of c) 1 < limit.labels
   pub low : target < limit.instructions
 
-pub record Labelling (s ms : List ℕ) (a b target : ℕ) (c : List ℕ) : Type 0 where
-  pub named : Named s ms a b
+pub record Labelling (s ms : List ℕ) (target : ℕ) (c : List ℕ) : Type 0 where
+  pub named : Named s ms
   pub held : Held c
-  pub room : cell (table_of c) 1 + (b - a) ≤ limit.labels
+  pub room : cell (table_of c) 1 + length ms ≤ limit.labels
   pub low : target < limit.instructions
 
 -- 11, part by part
-pub record Over (c ms : List ℕ) (a b : ℕ) : Type 0 where
-  pub held : Held c
-  pub most : b ≤ length ms
-  pub low : a ≤ 32768
-
 abbrev pub LabelsTold : List ℕ → List ℕ → Fault → Type 0
 LabelsTold c ms r = (p : Program) → HoldsProgram c p → r ≡ fault_of (beyond limit.labels (length p.labels) (map place_by ms))
 
@@ -82,10 +75,6 @@ instr_excess s at n ms p =
     ++ beyond limit.labels (length p.labels) (map place_by ms)
     ++ texts_excess s n p
     ++ numbers_excess s n p
-
-pub record Judgeable (s : List ℕ) (v : Values) (ms : List ℕ) (a b : ℕ) (c : List ℕ) : Type 0 where
-  pub over : Over c ms a b
-  pub enterable : EnterableValues s v c
 
 pub record Judges (s : List ℕ) (at n : ℕ) (ms c : List ℕ) (r : Fault) (d : List ℕ) : Type 0 where
   pub told : (p : Program) → HoldsProgram c p → r ≡ fault_of (instr_excess s at n ms p)
@@ -118,13 +107,13 @@ pub record RightValues (s : List ℕ) (n number : ℕ) (v : Values) : Type 0 whe
   pub read : ValuesRead s n number v
   pub right : Each RightArgument (arguments (operator_of number) (statement_at s n))
 
-pub record Writable (s : List ℕ) (i : Instruction) (ms : List ℕ) (a b : ℕ) (c : List ℕ) : Type 0 where
+pub record Writable (s : List ℕ) (i : Instruction) (ms c : List ℕ) : Type 0 where
   pub next : ℕ
   pub values : RightValues s next i.number i.values
   pub held : Held c
-  pub named : Named s ms a b
+  pub named : Named s ms
   pub code_room : cell (table_of c) 0 < limit.instructions
-  pub label_room : cell (table_of c) 1 + (b - a) ≤ limit.labels
+  pub label_room : cell (table_of c) 1 + length ms ≤ limit.labels
   pub line_most : i.line ≤ limit.text
 
 pub record WritesInstr (s : List ℕ) (n number line : ℕ) (ms c d : List ℕ) : Type 0 where
@@ -135,13 +124,12 @@ abbrev pub WritesValues : List ℕ → Instruction → List ℕ → List ℕ →
 WritesValues s i ms c d = (n : ℕ) → RightValues s n i.number i.values → WritesInstr s n i.number i.line ms c d
 
 -- what the questions up to 02 gave, of an instruction whose items after the operator begin at `next`, and of the marks of its labels
-pub record Declarable (s : List ℕ) (i : Instruction) (ms : List ℕ) (a b : ℕ) (c : List ℕ) : Type 0 where
+pub record Declarable (s : List ℕ) (i : Instruction) (ms c : List ℕ) : Type 0 where
   pub next : ℕ
   pub values : RightValues s next i.number i.values
   pub held : Held c
   pub line_most : i.line ≤ limit.text
-  pub named : Named s ms a b
-  pub index_low : a ≤ 32768
+  pub named : Named s ms
   pub short : Each ShortItem (statement_at s next)
 
 pub record Declares (s : List ℕ) (i : Instruction) (n : ℕ) (ms c : List ℕ) (r : Fault) (d : List ℕ) : Type 0 where

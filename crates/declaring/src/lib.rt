@@ -1,11 +1,14 @@
 // A judged statement with an instruction comes to the program table: question 11, then its labels, its texts and numbers, and the instruction.
 #![tactic(auto)]
 
-ghost use Rattle.std.specs.Prelude.{◌≤◌, length};
-ghost use Rattle.names.specs.Below.DraftsMarks.{word_by, marks_in};
+ghost use Rattle.std.specs.Prelude.{◌≡◌, [], ◌∷◌, ◌≤◌, length};
+ghost use Rattle.names.specs.Below.DraftsMarks.{word_by};
 ghost use Rattle.writing.specs.Writing.{Changes, with_label, label_of};
-ghost use Rattle.declaring.specs.Declaring.{with_labels, labels_by, Nameable, Labelling, Over, LabelsTold, InstrTold, Judgeable, JudgesValues, Writable, WritesValues, Declarable, DeclaresValues};
+ghost use Rattle.argument_cells.specs.Below.Entering.{Held, EnterableValues};
+ghost use Rattle.declaring.specs.Declaring.{with_labels, labels_by, Nameable, Labelling, LabelsTold, InstrTold, JudgesValues, Writable, WritesValues, Declarable, DeclaresValues};
 ghost use Rattle.language.specs.Limits as limit;
+ghost use Rattle.statements.specs.StatementAt.{fault_of};
+ghost use Rattle.syntax.specs.Questions.{beyond};
 
 use argument_cells::argument_cell;
 use argument_cells::from_arguments::Values;
@@ -23,12 +26,23 @@ pub struct Instruction {
 }
 
 // The lowest of the labels in excess.
-fn labels_beyond(table: &[u32], names: &[u32], from: usize, to: usize) -> Fault
-    requires { Over table.now names.now from to }
-    ensures { LabelsTold table.now (marks_in names.now from to) result }
+fn labels_beyond(table: &[u32], labels: &[u32]) -> Fault
+    requires { Held table.now }
+    ensures { LabelsTold table.now labels.now result }
 {
     let room = Machine::LABELS - table::labels(table);
-    lowest_mark(names, from + room, to)
+    lowest_mark(labels, room, labels.len())
+}
+
+// The place `at`, where `count` are there and there may be no more than `most`.
+pub fn in_excess(count: usize, most: usize, at: usize) -> Fault
+    ensures { result ≡ fault_of (beyond most count (at ∷ [])) }
+{
+    if count < most {
+        Fault::Clear
+    } else {
+        Fault::At(at)
+    }
 }
 
 // The operator's place, where the instruction is one in excess.
@@ -36,27 +50,17 @@ fn instruction_beyond(table: &[u32], at: usize) -> Fault
     requires { limit.table ≤ length table.now }
     ensures { InstrTold table.now at result }
 {
-    if table::instructions(table) < Machine::INSTRUCTIONS {
-        return Fault::Clear;
-    }
-    Fault::At(at)
+    in_excess(table::instructions(table), Machine::INSTRUCTIONS, at)
 }
 
 // Question 11 of an instruction; the texts and numbers of its arguments come to the table.
-fn judge_instruction(
-    text: &[u8],
-    i: Instruction,
-    names: &[u32],
-    from: usize,
-    to: usize,
-    table: &mut [u32],
-) -> Fault
-    requires { Judgeable text.now i.values names.now from to table.old }
-    ensures { JudgesValues text.now i.at i.values (marks_in names.now from to) table.old result table.new }
+fn judge_instruction(text: &[u8], i: Instruction, labels: &[u32], table: &mut [u32]) -> Fault
+    requires { EnterableValues text.now i.values table.old }
+    ensures { JudgesValues text.now i.at i.values labels.now table.old result table.new }
 {
     let values = i.values;
     let a = instruction_beyond(table, i.at);
-    let b = labels_beyond(table, names, from, to);
+    let b = labels_beyond(table, labels);
     let c = argument_cells::from_entering::enter_text_values(text, values, table);
     let d = argument_cells::from_entering::enter_number_values(values, table);
     lower(lower(lower(a, b), c), d)
@@ -72,36 +76,27 @@ fn put_name(text: &[u8], m: usize, target: usize, table: &mut [u32])
     writing::put_label(table, &text[at..end], target);
 }
 
-// Adds the labels of the marks from index `from` to index `to`.
-fn put_labels(text: &[u8], names: &[u32], from: usize, to: usize, target: usize, table: &mut [u32])
-    requires { Labelling text.now names.now from to target table.old }
-    ensures { Changes (with_labels (labels_by text.now target (marks_in names.now from to))) table.old table.new }
+// Adds the labels of some marks.
+fn put_labels(text: &[u8], labels: &[u32], target: usize, table: &mut [u32])
+    requires { Labelling text.now labels.now target table.old }
+    ensures { Changes (with_labels (labels_by text.now target labels.now)) table.old table.new }
 {
-    let mut k = from;
-    while k < to {
-        put_name(text, cells::read(names, k), target, table);
-        k += 1;
+    for mark in labels {
+        put_name(text, *mark as usize, target, table);
     }
 }
 
 // Adds the labels and the instruction.
-fn write_instruction(
-    text: &[u8],
-    i: Instruction,
-    names: &[u32],
-    from: usize,
-    to: usize,
-    table: &mut [u32],
-)
-    requires { Writable text.now i names.now from to table.old }
-    ensures { WritesValues text.now i (marks_in names.now from to) table.old table.new }
+fn write_instruction(text: &[u8], i: Instruction, labels: &[u32], table: &mut [u32])
+    requires { Writable text.now i labels.now table.old }
+    ensures { WritesValues text.now i labels.now table.old table.new }
 {
     let values = i.values;
     let first = values.first;
     let second = values.second;
     let third = values.third;
     let target = table::instructions(table);
-    put_labels(text, names, from, to, target, table);
+    put_labels(text, labels, target, table);
     let f = first.argument;
     let s = second.argument;
     let t = third.argument;
@@ -111,22 +106,15 @@ fn write_instruction(
     writing::put_instruction(table, cells::wide(i.number), i.line, x, y, z);
 }
 
-// Question 11 of an instruction, and where it is answered yes, the instruction with the labels of the marks from index `from` to index `to`.
-pub fn declare_instruction(
-    text: &[u8],
-    i: Instruction,
-    names: &[u32],
-    from: usize,
-    to: usize,
-    table: &mut [u32],
-) -> Fault
-    requires { Declarable text.now i names.now from to table.old }
-    ensures { DeclaresValues text.now i (marks_in names.now from to) table.old result table.new }
+// Question 11 of an instruction, and where it is answered yes, the instruction with its labels, of which the marks are lent.
+pub fn declare_instruction(text: &[u8], i: Instruction, labels: &[u32], table: &mut [u32]) -> Fault
+    requires { Declarable text.now i labels.now table.old }
+    ensures { DeclaresValues text.now i labels.now table.old result table.new }
 {
-    match judge_instruction(text, i, names, from, to, table) {
+    match judge_instruction(text, i, labels, table) {
         Fault::At(p) => Fault::At(p),
         Fault::Clear => {
-            write_instruction(text, i, names, from, to, table);
+            write_instruction(text, i, labels, table);
             Fault::Clear
         }
     }

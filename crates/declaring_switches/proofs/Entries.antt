@@ -106,9 +106,6 @@ module _ {s : List ℕ} {d : Declaration} {c tx : List ℕ} (pre : Listing s d c
     held-now = u.holds p₀ pre.held.holds pre.kept
 
     module _ (more : k < held + d.words) where
-      pub inside : k < length tx
-      inside = omega (arith, more, held-is, pre.room, pre.list.text_room)
-
       module _ {m : ℕ} (x : m ≡ get_or tx k 0) where
         here : TextCell s m row
         here = cell-here pre.list u.from more (omega (arith, more, held-is, pre.room)) x
@@ -141,12 +138,12 @@ module _ {s : List ℕ} {d : Declaration} {c tx : List ℕ} (pre : Listing s d c
           unfolding with_entry with_entries
           one_entry p h = h
 
-          pub filling-more : {e' : List ℕ} → Writes (IsEntry 0 v) with_entry e e' → Filling s d c e' (k + 1)
-          filling-more {e'} w =
-              let z : k + 1 - held ≡ suc at = omega (arith, u.from) in
+          pub filling-more : {e' : List ℕ} → Writes (IsEntry 0 v) with_entry e e' → {k' : ℕ} → k' ≡ k + 1 → Filling s d c e' k'
+          filling-more {e'} w {k'} f =
+              let z : k' - held ≡ suc at = omega (arith, u.from, f) in
               record {
-                from = omega (arith, u.from);
-                most = omega (arith, more);
+                from = omega (arith, u.from, f);
+                most = omega (arith, more, f);
                 holds = λ p h q.
                     rw (z, take-suc es at (row_entry []) (omega (arith, more, u.from, entries-count)), row_is, ← with-both (take at es) (row_entry row ∷ []) p)
                     (one_entry p (w.holds (row_entry row) (now p) (u.holds p h q)

@@ -5,8 +5,8 @@ use mathlib.Core.List.{List, [], ◌∷◌, ◌++◌, map}
 use Prim.Native.Nat.{ℕ, zero, suc, ◌+◌, ◌-◌, ◌≤◌, ◌<◌}
 use native.Mathlib.Omega.{arith}
 use lib.Dec.{T, not_T}
-use lib.ListN.{length, get_or, take, drop}
-use lib.Seq.{drop-nil}
+use lib.ListN.{length, get_or, take, drop, length-take, length-drop}
+use lib.Seq.{drop-nil, get_or-take, get_or-drop}
 use Rattle.acceptance.proofs.ArgumentLaws.{word-apart}
 use Rattle.acceptance.proofs.RowLaws.{fails, append-none, cond-none}
 use Rattle.switch_lists.specs.Below.Valued.{Ordered}
@@ -177,3 +177,16 @@ module _ {s : List ℕ} {d : Declaration} {c tx : List ℕ} (l : ListedSwitch s 
 
     pub row_named : {e : List ℕ} → Held e → RowNamed s m e
     row_named u = record { row = get_or rows_in (k - cell (table_of c) 3) []; named = cell-here; short = each_at (Each ShortItem) [] tt rows_in (rows_short (statement_at s d.list) l.short) (k - cell (table_of c) 3); held = u }
+
+-- ---- the part of the cells tx from place h, which is k, up to place e
+
+module _ (tx : List ℕ) {h k : ℕ} (e i : ℕ) (q : h ≡ k) where
+  pub part-end : e ≤ length tx → length (take (e - h) (drop h tx)) ≤ i → e ≤ k + i
+  part-end m l = omega (arith, m, l, q, length-take (e - h) (drop h tx), length-drop h tx)
+
+  pub part-place : i < length (take (e - h) (drop h tx)) → k + i < e
+  part-place l = omega (arith, l, q, length-take (e - h) (drop h tx))
+
+  pub part-cell : i < length (take (e - h) (drop h tx)) → get_or (take (e - h) (drop h tx)) i 0 ≡ get_or tx (k + i) 0
+  part-cell l =
+      get_or-take (e - h) (drop h tx) i 0 (omega (arith, l, length-take (e - h) (drop h tx))) ∙ get_or-drop h tx i 0 ∙ ap (λ (j : ℕ). get_or tx (j + i) 0) q

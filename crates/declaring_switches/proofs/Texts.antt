@@ -192,9 +192,6 @@ module _ {s : List ℕ} {d : Declaration} {c tx : List ℕ} (pre : JudgeableSwit
     row = get_or rows at []
 
     module _ {end : ℕ} (g : end ≡ min (held + d.words) 128) (more : k < end) where
-      pub inside : k < length tx
-      inside = omega (arith, g, more, l.text_room)
-
       rest_is : drop at rows ≡ row ∷ drop (suc at) rows
       rest_is = drop-cons rows at [] (omega (arith, g, more, u.from, rows_are l))
 
@@ -209,12 +206,12 @@ module _ {s : List ℕ} {d : Declaration} {c tx : List ℕ} (pre : JudgeableSwit
           now : (p : Program) → HoldsProgram c p → Entered rows (row ∷ drop (suc at) rows) p e
           now p q = rw rest_is at (u.entered p q)
 
-          pub entering-more : r ≡ true → Entering s d c e' (k + 1)
-          entering-more q =
-              let z : k + 1 - held ≡ suc at = omega (arith, u.from) in
+          pub entering-more : r ≡ true → {k' : ℕ} → k' ≡ k + 1 → Entering s d c e' k'
+          entering-more q {k'} f =
+              let z : k' - held ≡ suc at = omega (arith, u.from, f) in
               record {
-                from = omega (arith, u.from);
-                most = omega (arith, g, more);
+                from = omega (arith, u.from, f);
+                most = omega (arith, g, more, f);
                 entered = λ p w. rw z (entered-row (drop (suc at) rows) row (now p w) (h.of row here) q);
                 beyond_same = h.beyond_same ∙ u.beyond_same;
               }

@@ -7,13 +7,14 @@ ghost use Rattle.declaring_switches.specs.DeclaringSwitches.{SwitchTold, Judgeab
 ghost use Rattle.declaring_switches.specs.Entries.{RowNamed, RowTold, RowEntered, Listing, Lists};
 ghost use Rattle.declaring_switches.specs.Switches.{WritableSwitch, WritesSwitch, DeclarableSwitch, DeclaresSwitch};
 
-use declaring::{from_argument_cells, from_entering};
+use declaring::{from_argument_cells, from_entering, in_excess};
 use language::Machine;
-use statements::{Fault, lesser, lower};
+use statements::{Fault, lower};
 use table::Argument;
 
 // A switch as its statement gives it: the place of its operator, the place where its list begins, whether it is NAZWA, the mark of its name, how many words its
 // list has and the first of them that is an entry in excess.
+// `words` and `over` are copied from `switch_lists::Listed`, whose other four fields are not asked for here.
 #[derive(Clone, Copy)]
 pub struct Declaration {
     pub at: usize,
@@ -29,13 +30,10 @@ fn switch_beyond(table: &[u32], at: usize) -> Fault
     requires { limit.table ≤ length table.now }
     ensures { SwitchTold table.now at result }
 {
-    if table::switches(table) < Machine::SWITCHES {
-        return Fault::Clear;
-    }
-    Fault::At(at)
+    in_excess(table::switches(table), Machine::SWITCHES, at)
 }
 
-// Adds the text that a cell names, if it names one; whether it is there then.
+// Adds the text that a cell names, if it names one; whether it is there then. The cells stand in a row of fixed size, beside the table's entries, and 0 is none.
 fn enter_cell(text: &[u8], m: usize, table: &mut [u32]) -> bool
     requires { RowNamed text.now m table.old }
     ensures { RowEntered text.now m table.old result table.new }
@@ -47,18 +45,18 @@ fn enter_cell(text: &[u8], m: usize, table: &mut [u32]) -> bool
 }
 
 // Adds the texts of the list, entry by entry; the place of the first that has no room.
+// `texts` is a row of fixed size, a cell for each entry that a table can have; those of this list begin behind the entries held.
 fn enter_texts(text: &[u8], d: Declaration, table: &mut [u32], texts: &[u32]) -> Fault
     requires { JudgeableSwitch text.now d table.old texts.now }
     ensures { EntersTexts text.now d table.old result table.new }
 {
-    let mut k = table::entries(table);
-    let end = lesser(k + d.words, Machine::ENTRIES);
-    while k < end {
-        let m = cells::read(texts, k);
+    let held = table::entries(table);
+    let end = (held + d.words).min(Machine::ENTRIES);
+    for cell in &texts[held..end] {
+        let m = *cell as usize;
         if !enter_cell(text, m, table) {
             return Fault::At(m / 65536);
         }
-        k += 1;
     }
     Fault::Clear
 }
@@ -90,12 +88,11 @@ fn put_entries(text: &[u8], d: Declaration, table: &mut [u32], texts: &[u32])
     requires { Listing text.now d table.old texts.now }
     ensures { Lists text.now d table.old table.new }
 {
-    let mut k = table::entries(table);
-    let end = k + d.words;
-    while k < end {
-        let v = cell_ref(text, cells::read(texts, k), table);
+    let held = table::entries(table);
+    let end = held + d.words;
+    for cell in &texts[held..end] {
+        let v = cell_ref(text, *cell as usize, table);
         writing::put_entry(table, 0, v);
-        k += 1;
     }
 }
 

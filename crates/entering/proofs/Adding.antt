@@ -2,15 +2,15 @@
 use mathlib.Core.Path.{◌≡◌, refl, sym, ap, ◌∙◌, subst}
 use mathlib.Core.Bool.{Bool, true, false, ◌&&◌, ◌||◌, true≢false}
 use mathlib.Core.List.{List, [], ◌∷◌, ◌++◌}
-use Prim.Native.Nat.{ℕ, suc, ◌≤◌, ◌<◌}
+use Prim.Native.Nat.{ℕ, ◌≤◌, ◌<◌}
 use native.Mathlib.Omega.{arith}
-use lib.Dec.{ltb, leb-suc-suc}
+use lib.Dec.{ltb}
 use lib.ListN.{length, take, drop, length-take}
 use borrow.Author.Tests.{lt-ltb, le-ltb, le-leb, lt-leb, ltb-true, ltb-false}
 use Rattle.arguments.specs.Valued.{is_text, text_from, text_to, Spells, ItemValued, is_number}
 use Rattle.language.specs.Limits as limit
 use Rattle.language.specs.Program.{Program}
-use Rattle.lists.specs.Lists.{any, ahead, bytes_equal}
+use Rattle.lists.specs.Lists.{any, bytes_equal}
 use Rattle.writing.specs.Writing.{HoldsProgram, no_program, IsNumber}
 use Rattle.cells.proofs.Laws.{pasted-front}
 use Rattle.spelling.specs.Spelling.{Put, text_in, FitsText}
@@ -19,6 +19,8 @@ use Rattle.table.specs.declared.Argument.{Argument}
 use Rattle.table.specs.declared.Argument.TheVariants.{Text, Nothing, Indexed, Label, Switch, Class, Number}
 use Rattle.entering.specs.Entering.{Adds, Addable, EntersOne, EnterableValue, set_texts, set_numbers, long_text, AddsCode, large_number}
 use Rattle.entering.proofs.Rows.{TableOf}
+use Rattle.std.specs.Prelude.{Option, position, is_some}
+use Rattle.finding.proofs.Found.{some_any}
 use types.Run.{OneOf, miss}
 use lib.IntN.{ℤ, nat_abs}
 use Rattle.finding.proofs.References.{near, far-below, far-above}
@@ -35,20 +37,12 @@ pub numbers-laws : TableOf (λ p. p.numbers) set_numbers
 unfolding set_numbers
 numbers-laws = record { get = λ t p. refl; twice = λ t u p. refl; same = λ p. refl; most = λ c p h. h.tabular.numbers_most }
 
-any_is : {X : Type 0} (q : X → Bool) (xs : List X) → any q xs ≡ ltb (ahead q xs) (length xs)
-any_is q [] = refl
-any_is q (x ∷ xs) =
-    elim (q x) as (λ b. (b || any q xs) ≡ ltb (elim b [ true ↦ 0 | false ↦ suc (ahead q xs) ]) (suc (length xs))) [
-      | true ↦ sym (lt-ltb 0 (suc (length xs)) (omega arith))
-      | false ↦ any_is q xs ∙ sym (leb-suc-suc (suc (ahead q xs)) (length xs))
-    ]
-
 module _ {X : Type 0} (equal : X → X → Bool) (table_of : Program → List X) (set-table : List X → Program → Program) (laws : TableOf table_of set-table) (x : X)
-    {c : List ℕ} {found n : ℕ} (f : (p : Program) → HoldsProgram c p → found ≡ ahead (equal x) (table_of p)) (m : (p : Program) → HoldsProgram c p → n ≡ length (table_of p)) where
+    {c : List ℕ} {found : Option ℕ} (f : (p : Program) → HoldsProgram c p → found ≡ position (equal x) (table_of p)) where
   -- it is there
-  module _ (b : found < n) where
+  module _ (b : is_some found ≡ true) where
     there : (p : Program) → HoldsProgram c p → any (equal x) (table_of p) ≡ true
-    there p h = any_is (equal x) (table_of p) ∙ lt-ltb (ahead (equal x) (table_of p)) (length (table_of p)) (omega (arith, b, f p h, m p h))
+    there p h = some_any (equal x) (table_of p) (f p h) ∙ b
 
     pub adds-known : Adds equal table_of set-table x c true c
     adds-known =
@@ -60,9 +54,9 @@ module _ {X : Type 0} (equal : X → X → Bool) (table_of : Program → List X)
         }
 
   -- it is new
-  module _ (b : n ≤ found) where
+  module _ (b : is_some found ≡ false) {n : ℕ} (m : (p : Program) → HoldsProgram c p → n ≡ length (table_of p)) where
     missing : (p : Program) → HoldsProgram c p → any (equal x) (table_of p) ≡ false
-    missing p h = any_is (equal x) (table_of p) ∙ le-ltb (ahead (equal x) (table_of p)) (length (table_of p)) (omega (arith, b, f p h, m p h))
+    missing p h = some_any (equal x) (table_of p) (f p h) ∙ b
 
     pub adds_none : n ≡ 128 → Adds equal table_of set-table x c false c
     adds_none e =

@@ -2,7 +2,8 @@
 use mathlib.Core.Path.{◌≡◌, refl, sym, ◌∙◌}
 use mathlib.Core.Bool.{Bool, true, false, cond, true≢false}
 use mathlib.Core.List.{List, [], ◌∷◌, append-nil, map}
-use Prim.Native.Nat.{ℕ, ◌-◌, ◌≤◌, zero, suc}
+use Prim.Native.Nat.{ℕ, ◌+◌, ◌-◌, ◌≤◌, zero, suc}
+use native.Mathlib.Numerals.{add-one}
 use native.Mathlib.Omega.{arith}
 use lib.Dec.{T}
 use lib.ListN.{length, get_or, drop, drop_of_length-le}
@@ -87,10 +88,7 @@ item_at args k = get_or (items_of args) k no_item
 
 -- value k, and what it has of argument k
 abbrev pub nth : Values → ℕ → Value
-nth v zero = v.first
-nth v (suc zero) = v.second
-nth v (suc (suc zero)) = v.third
-nth v (suc (suc (suc k))) = no_value
+nth v k = get_or (v.first ∷ v.second ∷ v.third ∷ []) k no_value
 
 pub row_at : {s : List ℕ} {js : List Item} {args : List Argument} {v : Values} → Valued s js args v → (k : ℕ) → FirstValue s (drop k args) (nth v k)
 row_at w zero = w.row.first
@@ -158,14 +156,14 @@ module _ {X : Type 0} {equal : X → X → Bool} {value_of_lem : Item → X} {pa
     one : EntersOne equal value_of_lem passes table_of set-table (item_at args k) d r e
     one = t (item_at args k) (value-at s args k (nth v k) (row_at g.valued k))
 
-    pub going_on : r ≡ true → Going equal value_of_lem passes table_of set-table s v js args c (suc k) e
+    pub going_on : r ≡ true → Going equal value_of_lem passes table_of set-table s v js args c (k + 1) e
     going_on q =
         record {
           laws = g.laws;
           none_passes = g.none_passes;
           valued = g.valued;
           held = still-held equal value_of_lem passes table_of set-table g.laws (item_at args k) one q g.held;
-          then = λ f e' m. g.then f e' (row_on equal value_of_lem passes g.laws g.none_passes args k one q m);
+          then = λ f e' m. g.then f e' (row_on equal value_of_lem passes g.laws g.none_passes args k one q (rw (add-one k) at m));
         }
 
     pub going-stops : r ≡ false → Enters equal value_of_lem passes table_of set-table js c (At (nth v k).at) e
@@ -173,5 +171,5 @@ module _ {X : Type 0} {equal : X → X → Bool} {value_of_lem : Item → X} {pa
         g.then (At (nth v k).at) e
         (row-stop equal value_of_lem passes g.laws g.none_passes s args k (nth v k) (row_at g.valued k) one q g.held (rw g.valued.items g.valued.ordered))
 
-  pub going-ends : {d : List ℕ} → Going equal value_of_lem passes table_of set-table s v js args c 3 d → Enters equal value_of_lem passes table_of set-table js c Clear d
-  going-ends {d} g = g.then Clear d (rw (drop_of_length-le args {i = 3} g.valued.few) (none-entered equal value_of_lem passes table_of set-table g.laws))
+  pub going-ends : {k : ℕ} {d : List ℕ} → Going equal value_of_lem passes table_of set-table s v js args c k d → 3 ≤ k → Enters equal value_of_lem passes table_of set-table js c Clear d
+  going-ends {k} {d} g l = g.then Clear d (rw (drop_of_length-le args {i = k} (omega (arith, g.valued.few))) (none-entered equal value_of_lem passes table_of set-table g.laws))

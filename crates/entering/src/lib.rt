@@ -15,11 +15,10 @@ fn add_text(table: &mut [u32], word: &[u8]) -> bool
     requires { Addable table.old (length word.now) }
     ensures { Adds bytes_equal (λ p. p.texts) set_texts word.now table.old result table.new }
 {
-    let n = table::texts(table);
-    if finding::find_text(table, word) < n {
+    if finding::find_text(table, word).is_some() {
         return true;
     }
-    if n == Machine::TEXTS {
+    if table::texts(table) == Machine::TEXTS {
         return false;
     }
     writing::put_text(table, word);
@@ -27,15 +26,15 @@ fn add_text(table: &mut [u32], word: &[u8]) -> bool
 }
 
 // Adds the number whose value + 8,388,607 is `code`, unless it is there; whether it is there then.
+// Beside `add_text` it stands for itself: one function for both would take three closures, and be longer than the two.
 fn add_number(table: &mut [u32], code: u32) -> bool
     requires { Held table.old }
     ensures { AddsCode code table.old result table.new }
 {
-    let n = table::numbers(table);
-    if finding::find_number(table, code) < n {
+    if finding::find_number(table, code).is_some() {
         return true;
     }
-    if n == Machine::NUMBERS {
+    if table::numbers(table) == Machine::NUMBERS {
         return false;
     }
     writing::put_number(table, code);
@@ -46,10 +45,11 @@ fn add_number(table: &mut [u32], code: u32) -> bool
 fn is_large(code: u32) -> bool
     ensures { result ≡ (ltb code 8388592 || ltb 8388622 code) }
 {
-    (code < 8388592) | (8388622 < code)
+    !(8388592..=8388622).contains(&code)
 }
 
 // Adds the text of a value, unless it has one character or none; whether it is there then.
+// A bool here and in `enter_number_of`: no value comes with it, and the loops that ask name the place at fault.
 pub fn enter_text_of(text: &[u8], x: Argument, table: &mut [u32]) -> bool
     requires { EnterableValue text.now x table.old }
     ensures { TextEntered text.now x table.old result table.new }
@@ -72,20 +72,10 @@ pub fn enter_text_values(text: &[u8], v: Values, table: &mut [u32]) -> Fault
     requires { EnterableValues text.now v table.old }
     ensures { TextsEntered text.now v table.old result table.new }
 {
-    let first = v.first;
-    let second = v.second;
-    let third = v.third;
-    let f = first.argument;
-    let s = second.argument;
-    let t = third.argument;
-    if !enter_text_of(text, f, table) {
-        return Fault::At(first.at);
-    }
-    if !enter_text_of(text, s, table) {
-        return Fault::At(second.at);
-    }
-    if !enter_text_of(text, t, table) {
-        return Fault::At(third.at);
+    for value in [v.first, v.second, v.third] {
+        if !enter_text_of(text, value.argument, table) {
+            return Fault::At(value.at);
+        }
     }
     Fault::Clear
 }
@@ -96,35 +86,21 @@ fn enter_number_of(x: Argument, table: &mut [u32]) -> bool
     ensures { NumberEntered x table.old result table.new }
 {
     match x {
-        Argument::Number(code) => {
-            if !is_large(code) {
-                return true;
-            }
-            add_number(table, code)
-        }
+        Argument::Number(code) => !is_large(code) || add_number(table, code),
         _ => true,
     }
 }
 
 // Adds the numbers of an instruction's arguments; the place of the first that has no room.
+// The loop of `enter_text_values`: shared, it would take a closure on the table, whose contract is longer than the loop.
 pub fn enter_number_values(v: Values, table: &mut [u32]) -> Fault
     requires { SomeValues v table.old }
     ensures { NumbersEntered v table.old result table.new }
 {
-    let first = v.first;
-    let second = v.second;
-    let third = v.third;
-    let f = first.argument;
-    let s = second.argument;
-    let t = third.argument;
-    if !enter_number_of(f, table) {
-        return Fault::At(first.at);
-    }
-    if !enter_number_of(s, table) {
-        return Fault::At(second.at);
-    }
-    if !enter_number_of(t, table) {
-        return Fault::At(third.at);
+    for value in [v.first, v.second, v.third] {
+        if !enter_number_of(value.argument, table) {
+            return Fault::At(value.at);
+        }
     }
     Fault::Clear
 }

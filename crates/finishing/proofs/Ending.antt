@@ -2,7 +2,7 @@
 use mathlib.Core.Path.{◌≡◌, refl, sym, ap, ◌∙◌}
 use mathlib.Core.Bool.{Bool, true, false, not}
 use mathlib.Core.List.{List, ◌∷◌, map}
-use Prim.Native.Nat.{ℕ, zero, suc, pred, ◌-◌, ◌≤◌}
+use Prim.Native.Nat.{ℕ, ◌-◌, ◌≤◌}
 use native.Mathlib.Omega.{arith}
 use lib.Dec.{eqb}
 use lib.ListN.{length, take, length-take, length-map}
@@ -18,9 +18,9 @@ use Rattle.statements.specs.FaultLaws.{question-decides}
 use Rattle.statements.specs.declared.Verdict.{Verdict}
 use Rattle.statements.specs.declared.Verdict.TheVariants.{Yes, No}
 use Rattle.layout.specs.Cells.{cell}
-use Rattle.linking.specs.Linking.{Kept, Links, last_two}
-use Rattle.linking.specs.declared.Linked.{Linked}
-use Rattle.linking.specs.declared.Linked.TheVariants.{Done, Label, Switch}
+use Rattle.linking.specs.Linking.{Kept, Linked, Links, last_two}
+use Rattle.linking.specs.declared.Missing.TheVariants.{Label, Switch}
+use Rattle.std.specs.Prelude.{Ok, Err}
 use Rattle.packed.specs.Packed.{table_of}
 use Rattle.progress.specs.Progress.{Drafted}
 use Rattle.progress.specs.declared.Progress.{Progress}
@@ -36,23 +36,19 @@ use Rattle.syntax.specs.Verdict.Verdict.{refuse}
 use Rattle.writing.proofs.Held.{code_count}
 use Rattle.finishing.specs.Finishing.{NamesLinked, Finishes}
 
-pub pred-less : (n : ℕ) → n - 1 ≡ pred n
-pred-less zero = refl
-pred-less (suc n) = omega arith
-
 -- ---- questions 12 and 13
 
 not_yes : (number at : ℕ) → No number at ≡ Yes → ⊥
 not_yes number at e = let z : ◌≡◌ {A = ℕ} 0 1 = cc in omega arith
 
 module _ {s c sw en d : List ℕ} where
-  pub linked-done : {r : Linked} → r ≡ Done → Links s c sw en r d → NamesLinked s c sw en Yes d
+  pub linked-done : {r : Linked} → r ≡ Ok tt → Links s c sw en r d → NamesLinked s c sw en Yes d
   linked-done e h = record { verdict_is = λ lines t k. rw e at (h.verdict_is lines t k); holds = λ q. h.holds e; beyond = h.beyond }
 
-  pub linked-label : {r : Linked} (at : ℕ) → r ≡ Label at → Links s c sw en r d → NamesLinked s c sw en (No 12 at) d
+  pub linked-label : {r : Linked} (at : ℕ) → r ≡ Err (Label at) → Links s c sw en r d → NamesLinked s c sw en (No 12 at) d
   linked-label at e h = record { verdict_is = λ lines t k. rw e at (h.verdict_is lines t k); holds = λ q. absurd (not_yes 12 at q); beyond = h.beyond }
 
-  pub linked-switch : {r : Linked} (at : ℕ) → r ≡ Switch at → Links s c sw en r d → NamesLinked s c sw en (No 13 at) d
+  pub linked-switch : {r : Linked} (at : ℕ) → r ≡ Err (Switch at) → Links s c sw en r d → NamesLinked s c sw en (No 13 at) d
   linked-switch at e h = record { verdict_is = λ lines t k. rw e at (h.verdict_is lines t k); holds = λ q. absurd (not_yes 13 at q); beyond = h.beyond }
 
 -- ---- the draft as it is kept

@@ -6,7 +6,7 @@ ghost use Rattle.syntax.specs.Ending.{last_place};
 ghost use Rattle.linking.specs.Linking.{Kept};
 ghost use Rattle.finishing.specs.Finishing.{NamesLinked, Finishable, Finishes};
 
-use linking::Linked;
+use linking::Missing;
 use names::lowest_mark;
 use progress::Progress;
 use statements::{Fault, Verdict};
@@ -15,10 +15,7 @@ use statements::{Fault, Verdict};
 fn last_place(text: &[u8]) -> usize
     ensures { result ≡ last_place text.now }
 {
-    if text.len() == 0 {
-        return 0;
-    }
-    text.len() - 1
+    text.len().saturating_sub(1)
 }
 
 // Questions 12 and 13.
@@ -27,9 +24,9 @@ fn link_names(text: &[u8], table: &mut [u32], switches: &[u32], entries: &[u32])
     ensures { NamesLinked text.now table.old switches.now entries.now result table.new }
 {
     match linking::resolve(text, table, switches, entries) {
-        Linked::Done => Verdict::Yes,
-        Linked::Label(at) => Verdict::No(12, at),
-        Linked::Switch(at) => Verdict::No(13, at),
+        Ok(()) => Verdict::Yes,
+        Err(Missing::Label(at)) => Verdict::No(12, at),
+        Err(Missing::Switch(at)) => Verdict::No(13, at),
     }
 }
 
@@ -60,5 +57,5 @@ pub fn finish(
 
 // Of `progress`, passed on to the crates above.
 pub mod from_progress {
-    pub use progress::{begin, renewed};
+    pub use progress::{Progress, begin, renewed};
 }

@@ -17,12 +17,17 @@ use Rattle.words.specs.Below.ArgumentForms.{is_indexed, letter_of, word_reads}
 use Rattle.words.specs.Words.{is_class, numeral_of, indexed_of}
 use Rattle.words.specs.declared.Lettered as Found
 use Rattle.words.specs.declared.Numeral.{Numeral}
-use Rattle.forms.specs.Forms.{forms, bits, mask, bit_of, only}
+use Rattle.std.proofs.Common.{Option, None, eqb-true}
+use Rattle.std.proofs.lemmas.Bool.{eqb-false}
+use Rattle.forms.specs.Forms.{forms, bits, mask, bit_of, only, set_at}
+use Rattle.forms.specs.Reading.{lives_first, lives_second, if_form, if_taken, shared, taken, taken_at}
+use Rattle.forms.specs.declared.Live.{Live}
+use Rattle.forms.specs.declared.Taken.{Taken}
 use Rattle.forms.specs.Kinds.{kind_reads, OfKind, word_kinds}
 use Rattle.forms.specs.KindLaws.{place-small, of_number, of-nothing, of-class, of-name, of-letter}
 
-pub only-arm : {s k : ℕ} → s ≡ k → only k ≡ only s
-only-arm e = ap only (sym e)
+pub only_arm : {s k : ℕ} → s ≡ k → if_form (only k) ≡ if_form (only s)
+only_arm e = ap (λ (n : ℕ). if_form (only n)) (sym e)
 
 none_kept : (g : ℕ → ℕ) (s : ℕ) (xs : List ℕ) → among s (map g xs) ≡ false → keep (λ f. eqb s (g f)) xs ≡ []
 none_kept g s [] h = refl
@@ -33,9 +38,24 @@ none_kept g s (x ∷ xs) h = go (eqb s (g x)) h (none_kept g s xs)
     go true e k = cc
     go false e k = k e
 
-pub only-rest : (s : ℕ) → Missed (Unit {0}) (map bit_of forms) s → 45 ≡ only s
+abbrev listed : List ℕ
+listed = 1 ∷ 2 ∷ 4 ∷ 8 ∷ 16 ∷ 32 ∷ 64 ∷ 128 ∷ 256 ∷ 512 ∷ 1024 ∷ 2048 ∷ 4096 ∷ 8192 ∷ 16384 ∷ 32768 ∷ 65536 ∷ 131072 ∷ []
+
+-- of the last form, nothing, and of any set of more than one the code tells none
+pub only_rest : (s : ℕ) → Missed (Unit {0}) listed s → None ≡ if_form (only s)
 unfolding only
-only-rest s m = sym (ap (head_or 45) (none_kept bit_of s forms (missed (map bit_of forms) s m)))
+only_rest s m = go (eqb s 262144) refl
+  where
+    go : (t : Bool) → eqb s 262144 ≡ t → None ≡ if_form (only s)
+    go true e = rw (eqb-true s 262144 e)
+    go false e = sym (ap (λ (fs : List ℕ). if_form (head_or 45 fs)) (none_kept bit_of s forms (missed (map bit_of forms) s (m, eqb-false s 262144 e))))
+
+-- what is taken by the parts that the code makes
+pub taken_parts : (op place kinds : ℕ) (live : Live) {p q : Bool} {a b c d : ℕ} {r : Option Taken} → p ≡ lives_first live → q ≡ lives_second live
+    → c ≡ set_at op 0 place → d ≡ set_at op 1 place → a ≡ shared p kinds c → b ≡ shared q kinds d → r ≡ if_taken (taken live a b)
+    → r ≡ if_taken (taken_at op live place kinds)
+unfolding taken_at
+taken_parts op place kinds live f g u v x y z = rw (z, x, y, u, v, f, g)
 
 -- the bit of a letter
 bit-fits : ℕ → Bool

@@ -1,5 +1,5 @@
 -- Sets of argument forms as numbers, a bit for each form.
-use Rattle.std.specs.Prelude.{Bool, false, cond, List, [], ◌∷◌, map, ℕ, ◌+◌, ◌*◌, ◌^◌, eqb, length, get_or}
+use Rattle.std.specs.Prelude.{◌≡◌, Bool, false, cond, List, [], ◌∷◌, map, ℕ, ◌+◌, ◌*◌, ◌^◌, eqb, length, get_or}
 use Rattle.language.specs.Instructions.{operation, operators, is_call, is_end}
 use Rattle.language.specs.Program.{Op}
 use Rattle.lists.specs.Lists.{ahead, head_or, if_any, keep, among}
@@ -40,6 +40,10 @@ listed o list place = get_or (get_or (alternatives o) list []) place []
 -- its set
 unfoldable pub set_at : ℕ → ℕ → ℕ → ℕ
 set_at n list place = by_number 0 (λ o. set_of (listed o list place)) n
+
+-- p has the sets of the three places of a list
+abbrev pub Sets : ℕ → ℕ → List ℕ → Type 0
+Sets n list p = p ≡ set_at n list 0 ∷ set_at n list 1 ∷ set_at n list 2 ∷ []
 
 -- how many lists an instruction has; how many arguments it takes at most, and at least
 unfoldable pub lists_of : ℕ → ℕ

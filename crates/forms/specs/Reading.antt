@@ -1,5 +1,5 @@
 -- Reading an argument: its form, and the lists of the instruction that are left.
-use Rattle.std.specs.Prelude.{Bool, true, false, cond, List, map, ℕ, eqb, take, drop}
+use Rattle.std.specs.Prelude.{Bool, true, false, cond, List, map, ℕ, Option, None, Some, eqb, take, drop}
 use Rattle.std.specs.Int.Bits.{bit_and}
 use Rattle.language.specs.Program.{Op}
 use Rattle.words.specs.Below.ArgumentForms.{alternatives}
@@ -37,6 +37,13 @@ taken live a b =
     cond (eqb a 0)
     (cond (eqb b 0) (record { form = 45; live = live }) (record { form = only b; live = Live.Second }))
     (cond (eqb b 0) (record { form = only a; live = Live.First }) (record { form = only a; live = Live.Both }))
+
+-- a form, and what is taken, where one is found
+abbrev pub if_form : ℕ → Option ℕ
+if_form f = cond (eqb f 45) None (Some f)
+
+abbrev pub if_taken : Taken → Option Taken
+if_taken t = cond (eqb t.form 45) None (Some t)
 
 -- an argument at a place of the instruction of a number, by the set of forms that it reads as
 unfoldable pub taken_at : ℕ → Live → ℕ → ℕ → Taken

@@ -1,9 +1,9 @@
 // The argument forms of the 41 instructions as sets of bits.
 #![tactic(auto)]
 
-ghost use Rattle.std.specs.Prelude.{◌≡◌, cond, false, [], ◌∷◌, ◌+◌, ◌^◌, ◌<◌, ◌≤◌, eqb, ltb, get_or};
-ghost use Rattle.forms.specs.Forms.{nothing, set_at, lists_of, most_of, least_of, calls, ends, only};
-ghost use Rattle.forms.specs.Reading.{lives_first, lives_second, shared, taken, taken_at};
+ghost use Rattle.std.specs.Prelude.{◌≡◌, not, ◌&&◌, ◌^◌, ◌<◌, ◌≤◌, eqb, ltb, count_by, get_or};
+ghost use Rattle.forms.specs.Forms.{Sets, nothing, set_at, most_of, least_of, calls, ends, only};
+ghost use Rattle.forms.specs.Reading.{if_form, if_taken, shared, taken, taken_at};
 
 use language::Operator;
 
@@ -83,162 +83,142 @@ pub const NAME: u32 = LABEL + NAZWA + INDEKS;
 pub const NAMED_CLASS: u32 = NAME + CLASS;
 
 // Which of an instruction's lists take the arguments so far.
-#[derive(Clone, Copy)]
+#[derive(Clone, Copy, PartialEq, Eq)]
 pub enum Live {
     First,
     Second,
     Both,
 }
 
-// The form that an argument is read by, - where it is not listed; and the lists that are left.
-#[derive(Clone, Copy)]
+// The form that an argument is read by, and the lists that are left.
+#[derive(Clone, Copy, PartialEq, Eq)]
 pub struct Taken {
     pub form: u8,
     pub live: Live,
 }
 
 // The sets of an instruction's three places.
-#[derive(Clone, Copy)]
-pub struct Places(u32, u32, u32);
+type Places = [u32; 3];
 
 // An instruction's first list.
+#[tactic(auto, using(crate::proofs::Tables::list_arm, crate::proofs::Tables::first_rest), unfolding(crate::specs::Forms::set_at))]
 fn first_list(op: u8) -> Places
-    ensures { (result.0 ≡ set_at op 0 0) × (result.1 ≡ set_at op 0 1) × (result.2 ≡ set_at op 0 2) }
+    ensures { Sets op 0 result }
 {
     match op {
-        Operator::PRZESLIJ => Places(AB, ABYZ, TEST),
-        Operator::CZYTAJ => Places(I, ABYZ, TEST),
-        Operator::PISZ => Places(AB, Q, TEST),
-        Operator::KOPIUJ => Places(CD, CD, RECORD_TEST),
-        Operator::WSTAW => Places(AB, CD, NOTHING),
-        Operator::POBIERZ => Places(CD, ABYZ, NOTHING),
-        Operator::SCHOWAJ => Places(P, ABYZ, NOTHING),
-        Operator::USTAW => Places(AB, P, NOTHING),
-        Operator::ZAMIEN => Places(E, E, NOTHING),
-        Operator::UMIESC => Places(NUMBER_TEXT, ABYZCD, NOTHING),
-        Operator::USUN => Places(AI, TEST, NOTHING),
-        Operator::SKRESL => Places(C, RECORD_TEST, NOTHING),
-        Operator::RW => Places(ABT, COUNT, NOTHING),
-        Operator::WK => Places(B, NUMBER_B, NOTHING),
-        Operator::MN => Places(B, NUMBER_B, NOTHING),
-        Operator::PP => Places(B, TEXT_B, NOTHING),
-        Operator::NS => Places(B, TEXT_B, NOTHING),
-        Operator::RZ => Places(P, RZ_TEST, NOTHING),
-        Operator::SKOCZ => Places(LABEL, NOTHING, NOTHING),
-        Operator::WYKONAJ => Places(LABEL, NOTHING, NOTHING),
-        Operator::SKOMI => Places(LABEL, NOTHING, NOTHING),
-        Operator::SKOPL => Places(LABEL, NOTHING, NOTHING),
-        Operator::WYMI => Places(LABEL, NOTHING, NOTHING),
-        Operator::WYPL => Places(LABEL, NOTHING, NOTHING),
-        Operator::SKONA => Places(AB, NAZWA, NOTHING),
-        Operator::SKOIN => Places(AB, INDEKS, NOTHING),
-        Operator::WYNA => Places(AB, NAZWA, NOTHING),
-        Operator::WYIN => Places(AB, INDEKS, NOTHING),
-        Operator::WROC => Places(NOTHING, NOTHING, NOTHING),
-        Operator::DODAJ => Places(A, NUMBER_B, NOTHING),
-        Operator::ODEJMIJ => Places(A, NUMBER_B, NOTHING),
-        Operator::MNOZ => Places(A, NUMBER_B, NOTHING),
-        Operator::DZIEL => Places(A, NUMBER_B, NOTHING),
-        Operator::SLOWO => Places(AB, NOTHING, NOTHING),
-        Operator::LICZBA => Places(AB, NOTHING, NOTHING),
-        Operator::ZBIJ => Places(AB, TEST, NOTHING),
-        Operator::ROZBIJ => Places(AB, TEST, NOTHING),
-        Operator::SZUKAJ => Places(AB, NAZWA, NOTHING),
-        Operator::OMIN => Places(P, RECORD_TEST, NOTHING),
-        Operator::COFNIJ => Places(P, NOTHING, NOTHING),
-        Operator::STOP => Places(NOTHING, NOTHING, NOTHING),
-        _ => Places(0, 0, 0),
+        Operator::PRZESLIJ => [AB, ABYZ, TEST],
+        Operator::CZYTAJ => [I, ABYZ, TEST],
+        Operator::PISZ => [AB, Q, TEST],
+        Operator::KOPIUJ => [CD, CD, RECORD_TEST],
+        Operator::WSTAW => [AB, CD, NOTHING],
+        Operator::POBIERZ => [CD, ABYZ, NOTHING],
+        Operator::SCHOWAJ => [P, ABYZ, NOTHING],
+        Operator::USTAW => [AB, P, NOTHING],
+        Operator::ZAMIEN => [E, E, NOTHING],
+        Operator::UMIESC => [NUMBER_TEXT, ABYZCD, NOTHING],
+        Operator::USUN => [AI, TEST, NOTHING],
+        Operator::SKRESL => [C, RECORD_TEST, NOTHING],
+        Operator::RW => [ABT, COUNT, NOTHING],
+        Operator::WK => [B, NUMBER_B, NOTHING],
+        Operator::MN => [B, NUMBER_B, NOTHING],
+        Operator::PP => [B, TEXT_B, NOTHING],
+        Operator::NS => [B, TEXT_B, NOTHING],
+        Operator::RZ => [P, RZ_TEST, NOTHING],
+        Operator::SKOCZ => [LABEL, NOTHING, NOTHING],
+        Operator::WYKONAJ => [LABEL, NOTHING, NOTHING],
+        Operator::SKOMI => [LABEL, NOTHING, NOTHING],
+        Operator::SKOPL => [LABEL, NOTHING, NOTHING],
+        Operator::WYMI => [LABEL, NOTHING, NOTHING],
+        Operator::WYPL => [LABEL, NOTHING, NOTHING],
+        Operator::SKONA => [AB, NAZWA, NOTHING],
+        Operator::SKOIN => [AB, INDEKS, NOTHING],
+        Operator::WYNA => [AB, NAZWA, NOTHING],
+        Operator::WYIN => [AB, INDEKS, NOTHING],
+        Operator::WROC => [NOTHING, NOTHING, NOTHING],
+        Operator::DODAJ => [A, NUMBER_B, NOTHING],
+        Operator::ODEJMIJ => [A, NUMBER_B, NOTHING],
+        Operator::MNOZ => [A, NUMBER_B, NOTHING],
+        Operator::DZIEL => [A, NUMBER_B, NOTHING],
+        Operator::SLOWO => [AB, NOTHING, NOTHING],
+        Operator::LICZBA => [AB, NOTHING, NOTHING],
+        Operator::ZBIJ => [AB, TEST, NOTHING],
+        Operator::ROZBIJ => [AB, TEST, NOTHING],
+        Operator::SZUKAJ => [AB, NAZWA, NOTHING],
+        Operator::OMIN => [P, RECORD_TEST, NOTHING],
+        Operator::COFNIJ => [P, NOTHING, NOTHING],
+        Operator::STOP => [NOTHING, NOTHING, NOTHING],
+        _ => [0, 0, 0],
     }
 }
 
 // Its second list, where it has one.
+// A table of its own: its three rows are other data than the 41 of the first, and what the two share is the type of a row.
+#[tactic(auto, using(crate::proofs::Tables::list_arm, crate::proofs::Tables::second_rest), unfolding(crate::specs::Forms::set_at))]
 fn second_list(op: u8) -> Places
-    ensures { (result.0 ≡ set_at op 1 0) × (result.1 ≡ set_at op 1 1) × (result.2 ≡ set_at op 1 2) }
+    ensures { Sets op 1 result }
 {
     match op {
-        Operator::ZAMIEN => Places(P, P, NOTHING),
-        Operator::UMIESC => Places(TEXT, Q, NOTHING),
-        Operator::RW => Places(ABTI, KIND, NOTHING),
-        _ => Places(0, 0, 0),
+        Operator::ZAMIEN => [P, P, NOTHING],
+        Operator::UMIESC => [TEXT, Q, NOTHING],
+        Operator::RW => [ABTI, KIND, NOTHING],
+        _ => [0, 0, 0],
     }
 }
 
 fn at_place(p: Places, place: u8) -> u32
-    ensures { result ≡ get_or (p.0 ∷ p.1 ∷ p.2 ∷ []) place 0 }
+    ensures { result ≡ get_or p place 0 }
 {
-    if place == 0 {
-        return p.0;
+    match p.get(usize::from(place)) {
+        Some(set) => *set,
+        None => 0,
     }
-    if place == 1 {
-        return p.1;
-    }
-    if place == 2 {
-        return p.2;
-    }
-    0
 }
 
 // The set of forms that an instruction's list, 0 or 1, has for a place from 0.
+#[tactic(auto, using(crate::proofs::Tables::set_in, crate::proofs::Tables::past_list))]
 pub fn forms_at(op: u8, list: u8, place: u8) -> u32
     ensures { result ≡ set_at op list place }
 {
-    if list == 0 {
-        return at_place(first_list(op), place);
+    match list {
+        0 => at_place(first_list(op), place),
+        1 => at_place(second_list(op), place),
+        _ => 0,
     }
-    if list == 1 {
-        return at_place(second_list(op), place);
-    }
-    0
 }
 
-// How many lists an instruction has: 1 or 2; 0 for a number that is no operator's.
-fn alternatives(op: u8) -> u8
-    ensures { result ≡ lists_of op }
+// Of how many places the set has more than nothing; 0 stands for no set.
+fn not_empty(p: Places) -> usize
+    ensures { result ≡ count_by (λ s. not (eqb s 0) && not (eqb s nothing)) p }
 {
-    if (op == 0) | (Operator::STOP < op) {
-        return 0;
-    }
-    if (op == Operator::ZAMIEN) | ((op == Operator::UMIESC) | (op == Operator::RW)) {
-        return 2;
-    }
-    1
+    p.iter()
+        .filter(|set| (**set != 0) & (**set != NOTHING))
+        .count()
 }
 
-fn not_empty(set: u32) -> u8
-    ensures { (result ≡ cond (eqb set nothing) 0 1) × (result ≤ 1) }
+// And of how many it lacks the last of the forms, nothing.
+fn needed(p: Places) -> usize
+    ensures { result ≡ count_by (λ s. not (eqb s 0) && ltb s nothing) p }
 {
-    if set == NOTHING { 0 } else { 1 }
-}
-
-// Whether a set lacks the last of the forms, nothing.
-fn needed(set: u32) -> u8
-    ensures { (result ≡ cond (ltb set nothing) 1 0) × (result ≤ 1) }
-{
-    if set < NOTHING { 1 } else { 0 }
+    p.iter()
+        .filter(|set| (**set != 0) & (**set < NOTHING))
+        .count()
 }
 
 // How many arguments an instruction takes at most.
 pub fn most(op: u8) -> u8
     ensures { (result ≡ most_of op) × (result ≤ 3) }
 {
-    if alternatives(op) == 0 {
-        return 0;
-    }
-    let p = first_list(op);
-    not_empty(p.0) + not_empty(p.1) + not_empty(p.2)
+    not_empty(first_list(op)) as u8
 }
 
 // And at least.
 pub fn least(op: u8) -> u8
     ensures { (result ≡ least_of op) × (result ≤ 3) }
 {
-    if alternatives(op) == 0 {
-        return 0;
-    }
-    let p = first_list(op);
-    needed(p.0) + needed(p.1) + needed(p.2)
+    needed(first_list(op)) as u8
 }
 
+// Five tests: a pattern of five numbers is split in ways whose goals do not name the number.
 pub fn is_call(op: u8) -> bool
     ensures { result ≡ calls op }
 {
@@ -250,10 +230,11 @@ pub fn is_call(op: u8) -> bool
 }
 
 // "The last of them STOP, SKOCZ or WROC".
+#[tactic(auto, using(crate::proofs::Tables::end_arm, crate::proofs::Tables::end_rest), unfolding(crate::specs::Forms::ends))]
 pub fn is_end(op: u8) -> bool
     ensures { result ≡ ends op }
 {
-    (op == Operator::SKOCZ) | (op == Operator::WROC) | (op == Operator::STOP)
+    matches!(op, Operator::SKOCZ | Operator::WROC | Operator::STOP)
 }
 
 pub fn letter_bit(place: u8) -> u32
@@ -263,11 +244,12 @@ pub fn letter_bit(place: u8) -> u32
     1u32 << place
 }
 
-// The form of a set of one; - of any other set.
-fn only(set: u32) -> u8
-    ensures { result ≡ only set }
+// The form of a set of one.
+#[tactic(auto, using(crate::proofs::Readings::only_arm, crate::proofs::Readings::only_rest), unfolding(crate::specs::Forms::only))]
+fn only(set: u32) -> Option<u8>
+    ensures { result ≡ if_form (only set) }
 {
-    match set {
+    Some(match set {
         A => b'A',
         B => b'B',
         C => b'C',
@@ -286,69 +268,42 @@ fn only(set: u32) -> u8
         LABEL => b'l',
         NAZWA => b'w',
         INDEKS => b'x',
-        NOTHING => b'-',
-        _ => b'-',
-    }
+        _ => return None,
+    })
 }
 
-fn lives_first(live: Live) -> bool
-    ensures { result ≡ lives_first live }
-{
-    match live {
-        Live::First => true,
-        Live::Second => false,
-        Live::Both => true,
-    }
-}
-
-fn lives_second(live: Live) -> bool
-    ensures { result ≡ lives_second live }
-{
-    match live {
-        Live::First => false,
-        Live::Second => true,
-        Live::Both => true,
-    }
-}
-
+// The forms that an argument shares with a set, where its list lives.
 fn shared(lives: bool, kinds: u32, set: u32) -> u32
     ensures { result ≡ shared lives kinds set }
 {
     if lives { kinds & set } else { 0 }
 }
 
-fn taken_by(live: Live, a: u32, b: u32) -> Taken
-    ensures { result ≡ taken live a b }
+// What is taken by the form of a set of one.
+fn taken_as(set: u32, live: Live) -> Option<Taken>
+    ensures { result ≡ if_taken (record { form = only set; live = live }) }
 {
-    if a == 0 {
-        if b == 0 {
-            return Taken {
-                form: b'-',
-                live: live,
-            };
-        }
-        return Taken {
-            form: only(b),
-            live: Live::Second,
-        };
-    }
-    if b == 0 {
-        return Taken {
-            form: only(a),
-            live: Live::First,
-        };
-    }
-    Taken {
-        form: only(a),
-        live: Live::Both,
+    only(set).map(|form| Taken { form, live })
+}
+
+#[tactic(auto, unfolding(crate::specs::Reading::taken))]
+fn taken_by(live: Live, a: u32, b: u32) -> Option<Taken>
+    ensures { result ≡ if_taken (taken live a b) }
+{
+    match (a, b) {
+        (0, 0) => None,
+        (0, _) => taken_as(b, Live::Second),
+        (_, 0) => taken_as(a, Live::First),
+        _ => taken_as(a, Live::Both),
     }
 }
 
-// An argument at a place, by the forms that it reads as. It leaves the lists that take it; one that none takes leaves them all.
-pub fn take_argument(op: u8, live: Live, place: u8, kinds: u32) -> Taken
-    ensures { result ≡ taken_at op live place kinds }
+// An argument at a place, by the forms that it reads as. It leaves the lists that take it.
+#[tactic(auto, using(crate::proofs::Readings::taken_parts))]
+pub fn take_argument(op: u8, live: Live, place: u8, kinds: u32) -> Option<Taken>
+    ensures { result ≡ if_taken (taken_at op live place kinds) }
 {
-    let a = shared(lives_first(live), kinds, forms_at(op, 0, place));
-    let b = shared(lives_second(live), kinds, forms_at(op, 1, place));
+    let a = shared(live != Live::Second, kinds, forms_at(op, 0, place));
+    let b = shared(live != Live::First, kinds, forms_at(op, 1, place));
     taken_by(live, a, b)
 }

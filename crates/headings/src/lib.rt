@@ -28,35 +28,22 @@ pub struct Rest {
     pub last: bool,
 }
 
+#[tactic(auto, using(crate::proofs::Keywords::kons_rest))]
 pub fn is_kons(k: Keyword) -> bool
     ensures { result ≡ is_kons k }
 {
-    match k {
-        Keyword::None => false,
-        Keyword::Unknown => false,
-        Keyword::Sekcja => false,
-        Keyword::Kons => true,
-        Keyword::Konp => false,
-        Keyword::Switch(_) => false,
-        Keyword::Instr(_) => false,
-    }
+    matches!(k, Keyword::Kons)
 }
 
+#[tactic(auto, using(crate::proofs::Keywords::konp_rest))]
 pub fn is_konp(k: Keyword) -> bool
     ensures { result ≡ is_konp k }
 {
-    match k {
-        Keyword::None => false,
-        Keyword::Unknown => false,
-        Keyword::Sekcja => false,
-        Keyword::Kons => false,
-        Keyword::Konp => true,
-        Keyword::Switch(_) => false,
-        Keyword::Instr(_) => false,
-    }
+    matches!(k, Keyword::Konp)
 }
 
 // The items of a statement from its item `first` on.
+// Each turn goes on behind the item that it read, so there is no range to run over.
 fn read_tail(text: &[u8], first: Token, worst: usize) -> Rest
     requires { Restable text.now first worst }
     ensures { Tails text.now first worst result }
@@ -68,8 +55,8 @@ fn read_tail(text: &[u8], first: Token, worst: usize) -> Rest
         let t = next_item(text, i);
         if stops(t.sort) {
             return Rest {
-                first: first,
-                more: more,
+                first,
+                more,
                 worst: w,
                 next: t.next,
                 last: t.sort == NOTHING,
@@ -88,7 +75,7 @@ fn no_items(t: Token, worst: usize) -> Rest
     Rest {
         first: t,
         more: Fault::Clear,
-        worst: worst,
+        worst,
         next: t.next,
         last: t.sort == NOTHING,
     }
@@ -133,15 +120,9 @@ fn is_named(text: &[u8], t: Token, m: u32) -> bool
     requires { Nameable text.now t m }
     ensures { result ≡ is word (item_of text.now t) && bytes_equal (word_by text.now m) (chars_of text.now t) }
 {
-    let at = t.at;
-    let end = t.end;
-    let m = m as usize;
-    let a = m / 64;
-    let b = a + m % 64;
-    if t.sort == WORD {
-        return words::same(&text[a..b], &text[at..end]);
-    }
-    false
+    let at = m as usize / 64;
+    let len = m as usize % 64;
+    t.sort == WORD && text[at..at + len] == text[t.at..t.end]
 }
 
 // Question 00, of the first statement.
@@ -150,16 +131,14 @@ pub fn section_fault(text: &[u8], head: Head, rest: Rest) -> Fault
     ensures { FirstTold text.now head rest result }
 {
     let op = head.op;
-    let keyword = head.keyword;
     if head.first != op.at {
         return Fault::At(head.first);
     }
     if stops(op.sort) {
         return Fault::Clear;
     }
-    if opens(keyword) {
-        let first = rest.first;
-        return name_fault(rest, op.at, is_name(text, first));
+    if opens(head.keyword) {
+        return name_fault(rest, op.at, is_name(text, rest.first));
     }
     Fault::At(op.at)
 }
@@ -169,19 +148,17 @@ pub fn after_fault(text: &[u8], head: Head, rest: Rest, section: u32) -> Fault
     requires { Nameable text.now rest.first section }
     ensures { FollowsTold text.now head rest section result }
 {
-    let op = head.op;
-    let keyword = head.keyword;
-    let first = rest.first;
-    if is_konp(keyword) {
-        return name_fault(rest, op.at, is_named(text, first, section));
+    let at = head.op.at;
+    if is_konp(head.keyword) {
+        return name_fault(rest, at, is_named(text, rest.first, section));
     }
-    if !is_kons(keyword) {
+    if !is_kons(head.keyword) {
         return Fault::Clear;
     }
-    if stops(first.sort) {
+    if stops(rest.first.sort) {
         return Fault::Clear;
     }
-    name_fault(rest, op.at, false)
+    name_fault(rest, at, false)
 }
 
 // The mark of the first item, 0 where there is none.
@@ -191,9 +168,10 @@ pub fn section_mark(rest: Rest) -> u32
 {
     let first = rest.first;
     if stops(first.sort) {
-        return 0;
+        0
+    } else {
+        mark(first.at, first.len)
     }
-    mark(first.at, first.len)
 }
 
 // Of `heads`, passed on to the crates above.

@@ -1,3 +1,4 @@
+pub mod Keywords
 pub mod Leading
 pub mod Reading
 pub mod Below

@@ -9,7 +9,7 @@ ghost use Rattle.scanner.specs.Below.Statements.{is_name};
 ghost use Rattle.heads.specs.Heads.{known_item, nothing_known, head_with, opens, bars, is_switch, is_by_name, instr_of, Headable, Heads};
 
 use lexer::{Token, moved, next_item};
-use scanner::{COLON, WORD, one_if};
+use scanner::{COLON, WORD};
 use statements::{CLEAN, Fault, lower, stops, worse};
 use words::{Keyword, Known};
 
@@ -32,29 +32,22 @@ pub struct Head {
 fn is_operator(sort: u8, colon: usize) -> bool
     ensures { result ≡ not (eqb 2 sort || not (eqb colon 0)) }
 {
-    !((COLON == sort) | !(colon == 0))
+    (sort != COLON) & (colon == 0)
 }
 
 pub fn is_name(text: &[u8], t: Token) -> bool
     requires { Stands text.now t }
     ensures { result ≡ is_name (item_of text.now t) }
 {
-    let at = t.at;
-    let end = t.end;
-    if t.sort == WORD {
-        return words::identifier(&text[at..end]);
-    }
-    false
+    t.sort == WORD && words::identifier(&text[t.at..t.end])
 }
 
 fn keyword_at(text: &[u8], t: Token) -> Known
     requires { Stands text.now t }
     ensures { result ≡ known_item (item_of text.now t) }
 {
-    let at = t.at;
-    let end = t.end;
     if t.sort == WORD {
-        return words::keyword_of(&text[at..end]);
+        return words::keyword_of(&text[t.at..t.end]);
     }
     Known {
         keyword: Keyword::Unknown,
@@ -68,10 +61,10 @@ fn without_operator(first: usize, fault: Fault, names: usize, worst: usize, end:
     ensures { result ≡ head_with first fault names worst end nothing_known }
 {
     Head {
-        first: first,
-        fault: fault,
-        names: names,
-        worst: worst,
+        first,
+        fault,
+        names,
+        worst,
         op: end,
         keyword: Keyword::None,
         polish: false,
@@ -80,77 +73,48 @@ fn without_operator(first: usize, fault: Fault, names: usize, worst: usize, end:
 }
 
 // SEKCJA, the only operator of a first statement.
+#[tactic(auto, using(crate::proofs::Keywords::opens_rest))]
 pub fn opens(k: Keyword) -> bool
     ensures { result ≡ opens k }
 {
-    match k {
-        Keyword::None => false,
-        Keyword::Unknown => false,
-        Keyword::Sekcja => true,
-        Keyword::Kons => false,
-        Keyword::Konp => false,
-        Keyword::Switch(_) => false,
-        Keyword::Instr(_) => false,
-    }
+    matches!(k, Keyword::Sekcja)
 }
 
 // No operator of any other statement.
+#[tactic(auto, using(crate::proofs::Keywords::bars_here, crate::proofs::Keywords::bars_rest))]
 pub fn bars(k: Keyword) -> bool
     ensures { result ≡ bars k }
 {
-    match k {
-        Keyword::None => false,
-        Keyword::Unknown => true,
-        Keyword::Sekcja => true,
-        Keyword::Kons => false,
-        Keyword::Konp => false,
-        Keyword::Switch(_) => false,
-        Keyword::Instr(_) => false,
-    }
+    matches!(k, Keyword::Unknown | Keyword::Sekcja)
 }
 
 // INDEKS or NAZWA.
+#[tactic(auto, using(crate::proofs::Keywords::switch_rest))]
 pub fn is_switch(k: Keyword) -> bool
     ensures { result ≡ is_switch k }
 {
-    match k {
-        Keyword::None => false,
-        Keyword::Unknown => false,
-        Keyword::Sekcja => false,
-        Keyword::Kons => false,
-        Keyword::Konp => false,
-        Keyword::Switch(_) => true,
-        Keyword::Instr(_) => false,
-    }
+    matches!(k, Keyword::Switch(_))
 }
 
 // NAZWA.
+#[tactic(auto, using(crate::proofs::Keywords::by_name_rest))]
 pub fn is_by_name(k: Keyword) -> bool
     ensures { result ≡ is_by_name k }
 {
     match k {
-        Keyword::None => false,
-        Keyword::Unknown => false,
-        Keyword::Sekcja => false,
-        Keyword::Kons => false,
-        Keyword::Konp => false,
         Keyword::Switch(by_name) => by_name,
-        Keyword::Instr(_) => false,
+        _ => false,
     }
 }
 
 // An instruction's number; 0 for any other keyword.
+#[tactic(auto, using(crate::proofs::Keywords::instr_rest))]
 pub fn instr_of(k: Keyword) -> u8
     ensures { result ≡ instr_of k }
 {
     match k {
-        Keyword::None => 0,
-        Keyword::Unknown => 0,
-        Keyword::Sekcja => 0,
-        Keyword::Kons => 0,
-        Keyword::Konp => 0,
-        Keyword::Switch(_) => 0,
         Keyword::Instr(op) => op,
+        _ => 0,
     }
 }
 
@@ -160,18 +124,17 @@ fn name_fault(text: &[u8], t: Token, at: usize) -> Fault
     ensures { result ≡ fault_of (cond (is_name (item_of text.now t)) [] (at ∷ [])) }
 {
     if is_name(text, t) {
-        return Fault::Clear;
+        Fault::Clear
+    } else {
+        Fault::At(at)
     }
-    Fault::At(at)
 }
 
+// An `if` in the loop itself would give each goal after it two cases.
 fn pick(b: bool, x: usize, y: usize) -> usize
     ensures { result ≡ cond b x y }
 {
-    if b {
-        return x;
-    }
-    y
+    if b { x } else { y }
 }
 
 // A word's place and length in one number.
@@ -203,21 +166,20 @@ pub fn read_head(rest: &[u8], n: usize, names: &mut [u32], count: usize) -> Head
         worst = worse(worst, o);
         if is_operator(o.sort, o.colon) {
             let k = keyword_at(rest, t);
-            let keyword = k.keyword;
             return Head {
-                first: first,
-                fault: fault,
+                first,
+                fault,
                 names: c,
-                worst: worst,
+                worst,
                 op: o,
-                keyword: keyword,
+                keyword: k.keyword,
                 polish: k.polish,
                 english: k.english,
             };
         }
         fault = lower(fault, name_fault(rest, t, o.at));
         names[c] = mark(o.at, o.len);
-        c = c + one_if(WORD == o.sort);
+        c += usize::from(WORD == o.sort);
         i = t.next;
     }
 }

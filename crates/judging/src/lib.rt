@@ -13,23 +13,18 @@ use statements::{Fault, lower};
 fn is_foreign(head: Head, english: bool) -> bool
     ensures { result ≡ own_by (not english) head }
 {
-    if english {
-        return head.polish;
-    }
-    head.english
+    if english { head.polish } else { head.english }
 }
 
 // Question 10, of a statement after the first in a section of an edition.
 pub fn operator_fault(head: Head, english: bool) -> Fault
     ensures { OperatorFault head english result }
 {
-    let keyword = head.keyword;
-    let fault = head.fault;
-    let op = head.op;
-    if bars(keyword) | is_foreign(head, english) {
-        return lower(fault, Fault::At(op.at));
+    if bars(head.keyword) | is_foreign(head, english) {
+        lower(head.fault, Fault::At(head.op.at))
+    } else {
+        head.fault
     }
-    fault
 }
 
 // Question 08, where the marks of the labels that wait for the statement and of its own begin at index `from`.
@@ -37,16 +32,13 @@ pub fn label_fault(head: Head, names: &[u32], from: usize) -> Fault
     requires { Labelled head names.now from }
     ensures { LabelFault head names.now from result }
 {
-    let keyword = head.keyword;
-    let op = head.op;
-    let to = head.names;
-    if !is_switch(keyword) {
+    if !is_switch(head.keyword) {
         return Fault::Clear;
     }
-    if from == to {
-        return Fault::At(op.at);
+    if from == head.names {
+        return Fault::At(head.op.at);
     }
-    lowest_mark(names, from + 1, to)
+    lowest_mark(names, from + 1, head.names)
 }
 
 // Of `names`, passed on to the crates above.

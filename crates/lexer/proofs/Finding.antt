@@ -15,9 +15,10 @@ use Rattle.scanner.specs.Below.Items.{Sort, sort_of, sort_number, Item, is, a_te
 use Rattle.scanner.specs.Below.Items.Sort.{separator, word, colon, end, text, wrong}
 use Rattle.scanner.specs.Below.SyntaxScan.{word_length, text_length, text_chars, is_closed, text_found, found_here, found_in, found_after}
 use Rattle.scanner.specs.Below.SyntaxScan.Found.{found}
-use Rattle.scanner.specs.declared.Gap.{Gap}
+use Rattle.scanner.specs.declared.Unclosed.{Unclosed}
+use Rattle.std.proofs.Common.{Result}
 use Rattle.scanner.specs.declared.Scan.{Scan}
-use Rattle.scanner.specs.Scans.{Skipped, WordEnd, Scanned}
+use Rattle.scanner.specs.Scans.{place_in, is_open, Skipped, WordEnd, Scanned}
 use Rattle.scanner.proofs.Loops.{drop_here}
 use Rattle.lexer.specs.declared.Token.{Token}
 use Rattle.lexer.specs.Tokens.{part, sort_at, word_of, text_of, chars_of, item_of, Stands, a_token, found_by, Begins, WordAt, TextAt, TokenAt}
@@ -181,31 +182,31 @@ module _ {s : List ℕ} {at : ℕ} {x : Scan} (h : at < length s) (w : Scanned s
   text-begins = record { from = le_refl at; stands = text-stands; bare = refl; is = text_is-found }
 
 -- what stands behind a gap
-module _ {s : List ℕ} {n : ℕ} {g : Gap} (k : Skipped s n g) where
-  pub open-found : g.open ≡ true → TokenAt s n (a_token 5 g.at (length s))
+module _ {s : List ℕ} {n : ℕ} {g : Result ℕ Unclosed} (k : Skipped s n g) where
+  pub open-found : is_open g ≡ true → TokenAt s n (a_token 5 (place_in g) (length s))
   unfolding found_after chars_of
   open-found e =
       let l = k.opening e in
       record {
         from = k.from;
-        stands = mark-stands s 5 g.at (length s) (omega arith) (λ q. omega arith) (λ q. omega arith) (omega arith) (omega arith) (λ q. l) (λ q. absurd (omega arith));
+        stands = mark-stands s 5 (place_in g) (length s) (omega arith) (λ q. omega arith) (λ q. omega arith) (omega arith) (omega arith) (λ q. l) (λ q. absurd (omega arith));
         bare = refl;
         is = rw (k.is, e) refl;
       }
 
-  pub end-found : g.open ≡ false → length s ≤ g.at → TokenAt s n (a_token 0 g.at g.at)
+  pub end-found : is_open g ≡ false → length s ≤ (place_in g) → TokenAt s n (a_token 0 (place_in g) (place_in g))
   unfolding found_after found_in chars_of
   end-found e l =
       record {
         from = k.from;
-        stands = mark-stands s 0 g.at g.at (omega arith) (λ q. omega arith) (λ q. omega arith) (omega arith) k.most (λ q. absurd (q refl)) (λ q. absurd (omega arith));
+        stands = mark-stands s 0 (place_in g) (place_in g) (omega arith) (λ q. omega arith) (λ q. omega arith) (omega arith) k.most (λ q. absurd (q refl)) (λ q. absurd (omega arith));
         bare = refl;
         is = rw (k.is, e, drop_of_length-le s l) refl;
       }
 
-  pub here : g.open ≡ false → g.at < length s → found_after s (Rattle.scanner.specs.Scans.gap_at s n) ≡ found_here (sort_of (get_or s g.at 0)) g.at (get_or s g.at 0) (drop (g.at + 1) s)
+  pub here : is_open g ≡ false → (place_in g) < length s → found_after s (Rattle.scanner.specs.Scans.gap_at s n) ≡ found_here (sort_of (get_or s (place_in g) 0)) (place_in g) (get_or s (place_in g) 0) (drop ((place_in g) + 1) s)
   unfolding found_after found_in
-  here e l = rw (k.is, e, drop_here s g.at l) refl
+  here e l = rw (k.is, e, drop_here s (place_in g) l) refl
 
-  pub item-found : {q : Sort} {t : Token} → g.open ≡ false → g.at < length s → sort_of (get_or s g.at 0) ≡ q → Begins q s g.at t → TokenAt s n t
+  pub item-found : {q : Sort} {t : Token} → is_open g ≡ false → (place_in g) < length s → sort_of (get_or s (place_in g) 0) ≡ q → Begins q s (place_in g) t → TokenAt s n t
   item-found e l o b = record { from = omega (arith, k.from, b.from); stands = b.stands; bare = b.bare; is = here e l ∙ rw o b.is }

@@ -7,6 +7,8 @@ use native.Mathlib.Omega.{arith}
 use lib.Dec.{eqb}
 use lib.ListN.{length, get_or, drop, drop_of_length-le}
 use borrow.Author.Tests.{eqb-true, ne_eqb}
+use native.Mathlib.Decide.{dec_lt}
+use Rattle.scanner.proofs.Loops.{in_text}
 use Rattle.scanner.specs.Below.Lists.{if_any}
 use Rattle.scanner.specs.Below.ListsTableLaws.{beq-eq, below}
 use Rattle.scanner.specs.Below.Items.{Sort, sort_of, same_sort, Item, is, a_word, a_mark, read, named}
@@ -15,11 +17,12 @@ use Rattle.scanner.specs.Below.Items.Mode.{outside}
 use Rattle.scanner.proofs.Below.ItemLaws.{items-found}
 use Rattle.scanner.proofs.Below.SyntaxLoadLaws.{name-colon, item-alone, word-alone}
 use Rattle.scanner.specs.Below.SyntaxScan.{text_found, found_here, found_in, found_after, items_then}
-use Rattle.scanner.specs.declared.Gap.{Gap}
-use Rattle.scanner.specs.Scans.{Skipped}
+use Rattle.scanner.specs.declared.Unclosed.{Unclosed}
+use Rattle.std.proofs.Common.{None, Some, Result}
+use Rattle.scanner.specs.Scans.{place_in, is_open, Skipped}
 use Rattle.lexer.specs.declared.After.{After}
 use Rattle.lexer.specs.declared.Token.{Token}
-use Rattle.lexer.specs.Tokens.{chars_of, item_of, found_by, TokenAt, ColonAfter, items_from, NextToken}
+use Rattle.lexer.specs.Tokens.{colon_in, chars_of, item_of, found_by, TokenAt, ColonAfter, items_from, NextToken}
 use Rattle.lexer.proofs.Finding.{number-of-sort, here}
 
 -- only a colon begins a colon
@@ -36,41 +39,50 @@ other-leads end s n b r h = refl
 other-leads text s n b r h = refl
 other-leads wrong s n b r h = refl
 
-module _ {s : List ℕ} {n : ℕ} {g : Gap} (k : Skipped s n g) where
+module _ {s : List ℕ} {n : ℕ} {g : Result ℕ Unclosed} (k : Skipped s n g) where
   -- the items are found from behind the gap on as well
-  from-behind : read outside n (drop n s) ≡ read outside g.at (drop g.at s)
-  from-behind = items-found s n ∙ ap (λ x. items_then s (found_after s x)) k.settled ∙ sym (items-found s g.at)
+  from-behind : read outside n (drop n s) ≡ read outside (place_in g) (drop (place_in g) s)
+  from-behind = items-found s n ∙ ap (λ x. items_then s (found_after s x)) k.settled ∙ sym (items-found s (place_in g))
 
   abbrev no_colon : After
-  no_colon = record { colon = 0; next = g.at }
+  no_colon = record { colon = None; next = place_in g }
 
   bare : if_any false (is colon) (read outside n (drop n s)) ≡ false → ColonAfter s n no_colon
   bare e = record { from = k.from; most = k.most; colon_most = omega arith; colon_from = λ q. absurd (q refl); none = λ z. e; is = from-behind }
 
-  pub colon-open : g.open ≡ true → ColonAfter s n no_colon
+  pub colon-open : is_open g ≡ true → ColonAfter s n no_colon
   unfolding items_then found_after
   colon-open e = bare (rw (items-found s n, k.is, e) refl)
 
-  pub colon-end : g.open ≡ false → length s ≤ g.at → ColonAfter s n no_colon
+  colon-end : is_open g ≡ false → length s ≤ (place_in g) → ColonAfter s n no_colon
   unfolding items_then found_after found_in
   colon-end e l = bare (rw (items-found s n, k.is, e, drop_of_length-le s l) refl)
 
-  pub colon-other : g.open ≡ false → g.at < length s → get_or s g.at 0 < 256 → (get_or s g.at 0 ≡ 58 → ⊥) → ColonAfter s n no_colon
+  colon-other : is_open g ≡ false → place_in g < length s → get_or s (place_in g) 0 < 256 → eqb (get_or s (place_in g) 0) 58 ≡ false → ColonAfter s n no_colon
   colon-other e l b o =
-      let q = sym (colon-byte (get_or s g.at 0) b) ∙ ne_eqb (get_or s g.at 0) 58 o in
-      bare (rw (items-found s n, here k e l) (other-leads (sort_of (get_or s g.at 0)) s g.at (get_or s g.at 0) (drop (g.at + 1) s) q))
+      let q = sym (colon-byte (get_or s (place_in g) 0) b) ∙ o in
+      bare (rw (items-found s n, here k e l) (other-leads (sort_of (get_or s (place_in g) 0)) s (place_in g) (get_or s (place_in g) 0) (drop (place_in g + 1) s) q))
 
-  pub colon-here : 0 < n → g.open ≡ false → g.at < length s → get_or s g.at 0 ≡ 58 → ColonAfter s n (record { colon = g.at; next = g.at + 1 })
+  pub no_colon-here : is_open g ≡ false → get_or s (place_in g) 0 < 256 → eqb (get_or s (place_in g) 0) 58 ≡ false → ColonAfter s n no_colon
+  no_colon-here e b o = go (dec_lt (place_in g) (length s))
+    where
+      go : Dec (place_in g < length s) → ColonAfter s n no_colon
+      go (yes l) = colon-other e l b o
+      go (no l) = colon-end e (omega arith)
+
+  pub colon-here : 0 < n → is_open g ≡ false → eqb (get_or s (place_in g) 0) 58 ≡ true → ColonAfter s n (record { colon = Some (place_in g); next = place_in g + 1 })
   unfolding items_then found_here sort_of
-  colon-here z e l o =
+  colon-here z e q =
       let p = k.from in
+      let o : get_or s (place_in g) 0 ≡ 58 = eqb-true (get_or s (place_in g) 0) 58 q in
+      let l : place_in g < length s = in_text s (place_in g) 57 o in
       record {
         from = omega arith;
         most = omega arith;
         colon_most = omega arith;
         colon_from = λ q. p;
         none = λ q. absurd (omega arith);
-        is = items-found s n ∙ rw (here k e l, o, ne_eqb g.at 0 (λ q. omega arith)) refl;
+        is = items-found s n ∙ rw (here k e l, o, ne_eqb (place_in g) 0 (λ q. omega arith)) refl;
       }
 
 -- the items from place n on, by what is found there
@@ -102,7 +114,7 @@ module _ {s : List ℕ} {n : ℕ} {t : Token} (k : TokenAt s n t) where
   word_read w = some_read (ne_eqb t.sort 0 (λ e. omega arith)) ∙ ap (λ i. i ∷ read outside t.next (drop t.next s)) (word-item w)
 
   abbrev named_token : After → Token
-  named_token r = record { sort = 1; at = t.at; end = t.end; next = r.next; len = t.len; good = true; colon = r.colon }
+  named_token r = record { sort = 1; at = t.at; end = t.end; next = r.next; len = t.len; good = true; colon = (colon_in r) }
 
   same_chars : (r : After) → t.sort ≡ 1 → chars_of s (named_token r) ≡ chars_of s t
   unfolding chars_of
@@ -112,14 +124,14 @@ module _ {s : List ℕ} {n : ℕ} {t : Token} (k : TokenAt s n t) where
     abbrev rest : List Item
     rest = read outside r.next (drop r.next s)
 
-    named-items : (z : Bool) → eqb r.colon 0 ≡ z → items_from s n ≡ item_of s (named_token r) ∷ items_from s r.next
+    named-items : (z : Bool) → eqb (colon_in r) 0 ≡ z → items_from s n ≡ item_of s (named_token r) ∷ items_from s r.next
     named-items true z =
         let e : read outside t.next (drop t.next s) ≡ rest = c.is ∙ rw z refl in
-        let o : if_any false (is colon) rest ≡ false = sym (ap (λ js. if_any false (is colon) js) e) ∙ c.none (eqb-true r.colon 0 z) in
+        let o : if_any false (is colon) rest ≡ false = sym (ap (λ js. if_any false (is colon) js) e) ∙ c.none (eqb-true (colon_in r) 0 z) in
         ap named (word_read w ∙ ap (λ js. its_word ∷ js) e) ∙ word-alone t.at (chars_of s t) rest o ∙ rw (z, same_chars r w) refl
     named-items false z =
-        let e : read outside t.next (drop t.next s) ≡ a_mark colon r.colon ∷ rest = c.is ∙ rw z refl in
-        ap named (word_read w ∙ ap (λ js. its_word ∷ js) e) ∙ name-colon t.at r.colon (chars_of s t) rest ∙ rw (z, same_chars r w) refl
+        let e : read outside t.next (drop t.next s) ≡ a_mark colon (colon_in r) ∷ rest = c.is ∙ rw z refl in
+        ap named (word_read w ∙ ap (λ js. its_word ∷ js) e) ∙ name-colon t.at (colon_in r) (chars_of s t) rest ∙ rw (z, same_chars r w) refl
 
     pub next_word : NextToken s n (named_token r)
     next_word =
@@ -139,5 +151,5 @@ module _ {s : List ℕ} {n : ℕ} {t : Token} (k : TokenAt s n t) where
                 fine = λ e. refl;
                 count = rw (same_chars r w) h.count;
               };
-          is = named-items (eqb r.colon 0) refl;
+          is = named-items (eqb (colon_in r) 0) refl;
         }

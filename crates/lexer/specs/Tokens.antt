@@ -1,5 +1,5 @@
 -- Tokens: what the lexer gives of the items of Items.antt, with places of the text s in place of characters. And what its functions promise.
-use Rattle.std.specs.Prelude.{◌≡◌, true, false, cond, List, [], ◌∷◌, ℕ, ◌+◌, ◌-◌, ◌≤◌, ◌<◌, eqb, length, get_or, take, drop}
+use Rattle.std.specs.Prelude.{◌≡◌, true, false, cond, List, [], ◌∷◌, ℕ, ◌+◌, ◌-◌, ◌≤◌, ◌<◌, eqb, length, get_or, take, drop, unwrap_or}
 use Rattle.scanner.specs.Below.Lists.{if_any}
 use Rattle.scanner.specs.Below.Items.{Sort, Item, is, a_mark, read, named}
 use Rattle.scanner.specs.Below.Items.Sort.{separator, word, colon, end, text, wrong}
@@ -75,17 +75,21 @@ TextAt s n t = Begins text s n t
 abbrev pub TokenAt : List ℕ → ℕ → Token → Type 0
 TokenAt s n t = Finds s n (item_at s n) t
 
+-- the place of a colon, or 0, as a token has it
+abbrev pub colon_in : After → ℕ
+colon_in r = unwrap_or r.colon 0
+
 -- The next item from place n on is a colon; or it is not, and is found from r.next on as well
 abbrev pub items_after : List ℕ → After → List Item
 items_after s r =
-    cond (eqb r.colon 0) (read outside r.next (drop r.next s)) (a_mark colon r.colon ∷ read outside r.next (drop r.next s))
+    cond (eqb (colon_in r) 0) (read outside r.next (drop r.next s)) (a_mark colon (colon_in r) ∷ read outside r.next (drop r.next s))
 
 pub record ColonAfter (s : List ℕ) (n : ℕ) (r : After) : Type 0 where
   pub from : n ≤ r.next
   pub most : r.next ≤ length s
-  pub colon_most : r.colon ≤ r.next
-  pub colon_from : (r.colon ≡ 0 → ⊥) → n ≤ r.colon
-  pub none : r.colon ≡ 0 → if_any false (is colon) (read outside n (drop n s)) ≡ false
+  pub colon_most : (colon_in r) ≤ r.next
+  pub colon_from : ((colon_in r) ≡ 0 → ⊥) → n ≤ (colon_in r)
+  pub none : (colon_in r) ≡ 0 → if_any false (is colon) (read outside n (drop n s)) ≡ false
   pub is : read outside n (drop n s) ≡ items_after s r
 
 -- the items from place n on, each word with its colon

@@ -5,12 +5,12 @@ ghost use Rattle.std.specs.Prelude.{◌≡◌, ◌+◌, ◌≤◌, ◌<◌, leng
 ghost use Rattle.scanner.specs.Below.Items.{line_at};
 ghost use Rattle.lexer.specs.Tokens.{a_token, WordAt, TextAt, TokenAt, ColonAfter, NextToken, Movable, moved, moved_colon};
 
-use scanner::{NOTHING, TEXT, WORD, WRONG, one_if, scan_text, skip, sort_of, word_end};
+use scanner::{NOTHING, TEXT, Unclosed, WORD, WRONG, scan_text, skip, sort_of, word_end};
 
 // An item: its sort; the place where it begins, the place where its own bytes end, which of a text is that of its closing
 // apostrophe, and the place from which the next item is sought; the count of its characters; of a text whether it is closed
 // and allowed; of a word the place of the colon that follows it, or 0.
-#[derive(Clone, Copy)]
+#[derive(Clone, Copy, PartialEq, Eq)]
 pub struct Token {
     pub sort: u8,
     pub at: usize,
@@ -25,9 +25,9 @@ fn mark(sort: u8, at: usize, end: usize) -> Token
     ensures { result ≡ a_token sort at end }
 {
     Token {
-        sort: sort,
-        at: at,
-        end: end,
+        sort,
+        at,
+        end,
         next: end,
         len: 0,
         good: true,
@@ -41,13 +41,8 @@ fn word_at(text: &[u8], at: usize) -> Token
 {
     let end = word_end(text, at + 1);
     Token {
-        sort: WORD,
-        at: at,
-        end: end,
-        next: end,
         len: end - at,
-        good: true,
-        colon: 0,
+        ..mark(WORD, at, end)
     }
 }
 
@@ -57,13 +52,10 @@ fn text_at(text: &[u8], at: usize) -> Token
 {
     let x = scan_text(text, at + 1);
     Token {
-        sort: TEXT,
-        at: at,
-        end: x.end,
-        next: x.end + one_if(x.closed),
+        next: x.end + usize::from(x.closed),
         len: x.count,
         good: x.good & x.closed,
-        colon: 0,
+        ..mark(TEXT, at, x.end)
     }
 }
 
@@ -72,28 +64,24 @@ pub fn item_at(text: &[u8], n: usize) -> Token
     requires { n ≤ length text.now }
     ensures { TokenAt text.now n result }
 {
-    let g = skip(text, n);
-    let at = g.at;
-    if g.open {
-        return mark(WRONG, at, text.len());
-    }
+    let at = match skip(text, n) {
+        Ok(at) => at,
+        Err(Unclosed(at)) => return mark(WRONG, at, text.len()),
+    };
     if text.len() <= at {
         return mark(NOTHING, at, at);
     }
-    let sort = sort_of(text[at]);
-    if sort == WORD {
-        return word_at(text, at);
+    match sort_of(text[at]) {
+        WORD => word_at(text, at),
+        TEXT => text_at(text, at),
+        sort => mark(sort, at, at + 1),
     }
-    if sort == TEXT {
-        return text_at(text, at);
-    }
-    mark(sort, at, at + 1)
 }
 
-// What follows a word: the place of a colon, or 0, and the place from which the next item is sought.
+// What follows a word: the place of a colon, if there is one, and the place from which the next item is sought.
 #[derive(Clone, Copy)]
 struct After {
-    colon: usize,
+    colon: Option<usize>,
     next: usize,
 }
 
@@ -101,20 +89,19 @@ fn colon_after(text: &[u8], n: usize) -> After
     requires { (0 < n) × (n ≤ length text.now) }
     ensures { ColonAfter text.now n result }
 {
-    let g = skip(text, n);
-    let at = g.at;
-    if g.open {
-        return After { colon: 0, next: at };
-    }
-    if text.len() <= at {
-        return After { colon: 0, next: at };
-    }
-    if text[at] != b':' {
-        return After { colon: 0, next: at };
-    }
-    After {
-        colon: at,
-        next: at + 1,
+    match skip(text, n) {
+        Ok(at) if text[at..].starts_with(b":") => After {
+            colon: Some(at),
+            next: at + 1,
+        },
+        Ok(at) => After {
+            colon: None,
+            next: at,
+        },
+        Err(Unclosed(at)) => After {
+            colon: None,
+            next: at,
+        },
     }
 }
 
@@ -127,16 +114,11 @@ pub fn next_item(text: &[u8], n: usize) -> Token
     if t.sort != WORD {
         return t;
     }
-    let next = t.next;
-    let a = colon_after(text, next);
+    let a = colon_after(text, t.next);
     Token {
-        sort: WORD,
-        at: t.at,
-        end: t.end,
         next: a.next,
-        len: t.len,
-        good: true,
-        colon: a.colon,
+        colon: a.colon.unwrap_or(0),
+        ..t
     }
 }
 
@@ -146,13 +128,11 @@ pub fn moved(t: Token, n: usize) -> Token
     ensures { result ≡ moved n t }
 {
     Token {
-        sort: t.sort,
         at: n + t.at,
         end: n + t.end,
         next: n + t.next,
-        len: t.len,
-        good: t.good,
         colon: moved_colon(t.colon, n),
+        ..t
     }
 }
 
@@ -160,20 +140,17 @@ fn moved_colon(colon: usize, n: usize) -> usize
     requires { n + colon ≤ 65536 }
     ensures { result ≡ moved_colon n colon }
 {
-    if colon == 0 {
-        return 0;
-    }
-    n + colon
+    if colon == 0 { 0 } else { n + colon }
 }
 
 // The line of a place, from the lines of a text's bytes; 1 where no byte stands.
 pub fn line_at(lines: &[u16], at: usize) -> u16
     ensures { result ≡ line_at lines.now at }
 {
-    if at < lines.len() {
-        return lines[at];
+    match lines.get(at) {
+        Some(line) => *line,
+        None => 1,
     }
-    1
 }
 
 // Of `scanner`, passed on to the crates above.

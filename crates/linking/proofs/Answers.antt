@@ -19,7 +19,8 @@ use Rattle.syntax.specs.Verdict.Verdict.{yes, refuse}
 use Rattle.writing.specs.Writing.{HoldsProgram, Changes}
 use Rattle.linking.proofs.Relabelling.{linked-program, labelling}
 use Rattle.linking.specs.Linking.{Kept, Finds, Links, label_places, switch_places}
-use Rattle.linking.specs.declared.Linked.TheVariants.{Done, Label, Switch}
+use Rattle.linking.specs.declared.Missing.TheVariants.{Label, Switch}
+use Rattle.std.specs.Prelude.{Ok, Err}
 
 clear : (ps : List ℕ) → Clear ≡ fault_of ps → ps ≡ []
 clear ps e = (joined-clear Clear ps (sym e)).1
@@ -39,7 +40,7 @@ both-clear n m ps qs e f =
     sym ((λ j. first_no (ask n (e j) ∷ ask m (f j) ∷ [])) ∙ goes_on n (ask m [] ∷ []) ∙ goes_on m [])
 
 module _ (s c sw en : List ℕ) where
-  pub no_label : {f : Fault} (p : ℕ) → Finds s c sw en label_places f → f ≡ At p → Links s c sw en (Label p) c
+  pub no_label : {f : Fault} (p : ℕ) → Finds s c sw en label_places f → f ≡ At p → Links s c sw en (Err (Label p)) c
   no_label p u e =
       record {
         verdict_is = λ lines t h. at_fault 12 p (label_places t) (ask 13 (switch_places t) ∷ []) (sym e ∙ u.is lines t h);
@@ -52,7 +53,7 @@ module _ (s c sw en : List ℕ) where
     declared : (lines : List ℕ) (t : Tables) → Tabled s lines t c sw en → label_places t ≡ []
     declared lines t h = clear (label_places t) (sym e ∙ u.is lines t h)
 
-    pub no_switch : {g : Fault} (p : ℕ) → Finds s c sw en switch_places g → g ≡ At p → Links s c sw en (Switch p) c
+    pub no_switch : {g : Fault} (p : ℕ) → Finds s c sw en switch_places g → g ≡ At p → Links s c sw en (Err (Switch p)) c
     no_switch p v i =
         record {
           verdict_is = λ lines t h. at_fault 13 p (switch_places t) [] (sym i ∙ v.is lines t h) ∙ sym (goes_on 12 (ask 13 (switch_places t) ∷ []))
@@ -66,7 +67,7 @@ module _ (s c sw en : List ℕ) where
         labelling s k.lines k.tables c sw en k.tabled (declared k.lines k.tables k.tabled) (x.holds (draft_program k.lines k.tables) k.tabled.holds)
 
     pub all-linked : {g : Fault} {d d' : List ℕ} → Finds s c sw en switch_places g → g ≡ Clear → Changes (λ p. code_resolved s sw (length p.code) p) c d
-        → Changes (λ p. entries_resolved s en (length (all_entries p)) p) d d' → Links s c sw en Done d'
+        → Changes (λ p. entries_resolved s en (length (all_entries p)) p) d d' → Links s c sw en (Ok tt) d'
     all-linked {g} {d} {d'} v i x y =
         record {
           verdict_is = λ lines t h. both-clear 12 13 (label_places t) (switch_places t) (declared lines t h) (clear (switch_places t) (sym i ∙ v.is lines t h));

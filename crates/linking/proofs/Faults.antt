@@ -125,6 +125,10 @@ module _ (s sw c : List ℕ) (kind : ℕ) (named : Bool) (f : Fault) where
 
 -- ---- entries
 
+-- there is a mark for each
+pub entries-fit : {c : List ℕ} {p : Program} (en : List ℕ) {n : ℕ} → n ≡ cell (table_of c) 3 → length en ≡ 128 → HoldsProgram c p → length (take n en) ≡ n
+entries-fit {c} {p} en {n} is room h = length-take-le n en (omega (arith, is, entry_count c p h, room, h.tabular.entries_most))
+
 module _ (s sw c en : List ℕ) (f : Fault) where
   abbrev pub entries_left : ℕ → Program → List ℕ
   entries_left k p = drop k (take (length (all_entries p)) en)

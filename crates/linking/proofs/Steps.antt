@@ -162,9 +162,6 @@ module _ (s en : List ℕ) where
       low-entry : k < length (all_entries a.program)
       low-entry = omega (arith, is, entry_count c a.program a.holds)
 
-      pub mark-there : k < length en
-      mark-there = omega (arith, low-entry, a.holds.tabular.entries_most, a.room)
-
       pub entry_ready : {d : List ℕ} (x v : ℕ) → x ≡ get_or en k 0 → Changes (entries_resolved s en k) c d → Tells d (λ p. label_by s p x) 128 v → EntryAt d k v
       entry_ready {d} x v e y t =
           let p : Program = a.program in

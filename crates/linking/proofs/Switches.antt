@@ -7,10 +7,11 @@ use native.Mathlib.Nat.{not-suc-le-zero, le_of_suc-le-suc}
 use native.Mathlib.Omega.{arith}
 use lib.Dec.{eqb}
 use lib.ListN.{length, get_or, take, drop, length-drop, drop_of_length-le}
-use lib.Seq.{length-take-le, get_or-take, take_all, take-nil}
+use lib.Seq.{length-take-le, take_all, take-nil}
+use Rattle.std.specs.Prelude.{Option, position, unwrap_or}
 use borrow.Author.Tests.{eq-eqb, ne_eqb}
 use Rattle.drafts.specs.Marks.{word_by}
-use Rattle.finding.proofs.Found.{Missed, ahead-at, ahead_past}
+use Rattle.finding.proofs.Found.{Missed, place_or}
 use Rattle.language.specs.Program.{Switch, Program, no_switch}
 use Rattle.layout.proofs.CellLaws.{padded-at}
 use Rattle.layout.specs.Cells.{cell}
@@ -25,7 +26,7 @@ use Rattle.writing.specs.Writing.{HoldsProgram}
 use Rattle.linking.specs.Lookup.{switch_by, is_switch, Judges}
 use native.Mathlib.Decide.{dec_lt}
 
-cut : (s : List ℕ) (at len a b : ℕ) → a ≡ min at (length s) → b ≡ min (at + len) (length s) → take (b - a) (drop a s) ≡ take len (drop at s)
+cut : (s : List ℕ) (at len a b : ℕ) → a ≡ min (length s) at → b ≡ min (length s) (at + len) → take (b - a) (drop a s) ≡ take len (drop at s)
 cut s at len a b e f = go (dec_lt at (length s)) (dec_lt (length s) (at + len))
   where
     go : Dec (at < length s) → Dec (length s < at + len) → take (b - a) (drop a s) ≡ take len (drop at s)
@@ -42,30 +43,18 @@ cut s at len a b e f = go (dec_lt at (length s)) (dec_lt (length s) (at + len))
         let w : b - a ≡ len = omega (arith, e, f) in
         λ j. take (w j) (drop (z j) s)
 
-pub word_cut : (s : List ℕ) (m a b : ℕ) → a ≡ min (m / 64) (length s) → b ≡ min (m / 64 + m % 64) (length s) → take (b - a) (drop a s) ≡ word_by s m
+pub word_cut : (s : List ℕ) (m a b : ℕ) → a ≡ min (length s) (m / 64) → b ≡ min (length s) (m / 64 + m % 64) → take (b - a) (drop a s) ≡ word_by s m
 unfolding word_by
 word_cut s m a b e f = cut s (m / 64) (m % 64) a b e f
 
 -- ---- a switch by its name
 
-module _ (s sw : List ℕ) (m : ℕ) where
-  abbrev pub name_hit : ℕ → Bool
-  name_hit j = bytes_equal (word_by s m) (word_by s (get_or sw j 0))
+module _ (s sw : List ℕ) where
+  abbrev q : ℕ → ℕ → Bool
+  q m x = bytes_equal (word_by s m) (word_by s x)
 
-  abbrev q : ℕ → Bool
-  q x = bytes_equal (word_by s m) (word_by s x)
-
-  among_first : (n j : ℕ) → j < n → name_hit j ≡ false → q (get_or (take n sw) j 0) ≡ false
-  among_first n j h e = ap q (get_or-take n sw j 0 h) ∙ e
-
-  pub place_found : (n k : ℕ) → n ≤ length sw → Missed name_hit k → k < n → name_hit k ≡ true → k ≡ switch_by s sw n m
-  place_found n k l u h e =
-      ahead-at q 0 (take n sw) k (omega (arith, length-take-le n sw l)) (λ j i. among_first n j (omega arith) (u j i)) (ap q (get_or-take n sw k 0 h) ∙ e)
-
-  pub place_none : (n : ℕ) → n ≤ length sw → Missed name_hit n → n ≡ switch_by s sw n m
-  place_none n l u =
-      let e : length (take n sw) ≡ n = length-take-le n sw l in
-      sym e ∙ ahead_past q 0 (take n sw) (λ j i. among_first n j (omega (arith, e)) (u j (omega (arith, e))))
+  pub place-or : (n m : ℕ) → n ≤ length sw → {o : Option ℕ} {v : ℕ} → o ≡ position (q m) (take n sw) → v ≡ unwrap_or o n → v ≡ switch_by s sw n m
+  place-or n m l e f = place_or (q m) (take n sw) e (sym (length-take-le n sw l)) f
 
 -- ---- a switch by its name and its type
 

@@ -1,13 +1,12 @@
 -- The marks of an instruction's arguments, as they stand in the table.
 use mathlib.Core.Path.{◌≡◌, refl, sym, ap, ◌∙◌}
-use mathlib.Core.Bool.{Bool, true, false, cond, ◌||◌}
+use mathlib.Core.Bool.{Bool, true, false, cond}
 use mathlib.Core.List.{List, [], ◌∷◌, ◌++◌}
 use Prim.Native.Nat.{ℕ, zero, suc, ◌+◌, ◌*◌, ◌/◌, ◌%◌, ◌≤◌, ◌<◌}
 use native.Mathlib.Omega.{arith}
-use lib.Dec.{ltb, leb-suc-suc}
 use lib.ListN.{length, get_or, drop}
 use lib.Seq.{get_or-take}
-use borrow.Author.Tests.{eq-eqb, ne_eqb, lt-ltb}
+use borrow.Author.Tests.{eq-eqb, ne_eqb}
 use Rattle.language.specs.Instructions.{operation}
 use Rattle.language.specs.Program.{Arg, Instr, Program, no_instr, instr_at}
 use Rattle.language.specs.Program.Arg.{nothing, letter, label, switch, class, text}
@@ -16,16 +15,18 @@ use Rattle.layout.proofs.CellLaws.{block_at, next_cell}
 use Rattle.layout.specs.Cells.{cell}
 use Rattle.layout.specs.Table.{arg_cell, instr_cells}
 use Rattle.layout.specs.Places as layout
-use Rattle.lists.specs.Lists.{any, ahead}
+use Rattle.lists.specs.Lists.{bytes_equal}
 use Rattle.packed.specs.Packed.{table_of}
 use Rattle.writing.proofs.Growing.{parts, in_parts}
 use Rattle.writing.specs.Writing.{HoldsProgram}
-use Rattle.writing.proofs.Held.{code_count, label_count, switch_count}
-use Rattle.drafts.specs.Marks.{place_by}
-use Rattle.finding.specs.Finding.{Tells}
+use Rattle.writing.proofs.Held.{code_count, switch_count}
+use Rattle.drafts.specs.Marks.{place_by, word_by}
+use Rattle.std.specs.Prelude.{Option, is_some}
+use Rattle.finding.proofs.Found.{some_any}
+use Rattle.finding.specs.Finding.{Locates}
 use Rattle.statements.specs.declared.Fault.{Fault}
 use Rattle.linking.proofs.Faults.{joined-none, faults-join, fault-one}
-use Rattle.linking.specs.Lookup.{argument, marks_in, instr_marks, instr_uses, asked_by, is_label, label_by, is_switch, joined, known, faults, Asking, AskingAt, AskingFor, Judges}
+use Rattle.linking.specs.Lookup.{argument, marks_in, instr_marks, instr_uses, asked_by, is_label, is_switch, joined, known, faults, Asking, AskingAt, AskingFor, Judges}
 
 argument_cell : (p : Program) (i : Instr) (j : ℕ) → j < 3 → cell (instr_cells p i) (1 + j) ≡ arg_cell p (argument j i)
 argument_cell p i zero h = refl
@@ -83,15 +84,6 @@ of-kind kind x e = ap (λ (b : Bool). cond b (x / 8 ∷ []) []) (eq-eqb (x % 8) 
 pub not-of-kind : (kind x : ℕ) → (x % 8 ≡ kind → ⊥) → marks_in kind x ≡ []
 not-of-kind kind x e = ap (λ (b : Bool). cond b (x / 8 ∷ []) []) (ne_eqb (x % 8) kind e)
 
--- a name is there where its place is not past the end
-ahead-there : {X : Type 0} (q : X → Bool) (xs : List X) → ltb (ahead q xs) (length xs) ≡ any q xs
-ahead-there q [] = refl
-ahead-there q (x ∷ xs) = go (q x) (ahead-there q xs)
-  where
-    go : (b : Bool) → ltb (ahead q xs) (length xs) ≡ any q xs → ltb (elim b [ true ↦ 0 | false ↦ suc (ahead q xs) ]) (suc (length xs)) ≡ (b || any q xs)
-    go true e = lt-ltb 0 (suc (length xs)) (omega arith)
-    go false e = leb-suc-suc (suc (ahead q xs)) (length xs) ∙ e
-
 -- ---- what the functions tell
 
 -- as many marks as switches
@@ -107,10 +99,10 @@ module _ (sw c : List ℕ) (k : ℕ) where
   argument_is j x a is p h = is ∙ argument-at c p h k (code-there a.at p h) j a.place
 
 module _ (s sw c : List ℕ) (kind : ℕ) (named : Bool) where
-  pub label-known : (m x y : ℕ) → kind ≡ 2 → Tells c (λ p. label_by s p m) 128 x → y ≡ cell (table_of c) 1 → Judges c (λ p. known s sw kind named p m) (ltb x y)
-  label-known m x y e t is =
+  pub label-known : (m : ℕ) {o : Option ℕ} {b : Bool} → kind ≡ 2 → Locates c (λ p. p.labels) (λ l. bytes_equal (word_by s m) l.name) o → b ≡ is_some o → Judges c (λ p. known s sw kind named p m) b
+  label-known m e t is =
       record {
-        is = λ p h. (λ j. ltb (t.is p h j) ((is ∙ label_count c p h) j)) ∙ ahead-there _ p.labels
+        is = λ p h. is ∙ sym (some_any (λ l. bytes_equal (word_by s m) l.name) p.labels (t.is p h))
             ∙ ap (λ (b : Bool). cond b (is_label s p m) (is_switch s named m sw p.switches)) (sym (eq-eqb kind 2 e));
       }
 

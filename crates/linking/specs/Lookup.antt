@@ -1,18 +1,20 @@
 -- Names that are used, by their marks in the text s, in a table that holds a program with marks: the labels and switches that they name, and the places
 -- of those that name none (questions 12 and 13).
-use Rattle.std.specs.Prelude.{◌≡◌, Bool, false, cond, not, ◌&&◌, ◌||◌, List, [], ◌∷◌, ◌++◌, map, ℕ, zero, suc, ◌/◌, ◌%◌, ◌<◌, eqb, length, take}
+use Rattle.std.specs.Prelude.{◌≡◌, Bool, true, false, cond, not, ◌&&◌, ◌||◌, List, [], ◌∷◌, ◌++◌, map, ℕ, zero, suc, ◌/◌, ◌%◌, ◌<◌, eqb, length, get_or, take}
 use Rattle.std.specs.Bool.{beq}
 use Rattle.language.specs.Instructions.{number_of}
 use Rattle.language.specs.Limits as limit
 use Rattle.language.specs.Program.{Arg, Instr, Op, Switch, Program}
 use Rattle.language.specs.Program.Op.{SKONA, WYNA, SZUKAJ}
-use Rattle.layout.specs.Kinds.{label_kind}
+use Rattle.layout.specs.Kinds.{label_kind, kinds}
 use Rattle.layout.specs.Table.{arg_cell}
 use Rattle.lists.specs.Lists.{ahead, any, keep, bytes_equal}
 use Rattle.drafts.specs.Marks.{place_by, word_by}
 use Rattle.statements.specs.StatementAt.{fault_of}
 use Rattle.statements.specs.declared.Fault.{Fault}
 use Rattle.statements.specs.declared.Fault.TheVariants.{Clear, At}
+use Rattle.linking.specs.declared.Role.{Role}
+use Rattle.linking.specs.declared.Role.TheVariants.{Label, Named, Indexed}
 use Rattle.syntax.specs.Verdict.{lowest}
 use Rattle.writing.specs.Writing.{HoldsProgram}
 
@@ -33,6 +35,21 @@ abbrev pub is_switch : List ℕ → Bool → ℕ → List ℕ → List Switch �
 is_switch s named m [] ws = false
 is_switch s named m (x ∷ sw) [] = false
 is_switch s named m (x ∷ sw) (w ∷ ws) = (bytes_equal (word_by s m) (word_by s x) && beq named w.goes_by_name) || is_switch s named m sw ws
+
+-- ---- what a name is used as: the kind of the arguments that use it so, and whether a switch goes by name; of a label it says nothing
+
+abbrev pub switch_kind : ℕ
+switch_kind = get_or kinds 2 0
+
+abbrev pub role_kind : Role → ℕ
+role_kind Label = label_kind
+role_kind Named = switch_kind
+role_kind Indexed = switch_kind
+
+abbrev pub role_named : Role → Bool
+role_named Label = true
+role_named Named = true
+role_named Indexed = false
 
 -- ---- faults
 

@@ -2,28 +2,35 @@
 // Until then the table has the marks of the names that are used.
 #![tactic(auto)]
 
-ghost use Rattle.std.specs.Prelude.{◌≡◌, true, cond, [], ◌∷◌, ◌≤◌, length, take};
+ghost use Rattle.std.specs.Prelude.{◌≡◌, true, cond, [], ◌∷◌, length, take, position};
 ghost use Rattle.layout.specs.Kinds.{label_kind};
 ghost use Rattle.layout.specs.Table.{arg_cell, all_entries};
 ghost use Rattle.language.specs.Program.{instr_at};
 ghost use Rattle.lists.specs.Lists.{each, bytes_equal};
 ghost use Rattle.drafts.specs.Marks.{place_by, word_by};
-ghost use Rattle.finding.specs.Finding.{Counted, Tells};
+ghost use Rattle.finding.specs.Finding.{Counted, Locates, Tells};
 ghost use Rattle.writing.specs.Writing.{Changes};
-ghost use Rattle.linking.specs.Lookup.{label_by, switch_by, is_switch, joined, known, faults, marks_in, argument, names_number, asked_by, instr_uses, Asking, AskingAt, AskingFor, Judges};
+ghost use Rattle.linking.specs.Lookup.{label_by, is_switch, role_kind, role_named, joined, known, faults, marks_in, argument, names_number, asked_by, instr_uses, Asking, AskingAt, AskingFor, Judges};
 ghost use Rattle.linking.specs.Resolving.{argument_resolved, instr_resolved, code_resolved, entries_resolved, Labelling};
 ghost use Rattle.linking.specs.Linking.{Kept, Finds, label_places, switch_places, Links};
 
 use language::Operator;
 use layout::{ArgumentKinds, TablePlaces};
-use statements::{Fault, lesser, lower, rebuilt};
+use statements::{Fault, lower, rebuilt};
 
-// The names are places now, or the lowest place of a label (12) or of a switch (13) that is not declared.
+// The lowest place of a label (12) or of a switch (13) that is used and not declared.
 #[derive(Clone, Copy)]
-pub enum Linked {
-    Done,
+pub enum Missing {
     Label(usize),
     Switch(usize),
+}
+
+// What an argument uses a name as: a label, a switch by name, or a switch by index.
+#[derive(Clone, Copy)]
+enum Role {
+    Label,
+    Named,
+    Indexed,
 }
 
 // The word of the mark `m`.
@@ -31,8 +38,8 @@ fn word(text: &[u8], m: usize) -> &[u8]
     ensures { result.now ≡ word_by text.now m }
 {
     let n = text.len();
-    let a = lesser(m / 64, n);
-    let b = lesser(m / 64 + m % 64, n);
+    let a = n.min(m / 64);
+    let b = n.min(m / 64 + m % 64);
     &text[a..b]
 }
 
@@ -40,30 +47,32 @@ fn word(text: &[u8], m: usize) -> &[u8]
 fn same_name(text: &[u8], m: usize, n: usize) -> bool
     ensures { result ≡ bytes_equal (word_by text.now m) (word_by text.now n) }
 {
-    words::same(word(text, m), word(text, n))
+    word(text, m) == word(text, n)
 }
 
-// The place of the label that `m` names, and the count of the labels where there is none.
-fn label_place(text: &[u8], table: &[u32], m: usize) -> usize
+// The place of the label that `m` names.
+fn label_place(text: &[u8], table: &[u32], m: usize) -> Option<usize>
     requires { Counted table.now 1 128 }
-    ensures { Tells table.now (λ p. label_by text.now p m) 128 result }
+    ensures { Locates table.now (λ p. p.labels) (λ l. bytes_equal (word_by text.now m) l.name) result }
 {
     finding::find_label(table, word(text, m))
 }
 
-// The place of the switch that `m` names among the first `count`, and `count` where there is none.
-fn switch_place(text: &[u8], sw: &[u32], count: usize, m: usize) -> usize
-    requires { count ≤ length sw.now }
-    ensures { result ≡ switch_by text.now sw.now count m }
+// What the mark `m` of a label becomes: the label's place, or the count of the labels where there is none.
+fn label_for(text: &[u8], table: &[u32], m: usize) -> usize
+    requires { Counted table.now 1 128 }
+    ensures { Tells table.now (λ p. label_by text.now p m) 128 result }
 {
-    let mut k = 0;
-    while k < count {
-        if same_name(text, m, cells::read(sw, k)) {
-            return k;
-        }
-        k += 1;
-    }
-    count
+    label_place(text, table, m).unwrap_or(table::labels(table))
+}
+
+// The place of the switch that `m` names, by the marks of their names.
+fn switch_place(text: &[u8], names: &[u32], m: usize) -> Option<usize>
+    ensures { result ≡ position (λ x. bytes_equal (word_by text.now m) (word_by text.now x)) names.now }
+{
+    names
+        .iter()
+        .position(|name| same_name(text, m, *name as usize))
 }
 
 // Whether `m` names a switch of the type.
@@ -71,18 +80,16 @@ fn has_switch(text: &[u8], table: &[u32], sw: &[u32], named: bool, m: usize) -> 
     requires { Asking table.now sw.now }
     ensures { Judges table.now (λ p. is_switch text.now named m sw.now p.switches) result }
 {
-    let n = table::switches(table);
-    let mut k = 0;
-    while k < n {
-        if same_name(text, m, cells::read(sw, k)) & (named == table::switch_by_name(table, k)) {
+    for k in 0..table::switches(table) {
+        if same_name(text, m, sw[k] as usize) & (named == table::switch_by_name(table, k)) {
             return true;
         }
-        k += 1;
     }
     false
 }
 
 // The lower of the place at fault so far and the mark's, where that is at fault.
+// Here and below a fault is made anew by `rebuilt`, since a plain copy is slower, as `statements` says.
 fn note(f: Fault, fine: bool, m: usize) -> Fault
     ensures { result ≡ joined f (cond fine [] (place_by m ∷ [])) }
 {
@@ -96,18 +103,32 @@ fn note(f: Fault, fine: bool, m: usize) -> Fault
 fn takes_named(operator: u8) -> bool
     ensures { result ≡ names_number operator }
 {
-    (operator == Operator::SKONA) | ((operator == Operator::WYNA) | (operator == Operator::SZUKAJ))
+    matches!(
+        operator,
+        Operator::SKONA | Operator::WYNA | Operator::SZUKAJ
+    )
 }
 
-// Whether `m`, the mark of an argument of the kind, names a label or a switch of the type.
-fn is_known(text: &[u8], table: &[u32], sw: &[u32], kind: usize, named: bool, m: usize) -> bool
+// Whether the mark `m` names a label or a switch that can be used so.
+fn is_known(text: &[u8], table: &[u32], sw: &[u32], role: Role, m: usize) -> bool
     requires { Asking table.now sw.now }
-    ensures { Judges table.now (λ p. known text.now sw.now kind named p m) result }
+    ensures { Judges table.now (λ p. known text.now sw.now (role_kind role) (role_named role) p m) result }
 {
-    if kind == ArgumentKinds::LABEL {
-        return label_place(text, table, m) < table::labels(table);
+    match role {
+        Role::Label => label_place(text, table, m).is_some(),
+        Role::Named => has_switch(text, table, sw, true, m),
+        Role::Indexed => has_switch(text, table, sw, false, m),
     }
-    has_switch(text, table, sw, named, m)
+}
+
+// The kind of the arguments that use names so.
+fn kind(role: Role) -> usize
+    ensures { result ≡ role_kind role }
+{
+    match role {
+        Role::Label => ArgumentKinds::LABEL,
+        Role::Named | Role::Indexed => ArgumentKinds::SWITCH,
+    }
 }
 
 // Argument `j` of instruction `k`.
@@ -115,28 +136,31 @@ fn argument_fault(
     text: &[u8],
     table: &[u32],
     sw: &[u32],
-    kind: usize,
-    named: bool,
+    role: Role,
     k: usize,
     j: usize,
     f: Fault,
 ) -> Fault
     requires { AskingFor table.now sw.now k j }
-    ensures { Judges table.now (λ p. joined f (faults text.now sw.now kind named p (marks_in kind (arg_cell p (argument j (instr_at p k)))))) result }
+    ensures { Judges table.now (λ p. joined f (faults text.now sw.now (role_kind role) (role_named role) p (marks_in (role_kind role) (arg_cell p (argument j (instr_at p k)))))) result }
 {
-    let x = cells::read(table, TablePlaces::FIRST_INSTRUCTION + 4 * k + 1 + j);
-    if x % 8 != kind {
+    let x = table[TablePlaces::FIRST_INSTRUCTION + 4 * k + 1 + j] as usize;
+    if x % 8 != kind(role) {
         return rebuilt(f);
     }
     let m = x / 8;
-    note(f, is_known(text, table, sw, kind, named, m), m)
+    note(f, is_known(text, table, sw, role, m), m)
 }
 
 // Labels are asked of all instructions, switches of a type of those whose operators take it.
-fn is_asked(kind: usize, named: bool, operator: u8) -> bool
-    ensures { result ≡ asked_by kind named operator }
+fn is_asked(role: Role, operator: u8) -> bool
+    ensures { result ≡ asked_by (role_kind role) (role_named role) operator }
 {
-    (kind == ArgumentKinds::LABEL) | (named == takes_named(operator))
+    match role {
+        Role::Label => true,
+        Role::Named => takes_named(operator),
+        Role::Indexed => !takes_named(operator),
+    }
 }
 
 // The arguments of instruction `k`.
@@ -144,50 +168,43 @@ fn instruction_fault(
     text: &[u8],
     table: &[u32],
     sw: &[u32],
-    kind: usize,
-    named: bool,
+    role: Role,
     k: usize,
     f: Fault,
 ) -> Fault
     requires { AskingAt table.now sw.now k }
-    ensures { Judges table.now (λ p. joined f (faults text.now sw.now kind named p (instr_uses kind named p (instr_at p k)))) result }
+    ensures { Judges table.now (λ p. joined f (faults text.now sw.now (role_kind role) (role_named role) p (instr_uses (role_kind role) (role_named role) p (instr_at p k)))) result }
 {
-    if is_asked(kind, named, table::operator(table, k)) {
-        let a = argument_fault(text, table, sw, kind, named, k, 0, f);
-        let b = argument_fault(text, table, sw, kind, named, k, 1, a);
-        return argument_fault(text, table, sw, kind, named, k, 2, b);
+    if is_asked(role, table::operator(table, k)) {
+        let a = argument_fault(text, table, sw, role, k, 0, f);
+        let b = argument_fault(text, table, sw, role, k, 1, a);
+        return argument_fault(text, table, sw, role, k, 2, b);
     }
     rebuilt(f)
 }
 
 // The lowest place where an instruction uses a name that is not declared, or that of `f`.
-fn code_fault(text: &[u8], table: &[u32], sw: &[u32], kind: usize, named: bool, f: Fault) -> Fault
+fn code_fault(text: &[u8], table: &[u32], sw: &[u32], role: Role, f: Fault) -> Fault
     requires { Asking table.now sw.now }
-    ensures { Judges table.now (λ p. joined f (faults text.now sw.now kind named p (each (instr_uses kind named p) p.code))) result }
+    ensures { Judges table.now (λ p. joined f (faults text.now sw.now (role_kind role) (role_named role) p (each (instr_uses (role_kind role) (role_named role) p) p.code))) result }
 {
-    let n = table::instructions(table);
     let mut g = f;
-    let mut k = 0;
-    while k < n {
-        g = instruction_fault(text, table, sw, kind, named, k, g);
-        k += 1;
+    for k in 0..table::instructions(table) {
+        g = instruction_fault(text, table, sw, role, k, g);
     }
     g
 }
 
-// The same of the entries' labels.
+// The same of the entries' labels, mark by mark, where `code_fault` asks instruction by instruction.
 fn entries_fault(text: &[u8], table: &[u32], sw: &[u32], en: &[u32], f: Fault) -> Fault
     requires { Kept text.now table.now sw.now en.now }
     ensures { Judges table.now (λ p. joined f (faults text.now sw.now label_kind true p (take (length (all_entries p)) en.now))) result }
 {
     let n = table::entries(table);
     let mut g = f;
-    let mut k = 0;
-    while k < n {
-        let m = cells::read(en, k);
-        let fine = is_known(text, table, sw, ArgumentKinds::LABEL, true, m);
-        g = note(g, fine, m);
-        k += 1;
+    for mark in &en[..n] {
+        let m = *mark as usize;
+        g = note(g, is_known(text, table, sw, Role::Label, m), m);
     }
     g
 }
@@ -197,7 +214,7 @@ fn undeclared_label(text: &[u8], table: &[u32], sw: &[u32], en: &[u32]) -> Fault
     requires { Kept text.now table.now sw.now en.now }
     ensures { Finds text.now table.now sw.now en.now label_places result }
 {
-    let f = code_fault(text, table, sw, ArgumentKinds::LABEL, true, Fault::Clear);
+    let f = code_fault(text, table, sw, Role::Label, Fault::Clear);
     entries_fault(text, table, sw, en, f)
 }
 
@@ -206,23 +223,25 @@ fn undeclared_switch(text: &[u8], table: &[u32], sw: &[u32], en: &[u32]) -> Faul
     requires { Kept text.now table.now sw.now en.now }
     ensures { Finds text.now table.now sw.now en.now switch_places result }
 {
-    let f = code_fault(text, table, sw, ArgumentKinds::SWITCH, true, Fault::Clear);
-    code_fault(text, table, sw, ArgumentKinds::SWITCH, false, f)
+    let f = code_fault(text, table, sw, Role::Named, Fault::Clear);
+    code_fault(text, table, sw, Role::Indexed, f)
 }
 
 // Argument `j` of instruction `k`: its name becomes a place.
+// A branch for each kind: a label is looked up in the table, a switch by the marks in `sw`.
 fn resolve_argument(text: &[u8], table: &mut [u32], sw: &[u32], k: usize, j: usize)
     requires { AskingFor table.old sw.now k j }
     ensures { Changes (argument_resolved text.now sw.now k j) table.old table.new }
 {
-    let x = cells::read(table, TablePlaces::FIRST_INSTRUCTION + 4 * k + 1 + j);
+    let x = table[TablePlaces::FIRST_INSTRUCTION + 4 * k + 1 + j] as usize;
     if x % 8 == ArgumentKinds::LABEL {
-        let v = label_place(text, table, x / 8);
+        let v = label_for(text, table, x / 8);
         writing::set_argument(table, k, j, ArgumentKinds::LABEL + 8 * v);
         return;
     }
     if x % 8 == ArgumentKinds::SWITCH {
-        let v = switch_place(text, sw, table::switches(table), x / 8);
+        let n = table::switches(table);
+        let v = switch_place(text, &sw[..n], x / 8).unwrap_or(n);
         writing::set_argument(table, k, j, ArgumentKinds::SWITCH + 8 * v);
         return;
     }
@@ -243,46 +262,35 @@ fn resolve_code(text: &[u8], table: &mut [u32], sw: &[u32])
     requires { Asking table.old sw.now }
     ensures { Changes (λ p. code_resolved text.now sw.now (length p.code) p) table.old table.new }
 {
-    let n = table::instructions(table);
-    let mut k = 0;
-    while k < n {
+    for k in 0..table::instructions(table) {
         resolve_instruction(text, table, sw, k);
-        k += 1;
     }
 }
 
-// The labels of all entries.
+// The labels of all entries; beside `resolve_code` a loop of its own, since the two change other parts of the table.
 fn resolve_entries(text: &[u8], table: &mut [u32], en: &[u32])
     requires { Labelling text.now table.old en.now }
     ensures { Changes (λ p. entries_resolved text.now en.now (length (all_entries p)) p) table.old table.new }
 {
     let n = table::entries(table);
-    let mut k = 0;
-    while k < n {
-        let v = label_place(text, table, cells::read(en, k));
+    for (k, mark) in en[..n].iter().enumerate() {
+        let v = label_for(text, table, *mark as usize);
         writing::set_entry_label(table, k, v);
-        k += 1;
     }
 }
 
 // Questions 12 and 13 in this order; where both are answered yes, the table holds the program.
-pub fn resolve(text: &[u8], table: &mut [u32], sw: &[u32], en: &[u32]) -> Linked
+pub fn resolve(text: &[u8], table: &mut [u32], sw: &[u32], en: &[u32]) -> Result<(), Missing>
     requires { Kept text.now table.old sw.now en.now }
     ensures { Links text.now table.old sw.now en.now result table.new }
 {
-    let f = undeclared_label(text, table, sw, en);
-    match f {
-        Fault::Clear => {
-            let g = undeclared_switch(text, table, sw, en);
-            match g {
-                Fault::Clear => {
-                    resolve_code(text, table, sw);
-                    resolve_entries(text, table, en);
-                    Linked::Done
-                }
-                Fault::At(p) => Linked::Switch(p),
-            }
-        }
-        Fault::At(p) => Linked::Label(p),
+    if let Fault::At(p) = undeclared_label(text, table, sw, en) {
+        return Err(Missing::Label(p));
     }
+    if let Fault::At(p) = undeclared_switch(text, table, sw, en) {
+        return Err(Missing::Switch(p));
+    }
+    resolve_code(text, table, sw);
+    resolve_entries(text, table, en);
+    Ok(())
 }

@@ -6,6 +6,7 @@ use Prim.Native.Nat.{ℕ, suc, ◌+◌, ◌≤◌, ◌<◌}
 use native.Mathlib.Numerals.{add-one}
 use native.Mathlib.Omega.{arith}
 use lib.Dec.{eqb}
+use mir.Val.{bool_byte}
 use lib.ListN.{length, get_or, take, set, length-append, length-take, length-set}
 use lib.Seq.{take-suc, take-suc-set, take-length}
 use Rattle.language.specs.Limits as limit
@@ -26,6 +27,14 @@ keep_append p (x ∷ xs) ys = go (p x) (keep_append p xs ys)
 kept-one : (t : Bool) (x : ℕ) → length (cond t (x ∷ []) []) ≡ cond t 1 0
 kept-one true x = refl
 kept-one false x = refl
+
+pub as-number : (t : Bool) → bool_byte t ≡ cond t 1 0
+as-number true = refl
+as-number false = refl
+
+pub at_most_one : (t : Bool) → cond t 1 0 ≤ 1
+at_most_one true = omega arith
+at_most_one false = omega arith
 
 -- the line one byte on
 line_on : (s : List ℕ) (i : ℕ) → i < length s → line_of s (i + 1) ≡ line_of s i + cond (eqb 10 (get_or s i 0)) 1 0

@@ -18,8 +18,9 @@ use Rattle.finishing.specs.Finishing.{Finishable, Finishes}
 use Rattle.language.specs.Limits as limit
 use Rattle.layout.specs.Table.{table_cells}
 use Rattle.finishing.specs.Below.ProgressTypeProgress.{Progress}
-use Rattle.reading_statements.specs.declared.Read.{Read}
-use Rattle.reading_statements.specs.declared.Read.TheVariants.{Statement, Refused}
+use Rattle.reading_statements.specs.ReadingStatements.{Read}
+use Rattle.reading_statements.specs.declared.Refusal.{Refusal}
+use Rattle.std.specs.Prelude.{Ok, Err}
 use Rattle.syntax.specs.Ending.{last_place, last_questions}
 use Rattle.syntax.specs.Items.{lines_of, line_at}
 use Rattle.syntax.proofs.LineLaws.{text-lined}
@@ -54,19 +55,19 @@ module _ {s lines names c : List ℕ} (h : Loadable s lines names c) where
       }
 
   module _ {r : Read} {ms c' sw en : List ℕ} (k : ReadsText s lines c r ms c' sw en) where
-    pub text-refused : (number at : ℕ) → r ≡ Refused number at → LoadsText s lines c (No number at) c'
-    text-refused number at e =
+    pub text-refused : (f : Refusal) → r ≡ Err f → LoadsText s lines c (No f.number f.at) c'
+    text-refused f e =
         record {
-          refused = λ i j q. let a : number ≡ i = cc in let b : at ≡ j = cc in
-              k.refused number at e ∙ ap (λ (m : ℕ). spec.Loaded.refused m (line_at lines at)) a ∙ ap (λ (m : ℕ). spec.Loaded.refused i (line_at lines m)) b;
+          refused = λ i j q. let a : f.number ≡ i = cc in let b : f.at ≡ j = cc in
+              k.refused f e ∙ ap (λ (m : ℕ). spec.Loaded.refused m (line_at lines f.at)) a ∙ ap (λ (m : ℕ). spec.Loaded.refused i (line_at lines m)) b;
           accepted = λ q. absurd (let z : ◌≡◌ {A = ℕ} 0 1 = cc in omega arith);
           beyond = k.beyond;
         }
 
-    pub finishable : (g : Progress) → r ≡ Statement g → Finishable s g ms c' sw en
+    pub finishable : (g : Progress) → r ≡ Ok g → Finishable s g ms c' sw en
     finishable g e = let w = k.read g e in record { lines = lines; draft = w.draft; drafted = w.drafted }
 
-    pub text-finished : (g : Progress) → r ≡ Statement g → {v : Verdict} {d : List ℕ} → Finishes s g ms c' sw en v d → LoadsText s lines c v d
+    pub text-finished : (g : Progress) → r ≡ Ok g → {v : Verdict} {d : List ℕ} → Finishes s g ms c' sw en v d → LoadsText s lines c v d
     unfolding load_from unless_refused
     text-finished g e {v} {d} f =
         let w = k.read g e in

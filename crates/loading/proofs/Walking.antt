@@ -1,19 +1,18 @@
 -- From statement to statement: what was read, and what the rest of the text still loads to.
 use mathlib.Core.Path.{◌≡◌, refl, sym, ap, ◌∙◌, subst}
 use mathlib.Core.Bool.{Bool, true, false, cond}
-use mathlib.Core.List.{List, [], ◌∷◌}
+use mathlib.Core.List.{List, []}
 use Prim.Native.Nat.{ℕ}
 use native.Mathlib.Omega.{arith}
-use lib.ListN.{length, drop}
-use types.Run.{OneOf, miss}
+use lib.ListN.{drop}
 use Rattle.language.specs.Limits as limit
 use Rattle.finishing.specs.Below.Progress.{Begun}
 use Rattle.finishing.specs.Below.ProgressLaws.{before-after}
 use Rattle.finishing.specs.Below.ProgressTypeProgress.{Progress}
-use Rattle.reading_statements.specs.ReadingStatements.{read_verdict, Standing, Readable, ReadsStatement}
+use Rattle.reading_statements.specs.ReadingStatements.{Read, read_verdict, Standing, Readable, ReadsStatement}
 use Rattle.reading_statements.specs.declared.Answer.{Answer}
-use Rattle.reading_statements.specs.declared.Read.{Read}
-use Rattle.reading_statements.specs.declared.Read.TheVariants.{Statement, Refused}
+use Rattle.reading_statements.specs.declared.Refusal.{Refusal}
+use Rattle.std.specs.Prelude.{Ok, Err}
 use Rattle.statements.specs.StatementAt.{statements_at, statement_at}
 use Rattle.syntax.specs.Ending.{last_place}
 use Rattle.syntax.specs.Items.{Item}
@@ -21,16 +20,8 @@ use Rattle.syntax.specs.Load.{unless_refused, load_from, text_loads}
 use Rattle.syntax.specs.Tables.{Draft, blank, draft_after}
 use Rattle.loading.specs.Texts.{Unread, ReadTo, ReadsText}
 
-not-read : (number at : ℕ) (g : Progress) → Refused number at ≡ Statement g → ⊥
-not-read number at g e = let z : ◌≡◌ {A = ℕ} 0 1 = cc in omega arith
-
--- an answer that is no statement read
-abbrev tag : Read → ℕ
-tag r = denote.Enum.Declared.tag_of Rattle.reading_statements.specs.contracts.Read.the_type r
-
-pub other : (r : Read) → OneOf (1 ∷ []) (tag r) → (g : Progress) → r ≡ Statement g → ⊥
-other (Statement p) k g e = absurd (miss (1 ∷ []) 0 tt k)
-other (Refused number at) k g e = not-read number at g e
+not-read : (r : Refusal) (g : Progress) → ◌≡◌ {A = Read} (Err r) (Ok g) → ⊥
+not-read r g e = let z : ◌≡◌ {A = ℕ} 0 1 = cc in omega arith
 
 -- ---- the loop
 
@@ -40,14 +31,6 @@ pub record Going (s lines c₀ : List ℕ) (n : ℕ) (g : Progress) (ms c sw en 
   pub standing : Standing s lines n draft g ms c sw en
   pub left : text_loads s lines ≡ load_from lines (last_place s) draft (statements_at s n)
   pub beyond : drop limit.table c ≡ drop limit.table c₀
-
--- and the cells are as many as they were
-pub record Looping (s lines c₀ : List ℕ) (n : ℕ) (g : Progress) (ms c sw en : List ℕ) (ms₀ c-length sw₀ en₀ : ℕ) : Type 0 where
-  pub going : Going s lines c₀ n g ms c sw en
-  pub names_is : length ms ≡ ms₀
-  pub table_is : length c ≡ c-length
-  pub switches_is : length sw ≡ sw₀
-  pub entries_is : length en ≡ en₀
 
 pub going-none : {s lines ms c sw en : List ℕ} {g : Progress} → Unread s lines ms c sw en → Begun g → Going s lines c 0 g ms c sw en
 going-none {s} {lines} {ms} {c} {sw} {en} h b =
@@ -87,24 +70,24 @@ module _ {s lines c₀ : List ℕ} {n : ℕ} {g : Progress} {ms c sw en : List �
         ∙ ap (load_from lines (last_place s) u.draft) k.ends.is
         ∙ ap (λ v. unless_refused lines v (load_from lines (last_place s) (draft_after u.draft here) rest_of)) (sym (k.told u.draft u.standing))
 
-    pub going-refused : ((q : Progress) → r ≡ Statement q → ⊥) → ReadsText s lines c₀ r ms' c' sw' en'
+    pub going-refused : (f : Refusal) → r ≡ Err f → ReadsText s lines c₀ (Err f) ms' c' sw' en'
     unfolding unless_refused
-    going-refused never =
+    going-refused f is =
         record {
-          refused = λ number at e. by-verdict ∙ ap (λ x. unless_refused lines (read_verdict x) (load_from lines (last_place s) (draft_after u.draft here) rest_of)) e;
-          read = λ q e. absurd (never q e);
+          refused = λ g z. let e : r ≡ Err g = is ∙ z in by-verdict ∙ ap (λ x. unless_refused lines (read_verdict x) (load_from lines (last_place s) (draft_after u.draft here) rest_of)) e;
+          read = λ q e. absurd (not-read f q e);
           beyond = k.beyond ∙ u.beyond;
         }
 
-    module _ (q : Progress) (e : r ≡ Statement q) where
+    module _ (q : Progress) (e : r ≡ Ok q) where
       after_it : text_loads s lines ≡ load_from lines (last_place s) (draft_after u.draft here) rest_of
       unfolding unless_refused
       after_it = by-verdict ∙ ap (λ x. unless_refused lines (read_verdict x) (load_from lines (last_place s) (draft_after u.draft here) rest_of)) e
 
-      pub going-last : a.last ≡ true → ReadsText s lines c₀ (Statement q) ms' c' sw' en'
+      pub going-last : a.last ≡ true → ReadsText s lines c₀ (Ok q) ms' c' sw' en'
       going-last t =
           record {
-            refused = λ number at z. absurd (not-read number at q (sym z));
+            refused = λ f z. absurd (not-read f q (sym z));
             read = λ q' z. subst (λ x. ReadTo s lines x ms' c' sw' en') (same z)
                 (record {
                   draft = draft_after u.draft here;
@@ -114,7 +97,7 @@ module _ {s lines c₀ : List ℕ} {n : ℕ} {g : Progress} {ms c sw en : List �
             beyond = k.beyond ∙ u.beyond;
           }
         where
-          same : {a b : Progress} → Statement a ≡ Statement b → a ≡ b
+          same : {a b : Progress} → ◌≡◌ {A = Read} (Ok a) (Ok b) → a ≡ b
           same e = cc
 
       pub going_next : a.last ≡ false → Going s lines c₀ a.next q ms' c' sw' en'

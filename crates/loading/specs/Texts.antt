@@ -1,5 +1,5 @@
 -- A text on its way through the loader: what the functions between a statement and load ask and promise.
-use Rattle.std.specs.Prelude.{◌≡◌, List, [], ℕ, ◌≤◌, length, take, drop}
+use Rattle.std.specs.Prelude.{◌≡◌, Ok, Err, List, [], ℕ, ◌≤◌, length, take, drop}
 use Rattle.calls.specs.Calls.{load_number, load_line, table_after}
 use Rattle.drafts.specs.Tabled.{Tabled}
 use Rattle.statements.specs.declared.Verdict.{Verdict}
@@ -8,8 +8,8 @@ use Rattle.language.specs.Limits as limit
 use Rattle.language.specs.Program.{Program}
 use Rattle.finishing.specs.Below.Progress.{Drafted}
 use Rattle.finishing.specs.Below.ProgressTypeProgress.{Progress}
-use Rattle.reading_statements.specs.declared.Read.{Read}
-use Rattle.reading_statements.specs.declared.Read.TheVariants.{Statement, Refused}
+use Rattle.reading_statements.specs.ReadingStatements.{Read}
+use Rattle.reading_statements.specs.declared.Refusal.{Refusal}
 use Rattle.syntax.specs.Ending.{last_place}
 use Rattle.syntax.specs.Items.{line_at, lines_of}
 use Rattle.syntax.specs.Load as spec
@@ -43,8 +43,8 @@ pub record ReadTo (s lines : List ℕ) (g : Progress) (ms c sw en : List ℕ) : 
   pub left : text_loads s lines ≡ load_from lines (last_place s) draft []
 
 pub record ReadsText (s lines c : List ℕ) (r : Read) (ms' c' sw' en' : List ℕ) : Type 0 where
-  pub refused : (number at : ℕ) → r ≡ Refused number at → text_loads s lines ≡ spec.Loaded.refused number (line_at lines at)
-  pub read : (g : Progress) → r ≡ Statement g → ReadTo s lines g ms' c' sw' en'
+  pub refused : (e : Refusal) → r ≡ Err e → text_loads s lines ≡ spec.Loaded.refused e.number (line_at lines e.at)
+  pub read : (g : Progress) → r ≡ Ok g → ReadTo s lines g ms' c' sw' en'
   pub beyond : drop limit.table c' ≡ drop limit.table c
 
 -- ---- the whole text, on a table that is all zeros

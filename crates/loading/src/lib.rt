@@ -6,11 +6,10 @@ ghost use Rattle.language.specs.Limits as limit;
 ghost use Rattle.syntax.specs.Load.{text_loads, load_typed};
 ghost use Rattle.loading.specs.Texts.{Fillable, Fills, Unread, ReadsText, Loadable, LoadsText, Refuses, Lent, Leaves, Fit};
 
-use finishing::from_progress;
+use finishing::from_progress::{Progress, begin, renewed};
 use language::Machine;
 use lexer::line_at;
-use reading_statements::{Read, read_statement};
-use scanner::one_if;
+use reading_statements::{Refusal, read_statement};
 use statements::Verdict;
 use writing::clear_table;
 
@@ -26,12 +25,10 @@ fn fill_lines(text: &[u8], lines: &mut [u16])
     requires { Fillable text.now lines.old }
     ensures { Fills text.now lines.new }
 {
-    let mut line: usize = 1;
-    let mut i: usize = 0;
-    while i < text.len() {
-        lines[i] = line as u16;
-        line = line + one_if(b'\n' == text[i]);
-        i += 1;
+    let mut line = 1;
+    for (i, byte) in text.iter().enumerate() {
+        lines[i] = line;
+        line += u16::from(b'\n' == *byte);
     }
 }
 
@@ -43,23 +40,20 @@ fn read_statements(
     table: &mut [u32],
     switches: &mut [u32],
     entries: &mut [u32],
-) -> Read
+) -> Result<Progress, Refusal>
     requires { Unread text.now lines.now names.old table.old switches.old entries.old }
     ensures { ReadsText text.now lines.now table.old result names.new table.new switches.new entries.new }
 {
-    let mut p = from_progress::begin();
-    let mut n: usize = 0;
+    let mut p = begin();
+    let mut n = 0;
     loop {
         let a = read_statement(text, lines, n, p, names, table, switches, entries);
-        let r = a.read;
-        let Read::Statement(q) = r else {
-            return r;
-        };
+        let q = a.read?;
         if a.last {
-            return Read::Statement(q);
+            return Ok(q);
         }
         n = a.next;
-        p = from_progress::renewed(q);
+        p = renewed(q);
     }
 }
 
@@ -71,8 +65,8 @@ fn load_text(text: &[u8], lines: &[u16], names: &mut [u32], table: &mut [u32]) -
     let mut switches = [0u32; Machine::SWITCHES];
     let mut entries = [0u32; Machine::ENTRIES];
     match read_statements(text, lines, names, table, &mut switches, &mut entries) {
-        Read::Refused(number, at) => Verdict::No(number, at),
-        Read::Statement(p) => finishing::finish(text, p, names, table, &switches, &entries),
+        Err(r) => Verdict::No(r.number, r.at),
+        Ok(p) => finishing::finish(text, p, names, table, &switches, &entries),
     }
 }
 
@@ -83,8 +77,8 @@ fn refuse(lines: &[u16], number: u8, at: usize, cells: &mut [u32]) -> Loaded
 {
     clear_table(cells);
     Loaded {
-        number: number,
-        line: line_at(lines, at) as u32,
+        number,
+        line: u32::from(line_at(lines, at)),
     }
 }
 

@@ -32,12 +32,10 @@ fn has_name(text: &[u8], names: &[u32], count: usize, at: usize, len: usize) -> 
     requires { Sought text.now names.now count at len }
     ensures { result ≡ any (bytes_equal (take len (drop at text.now))) (names_of text.now (take count names.now)) }
 {
-    let mut k = 0;
-    while k < count {
-        if name_is(text, cells::read(names, k), at, len) {
+    for m in &names[..count] {
+        if name_is(text, *m as usize, at, len) {
             return true;
         }
-        k += 1;
     }
     false
 }
@@ -60,10 +58,8 @@ pub fn first_repeated(text: &[u8], names: &[u32], from: usize, to: usize) -> Fau
     ensures { result ≡ fault_of (repeated_by text.now (names_of text.now (take from names.now)) (marks_in names.now from to)) }
 {
     let mut fault = Fault::Clear;
-    let mut k = from;
-    while k < to {
+    for k in from..to {
         fault = lower(fault, met_before(text, names, k));
-        k += 1;
     }
     fault
 }
@@ -86,10 +82,8 @@ pub fn first_reserved(text: &[u8], names: &[u32], from: usize, to: usize) -> Fau
     ensures { result ≡ fault_of (reserved_by text.now (marks_in names.now from to)) }
 {
     let mut fault = Fault::Clear;
-    let mut k = from;
-    while k < to {
+    for k in from..to {
         fault = lower(fault, own_reserved(text, cells::read(names, k)));
-        k += 1;
     }
     fault
 }
@@ -100,10 +94,8 @@ pub fn lowest_mark(names: &[u32], from: usize, to: usize) -> Fault
     ensures { result ≡ fault_of (map place_by (marks_in names.now from to)) }
 {
     let mut low = Fault::Clear;
-    let mut k = from;
-    while k < to {
+    for k in from..to {
         low = lower(low, Fault::At(cells::read(names, k) / 64));
-        k += 1;
     }
     low
 }

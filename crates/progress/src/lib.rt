@@ -14,6 +14,7 @@ use headings::{is_konp, is_kons};
 use statements::{Fault, lower, rebuilt, stops};
 
 // Whether KONS and KONP were met, the place of a KONP before any KONS, and the lowest place at fault.
+// Two flags and no enum of stages: each is asked alone, and a KONP without KONS is a fourth state.
 #[derive(Clone, Copy)]
 pub struct Closing {
     pub kons: bool,
@@ -53,7 +54,7 @@ pub fn begin() -> Progress
     }
 }
 
-// The same, with its faults made from their parts.
+// The same, with its faults made from their parts: the loop of `loading` that copies it whole is slower.
 pub fn renewed(p: Progress) -> Progress
     ensures { result ≡ p }
 {

@@ -1,6 +1,5 @@
 -- A statement whose questions before 11 are answered yes comes to the tables.
 use Rattle.std.specs.Prelude.{◌≡◌, Bool, List, ℕ, drop}
-use Rattle.declaring_switches.specs.Below.Instruction.{Instruction}
 use Rattle.declaring_switches.specs.declared.Declaration.{Declaration}
 use Rattle.language.specs.Limits as limit
 use Rattle.lexer.specs.declared.Token.{Token}
@@ -9,13 +8,6 @@ use Rattle.statements.specs.declared.Fault.{Fault}
 use Rattle.statements.specs.declared.Verdict.{Verdict}
 use Rattle.statements.specs.declared.Verdict.TheVariants.{Yes, No}
 use Rattle.declaring_switches.specs.Below.Listed.{Listed}
-use Rattle.reading_statements.specs.declared.Found.{Found}
-use Rattle.reading_statements.specs.declared.Found.TheVariants as found
-
--- the instruction i is found, where the verdict v on it is yes
-abbrev pub Finds : Verdict → Instruction → Found → Type 0
-Finds v i found.Nothing = (number : ℕ) × ((at : ℕ) × (v ≡ No number at))
-Finds v i (found.Instruction k) = (v ≡ Yes) × (k ≡ i)
 
 -- the switch with the operator o, the mark of its name and the list that was read
 abbrev pub declaration : Token → Bool → ℕ → Listed → Declaration

@@ -31,9 +31,8 @@ use Rattle.reading_statements.specs.GatheringLaws.{all_short}
 use Rattle.reading_statements.specs.KindLaws.{worst-whole, neither-asked, known}
 use Rattle.reading_statements.specs.QuestionLaws.{early-told}
 use Rattle.reading_statements.specs.ReadLaws.{answers, plain, read_as}
-use Rattle.reading_statements.specs.ReadingStatements.{Reading, Finishes, ReadsEnding, EndingTold}
+use Rattle.reading_statements.specs.ReadingStatements.{Read, Reading, Finishes, ReadsEnding, EndingTold}
 use Rattle.reading_statements.specs.declared.Ending.{Ending}
-use Rattle.reading_statements.specs.declared.Read.{Read}
 
 pub restable : {s : List ℕ} {n : ℕ} {h : Head} → Headed s n h → length s ≤ limit.text → Restable s h.op h.worst
 restable k low = record { low = low; stands = k.stands; coded = known k }

@@ -1,7 +1,7 @@
 -- A statement with an instruction.
-use Rattle.std.specs.Prelude.{Bool, ◌≡◌, refl, ℕ, ◌≤◌, drop, length}
+use Rattle.std.specs.Prelude.{Bool, ◌≡◌, refl, ℕ, ◌+◌, ◌-◌, ◌≤◌, ◌<◌, drop, length, get_or}
 use mathlib.Core.List.{List, []}
-use Rattle.std.proofs.Common.{sym, ◌∙◌, arith}
+use Rattle.std.proofs.Common.{sym, ◌∙◌, arith, length-take, get_or-take, get_or-drop}
 use Rattle.std.proofs.Math.Path.{ap, subst}
 use Rattle.acceptance.proofs.DraftLaws.{arguments_sound}
 use Rattle.acceptance.proofs.RowLaws.{Answered, answered, each_map}
@@ -13,7 +13,7 @@ use Rattle.declaring_switches.specs.Below.Declaring.{Declarable, DeclaresValues,
 use Rattle.declaring_switches.specs.Below.DeclaringTabledLaws.{Operated, operated, instr-told, instr-tabled}
 use Rattle.declaring_switches.specs.Below.Instruction as value
 use Rattle.drafts.specs.Drafting.{draft_program}
-use Rattle.drafts.specs.Marks.{marks_in}
+use Rattle.drafts.specs.Marks.{length_by, Marked, marks_in}
 use Rattle.drafts.specs.Tabled.{Tabled}
 use Rattle.declaring_switches.specs.Below.Entering.{ShortItem}
 use Rattle.heads.specs.Heads.{Headed, instr_of}
@@ -42,13 +42,18 @@ use Rattle.syntax.specs.Tables.{Tables, Draft, all_labels, tables_after, with_in
 use Rattle.syntax.specs.Verdict.{first_no}
 use Rattle.reading_statements.specs.Admitting.{Admits}
 use Rattle.reading_statements.specs.Asking.{HeadAsked}
-use Rattle.reading_statements.specs.GatheringLaws.{advanceable, names-kept}
+use Rattle.reading_statements.specs.GatheringLaws.{names-kept}
 use Rattle.reading_statements.specs.Judging.{from}
 use Rattle.reading_statements.specs.KindLaws.{known, there, whole, zero-here, ends-behind, instr-acts, instr-asked}
 use Rattle.reading_statements.specs.QuestionLaws.{early-told, table_faults}
 use Rattle.reading_statements.specs.ReadLaws.{plain, acting, fine-here, labelled, spelt-rest, tables-here, rest-short, answers, read_as}
-use Rattle.reading_statements.specs.ReadingStatements.{Reading, Finishes, ReadsInstr}
-use Rattle.reading_statements.specs.declared.Read.{Read}
+use Rattle.reading_statements.specs.ReadingStatements.{Read, Reading, Finishes, ReadsInstr}
+
+-- what holds of the first b marks holds of those from index a to index b
+part_have : (P : ℕ → Type 0) (ms : List ℕ) (a b : ℕ) → ((k : ℕ) → k < b → P (get_or ms k 0)) → (k : ℕ) → k < length (marks_in ms a b) → P (get_or (marks_in ms a b) k 0)
+part_have P ms a b f k l =
+    let i : k < b - a = omega (arith, l, length-take (b - a) (drop a ms)) in
+    subst P (sym (get_or-take (b - a) (drop a ms) k 0 i ∙ get_or-drop a ms k 0)) (f (a + k) (omega (arith, i)))
 
 module _ {s lines : List ℕ} {n : ℕ} {d : Draft} {g : Progress} {h : Head} {ms c sw en : List ℕ} (r : Reading s lines n d g h ms c sw en)
     (early : Answered (early_questions d (statement_at s n))) {number : ℕ} (number_is : number ≡ instr_of h.keyword) (some : number ≡ 0 → ⊥)
@@ -93,18 +98,19 @@ module _ {s lines : List ℕ} {n : ℕ} {d : Draft} {g : Progress} {h : Head} {m
       }
 
   module _ {line : ℕ} (line_is : line ≡ line_at lines h.op.at) where
-    pub instr-declarable : Declarable s (valued line) ms (from g) h.names c
+    pub instr-declarable : Declarable s (valued line) (marks_in ms (from g) h.names) c
     instr-declarable =
-        let j = r.judging in
-        let m = advanceable j in
-        let q = names-kept j (plain r early) in
+        let q = names-kept r.judging (plain r early) in
         record {
           next = h.op.next;
           values = right-values;
           held = record { program = draft_program lines d.tables; holds = r.tabled.holds };
           line_most = omega (arith, line_is, r.lined.most h.op.at);
-          named = record { order = omega (arith, m.order); most = m.most; marked = q.marked; short = q.short };
-          index_low = omega (arith, m.order, m.most, q.room);
+          named =
+              record {
+                marked = part_have (Marked s) ms (from g) h.names q.marked;
+                short = part_have (λ m. length_by m ≤ limit.item) ms (from g) h.names q.short;
+              };
           short = subst (λ (js : List Item). Each ShortItem js) here.rest_is (rest-short r early);
         }
 
@@ -154,7 +160,7 @@ module _ {s : List ℕ} {h : Head} {number : ℕ} (number_is : number ≡ instr_
         early-told d (statement_at s n) (asked n d r.judging (whole-instr k o) (λ e. zero-here k (instr-acts k number_is some))) (instr-asked k number_is some o) all
 
     pub declarable : {sw en : List ℕ} {n : ℕ} {d : Draft} → Reading s lines n d g h ms c sw en → v ≡ Yes
-        → Declarable s (record { number = number; at = h.op.at; line = line; values = a.values }) ms (from g) h.names c
+        → Declarable s (record { number = number; at = h.op.at; line = line; values = a.values }) (marks_in ms (from g) h.names) c
     declarable {n = n} {d = d} r e = instr-declarable r (answered _ (early-instr n d r ∙ ap verdict_of e)) number_is some o l
 
     pub read-instr : (w : told.Verdict) {c' : List ℕ}

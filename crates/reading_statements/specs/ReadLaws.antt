@@ -40,10 +40,9 @@ use Rattle.reading_statements.specs.GatheringLaws.{Short, statement-sound, label
 use Rattle.reading_statements.specs.Judging.{from}
 use Rattle.reading_statements.specs.KindLaws.{acts, acts-alone, zero-here}
 use Rattle.reading_statements.specs.QuestionLaws.{table_faults, all_told}
-use Rattle.reading_statements.specs.ReadingStatements.{Reading, Reads, Finishes, read_verdict}
+use Rattle.reading_statements.specs.ReadingStatements.{Read, Reading, Reads, Finishes, read_verdict}
 use Rattle.reading_statements.specs.declared.Answer.{Answer}
 use Rattle.reading_statements.specs.declared.Ending.{Ending}
-use Rattle.reading_statements.specs.declared.Read.{Read}
 
 clear-by : (number : ℕ) (f : Fault) → decided number f ≡ yes → f ≡ Clear
 clear-by number Clear e = refl

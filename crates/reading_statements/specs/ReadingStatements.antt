@@ -1,5 +1,5 @@
 -- What the readers of a statement ask and promise.
-use Rattle.std.specs.Prelude.{◌≡◌, true, false, List, ℕ, ◌+◌, ◌≤◌, length, drop}
+use Rattle.std.specs.Prelude.{◌≡◌, true, false, Result, Ok, Err, List, ℕ, ◌+◌, ◌≤◌, length, drop}
 use Rattle.acceptance.specs.Drafts.{SoundDraft}
 use Rattle.drafts.specs.Tabled.{Tabled}
 use Rattle.progress.specs.Below.Headings.{Rests, Nameable, AfterTold}
@@ -21,8 +21,7 @@ use Rattle.syntax.specs.Verdict.Verdict.{yes, refuse}
 use Rattle.reading_statements.specs.Judging.{Judging}
 use Rattle.reading_statements.specs.declared.Answer.{Answer}
 use Rattle.reading_statements.specs.declared.Ending.{Ending}
-use Rattle.reading_statements.specs.declared.Read.{Read}
-use Rattle.reading_statements.specs.declared.Read.TheVariants.{Statement, Refused}
+use Rattle.reading_statements.specs.declared.Refusal.{Refusal}
 
 -- d is the draft of all before the statement at n of the text s, whose bytes have the lines `lines`
 pub record Standing (s lines : List ℕ) (n : ℕ) (d : Draft) (g : Progress) (ms c sw en : List ℕ) : Type 0 where
@@ -39,15 +38,18 @@ pub record Reading (s lines : List ℕ) (n : ℕ) (d : Draft) (g : Progress) (h 
   pub sound : SoundDraft (length s) d
   pub tabled : Tabled s lines d.tables c sw en
 
+abbrev pub Read : Type 0
+Read = Result Progress Refusal
+
 abbrev pub read_verdict : Read → Verdict
-read_verdict (Statement g) = yes
-read_verdict (Refused number at) = refuse number at
+read_verdict (Ok g) = yes
+read_verdict (Err r) = refuse r.number r.at
 
 -- For whatever draft before it, the verdict of all questions of the statement of the head h is told; where it is yes, g' and the cells after are those of
 -- the draft after the statement. And where it ends
 pub record Reads (s lines : List ℕ) (g : Progress) (h : Head) (ms c sw en : List ℕ) (r : Answer) (c' sw' en' : List ℕ) : Type 0 where
   pub told : (n : ℕ) (d : Draft) → Reading s lines n d g h ms c sw en → read_verdict r.read ≡ first_no (questions d (statement_at s n))
-  pub after : (n : ℕ) (d : Draft) → Reading s lines n d g h ms c sw en → (g' : Progress) → r.read ≡ Statement g'
+  pub after : (n : ℕ) (d : Draft) → Reading s lines n d g h ms c sw en → (g' : Progress) → r.read ≡ Ok g'
       → Drafted s lines (draft_after d (statement_at s n)) g' ms c' sw' en'
   pub ends : (n : ℕ) → Headed s n h → Ended s n r.next r.last
   pub beyond : drop limit.table c' ≡ drop limit.table c
@@ -97,15 +99,15 @@ pub record Readable (s lines : List ℕ) (n : ℕ) (g : Progress) (ms c sw en : 
 
 pub record ReadsStatement (s lines : List ℕ) (n : ℕ) (g : Progress) (ms c sw en : List ℕ) (r : Answer) (ms' c' sw' en' : List ℕ) : Type 0 where
   pub told : (d : Draft) → Standing s lines n d g ms c sw en → read_verdict r.read ≡ first_no (questions d (statement_at s n))
-  pub after : (d : Draft) → Standing s lines n d g ms c sw en → (g' : Progress) → r.read ≡ Statement g' → Drafted s lines (draft_after d (statement_at s n)) g' ms' c' sw' en'
+  pub after : (d : Draft) → Standing s lines n d g ms c sw en → (g' : Progress) → r.read ≡ Ok g' → Drafted s lines (draft_after d (statement_at s n)) g' ms' c' sw' en'
   pub ends : Ended s n r.next r.last
   pub beyond : drop limit.table c' ≡ drop limit.table c
 
 -- ---- after all questions, whose verdict is v
 
 abbrev pub Finishes : Progress → Head → Ending → List ℕ → told.Verdict → Read → Type 0
-Finishes g h e ms told.Verdict.Yes r = (q : Progress) × ((r ≡ Statement q) × Progresses g h e.section e.after ms q)
-Finishes g h e ms (told.Verdict.No number at) r = r ≡ Refused number at
+Finishes g h e ms told.Verdict.Yes r = (q : Progress) × ((r ≡ Ok q) × Progresses g h e.section e.after ms q)
+Finishes g h e ms (told.Verdict.No number at) r = r ≡ Err (record { number = number; at = at })
 
 -- ---- what a statement that is neither says
 

@@ -1,5 +1,5 @@
 -- A statement whose head is read: the marks before it stay, and what its reader tells. And the empty statement.
-use Rattle.std.specs.Prelude.{◌≡◌, refl, Bool, true, false, ◌&&◌, List, [], ◌++◌, map, ℕ, ◌-◌, ◌≤◌, ◌<◌, eqb, length, get_or, take, drop}
+use Rattle.std.specs.Prelude.{◌≡◌, refl, Ok, Bool, true, false, ◌&&◌, List, [], ◌++◌, map, ℕ, ◌-◌, ◌≤◌, ◌<◌, eqb, length, get_or, take, drop}
 use Rattle.std.proofs.Common.{sym, ap, ◌∙◌, subst, true≢false, arith, length-drop, length-take-le, take_all, take-take, take_at, get_or-take}
 use Rattle.std.proofs.lemmas.Bool.{not-true}
 use Rattle.acceptance.proofs.RowLaws.{each_map}
@@ -25,7 +25,6 @@ use Rattle.reading_statements.specs.GatheringLaws.{marks-behind}
 use Rattle.reading_statements.specs.ReadLaws.{answers}
 use Rattle.reading_statements.specs.ReadingStatements.{Standing, Reading, Reads, ReadsStatement}
 use Rattle.reading_statements.specs.declared.Answer.{Answer}
-use Rattle.reading_statements.specs.declared.Read.TheVariants as reads
 
 -- ---- the marks of the names before
 
@@ -134,7 +133,7 @@ module _ {s lines : List ℕ} {n : ℕ} {d : Draft} {g : Progress} {h : Head} {m
 
   -- an empty statement
   module _ (e : (stops h.op.sort && eqb h.first h.op.at) ≡ true) where
-    pub reads-empty : ReadsStatement s lines n g ms c sw en (answers (reads.Statement g) h.op.next (eqb h.op.sort 0)) ms' c sw en
+    pub reads-empty : ReadsStatement s lines n g ms c sw en (answers (Ok g) h.op.next (eqb h.op.sort 0)) ms' c sw en
     reads-empty =
         record {
           told = λ d r. sym (ap (λ (js : List Item). first_no (questions d js)) (x-empty k e) ∙ empty-yes d (is_first d) refl);

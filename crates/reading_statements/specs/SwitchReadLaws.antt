@@ -59,8 +59,7 @@ use Rattle.reading_statements.specs.Judging.{Judging, from}
 use Rattle.reading_statements.specs.KindLaws.{zero-here, ends-behind, switch-asked, known, there, inside, whole, chooses, switch-acts}
 use Rattle.reading_statements.specs.QuestionLaws.{early-told, table_faults}
 use Rattle.reading_statements.specs.ReadLaws.{answers, plain, acting, labelled, spelt-rest, tables-here, rest-fine, rest-short, read_as}
-use Rattle.reading_statements.specs.ReadingStatements.{Reading, Reads, Finishes}
-use Rattle.reading_statements.specs.declared.Read.{Read}
+use Rattle.reading_statements.specs.ReadingStatements.{Read, Reading, Reads, Finishes}
 
 -- where there is one mark, it stands first
 first-mark : (ms : List ℕ) (a b m : ℕ) → marks_in ms a b ≡ m ∷ [] → (a < b) × (get_or ms a 0 ≡ m)

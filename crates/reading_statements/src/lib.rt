@@ -7,10 +7,9 @@ ghost use Rattle.statements.specs.StatementAt.{stops};
 ghost use Rattle.statements.specs.declared.Verdict.TheVariants.{Yes};
 ghost use Rattle.declaring_switches.specs.Below.Declaring.{Declarable, DeclaresValues};
 ghost use Rattle.declaring_switches.specs.Switches.{DeclarableSwitch, DeclaresSwitch};
-ghost use Rattle.drafts.specs.Marks.{marks_in};
 ghost use Rattle.judging.specs.Below.Names.{Repeatable};
 ghost use Rattle.progress.specs.Advancing.{Advanceable};
-ghost use Rattle.reading_statements.specs.Admitting.{Finds, declaration, Admits};
+ghost use Rattle.reading_statements.specs.Admitting.{declaration, Admits};
 ghost use Rattle.reading_statements.specs.Asking.{OperatorAsked, names_verdict, HeadAskable, HeadAsked};
 ghost use Rattle.reading_statements.specs.ReadingStatements.{Finishes, InstrReadable, ReadsInstr, SwitchReadable, ReadsSwitch, Endable, EndingTold, EndingReadable, ReadsEnding, Readable, ReadsStatement};
 
@@ -28,17 +27,17 @@ use progress::{Progress, progress_after};
 use scanner::NOTHING;
 use statements::{Fault, Verdict, checked, decide, first_of, stops};
 
-// A statement was read, or the number of the first question answered no and its place.
+// The number of the first question answered no, and its place.
 #[derive(Clone, Copy)]
-pub enum Read {
-    Statement(Progress),
-    Refused(u8, usize),
+pub struct Refusal {
+    pub number: u8,
+    pub at: usize,
 }
 
-// And where the next statement begins, unless it is the last.
+// What is known after a statement, or its refusal; and where the next statement begins, unless it is the last.
 #[derive(Clone, Copy)]
 pub struct Answer {
-    pub read: Read,
+    pub read: Result<Progress, Refusal>,
     pub next: usize,
     pub last: bool,
 }
@@ -48,13 +47,6 @@ pub struct Answer {
 pub struct Ending {
     pub section: u32,
     pub after: Fault,
-}
-
-// The instruction of a statement, where all questions before 11 are answered yes.
-#[derive(Clone, Copy)]
-enum Found {
-    Nothing,
-    Instruction(Instruction),
 }
 
 // Question 00 of the first statement, whose fault is `zero`, 10 of a later one in a section of an edition.
@@ -100,36 +92,24 @@ fn ask_head(
     }
 }
 
-fn found_by(verdict: Verdict, i: Instruction) -> Found
-    ensures { Finds verdict i result }
-{
-    match verdict {
-        Verdict::No(_, _) => Found::Nothing,
-        Verdict::Yes => Found::Instruction(i),
-    }
-}
-
-// The verdict with question 11, where `asked` is that of those before: an instruction with the labels of `names` from `from` up to `to` comes to the table.
+// The verdict with question 11, where `asked` is that of those before: an instruction with its labels comes to the table.
 fn admit_instruction(
     text: &[u8],
     asked: Verdict,
     i: Instruction,
-    names: &[u32],
-    from: usize,
-    to: usize,
+    labels: &[u32],
     table: &mut [u32],
 ) -> Verdict
-    requires { asked ≡ Yes → Declarable text.now i names.now from to table.old }
-    ensures { Admits (λ f. DeclaresValues text.now i (marks_in names.now from to) table.old f table.new) asked result table.old table.new }
+    requires { asked ≡ Yes → Declarable text.now i labels.now table.old }
+    ensures { Admits (λ f. DeclaresValues text.now i labels.now table.old f table.new) asked result table.old table.new }
 {
-    let found = found_by(asked, i);
-    let Found::Instruction(k) = found else {
+    let Verdict::Yes = asked else {
         return asked;
     };
-    decide(11, declare_instruction(text, k, names, from, to, table))
+    decide(11, declare_instruction(text, i, labels, table))
 }
 
-// The same of a switch.
+// The same of a switch. One function for both would take question 11 as a closure on the lent tables, and be longer.
 fn admit_switch(
     text: &[u8],
     asked: Verdict,
@@ -141,23 +121,26 @@ fn admit_switch(
     requires { asked ≡ Yes → DeclarableSwitch text.now d table.old switches.old texts.now }
     ensures { Admits (λ f. DeclaresSwitch text.now d table.old switches.old f table.new switches.new) asked result table.old table.new }
 {
-    match asked {
-        Verdict::No(number, at) => Verdict::No(number, at),
-        Verdict::Yes => decide(11, declare_switch(text, d, table, switches, texts)),
-    }
+    let Verdict::Yes = asked else {
+        return asked;
+    };
+    decide(11, declare_switch(text, d, table, switches, texts))
 }
 
 // After all questions: what is known then, or the refusal.
-fn finish(verdict: Verdict, p: Progress, head: Head, e: Ending, names: &[u32]) -> Read
+fn finish(
+    verdict: Verdict,
+    p: Progress,
+    head: Head,
+    e: Ending,
+    names: &[u32],
+) -> Result<Progress, Refusal>
     requires { Advanceable p head names.now }
     ensures { Finishes p head e names.now verdict result }
 {
     match verdict {
-        Verdict::No(number, at) => Read::Refused(number, at),
-        Verdict::Yes => {
-            let after = e.after;
-            Read::Statement(progress_after(p, head, e.section, after, names))
-        }
+        Verdict::No(number, at) => Err(Refusal { number, at }),
+        Verdict::Yes => Ok(progress_after(p, head, e.section, e.after, names)),
     }
 }
 
@@ -176,26 +159,16 @@ fn read_instruction(
 {
     let op = head.op;
     let a = read_arguments(text, op, number, head.worst);
-    let values = a.values;
     let asked = ask_head(text, a.worst, head, Fault::At(head.first), p, names);
     let i = Instruction {
-        number: number,
+        number,
         at: op.at,
-        line: line_at(lines, op.at) as usize,
-        values: values,
+        line: usize::from(line_at(lines, op.at)),
+        values: a.values,
     };
-    let over = a.over;
-    let fault = a.fault;
-    let early = first_of(asked, first_of(decide(1, over), decide(2, fault)));
-    let verdict = admit_instruction(
-        text,
-        early,
-        i,
-        names,
-        p.names - p.waiting,
-        head.names,
-        table,
-    );
+    let early = first_of(asked, first_of(decide(1, a.over), decide(2, a.fault)));
+    let labels = &names[p.names - p.waiting..head.names];
+    let verdict = admit_instruction(text, early, i, labels, table);
     let e = Ending {
         section: p.section,
         after: Fault::Clear,
@@ -211,14 +184,13 @@ fn read_instruction(
 fn switch_of(op: Token, named: bool, name: u32, l: Listed) -> Declaration
     ensures { result ≡ declaration op named name l }
 {
-    let over = l.over;
     Declaration {
         at: op.at,
         list: op.next,
-        named: named,
-        name: name,
+        named,
+        name,
         words: l.words,
-        over: over,
+        over: l.over,
     }
 }
 
@@ -241,10 +213,9 @@ fn read_switch(
     let mut texts = [0u32; Machine::ENTRIES];
     let held = table::entries(table);
     let l = read_list(text, op, named, head.worst, held, entries, &mut texts);
-    let fault = l.fault;
     let asked = ask_head(text, l.worst, head, Fault::At(head.first), p, names);
     let d = switch_of(op, named, names[p.names - p.waiting], l);
-    let early = first_of(asked, decide(2, fault));
+    let early = first_of(asked, decide(2, l.fault));
     let verdict = admit_switch(text, early, d, table, switches, &texts);
     let e = Ending {
         section: p.section,
@@ -320,7 +291,7 @@ pub fn read_statement(
     let number = instr_of(keyword);
     if is_empty(head) {
         return Answer {
-            read: Read::Statement(p),
+            read: Ok(p),
             next: op.next,
             last: op.sort == NOTHING,
         };

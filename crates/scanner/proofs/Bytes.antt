@@ -10,6 +10,9 @@ use Rattle.syntax.specs.Below.ListsTableLaws.{beq-eq, below, below-unless, Misse
 use Rattle.syntax.specs.Below.Characters.{known, is_capital, is_digit}
 use Rattle.syntax.specs.Items.{sort_of, sort_number, same_sort, pair_of, is_pair, allows}
 use Rattle.syntax.specs.Items.Sort.{separator, word}
+use Rattle.std.proofs.Common.{◌⊎◌, inl, inr, ◌∙◌, None}
+use Rattle.std.specs.Option.{is_some}
+use Rattle.scanner.specs.Scans.{if_pair}
 
 -- the ranges of `is_word`
 abbrev pub ranges : ℕ → Bool
@@ -19,35 +22,39 @@ pub ranges-word : (b : ℕ) → b < 256 → ranges b ≡ same_sort word (sort_of
 unfolding sort_of
 ranges-word b h = beq-eq (ranges b) (same_sort word (sort_of b)) (below (λ k. beq (ranges k) (same_sort word (sort_of k))) 256 tt b h)
 
-pub word-arm : (b : ℕ) → same_sort word (sort_of b) ≡ true → 1 ≡ sort_number (sort_of b)
-word-arm b h = eqb-true 1 (sort_number (sort_of b)) h
+pub word_arm : (b : ℕ) → same_sort word (sort_of b) ≡ true → 1 ≡ sort_number (sort_of b)
+word_arm b h = eqb-true 1 (sort_number (sort_of b)) h
 
-pub sort-arm : {b k : ℕ} → b ≡ k → sort_number (sort_of k) ≡ sort_number (sort_of b)
-sort-arm e = ap (λ n. sort_number (sort_of n)) (sym e)
+pub sort_arm : {b k : ℕ} → b ≡ k → sort_number (sort_of k) ≡ sort_number (sort_of b)
+sort_arm e = ap (λ n. sort_number (sort_of n)) (sym e)
+
+pub sort_arm_two : {b j k : ℕ} → (b ≡ j) ⊎ (b ≡ k) → sort_number (sort_of j) ≡ sort_number (sort_of k) → sort_number (sort_of j) ≡ sort_number (sort_of b)
+sort_arm_two (inl e) h = sort_arm e
+sort_arm_two (inr e) h = h ∙ sort_arm e
 
 -- the numbers of the arms of `sort_of`
 abbrev sort_arms : List ℕ
 sort_arms = 32 ∷ 44 ∷ 58 ∷ 59 ∷ 10 ∷ 39 ∷ []
 
-pub sort-rest : (b : ℕ) → b < 256 → same_sort word (sort_of b) ≡ false → Missed (Unit {0}) sort_arms b → 5 ≡ sort_number (sort_of b)
+pub sort_rest : (b : ℕ) → b < 256 → same_sort word (sort_of b) ≡ false → Missed (Unit {0}) sort_arms b → 5 ≡ sort_number (sort_of b)
 unfolding sort_of
-sort-rest b h w m =
+sort_rest b h w m =
     let n : (same_sort word (sort_of b) || among b sort_arms) ≡ false = rw w (missed sort_arms b m) in
     eqb→eq 5 (sort_number (sort_of b)) (below-unless (λ k. same_sort word (sort_of k) || among k sort_arms) (λ k. eqb 5 (sort_number (sort_of k))) 256 tt b h n)
 
-pub pair-arm : {b k : ℕ} → b ≡ k → pair_of k ≡ pair_of b
-pair-arm e = ap pair_of (sym e)
+pub pair_arm : {b k : ℕ} → b ≡ k → if_pair (pair_of k) ≡ if_pair (pair_of b)
+pair_arm e = ap (λ (n : ℕ). if_pair (pair_of n)) (sym e)
 
 -- the numbers of the arms of `pair_of`
 abbrev pair_arms : List ℕ
 pair_arms = 76 ∷ 44 ∷ 42 ∷ 85 ∷ 86 ∷ 87 ∷ 88 ∷ 89 ∷ 90 ∷ 77 ∷ 68 ∷ 69 ∷ 71 ∷ 83 ∷ []
 
-pub pair-rest : (b : ℕ) → b < 256 → Missed (Unit {0}) pair_arms b → 0 ≡ pair_of b
-pair-rest b h m = eqb→eq 0 (pair_of b) (below-unless (λ k. among k pair_arms) (λ k. eqb 0 (pair_of k)) 256 tt b h (missed pair_arms b m))
+pub pair_rest : (b : ℕ) → b < 256 → Missed (Unit {0}) pair_arms b → None ≡ if_pair (pair_of b)
+pair_rest b h m = ap if_pair (eqb→eq 0 (pair_of b) (below-unless (λ k. among k pair_arms) (λ k. eqb 0 (pair_of k)) 256 tt b h (missed pair_arms b m)))
 
-pub pair-allowed : (b : ℕ) → b < 256 → not (eqb (pair_of b) 0) ≡ allows true b
+pub pair-allowed : (b : ℕ) → b < 256 → is_some (if_pair (pair_of b)) ≡ allows true b
 unfolding allows
-pair-allowed b h = beq-eq (not (eqb (pair_of b) 0)) (is_pair b) (below (λ k. beq (not (eqb (pair_of k) 0)) (is_pair k)) 256 tt b h)
+pair-allowed b h = beq-eq (is_some (if_pair (pair_of b))) (is_pair b) (below (λ k. beq (is_some (if_pair (pair_of k))) (is_pair k)) 256 tt b h)
 
 abbrev plain : ℕ → Bool
 plain b = eqb b 42 || ((known b && not (eqb b 10)) && not (eqb b 39))

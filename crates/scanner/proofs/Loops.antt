@@ -1,23 +1,29 @@
 -- One turn of each loop, as laws over the text s and the place i.
-use mathlib.Core.Path.{◌≡◌, refl, sym, ◌∙◌}
-use mathlib.Core.Bool.{Bool, true, false, cond, not, ◌&&◌, and-true, and_assoc, true≢false, false≢true}
+use mathlib.Core.Path.{◌≡◌, refl, ap, sym, ◌∙◌}
+use mathlib.Core.Bool.{Bool, true, false, cond, not, ◌&&◌, and-true, and-false, and_assoc, true≢false, false≢true}
 use mathlib.Core.List.{List, [], ◌∷◌, ◌++◌}
-use Prim.Native.Nat.{ℕ, suc, ◌+◌, ◌≤◌, ◌<◌}
+use Rattle.std.proofs.Common.{position, Some, None, length-drop, ltb-true, ltb-false}
+use Rattle.std.specs.List.{position_or_len}
+use Rattle.std.proofs.lemmas.List.Recursion.{is_position_or_len}
+use Prim.Native.Nat.{ℕ, suc, ◌+◌, ◌-◌, ◌≤◌, ◌<◌}
 use native.Mathlib.Nat.{add-zero}
 use native.Mathlib.Numerals.{add-one}
 use native.Mathlib.Decide.{dec_lt}
 use native.Mathlib.Omega.{arith}
-use lib.Dec.{eqb}
+use lib.Dec.{eqb, ltb}
 use lib.ListN.{length, get_or, take, drop, drop_of_length-le, length-append, get_or-eq_default}
 use lib.Seq.{drop-cons, get_or-drop}
-use borrow.Author.Tests.{eqb-true}
+use mir.Val.{bool_byte}
+use borrow.Author.Tests.{eqb-true, eqb-false, eq-eqb, ne_eqb}
+use Rattle.std.specs.List.{starts_with}
+use Rattle.std.proofs.lemmas.List.{take_rest}
 use Rattle.syntax.specs.Items.{Sort, sort_of, same_sort, ends_text, takes_next, char_of, allows, Mode, opens, closes, begins, mode_after}
 use Rattle.syntax.specs.Items.Sort.{separator, word, colon, end, text, wrong}
 use Rattle.syntax.specs.Items.Stage.{first-star, inside, last-slash}
 use Rattle.syntax.specs.Items.Mode.{outside, in_comment}
 use Rattle.syntax.specs.Scan.{word_length, text_length, text_chars, text_allowed, is_closed, passes, in_gap, gap_end, gap_from}
 use Rattle.syntax.specs.Scan.Gap.{clear, unclosed}
-use Rattle.scanner.specs.Scans.{gap_at, text_bytes, Scanned}
+use Rattle.scanner.specs.Scans.{gap_at, text_bytes, WordEnd, Scanned}
 use Rattle.scanner.proofs.Bytes.{spaces, spaces-separate}
 
 -- Places
@@ -30,20 +36,71 @@ get_d-here s i d = rw (get_or-drop i s 0 d, add-zero)
 
 -- Words
 
-pub word_on : (s : List ℕ) (i : ℕ) → i < length s → same_sort word (sort_of (get_or s i 0)) ≡ true
-    → i + 1 + word_length (drop (i + 1) s) ≡ i + word_length (drop i s)
-unfolding word_length
-word_on s i h e = rw (drop_here s i h) (rw e (omega arith))
+-- a byte that is no word's
+abbrev pub other : ℕ → Bool
+other b = not (same_sort word (sort_of b))
 
-pub word-stop : (s : List ℕ) (i : ℕ) → i < length s → same_sort word (sort_of (get_or s i 0)) ≡ false → i ≡ i + word_length (drop i s)
+word-is : (r : List ℕ) → word_length r ≡ position_or_len other r
 unfolding word_length
-word-stop s i h e = rw (drop_here s i h) (rw e (omega arith))
+word-is = is_position_or_len word_length other refl (λ b r. go (same_sort word (sort_of b)) (word_length r))
+  where
+    go : (t : Bool) (k : ℕ) → cond t (suc k) 0 ≡ cond (not t) 0 (1 + k)
+    go true k = omega arith
+    go false k = refl
 
-pub word_out : (s : List ℕ) (i : ℕ) → length s ≤ i → i ≡ i + word_length (drop i s)
+words-within : (r : List ℕ) → word_length r ≤ length r
 unfolding word_length
-word_out s i h = rw (drop_of_length-le s h) (omega arith)
+words-within [] = omega arith
+words-within (b ∷ r) = go (same_sort word (sort_of b)) (words-within r)
+  where
+    go : (t : Bool) → word_length r ≤ length r → cond t (suc (word_length r)) 0 ≤ suc (length r)
+    go true h = omega arith
+    go false h = omega arith
+
+module _ {s : List ℕ} {n : ℕ} (h : n ≤ length s) where
+  pub word_found : {k : ℕ} → Some k ≡ position other (take (length s - n) (drop n s)) → WordEnd s n (n + k)
+  word_found {k} e = go (ltb (position_or_len other (drop n s)) (length (drop n s))) refl (e ∙ ap (position other) (take_rest s n))
+    where
+      go : (t : Bool) → ltb (position_or_len other (drop n s)) (length (drop n s)) ≡ t → Some k ≡ cond t (Some (position_or_len other (drop n s))) None → WordEnd s n (n + k)
+      go true q e =
+          let k-is : k ≡ (position_or_len other (drop n s)) = cc in
+          record { from = omega arith; most = omega (arith, length-drop n s, ltb-true _ _ q); is = omega (arith, word-is (drop n s)) }
+      go false q e = cc
+
+  pub word_none : None ≡ position other (take (length s - n) (drop n s)) → WordEnd s n (length s)
+  word_none e = go (ltb (position_or_len other (drop n s)) (length (drop n s))) refl (e ∙ ap (position other) (take_rest s n))
+    where
+      go : (t : Bool) → ltb (position_or_len other (drop n s)) (length (drop n s)) ≡ t → None ≡ cond t (Some (position_or_len other (drop n s))) None → WordEnd s n (length s)
+      go true q e = cc
+      go false q e = record { from = h; most = omega arith; is = omega (arith, word-is (drop n s), length-drop n s, ltb-false _ _ q, words-within (drop n s)) }
 
 -- Gaps
+
+swapped : (a b : ℕ) → eqb a b ≡ eqb b a
+swapped a b = go (eqb a b) refl
+  where
+    go : (t : Bool) → eqb a b ≡ t → t ≡ eqb b a
+    go true e = sym (eq-eqb b a (sym (eqb-true a b e)))
+    go false e = sym (ne_eqb b a (λ q. eqb-false a b e (sym q)))
+
+one-start : (a : ℕ) (r : List ℕ) → starts_with eqb r (suc a ∷ []) ≡ eqb (get_or r 0 0) (suc a)
+one-start a [] = rw (ne_eqb 0 (suc a) (λ e. omega arith))
+one-start a (x ∷ r) = rw (swapped (suc a) x, and-true (eqb x (suc a)))
+
+two-start : (a b : ℕ) (r : List ℕ) → starts_with eqb r (suc a ∷ suc b ∷ []) ≡ (eqb (get_or r 0 0) (suc a) && eqb (get_or r 1 0) (suc b))
+two-start a b [] = rw (ne_eqb 0 (suc a) (λ e. omega arith))
+two-start a b (x ∷ []) = rw (ne_eqb 0 (suc b) (λ e. omega arith), and-false (eqb x (suc a)), and-false (eqb (suc a) x))
+two-start a b (x ∷ y ∷ r) = rw (swapped (suc a) x, swapped (suc b) y, and-true (eqb y (suc b)))
+
+-- whether a byte stands at a place
+pub one_at : (s : List ℕ) (i a : ℕ) {t u : Bool} → t ≡ starts_with eqb (take (length s - i) (drop i s)) (suc a ∷ []) → t ≡ u → eqb (get_or s i 0) (suc a) ≡ u
+one_at s i a e q = sym (ap (λ (r : List ℕ). starts_with eqb r (suc a ∷ [])) (take_rest s i) ∙ one-start a (drop i s) ∙ rw (get_or-drop i s 0 0, add-zero) refl) ∙ sym e ∙ q
+
+-- whether two bytes stand at a place
+pub pair_at : (s : List ℕ) (i a b : ℕ) {t u : Bool} → t ≡ starts_with eqb (take (length s - i) (drop i s)) (suc a ∷ suc b ∷ []) → t ≡ u
+    → (eqb (get_or s i 0) (suc a) && eqb (get_or s (i + 1) 0) (suc b)) ≡ u
+pair_at s i a b e q =
+    sym (ap (λ (r : List ℕ). starts_with eqb r (suc a ∷ suc b ∷ [])) (take_rest s i) ∙ two-start a b (drop i s) ∙ rw (get_or-drop i s 0 0, get_or-drop i s 1 0, add-zero) refl) ∙ sym e ∙ q
 
 gap-on : (s : List ℕ) (m : Mode) (i : ℕ) → i < length s → in_gap m (get_or s i 0) (get_or s (i + 1) 0) ≡ true
     → gap_from m i (drop i s) ≡ gap_from (mode_after m i (get_or s i 0) (get_or s (i + 1) 0)) (i + 1) (drop (i + 1) s)
@@ -116,10 +173,13 @@ pub pass-none : (s : List ℕ) (i : ℕ) → i < length s → get_or s i 0 < 256
 unfolding in_gap
 pass-none s i h b e o = gap-stop s outside i h (rw o (no_gap _ (sym (spaces-separate (get_or s i 0) b) ∙ e)))
 
-pub pass-comment : (s : List ℕ) (i : ℕ) → i < length s → get_or s i 0 ≡ 47 → get_or s (i + 1) 0 ≡ 42
+pub pass-comment : (s : List ℕ) (i : ℕ) → i < length s → opens (get_or s i 0) (get_or s (i + 1) 0) ≡ true
     → (i + 1 < length s) × (gap_at s i ≡ gap_from (in_comment i inside) (i + 2) (drop (i + 2) s))
 unfolding in_gap passes sort_of mode_after begins
-pass-comment s i h e o =
+pass-comment s i h q =
+    let t = both (eqb (get_or s i 0) 47) (eqb (get_or s (i + 1) 0) 42) q in
+    let e : get_or s i 0 ≡ 47 = eqb-true (get_or s i 0) 47 t.0 in
+    let o : get_or s (i + 1) 0 ≡ 42 = eqb-true (get_or s (i + 1) 0) 42 t.1 in
     let l : i + 1 < length s = in_text s (i + 1) 41 o in
     let two : i + 1 + 1 ≡ i + 2 = omega arith in
     (l, gap-on s outside i h (rw (e, o) refl) ∙ rw (e, o) (gap-on s (in_comment i first-star) (i + 1) l refl ∙ rw two refl))
@@ -140,9 +200,6 @@ pub record Scanning (s : List ℕ) (n i : ℕ) (star : Bool) (count : ℕ) (good
   pub end : i + text_length star (drop i s) ≡ n + text_length false (drop n s)
   pub chars : count + length (chars_left star (drop i s)) ≡ length (text_chars false (text_bytes (drop n s)))
   pub allowed : (good && allowed_left star (drop i s)) ≡ text_allowed false (text_bytes (drop n s))
-
-pub scan_begins : {s : List ℕ} {n : ℕ} → n ≤ length s → Scanning s n n false 0 true
-scan_begins h = record { from = omega arith; most = h; end = refl; chars = omega arith; allowed = refl }
 
 -- a byte that the text goes on after
 left-on : (star : Bool) (b : ℕ) (r : List ℕ) → ends_text star b ≡ false
@@ -171,6 +228,10 @@ count_by false false b h = rw h refl
 -- a byte gives one character, unless it takes the next
 pub given : (star : Bool) (b : ℕ) → length (char_of star b) ≡ cond (not (takes_next star b)) 1 0
 given star b = count_by star (eqb b 42) b refl
+
+pub byte-is : (t : Bool) → bool_byte t ≡ cond t 1 0
+byte-is true = refl
+byte-is false = refl
 
 pub at_most_one : (t : Bool) → cond {A = ℕ} t 1 0 ≤ 1
 at_most_one true = omega arith
@@ -210,5 +271,5 @@ module _ {s : List ℕ} {n i : ℕ} {star : Bool} {count : ℕ} {good : Bool} (c
       → Scanned s n (record { end = i; count = count; good = good; closed = t })
   scan-ends t h e q = scanned t (rw (drop_here s i h) (left-ends star (get_or s i 0) (drop (i + 1) s) e)) (rw (drop_here s i h) (sym q))
 
-  pub scan-out : length s ≤ i → Scanned s n (record { end = i; count = count; good = good; closed = false })
-  scan-out h = scanned false (rw (drop_of_length-le s h) (left-none star)) (rw (drop_of_length-le s h) refl)
+  pub scan-out : length s ≤ i → Scanned s n (record { end = length s; count = count; good = good; closed = false })
+  scan-out h = let m = c.most in let e : length s ≡ i = omega arith in rw e (scanned false (rw (drop_of_length-le s h) (left-none star)) (rw (drop_of_length-le s h) refl))

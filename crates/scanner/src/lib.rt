@@ -1,11 +1,11 @@
 // How far separators and comments, a word, and a text go in a text of bytes, from a place on.
 #![tactic(auto)]
 
-ghost use Rattle.std.specs.Prelude.{◌≡◌, cond, ◌+◌, ◌≤◌, ◌<◌, length, get_or};
+ghost use Rattle.std.specs.Prelude.{◌≡◌, not, ◌+◌, ◌≤◌, ◌<◌, length, position};
 ghost use Rattle.syntax.specs.Below.Characters.{known_marks};
-ghost use Rattle.syntax.specs.Items.{sort_of, sort_number, same_sort, pair_of, ends_text, takes_next, allows, closes};
+ghost use Rattle.syntax.specs.Items.{sort_of, sort_number, same_sort, pair_of, ends_text, takes_next, allows};
 ghost use Rattle.syntax.specs.Items.Sort.{word};
-ghost use Rattle.scanner.specs.Scans.{Closing, Passed, Skipped, WordEnd, Scanned};
+ghost use Rattle.scanner.specs.Scans.{if_pair, Closing, Passed, Skipped, WordEnd, Scanned};
 
 use syntax::from_characters;
 use syntax::from_characters::{is_capital, is_digit, is_known};
@@ -23,16 +23,13 @@ pub const TEXT: u8 = 4;
 
 pub const WRONG: u8 = 5;
 
-// The place where separators and comments end, or where a comment begins that stays open.
-#[derive(Clone, Copy)]
-pub struct Gap {
-    pub at: usize,
-    pub open: bool,
-}
+// The place where a comment begins that stays open.
+#[derive(Clone, Copy, PartialEq, Eq)]
+pub struct Unclosed(pub usize);
 
 // The bytes of a text after its apostrophe: the place of its end, the count of its characters, whether all are allowed, and
 // whether an apostrophe closes it.
-#[derive(Clone, Copy)]
+#[derive(Clone, Copy, PartialEq, Eq)]
 pub struct Scan {
     pub end: usize,
     pub count: usize,
@@ -48,6 +45,7 @@ fn is_word(b: u8) -> bool
 }
 
 // What a byte begins outside texts and comments.
+#[tactic(auto, using(crate::proofs::Bytes::word_arm, crate::proofs::Bytes::sort_arm, crate::proofs::Bytes::sort_arm_two, crate::proofs::Bytes::sort_rest), unfolding(syntax::specs::Items::sort_of))]
 pub fn sort_of(b: u8) -> u8
     ensures { result ≡ sort_number (sort_of b) }
 {
@@ -55,21 +53,20 @@ pub fn sort_of(b: u8) -> u8
         return WORD;
     }
     match b {
-        b' ' => NOTHING,
-        b',' => NOTHING,
+        b' ' | b',' => NOTHING,
         b':' => COLON,
-        b';' => END,
-        b'\n' => END,
+        b';' | b'\n' => END,
         b'\'' => TEXT,
         _ => WRONG,
     }
 }
 
-// The character of a starred pair by the byte after the star, or 0.
-pub fn pair_of(b: u8) -> u8
-    ensures { result ≡ pair_of b }
+// The character of a starred pair by the byte after the star.
+#[tactic(auto, using(crate::proofs::Bytes::pair_arm, crate::proofs::Bytes::pair_rest))]
+pub fn pair_of(b: u8) -> Option<u8>
+    ensures { result ≡ if_pair (pair_of b) }
 {
-    match b {
+    Some(match b {
         b'L' => b'\n',
         b',' => b'\'',
         b'*' => b'*',
@@ -84,8 +81,8 @@ pub fn pair_of(b: u8) -> u8
         b'E' => 12,
         b'G' => b'\r',
         b'S' => 127,
-        _ => 0,
-    }
+        _ => return None,
+    })
 }
 
 // A byte of a text. `star`: the byte before is a star that takes this one. Whether the byte may stand there, by the
@@ -95,7 +92,7 @@ fn allows(star: bool, b: u8, marks: &[u8]) -> bool
     ensures { result ≡ allows star b }
 {
     if star {
-        return pair_of(b) != 0;
+        return pair_of(b).is_some();
     }
     (b == b'*') | (is_known(b, marks) & (b != b'\n') & (b != b'\''))
 }
@@ -114,104 +111,71 @@ pub fn takes_next(star: bool, b: u8) -> bool
     (b == b'*') & !star
 }
 
-// The byte at a place, or 0 past the end.
-fn peek(text: &[u8], i: usize) -> u8
-    ensures { result ≡ get_or text.now i 0 }
-{
-    if i < text.len() { text[i] } else { 0 }
-}
-
-// Whether `*/` stands at a place.
-fn closes_at(text: &[u8], i: usize) -> bool
-    requires { i < length text.now }
-    ensures { result ≡ closes (get_or text.now i 0) (get_or text.now (i + 1) 0) }
-{
-    if text[i] != b'*' {
-        return false;
-    }
-    peek(text, i + 1) == b'/'
-}
-
-// Inside a comment: the place behind its `*/`, or that it stays open.
-fn past_comment(text: &[u8], n: usize) -> Gap
+// Inside a comment: the place behind its `*/`, if it is closed.
+// The text and a place in it are two parameters here and below, since most of the bodies use each by itself.
+fn past_comment(text: &[u8], n: usize) -> Option<usize>
     requires { n ≤ length text.now }
     ensures { Closing text.now n result }
 {
-    let mut i = n;
-    while i < text.len() {
-        if closes_at(text, i) {
-            return Gap {
-                at: i + 2,
-                open: false,
-            };
+    for i in n..text.len() {
+        if text[i..].starts_with(b"*/") {
+            return Some(i + 2);
         }
-        i += 1;
     }
-    Gap { at: i, open: true }
+    None
 }
 
-// The place behind the separator or the comment at `n`, or `n` where another byte stands there.
-fn pass(text: &[u8], n: usize) -> Gap
+// The place behind the separator or the comment at `n`, if one stands there.
+fn pass(text: &[u8], n: usize) -> Result<Option<usize>, Unclosed>
     requires { n < length text.now }
     ensures { Passed text.now n result }
 {
     let b = text[n];
     if (b == b' ') | (b == b',') {
-        return Gap {
-            at: n + 1,
-            open: false,
-        };
+        return Ok(Some(n + 1));
     }
-    if b != b'/' {
-        return Gap { at: n, open: false };
+    if !text[n..].starts_with(b"/*") {
+        return Ok(None);
     }
-    if peek(text, n + 1) != b'*' {
-        return Gap { at: n, open: false };
+    match past_comment(text, n + 2) {
+        Some(at) => Ok(Some(at)),
+        None => Err(Unclosed(n)),
     }
-    let g = past_comment(text, n + 2);
-    if g.open {
-        return Gap { at: n, open: true };
-    }
-    g
 }
 
-pub fn skip(text: &[u8], n: usize) -> Gap
+// The place behind separators and comments.
+// A `while`: each turn jumps behind a separator or a comment, so there is no range to run over.
+pub fn skip(text: &[u8], n: usize) -> Result<usize, Unclosed>
     requires { n ≤ length text.now }
     ensures { Skipped text.now n result }
 {
     let mut i = n;
     while i < text.len() {
-        let g = pass(text, i);
-        if g.open {
-            return g;
+        match pass(text, i)? {
+            Some(at) => i = at,
+            None => return Ok(i),
         }
-        if g.at == i {
-            return g;
-        }
-        i = g.at;
     }
-    Gap { at: i, open: false }
+    Ok(i)
+}
+
+// How many bytes stand before the first that is no word's, if there is one.
+fn other_byte(rest: &[u8]) -> Option<usize>
+    ensures { result ≡ position (λ b. not (same_sort word (sort_of b))) rest.now }
+{
+    rest.iter().position(|b| !is_word(*b))
 }
 
 // The place behind the bytes of a word from `n` on.
+#[tactic(auto, using(crate::proofs::Loops::word_found, crate::proofs::Loops::word_none))]
 pub fn word_end(text: &[u8], n: usize) -> usize
     requires { n ≤ length text.now }
     ensures { WordEnd text.now n result }
 {
-    let mut i = n;
-    while i < text.len() {
-        if !is_word(text[i]) {
-            return i;
-        }
-        i += 1;
+    match other_byte(&text[n..]) {
+        Some(k) => n + k,
+        None => text.len(),
     }
-    i
-}
-
-pub fn one_if(t: bool) -> usize
-    ensures { result ≡ cond t 1 0 }
-{
-    if t { 1 } else { 0 }
 }
 
 fn scan_by(text: &[u8], n: usize, marks: &[u8]) -> Scan
@@ -221,26 +185,24 @@ fn scan_by(text: &[u8], n: usize, marks: &[u8]) -> Scan
     let mut star = false;
     let mut count: usize = 0;
     let mut good = true;
-    let mut i = n;
-    while i < text.len() {
+    for i in n..text.len() {
         let b = text[i];
         if ends_text(star, b) {
             return Scan {
                 end: i,
-                count: count,
-                good: good,
+                count,
+                good,
                 closed: b == b'\'',
             };
         }
-        good = good & allows(star, b, marks);
+        good &= allows(star, b, marks);
         star = takes_next(star, b);
-        count = count + one_if(!star);
-        i += 1;
+        count += usize::from(!star);
     }
     Scan {
-        end: i,
-        count: count,
-        good: good,
+        end: text.len(),
+        count,
+        good,
         closed: false,
     }
 }

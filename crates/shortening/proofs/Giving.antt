@@ -71,6 +71,10 @@ unfolding table_after
 beyond-only (refused n l) c d h e = zeros-after n d h ∙ ap (λ (x : List ℕ). replicate limit.table 0 ++ x) e ∙ sym (zeros-after n c h)
 beyond-only (accepted p) c d h e = ap (λ (x : List ℕ). table_cells p ++ x) e
 
+-- a row whose first bytes were copied
+pub front-copied : {m s : List ℕ} (b : List ℕ) → m ≡ s → m ++ drop (length s) b ≡ pasted b 0 s
+front-copied {m} {s} b e = let z : length s ≡ 0 + length s = omega arith in λ i. e i ++ drop (z i) b
+
 -- ---- a part that is given
 
 pub given : {p c c' b b' : List ℕ} {l : told.Loaded} {r : Filled} → Loads p c l c' → b' ≡ pasted b 0 p → r.number ≡ l.number → r.count ≡ length p → Given p c b r c' b'

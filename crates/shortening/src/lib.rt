@@ -14,12 +14,10 @@ fn line_start(text: &[u8], end: usize) -> usize
     requires { Ending text.now end }
     ensures { LineStart text.now end result }
 {
-    let mut at = end - 1;
-    while 0 < at {
+    for at in (1..end).rev() {
         if text[at - 1] == b'\n' {
             return at;
         }
-        at -= 1;
     }
     0
 }
@@ -34,6 +32,7 @@ fn exchange(row: &mut [u8], from: usize, middle: usize, to: usize)
 
 // Drops the bytes from `from` to `to` of the first `n` if the number stays; returns how many bytes are left. For the trial they are put behind the
 // others.
+// The part shrinks in place, and its length is the answer: as a slice of that length it would be lent anew for each step.
 fn try_without(
     part: &mut [u8],
     n: usize,
@@ -56,6 +55,7 @@ fn try_without(
 }
 
 // One round: "from the last to the first, each dropped if the number stays".
+// No range: each turn finds where its line begins, and in `rounds` each round tells whether another follows.
 fn round(part: &mut [u8], n: usize, number: u8, table: &mut [u32]) -> usize
     requires { Tryable part.old n (length table.old) }
     ensures { Rounded (take n part.old) number part.new result }
@@ -91,7 +91,7 @@ fn give(part: &[u8], table: &mut [u32], out: &mut [u8]) -> Filled
     ensures { Given part.now table.old out.old result table.new out.new }
 {
     let r: Loaded = macro_loading::load(part, table);
-    cells::put(out, 0, part);
+    out[..part.len()].copy_from_slice(part);
     Filled {
         number: r.number,
         count: part.len() as u32,
@@ -99,6 +99,7 @@ fn give(part: &[u8], table: &mut [u32], out: &mut [u8]) -> Filled
 }
 
 // The part of a refused text. The trials use the lent table.
+// `cells::put` fills the row: `copy_from_slice` on a row of this function leaves goals over all its locals, which did not close.
 fn shorten_refused(text: &[u8], number: u8, table: &mut [u32], out: &mut [u8]) -> Filled
     requires { Refused text.now number (length table.old) (length out.old) }
     ensures { Given (part (length table.old) text.now) table.old out.old result table.new out.new }
@@ -127,7 +128,7 @@ pub fn shorten(text: &[u8], table: &mut [u32], out: &mut [u8]) -> Filled
         };
     }
     if r.number == 80 {
-        cells::put(out, 0, text);
+        out[..text.len()].copy_from_slice(text);
         return Filled {
             number: 80,
             count: text.len() as u32,

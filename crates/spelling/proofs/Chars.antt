@@ -1,6 +1,6 @@
 -- One turn of the loops over a text's bytes, as laws over lists; and what two rows of bytes being the same comes to.
 use mathlib.Core.Path.{◌≡◌, refl, ap, sym, ◌∙◌}
-use mathlib.Core.Bool.{Bool, true, false, cond, not, ◌&&◌, true≢false, false≢true}
+use mathlib.Core.Bool.{Bool, true, false, cond}
 use mathlib.Core.List.{List, [], ◌∷◌, ◌++◌, append_assoc, append-nil}
 use Prim.Native.Nat.{ℕ, suc, ◌+◌, ◌-◌, ◌≤◌, ◌<◌}
 use native.Mathlib.Nat.{zero-add, add-zero}
@@ -15,37 +15,34 @@ use Rattle.scanner.specs.Below.Items.{pair_of, takes_next, char_of}
 use Rattle.scanner.specs.Below.SyntaxScan.{text_chars}
 use Rattle.scanner.proofs.Loops.{drop_here}
 use Rattle.lexer.specs.Tokens.{part}
+use Rattle.std.proofs.Common.{Some, None, unwrap_or}
+use borrow.Author.Tests.{eqb-true, ne_eqb}
+use Rattle.scanner.specs.Scans.{if_pair}
 use Rattle.spelling.specs.Spelling.{Gives, Put, text_in, FitsText}
 
--- a byte that gives a character, and a star that gives none
-pub gives-pair : (b : ℕ) → Gives true b (pair_of b)
+-- what a byte gives
+pub pair_gives : (b : ℕ) → Gives true b (Some (unwrap_or (if_pair (pair_of b)) 0))
 unfolding char_of
-gives-pair b = record { is = λ e. refl }
-
-pub gives-itself : (b : ℕ) → Gives false b b
-unfolding char_of takes_next
-gives-itself b = go (eqb b 42) refl
+pair_gives b = go (eqb (pair_of b) 0) refl
   where
-    go : (t : Bool) → eqb b 42 ≡ t → Gives false b b
-    go true h = record { is = λ e. absurd (true≢false (rw h at e)) }
-    go false h = record { is = λ e. rw h refl }
+    go : (t : Bool) → eqb (pair_of b) 0 ≡ t → pair_of b ∷ [] ≡ unwrap_or (cond t None (Some (pair_of b))) 0 ∷ []
+    go true e = rw (eqb-true (pair_of b) 0 e)
+    go false e = refl
 
-pub gives_none : (star : Bool) (b : ℕ) → takes_next star b ≡ true → char_of star b ≡ []
-unfolding char_of takes_next
-gives_none star b e = go star (eqb b 42) refl e
-  where
-    go : (x y : Bool) → eqb b 42 ≡ y → (y && not x) ≡ true → cond x (pair_of b ∷ []) (cond (eqb b 42) [] (b ∷ [])) ≡ []
-    go true true h q = absurd (false≢true q)
-    go true false h q = absurd (false≢true q)
-    go false true h q = rw h refl
-    go false false h q = absurd (false≢true q)
+pub star_gives : (b : ℕ) → b ≡ 42 → Gives false b None
+unfolding char_of
+star_gives b e = rw e
+
+pub itself_gives : (b : ℕ) → (b ≡ 42 → ⊥) → Gives false b (Some b)
+unfolding char_of
+itself_gives b n = rw (ne_eqb b 42 n)
 
 -- its character, put
-pub puts_none : (d : List ℕ) (j : ℕ) (star : Bool) (b : ℕ) → takes_next star b ≡ true → Put d j (char_of star b) j d
-puts_none d j star b e = rw (gives_none star b e) (record { is = pasted-none d j; next = sym (add-zero j) })
+pub puts_none : (d : List ℕ) (j : ℕ) {cs : List ℕ} → cs ≡ [] → Put d j cs j d
+puts_none d j e = rw e (record { is = pasted-none d j; next = sym (add-zero j) })
 
-pub puts_one : (d : List ℕ) (j : ℕ) (star : Bool) (b c : ℕ) → Gives star b c → takes_next star b ≡ false → j < length d → Put d j (char_of star b) (j + 1) (set d j c)
-puts_one d j star b c g e h = rw (g.is e) (record { is = rw (set_split d j c h, add-one) refl; next = refl })
+pub puts_one : (d : List ℕ) (j c : ℕ) {cs : List ℕ} → cs ≡ c ∷ [] → j < length d → Put d j cs (j + 1) (set d j c)
+puts_one d j c e h = rw e (record { is = rw (set_split d j c h, add-one) refl; next = refl })
 
 -- a part, byte by byte
 pub part-here : (s : List ℕ) (i e : ℕ) → i < e → e ≤ length s → part s i e ≡ get_or s i 0 ∷ part s (i + 1) e

@@ -1,13 +1,17 @@
 -- What the functions on the characters of a token promise.
-use Rattle.std.specs.Prelude.{◌≡◌, Bool, false, List, [], ◌∷◌, ℕ, ◌+◌, ◌≤◌, length}
+use Rattle.std.specs.Prelude.{◌≡◌, Bool, false, List, [], ◌∷◌, ℕ, ◌+◌, ◌≤◌, length, Option, None, Some}
 use Rattle.words.specs.Below.Cells.{pasted}
-use Rattle.scanner.specs.Below.Items.{takes_next, char_of}
+use Rattle.scanner.specs.Below.Items.{char_of}
 use Rattle.scanner.specs.Below.SyntaxScan.{text_chars}
 use Rattle.lexer.specs.Tokens.{part}
 
 -- the character of a byte that gives one
-pub record Gives (star : Bool) (b c : ℕ) : Type 0 where
-  pub is : takes_next star b ≡ false → char_of star b ≡ c ∷ []
+abbrev pub characters : Option ℕ → List ℕ
+characters None = []
+characters (Some c) = c ∷ []
+
+abbrev pub Gives : Bool → ℕ → Option ℕ → Type 0
+Gives star b c = char_of star b ≡ characters c
 
 -- cs is written into d from index j on, and r is the index behind it
 pub record Put (d : List ℕ) (j : ℕ) (cs : List ℕ) (r : ℕ) (o : List ℕ) : Type 0 where

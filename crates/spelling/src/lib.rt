@@ -10,10 +10,14 @@ ghost use Rattle.spelling.specs.Spelling.{Gives, Put, text_in, FitsText, TwoPart
 use scanner::{pair_of, takes_next};
 
 // A byte of a text, as in scanner: the character that it gives, unless it is a star that takes the next.
-fn char_of(star: bool, b: u8) -> u8
+#[tactic(auto, using(crate::proofs::Chars::pair_gives, crate::proofs::Chars::star_gives, crate::proofs::Chars::itself_gives))]
+fn char_of(star: bool, b: u8) -> Option<u8>
     ensures { Gives star b result }
 {
-    if star { pair_of(b) } else { b }
+    if star {
+        return Some(pair_of(b).unwrap_or(0));
+    }
+    if b == b'*' { None } else { Some(b) }
 }
 
 // Writes its character, if it gives one, to index `j`. The index behind it.
@@ -21,10 +25,10 @@ fn put_char(out: &mut [u8], j: usize, star: bool, b: u8) -> usize
     requires { j + length (char_of star b) ≤ length out.old }
     ensures { Put out.old j (char_of star b) result out.new }
 {
-    if takes_next(star, b) {
+    let Some(c) = char_of(star, b) else {
         return j;
-    }
-    out[j] = char_of(star, b);
+    };
+    out[j] = c;
     j + 1
 }
 
@@ -35,12 +39,10 @@ pub fn put_text(text: &[u8], at: usize, end: usize, out: &mut [u8]) -> usize
 {
     let mut star = false;
     let mut j: usize = 0;
-    let mut i = at;
-    while i < end {
+    for i in at..end {
         let b = text[i];
         j = put_char(out, j, star, b);
         star = takes_next(star, b);
-        i += 1;
     }
     j
 }
@@ -50,7 +52,5 @@ pub fn same_word(text: &[u8], a: usize, b: usize, len: usize) -> bool
     requires { TwoParts text.now a b len }
     ensures { result ≡ bytes_equal (part text.now a (a + len)) (part text.now b (b + len)) }
 {
-    let e = a + len;
-    let f = b + len;
-    words::same(&text[a..e], &text[b..f])
+    text[a..a + len] == text[b..b + len]
 }

@@ -18,14 +18,14 @@ const LENGTHS: usize = 131072;
 pub const CLEAN: usize = 196608;
 
 // Of a question: no place is at fault, or the lowest of those that are.
-#[derive(Clone, Copy)]
+#[derive(Clone, Copy, PartialEq, Eq)]
 pub enum Fault {
     Clear,
     At(usize),
 }
 
 // Of some questions: all are answered yes, or the number of the first no and its place.
-#[derive(Clone, Copy)]
+#[derive(Clone, Copy, PartialEq, Eq)]
 pub enum Verdict {
     Yes,
     No(u8, usize),
@@ -36,15 +36,6 @@ pub fn stops(sort: u8) -> bool
     ensures { result ≡ stops sort }
 {
     (sort == NOTHING) | (sort == END)
-}
-
-pub fn lesser(p: usize, q: usize) -> usize
-    ensures { result ≡ min p q }
-{
-    if p <= q {
-        return p;
-    }
-    q
 }
 
 // The same fault, made from its parts: a plain copy takes the unused bytes between them along, and is slower.
@@ -61,12 +52,9 @@ pub fn rebuilt(f: Fault) -> Fault
 pub fn lower(a: Fault, b: Fault) -> Fault
     ensures { result ≡ lower a b }
 {
-    match a {
-        Fault::Clear => rebuilt(b),
-        Fault::At(p) => match b {
-            Fault::Clear => Fault::At(p),
-            Fault::At(q) => Fault::At(lesser(p, q)),
-        },
+    match (a, b) {
+        (Fault::Clear, f) | (f, Fault::Clear) => rebuilt(f),
+        (Fault::At(p), Fault::At(q)) => Fault::At(p.min(q)),
     }
 }
 
@@ -118,7 +106,7 @@ pub fn worse(w: usize, t: Token) -> usize
     requires { t.at < 65536 }
     ensures { result ≡ min w (token_code t) }
 {
-    lesser(w, token_code(t))
+    w.min(token_code(t))
 }
 
 // What the lowest number says.

@@ -1,5 +1,5 @@
 -- The list of a switch, item by item: what is known of the items before a place.
-use mathlib.Core.Path.{◌≡◌, refl, sym, ap, ◌∙◌, subst}
+use mathlib.Core.Path.{◌≡◌, refl, sym, ap, ◌∙◌}
 use mathlib.Core.Bool.{Bool, true, false, cond, not, ◌&&◌, ◌||◌, true≢false}
 use mathlib.Core.List.{List, [], ◌∷◌, ◌++◌, map, map-append, append_assoc, append-nil}
 use Prim.Native.Nat.{ℕ, suc, ◌+◌, ◌-◌, ◌*◌, ◌/◌, ◌≤◌, ◌<◌, min}
@@ -8,13 +8,13 @@ use native.Mathlib.Omega.{arith}
 use lib.Dec.{eqb, leb, ltb}
 use lib.ListN.{length, get_or, take, drop, set, length-append, length-map, drop_of_length-le, get_or-append}
 use lib.Seq.{take-suc-set, get_or-set_same, get_or-set_other, get_or-append_seam, drop-append-le}
-use borrow.Author.Tests.{eq-eqb, eqb-true, eqb-false, lt-ltb, le-ltb, leb-true, leb-false}
+use borrow.Author.Tests.{eq-eqb, eqb-true, eqb-false, lt-ltb, leb-true, leb-false}
 use Rattle.acceptance.proofs.RowLaws.{drop-none}
-use Rattle.arguments.specs.LeftLaws.{Passing, passing-first, passing-on, passed-worst, passed-end}
+use Rattle.arguments.specs.LeftLaws.{Passing, passing-on, passed-worst, passed-end}
 use Rattle.arguments.specs.Valued.{Ordered}
 use Rattle.arguments.specs.ValueLaws.{names-text}
-use Rattle.drafts.specs.Marks.{mark_of, mark}
-use Rattle.statements.specs.Checks.{worst, token_code}
+use Rattle.drafts.specs.Marks.{mark}
+use Rattle.statements.specs.Checks.{token_code}
 use Rattle.statements.specs.FaultLaws.{fault-both, no-fault}
 use Rattle.statements.specs.Faults.{lower}
 use Rattle.heads.specs.HeadLaws.{filled-colon}
@@ -32,15 +32,9 @@ use Rattle.syntax.specs.Items.Sort.{word, text}
 use Rattle.syntax.specs.Statements.{is_name, entry_faults, list_faults}
 use Rattle.syntax.specs.Verdict.{lowest}
 use Rattle.switch_lists.specs.declared.Before.{Before}
-use Rattle.switch_lists.specs.Switches.{switch_after, text_first, entry_texts, NamesItem, TextCell, PutCell, PuttableItem, PutsItem, Listable, ReadsList}
+use Rattle.switch_lists.specs.Switches.{switch_after, text_first, entry_texts, NamesItem, TextCell, PutCell, PutsItem, Listable, ReadsList}
 
 -- ---- cells
-
-pub put-there : {xs : List ℕ} {k v : ℕ} → k < length xs → PutCell xs k v (set xs k v)
-put-there {xs} {k} {v} l = record { is = rw (lt-ltb k (length xs) l) }
-
-pub put-beyond : {xs : List ℕ} {k v : ℕ} → length xs ≤ k → PutCell xs k v xs
-put-beyond {xs} {k} {v} l = record { is = rw (le-ltb k (length xs) l) }
 
 -- a number that is put, and the others
 module _ {xs : List ℕ} {k v : ℕ} {ys : List ℕ} (h : PutCell xs k v ys) where
@@ -50,28 +44,10 @@ module _ {xs : List ℕ} {k v : ℕ} {ys : List ℕ} (h : PutCell xs k v ys) whe
   put_other : (j : ℕ) → (j ≡ k → ⊥) → get_or ys j 0 ≡ get_or xs j 0
   put_other j f = rw h.is (elim (ltb k (length xs)) as (λ c. get_or (cond c (set xs k v) xs) j 0 ≡ get_or xs j 0) [ true ↦ get_or-set_other xs k j v 0 f | false ↦ refl ])
 
-module _ {t : Token} {after : Bool} {k : ℕ} {en tx em ty : List ℕ} where
-  pub word-put : {m : ℕ} → t.sort ≡ 1 → m ≡ mark_of t.at t.len → PutCell en k m em → PutCell tx k 0 ty → PutsItem t after k en tx em ty
-  word-put e w a b =
-      record { word_mark = λ q. subst (λ n. PutCell en k n em) w a; no_text = λ q. b; same_marks = λ q. absurd (q e); text_put = λ q. absurd (omega (arith, e, q)); same_texts = λ q. absurd (q e) }
-
 module _ {t : Token} {after : Bool} {k : ℕ} {en tx : List ℕ} (f : t.sort ≡ 1 → ⊥) where
   pub text_put : {ty : List ℕ} → (eqb 4 t.sort && after) ≡ true → PutCell tx (k - 1) (t.at * 65536 + t.end) ty → PutsItem t after k en tx en ty
   text_put e a =
       record { word_mark = λ q. absurd (f q); no_text = λ q. absurd (f q); same_marks = λ q. refl; text_put = λ q w. a; same_texts = λ q w. absurd (true≢false (sym e ∙ w)) }
-
-  pub none-put : (eqb 4 t.sort && after) ≡ false → PutsItem t after k en tx en tx
-  none-put e =
-      record {
-        word_mark = λ q. absurd (f q);
-        no_text = λ q. absurd (f q);
-        same_marks = λ q. refl;
-        text_put = λ q w. absurd (true≢false (rw (eq-eqb 4 t.sort (sym q), w) at e));
-        same_texts = λ q w. refl;
-      }
-
-pub entry-before : {t : Token} {after : Bool} {k : ℕ} → PuttableItem t after k → (eqb 4 t.sort && after) ≡ true → 0 < k
-entry-before {t} {after} h e = h.some (elim (eqb 4 t.sort) as (λ b. (b && after) ≡ true → after ≡ true) [ true ↦ λ q. q | false ↦ λ q. absurd (true≢false (sym q)) ] e)
 
 one-long : {X : Type 0} (w : Bool) (x : X) → length (cond w (x ∷ []) []) ≡ cond w 1 0
 one-long true x = refl
@@ -342,37 +318,6 @@ pub record Reading (s : List ℕ) (n : ℕ) (goes_by_name : Bool) (w₀ held : �
   pub orders : Ordered (statement_at s i) → Ordered (statement_at s n)
 
 module _ {s : List ℕ} {t : Token} {w₀ held : ℕ} {en₀ tx₀ : List ℕ} (pre : Listable s t w₀ held en₀ tx₀) {goes_by_name : Bool} where
-  pub reading-first : Reading s t.next goes_by_name w₀ held en₀ tx₀ Clear Clear 0 w₀ (record { word = false; name = false; colon = 0 }) t.next en₀ tx₀
-  reading-first =
-      let e : held + 0 ≡ held = omega arith in
-      record {
-        low = pre.low;
-        held_most = pre.held_most;
-        passing = passing-first pre.stands.most pre.checked;
-        few = omega arith;
-        some = λ l. absurd (omega (arith, l));
-        faulted = record { faults = []; fault_is = refl; list_is = refl };
-        worded =
-            record {
-              items = [];
-              items_are = refl;
-              count = refl;
-              over_is = sym (ap fault_of (drop_of_length-le {A = ℕ} [] {i = 128 - held} (omega arith)));
-              marks = λ l. ap (λ (m : ℕ). take m en₀) e ∙ sym (append-nil (take held en₀));
-              size = pre.entry_room;
-            };
-        texted =
-            record {
-              rows = [];
-              rows_are = refl;
-              count = refl;
-              named = λ j l. absurd (omega (arith, l));
-              none_yet = λ q. absurd (true≢false (sym q));
-              size = pre.text_room;
-            };
-        orders = λ o. o;
-      }
-
   module _ {fault over : Fault} {words w : ℕ} {b : Before} {i : ℕ} {en tx : List ℕ} (u : Reading s t.next goes_by_name w₀ held en₀ tx₀ fault over words w b i en tx)
       {x : Token} (k : NextToken s i x) where
     abbrev n : ℕ
@@ -421,23 +366,8 @@ module _ {s : List ℕ} {t : Token} {w₀ held : ℕ} {en₀ tx₀ : List ℕ} (
 
 module _ {s : List ℕ} {n : ℕ} {goes_by_name : Bool} {w₀ held : ℕ} {en₀ tx₀ : List ℕ} {fault over : Fault} {words w : ℕ} {b : Before} {i : ℕ} {en tx : List ℕ}
     (u : Reading s n goes_by_name w₀ held en₀ tx₀ fault over words w b i en tx) where
-  pub words-low : held + words ≤ 32896
-  words-low = omega (arith, u.few, u.passing.within.most, u.low, u.held_most)
-
-  pub more-low : (c : Bool) {m : ℕ} → m ≡ cond c 1 0 → words + m ≤ 32897
-  more-low c e = omega (arith, words-low, e, one-most c)
-
   -- one more item
   module _ {x : Token} (k : NextToken s i x) (z : stops x.sort ≡ false) where
-    pub item-puttable : PuttableItem x b.word (held + words)
-    item-puttable =
-        record {
-          low = omega (arith, k.stands.own, k.stands.behind, k.stands.most, u.low);
-          short = omega (arith, k.stands.own, k.stands.behind, k.stands.most, u.low);
-          ending = omega (arith, k.stands.behind, k.stands.most, u.low);
-          some = λ e. omega (arith, ap (λ (c : Bool). length u.texted.rows + cond c 1 0) (sym e) ∙ u.texted.count);
-        }
-
     module _ {a r o : Fault} {name : Bool} {m v : ℕ} {em ty : List ℕ} (e : a ≡ lower fault (fault_of (colon_left b (goes_by_name && eqb 4 x.sort))))
         (g : name ≡ is_name (item_of s x)) (p : PutsItem x b.word (held + words) en tx em ty) (l : length em ≡ length en) (l' : length ty ≡ length tx)
         (f : r ≡ lower a (fault_of (one_if (not (name || (goes_by_name && eqb 4 x.sort && not (eqb b.colon 0)))) x.at)))

@@ -9,7 +9,7 @@ ghost use Rattle.switch_lists.specs.Switches.{PutCell, PuttableItem, PutsItem, L
 use heads::{is_name, mark};
 use language::Machine;
 use lexer::{Token, next_item};
-use scanner::{NOTHING, TEXT, WORD, one_if};
+use scanner::{NOTHING, TEXT, WORD};
 use statements::{Fault, lower, stops, worse};
 
 // A list: the lowest place at fault of question 02, how many words it has, the first of them that is an entry in excess, the questions 14 to 16 with its
@@ -32,26 +32,23 @@ struct Before {
     colon: usize,
 }
 
+// Apart from `or_empty`, which hands a fault on: this contract tells the fault as that of a list of places.
+#[tactic(auto, unfolding(syntax::specs::Verdict::lowest))]
 fn at_if(wrong: bool, at: usize) -> Fault
     ensures { result ≡ fault_of (cond wrong (at ∷ []) []) }
 {
-    if wrong {
-        return Fault::At(at);
-    }
-    Fault::Clear
+    if wrong { Fault::At(at) } else { Fault::Clear }
 }
 
 // A list without items is at fault at its operator.
 fn or_empty(empty: bool, at: usize, fault: Fault) -> Fault
     ensures { result ≡ cond empty (At at) fault }
 {
-    if empty {
-        return Fault::At(at);
-    }
-    fault
+    if empty { Fault::At(at) } else { fault }
 }
 
 // Puts a number where there is room for it.
+// By the length and an index: after a write through `get_mut` a proof knows nothing of the elements.
 fn put(cells: &mut [u32], k: usize, v: u32)
     ensures { PutCell cells.old k v cells.new }
 {
@@ -76,6 +73,7 @@ fn put_item(t: Token, after: bool, k: usize, entries: &mut [u32], texts: &mut [u
 }
 
 // The list of a switch with the operator `t`, where `held` entries stand before its own.
+// Each turn goes on behind the item that it read, so there is no range to run over.
 pub fn read_list(
     text: &[u8],
     t: Token,
@@ -88,7 +86,6 @@ pub fn read_list(
     requires { Listable text.now t worst held entries.old texts.old }
     ensures { ReadsList text.now t named worst held entries.old texts.old result entries.new texts.new }
 {
-    let at = t.at;
     let first = t.next;
     let mut fault = Fault::Clear;
     let mut over = Fault::Clear;
@@ -107,9 +104,9 @@ pub fn read_list(
         let a = lower(fault, at_if(before.name & !(colon == 0) & !follows, colon));
         if stops(u.sort) {
             return Listed {
-                fault: or_empty(i == first, at, a),
-                words: words,
-                over: over,
+                fault: or_empty(i == first, t.at, a),
+                words,
+                over,
                 worst: w,
                 next: u.next,
                 last: u.sort == NOTHING,
@@ -122,10 +119,10 @@ pub fn read_list(
         fault = lower(a, at_if(!(name | (follows & !(colon == 0))), u.at));
         over = lower(over, at_if(word & (Machine::ENTRIES <= k), u.at));
         w = worse(w, u);
-        words = words + one_if(word);
+        words += usize::from(word);
         before = Before {
-            word: word,
-            name: name,
+            word,
+            name,
             colon: u.colon,
         };
         i = u.next;

@@ -69,6 +69,10 @@ module _ (s b : List ℕ) where
       go true true e f q = macros-67 (length b) s f
       go true false e f q = absurd (true≢false q)
 
+-- a row whose first bytes were copied
+pub front-copied : {m s : List ℕ} {n : ℕ} (b : List ℕ) → m ≡ s → n ≡ length s → m ++ drop n b ≡ pasted b 0 s
+front-copied {m} {s} {n} b e l = let z : n ≡ 0 + length s = omega (arith, l) in λ i. e i ++ drop (z i) b
+
 -- ---- a text that is taken, with what was made of it
 
 module _ (s : List ℕ) {made : List ℕ} {n : ℕ} (t : taken s ≡ true) (w : Written (respelled s) n made) (m : length made ≡ limit.text) (b : List ℕ) where

@@ -17,6 +17,12 @@ use lexer::{Token, next_item};
 use scanner::{COLON, END, NOTHING, WORD};
 use words::append_other;
 
+// Question 67 answered no.
+const REFUSED: Filled = Filled {
+    number: 67,
+    count: 0,
+};
+
 // How far a text is read and written: the place from which the next item is sought, whether the operator of the statement there is still to come, the
 // place up to which all is written, and how many bytes were.
 #[derive(Clone, Copy)]
@@ -102,18 +108,12 @@ fn turn(text: &[u8], out: &mut [u8]) -> Filled
     let mut made = [0u8; Machine::TEXT];
     let n = respell(text, &mut made);
     if Machine::TEXT < n {
-        return Filled {
-            number: 67,
-            count: 0,
-        };
+        return REFUSED;
     }
     if out.len() < n {
-        return Filled {
-            number: 67,
-            count: 0,
-        };
+        return REFUSED;
     }
-    cells::put(out, 0, &made[..n]);
+    out[..n].copy_from_slice(&made[..n]);
     Filled {
         number: 80,
         count: n as u32,
@@ -125,16 +125,10 @@ pub fn convert(text: &[u8], out: &mut [u8]) -> Filled
     ensures { Gives (convert_of (length out.old) text.now) result.number result.count out.old out.new }
 {
     if Machine::TEXT < text.len() {
-        return Filled {
-            number: 67,
-            count: 0,
-        };
+        return REFUSED;
     }
     if !is_taken(text) {
-        return Filled {
-            number: 67,
-            count: 0,
-        };
+        return REFUSED;
     }
     turn(text, out)
 }

@@ -1,6 +1,6 @@
 -- The keyword that a word is: the word of an edition to which alone its slot leads there, in one edition or in the other, or none.
 use mathlib.Core.Path.{◌≡◌, refl, ap, sym, ◌∙◌, subst}
-use mathlib.Core.Bool.{Bool, true, false, not, cond, ◌&&◌, ◌||◌, beq}
+use mathlib.Core.Bool.{Bool, true, false, not, cond, ◌&&◌, ◌||◌, beq, false≢true}
 use mathlib.Core.List.{List, [], ◌∷◌, ◌++◌, map}
 use Prim.Native.Nat.{ℕ, suc, ◌<◌, ◌+◌, ◌-◌, ◌≤◌}
 use Prim.Native.String.{String}
@@ -13,8 +13,10 @@ use Rattle.syntax.specs.Below.Quoted.{bytes}
 use Rattle.syntax.specs.Below.ListsTableLaws.{below, beq-eq, Missed}
 use Rattle.syntax.specs.Statements as Spec
 use Rattle.syntax.specs.Statements.{editions, words_of, own, reserved, same_keyword}
-use Rattle.words.specs.Keywords.{keyword_by, told, known, word_at, place_in, other_word, meanings, keyword_at, shared, slot, in_a_row, beginnings, guesses, guess, of_row, InRow}
+use Rattle.words.specs.Keywords.{keyword_by, told, known, word_at, place_in, Placed, other_word, meanings, keyword_at, shared, slot, in_a_row, beginnings, guesses, guess, of_row, InRow, Lent}
 use Rattle.words.specs.declared.Keyword.{Keyword}
+use Rattle.std.specs.Option.{is_some}
+use Rattle.std.specs.Prelude.{Option, Some, None}
 use borrow.Author.Tests.{lt-ltb, le-ltb}
 use Rattle.appending.proofs.Below.LayoutCellLaws.{found}
 use Rattle.syntax.specs.Below.ListLaws.{T-left, T-right, same_bytes-eq, same_bytes-refl}
@@ -71,9 +73,9 @@ slots-many true = refl
 slots-many false = refl
 
 -- the part of the row that is the word at place j
-pub named : (e : Bool) (j : ℕ) {row starts : List ℕ} → j < 46 → row ≡ in_a_row e → starts ≡ beginnings e → InRow j row starts × (of_row j row starts ≡ word_at e j)
+pub named : {e : Bool} {row starts slots : List ℕ} {i j : ℕ} → i ≡ j → j < 46 → Lent e row starts slots → InRow i row starts × (of_row i row starts ≡ word_at e j)
 unfolding ordered
-named e j h p q =
+named {e} {j = j} p h l =
     let a : Bool = leb (get_or (beginnings e) j 0) (get_or (beginnings e) (j + 1) 0) in
     let b : Bool = leb (get_or (beginnings e) (j + 1) 0) (long e) in
     let s : Bool = bytes_equal (of_row j (in_a_row e) (beginnings e)) (word_at e j) in
@@ -81,7 +83,7 @@ named e j h p q =
     let u : T (b && s) = T-right a (b && s) t in
     let order = leb→le (get_or (beginnings e) j 0) (get_or (beginnings e) (j + 1) 0) (T-left a (b && s) t) in
     let within = leb→le (get_or (beginnings e) (j + 1) 0) (long e) (T-left b s u) in
-    rw (p, q)
+    rw (p, l.row_is, l.starts_are)
     (record { room = omega (arith, h, starts-many e); order = order; within = omega (arith, within, row-long e) }, same_bytes-eq (of_row j (in_a_row e) (beginnings e)) (word_at e j) (T-right b s u))
 
 pub guess-at : (e : Bool) (h : ℕ) {slots : List ℕ} → h < 128 → slots ≡ guesses e
@@ -376,6 +378,16 @@ module _ (w : List ℕ) {j : ℕ} (p : j ≡ place_in false w) where
   reserved-english h q =
       let t : any (bytes_equal w) (words_of false) ≡ false = has-place false w ∙ le-ltb (place_in false w) 46 (omega arith) in
       rw t (ap (λ (n : ℕ). ltb n 46) q ∙ sym (has-place true w))
+
+module _ (w : List ℕ) where
+  pub reserved-here : (a : Option ℕ) → Placed false w a → is_some a ≡ true → true ≡ reserved w
+  reserved-here None p e = absurd (false≢true e)
+  reserved-here (Some j) p e = reserved-polish w p.0 p.1
+
+  pub reserved-there : (a b : Option ℕ) → Placed false w a → is_some a ≡ false → Placed true w b → is_some b ≡ reserved w
+  reserved-there (Some j) b p e q = absurd (false≢true (sym e))
+  reserved-there None None p e q = reserved-english w (sym p) (omega arith) (sym q)
+  reserved-there None (Some k) p e q = rw (lt-ltb k 46 q.1) at (reserved-english w (sym p) (omega arith) q.0)
 
 -- "SEKCJA or its English word chooses": of the two words the English edition's own one is SECTION
 chosen : Bool → ℕ → Bool

@@ -1,6 +1,6 @@
 -- Numbers of any count of digits, by sizes that stop growing beyond the range; and indices.
 use mathlib.Core.Path.{◌≡◌, refl, ap, sym}
-use mathlib.Core.Bool.{Bool, true, false, cond, ◌&&◌, and-false}
+use mathlib.Core.Bool.{Bool, true, false, cond, ◌&&◌}
 use mathlib.Core.List.{List, [], ◌∷◌}
 use Prim.Native.Nat.{ℕ, zero, suc, ◌+◌, ◌*◌, ◌-◌, ◌≤◌, ◌<◌}
 use native.Mathlib.Decide.{dec_le}
@@ -8,7 +8,7 @@ use native.Mathlib.Numerals.{add-one}
 use native.Mathlib.Omega.{arith}
 use lib.Dec.{leb}
 use lib.IntN.{pos, neg_ℤ, nat_abs}
-use lib.ListN.{length, get_or, take, drop, drop_of_length-le}
+use lib.ListN.{length, get_or, take, drop}
 use lib.Seq.{drop-cons, take_all}
 use borrow.Author.Tests.{ne_eqb, le-leb, lt-leb}
 use Rattle.syntax.specs.Below.Characters.{is_digit}
@@ -51,23 +51,8 @@ module _ (s : List ℕ) (i n : ℕ) where
   size-on h true e = rw (add-one i, drop-cons s i 0 h, e)
   size-on h false e = rw (drop-cons s i 0 h, e)
 
-  pub size-stops : i < length s → is_digit (get_or s i 0) ≡ false → beyond ≡ size_from n (drop i s)
-  size-stops h e = sym (size-on h false e)
-
   pub size-goes : i < length s → is_digit (get_or s i 0) ≡ true → size_from (capped (n * 10 + (get_or s i 0 - 48))) (drop (i + 1) s) ≡ size_from n (drop i s)
   size-goes h e = rw (cap-amount (n * 10 + (get_or s i 0 - 48)) (drop (i + 1) s)) (sym (size-on h true e))
-
-  pub size-ends : length s ≤ i → n ≤ beyond → size_from n (drop i s) ≡ n
-  size-ends h l = rw (drop_of_length-le s h) (omega arith)
-
-pub digit_low : (b : ℕ) → b < 48 → is_digit b ≡ false
-digit_low b h = rw (lt-leb 48 b h)
-
-pub digit-high : (b : ℕ) → 57 < b → is_digit b ≡ false
-digit-high b h = rw (lt-leb b 57 h) (and-false (leb 48 b))
-
-pub digit : (b : ℕ) → 48 ≤ b → b ≤ 57 → is_digit b ≡ true
-digit b h l = rw (le-leb 48 b h, le-leb b 57 l)
 
 -- what follows the first byte
 pub rest_of : (w : List ℕ) → take (length w - 1) (drop 1 w) ≡ drop 1 w
@@ -94,30 +79,25 @@ unfolding code
 minus-code zero h = refl
 minus-code (suc a) h = omega arith
 
-abbrev first : List ℕ → ℕ
-first w = get_or w 0 0
-
 pub number-none : (w : List ℕ) → length w ≡ 0 → Numeral.Not ≡ numeral_of w
 unfolding numeral_of
 number-none [] h = refl
 number-none (b ∷ w) h = absurd (omega arith)
 
-pub number-minus : (w : List ℕ) → (length w ≡ 0 → ⊥) → first w ≡ 45 → minus (size_of (drop 1 w)) ≡ numeral_of w
-unfolding numeral_of minus size_of
-number-minus [] h e = absurd (h refl)
-number-minus (b ∷ w) h e = rw (e, minus-size (amount 0 w)) (in_code (λ n. limit.size - n) (λ n. code (neg_ℤ (pos n))) (unsigned w) (amount 0 w) minus-code)
-
 plus-code : (n : ℕ) → n ≤ limit.size → limit.size + n ≡ code (pos n)
 unfolding code
 plus-code n h = refl
 
-pub number-plus : (w : List ℕ) → (length w ≡ 0 → ⊥) → first w ≡ 43 → plus (size_of (drop 1 w)) ≡ numeral_of w
-unfolding numeral_of plus size_of
-number-plus [] h e = absurd (h refl)
-number-plus (b ∷ w) h e = rw e (in_code (λ n. limit.size + n) (λ n. code (pos n)) (unsigned w) (amount 0 w) plus-code)
+-- a word by its first byte
+module _ (w : List ℕ) (b : ℕ) (v : List ℕ) (is : w ≡ b ∷ v) where
+  pub number-minus : b ≡ 45 → minus (size_of v) ≡ numeral_of w
+  unfolding numeral_of minus size_of
+  number-minus e = rw (is, e, minus-size (amount 0 v)) (in_code (λ n. limit.size - n) (λ n. code (neg_ℤ (pos n))) (unsigned v) (amount 0 v) minus-code)
 
-pub number-bare : (w : List ℕ) → (length w ≡ 0 → ⊥) → (first w ≡ 45 → ⊥) → (first w ≡ 43 → ⊥) → plus (size_of w) ≡ numeral_of w
-unfolding numeral_of plus size_of
-number-bare [] h m p = absurd (h refl)
-number-bare (b ∷ w) h m p =
-    rw (ne_eqb b 45 m, ne_eqb b 43 p) (in_code (λ n. limit.size + n) (λ n. code (pos n)) (unsigned (b ∷ w)) (amount 0 (b ∷ w)) plus-code)
+  pub number-plus : b ≡ 43 → plus (size_of v) ≡ numeral_of w
+  unfolding numeral_of plus size_of
+  number-plus e = rw (is, e) (in_code (λ n. limit.size + n) (λ n. code (pos n)) (unsigned v) (amount 0 v) plus-code)
+
+  pub number-bare : (b ≡ 45 → ⊥) → (b ≡ 43 → ⊥) → plus (size_of w) ≡ numeral_of w
+  unfolding numeral_of plus size_of
+  number-bare m p = rw (is, ne_eqb b 45 m, ne_eqb b 43 p) (in_code (λ n. limit.size + n) (λ n. code (pos n)) (unsigned (b ∷ v)) (amount 0 (b ∷ v)) plus-code)

@@ -1,5 +1,6 @@
 -- What the functions on keywords answer.
-use Rattle.std.specs.Prelude.{◌≡◌, Bool, true, false, cond, ◌||◌, List, [], ◌∷◌, map, ℕ, ◌+◌, ◌*◌, ◌-◌, ◌%◌, ◌<◌, ◌≤◌, eqb, ltb, length, get_or, take, drop}
+use Rattle.std.specs.Option.{MatchOption}
+use Rattle.std.specs.Prelude.{◌≡◌, Option, Bool, true, false, cond, ◌||◌, List, [], ◌∷◌, map, ℕ, ◌+◌, ◌*◌, ◌-◌, ◌%◌, ◌<◌, ◌≤◌, eqb, ltb, length, get_or, take, drop}
 use Rattle.syntax.specs.Below.Instructions.{operation, operator_of}
 use Rattle.syntax.specs.Below.Lists.{ahead, joined, bytes_equal}
 use Rattle.syntax.specs.Below.Quoted.{bytes}
@@ -44,6 +45,10 @@ word_at english j = get_or (words_of english) j []
 -- the place of a word in an edition; how many pairs there are for none
 unfoldable pub place_in : Bool → List ℕ → ℕ
 place_in english w = ahead (bytes_equal w) (words_of english)
+
+-- what the code tells of it
+abbrev pub Placed : Bool → List ℕ → Option ℕ → Type 0
+Placed english w place = MatchOption place (place_in english w ≡ 46) (λ j. (j ≡ place_in english w) × (j < 46))
 
 abbrev pub meanings : List Spec.Keyword
 meanings = map (λ r. r.2) editions

@@ -5,19 +5,17 @@ ghost use Rattle.std.specs.Prelude.{◌≡◌, true, false, cond, ◌||◌, ◌+
 ghost use Rattle.appending.specs.Appending.{Appends};
 ghost use Rattle.syntax.specs.Below.Characters.{is_capital, is_digit};
 ghost use Rattle.syntax.specs.Below.Program.{identifier};
-ghost use Rattle.syntax.specs.Below.Lists.{among, bytes_equal};
+ghost use Rattle.syntax.specs.Below.Lists.{all, among};
 ghost use Rattle.syntax.specs.Statements.{reserved};
 ghost use Rattle.words.specs.Words.{class_letter, is_class, class_of, capped, beyond, size_of, plus, minus, numeral_of, letter_at, reach, indexed_of};
-ghost use Rattle.words.specs.Keywords.{known, keyword_at, shared, word_at, place_in, other_word, slot, guess, guesses, of_row, InRow, Lent};
+ghost use Rattle.words.specs.Keywords.{known, keyword_at, shared, word_at, Placed, other_word, slot, guess, Lent};
 
 use appending::append;
 use syntax::from_characters;
 use syntax::from_language::Machine;
 
-// How many pairs of words the two editions have.
-const PAIRS: u8 = 46;
-
 // The size of what is no number in range.
+// Sizes stop growing there, so that no Option is plainer.
 const BEYOND: usize = Machine::SIZE + 1;
 
 // The words of each edition, one after the other by their pairs; that at place j goes from start j to the next. By slot, `(` plus the place of the word
@@ -81,63 +79,43 @@ pub struct Known {
     pub english: bool,
 }
 
-pub fn same(a: &[u8], b: &[u8]) -> bool
-    ensures { result ≡ bytes_equal a.now b.now }
+fn all_continue(w: &[u8]) -> bool
+    ensures { result ≡ all (λ b. is_capital b || is_digit b) w.now }
 {
-    check::same(a, b)
-}
-
-fn continues(b: u8) -> bool
-    ensures { result ≡ is_capital b || is_digit b }
-{
-    from_characters::is_capital(b) | from_characters::is_digit(b)
+    w.iter().all(|b| from_characters::is_capital(*b) | from_characters::is_digit(*b))
 }
 
 pub fn identifier(w: &[u8]) -> bool
     ensures { result ≡ identifier w.now }
 {
-    if w.len() == 0 {
+    let Some((first, rest)) = w.split_first() else {
         return false;
-    }
-    let mut good = from_characters::is_capital(w[0]);
-    let mut i = 1;
-    while i < w.len() {
-        good = good & continues(w[i]);
-        i += 1;
-    }
-    good
+    };
+    from_characters::is_capital(*first) & all_continue(rest)
 }
 
-fn is_class_letter(b: u8) -> bool
-    ensures { result ≡ class_letter b }
+fn all_class_letters(w: &[u8]) -> bool
+    ensures { result ≡ all class_letter w.now }
 {
-    (b == b'L') | (b == b'D') | (b == b'B') | (b == b'R')
+    w.iter().all(|b| b"LDBR".contains(b))
 }
 
 pub fn is_class(w: &[u8]) -> bool
     ensures { result ≡ is_class w.now }
 {
-    let mut good = 0 < w.len();
-    let mut i = 0;
-    while i < w.len() {
-        good = good & is_class_letter(w[i]);
-        i += 1;
+    if w.is_empty() {
+        return false;
     }
-    good
+    all_class_letters(w)
 }
 
 fn has(w: &[u8], b: u8) -> bool
     ensures { result ≡ among b w.now }
 {
-    let mut found = false;
-    let mut i = 0;
-    while i < w.len() {
-        found = found | (b == w[i]);
-        i += 1;
-    }
-    found
+    w.contains(&b)
 }
 
+// Four of these are added up: a product with `u8::from(t)` is no plainer.
 fn bit(t: bool, n: u8) -> u8
     ensures { (result ≡ cond t n 0) × (result ≤ n) }
 {
@@ -161,29 +139,22 @@ fn grown(n: usize, b: u8) -> usize
     requires { (n ≤ beyond) × (48 ≤ b) }
     ensures { (result ≡ capped (n * 10 + (b - 48))) × (result ≤ beyond) }
 {
-    let m = n * 10 + ((b - b'0') as usize);
-    if m < BEYOND { m } else { BEYOND }
+    (n * 10 + usize::from(b - b'0')).min(BEYOND)
 }
 
 // The size of digits, of any count.
 fn size_of(s: &[u8]) -> usize
     ensures { result ≡ size_of s.now }
 {
-    if s.len() == 0 {
+    if s.is_empty() {
         return BEYOND;
     }
-    let mut n: usize = 0;
-    let mut i = 0;
-    while i < s.len() {
-        let b = s[i];
-        if b < b'0' {
+    let mut n = 0;
+    for b in s {
+        if !from_characters::is_digit(*b) {
             return BEYOND;
         }
-        if b'9' < b {
-            return BEYOND;
-        }
-        n = grown(n, b);
-        i += 1;
+        n = grown(n, *b);
     }
     n
 }
@@ -209,20 +180,19 @@ fn minus(n: usize) -> Numeral
 pub fn number_of(w: &[u8]) -> Numeral
     ensures { result ≡ numeral_of w.now }
 {
-    if w.len() == 0 {
+    let Some((sign, digits)) = w.split_first() else {
         return Numeral::Not;
+    };
+    if *sign == b'-' {
+        return minus(size_of(digits));
     }
-    let b = w[0];
-    if b == b'-' {
-        return minus(size_of(&w[1..]));
-    }
-    if b == b'+' {
-        return plus(size_of(&w[1..]));
+    if *sign == b'+' {
+        return plus(size_of(digits));
     }
     plus(size_of(w))
 }
 
-// The place of a letter of arguments among the twelve; 12 for another byte.
+// The place of a letter of arguments among the twelve; 12 for another byte, which no index reaches: an Option would be asked once, in `indexed`.
 fn letter_at(b: u8) -> u8
     ensures { result ≡ letter_at b }
 {
@@ -276,82 +246,92 @@ pub fn indexed(w: &[u8]) -> Lettered
     Lettered::At(place, n as u8)
 }
 
-fn wide(b: u8) -> usize
-    ensures { (result ≡ b) × (result < 256) }
-{
-    b as usize
+// The words of an edition, lent with what finds them.
+#[derive(Clone, Copy)]
+struct Edition<'a> {
+    english: bool,
+    row: &'a [u8],
+    starts: &'a [u8],
+    slots: &'a [u8],
+    ghost lent: { Lent english row.now starts.now slots.now },
 }
 
-// A number from a word's length and letters that no two words of an edition share.
-fn slot(w: &[u8], english: bool) -> usize
-    ensures { (result ≡ slot english w.now) × (result < 128) }
-{
-    let n = w.len();
-    if n < 2 {
-        return 0;
+impl<'a> Edition<'a> {
+    fn of(english: bool) -> Self
+        ensures { result.english ≡ english }
+    {
+        if english {
+            return Edition {
+                english,
+                row: &ENGLISH,
+                starts: &ENGLISH_STARTS,
+                slots: &ENGLISH_SLOTS,
+            };
+        }
+        Edition {
+            english,
+            row: &POLISH,
+            starts: &POLISH_STARTS,
+            slots: &POLISH_SLOTS,
+        }
     }
-    if 8 < n {
-        return 0;
+
+    // The word at place j.
+    fn word(&self, j: u8) -> &'a [u8]
+        requires { j < 46 }
+        ensures { result.now ≡ word_at self.now.english j }
+    {
+        let i = usize::from(j);
+        let from = usize::from(self.starts[i]);
+        let to = usize::from(self.starts[i + 1]);
+        &self.row[from..to]
     }
-    let first = wide(w[0]);
-    let before = wide(w[n - 2]);
-    let last = wide(w[n - 1]);
-    if english {
-        return (2 * n + 3 * first + 4 * before + 19 * last) % 128;
+
+    // A number from a word's length and letters that no two words of the edition share.
+    fn slot(&self, w: &[u8]) -> usize
+        ensures { (result ≡ slot self.now.english w.now) × (result < 128) }
+    {
+        let n = w.len();
+        if n < 2 {
+            return 0;
+        }
+        if 8 < n {
+            return 0;
+        }
+        let first = usize::from(w[0]);
+        let before = usize::from(w[n - 2]);
+        let last = usize::from(w[n - 1]);
+        if self.english {
+            return (2 * n + 3 * first + 4 * before + 19 * last) % 128;
+        }
+        (2 * n + 3 * first + 9 * before + 13 * last) % 128
     }
-    (2 * n + 3 * first + 9 * before + 13 * last) % 128
-}
 
-// The place to which a word's slot leads: the only one that the word can have in an edition.
-fn guess(w: &[u8], english: bool, slots: &[u8]) -> u8
-    requires { slots.now ≡ guesses english }
-    ensures { (result ≡ guess english w.now) × (result < 46) }
-{
-    let h = slot(w, english);
-    slots[h] - b'('
-}
-
-// Whether a word is that at place j of a row.
-fn is_at(w: &[u8], j: usize, row: &[u8], starts: &[u8]) -> bool
-    requires { InRow j row.now starts.now }
-    ensures { result ≡ bytes_equal w.now (of_row j row.now starts.now) }
-{
-    let a = wide(starts[j]);
-    let e = wide(starts[j + 1]);
-    same(w, &row[a..e])
-}
-
-fn find(w: &[u8], english: bool, row: &[u8], starts: &[u8], slots: &[u8]) -> u8
-    requires { Lent english row.now starts.now slots.now }
-    ensures { result ≡ place_in english w.now }
-{
-    let j = guess(w, english, slots);
-    if is_at(w, wide(j), row, starts) {
-        return j;
+    // The place to which a word's slot leads: the only one that the word can have.
+    fn guess(&self, w: &[u8]) -> u8
+        ensures { (result ≡ guess self.now.english w.now) × (result < 46) }
+    {
+        let h = self.slot(w);
+        self.slots[h] - b'('
     }
-    PAIRS
-}
 
-// The place of a word among those of the Polish edition; that of no pair for none.
-fn polish_place(w: &[u8]) -> u8
-    ensures { result ≡ place_in false w.now }
-{
-    find(w, false, &POLISH, &POLISH_STARTS, &POLISH_SLOTS)
-}
-
-fn english_place(w: &[u8]) -> u8
-    ensures { result ≡ place_in true w.now }
-{
-    find(w, true, &ENGLISH, &ENGLISH_STARTS, &ENGLISH_SLOTS)
+    // The place of a word among those of the edition.
+    fn place(&self, w: &[u8]) -> Option<u8>
+        ensures { Placed self.now.english w.now result }
+    {
+        let j = self.guess(w);
+        if w == self.word(j) {
+            return Some(j);
+        }
+        None
+    }
 }
 
 // The keyword whose words have place j.
 fn keyword_at(j: u8) -> Keyword
+    requires { j < 46 }
     ensures { result ≡ keyword_at j }
 {
-    if PAIRS <= j {
-        return Keyword::Unknown;
-    }
     match j {
         0 => Keyword::Sekcja,
         1 => Keyword::Kons,
@@ -372,19 +352,24 @@ fn is_shared(j: u8) -> bool
 pub fn keyword_of(w: &[u8]) -> Known
     ensures { result ≡ known w.now }
 {
-    let j = polish_place(w);
-    if j < PAIRS {
+    if let Some(j) = Edition::of(false).place(w) {
         return Known {
             keyword: keyword_at(j),
             polish: !is_shared(j),
             english: false,
         };
     }
-    let k = english_place(w);
+    if let Some(k) = Edition::of(true).place(w) {
+        return Known {
+            keyword: keyword_at(k),
+            polish: false,
+            english: true,
+        };
+    }
     Known {
-        keyword: keyword_at(k),
+        keyword: Keyword::Unknown,
         polish: false,
-        english: k < PAIRS,
+        english: false,
     }
 }
 
@@ -392,34 +377,10 @@ pub fn keyword_of(w: &[u8]) -> Known
 pub fn is_reserved(w: &[u8]) -> bool
     ensures { result ≡ reserved w.now }
 {
-    if polish_place(w) < PAIRS {
+    if Edition::of(false).place(w).is_some() {
         return true;
     }
-    english_place(w) < PAIRS
-}
-
-// Appends the word at place j of a row of words.
-fn append_at(row: &[u8], starts: &[u8], j: usize, out: &mut [u8], at: usize) -> usize
-    requires { InRow j row.now starts.now × (length out.old < 4294967296) }
-    ensures { Appends out.old at (of_row j row.now starts.now) result out.new }
-{
-    let a = wide(starts[j]);
-    let e = wide(starts[j + 1]);
-    append(out, at, &row[a..e])
-}
-
-fn append_polish(j: u8, out: &mut [u8], at: usize) -> usize
-    requires { (j < 46) × (length out.old < 4294967296) }
-    ensures { Appends out.old at (word_at false j) result out.new }
-{
-    append_at(&POLISH, &POLISH_STARTS, wide(j), out, at)
-}
-
-fn append_english(j: u8, out: &mut [u8], at: usize) -> usize
-    requires { (j < 46) × (length out.old < 4294967296) }
-    ensures { Appends out.old at (word_at true j) result out.new }
-{
-    append_at(&ENGLISH, &ENGLISH_STARTS, wide(j), out, at)
+    Edition::of(true).place(w).is_some()
 }
 
 // Appends what a word is in the other edition: the word that has its place there. A word of no edition is itself.
@@ -427,13 +388,11 @@ pub fn append_other(w: &[u8], out: &mut [u8], at: usize) -> usize
     requires { length out.old < 4294967296 }
     ensures { Appends out.old at (other_word w.now) result out.new }
 {
-    let j = polish_place(w);
-    if j < PAIRS {
-        return append_english(j, out, at);
+    if let Some(j) = Edition::of(false).place(w) {
+        return append(out, at, Edition::of(true).word(j));
     }
-    let k = english_place(w);
-    if k < PAIRS {
-        return append_polish(k, out, at);
+    if let Some(k) = Edition::of(true).place(w) {
+        return append(out, at, Edition::of(false).word(k));
     }
     append(out, at, w)
 }

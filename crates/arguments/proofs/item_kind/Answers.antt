@@ -11,26 +11,26 @@ overflow_mul-result c = omega (arith, text-mark-low c.requires)
 pub overflow_add-result : goal.overflow_add-result
 overflow_add-result c = omega (arith, text-mark-low c.requires)
 
-pub returns-then-t-eq-TEXT : goal.returns-then-t-eq-TEXT
-returns-then-t-eq-TEXT c =
+pub returns-in-4 : goal.returns-in-4
+returns-in-4 c =
     record {
-      set_is = sym (kinds-text c.requires.stands c.if-t-eq-TEXT.true);
+      set_is = sym (kinds-text c.requires.stands c.in-4.is);
       text_is = λ e. refl;
-      word_is = λ e. absurd (omega (arith, e, c.if-t-eq-TEXT.true));
+      word_is = λ e. absurd (omega (arith, e, c.in-4.is));
     }
 
-pub returns-then-t-eq-WORD : goal.returns-then-t-eq-WORD
-returns-then-t-eq-WORD c =
+pub returns-in-1 : goal.returns-in-1
+returns-in-1 c =
     record {
-      set_is = c.word_kind.ensures.set_is ∙ sym (kinds-word c.requires.stands c.if-t-eq-TEXT.false c.if-t-eq-WORD.true);
-      text_is = λ e. absurd (c.if-t-eq-TEXT.false e);
+      set_is = c.word_kind.ensures.set_is ∙ sym (kinds-word c.requires.stands (λ e. omega (arith, e, c.in-1.is)) c.in-1.is);
+      text_is = λ e. absurd (omega (arith, e, c.in-1.is));
       word_is = λ e. c.word_kind.ensures.own_is;
     }
 
-pub returns : goal.returns
-returns c =
+pub returns-in_default : goal.returns-in_default
+returns-in_default c =
     record {
-      set_is = sym (kinds-none c.requires.stands c.if-t-eq-TEXT.false c.if-t-eq-WORD.false);
-      text_is = λ e. absurd (c.if-t-eq-TEXT.false e);
-      word_is = λ e. absurd (c.if-t-eq-WORD.false e);
+      set_is = sym (kinds-none c.requires.stands (λ e. omega (arith, e)) (λ e. omega (arith, e)));
+      text_is = λ e. absurd (omega (arith, e));
+      word_is = λ e. absurd (omega (arith, e));
     }

@@ -7,6 +7,6 @@ pub returns-then-count-wide : goal.returns-then-count-wide
 unfolding missing_or
 returns-then-count-wide c = rw (← c.least.ensures.0, ← c.wide.ensures.is, lt-ltb _ _ c.if-count-wide.true)
 
-pub returns : goal.returns
+pub returns-else-count-wide : goal.returns-else-count-wide
 unfolding missing_or
-returns c = rw (← c.least.ensures.0, ← c.wide.ensures.is, le-ltb _ _ c.if-count-wide.false)
+returns-else-count-wide c = rw (← c.least.ensures.0, ← c.wide.ensures.is, le-ltb _ _ c.if-count-wide.false)

@@ -3,8 +3,9 @@ use Rattle.statements.specs.StatementLaws.{on}
 use Prim.Native.Nat.{ℕ}
 use mathlib.Core.Path.{refl, sym, ap, ◌∙◌}
 use native.Mathlib.Omega.{arith}
-use Rattle.arguments.specs.ArgumentLaws.{turned, colon-here, unlisted-here, colon-after-argument}
+use Rattle.arguments.specs.ArgumentLaws.{turned, taken-some, taken-none, colon-here, unlisted-here, colon-after-argument}
 use Rattle.arguments.specs.Arguments.{missing_or}
+use Rattle.forms.specs.Reading.{taken_at}
 use Rattle.arguments.specs.LeftLaws.{place-low}
 use Rattle.arguments.specs.ValueLaws.{mark-low, value-stood}
 use Rattle.arguments.specs.ReadLaws.{gathering-first, reads_so, gathering-on, all_read, refusable, refused}
@@ -34,16 +35,16 @@ returns-then-u-eq-COLON c = let l = c.loop-live in
 pub item_kind-k-requires : goal.item_kind-k-requires
 item_kind-k-requires c = record { stands = c.next_item-u.ensures.stands; low = c.requires.low }
 
-pub refuse-requires-then-a-eq45 : goal.refuse-requires-then-a-eq45
-refuse-requires-then-a-eq45 c = refusable c.requires c.loop-live.invariant
+pub refuse-requires-in_default : goal.refuse-requires-in_default
+refuse-requires-in_default c = refusable c.requires c.loop-live.invariant
 
-pub returns-then-a-eq45 : goal.returns-then-a-eq45
-returns-then-a-eq45 c = let l = c.loop-live in
+pub returns-in_default : goal.returns-in_default
+returns-in_default c = let l = c.loop-live in
     let here = sym c.stops.ensures ∙ c.if-stops.false in
-    let a = c.take_argument-a in
+    let a = taken_at c.args.op l.live l.place c.item_kind-k.result.set in
     refused c.requires l.invariant
-    (λ o h. unlisted-here o l.live l.place c.next_item-u.ensures here c.if-u-eq-COLON.false a.result (turned l.live l.place a.ensures c.item_kind-k.ensures.set_is o h) c.if-a-eq45.true)
-    c.refuse-then-a-eq45.ensures
+    (λ o h. unlisted-here o l.live l.place c.next_item-u.ensures here c.if-u-eq-COLON.false a (turned l.live l.place refl c.item_kind-k.ensures.set_is o h) (taken-none _ c.in_default.ensures))
+    c.refuse-in_default.ensures
 
 pub refuse-requires-then-u-ne0 : goal.refuse-requires-then-u-ne0
 refuse-requires-then-u-ne0 c = refusable c.requires c.loop-live.invariant
@@ -51,13 +52,13 @@ refuse-requires-then-u-ne0 c = refusable c.requires c.loop-live.invariant
 pub returns-then-u-ne0 : goal.returns-then-u-ne0
 returns-then-u-ne0 c = let l = c.loop-live in
     let here = sym c.stops.ensures ∙ c.if-stops.false in
-    let a = c.take_argument-a in
+    let a = taken-some _ c.in-Some.ensures in
     refused c.requires l.invariant
-    (λ o h. colon-after-argument o l.live l.place c.next_item-u.ensures here c.if-u-eq-COLON.false a.result (turned l.live l.place a.ensures c.item_kind-k.ensures.set_is o h) c.if-a-eq45.false c.if-u-ne0.true)
+    (λ o h. colon-after-argument o l.live l.place c.next_item-u.ensures here c.if-u-eq-COLON.false c.in-Some.a (turned l.live l.place a.0 c.item_kind-k.ensures.set_is o h) a.1 c.if-u-ne0.true)
     c.refuse-then-u-ne0.ensures
 
-pub value_by-x-requires : goal.value_by-x-requires
-value_by-x-requires c = mark-low (record { stands = c.next_item-u.ensures.stands; low = c.requires.low })
+pub value_by-requires : goal.value_by-requires
+value_by-requires c = mark-low (record { stands = c.next_item-u.ensures.stands; low = c.requires.low })
 
 pub overflow_add-place : goal.overflow_add-place
 overflow_add-place c = omega (arith, c.loop-live.invariant.few)
@@ -76,6 +77,7 @@ loop-live-preserved c =
     let here = sym c.stops.ensures ∙ c.if-stops.false in
     let kind = c.item_kind-k.ensures in
     let o = operator_of c.args.op in
-    let reads = reads_so c.loop-live.invariant k here c.if-u-eq-COLON.false c.take_argument-a.ensures kind.set_is c.if-a-eq45.false o c.requires.numbered in
-    gathering-on c.loop-live.invariant k here c.if-u-eq-COLON.false c.take_argument-a.ensures kind.set_is c.if-a-eq45.false o c.requires.numbered c.if-u-ne0.false refl
-    (value-stood (record { stands = k.stands; low = c.requires.low }) kind reads c.value_by-x.ensures) c.with_value-values.ensures c.worse-low.ensures
+    let a = taken-some _ c.in-Some.ensures in
+    let reads = reads_so c.loop-live.invariant k here c.if-u-eq-COLON.false a.0 kind.set_is a.1 o c.requires.numbered in
+    gathering-on c.loop-live.invariant k here c.if-u-eq-COLON.false a.0 kind.set_is a.1 o c.requires.numbered c.if-u-ne0.false refl
+    (value-stood (record { stands = k.stands; low = c.requires.low }) kind reads c.value_by.ensures) c.with_value-values.ensures c.worse-low.ensures

@@ -3,7 +3,8 @@ use Rattle.statements.specs.StatementLaws.{on}
 use mathlib.Core.Path.{sym, ap, ◌∙◌}
 use Prim.Native.Nat.{◌+◌}
 use native.Mathlib.Omega.{arith}
-use Rattle.arguments.specs.LeftLaws.{leaving-first, left_end, leaving-on, place-low, counts-on}
+use Rattle.arguments.specs.LeftLaws.{leaving-first, left_end, leaving-on, place-low}
+use Rattle.scanner.proofs.Loops.{byte-is}
 use Rattle.arguments.proofs.read_left.Goals as goal
 
 pub loop-over-init : goal.loop-over-init
@@ -14,11 +15,6 @@ next_item-t-requires c = c.loop-over.invariant.passing.within.most
 
 pub returns-then-stops : goal.returns-then-stops
 returns-then-stops c = left_end c.loop-over.invariant c.next_item-t.ensures (sym c.stops.ensures ∙ c.if-stops.true)
-
-pub overflow_add-count : goal.overflow_add-count
-overflow_add-count c =
-    let l = counts-on c.loop-over.invariant c.next_item-t.ensures (sym c.stops.ensures ∙ c.if-stops.false) c.one_if-count.ensures in
-    omega (arith, l, c.struct_known-in-loop-over-2-1.given)
 
 pub worse-low-requires : goal.worse-low-requires
 worse-low-requires c = place-low c.next_item-t.ensures.stands c.requires.low
@@ -32,4 +28,4 @@ pub loop-over-preserved : goal.loop-over-preserved
 loop-over-preserved c =
     let l = c.loop-over in
     leaving-on l.invariant c.next_item-t.ensures (sym c.stops.ensures ∙ c.if-stops.false) c.with_excess-over.ensures
-    (ap (λ x. l.count + x) c.one_if-count.ensures) c.worse-low.ensures
+    (ap (λ x. l.count + x) (c.from-count.ensures ∙ byte-is _)) c.worse-low.ensures

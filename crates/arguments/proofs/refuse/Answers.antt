@@ -11,7 +11,7 @@ pub read_left-left-requires : goal.read_left-left-requires
 read_left-left-requires c = c.requires.left
 
 pub overflow_add-before : goal.overflow_add-before
-overflow_add-before c = omega (arith, c.read_left-left.ensures.few, c.wide-before.ensures.most, c.requires.left.low, c.struct_known-1.given)
+overflow_add-before c = omega (arith, c.read_left-left.ensures.few, c.wide-before.ensures.most, c.requires.left.low)
 
 pub returns : goal.returns
 returns c = refusing c.wide-before.ensures.is (c.wide.ensures.is ∙ c.most.ensures.0) c.read_left-left.ensures c.missing_or.ensures

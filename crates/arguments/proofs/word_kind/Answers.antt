@@ -13,7 +13,7 @@ letter_bit-requires c = (letter-kind c.args.w.now (sym c.identifier.ensures ∙ 
 pub returns-in-At : goal.returns-in-At
 returns-in-At c =
     letter-read c.args.w.now (sym c.identifier.ensures ∙ c.if-identifier.true) (sym c.is_class.ensures ∙ c.if-is_class.false)
-    (sym c.in-At.is ∙ c.indexed.ensures) c.letter_bit.ensures.0 c.place_of.ensures c.letter_by.ensures c.wide.ensures
+    (sym c.in-At.is ∙ c.indexed.ensures) c.letter_bit.ensures.0 c.from.ensures c.letter_by.ensures c.wide.ensures
 
 pub returns-in-Not : goal.returns-in-Not
 returns-in-Not c = name-read c.args.w.now (sym c.identifier.ensures ∙ c.if-identifier.true) (sym c.is_class.ensures ∙ c.if-is_class.false) (sym c.in-Not.is ∙ c.indexed.ensures)

@@ -3,13 +3,13 @@ use Rattle.declaring.proofs.Judging.{numbers-enterable, judged, judged-by}
 use Rattle.declaring.proofs.judge_instruction.Goals as goal
 
 pub instruction_beyond-a-requires : goal.instruction_beyond-a-requires
-instruction_beyond-a-requires c = c.requires.over.held.holds.long
+instruction_beyond-a-requires c = c.requires.held.holds.long
 
 pub labels_beyond-b-requires : goal.labels_beyond-b-requires
-labels_beyond-b-requires c = c.requires.over
+labels_beyond-b-requires c = c.requires.held
 
 pub enter_text_values-c-requires : goal.enter_text_values-c-requires
-enter_text_values-c-requires c = c.requires.enterable
+enter_text_values-c-requires c = c.requires
 
 pub enter_number_values-d-requires : goal.enter_number_values-d-requires
 enter_number_values-d-requires c = numbers-enterable c.requires c.enter_text_values-c.ensures

@@ -1,57 +1,44 @@
 -- `declaring_switches::put_entries` meets its contract.
-use mathlib.Core.Path.{refl, ap, ◌∙◌}
-use Prim.Native.Nat.{ℕ, ◌+◌}
 use native.Mathlib.Omega.{arith}
-use Rattle.declaring_switches.proofs.Entries.{filling-first, inside, row-tellable, room-for-entry, filling-more, filled-all, held-is}
+use Rattle.declaring_switches.proofs.Entries.{filling-first, row-tellable, room-for-entry, filling-more, filled-all, held-is}
+use Rattle.declaring_switches.proofs.Rows.{part-end, part-place, part-cell}
 use Rattle.declaring_switches.proofs.put_entries.Goals as goal
 
-pub entries-k-requires : goal.entries-k-requires
-entries-k-requires c = c.requires.held.holds.long
+pub entries-held-requires : goal.entries-held-requires
+entries-held-requires c = c.requires.held.holds.long
 
 pub overflow_add-end : goal.overflow_add-end
-overflow_add-end c =
-    let g = c.requires in omega (arith, g.room, held-is g, c.entries-k.ensures.is)
+overflow_add-end c = omega (arith, c.requires.room, held-is c.requires, c.entries-held.ensures.is)
 
-pub loop-k-init : goal.loop-k-init
-loop-k-init c = (refl, λ d g e. filling-first g c.entries-k.ensures.is)
+pub slice_bounds-cell-items-end : goal.slice_bounds-cell-items-end
+slice_bounds-cell-items-end c = omega (arith, c.requires.room, held-is c.requires, c.entries-held.ensures.is, c.requires.list.text_room)
 
-pub read-requires : goal.read-requires
-read-requires c =
-    let g = c.requires in
-    let e = ap (λ (m : ℕ). m + c.args.d.words) c.entries-k.ensures.is in
-    let u = c.loop-k.invariant.1 c.args.d g e in
-    inside g u (omega (arith, e, c.loop-k-test.true))
+pub loop-cell-init : goal.loop-cell-init
+loop-cell-init c = filling-first c.requires (omega arith)
 
 pub cell_ref-v-requires : goal.cell_ref-v-requires
 cell_ref-v-requires c =
-    let g = c.requires in
-    let e = ap (λ (m : ℕ). m + c.args.d.words) c.entries-k.ensures.is in
-    let u = c.loop-k.invariant.1 c.args.d g e in
-    row-tellable g u (omega (arith, e, c.loop-k-test.true)) c.read.ensures.is
+    let tx = c.args.texts.now in
+    let q = c.entries-held.ensures.is in
+    let l = c.loop-cell-test.true in
+    row-tellable c.requires c.loop-cell.invariant (omega (arith, part-place tx _ _ q l, q)) (part-cell tx _ _ q l)
 
 pub put_entry-requires : goal.put_entry-requires
 put_entry-requires c =
-    let g = c.requires in
-    let e = ap (λ (m : ℕ). m + c.args.d.words) c.entries-k.ensures.is in
-    let u = c.loop-k.invariant.1 c.args.d g e in
-    room-for-entry g u (omega (arith, e, c.loop-k-test.true)) c.read.ensures.is c.cell_ref-v.ensures
+    let tx = c.args.texts.now in
+    let q = c.entries-held.ensures.is in
+    let l = c.loop-cell-test.true in
+    room-for-entry c.requires c.loop-cell.invariant (omega (arith, part-place tx _ _ q l, q)) (part-cell tx _ _ q l) c.cell_ref-v.ensures
 
-pub overflow_add-k : goal.overflow_add-k
-overflow_add-k c =
-    let g = c.requires in omega (arith, c.loop-k-test.true, g.room, held-is g, c.entries-k.ensures.is)
-
-pub loop-k-smaller : goal.loop-k-smaller
-loop-k-smaller c = omega (arith, c.loop-k-test.true)
-
-pub loop-k-preserved : goal.loop-k-preserved
-loop-k-preserved c = (
-  (omega arith) ∙ c.loop-k.invariant.0,
-  λ d g e. filling-more g (c.loop-k.invariant.1 d g e) (omega (arith, e, c.loop-k-test.true)) c.read.ensures.is c.cell_ref-v.ensures c.put_entry.ensures,
-)
+pub loop-cell-preserved : goal.loop-cell-preserved
+loop-cell-preserved c =
+    let tx = c.args.texts.now in
+    let q = c.entries-held.ensures.is in
+    let l = c.loop-cell-test.true in
+    filling-more c.requires c.loop-cell.invariant (omega (arith, part-place tx _ _ q l, q)) (part-cell tx _ _ q l) c.cell_ref-v.ensures c.put_entry.ensures (omega arith)
 
 pub returns : goal.returns
 returns c =
-    let g = c.requires in
-    let e = ap (λ (m : ℕ). m + c.args.d.words) c.entries-k.ensures.is in
-    let u = c.loop-k.invariant.1 c.args.d g e in
-    filled-all g u (omega (arith, e, c.loop-k-test.false))
+    let q = c.entries-held.ensures.is in
+    filled-all c.requires c.loop-cell.invariant
+    (omega (arith, part-end c.args.texts.now _ _ q (omega (arith, c.requires.room, held-is c.requires, q, c.requires.list.text_room)) c.loop-cell-test.false, q))

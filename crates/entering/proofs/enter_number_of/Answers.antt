@@ -4,7 +4,7 @@ use Rattle.entering.proofs.Adding.{no_number, number-none, number_small, number-
 use Rattle.entering.proofs.enter_number_of.Goals as goal
 
 pub returns-then-not-is_large : goal.returns-then-not-is_large
-returns-then-not-is_large c = λ s i h. number_small h c.in-Number.is c.is_large.ensures (c.if-not-is_large.true)
+returns-then-not-is_large c = λ s i h. rw c.if-not-is_large.true (number_small h c.in-Number.is c.is_large.ensures (c.if-not-is_large.true))
 
 pub add_number-requires : goal.add_number-requires
 add_number-requires c = c.requires

@@ -1,34 +1,7 @@
 -- `forms::most` meets its contract.
-use mathlib.Core.Path.{sym, ◌∙◌}
+use Rattle.std.proofs.Common.{rules, refl}
 use Rattle.forms.proofs.Tables.{most-counted}
-use borrow.Author.Rules.{rules}
-use borrow.Author.Tests.{eq-eqb, ne_eqb}
-use native.Mathlib.Omega.{arith}
 use Rattle.forms.proofs.most.Goals as goal
 
-pub alternatives-requires : goal.alternatives-requires
-alternatives-requires c = search rules
-
-pub returns-then-alternatives-eq0 : goal.returns-then-alternatives-eq0
-returns-then-alternatives-eq0 c = (rw (eq-eqb _ 0 (sym c.alternatives.ensures ∙ c.if-alternatives-eq0.true)) at (most-counted c.args.op (search rules)), search rules)
-
-pub first_list-p-requires : goal.first_list-p-requires
-first_list-p-requires c = search rules
-
-pub not_empty-requires : goal.not_empty-requires
-not_empty-requires c = search rules
-
-pub not_empty-requires-2 : goal.not_empty-requires-2
-not_empty-requires-2 c = search rules
-
-pub overflow_add-result : goal.overflow_add-result
-overflow_add-result c = search rules
-
-pub not_empty-requires-3 : goal.not_empty-requires-3
-not_empty-requires-3 c = search rules
-
-pub overflow_add-result-2 : goal.overflow_add-result-2
-overflow_add-result-2 c = search rules
-
 pub returns : goal.returns
-returns c = (rw (c.not_empty.ensures.0, c.not_empty-2.ensures.0, c.not_empty-3.ensures.0, c.first_list-p.ensures.0, c.first_list-p.ensures.1, c.first_list-p.ensures.2) (rw (ne_eqb _ 0 (λ e. c.if-alternatives-eq0.false (c.alternatives.ensures ∙ e))) at (most-counted c.args.op (search rules))), omega (arith, c.not_empty.ensures.1, c.not_empty-2.ensures.1, c.not_empty-3.ensures.1))
+returns c = let h = most-counted c.args.op (search rules) in rw (c.not_empty.ensures, c.first_list.ensures, h.0) (refl, h.1)

@@ -1,19 +1,10 @@
 -- `headings::after_fault` meets its contract.
 use mathlib.Core.Path.{sym, ◌∙◌}
-use Rattle.headings.specs.HeadingLaws.{after-konp, after-other, after-kons, after_none}
+use Rattle.headings.specs.HeadingLaws.{after-konp, after-kons}
 use Rattle.headings.proofs.after_fault.Goals as goal
-
-pub is_named-requires : goal.is_named-requires
-is_named-requires c = c.requires
 
 pub returns-then-is_konp : goal.returns-then-is_konp
 returns-then-is_konp c = λ n w g k. after-konp g k c.args.section (sym c.is_konp.ensures ∙ c.if-is_konp.true) c.is_named.ensures c.name_fault.ensures
-
-pub returns-then-not-is_kons : goal.returns-then-not-is_kons
-returns-then-not-is_kons c = λ n w g k. after-other g c.args.section (sym c.is_konp.ensures ∙ c.if-is_konp.false) (sym c.is_kons.ensures ∙ c.if-not-is_kons.true)
-
-pub returns-then-stops : goal.returns-then-stops
-returns-then-stops c = λ n w g k. after_none g k c.args.section (sym c.is_konp.ensures ∙ c.if-is_konp.false) (sym c.is_kons.ensures ∙ c.if-not-is_kons.false) (sym c.stops.ensures ∙ c.if-stops.true)
 
 pub returns : goal.returns
 returns c = λ n w g k. after-kons g k c.args.section (sym c.is_konp.ensures ∙ c.if-is_konp.false) (sym c.is_kons.ensures ∙ c.if-not-is_kons.false) (sym c.stops.ensures ∙ c.if-stops.false) c.name_fault-2.ensures

@@ -9,9 +9,6 @@ returns-then-head-op c = λ n w g k. first-in_front g c.if-head-op.true
 pub returns-then-stops : goal.returns-then-stops
 returns-then-stops c = λ n w g k. first-empty g c.if-head-op.false (sym c.stops.ensures ∙ c.if-stops.true)
 
-pub is_name-requires : goal.is_name-requires
-is_name-requires c = c.requires
-
 pub returns-then-opens : goal.returns-then-opens
 returns-then-opens c = λ n w g k. first-named g c.if-head-op.false (sym c.stops.ensures ∙ c.if-stops.false) (sym c.opens.ensures ∙ c.if-opens.true) k c.is_name.ensures c.name_fault.ensures
 

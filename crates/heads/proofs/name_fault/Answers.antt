@@ -7,9 +7,6 @@ use Prim.Native.Nat.{ℕ}
 use Rattle.scanner.specs.Below.SyntaxVerdict as spec
 use Rattle.heads.proofs.name_fault.Goals as goal
 
-pub returns-then-is_name : goal.returns-then-is_name
-returns-then-is_name c = let at : ℕ = c.args.at in ap (λ (b : Bool). fault_of (cond b [] (at ∷ []))) (sym c.if-is_name.true ∙ c.is_name.ensures)
-
-pub returns : goal.returns
+pub returns-else-is_name : goal.returns-else-is_name
 unfolding spec.lowest
-returns c = let at : ℕ = c.args.at in ap (λ (b : Bool). fault_of (cond b [] (at ∷ []))) (sym c.if-is_name.false ∙ c.is_name.ensures)
+returns-else-is_name c = let at : ℕ = c.args.at in ap (λ (b : Bool). fault_of (cond b [] (at ∷ []))) (sym c.if-is_name.false ∙ c.is_name.ensures)

@@ -6,6 +6,7 @@ use lib.Dec.{eqb}
 use Rattle.statements.specs.Faults.{lower}
 use Rattle.heads.specs.HeadLaws.{one_at_most}
 use Rattle.heads.proofs.Reading.{reading-first, movable, place-low, length-low, none_read, head_read, still-reading, goes_on, room-left}
+use Rattle.scanner.proofs.Loops.{byte-is}
 use Rattle.heads.proofs.read_head.Goals as goal
 
 pub loop-t-init : goal.loop-t-init
@@ -48,7 +49,7 @@ bounds-names-c c =
     room-left c.loop-t.invariant c.next_item-t.ensures c.moved-o.ensures z
 
 pub overflow_add-c : goal.overflow_add-c
-overflow_add-c c = omega (arith, c.loop-t.invariant, one_at_most (eqb 1 c.moved-o.result.sort) c.one_if-c.ensures)
+overflow_add-c c = omega (arith, c.loop-t.invariant, one_at_most (eqb 1 c.moved-o.result.sort) (c.from-c.ensures ∙ byte-is _))
 
 pub loop-t-smaller : goal.loop-t-smaller
 loop-t-smaller c =
@@ -66,4 +67,4 @@ loop-t-preserved c =
     let w = c.worse-worst.ensures in
     let y = sym c.is_operator.ensures ∙ c.if-is_operator.false in
     let e = c.lower-fault.ensures ∙ ap (lower c.loop-t.fault) c.name_fault.ensures in
-    still-reading u k g f z w y e c.mark.ensures (ap (λ m. c.loop-t.c + m) c.one_if-c.ensures)
+    still-reading u k g f z w y e c.mark.ensures (ap (λ m. c.loop-t.c + m) (c.from-c.ensures ∙ byte-is _))

@@ -12,7 +12,7 @@ returns-then-bars-is_foreign c =
     λ s n g. operator-barred g c.args.english
     (either c.bars.ensures c.is_foreign.ensures c.if-bars-is_foreign.true) c.lower.ensures
 
-pub returns : goal.returns
-returns c =
+pub returns-else-bars-is_foreign : goal.returns-else-bars-is_foreign
+returns-else-bars-is_foreign c =
     λ s n g. operator-known g c.args.english
     (either c.bars.ensures c.is_foreign.ensures c.if-bars-is_foreign.false)

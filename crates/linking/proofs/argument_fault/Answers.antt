@@ -1,31 +1,32 @@
 -- `linking::argument_fault` meets its contract.
 use native.Mathlib.Omega.{arith}
+use mathlib.Core.Path.{refl, sym, ◌∙◌}
 use Rattle.linking.proofs.Uses.{argument-other, argument-noted}
+use Rattle.linking.specs.Lookup.{role_kind, role_named}
 use Rattle.linking.proofs.argument_fault.Goals as goal
 
-pub overflow_mul-k : goal.overflow_mul-k
-overflow_mul-k c = let a = c.requires in omega (arith, a.at.there, a.at.asking.holds.tabular.code_most, a.place)
+pub overflow_mul-x : goal.overflow_mul-x
+overflow_mul-x c = let a = c.requires in omega (arith, a.at.there, a.at.asking.holds.tabular.code_most, a.place)
 
-pub overflow_add-k : goal.overflow_add-k
-overflow_add-k c = let a = c.requires in omega (arith, a.at.there, a.at.asking.holds.tabular.code_most, a.place)
+pub overflow_add-x : goal.overflow_add-x
+overflow_add-x c = let a = c.requires in omega (arith, a.at.there, a.at.asking.holds.tabular.code_most, a.place)
 
-pub overflow_add-k-2 : goal.overflow_add-k-2
-overflow_add-k-2 c = let a = c.requires in omega (arith, a.at.there, a.at.asking.holds.tabular.code_most, a.place)
+pub overflow_add-x-2 : goal.overflow_add-x-2
+overflow_add-x-2 c = let a = c.requires in omega (arith, a.at.there, a.at.asking.holds.tabular.code_most, a.place)
 
-pub overflow_add-k-3 : goal.overflow_add-k-3
-overflow_add-k-3 c = let a = c.requires in omega (arith, a.at.there, a.at.asking.holds.tabular.code_most, a.place)
+pub overflow_add-x-3 : goal.overflow_add-x-3
+overflow_add-x-3 c = let a = c.requires in omega (arith, a.at.there, a.at.asking.holds.tabular.code_most, a.place)
 
-pub read-x-requires : goal.read-x-requires
-read-x-requires c = let a = c.requires in omega (arith, a.at.there, a.at.asking.holds.tabular.code_most, a.place, a.at.asking.holds.long)
+pub bounds-table-k : goal.bounds-table-k
+bounds-table-k c = let a = c.requires in omega (arith, a.at.there, a.at.asking.holds.tabular.code_most, a.place, a.at.asking.holds.long)
 
 pub returns-then-x-kind : goal.returns-then-x-kind
 returns-then-x-kind c =
     let a = c.args in
-    let read = c.read-x in
-    rw c.rebuilt.ensures (argument-other a.text.now a.sw.now a.table.now a.kind a.named a.k a.j a.f read.result c.requires read.ensures.is c.if-x-kind.true)
+    rw c.rebuilt.ensures (argument-other a.text.now a.sw.now a.table.now (role_kind a.role) (role_named a.role) a.k a.j a.f _ c.requires refl (λ e. c.if-x-kind.true (e ∙ sym c.kind.ensures)))
 
 pub is_known-requires : goal.is_known-requires
 is_known-requires c = c.requires.at.asking
 
 pub returns : goal.returns
-returns c = argument-noted c.args.text.now c.args.sw.now c.args.table.now c.args.kind c.args.named c.args.k c.args.j c.args.f c.read-x.result (c.requires) c.read-x.ensures.is c.if-x-kind.false c.is_known.ensures c.note.ensures
+returns c = argument-noted c.args.text.now c.args.sw.now c.args.table.now (role_kind c.args.role) (role_named c.args.role) c.args.k c.args.j c.args.f _ c.requires refl (c.if-x-kind.false ∙ c.kind.ensures) c.is_known.ensures c.note.ensures

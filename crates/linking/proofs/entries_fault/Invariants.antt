@@ -1,10 +1,6 @@
 -- `linking::entries_fault` meets its contract.
-use Prim.Native.Nat.{◌-◌}
 use Rattle.linking.proofs.Faults.{EntriesGoing}
 use Rattle.linking.proofs.entries_fault.Given as goal
 
-abbrev pub invariant-loop-k : goal.invariant-loop-k
-invariant-loop-k l = EntriesGoing l.text l.sw l.table l.en l.initial.g l.k l.g
-
-abbrev pub decreases-loop-k : goal.decreases-loop-k
-decreases-loop-k l = l.n - l.k
+abbrev pub invariant-loop-mark : goal.invariant-loop-mark
+invariant-loop-mark l = EntriesGoing l.text l.sw l.table l.en l.initial.g l.mark-index l.g

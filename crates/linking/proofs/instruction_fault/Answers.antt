@@ -2,6 +2,7 @@
 use native.Mathlib.Omega.{arith}
 use mathlib.Core.Path.{sym, ◌∙◌}
 use Rattle.linking.proofs.Uses.{instr-other, instr-noted}
+use Rattle.linking.specs.Lookup.{role_kind, role_named}
 use Rattle.linking.proofs.instruction_fault.Goals as goal
 
 pub operator-requires : goal.operator-requires
@@ -17,10 +18,10 @@ pub argument_fault-requires : goal.argument_fault-requires
 argument_fault-requires c = record { at = c.requires; place = omega arith }
 
 pub returns-then-is_asked : goal.returns-then-is_asked
-returns-then-is_asked c = instr-noted c.args.text.now c.args.sw.now c.args.table.now c.args.kind c.args.named c.args.k c.args.f (c.requires) c.operator.result c.operator.ensures.is (sym c.is_asked.ensures ∙ c.if-is_asked.true) c.argument_fault-a.ensures c.argument_fault-b.ensures c.argument_fault.ensures
+returns-then-is_asked c = instr-noted c.args.text.now c.args.sw.now c.args.table.now (role_kind c.args.role) (role_named c.args.role) c.args.k c.args.f (c.requires) c.operator.result c.operator.ensures.is (sym c.is_asked.ensures ∙ c.if-is_asked.true) c.argument_fault-a.ensures c.argument_fault-b.ensures c.argument_fault.ensures
 
 pub returns : goal.returns
 returns c =
     let a = c.args in
     let o = c.operator in
-    rw c.rebuilt.ensures (instr-other a.text.now a.sw.now a.table.now a.kind a.named a.k a.f c.requires o.result o.ensures.is (sym c.is_asked.ensures ∙ c.if-is_asked.false))
+    rw c.rebuilt.ensures (instr-other a.text.now a.sw.now a.table.now (role_kind a.role) (role_named a.role) a.k a.f c.requires o.result o.ensures.is (sym c.is_asked.ensures ∙ c.if-is_asked.false))

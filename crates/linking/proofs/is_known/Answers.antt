@@ -1,4 +1,7 @@
 -- `linking::is_known` meets its contract.
+use native.Mathlib.Omega.{arith}
+use mathlib.Core.Bool.{true, false}
+use mathlib.Core.Path.{refl}
 use Rattle.finding.proofs.Found.{labels-counted}
 use Rattle.linking.proofs.Uses.{label-known, switch-known}
 use Rattle.linking.proofs.is_known.Goals as goal
@@ -6,11 +9,11 @@ use Rattle.linking.proofs.is_known.Goals as goal
 pub label_place-requires : goal.label_place-requires
 label_place-requires c = labels-counted _ _ c.requires.holds
 
-pub labels-requires : goal.labels-requires
-labels-requires c = c.requires.holds.long
+pub returns-in-Label : goal.returns-in-Label
+returns-in-Label c = rw c.in-Label.is (label-known c.args.text.now c.args.sw.now _ _ true c.args.m refl c.label_place.ensures c.is_some.ensures)
 
-pub returns-then-kind-eq-LABEL : goal.returns-then-kind-eq-LABEL
-returns-then-kind-eq-LABEL c = label-known c.args.text.now c.args.sw.now c.args.table.now c.args.kind c.args.named c.args.m c.label_place.result c.labels.result c.if-kind-eq-LABEL.true c.label_place.ensures c.labels.ensures.is
+pub returns-in-Named : goal.returns-in-Named
+returns-in-Named c = rw c.in-Named.is (switch-known c.args.text.now c.args.sw.now c.args.table.now 3 true c.args.m (λ e. omega (arith, e)) c.has_switch.ensures)
 
-pub returns : goal.returns
-returns c = switch-known c.args.text.now c.args.sw.now c.args.table.now c.args.kind c.args.named c.args.m c.if-kind-eq-LABEL.false c.has_switch.ensures
+pub returns-in-Indexed : goal.returns-in-Indexed
+returns-in-Indexed c = rw c.in-Indexed.is (switch-known c.args.text.now c.args.sw.now c.args.table.now 3 false c.args.m (λ e. omega (arith, e)) c.has_switch-in-Indexed.ensures)

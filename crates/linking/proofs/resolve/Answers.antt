@@ -1,25 +1,26 @@
 -- `linking::resolve` meets its contract.
+use borrow.Author.Rules.{rules}
 use Rattle.linking.proofs.Answers.{no_label, no_switch, entries-labelled, all-linked}
 use Rattle.linking.proofs.Faults.{asking}
 use Rattle.linking.proofs.resolve.Goals as goal
 
-pub undeclared_label-f-requires : goal.undeclared_label-f-requires
-undeclared_label-f-requires c = c.requires
+pub undeclared_label-requires : goal.undeclared_label-requires
+undeclared_label-requires c = c.requires
 
-pub undeclared_switch-g-requires : goal.undeclared_switch-g-requires
-undeclared_switch-g-requires c = c.requires
+pub undeclared_switch-requires : goal.undeclared_switch-requires
+undeclared_switch-requires c = c.requires
 
 pub resolve_code-requires : goal.resolve_code-requires
 resolve_code-requires c = asking c.requires
 
 pub resolve_entries-requires : goal.resolve_entries-requires
-resolve_entries-requires c = entries-labelled c.args.text.now c.args.table.now c.args.sw.now c.args.en.now c.undeclared_label-f.ensures c.in-Clear.is c.requires c.resolve_code.ensures
-
-pub returns-in-Clear-g : goal.returns-in-Clear-g
-returns-in-Clear-g c = all-linked c.args.text.now c.args.table.now c.args.sw.now c.args.en.now c.undeclared_label-f.ensures c.in-Clear.is c.undeclared_switch-g.ensures c.in-Clear-g.is c.resolve_code.ensures c.resolve_entries.ensures
-
-pub returns-in-At-g : goal.returns-in-At-g
-returns-in-At-g c = no_switch c.args.text.now c.args.table.now c.args.sw.now c.args.en.now c.undeclared_label-f.ensures c.in-Clear.is c.in-At-g.p c.undeclared_switch-g.ensures c.in-At-g.is
+resolve_entries-requires c = entries-labelled c.args.text.now c.args.table.now c.args.sw.now c.args.en.now c.undeclared_label.ensures (search rules) c.requires c.resolve_code.ensures
 
 pub returns-in-At : goal.returns-in-At
-returns-in-At c = no_label c.args.text.now c.args.table.now c.args.sw.now c.args.en.now c.in-At.p c.undeclared_label-f.ensures c.in-At.is
+returns-in-At c = no_label c.args.text.now c.args.table.now c.args.sw.now c.args.en.now c.in-At.p c.undeclared_label.ensures c.in-At.is
+
+pub returns-in-At-undeclared_switch : goal.returns-in-At-undeclared_switch
+returns-in-At-undeclared_switch c = no_switch c.args.text.now c.args.table.now c.args.sw.now c.args.en.now c.undeclared_label.ensures (search rules) c.in-At-undeclared_switch.p c.undeclared_switch.ensures c.in-At-undeclared_switch.is
+
+pub returns : goal.returns
+returns c = all-linked c.args.text.now c.args.table.now c.args.sw.now c.args.en.now c.undeclared_label.ensures (search rules) c.undeclared_switch.ensures (search rules) c.resolve_code.ensures c.resolve_entries.ensures

@@ -1,59 +1,61 @@
 -- `linking::resolve_argument` meets its contract.
 use native.Mathlib.Omega.{arith}
-use Prim.Native.Nat.{◌/◌}
+use mathlib.Core.Path.{refl, sym}
+use lib.Seq.{length-take-le}
 use Rattle.finding.proofs.Found.{labels-counted}
 use Rattle.writing.proofs.Rooms.{argument-place}
 use Rattle.linking.proofs.Steps.{label-put, switch-put, none-put, switch-low}
+use Rattle.linking.proofs.Switches.{place-or}
 use Rattle.linking.proofs.Uses.{switches_fit}
 use Rattle.linking.proofs.resolve_argument.Goals as goal
 
-pub overflow_mul-k : goal.overflow_mul-k
-overflow_mul-k c = let a = c.requires in omega (arith, a.at.there, a.at.asking.holds.tabular.code_most, a.place)
+pub overflow_mul-x : goal.overflow_mul-x
+overflow_mul-x c = let a = c.requires in omega (arith, a.at.there, a.at.asking.holds.tabular.code_most, a.place)
 
-pub overflow_add-k : goal.overflow_add-k
-overflow_add-k c = let a = c.requires in omega (arith, a.at.there, a.at.asking.holds.tabular.code_most, a.place)
+pub overflow_add-x : goal.overflow_add-x
+overflow_add-x c = let a = c.requires in omega (arith, a.at.there, a.at.asking.holds.tabular.code_most, a.place)
 
-pub overflow_add-k-2 : goal.overflow_add-k-2
-overflow_add-k-2 c = let a = c.requires in omega (arith, a.at.there, a.at.asking.holds.tabular.code_most, a.place)
+pub overflow_add-x-2 : goal.overflow_add-x-2
+overflow_add-x-2 c = let a = c.requires in omega (arith, a.at.there, a.at.asking.holds.tabular.code_most, a.place)
 
-pub overflow_add-k-3 : goal.overflow_add-k-3
-overflow_add-k-3 c = let a = c.requires in omega (arith, a.at.there, a.at.asking.holds.tabular.code_most, a.place)
+pub overflow_add-x-3 : goal.overflow_add-x-3
+overflow_add-x-3 c = let a = c.requires in omega (arith, a.at.there, a.at.asking.holds.tabular.code_most, a.place)
 
-pub read-x-requires : goal.read-x-requires
-read-x-requires c = let a = c.requires in omega (arith, a.at.there, a.at.asking.holds.tabular.code_most, a.place, a.at.asking.holds.long)
+pub bounds-table-k : goal.bounds-table-k
+bounds-table-k c = let a = c.requires in omega (arith, a.at.there, a.at.asking.holds.tabular.code_most, a.place, a.at.asking.holds.long)
 
-pub label_place-v-requires : goal.label_place-v-requires
-label_place-v-requires c = labels-counted _ _ c.requires.at.asking.holds
+pub label_for-v-requires : goal.label_for-v-requires
+label_for-v-requires c = labels-counted _ _ c.requires.at.asking.holds
 
 pub overflow_mul-v : goal.overflow_mul-v
-overflow_mul-v c = omega (arith, c.label_place-v.ensures.most)
+overflow_mul-v c = omega (arith, c.label_for-v.ensures.most)
 
 pub overflow_add-v : goal.overflow_add-v
-overflow_add-v c = omega (arith, c.label_place-v.ensures.most)
+overflow_add-v c = omega (arith, c.label_for-v.ensures.most)
 
 pub set_argument-requires : goal.set_argument-requires
-set_argument-requires c = argument-place _ _ c.requires.at.asking.holds _ _ _ c.requires.at.there c.requires.place (omega (arith, c.label_place-v.ensures.most))
+set_argument-requires c = argument-place _ _ c.requires.at.asking.holds _ _ _ c.requires.at.there c.requires.place (omega (arith, c.label_for-v.ensures.most))
 
 pub returns-then-x-eq-LABEL : goal.returns-then-x-eq-LABEL
-returns-then-x-eq-LABEL c = label-put c.args.text.now c.args.sw.now c.args.table.now c.args.k c.args.j c.read-x.result (c.requires) c.read-x.ensures.is c.label_place-v.result c.if-x-eq-LABEL.true c.label_place-v.ensures c.set_argument.ensures
+returns-then-x-eq-LABEL c = label-put c.args.text.now c.args.sw.now c.args.table.now c.args.k c.args.j _ c.requires refl c.label_for-v.result c.if-x-eq-LABEL.true c.label_for-v.ensures c.set_argument.ensures
 
-pub switches-requires : goal.switches-requires
-switches-requires c = c.requires.at.asking.holds.long
+pub switches-n-requires : goal.switches-n-requires
+switches-n-requires c = c.requires.at.asking.holds.long
 
-pub switch_place-v-requires : goal.switch_place-v-requires
-switch_place-v-requires c = switches_fit c.switches.result c.requires.at.asking c.switches.ensures.is
+pub slice_bounds-switch_place-end : goal.slice_bounds-switch_place-end
+slice_bounds-switch_place-end c = sym (length-take-le _ _ (switches_fit c.switches-n.result c.requires.at.asking c.switches-n.ensures.is))
 
 pub overflow_mul-v-then-x-eq-SWITCH : goal.overflow_mul-v-then-x-eq-SWITCH
-overflow_mul-v-then-x-eq-SWITCH c = omega (arith, switch-low c.args.text.now c.args.sw.now c.switches.result (c.read-x.result / 8) c.switch_place-v.result c.requires.at.asking c.switches.ensures.is c.switch_place-v.ensures)
+overflow_mul-v-then-x-eq-SWITCH c = omega (arith, switch-low c.args.text.now c.args.sw.now c.switches-n.result _ c.unwrap_or-v.result c.requires.at.asking c.switches-n.ensures.is (place-or c.args.text.now c.args.sw.now _ _ (switches_fit _ c.requires.at.asking c.switches-n.ensures.is) c.switch_place.ensures c.unwrap_or-v.ensures))
 
 pub overflow_add-v-then-x-eq-SWITCH : goal.overflow_add-v-then-x-eq-SWITCH
-overflow_add-v-then-x-eq-SWITCH c = omega (arith, switch-low c.args.text.now c.args.sw.now c.switches.result (c.read-x.result / 8) c.switch_place-v.result c.requires.at.asking c.switches.ensures.is c.switch_place-v.ensures)
+overflow_add-v-then-x-eq-SWITCH c = omega (arith, switch-low c.args.text.now c.args.sw.now c.switches-n.result _ c.unwrap_or-v.result c.requires.at.asking c.switches-n.ensures.is (place-or c.args.text.now c.args.sw.now _ _ (switches_fit _ c.requires.at.asking c.switches-n.ensures.is) c.switch_place.ensures c.unwrap_or-v.ensures))
 
 pub set_argument-requires-then-x-eq-SWITCH : goal.set_argument-requires-then-x-eq-SWITCH
-set_argument-requires-then-x-eq-SWITCH c = argument-place _ _ c.requires.at.asking.holds _ _ _ c.requires.at.there c.requires.place (omega (arith, switch-low c.args.text.now c.args.sw.now c.switches.result (c.read-x.result / 8) c.switch_place-v.result c.requires.at.asking c.switches.ensures.is c.switch_place-v.ensures))
+set_argument-requires-then-x-eq-SWITCH c = argument-place _ _ c.requires.at.asking.holds _ _ _ c.requires.at.there c.requires.place (omega (arith, switch-low c.args.text.now c.args.sw.now c.switches-n.result _ c.unwrap_or-v.result c.requires.at.asking c.switches-n.ensures.is (place-or c.args.text.now c.args.sw.now _ _ (switches_fit _ c.requires.at.asking c.switches-n.ensures.is) c.switch_place.ensures c.unwrap_or-v.ensures)))
 
 pub returns-then-x-eq-SWITCH : goal.returns-then-x-eq-SWITCH
-returns-then-x-eq-SWITCH c = switch-put c.args.text.now c.args.sw.now c.args.table.now c.args.k c.args.j c.read-x.result (c.requires) c.read-x.ensures.is c.switches.result c.switch_place-v.result c.if-x-eq-SWITCH.true c.switches.ensures.is c.switch_place-v.ensures c.set_argument-then-x-eq-SWITCH.ensures
+returns-then-x-eq-SWITCH c = switch-put c.args.text.now c.args.sw.now c.args.table.now c.args.k c.args.j _ c.requires refl c.switches-n.result c.unwrap_or-v.result c.if-x-eq-SWITCH.true c.switches-n.ensures.is (place-or c.args.text.now c.args.sw.now _ _ (switches_fit _ c.requires.at.asking c.switches-n.ensures.is) c.switch_place.ensures c.unwrap_or-v.ensures) c.set_argument-then-x-eq-SWITCH.ensures
 
 pub returns : goal.returns
-returns c = none-put c.args.text.now c.args.sw.now c.args.table.now c.args.k c.args.j c.read-x.result (c.requires) c.read-x.ensures.is c.if-x-eq-LABEL.false c.if-x-eq-SWITCH.false
+returns c = none-put c.args.text.now c.args.sw.now c.args.table.now c.args.k c.args.j _ c.requires refl c.if-x-eq-LABEL.false c.if-x-eq-SWITCH.false

@@ -3,4 +3,4 @@ use Rattle.linking.proofs.Switches.{word_cut}
 use Rattle.linking.proofs.word.Goals as goal
 
 pub returns : goal.returns
-returns c = word_cut _ _ _ _ c.lesser-a.ensures c.lesser-b.ensures
+returns c = word_cut _ _ _ _ c.min-a.ensures c.min-b.ensures

@@ -7,10 +7,10 @@ pub read_statements-requires : goal.read_statements-requires
 read_statements-requires c = unread c.requires refl refl
 
 pub finish-requires : goal.finish-requires
-finish-requires c = finishable c.requires c.read_statements.ensures c.in-Statement.p c.in-Statement.is
+finish-requires c = finishable c.requires c.read_statements.ensures c.in-Ok.p c.in-Ok.is
 
-pub returns-in-Refused : goal.returns-in-Refused
-returns-in-Refused c = text-refused c.requires c.read_statements.ensures c.in-Refused.number c.in-Refused.at c.in-Refused.is
+pub returns-in-Err : goal.returns-in-Err
+returns-in-Err c = text-refused c.requires c.read_statements.ensures c.in-Err.r c.in-Err.is
 
-pub returns-in-Statement : goal.returns-in-Statement
-returns-in-Statement c = text-finished c.requires c.read_statements.ensures c.in-Statement.p c.in-Statement.is c.finish.ensures
+pub returns-in-Ok : goal.returns-in-Ok
+returns-in-Ok c = text-finished c.requires c.read_statements.ensures c.in-Ok.p c.in-Ok.is c.finish.ensures

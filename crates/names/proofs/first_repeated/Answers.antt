@@ -12,9 +12,6 @@ met_before-requires c =
     let l = c.loop-k-test.true in
     record { most = omega (arith, p.most); marked = λ j h. p.marked j (omega arith) }
 
-pub loop-k-smaller : goal.loop-k-smaller
-loop-k-smaller c = omega (arith, c.loop-k-test.true)
-
 pub loop-k-preserved : goal.loop-k-preserved
 loop-k-preserved c =
     repeating-more c.args.text.now c.args.names.now c.args.from c.args.to c.requires.most c.loop-k.invariant c.loop-k-test.true c.met_before.ensures c.lower-fault.ensures

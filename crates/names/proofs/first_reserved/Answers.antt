@@ -17,9 +17,6 @@ own_reserved-requires c =
     let p = c.requires in
     subst (Marked c.args.text.now) (sym c.read.ensures.is) (p.marked c.loop-k.k c.loop-k-test.true)
 
-pub loop-k-smaller : goal.loop-k-smaller
-loop-k-smaller c = omega (arith, c.loop-k-test.true)
-
 pub loop-k-preserved : goal.loop-k-preserved
 loop-k-preserved c =
     reserved-next c.args.text.now c.args.names.now c.args.from c.args.to c.requires.most c.loop-k.invariant c.loop-k-test.true c.read.ensures.is c.own_reserved.ensures c.lower-fault.ensures

@@ -1,11 +1,7 @@
 -- `names::first_reserved` meets its contract.
-use Prim.Native.Nat.{◌-◌}
 use Rattle.names.specs.Names.{reserved_by}
 use Rattle.names.proofs.Lowest.{Walking}
 use Rattle.names.proofs.first_reserved.Given as goal
 
 abbrev pub invariant-loop-k : goal.invariant-loop-k
 invariant-loop-k l = Walking (reserved_by l.text) l.names l.from l.to l.k l.fault
-
-abbrev pub decreases-loop-k : goal.decreases-loop-k
-decreases-loop-k l = l.to - l.k

@@ -7,7 +7,3 @@ use Rattle.scanner.proofs.scan_text.Goals as goal
 pub scan_by-requires : goal.scan_by-requires
 unfolding known_marks
 scan_by-requires c = (search rules, refl)
-
-pub returns : goal.returns
-unfolding known_marks
-returns c = search rules

@@ -1,7 +1,7 @@
 -- `shortening::give` meets its contract.
 use mathlib.Core.Path.{refl}
-use Rattle.shortening.proofs.Giving.{given}
+use Rattle.shortening.proofs.Giving.{front-copied, given}
 use Rattle.shortening.proofs.give.Goals as goal
 
 pub returns : goal.returns
-returns c = given c.load-r.ensures c.put.ensures refl refl
+returns c = given c.load-r.ensures (front-copied c.args.out.now c.copy_from_slice.ensures.after) refl refl

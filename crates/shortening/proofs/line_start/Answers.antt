@@ -11,11 +11,11 @@ bounds-text-at c = omega (arith, c.loop-at.invariant.below, c.loop-at.invariant.
 
 pub returns-then-text-at-eq10 : goal.returns-then-text-at-eq10
 returns-then-text-at-eq10 c =
-    scan-lf c.args.text.now c.args.end c.loop-at.invariant c.loop-at-test.true c.if-text-at-eq10.true
+    scan-lf c.args.text.now c.args.end c.loop-at.invariant (omega arith) c.if-text-at-eq10.true
 
 pub loop-at-preserved : goal.loop-at-preserved
 loop-at-preserved c =
-    scan-more c.args.text.now c.args.end c.loop-at.invariant c.loop-at-test.true c.if-text-at-eq10.false
+    scan-more c.args.text.now c.args.end c.loop-at.invariant (omega arith) c.if-text-at-eq10.false
 
 pub returns : goal.returns
 returns c = scan-end c.args.text.now c.args.end c.loop-at.invariant (omega (arith, c.loop-at-test.false))

@@ -1,7 +1,7 @@
 -- `shortening::shorten` meets its contract.
 use mathlib.Core.Path.{refl}
 use native.Mathlib.Omega.{arith}
-use Rattle.shortening.proofs.Giving.{buffer-40, load-40, text-short, given_back, refused-text, refused-given}
+use Rattle.shortening.proofs.Giving.{front-copied, buffer-40, load-40, text-short, given_back, refused-text, refused-given}
 use Rattle.shortening.proofs.shorten.Goals as goal
 
 pub returns-then-out-text : goal.returns-then-out-text
@@ -18,7 +18,7 @@ overflow_cast-result c =
 
 pub returns-then-r-eq80 : goal.returns-then-r-eq80
 returns-then-r-eq80 c =
-    given_back c.args.text.now c.args.table.now c.args.out.now c.load-r.ensures c.if-r-eq40.false c.if-out-text.false c.if-r-eq80.true c.put.ensures refl refl
+    given_back c.args.text.now c.args.table.now c.args.out.now c.load-r.ensures c.if-r-eq40.false c.if-out-text.false c.if-r-eq80.true (front-copied c.args.out.now c.copy_from_slice.ensures.after) refl refl
 
 pub shorten_refused-requires : goal.shorten_refused-requires
 shorten_refused-requires c =

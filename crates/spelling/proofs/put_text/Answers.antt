@@ -1,27 +1,13 @@
 -- `spelling::put_text` meets its contract.
-use native.Mathlib.Omega.{arith}
-use mathlib.Core.Path.{refl, ◌∙◌}
-use borrow.Author.Rules.{rules}
+use Rattle.std.proofs.Common.{arith, refl, ◌∙◌}
 use Rattle.spelling.proofs.Chars.{put-begins, put-room, put_on, put-done}
 use Rattle.spelling.proofs.put_text.Goals as goal
 
 pub loop-i-init : goal.loop-i-init
 loop-i-init c = (refl, put-begins c.requires.between.order)
 
-pub bounds-text-i : goal.bounds-text-i
-bounds-text-i c = search rules
-
 pub put_char-j-requires : goal.put_char-j-requires
 put_char-j-requires c = let h = c.loop-i in put-room c.requires h.invariant.1 c.loop-i-test.true h.invariant.0
-
-pub takes_next-star-requires : goal.takes_next-star-requires
-takes_next-star-requires c = search rules
-
-pub overflow_add-i : goal.overflow_add-i
-overflow_add-i c = search rules
-
-pub loop-i-smaller : goal.loop-i-smaller
-loop-i-smaller c = search rules
 
 pub loop-i-preserved : goal.loop-i-preserved
 loop-i-preserved c =

@@ -1,34 +1,25 @@
 -- `words::append_other` meets its contract.
+use mathlib.Core.Path.{sym, ap, ◌∙◌}
+use mathlib.Core.Bool.{Bool}
+use native.Mathlib.Omega.{arith}
+use Rattle.words.specs.Keywords.{word_at}
 use Rattle.words.proofs.KeywordLaws.{other-english, other-polish, other_none}
-use borrow.Author.Rules.{rules}
 use Rattle.words.proofs.append_other.Goals as goal
 
-pub polish_place-j-requires : goal.polish_place-j-requires
-polish_place-j-requires c = search rules
+pub returns-in-Some : goal.returns-in-Some
+returns-in-Some c =
+    let j = rw c.of.ensures at c.in-Some.ensures in
+    rw (c.word.ensures ∙ ap (λ (e : Bool). word_at e c.in-Some.j) c.of-in-Some.ensures ∙ other-english c.args.w.now j.0 j.1) at c.append.ensures
 
-pub append_english-requires : goal.append_english-requires
-append_english-requires c = search rules
-
-pub returns-then-j-lt-PAIRS : goal.returns-then-j-lt-PAIRS
-returns-then-j-lt-PAIRS c =
-    let j = c.polish_place-j.ensures in
-    rw (other-english c.args.w.now j c.if-j-lt-PAIRS.true) at c.append_english.ensures
-
-pub english_place-k-requires : goal.english_place-k-requires
-english_place-k-requires c = search rules
-
-pub append_polish-requires : goal.append_polish-requires
-append_polish-requires c = search rules
-
-pub returns-then-k-lt-PAIRS : goal.returns-then-k-lt-PAIRS
-returns-then-k-lt-PAIRS c =
-    let j = c.polish_place-j.ensures in
-    rw (other-polish c.args.w.now j c.if-j-lt-PAIRS.false c.english_place-k.ensures c.if-k-lt-PAIRS.true) at c.append_polish.ensures
-
-pub append-requires : goal.append-requires
-append-requires c = search rules
+pub returns-in-Some-place : goal.returns-in-Some-place
+returns-in-Some-place c =
+    let none = rw c.of.ensures at c.in_default.ensures in
+    let k = rw c.of-2.ensures at c.in-Some-place.ensures in
+    rw (c.word-in-Some-place.ensures ∙ ap (λ (e : Bool). word_at e c.in-Some-place.k) c.of-in-Some-place.ensures ∙ other-polish c.args.w.now (sym none) (omega arith) k.0 k.1)
+    at c.append-in-Some-place.ensures
 
 pub returns : goal.returns
 returns c =
-    let j = c.polish_place-j.ensures in
-    rw (← other_none c.args.w.now j c.if-j-lt-PAIRS.false c.english_place-k.ensures c.if-k-lt-PAIRS.false) c.append.ensures
+    let none = rw c.of.ensures at c.in_default.ensures in
+    let none-there = rw c.of-2.ensures at c.in_default-place.ensures in
+    rw (← other_none c.args.w.now (sym none) (omega arith) (sym none-there) (omega arith)) c.append-2.ensures

@@ -2,56 +2,7 @@
 use mathlib.Core.Path.{sym, ◌∙◌}
 use Rattle.words.specs.Words.{class_of}
 use Rattle.words.proofs.Letters.{mask-of}
-use borrow.Author.Rules.{rules}
 use Rattle.words.proofs.class_mask.Goals as goal
-
-pub is_class-requires : goal.is_class-requires
-unfolding class_of
-is_class-requires c = search rules
-
-pub has-requires : goal.has-requires
-unfolding class_of
-has-requires c = search rules
-
-pub bit-requires : goal.bit-requires
-unfolding class_of
-bit-requires c = search rules
-
-pub has-requires-then-is_class : goal.has-requires-then-is_class
-unfolding class_of
-has-requires-then-is_class c = search rules
-
-pub bit-requires-then-is_class : goal.bit-requires-then-is_class
-unfolding class_of
-bit-requires-then-is_class c = search rules
-
-pub overflow_add-result : goal.overflow_add-result
-unfolding class_of
-overflow_add-result c = search rules
-
-pub has-requires-then-is_class-2 : goal.has-requires-then-is_class-2
-unfolding class_of
-has-requires-then-is_class-2 c = search rules
-
-pub bit-requires-then-is_class-2 : goal.bit-requires-then-is_class-2
-unfolding class_of
-bit-requires-then-is_class-2 c = search rules
-
-pub overflow_add-result-then-is_class : goal.overflow_add-result-then-is_class
-unfolding class_of
-overflow_add-result-then-is_class c = search rules
-
-pub has-requires-then-is_class-3 : goal.has-requires-then-is_class-3
-unfolding class_of
-has-requires-then-is_class-3 c = search rules
-
-pub bit-requires-then-is_class-3 : goal.bit-requires-then-is_class-3
-unfolding class_of
-bit-requires-then-is_class-3 c = search rules
-
-pub overflow_add-result-then-is_class-2 : goal.overflow_add-result-then-is_class-2
-unfolding class_of
-overflow_add-result-then-is_class-2 c = search rules
 
 pub returns-then-is_class : goal.returns-then-is_class
 unfolding class_of

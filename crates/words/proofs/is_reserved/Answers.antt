@@ -1,16 +1,12 @@
 -- `words::is_reserved` meets its contract.
-use Rattle.words.proofs.KeywordLaws.{reserved-polish, reserved-english}
-use borrow.Author.Rules.{rules}
+use mathlib.Core.Path.{sym, ◌∙◌}
+use Rattle.words.proofs.KeywordLaws.{reserved-here, reserved-there}
 use Rattle.words.proofs.is_reserved.Goals as goal
 
-pub polish_place-requires : goal.polish_place-requires
-polish_place-requires c = search rules
-
-pub returns-then-polish_place-lt-PAIRS : goal.returns-then-polish_place-lt-PAIRS
-returns-then-polish_place-lt-PAIRS c = reserved-polish c.args.w.now c.polish_place.ensures c.if-polish_place-lt-PAIRS.true
-
-pub english_place-requires : goal.english_place-requires
-english_place-requires c = search rules
+pub returns-then-is_some : goal.returns-then-is_some
+returns-then-is_some c = reserved-here c.args.w.now c.place.result (rw c.of.ensures at c.place.ensures) (sym c.is_some.ensures ∙ c.if-is_some.true)
 
 pub returns : goal.returns
-returns c = reserved-english c.args.w.now c.polish_place.ensures c.if-polish_place-lt-PAIRS.false c.english_place.ensures
+returns c =
+    c.is_some-2.ensures
+    ∙ reserved-there c.args.w.now c.place.result c.place-2.result (rw c.of.ensures at c.place.ensures) (sym c.is_some.ensures ∙ c.if-is_some.false) (rw c.of-2.ensures at c.place-2.ensures)

@@ -1,12 +1,8 @@
 -- `words::keyword_at` meets its contract: the five words of a section and its switches, then the instructions.
 use native.Mathlib.Omega.{arith}
 use Rattle.words.specs.Keywords.{keyword_at}
-use Rattle.words.proofs.KeywordLaws.{keyword-instr, keyword-beyond, keyword-arm, behind-arms}
+use Rattle.words.proofs.KeywordLaws.{keyword-instr, keyword-arm, behind-arms}
 use Rattle.words.proofs.keyword_at.Goals as goal
-
-pub returns-then-j-ge-PAIRS : goal.returns-then-j-ge-PAIRS
-unfolding keyword_at
-returns-then-j-ge-PAIRS c = keyword-beyond c.args.j c.if-j-ge-PAIRS.true
 
 pub overflow_sub-result : goal.overflow_sub-result
 unfolding keyword_at
@@ -34,4 +30,4 @@ returns-in-4 c = keyword-arm c.in-4.is
 
 pub returns-in_default : goal.returns-in_default
 unfolding keyword_at
-returns-in_default c = keyword-instr c.args.j (behind-arms c.args.j c.in_default.in_default-own.rest) c.if-j-ge-PAIRS.false
+returns-in_default c = keyword-instr c.args.j (behind-arms c.args.j c.in_default.in_default-own.rest) c.requires

@@ -1,12 +1,7 @@
 -- `words::minus` meets its contract.
 use borrow.Author.Tests.{le-leb, lt-leb}
 use Rattle.words.specs.Words.{minus}
-use borrow.Author.Rules.{rules}
 use Rattle.words.proofs.minus.Goals as goal
-
-pub overflow_cast-result : goal.overflow_cast-result
-unfolding minus
-overflow_cast-result c = search rules
 
 pub returns-then-n-le-SIZE : goal.returns-then-n-le-SIZE
 unfolding minus
