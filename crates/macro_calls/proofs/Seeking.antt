@@ -1,23 +1,21 @@
 -- The macros of a name: one after the other, the only one, and the one that a hint names.
 use mathlib.Core.Path.{◌≡◌, refl, sym, ap, subst, ◌∙◌}
-use mathlib.Core.Bool.{Bool, true, false, cond, true≢false}
+use mathlib.Core.Bool.{Bool, true, false}
+use Rattle.std.specs.Prelude.{Some, None}
 use mathlib.Core.List.{List, [], ◌∷◌}
 use Prim.Native.Nat.{ℕ, ◌+◌, ◌≤◌, ◌<◌}
-use native.Mathlib.Nat.{not-suc-le-zero}
-use native.Mathlib.Decide.{dec_lt}
 use native.Mathlib.Omega.{arith}
 use borrow.Author.Tests.{eq-eqb, ne_eqb, eqb-true}
 use lib.Dec.{T, eqb}
-use lib.ListN.{length, get_or, take, drop, set, length-set}
+use lib.ListN.{length, get_or, drop}
 use Rattle.lists.specs.Lists.{bytes_equal, keep}
 use Rattle.lists.specs.ListLaws.{same_bytes-eq}
 use Rattle.macros.specs.Expansion.{called_by}
 use Rattle.macros.specs.Macros.{Macro}
-use Rattle.macro_code.specs.Code.{high, low, bytes_at, macro_in, macros_in}
+use Rattle.macro_code.specs.Code.{bytes_at, macro_in, macros_in}
 use Rattle.macro_code.specs.Known.{Singles}
 use Rattle.macro_calls.specs.Calls.{Next, Finds, named_from}
-use Rattle.macro_calls.specs.TableLaws.{drop-next, drop-end, keep-this, keep-not, one_kept, below_set}
-use Rattle.macro_calls.specs.declared.Named.{Named}
+use Rattle.macro_calls.specs.TableLaws.{drop-next, drop-end, keep-this, keep-not, one_kept}
 
 module _ (s c firsts : List ℕ) (n : ℕ) (w : List ℕ) where
   abbrev named : ℕ → List Macro
@@ -68,34 +66,28 @@ module _ (s c firsts : List ℕ) (n : ℕ) (w : List ℕ) where
     passing-end l = record { most = p.most; above = p.above; same = p.same; here = λ h. absurd (omega arith) }
 
   -- none, one, and more
-  module _ {k : ℕ} (p : Next s c firsts n w 0 k) where
-    pub finds-none : k ≡ n → Finds s c firsts n w (record { once = false; number = k })
-    finds-none e =
-        let z : named 0 ≡ [] = sym p.same ∙ named_end k (omega arith) in
-        record { once_is = rw z refl; only = λ t. absurd (true≢false (sym t)) }
+  pub finds-none : Next s c firsts n w 0 n → Finds s c firsts n w None
+  finds-none p =
+      let z : named 0 ≡ [] = sym p.same ∙ named_end n (omega arith) in
+      record { once_is = rw z refl; only = tt }
 
-    pub finds-one : (k ≡ n → ⊥) → {j : ℕ} → Next s c firsts n w (k + 1) j → {b : Bool} → b ≡ eqb j n → Finds s c firsts n w (record { once = b; number = k })
-    finds-one u {j} q {b} e = go (dec_lt j n)
-      where
-        first : named 0 ≡ macro k ∷ named j
-        first = sym p.same ∙ named-this k (omega (arith, p.most)) (p.here (omega (arith, p.most))) ∙ ap (λ ms. macro k ∷ ms) (sym q.same)
+  module _ {k : ℕ} (p : Next s c firsts n w 0 k) (l : k < n) where
+    first : {j : ℕ} → Next s c firsts n w (k + 1) j → named 0 ≡ macro k ∷ named j
+    first q = sym p.same ∙ named-this k l (p.here l) ∙ ap (λ ms. macro k ∷ ms) (sym q.same)
 
-        go : Dec (j < n) → Finds s c firsts n w (record { once = b; number = k })
-        go (yes h) =
-            let both : named 0 ≡ macro k ∷ (macro j ∷ named (j + 1)) = first ∙ ap (λ ms. macro k ∷ ms) (named-this j h (q.here h)) in
-            let more : b ≡ false = e ∙ ne_eqb j n (λ z. omega (arith, z)) in
-            let two : eqb (length (named 0)) 1 ≡ false = ne_eqb (length (named 0)) 1 (λ z. omega (arith, z, ap length both)) in
-            record { once_is = more ∙ sym two; only = λ t. absurd (true≢false (sym t ∙ more)) }
-        go (no h) =
-            let one : named 0 ≡ macro k ∷ [] = first ∙ ap (λ ms. macro k ∷ ms) (named_end j (omega arith)) in
-            record {
-              once_is = e ∙ eq-eqb j n (omega (arith, q.most)) ∙ sym (eq-eqb (length (named 0)) 1 (ap length one));
-              only = λ t. record { listed = omega (arith, p.most, u); only = one };
-            }
+    pub finds-more : {j : ℕ} → Next s c firsts n w (k + 1) j → j < n → Finds s c firsts n w None
+    finds-more {j} q h =
+        let both : named 0 ≡ macro k ∷ (macro j ∷ named (j + 1)) = first q ∙ ap (λ ms. macro k ∷ ms) (named-this j h (q.here h)) in
+        record { once_is = sym (ne_eqb (length (named 0)) 1 (λ z. omega (arith, z, ap length both))); only = tt }
+
+    pub finds-one : Next s c firsts n w (k + 1) n → Finds s c firsts n w (Some k)
+    finds-one q =
+        let one : named 0 ≡ macro k ∷ [] = first q ∙ ap (λ ms. macro k ∷ ms) (named_end n (omega arith)) in
+        record { once_is = sym (eq-eqb (length (named 0)) 1 (ap length one)); only = record { listed = l; only = one } }
 
   -- of a name that one macro alone has, that macro is the only one
   pub hinted : {v singles : List ℕ} → v ≡ w → Singles s c firsts n singles → (k : ℕ) → k < n → {d : Bool} → d ≡ eqb (get_or singles k 0) 1 → d ≡ true
-      → {i : ℕ} {r : Bool} → i ≡ get_or firsts k 0 → r ≡ bytes_equal v (bytes_at s c i) → r ≡ true → Finds s c firsts n w (record { once = true; number = k })
+      → {i : ℕ} {r : Bool} → i ≡ get_or firsts k 0 → r ≡ bytes_equal v (bytes_at s c i) → r ≡ true → Finds s c firsts n w (Some k)
   unfolding macros_in macro_in
   hinted {v} {singles} e h k l {d} a t {i} {r} f g u =
       let same : r ≡ passes (macro k) = name_of k f (g ∙ ap (λ x. bytes_equal x (bytes_at s c i)) e) in
@@ -104,43 +96,11 @@ module _ (s c firsts : List ℕ) (n : ℕ) (w : List ℕ) where
       ap (λ x. eqb (length (called_by (macros_in s c firsts n) x)) 1) name ∙ sym (h.single_is k l) ∙ sym a ∙ t in
       record {
         once_is = sym one;
-        only = λ z. record { listed = l; only = one_kept passes n macro k l (sym same ∙ u) (eqb-true (length (called_by (macros_in s c firsts n) w)) 1 one) };
+        only = record { listed = l; only = one_kept passes n macro k l (sym same ∙ u) (eqb-true (length (called_by (macros_in s c firsts n) w)) 1 one) };
       }
-
-  pub searched : {v : List ℕ} → v ≡ w → {r : Named} → Finds s c firsts n v r → Finds s c firsts n w r
-  searched e {r} g = subst (λ u. Finds s c firsts n u r) e g
-
--- the bytes of a cell, as they are read
-pub bytes_read : (s c : List ℕ) (i : ℕ) {v : List ℕ} {p l : ℕ} → v ≡ take l (drop p s) → p ≡ high c i → l ≡ low c i → v ≡ bytes_at s c i
-unfolding bytes_at
-bytes_read s c i e f g = e ∙ rw (f, g) refl
 
 -- of the first k macros it is known whether they are the only ones of their names
 pub record Singling (s c firsts : List ℕ) (n : ℕ) (singles : List ℕ) (k : ℕ) : Type 0 where
   pub room : n ≤ length singles
   pub most : k ≤ n
   pub known : (j : ℕ) → j < k → eqb (get_or singles j 0) 1 ≡ eqb (length (called_by (macros_in s c firsts n) (bytes_at s c (get_or firsts j 0)))) 1
-
-module _ (s c firsts : List ℕ) (n : ℕ) {singles : List ℕ} where
-  pub singling-first : n ≤ length singles → Singling s c firsts n singles 0
-  singling-first h = record { room = h; most = omega arith; known = λ j l. absurd (not-suc-le-zero l) }
-
-  module _ {k : ℕ} (p : Singling s c firsts n singles k) where
-    pub singling-on : k < n → {m : ℕ} → m ≡ get_or firsts k 0 → {v : List ℕ} → v ≡ bytes_at s c m → {r : Named} → Finds s c firsts n v r → {b : ℕ} → b ≡ cond r.once 1 0
-        → Singling s c firsts n (set singles k b) (k + 1)
-    singling-on l {m} e {v} f {r} g {b} h =
-        record {
-          room = simp length-set (omega (arith, p.room));
-          most = omega arith;
-          known = below_set (λ j x. eqb x 1 ≡ eqb (length (called_by (macros_in s c firsts n) (bytes_at s c (get_or firsts j 0)))) 1) singles p.known (omega (arith, p.room)) here;
-        }
-      where
-        unit : (o : Bool) → eqb (cond o 1 0) 1 ≡ o
-        unit true = refl
-        unit false = refl
-
-        here : eqb b 1 ≡ eqb (length (called_by (macros_in s c firsts n) (bytes_at s c (get_or firsts k 0)))) 1
-        here = rw h (unit r.once) ∙ g.once_is ∙ ap (λ x. eqb (length (called_by (macros_in s c firsts n) x)) 1) (f ∙ ap (bytes_at s c) e)
-
-    pub singling-end : n ≤ k → Singles s c firsts n singles
-    singling-end h = record { single_is = λ j l. p.known j (omega arith) }

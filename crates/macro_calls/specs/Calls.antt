@@ -1,5 +1,5 @@
 -- Calls by a typed name in the cells c of a text s, and what the functions on them ask and promise.
-use Rattle.std.specs.Prelude.{◌≡◌, Bool, true, ◌&&◌, List, ◌++◌, ℕ, ◌+◌, ◌≤◌, ◌<◌, eqb, length, get_or, drop}
+use Rattle.std.specs.Prelude.{Option, ◌≡◌, Bool, true, ◌&&◌, List, ◌++◌, ℕ, ◌+◌, ◌≤◌, ◌<◌, eqb, length, get_or, drop, is_some, IfSome}
 use Rattle.lists.specs.Lists.{each, bytes_equal}
 use Rattle.macros.specs.Expansion as met
 use Rattle.macros.specs.Expansion.{called_by, argument_faults, places_of}
@@ -15,7 +15,6 @@ use Rattle.statements.specs.StatementAt.{fault_of}
 use Rattle.statements.specs.declared.Fault.{Fault}
 use Rattle.statements.specs.declared.Fault.TheVariants.{Clear}
 use Rattle.macro_calls.specs.declared.Faults.{Faults}
-use Rattle.macro_calls.specs.declared.Named.{Named}
 
 -- the macros of a name, from a number on
 abbrev pub named_from : List ℕ → List ℕ → List ℕ → ℕ → List ℕ → ℕ → List Macro
@@ -28,9 +27,10 @@ pub record Next (s c firsts : List ℕ) (n : ℕ) (w : List ℕ) (from r : ℕ) 
   pub same : named_from s c firsts n w r ≡ named_from s c firsts n w from
   pub here : r < n → bytes_equal w (macro_in s c (get_or firsts r 0)).name ≡ true
 
-pub record Finds (s c firsts : List ℕ) (n : ℕ) (w : List ℕ) (r : Named) : Type 0 where
-  pub once_is : r.once ≡ eqb (length (called_by (macros_in s c firsts n) w)) 1
-  pub only : r.once ≡ true → Only s c firsts n w r.number
+-- the number of the only one of a name
+pub record Finds (s c firsts : List ℕ) (n : ℕ) (w : List ℕ) (r : Option ℕ) : Type 0 where
+  pub once_is : is_some r ≡ eqb (length (called_by (macros_in s c firsts n) w)) 1
+  pub only : IfSome r (λ k. Only s c firsts n w k)
 
 -- a cell of a call, and of each macro whether it is the only one of its name
 pub record Seekable (s c firsts : List ℕ) (n : ℕ) (singles : List ℕ) (i : ℕ) : Type 0 where

@@ -18,7 +18,7 @@ use Rattle.macros.specs.Elements.{places_in}
 use Rattle.macros.specs.Pieces.{Given, Call, Change, given_of, call_faults, call_of}
 use Rattle.macros.specs.Pieces.Given.{typed}
 use Rattle.macros.specs.Pieces.Piece.{value, called}
-use Rattle.macro_code.specs.Code.{high, low, paired, bytes_at, given_in, argument_cell, call_in, change_in, size_at}
+use Rattle.macro_code.specs.Code.{high, paired, bytes_at, given_in, argument_cell, call_in, change_in, size_at}
 use Rattle.macro_changes.specs.Changing.{Kept, kind_of, used_by}
 use Rattle.macro_changes.proofs.Cells.{first_of, second-of, tab-cong, kept_set, kept_on}
 

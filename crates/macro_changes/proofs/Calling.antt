@@ -8,7 +8,6 @@ use native.Mathlib.Omega.{arith}
 use lib.Dec.{eqb}
 use lib.ListN.{length, drop}
 use borrow.Author.Tests.{eq-eqb, ne_eqb}
-use Rattle.lexer.specs.Tokens.{part}
 use Rattle.lists.specs.Lists.{all, filled, if_any}
 use Rattle.statements.specs.declared.Fault.{Fault}
 use Rattle.statements.specs.declared.Fault.TheVariants.{Clear, At}
@@ -21,10 +20,11 @@ use Rattle.syntax.specs.Verdict.{lowest}
 use Rattle.macros.specs.Elements as spec
 use Rattle.macros.specs.Elements.{is_end, is_identifier, from}
 use Rattle.macros.specs.Pieces.{is_argument, is_parameter, name_faults, call_faults, call_stop}
-use Rattle.macro_elements.specs.ElementAt.{elements_from, argument_value, NextElement}
+use Rattle.std.specs.Prelude.{Option, Some, None, is_some}
+use Rattle.macro_elements.specs.ElementAt.{joined_at, elements_from, argument_value, NextElement}
 use Rattle.macro_elements.specs.declared.Element.{Element}
 use Rattle.macro_elements.proofs.Tests.{sort-is}
-use Rattle.macro_changes.specs.Changing.{shuts, inside, behind, stop_of, given_from, ends_from, argument_faults, Named, EndsCall}
+use Rattle.macro_changes.specs.Changing.{shuts, inside, stop_of, given_from, ends_from, argument_faults, Named, EndsCall}
 use Rattle.macro_changes.proofs.Searching.{from-off}
 use Rattle.macro_changes.proofs.Giving.{keep-first, some-elements, no-elements, inside-none, inside_on, behind-on, given-none, given-on}
 
@@ -34,20 +34,22 @@ pub no_name : {s : List ℕ} {closing : Bool} {star n : ℕ} {t : Element} (k : 
 unfolding name_faults lowest
 no_name {s} {closing} {star} {n} k h = record { is = λ v e. rw (given-none k closing h, e) refl }
 
-empty : (z : Bool) (w : List ℕ) → not (filled (cond z [] (w ∷ []))) ≡ z
-empty true w = refl
-empty false w = refl
+empty : (s : List ℕ) (e : ℕ) (o : Option ℕ) (z : Bool) → is_some o ≡ not z → not (filled (joined_at s e o)) ≡ z
+empty s e None true h = refl
+empty s e None false h = absurd (false≢true h)
+empty s e (Some b) true h = absurd (false≢true (sym h))
+empty s e (Some b) false h = refl
 
 pub a-name : {s : List ℕ} {closing : Bool} {star n : ℕ} {t : Element} (k : NextElement s n t)
-    → (eqb t.sort 3 || (eqb t.sort 0 || shuts closing (argument_value s t))) ≡ false → {i : Bool} {r : Fault} → i ≡ is_identifier (argument_value s t)
-    → r ≡ fault_of (cond (not (i && eqb t.joined 0)) (t.at ∷ []) []) → Named s closing star n r
+    → (eqb t.sort 3 || (eqb t.sort 0 || shuts closing (argument_value s t))) ≡ false → {i : Bool} (none : Bool) {r : Fault} → i ≡ is_identifier (argument_value s t) → is_some t.joined ≡ not none
+    → r ≡ fault_of (cond (not (i && none)) (t.at ∷ []) []) → Named s closing star n r
 unfolding name_faults
-a-name {s} {closing} {star} {n} {t} k h {i} {r} e f =
+a-name {s} {closing} {star} {n} {t} k h {i} none {r} e g f =
     record {
       is =
           λ v q.
           f
-          ∙ (let m = sym (empty (eqb t.joined 0) (part s t.joined t.behind)) in λ z. fault_of (cond (not (e z && m z)) (t.at ∷ []) []))
+          ∙ (let m = sym (empty s t.end t.joined none g) in λ z. fault_of (cond (not (e z && m z)) (t.at ∷ []) []))
           ∙ turned (is_identifier (argument_value s t) && not (filled (argument_value s t).joined))
           ∙ ap (λ (ts : List spec.Element). fault_of (name_faults v ts)) (sym (given-on k closing h));
     }

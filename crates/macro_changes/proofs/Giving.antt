@@ -4,6 +4,7 @@ use mathlib.Core.Bool.{Bool, true, false, cond, not, ◌&&◌, ◌||◌, true≢
 use mathlib.Core.List.{List, [], ◌∷◌, ◌++◌, map, append_assoc}
 use Prim.Native.Nat.{ℕ, min, ◌+◌, ◌*◌, ◌-◌, ◌/◌, ◌≤◌, ◌<◌}
 use native.Mathlib.Omega.{arith}
+use Rattle.std.specs.Prelude.{Option, Some, None, IfSome, is_some, unwrap_or}
 use lib.Dec.{eqb, ltb}
 use lib.ListN.{length, set}
 use borrow.Author.Tests.{eq-eqb, ne_eqb, eqb-true, lt-ltb, le-ltb}
@@ -21,7 +22,6 @@ use Rattle.syntax.specs.Items.Sort.{word, end}
 use Rattle.macros.specs.Elements as spec
 use Rattle.macros.specs.Elements.{is_end, is_identifier, places_in, until, from}
 use Rattle.macros.specs.Pieces.{Given, given_of, is_argument, is_parameter}
-use Rattle.macros.specs.Pieces.Given.{joined}
 use Rattle.macro_code.specs.Code.{high, paired, bytes_at, given_in}
 use Rattle.macro_elements.specs.ElementAt.{elements_from, argument_value, Held, NextElement}
 use Rattle.macro_elements.specs.declared.Element.{Element}
@@ -128,25 +128,28 @@ module _ (s c : List ℕ) (x : Scope) {t : Element} (held : Held s t) where
   and_one true = refl
   and_one false = refl
 
-  pub joined-answer : {r : ℕ} {i : Bool} → (t.joined ≡ 0 → ⊥) → x.count < 65536 → Found s c x t.joined t.behind r → i ≡ is_identifier (argument_value s t)
-      → Judged s c x t (record { kind = 2; number = r; joins = i && ltb r x.count })
+  listed-some : (o : Option ℕ) (n : ℕ) → IfSome o (λ k. k < n) → is_some o ≡ ltb (unwrap_or o n) n
+  listed-some (Some k) n h = sym (lt-ltb k n h)
+  listed-some None n h = sym (le-ltb n n (omega arith))
+
+  pub joined-answer : {i : Bool} {b : ℕ} → t.joined ≡ Some b → x.count < 65536 → (r : Option ℕ) → Found s c x (t.end + 1) b (unwrap_or r x.count) → IfSome r (λ k. k < x.count)
+      → i ≡ is_identifier (argument_value s t) → Judged s c x t (record { kind = 2; number = unwrap_or r x.count; joins = i && is_some r })
   unfolding given_of given_as
-  joined-answer {r} {i} z few f e =
-      let o = ne_eqb t.joined 0 z in
+  joined-answer {i} z few r f l e =
       record {
         kind_low = omega arith;
         number_low = omega (arith, f.most);
-        given_is = rw (o, f.is) refl;
-        joins_is = rw o (rw (is_found f, ← e) (sym (and_one (i && ltb r x.count))));
+        given_is = rw (z, f.is) refl;
+        joins_is = rw (z, listed-some r x.count l) (rw (is_found f, ← e) (sym (and_one (i && ltb (unwrap_or r x.count) x.count))));
       }
 
-  pub other-answer : t.joined ≡ 0 → (t.sort ≡ 1 → ⊥) → Judged s c x t (record { kind = 0; number = 0; joins = true })
+  pub other-answer : t.joined ≡ None → (t.sort ≡ 1 → ⊥) → Judged s c x t (record { kind = 0; number = 0; joins = true })
   unfolding given_of given_as
   other-answer z w =
       let n : same_sort word (sort_at t.sort) ≡ false = sort-is word t.sort held.sorted ∙ ne_eqb 1 t.sort (λ y. w (sym y)) in
       record { kind_low = omega arith; number_low = omega arith; given_is = rw (z, n) refl; joins_is = rw z refl }
 
-  module _ (z : t.joined ≡ 0) (w : t.sort ≡ 1) {r : ℕ} (f : Found s c x t.at t.end r) where
+  module _ (z : t.joined ≡ None) (w : t.sort ≡ 1) {r : ℕ} (f : Found s c x t.at t.end r) where
     pub parameter-answer : r < x.count → x.count < 65536 → Judged s c x t (record { kind = 1; number = r; joins = true })
     unfolding given_of given_as
     parameter-answer h few =

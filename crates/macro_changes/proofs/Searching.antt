@@ -1,6 +1,6 @@
 -- The first of a row that passes a test; and stretches of elements, one by one.
 use mathlib.Core.Path.{◌≡◌, refl, ap, sym, ◌∙◌}
-use mathlib.Core.Bool.{Bool, true, false, cond, ◌&&◌, ◌||◌}
+use mathlib.Core.Bool.{Bool, true, false, ◌||◌}
 use mathlib.Core.List.{List, [], ◌∷◌}
 use Prim.Native.Nat.{ℕ, zero, suc, ◌+◌, ◌<◌}
 use native.Mathlib.Decide.{dec_lt}
@@ -9,9 +9,7 @@ use lib.Dec.{ltb}
 use lib.ListN.{length, take, drop}
 use borrow.Author.Tests.{lt-ltb, le-ltb}
 use Rattle.layout.specs.Cells.{tab}
-use Rattle.lexer.specs.Tokens.{part}
-use Rattle.lists.specs.Lists.{ahead, any, bytes_equal}
-use Rattle.macro_code.specs.Code.{high, low, bytes_at}
+use Rattle.lists.specs.Lists.{ahead, any}
 use Rattle.macros.specs.Elements.{until, from}
 
 ltb-suc : (a b : ℕ) → ltb a b ≡ ltb (suc a) (suc b)
@@ -66,14 +64,3 @@ none_more p i h e j l = go (dec_lt j i)
     go : Dec (j < i) → p j ≡ false
     go (yes m) = h j m
     go (no m) = let q : j ≡ i = omega arith in ap p q ∙ e
-
--- a parameter's bytes as the code finds them
-pub test-is : (s c : List ℕ) (first i from size at end : ℕ) (w v : List ℕ) (r : Bool) → r ≡ bytes_equal w v → w ≡ part s at end → v ≡ take size (drop from s)
-    → from ≡ high c (first + i) → size ≡ low c (first + i) → r ≡ bytes_equal (part s at end) (bytes_at s c (first + i))
-unfolding bytes_at
-test-is s c first i from size at end w v r e f g h k = e ∙ (rw (f, g, h, k) refl)
-
-pub closes-is : (z closing m : Bool) → (z || (closing && m)) ≡ (z || cond closing m false)
-closes-is true closing m = refl
-closes-is false true m = refl
-closes-is false false m = refl

@@ -26,9 +26,10 @@ use Rattle.macros.specs.Pieces.Given.{typed, parameter, joined}
 use Rattle.macros.specs.Pieces.Piece.{value, called}
 use Rattle.macros.proofs.StepLaws.{at_plain, at-star, call-first, changes-plain, changes-star, form-plain, form-star}
 use Rattle.macro_code.specs.Code.{high, given_in, paired, changes_in, change_in, size_at, behind_changes}
-use Rattle.macro_elements.specs.ElementAt.{elements_from, argument_value, NextElement}
+use Rattle.std.specs.Prelude.{Option, Some, None, IfSome, unwrap_or}
+use Rattle.macro_elements.specs.ElementAt.{joined_at, elements_from, argument_value, NextElement}
 use Rattle.macro_elements.specs.declared.Element.{Element}
-use Rattle.macro_changes.specs.Changing.{Kept, parameters_of, shuts, inside, behind, stop_of, changes_of, wrong_in, wrong_by, given_as, Judged, Reading, given_from, ends_from, argument_faults, GivenUp, form_in, Stepped, Changed, Named, EndsCall, kind_of, used_by, Written}
+use Rattle.macro_changes.specs.Changing.{Kept, parameters_of, shuts, inside, stop_of, changes_of, wrong_in, wrong_by, given_as, Judged, Reading, given_from, ends_from, argument_faults, GivenUp, form_in, Stepped, Changed, Named, EndsCall, kind_of, used_by, Written}
 use Rattle.macro_changes.specs.declared.Answer.{Answer}
 use Rattle.macro_changes.specs.declared.Ending.{Ending}
 use Rattle.macro_changes.specs.declared.Scope.{Scope}
@@ -446,12 +447,12 @@ module _ {s m c : List ℕ} {x : Scope} {n u : ℕ} (q : Reading s m c x n u) {t
   from_place = cond (eqb a.kind 1) t.at t.end
 
   abbrev to_place : ℕ
-  to_place = cond (eqb a.kind 1) t.end t.behind
+  to_place = cond (eqb a.kind 1) t.end (unwrap_or t.joined t.end)
 
   abbrev value_change : ℕ → ℕ → Change
   value_change b e = record { start = b; stop = e; pieces = value a.number ∷ [] }
 
-  joined-not : given_of ps' v' ≡ joined (part s t.at t.end) a.number → t.joined ≡ 0 → ⊥
+  joined-not : given_of ps' v' ≡ joined (part s t.at t.end) a.number → t.joined ≡ None → ⊥
   unfolding given_of
   joined-not e z = go (is_word v' && is_parameter ps' v'.typed) (rw z at e)
     where
@@ -459,17 +460,19 @@ module _ {s m c : List ℕ} {x : Scope} {n u : ℕ} (q : Reading s m c x n u) {t
       go true e = let z : ◌≡◌ {A = ℕ} 0 1 = cc in omega arith
       go false e = let z : ◌≡◌ {A = ℕ} 0 1 = cc in omega arith
 
-  joined_ends : (t.joined ≡ 0 → ⊥) → end_of v' + 1 + length (head_or [] v'.joined) ≡ t.behind
-  joined_ends z =
-      let h = y.at.held in
-      rw (end-is_end, ne_eqb t.joined 0 z) (simp (length-take, length-drop) (omega (arith, h.joined_next z, h.joined_own, h.joined_ends, h.most)))
+  joined_ends : (t.joined ≡ None → ⊥) → end_of v' + 1 + length (head_or [] v'.joined) ≡ unwrap_or t.joined t.end
+  joined_ends z = rw end-is_end (go t.joined y.at.held.joined_ends z)
+    where
+      go : (o : Option ℕ) → IfSome o (λ b. (t.end + 1 ≤ b) × (b ≤ t.next)) → (o ≡ None → ⊥) → t.end + 1 + length (head_or [] (joined_at s t.end o)) ≡ unwrap_or o t.end
+      go None h x = absurd (x refl)
+      go (Some b) h x = simp (length-take, length-drop) (omega (arith, h.0, h.1, y.at.held.most))
 
   one_word : eqb a.kind 0 ≡ false → word_changes ps' v' ≡ value_change from_place to_place ∷ []
   unfolding given_as
   one_word e = word_by ps' v' ∙ go (eqb a.kind 1) (y.judged.given_is ∙ rw e refl)
     where
       go : (b : Bool) → given_of ps' v' ≡ cond b (parameter a.number) (joined (part s t.at t.end) a.number)
-          → change_by v' (given_of ps' v') ≡ value_change (cond b t.at t.end) (cond b t.end t.behind) ∷ []
+          → change_by v' (given_of ps' v') ≡ value_change (cond b t.at t.end) (cond b t.end (unwrap_or t.joined t.end)) ∷ []
       go true g = ap (change_by v') g ∙ (λ i. value_change t.at (end-is_end i) ∷ [])
       go false g = ap (change_by v') g ∙ (let j = joined_ends (joined-not g) in λ i. value_change (end-is_end i) (j i) ∷ [])
 
@@ -479,9 +482,13 @@ module _ {s m c : List ℕ} {x : Scope} {n u : ℕ} (q : Reading s m c x n u) {t
   pub places-low : (from_place < 65536) × (to_place < 65536)
   places-low = go (eqb a.kind 1)
     where
-      go : (b : Bool) → (cond b t.at t.end < 65536) × (cond b t.end t.behind < 65536)
+      joined-low : (o : Option ℕ) → IfSome o (λ b. (t.end + 1 ≤ b) × (b ≤ t.next)) → unwrap_or o t.end < 65536
+      joined-low None h = omega (arith, y.at.held.ends, y.at.held.small)
+      joined-low (Some b) h = omega (arith, h.1, y.at.held.most, y.at.held.small)
+
+      go : (b : Bool) → (cond b t.at t.end < 65536) × (cond b t.end (unwrap_or t.joined t.end) < 65536)
       go true = let h = y.at.held in (omega (arith, h.own, h.ends, h.small), omega (arith, h.ends, h.small))
-      go false = let h = y.at.held in (omega (arith, h.ends, h.small), omega (arith, h.joined_ends, h.most, h.small))
+      go false = let h = y.at.held in (omega (arith, h.ends, h.small), joined-low t.joined h.joined_ends)
 
   words-there : (closing : Bool) → (not closing || eqb a.kind 0) ≡ false → words_of closing ps' v' ≡ value_change from_place to_place ∷ []
   unfolding words_of

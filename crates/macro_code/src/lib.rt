@@ -1,11 +1,11 @@
 // The list of macros and the section of a text, in cells of two numbers each.
 #![tactic(auto)]
 
-ghost use Rattle.std.specs.Prelude.{◌≡◌, ◌<◌, ◌≤◌, min, get_or, take, drop};
+ghost use Rattle.std.specs.Prelude.{◌≡◌, ◌<◌, get_or, take, drop};
 ghost use Rattle.macro_code.specs.Code.{high, low, paired};
 ghost use Rattle.macro_code.specs.Places.{half, all_places};
 
-// The cells are lent memory, so a value of this type holds nothing; its constants are places of cells, as in specs/Places.antt.
+// The cells are lent memory, so a value of this type holds nothing, and kinds are numbers; its constants are places of cells, as in specs/Places.antt.
 #[derive(Clone, Copy)]
 pub struct CodePlaces {}
 
@@ -48,13 +48,10 @@ impl CodePlaces {
 fn cell(code: &[u32], i: usize) -> u32
     ensures { result ≡ get_or code.now i 0 }
 {
-    if i < code.len() {
-        return code[i];
-    }
-    0
+    code.get(i).copied().unwrap_or(0)
 }
 
-// The two numbers of a cell; both are 0 past the end.
+// The two numbers of a cell, by a cast, since there is no From<u32> for usize; both are 0 past the end.
 pub fn high(code: &[u32], i: usize) -> usize
     ensures { (result ≡ high code.now i) × (result < half) }
 {
@@ -67,7 +64,7 @@ pub fn low(code: &[u32], i: usize) -> usize
     (cell(code, i) % CodePlaces::HALF) as usize
 }
 
-// The cell of two numbers.
+// The cell of two numbers; a type for the two would be taken apart at each use.
 pub fn pair(a: usize, b: usize) -> u32
     requires { (a < half) × (b < half) }
     ensures { result ≡ paired a b }
@@ -75,22 +72,13 @@ pub fn pair(a: usize, b: usize) -> u32
     (a as u32) * CodePlaces::HALF + (b as u32)
 }
 
-fn lesser(p: usize, q: usize) -> usize
-    ensures { (result ≤ p) × (result ≤ q) × (result ≡ min p q) }
-{
-    if p <= q {
-        return p;
-    }
-    q
-}
-
 // The bytes of a text from a place on, so many, or as many as there are.
 pub fn part(text: &[u8], at: usize, n: usize) -> &[u8]
     requires { (at < half) × (n < half) }
     ensures { result.now ≡ take n (drop at text.now) }
 {
-    let from = lesser(at, text.len());
-    let to = lesser(at + n, text.len());
+    let from = at.min(text.len());
+    let to = (at + n).min(text.len());
     &text[from..to]
 }
 

@@ -1,4 +1,5 @@
 -- Elements follow one another, and what an apostrophe joins is one.
+use Rattle.std.specs.Prelude.{Some, None}
 use mathlib.Core.Path.{◌≡◌, refl, ap, sym, ◌∙◌}
 use mathlib.Core.Bool.{Bool, true, false, cond, not, ◌&&◌, true≢false, false≢true}
 use mathlib.Core.List.{List, [], ◌∷◌, map}
@@ -217,7 +218,7 @@ module _ {s m : List ℕ} {n : ℕ} {t : Token} (l : Lent s m n) (k : TokenAt m 
       sym (rest_from n) ∙ ap (elements_of s) e
 
   abbrev plain_element : ℕ → ℕ → code.Element
-  plain_element b e = record { sort = t.sort; byte = b; at = t.at; end = e; next = t.next; joined = 0; behind = 0 }
+  plain_element b e = record { sort = t.sort; byte = b; at = t.at; end = e; next = t.next; joined = None }
 
   plain-held : (b e : ℕ) → t.at ≤ e → e ≤ length s → Held s (plain_element b e)
   plain-held b e g h =
@@ -227,9 +228,7 @@ module _ {s m : List ℕ} {n : ℕ} {t : Token} (l : Lent s m n) (k : TokenAt m 
         own = g;
         ends = h;
         small = l.size;
-        joined_next = λ z. absurd (z refl);
-        joined_own = le_refl 0;
-        joined_ends = omega arith;
+        joined_ends = tt;
         most = omega (arith, y.most, same_length s m l.copy);
       }
 
@@ -301,7 +300,7 @@ module _ {s m : List ℕ} {n : ℕ} {t : Token} (l : Lent s m n) (k : TokenAt m 
       p = t.next
 
       abbrev joined_element : ℕ → code.Element
-      joined_element b = record { sort = t.sort; byte = b; at = t.at; end = p; next = e; joined = p + 1; behind = e }
+      joined_element b = record { sort = t.sort; byte = b; at = t.at; end = p; next = e; joined = Some e }
 
       bytes-there : (get_or (drop p s) 0 0 ≡ 39) × (get_or (drop p m) 0 0 ≡ 42)
       bytes-there = (get_d-here s p 0 ∙ (j.joins z).0, get_d-here m p 0 ∙ (j.joins z).1)
@@ -374,7 +373,6 @@ module _ {s m : List ℕ} {n : ℕ} {t : Token} (l : Lent s m n) (k : TokenAt m 
           let y = k.stands in
           let q : is word (item_of m t) ≡ true = is-sort word y ∙ eq-eqb 1 t.sort (sym w) in
           let near : eqb 39 (byte_at s p) ≡ true = eq-eqb 39 (byte_at s p) (sym (sym (any-default s p (j.within z)) ∙ (j.joins z).0)) in
-          let o : eqb (p + 1) 0 ≡ false = ne_eqb (p + 1) 0 (λ x. omega arith) in
           let v : Element = element_of s (item_of m t) in
           let three = joined-three v apostrophe parameter_element (elements_from s e) q near (sym word-ends) refl (ap (λ (i : ℕ). i + 1) (sym word-ends)) refl in
           let size = same_length s m l.copy in
@@ -386,9 +384,7 @@ module _ {s m : List ℕ} {n : ℕ} {t : Token} (l : Lent s m n) (k : TokenAt m 
                   own = omega (arith, y.own, y.behind);
                   ends = omega (arith, y.most, size);
                   small = l.size;
-                  joined_next = λ x. refl;
-                  joined_own = omega (arith, ends);
-                  joined_ends = le_refl e;
+                  joined_ends = (omega (arith, ends), le_refl e);
                   most = omega (arith, j.most, size);
                 };
             some = λ x. omega (arith, some_bytes x, ends);
@@ -396,5 +392,5 @@ module _ {s m : List ℕ} {n : ℕ} {t : Token} (l : Lent s m n) (k : TokenAt m 
                 some-from (λ x. omega arith)
                 ∙ ap (link v) linked-there
                 ∙ three
-                ∙ rw (ne_eqb t.sort 0 (λ x. omega arith), o) (ap (λ (u : Element). record { at = u.at; sort = u.sort; byte = u.byte; typed = u.typed; joined = part s (p + 1) e ∷ [] } ∷ elements_from s e) (word_is b f));
+                ∙ rw (ne_eqb t.sort 0 (λ x. omega arith)) (ap (λ (u : Element). record { at = u.at; sort = u.sort; byte = u.byte; typed = u.typed; joined = part s (p + 1) e ∷ [] } ∷ elements_from s e) (word_is b f));
           }

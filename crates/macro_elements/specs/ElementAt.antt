@@ -1,5 +1,5 @@
 -- Elements as the code tells them, with places of the text s in place of bytes; and what its functions promise.
-use Rattle.std.specs.Prelude.{◌≡◌, false, cond, List, [], ◌∷◌, map, ℕ, ◌+◌, ◌≤◌, ◌<◌, eqb, length, get_or, take, drop}
+use Rattle.std.specs.Prelude.{Option, Some, None, IfSome, ◌≡◌, false, cond, List, [], ◌∷◌, map, ℕ, ◌+◌, ◌≤◌, ◌<◌, eqb, length, get_or, take, drop}
 use Rattle.language.specs.Limits as limit
 use Rattle.lexer.specs.Tokens.{part, sort_at}
 use Rattle.syntax.specs.Items.{read}
@@ -15,7 +15,12 @@ elements_from s n = spec.linked (map (spec.element_of s) (read outside n (drop n
 
 -- an element that nothing is joined to
 abbrev pub alone : ℕ → ℕ → ℕ → ℕ → ℕ → Element
-alone sort byte at end next = record { sort = sort; byte = byte; at = at; end = end; next = next; joined = 0; behind = 0 }
+alone sort byte at end next = record { sort = sort; byte = byte; at = at; end = end; next = next; joined = None }
+
+-- a parameter that is joined behind an apostrophe at place e
+abbrev pub joined_at : List ℕ → ℕ → Option ℕ → List (List ℕ)
+joined_at s e None = []
+joined_at s e (Some b) = part s (e + 1) b ∷ []
 
 -- an element of the text s
 abbrev pub argument_value : List ℕ → Element → spec.Element
@@ -25,7 +30,7 @@ argument_value s t =
       sort = sort_at t.sort;
       byte = t.byte;
       typed = part s t.at t.end;
-      joined = cond (eqb t.joined 0) [] (part s t.joined t.behind ∷ []);
+      joined = joined_at s t.end t.joined;
     }
 
 -- a text with its marked copy, and a place in it
@@ -40,9 +45,7 @@ pub record Held (s : List ℕ) (t : Element) : Type 0 where
   pub own : t.at ≤ t.end
   pub ends : t.end ≤ length s
   pub small : length s ≤ limit.text
-  pub joined_next : (t.joined ≡ 0 → ⊥) → t.joined ≡ t.end + 1
-  pub joined_own : t.joined ≤ t.behind
-  pub joined_ends : t.behind ≤ t.next
+  pub joined_ends : IfSome t.joined (λ b. (t.end + 1 ≤ b) × (b ≤ t.next))
   pub most : t.next ≤ length s
 
 pub record JoinedEnd (s m : List ℕ) (e r : ℕ) : Type 0 where

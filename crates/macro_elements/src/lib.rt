@@ -1,19 +1,19 @@
 // From a place in a text to the element that stands there and the place behind it.
 #![tactic(auto)]
 
-ghost use Rattle.std.specs.Prelude.{◌≡◌, List, ℕ, ◌<◌, ◌≤◌, length, get_or, drop};
+ghost use Rattle.std.specs.Prelude.{◌≡◌, List, ℕ, ◌<◌, length, get_or, unwrap_or, IfSome};
 ghost use Rattle.characters.specs.Characters.{is_digit};
-ghost use Rattle.language.specs.Values.{numeral};
+ghost use Rattle.language.specs.Values.{unsigned, numeral};
+ghost use Rattle.lexer.specs.Tokens.{part};
 ghost use Rattle.lists.specs.Lists.{all};
 ghost use Rattle.macros.specs.Elements.{is_mark, is_identifier, is_listed};
 ghost use Rattle.macro_elements.specs.ElementAt.{alone, argument_value, Lent, JoinedEnd, TextEnd, NextElement, Held};
 
 use lexer::item_at;
-use macro_code::part;
 use scanner::{TEXT, WORD, WRONG, scan_text, word_end};
 
 // An element: its sort and its first byte; the places where it begins, where the bytes that it is known by end, and from which
-// the next one is sought; the places where a parameter that is joined to it begins and ends, both 0 where none is.
+// the next one is sought; the place where a parameter that is joined to it ends, which begins behind one apostrophe.
 #[derive(Clone, Copy)]
 pub struct Element {
     pub sort: u8,
@@ -21,35 +21,26 @@ pub struct Element {
     pub at: usize,
     pub end: usize,
     pub next: usize,
-    pub joined: usize,
-    pub behind: usize,
+    pub joined: Option<usize>,
 }
 
-// The byte at a place, or a new line past the end.
+// The byte at a place, or a new line past the end; one line, as in the other crate that reads marked texts.
 fn byte_at(text: &[u8], i: usize) -> u8
     ensures { result ≡ get_or text.now i 10 }
 {
-    if i < text.len() {
-        return text[i];
-    }
-    b'\n'
+    text.get(i).copied().unwrap_or(b'\n')
 }
 
-// The place behind the parameter that an apostrophe at `end` joins; 0 where none does.
-fn joined_end(text: &[u8], marked: &[u8], end: usize) -> usize
+// The place behind the parameter that an apostrophe at `end` joins.
+fn joined_end(text: &[u8], marked: &[u8], end: usize) -> Option<usize>
     requires { Lent text.now marked.now end }
-    ensures { JoinedEnd text.now marked.now end result }
+    ensures joins { JoinedEnd text.now marked.now end (unwrap_or result 0) }
+    ensures some { IfSome result (λ r. 0 < r) }
 {
-    if marked.len() <= end {
-        return 0;
+    if end < text.len() && text[end] == b'\'' && marked[end] == b'*' {
+        return Some(word_end(marked, end + 1));
     }
-    if text[end] != b'\'' {
-        return 0;
-    }
-    if marked[end] != b'*' {
-        return 0;
-    }
-    word_end(marked, end + 1)
+    None
 }
 
 // The place behind the closing apostrophe of the text that begins at `at`, or the end.
@@ -58,10 +49,7 @@ fn text_end(text: &[u8], at: usize) -> usize
     ensures { TextEnd text.now at result }
 {
     let x = scan_text(text, at + 1);
-    if x.end < text.len() {
-        return x.end + 1;
-    }
-    text.len()
+    (x.end + 1).min(text.len())
 }
 
 // An element that nothing is joined to.
@@ -69,13 +57,12 @@ fn alone(sort: u8, byte: u8, at: usize, end: usize, next: usize) -> Element
     ensures { result ≡ alone sort byte at end next }
 {
     Element {
-        sort: sort,
-        byte: byte,
-        at: at,
-        end: end,
-        next: next,
-        joined: 0,
-        behind: 0,
+        sort,
+        byte,
+        at,
+        end,
+        next,
+        joined: None,
     }
 }
 
@@ -93,18 +80,16 @@ pub fn next_element(text: &[u8], marked: &[u8], n: usize) -> Element
         return alone(t.sort, byte, t.at, t.at, t.next);
     }
     let end = t.next;
-    let behind = joined_end(text, marked, end);
-    if behind == 0 {
+    let Some(behind) = joined_end(text, marked, end) else {
         return alone(WORD, byte, t.at, end, end);
-    }
+    };
     Element {
         sort: WORD,
-        byte: byte,
+        byte,
         at: t.at,
-        end: end,
+        end,
         next: behind,
-        joined: end + 1,
-        behind: behind,
+        joined: Some(behind),
     }
 }
 
@@ -113,43 +98,45 @@ pub fn is_mark(b: u8, t: Element) -> bool
     requires { t.sort < 6 }
     ensures { (s : List ℕ) → result ≡ is_mark b (argument_value s t) }
 {
-    (WRONG == t.sort) & (b == t.byte)
+    WRONG == t.sort && b == t.byte
+}
+
+// The bytes that an element is known by.
+fn typed(text: &[u8], t: Element) -> &[u8]
+    requires { Held text.now t }
+    ensures { result.now ≡ part text.now t.at t.end }
+{
+    &text[t.at..t.end]
 }
 
 pub fn is_identifier(text: &[u8], t: Element) -> bool
     requires { Held text.now t }
     ensures { result ≡ is_identifier (argument_value text.now t) }
 {
-    if t.sort != WORD {
-        return false;
-    }
-    words::identifier(part(text, t.at, t.end - t.at))
+    t.sort == WORD && words::identifier(typed(text, t))
 }
 
-fn digits(w: &[u8], from: usize) -> bool
-    requires { from ≤ length w.now }
-    ensures { result ≡ all is_digit (drop from w.now) }
+fn digits(w: &[u8]) -> bool
+    ensures { result ≡ all is_digit w.now }
 {
-    let mut good = true;
-    let mut i = from;
-    while i < w.len() {
-        good = good & characters::is_digit(w[i]);
-        i += 1;
-    }
-    good
+    w.iter().all(|b| characters::is_digit(*b))
 }
 
+#[tactic(auto, using(crate::proofs::Bytes::some_digits))]
+fn unsigned(w: &[u8]) -> bool
+    ensures { result ≡ unsigned w.now }
+{
+    !w.is_empty() && digits(w)
+}
+
+// A test that takes digits of any count; `words::number_of` gives a value, and none for a number that is too great.
 fn numeral(w: &[u8]) -> bool
     ensures { result ≡ numeral w.now }
 {
-    if w.len() == 0 {
-        return false;
+    match w {
+        [b'+' | b'-', digits @ ..] => unsigned(digits),
+        _ => unsigned(w),
     }
-    let b = w[0];
-    if (b == b'+') | (b == b'-') {
-        return (1 < w.len()) & digits(w, 1);
-    }
-    digits(w, 0)
 }
 
 // Whether an element is of a form that chapter 7 lists beside texts: an identifier or a number.
@@ -157,9 +144,5 @@ pub fn is_listed(text: &[u8], t: Element) -> bool
     requires { Held text.now t }
     ensures { result ≡ is_listed (argument_value text.now t) }
 {
-    if t.sort != WORD {
-        return false;
-    }
-    let w = part(text, t.at, t.end - t.at);
-    words::identifier(w) | numeral(w)
+    t.sort == WORD && (words::identifier(typed(text, t)) || numeral(typed(text, t)))
 }

@@ -1,5 +1,6 @@
 -- What a call writes, by its macro: at fault, too deep, skipped, or entered.
-use Rattle.std.specs.Prelude.{◌≡◌, Bool, true, false, cond, not, ◌||◌, ℕ, zero, suc, ◌+◌, ◌-◌, ◌≤◌, ◌<◌, T, eqb, ltb, length, get_or, take, drop}
+use Rattle.std.specs.Option.{is_none, unwrap_or}
+use Rattle.std.specs.Prelude.{Option, Some, None, ◌≡◌, Bool, true, false, cond, not, ◌||◌, ℕ, zero, suc, ◌+◌, ◌-◌, ◌≤◌, ◌<◌, T, eqb, ltb, length, get_or, take, drop}
 use Rattle.std.proofs.Math.Path.{refl}
 use Rattle.std.proofs.Common.{sym, ap, ◌∙◌, true≢false, arith, le-leb, le-ltb, ltb-true}
 use Rattle.std.proofs.lemmas.Bool.{false≢true, lt-leb}
@@ -22,7 +23,7 @@ use Rattle.statements.specs.StatementAt.{fault_of}
 use Rattle.statements.specs.declared.Fault.TheVariants.{At}
 use Rattle.macro_values.specs.declared.Written.{Written}
 use Rattle.macro_values.specs.WritingLaws.{lower-none-right}
-use Rattle.macro_values.specs.Wrote.{Wrote}
+use Rattle.macro_values.specs.Wrote.{is_over, size_of, Wrote}
 use Rattle.macro_expansion.specs.Expanding.{inner, ShortNames}
 
 -- a name longer than those of the list is not in it
@@ -86,10 +87,10 @@ some-uneven [] p e = absurd (let z : ◌≡◌ {A = ℕ} 0 1 = cc in omega arith
 some-uneven (f ∷ fs) p e = refl
 
 -- the state with a fault, or too deep
-module _ (v r : Written) (o : List ℕ) (l : v.count ≤ length o) (count : r.count ≡ v.count) where
-  module _ (over : r.over ≡ v.over) where
-    over-same : r.over ≡ (v.over || ltb (length o) (v.count + 0))
-    over-same = over ∙ sym (ap (λ b. v.over || b) (le-ltb (length o) (v.count + 0) (omega arith)) ∙ last v.over)
+module _ (v r : Written) (o : List ℕ) (l : size_of v ≤ length o) (count : size_of r ≡ size_of v) where
+  module _ (over : is_over r ≡ is_over v) where
+    over-same : is_over r ≡ (is_over v || ltb (length o) (size_of v + 0))
+    over-same = over ∙ sym (ap (λ b. (is_over v) || b) (le-ltb (length o) (size_of v + 0) (omega arith)) ∙ last (is_over v))
       where
         last : (a : Bool) → (a || false) ≡ a
         last true = refl
@@ -103,24 +104,31 @@ module _ (v r : Written) (o : List ℕ) (l : v.count ≤ length o) (count : r.co
           uneven = f;
           over = over-same;
           size = refl;
-          within = λ z. (omega (arith, count), ap (λ n. take n o) count ∙ sym (append-nil (take v.count o)));
+          within = λ z. (omega (arith, count), ap (λ n. take n o) count ∙ sym (append-nil (take (size_of v) o)));
           most = omega (arith, count);
         }
 
-  pub wrote-deep : r.over ≡ true → r.unknown ≡ v.unknown → r.uneven ≡ v.uneven → Wrote too_deep v r o o
-  wrote-deep e f g =
-      record {
-        unknown = f ∙ lower-none-right v.unknown;
-        uneven = g ∙ lower-none-right v.uneven;
-        over = e ∙ sym (last v.over);
-        size = refl;
-        within = λ z. absurd (true≢false (sym e ∙ z));
-        most = omega (arith, count);
-      }
-    where
-      last : (a : Bool) → (a || true) ≡ true
-      last true = refl
-      last false = refl
+over-size : (w : Written) → is_over w ≡ true → size_of w ≡ 0
+over-size w e = go w.count e
+  where
+    go : (n : Option ℕ) → is_none n ≡ true → unwrap_or n 0 ≡ 0
+    go None f = refl
+    go (Some n) f = absurd (false≢true f)
+
+pub wrote-deep : (v r : Written) (o : List ℕ) → is_over r ≡ true → r.unknown ≡ v.unknown → r.uneven ≡ v.uneven → Wrote too_deep v r o o
+wrote-deep v r o e f g =
+    record {
+      unknown = f ∙ lower-none-right v.unknown;
+      uneven = g ∙ lower-none-right v.uneven;
+      over = e ∙ sym (last (is_over v));
+      size = refl;
+      within = λ z. absurd (true≢false (sym e ∙ z));
+      most = omega (arith, over-size r e);
+    }
+  where
+    last : (a : Bool) → (a || true) ≡ true
+    last true = refl
+    last false = refl
 
 -- Levels
 

@@ -1,5 +1,5 @@
 -- A body with its calls: each call's body is written with one level less.
-use Rattle.std.specs.Prelude.{◌≡◌, refl, Bool, true, false, length, take, set}
+use Rattle.std.specs.Prelude.{Option, Some, None, ◌≡◌, refl, Bool, true, false, length, take, set}
 use Rattle.std.proofs.Common.{sym, ap, ◌∙◌, get_or-set_same, take-take}
 use mathlib.Core.List.{List, [], map}
 use Prim.Native.Nat.{ℕ, suc, ◌+◌, ◌-◌, ◌≤◌, ◌<◌}
@@ -13,9 +13,10 @@ use Rattle.macro_memory.specs.Memory.{entered_writes, Remembers, Stored}
 use Rattle.macro_memory.specs.MemoryLaws.{absorbed-after}
 use Rattle.macro_values.specs.declared.Written.{Written}
 use Rattle.macro_values.specs.WritingLaws.{wrote-both}
-use Rattle.macro_values.specs.Wrote.{Wrote}
+use Rattle.macro_values.specs.Wrote.{is_over, size_of, Wrote}
 use Rattle.macro_expansion.specs.declared.Level.{Level}
 use Rattle.macro_expansion.specs.declared.Rest.{Rest}
+use Rattle.macro_expansion.specs.declared.Pause.{Pause}
 use Rattle.macro_expansion.specs.declared.Paused.{Paused}
 use Rattle.macro_expansion.specs.Expanding.{change_writes, Enters, arguments_at, rest_writes, pause_writes, Ran, Whole, Behind, Fits, Expands, Keeps}
 use Rattle.macro_expansion.specs.WalkLaws.{followed-assoc, followed-none, none-followed, expand-walks, arguments-same}
@@ -26,23 +27,23 @@ pub body-rest : (s c f : List ℕ) (n : ℕ) (calls : List ℕ) (left m : ℕ) �
 unfolding body_in
 body-rest s c f n calls left m = ap (λ g. g (arguments_at s c calls left) (body_in s c m)) (expand-walks (macros_in s c f n) left)
 
-pub run-whole : (s c f calls : List ℕ) (at : Level) (r : Rest) (v : Written) (e : Paused) (o p : List ℕ) → Whole c at r
-    → Ran s c f r.macros calls r.left r.stop r.changes (rest_writes s c f r.macros calls r.left r.place r.stop r.cell r.changes) v e o p
-    → Ran s c f at.macros calls at.left (low c (at.cell + place.span_cell)) (change_count c at.cell)
-    (expand (macros_in s c f at.macros) at.left (arguments_at s c calls at.left) (body_in s c at.cell)) v e o p
-run-whole s c f calls at r v e o p w h =
-    rw (body-rest s c f at.macros calls at.left at.cell)
-    (rw (w.macros_is, w.left_is, w.stop_is, w.changes_is, w.from_is, w.cell_is) at h)
+pub run-whole : (s c f : List ℕ) (n : ℕ) (calls : List ℕ) (at : Level) (r : Rest) (v : Written) (e : Paused) (o p : List ℕ) → Whole c at r
+    → Ran s c f n calls r.left r.stop r.changes (rest_writes s c f n calls r.left r.place r.stop r.cell r.changes) v e o p
+    → Ran s c f n calls at.left (low c (at.cell + place.span_cell)) (change_count c at.cell)
+    (expand (macros_in s c f n) at.left (arguments_at s c calls at.left) (body_in s c at.cell)) v e o p
+run-whole s c f n calls at r v e o p w h =
+    rw (body-rest s c f n calls at.left at.cell)
+    (rw (w.left_is, w.stop_is, w.changes_is, w.from_is, w.cell_is) at h)
 
-pub run-behind : (s c f calls : List ℕ) (at : Level) (x : Paused) (r : Rest) (v : Written) (e : Paused) (o p : List ℕ) → Behind c at x r
-    → Ran s c f r.macros calls r.left r.stop r.changes (rest_writes s c f r.macros calls r.left r.place r.stop r.cell r.changes) v e o p
-    → Ran s c f at.macros calls at.left (low c (at.cell + place.span_cell)) (x.changes - 1)
-    (rest_writes s c f at.macros calls at.left (low c x.cell) (low c (at.cell + place.span_cell)) (x.cell + size_at c x.cell) (x.changes - 1)) v e o p
-run-behind s c f calls at x r v e o p w h = rw (w.macros_is, w.left_is, w.stop_is, w.changes_is, w.from_is, w.cell_is) at h
+pub run-behind : (s c f : List ℕ) (n : ℕ) (calls : List ℕ) (at : Level) (x : Pause) (r : Rest) (v : Written) (e : Paused) (o p : List ℕ) → Behind c at x r
+    → Ran s c f n calls r.left r.stop r.changes (rest_writes s c f n calls r.left r.place r.stop r.cell r.changes) v e o p
+    → Ran s c f n calls at.left (low c (at.cell + place.span_cell)) (x.changes - 1)
+    (rest_writes s c f n calls at.left (low c x.cell) (low c (at.cell + place.span_cell)) (x.cell + size_at c x.cell) (x.changes - 1)) v e o p
+run-behind s c f n calls at x r v e o p w h = rw (w.left_is, w.stop_is, w.changes_is, w.from_is, w.cell_is) at h
 
-pub fits-rest : (s c f h calls : List ℕ) (at : Level) (r : Rest) (v : Written) (o : List ℕ) → r.left ≡ at.left → r.macros ≡ at.macros
-    → Fits s c f at.macros h at.left calls v o → Fits s c f r.macros h r.left calls v o
-fits-rest s c f h calls at r v o e g k = rw (e, g) k
+pub fits-rest : (s c f : List ℕ) (n : ℕ) (h calls : List ℕ) (at : Level) (r : Rest) (v : Written) (o : List ℕ) → r.left ≡ at.left
+    → Fits s c f n h at.left calls v o → Fits s c f n h r.left calls v o
+fits-rest s c f n h calls at r v o e k = rw e k
 
 -- the arguments within a call that is entered
 module _ (s c calls₀ calls calls₁ : List ℕ) (left i : ℕ) (some : 1 ≤ left) (most : left ≤ levels) (room : levels - left < length calls)
@@ -70,43 +71,44 @@ rest_same : (s c f : List ℕ) (n : ℕ) (calls others : List ℕ) (left place s
     → rest_writes s c f n others left place stop i k ≡ rest_writes s c f n calls left place stop i k
 rest_same s c f n calls others left place stop i k e = rw (arguments-same s c calls others (levels - left) e)
 
-pause-same : (s c f : List ℕ) (n : ℕ) (calls others : List ℕ) (left stop : ℕ) (r : Paused) → take (levels - left) others ≡ take (levels - left) calls
+pause-same : (s c f : List ℕ) (n : ℕ) (calls others : List ℕ) (left stop : ℕ) (r : Option Pause) → take (levels - left) others ≡ take (levels - left) calls
     → pause_writes s c f n others left stop r ≡ pause_writes s c f n calls left stop r
 unfolding pause_writes
-pause-same s c f n calls others left stop r e = rw (arguments-same s c calls others (levels - left) e)
+pause-same s c f n calls others left stop None e = refl
+pause-same s c f n calls others left stop (Some x) e = rw (arguments-same s c calls others (levels - left) e)
 
-pause-enters : (s c f : List ℕ) (n : ℕ) (calls : List ℕ) (left stop : ℕ) (r : Paused) → r.enters ≡ true
+pause-enters : (s c f : List ℕ) (n : ℕ) (calls : List ℕ) (left stop : ℕ) (r : Option Pause) (x : Pause) → r ≡ Some x
     → pause_writes s c f n calls left stop r
-    ≡ followed_by (entered_writes s c f n calls left r.cell r.body) (rest_writes s c f n calls left (low c r.cell) stop (r.cell + size_at c r.cell) (r.changes - 1))
+    ≡ followed_by (entered_writes s c f n calls left x.cell x.body) (rest_writes s c f n calls left (low c x.cell) stop (x.cell + size_at c x.cell) (x.changes - 1))
 unfolding pause_writes
-pause-enters s c f n calls left stop r e = rw e
+pause-enters s c f n calls left stop r x e = rw e
 
-pause-over : (s c f : List ℕ) (n : ℕ) (calls : List ℕ) (left stop : ℕ) (r : Paused) → r.enters ≡ false → pause_writes s c f n calls left stop r ≡ just []
+pause-over : (s c f : List ℕ) (n : ℕ) (calls : List ℕ) (left stop : ℕ) (r : Option Pause) → r ≡ None → pause_writes s c f n calls left stop r ≡ just []
 unfolding pause_writes
 pause-over s c f n calls left stop r e = rw e
 
 -- a call is entered, and the body goes on behind it
-pub expand-turn : (s c f : List ℕ) (n : ℕ) (calls₀ calls calls₁ calls₂ : List ℕ) (left stop : ℕ) (x u : Writing) (v w w' : Written) (o q p r : List ℕ) (e e' : Paused)
-    → 1 ≤ left → left ≤ levels → levels - left < length calls → take (levels - left) calls ≡ take (levels - left) calls₀ → calls₁ ≡ set calls (levels - left) e.cell
-    → Wrote u v w o q → x ≡ followed_by u (pause_writes s c f n calls₀ left stop e) → e.enters ≡ true → Expands s c f n calls₁ calls₂ (left - 1) e.body w w' q p
-    → Ran s c f n calls₂ left stop (e.changes - 1) (rest_writes s c f n calls₂ left (low c e.cell) stop (e.cell + size_at c e.cell) (e.changes - 1)) w' e' p r
-    → (y : Writing) × Wrote y v e'.state o r × (x ≡ followed_by y (pause_writes s c f n calls₀ left stop e')) × (take (levels - left) calls₂ ≡ take (levels - left) calls₀)
-expand-turn s c f n calls₀ calls calls₁ calls₂ left stop x u v w w' o q p r e e' some most room same stored wrote is enters inside run =
-    let after = calls-after s c calls₀ calls calls₁ left e.cell some most room same stored calls₂ inside.calls_stay in
-    let a = inner-arguments s c calls₀ calls calls₁ left e.cell some most room same stored in
-    let E = entered_writes s c f n calls₀ left e.cell e.body in
+pub expand-turn : (s c f : List ℕ) (n : ℕ) (calls₀ calls calls₁ calls₂ : List ℕ) (left stop : ℕ) (x u : Writing) (v w w' : Written) (o q p r : List ℕ) (e e' : Paused) (b : Pause)
+    → 1 ≤ left → left ≤ levels → levels - left < length calls → take (levels - left) calls ≡ take (levels - left) calls₀ → calls₁ ≡ set calls (levels - left) b.cell
+    → Wrote u v w o q → x ≡ followed_by u (pause_writes s c f n calls₀ left stop e.call) → e.call ≡ Some b → Expands s c f n calls₁ calls₂ (left - 1) b.body w w' q p
+    → Ran s c f n calls₂ left stop (b.changes - 1) (rest_writes s c f n calls₂ left (low c b.cell) stop (b.cell + size_at c b.cell) (b.changes - 1)) w' e' p r
+    → (y : Writing) × Wrote y v e'.state o r × (x ≡ followed_by y (pause_writes s c f n calls₀ left stop e'.call)) × (take (levels - left) calls₂ ≡ take (levels - left) calls₀)
+expand-turn s c f n calls₀ calls calls₁ calls₂ left stop x u v w w' o q p r e e' b some most room same stored wrote is enters inside run =
+    let after = calls-after s c calls₀ calls calls₁ left b.cell some most room same stored calls₂ inside.calls_stay in
+    let a = inner-arguments s c calls₀ calls calls₁ left b.cell some most room same stored in
+    let E = entered_writes s c f n calls₀ left b.cell b.body in
     let B = run.behind in
-    let P = pause_writes s c f n calls₀ left stop e' in
+    let P = pause_writes s c f n calls₀ left stop e'.call in
     let k : Wrote E w w' q p = rw a at inside.wrote in (
       followed_by (followed_by u E) B,
       wrote-both (followed_by u E) B v w' e'.state o p r (wrote-both u E v w w' o q p wrote k) run.wrote,
       is
           ∙ ap (followed_by u)
-          (pause-enters s c f n calls₀ left stop e enters
+          (pause-enters s c f n calls₀ left stop e.call b enters
           ∙ ap (followed_by E)
-          (sym (rest_same s c f n calls₀ calls₂ left (low c e.cell) stop (e.cell + size_at c e.cell) (e.changes - 1) after)
+          (sym (rest_same s c f n calls₀ calls₂ left (low c b.cell) stop (b.cell + size_at c b.cell) (b.changes - 1) after)
           ∙ run.is
-          ∙ ap (followed_by B) (pause-same s c f n calls₀ calls₂ left stop e' after)))
+          ∙ ap (followed_by B) (pause-same s c f n calls₀ calls₂ left stop e'.call after)))
           ∙ sym (followed-assoc u E (followed_by B P))
           ∙ sym (followed-assoc (followed_by u E) B P),
       after,
@@ -115,7 +117,7 @@ expand-turn s c f n calls₀ calls calls₁ calls₂ left stop x u v w w' o q p 
 -- the body ends, and is remembered
 module _ (s c f : List ℕ) (n : ℕ) (calls calls₁ calls₂ : List ℕ) (left stop k m : ℕ) (u : Writing) (v : Written) (e e' : Paused) (o q p : List ℕ) (steady : Bool)
     (run : Ran s c f n calls left stop k (expand (macros_in s c f n) left (arguments_at s c calls left) (body_in s c m)) v e o q) (wrote : Wrote u e.state e'.state q p)
-    (is : pause_writes s c f n calls left stop e ≡ followed_by u (pause_writes s c f n calls left stop e')) (over : e'.enters ≡ false)
+    (is : pause_writes s c f n calls left stop e.call ≡ followed_by u (pause_writes s c f n calls left stop e'.call)) (over : e'.call ≡ None)
     (stay : take (levels - left) calls₁ ≡ take (levels - left) calls) where
   abbrev written : List ℕ → Writing
   written l = expand (macros_in s c f n) left (arguments_at s c l left) (body_in s c m)
@@ -123,10 +125,10 @@ module _ (s c f : List ℕ) (n : ℕ) (calls calls₁ calls₂ : List ℕ) (left
   all-written : Wrote (written calls) v e'.state o p
   all-written =
       let a : written calls ≡ followed_by run.behind u =
-      run.is ∙ ap (followed_by run.behind) (is ∙ ap (followed_by u) (pause-over s c f n calls left stop e' over) ∙ followed-none u) in
+      run.is ∙ ap (followed_by run.behind) (is ∙ ap (followed_by u) (pause-over s c f n calls left stop e'.call over) ∙ followed-none u) in
       rw a (wrote-both run.behind u v e.state e'.state o q p run.wrote wrote)
 
-  pub expand-ends : Remembers s c f n calls₁ e'.state → (steady ≡ true → e'.state.over ≡ false → e'.state.count ≡ v.count) → Keeps s c calls₁ calls₂ left m steady
+  pub expand-ends : Remembers s c f n calls₁ e'.state → (steady ≡ true → is_over e'.state ≡ false → size_of e'.state ≡ size_of v) → Keeps s c calls₁ calls₂ left m steady
       → Expands s c f n calls calls₂ left m v e'.state o p
   expand-ends h same keeps =
       let a : arguments_at s c calls₁ left ≡ arguments_at s c calls left = arguments-same s c calls calls₁ (levels - left) stay in

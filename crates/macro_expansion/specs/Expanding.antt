@@ -1,5 +1,5 @@
 -- A body written in parts: what a call's body writes with so many levels left, what is left of a body, and what is promised of each part.
-use Rattle.std.specs.Prelude.{◌≡◌, Bool, true, false, cond, List, [], ℕ, zero, suc, ◌+◌, ◌-◌, ◌*◌, ◌≤◌, ◌<◌, length, get_or, take, drop}
+use Rattle.std.specs.Prelude.{Option, Some, None, ◌≡◌, Bool, true, false, List, [], ℕ, zero, suc, ◌+◌, ◌-◌, ◌*◌, ◌≤◌, ◌<◌, length, get_or, take, drop}
 use Rattle.language.specs.Limits as limit
 use Rattle.macros.specs.Expansion.{Writing, just, too_deep, followed_by, walk, expand, levels}
 use Rattle.macros.specs.Macros.{Macro}
@@ -11,12 +11,14 @@ use Rattle.macro_code.specs.Places as place
 use Rattle.statements.specs.declared.Fault as told
 use Rattle.statements.specs.declared.Fault.TheVariants.{Clear, At}
 use Rattle.macro_memory.specs.Memory.{reach, memory, entered_writes, Absorbed, Remembers}
-use Rattle.macro_values.specs.Wrote.{Wrote}
+use Rattle.macro_values.specs.Wrote.{size_of, Wrote}
 use Rattle.macro_values.specs.declared.Written.{Written}
 use Rattle.macro_expansion.specs.declared.Level.{Level}
 use Rattle.macro_expansion.specs.declared.Step.{Step}
 use Rattle.macro_expansion.specs.declared.Rest.{Rest}
+use Rattle.macro_expansion.specs.declared.Pause.{Pause}
 use Rattle.macro_expansion.specs.declared.Paused.{Paused}
+use Rattle.macro_expansion.specs.declared.Macros.{Macros}
 
 -- what the body of a call writes, within a body with so many levels left
 unfoldable pub inner : List Macro → ℕ → List (List ℕ) → List Piece → Writing
@@ -45,6 +47,10 @@ pub record Known (s c f : List ℕ) (n : ℕ) (h : List ℕ) : Type 0 where
   pub heights : Heights s c f n h (drop n h)
   pub singles : Singles s c f n (take n (drop (n + n) h))
 
+-- the same of a list
+abbrev pub KnownList : Macros → Type 0
+KnownList l = Known l.text.now l.code.now l.names.now l.count l.heights.now
+
 -- the change at the cell, with so many levels left
 abbrev pub change_writes : List ℕ → List ℕ → List ℕ → ℕ → List ℕ → ℕ → ℕ → Writing
 change_writes s c f n calls left i =
@@ -59,16 +65,16 @@ pub record Enters (s c f : List ℕ) (n : ℕ) (calls : List ℕ) (left i m : �
 
 -- a call is passed, with any row of bytes; or it is to be entered
 pub record Judged (s c f : List ℕ) (n : ℕ) (calls : List ℕ) (left i : ℕ) (v : Written) (r : Step) : Type 0 where
-  pub passed : r.enters ≡ false → (o : List ℕ) → v.count ≤ length o → Wrote (change_writes s c f n calls left i) v r.state o o
-  pub waits : r.enters ≡ true → r.state ≡ v
-  pub enters : r.enters ≡ true → Enters s c f n calls left i r.body
+  pub passed : r.call ≡ None → (o : List ℕ) → size_of v ≤ length o → Wrote (change_writes s c f n calls left i) v r.state o o
+  pub waits : (m : ℕ) → r.call ≡ Some m → r.state ≡ v
+  pub enters : (m : ℕ) → r.call ≡ Some m → Enters s c f n calls left i m
 
 -- a change is passed; or it is a call that is to be entered, and nothing is written yet
 pub record Met (s c f : List ℕ) (n : ℕ) (calls : List ℕ) (left i : ℕ) (v : Written) (r : Step) (o p : List ℕ) : Type 0 where
-  pub passed : r.enters ≡ false → Wrote (change_writes s c f n calls left i) v r.state o p
-  pub waits : r.enters ≡ true → Wrote (just []) v r.state o p
-  pub enters : r.enters ≡ true → Enters s c f n calls left i r.body
-  pub there : r.enters ≡ true → i + 1 < length c
+  pub passed : r.call ≡ None → Wrote (change_writes s c f n calls left i) v r.state o p
+  pub waits : (m : ℕ) → r.call ≡ Some m → Wrote (just []) v r.state o p
+  pub enters : (m : ℕ) → r.call ≡ Some m → Enters s c f n calls left i m
+  pub there : (m : ℕ) → r.call ≡ Some m → i + 1 < length c
   pub size : length p ≡ length o
 
 -- what the rest of a body writes
@@ -78,28 +84,30 @@ rest_writes s c f n calls left place stop i k =
     walk ms (inner ms left) (arguments_at s c calls left) (pieces_from s place stop (changes_in s c i k))
 
 -- what is left behind a pause: nothing, or a call and the rest
-unfoldable pub pause_writes : List ℕ → List ℕ → List ℕ → ℕ → List ℕ → ℕ → ℕ → Paused → Writing
-pause_writes s c f n calls left stop r =
-    cond r.enters
-    (followed_by (entered_writes s c f n calls left r.cell r.body)
-    (rest_writes s c f n calls left (low c r.cell) stop (r.cell + size_at c r.cell) (r.changes - 1)))
-    (just [])
+unfoldable pub pause_writes : List ℕ → List ℕ → List ℕ → ℕ → List ℕ → ℕ → ℕ → Option Pause → Writing
+pause_writes s c f n calls left stop None = just []
+pause_writes s c f n calls left stop (Some x) =
+    followed_by (entered_writes s c f n calls left x.cell x.body) (rest_writes s c f n calls left (low c x.cell) stop (x.cell + size_at c x.cell) (x.changes - 1))
+
+abbrev pub changes_left : Option Pause → ℕ
+changes_left None = 0
+changes_left (Some x) = x.changes
 
 -- where it pauses
-pub record Stops (cells left : ℕ) (r : Paused) : Type 0 where
+pub record Stops (cells left : ℕ) (x : Pause) : Type 0 where
   pub deeper : 1 ≤ left
-  pub there : r.cell + 1 < cells
-  pub body : r.body < place.half
-  pub some : 1 ≤ r.changes
-  pub few : r.changes < place.half
+  pub there : x.cell + 1 < cells
+  pub body : x.body < place.half
+  pub some : 1 ≤ x.changes
+  pub few : x.changes < place.half
 
 -- the rest of a body, written up to a pause
 pub record Ran (s c f : List ℕ) (n : ℕ) (calls : List ℕ) (left stop k : ℕ) (w : Writing) (v : Written) (r : Paused) (o p : List ℕ) : Type 0 where
   pub behind : Writing
   pub wrote : Wrote behind v r.state o p
-  pub is : w ≡ followed_by behind (pause_writes s c f n calls left stop r)
-  pub fewer : r.changes ≤ k
-  pub enters : r.enters ≡ true → Stops (length c) left r
+  pub is : w ≡ followed_by behind (pause_writes s c f n calls left stop r.call)
+  pub fewer : changes_left r.call ≤ k
+  pub enters : (x : Pause) → r.call ≡ Some x → Stops (length c) left x
 
 -- the rest of a body, whose cells are not too far
 pub record Near (r : Rest) : Type 0 where
@@ -114,25 +122,26 @@ pub record Whole (c : List ℕ) (at : Level) (r : Rest) : Type 0 where
   pub cell_is : r.cell ≡ first_change c at.cell
   pub changes_is : r.changes ≡ change_count c at.cell
   pub left_is : r.left ≡ at.left
-  pub macros_is : r.macros ≡ at.macros
   pub near : Near r
 
-pub record Behind (c : List ℕ) (at : Level) (e : Paused) (r : Rest) : Type 0 where
+pub record Behind (c : List ℕ) (at : Level) (e : Pause) (r : Rest) : Type 0 where
   pub from_is : r.place ≡ low c e.cell
   pub stop_is : r.stop ≡ low c (at.cell + place.span_cell)
   pub cell_is : r.cell ≡ e.cell + size_at c e.cell
   pub changes_is : r.changes ≡ e.changes - 1
   pub left_is : r.left ≡ at.left
-  pub macros_is : r.macros ≡ at.macros
   pub near : Near r
 
 -- with so many levels left, in rows that can hold it
 pub record Fits (s c f : List ℕ) (n : ℕ) (h : List ℕ) (left : ℕ) (calls : List ℕ) (v : Written) (o : List ℕ) : Type 0 where
   pub known : Known s c f n h
   pub most : left ≤ levels
-  pub count : v.count ≤ length o
+  pub count : size_of v ≤ length o
   pub room : memory ≤ length calls
   pub remembers : Remembers s c f n calls v
+
+abbrev pub FitsList : Macros → ℕ → List ℕ → Written → List ℕ → Type 0
+FitsList l left calls v o = Fits l.text.now l.code.now l.names.now l.count l.heights.now left calls v o
 
 pub record Expands (s c f : List ℕ) (n : ℕ) (calls after : List ℕ) (left m : ℕ) (v r : Written) (o p : List ℕ) : Type 0 where
   pub wrote : Wrote (expand (macros_in s c f n) left (arguments_at s c calls left) (body_in s c m)) v r o p

@@ -1,7 +1,8 @@
 -- A call by what is found of it.
-use Rattle.std.specs.Prelude.{◌≡◌, refl, Bool, true, ◌&&◌, List, [], ◌∷◌, map, ℕ, zero, suc, ◌+◌, ◌-◌, ◌≤◌, ◌<◌, eqb, leb, length, get_or, drop}
+use Rattle.std.specs.Prelude.{Some, None, ◌≡◌, refl, Bool, true, ◌&&◌, List, [], ◌∷◌, map, ℕ, zero, suc, ◌+◌, ◌-◌, ◌≤◌, ◌<◌, eqb, leb, length, get_or, drop}
 use Rattle.std.proofs.Common.{sym, ap, ◌∙◌, true≢false, arith, leb-true, get_or-drop}
 use Rattle.std.proofs.Math.Bool.{false}
+use Rattle.std.proofs.lemmas.Option.{none-some, same_Some}
 use Rattle.std.proofs.lemmas.Bool.{false≢true}
 use Rattle.macros.specs.Expansion.{fault, places_of, called_by, argument_faults, Writing, just, too_deep, filled_in, entered, piece_writes, expand, levels}
 use Rattle.macros.specs.Pieces.Piece.{called}
@@ -18,7 +19,7 @@ use Rattle.macro_memory.specs.Memory.{entered_writes, Found, Remembers}
 use Rattle.macro_memory.specs.MemoryLaws.{absorbed-writes}
 use Rattle.macro_values.specs.declared.Written.{Written}
 use Rattle.macro_values.specs.WritingLaws.{lower-none-right, wrote_none, wrote-over}
-use Rattle.macro_values.specs.Wrote.{Wrote}
+use Rattle.macro_values.specs.Wrote.{is_over, size_of, Wrote}
 use Rattle.macro_expansion.specs.declared.Step.{Step}
 use Rattle.macro_expansion.specs.Expanding.{inner, is_at, arguments_at, change_writes, Known, Judged}
 use Rattle.macro_expansion.specs.CallLaws.{unknown-writes, faulty-writes, right-writes, uneven-alone, no-uneven, some-uneven, wrote-faults, wrote-deep, inner-deep, inner-expands, quiet-writes, fixed-writes}
@@ -46,13 +47,13 @@ both_right false b e = absurd (false≢true e)
 
 module _ (s c f : List ℕ) (n : ℕ) (calls : List ℕ) (left i : ℕ) (v : Written) where
   -- a call that is passed
-  judged-stay : (w : Writing) → change_writes s c f n calls left i ≡ w → (r : Step) → r.enters ≡ false
-      → ((o : List ℕ) → v.count ≤ length o → Wrote w v r.state o o) → Judged s c f n calls left i v r
+  judged-stay : (w : Writing) → change_writes s c f n calls left i ≡ w → (r : Step) → r.call ≡ None
+      → ((o : List ℕ) → size_of v ≤ length o → Wrote w v r.state o o) → Judged s c f n calls left i v r
   judged-stay w e r z k =
       record {
         passed = λ y o l. rw e (k o l);
-        waits = λ y. absurd (false≢true (sym z ∙ y));
-        enters = λ y. absurd (false≢true (sym z ∙ y));
+        waits = λ m y. absurd (none-some m (sym z ∙ y));
+        enters = λ m y. absurd (none-some m (sym z ∙ y));
       }
 
   module _ (piece : (change_in s c i).pieces ≡ called (call_in s c i) ∷ []) where
@@ -65,8 +66,8 @@ module _ (s c f : List ℕ) (n : ℕ) (calls : List ℕ) (left i : ℕ) (v : Wri
     call-writes = rw piece (walk-one (macros_in s c f n) (inner (macros_in s c f n) left) (arguments_at s c calls left) (called (call_in s c i)))
 
     -- its macro is not in the list once
-    pub judge-unknown : eqb (length (called_by (macros_in s c f n) wanted)) 1 ≡ false → (r : Step) (u : Written) (p : ℕ) → r.state ≡ u → r.enters ≡ false
-        → p ≡ high c (i + place.name_cell) → (u.count ≡ v.count) × (u.over ≡ v.over) × (u.unknown ≡ lower v.unknown (At p)) × (u.uneven ≡ v.uneven)
+    pub judge-unknown : eqb (length (called_by (macros_in s c f n) wanted)) 1 ≡ false → (r : Step) (u : Written) (p : ℕ) → r.state ≡ u → r.call ≡ None
+        → p ≡ high c (i + place.name_cell) → (size_of u ≡ size_of v) × (is_over u ≡ is_over v) × (u.unknown ≡ lower v.unknown (At p)) × (u.uneven ≡ v.uneven)
         → Judged s c f n calls left i v r
     unfolding call_in lowest
     judge-unknown h r u p e z q k =
@@ -81,8 +82,8 @@ module _ (s c f : List ℕ) (n : ℕ) (calls : List ℕ) (left i : ℕ) (v : Wri
       found = only.only ∙ ap (λ j. macro_in s c j ∷ []) (sym cell)
 
       -- it has another count of parameters
-      pub judge-uneven : is_at g ≡ true → (r : Step) (u : Written) → r.state ≡ u → r.enters ≡ false
-          → (u.count ≡ v.count) × (u.over ≡ v.over) × (u.unknown ≡ v.unknown) × (u.uneven ≡ lower v.uneven g) → Judged s c f n calls left i v r
+      pub judge-uneven : is_at g ≡ true → (r : Step) (u : Written) → r.state ≡ u → r.call ≡ None
+          → (size_of u ≡ size_of v) × (is_over u ≡ is_over v) × (u.unknown ≡ v.unknown) × (u.uneven ≡ lower v.uneven g) → Judged s c f n calls left i v r
       judge-uneven b r u e z x =
           let fs = argument_faults (call_in s c i) (macro_in s c m) in
           let a = at_some g b in
@@ -107,11 +108,11 @@ module _ (s c f : List ℕ) (n : ℕ) (calls : List ℕ) (left i : ℕ) (v : Wri
             found (no-uneven (call_in s c i) (macro_in s c m) (no-fault (places_of 65 (argument_faults (call_in s c i) (macro_in s c m))) (sym counts ∙ at_none g fine)))
 
         -- it is too deep
-        pub judge-deep : left ≡ 0 → (r : Step) (u : Written) → r.state ≡ u → r.enters ≡ false
-            → (u.count ≡ v.count) × (u.over ≡ true) × (u.unknown ≡ v.unknown) × (u.uneven ≡ v.uneven) → Judged s c f n calls left i v r
+        pub judge-deep : left ≡ 0 → (r : Step) (u : Written) → r.state ≡ u → r.call ≡ None
+            → (is_over u ≡ true) × (u.unknown ≡ v.unknown) × (u.uneven ≡ v.uneven) → Judged s c f n calls left i v r
         judge-deep y r u e z x =
             judged-stay too_deep (right ∙ inner-deep (macros_in s c f n) left given (body_in s c m) y) r z
-            (λ o l. rw e (wrote-deep v u o l x.0 x.1 x.2 x.3))
+            (λ o l. rw e (wrote-deep v u o x.0 x.1 x.2))
 
         module _ (some : left ≡ 0 → ⊥) where
           entering : change_writes s c f n calls left i ≡ expand (macros_in s c f n) (left - 1) given (body_in s c (get_or f k 0))
@@ -121,37 +122,39 @@ module _ (s c f : List ℕ) (n : ℕ) (calls : List ℕ) (left i : ℕ) (v : Wri
           below = let y : 1 ≤ left = not-zero left some in omega arith
 
           -- it is quiet
-          pub judge-quiet : get_or h k 0 < left → (r : Step) → r.state ≡ v → r.enters ≡ false → Judged s c f n calls left i v r
+          pub judge-quiet : get_or h k 0 < left → (r : Step) → r.state ≡ v → r.call ≡ None → Judged s c f n calls left i v r
           judge-quiet y r e z =
               judged-stay (just []) (entering ∙ quiet-writes s c f n h (drop n h) known.heights k (left - 1) only.listed given below (omega arith)) r z
               (λ o l. rw e (wrote_none v o l))
 
           -- it meets no fault, and nothing more is written
-          pub judge-settled : (v.over && leb left (get_or h (n + k) 0)) ≡ true → (r : Step) → r.state ≡ v → r.enters ≡ false → Judged s c f n calls left i v r
+          pub judge-settled : ((is_over v) && leb left (get_or h (n + k) 0)) ≡ true → (r : Step) → r.state ≡ v → r.call ≡ None → Judged s c f n calls left i v r
           judge-settled y r e z =
               let w = expand (macros_in s c f n) (left - 1) given (body_in s c (get_or f k 0)) in
-              let x : left ≤ get_or h (n + k) 0 = leb-true left (get_or h (n + k) 0) (both_right v.over (leb left (get_or h (n + k) 0)) y) in
+              let x : left ≤ get_or h (n + k) 0 = leb-true left (get_or h (n + k) 0) (both_right (is_over v) (leb left (get_or h (n + k) 0)) y) in
               let d : get_or (drop n h) k 0 ≡ get_or h (n + k) 0 = get_or-drop n h k 0 in
               let j = below in
               judged-stay w entering r z
-              (λ o l. rw e (wrote-over w v o l (both_left v.over (leb left (get_or h (n + k) 0)) y)
+              (λ o l. rw e (wrote-over w v o l (both_left (is_over v) (leb left (get_or h (n + k) 0)) y)
               (fixed-writes s c f n h (drop n h) known.heights k (left - 1) only.listed given below (omega arith))))
 
           -- it is remembered
-          pub judge-found : Found s c calls left i m → Remembers s c f n calls v → (r : Step) → r.state ≡ v → r.enters ≡ false → Judged s c f n calls left i v r
+          pub judge-found : Found s c calls left i m → Remembers s c f n calls v → (r : Step) → r.state ≡ v → r.call ≡ None → Judged s c f n calls left i v r
           judge-found y q r e z =
               judged-stay (entered_writes s c f n calls left i m) (right ∙ inner-expands (macros_in s c f n) left given (body_in s c m) some) r z
               (λ o l. rw e (absorbed-writes (entered_writes s c f n calls left i m) v o (y.changes_nothing f n v q) l))
 
           -- it is entered
-          pub judge-enters : m < place.half → (r : Step) → r.state ≡ v → r.enters ≡ true → r.body ≡ m → Judged s c f n calls left i v r
-          judge-enters y r e z b =
+          pub judge-enters : m < place.half → (r : Step) → r.state ≡ v → r.call ≡ Some m → Judged s c f n calls left i v r
+          judge-enters y r e z =
               record {
-                passed = λ a. absurd (true≢false (sym z ∙ a));
-                waits = λ a. e;
-                enters = λ a. record {
-                  deeper = let j = below in omega (arith, not-zero left some);
-                  body = rw b y;
-                  writes = rw b (right ∙ inner-expands (macros_in s c f n) left given (body_in s c m) some);
-                };
+                passed = λ a. absurd (none-some m (sym a ∙ z));
+                waits = λ j a. e;
+                enters = λ j a.
+                    rw (same_Some j m (sym a ∙ z))
+                    (record {
+                      deeper = not-zero left some;
+                      body = y;
+                      writes = right ∙ inner-expands (macros_in s c f n) left given (body_in s c m) some;
+                    });
               }

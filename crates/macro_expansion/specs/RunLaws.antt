@@ -1,8 +1,8 @@
 -- A body, change after change.
-use Rattle.std.specs.Prelude.{◌≡◌, refl, true, false, List, [], ◌∷◌, length, get_or, take, drop}
+use Rattle.std.specs.Prelude.{Some, None, ◌≡◌, refl, true, false, List, [], ◌∷◌, length, get_or, take, drop}
+use Rattle.std.proofs.lemmas.Option.{none-some, same_Some}
 use Rattle.std.proofs.Math.Path.{sym, ap}
 use Rattle.std.proofs.Common.{◌∙◌, arith}
-use Rattle.std.proofs.lemmas.Bool.{false≢true}
 use Prim.Native.Nat.{ℕ, zero, suc, ◌+◌, ◌-◌, ◌≤◌, ◌<◌}
 use Rattle.std.proofs.Math.Decide.{dec_lt}
 use Rattle.std.proofs.Math.ListN.{get_or-eq_default}
@@ -14,8 +14,9 @@ use Rattle.macro_code.specs.Places.{half}
 use Rattle.macro_memory.specs.Memory.{entered_writes}
 use Rattle.macro_values.specs.declared.Written.{Written}
 use Rattle.macro_values.specs.WritingLaws.{wrote-both, wrote_none}
-use Rattle.macro_values.specs.Wrote.{Wrote}
+use Rattle.macro_values.specs.Wrote.{size_of, Wrote}
 use Rattle.macro_expansion.specs.declared.Step.{Step}
+use Rattle.macro_expansion.specs.declared.Pause.{Pause}
 use Rattle.macro_expansion.specs.declared.Paused.{Paused}
 use Rattle.macro_expansion.specs.Expanding.{inner, arguments_at, change_writes, rest_writes, pause_writes, Enters, Judged, Met, Ran}
 use Rattle.macro_expansion.specs.WalkLaws.{followed-assoc, followed-none, walk-one, walk_kept}
@@ -44,34 +45,34 @@ module _ (s c f : List ℕ) (n : ℕ) (calls : List ℕ) (left i : ℕ) where
   nothing-writes e g = rw (e, g)
 
   module _ (v : Written) (r : Step) (o : List ℕ) where
-    pub met-value : (u : Written) (p : List ℕ) → is_value c i ≡ true → r.state ≡ u → r.enters ≡ false
+    pub met-value : (u : Written) (p : List ℕ) → is_value c i ≡ true → r.state ≡ u → r.call ≡ None
         → Wrote (just (get_or (arguments_at s c calls left) (low c (i + 1)) [])) v u o p → Met s c f n calls left i v r o p
     met-value u p e g z k =
         record {
           passed = λ y. rw g (rw (value-writes e) at k);
-          waits = λ y. absurd (false≢true (sym z ∙ y));
-          enters = λ y. absurd (false≢true (sym z ∙ y));
-          there = λ y. absurd (false≢true (sym z ∙ y));
+          waits = λ m y. absurd (none-some m (sym z ∙ y));
+          enters = λ m y. absurd (none-some m (sym z ∙ y));
+          there = λ m y. absurd (none-some m (sym z ∙ y));
           size = k.size;
         }
 
-    pub met-nothing : v.count ≤ length o → is_value c i ≡ false → is_call c i ≡ false → r.state ≡ v → r.enters ≡ false → Met s c f n calls left i v r o o
+    pub met-nothing : size_of v ≤ length o → is_value c i ≡ false → is_call c i ≡ false → r.state ≡ v → r.call ≡ None → Met s c f n calls left i v r o o
     met-nothing l e g h z =
         record {
           passed = λ y. rw h (rw (nothing-writes e g) at (wrote_none v o l));
-          waits = λ y. absurd (false≢true (sym z ∙ y));
-          enters = λ y. absurd (false≢true (sym z ∙ y));
-          there = λ y. absurd (false≢true (sym z ∙ y));
+          waits = λ m y. absurd (none-some m (sym z ∙ y));
+          enters = λ m y. absurd (none-some m (sym z ∙ y));
+          there = λ m y. absurd (none-some m (sym z ∙ y));
           size = refl;
         }
 
-    pub met-call : v.count ≤ length o → (high c (i + 1) ≡ 0 → ⊥) → Judged s c f n calls left i v r → Met s c f n calls left i v r o o
+    pub met-call : size_of v ≤ length o → (high c (i + 1) ≡ 0 → ⊥) → Judged s c f n calls left i v r → Met s c f n calls left i v r o o
     met-call l h j =
         record {
           passed = λ y. j.passed y o l;
-          waits = λ y. rw (j.waits y) (wrote_none v o l);
-          enters = λ y. j.enters y;
-          there = λ y. call-there c i h;
+          waits = λ m y. rw (j.waits m y) (wrote_none v o l);
+          enters = λ m y. j.enters m y;
+          there = λ m y. call-there c i h;
           size = refl;
         }
 
@@ -115,42 +116,46 @@ module _ (s c f : List ℕ) (n : ℕ) (calls : List ℕ) (left stop : ℕ) where
         )
 
     -- a call is to be entered
-    pub run-pauses : (e : Paused) (most : ℕ) → k ≤ most → 0 < k → k < half → Wrote (just (kept_bytes place (high c i))) w w' q p → Wrote (just []) w' w'' p r
-        → Enters s c f n calls left i e.body → i + 1 < length c → e.state ≡ w'' → e.enters ≡ true → e.cell ≡ i → e.changes ≡ k
+    pub run-pauses : (e : Paused) (b : Pause) (most : ℕ) → k ≤ most → 0 < k → k < half → Wrote (just (kept_bytes place (high c i))) w w' q p → Wrote (just []) w' w'' p r
+        → Enters s c f n calls left i b.body → i + 1 < length c → e.state ≡ w'' → e.call ≡ Some b → b.cell ≡ i → b.changes ≡ k
         → Ran s c f n calls left stop most x v e o r
     unfolding pause_writes
-    run-pauses e most m l few a b enters there st en ce ch =
+    run-pauses e b most m l few a wait enters there st en ce ch =
         let b₁ = just (kept_bytes place (high c i)) in
         let b₂ = followed_by u b₁ in
         let t = rest_writes s c f n calls left (low c i) stop (i + size_at c i) (k - 1) in
-        let y = followed_by (entered_writes s c f n calls left i e.body) t in
+        let y = followed_by (entered_writes s c f n calls left i b.body) t in
+        let z : pause_writes s c f n calls left stop e.call ≡ y = rw (en, ce, ch) refl in
         record {
           behind = followed_by b₂ (just []);
-          wrote = rw st (wrote-both b₂ (just []) v w' w'' o p r (wrote-both u b₁ v w w' o q p wrote a) b);
-          is = rw (en, ce, ch)
+          wrote = rw st (wrote-both b₂ (just []) v w' w'' o p r (wrote-both u b₁ v w w' o q p wrote a) wait);
+          is = rw z
               (is
               ∙ ap (followed_by u) (rest-step place i k l ∙ ap (λ z. followed_by b₁ (followed_by z t)) enters.writes)
               ∙ sym (followed-assoc u b₁ y)
               ∙ ap (λ z. followed_by z y) (sym (followed-none b₂)));
-          fewer = rw ch m;
-          enters = λ z. record {
-            deeper = enters.deeper;
-            there = rw ce there;
-            body = enters.body;
-            some = rw ch (omega arith);
-            few = rw ch few;
-          };
+          fewer = rw (en, ch) m;
+          enters = λ j g.
+              rw (same_Some j b (sym g ∙ en))
+              (record {
+                deeper = enters.deeper;
+                there = rw ce there;
+                body = enters.body;
+                some = rw ch (omega arith);
+                few = rw ch few;
+              });
         }
 
     -- the body ends
-    pub run_ends : (e : Paused) (most : ℕ) → e.changes ≡ 0 → k ≤ 0 → Wrote (just (kept_bytes place stop)) w w' q p → e.state ≡ w' → e.enters ≡ false → Ran s c f n calls left stop most x v e o p
+    pub run_ends : (e : Paused) (most : ℕ) → k ≤ 0 → Wrote (just (kept_bytes place stop)) w w' q p → e.state ≡ w' → e.call ≡ None → Ran s c f n calls left stop most x v e o p
     unfolding pause_writes
-    run_ends e most m l a st en =
+    run_ends e most l a st en =
         let b₁ = just (kept_bytes place stop) in
+        let z : pause_writes s c f n calls left stop e.call ≡ just [] = rw en refl in
         record {
           behind = followed_by u b₁;
           wrote = rw st (wrote-both u b₁ v w w' o q p wrote a);
-          is = rw en (is ∙ ap (followed_by u) (rest-last place i k l) ∙ sym (followed-none (followed_by u b₁)));
-          fewer = omega (arith, m);
-          enters = λ z. absurd (false≢true (sym en ∙ z));
+          is = rw z (is ∙ ap (followed_by u) (rest-last place i k l) ∙ sym (followed-none (followed_by u b₁)));
+          fewer = rw en (omega arith);
+          enters = λ j g. absurd (none-some j (sym en ∙ g));
         }

@@ -4,7 +4,8 @@ use mathlib.Core.Bool.{Bool, true, false, cond, not, ◌&&◌, true≢false, fal
 use mathlib.Core.List.{List, [], ◌∷◌, map, append-nil}
 use Prim.Native.Nat.{ℕ, ◌+◌}
 use native.Mathlib.Omega.{arith}
-use borrow.Author.Tests.{not-true, not-false, lt-ltb, le-ltb}
+use borrow.Author.Tests.{lt-ltb, le-ltb}
+use Rattle.std.specs.Prelude.{Some, None}
 use lib.Dec.{eqb, ltb}
 use lib.ListN.{length, get_or, take, drop}
 use Rattle.lists.specs.Lists.{filled}
@@ -16,7 +17,6 @@ use Rattle.macros.specs.Silence.{right_macro, right_call}
 use Rattle.macro_code.specs.Code.{high, low, bytes_at, given_in, is_call, call_in, body_in, macro_in, macros_in}
 use Rattle.macro_code.specs.Places.{kind_cell, name_cell, typed_kind, parameter_kind}
 use Rattle.macro_calls.specs.Calls.{is_typed_call, Finds, Counts}
-use Rattle.macro_calls.specs.declared.Named.{Named}
 use Rattle.statements.specs.StatementAt.{fault_of}
 use Rattle.statements.specs.FaultLaws.{no-fault}
 use Rattle.statements.specs.declared.Fault.{Fault}
@@ -59,10 +59,10 @@ module _ (s c firsts : List ℕ) (n i : ℕ) where
   d = call_in s c i
 
   -- by a parameter
-  pub aims-untyped : {b : Bool} → b ≡ is_typed_call c i → not b ≡ true → Aims s c firsts n i n
+  pub aims-untyped : {b : Bool} → b ≡ is_typed_call c i → b ≡ false → Aims s c firsts n i n
   unfolding call_in given_in right_call
   aims-untyped {b} e f =
-      record { is = λ t passes. go (is_call c i) (eqb (high c (i + name_cell + kind_cell)) typed_kind) (eqb (high c (i + name_cell + kind_cell)) parameter_kind) t (sym e ∙ not-true b f) passes }
+      record { is = λ t passes. go (is_call c i) (eqb (high c (i + name_cell + kind_cell)) typed_kind) (eqb (high c (i + name_cell + kind_cell)) parameter_kind) t (sym e ∙ f) passes }
     where
       go : (a g p : Bool) → a ≡ true → (a && g) ≡ false → (passes : List Piece → Bool)
           → right_call ms passes (call_in s c i) (cond g (typed (bytes_at s c (i + name_cell))) (cond p (parameter (low c (i + name_cell + kind_cell))) (joined (bytes_at s c (i + name_cell)) (low c (i + name_cell + kind_cell)))))
@@ -72,10 +72,10 @@ module _ (s c firsts : List ℕ) (n i : ℕ) where
       go true false true t u passes = none-aimed n (passes (body_in s c (get_or firsts n 0)))
       go true false false t u passes = none-aimed n (passes (body_in s c (get_or firsts n 0)))
 
-  module _ {b : Bool} (e : b ≡ is_typed_call c i) (f : not b ≡ false) where
+  module _ {b : Bool} (e : b ≡ is_typed_call c i) (f : b ≡ true) where
     typed-right : (passes : List Piece → Bool) → right_call ms passes d d.name ≡ right_macro ms passes d (called_by ms (bytes_at s c (i + name_cell)))
     unfolding call_in given_in right_call
-    typed-right passes = go (is_call c i) (eqb (high c (i + name_cell + kind_cell)) typed_kind) refl (sym e ∙ not-false b f)
+    typed-right passes = go (is_call c i) (eqb (high c (i + name_cell + kind_cell)) typed_kind) refl (sym e ∙ f)
       where
         go : (a g : Bool) → eqb (high c (i + name_cell + kind_cell)) typed_kind ≡ g → (a && g) ≡ true
             → right_call ms passes d d.name ≡ right_macro ms passes d (called_by ms (bytes_at s c (i + name_cell)))
@@ -83,21 +83,21 @@ module _ (s c firsts : List ℕ) (n i : ℕ) where
         go true false u v = absurd (false≢true v)
         go true true u v = rw u refl
 
-    module _ {r : Named} (found : Finds s c firsts n (bytes_at s c (i + name_cell)) r) where
-      pub aims-lost : not r.once ≡ true → Aims s c firsts n i n
-      aims-lost g =
-          record {
-            is = λ t passes. typed-right passes ∙ other-right ms passes d (called_by ms (bytes_at s c (i + name_cell))) (sym found.once_is ∙ not-true r.once g)
-                ∙ none-aimed n (passes (body_in s c (get_or firsts n 0)));
-          }
+    pub aims-lost : Finds s c firsts n (bytes_at s c (i + name_cell)) None → Aims s c firsts n i n
+    aims-lost found =
+        record {
+          is = λ t passes. typed-right passes ∙ other-right ms passes d (called_by ms (bytes_at s c (i + name_cell))) (sym found.once_is)
+              ∙ none-aimed n (passes (body_in s c (get_or firsts n 0)));
+        }
 
-      module _ (g : not r.once ≡ false) {m : ℕ} (at : m ≡ get_or firsts r.number 0) {x : Fault} (counts : Counts c i m x) where
+    module _ {k : ℕ} (found : Finds s c firsts n (bytes_at s c (i + name_cell)) (Some k)) where
+      module _ {m : ℕ} (at : m ≡ get_or firsts k 0) {x : Fault} (counts : Counts c i m x) where
         abbrev target : Macro
-        target = macro_in s c (get_or firsts r.number 0)
+        target = macro_in s c (get_or firsts k 0)
 
         found_right : (passes : List Piece → Bool) → right_call ms passes d d.name ≡ (not (filled (places_of 65 (argument_faults d target))) && passes target.body)
         found_right passes =
-            typed-right passes ∙ ap (right_macro ms passes d) (found.only (not-false r.once g)).only ∙ one_right ms passes d target
+            typed-right passes ∙ ap (right_macro ms passes d) found.only.only ∙ one_right ms passes d target
             ∙ ap (λ z. not z && passes target.body) (counts-filled d target)
 
         fault_is : x ≡ fault_of (places_of 65 (argument_faults d target))
@@ -111,11 +111,11 @@ module _ (s c firsts : List ℕ) (n i : ℕ) where
                   ∙ none-aimed n (passes (body_in s c (get_or firsts n 0)));
             }
 
-        pub aims-right : x ≡ Clear → Aims s c firsts n i r.number
+        pub aims-right : x ≡ Clear → Aims s c firsts n i k
         unfolding macro_in
         aims-right u =
             record {
               is = λ t passes. found_right passes
                   ∙ ap (λ z. not (filled z) && passes target.body) (no-fault (places_of 65 (argument_faults d target)) (sym fault_is ∙ u))
-                  ∙ sym (ap (λ z. z && passes target.body) (lt-ltb r.number n (found.only (not-false r.once g)).listed));
+                  ∙ sym (ap (λ z. z && passes target.body) (lt-ltb k n found.only.listed));
             }

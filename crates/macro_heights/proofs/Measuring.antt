@@ -2,14 +2,13 @@
 use mathlib.Core.Path.{◌≡◌, refl, sym, ap, ◌∙◌}
 use mathlib.Core.Bool.{Bool, true, false, cond, not, ◌&&◌, and-true, and-false, and_assoc}
 use mathlib.Core.List.{List, [], ◌∷◌, ◌++◌}
-use Prim.Native.Nat.{ℕ, suc, ◌+◌, ◌*◌, ◌-◌, ◌≤◌, ◌<◌}
+use Prim.Native.Nat.{ℕ, suc, min, max, ◌+◌, ◌*◌, ◌-◌, ◌≤◌, ◌<◌}
 use native.Mathlib.Decide.{dec_lt}
 use native.Mathlib.Numerals.{add-one}
 use native.Mathlib.Omega.{arith}
 use borrow.Author.Tests.{eq-eqb, ne_eqb, lt-ltb, le-ltb, le-leb, lt-leb}
 use lib.Dec.{leb, ltb}
-use lib.ListN.{length, get_or, take, drop, drop_of_length-le}
-use lib.Seq.{drop-cons, take-nil}
+use lib.ListN.{get_or, take, drop}
 use Rattle.lists.specs.Lists.{all, filled}
 use Rattle.macros.specs.Expansion.{levels}
 use Rattle.macros.specs.Macros.{Macro}
@@ -18,53 +17,32 @@ use Rattle.macros.specs.Pieces.Piece.{kept, value, called}
 use Rattle.macros.specs.Silence.{right_call, silent_piece, fixed_piece}
 use Rattle.macro_code.specs.Code.{high, low, call_in, change_in, size_at, changes_in, first_change, change_count, body_in, macros_in}
 use Rattle.macro_code.specs.Places.{span_cell, kind_cell}
-use Rattle.macro_code.specs.Bounds.{near, far, widest}
+use Rattle.macro_code.specs.Bounds.{near, widest}
 use Rattle.macro_heights.specs.Levels.{Aims, Greater, Lesser, Measures, Quiet, Loose, quiet_at, loose_at}
 
 -- the greater and the lesser of two heights
-pub greater-second : (a b : ℕ) → a ≤ b → Greater a b b
-greater-second a b h = record { is = λ l. go l (dec_lt l b) }
+max-greater : {a b r : ℕ} → r ≡ max a b → Greater a b r
+max-greater {a} {b} {r} e = record { is = λ l. go l (dec_lt l r) (dec_lt l a) (dec_lt l b) }
   where
-    go : (l : ℕ) → Dec (l < b) → leb b l ≡ (leb a l && leb b l)
-    go l (yes u) = rw (lt-leb b l u) (sym (and-false (leb a l)))
-    go l (no u) = rw (le-leb a l (omega arith)) refl
+    go : (l : ℕ) → Dec (l < r) → Dec (l < a) → Dec (l < b) → leb r l ≡ (leb a l && leb b l)
+    go l (yes u) (yes v) w = rw (lt-leb r l u, lt-leb a l v) refl
+    go l (yes u) (no v) (yes w) = rw (lt-leb r l u, lt-leb b l w) (sym (and-false (leb a l)))
+    go l (yes u) (no v) (no w) = absurd (omega arith)
+    go l (no u) v w = rw (le-leb r l (omega arith), le-leb a l (omega arith), le-leb b l (omega arith)) refl
 
-pub greater-first : (a b : ℕ) → b < a → Greater a b a
-greater-first a b h = record { is = λ l. go l (dec_lt l a) }
+min-lesser : {a b r : ℕ} → r ≡ min a b → Lesser a b r
+min-lesser {a} {b} {r} e = record { is = λ l. go l (dec_lt l r) (dec_lt l a) (dec_lt l b) }
   where
-    go : (l : ℕ) → Dec (l < a) → leb a l ≡ (leb a l && leb b l)
-    go l (yes u) = rw (lt-leb a l u) refl
-    go l (no u) = rw (le-leb a l (omega arith), le-leb b l (omega arith)) refl
-
-pub lesser-first : (a b : ℕ) → a ≤ b → Lesser a b a
-lesser-first a b h = record { is = λ l. go l (dec_lt l a) }
-  where
-    go : (l : ℕ) → Dec (l < a) → ltb l a ≡ (ltb l a && ltb l b)
-    go l (yes u) = rw (lt-ltb l a u, lt-ltb l b (omega arith)) refl
-    go l (no u) = rw (le-ltb l a (omega arith)) refl
-
-pub lesser-second : (a b : ℕ) → b < a → Lesser a b b
-lesser-second a b h = record { is = λ l. go l (dec_lt l b) }
-  where
-    go : (l : ℕ) → Dec (l < b) → ltb l b ≡ (ltb l a && ltb l b)
-    go l (yes u) = rw (lt-ltb l a (omega arith)) refl
-    go l (no u) = rw (le-ltb l b (omega arith)) (sym (and-false (ltb l a)))
+    go : (l : ℕ) → Dec (l < r) → Dec (l < a) → Dec (l < b) → ltb l r ≡ (ltb l a && ltb l b)
+    go l (yes u) v w = rw (lt-ltb l r u, lt-ltb l a (omega arith), lt-ltb l b (omega arith)) refl
+    go l (no u) (yes v) (yes w) = absurd (omega arith)
+    go l (no u) (yes v) (no w) = rw (le-ltb l r (omega arith), le-ltb l b (omega arith)) (sym (and-false (ltb l a)))
+    go l (no u) (no v) w = rw (le-ltb l r (omega arith), le-ltb l a (omega arith)) refl
 
 -- the bytes between two places
 module _ (s : List ℕ) (place stop : ℕ) where
   abbrev gap : List ℕ
   gap = take (stop - place) (drop place s)
-
-  pub gap-backward : stop ≤ place → 0 ≡ cond (filled gap) levels 0
-  gap-backward h = let e : stop - place ≡ 0 = omega arith in rw e refl
-
-  pub gap-beyond : length s ≤ place → 0 ≡ cond (filled gap) levels 0
-  gap-beyond h = rw (drop_of_length-le s {i = place} h, take-nil {A = ℕ} (stop - place)) refl
-
-  pub gap-bytes : place < stop → place < length s → levels ≡ cond (filled gap) levels 0
-  gap-bytes h k =
-      let e : stop - place ≡ suc (stop - place - 1) = omega arith in
-      rw (drop-cons s place 0 k, e) refl
 
   pub gap-quiet : (ms : List Macro) (passes : List Piece → Bool) {g : ℕ} → g ≡ cond (filled gap) levels 0 → (l : ℕ) → l < levels → leb g l ≡ silent_piece ms passes (kept place gap)
   unfolding silent_piece
@@ -111,6 +89,14 @@ module _ (at : ℕ → ℕ → Bool) (test : (List Piece → Bool) → Piece →
     call-refused l g =
         record { is = λ m u passes fits. g m u ∙ sym (call_passes passes ∙ ap (λ b. (b && passes (body_in s c (get_or firsts k 0))) && true) (le-ltb k n l)) }
 
+    -- as the function on calls tells it
+    pub call-height : {refused r : ℕ} → ((l : ℕ) → l < levels → at refused l ≡ false) → r ≡ cond (ltb k n) (get_or row k 0 + 1) refused → Measures at test s c firsts n row (change_in s c i).pieces r
+    call-height {refused} g h = rw h (go (dec_lt k n))
+      where
+        go : Dec (k < n) → Measures at test s c firsts n row (change_in s c i).pieces (cond (ltb k n) (get_or row k 0 + 1) refused)
+        go (yes u) = rw (lt-ltb k n u) (call-measured u refl)
+        go (no u) = rw (le-ltb k n (omega arith)) (call-refused (omega arith) g)
+
   -- what is left of the body at the cell q: from a place on, with the change number k at the cell i; acc is the height of what was passed
   pub record Rest (q place i k acc : ℕ) : Type 0 where
     pub few : change_count c q < 65536
@@ -126,9 +112,6 @@ module _ (at : ℕ → ℕ → Bool) (test : (List Piece → Bool) → Piece →
       record { few = few; bound = omega arith; most = omega arith; is = λ l u passes fits. let z : change_count c q - 0 ≡ change_count c q = omega arith in rw (g l u, e, f, z) refl }
 
   module _ {q place i k acc : ℕ} (p : Rest q place i k acc) where
-    not-far : i < far
-    not-far = omega (arith, p.bound, p.most, p.few)
-
     regrouped : (x y z w : Bool) → ((x && (y && z)) && w) ≡ (x && (y && (z && w)))
     regrouped x y z w = and_assoc x (y && z) w ∙ ap (λ b. x && b) (and_assoc y z w)
 
@@ -198,21 +181,13 @@ module _ (s c firsts : List ℕ) (n : ℕ) (row : List ℕ) (i : ℕ) {kind : �
       go passes (no u) = ap (all (fixed_piece ms passes)) (value-pieces s c i e (omega arith))
 
   module _ (f : kind ≡ 1) {k : ℕ} (aims : Aims s c firsts n i k) where
-    pub quiet-call : k < n → {h : ℕ} → h ≡ get_or row k 0 → Quiet s c firsts n row (change_in s c i).pieces (h + 1)
+    pub quiet-call : {r : ℕ} → r ≡ cond (ltb k n) (get_or row k 0 + 1) 16 → Quiet s c firsts n row (change_in s c i).pieces r
     unfolding silent_piece
-    quiet-call l g = call-measured quiet_at (silent_piece ms) s c firsts n row (λ passes d. refl) i e f aims l g
+    quiet-call g = call-height quiet_at (silent_piece ms) s c firsts n row (λ passes d. refl) i e f aims (λ m u. lt-leb 16 m u) g
 
-    pub quiet-refused : n ≤ k → Quiet s c firsts n row (change_in s c i).pieces 16
-    unfolding silent_piece
-    quiet-refused l = call-refused quiet_at (silent_piece ms) s c firsts n row (λ passes d. refl) i e f aims l (λ m u. lt-leb 16 m u)
-
-    pub loose-call : k < n → {h : ℕ} → h ≡ get_or row k 0 → Loose s c firsts n row (change_in s c i).pieces (h + 1)
+    pub loose-call : {r : ℕ} → r ≡ cond (ltb k n) (get_or row k 0 + 1) 0 → Loose s c firsts n row (change_in s c i).pieces r
     unfolding fixed_piece
-    loose-call l g = call-measured loose_at (fixed_piece ms) s c firsts n row (λ passes d. refl) i e f aims l g
-
-    pub loose-refused : n ≤ k → Loose s c firsts n row (change_in s c i).pieces 0
-    unfolding fixed_piece
-    loose-refused l = call-refused loose_at (fixed_piece ms) s c firsts n row (λ passes d. refl) i e f aims l (λ m u. le-ltb m 0 (omega arith))
+    loose-call g = call-height loose_at (fixed_piece ms) s c firsts n row (λ passes d. refl) i e f aims (λ m u. le-ltb m 0 (omega arith)) g
 
 -- and of a body, change by change
 module _ (s c firsts : List ℕ) (n : ℕ) (row : List ℕ) where
@@ -226,14 +201,8 @@ module _ (s c firsts : List ℕ) (n : ℕ) (row : List ℕ) where
   LooseRest q place i k acc = Rest loose_at (fixed_piece list) s c firsts n row q place i k acc
 
   module _ {q place i k acc : ℕ} where
-    pub quiet-near : QuietRest q place i k acc → i < far
-    quiet-near p = not-far quiet_at (silent_piece list) s c firsts n row p
-
-    pub loose-near : LooseRest q place i k acc → i < far
-    loose-near p = not-far loose_at (fixed_piece list) s c firsts n row p
-
     pub quiet-on : QuietRest q place i k acc → k < change_count c q → {start g a h b : ℕ} → start ≡ high c i
-        → g ≡ cond (filled (take (start - place) (drop place s))) levels 0 → Greater acc g a → Quiet s c firsts n row (change_in s c i).pieces h → Greater a h b
+        → g ≡ cond (filled (take (start - place) (drop place s))) levels 0 → a ≡ max acc g → Quiet s c firsts n row (change_in s c i).pieces h → b ≡ max a h
         → {place₁ : ℕ} → place₁ ≡ low c i → {size : ℕ} → size ≡ size_at c i → size ≤ widest → QuietRest q place₁ (i + size) (k + 1) b
     quiet-on p l {start} {g} {a} {h} {b} e f u v w x y z = rest-on quiet_at (silent_piece list) s c firsts n row p l step x y z
       where
@@ -243,22 +212,22 @@ module _ (s c firsts : List ℕ) (n : ℕ) (row : List ℕ) where
         step : (l : ℕ) → l < levels → (passes : List Piece → Bool) → ((j : ℕ) → j < n → passes (body_in s c (get_or firsts j 0)) ≡ leb (suc (get_or row j 0)) l)
             → leb b l ≡ (leb acc l && (silent_piece list passes (kept place (take (high c i - place) (drop place s))) && all (silent_piece list passes) (change_in s c i).pieces))
         step l m passes fits =
-            w.is l ∙ ap (λ x. x && leb h l) (u.is l) ∙ and_assoc (leb acc l) (leb g l) (leb h l)
+            (max-greater w).is l ∙ ap (λ x. x && leb h l) ((max-greater u).is l) ∙ and_assoc (leb acc l) (leb g l) (leb h l)
             ∙ ap (λ x. leb acc l && (x && leb h l)) (gap-quiet s place (high c i) list passes f₁ l m)
             ∙ ap (λ x. leb acc l && (silent_piece list passes (kept place (take (high c i - place) (drop place s))) && x)) (v.is l m passes fits)
 
     pub quiet-end : QuietRest q place i k acc → change_count c q ≤ k → {stop g r : ℕ} → stop ≡ low c (q + span_cell)
-        → g ≡ cond (filled (take (stop - place) (drop place s))) levels 0 → Greater acc g r → Quiet s c firsts n row (body_in s c q) r
+        → g ≡ cond (filled (take (stop - place) (drop place s))) levels 0 → r ≡ max acc g → Quiet s c firsts n row (body_in s c q) r
     quiet-end p l {stop} {g} {r} e f u =
         rest_end quiet_at (silent_piece list) s c firsts n row p l
-        (λ m v passes fits. u.is m ∙ ap (λ x. leb acc m && x)
+        (λ m v passes fits. (max-greater u).is m ∙ ap (λ x. leb acc m && x)
         (gap-quiet s place (low c (q + span_cell)) list passes (f ∙ ap (λ (j : ℕ). cond (filled (take (j - place) (drop place s))) levels 0) e) m v))
 
-    pub loose-on : LooseRest q place i k acc → k < change_count c q → {h b : ℕ} → Loose s c firsts n row (change_in s c i).pieces h → Lesser acc h b
+    pub loose-on : LooseRest q place i k acc → k < change_count c q → {h b : ℕ} → Loose s c firsts n row (change_in s c i).pieces h → b ≡ min acc h
         → {size : ℕ} → size ≡ size_at c i → size ≤ widest → LooseRest q (low c i) (i + size) (k + 1) b
     unfolding fixed_piece
     loose-on p l {h} {b} v w y z =
-        rest-on loose_at (fixed_piece list) s c firsts n row p l (λ m u passes fits. w.is m ∙ ap (λ x. ltb m acc && x) (v.is m u passes fits)) refl y z
+        rest-on loose_at (fixed_piece list) s c firsts n row p l (λ m u passes fits. (min-lesser w).is m ∙ ap (λ x. ltb m acc && x) (v.is m u passes fits)) refl y z
 
     pub loose-end : LooseRest q place i k acc → change_count c q ≤ k → Loose s c firsts n row (body_in s c q) acc
     unfolding fixed_piece

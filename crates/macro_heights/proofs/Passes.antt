@@ -3,7 +3,6 @@ use mathlib.Core.Path.{◌≡◌, refl, sym, ap, ◌∙◌}
 use mathlib.Core.Bool.{Bool, not-not, true, false, cond, not, true≢false}
 use mathlib.Core.List.{List}
 use Prim.Native.Nat.{ℕ, zero, suc, ◌+◌, ◌-◌, ◌≤◌, ◌<◌}
-use native.Mathlib.Nat.{not-suc-le-zero}
 use native.Mathlib.Decide.{dec_lt}
 use native.Mathlib.Omega.{arith}
 use borrow.Author.Tests.{lt-ltb, le-ltb, le-leb, lt-leb, leb-true, leb-false}
@@ -14,8 +13,7 @@ use Rattle.macros.specs.Expansion.{levels}
 use Rattle.macros.specs.Macros.{Macro}
 use Rattle.macros.specs.Silence.{silent, fixed}
 use Rattle.macro_code.specs.Code.{body_in, macros_in}
-use Rattle.macro_code.specs.Known.{Heights}
-use Rattle.macro_heights.specs.Levels.{Quiet, Loose, quiet_table, loose_table, UpTo, Settled, Unset}
+use Rattle.macro_heights.specs.Levels.{Quiet, Loose, quiet_table, loose_table, Rises, HeightAt, Settled}
 use Rattle.macro_heights.proofs.Rising.{quiet-rises, loose-rises, quiet_before, loose_before, quiet-level, loose-level}
 
 -- below the level l all heights are known, and at l those of the first j macros
@@ -41,24 +39,6 @@ module _ (P : ℕ → ℕ → Type 0) (row : List ℕ) (j x : ℕ) (h : j < leng
       go (no u) (no v) = let e : k ≡ j = omega arith in rw (e, get_or-set_same row j x 0 h) p
 
 module _ (table : ℕ → ℕ → Bool) (n l : ℕ) where
-  pub pass-first : {row : List ℕ} → UpTo table n l row → InPass table n l 0 row
-  pass-first p =
-      record {
-        room = p.room;
-        most = omega arith;
-        below = p.known;
-        here = λ k u. absurd (not-suc-le-zero u);
-        left = λ k u. p.apart k;
-        done = λ k u. absurd (not-suc-le-zero u);
-      }
-
-  pub pass-end : {j : ℕ} {row : List ℕ} → InPass table n l j row → n ≤ j → UpTo table n (l + 1) row
-  pass-end {j} {row} p h = record { room = p.room; known = λ k m u v. go k m u v (dec_lt m l); apart = λ k u. p.done k (omega arith) }
-    where
-      go : (k m : ℕ) → k < n → m < l + 1 → Dec (m < l) → leb (get_or row k 0) m ≡ table m k
-      go k m u v (yes w) = p.below k m u w
-      go k m u v (no w) = let e : m ≡ l = omega arith in rw e (p.here k (omega arith))
-
   module _ {j : ℕ} {row : List ℕ} (p : InPass table n l j row) (h : j < n) (low : l < levels) where
     pass_same : leb (get_or row j 0) l ≡ table l j → InPass table n l (j + 1) row
     pass_same e =
@@ -93,10 +73,12 @@ module _ (table : ℕ → ℕ → Bool) (n l : ℕ) where
         inside : j < length row
         inside = omega (arith, p.room)
 
-    pub pass_on : ((m k : ℕ) → table m k ≡ true → table (suc m) k ≡ true) → {height : ℕ} → leb height l ≡ table l j → {after : List ℕ} → Settled row j height l after
-        → InPass table n l (j + 1) after
-    pass_on rises {height} e {after} s = rw s.is (go (leb height l) refl (leb levels (get_or row j 0)) refl)
+    pub pass_on : Rises table → {height : ℕ} → HeightAt table n l row j height → {after : List ℕ} → Settled row j height l after → InPass table n l (j + 1) after
+    pass_on rises {height} found {after} s = rw s.is (go (leb height l) refl (leb levels (get_or row j 0)) refl)
       where
+        e : leb height l ≡ table l j
+        e = found.is p.below
+
         falls : table l j ≡ false → Dec (get_or row j 0 < levels) → leb (get_or row j 0) l ≡ false
         falls t (no u) = lt-leb (get_or row j 0) l (omega arith)
         falls t (yes u) =
@@ -104,7 +86,7 @@ module _ (table : ℕ → ℕ → Bool) (n l : ℕ) where
             let m : ℕ = l - 1 in
             let z : l ≡ suc (l - 1) = omega arith in
             let at : table (l - 1) j ≡ true = sym (p.below j (l - 1) h (omega arith)) ∙ le-leb (get_or row j 0) (l - 1) (omega arith) in
-            absurd (true≢false (sym (ap (λ (i : ℕ). table i j) z ∙ rises (l - 1) j at) ∙ t))
+            absurd (true≢false (sym (ap (λ (i : ℕ). table i j) z ∙ rises.next (l - 1) j at) ∙ t))
 
         go : (a : Bool) → leb height l ≡ a → (b : Bool) → leb levels (get_or row j 0) ≡ b → InPass table n l (j + 1) (cond a (cond b (set row j l) row) row)
         go true u true v = pass-put (leb-true levels (get_or row j 0) v) (sym e ∙ u)
@@ -133,44 +115,35 @@ module _ (s c firsts : List ℕ) (n : ℕ) where
   abbrev ms : List Macro
   ms = macros_in s c firsts n
 
-  quiet-fits : {row : List ℕ} {j : ℕ} (l : ℕ) → InPass (quiet_table s c firsts n) n l j row → (k : ℕ) → k < n → quiet_before ms l (body_in s c (get_or firsts k 0)) ≡ leb (suc (get_or row k 0)) l
-  quiet-fits {row} zero p k u = sym (lt-leb (suc (get_or row k 0)) 0 (omega arith))
-  quiet-fits {row} (suc m) p k u = sym (next-leb (get_or row k 0) m ∙ p.below k m u (omega arith))
+  Below : (ℕ → ℕ → Bool) → ℕ → List ℕ → Type 0
+  Below table l row = (k m : ℕ) → k < n → m < l → leb (get_or row k 0) m ≡ table m k
 
-  loose-fits : {row : List ℕ} {j : ℕ} (l : ℕ) → InPass (loose_table s c firsts n) n l j row → (k : ℕ) → k < n → loose_before ms l (body_in s c (get_or firsts k 0)) ≡ ltb l (suc (get_or row k 0))
-  loose-fits {row} zero p k u = sym (lt-ltb 0 (suc (get_or row k 0)) (omega arith))
-  loose-fits {row} (suc m) p k u =
-      sym (above (suc (get_or row k 0)) (suc m) ∙ ap not (next-leb (get_or row k 0) m ∙ p.below k m u (omega arith)) ∙ not-not (fixed ms m (body_in s c (get_or firsts k 0))))
+  quiet-fits : (row : List ℕ) (l : ℕ) → Below (quiet_table s c firsts n) l row → (k : ℕ) → k < n → quiet_before ms l (body_in s c (get_or firsts k 0)) ≡ leb (suc (get_or row k 0)) l
+  unfolding Below
+  quiet-fits row zero p k u = sym (lt-leb (suc (get_or row k 0)) 0 (omega arith))
+  quiet-fits row (suc m) p k u = sym (next-leb (get_or row k 0) m ∙ p k m u (omega arith))
+
+  loose-fits : (row : List ℕ) (l : ℕ) → Below (loose_table s c firsts n) l row → (k : ℕ) → k < n → loose_before ms l (body_in s c (get_or firsts k 0)) ≡ ltb l (suc (get_or row k 0))
+  unfolding Below
+  loose-fits row zero p k u = sym (lt-ltb 0 (suc (get_or row k 0)) (omega arith))
+  loose-fits row (suc m) p k u =
+      sym (above (suc (get_or row k 0)) (suc m) ∙ ap not (next-leb (get_or row k 0) m ∙ p k m u (omega arith)) ∙ not-not (fixed ms m (body_in s c (get_or firsts k 0))))
 
   module _ (l : ℕ) {row : List ℕ} {j : ℕ} {q : ℕ} {height : ℕ} (h : l < levels) (e : q ≡ get_or firsts j 0) where
-    pub quiet-found : InPass (quiet_table s c firsts n) n l j row → Quiet s c firsts n row (body_in s c q) height → leb height l ≡ quiet_table s c firsts n l j
-    quiet-found p m =
-        m.is l h (quiet_before ms l) (quiet-fits l p) ∙ sym (quiet-level ms l (body_in s c q)) ∙ ap (λ (i : ℕ). silent ms l (body_in s c i)) e
+    pub quiet_found : Quiet s c firsts n row (body_in s c q) height → HeightAt (quiet_table s c firsts n) n l row j height
+    unfolding Below
+    quiet_found m =
+        record { is = λ p. m.is l h (quiet_before ms l) (quiet-fits row l p) ∙ sym (quiet-level ms l (body_in s c q)) ∙ ap (λ (i : ℕ). silent ms l (body_in s c i)) e }
 
-    pub loose-found : InPass (loose_table s c firsts n) n l j row → Loose s c firsts n row (body_in s c q) height → leb height l ≡ loose_table s c firsts n l j
-    loose-found p m =
-        sym (not-not (leb height l)) ∙ ap not (sym (above height l) ∙ m.is l h (loose_before ms l) (loose-fits l p) ∙ sym (loose-level ms l (body_in s c q)) ∙ ap (λ (i : ℕ). fixed ms l (body_in s c i)) e)
+    pub loose_found : Loose s c firsts n row (body_in s c q) height → HeightAt (loose_table s c firsts n) n l row j height
+    unfolding Below
+    loose_found m =
+        record {
+          is = λ p. sym (not-not (leb height l)) ∙ ap not (sym (above height l) ∙ m.is l h (loose_before ms l) (loose-fits row l p) ∙ sym (loose-level ms l (body_in s c q)) ∙ ap (λ (i : ℕ). fixed ms l (body_in s c i)) e);
+        }
 
-  pub quiet-climbs : (m k : ℕ) → quiet_table s c firsts n m k ≡ true → quiet_table s c firsts n (suc m) k ≡ true
-  quiet-climbs m k = quiet-rises ms m (body_in s c (get_or firsts k 0))
+  pub quiet_climbs : Rises (quiet_table s c firsts n)
+  quiet_climbs = record { next = λ m k. quiet-rises ms m (body_in s c (get_or firsts k 0)) }
 
-  pub loose-climbs : (m k : ℕ) → loose_table s c firsts n m k ≡ true → loose_table s c firsts n (suc m) k ≡ true
-  loose-climbs m k = loose-rises ms m (body_in s c (get_or firsts k 0))
-
-  -- the rows before the first pass and after the last
-  pub up-to-none : (table : ℕ → ℕ → Bool) {row : List ℕ} → n ≤ length row → Unset n row → UpTo table n 0 row
-  up-to-none table h u = record { room = h; known = λ k m v w. absurd (not-suc-le-zero w); apart = λ k v w. absurd (omega (arith, u.none k v)) }
-
-  pub all-heights : {l : ℕ} {quiet loose : List ℕ} → levels ≤ l → UpTo (quiet_table s c firsts n) n l quiet → UpTo (loose_table s c firsts n) n l loose → Heights s c firsts n quiet loose
-  all-heights h p q = record { quiet_is = λ k m u v. p.known k m u (omega arith); loose_is = λ k m u v. q.known k m u (omega arith) }
-
--- one macro
-module _ (row : List ℕ) (k height level : ℕ) where
-  pub settled-put : height ≤ level → {x : ℕ} → x ≡ get_or row k 0 → levels ≤ x → {y : ℕ} → y ≡ level → Settled row k height level (set row k y)
-  settled-put h {x} e g f = record { is = rw (f, le-leb height level h, le-leb levels (get_or row k 0) (omega (arith, e))) refl }
-
-  pub settled-full : height ≤ level → {x : ℕ} → x ≡ get_or row k 0 → x < levels → Settled row k height level row
-  settled-full h {x} e g = record { is = rw (le-leb height level h, lt-leb levels (get_or row k 0) (omega (arith, e))) refl }
-
-  pub settled-above : level < height → Settled row k height level row
-  settled-above h = record { is = rw (lt-leb height level h) refl }
+  pub loose_climbs : Rises (loose_table s c firsts n)
+  loose_climbs = record { next = λ m k. loose-rises ms m (body_in s c (get_or firsts k 0)) }

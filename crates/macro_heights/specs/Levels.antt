@@ -54,6 +54,14 @@ pub record UpTo (table : ℕ → ℕ → Bool) (n l : ℕ) (row : List ℕ) : Ty
   pub known : (k m : ℕ) → k < n → m < l → leb (get_or row k 0) m ≡ table m k
   pub apart : (k : ℕ) → k < n → get_or row k 0 < levels → get_or row k 0 < l
 
+-- what passes at a level passes at the next
+pub record Rises (table : ℕ → ℕ → Bool) : Type 0 where
+  pub next : (l k : ℕ) → table l k ≡ true → table (suc l) k ≡ true
+
+-- the macro number k has the height h, as far as the level l can tell, where a row has the heights below it
+pub record HeightAt (table : ℕ → ℕ → Bool) (n l : ℕ) (row : List ℕ) (k h : ℕ) : Type 0 where
+  pub is : ((j m : ℕ) → j < n → m < l → leb (get_or row j 0) m ≡ table m j) → leb h l ≡ table l k
+
 pub record Settled (row : List ℕ) (k height level : ℕ) (after : List ℕ) : Type 0 where
   pub is : after ≡ cond (leb height level) (cond (leb levels (get_or row k 0)) (set row k level) row) row
 

@@ -1,34 +1,27 @@
 // Lines of a given text: of a place in it, and of all places that the bytes of its written-out text come from.
 #![tactic(auto)]
 
-ghost use Rattle.std.specs.Prelude.{◌≡◌, map, ◌≤◌, length};
+ghost use Rattle.std.specs.Prelude.{◌≡◌, eqb, map, ◌≤◌, length};
 ghost use Rattle.language.specs.Limits as limit;
+ghost use Rattle.syntax.specs.Below.Lists.{keep};
 ghost use Rattle.syntax.specs.Items.{line_of};
-ghost use Rattle.macro_lines.specs.Lines.{Ahead, Placed};
+ghost use Rattle.macro_lines.specs.Lines.{Placed};
 
-use scanner::one_if;
-use statements::lesser;
-
-// The line of a place, from that of an earlier one.
-fn line_ahead(text: &[u8], from: usize, line: usize, to: usize) -> usize
-    requires { Ahead text.now from line to }
-    ensures { result ≡ line_of text.now to }
+// How many bytes are line feeds.
+fn feeds(bytes: &[u8]) -> usize
+    ensures counted { result ≡ length (keep (eqb 10) bytes.now) }
+    ensures few { result ≤ length bytes.now }
 {
-    let mut l = line;
-    let mut i = from;
-    while i < to {
-        l = l + one_if(b'\n' == text[i]);
-        i += 1;
-    }
-    l
+    bytes.iter().filter(|b| b'\n' == **b).count()
 }
 
 // The line of a place, also past the end.
+#[tactic(auto, unfolding(syntax::specs::Items::line_of))]
 pub fn line_of(text: &[u8], at: usize) -> usize
     requires { length text.now ≤ limit.text }
     ensures { result ≡ line_of text.now at }
 {
-    line_ahead(text, 0, 1, lesser(at, text.len()))
+    1 + feeds(&text[..at.min(text.len())])
 }
 
 // Places, none lower than the one before, become their lines.
@@ -36,14 +29,12 @@ pub fn find_lines(text: &[u8], places: &mut [u16])
     requires { Placed text.now places.old }
     ensures { places.new ≡ map (line_of text.now) places.old }
 {
-    let mut from: usize = 0;
-    let mut line: usize = 1;
-    let mut j: usize = 0;
-    while j < places.len() {
-        let to = places[j] as usize;
-        line = line_ahead(text, from, line, to);
-        places[j] = line as u16;
+    let mut from = 0;
+    let mut line = 1;
+    for place in places.iter_mut() {
+        let to = usize::from(*place);
+        line += feeds(&text[from..to]);
+        *place = line as u16;
         from = to;
-        j += 1;
     }
 }

@@ -1,11 +1,12 @@
 -- What load answers and leaves: of a text as it stands, and of one with macros.
 use mathlib.Core.Path.{◌≡◌, refl, sym, ap, ◌∙◌, subst}
 use mathlib.Core.Logic.{◌≢◌}
-use mathlib.Core.Bool.{Bool, true, false, cond}
+use mathlib.Core.Bool.{Bool, true, false, cond, ◌||◌, true≢false}
+use lib.Dec.{ltb}
 use mathlib.Core.List.{List, ◌++◌}
 use Prim.Native.Nat.{ℕ, ◌≤◌, ◌<◌}
 use native.Mathlib.Omega.{arith}
-use borrow.Author.Tests.{ne_eqb, le-leb, lt-leb}
+use borrow.Author.Tests.{ne_eqb, le-leb, lt-leb, ltb-true, ltb-false}
 use lib.ListN.{length, take, drop, replicate, length-append, length-replicate, take-append-drop}
 use lib.Seq.{take-append_seam, drop-append_seam}
 use Rattle.calls.specs.Calls.{load_number, load_line, table_after}
@@ -14,9 +15,9 @@ use Rattle.language.specs.Limits as limit
 use Rattle.layout.specs.Table.{table_cells}
 use Rattle.loading.specs.Texts.{Lent, Leaves, Fit}
 use Rattle.loading.specs.declared.Loaded.{Loaded}
-use Rattle.macro_preparing.specs.Preparing.{made, count_of, Prepares}
-use Rattle.macro_preparing.specs.declared.Prepared as told
-use Rattle.macro_preparing.specs.declared.Prepared.TheVariants.{Ready, Unfit}
+use Rattle.macro_preparing.specs.Preparing.{made, Prepares}
+use Rattle.macro_preparing.specs.declared.Unfit.{Unfit}
+use Rattle.std.specs.Prelude.{Result, Ok, Err}
 use Rattle.macros.specs.Load.{loaded, load_in}
 use Rattle.macros.proofs.LoadLaws.{load-asked, plain-loads, prepared-lined, accepted-plain}
 use Rattle.macros.specs.Marks.{has_macros}
@@ -77,6 +78,21 @@ module _ (s c : List ℕ) where
   unfolding load_in
   long_text l m x y = no-load (rw (le-leb limit.table (length c) l, lt-leb (length s) limit.text m) refl) x y
 
+  -- one of them, or neither
+  pub not-fit : (ltb (length c) limit.table || ltb limit.text (length s)) ≡ true → {r : Loaded} → r.number ≡ 40 → r.line ≡ 0 → Loads s c r c
+  not-fit h {r} x y = go (ltb (length c) limit.table) refl h
+    where
+      go : (b : Bool) → ltb (length c) limit.table ≡ b → (b || ltb limit.text (length s)) ≡ true → Loads s c r c
+      go true e z = short-table (ltb-true (length c) limit.table e) x y
+      go false e z = long_text (ltb-false (length c) limit.table e) (ltb-true limit.text (length s) z) x y
+
+  pub fit_both : (ltb (length c) limit.table || ltb limit.text (length s)) ≡ false → Fit s c
+  fit_both h = go (ltb (length c) limit.table) refl h
+    where
+      go : (b : Bool) → ltb (length c) limit.table ≡ b → (b || ltb limit.text (length s)) ≡ false → Fit s c
+      go true e z = absurd (true≢false z)
+      go false e z = record { short = ltb-false limit.text (length s) z; long = ltb-false (length c) limit.table e }
+
 -- ---- a text as it stands, and then with macros
 
 module _ {s c : List ℕ} (f : Fit s c) where
@@ -128,28 +144,25 @@ module _ {s c : List ℕ} (f : Fit s c) where
 
 -- ---- a text with macros
 
-module _ {s c : List ℕ} (h : Rewritable s c) {p : told.Prepared} {o ls ms : List ℕ} (k : Prepares s p o ls ms) where
+module _ {s c : List ℕ} (h : Rewritable s c) {p : Result ℕ Unfit} {o ls ms : List ℕ} (k : Prepares s p o ls ms) where
   -- not made ready: the table is zeros already
-  pub unfit-leaves : (number line : ℕ) → p ≡ Unfit number line → {r : Loaded} → r.number ≡ number → r.line ≡ line → Leaves (loaded (prepared s)) c r c
+  pub unfit-leaves : (u : Unfit) → p ≡ Err u → {r : Loaded} → r.number ≡ u.number → r.line ≡ u.line → Leaves (loaded (prepared s)) c r c
   unfolding loaded
-  unfit-leaves number line e x y =
-      let q : prepared s ≡ unfit number line = sym k.is ∙ ap (λ t. made t o ls) e in
-      let a : loaded (prepared s) ≡ refused number line = ap loaded q in
+  unfit-leaves u e x y =
+      let q : prepared s ≡ unfit u.number u.line = sym k.is ∙ ap (λ t. made t o ls) e in
+      let a : loaded (prepared s) ≡ refused u.number u.line = ap loaded q in
       record {
         number_is = x ∙ sym (ap load_number a);
         line_is = y ∙ sym (ap load_line a);
         cells_are =
             sym (take-append-drop limit.table c)
             ∙ ap (λ (x : List ℕ). x ++ drop limit.table c) h.zeros
-            ∙ sym (ap (λ t. table_after t c) a ∙ zeros-after number line (listed-not_40 (loaded (prepared s)) (loaded-listed s h.fit.short) number line a) c);
+            ∙ sym (ap (λ t. table_after t c) a ∙ zeros-after u.number u.line (listed-not_40 (loaded (prepared s)) (loaded-listed s h.fit.short) u.number u.line a) c);
       }
 
-  module _ (n : ℕ) (e : p ≡ Ready n) where
+  module _ (n : ℕ) (e : p ≡ Ok n) where
     made-ready : prepared s ≡ ready (take n o) (take n ls)
     made-ready = sym k.is ∙ ap (λ t. made t o ls) e
-
-    pub within : n ≤ limit.text
-    within = rw (sym (ap count_of e)) k.fits
 
     pub lent : {names : List ℕ} → length names ≡ limit.text → Lent (take n o) (take n ls) names c
     lent l = record { short = (prepared-shape s (take n o) (take n ls) h.fit.short made-ready).short; lined = prepared-lined s (take n o) (take n ls) h.fit.short made-ready; names_room = l; long = h.fit.long }

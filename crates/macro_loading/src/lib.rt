@@ -9,7 +9,6 @@ ghost use Rattle.macros.specs.Prepared.{prepared};
 use language::Machine;
 use loading::Loaded;
 use macro_code::CodePlaces;
-use macro_preparing::Prepared;
 
 // A text with macros: its written-out text is loaded, with the lines of the given one. The table's cells are zeros. The row of cells serves for
 // names again.
@@ -21,11 +20,11 @@ fn load_written(text: &[u8], table: &mut [u32]) -> Loaded
     let mut lines = [0u16; Machine::TEXT];
     let mut code = [0u32; CodePlaces::CELLS];
     match macro_preparing::prepare(text, &mut out, &mut lines, &mut code) {
-        Prepared::Unfit(number, line) => Loaded {
-            number: number,
-            line: line,
+        Err(unfit) => Loaded {
+            number: unfit.number,
+            line: unfit.line,
         },
-        Prepared::Ready(n) => {
+        Ok(n) => {
             let names = &mut code[..Machine::TEXT];
             loading::load_lined(&out[..n], &lines[..n], names, table)
         }
@@ -36,13 +35,7 @@ fn load_written(text: &[u8], table: &mut [u32]) -> Loaded
 pub fn load(text: &[u8], table: &mut [u32]) -> Loaded
     ensures { Loads text.now table.old result table.new }
 {
-    if table.len() < Machine::TABLE {
-        return Loaded {
-            number: 40,
-            line: 0,
-        };
-    }
-    if Machine::TEXT < text.len() {
+    if (table.len() < Machine::TABLE) | (Machine::TEXT < text.len()) {
         return Loaded {
             number: 40,
             line: 0,

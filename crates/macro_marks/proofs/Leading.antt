@@ -10,7 +10,7 @@ use lib.ListN.{length, get_or, take, drop, length-append}
 use Rattle.language.specs.Program.{identifier}
 use Rattle.macros.specs.Marks.{Part, passed_by, part_after, Reader, word_in, joins, reader_after, marked_from}
 use Rattle.macros.proofs.PlainLaws.{equal, here}
-use Rattle.syntax.specs.Items.{Sort, sort_of, same_sort, is, ends_text, takes_next, char_of, allows, Mode, opens, begins, itself, mode_after, items_at}
+use Rattle.syntax.specs.Items.{Sort, sort_of, same_sort, ends_text, takes_next, char_of, allows, Mode, opens, begins, itself, mode_after, items_at}
 use Rattle.syntax.specs.Items.Sort.{separator, word, colon, end, text, wrong}
 use Rattle.syntax.specs.Items.Stage.{first-star, inside, last-slash}
 use Rattle.syntax.specs.Items.Mode.{outside, in_word, in_comment, in_text}

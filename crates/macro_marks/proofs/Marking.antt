@@ -3,12 +3,12 @@ use mathlib.Core.Path.{◌≡◌, refl, ap, sym, subst, ◌∙◌}
 use mathlib.Core.Bool.{Bool, true, false, cond, ◌&&◌, and-false, false≢true}
 use mathlib.Core.List.{List, [], ◌∷◌, ◌++◌, append_assoc}
 use Prim.Native.Nat.{ℕ, ◌+◌, ◌≤◌, ◌<◌}
-use native.Mathlib.Numerals.{add-one}
+use Rattle.std.specs.Prelude.{Option, Some, None}
 use native.Mathlib.Omega.{arith}
-use lib.Dec.{eqb, ltb}
-use lib.ListN.{length, get_or, take, drop, set, length-append, length-drop, length-set}
-use lib.Seq.{take_all, take-suc, take-suc-set, set_at}
-use borrow.Author.Tests.{eqb-true, lt-ltb, le-ltb}
+use lib.Dec.{eqb}
+use lib.ListN.{length, drop, set, length-append, length-drop, length-set}
+use lib.Seq.{set_at}
+use borrow.Author.Tests.{eqb-true}
 use Rattle.language.specs.Program.{identifier}
 use Rattle.lexer.specs.declared.Token.{Token}
 use Rattle.lexer.specs.Tokens.{item_of, chars_of, TokenAt}
@@ -21,32 +21,11 @@ use Rattle.syntax.specs.Items.Mode.{outside}
 use Rattle.syntax.specs.Scan.{word_length}
 use Rattle.macro_marks.specs.declared.ListPart.{ListPart}
 use Rattle.macro_marks.specs.declared.ListPart.TheVariants.{Before, First, AtList, After, Header, Body}
-use Rattle.macro_marks.specs.Parts.{part_behind, parameters, parameters_of, word_from, word_joins, joined_end, JoinableIn}
+use Rattle.macro_marks.specs.Parts.{part_behind, parameters, parameters_of, word_from, word_joins, joined, JoinableIn}
 use Rattle.macro_marks.proofs.Leading.{reader}
 use Rattle.macro_marks.proofs.Behind.{none-leads, passes_on}
 use Rattle.macro_marks.proofs.Joining.{both, Joined, joined-on}
 use Rattle.macro_marks.proofs.Parting.{Known, known-within, known-parameters, known_on}
-
--- ---- the copy
-
-pub record Copied (s m : List ℕ) (i : ℕ) : Type 0 where
-  pub same : length m ≡ length s
-  is : take i m ≡ take i s
-
-pub copied-first : (s m : List ℕ) → length m ≡ length s → Copied s m 0
-copied-first s m h = record { same = h; is = refl }
-
-module _ {s m : List ℕ} {i : ℕ} (u : Copied s m i) where
-  pub copied_on : i < length s → Copied s (set m i (get_or s i 0)) (i + 1)
-  copied_on h =
-      let v = get_or s i 0 in
-      record {
-        same = length-set m i v ∙ u.same;
-        is = rw add-one (take-suc-set m i v (omega (arith, u.same)) ∙ ap (λ (w : List ℕ). w ++ (v ∷ [])) u.is ∙ sym (take-suc s i 0 h));
-      }
-
-  pub copied_all : length s ≤ i → m ≡ s
-  copied_all h = sym (take_all i m (omega (arith, u.same))) ∙ u.is ∙ take_all i s h
 
 -- ---- the stars
 
@@ -157,27 +136,25 @@ module _ {s m : List ℕ} {c : ListPart} {n : ℕ} {t : Token} (u : Marking s m 
         sym (word-stays y t.sort (byte_at s t.at) t.next parts.0) ∙ ap (λ (x : ListPart). part_behind x t.sort (byte_at s t.at) t.next) q in
         (a.0, subst (λ (x : ListPart). Marking s (set m t.next 42) x far) same-part a.1)
 
-    -- what the turn does: by whether something is joined
-    Turn : ℕ → Type 0
-    Turn f = (ltb t.next f ≡ true → t.next < length m) × Marking s (cond (ltb t.next f) (set m t.next 42) m) (part_behind c t.sort (byte_at s t.at) t.next) f
+    -- what the turn does: by what is joined
+    abbrev pub Turn : Option ℕ → Type 0
+    Turn (Some f) = (t.next < length m) × Marking s (set m t.next 42) (part_behind c t.sort (byte_at s t.at) t.next) f
+    Turn None = Marking s m (part_behind c t.sort (byte_at s t.at) t.next) t.next
 
-    turn_by : (b : Bool) → test c ≡ b → Turn (cond b far t.next)
-    unfolding Turn
-    turn_by true e =
-        let x = crossed c refl e u.known in
-        rw (lt-ltb t.next far (omega arith)) (λ y. x.0, x.1)
-    turn_by false e = rw (le-ltb t.next t.next (omega arith)) (λ y. absurd (false≢true y), over e)
+    turn_by : (b : Bool) → test c ≡ b → Turn (cond b (Some far) None)
+    turn_by true e = crossed c refl e u.known
+    turn_by false e = over e
 
-    turn : {f : ℕ} → f ≡ joined_end s (parameters_of s c) t → Turn f
-    turn {f} e = subst Turn (sym e) (turn_by (test c) refl)
+    turn : {o : Option ℕ} → o ≡ joined s (parameters_of s c) t → Turn o
+    turn {o} e = subst Turn (sym e) (turn_by (test c) refl)
 
-    pub star-room : {f : ℕ} → f ≡ joined_end s (parameters_of s c) t → ltb t.next f ≡ true → t.next < length m
-    unfolding Turn
-    star-room e = (turn e).0
+    module _ {o : Option ℕ} (e : o ≡ joined s (parameters_of s c) t) where
+      module _ {b : ℕ} (d : b ≡ byte_at s t.at) {c' : ListPart} (h : c' ≡ part_behind c t.sort b t.next) where
+        same-part : c' ≡ part_behind c t.sort (byte_at s t.at) t.next
+        same-part = h ∙ ap (λ (x : ℕ). part_behind c t.sort x t.next) d
 
-    pub marking-on : {f : ℕ} → f ≡ joined_end s (parameters_of s c) t → {b : ℕ} → b ≡ byte_at s t.at → {m' : List ℕ} → m' ≡ cond (ltb t.next f) (set m t.next 42) m
-        → {c' : ListPart} → c' ≡ part_behind c t.sort b t.next → Marking s m' c' f
-    unfolding Turn
-    marking-on {f} e {b} d {m'} g {c'} h =
-        let p : c' ≡ part_behind c t.sort (byte_at s t.at) t.next = h ∙ ap (λ (x : ℕ). part_behind c t.sort x t.next) d in
-        rw (g, p) (turn e).1
+        pub marking-joined : {f : ℕ} → o ≡ Some f → Marking s (set m t.next 42) c' f
+        marking-joined {f} g = rw same-part (subst Turn g (turn e)).1
+
+        pub marking-on : o ≡ None → Marking s m c' t.next
+        marking-on g = rw same-part (subst Turn g (turn e))

@@ -1,13 +1,17 @@
 -- Bytes that begin no text, no comment and no item of macros are passed one by one.
-use mathlib.Core.Path.{◌≡◌, refl, ap, sym, ◌∙◌}
+use mathlib.Core.Path.{◌≡◌, refl, ap, sym, subst, ◌∙◌}
 use mathlib.Core.Bool.{Bool, true, false, cond, ◌||◌, true≢false}
 use mathlib.Core.List.{List, [], ◌∷◌, ◌++◌}
-use Prim.Native.Nat.{ℕ, ◌+◌, ◌≤◌, ◌<◌}
+use Prim.Native.Nat.{ℕ, zero, suc, ◌+◌, ◌-◌, ◌≤◌, ◌<◌}
 use native.Mathlib.Omega.{arith}
 use lib.Dec.{eqb}
-use lib.ListN.{length, get_or, drop}
+use lib.ListN.{length, get_or, take, drop, length-drop}
+use Rattle.std.proofs.lemmas.List.{take_rest}
+use lib.Seq.{get_or-drop}
+use native.Mathlib.Nat.{add-zero}
+use Rattle.lists.specs.ListLaws.{ahead-le}
 use Rattle.characters.specs.Characters.{is_capital, is_digit}
-use Rattle.lists.specs.Lists.{any, among}
+use Rattle.lists.specs.Lists.{ahead, any, among}
 use Rattle.lists.specs.Quoted.{bytes}
 use Rattle.macros.specs.Marks.{byte_at}
 use Rattle.scanner.proofs.Loops.{drop_here}
@@ -15,7 +19,7 @@ use Rattle.syntax.specs.Items.{Sort, sort_of, same_sort, Item, a_word, begins, i
 use Rattle.syntax.specs.Items.Sort.{separator, word, colon, end, text, wrong}
 use Rattle.syntax.specs.Items.Mode.{outside, in_word}
 use Rattle.macro_marks.specs.ItemLaws.{byte-within}
-use Rattle.macro_marks.specs.Parts.{items_from, is_macros, Plain}
+use Rattle.macro_marks.specs.Parts.{items_from, is_macros, begins_mark, Plain}
 
 module _ (s : List ℕ) where
   abbrev found : List Item → Bool
@@ -73,9 +77,29 @@ module _ (s : List ℕ) where
       let a : among (byte_at s n) (bytes "*()") ≡ false = ap (λ (x : ℕ). among x (bytes "*()")) (sym (byte-within s n l)) ∙ q.2 in
       ap (λ (r : List ℕ). found (read outside n r)) (drop_here s n l) ∙ byte-passed (sort_of b) n b (drop (n + 1) s) (no_text b q.0) q.1 a
 
-pub plain-first : (s : List ℕ) (n : ℕ) → n ≤ length s → Plain s n n
+plain-first : (s : List ℕ) (n : ℕ) → n ≤ length s → Plain s n n
 plain-first s n h = record { from = omega arith; most = h; is = refl }
 
-pub plain-on : {s : List ℕ} {n i : ℕ} → Plain s n i → i < length s → {t : Bool} → t ≡ (eqb (get_or s i 0) 39 || (eqb (get_or s i 0) 47 || among (get_or s i 0) (bytes "*()"))) → t ≡ false
-    → Plain s n (i + 1)
-plain-on {s} {n} {i} p l f g = record { from = omega (arith, p.from); most = omega arith; is = p.is ∙ one-passed s i l f g }
+plain-on : {s : List ℕ} {n i : ℕ} → Plain s n i → i < length s → begins_mark (get_or s i 0) ≡ false → Plain s n (i + 1)
+plain-on {s} {n} {i} p l g = record { from = omega (arith, p.from); most = omega arith; is = p.is ∙ one-passed s i l refl g }
+
+no-mark : (xs : List ℕ) (i : ℕ) → i < ahead begins_mark xs → begins_mark (get_or xs i 0) ≡ false
+no-mark [] i l = absurd (omega arith)
+no-mark (x ∷ xs) i l = go i (begins_mark x) refl l (no-mark xs)
+  where
+    go : (j : ℕ) (b : Bool) → begins_mark x ≡ b → j < elim b [ true ↦ 0 | false ↦ suc (ahead begins_mark xs) ]
+        → ((k : ℕ) → k < ahead begins_mark xs → begins_mark (get_or xs k 0) ≡ false) → begins_mark (get_or (x ∷ xs) j 0) ≡ false
+    go j true e h f = absurd (omega (arith, h))
+    go zero false e h f = e
+    go (suc j) false e h f = f j (omega (arith, h))
+
+pub plain_ahead : (s : List ℕ) (n : ℕ) → n ≤ length s → {k : ℕ} → k ≡ ahead begins_mark (take (length s - n) (drop n s)) → Plain s n (n + k)
+plain_ahead s n l {k} e = go k (omega (arith, e, ap (ahead begins_mark) (take_rest s n)))
+  where
+    go : (j : ℕ) → j ≤ ahead begins_mark (drop n s) → Plain s n (n + j)
+    go zero h = rw add-zero (plain-first s n l)
+    go (suc j) h =
+        let i : n + j < length s = omega (arith, ahead-le begins_mark (drop n s), length-drop n s) in
+        let b : begins_mark (get_or s (n + j) 0) ≡ false = ap begins_mark (sym (get_or-drop n s j 0)) ∙ no-mark (drop n s) j (omega (arith, h)) in
+        let a : n + j + 1 ≡ n + suc j = omega arith in
+        subst (λ (m : ℕ). Plain s n m) a (plain-on (go j (omega (arith, h))) i b)

@@ -12,7 +12,6 @@ use Rattle.lexer.proofs.Finding.{is-sort}
 use Rattle.lists.specs.Lists.{any, among}
 use Rattle.lists.specs.Quoted.{bytes}
 use Rattle.macros.specs.Marks.{byte_at, has_macros}
-use Rattle.syntax.specs.Items.{is}
 use Rattle.syntax.specs.Items.Sort.{wrong}
 use Rattle.macro_marks.specs.Parts.{items_from, is_macros, Plain}
 use Rattle.macro_marks.specs.ItemLaws.{none_here, item-here}

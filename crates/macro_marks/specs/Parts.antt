@@ -1,5 +1,5 @@
 -- What the search for macros and the marking of joining apostrophes know: where it stands in the list of macros, the words of a header, and the word behind an apostrophe.
-use Rattle.std.specs.Prelude.{◌≡◌, Bool, cond, ◌&&◌, List, [], ◌∷◌, ℕ, ◌+◌, ◌≤◌, eqb, length, take, drop}
+use Rattle.std.specs.Prelude.{◌≡◌, Bool, cond, ◌&&◌, ◌||◌, List, [], ◌∷◌, ℕ, ◌+◌, ◌≤◌, Option, Some, None, eqb, length, take, drop}
 use Rattle.language.specs.Program.{identifier}
 use Rattle.lexer.specs.declared.Token.{Token}
 use Rattle.lexer.specs.Tokens.{chars_of, Stands}
@@ -20,6 +20,10 @@ items_from s n = read outside n (drop n s)
 -- a star or a round bracket outside texts and comments
 abbrev pub is_macros : List ℕ → Item → Bool
 is_macros s i = is wrong i && among (byte_at s i.at) (bytes "*()")
+
+-- a byte that may begin a text, a comment, or an item of macros
+abbrev pub begins_mark : ℕ → Bool
+begins_mark b = eqb b 39 || (eqb b 47 || among b (bytes "*()"))
 
 -- none stands from place n to place e
 pub record Plain (s : List ℕ) (n e : ℕ) : Type 0 where
@@ -117,6 +121,11 @@ word_joins s w ps e =
 abbrev pub joined_end : List ℕ → List (List ℕ) → Token → ℕ
 joined_end s ps t =
     cond (eqb 1 t.sort && word_joins s (chars_of s t) ps t.next) (t.next + 1 + word_length (drop (t.next + 1) s)) t.next
+
+-- the place behind what is joined to a token, where something is
+abbrev pub joined : List ℕ → List (List ℕ) → Token → Option ℕ
+joined s ps t =
+    cond (eqb 1 t.sort && word_joins s (chars_of s t) ps t.next) (Some (t.next + 1 + word_length (drop (t.next + 1) s))) None
 
 -- a token of the text s, in a body whose header begins at place h, and in the part c
 pub record Joinable (s : List ℕ) (h : ℕ) (t : Token) : Type 0 where

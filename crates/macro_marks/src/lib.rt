@@ -1,18 +1,19 @@
 // Which texts have macros, and where their joining apostrophes stand.
 #![tactic(auto)]
 
-ghost use Rattle.std.specs.Prelude.{◌≡◌, true, cond, ◌&&◌, ◌||◌, ◌≤◌, ◌<◌, eqb, length, set};
-ghost use Rattle.lexer.specs.Tokens.{part, chars_of};
-ghost use Rattle.lists.specs.Lists.{any, among, bytes_equal};
+ghost use Rattle.std.specs.Prelude.{◌≡◌, ◌&&◌, ◌≤◌, eqb, length, position};
+ghost use Rattle.lexer.specs.Tokens.{chars_of, Stands};
+ghost use Rattle.lists.specs.Lists.{ahead, any, among, bytes_equal};
 ghost use Rattle.lists.specs.Quoted.{bytes};
 ghost use Rattle.macros.specs.Marks.{byte_at, has_macros, marked};
-ghost use Rattle.macro_marks.specs.Parts.{ended, opened, closed, passed, part_behind, Plain, parameters, parameters_of, Sought, joined_end, Joinable, JoinableIn, Comparable};
+ghost use Rattle.macro_marks.specs.Parts.{ended, opened, closed, passed, part_behind, begins_mark, Plain, parameters, parameters_of, joined, Joinable, JoinableIn};
 
 use lexer::{Token, item_at};
 use scanner::{END, NOTHING, WORD, WRONG, word_end};
 
 // Where the reader stands in the list of macros: before the first statement; in it; behind it, where the list may begin; after the
 // list, or where there is none; in the list but in no body, and in a body, each with the place where the macro's header begins.
+// There are six parts, and two of them have a place, so an Option does not tell them apart.
 #[derive(Clone, Copy)]
 enum ListPart {
     Before,
@@ -24,26 +25,38 @@ enum ListPart {
 }
 
 // The byte at a place; past the end a line feed.
+// One line of std, as in `macro_elements`, which does not name this crate.
 pub fn byte_at(text: &[u8], p: usize) -> u8
     ensures { result ≡ byte_at text.now p }
 {
-    if p < text.len() {
-        return text[p];
-    }
-    b'\n'
+    text.get(p).copied().unwrap_or(b'\n')
 }
 
 fn is_star_or_bracket(b: u8) -> bool
     ensures { result ≡ among b (bytes "*()") }
 {
-    (b == b'*') | ((b == b'(') | (b == b')'))
+    b"*()".contains(&b)
 }
 
 // Whether a byte may begin a text, a comment, or an item of macros.
 fn may_begin(b: u8) -> bool
-    ensures { result ≡ eqb b 39 || (eqb b 47 || among b (bytes "*()")) }
+    ensures { result ≡ begins_mark b }
 {
-    (b == b'\'') | ((b == b'/') | is_star_or_bracket(b))
+    b == b'\'' || b == b'/' || is_star_or_bracket(b)
+}
+
+fn first_mark(text: &[u8]) -> Option<usize>
+    ensures { result ≡ position begins_mark text.now }
+{
+    text.iter().position(|b| may_begin(*b))
+}
+
+// How many bytes stand before the first such byte.
+#[tactic(auto, using(lists::specs::SearchLaws::position_or_length))]
+fn ordinary(text: &[u8]) -> usize
+    ensures { result ≡ ahead begins_mark text.now }
+{
+    first_mark(text).unwrap_or(text.len())
 }
 
 // The place of the first such byte from `n` on.
@@ -51,21 +64,14 @@ fn plain_end(text: &[u8], n: usize) -> usize
     requires { n ≤ length text.now }
     ensures { Plain text.now n result }
 {
-    let mut i = n;
-    while i < text.len() {
-        if may_begin(text[i]) {
-            return i;
-        }
-        i += 1;
-    }
-    i
+    n + ordinary(&text[n..])
 }
 
 // Whether an item of this sort that begins with the byte `b` is a star or a round bracket of macros.
 fn is_mark(sort: u8, b: u8) -> bool
     ensures { result ≡ eqb 5 sort && among b (bytes "*()") }
 {
-    (WRONG == sort) & is_star_or_bracket(b)
+    sort == WRONG && is_star_or_bracket(b)
 }
 
 // Whether a star or a round bracket stands outside texts and comments.
@@ -90,12 +96,8 @@ fn ended(p: ListPart) -> ListPart
     ensures { result ≡ ended p }
 {
     match p {
-        ListPart::Before => ListPart::Before,
         ListPart::First => ListPart::AtList,
-        ListPart::AtList => ListPart::AtList,
-        ListPart::After => ListPart::After,
-        ListPart::Header(h) => ListPart::Header(h),
-        ListPart::Body(h) => ListPart::Body(h),
+        other => other,
     }
 }
 
@@ -105,11 +107,9 @@ fn opened(p: ListPart, next: usize) -> ListPart
 {
     match p {
         ListPart::Before => ListPart::First,
-        ListPart::First => ListPart::First,
         ListPart::AtList => ListPart::Header(next),
-        ListPart::After => ListPart::After,
         ListPart::Header(h) => ListPart::Body(h),
-        ListPart::Body(h) => ListPart::Body(h),
+        other => other,
     }
 }
 
@@ -118,11 +118,8 @@ fn closed(p: ListPart, next: usize) -> ListPart
     ensures { result ≡ closed p next }
 {
     match p {
-        ListPart::Before => ListPart::First,
-        ListPart::First => ListPart::First,
-        ListPart::AtList => ListPart::After,
-        ListPart::After => ListPart::After,
-        ListPart::Header(_) => ListPart::After,
+        ListPart::Before | ListPart::First => ListPart::First,
+        ListPart::AtList | ListPart::After | ListPart::Header(_) => ListPart::After,
         ListPart::Body(_) => ListPart::Header(next),
     }
 }
@@ -133,11 +130,8 @@ fn passed(p: ListPart) -> ListPart
 {
     match p {
         ListPart::Before => ListPart::First,
-        ListPart::First => ListPart::First,
         ListPart::AtList => ListPart::After,
-        ListPart::After => ListPart::After,
-        ListPart::Header(h) => ListPart::Header(h),
-        ListPart::Body(h) => ListPart::Body(h),
+        other => other,
     }
 }
 
@@ -145,42 +139,33 @@ fn passed(p: ListPart) -> ListPart
 fn part_behind(p: ListPart, sort: u8, b: u8, next: usize) -> ListPart
     ensures { result ≡ part_behind p sort b next }
 {
-    if END == sort {
-        return ended(p);
+    match (sort, b) {
+        (END, _) => ended(p),
+        (WRONG, b'(') => opened(p, next),
+        (WRONG, b')') => closed(p, next),
+        _ => passed(p),
     }
-    if (WRONG == sort) & (b == b'(') {
-        return opened(p, next);
-    }
-    if (WRONG == sort) & (b == b')') {
-        return closed(p, next);
-    }
-    passed(p)
 }
 
 // Whether an item of this sort that begins with the byte `b` ends a header.
 fn ends_header(sort: u8, b: u8) -> bool
     ensures { result ≡ eqb 5 sort && among b (bytes "()") }
 {
-    (WRONG == sort) & ((b == b'(') | (b == b')'))
+    sort == WRONG && b"()".contains(&b)
 }
 
-// Whether a token is a word of the same bytes as those from `at` to `end`.
-fn is_same(text: &[u8], t: Token, at: usize, end: usize) -> bool
-    requires { Comparable text.now t at end }
-    ensures { result ≡ eqb 1 t.sort && bytes_equal (part text.now at end) (chars_of text.now t) }
+// Whether a token is this word.
+fn is_word(text: &[u8], t: Token, word: &[u8]) -> bool
+    requires { Stands text.now t }
+    ensures { result ≡ eqb 1 t.sort && bytes_equal word.now (chars_of text.now t) }
 {
-    let a = t.at;
-    let e = t.end;
-    if WORD == t.sort {
-        return words::same(&text[at..end], &text[a..e]);
-    }
-    false
+    t.sort == WORD && word == &text[t.at..t.end]
 }
 
-// Whether the bytes from `at` to `end` are a parameter of the macro whose header begins at `header`.
-fn is_parameter(text: &[u8], header: usize, at: usize, end: usize) -> bool
-    requires { Sought text.now header at end }
-    ensures { result ≡ any (bytes_equal (part text.now at end)) (parameters text.now header) }
+// Whether a name is a parameter of the macro whose header begins at `header`.
+fn is_parameter(text: &[u8], header: usize, name: &[u8]) -> bool
+    requires { header ≤ length text.now }
+    ensures { result ≡ any (bytes_equal name.now) (parameters text.now header) }
 {
     let mut named = false;
     let mut n = header;
@@ -192,77 +177,45 @@ fn is_parameter(text: &[u8], header: usize, at: usize, end: usize) -> bool
         if ends_header(t.sort, byte_at(text, t.at)) {
             return false;
         }
-        if named & is_same(text, t, at, end) {
+        if named && is_word(text, t, name) {
             return true;
         }
-        named = named | (WORD == t.sort);
+        named |= WORD == t.sort;
         n = t.next;
     }
 }
 
-// In the body of the macro whose header begins at `header`: the place behind a token and the parameter that an apostrophe joins to it.
-fn body_end(text: &[u8], header: usize, t: Token) -> usize
+// In the body of the macro whose header begins at `header`: the place behind the parameter that an apostrophe joins to a token.
+fn joined_in_body(text: &[u8], header: usize, t: Token) -> Option<usize>
     requires { Joinable text.now header t }
-    ensures { result ≡ joined_end text.now (parameters text.now header) t }
+    ensures { result ≡ joined text.now (parameters text.now header) t }
 {
-    let next = t.next;
-    if WORD != t.sort {
-        return next;
+    if t.sort != WORD {
+        return None;
     }
-    if byte_at(text, next) != b'\'' {
-        return next;
+    if byte_at(text, t.next) != b'\'' {
+        return None;
     }
-    let at = t.at;
-    let own = t.end;
-    if !words::identifier(&text[at..own]) {
-        return next;
+    if !words::identifier(&text[t.at..t.end]) {
+        return None;
     }
-    let end = word_end(text, next + 1);
-    let from = next + 1;
-    if !words::identifier(&text[from..end]) {
-        return next;
+    let end = word_end(text, t.next + 1);
+    let name = &text[t.next + 1..end];
+    if !words::identifier(name) {
+        return None;
     }
-    if is_parameter(text, header, from, end) {
-        return end;
-    }
-    next
+    is_parameter(text, header, name).then_some(end)
 }
 
 // The same in any part: only in a body is something joined.
-fn joined_end(text: &[u8], p: ListPart, t: Token) -> usize
+fn joined(text: &[u8], p: ListPart, t: Token) -> Option<usize>
     requires { JoinableIn text.now p t }
-    ensures { result ≡ joined_end text.now (parameters_of text.now p) t }
+    ensures { result ≡ joined text.now (parameters_of text.now p) t }
 {
     match p {
-        ListPart::Before => t.next,
-        ListPart::First => t.next,
-        ListPart::AtList => t.next,
-        ListPart::After => t.next,
-        ListPart::Header(_) => t.next,
-        ListPart::Body(h) => body_end(text, h, t),
+        ListPart::Body(h) => joined_in_body(text, h, t),
+        _ => None,
     }
-}
-
-fn copy(text: &[u8], out: &mut [u8])
-    requires { length out.old ≡ length text.now }
-    ensures { out.new ≡ text.now }
-{
-    let mut i: usize = 0;
-    while i < text.len() {
-        out[i] = text[i];
-        i += 1;
-    }
-}
-
-// A star for the apostrophe at a place, where it joins.
-fn star(out: &mut [u8], at: usize, joins: bool)
-    requires { joins ≡ true → at < length out.old }
-    ensures { out.new ≡ cond joins (set out.old at 42) out.old }
-{
-    if !joins {
-        return;
-    }
-    out[at] = b'*';
 }
 
 // The text with a star for each joining apostrophe.
@@ -270,17 +223,20 @@ pub fn mark_joins(text: &[u8], out: &mut [u8])
     requires { length out.old ≡ length text.now }
     ensures { out.new ≡ marked text.now }
 {
-    copy(text, out);
+    out.copy_from_slice(text);
     let mut p = ListPart::Before;
-    let mut n: usize = 0;
+    let mut n = 0;
     loop {
         let t = item_at(text, n);
         if t.sort == NOTHING {
             return;
         }
-        let end = joined_end(text, p, t);
-        star(out, t.next, t.next < end);
+        let joined = joined(text, p, t);
         p = part_behind(p, t.sort, byte_at(text, t.at), t.next);
-        n = end;
+        n = t.next;
+        if let Some(end) = joined {
+            out[t.next] = b'*';
+            n = end;
+        }
     }
 }

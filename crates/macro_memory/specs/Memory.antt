@@ -6,12 +6,11 @@ use Rattle.macro_code.specs.Code.{call_in, body_in, macros_in, arguments_in}
 use Rattle.macro_code.specs.Places.{half}
 use Rattle.statements.specs.Faults.{lower}
 use Rattle.statements.specs.StatementAt.{fault_of}
+use Rattle.macro_values.specs.declared.Around.{Around}
 use Rattle.macro_values.specs.declared.Written.{Written}
+pub use Rattle.macro_values.specs.Values.{reach}
+use Rattle.macro_values.specs.Wrote.{is_over}
 use Rattle.macro_memory.specs.declared.Entered.{Entered}
-
--- the cells of changes are below this number
-abbrev pub reach : ℕ
-reach = 549755813888
 
 abbrev pub slots : ℕ
 slots = 128
@@ -41,8 +40,8 @@ slot_at k = levels + slot_size * k
 pub record Absorbed (x : Writing) (v : Written) : Type 0 where
   pub unknown : lower v.unknown (fault_of (places_of 64 x.faults)) ≡ v.unknown
   pub uneven : lower v.uneven (fault_of (places_of 65 x.faults)) ≡ v.uneven
-  pub shallow : v.over ≡ false → x.deep ≡ false
-  pub empty : v.over ≡ false → x.bytes ≡ []
+  pub shallow : is_over v ≡ false → x.deep ≡ false
+  pub empty : is_over v ≡ false → x.bytes ≡ []
 
 -- the body of a call, which is entered, with so many levels left around it
 abbrev pub entered_writes : List ℕ → List ℕ → List ℕ → ℕ → List ℕ → ℕ → ℕ → ℕ → Writing
@@ -62,12 +61,12 @@ pub record Remembers (s c f : List ℕ) (n : ℕ) (calls : List ℕ) (v : Writte
   pub absorbed : (k : ℕ) → k < slots → (get_or calls (slot_at k) 0 ≡ 0 → ⊥) → Absorbed (slot_writes s c f n calls (slot_at k)) v
 
 -- a call that can be looked up, in rows that can hold it
-pub record Lookable (at : Entered) (calls row : List ℕ) : Type 0 where
+pub record Lookable (at : Entered) (here : Around) (row : List ℕ) : Type 0 where
   pub near : at.cell < reach
   pub some : 1 ≤ at.left
-  pub most : at.left ≤ levels
+  pub levels_are : at.left + here.depth ≡ levels
   pub body : at.body < half
-  pub room : memory ≤ length calls
+  pub room : memory ≤ length here.calls.now
   pub short : length row < half
 
 -- the arguments of two calls, within as many nested calls, are the same

@@ -9,7 +9,7 @@ use Rattle.statements.specs.declared.Fault as told
 use Rattle.statements.specs.declared.Fault.TheVariants.{Clear, At}
 use Rattle.macro_values.specs.declared.Written.{Written}
 use Rattle.macro_values.specs.WritingLaws.{lower-assoc}
-use Rattle.macro_values.specs.Wrote.{Wrote}
+use Rattle.macro_values.specs.Wrote.{is_over, size_of, Wrote}
 use Rattle.macro_memory.specs.Memory.{slot_size, body_cell, around_cells, slot_at, Absorbed, slot_writes, Remembers}
 
 lower-twice : (a : told.Fault) → lower a a ≡ a
@@ -42,19 +42,19 @@ no_bytes [] p q e f = refl
 no_bytes (x ∷ w) p q e f = absurd (omega (arith, e, f))
 
 -- what left the row as it was, or over
-pub absorbed-after : (x : Writing) (v r : Written) (o p : List ℕ) → Wrote x v r o p → (r.over ≡ false → r.count ≡ v.count) → Absorbed x r
+pub absorbed-after : (x : Writing) (v r : Written) (o p : List ℕ) → Wrote x v r o p → (is_over r ≡ false → size_of r ≡ size_of v) → Absorbed x r
 absorbed-after x v r o p h k =
     record {
       unknown = fault-again v.unknown r.unknown (fault_of (places_of 64 x.faults)) h.unknown;
       uneven = fault-again v.uneven r.uneven (fault_of (places_of 65 x.faults)) h.uneven;
-      shallow = λ z. or_left x.deep (ltb (length o) (v.count + length x.bytes)) false (sym (or_right v.over (x.deep || ltb (length o) (v.count + length x.bytes)) r.over h.over z)) refl;
-      empty = λ z. no_bytes x.bytes v.count r.count (h.within z).0 (k z);
+      shallow = λ z. or_left x.deep (ltb (length o) (size_of v + length x.bytes)) false (sym (or_right (is_over v) (x.deep || ltb (length o) (size_of v + length x.bytes)) (is_over r) h.over z)) refl;
+      empty = λ z. no_bytes x.bytes (size_of v) (size_of r) (h.within z).0 (k z);
     }
 
 -- it stays so
 pub absorbed-stays : (x y : Writing) (v r : Written) (o p : List ℕ) → Absorbed x v → Wrote y v r o p → Absorbed x r
 absorbed-stays x y v r o p a h =
-    let over : r.over ≡ false → v.over ≡ false = λ z. or_left v.over (y.deep || ltb (length o) (v.count + length y.bytes)) r.over h.over z in
+    let over : is_over r ≡ false → is_over v ≡ false = λ z. or_left (is_over v) (y.deep || ltb (length o) (size_of v + length y.bytes)) (is_over r) h.over z in
     record {
       unknown = fault-stays v.unknown r.unknown (fault_of (places_of 64 x.faults)) (fault_of (places_of 64 y.faults)) a.unknown h.unknown;
       uneven = fault-stays v.uneven r.uneven (fault_of (places_of 65 x.faults)) (fault_of (places_of 65 y.faults)) a.uneven h.uneven;
@@ -63,29 +63,29 @@ absorbed-stays x y v r o p a h =
     }
 
 -- it need not be written
-pub absorbed-writes : (x : Writing) (v : Written) (o : List ℕ) → Absorbed x v → v.count ≤ length o → Wrote x v v o o
+pub absorbed-writes : (x : Writing) (v : Written) (o : List ℕ) → Absorbed x v → size_of v ≤ length o → Wrote x v v o o
 absorbed-writes x v o a l =
     record {
       unknown = sym a.unknown;
       uneven = sym a.uneven;
-      over = over v.over refl;
+      over = over (is_over v) refl;
       size = refl;
       within = λ z. (
         none x.bytes (a.empty z),
-        sym (ap (λ w. take v.count o ++ w) (a.empty z) ∙ append-nil (take v.count o)),
+        sym (ap (λ w. take (size_of v) o ++ w) (a.empty z) ∙ append-nil (take (size_of v) o)),
       );
       most = l;
     }
   where
-    none : (w : List ℕ) → w ≡ [] → v.count ≡ v.count + length w
+    none : (w : List ℕ) → w ≡ [] → size_of v ≡ size_of v + length w
     none w e = rw e (omega arith)
 
-    over : (b : Bool) → v.over ≡ b → v.over ≡ (v.over || (x.deep || ltb (length o) (v.count + length x.bytes)))
+    over : (b : Bool) → is_over v ≡ b → is_over v ≡ (is_over v || (x.deep || ltb (length o) (size_of v + length x.bytes)))
     over true e = rw e
     over false e =
         let d = a.shallow e in
         let w = a.empty e in
-        rw (e, d, w) (sym (le-ltb (length o) (v.count + 0) (omega arith)))
+        rw (e, d, w) (sym (le-ltb (length o) (size_of v + 0) (omega arith)))
 
 -- what is remembered, behind more that is written
 pub remembers-stays : (s c f : List ℕ) (n : ℕ) (calls : List ℕ) (y : Writing) (v r : Written) (o p : List ℕ) → Remembers s c f n calls v → Wrote y v r o p → Remembers s c f n calls r

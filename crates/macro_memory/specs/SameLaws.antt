@@ -1,8 +1,9 @@
 -- Arguments that are the same by their bytes; a call that is found; and one that is stored.
-use Rattle.std.specs.Prelude.{◌≡◌, refl, Bool, true, false, List, [], ◌∷◌, ◌++◌, map, ℕ, zero, suc, ◌+◌, ◌-◌, ◌≤◌, ◌<◌, T, ltb, length, get_or, take, drop, set, replicate}
+use Rattle.std.specs.Prelude.{Some, ◌≡◌, refl, Bool, true, false, List, [], ◌∷◌, ◌++◌, map, ℕ, zero, suc, ◌+◌, ◌-◌, ◌≤◌, ◌<◌, T, ltb, length, get_or, take, drop, set, replicate}
 use Rattle.std.proofs.Common.{sym, ap, ◌∙◌, arith, length-set, get_or-drop, get_or-set_same, get_or-set_other, take-add, take_at, drop_at, length-take-le}
 use Rattle.std.proofs.Math.Decide.{dec_lt}
-use Rattle.std.proofs.lemmas.List.{get_or-replicate, take-set-le}
+use Rattle.std.proofs.lemmas.List.{get_or-replicate, take-set-le, get_or-take, get_or_append_left, get_or-append_right, take-append-le, drop-take}
+use Rattle.std.proofs.Math.Seq.{take-take}
 use Rattle.layout.specs.Cells.{tab}
 use Rattle.lists.specs.Lists.{bytes_equal}
 use Rattle.lists.specs.ListLaws.{same_bytes-eq}
@@ -10,8 +11,8 @@ use Rattle.macros.specs.Expansion.{just, filled_in, levels}
 use Rattle.macros.specs.Pieces.{Given}
 use Rattle.macro_code.specs.Code.{given_in, call_in, arguments_in, argument_count, argument_cell}
 use Rattle.macro_values.specs.declared.Written.{Written}
-use Rattle.macro_values.specs.WritingLaws.{wrote-more}
-use Rattle.macro_values.specs.Wrote.{Wrote}
+use Rattle.macro_values.specs.WritingLaws.{wrote-more, some-within, some-size}
+use Rattle.macro_values.specs.Wrote.{is_over, size_of, Wrote}
 use Rattle.macro_memory.specs.Memory.{slots, slot_size, body_cell, around_cells, slot_at, turns, memory, Absorbed, innermost_writes, slot_writes, Remembers, Alike, Found, Copied, Stored}
 use Rattle.macro_memory.specs.MemoryLaws.{or_left, arguments-like, slot_same}
 
@@ -24,19 +25,38 @@ is_T : (b : Bool) → true ≡ b → T b
 is_T true e = tt
 is_T false e = absurd (let z : ◌≡◌ {A = ℕ} 0 1 = cc in omega arith)
 
-pub values_same : (a b o q p x y : List ℕ) (v w u : Written) → v.count ≡ 0 → Wrote (just a) v w o q → Wrote (just b) w u q p → u.over ≡ false
-    → x ≡ take w.count p → y ≡ take (u.count - w.count) (drop w.count p) → true ≡ bytes_equal x y → a ≡ b
+pub values_same : (a b o q p x y : List ℕ) (v w u : Written) → size_of v ≡ 0 → Wrote (just a) v w o q → Wrote (just b) w u q p → is_over u ≡ false
+    → x ≡ take (size_of w) p → y ≡ take (size_of u - size_of w) (drop (size_of w) p) → true ≡ bytes_equal x y → a ≡ b
 values_same a b o q p x y v w u none h k within e f same =
-    let z : w.over ≡ false = or_left w.over (ltb (length q) (w.count + length b)) u.over k.over within in
+    let z : is_over w ≡ false = or_left (is_over w) (ltb (length q) (size_of w + length b)) (is_over u) k.over within in
     let both = (wrote-more a b v w u o q p h k).within within in
-    let n : w.count ≡ length a = omega (arith, (h.within z).0, none) in
-    let m : u.count ≡ w.count + (u.count - w.count) = omega (arith, (k.within within).0) in
-    let i : take v.count o ≡ [] = ap (λ j. take j o) none in
-    let t : take u.count p ≡ a ++ b = both.1 ∙ ap (λ l. l ++ (a ++ b)) i in
-    let r : x ++ y ≡ a ++ b = rw (e, f) (sym (take-add w.count (u.count - w.count) p) ∙ ap (λ j. take j p) (sym m) ∙ t) in
+    let n : size_of w ≡ length a = omega (arith, (h.within z).0, none) in
+    let m : size_of u ≡ size_of w + (size_of u - size_of w) = omega (arith, (k.within within).0) in
+    let i : take (size_of v) o ≡ [] = ap (λ j. take j o) none in
+    let t : take (size_of u) p ≡ a ++ b = both.1 ∙ ap (λ l. l ++ (a ++ b)) i in
+    let r : x ++ y ≡ a ++ b = rw (e, f) (sym (take-add (size_of w) (size_of u - size_of w) p) ∙ ap (λ j. take j p) (sym m) ∙ t) in
     let g : x ≡ y = same_bytes-eq x y (is_T (bytes_equal x y) same) in
-    let l : length x ≡ length a = ap length e ∙ length-take-le w.count p (omega (arith, h.most, h.size, k.size)) ∙ n in
+    let l : length x ≡ length a = ap length e ∙ length-take-le (size_of w) p (omega (arith, h.most, h.size, k.size)) ∙ n in
     halves a b x l (sym r ∙ ap (λ j. x ++ j) (sym g))
+
+-- the same halves as parts of what is written
+pub values_cut : (a b o q p : List ℕ) (v w u : Written) (n m : ℕ) → size_of v ≡ 0 → Wrote (just a) v w o q → Wrote (just b) w u q p → w.count ≡ Some n → u.count ≡ Some m
+    → true ≡ bytes_equal (take n (take m p)) (take (length (take m p) - n) (drop n (take m p))) → a ≡ b
+values_cut a b o q p v w u n m none h k e f same =
+    let x : size_of w ≡ n = some-size w n e in
+    let y : size_of u ≡ m = some-size u m f in
+    let z : size_of u ≡ size_of w + length b = (k.within (some-within u m f)).0 in
+    let low : n ≤ m = omega (arith, x, y, z) in
+    let back : m ≡ n + (m - n) = omega (arith, low) in
+    let l : length (take m p) ≡ m = length-take-le m p (omega (arith, k.most, y)) in
+    values_same a b o q p _ _ v w u none h k (some-within u m f)
+    (take-take n m p low ∙ ap (λ j. take j p) (sym x))
+    (ap (λ j. take (j - n) (drop n (take m p))) l
+    ∙ ap (λ j. take (m - n) (drop n (take j p))) back
+    ∙ ap (take (m - n)) (drop-take n (m - n) p)
+    ∙ take-take (m - n) (m - n) (drop n p) (omega arith)
+    ∙ (λ i. take (sym y i - sym x i) (drop (sym x i) p)))
+    same
 
 -- the arguments of two calls
 same-tabs : {X Y : Type 0} (g h : X → Y) (n : ℕ) (a b : ℕ → X) → ((j : ℕ) → j < n → g (a j) ≡ h (b j)) → map g (tab n a) ≡ map h (tab n b)
@@ -175,3 +195,26 @@ next-too g h k same e j l = go (dec_lt j k)
     go (no y) =
         let z : j ≡ k = omega (arith, l, y) in
         rw z e
+
+-- the nested calls are copied at once
+pub copied-at-once : (calls after : List ℕ) (to : ℕ) → levels ≤ to → to + levels ≤ length calls → after ≡ take to calls ++ (take levels calls ++ drop (to + levels) calls)
+    → Copied calls after to levels
+copied-at-once calls after to low room e =
+    let a : length (take to calls) ≡ to = length-take-le to calls (omega arith) in
+    let b : length (take levels calls) ≡ levels = length-take-le levels calls (omega arith) in
+    record {
+      there = λ j l.
+          rw e
+          (get_or-append_right (take to calls) (take levels calls ++ drop (to + levels) calls) to (to + j) 0 a (omega arith)
+          ∙ ap (λ i. get_or (take levels calls ++ drop (to + levels) calls) i 0) (let f : to + j - to ≡ j = omega arith in f)
+          ∙ get_or_append_left (take levels calls) (drop (to + levels) calls) 0 j (omega arith)
+          ∙ get_or-take levels calls j 0 l);
+      below = λ j l. rw e (get_or_append_left (take to calls) (take levels calls ++ drop (to + levels) calls) 0 j (omega arith) ∙ get_or-take to calls j 0 l);
+      above = λ j l.
+          rw e
+          (get_or-append_right (take to calls) (take levels calls ++ drop (to + levels) calls) to j 0 a (omega arith)
+          ∙ get_or-append_right (take levels calls) (drop (to + levels) calls) levels (j - to) 0 b (omega arith)
+          ∙ get_or-drop (to + levels) calls (j - to - levels) 0
+          ∙ ap (λ i. get_or calls i 0) (let f : to + levels + (j - to - levels) ≡ j = omega arith in f));
+      nested = rw e (take-append-le levels (take to calls) (take levels calls ++ drop (to + levels) calls) (omega arith) ∙ take-take levels to calls low);
+    }

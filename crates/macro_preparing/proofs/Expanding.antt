@@ -15,28 +15,27 @@ use Rattle.macros.specs.Macros.{Macro}
 use Rattle.macros.specs.Marks.{has_macros, whole_questions}
 use Rattle.macros.specs.Pieces.{Piece}
 use Rattle.macros.specs.Pieces.Piece.{kept, value, called}
-use Rattle.macros.specs.Prepared.Prepared.{ready}
+use Rattle.std.specs.Prelude.{Ok, Err}
+use Rattle.macros.specs.Prepared.Prepared.{ready, unfit}
 use Rattle.macros.specs.Prepared.{writes, deep_places, listed, section_of, bytes_out, places_out, macro_questions, written_out, unless_unfit, prepared}
 use Rattle.macros.proofs.ShapeLaws.{places-rise, prepared-shape}
 use Rattle.macros.proofs.WrittenLaws.{written-at-once}
 use Rattle.macro_code.specs.Places as place
 use Rattle.macro_section.specs.Origins.{none, Sectioned}
 use Rattle.macro_section.specs.declared.WrittenOut.{WrittenOut}
-use Rattle.macro_values.specs.Wrote.{Wrote}
+use Rattle.macro_values.specs.Wrote.{is_over, size_of, Wrote}
 use Rattle.statements.specs.FaultLaws.{first_no-both}
 use Rattle.statements.specs.Faults.{lower, decided, verdict_of, then}
 use Rattle.statements.specs.StatementAt.{fault_of}
 use Rattle.statements.specs.declared.Verdict as told
-use Rattle.statements.specs.declared.Verdict.TheVariants.{Yes, No}
+use Rattle.statements.specs.declared.Verdict.TheVariants.{Yes}
 use Rattle.syntax.specs.Items.{line_of}
 use Rattle.syntax.specs.Verdict.{Verdict, first_no}
 use Rattle.syntax.specs.Verdict.Verdict.{yes, refuse}
 use Rattle.macro_preparing.specs.QuestionLaws.{asked}
 use Rattle.macro_preparing.specs.Preparing.{made, Preparable, Prepares}
-use Rattle.macro_preparing.specs.Rows.{MarkedRow, Passed, RowsRead, Expands, Refuses, Places, Lines, Unwritten, Writes}
-use Rattle.macro_preparing.specs.declared.Expanded.{Expanded}
-use Rattle.macro_preparing.specs.declared.Prepared as answer
-use Rattle.macro_preparing.specs.declared.Prepared.TheVariants.{Ready}
+use Rattle.macro_preparing.specs.Rows.{Passed, RowsRead, Expanded, Refused, Places, Lines}
+use Rattle.macro_preparing.specs.declared.Unfit.{Unfit}
 use Rattle.macro_preparing.specs.declared.Reading.{Reading}
 
 -- ---- a call that is too deep
@@ -104,7 +103,7 @@ module _ {s c f h : List ℕ} {r : Reading} (y : RowsRead s c f h r) {w : Writte
   wrote-there : Wrote (expand (listed s) levels [] (section_of s)) none w.state o p
   wrote-there = rw (y.macros_are, y.section_is) at z.wrote
 
-  placed-there : w.state.over ≡ false → take w.state.count m ≡ places_out s
+  placed-there : is_over w.state ≡ false → take (size_of w.state) m ≡ places_out s
   unfolding places_out
   placed-there = rw (y.macros_are, y.section_is) at z.placed
 
@@ -124,67 +123,59 @@ module _ {s c f h : List ℕ} {r : Reading} (y : RowsRead s c f h r) {w : Writte
       (front-none (each (deep_places (listed s)) (section_of s)) (drop limit.text (places_out s)) (yes-at (macro_questions s) q 2))
 
   module _ {o₀ : List ℕ} (x : Passed s o₀) where
-    not-over : first_no (macro_questions s) ≡ yes → w.state.over ≡ false
+    not-over : first_no (macro_questions s) ≡ yes → is_over w.state ≡ false
     not-over q =
         let l : length (expand (listed s) levels [] (section_of s)).bytes ≤ limit.text = rw (written-at-once s) at (bytes_fit s x.macros x.row.short x.whole q) in
         wrote-there.over
         ∙ both_false (expand (listed s) levels [] (section_of s)).deep (ltb (length o) (0 + length (expand (listed s) levels [] (section_of s)).bytes))
         (none_deep q) (le-ltb (length o) (0 + length (expand (listed s) levels [] (section_of s)).bytes) (omega (arith, l, room)))
 
-    pub expands : (v : told.Verdict)
-        → verdict_of v ≡ then (decided 64 (lower r.form (lower r.typed.unknown w.state.unknown))) (then (decided 65 (lower r.typed.uneven w.state.uneven)) (decided 66 w.long))
-        → Expands s (record { verdict = v; count = w.state.count }) p m
-    expands v e =
-        record {
-          most = omega (arith, wrote-there.most, room);
-          verdict_is = all_asked v e;
-          bytes_are = λ q. (wrote-there.within (not-over (sym (all_asked v e) ∙ q))).1 ∙ sym (written-at-once s);
-          places_are = λ q. placed-there (not-over (sym (all_asked v e) ∙ q));
-        }
+    module _ (v : told.Verdict) (e : verdict_of v ≡ then (decided 64 (lower r.form (lower r.typed.unknown w.state.unknown))) (then (decided 65 (lower r.typed.uneven w.state.uneven)) (decided 66 w.long))) where
+      pub expands : v ≡ Yes → Expanded s (size_of w.state) p m
+      expands q =
+          let y : first_no (macro_questions s) ≡ yes = sym (all_asked v e) ∙ ap verdict_of q in
+          record {
+            most = omega (arith, wrote-there.most, room);
+            yes_is = y;
+            bytes_are = (wrote-there.within (not-over y)).1 ∙ sym (written-at-once s);
+            places_are = placed-there (not-over y);
+          }
+
+      pub expands-not : {u : Unfit} → Refused s (verdict_of v) u → Refused s (first_no (macro_questions s)) u
+      expands-not f = rw (all_asked v e) at f
 
 -- ---- the answers
 
-module _ {s o ps : List ℕ} {e : Expanded} (x : Expands s e o ps) where
-  pub in_order : {o₀ : List ℕ} → Passed s o₀ → length ps ≡ limit.text → e.verdict ≡ Yes → Places s ps e.count
-  in_order p l y =
-      record { short = p.row.short; room = omega (arith, x.most, l); rising = rw (x.places_are (ap verdict_of y)) (places-rise s) }
+module _ {s o ps : List ℕ} {n : ℕ} (x : Expanded s n o ps) where
+  pub in_order : length s ≤ limit.text → length ps ≡ limit.text → Places s ps n
+  in_order p l = record { short = p; room = omega (arith, x.most, l); rising = rw x.places_are (places-rise s) }
 
-  pub written-ready : {ls : List ℕ} → e.verdict ≡ Yes → Lines s ps e.count ls → Writes s (Ready e.count) o ls
+  pub written-ready : {ls : List ℕ} → Lines s ps n ls → made (Ok n) o ls ≡ unless_unfit s (first_no (macro_questions s)) (written_out s)
   unfolding unless_unfit written_out
-  written-ready y l =
-      let v : yes ≡ first_no (macro_questions s) = sym (ap verdict_of y) ∙ x.verdict_is in
-      record {
-        is =
-            (λ i. ready (x.bytes_are (ap verdict_of y) i) ((l.are ∙ ap (map (line_of s)) (x.places_are (ap verdict_of y))) i))
-            ∙ ap (λ (q : Verdict). unless_unfit s q (written_out s)) v;
-        fits = x.most;
-      }
+  written-ready l =
+      (λ i. ready (x.bytes_are i) ((l.are ∙ ap (map (line_of s)) x.places_are) i))
+      ∙ ap (λ (q : Verdict). unless_unfit s q (written_out s)) (sym x.yes_is)
 
-  pub written-unfit : {number at : ℕ} {r : answer.Prepared} → e.verdict ≡ No number at → Refuses s number at r → Writes s r o ps
-  unfolding unless_unfit
-  written-unfit {number} {at} y f =
-      let v : refuse number at ≡ first_no (macro_questions s) = sym (ap verdict_of y) ∙ x.verdict_is in
-      record {
-        is = ap (λ (q : answer.Prepared). made q o ps) f.is ∙ ap (λ (q : Verdict). unless_unfit s q (written_out s)) v;
-        fits = rw f.is (omega arith);
-      }
+pub written-unfit : {s : List ℕ} {v : Verdict} {u : Unfit} (o ls : List ℕ) → Refused s v u → made (Err u) o ls ≡ unless_unfit s v (written_out s)
+unfolding unless_unfit
+written-unfit {s} {v} {u} o ls f = ap (unfit u.number) f.line_is ∙ ap (λ (q : Verdict). unless_unfit s q (written_out s)) (sym f.is)
 
 module _ {s o ls c : List ℕ} (p : Preparable s o ls c) (v : told.Verdict) (w : verdict_of v ≡ first_no (whole_questions s)) where
-  pub passes : {m : List ℕ} → MarkedRow s m → length m ≡ limit.text → v ≡ Yes → Unwritten s m ls c
-  passes r l y =
-      record { passed = record { macros = p.macros; row = r; room = l; whole = sym w ∙ ap verdict_of y }; lines_room = p.lines_room; cells = p.code_room }
+  module _ {m ms d : List ℕ} (l : length m ≡ limit.text) (k : length ms ≡ limit.text) (j : length d ≡ place.cells) where
+    pub refuses-whole : {u : Unfit} → Refused s (verdict_of v) u → Prepares s (Err u) m ms d
+    refuses-whole {u} f =
+        record {
+          is = written-unfit m ms f ∙ ap (λ (q : Verdict). unless_unfit s q (written_out s)) f.is ∙ prepared-unfit s p.macros (sym f.is ∙ w);
+          fits = omega arith;
+          size = l;
+          lines_size = k;
+          code_size = j;
+        }
 
-  pub refuses-whole : {m : List ℕ} {number at : ℕ} {r : answer.Prepared} → length m ≡ limit.text → v ≡ No number at → Refuses s number at r → Prepares s r m ls c
-  unfolding unless_unfit
-  refuses-whole {m} l y f =
-      record {
-        is = ap (λ (q : answer.Prepared). made q m ls) f.is ∙ prepared-unfit s p.macros (sym (ap verdict_of y) ∙ w);
-        fits = rw f.is (omega arith);
-        size = l;
-        lines_size = p.lines_room;
-        code_size = p.code_room;
-      }
+    pub refuses : {u : Unfit} → v ≡ Yes → Refused s (first_no (macro_questions s)) u → Prepares s (Err u) m ms d
+    refuses y f =
+        record { is = written-unfit m ms f ∙ sym (prepared-whole s p.macros (sym w ∙ ap verdict_of y)); fits = omega arith; size = l; lines_size = k; code_size = j }
 
-  pub prepares : {m ms d : List ℕ} {r : answer.Prepared} → v ≡ Yes → length m ≡ limit.text → length ms ≡ limit.text → length d ≡ place.cells → Writes s r m ms → Prepares s r m ms d
-  prepares y l k j f =
-      record { is = f.is ∙ sym (prepared-whole s p.macros (sym w ∙ ap verdict_of y)); fits = f.fits; size = l; lines_size = k; code_size = j }
+    pub prepares : {n : ℕ} {ps : List ℕ} → v ≡ Yes → Expanded s n m ps → Lines s ps n ms → Prepares s (Ok n) m ms d
+    prepares y x f =
+        record { is = written-ready x f ∙ sym (prepared-whole s p.macros (sym w ∙ ap verdict_of y)); fits = x.most; size = l; lines_size = k; code_size = j }

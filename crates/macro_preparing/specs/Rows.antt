@@ -1,5 +1,6 @@
 -- What the functions that fill the rows ask and promise.
-use Rattle.std.specs.Prelude.{◌≡◌, true, List, [], ◌++◌, map, ℕ, ◌+◌, ◌*◌, ◌≤◌, ◌<◌, length, get_or, take, drop}
+use Rattle.std.specs.Result.{MatchResult}
+use Rattle.std.specs.Prelude.{Result, ◌≡◌, true, List, [], ◌++◌, map, ℕ, ◌+◌, ◌*◌, ◌≤◌, ◌<◌, length, get_or, take, drop}
 use Rattle.language.specs.Limits as limit
 use Rattle.lists.specs.Lists.{each}
 use Rattle.macros.specs.Elements.{elements}
@@ -7,7 +8,7 @@ use Rattle.macros.specs.Macros.{macro_list_faults, section}
 use Rattle.macros.specs.Marks.{has_macros, marked, whole_questions}
 use Rattle.macros.proofs.OrderLaws.{Rising}
 use Rattle.macros.specs.Pieces.{is_stray, form_faults}
-use Rattle.macros.specs.Prepared.{piece_faults, listed, section_of, bytes_out, places_out, macro_questions, written_out, unless_unfit}
+use Rattle.macros.specs.Prepared.{piece_faults, listed, section_of, bytes_out, places_out, macro_questions}
 use Rattle.macro_calls.specs.Calls.{Told}
 use Rattle.macro_code.specs.Code.{high, change_count, first_change, changes_in, body_in, macros_in}
 use Rattle.macro_code.specs.Known.{Singles, Heights}
@@ -17,12 +18,11 @@ use Rattle.macro_section.specs.Long.{Steady}
 use Rattle.statements.specs.Faults.{verdict_of}
 use Rattle.statements.specs.StatementAt.{fault_of}
 use Rattle.syntax.specs.Items.{line_of}
-use Rattle.syntax.specs.Verdict.{first_no}
-use Rattle.syntax.specs.Verdict.Verdict.{yes}
-use Rattle.macro_preparing.specs.Preparing.{made, count_of}
-use Rattle.macro_preparing.specs.declared.Expanded.{Expanded}
-use Rattle.macro_preparing.specs.declared.Prepared as told
-use Rattle.macro_preparing.specs.declared.Prepared.TheVariants.{Unfit}
+use Rattle.statements.specs.declared.Verdict as told
+use Rattle.statements.specs.declared.Verdict.TheVariants.{Yes}
+use Rattle.syntax.specs.Verdict.{Verdict, first_no}
+use Rattle.syntax.specs.Verdict.Verdict.{yes, refuse}
+use Rattle.macro_preparing.specs.declared.Unfit.{Unfit}
 use Rattle.macro_preparing.specs.declared.Reading.{Reading}
 
 -- the marked text is at the beginning of a row
@@ -89,14 +89,23 @@ pub record Unexpanded (s c f h o ps : List ℕ) : Type 0 where
   pub lent : RowsLent s c f h o
   pub places : length ps ≡ limit.text
 
-pub record Expands (s : List ℕ) (r : Expanded) (o ps : List ℕ) : Type 0 where
-  pub most : r.count ≤ limit.text
-  pub verdict_is : verdict_of r.verdict ≡ first_no (macro_questions s)
-  pub bytes_are : verdict_of r.verdict ≡ yes → take r.count o ≡ bytes_out s
-  pub places_are : verdict_of r.verdict ≡ yes → take r.count ps ≡ places_out s
+pub record Expanded (s : List ℕ) (n : ℕ) (o ps : List ℕ) : Type 0 where
+  pub most : n ≤ limit.text
+  pub yes_is : first_no (macro_questions s) ≡ yes
+  pub bytes_are : take n o ≡ bytes_out s
+  pub places_are : take n ps ≡ places_out s
 
-pub record Refuses (s : List ℕ) (number at : ℕ) (r : told.Prepared) : Type 0 where
-  pub is : r ≡ Unfit number (line_of s at)
+-- a verdict, with the line of its place
+pub record Refused (s : List ℕ) (v : Verdict) (u : Unfit) : Type 0 where
+  pub at : ℕ
+  pub is : v ≡ refuse u.number at
+  pub line_is : u.line ≡ line_of s at
+
+abbrev pub Answered : List ℕ → told.Verdict → Result Unit Unfit → Type 0
+Answered s v r = MatchResult r (λ _. v ≡ Yes) (Refused s (verdict_of v))
+
+abbrev pub Expands : List ℕ → Result ℕ Unfit → List ℕ → List ℕ → Type 0
+Expands s r o ps = MatchResult r (λ n. Expanded s n o ps) (Refused s (first_no (macro_questions s)))
 
 -- the first n numbers of a row are places in order
 pub record Places (s ps : List ℕ) (n : ℕ) : Type 0 where
@@ -112,7 +121,3 @@ pub record Unwritten (s o ls c : List ℕ) : Type 0 where
   pub passed : Passed s o
   pub lines_room : length ls ≡ limit.text
   pub cells : length c ≡ place.cells
-
-pub record Writes (s : List ℕ) (r : told.Prepared) (o ls : List ℕ) : Type 0 where
-  pub is : made r o ls ≡ unless_unfit s (first_no (macro_questions s)) (written_out s)
-  pub fits : count_of r ≤ limit.text

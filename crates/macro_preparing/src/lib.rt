@@ -8,7 +8,7 @@ ghost use Rattle.macro_reading.specs.Whole.{MacrosRead};
 ghost use Rattle.statements.specs.Faults.{lower, decided, verdict_of, then};
 ghost use Rattle.syntax.specs.Verdict.{first_no};
 ghost use Rattle.macro_preparing.specs.Preparing.{Preparable, Prepares};
-ghost use Rattle.macro_preparing.specs.Rows.{Markable, MarkedRow, Readable, Puttable, Puts, Tabled, Tables, RowsLent, RowsRead, Unexpanded, Expands, Refuses, Places, Lines, Unwritten, Writes};
+ghost use Rattle.macro_preparing.specs.Rows.{Markable, MarkedRow, Readable, Puttable, Puts, Tabled, Tables, RowsLent, RowsRead, Unexpanded, Expands, Answered, Places, Lines, Unwritten};
 
 use language::Machine;
 use macro_calls::{Faults, find_singles, typed_faults};
@@ -18,7 +18,8 @@ use macro_lines::{find_lines, line_of};
 use macro_marks::mark_joins;
 use macro_questions::ask_whole;
 use macro_reading::{Listing, read_macros};
-use macro_section::{Section, WrittenOut, write_section};
+use macro_section::from_macro_expansion::Macros;
+use macro_section::{WrittenOut, write_section};
 use statements::{Fault, Verdict, decide, first_of, lower};
 
 // The first cell of each macro; behind them, for every other place of a text, the macro of the call there.
@@ -27,15 +28,16 @@ const NAMES: usize = CodePlaces::MACROS + Machine::TEXT / 2;
 // Three numbers of each macro.
 const HEIGHTS: usize = 3 * CodePlaces::MACROS;
 
-// So many written-out bytes, with a line for each; or the number and the line of the first question answered no.
+// The number and the line of the first question answered no.
 #[derive(Clone, Copy)]
-pub enum Prepared {
-    Ready(usize),
-    Unfit(u8, u32),
+pub struct Unfit {
+    pub number: u8,
+    pub line: u32,
 }
 
 // The list of macros and the section that were read: the count of macros; the cell of the section; and the lowest places at fault, of their form
 // and of the calls as typed.
+// Apart from `Listing`, a public result of `macro_reading`, in that it has the faults of the calls as typed.
 #[derive(Clone, Copy)]
 struct Reading {
     count: usize,
@@ -44,14 +46,8 @@ struct Reading {
     typed: Faults,
 }
 
-// The section that was written out: the verdict of questions 64 to 66, and the count of bytes.
-#[derive(Clone, Copy)]
-struct Expanded {
-    verdict: Verdict,
-    count: usize,
-}
-
 // The text with a star for each joining apostrophe, at the beginning of the row.
+// There is no heap, so the marked text lies in the row that is written out later.
 fn mark(text: &[u8], out: &mut [u8])
     requires { Markable text.now out.old }
     ensures { MarkedRow text.now out.new }
@@ -83,10 +79,11 @@ fn put_row(rows: &mut [u8], at: usize, row: &[u8], count: usize)
     requires { Puttable rows.old at row.now count }
     ensures { Puts rows.old at row.now count rows.new }
 {
-    cells::put(rows, at, macro_code::part(row, 0, count));
+    rows[at..at + count].copy_from_slice(&row[..count]);
 }
 
 // Of each macro, its heights and whether it is the only one of its name, in one row. What the row `singles` held goes.
+// There is no heap, so a lent row of fixed size holds all three, end to end, and the count stands beside it.
 fn find_tables(
     text: &[u8],
     code: &[u32],
@@ -112,15 +109,9 @@ fn find_tables(
 fn ask_macros(form: Fault, typed: Faults, w: WrittenOut) -> Verdict
     ensures { verdict_of result ≡ then (decided 64 (lower form (lower typed.unknown w.state.unknown))) (then (decided 65 (lower typed.uneven w.state.uneven)) (decided 66 w.long)) }
 {
-    let unknown = typed.unknown;
-    let uneven = typed.uneven;
-    let long = w.long;
-    let state = w.state;
-    let met = state.unknown;
-    let met_uneven = state.uneven;
-    let sixty_four = decide(64, lower(form, lower(unknown, met)));
-    let sixty_five = decide(65, lower(uneven, met_uneven));
-    first_of(sixty_four, first_of(sixty_five, decide(66, long)))
+    let sixty_four = decide(64, lower(form, lower(typed.unknown, w.state.unknown)));
+    let sixty_five = decide(65, lower(typed.uneven, w.state.uneven));
+    first_of(sixty_four, first_of(sixty_five, decide(66, w.long)))
 }
 
 // Reads the marked text into the rows. The row `out` is for use here alone.
@@ -135,18 +126,31 @@ fn read_rows(
     ensures { RowsRead text.now code.new names.new heights.new result }
 {
     let r = read_marked(text, out, code, names);
-    let form = r.fault;
     let typed = typed_faults(text, code, names, r.count, r.section);
     find_tables(text, code, names, r.count, out, heights);
     Reading {
         count: r.count,
         section: r.section,
-        form: form,
+        form: r.fault,
         typed: typed,
     }
 }
 
-// Writes the section of the marked text, with the place that each byte comes from.
+// What a verdict says of a text.
+fn answered(text: &[u8], v: Verdict) -> Result<(), Unfit>
+    requires { length text.now ≤ limit.text }
+    ensures { Answered text.now v result }
+{
+    match v {
+        Verdict::Yes => Ok(()),
+        Verdict::No(number, at) => Err(Unfit {
+            number: number,
+            line: line_of(text, at) as u32,
+        }),
+    }
+}
+
+// Writes the section of the marked text, with the place that each byte comes from; and how many bytes it has.
 fn expand_in(
     text: &[u8],
     code: &mut [u32],
@@ -154,40 +158,31 @@ fn expand_in(
     heights: &mut [u8],
     out: &mut [u8],
     places: &mut [u16],
-) -> Expanded
+) -> Result<usize, Unfit>
     requires { Unexpanded text.now code.old names.old heights.old out.old places.old }
     ensures { Expands text.now result out.new places.new }
 {
     let k = read_rows(text, code, names, heights, out);
-    let form = k.form;
-    let typed = k.typed;
-    let at = Section {
-        cell: k.section,
-        macros: k.count,
+    let list = Macros {
+        text: text,
+        code: code,
+        names: names,
+        heights: heights,
+        count: k.count,
     };
-    let w = write_section(text, code, names, heights, out, places, at);
-    let count = w.state.count;
-    Expanded {
-        verdict: ask_macros(form, typed, w),
-        count: count,
-    }
+    let w = write_section(&list, k.section, out, places);
+    answered(text, ask_macros(k.form, k.typed, w))?;
+    Ok(w.state.count.unwrap_or(0))
 }
 
 // The same, with rows that are needed here alone.
-fn expand(text: &[u8], out: &mut [u8], places: &mut [u16], code: &mut [u32]) -> Expanded
+fn expand(text: &[u8], out: &mut [u8], places: &mut [u16], code: &mut [u32]) -> Result<usize, Unfit>
     requires { Unwritten text.now out.old places.old code.old }
     ensures { Expands text.now result out.new places.new }
 {
     let mut names = [0u16; NAMES];
     let mut heights = [0u8; HEIGHTS];
     expand_in(text, code, &mut names, &mut heights, out, places)
-}
-
-fn refuse(text: &[u8], number: u8, at: usize) -> Prepared
-    requires { length text.now ≤ limit.text }
-    ensures { Refuses text.now number at result }
-{
-    Prepared::Unfit(number, line_of(text, at) as u32)
 }
 
 // The places of so many bytes become their lines.
@@ -198,32 +193,20 @@ fn place_lines(text: &[u8], places: &mut [u16], count: usize)
     find_lines(text, &mut places[..count]);
 }
 
-// The marked text, written out.
-fn write_out(text: &[u8], out: &mut [u8], lines: &mut [u16], code: &mut [u32]) -> Prepared
-    requires { Unwritten text.now out.old lines.old code.old }
-    ensures { Writes text.now result out.new lines.new }
-{
-    let e = expand(text, out, lines, code);
-    let count = e.count;
-    let verdict = e.verdict;
-    match verdict {
-        Verdict::No(number, at) => refuse(text, number, at),
-        Verdict::Yes => {
-            place_lines(text, lines, count);
-            Prepared::Ready(count)
-        }
-    }
-}
-
-// Makes a text with macros ready for loading: its written-out bytes and the line of each, or the number and line of the first question answered no.
-// The row `code` is for use here alone.
-pub fn prepare(text: &[u8], out: &mut [u8], lines: &mut [u16], code: &mut [u32]) -> Prepared
+// Makes a text with macros ready for loading: how many written-out bytes it has, with a line for each; or the first question answered no. The row
+// `code` is for use here alone.
+pub fn prepare(
+    text: &[u8],
+    out: &mut [u8],
+    lines: &mut [u16],
+    code: &mut [u32],
+) -> Result<usize, Unfit>
     requires { Preparable text.now out.old lines.old code.old }
     ensures { Prepares text.now result out.new lines.new code.new }
 {
     mark(text, out);
-    match ask_marked(text, out) {
-        Verdict::No(number, at) => refuse(text, number, at),
-        Verdict::Yes => write_out(text, out, lines, code),
-    }
+    answered(text, ask_marked(text, out))?;
+    let count = expand(text, out, lines, code)?;
+    place_lines(text, lines, count);
+    Ok(count)
 }

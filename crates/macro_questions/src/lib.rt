@@ -18,17 +18,14 @@ use statements::{CLEAN, Verdict, checked, worse};
 fn may_stand(sort: u8, b: u8) -> bool
     ensures { result ≡ eqb 5 sort && among b (bytes "*()'") }
 {
-    (WRONG == sort) & ((b == b'*') | ((b == b'(') | ((b == b')') | (b == b'\''))))
+    sort == WRONG && b"*()'".contains(&b)
 }
 
 // Its sort, where those are colons.
 fn judged_sort(sort: u8, b: u8) -> u8
     ensures { result ≡ judged_sort sort b }
 {
-    if may_stand(sort, b) {
-        return COLON;
-    }
-    sort
+    if may_stand(sort, b) { COLON } else { sort }
 }
 
 fn judged(t: Token, b: u8) -> Token
@@ -36,12 +33,7 @@ fn judged(t: Token, b: u8) -> Token
 {
     Token {
         sort: judged_sort(t.sort, b),
-        at: t.at,
-        end: t.end,
-        next: t.next,
-        len: t.len,
-        good: t.good,
-        colon: t.colon,
+        ..t
     }
 }
 

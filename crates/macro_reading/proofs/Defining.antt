@@ -1,7 +1,9 @@
 -- A definition in cells is the macro of its stretch.
-use mathlib.Core.Path.{◌≡◌, refl, ap, sym, ◌∙◌}
+use mathlib.Core.Path.{◌≡◌, refl, ap, sym, ◌∙◌, subst}
 use mathlib.Core.Bool.{Bool, true, false, cond, not, ◌&&◌, true≢false, false≢true}
 use mathlib.Core.List.{List, [], ◌∷◌, ◌++◌, map, append_assoc, append-nil}
+use Rattle.std.specs.Prelude.{Some, None}
+use Rattle.std.proofs.lemmas.Option.{none-some, same_Some}
 use Prim.Native.Nat.{ℕ, zero, suc, ◌+◌, ◌-◌, ◌≤◌, ◌<◌}
 use native.Mathlib.Nat.{le_refl}
 use native.Mathlib.Omega.{arith}
@@ -29,8 +31,9 @@ use Rattle.macro_changes.proofs.Searching.{from-off}
 use Rattle.macro_elements.specs.ElementAt.{elements_from, argument_value, NextElement}
 use Rattle.macro_elements.specs.declared.Element.{Element}
 use Rattle.macro_reading.specs.Bodies.{Bodied, BodyRead}
-use Rattle.macro_reading.specs.Headers.{word_cell, heading, bracketed, words_in, Headable, HeaderRead}
-use Rattle.macro_reading.specs.Definitions.{stretch, Definable, Defined}
+use Rattle.macro_reading.specs.Headers.{word_cell, heading, bracketed, words_in, HeaderRead}
+use Rattle.macro_reading.specs.Definitions.{stretch, Definable, Defining, Defined}
+use Rattle.macro_reading.specs.declared.Definition.{Definition}
 use Rattle.macro_reading.specs.declared.Body.{Body}
 use Rattle.macro_reading.specs.declared.Header.{Header}
 use Rattle.macro_reading.proofs.Heading.{stretch-on}
@@ -61,9 +64,6 @@ tab-filled zero f = refl
 tab-filled (suc k) f = sym (lt-ltb 0 (suc k) (omega arith))
 
 module _ {s m c : List ℕ} {n q : ℕ} (p : Definable s m c n q) where
-  pub headable : Headable s m c n q
-  headable = record { lent = p.lent; room = omega (arith, p.paid, p.room, p.lent.most, p.lent.size); wide = p.wide }
-
   module _ {d : List ℕ} {h : Header} (g : HeaderRead s c d n q h) {b : Element} (k : NextElement s h.next b) where
     abbrev us : List spec.Element
     us = elements_from s n
@@ -86,12 +86,12 @@ module _ {s m c : List ℕ} {n q : ℕ} (p : Definable s m c n q) where
             goes true f = ap (λ (ts : List spec.Element). if_any false is_open (from is_bracket ts)) (some-elements k (eqb_no b.sort 0 e)) ∙ ap (λ (ts : List spec.Element). if_any false is_open ts) (from-off is_bracket v (elements_from s b.next) f) ∙ o
             goes false f = absurd (false≢true (ap filled (sym g.done ∙ stretch-on k is_bracket (rw e f))))
 
-    pub not-defined : is_open v ≡ false → Defined s c d n q (record { opened = false; named = false; next = n; used = q; fault = Clear })
+    pub not-defined : is_open v ≡ false → Defined s c d n q None
     not-defined o =
         record {
           kept = g.heads.kept;
           opened_is = sym (unopened us (not-open o)).bodiless_is;
-          defining = λ e. absurd (false≢true e);
+          defining = λ x e. absurd (none-some x e);
         }
 
     module _ (o : is_open v ≡ true) where
@@ -241,30 +241,27 @@ module _ {s m c : List ℕ} {n q : ℕ} (p : Definable s m c n q) where
         steps true e = let l : 0 < h.words = ltb-true 0 h.words e in omega (arith, forward, g.heads.from, after_open)
         steps false e = omega (arith, forward, g.heads.from, after_open)
 
-        pub definition-done : Defined s c e n q (record { opened = true; named = named; next = r.next; used = r.used; fault = lower h.fault (lower (fault_of (cond (not (named && r.closed)) (b.at ∷ []) [])) r.fault) })
+        abbrev whole : Definition
+        whole = record { named = named; next = r.next; used = r.used; fault = lower h.fault (lower (fault_of (cond (not (named && r.closed)) (b.at ∷ []) [])) r.fault) }
+
+        defining-whole : Defining s e n q whole
+        defining-whole =
+            record {
+              macro_is = macro-done;
+              fault_is = faults-done;
+              rest = y.rest ∙ ap (drop 1) (sym op.rest_is);
+              from_here = steps named refl;
+              closed_more = λ w c. let x : 0 < h.words = ltb-true 0 h.words w in more-there x c;
+              most = y.most;
+              paid = λ w. let l : 0 < h.words = ltb-true 0 h.words w in omega (arith, y.room, p.paid, forward, g.heads.from, extra r.closed);
+              low = omega (arith, y.low);
+              used_is = y.used_is;
+            }
+
+        pub definition-done : Defined s c e n q (Some whole)
         definition-done =
             record {
               kept = kept_on g.heads.kept (kept-below y.kept (omega arith)) (le_refl q);
               opened_is = sym (any_found is_open (stretch us) ∙ ap filled op.body_is);
-              defining =
-                  λ z.
-                  record {
-                    macro_is = macro-done;
-                    fault_is = faults-done;
-                    rest = y.rest ∙ ap (drop 1) (sym op.rest_is);
-                    from_here = steps named refl;
-                    closed_more = λ w c. let x : 0 < h.words = ltb-true 0 h.words w in more-there x c;
-                    most = y.most;
-                    paid = λ w. let l : 0 < h.words = ltb-true 0 h.words w in omega (arith, y.room, p.paid, forward, g.heads.from, extra r.closed);
-                    low = omega (arith, y.low);
-                    used_is = y.used_is;
-                  };
+              defining = λ x z. subst (λ (u : Definition). Defining s e n q u) (same_Some whole x z) defining-whole;
             }
-
-pub not-true : (b : Bool) → not b ≡ true → b ≡ false
-not-true true e = absurd (false≢true e)
-not-true false e = refl
-
-pub not-false : (b : Bool) → not b ≡ false → b ≡ true
-not-false true e = refl
-not-false false e = absurd (true≢false e)

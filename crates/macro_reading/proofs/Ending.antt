@@ -2,13 +2,13 @@
 use mathlib.Core.Path.{◌≡◌, refl, ap, sym, ◌∙◌}
 use mathlib.Core.Bool.{Bool, true, false, cond, not, ◌&&◌, ◌||◌, true≢false, false≢true}
 use mathlib.Core.List.{List, [], ◌∷◌, ◌++◌, append_assoc, append-nil}
+use Rattle.std.specs.Prelude.{Option, Some, None, is_some}
 use Prim.Native.Nat.{ℕ, ◌+◌, ◌<◌}
 use native.Mathlib.Nat.{le_refl}
 use native.Mathlib.Omega.{arith}
 use lib.Dec.{eqb}
 use lib.ListN.{length, take, drop}
 use borrow.Author.Tests.{eq-eqb, ne_eqb, eqb-true}
-use Rattle.lexer.specs.Tokens.{part}
 use Rattle.lists.specs.Lists.{all, any, filled, head_or, if_any, keep}
 use Rattle.statements.specs.declared.Fault.{Fault}
 use Rattle.statements.specs.declared.Fault.TheVariants.{Clear, At}
@@ -23,11 +23,11 @@ use Rattle.macros.proofs.FaultLaws.{keep-both}
 use Rattle.macros.specs.Macros.{from_statement, header_faults}
 use Rattle.macro_changes.proofs.Giving.{eqb_no, lower-assoc, keep-first, some-elements, no-elements, neither}
 use Rattle.macro_changes.proofs.Searching.{until-on, until-off, from_on, from-off}
-use Rattle.macro_elements.specs.ElementAt.{elements_from, argument_value, Lent, NextElement}
+use Rattle.macro_elements.specs.ElementAt.{joined_at, elements_from, argument_value, Lent, NextElement}
 use Rattle.macro_elements.specs.declared.Element.{Element}
 use Rattle.macro_elements.proofs.Tests.{sort-is}
 use Rattle.macro_reading.specs.Definitions.{stretch}
-use Rattle.macro_reading.specs.Headers.{heading, first_word, any_there, HeaderRead}
+use Rattle.macro_reading.specs.Headers.{placed, heading, first_word, any_there, HeaderRead}
 use Rattle.macro_reading.specs.Sections.{outer, outer_faults, Firsts, FirstRead, Tailed, tail_faults, TailRead}
 use Rattle.macro_reading.specs.declared.Header.{Header}
 use Rattle.macro_reading.proofs.Heading.{stretch-none, stretch-on, rest-on, stretch-more}
@@ -117,13 +117,13 @@ module _ {s : List ℕ} {n i : ℕ} {f : Fault} (g : Firsts s n i f) {t : Elemen
       }
 
 -- an element that joins something joins nothing outside a body
-joins-none : (i z : Bool) (w : List ℕ) → all (λ y. i && false) (cond {A = List (List ℕ)} z [] (w ∷ [])) ≡ z
-joins-none i true w = refl
-joins-none true false w = refl
-joins-none false false w = refl
+joins-none : (i : Bool) (s : List ℕ) (e : ℕ) (o : Option ℕ) → not (all (λ y. i && false) (joined_at s e o)) ≡ is_some o
+joins-none i s e None = refl
+joins-none true s e (Some b) = refl
+joins-none false s e (Some b) = refl
 
-pub outer-is : (s : List ℕ) (t : Element) → (is_star (argument_value s t) || (is_bracket (argument_value s t) || is_mark 39 (argument_value s t) || not (eqb t.joined 0))) ≡ outer (argument_value s t)
-outer-is s t = ap (λ (b : Bool). is_star (argument_value s t) || (is_bracket (argument_value s t) || is_mark 39 (argument_value s t) || not b)) (sym (joins-none (spec.is_identifier (argument_value s t)) (eqb t.joined 0) (part s t.joined t.behind)))
+pub outer-is : (s : List ℕ) (t : Element) → (is_star (argument_value s t) || (is_bracket (argument_value s t) || is_mark 39 (argument_value s t) || is_some t.joined)) ≡ outer (argument_value s t)
+outer-is s t = ap (λ (b : Bool). is_star (argument_value s t) || (is_bracket (argument_value s t) || is_mark 39 (argument_value s t) || b)) (sym (joins-none (spec.is_identifier (argument_value s t)) s t.end t.joined))
 
 -- The stretch that ends the list
 
@@ -225,20 +225,20 @@ module _ {s m c : List ℕ} {n q : ℕ} (p : Tailed s m c n q) {d : List ℕ} {h
   whole : x ≡ heading s n ++ take 1 (cond closed (w ∷ elements_from s b.next) [])
   whole = λ i. head_is i ++ take 1 (from-close i)
 
-  words-there : places_in (take 1 (keep is_word x)) ≡ cond (not (eqb h.words 0)) (h.first ∷ []) []
+  words-there : places_in (take 1 (keep is_word x)) ≡ placed h.first
   words-there =
       ap (λ (ts : List spec.Element). places_in (take 1 ts)) (ap (keep is_word) whole ∙ keep-both is_word (heading s n) (take 1 (cond closed (w ∷ elements_from s b.next) [])) ∙ go (eqb b.sort 0) refl)
       ∙ sym g.heads.first_is
-      ∙ ap (λ (ts : List spec.Element). cond (eqb h.words 0) (first_word ts) (h.first ∷ [])) g.done
-      ∙ goes (eqb h.words 0)
+      ∙ ap (λ (ts : List spec.Element). take 1 (placed h.first ++ first_word ts)) g.done
+      ∙ goes h.first
     where
       go : (z : Bool) → eqb b.sort 0 ≡ z → keep is_word (heading s n) ++ keep is_word (take 1 (cond (not z) (w ∷ elements_from s b.next) [])) ≡ keep is_word (heading s n)
       go true e = append-nil (keep is_word (heading s n))
       go false e = ap (λ (y : Bool). keep is_word (heading s n) ++ cond y (w ∷ []) []) (close-word w (first-close false e refl)) ∙ append-nil (keep is_word (heading s n))
 
-      goes : (z : Bool) → cond z (first_word []) (h.first ∷ []) ≡ cond (not z) (h.first ∷ []) []
-      goes true = refl
-      goes false = refl
+      goes : (z : Option ℕ) → take 1 (placed z ++ first_word []) ≡ placed z
+      goes None = refl
+      goes (Some w) = refl
 
   some-there : any lined x ≡ h.some
   some-there =
@@ -262,10 +262,10 @@ module _ {s m c : List ℕ} {n q : ℕ} (p : Tailed s m c n q) {d : List ℕ} {h
       go false = refl
 
   pub tail-fault : (at : ℕ) (defined : Bool)
-      → lower h.fault (lower (fault_of (cond (not (eqb h.words 0)) (h.first ∷ []) [])) (fault_of (cond (not (closed && (defined || h.some))) (at ∷ []) []))) ≡ fault_of (tail_faults at defined x)
+      → lower h.fault (lower (fault_of (placed h.first)) (fault_of (cond (not (closed && (defined || h.some))) (at ∷ []) []))) ≡ fault_of (tail_faults at defined x)
   tail-fault at defined =
       let one = header_faults (heading s n) in
-      let two = cond (not (eqb h.words 0)) (h.first ∷ []) [] in
+      let two = placed h.first in
       let three = cond (closed && (defined || h.some)) [] (at ∷ []) in
       (λ i. lower (head-fault i) (lower (fault_of two) (turned₁ (closed && (defined || h.some)) i)))
       ∙ ap (lower (fault_of one)) (sym (fault-both two three))

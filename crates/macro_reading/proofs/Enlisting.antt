@@ -2,6 +2,8 @@
 use mathlib.Core.Path.{◌≡◌, refl, ap, sym, ◌∙◌}
 use mathlib.Core.Bool.{Bool, true, false, cond, ◌||◌, false≢true}
 use mathlib.Core.List.{List, [], ◌∷◌, ◌++◌, append_assoc, append-nil}
+use Rattle.std.specs.Prelude.{Option, Some}
+use Rattle.std.specs.Option.{is_some}
 use Prim.Native.Nat.{ℕ, zero, suc, ◌+◌, ◌*◌, ◌/◌, ◌≤◌, ◌<◌}
 use native.Mathlib.Nat.{le_refl}
 use native.Mathlib.Decide.{dec_lt}
@@ -23,7 +25,7 @@ use Rattle.macro_changes.specs.Changing.{Kept}
 use Rattle.macro_changes.proofs.Cells.{tab-cong, tab-last, kept-agree, bytes-agree, changes-agree}
 use Rattle.macro_changes.proofs.Giving.{lower-assoc}
 use Rattle.macro_elements.specs.ElementAt.{elements_from}
-use Rattle.macro_reading.specs.Definitions.{stretch, defined_in, last_in, after_in, Definable, Defining, Defined, Listable, Lies, Listing}
+use Rattle.macro_reading.specs.Definitions.{stretch, defined_in, last_in, after_in, Defining, Defined, Listable, Lies, Listing}
 use Rattle.macro_reading.specs.declared.Definition.{Definition}
 use Rattle.macro_reading.proofs.Stretching.{defined-on, last_on, after_on}
 
@@ -102,15 +104,6 @@ module _ {s m c firsts : List ℕ} {n : ℕ} (p : Listable s m c firsts n) where
       }
 
   module _ {d f : List ℕ} {i q k : ℕ} {b : Bool} {g : Fault} (h : Listing s c firsts d f n i q k b g) where
-    pub definable : Definable s m d i q
-    definable =
-        record {
-          lent = record { copy = p.lent.copy; size = p.lent.size; most = h.most };
-          paid = h.paid;
-          room = omega (arith, p.room, h.size);
-          wide = omega (arith, p.wide, h.size);
-        }
-
     macros-kept : {e : List ℕ} → Kept d e q → macros_in s e f k ≡ macros_in s d f k
     unfolding macros_in
     macros-kept {e} o = tab-cong k (λ j. macro_in s e (get_or f j 0)) (λ j. macro_in s d (get_or f j 0)) (λ j l. macro-same o (get_or f j 0) (h.placed j l) s)
@@ -133,12 +126,12 @@ module _ {s m c firsts : List ℕ} {n : ℕ} (p : Listable s m c firsts n) where
           after_is = h.after_is;
         }
 
-    module _ {e : List ℕ} {r : Definition} (y : Defined s d e i q r) (o : r.opened ≡ true) where
+    module _ {e : List ℕ} {u : Option Definition} {r : Definition} (y : Defined s d e i q u) (o : u ≡ Some r) where
       z : Defining s e i q r
-      z = y.defining o
+      z = y.defining r o
 
       with-body : has_body (stretch (elements_from s i)) ≡ true
-      with-body = sym y.opened_is ∙ o
+      with-body = sym y.opened_is ∙ ap is_some o
 
       some-there : (ts : List spec.Element) → has_body (stretch ts) ≡ true → filled ts ≡ true
       some-there [] w = absurd (false≢true w)
@@ -153,9 +146,6 @@ module _ {s m c firsts : List ℕ} {n : ℕ} (p : Listable s m c firsts n) where
           least : (w : Bool) → 1 ≤ cond w 2 1
           least true = omega arith
           least false = omega arith
-
-      pub first-low : q < 65536
-      first-low = omega (arith, h.paid, h.most, p.lent.size)
 
       abbrev f' : List ℕ
       f' = set f k q
@@ -251,10 +241,3 @@ module _ {s m c firsts : List ℕ} {n : ℕ} (p : Listable s m c firsts n) where
             last_is = ap last_in z.rest ∙ sym (last_on us with-body) ∙ h.last_is;
             after_is = ap after_in z.rest ∙ sym (after_on us with-body) ∙ h.after_is;
           }
-
-      pub onward : i < r.next
-      onward = omega (arith, z.from_here, least r.named)
-        where
-          least : (w : Bool) → 1 ≤ cond w 2 1
-          least true = omega arith
-          least false = omega arith

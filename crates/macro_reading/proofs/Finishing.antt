@@ -21,7 +21,7 @@ use Rattle.macros.specs.Macros.{macro_of, macros_in, header_faults, definition_f
 use Rattle.macros.specs.Pieces.{Change, section_changes, is_stray, form_faults}
 use Rattle.macro_code.specs.Code as code
 use Rattle.macro_code.specs.Code.{paired}
-use Rattle.macro_changes.specs.Changing.{Reading, ReadChanges, parameters_of, shuts, stop_of, changes_of, wrong_in}
+use Rattle.macro_changes.specs.Changing.{ReadChanges, parameters_of, shuts, stop_of, changes_of, wrong_in}
 use Rattle.macro_changes.specs.declared.Scope.{Scope}
 use Rattle.macro_changes.specs.declared.Step.{Step}
 use Rattle.macro_changes.proofs.Cells.{first_of, second-of, kept_set, kept_on, kept-below, changes-agree, changes-same, changes-more}
@@ -53,9 +53,6 @@ none-behind (t ∷ ts) = from_on (shuts false) t ts refl ∙ none-behind ts
 module _ {s m c : List ℕ} {q before u n : ℕ} (p : Sectioned s m c q before u n) where
   abbrev X : Scope
   X = record { params = q + 3; count = 0; closing = false }
-
-  pub section-reading : Reading s m c X n u
-  section-reading = record { lent = p.lent; plain = λ e. refl; few = omega arith; scoped = omega (arith, p.first); room = p.room; wide = p.wide }
 
   no-parameters : parameters_of s c X ≡ []
   unfolding tab

@@ -1,14 +1,16 @@
 -- A header's elements, one by one.
 use mathlib.Core.Path.{◌≡◌, refl, ap, sym, ◌∙◌}
-use mathlib.Core.Bool.{Bool, true, false, cond, not, ◌&&◌, ◌||◌, or_assoc}
+use mathlib.Core.Bool.{Bool, true, false, cond, not, ◌||◌, or_assoc}
 use mathlib.Core.List.{List, [], ◌∷◌, ◌++◌, map, append_assoc}
+use Rattle.std.specs.Prelude.{Option, Some, None}
+use Rattle.std.specs.Option.{option_or}
 use Prim.Native.Nat.{ℕ, ◌+◌, ◌-◌, ◌≤◌, ◌<◌}
 use native.Mathlib.Nat.{le_refl}
 use native.Mathlib.Omega.{arith}
 use lib.Dec.{eqb}
 use lib.ListN.{length, set, take}
 use lib.Seq.{get_or-set_same}
-use borrow.Author.Tests.{eq-eqb, ne_eqb, eqb-true}
+use borrow.Author.Tests.{ne_eqb, eqb-true}
 use Rattle.layout.specs.Cells.{tab}
 use Rattle.lexer.specs.Tokens.{part}
 use Rattle.lists.specs.Lists.{keep}
@@ -27,7 +29,7 @@ use Rattle.macro_changes.proofs.Giving.{neither, eqb_no, lower-assoc, keep-first
 use Rattle.macro_changes.proofs.Searching.{until-on, until-off, from_on}
 use Rattle.macro_elements.specs.ElementAt.{elements_from, argument_value, NextElement}
 use Rattle.macro_elements.specs.declared.Element.{Element}
-use Rattle.macro_reading.specs.Headers.{word_cell, heading, words_in, first_word, any_there, Headable, Heading}
+use Rattle.macro_reading.specs.Headers.{placed, word_cell, heading, words_in, first_word, any_there, Headable, Heading}
 
 -- one element of a stretch
 module _ {s : List ℕ} {n : ℕ} {t : Element} (k : NextElement s n t) (p : spec.Element → Bool) where
@@ -79,13 +81,17 @@ cell-least q k = go (eqb k 0)
     go true = le_refl q
     go false = omega arith
 
+one-first : (ts : List spec.Element) → take 1 (places_in (take 1 ts)) ≡ places_in (take 1 ts)
+one-first [] = refl
+one-first (t ∷ ts) = refl
+
 module _ {s m c : List ℕ} {n q : ℕ} (p : Headable s m c n q) where
-  pub heading-none : Heading s c c n q n 0 0 false Clear
+  pub heading-none : Heading s c c n q n 0 None false Clear
   unfolding tab
   heading-none =
-      record { from = omega arith; most = p.lent.most; kept = kept-none c q; words_are = refl; first_is = refl; some_is = refl; faults = refl; rest = refl }
+      record { from = omega arith; most = p.lent.most; kept = kept-none c q; words_are = refl; first_is = one-first (keep is_word (heading s n)); some_is = refl; faults = refl; rest = refl }
 
-  module _ {d : List ℕ} {i k first : ℕ} {some : Bool} {f : Fault} (g : Heading s c d n q i k first some f) {t : Element} (e : NextElement s i t)
+  module _ {d : List ℕ} {i k : ℕ} {first : Option ℕ} {some : Bool} {f : Fault} (g : Heading s c d n q i k first some f) {t : Element} (e : NextElement s i t)
       (h : (eqb t.sort 0 || is_bracket (argument_value s t)) ≡ false) where
     abbrev v : spec.Element
     v = argument_value s t
@@ -135,16 +141,13 @@ module _ {s m c : List ℕ} {n q : ℕ} (p : Headable s m c n q) where
         ∙ ap (λ (ws : List (List ℕ)). ws ++ words_in (heading s t.next)) same-words
         ∙ ap (λ (ts : List spec.Element). words_now ++ map (λ u. u.typed) ts) (sym (keep_word v (heading s t.next) false y))
 
-    first-now : (b : Bool) → is_word v ≡ b → (z : Bool) → eqb k 0 ≡ z
-        → cond (eqb (k + cond b 1 0) 0) (first_word (heading s t.next)) (cond (z && b) t.at first ∷ []) ≡ cond z (first_word (v ∷ heading s t.next)) (first ∷ [])
-    first-now true y true e = rw (ne_eqb (k + 1) 0 (λ x. omega arith)) (ap (λ (ts : List spec.Element). places_in (take 1 ts)) (sym (keep_word v (heading s t.next) true y)))
-    first-now true y false e = rw (ne_eqb (k + 1) 0 (λ x. omega arith)) refl
-    first-now false y true e =
-        let o : eqb (k + 0) 0 ≡ true = eq-eqb (k + 0) 0 (omega (arith, eqb-true k 0 e)) in
-        rw o (ap (λ (ts : List spec.Element). places_in (take 1 ts)) (sym (keep_word v (heading s t.next) false y)))
-    first-now false y false e = let o : eqb (k + 0) 0 ≡ false = ne_eqb (k + 0) 0 (λ x. eqb_no k 0 e (omega arith)) in rw o refl
+    first-now : (b : Bool) → is_word v ≡ b → (o : Option ℕ)
+        → take 1 (placed (option_or o (cond b (Some t.at) None)) ++ first_word (heading s t.next)) ≡ take 1 (placed o ++ first_word (v ∷ heading s t.next))
+    first-now b y (Some p) = refl
+    first-now true y None = ap (λ (ts : List spec.Element). take 1 (places_in (take 1 ts))) (sym (keep_word v (heading s t.next) true y))
+    first-now false y None = ap (λ (ts : List spec.Element). take 1 (places_in (take 1 ts))) (sym (keep_word v (heading s t.next) false y))
 
-    pub heading-on : (b : Bool) → b ≡ is_word v → {j : ℕ} → j ≡ k + cond b 1 0 → {a : ℕ} → a ≡ cond (eqb k 0 && b) t.at first → {i₁ : Bool} → i₁ ≡ is_identifier v → {l : Bool} → l ≡ eqb t.byte 10
+    pub heading-on : (b : Bool) → b ≡ is_word v → {j : ℕ} → j ≡ k + cond b 1 0 → {a : Option ℕ} → a ≡ option_or first (cond b (Some t.at) None) → {i₁ : Bool} → i₁ ≡ is_identifier v → {l : Bool} → l ≡ eqb t.byte 10
         → Heading s c written n q t.next j a (some || not l) (lower f (fault_of (cond (not (i₁ || l)) (t.at ∷ []) [])))
     heading-on b y {j} jj {a} aa {i₁} ii {l} ll =
         let ts = heading s t.next in
@@ -153,7 +156,7 @@ module _ {s m c : List ℕ} {n q : ℕ} (p : Headable s m c n q) where
           most = e.held.most;
           kept = kept_on g.kept written-kept (cell-least q k);
           words_are = rw jj (more-words b (sym y)) ∙ ap (λ (us : List spec.Element). words_now ++ words_in us) (sym on) ∙ g.words_are;
-          first_is = rw (jj, aa) (first-now b (sym y) (eqb k 0) refl) ∙ ap (λ (us : List spec.Element). cond (eqb k 0) (first_word us) (first ∷ [])) (sym on) ∙ g.first_is;
+          first_is = rw aa (first-now b (sym y) first) ∙ ap (λ (us : List spec.Element). take 1 (placed first ++ first_word us)) (sym on) ∙ g.first_is;
           some_is = or_assoc some (not l) (any_there ts) ∙ ap (λ (z : Bool). some || (not z || any_there ts)) ll ∙ ap (λ (us : List spec.Element). some || any_there us) (sym on) ∙ g.some_is;
           faults =
               lower-assoc f (fault_of (cond (not (i₁ || l)) (t.at ∷ []) [])) (fault_of (header_faults ts))
@@ -169,7 +172,3 @@ module _ {s m c : List ℕ} {n q : ℕ} (p : Headable s m c n q) where
         step : (b : Bool) → n + (k + cond b 1 0) ≤ t.next
         step true = omega (arith, g.from, header-forward)
         step false = omega (arith, g.from, header-forward)
-
-pub one-most : (b : Bool) {r : ℕ} → r ≡ cond b 1 0 → r ≤ 1
-one-most true e = omega arith
-one-most false e = omega arith

@@ -1,5 +1,6 @@
 -- Definitions in cells: what the functions that read them promise.
-use Rattle.std.specs.Prelude.{◌≡◌, Bool, true, false, cond, not, ◌||◌, List, [], ◌∷◌, ◌++◌, ℕ, ◌+◌, ◌*◌, ◌≤◌, ◌<◌, length, get_or, take, drop}
+use Rattle.std.specs.Option.{is_some}
+use Rattle.std.specs.Prelude.{Option, Some, ◌≡◌, Bool, true, false, cond, not, ◌||◌, List, [], ◌∷◌, ◌++◌, ℕ, ◌+◌, ◌*◌, ◌≤◌, ◌<◌, length, get_or, take, drop}
 use Rattle.lists.specs.Lists.{each, filled, head_or, joined}
 use Rattle.statements.specs.declared.Fault.{Fault}
 use Rattle.statements.specs.Faults.{lower}
@@ -35,10 +36,10 @@ pub record Defining (s d : List ℕ) (n q : ℕ) (r : Definition) : Type 0 where
   pub low : q + 3 ≤ r.used
   pub used_is : behind_changes d (first_change d q) (change_count d q) ≡ r.used
 
-pub record Defined (s c d : List ℕ) (n q : ℕ) (r : Definition) : Type 0 where
+pub record Defined (s c d : List ℕ) (n q : ℕ) (r : Option Definition) : Type 0 where
   pub kept : Kept c d q
-  pub opened_is : r.opened ≡ has_body (stretch (elements_from s n))
-  pub defining : r.opened ≡ true → Defining s d n q r
+  pub opened_is : is_some r ≡ has_body (stretch (elements_from s n))
+  pub defining : (x : Definition) → r ≡ Some x → Defining s d n q x
 
 -- from a list's bracket on: definitions, the stretch that ends the list, and what follows it
 abbrev pub bodiless : List Element → Bool

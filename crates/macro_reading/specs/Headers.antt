@@ -1,5 +1,5 @@
 -- A macro's name and parameters in cells: what the function that reads them promises.
-use Rattle.std.specs.Prelude.{◌≡◌, Bool, cond, not, ◌||◌, List, [], ◌∷◌, ◌++◌, map, ℕ, ◌+◌, ◌≤◌, eqb, length, take}
+use Rattle.std.specs.Prelude.{Option, Some, None, ◌≡◌, Bool, cond, not, ◌||◌, List, [], ◌∷◌, ◌++◌, map, ℕ, ◌+◌, ◌≤◌, eqb, length, take}
 use Rattle.layout.specs.Cells.{tab}
 use Rattle.lists.specs.Lists.{any, keep}
 use Rattle.statements.specs.declared.Fault.{Fault}
@@ -33,18 +33,23 @@ first_word ts = places_in (take 1 (keep is_word ts))
 abbrev pub any_there : List Element → Bool
 any_there ts = any (λ t. not (eqb t.byte 10)) ts
 
+-- the place that was met, if there is one
+abbrev pub placed : Option ℕ → List ℕ
+placed None = []
+placed (Some p) = p ∷ []
+
 pub record Headable (s m c : List ℕ) (n q : ℕ) : Type 0 where
   pub lent : Lent s m n
   pub room : q + 3 + length s ≤ length c + n
   pub wide : length c ≤ 131072
 
 -- so many words were read, and the others follow from next on
-pub record Heading (s c d : List ℕ) (n q next words first : ℕ) (some : Bool) (fault : Fault) : Type 0 where
+pub record Heading (s c d : List ℕ) (n q next words : ℕ) (first : Option ℕ) (some : Bool) (fault : Fault) : Type 0 where
   pub from : n + words ≤ next
   pub most : next ≤ length s
   pub kept : Kept c d q
   pub words_are : tab words (λ j. bytes_at s d (word_cell q j)) ++ words_in (heading s next) ≡ words_in (heading s n)
-  pub first_is : cond (eqb words 0) (first_word (heading s next)) (first ∷ []) ≡ first_word (heading s n)
+  pub first_is : take 1 (placed first ++ first_word (heading s next)) ≡ first_word (heading s n)
   pub some_is : (some || any_there (heading s next)) ≡ any_there (heading s n)
   pub faults : lower fault (fault_of (header_faults (heading s next))) ≡ fault_of (header_faults (heading s n))
   pub rest : bracketed s next ≡ bracketed s n

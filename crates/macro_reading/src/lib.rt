@@ -1,7 +1,8 @@
 // The list of macros and the section of a text, read into cells.
 #![tactic(auto)]
 
-ghost use Rattle.std.specs.Prelude.{◌≡◌, cond, not, ◌||◌, List, [], ◌∷◌, ℕ, ◌-◌, ◌<◌, eqb};
+ghost use Rattle.std.specs.Option.{option_or};
+ghost use Rattle.std.specs.Prelude.{Some, None, ◌≡◌, cond, not, ◌||◌, List, [], ◌∷◌, ℕ, ◌-◌, ◌<◌, eqb};
 ghost use Rattle.macros.specs.Elements.{is_bracket};
 ghost use Rattle.macro_elements.specs.ElementAt.{elements_from, argument_value, Lent};
 ghost use Rattle.macro_reading.specs.Whole.{follow_faults, Sectioned, SectionRead, Puttable, Puts, Bracketed, ListRead, LentRows, MacrosRead};
@@ -10,12 +11,12 @@ ghost use Rattle.statements.specs.Faults.{lower};
 ghost use Rattle.statements.specs.StatementAt.{fault_of};
 ghost use Rattle.macro_reading.specs.Definitions.{Definable, Defined, Listable, DefinitionsRead};
 ghost use Rattle.macro_reading.specs.Bodies.{Bodied, BodyRead};
-ghost use Rattle.macro_reading.specs.Headers.{word_cell, Headable, HeaderRead};
+ghost use Rattle.macro_reading.specs.Headers.{placed, word_cell, Headable, HeaderRead};
 
 use macro_changes::{Scope, fault_if, pick, put, read_changes};
 use macro_code::CodePlaces;
 use macro_elements::{Element, is_identifier, is_mark, next_element};
-use scanner::{END, NOTHING, WORD, one_if};
+use scanner::{END, NOTHING, WORD};
 use statements::{Fault, lower, stops};
 
 // A body that was read: the place and the cell behind it, whether a bracket closes it, and the lowest place at fault.
@@ -41,9 +42,7 @@ fn read_body(
     ensures { BodyRead text.now code.old code.new x q start n result }
 {
     let r = read_changes(text, marked, code, x, n, x.params + x.count);
-    let fault = r.fault;
-    let end = r.next;
-    let t = next_element(text, marked, end);
+    let t = next_element(text, marked, r.next);
     let closed = t.sort != NOTHING;
     put(
         code,
@@ -53,25 +52,26 @@ fn read_body(
     );
     put(code, q + CodePlaces::COUNTS, x.count, r.count);
     Body {
-        next: pick(closed, t.next, end),
+        next: pick(closed, t.next, r.next),
         used: r.used,
         closed: closed,
-        fault: fault,
+        fault: r.fault,
     }
 }
 
-// A header that was read: the place where it ends; the count of its words, and the place of the first; whether anything but new lines stands in
-// it; and the lowest place at fault.
+// A header that was read: the place where it ends; the count of its words, and the place of the first, if there is one; whether anything but new
+// lines stands in it; and the lowest place at fault.
 #[derive(Clone, Copy)]
 struct Header {
     next: usize,
     words: usize,
-    first: usize,
+    first: Option<usize>,
     some: bool,
     fault: Fault,
 }
 
 // The cell of a header's word: the name's own, or a parameter's.
+// One choice of two numbers, plainest as an `if` and a return.
 fn word_cell(q: usize, k: usize) -> usize
     requires { (q < 1000000) × (k < 1000000) }
     ensures { result ≡ word_cell q k }
@@ -90,6 +90,13 @@ fn ends_header(t: Element) -> bool
     (t.sort == NOTHING) | (is_mark(b'(', t) | is_mark(b')', t))
 }
 
+// The place of the first word, where another one is met, or none.
+fn earlier(first: Option<usize>, word: bool, at: usize) -> Option<usize>
+    ensures { result ≡ option_or first (cond word (Some at) None) }
+{
+    first.or(word.then_some(at))
+}
+
 // The name and the parameters of a macro, from place `n` on, into its cells from `q` on.
 fn read_header(text: &[u8], marked: &[u8], code: &mut [u32], n: usize, q: usize) -> Header
     requires { Headable text.now marked.now code.old n q }
@@ -97,7 +104,7 @@ fn read_header(text: &[u8], marked: &[u8], code: &mut [u32], n: usize, q: usize)
 {
     let mut i = n;
     let mut k: usize = 0;
-    let mut first: usize = 0;
+    let mut first = None;
     let mut some = false;
     let mut fault = Fault::Clear;
     loop {
@@ -114,30 +121,20 @@ fn read_header(text: &[u8], marked: &[u8], code: &mut [u32], n: usize, q: usize)
         let line = t.byte == b'\n';
         fault = lower(fault, fault_if(!(is_identifier(text, t) | line), t.at));
         some = some | !line;
-        first = pick((k == 0) & (WORD == t.sort), t.at, first);
+        first = earlier(first, WORD == t.sort, t.at);
         put(code, word_cell(q, k), t.at, t.end - t.at);
-        k = k + one_if(WORD == t.sort);
+        k += usize::from(WORD == t.sort);
         i = t.next;
     }
 }
 
-// A definition that was read: whether there is one, and whether it has a name; the place and the cell behind it, and the lowest place at fault.
+// A definition that was read: whether it has a name; the place and the cell behind it, and the lowest place at fault.
 #[derive(Clone, Copy)]
 struct Definition {
-    opened: bool,
     named: bool,
     next: usize,
     used: usize,
     fault: Fault,
-}
-
-fn less_one(k: usize) -> usize
-    ensures { result ≡ k - 1 }
-{
-    if k == 0 {
-        return 0;
-    }
-    k - 1
 }
 
 // The faults of a header and of a body, and of the bracket between them, where there is no name or the body is not closed.
@@ -148,38 +145,34 @@ fn definition_fault(header: Fault, sound: bool, at: usize, body: Fault) -> Fault
 }
 
 // The definition that begins at place `n`, with its record at the cell `q`; none, where the header has no body behind it.
-fn read_definition(text: &[u8], marked: &[u8], code: &mut [u32], n: usize, q: usize) -> Definition
+fn read_definition(
+    text: &[u8],
+    marked: &[u8],
+    code: &mut [u32],
+    n: usize,
+    q: usize,
+) -> Option<Definition>
     requires { Definable text.now marked.now code.old n q }
     ensures { Defined text.now code.old code.new n q result }
 {
     let h = read_header(text, marked, code, n, q);
-    let heading = h.fault;
-    let end = h.next;
-    let b = next_element(text, marked, end);
+    let b = next_element(text, marked, h.next);
     if !is_mark(b'(', b) {
-        return Definition {
-            opened: false,
-            named: false,
-            next: n,
-            used: q,
-            fault: Fault::Clear,
-        };
+        return None;
     }
     let x = Scope {
         params: q + CodePlaces::PARAMETERS,
-        count: less_one(h.words),
+        count: h.words.saturating_sub(1),
         closing: true,
     };
     let r = read_body(text, marked, code, x, q, b.at + 1, b.next);
-    let body = r.fault;
     let named = 0 < h.words;
-    Definition {
-        opened: true,
+    Some(Definition {
         named: named,
         next: r.next,
         used: r.used,
-        fault: definition_fault(heading, named & r.closed, b.at, body),
-    }
+        fault: definition_fault(h.fault, named & r.closed, b.at, r.fault),
+    })
 }
 
 // The definitions that were read: the place where the stretch behind them begins, the cell behind them, the count of macros, whether there is a
@@ -194,6 +187,7 @@ struct Definitions {
 }
 
 // All definitions from place `n` on, behind the list's bracket, and the first cell of each macro.
+// The row `firsts` is lent, and its rest holds hints later, so the count `k` stands beside it.
 fn read_definitions(
     text: &[u8],
     marked: &[u8],
@@ -209,24 +203,20 @@ fn read_definitions(
     let mut k: usize = 0;
     let mut defined = false;
     let mut fault = Fault::Clear;
-    loop {
-        let r = read_definition(text, marked, code, i, q);
-        if !r.opened {
-            return Definitions {
-                next: i,
-                used: q,
-                count: k,
-                defined: defined,
-                fault: fault,
-            };
-        }
-        let met = r.fault;
+    while let Some(r) = read_definition(text, marked, code, i, q) {
         firsts[k] = q as u16;
-        k = k + one_if(r.named);
+        k += usize::from(r.named);
         q = pick(r.named, r.used, q);
-        fault = lower(fault, met);
+        fault = lower(fault, r.fault);
         defined = true;
         i = r.next;
+    }
+    Definitions {
+        next: i,
+        used: q,
+        count: k,
+        defined: defined,
+        fault: fault,
     }
 }
 
@@ -258,7 +248,7 @@ fn is_outer(t: Element) -> bool
     ensures { (s : List ℕ) → result ≡ outer (argument_value s t) }
 {
     let bracket = is_mark(b'(', t) | is_mark(b')', t);
-    is_mark(b'*', t) | (bracket | is_mark(b'\'', t) | !(t.joined == 0))
+    is_mark(b'*', t) | (bracket | is_mark(b'\'', t) | t.joined.is_some())
 }
 
 fn read_first(text: &[u8], marked: &[u8], n: usize) -> First
@@ -288,6 +278,16 @@ struct Tail {
     fault: Fault,
 }
 
+// The place at fault, if there is one.
+fn fault_at(place: Option<usize>) -> Fault
+    ensures { result ≡ fault_of (placed place) }
+{
+    match place {
+        Some(p) => Fault::At(p),
+        None => Fault::Clear,
+    }
+}
+
 fn read_tail(
     text: &[u8],
     marked: &[u8],
@@ -301,23 +301,22 @@ fn read_tail(
     ensures { TailRead text.now code.old code.new n q at defined result }
 {
     let h = read_header(text, marked, code, n, q);
-    let heading = h.fault;
-    let end = h.next;
-    let b = next_element(text, marked, end);
+    let b = next_element(text, marked, h.next);
     let closed = b.sort != NOTHING;
-    let word = fault_if(!(h.words == 0), h.first);
+    let word = fault_at(h.first);
     let bracket = fault_if(!(closed & (defined | h.some)), at);
+    // The two ends differ in two fields, so one return for both would take two choices.
     if closed {
         return Tail {
             stop: b.at + 1,
             next: b.next,
-            fault: lower(heading, lower(word, bracket)),
+            fault: lower(h.fault, lower(word, bracket)),
         };
     }
     Tail {
         stop: text.len(),
-        next: end,
-        fault: lower(heading, lower(word, bracket)),
+        next: h.next,
+        fault: lower(h.fault, lower(word, bracket)),
     }
 }
 
@@ -348,10 +347,9 @@ fn read_section(
         closing: false,
     };
     let r = read_changes(text, marked, code, x, n, u);
-    let fault = r.fault;
     put(code, q + CodePlaces::SPAN, 0, text.len());
     put(code, q + CodePlaces::COUNTS, 0, before + r.count);
-    fault
+    r.fault
 }
 
 // The list itself is a change of the section, the first: it goes with its brackets.
@@ -386,9 +384,7 @@ fn read_list(
 {
     let t = next_element(text, marked, n);
     let d = read_definitions(text, marked, code, firsts, t.next);
-    let defined = d.fault;
     let e = read_tail(text, marked, code, d.next, d.used, t.at, d.defined);
-    let tail = e.fault;
     let before = lower(first, follow_fault(text, marked, e.next));
     let u = d.used + CodePlaces::PARAMETERS;
     put_list(code, u, t.at, e.stop);
@@ -397,7 +393,7 @@ fn read_list(
     Listing {
         count: d.count,
         section: d.used,
-        fault: lower(lower(lower(before, defined), tail), section),
+        fault: lower(lower(lower(before, d.fault), e.fault), section),
     }
 }
 
@@ -408,11 +404,10 @@ pub fn read_macros(text: &[u8], marked: &[u8], code: &mut [u32], firsts: &mut [u
 {
     let a = skip_ends(text, marked, 0);
     let f = read_first(text, marked, a);
-    let first = f.fault;
     let b = skip_ends(text, marked, f.next);
     let t = next_element(text, marked, b);
     if is_mark(b'(', t) {
-        return read_list(text, marked, code, firsts, b, first);
+        return read_list(text, marked, code, firsts, b, f.fault);
     }
     let fault = read_section(text, marked, code, 0, 0, CodePlaces::PARAMETERS, 0);
     Listing {

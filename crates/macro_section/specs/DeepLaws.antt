@@ -12,7 +12,7 @@ use Rattle.macro_code.specs.Places as cell
 use Rattle.macro_expansion.specs.Expanding.{inner, change_writes}
 use Rattle.macro_expansion.specs.WalkLaws.{expand-walks}
 use Rattle.macro_values.specs.declared.Written.{Written}
-use Rattle.macro_values.specs.Wrote.{Wrote}
+use Rattle.macro_values.specs.Wrote.{is_over, size_of, Wrote}
 use Rattle.macros.specs.Expansion.{just, followed_by, piece_writes, walk, expand, levels}
 use Rattle.macros.specs.Macros.{Macro}
 use Rattle.macros.specs.Pieces.{pieces_from}
@@ -67,11 +67,11 @@ module _ (s c f : List ℕ) (n stop place i : ℕ) where
   steady-step (suc k) l h = let e : suc k - 1 ≡ k = omega arith in rw e h
 
 module _ (s c f : List ℕ) (n stop : ℕ) (all from : List ℕ) (w w' : Written) (long long' : Fault) (o q p : List ℕ) (room place i k : ℕ) (same : length q ≡ room)
-    (h : Overs s c f n stop room all from w long place i k) (within : w.count ≤ length q) where
+    (h : Overs s c f n stop room all from w long place i k) (within : size_of w ≤ length q) where
   -- a change
   pub overs-turn : (w'' : Written) (long'' : Fault) (r : List ℕ) (place' i' : ℕ) → 0 < k → Wrote (just (take (high c i - place) (drop place s))) w w' q p
-      → long' ≡ over_at long w.over w'.over (place + (room - w.count)) → Wrote (change_writes s c f n [] levels i) w' w'' p r
-      → long'' ≡ over_at long' w'.over w''.over (high c i) → place' ≡ low c i → i' ≡ size_at c i
+      → long' ≡ over_at long (is_over w) (is_over w') (place + (room - size_of w)) → Wrote (change_writes s c f n [] levels i) w' w'' p r
+      → long'' ≡ over_at long' (is_over w') (is_over w'') (high c i) → place' ≡ low c i → i' ≡ size_at c i
       → Overs s c f n stop room all (from ++ (up_from place (take (high c i - place) (drop place s)) ++ map (λ b. high c i) (change_writes s c f n [] levels i).bytes)) w'' long'' place' (i + i') (k - 1)
   overs-turn w'' long'' r place' i' l a b d e g j =
       let st = steady-step s c f n stop place i k l h.steady in
@@ -95,7 +95,7 @@ module _ (s c f : List ℕ) (n stop : ℕ) (all from : List ℕ) (w w' : Written
       }
 
   -- its end
-  pub overs-end : k ≤ 0 → Wrote (just (take (stop - place) (drop place s))) w w' q p → long' ≡ over_at long w.over w'.over (place + (room - w.count))
+  pub overs-end : k ≤ 0 → Wrote (just (take (stop - place) (drop place s))) w w' q p → long' ≡ over_at long (is_over w) (is_over w') (place + (room - size_of w))
       → long' ≡ fault_of (all ++ drop room (from ++ up_from place (take (stop - place) (drop place s))))
   overs-end l a b =
       let bytes = take (stop - place) (drop place s) in
@@ -104,7 +104,7 @@ module _ (s c f : List ℕ) (n stop : ℕ) (all from : List ℕ) (w w' : Written
       rw e (rw same at one.long_is)
 
 -- its beginning
-pub overs-begin : (s c f : List ℕ) (n room q place stop i k : ℕ) (v : Written) → v.count ≡ 0 → v.over ≡ false → place ≡ high c (q + cell.span_cell) → stop ≡ low c (q + cell.span_cell)
+pub overs-begin : (s c f : List ℕ) (n room q place stop i k : ℕ) (v : Written) → size_of v ≡ 0 → is_over v ≡ false → place ≡ high c (q + cell.span_cell) → stop ≡ low c (q + cell.span_cell)
     → i ≡ first_change c q → k ≡ change_count c q → Steady (high c (q + cell.span_cell)) (changes_in s c (first_change c q) (change_count c q))
     → Overs s c f n stop room (each (deep_places (macros_in s c f n)) (body_in s c q)) [] v Clear place i k
 unfolding body_in

@@ -2,6 +2,7 @@
 use Rattle.std.specs.Prelude.{◌≡◌, Bool, true, false, cond, List, [], ◌∷◌, ◌++◌, ℕ, ◌≤◌, length, drop}
 use Rattle.lists.specs.Lists.{each}
 use Rattle.macro_code.specs.Code.{macros_in, changes_in}
+use Rattle.macro_values.specs.Wrote.{is_over, size_of}
 use Rattle.macro_values.specs.declared.Written.{Written}
 use Rattle.macros.specs.Pieces.{Change, pieces_from}
 use Rattle.macros.specs.Prepared.{deep_places}
@@ -24,9 +25,9 @@ rest_deeps s c f n place stop i k = each (deep_places (macros_in s c f n)) (piec
 -- what is over of what comes from the places `from`, with room for so many, and of the calls passed: the first place is the lowest
 pub record Long (room : ℕ) (deeps from : List ℕ) (w : Written) (long : Fault) (place : ℕ) : Type 0 where
   pub long_is : long ≡ fault_of (deeps ++ drop room from)
-  pub count : w.over ≡ false → w.count ≡ length from
-  pub fine : w.over ≡ false → long ≡ Clear
-  pub bad : w.over ≡ true → (p : ℕ) × (long ≡ At p) × (p ≤ place)
+  pub count : is_over w ≡ false → size_of w ≡ length from
+  pub fine : is_over w ≡ false → long ≡ Clear
+  pub bad : is_over w ≡ true → (p : ℕ) × (long ≡ At p) × (p ≤ place)
 
 -- the same of the section up to a change, with the calls that are too deep in all of it
 pub record Overs (s c f : List ℕ) (n stop room : ℕ) (all from : List ℕ) (w : Written) (long : Fault) (place i k : ℕ) : Type 0 where

@@ -6,7 +6,7 @@ use Rattle.std.proofs.lemmas.List.{length-map}
 use Rattle.lists.specs.ListLaws.{T-both}
 use Rattle.macro_values.specs.declared.Written.{Written}
 use Rattle.macro_values.specs.WritingLaws.{lower-assoc}
-use Rattle.macro_values.specs.Wrote.{Wrote}
+use Rattle.macro_values.specs.Wrote.{is_over, size_of, Wrote}
 use Rattle.macros.specs.Expansion.{Writing, just}
 use Rattle.statements.specs.Faults.{lower}
 use Rattle.statements.specs.FaultLaws.{fault-both}
@@ -87,12 +87,12 @@ first-same at [] l = absurd (omega arith)
 first-same at (b ∷ w) l = fault-first at (map (λ b. at) w) (sames-later at at w (omega arith))
 
 -- a step: what comes next is no earlier; where it is over first, at q, is the lowest place of it
-pub long-step : (room : ℕ) (ds es from more : List ℕ) (w w' : Written) (long long' : Fault) (place place' q : ℕ) → Long room ds from w long place → (w.over ≡ true → w'.over ≡ true)
-    → (w'.over ≡ false → w'.count ≡ length (from ++ more)) → place ≤ place' → ((p : ℕ) → p ≤ place → T (none_before p (es ++ drop (room - length from) more)))
-    → (w.over ≡ false → w'.over ≡ true → (fault_of (es ++ drop (room - length from) more) ≡ At q) × (q ≤ place'))
-    → (w.over ≡ false → w'.over ≡ false → fault_of (es ++ drop (room - length from) more) ≡ Clear)
-    → long' ≡ over_at long w.over w'.over q → Long room (ds ++ es) (from ++ more) w' long' place'
-long-step room ds es from more w w' long long' place place' q h stays count l later first clear e = go w.over w'.over refl refl
+pub long-step : (room : ℕ) (ds es from more : List ℕ) (w w' : Written) (long long' : Fault) (place place' q : ℕ) → Long room ds from w long place → (is_over w ≡ true → is_over w' ≡ true)
+    → (is_over w' ≡ false → size_of w' ≡ length (from ++ more)) → place ≤ place' → ((p : ℕ) → p ≤ place → T (none_before p (es ++ drop (room - length from) more)))
+    → (is_over w ≡ false → is_over w' ≡ true → (fault_of (es ++ drop (room - length from) more) ≡ At q) × (q ≤ place'))
+    → (is_over w ≡ false → is_over w' ≡ false → fault_of (es ++ drop (room - length from) more) ≡ Clear)
+    → long' ≡ over_at long (is_over w) (is_over w') q → Long room (ds ++ es) (from ++ more) w' long' place'
+long-step room ds es from more w w' long long' place place' q h stays count l later first clear e = go (is_over w) (is_over w') refl refl
   where
     x : Fault
     x = fault_of (es ++ drop (room - length from) more)
@@ -100,7 +100,7 @@ long-step room ds es from more w w' long long' place place' q h stays count l la
     g : fault_of ((ds ++ es) ++ drop room (from ++ more)) ≡ lower long x
     g = grows room ds es from more long h.long_is
 
-    go : (a b : Bool) → w.over ≡ a → w'.over ≡ b → Long room (ds ++ es) (from ++ more) w' long' place'
+    go : (a b : Bool) → is_over w ≡ a → is_over w' ≡ b → Long room (ds ++ es) (from ++ more) w' long' place'
     go true false y z = absurd (true≢false (sym (stays y) ∙ z))
     go true true y z =
         let k = h.bad y in
@@ -137,20 +137,20 @@ over_none : (a b r : Bool) → r ≡ (a || b) → a ≡ false → r ≡ b
 over_none a b r e y = rw y at e
 
 -- bytes that stay
-pub long_kept : (ds from bytes o p : List ℕ) (w w' : Written) (long long' : Fault) (place place' : ℕ) → Long (length o) ds from w long place → w.count ≤ length o
-    → Wrote (just bytes) w w' o p → place + length bytes ≤ place' → long' ≡ over_at long w.over w'.over (place + (length o - w.count))
+pub long_kept : (ds from bytes o p : List ℕ) (w w' : Written) (long long' : Fault) (place place' : ℕ) → Long (length o) ds from w long place → size_of w ≤ length o
+    → Wrote (just bytes) w w' o p → place + length bytes ≤ place' → long' ≡ over_at long (is_over w) (is_over w') (place + (length o - size_of w))
     → Long (length o) (ds ++ []) (from ++ up_from place bytes) w' long' place'
 unfolding up_from
 long_kept ds from bytes o p w w' long long' place place' h within k l e =
-    long-step (length o) ds [] from (up_from place bytes) w w' long long' place place' (place + (length o - w.count)) h
-    (over-stays w.over (ltb (length o) (w.count + length bytes)) w'.over k.over) count (omega arith)
+    long-step (length o) ds [] from (up_from place bytes) w w' long long' place place' (place + (length o - size_of w)) h
+    (over-stays (is_over w) (ltb (length o) (size_of w + length bytes)) (is_over w') k.over) count (omega arith)
     (λ a b. rw (drop-ups (length o - length from) place bytes) (ups-later a (place + (length o - length from)) (drop (length o - length from) bytes) (omega arith)))
     first clear e
   where
-    not-over : w'.over ≡ false → w.over ≡ false
-    not-over z = go w.over (sym k.over ∙ z)
+    not-over : is_over w' ≡ false → is_over w ≡ false
+    not-over z = go (is_over w) (sym k.over ∙ z)
       where
-        go : (a : Bool) → (a || ltb (length o) (w.count + length bytes)) ≡ false → a ≡ false
+        go : (a : Bool) → (a || ltb (length o) (size_of w + length bytes)) ≡ false → a ≡ false
         go true y = y
         go false y = refl
 
@@ -158,50 +158,50 @@ long_kept ds from bytes o p w w' long long' place place' h within k l e =
     ups-length q [] = refl
     ups-length q (b ∷ u) = ap suc (ups-length (suc q) u)
 
-    count : w'.over ≡ false → w'.count ≡ length (from ++ up_from place bytes)
+    count : is_over w' ≡ false → size_of w' ≡ length (from ++ up_from place bytes)
     count z =
         let a = (k.within z).0 in
         let b = h.count (not-over z) in
         let d = ups-length place bytes in
         simp length-append (omega arith)
 
-    first : w.over ≡ false → w'.over ≡ true
-        → (fault_of ([] ++ drop (length o - length from) (up_from place bytes)) ≡ At (place + (length o - w.count))) × (place + (length o - w.count) ≤ place')
+    first : is_over w ≡ false → is_over w' ≡ true
+        → (fault_of ([] ++ drop (length o - length from) (up_from place bytes)) ≡ At (place + (length o - size_of w))) × (place + (length o - size_of w) ≤ place')
     first y z =
-        let a = ltb-true (length o) (w.count + length bytes) (sym (over_none w.over (ltb (length o) (w.count + length bytes)) w'.over k.over y) ∙ z) in
+        let a = ltb-true (length o) (size_of w + length bytes) (sym (over_none (is_over w) (ltb (length o) (size_of w + length bytes)) (is_over w') k.over y) ∙ z) in
         let b = h.count y in
-        let d : length o - length from ≡ length o - w.count = omega arith in (
+        let d : length o - length from ≡ length o - (size_of w) = omega arith in (
           rw (drop-ups (length o - length from) place bytes)
               (first-up (place + (length o - length from)) (drop (length o - length from) bytes) (simp length-drop (omega arith)) ∙ ap (λ u. At (place + u)) d),
           omega arith,
         )
 
-    clear : w.over ≡ false → w'.over ≡ false → fault_of ([] ++ drop (length o - length from) (up_from place bytes)) ≡ Clear
+    clear : is_over w ≡ false → is_over w' ≡ false → fault_of ([] ++ drop (length o - length from) (up_from place bytes)) ≡ Clear
     clear y z =
-        let a = ltb-false (length o) (w.count + length bytes) (sym (over_none w.over (ltb (length o) (w.count + length bytes)) w'.over k.over y) ∙ z) in
+        let a = ltb-false (length o) (size_of w + length bytes) (sym (over_none (is_over w) (ltb (length o) (size_of w + length bytes)) (is_over w') k.over y) ∙ z) in
         let b = h.count y in
         let d : drop (length o - length from) bytes ≡ [] = drop_of_length-le bytes {i = length o - length from} (omega arith) in
         rw (drop-ups (length o - length from) place bytes, d)
 
 -- a change
-pub long-change : (ds from o p : List ℕ) (x : Writing) (w w' : Written) (long long' : Fault) (place at place' : ℕ) → Long (length o) ds from w long place → w.count ≤ length o
-    → Wrote x w w' o p → place ≤ at → at ≤ place' → long' ≡ over_at long w.over w'.over at
+pub long-change : (ds from o p : List ℕ) (x : Writing) (w w' : Written) (long long' : Fault) (place at place' : ℕ) → Long (length o) ds from w long place → size_of w ≤ length o
+    → Wrote x w w' o p → place ≤ at → at ≤ place' → long' ≡ over_at long (is_over w) (is_over w') at
     → Long (length o) (ds ++ cond x.deep (at ∷ []) []) (from ++ map (λ b. at) x.bytes) w' long' place'
 long-change ds from o p x w w' long long' place at place' h within k l m e =
     long-step (length o) ds (cond x.deep (at ∷ []) []) from (map (λ b. at) x.bytes) w w' long long' place place' at h
-    (over-stays w.over over w'.over k.over) count (omega arith) later first clear e
+    (over-stays (is_over w) over (is_over w') k.over) count (omega arith) later first clear e
   where
     over : Bool
-    over = x.deep || ltb (length o) (w.count + length x.bytes)
+    over = x.deep || ltb (length o) (size_of w + length x.bytes)
 
-    not-over : w'.over ≡ false → w.over ≡ false
-    not-over z = go w.over (sym k.over ∙ z)
+    not-over : is_over w' ≡ false → is_over w ≡ false
+    not-over z = go (is_over w) (sym k.over ∙ z)
       where
         go : (a : Bool) → (a || over) ≡ false → a ≡ false
         go true y = y
         go false y = refl
 
-    count : w'.over ≡ false → w'.count ≡ length (from ++ map (λ b. at) x.bytes)
+    count : is_over w' ≡ false → size_of w' ≡ length (from ++ map (λ b. at) x.bytes)
     count z =
         let a = (k.within z).0 in
         let b = h.count (not-over z) in
@@ -219,31 +219,31 @@ long-change ds from o p x w w' long long' place at place' h within k l m e =
         go true = T-both (leb a at) (none_before a (map (λ b. at) (drop (length o - length from) x.bytes))) (le→leb a at (omega arith)) rest
         go false = rest
 
-    first : w.over ≡ false → w'.over ≡ true → (fault_of (cond x.deep (at ∷ []) [] ++ drop (length o - length from) (map (λ b. at) x.bytes)) ≡ At at) × (at ≤ place')
+    first : is_over w ≡ false → is_over w' ≡ true → (fault_of (cond x.deep (at ∷ []) [] ++ drop (length o - length from) (map (λ b. at) x.bytes)) ≡ At at) × (at ≤ place')
     first y z =
-        (rw (drop-sames (length o - length from) at x.bytes) (go x.deep (sym (over_none w.over over w'.over k.over y) ∙ z)), m)
+        (rw (drop-sames (length o - length from) at x.bytes) (go x.deep (sym (over_none (is_over w) over (is_over w') k.over y) ∙ z)), m)
       where
         rest : List ℕ
         rest = drop (length o - length from) x.bytes
 
-        go : (d : Bool) → (d || ltb (length o) (w.count + length x.bytes)) ≡ true → fault_of (cond d (at ∷ []) [] ++ map (λ b. at) rest) ≡ At at
+        go : (d : Bool) → (d || ltb (length o) (size_of w + length x.bytes)) ≡ true → fault_of (cond d (at ∷ []) [] ++ map (λ b. at) rest) ≡ At at
         go true f = fault-first at (map (λ b. at) rest) (sames-later at at rest (omega arith))
         go false f =
-            let a = ltb-true (length o) (w.count + length x.bytes) f in
+            let a = ltb-true (length o) (size_of w + length x.bytes) f in
             let b = h.count y in
             first-same at rest (simp length-drop (omega arith))
 
-    clear : w.over ≡ false → w'.over ≡ false → fault_of (cond x.deep (at ∷ []) [] ++ drop (length o - length from) (map (λ b. at) x.bytes)) ≡ Clear
+    clear : is_over w ≡ false → is_over w' ≡ false → fault_of (cond x.deep (at ∷ []) [] ++ drop (length o - length from) (map (λ b. at) x.bytes)) ≡ Clear
     clear y z =
-        rw (drop-sames (length o - length from) at x.bytes) (go x.deep (sym (over_none w.over over w'.over k.over y) ∙ z))
+        rw (drop-sames (length o - length from) at x.bytes) (go x.deep (sym (over_none (is_over w) over (is_over w') k.over y) ∙ z))
       where
         rest : List ℕ
         rest = drop (length o - length from) x.bytes
 
-        go : (d : Bool) → (d || ltb (length o) (w.count + length x.bytes)) ≡ false → fault_of (cond d (at ∷ []) [] ++ map (λ b. at) rest) ≡ Clear
+        go : (d : Bool) → (d || ltb (length o) (size_of w + length x.bytes)) ≡ false → fault_of (cond d (at ∷ []) [] ++ map (λ b. at) rest) ≡ Clear
         go true f = absurd (true≢false f)
         go false f =
-            let a = ltb-false (length o) (w.count + length x.bytes) f in
+            let a = ltb-false (length o) (size_of w + length x.bytes) f in
             let b = h.count y in
             let d : rest ≡ [] = drop_of_length-le x.bytes {i = length o - length from} (omega arith) in
             rw d

@@ -2,6 +2,7 @@
 use Rattle.std.specs.Prelude.{◌≡◌, refl, true, List, [], ◌∷◌, ◌++◌, map, ℕ, zero, suc, ◌+◌, ◌-◌, ◌≤◌, ◌<◌, length, take, set, replicate}
 use Rattle.std.proofs.Common.{sym, ap, ◌∙◌, true≢false, append_assoc, append-nil, add-one, arith, take-suc-set}
 use Rattle.std.proofs.lemmas.List.{replicate-append-replicate}
+use Rattle.macro_values.specs.Wrote.{is_over}
 use Rattle.macro_values.specs.declared.Written.{Written}
 use Rattle.syntax.specs.Items.{up_from}
 use Rattle.macro_section.specs.Origins.{ups, Placed}
@@ -41,7 +42,7 @@ pub repeat-none : (m : List ℕ) (from a : ℕ) → take from m ≡ take from m 
 repeat-none m from a = let e : from - from ≡ 0 = omega arith in rw e (sym (append-nil (take from m)))
 
 -- nothing more is written
-pub placed-over : (from : ℕ) (v : Written) (m places : List ℕ) → v.over ≡ true → Placed from v m m places
+pub placed-over : (from : ℕ) (v : Written) (m places : List ℕ) → is_over v ≡ true → Placed from v m m places
 placed-over from v m places e = record { size = refl; is = λ z. absurd (true≢false (sym e ∙ z)) }
 
 pub replicated : (at : ℕ) (w : List ℕ) → replicate (length w) at ≡ map (λ b. at) w

@@ -4,26 +4,19 @@
 ghost use Rattle.std.specs.Prelude.{◌≡◌, false, [], ◌+◌, ◌-◌, ◌≤◌, ◌<◌, length, take, drop, replicate};
 ghost use Rattle.language.specs.Limits as limit;
 ghost use Rattle.macro_code.specs.Places.{half, span_cell};
-ghost use Rattle.macro_expansion.specs.Expanding.{Known, change_writes};
+ghost use Rattle.macro_expansion.specs.Expanding.{KnownList, change_writes};
 ghost use Rattle.macro_memory.specs.Memory.{reach, memory, Remembers};
-ghost use Rattle.macro_values.specs.Wrote.{Wrote};
+ghost use Rattle.macro_values.specs.Wrote.{is_over, size_of, Wrote};
 ghost use Rattle.macros.specs.Expansion.{levels};
 ghost use Rattle.macro_section.specs.Origins.{ups, Fillable, Placed, Kept, Sectioned, Room, none};
 ghost use Rattle.macro_section.specs.Long.{Steady, over_at};
 ghost use Rattle.macro_code.specs.Code.{high, changes_in, first_change, change_count};
 
 use macro_code::CodePlaces;
-use macro_expansion::Level;
+use macro_expansion::{Level, Macros};
 use macro_memory::{LEVELS, MEMORY};
 use macro_values::Written;
 use statements::Fault;
-
-// The section or a change in it: its cell; and how many macros the list has.
-#[derive(Clone, Copy)]
-pub struct Section {
-    pub cell: usize,
-    pub macros: usize,
-}
 
 // The section written out: what is written, and the place of question 66.
 #[derive(Clone, Copy)]
@@ -33,60 +26,46 @@ pub struct WrittenOut {
 }
 
 // The places of bytes that stay, from `place` on, for those from `from` on of what is written.
+// `from` and the count of `v` are the two ends of a range that is made once here and once in `repeat_place`.
 fn write_places(place: usize, places: &mut [u16], from: usize, v: Written)
-    requires { (v.over ≡ false → place + (v.count - from) < half) × Fillable from v places.old }
-    ensures { Placed from v places.old places.new (ups place (v.count - from)) }
+    requires { (is_over v ≡ false → place + (size_of v - from) < half) × Fillable from v places.old }
+    ensures { Placed from v places.old places.new (ups place (size_of v - from)) }
 {
-    if v.over {
-        return;
-    }
-    let count = v.count;
-    let mut j = from;
-    while j < count {
+    let Some(count) = v.count else { return };
+    for j in from..count {
         places[j] = (place + (j - from)) as u16;
-        j += 1;
     }
 }
 
 // The place of a call, for all bytes from `from` on of what is written.
 fn repeat_place(place: u16, places: &mut [u16], from: usize, v: Written)
     requires { Fillable from v places.old }
-    ensures { Placed from v places.old places.new (replicate (v.count - from) place) }
+    ensures { Placed from v places.old places.new (replicate (size_of v - from) place) }
 {
-    if v.over {
-        return;
-    }
-    let count = v.count;
-    let mut j = from;
-    while j < count {
-        places[j] = place;
-        j += 1;
-    }
+    let Some(count) = v.count else { return };
+    places[from..count].fill(place);
 }
 
 // Writes a change of the section, with 16 levels.
 fn section_change(
-    text: &[u8],
-    code: &[u32],
-    names: &[u16],
-    heights: &[u8],
+    list: &Macros,
     calls: &mut [u32],
     out: &mut [u8],
-    at: Section,
+    cell: usize,
     v: Written,
 ) -> Written
-    requires { (at.cell < reach) × Known text.now code.now names.now at.macros heights.now × (v.count ≤ length out.old) × (memory ≤ length calls.old) × Remembers text.now code.now names.now at.macros calls.old v }
-    ensures { Wrote (change_writes text.now code.now names.now at.macros [] levels at.cell) v result out.old out.new × Remembers text.now code.now names.now at.macros calls.new result }
+    requires { (cell < reach) × KnownList list.now × (size_of v ≤ length out.old) × (memory ≤ length calls.old) × Remembers list.now.text.now list.now.code.now list.now.names.now list.now.count calls.old v }
+    ensures { Wrote (change_writes list.now.text.now list.now.code.now list.now.names.now list.now.count [] levels cell) v result out.old out.new × Remembers list.now.text.now list.now.code.now list.now.names.now list.now.count calls.new result }
 {
     let level = Level {
-        cell: at.cell,
+        cell: cell,
         left: LEVELS,
-        macros: at.macros,
     };
-    macro_expansion::write_change(text, code, names, heights, calls, out, level, v)
+    macro_expansion::write_change(list, calls, out, level, v)
 }
 
 // Writes bytes that stay, and their places.
+// The rows of the bytes and of their places are both lent by the caller, and the places become lines in their row.
 fn write_kept(
     text: &[u8],
     from: usize,
@@ -95,96 +74,76 @@ fn write_kept(
     places: &mut [u16],
     v: Written,
 ) -> Written
-    requires { (from < half) × (to < half) × (length text.now ≤ limit.text) × (v.count ≤ length out.old) × Room out.old places.old }
+    requires { (from < half) × (to < half) × (length text.now ≤ limit.text) × (size_of v ≤ length out.old) × Room out.old places.old }
     ensures { Kept (take (to - from) (drop from text.now)) from v result out.old out.new places.old places.new }
 {
-    let count = v.count;
-    let written = macro_values::append(text, from, to, out, v);
-    write_places(from, places, count, written);
+    let written = v.append(text, from, to, out);
+    write_places(from, places, v.count.unwrap_or(0), written);
     written
 }
 
 // The place at which something is over first.
-fn over_at(long: Fault, before: bool, after: bool, place: usize) -> Fault
-    ensures { result ≡ over_at long before after place }
+fn over_at(long: Fault, before: Written, after: Written, place: usize) -> Fault
+    ensures { result ≡ over_at long (is_over before) (is_over after) place }
 {
-    if before {
-        return long;
-    }
-    if after {
+    if before.count.is_some() & after.count.is_none() {
         return Fault::At(place);
     }
     long
 }
 
-fn nothing() -> Written
-    ensures { result ≡ none }
-{
-    Written {
-        count: 0,
-        over: false,
-        unknown: Fault::Clear,
-        uneven: Fault::Clear,
-    }
-}
-
 // Writes the section within a row that remembers calls.
 fn write_parts(
-    text: &[u8],
-    code: &[u32],
-    names: &[u16],
-    heights: &[u8],
+    list: &Macros,
     calls: &mut [u32],
     out: &mut [u8],
     places: &mut [u16],
-    at: Section,
+    section: usize,
 ) -> WrittenOut
-    requires { (at.cell < half) × Known text.now code.now names.now at.macros heights.now × Room out.old places.old × Steady (high code.now (at.cell + span_cell)) (changes_in text.now code.now (first_change code.now at.cell) (change_count code.now at.cell)) × (memory ≤ length calls.old) × Remembers text.now code.now names.now at.macros calls.old none }
-    ensures { Sectioned text.now code.now names.now at.macros at.cell result out.old out.new places.new }
+    requires { (section < half) × KnownList list.now × Room out.old places.old × Steady (high list.now.code.now (section + span_cell)) (changes_in list.now.text.now list.now.code.now (first_change list.now.code.now section) (change_count list.now.code.now section)) × (memory ≤ length calls.old) × Remembers list.now.text.now list.now.code.now list.now.names.now list.now.count calls.old none }
+    ensures { Sectioned list.now.text.now list.now.code.now list.now.names.now list.now.count section result out.old out.new places.new }
 {
-    let stop = macro_code::low(code, at.cell + CodePlaces::SPAN);
-    let mut place = macro_code::high(code, at.cell + CodePlaces::SPAN);
-    let mut cell = macro_calls::first_change(code, at.cell);
-    let mut changes = macro_code::low(code, at.cell + CodePlaces::COUNTS);
+    let code = list.code;
+    let stop = macro_code::low(code, section + CodePlaces::SPAN);
+    let changes = macro_code::low(code, section + CodePlaces::COUNTS);
     let room = out.len();
-    let mut w = nothing();
+    let mut place = macro_code::high(code, section + CodePlaces::SPAN);
+    let mut cell = macro_calls::first_change(code, section);
+    let mut w = Written::nothing();
     let mut long = Fault::Clear;
-    while changes > 0 {
+    for passed in 0..changes {
         let start = macro_code::high(code, cell);
-        let kept = write_kept(text, place, start, out, places, w);
-        let here = Section {
-            cell: cell,
-            macros: at.macros,
-        };
-        let next = section_change(text, code, names, heights, calls, out, here, kept);
-        repeat_place(start as u16, places, kept.count, next);
-        let first = over_at(long, w.over, kept.over, place + (room - w.count));
-        long = over_at(first, kept.over, next.over, start);
+        let kept = write_kept(list.text, place, start, out, places, w);
+        let next = section_change(list, calls, out, cell, kept);
+        repeat_place(start as u16, places, kept.count.unwrap_or(0), next);
+        let first = over_at(long, w, kept, place + (room - w.count.unwrap_or(0)));
+        long = over_at(first, kept, next, start);
         w = next;
         place = macro_code::low(code, cell);
         cell += macro_calls::change_size(code, cell);
-        changes -= 1;
     }
-    let last = write_kept(text, place, stop, out, places, w);
+    let last = write_kept(list.text, place, stop, out, places, w);
     WrittenOut {
         state: last,
-        long: over_at(long, w.over, last.over, place + (room - w.count)),
+        long: over_at(long, w, last, place + (room - w.count.unwrap_or(0))),
     }
 }
 
-// Writes the section: what stays has its own places, and what calls write those of their stars.
+// Writes the section, by its cell: what stays has its own places, and what calls write those of their stars.
 pub fn write_section(
-    text: &[u8],
-    code: &[u32],
-    names: &[u16],
-    heights: &[u8],
+    list: &Macros,
+    section: usize,
     out: &mut [u8],
     places: &mut [u16],
-    at: Section,
 ) -> WrittenOut
-    requires { (at.cell < half) × Known text.now code.now names.now at.macros heights.now × Room out.old places.old × Steady (high code.now (at.cell + span_cell)) (changes_in text.now code.now (first_change code.now at.cell) (change_count code.now at.cell)) }
-    ensures { Sectioned text.now code.now names.now at.macros at.cell result out.old out.new places.new }
+    requires { (section < half) × KnownList list.now × Room out.old places.old × Steady (high list.now.code.now (section + span_cell)) (changes_in list.now.text.now list.now.code.now (first_change list.now.code.now section) (change_count list.now.code.now section)) }
+    ensures { Sectioned list.now.text.now list.now.code.now list.now.names.now list.now.count section result out.old out.new places.new }
 {
     let mut calls = [0u32; MEMORY];
-    write_parts(text, code, names, heights, &mut calls, out, places, at)
+    write_parts(list, &mut calls, out, places, section)
+}
+
+// Of `macro_expansion`, passed on to the crates above.
+pub mod from_macro_expansion {
+    pub use macro_expansion::Macros;
 }

@@ -142,3 +142,10 @@ value-here s c calls (suc d) k i h f l =
     let e : suc d - 1 ≡ d = omega arith in
     let g : i ≡ get_or calls d 0 = rw e at f in
     rw (e, g) (sym (argument-here s c calls d k (rw g at l)))
+
+pub goes-told : (c calls : List ℕ) (d g k i n : ℕ) → (kind_of c g ≡ place.typed_kind → ⊥) → (d ≡ 0 → ⊥) → k ≡ number_in c g → i ≡ get_or calls (d - 1) 0
+    → n ≡ argument_count c i → goes_up c calls d g ≡ ltb k n
+goes-told c calls d g k i n h z e f m = rw (m, f, e) (sym (up_is c calls d g h z))
+
+pub next-told : (c calls : List ℕ) (d g k call i : ℕ) → i ≡ argument_cell call k → call ≡ get_or calls (d - 1) 0 → k ≡ number_in c g → i ≡ next_cell c calls (d - 1) g
+next-told c calls d g k call i h e f = rw (h, e, f) refl

@@ -1,5 +1,7 @@
 -- A name or an argument in its cells: its bytes as typed, and the argument of the call around it that its parameter stands for.
-use Rattle.std.specs.Prelude.{Bool, false, cond, List, [], ℕ, zero, suc, ◌+◌, eqb, ltb, get_or}
+use Rattle.std.specs.Prelude.{Option, ◌≡◌, Bool, true, false, cond, List, [], ℕ, zero, suc, ◌+◌, ◌-◌, ◌≤◌, ◌<◌, eqb, ltb, get_or}
+use Rattle.std.specs.Option.{MatchOption}
+use Rattle.macro_code.specs.Bounds.{far}
 use Rattle.macro_code.specs.Code.{high, low, bytes_at, argument_count, argument_cell}
 use Rattle.macro_code.specs.Places as place
 
@@ -18,3 +20,12 @@ goes_up c calls (suc d) g = cond (eqb (kind_of c g) place.typed_kind) false (ltb
 
 abbrev pub next_cell : List ℕ → List ℕ → ℕ → ℕ → ℕ
 next_cell c calls d g = argument_cell (get_or calls d 0) (number_in c g)
+
+-- the cells of changes are below this number
+abbrev pub reach : ℕ
+reach = 549755813888
+
+-- the argument that a parameter within d calls stands for, if it stands for one
+abbrev pub Above : List ℕ → List ℕ → ℕ → ℕ → Option ℕ → Type 0
+Above c calls d g r =
+    MatchOption r (goes_up c calls d g ≡ false) (λ i. (goes_up c calls d g ≡ true) × (1 ≤ d) × (i ≡ next_cell c calls (d - 1) g) × (i < far))

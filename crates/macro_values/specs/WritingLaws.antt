@@ -1,5 +1,5 @@
 -- What is written in two parts, and what writes nothing.
-use Rattle.std.specs.Prelude.{◌≡◌, refl, Bool, true, false, ◌||◌, List, [], ◌++◌, ℕ, ◌+◌, ◌≤◌, ◌<◌, ltb, length, take, drop}
+use Rattle.std.specs.Prelude.{Some, None, ◌≡◌, refl, Bool, true, false, ◌||◌, List, [], ◌++◌, ℕ, ◌+◌, ◌≤◌, ◌<◌, ltb, length, take, drop}
 use Rattle.std.proofs.Common.{sym, ap, ◌∙◌, true≢false, append_assoc, append-nil, arith, lt-ltb, le-ltb, length-append, length-take, length-drop, length-take-le, take_at}
 use Rattle.std.proofs.Math.Decide.{dec_lt}
 use Rattle.macros.proofs.FaultLaws.{places-both}
@@ -10,7 +10,7 @@ use Rattle.statements.specs.StatementAt.{fault_of}
 use Rattle.statements.specs.declared.Fault as told
 use Rattle.statements.specs.declared.Fault.TheVariants.{Clear, At}
 use Rattle.macro_values.specs.declared.Written.{Written}
-use Rattle.macro_values.specs.Wrote.{Wrote}
+use Rattle.macro_values.specs.Wrote.{is_over, size_of, Wrote}
 
 pub lower-none-right : (a : told.Fault) → a ≡ lower a Clear
 lower-none-right Clear = refl
@@ -60,29 +60,29 @@ over-left false e r h f = refl
 pub wrote-both : (a b : Writing) (v u r : Written) (o q p : List ℕ) → Wrote a v u o q → Wrote b u r q p → Wrote (followed_by a b) v r o p
 unfolding followed_by
 wrote-both a b v u r o q p h k =
-    let n = v.count + length a.bytes in
-    let e : (v.count + length a.bytes) + length b.bytes ≡ v.count + length (a.bytes ++ b.bytes) = simp length-append (omega arith) in
-    let f : r.over ≡ (u.over || (b.deep || ltb (length o) (u.count + length b.bytes))) =
-    k.over ∙ ap (λ z. u.over || (b.deep || ltb z (u.count + length b.bytes))) h.size in
+    let n = size_of v + length a.bytes in
+    let e : (size_of v + length a.bytes) + length b.bytes ≡ size_of v + length (a.bytes ++ b.bytes) = simp length-append (omega arith) in
+    let f : is_over r ≡ (is_over u || (b.deep || ltb (length o) (size_of u + length b.bytes))) =
+    k.over ∙ ap (λ z. is_over u || (b.deep || ltb z (size_of u + length b.bytes))) h.size in
     record {
       unknown = fault-then 64 a.faults b.faults v.unknown u.unknown r.unknown h.unknown k.unknown;
       uneven = fault-then 65 a.faults b.faults v.uneven u.uneven r.uneven h.uneven k.uneven;
       over =
-          over-then v.over a.deep b.deep (length o) n (length b.bytes) u.count u.over r.over h.over (λ z. (h.within z).0) f
-          ∙ ap (λ z. v.over || ((a.deep || b.deep) || ltb (length o) z)) e;
+          over-then (is_over v) a.deep b.deep (length o) n (length b.bytes) (size_of u) (is_over u) (is_over r) h.over (λ z. (h.within z).0) f
+          ∙ ap (λ z. is_over v || ((a.deep || b.deep) || ltb (length o) z)) e;
       size = k.size ∙ h.size;
       within = λ z. both z;
       most = omega (arith, k.most, k.size, h.size);
     }
   where
-    both : r.over ≡ false → (r.count ≡ v.count + length (a.bytes ++ b.bytes)) × (take r.count p ≡ take v.count o ++ (a.bytes ++ b.bytes))
+    both : is_over r ≡ false → (size_of r ≡ size_of v + length (a.bytes ++ b.bytes)) × (take (size_of r) p ≡ take (size_of v) o ++ (a.bytes ++ b.bytes))
     both z =
-        let y = over-left u.over (b.deep || ltb (length q) (u.count + length b.bytes)) r.over k.over z in
+        let y = over-left (is_over u) (b.deep || ltb (length q) (size_of u + length b.bytes)) (is_over r) k.over z in
         let x = h.within y in
         let w = k.within z in
         let c = x.0 in
         let d = w.0 in
-        (simp length-append (omega arith), w.1 ∙ ap (λ l. l ++ b.bytes) x.1 ∙ append_assoc (take v.count o) a.bytes b.bytes)
+        (simp length-append (omega arith), w.1 ∙ ap (λ l. l ++ b.bytes) x.1 ∙ append_assoc (take (size_of v) o) a.bytes b.bytes)
 
 -- bytes behind bytes
 pub wrote-more : (a b : List ℕ) (v u r : Written) (o q p : List ℕ) → Wrote (just a) v u o q → Wrote (just b) u r q p → Wrote (just (a ++ b)) v r o p
@@ -90,14 +90,14 @@ unfolding followed_by
 wrote-more a b v u r o q p h k = wrote-both (just a) (just b) v u r o q p h k
 
 -- nothing is written
-pub wrote_none : (v : Written) (o : List ℕ) → v.count ≤ length o → Wrote (just []) v v o o
+pub wrote_none : (v : Written) (o : List ℕ) → size_of v ≤ length o → Wrote (just []) v v o o
 wrote_none v o l =
     record {
       unknown = lower-none-right v.unknown;
       uneven = lower-none-right v.uneven;
-      over = last v.over (ltb (length o) (v.count + 0)) (le-ltb (length o) (v.count + 0) (omega arith));
+      over = last (is_over v) (ltb (length o) (size_of v + 0)) (le-ltb (length o) (size_of v + 0) (omega arith));
       size = refl;
-      within = λ z. (omega arith, sym (append-nil (take v.count o)));
+      within = λ z. (omega arith, sym (append-nil (take (size_of v) o)));
       most = l;
     }
   where
@@ -106,44 +106,54 @@ wrote_none v o l =
     last false b e = sym e
 
 -- nothing more is written of what is over already
-pub wrote-over : (w : Writing) (v : Written) (o : List ℕ) → v.count ≤ length o → v.over ≡ true → w.faults ≡ [] → Wrote w v v o o
+pub wrote-over : (w : Writing) (v : Written) (o : List ℕ) → size_of v ≤ length o → is_over v ≡ true → w.faults ≡ [] → Wrote w v v o o
 wrote-over w v o l e f =
     record {
       unknown = lower-none-right v.unknown ∙ ap (λ fs. lower v.unknown (fault_of (places_of 64 fs))) (sym f);
       uneven = lower-none-right v.uneven ∙ ap (λ fs. lower v.uneven (fault_of (places_of 65 fs))) (sym f);
-      over = e ∙ sym (ap (λ b. b || (w.deep || ltb (length o) (v.count + length w.bytes))) e);
+      over = e ∙ sym (ap (λ b. b || (w.deep || ltb (length o) (size_of v + length w.bytes))) e);
       size = refl;
       within = λ z. absurd (true≢false (sym e ∙ z));
       most = l;
     }
 
 -- bytes behind those that are there, and no room for them
-module _ (w o : List ℕ) (v r : Written) (e : v.over ≡ false) (count : v.count ≤ length o) (f : r.unknown ≡ v.unknown) (g : r.uneven ≡ v.uneven) where
-  pub wrote-put : (p : List ℕ) → v.count + length w ≤ length o → r.count ≡ v.count + length w → r.over ≡ false
-      → p ≡ take v.count o ++ (w ++ drop (v.count + length w) o) → Wrote (just w) v r o p
+module _ (w o : List ℕ) (v r : Written) (e : is_over v ≡ false) (count : size_of v ≤ length o) (f : r.unknown ≡ v.unknown) (g : r.uneven ≡ v.uneven) where
+  pub wrote-put : (p : List ℕ) → size_of v + length w ≤ length o → size_of r ≡ size_of v + length w → is_over r ≡ false
+      → p ≡ take (size_of v) o ++ (w ++ drop (size_of v + length w) o) → Wrote (just w) v r o p
   wrote-put p l n z h =
-      let m : length (take v.count o) ≡ v.count = length-take-le v.count o count in
-      let x : r.count ≡ length (take v.count o ++ w) = n ∙ simp length-append (omega arith) in
+      let m : length (take (size_of v) o) ≡ (size_of v) = length-take-le (size_of v) o count in
+      let x : size_of r ≡ length (take (size_of v) o ++ w) = n ∙ simp length-append (omega arith) in
       record {
         unknown = f ∙ lower-none-right v.unknown;
         uneven = g ∙ lower-none-right v.uneven;
-        over = z ∙ sym (ap (λ b. b || ltb (length o) (v.count + length w)) e ∙ le-ltb (length o) (v.count + length w) l);
+        over = z ∙ sym (ap (λ b. b || ltb (length o) (size_of v + length w)) e ∙ le-ltb (length o) (size_of v + length w) l);
         size = ap length h ∙ simp (length-append, length-take, length-drop) (omega arith);
         within = λ y. (
           n,
-          ap (take r.count) (h ∙ sym (append_assoc (take v.count o) w (drop (v.count + length w) o)))
-              ∙ take_at (take v.count o ++ w) (drop (v.count + length w) o) r.count (sym x),
+          ap (take (size_of r)) (h ∙ sym (append_assoc (take (size_of v) o) w (drop (size_of v + length w) o)))
+              ∙ take_at (take (size_of v) o ++ w) (drop (size_of v + length w) o) (size_of r) (sym x),
         );
         most = omega (arith, n);
       }
 
-  pub wrote-full : length o < v.count + length w → r.count ≡ v.count → r.over ≡ true → Wrote (just w) v r o o
+  pub wrote-full : length o < size_of v + length w → size_of r ≤ length o → is_over r ≡ true → Wrote (just w) v r o o
   wrote-full l n z =
       record {
         unknown = f ∙ lower-none-right v.unknown;
         uneven = g ∙ lower-none-right v.uneven;
-        over = z ∙ sym (ap (λ b. b || ltb (length o) (v.count + length w)) e ∙ lt-ltb (length o) (v.count + length w) l);
+        over = z ∙ sym (ap (λ b. b || ltb (length o) (size_of v + length w)) e ∙ lt-ltb (length o) (size_of v + length w) l);
         size = refl;
         within = λ y. absurd (true≢false (sym z ∙ y));
-        most = omega (arith, n);
+        most = n;
       }
+
+-- a count that is there, and one that is not
+pub some-within : (w : Written) (n : ℕ) → w.count ≡ Some n → is_over w ≡ false
+some-within w n e = rw e refl
+
+pub some-size : (w : Written) (n : ℕ) → w.count ≡ Some n → size_of w ≡ n
+some-size w n e = rw e refl
+
+pub none-over : (w : Written) → w.count ≡ None → is_over w ≡ true
+none-over w e = rw e refl

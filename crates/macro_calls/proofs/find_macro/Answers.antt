@@ -1,22 +1,16 @@
 -- `macro_calls::find_macro` meets its contract.
-use native.Mathlib.Omega.{arith}
-use mathlib.Core.Path.{refl}
-use Rattle.macro_calls.proofs.Seeking.{finds-none, finds-one}
+use Rattle.macro_calls.proofs.Seeking.{finds-none, finds-one, finds-more}
 use Rattle.macro_calls.proofs.find_macro.Goals as goal
 
-pub returns-then-number-count : goal.returns-then-number-count
-returns-then-number-count c =
-    let argsᶜ = c.args in
-    finds-none argsᶜ.text.now argsᶜ.code.now argsᶜ.firsts.now argsᶜ.count argsᶜ.name.now c.next_macro-number.ensures c.if-number-count.true
+pub returns-in_err-number : goal.returns-in_err-number
+returns-in_err-number c = let a = c.args in rw c.from_residual.ensures (finds-none a.text.now a.code.now a.firsts.now a.count a.name.now c.in_err-number.ensures.next)
 
-pub overflow_add-number : goal.overflow_add-number
-overflow_add-number c = omega (arith, c.next_macro-number.ensures.most, c.if-number-count.false)
+pub returns-in-Some : goal.returns-in-Some
+returns-in-Some c = let a = c.args in
+    let first = c.in_ok-number.ensures in
+    finds-more a.text.now a.code.now a.firsts.now a.count a.name.now first.next first.listed c.in-Some.ensures.next c.in-Some.ensures.listed
 
-pub next_macro-other-requires : goal.next_macro-other-requires
-next_macro-other-requires c = omega (arith, c.next_macro-number.ensures.most, c.if-number-count.false)
-
-pub returns : goal.returns
-returns c =
-    let argsᶜ = c.args in
-    let next-macroᶜ = c.next_macro-number in
-    finds-one argsᶜ.text.now argsᶜ.code.now argsᶜ.firsts.now argsᶜ.count argsᶜ.name.now next-macroᶜ.ensures c.if-number-count.false c.next_macro-other.ensures refl
+pub returns-in-None : goal.returns-in-None
+returns-in-None c = let a = c.args in
+    let first = c.in_ok-number.ensures in
+    finds-one a.text.now a.code.now a.firsts.now a.count a.name.now first.next first.listed c.in-None.ensures.next

@@ -1,31 +1,10 @@
 -- `macro_calls::find_target` meets its contract.
-use native.Mathlib.Omega.{arith}
-use Rattle.macro_calls.proofs.Seeking.{bytes_read, hinted, searched}
-use Rattle.macro_code.specs.Code.{bytes_at}
+use mathlib.Core.Path.{refl}
 use Prim.Native.Nat.{◌+◌}
+use Rattle.macro_calls.proofs.Seeking.{hinted}
+use Rattle.macro_code.specs.Code.{bytes_at}
 use Rattle.macro_calls.proofs.find_target.Goals as goal
 
-pub overflow_add-at : goal.overflow_add-at
-overflow_add-at c = omega (arith, c.requires.low)
-
-pub returns-then-is_name : goal.returns-then-is_name
-returns-then-is_name c =
-    let argsᶜ = c.args in
-    let partᶜ = c.part-name in
-    let highᶜ = c.high in
-    let lowᶜ = c.low in
-    let preᶜ = c.requires in
-    let number-atᶜ = c.number_at-hint in
-    let if1ᶜ = c.if-hint-count in
-    let is-singleᶜ = c.is_single in
-    let if2ᶜ = c.if-is_single in
-    let number-at2ᶜ = c.number_at in
-    hinted argsᶜ.text.now argsᶜ.code.now argsᶜ.firsts.now argsᶜ.count (bytes_at argsᶜ.text.now argsᶜ.code.now (argsᶜ.i + 2)) (bytes_read argsᶜ.text.now argsᶜ.code.now (argsᶜ.i + 2) partᶜ.ensures highᶜ.ensures.0 lowᶜ.ensures.0) preᶜ.singles_are number-atᶜ.result if1ᶜ.true is-singleᶜ.ensures if2ᶜ.true number-at2ᶜ.ensures.0 c.is_name.ensures c.if-is_name.true
-
-pub returns : goal.returns
-returns c =
-    let argsᶜ = c.args in
-    let partᶜ = c.part-name in
-    let highᶜ = c.high in
-    let lowᶜ = c.low in
-    searched argsᶜ.text.now argsᶜ.code.now argsᶜ.firsts.now argsᶜ.count (bytes_at argsᶜ.text.now argsᶜ.code.now (argsᶜ.i + 2)) (bytes_read argsᶜ.text.now argsᶜ.code.now (argsᶜ.i + 2) partᶜ.ensures highᶜ.ensures.0 lowᶜ.ensures.0) c.find_macro.ensures
+pub returns-then-has_name : goal.returns-then-has_name
+returns-then-has_name c = let a = c.args in
+    hinted a.text.now a.code.now a.firsts.now a.count (bytes_at a.text.now a.code.now (a.i + 2)) c.bytes_at-name.ensures c.requires.singles_are c.number_at-hint.result c.if-hint-count.true c.is_single.ensures c.if-is_single.true refl c.has_name.ensures c.if-has_name.true

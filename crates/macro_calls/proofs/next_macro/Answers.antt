@@ -1,29 +1,19 @@
 -- `macro_calls::next_macro` meets its contract.
+use mathlib.Core.Path.{◌≡◌, refl}
+use native.Mathlib.Omega.{arith}
 use Rattle.macro_calls.proofs.Seeking.{name_of, passing-first, passing-on, passing-found, passing-end}
 use Rattle.macro_calls.proofs.next_macro.Goals as goal
 
 pub loop-k-init : goal.loop-k-init
-loop-k-init c =
-    let argsᶜ = c.args in
-    let preᶜ = c.requires in
-    passing-first argsᶜ.text.now argsᶜ.code.now argsᶜ.firsts.now argsᶜ.count argsᶜ.name.now (preᶜ)
+loop-k-init c = let a = c.args in passing-first a.text.now a.code.now a.firsts.now a.count a.name.now c.requires
 
-pub returns-then-is_name : goal.returns-then-is_name
-returns-then-is_name c =
-    let argsᶜ = c.args in
-    let loopᶜ = c.loop-k in
-    let number-atᶜ = c.number_at in
-    passing-found argsᶜ.text.now argsᶜ.code.now argsᶜ.firsts.now argsᶜ.count argsᶜ.name.now loopᶜ.invariant (name_of argsᶜ.text.now argsᶜ.code.now argsᶜ.firsts.now argsᶜ.count argsᶜ.name.now loopᶜ.k number-atᶜ.ensures.0 c.is_name.ensures) c.if-is_name.true
+pub returns-then-has_name-clause-next : goal.returns-then-has_name-clause-next
+returns-then-has_name-clause-next c = let a = c.args in
+    passing-found a.text.now a.code.now a.firsts.now a.count a.name.now c.loop-k.invariant (name_of a.text.now a.code.now a.firsts.now a.count a.name.now c.loop-k.k refl c.has_name.ensures) c.if-has_name.true
 
 pub loop-k-preserved : goal.loop-k-preserved
-loop-k-preserved c =
-    let argsᶜ = c.args in
-    let loopᶜ = c.loop-k in
-    let loop-testᶜ = c.loop-k-test in
-    let number-atᶜ = c.number_at in
-    passing-on argsᶜ.text.now argsᶜ.code.now argsᶜ.firsts.now argsᶜ.count argsᶜ.name.now loopᶜ.invariant loop-testᶜ.true (name_of argsᶜ.text.now argsᶜ.code.now argsᶜ.firsts.now argsᶜ.count argsᶜ.name.now loopᶜ.k number-atᶜ.ensures.0 c.is_name.ensures) c.if-is_name.false
+loop-k-preserved c = let a = c.args in
+    passing-on a.text.now a.code.now a.firsts.now a.count a.name.now c.loop-k.invariant (omega arith) (name_of a.text.now a.code.now a.firsts.now a.count a.name.now c.loop-k.k refl c.has_name.ensures) c.if-has_name.false
 
-pub returns : goal.returns
-returns c =
-    let argsᶜ = c.args in
-    passing-end argsᶜ.text.now argsᶜ.code.now argsᶜ.firsts.now argsᶜ.count argsᶜ.name.now c.loop-k.invariant c.loop-k-test.false
+pub returns-clause-next : goal.returns-clause-next
+returns-clause-next c = let a = c.args in passing-end a.text.now a.code.now a.firsts.now a.count a.name.now (let e : c.loop-k.k ≡ a.count = omega arith in rw e at c.loop-k.invariant) (omega arith)

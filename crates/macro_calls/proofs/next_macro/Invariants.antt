@@ -1,10 +1,6 @@
 -- `macro_calls::next_macro` meets its contract.
-use Prim.Native.Nat.{◌-◌}
 use Rattle.macro_calls.proofs.Seeking.{Passing}
 use Rattle.macro_calls.proofs.next_macro.Given as goal
 
 abbrev pub invariant-loop-k : goal.invariant-loop-k
 invariant-loop-k l = Passing l.text l.code l.firsts l.count l.name l.from l.k
-
-abbrev pub decreases-loop-k : goal.decreases-loop-k
-decreases-loop-k l = l.count - l.k

@@ -4,22 +4,17 @@ use Rattle.macro_changes.proofs.Giving.{joined-answer, other-answer, parameter-a
 use Rattle.macro_changes.proofs.answer_of.Goals as goal
 
 pub find_parameter-k-requires : goal.find_parameter-k-requires
-find_parameter-k-requires c = let h = c.requires.held in record { own = h.joined_own; ends = omega (arith, h.joined_ends, h.most); small = h.small; scoped = c.requires.scoped }
+find_parameter-k-requires c = let h = c.requires.held in let e = rw c.in-Some.is at h.joined_ends in record { own = e.0; ends = omega (arith, e.1, h.most); small = h.small; scoped = c.requires.scoped }
 
-pub is_identifier-requires : goal.is_identifier-requires
-is_identifier-requires c = c.requires.held
-
-pub returns-then-t-ne0 : goal.returns-then-t-ne0
-returns-then-t-ne0 c = joined-answer c.args.text.now c.args.code.now c.args.x c.requires.held c.if-t-ne0.true c.requires.few c.find_parameter-k.ensures c.is_identifier.ensures
+pub returns-in-Some : goal.returns-in-Some
+returns-in-Some c = let k = c.find_parameter-k in
+    rw (c.unwrap_or.ensures, c.is_some.ensures) (joined-answer c.args.text.now c.args.code.now c.args.x c.requires.held c.in-Some.is c.requires.few k.result k.ensures.found k.ensures.listed c.is_identifier.ensures)
 
 pub returns-then-t-ne-WORD : goal.returns-then-t-ne-WORD
-returns-then-t-ne-WORD c = other-answer c.args.text.now c.args.code.now c.args.x c.requires.held c.if-t-ne0.false c.if-t-ne-WORD.true
+returns-then-t-ne-WORD c = other-answer c.args.text.now c.args.code.now c.args.x c.requires.held c.in_default.is c.if-t-ne-WORD.true
 
-pub find_parameter-k-requires-2 : goal.find_parameter-k-requires-2
-find_parameter-k-requires-2 c = let h = c.requires.held in record { own = h.own; ends = h.ends; small = h.small; scoped = c.requires.scoped }
+pub returns-in-Some-find_parameter : goal.returns-in-Some-find_parameter
+returns-in-Some-find_parameter c = parameter-answer c.args.text.now c.args.code.now c.args.x c.requires.held c.in_default.is c.if-t-ne-WORD.false c.in-Some-find_parameter.ensures.found c.in-Some-find_parameter.ensures.listed c.requires.few
 
-pub returns-then-k-x : goal.returns-then-k-x
-returns-then-k-x c = parameter-answer c.args.text.now c.args.code.now c.args.x c.requires.held c.if-t-ne0.false c.if-t-ne-WORD.false c.find_parameter-k-2.ensures c.if-k-x.true c.requires.few
-
-pub returns : goal.returns
-returns c = typed-answer c.args.text.now c.args.code.now c.args.x c.requires.held c.if-t-ne0.false c.if-t-ne-WORD.false c.find_parameter-k-2.ensures c.if-k-x.false
+pub returns-in-None : goal.returns-in-None
+returns-in-None c = typed-answer c.args.text.now c.args.code.now c.args.x c.requires.held c.in_default.is c.if-t-ne-WORD.false c.in-None.ensures.found (omega arith)

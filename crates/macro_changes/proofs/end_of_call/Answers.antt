@@ -10,10 +10,10 @@ pub overflow_add-t : goal.overflow_add-t
 overflow_add-t c = let h = c.next_element-t.ensures.held in omega (arith, h.own, h.ends, h.small)
 
 pub returns-then-t-eq-END : goal.returns-then-t-eq-END
-returns-then-t-eq-END c = ends-at_end c.next_element-t.ensures c.args.closing c.requires.lent.size c.requires.lent.most c.if-t-eq-END.true c.pick.ensures
+returns-then-t-eq-END c = ends-at_end c.next_element-t.ensures c.args.source.now.scope.closing c.requires.lent.size c.requires.lent.most c.if-t-eq-END.true c.pick.ensures
 
 pub returns-then-t-eq-NOTHING : goal.returns-then-t-eq-NOTHING
-returns-then-t-eq-NOTHING c = ends-at-none c.next_element-t.ensures c.args.closing c.requires.lent.size c.requires.lent.most c.if-t-eq-NOTHING.true
+returns-then-t-eq-NOTHING c = ends-at-none c.next_element-t.ensures c.args.source.now.scope.closing c.requires.lent.size c.requires.lent.most c.if-t-eq-NOTHING.true
 
 pub returns : goal.returns
-returns c = ends-at-close c.next_element-t.ensures c.args.closing c.requires.lent.size c.requires.lent.most c.if-t-eq-END.false c.if-t-eq-NOTHING.false c.requires.done
+returns c = ends-at-close c.next_element-t.ensures c.args.source.now.scope.closing c.requires.lent.size c.requires.lent.most c.if-t-eq-END.false c.if-t-eq-NOTHING.false c.requires.done

@@ -1,14 +1,11 @@
 -- `macro_changes::find_parameter` meets its contract.
 use mathlib.Core.Path.{◌≡◌}
 use mathlib.Core.Bool.{false}
-use Prim.Native.Nat.{ℕ, ◌+◌, ◌-◌, ◌≤◌, ◌<◌}
+use Prim.Native.Nat.{ℕ, ◌+◌, ◌<◌}
 use Rattle.lexer.specs.Tokens.{part}
 use Rattle.lists.specs.Lists.{bytes_equal}
 use Rattle.macro_code.specs.Code.{bytes_at}
 use Rattle.macro_changes.proofs.find_parameter.Given as goal
 
 abbrev pub invariant-loop-i : goal.invariant-loop-i
-invariant-loop-i l = (l.i ≤ l.count) × ((j : ℕ) → j < l.i → bytes_equal (part l.text l.at l.end) (bytes_at l.text l.code (l.first + j)) ≡ false)
-
-abbrev pub decreases-loop-i : goal.decreases-loop-i
-decreases-loop-i l = l.count - l.i
+invariant-loop-i l = (j : ℕ) → j < l.i → bytes_equal (part l.text l.at l.end) (bytes_at l.text l.code (l.x.params + j)) ≡ false

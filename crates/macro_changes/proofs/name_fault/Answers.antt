@@ -11,10 +11,10 @@ pub closes-requires : goal.closes-requires
 closes-requires c = c.next_element-t.ensures.held.sorted
 
 pub returns-then-t-closes : goal.returns-then-t-closes
-returns-then-t-closes c = no_name c.next_element-t.ensures (closed_by (eqb c.next_element-t.result.sort 3) _ (eqb c.next_element-t.result.sort 0 || shuts c.args.closing (argument_value c.args.text.now c.next_element-t.result)) c.if-t-closes.true (c.closes.ensures c.args.text.now))
+returns-then-t-closes c = no_name c.next_element-t.ensures (closed_by (eqb c.next_element-t.result.sort 3) _ (eqb c.next_element-t.result.sort 0 || shuts c.args.source.now.scope.closing (argument_value c.args.source.now.text.now c.next_element-t.result)) c.if-t-closes.true (c.closes.ensures c.args.source.now.text.now))
 
 pub is_identifier-requires : goal.is_identifier-requires
 is_identifier-requires c = c.next_element-t.ensures.held
 
 pub returns : goal.returns
-returns c = a-name c.next_element-t.ensures (closed_by (eqb c.next_element-t.result.sort 3) _ (eqb c.next_element-t.result.sort 0 || shuts c.args.closing (argument_value c.args.text.now c.next_element-t.result)) c.if-t-closes.false (c.closes.ensures c.args.text.now)) c.is_identifier.ensures c.fault_if.ensures
+returns c = a-name c.next_element-t.ensures (closed_by (eqb c.next_element-t.result.sort 3) _ (eqb c.next_element-t.result.sort 0 || shuts c.args.source.now.scope.closing (argument_value c.args.source.now.text.now c.next_element-t.result)) c.if-t-closes.false (c.closes.ensures c.args.source.now.text.now)) _ c.is_identifier.ensures c.is_none.ensures c.fault_if.ensures

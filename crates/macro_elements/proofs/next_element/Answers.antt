@@ -15,14 +15,11 @@ returns-then-t-eq-TEXT c = rw c.alone.ensures (rw c.if-t-eq-TEXT.true at (text-n
 pub returns-then-t-ne-WORD : goal.returns-then-t-ne-WORD
 returns-then-t-ne-WORD c = rw c.alone-then-t-ne-WORD.ensures (mark-next c.requires c.item_at-t.ensures _ c.byte_at-byte.ensures c.if-t-ne-WORD.true c.if-t-eq-TEXT.false)
 
-pub joined_end-behind-requires : goal.joined_end-behind-requires
-joined_end-behind-requires c = record { copy = c.requires.copy; size = c.requires.size; most = omega (arith, same_length c.args.text.now c.args.marked.now c.requires.copy, c.item_at-t.ensures.stands.most) }
+pub joined_end-requires : goal.joined_end-requires
+joined_end-requires c = record { copy = c.requires.copy; size = c.requires.size; most = omega (arith, same_length c.args.text.now c.args.marked.now c.requires.copy, c.item_at-t.ensures.stands.most) }
 
-pub returns-then-behind-eq0 : goal.returns-then-behind-eq0
-returns-then-behind-eq0 c = rw c.alone-then-behind-eq0.ensures (rw c.if-t-ne-WORD.false at (word_next c.requires c.item_at-t.ensures c.if-t-ne-WORD.false _ c.byte_at-byte.ensures (rw c.if-behind-eq0.true at c.joined_end-behind.ensures)))
-
-pub overflow_add-result : goal.overflow_add-result
-overflow_add-result c = omega (arith, same_length c.args.text.now c.args.marked.now c.requires.copy, c.item_at-t.ensures.stands.most, c.requires.size)
+pub returns-in_default : goal.returns-in_default
+returns-in_default c = rw c.alone-in_default.ensures (rw c.if-t-ne-WORD.false at (word_next c.requires c.item_at-t.ensures c.if-t-ne-WORD.false _ c.byte_at-byte.ensures c.in_default.ensures.joins))
 
 pub returns : goal.returns
-returns c = rw c.if-t-ne-WORD.false at (joined_next c.requires c.item_at-t.ensures c.if-t-ne-WORD.false c.joined_end-behind.ensures c.if-behind-eq0.false _ c.byte_at-byte.ensures)
+returns c = rw c.if-t-ne-WORD.false at (joined_next c.requires c.item_at-t.ensures c.if-t-ne-WORD.false c.in-Some.ensures.joins (λ z. omega (arith, c.in-Some.ensures.some)) _ c.byte_at-byte.ensures)

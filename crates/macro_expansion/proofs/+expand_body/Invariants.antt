@@ -1,13 +1,14 @@
 -- `macro_expansion::expand_body` meets its contract. It ends since the levels left fall with each call.
 use mathlib.Core.Path.{◌≡◌}
-use mathlib.Core.Bool.{true}
+use Rattle.std.proofs.Common.{Some}
 use Prim.Native.Nat.{◌+◌, ◌-◌}
 use lib.ListN.{length, take}
 use Rattle.macros.specs.Expansion.{Writing, followed_by, levels}
 use Rattle.macro_code.specs.Code.{low}
 use Rattle.macro_memory.specs.Memory.{Remembers}
 use Rattle.macro_values.specs.Wrote.{Wrote}
-use Rattle.macro_expansion.specs.Expanding.{pause_writes, Stops}
+use Rattle.macro_expansion.specs.Expanding.{changes_left, pause_writes, Stops}
+use Rattle.macro_expansion.specs.declared.Pause.{Pause}
 use Rattle.macro_expansion.proofs.+expand_body.Given as goal
 
 abbrev pub decreases-expand_body : goal.decreases-expand_body
@@ -16,10 +17,10 @@ decreases-expand_body l = l.at.left
 abbrev pub invariant-loop-paused : goal.invariant-loop-paused
 invariant-loop-paused l =
     (u : Writing) × Wrote u l.initial.paused.state l.paused.state l.initial.out l.out
-    × (pause_writes l.text l.code l.names l.at.macros l.initial.calls l.at.left (low l.code (l.at.cell + 1)) l.initial.paused
-    ≡ followed_by u (pause_writes l.text l.code l.names l.at.macros l.initial.calls l.at.left (low l.code (l.at.cell + 1)) l.paused))
+    × (pause_writes l.list.text.now l.list.code.now l.list.names.now l.list.count l.initial.calls l.at.left (low l.list.code.now (l.at.cell + 1)) l.initial.paused.call
+    ≡ followed_by u (pause_writes l.list.text.now l.list.code.now l.list.names.now l.list.count l.initial.calls l.at.left (low l.list.code.now (l.at.cell + 1)) l.paused.call))
     × (take (levels - l.at.left) l.calls ≡ take (levels - l.at.left) l.initial.calls) × (length l.calls ≡ length l.initial.calls)
-    × (l.paused.enters ≡ true → Stops (length l.code) l.at.left l.paused) × Remembers l.text l.code l.names l.at.macros l.calls l.paused.state
+    × ((x : Pause) → l.paused.call ≡ Some x → Stops (length l.list.code.now) l.at.left x) × Remembers l.list.text.now l.list.code.now l.list.names.now l.list.count l.calls l.paused.state
 
 abbrev pub decreases-loop-paused : goal.decreases-loop-paused
-decreases-loop-paused l = l.paused.changes
+decreases-loop-paused l = changes_left l.paused.call

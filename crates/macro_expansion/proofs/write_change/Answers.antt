@@ -1,37 +1,26 @@
 -- `macro_expansion::write_change` meets its contract.
 use native.Mathlib.Omega.{arith}
-use borrow.Author.Tests.{not-true, not-false}
 use Prim.Native.Nat.{◌-◌}
 use Rattle.macros.specs.Expansion.{levels}
 use Rattle.macro_memory.specs.MemoryLaws.{remembers-stays, remembers-nested}
 use Rattle.macro_expansion.specs.ExpandLaws.{change-enters}
 use Rattle.macro_expansion.proofs.write_change.Goals as goal
 
-pub meet-step-requires : goal.meet-step-requires
-meet-step-requires c = (c.requires.0, c.requires.1)
-
-pub returns-then-not-step : goal.returns-then-not-step
-returns-then-not-step c =
+pub returns-in_default : goal.returns-in_default
+returns-in_default c =
     let a = c.args in
-    let k = c.meet-step.ensures.passed (not-true _ c.if-not-step.true) in
-    (k, remembers-stays a.text.now a.code.now a.names.now a.at.macros a.calls.now _ a.v c.meet-step.result.state _ _ c.requires.1.remembers k)
-
-pub keep_call-requires : goal.keep_call-requires
-keep_call-requires c =
-    let m = c.meet-step.ensures in
-    let b = not-false _ c.if-not-step.false in
-    (omega (arith, (m.enters b).deeper, c.requires.1.room, c.requires.1.most), omega (arith, m.there b, c.requires.1.known.cells))
+    let k = c.meet-step.ensures.passed c.in_default.is in
+    (k, remembers-stays a.list.now.text.now a.list.now.code.now a.list.now.names.now a.list.now.count a.calls.now _ a.v c.meet-step.result.state _ _ c.requires.1.remembers k)
 
 pub overflow_sub-left : goal.overflow_sub-left
-overflow_sub-left c = (c.meet-step.ensures.enters (not-false _ c.if-not-step.false)).deeper
+overflow_sub-left c = (c.meet-step.ensures.enters _ c.in-Some.is).deeper
 
 pub expand_body-requires : goal.expand_body-requires
 expand_body-requires c =
     let a = c.args in
     let p = c.requires.1 in
-    let b = not-false _ c.if-not-step.false in
-    let e = c.meet-step.ensures.enters b in
-    let k = c.meet-step.ensures.waits b in (
+    let e = c.meet-step.ensures.enters _ c.in-Some.is in
+    let k = c.meet-step.ensures.waits _ c.in-Some.is in (
       e.body,
       omega (arith, e.deeper, p.most),
       record {
@@ -39,9 +28,9 @@ expand_body-requires c =
         most = omega (arith, p.most);
         count = omega (arith, k.most, k.size);
         room = omega (arith, p.room);
-        remembers = remembers-nested a.text.now a.code.now a.names.now a.at.macros a.calls.now _ (levels - a.at.left) a.at.cell c.meet-step.result.state
+        remembers = remembers-nested a.list.now.text.now a.list.now.code.now a.list.now.names.now a.list.now.count a.calls.now _ (levels - a.at.left) a.at.cell c.meet-step.result.state
             (omega (arith, e.deeper, p.most)) c.keep_call.ensures
-            (remembers-stays a.text.now a.code.now a.names.now a.at.macros a.calls.now _ a.v c.meet-step.result.state _ _ p.remembers k);
+            (remembers-stays a.list.now.text.now a.list.now.code.now a.list.now.names.now a.list.now.count a.calls.now _ a.v c.meet-step.result.state _ _ p.remembers k);
       },
     )
 
@@ -49,9 +38,8 @@ pub returns : goal.returns
 returns c =
     let a = c.args in
     let p = c.requires.1 in
-    let b = not-false _ c.if-not-step.false in
-    let e = c.meet-step.ensures.enters b in (
-      change-enters a.text.now a.code.now a.names.now a.at.macros a.calls.now _ _ a.at.left a.at.cell c.meet-step.result.body a.v c.meet-step.result.state
-          c.expand_body.result _ _ _ p.most (omega (arith, e.deeper, p.room, p.most)) c.keep_call.ensures e (c.meet-step.ensures.waits b) c.expand_body.ensures,
+    let e = c.meet-step.ensures.enters _ c.in-Some.is in (
+      change-enters a.list.now.text.now a.list.now.code.now a.list.now.names.now a.list.now.count a.calls.now _ _ a.at.left a.at.cell c.in-Some.body a.v c.meet-step.result.state
+          c.expand_body.result _ _ _ p.most (omega (arith, e.deeper, p.room, p.most)) c.keep_call.ensures e (c.meet-step.ensures.waits _ c.in-Some.is) c.expand_body.ensures,
       c.expand_body.ensures.remembers,
     )

@@ -1,13 +1,12 @@
 -- `macro_heights::find_heights` meets its contract.
 use Rattle.macro_heights.specs.Levels.{quiet_table, loose_table, UpTo}
-use Rattle.macros.specs.Expansion.{levels}
-use lib.ListN.{length}
-use Prim.Native.Nat.{◌-◌}
-use mathlib.Core.Path.{◌≡◌}
 use Rattle.macro_heights.proofs.find_heights.Given as goal
 
-abbrev pub invariant-loop-level : goal.invariant-loop-level
-invariant-loop-level l = UpTo (quiet_table l.text l.code l.firsts l.count) l.count l.level l.quiet × UpTo (loose_table l.text l.code l.firsts l.count) l.count l.level l.loose × (length l.quiet ≡ length l.initial.quiet) × (length l.loose ≡ length l.initial.loose)
+abbrev pub ghost-settle_level : goal.ghost-settle_level
+ghost-settle_level a = let l = a.height_of.0.now in quiet_table l.text.now l.code.now l.firsts.now l.count
 
-abbrev pub decreases-loop-level : goal.decreases-loop-level
-decreases-loop-level l = levels - l.level
+abbrev pub ghost-settle_level-2 : goal.ghost-settle_level-2
+ghost-settle_level-2 a = let l = a.height_of.0.now in loose_table l.text.now l.code.now l.firsts.now l.count
+
+abbrev pub invariant-loop-level : goal.invariant-loop-level
+invariant-loop-level l = UpTo (quiet_table l.text l.code l.firsts l.count) l.count l.level l.quiet × UpTo (loose_table l.text l.code l.firsts l.count) l.count l.level l.loose

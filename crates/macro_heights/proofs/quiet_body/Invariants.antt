@@ -1,12 +1,6 @@
 -- `macro_heights::quiet_body` meets its contract.
 use Rattle.macro_heights.proofs.Measuring.{QuietRest}
-use Rattle.macro_code.specs.Code.{change_count}
-use mathlib.Core.Path.{◌≡◌}
-use Prim.Native.Nat.{◌-◌}
 use Rattle.macro_heights.proofs.quiet_body.Given as goal
 
 abbrev pub invariant-loop-k : goal.invariant-loop-k
-invariant-loop-k l = QuietRest l.text l.code l.firsts l.count l.quiet l.q l.place l.i l.k l.height × (l.n ≡ change_count l.code l.q)
-
-abbrev pub decreases-loop-k : goal.decreases-loop-k
-decreases-loop-k l = l.n - l.k
+invariant-loop-k l = QuietRest l.list.text.now l.list.code.now l.list.firsts.now l.list.count l.quiet l.q l.place l.i l._k l.height

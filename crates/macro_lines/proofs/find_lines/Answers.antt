@@ -1,25 +1,16 @@
 -- `macro_lines::find_lines` meets its contract.
 use native.Mathlib.Omega.{arith}
-use Rattle.macro_lines.proofs.Going.{line-fits, finding-none, ahead, finding-next, found_all}
+use Rattle.macro_lines.proofs.Going.{finding_none, next-low, finding_next}
 use Rattle.macro_lines.proofs.find_lines.Goals as goal
 
-pub loop-j-init : goal.loop-j-init
-loop-j-init c = finding-none c.requires
+pub loop-place-init : goal.loop-place-init
+loop-place-init c = finding_none c.requires
 
-pub line_ahead-line-requires : goal.line_ahead-line-requires
-line_ahead-line-requires c = ahead c.requires c.loop-j.invariant c.loop-j-test.true
+pub overflow_add-line : goal.overflow_add-line
+overflow_add-line c = omega (arith, next-low c.requires c.loop-place.invariant (omega arith) c.from-to.ensures c.feeds-line.ensures.counted)
 
-pub overflow_cast-places : goal.overflow_cast-places
-overflow_cast-places c = omega (arith, line-fits (ahead c.requires c.loop-j.invariant c.loop-j-test.true) c.line_ahead-line.ensures)
+pub overflow_cast-place : goal.overflow_cast-place
+overflow_cast-place c = omega (arith, next-low c.requires c.loop-place.invariant (omega arith) c.from-to.ensures c.feeds-line.ensures.counted)
 
-pub overflow_add-j : goal.overflow_add-j
-overflow_add-j c = omega (arith, c.loop-j-test.true)
-
-pub loop-j-smaller : goal.loop-j-smaller
-loop-j-smaller c = omega (arith, c.loop-j-test.true, c.loop-j.invariant.sized)
-
-pub loop-j-preserved : goal.loop-j-preserved
-loop-j-preserved c = finding-next c.requires c.loop-j.invariant c.loop-j-test.true c.line_ahead-line.ensures
-
-pub returns : goal.returns
-returns c = found_all c.requires c.loop-j.invariant c.loop-j-test.false
+pub loop-place-preserved : goal.loop-place-preserved
+loop-place-preserved c = finding_next c.requires c.loop-place.invariant (omega arith) c.from-to.ensures c.feeds-line.ensures.counted

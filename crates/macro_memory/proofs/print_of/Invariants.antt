@@ -1,11 +1,7 @@
 -- `macro_memory::print_of` meets its contract.
-use mathlib.Core.Path.{◌≡◌}
-use Prim.Native.Nat.{◌-◌, ◌≤◌}
-use lib.ListN.{length}
+use Rattle.std.proofs.Common.{◌≤◌, length}
+use Rattle.macro_values.specs.Wrote.{size_of}
 use Rattle.macro_memory.proofs.print_of.Given as goal
 
 abbrev pub invariant-loop-k : goal.invariant-loop-k
-invariant-loop-k l = (length l.row ≡ length l.initial.row) × (l.k ≤ l.n) × (l.w.count ≤ length l.row)
-
-abbrev pub decreases-loop-k : goal.decreases-loop-k
-decreases-loop-k l = l.n - l.k
+invariant-loop-k l = (size_of l.w ≤ length l.row) × (l.n ≤ length l.row)

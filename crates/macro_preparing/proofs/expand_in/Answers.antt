@@ -1,10 +1,14 @@
 -- `macro_preparing::expand_in` meets its contract.
-use Rattle.macro_preparing.proofs.Expanding.{expands}
-use native.Mathlib.Omega.{arith}
+use Rattle.std.proofs.Common.{◌≡◌, arith, Err}
+use Rattle.macro_preparing.proofs.Expanding.{expands, expands-not}
 use Rattle.macro_preparing.proofs.expand_in.Goals as goal
 
-pub write_section-w-requires : goal.write_section-w-requires
-write_section-w-requires c = let r = c.read_rows-k.ensures in (r.low, r.known, record { same = omega (arith, c.requires.places, c.requires.lent.passed.room); short = omega (arith, c.requires.lent.passed.room) }, r.steady)
+pub returns-in_err-answered : goal.returns-in_err-answered
+returns-in_err-answered c =
+    let gone : c.from_residual.result ≡ Err c.in_err-answered.field-0.0 = grind arith in
+    rw gone (expands-not c.read_rows-k.ensures c.write_section-w.ensures (omega (arith, c.requires.lent.passed.room)) c.requires.lent.passed c.ask_macros.result c.ask_macros.ensures c.in_err-answered.ensures)
 
 pub returns : goal.returns
-returns c = expands c.read_rows-k.ensures c.write_section-w.ensures (omega (arith, c.requires.lent.passed.room)) c.requires.lent.passed c.ask_macros.result c.ask_macros.ensures
+returns c =
+    rw c.unwrap_or.ensures
+    (expands c.read_rows-k.ensures c.write_section-w.ensures (omega (arith, c.requires.lent.passed.room)) c.requires.lent.passed c.ask_macros.result c.ask_macros.ensures c.in_ok-answered.ensures)

@@ -2,11 +2,5 @@
 use mathlib.Core.Path.{refl}
 use Rattle.macro_reading.proofs.ends_header.Goals as goal
 
-pub is_mark-requires : goal.is_mark-requires
-is_mark-requires c = c.requires
-
-pub is_mark-requires-2 : goal.is_mark-requires-2
-is_mark-requires-2 c = c.requires
-
 pub returns : goal.returns
 returns c = λ s. rw (c.is_mark.ensures s, c.is_mark-2.ensures s) refl

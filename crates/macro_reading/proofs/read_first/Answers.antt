@@ -7,14 +7,8 @@ use Rattle.macro_reading.proofs.read_first.Goals as goal
 pub loop-t-init : goal.loop-t-init
 loop-t-init c = firsts-none c.requires
 
-pub next_element-t-requires : goal.next_element-t-requires
-next_element-t-requires c = record { copy = c.requires.copy; size = c.requires.size; most = c.loop-t.invariant.most }
-
 pub returns-then-stops : goal.returns-then-stops
 returns-then-stops c = first_done c.loop-t.invariant c.next_element-t.ensures (sym c.stops.ensures ∙ c.if-stops.true)
-
-pub is_outer-requires : goal.is_outer-requires
-is_outer-requires c = c.next_element-t.ensures.held.sorted
 
 pub loop-t-smaller : goal.loop-t-smaller
 loop-t-smaller c = omega (arith, first_more c.loop-t.invariant c.next_element-t.ensures (sym c.stops.ensures ∙ c.if-stops.false), c.next_element-t.ensures.held.most)

@@ -1,10 +1,6 @@
 -- `macro_reading::read_list` meets its contract.
 use Rattle.macro_reading.proofs.Finishing.{listable, tailed, puttable, follows, sectioned, list_done}
-use native.Mathlib.Omega.{arith}
 use Rattle.macro_reading.proofs.read_list.Goals as goal
-
-pub next_element-t-requires : goal.next_element-t-requires
-next_element-t-requires c = c.requires.lent
 
 pub read_definitions-d-requires : goal.read_definitions-d-requires
 read_definitions-d-requires c = listable c.requires c.next_element-t.ensures
@@ -15,14 +11,8 @@ read_tail-e-requires c = tailed c.requires c.next_element-t.ensures c.read_defin
 pub follow_fault-requires : goal.follow_fault-requires
 follow_fault-requires c = follows c.requires c.next_element-t.ensures c.read_definitions-d.ensures c.read_tail-e.ensures
 
-pub overflow_add-u : goal.overflow_add-u
-overflow_add-u c = omega (arith, c.read_definitions-d.ensures.lists.paid, c.read_definitions-d.ensures.lists.most, c.requires.lent.size)
-
 pub put_list-requires : goal.put_list-requires
 put_list-requires c = puttable c.requires c.next_element-t.ensures c.read_definitions-d.ensures c.read_tail-e.ensures
-
-pub overflow_add-on : goal.overflow_add-on
-overflow_add-on c = omega (arith, c.read_definitions-d.ensures.lists.paid, c.read_definitions-d.ensures.lists.most, c.requires.lent.size)
 
 pub read_section-section-requires : goal.read_section-section-requires
 read_section-section-requires c = sectioned c.requires c.next_element-t.ensures c.read_definitions-d.ensures c.read_tail-e.ensures c.put_list.ensures

@@ -2,9 +2,6 @@
 use Rattle.macro_reading.proofs.Finishing.{opens, bracketed, no-list-section, with_list, without-list}
 use Rattle.macro_reading.proofs.read_macros.Goals as goal
 
-pub is_mark-requires : goal.is_mark-requires
-is_mark-requires c = c.next_element-t.ensures.held.sorted
-
 pub read_list-requires : goal.read_list-requires
 read_list-requires c = bracketed c.requires c.skip_ends-a.ensures c.read_first-f.ensures c.skip_ends-b.ensures (opens c.requires c.skip_ends-a.ensures c.read_first-f.ensures c.skip_ends-b.ensures c.next_element-t.ensures (c.is_mark.ensures c.args.text.now) c.if-is_mark.true)
 

@@ -8,9 +8,6 @@ use Rattle.macro_reading.proofs.skip_ends.Goals as goal
 pub loop-t-init : goal.loop-t-init
 loop-t-init c = (le_refl c.args.n, c.requires.most, refl)
 
-pub next_element-t-requires : goal.next_element-t-requires
-next_element-t-requires c = record { copy = c.requires.copy; size = c.requires.size; most = c.loop-t.invariant.1 }
-
 pub returns-then-t-ne-END : goal.returns-then-t-ne-END
 returns-then-t-ne-END c = record { from_here = c.loop-t.invariant.0; most = c.loop-t.invariant.1; is = end-off c.next_element-t.ensures c.if-t-ne-END.true ∙ c.loop-t.invariant.2 }
 
