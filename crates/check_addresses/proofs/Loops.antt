@@ -1,44 +1,16 @@
 -- The turns of the loops over addresses.
 use mathlib.Core.Path.{◌≡◌, refl, sym, ap, ◌∙◌}
-use mathlib.Core.Bool.{Bool, true, false, not, ◌&&◌, ◌||◌, or_assoc, or-false}
 use mathlib.Core.List.{List, [], ◌∷◌, ◌++◌, map, append_assoc, append-nil}
-use Prim.Native.Nat.{ℕ, ◌+◌, ◌-◌, ◌≤◌, ◌<◌}
+use Prim.Native.Nat.{ℕ, ◌+◌, ◌≤◌, ◌<◌}
 use native.Mathlib.Numerals.{add-one}
 use native.Mathlib.Omega.{arith}
-use lib.Dec.{eqb}
-use lib.ListN.{length, get_or, take, drop, set, length-drop, length-set}
-use lib.Seq.{take_all, drop-cons, drop-length, take-suc-set}
+use lib.ListN.{length, take, drop, set, length-drop, length-set}
+use lib.Seq.{take-suc-set}
 use Rattle.layout.specs.Bounds.{WholeRecords}
 use Rattle.layout.specs.Components.{record_in, records_in, addresses_in}
 use Rattle.layout.proofs.ComponentLaws.{records-none}
-use Rattle.lists.specs.Lists.{any}
-use Rattle.machine.specs.WellFormed.{different}
 use Rattle.records.specs.Places.{Starts, Ends}
 use Rattle.check_addresses.specs.Collected.{Collectable, Collected}
-
--- what was found among the first i, or is among the rest
-pub any_next : (p : ℕ → Bool) (s : List ℕ) (i : ℕ) (found : Bool) → i < length s → (found || p (get_or s i 0)) || any p (drop (i + 1) s) ≡ found || any p (drop i s)
-any_next p s i found h = or_assoc found (p (get_or s i 0)) (any p (drop (i + 1) s)) ∙ rw (add-one, drop-cons s i 0)
-
-pub any-end : (p : ℕ → Bool) (s : List ℕ) (i : ℕ) (found : Bool) → length s ≤ i → i ≤ length s → found || any p (drop i s) ≡ found
-any-end p s i found l h = let e : i ≡ length s = omega arith in rw (e, drop-length) (or-false found)
-
--- the numbers from i on: the first of them, and whether it is met again
-module _ (s : List ℕ) (i : ℕ) (h : i < length s) {f : Bool} (e : f ≡ any (eqb (get_or s i 0)) (take (length s - (i + 1)) (drop (i + 1) s))) where
-  behind : f ≡ any (eqb (get_or s i 0)) (drop (i + 1) s)
-  behind = e ∙ ap (any (eqb (get_or s i 0))) (take_all (length s - (i + 1)) (drop (i + 1) s) (rw (length-drop (i + 1) s) (omega arith)))
-
-  different-split : different eqb (drop i s) ≡ not f && different eqb (drop (i + 1) s)
-  different-split = rw (behind, add-one, drop-cons s i 0 h) refl
-
-  pub different-met : f ≡ true → different eqb (drop i s) ≡ false
-  different-met t = different-split ∙ rw t refl
-
-  pub different-next : f ≡ false → different eqb (drop i s) ≡ different eqb (drop (i + 1) s)
-  different-next t = different-split ∙ rw t refl
-
-pub different-end : (s : List ℕ) (i : ℕ) → length s ≤ i → i ≤ length s → different eqb (drop i s) ≡ true
-different-end s i l h = let e : i ≡ length s = omega arith in rw (e, drop-length) refl
 
 -- ---- collecting
 

@@ -11,10 +11,8 @@ fn is_among(x: u32, list: &[u32]) -> bool
     ensures { result ≡ any (eqb x) list.now }
 {
     let mut found = false;
-    let mut i = 0;
-    while i < list.len() {
-        found = found | (x == list[i]);
-        i += 1;
+    for y in list {
+        found = found | (x == *y);
     }
     found
 }
@@ -22,25 +20,18 @@ fn is_among(x: u32, list: &[u32]) -> bool
 pub fn are_different(list: &[u32]) -> bool
     ensures { result ≡ different eqb list.now }
 {
-    let mut i = 0;
-    while i < list.len() {
-        let x = list[i];
-        i += 1;
-        if is_among(x, &list[i..]) {
+    let mut rest = list;
+    while let Some((x, behind)) = rest.split_first() {
+        if is_among(*x, behind) {
             return false;
         }
+        rest = behind;
     }
     true
 }
 
-fn narrow(n: usize) -> u32
-    requires { n < 8388608 }
-    ensures { result ≡ n }
-{
-    n as u32
-}
-
-// Writes the addresses of the records of `b` into `list` behind the first `n`, and tells how many there are then.
+// Writes the addresses of the records of `b` into `list` behind the first `n`, and tells how many there are then. The memory is lent, so the count
+// stands beside it; `records` tells where a record ends, and no method of std walks so.
 pub fn collect(b: &[u8], list: &mut [u32], n: usize) -> usize
     requires { Collectable b.now (length list.old) n }
     ensures { Collected b.now list.old n list.new result }
@@ -49,7 +40,7 @@ pub fn collect(b: &[u8], list: &mut [u32], n: usize) -> usize
     let mut at = 0;
     while at < b.len() {
         let e = records::end_of(b, at);
-        list[k] = narrow(records::address_at(b, at));
+        list[k] = records::address_at(b, at) as u32;
         k += 1;
         at = e;
     }

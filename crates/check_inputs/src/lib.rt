@@ -12,11 +12,12 @@ use language::Machine;
 fn is_input(w: &[u8]) -> bool
     ensures { result ≡ (leb (length w.now) 65536 && all known w.now) }
 {
-    (w.len() <= Machine::INPUT) & characters::all_known(w)
+    w.len() <= Machine::INPUT && characters::all_known(w)
 }
 
+#[tactic(auto, unfolding(machine::specs::WellFormed::good_inputs))]
 pub fn are_inputs(i1: &[u8], i2: &[u8]) -> bool
     ensures { result ≡ good_inputs (i1.now ∷ i2.now ∷ []) }
 {
-    is_input(i1) & is_input(i2)
+    is_input(i1) && is_input(i2)
 }

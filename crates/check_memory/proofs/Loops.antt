@@ -1,19 +1,27 @@
 -- The turns of the loops over the strings of expressions and files.
+use Rattle.std.specs.declared.ops.Range.{Range}
+use denote.Param.Members.{Mut}
+use Rattle.std.specs.List.{list_all, range_with_len, FoldsTo}
+use Rattle.std.specs.Fn.{Called}
+use Rattle.std.specs.Iterator.{YieldsThen}
+use Rattle.std.specs.Option.{MatchOption}
+use Rattle.std.specs.Prelude.{Option}
+use Rattle.std.proofs.iter.Yields.{nat_range_steps}
+use Rattle.std.proofs.lemmas.Iterator.{YieldsList-from_range}
+use Rattle.std.proofs.lemmas.Iterator.Search.{all_from_yields_List}
 use mathlib.Core.Path.{◌≡◌, refl, sym, ap, ◌∙◌, subst}
 use mathlib.Core.Bool.{Bool, true, false, ◌&&◌, and-true, and-false}
 use mathlib.Core.List.{List, [], ◌∷◌, ◌++◌, append-nil, append_assoc}
 use Prim.Native.Nat.{ℕ, zero, suc, ◌+◌, ◌*◌, ◌-◌, ◌≤◌, ◌<◌}
 use native.Mathlib.Nat.{not-suc-le-zero, le_of_suc-le-suc}
-use native.Mathlib.Numerals.{add-one}
 use native.Mathlib.Omega.{arith}
 use lib.Dec.{leb, eqb}
 use lib.ListN.{length, get_or, take, drop, length-drop}
-use lib.Seq.{get_or-take, get_or-drop, take_all, drop-cons, drop-length}
+use lib.Seq.{get_or-take, get_or-drop, take_all}
 use borrow.Author.Tests.{le-leb, lt-leb}
 use Rattle.cells.specs.Cells.{Number}
 use Rattle.check_addresses.specs.Collected.{Collectable, Collected}
 use Rattle.language.specs.Limits as limit
-use Rattle.language.specs.Values.{chars}
 use Rattle.layout.specs.Bounds.{Each, WholeComponents, WholeRecords}
 use Rattle.layout.proofs.CellLaws.{each_in}
 use Rattle.layout.specs.Cells.{three_at}
@@ -29,24 +37,23 @@ use Rattle.records.proofs.Walking.{AllTaken, all-taken}
 use Rattle.records.specs.declared.Sequence.{Sequence}
 use Rattle.records.specs.declared.Totals.{Totals}
 use Rattle.records.specs.Sequences.{part_total, char_total, TookRecords, Totalled}
-use Rattle.check_memory.specs.declared.Sums.{Sums}
-use Rattle.check_memory.specs.Passes.{sizes, sum, zeros, laid, all_strings, expressions, halves, expression_parts, expression_chars, is_total, counted, distinct}
-use Rattle.check_memory.specs.Reads.{Ended, Readable, Named, StringLent, ExpressionSums, FileSums, AllSums, Comparable}
+use Rattle.check_memory.specs.Passes.{sizes, sum, zeros, laid, all_strings, expressions, halves, expression_parts, expression_chars, distinct}
+use Rattle.check_memory.specs.Reads.{Ended, Readable, Named, StringLent, ExpressionSums, FileSums, Comparable}
 use Rattle.check_memory.proofs.Readings.{length-expressions, length-halves}
 
 -- ---- the cells
 
-pub laid-beyond : {m : List ℕ} {e : ℕ} → Ended m e → limit.state < e → false ≡ laid m
+pub laid_beyond : {m : List ℕ} {e : ℕ} → Ended m e → limit.state < e → false ≡ laid m
 unfolding laid
-laid-beyond {m} {e} h k =
+laid_beyond {m} {e} h k =
     let c : leb (sum (sizes m)) layout.room ≡ false = lt-leb (sum (sizes m)) layout.room (omega (arith, h.is)) in
     let ab : Bool = leb (three_at layout.plus_cell m) 1 && leb (three_at layout.last_cell m) limit.addresses in
     sym (ap (λ t. ab && t && zeros (drop (layout.first_byte + sum (sizes m)) m)) c ∙ ap (λ t. t && zeros (drop (layout.first_byte + sum (sizes m)) m)) (and-false ab))
 
-pub laid-within : {m : List ℕ} {e : ℕ} → Ended m e → e ≤ limit.state → {x y : ℕ} → Number (three_at layout.plus_cell m) 16777216 x → Number (three_at layout.last_cell m) 16777216 y → {t : Bool} → t ≡ zeros (take (length m - e) (drop e m))
+pub laid_within : {m : List ℕ} {e : ℕ} → Ended m e → e ≤ limit.state → {x y : ℕ} → Number (three_at layout.plus_cell m) 16777216 x → Number (three_at layout.last_cell m) 16777216 y → {t : Bool} → t ≡ zeros (take (length m - e) (drop e m))
     → leb x 1 && leb y 8388607 && t ≡ laid m
 unfolding laid
-laid-within {m} {e} h k {x} {y} a b {t} z =
+laid_within {m} {e} h k {x} {y} a b {t} z =
     let c : leb (sum (sizes m)) layout.room ≡ true = le-leb (sum (sizes m)) layout.room (omega (arith, h.is)) in
     let ab : Bool = leb (three_at layout.plus_cell m) 1 && leb (three_at layout.last_cell m) limit.addresses in
     let d : take (length m - e) (drop e m) ≡ drop (layout.first_byte + sum (sizes m)) m = take_all (length m - e) (drop e m) (rw (length-drop e m) (omega arith)) ∙ ap (λ n. drop n m) h.is in
@@ -56,50 +63,39 @@ laid-within {m} {e} h k {x} {y} a b {t} z =
     ∙ ap (λ q. ab && q) (z ∙ ap zeros d)
     ∙ sym (ap (λ q. ab && q && u) c ∙ ap (λ q. q && u) (and-true ab))
 
--- ---- tests of strings, from the first to the last
-
-module _ (p : List ℕ → Bool) (xs : List (List ℕ)) (i : ℕ) where
-  split : i < length xs → all p (drop i xs) ≡ p (get_or xs i []) && all p (drop (i + 1) xs)
-  split h = rw (add-one, drop-cons xs i [] h) refl
-
-  pub all-fails : i < length xs → {t : Bool} → t ≡ p (get_or xs i []) → t ≡ false → all p (drop i xs) ≡ false
-  all-fails h e f = split h ∙ ap (λ q. q && all p (drop (i + 1) xs)) (sym e ∙ f)
-
-  pub all-goes : i < length xs → {t : Bool} → t ≡ p (get_or xs i []) → t ≡ true → all p (drop i xs) ≡ all p (drop (i + 1) xs)
-  all-goes h e f = split h ∙ ap (λ q. q && all p (drop (i + 1) xs)) (sym e ∙ f)
-
-  pub all_done : length xs ≤ i → i ≤ length xs → all p (drop i xs) ≡ true
-  all_done h k = let e : i ≡ length xs = omega arith in rw (e, drop-length) refl
-
 -- expression i, and half a file
 
-expression-at : (m : List ℕ) (i : ℕ) → i < 32 → get_or (expressions m) i [] ≡ get_or (all_strings m) i []
+pub expression-at : (m : List ℕ) (i : ℕ) → i < 32 → get_or (expressions m) i [] ≡ get_or (all_strings m) i []
 expression-at m i h = get_or-take 32 (all_strings m) i [] h
 
-half_at : (m : List ℕ) (i : ℕ) → i < 64 → get_or (halves m) i [] ≡ get_or (all_strings m) (32 + i) []
+pub half_at : (m : List ℕ) (i : ℕ) → i < 64 → get_or (halves m) i [] ≡ get_or (all_strings m) (32 + i) []
 half_at m i h = get_or-take 64 (drop 32 (all_strings m)) i [] h ∙ get_or-drop 32 (all_strings m) i []
 
 pub named : {m st : List ℕ} → Readable m st → {k : ℕ} → k < layout.strings_count → Named m st k
 named r h = record { readable = r; index = h }
 
--- the tests in code: an invariant, its turn and its end
-pub record Testing (p : List ℕ → Bool) (xs : List (List ℕ)) (n i : ℕ) : Type 0 where
-  pub upto : i ≤ n
-  pub same : all p xs ≡ all p (drop i xs)
+-- the tests in code: what `(0..n).all(..)` answers of the elements of xs, of a closure that is f
+module _ {X : Type 0} (d : X) (f : ℕ → Bool) (p : X → Bool) where
+  all_from : (xs : List X) (s : ℕ) → ((i : ℕ) → i < length xs → f (s + i) ≡ p (get_or xs i d)) → list_all f (range_with_len s (length xs)) ≡ all p xs
+  all_from [] s e = refl
+  all_from (x ∷ xs) s e =
+      let z : s + 0 ≡ s = omega arith in
+      let first : f s ≡ p x = sym (ap f z) ∙ e 0 (omega arith) in
+      let others : list_all f (range_with_len (s + 1) (length xs)) ≡ all p xs =
+      all_from xs (s + 1) (λ i h. let y : s + 1 + i ≡ s + suc i = omega arith in ap f y ∙ e (suc i) (omega (arith, h))) in
+      rw (first, others) refl
 
-pub testing-none : (p : List ℕ → Bool) (xs : List (List ℕ)) (n : ℕ) → Testing p xs n 0
-testing-none p xs n = record { upto = omega arith; same = refl }
+  module _ (xs : List X) (n : ℕ) (long : length xs ≡ n) (same : (i : ℕ) → i < n → f i ≡ p (get_or xs i d)) where
+    tests : list_all f (range_with_len 0 n) ≡ all p xs
+    tests =
+        let e : list_all f (range_with_len 0 (length xs)) ≡ all p xs = all_from xs 0 (λ i h. let z : 0 + i ≡ i = omega arith in ap f z ∙ same i (omega (arith, h, long))) in
+        ap (λ k. list_all f (range_with_len 0 k)) (sym long) ∙ e
 
-module _ {p : List ℕ → Bool} (xs : List (List ℕ)) {n i : ℕ} (long : length xs ≡ n) (g : Testing p xs n i) where
-  module _ (h : i < n) {r : List ℕ} (e : r ≡ get_or xs i []) {t : Bool} (q : t ≡ p r) where
-    pub testing-fails : t ≡ false → false ≡ all p xs
-    testing-fails f = sym (g.same ∙ all-fails p xs i (omega (arith, long)) (q ∙ ap p e) f)
-
-    pub testing-next : t ≡ true → Testing p xs n (i + 1)
-    testing-next f = record { upto = omega arith; same = g.same ∙ all-goes p xs i (omega (arith, long)) (q ∙ ap p e) f }
-
-  pub testing-end : n ≤ i → true ≡ all p xs
-  testing-end h = sym (g.same ∙ all_done p xs i (omega (arith, long)) (omega (arith, long, g.upto)))
+    pub tests_all : {F : Type 0} {g : Mut F (ℕ × Unit {0}) Bool} (u : Range ℕ) (closure : F) (r : Bool)
+        → (ys : List ℕ) × (o : Option ℕ) × (j : F) × YieldsThen nat_range_steps (record { start = 0; end = n }) ys o u × FoldsTo (λ q x k. Called g q (x, tt) true k) closure ys j × MatchOption o (r ≡ true) (λ x. (r ≡ false) × ((h : F) × Called g j (x, tt) false h))
+        → ((x : ℕ) (b : Bool) (q : F) → Called g closure (x, tt) b q → (q ≡ closure) × (b ≡ f x))
+        → r ≡ all p xs
+    tests_all u closure r ran is = all_from_yields_List f u closure r ran (YieldsList-from_range 0 n n refl (omega arith)) is ∙ tests
 
 module _ {m : List ℕ} {i : ℕ} {r : List ℕ} where
   pub lent-expression : i < 32 → StringLent m i r → r ≡ get_or (expressions m) i []
@@ -260,10 +256,3 @@ module _ {m st d : List ℕ} (c : Comparable m st (length d)) {e : List ℕ} {n 
   pub gathered : 64 ≤ i → {t : Bool} → t ≡ different eqb (take n e) → t ≡ distinct m
   unfolding distinct
   gathered h k = k ∙ ap (different eqb) (g.is ∙ ap (each addresses_in) (take_all i (halves m) (omega (arith, length-halves m))))
-
--- ---- totals
-
-pub counted-by : {m : List ℕ} {s : Sums} → AllSums m s → {a b c : ℕ} → Number (three_at layout.components_cell m) 16777216 a → Number (three_at layout.characters_cell m) 16777216 b → Number (three_at layout.records_cell m) 16777216 c
-    → {t u v : Bool} → t ≡ is_total 1024 a s.parts → u ≡ is_total 8192 b s.chars → v ≡ is_total 256 c s.records → t && u && v ≡ counted m
-unfolding counted
-counted-by x a b c t u v = rw (t, u, v, x.parts_is, x.chars_is, x.records_is, a.is, b.is, c.is) refl

@@ -1,29 +1,19 @@
 -- Where the strings start, and the string at a place.
 use mathlib.Core.Path.{◌≡◌, refl, sym, ap, ◌∙◌}
-use mathlib.Core.Bool.{Bool, ◌&&◌, and-true, and_assoc}
 use mathlib.Core.List.{List, [], ◌∷◌}
 use Prim.Native.Nat.{ℕ, zero, suc, ◌+◌, ◌*◌, ◌-◌, ◌≤◌, ◌<◌}
 use native.Mathlib.Decide.{dec_lt}
 use native.Mathlib.Nat.{not-suc-le-zero, le_of_suc-le-suc}
-use native.Mathlib.Numerals.{add-one}
 use native.Mathlib.Omega.{arith}
 use lib.ListN.{length, get_or, take, drop, set, length-set, length-take}
-use lib.Seq.{get_or-drop, get_or-set_same, get_or-set_other, take_all, drop-drop, drop-cons, drop-length}
+use lib.Seq.{get_or-drop, get_or-set_same, get_or-set_other, take_all, drop-drop}
 use Rattle.cells.specs.Cells.{Number}
 use Rattle.layout.specs.Cells.{two_at}
 use Rattle.layout.specs.Strings.{lengths_in, cut_by, strings_in}
-use Rattle.lists.specs.Lists.{all}
 use Rattle.check_memory.specs.Passes.{sizes, sum}
 use Rattle.check_memory.specs.Reads.{Started, Named, StringLent}
 use Rattle.layout.proofs.StringLaws.{length-lengths_in}
 use Rattle.layout.specs.Places as layout
-
--- a test of all cells, from front to back
-pub all-next : (p : ℕ → Bool) (s : List ℕ) (i : ℕ) (good : Bool) → i < length s → (good && p (get_or s i 0)) && all p (drop (i + 1) s) ≡ good && all p (drop i s)
-all-next p s i good h = and_assoc good (p (get_or s i 0)) (all p (drop (i + 1) s)) ∙ rw (add-one, drop-cons s i 0)
-
-pub all_end : (p : ℕ → Bool) (s : List ℕ) (i : ℕ) (good : Bool) → length s ≤ i → i ≤ length s → good && all p (drop i s) ≡ good
-all_end p s i good l h = let e : i ≡ length s = omega arith in rw (e, drop-length) (and-true good)
 
 -- ---- lengths
 
@@ -110,13 +100,13 @@ module _ {m st : List ℕ} {k : ℕ} (h : Named m st k) {from n : ℕ} (a : Numb
   n-is : n ≡ get_or (sizes m) k 0
   n-is = q.is ∙ size_at m k h.index
 
-  pub string-within : from + n ≤ length m
-  string-within =
+  pub string_within : from + n ≤ length m
+  string_within =
       omega (arith, from_is, n-is, sum-within (sizes m) k (omega (arith, h.index, length-sizes m)), h.readable.room, h.readable.long)
 
-  pub string-lent : StringLent m k (take (from + n - from) (drop from m))
+  pub string_lent : StringLent m k (take (from + n - from) (drop from m))
   unfolding strings_in
-  string-lent =
+  string_lent =
       let e : from + n - from ≡ get_or (sizes m) k 0 = omega (arith, n-is) in
       let d : drop from m ≡ drop (sum (take k (sizes m))) (drop layout.lengths_bytes (drop layout.first_length m)) =
       ap (λ o. drop o m) from_is ∙ sym (drop-drop (sum (take k (sizes m))) layout.first_byte m) ∙ ap (drop (sum (take k (sizes m)))) (sym (drop-drop layout.lengths_bytes layout.first_length m)) in

@@ -25,10 +25,8 @@ fn are_zeros(cells: &[u8]) -> bool
     ensures { result ≡ zeros cells.now }
 {
     let mut good = true;
-    let mut i = 0;
-    while i < cells.len() {
-        good = good & (cells[i] == 0);
-        i += 1;
+    for x in cells {
+        good = good & (*x == 0);
     }
     good
 }
@@ -39,16 +37,15 @@ pub fn starts_of(m: &[u8], starts: &mut [u32]) -> usize
     ensures { Started m.now starts.new result }
 {
     let mut at = StatePlaces::FIRST_BYTE;
-    let mut i = 0;
-    while i < StatePlaces::STRINGS_COUNT {
+    for i in 0..StatePlaces::STRINGS_COUNT {
         cells::write(starts, i, at);
         at += cells::two_at(m, StatePlaces::FIRST_LENGTH + 2 * i);
-        i += 1;
     }
     at
 }
 
 // String `k`.
+#[tactic(auto, using(crate::proofs::Starts::string_within, crate::proofs::Starts::string_lent))]
 pub fn string_at<'a>(m: &'a [u8], starts: &[u32], k: usize) -> &'a [u8]
     requires { Named m.now starts.now k }
     ensures { StringLent m.now k result.now }
@@ -71,35 +68,26 @@ pub fn is_laid(m: &[u8], end: usize) -> bool
         & are_zeros(&m[end..])
 }
 
+// All that this shares with `are_files` is std's `all`.
 fn are_expressions(m: &[u8], starts: &[u32], last: usize) -> bool
     requires { Walkable m.now starts.now last }
     ensures { result ≡ all (sound_components last) (expressions m.now) }
 {
-    let mut i = 0;
-    while i < Machine::EXPRESSIONS {
-        if !check_strings::are_components(string_at(m, starts, i), last) {
-            return false;
-        }
-        i += 1;
-    }
-    true
+    (0..Machine::EXPRESSIONS).all(|i| check_strings::are_components(string_at(m, starts, i), last))
 }
 
 fn are_files(m: &[u8], starts: &[u32], last: usize) -> bool
     requires { Walkable m.now starts.now last }
     ensures { result ≡ all (sound_records last) (halves m.now) }
 {
-    let mut i = 0;
-    while i < StatePlaces::FILE_STRINGS_COUNT {
-        if !check_strings::are_records(string_at(m, starts, StatePlaces::FIRST_FILE + i), last) {
-            return false;
-        }
-        i += 1;
-    }
-    true
+    (0..StatePlaces::FILE_STRINGS_COUNT).all(|i| check_strings::are_records(
+        string_at(m, starts, StatePlaces::FIRST_FILE + i),
+        last,
+    ))
 }
 
 // Whether expressions and files are whole and without faults.
+#[tactic(auto, unfolding(crate::specs::Passes::sound))]
 pub fn is_sound(m: &[u8], starts: &[u32]) -> bool
     requires { Walkable m.now starts.now (three_at last_cell m.now) }
     ensures { result ≡ sound m.now }
@@ -114,17 +102,15 @@ fn expression_sums(m: &[u8], starts: &[u32]) -> Sums
 {
     let mut parts = 0;
     let mut chars = 0;
-    let mut i = 0;
-    while i < Machine::EXPRESSIONS {
+    for i in 0..Machine::EXPRESSIONS {
         let v = string_at(m, starts, i);
         let t = matching::count(v, matching::Test::All, v);
         parts += t.parts;
         chars += t.chars;
-        i += 1;
     }
     Sums {
-        parts: parts,
-        chars: chars,
+        parts,
+        chars,
         records: 0,
     }
 }
@@ -135,21 +121,19 @@ fn file_sums(m: &[u8], starts: &[u32]) -> Sums
 {
     let mut parts = 0;
     let mut chars = 0;
-    let mut count = 0;
-    let mut i = 0;
-    while i < StatePlaces::FILE_STRINGS_COUNT {
+    let mut records = 0;
+    for i in 0..StatePlaces::FILE_STRINGS_COUNT {
         let v = string_at(m, starts, StatePlaces::FIRST_FILE + i);
         let t = records::totals_of(v);
         let q = records::count(v, records::RecordTest::First(matching::Test::All), v);
         parts += t.parts;
         chars += t.chars;
-        count += q.records;
-        i += 1;
+        records += q.records;
     }
     Sums {
-        parts: parts,
-        chars: chars,
-        records: count,
+        parts,
+        chars,
+        records,
     }
 }
 
@@ -174,6 +158,7 @@ pub fn totals(m: &[u8], starts: &[u32]) -> Sums
 }
 
 // Whether the totals are those told, and within their limits.
+#[tactic(auto, unfolding(crate::specs::Passes::counted))]
 pub fn is_counted(m: &[u8], starts: &[u32]) -> bool
     requires { BothWhole m.now starts.now }
     ensures { result ≡ counted m.now }
@@ -200,10 +185,8 @@ pub fn is_distinct(m: &[u8], starts: &[u32], list: &mut [u32]) -> bool
     ensures { result ≡ distinct m.now }
 {
     let mut n = 0;
-    let mut i = 0;
-    while i < StatePlaces::FILE_STRINGS_COUNT {
+    for i in 0..StatePlaces::FILE_STRINGS_COUNT {
         n = check_addresses::collect(string_at(m, starts, StatePlaces::FIRST_FILE + i), list, n);
-        i += 1;
     }
     check_addresses::are_different(&list[..n])
 }

@@ -1,5 +1,14 @@
 -- Laws of tests that pass for all numbers of a run: the turns of a loop, and the same tests of a list by its index.
-use Rattle.std.specs.Prelude.{◌≡◌, Bool, ◌&&◌, ◌||◌}
+use Rattle.std.specs.declared.ops.Range.{Range}
+use denote.Param.Members.{Mut}
+use Rattle.std.specs.List.{list_all, range_with_len, FoldsTo}
+use Rattle.std.specs.Fn.{Called}
+use Rattle.std.specs.Iterator.{YieldsThen}
+use Rattle.std.specs.Option.{MatchOption}
+use Rattle.std.proofs.iter.Yields.{nat_range_steps}
+use Rattle.std.proofs.lemmas.Iterator.{YieldsList-from_range}
+use Rattle.std.proofs.lemmas.Iterator.Search.{all_from_yields_List}
+use Rattle.std.specs.Prelude.{◌≡◌, Bool, ◌&&◌, ◌||◌, List, Option}
 use Rattle.std.proofs.Math.Path.{refl, subst}
 use Rattle.std.proofs.Common.{sym, ap, ◌∙◌}
 use Rattle.std.proofs.Math.Bool.{true, false, not}
@@ -40,6 +49,19 @@ module _ (f : ℕ → Bool) (n i : ℕ) where
 
 pub from-0 : (f : ℕ → Bool) (n : ℕ) → passes f (n - 0) 0 ≡ passes f n 0
 from-0 f n = let e : n - 0 ≡ n = omega arith in rw e
+
+-- ---- what `(k..m).all(..)` answers, of a closure that is f
+
+passes_range : (f : ℕ → Bool) (n k : ℕ) → list_all f (range_with_len k n) ≡ passes f n k
+unfolding passes
+passes_range f zero k = refl
+passes_range f (suc n) k = let e : k + 1 ≡ suc k = omega arith in rw (e, passes_range f n (suc k))
+
+pub passes_all : {F : Type 0} {g : Mut F (ℕ × Unit {0}) Bool} (f : ℕ → Bool) (k m n : ℕ) → m - k ≡ n → (u : Range ℕ) (closure : F) (r : Bool)
+    → (xs : List ℕ) × (o : Option ℕ) × (j : F) × YieldsThen nat_range_steps (record { start = k; end = m }) xs o u × FoldsTo (λ p x q. Called g p (x, tt) true q) closure xs j × MatchOption o (r ≡ true) (λ x. (r ≡ false) × ((h : F) × Called g j (x, tt) false h))
+    → ((x : ℕ) (b : Bool) (q : F) → Called g closure (x, tt) b q → (q ≡ closure) × (b ≡ f x))
+    → r ≡ passes f n k
+passes_all f k m n e u closure r ran is = all_from_yields_List f u closure r ran (YieldsList-from_range k m n refl e) is ∙ passes_range f n k
 
 -- ---- what passes for all passes for each
 

@@ -14,13 +14,6 @@ ghost use Rattle.language.specs.Limits as limit;
 use language::Machine;
 use layout::TablePlaces;
 
-fn byte(n: usize) -> u8
-    requires { n < 256 }
-    ensures { result ≡ n }
-{
-    n as u8
-}
-
 // Cell `k`, and 0 past the table.
 pub fn read(table: &[u32], k: usize) -> usize
     requires { limit.table ≤ length table.now }
@@ -37,31 +30,21 @@ pub fn zeros(table: &[u32], from: usize, to: usize) -> bool
     requires { limit.table ≤ length table.now }
     ensures { result ≡ zeros (table_of table.now) from to }
 {
-    let mut k = from;
-    while k < to {
-        if read(table, k) != 0 {
-            return false;
-        }
-        k += 1;
-    }
-    true
+    (from..to).all(|k| read(table, k) == 0)
 }
 
 // Character `j` of those from cell `at` on.
+#[tactic(auto, using(crate::proofs::Chars::char_by))]
 fn char_at(table: &[u32], at: usize, j: usize) -> u8
     requires { Place table.now (at + j) 65536 }
     ensures { result ≡ char (table_of table.now) at j }
 {
-    let x = read(table, at + j / 4);
-    match j % 4 {
-        0 => byte(x % 256),
-        1 => byte(x / 256 % 256),
-        2 => byte(x / 65536 % 256),
-        _ => byte(x / 16777216),
-    }
+    ((read(table, at + j / 4) >> (8 * (j % 4))) % 256) as u8
 }
 
-// Whether character `j` is one of a name or a text of `n`, or 0 behind it. `marks` is the table of characters by byte.
+// Whether character `j` is one of a name or a text of `n`, or 0 behind it. `marks` is the table of characters by byte. The definition takes a Bool
+// for `name`, so an enum would add a mapping.
+#[tactic(auto, unfolding(crate::specs::Parts::char_fits))]
 fn char_fits(table: &[u32], at: usize, n: usize, name: bool, j: usize, marks: &[u8]) -> bool
     requires { Place table.now (at + j) 65536 × (marks.now ≡ known_marks) }
     ensures { result ≡ char_fits (table_of table.now) at n name j }
@@ -80,17 +63,11 @@ fn chars_fit(table: &[u32], at: usize, n: usize, name: bool, marks: &[u8]) -> bo
     requires { Place table.now at 65000 × (marks.now ≡ known_marks) }
     ensures { result ≡ chars_fit (table_of table.now) at n name }
 {
-    let mut j = 0;
-    while j < Machine::ITEM {
-        if !char_fits(table, at, n, name, j, marks) {
-            return false;
-        }
-        j += 1;
-    }
-    true
+    (0..Machine::ITEM).all(|j| char_fits(table, at, n, name, j, marks))
 }
 
 // Whether text `k` has 2 to 60 characters.
+#[tactic(auto, unfolding(crate::specs::Parts::text_fits, characters::specs::Characters::known_marks))]
 pub fn text_fits(table: &[u32], k: usize) -> bool
     requires { Place table.now k 512 }
     ensures { result ≡ text_fits (table_of table.now) k }
@@ -112,19 +89,13 @@ pub fn texts_same(table: &[u32], i: usize, j: usize) -> bool
     requires { Place table.now (i + j) 512 }
     ensures { result ≡ texts_same (table_of table.now) i j }
 {
-    let mut q = 0;
-    while q < 16 {
-        if read(table, TablePlaces::FIRST_TEXT + 16 * i + q)
-            != read(table, TablePlaces::FIRST_TEXT + 16 * j + q)
-        {
-            return false;
-        }
-        q += 1;
-    }
-    true
+    let first = TablePlaces::FIRST_TEXT + 16 * i;
+    let second = TablePlaces::FIRST_TEXT + 16 * j;
+    (0..16).all(|q| read(table, first + q) == read(table, second + q))
 }
 
 // Whether number `k` is in range and beyond 15 in size.
+#[tactic(auto, unfolding(crate::specs::Parts::number_fits))]
 pub fn number_fits(table: &[u32], k: usize) -> bool
     requires { Place table.now k 512 }
     ensures { result ≡ number_fits (table_of table.now) k }
@@ -134,6 +105,7 @@ pub fn number_fits(table: &[u32], k: usize) -> bool
 }
 
 // Whether label `k` has a name of 1 to 60 characters, and an instruction.
+#[tactic(auto, unfolding(crate::specs::Parts::label_fits, characters::specs::Characters::known_marks))]
 pub fn label_fits(table: &[u32], k: usize) -> bool
     requires { Place table.now k 512 }
     ensures { result ≡ label_fits (table_of table.now) k }
@@ -149,17 +121,19 @@ pub fn label_fits(table: &[u32], k: usize) -> bool
 }
 
 // Whether `v` refers to one of the characters or to a text of the table.
+#[tactic(auto, unfolding(crate::specs::Parts::ref_fits, characters::specs::Characters::known_marks))]
 pub fn ref_fits(table: &[u32], v: usize) -> bool
     requires { limit.table ≤ length table.now }
     ensures { result ≡ ref_fits (table_of table.now) v }
 {
     if v < 256 {
-        return characters::is_known(byte(v), &characters::MARKS);
+        return characters::is_known(v as u8, &characters::MARKS);
     }
     v < 256 + read(table, TablePlaces::TEXT_COUNT)
 }
 
 // Whether entry `k` of a switch has a label, and a text only where the switch is by name.
+#[tactic(auto, unfolding(crate::specs::Parts::entry_fits))]
 pub fn entry_fits(table: &[u32], named: bool, k: usize) -> bool
     requires { Place table.now k 65536 }
     ensures { result ≡ entry_fits (table_of table.now) named k }

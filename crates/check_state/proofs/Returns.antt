@@ -2,11 +2,10 @@
 use mathlib.Core.Path.{◌≡◌, refl, sym, ap, ◌∙◌}
 use mathlib.Core.Bool.{Bool, true, false, ◌&&◌}
 use mathlib.Core.List.{List, [], ◌∷◌}
-use Prim.Native.Nat.{ℕ, zero, suc, pred, ◌+◌, ◌*◌, ◌-◌, ◌%◌, ◌≤◌, ◌<◌}
+use Prim.Native.Nat.{ℕ, zero, suc, pred, ◌+◌, ◌*◌, ◌-◌, ◌/◌, ◌%◌, ◌≤◌, ◌<◌}
 use native.Mathlib.Omega.{arith}
 use lib.Dec.{T, ltb}
-use lib.ListN.{length, get_or, drop, length-drop, get_or-eq_default}
-use lib.Seq.{drop-cons}
+use lib.ListN.{length, get_or, get_or-eq_default}
 use borrow.Author.Tests.{lt-ltb}
 use Rattle.cells.specs.Cells.{Number}
 use Rattle.forms.specs.Forms.{calls}
@@ -18,7 +17,6 @@ use Rattle.layout.specs.Cells.{cell, two_at}
 use Rattle.layout.specs.Memory.{twos_in}
 use Rattle.layout.specs.Table.{program_of, good_table}
 use Rattle.layout.proofs.TableLaws.{table-facts}
-use Rattle.lists.specs.Lists.{all}
 use Rattle.machine.specs.WellFormed.{good_return}
 use Rattle.machine.proofs.WellFormedLaws.{open-program}
 use Rattle.packed.specs.Packed.{table_of}
@@ -67,30 +65,18 @@ module _ (c : List ℕ) (good : T (good_table c)) where
 
 -- ---- two cells an entry
 
-twos-next : (s : List ℕ) (i : ℕ) → i + 1 < length s → twos_in (drop i s) ≡ two_at i s ∷ twos_in (drop (i + 2) s)
+pub length-twos : (s : List ℕ) → length (twos_in s) ≡ length s / 2
 unfolding twos_in
-twos-next s i h =
-    let a : drop i s ≡ get_or s i 0 ∷ drop (suc i) s = drop-cons s i 0 (omega arith) in
-    let b : drop (suc i) s ≡ get_or s (suc i) 0 ∷ drop (suc (suc i)) s = drop-cons s (suc i) 0 (omega arith) in
-    let e : suc i ≡ 1 + i = omega arith in
-    let d : suc (suc i) ≡ i + 2 = omega arith in
-    ap twos_in (a ∙ ap (λ l. get_or s i 0 ∷ l) b) ∙ ap (λ k. (get_or s i 0 + 256 * get_or s k 0) ∷ twos_in (drop (suc (suc i)) s)) e ∙ ap (λ k. two_at i s ∷ twos_in (drop k s)) d
+length-twos [] = refl
+length-twos (x ∷ []) = refl
+length-twos (x ∷ y ∷ l) = omega (arith, length-twos l)
 
-few : (l : List ℕ) → length l ≤ 1 → twos_in l ≡ []
+pub entry_at : (s : List ℕ) (i : ℕ) → i < length s / 2 → get_or (twos_in s) i 0 ≡ two_at (2 * i) s
 unfolding twos_in
-few [] h = refl
-few (x ∷ []) h = refl
-few (x ∷ y ∷ l) h = absurd (omega (arith, h))
-
-module _ (f : ℕ → Bool) (s : List ℕ) (i : ℕ) where
-  split : i + 1 < length s → all f (twos_in (drop i s)) ≡ f (two_at i s) && all f (twos_in (drop (i + 2) s))
-  split h = ap (all f) (twos-next s i h)
-
-  pub entries-fail : i + 1 < length s → {n : ℕ} → Number (two_at i s) 65536 n → {t : Bool} → t ≡ f n → t ≡ false → all f (twos_in (drop i s)) ≡ false
-  entries-fail h q e k = split h ∙ ap (λ b. b && all f (twos_in (drop (i + 2) s))) (ap f (sym q.is) ∙ sym e ∙ k)
-
-  pub entries-go : i + 1 < length s → {n : ℕ} → Number (two_at i s) 65536 n → {t : Bool} → t ≡ f n → t ≡ true → all f (twos_in (drop i s)) ≡ all f (twos_in (drop (i + 2) s))
-  entries-go h q e k = split h ∙ ap (λ b. b && all f (twos_in (drop (i + 2) s))) (ap f (sym q.is) ∙ sym e ∙ k)
-
-  pub entries-end : length s ≤ i + 1 → all f (twos_in (drop i s)) ≡ true
-  entries-end h = ap (all f) (few (drop i s) (rw (length-drop i s) (omega arith)))
+entry_at [] i h = absurd (omega (arith, h))
+entry_at (x ∷ []) i h = absurd (omega (arith, h))
+entry_at (x ∷ y ∷ l) zero h = refl
+entry_at (x ∷ y ∷ l) (suc i) h =
+    let e : 2 * suc i ≡ suc (suc (2 * i)) = omega arith in
+    let o : 1 + suc (suc (2 * i)) ≡ suc (suc (1 + 2 * i)) = omega arith in
+    entry_at l i (omega (arith, h)) ∙ rw (e, o) refl

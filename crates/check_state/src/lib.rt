@@ -31,14 +31,7 @@ fn are_returns(table: &[u32], s: &[u8]) -> bool
     requires { T (good_table table.now) }
     ensures { result ≡ all (good_return (program_of table.now)) (twos_in s.now) }
 {
-    let mut i = 0;
-    while i + 1 < s.len() {
-        if !is_return(table, cells::two_at(s, i)) {
-            return false;
-        }
-        i += 2;
-    }
-    true
+    (0..s.len() / 2).all(|k| is_return(table, cells::two_at(s, 2 * k)))
 }
 
 // An even count of cells, at most two for each place of the stack.

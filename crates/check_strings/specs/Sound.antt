@@ -1,5 +1,6 @@
 -- Cells of a string that question 63 passes: whole components or records without faults, where l is the last address given.
-use Rattle.std.specs.Prelude.{◌≡◌, Bool, cond, ◌&&◌, ◌||◌, List, ℕ, ◌+◌, ◌≤◌, ◌<◌, leb, ltb, eqb, length, get_or, take, drop}
+use Rattle.std.specs.Option.{IfSome}
+use Rattle.std.specs.Prelude.{Option, Some, None, ◌≡◌, Bool, cond, ◌&&◌, ◌||◌, List, ℕ, ◌+◌, ◌≤◌, ◌<◌, leb, ltb, eqb, length, get_or, take, drop}
 use Rattle.characters.specs.Characters.{known}
 use Rattle.layout.specs.Cells.{cell, two_at, three_at}
 use Rattle.layout.specs.Components.{components_bytes, records_bytes, component_size, components_in, records_in, addresses_in}
@@ -25,10 +26,10 @@ sound_front l b =
     leb (component_size (cell b 0)) (length b)
     && cond (eqb (cell b 0) 0) (sound_short l (cell b 1) (three_at 2 b)) (all known (take (cell b 0) (drop 1 b)))
 
--- r is how many cells a sound component in front takes, and 0 where it is not sound
-pub record FrontSize (l : ℕ) (b : List ℕ) (r : ℕ) : Type 0 where
-  pub is : r ≡ cond (sound_front l b) (component_size (cell b 0)) 0
-  pub most : r ≤ length b
+-- r is how many cells a sound component in front takes
+pub record FrontSize (l : ℕ) (b : List ℕ) (r : Option ℕ) : Type 0 where
+  pub is : r ≡ cond (sound_front l b) (Some (component_size (cell b 0))) None
+  pub most : IfSome r (λ n. n ≤ length b)
 
 -- ---- records
 
@@ -47,6 +48,6 @@ framed b = leb (7 + two_at 3 b) (length b) && eqb (two_at (5 + two_at 3 b) b) (t
 unfoldable pub sound_record : ℕ → List ℕ → Bool
 sound_record l b = framed b && ltb 0 (two_at 3 b) && given l (three_at 0 b) && sound_components l (take (two_at 3 b) (drop 5 b))
 
-pub record RecordSize (l : ℕ) (b : List ℕ) (r : ℕ) : Type 0 where
-  pub is : r ≡ cond (sound_record l b) (7 + two_at 3 b) 0
-  pub most : r ≤ length b
+pub record RecordSize (l : ℕ) (b : List ℕ) (r : Option ℕ) : Type 0 where
+  pub is : r ≡ cond (sound_record l b) (Some (7 + two_at 3 b)) None
+  pub most : IfSome r (λ n. n ≤ length b)

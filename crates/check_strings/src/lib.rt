@@ -1,18 +1,12 @@
 // Question 63 of one string: whole components or records without faults. The walks take any bytes.
 #![tactic(auto)]
 
-ghost use Rattle.std.specs.Prelude.{◌≡◌, cond, ◌≤◌, ◌<◌, length};
+ghost use Rattle.std.specs.Prelude.{◌≡◌, ◌≤◌, ◌<◌, length};
 ghost use Rattle.characters.specs.Characters.{known_marks};
 ghost use Rattle.check_strings.specs.Sound.{sound_components, sound_short, FrontSize, given, framed, sound_records, RecordSize};
 
 // The largest code of a number, that of 8,388,607.
 const LARGEST: usize = 16777214;
-
-fn pick(t: bool, n: usize) -> usize
-    ensures { result ≡ cond t n 0 }
-{
-    if t { n } else { 0 }
-}
 
 // Whether what stands behind a first cell of 0 is a number or an address without fault.
 fn is_short(kind: u8, v: usize, last: usize) -> bool
@@ -21,37 +15,37 @@ fn is_short(kind: u8, v: usize, last: usize) -> bool
     ((kind == 1) & (v <= LARGEST)) | ((kind == 2) & (v <= last))
 }
 
-// How many cells the component in front takes; 0 where it is not whole or has a fault. `marks` is the table of characters by byte.
-fn front_size(b: &[u8], last: usize, marks: &[u8]) -> usize
+// How many cells the component in front takes, where it is whole and without fault. `marks` is the table of characters by byte.
+fn front_size(b: &[u8], last: usize, marks: &[u8]) -> Option<usize>
     requires { (0 < length b.now) × (marks.now ≡ known_marks) }
     ensures { FrontSize last b.now result }
 {
     let n = components::size_by(b[0]);
     if b.len() < n {
-        return 0;
+        return None;
     }
     if b[0] == 0 {
-        return pick(is_short(b[1], cells::three_at(b, 2), last), n);
+        return is_short(b[1], cells::three_at(b, 2), last).then_some(n);
     }
-    pick(characters::are_known(&b[1..n], marks), n)
+    characters::are_known(&b[1..n], marks).then_some(n)
 }
 
 fn components_by(b: &[u8], last: usize, marks: &[u8]) -> bool
     requires { (last ≤ 8388607) × (marks.now ≡ known_marks) }
     ensures { result ≡ sound_components last b.now }
 {
-    let mut at = 0;
-    while at < b.len() {
-        let n = front_size(&b[at..], last, marks);
-        if n == 0 {
+    let mut rest = b;
+    while !rest.is_empty() {
+        let Some(n) = front_size(rest, last, marks) else {
             return false;
-        }
-        at += n;
+        };
+        rest = &rest[n..];
     }
     true
 }
 
 // Whether the cells are whole components without faults, where `last` is the last address given.
+#[tactic(auto, unfolding(characters::specs::Characters::known_marks))]
 pub fn are_components(b: &[u8], last: usize) -> bool
     requires { last ≤ 8388607 }
     ensures { result ≡ sound_components last b.now }
@@ -79,35 +73,32 @@ fn is_framed(b: &[u8]) -> bool
     cells::two_at(b, 5 + n) == n
 }
 
-// How many cells the record in front takes; 0 where it is not whole or has a fault.
-fn record_size(b: &[u8], last: usize) -> usize
+// How many cells the record in front takes, where it is whole and without fault.
+fn record_size(b: &[u8], last: usize) -> Option<usize>
     requires { last ≤ 8388607 }
     ensures { RecordSize last b.now result }
 {
     if !is_framed(b) {
-        return 0;
+        return None;
     }
     let n = cells::two_at(b, 3);
     let address = cells::three_at(b, 0);
     let e = 5 + n;
-    pick(
-        (0 < n) & is_given(address, last) & are_components(&b[5..e], last),
-        e + 2,
-    )
+    let fine = (0 < n) & is_given(address, last) & are_components(&b[5..e], last);
+    fine.then_some(e + 2)
 }
 
-// Whether the cells are whole records without faults, with addresses from 1 to `last`.
+// Whether the cells are whole records without faults, with addresses from 1 to `last`. One walk for both would state more of its closure than it saves.
 pub fn are_records(b: &[u8], last: usize) -> bool
     requires { last ≤ 8388607 }
     ensures { result ≡ sound_records last b.now }
 {
-    let mut at = 0;
-    while at < b.len() {
-        let n = record_size(&b[at..], last);
-        if n == 0 {
+    let mut rest = b;
+    while !rest.is_empty() {
+        let Some(n) = record_size(rest, last) else {
             return false;
-        }
-        at += n;
+        };
+        rest = &rest[n..];
     }
     true
 }

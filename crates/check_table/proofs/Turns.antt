@@ -35,7 +35,7 @@ module _ (t : List ℕ) (n k from : ℕ) where
 
 -- each part by its own count
 module _ (t : List ℕ) {m₀ m₁ m₂ m₄ m₅ : ℕ} (e₀ : m₀ ≡ cell t 0) (e₁ : m₁ ≡ cell t 1) (e₂ : m₂ ≡ cell t 2) (e₄ : m₄ ≡ cell t 4) (e₅ : m₅ ≡ cell t 5) where
-  pub parts-by : {r₁ r₂ r₃ r₄ r₅ r₆ r₇ : Bool} → r₁ ≡ rest_zero t → r₂ ≡ passes (text_stays t m₄) m₄ 0 → r₃ ≡ passes (number_stays t m₅) m₅ 0 → r₄ ≡ passes (label_fits t) m₁ 0
+  pub parts_by : {r₁ r₂ r₃ r₄ r₅ r₆ r₇ : Bool} → r₁ ≡ rest_zero t → r₂ ≡ passes (text_stays t m₄) m₄ 0 → r₃ ≡ passes (number_stays t m₅) m₅ 0 → r₄ ≡ passes (label_fits t) m₁ 0
       → r₅ ≡ switches_fit t m₂ 0 0 → r₆ ≡ passes (instr_fits t) m₀ 0 → r₇ ≡ ends (cell t (4 + 4 * m₀) % 64) → (r₁ && r₂ && r₃ && r₄ && r₅ && r₆ && r₇) ≡ parts_fit t
   unfolding parts_fit
-  parts-by f₁ f₂ f₃ f₄ f₅ f₆ f₇ = rw (f₁, f₂, f₃, f₄, f₅, f₆, f₇, e₀, e₁, e₂, e₄, e₅)
+  parts_by f₁ f₂ f₃ f₄ f₅ f₆ f₇ = rw (f₁, f₂, f₃, f₄, f₅, f₆, f₇, e₀, e₁, e₂, e₄, e₅)

@@ -7,13 +7,14 @@ ghost use Rattle.layout.specs.Table.{good_table};
 ghost use Rattle.packed.specs.Packed.{table_of};
 ghost use Rattle.table.specs.Reads.{Place, switch_size};
 ghost use Rattle.check_parts.specs.Parts.{passes, label_fits, entry_fits};
-ghost use Rattle.check_table.specs.Checks.{Counted, counts_fit, rest_zero, text_new, text_stays, number_new, number_stays, switch_fits, switches_fit, parts_fit};
+ghost use Rattle.check_table.specs.Checks.{Counted, counts_fit, rest_zero, text_stays, number_stays, switch_fits, switches_fit, parts_fit};
 ghost use Rattle.language.specs.Limits as limit;
 
 use language::Machine;
 use layout::TablePlaces;
 
 // Whether there are instructions, and nothing is beyond the limits.
+#[tactic(auto, unfolding(crate::specs::Checks::counts_fit))]
 fn counts_fit(table: &[u32]) -> bool
     requires { limit.table ≤ length table.now }
     ensures { result ≡ counts_fit (table_of table.now) }
@@ -30,7 +31,8 @@ fn counts_fit(table: &[u32]) -> bool
         & (check_parts::read(table, TablePlaces::LAST_SPARE) == 0)
 }
 
-// "Unused cells zero".
+// "Unused cells zero". One call for each part: a helper of the count, the start, the size and the end takes as many lines.
+#[tactic(auto, unfolding(crate::specs::Checks::rest_zero))]
 fn rest_zero(table: &[u32]) -> bool
     requires { Counted table.now }
     ensures { result ≡ rest_zero (table_of table.now) }
@@ -63,91 +65,44 @@ fn rest_zero(table: &[u32]) -> bool
     )
 }
 
-// Whether text `i` differs from those behind it, up to `n`.
-fn text_new(table: &[u32], n: usize, i: usize) -> bool
-    requires { Place table.now (i + n) 512 }
-    ensures { result ≡ text_new (table_of table.now) n i }
-{
-    let mut j = i + 1;
-    while j < n {
-        if check_parts::texts_same(table, i, j) {
-            return false;
-        }
-        j += 1;
-    }
-    true
-}
-
+// Whether text `i` is well formed and differs from those behind it, up to `n`.
+// Apart from `number_stays`: each is one line of `all`, with a test of its own.
 fn text_stays(table: &[u32], n: usize, i: usize) -> bool
     requires { Place table.now (i + n) 512 }
     ensures { result ≡ text_stays (table_of table.now) n i }
 {
-    check_parts::text_fits(table, i) & text_new(table, n, i)
+    check_parts::text_fits(table, i) & (i + 1..n).all(|j| !check_parts::texts_same(table, i, j))
 }
 
 fn texts_fit(table: &[u32], n: usize) -> bool
     requires { Place table.now n 129 }
     ensures { result ≡ passes (text_stays (table_of table.now) n) n 0 }
 {
-    let mut i = 0;
-    while i < n {
-        if !text_stays(table, n, i) {
-            return false;
-        }
-        i += 1;
-    }
-    true
+    (0..n).all(|i| text_stays(table, n, i))
 }
 
-// Whether number `i` differs from those behind it, up to `n`.
-fn number_new(table: &[u32], n: usize, i: usize) -> bool
-    requires { Place table.now (i + n) 512 }
-    ensures { result ≡ number_new (table_of table.now) n i }
-{
-    let x = check_parts::read(table, TablePlaces::FIRST_NUMBER + i);
-    let mut j = i + 1;
-    while j < n {
-        if x == check_parts::read(table, TablePlaces::FIRST_NUMBER + j) {
-            return false;
-        }
-        j += 1;
-    }
-    true
-}
-
+// Whether number `i` is well formed and differs from those behind it, up to `n`.
 fn number_stays(table: &[u32], n: usize, i: usize) -> bool
     requires { Place table.now (i + n) 512 }
     ensures { result ≡ number_stays (table_of table.now) n i }
 {
-    check_parts::number_fits(table, i) & number_new(table, n, i)
+    let x = check_parts::read(table, TablePlaces::FIRST_NUMBER + i);
+    check_parts::number_fits(table, i)
+        & (i + 1..n).all(|j| x != check_parts::read(table, TablePlaces::FIRST_NUMBER + j))
 }
 
 fn numbers_fit(table: &[u32], n: usize) -> bool
     requires { Place table.now n 129 }
     ensures { result ≡ passes (number_stays (table_of table.now) n) n 0 }
 {
-    let mut i = 0;
-    while i < n {
-        if !number_stays(table, n, i) {
-            return false;
-        }
-        i += 1;
-    }
-    true
+    (0..n).all(|i| number_stays(table, n, i))
 }
 
 fn labels_fit(table: &[u32], n: usize) -> bool
     requires { Place table.now n 129 }
     ensures { result ≡ passes (label_fits (table_of table.now)) n 0 }
 {
-    let mut k = 0;
-    while k < n {
-        if !check_parts::label_fits(table, k) {
-            return false;
-        }
-        k += 1;
-    }
-    true
+    (0..n).all(|k| check_parts::label_fits(table, k))
 }
 
 // Whether the entries of a switch, from `from` up to `to`, are well formed.
@@ -155,14 +110,7 @@ fn entries_fit(table: &[u32], named: bool, from: usize, to: usize) -> bool
     requires { Place table.now to 65536 }
     ensures { result ≡ passes (entry_fits (table_of table.now) named) (to - from) from }
 {
-    let mut k = from;
-    while k < to {
-        if !check_parts::entry_fits(table, named, k) {
-            return false;
-        }
-        k += 1;
-    }
-    true
+    (from..to).all(|k| check_parts::entry_fits(table, named, k))
 }
 
 // How many entries switch `k` has.
@@ -174,6 +122,7 @@ fn switch_size(table: &[u32], k: usize) -> usize
 }
 
 // Whether switch `k` has entries, which begin at entry `from`.
+#[tactic(auto, unfolding(crate::specs::Checks::switch_fits))]
 fn switch_fits(table: &[u32], k: usize, from: usize) -> bool
     requires { Place table.now (256 * k + from) 65000 }
     ensures { result ≡ switch_fits (table_of table.now) k from }
@@ -188,18 +137,17 @@ fn switches_fit(table: &[u32], n: usize) -> bool
     requires { Place table.now n 33 }
     ensures { result ≡ switches_fit (table_of table.now) n 0 0 }
 {
-    let mut k = 0;
     let mut from = 0;
-    while k < n {
+    for k in 0..n {
         if !switch_fits(table, k, from) {
             return false;
         }
         from += switch_size(table, k);
-        k += 1;
     }
     from == check_parts::read(table, TablePlaces::ENTRY_COUNT)
 }
 
+#[tactic(auto, using(crate::proofs::Turns::parts_by))]
 fn parts_fit(table: &[u32]) -> bool
     requires { Counted table.now }
     ensures { result ≡ parts_fit (table_of table.now) }

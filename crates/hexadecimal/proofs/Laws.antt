@@ -1,14 +1,15 @@
 -- Digits and bytes as the code computes them: by computed tests, and one turn of each loop.
+use Rattle.std.specs.Prelude.{Some, None, not}
 use mathlib.Core.Path.{◌≡◌, refl, sym, ap, ◌∙◌, subst}
 use mathlib.Core.Bool.{Bool, true, false, cond, ◌&&◌, ◌||◌}
 use mathlib.Core.List.{List, [], ◌∷◌, ◌++◌}
 use Prim.Native.Nat.{ℕ, zero, suc, ◌+◌, ◌*◌, ◌-◌, ◌/◌, ◌%◌, ◌≤◌, ◌<◌}
 use native.Mathlib.Numerals.{add-one}
 use native.Mathlib.Omega.{arith}
-use lib.Dec.{T, eqb, ltb, eqb→eq, ltb→lt, leb-suc-suc, leb-zero}
+use lib.Dec.{T, eqb, leb, ltb, eqb→eq, ltb→lt, leb-suc-suc, leb-zero}
 use lib.ListN.{length, get_or, take, drop, set, length-take, length-drop}
-use lib.Seq.{set_split, take-suc, take-add, take-take, drop-cons, get_or-drop, take-length}
-use borrow.Author.Tests.{lt-ltb, le-ltb}
+use lib.Seq.{set_split, take-suc, take-add, take-take, drop-cons, get_or-drop}
+use borrow.Author.Tests.{lt-ltb, le-ltb, le-leb, lt-leb}
 use Rattle.lists.specs.ListLaws.{T-left, T-right, T-both, all_head, all_tail, total-append}
 use Rattle.lists.specs.Lists.{all, any, ahead}
 use Rattle.lists.specs.TableLaws.{below}
@@ -17,7 +18,7 @@ use Rattle.cells.proofs.Laws.{pasted-pasted, length-pasted, pasted-none, set-two
 use Rattle.cells.specs.Cells.{pasted}
 use Rattle.state_frames.specs.Hexadecimal.{digits, digit, digit_value, is_digit, two_digits, hexadecimal, bytes_in}
 use Rattle.state_frames.specs.Frames.{sum}
-use Rattle.hexadecimal.specs.Digits.{byte_of, digits_at, Got}
+use Rattle.hexadecimal.specs.Digits.{byte_of, told_digit, told_byte, digits_at, Got}
 
 -- ---- digits, by one computed test each way
 
@@ -34,32 +35,67 @@ digit_low n h = let k : n < 16 = omega arith in rw (lt-ltb n 10 h) at (digit-by 
 pub digit-high : (n : ℕ) → n < 16 → 10 ≤ n → 55 + n ≡ digit n
 digit-high n k h = rw (le-ltb n 10 h) at (digit-by n k)
 
-abbrev by_character : ℕ → ℕ
-by_character x = cond (ltb x 48) 16 (cond (ltb x 58) (x - 48) (cond (ltb x 65) 16 (cond (ltb x 71) (x - 55) 16)))
+pub and-false : (b : Bool) → b && false ≡ false
+and-false true = refl
+and-false false = refl
 
-value-by : (x : ℕ) → x < 256 → by_character x ≡ digit_value x
-unfolding digit_value
-value-by x h = eqb→eq (by_character x) (digit_value x) (below (λ k. eqb (by_character k) (digit_value k)) 256 tt x h)
+is_true : (b : Bool) → T b → b ≡ true
+is_true true h = refl
+is_true false h = absurd h
 
--- the number of a character, from the number n that it is
-module _ (x n : ℕ) (e : n ≡ x) (b : n < 256) where
-  by_n : by_character n ≡ digit_value x
-  by_n = value-by n b ∙ ap digit_value e
+is_false : (b : Bool) → T (not b) → b ≡ false
+is_false true h = absurd h
+is_false false h = refl
 
-  pub value-1 : n < 48 → 16 ≡ digit_value x
-  value-1 h = rw (lt-ltb n 48 h) at by_n
+-- the number of a character, by one computed test of all
+abbrev right_by : ℕ → Bool
+right_by x =
+    cond (leb 48 x && leb x 57) (is_digit x && eqb (x - 48) (digit_value x))
+    (cond (leb 65 x && leb x 70) (is_digit x && eqb (x - 65 + 10) (digit_value x))
+    (not (is_digit x)))
 
-  pub value-2 : 48 ≤ n → n < 58 → n - 48 ≡ digit_value x
-  value-2 h k = rw (le-ltb n 48 h, lt-ltb n 58 k) at by_n
+right : (x : ℕ) → x < 256 → T (right_by x)
+unfolding digit_value is_digit
+right x h = below right_by 256 tt x h
 
-  pub value-3 : 48 ≤ n → 58 ≤ n → n < 65 → 16 ≡ digit_value x
-  value-3 h k l = rw (le-ltb n 48 h, le-ltb n 58 k, lt-ltb n 65 l) at by_n
+told-of : (x n : ℕ) → T (is_digit x && eqb n (digit_value x)) → Some n ≡ told_digit x
+unfolding told_digit
+told-of x n h =
+    let d : is_digit x ≡ true = is_true (is_digit x) (T-left (is_digit x) (eqb n (digit_value x)) h) in
+    let e : n ≡ digit_value x = eqb→eq n (digit_value x) (T-right (is_digit x) (eqb n (digit_value x)) h) in
+    rw (d, e)
 
-  pub value-4 : 48 ≤ n → 58 ≤ n → 65 ≤ n → n < 71 → n - 55 ≡ digit_value x
-  value-4 h k l m = rw (le-ltb n 48 h, le-ltb n 58 k, le-ltb n 65 l, lt-ltb n 71 m) at by_n
+module _ (x : ℕ) (b : x < 256) where
+  pub value_low : 48 ≤ x → x ≤ 57 → Some (x - 48) ≡ told_digit x
+  value_low h k = told-of x (x - 48) (rw (le-leb 48 x h, le-leb x 57 k) at (right x b))
 
-  pub value-5 : 48 ≤ n → 58 ≤ n → 65 ≤ n → 71 ≤ n → 16 ≡ digit_value x
-  value-5 h k l m = rw (le-ltb n 48 h, le-ltb n 58 k, le-ltb n 65 l, le-ltb n 71 m) at by_n
+  pub value_high : 65 ≤ x → x ≤ 70 → Some (x - 65 + 10) ≡ told_digit x
+  value_high h k =
+      let z : leb x 57 ≡ false = lt-leb x 57 (omega (arith, h)) in
+      told-of x (x - 65 + 10) (rw (z, and-false (leb 48 x), le-leb 65 x h, le-leb x 70 k) at (right x b))
+
+  -- the test says nothing of any other
+  none-of : T (not (is_digit x)) → None ≡ told_digit x
+  unfolding told_digit
+  none-of h = let d : is_digit x ≡ false = is_false (is_digit x) h in rw d
+
+  pub value_below : x < 48 → None ≡ told_digit x
+  value_below h =
+      let z : leb 48 x ≡ false = lt-leb 48 x h in
+      let y : leb 65 x ≡ false = lt-leb 65 x (omega (arith, h)) in
+      none-of (rw (z, y) at (right x b))
+
+  pub value_between : 57 < x → x < 65 → None ≡ told_digit x
+  value_between h k =
+      let z : leb x 57 ≡ false = lt-leb x 57 h in
+      let y : leb 65 x ≡ false = lt-leb 65 x k in
+      none-of (rw (z, and-false (leb 48 x), y) at (right x b))
+
+  pub value_above : 70 < x → None ≡ told_digit x
+  value_above h =
+      let z : leb x 57 ≡ false = lt-leb x 57 (omega (arith, h)) in
+      let y : leb x 70 ≡ false = lt-leb x 70 h in
+      none-of (rw (z, and-false (leb 48 x), y, and-false (leb 65 x)) at (right x b))
 
 -- ---- two digits
 
@@ -76,10 +112,6 @@ pub is-digit-by : (x : ℕ) → is_digit x ≡ ltb (digit_value x) 16
 unfolding digit_value is_digit
 is-digit-by x = any-ahead (eqb x) digits
 
-pub and-false : (b : Bool) → b && false ≡ false
-and-false true = refl
-and-false false = refl
-
 pub and-true : (a b : Bool) → a && b ≡ true → a && (b && true) ≡ true
 and-true true true e = refl
 and-true true false e = e
@@ -95,12 +127,6 @@ pub set-one : (d : List ℕ) (at x : ℕ) → at < length d → set d at x ≡ p
 set-one d at x h = let e : at + 1 ≡ suc at = omega arith in rw e (set_split d at x h)
 
 module _ (x y : ℕ) where
-  pub no-first : 16 ≤ digit_value x → is_digit x && is_digit y ≡ false
-  no-first h = rw (is-digit-by x, le-ltb (digit_value x) 16 h)
-
-  pub no_second : 16 ≤ digit_value y → is_digit x && is_digit y ≡ false
-  no_second h = rw (is-digit-by y, le-ltb (digit_value y) 16 h) (and-false (is_digit x))
-
   pub two-digit : digit_value x < 16 → digit_value y < 16 → is_digit x && is_digit y ≡ true
   two-digit h k = rw (is-digit-by x, is-digit-by y, lt-ltb (digit_value x) 16 h, lt-ltb (digit_value y) 16 k)
 
@@ -137,16 +163,66 @@ module _ (x y : ℕ) where
       go true e = refl
       go false e = absurd (omega (arith, byte-no e))
 
--- the three ends of reading a byte, from the numbers of its digits
-module _ (x y u v : ℕ) (e : u ≡ digit_value x) (f : v ≡ digit_value y) where
-  pub byte-1 : 16 ≤ u → 256 ≡ byte_of x y
-  byte-1 h = byte-no x y (no-first x y (rw e at h))
+-- the three ends of reading a byte, from what is told of its digits
+told-none : (x : ℕ) → told_digit x ≡ None → is_digit x ≡ false
+unfolding told_digit
+told-none x e = go (is_digit x) e
+  where
+    go : (q : Bool) → cond q (Some (digit_value x)) None ≡ None → q ≡ false
+    go true e = cc
+    go false e = refl
 
-  pub byte-2 : 16 ≤ v → 256 ≡ byte_of x y
-  byte-2 h = byte-no x y (no_second x y (rw f at h))
+told-some : (x u : ℕ) → told_digit x ≡ Some u → (is_digit x ≡ true) × (u ≡ digit_value x)
+unfolding told_digit
+told-some x u e = go (is_digit x) e
+  where
+    go : (q : Bool) → cond q (Some (digit_value x)) None ≡ Some u → (q ≡ true) × (u ≡ digit_value x)
+    go true e = (refl, cc)
+    go false e = cc
 
-  pub byte-3 : u < 16 → v < 16 → 16 * u + v ≡ byte_of x y
-  byte-3 h k = rw (e, f) (byte-yes x y (two-digit x y (rw e at h) (rw f at k)))
+module _ (x y : ℕ) where
+  pub byte-1 : told_digit x ≡ None → None ≡ told_byte x y
+  unfolding told_byte
+  byte-1 e = rw (told-none x e)
+
+  pub byte-2 : told_digit y ≡ None → None ≡ told_byte x y
+  unfolding told_byte
+  byte-2 e = rw (told-none y e, and-false (is_digit x))
+
+  module _ (u v : ℕ) (e : told_digit x ≡ Some u) (f : told_digit y ≡ Some v) where
+    yes : is_digit x && is_digit y ≡ true
+    yes = rw ((told-some x u e).0, (told-some y v f).0) refl
+
+    pub byte-3 : Some (16 * u + v) ≡ told_byte x y
+    unfolding told_byte
+    byte-3 = rw (yes, (told-some x u e).1, (told-some y v f).1)
+
+  pub digit-most : (u : ℕ) → told_digit x ≡ Some u → u < 16
+  digit-most u e = let t = told-some x u e in rw t.1 (digit-below x y x (rw t.0 tt))
+
+  -- what a byte told says of the number of a byte
+  pub told-byte-none : told_byte x y ≡ None → 256 ≡ byte_of x y
+  unfolding told_byte
+  told-byte-none e = byte-no x y (go (is_digit x && is_digit y) e)
+    where
+      go : (q : Bool) → cond q (Some (16 * digit_value x + digit_value y)) None ≡ None → q ≡ false
+      go true e = cc
+      go false e = refl
+
+  pub told-under : byte_of x y < 256 → told_byte x y ≡ Some (byte_of x y)
+  unfolding told_byte
+  told-under h = let t = byte-under x y h in rw (t, byte-yes x y t)
+
+  pub told-byte-some : (b : ℕ) → told_byte x y ≡ Some b → (b ≡ byte_of x y) × (b < 256)
+  unfolding told_byte
+  told-byte-some b e =
+      let t = go (is_digit x && is_digit y) e in
+      let k : b ≡ byte_of x y = t.1 ∙ byte-yes x y t.0 in
+      (k, omega (arith, k, byte-below x y t.0))
+    where
+      go : (q : Bool) → cond q (Some (16 * digit_value x + digit_value y)) None ≡ Some b → (q ≡ true) × (b ≡ 16 * digit_value x + digit_value y)
+      go true e = (refl, cc)
+      go false e = cc
 
 -- ---- bytes written
 
@@ -186,11 +262,6 @@ written-turn d at s t u j x e h k f g =
     let w : at + 2 * j ≡ at + length a = omega (arith, la) in
     g ∙ ap (λ (z : List ℕ). pasted z (at + 2 * j) (two_digits x)) e ∙ ap (λ (n : ℕ). pasted (pasted d at a) n (two_digits x)) w
     ∙ pasted-pasted d at a (two_digits x) (omega (arith, la)) ∙ ap (pasted d at) (sym r)
-
-pub written_all : (d : List ℕ) (at : ℕ) (s t : List ℕ) (j : ℕ) → t ≡ written d at s j → j ≤ length s → length s ≤ j → t ≡ pasted d at (hexadecimal s)
-written_all d at s t j e h k =
-    let q : j ≡ length s = omega arith in
-    e ∙ ap (λ (n : ℕ). pasted d at (hexadecimal (take n s))) q ∙ ap (λ (z : List ℕ). pasted d at (hexadecimal z)) (take-length s)
 
 -- ---- bytes read
 
@@ -322,14 +393,6 @@ read_all d to text at n j t r h k =
     }
 
 -- ---- sums
-
-pub sum-none : (s : ℕ) (l : List ℕ) → s < 256 → s ≡ (s + sum (take 0 l)) % 256
-sum-none s l h = omega arith
-
-pub sum-all : (s t j : ℕ) (l : List ℕ) → t ≡ (s + sum (take j l)) % 256 → j ≤ length l → length l ≤ j → t ≡ (s + sum l) % 256
-sum-all s t j l e h k =
-    let q : j ≡ length l = omega arith in
-    e ∙ ap (λ (n : ℕ). (s + sum (take n l)) % 256) q ∙ ap (λ (m : List ℕ). (s + sum m) % 256) (take-length l)
 
 pub sum-turn : (s t j x : ℕ) (l : List ℕ) → t ≡ (s + sum (take j l)) % 256 → j < length l → x ≡ get_or l j 0 → (t + x) % 256 ≡ (s + sum (take (j + 1) l)) % 256
 sum-turn s t j x l e h f =

@@ -1,5 +1,5 @@
 -- Two digits as a byte, and a run of digits as bytes.
-use Rattle.std.specs.Prelude.{◌≡◌, Bool, cond, ◌&&◌, List, ℕ, ◌+◌, ◌*◌, ◌≤◌, T, take, drop}
+use Rattle.std.specs.Prelude.{◌≡◌, Option, Some, None, Bool, cond, ◌&&◌, List, ℕ, ◌+◌, ◌*◌, ◌≤◌, T, take, drop}
 use Rattle.lists.specs.Lists.{all}
 use Rattle.cells.specs.Cells.{pasted}
 use Rattle.state_frames.specs.Hexadecimal.{digit_value, is_digit, bytes_in}
@@ -7,6 +7,13 @@ use Rattle.state_frames.specs.Hexadecimal.{digit_value, is_digit, bytes_in}
 -- the byte of two digits, and 256 where one is none
 unfoldable pub byte_of : ℕ → ℕ → ℕ
 byte_of x y = cond (is_digit x && is_digit y) (16 * digit_value x + digit_value y) 256
+
+-- the number of a digit, and the byte of two, where they are digits
+unfoldable pub told_digit : ℕ → Option ℕ
+told_digit x = cond (is_digit x) (Some (digit_value x)) None
+
+unfoldable pub told_byte : ℕ → ℕ → Option ℕ
+told_byte x y = cond (is_digit x && is_digit y) (Some (16 * digit_value x + digit_value y)) None
 
 -- there is room for n bytes from `to` on, and there are 2 n cells from `at` on
 pub record Gettable (room to long at n : ℕ) : Type 0 where

@@ -3,9 +3,9 @@
 
 ghost use Rattle.std.specs.Prelude.{◌≡◌, ◌+◌, ◌*◌, ◌%◌, ◌≤◌, ◌<◌, length, get_or};
 ghost use Rattle.cells.specs.Cells.{pasted, Number, Writable};
-ghost use Rattle.state_frames.specs.Hexadecimal.{digit, digit_value, two_digits, hexadecimal};
+ghost use Rattle.state_frames.specs.Hexadecimal.{digit, two_digits, hexadecimal};
 ghost use Rattle.state_frames.specs.Frames.{sum};
-ghost use Rattle.hexadecimal.specs.Digits.{byte_of, Gettable, Got};
+ghost use Rattle.hexadecimal.specs.Digits.{told_digit, told_byte, Gettable, Got};
 
 // The digit of a number below 16.
 fn digit_of(n: usize) -> u8
@@ -18,24 +18,15 @@ fn digit_of(n: usize) -> u8
     (55 + n) as u8
 }
 
-// The number of the digit `b`; 16 where it is none.
-fn value_of(b: u8) -> usize
-    ensures { Number (digit_value b) 17 result }
+// The number of the digit `b`.
+fn value_of(b: u8) -> Option<u8>
+    ensures { result ≡ told_digit b }
 {
-    let n = cells::wide(b);
-    if n < 48 {
-        return 16;
+    match b {
+        b'0'..=b'9' => Some(b - b'0'),
+        b'A'..=b'F' => Some(b - b'A' + 10),
+        _ => None,
     }
-    if n < 58 {
-        return n - 48;
-    }
-    if n < 65 {
-        return 16;
-    }
-    if n < 71 {
-        return n - 55;
-    }
-    16
 }
 
 // Writes the two digits of the byte `b` into the cells from `at` on.
@@ -52,42 +43,31 @@ pub fn put_bytes(dst: &mut [u8], at: usize, src: &[u8])
     requires { at + 2 * length src.now ≤ length dst.old }
     ensures { dst.new ≡ pasted dst.old at (hexadecimal src.now) }
 {
-    let mut j = 0;
-    while j < src.len() {
-        put_byte(dst, at + 2 * j, cells::wide(src[j]));
-        j += 1;
+    for (j, b) in src.iter().enumerate() {
+        put_byte(dst, at + 2 * j, usize::from(*b));
     }
 }
 
-// The byte of the two digits at `at`; 256 where one of the two is no digit.
-pub fn byte_at(text: &[u8], at: usize) -> usize
+// The byte of the two digits at `at`, where both are digits.
+pub fn byte_at(text: &[u8], at: usize) -> Option<u8>
     requires { at + 2 ≤ length text.now }
-    ensures { Number (byte_of (get_or text.now at 0) (get_or text.now (1 + at) 0)) 257 result }
+    ensures { result ≡ told_byte (get_or text.now at 0) (get_or text.now (1 + at) 0) }
 {
-    let high = value_of(text[at]);
-    let low = value_of(text[1 + at]);
-    if 16 <= high {
-        return 256;
-    }
-    if 16 <= low {
-        return 256;
-    }
-    16 * high + low
+    let high = value_of(text[at])?;
+    let low = value_of(text[1 + at])?;
+    Some(16 * high + low)
 }
 
-// Copies the `n` bytes of the digits from `at` on into `dst` from `to` on; false where they are not all digits.
+// Copies the `n` bytes of the digits from `at` on into `dst` from `to` on, and tells whether they are all digits; there is no value to give besides.
 pub fn get_bytes(dst: &mut [u8], to: usize, text: &[u8], at: usize, n: usize) -> bool
     requires { Gettable (length dst.old) to (length text.now) at n }
     ensures { Got dst.old to text.now at n result dst.new }
 {
-    let mut j = 0;
-    while j < n {
-        let b = byte_at(text, at + 2 * j);
-        if 256 <= b {
+    for j in 0..n {
+        let Some(b) = byte_at(text, at + 2 * j) else {
             return false;
-        }
-        dst[to + j] = b as u8;
-        j += 1;
+        };
+        dst[to + j] = b;
     }
     true
 }
@@ -98,10 +78,8 @@ pub fn sum_from(s: usize, src: &[u8]) -> usize
     ensures { Number ((s + sum src.now) % 256) 256 result }
 {
     let mut t = s;
-    let mut j = 0;
-    while j < src.len() {
-        t = (t + cells::wide(src[j])) % 256;
-        j += 1;
+    for b in src {
+        t = (t + usize::from(*b)) % 256;
     }
     t
 }

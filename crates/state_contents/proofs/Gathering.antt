@@ -1,4 +1,5 @@
 -- The loop over the frames of a text: the first line of a sound text is that of its first frame, and what the frames so far add stands in the row.
+use Rattle.std.specs.Prelude.{Some, None}
 use mathlib.Core.Path.{◌≡◌, refl, sym, ap, ◌∙◌, subst}
 use mathlib.Core.Bool.{Bool, true, false, cond, ◌&&◌}
 use mathlib.Core.List.{List, [], ◌∷◌, ◌++◌, map, append_assoc, append-nil}
@@ -21,8 +22,8 @@ use Rattle.state_frames.proofs.HexadecimalLaws.{digit-back, digit-is, bytes_belo
 use Rattle.state_frames.specs.Frames.{Frame, check, front_bytes, frame_bytes, frame_line, frame_in, right_length, right_sum, sound_line, sound_text, frames_in}
 use Rattle.state_frames.proofs.FrameLaws.{frame-of-bytes, line-of-frame}
 use Rattle.state_frames.specs.Saved.{is_at, contents_at}
-use Rattle.hexadecimal.specs.Digits.{byte_of, digits_at, Got}
-use Rattle.hexadecimal.proofs.Laws.{byte-yes, two-digit, and-false, length-hexadecimal, hexadecimal-append}
+use Rattle.hexadecimal.specs.Digits.{byte_of, told_byte, digits_at, Got}
+use Rattle.hexadecimal.proofs.Laws.{byte-yes, two-digit, told-byte-none, told-under, and-false, length-hexadecimal, hexadecimal-append}
 use Rattle.state_contents.specs.Contents.{LineAt, added, Added, Gathered}
 
 -- ---- a byte and bytes in hexadecimal
@@ -106,6 +107,23 @@ module _ {t : List ℕ} {at : ℕ} {f : Frame} (l : LineAt t at f) where
       let low = read-there 6 (n % 256) bytes-there.1.1.1.0 refl refl in
       rw (high, low) (omega arith)
 
+  pub high-told : told_byte (get_or t (at + 4) 0) (get_or t (1 + (at + 4)) 0) ≡ Some (byte_of (get_or t (at + 4) 0) (get_or t (1 + (at + 4)) 0))
+  unfolding hexadecimal line frame_bytes
+  high-told = told-under _ _ (omega (arith, read-there 4 (length c / 256) bytes-there.1.1.0 refl refl, bytes-there.1.1.0))
+
+  pub low-told : told_byte (get_or t (at + 6) 0) (get_or t (1 + (at + 6)) 0) ≡ Some (byte_of (get_or t (at + 6) 0) (get_or t (1 + (at + 6)) 0))
+  unfolding hexadecimal line frame_bytes
+  low-told = told-under _ _ (omega (arith, read-there 6 (length c % 256) bytes-there.1.1.1.0 refl refl, bytes-there.1.1.1.0))
+
+  -- its kind and its index are told
+  pub kind-told : told_byte (get_or t at 0) (get_or t (1 + at) 0) ≡ None → ⊥
+  unfolding frame_bytes
+  kind-told e = omega (arith, told-byte-none _ _ e, kind-there, bytes-there.0)
+
+  pub index-told : told_byte (get_or t (at + 2) 0) (get_or t (1 + (at + 2)) 0) ≡ None → ⊥
+  unfolding frame_bytes
+  index-told e = omega (arith, told-byte-none _ _ e, index-there, bytes-there.1.0)
+
   contents_below : Below 256 c
   unfolding frame_bytes
   contents_below = each_left (λ x. x < 256) c (check (front_bytes f) ∷ []) bytes-there.1.1.1.1
@@ -139,6 +157,16 @@ passed k i n o t at size h = record {
   count = λ f l e. rw (nothing k i f (h f l)) (omega arith);
   bytes = λ f l e w. rw (nothing k i f (h f l)) (pasted-none o n);
 }
+
+-- where two of its digits are none, no frame is there
+missing : (k i n : ℕ) (o : List ℕ) (t : List ℕ) (at size : ℕ) → ((f : Frame) → LineAt t at f → ⊥) → Added t at size k i n o n o
+missing k i n o t at size h = record { count = λ f l e. absurd (h f l); bytes = λ f l e w. absurd (h f l) }
+
+pub no-kind : (t : List ℕ) (at size k i n : ℕ) (o : List ℕ) → told_byte (get_or t at 0) (get_or t (1 + at) 0) ≡ None → Added t at size k i n o n o
+no-kind t at size k i n o e = missing k i n o t at size (λ f l. kind-told l e)
+
+pub no-index : (t : List ℕ) (at size k i n : ℕ) (o : List ℕ) → told_byte (get_or t (at + 2) 0) (get_or t (1 + (at + 2)) 0) ≡ None → Added t at size k i n o n o
+no-index t at size k i n o e = missing k i n o t at size (λ f l. index-told l e)
 
 module _ (t : List ℕ) (at size k i n : ℕ) (o : List ℕ) (a : ℕ) (ea : a ≡ byte_of (get_or t at 0) (get_or t (1 + at) 0)) where
   pub other-kind : (a ≡ k → ⊥) → Added t at size k i n o n o

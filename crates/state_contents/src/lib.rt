@@ -10,13 +10,7 @@ ghost use Rattle.state_contents.specs.Contents.{Gatherable, Added, Gathered, Sta
 use language::Machine;
 use layout::StatePlaces;
 use state_lines::Kinds;
-
-// Where a string stands in a row.
-#[derive(Clone, Copy)]
-struct Span {
-    from: usize,
-    to: usize,
-}
+use std::ops::Range;
 
 // Copies the contents of the frame that begins at `at`, `size` bytes, behind `n` bytes of the row if it is of this kind and index and there is room, and tells how many bytes there are then.
 fn gather(
@@ -31,10 +25,16 @@ fn gather(
     requires { Gatherable (length text.now) at size n }
     ensures { Added text.now at size kind index n row.old result row.new }
 {
-    if hexadecimal::byte_at(text, at) != kind {
+    let Some(its_kind) = hexadecimal::byte_at(text, at) else {
+        return n;
+    };
+    if usize::from(its_kind) != kind {
         return n;
     }
-    if hexadecimal::byte_at(text, at + 2) != index {
+    let Some(its_index) = hexadecimal::byte_at(text, at + 2) else {
+        return n;
+    };
+    if usize::from(its_index) != index {
         return n;
     }
     if row.len() < n + size {
@@ -44,7 +44,8 @@ fn gather(
     n + size
 }
 
-// The contents of the frames of a kind and an index, end to end: how many bytes they are, and the bytes if the row has room.
+// The contents of the frames of a kind and an index, end to end: how many bytes they are, and the bytes if the row has room. Each line tells how
+// long it is, so no method of std walks so.
 fn contents(text: &[u8], kind: usize, index: usize, row: &mut [u8]) -> usize
     requires { T (sound_text text.now) }
     ensures { Gathered (contents_at kind index (frames_in text.now)) result row.new }
@@ -52,7 +53,9 @@ fn contents(text: &[u8], kind: usize, index: usize, row: &mut [u8]) -> usize
     let mut n = 0;
     let mut at = 0;
     while at < text.len() {
-        let size = 256 * hexadecimal::byte_at(text, at + 4) + hexadecimal::byte_at(text, at + 6);
+        let high = hexadecimal::byte_at(text, at + 4).unwrap();
+        let low = hexadecimal::byte_at(text, at + 6).unwrap();
+        let size = 256 * usize::from(high) + usize::from(low);
         n = gather(text, at, size, kind, index, row, n);
         at += state_lines::line_length(size);
     }
@@ -60,52 +63,47 @@ fn contents(text: &[u8], kind: usize, index: usize, row: &mut [u8]) -> usize
 }
 
 // A string that is the whole contents.
-fn whole(text: &[u8], kind: usize, index: usize, row: &mut [u8]) -> Span
+fn whole(text: &[u8], kind: usize, index: usize, row: &mut [u8]) -> Range<usize>
     requires { T (sound_text text.now) }
-    ensures { Standing (length (contents_at kind index (frames_in text.now)) ≤ length row.new) (contents_at kind index (frames_in text.now)) row.new result.from result.to }
+    ensures { Standing (length (contents_at kind index (frames_in text.now)) ≤ length row.new) (contents_at kind index (frames_in text.now)) row.new result.start result.end }
 {
     let n = contents(text, kind, index, row);
     if row.len() < n {
-        return Span { from: 0, to: 0 };
+        return 0..0;
     }
-    Span { from: 0, to: n }
+    0..n
 }
 
-// The records of a file before its pointer, or those after it: behind the two bytes that tell how many bytes come before it.
-fn half(text: &[u8], index: usize, after: bool, row: &mut [u8]) -> Span
+// The records of a file before its pointer, or those after it: behind the two bytes that tell how many bytes come before it. The definition takes a
+// Bool for `after`, so an enum would add a mapping.
+fn half(text: &[u8], index: usize, after: bool, row: &mut [u8]) -> Range<usize>
     requires { T (sound_text text.now) }
-    ensures { Standing (length (contents_at file index (frames_in text.now)) ≤ length row.new) (half_of after (contents_at file index (frames_in text.now))) row.new result.from result.to }
+    ensures { Standing (length (contents_at file index (frames_in text.now)) ≤ length row.new) (half_of after (contents_at file index (frames_in text.now))) row.new result.start result.end }
 {
     let n = contents(text, Kinds::FILE, index, row);
     if row.len() < n {
-        return Span { from: 0, to: 0 };
+        return 0..0;
     }
     if n < 2 {
-        return Span { from: 0, to: 0 };
+        return 0..0;
     }
     let middle = 2 + cells::two_at(row, 0);
     if after {
         if n < middle {
-            return Span { from: n, to: n };
+            return n..n;
         }
-        return Span {
-            from: middle,
-            to: n,
-        };
+        return middle..n;
     }
     if n < middle {
-        return Span { from: 2, to: n };
+        return 2..n;
     }
-    Span {
-        from: 2,
-        to: middle,
-    }
+    2..middle
 }
 
 // String `j` of a state.
-fn string(text: &[u8], j: usize, row: &mut [u8]) -> Span
+fn string(text: &[u8], j: usize, row: &mut [u8]) -> Range<usize>
     requires { Findable text.now j (length row.old) }
-    ensures { Standing (Fitting text.now) (get_or (strings_of text.now) j []) row.new result.from result.to }
+    ensures { Standing (Fitting text.now) (get_or (strings_of text.now) j []) row.new result.start result.end }
 {
     if j < StatePlaces::FIRST_FILE {
         return whole(text, Kinds::EXPRESSION, j + 1, row);
@@ -140,13 +138,9 @@ fn lay_strings(text: &[u8], m: &mut [u8], row: &mut [u8])
     ensures { StringsLaid (strings_of text.now) m.old m.new }
 {
     let mut at = StatePlaces::FIRST_BYTE;
-    let mut j = 0;
-    while j < StatePlaces::STRINGS_COUNT {
+    for j in 0..StatePlaces::STRINGS_COUNT {
         let s = string(text, j, row);
-        let from = s.from;
-        let to = s.to;
-        at = put_string(m, j, at, &row[from..to]);
-        j += 1;
+        at = put_string(m, j, at, &row[s.start..s.end]);
     }
 }
 

@@ -1,4 +1,5 @@
 -- A line by its digits: its last byte, its bytes, their sum, and the length that it says.
+use Rattle.std.specs.Prelude.{Some, None}
 use mathlib.Core.Path.{◌≡◌, refl, sym, ap, ◌∙◌}
 use mathlib.Core.Bool.{Bool, true, false, cond, ◌&&◌}
 use mathlib.Core.List.{List, [], ◌∷◌, ◌++◌}
@@ -9,14 +10,14 @@ use lib.ListN.{length, get_or, take, length-take}
 use lib.Seq.{get_or-take}
 use borrow.Author.Tests.{eq-eqb, ne_eqb}
 use Rattle.lists.specs.ListLaws.{T-both, all-at, total-append}
-use Rattle.lists.specs.Lists.{all, total}
+use Rattle.lists.specs.Lists.{all}
 use Rattle.layout.proofs.CellLaws.{twice}
 use Rattle.layout.specs.Cells.{cell}
 use Rattle.hexadecimal.specs.Below.Hexadecimal.{digit_value, is_digit, is_line, bytes_in}
 use Rattle.hexadecimal.specs.Below.Frames.{sum, right_length, right_sum, sound_line}
-use Rattle.hexadecimal.specs.Digits.{byte_of, digits_at}
+use Rattle.hexadecimal.specs.Digits.{byte_of, told_byte, digits_at}
 use Rattle.hexadecimal.proofs.Laws.{byte-yes, byte-under, byte-over, digits-next, length_digits, all_two, bytes-two, digits-stop, and-true, and-false}
-use Rattle.state_lines.specs.Sums.{digits_sum}
+use Rattle.state_lines.specs.Sums.{digits_sum, told_sum}
 
 and_assoc : (a b c : Bool) → a && b && c ≡ a && (b && c)
 and_assoc true b c = refl
@@ -83,6 +84,40 @@ module _ (l : List ℕ) (n j s : ℕ) (r : Summed l j s) (there : 2 * n ≤ leng
       ap (λ (m : ℕ). is_digit (get_or l m 0) && is_digit (get_or l (1 + m) 0)) z ∙ byte-over u v (rw (← e) h) in
       let d : all is_digit (digits_at l 0 n) ≡ false = digits-stop l 0 n j more k no in
       rw d
+
+-- the sum, where it is told
+module _ (l : List ℕ) (n : ℕ) where
+  pub none_by : 256 ≡ digits_sum l n → None ≡ told_sum l n
+  unfolding digits_sum told_sum
+  none_by e = go (all is_digit (digits_at l 0 n)) e
+    where
+      go : (b : Bool) → 256 ≡ cond b (sum (bytes_in (digits_at l 0 n)) % 256) 256 → None ≡ cond b (Some (sum (bytes_in (digits_at l 0 n)) % 256)) None
+      go true e = absurd (omega (arith, e))
+      go false e = refl
+
+  pub some_by : (s : ℕ) → s < 256 → s ≡ digits_sum l n → Some s ≡ told_sum l n
+  unfolding digits_sum told_sum
+  some_by s h e = go (all is_digit (digits_at l 0 n)) e
+    where
+      go : (b : Bool) → s ≡ cond b (sum (bytes_in (digits_at l 0 n)) % 256) 256 → Some s ≡ cond b (Some (sum (bytes_in (digits_at l 0 n)) % 256)) None
+      go true e = ap (λ (k : ℕ). Some k) e
+      go false e = absurd (omega (arith, e, h))
+
+  pub told_none : told_sum l n ≡ None → 256 ≡ digits_sum l n
+  unfolding digits_sum told_sum
+  told_none e = go (all is_digit (digits_at l 0 n)) e
+    where
+      go : (b : Bool) → cond b (Some (sum (bytes_in (digits_at l 0 n)) % 256)) None ≡ None → 256 ≡ cond b (sum (bytes_in (digits_at l 0 n)) % 256) 256
+      go true e = cc
+      go false e = refl
+
+  pub told_some : (s : ℕ) → told_sum l n ≡ Some s → s ≡ digits_sum l n
+  unfolding digits_sum told_sum
+  told_some s e = go (all is_digit (digits_at l 0 n)) e
+    where
+      go : (b : Bool) → cond b (Some (sum (bytes_in (digits_at l 0 n)) % 256)) None ≡ Some s → s ≡ cond b (sum (bytes_in (digits_at l 0 n)) % 256) 256
+      go true e = cc
+      go false e = cc
 
 -- ---- a line of 2 k + 1 bytes
 
@@ -185,6 +220,16 @@ module _ (l : List ℕ) (k : ℕ) (h : length l ≡ 2 * k + 1) where
       let x : T (is_digit (get_or D i 0)) = all-at is_digit D t i 0 (omega arith) in
       let y : T (is_digit (get_or D j 0)) = all-at is_digit D t j 0 (omega arith) in
       is_true (is_digit (get_or l i 0) && is_digit (get_or l j 0)) (T-both (is_digit (get_or l i 0)) (is_digit (get_or l j 0)) (rw (get_or-take (2 * k) l i 0 a) at x) (rw (get_or-take (2 * k) l j 0 b) at y))
+
+  -- the two bytes of the length are there
+  pub told_two : told_sum l k ≡ Some 0 → 5 ≤ k → (i : ℕ) → i ≤ 6 → told_byte (get_or l i 0) (get_or l (1 + i) 0) ≡ Some (byte_of (get_or l i 0) (get_or l (1 + i) 0))
+  unfolding told_sum told_byte
+  told_two e five i h = go (all is_digit D) refl e
+    where
+      go : (b : Bool) → all is_digit D ≡ b → cond b (Some (sum (bytes_in D) % 256)) None ≡ Some 0
+          → cond (is_digit (get_or l i 0) && is_digit (get_or l (1 + i) 0)) (Some (16 * digit_value (get_or l i 0) + digit_value (get_or l (1 + i) 0))) None ≡ Some (byte_of (get_or l i 0) (get_or l (1 + i) 0))
+      go false d q = cc
+      go true d q = let t = both i (1 + i) (omega arith) (omega arith) d in rw (t, byte-yes (get_or l i 0) (get_or l (1 + i) 0) t)
 
   sound : is_line l ≡ true → right_sum B ≡ true → sound_line l ≡ right_length B
   unfolding sound_line

@@ -1,49 +1,32 @@
 -- The loop over a text from line to line.
 use mathlib.Core.Path.{◌≡◌, refl, ap, sym, ◌∙◌}
-use mathlib.Core.Bool.{Bool, true, false, ◌&&◌}
-use mathlib.Core.List.{List, []}
-use Prim.Native.Nat.{ℕ, ◌-◌, ◌≤◌, ◌<◌}
+use mathlib.Core.Bool.{true, false, ◌&&◌}
+use mathlib.Core.List.{List, [], ◌∷◌}
+use Prim.Native.Nat.{ℕ, ◌<◌}
 use native.Mathlib.Omega.{arith}
-use lib.ListN.{length, take, drop, length-drop, drop_of_length-le}
-use lib.Seq.{drop-drop}
+use lib.ListN.{length, take, drop}
 use Rattle.lists.specs.Lists.{all}
 use Rattle.text_lines.specs.LineLaws.{lines-first}
 use Rattle.text_lines.specs.Lines.{lines, line_length, LineEnd}
 use Rattle.hexadecimal.specs.Below.Frames.{sound_line, sound_text}
 
--- ---- from line to line: those before `at` are sound
+-- ---- from line to line: what is left decides
 
 sound-first : (s : List ℕ) → 0 < length s → sound_text s ≡ sound_line (take (line_length s) s) && sound_text (drop (line_length s) s)
 unfolding sound_text
 sound-first s h = ap (all sound_line) (lines-first s h)
 
-pub record Sounding (s : List ℕ) (at : ℕ) : Type 0 where
-  pub within : at ≤ length s
-  pub is : sound_text (drop at s) ≡ sound_text s
+module _ {s line others : List ℕ} {r : ℕ} (h : 0 < length s) (l : LineEnd s 0 r) (f : line ≡ take r s) (b : others ≡ drop r s) where
+  text_is : sound_text s ≡ sound_line line && sound_text others
+  text_is = let e : r ≡ line_length s = omega (arith, l.is) in sound-first s h ∙ rw (f, b, e)
 
-pub sounding-none : (s : List ℕ) → Sounding s 0
-sounding-none s = record { within = omega arith; is = refl }
+  pub sounding-stop : sound_line line ≡ false → false ≡ sound_text s
+  sounding-stop e = sym (text_is ∙ rw e)
 
-module _ {s : List ℕ} {at r : ℕ} (u : Sounding s at) (h : at < length s) (l : LineEnd s at r) {x : List ℕ} (xe : x ≡ take (r - at) (drop at s)) where
-  abbrev n : ℕ
-  n = line_length (drop at s)
+  pub sounding-next : sound_line line ≡ true → sound_text s ≡ sound_text others
+  sounding-next e = text_is ∙ rw e
 
-  line_is : x ≡ take n (drop at s)
-  line_is = let e : r - at ≡ n = omega (arith, l.is) in xe ∙ ap (λ (k : ℕ). take k (drop at s)) e
-
-  text_is : (b : Bool) → sound_line x ≡ b → sound_text s ≡ b && sound_text (drop r s)
-  text_is b e =
-      let d : drop n (drop at s) ≡ drop r s = drop-drop n at s ∙ ap (λ (k : ℕ). drop k s) (sym l.is) in
-      sym u.is ∙ sound-first (drop at s) (simp length-drop (omega arith)) ∙ rw (← line_is, e, d)
-
-  pub sounding-stop : sound_line x ≡ false → false ≡ sound_text s
-  sounding-stop e = sym (text_is false e)
-
-  pub sounding-next : sound_line x ≡ true → Sounding s r
-  sounding-next e = record { within = l.within; is = sym (text_is true e) }
-
-pub sounding-all : {s : List ℕ} {at : ℕ} → Sounding s at → length s ≤ at → true ≡ sound_text s
+pub sounding-all : (s : List ℕ) → length s ≡ 0 → true ≡ sound_text s
 unfolding sound_text lines
-sounding-all {s} {at} u h =
-    let none : drop at s ≡ [] = drop_of_length-le s h in
-    ap (λ (t : List ℕ). sound_text t) (sym none) ∙ u.is
+sounding-all [] h = refl
+sounding-all (x ∷ s) h = absurd (omega (arith, h))

@@ -2,10 +2,10 @@
 #![tactic(auto)]
 
 ghost use Rattle.std.specs.Prelude.{◌≡◌, [], ◌∷◌, ◌++◌, ◌+◌, ◌*◌, ◌-◌, ◌/◌, ◌%◌, ◌≤◌, ◌<◌, length};
-ghost use Rattle.cells.specs.Cells.{pasted, Number};
+ghost use Rattle.cells.specs.Cells.{pasted};
 ghost use Rattle.hexadecimal.specs.Below.Hexadecimal.{two_digits, hexadecimal};
 ghost use Rattle.hexadecimal.specs.Below.Frames.{framed, frame_line, sound_line, sound_text};
-ghost use Rattle.state_lines.specs.Sums.{digits_sum};
+ghost use Rattle.state_lines.specs.Sums.{told_sum};
 ghost use Rattle.state_lines.specs.Writing.{FrontRoom, FrameRoom, EndRoom, LengthsRoom, FileRoom};
 ghost use Rattle.hexadecimal.specs.Below.Saved.{file_contents};
 
@@ -96,22 +96,17 @@ pub fn put_file(dst: &mut [u8], at: usize, index: usize, before: &[u8], after: &
     put_end(dst, at + (8 + 2 * n), all);
 }
 
-// The sum modulo 256 of the first `n` bytes in hexadecimal; 256 where these are not all digits.
-fn sum_digits(line: &[u8], n: usize) -> usize
+// The sum modulo 256 of the first `n` bytes in hexadecimal, where these are all digits.
+fn sum_digits(line: &[u8], n: usize) -> Option<usize>
     requires { 2 * n ≤ length line.now }
-    ensures { Number (digits_sum line.now n) 257 result }
+    ensures { result ≡ told_sum line.now n }
 {
     let mut s = 0;
-    let mut j = 0;
-    while j < n {
-        let b = hexadecimal::byte_at(line, 2 * j);
-        if 256 <= b {
-            return 256;
-        }
-        s = (s + b) % 256;
-        j += 1;
+    for j in 0..n {
+        let b = hexadecimal::byte_at(line, 2 * j)?;
+        s = (s + usize::from(b)) % 256;
     }
-    s
+    Some(s)
 }
 
 // Whether the line, with its LF, is hexadecimal with its length and sum right.
@@ -123,33 +118,34 @@ fn is_sound(line: &[u8]) -> bool
     if n % 2 == 0 {
         return false;
     }
-    let last = cells::wide(line[2 * k]);
-    if last != 10 {
+    if line[2 * k] != b'\n' {
         return false;
     }
     if k < 5 {
         return false;
     }
-    let s = sum_digits(line, k);
-    if s != 0 {
+    let Some(sum) = sum_digits(line, k) else {
+        return false;
+    };
+    if sum != 0 {
         return false;
     }
-    let high = hexadecimal::byte_at(line, 4);
-    let low = hexadecimal::byte_at(line, 6);
-    k == 5 + (256 * high + low)
+    let high = hexadecimal::byte_at(line, 4).unwrap();
+    let low = hexadecimal::byte_at(line, 6).unwrap();
+    k == 5 + (256 * usize::from(high) + usize::from(low))
 }
 
 // Question 68: whether every line is hexadecimal with its length and sum right.
 pub fn is_sound_text(text: &[u8]) -> bool
     ensures { result ≡ sound_text text.now }
 {
-    let mut at = 0;
-    while at < text.len() {
-        let end = text_lines::line_end(text, at);
-        if !is_sound(&text[at..end]) {
+    let mut rest = text;
+    while !rest.is_empty() {
+        let (line, others) = rest.split_at(text_lines::line_end(rest, 0));
+        if !is_sound(line) {
             return false;
         }
-        at = end;
+        rest = others;
     }
     true
 }

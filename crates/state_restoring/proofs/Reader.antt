@@ -6,8 +6,8 @@ use mathlib.Core.List.{List, [], ◌∷◌, ◌++◌}
 use Prim.Native.Nat.{ℕ, ◌+◌, ◌≤◌, ◌<◌}
 use native.Mathlib.Omega.{arith}
 use lib.Dec.{T, le→leb}
-use lib.ListN.{length, take, drop, replicate, length-replicate}
-use lib.Seq.{take_all, take_at}
+use lib.ListN.{length, drop, replicate, length-replicate}
+use lib.Seq.{take_all}
 use borrow.Author.Tests.{le-leb, lt-leb}
 use Rattle.cells.specs.Cells.{pasted}
 use Rattle.check_calls.specs.Asked.{first_no}
@@ -33,18 +33,9 @@ use Rattle.state_frames.proofs.KeepingLaws.{ReadYes, read-good, read-text, saved
 use Rattle.state_frames.proofs.LengthLaws.{saved-most}
 use Rattle.state_frames.specs.MemoryFrames.{SavedAs, Saveable}
 use Rattle.state_frames.specs.Saved.{saved, restored, well_framed}
-use Rattle.state_saving.specs.Saving.{longest, Put}
+use Rattle.state_saving.specs.Saving.{longest}
 use Rattle.state_restoring.specs.Restoring.{Totalled, Restorable, Restored}
 use Rattle.state_restoring.proofs.Totals.{failed, memory-good, cells-back}
-
--- ---- a text that was written
-
-module _ {t o n : List ℕ} {r : ℕ} (h : Put t r o n) where
-  pub written-text : take r n ≡ t
-  written-text = ap (take r) h.row ∙ take_at t (drop (length t) o) r (sym h.count)
-
-  pub written-length : r ≡ length (take r n)
-  written-length = h.count ∙ ap length (sym written-text)
 
 -- ---- question 69
 

@@ -40,7 +40,7 @@ fn is_saved(state: &[u8], text: &[u8]) -> bool
 {
     let mut out = [0u8; SAVED];
     let n = state_saving::put_saved(state, &mut out);
-    words::same(&out[..n], text)
+    &out[..n] == text
 }
 
 // Question 69 of a text that question 68 lets pass: `m`, all zeros, becomes the state that the frames give. It is their state if it is well formed and

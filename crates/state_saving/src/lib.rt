@@ -18,7 +18,7 @@ use state_lines::Kinds;
 // The longest text of a state.
 pub const SAVED: usize = 47754;
 
-// Writes the frame of contents, unless they are empty, and tells where the next begins.
+// Writes the frame of contents, unless they are empty, and tells where the next begins: the memory is lent, so a place goes in and out.
 fn put_some(out: &mut [u8], at: usize, kind: usize, index: usize, contents: &[u8]) -> usize
     requires { FrameFits (framed kind index contents.now) at (length out.old) }
     ensures { Appended (framed kind index contents.now ∷ []) at result out.old out.new }
@@ -58,28 +58,24 @@ fn put_strings(
     ensures { Appended (string_frames m.now kind first count) from result out.old out.new }
 {
     let mut at = from;
-    let mut i = 0;
-    while i < count {
+    for i in 0..count {
         let v = check_memory::string_at(m, starts, first + i);
         at = put_some(out, at, kind, i + 1, v);
-        i += 1;
     }
     at
 }
 
-// Writes the frames of the files.
+// Writes the frames of the files; a file is two strings, so the body is not that of `put_strings`.
 fn put_files(m: &[u8], starts: &[u32], out: &mut [u8], from: usize) -> usize
     requires { FilesFit m.now starts.now from (length out.old) }
     ensures { Appended (file_frames m.now) from result out.old out.new }
 {
     let mut at = from;
-    let mut i = 0;
-    while i < Machine::FILES {
+    for i in 0..Machine::FILES {
         let k = StatePlaces::FIRST_FILE + 2 * i;
         let before = check_memory::string_at(m, starts, k);
         let after = check_memory::string_at(m, starts, k + 1);
         at = put_records(out, at, i + 1, before, after);
-        i += 1;
     }
     at
 }
@@ -128,10 +124,7 @@ pub fn put_saved(state: &[u8], out: &mut [u8]) -> usize
 fn refused(number: u8) -> Filled
     ensures { (result.number ≡ number) × (result.count ≡ 0) }
 {
-    Filled {
-        number: number,
-        count: 0,
-    }
+    Filled { number, count: 0 }
 }
 
 // "Write a state as lines of hexadecimal": 62 and 61 first; "An ill-formed state to write, or memory too short, brings 63".

@@ -1,6 +1,5 @@
 -- `check_addresses::collect` meets its contract.
 use native.Mathlib.Omega.{arith}
-use mathlib.Core.Path.{◌∙◌}
 use Rattle.check_addresses.proofs.Loops.{collecting-none, starts, room, collecting-next, collected}
 use Rattle.check_addresses.proofs.collect.Goals as goal
 
@@ -12,9 +11,6 @@ end_of-e-requires c = starts c.requires c.loop-at.invariant c.loop-at-test.true
 
 pub address_at-requires : goal.address_at-requires
 address_at-requires c = starts c.requires c.loop-at.invariant c.loop-at-test.true
-
-pub narrow-requires : goal.narrow-requires
-narrow-requires c = c.address_at.ensures.most
 
 pub bounds-list-k : goal.bounds-list-k
 bounds-list-k c =
@@ -38,7 +34,7 @@ loop-at-preserved c =
     let pre = c.requires in
     let loop = c.loop-at in
     let end_of = c.end_of-e in
-    collecting-next pre loop.invariant end_of.ensures (c.narrow.ensures ∙ c.address_at.ensures.is)
+    collecting-next pre loop.invariant end_of.ensures c.address_at.ensures.is
 
 pub returns : goal.returns
 returns c = collected c.requires c.loop-at.invariant c.loop-at-test.false

@@ -1,44 +1,38 @@
 -- `check_memory::expression_sums` meets its contract.
 use native.Mathlib.Omega.{arith}
-use Rattle.check_memory.proofs.Loops.{named, expressions-none, whole-expression, taken-all, expressions-next, expressions-sums}
+use Rattle.check_memory.proofs.Loops.{expressions-none, whole-expression, taken-all, expressions-next, expressions-sums}
 use Rattle.check_memory.proofs.expression_sums.Goals as goal
 
 pub loop-i-init : goal.loop-i-init
 loop-i-init c = expressions-none c.args.m.now
 
-pub string_at-v-requires : goal.string_at-v-requires
-string_at-v-requires c = named c.requires.readable (omega arith)
-
 pub count-t-requires : goal.count-t-requires
 count-t-requires c =
     let pre = c.requires in
-    record { whole = whole-expression pre.whole c.loop-i-test.true c.string_at-v.ensures; fitting = tt }
+    record { whole = whole-expression pre.whole (omega arith) c.string_at-v.ensures; fitting = tt }
 
 pub overflow_add-parts : goal.overflow_add-parts
 overflow_add-parts c =
     let pre = c.requires in
     let loop = c.loop-i in
-    let loop-test = c.loop-i-test in
     let string-at = c.string_at-v in
-    omega (arith, loop.invariant.parts.most, (taken-all pre.whole loop-test.true string-at.ensures c.count-t.ensures).parts_most, (taken-all pre.whole loop-test.true string-at.ensures c.count-t.ensures).bytes_most, string-at.ensures.small)
+    omega (arith, loop.invariant.parts.most, (taken-all pre.whole (omega arith) string-at.ensures c.count-t.ensures).parts_most, (taken-all pre.whole (omega arith) string-at.ensures c.count-t.ensures).bytes_most, string-at.ensures.small)
 
 pub overflow_add-chars : goal.overflow_add-chars
 overflow_add-chars c =
     let pre = c.requires in
     let loop = c.loop-i in
-    let loop-test = c.loop-i-test in
     let string-at = c.string_at-v in
     let count = c.count-t in
-    omega (arith, loop.invariant.chars.most, (taken-all pre.whole loop-test.true string-at.ensures count.ensures).chars_most, (taken-all pre.whole loop-test.true string-at.ensures count.ensures).bytes_most, string-at.ensures.small)
+    omega (arith, loop.invariant.chars.most, (taken-all pre.whole (omega arith) string-at.ensures count.ensures).chars_most, (taken-all pre.whole (omega arith) string-at.ensures count.ensures).bytes_most, string-at.ensures.small)
 
 pub loop-i-preserved : goal.loop-i-preserved
 loop-i-preserved c =
     let pre = c.requires in
     let loop = c.loop-i in
-    let loop-test = c.loop-i-test in
     let string-at = c.string_at-v in
     let count = c.count-t in
-    expressions-next pre.whole loop-test.true string-at.ensures loop.invariant count.ensures
+    expressions-next pre.whole (omega arith) string-at.ensures loop.invariant count.ensures
 
 pub returns : goal.returns
-returns c = expressions-sums c.loop-i.invariant c.loop-i-test.false
+returns c = expressions-sums c.loop-i.invariant (omega arith)

@@ -1,10 +1,6 @@
 -- `check_memory::expression_sums` meets its contract.
-use Prim.Native.Nat.{◌-◌}
 use Rattle.check_memory.proofs.Loops.{ExpressionsAdded}
 use Rattle.check_memory.proofs.expression_sums.Given as goal
 
 abbrev pub invariant-loop-i : goal.invariant-loop-i
 invariant-loop-i l = ExpressionsAdded l.m l.i l.parts l.chars
-
-abbrev pub decreases-loop-i : goal.decreases-loop-i
-decreases-loop-i l = 32 - l.i

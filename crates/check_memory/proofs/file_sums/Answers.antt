@@ -1,22 +1,18 @@
 -- `check_memory::file_sums` meets its contract.
 use native.Mathlib.Omega.{arith}
-use Rattle.check_memory.proofs.Loops.{named, halves-none, whole-half, count_is, halves-next, halves-sums}
+use Rattle.check_memory.proofs.Loops.{halves-none, whole-half, count_is, halves-next, halves-sums}
 use Rattle.check_memory.proofs.file_sums.Goals as goal
 
 pub loop-i-init : goal.loop-i-init
 loop-i-init c = halves-none c.args.m.now
 
-pub string_at-v-requires : goal.string_at-v-requires
-string_at-v-requires c = named c.requires.readable (omega arith)
-
 pub totals_of-t-requires : goal.totals_of-t-requires
-totals_of-t-requires c = whole-half c.requires.whole c.loop-i-test.true c.string_at-v.ensures
+totals_of-t-requires c = whole-half c.requires.whole (omega arith) c.string_at-v.ensures
 
 pub count-q-requires : goal.count-q-requires
 count-q-requires c =
     let pre = c.requires in
-    let loop-test = c.loop-i-test in
-    record { whole = whole-half pre.whole loop-test.true c.string_at-v.ensures; fitting = tt }
+    record { whole = whole-half pre.whole (omega arith) c.string_at-v.ensures; fitting = tt }
 
 pub overflow_add-parts : goal.overflow_add-parts
 overflow_add-parts c =
@@ -32,8 +28,8 @@ overflow_add-chars c =
     let totals-of = c.totals_of-t in
     omega (arith, loop.invariant.chars.most, totals-of.ensures.chars_most, string-at.ensures.small)
 
-pub overflow_add-count : goal.overflow_add-count
-overflow_add-count c =
+pub overflow_add-records : goal.overflow_add-records
+overflow_add-records c =
     let loop = c.loop-i in
     let string-at = c.string_at-v in
     let count = c.count-q in
@@ -43,11 +39,10 @@ pub loop-i-preserved : goal.loop-i-preserved
 loop-i-preserved c =
     let pre = c.requires in
     let loop = c.loop-i in
-    let loop-test = c.loop-i-test in
     let string-at = c.string_at-v in
     let totals-of = c.totals_of-t in
     let count = c.count-q in
-    halves-next pre.whole loop-test.true string-at.ensures loop.invariant totals-of.ensures count.ensures
+    halves-next pre.whole (omega arith) string-at.ensures loop.invariant totals-of.ensures count.ensures
 
 pub returns : goal.returns
-returns c = halves-sums c.loop-i.invariant c.loop-i-test.false
+returns c = halves-sums c.loop-i.invariant (omega arith)

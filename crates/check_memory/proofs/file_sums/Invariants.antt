@@ -1,10 +1,6 @@
 -- `check_memory::file_sums` meets its contract.
-use Prim.Native.Nat.{◌-◌}
 use Rattle.check_memory.proofs.Loops.{HalvesAdded}
 use Rattle.check_memory.proofs.file_sums.Given as goal
 
 abbrev pub invariant-loop-i : goal.invariant-loop-i
-invariant-loop-i l = HalvesAdded l.m l.i l.parts l.chars l.count
-
-abbrev pub decreases-loop-i : goal.decreases-loop-i
-decreases-loop-i l = 64 - l.i
+invariant-loop-i l = HalvesAdded l.m l.i l.parts l.chars l.records

@@ -1,6 +1,6 @@
 -- `check_memory::is_distinct` meets its contract.
 use native.Mathlib.Omega.{arith}
-use Rattle.check_memory.proofs.Loops.{named, gathering-none, within, gathering-room, gathering-next, gathered}
+use Rattle.check_memory.proofs.Loops.{gathering-none, within, gathering-room, gathering-next, gathered}
 use mathlib.Core.Path.{sym}
 use lib.Seq.{length-take-le}
 use Rattle.check_memory.proofs.is_distinct.Goals as goal
@@ -8,24 +8,19 @@ use Rattle.check_memory.proofs.is_distinct.Goals as goal
 pub loop-i-init : goal.loop-i-init
 loop-i-init c = gathering-none c.args.m.now c.args.list.now
 
-pub string_at-requires : goal.string_at-requires
-string_at-requires c = named c.requires.readable (omega arith)
-
 pub collect-n-requires : goal.collect-n-requires
 collect-n-requires c =
     let pre = c.requires in
     let loop = c.loop-i in
-    let loop-test = c.loop-i-test in
-    gathering-room pre loop.invariant loop-test.true c.string_at.ensures
+    gathering-room pre loop.invariant (omega arith) c.string_at.ensures
 
 pub loop-i-preserved : goal.loop-i-preserved
 loop-i-preserved c =
     let pre = c.requires in
     let loop = c.loop-i in
-    let loop-test = c.loop-i-test in
     let string-at = c.string_at in
     let collect = c.collect-n in
-    gathering-next pre loop.invariant loop-test.true string-at.ensures collect.ensures (omega arith)
+    gathering-next pre loop.invariant (omega arith) string-at.ensures collect.ensures (omega arith)
 
 pub slice_bounds-are_different-end : goal.slice_bounds-are_different-end
 slice_bounds-are_different-end c = within c.requires c.loop-i.invariant
@@ -37,5 +32,4 @@ pub returns : goal.returns
 returns c =
     let pre = c.requires in
     let loop = c.loop-i in
-    let loop-test = c.loop-i-test in
-    gathered pre loop.invariant loop-test.false c.are_different.ensures
+    gathered pre loop.invariant (omega arith) c.are_different.ensures

@@ -9,18 +9,11 @@ loop-i-init c = starting-none c.args.m.now c.args.starts.now c.requires.places
 pub write-requires : goal.write-requires
 write-requires c = record { room = omega (arith, c.loop-i.invariant.count); most = omega (arith, c.loop-i.invariant.small) }
 
-pub two_at-at-requires : goal.two_at-at-requires
-two_at-at-requires c = omega (arith, c.requires.long)
-
-pub overflow_add-at : goal.overflow_add-at
-overflow_add-at c = omega (arith, c.loop-i.invariant.small, c.two_at-at.ensures.most)
-
 pub loop-i-preserved : goal.loop-i-preserved
 loop-i-preserved c =
     let loop = c.loop-i in
-    let loop-test = c.loop-i-test in
     let write = c.write in
-    starting-next loop.invariant loop-test.true c.two_at-at.ensures write.ensures
+    starting-next loop.invariant (omega arith) c.two_at-at.ensures write.ensures
 
 pub returns : goal.returns
-returns c = started c.loop-i.invariant c.loop-i-test.false
+returns c = started c.loop-i.invariant (omega arith)

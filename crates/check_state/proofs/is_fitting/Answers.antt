@@ -1,32 +1,7 @@
 -- `check_state::is_fitting` meets its contract.
-use native.Mathlib.Omega.{arith}
-use Rattle.check_memory.proofs.Loops.{named}
 use Rattle.check_state.proofs.Returns.{table-long}
 use Rattle.check_state.proofs.Steps.{fits}
 use Rattle.check_state.proofs.is_fitting.Goals as goal
-
-pub string_at-requires : goal.string_at-requires
-string_at-requires c = named c.requires.readable (omega arith)
-
-pub is_stack-requires : goal.is_stack-requires
-is_stack-requires c = c.requires.table
-
-pub string_at-requires-2 : goal.string_at-requires-2
-string_at-requires-2 c = named c.requires.readable (omega arith)
-
-pub string_at-requires-3 : goal.string_at-requires-3
-string_at-requires-3 c = named c.requires.readable (omega arith)
-
-pub three_at-requires : goal.three_at-requires
-three_at-requires c = omega (arith, c.requires.readable.long)
-
-pub three_at-requires-2 : goal.three_at-requires-2
-three_at-requires-2 c = omega (arith, c.requires.readable.long)
-
-pub three_at-requires-3 : goal.three_at-requires-3
-three_at-requires-3 c =
-    let pre = c.requires in
-    omega (arith, pre.readable.long)
 
 pub instructions-requires : goal.instructions-requires
 instructions-requires c =

@@ -4,11 +4,6 @@ use Rattle.check_memory.proofs.Steps.{ended, walkable, both-whole}
 use Rattle.check_state.proofs.Steps.{comparable, fittable, fails-1, fails-2, fails-3, fails-4, last}
 use Rattle.check_state.proofs.is_passed.Goals as goal
 
-pub starts_of-end-requires : goal.starts_of-end-requires
-starts_of-end-requires c =
-    let pre = c.requires in
-    record { long = pre.long; places = pre.starts_is }
-
 pub is_laid-requires : goal.is_laid-requires
 is_laid-requires c = ended c.requires.long c.starts_of-end.ensures
 

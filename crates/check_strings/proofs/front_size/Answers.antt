@@ -27,7 +27,7 @@ returns-then-b-eq0 c =
     let if1 = c.if-b-n in
     let if2 = c.if-b-eq0 in
     let three_at = c.three_at in
-    front-shown args.b.now size-by.ensures if1.false if2.true three_at.ensures c.is_short.ensures c.pick.ensures
+    front-shown args.b.now size-by.ensures if1.false if2.true three_at.ensures c.is_short.ensures c.then_some.ensures
 
 pub slice_bounds-are_known-count : goal.slice_bounds-are_known-count
 slice_bounds-are_known-count c =
@@ -50,4 +50,4 @@ returns c =
     let size-by = c.size_by-n in
     let if1 = c.if-b-n in
     let if2 = c.if-b-eq0 in
-    front-spelled args.b.now size-by.ensures if1.false if2.false c.are_known.ensures c.pick-2.ensures
+    front-spelled args.b.now size-by.ensures if1.false if2.false c.are_known.ensures c.then_some-2.ensures

@@ -32,4 +32,4 @@ returns c =
     let two_at = c.two_at-n in
     let three_at = c.three_at-address in
     let is-given = c.is_given in
-    record-shown (sym is_framed.ensures ∙ if1.false) two_at.ensures three_at.ensures (omega (arith, framed-fits args.b.now is_framed.ensures (if1.false), two_at.ensures.is)) is-given.ensures c.are_components.ensures c.pick.ensures
+    record-shown (sym is_framed.ensures ∙ if1.false) two_at.ensures three_at.ensures (omega (arith, framed-fits args.b.now is_framed.ensures (if1.false), two_at.ensures.is)) is-given.ensures c.are_components.ensures c.then_some.ensures

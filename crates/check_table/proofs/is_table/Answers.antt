@@ -1,6 +1,5 @@
 -- `check_table::is_table` meets its contract.
 use mathlib.Core.Path.{sym, ◌∙◌}
-use Rattle.check_table.specs.Checks.{counts_fit, parts_fit}
 use Rattle.check_table.specs.QuestionLaws.{too_short, no-counts, counted_of, by_parts}
 use Rattle.check_table.proofs.is_table.Goals as goal
 

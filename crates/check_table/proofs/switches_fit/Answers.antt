@@ -1,28 +1,23 @@
 -- `check_table::switches_fit` meets its contract.
 use native.Mathlib.Omega.{arith}
 use Rattle.packed.specs.Packed.{table_of}
-use Rattle.check_table.specs.Checks.{switch_fits}
 use Rattle.check_table.proofs.Turns.{switches-start, switches-stop, switches_on, switches-end}
 use Rattle.check_table.proofs.switches_fit.Goals as goal
 
 pub loop-k-init : goal.loop-k-init
-loop-k-init c =
-    (omega arith, omega arith, switches-start (table_of c.args.table.now) c.args.n)
+loop-k-init c = (omega arith, switches-start (table_of c.args.table.now) c.args.n)
 
 pub returns-then-not-switch_fits : goal.returns-then-not-switch_fits
 returns-then-not-switch_fits c =
     let h = c.loop-k in
-    let t = table_of c.args.table.now in
-    switches-stop t c.args.n h.k h.from _ h.invariant.2 _ c.switch_fits.ensures c.loop-k-test.true (c.if-not-switch_fits.true)
+    switches-stop (table_of c.args.table.now) c.args.n h.k h.from _ h.invariant.1 _ c.switch_fits.ensures (omega arith) c.if-not-switch_fits.true
 
 pub loop-k-preserved : goal.loop-k-preserved
 loop-k-preserved c =
     let h = c.loop-k in
-    let t = table_of c.args.table.now in
-    (omega arith, omega (arith, h.invariant.1, c.switch_size-from.ensures.most), switches_on t c.args.n h.k h.from _ h.invariant.2 _ c.switch_fits.ensures c.loop-k-test.true (c.if-not-switch_fits.false) c.switch_size-from.result c.switch_size-from.ensures.is)
+    (omega (arith, h.invariant.0, c.switch_size-from.ensures.most), switches_on (table_of c.args.table.now) c.args.n h.k h.from _ h.invariant.1 _ c.switch_fits.ensures (omega arith) c.if-not-switch_fits.false c.switch_size-from.result c.switch_size-from.ensures.is)
 
 pub returns : goal.returns
 returns c =
     let h = c.loop-k in
-    let t = table_of c.args.table.now in
-    rw c.read.ensures.is (switches-end t c.args.n h.k h.from _ h.invariant.2 c.loop-k-test.false)
+    rw c.read.ensures.is (switches-end (table_of c.args.table.now) c.args.n h.k h.from _ h.invariant.1 (omega arith))

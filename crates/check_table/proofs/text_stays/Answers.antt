@@ -1,7 +1,13 @@
 -- `check_table::text_stays` meets its contract.
+use Rattle.std.proofs.Common.{ap, refl, rules, ◌+◌}
+use borrow.Author.Tests.{tests}
+use Rattle.check_parts.specs.PassLaws.{passes_all}
+use Rattle.packed.specs.Packed.{table_of}
+use Rattle.check_parts.specs.Parts.{text_fits}
+use mathlib.Core.Bool.{Bool, ◌&&◌}
 use Rattle.check_table.specs.Checks.{text_new, text_stays}
 use Rattle.check_table.proofs.text_stays.Goals as goal
 
 pub returns : goal.returns
-unfolding text_stays
-returns c = rw (c.text_fits.ensures, c.text_new.ensures)
+unfolding text_stays text_new
+returns c = rw (c.text_fits.ensures) (ap (λ (r : Bool). text_fits (table_of c.args.table.now) c.args.i && r) (passes_all _ (c.args.i + 1) c.args.n _ refl _ _ _ c.all.ensures.ran (λ x b q k. search (rules, tests))))

@@ -1,15 +1,23 @@
 -- `hexadecimal::byte_at` meets its contract.
-use Rattle.hexadecimal.proofs.Laws.{byte-1, byte-2, byte-3}
-use native.Mathlib.Omega.{arith}
-use Prim.Native.Nat.{◌+◌}
-use lib.ListN.{get_or}
+use Rattle.std.proofs.Common.{rules, ◌≡◌, ◌∙◌, sym, arith, None}
+use Rattle.hexadecimal.proofs.Laws.{byte-1, byte-2, byte-3, digit-most}
 use Rattle.hexadecimal.proofs.byte_at.Goals as goal
 
-pub returns-then-high-ge16 : goal.returns-then-high-ge16
-returns-then-high-ge16 c = let high = c.value_of-high in let low = c.value_of-low in record { is = byte-1 (get_or c.args.text.now c.args.at 0) (get_or c.args.text.now (1 + c.args.at) 0) high.result low.result high.ensures.is low.ensures.is c.if-high-ge16.true; most = omega (arith, high.ensures.most, low.ensures.most) }
+pub returns-in_err-high : goal.returns-in_err-high
+returns-in_err-high c =
+    let e : c.from_residual.result ≡ None = search rules in
+    e ∙ byte-1 _ _ (sym c.value_of.ensures ∙ c.in_err-high.was)
 
-pub returns-then-low-ge16 : goal.returns-then-low-ge16
-returns-then-low-ge16 c = let high = c.value_of-high in let low = c.value_of-low in record { is = byte-2 (get_or c.args.text.now c.args.at 0) (get_or c.args.text.now (1 + c.args.at) 0) high.result low.result high.ensures.is low.ensures.is c.if-low-ge16.true; most = omega (arith, high.ensures.most, low.ensures.most) }
+pub returns-in_err-low : goal.returns-in_err-low
+returns-in_err-low c =
+    let e : c.from_residual-in_err-low.result ≡ None = search rules in
+    e ∙ byte-2 _ _ (sym c.value_of-2.ensures ∙ c.in_err-low.was)
+
+pub overflow_mul-result : goal.overflow_mul-result
+overflow_mul-result c = omega (arith, digit-most _ 0 c.in_ok-high.high (sym c.value_of.ensures ∙ c.in_ok-high.was))
+
+pub overflow_add-result : goal.overflow_add-result
+overflow_add-result c = omega (arith, digit-most _ 0 c.in_ok-high.high (sym c.value_of.ensures ∙ c.in_ok-high.was), digit-most _ 0 c.in_ok-low.low (sym c.value_of-2.ensures ∙ c.in_ok-low.was))
 
 pub returns : goal.returns
-returns c = let high = c.value_of-high in let low = c.value_of-low in record { is = byte-3 (get_or c.args.text.now c.args.at 0) (get_or c.args.text.now (1 + c.args.at) 0) high.result low.result high.ensures.is low.ensures.is c.if-high-ge16.false c.if-low-ge16.false; most = omega (arith, high.ensures.most, low.ensures.most) }
+returns c = byte-3 _ _ c.in_ok-high.high c.in_ok-low.low (sym c.value_of.ensures ∙ c.in_ok-high.was) (sym c.value_of-2.ensures ∙ c.in_ok-low.was)

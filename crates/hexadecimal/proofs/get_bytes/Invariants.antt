@@ -1,12 +1,8 @@
 -- `hexadecimal::get_bytes` meets its contract. The invariant: the first j bytes are read.
 use mathlib.Core.Path.{◌≡◌}
-use Prim.Native.Nat.{◌-◌, ◌≤◌}
 use lib.ListN.{length}
 use Rattle.hexadecimal.proofs.Laws.{Read}
 use Rattle.hexadecimal.proofs.get_bytes.Given as goal
 
 abbrev pub invariant-loop-j : goal.invariant-loop-j
-invariant-loop-j l = (l.j ≤ l.n) × (length l.dst ≡ length l.initial.dst) × Read l.initial.dst l.to l.text l.at l.j l.dst
-
-abbrev pub decreases-loop-j : goal.decreases-loop-j
-decreases-loop-j l = l.n - l.j
+invariant-loop-j l = (length l.dst ≡ length l.initial.dst) × Read l.initial.dst l.to l.text l.at l.j l.dst

@@ -1,19 +1,19 @@
 -- `hexadecimal::value_of` meets its contract.
-use Rattle.hexadecimal.proofs.Laws.{value-1, value-2, value-3, value-4, value-5}
 use native.Mathlib.Omega.{arith}
+use Rattle.hexadecimal.proofs.Laws.{value_low, value_high, value_below, value_between, value_above}
 use Rattle.hexadecimal.proofs.value_of.Goals as goal
 
-pub returns-then-n-lt48 : goal.returns-then-n-lt48
-returns-then-n-lt48 c = record { is = value-1 c.args.b c.wide-n.result c.wide-n.ensures.is c.wide-n.ensures.most c.if-n-lt48.true; most = omega arith }
+pub returns-in-48-to-57 : goal.returns-in-48-to-57
+returns-in-48-to-57 c = value_low c.args.b (omega arith) (omega arith) (omega arith)
 
-pub returns-then-n-lt58 : goal.returns-then-n-lt58
-returns-then-n-lt58 c = record { is = value-2 c.args.b c.wide-n.result c.wide-n.ensures.is c.wide-n.ensures.most c.if-n-lt48.false c.if-n-lt58.true; most = omega arith }
+pub returns-in-65-to-70 : goal.returns-in-65-to-70
+returns-in-65-to-70 c = value_high c.args.b (omega arith) (omega arith) (omega arith)
 
-pub returns-then-n-lt65 : goal.returns-then-n-lt65
-returns-then-n-lt65 c = record { is = value-3 c.args.b c.wide-n.result c.wide-n.ensures.is c.wide-n.ensures.most c.if-n-lt48.false c.if-n-lt58.false c.if-n-lt65.true; most = omega arith }
+pub returns-in_default : goal.returns-in_default
+returns-in_default c = value_below c.args.b (omega arith) (omega arith)
 
-pub returns-then-n-lt71 : goal.returns-then-n-lt71
-returns-then-n-lt71 c = record { is = value-4 c.args.b c.wide-n.result c.wide-n.ensures.is c.wide-n.ensures.most c.if-n-lt48.false c.if-n-lt58.false c.if-n-lt65.false c.if-n-lt71.true; most = omega arith }
+pub returns-in_default-2 : goal.returns-in_default-2
+returns-in_default-2 c = value_between c.args.b (omega arith) (omega arith) (omega arith)
 
-pub returns : goal.returns
-returns c = record { is = value-5 c.args.b c.wide-n.result c.wide-n.ensures.is c.wide-n.ensures.most c.if-n-lt48.false c.if-n-lt58.false c.if-n-lt65.false c.if-n-lt71.false; most = omega arith }
+pub returns-in_default-3 : goal.returns-in_default-3
+returns-in_default-3 c = value_above c.args.b (omega arith) (omega arith)

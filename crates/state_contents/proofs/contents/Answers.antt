@@ -1,7 +1,8 @@
 -- `state_contents::contents` meets its contract. The invariant: what the frames before `at` add stands in the row.
 use native.Mathlib.Omega.{arith}
-use mathlib.Core.Path.{refl}
-use Rattle.state_contents.proofs.Gathering.{gathering-none, next, size-next, line-fits, gathering-more, gathering-all}
+use mathlib.Core.Path.{refl, sym, ◌∙◌}
+use Rattle.hexadecimal.proofs.Laws.{told-byte-some}
+use Rattle.state_contents.proofs.Gathering.{gathering-none, next, high-told, low-told, size-next, line-fits, gathering-more, gathering-all}
 use Rattle.state_contents.proofs.contents.Goals as goal
 
 pub loop-at-init : goal.loop-at-init
@@ -9,49 +10,33 @@ loop-at-init c =
     let a = c.args in
     (refl, gathering-none a.text.now a.kind a.index a.row.now c.requires)
 
-pub overflow_add-at : goal.overflow_add-at
-overflow_add-at c = omega (arith, (next c.loop-at.invariant.1 c.loop-at-test.true).within)
-
 pub byte_at-requires : goal.byte_at-requires
 byte_at-requires c = omega (arith, (next c.loop-at.invariant.1 c.loop-at-test.true).within)
 
-pub overflow_add-at-in-loop-at : goal.overflow_add-at-in-loop-at
-overflow_add-at-in-loop-at c = omega (arith, (next c.loop-at.invariant.1 c.loop-at-test.true).within)
+pub unwrap-high-requires : goal.unwrap-high-requires
+unwrap-high-requires c = rw (c.byte_at.ensures, high-told (next c.loop-at.invariant.1 c.loop-at-test.true).line) refl
 
 pub byte_at-requires-in-loop-at : goal.byte_at-requires-in-loop-at
 byte_at-requires-in-loop-at c = omega (arith, (next c.loop-at.invariant.1 c.loop-at-test.true).within)
 
+pub unwrap-low-requires : goal.unwrap-low-requires
+unwrap-low-requires c = rw (c.byte_at-in-loop-at.ensures, low-told (next c.loop-at.invariant.1 c.loop-at-test.true).line) refl
+
 pub gather-n-requires : goal.gather-n-requires
 gather-n-requires c =
     let g = c.loop-at.invariant.1 in
-    let a = c.byte_at in
-    let b = c.byte_at-in-loop-at in
-    record { line = line-fits g c.loop-at-test.true a.result b.result a.ensures.is b.ensures.is; fewer = g.fewer }
-
-pub line_length-at-requires : goal.line_length-at-requires
-line_length-at-requires c = omega (arith, c.byte_at.ensures.most, c.byte_at-in-loop-at.ensures.most)
-
-pub overflow_add-at-in-loop-at-2 : goal.overflow_add-at-in-loop-at-2
-overflow_add-at-in-loop-at-2 c =
-    let a = c.byte_at in
-    let b = c.byte_at-in-loop-at in
-    omega (arith, line-fits c.loop-at.invariant.1 c.loop-at-test.true a.result b.result a.ensures.is b.ensures.is, c.line_length-at.ensures)
-
-pub loop-at-smaller : goal.loop-at-smaller
-loop-at-smaller c =
-    let a = c.byte_at in
-    let b = c.byte_at-in-loop-at in
-    let h = c.loop-at-test.true in
-    omega (arith, h, line-fits c.loop-at.invariant.1 h a.result b.result a.ensures.is b.ensures.is, c.line_length-at.ensures)
+    let high = told-byte-some _ _ c.unwrap-high.result (sym c.byte_at.ensures ∙ c.unwrap-high.ensures) in
+    let low = told-byte-some _ _ c.unwrap-low.result (sym c.byte_at-in-loop-at.ensures ∙ c.unwrap-low.ensures) in
+    record { line = line-fits g c.loop-at-test.true c.from.result c.from-in-loop-at.result (c.from.ensures ∙ high.0) (c.from-in-loop-at.ensures ∙ low.0); fewer = g.fewer }
 
 pub loop-at-preserved : goal.loop-at-preserved
 loop-at-preserved c =
     let loop = c.loop-at in
     let h = c.loop-at-test.true in
-    let a = c.byte_at in
-    let b = c.byte_at-in-loop-at in
     let gather = c.gather-n in
-    let size = size-next loop.invariant.1 h a.result b.result a.ensures.is b.ensures.is in
+    let high = told-byte-some _ _ c.unwrap-high.result (sym c.byte_at.ensures ∙ c.unwrap-high.ensures) in
+    let low = told-byte-some _ _ c.unwrap-low.result (sym c.byte_at-in-loop-at.ensures ∙ c.unwrap-low.ensures) in
+    let size = size-next loop.invariant.1 h c.from.result c.from-in-loop-at.result (c.from.ensures ∙ high.0) (c.from-in-loop-at.ensures ∙ low.0) in
     (omega (arith, loop.invariant.0), gathering-more loop.invariant.1 h size gather.ensures (omega arith) c.line_length-at.ensures)
 
 pub returns : goal.returns

@@ -1,30 +1,42 @@
 -- `state_contents::gather` meets its contract.
-use Rattle.state_contents.proofs.Gathering.{other-kind, other-index, no_room, got-one}
+use mathlib.Core.Path.{sym, ◌∙◌}
+use Rattle.hexadecimal.proofs.Laws.{told-byte-some}
+use Rattle.state_contents.proofs.Gathering.{no-kind, no-index, other-kind, other-index, no_room, got-one}
 use Rattle.state_contents.proofs.gather.Goals as goal
 
-pub returns-then-byte_at-kind : goal.returns-then-byte_at-kind
-returns-then-byte_at-kind c =
+pub returns-in_default : goal.returns-in_default
+returns-in_default c =
     let a = c.args in
-    let x = c.byte_at in
-    other-kind a.text.now a.at a.size a.kind a.index a.n a.row.now x.result x.ensures.is c.if-byte_at-kind.true
+    no-kind a.text.now a.at a.size a.kind a.index a.n a.row.now (sym c.byte_at.ensures ∙ c.in_default.is)
 
-pub returns-then-byte_at-index : goal.returns-then-byte_at-index
-returns-then-byte_at-index c =
+pub returns-then-from-kind : goal.returns-then-from-kind
+returns-then-from-kind c =
     let a = c.args in
-    let x = c.byte_at in
-    let y = c.byte_at-2 in
-    other-index a.text.now a.at a.size a.kind a.index a.n a.row.now x.result x.ensures.is y.result y.ensures.is c.if-byte_at-index.true
+    let x = told-byte-some _ _ c.in-Some.its_kind (sym c.byte_at.ensures ∙ c.in-Some.is) in
+    other-kind a.text.now a.at a.size a.kind a.index a.n a.row.now c.from.result (c.from.ensures ∙ x.0) c.if-from-kind.true
+
+pub returns-in_default-byte_at : goal.returns-in_default-byte_at
+returns-in_default-byte_at c =
+    let a = c.args in
+    no-index a.text.now a.at a.size a.kind a.index a.n a.row.now (sym c.byte_at-2.ensures ∙ c.in_default-byte_at.is)
+
+pub returns-then-from-index : goal.returns-then-from-index
+returns-then-from-index c =
+    let a = c.args in
+    let x = told-byte-some _ _ c.in-Some.its_kind (sym c.byte_at.ensures ∙ c.in-Some.is) in
+    let y = told-byte-some _ _ c.in-Some-byte_at.its_index (sym c.byte_at-2.ensures ∙ c.in-Some-byte_at.is) in
+    other-index a.text.now a.at a.size a.kind a.index a.n a.row.now c.from.result (c.from.ensures ∙ x.0) c.from-2.result (c.from-2.ensures ∙ y.0) c.if-from-index.true
 
 pub returns-then-row-n : goal.returns-then-row-n
 returns-then-row-n c =
     let a = c.args in
-    let x = c.byte_at in
-    let y = c.byte_at-2 in
-    no_room a.text.now a.at a.size a.kind a.index a.n a.row.now x.result x.ensures.is y.result y.ensures.is c.if-byte_at-kind.false c.if-byte_at-index.false c.if-row-n.true
+    let x = told-byte-some _ _ c.in-Some.its_kind (sym c.byte_at.ensures ∙ c.in-Some.is) in
+    let y = told-byte-some _ _ c.in-Some-byte_at.its_index (sym c.byte_at-2.ensures ∙ c.in-Some-byte_at.is) in
+    no_room a.text.now a.at a.size a.kind a.index a.n a.row.now c.from.result (c.from.ensures ∙ x.0) c.from-2.result (c.from-2.ensures ∙ y.0) c.if-from-kind.false c.if-from-index.false c.if-row-n.true
 
 pub returns : goal.returns
 returns c =
     let a = c.args in
-    let x = c.byte_at in
-    let y = c.byte_at-2 in
-    got-one a.text.now a.at a.size a.kind a.index a.n a.row.now x.result x.ensures.is y.result y.ensures.is c.if-byte_at-kind.false c.if-byte_at-index.false c.get_bytes.ensures
+    let x = told-byte-some _ _ c.in-Some.its_kind (sym c.byte_at.ensures ∙ c.in-Some.is) in
+    let y = told-byte-some _ _ c.in-Some-byte_at.its_index (sym c.byte_at-2.ensures ∙ c.in-Some-byte_at.is) in
+    got-one a.text.now a.at a.size a.kind a.index a.n a.row.now c.from.result (c.from.ensures ∙ x.0) c.from-2.result (c.from-2.ensures ∙ y.0) c.if-from-kind.false c.if-from-index.false c.get_bytes.ensures

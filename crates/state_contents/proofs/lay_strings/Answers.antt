@@ -11,7 +11,7 @@ loop-j-init c =
     (pre.room, laying-none a.text.now a.m.now pre.long)
 
 pub string-s-requires : goal.string-s-requires
-string-s-requires c = record { sound = c.requires.sound; one = c.loop-j-test.true; room = c.loop-j.invariant.0 }
+string-s-requires c = record { sound = c.requires.sound; one = (omega arith); room = c.loop-j.invariant.0 }
 
 pub slice_bounds-put_string-count : goal.slice_bounds-put_string-count
 slice_bounds-put_string-count c = c.string-s.ensures.order
@@ -25,15 +25,15 @@ slice_bounds-put_string-end c = c.string-s.ensures.within
 pub put_string-at-requires : goal.put_string-at-requires
 put_string-at-requires c =
     let laid = c.loop-j.invariant.1 in
-    record { all = laid.long; one = c.loop-j-test.true; place = laid.place }
+    record { all = laid.long; one = (omega arith); place = laid.place }
 
 pub loop-j-preserved : goal.loop-j-preserved
 loop-j-preserved c =
     let loop = c.loop-j in
     let string = c.string-s in
     let put = c.put_string-at in
-    let laid = laying-more c.requires.long loop.invariant.1 c.loop-j-test.true string.ensures.is put.ensures (omega arith) in
+    let laid = laying-more c.requires.long loop.invariant.1 (omega arith) string.ensures.is put.ensures (omega arith) in
     ((omega arith) ∙ loop.invariant.0, laid)
 
 pub returns : goal.returns
-returns c = laying-all c.loop-j.invariant.1 c.loop-j-test.false
+returns c = laying-all c.loop-j.invariant.1 (omega arith)

@@ -1,22 +1,50 @@
 -- `state_lines::is_sound` meets its contract.
-use native.Mathlib.Omega.{arith}
-use mathlib.Core.Path.{refl, sym, ◌∙◌}
-use Prim.Native.Nat.{◌/◌}
-use lib.ListN.{length}
-use Rattle.state_lines.proofs.Laws.{out-even, out-last, out-short, out-sum, out-all}
+use Rattle.std.proofs.Common.{◌≡◌, ◌∙◌, ap, sym, refl, arith, ℕ, ◌/◌, length, Some}
+use Rattle.hexadecimal.proofs.Laws.{told-byte-some}
+use Rattle.state_lines.specs.Sums.{told_sum}
+use Rattle.state_lines.proofs.Laws.{told_none, told_some, told_two, out-even, out-last, out-short, out-sum, out-all}
 use Rattle.state_lines.proofs.is_sound.Goals as goal
 
 pub returns-then-n-eq0 : goal.returns-then-n-eq0
-returns-then-n-eq0 c = let l = c.args.line.now in let k = length l / 2 in out-even l k (omega (arith, c.if-n-eq0.true))
+returns-then-n-eq0 c = let l = c.args.line.now in out-even l (length l / 2) (omega (arith, c.if-n-eq0.true))
 
-pub returns-then-last-ne10 : goal.returns-then-last-ne10
-returns-then-last-ne10 c = let l = c.args.line.now in let k = length l / 2 in out-last l k (omega (arith, c.if-n-eq0.false)) (λ e. c.if-last-ne10.true (c.wide-last.ensures.is ∙ e))
+pub returns-then-line-k-ne10 : goal.returns-then-line-k-ne10
+returns-then-line-k-ne10 c = let l = c.args.line.now in out-last l (length l / 2) (omega (arith, c.if-n-eq0.false)) c.if-line-k-ne10.true
 
 pub returns-then-k-lt5 : goal.returns-then-k-lt5
-returns-then-k-lt5 c = let l = c.args.line.now in let k = length l / 2 in out-short l k (omega (arith, c.if-n-eq0.false)) c.if-k-lt5.true
+returns-then-k-lt5 c = let l = c.args.line.now in out-short l (length l / 2) (omega (arith, c.if-n-eq0.false)) c.if-k-lt5.true
 
-pub returns-then-s-ne0 : goal.returns-then-s-ne0
-returns-then-s-ne0 c = let l = c.args.line.now in let k = length l / 2 in let s = c.sum_digits-s in out-sum l k (omega (arith, c.if-n-eq0.false)) s.result s.ensures.is c.if-s-ne0.true
+pub returns-in_default : goal.returns-in_default
+returns-in_default c =
+    let l = c.args.line.now in
+    let k = length l / 2 in
+    out-sum l k (omega (arith, c.if-n-eq0.false)) 256 (told_none l k (sym c.sum_digits.ensures ∙ c.in_default.is)) (λ z. omega (arith, z))
+
+pub returns-then-sum-ne0 : goal.returns-then-sum-ne0
+returns-then-sum-ne0 c =
+    let l = c.args.line.now in
+    let k = length l / 2 in
+    out-sum l k (omega (arith, c.if-n-eq0.false)) c.in-Some.sum (told_some l k c.in-Some.sum (sym c.sum_digits.ensures ∙ c.in-Some.is)) c.if-sum-ne0.true
+
+pub unwrap-high-requires : goal.unwrap-high-requires
+unwrap-high-requires c =
+    let l = c.args.line.now in
+    let k = length l / 2 in
+    let e : told_sum l k ≡ Some 0 = sym c.sum_digits.ensures ∙ c.in-Some.is ∙ ap (λ (n : ℕ). Some n) c.if-sum-ne0.false in
+    rw (c.byte_at.ensures, told_two l k (omega (arith, c.if-n-eq0.false)) e c.if-k-lt5.false 4 (omega arith)) refl
+
+pub unwrap-low-requires : goal.unwrap-low-requires
+unwrap-low-requires c =
+    let l = c.args.line.now in
+    let k = length l / 2 in
+    let e : told_sum l k ≡ Some 0 = sym c.sum_digits.ensures ∙ c.in-Some.is ∙ ap (λ (n : ℕ). Some n) c.if-sum-ne0.false in
+    rw (c.byte_at-2.ensures, told_two l k (omega (arith, c.if-n-eq0.false)) e c.if-k-lt5.false 6 (omega arith)) refl
 
 pub returns : goal.returns
-returns c = let l = c.args.line.now in let k = length l / 2 in let s = c.sum_digits-s in let high = c.byte_at-high in let low = c.byte_at-low in out-all l k (omega (arith, c.if-n-eq0.false)) s.result high.result low.result _ (sym c.wide-last.ensures.is ∙ c.if-last-ne10.false) c.if-k-lt5.false s.ensures.is c.if-s-ne0.false high.ensures.is low.ensures.is refl
+returns c =
+    let l = c.args.line.now in
+    let k = length l / 2 in
+    let e : told_sum l k ≡ Some 0 = sym c.sum_digits.ensures ∙ c.in-Some.is ∙ ap (λ (n : ℕ). Some n) c.if-sum-ne0.false in
+    let high = told-byte-some _ _ c.unwrap-high.result (sym c.byte_at.ensures ∙ c.unwrap-high.ensures) in
+    let low = told-byte-some _ _ c.unwrap-low.result (sym c.byte_at-2.ensures ∙ c.unwrap-low.ensures) in
+    out-all l k (omega (arith, c.if-n-eq0.false)) 0 c.from.result c.from-2.result _ c.if-line-k-ne10.false c.if-k-lt5.false (told_some l k 0 e) refl (c.from.ensures ∙ high.0) (c.from-2.ensures ∙ low.0) refl

@@ -1,11 +1,11 @@
--- `state_lines::is_sound_text` meets its contract. The invariant: the lines before `at` are sound.
-use Prim.Native.Nat.{◌-◌}
+-- `state_lines::is_sound_text` meets its contract. The invariant: what is left decides.
+use mathlib.Core.Path.{◌≡◌}
 use lib.ListN.{length}
-use Rattle.state_lines.proofs.Lines.{Sounding}
+use Rattle.hexadecimal.specs.Below.Frames.{sound_text}
 use Rattle.state_lines.proofs.is_sound_text.Given as goal
 
-abbrev pub invariant-loop-at : goal.invariant-loop-at
-invariant-loop-at l = Sounding l.text l.at
+abbrev pub invariant-loop-rest : goal.invariant-loop-rest
+invariant-loop-rest l = sound_text l.text ≡ sound_text l.rest
 
-abbrev pub decreases-loop-at : goal.decreases-loop-at
-decreases-loop-at l = length l.text - l.at
+abbrev pub decreases-loop-rest : goal.decreases-loop-rest
+decreases-loop-rest l = length l.rest

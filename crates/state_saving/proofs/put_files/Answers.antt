@@ -1,5 +1,7 @@
 -- `state_saving::put_files` meets its contract. The invariant: the frames of the first i files are written.
 use native.Mathlib.Omega.{arith}
+use Prim.Native.Nat.{◌<◌}
+use Rattle.language.specs.Limits as limit
 use Rattle.state_frames.specs.Frames.{file}
 use Rattle.state_saving.specs.Saving.{files_from}
 use Rattle.state_saving.proofs.Appending.{writing-none, writing-room, writing-next, writing-end}
@@ -9,29 +11,17 @@ use Rattle.state_saving.proofs.put_files.Goals as goal
 pub loop-i-init : goal.loop-i-init
 loop-i-init c = writing-none file (files_from c.args.m.now) c.requires.room
 
-pub overflow_mul-k : goal.overflow_mul-k
-overflow_mul-k c = omega arith
-
-pub overflow_add-k : goal.overflow_add-k
-overflow_add-k c = omega arith
-
 pub string_at-before-requires : goal.string_at-before-requires
-string_at-before-requires c = before-named c.requires c.loop-i-test.true
-
-pub overflow_add-k-in-loop-i : goal.overflow_add-k-in-loop-i
-overflow_add-k-in-loop-i c = omega arith
+string_at-before-requires c = before-named c.requires (omega arith)
 
 pub string_at-after-requires : goal.string_at-after-requires
-string_at-after-requires c = after-named c.requires c.loop-i-test.true
-
-pub overflow_add-i : goal.overflow_add-i
-overflow_add-i c = omega arith
+string_at-after-requires c = after-named c.requires (omega arith)
 
 pub put_records-at-requires : goal.put_records-at-requires
 put_records-at-requires c =
     let m = c.args.m.now in
     let pre = c.requires in
-    let h = c.loop-i-test.true in
+    let h : c.loop-i.i < limit.files = omega arith in
     let b = c.string_at-before.ensures in
     let a = c.string_at-after.ensures in
     record {
@@ -40,20 +30,14 @@ put_records-at-requires c =
       short = file-short pre h b a;
     }
 
-pub overflow_add-i-in-loop-i : goal.overflow_add-i-in-loop-i
-overflow_add-i-in-loop-i c = omega arith
-
-pub loop-i-smaller : goal.loop-i-smaller
-loop-i-smaller c = omega arith
-
 pub loop-i-preserved : goal.loop-i-preserved
 loop-i-preserved c =
     let m = c.args.m.now in
     let pre = c.requires in
-    let h = c.loop-i-test.true in
+    let h : c.loop-i.i < limit.files = omega arith in
     writing-next file (files_from m) pre.room c.loop-i.invariant (omega (arith, length-files m, h)) (file-met pre h c.string_at-before.ensures c.string_at-after.ensures) c.put_records-at.ensures
 
 pub returns : goal.returns
 returns c =
     let m = c.args.m.now in
-    writing-end file (files_from m) c.requires.room c.loop-i.invariant (omega (arith, length-files m, c.loop-i-test.false))
+    writing-end file (files_from m) c.requires.room c.loop-i.invariant (omega (arith, length-files m))

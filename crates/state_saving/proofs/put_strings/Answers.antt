@@ -1,5 +1,6 @@
 -- `state_saving::put_strings` meets its contract. The invariant: the frames of the first i strings are written.
 use native.Mathlib.Omega.{arith}
+use Prim.Native.Nat.{◌<◌}
 use Rattle.state_saving.specs.Saving.{strings_from}
 use Rattle.state_saving.proofs.Appending.{writing-none, writing-room, writing-next, writing-end}
 use Rattle.state_saving.proofs.Contents.{length-strings, string-named, string-met}
@@ -10,20 +11,14 @@ loop-i-init c =
     let args = c.args in
     writing-none args.kind (strings_from args.m.now args.first args.count) c.requires.room
 
-pub overflow_add-first : goal.overflow_add-first
-overflow_add-first c = omega (arith, c.requires.within)
-
 pub string_at-v-requires : goal.string_at-v-requires
-string_at-v-requires c = string-named c.requires c.loop-i-test.true
-
-pub overflow_add-i : goal.overflow_add-i
-overflow_add-i c = omega (arith, c.requires.within)
+string_at-v-requires c = string-named c.requires (omega arith)
 
 pub put_some-at-requires : goal.put_some-at-requires
 put_some-at-requires c =
     let args = c.args in
     let pre = c.requires in
-    let h = c.loop-i-test.true in
+    let h : c.loop-i.i < c.args.count = omega arith in
     let s = c.string_at-v.ensures in
     record {
       room = writing-room args.kind (strings_from args.m.now args.first args.count) pre.room c.loop-i.invariant (omega (arith, length-strings pre, h)) (string-met pre h s);
@@ -32,21 +27,15 @@ put_some-at-requires c =
       short = s.small;
     }
 
-pub overflow_add-i-in-loop-i : goal.overflow_add-i-in-loop-i
-overflow_add-i-in-loop-i c = omega (arith, c.requires.within)
-
-pub loop-i-smaller : goal.loop-i-smaller
-loop-i-smaller c = omega arith
-
 pub loop-i-preserved : goal.loop-i-preserved
 loop-i-preserved c =
     let args = c.args in
     let pre = c.requires in
-    let h = c.loop-i-test.true in
+    let h : c.loop-i.i < c.args.count = omega arith in
     writing-next args.kind (strings_from args.m.now args.first args.count) pre.room c.loop-i.invariant (omega (arith, length-strings pre, h)) (string-met pre h c.string_at-v.ensures) c.put_some-at.ensures
 
 pub returns : goal.returns
 returns c =
     let args = c.args in
     let pre = c.requires in
-    writing-end args.kind (strings_from args.m.now args.first args.count) pre.room c.loop-i.invariant (omega (arith, length-strings pre, c.loop-i-test.false))
+    writing-end args.kind (strings_from args.m.now args.first args.count) pre.room c.loop-i.invariant (omega (arith, length-strings pre))

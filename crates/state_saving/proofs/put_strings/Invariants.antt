@@ -1,11 +1,7 @@
 -- `state_saving::put_strings` meets its contract. The invariant: the frames of the first i strings are written.
-use Prim.Native.Nat.{◌-◌}
 use Rattle.state_saving.specs.Saving.{strings_from}
 use Rattle.state_saving.proofs.Appending.{Writing}
 use Rattle.state_saving.proofs.put_strings.Given as goal
 
 abbrev pub invariant-loop-i : goal.invariant-loop-i
 invariant-loop-i l = Writing l.kind (strings_from l.m l.first l.count) l.from l.initial.out l.i l.at l.out
-
-abbrev pub decreases-loop-i : goal.decreases-loop-i
-decreases-loop-i l = l.count - l.i
