@@ -15,9 +15,10 @@ use language::Machine;
 const BUDGET: u32 = 100_000;
 
 // The number of an accepted start.
+// A number and no enum: the answers of load and start come as C gets them.
 const ACCEPTED: usize = 80;
 
-// The number in the upper 32 bits of an answer.
+// The number in the upper 32 bits of an answer, which comes as C gets it.
 fn number(answer: u64) -> usize
     ensures { result ≡ answer / 4294967296 }
 {
@@ -57,6 +58,7 @@ fn run_table(table: &[u32], i1: &[u8], out: &mut [u8]) -> usize
 }
 
 // All that the program prints for the bytes of standard input.
+// It goes to lent memory, with its length told: `vectors` compares it there with no heap, and `eol2` writes it out.
 pub fn answer(input: &[u8], out: &mut [u8]) -> usize
     requires { 4224 ≤ length out.old }
     ensures { Put out.old 0 (printed input.now) out.new result }

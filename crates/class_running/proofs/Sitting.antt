@@ -12,7 +12,7 @@ use Rattle.language.specs.Limits as limit
 use Rattle.machine.specs.Steps.{refusals}
 use Rattle.layout.specs.Strings.{cut_by}
 use Rattle.layout.specs.Table.{good_table}
-use Rattle.cells.specs.Cells.{pasted, Number}
+use Rattle.cells.specs.Cells.{pasted}
 use Rattle.class_calls.specs.Class.{lent_of, Pupil, refused_pupil, pupil, Lent, sum, class_fits, pupils, ClassReply, class_of, class_number, result_cells, results_of, results_after, outputs_of, outputs_after}
 use Rattle.class_calls.specs.Class.ClassReply.{class_refused, taken}
 use Rattle.class_calls.proofs.ClassLaws.{q1-most}
@@ -73,13 +73,13 @@ module _ {c s ns bs res₀ out₀ : List ℕ} {memory₀ : ℕ} (pre : Classable
     pub three-cells : 3 * k + 3 ≤ length res
     three-cells = omega (arith, h, i.res_long, facts.cells)
 
-    module _ {n : ℕ} (r : Number (get_or ns k 0) 4294967296 n) where
+    module _ {n : ℕ} (r : n ≡ get_or ns k 0) where
       pub end-within : from + n ≤ length s
-      end-within = omega (arith, i.from_is, r.is, sum-next ns k h, sum-within ns (suc k), facts.adds_up)
+      end-within = omega (arith, i.from_is, r, sum-next ns k h, sum-within ns (suc k), facts.adds_up)
 
       its-input : take ((from + n) - from) (drop from s) ≡ get_or (cut_by ns s) k []
       its-input =
-          let e : (from + n) - from ≡ get_or ns k 0 = omega (arith, r.is) in
+          let e : (from + n) - from ≡ get_or ns k 0 = omega (arith, r) in
           ap (λ (m : ℕ). take m (drop from s)) e ∙ ap (λ (m : ℕ). take (get_or ns k 0) (drop m s)) i.from_is ∙ sym (cut_at ns s k h)
 
       -- the pupil that sits
@@ -115,7 +115,7 @@ module _ {c s ns bs res₀ out₀ : List ℕ} {memory₀ : ℕ} (pre : Classable
             let z : suc k ≡ k + 1 = omega arith in
             record {
               upto = omega (arith, h);
-              from_is = omega (arith, i.from_is, r.is, sum-next ns k h) ∙ ap (λ (j : ℕ). sum (take j ns)) z;
+              from_is = omega (arith, i.from_is, r, sum-next ns k h) ∙ ap (λ (j : ℕ). sum (take j ns)) z;
               results_are = w ∙ ap (pasted res (3 * k)) cells_are ∙ ap (λ (l : List ℕ). pasted l (3 * k) (result_cells p)) i.results_are
                   ∙ ap (λ (j : ℕ). pasted (results_of qs res₀) (3 * j) (result_cells p)) (sym had) ∙ results_next qs p res₀
                   ∙ ap (λ (l : List Pupil). results_of l res₀) next-all;

@@ -11,7 +11,8 @@ use language::Machine;
 // The most pupils of a class.
 const CLASS: usize = 16;
 
-// Number, count and length of Q1.
+// Number, count and length of Q1, as the results for C have them: 61, 0 and 0 for a refused input.
+// No `running::Ran` inside: each use would name both, and a refused input has no run.
 #[derive(Clone, Copy)]
 pub struct Told {
     pub number: u8,
@@ -24,13 +25,7 @@ fn sum(lengths: &[u32]) -> usize
     requires { length lengths.now ≤ 16 }
     ensures { result ≡ sum lengths.now }
 {
-    let mut total = 0;
-    let mut k = 0;
-    while k < lengths.len() {
-        total += cells::read(lengths, k);
-        k += 1;
-    }
-    total
+    lengths.iter().map(|n| *n as usize).sum()
 }
 
 // Question 71, of the lengths and of how many budgets, bytes, cells and bytes of the buffer there are.
@@ -38,19 +33,11 @@ fn fits(lengths: &[u32], budgets: usize, bytes: usize, cells: usize, room: usize
     ensures { result ≡ fits_by lengths.now budgets bytes cells room }
 {
     let n = lengths.len();
-    if CLASS < n {
-        return false;
-    }
-    if budgets != n {
-        return false;
-    }
-    if sum(lengths) != bytes {
-        return false;
-    }
-    if cells < 3 * n {
-        return false;
-    }
-    Machine::OUTPUT * n <= room
+    n <= CLASS
+        && budgets == n
+        && sum(lengths) == bytes
+        && 3 * n <= cells
+        && Machine::OUTPUT * n <= room
 }
 
 // Copies Q1 of a state at rest; returns its length.
@@ -93,16 +80,15 @@ fn run_pupil(
 }
 
 // Writes number, count and length to three cells.
-fn write_result(results: &mut [u32], at: usize, number: u8, count: u32, shown: u32)
+fn write_result(results: &mut [u32], at: usize, told: Told)
     requires { at + 3 ≤ length results.old }
-    ensures { results.new ≡ pasted results.old at (number ∷ count ∷ shown ∷ []) }
+    ensures { results.new ≡ pasted results.old at (told.number ∷ told.count ∷ told.length ∷ []) }
 {
-    results[at] = number as u32;
-    results[at + 1] = count;
-    results[at + 2] = shown;
+    results[at..at + 3].copy_from_slice(&[u32::from(told.number), told.count, told.length]);
 }
 
 // One pupil after the other.
+// The C call lends inputs, lengths, budgets, results and buffer side by side, so they come so here and in `run_class`.
 fn run_pupils(
     table: &[u32],
     inputs: &[u8],
@@ -115,11 +101,10 @@ fn run_pupils(
     requires { Classable table.now inputs.now lengths.now budgets.now results.old out.old (length state.old) }
     ensures { Written table.now inputs.now lengths.now budgets.now results.old out.old results.new out.new }
 {
-    let mut k = 0;
     let mut from = 0;
-    while k < lengths.len() {
-        let end = from + cells::read(lengths, k);
-        let t = run_pupil(
+    for (k, length) in lengths.iter().enumerate() {
+        let end = from + *length as usize;
+        let told = run_pupil(
             table,
             &inputs[from..end],
             budgets[k],
@@ -127,13 +112,13 @@ fn run_pupils(
             out,
             Machine::OUTPUT * k,
         );
-        write_result(results, 3 * k, t.number, t.count, t.length);
+        write_result(results, 3 * k, told);
         from = end;
-        k += 1;
     }
 }
 
 // "One call takes a table and up to 16 inputs for I1, laid end to end with their lengths, and one budget for each."
+// The number is the one that the C call tells: 62, 71 or 80.
 pub fn run_class(
     table: &[u32],
     inputs: &[u8],

@@ -1,28 +1,15 @@
 -- The loops over the lines of the input.
 use mathlib.Core.Path.{◌≡◌, refl, ap, sym, ◌∙◌}
-use mathlib.Core.Bool.{Bool, true, false, cond, and-false}
-use mathlib.Core.List.{List, [], ◌∷◌, ◌++◌}
+use mathlib.Core.Bool.{Bool, true, false, cond}
+use mathlib.Core.List.{List, [], ◌++◌}
 use Prim.Native.Nat.{ℕ, ◌+◌, ◌-◌, ◌≤◌, ◌<◌}
 use native.Mathlib.Omega.{arith}
-use lib.Dec.{eqb}
 use lib.ListN.{length, take, drop, length-append, length-take, length-drop, drop_of_length-le}
 use lib.Seq.{drop-drop}
-use Rattle.lists.specs.Lists.{bytes_equal}
-use Rattle.lists.specs.Quoted.{bytes}
 use Rattle.text_lines.specs.Lines.{lines, line_length, LineEnd}
 use Rattle.console.specs.Console.{is_last, through, text_of}
 use Rattle.console.specs.ConsoleLaws.{text_first, text-ends}
 use Rattle.console.specs.Parts.{TextEnd}
-
--- ---- a line of fewer than four bytes does not start with KONP
-
-other_length : (v w : List ℕ) → length v < length w → bytes_equal v w ≡ false
-other_length v [] h = absurd (omega arith)
-other_length [] (y ∷ w) h = refl
-other_length (x ∷ v) (y ∷ w) h = rw (other_length v w (omega arith)) (and-false (eqb x y))
-
-pub too_short : (l : List ℕ) → length l < 4 → false ≡ is_last l
-too_short l h = sym (other_length (take 4 l) (bytes "KONP") (omega (arith, length-take 4 l)))
 
 -- ---- the text by its lines: those before `at` start with something else
 

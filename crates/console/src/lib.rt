@@ -1,4 +1,4 @@
-// The program on standard input: where the text ends, and the lines that it prints.
+// The program on standard input: where the text ends, and the lines that it prints, into lent memory: that cannot fail, as `write!` can.
 #![tactic(auto)]
 
 ghost use Rattle.std.specs.Prelude.{◌≡◌, ◌+◌, ◌≤◌, ◌<◌, length};
@@ -7,20 +7,17 @@ ghost use Rattle.console.specs.Parts.{TextEnd, Put, Room, RefusalRoom, EndRoom, 
 
 const KONP: [u8; 4] = *b"KONP";
 
-// The number of a pause.
+// The number of a pause, as the C call tells it.
 const PAUSE: usize = 81;
 
 // Whether a line is one "starting with KONP".
 fn is_last(line: &[u8]) -> bool
     ensures { result ≡ is_last line.now }
 {
-    if line.len() < 4 {
-        return false;
-    }
-    words::same(&line[..4], &KONP)
+    line.starts_with(&KONP)
 }
 
-// How many bytes of the input are the text.
+// How many bytes of the input are the text: from line to line by `line_end`, whose promise is in the words of the lines.
 pub fn text_end(input: &[u8]) -> usize
     ensures { TextEnd input.now result }
 {
@@ -36,6 +33,7 @@ pub fn text_end(input: &[u8]) -> usize
 }
 
 // Writes bytes from index `at` on, and tells the index behind them.
+// `out` and `at` are no struct: that would hold a lent slice, and each promise would speak of its two fields.
 pub fn put(out: &mut [u8], at: usize, bytes: &[u8]) -> usize
     requires { at + length bytes.now ≤ length out.old }
     ensures { Put out.old at bytes.now out.new result }
@@ -60,9 +58,9 @@ fn put_two(out: &mut [u8], at: usize, n: usize) -> usize
     requires { at + 2 ≤ length out.old }
     ensures { Put out.old at (two_digits n) out.new result }
 {
-    out[at] = (48 + n / 10 % 10) as u8;
-    out[at + 1] = (48 + n % 10) as u8;
-    at + 2
+    let tens = b'0' + (n / 10 % 10) as u8;
+    let ones = b'0' + (n % 10) as u8;
+    put(out, at, &[tens, ones])
 }
 
 // Writes the line of a refusal at the front, and tells its length.
@@ -77,6 +75,7 @@ pub fn refusal(out: &mut [u8], number: usize, line: usize) -> usize
 }
 
 // Writes PAUSE, or STOP with the number.
+// The number is the one that the C call of a run tells, here and in `put_end`.
 fn put_answer(out: &mut [u8], at: usize, number: usize) -> usize
     requires { Room (length out.old) at 5 number }
     ensures { Put out.old at (answer_bytes (answer_by number)) out.new result }

@@ -40,6 +40,7 @@ fn pass_taken(
 }
 
 // Takes away what a test takes after the pointer of file `i`.
+// Not one with `pass_taken`: that moves bytes in `pool` and keeps the totals; this lowers the totals and leaves `pool` as it is.
 fn drop_taken(
     pool: &[u8],
     ends: &mut [u32],

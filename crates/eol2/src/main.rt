@@ -9,7 +9,7 @@ ghost use Rattle.eol2.specs.Answering.{Answers};
 use std::io;
 use std::io::{Read, Write};
 
-// Reads until the buffer is full, the input ends or a read fails, and returns how many bytes are then at its front.
+// Reads until the buffer is full, the input ends or a read fails, and returns how many bytes are then at its front, as `read_exact` does not.
 fn read_full<R: Read>(input: &mut R, buffer: &mut [u8]) -> usize
     ensures within { result ≤ length buffer.new }
     ensures bytes { Consumes (R.remaining input.old) (R.remaining input.new) (take result buffer.new) }
@@ -26,6 +26,7 @@ fn read_full<R: Read>(input: &mut R, buffer: &mut [u8]) -> usize
 }
 
 // Prints what the input brings. Where it is known which bytes a writer holds, they are then the last ones.
+// `batch` tells how many bytes of `out` it wrote, and `read_full` how many of `input` it read: those alone are passed on.
 fn print<W: Write>(to: &mut W, input: &[u8], out: &mut [u8]) -> io::Result<()>
     requires { 4224 ≤ length out.old }
     ensures { OnOk result (Appends (W.contents to.old) (W.contents to.new) (printed input.now)) }

@@ -16,11 +16,11 @@ use shortening::from_macro_loading;
 use state_restoring::from_state_saving;
 use translating::from_loading::Loaded;
 
-// Number and value in one.
+// Number and value in one. The numbers below are those that C gets.
 fn packed(number: u8, value: u32) -> u64
     ensures { result ≡ packed number value }
 {
-    number as u64 * 4294967296 + value as u64
+    u64::from(number) * 4294967296 + u64::from(value)
 }
 
 // The number and the line of a text: "Accepted is 80 (load: line 0)".
@@ -49,6 +49,8 @@ pub fn eol2_shorten(text: &[u8], table: &mut [u32], out: &mut [u8]) -> u64
 }
 
 // "Start then makes H plus, all else empty."
+// Table, I1 and I2 are arguments of their own here and in three calls below, since C lends them one by one.
+// What this call and `eol2_run` share, the first question, is `check_calls::ask`; each tells a refusal itself.
 pub fn eol2_start(table: &[u32], i1: &[u8], i2: &[u8], state: &mut [u8]) -> u64
     ensures { Answers (start_of table.now (i1.now ∷ i2.now ∷ []) state.old) result state.new }
 {

@@ -1,4 +1,5 @@
 // The calls for C: those of the crate `interpreter`, with its clauses. A slice passes as a pointer and a length.
+// Each stands here again, since a static library gives C only the functions of its own crate.
 #![tactic(auto)]
 
 ghost use Rattle.std.specs.Prelude.{[], ◌∷◌, length};

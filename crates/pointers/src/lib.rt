@@ -126,6 +126,7 @@ pub fn zamien_exprs(
 }
 
 // ZAMIEN of the files `i` and `j`.
+// Not one with `zamien_exprs`: a file is two strings, an expression is one, and each exchange has its own definition and conditions.
 pub fn zamien_files(
     pool: &mut [u8],
     ends: &mut [u32],

@@ -135,6 +135,7 @@ pub fn czytaj(
 }
 
 // Reads past what a test takes of input `i`.
+// Not one with `moves::cut_off`, for USUN of an expression: that removes components, this moves the place in an input past characters.
 fn pass(
     input: &[u8],
     pool: &[u8],

@@ -82,11 +82,11 @@ module _ {c i j : List ℕ} {s₀ : State} {p e n : List ℕ} {scratch hold give
       (record { number_is = rw e x; count_is = rw e y }, rw e (laws.kept h w))
 
 module _ {c i j : List ℕ} {s₀ : State} {p e n : List ℕ} {scratch hold given count budget : ℕ} (u : Going c i j s₀ p e n scratch hold given count budget) where
-  pub ran-pause : budget ≤ count → {r : Ran} → r.number ≡ 81 → r.count ≡ count
+  pub ran-pause : budget ≤ count → {r : Ran} → r.number ≡ 81 → r.count ≡ budget
       → Tells (run_on c i j budget s₀) r × HoldsState p e n (run_on c i j budget s₀).state
   ran-pause b {r} x y =
       let q : count ≡ budget = omega (arith, u.most) in
-      let e : run_on c i j budget s₀ ≡ ran pause count (state_at p e n) = rw (← q) (run-pause (step (program_of c) (inputs i j)) u.goes) in
+      let e : run_on c i j budget s₀ ≡ ran pause budget (state_at p e n) = rw (← q) (run-pause (step (program_of c) (inputs i j)) u.goes) in
       (record { number_is = rw e x; count_is = rw e y }, rw e u.ready.stands)
 
 -- ---- on lent memory

@@ -7,7 +7,10 @@ ghost use Rattle.running.specs.Running.{RanTo, Runnable, RanOn};
 
 use layout::StatePlaces;
 
-// The answer of a run: 81 for a pause, or the number of a stop; and how many instructions were completed.
+// The number of a pause.
+const PAUSE: u8 = 81;
+
+// The answer of a run, as the C call tells it: 81 for a pause, or the number of a stop; and how many instructions were completed.
 #[derive(Clone, Copy)]
 pub struct Ran {
     pub number: u8,
@@ -30,8 +33,7 @@ fn run_steps(
     requires { Steppable table.now i1.now i2.now pool.old ends.old nums.old (length scratch.old) (length hold.old) (length given.old) }
     ensures { RanTo table.now i1.now i2.now budget pool.old ends.old nums.old result pool.new ends.new nums.new }
 {
-    let mut count: u32 = 0;
-    while count < budget {
+    for count in 0..budget {
         let stop = stepping::step(table, i1, i2, pool, ends, nums, scratch, hold, given);
         if stop != 0 {
             return Ran {
@@ -39,11 +41,10 @@ fn run_steps(
                 count: count,
             };
         }
-        count += 1;
     }
     Ran {
-        number: 81,
-        count: count,
+        number: PAUSE,
+        count: budget,
     }
 }
 

@@ -44,6 +44,7 @@ fn has_split_room(pool: &[u8], ends: &[u32], nums: &[u32], removes: bool, k: usi
 }
 
 // Puts the characters that a test takes of the first word of expression `i` in front of it as words: 0, or the question answered no.
+// Not one with `joining::join_up`, `printing::spell` or `moves::send_copy`: each asks another room and makes other bytes of what it takes.
 fn split_up(
     pool: &mut [u8],
     ends: &mut [u32],

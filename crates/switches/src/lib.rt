@@ -54,7 +54,7 @@ fn find(table: &[u32], pool: &[u8], ends: &[u32], nums: &[u32], i: usize, switch
     let w = components::chars_of(x);
     let first = table::switch_first(table, switch);
     let count = table::switch_count(table, switch);
-    table::find_entry(table, first, count, w)
+    table::find_entry(table, first, count, w).unwrap_or(count)
 }
 
 // The entry of a switch by the number in front of expression `i`; past the last where there is none.

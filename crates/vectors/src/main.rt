@@ -10,12 +10,14 @@ use std::io::{Read, Write};
 // At most so many vectors are read.
 const MOST: u64 = 100_000;
 
-// A count of bytes, and no more than there is room for.
-fn capped(n: usize, most: usize) -> usize
-    ensures { result ≡ min n most }
-{
-    if n < most { n } else { most }
-}
+// The head of a vector: its name, and where the counts of the bytes of its input and of those to be printed stand.
+const HEAD: usize = 64;
+
+const NAME: usize = 56;
+
+const INPUT_COUNT: usize = 56;
+
+const EXPECTED_COUNT: usize = 60;
 
 // Reads `n` bytes, or as many as there are, to the front of a buffer; those behind stay.
 fn fill<R: Read>(from: &mut R, buffer: &mut [u8], n: usize)
@@ -31,7 +33,7 @@ fn prints(input: &[u8], expected: &[u8], out: &mut [u8]) -> bool
     ensures { result ≡ prints_as input.now expected.now }
 {
     let n = batch::answer(input, out);
-    words::same(&out[..n], expected)
+    &out[..n] == expected
 }
 
 // Reads the rest of a vector, and tells whether it passes.
@@ -45,8 +47,8 @@ fn passes<R: Read>(
     requires { Buffers (length head.now) (length out.old) }
     ensures { result ≡ passes_as head.now input.new expected.new }
 {
-    let n = capped(cells::three_at(head, 56), input.len());
-    let m = capped(cells::three_at(head, 60), expected.len());
+    let n = cells::three_at(head, INPUT_COUNT).min(input.len());
+    let m = cells::three_at(head, EXPECTED_COUNT).min(expected.len());
     fill(from, input, n);
     fill(from, expected, m);
     prints(&input[..n], &expected[..m], out)
@@ -58,27 +60,30 @@ fn differs<P: Print>(rt: &P, head: &[u8])
 {
     let mut out = io::writer(rt);
     let _ = out.write_all(b"differs: ");
-    let _ = out.write_all(&head[..56]);
+    let _ = out.write_all(&head[..NAME]);
     let _ = out.write_all(b"\n");
 }
 
-fn main(rt: HostRuntime) {
-    let mut from = rt.reader();
-    let mut head = [0u8; 64];
+// How many vectors pass, up to the first that does not.
+fn count_passed<P: Print, R: Read>(rt: &P, from: &mut R) -> u64 {
+    let mut head = [0u8; HEAD];
     let mut input = [0u8; 65536];
     let mut expected = [0u8; 4224];
     let mut out = [0u8; 4224];
-    let mut count = 0u64;
-    while count < MOST {
-        fill(&mut from, &mut head, 64);
+    for count in 0..MOST {
+        fill(from, &mut head, HEAD);
         if head[0] == 0 {
-            break;
+            return count;
         }
-        if !passes(&mut from, &head, &mut input, &mut expected, &mut out) {
-            differs(&rt, &head);
-            break;
+        if !passes(from, &head, &mut input, &mut expected, &mut out) {
+            differs(rt, &head);
+            return count;
         }
-        count += 1;
     }
+    MOST
+}
+
+fn main(rt: HostRuntime) {
+    let count = count_passed(&rt, &mut rt.reader());
     let _ = println!(rt; "{count} vectors passed");
 }

@@ -17,9 +17,6 @@ returns-then-stop-ne0 c =
     let x = ran-stop loop.invariant.going step.ensures c.loop-count-test.true c.if-stop-ne0.true refl refl in
     record { tells = x.0; holds = x.1 }
 
-pub loop-count-smaller : goal.loop-count-smaller
-loop-count-smaller c = omega (arith, c.loop-count-test.true)
-
 pub loop-count-preserved : goal.loop-count-preserved
 loop-count-preserved c =
     let step = c.step-stop in

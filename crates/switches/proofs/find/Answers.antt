@@ -2,6 +2,7 @@
 use mathlib.Core.Path.{sym, ap, ◌∙◌}
 use Rattle.language.specs.Values.{chars}
 use Rattle.state.specs.Working.{state_at}
+use Rattle.table.proofs.Keys.{met_or}
 use Rattle.switches.proofs.Fronts.{leading, some-there, first-there, switch-placed, its-entries, found}
 use Rattle.switches.proofs.find.Goals as goal
 
@@ -41,6 +42,5 @@ returns c =
     let argsᶜ = c.args in
     let chars-ofᶜ = c.chars_of-w in
     let expr-bytesᶜ = c.expr_bytes-x in
-    let find-entryᶜ = c.find_entry in
     found preᶜ.switch switch-firstᶜ.ensures switch-countᶜ.ensures (state_at argsᶜ.pool.now argsᶜ.ends.now argsᶜ.nums.now).store argsᶜ.i
-    (chars-ofᶜ.ensures.is ∙ ap chars (sym (first-there expr-bytesᶜ.ensures preᶜ.fronted.some))) find-entryᶜ.ensures
+    (chars-ofᶜ.ensures.is ∙ ap chars (sym (first-there expr-bytesᶜ.ensures preᶜ.fronted.some))) (met_or argsᶜ.table.now chars-ofᶜ.result.now switch-firstᶜ.result switch-countᶜ.result c.find_entry.ensures c.unwrap_or.ensures)
