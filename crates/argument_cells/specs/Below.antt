@@ -1,5 +1,4 @@
 -- Modules of the crates below, passed on to those above. Declares nothing.
-pub use Rattle.entering.specs.Below.ArgumentsValues
 pub use Rattle.entering.specs.Below.CountLaws
 pub use Rattle.entering.specs.Below.Finding
 pub use Rattle.entering.specs.Below.Head

@@ -66,7 +66,7 @@ pub fn argument_cell(text: &[u8], x: Argument, table: &[u32]) -> usize
 
 // Of `arguments`, passed on to the crates above.
 pub mod from_arguments {
-    pub use entering::from_arguments::Values;
+    pub use entering::from_arguments::Value;
 }
 
 // Of `entering`, passed on to the crates above.

@@ -24,8 +24,8 @@ use Rattle.lexer.proofs.Finding.{is-sort, word-chars, no-chars}
 use Rattle.lists.specs.Lists.{filled, keep}
 use Rattle.lists.specs.ListLaws.{T-left, T-right, T-both, all_head, all_tail, all_cons, all_keep}
 use Rattle.statements.specs.LowestLaws.{none_before, none-before-both, fault-first, fault-within}
-use Rattle.statements.specs.declared.Fault.{Fault}
-use Rattle.statements.specs.declared.Fault.TheVariants.{Clear, At}
+use Rattle.statements.specs.Faults.{Fault}
+use Rattle.std.specs.Prelude.{None, Some}
 use Rattle.statements.specs.PlaceLaws.{stands_from, all_from, statement-from, places-from}
 use Rattle.statements.specs.StatementAt.{statement_at, stops, fault_of}
 use Rattle.statements.specs.StatementLaws.{at-stop, at_item}
@@ -84,7 +84,7 @@ colon-behind {s} {t} h =
     ] refl
 
 module _ (o : Op) (live : Live) (place : ℕ) {s : List ℕ} {n : ℕ} {t : Token} (k : NextToken s n t) where
-  pub items-end : stops t.sort ≡ true → fault_of (argument_faults o live place (statement_at s n)) ≡ Clear
+  pub items-end : stops t.sort ≡ true → fault_of (argument_faults o live place (statement_at s n)) ≡ None
   unfolding argument_faults colons read_by
   items-end z = ap (λ js. fault_of (argument_faults o live place js)) (at-stop k z)
 
@@ -98,7 +98,7 @@ module _ (o : Op) (live : Live) (place : ℕ) {s : List ℕ} {n : ℕ} {t : Toke
     from_here : T (all_from t.at js)
     from_here = statement-from s t.next t.at (omega (arith, k.stands.own, k.stands.behind))
 
-    pub colon-here : t.sort ≡ 2 → fault_of (argument_faults o live place (statement_at s n)) ≡ At t.at
+    pub colon-here : t.sort ≡ 2 → fault_of (argument_faults o live place (statement_at s n)) ≡ Some t.at
     unfolding argument_faults colons
     colon-here e =
         let f : argument_faults o live place (statement_at s n) ≡ t.at ∷ argument_faults o live place js = rw (at_item k z, is-sort colon k.stands, eq-eqb 2 t.sort (sym e)) in
@@ -116,7 +116,7 @@ module _ (o : Op) (live : Live) (place : ℕ) {s : List ℕ} {n : ℕ} {t : Toke
           (elim (eqb b.form 45) as (λ c. (colon_of t ++ colons js) ++ places (map (λ x. x.item) (cond (c || false) (record { item = i; form = b.form } ∷ keep (λ x. form_in "-" x.form) (read_from o b.live (suc place) js)) (keep (λ x. form_in "-" x.form) (read_from o b.live (suc place) js))))
           ≡ (colon_of t ++ colons js) ++ cond c (t.at ∷ later) later) [ true ↦ refl | false ↦ refl ])
 
-      pub unlisted-here : b.form ≡ 45 → fault_of (argument_faults o live place (statement_at s n)) ≡ At t.at
+      pub unlisted-here : b.form ≡ 45 → fault_of (argument_faults o live place (statement_at s n)) ≡ Some t.at
       unlisted-here f =
           ap fault_of (rw (eq-eqb b.form 45 f) at turn)
           ∙ fault-within t.at (colon_of t ++ colons js) later
@@ -127,7 +127,7 @@ module _ (o : Op) (live : Live) (place : ℕ) {s : List ℕ} {n : ℕ} {t : Toke
         goes_on : argument_faults o live place (statement_at s n) ≡ (colon_of t ++ colons js) ++ later
         goes_on = rw (ne_eqb b.form 45 f) at turn
 
-        pub colon-after-argument : (t.colon ≡ 0 → ⊥) → fault_of (argument_faults o live place (statement_at s n)) ≡ At t.colon
+        pub colon-after-argument : (t.colon ≡ 0 → ⊥) → fault_of (argument_faults o live place (statement_at s n)) ≡ Some t.colon
         unfolding argument_faults
         colon-after-argument y =
             ap fault_of (rw (ne_eqb t.colon 0 y) at goes_on)
@@ -173,13 +173,13 @@ taken-none t h = none-by t (eqb t.form 45) refl h
 
 -- 02 of an instruction: an argument is missing, or what is at fault among them
 pub judged-so : {s : List ℕ} {t : Token} → Stands s t → (o : Op) {f : Fault} → fault_of (argument_faults o Live.Both 0 (statement_at s t.next)) ≡ f
-    → cond (ltb (length (arguments_in (statement_at s t.next))) (least o)) (At t.at) f ≡ fault_of (instr_after s t o)
+    → cond (ltb (length (arguments_in (statement_at s t.next))) (least o)) (Some t.at) f ≡ fault_of (instr_after s t o)
 unfolding instr_after argument_faults
 judged-so {s} {t} h o {f} q =
     let js = statement_at s t.next in
     let none : T (all_from t.at js) = statement-from s t.next t.at (omega (arith, h.own, h.behind)) in
     let unlisted : List ℕ = places (of_form "-" (arguments o js)) in
-    elim (ltb (length (arguments_in js)) (least o)) as (λ b. cond b (At t.at) f ≡ fault_of (colons js ++ cond b (t.at ∷ []) [] ++ unlisted)) [
+    elim (ltb (length (arguments_in js)) (least o)) as (λ b. cond b (Some t.at) f ≡ fault_of (colons js ++ cond b (t.at ∷ []) [] ++ unlisted)) [
       | true ↦ sym (ap fault_of (append_assoc (colons js) (t.at ∷ []) unlisted)
           ∙ fault-within t.at (colons js) unlisted (colons-from t.at js none) (forms-from t.at (alternatives o) js none))
       | false ↦ sym q ∙ rw (← lists-first o, append-nil (colons js))

@@ -11,9 +11,10 @@ use Rattle.language.specs.Program.{Op}
 use Rattle.lexer.specs.declared.Token.{Token}
 use Rattle.lexer.specs.Tokens.{Stands}
 use Rattle.lists.specs.Lists.{each}
-use Rattle.statements.specs.declared.Fault.{Fault}
-use Rattle.statements.specs.declared.Fault.TheVariants.{Clear, At}
-use Rattle.statements.specs.StatementAt.{statement_at, fault_of, Ended}
+use Rattle.statements.specs.Faults.{Fault}
+use Rattle.std.specs.Prelude.{None, Some}
+use Rattle.statements.specs.StatementAt.{statement_at, fault_of}
+use Rattle.heads.specs.Heads.{EndedBy}
 use Rattle.syntax.specs.ArgumentForms.{Argument, arguments_in, arguments, read_by, of_form, most, least}
 use Rattle.syntax.specs.Items.{Item, is, places}
 use Rattle.syntax.specs.Items.Sort.{colon}
@@ -43,11 +44,11 @@ InstrFault s t number r = (o : Op) → (operation o).number ≡ number → r ≡
 
 -- the operator's place at, where a count of arguments is less than the operator of a number needs
 unfoldable pub missing_or : ℕ → ℕ → ℕ → Fault → Fault
-missing_or number at count f = cond (ltb count (least_of number)) (At at) f
+missing_or number at count f = cond (ltb count (least_of number)) (Some at) f
 
 -- the lowest place in excess, with one more where there is one
 abbrev pub with_excess : Fault → Bool → ℕ → Fault
-with_excess over more at = cond more (lower over (At at)) over
+with_excess over more at = cond more (lower over (Some at)) over
 
 -- the items from n on, after others whose questions 14 to 16 are the number w
 pub record Leaves (s : List ℕ) (n w : ℕ) : Type 0 where
@@ -60,7 +61,7 @@ pub record ReadsLeft (s : List ℕ) (n skip w : ℕ) (r : Left) : Type 0 where
   pub count_is : r.count ≡ length (arguments_in (statement_at s n))
   pub few : r.count ≤ length s
   pub worst_is : r.worst ≡ min w (worst (statement_at s n))
-  pub ends : Ended s n r.next r.last
+  pub ends : EndedBy s n r.next
 
 -- the items from i on, which `place` arguments stand before
 pub record Refusable (s : List ℕ) (number place i w : ℕ) : Type 0 where
@@ -69,9 +70,9 @@ pub record Refusable (s : List ℕ) (number place i w : ℕ) : Type 0 where
 
 pub record Refuses (s : List ℕ) (at number place i p w : ℕ) (r : Arguments) : Type 0 where
   pub over_is : r.over ≡ fault_of (places (drop (most_of number - place) (arguments_in (statement_at s i))))
-  pub fault_is : r.fault ≡ missing_or number at (place + length (arguments_in (statement_at s i))) (At p)
+  pub fault_is : r.fault ≡ missing_or number at (place + length (arguments_in (statement_at s i))) (Some p)
   pub worst_is : r.worst ≡ min w (worst (statement_at s i))
-  pub ends : Ended s i r.next r.last
+  pub ends : EndedBy s i r.next
 
 -- the operator of a number is the token t; questions 14 to 16 of the items up to it are the number w
 pub record Operates (s : List ℕ) (t : Token) (number w : ℕ) : Type 0 where
@@ -84,6 +85,6 @@ pub record Operates (s : List ℕ) (t : Token) (number w : ℕ) : Type 0 where
 pub record ReadsArguments (s : List ℕ) (t : Token) (number w : ℕ) (r : Arguments) : Type 0 where
   pub counted : (o : Op) → (operation o).number ≡ number → r.over ≡ fault_of (places (drop (most o) (arguments_in (statement_at s t.next))))
   pub judged : InstrFault s t number r.fault
-  pub values : r.fault ≡ Clear → ValuesRead s t.next number r.values
+  pub values : r.fault ≡ None → ValuesRead s t.next number r.values
   pub worst_is : r.worst ≡ min w (worst (statement_at s t.next))
-  pub ends : Ended s t.next r.next r.last
+  pub ends : EndedBy s t.next r.next

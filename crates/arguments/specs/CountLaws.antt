@@ -4,14 +4,15 @@ use Rattle.std.proofs.Math.Path.{ap}
 use Rattle.std.proofs.Common.{sym, ◌∙◌, arith, ltb→lt}
 use Rattle.forms.specs.SetLaws.{by-operator}
 use Rattle.heads.specs.declared.Head.{Head}
-use Rattle.heads.specs.Heads.{instr_of, Headed}
+use Rattle.heads.specs.Heads.{instr_of, instr_by, Headed}
+use Rattle.std.proofs.lemmas.Option.{none-some}
 use Rattle.heads.specs.HeadLaws.{no-keyword, rest-here}
 use Rattle.language.specs.Instructions.{operation}
 use Rattle.language.specs.Program.{Op}
 use Rattle.lexer.specs.declared.Token.{Token}
 use Rattle.lexer.specs.Tokens.{item_of, NextToken}
 use Rattle.lexer.proofs.Finding.{is-sort}
-use Rattle.statements.specs.declared.Fault.TheVariants.{Clear}
+use Rattle.std.specs.Prelude.{None, Some}
 use Rattle.statements.specs.StatementAt.{statement_at, stops, fault_of}
 use Rattle.statements.specs.StatementLaws.{at_item}
 use Rattle.syntax.specs.ArgumentForms.{arguments_in, most}
@@ -48,6 +49,15 @@ instruction Spec.Keyword.KONP e z = absurd (z e)
 instruction (Spec.Keyword.switch goes_by_name) e z = absurd (z e)
 instruction (Spec.Keyword.instr o) e z = record { op = o; is = refl; has = sym e }
 
+pub above : (k : Spec.Keyword) {m : ℕ} → Some m ≡ instr_by (told k) → m ≡ 0 → ⊥
+above Spec.Keyword.none e z = none-some _ (sym e)
+above Spec.Keyword.unknown e z = none-some _ (sym e)
+above Spec.Keyword.SEKCJA e z = none-some _ (sym e)
+above Spec.Keyword.KONS e z = none-some _ (sym e)
+above Spec.Keyword.KONP e z = none-some _ (sym e)
+above (Spec.Keyword.switch goes_by_name) e z = none-some _ (sym e)
+above (Spec.Keyword.instr o) {m} e z = let f : m ≡ (operation o).number = cc in omega (arith, numbered o, f, z)
+
 pub no-instruction : (f : Op → List ℕ) (k : Spec.Keyword) {m : ℕ} → m ≡ instr_of (told k) → m ≡ 0 → by_keyword f (λ goes_by_name. []) [] k ≡ []
 unfolding by_keyword
 no-instruction f Spec.Keyword.none e z = refl
@@ -60,7 +70,7 @@ no-instruction f (Spec.Keyword.instr o) e z = absurd (omega (arith, numbered o, 
 
 -- 01
 module _ {s : List ℕ} {n : ℕ} {h : Head} (g : Headed s n h) {m : ℕ} (e : m ≡ instr_of h.keyword) where
-  pub not-counted : m ≡ 0 → fault_of (count_faults (statement_at s n)) ≡ Clear
+  pub not-counted : m ≡ 0 → fault_of (count_faults (statement_at s n)) ≡ None
   unfolding count_faults
   not-counted z = ap fault_of (no-instruction (λ op. places (drop (most op) (arguments_in (rest (statement_at s n))))) (keyword_in (statement_at s n)) (e ∙ ap instr_of g.keyword) z)
 

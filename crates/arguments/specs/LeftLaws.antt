@@ -14,9 +14,11 @@ use Rattle.statements.specs.FaultLaws.{fault-both}
 use Rattle.language.specs.Limits as limit
 use Rattle.lexer.specs.declared.Token.{Token}
 use Rattle.lexer.specs.Tokens.{item_of, Stands, NextToken}
-use Rattle.statements.specs.declared.Fault.{Fault}
-use Rattle.statements.specs.declared.Fault.TheVariants.{Clear}
-use Rattle.statements.specs.StatementAt.{statement_at, stops, fault_of, Ended}
+use Rattle.statements.specs.Faults.{Fault}
+use Rattle.std.specs.Prelude.{Option, None}
+use Rattle.statements.specs.StatementAt.{statement_at, stops, fault_of}
+use Rattle.heads.specs.Heads.{following, EndedBy}
+use Rattle.heads.specs.HeadLaws.{ended-by, ended-on}
 use Rattle.statements.specs.StatementLaws.{at-stop, on}
 use Rattle.statements.proofs.Ends.{Within, begins-within, still-within, ends-here, ends-then}
 use Rattle.syntax.specs.ArgumentForms.{arguments_in}
@@ -52,15 +54,15 @@ module _ {s : List ℕ} {n begun i w : ℕ} (p : Passing s n begun i w) where
     pub passed-worst : stops t.sort ≡ true → w ≡ min begun (worst (statement_at s n))
     passed-worst z = omega (arith, worst-stop k z, p.worst_is, p.known)
 
-    pub passed-end : stops t.sort ≡ true → Ended s n t.next (eqb t.sort 0)
-    passed-end z = ends-here p.within k z
+    pub passed-end : stops t.sort ≡ true → {r : Option ℕ} → r ≡ following t → EndedBy s n r
+    passed-end z q = ended-by t (ends-here p.within k z) q
 
   -- another reader takes those from i on
   pub worst-then : {v : ℕ} → v ≡ min w (worst (statement_at s i)) → v ≡ min begun (worst (statement_at s n))
   worst-then e = e ∙ p.worst_is
 
-  pub end-then : {next : ℕ} {last : Bool} → Ended s i next last → Ended s n next last
-  end-then e = ends-then p.within e
+  pub end-then : {r : Option ℕ} → EndedBy s i r → EndedBy s n r
+  end-then e = ended-on (λ k b. ends-then p.within) e
 
 -- ---- arguments: of those from n on, c stand before place i, and `over` is the lowest of them in excess
 
@@ -89,7 +91,7 @@ pub record Leaving (s : List ℕ) (n skip begun i c w : ℕ) (over : Fault) : Ty
   pub over_is : over ≡ fault_of found
   pub found_is : places (drop skip (arguments_in (statement_at s n))) ≡ found ++ places (drop (skip - c) (arguments_in (statement_at s i)))
 
-pub leaving-first : {s : List ℕ} {n w : ℕ} (skip : ℕ) → Leaves s n w → Leaving s n skip w n 0 w Clear
+pub leaving-first : {s : List ℕ} {n w : ℕ} (skip : ℕ) → Leaves s n w → Leaving s n skip w n 0 w None
 leaving-first {s} {n} skip h =
     let q : skip ≡ skip - 0 = omega arith in
     record {
@@ -102,15 +104,15 @@ leaving-first {s} {n} skip h =
     }
 
 module _ {s : List ℕ} {n skip begun i c w : ℕ} {over : Fault} {t : Token} (l : Leaving s n skip begun i c w over) (k : NextToken s i t) where
-  pub left_end : stops t.sort ≡ true → ReadsLeft s n skip begun (record { over = over; count = c; worst = w; next = t.next; last = eqb t.sort 0 })
-  left_end z =
+  pub left_end : stops t.sort ≡ true → {r : Option ℕ} → r ≡ following t → ReadsLeft s n skip begun (record { over = over; count = c; worst = w; next = r })
+  left_end z q =
       let none : arguments_in (statement_at s i) ≡ [] = ap arguments_in (at-stop k z) in
       record {
         over_is = rw (l.over_is, l.found_is, none, drop-nil {A = Item} (skip - c), append-nil l.found);
         count_is = omega (arith, l.count_is, ap length none);
         few = omega (arith, l.few, l.passing.within.most);
         worst_is = passed-worst l.passing k z;
-        ends = passed-end l.passing k z;
+        ends = passed-end l.passing k z q;
       }
 
   module _ (z : stops t.sort ≡ false) where

@@ -7,7 +7,7 @@ use mathlib.Core.List.{List, [], ◌∷◌, ◌++◌, map, map-append, append_as
 use Rattle.std.proofs.Math.Decide.{dec_lt}
 use native.Mathlib.Omega.{arith}
 use Rattle.std.proofs.Math.Dec.{T}
-use Rattle.std.proofs.Math.ListN.{length}
+use Rattle.std.proofs.Math.ListN.{length, set}
 use Rattle.std.proofs.lemmas.List.{length-map}
 use Rattle.std.proofs.Math.Seq.{drop-append-add, drop-nil}
 use Rattle.statements.specs.Checks.{token_code}
@@ -26,8 +26,9 @@ use Rattle.lexer.specs.declared.Token.{Token}
 use Rattle.lexer.specs.Tokens.{item_of, Stands, NextToken}
 use Rattle.lists.specs.Lists.{all, any}
 use Rattle.lists.specs.ListLaws.{T-left, T-right, all_head, all_tail}
-use Rattle.statements.specs.declared.Fault.{Fault}
-use Rattle.statements.specs.declared.Fault.TheVariants.{Clear, At}
+use Rattle.statements.specs.Faults.{Fault}
+use Rattle.std.specs.Prelude.{Option, None, Some}
+use Rattle.heads.specs.Heads.{following}
 use Rattle.statements.specs.PlaceLaws.{statement-from}
 use Rattle.statements.specs.StatementAt.{statement_at, stops, fault_of}
 use Rattle.statements.specs.StatementLaws.{at-stop, at_item}
@@ -37,12 +38,11 @@ use Rattle.syntax.specs.Items.Sort.{text}
 use Rattle.arguments.specs.declared.Arguments.{Arguments}
 use Rattle.arguments.specs.declared.Left.{Left}
 use Rattle.arguments.specs.declared.Value.{Value}
-use Rattle.arguments.specs.declared.Values.{Values}
 use Rattle.arguments.specs.Arguments.{read_from, argument_faults, instr_after, missing_or, ReadsLeft, Refusable, Refuses, Operates, ReadsArguments}
 use Rattle.arguments.specs.ArgumentLaws.{items-read, turned, items-end, argument_listed, judged-so}
 use Rattle.arguments.specs.CountLaws.{arguments-on}
 use Rattle.arguments.specs.LeftLaws.{Passing, passing-first, passing-on, passed-worst, passed-end, worst-then, end-then}
-use Rattle.arguments.specs.Valued.{no_values, put_at, Stood, argument_of, FirstValue, Row, Ordered}
+use Rattle.arguments.specs.Valued.{no_values, nth, Stood, argument_of, FirstValue, Row, Ordered}
 
 -- ---- an argument that is listed is not in excess
 
@@ -92,14 +92,22 @@ module _ (o : Op) (live : Live) (place : ℕ) (i : Item) where
 
 -- ---- one value more
 
-row_on : (s : List ℕ) (xs : List Argument) (v : Values) (a : Argument) (x : Value) → Row s xs v → length xs < 3 → FirstValue s (a ∷ []) x → Row s (xs ++ (a ∷ [])) (put_at v (length xs) x)
-row_on s [] v a x r l h = record { first = h; second = r.second; third = r.third }
-row_on s (b ∷ []) v a x r l h = record { first = r.first; second = h; third = r.third }
-row_on s (b ∷ c ∷ []) v a x r l h = record { first = r.first; second = r.second; third = h }
+-- a row of three, by its values
+three : (v : List Value) → length v ≡ 3 → v ≡ nth v 0 ∷ nth v 1 ∷ nth v 2 ∷ []
+three [] l = absurd (omega arith)
+three (x ∷ []) l = absurd (omega arith)
+three (x ∷ y ∷ []) l = absurd (omega arith)
+three (x ∷ y ∷ z ∷ []) l = refl
+three (x ∷ y ∷ z ∷ t ∷ v) l = absurd (omega arith)
+
+row_on : (s : List ℕ) (xs : List Argument) (v : List Value) (a : Argument) (x : Value) → Row s xs v → length xs < 3 → FirstValue s (a ∷ []) x → Row s (xs ++ (a ∷ [])) (set v (length xs) x)
+row_on s [] v a x r l h = rw (three v r.size) (record { size = refl; first = h; second = r.second; third = r.third })
+row_on s (b ∷ []) v a x r l h = rw (three v r.size) (record { size = refl; first = r.first; second = h; third = r.third })
+row_on s (b ∷ c ∷ []) v a x r l h = rw (three v r.size) (record { size = refl; first = r.first; second = r.second; third = h })
 row_on s (b ∷ c ∷ d ∷ xs) v a x r l h = absurd (omega arith)
 
 -- of the arguments from n on, `place` stand before i, and these are their values
-pub record Before (s : List ℕ) (n : ℕ) (o : Op) (i : ℕ) (live : Live) (place : ℕ) (v : Values) : Type 0 where
+pub record Before (s : List ℕ) (n : ℕ) (o : Op) (i : ℕ) (live : Live) (place : ℕ) (v : List Value) : Type 0 where
   pub xs : List Argument
   pub count : length xs ≡ place
   pub read : arguments o (statement_at s n) ≡ xs ++ read_from o live place (statement_at s i)
@@ -107,7 +115,7 @@ pub record Before (s : List ℕ) (n : ℕ) (o : Op) (i : ℕ) (live : Live) (pla
   pub faults : fault_of (argument_faults o live place (statement_at s i)) ≡ fault_of (argument_faults o Live.Both 0 (statement_at s n))
 
 -- place i is reached: the arguments before it are all listed and without a colon
-pub record Gathering (s : List ℕ) (n number begun i : ℕ) (live : Live) (place : ℕ) (v : Values) (w : ℕ) : Type 0 where
+pub record Gathering (s : List ℕ) (n number begun i : ℕ) (live : Live) (place : ℕ) (v : List Value) (w : ℕ) : Type 0 where
   pub passing : Passing s n begun i w
   pub few : place ≤ 3
   pub below : place ≤ most_of number
@@ -115,7 +123,7 @@ pub record Gathering (s : List ℕ) (n number begun i : ℕ) (live : Live) (plac
   pub orders : Ordered (statement_at s i) → Ordered (statement_at s n)
   pub before : (o : Op) → (operation o).number ≡ number → Before s n o i live place v
 
-pub gathering-first : {s : List ℕ} {t : Token} {number w : ℕ} → Operates s t number w → {v : Values} → v ≡ no_values → Gathering s t.next number w t.next Live.Both 0 v w
+pub gathering-first : {s : List ℕ} {t : Token} {number w : ℕ} → Operates s t number w → {v : List Value} → v ≡ no_values → Gathering s t.next number w t.next Live.Both 0 v w
 gathering-first {s} {t} {number} {w} g {v} e =
     record {
       passing = passing-first g.stands.most g.known;
@@ -127,12 +135,12 @@ gathering-first {s} {t} {number} {w} g {v} e =
         xs = [];
         count = refl;
         read = ap (λ alts. read_by alts (arguments_in (statement_at s t.next))) (lists-first o);
-        row = rw e (record { first = refl; second = refl; third = refl });
+        row = rw e (record { size = refl; first = refl; second = refl; third = refl });
         faults = refl;
       };
     }
 
-module _ {s : List ℕ} {n m begun i : ℕ} {live : Live} {place : ℕ} {v : Values} {low : ℕ} (l : Gathering s n m begun i live place v low) where
+module _ {s : List ℕ} {n m begun i : ℕ} {live : Live} {place : ℕ} {v : List Value} {low : ℕ} (l : Gathering s n m begun i live place v low) where
   module _ (o : Op) (h : (operation o).number ≡ m) where
     most-here : most_of m ≡ most o
     most-here = ap most_of (sym h) ∙ most-listed o
@@ -164,25 +172,28 @@ module _ {s : List ℕ} {n m begun i : ℕ} {live : Live} {place : ℕ} {v : Val
     by : (o : Op) → (operation o).number ≡ m → b ≡ taken_at (operation o).number live place (item_kinds (item_of s t))
     by o h = turned live place e f o h
 
+    more : (o : Op) → (operation o).number ≡ m → place < most o
+    more o h = not-over o live place (item_of s t) (λ d. g (ap (λ u. u.form) (by o h) ∙ d))
+
+    pub placed : (o : Op) → (operation o).number ≡ m → place < 3
+    placed o h = omega (arith, more o h, three-most o)
+
     -- its form is one that it reads as
     pub reads_so : (o : Op) → (operation o).number ≡ m → T (reads (item_of s t) b.form)
     reads_so o h = subst T (sym (taken-reads (item_of s t) o place live (sym (ap (λ x. x.form) (by o h))) g)) tt
 
-    pub gathering-on : (o : Op) → (operation o).number ≡ m → t.colon ≡ 0 → {x : Value} → x.at ≡ t.at → Stood s (argument_of s t b.form) x.argument → {v' : Values} → v' ≡ put_at v place x
+    pub gathering-on : (o : Op) → (operation o).number ≡ m → t.colon ≡ 0 → {x : Value} → x.at ≡ t.at → Stood s (argument_of s t b.form) x.argument → {j : ℕ} → j ≡ place → {v' : List Value} → v' ≡ set v j x
         → {low' : ℕ} → low' ≡ min low (token_code t) → Gathering s n m begun t.next b.live (place + 1) v' low'
-    gathering-on o₁ h₁ y {x} at-is w {v'} q u =
+    gathering-on o₁ h₁ y {x} at-is w {j} e₁ {v'} q u =
         record {
           passing = passing-on l.passing k z u;
-          few = omega (arith, more, three-most o₁);
-          below = omega (arith, more, most-here o₁ h₁);
+          few = omega (arith, placed o₁ h₁);
+          below = omega (arith, more o₁ h₁, most-here o₁ h₁);
           plain = λ d. l.plain (args ∙ ap (◌∷◌ (item_of s t)) d ∙ sym (at_item k z));
           orders = λ d. l.orders (rw (at_item k z) (statement-from s t.next t.at (omega (arith, k.stands.own, k.stands.behind)), d));
           before = next;
         }
       where
-        more : place < most o₁
-        more = not-over o₁ live place (item_of s t) (λ d. g (ap (λ u. u.form) (by o₁ h₁) ∙ d))
-
         args : arguments_in (statement_at s i) ≡ item_of s t ∷ arguments_in (statement_at s t.next)
         args = rw (ne_eqb 2 t.sort (λ d. c (sym d))) at (arguments-on k z)
 
@@ -197,7 +208,7 @@ module _ {s : List ℕ} {n m begun i : ℕ} {live : Live} {place : ℕ} {v : Val
               xs = p.xs ++ (a ∷ []);
               count = length-append p.xs (a ∷ []) ∙ omega (arith, p.count);
               read = p.read ∙ rw (one, add-one place, append_assoc p.xs (a ∷ []));
-              row = rw (q, ← p.count) (row_on s p.xs v a x p.row (omega (arith, p.count, more, three-most o₁)) (at-is, w));
+              row = rw (q, e₁, ← p.count) (row_on s p.xs v a x p.row (omega (arith, p.count, placed o₁ h₁)) (at-is, w));
               faults = rw (add-one place, ← argument_listed o live place k z c b (by o h) g y) p.faults;
             }
 
@@ -209,8 +220,8 @@ unfolding missing_or
 judged-by g o h e q = rw (← e, ← h, least-listed o) (judged-so g o q)
 
 pub refusing : {s : List ℕ} {at number place i p w : ℕ} {before all : ℕ} {left : Left} {f : Fault} → before ≡ place → all ≡ most_of number
-    → ReadsLeft s i (all - before) w left → f ≡ missing_or number at (before + left.count) (At p)
-    → {v : Values} → Refuses s at number place i p w (record { over = left.over; fault = f; values = v; worst = left.worst; next = left.next; last = left.last })
+    → ReadsLeft s i (all - before) w left → f ≡ missing_or number at (before + left.count) (Some p)
+    → {v : List Value} → Refuses s at number place i p w (record { over = left.over; fault = f; values = v; worst = left.worst; next = left.next })
 refusing e q l fault_is =
     record {
       over_is = rw (← e, ← q) l.over_is;
@@ -221,12 +232,12 @@ refusing e q l fault_is =
 
 -- ---- the answers
 
-module _ {s : List ℕ} {t : Token} {m begun : ℕ} (g : Operates s t m begun) {i : ℕ} {live : Live} {place : ℕ} {v : Values} {low : ℕ} (l : Gathering s t.next m begun i live place v low) where
+module _ {s : List ℕ} {t : Token} {m begun : ℕ} (g : Operates s t m begun) {i : ℕ} {live : Live} {place : ℕ} {v : List Value} {low : ℕ} (l : Gathering s t.next m begun i live place v low) where
   -- no item is left
-  pub all_read : {u : Token} → NextToken s i u → stops u.sort ≡ true → {f : Fault} → f ≡ missing_or m t.at place Clear
-      → ReadsArguments s t m begun (record { over = Clear; fault = f; values = v; worst = low; next = u.next; last = eqb u.sort 0 })
+  pub all_read : {u : Token} → NextToken s i u → stops u.sort ≡ true → {f : Fault} → f ≡ missing_or m t.at place None → {r : Option ℕ} → r ≡ following u
+      → ReadsArguments s t m begun (record { over = None; fault = f; values = v; worst = low; next = r })
   unfolding read_by
-  all_read {u} k z {f} e =
+  all_read {u} k z {f} e y =
       let none = at-stop k z in
       record {
         counted = λ o h. rw (dropped-on l o h, none, drop-nil {A = Item} (most_of m - place));
@@ -242,14 +253,14 @@ module _ {s : List ℕ} {t : Token} {m begun : ℕ} (g : Operates s t m begun) {
               ordered = l.orders (rw none tt);
             };
         worst_is = passed-worst l.passing k z;
-        ends = passed-end l.passing k z;
+        ends = passed-end l.passing k z y;
       }
 
   pub refusable : Refusable s m place i low
   refusable = record { left = record { inside = l.passing.within.most; low = g.low; known = l.passing.known }; below = l.below }
 
   -- place p is at fault
-  pub refused : {p : ℕ} → ((o : Op) → (operation o).number ≡ m → fault_of (argument_faults o live place (statement_at s i)) ≡ At p) → {r : Arguments} → Refuses s t.at m place i p low r
+  pub refused : {p : ℕ} → ((o : Op) → (operation o).number ≡ m → fault_of (argument_faults o live place (statement_at s i)) ≡ Some p) → {r : Arguments} → Refuses s t.at m place i p low r
       → ReadsArguments s t m begun r
   unfolding missing_or
   refused {p} w {r} k =
@@ -261,6 +272,6 @@ module _ {s : List ℕ} {t : Token} {m begun : ℕ} (g : Operates s t m begun) {
         ends = end-then l.passing k.ends;
       }
     where
-      never : (b : Bool) → cond b (At t.at) (At p) ≡ Clear → ⊥
+      never : (b : Bool) → cond b (Some t.at) (Some p) ≡ None → ⊥
       never true e = let y : ◌≡◌ {A = ℕ} 0 1 = cc in omega arith
       never false e = let y : ◌≡◌ {A = ℕ} 0 1 = cc in omega arith

@@ -1,5 +1,5 @@
 -- The values of an instruction's arguments while its text is read: a label, a switch and a text are places and lengths in the text.
-use Rattle.std.specs.Prelude.{◌≡◌, Bool, true, false, cond, ◌&&◌, List, [], ◌∷◌, map, ℕ, ◌+◌, ◌*◌, ◌/◌, ◌%◌, ◌≤◌, ◌<◌, T, eqb, length, drop}
+use Rattle.std.specs.Prelude.{◌≡◌, Bool, true, false, cond, ◌&&◌, List, [], ◌∷◌, map, ℕ, ◌+◌, ◌*◌, ◌/◌, ◌%◌, ◌≤◌, ◌<◌, T, eqb, length, get_or, drop}
 use Rattle.heads.specs.Below.Drafting.{draft_arg}
 use Rattle.forms.specs.Kinds.{word_kinds, item_kinds}
 use Rattle.language.specs.Instructions.{operation}
@@ -26,21 +26,18 @@ use Rattle.words.specs.Words.{is_class, class_of}
 use Rattle.heads.specs.Below.Writing.{no_program, IsNumber}
 use Rattle.arguments.specs.declared.Kind.{Kind}
 use Rattle.arguments.specs.declared.Value.{Value}
-use Rattle.arguments.specs.declared.Values.{Values}
 
 -- ---- three of them
 
 abbrev pub no_value : Value
 no_value = record { at = 0; argument = Nothing }
 
-abbrev pub no_values : Values
-no_values = record { first = no_value; second = no_value; third = no_value }
+abbrev pub no_values : List Value
+no_values = no_value ∷ no_value ∷ no_value ∷ []
 
-abbrev pub put_at : Values → ℕ → Value → Values
-put_at v place x =
-    cond (eqb place 0) (record { first = x; second = v.second; third = v.third })
-    (cond (eqb place 1) (record { first = v.first; second = x; third = v.third })
-    (record { first = v.first; second = v.second; third = x }))
+-- value k of a row of three
+abbrev pub nth : List Value → ℕ → Value
+nth v k = get_or v k no_value
 
 -- ---- one of them
 
@@ -150,10 +147,11 @@ abbrev pub FirstValue : List ℕ → List syntax.Argument → Value → Type 0
 FirstValue s [] x = x.argument ≡ Nothing
 FirstValue s (a ∷ rest) x = (x.at ≡ a.item.at) × Stood s a x.argument
 
-pub record Row (s : List ℕ) (args : List syntax.Argument) (v : Values) : Type 0 where
-  pub first : FirstValue s args v.first
-  pub second : FirstValue s (drop 1 args) v.second
-  pub third : FirstValue s (drop 2 args) v.third
+pub record Row (s : List ℕ) (args : List syntax.Argument) (v : List Value) : Type 0 where
+  pub size : length v ≡ 3
+  pub first : FirstValue s args (nth v 0)
+  pub second : FirstValue s (drop 1 args) (nth v 1)
+  pub third : FirstValue s (drop 2 args) (nth v 2)
 
 -- each item stands before those behind it
 abbrev pub Ordered : List Item → Type 0
@@ -161,12 +159,12 @@ Ordered [] = Unit {0}
 Ordered (i ∷ js) = T (all_from i.at js) × Ordered js
 
 -- the items js are arguments, three at most, and these are their values
-pub record Valued (s : List ℕ) (js : List Item) (args : List syntax.Argument) (v : Values) : Type 0 where
+pub record Valued (s : List ℕ) (js : List Item) (args : List syntax.Argument) (v : List Value) : Type 0 where
   pub few : length args ≤ 3
   pub items : map (λ a. a.item) args ≡ js
   pub row : Row s args v
   pub ordered : Ordered js
 
 -- the items from place n on, for whichever operator has this number
-abbrev pub ValuesRead : List ℕ → ℕ → ℕ → Values → Type 0
+abbrev pub ValuesRead : List ℕ → ℕ → ℕ → List Value → Type 0
 ValuesRead s n number v = (o : Op) → (operation o).number ≡ number → Valued s (statement_at s n) (arguments o (statement_at s n)) v

@@ -3,12 +3,13 @@
 
 ghost use Rattle.std.specs.Prelude.{◌≡◌, ◌≤◌};
 ghost use Rattle.arguments.specs.Arguments.{with_excess, missing_or, Leaves, ReadsLeft, Refusable, Refuses, Operates, ReadsArguments};
-ghost use Rattle.arguments.specs.Valued.{no_value, no_values, put_at, argument_value, WordKind, Found, ItemKind};
+ghost use Rattle.arguments.specs.Valued.{no_value, argument_value, WordKind, Found, ItemKind};
 
 use cells::wide;
 use forms::{Live, least, letter_bit, most, take_argument};
+use heads::following;
 use lexer::{Token, next_item};
-use scanner::{COLON, NOTHING, TEXT, WORD};
+use scanner::{COLON, TEXT, WORD};
 use statements::{Fault, lower, stops, worse};
 use table::{Argument, letter_by};
 use words::{Lettered, Numeral};
@@ -21,24 +22,15 @@ pub struct Value {
     pub argument: Argument,
 }
 
-// The three arguments of an instruction, Nothing where there is none.
-#[derive(Clone, Copy)]
-pub struct Values {
-    pub first: Value,
-    pub second: Value,
-    pub third: Value,
-}
-
-// An instruction's arguments, and the lowest places at fault of questions 01 and 02. Where one of them has a fault, the values may be any. Then questions 14
-// to 16 of its items, the place behind the end of its statement, and whether that is the last one.
+// An instruction's three arguments, Nothing where there is none, and the lowest places at fault of questions 01 and 02. Where one of them has a fault, the
+// values may be any. Then questions 14 to 16 of its items, where the next statement begins, unless this is the last.
 #[derive(Clone, Copy)]
 pub struct Arguments {
     pub over: Fault,
     pub fault: Fault,
-    pub values: Values,
+    pub values: [Value; 3],
     pub worst: usize,
-    pub next: usize,
-    pub last: bool,
+    pub next: Option<usize>,
 }
 
 // What is left of an instruction that is refused.
@@ -47,8 +39,7 @@ struct Left {
     over: Fault,
     count: usize,
     worst: usize,
-    next: usize,
-    last: bool,
+    next: Option<usize>,
 }
 
 // What an item reads as: the set of its forms; and its own value as a text, a number, a class or an indexed letter, otherwise Nothing.
@@ -59,6 +50,7 @@ struct Kind {
     own: Argument,
 }
 
+// For no argument. No Option: Argument has Nothing for none, as the table has, and an Option would tell it a second time.
 fn no_value() -> Value
     ensures { result ≡ no_value }
 {
@@ -68,38 +60,11 @@ fn no_value() -> Value
     }
 }
 
-fn no_values() -> Values
-    ensures { result ≡ no_values }
-{
-    let none = no_value();
-    Values {
-        first: none,
-        second: none,
-        third: none,
-    }
-}
-
-// The values with one more at its place among them, whose item stands at `at`.
-fn with_value(v: Values, place: u8, at: usize, argument: Argument) -> Values
-    ensures { result ≡ put_at v place (record { at = at; argument = argument }) }
-{
-    let value = Value { at, argument };
-    match place {
-        0 => Values { first: value, ..v },
-        1 => Values { second: value, ..v },
-        _ => Values { third: value, ..v },
-    }
-}
-
 // The lowest place in excess so far, with one more where there is one.
 fn with_excess(over: Fault, more: bool, at: usize) -> Fault
     ensures { result ≡ with_excess over more at }
 {
-    if more {
-        lower(over, Fault::At(at))
-    } else {
-        over
-    }
+    if more { lower(over, Some(at)) } else { over }
 }
 
 // What the items from `n` on have: how many arguments they are, those in excess, where `skip` are not; questions 14 to 16; and the end of the statement.
@@ -108,7 +73,7 @@ fn read_left(text: &[u8], n: usize, skip: usize, worst: usize) -> Left
     requires { Leaves text.now n worst }
     ensures { ReadsLeft text.now n skip worst result }
 {
-    let mut over = Fault::Clear;
+    let mut over = None;
     let mut count: usize = 0;
     let mut low = worst;
     let mut i = n;
@@ -119,8 +84,7 @@ fn read_left(text: &[u8], n: usize, skip: usize, worst: usize) -> Left
                 over,
                 count,
                 worst: low,
-                next: t.next,
-                last: t.sort == NOTHING,
+                next: following(t),
             };
         }
         over = with_excess(over, !(COLON == t.sort) & (skip <= count), t.at);
@@ -200,7 +164,7 @@ fn missing_or(op: u8, at: usize, count: usize, fault: Fault) -> Fault
     ensures { result ≡ missing_or op at count fault }
 {
     if count < wide(least(op)) {
-        Fault::At(at)
+        Some(at)
     } else {
         fault
     }
@@ -216,11 +180,10 @@ fn refuse(text: &[u8], at: usize, op: u8, place: u8, i: usize, p: usize, worst: 
     let left = read_left(text, i, wide(most(op)) - before, worst);
     Arguments {
         over: left.over,
-        fault: missing_or(op, at, before + left.count, Fault::At(p)),
-        values: no_values(),
+        fault: missing_or(op, at, before + left.count, Some(p)),
+        values: [no_value(); 3],
         worst: left.worst,
         next: left.next,
-        last: left.last,
     }
 }
 
@@ -232,19 +195,18 @@ pub fn read_arguments(text: &[u8], t: Token, op: u8, worst: usize) -> Arguments
     let at = t.at;
     let mut live = Live::Both;
     let mut place: u8 = 0;
-    let mut values = no_values();
+    let mut values = [no_value(); 3];
     let mut low = worst;
     let mut i = t.next;
     loop {
         let u = next_item(text, i);
         if stops(u.sort) {
             return Arguments {
-                over: Fault::Clear,
-                fault: missing_or(op, at, wide(place), Fault::Clear),
+                over: None,
+                fault: missing_or(op, at, wide(place), None),
                 values,
                 worst: low,
-                next: u.next,
-                last: u.sort == NOTHING,
+                next: following(u),
             };
         }
         if u.sort == COLON {
@@ -257,7 +219,10 @@ pub fn read_arguments(text: &[u8], t: Token, op: u8, worst: usize) -> Arguments
         if u.colon != 0 {
             return refuse(text, at, op, place, i, u.colon, low);
         }
-        values = with_value(values, place, u.at, value_by(u, a.form, k.own));
+        values[usize::from(place)] = Value {
+            at: u.at,
+            argument: value_by(u, a.form, k.own),
+        };
         live = a.live;
         place += 1;
         low = worse(low, u);

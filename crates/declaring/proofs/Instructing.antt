@@ -1,14 +1,15 @@
 -- The labels and the instruction come to the table, after its texts and numbers.
-use mathlib.Core.Path.{◌≡◌, refl, sym, ◌∙◌, subst}
+use mathlib.Core.Path.{◌≡◌, refl, sym, ap, ◌∙◌, subst}
+use mathlib.Core.Bool.{Bool, true, false, not, true≢false}
+use Rattle.std.specs.Option.{is_some}
 use mathlib.Core.List.{List, [], ◌∷◌, ◌++◌, map}
 use Prim.Native.Nat.{ℕ, zero, suc, ◌+◌, ◌-◌, ◌≤◌, ◌<◌}
 use native.Mathlib.Omega.{arith}
 use lib.Dec.{T}
 use lib.ListN.{length, get_or, drop, length-map}
 use Rattle.names.proofs.Below.RowLaws.{append-none, drop-none}
-use Rattle.argument_cells.specs.Below.Valued.{FirstValue, Valued}
+use Rattle.argument_cells.specs.Below.Valued.{nth, FirstValue, Valued}
 use Rattle.argument_cells.specs.Below.Value.{Value}
-use Rattle.argument_cells.specs.Below.ArgumentsValues.{Values}
 use Rattle.cells.specs.Cells.{Number}
 use Rattle.names.specs.Below.Drafting.{draft_arg}
 use Rattle.names.specs.Below.DraftsMarks.{place_by}
@@ -23,10 +24,10 @@ use Rattle.layout.specs.Cells.{cell}
 use Rattle.packed.specs.Packed.{table_of}
 use Rattle.statements.specs.FaultLaws.{no-fault}
 use Rattle.statements.specs.StatementAt.{statement_at}
-use Rattle.statements.specs.declared.Fault.{Fault}
-use Rattle.statements.specs.declared.Fault.TheVariants.{Clear, At}
+use Rattle.statements.specs.Faults.{Fault}
+use Rattle.std.specs.Prelude.{None, Some}
 use Rattle.argument_cells.specs.Below.Entering.{Held, EnterableValues}
-use Rattle.argument_cells.proofs.Below.EnteringRows.{nth, row_at}
+use Rattle.argument_cells.proofs.Below.EnteringRows.{row_at}
 use Rattle.syntax.specs.ArgumentForms.{Argument, arguments}
 use Rattle.syntax.specs.Questions.{beyond}
 use Rattle.table.specs.declared.Argument as table
@@ -58,12 +59,12 @@ value-drafts s (a ∷ args) zero x r h =
     record { chars = a.item.chars; short = r.0.short; spelt = h.1.entered.spelt; drafted = h.1.drafted r.0.short }
 value-drafts s (a ∷ args) (suc k) x r h = value-drafts s args k x r.1 h
 
-drafts : {s : List ℕ} {n number : ℕ} {v : Values} → RightValues s n number v → (k : ℕ) → Drafts s (nth v k).argument (nth_arg (arguments (operator_of number) (statement_at s n)) k)
+drafts : {s : List ℕ} {n number : ℕ} {v : List Value} → RightValues s n number v → (k : ℕ) → Drafts s (nth v k).argument (nth_arg (arguments (operator_of number) (statement_at s n)) k)
 drafts {s} {n} {number} {v} g k =
     value-drafts s (arguments (operator_of number) (statement_at s n)) k (nth v k) g.right (row_at (g.read (operator_of number) g.numbered) k)
 
 module _ {s : List ℕ} {i : Instruction} {ms c : List ℕ} (pre : Writable s i ms c) where
-  abbrev v : Values
+  abbrev v : List Value
   v = i.values
 
   abbrev number : ℕ
@@ -89,7 +90,7 @@ module _ {s : List ℕ} {i : Instruction} {ms c : List ℕ} (pre : Writable s i 
     unfolding with_labels
     code-then = code_count d (labelled pre.held.program) labels-held ∙ sym (code_count c pre.held.program pre.held.holds)
 
-    module _ {o x y z : ℕ} (w : Number number 256 o) (f : CellOf s v.first.argument d x) (g : CellOf s v.second.argument d y) (k : CellOf s v.third.argument d z) where
+    module _ {o x y z : ℕ} (w : Number number 256 o) (f : CellOf s (nth v 0).argument d x) (g : CellOf s (nth v 1).argument d y) (k : CellOf s (nth v 2).argument d z) where
       pub instr-room : InstrRoom d o i.line x y z
       instr-room =
           record {
@@ -129,6 +130,14 @@ module _ {s : List ℕ} {i : Instruction} {ms c : List ℕ} (pre : Writable s i 
 
 -- ---- the statement
 
+-- whether there is a fault, by the answer of `is_none`
+pub none-by : (r : Fault) {b : Bool} → is_some r ≡ not b → b ≡ true → r ≡ None
+none-by None e q = refl
+none-by (Some p) e q = absurd (true≢false (e ∙ ap not q))
+
+pub some-by : {r : Fault} {b : Bool} → is_some r ≡ not b → b ≡ false → r ≡ None → ⊥
+some-by e q f = true≢false (sym (e ∙ ap not q) ∙ ap is_some f)
+
 module _ {s : List ℕ} {i : Instruction} {ms c : List ℕ} (pre : Declarable s i ms c) where
   valued : (n : ℕ) → RightValues s n i.number i.values → Valued s (statement_at s n) (arguments (operator_of i.number) (statement_at s n)) i.values
   valued n g = g.read (operator_of i.number) g.numbered
@@ -140,15 +149,15 @@ module _ {s : List ℕ} {i : Instruction} {ms c : List ℕ} (pre : Declarable s 
     judges : (n : ℕ) → RightValues s n i.number i.values → Judges s i.at n ms c r d
     judges n g = told n _ (valued n g)
 
-    pub declared-none : {p : ℕ} → r ≡ At p → DeclaresValues s i ms c (At p) d
-    declared-none {p} e n g =
+    pub declared-none : {b : Bool} → is_some r ≡ not b → b ≡ false → DeclaresValues s i ms c r d
+    declared-none e q n g =
         record {
-          told = λ q k. sym e ∙ (judges n g).told q k;
-          holds = λ f. absurd (let y : ◌≡◌ {A = ℕ} 0 1 = cc in omega arith);
+          told = λ p k. (judges n g).told p k;
+          holds = λ f. absurd (some-by e q f);
           beyond_same = (judges n g).beyond_same;
         }
 
-    module _ (e : r ≡ Clear) where
+    module _ (e : r ≡ None) where
       abbrev p : Program
       p = pre.held.program
 
@@ -189,10 +198,10 @@ module _ {s : List ℕ} {i : Instruction} {ms c : List ℕ} (pre : Declarable s 
             line_most = pre.line_most;
           }
 
-      pub declared : {d' : List ℕ} → WritesValues s i ms d d' → DeclaresValues s i ms c Clear d'
+      pub declared : {d' : List ℕ} → WritesValues s i ms d d' → DeclaresValues s i ms c r d'
       declared w n g =
           record {
-            told = λ q k. sym e ∙ (judges n g).told q k;
+            told = λ q k. (judges n g).told q k;
             holds = λ f q k l. (w n g).holds (with_values s n q) ((judges n g).holds e q k) l;
             beyond_same = (w n g).beyond_same ∙ (judges n g).beyond_same;
           }

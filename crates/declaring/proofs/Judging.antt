@@ -7,7 +7,7 @@ use lib.ListN.{length, take, drop, length-drop}
 use lib.Seq.{drop-nil, take_all}
 use Rattle.std.proofs.lemmas.List.{drop-map}
 use Rattle.argument_cells.specs.Below.Valued.{Valued}
-use Rattle.argument_cells.specs.Below.ArgumentsValues.{Values}
+use Rattle.argument_cells.specs.Below.Value.{Value}
 use Rattle.names.specs.Below.DraftsMarks.{place_by, marks_in}
 use Rattle.argument_cells.specs.Below.Entering.{Enters, EnterableValues, SomeValues, TextsEntered, NumbersEntered, long_text, large_number, set_texts, set_numbers}
 use Rattle.statements.specs.Faults.{lower}
@@ -17,8 +17,8 @@ use Rattle.language.specs.Program.{Program}
 use Rattle.language.specs.Values.{same_number}
 use Rattle.lists.specs.Lists.{bytes_equal}
 use Rattle.statements.specs.StatementAt.{statement_at, fault_of}
-use Rattle.statements.specs.declared.Fault.{Fault}
-use Rattle.statements.specs.declared.Fault.TheVariants.{Clear, At}
+use Rattle.statements.specs.Faults.{Fault}
+use Rattle.std.specs.Prelude.{None, Some}
 use Rattle.syntax.specs.ArgumentForms.{Argument}
 use Rattle.syntax.specs.Questions.{beyond}
 use Rattle.syntax.specs.Tables.{number_in}
@@ -36,16 +36,16 @@ pub labels-over : {c : List ℕ} (ms : List ℕ) (room : ℕ) {r : Fault} → ((
 labels-over {c} ms room {r} e f p h = f ∙ rw (← e p h, drop-map place_by room, take-rest room ms)
 
 -- one place more, within a limit and beyond it
-pub one-fits : (k n at : ℕ) → n < k → Clear ≡ fault_of (beyond k n (at ∷ []))
+pub one-fits : (k n at : ℕ) → n < k → None ≡ fault_of (beyond k n (at ∷ []))
 one-fits k n at l = let q : k - n ≡ suc (k - suc n) = omega arith in rw (q, drop-nil {A = ℕ} (k - suc n))
 
-pub one-over : (k n at : ℕ) → k ≤ n → At at ≡ fault_of (beyond k n (at ∷ []))
+pub one-over : (k n at : ℕ) → k ≤ n → Some at ≡ fault_of (beyond k n (at ∷ []))
 unfolding lowest
 one-over k n at l = let q : k - n ≡ 0 = omega arith in rw q
 
 -- ---- all of question 11
 
-module _ {s : List ℕ} {v : Values} {c : List ℕ} (pre : EnterableValues s v c) where
+module _ {s : List ℕ} {v : List Value} {c : List ℕ} (pre : EnterableValues s v c) where
   module _ {tr : Fault} {d : List ℕ} (t : TextsEntered s v c tr d) where
     pub numbers-enterable : SomeValues v d
     numbers-enterable =
@@ -85,6 +85,6 @@ module _ {s : List ℕ} {v : Values} {c : List ℕ} (pre : EnterableValues s v c
     judged u at {ms} a b n args w = judged-here u n args w at ms a b
 
 -- the three steps of the code
-pub judged-by : {s : List ℕ} {at : ℕ} {v : Values} {ms c d : List ℕ} (ir lr tr nr : Fault) {x y z : Fault} → JudgesValues s at v ms c (lower (lower (lower ir lr) tr) nr) d
+pub judged-by : {s : List ℕ} {at : ℕ} {v : List Value} {ms c d : List ℕ} (ir lr tr nr : Fault) {x y z : Fault} → JudgesValues s at v ms c (lower (lower (lower ir lr) tr) nr) d
     → x ≡ lower ir lr → y ≡ lower x tr → z ≡ lower y nr → JudgesValues s at v ms c z d
 judged-by ir lr tr nr h e f g = rw (g, f, e) h

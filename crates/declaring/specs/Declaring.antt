@@ -1,7 +1,7 @@
 -- A statement with an instruction comes to the program table: question 11, and the program with it.
 use Rattle.std.specs.Prelude.{◌≡◌, List, [], ◌∷◌, ◌++◌, map, ℕ, ◌+◌, ◌≤◌, ◌<◌, T, length, get_or, drop}
 use Rattle.argument_cells.specs.Below.Valued.{Valued, ValuesRead}
-use Rattle.argument_cells.specs.Below.ArgumentsValues.{Values}
+use Rattle.argument_cells.specs.Below.Value.{Value}
 use Rattle.names.specs.Below.Drafting.{draft_arg}
 use Rattle.names.specs.Below.DraftsMarks.{place_by, length_by, word_by, Marked}
 use Rattle.argument_cells.specs.Below.Entering.{excess, all_added, long_text, large_number, set_texts, set_numbers, Held, ShortItem}
@@ -14,8 +14,8 @@ use Rattle.layout.specs.Cells.{cell}
 use Rattle.lists.specs.Lists.{bytes_equal}
 use Rattle.packed.specs.Packed.{table_of}
 use Rattle.statements.specs.StatementAt.{statement_at, fault_of}
-use Rattle.statements.specs.declared.Fault.{Fault}
-use Rattle.statements.specs.declared.Fault.TheVariants.{Clear}
+use Rattle.statements.specs.Faults.{Fault}
+use Rattle.std.specs.Prelude.{None}
 use Rattle.syntax.specs.ArgumentForms.{Argument, arguments}
 use Rattle.syntax.specs.Questions.{beyond}
 use Rattle.syntax.specs.Tables.{number_in}
@@ -78,11 +78,11 @@ instr_excess s at n ms p =
 
 pub record Judges (s : List ℕ) (at n : ℕ) (ms c : List ℕ) (r : Fault) (d : List ℕ) : Type 0 where
   pub told : (p : Program) → HoldsProgram c p → r ≡ fault_of (instr_excess s at n ms p)
-  pub holds : r ≡ Clear → (p : Program) → HoldsProgram c p → HoldsProgram d (with_values s n p)
+  pub holds : r ≡ None → (p : Program) → HoldsProgram c p → HoldsProgram d (with_values s n p)
   pub beyond_same : drop limit.table d ≡ drop limit.table c
 
 -- of the values v, wherever their items are
-abbrev pub JudgesValues : List ℕ → ℕ → Values → List ℕ → List ℕ → Fault → List ℕ → Type 0
+abbrev pub JudgesValues : List ℕ → ℕ → List Value → List ℕ → List ℕ → Fault → List ℕ → Type 0
 JudgesValues s at v ms c r d = (n : ℕ) (args : List Argument) → Valued s (statement_at s n) args v → Judges s at n ms c r d
 
 -- the instruction of a number at a line, with its arguments from place n on
@@ -102,7 +102,7 @@ unfoldable pub with_labelled : List ℕ → ℕ → ℕ → ℕ → List ℕ →
 with_labelled s n number line ms p = with_instr (new_instr s n number line) (with_labels (labels_by s (length p.code) ms) p)
 
 -- the values of the arguments from place n on, each of which reads as its form
-pub record RightValues (s : List ℕ) (n number : ℕ) (v : Values) : Type 0 where
+pub record RightValues (s : List ℕ) (n number : ℕ) (v : List Value) : Type 0 where
   pub numbered : (operation (operator_of number)).number ≡ number
   pub read : ValuesRead s n number v
   pub right : Each RightArgument (arguments (operator_of number) (statement_at s n))
@@ -134,7 +134,7 @@ pub record Declarable (s : List ℕ) (i : Instruction) (ms c : List ℕ) : Type 
 
 pub record Declares (s : List ℕ) (i : Instruction) (n : ℕ) (ms c : List ℕ) (r : Fault) (d : List ℕ) : Type 0 where
   pub told : (p : Program) → HoldsProgram c p → r ≡ fault_of (instr_excess s i.at n ms p)
-  pub holds : r ≡ Clear → (p : Program) → HoldsProgram c p → KeptArgs s n i.number (with_values s n p)
+  pub holds : r ≡ None → (p : Program) → HoldsProgram c p → KeptArgs s n i.number (with_values s n p)
       → HoldsProgram d (with_labelled s n i.number i.line ms (with_values s n p))
   pub beyond_same : drop limit.table d ≡ drop limit.table c
 

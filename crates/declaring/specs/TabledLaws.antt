@@ -29,8 +29,8 @@ use Rattle.lexer.specs.Tokens.{item_of}
 use Rattle.lists.specs.Lists.{if_any}
 use Rattle.lists.specs.ListLaws.{T-left}
 use Rattle.statements.specs.StatementAt.{statement_at, stops, fault_of}
-use Rattle.statements.specs.declared.Fault.{Fault}
-use Rattle.statements.specs.declared.Fault.TheVariants.{Clear}
+use Rattle.statements.specs.Faults.{Fault}
+use Rattle.std.specs.Prelude.{None}
 use Rattle.syntax.specs.ArgumentForms.{word_reads, Argument, alternatives, arguments_in, arguments}
 use Rattle.syntax.specs.Items.{Item, is, places, line_at}
 use Rattle.syntax.specs.Items.Sort.{colon}
@@ -156,7 +156,7 @@ module _ (lines : List ℕ) (t : Tables) (op : Op) (i : Instruction) {s : List �
           rw (op_is, ← h.rest_is)
           (each_right (SoundWritten (length s) (t.texts ++ contents (new_texts t (rest x))) (t.numbers ++ map number_in (new_numbers t (rest x)))) t.code _ sound.code).0.each_argument
 
-      pub instr-tabled : r ≡ Clear → Tabled s lines (with_instr t ls x op) d sw en
+      pub instr-tabled : r ≡ None → Tabled s lines (with_instr t ls x op) d sw en
       unfolding with_instr
       instr-tabled e =
           record {

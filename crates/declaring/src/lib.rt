@@ -11,7 +11,7 @@ ghost use Rattle.statements.specs.StatementAt.{fault_of};
 ghost use Rattle.syntax.specs.Questions.{beyond};
 
 use argument_cells::argument_cell;
-use argument_cells::from_arguments::Values;
+use argument_cells::from_arguments::Value;
 use language::Machine;
 use names::lowest_mark;
 use statements::{Fault, lower};
@@ -22,7 +22,7 @@ pub struct Instruction {
     pub number: u8,
     pub at: usize,
     pub line: usize,
-    pub values: Values,
+    pub values: [Value; 3],
 }
 
 // The lowest of the labels in excess.
@@ -38,11 +38,7 @@ fn labels_beyond(table: &[u32], labels: &[u32]) -> Fault
 pub fn in_excess(count: usize, most: usize, at: usize) -> Fault
     ensures { result ≡ fault_of (beyond most count (at ∷ [])) }
 {
-    if count < most {
-        Fault::Clear
-    } else {
-        Fault::At(at)
-    }
+    if count < most { None } else { Some(at) }
 }
 
 // The operator's place, where the instruction is one in excess.
@@ -91,18 +87,12 @@ fn write_instruction(text: &[u8], i: Instruction, labels: &[u32], table: &mut [u
     requires { Writable text.now i labels.now table.old }
     ensures { WritesValues text.now i labels.now table.old table.new }
 {
-    let values = i.values;
-    let first = values.first;
-    let second = values.second;
-    let third = values.third;
+    let [first, second, third] = i.values;
     let target = table::instructions(table);
     put_labels(text, labels, target, table);
-    let f = first.argument;
-    let s = second.argument;
-    let t = third.argument;
-    let x = argument_cell(text, f, table);
-    let y = argument_cell(text, s, table);
-    let z = argument_cell(text, t, table);
+    let x = argument_cell(text, first.argument, table);
+    let y = argument_cell(text, second.argument, table);
+    let z = argument_cell(text, third.argument, table);
     writing::put_instruction(table, cells::wide(i.number), i.line, x, y, z);
 }
 
@@ -111,13 +101,11 @@ pub fn declare_instruction(text: &[u8], i: Instruction, labels: &[u32], table: &
     requires { Declarable text.now i labels.now table.old }
     ensures { DeclaresValues text.now i labels.now table.old result table.new }
 {
-    match judge_instruction(text, i, labels, table) {
-        Fault::At(p) => Fault::At(p),
-        Fault::Clear => {
-            write_instruction(text, i, labels, table);
-            Fault::Clear
-        }
+    let fault = judge_instruction(text, i, labels, table);
+    if fault.is_none() {
+        write_instruction(text, i, labels, table);
     }
+    fault
 }
 
 // Of `argument_cells`, passed on to the crates above.

@@ -22,7 +22,7 @@ use Rattle.packed.specs.Packed.{table_of}
 use Rattle.statements.specs.LowestLaws.{fault-first}
 use Rattle.statements.specs.PlaceLaws.{stands_from, all_from, places-from}
 use Rattle.statements.specs.StatementAt.{statement_at, fault_of}
-use Rattle.statements.specs.declared.Fault.TheVariants.{At}
+use Rattle.std.specs.Prelude.{Some}
 use Rattle.switch_lists.specs.Switches.{text_first, entry_texts, TextCell}
 use Rattle.syntax.specs.Items.{Item, is, places}
 use Rattle.syntax.specs.Items.Sort.{word, text}
@@ -132,16 +132,16 @@ rows-from p (j ∷ js) h =
     elim (is word j) as (λ b. T (all_from p (texts_of (cond b (text_first js ∷ []) [] ++ entry_texts js)))) [ true ↦ first-from p js (texts_of (entry_texts js)) l (rows-from p js l) | false ↦ rows-from p js l ]
 
 -- the texts of the entries in excess stand behind the first of them
-pub texts-over : (js : List Item) → Ordered js → (m p : ℕ) → fault_of (drop m (places (keep (is word) js))) ≡ At p → T (all_from p (texts_of (drop m (entry_texts js))))
+pub texts-over : (js : List Item) → Ordered js → (m p : ℕ) → fault_of (drop m (places (keep (is word) js))) ≡ Some p → T (all_from p (texts_of (drop m (entry_texts js))))
 unfolding entry_texts
 texts-over [] h m p e = absurd (let x = ap fault_of (drop-nil {A = ℕ} m) in let y : ◌≡◌ {A = ℕ} 0 1 = cc in omega arith)
 texts-over (j ∷ js) h m p e = go (is word j) m e (λ k f. texts-over js h.1 k p f)
   where
-    go : (b : Bool) (m : ℕ) → fault_of (drop m (places (cond b (j ∷ keep (is word) js) (keep (is word) js)))) ≡ At p
-        → ((k : ℕ) → fault_of (drop k (places (keep (is word) js))) ≡ At p → T (all_from p (texts_of (drop k (entry_texts js)))))
+    go : (b : Bool) (m : ℕ) → fault_of (drop m (places (cond b (j ∷ keep (is word) js) (keep (is word) js)))) ≡ Some p
+        → ((k : ℕ) → fault_of (drop k (places (keep (is word) js))) ≡ Some p → T (all_from p (texts_of (drop k (entry_texts js)))))
         → T (all_from p (texts_of (drop m (cond b (text_first js ∷ []) [] ++ entry_texts js))))
     go true zero f rec =
-        let here : At j.at ≡ At p = sym (fault-first j.at (places (keep (is word) js)) (places-from j.at (keep (is word) js) (all_keep (stands_from j.at) (is word) js h.0))) ∙ f in
+        let here : Some j.at ≡ Some p = sym (fault-first j.at (places (keep (is word) js)) (places-from j.at (keep (is word) js) (all_keep (stands_from j.at) (is word) js h.0))) ∙ f in
         let q : j.at ≡ p = cc in
         subst (λ (k : ℕ). T (all_from k (take 1 (text_first js) ++ texts_of (entry_texts js)))) q (first-from j.at js (texts_of (entry_texts js)) h.0 (rows-from j.at js h.0))
     go true (suc m) f rec = rec m f

@@ -1,6 +1,8 @@
 -- The switch with its list comes to the table, after its texts.
 use mathlib.Core.Path.{◌≡◌, sym, ap, ◌∙◌}
-use mathlib.Core.Bool.{Bool}
+use mathlib.Core.Bool.{Bool, false, not}
+use Rattle.std.specs.Option.{is_some}
+use Rattle.declaring.proofs.Instructing.{some-by}
 use mathlib.Core.List.{List, [], ◌∷◌, ◌++◌, append-nil}
 use Prim.Native.Nat.{ℕ, ◌+◌, ◌-◌, ◌≤◌, ◌<◌}
 use native.Mathlib.Omega.{arith}
@@ -15,8 +17,8 @@ use Rattle.layout.specs.Table.{all_entries}
 use Rattle.lists.specs.Lists.{keep}
 use Rattle.packed.specs.Packed.{table_of}
 use Rattle.statements.specs.StatementAt.{statement_at}
-use Rattle.statements.specs.declared.Fault.{Fault}
-use Rattle.statements.specs.declared.Fault.TheVariants.{Clear, At}
+use Rattle.statements.specs.Faults.{Fault}
+use Rattle.std.specs.Prelude.{None}
 use Rattle.syntax.specs.Items.{Item, is, places}
 use Rattle.syntax.specs.Items.Sort.{word}
 use Rattle.syntax.specs.Questions.{beyond}
@@ -95,16 +97,16 @@ module _ {s : List ℕ} {d : Declaration} {c sw tx : List ℕ} (pre : Declarable
   switch-judgeable = record { list = pre.list; held = pre.held }
 
   module _ {r : Fault} {e : List ℕ} (h : JudgesSwitch s d c r e) where
-    pub switch-refused : {q : ℕ} → r ≡ At q → DeclaresSwitch s d c sw (At q) e sw
-    switch-refused x =
+    pub switch-refused : {b : Bool} → is_some r ≡ not b → b ≡ false → DeclaresSwitch s d c sw r e sw
+    switch-refused x q =
         record {
-          told = λ y g. sym x ∙ h.told y g;
-          holds = λ f. absurd (let y : ◌≡◌ {A = ℕ} 0 1 = cc in omega arith);
-          switch_marks = λ f. absurd (let y : ◌≡◌ {A = ℕ} 0 1 = cc in omega arith);
+          told = λ y g. h.told y g;
+          holds = λ f. absurd (some-by x q f);
+          switch_marks = λ f. absurd (some-by x q f);
           beyond_same = h.beyond_same;
         }
 
-    module _ (x : r ≡ Clear) where
+    module _ (x : r ≡ None) where
       entered : HoldsProgram e (with_texts s d.list p)
       entered = h.holds x p pre.held.holds
 
@@ -146,10 +148,10 @@ module _ {s : List ℕ} {d : Declaration} {c sw tx : List ℕ} (pre : Declarable
             switch_marks = pre.switch_marks;
           }
 
-      pub switch-declared : {e' sw' : List ℕ} → WritesSwitch s d e sw e' sw' → DeclaresSwitch s d c sw Clear e' sw'
+      pub switch-declared : {e' sw' : List ℕ} → WritesSwitch s d e sw e' sw' → DeclaresSwitch s d c sw r e' sw'
       switch-declared w =
           record {
-            told = λ y g. sym x ∙ h.told y g;
+            told = λ y g. h.told y g;
             holds = λ f y g k. w.holds (with_texts s d.list y) (h.holds x y g) k;
             switch_marks = λ f. w.switch_marks ∙ ap (λ (j : ℕ). set sw j d.name) cells_same.0;
             beyond_same = w.beyond_same ∙ h.beyond_same;

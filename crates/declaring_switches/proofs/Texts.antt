@@ -30,8 +30,8 @@ use Rattle.packed.specs.Packed.{table_of}
 use Rattle.statements.specs.LowestLaws.{none_before, fault-first}
 use Rattle.statements.specs.PlaceLaws.{stands_from, all_from, places-from}
 use Rattle.statements.specs.StatementAt.{statement_at, fault_of}
-use Rattle.statements.specs.declared.Fault.{Fault}
-use Rattle.statements.specs.declared.Fault.TheVariants.{Clear, At}
+use Rattle.statements.specs.Faults.{Fault}
+use Rattle.std.specs.Prelude.{None, Some}
 use Rattle.switch_lists.specs.Switches.{entry_texts, NamesItem, TextCell}
 use Rattle.syntax.specs.Items.{Item, is, places}
 use Rattle.syntax.specs.Items.Sort.{word, text}
@@ -109,11 +109,11 @@ module _ {all : List (List Item)} {p : Program} {d : List ℕ} (rest : List (Lis
       record { table = _; holds = k.holds q (set_texts u.table p) u.holds; over_is = u.over_is ∙ on.0; all_is = u.all_is ∙ on.1 }
 
   refused-row : (s : List ℕ) (m : ℕ) (row : List Item) → TextCell s m row → Ordered (texts_of (row ∷ rest)) → Entered all (row ∷ rest) p d → {r : Bool} (e : List ℕ) → RowEnters row d r e → r ≡ false
-      → fault_of (over_by p.texts all) ≡ At (m / 65536)
+      → fault_of (over_by p.texts all) ≡ Some (m / 65536)
   unfolding set_texts
   refused-row s m [] n o u e k q = absurd (true≢false (sym k.0 ∙ q))
   refused-row s m (j ∷ js) n o u e k q =
-      ap fault_of u.over_is ∙ excess-here bytes_equal (λ i. i.chars) long_text j (texts_of rest) u.table (sym (k.told (set_texts u.table p) u.holds) ∙ q) o.0 ∙ ap At (sym n.place)
+      ap fault_of u.over_is ∙ excess-here bytes_equal (λ i. i.chars) long_text j (texts_of rest) u.table (sym (k.told (set_texts u.table p) u.holds) ∙ q) o.0 ∙ ap Some (sym n.place)
 
 no_texts : (t : List (List ℕ)) → over_by t [] ≡ []
 unfolding fresh
@@ -133,7 +133,7 @@ over-from p t ks h =
     drop-before p (128 - length t) (places (fresh bytes_equal (λ i. i.chars) t (keep long_text ks)))
     (places-from p (fresh bytes_equal (λ i. i.chars) t (keep long_text ks)) (fresh-from bytes_equal (λ i. i.chars) long_text p t (keep long_text ks) (all_keep (stands_from p) long_text ks h)))
 
-low-lower : (p : ℕ) (ps : List ℕ) → T (none_before p ps) → lower (At p) (fault_of ps) ≡ At p
+low-lower : (p : ℕ) (ps : List ℕ) → T (none_before p ps) → lower (Some p) (fault_of ps) ≡ Some p
 unfolding lowest
 low-lower p ps h = sym (fault-both (p ∷ []) ps) ∙ fault-first p ps h
 
@@ -216,7 +216,7 @@ module _ {s : List ℕ} {d : Declaration} {c tx : List ℕ} (pre : JudgeableSwit
                 beyond_same = h.beyond_same ∙ u.beyond_same;
               }
 
-          pub text-refused : r ≡ false → EntersTexts s d c (At (m / 65536)) e'
+          pub text-refused : r ≡ false → EntersTexts s d c (Some (m / 65536)) e'
           text-refused q =
               record {
                 told = λ p w.
@@ -230,29 +230,29 @@ module _ {s : List ℕ} {d : Declaration} {c tx : List ℕ} (pre : JudgeableSwit
       count-over : length (places (keep (is word) js)) ≡ d.words
       count-over = length-map (keep (is word) js) (λ (i : Item). i.at) ∙ sym l.words_is
 
-      none_left : d.over ≡ Clear → drop at rows ≡ []
+      none_left : d.over ≡ None → drop at rows ≡ []
       none_left o =
           let n = drop-none (128 - held) (places (keep (is word) js)) (no-fault (drop (128 - held) (places (keep (is word) js))) (sym l.over_is ∙ o)) in
           drop_of_length-le rows {i = at} (omega (arith, n, count-over, rows_are l, g, done, held_most))
 
-      told-by : (o : Fault) → d.over ≡ o → (p : Program) → HoldsProgram c p → lower o Clear ≡ lower o (fault_of (over_by p.texts rows))
-      told-by Clear x p w =
+      told-by : (o : Fault) → d.over ≡ o → (p : Program) → HoldsProgram c p → lower o None ≡ lower o (fault_of (over_by p.texts rows))
+      told-by None x p w =
           let v = u.entered p w in
           sym (ap fault_of (v.over_is ∙ ap (over_by v.table) (none_left x) ∙ no_texts v.table))
-      told-by (At q) x p w =
+      told-by (Some q) x p w =
           let v = u.entered p w in
           let many : 128 - held < d.words = elim (dec_lt (128 - held) d.words) as (λ y. 128 - held < d.words) [
             | yes y ↦ y
             | no y ↦
-                let e : At q ≡ Clear = sym x ∙ l.over_is ∙ ap fault_of (drop_of_length-le (places (keep (is word) js)) {i = 128 - held} (omega (arith, count-over))) in
+                let e : Some q ≡ None = sym x ∙ l.over_is ∙ ap fault_of (drop_of_length-le (places (keep (is word) js)) {i = 128 - held} (omega (arith, count-over))) in
                 absurd (let n : ◌≡◌ {A = ℕ} 0 1 = cc in omega arith)
           ] in
           let z : 128 - held ≡ at = omega (arith, g, done, u.from, u.most, held_most, many) in
-          sym (ap (λ (ps : List ℕ). lower (At q) (fault_of ps)) v.over_is
+          sym (ap (λ (ps : List ℕ). lower (Some q) (fault_of ps)) v.over_is
           ∙ low-lower q (over_by v.table (drop at rows)) (over-from q v.table (texts_of (drop at rows))
           (rw z at (texts-over js l.ordered (128 - held) q (sym l.over_is ∙ x)))))
 
-      pub texts-entered : EntersTexts s d c Clear e
+      pub texts-entered : EntersTexts s d c None e
       unfolding with_texts
       texts-entered =
           record {

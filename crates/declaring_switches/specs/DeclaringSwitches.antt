@@ -12,8 +12,8 @@ use Rattle.layout.specs.Table.{all_entries}
 use Rattle.lists.specs.Lists.{keep, bytes_equal}
 use Rattle.packed.specs.Packed.{table_of}
 use Rattle.statements.specs.StatementAt.{statement_at, fault_of}
-use Rattle.statements.specs.declared.Fault.{Fault}
-use Rattle.statements.specs.declared.Fault.TheVariants.{Clear}
+use Rattle.statements.specs.Faults.{Fault}
+use Rattle.std.specs.Prelude.{None}
 use Rattle.switch_lists.specs.Switches.{TextsNamed}
 use Rattle.syntax.specs.Items.{is, places}
 use Rattle.syntax.specs.Items.Sort.{word}
@@ -56,10 +56,10 @@ pub record JudgeableSwitch (s : List ℕ) (d : Declaration) (c tx : List ℕ) : 
 -- a text in excess behind an entry in excess is not told
 pub record EntersTexts (s : List ℕ) (d : Declaration) (c : List ℕ) (r : Fault) (c' : List ℕ) : Type 0 where
   pub told : (p : Program) → HoldsProgram c p → lower d.over r ≡ lower d.over (fault_of (texts_excess s d.list p))
-  pub holds : d.over ≡ Clear → r ≡ Clear → (p : Program) → HoldsProgram c p → HoldsProgram c' (with_texts s d.list p)
+  pub holds : d.over ≡ None → r ≡ None → (p : Program) → HoldsProgram c p → HoldsProgram c' (with_texts s d.list p)
   pub beyond_same : drop limit.table c' ≡ drop limit.table c
 
 pub record JudgesSwitch (s : List ℕ) (d : Declaration) (c : List ℕ) (r : Fault) (c' : List ℕ) : Type 0 where
   pub told : (p : Program) → HoldsProgram c p → r ≡ fault_of (switch_excess s d.at d.list p)
-  pub holds : r ≡ Clear → (p : Program) → HoldsProgram c p → HoldsProgram c' (with_texts s d.list p)
+  pub holds : r ≡ None → (p : Program) → HoldsProgram c p → HoldsProgram c' (with_texts s d.list p)
   pub beyond_same : drop limit.table c' ≡ drop limit.table c

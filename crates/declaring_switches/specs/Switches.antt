@@ -7,8 +7,8 @@ use Rattle.layout.specs.Cells.{cell}
 use Rattle.layout.specs.Table.{all_entries}
 use Rattle.packed.specs.Packed.{table_of}
 use Rattle.statements.specs.StatementAt.{fault_of}
-use Rattle.statements.specs.declared.Fault.{Fault}
-use Rattle.statements.specs.declared.Fault.TheVariants.{Clear}
+use Rattle.statements.specs.Faults.{Fault}
+use Rattle.std.specs.Prelude.{None}
 use Rattle.writing.specs.Writing.{HoldsProgram, with_switch}
 use Rattle.declaring_switches.specs.declared.Declaration.{Declaration}
 use Rattle.declaring_switches.specs.DeclaringSwitches.{switch_excess, with_texts, ListedSwitch}
@@ -41,7 +41,7 @@ pub record DeclarableSwitch (s : List ℕ) (d : Declaration) (c sw tx : List ℕ
 -- question 11 is told; where it is answered yes, the switch and the mark of its name are there
 pub record DeclaresSwitch (s : List ℕ) (d : Declaration) (c sw : List ℕ) (r : Fault) (c' sw' : List ℕ) : Type 0 where
   pub told : (p : Program) → HoldsProgram c p → r ≡ fault_of (switch_excess s d.at d.list p)
-  pub holds : r ≡ Clear → (p : Program) → HoldsProgram c p → KeptEntries (with_texts s d.list p) (list_entries s d.list)
+  pub holds : r ≡ None → (p : Program) → HoldsProgram c p → KeptEntries (with_texts s d.list p) (list_entries s d.list)
       → HoldsProgram c' (with_list s d.list d.named (with_texts s d.list p))
-  pub switch_marks : r ≡ Clear → sw' ≡ set sw (cell (table_of c) 2) d.name
+  pub switch_marks : r ≡ None → sw' ≡ set sw (cell (table_of c) 2) d.name
   pub beyond_same : drop limit.table c' ≡ drop limit.table c

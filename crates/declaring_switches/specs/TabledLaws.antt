@@ -22,8 +22,8 @@ use Rattle.lists.specs.Lists.{each, head_or, if_any, keep}
 use Rattle.machine.specs.WellFormed.{good_text, kept_text}
 use Rattle.packed.specs.Packed.{table_of}
 use Rattle.statements.specs.StatementAt.{fault_of}
-use Rattle.statements.specs.declared.Fault.{Fault}
-use Rattle.statements.specs.declared.Fault.TheVariants.{Clear}
+use Rattle.statements.specs.Faults.{Fault}
+use Rattle.std.specs.Prelude.{None}
 use Rattle.switch_lists.specs.Switches.{MarksAdded}
 use Rattle.syntax.specs.Items.{Item, is}
 use Rattle.syntax.specs.Items.Sort.{word, text}
@@ -63,7 +63,7 @@ module _ (lines : List ℕ) (t : Tables) (b : Bool) (ls : List Item) {s : List �
     -- and the tables with the switch
     module _ {en : List ℕ} (v : Tabled s lines t c sw en) (en' : List ℕ) (marks : MarksAdded s o.next (cell (table_of c) 3) en en') (sound : SoundTables (length s) (with_switch t ls x b)) (spelt : Each (Spelt s) (rest x))
         (name-is : word_by s name ≡ head_or [] (contents ls)) (name-there : Marked s name) (size : length en' ≡ length en)
-        (kept : KeptEntries (with_texts s o.next p) (list_entries s o.next)) (e : r ≡ Clear) where
+        (kept : KeptEntries (with_texts s o.next p) (list_entries s o.next)) (e : r ≡ None) where
       abbrev k : ℕ
       k = length t.switches
 

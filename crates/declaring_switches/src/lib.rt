@@ -55,10 +55,10 @@ fn enter_texts(text: &[u8], d: Declaration, table: &mut [u32], texts: &[u32]) ->
     for cell in &texts[held..end] {
         let m = *cell as usize;
         if !enter_cell(text, m, table) {
-            return Fault::At(m / 65536);
+            return Some(m / 65536);
         }
     }
-    Fault::Clear
+    None
 }
 
 // Question 11; its texts come to the table.
@@ -119,13 +119,11 @@ pub fn declare_switch(
     requires { DeclarableSwitch text.now d table.old switches.old texts.now }
     ensures { DeclaresSwitch text.now d table.old switches.old result table.new switches.new }
 {
-    match judge_switch(text, d, table, texts) {
-        Fault::At(p) => Fault::At(p),
-        Fault::Clear => {
-            write_switch(text, d, table, switches, texts);
-            Fault::Clear
-        }
+    let fault = judge_switch(text, d, table, texts);
+    if fault.is_none() {
+        write_switch(text, d, table, switches, texts);
     }
+    fault
 }
 
 // Of `arguments`, passed on to the crates above.

@@ -6,20 +6,19 @@ use Prim.Native.Nat.{ℕ, ◌+◌, ◌-◌, ◌≤◌, zero, suc}
 use native.Mathlib.Numerals.{add-one}
 use native.Mathlib.Omega.{arith}
 use lib.Dec.{T}
-use lib.ListN.{length, get_or, drop, drop_of_length-le}
+use lib.ListN.{length, get_or, get_or-eq_default, drop, drop_of_length-le}
 use lib.Seq.{drop-nil}
 use Rattle.language.specs.Program.{Program}
 use Rattle.statements.specs.PlaceLaws.{all_from}
-use Rattle.statements.specs.declared.Fault.{Fault}
-use Rattle.statements.specs.declared.Fault.TheVariants.{Clear, At}
+use Rattle.statements.specs.Faults.{Fault}
+use Rattle.std.specs.Prelude.{None, Some}
 use Rattle.syntax.specs.Items.{Item, a_mark}
 use Rattle.syntax.specs.Tables.{fresh}
 use Rattle.writing.specs.Writing.{HoldsProgram}
 use Rattle.entering.specs.Entering.{added, all_added, Held, Enters, EntersOne, ShortItem, EnterableValue, EnterableValues}
 use Rattle.entering.specs.EnteringLaws.{GoesOn, goes_on, excess-here}
-use Rattle.arguments.specs.Valued.{no_value, ItemValued, FirstValue, Ordered, Valued}
+use Rattle.arguments.specs.Valued.{no_value, nth, ItemValued, FirstValue, Ordered, Valued}
 use Rattle.arguments.specs.declared.Value.{Value}
-use Rattle.arguments.specs.declared.Values.{Values}
 use Rattle.layout.proofs.CellLaws.{each_at}
 use Rattle.syntax.specs.ArgumentForms.{Argument}
 use Rattle.syntax.specs.Items.Sort.{wrong}
@@ -39,7 +38,7 @@ module _ {X : Type 0} (equal : X → X → Bool) (value_of_lem : Item → X) (pa
   abbrev pub All : List Item → List ℕ → Fault → List ℕ → Type 0
   All js c r d = Enters equal value_of_lem passes table_of set-table js c r d
 
-  pub none-entered : {c : List ℕ} → All [] c Clear c
+  pub none-entered : {c : List ℕ} → All [] c None c
   unfolding fresh
   none-entered {c} =
       record {
@@ -63,7 +62,7 @@ module _ {X : Type 0} (equal : X → X → Bool) (value_of_lem : Item → X) (pa
         beyond_same = k.beyond_same ∙ h.beyond_same;
       }
 
-  pub all-stop : (i : Item) (js : List Item) {c : List ℕ} {r : Bool} {d : List ℕ} → One i c r d → r ≡ false → T (all_from i.at js) → All (i ∷ js) c (At i.at) d
+  pub all-stop : (i : Item) (js : List Item) {c : List ℕ} {r : Bool} {d : List ℕ} → One i c r d → r ≡ false → T (all_from i.at js) → All (i ∷ js) c (Some i.at) d
   all-stop i js {c} {r} {d} h q w =
       record {
         told = λ p g. sym (excess-here equal value_of_lem passes i js (table_of p) (sym (h.told p g) ∙ q) w);
@@ -86,15 +85,12 @@ items_of args = map (λ a. a.item) args
 abbrev pub item_at : List Argument → ℕ → Item
 item_at args k = get_or (items_of args) k no_item
 
--- value k, and what it has of argument k
-abbrev pub nth : Values → ℕ → Value
-nth v k = get_or (v.first ∷ v.second ∷ v.third ∷ []) k no_value
-
-pub row_at : {s : List ℕ} {js : List Item} {args : List Argument} {v : Values} → Valued s js args v → (k : ℕ) → FirstValue s (drop k args) (nth v k)
+-- what value k has of argument k
+pub row_at : {s : List ℕ} {js : List Item} {args : List Argument} {v : List Value} → Valued s js args v → (k : ℕ) → FirstValue s (drop k args) (nth v k)
 row_at w zero = w.row.first
 row_at w (suc zero) = w.row.second
 row_at w (suc (suc zero)) = w.row.third
-row_at {s} {js} {args} w (suc (suc (suc k))) = rw (drop_of_length-le args {i = suc (suc (suc k))} (omega (arith, w.few))) refl
+row_at {s} {js} {args} {v} w (suc (suc (suc k))) = rw (drop_of_length-le args {i = suc (suc (suc k))} (omega (arith, w.few)), get_or-eq_default v no_value {n = suc (suc (suc k))} (omega (arith, w.row.size))) refl
 
 value-at : (s : List ℕ) (args : List Argument) (k : ℕ) (x : Value) → FirstValue s (drop k args) x → ItemValued s (item_at args k) x.argument
 value-at s [] zero x h = rw h (record { text_is = refl; number_is = refl; spelt = tt })
@@ -102,7 +98,7 @@ value-at s [] (suc k) x h = rw h (record { text_is = refl; number_is = refl; spe
 value-at s (a ∷ args) zero x h = h.1.entered
 value-at s (a ∷ args) (suc k) x h = value-at s args k x h
 
-pub enterable : {s : List ℕ} {v : Values} {c : List ℕ} → EnterableValues s v c → (k : ℕ) {d : List ℕ} → Held d → EnterableValue s (nth v k).argument d
+pub enterable : {s : List ℕ} {v : List Value} {c : List ℕ} → EnterableValues s v c → (k : ℕ) {d : List ℕ} → Held d → EnterableValue s (nth v k).argument d
 enterable {s} {v} u k held =
     record { item = item_at u.args k; valued = value-at s u.args k (nth v k) (row_at u.valued k); short = each_at ShortItem no_item (omega arith) (items_of u.args) (rw u.valued.items u.short) k; held = held }
 
@@ -110,7 +106,7 @@ enterable {s} {v} u k held =
 
 -- the values of the arguments before argument k came to the cells d, which were c: what follows from the rest
 pub record Going {X : Type 0} (equal : X → X → Bool) (value_of_lem : Item → X) (passes : Item → Bool) (table_of : Program → List X) (set-table : List X → Program → Program)
-    (s : List ℕ) (v : Values) (js : List Item) (args : List Argument) (c : List ℕ) (k : ℕ) (d : List ℕ) : Type 0 where
+    (s : List ℕ) (v : List Value) (js : List Item) (args : List Argument) (c : List ℕ) (k : ℕ) (d : List ℕ) : Type 0 where
   pub laws : TableOf table_of set-table
   pub none_passes : passes no_item ≡ false
   pub valued : Valued s js args v
@@ -124,7 +120,7 @@ module _ {X : Type 0} (equal : X → X → Bool) (value_of_lem : Item → X) (pa
   abbrev Rest : List Item → List ℕ → Fault → List ℕ → Type 0
   Rest js c r d = Enters equal value_of_lem passes table_of set-table js c r d
 
-  pub going-first : {s : List ℕ} {v : Values} {js : List Item} {args : List Argument} → Valued s js args v → {c : List ℕ} → Held c → Going equal value_of_lem passes table_of set-table s v js args c 0 c
+  pub going-first : {s : List ℕ} {v : List Value} {js : List Item} {args : List Argument} → Valued s js args v → {c : List ℕ} → Held c → Going equal value_of_lem passes table_of set-table s v js args c 0 c
   going-first w u = record { laws = laws; none_passes = none_passes; valued = w; held = u; then = λ f e k. rw w.items at k }
 
   -- an item that is none leaves what it is
@@ -143,14 +139,14 @@ module _ {X : Type 0} (equal : X → X → Bool) (value_of_lem : Item → X) (pa
   no_stop h q u = true≢false (sym (rw none_passes at (h.told u.program u.holds)) ∙ q)
 
   row-stop : (s : List ℕ) (args : List Argument) (k : ℕ) (x : Value) → FirstValue s (drop k args) x → {c : List ℕ} {r : Bool} {d : List ℕ} → Entered (item_at args k) c r d → r ≡ false → Held c → Ordered (items_of args)
-      → Rest (items_of (drop k args)) c (At x.at) d
+      → Rest (items_of (drop k args)) c (Some x.at) d
   row-stop s [] zero x f h q u o = absurd (no_stop h q u)
   row-stop s [] (suc k) x f h q u o = absurd (no_stop h q u)
   row-stop s (a ∷ args) zero x f h q u o = rw f.0 (all-stop equal value_of_lem passes table_of set-table laws a.item (items_of args) h q o.0)
   row-stop s (a ∷ args) (suc k) x f h q u o = row-stop s args k x f h q u o.1
 
 module _ {X : Type 0} {equal : X → X → Bool} {value_of_lem : Item → X} {passes : Item → Bool} {table_of : Program → List X} {set-table : List X → Program → Program}
-    {s : List ℕ} {v : Values} {js : List Item} {args : List Argument} {c : List ℕ} where
+    {s : List ℕ} {v : List Value} {js : List Item} {args : List Argument} {c : List ℕ} where
   module _ {k : ℕ} {d : List ℕ} (g : Going equal value_of_lem passes table_of set-table s v js args c k d)
       {r : Bool} {e : List ℕ} (t : (i : Item) → ItemValued s i (nth v k).argument → EntersOne equal value_of_lem passes table_of set-table i d r e) where
     one : EntersOne equal value_of_lem passes table_of set-table (item_at args k) d r e
@@ -166,10 +162,10 @@ module _ {X : Type 0} {equal : X → X → Bool} {value_of_lem : Item → X} {pa
           then = λ f e' m. g.then f e' (row_on equal value_of_lem passes g.laws g.none_passes args k one q (rw (add-one k) at m));
         }
 
-    pub going-stops : r ≡ false → Enters equal value_of_lem passes table_of set-table js c (At (nth v k).at) e
+    pub going-stops : r ≡ false → Enters equal value_of_lem passes table_of set-table js c (Some (nth v k).at) e
     going-stops q =
-        g.then (At (nth v k).at) e
+        g.then (Some (nth v k).at) e
         (row-stop equal value_of_lem passes g.laws g.none_passes s args k (nth v k) (row_at g.valued k) one q g.held (rw g.valued.items g.valued.ordered))
 
-  pub going-ends : {k : ℕ} {d : List ℕ} → Going equal value_of_lem passes table_of set-table s v js args c k d → 3 ≤ k → Enters equal value_of_lem passes table_of set-table js c Clear d
-  going-ends {k} {d} g l = g.then Clear d (rw (drop_of_length-le args {i = k} (omega (arith, g.valued.few))) (none-entered equal value_of_lem passes table_of set-table g.laws))
+  pub going-ends : {k : ℕ} {d : List ℕ} → Going equal value_of_lem passes table_of set-table s v js args c k d → 3 ≤ k → Enters equal value_of_lem passes table_of set-table js c None d
+  going-ends {k} {d} g l = g.then None d (rw (drop_of_length-le args {i = k} (omega (arith, g.valued.few))) (none-entered equal value_of_lem passes table_of set-table g.laws))

@@ -5,6 +5,5 @@ pub use Rattle.arguments.specs.Below.Heads
 pub use Rattle.arguments.specs.CountLaws
 pub use Rattle.arguments.specs.Valued
 pub use Rattle.arguments.specs.declared.Value
-pub use Rattle.arguments.specs.declared.Values as ArgumentsValues
 pub use Rattle.finding.specs.Finding
 pub use Rattle.writing.specs.Writing

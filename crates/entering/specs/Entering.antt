@@ -1,15 +1,15 @@
 -- Texts and numbers of a statement that come to the tables: "different texts longer than one character", "different numbers beyond 15 in size".
 use Rattle.std.specs.Prelude.{◌≡◌, Bool, true, false, cond, not, ◌&&◌, List, [], ◌∷◌, ◌++◌, map, ℕ, ◌≤◌, leb, ltb, length, drop, ℤ, nat_abs}
 use Rattle.arguments.specs.Valued.{ItemValued, Valued}
-use Rattle.arguments.specs.declared.Values.{Values}
+use Rattle.arguments.specs.declared.Value.{Value}
 use Rattle.language.specs.Limits as limit
 use Rattle.language.specs.Program.{Program}
 use Rattle.language.specs.Values.{same_number, numeral}
 use Rattle.layout.specs.Bounds.{Each}
 use Rattle.lists.specs.Lists.{any, keep, bytes_equal}
 use Rattle.statements.specs.StatementAt.{fault_of}
-use Rattle.statements.specs.declared.Fault.{Fault}
-use Rattle.statements.specs.declared.Fault.TheVariants.{Clear}
+use Rattle.statements.specs.Faults.{Fault}
+use Rattle.std.specs.Prelude.{None}
 use Rattle.syntax.specs.ArgumentForms.{Argument as Argument-read}
 use Rattle.syntax.specs.Items.{Item, is, places}
 use Rattle.syntax.specs.Items.Sort.{word, text}
@@ -66,7 +66,7 @@ pub record Still {X : Type 0} (set-table : List X → Program → Program) (p : 
 pub record Enters {X : Type 0} (equal : X → X → Bool) (value_of_lem : Item → X) (passes : Item → Bool) (table_of : Program → List X) (set-table : List X → Program → Program)
     (js : List Item) (c : List ℕ) (r : Fault) (d : List ℕ) : Type 0 where
   pub told : (p : Program) → HoldsProgram c p → r ≡ fault_of (excess equal value_of_lem passes (table_of p) js)
-  pub holds : r ≡ Clear → (p : Program) → HoldsProgram c p → HoldsProgram d (set-table (all_added equal value_of_lem passes (table_of p) js) p)
+  pub holds : r ≡ None → (p : Program) → HoldsProgram c p → HoldsProgram d (set-table (all_added equal value_of_lem passes (table_of p) js) p)
   pub still : (p : Program) → HoldsProgram c p → Still set-table p d
   pub beyond_same : drop limit.table d ≡ drop limit.table c
 
@@ -102,7 +102,7 @@ pub record EnterableValue (s : List ℕ) (x : Argument) (c : List ℕ) : Type 0 
   pub held : Held c
 
 -- the values v of some short items
-pub record EnterableValues (s : List ℕ) (v : Values) (c : List ℕ) : Type 0 where
+pub record EnterableValues (s : List ℕ) (v : List Value) (c : List ℕ) : Type 0 where
   pub items : List Item
   pub args : List Argument-read
   pub valued : Valued s items args v
@@ -110,7 +110,7 @@ pub record EnterableValues (s : List ℕ) (v : Values) (c : List ℕ) : Type 0 w
   pub held : Held c
 
 -- the same, of some text
-pub record SomeValues (v : Values) (c : List ℕ) : Type 0 where
+pub record SomeValues (v : List Value) (c : List ℕ) : Type 0 where
   pub text : List ℕ
   pub enterable : EnterableValues text v c
 
@@ -122,10 +122,10 @@ abbrev pub NumberEntered : Argument → List ℕ → Bool → List ℕ → Type 
 NumberEntered x c r d =
     (s : List ℕ) (i : Item) → ItemValued s i x → EntersOne same_number number_in large_number (λ p. p.numbers) set_numbers i c r d
 
-abbrev pub TextsEntered : List ℕ → Values → List ℕ → Fault → List ℕ → Type 0
+abbrev pub TextsEntered : List ℕ → List Value → List ℕ → Fault → List ℕ → Type 0
 TextsEntered s v c r d =
     (js : List Item) (args : List Argument-read) → Valued s js args v → Enters bytes_equal (λ j. j.chars) long_text (λ p. p.texts) set_texts js c r d
 
-abbrev pub NumbersEntered : Values → List ℕ → Fault → List ℕ → Type 0
+abbrev pub NumbersEntered : List Value → List ℕ → Fault → List ℕ → Type 0
 NumbersEntered v c r d =
     (s : List ℕ) (js : List Item) (args : List Argument-read) → Valued s js args v → Enters same_number number_in large_number (λ p. p.numbers) set_numbers js c r d

@@ -10,7 +10,7 @@ use Rattle.lists.specs.Lists.{any, keep}
 use Rattle.lists.specs.ListLaws.{all_head, all_tail, all_cons, all_keep}
 use Rattle.statements.specs.PlaceLaws.{stands_from, all_from, lowest-places}
 use Rattle.statements.specs.StatementAt.{fault_of}
-use Rattle.statements.specs.declared.Fault.TheVariants.{At}
+use Rattle.std.specs.Prelude.{Some}
 use Rattle.syntax.specs.Items.{Item}
 use Rattle.syntax.specs.Tables.{fresh}
 use Rattle.entering.specs.Entering.{added, full, excess, all_added}
@@ -56,13 +56,13 @@ module _ {X : Type 0} (equal : X → X → Bool) (value_of_lem : Item → X) (pa
             (rw (step h false e, m), rw (step h false e) (sym (append_assoc t (x ∷ []) (map value_of_lem (rest (t ++ (x ∷ [])))))))
 
     -- it has no place, and is the first in excess
-    pub excess-here : not (passes i && full equal x t) ≡ false → T (all_from i.at js) → fault_of (excess equal value_of_lem passes t (i ∷ js)) ≡ At i.at
+    pub excess-here : not (passes i && full equal x t) ≡ false → T (all_from i.at js) → fault_of (excess equal value_of_lem passes t (i ∷ js)) ≡ Some i.at
     excess-here f w = go (passes i) (any (equal x) t) refl refl f
       where
-        go : (p b : Bool) → passes i ≡ p → any (equal x) t ≡ b → not (p && (not b && leb 128 (length t))) ≡ false → fault_of (excess equal value_of_lem passes t (i ∷ js)) ≡ At i.at
+        go : (p b : Bool) → passes i ≡ p → any (equal x) t ≡ b → not (p && (not b && leb 128 (length t))) ≡ false → fault_of (excess equal value_of_lem passes t (i ∷ js)) ≡ Some i.at
         go false b h e q = absurd (true≢false q)
         go true true h e q = absurd (true≢false q)
         go true false h e q =
             let l : 128 - length t ≡ 0 = omega (arith, leb-true 128 (length t) (not-false (leb 128 (length t)) q)) in
             rw (step h false e, l)
-            (ap At (lowest-places i.at (rest (t ++ (x ∷ []))) (fresh-from i.at (t ++ (x ∷ [])) (keep passes js) (all_keep (stands_from i.at) passes js w))))
+            (ap Some (lowest-places i.at (rest (t ++ (x ∷ []))) (fresh-from i.at (t ++ (x ∷ [])) (keep passes js) (all_keep (stands_from i.at) passes js w))))

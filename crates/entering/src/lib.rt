@@ -5,7 +5,7 @@ ghost use Rattle.std.specs.Prelude.{◌≡◌, ◌||◌, ltb, length};
 ghost use Rattle.lists.specs.Lists.{bytes_equal};
 ghost use Rattle.entering.specs.Entering.{set_texts, Held, AddsCode, Addable, Adds, EnterableValue, EnterableValues, SomeValues, TextEntered, NumberEntered, TextsEntered, NumbersEntered};
 
-use arguments::Values;
+use arguments::Value;
 use language::Machine;
 use statements::Fault;
 use table::Argument;
@@ -68,16 +68,16 @@ pub fn enter_text_of(text: &[u8], x: Argument, table: &mut [u32]) -> bool
 }
 
 // Adds the texts of an instruction's arguments; the place of the first that has no room.
-pub fn enter_text_values(text: &[u8], v: Values, table: &mut [u32]) -> Fault
+pub fn enter_text_values(text: &[u8], v: [Value; 3], table: &mut [u32]) -> Fault
     requires { EnterableValues text.now v table.old }
     ensures { TextsEntered text.now v table.old result table.new }
 {
-    for value in [v.first, v.second, v.third] {
+    for value in v {
         if !enter_text_of(text, value.argument, table) {
-            return Fault::At(value.at);
+            return Some(value.at);
         }
     }
-    Fault::Clear
+    None
 }
 
 // Adds the number of a value, unless it is within 15 in size; whether it is there then.
@@ -93,21 +93,21 @@ fn enter_number_of(x: Argument, table: &mut [u32]) -> bool
 
 // Adds the numbers of an instruction's arguments; the place of the first that has no room.
 // The loop of `enter_text_values`: shared, it would take a closure on the table, whose contract is longer than the loop.
-pub fn enter_number_values(v: Values, table: &mut [u32]) -> Fault
+pub fn enter_number_values(v: [Value; 3], table: &mut [u32]) -> Fault
     requires { SomeValues v table.old }
     ensures { NumbersEntered v table.old result table.new }
 {
-    for value in [v.first, v.second, v.third] {
+    for value in v {
         if !enter_number_of(value.argument, table) {
-            return Fault::At(value.at);
+            return Some(value.at);
         }
     }
-    Fault::Clear
+    None
 }
 
 // Of `arguments`, passed on to the crates above.
 pub mod from_arguments {
-    pub use arguments::Values;
+    pub use arguments::Value;
 }
 
 // Of `finding`, passed on to the crates above.

@@ -15,8 +15,7 @@ use Rattle.acceptance.proofs.RowLaws.{each_map}
 use Rattle.drafts.specs.Drafting.{draft_program, draft_instr}
 use Rattle.statements.specs.Faults.{decided, then}
 use Rattle.statements.specs.FaultLaws.{question-decides}
-use Rattle.statements.specs.declared.Verdict.{Verdict}
-use Rattle.statements.specs.declared.Verdict.TheVariants.{Yes, No}
+use Rattle.statements.specs.Faults.{Verdict, verdict_of}
 use Rattle.layout.specs.Cells.{cell}
 use Rattle.linking.specs.Linking.{Kept, Linked, Links, last_two}
 use Rattle.linking.specs.declared.Missing.TheVariants.{Label, Switch}
@@ -25,8 +24,8 @@ use Rattle.packed.specs.Packed.{table_of}
 use Rattle.progress.specs.Progress.{Drafted}
 use Rattle.progress.specs.declared.Progress.{Progress}
 use Rattle.statements.specs.StatementAt.{fault_of}
-use Rattle.statements.specs.declared.Fault.{Fault}
-use Rattle.statements.specs.declared.Fault.TheVariants.{Clear, At}
+use Rattle.statements.specs.Faults.{Fault}
+use Rattle.std.specs.Prelude.{None, Some}
 use Rattle.syntax.specs.Ending.{last_place, absent, end_faults, last_questions}
 use Rattle.syntax.specs.Items.{places}
 use Rattle.syntax.specs.Tables.{Draft, is_first}
@@ -38,18 +37,19 @@ use Rattle.finishing.specs.Finishing.{NamesLinked, Finishes}
 
 -- ---- questions 12 and 13
 
-not_yes : (number at : ℕ) → No number at ≡ Yes → ⊥
-not_yes number at e = let z : ◌≡◌ {A = ℕ} 0 1 = cc in omega arith
+not_yes : {number at : ℕ} (v : Verdict) → verdict_of v ≡ refuse number at → v ≡ Ok tt → ⊥
+not_yes (Ok u) w e = let z : ◌≡◌ {A = ℕ} 0 1 = cc in omega arith
+not_yes (Err f) w e = let z : ◌≡◌ {A = ℕ} 0 1 = cc in omega arith
 
 module _ {s c sw en d : List ℕ} where
-  pub linked-done : {r : Linked} → r ≡ Ok tt → Links s c sw en r d → NamesLinked s c sw en Yes d
+  pub linked-done : {r : Linked} → r ≡ Ok tt → Links s c sw en r d → NamesLinked s c sw en (Ok tt) d
   linked-done e h = record { verdict_is = λ lines t k. rw e at (h.verdict_is lines t k); holds = λ q. h.holds e; beyond = h.beyond }
 
-  pub linked-label : {r : Linked} (at : ℕ) → r ≡ Err (Label at) → Links s c sw en r d → NamesLinked s c sw en (No 12 at) d
-  linked-label at e h = record { verdict_is = λ lines t k. rw e at (h.verdict_is lines t k); holds = λ q. absurd (not_yes 12 at q); beyond = h.beyond }
+  pub linked-label : {r : Linked} (at : ℕ) → r ≡ Err (Label at) → Links s c sw en r d → (v : Verdict) → verdict_of v ≡ refuse 12 at → NamesLinked s c sw en v d
+  linked-label at e h v w = record { verdict_is = λ lines t k. w ∙ rw e at (h.verdict_is lines t k); holds = λ q. absurd (not_yes v w q); beyond = h.beyond }
 
-  pub linked-switch : {r : Linked} (at : ℕ) → r ≡ Err (Switch at) → Links s c sw en r d → NamesLinked s c sw en (No 13 at) d
-  linked-switch at e h = record { verdict_is = λ lines t k. rw e at (h.verdict_is lines t k); holds = λ q. absurd (not_yes 13 at q); beyond = h.beyond }
+  pub linked-switch : {r : Linked} (at : ℕ) → r ≡ Err (Switch at) → Links s c sw en r d → (v : Verdict) → verdict_of v ≡ refuse 13 at → NamesLinked s c sw en v d
+  linked-switch at e h v w = record { verdict_is = λ lines t k. w ∙ rw e at (h.verdict_is lines t k); holds = λ q. absurd (not_yes v w q); beyond = h.beyond }
 
 -- ---- the draft as it is kept
 
@@ -90,12 +90,12 @@ module _ {s : List ℕ} {g : Progress} {ms c sw en : List ℕ} {last : ℕ} (l :
       ∙ ap (λ (x : Bool). then (decided 0 (fault_of (absent (not x) (last_place s)))) (first_no (ask 25 (end_faults (last_place s) d) ∷ last_two d.tables))) (h.tells.section.first_is ∙ e)
       ∙ ap (λ (x : spec.Verdict). then (decided 0 (fault_of (absent (not b) (last_place s)))) x) (question-decides 25 (end_faults (last_place s) d) (last_two d.tables))
 
-  pub no-section : g.section ≡ 0 → Finishes s g ms c sw en (No 0 last) c
+  pub no-section : g.section ≡ 0 → (v : Verdict) → verdict_of v ≡ refuse 0 last → Finishes s g ms c sw en v c
   unfolding spec.lowest
-  no-section z =
+  no-section z v w =
       record {
-        verdict_is = λ lines d h. ap (refuse 0) l ∙ sym (asked d h true (eq-eqb g.section 0 z));
-        holds = λ q. absurd (not_yes 0 last q);
+        verdict_is = λ lines d h. w ∙ ap (refuse 0) l ∙ sym (asked d h true (eq-eqb g.section 0 z));
+        holds = λ q. absurd (not_yes v w q);
         beyond = refl;
       }
 
@@ -111,15 +111,15 @@ module _ {s : List ℕ} {g : Progress} {ms c sw en : List ℕ} {last : ℕ} (l :
     then-asked d h =
         asked d h false (ne_eqb g.section 0 n) ∙ ap (λ (x : Fault). then (decided 25 x) (first_no (last_two d.tables))) (sym (fault-here d h))
 
-    pub not-ended : (at : ℕ) → f ≡ At at → Finishes s g ms c sw en (No 25 at) c
-    not-ended at e =
+    pub not-ended : (at : ℕ) → f ≡ Some at → (v : Verdict) → verdict_of v ≡ refuse 25 at → Finishes s g ms c sw en v c
+    not-ended at e v w =
         record {
-          verdict_is = λ lines d h. sym (then-asked d h ∙ ap (λ (x : Fault). then (decided 25 x) (first_no (last_two d.tables))) e);
-          holds = λ q. absurd (not_yes 25 at q);
+          verdict_is = λ lines d h. w ∙ sym (then-asked d h ∙ ap (λ (x : Fault). then (decided 25 x) (first_no (last_two d.tables))) e);
+          holds = λ q. absurd (not_yes v w q);
           beyond = refl;
         }
 
-    pub finished : f ≡ Clear → {r : Verdict} {c' : List ℕ} → NamesLinked s c sw en r c' → Finishes s g ms c sw en r c'
+    pub finished : f ≡ None → {r : Verdict} {c' : List ℕ} → NamesLinked s c sw en r c' → Finishes s g ms c sw en r c'
     finished e w =
         record {
           verdict_is = λ lines d h. w.verdict_is lines d.tables h.tabled ∙ sym (then-asked d h ∙ ap (λ (x : Fault). then (decided 25 x) (first_no (last_two d.tables))) e);

@@ -1,9 +1,8 @@
 -- What the end of a text asks and promises.
-use Rattle.std.specs.Prelude.{◌≡◌, List, ℕ, drop}
+use Rattle.std.specs.Prelude.{◌≡◌, Ok, List, ℕ, drop}
 use Rattle.drafts.specs.Tabled.{Tabled}
 use Rattle.statements.specs.Faults.{verdict_of}
-use Rattle.statements.specs.declared.Verdict.{Verdict}
-use Rattle.statements.specs.declared.Verdict.TheVariants.{Yes}
+use Rattle.statements.specs.Faults.{Verdict}
 use Rattle.language.specs.Limits as limit
 use Rattle.linking.specs.Linking.{last_two}
 use Rattle.progress.specs.Progress.{Drafted}
@@ -17,7 +16,7 @@ use Rattle.writing.specs.Writing.{HoldsProgram}
 -- the verdict of questions 12 and 13 is told; where it is yes, the cells d hold the program
 pub record NamesLinked (s c sw en : List ℕ) (r : Verdict) (d : List ℕ) : Type 0 where
   pub verdict_is : (lines : List ℕ) (t : Tables) → Tabled s lines t c sw en → verdict_of r ≡ first_no (last_two t)
-  pub holds : r ≡ Yes → (lines : List ℕ) (t : Tables) → Tabled s lines t c sw en → HoldsProgram d (program_of lines t)
+  pub holds : r ≡ Ok tt → (lines : List ℕ) (t : Tables) → Tabled s lines t c sw en → HoldsProgram d (program_of lines t)
   pub beyond : drop limit.table d ≡ drop limit.table c
 
 -- all statements of the text s were read
@@ -29,5 +28,5 @@ pub record Finishable (s : List ℕ) (g : Progress) (ms c sw en : List ℕ) : Ty
 -- the verdict of all last questions is told; where it is yes, the cells d hold the program of the text
 pub record Finishes (s : List ℕ) (g : Progress) (ms c sw en : List ℕ) (r : Verdict) (d : List ℕ) : Type 0 where
   pub verdict_is : (lines : List ℕ) (t : Draft) → Drafted s lines t g ms c sw en → verdict_of r ≡ first_no (last_questions (last_place s) t)
-  pub holds : r ≡ Yes → (lines : List ℕ) (t : Draft) → Drafted s lines t g ms c sw en → HoldsProgram d (program_of lines t.tables)
+  pub holds : r ≡ Ok tt → (lines : List ℕ) (t : Draft) → Drafted s lines t g ms c sw en → HoldsProgram d (program_of lines t.tables)
   pub beyond : drop limit.table d ≡ drop limit.table c

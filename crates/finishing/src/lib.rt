@@ -9,7 +9,7 @@ ghost use Rattle.finishing.specs.Finishing.{NamesLinked, Finishable, Finishes};
 use linking::Missing;
 use names::lowest_mark;
 use progress::Progress;
-use statements::{Fault, Verdict};
+use statements::{Verdict, refused};
 
 // The place of the last byte, 0 in an empty text.
 fn last_place(text: &[u8]) -> usize
@@ -24,9 +24,9 @@ fn link_names(text: &[u8], table: &mut [u32], switches: &[u32], entries: &[u32])
     ensures { NamesLinked text.now table.old switches.now entries.now result table.new }
 {
     match linking::resolve(text, table, switches, entries) {
-        Ok(()) => Verdict::Yes,
-        Err(Missing::Label(at)) => Verdict::No(12, at),
-        Err(Missing::Switch(at)) => Verdict::No(13, at),
+        Ok(()) => Ok(()),
+        Err(Missing::Label(at)) => refused(12, at),
+        Err(Missing::Switch(at)) => refused(13, at),
     }
 }
 
@@ -44,14 +44,14 @@ pub fn finish(
 {
     let last = last_place(text);
     if p.section == 0 {
-        return Verdict::No(0, last);
+        return refused(0, last);
     }
-    let waiting = lowest_mark(names, p.names - p.waiting, p.names);
+    let waiting = lowest_mark(names, p.first_waiting(), p.names);
     let code = table::instructions(table);
     let ended = p.ended;
     match progress::end_fault(last, p.closing, code, ended, waiting) {
-        Fault::At(at) => Verdict::No(25, at),
-        Fault::Clear => link_names(text, table, switches, entries),
+        Some(at) => refused(25, at),
+        None => link_names(text, table, switches, entries),
     }
 }
 

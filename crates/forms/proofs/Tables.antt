@@ -1,54 +1,53 @@
 -- The tables of the source against the one table of instructions.
 use mathlib.Core.Path.{◌≡◌, refl, ap, sym, ◌∙◌}
-use mathlib.Core.Bool.{Bool, true, false, not, ◌&&◌, ◌||◌, beq}
-use Rattle.std.specs.Prelude.{count_by}
+use mathlib.Core.Bool.{Bool, true, false, true≢false, not, ◌&&◌}
+use Rattle.std.specs.Prelude.{count_by, Result, Ok, Err, is_ok}
+use Rattle.std.proofs.lemmas.Result.{IfOk-at_ok}
+use Rattle.language.specs.Operators.{op_by, Numbers}
+use Rattle.language.specs.declared.Operator.{Operator}
+use Rattle.language.specs.declared.NoOperator.{NoOperator}
 use mathlib.Core.List.{List, [], ◌∷◌, map}
-use Rattle.std.proofs.Common.{◌⊎◌, inl, inr}
 use Prim.Native.Nat.{ℕ, zero, suc, ◌≤◌, ◌<◌}
 use native.Mathlib.Omega.{arith}
-use lib.Dec.{T, ltb, leb, eqb, eqb→eq, leb→le}
-use lib.ListN.{get_or, get_or-eq_default}
-use Rattle.language.specs.Instructions.{Forms, operation, operators}
+use lib.Dec.{ltb, leb, eqb, eqb→eq, leb→le, ltb→lt}
+use lib.ListN.{length, get_or, get_or-eq_default}
+use Rattle.language.specs.Instructions.{Forms, operation, operators, number_of, is_call, is_end}
 use Rattle.language.specs.Program.{Op}
 use Rattle.lists.specs.ListLaws.{T-left, T-right}
-use Rattle.lists.specs.Lists.{if_any, keep, among}
+use Rattle.lists.specs.Lists.{if_any, keep}
 use Rattle.lists.specs.Quoted.{bytes}
-use Rattle.lists.specs.TableLaws.{beq-eq, below, below-unless, Missed, missed}
+use Rattle.lists.specs.TableLaws.{below, below-unless}
 use Rattle.words.specs.Below.ArgumentForms.{alternatives}
-use Rattle.forms.specs.Forms.{Sets, nothing, set_of, listed, set_at, most_of, least_of, calls, ends}
-use Rattle.forms.specs.ReadingLaws.{two-lists}
+use Rattle.forms.specs.Forms.{Sets, SetsOf, by_number, nothing, set_of, listed, set_at, most_of, least_of, calls, ends}
+use Rattle.forms.specs.ReadingLaws.{numbered, two-lists}
 
-pub list_arm : {n k : ℕ} (list : ℕ) → n ≡ k → Sets n list (set_at k list 0 ∷ set_at k list 1 ∷ set_at k list 2 ∷ [])
-list_arm list e = ap (λ (m : ℕ). set_at m list 0 ∷ set_at m list 1 ∷ set_at m list 2 ∷ []) (sym e)
+by-number : {X : Type 0} {n : ℕ} {o : Op} → number_of o ≡ n → (z : X) (f : Op → X) → by_number z f n ≡ f o
+by-number {o = o} e z f = ap (λ (m : ℕ). by_number z f m) (sym e) ∙ numbered z f o
 
--- the numbers of the arms
-abbrev first_arms : List ℕ
-first_arms =
-    1 ∷ 2 ∷ 3 ∷ 4 ∷ 5 ∷ 6 ∷ 7 ∷ 8 ∷ 9 ∷ 10 ∷ 11 ∷ 12 ∷ 13 ∷ 14 ∷ 15 ∷ 16 ∷ 17 ∷ 18 ∷ 19 ∷ 20 ∷ 21 ∷ 22 ∷ 23 ∷ 24 ∷ 25 ∷ 26 ∷ 27 ∷ 28 ∷ 29 ∷ 30 ∷ 31 ∷ 32
-    ∷ 33 ∷ 34 ∷ 35 ∷ 36 ∷ 37 ∷ 38 ∷ 39 ∷ 40 ∷ 41 ∷ []
+-- f by a number that code reads as an operator, and by one that it reads as none
+pub read-as : {X : Type 0} {n : ℕ} {r : Result Operator NoOperator} {o : Operator} → Numbers n r → r ≡ Ok o → (z : X) (f : Op → X) → by_number z f n ≡ f (op_by o)
+read-as {n = n} {o = o} h e z f = by-number (IfOk-at_ok (λ o. number_of (op_by o) ≡ n) e h.number) z f
 
-abbrev second_arms : List ℕ
-second_arms = 9 ∷ 10 ∷ 13 ∷ []
+abbrev operators-of : ℕ → List Op
+operators-of n = keep (λ o. eqb n (operation o).number) operators
 
-empty : ℕ → ℕ → Bool
-empty list n = eqb 0 (set_at n list 0) && (eqb 0 (set_at n list 1) && eqb 0 (set_at n list 2))
+empty-list : (os : List Op) → 0 ≡ length os → os ≡ []
+empty-list [] e = refl
+empty-list (o ∷ os) e = absurd (omega (arith, e))
 
-all-empty : (list n : ℕ) → T (empty list n) → Sets n list (0 ∷ 0 ∷ 0 ∷ [])
-unfolding empty
-all-empty list n t =
-    let a : Bool = eqb 0 (set_at n list 0) in
-    let b : Bool = eqb 0 (set_at n list 1) in
-    let c : Bool = eqb 0 (set_at n list 2) in
-    let u : T (b && c) = T-right a (b && c) t in
-    rw (← eqb→eq 0 (set_at n list 0) (T-left a (b && c) t), ← eqb→eq 0 (set_at n list 1) (T-left b c u), ← eqb→eq 0 (set_at n list 2) (T-right b c u))
+no-operators : (n : ℕ) → n < 256 → (0 < n → n ≤ 41 → ⊥) → operators-of n ≡ []
+no-operators n h out =
+    empty-list (operators-of n) (eqb→eq 0 (length (operators-of n)) (below-unless (λ k. ltb 0 k && leb k 41) (λ k. eqb 0 (length (operators-of k))) 256 tt n h (outside (ltb 0 n && leb n 41) refl)))
+  where
+    outside : (b : Bool) → (ltb 0 n && leb n 41) ≡ b → (ltb 0 n && leb n 41) ≡ false
+    outside false e = e
+    outside true e = absurd (out (ltb→lt 0 n (T-left (ltb 0 n) (leb n 41) (rw e tt))) (leb→le n 41 (T-right (ltb 0 n) (leb n 41) (rw e tt))))
 
-pub first_rest : (n : ℕ) → n < 256 → Missed (Unit {0}) first_arms n → Sets n 0 (0 ∷ 0 ∷ 0 ∷ [])
-unfolding empty set_at
-first_rest n h m = all-empty 0 n (below-unless (λ k. among k first_arms) (empty 0) 256 tt n h (missed first_arms n m))
-
-pub second_rest : (n : ℕ) → n < 256 → Missed (Unit {0}) second_arms n → Sets n 1 (0 ∷ 0 ∷ 0 ∷ [])
-unfolding empty set_at
-second_rest n h m = all-empty 1 n (below-unless (λ k. among k second_arms) (empty 1) 256 tt n h (missed second_arms n m))
+read-none : {X : Type 0} {n : ℕ} {r : Result Operator NoOperator} {w : NoOperator} → n < 256 → Numbers n r → r ≡ Err w → (z : X) (f : Op → X) → by_number z f n ≡ z
+read-none {n = n} {r} h k e z f = ap (if_any z f) (no-operators n h (λ a b. not-ok r e (k.some a b)))
+  where
+    not-ok : (r : Result Operator NoOperator) {w : NoOperator} → r ≡ Err w → is_ok r ≡ true → ⊥
+    not-ok r e q = true≢false (sym q ∙ ap is_ok e)
 
 -- the places of a list
 none-by : (f : Op → ℕ) → ((o : Op) → f o ≡ 0) → (os : List Op) → if_any 0 f os ≡ 0
@@ -70,14 +69,29 @@ set-by-place n list (suc zero) = refl
 set-by-place n list (suc (suc zero)) = refl
 set-by-place n list (suc (suc (suc place))) = sym (past-set n list (suc (suc (suc place))) (omega arith))
 
-pub set_in : (n k place : ℕ) (p : List ℕ) {list r : ℕ} → list ≡ k → Sets n k p → r ≡ get_or p place 0 → r ≡ set_at n list place
-set_in n k place p e s h = h ∙ ap (λ (q : List ℕ). get_or q place 0) s ∙ set-by-place n k place ∙ ap (λ (l : ℕ). set_at n l place) (sym e)
+pub set_in : (n list place : ℕ) {r : ℕ} {p : List ℕ} → Sets n list p → r ≡ get_or p place 0 → r ≡ set_at n list place
+set_in n list place s h = h ∙ ap (λ (q : List ℕ). get_or q place 0) s ∙ set-by-place n list place
 
 -- no instruction has more than two lists
-pub past_list : (n list place : ℕ) → (list ≡ 0 → ⊥) → (list ≡ 1 → ⊥) → 0 ≡ set_at n list place
+pub past_list : (o : Op) {list : ℕ} → (list ≡ 0 → ⊥) → (list ≡ 1 → ⊥) → SetsOf o list (0 ∷ 0 ∷ 0 ∷ [])
+unfolding SetsOf
+past_list o {list} a b = rw (get_or-eq_default (alternatives o) [] {n = list} (omega (arith, two-lists o))) refl
+
+-- the sets of an operator, by its number
+pub listed_sets : {n : ℕ} {r : Result Operator NoOperator} {o : Operator} (list : ℕ) {p : List ℕ} → Numbers n r → r ≡ Ok o → SetsOf (op_by o) list p → Sets n list p
+unfolding set_at SetsOf
+listed_sets {o = o} list k e s =
+    s ∙ same (sym (read-as k e 0 (λ x. set_of (listed x list 0)))) (sym (read-as k e 0 (λ x. set_of (listed x list 1)))) (sym (read-as k e 0 (λ x. set_of (listed x list 2))))
+  where
+    same : {a b c x y z : ℕ} → a ≡ x → b ≡ y → c ≡ z → ◌≡◌ {A = List ℕ} (a ∷ b ∷ c ∷ []) (x ∷ y ∷ z ∷ [])
+    same e f g = rw (e, f, g) refl
+
+pub no_sets : {n : ℕ} {r : Result Operator NoOperator} {w : NoOperator} (list : ℕ) → n < 256 → Numbers n r → r ≡ Err w → Sets n list (0 ∷ 0 ∷ 0 ∷ [])
 unfolding set_at
-past_list n list place a b =
-    sym (none-by (λ o. set_of (listed o list place)) (λ o. ap (λ (l : List (List ℕ)). set_of (get_or l place [])) (get_or-eq_default (alternatives o) [] {n = list} (omega (arith, two-lists o)))) (keep (λ o. eqb n (operation o).number) operators))
+no_sets list h k e = same (sym (read-none h k e 0 (λ x. set_of (listed x list 0)))) (sym (read-none h k e 0 (λ x. set_of (listed x list 1)))) (sym (read-none h k e 0 (λ x. set_of (listed x list 2))))
+  where
+    same : {x y z : ℕ} → 0 ≡ x → 0 ≡ y → 0 ≡ z → ◌≡◌ {A = List ℕ} (0 ∷ 0 ∷ 0 ∷ []) (x ∷ y ∷ z ∷ [])
+    same e f g = rw (← e, ← f, ← g) refl
 
 -- how many arguments an instruction takes, computed for every number
 abbrev pub sets : ℕ → List ℕ
@@ -100,22 +114,18 @@ least-counted n h =
     (eqb→eq (needed n) (least_of n) (below (λ k. eqb (needed k) (least_of k)) 256 tt n h), leb→le (least_of n) 3 (below (λ k. leb (least_of k) 3) 256 tt n h))
 
 -- which instructions call, and which end
-calling : ℕ → Bool
-calling n = (((eqb n 20 || eqb n 23) || eqb n 24) || eqb n 27) || eqb n 28
+pub called : {n : ℕ} {r : Result Operator NoOperator} {o : Operator} {b : Bool} → Numbers n r → r ≡ Ok o → b ≡ is_call (operation (op_by o)).flow → b ≡ calls n
+unfolding calls
+called k e h = h ∙ sym (read-as k e false (λ x. is_call (operation x).flow))
 
-pub calls_table : (n : ℕ) → n < 256 → (((eqb n 20 || eqb n 23) || eqb n 24) || eqb n 27) || eqb n 28 ≡ calls n
-unfolding calling calls
-calls_table n h = beq-eq (calling n) (calls n) (below (λ k. beq (calling k) (calls k)) 256 tt n h)
+pub not_called : {n : ℕ} {r : Result Operator NoOperator} {w : NoOperator} → n < 256 → Numbers n r → r ≡ Err w → false ≡ calls n
+unfolding calls
+not_called h k e = sym (read-none h k e false (λ x. is_call (operation x).flow))
 
-pub end_arm : {n : ℕ} → (n ≡ 19) ⊎ ((n ≡ 29) ⊎ (n ≡ 41)) → true ≡ ends n
+pub ended : {n : ℕ} {r : Result Operator NoOperator} {o : Operator} {b : Bool} → Numbers n r → r ≡ Ok o → b ≡ is_end (operation (op_by o)).flow → b ≡ ends n
 unfolding ends
-end_arm (inl e) = rw e
-end_arm (inr (inl e)) = rw e
-end_arm (inr (inr e)) = rw e
+ended k e h = h ∙ sym (read-as k e false (λ x. is_end (operation x).flow))
 
-abbrev end_arms : List ℕ
-end_arms = 19 ∷ 29 ∷ 41 ∷ []
-
-pub end_rest : (n : ℕ) → n < 256 → Missed (Unit {0}) end_arms n → false ≡ ends n
+pub not_ended : {n : ℕ} {r : Result Operator NoOperator} {w : NoOperator} → n < 256 → Numbers n r → r ≡ Err w → false ≡ ends n
 unfolding ends
-end_rest n h m = beq-eq false (ends n) (below-unless (λ k. among k end_arms) (λ k. beq false (ends k)) 256 tt n h (missed end_arms n m))
+not_ended h k e = sym (read-none h k e false (λ x. is_end (operation x).flow))

@@ -41,7 +41,10 @@ listed o list place = get_or (get_or (alternatives o) list []) place []
 unfoldable pub set_at : ℕ → ℕ → ℕ → ℕ
 set_at n list place = by_number 0 (λ o. set_of (listed o list place)) n
 
--- p has the sets of the three places of a list
+-- p has the sets of the three places of a list, of an instruction and by the number of an operator
+unfoldable pub SetsOf : Op → ℕ → List ℕ → Type 0
+SetsOf o list p = p ≡ set_of (listed o list 0) ∷ set_of (listed o list 1) ∷ set_of (listed o list 2) ∷ []
+
 abbrev pub Sets : ℕ → ℕ → List ℕ → Type 0
 Sets n list p = p ≡ set_at n list 0 ∷ set_at n list 1 ∷ set_at n list 2 ∷ []
 

@@ -2,7 +2,9 @@
 #![tactic(auto)]
 
 ghost use Rattle.std.specs.Prelude.{◌≡◌, not, ◌&&◌, ◌^◌, ◌<◌, ◌≤◌, eqb, ltb, count_by, get_or};
-ghost use Rattle.forms.specs.Forms.{Sets, nothing, set_at, most_of, least_of, calls, ends, only};
+ghost use Rattle.forms.specs.Forms.{Sets, SetsOf, nothing, set_at, most_of, least_of, calls, ends, only};
+ghost use Rattle.language.specs.Instructions.{operation, is_call, is_end};
+ghost use Rattle.language.specs.Operators.{op_by};
 ghost use Rattle.forms.specs.Reading.{if_form, if_taken, shared, taken, taken_at};
 
 use language::Operator;
@@ -101,9 +103,9 @@ pub struct Taken {
 type Places = [u32; 3];
 
 // An instruction's first list.
-#[tactic(auto, using(crate::proofs::Tables::list_arm, crate::proofs::Tables::first_rest), unfolding(crate::specs::Forms::set_at))]
-fn first_list(op: u8) -> Places
-    ensures { Sets op 0 result }
+#[tactic(auto, unfolding(crate::specs::Forms::SetsOf))]
+fn first_list(op: Operator) -> Places
+    ensures { SetsOf (op_by op) 0 result }
 {
     match op {
         Operator::PRZESLIJ => [AB, ABYZ, TEST],
@@ -147,21 +149,43 @@ fn first_list(op: u8) -> Places
         Operator::OMIN => [P, RECORD_TEST, NOTHING],
         Operator::COFNIJ => [P, NOTHING, NOTHING],
         Operator::STOP => [NOTHING, NOTHING, NOTHING],
-        _ => [0, 0, 0],
     }
 }
 
 // Its second list, where it has one.
 // A table of its own: its three rows are other data than the 41 of the first, and what the two share is the type of a row.
-#[tactic(auto, using(crate::proofs::Tables::list_arm, crate::proofs::Tables::second_rest), unfolding(crate::specs::Forms::set_at))]
-fn second_list(op: u8) -> Places
-    ensures { Sets op 1 result }
+#[tactic(auto, unfolding(crate::specs::Forms::SetsOf))]
+fn second_list(op: Operator) -> Places
+    ensures { SetsOf (op_by op) 1 result }
 {
     match op {
         Operator::ZAMIEN => [P, P, NOTHING],
         Operator::UMIESC => [TEXT, Q, NOTHING],
         Operator::RW => [ABTI, KIND, NOTHING],
         _ => [0, 0, 0],
+    }
+}
+
+// Its lists by their numbers; no instruction has more than two.
+#[tactic(auto, using(crate::proofs::Tables::past_list))]
+fn list_of(op: Operator, list: u8) -> Places
+    ensures { SetsOf (op_by op) list result }
+{
+    match list {
+        0 => first_list(op),
+        1 => second_list(op),
+        _ => [0, 0, 0],
+    }
+}
+
+// Those of an operator by its number; of a number that is no operator's, empty sets.
+#[tactic(auto, using(crate::proofs::Tables::listed_sets, crate::proofs::Tables::no_sets))]
+fn sets_by(op: u8, list: u8) -> Places
+    ensures { Sets op list result }
+{
+    match Operator::try_from(op) {
+        Ok(o) => list_of(o, list),
+        Err(_) => [0, 0, 0],
     }
 }
 
@@ -175,15 +199,11 @@ fn at_place(p: Places, place: u8) -> u32
 }
 
 // The set of forms that an instruction's list, 0 or 1, has for a place from 0.
-#[tactic(auto, using(crate::proofs::Tables::set_in, crate::proofs::Tables::past_list))]
+#[tactic(auto, using(crate::proofs::Tables::set_in))]
 pub fn forms_at(op: u8, list: u8, place: u8) -> u32
     ensures { result ≡ set_at op list place }
 {
-    match list {
-        0 => at_place(first_list(op), place),
-        1 => at_place(second_list(op), place),
-        _ => 0,
-    }
+    at_place(sets_by(op, list), place)
 }
 
 // Of how many places the set has more than nothing; 0 stands for no set.
@@ -208,33 +228,52 @@ fn needed(p: Places) -> usize
 pub fn most(op: u8) -> u8
     ensures { (result ≡ most_of op) × (result ≤ 3) }
 {
-    not_empty(first_list(op)) as u8
+    not_empty(sets_by(op, 0)) as u8
 }
 
 // And at least.
 pub fn least(op: u8) -> u8
     ensures { (result ≡ least_of op) × (result ≤ 3) }
 {
-    needed(first_list(op)) as u8
+    needed(sets_by(op, 0)) as u8
 }
 
-// Five tests: a pattern of five numbers is split in ways whose goals do not name the number.
-pub fn is_call(op: u8) -> bool
-    ensures { result ≡ calls op }
+fn calling(op: Operator) -> bool
+    ensures { result ≡ is_call (operation (op_by op)).flow }
 {
-    (op == Operator::WYKONAJ)
-        | (op == Operator::WYMI)
-        | (op == Operator::WYPL)
-        | (op == Operator::WYNA)
-        | (op == Operator::WYIN)
+    matches!(
+        op,
+        Operator::WYKONAJ | Operator::WYMI | Operator::WYPL | Operator::WYNA | Operator::WYIN
+    )
 }
 
 // "The last of them STOP, SKOCZ or WROC".
-#[tactic(auto, using(crate::proofs::Tables::end_arm, crate::proofs::Tables::end_rest), unfolding(crate::specs::Forms::ends))]
+fn ending(op: Operator) -> bool
+    ensures { result ≡ is_end (operation (op_by op)).flow }
+{
+    matches!(op, Operator::SKOCZ | Operator::WROC | Operator::STOP)
+}
+
+// Whether an instruction calls, by its operator's number.
+#[tactic(auto, using(crate::proofs::Tables::not_called))]
+pub fn is_call(op: u8) -> bool
+    ensures { result ≡ calls op }
+{
+    match Operator::try_from(op) {
+        Ok(o) => calling(o),
+        Err(_) => false,
+    }
+}
+
+// Whether it never goes on to the following one.
+#[tactic(auto, using(crate::proofs::Tables::not_ended))]
 pub fn is_end(op: u8) -> bool
     ensures { result ≡ ends op }
 {
-    matches!(op, Operator::SKOCZ | Operator::WROC | Operator::STOP)
+    match Operator::try_from(op) {
+        Ok(o) => ending(o),
+        Err(_) => false,
+    }
 }
 
 pub fn letter_bit(place: u8) -> u32

@@ -11,8 +11,8 @@ use Rattle.statements.specs.Checks.{clean, worst, token_code}
 use Rattle.statements.specs.CheckLaws.{worst-stop, worst-item}
 use Rattle.statements.specs.Faults.{lower}
 use Rattle.statements.specs.FaultLaws.{fault-both}
-use Rattle.heads.specs.Heads.{opens, from_token, Headed}
-use Rattle.heads.specs.HeadLaws.{lower-clear, lower-assoc, told-asked, told-opens, behind-by, no-keyword}
+use Rattle.heads.specs.Heads.{following, opens, from_token, Headed}
+use Rattle.heads.specs.HeadLaws.{ended-by, ended-on, lower-clear, lower-assoc, told-asked, told-opens, behind-by, no-keyword}
 use Rattle.heads.specs.declared.Head.{Head}
 use Rattle.language.specs.Program.{identifier}
 use Rattle.lexer.specs.Tokens.{item_of, chars_of, colon_of, NextToken}
@@ -21,8 +21,8 @@ use Rattle.lists.specs.Lists.{filled, if_any, bytes_equal}
 use Rattle.statements.proofs.Ends.{Within, begins-within, still-within, ends-here, ends-then}
 use Rattle.statements.specs.StatementAt.{statement_at, stops, fault_of}
 use Rattle.statements.specs.StatementLaws.{at-stop, at_item}
-use Rattle.statements.specs.declared.Fault.{Fault}
-use Rattle.statements.specs.declared.Fault.TheVariants.{Clear, At}
+use Rattle.statements.specs.Faults.{Fault}
+use Rattle.std.specs.Prelude.{Option, None, Some}
 use Rattle.syntax.specs.Items.{Item, is, places}
 use Rattle.syntax.specs.Items.Sort.{word, colon}
 use Rattle.syntax.specs.Questions.{first_faults}
@@ -36,11 +36,11 @@ use Rattle.headings.specs.declared.Rest.{Rest}
 
 -- ---- places at fault
 
-pub fault-one : (p : ℕ) → At p ≡ fault_of (p ∷ [])
+pub fault-one : (p : ℕ) → Some p ≡ fault_of (p ∷ [])
 unfolding lowest
 fault-one p = refl
 
-first_place : (p : ℕ) (ps : List ℕ) → fault_of (p ∷ ps) ≡ lower (At p) (fault_of ps)
+first_place : (p : ℕ) (ps : List ℕ) → fault_of (p ∷ ps) ≡ lower (Some p) (fault_of ps)
 first_place p ps = fault-both (p ∷ []) ps ∙ ap (λ (f : Fault). lower f (fault_of ps)) (sym (fault-one p))
 
 -- ---- from token to token
@@ -52,28 +52,28 @@ pub record Reading (s : List ℕ) (f : Token) (w : ℕ) (more : Fault) (v i : �
   pub worst_is : min v (worst (statement_at s i)) ≡ min w (worst (statement_at s f.next))
   pub coded : v ≤ clean
 
-pub reads_first : {s : List ℕ} {f : Token} {w : ℕ} → Restable s f w → Reading s f w Clear w f.next
+pub reads_first : {s : List ℕ} {f : Token} {w : ℕ} → Restable s f w → Reading s f w None w f.next
 reads_first h = record { within = begins-within h.stands.most; more_is = refl; worst_is = refl; coded = h.coded }
 
 module _ {s : List ℕ} {f : Token} {w : ℕ} {more : Fault} {v i : ℕ} {t : Token} (r : Reading s f w more v i) (k : NextToken s i t) where
-  pub reads_end : stops t.sort ≡ true → Tails s f w (record { first = f; more = more; worst = v; next = t.next; last = eqb t.sort 0 })
-  reads_end z =
+  pub reads_end : stops t.sort ≡ true → {e : Option ℕ} → e ≡ following t → Tails s f w (record { first = f; more = more; worst = v; next = e })
+  reads_end z q =
       let c : v ≡ min v clean = omega (arith, r.coded) in
       record {
         first_is = refl;
         more_is = sym (lower-clear more) ∙ ap (λ (js : List Item). lower more (fault_of (places js))) (sym (at-stop k z)) ∙ r.more_is;
         worst_is = c ∙ ap (min v) (sym (worst-stop k z)) ∙ r.worst_is;
-        ends = ends-here r.within k z;
+        ends = ended-by t (ends-here r.within k z) q;
       }
 
-  pub reads_on : stops t.sort ≡ false → {more' : Fault} {v' : ℕ} → more' ≡ lower more (At t.at) → v' ≡ min v (token_code t) → Reading s f w more' v' t.next
+  pub reads_on : stops t.sort ≡ false → {more' : Fault} {v' : ℕ} → more' ≡ lower more (Some t.at) → v' ≡ min v (token_code t) → Reading s f w more' v' t.next
   reads_on z {more'} {v'} e q =
       let js = statement_at s t.next in
       let a : min v' (worst js) ≡ min v (min (token_code t) (worst js)) = omega (arith, q) in
       record {
         within = still-within r.within k z;
         more_is = ap (λ (g : Fault). lower g (fault_of (places js))) e
-            ∙ lower-assoc more (At t.at) (fault_of (places js))
+            ∙ lower-assoc more (Some t.at) (fault_of (places js))
             ∙ ap (lower more) (sym (first_place t.at (places js)) ∙ ap (λ (xs : List Item). fault_of (places xs)) (sym (at_item k z)))
             ∙ r.more_is;
         worst_is = a ∙ ap (min v) (sym (worst-item k z)) ∙ r.worst_is;
@@ -92,7 +92,7 @@ module _ {s : List ℕ} {t : Token} {w : ℕ} (h : Restable s t w) where
         items = rw z refl;
         more_is = λ e. absurd (true≢false (sym z ∙ e));
         worst_is = rw z (omega (arith, h.coded));
-        ends = λ n i w k. ends-here w k z;
+        ends = λ n i w k. ended-by t (ends-here w k z) refl;
       }
 
   module _ (o : stops t.sort ≡ false) {f : Token} (k : NextToken s t.next f) where
@@ -108,21 +108,21 @@ module _ {s : List ℕ} {t : Token} {w : ℕ} (h : Restable s t w) where
           items = rw (z, o) (sym (at-stop k z));
           more_is = λ e. absurd (true≢false (sym z ∙ e));
           worst_is = rw o (c ∙ ap (min w) (sym (worst-stop k z)));
-          ends = λ n i w u. ends-then (still-within w u o) (ends-here (begins-within h.stands.most) k z);
+          ends = λ n i w u. ended-by f (ends-then (still-within w u o) (ends-here (begins-within h.stands.most) k z)) refl;
         }
 
     pub rests-some : stops f.sort ≡ false → {v : ℕ} → v ≡ min w (token_code f) → {r : Rest} → Tails s f v r → Rests s t w r
     rests-some z {v} e {r} u =
         let js = statement_at s f.next in
         let a : r.worst ≡ min w (min (token_code f) (worst js)) = omega (arith, e, u.worst_is) in
-        subst (λ (x : Token). Rests s t w (record { first = x; more = r.more; worst = r.worst; next = r.next; last = r.last })) (sym u.first_is)
+        subst (λ (x : Token). Rests s t w (record { first = x; more = r.more; worst = r.worst; next = r.next })) (sym u.first_is)
         (record {
           stands = k.stands;
           low = first-low;
           items = rw (z, o) (sym (at_item k z));
           more_is = λ _. u.more_is;
           worst_is = rw o (a ∙ ap (min w) (sym (worst-item k z)));
-          ends = λ n i w y. ends-then (still-within w y o) (ends-then (still-within (begins-within h.stands.most) k z) u.ends);
+          ends = λ n i w y. ended-on (λ d b e. ends-then (still-within w y o) (ends-then (still-within (begins-within h.stands.most) k z) e)) u.ends;
         })
 
 -- ---- one name
@@ -141,7 +141,7 @@ module _ {s : List ℕ} {t : Token} {w : ℕ} {r : Rest} (k : Rests s t w r) whe
   unfolding one_name
   name-told q at {right} e = go (stops f.sort) refl ∙ ap (λ (xs : List Item). fault_of (one_name q at xs)) k.items
     where
-      by_name : (b : Bool) → lower (cond b (fault_of (colon_of f)) (At f.at)) (fault_of (places js)) ≡ fault_of (cond b (colon_of f) (f.at ∷ []) ++ places js)
+      by_name : (b : Bool) → lower (cond b (fault_of (colon_of f)) (Some f.at)) (fault_of (places js)) ≡ fault_of (cond b (colon_of f) (f.at ∷ []) ++ places js)
       by_name true = sym (fault-both (colon_of f) (places js))
       by_name false = sym (first_place f.at (places js))
 
@@ -156,7 +156,7 @@ module _ {s : List ℕ} {t : Token} {w : ℕ} {r : Rest} (k : Rests s t w r) whe
   items-told : (at : ℕ) → stops f.sort ≡ false → name_fault r at false ≡ fault_of (places (follows s t))
   items-told at z = rw (z, k.more_is z) (sym (ap (λ (xs : List Item). fault_of (places xs)) (follows_by false z) ∙ first_place f.at (places js)))
 
-  none_told : stops f.sort ≡ true → Clear ≡ fault_of (places (follows s t))
+  none_told : stops f.sort ≡ true → None ≡ fault_of (places (follows s t))
   none_told z = sym (ap (λ (xs : List Item). fault_of (places xs)) (follows_by true z))
 
 -- ---- the first statement
@@ -232,7 +232,7 @@ module _ {s : List ℕ} {n : ℕ} {h : Head} (g : Headed s n h) where
       go false z = ap (if_any 0 (λ j. j.at)) (behind-by g false z)
 
   -- nothing is asked of what follows any other operator
-  pub after-other : (section : ℕ) → is_konp h.keyword ≡ false → is_kons h.keyword ≡ false → AfterTold s n section Clear
+  pub after-other : (section : ℕ) → is_konp h.keyword ≡ false → is_kons h.keyword ≡ false → AfterTold s n section None
   after-other section a b = sym (rw (konp-told ∙ a, kons-told ∙ b) refl)
 
   module _ {w : ℕ} {r : Rest} (k : Rests s h.op w r) where
@@ -252,20 +252,20 @@ module _ {s : List ℕ} {n : ℕ} {h : Head} (g : Headed s n h) where
       pub after-kons : {f : Fault} → stops r.first.sort ≡ false → f ≡ name_fault r h.op.at false → AfterTold s n section f
       after-kons z q = q ∙ items-told k h.op.at z ∙ by-kons section a b
 
-      pub after_none : stops r.first.sort ≡ true → AfterTold s n section Clear
+      pub after_none : stops r.first.sort ≡ true → AfterTold s n section None
       after_none z = none_told k z ∙ by-kons section a b
 
   -- ---- the first statement
 
   -- an item in front is at fault
-  pub first-in_front : (h.first ≡ h.op.at → ⊥) → At h.first ≡ fault_of (first_faults x)
+  pub first-in_front : (h.first ≡ h.op.at → ⊥) → Some h.first ≡ fault_of (first_faults x)
   unfolding front
   first-in_front e = go x refl
     where
       some : filled (front x) ≡ true
       some = not-false _ (sym g.front_is ∙ ne_eqb h.first h.op.at e)
 
-      go : (xs : List Item) → x ≡ xs → At h.first ≡ fault_of (first_faults x)
+      go : (xs : List Item) → x ≡ xs → Some h.first ≡ fault_of (first_faults x)
       go [] q = absurd (true≢false (sym some ∙ ap (λ (ys : List Item). filled (front ys)) q))
       go (j ∷ js) q =
           let z : j.at ∷ [] ≡ h.first ∷ [] = sym (ap (λ (ys : List Item). take 1 (places ys)) q) ∙ g.first_is some in
@@ -276,7 +276,7 @@ module _ {s : List ℕ} {n : ℕ} {h : Head} (g : Headed s n h) where
     no_front : filled (front x) ≡ false
     no_front = not-true _ (sym g.front_is ∙ eq-eqb h.first h.op.at e)
 
-    pub first-empty : stops h.op.sort ≡ true → Clear ≡ fault_of (first_faults x)
+    pub first-empty : stops h.op.sort ≡ true → None ≡ fault_of (first_faults x)
     unfolding first_faults
     first-empty z = sym (ap (λ (ys : List Item). fault_of (first_faults ys)) (sym (front-none x no_front) ∙ behind-by g true z))
 
@@ -294,7 +294,7 @@ module _ {s : List ℕ} {n : ℕ} {h : Head} (g : Headed s n h) where
           ∙ first_by i behind_operator false (sym (ap (λ (ys : List Item). filled (front ys)) here) ∙ no_front)
           ∙ ap (λ (c : Bool). cond c (one_name identifier h.op.at behind_operator) (h.op.at ∷ [])) (keyword-here ∙ o)
 
-      pub first-wrong : opens h.keyword ≡ false → At h.op.at ≡ fault_of (first_faults x)
+      pub first-wrong : opens h.keyword ≡ false → Some h.op.at ≡ fault_of (first_faults x)
       first-wrong o = fault-one h.op.at ∙ sym (ap fault_of (by_keyword false o))
 
       pub first-named : opens h.keyword ≡ true → {w : ℕ} {r : Rest} → Rests s h.op w r → {right : Bool} {f : Fault} → right ≡ right_first s identifier r.first

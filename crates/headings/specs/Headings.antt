@@ -1,18 +1,18 @@
 -- What follows SEKCJA, KONS or KONP, and what the functions on it ask and promise.
-use Rattle.std.specs.Prelude.{◌≡◌, Bool, true, false, cond, List, [], ℕ, ◌+◌, ◌≤◌, min, eqb, length}
+use Rattle.std.specs.Prelude.{◌≡◌, Bool, true, false, cond, List, [], ℕ, ◌+◌, ◌≤◌, min, length}
 use Rattle.heads.specs.Below.DraftsMarks.{word_by, Marked}
 use Rattle.statements.proofs.Ends.{Within}
 use Rattle.statements.specs.Checks.{clean, worst}
 use Rattle.statements.specs.Faults.{lower}
-use Rattle.heads.specs.Heads.{by_kind, from_token, Headed}
+use Rattle.heads.specs.Heads.{following, EndedBy, by_kind, from_token, Headed}
 use Rattle.heads.specs.declared.Head.{Head}
 use Rattle.language.specs.Limits as limit
 use Rattle.lexer.specs.Tokens.{colon_of, Stands, NextToken}
 use Rattle.lexer.specs.declared.Token.{Token}
 use Rattle.lists.specs.Lists.{bytes_equal}
-use Rattle.statements.specs.StatementAt.{statement_at, stops, fault_of, Ended}
-use Rattle.statements.specs.declared.Fault.{Fault}
-use Rattle.statements.specs.declared.Fault.TheVariants.{Clear, At}
+use Rattle.statements.specs.StatementAt.{statement_at, stops, fault_of}
+use Rattle.statements.specs.Faults.{Fault}
+use Rattle.std.specs.Prelude.{None, Some}
 use Rattle.syntax.specs.Items.{Item, places}
 use Rattle.syntax.specs.Questions.{first_faults}
 use Rattle.syntax.specs.Statements.{same_keyword, operator_at, keyword_in, rest, one_name}
@@ -31,7 +31,7 @@ abbrev pub follows : List ℕ → Token → List Item
 follows s t = cond (stops t.sort) [] (statement_at s t.next)
 
 abbrev pub no_items : Token → ℕ → Rest
-no_items t w = record { first = t; more = Clear; worst = w; next = t.next; last = eqb t.sort 0 }
+no_items t w = record { first = t; more = None; worst = w; next = following t }
 
 pub record Restable (s : List ℕ) (t : Token) (w : ℕ) : Type 0 where
   pub low : length s ≤ limit.text
@@ -43,7 +43,7 @@ pub record Tails (s : List ℕ) (f : Token) (w : ℕ) (r : Rest) : Type 0 where
   pub first_is : r.first ≡ f
   pub more_is : r.more ≡ fault_of (places (statement_at s f.next))
   pub worst_is : r.worst ≡ min w (worst (statement_at s f.next))
-  pub ends : Ended s f.next r.next r.last
+  pub ends : EndedBy s f.next r.next
 
 -- What follows t: the items, of which all but the first are told by the lowest place; questions 14, 15 and 16 of them and of those before; and the end
 -- of the statement
@@ -53,12 +53,12 @@ pub record Rests (s : List ℕ) (t : Token) (w : ℕ) (r : Rest) : Type 0 where
   pub items : from_token s r.first ≡ follows s t
   pub more_is : stops r.first.sort ≡ false → r.more ≡ fault_of (places (statement_at s r.first.next))
   pub worst_is : r.worst ≡ min w (worst (follows s t))
-  pub ends : (n i : ℕ) → Within s n i → NextToken s i t → Ended s n r.next r.last
+  pub ends : (n i : ℕ) → Within s n i → NextToken s i t → EndedBy s n r.next
 
 -- "`KEYWORD name`" by its first item, which is the right one or not, and what comes after it
 abbrev pub name_fault : Rest → ℕ → Bool → Fault
 name_fault r at right =
-    cond (stops r.first.sort) (At at) (lower (cond right (fault_of (colon_of r.first)) (At r.first.at)) r.more)
+    cond (stops r.first.sort) (Some at) (lower (cond right (fault_of (colon_of r.first)) (Some r.first.at)) r.more)
 
 -- a token, and a name by its mark
 pub record Nameable (s : List ℕ) (t : Token) (m : ℕ) : Type 0 where

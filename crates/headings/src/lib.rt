@@ -11,21 +11,20 @@ ghost use Rattle.syntax.specs.Items.{is};
 ghost use Rattle.syntax.specs.Items.Sort.{word};
 ghost use Rattle.headings.specs.Headings.{is_kons, is_konp, Tails, no_items, Restable, Rests, name_fault, Nameable, FirstTold, FollowsTold};
 
-use heads::{Head, is_name, mark, opens};
+use heads::{Head, following, is_name, mark, opens};
 use lexer::{Token, next_item};
-use scanner::{NOTHING, WORD};
+use scanner::WORD;
 use statements::{Fault, lower, stops, worse};
 use words::Keyword;
 
-// The first item, or the token that ends the statement; the place of an item after it; questions 14, 15 and 16 of all items so far; the place behind the
-// statement, and whether it is the last one.
+// The first item, or the token that ends the statement; the place of an item after it; questions 14, 15 and 16 of all items so far; where the next
+// statement begins, unless this is the last.
 #[derive(Clone, Copy)]
 pub struct Rest {
     pub first: Token,
     pub more: Fault,
     pub worst: usize,
-    pub next: usize,
-    pub last: bool,
+    pub next: Option<usize>,
 }
 
 #[tactic(auto, using(crate::proofs::Keywords::kons_rest))]
@@ -48,7 +47,7 @@ fn read_tail(text: &[u8], first: Token, worst: usize) -> Rest
     requires { Restable text.now first worst }
     ensures { Tails text.now first worst result }
 {
-    let mut more = Fault::Clear;
+    let mut more = None;
     let mut w = worst;
     let mut i = first.next;
     loop {
@@ -58,11 +57,10 @@ fn read_tail(text: &[u8], first: Token, worst: usize) -> Rest
                 first,
                 more,
                 worst: w,
-                next: t.next,
-                last: t.sort == NOTHING,
+                next: following(t),
             };
         }
-        more = lower(more, Fault::At(t.at));
+        more = lower(more, Some(t.at));
         w = worse(w, t);
         i = t.next;
     }
@@ -74,10 +72,9 @@ fn no_items(t: Token, worst: usize) -> Rest
 {
     Rest {
         first: t,
-        more: Fault::Clear,
+        more: None,
         worst,
-        next: t.next,
-        last: t.sort == NOTHING,
+        next: following(t),
     }
 }
 
@@ -104,15 +101,15 @@ fn name_fault(rest: Rest, at: usize, right: bool) -> Fault
     let first = rest.first;
     let more = rest.more;
     if stops(first.sort) {
-        return Fault::At(at);
+        return Some(at);
     }
     if !right {
-        return lower(Fault::At(first.at), more);
+        return lower(Some(first.at), more);
     }
     if first.colon == 0 {
         return more;
     }
-    lower(Fault::At(first.colon), more)
+    lower(Some(first.colon), more)
 }
 
 // Whether a token is the name of a mark.
@@ -132,15 +129,15 @@ pub fn section_fault(text: &[u8], head: Head, rest: Rest) -> Fault
 {
     let op = head.op;
     if head.first != op.at {
-        return Fault::At(head.first);
+        return Some(head.first);
     }
     if stops(op.sort) {
-        return Fault::Clear;
+        return None;
     }
     if opens(head.keyword) {
         return name_fault(rest, op.at, is_name(text, rest.first));
     }
-    Fault::At(op.at)
+    Some(op.at)
 }
 
 // What follows KONP, which is to be the name of the section, by its mark, or KONS, which is to be nothing.
@@ -153,10 +150,10 @@ pub fn after_fault(text: &[u8], head: Head, rest: Rest, section: u32) -> Fault
         return name_fault(rest, at, is_named(text, rest.first, section));
     }
     if !is_kons(head.keyword) {
-        return Fault::Clear;
+        return None;
     }
     if stops(rest.first.sort) {
-        return Fault::Clear;
+        return None;
     }
     name_fault(rest, at, false)
 }

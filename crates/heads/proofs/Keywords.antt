@@ -1,7 +1,8 @@
 -- The questions on a keyword where it is none of those that the code names.
 use Rattle.std.proofs.Common.{◌≡◌, refl, ℕ, Bool, true, false, ◌⊎◌, inl, inr}
 use Rattle.words.specs.declared.Keyword.{Keyword}
-use Rattle.heads.specs.Heads.{opens, bars, is_switch, is_by_name, instr_of}
+use Rattle.heads.specs.Heads.{opens, bars, is_switch, is_by_name, instr_by}
+use Rattle.std.specs.Prelude.{None}
 
 pub opens_rest : (k : Keyword) → (k ≡ Keyword.Sekcja → ⊥) → false ≡ opens k
 opens_rest Keyword.None h = refl
@@ -43,7 +44,7 @@ by_name_rest Keyword.Konp h = refl
 by_name_rest (Keyword.Switch b) h = absurd (h b refl)
 by_name_rest (Keyword.Instr n) h = refl
 
-pub instr_rest : (k : Keyword) → ((n : ℕ) → k ≡ Keyword.Instr n → ⊥) → 0 ≡ instr_of k
+pub instr_rest : (k : Keyword) → ((n : ℕ) → k ≡ Keyword.Instr n → ⊥) → None ≡ instr_by k
 instr_rest Keyword.None h = refl
 instr_rest Keyword.Unknown h = refl
 instr_rest Keyword.Sekcja h = refl

@@ -15,8 +15,8 @@ use Rattle.lists.specs.Lists.{filled, if_any, keep}
 use Rattle.lexer.specs.declared.Token.{Token}
 use Rattle.lexer.specs.Tokens.{item_of, NextToken}
 use Rattle.statements.proofs.Ends.{Within, begins-within, still-within}
-use Rattle.statements.specs.declared.Fault.{Fault}
-use Rattle.statements.specs.declared.Fault.TheVariants.{Clear}
+use Rattle.statements.specs.Faults.{Fault}
+use Rattle.std.specs.Prelude.{None}
 use Rattle.statements.specs.StatementAt.{statement_at, stops, fault_of}
 use Rattle.statements.specs.StatementLaws.{at-stop, at_item, on}
 use Rattle.scanner.specs.Below.Items.{Item, places}
@@ -75,7 +75,7 @@ pub no_front : {y : List Item} → y ≡ [] → front y ≡ []
 unfolding front
 no_front e = ap front e
 
-pub leading-first : {s : List ℕ} {n : ℕ} → n ≤ length s → Leading s n n n Clear clean
+pub leading-first : {s : List ℕ} {n : ℕ} → n ≤ length s → Leading s n n n None clean
 leading-first {s} {n} h =
     record {
       within = begins-within h;

@@ -18,8 +18,8 @@ use Rattle.lexer.specs.declared.Token.{Token}
 use Rattle.lexer.specs.MovedLaws.{shift, item-moved, moved-next}
 use Rattle.lexer.specs.Tokens.{item_of, NextToken, Movable, moved}
 use Rattle.lexer.proofs.Finding.{is-sort}
-use Rattle.statements.specs.declared.Fault.{Fault}
-use Rattle.statements.specs.declared.Fault.TheVariants.{Clear}
+use Rattle.statements.specs.Faults.{Fault}
+use Rattle.std.specs.Prelude.{None}
 use Rattle.statements.specs.StatementAt.{statement_at, stops, fault_of}
 use Rattle.statements.specs.StatementLaws.{at-stop, at_item, on}
 use Rattle.scanner.specs.Below.Items.{Item, is}
@@ -90,7 +90,7 @@ pub record Reading (r : List ℕ) (n : ℕ) (ms : List ℕ) (count j f : ℕ) (f
   pub same : length ms' ≡ length ms
   is : (s : List ℕ) → n ≤ length s → drop n s ≡ r → Leading s n (n + j) f fault w × Putting s n (n + j) count ms ms' c
 
-pub reading-first : {r : List ℕ} {n : ℕ} {ms : List ℕ} {count : ℕ} → Headable r n ms count → Reading r n ms count 0 n Clear clean ms count
+pub reading-first : {r : List ℕ} {n : ℕ} {ms : List ℕ} {count : ℕ} → Headable r n ms count → Reading r n ms count 0 n None clean ms count
 reading-first {r} {n} {ms} {count} p =
     record {
       most = omega arith;

@@ -8,9 +8,11 @@ use Rattle.lexer.specs.declared.Token.{Token}
 use Rattle.lexer.specs.Tokens.{word_of, chars_of, item_of, colon_of, Stands}
 use Rattle.lexer.proofs.Finding.{is-sort, word-chars}
 use Rattle.statements.specs.Faults.{lower}
-use Rattle.statements.specs.StatementAt.{statement_at, stops}
-use Rattle.statements.specs.declared.Fault.{Fault}
-use Rattle.statements.specs.declared.Fault.TheVariants.{Clear, At}
+use Rattle.statements.specs.StatementAt.{statement_at, stops, fault_of, Ended}
+use Rattle.std.specs.Bool.{then_some}
+use Rattle.scanner.specs.Below.SyntaxVerdict.{lowest}
+use Rattle.statements.specs.Faults.{Fault}
+use Rattle.std.specs.Prelude.{Option, None, Some}
 use Rattle.scanner.specs.Below.Items.{Item, is}
 use Rattle.scanner.specs.Below.Items.Sort.{word, colon}
 use Rattle.scanner.specs.Below.Statements.{keyword_number, same_keyword, keyword_of, own, is_operator, front, behind, operator, keyword_in, rest}
@@ -18,19 +20,52 @@ use Rattle.scanner.specs.Below.Statements as Spec
 use Rattle.words.specs.declared.Keyword.{Keyword}
 use Rattle.words.specs.Keywords.{keyword_by, told, known}
 use Rattle.words.specs.WordLaws.{keyword-item}
-use Rattle.heads.specs.Heads.{known_item, operates, by_kind, opens, bars, Headed}
+use Rattle.heads.specs.Heads.{following, EndedBy, known_item, operates, by_kind, opens, bars, instr_of, instr_by, Headed}
+use Rattle.std.proofs.lemmas.Option.{none-some}
 use Rattle.heads.specs.declared.Head.{Head}
 
 -- the lower of places at fault
-pub lower-clear : (a : Fault) → lower a Clear ≡ a
-lower-clear Clear = refl
-lower-clear (At p) = refl
+pub lower-clear : (a : Fault) → lower a None ≡ a
+lower-clear None = refl
+lower-clear (Some p) = refl
 
 pub lower-assoc : (a b c : Fault) → lower (lower a b) c ≡ lower a (lower b c)
-lower-assoc Clear b c = refl
-lower-assoc (At p) Clear c = refl
-lower-assoc (At p) (At q) Clear = refl
-lower-assoc (At p) (At q) (At r) = ap At (omega arith)
+lower-assoc None b c = refl
+lower-assoc (Some p) None c = refl
+lower-assoc (Some p) (Some q) None = refl
+lower-assoc (Some p) (Some q) (Some r) = ap Some (omega arith)
+
+-- a place at fault where a test says so
+pub place-if : (b : Bool) (at : ℕ) → then_some b at ≡ fault_of (cond b (at ∷ []) [])
+unfolding lowest
+place-if true at = refl
+place-if false at = refl
+
+-- where a statement ends
+pub ended-by : {s : List ℕ} {n : ℕ} (t : Token) → Ended s n t.next (eqb t.sort 0) → {r : Option ℕ} → r ≡ following t → EndedBy s n r
+ended-by t e q = record { next = t.next; last = eqb t.sort 0; is = q; ended = e }
+
+pub ended-on : {s : List ℕ} {n i : ℕ} {r : Option ℕ} → ((k : ℕ) (b : Bool) → Ended s i k b → Ended s n k b) → EndedBy s i r → EndedBy s n r
+ended-on f e = record { next = e.next; last = e.last; is = e.is; ended = f e.next e.last e.ended }
+
+-- an instruction's number
+pub some-number : (k : Keyword) {m : ℕ} → Some m ≡ instr_by k → m ≡ instr_of k
+some-number Keyword.None e = absurd (none-some _ (sym e))
+some-number Keyword.Unknown e = absurd (none-some _ (sym e))
+some-number Keyword.Sekcja e = absurd (none-some _ (sym e))
+some-number Keyword.Kons e = absurd (none-some _ (sym e))
+some-number Keyword.Konp e = absurd (none-some _ (sym e))
+some-number (Keyword.Switch b) e = absurd (none-some _ (sym e))
+some-number (Keyword.Instr n) e = cc
+
+pub no-number : (k : Keyword) → None ≡ instr_by k → instr_of k ≡ 0
+no-number Keyword.None e = refl
+no-number Keyword.Unknown e = refl
+no-number Keyword.Sekcja e = refl
+no-number Keyword.Kons e = refl
+no-number Keyword.Konp e = refl
+no-number (Keyword.Switch b) e = refl
+no-number (Keyword.Instr n) e = absurd (none-some _ e)
 
 -- what is asked of a keyword's number
 pub told-asked : (q : ℕ → Bool) (k : Spec.Keyword) → by_kind (q 0) (q 1) (q 2) (q 3) (q 4) (λ goes_by_name. q 5) (λ n. q 6) (told k) ≡ q (keyword_number k)

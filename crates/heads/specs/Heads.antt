@@ -7,8 +7,10 @@ use Rattle.lexer.specs.declared.Token.{Token}
 use Rattle.lexer.specs.Tokens.{item_of, Stands, NextToken}
 use Rattle.lists.specs.Lists.{filled, if_any, keep}
 use Rattle.statements.proofs.Ends.{Within}
-use Rattle.statements.specs.declared.Fault.{Fault}
-use Rattle.statements.specs.StatementAt.{statement_at, stops, fault_of}
+use Rattle.statements.specs.Faults.{Fault}
+use Rattle.statements.specs.StatementAt.{statement_at, stops, fault_of, Ended}
+use Rattle.std.specs.Bool.{then_some}
+use Rattle.std.specs.Prelude.{Option, None, Some}
 use Rattle.scanner.specs.Below.Items.{Item, is, places}
 use Rattle.scanner.specs.Below.Items.Sort.{word}
 use Rattle.scanner.specs.Below.Statements.{front, behind, labels_in, operator as operator-in, keyword_of, keyword_in, own, is_name}
@@ -70,6 +72,21 @@ is_by_name k = by_kind false false false false false (λ goes_by_name. goes_by_n
 -- an instruction's number; 0 for any other keyword
 abbrev pub instr_of : Keyword → ℕ
 instr_of k = by_kind 0 0 0 0 0 (λ goes_by_name. 0) (λ n. n) k
+
+-- the same, none for any other keyword
+abbrev pub instr_by : Keyword → Option ℕ
+instr_by k = by_kind None None None None None (λ goes_by_name. None) (λ n. Some n) k
+
+-- the place behind a token that ends a statement, unless the text ends with it
+abbrev pub following : Token → Option ℕ
+following t = then_some (not (eqb t.sort 0)) t.next
+
+-- the statement at n is the last one, or another begins at the place r
+pub record EndedBy (s : List ℕ) (n : ℕ) (r : Option ℕ) : Type 0 where
+  pub next : ℕ
+  pub last : Bool
+  pub is : r ≡ then_some (not last) next
+  pub ended : Ended s n next last
 
 -- what stands from the token t on, where t is what ends a statement or an item of it
 abbrev pub from_token : List ℕ → Token → List Item

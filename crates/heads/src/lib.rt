@@ -6,10 +6,10 @@ ghost use Rattle.drafts.specs.Marks.{mark_of};
 ghost use Rattle.lexer.specs.Tokens.{item_of, Stands};
 ghost use Rattle.statements.specs.StatementAt.{fault_of};
 ghost use Rattle.scanner.specs.Below.Statements.{is_name};
-ghost use Rattle.heads.specs.Heads.{known_item, nothing_known, head_with, opens, bars, is_switch, is_by_name, instr_of, Headable, Heads};
+ghost use Rattle.heads.specs.Heads.{following, known_item, nothing_known, head_with, opens, bars, is_switch, is_by_name, instr_by, Headable, Heads};
 
 use lexer::{Token, moved, next_item};
-use scanner::{COLON, WORD};
+use scanner::{COLON, NOTHING, WORD};
 use statements::{CLEAN, Fault, lower, stops, worse};
 use words::{Keyword, Known};
 
@@ -107,14 +107,14 @@ pub fn is_by_name(k: Keyword) -> bool
     }
 }
 
-// An instruction's number; 0 for any other keyword.
+// An instruction's number.
 #[tactic(auto, using(crate::proofs::Keywords::instr_rest))]
-pub fn instr_of(k: Keyword) -> u8
-    ensures { result ≡ instr_of k }
+pub fn instr_of(k: Keyword) -> Option<u8>
+    ensures { result ≡ instr_by k }
 {
     match k {
-        Keyword::Instr(op) => op,
-        _ => 0,
+        Keyword::Instr(op) => Some(op),
+        _ => None,
     }
 }
 
@@ -123,11 +123,7 @@ fn name_fault(text: &[u8], t: Token, at: usize) -> Fault
     requires { Stands text.now t }
     ensures { result ≡ fault_of (cond (is_name (item_of text.now t)) [] (at ∷ [])) }
 {
-    if is_name(text, t) {
-        Fault::Clear
-    } else {
-        Fault::At(at)
-    }
+    if is_name(text, t) { None } else { Some(at) }
 }
 
 // An `if` in the loop itself would give each goal after it two cases.
@@ -145,6 +141,13 @@ pub fn mark(at: usize, len: usize) -> u32
     (at * 64 + len) as u32
 }
 
+// The place behind a token that ends a statement, unless the text ends with it.
+pub fn following(t: Token) -> Option<usize>
+    ensures { result ≡ following t }
+{
+    (t.sort != NOTHING).then_some(t.next)
+}
+
 // The head of the statement with which the unread rest of a text begins, at place `n` of the text. The marks of its labels come behind the first `count`
 // names.
 pub fn read_head(rest: &[u8], n: usize, names: &mut [u32], count: usize) -> Head
@@ -152,7 +155,7 @@ pub fn read_head(rest: &[u8], n: usize, names: &mut [u32], count: usize) -> Head
     ensures { Heads rest.now n count names.old names.new result }
 {
     let mut first = n;
-    let mut fault = Fault::Clear;
+    let mut fault = None;
     let mut c = count;
     let mut worst = CLEAN;
     let mut i: usize = 0;

@@ -19,8 +19,8 @@ use Rattle.language.specs.Limits as limit
 use Rattle.layout.specs.Bounds.{Each}
 use Rattle.lexer.specs.Tokens.{item_of}
 use Rattle.lists.specs.Lists.{filled, if_any, keep}
-use Rattle.statements.specs.declared.Fault.{Fault}
-use Rattle.statements.specs.declared.Fault.TheVariants.{Clear, At}
+use Rattle.statements.specs.Faults.{Fault}
+use Rattle.std.specs.Prelude.{None, Some}
 use Rattle.statements.specs.StatementAt.{statement_at, stops, fault_of}
 use Rattle.syntax.specs.Items.{Item, is, places}
 use Rattle.syntax.specs.Items.Sort.{word}
@@ -93,13 +93,13 @@ module _ {s : List ℕ} {n : ℕ} {h : Head} (g : Headed s n h) where
     abbrev wrong : Bool
     wrong = bars h.keyword || own_by (not english) h
 
-    own_fault : (b : Bool) → stops h.op.sort ≡ b → fault_of (places (keep (barred english) (operator x))) ≡ cond wrong (At h.op.at) Clear
+    own_fault : (b : Bool) → stops h.op.sort ≡ b → fault_of (places (keep (barred english) (operator x))) ≡ cond wrong (Some h.op.at) None
     unfolding keyword_in lowest
     own_fault true z =
         ap (λ os. fault_of (places (keep (barred english) os))) (no_operator g z)
         ∙ sym
-        (ap (λ k. cond (bars k || own_by (not english) h) (At h.op.at) Clear) (no-keyword g z)
-        ∙ ap (λ (b : Bool). cond b (At h.op.at) Clear) (g.owned (not english) ∙ ap (if_any false (own_item (not english))) (behind-by g true z)))
+        (ap (λ k. cond (bars k || own_by (not english) h) (Some h.op.at) None) (no-keyword g z)
+        ∙ ap (λ (b : Bool). cond b (Some h.op.at) None) (g.owned (not english) ∙ ap (if_any false (own_item (not english))) (behind-by g true z)))
     own_fault false z =
         let k : h.keyword ≡ told (keyword_of it) = g.keyword ∙ ap (λ xs. told (if_any Spec.Keyword.none keyword_of xs)) (behind-by g false z) in
         let o : own_by (not english) h ≡ own_item (not english) it = g.owned (not english) ∙ ap (if_any false (own_item (not english))) (behind-by g false z) in
@@ -108,22 +108,22 @@ module _ {s : List ℕ} {n : ℕ} {h : Head} (g : Headed s n h) where
         (item-barred english it ∙ ap (λ k. bars k || own_item (not english) it) (sym k) ∙ ap (λ (b : Bool). bars h.keyword || b) (sym o))
         ∙ go wrong
       where
-        go : (b : Bool) → fault_of (places (cond b (it ∷ []) [])) ≡ cond b (At h.op.at) Clear
+        go : (b : Bool) → fault_of (places (cond b (it ∷ []) [])) ≡ cond b (Some h.op.at) None
         go true = refl
         go false = refl
 
-    both-faults : lower h.fault (cond wrong (At h.op.at) Clear) ≡ fault_of (operator_faults english x)
+    both-faults : lower h.fault (cond wrong (Some h.op.at) None) ≡ fault_of (operator_faults english x)
     unfolding operator_faults
     both-faults =
-        ap (λ f. lower f (cond wrong (At h.op.at) Clear)) g.fault_is
+        ap (λ f. lower f (cond wrong (Some h.op.at) None)) g.fault_is
         ∙ ap (lower (fault_of (places (keep (λ i. not (is_name i)) (front x))))) (sym (own_fault (stops h.op.sort) refl))
         ∙ sym (fault-both (places (keep (λ i. not (is_name i)) (front x))) (places (keep (barred english) (operator x))))
 
-    pub operator-barred : wrong ≡ true → {r : Fault} → r ≡ lower h.fault (At h.op.at) → r ≡ fault_of (operator_faults english x)
-    operator-barred e f = f ∙ sym (ap (λ (b : Bool). lower h.fault (cond b (At h.op.at) Clear)) e) ∙ both-faults
+    pub operator-barred : wrong ≡ true → {r : Fault} → r ≡ lower h.fault (Some h.op.at) → r ≡ fault_of (operator_faults english x)
+    operator-barred e f = f ∙ sym (ap (λ (b : Bool). lower h.fault (cond b (Some h.op.at) None)) e) ∙ both-faults
 
     pub operator-known : wrong ≡ false → h.fault ≡ fault_of (operator_faults english x)
-    operator-known e = sym (lower-clear h.fault) ∙ sym (ap (λ (b : Bool). lower h.fault (cond b (At h.op.at) Clear)) e) ∙ both-faults
+    operator-known e = sym (lower-clear h.fault) ∙ sym (ap (λ (b : Bool). lower h.fault (cond b (Some h.op.at) None)) e) ∙ both-faults
 
   -- 08
   abbrev asked : List Item → List ℕ
@@ -133,7 +133,7 @@ module _ {s : List ℕ} {n : ℕ} {h : Head} (g : Headed s n h) where
   unfolding label_faults
   by-head b e ls = by-switch (asked ls) (keyword_in x) ∙ ap (λ (c : Bool). cond c (asked ls) []) (ap is_switch (sym g.keyword) ∙ e)
 
-  pub no_switch : is_switch h.keyword ≡ false → (ls : List Item) → Clear ≡ fault_of (label_faults ls x)
+  pub no_switch : is_switch h.keyword ≡ false → (ls : List Item) → None ≡ fault_of (label_faults ls x)
   no_switch e ls = sym (ap fault_of (by-head false e ls))
 
   module _ (e : is_switch h.keyword ≡ true) where
@@ -142,7 +142,7 @@ module _ {s : List ℕ} {n : ℕ} {h : Head} (g : Headed s n h) where
     operator_of false z = ap places (operator-here g z)
 
     -- the switch has no label
-    pub no_label : (ms : List ℕ) (a : ℕ) → a ≡ h.names → (ls : List Item) → map mark ls ≡ marks_in ms a h.names → At h.op.at ≡ fault_of (label_faults ls x)
+    pub no_label : (ms : List ℕ) (a : ℕ) → a ≡ h.names → (ls : List Item) → map mark ls ≡ marks_in ms a h.names → Some h.op.at ≡ fault_of (label_faults ls x)
     unfolding lowest
     no_label ms a q [] m = sym (ap fault_of (by-head true e [] ∙ operator_of (stops h.op.sort) refl))
     no_label ms a q (l ∷ ls) m =

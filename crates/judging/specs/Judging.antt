@@ -5,7 +5,7 @@ use Rattle.heads.specs.Heads.{Headed}
 use Rattle.heads.specs.declared.Head.{Head}
 use Rattle.language.specs.Limits as limit
 use Rattle.layout.specs.Bounds.{Each}
-use Rattle.statements.specs.declared.Fault.{Fault}
+use Rattle.statements.specs.Faults.{Fault}
 use Rattle.statements.specs.StatementAt.{statement_at, fault_of}
 use Rattle.syntax.specs.Items.{Item}
 use Rattle.syntax.specs.Questions.{operator_faults, label_faults}

@@ -21,7 +21,7 @@ pub fn operator_fault(head: Head, english: bool) -> Fault
     ensures { OperatorFault head english result }
 {
     if bars(head.keyword) | is_foreign(head, english) {
-        lower(head.fault, Fault::At(head.op.at))
+        lower(head.fault, Some(head.op.at))
     } else {
         head.fault
     }
@@ -33,10 +33,10 @@ pub fn label_fault(head: Head, names: &[u32], from: usize) -> Fault
     ensures { LabelFault head names.now from result }
 {
     if !is_switch(head.keyword) {
-        return Fault::Clear;
+        return None;
     }
     if from == head.names {
-        return Fault::At(head.op.at);
+        return Some(head.op.at);
     }
     lowest_mark(names, from + 1, head.names)
 }

@@ -4,3 +4,4 @@ pub mod Values
 pub mod Program
 pub mod Instructions
 pub mod Below
+pub mod Operators

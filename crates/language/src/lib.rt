@@ -92,140 +92,169 @@ pub fn limits() -> [usize; 24]
     ]
 }
 
-// The operators. Their constants are the numbers that the table of instructions has for them, specs/Instructions.antt.
-#[derive(Clone, Copy)]
-pub struct Operator {}
-
-impl Operator {
-    pub const PRZESLIJ: u8 = 1;
-
-    pub const CZYTAJ: u8 = 2;
-
-    pub const PISZ: u8 = 3;
-
-    pub const KOPIUJ: u8 = 4;
-
-    pub const WSTAW: u8 = 5;
-
-    pub const POBIERZ: u8 = 6;
-
-    pub const SCHOWAJ: u8 = 7;
-
-    pub const USTAW: u8 = 8;
-
-    pub const ZAMIEN: u8 = 9;
-
-    pub const UMIESC: u8 = 10;
-
-    pub const USUN: u8 = 11;
-
-    pub const SKRESL: u8 = 12;
-
-    pub const RW: u8 = 13;
-
-    pub const WK: u8 = 14;
-
-    pub const MN: u8 = 15;
-
-    pub const PP: u8 = 16;
-
-    pub const NS: u8 = 17;
-
-    pub const RZ: u8 = 18;
-
-    pub const SKOCZ: u8 = 19;
-
-    pub const WYKONAJ: u8 = 20;
-
-    pub const SKOMI: u8 = 21;
-
-    pub const SKOPL: u8 = 22;
-
-    pub const WYMI: u8 = 23;
-
-    pub const WYPL: u8 = 24;
-
-    pub const SKONA: u8 = 25;
-
-    pub const SKOIN: u8 = 26;
-
-    pub const WYNA: u8 = 27;
-
-    pub const WYIN: u8 = 28;
-
-    pub const WROC: u8 = 29;
-
-    pub const DODAJ: u8 = 30;
-
-    pub const ODEJMIJ: u8 = 31;
-
-    pub const MNOZ: u8 = 32;
-
-    pub const DZIEL: u8 = 33;
-
-    pub const SLOWO: u8 = 34;
-
-    pub const LICZBA: u8 = 35;
-
-    pub const ZBIJ: u8 = 36;
-
-    pub const ROZBIJ: u8 = 37;
-
-    pub const SZUKAJ: u8 = 38;
-
-    pub const OMIN: u8 = 39;
-
-    pub const COFNIJ: u8 = 40;
-
-    pub const STOP: u8 = 41;
+// The operators, by the numbers that the table of instructions has for them, specs/Instructions.antt.
+#[derive(Clone, Copy, PartialEq, Eq, Debug)]
+pub enum Operator {
+    PRZESLIJ = 1,
+    CZYTAJ = 2,
+    PISZ = 3,
+    KOPIUJ = 4,
+    WSTAW = 5,
+    POBIERZ = 6,
+    SCHOWAJ = 7,
+    USTAW = 8,
+    ZAMIEN = 9,
+    UMIESC = 10,
+    USUN = 11,
+    SKRESL = 12,
+    RW = 13,
+    WK = 14,
+    MN = 15,
+    PP = 16,
+    NS = 17,
+    RZ = 18,
+    SKOCZ = 19,
+    WYKONAJ = 20,
+    SKOMI = 21,
+    SKOPL = 22,
+    WYMI = 23,
+    WYPL = 24,
+    SKONA = 25,
+    SKOIN = 26,
+    WYNA = 27,
+    WYIN = 28,
+    WROC = 29,
+    DODAJ = 30,
+    ODEJMIJ = 31,
+    MNOZ = 32,
+    DZIEL = 33,
+    SLOWO = 34,
+    LICZBA = 35,
+    ZBIJ = 36,
+    ROZBIJ = 37,
+    SZUKAJ = 38,
+    OMIN = 39,
+    COFNIJ = 40,
+    STOP = 41,
 }
 
-// The type's numbers are those of the table, each of them.
+// A number that is no operator's.
+#[derive(Clone, Copy, PartialEq, Eq, Debug)]
+pub struct NoOperator;
+
+impl From<Operator> for u8 {
+    ghost use Rattle.std.specs.Prelude.{◌≡◌};
+    ghost use Rattle.language.specs.Instructions.{number_of};
+    ghost use Rattle.language.specs.Operators.{op_by};
+
+    ghost from_gives = { λ o n. n ≡ number_of (op_by o) };
+
+    fn from(o: Operator) -> u8 {
+        o as u8
+    }
+}
+
+impl TryFrom<u8> for Operator {
+    ghost use Rattle.language.specs.Operators.{Numbers};
+
+    type Error = NoOperator;
+
+    ghost try_from_gives = { Numbers };
+
+    fn try_from(n: u8) -> Result<Operator, NoOperator> {
+        match n {
+            1 => Ok(Operator::PRZESLIJ),
+            2 => Ok(Operator::CZYTAJ),
+            3 => Ok(Operator::PISZ),
+            4 => Ok(Operator::KOPIUJ),
+            5 => Ok(Operator::WSTAW),
+            6 => Ok(Operator::POBIERZ),
+            7 => Ok(Operator::SCHOWAJ),
+            8 => Ok(Operator::USTAW),
+            9 => Ok(Operator::ZAMIEN),
+            10 => Ok(Operator::UMIESC),
+            11 => Ok(Operator::USUN),
+            12 => Ok(Operator::SKRESL),
+            13 => Ok(Operator::RW),
+            14 => Ok(Operator::WK),
+            15 => Ok(Operator::MN),
+            16 => Ok(Operator::PP),
+            17 => Ok(Operator::NS),
+            18 => Ok(Operator::RZ),
+            19 => Ok(Operator::SKOCZ),
+            20 => Ok(Operator::WYKONAJ),
+            21 => Ok(Operator::SKOMI),
+            22 => Ok(Operator::SKOPL),
+            23 => Ok(Operator::WYMI),
+            24 => Ok(Operator::WYPL),
+            25 => Ok(Operator::SKONA),
+            26 => Ok(Operator::SKOIN),
+            27 => Ok(Operator::WYNA),
+            28 => Ok(Operator::WYIN),
+            29 => Ok(Operator::WROC),
+            30 => Ok(Operator::DODAJ),
+            31 => Ok(Operator::ODEJMIJ),
+            32 => Ok(Operator::MNOZ),
+            33 => Ok(Operator::DZIEL),
+            34 => Ok(Operator::SLOWO),
+            35 => Ok(Operator::LICZBA),
+            36 => Ok(Operator::ZBIJ),
+            37 => Ok(Operator::ROZBIJ),
+            38 => Ok(Operator::SZUKAJ),
+            39 => Ok(Operator::OMIN),
+            40 => Ok(Operator::COFNIJ),
+            41 => Ok(Operator::STOP),
+            _ => Err(NoOperator),
+        }
+    }
+}
+
+// Their numbers are those of the table, each of them.
 pub fn operators() -> [u8; 41]
     ensures { result ≡ operator_numbers }
 {
     [
-        Operator::PRZESLIJ,
-        Operator::CZYTAJ,
-        Operator::PISZ,
-        Operator::KOPIUJ,
-        Operator::WSTAW,
-        Operator::POBIERZ,
-        Operator::SCHOWAJ,
-        Operator::USTAW,
-        Operator::ZAMIEN,
-        Operator::UMIESC,
-        Operator::USUN,
-        Operator::SKRESL,
-        Operator::RW,
-        Operator::WK,
-        Operator::MN,
-        Operator::PP,
-        Operator::NS,
-        Operator::RZ,
-        Operator::SKOCZ,
-        Operator::WYKONAJ,
-        Operator::SKOMI,
-        Operator::SKOPL,
-        Operator::WYMI,
-        Operator::WYPL,
-        Operator::SKONA,
-        Operator::SKOIN,
-        Operator::WYNA,
-        Operator::WYIN,
-        Operator::WROC,
-        Operator::DODAJ,
-        Operator::ODEJMIJ,
-        Operator::MNOZ,
-        Operator::DZIEL,
-        Operator::SLOWO,
-        Operator::LICZBA,
-        Operator::ZBIJ,
-        Operator::ROZBIJ,
-        Operator::SZUKAJ,
-        Operator::OMIN,
-        Operator::COFNIJ,
-        Operator::STOP,
+        Operator::PRZESLIJ as u8,
+        Operator::CZYTAJ as u8,
+        Operator::PISZ as u8,
+        Operator::KOPIUJ as u8,
+        Operator::WSTAW as u8,
+        Operator::POBIERZ as u8,
+        Operator::SCHOWAJ as u8,
+        Operator::USTAW as u8,
+        Operator::ZAMIEN as u8,
+        Operator::UMIESC as u8,
+        Operator::USUN as u8,
+        Operator::SKRESL as u8,
+        Operator::RW as u8,
+        Operator::WK as u8,
+        Operator::MN as u8,
+        Operator::PP as u8,
+        Operator::NS as u8,
+        Operator::RZ as u8,
+        Operator::SKOCZ as u8,
+        Operator::WYKONAJ as u8,
+        Operator::SKOMI as u8,
+        Operator::SKOPL as u8,
+        Operator::WYMI as u8,
+        Operator::WYPL as u8,
+        Operator::SKONA as u8,
+        Operator::SKOIN as u8,
+        Operator::WYNA as u8,
+        Operator::WYIN as u8,
+        Operator::WROC as u8,
+        Operator::DODAJ as u8,
+        Operator::ODEJMIJ as u8,
+        Operator::MNOZ as u8,
+        Operator::DZIEL as u8,
+        Operator::SLOWO as u8,
+        Operator::LICZBA as u8,
+        Operator::ZBIJ as u8,
+        Operator::ROZBIJ as u8,
+        Operator::SZUKAJ as u8,
+        Operator::OMIN as u8,
+        Operator::COFNIJ as u8,
+        Operator::STOP as u8,
     ]
 }
 

@@ -10,8 +10,8 @@ use Rattle.layout.specs.Table.{all_entries}
 use Rattle.linking.proofs.Faults.{joined-clear}
 use Rattle.linking.specs.Resolving.{code_resolved, entries_resolved, Labelling}
 use Rattle.statements.specs.StatementAt.{fault_of}
-use Rattle.statements.specs.declared.Fault.{Fault}
-use Rattle.statements.specs.declared.Fault.TheVariants.{Clear, At}
+use Rattle.statements.specs.Faults.{Fault}
+use Rattle.std.specs.Prelude.{None, Some}
 use Rattle.syntax.proofs.LoadLaws.{goes_on, decides}
 use Rattle.syntax.specs.Tables.{Tables}
 use Rattle.syntax.specs.Verdict.{Question, ask, first_no}
@@ -22,15 +22,15 @@ use Rattle.linking.specs.Linking.{Kept, Finds, Links, label_places, switch_place
 use Rattle.linking.specs.declared.Missing.TheVariants.{Label, Switch}
 use Rattle.std.specs.Prelude.{Ok, Err}
 
-clear : (ps : List ℕ) → Clear ≡ fault_of ps → ps ≡ []
-clear ps e = (joined-clear Clear ps (sym e)).1
+clear : (ps : List ℕ) → None ≡ fault_of ps → ps ≡ []
+clear ps e = (joined-clear None ps (sym e)).1
 
 -- the place of a fault decides
 abbrev place_of : Fault → ℕ
-place_of Clear = 0
-place_of (At p) = p
+place_of None = 0
+place_of (Some p) = p
 
-at_fault : (n p : ℕ) (ps : List ℕ) (qs : List Question) → At p ≡ fault_of ps → refuse n p ≡ first_no (ask n ps ∷ qs)
+at_fault : (n p : ℕ) (ps : List ℕ) (qs : List Question) → Some p ≡ fault_of ps → refuse n p ≡ first_no (ask n ps ∷ qs)
 at_fault n p [] qs e = absurd (let z : ◌≡◌ {A = ℕ} 0 1 = cc in omega arith)
 at_fault n p (q ∷ ps) qs e = ap (refuse n) (ap place_of e) ∙ sym (decides n q ps qs)
 
@@ -40,7 +40,7 @@ both-clear n m ps qs e f =
     sym ((λ j. first_no (ask n (e j) ∷ ask m (f j) ∷ [])) ∙ goes_on n (ask m [] ∷ []) ∙ goes_on m [])
 
 module _ (s c sw en : List ℕ) where
-  pub no_label : {f : Fault} (p : ℕ) → Finds s c sw en label_places f → f ≡ At p → Links s c sw en (Err (Label p)) c
+  pub no_label : {f : Fault} (p : ℕ) → Finds s c sw en label_places f → f ≡ Some p → Links s c sw en (Err (Label p)) c
   no_label p u e =
       record {
         verdict_is = λ lines t h. at_fault 12 p (label_places t) (ask 13 (switch_places t) ∷ []) (sym e ∙ u.is lines t h);
@@ -49,11 +49,11 @@ module _ (s c sw en : List ℕ) where
       }
 
   -- every used label is declared
-  module _ {f : Fault} (u : Finds s c sw en label_places f) (e : f ≡ Clear) where
+  module _ {f : Fault} (u : Finds s c sw en label_places f) (e : f ≡ None) where
     declared : (lines : List ℕ) (t : Tables) → Tabled s lines t c sw en → label_places t ≡ []
     declared lines t h = clear (label_places t) (sym e ∙ u.is lines t h)
 
-    pub no_switch : {g : Fault} (p : ℕ) → Finds s c sw en switch_places g → g ≡ At p → Links s c sw en (Err (Switch p)) c
+    pub no_switch : {g : Fault} (p : ℕ) → Finds s c sw en switch_places g → g ≡ Some p → Links s c sw en (Err (Switch p)) c
     no_switch p v i =
         record {
           verdict_is = λ lines t h. at_fault 13 p (switch_places t) [] (sym i ∙ v.is lines t h) ∙ sym (goes_on 12 (ask 13 (switch_places t) ∷ []))
@@ -66,7 +66,7 @@ module _ (s c sw en : List ℕ) where
     entries-labelled k x =
         labelling s k.lines k.tables c sw en k.tabled (declared k.lines k.tables k.tabled) (x.holds (draft_program k.lines k.tables) k.tabled.holds)
 
-    pub all-linked : {g : Fault} {d d' : List ℕ} → Finds s c sw en switch_places g → g ≡ Clear → Changes (λ p. code_resolved s sw (length p.code) p) c d
+    pub all-linked : {g : Fault} {d d' : List ℕ} → Finds s c sw en switch_places g → g ≡ None → Changes (λ p. code_resolved s sw (length p.code) p) c d
         → Changes (λ p. entries_resolved s en (length (all_entries p)) p) d d' → Links s c sw en (Ok tt) d'
     all-linked {g} {d} {d'} v i x y =
         record {

@@ -8,8 +8,8 @@ use Rattle.drafts.specs.Marks.{place_by}
 use Rattle.statements.specs.Faults.{lower}
 use Rattle.language.specs.Program.{Program, no_instr, instr_at}
 use Rattle.lists.specs.Lists.{keep, each}
-use Rattle.statements.specs.declared.Fault.{Fault}
-use Rattle.statements.specs.declared.Fault.TheVariants.{Clear, At}
+use Rattle.statements.specs.Faults.{Fault}
+use Rattle.std.specs.Prelude.{None, Some}
 use Rattle.syntax.proofs.LoadLaws.{lowest-append}
 use Rattle.syntax.specs.Verdict.{lowest}
 use Rattle.linking.specs.Lookup.{joined, known, faults, instr_uses, Asking, AskingAt, Judges}
@@ -26,25 +26,25 @@ use Rattle.linking.specs.Linking.{Kept}
 
 pub joined-none : (f : Fault) → f ≡ joined f []
 unfolding lowest
-joined-none Clear = refl
-joined-none (At p) = refl
+joined-none None = refl
+joined-none (Some p) = refl
 
-pub joined-one : (f : Fault) (p : ℕ) → lower f (At p) ≡ joined f (p ∷ [])
+pub joined-one : (f : Fault) (p : ℕ) → lower f (Some p) ≡ joined f (p ∷ [])
 unfolding lowest
-joined-one Clear p = refl
-joined-one (At q) p = refl
+joined-one None p = refl
+joined-one (Some q) p = refl
 
 pub joined-join : (f : Fault) (xs ys : List ℕ) → joined (joined f xs) ys ≡ joined f (xs ++ ys)
 unfolding lowest
-joined-join Clear [] ys = refl
-joined-join Clear (x ∷ xs) ys = ap At (sym (lowest-append x xs ys))
-joined-join (At p) xs ys = ap At (sym (lowest-append p xs ys))
+joined-join None [] ys = refl
+joined-join None (x ∷ xs) ys = ap Some (sym (lowest-append x xs ys))
+joined-join (Some p) xs ys = ap Some (sym (lowest-append p xs ys))
 
 -- no place at fault
-pub joined-clear : (f : Fault) (xs : List ℕ) → joined f xs ≡ Clear → (f ≡ Clear) × (xs ≡ [])
-joined-clear Clear [] e = (refl, refl)
-joined-clear Clear (x ∷ xs) e = absurd (let z : ◌≡◌ {A = ℕ} 0 1 = cc in omega arith)
-joined-clear (At p) xs e = absurd (let z : ◌≡◌ {A = ℕ} 0 1 = cc in omega arith)
+pub joined-clear : (f : Fault) (xs : List ℕ) → joined f xs ≡ None → (f ≡ None) × (xs ≡ [])
+joined-clear None [] e = (refl, refl)
+joined-clear None (x ∷ xs) e = absurd (let z : ◌≡◌ {A = ℕ} 0 1 = cc in omega arith)
+joined-clear (Some p) xs e = absurd (let z : ◌≡◌ {A = ℕ} 0 1 = cc in omega arith)
 
 module _ (s sw : List ℕ) (kind : ℕ) (named : Bool) (p : Program) where
   keep_append : (q : ℕ → Bool) (xs ys : List ℕ) → map (λ m. place_by m) (keep q (xs ++ ys)) ≡ map (λ m. place_by m) (keep q xs) ++ map (λ m. place_by m) (keep q ys)

@@ -24,8 +24,8 @@ use Rattle.lists.specs.Lists.{all, any, each, keep, head_or, bytes_equal}
 use Rattle.linking.proofs.Faults.{joined-join, faults-append}
 use Rattle.linking.specs.Lookup.{joined, known, faults, instr_uses, is_switch, Judges}
 use Rattle.statements.specs.StatementAt.{fault_of}
-use Rattle.statements.specs.declared.Fault.{Fault}
-use Rattle.statements.specs.declared.Fault.TheVariants.{Clear}
+use Rattle.statements.specs.Faults.{Fault}
+use Rattle.std.specs.Prelude.{None}
 use Rattle.syntax.specs.ArgumentForms.{form_in, Argument, of_form}
 use Rattle.syntax.specs.Ending.{given_as, used_labels, undeclared_labels, undeclared_switches}
 use Rattle.syntax.specs.Items.{Item, is, places}
@@ -158,7 +158,7 @@ module _ (s lines : List ℕ) (t : Tables) (c sw en : List ℕ) (h : Tabled s li
 -- ---- the answers
 
 module _ (s c sw en : List ℕ) where
-  pub labels-found : {f r : Fault} → Judges c (λ p. joined Clear (faults s sw 2 true p (each (instr_uses 2 true p) p.code))) f
+  pub labels-found : {f r : Fault} → Judges c (λ p. joined None (faults s sw 2 true p (each (instr_uses 2 true p) p.code))) f
       → Judges c (λ p. joined f (faults s sw 2 true p (take (length (all_entries p)) en))) r → Finds s c sw en label_places r
   labels-found x y =
       record {
@@ -166,16 +166,16 @@ module _ (s c sw en : List ℕ) where
             let a : List ℕ = each (instr_uses 2 true p) p.code in
             let b : List ℕ = take (length (all_entries p)) en in
             y.is p h.holds ∙ ap (λ (g : Fault). joined g (faults s sw 2 true p b)) (x.is p h.holds)
-            ∙ joined-join Clear (faults s sw 2 true p a) (faults s sw 2 true p b) ∙ ap fault_of (sym (faults-append s sw 2 true p a b) ∙ label_faults s lines t c sw en h);
+            ∙ joined-join None (faults s sw 2 true p a) (faults s sw 2 true p b) ∙ ap fault_of (sym (faults-append s sw 2 true p a b) ∙ label_faults s lines t c sw en h);
       }
 
-  pub switches-found : {f r : Fault} → Judges c (λ p. joined Clear (faults s sw 3 true p (each (instr_uses 3 true p) p.code))) f
+  pub switches-found : {f r : Fault} → Judges c (λ p. joined None (faults s sw 3 true p (each (instr_uses 3 true p) p.code))) f
       → Judges c (λ p. joined f (faults s sw 3 false p (each (instr_uses 3 false p) p.code))) r → Finds s c sw en switch_places r
   switches-found x y =
       record {
         is = λ lines t h. let p : Program = draft_program lines t in
             let a : List ℕ = faults s sw 3 true p (each (instr_uses 3 true p) p.code) in
             let b : List ℕ = faults s sw 3 false p (each (instr_uses 3 false p) p.code) in
-            y.is p h.holds ∙ ap (λ (g : Fault). joined g b) (x.is p h.holds) ∙ joined-join Clear a b
+            y.is p h.holds ∙ ap (λ (g : Fault). joined g b) (x.is p h.holds) ∙ joined-join None a b
             ∙ (λ j. fault_of (switch_faults s lines t c sw en h true j ++ switch_faults s lines t c sw en h false j));
       }

@@ -24,7 +24,7 @@ use Rattle.drafts.specs.Marks.{place_by, word_by}
 use Rattle.std.specs.Prelude.{Option, is_some}
 use Rattle.finding.proofs.Found.{some_any}
 use Rattle.finding.specs.Finding.{Locates}
-use Rattle.statements.specs.declared.Fault.{Fault}
+use Rattle.statements.specs.Faults.{Fault}
 use Rattle.linking.proofs.Faults.{joined-none, faults-join, fault-one}
 use Rattle.linking.specs.Lookup.{argument, marks_in, instr_marks, instr_uses, asked_by, is_label, is_switch, joined, known, faults, Asking, AskingAt, AskingFor, Judges}
 

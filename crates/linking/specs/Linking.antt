@@ -3,7 +3,7 @@ use Rattle.std.specs.Prelude.{◌≡◌, true, false, Result, Ok, Err, List, [],
 use Rattle.language.specs.Limits as limit
 use Rattle.drafts.specs.Tabled.{Tabled}
 use Rattle.statements.specs.StatementAt.{fault_of}
-use Rattle.statements.specs.declared.Fault.{Fault}
+use Rattle.statements.specs.Faults.{Fault}
 use Rattle.syntax.specs.Ending.{undeclared_labels, undeclared_switches}
 use Rattle.syntax.specs.Load.{program_of}
 use Rattle.syntax.specs.Tables.{Tables}

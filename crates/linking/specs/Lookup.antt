@@ -11,8 +11,8 @@ use Rattle.layout.specs.Table.{arg_cell}
 use Rattle.lists.specs.Lists.{ahead, any, keep, bytes_equal}
 use Rattle.drafts.specs.Marks.{place_by, word_by}
 use Rattle.statements.specs.StatementAt.{fault_of}
-use Rattle.statements.specs.declared.Fault.{Fault}
-use Rattle.statements.specs.declared.Fault.TheVariants.{Clear, At}
+use Rattle.statements.specs.Faults.{Fault}
+use Rattle.std.specs.Prelude.{None, Some}
 use Rattle.linking.specs.declared.Role.{Role}
 use Rattle.linking.specs.declared.Role.TheVariants.{Label, Named, Indexed}
 use Rattle.syntax.specs.Verdict.{lowest}
@@ -55,8 +55,8 @@ role_named Indexed = false
 
 -- the places at fault, after others
 abbrev pub joined : Fault → List ℕ → Fault
-joined Clear ps = fault_of ps
-joined (At p) ps = At (lowest p ps)
+joined None ps = fault_of ps
+joined (Some p) ps = Some (lowest p ps)
 
 -- a name that arguments of a kind use, as a label or as a switch of a type, is there
 abbrev pub known : List ℕ → List ℕ → ℕ → Bool → Program → ℕ → Bool

@@ -96,17 +96,15 @@ fn note(f: Fault, fine: bool, m: usize) -> Fault
     if fine {
         return rebuilt(f);
     }
-    lower(f, Fault::At(m / 64))
+    lower(f, Some(m / 64))
 }
 
 // Whether the instructions of an operator take a switch by name.
 fn takes_named(operator: u8) -> bool
     ensures { result ≡ names_number operator }
 {
-    matches!(
-        operator,
-        Operator::SKONA | Operator::WYNA | Operator::SZUKAJ
-    )
+    (operator == u8::from(Operator::SKONA))
+        | ((operator == u8::from(Operator::WYNA)) | (operator == u8::from(Operator::SZUKAJ)))
 }
 
 // Whether the mark `m` names a label or a switch that can be used so.
@@ -214,7 +212,7 @@ fn undeclared_label(text: &[u8], table: &[u32], sw: &[u32], en: &[u32]) -> Fault
     requires { Kept text.now table.now sw.now en.now }
     ensures { Finds text.now table.now sw.now en.now label_places result }
 {
-    let f = code_fault(text, table, sw, Role::Label, Fault::Clear);
+    let f = code_fault(text, table, sw, Role::Label, None);
     entries_fault(text, table, sw, en, f)
 }
 
@@ -223,7 +221,7 @@ fn undeclared_switch(text: &[u8], table: &[u32], sw: &[u32], en: &[u32]) -> Faul
     requires { Kept text.now table.now sw.now en.now }
     ensures { Finds text.now table.now sw.now en.now switch_places result }
 {
-    let f = code_fault(text, table, sw, Role::Named, Fault::Clear);
+    let f = code_fault(text, table, sw, Role::Named, None);
     code_fault(text, table, sw, Role::Indexed, f)
 }
 
@@ -284,10 +282,10 @@ pub fn resolve(text: &[u8], table: &mut [u32], sw: &[u32], en: &[u32]) -> Result
     requires { Kept text.now table.old sw.now en.now }
     ensures { Links text.now table.old sw.now en.now result table.new }
 {
-    if let Fault::At(p) = undeclared_label(text, table, sw, en) {
+    if let Some(p) = undeclared_label(text, table, sw, en) {
         return Err(Missing::Label(p));
     }
-    if let Fault::At(p) = undeclared_switch(text, table, sw, en) {
+    if let Some(p) = undeclared_switch(text, table, sw, en) {
         return Err(Missing::Switch(p));
     }
     resolve_code(text, table, sw);

@@ -7,19 +7,18 @@ use Prim.Native.Nat.{ℕ}
 use native.Mathlib.Omega.{arith}
 use borrow.Author.Tests.{ne_eqb}
 use lib.ListN.{length, drop, replicate, take-append-drop}
-use Rattle.calls.specs.Calls.{load_number, load_line, table_after}
+use Rattle.calls.specs.Calls.{table_after}
 use Rattle.calls.proofs.LoadLaws.{text-listed, listed-not_40}
 use Rattle.drafts.specs.Drafting.{draft_program}
 use Rattle.acceptance.proofs.DraftLaws.{blank-sound}
 use Rattle.statements.specs.Faults.{verdict_of}
-use Rattle.statements.specs.declared.Verdict.{Verdict}
-use Rattle.statements.specs.declared.Verdict.TheVariants.{Yes, No}
+use Rattle.statements.specs.Faults.{Verdict}
 use Rattle.finishing.specs.Finishing.{Finishable, Finishes}
 use Rattle.language.specs.Limits as limit
 use Rattle.layout.specs.Table.{table_cells}
 use Rattle.finishing.specs.Below.ProgressTypeProgress.{Progress}
 use Rattle.reading_statements.specs.ReadingStatements.{Read}
-use Rattle.reading_statements.specs.declared.Refusal.{Refusal}
+use Rattle.statements.specs.declared.Refusal.{Refusal}
 use Rattle.std.specs.Prelude.{Ok, Err}
 use Rattle.syntax.specs.Ending.{last_place, last_questions}
 use Rattle.syntax.specs.Items.{lines_of, line_at}
@@ -29,7 +28,8 @@ use Rattle.syntax.specs.Load as spec
 use Rattle.syntax.specs.Verdict.{first_no}
 use Rattle.writing.specs.Writing.{Cleared}
 use Rattle.loading.specs.Texts.{Unread, ReadsText, Loadable, LoadsText, Refuses, Lent, Leaves, Fit}
-use Rattle.loading.specs.declared.Loaded.{Loaded}
+use Rattle.loading.specs.Told.{Loaded, told}
+use Rattle.loading.specs.declared.Rejected.{Rejected}
 
 -- ---- a text from its beginning to its end
 
@@ -55,11 +55,10 @@ module _ {s lines names c : List ℕ} (h : Loadable s lines names c) where
       }
 
   module _ {r : Read} {ms c' sw en : List ℕ} (k : ReadsText s lines c r ms c' sw en) where
-    pub text-refused : (f : Refusal) → r ≡ Err f → LoadsText s lines c (No f.number f.at) c'
+    pub text-refused : (f : Refusal) → r ≡ Err f → LoadsText s lines c (Err f) c'
     text-refused f e =
         record {
-          refused = λ i j q. let a : f.number ≡ i = cc in let b : f.at ≡ j = cc in
-              k.refused f e ∙ ap (λ (m : ℕ). spec.Loaded.refused m (line_at lines f.at)) a ∙ ap (λ (m : ℕ). spec.Loaded.refused i (line_at lines m)) b;
+          refused = λ g q. let a : f ≡ g = cc in k.refused f e ∙ ap (λ (m : Refusal). spec.Loaded.refused m.number (line_at lines m.at)) a;
           accepted = λ q. absurd (let z : ◌≡◌ {A = ℕ} 0 1 = cc in omega arith);
           beyond = k.beyond;
         }
@@ -75,7 +74,7 @@ module _ {s lines names c : List ℕ} (h : Loadable s lines names c) where
         let ends : text_loads s lines ≡ unless_refused lines (verdict_of v) (spec.Loaded.accepted (program_of lines w.draft.tables)) =
         w.left ∙ ap (λ x. unless_refused lines x (spec.Loaded.accepted (program_of lines w.draft.tables))) (sym told) in
         record {
-          refused = λ i j q. ends ∙ ap (λ x. unless_refused lines (verdict_of x) (spec.Loaded.accepted (program_of lines w.draft.tables))) q;
+          refused = λ f q. ends ∙ ap (λ x. unless_refused lines (verdict_of x) (spec.Loaded.accepted (program_of lines w.draft.tables))) q;
           accepted = λ q. record {
             program = program_of lines w.draft.tables;
             is = ends ∙ ap (λ x. unless_refused lines (verdict_of x) (spec.Loaded.accepted (program_of lines w.draft.tables))) q;
@@ -98,14 +97,13 @@ module _ {s lines names c : List ℕ} (h : Lent s lines names c) {c₁ : List �
   loadable = record { short = h.short; lined = h.lined; names_room = h.names_room; holds = z.holds }
 
   module _ {v : Verdict} {c₂ : List ℕ} (t : LoadsText s lines c₁ v c₂) where
-    pub load-accepted : v ≡ Yes → {r : Loaded} → r.number ≡ 80 → r.line ≡ 0 → Leaves (text_loads s lines) c r c₂
+    pub load-accepted : v ≡ Ok tt → Leaves (text_loads s lines) c (Ok tt) c₂
     unfolding table_after
-    load-accepted e x y =
+    load-accepted e =
         let a = t.accepted e in
         let q = a.is in
         record {
-          number_is = x ∙ sym (ap load_number q);
-          line_is = y ∙ sym (ap load_line q);
+          is = sym (ap told q);
           cells_are =
               sym (take-append-drop limit.table c₂)
               ∙ ap (λ (x : List ℕ). x ++ drop limit.table c₂) a.holds.is
@@ -113,17 +111,16 @@ module _ {s lines names c : List ℕ} (h : Lent s lines names c) {c₁ : List �
               ∙ sym (ap (λ t. table_after t c) q);
         }
 
-    pub load-refused : (number at : ℕ) → v ≡ No number at → {r : Loaded} {d : List ℕ} → Refuses lines number at c₂ r d → Leaves (text_loads s lines) c r d
+    pub load-refused : (f : Refusal) → v ≡ Err f → {r : Rejected} {d : List ℕ} → Refuses lines f.number f.at c₂ r d → Leaves (text_loads s lines) c (Err r) d
     unfolding table_after
-    load-refused number at e {r} {d} w =
-        let q = t.refused number at e in
-        let n : number ≢ 40 = listed-not_40 (text_loads s lines) (text-listed lines h.lined s) number (line_at lines at) q in
+    load-refused f e {r} {d} w =
+        let q = t.refused f e in
+        let n : f.number ≢ 40 = listed-not_40 (text_loads s lines) (text-listed lines h.lined s) f.number (line_at lines f.at) q in
         record {
-          number_is = w.number_is ∙ sym (ap load_number q);
-          line_is = w.line_is ∙ sym (ap load_line q);
+          is = (λ i. Err (record { number = w.number_is i; line = w.line_is i })) ∙ sym (ap told q);
           cells_are =
               sym (take-append-drop limit.table d)
               ∙ ap (λ (x : List ℕ). x ++ drop limit.table d) w.cleared.zeros
               ∙ ap (λ (x : List ℕ). replicate limit.table 0 ++ x) (w.cleared.beyond ∙ t.beyond ∙ z.beyond)
-              ∙ sym (ap (λ t. table_after t c) q ∙ ap (λ (b : Bool). cond b c (replicate limit.table 0 ++ drop limit.table c)) (ne_eqb number 40 n));
+              ∙ sym (ap (λ t. table_after t c) q ∙ ap (λ (b : Bool). cond b c (replicate limit.table 0 ++ drop limit.table c)) (ne_eqb f.number 40 n));
         }

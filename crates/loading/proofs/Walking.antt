@@ -1,18 +1,20 @@
 -- From statement to statement: what was read, and what the rest of the text still loads to.
 use mathlib.Core.Path.{◌≡◌, refl, sym, ap, ◌∙◌, subst}
-use mathlib.Core.Bool.{Bool, true, false, cond}
+use mathlib.Core.Bool.{Bool, true, false, cond, not}
+use Rattle.std.specs.Bool.{then_some}
+use Rattle.std.proofs.lemmas.Option.{none-some}
 use mathlib.Core.List.{List, []}
-use Prim.Native.Nat.{ℕ}
+use Prim.Native.Nat.{ℕ, ◌≤◌, ◌<◌}
 use native.Mathlib.Omega.{arith}
-use lib.ListN.{drop}
+use lib.ListN.{length, drop}
 use Rattle.language.specs.Limits as limit
 use Rattle.finishing.specs.Below.Progress.{Begun}
 use Rattle.finishing.specs.Below.ProgressLaws.{before-after}
 use Rattle.finishing.specs.Below.ProgressTypeProgress.{Progress}
 use Rattle.reading_statements.specs.ReadingStatements.{Read, read_verdict, Standing, Readable, ReadsStatement}
 use Rattle.reading_statements.specs.declared.Answer.{Answer}
-use Rattle.reading_statements.specs.declared.Refusal.{Refusal}
-use Rattle.std.specs.Prelude.{Ok, Err}
+use Rattle.statements.specs.declared.Refusal.{Refusal}
+use Rattle.std.specs.Prelude.{Ok, Err, None, Some}
 use Rattle.statements.specs.StatementAt.{statements_at, statement_at}
 use Rattle.syntax.specs.Ending.{last_place}
 use Rattle.syntax.specs.Items.{Item}
@@ -47,6 +49,15 @@ going-none {s} {lines} {ms} {c} {sw} {en} h b =
       beyond = refl;
     }
 
+-- whether another statement begins, and where
+last-by : (b : Bool) (m : ℕ) → None ≡ then_some (not b) m → b ≡ true
+last-by true m e = refl
+last-by false m e = absurd (none-some m e)
+
+next-by : (b : Bool) (m : ℕ) {j : ℕ} → Some j ≡ then_some (not b) m → (b ≡ false) × (j ≡ m)
+next-by true m e = absurd (none-some _ (sym e))
+next-by false m e = (refl, cc)
+
 -- the statement at n is read
 module _ {s lines c₀ : List ℕ} {n : ℕ} {g : Progress} {ms c sw en : List ℕ} (u : Going s lines c₀ n g ms c sw en) where
   pub readable : Readable s lines n g ms c sw en
@@ -60,14 +71,14 @@ module _ {s lines c₀ : List ℕ} {n : ℕ} {g : Progress} {ms c sw en : List �
     here = statement_at s n
 
     abbrev rest_of : List (List Item)
-    rest_of = cond a.last [] (statements_at s a.next)
+    rest_of = cond k.ends.last [] (statements_at s k.ends.next)
 
     -- what the text loads to, by the verdict of this statement
     by-verdict : text_loads s lines ≡ unless_refused lines (read_verdict r) (load_from lines (last_place s) (draft_after u.draft here) rest_of)
     unfolding load_from
     by-verdict =
         u.left
-        ∙ ap (load_from lines (last_place s) u.draft) k.ends.is
+        ∙ ap (load_from lines (last_place s) u.draft) k.ends.ended.is
         ∙ ap (λ v. unless_refused lines v (load_from lines (last_place s) (draft_after u.draft here) rest_of)) (sym (k.told u.draft u.standing))
 
     pub going-refused : (f : Refusal) → r ≡ Err f → ReadsText s lines c₀ (Err f) ms' c' sw' en'
@@ -79,12 +90,15 @@ module _ {s lines c₀ : List ℕ} {n : ℕ} {g : Progress} {ms c sw en : List �
           beyond = k.beyond ∙ u.beyond;
         }
 
+    pub next-beyond : {j : ℕ} → Some j ≡ a.next → (n < j) × (j ≤ length s)
+    next-beyond t = let i = next-by k.ends.last k.ends.next (t ∙ k.ends.is) in (rw i.1 (k.ends.ended.more i.0), rw i.1 k.ends.ended.most)
+
     module _ (q : Progress) (e : r ≡ Ok q) where
       after_it : text_loads s lines ≡ load_from lines (last_place s) (draft_after u.draft here) rest_of
       unfolding unless_refused
       after_it = by-verdict ∙ ap (λ x. unless_refused lines (read_verdict x) (load_from lines (last_place s) (draft_after u.draft here) rest_of)) e
 
-      pub going-last : a.last ≡ true → ReadsText s lines c₀ (Ok q) ms' c' sw' en'
+      pub going-last : None ≡ a.next → ReadsText s lines c₀ (Ok q) ms' c' sw' en'
       going-last t =
           record {
             refused = λ f z. absurd (not-read f q (sym z));
@@ -92,7 +106,7 @@ module _ {s lines c₀ : List ℕ} {n : ℕ} {g : Progress} {ms c sw en : List �
                 (record {
                   draft = draft_after u.draft here;
                   drafted = k.after u.draft u.standing q e;
-                  left = after_it ∙ ap (λ (b : Bool). load_from lines (last_place s) (draft_after u.draft here) (cond b [] (statements_at s a.next))) t;
+                  left = after_it ∙ ap (λ (b : Bool). load_from lines (last_place s) (draft_after u.draft here) (cond b [] (statements_at s k.ends.next))) (last-by k.ends.last k.ends.next (t ∙ k.ends.is));
                 });
             beyond = k.beyond ∙ u.beyond;
           }
@@ -100,17 +114,18 @@ module _ {s lines c₀ : List ℕ} {n : ℕ} {g : Progress} {ms c sw en : List �
           same : {a b : Progress} → ◌≡◌ {A = Read} (Ok a) (Ok b) → a ≡ b
           same e = cc
 
-      pub going_next : a.last ≡ false → Going s lines c₀ a.next q ms' c' sw' en'
-      going_next t =
+      pub going_next : {j : ℕ} → Some j ≡ a.next → Going s lines c₀ j q ms' c' sw' en'
+      going_next {j} t =
+          let i = next-by k.ends.last k.ends.next (t ∙ k.ends.is) in
           record {
             draft = draft_after u.draft here;
             standing = record {
               short = u.standing.short;
-              inside = k.ends.most;
+              inside = rw i.1 k.ends.ended.most;
               lined = u.standing.lined;
               drafted = k.after u.draft u.standing q e;
-              before = before-after here u.standing.before k.ends.from k.ends.count k.ends.before;
+              before = before-after here u.standing.before (rw i.1 k.ends.ended.from) (rw i.1 k.ends.ended.count) (rw i.1 k.ends.ended.before);
             };
-            left = after_it ∙ ap (λ (b : Bool). load_from lines (last_place s) (draft_after u.draft here) (cond b [] (statements_at s a.next))) t;
+            left = after_it ∙ ap (λ (b : Bool). load_from lines (last_place s) (draft_after u.draft here) (cond b [] (statements_at s k.ends.next))) i.0 ∙ ap (λ (m : ℕ). load_from lines (last_place s) (draft_after u.draft here) (statements_at s m)) (sym i.1);
             beyond = k.beyond ∙ u.beyond;
           }

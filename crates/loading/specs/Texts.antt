@@ -1,22 +1,22 @@
 -- A text on its way through the loader: what the functions between a statement and load ask and promise.
 use Rattle.std.specs.Prelude.{◌≡◌, Ok, Err, List, [], ℕ, ◌≤◌, length, take, drop}
-use Rattle.calls.specs.Calls.{load_number, load_line, table_after}
+use Rattle.calls.specs.Calls.{table_after}
 use Rattle.drafts.specs.Tabled.{Tabled}
-use Rattle.statements.specs.declared.Verdict.{Verdict}
-use Rattle.statements.specs.declared.Verdict.TheVariants.{Yes, No}
+use Rattle.statements.specs.Faults.{Verdict}
 use Rattle.language.specs.Limits as limit
 use Rattle.language.specs.Program.{Program}
 use Rattle.finishing.specs.Below.Progress.{Drafted}
 use Rattle.finishing.specs.Below.ProgressTypeProgress.{Progress}
 use Rattle.reading_statements.specs.ReadingStatements.{Read}
-use Rattle.reading_statements.specs.declared.Refusal.{Refusal}
+use Rattle.statements.specs.declared.Refusal.{Refusal}
 use Rattle.syntax.specs.Ending.{last_place}
 use Rattle.syntax.specs.Items.{line_at, lines_of}
 use Rattle.syntax.specs.Load as spec
 use Rattle.syntax.specs.Load.{load_from, Lined, text_loads}
 use Rattle.syntax.specs.Tables.{Draft, blank}
 use Rattle.writing.specs.Writing.{HoldsProgram, Cleared, no_program}
-use Rattle.loading.specs.declared.Loaded.{Loaded}
+use Rattle.loading.specs.Told.{Loaded, told}
+use Rattle.loading.specs.declared.Rejected.{Rejected}
 
 -- ---- the lines of a text
 
@@ -61,14 +61,14 @@ pub record Accepts (s lines d : List ℕ) : Type 0 where
   pub holds : HoldsProgram d program
 
 pub record LoadsText (s lines c : List ℕ) (r : Verdict) (d : List ℕ) : Type 0 where
-  pub refused : (number at : ℕ) → r ≡ No number at → text_loads s lines ≡ spec.Loaded.refused number (line_at lines at)
-  pub accepted : r ≡ Yes → Accepts s lines d
+  pub refused : (f : Refusal) → r ≡ Err f → text_loads s lines ≡ spec.Loaded.refused f.number (line_at lines f.at)
+  pub accepted : r ≡ Ok tt → Accepts s lines d
   pub beyond : drop limit.table d ≡ drop limit.table c
 
 -- ---- a refusal
 
 -- number and line, and zeros
-pub record Refuses (lines : List ℕ) (number at : ℕ) (c : List ℕ) (r : Loaded) (d : List ℕ) : Type 0 where
+pub record Refuses (lines : List ℕ) (number at : ℕ) (c : List ℕ) (r : Rejected) (d : List ℕ) : Type 0 where
   pub number_is : r.number ≡ number
   pub line_is : r.line ≡ line_at lines at
   pub cleared : Cleared c d
@@ -83,8 +83,7 @@ pub record Lent (s lines ms c : List ℕ) : Type 0 where
 
 -- r is the answer of x, and d is what x leaves in the cells c of the table
 pub record Leaves (x : spec.Loaded) (c : List ℕ) (r : Loaded) (d : List ℕ) : Type 0 where
-  pub number_is : r.number ≡ load_number x
-  pub line_is : r.line ≡ load_line x
+  pub is : r ≡ told x
   pub cells_are : d ≡ table_after x c
 
 -- the same of a text as it stands, with its own lines

@@ -9,16 +9,19 @@ ghost use Rattle.loading.specs.Texts.{Fillable, Fills, Unread, ReadsText, Loadab
 use finishing::from_progress::{Progress, begin, renewed};
 use language::Machine;
 use lexer::line_at;
-use reading_statements::{Refusal, read_statement};
-use statements::Verdict;
+use reading_statements::read_statement;
+use statements::{Refusal, Verdict};
 use writing::clear_table;
 
-// Number and line; 80 and 0 where the text is accepted.
+// The number and the line of the first question answered no.
 #[derive(Clone, Copy)]
-pub struct Loaded {
+pub struct Rejected {
     pub number: u8,
     pub line: u32,
 }
+
+// The text is accepted, or it is rejected.
+pub type Loaded = Result<(), Rejected>;
 
 // The line of each byte of a text, from 1.
 fn fill_lines(text: &[u8], lines: &mut [u16])
@@ -49,10 +52,10 @@ fn read_statements(
     loop {
         let a = read_statement(text, lines, n, p, names, table, switches, entries);
         let q = a.read?;
-        if a.last {
+        let Some(next) = a.next else {
             return Ok(q);
-        }
-        n = a.next;
+        };
+        n = next;
         p = renewed(q);
     }
 }
@@ -64,21 +67,19 @@ fn load_text(text: &[u8], lines: &[u16], names: &mut [u32], table: &mut [u32]) -
 {
     let mut switches = [0u32; Machine::SWITCHES];
     let mut entries = [0u32; Machine::ENTRIES];
-    match read_statements(text, lines, names, table, &mut switches, &mut entries) {
-        Err(r) => Verdict::No(r.number, r.at),
-        Ok(p) => finishing::finish(text, p, names, table, &switches, &entries),
-    }
+    let p = read_statements(text, lines, names, table, &mut switches, &mut entries)?;
+    finishing::finish(text, p, names, table, &switches, &entries)
 }
 
 // "after other refusals its 8,192 cells are zeros"
-fn refuse(lines: &[u16], number: u8, at: usize, cells: &mut [u32]) -> Loaded
+fn refuse(lines: &[u16], r: Refusal, cells: &mut [u32]) -> Rejected
     requires { limit.table ≤ length cells.old }
-    ensures { Refuses lines.now number at cells.old result cells.new }
+    ensures { Refuses lines.now r.number r.at cells.old result cells.new }
 {
     clear_table(cells);
-    Loaded {
-        number,
-        line: u32::from(line_at(lines, at)),
+    Rejected {
+        number: r.number,
+        line: u32::from(line_at(lines, r.at)),
     }
 }
 
@@ -89,11 +90,8 @@ pub fn load_lined(text: &[u8], lines: &[u16], names: &mut [u32], table: &mut [u3
 {
     clear_table(table);
     match load_text(text, lines, names, table) {
-        Verdict::Yes => Loaded {
-            number: 80,
-            line: 0,
-        },
-        Verdict::No(number, at) => refuse(lines, number, at, table),
+        Ok(()) => Ok(()),
+        Err(r) => Err(refuse(lines, r, table)),
     }
 }
 

@@ -10,8 +10,8 @@ use Rattle.drafts.specs.Marks.{place_by, word_by, marks_in}
 use Rattle.statements.specs.Faults.{lower}
 use Rattle.statements.specs.FaultLaws.{fault-both}
 use Rattle.statements.specs.StatementAt.{fault_of}
-use Rattle.statements.specs.declared.Fault.{Fault}
-use Rattle.statements.specs.declared.Fault.TheVariants.{Clear, At}
+use Rattle.statements.specs.Faults.{Fault}
+use Rattle.std.specs.Prelude.{None, Some}
 use Rattle.syntax.specs.Verdict.{lowest}
 use Rattle.syntax.specs.Statements.{reserved}
 use Rattle.lists.specs.Lists.{any, keep, bytes_equal}
@@ -37,7 +37,7 @@ pub record Walking (of : List ℕ → List ℕ) (ms : List ℕ) (a b k : ℕ) (f
   pub is : f ≡ fault_of (of (marks_in ms a k))
 
 module _ (of : List ℕ → List ℕ) (ms : List ℕ) (a b : ℕ) (most : b ≤ length ms) where
-  pub walk_first : of [] ≡ [] → Walking of ms a b a Clear
+  pub walk_first : of [] ≡ [] → Walking of ms a b a None
   walk_first e = record { from = omega arith; most = omega arith; is = sym (ap (λ (xs : List ℕ). fault_of (of xs)) (marks-none ms a b most) ∙ ap fault_of e) }
 
   module _ {k : ℕ} {f : Fault} (h : Walking of ms a b k f) where
@@ -54,21 +54,21 @@ module _ (of : List ℕ → List ℕ) (ms : List ℕ) (a b : ℕ) (most : b ≤ 
 
 -- the lowest place
 pub lowest-more : (ms : List ℕ) (a b : ℕ) → b ≤ length ms → {k : ℕ} {f : Fault} → Walking (map place_by) ms a b k f → k < b → {p : ℕ} {r : Fault} → p ≡ get_or ms k 0
-    → r ≡ lower f (At (place_by p)) → Walking (map place_by) ms a b (k + 1) r
+    → r ≡ lower f (Some (place_by p)) → Walking (map place_by) ms a b (k + 1) r
 unfolding lowest
 lowest-more ms a b most {k} h l e q =
-    walk-on (map place_by) ms a b most h l (place_by (get_or ms k 0) ∷ []) (map-append place_by (marks_in ms a k) (get_or ms k 0 ∷ [])) (ap (λ (m : ℕ). At (place_by m)) e) q
+    walk-on (map place_by) ms a b most h l (place_by (get_or ms k 0) ∷ []) (map-append place_by (marks_in ms a k) (get_or ms k 0 ∷ [])) (ap (λ (m : ℕ). Some (place_by m)) e) q
 
 -- one mark
 pub own-sought : {s ms : List ℕ} {k m : ℕ} → Repeatable s ms (k + 1) → m ≡ get_or ms k 0 → Sought s ms k (m / 64) (m % 64)
 own-sought {s} {ms} {k} {m} p e = record { most = omega (arith, p.most); marked = λ j h. p.marked j (omega arith); inside = rw e (p.marked k (omega arith)) }
 
 pub own-asked : (s : List ℕ) (names : List (List ℕ)) {m g : ℕ} → m ≡ g → {r b : Bool} → r ≡ any (bytes_equal (take (m % 64) (drop (m / 64) s))) names → r ≡ b
-    → fault_of (own_repeated s names g) ≡ cond b (At (m / 64)) Clear
+    → fault_of (own_repeated s names g) ≡ cond b (Some (m / 64)) None
 unfolding word_by lowest
 own-asked s names {m} {g} e {r} {b} h q = rw (← e, sym h ∙ q) (go b)
   where
-    go : (b : Bool) → fault_of (cond b (m / 64 ∷ []) []) ≡ cond b (At (m / 64)) Clear
+    go : (b : Bool) → fault_of (cond b (m / 64 ∷ []) []) ≡ cond b (Some (m / 64)) None
     go true = refl
     go false = refl
 
@@ -90,7 +90,7 @@ module _ (s : List ℕ) where
   abbrev pub repeated_in : List ℕ → ℕ → List ℕ → List ℕ
   repeated_in ms a = repeated_by s (names_of s (take a ms))
 
-  pub repeating-first : (ms : List ℕ) (a b : ℕ) → b ≤ length ms → Walking (repeated_in ms a) ms a b a Clear
+  pub repeating-first : (ms : List ℕ) (a b : ℕ) → b ≤ length ms → Walking (repeated_in ms a) ms a b a None
   unfolding repeated_by
   repeating-first ms a b most = walk_first (repeated_in ms a) ms a b most refl
 
@@ -102,13 +102,13 @@ module _ (s : List ℕ) where
       (repeated-more (names_of s (take a ms)) (marks_in ms a k) m ∙ ap (λ (ns : List (List ℕ)). repeated_in ms a (marks_in ms a k) ++ own_repeated s ns m) (names-up ms a k h.from)) e q
 
 -- question 70: one mark
-pub own-told : (s : List ℕ) (m : ℕ) {r b : Bool} → r ≡ reserved (take (m / 64 + m % 64 - m / 64) (drop (m / 64) s)) → r ≡ b → cond b (At (m / 64)) Clear ≡ fault_of (reserved_by s (m ∷ []))
+pub own-told : (s : List ℕ) (m : ℕ) {r b : Bool} → r ≡ reserved (take (m / 64 + m % 64 - m / 64) (drop (m / 64) s)) → r ≡ b → cond b (Some (m / 64)) None ≡ fault_of (reserved_by s (m ∷ []))
 unfolding word_by lowest
 own-told s m {r} {b} h q =
     let e : m / 64 + m % 64 - m / 64 ≡ m % 64 = omega arith in
     rw (sym (ap (λ (n : ℕ). reserved (take n (drop (m / 64) s))) e) ∙ sym h ∙ q) (go b)
   where
-    go : (b : Bool) → cond b (At (m / 64)) Clear ≡ fault_of (map place_by (cond b (m ∷ []) []))
+    go : (b : Bool) → cond b (Some (m / 64)) None ≡ fault_of (map place_by (cond b (m ∷ []) []))
     go true = refl
     go false = refl
 
@@ -125,7 +125,7 @@ module _ (s : List ℕ) where
       go true e = ap (λ ps. place_by x ∷ ps) e
       go false e = e
 
-  pub reserved-first : (ms : List ℕ) (a b : ℕ) → b ≤ length ms → Walking (reserved_by s) ms a b a Clear
+  pub reserved-first : (ms : List ℕ) (a b : ℕ) → b ≤ length ms → Walking (reserved_by s) ms a b a None
   reserved-first ms a b most = walk_first (reserved_by s) ms a b most refl
 
   pub reserved-next : (ms : List ℕ) (a b : ℕ) → b ≤ length ms → {k : ℕ} {f : Fault} → Walking (reserved_by s) ms a b k f → k < b → {m : ℕ} → m ≡ get_or ms k 0 → {g r : Fault}

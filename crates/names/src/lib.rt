@@ -47,9 +47,9 @@ fn met_before(text: &[u8], names: &[u32], k: usize) -> Fault
 {
     let m: usize = cells::read(names, k);
     if has_name(text, names, k, m / 64, m % 64) {
-        return Fault::At(m / 64);
+        return Some(m / 64);
     }
-    Fault::Clear
+    None
 }
 
 // Question 06 of the names from index `from` to index `to`.
@@ -57,7 +57,7 @@ pub fn first_repeated(text: &[u8], names: &[u32], from: usize, to: usize) -> Fau
     requires { Repeatable text.now names.now to }
     ensures { result ≡ fault_of (repeated_by text.now (names_of text.now (take from names.now)) (marks_in names.now from to)) }
 {
-    let mut fault = Fault::Clear;
+    let mut fault = None;
     for k in from..to {
         fault = lower(fault, met_before(text, names, k));
     }
@@ -71,9 +71,9 @@ fn own_reserved(text: &[u8], m: usize) -> Fault
 {
     let at = m / 64;
     if words::is_reserved(&text[at..at + m % 64]) {
-        return Fault::At(at);
+        return Some(at);
     }
-    Fault::Clear
+    None
 }
 
 // Question 70 of the names from index `from` to index `to`.
@@ -81,7 +81,7 @@ pub fn first_reserved(text: &[u8], names: &[u32], from: usize, to: usize) -> Fau
     requires { Repeatable text.now names.now to }
     ensures { result ≡ fault_of (reserved_by text.now (marks_in names.now from to)) }
 {
-    let mut fault = Fault::Clear;
+    let mut fault = None;
     for k in from..to {
         fault = lower(fault, own_reserved(text, cells::read(names, k)));
     }
@@ -93,9 +93,9 @@ pub fn lowest_mark(names: &[u32], from: usize, to: usize) -> Fault
     requires { to ≤ length names.now }
     ensures { result ≡ fault_of (map place_by (marks_in names.now from to)) }
 {
-    let mut low = Fault::Clear;
+    let mut low = None;
     for k in from..to {
-        low = lower(low, Fault::At(cells::read(names, k) / 64));
+        low = lower(low, Some(cells::read(names, k) / 64));
     }
     low
 }

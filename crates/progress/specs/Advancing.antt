@@ -13,7 +13,7 @@ use Rattle.layout.specs.Bounds.{Each}
 use Rattle.progress.specs.Progress.{NamesKept, SectionKept, EditionKept, TellsDraft}
 use Rattle.progress.specs.declared.Progress.{Progress}
 use Rattle.statements.specs.StatementAt.{statement_at, fault_of}
-use Rattle.statements.specs.declared.Fault.{Fault}
+use Rattle.statements.specs.Faults.{Fault}
 use Rattle.syntax.specs.Questions.{questions}
 use Rattle.syntax.specs.Tables.{Draft, all_labels, draft_after}
 

@@ -9,7 +9,8 @@ use Prim.Native.Nat.{ℕ, pred, ◌≤◌, ◌<◌}
 use borrow.Author.Tests.{ne_eqb, not-true}
 use Rattle.acceptance.proofs.ArgumentLaws.{word-apart}
 use Rattle.acceptance.proofs.StatementLaws.{each-behind}
-use Rattle.declaring.specs.Below.CountLaws.{this-instruction, has-operator}
+use Rattle.headings.specs.Below.HeadLaws.{some-number}
+use Rattle.declaring.specs.Below.CountLaws.{above, this-instruction, has-operator}
 use Rattle.acceptance.proofs.RowLaws.{Answered, fails, append-none}
 use Rattle.progress.specs.Closing.{unended}
 use Rattle.declaring.specs.SpeltLaws.{statement-spelt}
@@ -18,7 +19,7 @@ use Rattle.headings.specs.Below.DraftsMarks.{mark, mark_of, word_by, Marked}
 use Rattle.headings.specs.Below.Tabled.{Spelt}
 use Rattle.forms.specs.Forms.{ends}
 use Rattle.forms.specs.ReadingLaws.{ends-listed}
-use Rattle.headings.specs.Below.Heads.{own_item, own_in, instr_of, Headed}
+use Rattle.headings.specs.Below.Heads.{own_item, own_in, instr_of, instr_by, Headed}
 use Rattle.headings.specs.Headings.{Rests}
 use Rattle.headings.specs.HeadingLaws.{rest-follows, follows_by}
 use Rattle.headings.specs.declared.Rest.{Rest}
@@ -36,8 +37,8 @@ use Rattle.lists.specs.Quoted.{bytes}
 use Rattle.lists.specs.ListLaws.{T-left, T-right}
 use Rattle.progress.specs.Progress.{SectionKept, EditionKept}
 use Rattle.statements.specs.StatementAt.{statement_at, stops, fault_of}
-use Rattle.statements.specs.declared.Fault.{Fault}
-use Rattle.statements.specs.declared.Fault.TheVariants.{Clear, At}
+use Rattle.statements.specs.Faults.{Fault}
+use Rattle.std.specs.Prelude.{None, Some}
 use Rattle.syntax.specs.Items.{Item, is}
 use Rattle.syntax.specs.Items.Sort.{word, colon}
 use Rattle.syntax.specs.Questions.{first_faults, questions}
@@ -73,13 +74,13 @@ module _ (t : Tables) (ls x : List Item) where
   no_instr (Spec.Keyword.instr op) e = absurd (omega (arith, (operator-range op).0))
 
   -- an instruction is the last one then
-  an-instr : (op : Op) {m at : ℕ} → operator_at x ≡ at → (operation op).number ≡ m → fault_of (unended (with_instr t ls x op).code) ≡ cond (ends m) Clear (At at)
+  an-instr : (op : Op) {m at : ℕ} → operator_at x ≡ at → (operation op).number ≡ m → fault_of (unended (with_instr t ls x op).code) ≡ cond (ends m) None (Some at)
   unfolding with_instr lowest
   an-instr op {m} {at} p e = ap fault_of (unended-last t.code _) ∙ go (is_end (operation op).flow) (sym (ends-listed op) ∙ ap ends e)
     where
-      go : (b : Bool) → b ≡ ends m → fault_of (cond b [] (operator_at x ∷ []) ++ []) ≡ cond (ends m) Clear (At at)
-      go true q = ap (λ (c : Bool). cond c Clear (At at)) q
-      go false q = ap At p ∙ ap (λ (c : Bool). cond c Clear (At at)) q
+      go : (b : Bool) → b ≡ ends m → fault_of (cond b [] (operator_at x ∷ []) ++ []) ≡ cond (ends m) None (Some at)
+      go true q = ap (λ (c : Bool). cond c None (Some at)) q
+      go false q = ap Some p ∙ ap (λ (c : Bool). cond c None (Some at)) q
 
 module _ {s : List ℕ} {n : ℕ} {h : Head} (g : Headed s n h) {m : ℕ} (number : m ≡ instr_of h.keyword) where
   abbrev x : List Item
@@ -93,15 +94,19 @@ module _ {s : List ℕ} {n : ℕ} {h : Head} (g : Headed s n h) {m : ℕ} (numbe
   ended-before z ended d e = ap (λ (ws : List Written). fault_of (unended ws)) (no_instr d.tables (all_labels d x) x (keyword_in x) (number_is ∙ z)) ∙ e
 
   module _ (z : m ≡ 0 → ⊥) (ended : Fault) where
-    last-here : (d : Draft) → fault_of (unended (draft_after d x).tables.code) ≡ cond (ends m) Clear (At h.op.at)
+    last-here : (d : Draft) → fault_of (unended (draft_after d x).tables.code) ≡ cond (ends m) None (Some h.op.at)
     unfolding draft_after by_keyword
     last-here d =
         let i = this-instruction g number z in
         ap (λ (k : Spec.Keyword). fault_of (unended (tables_by d.tables (all_labels d x) x k).code)) i.is
         ∙ an-instr d.tables (all_labels d x) x i.op (operated g (has-operator g number z)).place_is i.has
 
-    pub ended-then : (b : Bool) → ends m ≡ b → EndedTold s n ended (cond b Clear (At h.op.at))
-    ended-then b q d e = last-here d ∙ ap (λ (c : Bool). cond c Clear (At h.op.at)) q
+    pub ended-then : (b : Bool) → ends m ≡ b → EndedTold s n ended (cond b None (Some h.op.at))
+    ended-then b q d e = last-here d ∙ ap (λ (c : Bool). cond c None (Some h.op.at)) q
+
+pub ended-numbered : {s : List ℕ} {n : ℕ} {h : Head} → Headed s n h → {m : ℕ} → Some m ≡ instr_by h.keyword → (ended : Fault) (b : Bool) → ends m ≡ b
+    → EndedTold s n ended (cond b None (Some h.op.at))
+ended-numbered {s} {n} {h} g e = ended-then g (some-number h.keyword e) (above (keyword_in (statement_at s n)) (e ∙ ap instr_by g.keyword))
 
 -- ---- the section's name
 

@@ -8,8 +8,8 @@ use Rattle.language.specs.Instructions.{operation, is_end}
 use Rattle.lists.specs.Lists.{each, filled}
 use Rattle.statements.specs.Faults.{lower}
 use Rattle.statements.specs.StatementAt.{statement_at, stops, fault_of}
-use Rattle.statements.specs.declared.Fault.{Fault}
-use Rattle.statements.specs.declared.Fault.TheVariants.{Clear, At}
+use Rattle.statements.specs.Faults.{Fault}
+use Rattle.std.specs.Prelude.{None, Some}
 use Rattle.syntax.specs.Ending.{end_faults}
 use Rattle.syntax.specs.Items.{Item, places}
 use Rattle.syntax.specs.Statements.{operator}
@@ -27,10 +27,10 @@ pub record TellsClosing (k : spec.Closing) (c : Closing) : Type 0 where
 -- what of a statement is at fault, by its head, the lowest place of its labels and that of what follows KONS or KONP
 abbrev pub fault_by : Head → Fault → Fault → Closing → Fault
 fault_by h labels after c =
-    let here = lower labels (At h.op.at) in
+    let here = lower labels (Some h.op.at) in
     let there = lower labels after in
-    cond (stops h.op.sort) Clear
-    (cond c.konp here (cond (is_konp h.keyword) there (cond c.kons here (cond (is_kons h.keyword) there Clear))))
+    cond (stops h.op.sort) None
+    (cond c.konp here (cond (is_konp h.keyword) there (cond c.kons here (cond (is_kons h.keyword) there None))))
 
 -- "labels alone" change nothing
 abbrev pub closing_then : List ℕ → spec.Closing → List Item → List Item → spec.Closing

@@ -15,8 +15,8 @@ use Rattle.headings.specs.Below.Head.{Head}
 use Rattle.lexer.specs.Tokens.{item_of}
 use Rattle.lists.specs.Lists.{filled, bytes_equal}
 use Rattle.statements.specs.StatementAt.{statement_at, stops, fault_of}
-use Rattle.statements.specs.declared.Fault.{Fault}
-use Rattle.statements.specs.declared.Fault.TheVariants.{Clear, At}
+use Rattle.statements.specs.Faults.{Fault}
+use Rattle.std.specs.Prelude.{None, Some}
 use Rattle.syntax.specs.Ending.{end_faults, absent}
 use Rattle.syntax.specs.Items.{Item, places}
 use Rattle.syntax.specs.Statements.{same_keyword, operator, operator_at, keyword_in, rest, one_name}
@@ -56,15 +56,15 @@ module _ {s : List ℕ} {n : ℕ} {h : Head} (g : Headed s n h) (section : ℕ) 
     operator-place = ap places (operated g z).operator_is
 
     module _ {labels after : Fault} (told : AfterTold s n section after) {c : Closing} {k : spec.Closing} (t : TellsClosing k c) (ls : List Item) (f : fault_of (places ls) ≡ labels) where
-      here : fault_of (places (ls ++ operator x)) ≡ lower labels (At h.op.at)
-      here = fault-places ls (operator x) labels (At h.op.at) f (ap fault_of operator-place ∙ sym (fault-one h.op.at)) refl
+      here : fault_of (places (ls ++ operator x)) ≡ lower labels (Some h.op.at)
+      here = fault-places ls (operator x) labels (Some h.op.at) f (ap fault_of operator-place ∙ sym (fault-one h.op.at)) refl
 
       -- by what was met and the keyword
       ways : (a b d e : Bool) → is_konp h.keyword ≡ b → is_kons h.keyword ≡ e
           → fault_of
           (cond a (places (ls ++ operator x))
           (cond b (places ls ++ one_name (bytes_equal name) (operator_at x) (rest x)) (cond d (places (ls ++ operator x)) (cond e (places (ls ++ rest x)) []))))
-          ≡ cond a (lower labels (At h.op.at)) (cond b (lower labels after) (cond d (lower labels (At h.op.at)) (cond e (lower labels after) Clear)))
+          ≡ cond a (lower labels (Some h.op.at)) (cond b (lower labels after) (cond d (lower labels (Some h.op.at)) (cond e (lower labels after) None)))
       ways true b d e u v = here
       ways false true d e u v =
           fault-next (places ls) (one_name (bytes_equal name) (operator_at x) (rest x)) labels after f (sym (told ∙ rw (konp-told g ∙ u) refl)) refl

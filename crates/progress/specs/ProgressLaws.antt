@@ -10,7 +10,7 @@ use Rattle.headings.specs.Below.DraftsMarks.{word_by}
 use Rattle.layout.specs.Bounds.{Each}
 use Rattle.layout.proofs.CellLaws.{each_append}
 use Rattle.lists.specs.Lists.{filled}
-use Rattle.statements.specs.declared.Fault.TheVariants.{Clear}
+use Rattle.std.specs.Prelude.{None}
 use Rattle.syntax.specs.Items.{Item, is}
 use Rattle.syntax.specs.Items.Sort.{word}
 use Rattle.syntax.specs.Statements.{is_operator, front, labels_in, operator}
@@ -24,8 +24,8 @@ pub begun : Begun (record {
   english = false;
   names = 0;
   waiting = 0;
-  closing = record { kons = false; konp = false; early = Clear; fault = Clear };
-  ended = Clear;
+  closing = record { kons = false; konp = false; early = None; fault = None };
+  ended = None;
 })
 unfolding word_by
 begun s lines ms c sw en room tabled =

@@ -19,7 +19,7 @@ use Rattle.lists.specs.Lists.{filled}
 use Rattle.progress.specs.Progress.{NamesKept, WaitingKept, EditionKept}
 use Rattle.progress.specs.declared.Progress.{Progress}
 use Rattle.statements.specs.StatementAt.{statement_at, stops, fault_of}
-use Rattle.statements.specs.declared.Fault.{Fault}
+use Rattle.statements.specs.Faults.{Fault}
 use Rattle.syntax.specs.Items.{Item}
 use Rattle.syntax.specs.Statements.{operator}
 use Rattle.syntax.specs.Tables.{Draft, all_labels, draft_after}

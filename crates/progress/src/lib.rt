@@ -35,6 +35,16 @@ pub struct Progress {
     pub ended: Fault,
 }
 
+impl Progress {
+    // The index of the first label that waits, among the marks of those that were met.
+    pub fn first_waiting(self) -> usize
+        requires { self.waiting ≤ self.names }
+        ensures { result ≡ self.names - self.waiting }
+    {
+        self.names - self.waiting
+    }
+}
+
 // Before the first statement.
 pub fn begin() -> Progress
     ensures { Begun result }
@@ -47,10 +57,10 @@ pub fn begin() -> Progress
         closing: Closing {
             kons: false,
             konp: false,
-            early: Fault::Clear,
-            fault: Fault::Clear,
+            early: None,
+            fault: None,
         },
-        ended: Fault::Clear,
+        ended: None,
     }
 }
 
@@ -77,16 +87,6 @@ pub fn renewed(p: Progress) -> Progress
     }
 }
 
-// The place `at`, where it is at fault.
-fn fault_if(t: bool, at: usize) -> Fault
-    ensures { result ≡ fault_of (cond t (at ∷ []) []) }
-{
-    if t {
-        return Fault::At(at);
-    }
-    Fault::Clear
-}
-
 // What of a statement is at fault; `labels` is the lowest place of its labels, `after` that of what follows KONS or KONP.
 fn closing_fault(head: Head, labels: Fault, after: Fault, c: Closing) -> Fault
     ensures { result ≡ fault_by head labels after c }
@@ -94,21 +94,21 @@ fn closing_fault(head: Head, labels: Fault, after: Fault, c: Closing) -> Fault
     let op = head.op;
     let keyword = head.keyword;
     if stops(op.sort) {
-        return Fault::Clear;
+        return None;
     }
     if c.konp {
-        return lower(labels, Fault::At(op.at));
+        return lower(labels, Some(op.at));
     }
     if is_konp(keyword) {
         return lower(labels, after);
     }
     if c.kons {
-        return lower(labels, Fault::At(op.at));
+        return lower(labels, Some(op.at));
     }
     if is_kons(keyword) {
         return lower(labels, after);
     }
-    Fault::Clear
+    None
 }
 
 fn closing_after(head: Head, labels: Fault, after: Fault, c: Closing) -> Closing
@@ -122,7 +122,7 @@ fn closing_after(head: Head, labels: Fault, after: Fault, c: Closing) -> Closing
     let konp = is_konp(keyword);
     let early = c.early;
     let fault = c.fault;
-    let now_early = fault_if(konp & !(c.konp | c.kons), op.at);
+    let now_early = (konp & !(c.konp | c.kons)).then_some(op.at);
     let now_fault = closing_fault(head, labels, after, c);
     Closing {
         kons: c.kons | is_kons(keyword),
@@ -157,16 +157,13 @@ fn waiting_after(sort: u8, from: usize, to: usize) -> usize
 fn ended_after(head: Head, ended: Fault) -> Fault
     ensures { ToldEnded head ended result }
 {
-    let keyword = head.keyword;
-    let number = instr_of(keyword);
-    if number == 0 {
+    let Some(number) = instr_of(head.keyword) else {
         return ended;
-    }
+    };
     if is_end(number) {
-        return Fault::Clear;
+        return None;
     }
-    let op = head.op;
-    Fault::At(op.at)
+    Some(head.op.at)
 }
 
 // After a statement without fault, of which the head is told; `section` is the mark of the section's name then, and `after` the place at fault of what
@@ -184,7 +181,7 @@ pub fn progress_after(
     let op = head.op;
     let closing = p.closing;
     let ended = p.ended;
-    let from = p.names - p.waiting;
+    let from = p.first_waiting();
     let to = head.names;
     let labels = lowest_mark(names, from, to);
     Progress {
@@ -205,7 +202,7 @@ fn order_fault(last: usize, c: Closing) -> Fault
         let early = c.early;
         return early;
     }
-    Fault::At(last)
+    Some(last)
 }
 
 // The lowest place at fault of a whole text with its last byte at `last` and so many instructions; `ended` is the place of a last
@@ -221,8 +218,8 @@ pub fn end_fault(
 {
     let fault = c.fault;
     let statements = lower(fault, order_fault(last, c));
-    let section = lower(statements, fault_if(!c.konp, last));
-    let code = lower(section, fault_if(instructions == 0, last));
+    let section = lower(statements, (!c.konp).then_some(last));
+    let code = lower(section, (instructions == 0).then_some(last));
     lower(lower(code, ended), waiting)
 }
 

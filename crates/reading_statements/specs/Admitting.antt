@@ -1,12 +1,11 @@
 -- A statement whose questions before 11 are answered yes comes to the tables.
-use Rattle.std.specs.Prelude.{◌≡◌, Bool, List, ℕ, drop}
+use Rattle.std.specs.Prelude.{◌≡◌, Bool, List, ℕ, drop, Ok, Err}
 use Rattle.declaring_switches.specs.declared.Declaration.{Declaration}
 use Rattle.language.specs.Limits as limit
 use Rattle.lexer.specs.declared.Token.{Token}
 use Rattle.statements.specs.Faults.{decided, verdict_of}
-use Rattle.statements.specs.declared.Fault.{Fault}
-use Rattle.statements.specs.declared.Verdict.{Verdict}
-use Rattle.statements.specs.declared.Verdict.TheVariants.{Yes, No}
+use Rattle.statements.specs.Faults.{Fault}
+use Rattle.statements.specs.Faults.{Verdict}
 use Rattle.declaring_switches.specs.Below.Listed.{Listed}
 
 -- the switch with the operator o, the mark of its name and the list that was read
@@ -15,8 +14,8 @@ declaration o named name l = record { at = o.at; list = o.next; named = named; n
 
 -- the verdict of the questions before 11, and that of all: where the first is yes, 11 has a fault of which F holds
 abbrev pub AskedLast : (Fault → Type 0) → Verdict → Verdict → Type 0
-AskedLast F Yes v = (f : Fault) × ((verdict_of v ≡ decided 11 f) × F f)
-AskedLast F (No number at) v = v ≡ No number at
+AskedLast F (Ok u) v = (f : Fault) × ((verdict_of v ≡ decided 11 f) × F f)
+AskedLast F (Err w) v = v ≡ Err w
 
 pub record Admits (F : Fault → Type 0) (u v : Verdict) (c c' : List ℕ) : Type 0 where
   pub asked : AskedLast F u v

@@ -5,12 +5,12 @@ use Rattle.judging.specs.Below.Names.{names_of, repeated_by, reserved_by}
 use Rattle.statements.specs.Checks.{worst}
 use Rattle.statements.specs.Faults.{verdict_of, decided, then}
 use Rattle.statements.specs.Groups.{item_questions, head_questions, name_questions}
-use Rattle.statements.specs.declared.Verdict as told
+use Rattle.statements.specs.Faults as told
 use Rattle.heads.specs.Heads.{Headed}
 use Rattle.heads.specs.declared.Head.{Head}
 use Rattle.progress.specs.declared.Progress.{Progress}
 use Rattle.statements.specs.StatementAt.{statement_at, fault_of}
-use Rattle.statements.specs.declared.Fault.{Fault}
+use Rattle.statements.specs.Faults.{Fault}
 use Rattle.syntax.specs.Items.{Item}
 use Rattle.syntax.specs.Questions.{first_faults, operator_faults}
 use Rattle.syntax.specs.Tables.{Draft, is_first}

@@ -1,5 +1,5 @@
 -- A statement that is neither an instruction nor a switch: SEKCJA, KONS, KONP, or labels alone.
-use Rattle.std.specs.Prelude.{Bool, false, cond, List, [], ◌≡◌, refl, ℕ, ◌≤◌, length}
+use Rattle.std.specs.Prelude.{Bool, false, cond, List, [], ◌≡◌, refl, ℕ, ◌≤◌, length, Ok, Err}
 use Rattle.std.proofs.Common.{sym, ap, ◌∙◌, subst}
 use Rattle.drafts.specs.Marks.{mark_of}
 use Rattle.progress.specs.Below.Headings.{Restable, Rests, FirstTold, FollowsTold}
@@ -16,10 +16,9 @@ use Rattle.statements.specs.FaultLaws.{then-yes}
 use Rattle.statements.specs.Faults.{verdict_of}
 use Rattle.statements.specs.Groups.{early_questions}
 use Rattle.statements.specs.StatementAt.{statement_at, fault_of, stops}
-use Rattle.statements.specs.declared.Fault.{Fault}
-use Rattle.statements.specs.declared.Fault.TheVariants.{Clear}
-use Rattle.statements.specs.declared.Verdict as told
-use Rattle.statements.specs.declared.Verdict.TheVariants.{Yes, No}
+use Rattle.statements.specs.Faults.{Fault}
+use Rattle.std.specs.Prelude.{None}
+use Rattle.statements.specs.Faults as told
 use Rattle.declaring_switches.specs.Below.SwitchLaws.{other}
 use Rattle.syntax.specs.Questions.{instr_beyond, switch_beyond}
 use Rattle.syntax.specs.Statements.{by_keyword, keyword_in}
@@ -38,9 +37,9 @@ pub restable : {s : List ℕ} {n : ℕ} {h : Head} → Headed s n h → length s
 restable k low = record { low = low; stands = k.stands; coded = known k }
 
 -- 11 has no fault
-none_last : (u : told.Verdict) → AskedLast (λ f. f ≡ Clear) u u
-none_last Yes = (Clear, (refl, refl))
-none_last (No number at) = refl
+none_last : (u : told.Verdict) → AskedLast (λ f. f ≡ None) u u
+none_last (Ok tt) = (None, (refl, refl))
+none_last (Err w) = refl
 
 module _ {s : List ℕ} {h : Head} (no_number : instr_of h.keyword ≡ 0) (no_switch : is_switch h.keyword ≡ false) {r : Rest} (o : Rests s h.op h.worst r) where
   pub whole-rest : {n : ℕ} → Headed s n h → r.worst ≡ worst (statement_at s n)
@@ -56,9 +55,9 @@ module _ {s : List ℕ} {h : Head} (no_number : instr_of h.keyword ≡ 0) (no_sw
         let i = k.judging.headed in
         early-told d (statement_at s n) (asked n d k.judging (whole-rest i) (λ e. first n h.worst i o)) (neither-asked i no_number no_switch) (sym (then-yes (verdict_of u)))
 
-    pub read_ending : {e : Ending} → EndingTold s h r g.section e → {y : Read} → Finishes g h e ms u y → ReadsEnding s g h ms (answers y r.next r.last)
+    pub read_ending : {e : Ending} → EndingTold s h r g.section e → {y : Read} → Finishes g h e ms u y → ReadsEnding s g h ms (answers y r.next)
     read_ending t z lines c sw en =
-        read_as {F = λ f. f ≡ Clear} {u = u} early
+        read_as {F = λ f. f ≡ None} {u = u} early
         (λ n d k b f q.
         let x = statement_at s n in
         let i = k.judging.headed in (

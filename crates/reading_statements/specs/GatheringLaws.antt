@@ -27,7 +27,7 @@ use Rattle.progress.specs.Advancing.{Advanceable}
 use Rattle.progress.specs.Progress.{NamesKept}
 use Rattle.progress.specs.declared.Progress.{Progress}
 use Rattle.statements.specs.StatementAt.{statements_at, statement_at, fault_of}
-use Rattle.statements.specs.declared.Fault.{Fault}
+use Rattle.statements.specs.Faults.{Fault}
 use Rattle.syntax.specs.Items.{Item, is, places}
 use Rattle.syntax.specs.Items.Sort.{word}
 use Rattle.syntax.specs.Questions.{label_faults, repeated}

@@ -1,5 +1,5 @@
 -- A statement with an instruction.
-use Rattle.std.specs.Prelude.{Bool, ◌≡◌, refl, ℕ, ◌+◌, ◌-◌, ◌≤◌, ◌<◌, drop, length, get_or}
+use Rattle.std.specs.Prelude.{Bool, ◌≡◌, refl, ℕ, ◌+◌, ◌-◌, ◌≤◌, ◌<◌, drop, length, get_or, Ok}
 use mathlib.Core.List.{List, []}
 use Rattle.std.proofs.Common.{sym, ◌∙◌, arith, length-take, get_or-take, get_or-drop}
 use Rattle.std.proofs.Math.Path.{ap, subst}
@@ -28,10 +28,9 @@ use Rattle.statements.specs.Checks.{worst}
 use Rattle.statements.specs.Faults.{decided, then, verdict_of}
 use Rattle.statements.specs.Groups.{early_questions}
 use Rattle.statements.specs.StatementAt.{statement_at, fault_of}
-use Rattle.statements.specs.declared.Fault.{Fault}
-use Rattle.statements.specs.declared.Fault.TheVariants.{At, Clear}
-use Rattle.statements.specs.declared.Verdict as told
-use Rattle.statements.specs.declared.Verdict.TheVariants.{Yes}
+use Rattle.statements.specs.Faults.{Fault}
+use Rattle.std.specs.Prelude.{Some, None}
+use Rattle.statements.specs.Faults as told
 use Rattle.declaring_switches.specs.Below.SwitchLaws.{of-instr}
 use Rattle.declaring_switches.specs.Below.SwitchListsSwitches.{argument_question}
 use Rattle.syntax.specs.ArgumentForms.{arguments_in, arguments, most}
@@ -116,7 +115,7 @@ module _ {s lines : List ℕ} {n : ℕ} {d : Draft} {g : Progress} {h : Head} {m
 
     -- 11, and the tables after it
     pub instr-last : (f : Fault) {c' : List ℕ} → DeclaresValues s (valued line) (marks_in ms (from g) h.names) c f c'
-        → (f ≡ fault_of (table_faults d items)) × (f ≡ Clear → Tabled s lines (tables_after d.tables (all_labels d items) items) c' sw en)
+        → (f ≡ fault_of (table_faults d items)) × (f ≡ None → Tabled s lines (tables_after d.tables (all_labels d items) items) c' sw en)
     instr-last f {c'} all = (told-last, λ e. rw q (instr-tabled lines t own.op (valued line) here (labelled r early) (sym own.has) refl line_is u r.tabled (rw q at (tables-here r early told-last e)) (spelt-rest r early) e))
       where
         t : Tables
@@ -152,20 +151,20 @@ module _ {s : List ℕ} {h : Head} {number : ℕ} (number_is : number ≡ instr_
 
   -- v is the verdict of all questions before 11, where u is that of the questions of the head
   module _ {a : Arguments} (o : ReadsArguments s h.op number h.worst a) {lines : List ℕ} {g : Progress} {ms c : List ℕ} (u v : told.Verdict)
-      (asked : HeadAsked s a.worst g h ms (At h.first) u) (all : verdict_of v ≡ then (verdict_of u) (then (decided 1 a.over) (decided 2 a.fault)))
+      (asked : HeadAsked s a.worst g h ms (Some h.first) u) (all : verdict_of v ≡ then (verdict_of u) (then (decided 1 a.over) (decided 2 a.fault)))
       {line : ℕ} (l : line ≡ line_at lines h.op.at) where
     early-instr : {sw en : List ℕ} (n : ℕ) (d : Draft) → Reading s lines n d g h ms c sw en → first_no (early_questions d (statement_at s n)) ≡ verdict_of v
     early-instr n d r =
         let k = r.judging.headed in
         early-told d (statement_at s n) (asked n d r.judging (whole-instr k o) (λ e. zero-here k (instr-acts k number_is some))) (instr-asked k number_is some o) all
 
-    pub declarable : {sw en : List ℕ} {n : ℕ} {d : Draft} → Reading s lines n d g h ms c sw en → v ≡ Yes
+    pub declarable : {sw en : List ℕ} {n : ℕ} {d : Draft} → Reading s lines n d g h ms c sw en → v ≡ Ok tt
         → Declarable s (record { number = number; at = h.op.at; line = line; values = a.values }) (marks_in ms (from g) h.names) c
     declarable {n = n} {d = d} r e = instr-declarable r (answered _ (early-instr n d r ∙ ap verdict_of e)) number_is some o l
 
     pub read-instr : (w : told.Verdict) {c' : List ℕ}
         → Admits (λ f. DeclaresValues s (record { number = number; at = h.op.at; line = line; values = a.values }) (marks_in ms (from g) h.names) c f c') v w c c'
-        → {y : Read} → Finishes g h (record { section = g.section; after = Clear }) ms w y → ReadsInstr s lines g h ms c (answers y a.next a.last) c'
+        → {y : Read} → Finishes g h (record { section = g.section; after = None }) ms w y → ReadsInstr s lines g h ms c (answers y a.next) c'
     read-instr w t z sw en =
         read_as early-instr (λ n d r b f. instr-last r b number_is some o l f) (λ n d r b. acting r b (instr-acts r.judging.headed number_is some))
         (λ n k. ends-behind k (there k (instr-acts k number_is some)) o.ends) w t z

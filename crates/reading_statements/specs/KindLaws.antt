@@ -11,12 +11,13 @@ use Rattle.statements.specs.Groups.{argument_questions}
 use Rattle.progress.specs.Below.HeadingLaws.{rest-follows, first-in_front, first-wrong}
 use Rattle.progress.specs.Below.Headings.{is_kons, is_konp, follows}
 use Rattle.heads.specs.HeadLaws.{no-keyword}
-use Rattle.heads.specs.Heads.{by_kind, instr_of, is_switch, is_by_name, opens, Headed}
+use Rattle.heads.specs.Heads.{EndedBy, by_kind, instr_of, is_switch, is_by_name, opens, Headed}
 use Rattle.heads.specs.declared.Head.{Head}
 use Rattle.statements.proofs.Ends.{still-within, ends-then}
-use Rattle.statements.specs.StatementAt.{statement_at, stops, fault_of, Ended}
-use Rattle.statements.specs.declared.Fault.{Fault}
-use Rattle.statements.specs.declared.Fault.TheVariants.{At}
+use Rattle.statements.specs.StatementAt.{statement_at, stops, fault_of}
+use Rattle.heads.specs.HeadLaws.{ended-on}
+use Rattle.statements.specs.Faults.{Fault}
+use Rattle.std.specs.Prelude.{Option, Some}
 use Rattle.declaring_switches.specs.Below.SwitchLaws.{choice, of-instr, of-switch, of-neither}
 use Rattle.declaring_switches.specs.Below.SwitchListsSwitches.{switch_after, argument_question}
 use Rattle.syntax.specs.Items.{Item}
@@ -58,8 +59,8 @@ module _ {s : List ℕ} {n : ℕ} {h : Head} (g : Headed s n h) where
       let c : h.worst ≡ min (worst (front x)) (worst (operator x)) = g.worst_is ∙ worst-append (front x) (operator x) in
       omega (arith, first_rest (behind x), ap worst (rest-follows g))
 
-  pub ends-behind : stops h.op.sort ≡ false → {next : ℕ} {last : Bool} → Ended s h.op.next next last → Ended s n next last
-  ends-behind z e = ends-then (still-within g.within g.token z) e
+  pub ends-behind : stops h.op.sort ≡ false → {r : Option ℕ} → EndedBy s h.op.next r → EndedBy s n r
+  ends-behind z e = ended-on (λ k b. ends-then (still-within g.within g.token z)) e
 
 -- ---- an instruction or a switch
 
@@ -90,11 +91,11 @@ module _ {s : List ℕ} {n : ℕ} {h : Head} (g : Headed s n h) (a : acts h.keyw
   whole e = worst-whole g (e ∙ ap (λ (b : Bool). min h.worst (worst (cond b [] (statement_at s h.op.next)))) (sym there))
 
   -- 00: it is no SEKCJA
-  pub zero-here : At h.first ≡ fault_of (first_faults (statement_at s n))
+  pub zero-here : Some h.first ≡ fault_of (first_faults (statement_at s n))
   zero-here = go (eqb h.first h.op.at) refl
     where
-      go : (b : Bool) → eqb h.first h.op.at ≡ b → At h.first ≡ fault_of (first_faults (statement_at s n))
-      go true e = let q = eqb-true h.first h.op.at e in ap At q ∙ first-wrong g q there (acts-alone h.keyword a).0
+      go : (b : Bool) → eqb h.first h.op.at ≡ b → Some h.first ≡ fault_of (first_faults (statement_at s n))
+      go true e = let q = eqb-true h.first h.op.at e in ap Some q ∙ first-wrong g q there (acts-alone h.keyword a).0
       go false e = first-in_front g (λ q. true≢false (sym (eq-eqb h.first h.op.at q) ∙ e))
 
 -- ---- 01 and 02

@@ -1,5 +1,5 @@
 -- A statement is read, whatever its kind: its verdict, and the draft after it.
-use Rattle.std.specs.Prelude.{◌≡◌, refl, Bool, true, cond, List, [], ℕ, length}
+use Rattle.std.specs.Prelude.{◌≡◌, refl, Bool, true, cond, List, [], ℕ, length, Ok, Err}
 use Rattle.std.proofs.Common.{sym, ap, ◌∙◌, subst, arith, eq-eqb}
 use Rattle.acceptance.proofs.DraftLaws.{draft-sound}
 use Rattle.acceptance.specs.Drafts.{FineItem, SoundTables, SoundName}
@@ -23,11 +23,11 @@ use Rattle.progress.specs.declared.Progress.{Progress}
 use Rattle.statements.specs.FaultLaws.{no-fault}
 use Rattle.statements.specs.Faults.{decided, verdict_of}
 use Rattle.statements.specs.Groups.{item_questions, early_questions, table_questions}
-use Rattle.statements.specs.StatementAt.{statement_at, fault_of, Ended}
-use Rattle.statements.specs.declared.Fault.{Fault}
-use Rattle.statements.specs.declared.Fault.TheVariants.{Clear, At}
-use Rattle.statements.specs.declared.Verdict as told
-use Rattle.statements.specs.declared.Verdict.TheVariants.{Yes, No}
+use Rattle.statements.specs.StatementAt.{statement_at, fault_of}
+use Rattle.heads.specs.Heads.{EndedBy}
+use Rattle.statements.specs.Faults.{Fault}
+use Rattle.std.specs.Prelude.{Option, None, Some}
+use Rattle.statements.specs.Faults as told
 use Rattle.syntax.specs.Items.{Item, is}
 use Rattle.syntax.specs.Items.Sort.{word}
 use Rattle.syntax.specs.Questions.{first_faults, questions}
@@ -44,9 +44,9 @@ use Rattle.reading_statements.specs.ReadingStatements.{Read, Reading, Reads, Fin
 use Rattle.reading_statements.specs.declared.Answer.{Answer}
 use Rattle.reading_statements.specs.declared.Ending.{Ending}
 
-clear-by : (number : ℕ) (f : Fault) → decided number f ≡ yes → f ≡ Clear
-clear-by number Clear e = refl
-clear-by number (At p) e = absurd (let y : ◌≡◌ {A = ℕ} 0 1 = cc in omega arith)
+clear-by : (number : ℕ) (f : Fault) → decided number f ≡ yes → f ≡ None
+clear-by number None e = refl
+clear-by number (Some p) e = absurd (let y : ◌≡◌ {A = ℕ} 0 1 = cc in omega arith)
 
 -- ---- one statement
 
@@ -59,7 +59,7 @@ module _ {s lines : List ℕ} {n : ℕ} {d : Draft} {g : Progress} {h : Head} {m
     plain = (early.0, (early.1.0, (early.1.1.0, tt)))
 
     -- an instruction or a switch is not the first statement, and leaves the section and its end as they are
-    pub acting : acts h.keyword ≡ true → SectionTold s n g.section g.section × AfterTold s n g.section Clear
+    pub acting : acts h.keyword ≡ true → SectionTold s n g.section g.section × AfterTold s n g.section None
     acting a =
         let o = acts-alone h.keyword a in
         (section-before s n later, after-other r.judging.headed g.section o.1.0 o.1.1)
@@ -68,7 +68,7 @@ module _ {s lines : List ℕ} {n : ℕ} {d : Draft} {g : Progress} {h : Head} {m
         later e =
             let t : is_first d ≡ true = r.judging.tells.section.first_is ∙ eq-eqb g.section 0 e in
             let q : first_faults x ≡ [] = sym (ap (λ (b : Bool). cond b (first_faults x) []) t) ∙ early.1.1.1.0 in
-            let z : At h.first ≡ Clear = zero-here r.judging.headed a ∙ ap fault_of q in
+            let z : Some h.first ≡ None = zero-here r.judging.headed a ∙ ap fault_of q in
             let y : ◌≡◌ {A = ℕ} 0 1 = cc in
             omega arith
 
@@ -101,7 +101,7 @@ module _ {s lines : List ℕ} {n : ℕ} {d : Draft} {g : Progress} {h : Head} {m
         }
 
     -- the tables after the statement, where 11 is answered yes too
-    pub tables-here : {f : Fault} → f ≡ fault_of (table_faults d x) → f ≡ Clear → SoundTables (length s) (tables_after d.tables ls x)
+    pub tables-here : {f : Fault} → f ≡ fault_of (table_faults d x) → f ≡ None → SoundTables (length s) (tables_after d.tables ls x)
     unfolding questions draft_after
     tables-here e z = (draft-sound (length s) d x r.sound (statement-sound s n r.judging.inside)
         (each_append (λ q. q.faults ≡ []) (early_questions d x) (table_questions d x) early (no-fault (table_faults d x) (sym e ∙ z), tt))).tables
@@ -143,41 +143,41 @@ module _ {s lines : List ℕ} {n : ℕ} {d : Draft} {g : Progress} {h : Head} {m
 
 -- ---- whatever statement it is
 
-abbrev pub answers : Read → ℕ → Bool → Answer
-answers u next last = record { read = u; next = next; last = last }
+abbrev pub answers : Read → Option ℕ → Answer
+answers u next = record { read = u; next = next }
 
 -- u is the verdict of the questions before 11, of whose fault F holds; e is what the statement says of the section
 module _ {s lines : List ℕ} {g : Progress} {h : Head} {ms c sw en c' sw' en' : List ℕ} {e : Ending} {F : Fault → Type 0} {u : told.Verdict}
     (early : (n : ℕ) (d : Draft) → Reading s lines n d g h ms c sw en → first_no (early_questions d (statement_at s n)) ≡ verdict_of u)
     (last_is : (n : ℕ) (d : Draft) → Reading s lines n d g h ms c sw en → Answered (early_questions d (statement_at s n)) → (f : Fault) → F f
-    → (f ≡ fault_of (table_faults d (statement_at s n))) × (f ≡ Clear → Tabled s lines (tables_after d.tables (all_labels d (statement_at s n)) (statement_at s n)) c' sw' en'))
+    → (f ≡ fault_of (table_faults d (statement_at s n))) × (f ≡ None → Tabled s lines (tables_after d.tables (all_labels d (statement_at s n)) (statement_at s n)) c' sw' en'))
     (says : (n : ℕ) (d : Draft) → Reading s lines n d g h ms c sw en → Answered (early_questions d (statement_at s n))
     → SectionTold s n g.section e.section × AfterTold s n g.section e.after)
-    {next : ℕ} {last : Bool} (ends : (n : ℕ) → Headed s n h → Ended s n next last) where
+    {next : Option ℕ} (ends : (n : ℕ) → Headed s n h → EndedBy s n next) where
   module _ {n : ℕ} {d : Draft} (r : Reading s lines n d g h ms c sw en) where
     all-verdict : (w : told.Verdict) → u ≡ w → (v : told.Verdict) → AskedLast F w v → verdict_of v ≡ first_no (questions d (statement_at s n))
-    all-verdict Yes q v (f, (i, k)) =
+    all-verdict (Ok tt) q v (f, (i, k)) =
         let z = early n d r ∙ ap verdict_of q in
         i ∙ ap (decided 11) (last_is n d r (answered _ z) f k).0 ∙ sym (all_told d (statement_at s n) z)
-    all-verdict (No number at) q v i = ap verdict_of i ∙ sym (all_told d (statement_at s n) (early n d r ∙ ap verdict_of q))
+    all-verdict (Err w) q v i = ap verdict_of i ∙ sym (all_told d (statement_at s n) (early n d r ∙ ap verdict_of q))
 
-    tabled-then : (w : told.Verdict) → u ≡ w → AskedLast F w Yes → Tabled s lines (tables_after d.tables (all_labels d (statement_at s n)) (statement_at s n)) c' sw' en'
-    tabled-then Yes q (f, (i, k)) = (last_is n d r (answered _ (early n d r ∙ ap verdict_of q)) f k).1 (clear-by 11 f (sym i))
-    tabled-then (No number at) q i = absurd (let y : ◌≡◌ {A = ℕ} 0 1 = cc in omega arith)
+    tabled-then : (w : told.Verdict) → u ≡ w → AskedLast F w (Ok tt) → Tabled s lines (tables_after d.tables (all_labels d (statement_at s n)) (statement_at s n)) c' sw' en'
+    tabled-then (Ok tt) q (f, (i, k)) = (last_is n d r (answered _ (early n d r ∙ ap verdict_of q)) f k).1 (clear-by 11 f (sym i))
+    tabled-then (Err w) q i = absurd (let y : ◌≡◌ {A = ℕ} 0 1 = cc in omega arith)
 
-  pub read_as : (v : told.Verdict) → Admits F u v c c' → {y : Read} → Finishes g h e ms v y → Reads s lines g h ms c sw en (answers y next last) c' sw' en'
-  read_as (No number at) t z =
+  pub read_as : (v : told.Verdict) → Admits F u v c c' → {y : Read} → Finishes g h e ms v y → Reads s lines g h ms c sw en (answers y next) c' sw' en'
+  read_as (Err w) t z =
       record {
-        told = λ n d r. ap read_verdict z ∙ all-verdict r u refl (No number at) t.asked;
+        told = λ n d r. ap read_verdict z ∙ all-verdict r u refl (Err w) t.asked;
         after = λ n d r g' o. absurd (let y : ◌≡◌ {A = ℕ} 0 1 = cc in omega arith);
         ends = ends;
         beyond = t.beyond;
       }
-  read_as Yes t (q, (z, m)) =
+  read_as (Ok tt) t (q, (z, m)) =
       record {
-        told = λ n d r. ap read_verdict z ∙ all-verdict r u refl Yes t.asked;
+        told = λ n d r. ap read_verdict z ∙ all-verdict r u refl (Ok tt) t.asked;
         after = λ n d r g' o.
-            let all = answered (questions d (statement_at s n)) (sym (all-verdict r u refl Yes t.asked)) in
+            let all = answered (questions d (statement_at s n)) (sym (all-verdict r u refl (Ok tt) t.asked)) in
             let i : q ≡ g' = cc in
             subst (λ (p : Progress). Drafted s lines (draft_after d (statement_at s n)) p ms c' sw' en') i
             (drafted-then r all m (says n d r (before r all)) (tabled-then r u refl t.asked));

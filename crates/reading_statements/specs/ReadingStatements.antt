@@ -4,15 +4,15 @@ use Rattle.acceptance.specs.Drafts.{SoundDraft}
 use Rattle.drafts.specs.Tabled.{Tabled}
 use Rattle.progress.specs.Below.Headings.{Rests, Nameable, AfterTold}
 use Rattle.progress.specs.Below.Rest.{Rest}
-use Rattle.heads.specs.Heads.{Headed, instr_of, is_switch}
+use Rattle.heads.specs.Heads.{EndedBy, Headed, instr_of, is_switch}
 use Rattle.heads.specs.declared.Head.{Head}
 use Rattle.language.specs.Limits as limit
 use Rattle.layout.specs.Bounds.{Each}
 use Rattle.progress.specs.Advancing.{SectionTold, Progresses}
 use Rattle.progress.specs.Progress.{Drafted, Before}
 use Rattle.progress.specs.declared.Progress.{Progress}
-use Rattle.statements.specs.StatementAt.{statement_at, Ended}
-use Rattle.statements.specs.declared.Verdict as told
+use Rattle.statements.specs.StatementAt.{statement_at}
+use Rattle.statements.specs.Faults as told
 use Rattle.syntax.specs.Load.{Lined}
 use Rattle.syntax.specs.Questions.{questions}
 use Rattle.syntax.specs.Tables.{Draft, draft_after}
@@ -21,7 +21,7 @@ use Rattle.syntax.specs.Verdict.Verdict.{yes, refuse}
 use Rattle.reading_statements.specs.Judging.{Judging}
 use Rattle.reading_statements.specs.declared.Answer.{Answer}
 use Rattle.reading_statements.specs.declared.Ending.{Ending}
-use Rattle.reading_statements.specs.declared.Refusal.{Refusal}
+use Rattle.statements.specs.declared.Refusal.{Refusal}
 
 -- d is the draft of all before the statement at n of the text s, whose bytes have the lines `lines`
 pub record Standing (s lines : List ℕ) (n : ℕ) (d : Draft) (g : Progress) (ms c sw en : List ℕ) : Type 0 where
@@ -51,7 +51,7 @@ pub record Reads (s lines : List ℕ) (g : Progress) (h : Head) (ms c sw en : Li
   pub told : (n : ℕ) (d : Draft) → Reading s lines n d g h ms c sw en → read_verdict r.read ≡ first_no (questions d (statement_at s n))
   pub after : (n : ℕ) (d : Draft) → Reading s lines n d g h ms c sw en → (g' : Progress) → r.read ≡ Ok g'
       → Drafted s lines (draft_after d (statement_at s n)) g' ms c' sw' en'
-  pub ends : (n : ℕ) → Headed s n h → Ended s n r.next r.last
+  pub ends : (n : ℕ) → Headed s n h → EndedBy s n r.next
   pub beyond : drop limit.table c' ≡ drop limit.table c
 
 -- some statement is read
@@ -100,14 +100,14 @@ pub record Readable (s lines : List ℕ) (n : ℕ) (g : Progress) (ms c sw en : 
 pub record ReadsStatement (s lines : List ℕ) (n : ℕ) (g : Progress) (ms c sw en : List ℕ) (r : Answer) (ms' c' sw' en' : List ℕ) : Type 0 where
   pub told : (d : Draft) → Standing s lines n d g ms c sw en → read_verdict r.read ≡ first_no (questions d (statement_at s n))
   pub after : (d : Draft) → Standing s lines n d g ms c sw en → (g' : Progress) → r.read ≡ Ok g' → Drafted s lines (draft_after d (statement_at s n)) g' ms' c' sw' en'
-  pub ends : Ended s n r.next r.last
+  pub ends : EndedBy s n r.next
   pub beyond : drop limit.table c' ≡ drop limit.table c
 
 -- ---- after all questions, whose verdict is v
 
 abbrev pub Finishes : Progress → Head → Ending → List ℕ → told.Verdict → Read → Type 0
-Finishes g h e ms told.Verdict.Yes r = (q : Progress) × ((r ≡ Ok q) × Progresses g h e.section e.after ms q)
-Finishes g h e ms (told.Verdict.No number at) r = r ≡ Err (record { number = number; at = at })
+Finishes g h e ms (Ok u) r = (q : Progress) × ((r ≡ Ok q) × Progresses g h e.section e.after ms q)
+Finishes g h e ms (Err f) r = r ≡ Err f
 
 -- ---- what a statement that is neither says
 

@@ -14,6 +14,10 @@ use Rattle.progress.specs.AdvancingLaws.{empty-draft}
 use Rattle.progress.specs.Progress.{TellsDraft, Drafted}
 use Rattle.progress.specs.declared.Progress.{Progress}
 use Rattle.statements.proofs.Ends.{ends-here}
+use Rattle.heads.specs.Heads.{following, instr_by}
+use Rattle.declaring_switches.specs.Below.CountLaws.{above}
+use Rattle.std.specs.Prelude.{Option, Some}
+use Rattle.heads.specs.HeadLaws.{ended-by}
 use Rattle.statements.specs.StatementAt.{statement_at, stops}
 use Rattle.syntax.specs.Items.{Item}
 use Rattle.syntax.specs.Questions.{first_faults, operator_faults, label_faults, repeated, count_faults, questions}
@@ -122,6 +126,9 @@ module _ {s lines : List ℕ} {n : ℕ} {d : Draft} {g : Progress} {h : Head} {m
   k : Headed s n h
   k = (head-here r.inside o).0
 
+  pub number-above : {m : ℕ} → Some m ≡ instr_by h.keyword → m ≡ 0 → ⊥
+  number-above e = above (keyword_in (statement_at s n)) (e ∙ ap instr_by k.keyword)
+
   pub reads_here : {a : Answer} {c' sw' en' : List ℕ} → Reads s lines g h ms' c sw en a c' sw' en' → ReadsStatement s lines n g ms c sw en a ms' c' sw' en'
   reads_here t =
       record {
@@ -133,8 +140,8 @@ module _ {s lines : List ℕ} {n : ℕ} {d : Draft} {g : Progress} {h : Head} {m
 
   -- an empty statement
   module _ (e : (stops h.op.sort && eqb h.first h.op.at) ≡ true) where
-    pub reads-empty : ReadsStatement s lines n g ms c sw en (answers (Ok g) h.op.next (eqb h.op.sort 0)) ms' c sw en
-    reads-empty =
+    pub reads-empty : {y : Option ℕ} → y ≡ following h.op → ReadsStatement s lines n g ms c sw en (answers (Ok g) y) ms' c sw en
+    reads-empty p =
         record {
           told = λ d r. sym (ap (λ (js : List Item). first_no (questions d js)) (x-empty k e) ∙ empty-yes d (is_first d) refl);
           after = λ d r g' q.
@@ -142,6 +149,6 @@ module _ {s lines : List ℕ} {n : ℕ} {d : Draft} {g : Progress} {h : Head} {m
               subst (λ (y : Progress). Drafted s lines (draft_after d (statement_at s n)) y ms' c sw en) i
               (subst (λ (y : Draft). Drafted s lines y g ms' c sw en) (sym (ap (draft_after d) (x-empty k e) ∙ empty-draft d r.drafted.tells.edition))
               (record { sound = r.drafted.sound; tabled = r.drafted.tabled; tells = (reading-here r o).judging.tells }));
-          ends = ends-here k.within k.token (at_end k e);
+          ends = ended-by h.op (ends-here k.within k.token (at_end k e)) p;
           beyond = refl;
         }

@@ -1,5 +1,5 @@
 -- A statement with a switch.
-use Rattle.std.specs.Prelude.{Bool, false, true, ◌&&◌, ◌≡◌, refl, ℕ, ◌+◌, ◌-◌, ◌<◌, ◌≤◌, drop, length, get_or}
+use Rattle.std.specs.Prelude.{Bool, false, true, ◌&&◌, ◌≡◌, refl, ℕ, ◌+◌, ◌-◌, ◌<◌, ◌≤◌, drop, length, get_or, Ok}
 use Rattle.std.proofs.Math.Bool.{cond}
 use mathlib.Core.List.{List, [], ◌∷◌, ◌++◌, map}
 use Rattle.std.proofs.Common.{sym, ◌∙◌, subst, arith, length-take, get_or-take, get_or-drop}
@@ -39,10 +39,9 @@ use Rattle.statements.specs.FaultLaws.{no-fault}
 use Rattle.statements.specs.Faults.{decided, then, verdict_of}
 use Rattle.statements.specs.Groups.{early_questions}
 use Rattle.statements.specs.StatementAt.{statement_at, fault_of, stops}
-use Rattle.statements.specs.declared.Fault.{Fault}
-use Rattle.statements.specs.declared.Fault.TheVariants.{At, Clear}
-use Rattle.statements.specs.declared.Verdict as told
-use Rattle.statements.specs.declared.Verdict.TheVariants.{Yes}
+use Rattle.statements.specs.Faults.{Fault}
+use Rattle.std.specs.Prelude.{Some, None}
+use Rattle.statements.specs.Faults as told
 use Rattle.declaring_switches.specs.Below.SwitchListsSwitches.{ReadsList, Listable}
 use Rattle.declaring_switches.specs.Below.Listed.{Listed}
 use Rattle.syntax.specs.Items.{Item, is, places}
@@ -170,14 +169,14 @@ module _ {s lines : List ℕ} {n : ℕ} {d : Draft} {g : Progress} {h : Head} {m
         switch-told lines t named ls here u r.tabled.holds
         ∙ ap fault_of (sym (by-own (λ op. instr_beyond t ls x) (λ b. switch_beyond t x) []))
 
-    over-clear : f ≡ Clear → l.over ≡ Clear
+    over-clear : f ≡ None → l.over ≡ None
     over-clear e =
         let p : Program = draft_program lines t in
         let ws : List ℕ = places (keep (is word) (statement_at s h.op.next)) in
         list.over_is ∙ ap (λ (k : ℕ). fault_of (beyond limit.entries k ws)) (entry_count c p r.tabled.holds)
         ∙ ap fault_of (entries_fit s h.op.at h.op.next p (no-fault (switch_excess s h.op.at h.op.next p) (sym (u.told p r.tabled.holds) ∙ e)))
 
-    pub switch-last : (f ≡ fault_of (table_faults d x)) × (f ≡ Clear → Tabled s lines (tables_after t ls x) c' sw' en')
+    pub switch-last : (f ≡ fault_of (table_faults d x)) × (f ≡ None → Tabled s lines (tables_after t ls x) c' sw' en')
     switch-last = (
       told-last,
       λ e.
@@ -204,7 +203,7 @@ module _ {s : List ℕ} {h : Head} (some : is_switch h.keyword ≡ true) {named 
     pub whole-list : {n : ℕ} → Headed s n h → l.worst ≡ worst (statement_at s n)
     whole-list k = whole k (switch-acts k some named-is) list.worst_is
 
-    module _ {lines : List ℕ} {g : Progress} {ms c sw : List ℕ} (u v : told.Verdict) (asked : HeadAsked s l.worst g h ms (At h.first) u)
+    module _ {lines : List ℕ} {g : Progress} {ms c sw : List ℕ} (u v : told.Verdict) (asked : HeadAsked s l.worst g h ms (Some h.first) u)
         (all : verdict_of v ≡ then (verdict_of u) (decided 2 l.fault)) (held-is : held ≡ cell (table_of c) 3)
         {b : Declaration} (b_is : b ≡ declaration h.op named (get_or ms (from g) 0) l) where
       early-switch : (n : ℕ) (d : Draft) → Reading s lines n d g h ms c sw en → first_no (early_questions d (statement_at s n)) ≡ verdict_of v
@@ -212,13 +211,13 @@ module _ {s : List ℕ} {h : Head} (some : is_switch h.keyword ≡ true) {named 
           let k = r.judging.headed in
           early-told d (statement_at s n) (asked n d r.judging (whole-list k) (λ e. zero-here k (switch-acts k some named-is))) (switch-asked k some named-is list.fault_is) all
 
-      pub declarable-switch : {n : ℕ} {d : Draft} → Reading s lines n d g h ms c sw en → length tx' ≡ limit.entries → v ≡ Yes → DeclarableSwitch s b c sw tx'
+      pub declarable-switch : {n : ℕ} {d : Draft} → Reading s lines n d g h ms c sw en → length tx' ≡ limit.entries → v ≡ Ok tt → DeclarableSwitch s b c sw tx'
       declarable-switch {n} {d} r room e =
           subst (λ (y : Declaration). DeclarableSwitch s y c sw tx') (sym b_is)
           (switch-declarable r (answered _ (early-switch n d r ∙ ap verdict_of e)) some named-is (rw held-is at list) room)
 
       pub read-switch : (w : told.Verdict) {c' sw' : List ℕ} → Admits (λ f. DeclaresSwitch s b c sw f c' sw') v w c c' → length en' ≡ length en
-          → {y : Read} → Finishes g h (record { section = g.section; after = Clear }) ms w y → Reads s lines g h ms c sw en (answers y l.next l.last) c' sw' en'
+          → {y : Read} → Finishes g h (record { section = g.section; after = None }) ms w y → Reads s lines g h ms c sw en (answers y l.next) c' sw' en'
       read-switch w {c'} {sw'} t size z =
           read_as early-switch
           (λ n d r q f u. switch-last r q some named-is (rw held-is at list) f (subst (λ (y : Declaration). DeclaresSwitch s y c sw f c' sw') b_is u) size)

@@ -4,7 +4,7 @@
 ghost use Rattle.std.specs.Prelude.{◌≡◌, ◌&&◌, eqb};
 ghost use Rattle.statements.specs.Faults.{verdict_of};
 ghost use Rattle.statements.specs.StatementAt.{stops};
-ghost use Rattle.statements.specs.declared.Verdict.TheVariants.{Yes};
+ghost use Rattle.std.specs.Prelude.{Ok};
 ghost use Rattle.declaring_switches.specs.Below.Declaring.{Declarable, DeclaresValues};
 ghost use Rattle.declaring_switches.specs.Switches.{DeclarableSwitch, DeclaresSwitch};
 ghost use Rattle.judging.specs.Below.Names.{Repeatable};
@@ -17,29 +17,20 @@ use declaring_switches::from_arguments::read_arguments;
 use declaring_switches::from_declaring::{Instruction, declare_instruction};
 use declaring_switches::from_switch_lists::{Listed, read_list};
 use declaring_switches::{Declaration, declare_switch};
-use heads::{Head, instr_of, is_by_name, is_switch, read_head};
+use heads::{Head, following, instr_of, is_by_name, is_switch, read_head};
 use judging::from_names::{first_repeated, first_reserved};
 use judging::{label_fault, operator_fault};
 use language::Machine;
 use lexer::{Token, line_at};
 use progress::from_headings::{Rest, after_fault, read_rest, section_fault, section_mark};
 use progress::{Progress, progress_after};
-use scanner::NOTHING;
-use statements::{Fault, Verdict, checked, decide, first_of, stops};
-
-// The number of the first question answered no, and its place.
-#[derive(Clone, Copy)]
-pub struct Refusal {
-    pub number: u8,
-    pub at: usize,
-}
+use statements::{Fault, Refusal, Verdict, checked, decide, first_of, stops};
 
 // What is known after a statement, or its refusal; and where the next statement begins, unless it is the last.
 #[derive(Clone, Copy)]
 pub struct Answer {
     pub read: Result<Progress, Refusal>,
-    pub next: usize,
-    pub last: bool,
+    pub next: Option<usize>,
 }
 
 // What a statement without an instruction or a switch says: the mark of the section's name from then on, and the place at fault behind KONS or KONP.
@@ -81,15 +72,11 @@ fn ask_head(
     requires { HeadAskable text.now worst p head names.now }
     ensures { HeadAsked text.now worst p head names.now zero result }
 {
-    match checked(worst) {
-        Verdict::No(number, at) => Verdict::No(number, at),
-        Verdict::Yes => {
-            let operator = ask_operator(head, p.section == 0, p.english, zero);
-            let labels = decide(8, label_fault(head, names, p.names - p.waiting));
-            let named = ask_names(text, names, p.names, head.names);
-            first_of(operator, first_of(labels, named))
-        }
-    }
+    checked(worst)?;
+    let operator = ask_operator(head, p.section == 0, p.english, zero);
+    let labels = decide(8, label_fault(head, names, p.first_waiting()));
+    let named = ask_names(text, names, p.names, head.names);
+    first_of(operator, first_of(labels, named))
 }
 
 // The verdict with question 11, where `asked` is that of those before: an instruction with its labels comes to the table.
@@ -100,10 +87,10 @@ fn admit_instruction(
     labels: &[u32],
     table: &mut [u32],
 ) -> Verdict
-    requires { asked ≡ Yes → Declarable text.now i labels.now table.old }
+    requires { asked ≡ Ok tt → Declarable text.now i labels.now table.old }
     ensures { Admits (λ f. DeclaresValues text.now i labels.now table.old f table.new) asked result table.old table.new }
 {
-    let Verdict::Yes = asked else {
+    let Ok(()) = asked else {
         return asked;
     };
     decide(11, declare_instruction(text, i, labels, table))
@@ -118,10 +105,10 @@ fn admit_switch(
     switches: &mut [u32],
     texts: &[u32],
 ) -> Verdict
-    requires { asked ≡ Yes → DeclarableSwitch text.now d table.old switches.old texts.now }
+    requires { asked ≡ Ok tt → DeclarableSwitch text.now d table.old switches.old texts.now }
     ensures { Admits (λ f. DeclaresSwitch text.now d table.old switches.old f table.new switches.new) asked result table.old table.new }
 {
-    let Verdict::Yes = asked else {
+    let Ok(()) = asked else {
         return asked;
     };
     decide(11, declare_switch(text, d, table, switches, texts))
@@ -138,10 +125,8 @@ fn finish(
     requires { Advanceable p head names.now }
     ensures { Finishes p head e names.now verdict result }
 {
-    match verdict {
-        Verdict::No(number, at) => Err(Refusal { number, at }),
-        Verdict::Yes => Ok(progress_after(p, head, e.section, e.after, names)),
-    }
+    verdict?;
+    Ok(progress_after(p, head, e.section, e.after, names))
 }
 
 // A statement with the instruction of a number.
@@ -159,24 +144,24 @@ fn read_instruction(
 {
     let op = head.op;
     let a = read_arguments(text, op, number, head.worst);
-    let asked = ask_head(text, a.worst, head, Fault::At(head.first), p, names);
+    let asked = ask_head(text, a.worst, head, Some(head.first), p, names);
+    let values = a.values;
     let i = Instruction {
         number,
         at: op.at,
         line: usize::from(line_at(lines, op.at)),
-        values: a.values,
+        values,
     };
     let early = first_of(asked, first_of(decide(1, a.over), decide(2, a.fault)));
-    let labels = &names[p.names - p.waiting..head.names];
+    let labels = &names[p.first_waiting()..head.names];
     let verdict = admit_instruction(text, early, i, labels, table);
     let e = Ending {
         section: p.section,
-        after: Fault::Clear,
+        after: None,
     };
     Answer {
         read: finish(verdict, p, head, e, names),
         next: a.next,
-        last: a.last,
     }
 }
 
@@ -213,18 +198,17 @@ fn read_switch(
     let mut texts = [0u32; Machine::ENTRIES];
     let held = table::entries(table);
     let l = read_list(text, op, named, head.worst, held, entries, &mut texts);
-    let asked = ask_head(text, l.worst, head, Fault::At(head.first), p, names);
-    let d = switch_of(op, named, names[p.names - p.waiting], l);
+    let asked = ask_head(text, l.worst, head, Some(head.first), p, names);
+    let d = switch_of(op, named, names[p.first_waiting()], l);
     let early = first_of(asked, decide(2, l.fault));
     let verdict = admit_switch(text, early, d, table, switches, &texts);
     let e = Ending {
         section: p.section,
-        after: Fault::Clear,
+        after: None,
     };
     Answer {
         read: finish(verdict, p, head, e, names),
         next: l.next,
-        last: l.last,
     }
 }
 
@@ -259,7 +243,6 @@ fn read_ending(text: &[u8], head: Head, p: Progress, names: &[u32]) -> Answer
     Answer {
         read: finish(asked, p, head, e, names),
         next: rest.next,
-        last: rest.last,
     }
 }
 
@@ -288,15 +271,13 @@ pub fn read_statement(
     let head = read_head(&text[n..], n, names, p.names);
     let op = head.op;
     let keyword = head.keyword;
-    let number = instr_of(keyword);
     if is_empty(head) {
         return Answer {
             read: Ok(p),
-            next: op.next,
-            last: op.sort == NOTHING,
+            next: following(op),
         };
     }
-    if number != 0 {
+    if let Some(number) = instr_of(keyword) {
         return read_instruction(text, lines, head, number, p, names, table);
     }
     if is_switch(keyword) {

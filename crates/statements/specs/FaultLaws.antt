@@ -2,8 +2,8 @@
 use Rattle.std.specs.Prelude.{◌≡◌, refl, List, [], ◌∷◌, ◌++◌, ℕ, min}
 use Rattle.std.proofs.Common.{sym, ap, ◌∙◌, arith}
 use Rattle.statements.specs.StatementAt.{fault_of}
-use Rattle.statements.specs.declared.Fault.{Fault}
-use Rattle.statements.specs.declared.Fault.TheVariants.{Clear, At}
+use Rattle.statements.specs.Faults.{Fault}
+use Rattle.std.specs.Prelude.{None, Some}
 use Rattle.lexer.proofs.Below.SyntaxLoadLaws.{lowest-append}
 use Rattle.lexer.specs.Below.SyntaxVerdict.{Question, ask, Verdict, lowest, decide, first_no}
 use Rattle.lexer.specs.Below.SyntaxVerdict.Verdict.{yes, refuse}
@@ -19,28 +19,28 @@ lowest-min a y (z ∷ ys) =
 pub fault-both : (xs ys : List ℕ) → fault_of (xs ++ ys) ≡ lower (fault_of xs) (fault_of ys)
 unfolding lowest
 fault-both [] ys = refl
-fault-both (x ∷ xs) [] = ap At (lowest-append x xs [])
-fault-both (x ∷ xs) (y ∷ ys) = ap At (lowest-append x xs (y ∷ ys) ∙ lowest-min (lowest x xs) y ys)
+fault-both (x ∷ xs) [] = ap Some (lowest-append x xs [])
+fault-both (x ∷ xs) (y ∷ ys) = ap Some (lowest-append x xs (y ∷ ys) ∙ lowest-min (lowest x xs) y ys)
 
 -- no place is at fault
-pub no-fault : (ps : List ℕ) → fault_of ps ≡ Clear → ps ≡ []
+pub no-fault : (ps : List ℕ) → fault_of ps ≡ None → ps ≡ []
 no-fault [] e = refl
 no-fault (p ∷ ps) e = absurd (let y : ◌≡◌ {A = ℕ} 0 1 = cc in omega arith)
 
-pub lower-clear : (a b : Fault) → lower a b ≡ Clear → (a ≡ Clear) × (b ≡ Clear)
-lower-clear Clear b e = (refl, e)
-lower-clear (At p) Clear e = absurd (let y : ◌≡◌ {A = ℕ} 0 1 = cc in omega arith)
-lower-clear (At p) (At q) e = absurd (let y : ◌≡◌ {A = ℕ} 0 1 = cc in omega arith)
+pub lower-clear : (a b : Fault) → lower a b ≡ None → (a ≡ None) × (b ≡ None)
+lower-clear None b e = (refl, e)
+lower-clear (Some p) None e = absurd (let y : ◌≡◌ {A = ℕ} 0 1 = cc in omega arith)
+lower-clear (Some p) (Some q) e = absurd (let y : ◌≡◌ {A = ℕ} 0 1 = cc in omega arith)
 
-pub lower-none : (a b : Fault) → a ≡ Clear → b ≡ lower a b
+pub lower-none : (a b : Fault) → a ≡ None → b ≡ lower a b
 lower-none a b e = sym (ap (λ (f : Fault). lower f b) e)
 
 module _ (a b : Fault) {p : ℕ} where
-  pub lower-one : a ≡ At p → b ≡ Clear → At p ≡ lower a b
-  lower-one e f = sym (ap (λ (x : Fault). lower x b) e ∙ ap (λ (x : Fault). lower (At p) x) f)
+  pub lower-one : a ≡ Some p → b ≡ None → Some p ≡ lower a b
+  lower-one e f = sym (ap (λ (x : Fault). lower x b) e ∙ ap (λ (x : Fault). lower (Some p) x) f)
 
-  pub lower-two : {q r : ℕ} → a ≡ At p → b ≡ At q → r ≡ min p q → At r ≡ lower a b
-  lower-two {q} {r} e f g = ap At g ∙ sym (ap (λ (x : Fault). lower x b) e ∙ ap (λ (x : Fault). lower (At p) x) f)
+  pub lower-two : {q r : ℕ} → a ≡ Some p → b ≡ Some q → r ≡ min p q → Some r ≡ lower a b
+  lower-two {q} {r} e f g = ap Some g ∙ sym (ap (λ (x : Fault). lower x b) e ∙ ap (λ (x : Fault). lower (Some p) x) f)
 
 -- a question by its fault, before others
 pub question-decides : (number : ℕ) (ps : List ℕ) (qs : List Question) → first_no (ask number ps ∷ qs) ≡ then (decided number (fault_of ps)) (first_no qs)

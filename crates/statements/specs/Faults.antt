@@ -1,25 +1,30 @@
 -- Faults and verdicts as the code tells them, and those of the specification.
-use Rattle.std.specs.Prelude.{ℕ, min}
-use Rattle.statements.specs.declared.Fault.{Fault}
-use Rattle.statements.specs.declared.Fault.TheVariants.{Clear, At}
+use Rattle.std.specs.Prelude.{ℕ, min, Option, None, Some, Result, Ok, Err}
 use Rattle.lexer.specs.Below.SyntaxVerdict as spec
-use Rattle.statements.specs.declared.Verdict.{Verdict}
-use Rattle.statements.specs.declared.Verdict.TheVariants.{Yes, No}
+use Rattle.statements.specs.declared.Refusal.{Refusal}
+
+-- no place at fault, or the lowest of those that are
+abbrev pub Fault : Type 0
+Fault = Option ℕ
+
+-- all are answered yes, or the first no
+abbrev pub Verdict : Type 0
+Verdict = Result (Unit {0}) Refusal
 
 -- of two questions' faults, the lower
 abbrev pub lower : Fault → Fault → Fault
-lower Clear b = b
-lower (At p) Clear = At p
-lower (At p) (At q) = At (min p q)
+lower None b = b
+lower (Some p) None = Some p
+lower (Some p) (Some q) = Some (min p q)
 
 abbrev pub verdict_of : Verdict → spec.Verdict
-verdict_of Yes = spec.Verdict.yes
-verdict_of (No number at) = spec.Verdict.refuse number at
+verdict_of (Ok u) = spec.Verdict.yes
+verdict_of (Err r) = spec.Verdict.refuse r.number r.at
 
 -- one question alone
 abbrev pub decided : ℕ → Fault → spec.Verdict
-decided number Clear = spec.Verdict.yes
-decided number (At p) = spec.Verdict.refuse number p
+decided number None = spec.Verdict.yes
+decided number (Some p) = spec.Verdict.refuse number p
 
 -- a verdict, and where it is yes another
 abbrev pub then : spec.Verdict → spec.Verdict → spec.Verdict

@@ -4,7 +4,7 @@ use Rattle.std.proofs.Common.{ap, ◌∙◌, arith, leb→le}
 use Rattle.std.proofs.Math.Nat.{min-eq_left}
 use Rattle.layout.specs.Below.Lists.{all}
 use Rattle.layout.specs.Below.ListLaws.{T-both, all_head, all_tail}
-use Rattle.statements.specs.declared.Fault.TheVariants.{At}
+use Rattle.std.specs.Prelude.{Some}
 use Rattle.statements.specs.StatementAt.{fault_of}
 use Rattle.lexer.specs.Below.SyntaxVerdict.{lowest}
 
@@ -31,9 +31,9 @@ lowest-within p q (x ∷ xs) ys l h k =
     lowest-within p (min q x) xs ys (omega arith) (all_tail (leb p) x xs h) k
 
 -- the lowest place, first or further on
-pub fault-first : (p : ℕ) (ps : List ℕ) → T (none_before p ps) → fault_of (p ∷ ps) ≡ At p
-fault-first p ps h = ap At (lowest-first p ps h)
+pub fault-first : (p : ℕ) (ps : List ℕ) → T (none_before p ps) → fault_of (p ∷ ps) ≡ Some p
+fault-first p ps h = ap Some (lowest-first p ps h)
 
-pub fault-within : (p : ℕ) (xs ys : List ℕ) → T (none_before p xs) → T (none_before p ys) → fault_of (xs ++ (p ∷ ys)) ≡ At p
+pub fault-within : (p : ℕ) (xs ys : List ℕ) → T (none_before p xs) → T (none_before p ys) → fault_of (xs ++ (p ∷ ys)) ≡ Some p
 fault-within p [] ys h k = fault-first p ys k
-fault-within p (x ∷ xs) ys h k = ap At (lowest-within p x xs ys (leb→le p x (all_head (leb p) x xs h)) (all_tail (leb p) x xs h) k)
+fault-within p (x ∷ xs) ys h k = ap Some (lowest-within p x xs ys (leb→le p x (all_head (leb p) x xs h)) (all_tail (leb p) x xs h) k)

@@ -6,8 +6,8 @@ use Rattle.lexer.specs.Below.Items.{Item, is, statements_from}
 use Rattle.lexer.specs.Below.Items.Sort.{end}
 use Rattle.lexer.specs.Below.SyntaxVerdict.{lowest}
 use Rattle.lexer.specs.Tokens.{items_from}
-use Rattle.statements.specs.declared.Fault.{Fault}
-use Rattle.statements.specs.declared.Fault.TheVariants.{Clear, At}
+use Rattle.statements.specs.Faults.{Fault}
+use Rattle.std.specs.Prelude.{None, Some}
 
 -- the statements from place n on, and the first of them
 abbrev pub statements_at : List ℕ → ℕ → List (List Item)
@@ -37,5 +37,5 @@ pub record Ended (s : List ℕ) (n next : ℕ) (last : Bool) : Type 0 where
 
 -- the places at fault: none, or the lowest of them
 abbrev pub fault_of : List ℕ → Fault
-fault_of [] = Clear
-fault_of (p ∷ ps) = At (lowest p ps)
+fault_of [] = None
+fault_of (p ∷ ps) = Some (lowest p ps)

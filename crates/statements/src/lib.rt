@@ -5,6 +5,7 @@ ghost use Rattle.std.specs.Prelude.{◌≡◌, not, ◌&&◌, eqb, ltb, min, ◌
 ghost use Rattle.statements.specs.Checks.{token_code, code_verdict};
 ghost use Rattle.statements.specs.Faults.{lower, decided, verdict_of, then};
 ghost use Rattle.statements.specs.StatementAt.{stops};
+ghost use Rattle.lexer.specs.Below.SyntaxVerdict.Verdict.{refuse};
 
 use layout::from_language::Machine;
 use lexer::Token;
@@ -17,19 +18,18 @@ const LENGTHS: usize = 131072;
 
 pub const CLEAN: usize = 196608;
 
-// Of a question: no place is at fault, or the lowest of those that are.
+// Of a question: the lowest place at fault, if any is.
+pub type Fault = Option<usize>;
+
+// The number of the first question answered no, and its place.
 #[derive(Clone, Copy, PartialEq, Eq)]
-pub enum Fault {
-    Clear,
-    At(usize),
+pub struct Refusal {
+    pub number: u8,
+    pub at: usize,
 }
 
-// Of some questions: all are answered yes, or the number of the first no and its place.
-#[derive(Clone, Copy, PartialEq, Eq)]
-pub enum Verdict {
-    Yes,
-    No(u8, usize),
-}
+// Of some questions: all are answered yes, or the first no.
+pub type Verdict = Result<(), Refusal>;
 
 // Whether a token's sort ends a statement.
 pub fn stops(sort: u8) -> bool
@@ -43,8 +43,8 @@ pub fn rebuilt(f: Fault) -> Fault
     ensures { result ≡ f }
 {
     match f {
-        Fault::Clear => Fault::Clear,
-        Fault::At(p) => Fault::At(p),
+        None => None,
+        Some(p) => Some(p),
     }
 }
 
@@ -53,9 +53,16 @@ pub fn lower(a: Fault, b: Fault) -> Fault
     ensures { result ≡ lower a b }
 {
     match (a, b) {
-        (Fault::Clear, f) | (f, Fault::Clear) => rebuilt(f),
-        (Fault::At(p), Fault::At(q)) => Fault::At(p.min(q)),
+        (None, f) | (f, None) => rebuilt(f),
+        (Some(p), Some(q)) => Some(p.min(q)),
     }
+}
+
+// The first no, by its number and its place.
+pub fn refused(number: u8, at: usize) -> Verdict
+    ensures { verdict_of result ≡ refuse number at }
+{
+    Err(Refusal { number, at })
 }
 
 // The verdict of one question.
@@ -63,8 +70,8 @@ pub fn decide(number: u8, f: Fault) -> Verdict
     ensures { verdict_of result ≡ decided number f }
 {
     match f {
-        Fault::Clear => Verdict::Yes,
-        Fault::At(p) => Verdict::No(number, p),
+        None => Ok(()),
+        Some(at) => refused(number, at),
     }
 }
 
@@ -72,10 +79,7 @@ pub fn decide(number: u8, f: Fault) -> Verdict
 pub fn first_of(v: Verdict, w: Verdict) -> Verdict
     ensures { verdict_of result ≡ then (verdict_of v) (verdict_of w) }
 {
-    match v {
-        Verdict::Yes => w,
-        Verdict::No(number, at) => Verdict::No(number, at),
-    }
+    v.and(w)
 }
 
 fn is_bad_text(sort: u8, good: bool, len: usize) -> bool
@@ -114,13 +118,13 @@ pub fn checked(w: usize) -> Verdict
     ensures { verdict_of result ≡ code_verdict w }
 {
     if w < TEXTS {
-        return Verdict::No(14, w);
+        return refused(14, w);
     }
     if w < LENGTHS {
-        return Verdict::No(15, w - TEXTS);
+        return refused(15, w - TEXTS);
     }
     if w < CLEAN {
-        return Verdict::No(16, w - LENGTHS);
+        return refused(16, w - LENGTHS);
     }
-    Verdict::Yes
+    Ok(())
 }

@@ -22,8 +22,9 @@ use Rattle.lexer.specs.declared.Token.{Token}
 use Rattle.lexer.specs.Tokens.{item_of, Stands, NextToken}
 use Rattle.lexer.proofs.Finding.{is-sort}
 use Rattle.lists.specs.Lists.{filled, if_any, keep}
-use Rattle.statements.specs.declared.Fault.{Fault}
-use Rattle.statements.specs.declared.Fault.TheVariants.{Clear, At}
+use Rattle.statements.specs.Faults.{Fault}
+use Rattle.std.specs.Prelude.{Option, None, Some}
+use Rattle.heads.specs.Heads.{following}
 use Rattle.statements.specs.PlaceLaws.{statement-from}
 use Rattle.statements.specs.StatementAt.{statement_at, stops, fault_of}
 use Rattle.statements.specs.StatementLaws.{at-stop, at_item, on}
@@ -324,11 +325,11 @@ module _ {s : List ℕ} {t : Token} {w₀ held : ℕ} {en₀ tx₀ : List ℕ} (
     n = t.next
 
     -- the statement ends
-    module _ (z : stops x.sort ≡ true) {a r : Fault} (e : a ≡ lower fault (fault_of (colon_left b (goes_by_name && eqb 4 x.sort)))) (f : r ≡ cond (eqb i n) (At t.at) a) where
+    module _ (z : stops x.sort ≡ true) {a r : Fault} (e : a ≡ lower fault (fault_of (colon_left b (goes_by_name && eqb 4 x.sort)))) (f : r ≡ cond (eqb i n) (Some t.at) a) where
       fault-now : r ≡ fault_of (switch_after s t goes_by_name)
       unfolding switch_after lowest
       fault-now =
-          f ∙ elim (eqb i n) as (λ c. eqb i n ≡ c → cond c (At t.at) a ≡ fault_of (cond (filled (statement_at s n)) (list_faults goes_by_name false (statement_at s n)) (t.at ∷ []))) [
+          f ∙ elim (eqb i n) as (λ c. eqb i n ≡ c → cond c (Some t.at) a ≡ fault_of (cond (filled (statement_at s n)) (list_faults goes_by_name false (statement_at s n)) (t.at ∷ []))) [
             | true ↦ λ q. let none : statement_at s n ≡ [] = ap (statement_at s) (sym (eqb-true i n q)) ∙ at-stop k z in rw none
             | false ↦ λ q. faults-end u.faulted k e z ∙ rw (u.some (omega (arith, eqb-false i n q, u.passing.within.from)))
           ] refl
@@ -336,7 +337,7 @@ module _ {s : List ℕ} {t : Token} {w₀ held : ℕ} {en₀ tx₀ : List ℕ} (
       items-now : keep (is word) (statement_at s n) ≡ u.worded.items
       items-now = u.worded.items_are ∙ rw (at-stop k z) (append-nil u.worded.items)
 
-      room-now : over ≡ Clear → held + words ≤ 128
+      room-now : over ≡ None → held + words ≤ 128
       room-now q =
           omega (
             arith,
@@ -350,17 +351,17 @@ module _ {s : List ℕ} {t : Token} {w₀ held : ℕ} {en₀ tx₀ : List ℕ} (
       unfolding entry_texts
       rows-now = u.texted.rows_are ∙ rw (at-stop k z, append-nil {A = List Item} (cond b.word ([] ∷ []) [])) refl
 
-      pub list_read : ReadsList s t goes_by_name w₀ held en₀ tx₀ (record { fault = r; words = words; over = over; worst = w; next = x.next; last = eqb x.sort 0 }) en tx
-      list_read =
+      pub list_read : {y : Option ℕ} → y ≡ following x → ReadsList s t goes_by_name w₀ held en₀ tx₀ (record { fault = r; words = words; over = over; worst = w; next = y }) en tx
+      list_read q =
           record {
             fault_is = fault-now;
             words_is = sym (ap length items-now ∙ u.worded.count);
             few = omega (arith, u.few, u.passing.within.most, pre.low);
             over_is = rw items-now u.worded.over_is;
             worst_is = passed-worst u.passing k z;
-            ends = passed-end u.passing k z;
+            ends = passed-end u.passing k z q;
             ordered = u.orders (rw (at-stop k z) tt);
-            marks = λ q. rw (items-now, u.worded.count) (u.worded.marks (room-now q));
+            marks = λ e. rw (items-now, u.worded.count) (u.worded.marks (room-now e));
             texts = rw rows-now (rows_named s held tx u.texted.rows [] b.word u.texted.named u.texted.none_yet);
           }
 

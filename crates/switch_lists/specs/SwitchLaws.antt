@@ -10,8 +10,8 @@ use Rattle.arguments.specs.Arguments.{InstrFault}
 use Rattle.arguments.specs.ArgumentLaws.{instr-is}
 use Rattle.arguments.specs.CountLaws.{numbered, this-instruction, has-operator}
 use Rattle.language.specs.Program.{Op}
-use Rattle.statements.specs.declared.Fault.{Fault}
-use Rattle.statements.specs.declared.Fault.TheVariants.{Clear}
+use Rattle.statements.specs.Faults.{Fault}
+use Rattle.std.specs.Prelude.{None}
 use Rattle.statements.specs.StatementAt.{statement_at, stops, fault_of}
 use Rattle.syntax.specs.Items.{Item}
 use Rattle.syntax.specs.Questions.{instr_faults, switch_faults}
@@ -67,7 +67,7 @@ module _ {s : List ℕ} {n : ℕ} {h : Head} (g : Headed s n h) where
         choice (keyword_in x) (ap is_switch (sym g.keyword) ∙ e) ∙ ap Spec.Keyword.switch (ap is_by_name (sym g.keyword) ∙ sym f) in
         ap (by_keyword (instr_faults x) (switch_faults x) []) k ∙ switch-is b
 
-  pub of-neither : {m : ℕ} → m ≡ instr_of h.keyword → m ≡ 0 → is_switch h.keyword ≡ false → fault_of (argument_question x) ≡ Clear
+  pub of-neither : {m : ℕ} → m ≡ instr_of h.keyword → m ≡ 0 → is_switch h.keyword ≡ false → fault_of (argument_question x) ≡ None
   unfolding argument_question
   of-neither e z f =
       ap fault_of (other (instr_faults x) (switch_faults x) [] (keyword_in x) (ap instr_of (sym g.keyword) ∙ sym e ∙ z) (ap is_switch (sym g.keyword) ∙ f))

@@ -7,8 +7,9 @@ use Rattle.language.specs.Limits as limit
 use Rattle.lexer.specs.declared.Token.{Token}
 use Rattle.lexer.specs.Tokens.{Stands}
 use Rattle.lists.specs.Lists.{filled, if_any, keep}
-use Rattle.statements.specs.declared.Fault.TheVariants.{Clear}
-use Rattle.statements.specs.StatementAt.{statement_at, fault_of, Ended}
+use Rattle.std.specs.Prelude.{None}
+use Rattle.statements.specs.StatementAt.{statement_at, fault_of}
+use Rattle.heads.specs.Heads.{EndedBy}
 use Rattle.syntax.specs.Items.{Item, is, places}
 use Rattle.syntax.specs.Items.Sort.{word, text}
 use Rattle.syntax.specs.Questions.{beyond, instr_faults, switch_faults}
@@ -85,7 +86,7 @@ pub record ReadsList (s : List ℕ) (t : Token) (goes_by_name : Bool) (w held : 
   pub few : r.words ≤ limit.text
   pub over_is : r.over ≡ fault_of (beyond limit.entries held (places (keep (is word) (statement_at s t.next))))
   pub worst_is : r.worst ≡ min w (worst (statement_at s t.next))
-  pub ends : Ended s t.next r.next r.last
-  pub marks : r.over ≡ Clear → MarksAdded s t.next held en em
+  pub ends : EndedBy s t.next r.next
+  pub marks : r.over ≡ None → MarksAdded s t.next held en em
   pub texts : TextsNamed s t.next held ty
   pub ordered : Ordered (statement_at s t.next)

@@ -1,15 +1,14 @@
 // The list of a switch: one pass over the items after its operator gives the faults of its questions, the marks of its labels and the places of its texts.
 #![tactic(auto)]
 
-ghost use Rattle.std.specs.Prelude.{◌≡◌, cond, [], ◌∷◌};
-ghost use Rattle.statements.specs.StatementAt.{fault_of};
-ghost use Rattle.statements.specs.declared.Fault.TheVariants.{At};
+ghost use Rattle.std.specs.Prelude.{◌≡◌, cond};
+ghost use Rattle.std.specs.Prelude.{Some};
 ghost use Rattle.switch_lists.specs.Switches.{PutCell, PuttableItem, PutsItem, Listable, ReadsList};
 
-use heads::{is_name, mark};
+use heads::{following, is_name, mark};
 use language::Machine;
 use lexer::{Token, next_item};
-use scanner::{NOTHING, TEXT, WORD};
+use scanner::{TEXT, WORD};
 use statements::{Fault, lower, stops, worse};
 
 // A list: the lowest place at fault of question 02, how many words it has, the first of them that is an entry in excess, the questions 14 to 16 with its
@@ -20,8 +19,7 @@ pub struct Listed {
     pub words: usize,
     pub over: Fault,
     pub worst: usize,
-    pub next: usize,
-    pub last: bool,
+    pub next: Option<usize>,
 }
 
 // An item that another follows: whether it is a word, whether it is a name, and the place of its colon or 0.
@@ -32,19 +30,11 @@ struct Before {
     colon: usize,
 }
 
-// Apart from `or_empty`, which hands a fault on: this contract tells the fault as that of a list of places.
-#[tactic(auto, unfolding(syntax::specs::Verdict::lowest))]
-fn at_if(wrong: bool, at: usize) -> Fault
-    ensures { result ≡ fault_of (cond wrong (at ∷ []) []) }
-{
-    if wrong { Fault::At(at) } else { Fault::Clear }
-}
-
 // A list without items is at fault at its operator.
 fn or_empty(empty: bool, at: usize, fault: Fault) -> Fault
-    ensures { result ≡ cond empty (At at) fault }
+    ensures { result ≡ cond empty (Some at) fault }
 {
-    if empty { Fault::At(at) } else { fault }
+    if empty { Some(at) } else { fault }
 }
 
 // Puts a number where there is room for it.
@@ -87,8 +77,8 @@ pub fn read_list(
     ensures { ReadsList text.now t named worst held entries.old texts.old result entries.new texts.new }
 {
     let first = t.next;
-    let mut fault = Fault::Clear;
-    let mut over = Fault::Clear;
+    let mut fault = None;
+    let mut over = None;
     let mut words: usize = 0;
     let mut w = worst;
     let mut before = Before {
@@ -101,23 +91,25 @@ pub fn read_list(
         let u = next_item(text, i);
         let follows = named & (TEXT == u.sort);
         let colon = before.colon;
-        let a = lower(fault, at_if(before.name & !(colon == 0) & !follows, colon));
+        let a = lower(
+            fault,
+            (before.name & (colon != 0) & !follows).then_some(colon),
+        );
         if stops(u.sort) {
             return Listed {
                 fault: or_empty(i == first, t.at, a),
                 words,
                 over,
                 worst: w,
-                next: u.next,
-                last: u.sort == NOTHING,
+                next: following(u),
             };
         }
         let name = is_name(text, u);
         let word = WORD == u.sort;
         let k = held + words;
         put_item(u, before.word, k, entries, texts);
-        fault = lower(a, at_if(!(name | (follows & !(colon == 0))), u.at));
-        over = lower(over, at_if(word & (Machine::ENTRIES <= k), u.at));
+        fault = lower(a, (!(name | (follows & (colon != 0)))).then_some(u.at));
+        over = lower(over, (word & (Machine::ENTRIES <= k)).then_some(u.at));
         w = worse(w, u);
         words += usize::from(word);
         before = Before {

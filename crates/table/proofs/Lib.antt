@@ -1,4 +1,3 @@
 pub mod Decode
 pub mod Keys
-pub mod Letters
 pub mod Below

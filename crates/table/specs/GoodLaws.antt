@@ -8,7 +8,6 @@ use Rattle.packed.specs.Below.Limits as limit
 use Rattle.packed.specs.Below.Instructions.{operation, operator_of}
 use Rattle.packed.specs.Below.Letters.{indices, use_of}
 use Rattle.packed.specs.Below.Program.{Arg, Instr, Label as LabelOf, Switch as SwitchOf, Entry, Program, no_instr, no_label, no_switch, no_entry, classes, instr_at, label_at, switch_at, target_of}
-use Rattle.packed.specs.Below.Program.Arg.{label, switch, class, text}
 use Rattle.packed.specs.Below.LanguageValues.{in_range}
 use Rattle.packed.specs.Below.Facts.{InstrFacts, LabelFacts}
 use Rattle.packed.specs.Below.WellFormed.{good_word, good_text, kept_text, kept_number, ranged, good_entry, good_switch}

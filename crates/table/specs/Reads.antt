@@ -1,13 +1,16 @@
 -- What the readers of a program table ask and promise.
-use Rattle.std.specs.Prelude.{◌≡◌, List, ℕ, ◌+◌, ◌/◌, ◌%◌, ◌≤◌, ◌<◌, T, length}
+use Rattle.std.specs.Prelude.{◌≡◌, List, ℕ, ◌+◌, ◌*◌, ◌/◌, ◌%◌, ◌≤◌, ◌<◌, T, length}
 use Rattle.packed.specs.Below.Lists.{ahead, filled}
 use Rattle.packed.specs.Below.Limits as limit
 use Rattle.packed.specs.Below.Program.{Entry, meets}
 use Rattle.packed.specs.Below.LayoutCells.{cell, tab}
-use Rattle.packed.specs.Below.Table.{text_by, arg_in, entry_in, program_of}
+use Rattle.packed.specs.Below.Table.{text_by, arg_in, instr_in, entry_in, program_of}
 use Rattle.packed.specs.Below.LayoutPlaces as layout
 use Rattle.packed.specs.Packed.{table_of}
 use Rattle.table.specs.Denote.{arg_of}
+use Rattle.language.specs.Instructions.{number_of}
+use Rattle.language.specs.Operators.{op_by}
+use Rattle.table.specs.declared.Instruction.{Instruction}
 use Rattle.table.specs.declared.Argument.{Argument}
 use Rattle.table.specs.declared.Argument.TheVariants.{Nothing, Indexed, Label, Switch, Class, Text, Number}
 
@@ -26,10 +29,28 @@ Small x (Class m) = m < 16
 Small x (Text v) = (v < 536870912) × (v ≡ x / 8)
 Small x (Number v) = v < 4294967296
 
+-- the number of the operator of instruction i
+abbrev pub operator_number : List ℕ → ℕ → ℕ
+operator_number c i = cell c (layout.first_instruction + 4 * i) % 64
+
 -- r stands for the argument in cell k
 pub record IsArgument (c : List ℕ) (k : ℕ) (r : Argument) : Type 0 where
   pub is : arg_of c r ≡ arg_in c k
   pub small : Small (cell c k) r
+
+-- instruction i has an operator
+pub record Operated (c : List ℕ) (i : ℕ) : Type 0 where
+  pub place : Place c i 512
+  pub from : 0 < operator_number (table_of c) i
+  pub to : operator_number (table_of c) i ≤ 41
+
+-- r is the operator and the arguments of instruction i
+pub record IsInstruction (c : List ℕ) (i : ℕ) (r : Instruction) : Type 0 where
+  pub op : op_by r.op ≡ (instr_in c i).op
+  pub number : number_of (op_by r.op) ≡ operator_number c i
+  pub first : IsArgument c (1 + (layout.first_instruction + 4 * i)) r.x
+  pub second : IsArgument c (2 + (layout.first_instruction + 4 * i)) r.y
+  pub third : IsArgument c (3 + (layout.first_instruction + 4 * i)) r.z
 
 -- a lent table is long enough, k is below n, and m bytes have room for the characters of a name or a text
 pub record Into (c : List ℕ) (k n m : ℕ) : Type 0 where

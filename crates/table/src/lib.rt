@@ -9,10 +9,11 @@ ghost use Rattle.packed.specs.Below.LayoutCells.{cell, uncode};
 ghost use Rattle.packed.specs.Below.Table.{number_by, text_by, instr_in, label_in, switch_in, entry_in, program_of};
 ghost use Rattle.packed.specs.Packed.{table_of, Copied};
 ghost use Rattle.table.specs.Denote.{letter_of, letter_at};
-ghost use Rattle.table.specs.Reads.{Place, IsArgument, Into, switch_first, switch_size, entry_ref, Keyed, Entries, entries_from};
+ghost use Rattle.table.specs.Reads.{Place, IsArgument, Operated, IsInstruction, Into, switch_first, switch_size, entry_ref, Keyed, Entries, entries_from};
 ghost use Rattle.packed.specs.Below.Limits as limit;
 ghost use Rattle.packed.specs.Below.LayoutPlaces.{instruction_count, label_count, switch_count, entry_count, text_count, number_count, first_instruction};
 
+use language::Operator;
 use packed::from_cells;
 use packed::from_language::Machine;
 use packed::from_layout::TablePlaces;
@@ -45,6 +46,15 @@ pub enum Argument {
     Class(u8),
     Text(usize),
     Number(u32),
+}
+
+// What an instruction does, and its three arguments.
+#[derive(Clone, Copy)]
+pub struct Instruction {
+    pub op: Operator,
+    pub x: Argument,
+    pub y: Argument,
+    pub z: Argument,
 }
 
 // Cell `k`, and 0 past the table.
@@ -181,18 +191,31 @@ pub fn first(table: &[u32], i: usize) -> Argument
     argument_at(table, 1 + (TablePlaces::FIRST_INSTRUCTION + 4 * i))
 }
 
-pub fn second(table: &[u32], i: usize) -> Argument
+fn second(table: &[u32], i: usize) -> Argument
     requires { Place table.now i 512 }
     ensures { IsArgument (table_of table.now) (2 + (first_instruction + 4 * i)) result }
 {
     argument_at(table, 2 + (TablePlaces::FIRST_INSTRUCTION + 4 * i))
 }
 
-pub fn third(table: &[u32], i: usize) -> Argument
+fn third(table: &[u32], i: usize) -> Argument
     requires { Place table.now i 512 }
     ensures { IsArgument (table_of table.now) (3 + (first_instruction + 4 * i)) result }
 {
     argument_at(table, 3 + (TablePlaces::FIRST_INSTRUCTION + 4 * i))
+}
+
+// Instruction `i`, its operator and its arguments.
+pub fn instruction_at(table: &[u32], i: usize) -> Instruction
+    requires { Operated table.now i }
+    ensures { IsInstruction (table_of table.now) i result }
+{
+    Instruction {
+        op: Operator::try_from(operator(table, i)).unwrap(),
+        x: first(table, i),
+        y: second(table, i),
+        z: third(table, i),
+    }
 }
 
 // The instruction that label `k` stands at.

@@ -1,6 +1,9 @@
 -- `arguments::read_arguments` meets its contract.
 use Rattle.statements.specs.StatementLaws.{on}
 use Prim.Native.Nat.{ℕ}
+use Prim.Native.Nat.{◌<◌}
+use mathlib.Core.List.{[], ◌∷◌}
+use Rattle.arguments.specs.declared.Value.{Value}
 use mathlib.Core.Path.{refl, sym, ap, ◌∙◌}
 use native.Mathlib.Omega.{arith}
 use Rattle.arguments.specs.ArgumentLaws.{turned, taken-some, taken-none, colon-here, unlisted-here, colon-after-argument}
@@ -8,13 +11,13 @@ use Rattle.arguments.specs.Arguments.{missing_or}
 use Rattle.forms.specs.Reading.{taken_at}
 use Rattle.arguments.specs.LeftLaws.{place-low}
 use Rattle.arguments.specs.ValueLaws.{mark-low, value-stood}
-use Rattle.arguments.specs.ReadLaws.{gathering-first, reads_so, gathering-on, all_read, refusable, refused}
+use Rattle.arguments.specs.ReadLaws.{gathering-first, placed, reads_so, gathering-on, all_read, refusable, refused}
 use Rattle.language.specs.Instructions.{operator_of}
-use Rattle.statements.specs.declared.Fault.TheVariants.{Clear}
+use Rattle.std.specs.Prelude.{None}
 use Rattle.arguments.proofs.read_arguments.Goals as goal
 
 pub loop-live-init : goal.loop-live-init
-loop-live-init c = gathering-first c.requires c.no_values-values.ensures
+loop-live-init c = gathering-first c.requires (ap (λ (x : Value). x ∷ x ∷ x ∷ []) c.no_value-values.ensures)
 
 pub next_item-u-requires : goal.next_item-u-requires
 next_item-u-requires c = c.loop-live.invariant.passing.within.most
@@ -22,7 +25,7 @@ next_item-u-requires c = c.loop-live.invariant.passing.within.most
 pub returns-then-stops : goal.returns-then-stops
 returns-then-stops c =
     all_read c.requires c.loop-live.invariant c.next_item-u.ensures (sym c.stops.ensures ∙ c.if-stops.true)
-    (c.missing_or.ensures ∙ ap (λ (k : ℕ). missing_or c.args.op c.args.t.at k Clear) c.wide.ensures.is)
+    (c.missing_or.ensures ∙ ap (λ (k : ℕ). missing_or c.args.op c.args.t.at k None) c.wide.ensures.is) c.following.ensures
 
 pub refuse-requires : goal.refuse-requires
 refuse-requires c = refusable c.requires c.loop-live.invariant
@@ -60,6 +63,13 @@ returns-then-u-ne0 c = let l = c.loop-live in
 pub value_by-requires : goal.value_by-requires
 value_by-requires c = mark-low (record { stands = c.next_item-u.ensures.stands; low = c.requires.low })
 
+pub bounds-values-from : goal.bounds-values-from
+bounds-values-from c =
+    let here = sym c.stops.ensures ∙ c.if-stops.false in
+    let a = taken-some _ c.in-Some.ensures in
+    let l : c.loop-live.place < 3 = placed c.loop-live.invariant c.next_item-u.ensures here c.if-u-eq-COLON.false a.0 c.item_kind-k.ensures.set_is a.1 (operator_of c.args.op) c.requires.numbered in
+    omega (arith, c.from.ensures, l)
+
 pub overflow_add-place : goal.overflow_add-place
 overflow_add-place c = omega (arith, c.loop-live.invariant.few)
 
@@ -80,4 +90,4 @@ loop-live-preserved c =
     let a = taken-some _ c.in-Some.ensures in
     let reads = reads_so c.loop-live.invariant k here c.if-u-eq-COLON.false a.0 kind.set_is a.1 o c.requires.numbered in
     gathering-on c.loop-live.invariant k here c.if-u-eq-COLON.false a.0 kind.set_is a.1 o c.requires.numbered c.if-u-ne0.false refl
-    (value-stood (record { stands = k.stands; low = c.requires.low }) kind reads c.value_by.ensures) c.with_value-values.ensures c.worse-low.ensures
+    (value-stood (record { stands = k.stands; low = c.requires.low }) kind reads c.value_by.ensures) c.from.ensures refl c.worse-low.ensures

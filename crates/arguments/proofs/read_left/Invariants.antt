@@ -4,8 +4,8 @@ use lib.ListN.{length}
 use Rattle.arguments.specs.LeftLaws.{Leaving}
 use Rattle.arguments.proofs.read_left.Given as goal
 
-abbrev pub invariant-loop-over : goal.invariant-loop-over
-invariant-loop-over l = Leaving l.text l.n l.skip l.worst l.i l.count l.low l.over
+abbrev pub invariant-loop-t : goal.invariant-loop-t
+invariant-loop-t l = Leaving l.text l.n l.skip l.worst l.i l.count l.low l.over
 
-abbrev pub decreases-loop-over : goal.decreases-loop-over
-decreases-loop-over l = length l.text - l.i
+abbrev pub decreases-loop-t : goal.decreases-loop-t
+decreases-loop-t l = length l.text - l.i

@@ -1,15 +1,15 @@
 -- `declaring::declare_instruction` meets its contract.
-use Rattle.declaring.proofs.Instructing.{enterable, declared-none, writable, declared}
+use Rattle.declaring.proofs.Instructing.{enterable, none-by, declared-none, writable, declared}
 use Rattle.declaring.proofs.declare_instruction.Goals as goal
 
-pub judge_instruction-requires : goal.judge_instruction-requires
-judge_instruction-requires c = enterable c.requires
+pub judge_instruction-fault-requires : goal.judge_instruction-fault-requires
+judge_instruction-fault-requires c = enterable c.requires
 
 pub write_instruction-requires : goal.write_instruction-requires
-write_instruction-requires c = writable c.requires c.judge_instruction.ensures c.in-Clear.is
+write_instruction-requires c = writable c.requires c.judge_instruction-fault.ensures (none-by _ c.is_none.ensures c.if-is_none.true)
 
-pub returns-in-At : goal.returns-in-At
-returns-in-At c = declared-none c.requires c.judge_instruction.ensures c.in-At.is
+pub returns-then-is_none : goal.returns-then-is_none
+returns-then-is_none c = declared c.requires c.judge_instruction-fault.ensures (none-by _ c.is_none.ensures c.if-is_none.true) c.write_instruction.ensures
 
-pub returns-in-Clear : goal.returns-in-Clear
-returns-in-Clear c = declared c.requires c.judge_instruction.ensures c.in-Clear.is c.write_instruction.ensures
+pub returns-else-is_none : goal.returns-else-is_none
+returns-else-is_none c = declared-none c.requires c.judge_instruction-fault.ensures c.is_none.ensures c.if-is_none.false

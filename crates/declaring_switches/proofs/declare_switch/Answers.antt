@@ -1,15 +1,16 @@
 -- `declaring_switches::declare_switch` meets its contract.
+use Rattle.declaring.proofs.Instructing.{none-by}
 use Rattle.declaring_switches.proofs.Switches.{switch-judgeable, switch-refused, switch-writable, switch-declared}
 use Rattle.declaring_switches.proofs.declare_switch.Goals as goal
 
-pub judge_switch-requires : goal.judge_switch-requires
-judge_switch-requires c = switch-judgeable c.requires
+pub judge_switch-fault-requires : goal.judge_switch-fault-requires
+judge_switch-fault-requires c = switch-judgeable c.requires
 
 pub write_switch-requires : goal.write_switch-requires
-write_switch-requires c = switch-writable c.requires c.judge_switch.ensures c.in-Clear.is
+write_switch-requires c = switch-writable c.requires c.judge_switch-fault.ensures (none-by _ c.is_none.ensures c.if-is_none.true)
 
-pub returns-in-At : goal.returns-in-At
-returns-in-At c = switch-refused c.requires c.judge_switch.ensures c.in-At.is
+pub returns-then-is_none : goal.returns-then-is_none
+returns-then-is_none c = switch-declared c.requires c.judge_switch-fault.ensures (none-by _ c.is_none.ensures c.if-is_none.true) c.write_switch.ensures
 
-pub returns-in-Clear : goal.returns-in-Clear
-returns-in-Clear c = switch-declared c.requires c.judge_switch.ensures c.in-Clear.is c.write_switch.ensures
+pub returns-else-is_none : goal.returns-else-is_none
+returns-else-is_none c = switch-refused c.requires c.judge_switch-fault.ensures c.is_none.ensures c.if-is_none.false

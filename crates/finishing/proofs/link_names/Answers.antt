@@ -10,7 +10,7 @@ pub returns-in-Ok : goal.returns-in-Ok
 returns-in-Ok c = linked-done c.in-Ok.is c.resolve.ensures
 
 pub returns-in-Err-Label : goal.returns-in-Err-Label
-returns-in-Err-Label c = linked-label c.in-Err-Label.at (search rules) c.resolve.ensures
+returns-in-Err-Label c = linked-label c.in-Err-Label.at (search rules) c.resolve.ensures c.refused.result c.refused.ensures
 
 pub returns-in-Err-Switch : goal.returns-in-Err-Switch
-returns-in-Err-Switch c = linked-switch c.in-Err-Switch.at (search rules) c.resolve.ensures
+returns-in-Err-Switch c = linked-switch c.in-Err-Switch.at (search rules) c.resolve.ensures c.refused-in-Err-Switch.result c.refused-in-Err-Switch.ensures

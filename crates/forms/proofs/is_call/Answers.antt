@@ -1,7 +1,6 @@
--- `forms::is_call` meets its contract.
-use Rattle.forms.proofs.Tables.{calls_table}
-use borrow.Author.Rules.{rules}
+-- `is_call` meets its contract.
+use Rattle.forms.proofs.Tables.{called}
 use Rattle.forms.proofs.is_call.Goals as goal
 
-pub returns : goal.returns
-returns c = calls_table c.args.op (search rules)
+pub returns-in-Ok : goal.returns-in-Ok
+returns-in-Ok c = called c.try_from.ensures c.in-Ok.is c.calling.ensures

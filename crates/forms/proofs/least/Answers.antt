@@ -4,4 +4,4 @@ use Rattle.forms.proofs.Tables.{least-counted}
 use Rattle.forms.proofs.least.Goals as goal
 
 pub returns : goal.returns
-returns c = let h = least-counted c.args.op (search rules) in rw (c.needed.ensures, c.first_list.ensures, h.0) (refl, h.1)
+returns c = let h = least-counted c.args.op (search rules) in rw (c.needed.ensures, c.sets_by.ensures, h.0) (refl, h.1)

@@ -4,4 +4,4 @@ use Rattle.forms.proofs.Tables.{most-counted}
 use Rattle.forms.proofs.most.Goals as goal
 
 pub returns : goal.returns
-returns c = let h = most-counted c.args.op (search rules) in rw (c.not_empty.ensures, c.first_list.ensures, h.0) (refl, h.1)
+returns c = let h = most-counted c.args.op (search rules) in rw (c.not_empty.ensures, c.sets_by.ensures, h.0) (refl, h.1)

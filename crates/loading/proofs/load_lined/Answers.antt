@@ -1,6 +1,5 @@
 -- `loading::load_lined` meets its contract.
 use native.Mathlib.Omega.{arith}
-use mathlib.Core.Path.{refl}
 use Rattle.loading.proofs.Outcomes.{loadable, load-accepted, load-refused}
 use Rattle.loading.proofs.load_lined.Goals as goal
 
@@ -13,8 +12,8 @@ load_text-requires c = loadable c.requires c.clear_table.ensures
 pub refuse-requires : goal.refuse-requires
 refuse-requires c = omega (arith, c.requires.long)
 
-pub returns-in-Yes : goal.returns-in-Yes
-returns-in-Yes c = load-accepted c.requires c.clear_table.ensures c.load_text.ensures c.in-Yes.is refl refl
+pub returns-in-Ok : goal.returns-in-Ok
+returns-in-Ok c = load-accepted c.requires c.clear_table.ensures c.load_text.ensures c.in-Ok.is
 
-pub returns-in-No : goal.returns-in-No
-returns-in-No c = load-refused c.requires c.clear_table.ensures c.load_text.ensures c.in-No.number c.in-No.at c.in-No.is c.refuse.ensures
+pub returns-in-Err : goal.returns-in-Err
+returns-in-Err c = load-refused c.requires c.clear_table.ensures c.load_text.ensures c.in-Err.r c.in-Err.is c.refuse.ensures

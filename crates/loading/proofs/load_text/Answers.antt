@@ -1,5 +1,6 @@
 -- `loading::load_text` meets its contract.
-use mathlib.Core.Path.{refl}
+use mathlib.Core.Path.{◌≡◌, refl}
+use Rattle.std.proofs.Common.{rules, Err}
 use Rattle.loading.proofs.Outcomes.{unread, text-refused, finishable, text-finished}
 use Rattle.loading.proofs.load_text.Goals as goal
 
@@ -7,10 +8,12 @@ pub read_statements-requires : goal.read_statements-requires
 read_statements-requires c = unread c.requires refl refl
 
 pub finish-requires : goal.finish-requires
-finish-requires c = finishable c.requires c.read_statements.ensures c.in-Ok.p c.in-Ok.is
+finish-requires c = finishable c.requires c.read_statements.ensures c.in_ok-p.p c.in_ok-p.was
 
-pub returns-in-Err : goal.returns-in-Err
-returns-in-Err c = text-refused c.requires c.read_statements.ensures c.in-Err.r c.in-Err.is
+pub returns-in_err-p : goal.returns-in_err-p
+returns-in_err-p c =
+    let f : c.from_residual.result ≡ Err c.in_err-p.field-0.0 = search rules in
+    rw f (text-refused c.requires c.read_statements.ensures c.in_err-p.field-0.0 c.in_err-p.was)
 
-pub returns-in-Ok : goal.returns-in-Ok
-returns-in-Ok c = text-finished c.requires c.read_statements.ensures c.in-Ok.p c.in-Ok.is c.finish.ensures
+pub returns : goal.returns
+returns c = text-finished c.requires c.read_statements.ensures c.in_ok-p.p c.in_ok-p.was c.finish.ensures

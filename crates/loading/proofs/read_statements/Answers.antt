@@ -2,9 +2,9 @@
 
 use native.Mathlib.Omega.{arith}
 use borrow.Author.Rules.{rules}
-use mathlib.Core.Path.{◌≡◌}
+use mathlib.Core.Path.{◌≡◌, sym}
 use Rattle.std.specs.Prelude.{Err}
-use Rattle.loading.proofs.Walking.{going-none, readable, going-refused, going-last, going_next}
+use Rattle.loading.proofs.Walking.{going-none, readable, going-refused, next-beyond, going-last, going_next}
 use Rattle.loading.proofs.read_statements.Goals as goal
 
 pub loop-q-init : goal.loop-q-init
@@ -18,14 +18,14 @@ returns-in_err-q c =
     let e : c.from_residual.result ≡ Err c.in_err-q.field-0.0 = search rules in
     rw e (going-refused c.loop-q.invariant c.read_statement-a.ensures _ c.in_err-q.was)
 
-pub returns-then-a : goal.returns-then-a
-returns-then-a c = going-last c.loop-q.invariant c.read_statement-a.ensures c.in_ok-q.q c.in_ok-q.was c.if-a.true
+pub returns-in_default : goal.returns-in_default
+returns-in_default c = going-last c.loop-q.invariant c.read_statement-a.ensures c.in_ok-q.q c.in_ok-q.was (sym c.in_default.is)
 
 pub loop-q-smaller : goal.loop-q-smaller
 loop-q-smaller c =
-    let e = c.read_statement-a.ensures.ends in
-    omega (arith, e.most, e.more c.if-a.false, c.loop-q.invariant.standing.inside)
+    let e = next-beyond c.loop-q.invariant c.read_statement-a.ensures (sym c.in-Some.is) in
+    omega (arith, e.0, e.1, c.loop-q.invariant.standing.inside)
 
 pub loop-q-preserved : goal.loop-q-preserved
 loop-q-preserved c =
-    rw c.renewed-p.ensures (going_next c.loop-q.invariant c.read_statement-a.ensures c.in_ok-q.q c.in_ok-q.was c.if-a.false)
+    rw c.renewed-p.ensures (going_next c.loop-q.invariant c.read_statement-a.ensures c.in_ok-q.q c.in_ok-q.was (sym c.in-Some.is))

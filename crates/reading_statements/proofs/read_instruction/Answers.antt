@@ -18,14 +18,15 @@ ask_head-asked-requires c =
     let j = p.met.reading.judging in
     record { place = p.met.place; draft = p.met.draft; judging = j; worst_is = whole-instr p.number_is p.some j.headed c.read_arguments-a.ensures }
 
-pub overflow_sub-labels : goal.overflow_sub-labels
-overflow_sub-labels c = c.requires.met.reading.judging.tells.waiting.few
+pub first_waiting-requires : goal.first_waiting-requires
+first_waiting-requires c = c.requires.met.reading.judging.tells.waiting.few
 
 pub admit_instruction-verdict-requires : goal.admit_instruction-verdict-requires
 admit_instruction-verdict-requires c =
     let p = c.requires in
     let all = (c.first_of-early.ensures ∙ ap (then (verdict_of c.ask_head-asked.result)) (c.first_of.ensures ∙ ap (λ (y : Verdict). then y (verdict_of c.decide-2.result)) c.decide.ensures ∙ ap (then (decided 1 c.read_arguments-a.result.over)) c.decide-2.ensures)) in
-    declarable p.number_is p.some c.read_arguments-a.ensures c.ask_head-asked.result c.first_of-early.result c.ask_head-asked.ensures all (c.from.ensures ∙ c.line_at.ensures) p.met.reading
+    rw c.first_waiting.ensures
+    (declarable p.number_is p.some c.read_arguments-a.ensures c.ask_head-asked.result c.first_of-early.result c.ask_head-asked.ensures all (c.from.ensures ∙ c.line_at.ensures) p.met.reading)
 
 pub finish-requires : goal.finish-requires
 finish-requires c = advanceable c.requires.met.reading.judging
@@ -34,4 +35,4 @@ pub returns : goal.returns
 returns c =
     let p = c.requires in
     let all = (c.first_of-early.ensures ∙ ap (then (verdict_of c.ask_head-asked.result)) (c.first_of.ensures ∙ ap (λ (y : Verdict). then y (verdict_of c.decide-2.result)) c.decide.ensures ∙ ap (then (decided 1 c.read_arguments-a.result.over)) c.decide-2.ensures)) in
-    read-instr p.number_is p.some c.read_arguments-a.ensures c.ask_head-asked.result c.first_of-early.result c.ask_head-asked.ensures all (c.from.ensures ∙ c.line_at.ensures) c.admit_instruction-verdict.result c.admit_instruction-verdict.ensures c.finish.ensures
+    read-instr p.number_is p.some c.read_arguments-a.ensures c.ask_head-asked.result c.first_of-early.result c.ask_head-asked.ensures all (c.from.ensures ∙ c.line_at.ensures) c.admit_instruction-verdict.result (rw c.first_waiting.ensures at c.admit_instruction-verdict.ensures) c.finish.ensures

@@ -1,12 +1,13 @@
 -- `reading_statements::read_statement` meets its contract.
 use mathlib.Core.Path.{sym, ◌∙◌}
-use Rattle.reading_statements.specs.StandingLaws.{reading-here, reads_here, reads-empty}
+use Rattle.heads.specs.HeadLaws.{some-number, no-number}
+use Rattle.reading_statements.specs.StandingLaws.{reading-here, number-above, reads_here, reads-empty}
 use Rattle.reading_statements.proofs.read_statement.Goals as goal
 
 pub returns-then-is_empty : goal.returns-then-is_empty
 returns-then-is_empty c =
     let p = c.requires in
-    reads-empty p.standing c.read_head-head.ensures (sym c.is_empty.ensures ∙ c.if-is_empty.true)
+    reads-empty p.standing c.read_head-head.ensures (sym c.is_empty.ensures ∙ c.if-is_empty.true) c.following.ensures
 
 pub read_instruction-requires : goal.read_instruction-requires
 read_instruction-requires c =
@@ -15,12 +16,12 @@ read_instruction-requires c =
       switches = _;
       entries = _;
       met = record { place = _; draft = p.draft; reading = reading-here p.standing c.read_head-head.ensures };
-      number_is = c.instr_of-number.ensures;
-      some = c.if-number-ne0.true;
+      number_is = some-number _ c.in-Some.ensures;
+      some = number-above p.standing c.read_head-head.ensures c.in-Some.ensures;
     }
 
-pub returns-then-number-ne0 : goal.returns-then-number-ne0
-returns-then-number-ne0 c =
+pub returns-in-Some : goal.returns-in-Some
+returns-in-Some c =
     let p = c.requires in
     reads_here p.standing c.read_head-head.ensures (c.read_instruction.ensures _ _)
 
@@ -47,7 +48,7 @@ read_ending-requires c =
       switches = _;
       entries = _;
       met = record { place = _; draft = p.draft; reading = reading-here p.standing c.read_head-head.ensures };
-      no_number = sym c.instr_of-number.ensures ∙ c.if-number-ne0.false;
+      no_number = no-number _ c.in_default.ensures;
       no_switch = sym c.is_switch.ensures ∙ c.if-is_switch.false;
     }
 

@@ -17,22 +17,22 @@ ask_head-asked-requires c =
     let j = p.met.reading.judging in
     record { place = p.met.place; draft = p.met.draft; judging = j; worst_is = whole-list p.some c.is_by_name-named.ensures c.read_list-l.ensures j.headed }
 
-pub overflow_sub-p : goal.overflow_sub-p
-overflow_sub-p c = c.requires.met.reading.judging.tells.waiting.few
+pub first_waiting-requires : goal.first_waiting-requires
+first_waiting-requires c = c.requires.met.reading.judging.tells.waiting.few
 
-pub offset_bounds-names-p : goal.offset_bounds-names-p
-offset_bounds-names-p c =
+pub offset_bounds-names-first_waiting : goal.offset_bounds-names-first_waiting
+offset_bounds-names-first_waiting c =
     let p = c.requires in
     let j = p.met.reading.judging in
-    omega (arith, name-inside p.some c.is_by_name-named.ensures j, j.tells.names.room)
+    omega (arith, c.first_waiting.ensures, name-inside p.some c.is_by_name-named.ensures j, j.tells.names.room)
 
-pub bounds-names-p : goal.bounds-names-p
-bounds-names-p c = let p = c.requires in name-inside p.some c.is_by_name-named.ensures p.met.reading.judging
+pub bounds-names-first_waiting : goal.bounds-names-first_waiting
+bounds-names-first_waiting c = let p = c.requires in omega (arith, c.first_waiting.ensures, name-inside p.some c.is_by_name-named.ensures p.met.reading.judging)
 
 pub admit_switch-verdict-requires : goal.admit_switch-verdict-requires
 admit_switch-verdict-requires c =
     let p = c.requires in
-    declarable-switch p.some c.is_by_name-named.ensures c.read_list-l.ensures c.ask_head-asked.result c.first_of-early.result c.ask_head-asked.ensures (c.first_of-early.ensures ∙ ap (then (verdict_of c.ask_head-asked.result)) c.decide.ensures) c.entries-held.ensures.is c.switch_of-d.ensures p.met.reading (omega arith)
+    declarable-switch p.some c.is_by_name-named.ensures c.read_list-l.ensures c.ask_head-asked.result c.first_of-early.result c.ask_head-asked.ensures (c.first_of-early.ensures ∙ ap (then (verdict_of c.ask_head-asked.result)) c.decide.ensures) c.entries-held.ensures.is (rw c.first_waiting.ensures at c.switch_of-d.ensures) p.met.reading (omega arith)
 
 pub finish-requires : goal.finish-requires
 finish-requires c = advanceable c.requires.met.reading.judging
@@ -41,5 +41,5 @@ pub returns : goal.returns
 returns c =
     let p = c.requires in
     λ lines.
-    read-switch p.some c.is_by_name-named.ensures c.read_list-l.ensures c.ask_head-asked.result c.first_of-early.result c.ask_head-asked.ensures (c.first_of-early.ensures ∙ ap (then (verdict_of c.ask_head-asked.result)) c.decide.ensures) c.entries-held.ensures.is c.switch_of-d.ensures c.admit_switch-verdict.result
+    read-switch p.some c.is_by_name-named.ensures c.read_list-l.ensures c.ask_head-asked.result c.first_of-early.result c.ask_head-asked.ensures (c.first_of-early.ensures ∙ ap (then (verdict_of c.ask_head-asked.result)) c.decide.ensures) c.entries-held.ensures.is (rw c.first_waiting.ensures at c.switch_of-d.ensures) c.admit_switch-verdict.result
     c.admit_switch-verdict.ensures (omega arith) c.finish.ensures
