@@ -1,19 +1,21 @@
 -- Whole numbers by their codes: signs and sizes, sums, products, quotients and remainders.
 use mathlib.Core.Path.{◌≡◌, refl, sym, ap, ◌∙◌}
 use mathlib.Core.Bool.{Bool, true, false, cond}
-use Prim.Native.Nat.{ℕ, zero, suc, ◌+◌, ◌*◌, ◌-◌, ◌/◌, ◌%◌, ◌≤◌, ◌<◌}
+use Prim.Native.Nat.{ℕ, zero, suc, ◌+◌, ◌-◌, ◌/◌, ◌%◌, ◌≤◌, ◌<◌}
 use native.Mathlib.Omega.{arith}
-use native.Mathlib.Nat.{div-le_self, mod-le, mul-le-mul}
+use native.Mathlib.Nat.{div-le_self, mod-le}
 use lib.Dec.{ltb}
-use lib.IntN.{ℤ, pos, negsuc, nat_abs, neg_ℤ, sub_ℕ, ◌+ℤ◌, ◌*ℤ◌}
+use lib.IntN.{ℤ, pos, negsuc, nat_abs, neg_ℤ, sub_ℕ, ◌+ℤ◌}
 use lib.Signed.{quot_z, rem_z}
-use borrow.Author.Tests.{leb-true, ltb-true, ltb-false, le-leb, lt-leb}
+use borrow.Author.Tests.{ltb-true, ltb-false, le-leb, lt-leb}
 use Rattle.language.specs.Values.{in_range}
 use Rattle.layout.specs.Cells.{code, uncode}
 use Rattle.layout.proofs.CellLaws.{uncode-code}
 use Rattle.operands.proofs.Codes.{code_most, code-back, abs-most}
-use Rattle.tests.proofs.Values.{low, high}
-use Rattle.arithmetic.specs.Arithmetic.{coded_result, negative, differ, signed, Coded, Size, Codes}
+use Rattle.operands.proofs.Values.{low, high}
+use Rattle.std.specs.Prelude.{Ok, Err}
+use Rattle.instructions.specs.declared.Question.TheVariants.{Range}
+use Rattle.arithmetic.specs.Arithmetic.{negative, differ, signed, Coded, Size, Codes, InRange}
 
 -- ---- codes
 
@@ -24,33 +26,25 @@ negative-is n = go (ltb n 8388607) refl
     go true e = e ∙ sym (ap negative (low n (ltb-true n 8388607 e)))
     go false e = e ∙ sym (ap negative (high n (ltb-false n 8388607 e)))
 
-pub size_low : (n : ℕ) → n < 8388607 → Size n (8388607 - n)
-size_low n h = record { is = rw (low n h) (omega arith); most = omega arith }
-
-pub size-high : (n : ℕ) → 8388607 ≤ n → n ≤ 16777214 → Size n (n - 8388607)
-size-high n h k = record { is = rw (high n h) refl; most = omega arith }
+pub size-of : (n : ℕ) {r : ℕ} → r ≡ (n - 8388607) + (8388607 - n) → n ≤ 16777214 → Size n r
+size-of n {r} e h = go (ltb n 8388607) refl
+  where
+    go : (t : Bool) → ltb n 8388607 ≡ t → Size n r
+    go true f = let l = ltb-true n 8388607 f in record { is = rw (low n l) (omega (arith, e, l)); most = omega (arith, e, l) }
+    go false f = let l = ltb-false n 8388607 f in record { is = rw (high n l) (omega (arith, e, l)); most = omega (arith, e, l, h) }
 
 -- ---- results
 
-pub result-out : (z : ℤ) → 8388607 < nat_abs z → 16777215 ≡ coded_result z
-unfolding coded_result
-result-out z h = rw (lt-leb (nat_abs z) 8388607 h) refl
+pub out_of : (z : ℤ) → 8388607 < nat_abs z → InRange z (Err Range)
+out_of z h = record { told = rw (lt-leb (nat_abs z) 8388607 h) refl; is = tt }
 
-pub result-in : (z : ℤ) → nat_abs z ≤ 8388607 → code z ≡ coded_result z
-unfolding coded_result
-result-in z h = rw (le-leb (nat_abs z) 8388607 h) refl
+codes_of : (z : ℤ) {c : ℕ} → c ≡ code z → nat_abs z ≤ 8388607 → Codes z c
+codes_of z e h = record { is = rw e (uncode-code z h); range = le-leb (nat_abs z) 8388607 h; most = rw e (code_most z h) }
 
-result-most : (z : ℤ) → coded_result z ≤ 16777215
-unfolding coded_result
-result-most z = go (in_range z) refl
-  where
-    go : (t : Bool) → in_range z ≡ t → cond t (code z) 16777215 ≤ 16777215
-    go true e = omega (arith, code_most z (leb-true (nat_abs z) 8388607 e))
-    go false e = omega arith
+in_it : (z : ℤ) {c : ℕ} → Codes z c → InRange z (Ok c)
+in_it z h = record { told = rw h.range refl; is = h }
 
-pub result_fits : {r : ℕ} (z : ℤ) → r ≡ coded_result z → r ≤ 16777215
-result_fits z e = rw e (result-most z)
-
+-- the code of a sign and a size
 abs-signed : (t : Bool) (n : ℕ) → nat_abs (signed t n) ≡ n
 abs-signed true zero = refl
 abs-signed true (suc n) = refl
@@ -62,17 +56,14 @@ code-signed true zero h = omega arith
 code-signed true (suc n) h = omega arith
 code-signed false n h = refl
 
-pub signed-out : (t : Bool) (n : ℕ) → 8388607 < n → 16777215 ≡ coded_result (signed t n)
-signed-out t n h = result-out (signed t n) (rw (abs-signed t n) h)
+signed-codes : (t : Bool) (n : ℕ) {c : ℕ} → c ≡ cond t (8388607 - n) (8388607 + n) → n ≤ 8388607 → Codes (signed t n) c
+signed-codes t n e h = codes_of (signed t n) (e ∙ code-signed t n h) (rw (abs-signed t n) h)
 
-pub signed-in : (t : Bool) (n : ℕ) → n ≤ 8388607 → cond t (8388607 - n) (8388607 + n) ≡ coded_result (signed t n)
-signed-in t n h = code-signed t n h ∙ result-in (signed t n) (rw (abs-signed t n) h)
+pub signed-minus : (t : Bool) (n : ℕ) → t ≡ true → n ≤ 8388607 → Codes (signed t n) (8388607 - n)
+signed-minus t n e h = signed-codes t n (rw e refl) h
 
-pub signed-minus : (t : Bool) (n : ℕ) → t ≡ true → n ≤ 8388607 → 8388607 - n ≡ coded_result (signed t n)
-signed-minus t n e h = sym (rw e refl) ∙ signed-in t n h
-
-pub signed-plus : (t : Bool) (n : ℕ) → t ≡ false → n ≤ 8388607 → 8388607 + n ≡ coded_result (signed t n)
-signed-plus t n e h = sym (rw e refl) ∙ signed-in t n h
+pub signed-plus : (t : Bool) (n : ℕ) → t ≡ false → n ≤ 8388607 → Codes (signed t n) (8388607 + n)
+signed-plus t n e h = signed-codes t n (rw e refl) h
 
 -- ---- sums: s is z with 16,777,214 added
 
@@ -111,16 +102,17 @@ offset-in (pos k) s h l m = (omega (arith, h), omega (arith, h))
 offset-in (negsuc k) s h l m = (omega (arith, h), omega (arith, h))
 
 module _ {a b : ℕ} (h : Coded a b) where
-  pub sum_low : a + b < 8388607 → 16777215 ≡ coded_result (uncode a +ℤ uncode b)
-  sum_low l = result-out (uncode a +ℤ uncode b) (offset-low (uncode a +ℤ uncode b) (a + b) (coded-sum h) l)
+  abbrev z : ℤ
+  z = uncode a +ℤ uncode b
 
-  pub sum-high : 25165821 < a + b → 16777215 ≡ coded_result (uncode a +ℤ uncode b)
-  sum-high l = result-out (uncode a +ℤ uncode b) (offset-high (uncode a +ℤ uncode b) (a + b) (coded-sum h) l)
+  pub sum_low : a + b < 8388607 → InRange z (Err Range)
+  sum_low l = out_of z (offset-low z (a + b) (coded-sum h) l)
 
-  pub sum-in : 8388607 ≤ a + b → a + b ≤ 25165821 → (a + b) - 8388607 ≡ coded_result (uncode a +ℤ uncode b)
-  sum-in l m =
-      let k = offset-in (uncode a +ℤ uncode b) (a + b) (coded-sum h) l m in
-      k.0 ∙ result-in (uncode a +ℤ uncode b) k.1
+  pub sum-high : 25165821 < a + b → InRange z (Err Range)
+  sum-high l = out_of z (offset-high z (a + b) (coded-sum h) l)
+
+  pub sum-in : 8388607 ≤ a + b → a + b ≤ 25165821 → InRange z (Ok ((a + b) - 8388607))
+  sum-in l m = let k = offset-in z (a + b) (coded-sum h) l m in in_it z (codes_of z k.0 k.1)
 
 -- ---- differences
 
@@ -140,13 +132,7 @@ mirrored n h = go (ltb n 8388607) (ltb 8388607 n) refl refl
         let q : n ≡ 8388607 = omega (arith, ltb-false n 8388607 e, ltb-false 8388607 n f) in
         rw (q, high 8388607 (omega arith)) refl
 
--- ---- products, quotients, remainders by sign and size
-
-pub product_is : (x y : ℤ) → x *ℤ y ≡ signed (differ (negative x) (negative y)) (nat_abs x * nat_abs y)
-product_is (pos a) (pos b) = refl
-product_is (pos a) (negsuc b) = refl
-product_is (negsuc a) (pos b) = refl
-product_is (negsuc a) (negsuc b) = refl
+-- ---- quotients and remainders by sign and size
 
 quotient_is : (x y : ℤ) → quot_z x y ≡ signed (differ (negative x) (negative y)) (nat_abs x / nat_abs y)
 quotient_is (pos a) (pos b) = refl
@@ -157,28 +143,6 @@ quotient_is (negsuc a) (negsuc b) = refl
 remainder_is : (x y : ℤ) → rem_z x y ≡ signed (negative x) (nat_abs x % nat_abs y)
 remainder_is (pos a) y = refl
 remainder_is (negsuc a) y = refl
-
-pub product-most : {x y : ℕ} → x ≤ 8388607 → y ≤ 8388607 → x * y < 18446744073709551616
-product-most {x} {y} h k = omega (arith, mul-le-mul h k)
-
--- the code of a signed number of the machine
-codes-signed : (z : ℤ) (t : Bool) (n : ℕ) {r : ℕ} → z ≡ signed t n → n ≤ 8388607 → r ≡ coded_result (signed t n) → Codes z r
-codes-signed z t n {r} e h q =
-    let m : nat_abs z ≤ 8388607 = rw (e, abs-signed t n) h in
-    let c : r ≡ code z = q ∙ ap coded_result (sym e) ∙ sym (result-in z m) in
-    record { is = rw c (uncode-code z m); range = le-leb (nat_abs z) 8388607 m; most = rw c (code_most z m) }
-
-module _ {a b x y : ℕ} (h : Size a x) (k : Size b y) where
-  pub product-right : {t : Bool} {r : ℕ} → t ≡ differ (negative (uncode a)) (negative (uncode b)) → r ≡ coded_result (signed t (x * y)) → r ≡ coded_result (uncode a *ℤ uncode b)
-  product-right e q = q ∙ rw (e, h.is, k.is) (ap coded_result (sym (product_is (uncode a) (uncode b))))
-
-  pub quotient-right : {t : Bool} {r : ℕ} → t ≡ differ (negative (uncode a)) (negative (uncode b)) → r ≡ coded_result (signed t (x / y)) → Codes (quot_z (uncode a) (uncode b)) r
-  quotient-right {t} e q =
-      codes-signed (quot_z (uncode a) (uncode b)) t (x / y) (quotient_is (uncode a) (uncode b) ∙ rw (e, h.is, k.is) refl) (omega (arith, div-le_self x y, h.most)) q
-
-  pub remainder-right : {t : Bool} {r : ℕ} → t ≡ negative (uncode a) → r ≡ coded_result (signed t (x % y)) → Codes (rem_z (uncode a) (uncode b)) r
-  remainder-right {t} e q =
-      codes-signed (rem_z (uncode a) (uncode b)) t (x % y) (remainder_is (uncode a) (uncode b) ∙ rw (e, h.is, k.is) refl) (omega (arith, mod-le x y, h.most)) q
 
 -- a divisor other than zero has a size
 pub size-some : {b y : ℕ} → Size b y → b ≤ 16777214 → (b ≡ 8388607 → ⊥) → 0 < y

@@ -16,35 +16,40 @@ use Rattle.language.specs.Letters.Letter.{E}
 use Rattle.language.specs.Program.{Arg, Op, Program}
 use Rattle.language.specs.Program.Arg.{nothing}
 use Rattle.language.specs.Program.Op.{DODAJ, ODEJMIJ, MNOZ, DZIEL}
-use Rattle.language.specs.Values.{Component, Store, Inputs, value, in_range}
+use Rattle.language.specs.Values.{Component, Store, State, Inputs, value, in_range}
 use Rattle.machine.specs.Arguments.{Asks, expr, first, side, ask, of_kinds, ◌&◌}
 use Rattle.machine.specs.Changes.{fits}
 use Rattle.machine.specs.Effects.{Row, computed, row}
 use Rattle.machine.specs.Effects.Go.{on}
 use Rattle.layout.specs.Cells.{uncode}
-use Rattle.state.specs.Working.{state_at, HoldsState, Stands, nth, reading}
-use Rattle.instructions.specs.Does.{answer_of, with_store, Does, Quiet, Tried}
+use Rattle.state.specs.Working.{HoldsState, Stands, nth, reading}
+use Rattle.instructions.specs.Does.{answer_of, with_store, stop_of, Does, Quiet, Tried}
 use Rattle.instructions.proofs.Answers.{answer-decided, kept-stop, kept-done, does-stop, answer-quiet, quiet-stop, unstopped}
 use Rattle.table.specs.Denote.{arg_of}
 use Rattle.table.specs.declared.Argument.{Argument}
-use Rattle.operands.specs.Operands.{ReadsOperands, ReadsPair, replaced, DoesWith}
+use Rattle.std.specs.Prelude.{Result, Ok, Err}
+use Rattle.std.proofs.lemmas.Result.{IfOk-at_ok}
+use Rattle.instructions.specs.Questions.{question_number, told_by}
+use Rattle.instructions.specs.declared.Question.{Question}
+use Rattle.instructions.proofs.Asking.{some}
+use Rattle.operands.specs.Operands.{Both, ReadsPair, replaced, DoesWith}
 use Rattle.operands.specs.declared.Pair.{Pair}
 use Rattle.operands.proofs.Codes.{abs-most}
-use Rattle.tests.proofs.Values.{high}
+use Rattle.operands.proofs.Values.{high}
 use Rattle.operands.proofs.Reading.{wordless}
 use Rattle.operands.proofs.Replacing.{replaced-last, left-first}
-use Rattle.arithmetic.specs.Arithmetic.{Coded, Divisible, Codes, Numbered, Computed}
+use Rattle.arithmetic.specs.Arithmetic.{Coded, Divisible, Codes, InRange, Numbered}
 use Rattle.arithmetic.proofs.Numbers.{divided-in, size_is, size-some}
 
 -- all is answered yes but, maybe, 59
-module _ {p e n : List ℕ} (q : Asks) (t : Store) where
-  pub settled : answer_of (q, t, on) (state_at p e n) ≡ cond (fits t) 0 59 → {k : ℕ} {p' e' n' : List ℕ} → Tried p e n k p' e' n' true t → Does p e n k p' e' n' (q, t, on)
-  settled a {k} {p'} {e'} {n'} w = go (fits t) a w.is w.holds
+module _ {σ : State} (q : Asks) (t : Store) where
+  pub settled : answer_of (q, t, on) σ ≡ cond (fits t) 0 59 → {k : ℕ} {σ' : State} → Tried σ k σ' true t → Does σ k σ' (q, t, on)
+  settled a {k} {σ'} w = go (fits t) a w.is w.holds
     where
-      go : (f : Bool) → answer_of (q, t, on) (state_at p e n) ≡ cond f 0 59 → k ≡ cond f 0 59
-          → HoldsState p' e' n' (cond f (with_store t (state_at p e n)) (state_at p e n)) → Does p e n k p' e' n' (q, t, on)
-      go true z i g = record { is = i ∙ sym z; holds = rw (kept-done (q, t, on) (state_at p e n) z) g }
-      go false z i g = record { is = i ∙ sym z; holds = rw (kept-stop (q, t, on) (state_at p e n) z (λ y. omega (arith, y))) g }
+      go : (f : Bool) → answer_of (q, t, on) σ ≡ cond f 0 59 → k ≡ cond f 0 59
+          → HoldsState σ' (cond f (with_store t σ) σ) → Does σ k σ' (q, t, on)
+      go true z i g = record { is = i ∙ sym z; holds = rw (kept-done (q, t, on) σ z) g }
+      go false z i g = record { is = i ∙ sym z; holds = rw (kept-stop (q, t, on) σ z (λ y. omega (arith, y))) g }
 
 -- ---- rows of two operands of the kinds ks: of what is offered as xs and ys, and has the values x and y
 
@@ -101,61 +106,62 @@ range-after false b c z = refl
 range-after true false c z = refl
 range-after true true c z = absurd (z refl)
 
-module _ {p e n : List ℕ} (h : Stands p e n) (i : ℕ) where
+module _ {σ : State} (h : Stands σ) (i : ℕ) where
   abbrev s : Store
-  s = (state_at p e n).store
+  s = σ.store
 
   last_most : (zs : List Component) → (replaced true i zs s).last ≤ limit.addresses
   last_most zs = rw (replaced-last true i zs s) h.fine.last_most
 
-  module _ (ks : List (ℕ × ℕ)) (xs ys : List Component) {r : Pair} (w : ReadsOperands ks xs ys r) where
+  module _ (ks : List (ℕ × ℕ)) (xs ys : List Component) where
     abbrev kinds : Asks
     kinds = of_kinds ks xs ys
 
-    abbrev x : ℤ
-    x = uncode r.left
-
-    abbrev y : ℤ
-    y = uncode r.right
-
-    -- what is done with the codes' values is done with the operands'
-    pub by_values : (f : ℤ → ℤ → Row) {k : ℕ} {p' e' n' : List ℕ} → Does p e n k p' e' n' (f x y) → Does p e n k p' e' n' (f (value (first xs)) (value (first ys)))
-    by_values f d = rw (w.left_is, w.right_is) at d
-
-    pub two-stop : (f : ℤ → ℤ → List ℤ) → (r.stop ≡ 0 → ⊥) → Does p e n r.stop p e n (row_of ks f i s xs ys x y)
-    two-stop f z =
+    -- 52 or 53
+    pub two-stop : (f : ℤ → ℤ → List ℤ) (x y : ℤ) {k : ℕ} → k ≡ stop_of kinds → (k ≡ 0 → ⊥) → Does σ k σ (row_of ks f i s xs ys x y)
+    two-stop f x y w z =
         let c = all in_range (f x y) in
         quiet-stop h (asks_of ks xs ys c) (replaced true i (map Component.number (f x y)) s) (quiet-two ks xs ys c)
-        (w.stop_is ∙ range-after (kinds 52) (kinds 53) c (λ q. z (w.stop_is ∙ q))) z
+        (w ∙ range-after (kinds 52) (kinds 53) c (λ q. z (w ∙ q))) z
 
-    module _ (z : r.stop ≡ 0) where
+    -- one result
+    module _ (n : 0 ≡ stop_of kinds) (v : ℤ) where
       both_yes : (kinds 52 ≡ true) × (kinds 53 ≡ true) × (kinds 54 ≡ true)
-      both_yes = unstopped kinds (sym w.stop_is ∙ z)
+      both_yes = unstopped kinds (sym n)
 
-      -- one result
-      module _ (f : ℤ → ℤ → ℤ) where
-        abbrev v : ℤ
-        v = f x y
+      abbrev t : Store
+      t = replaced true i (Component.number v ∷ []) s
 
-        abbrev t : Store
-        t = replaced true i (Component.number v ∷ []) s
+      abbrev q : Asks
+      q = asks_of ks xs ys (in_range v && true)
 
-        abbrev q : Asks
-        q = asks_of ks xs ys (in_range v && true)
+      answers : answer_of (q, t, on) σ ≡ cond ((in_range v && true) && true) (cond (fits t) 0 59) 54
+      answers =
+          answer-quiet q t σ (quiet-two ks xs ys (in_range v && true)) h.fine.stack_most
+          ∙ rw (both_yes.0, both_yes.1, le-leb t.last limit.addresses (last_most (Component.number v ∷ []))) refl
 
-        answers : answer_of (q, t, on) (state_at p e n) ≡ cond ((in_range v && true) && true) (cond (fits t) 0 59) 54
-        answers =
-            answer-quiet q t (state_at p e n) (quiet-two ks xs ys (in_range v && true)) h.fine.stack_most
-            ∙ rw (both_yes.0, both_yes.1, le-leb t.last limit.addresses (last_most (Component.number v ∷ []))) refl
+      done-so : in_range v ≡ true → {k : ℕ} {σ' : State} → Tried σ k σ' true t → Does σ k σ' (q, t, on)
+      done-so y u = settled q t (answers ∙ rw y refl) u
 
-        pub one-done : {k : ℕ} {p' e' n' : List ℕ} → Computed p e n k p' e' n' i v → Does p e n k p' e' n' (row_of ks (λ x y. f x y ∷ []) i s xs ys x y)
-        one-done {k} {p'} {e'} {n'} u = go (in_range v) refl
-          where
-            go : (b : Bool) → in_range v ≡ b → Does p e n k p' e' n' (q, t, on)
-            go true y = settled q t (answers ∙ rw y refl) (u.within y)
-            go false y =
-                let a : answer_of (q, t, on) (state_at p e n) ≡ 54 = answers ∙ rw y refl in
-                record { is = u.over y ∙ sym a; holds = rw (kept-stop (q, t, on) (state_at p e n) a (λ x. omega (arith, x))) (u.kept y) }
+      over-so : in_range v ≡ false → Does σ 54 σ (q, t, on)
+      over-so y = does-stop h (q, t, on) (answers ∙ rw y refl) (λ x. omega (arith, x))
+
+      -- from what is told of it
+      pub over-told : {m : Result ℕ Question} {x : Question} → InRange v m → m ≡ Err x → Does σ (question_number x) σ (q, t, on)
+      over-told {x = x} u e = go (in_range v) refl (sym (ap told_by e) ∙ u.told)
+        where
+          go : (b : Bool) → in_range v ≡ b → question_number x ≡ cond b 0 54 → Does σ (question_number x) σ (q, t, on)
+          go true y z = absurd (some x z)
+          go false y z = rw z (over-so y)
+
+      pub code-told : {m : Result ℕ Question} {c : ℕ} → InRange v m → m ≡ Ok c → {k : ℕ} {σ' : State}
+          → Tried σ k σ' true (replaced true i (Component.number (uncode c) ∷ []) s) → Does σ k σ' (q, t, on)
+      code-told u e {k} {σ'} w =
+          let n = IfOk-at_ok (λ x. Codes v x) e u.is in
+          done-so n.range (subst (λ (x : ℤ). Tried σ k σ' true (replaced true i (Component.number x ∷ []) s)) n.is w)
+
+pub codes_most : {v : ℤ} {m : Result ℕ Question} {z : ℕ} → InRange v m → m ≡ Ok z → z ≤ 16777214
+codes_most {v} u f = (IfOk-at_ok (λ x. Codes v x) f u.is).most
 
 -- ---- DZIEL: 55, too
 
@@ -177,15 +183,9 @@ closed-stop false b c d f z = refl
 closed-stop true false c d f z = refl
 closed-stop true true c d f z = absurd (z refl)
 
-module _ {p e n : List ℕ} (h : Stands p e n) (i : ℕ) (ks : List (ℕ × ℕ)) (xs ys : List Component) {r : Pair} (w : ReadsOperands ks xs ys r) where
+module _ {σ : State} (h : Stands σ) (i : ℕ) (ks : List (ℕ × ℕ)) (xs ys : List Component) (dividend divisor : ℤ) where
   abbrev asks : Asks
   asks = of_kinds ks xs ys
-
-  abbrev dividend : ℤ
-  dividend = uncode r.left
-
-  abbrev divisor : ℤ
-  divisor = uncode r.right
 
   abbrev is_divisor : Bool
   is_divisor = not (eqb (nat_abs divisor) 0)
@@ -194,49 +194,45 @@ module _ {p e n : List ℕ} (h : Stands p e n) (i : ℕ) (ks : List (ℕ × ℕ)
   in_both = all in_range (quotients dividend divisor)
 
   abbrev divided_row : Row
-  divided_row = divided ks i (state_at p e n).store xs ys dividend divisor
+  divided_row = divided ks i σ.store xs ys dividend divisor
 
-  answer-divided : answer_of divided_row (state_at p e n) ≡ closed (asks 52) (asks 53) in_both is_divisor (fits divided_row.1)
+  answer-divided : answer_of divided_row σ ≡ closed (asks 52) (asks 53) in_both is_divisor (fits divided_row.1)
   answer-divided =
-      answer-decided divided_row (state_at p e n)
+      answer-decided divided_row σ
       ∙ rw (
-        le-leb (length (state_at p e n).stack) limit.stack h.fine.stack_most,
+        le-leb (length σ.stack) limit.stack h.fine.stack_most,
         le-leb divided_row.1.last limit.addresses (last_most h i (map Component.number (quotients dividend divisor))),
       ) (decided-so (asks 52) (asks 53) in_both is_divisor (fits divided_row.1))
 
-  pub dziel-stop : (r.stop ≡ 0 → ⊥) → Does p e n r.stop p e n divided_row
-  dziel-stop z =
+  dziel-stop : {k : ℕ} → k ≡ stop_of asks → (k ≡ 0 → ⊥) → Does σ k σ divided_row
+  dziel-stop w z =
       does-stop h divided_row
-      (answer-divided ∙ closed-stop (asks 52) (asks 53) in_both is_divisor (fits divided_row.1) (λ y. z (w.stop_is ∙ y)) ∙ sym w.stop_is) z
+      (answer-divided ∙ closed-stop (asks 52) (asks 53) in_both is_divisor (fits divided_row.1) (λ y. z (w ∙ y)) ∙ sym w) z
 
-  module _ (z : r.stop ≡ 0) where
-    answer-two : answer_of divided_row (state_at p e n) ≡ cond is_divisor (cond (fits divided_row.1) 0 59) 55
+  module _ (n : 0 ≡ stop_of asks) (l : nat_abs dividend ≤ 8388607) where
+    answer-two : answer_of divided_row σ ≡ cond is_divisor (cond (fits divided_row.1) 0 59) 55
     answer-two =
-        let k = divided-in dividend divisor (abs-most r.left w.left_most) in
-        let u = both_yes h i ks xs ys w z in
+        let k = divided-in dividend divisor l in
+        let u = unstopped asks (sym n) in
         answer-divided ∙ rw (u.0, u.1, k.0, k.1) refl
 
-    pub dziel-zero : r.right ≡ 8388607 → Does p e n 55 p e n divided_row
-    dziel-zero o =
-        let d : eqb (nat_abs divisor) 0 ≡ true = rw (o, high 8388607 (omega arith)) refl in
-        does-stop h divided_row (answer-two ∙ rw d refl) (λ k. omega (arith, k))
+    dziel-zero : nat_abs divisor ≡ 0 → Does σ 55 σ divided_row
+    dziel-zero o = does-stop h divided_row (answer-two ∙ rw o refl) (λ k. omega (arith, k))
 
-    pub dziel-done : (r.right ≡ 8388607 → ⊥) → (a b : ℕ) → uncode a ≡ rem_z dividend divisor → uncode b ≡ quot_z dividend divisor → {k : ℕ} {p' e' n' : List ℕ}
-        → Tried p e n k p' e' n' true (replaced true i (Component.number (uncode a) ∷ Component.number (uncode b) ∷ []) (state_at p e n).store)
-        → Does p e n k p' e' n' divided_row
-    dziel-done o a b l m {k} {p'} {e'} {n'} u =
-        let d = size-some (size_is r.right w.right_most) w.right_most o in
-        let c : eqb (nat_abs divisor) 0 ≡ false = ne_eqb (nat_abs divisor) 0 (λ q. omega (arith, d, q)) in
-        let v : Tried p e n k p' e' n' true divided_row.1 =
-        subst (λ (q : ℤ × ℤ). Tried p e n k p' e' n' true (replaced true i (Component.number q.0 ∷ Component.number q.1 ∷ []) (state_at p e n).store))
+    dziel-done : 0 < nat_abs divisor → (a b : ℕ) → uncode a ≡ rem_z dividend divisor → uncode b ≡ quot_z dividend divisor → {k : ℕ} {σ' : State}
+        → Tried σ k σ' true (replaced true i (Component.number (uncode a) ∷ Component.number (uncode b) ∷ []) σ.store) → Does σ k σ' divided_row
+    dziel-done o a b l m {k} {σ'} u =
+        let c : eqb (nat_abs divisor) 0 ≡ false = ne_eqb (nat_abs divisor) 0 (λ q. omega (arith, o, q)) in
+        let v : Tried σ k σ' true divided_row.1 =
+        subst (λ (q : ℤ × ℤ). Tried σ k σ' true (replaced true i (Component.number q.0 ∷ Component.number q.1 ∷ []) σ.store))
         (ap (λ (f : ℤ). (f, uncode b)) l ∙ ap (λ (f : ℤ). (rem_z dividend divisor, f)) m) u in
         settled divided_row.0 divided_row.1 (answer-two ∙ rw c refl) v
 
 -- ---- what the functions of the instructions promise
 
-module _ {p e n : List ℕ} (h : Stands p e n) (i : ℕ) (a : Argument) where
+module _ {σ : State} (h : Stands σ) (i : ℕ) (a : Argument) where
   abbrev store : Store
-  store = (state_at p e n).store
+  store = σ.store
 
   abbrev rows : Op → List ℕ → Program → Inputs → Row
   rows o c g ins = row g ins store (nth (reading true) i) (arg_of c a) nothing o
@@ -247,69 +243,117 @@ module _ {p e n : List ℕ} (h : Stands p e n) (i : ℕ) (a : Argument) where
   abbrev right : List ℕ → Inputs → List Component
   right c ins = side ins store (arg_of c a)
 
-  module _ {ks : List (ℕ × ℕ)} {r : Pair} (w : ReadsPair ks store i a r) where
-    pub both_coded : Coded r.left r.right
-    both_coded = record { left = (w true [] []).left_most; right = (w true [] []).right_most }
+  -- both operands are there, of kinds that are taken
+  module _ {ks : List (ℕ × ℕ)} {r : Result Pair Question} (w : ReadsPair ks store i a r) {p : Pair} (e : r ≡ Ok p) where
+    both : (c : List ℕ) (ins : Inputs) → Both (left ins) (right c ins) p
+    both c ins = IfOk-at_ok (λ x. Both (left ins) (right c ins) x) e (w true c ins).is
 
-    pub divisible : (r.right ≡ 8388607 → ⊥) → Divisible r.left r.right
+    none-stops : (c : List ℕ) (ins : Inputs) → 0 ≡ stop_of (of_kinds ks (left ins) (right c ins))
+    none-stops c ins = sym (ap told_by e) ∙ (w true c ins).told
+
+    -- what is done with the codes' values is done with the operands'
+    by_values : (c : List ℕ) (ins : Inputs) (f : ℤ → ℤ → Row) {k : ℕ} {σ' : State} → Does σ k σ' (f (uncode p.left) (uncode p.right))
+        → Does σ k σ' (f (value (first (left ins))) (value (first (right c ins))))
+    by_values c ins f d = let b = both c ins in rw (b.left_is, b.right_is) at d
+
+    pub both_coded : Coded p.left p.right
+    both_coded = let b = both [] [] in record { left = b.left_most; right = b.right_most }
+
+    pub divisible : (p.right ≡ 8388607 → ⊥) → Divisible p.left p.right
     divisible z = record { coded = both_coded; some = z }
 
-    pub numbered : T (wordless ks) → r.stop ≡ 0 → {scratch hold : ℕ} → 65536 ≤ scratch → 32768 ≤ hold → i < limit.expressions → Numbered p e n scratch hold i
-    numbered k z sp ro ix =
-        record { stands = h; spare = sp; room = ro; index = ix; first = left-first ks k (expr store (nth E i)) (right [] []) (sym (w true [] []).stop_is ∙ z) }
+    pub numbered : T (wordless ks) → i < limit.expressions → Numbered σ i
+    numbered k x = record { index = x; first = left-first ks k (expr store (nth E i)) (right [] []) (sym (none-stops [] [])) }
 
   -- an instruction with one result
   module _ (o : Op) (f : ℤ → ℤ → ℤ)
       (is : (g : Program) (ins : Inputs) (b : Arg) → row g ins store (nth (reading true) i) b nothing o ≡ of_values g ins store i b (row_of (kinds_of o) (λ x y. f x y ∷ []) i store (xs g ins store i b) (ys g ins store i b)))
-      {r : Pair} (w : ReadsPair (kinds_of o) store i a r) where
-    one-by : (c : List ℕ) (g : Program) (ins : Inputs) {k : ℕ} {p' e' n' : List ℕ}
-        → Does p e n k p' e' n' (row_of (kinds_of o) (λ x y. f x y ∷ []) i store (left ins) (right c ins) (uncode r.left) (uncode r.right)) → Does p e n k p' e' n' (rows o c g ins)
-    one-by c g ins d =
+      {r : Result Pair Question} (w : ReadsPair (kinds_of o) store i a r) where
+    abbrev one_row : List ℕ → Inputs → ℤ → ℤ → Row
+    one_row c ins = row_of (kinds_of o) (λ x y. f x y ∷ []) i store (left ins) (right c ins)
+
+    one-stop : {q : Question} → r ≡ Err q → DoesWith σ (question_number q) σ (rows o)
+    one-stop {q} e c g ins =
         rw (is g ins (arg_of c a))
-        (by_values h i (kinds_of o) (left ins) (right c ins) (w true c ins) (row_of (kinds_of o) (λ x y. f x y ∷ []) i store (left ins) (right c ins)) d)
+        (two-stop h i (kinds_of o) (left ins) (right c ins) (λ x y. f x y ∷ []) (value (first (left ins))) (value (first (right c ins)))
+        (sym (ap told_by e) ∙ (w true c ins).told) (some q))
 
-    one-stop : (r.stop ≡ 0 → ⊥) → DoesWith p e n r.stop p e n (rows o)
-    one-stop z c g ins = one-by c g ins (two-stop h i (kinds_of o) (left ins) (right c ins) (w true c ins) (λ x y. f x y ∷ []) z)
+    module _ {p : Pair} (e : r ≡ Ok p) {m : Result ℕ Question} (u : InRange (f (uncode p.left) (uncode p.right)) m) where
+      abbrev v : ℤ
+      v = f (uncode p.left) (uncode p.right)
 
-    one-result : r.stop ≡ 0 → {k : ℕ} {p' e' n' : List ℕ} → Computed p e n k p' e' n' i (f (uncode r.left) (uncode r.right)) → DoesWith p e n k p' e' n' (rows o)
-    one-result z u c g ins = one-by c g ins (one-done h i (kinds_of o) (left ins) (right c ins) (w true c ins) z f u)
+      one-over : {q : Question} → m ≡ Err q → DoesWith σ (question_number q) σ (rows o)
+      one-over d c g ins =
+          rw (is g ins (arg_of c a)) (by_values w e c ins (one_row c ins) (over-told h i (kinds_of o) (left ins) (right c ins) (none-stops w e c ins) v u d))
 
-  module _ {r : Pair} (w : ReadsPair (kinds_of DODAJ) store i a r) where
-    pub dodaj-stop : (r.stop ≡ 0 → ⊥) → DoesWith p e n r.stop p e n (rows DODAJ)
+      one-result : {z : ℕ} → m ≡ Ok z → {k : ℕ} {σ' : State} → Tried σ k σ' true (replaced true i (Component.number (uncode z) ∷ []) store)
+          → DoesWith σ k σ' (rows o)
+      one-result d t c g ins =
+          rw (is g ins (arg_of c a)) (by_values w e c ins (one_row c ins) (code-told h i (kinds_of o) (left ins) (right c ins) (none-stops w e c ins) v u d t))
+
+  module _ {r : Result Pair Question} (w : ReadsPair (kinds_of DODAJ) store i a r) where
+    pub dodaj-stop : {q : Question} → r ≡ Err q → DoesWith σ (question_number q) σ (rows DODAJ)
     dodaj-stop = one-stop DODAJ (λ x y. x +ℤ y) (λ g ins. row-dodaj g ins store i) w
 
-    pub dodaj-done : r.stop ≡ 0 → {k : ℕ} {p' e' n' : List ℕ} → Computed p e n k p' e' n' i (uncode r.left +ℤ uncode r.right) → DoesWith p e n k p' e' n' (rows DODAJ)
-    dodaj-done = one-result DODAJ (λ x y. x +ℤ y) (λ g ins. row-dodaj g ins store i) w
+    module _ {p : Pair} (e : r ≡ Ok p) {m : Result ℕ Question} (u : InRange (uncode p.left +ℤ uncode p.right) m) where
+      pub dodaj-over : {q : Question} → m ≡ Err q → DoesWith σ (question_number q) σ (rows DODAJ)
+      dodaj-over = one-over DODAJ (λ x y. x +ℤ y) (λ g ins. row-dodaj g ins store i) w e u
 
-  module _ {r : Pair} (w : ReadsPair (kinds_of ODEJMIJ) store i a r) where
-    pub odejmij-stop : (r.stop ≡ 0 → ⊥) → DoesWith p e n r.stop p e n (rows ODEJMIJ)
+      pub dodaj-done : {z : ℕ} → m ≡ Ok z → {k : ℕ} {σ' : State} → Tried σ k σ' true (replaced true i (Component.number (uncode z) ∷ []) store)
+          → DoesWith σ k σ' (rows DODAJ)
+      dodaj-done = one-result DODAJ (λ x y. x +ℤ y) (λ g ins. row-dodaj g ins store i) w e u
+
+  module _ {r : Result Pair Question} (w : ReadsPair (kinds_of ODEJMIJ) store i a r) where
+    pub odejmij-stop : {q : Question} → r ≡ Err q → DoesWith σ (question_number q) σ (rows ODEJMIJ)
     odejmij-stop = one-stop ODEJMIJ (λ x y. x -ℤ y) (λ g ins. row-odejmij g ins store i) w
 
-    pub odejmij-done : r.stop ≡ 0 → {k : ℕ} {p' e' n' : List ℕ} → Computed p e n k p' e' n' i (uncode r.left -ℤ uncode r.right) → DoesWith p e n k p' e' n' (rows ODEJMIJ)
-    odejmij-done = one-result ODEJMIJ (λ x y. x -ℤ y) (λ g ins. row-odejmij g ins store i) w
+    module _ {p : Pair} (e : r ≡ Ok p) {m : Result ℕ Question} (u : InRange (uncode p.left -ℤ uncode p.right) m) where
+      pub odejmij-over : {q : Question} → m ≡ Err q → DoesWith σ (question_number q) σ (rows ODEJMIJ)
+      odejmij-over = one-over ODEJMIJ (λ x y. x -ℤ y) (λ g ins. row-odejmij g ins store i) w e u
 
-  module _ {r : Pair} (w : ReadsPair (kinds_of MNOZ) store i a r) where
-    pub mnoz-stop : (r.stop ≡ 0 → ⊥) → DoesWith p e n r.stop p e n (rows MNOZ)
+      pub odejmij-done : {z : ℕ} → m ≡ Ok z → {k : ℕ} {σ' : State} → Tried σ k σ' true (replaced true i (Component.number (uncode z) ∷ []) store)
+          → DoesWith σ k σ' (rows ODEJMIJ)
+      odejmij-done = one-result ODEJMIJ (λ x y. x -ℤ y) (λ g ins. row-odejmij g ins store i) w e u
+
+  module _ {r : Result Pair Question} (w : ReadsPair (kinds_of MNOZ) store i a r) where
+    pub mnoz-stop : {q : Question} → r ≡ Err q → DoesWith σ (question_number q) σ (rows MNOZ)
     mnoz-stop = one-stop MNOZ (λ x y. x *ℤ y) (λ g ins. row-mnoz g ins store i) w
 
-    pub mnoz-done : r.stop ≡ 0 → {k : ℕ} {p' e' n' : List ℕ} → Computed p e n k p' e' n' i (uncode r.left *ℤ uncode r.right) → DoesWith p e n k p' e' n' (rows MNOZ)
-    mnoz-done = one-result MNOZ (λ x y. x *ℤ y) (λ g ins. row-mnoz g ins store i) w
+    module _ {p : Pair} (e : r ≡ Ok p) {m : Result ℕ Question} (u : InRange (uncode p.left *ℤ uncode p.right) m) where
+      pub mnoz-over : {q : Question} → m ≡ Err q → DoesWith σ (question_number q) σ (rows MNOZ)
+      mnoz-over = one-over MNOZ (λ x y. x *ℤ y) (λ g ins. row-mnoz g ins store i) w e u
 
-  module _ {r : Pair} (w : ReadsPair (kinds_of DZIEL) store i a r) where
-    dziel-by : (c : List ℕ) (g : Program) (ins : Inputs) {k : ℕ} {p' e' n' : List ℕ}
-        → Does p e n k p' e' n' (divided (kinds_of DZIEL) i store (left ins) (right c ins) (uncode r.left) (uncode r.right)) → Does p e n k p' e' n' (rows DZIEL c g ins)
-    dziel-by c g ins d =
+      pub mnoz-done : {z : ℕ} → m ≡ Ok z → {k : ℕ} {σ' : State} → Tried σ k σ' true (replaced true i (Component.number (uncode z) ∷ []) store)
+          → DoesWith σ k σ' (rows MNOZ)
+      mnoz-done = one-result MNOZ (λ x y. x *ℤ y) (λ g ins. row-mnoz g ins store i) w e u
+
+  module _ {r : Result Pair Question} (w : ReadsPair (kinds_of DZIEL) store i a r) where
+    abbrev two_row : List ℕ → Inputs → ℤ → ℤ → Row
+    two_row c ins = divided (kinds_of DZIEL) i store (left ins) (right c ins)
+
+    pub dziel-stops : {q : Question} → r ≡ Err q → DoesWith σ (question_number q) σ (rows DZIEL)
+    dziel-stops {q} e c g ins =
         rw (row-dziel g ins store i (arg_of c a))
-        (by_values h i (kinds_of DZIEL) (left ins) (right c ins) (w true c ins) (divided (kinds_of DZIEL) i store (left ins) (right c ins)) d)
+        (dziel-stop h i (kinds_of DZIEL) (left ins) (right c ins) (value (first (left ins))) (value (first (right c ins)))
+        (sym (ap told_by e) ∙ (w true c ins).told) (some q))
 
-    pub dziel-stops : (r.stop ≡ 0 → ⊥) → DoesWith p e n r.stop p e n (rows DZIEL)
-    dziel-stops z c g ins = dziel-by c g ins (dziel-stop h i (kinds_of DZIEL) (left ins) (right c ins) (w true c ins) z)
+    module _ {p : Pair} (e : r ≡ Ok p) where
+      dividend_most : nat_abs (uncode p.left) ≤ 8388607
+      dividend_most = abs-most p.left (both_coded w e).left
 
-    pub dziel-zeros : r.stop ≡ 0 → r.right ≡ 8388607 → DoesWith p e n 55 p e n (rows DZIEL)
-    dziel-zeros z o c g ins = dziel-by c g ins (dziel-zero h i (kinds_of DZIEL) (left ins) (right c ins) (w true c ins) z o)
+      pub dziel-zeros : p.right ≡ 8388607 → DoesWith σ 55 σ (rows DZIEL)
+      dziel-zeros o c g ins =
+          rw (row-dziel g ins store i (arg_of c a))
+          (by_values w e c ins (two_row c ins)
+          (dziel-zero h i (kinds_of DZIEL) (left ins) (right c ins) (uncode p.left) (uncode p.right) (none-stops w e c ins) dividend_most
+          (rw (o, high 8388607 (omega arith)) refl)))
 
-    pub dziel-dones : r.stop ≡ 0 → (r.right ≡ 8388607 → ⊥) → {x y : ℕ} → Codes (rem_z (uncode r.left) (uncode r.right)) x
-        → Codes (quot_z (uncode r.left) (uncode r.right)) y → {k : ℕ} {p' e' n' : List ℕ}
-        → Tried p e n k p' e' n' true (replaced true i (Component.number (uncode x) ∷ Component.number (uncode y) ∷ []) store) → DoesWith p e n k p' e' n' (rows DZIEL)
-    dziel-dones z o {x} {y} l m u c g ins =
-        dziel-by c g ins (dziel-done h i (kinds_of DZIEL) (left ins) (right c ins) (w true c ins) z o x y l.is m.is u)
+      pub dziel-dones : (p.right ≡ 8388607 → ⊥) → {x y : ℕ} → Codes (rem_z (uncode p.left) (uncode p.right)) x
+          → Codes (quot_z (uncode p.left) (uncode p.right)) y → {k : ℕ} {σ' : State}
+          → Tried σ k σ' true (replaced true i (Component.number (uncode x) ∷ Component.number (uncode y) ∷ []) store) → DoesWith σ k σ' (rows DZIEL)
+      dziel-dones o {x} {y} l m u c g ins =
+          let d = both_coded w e in
+          rw (row-dziel g ins store i (arg_of c a))
+          (by_values w e c ins (two_row c ins)
+          (dziel-done h i (kinds_of DZIEL) (left ins) (right c ins) (uncode p.left) (uncode p.right) (none-stops w e c ins) dividend_most
+          (size-some (size_is p.right d.right) d.right o) x y l.is m.is u))

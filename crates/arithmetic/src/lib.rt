@@ -1,24 +1,24 @@
 // Arithmetic: DODAJ, ODEJMIJ, MNOZ and DZIEL. Numbers are their codes, the value with 8,388,607 added.
 #![tactic(auto)]
 
-ghost use Rattle.std.specs.Prelude.{◌≡◌, true, [], ◌∷◌, length, ◌+ℤ◌, ◌-ℤ◌, ◌*ℤ◌, ◌≤◌};
+ghost use Rattle.std.specs.Prelude.{◌≡◌, true, [], ◌∷◌, ◌+ℤ◌, ◌-ℤ◌, ◌*ℤ◌, ◌≤◌};
 ghost use Rattle.std.specs.Int.Signed.{quot_z, rem_z};
 ghost use Rattle.language.specs.Program.Arg.{nothing};
 ghost use Rattle.language.specs.Program.Op.{DODAJ, ODEJMIJ, MNOZ, DZIEL};
 ghost use Rattle.language.specs.Values as values;
 ghost use Rattle.layout.specs.Cells.{uncode};
 ghost use Rattle.machine.specs.Effects.{row};
-ghost use Rattle.state.specs.Working.{state_at, nth, reading};
+ghost use Rattle.state.specs.Working.{nth, reading};
 ghost use Rattle.table.specs.Denote.{arg_of};
+ghost use Rattle.instructions.specs.Questions.{told_by};
 ghost use Rattle.instructions.specs.Does.{Tried};
-ghost use Rattle.operands.specs.Operands.{replaced, DoesWith};
-ghost use Rattle.arithmetic.specs.Arithmetic.{coded_result, negative, differ, signed, Coded, Divisible, Size, Codes, OneResult, TwoResults, ComputedBy, Computable};
+ghost use Rattle.operands.specs.Operands.{PairReadable, replaced, DoesWith};
+ghost use Rattle.arithmetic.specs.Arithmetic.{negative, signed, Coded, Divisible, Size, Codes, InRange, OneResult, TwoResults};
+
+use instructions::{Bench, Question};
 
 // The code of 0.
 const ZERO: usize = 8388607;
-
-// What stands for a result out of range, and is the code of no number.
-const OUT: usize = 16777215;
 
 fn is_negative(code: usize) -> bool
     ensures { result ≡ negative (uncode code) }
@@ -26,66 +26,55 @@ fn is_negative(code: usize) -> bool
     code < ZERO
 }
 
-fn differs(a: bool, b: bool) -> bool
-    ensures { result ≡ differ a b }
-{
-    if a {
-        return !b;
-    }
-    b
-}
-
 // The size of a number.
 fn size(code: usize) -> usize
     requires { code ≤ 16777214 }
     ensures { Size code result }
 {
-    if code < ZERO {
-        return ZERO - code;
-    }
-    code - ZERO
+    code.abs_diff(ZERO)
 }
 
-// The number of a sign and a size.
+// The number of a sign and a size within the range.
 fn with_sign(minus: bool, n: usize) -> usize
-    ensures { result ≡ coded_result (signed minus n) }
+    requires { n ≤ 8388607 }
+    ensures { Codes (signed minus n) result }
 {
-    if ZERO < n {
-        return OUT;
-    }
     if minus {
         return ZERO - n;
     }
     ZERO + n
 }
 
-fn sum(a: usize, b: usize) -> usize
+fn sum(a: usize, b: usize) -> Result<usize, Question>
     requires { Coded a b }
-    ensures { result ≡ coded_result (uncode a +ℤ uncode b) }
+    ensures { InRange (uncode a +ℤ uncode b) result }
 {
     let s = a + b;
     if s < ZERO {
-        return OUT;
+        return Err(Question::Range);
     }
     if 3 * ZERO < s {
-        return OUT;
+        return Err(Question::Range);
     }
-    s - ZERO
+    Ok(s - ZERO)
 }
 
-fn difference(a: usize, b: usize) -> usize
+fn difference(a: usize, b: usize) -> Result<usize, Question>
     requires { Coded a b }
-    ensures { result ≡ coded_result (uncode a -ℤ uncode b) }
+    ensures { InRange (uncode a -ℤ uncode b) result }
 {
     sum(a, 2 * ZERO - b)
 }
 
-fn product(a: usize, b: usize) -> usize
+fn product(a: usize, b: usize) -> Result<usize, Question>
     requires { Coded a b }
-    ensures { result ≡ coded_result (uncode a *ℤ uncode b) }
+    ensures { InRange (uncode a *ℤ uncode b) result }
 {
-    let minus = differs(is_negative(a), is_negative(b));
-    with_sign(minus, size(a) * size(b))
+    let n = size(a) * size(b);
+    if ZERO < n {
+        return Err(Question::Range);
+    }
+    Ok(with_sign(is_negative(a) != is_negative(b), n))
 }
 
 // "DZIEL cuts toward zero."
@@ -93,8 +82,7 @@ fn quotient(a: usize, b: usize) -> usize
     requires { Divisible a b }
     ensures { Codes (quot_z (uncode a) (uncode b)) result }
 {
-    let minus = differs(is_negative(a), is_negative(b));
-    with_sign(minus, size(a) / size(b))
+    with_sign(is_negative(a) != is_negative(b), size(a) / size(b))
 }
 
 // The remainder has the dividend's sign.
@@ -105,137 +93,66 @@ fn remainder(a: usize, b: usize) -> usize
     with_sign(is_negative(a), size(a) % size(b))
 }
 
-// Puts a result in the place of the first component of expression `i`, which is a number: 0, 54 or 59.
-fn put_one(
-    pool: &mut [u8],
-    ends: &mut [u32],
-    nums: &mut [u32],
-    scratch: &mut [u8],
-    hold: &mut [u8],
-    i: usize,
-    code: usize,
-) -> u8
-    requires { OneResult pool.old ends.old nums.old (length scratch.old) (length hold.old) i code }
-    ensures { ComputedBy pool.old ends.old nums.old result pool.new ends.new nums.new i code }
+// Puts a number in the place of the first component of expression `i`, which is a number.
+fn put_one(bench: &mut Bench, i: usize, code: usize) -> Result<(), Question>
+    requires { OneResult bench.old.state i code }
+    ensures { Tried bench.old.state (told_by result) bench.new.state true (replaced true i (values.Component.number (uncode code) ∷ []) bench.old.state.store) }
 {
-    if code == OUT {
-        return 54;
-    }
-    components::put_number(hold, 0, code);
-    operands::replace(pool, ends, nums, scratch, true, i, 5, 0, &hold[..5], 1, 0)
+    components::put_number(&mut bench.hold, 0, code);
+    operands::replace(&mut bench.state, true, i, 5, 0, &bench.hold[..5], 1, 0)
 }
 
-// Puts two numbers in the place of the first component of expression `i`, which is a number: 0 or 59.
-fn put_two(
-    pool: &mut [u8],
-    ends: &mut [u32],
-    nums: &mut [u32],
-    scratch: &mut [u8],
-    hold: &mut [u8],
-    i: usize,
-    first: usize,
-    second: usize,
-) -> u8
-    requires { TwoResults pool.old ends.old nums.old (length scratch.old) (length hold.old) i first second }
-    ensures { Tried pool.old ends.old nums.old result pool.new ends.new nums.new true (replaced true i (values.Component.number (uncode first) ∷ values.Component.number (uncode second) ∷ []) (state_at pool.old ends.old nums.old).store) }
+// Puts two numbers in the place of the first component of expression `i`, which is a number.
+// Apart from `put_one`: a loop over the numbers would need an invariant over the bytes written so far.
+fn put_two(bench: &mut Bench, i: usize, first: usize, second: usize) -> Result<(), Question>
+    requires { TwoResults bench.old.state i first second }
+    ensures { Tried bench.old.state (told_by result) bench.new.state true (replaced true i (values.Component.number (uncode first) ∷ values.Component.number (uncode second) ∷ []) bench.old.state.store) }
 {
-    components::put_number(hold, 0, first);
-    components::put_number(hold, 5, second);
-    operands::replace(pool, ends, nums, scratch, true, i, 5, 0, &hold[..10], 2, 0)
+    components::put_number(&mut bench.hold, 0, first);
+    components::put_number(&mut bench.hold, 5, second);
+    operands::replace(&mut bench.state, true, i, 5, 0, &bench.hold[..10], 2, 0)
 }
 
-// DODAJ of expression `i`: 0, or the question answered no.
-pub fn dodaj(
-    pool: &mut [u8],
-    ends: &mut [u32],
-    nums: &mut [u32],
-    scratch: &mut [u8],
-    hold: &mut [u8],
-    i: usize,
-    arg: table::Argument,
-) -> u8
-    requires { Computable pool.old ends.old nums.old (length scratch.old) (length hold.old) i arg }
-    ensures { DoesWith pool.old ends.old nums.old result pool.new ends.new nums.new (λ c g ins. row g ins (state_at pool.old ends.old nums.old).store (nth (reading true) i) (arg_of c arg) nothing DODAJ) }
+// DODAJ of expression `i`.
+// This, ODEJMIJ and MNOZ are three functions: a closure for what differs would need a contract of its own.
+pub fn dodaj(bench: &mut Bench, i: usize, arg: table::Argument) -> Result<(), Question>
+    requires { PairReadable i arg }
+    ensures { DoesWith bench.old.state (told_by result) bench.new.state (λ c g ins. row g ins bench.old.state.store (nth (reading true) i) (arg_of c arg) nothing DODAJ) }
 {
-    let q = operands::two_operands(pool, ends, nums, i, arg, operands::Kinds::Numbers);
-    let stop = q.stop;
-    let x = q.left;
-    let y = q.right;
-    if stop != 0 {
-        return stop;
-    }
-    put_one(pool, ends, nums, scratch, hold, i, sum(x, y))
+    let p = operands::two_operands(&bench.state, i, arg, operands::Kinds::Numbers)?;
+    let z = sum(p.left, p.right)?;
+    put_one(bench, i, z)
 }
 
-// ODEJMIJ of expression `i`: 0, or the question answered no.
-pub fn odejmij(
-    pool: &mut [u8],
-    ends: &mut [u32],
-    nums: &mut [u32],
-    scratch: &mut [u8],
-    hold: &mut [u8],
-    i: usize,
-    arg: table::Argument,
-) -> u8
-    requires { Computable pool.old ends.old nums.old (length scratch.old) (length hold.old) i arg }
-    ensures { DoesWith pool.old ends.old nums.old result pool.new ends.new nums.new (λ c g ins. row g ins (state_at pool.old ends.old nums.old).store (nth (reading true) i) (arg_of c arg) nothing ODEJMIJ) }
+// ODEJMIJ of expression `i`.
+pub fn odejmij(bench: &mut Bench, i: usize, arg: table::Argument) -> Result<(), Question>
+    requires { PairReadable i arg }
+    ensures { DoesWith bench.old.state (told_by result) bench.new.state (λ c g ins. row g ins bench.old.state.store (nth (reading true) i) (arg_of c arg) nothing ODEJMIJ) }
 {
-    let q = operands::two_operands(pool, ends, nums, i, arg, operands::Kinds::Numbers);
-    let stop = q.stop;
-    let x = q.left;
-    let y = q.right;
-    if stop != 0 {
-        return stop;
-    }
-    put_one(pool, ends, nums, scratch, hold, i, difference(x, y))
+    let p = operands::two_operands(&bench.state, i, arg, operands::Kinds::Numbers)?;
+    let z = difference(p.left, p.right)?;
+    put_one(bench, i, z)
 }
 
-// MNOZ of expression `i`: 0, or the question answered no.
-pub fn mnoz(
-    pool: &mut [u8],
-    ends: &mut [u32],
-    nums: &mut [u32],
-    scratch: &mut [u8],
-    hold: &mut [u8],
-    i: usize,
-    arg: table::Argument,
-) -> u8
-    requires { Computable pool.old ends.old nums.old (length scratch.old) (length hold.old) i arg }
-    ensures { DoesWith pool.old ends.old nums.old result pool.new ends.new nums.new (λ c g ins. row g ins (state_at pool.old ends.old nums.old).store (nth (reading true) i) (arg_of c arg) nothing MNOZ) }
+// MNOZ of expression `i`.
+pub fn mnoz(bench: &mut Bench, i: usize, arg: table::Argument) -> Result<(), Question>
+    requires { PairReadable i arg }
+    ensures { DoesWith bench.old.state (told_by result) bench.new.state (λ c g ins. row g ins bench.old.state.store (nth (reading true) i) (arg_of c arg) nothing MNOZ) }
 {
-    let q = operands::two_operands(pool, ends, nums, i, arg, operands::Kinds::Numbers);
-    let stop = q.stop;
-    let x = q.left;
-    let y = q.right;
-    if stop != 0 {
-        return stop;
-    }
-    put_one(pool, ends, nums, scratch, hold, i, product(x, y))
+    let p = operands::two_operands(&bench.state, i, arg, operands::Kinds::Numbers)?;
+    let z = product(p.left, p.right)?;
+    put_one(bench, i, z)
 }
 
 // DZIEL of expression `i`.
-pub fn dziel(
-    pool: &mut [u8],
-    ends: &mut [u32],
-    nums: &mut [u32],
-    scratch: &mut [u8],
-    hold: &mut [u8],
-    i: usize,
-    arg: table::Argument,
-) -> u8
-    requires { Computable pool.old ends.old nums.old (length scratch.old) (length hold.old) i arg }
-    ensures { DoesWith pool.old ends.old nums.old result pool.new ends.new nums.new (λ c g ins. row g ins (state_at pool.old ends.old nums.old).store (nth (reading true) i) (arg_of c arg) nothing DZIEL) }
+pub fn dziel(bench: &mut Bench, i: usize, arg: table::Argument) -> Result<(), Question>
+    requires { PairReadable i arg }
+    ensures { DoesWith bench.old.state (told_by result) bench.new.state (λ c g ins. row g ins bench.old.state.store (nth (reading true) i) (arg_of c arg) nothing DZIEL) }
 {
-    let q = operands::two_operands(pool, ends, nums, i, arg, operands::Kinds::Numbers);
-    let stop = q.stop;
-    let x = q.left;
-    let y = q.right;
-    if stop != 0 {
-        return stop;
+    let p = operands::two_operands(&bench.state, i, arg, operands::Kinds::Numbers)?;
+    if p.right == ZERO {
+        return Err(Question::Divisor);
     }
-    if y == ZERO {
-        return 55;
-    }
-    let left = remainder(x, y);
-    put_two(pool, ends, nums, scratch, hold, i, left, quotient(x, y))
+    let left = remainder(p.left, p.right);
+    put_two(bench, i, left, quotient(p.left, p.right))
 }

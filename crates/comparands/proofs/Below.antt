@@ -1,3 +1,2 @@
 -- Modules of the crates below, passed on to those above. Declares nothing.
-pub use Rattle.operands.proofs.Below.Values
 pub use Rattle.operands.proofs.Signs

@@ -6,7 +6,6 @@ use Rattle.language.specs.Values.{Component, Store, Inputs, chars}
 use Rattle.machine.specs.Arguments.{side}
 use Rattle.layout.specs.Bounds.{Encoded}
 use Rattle.packed.specs.Packed.{table_of}
-use Rattle.state.specs.Working.{Stands}
 use Rattle.table.specs.Denote.{arg_of}
 use Rattle.table.specs.Good.{GoodText, GoodArgument}
 use Rattle.table.specs.declared.Argument.{Argument}
@@ -23,43 +22,29 @@ IsConstant (Class m) = ⊥
 IsConstant (Text v) = Unit {0}
 IsConstant (Number v) = Unit {0}
 
-pub record TextPuttable (c : List ℕ) (v out : ℕ) : Type 0 where
-  pub long : limit.table ≤ length c
-  pub good : GoodText c v
-  pub room : 61 ≤ out
-
-pub record Puttable (c : List ℕ) (a : Argument) (out : ℕ) : Type 0 where
+pub record Puttable (c : List ℕ) (a : Argument) : Type 0 where
   pub long : limit.table ≤ length c
   pub good : GoodArgument c (arg_of (table_of c) a) a
   pub form : IsConstant a
-  pub room : 61 ≤ out
 
 -- the component that the argument a offers stands in front of o
 pub record Put (a : Arg) (o : List ℕ) (r : Constant) : Type 0 where
   pub part : Component
   pub is : (ins : Inputs) (s : Store) → side ins s a ≡ part ∷ []
   pub encoded : Encoded (take r.bytes o) (part ∷ [])
+  pub inside : r.bytes ≤ length o
   pub chars_is : r.chars ≡ length (chars part)
   pub bytes_most : r.bytes ≤ 61
   pub chars_most : r.chars ≤ 60
 
 -- UMIESC of the constant a, and of the text v, to variable j of `most`
-pub record Placeable (c p e n : List ℕ) (scratch hold : ℕ) (a : Argument) (j most : ℕ) : Type 0 where
+pub record Placeable (c : List ℕ) (a : Argument) (j most : ℕ) : Type 0 where
   pub long : limit.table ≤ length c
   pub good : GoodArgument c (arg_of (table_of c) a) a
   pub form : IsConstant a
-  pub stands : Stands p e n
-  pub spare : 65536 ≤ scratch
-  pub room : 32768 ≤ hold
   pub index : j < most
 
-pub record Fileable (c p e n : List ℕ) (scratch hold given : ℕ) (a : Argument) (j : ℕ) : Type 0 where
-  pub placeable : Placeable c p e n scratch hold a j limit.files
-  pub values : 32768 ≤ given
-
-pub record TextPlaceable (c p e n : List ℕ) (scratch v j : ℕ) : Type 0 where
+pub record TextPlaceable (c : List ℕ) (v j : ℕ) : Type 0 where
   pub long : limit.table ≤ length c
   pub good : GoodText c v
-  pub stands : Stands p e n
-  pub spare : 65536 ≤ scratch
   pub index : j < limit.outputs

@@ -1,7 +1,7 @@
 -- The working memory after the run goes on: the next instruction, and the return stack, of which each entry has two cells.
 use mathlib.Core.Path.{◌≡◌, refl, ap, ◌∙◌}
 use mathlib.Core.List.{List, [], ◌∷◌}
-use Prim.Native.Nat.{ℕ, suc, ◌+◌, ◌*◌, ◌/◌, ◌≤◌, ◌<◌}
+use Prim.Native.Nat.{ℕ, suc, ◌+◌, ◌*◌, ◌/◌, ◌%◌, ◌≤◌, ◌<◌}
 use native.Mathlib.Omega.{arith}
 use lib.ListN.{length, get_or, take, drop, set}
 use Rattle.lists.specs.Lists.{each, head_or}
@@ -18,13 +18,14 @@ use Rattle.layout.specs.Memory.{strings}
 use Rattle.layout.proofs.MemoryLaws.{string-stack}
 use Rattle.layout.specs.Places as layout
 use Rattle.store.specs.Below.Gaps.{pushed_front}
-use Rattle.store.specs.Below.Pool.{abs, string, Holds}
-use Rattle.store.specs.Store.{Pushable, Droppable, Within, dropped_front}
+use Rattle.store.specs.Below.Pool.{string}
+use Rattle.store.specs.Store.{dropped_front}
+use Rattle.strings.specs.Strings.{Pushable, Within}
 use Rattle.layout.specs.Places.{stack_string}
-use Rattle.state.specs.Working.{state_at, HoldsState, Stands, on_store}
+use Rattle.state.specs.Working.{Lies, on_store}
 use Rattle.state.proofs.Standing.{number_is, string-is, pushable}
 use Rattle.state.proofs.Strings.{strings-stack}
-use Rattle.control.specs.Going.{going, Deep, Following, Reachable, Callable, Returnable}
+use Rattle.control.specs.Going.{going, Deep, Callable}
 use Rattle.state.proofs.Fineness.{fine-beside}
 
 pub made-going : (q : Asks) (g : Go) (s : State) → made (q, s.store, g) s ≡ going g s
@@ -45,79 +46,77 @@ module _ (s : State) (f : Fine s) (t : ℕ) (st : List ℕ) (b : t < limit.instr
   fine-there =
       fine-beside s f s.store.plus s.store.outputs s.store.places t st f.outputs_is f.outputs_ok f.places_is f.places_ok b ok most
 
-  holds-there : {p e p' e' n n' : List ℕ} → HoldsState p e n s → Holds p' e' (set (strings s) stack_string (each two st)) → n' ≡ set n layout.next_scalar t
-      → HoldsState p' e' n' there
+  holds-there : {vs vs' : List (List ℕ)} {n n' : List ℕ} → Lies vs n s → vs' ≡ set (strings s) stack_string (each two st) → n' ≡ set n layout.next_scalar t
+      → Lies vs' n' there
   holds-there h g q =
       record {
-        holds = rw (strings-stack s f.exprs_is f.files_is t st) g;
+        strings_is = rw (strings-stack s f.exprs_is f.files_is t st) g;
         numbers = q ∙ ap (λ (m : List ℕ). set m 3 t) h.numbers;
         fine = fine-there;
       }
 
-module _ {p e n : List ℕ} (h : Stands p e n) where
-  abbrev here : State
-  here = state_at p e n
-
+module _ {vs : List (List ℕ)} {n : List ℕ} {s : State} (h : Lies vs n s) where
   -- the next instruction alone
   next-set : (t : ℕ) {n' : List ℕ} → t < limit.instructions → n' ≡ set n layout.next_scalar t
-      → HoldsState p e n' (record { store = here.store; next = t; stack = here.stack })
+      → Lies vs n' (record { store = s.store; next = t; stack = s.stack })
   unfolding strings
   next-set t b q =
       record {
-        holds = h.holds;
+        strings_is = h.strings_is;
         numbers = q ∙ ap (λ (m : List ℕ). set m 3 t) h.numbers;
-        fine = fine-there here h.fine t here.stack b h.fine.stack_ok h.fine.stack_most;
+        fine = fine-there s h.fine t s.stack b h.fine.stack_ok h.fine.stack_most;
       }
 
-  stack_is : string stack_string (abs p e) ≡ each two here.stack
-  stack_is = string-is h stack_string ∙ string-stack here h.fine
+  stack_is : string stack_string vs ≡ each two s.stack
+  stack_is = string-is h stack_string ∙ string-stack s h.fine
 
-  stack-long : length (string stack_string (abs p e)) ≡ 2 * length here.stack
-  stack-long = rw stack_is (length-each 2 two (λ n. refl) here.stack)
+  stack-long : length (string stack_string vs) ≡ 2 * length s.stack
+  stack-long = rw stack_is (length-each 2 two (λ n. refl) s.stack)
 
-  pub deep : {r : ℕ} → r ≡ length (string stack_string (abs p e)) → Deep p e n (r / 2)
-  deep q = record { is = omega (arith, stack-long); most = omega (arith, stack-long, h.fine.stack_most) }
+  pub deep : {r : ℕ} → r ≡ length (string stack_string vs) → Deep s (r / 2)
+  deep q = record { stands = record { is = refl; fine = h.fine }; is = omega (arith, stack-long); most = omega (arith, stack-long, h.fine.stack_most) }
 
-pub went_on : {p e n n' : List ℕ} → Following p e n → n' ≡ set n layout.next_scalar (get_or n layout.next_scalar 0 + 1) → HoldsState p e n' (going on (state_at p e n))
+pub went_on : {vs : List (List ℕ)} {n n' : List ℕ} {s : State} → Lies vs n s → suc s.next < limit.instructions → n' ≡ set n layout.next_scalar (get_or n layout.next_scalar 0 + 1) → Lies vs n' (going on s)
 unfolding going
-went_on {p} {e} {n} {n'} pre q =
-    let h = pre.stands in
-    let x : get_or n layout.next_scalar 0 + 1 ≡ suc (state_at p e n).next = omega (arith, number_is h 3) in
-    next-set h (suc (state_at p e n).next) pre.below (q ∙ ap (λ (k : ℕ). set n layout.next_scalar k) x)
+went_on {n = n} {s = s} h l q =
+    let x : get_or n layout.next_scalar 0 + 1 ≡ suc s.next = omega (arith, number_is h 3) in
+    next-set h (suc s.next) l (q ∙ ap (λ (k : ℕ). set n layout.next_scalar k) x)
 
-pub jumped : {p e n n' : List ℕ} {t : ℕ} → Reachable p e n t → n' ≡ set n layout.next_scalar t → HoldsState p e n' (going (jump t) (state_at p e n))
+pub jumped : {vs : List (List ℕ)} {n n' : List ℕ} {s : State} {t : ℕ} → Lies vs n s → t < limit.instructions → n' ≡ set n layout.next_scalar t → Lies vs n' (going (jump t) s)
 unfolding going
-jumped {t = t} pre q = next-set pre.stands t pre.below q
+jumped {t = t} h l q = next-set h t l q
 
-module _ {p e n : List ℕ} {sc t : ℕ} (pre : Callable p e n sc t) where
+module _ {vs : List (List ℕ)} {n : List ℕ} {s : State} (h : Lies vs n s) {t : ℕ} (pre : Callable s t) where
   abbrev kept : List ℕ
-  kept = suc (state_at p e n).next ∷ (state_at p e n).stack
+  kept = suc s.next ∷ s.stack
 
-  pub back_is : get_or n layout.next_scalar 0 + 1 ≡ suc (state_at p e n).next
-  back_is = omega (arith, number_is pre.following.stands 3)
+  pub back_is : get_or n layout.next_scalar 0 + 1 ≡ suc s.next
+  back_is = omega (arith, number_is h 3)
 
-  stack-more : {b : List ℕ} → b ≡ two (get_or n layout.next_scalar 0 + 1) → pushed_front stack_string b (abs p e) ≡ set (strings (state_at p e n)) stack_string (each two kept)
+  -- the two bytes of the way back
+  pub entry-is : {r : ℕ} {b : List ℕ} → r ≡ get_or n layout.next_scalar 0 → b ≡ ((r + 1) % 256 ∷ (r + 1) / 256 % 256 ∷ []) → b ≡ two (get_or n layout.next_scalar 0 + 1)
+  entry-is {r} q w =
+      let e : (r + 1) / 256 % 256 ≡ (r + 1) / 256 = omega (arith, q, back_is, pre.following) in
+      w ∙ ap (λ (k : ℕ). (r + 1) % 256 ∷ k ∷ []) e ∙ ap (λ (k : ℕ). two (k + 1)) q
+
+  stack-more : {b : List ℕ} → b ≡ two (get_or n layout.next_scalar 0 + 1) → pushed_front stack_string b vs ≡ set (strings s) stack_string (each two kept)
   unfolding pushed_front
   stack-more q =
-      let h = pre.following.stands in
-      rw (q, back_is, h.holds.is, string-stack (state_at p e n) h.fine)
+      rw (q, back_is, h.strings_is, string-stack s h.fine)
 
-  pub return-pushable : {m : ℕ} → m ≡ 2 → Pushable p e stack_string m sc
+  pub return-pushable : {m : ℕ} → m ≡ 2 → Pushable vs stack_string m
   return-pushable q =
-      let h = pre.following.stands in
-      let s = state_at p e n in
       let f = h.fine in
       let m : length kept ≤ limit.stack = omega (arith, pre.room) in
-      pushable h (there s f t kept pre.below (pre.following.below, f.stack_ok) m) (fine-there s f t kept pre.below (pre.following.below, f.stack_ok) m)
+      pushable h (there s f t kept pre.below (pre.following, f.stack_ok) m) (fine-there s f t kept pre.below (pre.following, f.stack_ok) m)
       stack_string (each two kept) (strings-stack s f.exprs_is f.files_is t kept) (omega arith)
-      (rw (string-stack s f) (omega (arith, q))) pre.spare
+      (rw (string-stack s f) (omega (arith, q)))
 
-  pub called : {b p' e' n' : List ℕ} → b ≡ two (get_or n layout.next_scalar 0 + 1) → Holds p' e' (pushed_front stack_string b (abs p e)) → n' ≡ set n layout.next_scalar t
-      → HoldsState p' e' n' (going (call t) (state_at p e n))
+  pub called : {b : List ℕ} {vs' : List (List ℕ)} {n' : List ℕ} → b ≡ two (get_or n layout.next_scalar 0 + 1) → vs' ≡ pushed_front stack_string b vs → n' ≡ set n layout.next_scalar t
+      → Lies vs' n' (going (call t) s)
   unfolding going
   called q g r =
-      let h = pre.following.stands in
-      holds-there (state_at p e n) h.fine t kept pre.below (pre.following.below, h.fine.stack_ok) (omega (arith, pre.room)) h
+      holds-there s h.fine t kept pre.below (pre.following, h.fine.stack_ok) (omega (arith, pre.room)) h
       (rw (stack-more q) at g) r
 
 -- the top of the stack, and the rest
@@ -137,29 +136,24 @@ rest-most : (st : List ℕ) → length (drop 1 st) ≤ length st
 rest-most [] = omega arith
 rest-most (x ∷ st) = omega arith
 
-module _ {p e n : List ℕ} (pre : Returnable p e n) where
-  pub top_within : Within p e stack_string 0 2
+module _ {vs : List (List ℕ)} {n : List ℕ} {s : State} (h : Lies vs n s) (kept : 0 < length s.stack) where
+  pub top_within : Within vs stack_string 0 2
   top_within =
-      record { fine = pre.stands.holds.fine; index = omega arith; within = omega (arith, stack-long pre.stands, pre.kept) }
+      record { index = omega arith; within = omega (arith, stack-long h, kept) }
 
-  pub top-droppable : Droppable p e stack_string 2
-  top-droppable = record { fine = pre.stands.holds.fine; index = omega arith; within = omega (arith, stack-long pre.stands, pre.kept) }
+  pub top_read : {b : List ℕ} → b ≡ take 2 (drop 0 (string stack_string vs)) → two_at 0 b ≡ head_or 0 s.stack
+  top_read q = rw (q, stack_is h) (top-is s.stack kept)
 
-  pub top_read : {b : List ℕ} → b ≡ take 2 (drop 0 (string stack_string (abs p e))) → two_at 0 b ≡ head_or 0 (state_at p e n).stack
-  top_read q = rw (q, stack_is pre.stands) (top-is (state_at p e n).stack pre.kept)
-
-  stack-less : dropped_front stack_string 2 (abs p e) ≡ set (strings (state_at p e n)) stack_string (each two (drop 1 (state_at p e n).stack))
+  stack-less : dropped_front stack_string 2 vs ≡ set (strings s) stack_string (each two (drop 1 s.stack))
   unfolding dropped_front
   stack-less =
-      let h = pre.stands in
-      rw (h.holds.is, string-stack (state_at p e n) h.fine, rest_is (state_at p e n).stack)
+      rw (h.strings_is, string-stack s h.fine, rest_is s.stack)
 
-  pub returned : {e' n' : List ℕ} {t : ℕ} → t ≡ head_or 0 (state_at p e n).stack → Holds p e' (dropped_front stack_string 2 (abs p e)) → n' ≡ set n layout.next_scalar t
-      → HoldsState p e' n' (going back (state_at p e n))
+  pub returned : {vs' : List (List ℕ)} {n' : List ℕ} {t : ℕ} → t ≡ head_or 0 s.stack → vs' ≡ dropped_front stack_string 2 vs → n' ≡ set n layout.next_scalar t
+      → Lies vs' n' (going back s)
   unfolding going
   returned q g r =
-      let h = pre.stands in
-      let st = (state_at p e n).stack in
-      holds-there (state_at p e n) h.fine (head_or 0 st) (drop 1 st) (top_below st pre.kept h.fine.stack_ok)
+      let st = s.stack in
+      holds-there s h.fine (head_or 0 st) (drop 1 st) (top_below st kept h.fine.stack_ok)
       (each-drop (λ x. x < limit.instructions) 1 st h.fine.stack_ok) (omega (arith, rest-most st, h.fine.stack_most)) h
       (rw stack-less at g) (r ∙ ap (λ (k : ℕ). set n layout.next_scalar k) q)

@@ -1,15 +1,14 @@
 -- Words that write numbers: read, and made.
-use mathlib.Core.Path.{◌≡◌, refl, sym, ap, ◌∙◌}
+use mathlib.Core.Path.{◌≡◌, refl, sym, ap}
 use mathlib.Core.Bool.{Bool, true, false, cond}
-use mathlib.Core.List.{List, [], ◌∷◌, ◌++◌}
-use Prim.Native.Nat.{ℕ, suc, ◌+◌, ◌/◌, ◌%◌, ◌<◌}
+use mathlib.Core.List.{List, [], ◌∷◌}
+use Prim.Native.Nat.{ℕ, ◌+◌}
 use native.Mathlib.Omega.{arith}
-use lib.Dec.{ltb}
-use lib.ListN.{length, take, length-append}
-use lib.IntN.{ℤ, pos, negsuc, nat_abs}
+use lib.ListN.{length, take}
+use lib.IntN.{nat_abs}
 use borrow.Author.Tests.{leb-true, ne_eqb}
 use Rattle.language.specs.Letters.Letter.{E}
-use Rattle.language.specs.Values.{Component, chars, kind, digits, decimal, numeral, value_of, in_range}
+use Rattle.language.specs.Values.{Component, State, chars, kind, decimal, numeral, value_of, in_range}
 use Rattle.language.specs.Values.Component.{word, address}
 use Rattle.machine.specs.Arguments.{expr}
 use Rattle.layout.specs.Bounds.{Encoded}
@@ -17,41 +16,19 @@ use Rattle.layout.specs.Cells.{code, uncode}
 use Rattle.layout.proofs.CellLaws.{uncode-code}
 use Rattle.layout.proofs.ComponentLaws.{components_bytes-one}
 use Rattle.layout.specs.Components.{component_bytes, component_in}
-use Rattle.cells.specs.Cells.{pasted}
-use Rattle.cells.proofs.Laws.{pasted-front}
-use Rattle.components.specs.Parts.{LentChars, Written}
+use Rattle.components.specs.Parts.{LentChars}
 use Rattle.decimals.specs.Numerals.{reads}
 use Rattle.decimals.specs.declared.Numeral.{Numeral}
 use Rattle.decimals.specs.declared.Numeral.TheVariants.{NotNumeral, OutOfRange, Code}
-use Rattle.state.specs.Working.{state_at, nth}
+use Rattle.state.specs.Working.{nth}
 use Rattle.state.specs.Blocks.{FirstParts, ExprLent}
 use Rattle.operands.proofs.Codes.{code_most}
-use Rattle.tests.proofs.Values.{none-there, one-there, copied-front}
+use Rattle.operands.proofs.Values.{none-there, one-there, copied-front}
 use Rattle.converting.specs.Converting.{NumeralPut, ReadsNumeral}
-use Rattle.converting.specs.declared.Spelled.{Spelled}
+use Rattle.std.specs.Prelude.{Ok, Err}
+use Rattle.instructions.specs.declared.Question.TheVariants.{Missing, Kind, Range}
 
 -- ---- a number as a word
-
-digits-some : (k n : ℕ) → 0 < length (digits (suc k) n)
-digits-some k n = go (ltb n 10)
-  where
-    go : (t : Bool) → 0 < length {A = ℕ} (elim t [ true ↦ (48 + n) ∷ [] | false ↦ digits k (n / 10) ++ ((48 + n % 10) ∷ []) ])
-    go true = omega arith
-    go false = simp length-append (omega arith)
-
-decimal-some : (z : ℤ) → 0 < length (decimal z)
-decimal-some (pos n) = digits-some 6 n
-decimal-some (negsuc n) = omega arith
-
-pub numeral-put : {d e : List ℕ} (c : ℕ) {r : ℕ} → Written d (decimal (uncode c)) e r → (o : List ℕ) {o' : List ℕ} → length d ≡ 8
-    → o' ≡ pasted o 0 (component_bytes (word (take r e))) → NumeralPut o c o' r
-numeral-put {d} c {r} w o l q =
-    record {
-      is = q ∙ ap (λ (v : List ℕ). pasted o 0 (component_bytes (word v))) (rw w.is (pasted-front d (decimal (uncode c)) r (sym w.count)));
-      count = w.count;
-      some = omega (arith, w.count, decimal-some (uncode c));
-      most = omega (arith, w.fits, l);
-    }
 
 module _ {o o' : List ℕ} {c r : ℕ} (w : NumeralPut o c o' r) where
   word-long : length (component_bytes (word (decimal (uncode c)))) ≡ 1 + r
@@ -64,9 +41,6 @@ module _ {o o' : List ℕ} {c r : ℕ} (w : NumeralPut o c o' r) where
       record { is = sym (components_bytes-one (word (decimal (uncode c)))); all_ok = ((omega (arith, w.count, w.some), omega (arith, w.count, w.most)), tt) }
 
 -- ---- a word as a number
-
-abbrev told : ℕ → ℕ → ℕ → Spelled
-told k c l = record { stop = k; code = c; letters = l }
 
 abbrev sort : Numeral → ℕ
 sort NotNumeral = 0
@@ -102,65 +76,41 @@ word_first (word w) xs k = record { most = omega arith; bytes_is = rw (component
 word_first (Component.number z) xs k = absurd (omega (arith, k))
 word_first (address n) xs k = absurd (omega (arith, k))
 
-module _ {p e n : List ℕ} {i : ℕ} {x : List ℕ} (l : ExprLent p e n i x) where
+module _ {σ : State} {i : ℕ} {x : List ℕ} (l : ExprLent σ i x) where
   abbrev es : List Component
-  es = expr (state_at p e n).store (nth E i)
+  es = expr σ.store (nth E i)
 
-  pub none_told : length x ≡ 0 → ReadsNumeral es (told 52 0 0)
-  none_told z =
-      record {
-        stop_is = rw (none-there l z) refl;
-        is = λ y. absurd (omega (arith, y));
-        first_is = λ y. absurd (omega (arith, y));
-        most = omega arith;
-        letters_most = omega arith;
-      }
+  pub none_told : length x ≡ 0 → ReadsNumeral es (Err Missing)
+  none_told z = record { told = rw (none-there l z) refl; is = tt }
 
   module _ (z : length x ≡ 0 → ⊥) where
-    pub kind-told : (kind (component_in x) ≡ 0 → ⊥) → ReadsNumeral es (told 53 0 0)
-    kind-told k =
-        record {
-          stop_is = rw (one-there l z, ne_eqb (kind (component_in x)) 0 k) refl;
-          is = λ y. absurd (omega (arith, y));
-          first_is = λ y. absurd (omega (arith, y));
-          most = omega arith;
-          letters_most = omega arith;
-        }
+    pub kind-told : (kind (component_in x) ≡ 0 → ⊥) → ReadsNumeral es (Err Kind)
+    kind-told k = record { told = rw (one-there l z, ne_eqb (kind (component_in x)) 0 k) refl; is = tt }
 
     module _ (k : kind (component_in x) ≡ 0) {w : List ℕ} (v : LentChars (component_in x) w) where
-      pub wrong-told : reads w ≡ NotNumeral → ReadsNumeral es (told 53 0 0)
+      pub wrong-told : reads w ≡ NotNumeral → ReadsNumeral es (Err Kind)
       unfolding reads
       wrong-told r =
           let f = not-numeral (numeral w) (in_range (value_of w)) (code (value_of w)) r in
-          record {
-            stop_is = rw (one-there l z, k, ← v.is, f) refl;
-            is = λ y. absurd (omega (arith, y));
-            first_is = λ y. absurd (omega (arith, y));
-            most = omega arith;
-            letters_most = omega arith;
-          }
+          record { told = rw (one-there l z, k, ← v.is, f) refl; is = tt }
 
-      pub over-told : reads w ≡ OutOfRange → ReadsNumeral es (told 54 0 0)
+      pub over-told : reads w ≡ OutOfRange → ReadsNumeral es (Err Range)
       unfolding reads
       over-told r =
           let f = out_of_range (numeral w) (in_range (value_of w)) (code (value_of w)) r in
-          record {
-            stop_is = rw (one-there l z, k, ← v.is, f.0, f.1) refl;
-            is = λ y. absurd (omega (arith, y));
-            first_is = λ y. absurd (omega (arith, y));
-            most = omega arith;
-            letters_most = omega arith;
-          }
+          record { told = rw (one-there l z, k, ← v.is, f.0, f.1) refl; is = tt }
 
-      pub code-told : {c : ℕ} → reads w ≡ Code c → ReadsNumeral es (told 0 c (length w))
+      pub code-told : {c : ℕ} → reads w ≡ Code c → ReadsNumeral es (Ok (record { code = c; letters = length w }))
       unfolding reads
       code-told {c} r =
           let f = is_code (numeral w) (in_range (value_of w)) (code (value_of w)) r in
           let m = leb-true (nat_abs (value_of w)) 8388607 f.1 in
           record {
-            stop_is = rw (one-there l z, k, ← v.is, f.0, f.1) refl;
-            is = λ y. rw (one-there l z, ← v.is, f.2) (sym (uncode-code (value_of w) m));
-            first_is = λ y. rw (one-there l z, v.is) (word_first (component_in x) _ k);
-            most = rw f.2 (code_most (value_of w) m);
-            letters_most = v.most;
+            told = rw (one-there l z, k, ← v.is, f.0, f.1) refl;
+            is = record {
+              is = rw (one-there l z, ← v.is, f.2) (sym (uncode-code (value_of w) m));
+              first_is = rw (one-there l z, v.is) (word_first (component_in x) _ k);
+              most = rw f.2 (code_most (value_of w) m);
+              letters_most = v.most;
+            };
           }

@@ -2,15 +2,16 @@
 use mathlib.Core.Path.{◌≡◌, refl, sym, ap, ◌∙◌, subst}
 use mathlib.Core.Bool.{Bool, true, false}
 use mathlib.Core.List.{List, [], ◌∷◌}
-use Prim.Native.Nat.{ℕ, ◌+◌, ◌≤◌}
+use Prim.Native.Nat.{ℕ, ◌+◌, ◌<◌}
 use native.Mathlib.Omega.{arith}
-use lib.ListN.{length, take, length-take}
+use lib.ListN.{take}
 use lib.IntN.{ℤ}
+use Rattle.language.specs.Limits as limit
 use Rattle.language.specs.Letters.Letter.{E}
 use Rattle.language.specs.Program.{Program}
 use Rattle.language.specs.Program.Arg.{nothing}
 use Rattle.language.specs.Program.Op.{SLOWO, LICZBA}
-use Rattle.language.specs.Values.{Component, Store, Inputs, chars, value, decimal, value_of}
+use Rattle.language.specs.Values.{Component, Store, State, Inputs, chars, value, decimal, value_of}
 use Rattle.language.specs.Values.Component.{word}
 use Rattle.machine.specs.Arguments.{expr, first, needs}
 use Rattle.machine.specs.Effects.{Row, changed, row}
@@ -19,14 +20,18 @@ use Rattle.layout.specs.Cells.{uncode}
 use Rattle.layout.proofs.ComponentLaws.{components-of, whole-components}
 use Rattle.layout.specs.Components.{component_bytes, components_in}
 use Rattle.cells.specs.Cells.{pasted}
-use Rattle.state.specs.Working.{state_at, Stands, nth, reading}
+use Rattle.state.specs.Working.{Stands, nth, reading}
+use Rattle.std.specs.Prelude.{Result, Ok, Err}
+use Rattle.std.proofs.lemmas.Result.{IfOk-at_ok}
+use Rattle.instructions.specs.Questions.{question_number, told_by}
+use Rattle.instructions.specs.declared.Question.{Question}
 use Rattle.instructions.specs.Does.{Does, DoesFor, Quiet, Tried}
 use Rattle.instructions.proofs.Answers.{quiet-stop, quiet-tried, unstopped}
-use Rattle.operands.specs.Operands.{ReadsNumber, replaced, Replaceable}
-use Rattle.operands.specs.declared.Operand.{Operand}
+use Rattle.instructions.proofs.Asking.{some}
+use Rattle.operands.specs.Operands.{OneNumber, ReadsNumber, replaced, Replaceable}
 use Rattle.operands.proofs.Held.{number-held}
 use Rattle.operands.proofs.Replacing.{number-first}
-use Rattle.converting.specs.Converting.{NumeralPut, numeral_asks, ReadsNumeral, Convertible}
+use Rattle.converting.specs.Converting.{NumeralPut, numeral_asks, Spells, ReadsNumeral}
 use Rattle.converting.specs.declared.Spelled.{Spelled}
 use Rattle.converting.proofs.Numerals.{numeral-encoded}
 
@@ -46,49 +51,38 @@ liczba-is g ins s i false = refl
 
 -- ---- in front of expression i
 
-module _ {p e n : List ℕ} {scratch i : ℕ} {hold : ℕ} (h : Convertible p e n scratch hold i) where
-  abbrev store : Store
-  store = (state_at p e n).store
-
+module _ (σ : State) {i : ℕ} (h : i < limit.expressions) where
   abbrev es : List Component
-  es = expr store (nth E i)
+  es = expr σ.store (nth E i)
 
-  pub word-replaceable : {r : Operand} → ReadsNumber (take 1 es) r → r.stop ≡ 0 → {o o' : List ℕ} {m : ℕ} → NumeralPut o r.code o' m
-      → Replaceable p e n scratch i 5 0 (take (1 + m) o') 1 m
-  word-replaceable {r} w z u =
-      let c = numeral-encoded u in
+  pub word-replaceable : {c : ℕ} → OneNumber (take 1 es) c → {o o' : List ℕ} {m : ℕ} → NumeralPut o c o' m → Replaceable σ i 5 0 (take (1 + m) o') 1 m
+  word-replaceable {c} w u =
+      let d = numeral-encoded u in
       record {
-        stands = h.stands;
-        spare = h.spare;
-        index = h.index;
-        first = number-first es (uncode r.code) (w.is z);
+        index = h;
+        first = number-first es (uncode c) w.is;
         letters_most = omega arith;
-        whole = whole-components c;
-        count = rw (components-of c) refl;
-        chars_is = rw (components-of c) (omega (arith, u.count));
+        whole = whole-components d;
+        count = rw (components-of d) refl;
+        chars_is = rw (components-of d) (omega (arith, u.count));
         parts_most = omega arith;
         chars_most = omega (arith, u.most);
       }
 
-  pub number-replaceable : {r : Spelled} → ReadsNumeral es r → r.stop ≡ 0 → (o : List ℕ) {o' : List ℕ} → o' ≡ pasted o 0 (component_bytes (Component.number (uncode r.code)))
-      → Replaceable p e n scratch i (1 + r.letters) r.letters (take 5 o') 1 0
-  number-replaceable {r} w z o q =
-      let c = number-held r.code w.most o q in
+  pub number-replaceable : {w : Spelled} → Spells es w → (o : List ℕ) {o' : List ℕ} → o' ≡ pasted o 0 (component_bytes (Component.number (uncode w.code)))
+      → Replaceable σ i (1 + w.letters) w.letters (take 5 o') 1 0
+  number-replaceable {w} v o q =
+      let d = number-held w.code v.most o q in
       record {
-        stands = h.stands;
-        spare = h.spare;
-        index = h.index;
-        first = w.first_is z;
-        letters_most = omega (arith, w.letters_most);
-        whole = whole-components c;
-        count = rw (components-of c) refl;
-        chars_is = rw (components-of c) refl;
+        index = h;
+        first = v.first_is;
+        letters_most = omega (arith, v.letters_most);
+        whole = whole-components d;
+        count = rw (components-of d) refl;
+        chars_is = rw (components-of d) refl;
         parts_most = omega arith;
         chars_most = omega arith;
       }
-
-pub front_long : (k : ℕ) (d d' : List ℕ) → length d' ≡ length d → 32768 ≤ length d → k ≤ 9 → k ≡ length (take k d')
-front_long k d d' q r l = simp length-take (omega (arith, q))
 
 -- ---- SLOWO
 
@@ -98,59 +92,59 @@ quiet-number xs = record { is_50 = refl; is_55 = refl; is_56 = refl; is_57 = ref
 quiet-numeral : (xs : List Component) → Quiet (numeral_asks xs)
 quiet-numeral xs = record { is_50 = refl; is_55 = refl; is_56 = refl; is_57 = refl; is_58 = refl; is_59 = refl; is_60 = refl }
 
-module _ {p e n : List ℕ} (h : Stands p e n) (removes : Bool) (i : ℕ) where
+module _ {σ : State} (h : Stands σ) (removes : Bool) (i : ℕ) where
   abbrev s : Store
-  s = (state_at p e n).store
+  s = σ.store
 
-  abbrev word_row : List Component → Row
-  word_row xs = (needs 1 xs, replaced removes i (word (decimal (value (first xs))) ∷ []) s, on)
+  abbrev one : List Component
+  one = take 1 (expr s (nth E i))
 
-  abbrev number_row : List Component → Row
-  number_row xs = (numeral_asks xs, replaced removes i (Component.number (value_of (chars (first xs))) ∷ []) s, on)
+  abbrev slowo_rows : Program → Inputs → Row
+  slowo_rows g ins = row g ins s (nth (reading removes) i) nothing nothing SLOWO
 
-  row-slowo : (g : Program) (ins : Inputs) → row g ins s (nth (reading removes) i) nothing nothing SLOWO ≡ word_row (take 1 (expr s (nth E i)))
-  row-slowo g ins = slowo-is g ins s i removes
+  abbrev liczba_rows : Program → Inputs → Row
+  liczba_rows g ins = row g ins s (nth (reading removes) i) nothing nothing LICZBA
 
-  row-liczba : (g : Program) (ins : Inputs) → row g ins s (nth (reading removes) i) nothing nothing LICZBA ≡ number_row (take 1 (expr s (nth E i)))
-  row-liczba g ins = liczba-is g ins s i removes
+  pub slowo-stop : {r : Result ℕ Question} → ReadsNumber one r → {q : Question} → r ≡ Err q → DoesFor σ (question_number q) σ slowo_rows
+  slowo-stop w {q} e g ins =
+      rw (slowo-is g ins s i removes)
+      (quiet-stop h (needs 1 one) (replaced removes i (word (decimal (value (first one))) ∷ []) s) (quiet-number one) (sym (ap told_by e) ∙ w.told) (some q))
 
-  module _ {r : Operand} (w : ReadsNumber (take 1 (expr s (nth E i))) r) where
-    pub slowo-stop : (r.stop ≡ 0 → ⊥) → DoesFor p e n r.stop p e n (λ g ins. row g ins s (nth (reading removes) i) nothing nothing SLOWO)
-    slowo-stop z g ins =
-        let xs = take 1 (expr s (nth E i)) in
-        let ys = word (decimal (value (first xs))) ∷ [] in
-        rw (row-slowo g ins) (quiet-stop h (needs 1 xs) (replaced removes i ys s) (quiet-number xs) w.stop_is z)
+  slowo-tried : (c : ℕ) {k : ℕ} {σ' : State} → Tried σ k σ' true (replaced removes i (word (decimal (uncode c)) ∷ []) s)
+      → Does σ k σ' (needs 1 (Component.number (uncode c) ∷ []), replaced removes i (word (decimal (uncode c)) ∷ []) s, on)
+  slowo-tried c u =
+      let xs = Component.number (uncode c) ∷ [] in
+      quiet-tried h (replaced removes i (word (decimal (uncode c)) ∷ []) s) (needs 1 xs) (quiet-number xs) refl refl refl u
 
-    slowo-tried : {k : ℕ} {p' e' n' : List ℕ} → Tried p e n k p' e' n' true (replaced removes i (word (decimal (uncode r.code)) ∷ []) s)
-        → Does p e n k p' e' n' (word_row (Component.number (uncode r.code) ∷ []))
-    slowo-tried u =
-        let xs = Component.number (uncode r.code) ∷ [] in
-        let ys = word (decimal (uncode r.code)) ∷ [] in
-        quiet-tried h (replaced removes i ys s) (needs 1 xs) (quiet-number xs) refl refl refl u
-
-    pub slowo-done : r.stop ≡ 0 → {o o' : List ℕ} {m : ℕ} → NumeralPut o r.code o' m → {k : ℕ} {p' e' n' : List ℕ}
-        → Tried p e n k p' e' n' true (replaced removes i (components_in (take (1 + m) o')) s)
-        → DoesFor p e n k p' e' n' (λ g ins. row g ins s (nth (reading removes) i) nothing nothing SLOWO)
-    slowo-done z v {k} {p'} {e'} {n'} u g ins =
-        rw (row-slowo g ins, w.is z)
-        (slowo-tried (subst (λ (ys : List Component). Tried p e n k p' e' n' true (replaced removes i ys s)) (components-of (numeral-encoded v)) u))
+  pub slowo-done : {c : ℕ} → OneNumber one c → {o o' : List ℕ} {m : ℕ} → NumeralPut o c o' m → {k : ℕ} {σ' : State}
+      → Tried σ k σ' true (replaced removes i (components_in (take (1 + m) o')) s) → DoesFor σ k σ' slowo_rows
+  slowo-done {c} w v {k} {σ'} u g ins =
+      rw (slowo-is g ins s i removes, w.is)
+      (slowo-tried c (subst (λ (ys : List Component). Tried σ k σ' true (replaced removes i ys s)) (components-of (numeral-encoded v)) u))
 
   -- ---- LICZBA
 
-  module _ {r : Spelled} (w : ReadsNumeral (expr s (nth E i)) r) where
-    pub liczba-stop : (r.stop ≡ 0 → ⊥) → DoesFor p e n r.stop p e n (λ g ins. row g ins s (nth (reading removes) i) nothing nothing LICZBA)
-    liczba-stop z g ins =
-        let xs = take 1 (expr s (nth E i)) in
-        let ys = Component.number (value_of (chars (first xs))) ∷ [] in
-        rw (row-liczba g ins) (quiet-stop h (numeral_asks xs) (replaced removes i ys s) (quiet-numeral xs) w.stop_is z)
+  abbrev values : List Component
+  values = Component.number (value_of (chars (first one))) ∷ []
 
-    pub liczba-done : r.stop ≡ 0 → (o : List ℕ) {o' : List ℕ} → o' ≡ pasted o 0 (component_bytes (Component.number (uncode r.code))) → {k : ℕ} {p' e' n' : List ℕ}
-        → Tried p e n k p' e' n' true (replaced removes i (components_in (take 5 o')) s)
-        → DoesFor p e n k p' e' n' (λ g ins. row g ins s (nth (reading removes) i) nothing nothing LICZBA)
-    liczba-done z o {o'} q {k} {p'} {e'} {n'} u g ins =
-        let xs = take 1 (expr s (nth E i)) in
-        let ys = Component.number (value_of (chars (first xs))) ∷ [] in
-        let a = unstopped (numeral_asks xs) (sym w.stop_is ∙ z) in
-        let f : components_in (take 5 o') ≡ ys = components-of (number-held r.code w.most o q) ∙ ap (λ (x : ℤ). Component.number x ∷ []) (sym (w.is z)) in
-        let v : Tried p e n k p' e' n' true (replaced removes i ys s) = subst (λ (l : List Component). Tried p e n k p' e' n' true (replaced removes i l s)) f u in
-        rw (row-liczba g ins) (quiet-tried h (replaced removes i ys s) (numeral_asks xs) (quiet-numeral xs) a.0 a.1 a.2 v)
+  pub liczba-stop : {r : Result Spelled Question} → ReadsNumeral (expr s (nth E i)) r → {q : Question} → r ≡ Err q → DoesFor σ (question_number q) σ liczba_rows
+  liczba-stop w {q} e g ins =
+      rw (liczba-is g ins s i removes)
+      (quiet-stop h (numeral_asks one) (replaced removes i values s) (quiet-numeral one) (sym (ap told_by e) ∙ w.told) (some q))
+
+  pub liczba-done : {r : Result Spelled Question} → ReadsNumeral (expr s (nth E i)) r → {w : Spelled} → r ≡ Ok w → (o : List ℕ) {o' : List ℕ}
+      → o' ≡ pasted o 0 (component_bytes (Component.number (uncode w.code))) → {k : ℕ} {σ' : State}
+      → Tried σ k σ' true (replaced removes i (components_in (take 5 o')) s) → DoesFor σ k σ' liczba_rows
+  liczba-done v {w} e o {o'} q {k} {σ'} u g ins =
+      let n = IfOk-at_ok (λ x. Spells (expr s (nth E i)) x) e v.is in
+      let a = unstopped (numeral_asks one) (sym (sym (ap told_by e) ∙ v.told)) in
+      let f : components_in (take 5 o') ≡ values = components-of (number-held w.code n.most o q) ∙ ap (λ (x : ℤ). Component.number x ∷ []) (sym n.is) in
+      rw (liczba-is g ins s i removes)
+      (quiet-tried h (replaced removes i values s) (numeral_asks one) (quiet-numeral one) a.0 a.1 a.2
+      (subst (λ (l : List Component). Tried σ k σ' true (replaced removes i l s)) f u))
+
+pub spelled_ok : {es : List Component} {r : Result Spelled Question} → ReadsNumeral es r → {w : Spelled} → r ≡ Ok w → Spells es w
+spelled_ok {es} v e = IfOk-at_ok (λ x. Spells es x) e v.is
+
+pub number_ok : {xs : List Component} {r : Result ℕ Question} → ReadsNumber xs r → {c : ℕ} → r ≡ Ok c → OneNumber xs c
+number_ok {xs} v e = IfOk-at_ok (λ x. OneNumber xs x) e v.is

@@ -1,28 +1,31 @@
 // Numbers to words and back: SLOWO and LICZBA.
 #![tactic(auto)]
 
-ghost use Rattle.std.specs.Prelude.{length};
+ghost use Rattle.std.specs.Prelude.{◌<◌, ◌≤◌};
 ghost use Rattle.language.specs.Letters.Letter.{E};
+ghost use Rattle.language.specs.Limits as limit;
 ghost use Rattle.language.specs.Program.Arg.{nothing};
 ghost use Rattle.language.specs.Program.Op.{SLOWO, LICZBA};
 ghost use Rattle.machine.specs.Arguments.{expr};
 ghost use Rattle.machine.specs.Effects.{row};
-ghost use Rattle.state.specs.Working.{state_at, nth, reading};
-ghost use Rattle.state.specs.Blocks.{ExprNamed};
+ghost use Rattle.state.specs.Working.{Stands, nth, reading};
+ghost use Rattle.instructions.specs.Questions.{told_by};
 ghost use Rattle.instructions.specs.Does.{DoesFor};
-ghost use Rattle.converting.specs.Converting.{NumeralPut, NumeralRoom, ReadsNumeral, Convertible};
+ghost use Rattle.converting.specs.Converting.{NumeralPut, ReadsNumeral};
 
-// A question answered no, or 0 and the number that a word writes, with 8,388,607 added; and how many letters the word has.
+use instructions::{Bench, Question, Source};
+use state::Working;
+
+// The number that a word writes, with 8,388,607 added; and how many letters the word has.
 #[derive(Clone, Copy)]
 pub struct Spelled {
-    pub stop: u8,
     pub code: usize,
     pub letters: usize,
 }
 
 // Writes the decimal word of a number in front of `hold`, and tells how many characters it has.
-fn put_numeral(hold: &mut [u8], code: usize) -> usize
-    requires { NumeralRoom (length hold.old) code }
+fn put_numeral(hold: &mut [u8; 32768], code: usize) -> usize
+    requires { code ≤ 16777214 }
     ensures { NumeralPut hold.old code hold.new result }
 {
     let mut w = [0u8; 8];
@@ -32,111 +35,63 @@ fn put_numeral(hold: &mut [u8], code: usize) -> usize
 }
 
 // The first component of expression `i` as a word that writes a number.
-fn first_numeral(pool: &[u8], ends: &[u32], nums: &[u32], i: usize) -> Spelled
-    requires { ExprNamed pool.now ends.now nums.now i }
-    ensures { ReadsNumeral (expr (state_at pool.now ends.now nums.now).store (nth E i)) result }
+fn first_numeral(state: &Working, i: usize) -> Result<Spelled, Question>
+    requires { i < limit.expressions }
+    ensures reads { ReadsNumeral (expr state.now.store (nth E i)) result }
+    ensures stands { Stands state.now }
 {
-    let x = state::expr_bytes(pool, ends, nums, i);
-    if x.len() == 0 {
-        return Spelled {
-            stop: 52,
-            code: 0,
-            letters: 0,
-        };
+    let x = state.expr_bytes(i);
+    if x.is_empty() {
+        return Err(Question::Missing);
     }
     if components::kind_of(x) != 0 {
-        return Spelled {
-            stop: 53,
-            code: 0,
-            letters: 0,
-        };
+        return Err(Question::Kind);
     }
     let w = components::chars_of(x);
+    // A match and no `?` after a `From`: such a `From` would make `decimals` or `instructions` use the other for this place alone.
     match decimals::read_decimal(w) {
-        decimals::Numeral::NotNumeral => Spelled {
-            stop: 53,
-            code: 0,
-            letters: 0,
-        },
-        decimals::Numeral::OutOfRange => Spelled {
-            stop: 54,
-            code: 0,
-            letters: 0,
-        },
-        decimals::Numeral::Code(c) => Spelled {
-            stop: 0,
+        decimals::Numeral::NotNumeral => Err(Question::Kind),
+        decimals::Numeral::OutOfRange => Err(Question::Range),
+        decimals::Numeral::Code(c) => Ok(Spelled {
             code: c,
             letters: w.len(),
-        },
+        }),
     }
 }
 
-// SLOWO of expression `i`: 0, or the question answered no.
-pub fn slowo(
-    pool: &mut [u8],
-    ends: &mut [u32],
-    nums: &mut [u32],
-    scratch: &mut [u8],
-    hold: &mut [u8],
-    removes: bool,
-    i: usize,
-) -> u8
-    requires { Convertible pool.old ends.old nums.old (length scratch.old) (length hold.old) i }
-    ensures { DoesFor pool.old ends.old nums.old result pool.new ends.new nums.new (λ g ins. row g ins (state_at pool.old ends.old nums.old).store (nth (reading removes) i) nothing nothing SLOWO) }
+// SLOWO.
+pub fn slowo(bench: &mut Bench, source: Source) -> Result<(), Question>
+    requires { source.i < limit.expressions }
+    ensures { DoesFor bench.old.state (told_by result) bench.new.state (λ g ins. row g ins bench.old.state.store (nth (reading source.removes) source.i) nothing nothing SLOWO) }
 {
-    let q = operands::first_number(pool, ends, nums, i);
-    let stop = q.stop;
-    let code = q.code;
-    if stop != 0 {
-        return stop;
-    }
-    let n = put_numeral(hold, code);
+    let code = operands::first_number(&bench.state, source.i)?;
+    let n = put_numeral(&mut bench.hold, code);
     operands::replace(
-        pool,
-        ends,
-        nums,
-        scratch,
-        removes,
-        i,
+        &mut bench.state,
+        source.removes,
+        source.i,
         5,
         0,
-        &hold[..1 + n],
+        &bench.hold[..1 + n],
         1,
         n,
     )
 }
 
-// LICZBA of expression `i`: 0, or the question answered no.
-pub fn liczba(
-    pool: &mut [u8],
-    ends: &mut [u32],
-    nums: &mut [u32],
-    scratch: &mut [u8],
-    hold: &mut [u8],
-    removes: bool,
-    i: usize,
-) -> u8
-    requires { Convertible pool.old ends.old nums.old (length scratch.old) (length hold.old) i }
-    ensures { DoesFor pool.old ends.old nums.old result pool.new ends.new nums.new (λ g ins. row g ins (state_at pool.old ends.old nums.old).store (nth (reading removes) i) nothing nothing LICZBA) }
+// LICZBA.
+pub fn liczba(bench: &mut Bench, source: Source) -> Result<(), Question>
+    requires { source.i < limit.expressions }
+    ensures { DoesFor bench.old.state (told_by result) bench.new.state (λ g ins. row g ins bench.old.state.store (nth (reading source.removes) source.i) nothing nothing LICZBA) }
 {
-    let q = first_numeral(pool, ends, nums, i);
-    let stop = q.stop;
-    let code = q.code;
-    let letters = q.letters;
-    if stop != 0 {
-        return stop;
-    }
-    components::put_number(hold, 0, code);
+    let w = first_numeral(&bench.state, source.i)?;
+    components::put_number(&mut bench.hold, 0, w.code);
     operands::replace(
-        pool,
-        ends,
-        nums,
-        scratch,
-        removes,
-        i,
-        1 + letters,
-        letters,
-        &hold[..5],
+        &mut bench.state,
+        source.removes,
+        source.i,
+        1 + w.letters,
+        w.letters,
+        &bench.hold[..5],
         1,
         0,
     )

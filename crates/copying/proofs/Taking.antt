@@ -12,7 +12,7 @@ use Rattle.lists.specs.Lists.{total}
 use Rattle.lists.specs.ListLaws.{total-map}
 use Rattle.language.specs.Limits as limit
 use Rattle.language.specs.Letters.Letter.{P}
-use Rattle.language.specs.Values.{Component, Record, Store, chars}
+use Rattle.language.specs.Values.{Component, Record, Store, State}
 use Rattle.machine.specs.Arguments.{file_of, Until, taken}
 use Rattle.machine.specs.Changes.{with_files, put_file, minus_unless, stamped, stored, past_file, past_by, past}
 use Rattle.layout.specs.Bounds.{Each, Ok, RecordOk, EncodedRecords}
@@ -23,7 +23,7 @@ use Rattle.records.specs.Sequences.{TookRecords, Totalled}
 use Rattle.records.specs.declared.Sequence.{Sequence}
 use Rattle.records.specs.declared.Totals.{Totals}
 use Rattle.records.proofs.Stamps.{contents, stamped-long, reverse-long}
-use Rattle.state.specs.Working.{state_at, HoldsState, Stands, on_store, nth, filing, turned, char_count}
+use Rattle.state.specs.Working.{HoldsState, Stands, on_store, nth, filing, turned, char_count}
 use Rattle.state.proofs.Fits.{fine-limited}
 use Rattle.state.proofs.Freed.{limited-past, removed-or-left}
 use Rattle.state.proofs.Sequences.{total-ones, total-same, each-turned}
@@ -52,16 +52,12 @@ turned-long : (b : Bool) (rs : List Record) → length (records_bytes (turned b 
 turned-long true rs = reverse-long rs
 turned-long false rs = refl
 
-pub by_turn : (b : Bool) {c : Bool} → b ≡ c → (d : List ℕ) (rs : List Record) {x : List ℕ} → x ≡ pasted d 0 (records_bytes (turned c rs))
-    → x ≡ pasted d 0 (records_bytes (turned b rs))
-by_turn b q d rs e = rw q e
-
 -- ---- what is taken
 
-module _ {p e n : List ℕ} {i : ℕ} {f : List ℕ} {u : Until Record} {t : Sequence} (h : Stands p e n) (b : i < limit.files)
-    (l : RecordsLent (file_of (state_at p e n).store (nth P i)).after f) (k : TookRecords u f t) where
+module _ (σ : State) {i : ℕ} {f : List ℕ} {u : Until Record} {t : Sequence} (b : i < limit.files)
+    (l : RecordsLent (file_of σ.store (nth P i)).after f) (k : TookRecords u f t) where
   abbrev s : Store
-  s = (state_at p e n).store
+  s = σ.store
 
   abbrev rs : List Record
   rs = (file_of s (nth P i)).after
@@ -78,21 +74,21 @@ module _ {p e n : List ℕ} {i : ℕ} {f : List ℕ} {u : Until Record} {t : Seq
   most : t.records ≤ length rs
   most = subst (λ (xs : List Record). t.records ≤ length xs) l.is k.cut.most
 
-  pub part-long : t.bytes ≡ length (take t.bytes f)
+  part-long : t.bytes ≡ length (take t.bytes f)
   part-long = sym (length-take-le t.bytes f k.cut.within)
 
-  pub bytes-few : t.bytes ≤ 32768
+  bytes-few : t.bytes ≤ 32768
   bytes-few = omega (arith, k.cut.within, l.most)
 
   bytes_is : t.bytes ≡ length (records_bytes some)
   bytes_is = part-long ∙ ap length front.is
 
-  pub passable : {sc hd : ℕ} → 65536 ≤ sc → 32768 ≤ hd → Passable p e n i t.records t.bytes sc hd
-  passable sp ro = record { stands = h; index = b; most = most; bytes_is = bytes_is; spare = sp; room = ro }
+  pub passable : Passable σ i t.records t.bytes
+  passable = record { index = b; most = most; bytes_is = bytes_is }
 
-  pub gone : (removes : Bool) {p' e' n' : List ℕ}
-      → HoldsState p' e' n' (on_store (λ z. minus_unless t.reached (past (nth (filing removes) i) t.records z)) (state_at p e n))
-      → HoldsState p' e' n' (on_store (passed u removes i) (state_at p e n))
+  pub gone : (removes : Bool) {σ' : State}
+      → HoldsState σ' (on_store (λ z. minus_unless t.reached (past (nth (filing removes) i) t.records z)) σ)
+      → HoldsState σ' (on_store (passed u removes i) σ)
   unfolding on_store passed
   gone removes g = rw took g
 
@@ -106,24 +102,15 @@ module _ {p e n : List ℕ} {i : ℕ} {f : List ℕ} {u : Until Record} {t : Seq
           chars_is = subst (λ (xs : List Record). v.chars ≡ total (λ r. char_count r.parts) xs) (records-of front) w.chars_is;
         }
 
-    pub droppable : RecordsDroppable p e n i t.records t.bytes v.parts v.chars
-    droppable = record { stands = h; index = b; first = first }
-
-    pub records-few : t.records ≤ 65536
-    records-few = omega (arith, k.cut.small, bytes-few)
-
-    pub parts-few : v.parts ≤ 65536
-    parts-few = omega (arith, w.parts_most, part-long, bytes-few)
-
-    pub chars-few : v.chars ≤ 65536
-    chars-few = omega (arith, w.chars_most, part-long, bytes-few)
+    pub droppable : RecordsDroppable σ i t.records t.bytes v.parts v.chars
+    droppable = record { index = b; first = first }
 
     -- ---- copied
 
     abbrev xs : List (List Component)
     xs = contents some
 
-    module _ (removes : Bool) where
+    module _ (h : Stands σ) (removes : Bool) where
       abbrev then : Store → Store
       then z = past (nth (filing removes) i) t.records z
 
@@ -148,18 +135,14 @@ module _ {p e n : List ℕ} {i : ℕ} {f : List ℕ} {u : Until Record} {t : Seq
             parts_is = first.parts_is ∙ sym (total-map (total (λ x. 1)) (λ r. r.parts) some) ∙ total-same (total (λ x. 1)) length total-ones xs;
             chars_is = first.chars_is ∙ sym (total-map char_count (λ r. r.parts) some);
             all_ok = parts_ok some front.all_ok;
-            limited = limited-past s (fine-limited (state_at p e n) h.fine) (nth (filing removes) i) t.records;
+            limited = limited-past s (fine-limited σ h.fine) (nth (filing removes) i) t.records;
             components_then = omega (arith, components-past s i t.records within first removes, removed-or-left removes v.parts);
             chars_then = omega (arith, chars-past s i t.records within first removes, removed-or-left removes v.chars);
             records_then = omega (arith, records-past s i t.records within first removes, removed-or-left removes t.records);
             last_is = last-stays removes;
           }
 
-      module _ (c : Bool) {j : ℕ} (d : j < limit.files) {r k₁ k₂ k₃ : ℕ} (a₁ : k₁ ≡ added t.records) (a₂ : k₂ ≡ added v.parts) (a₃ : k₃ ≡ added v.chars)
-          (y : r ≡ room_of s k₁ k₂ k₃ t.records) where
-        answer : r ≡ room_of s (added t.records) (added v.parts) (added v.chars) t.records
-        answer = rw (← a₁, ← a₂, ← a₃) y
-
+      module _ (c : Bool) {j : ℕ} (d : j < limit.files) {k₁ k₂ k₃ : ℕ} (a₁ : k₁ ≡ added t.records) (a₂ : k₂ ≡ added v.parts) (a₃ : k₃ ≡ added v.chars) where
         abbrev made : Store
         made = minus_unless t.reached (stored (nth (filing c) j) xs (then s))
 
@@ -167,19 +150,19 @@ module _ {p e n : List ℕ} {i : ℕ} {f : List ℕ} {u : Until Record} {t : Seq
         unfolding copied
         made-is = rw took refl
 
-        pub copy-stop : (r ≡ 0 → ⊥) → Storing p e n r p e n (copied u removes i c j s)
-        copy-stop z q o w' =
+        pub copy-stop : {r : ℕ} → r ≡ room_of s k₁ k₂ k₃ t.records → (r ≡ 0 → ⊥) → Storing σ r σ (copied u removes i c j s)
+        copy-stop y z q o w' =
             rw made-is
-            (room-stop h q o w' made (added t.records) (added v.parts) (added v.chars) t.records (lot-fits lot c d t.reached) (lot-last lot c d t.reached) answer z)
+            (room-stop h q o w' made (added t.records) (added v.parts) (added v.chars) t.records (lot-fits lot c d t.reached) (lot-last lot c d t.reached) (rw (← a₁, ← a₂, ← a₃) y) z)
 
-        module _ (z : r ≡ 0) where
+        module _ (y : 0 ≡ room_of s k₁ k₂ k₃ t.records) where
           roomy : Roomy s (added t.records) (added v.parts) (added v.chars) t.records
-          roomy = has_room s (added t.records) (added v.parts) (added v.chars) t.records answer z
+          roomy = has_room s (added t.records) (added v.parts) (added v.chars) t.records (rw (← a₁, ← a₂, ← a₃) y)
 
-          pub copyable : {m : ℕ} → m ≡ s.last → {o : List ℕ} → 32768 ≤ length o → Copyable o (take t.bytes f) m
+          pub copyable : {m : ℕ} → m ≡ s.last → {o : List ℕ} → length o ≡ 32768 → Copyable o (take t.bytes f) m
           copyable {m} q ro =
               record {
-                room = omega (arith, part-long, bytes-few);
+                room = omega (arith, part-long, bytes-few, ro);
                 given = rw (records-of front) (omega (arith, q, roomy.addresses, length-take-le t.records rs most));
                 whole = whole-records front;
               }
@@ -198,17 +181,17 @@ module _ {p e n : List ℕ} {i : ℕ} {f : List ℕ} {u : Until Record} {t : Seq
                       (stamped-ok s.last some front.all_ok (omega (arith, roomy.addresses, length-take-le t.records rs most)));
                 }
 
-            module _ {p' e' n' : List ℕ} (g : HoldsState p' e' n' (on_store then (state_at p e n))) where
-              pub copy-writable : {sc : ℕ} → 65536 ≤ sc → RecordsWritable p' e' n' sc j c (take t.bytes o') t.records v.parts v.chars
-              copy-writable sp = lot-writable lot c d h then refl g new-records sp roomy
+            module _ {σ' : State} (g : HoldsState σ' (on_store then σ)) where
+              pub copy-writable : RecordsWritable σ' j c (take t.bytes o') t.records v.parts v.chars
+              copy-writable = lot-writable lot c d σ then refl g new-records roomy
 
-              pub copy_done : {p'' e'' n'' : List ℕ}
-                  → HoldsState p'' e'' n'' (on_store (λ z'. minus_unless t.reached (stored (nth (filing c) j) (bodies c (take t.bytes o')) z')) (state_at p' e' n'))
-                  → Storing p e n 0 p'' e'' n'' (copied u removes i c j s)
+              pub copy_done : {σ'' : State}
+                  → HoldsState σ'' (on_store (λ z'. minus_unless t.reached (stored (nth (filing c) j) (bodies c (take t.bytes o')) z')) σ')
+                  → Storing σ 0 σ'' (copied u removes i c j s)
               unfolding on_store
-              copy_done {p''} {e''} {n''} x' q' o'' w'' =
+              copy_done {σ'' = σ''} x' q' o'' w'' =
                   rw made-is
                   (storing-done h q' o'' w'' made
                   (after-state g (on_store (λ z'. minus_unless t.reached (stored (nth (filing c) j) xs z')))
-                  (subst (λ (ys : List (List Component)). HoldsState p'' e'' n'' (on_store (λ z'. minus_unless t.reached (stored (nth (filing c) j) ys z')) (state_at p' e' n')))
+                  (subst (λ (ys : List (List Component)). HoldsState σ'' (on_store (λ z'. minus_unless t.reached (stored (nth (filing c) j) ys z')) σ'))
                   (bodies-are c s.last xs new-records) x')))

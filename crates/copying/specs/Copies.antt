@@ -2,13 +2,13 @@
 use Rattle.std.specs.Prelude.{◌≡◌, Bool, List, map, ℕ, ◌≤◌, ◌<◌, length, take}
 use Rattle.language.specs.Limits as limit
 use Rattle.language.specs.Letters.Letter.{P}
-use Rattle.language.specs.Values.{Record, Store}
+use Rattle.language.specs.Values.{Record, Store, State}
 use Rattle.machine.specs.Arguments.{Asks, file_of, Until, taken}
 use Rattle.machine.specs.Changes.{minus_unless, stored, past}
 use Rattle.machine.specs.Effects.Go.{on}
 use Rattle.records.specs.Sequences.{FittingRecords}
 use Rattle.records.specs.declared.RecordTest.{RecordTest}
-use Rattle.state.specs.Working.{Stands, nth, filing}
+use Rattle.state.specs.Working.{nth, filing}
 use Rattle.table.specs.declared.Argument.{Argument}
 use Rattle.instructions.specs.Does.{Does, Quiet, stop_of}
 use Rattle.record_tests.specs.RecordPrepares.{RecordTestReadable}
@@ -25,39 +25,25 @@ copied u removes i reverses j s =
 
 -- ---- what is asked
 
-pub record Droppable (p e n : List ℕ) (given : List ℕ) (test : RecordTest) (i : ℕ) : Type 0 where
-  pub stands : Stands p e n
+pub record Droppable (given : List ℕ) (test : RecordTest) (i : ℕ) : Type 0 where
   pub fitting : FittingRecords test given
   pub source : i < limit.files
 
-pub record Skippable (p e n : List ℕ) (scratch hold : ℕ) (given : List ℕ) (test : RecordTest) (i : ℕ) : Type 0 where
-  pub droppable : Droppable p e n given test i
-  pub spare : 65536 ≤ scratch
-  pub room : 32768 ≤ hold
-
 -- the first len of the cells given are beside the test
-pub record Duplicable (p e n : List ℕ) (scratch hold : ℕ) (given : List ℕ) (len : ℕ) (test : RecordTest) (i j : ℕ) : Type 0 where
-  pub droppable : Droppable p e n (take len given) test i
+pub record Duplicable (given : List ℕ) (len : ℕ) (test : RecordTest) (i j : ℕ) : Type 0 where
+  pub droppable : Droppable (take len given) test i
   pub inside : len ≤ length given
-  pub spare : 65536 ≤ scratch
-  pub room : 32768 ≤ hold
-  pub values : 32768 ≤ length given
   pub target : j < limit.files
 
 -- the instructions: of file i, and from file i to file j, with the test of argument a
-pub record RecordsRemovable (c p e n : List ℕ) (given i : ℕ) (a : Argument) : Type 0 where
-  pub test : RecordTestReadable c p e n given a
+pub record RecordsRemovable (c : List ℕ) (i : ℕ) (a : Argument) : Type 0 where
+  pub test : RecordTestReadable c a
   pub source : i < limit.files
 
-pub record RecordsSkippable (c p e n : List ℕ) (scratch hold given i : ℕ) (a : Argument) : Type 0 where
-  pub removable : RecordsRemovable c p e n given i a
-  pub spare : 65536 ≤ scratch
-  pub room : 32768 ≤ hold
-
-pub record RecordsMovable (c p e n : List ℕ) (scratch hold given i j : ℕ) (a : Argument) : Type 0 where
-  pub skippable : RecordsSkippable c p e n scratch hold given i a
+pub record RecordsMovable (c : List ℕ) (i j : ℕ) (a : Argument) : Type 0 where
+  pub removable : RecordsRemovable c i a
   pub target : j < limit.files
 
 -- ---- and told: a row that asks q, all answered yes, and makes the store t
-abbrev pub Storing : List ℕ → List ℕ → List ℕ → ℕ → List ℕ → List ℕ → List ℕ → Store → Type 0
-Storing p e n told p' e' n' t = (q : Asks) → Quiet q → stop_of q ≡ 0 → Does p e n told p' e' n' (q, t, on)
+abbrev pub Storing : State → ℕ → State → Store → Type 0
+Storing σ told σ' t = (q : Asks) → Quiet q → stop_of q ≡ 0 → Does σ told σ' (q, t, on)

@@ -10,7 +10,7 @@ use Rattle.language.specs.Instructions.{Forms, operation, operator_of, is_end}
 use Rattle.language.specs.Letters as letters
 use Rattle.language.specs.Letters.{indices, letter_code, use_of}
 use Rattle.language.specs.Program.{Arg, Instr, Op, Program, instr_at}
-use Rattle.language.specs.Program.Arg.{nothing, letter}
+use Rattle.language.specs.Program.Arg.{nothing}
 use Rattle.language.specs.Values.{State, Inputs}
 use Rattle.machine.proofs.ControlLaws.{gone-in}
 use Rattle.machine.specs.Effects.{row}

@@ -17,8 +17,8 @@ use Rattle.table.specs.declared.Letter.{Letter}
 use Rattle.table.specs.declared.Argument.{Argument}
 use Rattle.table.specs.declared.Argument.TheVariants.{Indexed, Label, Switch}
 use Rattle.decoding.specs.declared.Opened.{Opened}
-use Rattle.decoding.specs.declared.Source.{Source}
-use Rattle.decoding.specs.declared.Target.{Target}
+use Rattle.instructions.specs.declared.Source.{Source}
+use Rattle.instructions.specs.declared.Target.{Target}
 use Rattle.decoding.specs.declared.Variable.{Variable}
 use Rattle.decoding.specs.declared.Variable.TheVariants.{Expression, Input, Output, File}
 

@@ -8,6 +8,8 @@ ghost use Rattle.table.specs.Denote.{letter_of};
 ghost use Rattle.table.specs.declared.Argument.TheVariants.{Label, Switch};
 ghost use Rattle.decoding.specs.Operands.{Lettered, Named, Labelled, Switched, IsOpened, IsSource, IsTarget, IsFile, IsIndex, IsVariable, var_of};
 
+use instructions::{Source, Target};
+
 // A letter and the index of its variable, from 0.
 #[derive(Clone, Copy)]
 pub struct Opened {
@@ -15,22 +17,8 @@ pub struct Opened {
     pub i: usize,
 }
 
-// What components or records are read from, and whether they are removed there.
-#[derive(Clone, Copy)]
-pub struct Source {
-    pub removes: bool,
-    pub i: usize,
-}
-
-// What components are written to: turned round or not, at the end or in front.
-#[derive(Clone, Copy)]
-pub struct Target {
-    pub reverses: bool,
-    pub at_end: bool,
-    pub j: usize,
-}
-
-#[derive(Clone, Copy)]
+// The variables that letters name.
+#[derive(Clone, Copy, PartialEq, Eq, Debug)]
 pub enum Variable {
     Expression,
     Input,
@@ -42,34 +30,19 @@ pub enum Variable {
 fn removes(l: table::Letter) -> bool
     ensures { result ≡ (use_of (letter_of l)).removes }
 {
-    match l {
-        table::Letter::A => true,
-        table::Letter::C => true,
-        table::Letter::I => true,
-        _ => false,
-    }
+    matches!(l, table::Letter::A | table::Letter::C | table::Letter::I)
 }
 
 fn reverses(l: table::Letter) -> bool
     ensures { result ≡ (use_of (letter_of l)).reverses }
 {
-    match l {
-        table::Letter::A => true,
-        table::Letter::C => true,
-        table::Letter::Y => true,
-        _ => false,
-    }
+    matches!(l, table::Letter::A | table::Letter::C | table::Letter::Y)
 }
 
 fn at_end(l: table::Letter) -> bool
     ensures { result ≡ (use_of (letter_of l)).at_end }
 {
-    match l {
-        table::Letter::Q => true,
-        table::Letter::Y => true,
-        table::Letter::Z => true,
-        _ => false,
-    }
+    matches!(l, table::Letter::Q | table::Letter::Y | table::Letter::Z)
 }
 
 // Which variable it names.
@@ -77,9 +50,7 @@ fn variable_by(l: table::Letter) -> Variable
     ensures { (use_of (letter_of l)).var ≡ var_of result }
 {
     match l {
-        table::Letter::C => Variable::File,
-        table::Letter::D => Variable::File,
-        table::Letter::P => Variable::File,
+        table::Letter::C | table::Letter::D | table::Letter::P => Variable::File,
         table::Letter::I => Variable::Input,
         table::Letter::Q => Variable::Output,
         _ => Variable::Expression,
@@ -96,10 +67,7 @@ fn indexed(a: table::Argument) -> Opened
             letter: l,
             i: n - 1,
         },
-        _ => Opened {
-            letter: table::Letter::A,
-            i: 0,
-        },
+        _ => unreachable!(),
     }
 }
 
@@ -108,11 +76,9 @@ pub fn source_of(a: table::Argument) -> Source
     requires { Named (bytes "AB") a }
     ensures { IsSource a result }
 {
-    let o = indexed(a);
-    let i = o.i;
-    let l = o.letter;
+    let Opened { letter, i } = indexed(a);
     Source {
-        removes: removes(l),
+        removes: removes(letter),
         i,
     }
 }
@@ -122,26 +88,22 @@ pub fn target_of(a: table::Argument) -> Target
     requires { Named (bytes "ABYZ") a }
     ensures { IsTarget a result }
 {
-    let o = indexed(a);
-    let j = o.i;
-    let l = o.letter;
+    let Opened { letter, i } = indexed(a);
     Target {
-        reverses: reverses(l),
-        at_end: at_end(l),
-        j,
+        reverses: reverses(letter),
+        at_end: at_end(letter),
+        j: i,
     }
 }
 
-// C or D.
+// C or D. Not one with `source_of`: its promise is of a file.
 pub fn file_of(a: table::Argument) -> Source
     requires { Named (bytes "CD") a }
     ensures { IsFile a result }
 {
-    let o = indexed(a);
-    let i = o.i;
-    let l = o.letter;
+    let Opened { letter, i } = indexed(a);
     Source {
-        removes: removes(l),
+        removes: removes(letter),
         i,
     }
 }
@@ -151,17 +113,14 @@ pub fn index_of(a: table::Argument) -> usize
     requires { Lettered a }
     ensures { IsIndex a result }
 {
-    let o = indexed(a);
-    o.i
+    indexed(a).i
 }
 
 pub fn variable_of(a: table::Argument) -> Variable
     requires { Lettered a }
     ensures { IsVariable a result }
 {
-    let o = indexed(a);
-    let l = o.letter;
-    variable_by(l)
+    variable_by(indexed(a).letter)
 }
 
 pub fn label_of(a: table::Argument) -> usize
@@ -170,7 +129,7 @@ pub fn label_of(a: table::Argument) -> usize
 {
     match a {
         table::Argument::Label(k) => k,
-        _ => 0,
+        _ => unreachable!(),
     }
 }
 
@@ -180,6 +139,6 @@ pub fn switch_of(a: table::Argument) -> usize
 {
     match a {
         table::Argument::Switch(k) => k,
-        _ => 0,
+        _ => unreachable!(),
     }
 }

@@ -4,12 +4,13 @@ use mathlib.Core.Bool.{Bool, true, false}
 use mathlib.Core.List.{List}
 use Prim.Native.Nat.{ℕ}
 use lib.ListN.{take}
+use Rattle.std.specs.Prelude.{Result, Ok, Err}
 use Rattle.lists.specs.Lists.{any, filled}
 use Rattle.language.specs.Letters as letters
 use Rattle.language.specs.Program.{Arg, Program}
 use Rattle.language.specs.Program.Arg.{nothing}
 use Rattle.language.specs.Program.Op.{RW}
-use Rattle.language.specs.Values.{Component, Store, Inputs}
+use Rattle.language.specs.Values.{Component, Store, State, Inputs}
 use Rattle.machine.specs.Arguments.{Asks, use_by, expr, side, is_count, single, none, ask, ◌&◌, when, matches, taken}
 use Rattle.machine.specs.Changes.{minus_unless, past_by, used_by, used}
 use Rattle.machine.specs.Effects.{relation, equality, row}
@@ -21,17 +22,19 @@ use Rattle.matching.specs.declared.Taken.{Taken}
 use Rattle.matching.specs.declared.Test.{Test}
 use Rattle.comparands.proofs.Below.Signs.{kept-or-minus}
 use Rattle.packed.specs.Packed.{table_of}
-use Rattle.state.specs.Working.{state_at, HoldsState, Stands, on_store, nth}
+use Rattle.state.specs.Working.{HoldsState, Stands, on_store, nth}
 use Rattle.state.specs.Blocks.{ExprLent}
 use Rattle.table.specs.Denote.{arg_of}
 use Rattle.table.specs.declared.Argument.{Argument}
+use Rattle.instructions.specs.Questions.{question_number, told_by}
+use Rattle.instructions.specs.declared.Question.{Question}
+use Rattle.instructions.proofs.Asking.{some}
 use Rattle.instructions.specs.Does.{DoesFor, Quiet, stop_of}
 use Rattle.instructions.proofs.Answers.{quiet-stop, quiet-done}
 use Rattle.comparands.specs.Offers.{ArgumentOffers}
-use Rattle.comparands.specs.declared.Held.{Held}
 use Rattle.equality.specs.Equality.{test_of}
 use Rattle.equality.proofs.Meeting.{met}
-use Rattle.equality.proofs.Questions.{offer_by, numeric}
+use Rattle.equality.proofs.Questions.{beside, offer_by, numeric}
 
 abbrev any_by : Bool → Bool → Bool → Bool → Asks
 any_by s c fy nu = none & when s (ask 52 fy) & none & when c (ask 53 nu)
@@ -61,35 +64,35 @@ module _ (g : Program) (ins : Inputs) (s : Store) (i : ℕ) (b : Arg) where
   unfolding row equality relation used used_by past_by
   row_any = ap (λ (t : Store). (q, t, on)) (kept-or-minus holds s)
 
-module _ {p e n : List ℕ} (h : Stands p e n) (i : ℕ) (c : List ℕ) (a : Argument) {g : List ℕ} {r : Held} (o : ArgumentOffers c (state_at p e n).store a g r) where
+module _ {σ : State} (h : Stands σ) (i : ℕ) (c : List ℕ) (a : Argument) {g : List ℕ} {r : Result ℕ Question} (o : ArgumentOffers c σ.store a g r) where
   abbrev s : Store
-  s = (state_at p e n).store
+  s = σ.store
 
   abbrev b : Arg
   b = arg_of (table_of c) a
 
-  abbrev does : ℕ → List ℕ → Type 0
-  does k n' = DoesFor p e n k p e n' (λ f ins. row f ins s (nth letters.Letter.T i) b nothing RW)
+  abbrev does : ℕ → State → Type 0
+  does k σ' = DoesFor σ k σ' (λ f ins. row f ins s (nth letters.Letter.T i) b nothing RW)
 
   quiet : (f : Program) (ins : Inputs) → Quiet (q f ins s i b)
   quiet f ins = quiet-any (single b) (is_count (use_by b).reading) (filled (side ins s b)) (numeric (side ins s b))
 
-  stop_is : (f : Program) (ins : Inputs) → r.stop ≡ stop_of (q f ins s i b)
-  stop_is f ins = (o ins).stop_is ∙ stop-any (single b) (is_count (use_by b).reading) (filled (side ins s b)) (numeric (side ins s b))
+  stop_is : (f : Program) (ins : Inputs) {k : ℕ} → told_by r ≡ k → k ≡ stop_of (q f ins s i b)
+  stop_is f ins e = sym e ∙ (o ins).told ∙ stop-any (single b) (is_count (use_by b).reading) (filled (side ins s b)) (numeric (side ins s b))
 
-  pub any-stop : (r.stop ≡ 0 → ⊥) → does r.stop n
-  any-stop z f ins =
+  pub any-stop : {k : Question} → r ≡ Err k → does (question_number k) σ
+  any-stop {k} e f ins =
       rw (row_any f ins s i b)
-      (quiet-stop h (q f ins s i b) (minus_unless (holds f ins s i b) s) (quiet f ins) (stop_is f ins) z)
+      (quiet-stop h (q f ins s i b) (minus_unless (holds f ins s i b) s) (quiet f ins) (stop_is f ins (ap told_by e)) (some k))
 
-  pub any-done : r.stop ≡ 0 → {x : List ℕ} → ExprLent p e n i x → {v : Test} {t : Taken} → v ≡ test_of a → Took (until v (take r.len g)) (components_in x) t → {n' : List ℕ}
-      → HoldsState p e n' (on_store (minus_unless t.reached) (state_at p e n)) → does 0 n'
+  pub any-done : {n : ℕ} → r ≡ Ok n → {x : List ℕ} → ExprLent σ i x → {v : Test} {t : Taken} → v ≡ test_of a → Took (until v (take n g)) (components_in x) t → {σ' : State}
+      → HoldsState σ' (on_store (minus_unless t.reached) σ) → does 0 σ'
   unfolding on_store
-  any-done z {x} l {v} {t} w k d f ins =
+  any-done {n} e {x} l {v} {t} w k d f ins =
       let y : t.reached ≡ holds f ins s i b =
       sym (ap (λ (u : ℕ × Bool). u.1) k.is)
-      ∙ ap (λ (u : Test). (taken (until u (take r.len g)) (components_in x)).1) w
-      ∙ ap (λ (ys : List Component). (taken (until (test_of a) (take r.len g)) ys).1) l.is
-      ∙ met (table_of c) a ins s (take r.len g) (expr s (nth letters.Letter.E i)) (components-of ((o ins).encoded z)) in
+      ∙ ap (λ (u : Test). (taken (until u (take n g)) (components_in x)).1) w
+      ∙ ap (λ (ys : List Component). (taken (until (test_of a) (take n g)) ys).1) l.is
+      ∙ met (table_of c) a ins s (take n g) (expr s (nth letters.Letter.E i)) (components-of (beside (o ins) e).encoded) in
       rw (row_any f ins s i b)
-      (quiet-done h (q f ins s i b) (minus_unless (holds f ins s i b) s) (quiet f ins) (sym (stop_is f ins) ∙ z) (rw y at d))
+      (quiet-done h (q f ins s i b) (minus_unless (holds f ins s i b) s) (quiet f ins) (sym (stop_is f ins (ap told_by e))) (rw y at d))

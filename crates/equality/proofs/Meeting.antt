@@ -1,15 +1,14 @@
 -- Components that an argument means.
 use mathlib.Core.Path.{◌≡◌, refl, sym, ap, ◌∙◌, subst, fun_ext}
-use mathlib.Core.Bool.{Bool, true, false, not, cond, ◌||◌}
+use mathlib.Core.Bool.{Bool, true, false, cond, ◌||◌}
 use mathlib.Core.List.{List, [], ◌∷◌, map}
 use Prim.Native.Nat.{ℕ, ◌≤◌, ◌<◌}
 use native.Mathlib.Omega.{arith}
-use lib.Dec.{eqb}
 use lib.ListN.{length, take, drop, length-take, length-append}
-use borrow.Author.Tests.{ne_eqb, not-true, not-false}
+use borrow.Author.Tests.{ne_eqb}
 use Rattle.lists.specs.Lists.{any, filled}
 use Rattle.language.specs.Letters.Letter.{E}
-use Rattle.language.specs.Values.{Component, Store, Inputs, same}
+use Rattle.language.specs.Values.{Component, Store, State, Inputs, same}
 use Rattle.machine.specs.Arguments.{expr, side, matches, taken}
 use Rattle.layout.specs.Bounds.{Encoded, WholeComponents}
 use Rattle.layout.specs.Cells.{cell, uncode}
@@ -21,12 +20,12 @@ use Rattle.components.specs.Parts.{first_size, Leading, LentChars}
 use Rattle.matching.specs.Tests.{until, Fitting, Took}
 use Rattle.matching.specs.declared.Test.{Test}
 use Rattle.matching.specs.declared.Taken.{Taken}
-use Rattle.state.specs.Working.{state_at, HoldsState, on_store, nth}
+use Rattle.state.specs.Working.{HoldsState, on_store, nth}
 use Rattle.state.specs.Blocks.{ExprLent, FirstParts}
 use Rattle.table.specs.Denote.{arg_of}
 use Rattle.table.specs.declared.Argument.{Argument}
 use Rattle.table.specs.declared.Argument.TheVariants as argument
-use Rattle.comparands.proofs.Below.Values.{front_fits, front-encoded, none-there, one-there}
+use Rattle.tests.proofs.Values.{front_fits, front-encoded, none-there, one-there}
 use Rattle.equality.specs.Equality.{test_of, related, settled}
 
 pub false-true : false ≡ true → ⊥
@@ -58,9 +57,9 @@ met c (argument.Number v) ins s g xs e =
 
 -- ---- the first component of an expression
 
-module _ {p e n : List ℕ} {i : ℕ} {x : List ℕ} (l : ExprLent p e n i x) where
+module _ {σ : State} {i : ℕ} {x : List ℕ} (l : ExprLent σ i x) where
   abbrev es : List Component
-  es = expr (state_at p e n).store (nth E i)
+  es = expr σ.store (nth E i)
 
   pub some-there : filled es ≡ true → length x ≡ 0 → ⊥
   some-there f z = false-true (sym (ap filled (none-there l z)) ∙ f)
@@ -90,8 +89,8 @@ module _ {p e n : List ℕ} {i : ℕ} {x : List ℕ} (l : ExprLent p e n i x) wh
         }
 
     -- what the end makes is what is settled
-    pub settled-done : (a : Argument) (g : List ℕ) {v : Test} {t : Taken} → v ≡ test_of a → Took (until v g) (components_in (take k x)) t → (removes : Bool) {e' n' : List ℕ}
-        → HoldsState p e' n' (on_store (related t.reached removes i) (state_at p e n)) → HoldsState p e' n' (on_store (settled a g removes i) (state_at p e n))
+    pub settled-done : (a : Argument) (g : List ℕ) {v : Test} {t : Taken} → v ≡ test_of a → Took (until v g) (components_in (take k x)) t → (removes : Bool) {σ' : State}
+        → HoldsState σ' (on_store (related t.reached removes i) σ) → HoldsState σ' (on_store (settled a g removes i) σ)
     unfolding on_store settled
     settled-done a g {v} {t} f w removes d =
         let q : (taken (until (test_of a) g) (take 1 es)).1 ≡ t.reached =
@@ -119,20 +118,7 @@ pub settled-met : (c : List ℕ) (a : Argument) (ins : Inputs) (s : Store) (i : 
 unfolding settled
 settled-met c a ins s i {g} removes e = ap (λ (b : Bool). related b removes i s) (met c a ins s g (take 1 (expr s (nth E i))) (components-of e))
 
--- ---- kinds
-
-pub unlike-no : {b s : Bool} → b ≡ s → not b ≡ true → (t : Bool) → false ≡ cond s t false
-unlike-no {b} e q t = rw (sym e ∙ not-true b q) refl
-
-kinds : (a b : ℕ) {s : Bool} → s ≡ true → not (eqb a b) ≡ cond s (cond (eqb a b) false true) false
-kinds a b e = rw e (go (eqb a b))
-  where
-    go : (t : Bool) → not t ≡ cond t false true
-    go true = refl
-    go false = refl
-
-pub unlike-yes : {x y a b : ℕ} {s t : Bool} → x ≡ a → y ≡ b → t ≡ s → not t ≡ false → not (eqb x y) ≡ cond s (cond (eqb a b) false true) false
-unlike-yes {x} {y} {t = t} p q e f = rw (← p, ← q) (kinds x y (sym e ∙ not-false t f))
+-- ---- what stands in front
 
 bytes-some : (xs : List Component) → filled xs ≡ true → 0 < length (components_bytes xs)
 unfolding components_bytes

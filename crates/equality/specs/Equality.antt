@@ -2,7 +2,7 @@
 use Rattle.std.specs.Prelude.{◌≡◌, Bool, true, false, cond, List, ℕ, ◌<◌, eqb, take}
 use Rattle.language.specs.Limits as limit
 use Rattle.language.specs.Letters.Letter.{E}
-use Rattle.language.specs.Values.{Store, kind}
+use Rattle.language.specs.Values.{Store, State, kind}
 use Rattle.machine.specs.Arguments.{expr, single, taken}
 use Rattle.machine.specs.Changes.{minus, used}
 use Rattle.layout.specs.Bounds.{WholeComponents}
@@ -12,14 +12,14 @@ use Rattle.components.specs.Parts.{Leading}
 use Rattle.matching.specs.Tests.{until}
 use Rattle.matching.specs.declared.Test.{Test}
 use Rattle.matching.specs.declared.Test.TheVariants as test
-use Rattle.state.specs.Working.{state_at, Stands, nth, reading}
+use Rattle.state.specs.Working.{nth, reading}
 use Rattle.state.specs.Blocks.{FirstParts}
 use Rattle.table.specs.Denote.{arg_of}
 use Rattle.table.specs.declared.Letter.{Letter}
 use Rattle.table.specs.declared.Argument.{Argument}
 use Rattle.table.specs.declared.Argument.TheVariants.{Nothing, Indexed, Label, Switch, Class, Text, Number}
 use Rattle.comparands.specs.Offers.{Holdable}
-use Rattle.comparands.specs.Below.Prepares.{OtherLetter}
+use Rattle.tests.specs.Prepares.{OtherLetter}
 
 -- what a component is compared by: a class, or the components that the argument offers
 abbrev pub test_of : Argument → Test
@@ -56,17 +56,16 @@ related holds removes i s = cond holds (used (nth (reading removes) i) s) (minus
 unfoldable pub settled : Argument → List ℕ → Bool → ℕ → Store → Store
 settled a g removes i s = related (taken (until (test_of a) g) (take 1 (expr s (nth E i)))).1 removes i s
 
-pub record Settleable (p e n : List ℕ) (g : List ℕ) (i : ℕ) : Type 0 where
-  pub stands : Stands p e n
+-- expression i has a first component
+pub record Settleable (σ : State) (g : List ℕ) (i : ℕ) : Type 0 where
   pub index : i < limit.expressions
-  pub some : filled (expr (state_at p e n).store (nth E i)) ≡ true
+  pub some : filled (expr σ.store (nth E i)) ≡ true
   pub whole : WholeComponents g
 
-pub record Finishable (p e n : List ℕ) (i bytes letters : ℕ) : Type 0 where
-  pub stands : Stands p e n
+pub record Finishable (σ : State) (i bytes letters : ℕ) : Type 0 where
   pub index : i < limit.expressions
-  pub first : FirstParts (expr (state_at p e n).store (nth E i)) 1 bytes letters
+  pub first : FirstParts (expr σ.store (nth E i)) 1 bytes letters
 
-pub record Relatable (c p e n : List ℕ) (given i : ℕ) (a : Argument) : Type 0 where
-  pub other : Holdable c p e n given a
+pub record Relatable (c : List ℕ) (i : ℕ) (a : Argument) : Type 0 where
+  pub other : Holdable c a
   pub source : i < limit.expressions

@@ -1,7 +1,7 @@
 // Equality: RW of an expression, of its first component or any of them.
 #![tactic(auto)]
 
-ghost use Rattle.std.specs.Prelude.{◌≡◌, length};
+ghost use Rattle.std.specs.Prelude.{◌≡◌};
 ghost use Rattle.language.specs.Letters as letters;
 ghost use Rattle.language.specs.Letters.{use_of};
 ghost use Rattle.language.specs.Program.Arg.{nothing};
@@ -9,11 +9,15 @@ ghost use Rattle.language.specs.Program.Op.{RW};
 ghost use Rattle.machine.specs.Arguments.{is_one};
 ghost use Rattle.machine.specs.Effects.{row};
 ghost use Rattle.packed.specs.Packed.{table_of};
-ghost use Rattle.state.specs.Working.{state_at, HoldsState, on_store, nth, reading};
+ghost use Rattle.state.specs.Working.{HoldsState, on_store, nth, reading};
 ghost use Rattle.table.specs.Denote.{letter_of, arg_of};
+ghost use Rattle.instructions.specs.Questions.{told_by};
 ghost use Rattle.instructions.specs.Does.{DoesFor};
-ghost use Rattle.comparands.specs.Below.Prepares.{OtherLetter};
+ghost use Rattle.tests.specs.Prepares.{OtherLetter};
 ghost use Rattle.equality.specs.Equality.{test_of, OtherArgument, Singles, Alikeable, Unlike, related, settled, Finishable, Settleable, Relatable};
+
+use instructions::{Bench, Question, Source};
+use state::Working;
 
 // What a component is compared by: a class, or the components beside.
 pub fn test_of(arg: table::Argument) -> matching::Test
@@ -29,11 +33,7 @@ fn is_one(l: table::Letter) -> bool
     requires { OtherLetter l }
     ensures { result ≡ is_one (use_of (letter_of l)).reading }
 {
-    match l {
-        table::Letter::E => false,
-        table::Letter::T => false,
-        _ => true,
-    }
+    !matches!(l, table::Letter::E | table::Letter::T)
 }
 
 // Whether an argument offers a single component.
@@ -43,12 +43,11 @@ pub fn is_single(arg: table::Argument) -> bool
 {
     match arg {
         table::Argument::Indexed(l, _) => is_one(l),
-        table::Argument::Text(_) => true,
-        table::Argument::Number(_) => true,
-        table::Argument::Class(_) => false,
-        table::Argument::Nothing => false,
-        table::Argument::Label(_) => false,
-        table::Argument::Switch(_) => false,
+        table::Argument::Text(_) | table::Argument::Number(_) => true,
+        table::Argument::Class(_)
+        | table::Argument::Nothing
+        | table::Argument::Label(_)
+        | table::Argument::Switch(_) => false,
     }
 }
 
@@ -60,102 +59,71 @@ pub fn unlike(x: &[u8], given: &[u8], arg: table::Argument) -> bool
     if !is_single(arg) {
         return false;
     }
+    // Kinds are numbers here as in `components`.
     components::kind_of(x) != components::kind_of(given)
 }
 
-// Removes the first component of expression `i` or not, where the relation holds; else H turns minus.
-fn finish(
-    pool: &[u8],
-    ends: &mut [u32],
-    nums: &mut [u32],
-    removes: bool,
-    i: usize,
-    bytes: usize,
-    letters: usize,
-    holds: bool,
-)
-    requires { Finishable pool.now ends.old nums.old i bytes letters }
-    ensures { HoldsState pool.now ends.new nums.new (on_store (related holds removes i) (state_at pool.now ends.old nums.old)) }
+// Removes the first component of the source or not, where the relation holds; else H turns minus.
+fn finish(state: &mut Working, source: Source, bytes: usize, letters: usize, holds: bool)
+    requires { Finishable state.old source.i bytes letters }
+    ensures { HoldsState state.new (on_store (related holds source.removes source.i) state.old) }
 {
     if holds {
-        state::past_parts(pool, ends, nums, i, removes, 1, bytes, letters);
+        state.past_parts(source.i, source.removes, 1, bytes, letters);
         return;
     }
-    state::minus_unless(pool, ends, nums, false);
+    state.minus_unless(false);
 }
 
-// Asks the relation of the first component of expression `i` and the components beside, and leaves what follows.
-fn settle(
-    pool: &[u8],
-    ends: &mut [u32],
-    nums: &mut [u32],
-    given: &[u8],
-    removes: bool,
-    i: usize,
-    arg: table::Argument,
-)
-    requires { Settleable pool.now ends.old nums.old given.now i }
-    ensures { HoldsState pool.now ends.new nums.new (on_store (settled arg given.now removes i) (state_at pool.now ends.old nums.old)) }
+// Asks the relation of the first component of the source and the components beside, and leaves what follows.
+fn settle(state: &mut Working, given: &[u8], source: Source, arg: table::Argument)
+    requires { Settleable state.old given.now source.i }
+    ensures { HoldsState state.new (on_store (settled arg given.now source.removes source.i) state.old) }
 {
-    let x = state::expr_bytes(pool, ends, nums, i);
+    let x = state.expr_bytes(source.i);
     let n = components::first_size(x);
     let t = matching::count(&x[..n], test_of(arg), given);
     let letters = components::chars_of(x).len();
-    finish(pool, ends, nums, removes, i, n, letters, t.reached);
+    finish(state, source, n, letters, t.reached);
 }
 
-// RW of expression `i`, by A or B: 0, or the question answered no.
+// RW of an expression, by A or B.
 pub fn rw_one(
     table: &[u32],
-    pool: &[u8],
-    ends: &mut [u32],
-    nums: &mut [u32],
-    given: &mut [u8],
-    removes: bool,
-    i: usize,
+    bench: &mut Bench,
+    source: Source,
     arg: table::Argument,
-) -> u8
-    requires { Relatable table.now pool.now ends.old nums.old (length given.old) i arg }
-    ensures { DoesFor pool.now ends.old nums.old result pool.now ends.new nums.new (λ g ins. row g ins (state_at pool.now ends.old nums.old).store (nth (reading removes) i) (arg_of (table_of table.now) arg) nothing RW) }
+) -> Result<(), Question>
+    requires { Relatable table.now source.i arg }
+    ensures { DoesFor bench.old.state (told_by result) bench.new.state (λ g ins. row g ins bench.old.state.store (nth (reading source.removes) source.i) (arg_of (table_of table.now) arg) nothing RW) }
 {
-    let q = comparands::put_comparand(table, pool, ends, nums, given, arg);
-    let stop = q.stop;
-    let len = q.len;
-    let x = state::expr_bytes(pool, ends, nums, i);
+    let held = comparands::put_comparand(table, &bench.state, &mut bench.given, arg);
+    let x = bench.state.expr_bytes(source.i);
     if x.len() == 0 {
-        return 52;
+        return Err(Question::Missing);
     }
-    if stop != 0 {
-        return stop;
+    let len = held?;
+    if unlike(x, &bench.given[..len], arg) {
+        return Err(Question::Kind);
     }
-    if unlike(x, &given[..len], arg) {
-        return 53;
-    }
-    settle(pool, ends, nums, &given[..len], removes, i, arg);
-    0
+    settle(&mut bench.state, &bench.given[..len], source, arg);
+    Ok(())
 }
 
 // RW of expression `i`, by T: whether one of its components is equal.
 pub fn rw_any(
     table: &[u32],
-    pool: &[u8],
-    ends: &[u32],
-    nums: &mut [u32],
-    given: &mut [u8],
+    bench: &mut Bench,
     i: usize,
     arg: table::Argument,
-) -> u8
-    requires { Relatable table.now pool.now ends.now nums.old (length given.old) i arg }
-    ensures { DoesFor pool.now ends.now nums.old result pool.now ends.now nums.new (λ g ins. row g ins (state_at pool.now ends.now nums.old).store (nth letters.Letter.T i) (arg_of (table_of table.now) arg) nothing RW) }
+) -> Result<(), Question>
+    requires { Relatable table.now i arg }
+    ensures { DoesFor bench.old.state (told_by result) bench.new.state (λ g ins. row g ins bench.old.state.store (nth letters.Letter.T i) (arg_of (table_of table.now) arg) nothing RW) }
 {
-    let q = comparands::put_comparand(table, pool, ends, nums, given, arg);
-    let stop = q.stop;
-    let len = q.len;
-    if stop != 0 {
-        return stop;
-    }
-    let x = state::expr_bytes(pool, ends, nums, i);
-    let t = matching::count(x, test_of(arg), &given[..len]);
-    state::minus_unless(pool, ends, nums, t.reached);
-    0
+    bench.state.stands();
+    let len = comparands::put_comparand(table, &bench.state, &mut bench.given, arg)?;
+    let x = bench.state.expr_bytes(i);
+    let t = matching::count(x, test_of(arg), &bench.given[..len]);
+    bench.state.minus_unless(t.reached);
+    Ok(())
 }

@@ -10,7 +10,7 @@ use lib.Seq.{take-append-le, drop-append-le, take-append-add, drop-append-add, g
 use Rattle.lists.specs.Lists.{any, ahead}
 use Rattle.language.specs.Limits as limit
 use Rattle.language.specs.Letters.Letter.{P}
-use Rattle.language.specs.Values.{Record, File, Store}
+use Rattle.language.specs.Values.{Record, File, Store, State}
 use Rattle.machine.specs.Arguments.{file_of, records}
 use Rattle.machine.specs.Changes.{put_file, past_file, past_by, past, records_to, pointed}
 use Rattle.layout.specs.Bounds.{Each, RecordOk}
@@ -20,13 +20,14 @@ use Rattle.layout.specs.Components.{records_bytes}
 use Rattle.layout.specs.Memory.{components_held, chars_held, records_held}
 use Rattle.layout.proofs.MemoryLaws.{before-encoded, after-encoded}
 use Rattle.store.specs.Below.Gaps.{pushed_front, pushed_back}
-use Rattle.store.specs.Below.Pool.{abs, string, Holds}
-use Rattle.store.specs.Store.{Long, Movable, dropped_front, dropped_back, moved_front_to_back, moved_back_to_front}
+use Rattle.store.specs.Below.Pool.{string}
+use Rattle.strings.specs.Strings.{Movable}
+use Rattle.store.specs.Store.{dropped_front, dropped_back, moved_front_to_back, moved_back_to_front}
 use Rattle.state.specs.Blocks.{totalled}
 use Rattle.layout.specs.Places.{before_string, after_string}
-use Rattle.state.specs.Working.{state_at, HoldsState, Stands, on_store, nth, filing}
+use Rattle.state.specs.Working.{Lies, on_store, nth, filing}
 use Rattle.state.proofs.Standing.{string-is}
-use Rattle.filing.specs.Files.{Passable, RecordsReadable, Pointable, pointed_at}
+use Rattle.filing.specs.Files.{Passable, Pointable, pointed_at}
 use Rattle.state.proofs.Sequences.{first-bytes, rest-bytes, bytes-within}
 use Rattle.filing.proofs.Replaced.{holds-file}
 
@@ -55,84 +56,74 @@ module _ (s : List (List ℕ)) (i m : ℕ) where
 
 -- ---- the pointer at another place of the same records
 
-module _ {p e n : List ℕ} (h : Stands p e n) {i : ℕ} (l : i < limit.files) where
+module _ {t : List (List ℕ)} {n : List ℕ} {s : State} (h : Lies t n s) {i : ℕ} (l : i < limit.files) where
   abbrev old : File
-  old = file_of (state_at p e n).store (nth P i)
+  old = file_of s.store (nth P i)
 
-  before-is : string (before_string i) (abs p e) ≡ records_bytes old.before
-  before-is = string-is h (before_string i) ∙ (before-encoded (state_at p e n) h.fine i l).is
+  before-is : string (before_string i) t ≡ records_bytes old.before
+  before-is = string-is h (before_string i) ∙ (before-encoded s h.fine i l).is
 
-  after_is : string (after_string i) (abs p e) ≡ records_bytes old.after
-  after_is = string-is h (after_string i) ∙ (after-encoded (state_at p e n) h.fine i l).is
+  after_is : string (after_string i) t ≡ records_bytes old.after
+  after_is = string-is h (after_string i) ∙ (after-encoded s h.fine i l).is
 
   all_ok : Each RecordOk (records old)
   all_ok =
-      each_append RecordOk old.before old.after (before-encoded (state_at p e n) h.fine i l).all_ok
-      (after-encoded (state_at p e n) h.fine i l).all_ok
+      each_append RecordOk old.before old.after (before-encoded s h.fine i l).all_ok
+      (after-encoded s h.fine i l).all_ok
 
-  holds-pointer : {p' e' : List ℕ} (xs ys : List Record) → xs ++ ys ≡ records old
-      → Holds p' e' (set (set (abs p e) (before_string i) (records_bytes xs)) (after_string i) (records_bytes ys))
-      → HoldsState p' e' n (on_store (put_file (nth P i) xs ys) (state_at p e n))
+  holds-pointer : {t' : List (List ℕ)} (xs ys : List Record) → xs ++ ys ≡ records old
+      → t' ≡ set (set t (before_string i) (records_bytes xs)) (after_string i) (records_bytes ys)
+      → Lies t' n (on_store (put_file (nth P i) xs ys) s)
   unfolding totalled put_file on_store
   holds-pointer xs ys q g =
-      let s = state_at p e n in
       let k : Each RecordOk (xs ++ ys) = rw q all_ok in
       holds-file s h.fine i l (record { before = xs; after = ys }) s.store.last (components_held s.store) (chars_held s.store) (records_held s.store)
       (rw q) (rw q) (rw q)
       (record { before_ok = each_left RecordOk xs ys k; after_ok = each_right RecordOk xs ys k }) h.fine.last_most h.fine.components_most h.fine.chars_most
-      h.fine.records_most (rw h.holds.is at g) h.numbers
+      h.fine.records_most (rw h.strings_is at g) h.numbers
 
   -- m bytes further on
-  moved_on : {p' e' : List ℕ} (xs ys : List Record) (m : ℕ) → xs ++ ys ≡ records old
+  moved_on : {t' : List (List ℕ)} (xs ys : List Record) (m : ℕ) → xs ++ ys ≡ records old
       → records_bytes xs ≡ records_bytes old.before ++ take m (records_bytes old.after) → records_bytes ys ≡ drop m (records_bytes old.after)
-      → Holds p' e' (moved_front_to_back (after_string i) (before_string i) m (abs p e))
-      → HoldsState p' e' n (on_store (put_file (nth P i) xs ys) (state_at p e n))
+      → t' ≡ moved_front_to_back (after_string i) (before_string i) m t
+      → Lies t' n (on_store (put_file (nth P i) xs ys) s)
   moved_on xs ys m q x y g =
       holds-pointer xs ys q
-      (rw (x, y) (rw (forward (abs p e) i m, before-is, after_is) at g))
+      (rw (x, y) (rw (forward t i m, before-is, after_is) at g))
 
   -- b bytes after the front, in the records before the pointer
-  moved_back : {p' e' : List ℕ} (xs ys : List Record) (m b : ℕ) → xs ++ ys ≡ records old → length (records_bytes old.before) - m ≡ b
+  moved_back : {t' : List (List ℕ)} (xs ys : List Record) (m b : ℕ) → xs ++ ys ≡ records old → length (records_bytes old.before) - m ≡ b
       → records_bytes xs ≡ take b (records_bytes old.before) → records_bytes ys ≡ drop b (records_bytes old.before) ++ records_bytes old.after
-      → Holds p' e' (moved_back_to_front (before_string i) (after_string i) m (abs p e))
-      → HoldsState p' e' n (on_store (put_file (nth P i) xs ys) (state_at p e n))
+      → t' ≡ moved_back_to_front (before_string i) (after_string i) m t
+      → Lies t' n (on_store (put_file (nth P i) xs ys) s)
   moved_back xs ys m b q r x y g =
       holds-pointer xs ys q
-      (rw (x, y) (rw (backward (abs p e) i m, before-is, after_is, r) at g))
+      (rw (x, y) (rw (backward t i m, before-is, after_is, r) at g))
 
   -- bytes of either side can be moved to the other
-  on-movable : {m sc hd : ℕ} → m ≤ length (records_bytes old.after) → 65536 ≤ sc → 32768 ≤ hd
-      → Movable p e (after_string i) (before_string i) m sc hd
-  on-movable w x y =
-      record { fine = h.holds.fine; source = omega (arith, l); target = omega (arith, l); within = rw after_is w; spare = x; room = y }
+  on-movable : {m : ℕ} → m ≤ length (records_bytes old.after) → Movable t (after_string i) (before_string i) m
+  on-movable w = record { source = omega (arith, l); target = omega (arith, l); within = rw after_is w }
 
-  back-movable : {m sc hd : ℕ} → m ≤ length (records_bytes old.before) → 65536 ≤ sc → 32768 ≤ hd
-      → Movable p e (before_string i) (after_string i) m sc hd
-  back-movable w x y =
-      record { fine = h.holds.fine; source = omega (arith, l); target = omega (arith, l); within = rw before-is w; spare = x; room = y }
+  back-movable : {m : ℕ} → m ≤ length (records_bytes old.before) → Movable t (before_string i) (after_string i) m
+  back-movable w = record { source = omega (arith, l); target = omega (arith, l); within = rw before-is w }
 
 -- ---- past the first records
 
-module _ {p e n : List ℕ} {i k b sc hd : ℕ} (pre : Passable p e n i k b sc hd) where
+module _ {t : List (List ℕ)} {n : List ℕ} {s : State} (h : Lies t n s) {i k b : ℕ} (pre : Passable s i k b) where
   abbrev f : File
-  f = file_of (state_at p e n).store (nth P i)
+  f = file_of s.store (nth P i)
 
-  pub pass-movable : Movable p e (after_string i) (before_string i) b sc hd
-  pass-movable = on-movable pre.stands pre.index (bytes-within records_bytes records_bytes-append f.after k pre.bytes_is) pre.spare pre.room
+  pub pass-movable : Movable t (after_string i) (before_string i) b
+  pass-movable = on-movable h pre.index (bytes-within records_bytes records_bytes-append f.after k pre.bytes_is)
 
-  pub records-passed : {p' e' : List ℕ} → Holds p' e' (moved_front_to_back (after_string i) (before_string i) b (abs p e))
-      → HoldsState p' e' n (on_store (past (nth (filing false) i) k) (state_at p e n))
+  pub records-passed : {t' : List (List ℕ)} → t' ≡ moved_front_to_back (after_string i) (before_string i) b t
+      → Lies t' n (on_store (past (nth (filing false) i) k) s)
   unfolding past past_by past_file put_file on_store
   records-passed g =
-      moved_on pre.stands pre.index (f.before ++ take k f.after) (drop k f.after) b
+      moved_on h pre.index (f.before ++ take k f.after) (drop k f.after) b
       (append_assoc f.before (take k f.after) (drop k f.after) ∙ ap (λ (l : List Record). f.before ++ l) (take-append-drop k f.after))
       (records_bytes-append f.before (take k f.after) ∙ ap (λ (l : List ℕ). records_bytes f.before ++ l) (sym (first-bytes records_bytes records_bytes-append f.after k pre.bytes_is)))
       (sym (rest-bytes records_bytes records_bytes-append f.after k pre.bytes_is)) g
-
-pub passable : {p e n : List ℕ} {i k b c d sc hd : ℕ} → RecordsReadable p e n i k b c d sc hd → Passable p e n i k b sc hd
-passable pre =
-    let x = pre.droppable in
-    record { stands = x.stands; index = x.index; most = x.first.most; bytes_is = x.first.bytes_is; spare = pre.spare; room = pre.room }
 
 -- ---- behind the first records of the file
 
@@ -169,9 +160,9 @@ pub first-after : (xs ys : List Record) (k : ℕ) {b : ℕ} → b ≡ length (re
     → length (records_bytes xs) + b ≡ length (records_bytes (take (length xs + k) (xs ++ ys)))
 first-after xs ys k q = rw (take-append-add xs ys k, records_bytes-append xs (take k ys), length-append (records_bytes xs) (records_bytes (take k ys))) (omega (arith, q))
 
-module _ {p e n : List ℕ} {i k b sc hd : ℕ} (pre : Pointable p e n i k b sc hd) where
+module _ {t : List (List ℕ)} {n : List ℕ} {s : State} (h : Lies t n s) {i k b : ℕ} (pre : Pointable s i k b) where
   abbrev r : File
-  r = file_of (state_at p e n).store (nth P i)
+  r = file_of s.store (nth P i)
 
   abbrev x : List ℕ
   x = records_bytes r.before
@@ -192,28 +183,25 @@ module _ {p e n : List ℕ} {i k b sc hd : ℕ} (pre : Pointable p e n i k b sc 
   most = omega (arith, bytes-within records_bytes records_bytes-append (records r) k pre.bytes_is, ap length whole_is, length-append x y)
 
   -- m is how many bytes stand before the pointer
-  module _ {m : ℕ} (q : Long p e (before_string i) m) where
+  module _ {m : ℕ} (q : m ≡ length (string (before_string i) t)) where
     m-is : m ≡ length x
-    m-is = q.is ∙ ap length (before-is pre.stands pre.index)
+    m-is = q ∙ ap length (before-is h pre.index)
 
-    pub point-back-movable : {sc' hd' : ℕ} → 65536 ≤ sc' → 32768 ≤ hd' → Movable p e (before_string i) (after_string i) (m - b) sc' hd'
-    point-back-movable u v = back-movable pre.stands pre.index (omega (arith, m-is)) u v
+    pub point-on-movable : Movable t (after_string i) (before_string i) (b - m)
+    point-on-movable = on-movable h pre.index (omega (arith, m-is, most))
 
-    pub point-on-movable : {sc' hd' : ℕ} → 65536 ≤ sc' → 32768 ≤ hd' → Movable p e (after_string i) (before_string i) (b - m) sc' hd'
-    point-on-movable u v = on-movable pre.stands pre.index (omega (arith, m-is, most)) u v
-
-    pub pointed-back : {p' e' : List ℕ} → b ≤ m → Holds p' e' (moved_back_to_front (before_string i) (after_string i) (m - b) (abs p e))
-        → HoldsState p' e' n (on_store (pointed_at i k) (state_at p e n))
+    pub pointed-back : {t' : List (List ℕ)} → b ≤ m → t' ≡ moved_back_to_front (before_string i) (after_string i) (m - b) t
+        → Lies t' n (on_store (pointed_at i k) s)
     unfolding pointed_at on_store
     pointed-back w g =
         let c : b ≤ length x = omega (arith, m-is) in
-        moved_back pre.stands pre.index (take k (records r)) (drop k (records r)) (m - b) b (take-append-drop k (records r)) (omega (arith, m-is))
+        moved_back h pre.index (take k (records r)) (drop k (records r)) (m - b) b (take-append-drop k (records r)) (omega (arith, m-is))
         (first_is ∙ take-append-le b x y c) (rest_is ∙ drop-append-le b x y c) g
 
-    pub pointed-on : {p' e' : List ℕ} → m < b → Holds p' e' (moved_front_to_back (after_string i) (before_string i) (b - m) (abs p e))
-        → HoldsState p' e' n (on_store (pointed_at i k) (state_at p e n))
+    pub pointed-on : {t' : List (List ℕ)} → m < b → t' ≡ moved_front_to_back (after_string i) (before_string i) (b - m) t
+        → Lies t' n (on_store (pointed_at i k) s)
     unfolding pointed_at on_store
     pointed-on w g =
         let c : b ≡ length x + (b - m) = omega (arith, m-is) in
-        moved_on pre.stands pre.index (take k (records r)) (drop k (records r)) (b - m) (take-append-drop k (records r))
+        moved_on h pre.index (take k (records r)) (drop k (records r)) (b - m) (take-append-drop k (records r))
         (first_is ∙ ap (λ (z : ℕ). take z (x ++ y)) c ∙ take-append-add x y (b - m)) (rest_is ∙ ap (λ (z : ℕ). drop z (x ++ y)) c ∙ drop-append-add x y (b - m)) g

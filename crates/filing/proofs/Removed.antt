@@ -9,7 +9,8 @@ use lib.Seq.{length-take-le, set-get_or}
 use Rattle.lists.specs.Lists.{total}
 use Rattle.lists.specs.ListLaws.{total-at}
 use Rattle.language.specs.Letters.Letter.{P}
-use Rattle.language.specs.Values.{Component, Record, File, Store, chars, empty_file}
+use Rattle.language.specs.Limits as limit
+use Rattle.language.specs.Values.{Component, Record, File, Store, chars, empty_file, State}
 use Rattle.machine.specs.Arguments.{file_of, records}
 use Rattle.machine.specs.Changes.{put_file, past_file, past_by, past, held, recorded}
 use Rattle.layout.specs.Bounds.{EncodedRecords, RecordOk}
@@ -19,30 +20,31 @@ use Rattle.layout.specs.Components.{records_bytes}
 use Rattle.layout.specs.Memory.{components_held, chars_held, records_held, strings}
 use Rattle.layout.proofs.MemoryLaws.{before-encoded, after-encoded}
 use Rattle.layout.specs.Places as layout
-use Rattle.store.specs.Below.Pool.{abs, string, Holds}
-use Rattle.store.specs.Store.{Whole, Droppable, dropped_front}
+use Rattle.store.specs.Below.Pool.{string}
+use Rattle.store.specs.Store.{dropped_front}
+use Rattle.strings.specs.Strings.{Droppable}
 use Rattle.state.specs.Blocks.{totalled, Lowerable}
 use Rattle.layout.specs.Places.{before_string, after_string}
-use Rattle.state.specs.Working.{state_at, HoldsState, on_store, nth, filing}
+use Rattle.state.specs.Working.{Lies, on_store, nth, filing}
 use Rattle.state.proofs.Sequences.{total-ones, rest-bytes, bytes-within}
 use Rattle.state.proofs.Freed.{removed-total, held-records-off, recorded-records-off, held-records-on, recorded-records-on}
 use Rattle.state.proofs.Standing.{number_is, numbers-long, string-is}
-use Rattle.filing.specs.Files.{FileNamed, RecordsLent, FirstRecords, RecordsDroppable, Fewer}
+use Rattle.filing.specs.Files.{RecordsLent, FirstRecords, RecordsDroppable}
 use Rattle.filing.proofs.Replaced.{holds-file}
 
 -- ---- reading
 
-module _ {p e n : List ℕ} {i : ℕ} {r : List ℕ} (pre : FileNamed p e n i) where
-  lent : (j : ℕ) (rs : List Record) → EncodedRecords (get_or (strings (state_at p e n)) j []) rs → Whole p e j r → RecordsLent rs r
-  lent j rs x w =
-      let c : EncodedRecords r rs = record { is = w.is ∙ string-is pre.stands j ∙ x.is; all_ok = x.all_ok } in
-      record { encoded = c; whole = whole-records c; is = records-of c; most = w.most }
+module _ {t : List (List ℕ)} {n : List ℕ} {s : State} (h : Lies t n s) {r : List ℕ} where
+  lent : (j : ℕ) (rs : List Record) → EncodedRecords (get_or (strings s) j []) rs → r ≡ string j t → length r ≤ 32768 → RecordsLent rs r
+  lent j rs x w m =
+      let c : EncodedRecords r rs = record { is = w ∙ string-is h j ∙ x.is; all_ok = x.all_ok } in
+      record { encoded = c; whole = whole-records c; is = records-of c; most = m }
 
-  pub before_lent : Whole p e (before_string i) r → RecordsLent (file_of (state_at p e n).store (nth P i)).before r
-  before_lent w = lent (before_string i) _ (before-encoded (state_at p e n) pre.stands.fine i pre.index) w
+  pub before_lent : {i : ℕ} → i < limit.files → r ≡ string (before_string i) t → length r ≤ 32768 → RecordsLent (file_of s.store (nth P i)).before r
+  before_lent {i} l w m = lent (before_string i) _ (before-encoded s h.fine i l) w m
 
-  pub after-lent : Whole p e (after_string i) r → RecordsLent (file_of (state_at p e n).store (nth P i)).after r
-  after-lent w = lent (after_string i) _ (after-encoded (state_at p e n) pre.stands.fine i pre.index) w
+  pub after-lent : {i : ℕ} → i < limit.files → r ≡ string (after_string i) t → length r ≤ 32768 → RecordsLent (file_of s.store (nth P i)).after r
+  after-lent {i} l w m = lent (after_string i) _ (after-encoded s h.fine i l) w m
 
 -- what a file counts is part of the totals
 module _ (s : Store) (i : ℕ) where
@@ -56,25 +58,23 @@ module _ (s : Store) (i : ℕ) where
 
 -- ---- removing
 
-module _ {p e n : List ℕ} {i k b c d : ℕ} (pre : RecordsDroppable p e n i k b c d) where
+module _ {t : List (List ℕ)} {n : List ℕ} {s : State} (h : Lies t n s) {i k b c d : ℕ} (pre : RecordsDroppable s i k b c d) where
   abbrev old : File
-  old = file_of (state_at p e n).store (nth P i)
+  old = file_of s.store (nth P i)
 
-  after_is : string (after_string i) (strings (state_at p e n)) ≡ records_bytes old.after
-  after_is = (after-encoded (state_at p e n) pre.stands.fine i pre.index).is
+  after_is : string (after_string i) (strings s) ≡ records_bytes old.after
+  after_is = (after-encoded s h.fine i pre.index).is
 
-  pub records-droppable : Droppable p e (after_string i) b
+  pub records-droppable : Droppable t (after_string i) b
   records-droppable =
       record {
-        fine = pre.stands.holds.fine;
         index = omega (arith, pre.index);
-        within = rw (string-is pre.stands (after_string i), after_is) (bytes-within records_bytes records_bytes-append old.after k pre.first.bytes_is);
+        within = rw (string-is h (after_string i), after_is) (bytes-within records_bytes records_bytes-append old.after k pre.first.bytes_is);
       }
 
   pub records-lowerable : Lowerable n c d
   records-lowerable =
-      let h = pre.stands in
-      let s = (state_at p e n).store in
+      let s = s.store in
       record {
         long = numbers-long h;
         components =
@@ -86,31 +86,23 @@ module _ {p e n : List ℕ} {i k b c d : ℕ} (pre : RecordsDroppable p e n i k 
   count_is : total (λ (r : Record). 1) (take k old.after) ≡ k
   count_is = total-ones (take k old.after) ∙ length-take-le k old.after pre.first.most
 
-  pub records-fewer : {n₁ : List ℕ} → n₁ ≡ totalled (get_or n layout.components_scalar 0 - c) (get_or n layout.characters_scalar 0 - d) n → Fewer n₁ k
+  pub records-fewer : {n₁ : List ℕ} → n₁ ≡ totalled (get_or n layout.components_scalar 0 - c) (get_or n layout.characters_scalar 0 - d) n
+      → k ≤ get_or n₁ layout.records_scalar 0
   unfolding totalled
   records-fewer q =
-      let h = pre.stands in
-      let s = (state_at p e n).store in
-      record {
-        long = rw (q, h.numbers);
-        records = rw (q, h.numbers) (omega (arith, recorded-file s i (λ r. 1), removed-total (λ r. 1) old k, count_is));
-      }
+      rw (q, h.numbers) (omega (arith, recorded-file s.store i (λ r. 1), removed-total (λ r. 1) old k, count_is))
 
-  strings-less : dropped_front (after_string i) b (abs p e)
-      ≡ set (set (strings (state_at p e n)) (before_string i) (records_bytes old.before)) (after_string i) (records_bytes (drop k old.after))
+  strings-less : dropped_front (after_string i) b t
+      ≡ set (set (strings s) (before_string i) (records_bytes old.before)) (after_string i) (records_bytes (drop k old.after))
   unfolding dropped_front
   strings-less =
-      let h = pre.stands in
-      let s = state_at p e n in
-      rw (h.holds.is, ← (before-encoded s h.fine i pre.index).is, set-get_or (strings s) (before_string i) [], after_is, rest-bytes records_bytes records_bytes-append old.after k pre.first.bytes_is)
+      rw (h.strings_is, ← (before-encoded s h.fine i pre.index).is, set-get_or (strings s) (before_string i) [], after_is, rest-bytes records_bytes records_bytes-append old.after k pre.first.bytes_is)
 
-  pub records-dropped : {e' n₁ n' : List ℕ} → Holds p e' (dropped_front (after_string i) b (abs p e))
-      → n₁ ≡ totalled (get_or n layout.components_scalar 0 - c) (get_or n layout.characters_scalar 0 - d) n → n' ≡ set n₁ layout.records_scalar (get_or n₁ layout.records_scalar 0 - k)
-      → HoldsState p e' n' (on_store (past (nth (filing true) i) k) (state_at p e n))
+  pub records-dropped : {t' : List (List ℕ)} {n₁ n' : List ℕ} {r : ℕ} → t' ≡ dropped_front (after_string i) b t
+      → n₁ ≡ totalled (get_or n layout.components_scalar 0 - c) (get_or n layout.characters_scalar 0 - d) n → r ≡ get_or n₁ layout.records_scalar 0 → n' ≡ set n₁ layout.records_scalar (r - k)
+      → Lies t' n' (on_store (past (nth (filing true) i) k) s)
   unfolding totalled past past_by past_file put_file on_store
-  records-dropped g q₁ q₂ =
-      let h = pre.stands in
-      let s = state_at p e n in
+  records-dropped {n₁ = n₁} g q₁ e q₂ =
       let x = (before-encoded s h.fine i pre.index).all_ok in
       let y = (after-encoded s h.fine i pre.index).all_ok in
       let l = records-lowerable in
@@ -125,7 +117,7 @@ module _ {p e n : List ℕ} {i k b c d : ℕ} (pre : RecordsDroppable p e n i k 
       (record { before_ok = x; after_ok = each-drop RecordOk k old.after y }) h.fine.last_most
       (omega (arith, h.fine.components_most)) (omega (arith, h.fine.chars_most)) (omega (arith, h.fine.records_most))
       (rw strings-less at g)
-      (q₂ ∙ ap (λ (m : List ℕ). set m 7 (get_or m 7 0 - k)) (q₁ ∙ ap (λ (m : List ℕ). totalled (get_or m 5 0 - c) (get_or m 6 0 - d) m) h.numbers))
+      (q₂ ∙ ap (λ (x : ℕ). set n₁ 7 (x - k)) e ∙ ap (λ (m : List ℕ). set m 7 (get_or m 7 0 - k)) (q₁ ∙ ap (λ (m : List ℕ). totalled (get_or m 5 0 - c) (get_or m 6 0 - d) m) h.numbers))
 
 -- ---- the totals after the first records are removed or passed, by the counts that the functions are told
 

@@ -13,10 +13,9 @@ use Rattle.machine.proofs.SumLaws.{held-put_file, recorded-put_file}
 use Rattle.layout.specs.Bounds.{FileOk, Fine}
 use Rattle.layout.specs.Components.{records_bytes}
 use Rattle.layout.specs.Memory.{components_held, chars_held, records_held, scalars, strings}
-use Rattle.store.specs.Below.Pool.{Holds}
 use Rattle.state.specs.Blocks.{totalled}
 use Rattle.layout.specs.Places.{before_string, after_string}
-use Rattle.state.specs.Working.{HoldsState, on_store, nth, part_total, char_total}
+use Rattle.state.specs.Working.{Lies, on_store, nth, part_total, char_total}
 use Rattle.state.proofs.Fineness.{fine-files}
 use Rattle.state.proofs.Scalars.{scalars-files}
 use Rattle.state.proofs.Sequences.{total-ones, each_set}
@@ -56,12 +55,12 @@ module _ (s : State) (f : Fine s) (i : ℕ) (l : i < limit.files) (g : File) (m 
       fine-files s f fs m (length-set s.store.files i g ∙ f.files_is) (each_set FileOk s.store.files i g f.files_ok k) hm
       (rw components_then hc) (rw chars_then hd) (rw records_then hr)
 
-  pub holds-file : {p' e' n' : List ℕ} → FileOk g → m ≤ limit.addresses → c ≤ limit.components → d ≤ limit.characters → r ≤ limit.records
-      → Holds p' e' (set (set (strings s) (before_string i) (records_bytes g.before)) (after_string i) (records_bytes g.after))
-      → n' ≡ set (set (totalled c d (scalars s)) 7 r) 4 m → HoldsState p' e' n' (on_store (with_files fs m) s)
+  pub holds-file : {t' : List (List ℕ)} {n' : List ℕ} → FileOk g → m ≤ limit.addresses → c ≤ limit.components → d ≤ limit.characters → r ≤ limit.records
+      → t' ≡ set (set (strings s) (before_string i) (records_bytes g.before)) (after_string i) (records_bytes g.after)
+      → n' ≡ set (set (totalled c d (scalars s)) 7 r) 4 m → Lies t' n' (on_store (with_files fs m) s)
   holds-file k hm hc hd hr b q =
       record {
-        holds = rw strings-then b;
+        strings_is = rw strings-then b;
         numbers = q ∙ sym (scalars-files s fs m components_then chars_then records_then);
         fine = fine-then k hm hc hd hr;
       }

@@ -2,7 +2,7 @@
 use mathlib.Core.Path.{◌≡◌, refl, sym, ap, ◌∙◌}
 use mathlib.Core.Bool.{Bool, true, false}
 use mathlib.Core.List.{List, [], ◌∷◌, ◌++◌, map}
-use Prim.Native.Nat.{ℕ, suc, ◌+◌, ◌<◌}
+use Prim.Native.Nat.{ℕ, ◌≤◌, suc, ◌+◌, ◌<◌}
 use native.Mathlib.Omega.{arith}
 use lib.ListN.{length, get_or, set, length-map}
 use lib.Seq.{get_or-set_other, set-get_or}
@@ -10,7 +10,7 @@ use Rattle.lists.specs.Lists.{total}
 use Rattle.lists.specs.ListLaws.{total-map}
 use Rattle.language.specs.Limits as limit
 use Rattle.language.specs.Letters.Letter.{P}
-use Rattle.language.specs.Values.{Component, Record, File, Store, chars}
+use Rattle.language.specs.Values.{Component, Record, File, Store, chars, State}
 use Rattle.machine.specs.Arguments.{file_of, records}
 use Rattle.machine.specs.Changes.{with_files, stamped, stored}
 use Rattle.layout.specs.Bounds.{Each, EncodedRecords, RecordOk, FileOk}
@@ -18,22 +18,20 @@ use Rattle.layout.proofs.CellLaws.{each_append}
 use Rattle.layout.proofs.ComponentLaws.{records_bytes-append, records-of}
 use Rattle.layout.specs.Components.{records_bytes, records_in}
 use Rattle.layout.specs.Memory.{components_held, chars_held, records_held, strings}
-use Rattle.layout.proofs.MemoryLaws.{before-encoded, after-encoded}
+use Rattle.layout.proofs.MemoryLaws.{length-strings, before-encoded, after-encoded}
 use Rattle.layout.proofs.FineLaws.{fine-room}
 use Rattle.layout.specs.Strings.{used}
 use Rattle.layout.specs.Places as layout
-use Rattle.store.proofs.Below.GapsLaws.{length-abs}
 use Rattle.store.proofs.Laws.{used-pushed-front, used-pushed-back}
 use Rattle.store.specs.Below.Gaps.{pushed_front, pushed_back}
-use Rattle.store.specs.Below.Pool.{abs, string, Holds}
-use Rattle.state.specs.Blocks.{totalled, Raisable}
+use Rattle.store.specs.Below.Pool.{string}
+use Rattle.state.specs.Blocks.{totalled}
 use Rattle.layout.specs.Places.{before_string, after_string}
-use Rattle.state.specs.Working.{state_at, HoldsState, on_store, nth, filing, turned, filed, part_total, char_total}
+use Rattle.state.specs.Working.{Lies, on_store, nth, filing, turned, filed, part_total, char_total}
 use Rattle.state.proofs.Fits.{filed-total}
 use Rattle.state.proofs.Sequences.{total-ones, turned-twice, turned-length, turned-total}
-use Rattle.state.proofs.Standing.{number_is, numbers-long}
 use Rattle.state.proofs.Ties.{turns-so, stored_is}
-use Rattle.filing.specs.Files.{bodies, RecordsWritable, More, Insertable, inserted}
+use Rattle.filing.specs.Files.{bodies, RecordsWritable, Insertable, inserted}
 use Rattle.filing.proofs.Pointers.{apart}
 use Rattle.filing.proofs.Replaced.{strings-then, fine-then, holds-file}
 
@@ -92,85 +90,78 @@ stored-to b i s rs xs q =
     stored_is (nth (filing b) i) xs s
     ∙ rw (turns-so b, ← q, turned-twice b rs)
 
-module _ {p e n : List ℕ} {sc i : ℕ} (b : Bool) {new : List ℕ} {k c d : ℕ} (pre : RecordsWritable p e n sc i b new k c d) where
+module _ {t : List (List ℕ)} {n : List ℕ} {s : State} (h : Lies t n s) {i : ℕ} (b : Bool) {new : List ℕ} {k c d : ℕ} (pre : RecordsWritable s i b new k c d) where
   abbrev rs : List Record
   rs = records_in new
 
   abbrev old : File
-  old = file_of (state_at p e n).store (nth P i)
+  old = file_of s.store (nth P i)
 
-  abbrev t : Store
-  t = (state_at p e n).store
+  abbrev z : Store
+  z = s.store
 
-  parts_more : components_held t + c + part_total (records old) ≡ components_held t + part_total (records (filed b rs old))
+  parts_more : components_held z + c + part_total (records old) ≡ components_held z + part_total (records (filed b rs old))
   parts_more = omega (arith, filed-total (λ r. total (λ x. 1) r.parts) b rs old, pre.parts_is)
 
-  chars-more : chars_held t + d + char_total (records old) ≡ chars_held t + char_total (records (filed b rs old))
+  chars-more : chars_held z + d + char_total (records old) ≡ chars_held z + char_total (records (filed b rs old))
   chars-more = omega (arith, filed-total (λ r. total (λ x. length (chars x)) r.parts) b rs old, pre.chars_is)
 
-  records-more : records_held t + k + length (records old) ≡ records_held t + length (records (filed b rs old))
+  records-more : records_held z + k + length (records old) ≡ records_held z + length (records (filed b rs old))
   records-more =
       omega (arith, filed-total (λ r. 1) b rs old, total-ones (records old), total-ones (records (filed b rs old)), total-ones rs, pre.count)
 
   ok : FileOk (filed b rs old)
   ok =
-      let s = state_at p e n in
-      let f = pre.stands.fine in
+      let f = h.fine in
       filed-ok b rs old pre.whole.all_ok
       (record { before_ok = (before-encoded s f i pre.index).all_ok; after_ok = (after-encoded s f i pre.index).all_ok })
 
-  strings-more : inserted b i new (abs p e)
-      ≡ set (set (strings (state_at p e n)) (before_string i) (records_bytes (filed b rs old).before)) (after_string i) (records_bytes (filed b rs old).after)
+  strings-more : inserted b i new t
+      ≡ set (set (strings s) (before_string i) (records_bytes (filed b rs old).before)) (after_string i) (records_bytes (filed b rs old).after)
   strings-more =
-      let s = state_at p e n in
-      let f = pre.stands.fine in
-      ap (λ (l : List ℕ). inserted b i l (abs p e)) pre.whole.is
-      ∙ rw pre.stands.holds.is
+      let f = h.fine in
+      ap (λ (l : List ℕ). inserted b i l t) pre.whole.is
+      ∙ rw h.strings_is
       (inserted-is (strings s) i old (before-encoded s f i pre.index).is (after-encoded s f i pre.index).is rs b)
 
-  pub records-insertable : Insertable p e i (length new) sc
+  pub records-insertable : Insertable t i (length new)
   records-insertable =
-      let h = pre.stands in
-      let s = state_at p e n in
       let f = h.fine in
-      let m = t.last + k in
-      let c' = components_held t + c in
-      let d' = chars_held t + d in
-      let r' = records_held t + k in
+      let m = z.last + k in
+      let c' = components_held z + c in
+      let d' = chars_held z + d in
+      let r' = records_held z + k in
       let fine = fine-then s f i pre.index (filed b rs old) m c' d' r' parts_more chars-more records-more ok pre.addresses_room pre.components_room pre.chars_room pre.records_room in
       let q = strings-then s f i pre.index (filed b rs old) m c' d' r' parts_more chars-more records-more in
       record {
-        fine = h.holds.fine;
         index = pre.index;
-        total = omega (arith, fine-room (on_store (with_files (set t.files i (filed b rs old)) m) s) fine, ap used q, ap used strings-more, used-inserted b i new (abs p e) pre.index (length-abs p e));
-        spare = pre.spare;
+        total = omega (arith, fine-room (on_store (with_files (set z.files i (filed b rs old)) m) s) fine, ap used q, ap used strings-more, used-inserted b i new t pre.index (rw h.strings_is (length-strings s h.fine)));
       }
 
-  pub records-raisable : Raisable n c d
-  records-raisable =
-      let h = pre.stands in
-      record {
-        long = numbers-long h;
-        components = omega (arith, number_is h 5, pre.components_room);
-        characters = omega (arith, number_is h 6, pre.chars_room);
-      }
+  module _ {n₁ : List ℕ} (q : n₁ ≡ totalled (get_or n layout.components_scalar 0 + c) (get_or n layout.characters_scalar 0 + d) n) where
+    pub scalars-there : length n₁ ≡ 8
+    unfolding totalled
+    scalars-there = rw (q, h.numbers) refl
 
-  pub records-more-then : {n₁ : List ℕ} → n₁ ≡ totalled (get_or n layout.components_scalar 0 + c) (get_or n layout.characters_scalar 0 + d) n → More n₁ k
-  unfolding totalled
-  records-more-then q =
-      let h = pre.stands in
-      record { long = rw (q, h.numbers); records = rw (q, h.numbers) pre.records_room; addresses = rw (q, h.numbers) pre.addresses_room }
+    pub records-room : get_or n₁ layout.records_scalar 0 + k ≤ limit.records
+    unfolding totalled
+    records-room = rw (q, h.numbers) pre.records_room
 
-  pub records-stored : {p' e' n₁ n' : List ℕ} → Holds p' e' (inserted b i new (abs p e)) → n₁ ≡ totalled (get_or n layout.components_scalar 0 + c) (get_or n layout.characters_scalar 0 + d) n
-      → n' ≡ set (set n₁ layout.records_scalar (get_or n₁ layout.records_scalar 0 + k)) 4 (get_or n₁ layout.last_scalar 0 + k)
-      → HoldsState p' e' n' (on_store (stored (nth (filing b) i) (bodies b new)) (state_at p e n))
+    pub addresses-room : get_or n₁ layout.last_scalar 0 + k ≤ limit.addresses
+    unfolding totalled
+    addresses-room = rw (q, h.numbers) pre.addresses_room
+
+  pub records-stored : {t' : List (List ℕ)} {n₁ n₂ n' : List ℕ} {r l : ℕ} → t' ≡ inserted b i new t
+      → n₁ ≡ totalled (get_or n layout.components_scalar 0 + c) (get_or n layout.characters_scalar 0 + d) n → r ≡ get_or n₁ layout.records_scalar 0 → l ≡ get_or n₁ layout.last_scalar 0
+      → n₂ ≡ set n₁ layout.records_scalar (r + k) → n' ≡ set n₂ layout.last_scalar (l + k) → Lies t' n' (on_store (stored (nth (filing b) i) (bodies b new)) s)
   unfolding totalled on_store
-  records-stored g q₁ q₂ =
-      let h = pre.stands in
-      let s = state_at p e n in
-      let z : length (bodies b new) ≡ k = length-map (turned b rs) (λ r. r.parts) ∙ turned-length b rs ∙ sym pre.count in
-      rw (stored-to b i t rs (bodies b new) pre.stamps, z)
-      (holds-file s h.fine i pre.index (filed b rs old) (t.last + k) (components_held t + c) (chars_held t + d) (records_held t + k)
+  records-stored {n₁ = n₁} {n' = n'} {l = l} g q₁ e f w₁ w₂ =
+      let q₂ : n' ≡ set (set n₁ 7 (get_or n₁ 7 0 + k)) 4 (get_or n₁ 4 0 + k) =
+      w₂ ∙ ap (λ (m : List ℕ). set m 4 (l + k)) w₁ ∙ ap (λ (x : ℕ). set (set n₁ 7 (x + k)) 4 (l + k)) e
+      ∙ ap (λ (x : ℕ). set (set n₁ 7 (get_or n₁ 7 0 + k)) 4 (x + k)) f in
+      let y : length (bodies b new) ≡ k = length-map (turned b rs) (λ r. r.parts) ∙ turned-length b rs ∙ sym pre.count in
+      rw (stored-to b i z rs (bodies b new) pre.stamps, y)
+      (holds-file s h.fine i pre.index (filed b rs old) (z.last + k) (components_held z + c) (chars_held z + d) (records_held z + k)
       parts_more chars-more records-more ok pre.addresses_room pre.components_room pre.chars_room pre.records_room
       (rw strings-more at g)
       (q₂ ∙ ap (λ (m : List ℕ). set (set m 7 (get_or m 7 0 + k)) 4 (get_or m 4 0 + k))

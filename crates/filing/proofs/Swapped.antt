@@ -1,7 +1,7 @@
 -- The working memory after two files are exchanged.
 use mathlib.Core.Path.{◌≡◌, sym, ◌∙◌}
 use mathlib.Core.List.{List, []}
-use Prim.Native.Nat.{ℕ, ◌≤◌, ◌<◌}
+use Prim.Native.Nat.{ℕ, ◌<◌}
 use native.Mathlib.Omega.{arith}
 use lib.ListN.{length, get_or, set, length-set}
 use lib.Seq.{get_or-set_other, set_comm}
@@ -13,18 +13,16 @@ use Rattle.machine.specs.Changes.{with_files, put_file, held, recorded}
 use Rattle.layout.specs.Bounds.{FileOk, Fine}
 use Rattle.layout.specs.Memory.{scalars, strings}
 use Rattle.layout.proofs.MemoryLaws.{string-before, string-after}
-use Rattle.store.specs.Below.Pool as pool
-use Rattle.store.specs.Below.Pool.{abs, string, Holds}
-use Rattle.store.proofs.Below.GapsLaws.{after}
-use Rattle.store.specs.Store.{Exchangeable, exchanged}
+use Rattle.store.specs.Below.Pool.{string}
+use Rattle.store.specs.Store.{exchanged}
 use Rattle.state.specs.Blocks.{totalled}
 use Rattle.layout.specs.Places.{before_string, after_string}
-use Rattle.state.specs.Working.{state_at, HoldsState, on_store}
+use Rattle.state.specs.Working.{Lies, on_store}
 use Rattle.state.proofs.Sequences.{total-exchanged, each-exchanged}
 use Rattle.state.proofs.Fineness.{fine-files}
 use Rattle.state.proofs.Scalars.{scalars-files}
 use Rattle.state.proofs.Strings.{strings-file}
-use Rattle.filing.specs.Files.{FilesExchangeable, files_exchanged}
+use Rattle.filing.specs.Files.{files_exchanged}
 use Rattle.filing.proofs.Pointers.{apart}
 
 -- the strings before the pointers exchanged, and then those after them
@@ -83,34 +81,13 @@ module _ (s : State) (f : Fine s) (i j : ℕ) (a : i < limit.files) (b : j < lim
   unfolding totalled
   scalars-both = scalars-files s both s.store.last (held_both (λ x. 1)) (held_both (λ x. length (chars x))) (recorded-both (λ r. 1))
 
-module _ {p e n : List ℕ} {i j sc hd : ℕ} (pre : FilesExchangeable p e n i j sc hd) where
-  pub before-exchangeable : Exchangeable p e (before_string i) (before_string j) sc hd
-  before-exchangeable =
-      record {
-        fine = pre.stands.holds.fine;
-        source = omega (arith, pre.source);
-        target = omega (arith, pre.target);
-        spare = pre.spare;
-        room = pre.room;
-      }
-
-  pub after-exchangeable : {p₁ e₁ : List ℕ} {sc₁ hd₁ : ℕ} → pool.Fine p₁ e₁ → 65536 ≤ sc₁ → 32768 ≤ hd₁
-      → Exchangeable p₁ e₁ (after_string i) (after_string j) sc₁ hd₁
-  after-exchangeable h x y =
-      record { fine = h; source = omega (arith, pre.source); target = omega (arith, pre.target); spare = x; room = y }
-
-  pub files-swapped : {p₁ e₁ p' e' : List ℕ} → Holds p₁ e₁ (exchanged (before_string i) (before_string j) (abs p e))
-      → Holds p' e' (exchanged (after_string i) (after_string j) (abs p₁ e₁))
-      → HoldsState p' e' n (on_store (files_exchanged i j) (state_at p e n))
+module _ {t : List (List ℕ)} {n : List ℕ} {s : State} (h : Lies t n s) {i j : ℕ} (a : i < limit.files) (b : j < limit.files) where
+  pub files-swapped : {t₁ t' : List (List ℕ)} → t₁ ≡ exchanged (before_string i) (before_string j) t → t' ≡ exchanged (after_string i) (after_string j) t₁
+      → Lies t' n (on_store (files_exchanged i j) s)
   unfolding on_store files_exchanged put_file with_files
   files-swapped g k =
-      let h = pre.stands in
-      let s = state_at p e n in
       record {
-        holds =
-            rw (strings-both s h.fine i j pre.source pre.target)
-            (after h.holds (λ (v : List (List ℕ)). exchanged (after_string i) (after_string j) (exchanged (before_string i) (before_string j) v))
-            (after g (exchanged (after_string i) (after_string j)) k));
-        numbers = h.numbers ∙ sym (scalars-both s h.fine i j pre.source pre.target);
-        fine = fine-both s h.fine i j pre.source pre.target;
+        strings_is = rw (strings-both s h.fine i j a b) (rw (g, h.strings_is) at k);
+        numbers = h.numbers ∙ sym (scalars-both s h.fine i j a b);
+        fine = fine-both s h.fine i j a b;
       }

@@ -1,26 +1,19 @@
--- What the functions on files of the working state ask and tell. p, e and n are pool, ends and scalars; scratch and hold are how long the two
--- further buffers are, one for laying the strings out anew and one for bytes on the way.
-use Rattle.std.specs.Prelude.{◌≡◌, Bool, true, false, List, map, ℕ, ◌+◌, ◌≤◌, ◌<◌, length, get_or, take, drop}
+-- What the functions on files of the state at work ask and tell. s is the state, i the file.
+use Rattle.std.specs.Prelude.{◌≡◌, Bool, true, false, List, map, ℕ, ◌+◌, ◌≤◌, ◌<◌, length, take, drop}
 use Rattle.language.specs.Limits as limit
 use Rattle.language.specs.Letters.Letter.{P}
-use Rattle.language.specs.Values.{Component, Record, Store}
+use Rattle.language.specs.Values.{Component, Record, Store, State}
 use Rattle.machine.specs.Arguments.{file_of, records}
 use Rattle.machine.specs.Changes.{put_file, stamped}
 use Rattle.layout.specs.Bounds.{EncodedRecords, WholeRecords}
 use Rattle.layout.specs.Components.{records_bytes, records_in}
 use Rattle.layout.specs.Memory.{components_held, chars_held, records_held}
 use Rattle.layout.specs.Strings.{used}
-use Rattle.layout.specs.Places as layout
 use Rattle.store.specs.Below.Gaps.{pushed_front, pushed_back}
-use Rattle.store.specs.Below.Pool.{abs, Fine}
 use Rattle.layout.specs.Places.{before_string, after_string}
-use Rattle.state.specs.Working.{state_at, Stands, nth, turned, part_total, char_total}
+use Rattle.state.specs.Working.{nth, turned, part_total, char_total}
 
 -- ---- reading
-
-pub record FileNamed (p e n : List ℕ) (i : ℕ) : Type 0 where
-  pub stands : Stands p e n
-  pub index : i < limit.files
 
 -- the bytes r are the records rs
 pub record RecordsLent (rs : List Record) (r : List ℕ) : Type 0 where
@@ -38,39 +31,22 @@ pub record FirstRecords (rs : List Record) (k bytes parts chars : ℕ) : Type 0 
   pub parts_is : parts ≡ part_total (take k rs)
   pub chars_is : chars ≡ char_total (take k rs)
 
-pub record RecordsDroppable (p e n : List ℕ) (i k bytes parts chars : ℕ) : Type 0 where
-  pub stands : Stands p e n
+pub record RecordsDroppable (s : State) (i k bytes parts chars : ℕ) : Type 0 where
   pub index : i < limit.files
-  pub first : FirstRecords (file_of (state_at p e n).store (nth P i)).after k bytes parts chars
-
-pub record Fewer (n : List ℕ) (k : ℕ) : Type 0 where
-  pub long : length n ≡ 8
-  pub records : k ≤ get_or n layout.records_scalar 0
+  pub first : FirstRecords (file_of s.store (nth P i)).after k bytes parts chars
 
 -- ---- the pointer
 
 -- it can move past the first k records after it, of `bytes` bytes
-pub record Passable (p e n : List ℕ) (i k bytes scratch hold : ℕ) : Type 0 where
-  pub stands : Stands p e n
+pub record Passable (s : State) (i k bytes : ℕ) : Type 0 where
   pub index : i < limit.files
-  pub most : k ≤ length (file_of (state_at p e n).store (nth P i)).after
-  pub bytes_is : bytes ≡ length (records_bytes (take k (file_of (state_at p e n).store (nth P i)).after))
-  pub spare : 65536 ≤ scratch
-  pub room : 32768 ≤ hold
-
--- the first k records after the pointer can be removed or passed
-pub record RecordsReadable (p e n : List ℕ) (i k bytes parts chars scratch hold : ℕ) : Type 0 where
-  pub droppable : RecordsDroppable p e n i k bytes parts chars
-  pub spare : 65536 ≤ scratch
-  pub room : 32768 ≤ hold
+  pub most : k ≤ length (file_of s.store (nth P i)).after
+  pub bytes_is : bytes ≡ length (records_bytes (take k (file_of s.store (nth P i)).after))
 
 -- it can move behind the first k records of the file, of `bytes` bytes
-pub record Pointable (p e n : List ℕ) (i k bytes scratch hold : ℕ) : Type 0 where
-  pub stands : Stands p e n
+pub record Pointable (s : State) (i k bytes : ℕ) : Type 0 where
   pub index : i < limit.files
-  pub bytes_is : bytes ≡ length (records_bytes (take k (records (file_of (state_at p e n).store (nth P i)))))
-  pub spare : 65536 ≤ scratch
-  pub room : 32768 ≤ hold
+  pub bytes_is : bytes ≡ length (records_bytes (take k (records (file_of s.store (nth P i)))))
 
 unfoldable pub pointed_at : ℕ → ℕ → Store → Store
 pointed_at i k s = let rs = records (file_of s (nth P i)) in put_file (nth P i) (take k rs) (drop k rs) s
@@ -82,31 +58,22 @@ abbrev pub bodies : Bool → List ℕ → List (List Component)
 bodies b new = map (λ r. r.parts) (turned b (records_in new))
 
 -- records can be written to file i: b for turned round, right after the pointer
-pub record RecordsWritable (p e n : List ℕ) (scratch i : ℕ) (b : Bool) (new : List ℕ) (k parts chars : ℕ) : Type 0 where
-  pub stands : Stands p e n
-  pub spare : 65536 ≤ scratch
+pub record RecordsWritable (s : State) (i : ℕ) (b : Bool) (new : List ℕ) (k parts chars : ℕ) : Type 0 where
   pub index : i < limit.files
   pub whole : WholeRecords new
-  pub stamps : turned b (records_in new) ≡ stamped (state_at p e n).store.last (bodies b new)
+  pub stamps : turned b (records_in new) ≡ stamped s.store.last (bodies b new)
   pub count : k ≡ length (records_in new)
   pub parts_is : parts ≡ part_total (records_in new)
   pub chars_is : chars ≡ char_total (records_in new)
-  pub components_room : components_held (state_at p e n).store + parts ≤ limit.components
-  pub chars_room : chars_held (state_at p e n).store + chars ≤ limit.characters
-  pub records_room : records_held (state_at p e n).store + k ≤ limit.records
-  pub addresses_room : (state_at p e n).store.last + k ≤ limit.addresses
-
-pub record More (n : List ℕ) (k : ℕ) : Type 0 where
-  pub long : length n ≡ 8
-  pub records : get_or n layout.records_scalar 0 + k ≤ limit.records
-  pub addresses : get_or n layout.last_scalar 0 + k ≤ limit.addresses
+  pub components_room : components_held s.store + parts ≤ limit.components
+  pub chars_room : chars_held s.store + chars ≤ limit.characters
+  pub records_room : records_held s.store + k ≤ limit.records
+  pub addresses_room : s.store.last + k ≤ limit.addresses
 
 -- n bytes can be put to the pointer of file i
-pub record Insertable (p e : List ℕ) (i n scratch : ℕ) : Type 0 where
-  pub fine : Fine p e
+pub record Insertable (t : List (List ℕ)) (i n : ℕ) : Type 0 where
   pub index : i < limit.files
-  pub total : used (abs p e) + n ≤ 32768
-  pub spare : 65536 ≤ scratch
+  pub total : used t + n ≤ 32768
 
 -- bytes right after the pointer of file i, or right before it
 unfoldable pub inserted : Bool → ℕ → List ℕ → List (List ℕ) → List (List ℕ)
@@ -114,13 +81,6 @@ inserted true i b s = pushed_front (after_string i) b s
 inserted false i b s = pushed_back (before_string i) b s
 
 -- ---- two files
-
-pub record FilesExchangeable (p e n : List ℕ) (i j scratch hold : ℕ) : Type 0 where
-  pub stands : Stands p e n
-  pub source : i < limit.files
-  pub target : j < limit.files
-  pub spare : 65536 ≤ scratch
-  pub room : 32768 ≤ hold
 
 unfoldable pub files_exchanged : ℕ → ℕ → Store → Store
 files_exchanged i j s =

@@ -1,80 +1,71 @@
 // The files of the state at work: the records before the pointer and after it, and the changes that instructions make in them.
 #![tactic(auto)]
 
-ghost use Rattle.std.specs.Prelude.{◌≡◌, true, false, ◌+◌, ◌-◌, length, get_or, set};
+ghost use Rattle.std.specs.Prelude.{◌≡◌, ◌<◌, true, false, length};
 ghost use Rattle.language.specs.Letters.Letter.{P};
+ghost use Rattle.language.specs.Limits as limit;
 ghost use Rattle.machine.specs.Arguments.{file_of};
 ghost use Rattle.machine.specs.Changes.{past, stored};
-ghost use Rattle.store.specs.Below.Pool.{abs, Holds};
-ghost use Rattle.state.specs.Working.{state_at, HoldsState, on_store, nth, filing};
-ghost use Rattle.filing.specs.Files.{FileNamed, RecordsLent, RecordsDroppable, Fewer, Passable, RecordsReadable, Pointable, pointed_at, bodies, RecordsWritable, More, Insertable, inserted, FilesExchangeable, files_exchanged};
-ghost use Rattle.layout.specs.Places.{records_scalar, last_scalar};
+ghost use Rattle.state.specs.Working.{HoldsState, on_store, nth, filing};
+ghost use Rattle.filing.specs.Files.{RecordsLent, RecordsDroppable, Passable, Pointable, pointed_at, bodies, RecordsWritable, Insertable, inserted, files_exchanged};
 
 use layout::StatePlaces;
+use state::Working;
+use strings::Strings;
 
 // The bytes of the records before the pointer of file `i`.
 // Not one with `after_bytes`: the promise of each names its own side of the file.
-pub fn before_bytes<'a>(pool: &'a [u8], ends: &[u32], nums: &[u32], i: usize) -> &'a [u8]
-    requires { FileNamed pool.now ends.now nums.now i }
-    ensures { RecordsLent (file_of (state_at pool.now ends.now nums.now).store (nth P i)).before result.now }
+pub fn before_bytes(state: &Working, i: usize) -> &[u8]
+    requires { i < limit.files }
+    ensures { RecordsLent (file_of state.now.store (nth P i)).before result.now }
 {
-    store::string_of(pool, ends, StatePlaces::FIRST_FILE + 2 * i)
+    state.strings.string_of(StatePlaces::FIRST_FILE + 2 * i)
 }
 
 // The bytes of the records after the pointer of file `i`.
-pub fn after_bytes<'a>(pool: &'a [u8], ends: &[u32], nums: &[u32], i: usize) -> &'a [u8]
-    requires { FileNamed pool.now ends.now nums.now i }
-    ensures { RecordsLent (file_of (state_at pool.now ends.now nums.now).store (nth P i)).after result.now }
+pub fn after_bytes(state: &Working, i: usize) -> &[u8]
+    requires { i < limit.files }
+    ensures { RecordsLent (file_of state.now.store (nth P i)).after result.now }
 {
-    store::string_of(pool, ends, StatePlaces::FIRST_FILE + (2 * i + 1))
-}
-
-// Takes from the total of records.
-fn fewer(nums: &mut [u32], records: usize)
-    requires { Fewer nums.old records }
-    ensures { nums.new ≡ set nums.old records_scalar (get_or nums.old records_scalar 0 - records) }
-{
-    let n = cells::read(nums, StatePlaces::RECORDS_SCALAR);
-    cells::write(nums, StatePlaces::RECORDS_SCALAR, n - records);
+    state
+        .strings
+        .string_of(StatePlaces::FIRST_FILE + (2 * i + 1))
 }
 
 // Takes the first records after the pointer of file `i` away: how many, their bytes, their components and characters.
+// The four counts are no struct: callers have them from two structs of `records`, or one by one.
+// Not one with `pass_records`: that moves bytes to the other side of the pointer and keeps the totals.
 pub fn drop_records(
-    pool: &[u8],
-    ends: &mut [u32],
-    nums: &mut [u32],
+    state: &mut Working,
     i: usize,
     records: usize,
     bytes: usize,
     parts: usize,
     chars: usize,
 )
-    requires { RecordsDroppable pool.now ends.old nums.old i records bytes parts chars }
-    ensures { HoldsState pool.now ends.new nums.new (on_store (past (nth (filing true) i) records) (state_at pool.now ends.old nums.old)) }
+    requires { RecordsDroppable state.old i records bytes parts chars }
+    ensures { HoldsState state.new (on_store (past (nth (filing true) i) records) state.old) }
 {
-    store::drop_front(pool, ends, StatePlaces::FIRST_FILE + (2 * i + 1), bytes);
-    state::lower(nums, parts, chars);
-    fewer(nums, records);
+    state
+        .strings
+        .drop_front(StatePlaces::FIRST_FILE + (2 * i + 1), bytes);
+    state::lower(&mut state.nums, parts, chars);
+    let n = cells::read(&state.nums, StatePlaces::RECORDS_SCALAR);
+    cells::write(&mut state.nums, StatePlaces::RECORDS_SCALAR, n - records);
 }
 
 // Moves the pointer of file `i` past the first records after it: how many, and their bytes.
 pub fn pass_records(
-    pool: &mut [u8],
-    ends: &mut [u32],
-    nums: &[u32],
-    scratch: &mut [u8],
-    hold: &mut [u8],
+    state: &mut Working,
+    hold: &mut [u8; 32768],
     i: usize,
     records: usize,
     bytes: usize,
 )
-    requires { Passable pool.old ends.old nums.now i records bytes (length scratch.old) (length hold.old) }
-    ensures { HoldsState pool.new ends.new nums.now (on_store (past (nth (filing false) i) records) (state_at pool.old ends.old nums.now)) }
+    requires { Passable state.old i records bytes }
+    ensures { HoldsState state.new (on_store (past (nth (filing false) i) records) state.old) }
 {
-    store::move_front_to_back(
-        pool,
-        ends,
-        scratch,
+    state.strings.move_front_to_back(
         hold,
         StatePlaces::FIRST_FILE + (2 * i + 1),
         StatePlaces::FIRST_FILE + 2 * i,
@@ -83,12 +74,10 @@ pub fn pass_records(
 }
 
 // Reads past the first records after the pointer of file `i`: removes them, or moves the pointer.
+// A Bool, as decoding tells it of a letter: it is the argument of `filing` in the promise.
 pub fn past_records(
-    pool: &mut [u8],
-    ends: &mut [u32],
-    nums: &mut [u32],
-    scratch: &mut [u8],
-    hold: &mut [u8],
+    state: &mut Working,
+    hold: &mut [u8; 32768],
     i: usize,
     removes: bool,
     records: usize,
@@ -96,97 +85,52 @@ pub fn past_records(
     parts: usize,
     chars: usize,
 )
-    requires { RecordsReadable pool.old ends.old nums.old i records bytes parts chars (length scratch.old) (length hold.old) }
-    ensures { HoldsState pool.new ends.new nums.new (on_store (past (nth (filing removes) i) records) (state_at pool.old ends.old nums.old)) }
+    requires { RecordsDroppable state.old i records bytes parts chars }
+    ensures { HoldsState state.new (on_store (past (nth (filing removes) i) records) state.old) }
 {
     if removes {
-        drop_records(pool, ends, nums, i, records, bytes, parts, chars);
-        return;
+        drop_records(state, i, records, bytes, parts, chars);
+    } else {
+        pass_records(state, hold, i, records, bytes);
     }
-    pass_records(pool, ends, nums, scratch, hold, i, records, bytes);
 }
 
 // Moves the pointer of file `i` behind the first records of the file: how many, and their bytes.
-pub fn point(
-    pool: &mut [u8],
-    ends: &mut [u32],
-    nums: &[u32],
-    scratch: &mut [u8],
-    hold: &mut [u8],
-    i: usize,
-    records: usize,
-    bytes: usize,
-)
-    requires { Pointable pool.old ends.old nums.now i records bytes (length scratch.old) (length hold.old) }
-    ensures { HoldsState pool.new ends.new nums.now (on_store (pointed_at i records) (state_at pool.old ends.old nums.now)) }
+pub fn point(state: &mut Working, hold: &mut [u8; 32768], i: usize, records: usize, bytes: usize)
+    requires { Pointable state.old i records bytes }
+    ensures { HoldsState state.new (on_store (pointed_at i records) state.old) }
 {
-    let n = store::len_of(pool, ends, StatePlaces::FIRST_FILE + 2 * i);
+    let before = StatePlaces::FIRST_FILE + 2 * i;
+    let after = StatePlaces::FIRST_FILE + (2 * i + 1);
+    let n = state.strings.len_of(before);
     if bytes <= n {
-        store::move_back_to_front(
-            pool,
-            ends,
-            scratch,
-            hold,
-            StatePlaces::FIRST_FILE + 2 * i,
-            StatePlaces::FIRST_FILE + (2 * i + 1),
-            n - bytes,
-        );
+        state
+            .strings
+            .move_back_to_front(hold, before, after, n - bytes);
         return;
     }
-    store::move_front_to_back(
-        pool,
-        ends,
-        scratch,
-        hold,
-        StatePlaces::FIRST_FILE + (2 * i + 1),
-        StatePlaces::FIRST_FILE + 2 * i,
-        bytes - n,
-    );
+    state
+        .strings
+        .move_front_to_back(hold, after, before, bytes - n);
 }
 
 // Puts bytes right after the pointer of file `i`, or right before it.
-fn insert(
-    pool: &mut [u8],
-    ends: &mut [u32],
-    scratch: &mut [u8],
-    i: usize,
-    turned: bool,
-    bytes: &[u8],
-)
-    requires { Insertable pool.old ends.old i (length bytes.now) (length scratch.old) }
-    ensures { Holds pool.new ends.new (inserted turned i bytes.now (abs pool.old ends.old)) }
+#[tactic(auto, unfolding(crate::specs::Files::inserted))]
+fn insert(strings: &mut Strings, i: usize, turned: bool, bytes: &[u8])
+    requires { Insertable strings.old i (length bytes.now) }
+    ensures { strings.new ≡ inserted turned i bytes.now strings.old }
 {
     if turned {
-        store::push_front(
-            pool,
-            ends,
-            scratch,
-            StatePlaces::FIRST_FILE + (2 * i + 1),
-            bytes,
-        );
-        return;
+        strings.push_front(StatePlaces::FIRST_FILE + (2 * i + 1), bytes);
+    } else {
+        strings.push_back(StatePlaces::FIRST_FILE + 2 * i, bytes);
     }
-    store::push_back(pool, ends, scratch, StatePlaces::FIRST_FILE + 2 * i, bytes);
-}
-
-// Adds to the total of records and to the last address.
-fn more(nums: &mut [u32], records: usize)
-    requires { More nums.old records }
-    ensures { nums.new ≡ set (set nums.old records_scalar (get_or nums.old records_scalar 0 + records)) last_scalar (get_or nums.old last_scalar 0 + records) }
-{
-    let n = cells::read(nums, StatePlaces::RECORDS_SCALAR);
-    let last = cells::read(nums, StatePlaces::LAST_SCALAR);
-    cells::write(nums, StatePlaces::RECORDS_SCALAR, n + records);
-    cells::write(nums, StatePlaces::LAST_SCALAR, last + records);
 }
 
 // Writes the records in `new`, which have the next addresses, to file `i`: turned round and right after the pointer, or in their order, and then
 // the pointer stands behind them. How many they are, their components and characters.
 pub fn write_records(
-    pool: &mut [u8],
-    ends: &mut [u32],
-    nums: &mut [u32],
-    scratch: &mut [u8],
+    state: &mut Working,
     i: usize,
     turned: bool,
     new: &[u8],
@@ -194,39 +138,29 @@ pub fn write_records(
     parts: usize,
     chars: usize,
 )
-    requires { RecordsWritable pool.old ends.old nums.old (length scratch.old) i turned new.now records parts chars }
-    ensures { HoldsState pool.new ends.new nums.new (on_store (stored (nth (filing turned) i) (bodies turned new.now)) (state_at pool.old ends.old nums.old)) }
+    requires { RecordsWritable state.old i turned new.now records parts chars }
+    ensures { HoldsState state.new (on_store (stored (nth (filing turned) i) (bodies turned new.now)) state.old) }
 {
-    insert(pool, ends, scratch, i, turned, new);
-    state::raise(nums, parts, chars);
-    more(nums, records);
+    insert(&mut state.strings, i, turned, new);
+    state::raise(&mut state.nums, parts, chars);
+    let n = cells::read(&state.nums, StatePlaces::RECORDS_SCALAR);
+    let last = cells::read(&state.nums, StatePlaces::LAST_SCALAR);
+    cells::write(&mut state.nums, StatePlaces::RECORDS_SCALAR, n + records);
+    cells::write(&mut state.nums, StatePlaces::LAST_SCALAR, last + records);
 }
 
 // Exchanges the files `i` and `j`.
-pub fn exchange_files(
-    pool: &mut [u8],
-    ends: &mut [u32],
-    nums: &[u32],
-    scratch: &mut [u8],
-    hold: &mut [u8],
-    i: usize,
-    j: usize,
-)
-    requires { FilesExchangeable pool.old ends.old nums.now i j (length scratch.old) (length hold.old) }
-    ensures { HoldsState pool.new ends.new nums.now (on_store (files_exchanged i j) (state_at pool.old ends.old nums.now)) }
+pub fn exchange_files(state: &mut Working, hold: &mut [u8; 32768], i: usize, j: usize)
+    requires first { i < limit.files }
+    requires second { j < limit.files }
+    ensures { HoldsState state.new (on_store (files_exchanged i j) state.old) }
 {
-    store::exchange(
-        pool,
-        ends,
-        scratch,
+    state.strings.exchange(
         hold,
         StatePlaces::FIRST_FILE + 2 * i,
         StatePlaces::FIRST_FILE + 2 * j,
     );
-    store::exchange(
-        pool,
-        ends,
-        scratch,
+    state.strings.exchange(
         hold,
         StatePlaces::FIRST_FILE + (2 * i + 1),
         StatePlaces::FIRST_FILE + (2 * j + 1),

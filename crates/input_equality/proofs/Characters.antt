@@ -2,11 +2,11 @@
 use mathlib.Core.Path.{◌≡◌, refl, sym, ap, ◌∙◌, fun_ext}
 use mathlib.Core.Bool.{Bool, ◌||◌}
 use mathlib.Core.List.{List, [], ◌∷◌, map}
-use Prim.Native.Nat.{ℕ, zero, suc, ◌-◌, ◌≤◌}
+use Prim.Native.Nat.{ℕ, min}
 use native.Mathlib.Omega.{arith}
-use lib.ListN.{length, take, drop, length-take}
+use lib.ListN.{length, take, drop}
 use Rattle.lists.specs.Lists.{any, among}
-use Rattle.language.specs.Values.{Component, Store, Inputs}
+use Rattle.language.specs.Values.{Component, Store, State, Inputs}
 use Rattle.machine.specs.Arguments.{char, side, matches, cut, taken}
 use Rattle.machine.specs.Changes.{minus_unless}
 use Rattle.layout.specs.Components.{components_in}
@@ -15,16 +15,13 @@ use Rattle.matching.specs.Tests.{in_class, first_chars, until_chars, TookChars}
 use Rattle.matching.specs.declared.CharsTaken.{CharsTaken}
 use Rattle.matching.specs.declared.Test.{Test}
 use Rattle.matching.proofs.OnChars.{first_met, class-met}
-use Rattle.state.specs.Blocks.{ReadTo}
-use Rattle.state.specs.Working.{state_at, HoldsState, on_store}
+use Rattle.state.specs.Working.{HoldsState, on_store}
 use Rattle.table.specs.Denote.{arg_of}
 use Rattle.table.specs.declared.Argument.{Argument}
 use Rattle.table.specs.declared.Argument.TheVariants as argument
-use Rattle.readings.specs.Below.Joining.{some}
 use Rattle.equality.specs.Equality.{test_of}
 use Rattle.equality.proofs.Meeting.{or-false}
-use Rattle.readings.specs.Readings.{read_place, Unread}
-use Rattle.readings.proofs.Reading.{lent_is}
+use Rattle.readings.specs.Readings.{read_place, Left}
 use Rattle.input_equality.specs.InputEquality.{compared}
 
 any-map : (p : Component → Bool) (f : ℕ → Component) (ys : List ℕ) → any (λ y. p (f y)) ys ≡ any p (map f ys)
@@ -51,30 +48,20 @@ module _ (c : List ℕ) (ins : Inputs) (s : Store) (g ys : List ℕ) where
 
 -- ---- the next character
 
-next_one : (w : List ℕ) → take (some (length w)) w ≡ take 1 w
+next_one : (w : List ℕ) → take (min (length w) 1) w ≡ take 1 w
 next_one [] = refl
-next_one (x ∷ w) = refl
+next_one (x ∷ w) =
+    let e : min (length (x ∷ w)) 1 ≡ 1 = omega arith in
+    ap (λ (m : ℕ). take m (x ∷ w)) e
 
-some_fits : (k : ℕ) → some k ≤ k
-some_fits zero = omega arith
-some_fits (suc k) = omega arith
-
-module _ {p e n input : List ℕ} {i : ℕ} (v : Unread p e n input i) {from : ℕ} (a : ReadTo p e n i from) where
-  abbrev lent : List ℕ
-  lent = take (length input - from) (drop from input)
-
-  module _ {k : ℕ} (q : k ≡ some (length lent)) where
-    pub next-long : k ≡ length (take k lent)
-    next-long = omega (arith, q, some_fits (length lent), length-take k lent)
-
-    pub compared-done : (b : Argument) (g : List ℕ) {u : Test} {t : CharsTaken} → u ≡ test_of b → TookChars (until_chars u (first_chars (components_in g))) (take k lent) t → {n' : List ℕ}
-        → HoldsState p e n' (on_store (minus_unless t.reached) (state_at p e n)) → HoldsState p e n' (on_store (compared b g input i) (state_at p e n))
-    unfolding on_store compared
-    compared-done b g {u} {t} f w d =
-        let l : take k lent ≡ take 1 (drop (read_place (state_at p e n).store i) input) =
-        ap (λ (m : ℕ). take m lent) q ∙ next_one lent ∙ ap (take 1) (lent_is v a) in
-        let r : (taken (until_chars (test_of b) (first_chars (components_in g))) (take 1 (drop (read_place (state_at p e n).store i) input))).1 ≡ t.reached =
-        ap (λ (ys : List ℕ). (taken (until_chars (test_of b) (first_chars (components_in g))) ys).1) (sym l)
-        ∙ ap (λ (x : Test). (taken (until_chars x (first_chars (components_in g))) (take k lent)).1) (sym f)
-        ∙ ap (λ (x : ℕ × Bool). x.1) w.is in
-        rw r d
+module _ {σ : State} {input : List ℕ} {i : ℕ} {rest : List ℕ} (l : Left σ input i rest) {k : ℕ} (q : k ≡ min (length rest) 1) where
+  pub compared-done : (b : Argument) (g : List ℕ) {u : Test} {t : CharsTaken} → u ≡ test_of b → TookChars (until_chars u (first_chars (components_in g))) (take k rest) t → {σ' : State}
+      → HoldsState σ' (on_store (minus_unless t.reached) σ) → HoldsState σ' (on_store (compared b g input i) σ)
+  unfolding on_store compared
+  compared-done b g {u} {t} f w d =
+      let l : take k rest ≡ take 1 (drop (read_place σ.store i) input) = ap (λ (m : ℕ). take m rest) q ∙ next_one rest ∙ ap (take 1) l.is in
+      let r : (taken (until_chars (test_of b) (first_chars (components_in g))) (take 1 (drop (read_place σ.store i) input))).1 ≡ t.reached =
+      ap (λ (ys : List ℕ). (taken (until_chars (test_of b) (first_chars (components_in g))) ys).1) (sym l)
+      ∙ ap (λ (x : Test). (taken (until_chars x (first_chars (components_in g))) (take k rest)).1) (sym f)
+      ∙ ap (λ (x : ℕ × Bool). x.1) w.is in
+      rw r d

@@ -7,31 +7,37 @@ use native.Mathlib.Omega.{arith}
 use lib.Dec.{eqb}
 use lib.ListN.{take}
 use borrow.Author.Tests.{ne_eqb}
+use Rattle.std.specs.Prelude.{Result, Ok, Err}
 use Rattle.lists.specs.Lists.{all, any, filled}
+use Rattle.language.specs.Limits as limit
 use Rattle.language.specs.Letters.Letter.{I}
 use Rattle.language.specs.Program.{Arg, Program}
 use Rattle.language.specs.Program.Arg.{nothing}
 use Rattle.language.specs.Program.Op.{RW}
-use Rattle.language.specs.Values.{Component, Store, Inputs, kind}
+use Rattle.language.specs.Values.{Component, Store, State, Inputs, kind}
 use Rattle.machine.specs.Arguments.{Asks, use_by, unread, char, side, is_count, single, none, ask, ◌&◌, when, matches, cut}
 use Rattle.machine.specs.Changes.{minus_unless, used_by, used}
 use Rattle.machine.specs.Effects.{relation, equality, row}
 use Rattle.machine.specs.Effects.Go.{on}
+use Rattle.layout.specs.Bounds.{Encoded}
 use Rattle.layout.proofs.ComponentLaws.{components-of}
 use Rattle.layout.specs.Components.{component_in}
 use Rattle.packed.specs.Packed.{table_of}
-use Rattle.state.specs.Working.{state_at, HoldsState, Stands, on_store, nth}
+use Rattle.state.specs.Working.{HoldsState, Stands, on_store, nth}
 use Rattle.table.specs.Denote.{arg_of}
 use Rattle.table.specs.declared.Argument.{Argument}
+use Rattle.instructions.specs.Questions.{question_number, told_by}
+use Rattle.instructions.specs.declared.Question.{Question}
+use Rattle.instructions.specs.Operands.{input_at}
 use Rattle.instructions.specs.Does.{Quiet, stop_of}
+use Rattle.instructions.proofs.Asking.{some}
 use Rattle.instructions.proofs.Answers.{quiet-stop, quiet-done}
 use Rattle.comparands.specs.Offers.{ArgumentOffers}
-use Rattle.comparands.specs.declared.Held.{Held}
 use Rattle.comparands.proofs.Below.Signs.{kept-or-minus}
 use Rattle.equality.proofs.Meeting.{leads}
-use Rattle.equality.proofs.Questions.{offer_by, unlike_by, numeric, quiet_by, some-by, single-there}
+use Rattle.equality.proofs.Questions.{beside, offer_by, unlike_by, numeric, quiet_by, some-by, single-there}
 use Rattle.readings.specs.Readings.{input_of, DoesPassing}
-use Rattle.readings.proofs.Rows.{first_is, second_is}
+use Rattle.readings.proofs.Rows.{input-is}
 use Rattle.input_equality.specs.InputEquality.{NotWord, compared}
 use Rattle.input_equality.proofs.Characters.{met-chars}
 
@@ -66,10 +72,10 @@ module _ (g : Program) (ins : Inputs) (s : Store) (i : ℕ) (b : Arg) where
 
 -- ---- RW of an input
 
-module _ {p e n : List ℕ} (h : Stands p e n) (i1 i2 : List ℕ) (i : ℕ) (c : List ℕ) (a : Argument) {g : List ℕ} {r : Held}
-    (o : ArgumentOffers c (state_at p e n).store a g r) where
+module _ {σ : State} (h : Stands σ) (i1 i2 : List ℕ) (i : ℕ) (c : List ℕ) (a : Argument) {g : List ℕ} {r : Result ℕ Question}
+    (o : ArgumentOffers c σ.store a g r) where
   abbrev s : Store
-  s = (state_at p e n).store
+  s = σ.store
 
   abbrev b : Arg
   b = arg_of (table_of c) a
@@ -77,61 +83,62 @@ module _ {p e n : List ℕ} (h : Stands p e n) (i1 i2 : List ℕ) (i : ℕ) (c :
   abbrev ins : Inputs
   ins = i1 ∷ i2 ∷ []
 
-  abbrev does : ℕ → List ℕ → Type 0
-  does k n' = DoesPassing p e n k p e n' (λ f. row f ins s (nth I i) b nothing RW)
+  abbrev does : ℕ → State → Type 0
+  does k σ' = DoesPassing σ k σ' (λ f. row f ins s (nth I i) b nothing RW)
 
   quiet : (f : Program) → Quiet (q f ins s i b)
   quiet f = quiet-input (single b) (is_count (use_by b).reading) (filled (side ins s b)) (spelled (side ins s b)) (numeric (side ins s b))
 
-  stopped : (f : Program) {k : ℕ} → k ≡ stop_of (q f ins s i b) → (k ≡ 0 → ⊥) → does k n
+  stopped : (f : Program) {k : ℕ} → k ≡ stop_of (q f ins s i b) → (k ≡ 0 → ⊥) → does k σ
   stopped f w z f' =
       rw (row-input f' ins s i b)
       (quiet-stop h (q f ins s i b) (minus_unless (holds f ins s i b) s) (quiet f) w z)
 
-  stop_is : (f : Program) → stop_of (q f ins s i b) ≡ cond (eqb r.stop 0) (cond (unlike_by (single b) (spelled (side ins s b))) 53 0) r.stop
-  stop_is f =
+  stop_is : (f : Program) {k : ℕ} → told_by r ≡ k → stop_of (q f ins s i b) ≡ cond (eqb k 0) (cond (unlike_by (single b) (spelled (side ins s b))) 53 0) k
+  stop_is f e =
       stop-input (single b) (is_count (use_by b).reading) (filled (side ins s b)) (spelled (side ins s b)) (numeric (side ins s b))
-      ∙ ap (λ (k : ℕ). cond (eqb k 0) (cond (unlike_by (single b) (spelled (side ins s b))) 53 0) k) (sym (o ins).stop_is)
+      ∙ ap (λ (k : ℕ). cond (eqb k 0) (cond (unlike_by (single b) (spelled (side ins s b))) 53 0) k) (sym (o ins).told ∙ e)
 
-  pub input-stop : (r.stop ≡ 0 → ⊥) → does r.stop n
-  input-stop y f = stopped f (sym (stop_is f ∙ rw (ne_eqb r.stop 0 y) refl)) y f
+  pub input-stop : {k : Question} → r ≡ Err k → does (question_number k) σ
+  input-stop {k} y f = stopped f (sym (stop_is f (ap told_by y) ∙ rw (ne_eqb (question_number k) 0 (some k)) refl)) (some k) f
 
-  module _ (y : r.stop ≡ 0) where
-    word_is : single b ≡ true → spelled (side ins s b) ≡ eqb (kind (component_in (take r.len g))) 0
+  module _ {n : ℕ} (y : r ≡ Ok n) where
+    encoded : Encoded (take n g) (side ins s b)
+    encoded = (beside (o ins) y).encoded
+
+    word_is : single b ≡ true → spelled (side ins s b) ≡ eqb (kind (component_in (take n g))) 0
     word_is m =
-        let k = (leads ((o ins).encoded y) (single-there c s a o y ins m)).1 in
-        rw (← components-of ((o ins).encoded y), k) (last-true (eqb (kind (component_in (take r.len g))) 0))
+        let k = (leads encoded (single-there c s a o y ins m)).1 in
+        rw (← components-of encoded, k) (last-true (eqb (kind (component_in (take n g))) 0))
       where
         last-true : (v : Bool) → (v && true) ≡ v
         last-true true = refl
         last-true false = refl
 
-    word-asked : {u : Bool} → NotWord (take r.len g) a u → u ≡ unlike_by (single b) (spelled (side ins s b))
+    word-asked : {u : Bool} → NotWord (take n g) a u → u ≡ unlike_by (single b) (spelled (side ins s b))
     word-asked w = w (table_of c) ∙ go (single b) refl
       where
         go : (v : Bool) → single b ≡ v
-            → cond (single b) (cond (eqb (kind (component_in (take r.len g))) 0) false true) false ≡ unlike_by (single b) (spelled (side ins s b))
+            → cond (single b) (cond (eqb (kind (component_in (take n g))) 0) false true) false ≡ unlike_by (single b) (spelled (side ins s b))
         go true m = ap (λ (v : Bool). cond (single b) (cond v false true) false) (sym (word_is m))
         go false m = rw m refl
 
-    module _ {u : Bool} (w : NotWord (take r.len g) a u) where
+    module _ {u : Bool} (w : NotWord (take n g) a u) where
       stop-then : (f : Program) → stop_of (q f ins s i b) ≡ cond u 53 0
-      stop-then f = stop_is f ∙ rw (y, word-asked w) refl
+      stop-then f = stop_is f (ap told_by y) ∙ ap (λ (v : Bool). cond v 53 0) (sym (word-asked w))
 
-      pub input-unlike : u ≡ true → does 53 n
+      pub input-unlike : u ≡ true → does 53 σ
       input-unlike v f = stopped f (sym (stop-then f ∙ rw v refl)) (λ k. omega (arith, k)) f
 
-      input-done : u ≡ false → {n' : List ℕ} → HoldsState p e n' (on_store (compared a (take r.len g) (input_of i1 i2 i) i) (state_at p e n)) → does 0 n'
+      met : u ≡ false → {σ' : State} → HoldsState σ' (on_store (compared a (take n g) (input_of i1 i2 i) i) σ) → does 0 σ'
       unfolding on_store compared
-      input-done v d f =
-          let m = met-chars (table_of c) ins s (take r.len g) (take 1 (unread ins s (nth I i))) a (components-of ((o ins).encoded y)) in
+      met v d f =
+          let m = met-chars (table_of c) ins s (take n g) (take 1 (unread ins s (nth I i))) a (components-of encoded) in
           rw (row-input f ins s i b)
           (quiet-done h (q f ins s i b) (minus_unless (holds f ins s i b) s) (quiet f) (stop-then f ∙ rw v refl) (rw m at d))
 
-      pub input-first : u ≡ false → i ≡ 0 → {n' : List ℕ} → HoldsState p e n' (on_store (compared a (take r.len g) i1 i) (state_at p e n)) → does 0 n'
-      input-first v z {n'} d =
-          input-done v (subst (λ (x : List ℕ). HoldsState p e n' (on_store (compared a (take r.len g) x i) (state_at p e n))) (sym (first_is i1 i2 i z)) d)
-
-      pub input-second : u ≡ false → (i ≡ 0 → ⊥) → i < 2 → {n' : List ℕ} → HoldsState p e n' (on_store (compared a (take r.len g) i2 i) (state_at p e n)) → does 0 n'
-      input-second v z l {n'} d =
-          input-done v (subst (λ (x : List ℕ). HoldsState p e n' (on_store (compared a (take r.len g) x i) (state_at p e n))) (sym (second_is i1 i2 i z l)) d)
+      -- with the input of the index lent
+      pub input-done : u ≡ false → i < limit.inputs → {x : List ℕ} → x ≡ input_at i1 i2 i → {σ' : State} → HoldsState σ' (on_store (compared a (take n g) x i) σ)
+          → does 0 σ'
+      input-done v l {x} p {σ'} d =
+          met v (subst (λ (z : List ℕ). HoldsState σ' (on_store (compared a (take n g) z i) σ)) (input-is i1 i2 i l p) d)

@@ -1,6 +1,6 @@
 -- What RW of an input asks, and what it makes of a store.
 use Rattle.std.specs.Prelude.{◌≡◌, Bool, true, false, cond, List, ℕ, ◌≤◌, eqb, length, take, drop}
-use Rattle.language.specs.Values.{Store, kind}
+use Rattle.language.specs.Values.{Store, State, kind}
 use Rattle.machine.specs.Arguments.{single, taken}
 use Rattle.machine.specs.Changes.{minus_unless}
 use Rattle.layout.specs.Bounds.{WholeComponents}
@@ -26,13 +26,12 @@ NotWord g a r = (c : List ℕ) → r ≡ cond (single (arg_of c a)) (cond (eqb (
 unfoldable pub compared : Argument → List ℕ → List ℕ → ℕ → Store → Store
 compared a g input i s = minus_unless (taken (until_chars (test_of a) (first_chars (components_in g))) (take 1 (drop (read_place s i) input))).1 s
 
-pub record InputComparable (p e n input : List ℕ) (hold : ℕ) (g : List ℕ) (i : ℕ) : Type 0 where
-  pub unread : Unread p e n input i
+pub record InputComparable (σ : State) (input g : List ℕ) (i : ℕ) : Type 0 where
+  pub unread : Unread σ input i
   pub whole : WholeComponents g
-  pub room : length g ≤ hold
+  pub room : length g ≤ 32768
 
 -- RW of input i of a and b
-pub record InputRelatable (c p e n a b : List ℕ) (hold given i : ℕ) (arg : Argument) : Type 0 where
-  pub unread : Unread p e n (input_of a b i) i
-  pub room : 32768 ≤ hold
-  pub other : Holdable c p e n given arg
+pub record InputRelatable (c : List ℕ) (σ : State) (a b : List ℕ) (i : ℕ) (arg : Argument) : Type 0 where
+  pub unread : Unread σ (input_of a b i) i
+  pub other : Holdable c arg

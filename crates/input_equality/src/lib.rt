@@ -1,18 +1,20 @@
 // RW of an input: its next character, compared as a word.
 #![tactic(auto)]
 
-ghost use Rattle.std.specs.Prelude.{[], ◌∷◌, length};
+ghost use Rattle.std.specs.Prelude.{[], ◌∷◌};
 ghost use Rattle.language.specs.Letters.Letter.{I};
 ghost use Rattle.language.specs.Program.Arg.{nothing};
 ghost use Rattle.language.specs.Program.Op.{RW};
 ghost use Rattle.machine.specs.Effects.{row};
 ghost use Rattle.packed.specs.Packed.{table_of};
-ghost use Rattle.state.specs.Working.{state_at, HoldsState, on_store, nth};
+ghost use Rattle.state.specs.Working.{HoldsState, on_store, nth};
 ghost use Rattle.table.specs.Denote.{arg_of};
+ghost use Rattle.instructions.specs.Questions.{told_by};
 ghost use Rattle.readings.specs.Readings.{DoesPassing};
 ghost use Rattle.input_equality.specs.InputEquality.{Spellable, NotWord, compared, InputComparable, InputRelatable};
 
-use readings::from_joining;
+use instructions::{Bench, Question, Task};
+use state::Working;
 
 // Whether an argument offers a single component that is not a word.
 fn not_word(given: &[u8], arg: table::Argument) -> bool
@@ -22,59 +24,50 @@ fn not_word(given: &[u8], arg: table::Argument) -> bool
     if !equality::is_single(arg) {
         return false;
     }
+    // 0 is the kind of words, a number here as in `components`.
     components::kind_of(given) != 0
 }
 
 // Compares the next character of input `i`; of the words beside only the first characters count. Nothing is read.
 fn compare(
-    input: &[u8],
-    pool: &[u8],
-    ends: &[u32],
-    nums: &mut [u32],
-    hold: &mut [u8],
+    state: &mut Working,
+    hold: &mut [u8; 32768],
     given: &[u8],
+    input: &[u8],
     i: usize,
     arg: table::Argument,
 )
-    requires { InputComparable pool.now ends.now nums.old input.now (length hold.old) given.now i }
-    ensures { HoldsState pool.now ends.now nums.new (on_store (compared arg given.now input.now i) (state_at pool.now ends.now nums.old)) }
+    requires { InputComparable state.old input.now given.now i }
+    ensures { HoldsState state.new (on_store (compared arg given.now input.now i) state.old) }
 {
-    let from = state::place(pool, ends, nums, i);
-    let rest = &input[from..];
-    let n = from_joining::some(rest.len());
-    let t = readings::take_chars(&rest[..n], equality::test_of(arg), given, hold);
-    state::minus_unless(pool, ends, nums, t.reached);
+    let rest = readings::unread(state, i, input);
+    let n = rest.len().min(1);
+    let t = readings::take_chars(hold, &rest[..n], equality::test_of(arg), given);
+    state.minus_unless(t.reached);
 }
 
-// RW of input `i`: 0, or the question answered no.
+// RW of input `i`.
 pub fn rw_input(
-    table: &[u32],
-    i1: &[u8],
-    i2: &[u8],
-    pool: &[u8],
-    ends: &[u32],
-    nums: &mut [u32],
-    hold: &mut [u8],
-    given: &mut [u8],
+    task: Task,
+    bench: &mut Bench,
     i: usize,
     arg: table::Argument,
-) -> u8
-    requires { InputRelatable table.now pool.now ends.now nums.old i1.now i2.now (length hold.old) (length given.old) i arg }
-    ensures { DoesPassing pool.now ends.now nums.old result pool.now ends.now nums.new (λ g. row g (i1.now ∷ i2.now ∷ []) (state_at pool.now ends.now nums.old).store (nth I i) (arg_of (table_of table.now) arg) nothing RW) }
+) -> Result<(), Question>
+    requires { InputRelatable task.table.now bench.old.state task.first.now task.second.now i arg }
+    ensures { DoesPassing bench.old.state (told_by result) bench.new.state (λ g. row g (task.entry.first.now ∷ task.entry.second.now ∷ []) bench.old.state.store (nth I i) (arg_of (table_of task.entry.table.now) arg) nothing RW) }
 {
-    let q = comparands::put_comparand(table, pool, ends, nums, given, arg);
-    let stop = q.stop;
-    let len = q.len;
-    if stop != 0 {
-        return stop;
+    bench.state.stands();
+    let len = comparands::put_comparand(task.table, &bench.state, &mut bench.given, arg)?;
+    if not_word(&bench.given[..len], arg) {
+        return Err(Question::Kind);
     }
-    if not_word(&given[..len], arg) {
-        return 53;
-    }
-    if i == 0 {
-        compare(i1, pool, ends, nums, hold, &given[..len], i, arg);
-        return 0;
-    }
-    compare(i2, pool, ends, nums, hold, &given[..len], i, arg);
-    0
+    compare(
+        &mut bench.state,
+        &mut bench.hold,
+        &bench.given[..len],
+        task.input(i),
+        i,
+        arg,
+    );
+    Ok(())
 }

@@ -17,7 +17,7 @@ use Rattle.state.specs.Below.Effects.{Row}
 use Rattle.state.specs.Below.Effects.Go.{on}
 use Rattle.state.specs.Below.Steps.{made, numbers, refusals}
 use Rattle.state.specs.Below.LayoutBounds.{Each}
-use Rattle.state.specs.Working.{state_at, HoldsState, Stands, on_store}
+use Rattle.state.specs.Working.{HoldsState, Stands, on_store}
 use Rattle.state.proofs.Standing.{after-state, on-store-twice}
 use Rattle.state.proofs.Fits.{fine-limited, fits-limited}
 use Rattle.instructions.specs.Does.{answered, asked_of, answer_of, with_store, kept_of, done_of, Does, Goes, Quiet, stop_of, Tried}
@@ -87,18 +87,18 @@ module _ (r : Row) (s : State) where
 
 -- ---- an instruction stops, and the memory is as it was; or all is answered yes, and it holds what the row makes
 
-module _ {p e n : List ℕ} (h : Stands p e n) (r : Row) where
-  pub does-stop : {k : ℕ} → answer_of r (state_at p e n) ≡ k → (k ≡ 0 → ⊥) → Does p e n k p e n r
-  does-stop q z = record { is = sym q; holds = rw (kept-stop r (state_at p e n) q z) h }
+module _ {σ : State} (h : Stands σ) (r : Row) where
+  pub does-stop : {k : ℕ} → answer_of r σ ≡ k → (k ≡ 0 → ⊥) → Does σ k σ r
+  does-stop q z = record { is = sym q; holds = rw (kept-stop r σ q z) h }
 
-  pub does-done : {p' e' n' : List ℕ} → answer_of r (state_at p e n) ≡ 0 → HoldsState p' e' n' (with_store r.1 (state_at p e n)) → Does p e n 0 p' e' n' r
-  does-done q k = record { is = sym q; holds = rw (kept-done r (state_at p e n) q) k }
+  pub does-done : {σ' : State} → answer_of r σ ≡ 0 → HoldsState σ' (with_store r.1 σ) → Does σ 0 σ' r
+  does-done q k = record { is = sym q; holds = rw (kept-done r σ q) k }
 
-  pub goes-stop : {k : ℕ} → answer_of r (state_at p e n) ≡ k → (k ≡ 0 → ⊥) → Goes p e n k p e n r
-  goes-stop q z = record { is = sym q; holds = rw (done-stop r (state_at p e n) q z) h }
+  pub goes-stop : {k : ℕ} → answer_of r σ ≡ k → (k ≡ 0 → ⊥) → Goes σ k σ r
+  goes-stop q z = record { is = sym q; holds = rw (done-stop r σ q z) h }
 
-  pub goes-done : {p' e' n' : List ℕ} → answer_of r (state_at p e n) ≡ 0 → HoldsState p' e' n' (made r (state_at p e n)) → Goes p e n 0 p' e' n' r
-  goes-done q k = record { is = sym q; holds = rw (done-done r (state_at p e n) q) k }
+  pub goes-done : {σ' : State} → answer_of r σ ≡ 0 → HoldsState σ' (made r σ) → Goes σ 0 σ' r
+  goes-done q k = record { is = sym q; holds = rw (done-done r σ q) k }
 
 -- ---- rows that ask 52, 53 and 54 alone
 
@@ -153,22 +153,22 @@ closed_on true false c f l z = absurd (omega (arith, z))
 closed_on true true false f l z = absurd (omega (arith, z))
 closed_on true true true f l z = refl
 
-module _ {p e n : List ℕ} (h : Stands p e n) (q : Asks) (t : Store) (k : Quiet q) where
+module _ {σ : State} (h : Stands σ) (q : Asks) (t : Store) (k : Quiet q) where
   -- 52, 53 or 54 is answered no, whatever the row would make
-  pub quiet-stop : {x : ℕ} → x ≡ stop_of q → (x ≡ 0 → ⊥) → Does p e n x p e n (q, t, on)
+  pub quiet-stop : {x : ℕ} → x ≡ stop_of q → (x ≡ 0 → ⊥) → Does σ x σ (q, t, on)
   quiet-stop w z =
       does-stop h (q, t, on)
-      (answer-quiet q t (state_at p e n) k h.fine.stack_most
+      (answer-quiet q t σ k h.fine.stack_most
       ∙ closed-stop (q 52) (q 53) (q 54) (fits t) (leb t.last limit.addresses) (λ y. z (w ∙ y)) ∙ sym w) z
 
   -- they are answered yes; all are
-  pub answer-on : stop_of q ≡ 0 → answer_of (q, t, on) (state_at p e n) ≡ cond (fits t) (cond (leb t.last limit.addresses) 0 60) 59
-  answer-on w = answer-quiet q t (state_at p e n) k h.fine.stack_most ∙ closed_on (q 52) (q 53) (q 54) (fits t) (leb t.last limit.addresses) w
+  pub answer-on : stop_of q ≡ 0 → answer_of (q, t, on) σ ≡ cond (fits t) (cond (leb t.last limit.addresses) 0 60) 59
+  answer-on w = answer-quiet q t σ k h.fine.stack_most ∙ closed_on (q 52) (q 53) (q 54) (fits t) (leb t.last limit.addresses) w
 
-  pub quiet-done : {p' e' n' : List ℕ} → stop_of q ≡ 0 → HoldsState p' e' n' (with_store t (state_at p e n)) → Does p e n 0 p' e' n' (q, t, on)
+  pub quiet-done : {σ' : State} → stop_of q ≡ 0 → HoldsState σ' (with_store t σ) → Does σ 0 σ' (q, t, on)
   quiet-done w g =
       does-done h (q, t, on)
-      (answer-on w ∙ rw (fits-limited (fine-limited (with_store t (state_at p e n)) g.fine), le-leb t.last limit.addresses g.fine.last_most) refl) g
+      (answer-on w ∙ rw (fits-limited (fine-limited (with_store t σ) g.fine), le-leb t.last limit.addresses g.fine.last_most) refl) g
 
 -- ---- 53 by what is taken, and 59
 
@@ -181,32 +181,32 @@ none-stopped true true true z = (refl, refl, refl)
 pub unstopped : (q : Asks) → stop_of q ≡ 0 → (q 52 ≡ true) × (q 53 ≡ true) × (q 54 ≡ true)
 unstopped q z = none-stopped (q 52) (q 53) (q 54) z
 
-module _ {p e n : List ℕ} (h : Stands p e n) (t : Store) where
-  pub tried-wrong : {right : Bool} → right ≡ false → Tried p e n 53 p e n right t
+module _ {σ : State} (h : Stands σ) (t : Store) where
+  pub tried-wrong : {right : Bool} → right ≡ false → Tried σ 53 σ right t
   tried-wrong r = record { is = rw r refl; holds = rw r h }
 
-  pub tried-full : {right : Bool} → right ≡ true → fits t ≡ false → Tried p e n 59 p e n right t
+  pub tried-full : {right : Bool} → right ≡ true → fits t ≡ false → Tried σ 59 σ right t
   tried-full r f = record { is = rw (r, f) refl; holds = rw (r, f) h }
 
-  pub tried-done : {right : Bool} {p' e' n' : List ℕ} → right ≡ true → HoldsState p' e' n' (with_store t (state_at p e n)) → Tried p e n 0 p' e' n' right t
-  tried-done r g = let f : fits t ≡ true = fits-limited (fine-limited (with_store t (state_at p e n)) g.fine) in record { is = rw (r, f) refl; holds = rw (r, f) g }
+  pub tried-done : {right : Bool} {σ' : State} → right ≡ true → HoldsState σ' (with_store t σ) → Tried σ 0 σ' right t
+  tried-done r g = let f : fits t ≡ true = fits-limited (fine-limited (with_store t σ) g.fine) in record { is = rw (r, f) refl; holds = rw (r, f) g }
 
-  pub quiet-tried : (q : Asks) → Quiet q → {x : ℕ} {right : Bool} {p' e' n' : List ℕ} → q 52 ≡ true → q 53 ≡ right → q 54 ≡ true
-      → Tried p e n x p' e' n' right t → Does p e n x p' e' n' (q, t, on)
-  quiet-tried q k {x} {right} {p'} {e'} {n'} a b c w =
-      go right (fits t) (answer-quiet q t (state_at p e n) k h.fine.stack_most ∙ rw (a, b, c) refl) w.is w.holds
+  pub quiet-tried : (q : Asks) → Quiet q → {x : ℕ} {right : Bool} {σ' : State} → q 52 ≡ true → q 53 ≡ right → q 54 ≡ true
+      → Tried σ x σ' right t → Does σ x σ' (q, t, on)
+  quiet-tried q k {x} {right} {σ'} a b c w =
+      go right (fits t) (answer-quiet q t σ k h.fine.stack_most ∙ rw (a, b, c) refl) w.is w.holds
     where
-      go : (r f : Bool) → answer_of (q, t, on) (state_at p e n) ≡ cond r (cond f (cond (leb t.last limit.addresses) 0 60) 59) 53 → x ≡ cond r (cond f 0 59) 53
-          → HoldsState p' e' n' (cond r (cond f (with_store t (state_at p e n)) (state_at p e n)) (state_at p e n)) → Does p e n x p' e' n' (q, t, on)
+      go : (r f : Bool) → answer_of (q, t, on) σ ≡ cond r (cond f (cond (leb t.last limit.addresses) 0 60) 59) 53 → x ≡ cond r (cond f 0 59) 53
+          → HoldsState σ' (cond r (cond f (with_store t σ) σ) σ) → Does σ x σ' (q, t, on)
       go true true z i g =
-          let y : answer_of (q, t, on) (state_at p e n) ≡ 0 = z ∙ rw (le-leb t.last limit.addresses g.fine.last_most) refl in
-          record { is = i ∙ sym y; holds = rw (kept-done (q, t, on) (state_at p e n) y) g }
-      go true false z i g = record { is = i ∙ sym z; holds = rw (kept-stop (q, t, on) (state_at p e n) z (λ y. omega (arith, y))) g }
-      go false f z i g = record { is = i ∙ sym z; holds = rw (kept-stop (q, t, on) (state_at p e n) z (λ y. omega (arith, y))) g }
+          let y : answer_of (q, t, on) σ ≡ 0 = z ∙ rw (le-leb t.last limit.addresses g.fine.last_most) refl in
+          record { is = i ∙ sym y; holds = rw (kept-done (q, t, on) σ y) g }
+      go true false z i g = record { is = i ∙ sym z; holds = rw (kept-stop (q, t, on) σ z (λ y. omega (arith, y))) g }
+      go false f z i g = record { is = i ∙ sym z; holds = rw (kept-stop (q, t, on) σ z (λ y. omega (arith, y))) g }
 
 -- ---- two changes, one after the other
 
-pub one-after : {p' e' n' p'' e'' n'' : List ℕ} (s : State) (f g : Store → Store) → HoldsState p' e' n' (on_store f s)
-    → HoldsState p'' e'' n'' (on_store g (state_at p' e' n')) → HoldsState p'' e'' n'' (on_store (λ t. g (f t)) s)
-one-after {p'' = p''} {e'' = e''} {n'' = n''} s f g h k =
-    subst (λ (t : State). HoldsState p'' e'' n'' t) (on-store-twice f g s) (after-state h (on_store g) k)
+pub one-after : {σ' σ'' : State} (s : State) (f g : Store → Store) → HoldsState σ' (on_store f s)
+    → HoldsState σ'' (on_store g (σ')) → HoldsState σ'' (on_store (λ t. g (f t)) s)
+one-after {σ'' = σ''} s f g h k =
+    subst (λ (t : State). HoldsState σ'' t) (on-store-twice f g s) (after-state h (on_store g) k)

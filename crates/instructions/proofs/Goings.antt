@@ -15,7 +15,7 @@ use Rattle.state.specs.Below.Changes.{fits}
 use Rattle.state.specs.Below.Effects.{Go, Row}
 use Rattle.state.specs.Below.Steps.{made, can_go, Question, numbers, refusals}
 use Rattle.state.specs.Below.LayoutBounds.{Each, Fine}
-use Rattle.state.specs.Working.{state_at, HoldsState, Stands}
+use Rattle.state.specs.Working.{HoldsState, Stands}
 use Rattle.state.proofs.Fits.{fine-limited, fits-limited}
 use Rattle.instructions.specs.Does.{asked_of, answer_of, Goes, stop_of}
 use Rattle.instructions.proofs.Answers.{answer-no, goes-stop, goes-done, stop_by, unstopped}
@@ -62,13 +62,13 @@ module _ (r : Row) (s : State) (y : Yes r.0) (c : can_go r.2 s.stack ≡ true) w
   answer-full l =
       ap (λ (k : List Question). head_or 0 (refusals k)) (asked-none r.0 r.1 r.2 s y) ∙ rw (c, l, no-right (fits r.1)) refl
 
-module _ {p e n : List ℕ} (h : Stands p e n) (r : Row) (y : Yes r.0) (c : can_go r.2 (state_at p e n).stack ≡ true) where
+module _ {σ : State} (h : Stands σ) (r : Row) (y : Yes r.0) (c : can_go r.2 σ.stack ≡ true) where
   -- the memory holds what it makes; the return stack is full
-  pub goes-made : {p' e' n' : List ℕ} → HoldsState p' e' n' (made r (state_at p e n)) → Goes p e n 0 p' e' n' r
-  goes-made k = goes-done h r (answer-made r (state_at p e n) y c k.fine) k
+  pub goes-made : {σ' : State} → HoldsState σ' (made r σ) → Goes σ 0 σ' r
+  goes-made k = goes-done h r (answer-made r σ y c k.fine) k
 
-  pub goes-full : leb (length (made r (state_at p e n)).stack) limit.stack ≡ false → Goes p e n 59 p e n r
-  goes-full l = goes-stop h r (answer-full r (state_at p e n) y c l) (λ z. omega (arith, z))
+  pub goes-full : leb (length (made r σ).stack) limit.stack ≡ false → Goes σ 59 σ r
+  goes-full l = goes-stop h r (answer-full r σ y c l) (λ z. omega (arith, z))
 
 -- ---- the first no among 52, 53 and 54; among those and 56
 
@@ -93,11 +93,11 @@ module _ (r : Row) (s : State) (y : r.0 50 ≡ true) where
 
 -- ---- and does what that one does
 
-pub goes-yes : {p e n p' e' n' : List ℕ} {x : ℕ} (q : Asks) (t : Store) (g : Go) → Yes q → Goes p e n x p' e' n' (none, t, g) → Goes p e n x p' e' n' (q, t, g)
-goes-yes {p} {e} {n} {p'} {e'} {n'} {x} q t g y h =
-    let s = state_at p e n in
+pub goes-yes : {σ σ' : State} {x : ℕ} (q : Asks) (t : Store) (g : Go) → Yes q → Goes σ x σ' (none, t, g) → Goes σ x σ' (q, t, g)
+goes-yes {σ} {σ'} {x} q t g y h =
+    let s = σ in
     let a = asked-none q t g s y in
     record {
       is = subst (λ (k : List Question). x ≡ head_or 0 (refusals k)) (sym a) h.is;
-      holds = subst (λ (k : List Question). HoldsState p' e' n' (if_any (made (none, t, g) s) (λ m. s) (refusals k))) (sym a) h.holds;
+      holds = subst (λ (k : List Question). HoldsState σ' (if_any (made (none, t, g) s) (λ m. s) (refusals k))) (sym a) h.holds;
     }

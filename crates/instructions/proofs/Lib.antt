@@ -1,4 +1,5 @@
 pub mod Answers
+pub mod Asking
 pub mod Room
 pub mod Storing
 pub mod Written

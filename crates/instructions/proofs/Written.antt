@@ -2,19 +2,19 @@
 use mathlib.Core.Path.{◌≡◌, refl, ◌∙◌, subst}
 use mathlib.Core.Bool.{Bool, true, false, cond, ◌&&◌}
 use mathlib.Core.List.{List, [], ◌∷◌}
-use Prim.Native.Nat.{ℕ, ◌+◌, ◌≤◌, ◌<◌}
+use Prim.Native.Nat.{ℕ, ◌+◌, ◌<◌}
 use lib.Dec.{leb}
 use lib.ListN.{length}
 use borrow.Author.Tests.{leb-true}
 use Rattle.state.specs.Below.Limits as limit
-use Rattle.state.specs.Below.LanguageValues.{Component, Store}
+use Rattle.state.specs.Below.LanguageValues.{Component, Store, State}
 use Rattle.state.specs.Below.Changes.{put_expr, placed, into, fits}
 use Rattle.state.specs.Below.LayoutBounds.{Encoded}
 use Rattle.state.proofs.Below.ComponentLaws.{components-of, whole-components}
 use Rattle.state.specs.Below.Components.{components_in}
 use Rattle.state.specs.Below.LayoutMemory.{components_held, chars_held}
 use Rattle.state.specs.Blocks.{PartsWritable}
-use Rattle.state.specs.Working.{state_at, Stands, nth, writing, turned, char_count}
+use Rattle.state.specs.Working.{Stands, nth, writing, turned, char_count}
 use Rattle.state.proofs.Fits.{fine-limited, fits-into-ok}
 use Rattle.instructions.specs.Operands.{target}
 
@@ -38,10 +38,10 @@ pub into_one : (reverses at_end : Bool) (j : ℕ) (x : Component) (s : Store)
 into_one true at_end j x s = into-target true at_end j (x ∷ []) s
 into_one false at_end j x s = into-target false at_end j (x ∷ []) s
 
-module _ {p e n : List ℕ} (h : Stands p e n) {new : List ℕ} {xs : List Component} (c : Encoded new xs) {j : ℕ} (d : j < limit.expressions) {k m : ℕ}
+module _ {σ : State} (h : Stands σ) {new : List ℕ} {xs : List Component} (c : Encoded new xs) {j : ℕ} (d : j < limit.expressions) {k m : ℕ}
     (q : k ≡ length xs) (r : m ≡ char_count xs) where
   abbrev s : Store
-  s = (state_at p e n).store
+  s = σ.store
 
   abbrev roomy : Bool
   roomy = leb (components_held s + k) limit.components && leb (chars_held s + m) limit.characters
@@ -49,15 +49,13 @@ module _ {p e n : List ℕ} (h : Stands p e n) {new : List ℕ} {xs : List Compo
   -- they have room where the totals have
   pub fits-written : (at_end : Bool) → fits (into (nth (writing at_end) j) xs s) ≡ roomy
   fits-written at_end =
-      fits-into-ok (nth (writing at_end) j) s (rw h.fine.exprs_is d) xs (fine-limited (state_at p e n) h.fine) c.all_ok ∙ rw (← q, ← r) refl
+      fits-into-ok (nth (writing at_end) j) s (rw h.fine.exprs_is d) xs (fine-limited σ h.fine) c.all_ok ∙ rw (← q, ← r) refl
 
-  pub writable : {scratch : ℕ} → 65536 ≤ scratch → roomy ≡ true → PartsWritable p e n scratch j new k m
-  writable sp y =
+  pub writable : roomy ≡ true → PartsWritable σ j new k m
+  writable y =
       let w = both (leb (components_held s + k) limit.components) (leb (chars_held s + m) limit.characters) y in
       let i : components_in new ≡ xs = components-of c in
       record {
-        stands = h;
-        spare = sp;
         index = d;
         whole = whole-components c;
         count = rw i q;

@@ -7,7 +7,7 @@ use Rattle.state.specs.Below.MachineArguments.{Asks}
 use Rattle.state.specs.Below.Changes.{fits}
 use Rattle.state.specs.Below.Effects.{Row}
 use Rattle.state.specs.Below.Steps.{made, Question, numbers, asks_after, refusals}
-use Rattle.state.specs.Working.{state_at, HoldsState, Stands}
+use Rattle.state.specs.Working.{HoldsState}
 
 -- the questions that a row asks on a state
 abbrev pub answered : Row → State → ℕ → Bool
@@ -32,22 +32,14 @@ abbrev pub done_of : Row → State → State
 done_of r s = if_any (made r s) (λ n. s) (refusals (asked_of r s))
 
 -- an instruction that goes on to the following one leaves next to its caller
-pub record Does (p e n : List ℕ) (told : ℕ) (p' e' n' : List ℕ) (r : Row) : Type 0 where
-  pub is : told ≡ answer_of r (state_at p e n)
-  pub holds : HoldsState p' e' n' (kept_of r (state_at p e n))
+pub record Does (σ : State) (told : ℕ) (σ' : State) (r : Row) : Type 0 where
+  pub is : told ≡ answer_of r σ
+  pub holds : HoldsState σ' (kept_of r σ)
 
 -- a jump, call or return
-pub record Goes (p e n : List ℕ) (told : ℕ) (p' e' n' : List ℕ) (r : Row) : Type 0 where
-  pub is : told ≡ answer_of r (state_at p e n)
-  pub holds : HoldsState p' e' n' (done_of r (state_at p e n))
-
--- what every instruction asks of the working memory and the buffers beside it: scratch for laying out anew, hold for a sequence on its way,
--- given for a test's values
-pub record Ready (p e n : List ℕ) (scratch hold given : ℕ) : Type 0 where
-  pub stands : Stands p e n
-  pub spare : 65536 ≤ scratch
-  pub room : 32768 ≤ hold
-  pub values : 32768 ≤ given
+pub record Goes (σ : State) (told : ℕ) (σ' : State) (r : Row) : Type 0 where
+  pub is : told ≡ answer_of r σ
+  pub holds : HoldsState σ' (done_of r σ)
 
 -- ---- rows that ask 52, 53 and 54 alone, beside what every instruction asks
 
@@ -65,26 +57,25 @@ abbrev pub stop_of : Asks → ℕ
 stop_of q = cond (q 52) (cond (q 53) (cond (q 54) 0 54) 53) 52
 
 -- an instruction whose questions up to 54 are answered, 53 by `right`: 53, 59, or 0 and the store t
-pub record Tried (p e n : List ℕ) (told : ℕ) (p' e' n' : List ℕ) (right : Bool) (t : Store) : Type 0 where
+pub record Tried (σ : State) (told : ℕ) (σ' : State) (right : Bool) (t : Store) : Type 0 where
   pub is : told ≡ cond right (cond (fits t) 0 59) 53
-  pub holds : HoldsState p' e' n' (cond right (cond (fits t) (with_store t (state_at p e n)) (state_at p e n)) (state_at p e n))
+  pub holds : HoldsState σ' (cond right (cond (fits t) (with_store t σ) σ) σ)
 
 -- for every program and inputs: most instructions read neither
-abbrev pub DoesFor : List ℕ → List ℕ → List ℕ → ℕ → List ℕ → List ℕ → List ℕ → (Program → Inputs → Row) → Type 0
-DoesFor p e n told p' e' n' r = (g : Program) (ins : Inputs) → Does p e n told p' e' n' (r g ins)
+abbrev pub DoesFor : State → ℕ → State → (Program → Inputs → Row) → Type 0
+DoesFor σ told σ' r = (g : Program) (ins : Inputs) → Does σ told σ' (r g ins)
 
-abbrev pub GoesFor : List ℕ → List ℕ → List ℕ → ℕ → List ℕ → List ℕ → List ℕ → (Program → Inputs → Row) → Type 0
-GoesFor p e n told p' e' n' r = (g : Program) (ins : Inputs) → Goes p e n told p' e' n' (r g ins)
+abbrev pub GoesFor : State → ℕ → State → (Program → Inputs → Row) → Type 0
+GoesFor σ told σ' r = (g : Program) (ins : Inputs) → Goes σ told σ' (r g ins)
 
 -- for every inputs: an instruction with a label or a switch reads its program
-abbrev pub DoesIn : List ℕ → List ℕ → List ℕ → ℕ → List ℕ → List ℕ → List ℕ → (Inputs → Row) → Type 0
-DoesIn p e n told p' e' n' r = (ins : Inputs) → Does p e n told p' e' n' (r ins)
+abbrev pub DoesIn : State → ℕ → State → (Inputs → Row) → Type 0
+DoesIn σ told σ' r = (ins : Inputs) → Does σ told σ' (r ins)
 
-abbrev pub GoesIn : List ℕ → List ℕ → List ℕ → ℕ → List ℕ → List ℕ → List ℕ → (Inputs → Row) → Type 0
-GoesIn p e n told p' e' n' r = (ins : Inputs) → Goes p e n told p' e' n' (r ins)
+abbrev pub GoesIn : State → ℕ → State → (Inputs → Row) → Type 0
+GoesIn σ told σ' r = (ins : Inputs) → Goes σ told σ' (r ins)
 
 -- so many components and characters more are asked about
-pub record More (p e n : List ℕ) (parts chars : ℕ) : Type 0 where
-  pub stands : Stands p e n
+pub record More (parts chars : ℕ) : Type 0 where
   pub parts_most : parts ≤ 65536
   pub chars_most : chars ≤ 65536

@@ -1,3 +1,4 @@
+pub mod Questions
 pub mod Does
 pub mod Operands
 pub mod Below

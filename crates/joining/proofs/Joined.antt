@@ -7,7 +7,7 @@ use native.Mathlib.Omega.{arith}
 use lib.ListN.{length, take, length-take}
 use Rattle.language.specs.Limits as limit
 use Rattle.language.specs.Letters.Letter.{E}
-use Rattle.language.specs.Values.{Component, Store}
+use Rattle.language.specs.Values.{Component, Store, State}
 use Rattle.machine.specs.Arguments.{expr, Until}
 use Rattle.machine.specs.Changes.{minus_unless, into, past, fits}
 use Rattle.layout.specs.Bounds.{Encoded}
@@ -17,12 +17,11 @@ use Rattle.layout.specs.Memory.{components_held, chars_held}
 use Rattle.components.specs.Parts.{spelled, Written}
 use Rattle.matching.specs.Tests.{Took}
 use Rattle.matching.specs.declared.Taken.{Taken}
-use Rattle.state.specs.Working.{state_at, HoldsState, Stands, on_store, nth, reading, writing, char_count}
+use Rattle.state.specs.Working.{HoldsState, Stands, on_store, nth, reading, writing, char_count}
 use Rattle.state.specs.Blocks.{ExprLent, PartsWritable}
 use Rattle.state.specs.Limited.{Limited}
 use Rattle.state.proofs.Fits.{fine-limited, fits-minus_unless, fits-into}
 use Rattle.state.proofs.Freed.{limited-past, components-past, chars-past}
-use Rattle.state.proofs.Standing.{state_of, stands}
 use Rattle.moves.proofs.Taking.{took, taken-part, droppable}
 use Rattle.moves.proofs.WordsTaken.{part-is, chars-long}
 use Rattle.joining.specs.Joining.{word_if, some, word_room, joined_up, WordsMakeable}
@@ -33,10 +32,10 @@ some-least : (m : ℕ) (ys : List Component) → m ≡ char_count ys → some m 
 some-least m [] q = rw q (omega arith)
 some-least m (y ∷ ys) q = omega (arith, some-most m)
 
-module _ {p e n : List ℕ} {i : ℕ} {x : List ℕ} {u : Until Component} {t : Taken} (h : Stands p e n) (b : i < limit.expressions) (l : ExprLent p e n i x)
+module _ {σ : State} {i : ℕ} {x : List ℕ} {u : Until Component} {t : Taken} (h : Stands σ) (b : i < limit.expressions) (l : ExprLent σ i x)
     (k : Took u (components_in x) t) where
   abbrev s : Store
-  s = (state_at p e n).store
+  s = σ.store
 
   abbrev xs : List Component
   xs = expr s (nth E i)
@@ -69,7 +68,7 @@ module _ {p e n : List ℕ} {i : ℕ} {x : List ℕ} {u : Until Component} {t : 
     pub fits-joined : fits (joined_up u removes i s) ≡ word_room removes t.chars s
     unfolding joined_up
     fits-joined =
-        let m : Limited z = limited-past s (fine-limited (state_at p e n) h.fine) (nth (reading removes) i) t.parts in
+        let m : Limited z = limited-past s (fine-limited σ h.fine) (nth (reading removes) i) t.parts in
         let q : (i < length z.exprs) = rw m.exprs_is b in
         rw ((took h b l k).is, ← long)
         (fits-minus_unless t.reached (into (nth (writing false) i) (word_if w) z)
@@ -82,14 +81,8 @@ module _ {p e n : List ℕ} {i : ℕ} {x : List ℕ} {u : Until Component} {t : 
           room-have w t.parts (components_held s) (chars_held s) (components_held z) (chars_held z) h.fine.components_most h.fine.chars_most few removes parts-off chars-off
           (rw long r)
 
-      pub makeable : (spare hold : ℕ) → 65536 ≤ spare → 32768 ≤ hold → WordsMakeable spare hold (take t.bytes x)
-      makeable spare hold a c =
-          record {
-            whole = whole-components (taken-part h b l k);
-            beside = omega (arith, a);
-            room = omega (arith, c);
-            most = rw (part-is h b l k) have.0;
-          }
+      pub makeable : WordsMakeable (take t.bytes x)
+      makeable = record { whole = whole-components (taken-part h b l k); most = rw (part-is h b l k) have.0 }
 
       module _ {d d' : List ℕ} {m : ℕ} (v : Written d (components_bytes (word_if (spelled (components_in (take t.bytes x))))) d' m) where
         joined_word : Written d (components_bytes (word_if w)) d' m
@@ -101,23 +94,21 @@ module _ {p e n : List ℕ} {i : ℕ} {x : List ℕ} {u : Until Component} {t : 
         new_is : components_in (take m d') ≡ word_if w
         new_is = components-of encoded
 
-        pub writable : (scratch : ℕ) → 65536 ≤ scratch → {o : ℕ} → o ≡ some t.chars → {e' n' : List ℕ} → HoldsState p e' n' (on_store (past (nth (reading removes) i) t.parts) (state_at p e n))
-            → PartsWritable p e' n' scratch i (take m d') o t.chars
+        pub writable : {o : ℕ} → o ≡ some t.chars → {σ' : State} → HoldsState σ' (on_store (past (nth (reading removes) i) t.parts) σ)
+            → PartsWritable σ' i (take m d') o t.chars
         unfolding on_store
-        writable scratch sp o g =
+        writable o g =
             record {
-              stands = stands g;
-              spare = sp;
               index = b;
               whole = whole-components encoded;
               count = rw (new_is, o, ← long) (sym (word_count w));
               chars_is = rw (new_is, ← long) (sym (word-chars w));
-              components_room = rw (state_of g, o, ← long) have.1;
-              chars_room = rw (state_of g, ← long) have.2;
+              components_room = rw (g.is, o, ← long) have.1;
+              chars_room = rw (g.is, ← long) have.2;
             }
 
-        pub joined-done : {p' e' n' : List ℕ}
-            → HoldsState p' e' n' (on_store (λ y. minus_unless t.reached (into (nth (writing false) i) (components_in (take m d')) (past (nth (reading removes) i) t.parts y))) (state_at p e n))
-            → HoldsState p' e' n' (on_store (joined_up u removes i) (state_at p e n))
+        pub joined-done : {σ' : State}
+            → HoldsState σ' (on_store (λ y. minus_unless t.reached (into (nth (writing false) i) (components_in (take m d')) (past (nth (reading removes) i) t.parts y))) σ)
+            → HoldsState σ' (on_store (joined_up u removes i) σ)
         unfolding on_store joined_up
         joined-done g = rw ((took h b l k).is, ← new_is) g

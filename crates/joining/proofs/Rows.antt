@@ -4,20 +4,23 @@ use mathlib.Core.Bool.{Bool, true, false}
 use mathlib.Core.List.{List}
 use Prim.Native.Nat.{ℕ}
 use lib.ListN.{take}
+use Rattle.std.specs.Prelude.{Result, Ok, Err}
 use Rattle.language.specs.Program.{Arg, Program}
 use Rattle.language.specs.Program.Arg.{nothing}
 use Rattle.language.specs.Program.Op.{ZBIJ}
-use Rattle.language.specs.Values.{Component, Store, Inputs}
+use Rattle.language.specs.Values.{Component, Store, State, Inputs}
 use Rattle.machine.specs.Arguments.{ask, ◌&◌, Until, test_asks, on_parts}
 use Rattle.machine.specs.Changes.{put_expr, placed, into, front, past_by, past}
 use Rattle.machine.specs.Effects.{Row, moved, row}
 use Rattle.machine.specs.Effects.Go.{on}
 use Rattle.matching.specs.Tests.{until}
-use Rattle.state.specs.Working.{state_at, Stands, nth, reading}
+use Rattle.state.specs.Working.{Stands, nth, reading}
+use Rattle.instructions.specs.Questions.{question_number, told_by}
+use Rattle.instructions.specs.declared.Question.{Question}
 use Rattle.instructions.specs.Does.{DoesFor, Tried}
 use Rattle.tests.specs.Prepares.{Prepares}
 use Rattle.tests.specs.declared.Prepared.{Prepared}
-use Rattle.tests.proofs.Asked.{words-stop, words-tried}
+use Rattle.tests.proofs.Asked.{test-read, words-stop, words-tried}
 use Rattle.moves.specs.Moves.{all_taken_words}
 use Rattle.moves.proofs.WordsTaken.{none-words}
 use Rattle.joining.specs.Joining.{joined_up}
@@ -29,23 +32,23 @@ unfolding row moved joined_up all_taken_words past past_by front into placed put
 row-zbij g ins s i c true = refl
 row-zbij g ins s i c false = refl
 
-module _ {p e n : List ℕ} (h : Stands p e n) (removes : Bool) (i : ℕ) (c : Arg) {x : List ℕ} {r : Prepared} (w : Prepares (state_at p e n).store c x r) where
+module _ {σ : State} (h : Stands σ) (removes : Bool) (i : ℕ) (c : Arg) {g : List ℕ} {r : Result Prepared Question} (w : Prepares σ.store c g r) where
   abbrev s : Store
-  s = (state_at p e n).store
+  s = σ.store
 
   abbrev by : Program → Inputs → Row
-  by g ins = row g ins s (nth (reading removes) i) c nothing ZBIJ
+  by h ins = row h ins s (nth (reading removes) i) c nothing ZBIJ
 
-  pub zbij-stop : (r.stop ≡ 0 → ⊥) → DoesFor p e n r.stop p e n by
-  zbij-stop z g ins =
+  pub zbij-stop : {q : Question} → r ≡ Err q → DoesFor σ (question_number q) σ by
+  zbij-stop {q} e f ins =
       let u = on_parts ins s c in
-      rw (row-zbij g ins s i c removes)
+      rw (row-zbij f ins s i c removes)
       (words-stop h c w ins (joined_up u removes i s) (all_taken_words u i s)
-      (λ q. ap (λ (v : Until Component). all_taken_words v i s) (w.negative q ins) ∙ none-words i s) z)
+      (λ z. ap (λ (v : Until Component). all_taken_words v i s) (w.negative (ap told_by e ∙ z) ins) ∙ none-words i s) e)
 
-  pub zbij-tried : r.stop ≡ 0 → {k : ℕ} {p' e' n' : List ℕ}
-      → Tried p e n k p' e' n' (all_taken_words (until r.test (take r.len x)) i s) (joined_up (until r.test (take r.len x)) removes i s)
-      → DoesFor p e n k p' e' n' by
-  zbij-tried z k g ins =
-      let u = until r.test (take r.len x) in
-      rw (row-zbij g ins s i c removes, w.parts z ins) (words-tried h c w ins (joined_up u removes i s) (all_taken_words u i s) z k)
+  pub zbij-tried : {p : Prepared} → r ≡ Ok p → {k : ℕ} {σ' : State}
+      → Tried σ k σ' (all_taken_words (until p.test (take p.len g)) i s) (joined_up (until p.test (take p.len g)) removes i s)
+      → DoesFor σ k σ' by
+  zbij-tried {p} e k f ins =
+      let u = until p.test (take p.len g) in
+      rw (row-zbij f ins s i c removes, (test-read w e).parts ins) (words-tried h c w ins (joined_up u removes i s) (all_taken_words u i s) e k)

@@ -2,30 +2,24 @@
 use mathlib.Core.Path.{◌≡◌, refl, sym, ap, ◌∙◌}
 use mathlib.Core.Bool.{Bool, true, false, cond, ◌&&◌, ◌||◌}
 use mathlib.Core.List.{List, [], ◌∷◌}
-use Prim.Native.Nat.{ℕ, zero, suc, ◌+◌, ◌≤◌, ◌<◌}
+use Prim.Native.Nat.{ℕ, zero, suc, ◌+◌, ◌≤◌}
 use native.Mathlib.Omega.{arith}
 use lib.Dec.{leb}
-use lib.ListN.{length, take, length-take}
-use borrow.Author.Tests.{le-leb, lt-leb, leb-true}
+use lib.ListN.{length, take}
+use borrow.Author.Tests.{le-leb, leb-true}
 use Rattle.lists.specs.Lists.{all}
 use Rattle.language.specs.Limits as limit
-use Rattle.language.specs.Values.{Store}
 use Rattle.language.specs.Values.Component.{word}
 use Rattle.layout.specs.Bounds.{Each, Ok, Encoded}
 use Rattle.layout.proofs.ComponentLaws.{components_bytes-one}
 use Rattle.layout.specs.Components.{component_bytes, components_bytes}
-use Rattle.layout.specs.Memory.{components_held, chars_held}
 use Rattle.cells.specs.Cells.{pasted}
-use Rattle.cells.proofs.Laws.{pasted-front, pasted-none, length-pasted}
+use Rattle.cells.proofs.Laws.{pasted-front, pasted-none}
 use Rattle.components.specs.Parts.{Written}
 use Rattle.state.specs.Working.{char_count}
 use Rattle.state.specs.Limited.{short_word}
 use Rattle.instructions.proofs.Written.{both}
-use Rattle.joining.specs.Joining.{word_if, some, word_room}
-
-pub some_one : (k : ℕ) → (k ≡ 0 → ⊥) → some k ≡ 1
-some_one zero z = absurd (z refl)
-some_one (suc k) z = refl
+use Rattle.joining.specs.Joining.{word_if, some}
 
 pub some-most : (k : ℕ) → some k ≤ 1
 some-most zero = omega arith
@@ -64,12 +58,6 @@ module _ {d l d' : List ℕ} {m : ℕ} (h : Written d l d' m) where
   pub written_is : take m d' ≡ l
   written_is = rw h.is (pasted-front d l m (sym h.count))
 
-  pub written-fits : m ≤ length d'
-  written-fits = rw (h.is, length-pasted d 0 l (omega (arith, h.count, h.fits))) h.fits
-
-  pub written-size : m ≡ length (take m d')
-  written-size = simp length-take (omega (arith, written-fits))
-
 pub made-encoded : (w : List ℕ) {d d' : List ℕ} {m : ℕ} → Written d (components_bytes (word_if w)) d' m → length w ≤ limit.word → Encoded (take m d') (word_if w)
 made-encoded w h b = record { is = written_is h; all_ok = word_ok w b }
 
@@ -87,17 +75,6 @@ and-turned : (a b : Bool) → (a && b) ≡ (b && a)
 and-turned true b = sym (and-true b)
 and-turned false true = refl
 and-turned false false = refl
-
-module _ (removes : Bool) (k : ℕ) (s : Store) where
-  pub room-long : limit.word < k → false ≡ word_room removes k s
-  room-long h = rw (lt-leb k limit.word h) refl
-
-  pub room-removed : k ≤ limit.word → removes ≡ true → true ≡ word_room removes k s
-  room-removed h q = rw (le-leb k limit.word h, q) refl
-
-  pub room-asked : k ≤ limit.word → removes ≡ false → {m : ℕ} {r : Bool} → m ≡ some k
-      → r ≡ (leb (components_held s + m) limit.components && leb (chars_held s + k) limit.characters) → r ≡ word_room removes k s
-  room-asked h q e f = rw (le-leb k limit.word h, q, ← e) f
 
 module _ (w : List ℕ) (parts c k c' k' : ℕ) (a : c ≤ limit.components) (b : k ≤ limit.characters) (few : some (length w) ≤ parts) where
   pub room_of : (removes : Bool) → c' + cond removes parts 0 ≡ c → k' + cond removes (length w) 0 ≡ k

@@ -11,9 +11,7 @@ use Rattle.layout.specs.Bounds.{WholeComponents}
 use Rattle.layout.specs.Components.{components_in}
 use Rattle.layout.specs.Memory.{components_held, chars_held}
 use Rattle.components.specs.Parts.{spelled}
-use Rattle.matching.specs.Tests.{Fitting}
-use Rattle.matching.specs.declared.Test.{Test}
-use Rattle.state.specs.Working.{Stands, nth, reading, writing}
+use Rattle.state.specs.Working.{nth, reading, writing}
 use Rattle.table.specs.declared.Argument.{Argument}
 use Rattle.tests.specs.Prepares.{TestReadable}
 
@@ -40,28 +38,12 @@ joined_up u removes i s =
 
 -- ---- what is asked
 
--- among `long` cells there is room for a word of n characters
-pub record WordMakeable (long n : ℕ) : Type 0 where
-  pub room : 256 ≤ long
-  pub most : n ≤ limit.word
-
--- and for the characters of l among `spare` cells
-pub record WordsMakeable (spare long : ℕ) (l : List ℕ) : Type 0 where
+-- the words of l are one word
+pub record WordsMakeable (l : List ℕ) : Type 0 where
   pub whole : WholeComponents l
-  pub beside : 32768 ≤ spare
-  pub room : 256 ≤ long
   pub most : length (spelled (components_in l)) ≤ limit.word
 
-pub record Joinable (p e n : List ℕ) (scratch hold : ℕ) (given : List ℕ) (test : Test) (i : ℕ) : Type 0 where
-  pub stands : Stands p e n
-  pub spare : 65536 ≤ scratch
-  pub room : 32768 ≤ hold
-  pub fitting : Fitting test given
-  pub source : i < limit.expressions
-
 -- ZBIJ of expression i with the test of argument a
-pub record WordsJoinable (c p e n : List ℕ) (scratch hold given i : ℕ) (a : Argument) : Type 0 where
-  pub spare : 65536 ≤ scratch
-  pub room : 32768 ≤ hold
-  pub test : TestReadable c p e n given a
+pub record WordsJoinable (c : List ℕ) (i : ℕ) (a : Argument) : Type 0 where
+  pub test : TestReadable c a
   pub source : i < limit.expressions

@@ -1,28 +1,30 @@
--- What jumps and calls by a label ask. c is the table, k the label's place; p, e and n are pool, ends and scalars, scratch is how long the buffer
--- for laying the strings out anew is.
-use Rattle.std.specs.Prelude.{List, ℕ, suc, ◌≤◌, ◌<◌, length}
+-- What jumps and calls by a label ask and tell. c is the table, k the label's place.
+use Rattle.std.specs.Prelude.{◌≡◌, cond, List, ℕ, suc, ◌≤◌, ◌<◌, leb, length}
 use Rattle.language.specs.Limits as limit
 use Rattle.language.specs.Program.{label_at}
+use Rattle.language.specs.Values.{State}
 use Rattle.layout.specs.Table.{program_of}
-use Rattle.state.specs.Working.{state_at, Stands}
+use Rattle.machine.specs.Effects.{Go}
+use Rattle.machine.specs.Steps.{gone}
+use Rattle.state.specs.Working.{HoldsState}
+use Rattle.control.specs.Going.{going}
 use Rattle.table.specs.Good.{GoodLabel}
 
 -- a jump
-pub record Leads (c p e n : List ℕ) (k : ℕ) : Type 0 where
+pub record Leads (c : List ℕ) (k : ℕ) : Type 0 where
   pub long : limit.table ≤ length c
-  pub stands : Stands p e n
   pub label : GoodLabel c k
 
--- one that may go on with the following instruction instead
-pub record Turns (c p e n : List ℕ) (k : ℕ) : Type 0 where
-  pub leads : Leads c p e n k
-  pub following : suc (state_at p e n).next < limit.instructions
-
--- a call
-pub record Calls (c p e n : List ℕ) (scratch k : ℕ) : Type 0 where
-  pub turns : Turns c p e n k
-  pub spare : 65536 ≤ scratch
+-- one that may go on with the following instruction instead, and a call
+pub record Turns (c : List ℕ) (s : State) (k : ℕ) : Type 0 where
+  pub leads : Leads c k
+  pub following : suc s.next < limit.instructions
 
 -- the instruction that label k of the table stands at
 abbrev pub led_to : List ℕ → ℕ → ℕ
 led_to c k = (label_at (program_of c) k).target
+
+-- to go on as an instruction says: 59 where the return stack would be too long
+pub record Led (s : State) (g : Go) (told : ℕ) (s' : State) : Type 0 where
+  pub is : told ≡ cond (leb (length (gone g s.next s.stack).1) limit.stack) 0 59
+  pub holds : HoldsState s' (cond (leb (length (gone g s.next s.stack).1) limit.stack) (going g s) s)

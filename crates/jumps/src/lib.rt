@@ -1,154 +1,104 @@
-// Jumps and calls by a label, the return, and STOP. Each tells 0, or the question answered no.
+// Jumps and calls by a label, the return, and STOP.
 #![tactic(auto)]
 
-ghost use Rattle.std.specs.Prelude.{length};
+ghost use Rattle.std.specs.Prelude.{◌<◌, suc};
+ghost use Rattle.language.specs.Limits as limit;
 ghost use Rattle.language.specs.Program.Arg.{nothing, label as by-label};
-ghost use Rattle.language.specs.Program.Op.{SKOCZ, WYKONAJ, SKOMI, SKOPL, WYMI, WYPL, WROC, STOP};
+ghost use Rattle.language.specs.Program.Op.{SKOCZ, WYKONAJ, WROC, STOP};
 ghost use Rattle.layout.specs.Table.{program_of};
 ghost use Rattle.machine.specs.Effects.{row, jump_if};
 ghost use Rattle.machine.specs.Effects.Go.{jump, call};
-ghost use Rattle.state.specs.Working.{state_at, Stands};
+ghost use Rattle.instructions.specs.Questions.{told_by};
 ghost use Rattle.instructions.specs.Does.{GoesFor, GoesIn};
-ghost use Rattle.jumps.specs.Jumps.{Leads, Turns, Calls, led_to};
+ghost use Rattle.jumps.specs.Jumps.{Leads, Turns, Led, led_to};
 
+use instructions::Question;
 use language::Machine;
+use state::Working;
 
-// Goes to a label where `taken` says so and otherwise on, and leaves H plus.
-fn jump_when(
+// Calls instruction `t`, where the return stack has room.
+pub fn call(state: &mut Working, t: usize) -> Result<(), Question>
+    requires following { suc state.old.next < limit.instructions }
+    requires below { t < limit.instructions }
+    ensures { Led state.old (call t) (told_by result) state.new }
+{
+    if control::depth(state) == Machine::STACK {
+        return Err(Question::Room);
+    }
+    control::call_to(state, t);
+    Ok(())
+}
+
+// Goes to a label where `taken` says so and otherwise on, and leaves H plus. SKOMI and SKOPL are this by H.
+pub fn jump_when(
     table: &[u32],
-    pool: &[u8],
-    ends: &[u32],
-    nums: &mut [u32],
+    state: &mut Working,
     taken: bool,
     label: usize,
-) -> u8
-    requires { Turns table.now pool.now ends.now nums.old label }
-    ensures { GoesIn pool.now ends.now nums.old result pool.now ends.now nums.new (λ ins. jump_if (program_of table.now) ins (state_at pool.now ends.now nums.old).store taken (jump (led_to table.now label))) }
+) -> Result<(), Question>
+    requires { Turns table.now state.old label }
+    ensures { GoesIn state.old (told_by result) state.new (λ ins. jump_if (program_of table.now) ins state.old.store taken (jump (led_to table.now label))) }
 {
+    state.stands();
     if !taken {
-        control::go_on(pool, ends, nums);
-        state::set_plus(pool, ends, nums, true);
-        return 0;
+        control::go_on(state);
+        state.set_plus(true);
+        return Ok(());
     }
-    let t = table::target(table, label);
-    control::go_to(pool, ends, nums, t);
-    state::set_plus(pool, ends, nums, true);
-    0
+    control::go_to(state, table::target(table, label));
+    state.set_plus(true);
+    Ok(())
 }
 
-// Calls the instruction at a label where `taken` says so and otherwise goes on, and leaves H plus.
-fn call_when(
+// Calls the instruction at a label where `taken` says so and otherwise goes on, and leaves H plus. WYMI and WYPL are this by H.
+pub fn call_when(
     table: &[u32],
-    pool: &mut [u8],
-    ends: &mut [u32],
-    nums: &mut [u32],
-    scratch: &mut [u8],
+    state: &mut Working,
     taken: bool,
     label: usize,
-) -> u8
-    requires { Calls table.now pool.old ends.old nums.old (length scratch.old) label }
-    ensures { GoesIn pool.old ends.old nums.old result pool.new ends.new nums.new (λ ins. jump_if (program_of table.now) ins (state_at pool.old ends.old nums.old).store taken (call (led_to table.now label))) }
+) -> Result<(), Question>
+    requires { Turns table.now state.old label }
+    ensures { GoesIn state.old (told_by result) state.new (λ ins. jump_if (program_of table.now) ins state.old.store taken (call (led_to table.now label))) }
 {
+    state.stands();
     if !taken {
-        return jump_when(table, pool, ends, nums, taken, label);
+        return jump_when(table, state, taken, label);
     }
-    if control::depth(pool, ends, nums) == Machine::STACK {
-        return 59;
+    call(state, table::target(table, label))?;
+    state.set_plus(true);
+    Ok(())
+}
+
+pub fn skocz(table: &[u32], state: &mut Working, label: usize) -> Result<(), Question>
+    requires { Leads table.now label }
+    ensures { GoesIn state.old (told_by result) state.new (λ ins. row (program_of table.now) ins state.old.store (by-label label) nothing nothing SKOCZ) }
+{
+    state.stands();
+    control::go_to(state, table::target(table, label));
+    Ok(())
+}
+
+pub fn wykonaj(table: &[u32], state: &mut Working, label: usize) -> Result<(), Question>
+    requires { Turns table.now state.old label }
+    ensures { GoesIn state.old (told_by result) state.new (λ ins. row (program_of table.now) ins state.old.store (by-label label) nothing nothing WYKONAJ) }
+{
+    state.stands();
+    call(state, table::target(table, label))
+}
+
+pub fn wroc(state: &mut Working) -> Result<(), Question>
+    ensures { GoesFor state.old (told_by result) state.new (λ g ins. row g ins state.old.store nothing nothing nothing WROC) }
+{
+    if control::depth(state) == 0 {
+        return Err(Question::NoCall);
     }
-    let t = table::target(table, label);
-    control::call_to(pool, ends, nums, scratch, t);
-    state::set_plus(pool, ends, nums, true);
-    0
+    control::go_back(state);
+    Ok(())
 }
 
-pub fn skocz(table: &[u32], pool: &[u8], ends: &[u32], nums: &mut [u32], label: usize) -> u8
-    requires { Leads table.now pool.now ends.now nums.old label }
-    ensures { GoesIn pool.now ends.now nums.old result pool.now ends.now nums.new (λ ins. row (program_of table.now) ins (state_at pool.now ends.now nums.old).store (by-label label) nothing nothing SKOCZ) }
+pub fn stop(state: &Working) -> Result<(), Question>
+    ensures { GoesFor state.now (told_by result) state.now (λ g ins. row g ins state.now.store nothing nothing nothing STOP) }
 {
-    let t = table::target(table, label);
-    control::go_to(pool, ends, nums, t);
-    0
-}
-
-pub fn wykonaj(
-    table: &[u32],
-    pool: &mut [u8],
-    ends: &mut [u32],
-    nums: &mut [u32],
-    scratch: &mut [u8],
-    label: usize,
-) -> u8
-    requires { Calls table.now pool.old ends.old nums.old (length scratch.old) label }
-    ensures { GoesIn pool.old ends.old nums.old result pool.new ends.new nums.new (λ ins. row (program_of table.now) ins (state_at pool.old ends.old nums.old).store (by-label label) nothing nothing WYKONAJ) }
-{
-    if control::depth(pool, ends, nums) == Machine::STACK {
-        return 59;
-    }
-    let t = table::target(table, label);
-    control::call_to(pool, ends, nums, scratch, t);
-    0
-}
-
-pub fn skomi(table: &[u32], pool: &[u8], ends: &[u32], nums: &mut [u32], label: usize) -> u8
-    requires { Turns table.now pool.now ends.now nums.old label }
-    ensures { GoesIn pool.now ends.now nums.old result pool.now ends.now nums.new (λ ins. row (program_of table.now) ins (state_at pool.now ends.now nums.old).store (by-label label) nothing nothing SKOMI) }
-{
-    let plus = state::is_plus(pool, ends, nums);
-    jump_when(table, pool, ends, nums, !plus, label)
-}
-
-pub fn skopl(table: &[u32], pool: &[u8], ends: &[u32], nums: &mut [u32], label: usize) -> u8
-    requires { Turns table.now pool.now ends.now nums.old label }
-    ensures { GoesIn pool.now ends.now nums.old result pool.now ends.now nums.new (λ ins. row (program_of table.now) ins (state_at pool.now ends.now nums.old).store (by-label label) nothing nothing SKOPL) }
-{
-    let plus = state::is_plus(pool, ends, nums);
-    jump_when(table, pool, ends, nums, plus, label)
-}
-
-pub fn wymi(
-    table: &[u32],
-    pool: &mut [u8],
-    ends: &mut [u32],
-    nums: &mut [u32],
-    scratch: &mut [u8],
-    label: usize,
-) -> u8
-    requires { Calls table.now pool.old ends.old nums.old (length scratch.old) label }
-    ensures { GoesIn pool.old ends.old nums.old result pool.new ends.new nums.new (λ ins. row (program_of table.now) ins (state_at pool.old ends.old nums.old).store (by-label label) nothing nothing WYMI) }
-{
-    let plus = state::is_plus(pool, ends, nums);
-    call_when(table, pool, ends, nums, scratch, !plus, label)
-}
-
-pub fn wypl(
-    table: &[u32],
-    pool: &mut [u8],
-    ends: &mut [u32],
-    nums: &mut [u32],
-    scratch: &mut [u8],
-    label: usize,
-) -> u8
-    requires { Calls table.now pool.old ends.old nums.old (length scratch.old) label }
-    ensures { GoesIn pool.old ends.old nums.old result pool.new ends.new nums.new (λ ins. row (program_of table.now) ins (state_at pool.old ends.old nums.old).store (by-label label) nothing nothing WYPL) }
-{
-    let plus = state::is_plus(pool, ends, nums);
-    call_when(table, pool, ends, nums, scratch, plus, label)
-}
-
-pub fn wroc(pool: &[u8], ends: &mut [u32], nums: &mut [u32]) -> u8
-    requires { Stands pool.now ends.old nums.old }
-    ensures { GoesFor pool.now ends.old nums.old result pool.now ends.new nums.new (λ g ins. row g ins (state_at pool.now ends.old nums.old).store nothing nothing nothing WROC) }
-{
-    if control::depth(pool, ends, nums) == 0 {
-        return 57;
-    }
-    control::go_back(pool, ends, nums);
-    0
-}
-
-pub fn stop(pool: &[u8], ends: &[u32], nums: &[u32]) -> u8
-    requires { Stands pool.now ends.now nums.now }
-    ensures { GoesFor pool.now ends.now nums.now result pool.now ends.now nums.now (λ g ins. row g ins (state_at pool.now ends.now nums.now).store nothing nothing nothing STOP) }
-{
-    50
+    state.stands();
+    Err(Question::Ended)
 }

@@ -1,17 +1,18 @@
 -- What a test takes of an expression, in bytes: taken away, copied beside, turned round.
 use mathlib.Core.Path.{◌≡◌, refl, sym, ap, ◌∙◌, subst}
-use mathlib.Core.Bool.{Bool, true, false, ◌&&◌}
+use mathlib.Core.Bool.{Bool, true, false, cond, ◌&&◌, ◌||◌}
 use mathlib.Core.List.{List, [], ◌∷◌, reverse_aux}
 use Prim.Native.Nat.{ℕ, ◌+◌, ◌≤◌, ◌<◌}
 use native.Mathlib.Omega.{arith}
 use lib.Dec.{leb}
+use borrow.Author.Tests.{le-leb, leb-true}
 use lib.ListN.{length, take, length-append, length-take}
 use Rattle.lists.specs.Lists.{total}
 use Rattle.language.specs.Limits as limit
 use Rattle.language.specs.Letters.Letter.{E}
-use Rattle.language.specs.Values.{Component, Store, chars}
+use Rattle.language.specs.Values.{Component, Store, State, chars}
 use Rattle.machine.specs.Arguments.{expr, Until}
-use Rattle.machine.specs.Changes.{minus_unless, into, past_by, past, fits}
+use Rattle.machine.specs.Changes.{minus_unless, into, past, fits}
 use Rattle.layout.specs.Bounds.{Each, Ok, Encoded}
 use Rattle.layout.proofs.ComponentLaws.{component-some, components-of, whole-components}
 use Rattle.layout.specs.Components.{component_bytes, components_bytes, components_in}
@@ -22,15 +23,15 @@ use Rattle.components.specs.Parts.{CopyRoom}
 use Rattle.components.proofs.Walks.{cut}
 use Rattle.matching.specs.Tests.{Took}
 use Rattle.matching.specs.declared.Taken.{Taken}
-use Rattle.state.specs.Working.{state_at, HoldsState, Stands, on_store, nth, reading, writing, turned, char_count}
+use Rattle.state.specs.Working.{HoldsState, Stands, on_store, nth, reading, writing, turned, char_count}
 use Rattle.state.specs.Blocks.{ExprLent, PartsDroppable, PartsWritable}
-use Rattle.state.proofs.Sequences.{total-ones, turned-length, turned-total}
+use Rattle.state.proofs.Sequences.{turned-length, turned-total}
 use Rattle.state.proofs.Fits.{fine-limited, fits-minus_unless, fits-into-ok}
-use Rattle.state.proofs.Freed.{held-off}
-use Rattle.state.proofs.Standing.{state_of, stands}
+use Rattle.state.proofs.Freed.{limited-past, components-past, chars-past}
+use Rattle.state.specs.Limited.{Limited}
 use Rattle.instructions.specs.Does.{More}
-use Rattle.instructions.proofs.Written.{writable}
-use Rattle.moves.specs.Moves.{sent, cut_off}
+use Rattle.instructions.proofs.Written.{both}
+use Rattle.moves.specs.Moves.{room_beside, sent, cut_off}
 
 -- ---- turned round
 
@@ -64,15 +65,33 @@ held-turned d {d'} {y} {zs} b m e c q =
       all_ok = each-turned b zs c.all_ok;
     }
 
-pub held_fits : (d d' : List ℕ) (m : ℕ) → length d' ≡ length d → m ≤ 32768 → 32768 ≤ length d → m ≡ length (take m d')
-held_fits d d' m q a b = simp length-take (omega (arith, q))
+-- ---- room: c and k components and characters are held, of which so many may be taken away before
+
+module _ (parts chars c' k' : ℕ) {c k : ℕ} where
+  pub room-after : (removes : Bool) → c ≤ limit.components → k ≤ limit.characters → c' + cond removes parts 0 ≡ c → k' + cond removes chars 0 ≡ k
+      → (leb (c' + parts) limit.components && leb (k' + chars) limit.characters)
+      ≡ (removes || (leb (c + parts) limit.components && leb (k + chars) limit.characters))
+  room-after true a b x y =
+      rw (le-leb (c' + parts) limit.components (omega (arith, x, a)), le-leb (k' + chars) limit.characters (omega (arith, y, b))) refl
+  room-after false a b x y =
+      let p : c' ≡ c = omega (arith, x) in
+      let q : k' ≡ k = omega (arith, y) in
+      rw (p, q) refl
+
+  pub room-had : (removes : Bool) → c ≤ limit.components → k ≤ limit.characters → c' + cond removes parts 0 ≡ c → k' + cond removes chars 0 ≡ k
+      → (removes || (leb (c + parts) limit.components && leb (k + chars) limit.characters)) ≡ true
+      → (c' + parts ≤ limit.components) × (k' + chars ≤ limit.characters)
+  room-had true a b x y r = (omega (arith, x, a), omega (arith, y, b))
+  room-had false a b x y r =
+      let w = both (leb (c + parts) limit.components) (leb (k + chars) limit.characters) r in
+      (omega (arith, x, leb-true (c + parts) limit.components w.0), omega (arith, y, leb-true (k + chars) limit.characters w.1))
 
 -- ---- what is taken
 
-module _ {p e n : List ℕ} {i : ℕ} {x : List ℕ} {u : Until Component} {t : Taken} (h : Stands p e n) (b : i < limit.expressions) (l : ExprLent p e n i x)
+module _ {σ : State} {i : ℕ} {x : List ℕ} {u : Until Component} {t : Taken} (h : Stands σ) (b : i < limit.expressions) (l : ExprLent σ i x)
     (k : Took u (components_in x) t) where
   abbrev s : Store
-  s = (state_at p e n).store
+  s = σ.store
 
   abbrev xs : List Component
   xs = expr s (nth E i)
@@ -80,7 +99,7 @@ module _ {p e n : List ℕ} {i : ℕ} {x : List ℕ} {u : Until Component} {t : 
   pub took : Took u xs t
   took = subst (λ (ys : List Component). Took u ys t) l.is k
 
-  pub bytes_inside : t.bytes ≤ length x
+  bytes_inside : t.bytes ≤ length x
   bytes_inside = omega (arith, took.bytes_most, ap length l.encoded.is)
 
   pub taken-part : Encoded (take t.bytes x) (take t.parts xs)
@@ -89,102 +108,90 @@ module _ {p e n : List ℕ} {i : ℕ} {x : List ℕ} {u : Until Component} {t : 
   pub bytes-few : t.bytes ≤ 32768
   bytes-few = omega (arith, bytes_inside, l.most)
 
-  pub part-long : t.bytes ≡ length (take t.bytes x)
+  part-long : t.bytes ≡ length (take t.bytes x)
   part-long = simp length-take (omega (arith, bytes_inside))
 
   pub copy-room : (m : ℕ) → 32768 ≤ m → CopyRoom m (take t.bytes x)
   copy-room m r = record { whole = whole-components taken-part; room = omega (arith, part-long, bytes-few) }
 
-  pub more : More p e n t.parts t.chars
+  pub more : More t.parts t.chars
   more =
       record {
-        stands = h;
         parts_most = omega (arith, took.parts_most, parts-least xs, ap length l.encoded.is, l.most);
         chars_most = omega (arith, took.chars_most, bytes_inside, l.most);
       }
 
-  pub droppable : PartsDroppable p e n i t.parts t.bytes t.chars
+  pub droppable : PartsDroppable σ i t.parts t.bytes t.chars
   droppable =
       record {
-        stands = h;
         index = b;
         first = record { most = took.parts_most; bytes_is = took.bytes_is; chars_is = took.chars_is };
       }
 
   -- ---- written to expression j
 
-  module _ (scratch j : ℕ) (sp : 65536 ≤ scratch) (d : j < limit.expressions) (reverses : Bool) {new : List ℕ}
-      (c : Encoded new (turned reverses (take t.parts xs))) where
-    new_is : components_in new ≡ turned reverses (take t.parts xs)
-    new_is = components-of c
+  within : i < length s.exprs
+  within = rw h.fine.exprs_is b
 
-    count_is : t.parts ≡ length (turned reverses (take t.parts xs))
-    count_is = rw (turned-length reverses (take t.parts xs)) (simp length-take (omega (arith, took.parts_most)))
+  module _ (removes : Bool) where
+    abbrev z : Store
+    z = past (nth (reading removes) i) t.parts s
 
-    chars-are : t.chars ≡ char_count (turned reverses (take t.parts xs))
-    chars-are = took.chars_is ∙ sym (turned-total (λ y. length (chars y)) reverses (take t.parts xs))
+    parts-off : components_held z + cond removes t.parts 0 ≡ components_held s
+    parts-off = components-past s i t.parts within droppable.first removes
 
-    within : i < length s.exprs
-    within = rw h.fine.exprs_is b
+    chars-off : chars_held z + cond removes t.chars 0 ≡ chars_held s
+    chars-off = chars-past s i t.parts within droppable.first removes
 
-    -- where it was taken away
-    pub writable_off : {e' n' : List ℕ} → HoldsState p e' n' (on_store (past (nth (reading true) i) t.parts) (state_at p e n))
-        → PartsWritable p e' n' scratch j new t.parts t.chars
-    unfolding on_store
-    writable_off g =
-        let q = state_of g in
-        let f = h.fine in
-        let c₁ = held-off s i t.parts within (λ y. 1) in
-        let c₂ = held-off s i t.parts within (λ y. length (chars y)) in
-        record {
-          stands = stands g;
-          spare = sp;
-          index = d;
-          whole = whole-components c;
-          count = rw new_is count_is;
-          chars_is = rw new_is chars-are;
-          components_room =
-              rw q (omega (arith, c₁, f.components_most, total-ones (take t.parts xs), count_is, turned-length reverses (take t.parts xs)));
-          chars_room = rw q (omega (arith, c₂, f.chars_most, took.chars_is));
-        }
+    module _ (j : ℕ) (d : j < limit.expressions) (reverses at_end : Bool) where
+      abbrev ys : List Component
+      ys = turned reverses (take t.parts xs)
 
-    -- where it stays
-    abbrev roomy : Bool
-    roomy = leb (components_held s + t.parts) limit.components && leb (chars_held s + t.chars) limit.characters
+      count_is : t.parts ≡ length ys
+      count_is = rw (turned-length reverses (take t.parts xs)) (simp length-take (omega (arith, took.parts_most)))
 
-    pub writable-copy : roomy ≡ true → PartsWritable p e n scratch j new t.parts t.chars
-    writable-copy r = writable h c d count_is chars-are sp r
+      chars-are : t.chars ≡ char_count ys
+      chars-are = took.chars_is ∙ sym (turned-total (λ y. length (chars y)) reverses (take t.parts xs))
 
-    module _ (at_end : Bool) where
-      -- what is held then
-      pub sent-off : {p' e' n' : List ℕ}
-          → HoldsState p' e' n' (on_store (λ z. minus_unless t.reached (into (nth (writing at_end) j) (components_in new) (past (nth (reading true) i) t.parts z))) (state_at p e n))
-          → HoldsState p' e' n' (on_store (sent u true i reverses at_end j) (state_at p e n))
-      unfolding on_store sent
-      sent-off g = rw (took.is, ← new_is) g
+      -- the limits
+      pub fits-sent : fits (sent u removes i reverses at_end j s) ≡ room_beside removes t.parts t.chars s
+      unfolding sent
+      fits-sent =
+          let m : Limited z = limited-past s (fine-limited σ h.fine) (nth (reading removes) i) t.parts in
+          let q : (j < length z.exprs) = rw m.exprs_is d in
+          rw took.is
+          (fits-minus_unless t.reached (into (nth (writing at_end) j) ys z)
+          ∙ fits-into-ok (nth (writing at_end) j) z q ys m (each-turned reverses (take t.parts xs) taken-part.all_ok)
+          ∙ rw (← count_is, ← chars-are) (room-after t.parts t.chars (components_held z) (chars_held z) removes h.fine.components_most h.fine.chars_most parts-off chars-off))
 
-      pub sent-copy : {p' e' n' : List ℕ}
-          → HoldsState p' e' n' (on_store (λ z. minus_unless t.reached (into (nth (writing at_end) j) (components_in new) z)) (state_at p e n))
-          → HoldsState p' e' n' (on_store (sent u false i reverses at_end j) (state_at p e n))
-      unfolding on_store sent past past_by
-      sent-copy g = rw (took.is, ← new_is) g
+      module _ {new : List ℕ} (c : Encoded new ys) where
+        new_is : components_in new ≡ ys
+        new_is = components-of c
 
-  -- what stays has room for a copy where the totals have
-  pub fits-copy : (j : ℕ) → j < limit.expressions → (reverses at_end : Bool)
-      → fits (sent u false i reverses at_end j s) ≡ (leb (components_held s + t.parts) limit.components && leb (chars_held s + t.chars) limit.characters)
-  unfolding sent past past_by
-  fits-copy j d reverses at_end =
-      let ys = turned reverses (take t.parts xs) in
-      let q : length ys ≡ t.parts = turned-length reverses (take t.parts xs) ∙ simp length-take (omega (arith, took.parts_most)) in
-      let r : char_count ys ≡ t.chars = turned-total (λ y. length (chars y)) reverses (take t.parts xs) ∙ sym took.chars_is in
-      rw took.is
-      (fits-minus_unless t.reached (into (nth (writing at_end) j) ys s)
-      ∙ fits-into-ok (nth (writing at_end) j) s (rw h.fine.exprs_is d) ys (fine-limited (state_at p e n) h.fine) (each-turned reverses (take t.parts xs) taken-part.all_ok)
-      ∙ rw (q, r) refl)
+        pub writable : room_beside removes t.parts t.chars s ≡ true → {σ' : State} → HoldsState σ' (on_store (past (nth (reading removes) i) t.parts) σ)
+            → PartsWritable σ' j new t.parts t.chars
+        unfolding on_store
+        writable r g =
+            let w = room-had t.parts t.chars (components_held z) (chars_held z) removes h.fine.components_most h.fine.chars_most parts-off chars-off r in
+            record {
+              index = d;
+              whole = whole-components c;
+              count = rw new_is count_is;
+              chars_is = rw new_is chars-are;
+              components_room = rw g.is w.0;
+              chars_room = rw g.is w.1;
+            }
+
+        -- what is held then
+        pub sent-done : {σ' : State}
+            → HoldsState σ' (on_store (λ y. minus_unless t.reached (into (nth (writing at_end) j) (components_in new) (past (nth (reading removes) i) t.parts y))) σ)
+            → HoldsState σ' (on_store (sent u removes i reverses at_end j) σ)
+        unfolding on_store sent
+        sent-done g = rw (took.is, ← new_is) g
 
   -- ---- taken away
 
-  pub gone-off : {p' e' n' : List ℕ} → HoldsState p' e' n' (on_store (λ z. minus_unless t.reached (past (nth (reading true) i) t.parts z)) (state_at p e n))
-      → HoldsState p' e' n' (on_store (cut_off u i) (state_at p e n))
+  pub gone-off : {σ' : State} → HoldsState σ' (on_store (λ z. minus_unless t.reached (past (nth (reading true) i) t.parts z)) σ)
+      → HoldsState σ' (on_store (cut_off u i) σ)
   unfolding on_store cut_off
   gone-off g = rw took.is g

@@ -8,14 +8,14 @@ use native.Mathlib.Omega.{arith}
 use lib.ListN.{length, take, length-append}
 use Rattle.language.specs.Limits as limit
 use Rattle.language.specs.Letters.Letter.{E}
-use Rattle.language.specs.Values.{Component, Store}
+use Rattle.language.specs.Values.{Component, Store, State}
 use Rattle.machine.specs.Arguments.{expr, Until, number_of}
 use Rattle.layout.proofs.ComponentLaws.{components-of}
 use Rattle.layout.specs.Components.{components_in}
 use Rattle.components.specs.Parts.{spelled}
 use Rattle.matching.specs.Tests.{Took}
 use Rattle.matching.specs.declared.Taken.{Taken}
-use Rattle.state.specs.Working.{state_at, Stands, nth, char_count}
+use Rattle.state.specs.Working.{Stands, nth, char_count}
 use Rattle.state.specs.Blocks.{ExprLent}
 use Rattle.moves.specs.Moves.{all_taken_words}
 use Rattle.moves.proofs.Taking.{took, taken-part}
@@ -29,10 +29,10 @@ pub none-words : (i : ℕ) (s : Store) → all_taken_words (number_of 0) i s ≡
 unfolding all_taken_words
 none-words i s = simp unary_clauses refl
 
-module _ {p e n : List ℕ} {i : ℕ} {x : List ℕ} {u : Until Component} {t : Taken} (h : Stands p e n) (b : i < limit.expressions) (l : ExprLent p e n i x)
+module _ {σ : State} {i : ℕ} {x : List ℕ} {u : Until Component} {t : Taken} (h : Stands σ) (b : i < limit.expressions) (l : ExprLent σ i x)
     (k : Took u (components_in x) t) where
   abbrev s : Store
-  s = (state_at p e n).store
+  s = σ.store
 
   abbrev xs : List Component
   xs = expr s (nth E i)

@@ -1,7 +1,7 @@
 // Moves of components: PRZESLIJ and USUN A.
 #![tactic(auto)]
 
-ghost use Rattle.std.specs.Prelude.{true, false, length};
+ghost use Rattle.std.specs.Prelude.{◌≡◌, true, ◌<◌, take};
 ghost use Rattle.language.specs.Limits as limit;
 ghost use Rattle.language.specs.Program.Arg.{nothing};
 ghost use Rattle.language.specs.Program.Op.{PRZESLIJ, USUN};
@@ -10,203 +10,112 @@ ghost use Rattle.machine.specs.Changes.{minus_unless, into};
 ghost use Rattle.machine.specs.Effects.{row};
 ghost use Rattle.matching.specs.Tests.{until};
 ghost use Rattle.table.specs.Below.Packed.{table_of};
-ghost use Rattle.state.specs.Working.{state_at, HoldsState, on_store, nth, reading, writing};
+ghost use Rattle.state.specs.Working.{HoldsState, on_store, nth, reading, writing};
 ghost use Rattle.state.specs.Blocks.{PartsWritable};
 ghost use Rattle.table.specs.Denote.{arg_of};
-ghost use Rattle.instructions.specs.Does.{Tried, DoesFor};
-ghost use Rattle.instructions.specs.Operands.{target};
-ghost use Rattle.moves.specs.Moves.{Cuttable, Sendable, sent, cut_off, Movable, Removable};
+ghost use Rattle.instructions.specs.Questions.{told_by};
+ghost use Rattle.instructions.specs.Does.{Tried, DoesFor, More};
+ghost use Rattle.instructions.specs.Operands.{target as target_letter};
+ghost use Rattle.moves.specs.Moves.{room_beside, sent, cut_off, TestBeside, Movable, Removable};
+
+use instructions::{Bench, Question, Source, Target};
+use state::Working;
+use tests::Prepared;
+
+// Components that are written: their bytes, how many they are, and their characters.
+#[derive(Clone, Copy)]
+pub struct New<'a> {
+    pub bytes: &'a [u8],
+    pub parts: usize,
+    pub chars: usize,
+}
 
 // Writes components to expression `j`, and turns H minus unless the test was reached.
-pub fn deliver(
-    pool: &mut [u8],
-    ends: &mut [u32],
-    nums: &mut [u32],
-    scratch: &mut [u8],
-    j: usize,
-    at_end: bool,
-    new: &[u8],
-    parts: usize,
-    chars: usize,
-    reached: bool,
-)
-    requires { PartsWritable pool.old ends.old nums.old (length scratch.old) j new.now parts chars }
-    ensures { HoldsState pool.new ends.new nums.new (on_store (λ t. minus_unless reached (into (nth (writing at_end) j) (components_in new.now) t)) (state_at pool.old ends.old nums.old)) }
+// The index and the end, not a `Target`: the components are turned round already.
+pub fn deliver(state: &mut Working, j: usize, at_end: bool, new: New, reached: bool)
+    requires { PartsWritable state.old j new.bytes.now new.parts new.chars }
+    ensures { HoldsState state.new (on_store (λ t. minus_unless reached (into (nth (writing at_end) j) (components_in new.entry.bytes.now) t)) state.old) }
 {
-    state::write_parts(pool, ends, nums, scratch, j, at_end, new, parts, chars);
-    state::minus_unless(pool, ends, nums, reached);
+    state.write_parts(j, at_end, new.bytes, new.parts, new.chars);
+    state.minus_unless(reached);
 }
 
-// Takes away what a test takes of expression `i`, and writes it to expression `j`.
-fn send_off(
-    pool: &mut [u8],
-    ends: &mut [u32],
-    nums: &mut [u32],
-    scratch: &mut [u8],
-    hold: &mut [u8],
-    given: &[u8],
-    test: matching::Test,
-    i: usize,
-    reverses: bool,
-    at_end: bool,
-    j: usize,
-)
-    requires { Sendable pool.old ends.old nums.old (length scratch.old) (length hold.old) given.now test i j }
-    ensures { HoldsState pool.new ends.new nums.new (on_store (sent (until test given.now) true i reverses at_end j) (state_at pool.old ends.old nums.old)) }
+// Whether so many components and characters are within the limits; `removes`: as many at least are taken away before.
+pub fn has_room(state: &Working, removes: bool, parts: usize, chars: usize) -> bool
+    requires { More parts chars }
+    ensures { result ≡ room_beside removes parts chars state.now.store }
 {
-    let x = state::expr_bytes(pool, ends, nums, i);
-    let t = matching::count(x, test, given);
-    let bytes = t.bytes;
-    components::copy(hold, &x[..bytes], reverses);
-    state::drop_parts(pool, ends, nums, i, t.parts, bytes, t.chars);
-    deliver(
-        pool,
-        ends,
-        nums,
-        scratch,
-        j,
-        at_end,
-        &hold[..bytes],
-        t.parts,
-        t.chars,
-        t.reached,
-    );
-}
-
-// Writes what a test takes of expression `i` to expression `j`, where it has room; 0, or the question answered no.
-fn send_copy(
-    pool: &mut [u8],
-    ends: &mut [u32],
-    nums: &mut [u32],
-    scratch: &mut [u8],
-    hold: &mut [u8],
-    given: &[u8],
-    test: matching::Test,
-    i: usize,
-    reverses: bool,
-    at_end: bool,
-    j: usize,
-) -> u8
-    requires { Sendable pool.old ends.old nums.old (length scratch.old) (length hold.old) given.now test i j }
-    ensures { Tried pool.old ends.old nums.old result pool.new ends.new nums.new true (sent (until test given.now) false i reverses at_end j (state_at pool.old ends.old nums.old).store) }
-{
-    let x = state::expr_bytes(pool, ends, nums, i);
-    let t = matching::count(x, test, given);
-    if !instructions::has_room(pool, ends, nums, t.parts, t.chars) {
-        return 59;
+    if removes {
+        return true;
     }
-    let bytes = t.bytes;
-    components::copy(hold, &x[..bytes], reverses);
-    deliver(
-        pool,
-        ends,
-        nums,
-        scratch,
-        j,
-        at_end,
-        &hold[..bytes],
-        t.parts,
-        t.chars,
-        t.reached,
-    );
-    0
+    instructions::has_room(state, parts, chars)
 }
 
-// PRZESLIJ from expression `i` to expression `j`: 0, or the question answered no.
+// Writes what a test takes of an expression to another, where it has room.
+fn send(bench: &mut Bench, test: Prepared, source: Source, target: Target) -> Result<(), Question>
+    requires beside { TestBeside bench.old.given test }
+    requires source { source.i < limit.expressions }
+    requires target { target.j < limit.expressions }
+    ensures { Tried bench.old.state (told_by result) bench.new.state true (sent (until test.test (take test.len bench.old.given)) source.removes source.i target.reverses target.at_end target.j bench.old.state.store) }
+{
+    let x = bench.state.expr_bytes(source.i);
+    let t = matching::count(x, test.test, &bench.given[..test.len]);
+    if !has_room(&bench.state, source.removes, t.parts, t.chars) {
+        return Err(Question::Room);
+    }
+    components::copy(&mut bench.hold, &x[..t.bytes], target.reverses);
+    bench
+        .state
+        .past_parts(source.i, source.removes, t.parts, t.bytes, t.chars);
+    let new = New {
+        bytes: &bench.hold[..t.bytes],
+        parts: t.parts,
+        chars: t.chars,
+    };
+    deliver(&mut bench.state, target.j, target.at_end, new, t.reached);
+    Ok(())
+}
+
+// PRZESLIJ.
 pub fn przeslij(
     table: &[u32],
-    pool: &mut [u8],
-    ends: &mut [u32],
-    nums: &mut [u32],
-    scratch: &mut [u8],
-    hold: &mut [u8],
-    given: &mut [u8],
-    removes: bool,
-    i: usize,
-    reverses: bool,
-    at_end: bool,
-    j: usize,
+    bench: &mut Bench,
+    source: Source,
+    target: Target,
     arg: table::Argument,
-) -> u8
-    requires { Movable table.now pool.old ends.old nums.old (length scratch.old) (length hold.old) (length given.old) i j limit.expressions arg }
-    ensures { DoesFor pool.old ends.old nums.old result pool.new ends.new nums.new (λ g ins. row g ins (state_at pool.old ends.old nums.old).store (nth (reading removes) i) (nth (target reverses at_end) j) (arg_of (table_of table.now) arg) PRZESLIJ) }
+) -> Result<(), Question>
+    requires { Movable table.now source.i target.j limit.expressions arg }
+    ensures { DoesFor bench.old.state (told_by result) bench.new.state (λ g ins. row g ins bench.old.state.store (nth (reading source.removes) source.i) (nth (target_letter target.reverses target.at_end) target.j) (arg_of (table_of table.now) arg) PRZESLIJ) }
 {
-    let q = tests::prepare(table, pool, ends, nums, given, arg);
-    let stop = q.stop;
-    let test = q.test;
-    let len = q.len;
-    if stop != 0 {
-        return stop;
-    }
-    if removes {
-        send_off(
-            pool,
-            ends,
-            nums,
-            scratch,
-            hold,
-            &given[..len],
-            test,
-            i,
-            reverses,
-            at_end,
-            j,
-        );
-        return 0;
-    }
-    send_copy(
-        pool,
-        ends,
-        nums,
-        scratch,
-        hold,
-        &given[..len],
-        test,
-        i,
-        reverses,
-        at_end,
-        j,
-    )
+    bench.state.stands();
+    let test = tests::prepare(table, &bench.state, &mut bench.given, arg)?;
+    send(bench, test, source, target)
 }
 
 // Takes away what a test takes of expression `i`.
-fn cut_off(
-    pool: &[u8],
-    ends: &mut [u32],
-    nums: &mut [u32],
-    given: &[u8],
-    test: matching::Test,
-    i: usize,
-)
-    requires { Cuttable pool.now ends.old nums.old given.now test i }
-    ensures { HoldsState pool.now ends.new nums.new (on_store (cut_off (until test given.now) i) (state_at pool.now ends.old nums.old)) }
+fn cut_off(bench: &mut Bench, test: Prepared, i: usize)
+    requires beside { TestBeside bench.old.given test }
+    requires source { i < limit.expressions }
+    ensures { HoldsState bench.new.state (on_store (cut_off (until test.test (take test.len bench.old.given)) i) bench.old.state) }
 {
-    let x = state::expr_bytes(pool, ends, nums, i);
-    let t = matching::count(x, test, given);
-    state::drop_parts(pool, ends, nums, i, t.parts, t.bytes, t.chars);
-    state::minus_unless(pool, ends, nums, t.reached);
+    let x = bench.state.expr_bytes(i);
+    let t = matching::count(x, test.test, &bench.given[..test.len]);
+    bench.state.drop_parts(i, t.parts, t.bytes, t.chars);
+    bench.state.minus_unless(t.reached);
 }
 
 // USUN of expression `i`.
 pub fn usun(
     table: &[u32],
-    pool: &[u8],
-    ends: &mut [u32],
-    nums: &mut [u32],
-    given: &mut [u8],
+    bench: &mut Bench,
     i: usize,
     arg: table::Argument,
-) -> u8
-    requires { Removable table.now pool.now ends.old nums.old (length given.old) i arg }
-    ensures { DoesFor pool.now ends.old nums.old result pool.now ends.new nums.new (λ g ins. row g ins (state_at pool.now ends.old nums.old).store (nth (reading true) i) (arg_of (table_of table.now) arg) nothing USUN) }
+) -> Result<(), Question>
+    requires { Removable table.now i arg }
+    ensures { DoesFor bench.old.state (told_by result) bench.new.state (λ g ins. row g ins bench.old.state.store (nth (reading true) i) (arg_of (table_of table.now) arg) nothing USUN) }
 {
-    let q = tests::prepare(table, pool, ends, nums, given, arg);
-    let stop = q.stop;
-    let test = q.test;
-    let len = q.len;
-    if stop != 0 {
-        return stop;
-    }
-    cut_off(pool, ends, nums, &given[..len], test, i);
-    0
+    bench.state.stands();
+    let test = tests::prepare(table, &bench.state, &mut bench.given, arg)?;
+    cut_off(bench, test, i);
+    Ok(())
 }

@@ -1,3 +1,4 @@
+pub mod Values
 pub mod Codes
 pub mod Held
 pub mod Reading

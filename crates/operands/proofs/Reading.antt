@@ -1,38 +1,42 @@
 -- Operands read from components and arguments, and the questions on their kinds.
-use mathlib.Core.Path.{◌≡◌, refl, sym, ap, ◌∙◌, subst}
+use mathlib.Core.Path.{◌≡◌, refl, sym, ◌∙◌, subst}
 use mathlib.Core.Bool.{Bool, true, false, not, ◌&&◌, ◌||◌}
 use mathlib.Core.List.{List, [], ◌∷◌}
-use Prim.Native.Nat.{ℕ, ◌-◌, ◌≤◌}
+use mathlib.Core.Logic.{◌⊎◌, inl, inr}
+use Prim.Native.Nat.{ℕ, ◌-◌, ◌≤◌, ◌<◌}
 use native.Mathlib.Omega.{arith}
 use lib.Dec.{T, eqb}
 use lib.ListN.{length, take}
-use lib.IntN.{ℤ, pos, negsuc}
+use lib.IntN.{pos, negsuc}
 use borrow.Author.Tests.{ne_eqb, eqb-true}
 use Rattle.lists.specs.Lists.{all}
 use Rattle.lists.specs.ListLaws.{T-left, T-right}
 use Rattle.language.specs.Letters.Letter.{E}
 use Rattle.language.specs.Program.Arg.{letter}
-use Rattle.language.specs.Values.{Component, Store, Inputs, value, kind}
+use Rattle.language.specs.Values.{Component, Store, State, Inputs, value, kind}
 use Rattle.language.specs.Values.Component.{word, address}
-use Rattle.machine.specs.Arguments.{expr, first, side, needs, listed_pair, of_kinds}
-use Rattle.layout.specs.Bounds.{Ok}
+use Rattle.machine.specs.Arguments.{expr, first, side, listed_pair, of_kinds}
+use Rattle.layout.specs.Bounds as bounds
 use Rattle.layout.specs.Cells.{code, uncode}
 use Rattle.layout.proofs.ComponentLaws.{next-component}
 use Rattle.layout.specs.Components.{component_in}
 use Rattle.cells.specs.Cells.{Number}
-use Rattle.state.specs.Working.{state_at, nth, reading}
-use Rattle.state.specs.Blocks.{ExprNamed, ExprLent}
+use Rattle.state.specs.Working.{nth, reading}
+use Rattle.state.specs.Blocks.{ExprLent}
 use Rattle.table.specs.Denote.{letter_of}
 use Rattle.table.specs.declared.Letter.{Letter}
 use Rattle.table.specs.declared.Letter.TheVariants.{B}
 use Rattle.table.specs.declared.Argument.{Argument}
 use Rattle.table.specs.declared.Argument.TheVariants as argument
-use Rattle.tests.specs.Below.Does.{stop_of}
-use Rattle.tests.proofs.Below.Answers.{unstopped}
-use Rattle.tests.proofs.Values.{high, none-there, one-there, front-value, index_back}
-use Rattle.operands.specs.Operands.{kind_offered, kinds_stop, OperandReadable, ReadsNumber, ReadsOffered, ReadsOperand, ReadsOperands}
+use Rattle.instructions.specs.Does.{stop_of}
+use Rattle.instructions.proofs.Answers.{unstopped}
+use Rattle.operands.proofs.Values.{high, none-there, one-there, front-value, index_back}
+use Rattle.language.specs.Limits as limit
+use Rattle.std.specs.Prelude.{Ok, Err}
+use Rattle.instructions.specs.Questions.{question_number}
+use Rattle.instructions.specs.declared.Question.{Question}
+use Rattle.operands.specs.Operands.{kind_offered, kinds_stop, OperandReadable, ReadsOffered, ReadsOperand, ReadsOperands}
 use Rattle.operands.specs.declared.Offered.{Offered}
-use Rattle.operands.specs.declared.Operand.{Operand}
 
 abbrev offers : ℕ → ℕ → Offered
 offers k n = record { kind = k; code = n }
@@ -42,15 +46,6 @@ zero_is : uncode 8388607 ≡ pos 0
 zero_is = high 8388607 (omega arith)
 
 -- ---- the first component of an expression
-
-number_is : (x : Component) → kind x ≡ 1 → x ≡ Component.number (value x)
-number_is (word w) k = absurd (omega (arith, k))
-number_is (Component.number z) k = refl
-number_is (address n) k = absurd (omega (arith, k))
-
-one_number : (es : List Component) → kind (first (take 1 es)) ≡ 1 → take 1 es ≡ Component.number (value (first (take 1 es))) ∷ []
-one_number [] k = absurd (omega (arith, k))
-one_number (x ∷ es) k = ap (λ (y : Component). y ∷ []) (number_is x k)
 
 -- 255 is no kind
 there : (x : Component) → kind x ≡ 255 → ⊥
@@ -63,16 +58,16 @@ no_value (word w) k = refl
 no_value (Component.number z) k = absurd (k refl)
 no_value (address n) k = refl
 
-code_most : (x : Component) → Ok x → kind x ≡ 1 → code (value x) ≤ 16777214
+code_most : (x : Component) → bounds.Ok x → kind x ≡ 1 → code (value x) ≤ 16777214
 unfolding code
 code_most (word w) h k = absurd (omega (arith, k))
 code_most (Component.number (pos n)) h k = omega (arith, h)
 code_most (Component.number (negsuc n)) h k = omega (arith, h)
 code_most (address n) h k = absurd (omega (arith, k))
 
-module _ {p e n : List ℕ} {i : ℕ} {x : List ℕ} (l : ExprLent p e n i x) where
+module _ {σ : State} {i : ℕ} {x : List ℕ} (l : ExprLent σ i x) where
   abbrev es : List Component
-  es = expr (state_at p e n).store (nth E i)
+  es = expr σ.store (nth E i)
 
   pub none_told : length x ≡ 0 → ReadsOffered (take 1 es) (offers 255 8388607)
   none_told z = record { kind_is = rw (none-there l z) refl; value_is = rw (none-there l z) zero_is; most = omega arith }
@@ -95,39 +90,10 @@ module _ {p e n : List ℕ} {i : ℕ} {x : List ℕ} (l : ExprLent p e n i x) wh
           most = omega (arith, h.is, code_most (component_in x) (next-component l.whole (omega (arith, z))).first_ok y);
         }
 
--- as a number
-module _ (es : List Component) {r : Offered} (w : ReadsOffered (take 1 es) r) where
-  abbrev told : ℕ → ℕ → Operand
-  told k n = record { stop = k; code = n }
-
-  pub number-none : r.kind ≡ 255 → ReadsNumber (take 1 es) (told 52 0)
-  number-none z = record { stop_is = go es (sym w.kind_is ∙ z); is = λ y. absurd (omega (arith, y)); most = omega arith }
-    where
-      go : (xs : List Component) → kind_offered (take 1 xs) ≡ 255 → 52 ≡ stop_of (needs 1 (take 1 xs))
-      go [] q = refl
-      go (x ∷ xs) q = absurd (there x q)
-
-  pub number-kind : (r.kind ≡ 255 → ⊥) → (r.kind ≡ 1 → ⊥) → ReadsNumber (take 1 es) (told 53 0)
-  number-kind z k = record { stop_is = go es w.kind_is; is = λ y. absurd (omega (arith, y)); most = omega arith }
-    where
-      go : (xs : List Component) → r.kind ≡ kind_offered (take 1 xs) → 53 ≡ stop_of (needs 1 (take 1 xs))
-      go [] q = absurd (z q)
-      go (x ∷ xs) q = rw (ne_eqb (kind x) 1 (λ y. k (q ∙ y))) refl
-
-  pub number-some : r.kind ≡ 1 → ReadsNumber (take 1 es) (told 0 r.code)
-  number-some k =
-      let e : take 1 es ≡ Component.number (uncode r.code) ∷ [] =
-      one_number es (go (take 1 es) (sym w.kind_is ∙ k)) ∙ ap (λ (z : ℤ). Component.number z ∷ []) (sym w.value_is) in
-      record { stop_is = rw e refl; is = λ y. e; most = w.most }
-    where
-      go : (xs : List Component) → kind_offered xs ≡ 1 → kind (first xs) ≡ 1
-      go [] q = absurd (omega (arith, q))
-      go (x ∷ xs) q = q
-
 -- ---- arguments
 
-pub operand-named : {p e n : List ℕ} {a : Argument} {l : Letter} {k : ℕ} → OperandReadable p e n a → a ≡ argument.Indexed l k → ExprNamed p e n (k - 1)
-operand-named {l = l} {k = k} h e = record { stands = h.stands; index = omega (arith, (h.index l k e).from, (h.index l k e).most) }
+pub operand-named : {a : Argument} {l : Letter} {k : ℕ} → OperandReadable a → a ≡ argument.Indexed l k → k - 1 < limit.expressions
+operand-named {l = l} {k = k} h e = omega (arith, (h.index l k e).from, (h.index l k e).most)
 
 module _ (s : Store) where
   pub as_read : {r : Offered} {a b : Argument} → a ≡ b → ReadsOperand s b r → ReadsOperand s a r
@@ -152,11 +118,20 @@ module _ (s : Store) where
   pub switch-told : (v : ℕ) → ReadsOperand s (argument.Switch v) (offers 255 8388607)
   switch-told v c ins = record { kind_is = refl; value_is = zero_is; most = omega arith }
 
-pub letter-told : {p e n : List ℕ} {a : Argument} {l : Letter} {k : ℕ} {r : Offered} → OperandReadable p e n a → a ≡ argument.Indexed l k
-    → ReadsOffered (take 1 (expr (state_at p e n).store (nth E (k - 1)))) r → ReadsOperand (state_at p e n).store a r
-letter-told {p} {e} {n} {a} {l} {k} {r} h q w =
-    as_read (state_at p e n).store q (subst (λ (m : Letter). ReadsOperand (state_at p e n).store (argument.Indexed m k) r) (sym (h.form l k q))
-    (λ c ins. subst (λ (j : ℕ). ReadsOffered (side ins (state_at p e n).store (letter (letter_of B) j)) r) (index_back (h.index l k q)) w))
+pub letter-told : (σ : State) {a : Argument} {l : Letter} {k : ℕ} {r : Offered} → OperandReadable a → a ≡ argument.Indexed l k
+    → ReadsOffered (take 1 (expr σ.store (nth E (k - 1)))) r → ReadsOperand σ.store a r
+letter-told σ {a} {l} {k} {r} h q w =
+    as_read σ.store q (subst (λ (m : Letter). ReadsOperand σ.store (argument.Indexed m k) r) (sym (h.form l k q))
+    (λ c ins. subst (λ (j : ℕ). ReadsOffered (side ins σ.store (letter (letter_of B) j)) r) (index_back (h.index l k q)) w))
+
+-- ---- none of the others offers one
+pub none-offered : (s : Store) {a : Argument}
+    → ((m : ℕ) × (a ≡ argument.Class m)) ⊎ ((a ≡ argument.Nothing) ⊎ (((k : ℕ) × (a ≡ argument.Label k)) ⊎ ((k : ℕ) × (a ≡ argument.Switch k))))
+    → ReadsOperand s a (offers 255 8388607)
+none-offered s (inl (m, e)) = as_read s e (class-told s m)
+none-offered s (inr (inl e)) = as_read s e (nothing-told s)
+none-offered s (inr (inr (inl (k, e)))) = as_read s e (label-told s k)
+none-offered s (inr (inr (inr (k, e)))) = as_read s e (switch-told s k)
 
 -- ---- two of them
 
@@ -169,16 +144,17 @@ pub kinds-told : (ks : List (ℕ × ℕ)) (xs ys : List Component) {j k m : ℕ}
     → m ≡ stop_of (of_kinds ks xs ys)
 kinds-told ks xs ys h i e = e ∙ rw (h, i) (stop-kinds ks xs ys)
 
-pub pair-told : (ks : List (ℕ × ℕ)) (xs ys : List Component) {x y : Offered} {k : ℕ} → ReadsOffered xs x → ReadsOffered ys y → k ≡ kinds_stop ks x.kind y.kind
-    → ReadsOperands ks xs ys (record { stop = k; left = x.code; right = y.code })
+pub pair-told : (ks : List (ℕ × ℕ)) (xs ys : List Component) {x y : Offered} → ReadsOffered xs x → ReadsOffered ys y → 0 ≡ kinds_stop ks x.kind y.kind
+    → ReadsOperands ks xs ys (Ok (record { left = x.code; right = y.code }))
 pair-told ks xs ys h j e =
     record {
-      stop_is = kinds-told ks xs ys h.kind_is j.kind_is e;
-      left_is = h.value_is;
-      right_is = j.value_is;
-      left_most = h.most;
-      right_most = j.most;
+      told = kinds-told ks xs ys h.kind_is j.kind_is e;
+      is = record { left_is = h.value_is; right_is = j.value_is; left_most = h.most; right_most = j.most };
     }
+
+pub pair-stop : (ks : List (ℕ × ℕ)) (xs ys : List Component) {x y : Offered} {q : Question} → ReadsOffered xs x → ReadsOffered ys y → question_number q ≡ kinds_stop ks x.kind y.kind
+    → ReadsOperands ks xs ys (Err q)
+pair-stop ks xs ys h j e = record { told = kinds-told ks xs ys h.kind_is j.kind_is e; is = tt }
 
 -- where no word is listed as the first, the first is none
 abbrev pub wordless : List (ℕ × ℕ) → Bool

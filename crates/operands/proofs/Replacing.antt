@@ -7,23 +7,23 @@ use native.Mathlib.Omega.{arith}
 use lib.Dec.{T, leb}
 use lib.ListN.{length, take}
 use lib.IntN.{ℤ}
+use mir.Val.{bool_byte}
 use borrow.Author.Tests.{lt-leb}
 use Rattle.language.specs.Limits as limit
-use Rattle.language.specs.Values.{Component, Store, kind}
+use Rattle.language.specs.Values.{Component, Store, State, kind}
 use Rattle.language.specs.Values.Component.{word, address}
 use Rattle.machine.specs.Arguments.{first, of_kinds}
 use Rattle.machine.specs.Changes.{with_exprs, put_expr, placed, into, front, past_by, past, used_by, used, fits}
 use Rattle.layout.proofs.ComponentLaws.{components_bytes-one}
 use Rattle.layout.specs.Components.{component_bytes, components_in}
 use Rattle.layout.specs.Memory.{components_held, chars_held}
-use Rattle.state.specs.Working.{state_at, HoldsState, on_store, nth, reading, writing, char_count}
-use Rattle.state.specs.Blocks.{FirstParts, PartsDroppable, PartsWritable}
+use Rattle.state.specs.Working.{HoldsState, Stands, on_store, nth, reading, writing, char_count}
+use Rattle.state.specs.Blocks.{FirstParts, PartsWritable}
 use Rattle.state.specs.Limited.{Limited}
 use Rattle.state.proofs.Fits.{fine-limited, fits-into-ok}
 use Rattle.state.proofs.Freed.{limited-past, components-past, chars-past}
-use Rattle.state.proofs.Standing.{state_of, stands}
-use Rattle.tests.specs.Below.Does.{Tried, stop_of}
-use Rattle.tests.proofs.Below.Answers.{tried-full, tried-done}
+use Rattle.instructions.specs.Does.{Tried, stop_of}
+use Rattle.instructions.proofs.Answers.{tried-full, tried-done}
 use Rattle.operands.specs.Operands.{replaced, Replaceable}
 use Rattle.operands.proofs.Reading.{wordless, left-kind}
 
@@ -55,18 +55,19 @@ number-first es z e = short-first es (λ k. omega (arith, sym (ap (λ (xs : List
 pub left-first : (ks : List (ℕ × ℕ)) → T (wordless ks) → (es ys : List Component) → stop_of (of_kinds ks (take 1 es) ys) ≡ 0 → FirstParts es 1 5 0
 left-first ks h es ys z = short-first es (left-kind ks (take 1 es) ys h z)
 
-pub picked-most : {x m : ℕ} (t : Bool) (a : ℕ) → x ≡ cond t a 0 → a ≤ m → x ≤ m
-picked-most true a e h = omega (arith, e)
-picked-most false a e h = omega (arith, e)
+-- one, or none
+pub one-freed : {x : ℕ} (t : Bool) → x ≡ bool_byte t → x ≡ cond t 1 0
+one-freed true q = q
+one-freed false q = q
 
 and-false : (b : Bool) → (b && false) ≡ false
 and-false true = refl
 and-false false = refl
 
-module _ {p e n : List ℕ} {scratch i bytes letters : ℕ} {new : List ℕ} {parts chars : ℕ} (h : Replaceable p e n scratch i bytes letters new parts chars)
+module _ {σ : State} (st : Stands σ) {i bytes letters : ℕ} {new : List ℕ} {parts chars : ℕ} (h : Replaceable σ i bytes letters new parts chars)
     (removes : Bool) where
   abbrev s : Store
-  s = (state_at p e n).store
+  s = σ.store
 
   abbrev t : Store
   t = past (nth (reading removes) i) 1 s
@@ -75,10 +76,10 @@ module _ {p e n : List ℕ} {scratch i bytes letters : ℕ} {new : List ℕ} {pa
   ys = components_in new
 
   inside : i < length s.exprs
-  inside = rw h.stands.fine.exprs_is h.index
+  inside = rw st.fine.exprs_is h.index
 
   left : Limited t
-  left = limited-past s (fine-limited (state_at p e n) h.stands.fine) (nth (reading removes) i) 1
+  left = limited-past s (fine-limited σ st.fine) (nth (reading removes) i) 1
 
   parts-left : components_held t + cond removes 1 0 ≡ components_held s
   parts-left = components-past s i 1 inside h.first removes
@@ -91,29 +92,24 @@ module _ {p e n : List ℕ} {scratch i bytes letters : ℕ} {new : List ℕ} {pa
       rw (replaced-is removes i ys s) (fits-into-ok (nth (writing false) i) t (rw left.exprs_is h.index) ys left h.whole.all_ok)
 
   pub full-parts : {f x : ℕ} → f ≡ cond removes 1 0 → x ≡ components_held s → limit.components + f < x + parts
-      → Tried p e n 59 p e n true (replaced removes i ys s)
+      → Tried σ 59 σ true (replaced removes i ys s)
   full-parts {f} {x} a b c =
-      tried-full h.stands (replaced removes i ys s) refl
+      tried-full st (replaced removes i ys s) refl
       (fits_replaced ∙ rw (lt-leb (components_held t + length ys) limit.components (omega (arith, a, b, c, parts-left, h.count))) refl)
 
   pub full-chars : {f x : ℕ} → f ≡ cond removes letters 0 → x ≡ chars_held s → limit.characters + f < x + chars
-      → Tried p e n 59 p e n true (replaced removes i ys s)
+      → Tried σ 59 σ true (replaced removes i ys s)
   full-chars {f} {x} a b c =
-      tried-full h.stands (replaced removes i ys s) refl
+      tried-full st (replaced removes i ys s) refl
       (fits_replaced ∙ rw (lt-leb (chars_held t + char_count ys) limit.characters (omega (arith, a, b, c, chars_left, h.chars_is))) (and-false (leb (components_held t + length ys) limit.components)))
 
-  pub droppable : PartsDroppable p e n i 1 bytes letters
-  droppable = record { stands = h.stands; index = h.index; first = h.first }
-
-  pub writable : {f x f' x' : ℕ} {e' n' : List ℕ} → f ≡ cond removes 1 0 → x ≡ components_held s → x + parts ≤ limit.components + f
+  pub writable : {f x f' x' : ℕ} {σ' : State} → f ≡ cond removes 1 0 → x ≡ components_held s → x + parts ≤ limit.components + f
       → f' ≡ cond removes letters 0 → x' ≡ chars_held s → x' + chars ≤ limit.characters + f'
-      → HoldsState p e' n' (on_store (past (nth (reading removes) i) 1) (state_at p e n)) → PartsWritable p e' n' scratch i new parts chars
+      → HoldsState σ' (on_store (past (nth (reading removes) i) 1) σ) → PartsWritable σ' i new parts chars
   unfolding on_store
   writable a b c a' b' c' g =
-      let q = state_of g in
+      let q = g.is in
       record {
-        stands = stands g;
-        spare = h.spare;
         index = h.index;
         whole = h.whole;
         count = h.count;
@@ -122,7 +118,7 @@ module _ {p e n : List ℕ} {scratch i bytes letters : ℕ} {new : List ℕ} {pa
         chars_room = rw q (omega (arith, a', b', c', chars_left));
       }
 
-  pub replaced-done : {p' e' n' : List ℕ} → HoldsState p' e' n' (on_store (λ z. into (nth (writing false) i) ys (past (nth (reading removes) i) 1 z)) (state_at p e n))
-      → Tried p e n 0 p' e' n' true (replaced removes i ys s)
+  pub replaced-done : {σ' : State} → HoldsState σ' (on_store (λ z. into (nth (writing false) i) ys (past (nth (reading removes) i) 1 z)) σ)
+      → Tried σ 0 σ' true (replaced removes i ys s)
   unfolding on_store
-  replaced-done g = tried-done h.stands (replaced removes i ys s) refl (rw (replaced-is removes i ys s) g)
+  replaced-done g = tried-done st (replaced removes i ys s) refl (rw (replaced-is removes i ys s) g)

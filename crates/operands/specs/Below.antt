@@ -1,2 +1,2 @@
 -- Modules of the crates below, passed on to those above. Declares nothing.
-pub use Rattle.tests.specs.Prepares
+pub use Rattle.instructions.specs.Does

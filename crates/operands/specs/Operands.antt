@@ -1,17 +1,17 @@
 -- What reading the operands of an instruction asks and tells, and what putting components in the place of the first makes of a store.
-use Rattle.std.specs.Prelude.{◌≡◌, Bool, cond, List, [], ◌∷◌, ℕ, ◌≤◌, ◌<◌, eqb, length}
+use Rattle.std.specs.Prelude.{◌≡◌, Bool, cond, List, [], ◌∷◌, ℕ, ◌≤◌, ◌<◌, eqb, length, Result, IfOk}
 use Rattle.language.specs.Limits as limit
 use Rattle.language.specs.Instructions.{two_words, two_numbers}
 use Rattle.language.specs.Letters.Letter.{E}
 use Rattle.language.specs.Program.{Program}
-use Rattle.language.specs.Values.{Component, Store, Inputs, value, kind}
+use Rattle.language.specs.Values.{Component, Store, State, Inputs, value, kind}
 use Rattle.machine.specs.Arguments.{expr, first, side, needs, listed_pair, of_kinds}
 use Rattle.machine.specs.Changes.{front, used}
 use Rattle.machine.specs.Effects.{Row}
 use Rattle.layout.specs.Bounds.{WholeComponents}
 use Rattle.layout.specs.Cells.{uncode}
 use Rattle.layout.specs.Components.{components_in}
-use Rattle.state.specs.Working.{state_at, Stands, nth, reading, char_count}
+use Rattle.state.specs.Working.{nth, reading, char_count}
 use Rattle.state.specs.Blocks.{FirstParts}
 use Rattle.table.specs.Denote.{arg_of}
 use Rattle.table.specs.Good.{GoodIndex}
@@ -19,11 +19,12 @@ use Rattle.table.specs.declared.Letter.{Letter}
 use Rattle.table.specs.declared.Letter.TheVariants.{B}
 use Rattle.table.specs.declared.Argument.{Argument}
 use Rattle.table.specs.declared.Argument.TheVariants.{Indexed, Number}
-use Rattle.tests.specs.Below.Does.{stop_of, DoesFor}
+use Rattle.instructions.specs.Questions.{told_by}
+use Rattle.instructions.specs.declared.Question.{Question}
+use Rattle.instructions.specs.Does.{stop_of, DoesFor}
 use Rattle.operands.specs.declared.Kinds.{Kinds}
 use Rattle.operands.specs.declared.Kinds.TheVariants.{Words, Numbers}
 use Rattle.operands.specs.declared.Offered.{Offered}
-use Rattle.operands.specs.declared.Operand.{Operand}
 use Rattle.operands.specs.declared.Pair.{Pair}
 
 abbrev pub kinds_by : Kinds → List (ℕ × ℕ)
@@ -42,23 +43,26 @@ kinds_stop ks j k = cond (eqb j 255) 52 (cond (eqb k 255) 52 (cond (listed_pair 
 -- ---- what is asked
 
 -- a second argument: B, or a number of the machine where it is one
-pub record OperandReadable (p e n : List ℕ) (a : Argument) : Type 0 where
-  pub stands : Stands p e n
+pub record OperandReadable (a : Argument) : Type 0 where
   pub index : (l : Letter) (k : ℕ) → a ≡ Indexed l k → GoodIndex l k
   pub form : (l : Letter) (k : ℕ) → a ≡ Indexed l k → l ≡ B
   pub number : (v : ℕ) → a ≡ Number v → v ≤ 16777214
 
 -- the first component of expression i, and a second argument
-pub record PairReadable (p e n : List ℕ) (i : ℕ) (a : Argument) : Type 0 where
-  pub operand : OperandReadable p e n a
+pub record PairReadable (i : ℕ) (a : Argument) : Type 0 where
+  pub operand : OperandReadable a
   pub source : i < limit.expressions
 
 -- ---- what is told: a question answered no (52, 53), or 0 and the number that xs is
 
-pub record ReadsNumber (xs : List Component) (r : Operand) : Type 0 where
-  pub stop_is : r.stop ≡ stop_of (needs 1 xs)
-  pub is : r.stop ≡ 0 → xs ≡ Component.number (uncode r.code) ∷ []
-  pub most : r.code ≤ 16777214
+-- xs is one number, of code n
+pub record OneNumber (xs : List Component) (n : ℕ) : Type 0 where
+  pub is : xs ≡ Component.number (uncode n) ∷ []
+  pub most : n ≤ 16777214
+
+pub record ReadsNumber (xs : List Component) (r : Result ℕ Question) : Type 0 where
+  pub told : told_by r ≡ stop_of (needs 1 xs)
+  pub is : IfOk r (λ n. OneNumber xs n)
 
 -- the kind and the value that xs offers
 pub record ReadsOffered (xs : List Component) (r : Offered) : Type 0 where
@@ -70,15 +74,19 @@ pub record ReadsOffered (xs : List Component) (r : Offered) : Type 0 where
 abbrev pub ReadsOperand : Store → Argument → Offered → Type 0
 ReadsOperand s a r = (c : List ℕ) (ins : Inputs) → ReadsOffered (side ins s (arg_of c a)) r
 
--- two values, of kinds that are listed
-pub record ReadsOperands (ks : List (ℕ × ℕ)) (xs ys : List Component) (r : Pair) : Type 0 where
-  pub stop_is : r.stop ≡ stop_of (of_kinds ks xs ys)
-  pub left_is : uncode r.left ≡ value (first xs)
-  pub right_is : uncode r.right ≡ value (first ys)
-  pub left_most : r.left ≤ 16777214
-  pub right_most : r.right ≤ 16777214
+-- two values
+pub record Both (xs ys : List Component) (p : Pair) : Type 0 where
+  pub left_is : uncode p.left ≡ value (first xs)
+  pub right_is : uncode p.right ≡ value (first ys)
+  pub left_most : p.left ≤ 16777214
+  pub right_most : p.right ≤ 16777214
 
-abbrev pub ReadsPair : List (ℕ × ℕ) → Store → ℕ → Argument → Pair → Type 0
+-- two values, of kinds that are listed
+pub record ReadsOperands (ks : List (ℕ × ℕ)) (xs ys : List Component) (r : Result Pair Question) : Type 0 where
+  pub told : told_by r ≡ stop_of (of_kinds ks xs ys)
+  pub is : IfOk r (λ p. Both xs ys p)
+
+abbrev pub ReadsPair : List (ℕ × ℕ) → Store → ℕ → Argument → Result Pair Question → Type 0
 ReadsPair ks s i a r = (removes : Bool) (c : List ℕ) (ins : Inputs) → ReadsOperands ks (side ins s (nth (reading removes) i)) (side ins s (arg_of c a)) r
 
 -- ---- the place of the first component
@@ -88,11 +96,9 @@ unfoldable pub replaced : Bool → ℕ → List Component → Store → Store
 replaced removes i ys s = front (nth (reading removes) i) ys (used (nth (reading removes) i) s)
 
 -- expression i has a first component of so many bytes and letters, and the components in `new` are so many, of so many characters
-pub record Replaceable (p e n : List ℕ) (scratch i bytes letters : ℕ) (new : List ℕ) (parts chars : ℕ) : Type 0 where
-  pub stands : Stands p e n
-  pub spare : 65536 ≤ scratch
+pub record Replaceable (σ : State) (i bytes letters : ℕ) (new : List ℕ) (parts chars : ℕ) : Type 0 where
   pub index : i < limit.expressions
-  pub first : FirstParts (expr (state_at p e n).store (nth E i)) 1 bytes letters
+  pub first : FirstParts (expr σ.store (nth E i)) 1 bytes letters
   pub letters_most : letters ≤ 65536
   pub whole : WholeComponents new
   pub count : parts ≡ length (components_in new)
@@ -102,5 +108,5 @@ pub record Replaceable (p e n : List ℕ) (scratch i bytes letters : ℕ) (new :
 
 -- ---- instructions that read no table: what they do is said for every one
 
-abbrev pub DoesWith : List ℕ → List ℕ → List ℕ → ℕ → List ℕ → List ℕ → List ℕ → (List ℕ → Program → Inputs → Row) → Type 0
-DoesWith p e n told p' e' n' r = (c : List ℕ) → DoesFor p e n told p' e' n' (r c)
+abbrev pub DoesWith : State → ℕ → State → (List ℕ → Program → Inputs → Row) → Type 0
+DoesWith σ told σ' r = (c : List ℕ) → DoesFor σ told σ' (r c)

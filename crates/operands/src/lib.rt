@@ -1,17 +1,20 @@
 // What two operands of an instruction are, with questions 52 and 53, and components in the place of the first.
 #![tactic(auto)]
 
-ghost use Rattle.std.specs.Prelude.{◌≡◌, true, cond, length, take};
+ghost use Rattle.std.specs.Prelude.{◌≡◌, ◌<◌, true, take};
 ghost use Rattle.language.specs.Letters.Letter.{E};
+ghost use Rattle.language.specs.Limits as limit;
 ghost use Rattle.machine.specs.Arguments.{expr, listed_pair};
 ghost use Rattle.layout.specs.Components.{components_in};
-ghost use Rattle.state.specs.Working.{state_at, nth};
-ghost use Rattle.state.specs.Blocks.{ExprNamed};
-ghost use Rattle.tests.specs.Below.Does.{Tried};
+ghost use Rattle.state.specs.Working.{Stands, nth};
+ghost use Rattle.instructions.specs.Questions.{told_by};
+ghost use Rattle.instructions.specs.Does.{Tried};
 ghost use Rattle.operands.specs.Operands.{kinds_by, kinds_stop, OperandReadable, PairReadable, ReadsNumber, ReadsOffered, ReadsOperand, ReadsPair, replaced, Replaceable};
 
+use instructions::Question;
 use language::Machine;
 use layout::StatePlaces;
+use state::Working;
 
 // The pairs of kinds that two operands may have.
 #[derive(Clone, Copy)]
@@ -20,7 +23,8 @@ pub enum Kinds {
     Numbers,
 }
 
-// What stands for the kind of a component that is not there.
+// What stands for the kind of a component that is not there: a number and no `Option`, since `ask_kinds` asks of both whether they are there before the
+// kind of either.
 pub const ABSENT: u8 = 255;
 
 // The code of 0.
@@ -33,25 +37,11 @@ pub struct Offered {
     pub code: usize,
 }
 
-// A question answered no, or 0 and the code of a number.
-#[derive(Clone, Copy)]
-pub struct Operand {
-    pub stop: u8,
-    pub code: usize,
-}
-
-// A question answered no, or 0; and the codes of two values.
+// The codes of two values.
 #[derive(Clone, Copy)]
 pub struct Pair {
-    pub stop: u8,
     pub left: usize,
     pub right: usize,
-}
-
-fn pick(t: bool, a: usize, b: usize) -> usize
-    ensures { result ≡ cond t a b }
-{
-    if t { a } else { b }
 }
 
 // Whether kinds `j` and `k` are one of the pairs.
@@ -64,28 +54,29 @@ fn takes(kinds: Kinds, j: u8, k: u8) -> bool
     }
 }
 
-// Whether two components are there (52), and of kinds that are taken (53): 0, or the question answered no.
-pub fn ask_kinds(kinds: Kinds, j: u8, k: u8) -> u8
-    ensures { result ≡ kinds_stop (kinds_by kinds) j k }
+// Whether two components are there (52), and of kinds that are taken (53).
+pub fn ask_kinds(kinds: Kinds, j: u8, k: u8) -> Result<(), Question>
+    ensures { told_by result ≡ kinds_stop (kinds_by kinds) j k }
 {
     if j == ABSENT {
-        return 52;
+        return Err(Question::Missing);
     }
     if k == ABSENT {
-        return 52;
+        return Err(Question::Missing);
     }
     if takes(kinds, j, k) {
-        return 0;
+        return Ok(());
     }
-    53
+    Err(Question::Kind)
 }
 
 // The first component of expression `i`.
-fn first_offered(pool: &[u8], ends: &[u32], nums: &[u32], i: usize) -> Offered
-    requires { ExprNamed pool.now ends.now nums.now i }
-    ensures { ReadsOffered (take 1 (expr (state_at pool.now ends.now nums.now).store (nth E i))) result }
+fn first_offered(state: &Working, i: usize) -> Offered
+    requires { i < limit.expressions }
+    ensures reads { ReadsOffered (take 1 (expr state.now.store (nth E i))) result }
+    ensures stands { Stands state.now }
 {
-    let x = state::expr_bytes(pool, ends, nums, i);
+    let x = state.expr_bytes(i);
     if x.len() == 0 {
         return Offered {
             kind: ABSENT,
@@ -105,54 +96,42 @@ fn first_offered(pool: &[u8], ends: &[u32], nums: &[u32], i: usize) -> Offered
     }
 }
 
-// The first component of expression `i` as a number.
-pub fn first_number(pool: &[u8], ends: &[u32], nums: &[u32], i: usize) -> Operand
-    requires { ExprNamed pool.now ends.now nums.now i }
-    ensures { ReadsNumber (take 1 (expr (state_at pool.now ends.now nums.now).store (nth E i))) result }
+// The first component of expression `i` as a number: its code.
+pub fn first_number(state: &Working, i: usize) -> Result<usize, Question>
+    requires { i < limit.expressions }
+    ensures reads { ReadsNumber (take 1 (expr state.now.store (nth E i))) result }
+    ensures stands { Stands state.now }
 {
-    let x = first_offered(pool, ends, nums, i);
-    let kind = x.kind;
-    let code = x.code;
-    if kind == ABSENT {
-        return Operand { stop: 52, code: 0 };
+    let x = first_offered(state, i);
+    if x.kind == ABSENT {
+        return Err(Question::Missing);
     }
-    if kind != 1 {
-        return Operand { stop: 53, code: 0 };
+    if x.kind != 1 {
+        return Err(Question::Kind);
     }
-    Operand {
-        stop: 0,
-        code: code,
-    }
+    Ok(x.code)
 }
 
 // A second argument: B, a number or a text.
-fn second_offered(pool: &[u8], ends: &[u32], nums: &[u32], arg: table::Argument) -> Offered
-    requires { OperandReadable pool.now ends.now nums.now arg }
-    ensures { ReadsOperand (state_at pool.now ends.now nums.now).store arg result }
+fn second_offered(state: &Working, arg: table::Argument) -> Offered
+    requires { OperandReadable arg }
+    ensures { ReadsOperand state.now.store arg result }
 {
     match arg {
-        table::Argument::Indexed(_, n) => first_offered(pool, ends, nums, n - 1),
+        table::Argument::Indexed(_, n) => first_offered(state, n - 1),
         table::Argument::Number(v) => Offered {
             kind: 1,
+            // `usize` has no `From<u32>`.
             code: v as usize,
         },
         table::Argument::Text(_) => Offered {
             kind: 0,
             code: ZERO,
         },
-        table::Argument::Class(_) => Offered {
-            kind: ABSENT,
-            code: ZERO,
-        },
-        table::Argument::Nothing => Offered {
-            kind: ABSENT,
-            code: ZERO,
-        },
-        table::Argument::Label(_) => Offered {
-            kind: ABSENT,
-            code: ZERO,
-        },
-        table::Argument::Switch(_) => Offered {
+        table::Argument::Class(_)
+        | table::Argument::Nothing
+        | table::Argument::Label(_)
+        | table::Argument::Switch(_) => Offered {
             kind: ABSENT,
             code: ZERO,
         },
@@ -161,33 +140,28 @@ fn second_offered(pool: &[u8], ends: &[u32], nums: &[u32], arg: table::Argument)
 
 // The first component of expression `i` and a second argument, of kinds that are taken.
 pub fn two_operands(
-    pool: &[u8],
-    ends: &[u32],
-    nums: &[u32],
+    state: &Working,
     i: usize,
     arg: table::Argument,
     kinds: Kinds,
-) -> Pair
-    requires { PairReadable pool.now ends.now nums.now i arg }
-    ensures { ReadsPair (kinds_by kinds) (state_at pool.now ends.now nums.now).store i arg result }
+) -> Result<Pair, Question>
+    requires { PairReadable i arg }
+    ensures reads { ReadsPair (kinds_by kinds) state.now.store i arg result }
+    ensures stands { Stands state.now }
 {
-    let x = first_offered(pool, ends, nums, i);
-    let y = second_offered(pool, ends, nums, arg);
-    let stop = ask_kinds(kinds, x.kind, y.kind);
-    Pair {
-        stop: stop,
+    let x = first_offered(state, i);
+    let y = second_offered(state, arg);
+    ask_kinds(kinds, x.kind, y.kind)?;
+    Ok(Pair {
         left: x.code,
         right: y.code,
-    }
+    })
 }
 
-// Puts the components in `new` in front of expression `i`, where they have room, and removes the first component or not: 0 or 59. The first takes
-// `bytes` cells and has so many letters; the new ones are so many parts and characters.
+// Puts the components in `new` in front of expression `i`, where they have room, and removes the first component or not. The first takes
+// `bytes` cells and has so many letters; the new ones are so many parts and characters: single counts, since each caller has them apart.
 pub fn replace(
-    pool: &mut [u8],
-    ends: &mut [u32],
-    nums: &mut [u32],
-    scratch: &mut [u8],
+    state: &mut Working,
     removes: bool,
     i: usize,
     bytes: usize,
@@ -195,23 +169,19 @@ pub fn replace(
     new: &[u8],
     parts: usize,
     chars: usize,
-) -> u8
-    requires { Replaceable pool.old ends.old nums.old (length scratch.old) i bytes letters new.now parts chars }
-    ensures { Tried pool.old ends.old nums.old result pool.new ends.new nums.new true (replaced removes i (components_in new.now) (state_at pool.old ends.old nums.old).store) }
+) -> Result<(), Question>
+    requires { Replaceable state.old i bytes letters new.now parts chars }
+    ensures { Tried state.old (told_by result) state.new true (replaced removes i (components_in new.now) state.old.store) }
 {
-    let freed = pick(removes, 1, 0);
-    let freed_letters = pick(removes, letters, 0);
-    if Machine::COMPONENTS + freed
-        < state::number(pool, ends, nums, StatePlaces::COMPONENTS_SCALAR) + parts
-    {
-        return 59;
+    let freed = usize::from(removes);
+    let freed_letters = if removes { letters } else { 0 };
+    if Machine::COMPONENTS + freed < state.number(StatePlaces::COMPONENTS_SCALAR) + parts {
+        return Err(Question::Room);
     }
-    if Machine::CHARACTERS + freed_letters
-        < state::number(pool, ends, nums, StatePlaces::CHARACTERS_SCALAR) + chars
-    {
-        return 59;
+    if Machine::CHARACTERS + freed_letters < state.number(StatePlaces::CHARACTERS_SCALAR) + chars {
+        return Err(Question::Room);
     }
-    state::past_parts(pool, ends, nums, i, removes, 1, bytes, letters);
-    state::write_parts(pool, ends, nums, scratch, i, false, new, parts, chars);
-    0
+    state.past_parts(i, removes, 1, bytes, letters);
+    state.write_parts(i, false, new, parts, chars);
+    Ok(())
 }

@@ -1,11 +1,10 @@
 -- The rows of order, and that their functions do what they say.
 use mathlib.Core.Path.{◌≡◌, refl, sym, ap, ◌∙◌}
 use mathlib.Core.Bool.{Bool, false}
-use mathlib.Core.List.{List}
-use Prim.Native.Nat.{ℕ}
-use native.Mathlib.Omega.{arith}
+use mathlib.Core.List.{List, []}
+use Prim.Native.Nat.{ℕ, ◌≤◌}
 use lib.Dec.{ltb}
-use lib.ListN.{length, take, length-take}
+use lib.ListN.{take}
 use lib.Signed.{lt_z}
 use Rattle.characters.specs.Characters.{precedes}
 use Rattle.language.specs.Instructions.{two_words, kinds_of}
@@ -13,24 +12,27 @@ use Rattle.language.specs.Letters.Letter.{E}
 use Rattle.language.specs.Program.{Arg, Op, Program}
 use Rattle.language.specs.Program.Arg.{nothing}
 use Rattle.language.specs.Program.Op.{WK, MN, PP, NS}
-use Rattle.language.specs.Values.{Component, Store, Inputs, chars, value}
+use Rattle.language.specs.Values.{Component, Store, State, Inputs, chars, value}
 use Rattle.machine.specs.Arguments.{expr, first, side, of_kinds}
 use Rattle.machine.specs.Changes.{minus_unless, past_by, used_by, used}
 use Rattle.machine.specs.Effects.{Row, relation, ordered, row}
 use Rattle.machine.specs.Effects.Go.{on}
 use Rattle.packed.specs.Packed.{table_of}
-use Rattle.state.specs.Working.{state_at, HoldsState, Stands, on_store, nth, reading}
+use Rattle.state.specs.Working.{HoldsState, Stands, on_store, nth, reading}
 use Rattle.table.specs.Denote.{arg_of}
 use Rattle.table.specs.declared.Argument.{Argument}
+use Rattle.std.specs.Prelude.{Result, Ok, Err}
+use Rattle.std.proofs.lemmas.Result.{IfOk-at_ok}
+use Rattle.instructions.specs.Questions.{question_number, told_by}
+use Rattle.instructions.specs.declared.Question.{Question}
 use Rattle.instructions.specs.Does.{Does, DoesFor, Quiet, stop_of}
 use Rattle.instructions.proofs.Answers.{quiet-stop, quiet-done}
-use Rattle.operands.specs.Operands.{kinds_stop, ReadsPair, DoesWith}
+use Rattle.instructions.proofs.Asking.{some}
+use Rattle.operands.specs.Operands.{Both, ReadsPair, DoesWith}
 use Rattle.operands.specs.declared.Pair.{Pair}
 use Rattle.operands.proofs.Codes.{coded-less}
-use Rattle.operands.proofs.Reading.{kinds-told}
 use Rattle.operands.proofs.Signs.{kept-or-minus}
-use Rattle.ordering.specs.Ordering.{ReadsWord, ReadsOther}
-use Rattle.ordering.specs.declared.Worded.{Worded}
+use Rattle.ordering.specs.Ordering.{BothSpelled, ReadsWords}
 
 -- ---- the rows
 
@@ -82,21 +84,19 @@ module _ (g : Program) (ins : Inputs) (s : Store) (i : ℕ) (a : Arg) where
 quiet-two : (ks : List (ℕ × ℕ)) (xs ys : List Component) → Quiet (of_kinds ks xs ys)
 quiet-two ks xs ys = record { is_50 = refl; is_55 = refl; is_56 = refl; is_57 = refl; is_58 = refl; is_59 = refl; is_60 = refl }
 
-module _ {p e n : List ℕ} (h : Stands p e n) where
+module _ {σ : State} (h : Stands σ) where
   abbrev s : Store
-  s = (state_at p e n).store
+  s = σ.store
 
   order-stop : (ks : List (ℕ × ℕ)) (less : Less) (xs ys : List Component) {m : ℕ} → m ≡ stop_of (of_kinds ks xs ys) → (m ≡ 0 → ⊥)
-      → Does p e n m p e n (row_of ks less s xs ys)
-  order-stop ks less xs ys e z =
-      let b = less (first xs) (first ys) in
-      quiet-stop h (of_kinds ks xs ys) (minus_unless b s) (quiet-two ks xs ys) e z
+      → Does σ m σ (row_of ks less s xs ys)
+  order-stop ks less xs ys e z = quiet-stop h (of_kinds ks xs ys) (minus_unless (less (first xs) (first ys)) s) (quiet-two ks xs ys) e z
 
-  order-done : (ks : List (ℕ × ℕ)) (less : Less) (xs ys : List Component) {b : Bool} {n' : List ℕ} → stop_of (of_kinds ks xs ys) ≡ 0 → b ≡ less (first xs) (first ys)
-      → HoldsState p e n' (on_store (minus_unless b) (state_at p e n)) → Does p e n 0 p e n' (row_of ks less s xs ys)
+  order-done : (ks : List (ℕ × ℕ)) (less : Less) (xs ys : List Component) {b : Bool} {σ' : State} → 0 ≡ stop_of (of_kinds ks xs ys) → b ≡ less (first xs) (first ys)
+      → HoldsState σ' (on_store (minus_unless b) σ) → Does σ 0 σ' (row_of ks less s xs ys)
   unfolding on_store
   order-done ks less xs ys z q u =
-      quiet-done h (of_kinds ks xs ys) (minus_unless (less (first xs) (first ys)) s) (quiet-two ks xs ys) z (rw q at u)
+      quiet-done h (of_kinds ks xs ys) (minus_unless (less (first xs) (first ys)) s) (quiet-two ks xs ys) (sym z) (rw q at u)
 
   -- ---- numbers
 
@@ -107,58 +107,79 @@ module _ {p e n : List ℕ} (h : Stands p e n) where
     abbrev right : List ℕ → Inputs → List Component
     right c ins = side ins s (arg_of c a)
 
-    module _ {r : Pair} (w : ReadsPair (kinds_of WK) s i a r) where
-      pub wk-stop : (r.stop ≡ 0 → ⊥) → DoesWith p e n r.stop p e n (λ c g ins. row g ins s (nth (reading false) i) (arg_of c a) nothing WK)
-      wk-stop z c g ins = rw (row-wk g ins s i (arg_of c a)) (order-stop (kinds_of WK) greater (left ins) (right c ins) (w false c ins).stop_is z)
+    abbrev number_rows : Op → List ℕ → Program → Inputs → Row
+    number_rows o c g ins = row g ins s (nth (reading false) i) (arg_of c a) nothing o
 
-      pub wk-done : r.stop ≡ 0 → {n' : List ℕ} → HoldsState p e n' (on_store (minus_unless (ltb r.right r.left)) (state_at p e n))
-          → DoesWith p e n 0 p e n' (λ c g ins. row g ins s (nth (reading false) i) (arg_of c a) nothing WK)
-      wk-done z u c g ins =
-          let v = w false c ins in
-          rw (row-wk g ins s i (arg_of c a))
-          (order-done (kinds_of WK) greater (left ins) (right c ins) (sym v.stop_is ∙ z) (coded-less r.right r.left ∙ rw (v.left_is, v.right_is) refl) u)
+    module _ {ks : List (ℕ × ℕ)} {r : Result Pair Question} (w : ReadsPair ks s i a r) {p : Pair} (e : r ≡ Ok p) where
+      both : (c : List ℕ) (ins : Inputs) → Both (left ins) (right c ins) p
+      both c ins = IfOk-at_ok (λ x. Both (left ins) (right c ins) x) e (w false c ins).is
 
-    module _ {r : Pair} (w : ReadsPair (kinds_of MN) s i a r) where
-      pub mn-stop : (r.stop ≡ 0 → ⊥) → DoesWith p e n r.stop p e n (λ c g ins. row g ins s (nth (reading false) i) (arg_of c a) nothing MN)
-      mn-stop z c g ins = rw (row-mn g ins s i (arg_of c a)) (order-stop (kinds_of MN) smaller (left ins) (right c ins) (w false c ins).stop_is z)
+      none-stops : (c : List ℕ) (ins : Inputs) → 0 ≡ stop_of (of_kinds ks (left ins) (right c ins))
+      none-stops c ins = sym (ap told_by e) ∙ (w false c ins).told
 
-      pub mn-done : r.stop ≡ 0 → {n' : List ℕ} → HoldsState p e n' (on_store (minus_unless (ltb r.left r.right)) (state_at p e n))
-          → DoesWith p e n 0 p e n' (λ c g ins. row g ins s (nth (reading false) i) (arg_of c a) nothing MN)
-      mn-done z u c g ins =
-          let v = w false c ins in
-          rw (row-mn g ins s i (arg_of c a))
-          (order-done (kinds_of MN) smaller (left ins) (right c ins) (sym v.stop_is ∙ z) (coded-less r.left r.right ∙ rw (v.left_is, v.right_is) refl) u)
+    pub wk-stop : {r : Result Pair Question} → ReadsPair (kinds_of WK) s i a r → {q : Question} → r ≡ Err q → DoesWith σ (question_number q) σ (number_rows WK)
+    wk-stop w {q} e c g ins =
+        rw (row-wk g ins s i (arg_of c a)) (order-stop (kinds_of WK) greater (left ins) (right c ins) (sym (ap told_by e) ∙ (w false c ins).told) (some q))
+
+    pub wk-done : {r : Result Pair Question} → ReadsPair (kinds_of WK) s i a r → {p : Pair} → r ≡ Ok p → {σ' : State}
+        → HoldsState σ' (on_store (minus_unless (ltb p.right p.left)) σ) → DoesWith σ 0 σ' (number_rows WK)
+    wk-done w {p} e u c g ins =
+        let v = both w e c ins in
+        rw (row-wk g ins s i (arg_of c a))
+        (order-done (kinds_of WK) greater (left ins) (right c ins) (none-stops w e c ins) (coded-less p.right p.left ∙ rw (v.left_is, v.right_is) refl) u)
+
+    pub mn-stop : {r : Result Pair Question} → ReadsPair (kinds_of MN) s i a r → {q : Question} → r ≡ Err q → DoesWith σ (question_number q) σ (number_rows MN)
+    mn-stop w {q} e c g ins =
+        rw (row-mn g ins s i (arg_of c a)) (order-stop (kinds_of MN) smaller (left ins) (right c ins) (sym (ap told_by e) ∙ (w false c ins).told) (some q))
+
+    pub mn-done : {r : Result Pair Question} → ReadsPair (kinds_of MN) s i a r → {p : Pair} → r ≡ Ok p → {σ' : State}
+        → HoldsState σ' (on_store (minus_unless (ltb p.left p.right)) σ) → DoesWith σ 0 σ' (number_rows MN)
+    mn-done w {p} e u c g ins =
+        let v = both w e c ins in
+        rw (row-mn g ins s i (arg_of c a))
+        (order-done (kinds_of MN) smaller (left ins) (right c ins) (none-stops w e c ins) (coded-less p.left p.right ∙ rw (v.left_is, v.right_is) refl) u)
 
   -- ---- words
 
-  module _ (c : List ℕ) (i : ℕ) (a : Argument) {x y : List ℕ} {q r : Worded} (v : ReadsWord (take 1 (expr s (nth E i))) x q) (w : ReadsOther c s a y r) {k : ℕ}
-      (o : k ≡ kinds_stop two_words q.kind r.kind) where
+  module _ (c : List ℕ) (i : ℕ) (a : Argument) {x y : List ℕ} {r : Result (ℕ × ℕ) Question} (w : ReadsWords c s i a x y r) where
     abbrev other : Inputs → List Component
     other ins = side ins s (arg_of (table_of c) a)
 
     abbrev one : List Component
     one = take 1 (expr s (nth E i))
 
-    stop-both : (ins : Inputs) → k ≡ stop_of (of_kinds two_words one (other ins))
-    stop-both ins = kinds-told two_words one (other ins) v.kind_is (w ins).kind_is o
+    abbrev word_rows : Op → Program → Inputs → Row
+    word_rows o g ins = row g ins s (nth (reading false) i) (arg_of (table_of c) a) nothing o
 
-    pub pp-stop : (k ≡ 0 → ⊥) → DoesFor p e n k p e n (λ g ins. row g ins s (nth (reading false) i) (arg_of (table_of c) a) nothing PP)
-    pp-stop z g ins = rw (row-pp g ins s i (arg_of (table_of c) a)) (order-stop two_words before one (other ins) (stop-both ins) z)
+    pub pp-stop : {q : Question} → r ≡ Err q → DoesFor σ (question_number q) σ (word_rows PP)
+    pp-stop {q} e g ins =
+        rw (row-pp g ins s i (arg_of (table_of c) a)) (order-stop two_words before one (other ins) (sym (ap told_by e) ∙ (w ins).told) (some q))
 
-    pub ns-stop : (k ≡ 0 → ⊥) → DoesFor p e n k p e n (λ g ins. row g ins s (nth (reading false) i) (arg_of (table_of c) a) nothing NS)
-    ns-stop z g ins = rw (row-ns g ins s i (arg_of (table_of c) a)) (order-stop two_words behind one (other ins) (stop-both ins) z)
+    pub ns-stop : {q : Question} → r ≡ Err q → DoesFor σ (question_number q) σ (word_rows NS)
+    ns-stop {q} e g ins =
+        rw (row-ns g ins s i (arg_of (table_of c) a)) (order-stop two_words behind one (other ins) (sym (ap told_by e) ∙ (w ins).told) (some q))
 
-    pub pp-done : k ≡ 0 → {b : Bool} {n' : List ℕ} → b ≡ precedes (take q.len x) (take r.len y) → HoldsState p e n' (on_store (minus_unless b) (state_at p e n))
-        → DoesFor p e n 0 p e n' (λ g ins. row g ins s (nth (reading false) i) (arg_of (table_of c) a) nothing PP)
-    pp-done z e u g ins =
-        rw (row-pp g ins s i (arg_of (table_of c) a))
-        (order-done two_words before one (other ins) (sym (stop-both ins) ∙ z) (e ∙ rw (v.is, (w ins).is) refl) u)
+    module _ {m n : ℕ} (e : r ≡ Ok (m, n)) where
+      spelled : (ins : Inputs) → BothSpelled one (other ins) x y (m, n)
+      spelled ins = IfOk-at_ok (λ p. BothSpelled one (other ins) x y p) e (w ins).is
 
-    pub ns-done : k ≡ 0 → {b : Bool} {n' : List ℕ} → b ≡ precedes (take r.len y) (take q.len x) → HoldsState p e n' (on_store (minus_unless b) (state_at p e n))
-        → DoesFor p e n 0 p e n' (λ g ins. row g ins s (nth (reading false) i) (arg_of (table_of c) a) nothing NS)
-    ns-done z e u g ins =
-        rw (row-ns g ins s i (arg_of (table_of c) a))
-        (order-done two_words behind one (other ins) (sym (stop-both ins) ∙ z) (e ∙ rw (v.is, (w ins).is) refl) u)
+      none-stops-words : (ins : Inputs) → 0 ≡ stop_of (of_kinds two_words one (other ins))
+      none-stops-words ins = sym (ap told_by e) ∙ (w ins).told
 
-pub word-long : {xs : List Component} {g : List ℕ} {r : Worded} → ReadsWord xs g r → r.len ≡ length (take r.len g)
-word-long w = simp length-take (omega (arith, w.inside))
+      pub left_most : m ≤ 32768
+      left_most = (spelled []).left_most
+
+      pub right_most : n ≤ 32768
+      right_most = (spelled []).right_most
+
+      pub pp-done : {b : Bool} {σ' : State} → b ≡ precedes (take m x) (take n y) → HoldsState σ' (on_store (minus_unless b) σ) → DoesFor σ 0 σ' (word_rows PP)
+      pp-done d u g ins =
+          let v = spelled ins in
+          rw (row-pp g ins s i (arg_of (table_of c) a))
+          (order-done two_words before one (other ins) (none-stops-words ins) (d ∙ rw (v.left_is, v.right_is) refl) u)
+
+      pub ns-done : {b : Bool} {σ' : State} → b ≡ precedes (take n y) (take m x) → HoldsState σ' (on_store (minus_unless b) σ) → DoesFor σ 0 σ' (word_rows NS)
+      ns-done d u g ins =
+          let v = spelled ins in
+          rw (row-ns g ins s i (arg_of (table_of c) a))
+          (order-done two_words behind one (other ins) (none-stops-words ins) (d ∙ rw (v.left_is, v.right_is) refl) u)

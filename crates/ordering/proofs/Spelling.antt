@@ -1,30 +1,31 @@
 -- Words read from components and arguments.
-use mathlib.Core.Path.{◌≡◌, refl, sym, ◌∙◌, subst}
+use mathlib.Core.Path.{◌≡◌, refl, sym, ◌∙◌}
 use mathlib.Core.List.{List, []}
-use Prim.Native.Nat.{ℕ, ◌-◌, ◌≤◌}
+use Prim.Native.Nat.{ℕ, ◌-◌, ◌≤◌, ◌<◌}
 use native.Mathlib.Omega.{arith}
 use lib.ListN.{length, take}
+use Rattle.std.specs.Prelude.{Ok, Err}
+use Rattle.language.specs.Instructions.{two_words}
+use Rattle.language.specs.Limits as limit
 use Rattle.language.specs.Letters.Letter.{E}
-use Rattle.language.specs.Program.Arg.{letter, text}
-use Rattle.language.specs.Values.{Component, Store, chars, kind}
+use Rattle.language.specs.Values.{Component, State, chars, kind}
 use Rattle.language.specs.Values.Component.{word, address}
-use Rattle.machine.specs.Arguments.{expr, side}
+use Rattle.machine.specs.Arguments.{expr}
 use Rattle.layout.specs.Components.{component_in}
-use Rattle.layout.specs.Table.{text_by}
 use Rattle.cells.specs.Cells.{pasted}
 use Rattle.cells.proofs.Laws.{pasted-front, length-pasted}
 use Rattle.components.specs.Parts.{LentChars}
-use Rattle.packed.specs.Packed.{table_of, Copied}
-use Rattle.state.specs.Working.{state_at, nth}
+use Rattle.state.specs.Working.{nth}
 use Rattle.state.specs.Blocks.{ExprLent}
-use Rattle.table.specs.Denote.{letter_of}
 use Rattle.table.specs.declared.Letter.{Letter}
-use Rattle.table.specs.declared.Letter.TheVariants.{B}
 use Rattle.table.specs.declared.Argument.{Argument}
 use Rattle.table.specs.declared.Argument.TheVariants as argument
-use Rattle.tests.specs.Prepares.{TextReadable}
-use Rattle.tests.proofs.Values.{none-there, one-there, index_back, copied-in, copied_is}
-use Rattle.ordering.specs.Ordering.{WordReadable, OtherReadable, ReadsWord, ReadsOther, TextIs}
+use Rattle.instructions.specs.Questions.{question_number}
+use Rattle.instructions.specs.declared.Question.{Question}
+use Rattle.operands.specs.Operands.{kinds_stop}
+use Rattle.operands.proofs.Values.{none-there, one-there}
+use Rattle.operands.proofs.Reading.{kinds-told}
+use Rattle.ordering.specs.Ordering.{OtherReadable, ReadsWord, ReadsTwo}
 use Rattle.ordering.specs.declared.Worded.{Worded}
 
 abbrev told : ℕ → ℕ → Worded
@@ -38,9 +39,9 @@ no-chars (word w) k = absurd (k refl)
 no-chars (Component.number z) k = refl
 no-chars (address n) k = refl
 
-module _ {p e n : List ℕ} {i : ℕ} {x : List ℕ} (l : ExprLent p e n i x) (g : List ℕ) where
+module _ {σ : State} {i : ℕ} {x : List ℕ} (l : ExprLent σ i x) (g : List ℕ) where
   abbrev es : List Component
-  es = expr (state_at p e n).store (nth E i)
+  es = expr σ.store (nth E i)
 
   pub none_told : length x ≡ 0 → ReadsWord (take 1 es) g (told 255 0)
   none_told z = record { kind_is = rw (none-there l z) refl; is = rw (none-there l z) refl; inside = omega arith }
@@ -60,45 +61,19 @@ module _ {p e n : List ℕ} {i : ℕ} {x : List ℕ} (l : ExprLent p e n i x) (g
 
 -- ---- arguments
 
-pub text_is : {v o z : List ℕ} {r : ℕ} → Copied v o z r → TextIs v z (told 0 r)
-text_is h = record { kind_is = refl; is = copied_is h; inside = copied-in h }
+pub other-named : {c : List ℕ} {a : Argument} {l : Letter} {k : ℕ} → OtherReadable c a → a ≡ argument.Indexed l k → k - 1 < limit.expressions
+other-named {l = l} {k = k} h q = omega (arith, (h.good.index l k q).from, (h.good.index l k q).most)
 
-module _ {c p e n : List ℕ} {given : ℕ} {a : Argument} (h : OtherReadable c p e n given a) where
-  pub other-named : {l : Letter} {k : ℕ} → a ≡ argument.Indexed l k → WordReadable p e n given (k - 1)
-  other-named {l} {k} q =
-      record { named = record { stands = h.stands; index = omega (arith, (h.good.index l k q).from, (h.good.index l k q).most) }; room = h.room }
+-- ---- both
 
-  pub other_text : {v : ℕ} → a ≡ argument.Text v → TextReadable c v given
-  other_text {v} q = record { long = h.long; good = h.good.text v q; room = h.room }
+pub both-told : (xs ys : List Component) {g h : List ℕ} {x y : Worded} → ReadsWord xs g x → ReadsWord ys h y → length g ≤ 32768 → length h ≤ 32768
+    → 0 ≡ kinds_stop two_words x.kind y.kind → ReadsTwo xs ys g h (Ok (x.len, y.len))
+both-told xs ys v w a b e =
+    record {
+      told = kinds-told two_words xs ys v.kind_is w.kind_is e;
+      is = record { left_is = v.is; right_is = w.is; left_most = omega (arith, v.inside, a); right_most = omega (arith, w.inside, b) };
+    }
 
-  abbrev s : Store
-  s = (state_at p e n).store
-
-  pub letter-told : {l : Letter} {k : ℕ} {g : List ℕ} {r : Worded} → a ≡ argument.Indexed l k → ReadsWord (take 1 (expr s (nth E (k - 1)))) g r → ReadsOther c s a g r
-  letter-told {l} {k} {g} {r} q w =
-      subst (λ (x : Argument). ReadsOther c s x g r) (sym q) (subst (λ (m : Letter). ReadsOther c s (argument.Indexed m k) g r) (sym (h.form l k q))
-      (λ ins. subst (λ (j : ℕ). ReadsWord (side ins s (letter (letter_of B) j)) g r) (index_back (h.good.index l k q)) w))
-
-  pub text-told : {v : ℕ} {g : List ℕ} {r : Worded} → a ≡ argument.Text v → TextIs (text_by (table_of c) v) g r → ReadsOther c s a g r
-  text-told {v} {g} {r} q w =
-      subst (λ (x : Argument). ReadsOther c s x g r) (sym q) (λ ins. record { kind_is = w.kind_is; is = w.is; inside = w.inside })
-
--- the others have no characters
-module _ (c : List ℕ) (s : Store) (g : List ℕ) where
-  pub as_read : {r : Worded} {a b : Argument} → a ≡ b → ReadsOther c s b g r → ReadsOther c s a g r
-  as_read {r} e w = subst (λ (x : Argument). ReadsOther c s x g r) (sym e) w
-
-  pub number-told : (v : ℕ) → ReadsOther c s (argument.Number v) g (told 1 0)
-  number-told v ins = record { kind_is = refl; is = refl; inside = omega arith }
-
-  pub class-told : (v : ℕ) → ReadsOther c s (argument.Class v) g (told 255 0)
-  class-told v ins = record { kind_is = refl; is = refl; inside = omega arith }
-
-  pub nothing-told : ReadsOther c s argument.Nothing g (told 255 0)
-  nothing-told ins = record { kind_is = refl; is = refl; inside = omega arith }
-
-  pub label-told : (v : ℕ) → ReadsOther c s (argument.Label v) g (told 255 0)
-  label-told v ins = record { kind_is = refl; is = refl; inside = omega arith }
-
-  pub switch-told : (v : ℕ) → ReadsOther c s (argument.Switch v) g (told 255 0)
-  switch-told v ins = record { kind_is = refl; is = refl; inside = omega arith }
+pub both-stop : (xs ys : List Component) {g h : List ℕ} {x y : Worded} {q : Question} → ReadsWord xs g x → ReadsWord ys h y
+    → question_number q ≡ kinds_stop two_words x.kind y.kind → ReadsTwo xs ys g h (Err q)
+both-stop xs ys v w e = record { told = kinds-told two_words xs ys v.kind_is w.kind_is e; is = tt }

@@ -1,22 +1,27 @@
 // Order: WK and MN of numbers, PP and NS of words.
 #![tactic(auto)]
 
-ghost use Rattle.std.specs.Prelude.{length, take, false};
+ghost use Rattle.std.specs.Prelude.{◌<◌, take, false};
 ghost use Rattle.language.specs.Letters.Letter.{E};
+ghost use Rattle.language.specs.Limits as limit;
 ghost use Rattle.language.specs.Program.Arg.{nothing};
 ghost use Rattle.language.specs.Program.Op.{WK, MN, PP, NS};
 ghost use Rattle.machine.specs.Arguments.{expr};
 ghost use Rattle.machine.specs.Effects.{row};
 ghost use Rattle.packed.specs.Packed.{table_of};
-ghost use Rattle.state.specs.Working.{state_at, nth, reading};
+ghost use Rattle.state.specs.Working.{Stands, nth, reading};
 ghost use Rattle.table.specs.Denote.{arg_of};
+ghost use Rattle.instructions.specs.Questions.{told_by};
 ghost use Rattle.instructions.specs.Does.{DoesFor};
 ghost use Rattle.operands.specs.Operands.{PairReadable, DoesWith};
 ghost use Rattle.layout.specs.Table.{text_by};
-ghost use Rattle.tests.specs.Prepares.{TextReadable};
-ghost use Rattle.ordering.specs.Ordering.{TextIs, WordReadable, OtherReadable, Comparable, ReadsWord, ReadsOther};
+ghost use Rattle.ordering.specs.Ordering.{TextIs, TextHeld, OtherReadable, Comparable, ReadsWord, ReadsOther, ReadsWords};
+
+use instructions::{Bench, Question};
+use state::Working;
 
 // The kind of a component, and how many characters it has.
+// No `Option`: `operands::ask_kinds` asks whether both are there before it asks the kind of either, and takes kinds, 255 for none.
 #[derive(Clone, Copy)]
 pub struct Worded {
     pub kind: u8,
@@ -24,12 +29,13 @@ pub struct Worded {
 }
 
 // Puts the characters of the first component of expression `i` in front of `out`.
-fn first_word(pool: &[u8], ends: &[u32], nums: &[u32], out: &mut [u8], i: usize) -> Worded
-    requires { WordReadable pool.now ends.now nums.now (length out.old) i }
-    ensures { ReadsWord (take 1 (expr (state_at pool.now ends.now nums.now).store (nth E i))) out.new result }
+fn first_word(state: &Working, out: &mut [u8; 32768], i: usize) -> Worded
+    requires { i < limit.expressions }
+    ensures reads { ReadsWord (take 1 (expr state.now.store (nth E i))) out.new result }
+    ensures stands { Stands state.now }
 {
-    let x = state::expr_bytes(pool, ends, nums, i);
-    if x.len() == 0 {
+    let x = state.expr_bytes(i);
+    if x.is_empty() {
         return Worded {
             kind: operands::ABSENT,
             len: 0,
@@ -37,7 +43,7 @@ fn first_word(pool: &[u8], ends: &[u32], nums: &[u32], out: &mut [u8], i: usize)
     }
     let kind = components::kind_of(x);
     if kind != 0 {
-        return Worded { kind: kind, len: 0 };
+        return Worded { kind, len: 0 };
     }
     let w = components::chars_of(x);
     cells::put(out, 0, w);
@@ -48,8 +54,8 @@ fn first_word(pool: &[u8], ends: &[u32], nums: &[u32], out: &mut [u8], i: usize)
 }
 
 // A text in front of `given`.
-fn text_word(table: &[u32], given: &mut [u8], v: usize) -> Worded
-    requires { TextReadable table.now v (length given.old) }
+fn text_word(table: &[u32], given: &mut [u8; 32768], v: usize) -> Worded
+    requires { TextHeld table.now v }
     ensures { TextIs (text_by (table_of table.now) v) given.new result }
 {
     let n = table::put_text(table, v, given);
@@ -59,118 +65,99 @@ fn text_word(table: &[u32], given: &mut [u8], v: usize) -> Worded
 // Puts the characters of a second argument, B or a text, in front of `given`.
 fn other_word(
     table: &[u32],
-    pool: &[u8],
-    ends: &[u32],
-    nums: &[u32],
-    given: &mut [u8],
+    state: &Working,
+    given: &mut [u8; 32768],
     arg: table::Argument,
 ) -> Worded
-    requires { OtherReadable table.now pool.now ends.now nums.now (length given.old) arg }
-    ensures { ReadsOther table.now (state_at pool.now ends.now nums.now).store arg given.new result }
+    requires { OtherReadable table.now arg }
+    ensures { ReadsOther table.now state.now.store arg given.new result }
 {
     match arg {
-        table::Argument::Indexed(_, n) => first_word(pool, ends, nums, given, n - 1),
+        table::Argument::Indexed(_, n) => first_word(state, given, n - 1),
         table::Argument::Text(v) => text_word(table, given, v),
         table::Argument::Number(_) => Worded { kind: 1, len: 0 },
-        table::Argument::Class(_) => Worded {
-            kind: operands::ABSENT,
-            len: 0,
-        },
-        table::Argument::Nothing => Worded {
-            kind: operands::ABSENT,
-            len: 0,
-        },
-        table::Argument::Label(_) => Worded {
-            kind: operands::ABSENT,
-            len: 0,
-        },
-        table::Argument::Switch(_) => Worded {
+        table::Argument::Class(_)
+        | table::Argument::Nothing
+        | table::Argument::Label(_)
+        | table::Argument::Switch(_) => Worded {
             kind: operands::ABSENT,
             len: 0,
         },
     }
 }
 
-// WK of expression `i`: whether its first number is the greater one. 0, or the question answered no.
-pub fn wk(pool: &[u8], ends: &[u32], nums: &mut [u32], i: usize, arg: table::Argument) -> u8
-    requires { PairReadable pool.now ends.now nums.old i arg }
-    ensures { DoesWith pool.now ends.now nums.old result pool.now ends.now nums.new (λ c g ins. row g ins (state_at pool.now ends.now nums.old).store (nth (reading false) i) (arg_of c arg) nothing WK) }
+// WK of expression `i`: whether its first number is the greater one.
+// This and MN are two functions: a closure for the order would need a contract of its own.
+pub fn wk(state: &mut Working, i: usize, arg: table::Argument) -> Result<(), Question>
+    requires { PairReadable i arg }
+    ensures { DoesWith state.old (told_by result) state.new (λ c g ins. row g ins state.old.store (nth (reading false) i) (arg_of c arg) nothing WK) }
 {
-    let q = operands::two_operands(pool, ends, nums, i, arg, operands::Kinds::Numbers);
-    let stop = q.stop;
-    let holds = q.right < q.left;
-    if stop != 0 {
-        return stop;
-    }
-    state::minus_unless(pool, ends, nums, holds);
-    0
+    let p = operands::two_operands(state, i, arg, operands::Kinds::Numbers)?;
+    state.minus_unless(p.right < p.left);
+    Ok(())
 }
 
 // MN of expression `i`: whether its first number is the smaller one.
-pub fn mn(pool: &[u8], ends: &[u32], nums: &mut [u32], i: usize, arg: table::Argument) -> u8
-    requires { PairReadable pool.now ends.now nums.old i arg }
-    ensures { DoesWith pool.now ends.now nums.old result pool.now ends.now nums.new (λ c g ins. row g ins (state_at pool.now ends.now nums.old).store (nth (reading false) i) (arg_of c arg) nothing MN) }
+pub fn mn(state: &mut Working, i: usize, arg: table::Argument) -> Result<(), Question>
+    requires { PairReadable i arg }
+    ensures { DoesWith state.old (told_by result) state.new (λ c g ins. row g ins state.old.store (nth (reading false) i) (arg_of c arg) nothing MN) }
 {
-    let q = operands::two_operands(pool, ends, nums, i, arg, operands::Kinds::Numbers);
-    let stop = q.stop;
-    let holds = q.left < q.right;
-    if stop != 0 {
-        return stop;
-    }
-    state::minus_unless(pool, ends, nums, holds);
-    0
+    let p = operands::two_operands(state, i, arg, operands::Kinds::Numbers)?;
+    state.minus_unless(p.left < p.right);
+    Ok(())
+}
+
+// The first word of expression `i` in front of `hold` and the other one in front of `given`: how long they are.
+fn words_of(
+    table: &[u32],
+    state: &Working,
+    hold: &mut [u8; 32768],
+    given: &mut [u8; 32768],
+    i: usize,
+    arg: table::Argument,
+) -> Result<(usize, usize), Question>
+    requires { Comparable table.now i arg }
+    ensures reads { ReadsWords table.now state.now.store i arg hold.new given.new result }
+    ensures stands { Stands state.now }
+{
+    let x = first_word(state, hold, i);
+    let y = other_word(table, state, given, arg);
+    operands::ask_kinds(operands::Kinds::Words, x.kind, y.kind)?;
+    Ok((x.len, y.len))
 }
 
 // PP of expression `i`: whether its first word comes before the other.
-pub fn pp(
-    table: &[u32],
-    pool: &[u8],
-    ends: &[u32],
-    nums: &mut [u32],
-    hold: &mut [u8],
-    given: &mut [u8],
-    i: usize,
-    arg: table::Argument,
-) -> u8
-    requires { Comparable table.now pool.now ends.now nums.old (length hold.old) (length given.old) i arg }
-    ensures { DoesFor pool.now ends.now nums.old result pool.now ends.now nums.new (λ g ins. row g ins (state_at pool.now ends.now nums.old).store (nth (reading false) i) (arg_of (table_of table.now) arg) nothing PP) }
+pub fn pp(table: &[u32], bench: &mut Bench, i: usize, arg: table::Argument) -> Result<(), Question>
+    requires { Comparable table.now i arg }
+    ensures { DoesFor bench.old.state (told_by result) bench.new.state (λ g ins. row g ins bench.old.state.store (nth (reading false) i) (arg_of (table_of table.now) arg) nothing PP) }
 {
-    let x = first_word(pool, ends, nums, hold, i);
-    let y = other_word(table, pool, ends, nums, given, arg);
-    let m = x.len;
-    let n = y.len;
-    let stop = operands::ask_kinds(operands::Kinds::Words, x.kind, y.kind);
-    if stop != 0 {
-        return stop;
-    }
-    let holds = characters::precedes(&hold[..m], &given[..n]);
-    state::minus_unless(pool, ends, nums, holds);
-    0
+    let (m, n) = words_of(
+        table,
+        &bench.state,
+        &mut bench.hold,
+        &mut bench.given,
+        i,
+        arg,
+    )?;
+    let holds = characters::precedes(&bench.hold[..m], &bench.given[..n]);
+    bench.state.minus_unless(holds);
+    Ok(())
 }
 
 // NS of expression `i`: whether its first word comes after the other.
-pub fn ns(
-    table: &[u32],
-    pool: &[u8],
-    ends: &[u32],
-    nums: &mut [u32],
-    hold: &mut [u8],
-    given: &mut [u8],
-    i: usize,
-    arg: table::Argument,
-) -> u8
-    requires { Comparable table.now pool.now ends.now nums.old (length hold.old) (length given.old) i arg }
-    ensures { DoesFor pool.now ends.now nums.old result pool.now ends.now nums.new (λ g ins. row g ins (state_at pool.now ends.now nums.old).store (nth (reading false) i) (arg_of (table_of table.now) arg) nothing NS) }
+pub fn ns(table: &[u32], bench: &mut Bench, i: usize, arg: table::Argument) -> Result<(), Question>
+    requires { Comparable table.now i arg }
+    ensures { DoesFor bench.old.state (told_by result) bench.new.state (λ g ins. row g ins bench.old.state.store (nth (reading false) i) (arg_of (table_of table.now) arg) nothing NS) }
 {
-    let x = first_word(pool, ends, nums, hold, i);
-    let y = other_word(table, pool, ends, nums, given, arg);
-    let m = x.len;
-    let n = y.len;
-    let stop = operands::ask_kinds(operands::Kinds::Words, x.kind, y.kind);
-    if stop != 0 {
-        return stop;
-    }
-    let holds = characters::precedes(&given[..n], &hold[..m]);
-    state::minus_unless(pool, ends, nums, holds);
-    0
+    let (m, n) = words_of(
+        table,
+        &bench.state,
+        &mut bench.hold,
+        &mut bench.given,
+        i,
+        arg,
+    )?;
+    let holds = characters::precedes(&bench.given[..n], &bench.hold[..m]);
+    bench.state.minus_unless(holds);
+    Ok(())
 }

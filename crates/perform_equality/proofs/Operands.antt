@@ -1,27 +1,26 @@
 -- From the arguments of a relation of equality to its operands, and from what the families promise to its meaning.
 use mathlib.Core.Path.{◌≡◌, refl, sym, ◌∙◌, subst}
-use mathlib.Core.Bool.{Bool, true, false, ◌||◌}
-use mathlib.Core.List.{List, [], ◌∷◌}
+use mathlib.Core.Bool.{Bool, true, false, not, ◌||◌}
+use mathlib.Core.List.{List, []}
 use mathlib.Core.Logic.{◌⊎◌, inl, inr}
-use Prim.Native.Nat.{ℕ, ◌≤◌}
-use lib.Dec.{T, eqb, eqb→eq}
-use borrow.Author.Tests.{ne_eqb}
-use types.Run.{OneOf, miss}
+use Prim.Native.Nat.{ℕ}
+use lib.Dec.{T, eqb}
 use Rattle.lists.specs.Lists.{all, among}
 use Rattle.lists.specs.ListLaws.{all_among}
 use Rattle.lists.specs.Quoted.{bytes}
+use Rattle.language.specs.Instructions.{number_of}
 use Rattle.language.specs.Letters as letters
 use Rattle.language.specs.Letters.{letter_code}
-use Rattle.language.specs.Program.{Arg}
+use Rattle.language.specs.Program.{Op}
 use Rattle.language.specs.Program.Arg.{nothing}
 use Rattle.language.specs.Program.Op.{RW, RZ}
+use Rattle.language.specs.Values.{State}
 use Rattle.layout.specs.Table.{program_of}
 use Rattle.machine.specs.Effects.{row}
 use Rattle.machine.specs.WellFormed.{form}
 use Rattle.packed.specs.Packed.{table_of}
-use Rattle.decoding.specs.Operands.{Named, IsSource, IsIndex, IsVariable, Listed, Read, Shaped}
-use Rattle.decoding.specs.OperandLaws.{good_of, listed_of, named, narrowed, no-argument, form-letter, indexed-is, indexed-below, shape, shapes}
-use Rattle.decoding.specs.declared.Source.{Source}
+use Rattle.decoding.specs.Operands.{var_of, letters_of, Named, IsSource, IsIndex, IsVariable, Listed, Read, Shaped}
+use Rattle.decoding.specs.OperandLaws.{good_of, listed_of, named, narrowed, no-argument, form-letter, indexed-is, indexed-below, shapes}
 use Rattle.decoding.specs.declared.Variable.{Variable}
 use Rattle.decoding.specs.declared.Variable.TheVariants.{Expression, Input, Output, File}
 use Rattle.record_equality.specs.Below.Offers.{Holdable}
@@ -31,31 +30,18 @@ use Rattle.record_equality.specs.RecordEquality.{RecordRelatable}
 use Rattle.input_equality.specs.InputEquality.{InputRelatable}
 use Rattle.input_equality.specs.Below.Readings.{DoesPassing}
 use Rattle.instructions.specs.Does.{DoesFor}
-use Rattle.state.specs.Working.{state_at, nth, reading}
+use Rattle.instructions.specs.declared.Source.{Source}
+use Rattle.state.specs.Working.{nth, reading}
 use Rattle.table.specs.Denote.{letter_of, arg_of}
-use Rattle.table.specs.Good.{GoodArgument}
 use Rattle.table.specs.LetterLaws.{listed-letter}
-use Rattle.table.proofs.Letters.{tag, left-letter}
-use Rattle.table.specs.declared.Letter.{Letter}
-use Rattle.table.specs.declared.Letter.TheVariants.{I, P, T as T-letter}
 use Rattle.table.specs.declared.Argument.{Argument}
 use Rattle.perform_moves.specs.Below.Stepping.{inputs}
 use Rattle.perform_moves.specs.Below.Performing.{Performing, Performs}
-use Rattle.perform_moves.specs.Below.Operating.{Operating, PerformsFor}
-use Rattle.perform_moves.specs.Below.OperatingLaws.{operating, long, performs}
+use Rattle.perform_moves.specs.Below.Operating.{Carrying, PerformsFor}
+use Rattle.perform_moves.specs.Below.OperatingLaws.{carrying, long, performs}
+use Rattle.performing.specs.CarryingLaws.{good-itself, formed, first-named, third-none, performed}
 use Rattle.perform_moves.proofs.Operands.{unread}
-use Rattle.perform_equality.specs.Equating.{any_letter, IsAny, RelatingExpression, RelatingRecord, Relating, Equating}
-
--- ---- the letter T
-
-abbrev other_letters : List ℕ
-other_letters = 0 ∷ 1 ∷ 2 ∷ 3 ∷ 4 ∷ 5 ∷ 6 ∷ 7 ∷ 8 ∷ 10 ∷ 11 ∷ []
-
-pub not-any : (l : Letter) → OneOf other_letters (tag l) → false ≡ any_letter l
-not-any = left-letter (λ l. false ≡ any_letter l) other_letters refl refl refl refl refl refl refl refl refl refl refl
-
-pub an-any : {l : Letter} → l ≡ T-letter → true ≡ any_letter l
-an-any q = rw q refl
+use Rattle.perform_equality.specs.Equating.{any_letter, IsAny, RelatingExpression}
 
 -- ---- the second argument
 
@@ -65,30 +51,33 @@ others = bytes "nNtcBTE"
 wider : (c : List ℕ) (a : Argument) (fs gs : List ℕ) → T (all (λ n. among n gs) fs) → Listed c fs a → Listed c gs a
 wider c a fs gs h m = all_among (λ n. among n gs) fs h (form (program_of c) (arg_of (table_of c) a)) m
 
-holdable : {c p e n : List ℕ} {op : ℕ} {x y z : Argument} {given : ℕ} → Operating c p e n op x y z → 32768 ≤ given → Listed c others y → Holdable c p e n given y
-holdable {c} {y = y} w h m =
-    let g = w.read.second in
-    record { long = long w; stands = w.stands; room = h; good = subst (λ (u : Arg). GoodArgument c u y) (sym g.is) g; form = form-letter c others (listed-letter OtherLetter others tt tt tt tt) m }
+holdable : {c : List ℕ} {σ : State} {op : Op} {x y z : Argument} → Carrying c σ op x y z → Listed c others y → Holdable c y
+holdable {c} w m =
+    record {
+      long = long w;
+      good = good-itself w.read.second;
+      form = form-letter c others (listed-letter OtherLetter others tt tt tt tt) m;
+    }
 
 -- ---- the forms of RW
 
-record Formed (c : List ℕ) (x y z : Argument) : Type 0 where
+record RelationForms (c : List ℕ) (x y z : Argument) : Type 0 where
   first : Listed c (bytes "ABTI") x
   second : Listed c others y
   none : arg_of (table_of c) z ≡ nothing
 
-formed : {c : List ℕ} {k : ℕ} {x y z : Argument} → Read c k 13 x y z → Formed c x y z
-formed {c} {k} {x} {y} {z} r = go (shapes r ("ABT", "nN", "-") ("ABTI", "tcBT", "-") refl)
+forms : {c : List ℕ} {k : ℕ} {x y z : Argument} → Read c k (number_of RW) x y z → RelationForms c x y z
+forms {c} {k} {x} {y} {z} r = go (shapes r ("ABT", "nN", "-") ("ABTI", "tcBT", "-") refl)
   where
-    go : Shaped c (bytes "ABT") (bytes "nN") (bytes "-") x y z ⊎ Shaped c (bytes "ABTI") (bytes "tcBT") (bytes "-") x y z → Formed c x y z
+    go : Shaped c (bytes "ABT") (bytes "nN") (bytes "-") x y z ⊎ Shaped c (bytes "ABTI") (bytes "tcBT") (bytes "-") x y z → RelationForms c x y z
     go (inl s) = record { first = wider c x (bytes "ABT") (bytes "ABTI") tt s.first; second = wider c y (bytes "nN") others tt s.second; none = no-argument c z s.third }
     go (inr s) = record { first = s.first; second = wider c y (bytes "tcBT") others tt s.second; none = no-argument c z s.third }
 
 -- ---- RW of an expression
 
-module _ {c p e n : List ℕ} {x y : Argument} {given : ℕ} (w : RelatingExpression c p e n x y given) where
-  seconds : Formed c x y w.third
-  seconds = formed w.operating.read
+module _ {c : List ℕ} {σ : State} {x y z : Argument} (w : RelatingExpression c σ x y z) where
+  relation : RelationForms c x y z
+  relation = forms w.carrying.read
 
   module _ {r : Bool} (a : IsAny x r) where
     renamed : (fs : List ℕ) → T (among (letter_code (letter_of a.letter)) fs) → Named fs x
@@ -114,113 +103,78 @@ module _ {c p e n : List ℕ} {x y : Argument} {given : ℕ} (w : RelatingExpres
 
     -- any component
     module _ (q : r ≡ true) {i : ℕ} (at : IsIndex x i) where
-      pub any-relatable : Relatable c p e n given i y
-      any-relatable = record { other = holdable w.operating w.values seconds.second; source = indexed-below letters.Letter.T (any-named q) at }
+      pub any-relatable : Relatable c i y
+      any-relatable = record { other = holdable w.carrying relation.second; source = indexed-below letters.Letter.T (any-named q) at }
 
-      pub any-related : {told : ℕ} {p' e' n' : List ℕ}
-          → DoesFor p e n told p' e' n' (λ g ins. row g ins (state_at p e n).store (nth letters.Letter.T i) (arg_of (table_of c) y) nothing RW)
-          → PerformsFor c p e n told p' e' n'
-      any-related h i' j' =
-          performs w.operating (nth letters.Letter.T i) (arg_of (table_of c) y) nothing (indexed-is letters.Letter.T (any-named q) at (table_of c)) refl seconds.none
-          i' j' (h (program_of c) (inputs i' j'))
+      pub any-related : {told : ℕ} {σ' : State}
+          → DoesFor σ told σ' (λ g ins. row g ins σ.store (nth letters.Letter.T i) (arg_of (table_of c) y) nothing RW)
+          → PerformsFor c σ told σ'
+      any-related h = performed w.carrying (indexed-is letters.Letter.T (any-named q) at (table_of c)) refl relation.none h
 
   -- the first
   module _ {s : Source} (from : IsSource x s) where
-    pub one-relatable : Relatable c p e n given s.i y
-    one-relatable = record { other = holdable w.operating w.values seconds.second; source = from.below }
+    pub one-relatable : Relatable c s.i y
+    one-relatable = record { other = holdable w.carrying relation.second; source = from.below }
 
-    pub one-related : {told : ℕ} {p' e' n' : List ℕ}
-        → DoesFor p e n told p' e' n' (λ g ins. row g ins (state_at p e n).store (nth (reading s.removes) s.i) (arg_of (table_of c) y) nothing RW)
-        → PerformsFor c p e n told p' e' n'
-    one-related h i' j' =
-        performs w.operating (nth (reading s.removes) s.i) (arg_of (table_of c) y) nothing (from.is (table_of c)) refl seconds.none
-        i' j' (h (program_of c) (inputs i' j'))
+    pub one-related : {told : ℕ} {σ' : State}
+        → DoesFor σ told σ' (λ g ins. row g ins σ.store (nth (reading s.removes) s.i) (arg_of (table_of c) y) nothing RW)
+        → PerformsFor c σ told σ'
+    one-related h = performed w.carrying (from.is (table_of c)) refl relation.none h
 
 -- ---- RZ
 
-module _ {c p e n : List ℕ} {x y : Argument} {given : ℕ} (w : RelatingRecord c p e n x y given) where
-  record-shape : Shaped c (bytes "P") (bytes "ntBENT") (bytes "-") x y w.third
-  record-shape = shape w.operating.read ("P", "ntBENT", "-") refl
-
+module _ {c : List ℕ} {σ : State} {x y z : Argument} (w : Carrying c σ RZ x y z) where
   pub record-named : Named (bytes "P") x
-  record-named = named c w.operating.read.first (bytes "P") tt record-shape.first
+  record-named = first-named w ("P", "ntBENT", "-") refl tt
 
   module _ {i : ℕ} (at : IsIndex x i) where
-    pub record-relatable : RecordRelatable c p e n given i y
+    pub record-relatable : RecordRelatable c i y
     record-relatable =
         record {
-          other = holdable w.operating w.values (wider c y (bytes "ntBENT") others tt record-shape.second);
+          other = holdable w (wider c y (bytes "ntBENT") others tt (formed w ("P", "ntBENT", "-") refl).second);
           source = indexed-below letters.Letter.P record-named at;
         }
 
-    pub record-related : {told : ℕ} {p' e' n' : List ℕ}
-        → DoesFor p e n told p' e' n' (λ g ins. row g ins (state_at p e n).store (nth letters.Letter.P i) (arg_of (table_of c) y) nothing RZ)
-        → PerformsFor c p e n told p' e' n'
-    record-related h i' j' =
-        performs w.operating (nth letters.Letter.P i) (arg_of (table_of c) y) nothing (indexed-is letters.Letter.P record-named at (table_of c)) refl
-        (no-argument c w.third record-shape.third) i' j' (h (program_of c) (inputs i' j'))
+    pub record-related : {told : ℕ} {σ' : State}
+        → DoesFor σ told σ' (λ g ins. row g ins σ.store (nth letters.Letter.P i) (arg_of (table_of c) y) nothing RZ)
+        → PerformsFor c σ told σ'
+    record-related h = performed w (indexed-is letters.Letter.P record-named at (table_of c)) refl (third-none w "P" "ntBENT" refl) h
 
 -- ---- RW
 
-abbrev variable_tag : Variable → ℕ
-variable_tag v = denote.Enum.Declared.tag_of (denote.Enum.Declared.declared Rattle.decoding.specs.contracts.Variable.enum) v
-
-abbrev no_inputs : List ℕ
-no_inputs = 0 ∷ 2 ∷ 3 ∷ []
-
-module _ {c i j p e n : List ℕ} {x y : Argument} {hold given : ℕ} (w : Relating c i j p e n x y hold given) where
-  forms : Formed c x y w.third
-  forms = formed w.performing.read
-
+module _ {c i j : List ℕ} {σ : State} {x y z : Argument} (w : Performing c i j σ RW x y z) where
   pub related-named : Named (bytes "ABTI") x
-  related-named = named c w.performing.read.first (bytes "ABTI") tt forms.first
+  related-named = named c w.read.first (bytes "ABTI") tt (forms w.read).first
+
+  of-one : {v : Variable} (gs : List ℕ) → IsVariable x v → (u : Variable) → T (all (λ n. not (among n (letters_of (var_of u))) || among n gs) (bytes "ABTI")) → v ≡ u
+      → Named gs x
+  of-one gs which u h q = narrowed (bytes "ABTI") gs u h related-named (subst (λ (w : Variable). IsVariable x w) q which)
+
+  -- of nothing else
+  pub no_others : {v : Variable} → IsVariable x v → (v ≡ Input → ⊥) → (v ≡ Expression → ⊥) → ⊥
+  no_others {v} which a b = go v refl
+    where
+      go : (u : Variable) → v ≡ u → ⊥
+      go Expression q = b q
+      go Input q = a q
+      go Output q = (of-one [] which Output tt q).listed
+      go File q = (of-one [] which File tt q).listed
 
   -- of an input
   module _ {k : ℕ} {v : Variable} (at : IsIndex x k) (which : IsVariable x v) (q : v ≡ Input) where
     of-input : Named (bytes "I") x
-    of-input = narrowed (bytes "ABTI") (bytes "I") Input tt related-named (subst (λ (u : Variable). IsVariable x u) q which)
+    of-input = of-one (bytes "I") which Input tt q
 
-    pub input-relatable : InputRelatable c p e n i j hold given k y
-    input-relatable =
-        record {
-          unread = unread w.performing k (indexed-below letters.Letter.I of-input at);
-          room = w.performing.ready.room;
-          other = holdable (operating w.performing) w.performing.ready.values forms.second;
-        }
+    pub input-relatable : InputRelatable c σ i j k y
+    input-relatable = record { unread = unread w k (indexed-below letters.Letter.I of-input at); other = holdable (carrying w) (forms w.read).second }
 
-    pub input-related : {told : ℕ} {p' e' n' : List ℕ}
-        → DoesPassing p e n told p' e' n' (λ g. row g (inputs i j) (state_at p e n).store (nth letters.Letter.I k) (arg_of (table_of c) y) nothing RW)
-        → Performs c i j p e n told p' e' n'
+    pub input-related : {told : ℕ} {σ' : State}
+        → DoesPassing σ told σ' (λ g. row g (inputs i j) σ.store (nth letters.Letter.I k) (arg_of (table_of c) y) nothing RW)
+        → Performs c i j σ told σ'
     input-related h =
-        performs (operating w.performing) (nth letters.Letter.I k) (arg_of (table_of c) y) nothing (indexed-is letters.Letter.I of-input at (table_of c)) refl
-        forms.none i j (h (program_of c))
+        performs (carrying w) (nth letters.Letter.I k) (arg_of (table_of c) y) nothing (indexed-is letters.Letter.I of-input at (table_of c)) refl
+        (forms w.read).none i j (h (program_of c))
 
   -- of an expression
-  pub expression-relating : (v : Variable) → IsVariable x v → OneOf no_inputs (variable_tag v) → RelatingExpression c p e n x y given
-  expression-relating v which q =
-      record { third = w.third; operating = operating w.performing; values = w.performing.ready.values; expression = go v which q }
-    where
-      go : (v : Variable) → IsVariable x v → OneOf no_inputs (variable_tag v) → Named (bytes "ABT") x
-      go Expression u q = narrowed (bytes "ABTI") (bytes "ABT") Expression tt related-named u
-      go Input u q = absurd (miss no_inputs 1 tt q)
-      go Output u q = narrowed (bytes "ABTI") (bytes "ABT") Output tt related-named u
-      go File u q = narrowed (bytes "ABTI") (bytes "ABT") File tt related-named u
-
--- ---- the dispatcher
-
-module _ {c i j p e n : List ℕ} {op : ℕ} {x y : Argument} {hold given : ℕ} (w : Equating c i j p e n op x y hold given) where
-  numbered : (m : ℕ) → op ≡ m → Performing c i j p e n m x y w.third w.scratch hold given
-  numbered m q = subst (λ (k : ℕ). Performing c i j p e n k x y w.third w.scratch hold given) q w.performing
-
-  pub relating : op ≡ 13 → Relating c i j p e n x y hold given
-  relating q = record { third = w.third; scratch = w.scratch; performing = numbered 13 q }
-
-  pub record-relating : (op ≡ 13 → ⊥) → RelatingRecord c p e n x y given
-  record-relating k =
-      let t = rw (ne_eqb op 13 k) at w.one_of in
-      let r = numbered 18 (eqb→eq op 18 (or-none (eqb op 18) t)) in
-      record { third = w.third; operating = operating r; values = r.ready.values }
-    where
-      or-none : (b : Bool) → T (b || false) → T b
-      or-none true h = tt
-      or-none false h = h
+  pub expression-relating : {v : Variable} → IsVariable x v → v ≡ Expression → RelatingExpression c σ x y z
+  expression-relating which q = record { carrying = carrying w; expression = of-one (bytes "ABT") which Expression tt q }

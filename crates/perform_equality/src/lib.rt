@@ -1,23 +1,24 @@
-// The relations of equality from an instruction's arguments: RW and RZ. Each tells 0, or the question answered no.
+// The relations of equality from an instruction's arguments: RW and RZ.
 #![tactic(auto)]
 
-ghost use Rattle.std.specs.Prelude.{◌≡◌, length};
+ghost use Rattle.std.specs.Prelude.{◌≡◌};
 ghost use Rattle.decoding.specs.Operands.{Lettered};
-ghost use Rattle.perform_moves.specs.Below.Performing.{Performs};
-ghost use Rattle.perform_moves.specs.Below.Operating.{PerformsFor};
-ghost use Rattle.perform_equality.specs.Equating.{any_letter, IsAny, RelatingExpression, RelatingRecord, Relating, Equating};
+ghost use Rattle.language.specs.Operators.{op_by};
+ghost use Rattle.language.specs.Program.Op.{RW, RZ};
+ghost use Rattle.instructions.specs.Questions.{told_by};
+ghost use Rattle.performing.specs.Performing.{Performing, Performs};
+ghost use Rattle.performing.specs.Operating.{Carrying, PerformsFor};
+ghost use Rattle.perform_equality.specs.Equating.{any_letter, IsAny, RelatingExpression, Equating};
 
+use instructions::{Bench, Question, Task};
 use language::Operator;
-use record_equality::from_equality;
+use table::Instruction;
 
 // Whether a letter, an argument stands for any component (T).
 fn any_letter(l: table::Letter) -> bool
     ensures { result ≡ any_letter l }
 {
-    match l {
-        table::Letter::T => true,
-        _ => false,
-    }
+    matches!(l, table::Letter::T)
 }
 
 fn is_any(a: table::Argument) -> bool
@@ -26,93 +27,62 @@ fn is_any(a: table::Argument) -> bool
 {
     match a {
         table::Argument::Indexed(l, _) => any_letter(l),
-        _ => false,
+        _ => unreachable!(),
     }
 }
 
 // RW of an expression.
 fn relate_expression(
     table: &[u32],
-    pool: &[u8],
-    ends: &mut [u32],
-    nums: &mut [u32],
-    given: &mut [u8],
-    x: table::Argument,
-    y: table::Argument,
-) -> u8
-    requires { RelatingExpression table.now pool.now ends.old nums.old x y (length given.old) }
-    ensures { PerformsFor table.now pool.now ends.old nums.old result pool.now ends.new nums.new }
+    bench: &mut Bench,
+    instruction: Instruction,
+) -> Result<(), Question>
+    requires { RelatingExpression table.now bench.old.state instruction.x instruction.y instruction.z }
+    ensures { PerformsFor table.now bench.old.state (told_by result) bench.new.state }
 {
-    if is_any(x) {
-        let i = decoding::index_of(x);
-        return from_equality::rw_any(table, pool, ends, nums, given, i, y);
+    if is_any(instruction.x) {
+        let i = decoding::index_of(instruction.x);
+        return equality::rw_any(table, bench, i, instruction.y);
     }
-    let s = decoding::source_of(x);
-    from_equality::rw_one(table, pool, ends, nums, given, s.removes, s.i, y)
-}
-
-// RZ.
-fn relate_record(
-    table: &[u32],
-    pool: &[u8],
-    ends: &[u32],
-    nums: &mut [u32],
-    given: &mut [u8],
-    x: table::Argument,
-    y: table::Argument,
-) -> u8
-    requires { RelatingRecord table.now pool.now ends.now nums.old x y (length given.old) }
-    ensures { PerformsFor table.now pool.now ends.now nums.old result pool.now ends.now nums.new }
-{
-    let i = decoding::index_of(x);
-    record_equality::rz(table, pool, ends, nums, given, i, y)
+    let source = decoding::source_of(instruction.x);
+    equality::rw_one(table, bench, source, instruction.y)
 }
 
 // RW, of an expression or an input.
-fn relate(
-    table: &[u32],
-    i1: &[u8],
-    i2: &[u8],
-    pool: &[u8],
-    ends: &mut [u32],
-    nums: &mut [u32],
-    hold: &mut [u8],
-    given: &mut [u8],
-    x: table::Argument,
-    y: table::Argument,
-) -> u8
-    requires { Relating table.now i1.now i2.now pool.now ends.old nums.old x y (length hold.old) (length given.old) }
-    ensures { Performs table.now i1.now i2.now pool.now ends.old nums.old result pool.now ends.new nums.new }
+fn relate(task: Task, bench: &mut Bench, instruction: Instruction) -> Result<(), Question>
+    requires { Performing task.table.now task.first.now task.second.now bench.old.state RW instruction.x instruction.y instruction.z }
+    ensures { Performs task.entry.table.now task.entry.first.now task.entry.second.now bench.old.state (told_by result) bench.new.state }
 {
-    let i = decoding::index_of(x);
-    match decoding::variable_of(x) {
-        decoding::Variable::Input => input_equality::rw_input(
-            table, i1, i2, pool, ends, nums, hold, given, i, y,
-        ),
-        _ => relate_expression(table, pool, ends, nums, given, x, y),
+    let i = decoding::index_of(instruction.x);
+    match decoding::variable_of(instruction.x) {
+        decoding::Variable::Input => input_equality::rw_input(task, bench, i, instruction.y),
+        decoding::Variable::Expression => relate_expression(task.table, bench, instruction),
+        _ => unreachable!(),
     }
 }
 
-pub fn perform_equality(
-    op: u8,
-    table: &[u32],
-    i1: &[u8],
-    i2: &[u8],
-    pool: &[u8],
-    ends: &mut [u32],
-    nums: &mut [u32],
-    hold: &mut [u8],
-    given: &mut [u8],
-    x: table::Argument,
-    y: table::Argument,
-) -> u8
-    requires { Equating table.now i1.now i2.now pool.now ends.old nums.old op x y (length hold.old) (length given.old) }
-    ensures { Performs table.now i1.now i2.now pool.now ends.old nums.old result pool.now ends.new nums.new }
+// RZ.
+fn relate_record(table: &[u32], bench: &mut Bench, instruction: Instruction) -> Result<(), Question>
+    requires { Carrying table.now bench.old.state RZ instruction.x instruction.y instruction.z }
+    ensures { PerformsFor table.now bench.old.state (told_by result) bench.new.state }
 {
-    if op == Operator::RW {
-        return relate(table, i1, i2, pool, ends, nums, hold, given, x, y);
+    let i = decoding::index_of(instruction.x);
+    record_equality::rz(table, bench, i, instruction.y)
+}
+
+pub fn perform_equality(
+    task: Task,
+    bench: &mut Bench,
+    instruction: Instruction,
+) -> Result<(), Question>
+    requires { Equating task.table.now task.first.now task.second.now bench.old.state (op_by instruction.op) instruction.x instruction.y instruction.z }
+    ensures { Performs task.entry.table.now task.entry.first.now task.entry.second.now bench.old.state (told_by result) bench.new.state }
+{
+    match instruction.op {
+        Operator::RW => relate(task, bench, instruction),
+        Operator::RZ => relate_record(task.table, bench, instruction),
+        _ => unreachable!(),
     }
-    relate_record(table, pool, ends, nums, given, x, y)
 }
 
 // Of `perform_moves`, passed on to the crates above.

@@ -1,9 +1,10 @@
--- What the instructions of files and constants ask. c is the table, p, e and n are pool, ends and scalars; scratch, hold and given are how long
--- the further buffers are.
+-- What the instructions of files and constants ask. c is the table.
 use Rattle.std.specs.Prelude.{List, [], ◌∷◌, ℕ, T}
 use Rattle.lists.specs.Lists.{among}
 use Rattle.language.specs.Instructions.{number_of}
+use Rattle.language.specs.Program.{Op}
 use Rattle.language.specs.Program.Op.{KOPIUJ, WSTAW, POBIERZ, SCHOWAJ, USTAW, ZAMIEN, UMIESC, SKRESL, OMIN, COFNIJ}
+use Rattle.language.specs.Values.{State}
 use Rattle.table.specs.declared.Argument.{Argument}
 use Rattle.perform_pointers.specs.Below.Operating.{Carrying}
 
@@ -13,6 +14,6 @@ file_operators =
     number_of KOPIUJ ∷ number_of WSTAW ∷ number_of POBIERZ ∷ number_of SCHOWAJ ∷ number_of USTAW ∷ number_of ZAMIEN ∷ number_of UMIESC
     ∷ number_of SKRESL ∷ number_of OMIN ∷ number_of COFNIJ ∷ []
 
-pub record Filing (c p e n : List ℕ) (op : ℕ) (x y z : Argument) (scratch hold given : ℕ) : Type 0 where
-  pub carrying : Carrying c p e n op x y z scratch hold given
-  pub one_of : T (among op file_operators)
+pub record Filing (c : List ℕ) (σ : State) (op : Op) (x y z : Argument) : Type 0 where
+  pub carrying : Carrying c σ op x y z
+  pub one_of : T (among (number_of op) file_operators)

@@ -1,89 +1,119 @@
-// Jumps, calls, the return and STOP, from the arguments of an instruction. Each tells 0, or the question answered no.
+// Jumps, calls, the return and STOP, from the arguments of an instruction.
 #![tactic(auto)]
 
-ghost use Rattle.std.specs.Prelude.{length};
-ghost use Rattle.language.specs.Instructions.{operator_of};
-ghost use Rattle.language.specs.Program.Arg.{nothing, label as by-label, switch as by-switch};
-ghost use Rattle.layout.specs.Table.{program_of};
-ghost use Rattle.machine.specs.Effects.{row};
-ghost use Rattle.state.specs.Working.{state_at, nth, reading};
-ghost use Rattle.instructions.specs.Does.{GoesIn};
-ghost use Rattle.performing.specs.Operating.{LeadsFor};
-ghost use Rattle.perform_jumps.specs.Jumping.{ByLabel, BySwitch, Jumping};
+ghost use Rattle.language.specs.Operators.{op_by};
+ghost use Rattle.language.specs.Program.Op.{SKOCZ, WYKONAJ};
+ghost use Rattle.instructions.specs.Questions.{told_by};
+ghost use Rattle.switches.specs.Switches.{word_op, number_op};
+ghost use Rattle.performing.specs.Operating.{Carrying, LeadsFor};
+ghost use Rattle.perform_jumps.specs.Jumping.{jump_by, call_by, Jumping};
 
+use instructions::Question;
 use language::Operator;
+use state::Working;
+use switches::Way;
+use table::Instruction;
 
-// SKOCZ, WYKONAJ, SKOMI, SKOPL, WYMI and WYPL.
-fn by_label(
-    op: u8,
-    table: &[u32],
-    pool: &mut [u8],
-    ends: &mut [u32],
-    nums: &mut [u32],
-    scratch: &mut [u8],
-    label: usize,
-) -> u8
-    requires { ByLabel table.now pool.old ends.old nums.old (length scratch.old) op label }
-    ensures { GoesIn pool.old ends.old nums.old result pool.new ends.new nums.new (λ ins. row (program_of table.now) ins (state_at pool.old ends.old nums.old).store (by-label label) nothing nothing (operator_of op)) }
+// SKOCZ.
+fn jump(table: &[u32], state: &mut Working, instruction: Instruction) -> Result<(), Question>
+    requires { Carrying table.now state.old SKOCZ instruction.x instruction.y instruction.z }
+    ensures { LeadsFor table.now state.old (told_by result) state.new }
 {
-    match op {
-        Operator::SKOCZ => jumps::skocz(table, pool, ends, nums, label),
-        Operator::WYKONAJ => jumps::wykonaj(table, pool, ends, nums, scratch, label),
-        Operator::SKOMI => jumps::skomi(table, pool, ends, nums, label),
-        Operator::SKOPL => jumps::skopl(table, pool, ends, nums, label),
-        Operator::WYMI => jumps::wymi(table, pool, ends, nums, scratch, label),
-        _ => jumps::wypl(table, pool, ends, nums, scratch, label),
-    }
+    let label = decoding::label_of(instruction.x);
+    jumps::skocz(table, state, label)
 }
 
-// SKONA, SKOIN, WYNA and WYIN.
-fn by_switch(
-    op: u8,
-    table: &[u32],
-    pool: &mut [u8],
-    ends: &mut [u32],
-    nums: &mut [u32],
-    scratch: &mut [u8],
-    removes: bool,
-    i: usize,
-    switch: usize,
-) -> u8
-    requires { BySwitch table.now pool.old ends.old nums.old (length scratch.old) op i switch }
-    ensures { GoesIn pool.old ends.old nums.old result pool.new ends.new nums.new (λ ins. row (program_of table.now) ins (state_at pool.old ends.old nums.old).store (nth (reading removes) i) (by-switch switch) nothing (operator_of op)) }
+// WYKONAJ.
+fn call(table: &[u32], state: &mut Working, instruction: Instruction) -> Result<(), Question>
+    requires { Carrying table.now state.old WYKONAJ instruction.x instruction.y instruction.z }
+    ensures { LeadsFor table.now state.old (told_by result) state.new }
 {
-    match op {
-        Operator::SKONA => switches::skona(table, pool, ends, nums, removes, i, switch),
-        Operator::SKOIN => switches::skoin(table, pool, ends, nums, removes, i, switch),
-        Operator::WYNA => switches::wyna(table, pool, ends, nums, scratch, removes, i, switch),
-        _ => switches::wyin(table, pool, ends, nums, scratch, removes, i, switch),
-    }
+    let label = decoding::label_of(instruction.x);
+    jumps::wykonaj(table, state, label)
+}
+
+// SKOPL where `plus`, and otherwise SKOMI.
+fn jump_by(
+    table: &[u32],
+    state: &mut Working,
+    instruction: Instruction,
+    plus: bool,
+) -> Result<(), Question>
+    requires { Carrying table.now state.old (jump_by plus) instruction.x instruction.y instruction.z }
+    ensures { LeadsFor table.now state.old (told_by result) state.new }
+{
+    let label = decoding::label_of(instruction.x);
+    let taken = state.is_plus() == plus;
+    jumps::jump_when(table, state, taken, label)
+}
+
+// WYPL where `plus`, and otherwise WYMI.
+fn call_by(
+    table: &[u32],
+    state: &mut Working,
+    instruction: Instruction,
+    plus: bool,
+) -> Result<(), Question>
+    requires { Carrying table.now state.old (call_by plus) instruction.x instruction.y instruction.z }
+    ensures { LeadsFor table.now state.old (told_by result) state.new }
+{
+    let label = decoding::label_of(instruction.x);
+    let taken = state.is_plus() == plus;
+    jumps::call_when(table, state, taken, label)
+}
+
+// SKONA and WYNA.
+fn by_word(
+    table: &[u32],
+    state: &mut Working,
+    instruction: Instruction,
+    way: Way,
+) -> Result<(), Question>
+    requires { Carrying table.now state.old (word_op way) instruction.x instruction.y instruction.z }
+    ensures { LeadsFor table.now state.old (told_by result) state.new }
+{
+    let source = decoding::source_of(instruction.x);
+    let switch = decoding::switch_of(instruction.y);
+    switches::by_word(table, state, source, switch, way)
+}
+
+// SKOIN and WYIN.
+fn by_number(
+    table: &[u32],
+    state: &mut Working,
+    instruction: Instruction,
+    way: Way,
+) -> Result<(), Question>
+    requires { Carrying table.now state.old (number_op way) instruction.x instruction.y instruction.z }
+    ensures { LeadsFor table.now state.old (told_by result) state.new }
+{
+    let source = decoding::source_of(instruction.x);
+    let switch = decoding::switch_of(instruction.y);
+    switches::by_number(table, state, source, switch, way)
 }
 
 // An instruction that does not always go on to the following one.
 pub fn perform_jump(
-    op: u8,
     table: &[u32],
-    pool: &mut [u8],
-    ends: &mut [u32],
-    nums: &mut [u32],
-    scratch: &mut [u8],
-    x: table::Argument,
-    y: table::Argument,
-) -> u8
-    requires { Jumping table.now pool.old ends.old nums.old op x y (length scratch.old) }
-    ensures { LeadsFor table.now pool.old ends.old nums.old result pool.new ends.new nums.new }
+    state: &mut Working,
+    instruction: Instruction,
+) -> Result<(), Question>
+    requires { Jumping table.now state.old (op_by instruction.op) instruction.x instruction.y instruction.z }
+    ensures { LeadsFor table.now state.old (told_by result) state.new }
 {
-    if op <= Operator::WYPL {
-        let k = decoding::label_of(x);
-        return by_label(op, table, pool, ends, nums, scratch, k);
+    match instruction.op {
+        Operator::SKOCZ => jump(table, state, instruction),
+        Operator::WYKONAJ => call(table, state, instruction),
+        Operator::SKOMI => jump_by(table, state, instruction, false),
+        Operator::SKOPL => jump_by(table, state, instruction, true),
+        Operator::WYMI => call_by(table, state, instruction, false),
+        Operator::WYPL => call_by(table, state, instruction, true),
+        Operator::SKONA => by_word(table, state, instruction, Way::Jump),
+        Operator::SKOIN => by_number(table, state, instruction, Way::Jump),
+        Operator::WYNA => by_word(table, state, instruction, Way::Call),
+        Operator::WYIN => by_number(table, state, instruction, Way::Call),
+        Operator::WROC => jumps::wroc(state),
+        Operator::STOP => jumps::stop(state),
+        _ => unreachable!(),
     }
-    if op <= Operator::WYIN {
-        let s = decoding::source_of(x);
-        let k = decoding::switch_of(y);
-        return by_switch(op, table, pool, ends, nums, scratch, s.removes, s.i, k);
-    }
-    if op == Operator::WROC {
-        return jumps::wroc(pool, ends, nums);
-    }
-    jumps::stop(pool, ends, nums)
 }

@@ -1,78 +1,51 @@
-// The instructions of pointers, exchanges and constants, from their arguments. Each tells 0, or the question answered no.
+// The instructions of pointers, exchanges and constants, from their arguments.
 #![tactic(auto)]
 
-ghost use Rattle.std.specs.Prelude.{◌≡◌, length};
+ghost use Rattle.std.specs.Prelude.{◌≡◌};
+ghost use Rattle.language.specs.Program.Op.{SCHOWAJ, USTAW, ZAMIEN, UMIESC, COFNIJ};
+ghost use Rattle.instructions.specs.Questions.{told_by};
 ghost use Rattle.table.specs.declared.Argument.TheVariants.{Text};
 ghost use Rattle.performing.specs.Operating.{Carrying, PerformsFor};
 ghost use Rattle.perform_pointers.specs.Texts.{IsText};
-ghost use Rattle.language.specs.Instructions.{number_of};
-ghost use Rattle.language.specs.Program.Op.{SCHOWAJ, USTAW, ZAMIEN, UMIESC, COFNIJ};
+
+use instructions::{Bench, Question};
+use table::Instruction;
 
 // SCHOWAJ.
 pub fn do_schowaj(
     table: &[u32],
-    pool: &mut [u8],
-    ends: &mut [u32],
-    nums: &mut [u32],
-    scratch: &mut [u8],
-    hold: &mut [u8],
-    given: &[u8],
-    x: table::Argument,
-    y: table::Argument,
-    z: table::Argument,
-) -> u8
-    requires { Carrying table.now pool.old ends.old nums.old (number_of SCHOWAJ) x y z (length scratch.old) (length hold.old) (length given.now) }
-    ensures { PerformsFor table.now pool.old ends.old nums.old result pool.new ends.new nums.new }
+    bench: &mut Bench,
+    instruction: Instruction,
+) -> Result<(), Question>
+    requires { Carrying table.now bench.old.state SCHOWAJ instruction.x instruction.y instruction.z }
+    ensures { PerformsFor table.now bench.old.state (told_by result) bench.new.state }
 {
-    let i = decoding::index_of(x);
-    let t = decoding::target_of(y);
-    pointers::schowaj(pool, ends, nums, scratch, hold, i, t.at_end, t.j)
+    let i = decoding::index_of(instruction.x);
+    let target = decoding::target_of(instruction.y);
+    pointers::schowaj(bench, i, target)
 }
 
 // USTAW.
-pub fn do_ustaw(
-    table: &[u32],
-    pool: &mut [u8],
-    ends: &mut [u32],
-    nums: &mut [u32],
-    scratch: &mut [u8],
-    hold: &mut [u8],
-    given: &[u8],
-    x: table::Argument,
-    y: table::Argument,
-    z: table::Argument,
-) -> u8
-    requires { Carrying table.now pool.old ends.old nums.old (number_of USTAW) x y z (length scratch.old) (length hold.old) (length given.now) }
-    ensures { PerformsFor table.now pool.old ends.old nums.old result pool.new ends.new nums.new }
+pub fn do_ustaw(table: &[u32], bench: &mut Bench, instruction: Instruction) -> Result<(), Question>
+    requires { Carrying table.now bench.old.state USTAW instruction.x instruction.y instruction.z }
+    ensures { PerformsFor table.now bench.old.state (told_by result) bench.new.state }
 {
-    let s = decoding::source_of(x);
-    let j = decoding::index_of(y);
-    pointers::ustaw(pool, ends, nums, scratch, hold, s.removes, s.i, j)
+    let source = decoding::source_of(instruction.x);
+    let j = decoding::index_of(instruction.y);
+    pointers::ustaw(bench, source, j)
 }
 
 // ZAMIEN of expressions or of files.
-pub fn do_zamien(
-    table: &[u32],
-    pool: &mut [u8],
-    ends: &mut [u32],
-    nums: &[u32],
-    scratch: &mut [u8],
-    hold: &mut [u8],
-    given: &[u8],
-    x: table::Argument,
-    y: table::Argument,
-    z: table::Argument,
-) -> u8
-    requires { Carrying table.now pool.old ends.old nums.now (number_of ZAMIEN) x y z (length scratch.old) (length hold.old) (length given.now) }
-    ensures { PerformsFor table.now pool.old ends.old nums.now result pool.new ends.new nums.now }
+pub fn do_zamien(table: &[u32], bench: &mut Bench, instruction: Instruction) -> Result<(), Question>
+    requires { Carrying table.now bench.old.state ZAMIEN instruction.x instruction.y instruction.z }
+    ensures { PerformsFor table.now bench.old.state (told_by result) bench.new.state }
 {
-    let i = decoding::index_of(x);
-    let j = decoding::index_of(y);
-    match decoding::variable_of(x) {
-        decoding::Variable::Expression => pointers::zamien_exprs(
-            pool, ends, nums, scratch, hold, i, j,
-        ),
-        _ => pointers::zamien_files(pool, ends, nums, scratch, hold, i, j),
+    let i = decoding::index_of(instruction.x);
+    let j = decoding::index_of(instruction.y);
+    match decoding::variable_of(instruction.x) {
+        decoding::Variable::Expression => pointers::zamien_exprs(bench, i, j),
+        decoding::Variable::File => pointers::zamien_files(bench, i, j),
+        _ => unreachable!(),
     }
 }
 
@@ -83,61 +56,38 @@ fn text_of(a: table::Argument) -> usize
 {
     match a {
         table::Argument::Text(v) => v,
-        _ => 0,
+        _ => unreachable!(),
     }
 }
 
 // UMIESC to a file, an output or an expression.
-pub fn do_umiesc(
-    table: &[u32],
-    pool: &mut [u8],
-    ends: &mut [u32],
-    nums: &mut [u32],
-    scratch: &mut [u8],
-    hold: &mut [u8],
-    given: &mut [u8],
-    x: table::Argument,
-    y: table::Argument,
-    z: table::Argument,
-) -> u8
-    requires { Carrying table.now pool.old ends.old nums.old (number_of UMIESC) x y z (length scratch.old) (length hold.old) (length given.old) }
-    ensures { PerformsFor table.now pool.old ends.old nums.old result pool.new ends.new nums.new }
+pub fn do_umiesc(table: &[u32], bench: &mut Bench, instruction: Instruction) -> Result<(), Question>
+    requires { Carrying table.now bench.old.state UMIESC instruction.x instruction.y instruction.z }
+    ensures { PerformsFor table.now bench.old.state (told_by result) bench.new.state }
 {
-    match decoding::variable_of(y) {
+    match decoding::variable_of(instruction.y) {
         decoding::Variable::File => {
-            let t = decoding::file_of(y);
-            constants::umiesc_file(
-                table, pool, ends, nums, scratch, hold, given, t.removes, t.i, x,
-            )
+            let target = decoding::file_of(instruction.y);
+            constants::umiesc_file(table, bench, target.removes, target.i, instruction.x)
         }
         decoding::Variable::Output => {
-            let j = decoding::index_of(y);
-            let v = text_of(x);
-            constants::umiesc_output(table, pool, ends, nums, scratch, j, v)
+            let j = decoding::index_of(instruction.y);
+            let v = text_of(instruction.x);
+            constants::umiesc_output(table, bench, j, v)
         }
-        _ => {
-            let t = decoding::target_of(y);
-            constants::umiesc_expr(table, pool, ends, nums, scratch, hold, t.at_end, t.j, x)
+        decoding::Variable::Expression => {
+            let target = decoding::target_of(instruction.y);
+            constants::umiesc_expr(table, bench, target, instruction.x)
         }
+        _ => unreachable!(),
     }
 }
 
 // COFNIJ.
-pub fn do_cofnij(
-    table: &[u32],
-    pool: &mut [u8],
-    ends: &mut [u32],
-    nums: &[u32],
-    scratch: &mut [u8],
-    hold: &mut [u8],
-    given: &[u8],
-    x: table::Argument,
-    y: table::Argument,
-    z: table::Argument,
-) -> u8
-    requires { Carrying table.now pool.old ends.old nums.now (number_of COFNIJ) x y z (length scratch.old) (length hold.old) (length given.now) }
-    ensures { PerformsFor table.now pool.old ends.old nums.now result pool.new ends.new nums.now }
+pub fn do_cofnij(table: &[u32], bench: &mut Bench, instruction: Instruction) -> Result<(), Question>
+    requires { Carrying table.now bench.old.state COFNIJ instruction.x instruction.y instruction.z }
+    ensures { PerformsFor table.now bench.old.state (told_by result) bench.new.state }
 {
-    let i = decoding::index_of(x);
-    pointers::cofnij(pool, ends, nums, scratch, hold, i)
+    let i = decoding::index_of(instruction.x);
+    pointers::cofnij(bench, i)
 }

@@ -1,1 +1,1 @@
-pub mod Operands
+mod Operands

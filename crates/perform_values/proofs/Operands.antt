@@ -1,113 +1,144 @@
--- From the arguments of the instructions of numbers and words to what their functions ask.
+-- From the arguments of the instructions of numbers and words to what their functions ask, and from what these promise to the instruction's meaning.
 use mathlib.Core.Path.{◌≡◌, refl}
-use mathlib.Core.Bool.{Bool, true, false, not, ◌||◌}
 use mathlib.Core.List.{List, [], ◌∷◌}
-use Prim.Native.Nat.{ℕ, ◌≤◌, ◌<◌}
-use native.Mathlib.Omega.{arith}
-use lib.Dec.{T, leb, leb→le}
+use Prim.Native.Nat.{ℕ, ◌<◌}
+use Prim.Native.String.{String}
+use lib.Dec.{T}
 use Rattle.lists.specs.Lists.{among}
 use Rattle.lists.specs.Quoted.{bytes}
-use Rattle.lists.specs.TableLaws.{Missed, up_to, below}
-use Rattle.language.specs.Instructions.{Forms, operation, operator_of}
+use Rattle.language.specs.Instructions.{operation, number_of}
+use Rattle.language.specs.Operators.{op_by}
+use Rattle.language.specs.declared.Operator.{Operator}
+use Rattle.language.specs.declared.Operator.TheVariants as code
+use Rattle.language.specs.Letters.Letter.{A, B}
 use Rattle.language.specs.Limits as limit
-use Rattle.machine.specs.WellFormed.{form}
-use Rattle.decoding.specs.Operands.{Listed}
-use Rattle.decoding.specs.OperandLaws.{form-letter}
-use Rattle.table.specs.LetterLaws.{listed-letter}
-use Rattle.table.specs.declared.Letter.TheVariants.{B}
-use Rattle.table.specs.declared.Argument.{Argument}
-use Rattle.arithmetic.specs.Below.Operands.{PairReadable}
-use Rattle.arithmetic.specs.Arithmetic.{Computable}
-use Rattle.converting.specs.Converting.{Convertible}
+use Rattle.language.specs.Program.{Op}
+use Rattle.language.specs.Program.Arg.{nothing}
+use Rattle.language.specs.Values.{State}
+use Rattle.machine.specs.Effects.{row}
+use Rattle.packed.specs.Packed.{table_of}
+use Rattle.decoding.specs.Operands.{Lettered, Named, Listed, IsIndex, IsSource}
+use Rattle.decoding.specs.OperandLaws.{form-letter, indexed-is, indexed-below}
+use Rattle.instructions.specs.Does.{DoesFor}
+use Rattle.instructions.specs.declared.Source.{Source}
+use Rattle.operands.specs.Operands.{PairReadable}
 use Rattle.ordering.specs.Ordering.{Comparable}
-use Rattle.performing.specs.Operating.{Carrying}
-use Rattle.performing.specs.OperatingLaws.{from}
-use Rattle.performing.specs.CarryingLaws.{good-itself, table-long}
-use Rattle.perform_values.specs.Valuing.{Between, value_operators, Valuing}
+use Rattle.state.specs.Working.{nth, reading}
+use Rattle.table.specs.Denote.{arg_of}
+use Rattle.table.specs.LetterLaws.{listed-letter}
+use Rattle.table.specs.declared.Letter.TheVariants as letter
+use Rattle.table.specs.declared.Argument.{Argument}
+use Rattle.performing.specs.Operating.{Carrying, PerformsFor}
+use Rattle.performing.specs.CarryingLaws.{good-itself, table-long, formed, first-named, second_none, third-none, performed}
+use Rattle.perform_values.specs.Valuing.{value_operators}
 
--- ---- the forms of several operators
+module _ {c : List ℕ} {σ : State} {op : Op} {x y z : Argument} (w : Carrying c σ op x y z) where
+  -- ---- two operands, the first by A or B alone
 
-module _ (f : Forms) where
-  abbrev Only : ℕ → Type 0
-  Only k = (operation (operator_of k)).forms ≡ f ∷ []
+  by-a : (b : String) → (operation op).forms ≡ ("A", b, "-") ∷ [] → Named (bytes "A") x
+  by-a b f = first-named w ("A", b, "-") f tt
 
-pub numbers-forms : (op : ℕ) → 14 ≤ op → op ≤ 15 → Only ("B", "nB", "-") op
-numbers-forms op h k = from (Only ("B", "nB", "-")) 14 refl (from (Only ("B", "nB", "-")) 15 refl (λ m. absurd (omega (arith, k, m)))) h
+  by-b : (b : String) → (operation op).forms ≡ ("B", b, "-") ∷ [] → Named (bytes "B") x
+  by-b b f = first-named w ("B", b, "-") f tt
 
-pub words-forms : (op : ℕ) → 16 ≤ op → op ≤ 17 → Only ("B", "tB", "-") op
-words-forms op h k = from (Only ("B", "tB", "-")) 16 refl (from (Only ("B", "tB", "-")) 17 refl (λ m. absurd (omega (arith, k, m)))) h
+  pub lettered-a : (b : String) → (operation op).forms ≡ ("A", b, "-") ∷ [] → Lettered x
+  lettered-a b f = (by-a b f).lettered
 
-pub compute-forms : (op : ℕ) → 30 ≤ op → op ≤ 33 → Only ("A", "nB", "-") op
-compute-forms op h k =
-    from (Only ("A", "nB", "-")) 30 refl
-    (from (Only ("A", "nB", "-")) 31 refl (from (Only ("A", "nB", "-")) 32 refl (from (Only ("A", "nB", "-")) 33 refl (λ m. absurd (omega (arith, k, m)))))) h
+  pub lettered-b : (b : String) → (operation op).forms ≡ ("B", b, "-") ∷ [] → Lettered x
+  lettered-b b f = (by-b b f).lettered
 
-pub convert-forms : (op : ℕ) → 34 ≤ op → op ≤ 35 → Only ("AB", "-", "-") op
-convert-forms op h k = from (Only ("AB", "-", "-")) 34 refl (from (Only ("AB", "-", "-")) 35 refl (λ m. absurd (omega (arith, k, m)))) h
+  paired : {i : ℕ} → i < limit.expressions → Listed c (bytes "nB") y → PairReadable i y
+  paired h m =
+      let g = w.read.second in
+      record {
+        operand = record { index = g.index; form = form-letter c (bytes "nB") (listed-letter (λ l. l ≡ letter.B) (bytes "nB") refl) m; number = g.number };
+        source = h;
+      }
 
--- ---- what is asked
+  module _ {i : ℕ} (q : IsIndex x i) where
+    pub pair-a : (operation op).forms ≡ ("A", "nB", "-") ∷ [] → PairReadable i y
+    pair-a f = paired (indexed-below A (by-a "nB" f) q) (formed w ("A", "nB", "-") f).second
 
-module _ {c p e n : List ℕ} {op : ℕ} {x y z : Argument} {scratch hold given : ℕ} (w : Carrying c p e n op x y z scratch hold given) where
-  module _ {i : ℕ} (h : i < limit.expressions) where
-    pub pair : Listed c (bytes "nB") y → PairReadable p e n i y
-    pair m =
-        let g = w.operating.read.second in
-        record { operand = record { stands = w.ready.stands; index = g.index; form = form-letter c (bytes "nB") (listed-letter (λ l. l ≡ B) (bytes "nB") refl) m; number = g.number }; source = h }
+    pub pair-b : (operation op).forms ≡ ("B", "nB", "-") ∷ [] → PairReadable i y
+    pair-b f = paired (indexed-below B (by-b "nB" f) q) (formed w ("B", "nB", "-") f).second
 
-    pub computable : Listed c (bytes "nB") y → Computable p e n scratch hold i y
-    computable m = record { pair = pair m; spare = w.ready.spare; room = w.ready.room }
-
-    pub convertible : Convertible p e n scratch hold i
-    convertible = let r = w.ready in record { stands = r.stands; spare = r.spare; room = r.room; index = h }
-
-    pub comparable : Listed c (bytes "tB") y → Comparable c p e n hold given i y
-    comparable m =
-        let r = w.ready in
+    pub comparable : (operation op).forms ≡ ("B", "tB", "-") ∷ [] → Comparable c i y
+    comparable f =
         record {
-          other = record { long = table-long w; stands = r.stands; room = r.values; good = good-itself w.operating.read.second; form = form-letter c (bytes "tB") (listed-letter (λ l. l ≡ B) (bytes "tB") refl) m };
-          room = r.room;
-          source = h;
+          other =
+              record {
+                long = table-long w;
+                good = good-itself w.read.second;
+                form = form-letter c (bytes "tB") (listed-letter (λ l. l ≡ letter.B) (bytes "tB") refl) (formed w ("B", "tB", "-") f).second;
+              };
+          source = indexed-below B (by-b "tB" f) q;
         }
 
--- ---- the ways of the dispatch
+    module _ {told : ℕ} {σ' : State} where
+      pub done-a : (b : String) → (operation op).forms ≡ ("A", b, "-") ∷ []
+          → DoesFor σ told σ' (λ g ins. row g ins σ.store (nth A i) (arg_of (table_of c) y) nothing op) → PerformsFor c σ told σ'
+      done-a b f = performed w (indexed-is A (by-a b f) q (table_of c)) refl (third-none w "A" b f)
 
-module _ {c p e n : List ℕ} {op : ℕ} {x y z : Argument} {scratch hold given : ℕ} (w : Valuing c p e n op x y z scratch hold given) where
-  told : (f : ℕ → Bool) → T (up_to (λ k. not (among k value_operators) || f k) 42) → T (f op)
-  told f h = go (among op value_operators) (f op) w.one_of (below (λ k. not (among k value_operators) || f k) 42 h op (omega (arith, w.carrying.operating.read.instruction.to)))
-    where
-      go : (a b : Bool) → T a → T (not a || b) → T b
-      go true b t k = k
-      go false b t k = absurd t
+      pub done-b : (b : String) → (operation op).forms ≡ ("B", b, "-") ∷ []
+          → DoesFor σ told σ' (λ g ins. row g ins σ.store (nth B i) (arg_of (table_of c) y) nothing op) → PerformsFor c σ told σ'
+      done-b b f = performed w (indexed-is B (by-b b f) q (table_of c)) refl (third-none w "B" b f)
 
-  abbrev Is : ℕ → ℕ → Type 0
-  Is low high = Between low high c p e n op x y z scratch hold given
+  -- ---- one operand
 
-  pub to-numbers : op ≤ 15 → Is 14 15
-  to-numbers h = record { carrying = w.carrying; from = leb→le 14 op (told (leb 14) tt); to = h }
+  module _ (f : (operation op).forms ≡ ("AB", "-", "-") ∷ []) where
+    pub sourced : Named (bytes "AB") x
+    sourced = first-named w ("AB", "-", "-") f tt
 
-  pub to-words : 15 < op → op ≤ 17 → Is 16 17
-  to-words h k = record { carrying = w.carrying; from = h; to = k }
+    pub done-one : {s : Source} → IsSource x s → {told : ℕ} {σ' : State}
+        → DoesFor σ told σ' (λ g ins. row g ins σ.store (nth (reading s.removes) s.i) nothing nothing op) → PerformsFor c σ told σ'
+    done-one i = performed w (i.is (table_of c)) (second_none w "AB" "-" f) (third-none w "AB" "-" f)
 
-  pub to-compute : 17 < op → op ≤ 33 → Is 30 33
-  to-compute h k = record { carrying = w.carrying; from = past (leb op 17) refl (told (λ k. leb k 17 || leb 30 k) tt); to = k }
-    where
-      past : (b : Bool) → leb op 17 ≡ b → T (b || leb 30 op) → 30 ≤ op
-      past true q t = absurd (let z = leb→le op 17 (rw q tt) in omega (arith, h, z))
-      past false q t = leb→le 30 op t
+-- ---- their operators
 
-  pub to-convert : 33 < op → Is 34 35
-  to-convert h = record { carrying = w.carrying; from = h; to = leb→le op 35 (told (λ k. leb k 35) tt) }
+abbrev pub One : Operator → Type 0
+One o = T (among (number_of (op_by o)) value_operators)
 
--- ---- the last of a group
-
-pub mn-op : {op : ℕ} → 14 ≤ op → op ≤ 15 → (op ≡ 14 → ⊥) → op ≡ 15
-mn-op h k m = omega (arith, h, k, m)
-
-pub ns-op : {op : ℕ} → 16 ≤ op → op ≤ 17 → (op ≡ 16 → ⊥) → op ≡ 17
-ns-op h k m = omega (arith, h, k, m)
-
-pub liczba-op : {op : ℕ} → 34 ≤ op → op ≤ 35 → (op ≡ 34 → ⊥) → op ≡ 35
-liczba-op h k m = omega (arith, h, k, m)
-
-pub dziel-op : {op : ℕ} → 30 ≤ op → op ≤ 33 → Missed (Unit {0}) (30 ∷ 31 ∷ 32 ∷ []) op → op ≡ 33
-dziel-op h k m = let a = m.0.0.1 in let b = m.0.1 in let d = m.1 in omega (arith, h, k, a, b, d)
+module _ (P : Operator → Type 0) (wk : P code.WK) (mn : P code.MN) (pp : P code.PP) (ns : P code.NS) (dodaj : P code.DODAJ)
+    (odejmij : P code.ODEJMIJ) (mnoz : P code.MNOZ) (dziel : P code.DZIEL) (slowo : P code.SLOWO) (liczba : P code.LICZBA) where
+  pub each-one : (o : Operator) → One o → P o
+  each-one code.PRZESLIJ h = absurd h
+  each-one code.CZYTAJ h = absurd h
+  each-one code.PISZ h = absurd h
+  each-one code.KOPIUJ h = absurd h
+  each-one code.WSTAW h = absurd h
+  each-one code.POBIERZ h = absurd h
+  each-one code.SCHOWAJ h = absurd h
+  each-one code.USTAW h = absurd h
+  each-one code.ZAMIEN h = absurd h
+  each-one code.UMIESC h = absurd h
+  each-one code.USUN h = absurd h
+  each-one code.SKRESL h = absurd h
+  each-one code.RW h = absurd h
+  each-one code.WK h = wk
+  each-one code.MN h = mn
+  each-one code.PP h = pp
+  each-one code.NS h = ns
+  each-one code.RZ h = absurd h
+  each-one code.SKOCZ h = absurd h
+  each-one code.WYKONAJ h = absurd h
+  each-one code.SKOMI h = absurd h
+  each-one code.SKOPL h = absurd h
+  each-one code.WYMI h = absurd h
+  each-one code.WYPL h = absurd h
+  each-one code.SKONA h = absurd h
+  each-one code.SKOIN h = absurd h
+  each-one code.WYNA h = absurd h
+  each-one code.WYIN h = absurd h
+  each-one code.WROC h = absurd h
+  each-one code.DODAJ h = dodaj
+  each-one code.ODEJMIJ h = odejmij
+  each-one code.MNOZ h = mnoz
+  each-one code.DZIEL h = dziel
+  each-one code.SLOWO h = slowo
+  each-one code.LICZBA h = liczba
+  each-one code.ZBIJ h = absurd h
+  each-one code.ROZBIJ h = absurd h
+  each-one code.SZUKAJ h = absurd h
+  each-one code.OMIN h = absurd h
+  each-one code.COFNIJ h = absurd h
+  each-one code.STOP h = absurd h

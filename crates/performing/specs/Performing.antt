@@ -1,13 +1,14 @@
--- What the functions that carry out one instruction ask: the instruction was read of a well-formed table, and the memory holds a well-formed state.
+-- What the functions that carry out one instruction ask: the instruction was read of a well-formed table, and the state is well formed.
 use Rattle.std.specs.Prelude.{Bool, true, false, List, ℕ}
 use Rattle.decoding.specs.Operands.{Read}
 use Rattle.instructions.specs.Does.{Does, Goes}
+use Rattle.language.specs.Instructions.{number_of}
 use Rattle.language.specs.Program.{Op}
 use Rattle.language.specs.Program.Op.{PRZESLIJ, CZYTAJ, PISZ, KOPIUJ, WSTAW, POBIERZ, SCHOWAJ, USTAW, ZAMIEN, UMIESC, USUN, SKRESL, RW, WK, MN, PP, NS, RZ, SKOCZ, WYKONAJ, SKOMI, SKOPL, WYMI, WYPL, SKONA, SKOIN, WYNA, WYIN, WROC, DODAJ, ODEJMIJ, MNOZ, DZIEL, SLOWO, LICZBA, ZBIJ, ROZBIJ, SZUKAJ, OMIN, COFNIJ, STOP}
+use Rattle.language.specs.Values.{State}
 use Rattle.layout.specs.Table.{program_of}
 use Rattle.machine.specs.Effects.{Row}
 use Rattle.machine.specs.Steps.{meaning}
-use Rattle.state.specs.Working.{state_at}
 use Rattle.table.specs.declared.Argument.{Argument}
 use Rattle.performing.specs.Stepping.{inputs, Steppable}
 
@@ -56,18 +57,18 @@ leads COFNIJ = false
 leads STOP = true
 
 -- the next instruction has the operator op and the arguments x, y and z
-pub record Performing (c i j p e n : List ℕ) (op : ℕ) (x y z : Argument) (scratch hold given : ℕ) : Type 0 where
-  pub ready : Steppable c i j p e n scratch hold given
-  pub read : Read c (state_at p e n).next op x y z
+pub record Performing (c i j : List ℕ) (σ : State) (op : Op) (x y z : Argument) : Type 0 where
+  pub ready : Steppable c i j σ
+  pub read : Read c σ.next (number_of op) x y z
 
 -- what it means
-abbrev pub next_row : List ℕ → List ℕ → List ℕ → List ℕ → List ℕ → List ℕ → Row
-next_row c i j p e n = meaning (program_of c) (inputs i j) (state_at p e n)
+abbrev pub next_row : List ℕ → List ℕ → List ℕ → State → Row
+next_row c i j σ = meaning (program_of c) (inputs i j) σ
 
 -- it was carried out, but for the step to the following instruction
-abbrev pub Performs : List ℕ → List ℕ → List ℕ → List ℕ → List ℕ → List ℕ → ℕ → List ℕ → List ℕ → List ℕ → Type 0
-Performs c i j p e n told p' e' n' = Does p e n told p' e' n' (next_row c i j p e n)
+abbrev pub Performs : List ℕ → List ℕ → List ℕ → State → ℕ → State → Type 0
+Performs c i j σ told σ' = Does σ told σ' (next_row c i j σ)
 
 -- it was carried out, and the next instruction is set
-abbrev pub Leads : List ℕ → List ℕ → List ℕ → List ℕ → List ℕ → List ℕ → ℕ → List ℕ → List ℕ → List ℕ → Type 0
-Leads c i j p e n told p' e' n' = Goes p e n told p' e' n' (next_row c i j p e n)
+abbrev pub Leads : List ℕ → List ℕ → List ℕ → State → ℕ → State → Type 0
+Leads c i j σ told σ' = Goes σ told σ' (next_row c i j σ)

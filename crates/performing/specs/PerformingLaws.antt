@@ -6,7 +6,7 @@ use Rattle.std.proofs.Math.Dec.{T}
 use Rattle.lists.specs.Lists.{all, head_or, if_any}
 use Rattle.lists.specs.ListLaws.{T-left, T-right}
 use Rattle.lists.specs.TableLaws.{below}
-use Rattle.language.specs.Instructions.{operation, operator_of, is_end}
+use Rattle.language.specs.Instructions.{operation, operator_of, number_of as operator_number, is_end}
 use Rattle.language.specs.Limits as limit
 use Rattle.language.specs.Program.{Arg, Op, Program, instr_at}
 use Rattle.language.specs.Program.Op.{PRZESLIJ, CZYTAJ, PISZ, KOPIUJ, WSTAW, POBIERZ, SCHOWAJ, USTAW, ZAMIEN, UMIESC, USUN, SKRESL, RW, WK, MN, PP, NS, RZ, SKOCZ, WYKONAJ, SKOMI, SKOPL, WYMI, WYPL, SKONA, SKOIN, WYNA, WYIN, WROC, DODAJ, ODEJMIJ, MNOZ, DZIEL, SLOWO, LICZBA, ZBIJ, ROZBIJ, SZUKAJ, OMIN, COFNIJ, STOP}
@@ -16,12 +16,12 @@ use Rattle.machine.specs.Effects.Go.{on}
 use Rattle.machine.proofs.WellFormedLaws.{open-state}
 use Rattle.machine.specs.Runs.Outcome.{stop, went}
 use Rattle.machine.specs.Steps.{made, meaning, numbers, questions, refusals, step}
+use Rattle.layout.proofs.ArgumentLaws.{operator-back}
 use Rattle.layout.specs.Table.{program_of}
-use Rattle.control.specs.Going.{going, Following}
+use Rattle.control.specs.Going.{going}
 use Rattle.decoding.specs.OperandLaws.{has-following}
 use Rattle.instructions.specs.Does.{answered, asked_of, done_of, with_store}
-use Rattle.state.specs.Working.{state_at, HoldsState}
-use Rattle.state.proofs.Standing as standing
+use Rattle.state.specs.Working.{HoldsState}
 use Rattle.table.specs.declared.Argument.{Argument}
 use Rattle.performing.specs.Stepping.{inputs, number_of, state_after, outcome, Stepped}
 use Rattle.performing.specs.Performing.{leads, Performing, next_row, Performs, Leads}
@@ -92,17 +92,14 @@ goes_on g ins s a b c OMIN h = refl
 goes_on g ins s a b c COFNIJ h = refl
 goes_on g ins s a b c STOP h = absurd h
 
-module _ (c i j p e n : List ℕ) where
-  abbrev s : State
-  s = state_at p e n
-
+module _ (c i j : List ℕ) (σ : State) where
   abbrev r : Row
-  r = next_row c i j p e n
+  r = next_row c i j σ
 
   abbrev refused : List ℕ
-  refused = refusals (asked_of r s)
+  refused = refusals (asked_of r σ)
 
-  step_is : outcome c i j p e n ≡ if_any (went (made r s)) stop refused
+  step_is : outcome c i j σ ≡ if_any (went (made r σ)) stop refused
   unfolding step questions
   step_is = refl
 
@@ -111,65 +108,66 @@ module _ (c i j p e n : List ℕ) where
     where
       go : (ns : List ℕ) → refused ≡ ns → head_or 0 ns ≡ 0 → refused ≡ []
       go [] q z = q
-      go (k ∷ ns) q z = absurd (let x = few (answered r s) numbers tt q in omega (arith, x, z))
+      go (k ∷ ns) q z = absurd (let x = few (answered r σ) numbers tt q in omega (arith, x, z))
 
   -- a jump, call or return is a step
-  pub stepped : {told : ℕ} {p' e' n' : List ℕ} → Leads c i j p e n told p' e' n' → Stepped c i j p e n told p' e' n'
-  stepped {p' = p'} {e' = e'} {n' = n'} h =
+  pub stepped : {told : ℕ} {σ' : State} → Leads c i j σ told σ' → Stepped c i j σ told σ'
+  stepped {σ' = σ'} h =
       record {
-        is = h.is ∙ sym (ap number_of step_is ∙ number-first (made r s) refused);
-        holds = subst (λ (t : State). HoldsState p' e' n' t) (sym (ap (state_after s) step_is ∙ state-first (made r s) s refused)) h.holds;
-        most = rw h.is (refused-most (answered r s) numbers tt);
+        is = h.is ∙ sym (ap number_of step_is ∙ number-first (made r σ) refused);
+        holds = subst (λ (t : State). HoldsState σ' t) (sym (ap (state_after σ) step_is ∙ state-first (made r σ) σ refused)) h.holds;
+        most = rw h.is (refused-most (answered r σ) numbers tt);
       }
 
-  module _ {told : ℕ} {p' e' n' : List ℕ} where
+  module _ {told : ℕ} {σ' : State} where
     -- a refusal
-    pub stepped-stop : Performs c i j p e n told p' e' n' → (told ≡ 0 → ⊥) → Stepped c i j p e n told p' e' n'
+    pub stepped-stop : Performs c i j σ told σ' → (told ≡ 0 → ⊥) → Stepped c i j σ told σ'
     stepped-stop h w = stepped (record { is = h.is; holds = go refused h.is h.holds })
       where
-        go : (ns : List ℕ) → told ≡ head_or 0 ns → HoldsState p' e' n' (if_any (with_store r.1 s) (λ n. s) ns) → HoldsState p' e' n' (if_any (made r s) (λ n. s) ns)
+        go : (ns : List ℕ) → told ≡ head_or 0 ns → HoldsState σ' (if_any (with_store r.1 σ) (λ n. σ) ns) → HoldsState σ' (if_any (made r σ) (λ n. σ) ns)
         go [] q k = absurd (w q)
         go (x ∷ ns) q k = k
 
     -- no refusal: the following instruction comes next
-    module _ (h : Performs c i j p e n told p' e' n') (z : told ≡ 0) where
-      held : HoldsState p' e' n' (with_store r.1 s)
-      held = subst (λ (ns : List ℕ). HoldsState p' e' n' (if_any (with_store r.1 s) (λ n. s) ns)) (none-refused h.is z) h.holds
+    module _ (h : Performs c i j σ told σ') (z : told ≡ 0) where
+      held : HoldsState σ' (with_store r.1 σ)
+      held = subst (λ (ns : List ℕ). HoldsState σ' (if_any (with_store r.1 σ) (λ n. σ) ns)) (none-refused h.is z) h.holds
 
-      pub following : suc s.next < limit.instructions → Following p' e' n'
-      following b = record { stands = standing.stands held; below = rw (standing.state_of held) b }
+      pub following : suc σ.next < limit.instructions → suc σ'.next < limit.instructions
+      following b = rw held.is b
 
-      pub stepped-on : r.2 ≡ on → {n'' : List ℕ} → HoldsState p' e' n'' (going on (state_at p' e' n')) → Stepped c i j p e n told p' e' n''
+      pub stepped-on : r.2 ≡ on → {σ'' : State} → HoldsState σ'' (going on σ') → Stepped c i j σ told σ''
       unfolding going
-      stepped-on q {n''} k =
-          let g : HoldsState p' e' n'' (going on (with_store r.1 s)) = rw (standing.state_of held) at k in
-          let m : made r s ≡ going on (with_store r.1 s) = rw q refl in
-          let w : HoldsState p' e' n'' (done_of r s) = rw (none-refused h.is z, m) g in
+      stepped-on q {σ''} k =
+          let g : HoldsState σ'' (going on (with_store r.1 σ)) = subst (λ (t : State). HoldsState σ'' (going on t)) held.is k in
+          let m : made r σ ≡ going on (with_store r.1 σ) = rw q refl in
+          let w : HoldsState σ'' (done_of r σ) = rw (none-refused h.is z, m) g in
           stepped (record { is = h.is; holds = w })
 
 -- of an instruction that was read of a well-formed table
-module _ {c i j p e n : List ℕ} {op : ℕ} {x y z : Argument} {scratch hold given : ℕ} (w : Performing c i j p e n op x y z scratch hold given)
-    (h : T (not (leads (operator_of op)))) where
-  pub row_on : (next_row c i j p e n).2 ≡ on
+module _ {c i j : List ℕ} {σ : State} {op : Op} {x y z : Argument} (w : Performing c i j σ op x y z) (h : T (not (leads op))) where
+  pub row_on : (next_row c i j σ).2 ≡ on
   unfolding meaning
   row_on =
       let g = program_of c in
-      let m = instr_at g (state_at p e n).next in
-      goes_on g (inputs i j) (state_at p e n).store m.first m.second m.third m.op
-      (subst (λ (o : Op). T (not (leads o))) w.read.instruction.operator h)
+      let m = instr_at g σ.next in
+      goes_on g (inputs i j) σ.store m.first m.second m.third m.op
+      (subst (λ (o : Op). T (not (leads o))) (sym (operator-back op) ∙ w.read.instruction.operator) h)
 
-  pub has-next : suc (state_at p e n).next < limit.instructions
+  pub has-next : suc σ.next < limit.instructions
   has-next =
-      has-following c w.ready.table (state_at p e n).next next-in w.read not-ends
+      has-following c w.ready.table σ.next next-in w.read (subst (λ (o : Op). T (not (is_end (operation o).flow))) (sym (operator-back op)) not-ends)
     where
-      next-in : (state_at p e n).next < length (program_of c).code
-      next-in = (open-state (program_of c) (inputs i j) (state_at p e n) w.ready.good).next
+      next-in : σ.next < length (program_of c).code
+      next-in = (open-state (program_of c) (inputs i j) σ w.ready.good).next
 
       unless : (a b : Bool) → T (a || b) → T (not a) → T b
       unless true b k h = absurd h
       unless false b k h = k
 
-      not-ends : T (not (is_end (operation (operator_of op)).flow))
+      not-ends : T (not (is_end (operation op).flow))
       not-ends =
-          unless (leads (operator_of op)) (not (is_end (operation (operator_of op)).flow))
-          (below (λ k. leads (operator_of k) || not (is_end (operation (operator_of k)).flow)) 42 tt op (omega (arith, w.read.instruction.to))) h
+          unless (leads op) (not (is_end (operation op).flow))
+          (subst (λ (o : Op). T (leads o || not (is_end (operation o).flow))) (operator-back op)
+          (below (λ k. leads (operator_of k) || not (is_end (operation (operator_of k)).flow)) 42 tt (operator_number op)
+          (omega (arith, w.read.instruction.to)))) h

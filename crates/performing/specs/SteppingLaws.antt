@@ -10,8 +10,7 @@ use Rattle.machine.specs.Runs.Outcome.{stop, went}
 use Rattle.machine.specs.Steps.{meaning, numbers, questions, refusals, step, asks_after}
 use Rattle.machine.proofs.StepLaws.{step-first}
 use Rattle.layout.specs.Table.{program_of}
-use Rattle.state.specs.Working.{state_at, HoldsState}
-use Rattle.state.proofs.Standing.{state_of}
+use Rattle.state.specs.Working.{HoldsState}
 use Rattle.performing.specs.Stepping.{inputs, number_of, state_after, outcome, Stepped}
 
 -- every number of a stop is more than 0
@@ -31,29 +30,26 @@ module _ (p : Program) (ins : Inputs) (s : State) where
   unfolding questions
   stop-some e = let r = meaning p ins s in few (λ n. r.0 n && asks_after r s n) numbers tt (step-first p ins s e).1
 
-module _ {c i j p e n : List ℕ} {told : ℕ} {p' e' n' : List ℕ} (h : Stepped c i j p e n told p' e' n') where
+module _ {c i j : List ℕ} {σ : State} {told : ℕ} {σ' : State} (h : Stepped c i j σ told σ') where
   abbrev P : Program
   P = program_of c
 
-  abbrev s : State
-  s = state_at p e n
-
   -- a stop: its number, and the state as it was
-  pub stopped : (told ≡ 0 → ⊥) → step P (inputs i j) s ≡ stop told
-  stopped w = go (outcome c i j p e n) refl h.is
+  pub stopped : (told ≡ 0 → ⊥) → step P (inputs i j) σ ≡ stop told
+  stopped w = go (outcome c i j σ) refl h.is
     where
-      go : (o : Outcome State) → outcome c i j p e n ≡ o → told ≡ number_of o → step P (inputs i j) s ≡ stop told
+      go : (o : Outcome State) → outcome c i j σ ≡ o → told ≡ number_of o → step P (inputs i j) σ ≡ stop told
       go (stop k) q r = q ∙ ap stop (sym r)
       go (went t) q r = absurd (w r)
 
-  pub kept : (told ≡ 0 → ⊥) → HoldsState p' e' n' s
-  kept w = subst (λ (o : Outcome State). HoldsState p' e' n' (state_after s o)) (stopped w) h.holds
+  pub kept : (told ≡ 0 → ⊥) → HoldsState σ' σ
+  kept w = subst (λ (o : Outcome State). HoldsState σ' (state_after σ o)) (stopped w) h.holds
 
   -- no stop: the state that it makes
-  pub gone-to : told ≡ 0 → step P (inputs i j) s ≡ went (state_at p' e' n')
-  gone-to z = go (outcome c i j p e n) refl h.is h.holds
+  pub gone-to : told ≡ 0 → step P (inputs i j) σ ≡ went σ'
+  gone-to z = go (outcome c i j σ) refl h.is h.holds
     where
-      go : (o : Outcome State) → outcome c i j p e n ≡ o → told ≡ number_of o → HoldsState p' e' n' (state_after s o)
-          → step P (inputs i j) s ≡ went (state_at p' e' n')
-      go (stop k) q r g = absurd (let x = stop-some P (inputs i j) s q in omega (arith, x, z, r))
-      go (went t) q r g = q ∙ ap went (sym (state_of g))
+      go : (o : Outcome State) → outcome c i j σ ≡ o → told ≡ number_of o → HoldsState σ' (state_after σ o)
+          → step P (inputs i j) σ ≡ went σ'
+      go (stop k) q r g = absurd (let x = stop-some P (inputs i j) σ q in omega (arith, x, z, r))
+      go (went t) q r g = q ∙ ap went (sym g.is)

@@ -2,21 +2,22 @@
 use mathlib.Core.Path.{◌≡◌, refl, sym, ap, ◌∙◌, subst}
 use mathlib.Core.Bool.{Bool, true, false, ◌&&◌, ◌||◌}
 use mathlib.Core.List.{List, [], ◌∷◌}
-use Prim.Native.Nat.{ℕ, ◌+◌, ◌≤◌, ◌<◌}
+use Prim.Native.Nat.{ℕ, ◌+◌, ◌<◌}
 use native.Mathlib.Omega.{arith}
 use lib.Dec.{leb, eqb}
 use lib.ListN.{length, take}
 use borrow.Author.Tests.{ne_eqb}
+use Rattle.std.specs.Prelude.{Option, Some, is_some, IfSome}
 use Rattle.language.specs.Limits as limit
 use Rattle.language.specs.Letters.Letter.{E, P}
 use Rattle.language.specs.Program.{Program}
 use Rattle.language.specs.Program.Arg.{nothing}
 use Rattle.language.specs.Program.Op.{COFNIJ, SCHOWAJ, USTAW, ZAMIEN}
-use Rattle.language.specs.Values.{Component, Record, Store, Inputs, chars, kind, link}
+use Rattle.language.specs.Values.{Component, Record, Store, State, Inputs, chars, kind, link}
 use Rattle.language.specs.Values.Component.{word, address}
 use Rattle.lists.specs.Lists.{any}
 use Rattle.machine.specs.Arguments.{expr, file_of, records, first, Asks, none, needs, ask, ◌&◌}
-use Rattle.machine.specs.Changes.{with_exprs, put_expr, into, past_by, past, used_by, used, pointed, records_to, address_of_last, fits}
+use Rattle.machine.specs.Changes.{with_exprs, put_expr, into, past_by, past, used_by, used, pointed, records_to, address_of_last}
 use Rattle.machine.specs.Effects.{Row, exchanged, row}
 use Rattle.machine.specs.Effects.Go.{on}
 use Rattle.cells.specs.Cells.{Number, pasted}
@@ -27,8 +28,7 @@ use Rattle.layout.proofs.ComponentLaws.{next-component, components-none, compone
 use Rattle.layout.specs.Components.{component_bytes, records_bytes, component_in, components_in, records_in}
 use Rattle.layout.specs.Memory.{components_held, chars_held}
 use Rattle.state.specs.Blocks.{ExprLent, PartsDroppable, PartsWritable, exprs_exchanged}
-use Rattle.state.specs.Working.{state_at, HoldsState, Stands, on_store, nth, reading, writing}
-use Rattle.state.proofs.Standing.{state_of, stands}
+use Rattle.state.specs.Working.{HoldsState, Stands, on_store, nth, reading, writing}
 use Rattle.filing.specs.Files.{RecordsLent, Pointable, pointed_at, files_exchanged}
 use Rattle.filing.proofs.Pointers.{pointed-is}
 use Rattle.instructions.specs.Does.{answered, DoesFor, Quiet, stop_of}
@@ -36,49 +36,49 @@ use Rattle.instructions.specs.Operands.{target}
 use Rattle.instructions.proofs.Answers.{answer-no, does-stop, quiet-done}
 use Rattle.instructions.proofs.Storing.{plain_done, plain-full}
 use Rattle.instructions.proofs.Written.{into_one, fits-written, writable}
-use Rattle.pointers.specs.Located.{Located}
-use Rattle.records.specs.declared.Found.{Found}
+use Rattle.pointers.specs.Located.{PlaceOf, Located}
+use Rattle.pointers.specs.declared.Place.{Place}
 
 pub last-told : {rs : List Record} {x : List ℕ} {a : ℕ} → RecordsLent rs x → Number (address_of_last 0 (records_in x)) 8388608 a → Number (address_of_last 0 rs) 8388608 a
 last-told {a = a} l v = subst (λ (ts : List Record). Number (address_of_last 0 ts) 8388608 a) l.is v
 
-module _ {p e n : List ℕ} (h : Stands p e n) where
+pub front-pointable : {σ : State} {i : ℕ} → i < limit.files → Pointable σ i 0 0
+unfolding records_bytes
+front-pointable l = record { index = l; bytes_is = refl }
+
+module _ {σ : State} (h : Stands σ) where
   abbrev s : Store
-  s = (state_at p e n).store
+  s = σ.store
 
   -- ---- COFNIJ and ZAMIEN
 
-  pub front-pointable : {sc hd i : ℕ} → 65536 ≤ sc → 32768 ≤ hd → i < limit.files → Pointable p e n i 0 0 sc hd
-  unfolding records_bytes
-  front-pointable a b l = record { stands = h; index = l; bytes_is = refl; spare = a; room = b }
-
-  pub cofnij-done : (i : ℕ) {p' e' : List ℕ} → HoldsState p' e' n (on_store (pointed_at i 0) (state_at p e n))
-      → DoesFor p e n 0 p' e' n (λ g ins. row g ins s (nth P i) nothing nothing COFNIJ)
+  pub cofnij-done : (i : ℕ) {σ' : State} → HoldsState σ' (on_store (pointed_at i 0) σ)
+      → DoesFor σ 0 σ' (λ g ins. row g ins s (nth P i) nothing nothing COFNIJ)
   unfolding row
   cofnij-done i k g ins = rw (pointed-is i 0 s) (plain_done h (pointed_at i 0) k)
 
-  pub zamien-exprs : (i j : ℕ) {p' e' : List ℕ} → HoldsState p' e' n (on_store (exprs_exchanged i j) (state_at p e n))
-      → DoesFor p e n 0 p' e' n (λ g ins. row g ins s (nth E i) (nth E j) nothing ZAMIEN)
+  pub zamien-exprs : (i j : ℕ) {σ' : State} → HoldsState σ' (on_store (exprs_exchanged i j) σ)
+      → DoesFor σ 0 σ' (λ g ins. row g ins s (nth E i) (nth E j) nothing ZAMIEN)
   unfolding row exchanged exprs_exchanged
   zamien-exprs i j k g ins = plain_done h (exprs_exchanged i j) k
 
-  pub zamien-files : (i j : ℕ) {p' e' : List ℕ} → HoldsState p' e' n (on_store (files_exchanged i j) (state_at p e n))
-      → DoesFor p e n 0 p' e' n (λ g ins. row g ins s (nth P i) (nth P j) nothing ZAMIEN)
+  pub zamien-files : (i j : ℕ) {σ' : State} → HoldsState σ' (on_store (files_exchanged i j) σ)
+      → DoesFor σ 0 σ' (λ g ins. row g ins s (nth P i) (nth P j) nothing ZAMIEN)
   unfolding row exchanged files_exchanged
   zamien-files i j k g ins = plain_done h (files_exchanged i j) k
 
   -- ---- SCHOWAJ
 
-  module _ (i : ℕ) (at_end : Bool) {j : ℕ} (d : j < limit.expressions) {a : ℕ} (v : Number (address_of_last 0 (file_of s (nth P i)).before) 8388608 a) where
-    abbrev saved : Program → Inputs → Bool → Row
-    saved g ins reverses = row g ins s (nth P i) (nth (target reverses at_end) j) nothing SCHOWAJ
+  module _ (i : ℕ) (reverses at_end : Bool) {j : ℕ} (d : j < limit.expressions) {a : ℕ} (v : Number (address_of_last 0 (file_of s (nth P i)).before) 8388608 a) where
+    abbrev saved : Program → Inputs → Row
+    saved g ins = row g ins s (nth P i) (nth (target reverses at_end) j) nothing SCHOWAJ
 
     abbrev kept : Store → Store
     kept t = into (nth (writing at_end) j) (address a ∷ []) t
 
-    row-schowaj : (g : Program) (ins : Inputs) (reverses : Bool) → saved g ins reverses ≡ (none, kept s, on)
+    row-schowaj : (g : Program) (ins : Inputs) → saved g ins ≡ (none, kept s, on)
     unfolding row
-    row-schowaj g ins reverses = rw (← v.is) (ap (λ (t : Store). (none, t, on)) (into_one reverses at_end j (address a) s))
+    row-schowaj g ins = rw (← v.is) (ap (λ (t : Store). (none, t, on)) (into_one reverses at_end j (address a) s))
 
     address-encoded : {new : List ℕ} → new ≡ component_bytes (address a) → Encoded new (address a ∷ [])
     address-encoded q = record { is = q ∙ sym (components_bytes-one (address a)); all_ok = (omega (arith, v.most), tt) }
@@ -88,29 +88,29 @@ module _ {p e n : List ℕ} (h : Stands p e n) where
     address-long = refl
 
     pub schowaj-full : {b : Bool} → b ≡ (leb (components_held s + 1) limit.components && leb (chars_held s + 0) limit.characters) → b ≡ false
-        → (reverses : Bool) → DoesFor p e n 59 p e n (λ g ins. saved g ins reverses)
-    schowaj-full q z reverses g ins =
-        rw (row-schowaj g ins reverses) (plain-full h (kept s) (fits-written h (address-encoded refl) d refl refl at_end ∙ sym q ∙ z))
+        → DoesFor σ 59 σ saved
+    schowaj-full q z g ins =
+        rw (row-schowaj g ins) (plain-full h (kept s) (fits-written h (address-encoded refl) d refl refl at_end ∙ sym q ∙ z))
 
     module _ (o : List ℕ) {o' : List ℕ} (w : o' ≡ pasted o 0 (component_bytes (address a))) where
       held-address : Encoded (take 5 o') (address a ∷ [])
       held-address = address-encoded (rw w (pasted-front o (component_bytes (address a)) 5 address-long))
 
-      pub address-writable : {sc : ℕ} → 65536 ≤ sc → {b : Bool} → b ≡ (leb (components_held s + 1) limit.components && leb (chars_held s + 0) limit.characters) → b ≡ true
-          → PartsWritable p e n sc j (take 5 o') 1 0
-      address-writable sp q z = writable h held-address d refl refl sp (sym q ∙ z)
+      pub address-writable : {b : Bool} → b ≡ (leb (components_held s + 1) limit.components && leb (chars_held s + 0) limit.characters) → b ≡ true
+          → PartsWritable σ j (take 5 o') 1 0
+      address-writable q z = writable h held-address d refl refl (sym q ∙ z)
 
-      pub schowaj-done : {p' e' n' : List ℕ} → HoldsState p' e' n' (on_store (into (nth (writing at_end) j) (components_in (take 5 o'))) (state_at p e n))
-          → (reverses : Bool) → DoesFor p e n 0 p' e' n' (λ g ins. saved g ins reverses)
-      schowaj-done {p'} {e'} {n'} k reverses g ins =
-          rw (row-schowaj g ins reverses)
-          (plain_done h kept (subst (λ (xs : List Component). HoldsState p' e' n' (on_store (into (nth (writing at_end) j) xs) (state_at p e n))) (components-of held-address) k))
+      pub schowaj-done : {σ' : State} → HoldsState σ' (on_store (into (nth (writing at_end) j) (components_in (take 5 o'))) σ)
+          → DoesFor σ 0 σ' saved
+      schowaj-done {σ'} k g ins =
+          rw (row-schowaj g ins)
+          (plain_done h kept (subst (λ (xs : List Component). HoldsState σ' (on_store (into (nth (writing at_end) j) xs) σ)) (components-of held-address) k))
 
 -- ---- USTAW
 
-module _ {p e n : List ℕ} (h : Stands p e n) (removes : Bool) {i : ℕ} (b : i < limit.expressions) {x : List ℕ} (l : ExprLent p e n i x) {j : ℕ} (d : j < limit.files) where
+module _ {σ : State} (h : Stands σ) (removes : Bool) {i : ℕ} (b : i < limit.expressions) {x : List ℕ} (l : ExprLent σ i x) {j : ℕ} (d : j < limit.files) where
   abbrev store : Store
-  store = (state_at p e n).store
+  store = σ.store
 
   abbrev rs : List Record
   rs = records (file_of store (nth P j))
@@ -134,11 +134,11 @@ module _ {p e n : List ℕ} (h : Stands p e n) (removes : Bool) {i : ℕ} (b : i
   row-ustaw : (g : Program) (ins : Inputs) (ys : List Component) → take 1 (expr store (nth E i)) ≡ ys → by g ins ≡ (asks ys, makes ys, on)
   row-ustaw g ins ys q = row_by removes g ins ys q
 
-  pub ustaw-none : length x ≡ 0 → DoesFor p e n 52 p e n by
+  pub ustaw-none : length x ≡ 0 → DoesFor σ 52 σ by
   ustaw-none z g ins =
       let q : expr store (nth E i) ≡ [] = sym l.is ∙ components-none x z in
       rw (row-ustaw g ins [] (ap (take 1) q))
-      (does-stop h (asks [], makes [], on) (answer-no (asks [], makes [], on) (state_at p e n) (50 ∷ []) 52 (53 ∷ 54 ∷ 55 ∷ 56 ∷ 57 ∷ 58 ∷ 59 ∷ 60 ∷ []) refl (refl, tt) refl) (λ y. omega (arith, y)))
+      (does-stop h (asks [], makes [], on) (answer-no (asks [], makes [], on) σ (50 ∷ []) 52 (53 ∷ 54 ∷ 55 ∷ 56 ∷ 57 ∷ 58 ∷ 59 ∷ 60 ∷ []) refl (refl, tt) refl) (λ y. omega (arith, y)))
 
   module _ (z : length x ≡ 0 → ⊥) where
     one-there : take 1 (expr store (nth E i)) ≡ component_in x ∷ []
@@ -150,25 +150,25 @@ module _ {p e n : List ℕ} (h : Stands p e n) (removes : Bool) {i : ℕ} (b : i
     abbrev y : Component
     y = component_in x
 
-    pub ustaw-kind : {k : ℕ} → Number (kind y) 3 k → (k ≡ 2 → ⊥) → DoesFor p e n 53 p e n by
+    pub ustaw-kind : {k : ℕ} → Number (kind y) 3 k → (k ≡ 2 → ⊥) → DoesFor σ 53 σ by
     ustaw-kind v w g ins =
         let r : Row = (asks (y ∷ []), makes (y ∷ []), on) in
-        let t : answered r (state_at p e n) 53 ≡ false = rw (ne_eqb (kind y) 2 (λ q. w (v.is ∙ q))) refl in
+        let t : answered r σ 53 ≡ false = rw (ne_eqb (kind y) 2 (λ q. w (v.is ∙ q))) refl in
         rw (row-ustaw g ins (y ∷ []) one-there)
-        (does-stop h r (answer-no r (state_at p e n) (50 ∷ 52 ∷ []) 53 (54 ∷ 55 ∷ 56 ∷ 57 ∷ 58 ∷ 59 ∷ 60 ∷ []) refl (refl, (refl, tt)) t) (λ q. omega (arith, q)))
+        (does-stop h r (answer-no r σ (50 ∷ 52 ∷ []) 53 (54 ∷ 55 ∷ 56 ∷ 57 ∷ 58 ∷ 59 ∷ 60 ∷ []) refl (refl, (refl, tt)) t) (λ q. omega (arith, q)))
 
-    module _ (w : kind y ≡ 2) {a : ℕ} (v : Number (link y) 16777216 a) {f : Found} (u : Located a rs f) where
-      asked-58 : (t : Bool) → f.found ≡ t → (eqb (link y) 0 || any (λ r. eqb r.addr (link y)) rs) ≡ t
+    module _ (w : kind y ≡ 2) {a : ℕ} (v : Number (link y) 16777216 a) {o : Option Place} (u : Located a rs o) where
+      asked-58 : (t : Bool) → is_some o ≡ t → (eqb (link y) 0 || any (λ r. eqb r.addr (link y)) rs) ≡ t
       asked-58 t q = rw (← v.is) (sym u.is ∙ q)
 
-      pub ustaw-missing : f.found ≡ false → DoesFor p e n 58 p e n by
+      pub ustaw-missing : is_some o ≡ false → DoesFor σ 58 σ by
       ustaw-missing q g ins =
           let r : Row = (asks (y ∷ []), makes (y ∷ []), on) in
-          let t : answered r (state_at p e n) 58 ≡ false = rw (asked-58 false q) refl in
-          let k : answered r (state_at p e n) 53 ≡ true = rw w refl in
+          let t : answered r σ 58 ≡ false = rw (asked-58 false q) refl in
+          let k : answered r σ 53 ≡ true = rw w refl in
           rw (row-ustaw g ins (y ∷ []) one-there)
           (does-stop h r
-          (answer-no r (state_at p e n) (50 ∷ 52 ∷ 53 ∷ 54 ∷ 55 ∷ 56 ∷ 57 ∷ []) 58 (59 ∷ 60 ∷ []) refl (refl, (refl, (k, (refl, (refl, (refl, (refl, tt))))))) t)
+          (answer-no r σ (50 ∷ 52 ∷ 53 ∷ 54 ∷ 55 ∷ 56 ∷ 57 ∷ []) 58 (59 ∷ 60 ∷ []) refl (refl, (refl, (k, (refl, (refl, (refl, (refl, tt))))))) t)
           (λ m. omega (arith, m)))
 
       file-stays : (r : Bool) → file_of (past (nth (reading r) i) 1 store) (nth P j) ≡ file_of store (nth P j)
@@ -176,28 +176,33 @@ module _ {p e n : List ℕ} (h : Stands p e n) (removes : Bool) {i : ℕ} (b : i
       file-stays true = refl
       file-stays false = refl
 
-      pub then-pointable : f.found ≡ true → {e' n' : List ℕ} → HoldsState p e' n' (on_store (past (nth (reading removes) i) 1) (state_at p e n)) → {sc hd : ℕ} → 65536 ≤ sc → 32768 ≤ hd
-          → Pointable p e' n' j f.records f.bytes sc hd
-      unfolding on_store
-      then-pointable q k sp ro =
-          record { stands = stands k; index = d; bytes_is = rw (state_of k, file-stays removes) (u.bytes_is q); spare = sp; room = ro }
+      module _ {f : Place} (q : o ≡ Some f) where
+        place_is : PlaceOf a rs f
+        place_is = subst (λ (r : Option Place). IfSome r (λ p. PlaceOf a rs p)) q u.place
 
-      quiet : f.found ≡ true → Quiet (asks (y ∷ []))
-      quiet q = record { is_50 = refl; is_55 = refl; is_56 = refl; is_57 = refl; is_58 = rw (asked-58 true q) refl; is_59 = refl; is_60 = refl }
+        found : is_some o ≡ true
+        found = ap is_some q
 
-      answered-all : stop_of (asks (y ∷ [])) ≡ 0
-      answered-all = rw w refl
+        pub then-pointable : {σ' : State} → HoldsState σ' (on_store (past (nth (reading removes) i) 1) σ) → Pointable σ' j f.records f.bytes
+        unfolding on_store
+        then-pointable k = record { index = d; bytes_is = rw (k.is, file-stays removes) place_is.bytes_is }
 
-      made-is : f.found ≡ true → makes (y ∷ []) ≡ pointed_at j f.records (past (nth (reading removes) i) 1 store)
-      made-is q =
-          let t = past (nth (reading removes) i) 1 store in
-          let m : records_to (link y) (records (file_of t (nth P j))) ≡ f.records = rw (file-stays removes, ← v.is) (sym (u.count q)) in
-          pointed-is j (link y) t ∙ ap (λ (k : ℕ). pointed_at j k t) m
+        quiet : Quiet (asks (y ∷ []))
+        quiet = record { is_50 = refl; is_55 = refl; is_56 = refl; is_57 = refl; is_58 = rw (asked-58 true found) refl; is_59 = refl; is_60 = refl }
 
-      pub ustaw-done : f.found ≡ true → {p' e' n' : List ℕ} → HoldsState p' e' n' (on_store (λ t. pointed_at j f.records (past (nth (reading removes) i) 1 t)) (state_at p e n))
-          → DoesFor p e n 0 p' e' n' by
-      unfolding on_store
-      ustaw-done q k g ins = rw (row-ustaw g ins (y ∷ []) one-there) (quiet-done h (asks (y ∷ [])) (makes (y ∷ [])) (quiet q) answered-all (rw (made-is q) k))
+        answered-all : stop_of (asks (y ∷ [])) ≡ 0
+        answered-all = rw w refl
+
+        made-is : makes (y ∷ []) ≡ pointed_at j f.records (past (nth (reading removes) i) 1 store)
+        made-is =
+            let t = past (nth (reading removes) i) 1 store in
+            let m : records_to (link y) (records (file_of t (nth P j))) ≡ f.records = rw (file-stays removes, ← v.is) (sym place_is.count) in
+            pointed-is j (link y) t ∙ ap (λ (k : ℕ). pointed_at j k t) m
+
+        pub ustaw-done : {σ' : State} → HoldsState σ' (on_store (λ t. pointed_at j f.records (past (nth (reading removes) i) 1 t)) σ)
+            → DoesFor σ 0 σ' by
+        unfolding on_store
+        ustaw-done k g ins = rw (row-ustaw g ins (y ∷ []) one-there) (quiet-done h (asks (y ∷ [])) (makes (y ∷ [])) quiet answered-all (rw made-is k))
 
     address-front : (c : Component) → kind c ≡ 2 → (length (component_bytes c) ≡ 5) × (length (chars c) ≡ 0)
     unfolding component_bytes
@@ -205,12 +210,11 @@ module _ {p e n : List ℕ} (h : Stands p e n) (removes : Bool) {i : ℕ} (b : i
     address-front (Component.number u) q = absurd (omega (arith, q))
     address-front (address u) q = (refl, refl)
 
-    pub address-droppable : kind y ≡ 2 → PartsDroppable p e n i 1 5 0
+    pub address-droppable : kind y ≡ 2 → PartsDroppable σ i 1 5 0
     address-droppable w =
         let o = one-there in
         let c = address-front y w in
         record {
-          stands = h;
           index = b;
           first = record {
             most = rw (sym l.is ∙ (next-component l.whole (omega (arith, z))).is) (omega arith);

@@ -1,14 +1,18 @@
 -- Where the record of an address stands in a file.
-use Rattle.std.specs.Prelude.{◌≡◌, true, ◌||◌, List, ℕ, eqb, length, take}
+use Rattle.std.specs.Prelude.{◌≡◌, ◌||◌, List, ℕ, eqb, length, take, Option, is_some, IfSome}
 use Rattle.language.specs.Values.{Record}
 use Rattle.layout.specs.Components.{records_bytes}
 use Rattle.lists.specs.Lists.{any}
 use Rattle.machine.specs.Changes.{records_to}
 use Rattle.records.specs.Places.{of_address}
-use Rattle.records.specs.declared.Found.{Found}
+use Rattle.pointers.specs.declared.Place.{Place}
 
--- "Is the record of that address in that file, or the address 0? 58": how many records stand up to it, and their bytes
-pub record Located (n : ℕ) (rs : List Record) (r : Found) : Type 0 where
-  pub is : r.found ≡ eqb n 0 || any (of_address n) rs
-  pub count : r.found ≡ true → r.records ≡ records_to n rs
-  pub bytes_is : r.found ≡ true → r.bytes ≡ length (records_bytes (take r.records rs))
+-- how many of the records rs stand up to the one of address n, and their bytes
+pub record PlaceOf (n : ℕ) (rs : List Record) (p : Place) : Type 0 where
+  pub count : p.records ≡ records_to n rs
+  pub bytes_is : p.bytes ≡ length (records_bytes (take p.records rs))
+
+-- "Is the record of that address in that file, or the address 0? 58"
+pub record Located (n : ℕ) (rs : List Record) (r : Option Place) : Type 0 where
+  pub is : is_some r ≡ (eqb n 0 || any (of_address n) rs)
+  pub place : IfSome r (λ p. PlaceOf n rs p)

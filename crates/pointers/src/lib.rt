@@ -1,144 +1,131 @@
 // The pointers of files, addresses and exchanges: COFNIJ, SCHOWAJ, USTAW and ZAMIEN.
 #![tactic(auto)]
 
-ghost use Rattle.std.specs.Prelude.{Bool, length};
+ghost use Rattle.std.specs.Prelude.{Bool, ◌<◌};
 ghost use Rattle.language.specs.Limits as limit;
 ghost use Rattle.language.specs.Letters.Letter.{E, P};
 ghost use Rattle.language.specs.Program.Arg.{nothing};
 ghost use Rattle.language.specs.Program.Op.{COFNIJ, SCHOWAJ, USTAW, ZAMIEN};
 ghost use Rattle.machine.specs.Arguments.{file_of, records};
 ghost use Rattle.machine.specs.Effects.{row};
-ghost use Rattle.state.specs.Working.{state_at, nth, reading};
-ghost use Rattle.state.specs.Blocks.{ExprsExchangeable};
-ghost use Rattle.filing.specs.Files.{FileNamed, FilesExchangeable};
+ghost use Rattle.state.specs.Working.{nth, reading};
+ghost use Rattle.instructions.specs.Questions.{told_by};
 ghost use Rattle.instructions.specs.Does.{DoesFor};
-ghost use Rattle.instructions.specs.Operands.{target, OneOperand, TwoOperands};
+ghost use Rattle.instructions.specs.Operands.{target as letter_by};
 ghost use Rattle.pointers.specs.Located.{Located};
 
-// COFNIJ of file `i`.
-pub fn cofnij(
-    pool: &mut [u8],
-    ends: &mut [u32],
-    nums: &[u32],
-    scratch: &mut [u8],
-    hold: &mut [u8],
-    i: usize,
-) -> u8
-    requires { OneOperand pool.old ends.old nums.now (length scratch.old) (length hold.old) i limit.files }
-    ensures { DoesFor pool.old ends.old nums.now result pool.new ends.new nums.now (λ g ins. row g ins (state_at pool.old ends.old nums.now).store (nth P i) nothing nothing COFNIJ) }
-{
-    filing::point(pool, ends, nums, scratch, hold, i, 0, 0);
-    0
+use instructions::{Bench, Question, Source, Target};
+use state::Working;
+
+// How many records stand up to a place in a file, and their cells.
+#[derive(Clone, Copy)]
+pub struct Place {
+    pub records: usize,
+    pub bytes: usize,
 }
 
-// SCHOWAJ of file `i` to expression `j`: 0, or the question answered no. One component is the same turned round.
-pub fn schowaj(
-    pool: &mut [u8],
-    ends: &mut [u32],
-    nums: &mut [u32],
-    scratch: &mut [u8],
-    hold: &mut [u8],
-    i: usize,
-    at_end: bool,
-    j: usize,
-) -> u8
-    requires { TwoOperands pool.old ends.old nums.old (length scratch.old) (length hold.old) i limit.files j limit.expressions }
-    ensures { (reverses : Bool) → DoesFor pool.old ends.old nums.old result pool.new ends.new nums.new (λ g ins. row g ins (state_at pool.old ends.old nums.old).store (nth P i) (nth (target reverses at_end) j) nothing SCHOWAJ) }
+// COFNIJ of file `i`.
+pub fn cofnij(bench: &mut Bench, i: usize) -> Result<(), Question>
+    requires { i < limit.files }
+    ensures { DoesFor bench.old.state (told_by result) bench.new.state (λ g ins. row g ins bench.old.state.store (nth P i) nothing nothing COFNIJ) }
 {
-    let a = records::last_address(filing::before_bytes(pool, ends, nums, i));
-    if !instructions::has_room(pool, ends, nums, 1, 0) {
-        return 59;
+    bench.state.stands();
+    filing::point(&mut bench.state, &mut bench.hold, i, 0, 0);
+    Ok(())
+}
+
+// SCHOWAJ of file `i`. One component is the same turned round.
+pub fn schowaj(bench: &mut Bench, i: usize, target: Target) -> Result<(), Question>
+    requires file { i < limit.files }
+    requires expression { target.j < limit.expressions }
+    ensures { (reverses : Bool) → DoesFor bench.old.state (told_by result) bench.new.state (λ g ins. row g ins bench.old.state.store (nth P i) (nth (letter_by reverses target.at_end) target.j) nothing SCHOWAJ) }
+{
+    bench.state.stands();
+    let a = records::last_address(filing::before_bytes(&bench.state, i));
+    if !instructions::has_room(&bench.state, 1, 0) {
+        return Err(Question::Room);
     }
-    components::put_address(hold, 0, a);
-    state::write_parts(pool, ends, nums, scratch, j, at_end, &hold[..5], 1, 0);
-    0
+    components::put_address(&mut bench.hold, 0, a);
+    bench
+        .state
+        .write_parts(target.j, target.at_end, &bench.hold[..5], 1, 0);
+    Ok(())
 }
 
 // Where the record of an address stands in file `i`; the address 0 stands in front of all.
-fn locate(pool: &[u8], ends: &[u32], nums: &[u32], i: usize, address: usize) -> records::Found
-    requires { FileNamed pool.now ends.now nums.now i }
-    ensures { Located address (records (file_of (state_at pool.now ends.now nums.now).store (nth P i))) result }
+fn locate(state: &Working, i: usize, address: usize) -> Option<Place>
+    requires { i < limit.files }
+    ensures { Located address (records (file_of state.now.store (nth P i))) result }
 {
     if address == 0 {
-        return records::Found {
-            found: true,
+        return Some(Place {
             records: 0,
             bytes: 0,
-        };
+        });
     }
-    let f = records::find(filing::before_bytes(pool, ends, nums, i), address);
+    let f = records::find(filing::before_bytes(state, i), address);
     if f.found {
-        return f;
+        return Some(Place {
+            records: f.records,
+            bytes: f.bytes,
+        });
     }
-    let g = records::find(filing::after_bytes(pool, ends, nums, i), address);
-    records::Found {
-        found: g.found,
+    let g = records::find(filing::after_bytes(state, i), address);
+    if !g.found {
+        return None;
+    }
+    Some(Place {
         records: f.records + g.records,
         bytes: f.bytes + g.bytes,
-    }
+    })
 }
 
-// USTAW of file `j` to the record whose address is the first component of expression `i`: 0, or the question answered no.
-pub fn ustaw(
-    pool: &mut [u8],
-    ends: &mut [u32],
-    nums: &mut [u32],
-    scratch: &mut [u8],
-    hold: &mut [u8],
-    removes: bool,
-    i: usize,
-    j: usize,
-) -> u8
-    requires { TwoOperands pool.old ends.old nums.old (length scratch.old) (length hold.old) i limit.expressions j limit.files }
-    ensures { DoesFor pool.old ends.old nums.old result pool.new ends.new nums.new (λ g ins. row g ins (state_at pool.old ends.old nums.old).store (nth (reading removes) i) (nth P j) nothing USTAW) }
+// USTAW of file `j` to the record whose address is the first component of an expression.
+pub fn ustaw(bench: &mut Bench, source: Source, j: usize) -> Result<(), Question>
+    requires expression { source.i < limit.expressions }
+    requires file { j < limit.files }
+    ensures { DoesFor bench.old.state (told_by result) bench.new.state (λ g ins. row g ins bench.old.state.store (nth (reading source.removes) source.i) (nth P j) nothing USTAW) }
 {
-    let x = state::expr_bytes(pool, ends, nums, i);
-    if x.len() == 0 {
-        return 52;
+    let x = bench.state.expr_bytes(source.i);
+    if x.is_empty() {
+        return Err(Question::Missing);
     }
     if components::kind_of(x) != 2 {
-        return 53;
+        return Err(Question::Kind);
     }
-    let f = locate(pool, ends, nums, j, components::address_of(x));
-    if !f.found {
-        return 58;
-    }
-    state::past_parts(pool, ends, nums, i, removes, 1, 5, 0);
-    filing::point(pool, ends, nums, scratch, hold, j, f.records, f.bytes);
-    0
+    let Some(place) = locate(&bench.state, j, components::address_of(x)) else {
+        return Err(Question::NoRecord);
+    };
+    bench.state.past_parts(source.i, source.removes, 1, 5, 0);
+    filing::point(
+        &mut bench.state,
+        &mut bench.hold,
+        j,
+        place.records,
+        place.bytes,
+    );
+    Ok(())
 }
 
 // ZAMIEN of the expressions `i` and `j`.
-pub fn zamien_exprs(
-    pool: &mut [u8],
-    ends: &mut [u32],
-    nums: &[u32],
-    scratch: &mut [u8],
-    hold: &mut [u8],
-    i: usize,
-    j: usize,
-) -> u8
-    requires { ExprsExchangeable pool.old ends.old nums.now i j (length scratch.old) (length hold.old) }
-    ensures { DoesFor pool.old ends.old nums.now result pool.new ends.new nums.now (λ g ins. row g ins (state_at pool.old ends.old nums.now).store (nth E i) (nth E j) nothing ZAMIEN) }
+pub fn zamien_exprs(bench: &mut Bench, i: usize, j: usize) -> Result<(), Question>
+    requires first { i < limit.expressions }
+    requires second { j < limit.expressions }
+    ensures { DoesFor bench.old.state (told_by result) bench.new.state (λ g ins. row g ins bench.old.state.store (nth E i) (nth E j) nothing ZAMIEN) }
 {
-    state::exchange_exprs(pool, ends, nums, scratch, hold, i, j);
-    0
+    bench.state.stands();
+    bench.state.exchange_exprs(&mut bench.hold, i, j);
+    Ok(())
 }
 
 // ZAMIEN of the files `i` and `j`.
 // Not one with `zamien_exprs`: a file is two strings, an expression is one, and each exchange has its own definition and conditions.
-pub fn zamien_files(
-    pool: &mut [u8],
-    ends: &mut [u32],
-    nums: &[u32],
-    scratch: &mut [u8],
-    hold: &mut [u8],
-    i: usize,
-    j: usize,
-) -> u8
-    requires { FilesExchangeable pool.old ends.old nums.now i j (length scratch.old) (length hold.old) }
-    ensures { DoesFor pool.old ends.old nums.now result pool.new ends.new nums.now (λ g ins. row g ins (state_at pool.old ends.old nums.now).store (nth P i) (nth P j) nothing ZAMIEN) }
+pub fn zamien_files(bench: &mut Bench, i: usize, j: usize) -> Result<(), Question>
+    requires first { i < limit.files }
+    requires second { j < limit.files }
+    ensures { DoesFor bench.old.state (told_by result) bench.new.state (λ g ins. row g ins bench.old.state.store (nth P i) (nth P j) nothing ZAMIEN) }
 {
-    filing::exchange_files(pool, ends, nums, scratch, hold, i, j);
-    0
+    bench.state.stands();
+    filing::exchange_files(&mut bench.state, &mut bench.hold, i, j);
+    Ok(())
 }

@@ -5,24 +5,23 @@ use mathlib.Core.List.{List, []}
 use Prim.Native.Nat.{ℕ, ◌+◌, ◌≤◌, ◌<◌}
 use native.Mathlib.Omega.{arith}
 use lib.Dec.{leb}
-use lib.ListN.{length, take, length-take}
+use lib.ListN.{length, take}
 use borrow.Author.Tests.{lt-leb}
 use Rattle.language.specs.Limits as limit
 use Rattle.language.specs.Letters.Letter.{E, Q}
-use Rattle.language.specs.Values.{Component, Store}
+use Rattle.language.specs.Values.{Component, Store, State}
 use Rattle.machine.specs.Arguments.{at, expr, Until}
 use Rattle.machine.specs.Changes.{with_exprs, put_expr, minus_unless, printed, past_by, past, fits}
 use Rattle.layout.proofs.ComponentLaws.{whole-components}
 use Rattle.layout.specs.Components.{components_in}
-use Rattle.cells.proofs.Laws.{pasted-front, length-pasted}
+use Rattle.cells.proofs.Laws.{pasted-front}
 use Rattle.components.specs.Parts.{spelled, JoinRoom, Written}
 use Rattle.matching.specs.Tests.{Took}
 use Rattle.matching.specs.declared.Taken.{Taken}
-use Rattle.state.specs.Working.{state_at, HoldsState, Stands, on_store, nth, reading}
+use Rattle.state.specs.Working.{HoldsState, Stands, on_store, nth, reading}
 use Rattle.state.specs.Blocks.{ExprLent, Printable}
 use Rattle.state.proofs.Fits.{fine-limited, fits-minus_unless, fits-printed}
 use Rattle.state.proofs.Freed.{limited-past}
-use Rattle.state.proofs.Standing.{state_of, stands}
 use Rattle.moves.proofs.Taking.{took, taken-part, bytes-few}
 use Rattle.moves.proofs.WordsTaken.{part-is, chars-long}
 use Rattle.printing.specs.Printing.{spelled_out}
@@ -34,42 +33,35 @@ unfolding past past_by put_expr with_exprs
 outputs-left true i k s = refl
 outputs-left false i k s = refl
 
-module _ {p e n : List ℕ} {i : ℕ} {x : List ℕ} {u : Until Component} {t : Taken} (h : Stands p e n) (b : i < limit.expressions) (l : ExprLent p e n i x)
+module _ {σ : State} {i : ℕ} {x : List ℕ} {u : Until Component} {t : Taken} (h : Stands σ) (b : i < limit.expressions) (l : ExprLent σ i x)
     (k : Took u (components_in x) t) where
   abbrev s : Store
-  s = (state_at p e n).store
+  s = σ.store
 
   abbrev xs : List Component
   xs = expr s (nth E i)
 
-  pub chars-few : t.chars ≤ 32768
+  chars-few : t.chars ≤ 32768
   chars-few = omega (arith, (took h b l k).chars_most, bytes-few h b l k)
 
   pub join-room : (m : ℕ) → 32768 ≤ m → JoinRoom m (take t.bytes x)
   join-room m r = record { whole = whole-components (taken-part h b l k); room = rw (part-is h b l k) (omega (arith, chars-long h b l k, chars-few)) }
 
   module _ {d d' : List ℕ} {m : ℕ} (w : Written d (spelled (components_in (take t.bytes x))) d' m) where
-    pub joined_is : take m d' ≡ spelled (take t.parts xs)
+    joined_is : take m d' ≡ spelled (take t.parts xs)
     joined_is = rw w.is (pasted-front d (spelled (components_in (take t.bytes x))) m (sym w.count)) ∙ ap spelled (part-is h b l k)
 
     joined-long : length (take m d') ≡ t.chars
     joined-long = ap length joined_is ∙ chars-long h b l k
 
-    pub joined-fits : m ≤ length d'
-    joined-fits = rw (w.is, length-pasted d 0 (spelled (components_in (take t.bytes x))) (omega (arith, w.count, w.fits))) w.fits
-
-    pub joined-size : m ≡ length (take m d')
-    joined-size = simp length-take (omega (arith, joined-fits))
-
-    pub printable : (scratch j : ℕ) → 65536 ≤ scratch → j < limit.outputs → (removes : Bool) {e' n' : List ℕ} → HoldsState p e' n' (on_store (past (nth (reading removes) i) t.parts) (state_at p e n))
-        → length (at [] s.outputs (nth Q j)) + t.chars ≤ limit.output → Printable p e' n' scratch j (length (take m d'))
+    pub printable : (j : ℕ) → j < limit.outputs → (removes : Bool) {σ' : State} → HoldsState σ' (on_store (past (nth (reading removes) i) t.parts) σ)
+        → length (at [] s.outputs (nth Q j)) + t.chars ≤ limit.output → Printable σ' j (length (take m d'))
     unfolding on_store
-    printable scratch j sp c removes g r =
-        record { stands = stands g; spare = sp; index = c; room = rw (state_of g, outputs-left removes i t.parts s, joined-long) r }
+    printable j c removes g r = record { index = c; room = rw (g.is, outputs-left removes i t.parts s, joined-long) r }
 
-    pub spelled-done : (removes : Bool) (j : ℕ) {p' e' n' : List ℕ}
-        → HoldsState p' e' n' (on_store (λ z. minus_unless t.reached (printed (nth Q j) (take m d') (past (nth (reading removes) i) t.parts z))) (state_at p e n))
-        → HoldsState p' e' n' (on_store (spelled_out u removes i j) (state_at p e n))
+    pub spelled-done : (removes : Bool) (j : ℕ) {σ' : State}
+        → HoldsState σ' (on_store (λ z. minus_unless t.reached (printed (nth Q j) (take m d') (past (nth (reading removes) i) t.parts z))) σ)
+        → HoldsState σ' (on_store (spelled_out u removes i j) σ)
     unfolding on_store spelled_out
     spelled-done removes j g = rw ((took h b l k).is, ← joined_is) g
 
@@ -80,7 +72,7 @@ module _ {p e n : List ℕ} {i : ℕ} {x : List ℕ} {u : Until Component} {t : 
       let o = outputs-left removes i t.parts s in
       rw (took h b l k).is
       (fits-minus_unless t.reached (printed (nth Q j) (spelled ys) (past (nth (reading removes) i) t.parts s))
-      ∙ fits-printed (nth Q j) (past (nth (reading removes) i) t.parts s) (rw (o, h.fine.outputs_is) c) (spelled ys) (limited-past s (fine-limited (state_at p e n) h.fine) (nth (reading removes) i) t.parts)
+      ∙ fits-printed (nth Q j) (past (nth (reading removes) i) t.parts s) (rw (o, h.fine.outputs_is) c) (spelled ys) (limited-past s (fine-limited σ h.fine) (nth (reading removes) i) t.parts)
       ∙ rw (o, chars-long h b l k) refl)
 
   pub spelled-full : (removes : Bool) (j : ℕ) → j < limit.outputs → {o : ℕ} → o ≡ length (at [] s.outputs (nth Q j)) → limit.output < o + t.chars

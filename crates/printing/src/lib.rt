@@ -1,7 +1,7 @@
 // Writing words to outputs: PISZ.
 #![tactic(auto)]
 
-ghost use Rattle.std.specs.Prelude.{length};
+ghost use Rattle.std.specs.Prelude.{◌<◌, length, take};
 ghost use Rattle.language.specs.Limits as limit;
 ghost use Rattle.language.specs.Letters.Letter.{Q};
 ghost use Rattle.language.specs.Program.Op.{PISZ};
@@ -9,96 +9,63 @@ ghost use Rattle.machine.specs.Changes.{minus_unless, printed};
 ghost use Rattle.machine.specs.Effects.{row};
 ghost use Rattle.matching.specs.Tests.{until};
 ghost use Rattle.packed.specs.Packed.{table_of};
-ghost use Rattle.state.specs.Working.{state_at, HoldsState, on_store, nth, reading};
+ghost use Rattle.state.specs.Working.{HoldsState, on_store, nth, reading};
 ghost use Rattle.state.specs.Blocks.{Printable};
 ghost use Rattle.table.specs.Denote.{arg_of};
+ghost use Rattle.instructions.specs.Questions.{told_by};
 ghost use Rattle.instructions.specs.Does.{Tried, DoesFor};
-ghost use Rattle.moves.specs.Moves.{all_taken_words, Movable};
-ghost use Rattle.printing.specs.Printing.{Spellable, spelled_out};
+ghost use Rattle.moves.specs.Moves.{all_taken_words, TestBeside, Movable};
+ghost use Rattle.printing.specs.Printing.{spelled_out};
 
+use instructions::{Bench, Question, Source};
 use language::Machine;
+use state::Working;
+use tests::Prepared;
 
 // Writes characters to output `j`, and turns H minus unless the test was reached.
-fn put_out(
-    pool: &mut [u8],
-    ends: &mut [u32],
-    nums: &mut [u32],
-    scratch: &mut [u8],
-    j: usize,
-    chars: &[u8],
-    reached: bool,
-)
-    requires { Printable pool.old ends.old nums.old (length scratch.old) j (length chars.now) }
-    ensures { HoldsState pool.new ends.new nums.new (on_store (λ t. minus_unless reached (printed (nth Q j) chars.now t)) (state_at pool.old ends.old nums.old)) }
+fn put_out(state: &mut Working, j: usize, chars: &[u8], reached: bool)
+    requires { Printable state.old j (length chars.now) }
+    ensures { HoldsState state.new (on_store (λ t. minus_unless reached (printed (nth Q j) chars.now t)) state.old) }
 {
-    state::print(pool, ends, nums, scratch, j, chars);
-    state::minus_unless(pool, ends, nums, reached);
+    state.print(j, chars);
+    state.minus_unless(reached);
 }
 
-// Writes the characters of the words that a test takes of expression `i` to output `j`: 0, or the question answered no.
-fn spell(
-    pool: &mut [u8],
-    ends: &mut [u32],
-    nums: &mut [u32],
-    scratch: &mut [u8],
-    hold: &mut [u8],
-    given: &[u8],
-    test: matching::Test,
-    removes: bool,
-    i: usize,
-    j: usize,
-) -> u8
-    requires { Spellable pool.old ends.old nums.old (length scratch.old) (length hold.old) given.now test i j }
-    ensures { Tried pool.old ends.old nums.old result pool.new ends.new nums.new (all_taken_words (until test given.now) i (state_at pool.old ends.old nums.old).store) (spelled_out (until test given.now) removes i j (state_at pool.old ends.old nums.old).store) }
+// Writes the characters of the words that a test takes of an expression to output `j`.
+fn spell(bench: &mut Bench, test: Prepared, source: Source, j: usize) -> Result<(), Question>
+    requires beside { TestBeside bench.old.given test }
+    requires source { source.i < limit.expressions }
+    requires target { j < limit.outputs }
+    ensures { Tried bench.old.state (told_by result) bench.new.state (all_taken_words (until test.test (take test.len bench.old.given)) source.i bench.old.state.store) (spelled_out (until test.test (take test.len bench.old.given)) source.removes source.i j bench.old.state.store) }
 {
-    let x = state::expr_bytes(pool, ends, nums, i);
-    let t = matching::count(x, test, given);
+    let x = bench.state.expr_bytes(source.i);
+    let t = matching::count(x, test.test, &bench.given[..test.len]);
     if !t.words {
-        return 53;
+        return Err(Question::Kind);
     }
-    if Machine::OUTPUT < state::output_len(pool, ends, nums, j) + t.chars {
-        return 59;
+    if Machine::OUTPUT < bench.state.output_len(j) + t.chars {
+        return Err(Question::Room);
     }
-    let n = components::join(hold, &x[..t.bytes]);
-    state::past_parts(pool, ends, nums, i, removes, t.parts, t.bytes, t.chars);
-    put_out(pool, ends, nums, scratch, j, &hold[..n], t.reached);
-    0
+    let n = components::join(&mut bench.hold, &x[..t.bytes]);
+    bench
+        .state
+        .past_parts(source.i, source.removes, t.parts, t.bytes, t.chars);
+    put_out(&mut bench.state, j, &bench.hold[..n], t.reached);
+    Ok(())
 }
 
-// PISZ of expression `i` to output `j`.
+// PISZ to output `j`.
 pub fn pisz(
     table: &[u32],
-    pool: &mut [u8],
-    ends: &mut [u32],
-    nums: &mut [u32],
-    scratch: &mut [u8],
-    hold: &mut [u8],
-    given: &mut [u8],
-    removes: bool,
-    i: usize,
+    bench: &mut Bench,
+    source: Source,
     j: usize,
     arg: table::Argument,
-) -> u8
-    requires { Movable table.now pool.old ends.old nums.old (length scratch.old) (length hold.old) (length given.old) i j limit.outputs arg }
-    ensures { DoesFor pool.old ends.old nums.old result pool.new ends.new nums.new (λ g ins. row g ins (state_at pool.old ends.old nums.old).store (nth (reading removes) i) (nth Q j) (arg_of (table_of table.now) arg) PISZ) }
+) -> Result<(), Question>
+    requires { Movable table.now source.i j limit.outputs arg }
+    ensures { DoesFor bench.old.state (told_by result) bench.new.state (λ g ins. row g ins bench.old.state.store (nth (reading source.removes) source.i) (nth Q j) (arg_of (table_of table.now) arg) PISZ) }
 {
-    let q = tests::prepare(table, pool, ends, nums, given, arg);
-    let stop = q.stop;
-    let test = q.test;
-    let len = q.len;
-    if stop != 0 {
-        return stop;
-    }
-    spell(
-        pool,
-        ends,
-        nums,
-        scratch,
-        hold,
-        &given[..len],
-        test,
-        removes,
-        i,
-        j,
-    )
+    bench.state.stands();
+    let test = tests::prepare(table, &bench.state, &mut bench.given, arg)?;
+    spell(bench, test, source, j)
 }

@@ -1,18 +1,20 @@
 -- Reading inputs: what CZYTAJ and USUN of an input make of a store, and what their functions ask and tell.
-use Rattle.std.specs.Prelude.{Bool, List, [], ◌∷◌, ℕ, ◌≤◌, ◌<◌, length, get_or, take, drop}
+use Rattle.std.specs.Prelude.{◌≡◌, Bool, List, [], ◌∷◌, ℕ, ◌≤◌, ◌<◌, length, get_or, take, drop}
 use Rattle.language.specs.Limits as limit
 use Rattle.language.specs.Letters.Letter.{I}
 use Rattle.language.specs.Program.{Program}
-use Rattle.language.specs.Values.{Store}
+use Rattle.language.specs.Values.{Store, State}
 use Rattle.machine.specs.Arguments.{at, Until, taken}
 use Rattle.machine.specs.Changes.{minus_unless, into, past}
 use Rattle.machine.specs.Effects.{Row}
 use Rattle.matching.specs.Tests.{Fitting}
 use Rattle.matching.specs.declared.Test.{Test}
-use Rattle.state.specs.Working.{state_at, Stands, nth, writing}
+use Rattle.state.specs.Working.{Stands, nth, writing}
 use Rattle.table.specs.declared.Argument.{Argument}
 use Rattle.instructions.specs.Does.{Does}
 use Rattle.tests.specs.Prepares.{TestReadable}
+use Rattle.tests.specs.declared.Prepared.{Prepared}
+use Rattle.moves.specs.Moves.{TestBeside}
 use Rattle.joining.specs.Joining.{word_if}
 
 -- how far input i is read, and input i of the two that are lent
@@ -33,46 +35,47 @@ unfoldable pub passed : Until ℕ → List ℕ → ℕ → Store → Store
 passed u input i s = let r = taken u (drop (read_place s i) input) in minus_unless r.1 (past (nth I i) r.0 s)
 
 -- for every program, and with the order turned round or not: a word turned round is itself
-abbrev pub DoesReading : List ℕ → List ℕ → List ℕ → ℕ → List ℕ → List ℕ → List ℕ → (Program → Bool → Row) → Type 0
-DoesReading p e n told p' e' n' r = (g : Program) (reverses : Bool) → Does p e n told p' e' n' (r g reverses)
+abbrev pub DoesReading : State → ℕ → State → (Program → Bool → Row) → Type 0
+DoesReading σ told σ' r = (g : Program) (reverses : Bool) → Does σ told σ' (r g reverses)
 
-abbrev pub DoesPassing : List ℕ → List ℕ → List ℕ → ℕ → List ℕ → List ℕ → List ℕ → (Program → Row) → Type 0
-DoesPassing p e n told p' e' n' r = (g : Program) → Does p e n told p' e' n' (r g)
+abbrev pub DoesPassing : State → ℕ → State → (Program → Row) → Type 0
+DoesPassing σ told σ' r = (g : Program) → Does σ told σ' (r g)
 
 -- ---- what is asked
 
--- the bytes beside a test, and room for their first characters
-pub record CharsTakeable (test : Test) (given : List ℕ) (hold : ℕ) : Type 0 where
+-- the bytes beside a test, of whose first characters a row has room for
+pub record CharsTakeable (test : Test) (given : List ℕ) : Type 0 where
   pub fitting : Fitting test given
-  pub room : length given ≤ hold
+  pub room : length given ≤ 32768
 
 -- input i is read up to a place within it
-pub record Unread (p e n : List ℕ) (input : List ℕ) (i : ℕ) : Type 0 where
-  pub stands : Stands p e n
+pub record Unread (σ : State) (input : List ℕ) (i : ℕ) : Type 0 where
   pub index : i < limit.inputs
   pub short : length input ≤ limit.input
-  pub inside : read_place (state_at p e n).store i ≤ length input
+  pub inside : read_place σ.store i ≤ length input
 
-pub record Passable (p e n : List ℕ) (input : List ℕ) (hold : ℕ) (given : List ℕ) (test : Test) (i : ℕ) : Type 0 where
-  pub unread : Unread p e n input i
-  pub beside : CharsTakeable test given hold
+pub record Passable (σ : State) (input g : List ℕ) (test : Prepared) (i : ℕ) : Type 0 where
+  pub unread : Unread σ input i
+  pub beside : TestBeside g test
 
-pub record WordReadable (p e n : List ℕ) (input : List ℕ) (scratch hold : ℕ) (given : List ℕ) (test : Test) (i j : ℕ) : Type 0 where
-  pub unread : Unread p e n input i
-  pub beside : CharsTakeable test given hold
-  pub spare : 65536 ≤ scratch
-  pub room : 256 ≤ hold
+pub record WordReadable (σ : State) (input g : List ℕ) (test : Prepared) (i j : ℕ) : Type 0 where
+  pub unread : Unread σ input i
+  pub beside : TestBeside g test
   pub target : j < limit.expressions
 
 -- USUN of input i of a and b with the test of an argument; CZYTAJ of it into expression j
-pub record InputPassable (c p e n a b : List ℕ) (hold given i : ℕ) (arg : Argument) : Type 0 where
-  pub unread : Unread p e n (input_of a b i) i
-  pub room : 32768 ≤ hold
-  pub test : TestReadable c p e n given arg
+pub record InputPassable (c : List ℕ) (σ : State) (a b : List ℕ) (i : ℕ) (arg : Argument) : Type 0 where
+  pub unread : Unread σ (input_of a b i) i
+  pub test : TestReadable c arg
 
-pub record InputReadable (c p e n a b : List ℕ) (scratch hold given i j : ℕ) (arg : Argument) : Type 0 where
-  pub unread : Unread p e n (input_of a b i) i
-  pub spare : 65536 ≤ scratch
-  pub room : 32768 ≤ hold
-  pub test : TestReadable c p e n given arg
+pub record InputReadable (c : List ℕ) (σ : State) (a b : List ℕ) (i j : ℕ) (arg : Argument) : Type 0 where
+  pub unread : Unread σ (input_of a b i) i
+  pub test : TestReadable c arg
   pub target : j < limit.expressions
+
+-- ---- what is told
+
+-- r is what of input i is not yet read
+pub record Left (σ : State) (input : List ℕ) (i : ℕ) (r : List ℕ) : Type 0 where
+  pub stands : Stands σ
+  pub is : r ≡ drop (read_place σ.store i) input

@@ -1,7 +1,7 @@
 // Reading inputs: CZYTAJ, and USUN of an input.
 #![tactic(auto)]
 
-ghost use Rattle.std.specs.Prelude.{true, [], ◌∷◌, length};
+ghost use Rattle.std.specs.Prelude.{true, [], ◌∷◌, take};
 ghost use Rattle.language.specs.Letters.Letter.{I};
 ghost use Rattle.language.specs.Program.Arg.{nothing};
 ghost use Rattle.language.specs.Program.Op.{CZYTAJ, USUN};
@@ -9,185 +9,120 @@ ghost use Rattle.layout.specs.Components.{components_in};
 ghost use Rattle.machine.specs.Effects.{row};
 ghost use Rattle.matching.specs.Tests.{first_chars, until_chars, TookChars};
 ghost use Rattle.packed.specs.Packed.{table_of};
-ghost use Rattle.state.specs.Working.{state_at, HoldsState, on_store, nth};
+ghost use Rattle.state.specs.Working.{HoldsState, on_store, nth};
 ghost use Rattle.table.specs.Denote.{arg_of};
+ghost use Rattle.instructions.specs.Questions.{told_by};
 ghost use Rattle.instructions.specs.Does.{Tried};
-ghost use Rattle.instructions.specs.Operands.{target};
-ghost use Rattle.readings.specs.Readings.{read_up, passed, DoesReading, DoesPassing, CharsTakeable, Passable, WordReadable, InputPassable, InputReadable};
+ghost use Rattle.instructions.specs.Operands.{target as target_letter};
+ghost use Rattle.readings.specs.Readings.{read_up, passed, DoesReading, DoesPassing, CharsTakeable, Unread, Passable, WordReadable, InputPassable, InputReadable, Left};
 
+use instructions::{Bench, Question, Target, Task};
 use joining::from_moves;
+use matching::Test;
+use state::Working;
+use tests::Prepared;
+
+// What of input `i` is not yet read.
+pub fn unread<'a>(state: &Working, i: usize, input: &'a [u8]) -> &'a [u8]
+    requires { Unread state.now input.now i }
+    ensures { Left state.now input.now i result.now }
+{
+    let from = state.place(i);
+    &input[from..]
+}
 
 // How many of the characters of `s` a test takes; what `Among` compares with are the first characters of the words in `given`.
 pub fn take_chars(
+    hold: &mut [u8; 32768],
     s: &[u8],
-    test: matching::Test,
+    test: Test,
     given: &[u8],
-    hold: &mut [u8],
 ) -> matching::CharsTaken
-    requires { CharsTakeable test given.now (length hold.old) }
+    requires { CharsTakeable test given.now }
     ensures { TookChars (until_chars test (first_chars (components_in given.now))) s.now result }
 {
     match test {
-        matching::Test::Among => {
+        Test::Among => {
             let n = matching::first_chars(hold, given);
             matching::count_chars(s, test, &hold[..n])
         }
-        _ => matching::count_chars(s, test, given),
+        Test::All | Test::Count(_) | Test::Class(_) => matching::count_chars(s, test, given),
     }
 }
 
-// Reads what a test takes of input `i` as a word of expression `j`: 0, or the question answered no.
+// Reads what a test takes of input `i` as a word of an expression.
 fn read_word(
+    bench: &mut Bench,
+    test: Prepared,
     input: &[u8],
-    pool: &mut [u8],
-    ends: &mut [u32],
-    nums: &mut [u32],
-    scratch: &mut [u8],
-    hold: &mut [u8],
-    given: &[u8],
-    test: matching::Test,
     i: usize,
-    at_end: bool,
-    j: usize,
-) -> u8
-    requires { WordReadable pool.old ends.old nums.old input.now (length scratch.old) (length hold.old) given.now test i j }
-    ensures { Tried pool.old ends.old nums.old result pool.new ends.new nums.new true (read_up (until_chars test (first_chars (components_in given.now))) input.now i at_end j (state_at pool.old ends.old nums.old).store) }
+    target: Target,
+) -> Result<(), Question>
+    requires { WordReadable bench.old.state input.now bench.old.given test i target.j }
+    ensures { Tried bench.old.state (told_by result) bench.new.state true (read_up (until_chars test.test (first_chars (components_in (take test.len bench.old.given)))) input.now i target.at_end target.j bench.old.state.store) }
 {
-    let from = state::place(pool, ends, nums, i);
-    let rest = &input[from..];
-    let t = take_chars(rest, test, given, hold);
+    let rest = unread(&bench.state, i, input);
+    let t = take_chars(&mut bench.hold, rest, test.test, &bench.given[..test.len]);
     let k = t.taken;
-    if !joining::has_word_room(pool, ends, nums, false, k) {
-        return 59;
+    if !joining::has_word_room(&bench.state, false, k) {
+        return Err(Question::Room);
     }
-    let n = joining::make_word(hold, &rest[..k]);
-    let parts = joining::some(k);
-    state::read_past(pool, ends, nums, i, k);
-    from_moves::deliver(
-        pool,
-        ends,
-        nums,
-        scratch,
-        j,
-        at_end,
-        &hold[..n],
-        parts,
-        k,
-        t.reached,
-    );
-    0
+    let n = joining::make_word(&mut bench.hold, &rest[..k]);
+    bench.state.read_past(i, k);
+    let new = from_moves::New {
+        bytes: &bench.hold[..n],
+        parts: joining::some(k),
+        chars: k,
+    };
+    from_moves::deliver(&mut bench.state, target.j, target.at_end, new, t.reached);
+    Ok(())
 }
 
-// CZYTAJ of input `i` into expression `j`: 0, or the question answered no.
+// CZYTAJ of input `i`.
 pub fn czytaj(
-    table: &[u32],
-    i1: &[u8],
-    i2: &[u8],
-    pool: &mut [u8],
-    ends: &mut [u32],
-    nums: &mut [u32],
-    scratch: &mut [u8],
-    hold: &mut [u8],
-    given: &mut [u8],
+    task: Task,
+    bench: &mut Bench,
     i: usize,
-    at_end: bool,
-    j: usize,
+    target: Target,
     arg: table::Argument,
-) -> u8
-    requires { InputReadable table.now pool.old ends.old nums.old i1.now i2.now (length scratch.old) (length hold.old) (length given.old) i j arg }
-    ensures { DoesReading pool.old ends.old nums.old result pool.new ends.new nums.new (λ g reverses. row g (i1.now ∷ i2.now ∷ []) (state_at pool.old ends.old nums.old).store (nth I i) (nth (target reverses at_end) j) (arg_of (table_of table.now) arg) CZYTAJ) }
+) -> Result<(), Question>
+    requires { InputReadable task.table.now bench.old.state task.first.now task.second.now i target.j arg }
+    ensures { DoesReading bench.old.state (told_by result) bench.new.state (λ g reverses. row g (task.entry.first.now ∷ task.entry.second.now ∷ []) bench.old.state.store (nth I i) (nth (target_letter reverses target.at_end) target.j) (arg_of (table_of task.entry.table.now) arg) CZYTAJ) }
 {
-    let q = tests::prepare(table, pool, ends, nums, given, arg);
-    let stop = q.stop;
-    let test = q.test;
-    let len = q.len;
-    if stop != 0 {
-        return stop;
-    }
-    if i == 0 {
-        return read_word(
-            i1,
-            pool,
-            ends,
-            nums,
-            scratch,
-            hold,
-            &given[..len],
-            test,
-            i,
-            at_end,
-            j,
-        );
-    }
-    read_word(
-        i2,
-        pool,
-        ends,
-        nums,
-        scratch,
-        hold,
-        &given[..len],
-        test,
-        i,
-        at_end,
-        j,
-    )
+    bench.state.stands();
+    let test = tests::prepare(task.table, &bench.state, &mut bench.given, arg)?;
+    read_word(bench, test, task.input(i), i, target)
 }
 
 // Reads past what a test takes of input `i`.
 // Not one with `moves::cut_off`, for USUN of an expression: that removes components, this moves the place in an input past characters.
-fn pass(
-    input: &[u8],
-    pool: &[u8],
-    ends: &[u32],
-    nums: &mut [u32],
-    hold: &mut [u8],
-    given: &[u8],
-    test: matching::Test,
-    i: usize,
-)
-    requires { Passable pool.now ends.now nums.old input.now (length hold.old) given.now test i }
-    ensures { HoldsState pool.now ends.now nums.new (on_store (passed (until_chars test (first_chars (components_in given.now))) input.now i) (state_at pool.now ends.now nums.old)) }
+fn pass(bench: &mut Bench, test: Prepared, input: &[u8], i: usize)
+    requires { Passable bench.old.state input.now bench.old.given test i }
+    ensures { HoldsState bench.new.state (on_store (passed (until_chars test.test (first_chars (components_in (take test.len bench.old.given)))) input.now i) bench.old.state) }
 {
-    let from = state::place(pool, ends, nums, i);
-    let rest = &input[from..];
-    let t = take_chars(rest, test, given, hold);
-    state::read_past(pool, ends, nums, i, t.taken);
-    state::minus_unless(pool, ends, nums, t.reached);
+    let rest = unread(&bench.state, i, input);
+    let t = take_chars(&mut bench.hold, rest, test.test, &bench.given[..test.len]);
+    bench.state.read_past(i, t.taken);
+    bench.state.minus_unless(t.reached);
 }
 
-// USUN of input `i`: 0, or the question answered no.
+// USUN of input `i`.
 pub fn usun_input(
-    table: &[u32],
-    i1: &[u8],
-    i2: &[u8],
-    pool: &[u8],
-    ends: &[u32],
-    nums: &mut [u32],
-    hold: &mut [u8],
-    given: &mut [u8],
+    task: Task,
+    bench: &mut Bench,
     i: usize,
     arg: table::Argument,
-) -> u8
-    requires { InputPassable table.now pool.now ends.now nums.old i1.now i2.now (length hold.old) (length given.old) i arg }
-    ensures { DoesPassing pool.now ends.now nums.old result pool.now ends.now nums.new (λ g. row g (i1.now ∷ i2.now ∷ []) (state_at pool.now ends.now nums.old).store (nth I i) (arg_of (table_of table.now) arg) nothing USUN) }
+) -> Result<(), Question>
+    requires { InputPassable task.table.now bench.old.state task.first.now task.second.now i arg }
+    ensures { DoesPassing bench.old.state (told_by result) bench.new.state (λ g. row g (task.entry.first.now ∷ task.entry.second.now ∷ []) bench.old.state.store (nth I i) (arg_of (table_of task.entry.table.now) arg) nothing USUN) }
 {
-    let q = tests::prepare(table, pool, ends, nums, given, arg);
-    let stop = q.stop;
-    let test = q.test;
-    let len = q.len;
-    if stop != 0 {
-        return stop;
-    }
-    if i == 0 {
-        pass(i1, pool, ends, nums, hold, &given[..len], test, i);
-        return 0;
-    }
-    pass(i2, pool, ends, nums, hold, &given[..len], test, i);
-    0
+    bench.state.stands();
+    let test = tests::prepare(task.table, &bench.state, &mut bench.given, arg)?;
+    pass(bench, test, task.input(i), i);
+    Ok(())
 }
 
 // Of `joining`, passed on to the crates above.
 pub mod from_joining {
-    pub use joining::{some, zbij};
+    pub use joining::zbij;
 }

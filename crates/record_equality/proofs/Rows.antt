@@ -5,15 +5,17 @@ use mathlib.Core.List.{List}
 use Prim.Native.Nat.{ℕ}
 use lib.ListN.{length, take}
 use Rattle.lists.specs.Lists.{any, filled, same_list}
+use Rattle.std.specs.Prelude.{Result, Ok, Err}
 use Rattle.language.specs.Letters.Letter.{P}
 use Rattle.language.specs.Program.{Arg, Program}
 use Rattle.language.specs.Program.Arg.{nothing}
 use Rattle.language.specs.Program.Op.{RZ}
-use Rattle.language.specs.Values.{Component, Record, Store, Inputs, same}
+use Rattle.language.specs.Values.{Component, Record, Store, State, Inputs, same}
 use Rattle.machine.specs.Arguments.{use_by, expr, file_of, next_parts, side, is_count, is_whole, single, matches, taken}
 use Rattle.machine.specs.Changes.{minus_unless, used_by, used}
 use Rattle.machine.specs.Effects.{relation, equality, row}
 use Rattle.machine.specs.Effects.Go.{on}
+use Rattle.layout.specs.Bounds.{Encoded}
 use Rattle.layout.proofs.ComponentLaws.{components-of, whole-components}
 use Rattle.layout.specs.Components.{components_in, records_in}
 use Rattle.filing.specs.Files.{RecordsLent}
@@ -22,15 +24,16 @@ use Rattle.matching.specs.declared.Taken.{Taken}
 use Rattle.matching.specs.declared.Test.{Test}
 use Rattle.packed.specs.Packed.{table_of}
 use Rattle.records.specs.Places.{Part, next_contents}
-use Rattle.state.specs.Working.{state_at, HoldsState, Stands, on_store, nth}
+use Rattle.state.specs.Working.{HoldsState, Stands, on_store, nth}
 use Rattle.table.specs.Denote.{arg_of}
 use Rattle.table.specs.declared.Argument.{Argument}
+use Rattle.instructions.specs.Questions.{question_number}
+use Rattle.instructions.specs.declared.Question.{Question}
 use Rattle.instructions.specs.Does.{DoesFor}
 use Rattle.comparands.specs.Offers.{ArgumentOffers}
-use Rattle.comparands.specs.declared.Held.{Held}
 use Rattle.equality.specs.Equality.{test_of, OtherArgument, Unlike}
 use Rattle.equality.proofs.Meeting.{met}
-use Rattle.equality.proofs.Questions.{equal_by, kinds_alike, numeric, related-none, related-stop, related-unlike, related-done}
+use Rattle.equality.proofs.Questions.{equal_by, kinds_alike, numeric, beside, related-none, related-stop, related-unlike, related-done}
 use Rattle.comparands.proofs.Below.Signs.{kept-or-minus}
 use Rattle.record_equality.specs.RecordEquality.{NextLent, Meets}
 use Rattle.record_equality.proofs.Wholes.{all-offered}
@@ -41,11 +44,7 @@ pub next-lent : (s : Store) (i : ℕ) {f x : List ℕ} → RecordsLent (file_of 
 next-lent s i l k =
     record { whole = whole-components k.cells; is = components-of k.cells ∙ ap (λ (rs : List Record). next_contents rs) l.is }
 
--- by the record, and by its first component
-pub meets-whole : (a : Argument) (x g : List ℕ) {w r : Bool} → ((c : List ℕ) → w ≡ is_whole (use_by (arg_of c a)).reading) → w ≡ true
-    → r ≡ same_list same (components_in x) (components_in g) → Meets x g a r
-meets-whole a x g h t e c = rw (sym (h c) ∙ t) e
-
+-- by the first component of the record
 pub meets-first : (a : Argument) (x g : List ℕ) {y : List ℕ} {w : Bool} {v : Test} {t : Taken} → ((c : List ℕ) → w ≡ is_whole (use_by (arg_of c a)).reading) → w ≡ false
     → Part x (take 1 (components_in x)) y → v ≡ test_of a → Took (until v g) (components_in y) t → Meets x g a t.reached
 meets-first a x g {y} {t = t} h f k e m c =
@@ -77,16 +76,16 @@ module _ (g : Program) (ins : Inputs) (s : Store) (i : ℕ) (b : Arg) where
 
 -- ---- RZ
 
-module _ {p e n : List ℕ} (h : Stands p e n) (i : ℕ) (c : List ℕ) (a : Argument) {g : List ℕ} {r : Held}
-    (o : ArgumentOffers c (state_at p e n).store a g r) {x : List ℕ} (l : NextLent (state_at p e n).store i x) where
+module _ {σ : State} (h : Stands σ) (i : ℕ) (c : List ℕ) (a : Argument) {g : List ℕ} {r : Result ℕ Question}
+    (o : ArgumentOffers c σ.store a g r) {x : List ℕ} (l : NextLent σ.store i x) where
   abbrev s : Store
-  s = (state_at p e n).store
+  s = σ.store
 
   abbrev b : Arg
   b = arg_of (table_of c) a
 
-  abbrev does : ℕ → List ℕ → Type 0
-  does k n' = DoesFor p e n k p e n' (λ f ins. row f ins s (nth P i) b nothing RZ)
+  abbrev does : ℕ → State → Type 0
+  does k σ' = DoesFor σ k σ' (λ f ins. row f ins s (nth P i) b nothing RZ)
 
   abbrev t : Program → Inputs → Store
   t f ins = minus_unless (holds f ins s i b) s
@@ -94,30 +93,31 @@ module _ {p e n : List ℕ} (h : Stands p e n) (i : ℕ) (c : List ℕ) (a : Arg
   front : take 1 (next_parts (file_of s (nth P i))) ≡ take 1 (components_in x)
   front = ap (take 1) (sym l.is)
 
-  pub rz-none : length x ≡ 0 → does 52 n
+  pub rz-none : length x ≡ 0 → does 52 σ
   rz-none z f ins = rw (row-rz f ins s i b) (related-none h c a o l.whole front ins (t f ins) z)
 
   module _ (z : length x ≡ 0 → ⊥) where
-    pub rz-stop : (r.stop ≡ 0 → ⊥) → does r.stop n
+    pub rz-stop : {k : Question} → r ≡ Err k → does (question_number k) σ
     rz-stop y f ins = rw (row-rz f ins s i b) (related-stop h c a o l.whole front ins (t f ins) z y)
 
-    module _ (y : r.stop ≡ 0) {u : Bool} (w : Unlike x (take r.len g) a u) where
-      pub rz-unlike : u ≡ true → does 53 n
+    module _ {n : ℕ} (y : r ≡ Ok n) {u : Bool} (w : Unlike x (take n g) a u) where
+      pub rz-unlike : u ≡ true → does 53 σ
       rz-unlike v f ins = rw (row-rz f ins s i b) (related-unlike h c a o l.whole front ins (t f ins) z y w v)
 
       -- what is told of the bytes is what the row asks
-      holds-is : OtherArgument a → (f : Program) (ins : Inputs) {m : Bool} → Meets x (take r.len g) a m → m ≡ holds f ins s i b
+      holds-is : OtherArgument a → (f : Program) (ins : Inputs) {m : Bool} → Meets x (take n g) a m → m ≡ holds f ins s i b
       holds-is k f ins d = d (table_of c) ∙ go (is_whole (use_by b).reading) refl
         where
-          go : (v : Bool) → is_whole (use_by b).reading ≡ v
-              → cond (is_whole (use_by b).reading) (same_list same (components_in x) (components_in (take r.len g))) (taken (until (test_of a) (take r.len g)) (take 1 (components_in x))).1
-              ≡ holds f ins s i b
-          go true v = rw (v, l.is, components-of ((o ins).encoded y), all-offered (table_of c) a ins s k v) refl
-          go false v =
-              rw (v, ← front)
-              (met (table_of c) a ins s (take r.len g) (take 1 (next_parts (file_of s (nth P i)))) (components-of ((o ins).encoded y)))
+          e : Encoded (take n g) (side ins s b)
+          e = (beside (o ins) y).encoded
 
-      pub rz-done : u ≡ false → OtherArgument a → {m : Bool} → Meets x (take r.len g) a m → {n' : List ℕ} → HoldsState p e n' (on_store (minus_unless m) (state_at p e n)) → does 0 n'
+          go : (v : Bool) → is_whole (use_by b).reading ≡ v
+              → cond (is_whole (use_by b).reading) (same_list same (components_in x) (components_in (take n g))) (taken (until (test_of a) (take n g)) (take 1 (components_in x))).1
+              ≡ holds f ins s i b
+          go true v = rw (v, l.is, components-of e, all-offered (table_of c) a ins s k v) refl
+          go false v = rw (v, ← front) (met (table_of c) a ins s (take n g) (take 1 (next_parts (file_of s (nth P i)))) (components-of e))
+
+      pub rz-done : u ≡ false → OtherArgument a → {m : Bool} → Meets x (take n g) a m → {σ' : State} → HoldsState σ' (on_store (minus_unless m) σ) → does 0 σ'
       unfolding on_store
       rz-done v k q d f ins =
           rw (row-rz f ins s i b) (related-done h c a o l.whole front ins (t f ins) z y w v (rw (holds-is k f ins q) at d))

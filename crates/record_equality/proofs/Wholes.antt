@@ -1,9 +1,8 @@
 -- Arguments that mean a whole record.
 use mathlib.Core.Path.{◌≡◌, refl}
-use mathlib.Core.Bool.{true, false}
-use mathlib.Core.List.{List, [], ◌∷◌}
+use mathlib.Core.Bool.{true}
+use mathlib.Core.List.{List}
 use Prim.Native.Nat.{ℕ}
-use types.Run.{OneOf, miss}
 use Rattle.language.specs.Letters.{use_of}
 use Rattle.language.specs.Program.Arg.{letter}
 use Rattle.language.specs.Values.{Store, Inputs}
@@ -12,37 +11,11 @@ use Rattle.table.specs.Denote.{letter_of, arg_of}
 use Rattle.table.specs.declared.Letter.{Letter}
 use Rattle.lists.specs.Quoted.{bytes}
 use Rattle.table.specs.LetterLaws.{listed-letter}
-use Rattle.table.proofs.Letters.{tag as letter-tag}
 use Rattle.table.specs.declared.Argument.{Argument}
 use Rattle.table.specs.declared.Argument.TheVariants as argument
 use Rattle.tests.specs.Prepares.{OtherLetter}
 use Rattle.equality.specs.Equality.{OtherArgument}
 use Rattle.equality.proofs.Meeting.{false-true}
-
--- the letters left by E
-abbrev letters : List ℕ
-letters = 0 ∷ 1 ∷ 2 ∷ 3 ∷ 5 ∷ 6 ∷ 7 ∷ 8 ∷ 9 ∷ 10 ∷ 11 ∷ []
-
-pub letter-left : (l : Letter) → OtherLetter l → OneOf letters (letter-tag l) → false ≡ is_whole (use_of (letter_of l)).reading
-letter-left =
-    listed-letter (λ l. OneOf letters (letter-tag l) → false ≡ is_whole (use_of (letter_of l)).reading) (bytes "BENT")
-    (λ k. refl) (λ k. absurd (miss letters 4 tt k)) (λ k. refl) (λ k. refl)
-
--- the arguments left by those with a letter
-abbrev others : List ℕ
-others = 0 ∷ 2 ∷ 3 ∷ 4 ∷ 5 ∷ 6 ∷ []
-
-abbrev tag : Argument → ℕ
-tag a = denote.Enum.Declared.tag_of (denote.Enum.Declared.declared Rattle.table.specs.contracts.Argument.enum) a
-
-pub argument-left : (a : Argument) → OneOf others (tag a) → (c : List ℕ) → false ≡ is_whole (use_by (arg_of c a)).reading
-argument-left argument.Nothing k c = refl
-argument-left (argument.Indexed l n) k c = absurd (miss others 1 tt k)
-argument-left (argument.Label v) k c = refl
-argument-left (argument.Switch v) k c = refl
-argument-left (argument.Class m) k c = refl
-argument-left (argument.Text v) k c = refl
-argument-left (argument.Number v) k c = refl
 
 -- what it offers then is all of the expression
 letter-all : (l : Letter) (n : ℕ) (ins : Inputs) (s : Store) → OtherLetter l → is_whole (use_of (letter_of l)).reading ≡ true

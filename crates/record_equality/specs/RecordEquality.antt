@@ -36,6 +36,6 @@ Meets x g a r =
     → r
     ≡ cond (is_whole (use_by (arg_of c a)).reading) (same_list same (components_in x) (components_in g)) (taken (until (test_of a) g) (take 1 (components_in x))).1
 
-pub record RecordRelatable (c p e n : List ℕ) (given i : ℕ) (a : Argument) : Type 0 where
-  pub other : Holdable c p e n given a
+pub record RecordRelatable (c : List ℕ) (i : ℕ) (a : Argument) : Type 0 where
+  pub other : Holdable c a
   pub source : i < limit.files

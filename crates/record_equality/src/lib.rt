@@ -1,38 +1,39 @@
 // RZ: the record after a file's pointer, compared with a component or, by E, with a whole expression.
 #![tactic(auto)]
 
-ghost use Rattle.std.specs.Prelude.{◌≡◌, length};
+ghost use Rattle.std.specs.Prelude.{◌≡◌, ◌<◌};
 ghost use Rattle.language.specs.Letters as letters;
 ghost use Rattle.language.specs.Letters.{use_of};
+ghost use Rattle.language.specs.Limits as limit;
 ghost use Rattle.language.specs.Program.Arg.{nothing};
 ghost use Rattle.language.specs.Program.Op.{RZ};
 ghost use Rattle.machine.specs.Arguments.{is_whole};
 ghost use Rattle.machine.specs.Effects.{row};
 ghost use Rattle.packed.specs.Packed.{table_of};
-ghost use Rattle.state.specs.Working.{state_at, nth};
+ghost use Rattle.state.specs.Working.{nth};
 ghost use Rattle.table.specs.Denote.{letter_of, arg_of};
-ghost use Rattle.filing.specs.Files.{FileNamed};
+ghost use Rattle.instructions.specs.Questions.{told_by};
 ghost use Rattle.instructions.specs.Does.{DoesFor};
 ghost use Rattle.tests.specs.Prepares.{OtherLetter};
 ghost use Rattle.equality.specs.Equality.{OtherArgument};
 ghost use Rattle.record_equality.specs.RecordEquality.{NextLent, Wholes, Meetable, Meets, RecordRelatable};
 
+use instructions::{Bench, Question};
+use state::Working;
+
 // The components of the record after the pointer of file `i`, none at the file's end.
-fn next_record<'a>(pool: &'a [u8], ends: &[u32], nums: &[u32], i: usize) -> &'a [u8]
-    requires { FileNamed pool.now ends.now nums.now i }
-    ensures { NextLent (state_at pool.now ends.now nums.now).store i result.now }
+fn next_record(state: &Working, i: usize) -> &[u8]
+    requires { i < limit.files }
+    ensures { NextLent state.now.store i result.now }
 {
-    records::next_contents(filing::after_bytes(pool, ends, nums, i))
+    records::next_contents(filing::after_bytes(state, i))
 }
 
 fn letter_is_whole(l: table::Letter) -> bool
     requires { OtherLetter l }
     ensures { result ≡ is_whole (use_of (letter_of l)).reading }
 {
-    match l {
-        table::Letter::E => true,
-        _ => false,
-    }
+    matches!(l, table::Letter::E)
 }
 
 // Whether an argument means a whole record.
@@ -58,38 +59,22 @@ fn meets(x: &[u8], given: &[u8], arg: table::Argument) -> bool
     t.reached
 }
 
-// RZ of file `i`: 0, or the question answered no.
-pub fn rz(
-    table: &[u32],
-    pool: &[u8],
-    ends: &[u32],
-    nums: &mut [u32],
-    given: &mut [u8],
-    i: usize,
-    arg: table::Argument,
-) -> u8
-    requires { RecordRelatable table.now pool.now ends.now nums.old (length given.old) i arg }
-    ensures { DoesFor pool.now ends.now nums.old result pool.now ends.now nums.new (λ g ins. row g ins (state_at pool.now ends.now nums.old).store (nth letters.Letter.P i) (arg_of (table_of table.now) arg) nothing RZ) }
+// RZ of file `i`: whether a component is missing at the file's end is asked before the questions of the argument.
+pub fn rz(table: &[u32], bench: &mut Bench, i: usize, arg: table::Argument) -> Result<(), Question>
+    requires { RecordRelatable table.now i arg }
+    ensures { DoesFor bench.old.state (told_by result) bench.new.state (λ g ins. row g ins bench.old.state.store (nth letters.Letter.P i) (arg_of (table_of table.now) arg) nothing RZ) }
 {
-    let q = comparands::put_comparand(table, pool, ends, nums, given, arg);
-    let stop = q.stop;
-    let len = q.len;
-    let x = next_record(pool, ends, nums, i);
+    bench.state.stands();
+    let held = comparands::put_comparand(table, &bench.state, &mut bench.given, arg);
+    let x = next_record(&bench.state, i);
     if x.len() == 0 {
-        return 52;
+        return Err(Question::Missing);
     }
-    if stop != 0 {
-        return stop;
+    let len = held?;
+    if equality::unlike(x, &bench.given[..len], arg) {
+        return Err(Question::Kind);
     }
-    if equality::unlike(x, &given[..len], arg) {
-        return 53;
-    }
-    let holds = meets(x, &given[..len], arg);
-    state::minus_unless(pool, ends, nums, holds);
-    0
-}
-
-// Of `equality`, passed on to the crates above.
-pub mod from_equality {
-    pub use equality::{rw_any, rw_one};
+    let holds = meets(x, &bench.given[..len], arg);
+    bench.state.minus_unless(holds);
+    Ok(())
 }

@@ -1,5 +1,5 @@
 -- What reading the values of a test of records asks and tells: as on components, and E, which compares a whole record.
-use Rattle.std.specs.Prelude.{◌≡◌, List, ℕ, ◌≤◌, length, take}
+use Rattle.std.specs.Prelude.{◌≡◌, List, ℕ, ◌≤◌, length, take, Option, Result, IfOk, MatchOption}
 use Rattle.language.specs.Program.{Arg}
 use Rattle.language.specs.Values.{Store, Inputs}
 use Rattle.machine.specs.Arguments.{test_asks, on_records}
@@ -8,6 +8,8 @@ use Rattle.table.specs.declared.Letter.{Letter}
 use Rattle.table.specs.declared.Letter.TheVariants.{A, B, C, D, E, I, N, P, Q, T, Y, Z}
 use Rattle.table.specs.declared.Argument.{Argument}
 use Rattle.table.specs.declared.Argument.TheVariants.{Nothing, Indexed, Label, Switch, Class, Text, Number}
+use Rattle.instructions.specs.Questions.{told_by}
+use Rattle.instructions.specs.declared.Question.{Question}
 use Rattle.instructions.specs.Does.{stop_of}
 use Rattle.tests.specs.Prepares.{OtherLetter, ArgumentGiven}
 use Rattle.record_tests.specs.declared.RecordsPrepared.{RecordsPrepared}
@@ -36,13 +38,21 @@ whole_index (Class m) = 0
 whole_index (Text v) = 0
 whole_index (Number v) = 0
 
-abbrev pub RecordTestReadable : List ℕ → List ℕ → List ℕ → List ℕ → ℕ → Argument → Type 0
+-- r is the index of E, if the argument is that
+abbrev pub WholeOf : Argument → Option ℕ → Type 0
+WholeOf a r = MatchOption r (whole_index a ≡ 0) (λ n. a ≡ Indexed E n)
+
+abbrev pub RecordTestReadable : List ℕ → Argument → Type 0
 RecordTestReadable = ArgumentGiven OtherLetter
 
--- r is what the argument c of a test asks and means on records, with the bytes in front of g beside it
-pub record PreparesRecords (s : Store) (c : Arg) (g : List ℕ) (r : RecordsPrepared) : Type 0 where
-  pub stop_is : (ins : Inputs) → r.stop ≡ stop_of (test_asks ins s c)
-  pub fitting : r.stop ≡ 0 → FittingRecords r.test (take r.len g)
-  pub is : r.stop ≡ 0 → (ins : Inputs) → on_records ins s c ≡ until_records r.test (take r.len g)
-  pub most : r.len ≤ 32768
-  pub inside : r.len ≤ length g
+-- p is what the argument c of a test means on records, with the bytes in front of g beside it
+pub record ReadRecordTest (s : Store) (c : Arg) (g : List ℕ) (p : RecordsPrepared) : Type 0 where
+  pub fitting : FittingRecords p.test (take p.len g)
+  pub records : (ins : Inputs) → on_records ins s c ≡ until_records p.test (take p.len g)
+  pub most : p.len ≤ 32768
+  pub inside : p.len ≤ length g
+
+-- r is what the argument c asks and means so
+pub record PreparesRecords (s : Store) (c : Arg) (g : List ℕ) (r : Result RecordsPrepared Question) : Type 0 where
+  pub stop_is : (ins : Inputs) → told_by r ≡ stop_of (test_asks ins s c)
+  pub is : IfOk r (λ p. ReadRecordTest s c g p)

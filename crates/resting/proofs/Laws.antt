@@ -19,11 +19,10 @@ use Rattle.layout.specs.Strings.{string_cells, strings_in}
 use Rattle.layout.proofs.StringLaws.{length-string_cells, strings-back}
 use Rattle.layout.specs.Places as layout
 use Rattle.cells.specs.Cells.{pasted}
-use Rattle.gaps.specs.Pool.{abs, Holds}
-use Rattle.packing.specs.Packing.{Unpackable}
+use Rattle.packing.specs.Packing.{Packed}
 use Rattle.state.proofs.Standing.{numbers-long, number_most}
-use Rattle.state.specs.Working.{state_at, HoldsState}
-use Rattle.resting.specs.Resting.{Openable, Closable, Numbers}
+use Rattle.state.specs.Working.{Lies}
+use Rattle.resting.specs.Resting.{Openable, Numbers}
 
 three-later : (j : ℕ) (m : List ℕ) → three_at j (drop 3 m) ≡ three_at (3 + j) m
 three-later j m =
@@ -105,7 +104,7 @@ state-parts : (s : State) (r : List ℕ) → state_cells s ++ r ≡ each three (
 unfolding state_cells
 state-parts s r = append_assoc (each three (scalars s)) (string_cells (strings s)) r
 
-module _ {m : List ℕ} {pool ends numbers : ℕ} (pre : Openable m pool ends numbers) where
+module _ {m : List ℕ} (pre : Openable m) where
   abbrev s : State
   s = state_of m
 
@@ -131,40 +130,29 @@ module _ {m : List ℕ} {pool ends numbers : ℕ} (pre : Openable m pool ends nu
   strings-are : {l : List ℕ} → l ≡ take layout.strings_bytes (drop layout.first_length m) → strings_in l ≡ strings s
   strings-are q = rw (q, behind) (strings-back (strings s) (length-strings s pre.fine))
 
-  pub unpackable : {l : List ℕ} → l ≡ take layout.strings_bytes (drop layout.first_length m) → Unpackable l pool ends
-  unpackable {l} q =
-      record {
-        packed = record {
-          is = q ∙ behind ∙ ap string_cells (sym (strings-are q));
-          fits = rw (strings-are q) (omega (arith, fine-room s pre.fine));
-        };
-        size = pre.size;
-        cells = pre.bounds;
-      }
+  pub unpackable : {l : List ℕ} → l ≡ take layout.strings_bytes (drop layout.first_length m) → Packed l
+  unpackable {l} q = record { is = q ∙ behind ∙ ap string_cells (sym (strings-are q)); fits = rw (strings-are q) (omega (arith, fine-room s pre.fine)) }
 
-  pub opened : {l p e n : List ℕ} → l ≡ take layout.strings_bytes (drop layout.first_length m) → n ≡ threes_in layout.scalars_count m → Holds p e (strings_in l) → HoldsState p e n s
-  opened q r h = record { holds = rw (strings-are q) at h; numbers = r ∙ scalars-are; fine = pre.fine }
+  pub opened : {l : List ℕ} {vs : List (List ℕ)} {n : List ℕ} → l ≡ take layout.strings_bytes (drop layout.first_length m) → n ≡ threes_in layout.scalars_count m → vs ≡ strings_in l → Lies vs n s
+  opened q r h = record { strings_is = h ∙ strings-are q; numbers = r ∙ scalars-are; fine = pre.fine }
 
 -- the strings in their place behind the scalars
 pub strung : (m : List ℕ) {l x : List ℕ} → l ≡ x → take layout.first_length m ++ (l ++ drop layout.strings_bytes (drop layout.first_length m)) ≡ take layout.first_length m ++ (x ++ drop limit.state m)
 strung m q = rw (q, drop-drop layout.strings_bytes layout.first_length m) refl
 
 -- and closed again
-module _ {p e n : List ℕ} {cells : ℕ} (pre : Closable p e n cells) where
-  abbrev held : State
-  held = state_at p e n
+module _ {vs : List (List ℕ)} {n : List ℕ} {s : State} (h : Lies vs n s) where
+  pub numbers_fit : {cells : ℕ} → limit.state ≤ cells → Numbers n cells
+  numbers_fit l = record { count = numbers-long h; small = λ k. omega (arith, number_most h k); long = omega (arith, l) }
 
-  pub numbers_fit : Numbers n cells
-  numbers_fit = record { count = numbers-long pre.stands; small = λ k. omega (arith, number_most pre.stands k); long = omega (arith, pre.long) }
-
-  pub closed : (m : List ℕ) {m₁ m₂ : List ℕ} → m₁ ≡ each three n ++ drop layout.first_length m → m₂ ≡ take layout.first_length m₁ ++ (string_cells (abs p e) ++ drop limit.state m₁) → m₂ ≡ written held m
+  pub closed : (m : List ℕ) {m₁ m₂ : List ℕ} → m₁ ≡ each three n ++ drop layout.first_length m → m₂ ≡ take layout.first_length m₁ ++ (string_cells vs ++ drop limit.state m₁) → m₂ ≡ written s m
   unfolding written
   closed m {m₁} q r =
       let N : List ℕ = each three n in
-      let l : length N ≡ layout.first_length = length-each 3 three (λ x. refl) n ∙ ap (λ (x : ℕ). 3 * x) (numbers-long pre.stands) in
+      let l : length N ≡ layout.first_length = length-each 3 three (λ x. refl) n ∙ ap (λ (x : ℕ). 3 * x) (numbers-long h) in
       let a : take layout.first_length m₁ ≡ N = rw q (take_at N (drop layout.first_length m) layout.first_length l) in
       let b : drop limit.state m₁ ≡ drop limit.state m =
       sym (drop-drop layout.strings_bytes layout.first_length m₁) ∙ ap (drop layout.strings_bytes) (ap (drop layout.first_length) q ∙ drop_at N (drop layout.first_length m) layout.first_length l) ∙ drop-drop layout.strings_bytes layout.first_length m in
       let D : List ℕ = drop limit.state m in
-      r ∙ rw (a, b) (ap (λ (l : List ℕ). l ++ (string_cells (abs p e) ++ D)) (ap (each three) pre.stands.numbers))
-      ∙ ap (λ (v : List (List ℕ)). each three (scalars held) ++ (string_cells v ++ D)) pre.stands.holds.is ∙ sym (state-parts held D)
+      r ∙ rw (a, b) (ap (λ (l : List ℕ). l ++ (string_cells vs ++ D)) (ap (each three) h.numbers))
+      ∙ ap (λ (v : List (List ℕ)). each three (scalars s) ++ (string_cells v ++ D)) h.strings_is ∙ sym (state-parts s D)

@@ -4,8 +4,6 @@ use Rattle.language.specs.Limits as limit
 use Rattle.layout.specs.Bounds.{Fine as FineState}
 use Rattle.layout.specs.Memory.{state_cells, state_of}
 use Rattle.layout.specs.Places as layout
-use Rattle.gaps.specs.Pool.{Fine}
-use Rattle.state.specs.Working.{Stands}
 
 -- so many cells and scalars
 pub record Scalars (cells numbers : ℕ) : Type 0 where
@@ -19,18 +17,7 @@ pub record Numbers (n : List ℕ) (cells : ℕ) : Type 0 where
   pub long : layout.first_length ≤ cells
 
 -- the lent memory m is that of a state
-pub record Openable (m : List ℕ) (pool ends numbers : ℕ) : Type 0 where
+pub record Openable (m : List ℕ) : Type 0 where
   pub long : limit.state ≤ length m
   pub cells : state_cells (state_of m) ≡ take limit.state m
   pub fine : FineState (state_of m)
-  pub size : pool ≡ 65536
-  pub bounds : ends ≡ layout.ends_count
-  pub count : numbers ≡ 8
-
-pub record Strung (p e : List ℕ) (cells : ℕ) : Type 0 where
-  pub fine : Fine p e
-  pub long : limit.state ≤ cells
-
-pub record Closable (p e n : List ℕ) (cells : ℕ) : Type 0 where
-  pub stands : Stands p e n
-  pub long : limit.state ≤ cells

@@ -1,4 +1,4 @@
--- What a run on the working memory and on lent memory asks and promises.
+-- What a run on the state at work and on lent memory asks and promises.
 use Rattle.std.specs.Prelude.{◌≡◌, List, ℕ, T}
 use Rattle.language.specs.Values.{State}
 use Rattle.machine.specs.Runs.{Answer, Run, run}
@@ -7,7 +7,7 @@ use Rattle.machine.specs.Steps.{step}
 use Rattle.machine.specs.WellFormed.{good_inputs}
 use Rattle.layout.specs.Memory.{state_of, good_memory, written}
 use Rattle.layout.specs.Table.{program_of, good_table}
-use Rattle.state.specs.Working.{state_at, HoldsState}
+use Rattle.state.specs.Working.{HoldsState}
 use Rattle.stepping.specs.Below.Stepping.{inputs}
 use Rattle.running.specs.declared.Ran.{Ran}
 
@@ -25,9 +25,9 @@ pub record Tells (x : Run State) (r : Ran) : Type 0 where
   pub number_is : r.number ≡ answer_number x.answer
   pub count_is : r.count ≡ x.count
 
-pub record RanTo (c i j : List ℕ) (budget : ℕ) (p e n : List ℕ) (r : Ran) (p' e' n' : List ℕ) : Type 0 where
-  pub tells : Tells (run_on c i j budget (state_at p e n)) r
-  pub holds : HoldsState p' e' n' (run_on c i j budget (state_at p e n)).state
+pub record RanTo (c i j : List ℕ) (budget : ℕ) (σ : State) (r : Ran) (σ' : State) : Type 0 where
+  pub tells : Tells (run_on c i j budget σ) r
+  pub holds : HoldsState σ' (run_on c i j budget σ).state
 
 -- a call of run that is not refused
 pub record Runnable (c i j m : List ℕ) : Type 0 where

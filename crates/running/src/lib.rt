@@ -1,11 +1,13 @@
 // A run under a budget: the lent state is laid out, stepped and written back.
 #![tactic(auto)]
 
-ghost use Rattle.std.specs.Prelude.{length};
 ghost use Rattle.stepping.specs.Below.Stepping.{Steppable};
 ghost use Rattle.running.specs.Running.{RanTo, Runnable, RanOn};
 
+use instructions::{Bench, Task};
 use layout::StatePlaces;
+use state::Working;
+use strings::Strings;
 
 // The number of a pause.
 const PAUSE: u8 = 81;
@@ -18,27 +20,15 @@ pub struct Ran {
 }
 
 // Steps until the count equals the budget, or an instruction stops.
-fn run_steps(
-    table: &[u32],
-    i1: &[u8],
-    i2: &[u8],
-    pool: &mut [u8],
-    ends: &mut [u32],
-    nums: &mut [u32],
-    scratch: &mut [u8],
-    hold: &mut [u8],
-    given: &mut [u8],
-    budget: u32,
-) -> Ran
-    requires { Steppable table.now i1.now i2.now pool.old ends.old nums.old (length scratch.old) (length hold.old) (length given.old) }
-    ensures { RanTo table.now i1.now i2.now budget pool.old ends.old nums.old result pool.new ends.new nums.new }
+fn run_steps(task: Task, bench: &mut Bench, budget: u32) -> Ran
+    requires { Steppable task.table.now task.first.now task.second.now bench.old.state }
+    ensures { RanTo task.entry.table.now task.entry.first.now task.entry.second.now budget bench.old.state result bench.new.state }
 {
     for count in 0..budget {
-        let stop = stepping::step(table, i1, i2, pool, ends, nums, scratch, hold, given);
-        if stop != 0 {
+        if let Err(q) = stepping::step(task, bench) {
             return Ran {
-                number: stop,
-                count: count,
+                number: u8::from(q),
+                count,
             };
         }
     }
@@ -53,25 +43,22 @@ pub fn run(table: &[u32], i1: &[u8], i2: &[u8], state: &mut [u8], budget: u32) -
     requires { Runnable table.now i1.now i2.now state.old }
     ensures { RanOn table.now i1.now i2.now budget state.old result state.new }
 {
-    let mut pool = [0u8; gaps::SIZE];
-    let mut ends = [0u32; StatePlaces::ENDS_COUNT];
-    let mut nums = [0u32; StatePlaces::SCALARS_COUNT];
-    let mut scratch = [0u8; gaps::SIZE];
-    let mut hold = [0u8; 32768];
-    let mut given = [0u8; 32768];
-    resting::unpack_state(state, &mut pool, &mut ends, &mut nums);
-    let r = run_steps(
+    let strings = Strings::new();
+    let nums = [0; StatePlaces::SCALARS_COUNT];
+    let hold = [0; 32768];
+    let given = [0; 32768];
+    let mut bench = Bench {
+        state: Working { strings, nums },
+        hold,
+        given,
+    };
+    resting::open(&mut bench.state, state);
+    let task = Task {
         table,
-        i1,
-        i2,
-        &mut pool,
-        &mut ends,
-        &mut nums,
-        &mut scratch,
-        &mut hold,
-        &mut given,
-        budget,
-    );
-    resting::pack_state(&pool, &ends, &nums, state);
+        first: i1,
+        second: i2,
+    };
+    let r = run_steps(task, &mut bench, budget);
+    resting::write(&bench.state, state);
     r
 }

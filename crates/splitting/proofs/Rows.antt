@@ -1,25 +1,30 @@
 -- The row of ROZBIJ: what it makes of a store, and that its function does it.
-use mathlib.Core.Path.{◌≡◌, refl, sym, ◌∙◌}
+use mathlib.Core.Path.{◌≡◌, refl, sym, ap, ◌∙◌}
 use mathlib.Core.Bool.{Bool, true, false}
 use mathlib.Core.List.{List}
 use Prim.Native.Nat.{ℕ}
 use lib.ListN.{take}
+use Rattle.std.specs.Prelude.{Result, Ok, Err}
+use Rattle.std.proofs.lemmas.Result.{IfOk-at_ok}
 use Rattle.language.specs.Program.{Arg, Program}
 use Rattle.language.specs.Program.Arg.{nothing}
 use Rattle.language.specs.Program.Op.{ROZBIJ}
-use Rattle.language.specs.Values.{Component, Store, Inputs}
+use Rattle.language.specs.Values.{Component, Store, State, Inputs}
 use Rattle.machine.specs.Arguments.{Asks, ◌&◌, needs, test_asks, on_chars}
 use Rattle.machine.specs.Changes.{put_expr, placed, into, front, past_by, past, used_by, used}
 use Rattle.machine.specs.Effects.{Row, row}
 use Rattle.machine.specs.Effects.Go.{on}
 use Rattle.layout.specs.Components.{components_in}
 use Rattle.matching.specs.Tests.{first_chars, until_chars}
-use Rattle.state.specs.Working.{state_at, Stands, nth, reading}
+use Rattle.state.specs.Working.{Stands, nth, reading}
 use Rattle.instructions.specs.Does.{DoesFor, Quiet, Tried}
+use Rattle.instructions.specs.Questions.{question_number, told_by}
+use Rattle.instructions.specs.declared.Question.{Question}
+use Rattle.instructions.proofs.Asking.{some}
 use Rattle.instructions.proofs.Answers.{unstopped, quiet-stop, quiet-tried}
 use Rattle.tests.specs.Prepares.{Prepares}
 use Rattle.tests.specs.declared.Prepared.{Prepared}
-use Rattle.tests.proofs.Asked.{quiet-and, quiet-test}
+use Rattle.tests.proofs.Asked.{quiet-and, quiet-test, test-read}
 use Rattle.splitting.specs.Splitting.{front_part, split_up, WordAsked}
 
 row-rozbij : (g : Program) (ins : Inputs) (s : Store) (i : ℕ) (c : Arg) (removes : Bool)
@@ -31,10 +36,10 @@ row-rozbij g ins s i c false = refl
 quiet-needs : (k : ℕ) (xs : List Component) → Quiet (needs k xs)
 quiet-needs k xs = record { is_50 = refl; is_55 = refl; is_56 = refl; is_57 = refl; is_58 = refl; is_59 = refl; is_60 = refl }
 
-module _ {p e n : List ℕ} (h : Stands p e n) (removes : Bool) (i : ℕ) (c : Arg) {x : List ℕ} {r : Prepared} (w : Prepares (state_at p e n).store c x r)
-    {m : ℕ} (y : WordAsked (state_at p e n).store i r.stop m) where
+module _ {σ : State} (h : Stands σ) (removes : Bool) (i : ℕ) (c : Arg) {x : List ℕ} {r : Result Prepared Question} (w : Prepares σ.store c x r)
+    {m : Result Prepared Question} (y : WordAsked σ.store i r m) where
   abbrev s : Store
-  s = (state_at p e n).store
+  s = σ.store
 
   abbrev by : Program → Inputs → Row
   by g ins = row g ins s (nth (reading removes) i) c nothing ROZBIJ
@@ -45,16 +50,20 @@ module _ {p e n : List ℕ} (h : Stands p e n) (removes : Bool) (i : ℕ) (c : A
   quiet : (ins : Inputs) → Quiet (asks ins)
   quiet ins = quiet-and (quiet-needs 0 (front_part s i)) (quiet-test ins s c)
 
-  pub rozbij-stop : (m ≡ 0 → ⊥) → DoesFor p e n m p e n by
-  rozbij-stop z g ins =
+  pub rozbij-stop : {q : Question} → m ≡ Err q → DoesFor σ (question_number q) σ by
+  rozbij-stop {q} e g ins =
       let u = on_chars ins s c in
       rw (row-rozbij g ins s i c removes)
-      (quiet-stop h (asks ins) (split_up u removes i s) (quiet ins) (y.is (test_asks ins s c) (w.stop_is ins)) z)
+      (quiet-stop h (asks ins) (split_up u removes i s) (quiet ins) (sym (ap told_by e) ∙ y.told (test_asks ins s c) (w.stop_is ins)) (some q))
 
-  pub rozbij-tried : m ≡ 0 → {k : ℕ} {p' e' n' : List ℕ}
-      → Tried p e n k p' e' n' true (split_up (until_chars r.test (first_chars (components_in (take r.len x)))) removes i s) → DoesFor p e n k p' e' n' by
-  rozbij-tried z k g ins =
-      let u = until_chars r.test (first_chars (components_in (take r.len x))) in
-      let a = unstopped (asks ins) (sym (y.is (test_asks ins s c) (w.stop_is ins)) ∙ z) in
-      rw (row-rozbij g ins s i c removes, w.chars (y.unstopped z) ins)
-      (quiet-tried h (split_up u removes i s) (asks ins) (quiet ins) a.0 a.1 a.2 k)
+  module _ {p : Prepared} (e : m ≡ Ok p) where
+    prepared : r ≡ Ok p
+    prepared = IfOk-at_ok (λ t. r ≡ Ok t) e y.is
+
+    pub rozbij-tried : {k : ℕ} {σ' : State}
+        → Tried σ k σ' true (split_up (until_chars p.test (first_chars (components_in (take p.len x)))) removes i s) → DoesFor σ k σ' by
+    rozbij-tried k g ins =
+        let u = until_chars p.test (first_chars (components_in (take p.len x))) in
+        let a = unstopped (asks ins) (sym (y.told (test_asks ins s c) (w.stop_is ins)) ∙ ap told_by e) in
+        rw (row-rozbij g ins s i c removes, (test-read w prepared).chars ins)
+        (quiet-tried h (split_up u removes i s) (asks ins) (quiet ins) a.0 a.1 a.2 k)

@@ -2,14 +2,14 @@
 use mathlib.Core.Path.{◌≡◌, refl, sym, ap, ◌∙◌, subst}
 use mathlib.Core.Bool.{Bool, true, false, cond, ◌&&◌}
 use mathlib.Core.List.{List, [], ◌∷◌, map}
-use Prim.Native.Nat.{ℕ, zero, suc, pred, ◌+◌, ◌-◌, ◌*◌, ◌≤◌, ◌<◌}
+use Prim.Native.Nat.{ℕ, zero, suc, pred, ◌+◌, ◌≤◌, ◌<◌}
 use native.Mathlib.Omega.{arith}
 use lib.Dec.{leb}
 use lib.ListN.{length, take, length-take}
 use borrow.Author.Tests.{le-leb, leb-true}
 use Rattle.language.specs.Limits as limit
 use Rattle.language.specs.Letters.Letter.{E}
-use Rattle.language.specs.Values.{Component, Store, chars}
+use Rattle.language.specs.Values.{Component, Store, State, chars}
 use Rattle.language.specs.Values.Component.{word, address}
 use Rattle.machine.specs.Arguments.{expr, first, char, Until}
 use Rattle.machine.specs.Changes.{minus_unless, into, past, fits}
@@ -20,17 +20,15 @@ use Rattle.layout.specs.Memory.{components_held, chars_held}
 use Rattle.components.specs.Parts.{LentChars, Written}
 use Rattle.matching.specs.Tests.{TookChars}
 use Rattle.matching.specs.declared.CharsTaken.{CharsTaken}
-use Rattle.state.specs.Working.{state_at, HoldsState, Stands, on_store, nth, reading, writing, char_count}
+use Rattle.state.specs.Working.{HoldsState, on_store, nth, reading, writing, char_count}
 use Rattle.state.specs.Blocks.{ExprLent, FirstParts, PartsDroppable, PartsWritable}
 use Rattle.state.specs.Limited.{Limited}
 use Rattle.state.proofs.Fits.{fine-limited, fits-minus_unless, fits-into-ok}
 use Rattle.state.proofs.Freed.{limited-past, components-past, chars-past}
-use Rattle.state.proofs.Standing.{state_of, stands}
 use Rattle.instructions.proofs.Written.{both}
 use Rattle.moves.proofs.Taking.{parts-least}
-use Rattle.readings.specs.Below.Joining.{some}
 use Rattle.readings.proofs.Below.Words.{written_is}
-use Rattle.splitting.specs.Splitting.{front_part, split_up, split_room, FirstWord, FewMore}
+use Rattle.splitting.specs.Splitting.{front_part, split_up, split_room, FirstWord}
 use Rattle.splitting.proofs.Asking.{first-in}
 
 -- ---- words of one character
@@ -61,23 +59,6 @@ first-parts (address n ∷ xs) f m q = absurd (omega (arith, f.word))
 
 -- ---- their room
 
-less-some : (k : ℕ) → k - some k ≡ pred k
-less-some zero = refl
-less-some (suc k) = omega arith
-
-pub some_below : (k : ℕ) → some k ≤ k
-some_below zero = omega arith
-some_below (suc k) = omega arith
-
-module _ (removes : Bool) (k : ℕ) (s : Store) where
-  pub room-removed : removes ≡ true → {m : ℕ} → m ≡ some k → {r : Bool}
-      → r ≡ (leb (components_held s + (k - m)) limit.components && leb (chars_held s + 0) limit.characters) → r ≡ split_room removes k s
-  room-removed q e {r} f = let g : k - some k ≡ pred k = less-some k in rw (q, ← g, ← e) f
-
-  pub room-left : removes ≡ false → {r : Bool} → r ≡ (leb (components_held s + k) limit.components && leb (chars_held s + k) limit.characters)
-      → r ≡ split_room removes k s
-  room-left q f = rw q f
-
 one-off : (k c c' : ℕ) → c ≤ limit.components → c' + 1 ≡ c → leb (c' + k) limit.components ≡ leb (c + pred k) limit.components
 one-off zero c c' a x = le-leb (c' + 0) limit.components (omega (arith, a, x)) ∙ sym (le-leb (c + 0) limit.components (omega (arith, a)))
 one-off (suc k) c c' a x = let e : c' + suc k ≡ c + k = omega (arith, x) in ap (λ (m : ℕ). leb m limit.components) e
@@ -94,10 +75,10 @@ split_room-of false k m c h c' h' a b l x y =
 
 -- ---- the expression
 
-module _ {p e n : List ℕ} {i : ℕ} {x : List ℕ} (h : Stands p e n) (b : i < limit.expressions) (l : ExprLent p e n i x)
-    (f : FirstWord (expr (state_at p e n).store (nth E i))) where
+module _ {σ : State} {i : ℕ} {x : List ℕ} (b : i < limit.expressions) (l : ExprLent σ i x)
+    (f : FirstWord (expr σ.store (nth E i))) where
   abbrev s : Store
-  s = (state_at p e n).store
+  s = σ.store
 
   abbrev xs : List Component
   xs = expr s (nth E i)
@@ -112,7 +93,7 @@ module _ {p e n : List ℕ} {i : ℕ} {x : List ℕ} (h : Stands p e n) (b : i <
   first_is = rw (first-in l some_bytes) refl
 
   within : i < length s.exprs
-  within = rw h.fine.exprs_is b
+  within = rw l.stands.fine.exprs_is b
 
   module _ {cs : List ℕ} (a : LentChars (component_in x) cs) where
     cs-is : cs ≡ w
@@ -121,8 +102,8 @@ module _ {p e n : List ℕ} {i : ℕ} {x : List ℕ} (h : Stands p e n) (b : i <
     parts : FirstParts xs 1 (1 + length cs) (length cs)
     parts = first-parts xs f (length cs) (ap length cs-is)
 
-    pub droppable : PartsDroppable p e n i 1 (1 + length cs) (length cs)
-    droppable = record { stands = h; index = b; first = parts }
+    pub droppable : PartsDroppable σ i 1 (1 + length cs) (length cs)
+    droppable = record { index = b; first = parts }
 
     module _ {u : Until ℕ} {t : CharsTaken} (k : TookChars u cs t) where
       took : TookChars u w t
@@ -134,29 +115,20 @@ module _ {p e n : List ℕ} {i : ℕ} {x : List ℕ} (h : Stands p e n) (b : i <
       long : length v ≡ t.taken
       long = omega (arith, length-take t.taken w, took.most)
 
-      pub few : FewMore p e n t.taken
-      few = record { stands = h; most = omega (arith, k.most, a.most) }
-
-      pub part-size : t.taken ≡ length (take t.taken cs)
-      part-size = omega (arith, length-take t.taken cs, k.most)
-
-      pub split-fits : (hold : ℕ) → 32768 ≤ hold → 2 * length (take t.taken cs) ≤ hold
-      split-fits hold r = omega (arith, part-size, few.most, r)
-
       module _ (removes : Bool) where
         abbrev z : Store
         z = past (nth (reading removes) i) 1 s
 
         room-is : (leb (components_held z + t.taken) limit.components && leb (chars_held z + t.taken) limit.characters) ≡ split_room removes t.taken s
         room-is =
-            split_room-of removes t.taken (length cs) (components_held s) (chars_held s) (components_held z) (chars_held z) h.fine.components_most h.fine.chars_most k.most
+            split_room-of removes t.taken (length cs) (components_held s) (chars_held s) (components_held z) (chars_held z) l.stands.fine.components_most l.stands.fine.chars_most k.most
             (components-past s i 1 within parts removes) (chars-past s i 1 within parts removes)
 
         -- the limits
         pub fits-split : fits (split_up u removes i s) ≡ split_room removes t.taken s
         unfolding split_up
         fits-split =
-            let m : Limited z = limited-past s (fine-limited (state_at p e n) h.fine) (nth (reading removes) i) 1 in
+            let m : Limited z = limited-past s (fine-limited σ l.stands.fine) (nth (reading removes) i) 1 in
             let q : (i < length z.exprs) = rw m.exprs_is b in
             let o : length (map char v) ≡ t.taken = chars-count v ∙ long in
             let r : char_count (map char v) ≡ t.taken = chars-total v ∙ long in
@@ -174,24 +146,22 @@ module _ {p e n : List ℕ} {i : ℕ} {x : List ℕ} (h : Stands p e n) (b : i <
           new_is : components_in (take m o') ≡ map char v
           new_is = components-of encoded
 
-          pub writable : split_room removes t.taken s ≡ true → (scratch : ℕ) → 65536 ≤ scratch → {e' n' : List ℕ}
-              → HoldsState p e' n' (on_store (past (nth (reading removes) i) 1) (state_at p e n)) → PartsWritable p e' n' scratch i (take m o') t.taken t.taken
+          pub writable : split_room removes t.taken s ≡ true → {σ' : State}
+              → HoldsState σ' (on_store (past (nth (reading removes) i) 1) σ) → PartsWritable σ' i (take m o') t.taken t.taken
           unfolding on_store
-          writable r scratch sp g =
+          writable r g =
               let d = both (leb (components_held z + t.taken) limit.components) (leb (chars_held z + t.taken) limit.characters) (room-is ∙ r) in
               record {
-                stands = stands g;
-                spare = sp;
                 index = b;
                 whole = whole-components encoded;
                 count = rw new_is (sym long ∙ sym (chars-count v));
                 chars_is = rw new_is (sym long ∙ sym (chars-total v));
-                components_room = rw (state_of g) (leb-true (components_held z + t.taken) limit.components d.0);
-                chars_room = rw (state_of g) (leb-true (chars_held z + t.taken) limit.characters d.1);
+                components_room = rw g.is (leb-true (components_held z + t.taken) limit.components d.0);
+                chars_room = rw g.is (leb-true (chars_held z + t.taken) limit.characters d.1);
               }
 
-          pub split_done : {p' e' n' : List ℕ}
-              → HoldsState p' e' n' (on_store (λ c. minus_unless t.reached (into (nth (writing false) i) (components_in (take m o')) (past (nth (reading removes) i) 1 c))) (state_at p e n))
-              → HoldsState p' e' n' (on_store (split_up u removes i) (state_at p e n))
+          pub split_done : {σ' : State}
+              → HoldsState σ' (on_store (λ c. minus_unless t.reached (into (nth (writing false) i) (components_in (take m o')) (past (nth (reading removes) i) 1 c))) σ)
+              → HoldsState σ' (on_store (split_up u removes i) σ)
           unfolding on_store split_up
           split_done g = rw (took.is, ← new_is) g

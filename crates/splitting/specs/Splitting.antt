@@ -1,17 +1,19 @@
 -- Splitting a word: what ROZBIJ makes of a store, and what its functions ask and tell.
-use Rattle.std.specs.Prelude.{◌≡◌, Bool, false, cond, ◌&&◌, List, map, ℕ, pred, ◌+◌, ◌≤◌, ◌<◌, leb, length, take}
+use Rattle.std.specs.Prelude.{◌≡◌, Bool, false, cond, ◌&&◌, List, map, ℕ, pred, ◌+◌, ◌<◌, leb, length, take, Result, Ok, IfOk}
 use Rattle.language.specs.Limits as limit
 use Rattle.language.specs.Letters.Letter.{E}
-use Rattle.language.specs.Values.{Component, Store, chars, kind}
+use Rattle.language.specs.Values.{Component, Store, State, chars, kind}
 use Rattle.machine.specs.Arguments.{expr, first, char, Asks, ◌&◌, needs, Until, taken}
 use Rattle.machine.specs.Changes.{minus_unless, into, past}
 use Rattle.layout.specs.Memory.{components_held, chars_held}
-use Rattle.matching.specs.declared.Test.{Test}
-use Rattle.state.specs.Working.{state_at, Stands, nth, reading, writing}
+use Rattle.state.specs.Working.{nth, reading, writing}
 use Rattle.table.specs.declared.Argument.{Argument}
+use Rattle.instructions.specs.Questions.{told_by}
+use Rattle.instructions.specs.declared.Question.{Question}
 use Rattle.instructions.specs.Does.{stop_of}
+use Rattle.tests.specs.declared.Prepared.{Prepared}
+use Rattle.moves.specs.Moves.{TestBeside}
 use Rattle.readings.specs.Below.Joining.{WordsJoinable}
-use Rattle.readings.specs.Readings.{CharsTakeable}
 
 -- the first component of expression i, if it has one
 abbrev pub front_part : Store → ℕ → List Component
@@ -36,24 +38,17 @@ pub record FirstWord (xs : List Component) : Type 0 where
   pub some : 0 < length xs
   pub word : kind (first xs) ≡ 0
 
--- r is the first question answered no, where `stop` is that of a test
-pub record WordAsked (s : Store) (i stop r : ℕ) : Type 0 where
-  pub is : (q : Asks) → stop ≡ stop_of q → r ≡ stop_of (needs 0 (front_part s i) & q)
-  pub ready : r ≡ 0 → FirstWord (expr s (nth E i))
-  pub unstopped : r ≡ 0 → stop ≡ 0
+-- r is the first question answered no of those of a word and those of a test, which p is; or p
+pub record WordAsked (s : Store) (i : ℕ) (p r : Result Prepared Question) : Type 0 where
+  pub told : (q : Asks) → told_by p ≡ stop_of q → told_by r ≡ stop_of (needs 0 (front_part s i) & q)
+  pub is : IfOk r (λ t. p ≡ Ok t)
+  pub ready : IfOk r (λ t. FirstWord (expr s (nth E i)))
 
-pub record FewMore (p e n : List ℕ) (k : ℕ) : Type 0 where
-  pub stands : Stands p e n
-  pub most : k ≤ limit.word
-
-pub record Splittable (p e n : List ℕ) (scratch hold : ℕ) (given : List ℕ) (test : Test) (i : ℕ) : Type 0 where
-  pub stands : Stands p e n
-  pub spare : 65536 ≤ scratch
-  pub room : 32768 ≤ hold
-  pub beside : CharsTakeable test given hold
+pub record Splittable (σ : State) (g : List ℕ) (test : Prepared) (i : ℕ) : Type 0 where
+  pub beside : TestBeside g test
   pub source : i < limit.expressions
-  pub first_word : FirstWord (expr (state_at p e n).store (nth E i))
+  pub first_word : FirstWord (expr σ.store (nth E i))
 
 -- ROZBIJ of expression i with the test of argument a asks what ZBIJ does
-abbrev pub WordSplittable : List ℕ → List ℕ → List ℕ → List ℕ → ℕ → ℕ → ℕ → ℕ → Argument → Type 0
+abbrev pub WordSplittable : List ℕ → ℕ → Argument → Type 0
 WordSplittable = WordsJoinable

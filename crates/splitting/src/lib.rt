@@ -1,123 +1,106 @@
 // Splitting a word: ROZBIJ.
 #![tactic(auto)]
 
-ghost use Rattle.std.specs.Prelude.{◌≡◌, true, length};
+ghost use Rattle.std.specs.Prelude.{◌≡◌, ◌<◌, ◌≤◌, true, eqb, take};
+ghost use Rattle.language.specs.Limits as limit;
 ghost use Rattle.language.specs.Program.Arg.{nothing};
 ghost use Rattle.language.specs.Program.Op.{ROZBIJ};
 ghost use Rattle.layout.specs.Components.{components_in};
 ghost use Rattle.machine.specs.Effects.{row};
 ghost use Rattle.matching.specs.Tests.{first_chars, until_chars};
 ghost use Rattle.packed.specs.Packed.{table_of};
-ghost use Rattle.state.specs.Working.{state_at, nth, reading};
-ghost use Rattle.state.specs.Blocks.{ExprNamed};
+ghost use Rattle.state.specs.Working.{Stands, nth, reading};
 ghost use Rattle.table.specs.Denote.{arg_of};
+ghost use Rattle.instructions.specs.Questions.{told_by};
 ghost use Rattle.instructions.specs.Does.{Tried, DoesFor};
-ghost use Rattle.splitting.specs.Splitting.{split_up, split_room, WordAsked, FewMore, Splittable, WordSplittable};
+ghost use Rattle.splitting.specs.Splitting.{split_up, split_room, WordAsked, Splittable, WordSplittable};
 
-// The first question answered no: a component (52) that is a word (53), and those of a test, of which `stop` is the first answered no.
-fn word_stop(pool: &[u8], ends: &[u32], nums: &[u32], i: usize, stop: u8) -> u8
-    requires { ExprNamed pool.now ends.now nums.now i }
-    ensures { WordAsked (state_at pool.now ends.now nums.now).store i stop result }
+use instructions::{Bench, Question, Source};
+use state::Working;
+use tests::Prepared;
+
+// Whether a test's question of a component is answered no.
+fn is_missing(prepared: Result<Prepared, Question>) -> bool
+    ensures { result ≡ eqb (told_by prepared) 52 }
 {
-    let x = state::expr_bytes(pool, ends, nums, i);
-    if x.len() == 0 {
-        return 52;
+    matches!(prepared, Err(Question::Missing))
+}
+
+// The test, where a component is there (52) that is a word (53), and the test's own questions are answered yes. The lowest number is told: a component
+// that the test misses comes before a word.
+fn word_of(
+    state: &Working,
+    i: usize,
+    prepared: Result<Prepared, Question>,
+) -> Result<Prepared, Question>
+    requires { i < limit.expressions }
+    ensures asked { WordAsked state.now.store i prepared result }
+    ensures stands { Stands state.now }
+{
+    let x = state.expr_bytes(i);
+    if x.is_empty() {
+        return Err(Question::Missing);
     }
-    if stop == 52 {
-        return 52;
+    if is_missing(prepared) {
+        return prepared;
     }
     if components::kind_of(x) != 0 {
-        return 53;
+        return Err(Question::Kind);
     }
-    stop
+    prepared
 }
 
 // Whether `k` words of one character are within the limits; `removes`: their word is taken away before.
-fn has_split_room(pool: &[u8], ends: &[u32], nums: &[u32], removes: bool, k: usize) -> bool
-    requires { FewMore pool.now ends.now nums.now k }
-    ensures { result ≡ split_room removes k (state_at pool.now ends.now nums.now).store }
+fn has_split_room(state: &Working, removes: bool, k: usize) -> bool
+    requires { k ≤ limit.word }
+    ensures { result ≡ split_room removes k state.now.store }
 {
     if removes {
-        return instructions::has_room(pool, ends, nums, k - readings::from_joining::some(k), 0);
+        return instructions::has_room(state, k.saturating_sub(1), 0);
     }
-    instructions::has_room(pool, ends, nums, k, k)
+    instructions::has_room(state, k, k)
 }
 
-// Puts the characters that a test takes of the first word of expression `i` in front of it as words: 0, or the question answered no.
-// Not one with `joining::join_up`, `printing::spell` or `moves::send_copy`: each asks another room and makes other bytes of what it takes.
-fn split_up(
-    pool: &mut [u8],
-    ends: &mut [u32],
-    nums: &mut [u32],
-    scratch: &mut [u8],
-    hold: &mut [u8],
-    given: &[u8],
-    test: matching::Test,
-    removes: bool,
-    i: usize,
-) -> u8
-    requires { Splittable pool.old ends.old nums.old (length scratch.old) (length hold.old) given.now test i }
-    ensures { Tried pool.old ends.old nums.old result pool.new ends.new nums.new true (split_up (until_chars test (first_chars (components_in given.now))) removes i (state_at pool.old ends.old nums.old).store) }
+// Puts the characters that a test takes of the first word of an expression in front of it as words.
+// Not one with `joining::join_up`, `printing::spell` or `moves::send`: each asks another room and makes other bytes of what it takes.
+fn split_up(bench: &mut Bench, test: Prepared, source: Source) -> Result<(), Question>
+    requires { Splittable bench.old.state bench.old.given test source.i }
+    ensures { Tried bench.old.state (told_by result) bench.new.state true (split_up (until_chars test.test (first_chars (components_in (take test.len bench.old.given)))) source.removes source.i bench.old.state.store) }
 {
-    let x = state::expr_bytes(pool, ends, nums, i);
+    let x = bench.state.expr_bytes(source.i);
     let w = components::chars_of(x);
     let m = w.len();
-    let t = readings::take_chars(w, test, given, hold);
+    let t = readings::take_chars(&mut bench.hold, w, test.test, &bench.given[..test.len]);
     let k = t.taken;
-    if !has_split_room(pool, ends, nums, removes, k) {
-        return 59;
+    if !has_split_room(&bench.state, source.removes, k) {
+        return Err(Question::Room);
     }
-    let n = components::split(hold, &w[..k]);
-    state::past_parts(pool, ends, nums, i, removes, 1, 1 + m, m);
-    moves::deliver(
-        pool,
-        ends,
-        nums,
-        scratch,
-        i,
-        false,
-        &hold[..n],
-        k,
-        k,
-        t.reached,
-    );
-    0
+    let n = components::split(&mut bench.hold, &w[..k]);
+    bench
+        .state
+        .past_parts(source.i, source.removes, 1, 1 + m, m);
+    let new = moves::New {
+        bytes: &bench.hold[..n],
+        parts: k,
+        chars: k,
+    };
+    moves::deliver(&mut bench.state, source.i, false, new, t.reached);
+    Ok(())
 }
 
-// ROZBIJ of expression `i`: 0, or the question answered no.
+// ROZBIJ.
 pub fn rozbij(
     table: &[u32],
-    pool: &mut [u8],
-    ends: &mut [u32],
-    nums: &mut [u32],
-    scratch: &mut [u8],
-    hold: &mut [u8],
-    given: &mut [u8],
-    removes: bool,
-    i: usize,
+    bench: &mut Bench,
+    source: Source,
     arg: table::Argument,
-) -> u8
-    requires { WordSplittable table.now pool.old ends.old nums.old (length scratch.old) (length hold.old) (length given.old) i arg }
-    ensures { DoesFor pool.old ends.old nums.old result pool.new ends.new nums.new (λ g ins. row g ins (state_at pool.old ends.old nums.old).store (nth (reading removes) i) (arg_of (table_of table.now) arg) nothing ROZBIJ) }
+) -> Result<(), Question>
+    requires { WordSplittable table.now source.i arg }
+    ensures { DoesFor bench.old.state (told_by result) bench.new.state (λ g ins. row g ins bench.old.state.store (nth (reading source.removes) source.i) (arg_of (table_of table.now) arg) nothing ROZBIJ) }
 {
-    let q = tests::prepare(table, pool, ends, nums, given, arg);
-    let test = q.test;
-    let len = q.len;
-    let stop = word_stop(pool, ends, nums, i, q.stop);
-    if stop != 0 {
-        return stop;
-    }
-    split_up(
-        pool,
-        ends,
-        nums,
-        scratch,
-        hold,
-        &given[..len],
-        test,
-        removes,
-        i,
-    )
+    let prepared = tests::prepare(table, &bench.state, &mut bench.given, arg);
+    let test = word_of(&bench.state, source.i, prepared)?;
+    split_up(bench, test, source)
 }
 
 // Of `joining`, passed on to the crates above.

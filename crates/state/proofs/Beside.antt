@@ -1,6 +1,6 @@
 -- The working memory after a change beside expressions and files: of an output, of H, of a read place.
 use mathlib.Core.Path.{◌≡◌, refl, sym, ap, ◌∙◌}
-use mathlib.Core.Bool.{Bool, true, false, cond}
+use mathlib.Core.Bool.{Bool, false, cond}
 use mathlib.Core.List.{List, [], ◌∷◌, ◌++◌}
 use Prim.Native.Nat.{ℕ, zero, suc, ◌+◌, ◌≤◌, ◌<◌}
 use native.Mathlib.Omega.{arith}
@@ -14,10 +14,9 @@ use Rattle.store.specs.Below.LayoutMemory.{scalars, strings}
 use Rattle.store.proofs.Below.MemoryLaws.{string-output}
 use Rattle.store.specs.Below.LayoutPlaces as layout
 use Rattle.store.specs.Below.Gaps.{pushed_back}
-use Rattle.store.specs.Below.Pool.{abs, Holds}
-use Rattle.store.specs.Store.{Pushable}
+use Rattle.strings.specs.Strings.{Pushable}
 use Rattle.store.specs.Below.LayoutPlaces.{output_string}
-use Rattle.state.specs.Working.{state_at, HoldsState, on_store, nth}
+use Rattle.state.specs.Working.{Lies, on_store, nth}
 use Rattle.state.specs.Blocks.{Printable, Readable}
 use Rattle.state.proofs.Standing.{pushable, place_is}
 use Rattle.state.proofs.Strings.{strings-output}
@@ -26,69 +25,56 @@ use Rattle.state.proofs.Sequences.{each_set}
 
 -- ---- an output
 
-module _ {p e n : List ℕ} {sc i : ℕ} (w : List ℕ) (pre : Printable p e n sc i (length w)) where
+module _ {t : List (List ℕ)} {n : List ℕ} {s : State} (h : Lies t n s) {i : ℕ} (w : List ℕ) (pre : Printable s i (length w)) where
   abbrev old : List ℕ
-  old = get_or (state_at p e n).store.outputs i []
+  old = get_or s.store.outputs i []
 
-  fine-printed : Fine (on_store (printed (nth Q i) w) (state_at p e n))
+  fine-printed : Fine (on_store (printed (nth Q i) w) s)
   unfolding on_store printed with_outputs
   fine-printed =
-      let s = state_at p e n in
-      let f = pre.stands.fine in
+      let f = h.fine in
       fine-beside s f s.store.plus (set s.store.outputs i (old ++ w)) s.store.places s.next s.stack
       (length-set s.store.outputs i (old ++ w) ∙ f.outputs_is)
       (each_set (λ q. length q ≤ limit.output) s.store.outputs i (old ++ w) f.outputs_ok (rw (length-append old w) pre.room))
       f.places_is f.places_ok f.next_below f.stack_ok f.stack_most
 
-  strings-printed : strings (on_store (printed (nth Q i) w) (state_at p e n)) ≡ set (strings (state_at p e n)) (output_string i) (old ++ w)
+  strings-printed : strings (on_store (printed (nth Q i) w) s) ≡ set (strings s) (output_string i) (old ++ w)
   unfolding on_store printed with_outputs
   strings-printed =
-      let f = pre.stands.fine in
-      strings-output (state_at p e n) f.exprs_is f.files_is i (old ++ w)
+      let f = h.fine in
+      strings-output s f.exprs_is f.files_is i (old ++ w)
 
-  pub printable : Pushable p e (output_string i) (length w) sc
+  pub printable : Pushable t (output_string i) (length w)
   printable =
-      let s = state_at p e n in
-      pushable pre.stands (on_store (printed (nth Q i) w) s) fine-printed (output_string i) (old ++ w) strings-printed (omega (arith, pre.index))
-      (rw (string-output s pre.stands.fine i, length-append old w) (omega arith)) pre.spare
+      pushable h (on_store (printed (nth Q i) w) s) fine-printed (output_string i) (old ++ w) strings-printed (omega (arith, pre.index))
+      (rw (string-output s h.fine i, length-append old w) (omega arith))
 
-  pub output-written : {p' e' : List ℕ} → Holds p' e' (pushed_back (output_string i) w (abs p e))
-      → HoldsState p' e' n (on_store (printed (nth Q i) w) (state_at p e n))
+  pub output-written : {t' : List (List ℕ)} → t' ≡ pushed_back (output_string i) w t
+      → Lies t' n (on_store (printed (nth Q i) w) s)
   unfolding pushed_back on_store printed with_outputs held recorded
   output-written g =
-      let h = pre.stands in
       record {
-        holds = rw strings-printed (rw (h.holds.is, string-output (state_at p e n) h.fine i) at g);
+        strings_is = rw strings-printed (rw (h.strings_is, string-output s h.fine i) at g);
         numbers = h.numbers;
         fine = fine-printed;
       }
 
 -- ---- H
 
-module _ {p e n : List ℕ} {s : State} (h : HoldsState p e n s) where
-  plus-set : (b : Bool) {n' : List ℕ} → n' ≡ set n layout.plus_scalar (cond b 1 0) → HoldsState p e n' (on_store (with_plus b) s)
+module _ {t : List (List ℕ)} {n : List ℕ} {s : State} (h : Lies t n s) where
+  pub plus-set : (b : Bool) {n' : List ℕ} → n' ≡ set n layout.plus_scalar (cond b 1 0) → Lies t n' (on_store (with_plus b) s)
   unfolding on_store with_plus held recorded strings
   plus-set b q =
       let f = h.fine in
       record {
-        holds = h.holds;
+        strings_is = h.strings_is;
         numbers = q ∙ ap (λ (m : List ℕ). set m 0 (cond b 1 0)) h.numbers;
         fine =
             fine-beside s f b s.store.outputs s.store.places s.next s.stack f.outputs_is f.outputs_ok f.places_is f.places_ok
             f.next_below f.stack_ok f.stack_most;
       }
 
-  pub plus-on : {b : Bool} {n' : List ℕ} → b ≡ true → n' ≡ set n layout.plus_scalar 1 → HoldsState p e n' (on_store (with_plus b) s)
-  plus-on t q = rw t (plus-set true q)
-
-  pub plus-off : {b : Bool} {n' : List ℕ} → b ≡ false → n' ≡ set n layout.plus_scalar 0 → HoldsState p e n' (on_store (with_plus b) s)
-  plus-off t q = rw t (plus-set false q)
-
-  pub plus-kept : {b : Bool} → b ≡ true → HoldsState p e n (on_store (minus_unless b) s)
-  unfolding on_store minus_unless with_plus
-  plus-kept t = rw t h
-
-  pub plus-lost : {b : Bool} {n' : List ℕ} → b ≡ false → n' ≡ set n layout.plus_scalar 0 → HoldsState p e n' (on_store (minus_unless b) s)
+  pub plus-lost : {b : Bool} {n' : List ℕ} → b ≡ false → n' ≡ set n layout.plus_scalar 0 → Lies t n' (on_store (minus_unless b) s)
   unfolding on_store minus_unless
   plus-lost t q = rw t (plus-set false q)
 
@@ -102,24 +88,22 @@ place_set (x ∷ y ∷ ps) l zero b v h t = refl
 place_set (x ∷ y ∷ ps) l (suc zero) b v h t = refl
 place_set (x ∷ y ∷ ps) l (suc (suc k)) b v h t = absurd (omega arith)
 
-module _ {p e n : List ℕ} {i k : ℕ} (pre : Readable p e n i k) where
+module _ {t : List (List ℕ)} {n : List ℕ} {s : State} (h : Lies t n s) {i k : ℕ} (pre : Readable s i k) where
   abbrev place_at : ℕ
-  place_at = get_or (state_at p e n).store.places i 0
+  place_at = get_or s.store.places i 0
 
   pub place-then : get_or n (1 + i) 0 + k ≤ limit.input
-  place-then = omega (arith, place_is pre.stands pre.index, pre.room)
+  place-then = omega (arith, place_is h pre.index, pre.room)
 
-  pub read_past : {n' : List ℕ} → n' ≡ set n (1 + i) (get_or n (1 + i) 0 + k) → HoldsState p e n' (on_store (past (nth I i) k) (state_at p e n))
+  pub read_past : {n' : List ℕ} → n' ≡ set n (1 + i) (get_or n (1 + i) 0 + k) → Lies t n' (on_store (past (nth I i) k) s)
   unfolding on_store past past_by with_places held recorded strings
   read_past q =
-      let h = pre.stands in
-      let s = state_at p e n in
       let f = h.fine in
       let v = place_at + k in
       record {
-        holds = h.holds;
+        strings_is = h.strings_is;
         numbers =
-            q ∙ ap (λ (x : ℕ). set n (1 + i) (x + k)) (place_is pre.stands pre.index) ∙ ap (λ (m : List ℕ). set m (1 + i) v) h.numbers
+            q ∙ ap (λ (x : ℕ). set n (1 + i) (x + k)) (place_is h pre.index) ∙ ap (λ (m : List ℕ). set m (1 + i) v) h.numbers
             ∙ sym (place_set s.store.places f.places_is i pre.index v (cond s.store.plus 1 0) (drop 3 (scalars s)));
         fine =
             fine-beside s f s.store.plus s.store.outputs (set s.store.places i v) s.next s.stack f.outputs_is f.outputs_ok

@@ -11,11 +11,9 @@ use Rattle.store.specs.Below.Changes.{with_exprs, put_expr, held}
 use Rattle.store.specs.Below.LayoutBounds.{Each, Ok, Fine}
 use Rattle.store.specs.Below.LayoutMemory.{scalars, strings}
 use Rattle.store.proofs.Below.MemoryLaws.{string-expr}
-use Rattle.store.specs.Below.Pool.{abs, Holds}
-use Rattle.store.proofs.Below.GapsLaws.{after}
-use Rattle.store.specs.Store.{Exchangeable, exchanged}
-use Rattle.state.specs.Working.{state_at, HoldsState, on_store}
-use Rattle.state.specs.Blocks.{totalled, ExprsExchangeable, exprs_exchanged}
+use Rattle.store.specs.Store.{exchanged}
+use Rattle.state.specs.Working.{Lies, on_store}
+use Rattle.state.specs.Blocks.{totalled, exprs_exchanged}
 use Rattle.state.proofs.Strings.{strings-expr}
 use Rattle.state.proofs.Scalars.{scalars-exprs}
 use Rattle.state.proofs.Fineness.{fine-exprs}
@@ -51,25 +49,12 @@ module _ (s : State) (f : Fine s) (i j : ℕ) (a : i < limit.expressions) (b : j
   unfolding totalled
   scalars-both = scalars-exprs s both (held_both (λ x. 1)) (held_both (λ x. length (chars x)))
 
-module _ {p e n : List ℕ} {i j sc hd : ℕ} (pre : ExprsExchangeable p e n i j sc hd) where
-  pub exprs-exchangeable : Exchangeable p e i j sc hd
-  exprs-exchangeable =
-      record {
-        fine = pre.stands.holds.fine;
-        source = omega (arith, pre.source);
-        target = omega (arith, pre.target);
-        spare = pre.spare;
-        room = pre.room;
-      }
-
-  pub exprs-swapped : {p' e' : List ℕ} → Holds p' e' (exchanged i j (abs p e))
-      → HoldsState p' e' n (on_store (exprs_exchanged i j) (state_at p e n))
+module _ {t : List (List ℕ)} {n : List ℕ} {s : State} (h : Lies t n s) {i j : ℕ} (a : i < limit.expressions) (b : j < limit.expressions) where
+  pub exprs-swapped : {t' : List (List ℕ)} → t' ≡ exchanged i j t → Lies t' n (on_store (exprs_exchanged i j) s)
   unfolding on_store exprs_exchanged put_expr with_exprs
   exprs-swapped g =
-      let h = pre.stands in
-      let s = state_at p e n in
       record {
-        holds = rw (strings-both s h.fine i j pre.source pre.target) (after h.holds (exchanged i j) g);
-        numbers = h.numbers ∙ sym (scalars-both s h.fine i j pre.source pre.target);
-        fine = fine-both s h.fine i j pre.source pre.target;
+        strings_is = rw (strings-both s h.fine i j a b) (rw h.strings_is at g);
+        numbers = h.numbers ∙ sym (scalars-both s h.fine i j a b);
+        fine = fine-both s h.fine i j a b;
       }

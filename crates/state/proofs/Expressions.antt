@@ -21,9 +21,10 @@ use Rattle.store.specs.Below.LayoutMemory.{components_held, chars_held, scalars,
 use Rattle.store.proofs.Below.MemoryLaws.{expr-encoded}
 use Rattle.store.specs.Below.LayoutPlaces as layout
 use Rattle.store.specs.Below.Gaps.{pushed_front, pushed_back}
-use Rattle.store.specs.Below.Pool.{abs, string, Holds}
-use Rattle.store.specs.Store.{Droppable, dropped_front, Pushable}
-use Rattle.state.specs.Working.{state_at, HoldsState, Stands, on_store, nth, reading, writing, char_count}
+use Rattle.store.specs.Below.Pool.{string}
+use Rattle.store.specs.Store.{dropped_front}
+use Rattle.strings.specs.Strings.{Droppable, Pushable}
+use Rattle.state.specs.Working.{Lies, on_store, nth, reading, writing, char_count}
 use Rattle.state.specs.Blocks.{totalled, Lowerable, Raisable, pushed, PartsDroppable, PartsWritable}
 use Rattle.state.proofs.Standing.{number_is, string-is, numbers-long, pushable}
 use Rattle.state.proofs.Strings.{strings-expr}
@@ -63,11 +64,11 @@ module _ (s : State) (f : Fine s) (i : ℕ) (l : i < limit.expressions) (xs : Li
       fine-exprs s f (set s.store.exprs i xs) (length-set s.store.exprs i xs ∙ f.exprs_is)
       (each_set (Each Ok) s.store.exprs i xs f.exprs_ok k) (rw components_then hc) (rw chars_then hd)
 
-  pub holds-expr : {p e p' e' n n' : List ℕ} → HoldsState p e n s → Each Ok xs → c ≤ limit.components → d ≤ limit.characters
-      → Holds p' e' (set (strings s) i (components_bytes xs)) → n' ≡ totalled c d n → HoldsState p' e' n' (on_store (put_expr (nth E i) xs) s)
-  holds-expr {p' = p'} {e' = e'} h k hc hd g q =
+  pub holds-expr : {t t' : List (List ℕ)} {n n' : List ℕ} → Lies t n s → Each Ok xs → c ≤ limit.components → d ≤ limit.characters
+      → t' ≡ set (strings s) i (components_bytes xs) → n' ≡ totalled c d n → Lies t' n' (on_store (put_expr (nth E i) xs) s)
+  holds-expr {t' = t'} h k hc hd g q =
       record {
-        holds = rw strings-then g;
+        strings_is = rw strings-then g;
         numbers = q ∙ ap (totalled c d) h.numbers ∙ sym scalars-then;
         fine = fine-then k hc hd;
       }
@@ -77,39 +78,36 @@ pub held-expr : (g : Component → ℕ) (s : Store) (i : ℕ) → total g (expr 
 unfolding held
 held-expr g s i = omega (arith, total-at (total g) [] refl s.exprs i)
 
-module _ {p e n : List ℕ} {i k b c : ℕ} (pre : PartsDroppable p e n i k b c) where
+module _ {t : List (List ℕ)} {n : List ℕ} {s : State} (h : Lies t n s) {i k b c : ℕ} (pre : PartsDroppable s i k b c) where
   abbrev old : List Component
-  old = expr (state_at p e n).store (nth E i)
+  old = expr s.store (nth E i)
 
   counts : char_count (take k old) + char_count (drop k old) ≡ char_count old
   counts = total-split (λ x. length (chars x)) k old
 
   pub parts-lowerable : Lowerable n k c
   parts-lowerable =
-      let h = pre.stands in
       record {
         long = numbers-long h;
-        components = omega (arith, number_is h 5, held-expr (λ x. 1) (state_at p e n).store i, total-ones old, pre.first.most);
-        characters = omega (arith, number_is h 6, held-expr (λ x. length (chars x)) (state_at p e n).store i, counts, pre.first.chars_is);
+        components = omega (arith, number_is h 5, held-expr (λ x. 1) s.store i, total-ones old, pre.first.most);
+        characters = omega (arith, number_is h 6, held-expr (λ x. length (chars x)) s.store i, counts, pre.first.chars_is);
       }
 
-  parts_within : b ≤ length (string i (abs p e))
-  parts_within = rw (string-is pre.stands i, (expr-encoded (state_at p e n) pre.stands.fine i pre.index).is) (bytes-within components_bytes components_bytes-append old k pre.first.bytes_is)
+  parts_within : b ≤ length (string i t)
+  parts_within = rw (string-is h i, (expr-encoded s h.fine i pre.index).is) (bytes-within components_bytes components_bytes-append old k pre.first.bytes_is)
 
-  pub parts-droppable : Droppable p e i b
-  parts-droppable = record { fine = pre.stands.holds.fine; index = omega (arith, pre.index); within = parts_within }
+  pub parts-droppable : Droppable t i b
+  parts-droppable = record { index = omega (arith, pre.index); within = parts_within }
 
-  strings-less : dropped_front i b (abs p e) ≡ set (strings (state_at p e n)) i (components_bytes (drop k old))
+  strings-less : dropped_front i b t ≡ set (strings s) i (components_bytes (drop k old))
   unfolding dropped_front
   strings-less =
-      rw (pre.stands.holds.is, (expr-encoded (state_at p e n) pre.stands.fine i pre.index).is, rest-bytes components_bytes components_bytes-append old k pre.first.bytes_is)
+      rw (h.strings_is, (expr-encoded s h.fine i pre.index).is, rest-bytes components_bytes components_bytes-append old k pre.first.bytes_is)
 
-  pub parts-dropped : {e' n' : List ℕ} → Holds p e' (dropped_front i b (abs p e)) → n' ≡ totalled (get_or n layout.components_scalar 0 - k) (get_or n layout.characters_scalar 0 - c) n
-      → HoldsState p e' n' (on_store (past (nth (reading true) i) k) (state_at p e n))
+  pub parts-dropped : {t' : List (List ℕ)} {n' : List ℕ} → t' ≡ dropped_front i b t → n' ≡ totalled (get_or n layout.components_scalar 0 - k) (get_or n layout.characters_scalar 0 - c) n
+      → Lies t' n' (on_store (past (nth (reading true) i) k) s)
   unfolding past past_by put_expr on_store
   parts-dropped g q =
-      let h = pre.stands in
-      let s = state_at p e n in
       let l = parts-lowerable in
       holds-expr s h.fine i pre.index (drop k old) (get_or n layout.components_scalar 0 - k) (get_or n layout.characters_scalar 0 - c)
       (omega (arith, number_is h 5, l.components, length-drop k old, pre.first.most))
@@ -117,11 +115,6 @@ module _ {p e n : List ℕ} {i k b c : ℕ} (pre : PartsDroppable p e n i k b c)
       h (each-drop Ok k old (expr-encoded s h.fine i pre.index).all_ok)
       (omega (arith, number_is h 5, h.fine.components_most)) (omega (arith, number_is h 6, h.fine.chars_most))
       (rw strings-less at g) q
-
--- left as they are
-pub parts-left : {p e n : List ℕ} {b : Bool} (i k : ℕ) → b ≡ false → Stands p e n → HoldsState p e n (on_store (past (nth (reading b) i) k) (state_at p e n))
-unfolding on_store past past_by
-parts-left i k q h = rw q h
 
 -- components at the end or in front
 abbrev added : Bool → List Component → List Component → List Component
@@ -156,54 +149,49 @@ unfolding into placed put_expr
 added-into true i xs s = refl
 added-into false i xs s = refl
 
-module _ {p e n : List ℕ} {sc i : ℕ} {new : List ℕ} {k c : ℕ} (pre : PartsWritable p e n sc i new k c) (b : Bool) where
+module _ {t : List (List ℕ)} {n : List ℕ} {s : State} (h : Lies t n s) {i : ℕ} {new : List ℕ} {k c : ℕ} (pre : PartsWritable s i new k c) (b : Bool) where
   abbrev xs : List Component
   xs = components_in new
 
   abbrev ys : List Component
-  ys = expr (state_at p e n).store (nth E i)
+  ys = expr s.store (nth E i)
 
-  parts_more : components_held (state_at p e n).store + k + length ys ≡ components_held (state_at p e n).store + length (added b xs ys)
+  parts_more : components_held s.store + k + length ys ≡ components_held s.store + length (added b xs ys)
   parts_more = omega (arith, added-length b xs ys, pre.count)
 
-  chars-more : chars_held (state_at p e n).store + c + char_count ys ≡ chars_held (state_at p e n).store + char_count (added b xs ys)
+  chars-more : chars_held s.store + c + char_count ys ≡ chars_held s.store + char_count (added b xs ys)
   chars-more = omega (arith, added-chars b xs ys, pre.chars_is)
 
   all_ok : Each Ok (added b xs ys)
-  all_ok = added-ok b xs ys pre.whole.all_ok (expr-encoded (state_at p e n) pre.stands.fine i pre.index).all_ok
+  all_ok = added-ok b xs ys pre.whole.all_ok (expr-encoded s h.fine i pre.index).all_ok
 
   pub parts-raisable : Raisable n k c
   parts-raisable =
-      let h = pre.stands in
       record {
         long = numbers-long h;
         components = omega (arith, number_is h 5, pre.components_room);
         characters = omega (arith, number_is h 6, pre.chars_room);
       }
 
-  strings-more : pushed b i new (abs p e) ≡ set (strings (state_at p e n)) i (components_bytes (added b xs ys))
+  strings-more : pushed b i new t ≡ set (strings s) i (components_bytes (added b xs ys))
   strings-more =
-      ap (λ (l : List ℕ). pushed b i l (abs p e)) pre.whole.is
-      ∙ rw pre.stands.holds.is (added-bytes b xs i (strings (state_at p e n)) ys (expr-encoded (state_at p e n) pre.stands.fine i pre.index).is)
+      ap (λ (l : List ℕ). pushed b i l t) pre.whole.is
+      ∙ rw h.strings_is (added-bytes b xs i (strings s) ys (expr-encoded s h.fine i pre.index).is)
 
-  pub parts-pushable : Pushable p e i (length new) sc
+  pub parts-pushable : Pushable t i (length new)
   parts-pushable =
-      let h = pre.stands in
-      let s = state_at p e n in
       let l : List ℕ = components_bytes (added b xs ys) in
       let c' = components_held s.store + k in
       let d' = chars_held s.store + c in
       pushable h (on_store (put_expr (nth E i) (added b xs ys)) s)
       (fine-then s h.fine i pre.index (added b xs ys) c' d' parts_more chars-more all_ok pre.components_room pre.chars_room)
       i l (strings-then s h.fine i pre.index (added b xs ys) c' d' parts_more chars-more) (omega (arith, pre.index))
-      (omega (arith, added-long b xs ys, ap length pre.whole.is, ap length (expr-encoded s h.fine i pre.index).is)) pre.spare
+      (omega (arith, added-long b xs ys, ap length pre.whole.is, ap length (expr-encoded s h.fine i pre.index).is))
 
-  pub parts-written : {p' e' n' : List ℕ} → Holds p' e' (pushed b i new (abs p e)) → n' ≡ totalled (get_or n layout.components_scalar 0 + k) (get_or n layout.characters_scalar 0 + c) n
-      → HoldsState p' e' n' (on_store (into (nth (writing b) i) (components_in new)) (state_at p e n))
+  pub parts-written : {t' : List (List ℕ)} {n' : List ℕ} → t' ≡ pushed b i new t → n' ≡ totalled (get_or n layout.components_scalar 0 + k) (get_or n layout.characters_scalar 0 + c) n
+      → Lies t' n' (on_store (into (nth (writing b) i) (components_in new)) s)
   unfolding on_store
   parts-written {n' = n'} g q =
-      let h = pre.stands in
-      let s = state_at p e n in
       let q' : n' ≡ totalled (components_held s.store + k) (chars_held s.store + c) n = q ∙ rw (number_is h 5, number_is h 6) in
       rw (added-into b i xs s.store)
       (holds-expr s h.fine i pre.index (added b xs ys) (components_held s.store + k) (chars_held s.store + c) parts_more chars-more

@@ -10,7 +10,6 @@ use borrow.Author.Tests.{le-leb}
 use Rattle.store.specs.Below.Lists.{total, all}
 use Rattle.store.specs.Below.ListLaws.{total-append, total-set, all-total, failing}
 use Rattle.store.specs.Below.Limits as limit
-use Rattle.store.specs.Below.Letters.Letter.{P}
 use Rattle.store.specs.Below.Program.{Arg}
 use Rattle.store.specs.Below.LanguageValues.{Component, Record, File, Store, State, chars, empty_file}
 use Rattle.store.specs.Below.LanguageValues.Component.{word, address}

@@ -4,8 +4,10 @@ pub mod Strings
 pub mod Scalars
 pub mod Fineness
 pub mod Expressions
-pub mod Exchanges
 pub mod Beside
+pub mod Exchanges
+pub mod Autos
+pub mod Lists
 pub mod Ties
 pub mod Fits
 pub mod Freed

@@ -10,7 +10,7 @@ use Rattle.store.specs.Below.Limits as limit
 use Rattle.store.specs.Below.Letters.Letter.{E}
 use Rattle.store.specs.Below.LanguageValues.{Store, State}
 use Rattle.store.specs.Below.MachineArguments.{expr}
-use Rattle.store.specs.Below.LayoutMemory.{scalars, strings}
+use Rattle.store.specs.Below.LayoutMemory.{scalars, strings, state_by}
 use Rattle.store.proofs.Below.MemoryLaws.{length-strings, state_by-back, string-output, expr-encoded}
 use Rattle.store.proofs.Below.ComponentLaws.{components-of, whole-components}
 use Rattle.store.proofs.Below.LayoutCellLaws.{each_at}
@@ -19,11 +19,11 @@ use Rattle.store.specs.Below.LayoutBounds.{Each, Encoded, Fine}
 use Rattle.store.specs.Below.Strings.{used}
 use Rattle.store.specs.Below.LayoutPlaces as layout
 use Rattle.store.proofs.Below.Index.{used-set}
-use Rattle.store.specs.Below.Pool.{abs, string}
-use Rattle.store.specs.Store.{Named, Long, Whole, Pushable}
+use Rattle.store.specs.Below.Pool.{string}
+use Rattle.strings.specs.Strings.{Pushable}
 use Rattle.store.specs.Below.LayoutPlaces.{output_string}
-use Rattle.state.specs.Working.{state_at, HoldsState, Stands, on_store, nth}
-use Rattle.state.specs.Blocks.{Numbered, Told, InputNamed, ReadTo, ExprNamed, ExprLent, OutputNamed, OutputLong}
+use Rattle.state.specs.Working.{Lies, LiesSo, HoldsState, Stands, on_store, nth}
+use Rattle.state.specs.Blocks.{Told, ReadTo, ExprLent, OutputLong}
 
 sign-most : (b : Bool) → cond b 1 0 ≤ limit.addresses
 sign-most true = omega arith
@@ -33,17 +33,12 @@ sign-is : (b : Bool) → eqb (cond b 1 0) 1 ≡ b
 sign-is true = refl
 sign-is false = refl
 
-module _ {p e n : List ℕ} {s : State} (h : HoldsState p e n s) where
-  pub state_of : state_at p e n ≡ s
-  unfolding state_at
-  state_of = rw (h.holds.is, h.numbers) (state_by-back s h.fine)
+module _ {t : List (List ℕ)} {n : List ℕ} {s : State} (h : Lies t n s) where
+  pub state_of : state_by t n ≡ s
+  state_of = rw (h.strings_is, h.numbers) (state_by-back s h.fine)
 
-  pub stands : Stands p e n
-  stands = subst (λ (t : State). HoldsState p e n t) (sym state_of) h
-
-  -- a change of what this memory holds is the same change of s
-  pub after-state : {p' e' n' : List ℕ} (f : State → State) → HoldsState p' e' n' (f (state_at p e n)) → HoldsState p' e' n' (f s)
-  after-state {p'} {e'} {n'} f k = subst (λ (t : State). HoldsState p' e' n' (f t)) state_of k
+  pub stands : LiesSo t n
+  stands = subst (λ (x : State). Lies t n x) (sym state_of) h
 
   -- the scalars and the strings in it
   pub numbers-long : length n ≡ 8
@@ -76,60 +71,63 @@ module _ {p e n : List ℕ} {s : State} (h : HoldsState p e n s) where
   pub plus-is : eqb (get_or n layout.plus_scalar 0) 1 ≡ s.store.plus
   plus-is = rw h.numbers (sign-is s.store.plus)
 
-  pub string-is : (i : ℕ) → string i (abs p e) ≡ string i (strings s)
-  string-is i = ap (string i) h.holds.is
-
-  pub named : (i : ℕ) → i < layout.strings_count → Named p e i
-  named i b = record { fine = h.holds.fine; index = b }
+  pub string-is : (i : ℕ) → string i t ≡ string i (strings s)
+  string-is i = ap (string i) h.strings_is
 
   -- m bytes more have room at string i, where a fine state has string i that much longer
-  pub pushable : (t : State) → Fine t → (i : ℕ) (v : List ℕ) → strings t ≡ set (strings s) i v → i < layout.strings_count → {m sc : ℕ}
-      → m + length (string i (strings s)) ≤ length v → 65536 ≤ sc → Pushable p e i m sc
-  pushable t f i v q b w x =
+  pub pushable : (y : State) → Fine y → (i : ℕ) (v : List ℕ) → strings y ≡ set (strings s) i v → i < layout.strings_count → {m : ℕ}
+      → m + length (string i (strings s)) ≤ length v → Pushable t i m
+  pushable y f i v q b w =
       let l : i < length (strings s) = rw (length-strings s h.fine) b in
       record {
-        fine = h.holds.fine;
         index = b;
-        total = omega (arith, fine-room t f, ap used q, used-set (strings s) i v l, ap used h.holds.is);
-        spare = x;
+        total = omega (arith, fine-room y f, ap used q, used-set (strings s) i v l, ap used h.strings_is);
       }
+
+-- what a closed value is
+pub becomes : {t : List (List ℕ)} {n : List ℕ} {s : State} → Lies t n s → HoldsState (state_by t n) s
+becomes h = record { is = state_of h; fine = h.fine }
+
+pub stood : {t : List (List ℕ)} {n : List ℕ} {s : State} → LiesSo t n → state_by t n ≡ s → Stands s
+stood h q = record { is = refl; fine = subst Fine q h.fine }
+
+-- a change of what is held is the same change of s
+pub after-state : {w w' s : State} → HoldsState w s → (f : State → State) → HoldsState w' (f w) → HoldsState w' (f s)
+after-state {w} {w'} {s} h f k = subst (λ (x : State). HoldsState w' (f x)) h.is k
 
 -- two changes of the store alone in one
 pub on-store-twice : (f g : Store → Store) (s : State) → on_store g (on_store f s) ≡ on_store (λ t. g (f t)) s
 unfolding on_store
 on-store-twice f g s = refl
 
+-- strings and scalars that stand hold the state that they are read as
+pub held : {t : List (List ℕ)} {n : List ℕ} {s : State} → LiesSo t n → state_by t n ≡ s → Lies t n s
+held {t} {n} k q = subst (λ (x : State). Lies t n x) q k
+
 -- what the readers tell
-pub told : {p e n : List ℕ} {k r : ℕ} → Numbered p e n k → r ≡ get_or n k 0 → Told p e n k r
-told {k = k} pre q = record { is = q ∙ number_is pre.stands k; most = rw q (number_most pre.stands k) }
+pub told : {t : List (List ℕ)} {n : List ℕ} {s : State} (h : Lies t n s) {k r : ℕ} → r ≡ get_or n k 0 → Told s k r
+told h {k} q = record { stands = record { is = refl; fine = h.fine }; is = q ∙ number_is h k; most = rw q (number_most h k) }
+
+pub expr-lent : {t : List (List ℕ)} {n : List ℕ} {s : State} (h : Lies t n s) {i : ℕ} {r : List ℕ} → i < limit.expressions → r ≡ string i t → length r ≤ 32768 → ExprLent s i r
+expr-lent {s = s} h {i} {r} b w m =
+    let x = expr-encoded s h.fine i b in
+    let c : Encoded r (expr s.store (nth E i)) = record { is = w ∙ string-is h i ∙ x.is; all_ok = x.all_ok } in
+    record { stands = record { is = refl; fine = h.fine }; encoded = c; whole = whole-components c; is = components-of c; most = m }
 
 place_of : (m : List ℕ) (h : ℕ) (ps t : List ℕ) → m ≡ (h ∷ get_or ps 0 0 ∷ get_or ps 1 0 ∷ t) → (k : ℕ) → k < 2 → get_or m (1 + k) 0 ≡ get_or ps k 0
 place_of m h ps t q zero b = rw q
 place_of m h ps t q (suc zero) b = rw q
 place_of m h ps t q (suc (suc k)) b = absurd (omega arith)
 
-pub place_is : {p e n : List ℕ} {i : ℕ} → Stands p e n → i < limit.inputs → get_or n (1 + i) 0 ≡ get_or (state_at p e n).store.places i 0
-place_is {p} {e} {n} {i} h b =
-    let s = state_at p e n in
-    place_of n (cond s.store.plus 1 0) s.store.places (drop 3 (scalars s)) h.numbers i b
+pub place_is : {t : List (List ℕ)} {n : List ℕ} {s : State} {i : ℕ} → Lies t n s → i < limit.inputs → get_or n (1 + i) 0 ≡ get_or s.store.places i 0
+place_is {n = n} {s = s} {i = i} h b = place_of n (cond s.store.plus 1 0) s.store.places (drop 3 (scalars s)) h.numbers i b
 
-pub read-to : {p e n : List ℕ} {i r : ℕ} → InputNamed p e n i → r ≡ get_or n (1 + i) 0 → ReadTo p e n i r
-read-to {p} {e} {n} {i} {r} pre q =
-    let h = pre.stands in
-    let s = state_at p e n in
-    let x : r ≡ get_or s.store.places i 0 = q ∙ place_is h pre.index in
-    record { is = x; most = rw x (each_at (λ k. k ≤ limit.input) 0 (omega arith) s.store.places h.fine.places_ok i) }
+pub read-to : {t : List (List ℕ)} {n : List ℕ} {s : State} (h : Lies t n s) {i r : ℕ} → i < limit.inputs → r ≡ get_or n (1 + i) 0 → ReadTo s i r
+read-to {s = s} h {i} {r} b q =
+    let x : r ≡ get_or s.store.places i 0 = q ∙ place_is h b in
+    record { stands = record { is = refl; fine = h.fine }; is = x; most = rw x (each_at (λ k. k ≤ limit.input) 0 (omega arith) s.store.places h.fine.places_ok i) }
 
-pub expr-lent : {p e n : List ℕ} {i : ℕ} {r : List ℕ} → ExprNamed p e n i → Whole p e i r → ExprLent p e n i r
-expr-lent {p} {e} {n} {i} {r} pre w =
-    let h = pre.stands in
-    let x = expr-encoded (state_at p e n) h.fine i pre.index in
-    let c : Encoded r (expr (state_at p e n).store (nth E i)) = record { is = w.is ∙ string-is h i ∙ x.is; all_ok = x.all_ok } in
-    record { encoded = c; whole = whole-components c; is = components-of c; most = w.most }
-
-pub output-long : {p e n : List ℕ} {i r : ℕ} → OutputNamed p e n i → Long p e (output_string i) r → OutputLong p e n i r
-output-long {p} {e} {n} {i} {r} pre l =
-    let h = pre.stands in
-    let s = state_at p e n in
-    let q : r ≡ length (get_or s.store.outputs i []) = l.is ∙ ap length (string-is h (output_string i) ∙ string-output s h.fine i) in
-    record { is = q; most = rw q (each_at (λ o. length o ≤ limit.output) [] (omega arith) s.store.outputs h.fine.outputs_ok i) }
+pub output-long : {t : List (List ℕ)} {n : List ℕ} {s : State} (h : Lies t n s) {i r : ℕ} → r ≡ length (string (output_string i) t) → OutputLong s i r
+output-long {s = s} h {i} {r} l =
+    let q : r ≡ length (get_or s.store.outputs i []) = l ∙ ap length (string-is h (output_string i) ∙ string-output s h.fine i) in
+    record { stands = record { is = refl; fine = h.fine }; is = q; most = rw q (each_at (λ o. length o ≤ limit.output) [] (omega arith) s.store.outputs h.fine.outputs_ok i) }

@@ -1,4 +1,5 @@
 pub mod Working
 pub mod Blocks
+pub mod Lists
 pub mod Limited
 pub mod Below

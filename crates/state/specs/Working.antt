@@ -8,21 +8,24 @@ use Rattle.store.specs.Below.Program.Arg.{letter}
 use Rattle.store.specs.Below.LanguageValues.{Component, Record, File, Store, State, chars}
 use Rattle.store.specs.Below.LayoutBounds.{Fine}
 use Rattle.store.specs.Below.LayoutMemory.{scalars, strings, state_by}
-use Rattle.store.specs.Below.Pool.{abs, Holds}
 
--- the state of the strings that pool p and ends e hold, and of the scalars n
-unfoldable pub state_at : List ℕ → List ℕ → List ℕ → State
-state_at p e n = state_by (abs p e) n
-
--- the working memory holds the state s
-pub record HoldsState (p e n : List ℕ) (s : State) : Type 0 where
-  pub holds : Holds p e (strings s)
+-- strings t and scalars n are those of the state s
+pub record Lies (t : List (List ℕ)) (n : List ℕ) (s : State) : Type 0 where
+  pub strings_is : t ≡ strings s
   pub numbers : n ≡ scalars s
   pub fine : Fine s
 
--- it holds a state
-abbrev pub Stands : List ℕ → List ℕ → List ℕ → Type 0
-Stands p e n = HoldsState p e n (state_at p e n)
+-- they are those of a state
+abbrev pub LiesSo : List (List ℕ) → List ℕ → Type 0
+LiesSo t n = Lies t n (state_by t n)
+
+-- a value is the state s, which is fine
+pub record HoldsState (w s : State) : Type 0 where
+  pub is : w ≡ s
+  pub fine : Fine s
+
+abbrev pub Stands : State → Type 0
+Stands w = HoldsState w w
 
 -- a change of the store alone
 unfoldable pub on_store : (Store → Store) → State → State

@@ -1,17 +1,20 @@
 -- The component in front of an expression, in its bytes; and the entry of a switch that it names.
 use mathlib.Core.Path.{◌≡◌, refl, sym, ap, ◌∙◌, subst}
-use mathlib.Core.Bool.{Bool, true, false}
+use mathlib.Core.Bool.{Bool, true, false, ◌&&◌}
 use mathlib.Core.List.{List, [], ◌∷◌}
-use Prim.Native.Nat.{ℕ, zero, suc, ◌+◌, ◌-◌, ◌≤◌, ◌<◌}
+use Prim.Native.Nat.{ℕ, zero, suc, pred, ◌+◌, ◌-◌, ◌≤◌, ◌<◌}
 use native.Mathlib.Omega.{arith}
-use lib.Dec.{T}
-use lib.IntN.{ℤ, pos, negsuc}
+use lib.Dec.{T, eqb, leb}
+use lib.IntN.{ℤ, pos, negsuc, nat_abs}
 use lib.ListN.{length, take, drop}
-use borrow.Author.Tests.{lt-ltb, le-ltb, eq-eqb, ne_eqb}
+use lib.Signed.{lt_z}
+use borrow.Author.Tests.{le-leb, lt-leb, lt-ltb, eq-eqb, ne_eqb, eqb-true}
+use Rattle.std.specs.Prelude.{Option, Some, None, position}
 use Rattle.lists.specs.Lists.{filled}
+use Rattle.lists.specs.SearchLaws.{ahead-is}
 use Rattle.language.specs.Limits as limit
 use Rattle.language.specs.Letters.Letter.{E}
-use Rattle.language.specs.Program.{Entry, target_of}
+use Rattle.language.specs.Program.{Entry, target_of, meets}
 use Rattle.language.specs.Values.{Component, Store, State, chars, value, kind}
 use Rattle.machine.specs.Arguments.{expr, first, needs}
 use Rattle.machine.specs.Changes.{past, used, used_by}
@@ -23,19 +26,36 @@ use Rattle.layout.specs.Table.{label_in, entry_in, program_of}
 use Rattle.packed.specs.Packed.{table_of}
 use Rattle.components.specs.Parts.{first_size, Leading, LentChars}
 use Rattle.components.proofs.Walks.{first_is}
-use Rattle.state.specs.Working.{state_at, HoldsState, on_store, nth, reading}
+use Rattle.state.specs.Working.{HoldsState, on_store, nth, reading}
 use Rattle.state.specs.Blocks.{ExprLent, PartsDroppable}
 use Rattle.table.specs.Good.{GoodSwitch}
 use Rattle.table.specs.GoodLaws.{switch-length, switch-entries, switch-entry, entry-target, entry-label}
-use Rattle.table.specs.Reads.{Place, switch_first, switch_size, Entries, entries_from, met}
+use Rattle.table.specs.Reads.{switch_first, switch_size, entries_from}
 use Rattle.instructions.specs.Does.{stop_of}
-use Rattle.switches.specs.Switches.{front, entries_at, first_met, Entered, PlaceOf, Goal}
+use Rattle.instructions.proofs.Answers.{unstopped}
+use Rattle.switches.specs.Switches.{front, entries_at, met_entry, numbered_entry, Entered, Goal}
+
+-- ---- what is asked of the component in front
+
+and-true : (a : Bool) → (a && true) ≡ true → a ≡ true
+and-true true q = refl
+and-true false q = q
+
+kind_of-first : (xs : List Component) → filled xs ≡ true → needs 1 xs 53 ≡ true → kind (first xs) ≡ 1
+kind_of-first [] f q = absurd (subst T (sym f) tt)
+kind_of-first (x ∷ xs) f q = eqb-true (kind x) 1 (and-true (eqb (kind x) 1) q)
+
+pub some-front : (s : Store) (i k : ℕ) → 0 ≡ stop_of (needs k (front s i)) → filled (front s i) ≡ true
+some-front s i k q = and-true (filled (front s i)) (unstopped (needs k (front s i)) (sym q)).0
+
+pub number-front : (s : Store) (i : ℕ) → 0 ≡ stop_of (needs 1 (front s i)) → kind (first (front s i)) ≡ 1
+number-front s i q = kind_of-first (front s i) (some-front s i 1 q) (unstopped (needs 1 (front s i)) (sym q)).1
 
 -- ---- the bytes of an expression
 
-module _ {p e n : List ℕ} {i : ℕ} {x : List ℕ} (l : ExprLent p e n i x) where
+module _ {σ : State} {i : ℕ} {x : List ℕ} (l : ExprLent σ i x) where
   abbrev s : Store
-  s = (state_at p e n).store
+  s = σ.store
 
   parts_are : (length x ≡ 0 → ⊥) → expr s (nth E i) ≡ component_in x ∷ components_in (drop (component_size (cell x 0)) x)
   parts_are z = sym l.is ∙ (next-component l.whole (omega (arith, z))).is
@@ -67,11 +87,10 @@ module _ {p e n : List ℕ} {i : ℕ} {x : List ℕ} (l : ExprLent p e n i x) wh
     pub first-there : first (front s i) ≡ component_in x
     first-there = ap first (front-one some-there)
 
-    pub droppable : {size : ℕ} {w : List ℕ} → Number (first_size x) 257 size → LentChars (component_in x) w → i < limit.expressions → HoldsState p e n (state_at p e n)
-        → PartsDroppable p e n i 1 size (length w)
-    droppable {size} {w} a b j h =
+    pub droppable : {size : ℕ} {w : List ℕ} → Number (first_size x) 257 size → LentChars (component_in x) w → i < limit.expressions
+        → PartsDroppable σ i 1 size (length w)
+    droppable {size} {w} a b j =
         record {
-          stands = h;
           index = j;
           first = record {
             most = rw (parts_are some-there) (omega arith);
@@ -82,8 +101,8 @@ module _ {p e n : List ℕ} {i : ℕ} {x : List ℕ} (l : ExprLent p e n i x) wh
 
 -- ---- using it is reading past one component
 
-pub used-front : {p' e' n' : List ℕ} (b : Bool) (i : ℕ) (t : State) → HoldsState p' e' n' (on_store (past (nth (reading b) i) 1) t)
-    → HoldsState p' e' n' (on_store (used (nth (reading b) i)) t)
+pub used-front : {σ' : State} (b : Bool) (i : ℕ) (t : State) → HoldsState σ' (on_store (past (nth (reading b) i) 1) t)
+    → HoldsState σ' (on_store (used (nth (reading b) i)) t)
 unfolding on_store used used_by past
 used-front true i t h = h
 used-front false i t h = h
@@ -94,51 +113,61 @@ module _ {c : List ℕ} {k : ℕ} (g : GoodSwitch c k) where
   abbrev t : List ℕ
   t = table_of c
 
-  pub switch-placed : Place c k 32
-  switch-placed = record { long = g.entries.long; below = g.few }
-
   module _ {f m : ℕ} (a : Number (switch_first t k) 8388608 f) (b : Number (switch_size t k) 256 m) where
-    pub its-entries : Entries c f m
-    its-entries = rw (a.is, b.is) g.entries
-
-    pub found : (u : Store) (i : ℕ) {w : List ℕ} {r : ℕ} → w ≡ chars (first (front u i)) → r ≡ met c w (entries_from t f m) → r ≡ first_met c k u i
+    pub found : (u : Store) (i : ℕ) {w : List ℕ} {o : Option ℕ} → w ≡ chars (first (front u i)) → o ≡ position (λ x. meets (program_of c) x w) (entries_from t f m)
+        → o ≡ met_entry c k u i
     found u i q h =
         let v = chars (first (front u i)) in
-        h ∙ ap (λ (y : List ℕ). met c y (entries_from t f m)) q ∙ ap (λ (y : ℕ). met c v (entries_from t y m)) a.is
-        ∙ ap (λ (y : ℕ). met c v (entries_from t (switch_first t k) y)) b.is ∙ ap (λ (es : List Entry). met c v es) (sym (switch-entries c k g))
+        h ∙ ap (λ (y : List ℕ). position (λ x. meets (program_of c) x y) (entries_from t f m)) q
+        ∙ ap (λ (y : ℕ). position (λ x. meets (program_of c) x v) (entries_from t y m)) a.is
+        ∙ ap (λ (y : ℕ). position (λ x. meets (program_of c) x v) (entries_from t (switch_first t k) y)) b.is
+        ∙ ap (λ (es : List Entry). position (λ x. meets (program_of c) x v) es) (sym (switch-entries c k g))
+        ∙ rw (ahead-is (λ x. meets (program_of c) x v) (entries_at c k)) refl
 
   pub many : length (entries_at c k) ≡ switch_size t k
   many = switch-length c k g
 
 -- ---- the entry by a number
 
-place_none : (z : ℤ) (m v : ℕ) → v ≡ code z → v ≤ 8388607 → PlaceOf z m m
+-- of m entries, the number z with the code v has none, or that one
+below-none : (z : ℤ) (m v : ℕ) → v ≡ code z → v < 8388608 → (lt_z (pos 0) z && leb (nat_abs z) m) ≡ false
 unfolding code
-place_none (pos zero) m v q b = record { inside = rw (le-ltb m m (omega arith)) refl; is = λ h. absurd (omega (arith, h)) }
-place_none (pos (suc n)) m v q b = absurd (omega (arith, q))
-place_none (negsuc n) m v q b = record { inside = rw (le-ltb m m (omega arith)) refl; is = λ h. absurd (omega (arith, h)) }
+below-none (pos zero) m v q b = refl
+below-none (pos (suc n)) m v q b = absurd (omega (arith, q))
+below-none (negsuc n) m v q b = refl
 
-place-some : (z : ℤ) (m v : ℕ) → v ≡ code z → 8388607 < v → PlaceOf z m (v - 8388608)
+above-is : (z : ℤ) (m v : ℕ) → v ≡ code z → 8388608 ≤ v → ((lt_z (pos 0) z && leb (nat_abs z) m) ≡ leb (suc (v - 8388608)) m) × (pred (nat_abs z) ≡ v - 8388608)
 unfolding code
-place-some (pos zero) m v q b = absurd (omega (arith, q))
-place-some (pos (suc n)) m v q b =
+above-is (pos zero) m v q b = absurd (omega (arith, q))
+above-is (pos (suc n)) m v q b =
     let r : v - 8388608 ≡ n = omega (arith, q) in
-    rw r record { inside = rw (lt-ltb 0 (suc n) (omega arith)) refl; is = λ h. refl }
-place-some (negsuc n) m v q b = absurd (omega (arith, q))
+    (rw (lt-ltb 0 (suc n) (omega arith)) (ap (λ (y : ℕ). leb (suc y) m) (sym r)), sym r)
+above-is (negsuc n) m v q b = absurd (omega (arith, q))
 
-module _ {p e n : List ℕ} {i : ℕ} {x : List ℕ} (l : ExprLent p e n i x) (f : filled (front (state_at p e n).store i) ≡ true) {v : ℕ}
+module _ {c : List ℕ} {k : ℕ} (g : GoodSwitch c k) {σ : State} {i : ℕ} {x : List ℕ} (l : ExprLent σ i x) (f : filled (front σ.store i) ≡ true) {v : ℕ}
     (q : Number (code (value (component_in x))) 16777216 v) where
   abbrev z : ℤ
-  z = value (first (front (state_at p e n).store i))
+  z = value (first (front σ.store i))
+
+  abbrev n : ℕ
+  n = length (entries_at c k)
 
   code-there : v ≡ code z
   code-there = q.is ∙ ap (λ (y : Component). code (value y)) (sym (first-there l f))
 
-  pub number-none : {m r : ℕ} → Number m 256 r → v ≤ 8388607 → PlaceOf z m r
-  number-none {m} {r} a h = rw a.is (place_none z m v code-there h)
+  pub number-none : v < 8388608 → None ≡ numbered_entry c k σ.store i
+  number-none h = rw (below-none z n v code-there h) refl
 
-  pub number-some : (m : ℕ) → 8388607 < v → PlaceOf z m (v - 8388608)
-  number-some m h = place-some z m v code-there h
+  module _ {m : ℕ} (a : Number (switch_size (table_of c) k) 256 m) (h : 8388608 ≤ v) where
+    pub number_past : m ≤ v - 8388608 → None ≡ numbered_entry c k σ.store i
+    number_past w =
+        let e = (above-is z n v code-there h).0 in
+        rw (e, lt-leb (suc (v - 8388608)) n (omega (arith, a.is, many g))) refl
+
+    pub number-some : v - 8388608 < m → Some (v - 8388608) ≡ numbered_entry c k σ.store i
+    number-some w =
+        let e = above-is z n v code-there h in
+        rw (e.0, e.1, le-leb (suc (v - 8388608)) n (omega (arith, a.is, many g))) refl
 
 -- ---- where an entry leads
 
@@ -146,13 +175,7 @@ module _ {c : List ℕ} {k j : ℕ} (w : Entered c k j) {f : ℕ} (a : Number (s
   abbrev g : GoodSwitch c k
   g = w.switch
 
-  pub entry-placed : Place c (f + j) 128
-  entry-placed = record { long = g.entries.long; below = omega (arith, a.is, g.entries.inside, w.below) }
-
   module _ {y : ℕ} (b : Number (entry_in (table_of c) (f + j)).label 128 y) where
-    pub label-placed : Place c y 128
-    label-placed = record { long = g.entries.long; below = b.most }
-
     pub leads-to : {r : ℕ} → Number (label_in (table_of c) y).target 67108864 r → Goal c k j r
     leads-to {r} d =
         let e = switch_first (table_of c) k + j in

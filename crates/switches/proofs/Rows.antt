@@ -1,116 +1,102 @@
 -- The rows of the instructions with a switch: that their functions do what they say.
 use mathlib.Core.Path.{◌≡◌, refl, sym, ◌∙◌, subst}
 use mathlib.Core.Bool.{Bool, true, false, cond, ◌&&◌}
-use mathlib.Core.List.{List, [], ◌∷◌}
-use Prim.Native.Nat.{ℕ, suc, pred, ◌≤◌, ◌<◌}
+use mathlib.Core.List.{List}
+use Prim.Native.Nat.{ℕ, zero, suc, pred, ◌<◌}
 use native.Mathlib.Omega.{arith}
-use lib.Dec.{T, leb, ltb, eqb}
-use lib.IntN.{ℤ, pos, nat_abs}
+use lib.Dec.{leb, leb→le, T}
+use lib.IntN.{ℤ, pos, negsuc, nat_abs}
 use lib.ListN.{length}
 use lib.Signed.{lt_z}
-use borrow.Author.Tests.{lt-ltb, le-ltb, lt-leb, eqb-true}
+use borrow.Author.Tests.{le-leb}
+use Rattle.std.specs.Prelude.{Option, Some, None}
+use Rattle.std.proofs.Common.{ltb-true}
+use Rattle.std.proofs.lemmas.Option.{none-some, cond_some}
+use Rattle.lists.specs.ListLaws.{T-right}
 use Rattle.lists.specs.Lists.{filled}
 use Rattle.language.specs.Limits as limit
 use Rattle.language.specs.Program.{Entry, no_entry, target_of, meets}
 use Rattle.language.specs.Program.Arg.{nothing, switch}
-use Rattle.language.specs.Program.Op.{SKONA, SKOIN, WYNA, WYIN, SZUKAJ}
-use Rattle.language.specs.Values.{Component, Store, State, Inputs, chars, value, kind}
+use Rattle.language.specs.Program.Op.{SZUKAJ}
+use Rattle.language.specs.Values.{Component, Store, State, Inputs, chars, value}
 use Rattle.machine.specs.Arguments.{first, none, ask, ◌&◌, needs}
 use Rattle.machine.specs.Changes.{with_plus, minus, used}
 use Rattle.machine.specs.Effects.{Go, Row, relation, by_name, by_index, row}
-use Rattle.machine.specs.Effects.Go.{on, jump, call}
+use Rattle.machine.specs.Effects.Go.{on, jump}
 use Rattle.machine.specs.Steps.{can_go}
-use Rattle.cells.specs.Cells.{Number}
 use Rattle.layout.specs.Table.{program_of}
-use Rattle.packed.specs.Packed.{table_of}
-use Rattle.state.specs.Working.{state_at, HoldsState, on_store, nth, reading}
-use Rattle.state.specs.Blocks.{ExprNamed}
-use Rattle.state.proofs.Standing.{state_of, stands, after-state}
-use Rattle.control.specs.Going.{going, Deep, Following, Reachable, Callable}
-use Rattle.control.proofs.Laws.{made-going, made_after}
+use Rattle.state.specs.Working.{HoldsState, Stands, on_store, nth, reading}
+use Rattle.state.proofs.Standing.{after-state}
+use Rattle.control.specs.Going.{going}
+use Rattle.control.proofs.Laws.{made_after}
 use Rattle.table.specs.MetLaws.{keep-first, keep-filled}
-use Rattle.table.specs.Reads.{switch_size}
 use Rattle.instructions.specs.Does.{Quiet, stop_of, Goes, DoesIn, GoesIn}
 use Rattle.instructions.proofs.Answers.{stop_by, unstopped, goes-stop, quiet-stop, quiet-done}
-use Rattle.instructions.proofs.Goings.{Yes, none-yes, answer-first, answer-outside, goes-made, goes-full, goes-yes}
-use Rattle.switches.specs.Switches.{front, entries_at, first_met, entry_goal, entry_row, Fronted, Searchable, Countable, Entered, EntryCall, Looks, Switches, PlaceOf, Goal}
-use Rattle.switches.proofs.Fronts.{many}
+use Rattle.instructions.proofs.Goings.{Yes, none-yes, answer-first, answer-outside, goes-made, goes-yes}
+use Rattle.jumps.specs.Jumps.{Led}
+use Rattle.jumps.proofs.Leading.{led-full}
+use Rattle.switches.specs.declared.Way.{Way}
+use Rattle.switches.specs.declared.Way.TheVariants.{Jump, Call}
+use Rattle.switches.specs.Switches.{going_by, missing, word_op, number_op, front, entries_at, first_met, is_met, met_entry, is_inside, numbered_entry, entry_goal, entry_row, Fronted, EntryGo, Switches, Goal}
+use Rattle.switches.proofs.Fronts.{some-front, many}
 
 -- ---- going by an entry
 
-module _ {p e n : List ℕ} {i : ℕ} (f : Fronted p e n i) where
-  abbrev st : State
-  st = state_at p e n
+can_lead : (way : Way) (t : ℕ) (st : List ℕ) → can_go (going_by way t) st ≡ true
+can_lead Jump t st = refl
+can_lead Call t st = refl
 
-  -- the component in front stays where it is
-  pub fronted-after : {p' e' n' : List ℕ} (g : Go) → HoldsState p' e' n' (going g st) → Fronted p' e' n' i
-  unfolding going
-  fronted-after g h =
-      record {
-        stands = stands h;
-        index = f.index;
-        some = subst (λ (t : State). filled (front t.store i) ≡ true) (sym (state_of h)) f.some;
-      }
+-- a jump is always made, and leaves the store as it is
+pub led-jump : {σ σ' : State} {t : ℕ} → HoldsState σ' (going (jump t) σ) → Led σ (jump t) 0 σ'
+unfolding going
+led-jump {σ} h = let q = le-leb (length σ.stack) limit.stack h.fine.stack_most in record { is = rw q refl; holds = rw q h }
 
-  -- gone by entry j of switch k, as `to` says
-  module _ {c : List ℕ} {k j : ℕ} (to : ℕ → Go) (y : (x : ℕ) → can_go (to x) st.stack ≡ true) (b : Bool) where
-    pub went-by : {p' e' n' p'' e'' n'' : List ℕ} {t : ℕ} → Goal c k j t → HoldsState p' e' n' (going (to t) st)
-        → HoldsState p'' e'' n'' (on_store (used (nth (reading b) i)) (state_at p' e' n')) → Goes p e n 0 p'' e'' n'' (entry_row to c k j st.store b i)
-    went-by q h m =
-        let g = to (entry_goal c k j) in
-        let a = nth (reading b) i in
-        goes-made f.stands (none, used a st.store, g) none-yes (y (entry_goal c k j))
-        (rw (made_after none (used a) g st) (after-state (rw q.is at h) (on_store (used a)) m))
+pub kept-store : {σ' s : State} → HoldsState σ' s → HoldsState σ' (on_store (missing Jump) s)
+unfolding on_store
+kept-store h = h
 
-  pub reachable : {c : List ℕ} {k j t : ℕ} → Goal c k j t → Reachable p e n t
-  reachable q = record { stands = f.stands; below = q.most }
+-- the component in front stays where it is
+pub fronted-after : {σ σ' : State} {i : ℕ} (g : Go) → Fronted σ i → HoldsState σ' (going g σ) → Fronted σ' i
+unfolding going
+fronted-after {i = i} g f h = record { index = f.index; some = subst (λ (t : State). filled (front t.store i) ≡ true) (sym h.is) f.some }
 
-module _ {c p e n : List ℕ} {sc i k j : ℕ} (w : EntryCall c p e n sc i k j) {d : ℕ} (q : Deep p e n d) where
-  pub callable : {t : ℕ} → Goal c k j t → (d ≡ limit.stack → ⊥) → Callable p e n sc t
-  callable g z =
-      record {
-        following = record { stands = w.jump.fronted.stands; below = w.following };
-        below = g.most;
-        room = omega (arith, q.is, q.most, z);
-        spare = w.spare;
-      }
+-- gone by entry j of switch k, or the return stack is full
+module _ {σ : State} (h : Stands σ) {c : List ℕ} (i : ℕ) {k j : ℕ} (way : Way) (b : Bool) {t : ℕ} (q : Goal c k j t) where
+  abbrev to_goal : Go
+  to_goal = going_by way (entry_goal c k j)
 
-  pub full : (b : Bool) → d ≡ limit.stack → Goes p e n 59 p e n (entry_row call c k j (state_at p e n).store b i)
-  full b z =
-      let s = state_at p e n in
-      goes-full w.jump.fronted.stands (none, used (nth (reading b) i) s.store, call (entry_goal c k j)) none-yes refl
-      (lt-leb (suc (length s.stack)) limit.stack (omega (arith, q.is, z)))
+  abbrev used_front : Store → Store
+  used_front = used (nth (reading b) i)
+
+  pub went-by : {σ' σ'' : State} → HoldsState σ' (going (going_by way t) σ) → HoldsState σ'' (on_store used_front σ')
+      → Goes σ 0 σ'' (entry_row (going_by way) c k j σ.store b i)
+  went-by g m =
+      goes-made h (none, used_front σ.store, to_goal) none-yes (can_lead way (entry_goal c k j) σ.stack)
+      (rw (made_after none used_front to_goal σ) (after-state (rw q.is at g) (on_store used_front) m))
+
+  pub went-full : {x : ℕ} {σ' : State} → Led σ (going_by way t) x σ' → (x ≡ 0 → ⊥) → Goes σ x σ' (entry_row (going_by way) c k j σ.store b i)
+  went-full w z = led-full h to_goal (can_lead way (entry_goal c k j) σ.stack) (rw q.is at w) (used_front σ.store) z
 
 -- ---- the rows
 
 module _ (c : List ℕ) (s : Store) (k i : ℕ) where
-  -- whether an entry is met, and what goes by it
-  abbrev is_met : Bool
-  is_met = ltb (first_met c k s i) (length (entries_at c k))
-
   abbrev test : Entry → Bool
   test e = meets (program_of c) e (chars (first (front s i)))
 
-  abbrev named_row : (ℕ → Go) → Store → Bool → Row
-  named_row to missed b =
-      (needs 0 (front s i), cond is_met (used (nth (reading b) i) s) missed, cond is_met (to (entry_goal c k (first_met c k s i))) on)
+  abbrev named_row : Way → Bool → Row
+  named_row way b =
+      (needs 0 (front s i), cond (is_met c k s i) (used (nth (reading b) i) s) (missing way s), cond (is_met c k s i) (going_by way (entry_goal c k (first_met c k s i))) on)
 
   abbrev search_row : Bool → Row
-  search_row b = (needs 0 (front s i), cond is_met (used (nth (reading b) i) s) (with_plus false s), on)
+  search_row b = (needs 0 (front s i), cond (is_met c k s i) (used (nth (reading b) i) s) (with_plus false s), on)
 
-  -- by the number in front
-  abbrev the_number : ℤ
-  the_number = value (first (front s i))
-
-  abbrev is_inside : Bool
-  is_inside = lt_z (pos 0) the_number && leb (nat_abs the_number) (length (entries_at c k))
-
-  abbrev index_row : (ℕ → Go) → Bool → Row
-  index_row to b =
-      (needs 1 (front s i) & ask 56 is_inside, used (nth (reading b) i) s, to (entry_goal c k (pred (nat_abs the_number))))
+  abbrev index_row : Way → Bool → Row
+  index_row way b =
+      (needs 1 (front s i) & ask 56 (is_inside c k s i), used (nth (reading b) i) s, going_by way (entry_goal c k (pred (nat_abs (value (first (front s i)))))))
 
   module _ (ins : Inputs) where
-    by_name-is : (to : ℕ → Go) (missed : Store) (b : Bool) → by_name (program_of c) ins s to missed (nth (reading b) i) (switch k) ≡ named_row to missed b
+    by_name-is : (to : ℕ → Go) (missed : Store) (b : Bool) → by_name (program_of c) ins s to missed (nth (reading b) i) (switch k)
+        ≡ (needs 0 (front s i), cond (is_met c k s i) (used (nth (reading b) i) s) missed, cond (is_met c k s i) (to (entry_goal c k (first_met c k s i))) on)
     unfolding by_name
     by_name-is to missed true =
         rw (
@@ -123,23 +109,17 @@ module _ (c : List ℕ) (s : Store) (k i : ℕ) where
           keep-first test no_entry on (λ e. to (target_of (program_of c) e)) (entries_at c k),
         ) refl
 
-    row-skona : (b : Bool) → row (program_of c) ins s (nth (reading b) i) (switch k) nothing SKONA ≡ named_row jump s b
-    unfolding row
-    row-skona b = by_name-is jump s b
-
-    row-wyna : (b : Bool) → row (program_of c) ins s (nth (reading b) i) (switch k) nothing WYNA ≡ named_row call (with_plus false s) b
+    row-word : (way : Way) (b : Bool) → row (program_of c) ins s (nth (reading b) i) (switch k) nothing (word_op way) ≡ named_row way b
     unfolding row minus
-    row-wyna b = by_name-is call (with_plus false s) b
+    row-word Jump b = by_name-is (going_by Jump) s b
+    row-word Call b = by_name-is (going_by Call) (with_plus false s) b
 
-    row-skoin : (b : Bool) → row (program_of c) ins s (nth (reading b) i) (switch k) nothing SKOIN ≡ index_row jump b
+    row-number : (way : Way) (b : Bool) → row (program_of c) ins s (nth (reading b) i) (switch k) nothing (number_op way) ≡ index_row way b
     unfolding row by_index
-    row-skoin true = refl
-    row-skoin false = refl
-
-    row-wyin : (b : Bool) → row (program_of c) ins s (nth (reading b) i) (switch k) nothing WYIN ≡ index_row call b
-    unfolding row by_index
-    row-wyin true = refl
-    row-wyin false = refl
+    row-number Jump true = refl
+    row-number Jump false = refl
+    row-number Call true = refl
+    row-number Call false = refl
 
     row-szukaj : (b : Bool) → row (program_of c) ins s (nth (reading b) i) (switch k) nothing SZUKAJ ≡ search_row b
     unfolding row relation minus
@@ -147,14 +127,6 @@ module _ (c : List ℕ) (s : Store) (k i : ℕ) where
     row-szukaj false = rw (keep-filled test no_entry (entries_at c k)) refl
 
 -- ---- what is asked of the component in front
-
-and-true : (a : Bool) → (a && true) ≡ true → a ≡ true
-and-true true q = refl
-and-true false q = q
-
-kind_of-first : (xs : List Component) → filled xs ≡ true → needs 1 xs 53 ≡ true → kind (first xs) ≡ 1
-kind_of-first [] f q = absurd (subst T (sym f) tt)
-kind_of-first (x ∷ xs) f q = eqb-true (kind x) 1 (and-true (eqb (kind x) 1) q)
 
 with-inside : (a b c : Bool) → stop_by a b c ≡ stop_by (a && true) (b && true) (c && true)
 with-inside true true true = refl
@@ -165,183 +137,134 @@ with-inside false b c = refl
 quiet-needs : (xs : List Component) → Quiet (needs 0 xs)
 quiet-needs xs = record { is_50 = refl; is_55 = refl; is_56 = refl; is_57 = refl; is_58 = refl; is_59 = refl; is_60 = refl }
 
-module _ {c p e n : List ℕ} {i k : ℕ} (w : Looks c p e n i k) where
-  abbrev here : State
-  here = state_at p e n
+module _ (kd : ℕ) (xs : List Component) (q : 0 ≡ stop_of (needs kd xs)) where
+  right : (needs kd xs 52 ≡ true) × (needs kd xs 53 ≡ true) × (needs kd xs 54 ≡ true)
+  right = unstopped (needs kd xs) (sym q)
 
+  needs-yes : Yes (needs kd xs)
+  needs-yes = (refl, (right.0, (right.1, (refl, (refl, (refl, (refl, (refl, (refl, (refl, tt))))))))))
+
+  inside-yes : {a : Bool} → a ≡ true → Yes (needs kd xs & ask 56 a)
+  inside-yes h = (refl, (rw right.0 refl, (rw right.1 refl, (refl, (refl, (h, (refl, (refl, (refl, (refl, tt))))))))))
+
+-- ---- the entry found: it is the first met, or none is
+
+unchosen : (b : Bool) (n : ℕ) → cond b (Some n) None ≡ None → b ≡ false
+unchosen true n e = absurd (none-some n (sym e))
+unchosen false n e = refl
+
+module _ (c : List ℕ) (s : Store) (k i : ℕ) {o : Option ℕ} where
+  module _ (f : o ≡ met_entry c k s i) where
+    met-there : {j : ℕ} → o ≡ Some j → (is_met c k s i ≡ true) × (first_met c k s i ≡ j)
+    met-there {j} e = cond_some (is_met c k s i) (first_met c k s i) j (sym f ∙ e)
+
+    none-met : o ≡ None → is_met c k s i ≡ false
+    none-met e = unchosen (is_met c k s i) (first_met c k s i) (sym f ∙ e)
+
+  module _ (f : o ≡ numbered_entry c k s i) where
+    abbrev place : ℕ
+    place = pred (nat_abs (value (first (front s i))))
+
+    inside-there : {j : ℕ} → o ≡ Some j → (is_inside c k s i ≡ true) × (place ≡ j)
+    inside-there {j} e = cond_some (is_inside c k s i) place j (sym f ∙ e)
+
+    none-inside : o ≡ None → is_inside c k s i ≡ false
+    none-inside e = unchosen (is_inside c k s i) place (sym f ∙ e)
+
+within : (z : ℤ) (n : ℕ) → T (lt_z (pos 0) z && leb (nat_abs z) n) → pred (nat_abs z) < n
+within (pos zero) n q = absurd q
+within (pos (suc m)) n q = leb→le (suc m) n (T-right (lt_z (pos 0) (pos (suc m))) (leb (suc m) n) q)
+within (negsuc m) n q = absurd q
+
+module _ {c : List ℕ} {σ : State} {i k : ℕ} (w : Switches c σ i k) where
+  entry_go : {j : ℕ} → filled (front σ.store i) ≡ true → j < length (entries_at c k) → EntryGo c σ i k j
+  entry_go f b =
+      record {
+        fronted = record { index = w.looks.index; some = f };
+        entered = record { good = w.good; switch = w.looks.switch; below = omega (arith, b, many w.looks.switch) };
+        following = w.following;
+      }
+
+  pub met-go : {o : Option ℕ} {j : ℕ} → 0 ≡ stop_of (needs 0 (front σ.store i)) → o ≡ met_entry c k σ.store i → o ≡ Some j → EntryGo c σ i k j
+  met-go q f e =
+      let m = met-there c σ.store k i f e in
+      entry_go (some-front σ.store i 0 q) (omega (arith, m.1, ltb-true (first_met c k σ.store i) (length (entries_at c k)) m.0))
+
+  pub inside-go : {o : Option ℕ} {j : ℕ} → 0 ≡ stop_of (needs 1 (front σ.store i)) → o ≡ numbered_entry c k σ.store i → o ≡ Some j → EntryGo c σ i k j
+  inside-go q f e =
+      let m = inside-there c σ.store k i f e in
+      entry_go (some-front σ.store i 1 q) (omega (arith, m.1, within (value (first (front σ.store i))) (length (entries_at c k)) (subst T (sym m.0) tt)))
+
+-- ---- the instructions
+
+module _ {σ : State} (h : Stands σ) (c : List ℕ) (i k : ℕ) (b : Bool) where
   abbrev s : Store
-  s = here.store
+  s = σ.store
 
-  pub named-expr : ExprNamed p e n i
-  named-expr = record { stands = w.stands; index = w.index }
+  -- 52 or 53 is answered no
+  module _ {x : ℕ} (z : x ≡ 0 → ⊥) where
+    pub word-stop : (way : Way) → x ≡ stop_of (needs 0 (front s i))
+        → GoesIn σ x σ (λ ins. row (program_of c) ins s (nth (reading b) i) (switch k) nothing (word_op way))
+    word-stop way q ins =
+        let r = named_row c s k i way b in
+        rw (row-word c s k i ins way b) (goes-stop h r (answer-first r σ refl q z) z)
 
-  module _ {x : ℕ} where
-    -- 52 or 53 is answered no
-    module _ (z : x ≡ 0 → ⊥) (b : Bool) where
-      named-stop : (to : ℕ → Go) (missed : Store) → x ≡ stop_of (needs 0 (front s i)) → Goes p e n x p e n (named_row c s k i to missed b)
-      named-stop to missed q =
-          let r = named_row c s k i to missed b in
-          goes-stop w.stands r (answer-first r here refl q z) z
+    pub number-stop : (way : Way) → x ≡ stop_of (needs 1 (front s i))
+        → GoesIn σ x σ (λ ins. row (program_of c) ins s (nth (reading b) i) (switch k) nothing (number_op way))
+    number-stop way q ins =
+        let r = index_row c s k i way b in
+        let a = needs 1 (front s i) in
+        rw (row-number c s k i ins way b) (goes-stop h r (answer-first r σ refl (q ∙ with-inside (a 52) (a 53) (a 54)) z) z)
 
-      pub skona-stop : x ≡ stop_of (needs 0 (front s i))
-          → GoesIn p e n x p e n (λ ins. row (program_of c) ins s (nth (reading b) i) (switch k) nothing SKONA)
-      skona-stop q ins = rw (row-skona c s k i ins b) (named-stop jump s q)
+    pub szukaj-stop : x ≡ stop_of (needs 0 (front s i))
+        → DoesIn σ x σ (λ ins. row (program_of c) ins s (nth (reading b) i) (switch k) nothing SZUKAJ)
+    szukaj-stop q ins =
+        rw (row-szukaj c s k i ins b) (quiet-stop h (needs 0 (front s i)) (search_row c s k i b).1 (quiet-needs (front s i)) q z)
 
-      pub wyna-stop : x ≡ stop_of (needs 0 (front s i))
-          → GoesIn p e n x p e n (λ ins. row (program_of c) ins s (nth (reading b) i) (switch k) nothing WYNA)
-      wyna-stop q ins = rw (row-wyna c s k i ins b) (named-stop call (with_plus false s) q)
+  -- both are answered yes: by a word
+  module _ (q : 0 ≡ stop_of (needs 0 (front s i))) {o : Option ℕ} (f : o ≡ met_entry c k s i) where
+    pub word-goes : (way : Way) {j : ℕ} → o ≡ Some j → {y : ℕ} {σ' : State} → Goes σ y σ' (entry_row (going_by way) c k j s b i)
+        → GoesIn σ y σ' (λ ins. row (program_of c) ins s (nth (reading b) i) (switch k) nothing (word_op way))
+    word-goes way {j} e {y} {σ'} g ins =
+        let m = met-there c s k i f e in
+        let g' = subst (λ (l : ℕ). Goes σ y σ' (entry_row (going_by way) c k l s b i)) (sym m.1) g in
+        rw (row-word c s k i ins way b, m.0)
+        (goes-yes (needs 0 (front s i)) (used (nth (reading b) i) s) (going_by way (entry_goal c k (first_met c k s i))) (needs-yes 0 (front s i) q) g')
 
-      index-stop : (to : ℕ → Go) → x ≡ stop_of (needs 1 (front s i)) → Goes p e n x p e n (index_row c s k i to b)
-      index-stop to q =
-          let r = index_row c s k i to b in
-          let a = needs 1 (front s i) in
-          goes-stop w.stands r (answer-first r here refl (q ∙ with-inside (a 52) (a 53) (a 54)) z) z
+    pub word-on : (way : Way) → o ≡ None → {σ' : State} → HoldsState σ' (on_store (missing way) (going on σ))
+        → GoesIn σ 0 σ' (λ ins. row (program_of c) ins s (nth (reading b) i) (switch k) nothing (word_op way))
+    word-on way e g ins =
+        let a = needs 0 (front s i) in
+        rw (row-word c s k i ins way b, none-met c s k i f e)
+        (goes-made h (a, missing way s, on) (needs-yes 0 (front s i) q) refl (rw (made_after a (missing way) on σ) g))
 
-      pub skoin-stop : x ≡ stop_of (needs 1 (front s i))
-          → GoesIn p e n x p e n (λ ins. row (program_of c) ins s (nth (reading b) i) (switch k) nothing SKOIN)
-      skoin-stop q ins = rw (row-skoin c s k i ins b) (index-stop jump q)
+    pub szukaj-met : {j : ℕ} → o ≡ Some j → {σ' : State} → HoldsState σ' (on_store (used (nth (reading b) i)) σ)
+        → DoesIn σ 0 σ' (λ ins. row (program_of c) ins s (nth (reading b) i) (switch k) nothing SZUKAJ)
+    unfolding on_store
+    szukaj-met e g ins =
+        rw (row-szukaj c s k i ins b, (met-there c s k i f e).0)
+        (quiet-done h (needs 0 (front s i)) (used (nth (reading b) i) s) (quiet-needs (front s i)) (sym q) g)
 
-      pub wyin-stop : x ≡ stop_of (needs 1 (front s i))
-          → GoesIn p e n x p e n (λ ins. row (program_of c) ins s (nth (reading b) i) (switch k) nothing WYIN)
-      wyin-stop q ins = rw (row-wyin c s k i ins b) (index-stop call q)
+    pub szukaj-none : o ≡ None → {σ' : State} → HoldsState σ' (on_store (with_plus false) σ)
+        → DoesIn σ 0 σ' (λ ins. row (program_of c) ins s (nth (reading b) i) (switch k) nothing SZUKAJ)
+    unfolding on_store
+    szukaj-none e g ins =
+        rw (row-szukaj c s k i ins b, none-met c s k i f e)
+        (quiet-done h (needs 0 (front s i)) (with_plus false s) (quiet-needs (front s i)) (sym q) g)
 
-      pub szukaj-stop : x ≡ stop_of (needs 0 (front s i))
-          → DoesIn p e n x p e n (λ ins. row (program_of c) ins s (nth (reading b) i) (switch k) nothing SZUKAJ)
-      szukaj-stop q ins =
-          let t = (search_row c s k i b).1 in
-          rw (row-szukaj c s k i ins b) (quiet-stop w.stands (needs 0 (front s i)) t (quiet-needs (front s i)) q z)
+  -- by a number
+  module _ (q : 0 ≡ stop_of (needs 1 (front s i))) {o : Option ℕ} (f : o ≡ numbered_entry c k s i) (way : Way) where
+    pub number-goes : {j : ℕ} → o ≡ Some j → {y : ℕ} {σ' : State} → Goes σ y σ' (entry_row (going_by way) c k j s b i)
+        → GoesIn σ y σ' (λ ins. row (program_of c) ins s (nth (reading b) i) (switch k) nothing (number_op way))
+    number-goes {j} e {y} {σ'} g ins =
+        let m = inside-there c s k i f e in
+        let r = index_row c s k i way b in
+        let g' = subst (λ (l : ℕ). Goes σ y σ' (entry_row (going_by way) c k l s b i)) (sym m.1) g in
+        rw (row-number c s k i ins way b) (goes-yes r.0 r.1 r.2 (inside-yes 1 (front s i) q m.0) g')
 
-    -- both are answered yes
-    module _ (kd : ℕ) (q : x ≡ stop_of (needs kd (front s i))) (z : x ≡ 0) where
-      right : (needs kd (front s i) 52 ≡ true) × (needs kd (front s i) 53 ≡ true) × (needs kd (front s i) 54 ≡ true)
-      right = unstopped (needs kd (front s i)) (sym q ∙ z)
-
-      some : filled (front s i) ≡ true
-      some = and-true (filled (front s i)) right.0
-
-      pub searchable : Searchable c p e n i k
-      searchable = record { fronted = record { stands = w.stands; index = w.index; some = some }; switch = w.switch }
-
-      needs-yes : Yes (needs kd (front s i))
-      needs-yes = (refl, (right.0, (right.1, (refl, (refl, (refl, (refl, (refl, (refl, (refl, tt))))))))))
-
-      inside-yes : {a : Bool} → a ≡ true → Yes (needs kd (front s i) & ask 56 a)
-      inside-yes h = (refl, (rw right.0 refl, (rw right.1 refl, (refl, (refl, (h, (refl, (refl, (refl, (refl, tt))))))))))
-
-  pub countable : {x : ℕ} → x ≡ stop_of (needs 1 (front s i)) → x ≡ 0 → Countable c p e n i k
-  countable q z = record { searchable = searchable 1 q z; number = kind_of-first (front s i) (some 1 q z) (right 1 q z).1 }
-
--- ---- jumps and calls by a word
-
-module _ {c p e n : List ℕ} {i k : ℕ} (u : Switches c p e n i k) where
-  abbrev w : Looks c p e n i k
-  w = u.looks
-
-  abbrev now_at : State
-  now_at = state_at p e n
-
-  pub following : Following p e n
-  following = record { stands = w.stands; below = u.following }
-
-  pub entered : {m j : ℕ} → Number (switch_size (table_of c) k) 256 m → j < m → Entered c k j
-  entered a h = record { good = u.good; switch = w.switch; below = omega (arith, a.is) }
-
-  module _ {x m j : ℕ} (a : Number (switch_size (table_of c) k) 256 m) (z : x ≡ 0) (q : x ≡ stop_of (needs 0 (front now_at.store i)))
-      (f : j ≡ first_met c k now_at.store i) (b : Bool) where
-    met-is : j < m → is_met c now_at.store k i ≡ true
-    met-is h = lt-ltb (first_met c k now_at.store i) (length (entries_at c k)) (omega (arith, many w.switch, a.is, f))
-
-    none-met : m ≤ j → is_met c now_at.store k i ≡ false
-    none-met h = le-ltb (first_met c k now_at.store i) (length (entries_at c k)) (omega (arith, many w.switch, a.is, f))
-
-    named-goes : (to : ℕ → Go) (missed : Store) → j < m → {y : ℕ} {p' e' n' : List ℕ} → Goes p e n y p' e' n' (entry_row to c k j now_at.store b i)
-        → Goes p e n y p' e' n' (named_row c now_at.store k i to missed b)
-    named-goes to missed h g =
-        rw (met-is h, sym f)
-        (goes-yes (needs 0 (front now_at.store i)) (used (nth (reading b) i) now_at.store) (to (entry_goal c k j)) (needs-yes w 0 q z) g)
-
-    pub skona-goes : j < m → {y : ℕ} {p' e' n' : List ℕ} → Goes p e n y p' e' n' (entry_row jump c k j now_at.store b i)
-        → GoesIn p e n y p' e' n' (λ ins. row (program_of c) ins now_at.store (nth (reading b) i) (switch k) nothing SKONA)
-    skona-goes h g ins = rw (row-skona c now_at.store k i ins b) (named-goes jump now_at.store h g)
-
-    pub skona-on : m ≤ j → {p' e' n' : List ℕ} → HoldsState p' e' n' (going on now_at)
-        → GoesIn p e n 0 p' e' n' (λ ins. row (program_of c) ins now_at.store (nth (reading b) i) (switch k) nothing SKONA)
-    skona-on h g ins =
-        let t = needs 0 (front now_at.store i) in
-        rw (row-skona c now_at.store k i ins b, none-met h)
-        (goes-made w.stands (t, now_at.store, on) (needs-yes w 0 q z) refl (rw (made-going t on now_at) g))
-
-    pub wyna-goes : j < m → {y : ℕ} {p' e' n' : List ℕ} → Goes p e n y p' e' n' (entry_row call c k j now_at.store b i)
-        → GoesIn p e n y p' e' n' (λ ins. row (program_of c) ins now_at.store (nth (reading b) i) (switch k) nothing WYNA)
-    wyna-goes h g ins = rw (row-wyna c now_at.store k i ins b) (named-goes call (with_plus false now_at.store) h g)
-
-    pub wyna-on : m ≤ j → {p' e' n' p'' e'' n'' : List ℕ} → HoldsState p' e' n' (going on now_at)
-        → HoldsState p'' e'' n'' (on_store (with_plus false) (state_at p' e' n'))
-        → GoesIn p e n 0 p'' e'' n'' (λ ins. row (program_of c) ins now_at.store (nth (reading b) i) (switch k) nothing WYNA)
-    wyna-on h g l ins =
-        let t = needs 0 (front now_at.store i) in
-        rw (row-wyna c now_at.store k i ins b, none-met h)
-        (goes-made w.stands (t, with_plus false now_at.store, on) (needs-yes w 0 q z) refl
-        (rw (made_after t (with_plus false) on now_at) (after-state g (on_store (with_plus false)) l)))
-
-  -- ---- by a number
-
-  module _ {x m j : ℕ} (a : Number (switch_size (table_of c) k) 256 m) (z : x ≡ 0) (q : x ≡ stop_of (needs 1 (front now_at.store i)))
-      (f : PlaceOf (value (first (front now_at.store i))) (switch_size (table_of c) k) j) (b : Bool) where
-    inside_is : is_inside c now_at.store k i ≡ ltb j (switch_size (table_of c) k)
-    inside_is = rw (many w.switch) f.inside
-
-    index_goes : (to : ℕ → Go) → j < m → {y : ℕ} {p' e' n' : List ℕ} → Goes p e n y p' e' n' (entry_row to c k j now_at.store b i)
-        → Goes p e n y p' e' n' (index_row c now_at.store k i to b)
-    index_goes to h {y} {p'} {e'} {n'} g =
-        let d : j < switch_size (table_of c) k = omega (arith, a.is) in
-        let g' = subst (λ (l : ℕ). Goes p e n y p' e' n' (entry_row to c k l now_at.store b i)) (f.is d) g in
-        goes-yes (index_row c now_at.store k i to b).0 (used (nth (reading b) i) now_at.store) (index_row c now_at.store k i to b).2
-        (inside-yes w 1 q z (inside_is ∙ lt-ltb j (switch_size (table_of c) k) d)) g'
-
-    index-outside : (to : ℕ → Go) → m ≤ j → Goes p e n 56 p e n (index_row c now_at.store k i to b)
-    index-outside to h =
-        let r = index_row c now_at.store k i to b in
-        let t = needs 1 (front now_at.store i) in
-        goes-stop w.stands r
-        (answer-outside r now_at refl (sym (with-inside (t 52) (t 53) (t 54)) ∙ (sym q ∙ z)) refl (inside_is ∙ le-ltb j (switch_size (table_of c) k) (omega (arith, a.is))))
-        (λ y. omega (arith, y))
-
-    pub skoin-goes : j < m → {y : ℕ} {p' e' n' : List ℕ} → Goes p e n y p' e' n' (entry_row jump c k j now_at.store b i)
-        → GoesIn p e n y p' e' n' (λ ins. row (program_of c) ins now_at.store (nth (reading b) i) (switch k) nothing SKOIN)
-    skoin-goes h g ins = rw (row-skoin c now_at.store k i ins b) (index_goes jump h g)
-
-    pub skoin-outside : m ≤ j → GoesIn p e n 56 p e n (λ ins. row (program_of c) ins now_at.store (nth (reading b) i) (switch k) nothing SKOIN)
-    skoin-outside h ins = rw (row-skoin c now_at.store k i ins b) (index-outside jump h)
-
-    pub wyin-goes : j < m → {y : ℕ} {p' e' n' : List ℕ} → Goes p e n y p' e' n' (entry_row call c k j now_at.store b i)
-        → GoesIn p e n y p' e' n' (λ ins. row (program_of c) ins now_at.store (nth (reading b) i) (switch k) nothing WYIN)
-    wyin-goes h g ins = rw (row-wyin c now_at.store k i ins b) (index_goes call h g)
-
-    pub wyin-outside : m ≤ j → GoesIn p e n 56 p e n (λ ins. row (program_of c) ins now_at.store (nth (reading b) i) (switch k) nothing WYIN)
-    wyin-outside h ins = rw (row-wyin c now_at.store k i ins b) (index-outside call h)
-
--- ---- SZUKAJ
-
-module _ {c p e n : List ℕ} {i k : ℕ} (w : Looks c p e n i k) {x m j : ℕ} (a : Number (switch_size (table_of c) k) 256 m) (z : x ≡ 0)
-    (q : x ≡ stop_of (needs 0 (front (state_at p e n).store i))) (f : j ≡ first_met c k (state_at p e n).store i) (b : Bool) where
-  abbrev place : State
-  place = state_at p e n
-
-  pub szukaj-met : j < m → {p' e' n' : List ℕ} → HoldsState p' e' n' (on_store (used (nth (reading b) i)) place)
-      → DoesIn p e n 0 p' e' n' (λ ins. row (program_of c) ins place.store (nth (reading b) i) (switch k) nothing SZUKAJ)
-  unfolding on_store
-  szukaj-met h g ins =
-      rw (
-        row-szukaj c place.store k i ins b,
-        lt-ltb (first_met c k place.store i) (length (entries_at c k)) (omega (arith, many w.switch, a.is, f)),
-      ) (quiet-done w.stands (needs 0 (front place.store i)) (used (nth (reading b) i) place.store) (quiet-needs (front place.store i)) (sym q ∙ z) g)
-
-  pub szukaj-none : m ≤ j → {p' e' n' : List ℕ} → HoldsState p' e' n' (on_store (with_plus false) place)
-      → DoesIn p e n 0 p' e' n' (λ ins. row (program_of c) ins place.store (nth (reading b) i) (switch k) nothing SZUKAJ)
-  unfolding on_store
-  szukaj-none h g ins =
-      rw (
-        row-szukaj c place.store k i ins b,
-        le-ltb (first_met c k place.store i) (length (entries_at c k)) (omega (arith, many w.switch, a.is, f)),
-      ) (quiet-done w.stands (needs 0 (front place.store i)) (with_plus false place.store) (quiet-needs (front place.store i)) (sym q ∙ z) g)
+    pub number-outside : o ≡ None → GoesIn σ 56 σ (λ ins. row (program_of c) ins s (nth (reading b) i) (switch k) nothing (number_op way))
+    number-outside e ins =
+        let r = index_row c s k i way b in
+        let a = needs 1 (front s i) in
+        rw (row-number c s k i ins way b)
+        (goes-stop h r (answer-outside r σ refl (sym (with-inside (a 52) (a 53) (a 54)) ∙ sym q) refl (none-inside c s k i f e)) (λ y. omega (arith, y)))

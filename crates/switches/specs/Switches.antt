@@ -1,20 +1,50 @@
--- What the instructions with a switch ask and tell. c is the table, k the switch's place, i the expression; p, e and n are pool, ends and
--- scalars, scratch is how long the buffer for laying the strings out anew is.
-use Rattle.std.specs.Prelude.{◌≡◌, Bool, true, ◌&&◌, List, ℕ, suc, pred, ◌≤◌, ◌<◌, T, leb, ltb, ℤ, pos, nat_abs, get_or, take}
+-- What the instructions with a switch ask and tell. c is the table, k the switch's place, s the state or its store, i the expression.
+use Rattle.std.specs.Prelude.{◌≡◌, Bool, true, false, cond, ◌&&◌, List, ℕ, suc, pred, ◌<◌, T, leb, ltb, ℤ, pos, nat_abs, length, get_or, take, Option, Some, None, Result, IfOk}
 use Rattle.std.specs.Int.Signed.{lt_z}
 use Rattle.lists.specs.Lists.{ahead, filled}
 use Rattle.language.specs.Limits as limit
 use Rattle.language.specs.Letters.Letter.{E}
-use Rattle.language.specs.Program.{Entry, no_entry, switch_at, target_of, meets}
-use Rattle.language.specs.Values.{Component, Store, chars, kind}
+use Rattle.language.specs.Program.{Entry, no_entry, switch_at, target_of, meets, Op}
+use Rattle.language.specs.Program.Op.{SKONA, SKOIN, WYNA, WYIN}
+use Rattle.language.specs.Values.{Component, Store, State, chars, value}
 use Rattle.layout.specs.Table.{program_of, good_table}
-use Rattle.machine.specs.Arguments.{expr, first, none}
-use Rattle.machine.specs.Changes.{used}
+use Rattle.machine.specs.Arguments.{expr, first, none, needs}
+use Rattle.machine.specs.Changes.{used, with_plus}
 use Rattle.machine.specs.Effects.{Go, Row}
+use Rattle.machine.specs.Effects.Go.{jump, call}
 use Rattle.packed.specs.Packed.{table_of}
-use Rattle.state.specs.Working.{state_at, Stands, nth, reading}
+use Rattle.state.specs.Working.{nth, reading}
 use Rattle.table.specs.Good.{GoodSwitch}
 use Rattle.table.specs.Reads.{switch_size}
+use Rattle.instructions.specs.Does.{stop_of}
+use Rattle.instructions.specs.Questions.{told_by}
+use Rattle.instructions.specs.declared.Question.{Question}
+use Rattle.switches.specs.declared.Kind.{Kind}
+use Rattle.switches.specs.declared.Kind.TheVariants.{Word, Number}
+use Rattle.switches.specs.declared.Way.{Way}
+use Rattle.switches.specs.declared.Way.TheVariants.{Jump, Call}
+
+-- a kind by its number
+abbrev pub kind_by : Kind → ℕ
+kind_by Word = 0
+kind_by Number = 1
+
+-- jumps and calls: how they go on, what the store is where none is met, and the operators by a word and by a number
+abbrev pub going_by : Way → ℕ → Go
+going_by Jump = jump
+going_by Call = call
+
+abbrev pub missing : Way → Store → Store
+missing Jump s = s
+missing Call s = with_plus false s
+
+abbrev pub word_op : Way → Op
+word_op Jump = SKONA
+word_op Call = WYNA
+
+abbrev pub number_op : Way → Op
+number_op Jump = SKOIN
+number_op Call = WYIN
 
 -- the component in front of expression i; none where it is empty
 abbrev pub front : Store → ℕ → List Component
@@ -27,6 +57,20 @@ entries_at c k = (switch_at (program_of c) k).entries
 abbrev pub first_met : List ℕ → ℕ → Store → ℕ → ℕ
 first_met c k s i = ahead (λ e. meets (program_of c) e (chars (first (front s i)))) (entries_at c k)
 
+-- whether one is, and the first
+abbrev pub is_met : List ℕ → ℕ → Store → ℕ → Bool
+is_met c k s i = ltb (first_met c k s i) (length (entries_at c k))
+
+abbrev pub met_entry : List ℕ → ℕ → Store → ℕ → Option ℕ
+met_entry c k s i = cond (is_met c k s i) (Some (first_met c k s i)) None
+
+-- whether the number in front is an entry's, and that entry, from 0
+abbrev pub is_inside : List ℕ → ℕ → Store → ℕ → Bool
+is_inside c k s i = let z : ℤ = value (first (front s i)) in lt_z (pos 0) z && leb (nat_abs z) (length (entries_at c k))
+
+abbrev pub numbered_entry : List ℕ → ℕ → Store → ℕ → Option ℕ
+numbered_entry c k s i = cond (is_inside c k s i) (Some (pred (nat_abs (value (first (front s i)))))) None
+
 -- the instruction that entry j leads to
 abbrev pub entry_goal : List ℕ → ℕ → ℕ → ℕ
 entry_goal c k j = target_of (program_of c) (get_or (entries_at c k) j no_entry)
@@ -38,19 +82,9 @@ entry_row to c k j s removes i = (none, used (nth (reading removes) i) s, to (en
 -- ---- what is asked
 
 -- there is a component in front
-pub record Fronted (p e n : List ℕ) (i : ℕ) : Type 0 where
-  pub stands : Stands p e n
+pub record Fronted (s : State) (i : ℕ) : Type 0 where
   pub index : i < limit.expressions
-  pub some : filled (front (state_at p e n).store i) ≡ true
-
--- which is looked up, as a word and as a number
-pub record Searchable (c p e n : List ℕ) (i k : ℕ) : Type 0 where
-  pub fronted : Fronted p e n i
-  pub switch : GoodSwitch c k
-
-pub record Countable (c p e n : List ℕ) (i k : ℕ) : Type 0 where
-  pub searchable : Searchable c p e n i k
-  pub number : kind (first (front (state_at p e n).store i)) ≡ 1
+  pub some : filled (front s.store i) ≡ true
 
 -- entry j
 pub record Entered (c : List ℕ) (k j : ℕ) : Type 0 where
@@ -58,36 +92,31 @@ pub record Entered (c : List ℕ) (k j : ℕ) : Type 0 where
   pub switch : GoodSwitch c k
   pub below : j < switch_size (table_of c) k
 
-pub record EntryJump (c p e n : List ℕ) (i k j : ℕ) : Type 0 where
-  pub fronted : Fronted p e n i
+pub record EntryGo (c : List ℕ) (s : State) (i k j : ℕ) : Type 0 where
+  pub fronted : Fronted s i
   pub entered : Entered c k j
+  pub following : suc s.next < limit.instructions
 
-pub record EntryCall (c p e n : List ℕ) (scratch i k j : ℕ) : Type 0 where
-  pub jump : EntryJump c p e n i k j
-  pub following : suc (state_at p e n).next < limit.instructions
-  pub spare : 65536 ≤ scratch
-
--- the instructions: SZUKAJ, jumps, calls
-pub record Looks (c p e n : List ℕ) (i k : ℕ) : Type 0 where
-  pub stands : Stands p e n
+-- the instructions: SZUKAJ, jumps and calls
+pub record Looks (c : List ℕ) (i k : ℕ) : Type 0 where
   pub index : i < limit.expressions
   pub switch : GoodSwitch c k
 
-pub record Switches (c p e n : List ℕ) (i k : ℕ) : Type 0 where
-  pub looks : Looks c p e n i k
+pub record Switches (c : List ℕ) (s : State) (i k : ℕ) : Type 0 where
+  pub looks : Looks c i k
   pub good : T (good_table c)
-  pub following : suc (state_at p e n).next < limit.instructions
-
-pub record SwitchCalls (c p e n : List ℕ) (scratch i k : ℕ) : Type 0 where
-  pub switches : Switches c p e n i k
-  pub spare : 65536 ≤ scratch
+  pub following : suc s.next < limit.instructions
 
 -- ---- what is told
 
--- the place of the number z in a list of so many, from 0, and one past it where it has none
-pub record PlaceOf (z : ℤ) (count r : ℕ) : Type 0 where
-  pub inside : (lt_z (pos 0) z && leb (nat_abs z) count) ≡ ltb r count
-  pub is : r < count → r ≡ pred (nat_abs z)
+-- the entry by the word in front, and by the number
+pub record FindsEntry (c : List ℕ) (k : ℕ) (s : Store) (i : ℕ) (r : Result (Option ℕ) Question) : Type 0 where
+  pub told : told_by r ≡ stop_of (needs 0 (front s i))
+  pub is : IfOk r (λ o. o ≡ met_entry c k s i)
+
+pub record NumbersEntry (c : List ℕ) (k : ℕ) (s : Store) (i : ℕ) (r : Result (Option ℕ) Question) : Type 0 where
+  pub told : told_by r ≡ stop_of (needs 1 (front s i))
+  pub is : IfOk r (λ o. o ≡ numbered_entry c k s i)
 
 pub record Goal (c : List ℕ) (k j r : ℕ) : Type 0 where
   pub is : r ≡ entry_goal c k j

@@ -1,80 +1,111 @@
-// Instructions with a switch: jumps and calls by a word or a number, and SZUKAJ. Each tells 0, or the question answered no.
+// Instructions with a switch: jumps and calls by a word or a number, and SZUKAJ.
 #![tactic(auto)]
 
-ghost use Rattle.std.specs.Prelude.{◌≡◌, length};
+ghost use Rattle.std.specs.Prelude.{◌≡◌, ◌<◌, suc};
+ghost use Rattle.language.specs.Limits as limit;
 ghost use Rattle.language.specs.Program.Arg.{nothing, switch as by-switch};
-ghost use Rattle.language.specs.Program.Op.{SKONA, SKOIN, WYNA, WYIN, SZUKAJ};
-ghost use Rattle.language.specs.Values.{value};
+ghost use Rattle.language.specs.Program.Op.{SZUKAJ};
 ghost use Rattle.layout.specs.Table.{program_of};
-ghost use Rattle.machine.specs.Arguments.{first as first_of, needs};
+ghost use Rattle.machine.specs.Arguments.{needs};
 ghost use Rattle.machine.specs.Changes.{used};
 ghost use Rattle.machine.specs.Effects.{row};
-ghost use Rattle.machine.specs.Effects.Go.{jump, call};
-ghost use Rattle.packed.specs.Packed.{table_of};
-ghost use Rattle.state.specs.Working.{state_at, HoldsState, on_store, nth, reading};
-ghost use Rattle.state.specs.Blocks.{ExprNamed};
-ghost use Rattle.table.specs.Reads.{switch_size};
+ghost use Rattle.machine.specs.Effects.Go.{on};
+ghost use Rattle.state.specs.Working.{HoldsState, on_store, nth, reading};
+ghost use Rattle.control.specs.Going.{going};
+ghost use Rattle.instructions.specs.Questions.{told_by};
 ghost use Rattle.instructions.specs.Does.{stop_of, Goes, DoesIn, GoesIn};
-ghost use Rattle.switches.specs.Switches.{front, first_met, entry_row, Fronted, Searchable, Countable, Entered, EntryJump, EntryCall, Looks, Switches, SwitchCalls, PlaceOf, Goal};
+ghost use Rattle.jumps.specs.Jumps.{Led};
+ghost use Rattle.switches.specs.Switches.{kind_by, going_by, word_op, number_op, front, entry_row, Fronted, Entered, EntryGo, Looks, Switches, FindsEntry, NumbersEntry, missing, Goal};
 
-use language::Machine;
+use instructions::{Question, Source};
+use state::Working;
+
+// The code of 1, the number of the first entry.
+const FIRST: usize = 8388608;
+
+// The kinds of components that an entry is chosen by.
+#[derive(Clone, Copy, PartialEq, Eq, Debug)]
+enum Kind {
+    Word = 0,
+    Number = 1,
+}
+
+impl From<Kind> for u8 {
+    ghost use Rattle.std.specs.Prelude.{◌≡◌};
+    ghost use Rattle.switches.specs.Switches.{kind_by};
+
+    ghost from_gives = { λ k n. n ≡ kind_by k };
+
+    fn from(k: Kind) -> u8 {
+        k as u8
+    }
+}
+
+// How an instruction goes to an entry.
+#[derive(Clone, Copy, PartialEq, Eq, Debug)]
+pub enum Way {
+    Jump,
+    Call,
+}
 
 // Whether expression `i` has a component (52), and in front one of this kind (53).
-fn ask_front(pool: &[u8], ends: &[u32], nums: &[u32], i: usize, kind: u8) -> u8
-    requires { ExprNamed pool.now ends.now nums.now i }
-    ensures { result ≡ stop_of (needs kind (front (state_at pool.now ends.now nums.now).store i)) }
+fn ask_front(state: &Working, i: usize, kind: Kind) -> Result<(), Question>
+    requires { i < limit.expressions }
+    ensures { told_by result ≡ stop_of (needs (kind_by kind) (front state.now.store i)) }
 {
-    let x = state::expr_bytes(pool, ends, nums, i);
-    if x.len() == 0 {
-        return 52;
+    let x = state.expr_bytes(i);
+    if x.is_empty() {
+        return Err(Question::Missing);
     }
-    if components::kind_of(x) != kind {
-        return 53;
+    if components::kind_of(x) != u8::from(kind) {
+        return Err(Question::Kind);
     }
-    0
+    Ok(())
 }
 
-// Uses the component in front of expression `i`.
-fn use_front(pool: &[u8], ends: &mut [u32], nums: &mut [u32], removes: bool, i: usize)
-    requires { Fronted pool.now ends.old nums.old i }
-    ensures { HoldsState pool.now ends.new nums.new (on_store (used (nth (reading removes) i)) (state_at pool.now ends.old nums.old)) }
+// Uses the component in front of an expression.
+fn use_front(state: &mut Working, source: Source)
+    requires { Fronted state.old source.i }
+    ensures { HoldsState state.new (on_store (used (nth (reading source.removes) source.i)) state.old) }
 {
-    let x = state::expr_bytes(pool, ends, nums, i);
+    let x = state.expr_bytes(source.i);
     let size = components::first_size(x);
     let chars = components::chars_of(x).len();
-    state::past_parts(pool, ends, nums, i, removes, 1, size, chars);
+    state.past_parts(source.i, source.removes, 1, size, chars);
 }
 
-// The first entry of a switch that is met by the word in front of expression `i`; past the last where there is none.
-fn find(table: &[u32], pool: &[u8], ends: &[u32], nums: &[u32], i: usize, switch: usize) -> usize
-    requires { Searchable table.now pool.now ends.now nums.now i switch }
-    ensures { result ≡ first_met table.now switch (state_at pool.now ends.now nums.now).store i }
+// The first entry of a switch that is met by the word in front of expression `i`.
+fn find(table: &[u32], state: &Working, i: usize, switch: usize) -> Result<Option<usize>, Question>
+    requires { Looks table.now i switch }
+    ensures { FindsEntry table.now switch state.now.store i result }
 {
-    let x = state::expr_bytes(pool, ends, nums, i);
-    let w = components::chars_of(x);
+    ask_front(state, i, Kind::Word)?;
+    let w = components::chars_of(state.expr_bytes(i));
     let first = table::switch_first(table, switch);
     let count = table::switch_count(table, switch);
-    table::find_entry(table, first, count, w).unwrap_or(count)
+    Ok(table::find_entry(table, first, count, w))
 }
 
-// The entry of a switch by the number in front of expression `i`; past the last where there is none.
-fn index_in(
+// The entry of a switch by the number in front of expression `i`.
+fn entry_by(
     table: &[u32],
-    pool: &[u8],
-    ends: &[u32],
-    nums: &[u32],
+    state: &Working,
     i: usize,
     switch: usize,
-) -> usize
-    requires { Countable table.now pool.now ends.now nums.now i switch }
-    ensures { PlaceOf (value (first_of (front (state_at pool.now ends.now nums.now).store i))) (switch_size (table_of table.now) switch) result }
+) -> Result<Option<usize>, Question>
+    requires { Looks table.now i switch }
+    ensures { NumbersEntry table.now switch state.now.store i result }
 {
-    let x = state::expr_bytes(pool, ends, nums, i);
-    let v = components::number_of(x);
-    if v <= 8388607 {
-        return table::switch_count(table, switch);
+    ask_front(state, i, Kind::Number)?;
+    let v = components::number_of(state.expr_bytes(i));
+    if v < FIRST {
+        return Ok(None);
     }
-    v - 8388608
+    let j = v - FIRST;
+    if table::switch_count(table, switch) <= j {
+        return Ok(None);
+    }
+    Ok(Some(j))
 }
 
 // The instruction that entry `j` of a switch leads to.
@@ -86,168 +117,108 @@ fn goal(table: &[u32], switch: usize, j: usize) -> usize
     table::target(table, table::entry_label(table, e))
 }
 
-// Jumps by entry `j`.
-fn jump_by(
+// Jumps to instruction `t`, or calls it.
+fn lead(state: &mut Working, way: Way, t: usize) -> Result<(), Question>
+    requires following { suc state.old.next < limit.instructions }
+    requires below { t < limit.instructions }
+    ensures { Led state.old (going_by way t) (told_by result) state.new }
+{
+    match way {
+        Way::Jump => {
+            control::go_to(state, t);
+            Ok(())
+        }
+        Way::Call => jumps::call(state, t),
+    }
+}
+
+// Goes by entry `j`.
+fn go_by(
     table: &[u32],
-    pool: &[u8],
-    ends: &mut [u32],
-    nums: &mut [u32],
-    removes: bool,
-    i: usize,
+    state: &mut Working,
+    source: Source,
     switch: usize,
     j: usize,
-) -> u8
-    requires { EntryJump table.now pool.now ends.old nums.old i switch j }
-    ensures { Goes pool.now ends.old nums.old result pool.now ends.new nums.new (entry_row jump table.now switch j (state_at pool.now ends.old nums.old).store removes i) }
+    way: Way,
+) -> Result<(), Question>
+    requires { EntryGo table.now state.old source.i switch j }
+    ensures { Goes state.old (told_by result) state.new (entry_row (going_by way) table.now switch j state.old.store source.removes source.i) }
 {
-    let t = goal(table, switch, j);
-    control::go_to(pool, ends, nums, t);
-    use_front(pool, ends, nums, removes, i);
-    0
+    state.stands();
+    lead(state, way, goal(table, switch, j))?;
+    use_front(state, source);
+    Ok(())
 }
 
-// Calls by entry `j`.
-fn call_by(
-    table: &[u32],
-    pool: &mut [u8],
-    ends: &mut [u32],
-    nums: &mut [u32],
-    scratch: &mut [u8],
-    removes: bool,
-    i: usize,
-    switch: usize,
-    j: usize,
-) -> u8
-    requires { EntryCall table.now pool.old ends.old nums.old (length scratch.old) i switch j }
-    ensures { Goes pool.old ends.old nums.old result pool.new ends.new nums.new (entry_row call table.now switch j (state_at pool.old ends.old nums.old).store removes i) }
+// Goes on where no entry is met; a call turns H minus.
+fn go_past(state: &mut Working, way: Way)
+    requires { suc state.old.next < limit.instructions }
+    ensures { HoldsState state.new (on_store (missing way) (going on state.old)) }
 {
-    if control::depth(pool, ends, nums) == Machine::STACK {
-        return 59;
+    match way {
+        Way::Jump => control::go_on(state),
+        Way::Call => {
+            control::go_on(state);
+            state.set_plus(false);
+        }
     }
-    let t = goal(table, switch, j);
-    control::call_to(pool, ends, nums, scratch, t);
-    use_front(pool, ends, nums, removes, i);
-    0
 }
 
-pub fn skona(
+// SKONA and WYNA.
+pub fn by_word(
     table: &[u32],
-    pool: &[u8],
-    ends: &mut [u32],
-    nums: &mut [u32],
-    removes: bool,
-    i: usize,
+    state: &mut Working,
+    source: Source,
     switch: usize,
-) -> u8
-    requires { Switches table.now pool.now ends.old nums.old i switch }
-    ensures { GoesIn pool.now ends.old nums.old result pool.now ends.new nums.new (λ ins. row (program_of table.now) ins (state_at pool.now ends.old nums.old).store (nth (reading removes) i) (by-switch switch) nothing SKONA) }
+    way: Way,
+) -> Result<(), Question>
+    requires { Switches table.now state.old source.i switch }
+    ensures { GoesIn state.old (told_by result) state.new (λ ins. row (program_of table.now) ins state.old.store (nth (reading source.removes) source.i) (by-switch switch) nothing (word_op way)) }
 {
-    let stop = ask_front(pool, ends, nums, i, 0);
-    if stop != 0 {
-        return stop;
+    state.stands();
+    let met = find(table, state, source.i, switch)?;
+    match met {
+        Some(j) => go_by(table, state, source, switch, j, way),
+        None => {
+            go_past(state, way);
+            Ok(())
+        }
     }
-    let j = find(table, pool, ends, nums, i, switch);
-    if j < table::switch_count(table, switch) {
-        return jump_by(table, pool, ends, nums, removes, i, switch, j);
-    }
-    control::go_on(pool, ends, nums);
-    0
 }
 
-pub fn wyna(
+// SKOIN and WYIN.
+pub fn by_number(
     table: &[u32],
-    pool: &mut [u8],
-    ends: &mut [u32],
-    nums: &mut [u32],
-    scratch: &mut [u8],
-    removes: bool,
-    i: usize,
+    state: &mut Working,
+    source: Source,
     switch: usize,
-) -> u8
-    requires { SwitchCalls table.now pool.old ends.old nums.old (length scratch.old) i switch }
-    ensures { GoesIn pool.old ends.old nums.old result pool.new ends.new nums.new (λ ins. row (program_of table.now) ins (state_at pool.old ends.old nums.old).store (nth (reading removes) i) (by-switch switch) nothing WYNA) }
+    way: Way,
+) -> Result<(), Question>
+    requires { Switches table.now state.old source.i switch }
+    ensures { GoesIn state.old (told_by result) state.new (λ ins. row (program_of table.now) ins state.old.store (nth (reading source.removes) source.i) (by-switch switch) nothing (number_op way)) }
 {
-    let stop = ask_front(pool, ends, nums, i, 0);
-    if stop != 0 {
-        return stop;
+    state.stands();
+    let met = entry_by(table, state, source.i, switch)?;
+    match met {
+        Some(j) => go_by(table, state, source, switch, j, way),
+        None => Err(Question::Outside),
     }
-    let j = find(table, pool, ends, nums, i, switch);
-    if j < table::switch_count(table, switch) {
-        return call_by(table, pool, ends, nums, scratch, removes, i, switch, j);
-    }
-    control::go_on(pool, ends, nums);
-    state::set_plus(pool, ends, nums, false);
-    0
-}
-
-pub fn skoin(
-    table: &[u32],
-    pool: &[u8],
-    ends: &mut [u32],
-    nums: &mut [u32],
-    removes: bool,
-    i: usize,
-    switch: usize,
-) -> u8
-    requires { Switches table.now pool.now ends.old nums.old i switch }
-    ensures { GoesIn pool.now ends.old nums.old result pool.now ends.new nums.new (λ ins. row (program_of table.now) ins (state_at pool.now ends.old nums.old).store (nth (reading removes) i) (by-switch switch) nothing SKOIN) }
-{
-    let stop = ask_front(pool, ends, nums, i, 1);
-    if stop != 0 {
-        return stop;
-    }
-    let j = index_in(table, pool, ends, nums, i, switch);
-    if j < table::switch_count(table, switch) {
-        return jump_by(table, pool, ends, nums, removes, i, switch, j);
-    }
-    56
-}
-
-pub fn wyin(
-    table: &[u32],
-    pool: &mut [u8],
-    ends: &mut [u32],
-    nums: &mut [u32],
-    scratch: &mut [u8],
-    removes: bool,
-    i: usize,
-    switch: usize,
-) -> u8
-    requires { SwitchCalls table.now pool.old ends.old nums.old (length scratch.old) i switch }
-    ensures { GoesIn pool.old ends.old nums.old result pool.new ends.new nums.new (λ ins. row (program_of table.now) ins (state_at pool.old ends.old nums.old).store (nth (reading removes) i) (by-switch switch) nothing WYIN) }
-{
-    let stop = ask_front(pool, ends, nums, i, 1);
-    if stop != 0 {
-        return stop;
-    }
-    let j = index_in(table, pool, ends, nums, i, switch);
-    if j < table::switch_count(table, switch) {
-        return call_by(table, pool, ends, nums, scratch, removes, i, switch, j);
-    }
-    56
 }
 
 pub fn szukaj(
     table: &[u32],
-    pool: &[u8],
-    ends: &mut [u32],
-    nums: &mut [u32],
-    removes: bool,
-    i: usize,
+    state: &mut Working,
+    source: Source,
     switch: usize,
-) -> u8
-    requires { Looks table.now pool.now ends.old nums.old i switch }
-    ensures { DoesIn pool.now ends.old nums.old result pool.now ends.new nums.new (λ ins. row (program_of table.now) ins (state_at pool.now ends.old nums.old).store (nth (reading removes) i) (by-switch switch) nothing SZUKAJ) }
+) -> Result<(), Question>
+    requires { Looks table.now source.i switch }
+    ensures { DoesIn state.old (told_by result) state.new (λ ins. row (program_of table.now) ins state.old.store (nth (reading source.removes) source.i) (by-switch switch) nothing SZUKAJ) }
 {
-    let stop = ask_front(pool, ends, nums, i, 0);
-    if stop != 0 {
-        return stop;
+    state.stands();
+    let met = find(table, state, source.i, switch)?;
+    match met {
+        Some(_) => use_front(state, source),
+        None => state.set_plus(false),
     }
-    let j = find(table, pool, ends, nums, i, switch);
-    if j < table::switch_count(table, switch) {
-        use_front(pool, ends, nums, removes, i);
-        return 0;
-    }
-    state::set_plus(pool, ends, nums, false);
-    0
+    Ok(())
 }

@@ -1,19 +1,24 @@
 -- A test asks 52, 53 and 54 alone.
-use mathlib.Core.Path.{◌≡◌, refl, sym, ◌∙◌}
+use mathlib.Core.Path.{◌≡◌, refl, sym, ap, ◌∙◌}
 use mathlib.Core.Bool.{Bool, true, false, ◌&&◌}
 use mathlib.Core.List.{List}
 use Prim.Native.Nat.{ℕ}
-use Rattle.matching.specs.Below.Letters.{use_of}
-use Rattle.matching.specs.Below.Program.{Arg}
-use Rattle.matching.specs.Below.Program.Arg.{nothing, letter, label, switch, class, text}
-use Rattle.matching.specs.Below.LanguageValues.{Store, Inputs}
-use Rattle.matching.specs.Below.MachineArguments.{Asks, is_one, is_count, ask, when, ◌&◌, test_asks}
-use Rattle.matching.specs.Below.Effects.Go.{on}
-use Rattle.instructions.specs.Below.Working.{state_at, Stands}
-use Rattle.instructions.specs.Does.{Does, Quiet, Tried}
+use Rattle.std.specs.Prelude.{Result, Ok, Err}
+use Rattle.std.proofs.lemmas.Result.{IfOk-at_ok}
+use Rattle.language.specs.Letters.{use_of}
+use Rattle.language.specs.Program.{Arg}
+use Rattle.language.specs.Program.Arg.{nothing, letter, label, switch, class, text}
+use Rattle.language.specs.Values.{Store, State, Inputs}
+use Rattle.machine.specs.Arguments.{Asks, is_one, is_count, ask, when, ◌&◌, test_asks}
+use Rattle.machine.specs.Effects.Go.{on}
+use Rattle.state.specs.Working.{Stands}
+use Rattle.instructions.specs.Questions.{question_number, told_by}
+use Rattle.instructions.specs.declared.Question.{Question}
+use Rattle.instructions.specs.Does.{Does, Quiet, Tried, stop_of}
 use Rattle.instructions.proofs.Answers.{stop_by, unstopped, quiet-stop, quiet-tried}
+use Rattle.instructions.proofs.Asking.{some}
 use Rattle.instructions.proofs.Storing.{quiet_none}
-use Rattle.tests.specs.Prepares.{Prepares}
+use Rattle.tests.specs.Prepares.{ReadTest, Prepares}
 use Rattle.tests.specs.declared.Prepared.{Prepared}
 
 pub quiet-and : {x y : Asks} → Quiet x → Quiet y → Quiet (x & y)
@@ -57,28 +62,39 @@ and-stop true false c d m z = refl
 and-stop true true false d m z = rw (m refl) refl
 and-stop true true true d m z = absurd (z refl)
 
-module _ {p e n : List ℕ} (h : Stands p e n) (c : Arg) {g : List ℕ} {r : Prepared} (w : Prepares (state_at p e n).store c g r) (ins : Inputs) (t : Store) where
+-- what is told of a test that is made, and of one that is refused
+module _ {s : Store} {c : Arg} {g : List ℕ} {r : Result Prepared Question} (w : Prepares s c g r) where
+  pub test-read : {p : Prepared} → r ≡ Ok p → ReadTest s c g p
+  test-read e = IfOk-at_ok (λ p. ReadTest s c g p) e w.is
+
+  pub test-asked : {p : Prepared} → r ≡ Ok p → (ins : Inputs) → stop_of (test_asks ins s c) ≡ 0
+  test-asked e ins = sym (w.stop_is ins) ∙ ap told_by e
+
+  pub test-refused : {q : Question} → r ≡ Err q → (ins : Inputs) → question_number q ≡ stop_of (test_asks ins s c)
+  test-refused e ins = sym (ap told_by e) ∙ w.stop_is ins
+
+module _ {σ : State} (h : Stands σ) (c : Arg) {g : List ℕ} {r : Result Prepared Question} (w : Prepares σ.store c g r) (ins : Inputs) (t : Store) where
   abbrev asks : Asks
-  asks = test_asks ins (state_at p e n).store c
+  asks = test_asks ins σ.store c
 
   quiet : Quiet asks
-  quiet = quiet-test ins (state_at p e n).store c
+  quiet = quiet-test ins σ.store c
 
-  pub test-stop : (r.stop ≡ 0 → ⊥) → Does p e n r.stop p e n (asks, t, on)
-  test-stop z = quiet-stop h asks t quiet (w.stop_is ins) z
+  pub test-stop : {q : Question} → r ≡ Err q → Does σ (question_number q) σ (asks, t, on)
+  test-stop {q} e = quiet-stop h asks t quiet (test-refused w e ins) (some q)
 
-  pub test-tried : r.stop ≡ 0 → {x : ℕ} {p' e' n' : List ℕ} → Tried p e n x p' e' n' true t → Does p e n x p' e' n' (asks, t, on)
-  test-tried z k = let a = unstopped asks (sym (w.stop_is ins) ∙ z) in quiet-tried h t asks quiet a.0 a.1 a.2 k
+  pub test-tried : {p : Prepared} → r ≡ Ok p → {x : ℕ} {σ' : State} → Tried σ x σ' true t → Does σ x σ' (asks, t, on)
+  test-tried e k = let a = unstopped asks (test-asked w e ins) in quiet-tried h t asks quiet a.0 a.1 a.2 k
 
   -- and with 53 asked of what is taken, which is nothing by a count that is refused
   module _ (words : Bool) where
-    pub words-stop : (r.stop ≡ 54 → words ≡ true) → (r.stop ≡ 0 → ⊥) → Does p e n r.stop p e n (asks & ask 53 words, t, on)
-    words-stop m z =
-        let e = w.stop_is ins in
+    pub words-stop : {q : Question} → (question_number q ≡ 54 → words ≡ true) → r ≡ Err q → Does σ (question_number q) σ (asks & ask 53 words, t, on)
+    words-stop {q} m z =
+        let e = test-refused w z ins in
         quiet-stop h (asks & ask 53 words) t (quiet-and quiet (quiet-words words))
-        (e ∙ and-stop (asks 52) (asks 53) (asks 54) words (λ y. m (e ∙ y)) (λ y. z (e ∙ y))) z
+        (e ∙ and-stop (asks 52) (asks 53) (asks 54) words (λ y. m (e ∙ y)) (λ y. some q (e ∙ y))) (some q)
 
-    pub words-tried : r.stop ≡ 0 → {x : ℕ} {p' e' n' : List ℕ} → Tried p e n x p' e' n' words t → Does p e n x p' e' n' (asks & ask 53 words, t, on)
-    words-tried z k =
-        let a = unstopped asks (sym (w.stop_is ins) ∙ z) in
+    pub words-tried : {p : Prepared} → r ≡ Ok p → {x : ℕ} {σ' : State} → Tried σ x σ' words t → Does σ x σ' (asks & ask 53 words, t, on)
+    words-tried e k =
+        let a = unstopped asks (test-asked w e ins) in
         quiet-tried h t (asks & ask 53 words) (quiet-and quiet (quiet-words words)) (rw a.0 refl) (rw a.1 refl) (rw a.2 refl) k

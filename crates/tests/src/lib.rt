@@ -1,174 +1,156 @@
 // Reading the values of a test: "A move first reads its test's values".
 #![tactic(auto)]
 
-ghost use Rattle.std.specs.Prelude.{length};
-ghost use Rattle.matching.specs.Below.Letters.Letter.{B, T};
-ghost use Rattle.matching.specs.Below.Program.Arg.{letter};
-ghost use Rattle.matching.specs.Below.Table.{text_by};
+ghost use Rattle.std.specs.Prelude.{[], ◌∷◌, ◌<◌, take};
+ghost use Rattle.language.specs.Letters as letters;
+ghost use Rattle.language.specs.Limits as limit;
+ghost use Rattle.language.specs.Program.Arg.{letter};
+ghost use Rattle.language.specs.Values as values;
+ghost use Rattle.machine.specs.Arguments.{expr, present};
+ghost use Rattle.layout.specs.Table.{text_by};
 ghost use Rattle.table.specs.Below.Packed.{table_of};
-ghost use Rattle.instructions.specs.Below.Working.{state_at, nth};
-ghost use Rattle.instructions.specs.Below.Blocks.{ExprNamed};
+ghost use Rattle.state.specs.Working.{nth};
 ghost use Rattle.table.specs.Denote.{letter_of, arg_of};
-ghost use Rattle.tests.specs.Prepares.{ExprReadable, LetterReadable, TextReadable, TestReadable, Prepares, NumberPrepares, CountPrepares, TextPrepares};
+ghost use Rattle.tests.specs.Prepares.{LetterReadable, TextReadable, TestReadable, Beside, PutBeside, Prepares, NumberPrepares, CountPrepares};
 
-use instructions::from_state;
-use matching::{from_cells, from_components};
+use instructions::Question;
+use matching::Test;
+use state::Working;
 
-// A question answered no, or 0 and the test, with the first `len` bytes of `given` beside it.
+// The code of 0.
+const ZERO: usize = 8388607;
+
+// A test, with the first `len` bytes of the row `given` beside it.
+// A length, not a slice: the row is a field of the bench, which the caller keeps.
 #[derive(Clone, Copy)]
 pub struct Prepared {
-    pub stop: u8,
-    pub test: matching::Test,
+    pub test: Test,
     pub len: usize,
 }
 
-// B: the first component of expression `i`.
-fn prepare_first(pool: &[u8], ends: &[u32], nums: &[u32], given: &mut [u8], i: usize) -> Prepared
-    requires { ExprReadable pool.now ends.now nums.now i (length given.old) }
-    ensures { Prepares (state_at pool.now ends.now nums.now).store (nth B i) given.new result }
+// Puts the first component of expression `i` in front of `given`.
+pub fn put_first(state: &Working, given: &mut [u8; 32768], i: usize) -> Result<usize, Question>
+    requires { i < limit.expressions }
+    ensures { PutBeside (present (take 1 (expr state.now.store (nth letters.Letter.E i)))) (take 1 (expr state.now.store (nth letters.Letter.E i))) given.new result }
 {
-    let x = from_state::expr_bytes(pool, ends, nums, i);
+    let x = state.expr_bytes(i);
     if x.len() == 0 {
-        return Prepared {
-            stop: 52,
-            test: matching::Test::All,
-            len: 0,
-        };
+        return Err(Question::Missing);
     }
-    let n = from_components::size_by(x[0]);
-    from_cells::put(given, 0, &x[..n]);
-    Prepared {
-        stop: 0,
-        test: matching::Test::Among,
-        len: n,
-    }
+    let n = components::size_by(x[0]);
+    cells::put(given, 0, &x[..n]);
+    Ok(n)
 }
 
-// T: all components of expression `i`.
-fn prepare_any(pool: &[u8], ends: &[u32], nums: &[u32], given: &mut [u8], i: usize) -> Prepared
-    requires { ExprReadable pool.now ends.now nums.now i (length given.old) }
-    ensures { Prepares (state_at pool.now ends.now nums.now).store (nth T i) given.new result }
+// Puts all components of expression `i` in front of `given`.
+pub fn put_all(state: &Working, given: &mut [u8; 32768], i: usize) -> usize
+    requires { i < limit.expressions }
+    ensures { Beside (expr state.now.store (nth letters.Letter.E i)) given.new result }
 {
-    let x = from_state::expr_bytes(pool, ends, nums, i);
-    from_cells::put(given, 0, x);
-    Prepared {
-        stop: 0,
-        test: matching::Test::Among,
-        len: x.len(),
-    }
+    let x = state.expr_bytes(i);
+    cells::put(given, 0, x);
+    x.len()
 }
 
-// The number of this code as a count.
-fn prepare_number(code: usize) -> Prepared
-    ensures { NumberPrepares code result }
-{
-    if code < 8388607 {
-        return Prepared {
-            stop: 54,
-            test: matching::Test::All,
-            len: 0,
-        };
-    }
-    Prepared {
-        stop: 0,
-        test: matching::Test::Count(code - 8388607),
-        len: 0,
-    }
-}
-
-// N: the first component of expression `i` as a count.
-fn prepare_count(pool: &[u8], ends: &[u32], nums: &[u32], i: usize) -> Prepared
-    requires { ExprNamed pool.now ends.now nums.now i }
-    ensures { CountPrepares (state_at pool.now ends.now nums.now).store i result }
-{
-    let x = from_state::expr_bytes(pool, ends, nums, i);
-    if x.len() == 0 {
-        return Prepared {
-            stop: 52,
-            test: matching::Test::All,
-            len: 0,
-        };
-    }
-    if from_components::kind_of(x) != 1 {
-        return Prepared {
-            stop: 53,
-            test: matching::Test::All,
-            len: 0,
-        };
-    }
-    prepare_number(from_components::number_of(x))
-}
-
-// A text as a word.
-fn prepare_text(table: &[u32], given: &mut [u8], v: usize) -> Prepared
-    requires { TextReadable table.now v (length given.old) }
-    ensures { TextPrepares (text_by (table_of table.now) v) given.new result }
+// Puts a text as a word in front of `given`.
+pub fn put_text(table: &[u32], given: &mut [u8; 32768], v: usize) -> usize
+    requires { TextReadable table.now v }
+    ensures { Beside (values.Component.word (text_by (table_of table.now) v) ∷ []) given.new result }
 {
     let mut w = [0u8; 60];
     let n = table::put_text(table, v, &mut w);
-    from_components::put_word(given, 0, &w[..n]);
-    Prepared {
-        stop: 0,
-        test: matching::Test::Among,
-        len: 1 + n,
+    components::put_word(given, 0, &w[..n]);
+    1 + n
+}
+
+// B: the first component of expression `i`.
+fn prepare_first(state: &Working, given: &mut [u8; 32768], i: usize) -> Result<Prepared, Question>
+    requires { i < limit.expressions }
+    ensures { Prepares state.now.store (nth letters.Letter.B i) given.new result }
+{
+    let len = put_first(state, given, i)?;
+    Ok(Prepared {
+        test: Test::Among,
+        len,
+    })
+}
+
+// The number of this code as a count.
+fn prepare_number(code: usize) -> Result<Prepared, Question>
+    ensures { NumberPrepares code result }
+{
+    if code < ZERO {
+        return Err(Question::Range);
     }
+    Ok(Prepared {
+        test: Test::Count(code - ZERO),
+        len: 0,
+    })
+}
+
+// N: the first component of expression `i` as a count.
+fn prepare_count(state: &Working, i: usize) -> Result<Prepared, Question>
+    requires { i < limit.expressions }
+    ensures { CountPrepares state.now.store i result }
+{
+    let x = state.expr_bytes(i);
+    if x.len() == 0 {
+        return Err(Question::Missing);
+    }
+    if components::kind_of(x) != 1 {
+        return Err(Question::Kind);
+    }
+    prepare_number(components::number_of(x))
 }
 
 // A letter with index `n`.
 fn prepare_letter(
-    pool: &[u8],
-    ends: &[u32],
-    nums: &[u32],
-    given: &mut [u8],
+    state: &Working,
+    given: &mut [u8; 32768],
     l: table::Letter,
     n: usize,
-) -> Prepared
-    requires { LetterReadable pool.now ends.now nums.now l n (length given.old) }
-    ensures { Prepares (state_at pool.now ends.now nums.now).store (letter (letter_of l) n) given.new result }
+) -> Result<Prepared, Question>
+    requires { LetterReadable l n }
+    ensures { Prepares state.now.store (letter (letter_of l) n) given.new result }
 {
     let i = n - 1;
     match l {
-        table::Letter::N => prepare_count(pool, ends, nums, i),
-        table::Letter::T => prepare_any(pool, ends, nums, given, i),
-        _ => prepare_first(pool, ends, nums, given, i),
+        table::Letter::N => prepare_count(state, i),
+        table::Letter::T => Ok(Prepared {
+            test: Test::Among,
+            len: put_all(state, given, i),
+        }),
+        _ => prepare_first(state, given, i),
     }
 }
 
 // What a test's argument asks (52, 53, 54), and the test that it makes. The bytes beside it are put in front of `given`.
 pub fn prepare(
     table: &[u32],
-    pool: &[u8],
-    ends: &[u32],
-    nums: &[u32],
-    given: &mut [u8],
+    state: &Working,
+    given: &mut [u8; 32768],
     arg: table::Argument,
-) -> Prepared
-    requires { TestReadable table.now pool.now ends.now nums.now (length given.old) arg }
-    ensures { Prepares (state_at pool.now ends.now nums.now).store (arg_of (table_of table.now) arg) given.new result }
+) -> Result<Prepared, Question>
+    requires { TestReadable table.now arg }
+    ensures { Prepares state.now.store (arg_of (table_of table.now) arg) given.new result }
 {
     match arg {
-        table::Argument::Indexed(l, n) => prepare_letter(pool, ends, nums, given, l, n),
-        table::Argument::Class(mask) => Prepared {
-            stop: 0,
-            test: matching::Test::Class(mask),
+        table::Argument::Indexed(l, n) => prepare_letter(state, given, l, n),
+        table::Argument::Class(mask) => Ok(Prepared {
+            test: Test::Class(mask),
             len: 0,
-        },
-        table::Argument::Text(v) => prepare_text(table, given, v),
+        }),
+        table::Argument::Text(v) => Ok(Prepared {
+            test: Test::Among,
+            len: put_text(table, given, v),
+        }),
+        // From does not turn a u32 into a usize.
         table::Argument::Number(v) => prepare_number(v as usize),
-        table::Argument::Nothing => Prepared {
-            stop: 0,
-            test: matching::Test::All,
-            len: 0,
-        },
-        table::Argument::Label(_) => Prepared {
-            stop: 0,
-            test: matching::Test::All,
-            len: 0,
-        },
-        table::Argument::Switch(_) => Prepared {
-            stop: 0,
-            test: matching::Test::All,
-            len: 0,
-        },
+        table::Argument::Nothing | table::Argument::Label(_) | table::Argument::Switch(_) => {
+            Ok(Prepared {
+                test: Test::All,
+                len: 0,
+            })
+        }
     }
 }

@@ -15,7 +15,7 @@ use Rattle.language.specs.Letters.Letter.{P}
 use Rattle.language.specs.Program.{Arg, Program}
 use Rattle.language.specs.Program.Arg.{nothing}
 use Rattle.language.specs.Program.Op.{POBIERZ}
-use Rattle.language.specs.Values.{Component, Record, Store, Inputs, chars}
+use Rattle.language.specs.Values.{Component, Record, Store, State, Inputs, chars}
 use Rattle.machine.specs.Arguments.{file_of, none, everything}
 use Rattle.machine.specs.Changes.{with_plus, minus, minus_unless, into, past, fits}
 use Rattle.machine.specs.Effects.{Row, moved, row}
@@ -27,15 +27,14 @@ use Rattle.layout.specs.Components.{components_bytes, components_in, record_in, 
 use Rattle.layout.specs.Memory.{components_held, chars_held}
 use Rattle.matching.specs.Tests.{Took}
 use Rattle.matching.specs.declared.Taken.{Taken}
-use Rattle.records.specs.Places.{Starts, Part}
+use Rattle.records.specs.Places.{Part}
 use Rattle.records.proofs.Walking.{all-taken}
 use Rattle.state.specs.Blocks.{PartsWritable}
 use Rattle.state.specs.Limited.{Limited}
-use Rattle.state.specs.Working.{state_at, HoldsState, Stands, on_store, nth, filing, writing, turned, char_count}
+use Rattle.state.specs.Working.{HoldsState, Stands, on_store, nth, filing, writing, turned, char_count}
 use Rattle.state.proofs.Fits.{fine-limited, fits-into-ok}
 use Rattle.state.proofs.Freed.{limited-past, removed-or-left}
 use Rattle.state.proofs.Sequences.{total-ones, turned-length, turned-total, each-turned, bytes-turned}
-use Rattle.state.proofs.Standing.{state_of, stands}
 use Rattle.filing.specs.Files.{RecordsLent, FirstRecords}
 use Rattle.filing.proofs.Removed.{components-past, chars-past}
 use Rattle.instructions.specs.Does.{DoesFor}
@@ -56,10 +55,10 @@ first_is rs r ts q s a b =
     let m : min 1 (length rs) ≡ 1 = omega (arith, l) in
     rw (le-leb 1 (length rs) l, m) (rw q (plus-same (into b r.parts (past a 1 s))))
 
-module _ {p e n : List ℕ} (h : Stands p e n) (removes : Bool) {i : ℕ} (a : i < limit.files) {f : List ℕ} (l : RecordsLent (file_of (state_at p e n).store (nth P i)).after f)
+module _ {σ : State} (h : Stands σ) (removes : Bool) {i : ℕ} (a : i < limit.files) {f : List ℕ} (l : RecordsLent (file_of σ.store (nth P i)).after f)
     (reverses at_end : Bool) {j : ℕ} (d : j < limit.expressions) where
   abbrev s : Store
-  s = (state_at p e n).store
+  s = σ.store
 
   abbrev rs : List Record
   rs = (file_of s (nth P i)).after
@@ -72,7 +71,7 @@ module _ {p e n : List ℕ} (h : Stands p e n) (removes : Bool) {i : ℕ} (a : i
   row-none true g ins q = rw q refl
   row-none false g ins q = rw q refl
 
-  pub pobierz-none : length f ≡ 0 → {n' : List ℕ} → HoldsState p e n' (on_store (with_plus false) (state_at p e n)) → DoesFor p e n 0 p e n' by
+  pub pobierz-none : length f ≡ 0 → {σ' : State} → HoldsState σ' (on_store (with_plus false) σ) → DoesFor σ 0 σ' by
   unfolding minus
   pobierz-none z k g ins = rw (row-none removes g ins (sym l.is ∙ records-none f z)) (plain_done h (with_plus false) k)
 
@@ -85,9 +84,6 @@ module _ {p e n : List ℕ} (h : Stands p e n) (removes : Bool) {i : ℕ} (a : i
 
     rs-is : rs ≡ r ∷ ts
     rs-is = sym l.is ∙ (next-record l.whole (omega (arith, z))).is
-
-    pub starts : Starts f 0
-    starts = record { more = omega (arith, z); whole = l.whole }
 
     abbrev then : Store → Store
     then u = past (nth (filing removes) i) 1 u
@@ -135,7 +131,7 @@ module _ {p e n : List ℕ} (h : Stands p e n) (removes : Bool) {i : ℕ} (a : i
       within = rw h.fine.files_is a
 
       limited : Limited (then s)
-      limited = limited-past s (fine-limited (state_at p e n) h.fine) (nth (filing removes) i) 1
+      limited = limited-past s (fine-limited σ h.fine) (nth (filing removes) i) 1
 
       abbrev ys : List Component
       ys = turned reverses r.parts
@@ -161,7 +157,7 @@ module _ {p e n : List ℕ} (h : Stands p e n) (removes : Bool) {i : ℕ} (a : i
             fits-into-ok (nth (writing at_end) j) (then s) (rw limited.exprs_is d) ys limited (each-turned Ok reverses r.parts y.cells.all_ok)
             ∙ rw (← count_is, ← chars-are, components_then, chars_then, u, v) refl
 
-        pub pobierz-full : {b : Bool} → b ≡ roomy → b ≡ false → DoesFor p e n 59 p e n by
+        pub pobierz-full : {b : Bool} → b ≡ roomy → b ≡ false → DoesFor σ 59 σ by
         pobierz-full q o g ins = rw (row_is g ins) (plain-full h (fetched s) (fits-fetched ∙ sym q ∙ o))
 
         module _ {b : Bool} (q : b ≡ roomy) (o : b ≡ true) (old : List ℕ) {new : List ℕ} (w : new ≡ pasted old 0 (components_bytes (turned reverses (components_in x)))) where
@@ -172,16 +168,14 @@ module _ {p e n : List ℕ} (h : Stands p e n) (removes : Bool) {i : ℕ} (a : i
                 all_ok = each-turned Ok reverses r.parts y.cells.all_ok;
               }
 
-          module _ {p' e' n' : List ℕ} (g : HoldsState p' e' n' (on_store then (state_at p e n))) where
-            pub pobierz-writable : {sc : ℕ} → 65536 ≤ sc → PartsWritable p' e' n' sc j (take (length x) new) t.parts t.chars
+          module _ {σ' : State} (g : HoldsState σ' (on_store then σ)) where
+            pub pobierz-writable : PartsWritable σ' j (take (length x) new) t.parts t.chars
             unfolding on_store
-            pobierz-writable sp =
-                let st = state_of g in
+            pobierz-writable =
+                let st = g.is in
                 let i = components-of new-encoded in
                 let room = both (leb (components_held s + c) limit.components) (leb (chars_held s + m) limit.characters) (sym q ∙ o) in
                 record {
-                  stands = stands g;
-                  spare = sp;
                   index = d;
                   whole = whole-components new-encoded;
                   count = rw i count_is;
@@ -190,10 +184,10 @@ module _ {p e n : List ℕ} (h : Stands p e n) (removes : Bool) {i : ℕ} (a : i
                   chars_room = rw st (omega (arith, chars_then, v, leb-true (chars_held s + m) limit.characters room.1));
                 }
 
-            pub pobierz-done : {p'' e'' n'' : List ℕ} → HoldsState p'' e'' n'' (on_store (into (nth (writing at_end) j) (components_in (take (length x) new))) (state_at p' e' n'))
-                → DoesFor p e n 0 p'' e'' n'' by
-            pobierz-done {p''} {e''} {n''} k' g' ins =
+            pub pobierz-done : {σ'' : State} → HoldsState σ'' (on_store (into (nth (writing at_end) j) (components_in (take (length x) new))) σ')
+                → DoesFor σ 0 σ'' by
+            pobierz-done {σ'' = σ''} k' g' ins =
                 rw (row_is g' ins)
                 (plain_done h fetched
-                (one-after (state_at p e n) then (into (nth (writing at_end) j) ys) g
-                (subst (λ (zs : List Component). HoldsState p'' e'' n'' (on_store (into (nth (writing at_end) j) zs) (state_at p' e' n'))) (components-of new-encoded) k')))
+                (one-after σ then (into (nth (writing at_end) j) ys) g
+                (subst (λ (zs : List Component). HoldsState σ'' (on_store (into (nth (writing at_end) j) zs) σ')) (components-of new-encoded) k')))

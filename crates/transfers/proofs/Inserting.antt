@@ -14,7 +14,7 @@ use Rattle.language.specs.Letters.Letter.{E}
 use Rattle.language.specs.Program.{Program}
 use Rattle.language.specs.Program.Arg.{nothing}
 use Rattle.language.specs.Program.Op.{WSTAW}
-use Rattle.language.specs.Values.{Component, Store, Inputs, chars}
+use Rattle.language.specs.Values.{Component, Store, State, Inputs, chars}
 use Rattle.machine.specs.Arguments.{expr, none, everything}
 use Rattle.machine.specs.Changes.{with_exprs, with_plus, put_expr, minus, minus_unless, stamped, stored, past_by, past, held}
 use Rattle.machine.specs.Effects.{Row, moved, row}
@@ -28,7 +28,7 @@ use Rattle.matching.specs.declared.Taken.{Taken}
 use Rattle.records.specs.Places.{Recordable}
 use Rattle.records.proofs.Stamps.{record_of, stamped-one}
 use Rattle.state.specs.Blocks.{ExprLent, FirstParts}
-use Rattle.state.specs.Working.{state_at, HoldsState, Stands, on_store, nth, reading, filing, turned, char_count}
+use Rattle.state.specs.Working.{HoldsState, Stands, on_store, nth, reading, filing, turned, char_count}
 use Rattle.state.proofs.Fits.{fine-limited}
 use Rattle.state.proofs.Freed.{limited-past, held-off, recorded-off, removed-or-left, components-past, chars-past}
 use Rattle.state.proofs.Sequences.{total-ones}
@@ -69,10 +69,10 @@ module _ (b : Bool) (n : ℕ) (xs : List Component) (ok : Each Ok xs) (below : l
         all_ok = each-one;
       })
 
-module _ {p e n : List ℕ} (h : Stands p e n) (removes : Bool) {i : ℕ} (a : i < limit.expressions) {x : List ℕ} (l : ExprLent p e n i x) (b : Bool) {j : ℕ}
+module _ {σ : State} (h : Stands σ) (removes : Bool) {i : ℕ} (a : i < limit.expressions) {x : List ℕ} (l : ExprLent σ i x) (b : Bool) {j : ℕ}
     (d : j < limit.files) where
   abbrev s : Store
-  s = (state_at p e n).store
+  s = σ.store
 
   abbrev xs : List Component
   xs = expr s (nth E i)
@@ -91,7 +91,7 @@ module _ {p e n : List ℕ} (h : Stands p e n) (removes : Bool) {i : ℕ} (a : i
   row_by true g ins = refl
   row_by false g ins = refl
 
-  pub wstaw-none : length x ≡ 0 → {n' : List ℕ} → HoldsState p e n' (on_store (with_plus false) (state_at p e n)) → DoesFor p e n 0 p e n' by
+  pub wstaw-none : length x ≡ 0 → {σ' : State} → HoldsState σ' (on_store (with_plus false) σ) → DoesFor σ 0 σ' by
   unfolding minus
   wstaw-none z k g ins =
       let q : xs ≡ [] = sym l.is ∙ components-none x z in
@@ -139,7 +139,7 @@ module _ {p e n : List ℕ} (h : Stands p e n) (removes : Bool) {i : ℕ} (a : i
           parts_is = omega (arith, all_parts);
           chars_is = omega (arith, took.chars_is, ap char_count all-taken);
           all_ok = (l.encoded.all_ok, tt);
-          limited = limited-past s (fine-limited (state_at p e n) h.fine) (nth (reading removes) i) t.parts;
+          limited = limited-past s (fine-limited σ h.fine) (nth (reading removes) i) t.parts;
           components_then = omega (arith, components-past s i t.parts within first removes, removed-or-left removes t.parts);
           chars_then = omega (arith, chars-past s i t.parts within first removes, removed-or-left removes t.chars);
           records_then = omega (arith, records-stay removes);
@@ -167,32 +167,30 @@ module _ {p e n : List ℕ} (h : Stands p e n) (removes : Bool) {i : ℕ} (a : i
     pub chars-few : t.chars ≤ 65536
     chars-few = omega (arith, took.chars_most, took.bytes_most, ap length l.encoded.is, few_bytes)
 
-    module _ {r c d' : ℕ} (u : c ≡ cond removes 0 t.parts) (v : d' ≡ cond removes 0 t.chars) (w : r ≡ room_of s 1 c d' 1) where
-      answer : r ≡ room_of s 1 (cond removes 0 t.parts) (cond removes 0 t.chars) 1
-      answer = rw (← u, ← v) w
-
-      pub wstaw-stop : (r ≡ 0 → ⊥) → DoesFor p e n r p e n by
-      wstaw-stop y g ins =
+    module _ {c d' : ℕ} (u : c ≡ cond removes 0 t.parts) (v : d' ≡ cond removes 0 t.chars) where
+      pub wstaw-stop : {r : ℕ} → r ≡ room_of s 1 c d' 1 → (r ≡ 0 → ⊥) → DoesFor σ r σ by
+      wstaw-stop w y g ins =
           rw (row_is g ins)
-          (room-stop h none quiet_none refl (minus_unless true (inserted s)) 1 (cond removes 0 t.parts) (cond removes 0 t.chars) 1 (lot-fits lot b d true) (lot-last lot b d true) answer y)
+          (room-stop h none quiet_none refl (minus_unless true (inserted s)) 1 (cond removes 0 t.parts) (cond removes 0 t.chars) 1 (lot-fits lot b d true) (lot-last lot b d true) (rw (← u, ← v) w) y)
 
-      pub roomy : r ≡ 0 → Roomy s 1 (cond removes 0 t.parts) (cond removes 0 t.chars) 1
-      roomy y = has_room s 1 (cond removes 0 t.parts) (cond removes 0 t.chars) 1 answer y
+      module _ (w : 0 ≡ room_of s 1 c d' 1) where
+        pub roomy : Roomy s 1 (cond removes 0 t.parts) (cond removes 0 t.chars) 1
+        roomy = has_room s 1 (cond removes 0 t.parts) (cond removes 0 t.chars) 1 (rw (← u, ← v) w)
 
-      pub recordable : r ≡ 0 → {o : List ℕ} → 32768 ≤ length o → {m : ℕ} → m ≡ s.last → Recordable o (m + 1) x
-      recordable y ro q = record { room = omega (arith, few_bytes); small = omega (arith, few_bytes); given = omega (arith, (roomy y).addresses, q); whole = l.whole }
+        pub recordable : {o : List ℕ} → length o ≡ 32768 → {m : ℕ} → m ≡ s.last → Recordable o (m + 1) x
+        recordable ro q = record { room = omega (arith, few_bytes, ro); small = omega (arith, few_bytes); given = omega (arith, roomy.addresses, q); whole = l.whole }
 
-      module _ (y : r ≡ 0) {m : ℕ} (q : m ≡ s.last) (o : List ℕ) {o' : List ℕ} (put : o' ≡ pasted o 0 (record_bytes (record_of (m + 1) (components_in x)))) where
-        new-record : EncodedRecords (take (length x + 7) o') (turned b (stamped s.last (xs ∷ [])))
-        new-record =
-            one-encoded b s.last xs l.encoded.all_ok (omega (arith, few_bytes, ap length l.encoded.is)) (roomy y).addresses o
-            (rw (← q, ← l.is) put) (ap length l.encoded.is)
+        module _ {m : ℕ} (q : m ≡ s.last) (o : List ℕ) {o' : List ℕ} (put : o' ≡ pasted o 0 (record_bytes (record_of (m + 1) (components_in x)))) where
+          new-record : EncodedRecords (take (length x + 7) o') (turned b (stamped s.last (xs ∷ [])))
+          new-record =
+              one-encoded b s.last xs l.encoded.all_ok (omega (arith, few_bytes, ap length l.encoded.is)) roomy.addresses o
+              (rw (← q, ← l.is) put) (ap length l.encoded.is)
 
-        module _ {e' n' : List ℕ} (g : HoldsState p e' n' (on_store (then t.parts) (state_at p e n))) where
-          pub wstaw-writable : {sc : ℕ} → 65536 ≤ sc → RecordsWritable p e' n' sc j b (take (length x + 7) o') 1 t.parts t.chars
-          wstaw-writable sp = lot-writable lot b d h (then t.parts) refl g new-record sp (roomy y)
+          module _ {σ' : State} (g : HoldsState σ' (on_store (then t.parts) σ)) where
+            pub wstaw-writable : RecordsWritable σ' j b (take (length x + 7) o') 1 t.parts t.chars
+            wstaw-writable = lot-writable lot b d σ (then t.parts) refl g new-record roomy
 
-          pub wstaw-done : {p'' e'' n'' : List ℕ} → HoldsState p'' e'' n'' (on_store (stored (nth (filing b) j) (bodies b (take (length x + 7) o'))) (state_at p e' n'))
-              → DoesFor p e n 0 p'' e'' n'' by
-          wstaw-done f g' ins =
-              rw (row_is g' ins, plus-same (inserted s)) (plain_done h inserted (lot-stored lot b d h (then t.parts) refl g new-record f))
+            pub wstaw-done : {σ'' : State} → HoldsState σ'' (on_store (stored (nth (filing b) j) (bodies b (take (length x + 7) o'))) σ')
+                → DoesFor σ 0 σ'' by
+            wstaw-done f g' ins =
+                rw (row_is g' ins, plus-same (inserted s)) (plain_done h inserted (lot-stored lot b d σ (then t.parts) refl g new-record f))

@@ -6,7 +6,7 @@ use Prim.Native.Nat.{ℕ, ◌+◌, ◌≤◌, ◌<◌}
 use native.Mathlib.Omega.{arith}
 use lib.Dec.{leb}
 use lib.ListN.{length}
-use borrow.Author.Tests.{le-leb, lt-leb, leb-true, leb-false}
+use borrow.Author.Tests.{leb-true, leb-false}
 use Rattle.lists.specs.Lists.{total}
 use Rattle.language.specs.Limits as limit
 use Rattle.language.specs.Values.{Component, Store, State, chars}
@@ -16,10 +16,10 @@ use Rattle.machine.specs.Effects.Go.{on}
 use Rattle.layout.specs.Bounds.{EncodedRecords}
 use Rattle.layout.proofs.ComponentLaws.{whole-records}
 use Rattle.layout.specs.Memory.{components_held, chars_held, records_held}
-use Rattle.state.specs.Working.{state_at, HoldsState, Stands, on_store, nth, filing, turned, char_count}
+use Rattle.state.specs.Working.{HoldsState, Stands, on_store, nth, filing, turned, char_count}
 use Rattle.state.proofs.Fits.{fits-stored, fits-minus_unless}
 use Rattle.state.proofs.Sequences.{total-ones, total-same}
-use Rattle.state.proofs.Standing.{state_of, stands, after-state}
+use Rattle.state.proofs.Standing.{after-state}
 use Rattle.filing.specs.Files.{bodies, RecordsWritable}
 use Rattle.filing.proofs.Stored.{bodies-are, stamps-are, count_is, totals-are}
 use Rattle.instructions.specs.Does.{Does, Quiet, stop_of}
@@ -33,23 +33,6 @@ left_most true q l = omega (arith, q)
 left_most false q l = omega (arith, q)
 
 module _ (s : Store) (records parts chars given : ℕ) where
-  abbrev roomy : Bool
-  roomy = leb (components_held s + parts) limit.components && leb (chars_held s + chars) limit.characters
-
-  pub answer-full : {b : Bool} → b ≡ roomy → b ≡ false → 59 ≡ room_of s records parts chars given
-  answer-full q z = rw (sym q ∙ z) refl
-
-  pub answer-records : {b : Bool} → b ≡ roomy → b ≡ true → limit.records < records_held s + records → 59 ≡ room_of s records parts chars given
-  answer-records q z l = rw (sym q ∙ z, lt-leb (records_held s + records) limit.records l) refl
-
-  pub answer-given : {b : Bool} → b ≡ roomy → b ≡ true → records_held s + records ≤ limit.records → limit.addresses < s.last + given
-      → 60 ≡ room_of s records parts chars given
-  answer-given q z l m = rw (sym q ∙ z, le-leb (records_held s + records) limit.records l, lt-leb (s.last + given) limit.addresses m) refl
-
-  pub answer-room : {b : Bool} → b ≡ roomy → b ≡ true → records_held s + records ≤ limit.records → s.last + given ≤ limit.addresses
-      → 0 ≡ room_of s records parts chars given
-  answer-room q z l m = rw (sym q ∙ z, le-leb (records_held s + records) limit.records l, le-leb (s.last + given) limit.addresses m) refl
-
   -- 0 is told where there is room
   none : (a b c d : Bool) → ◌≡◌ {A = ℕ} (cond (a && b && c) (cond d 0 60) 59) 0 → (a ≡ true) × (b ≡ true) × (c ≡ true) × (d ≡ true)
   none true true true true q = (refl, refl, refl, refl)
@@ -58,11 +41,11 @@ module _ (s : Store) (records parts chars given : ℕ) where
   none true false c d q = absurd (omega (arith, q))
   none false b c d q = absurd (omega (arith, q))
 
-  pub has_room : {r : ℕ} → r ≡ room_of s records parts chars given → r ≡ 0 → Roomy s records parts chars given
-  has_room w z =
+  pub has_room : 0 ≡ room_of s records parts chars given → Roomy s records parts chars given
+  has_room w =
       let y =
       none (leb (components_held s + parts) limit.components) (leb (chars_held s + chars) limit.characters) (leb (records_held s + records) limit.records)
-      (leb (s.last + given) limit.addresses) (sym w ∙ z) in
+      (leb (s.last + given) limit.addresses) (sym w) in
       record {
         components = leb-true (components_held s + parts) limit.components y.0;
         characters = leb-true (chars_held s + chars) limit.characters y.1;
@@ -71,19 +54,19 @@ module _ (s : Store) (records parts chars given : ℕ) where
       }
 
 -- the store t is refused by 59 or 60
-module _ {p e n : List ℕ} (h : Stands p e n) (q : Asks) (k : Quiet q) (z : stop_of q ≡ 0) (t : Store) where
+module _ {σ : State} (h : Stands σ) (q : Asks) (k : Quiet q) (z : stop_of q ≡ 0) (t : Store) where
   abbrev store : Store
-  store = (state_at p e n).store
+  store = σ.store
 
   stop_by : (given : ℕ) (a b : Bool) → fits t ≡ a → t.last ≡ store.last + given → leb (store.last + given) limit.addresses ≡ b → {r : ℕ}
-      → r ≡ cond a (cond b 0 60) 59 → (r ≡ 0 → ⊥) → Does p e n r p e n (q, t, on)
+      → r ≡ cond a (cond b 0 60) 59 → (r ≡ 0 → ⊥) → Does σ r σ (q, t, on)
   stop_by given true true x l y w v = absurd (v w)
   stop_by given true false x l y w v =
-      subst (λ (m : ℕ). Does p e n m p e n (q, t, on)) (sym w) (storing-given h q k z t x (rw l (leb-false (store.last + given) limit.addresses y)))
-  stop_by given false b x l y w v = subst (λ (m : ℕ). Does p e n m p e n (q, t, on)) (sym w) (storing-full h q k z t x)
+      subst (λ (m : ℕ). Does σ m σ (q, t, on)) (sym w) (storing-given h q k z t x (rw l (leb-false (store.last + given) limit.addresses y)))
+  stop_by given false b x l y w v = subst (λ (m : ℕ). Does σ m σ (q, t, on)) (sym w) (storing-full h q k z t x)
 
   pub room-stop : (records parts chars given : ℕ) → fits t ≡ has_places store records parts chars → t.last ≡ store.last + given → {r : ℕ}
-      → r ≡ room_of store records parts chars given → (r ≡ 0 → ⊥) → Does p e n r p e n (q, t, on)
+      → r ≡ room_of store records parts chars given → (r ≡ 0 → ⊥) → Does σ r σ (q, t, on)
   room-stop records parts chars given f l w v =
       stop_by given (has_places store records parts chars) (leb (store.last + given) limit.addresses) f l refl w v
 
@@ -105,18 +88,16 @@ module _ {s t : Store} {xs : List (List Component)} {k c d records parts chars :
   unfolding minus_unless with_plus stored with_files
   lot-last r = rw (m.last_is, m.count) refl
 
-  module _ {p e n : List ℕ} (h : Stands p e n) (f : Store → Store) (w : f (state_at p e n).store ≡ t) {p' e' n' : List ℕ}
-      (g : HoldsState p' e' n' (on_store f (state_at p e n))) {new : List ℕ} (y : EncodedRecords new (turned b (stamped s.last xs))) where
-    store_then : (state_at p' e' n').store ≡ t
+  module _ (σ : State) (f : Store → Store) (w : f σ.store ≡ t) {σ' : State}
+      (g : HoldsState σ' (on_store f σ)) {new : List ℕ} (y : EncodedRecords new (turned b (stamped s.last xs))) where
+    store_then : σ'.store ≡ t
     unfolding on_store
-    store_then = ap (λ (u : State). u.store) (state_of g) ∙ w
+    store_then = ap (λ (u : State). u.store) g.is ∙ w
 
-    pub lot-writable : {sc : ℕ} → 65536 ≤ sc → Roomy s records parts chars k → RecordsWritable p' e' n' sc j b new k c d
-    lot-writable sp z =
+    pub lot-writable : Roomy s records parts chars k → RecordsWritable σ' j b new k c d
+    lot-writable z =
         let q = store_then in
         record {
-          stands = stands g;
-          spare = sp;
           index = l;
           whole = whole-records y;
           stamps = rw (q, m.last_is) (stamps-are b s.last xs y);
@@ -129,9 +110,9 @@ module _ {s t : Store} {xs : List (List Component)} {k c d records parts chars :
           addresses_room = rw q (omega (arith, m.last_is, z.addresses));
         }
 
-    pub lot-stored : {p'' e'' n'' : List ℕ} → HoldsState p'' e'' n'' (on_store (stored (nth (filing b) j) (bodies b new)) (state_at p' e' n'))
-        → HoldsState p'' e'' n'' (on_store (λ u. stored (nth (filing b) j) xs (f u)) (state_at p e n))
+    pub lot-stored : {σ'' : State} → HoldsState σ'' (on_store (stored (nth (filing b) j) (bodies b new)) σ')
+        → HoldsState σ'' (on_store (λ u. stored (nth (filing b) j) xs (f u)) σ)
     unfolding on_store
-    lot-stored {p''} {e''} {n''} x =
+    lot-stored {σ'' = σ''} x =
         after-state g (on_store (stored (nth (filing b) j) xs))
-        (subst (λ (ys : List (List Component)). HoldsState p'' e'' n'' (on_store (stored (nth (filing b) j) ys) (state_at p' e' n'))) (bodies-are b s.last xs y) x)
+        (subst (λ (ys : List (List Component)). HoldsState σ'' (on_store (stored (nth (filing b) j) ys) σ')) (bodies-are b s.last xs y) x)

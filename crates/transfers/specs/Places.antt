@@ -1,13 +1,12 @@
 -- Questions 59 and 60 by what an instruction adds beyond what it frees, and what the functions of transfers ask.
-use Rattle.std.specs.Prelude.{◌≡◌, Bool, cond, ◌&&◌, List, ℕ, ◌+◌, ◌≤◌, ◌<◌, leb, length}
+use Rattle.std.specs.Prelude.{◌≡◌, Bool, cond, ◌&&◌, List, ℕ, ◌+◌, ◌≤◌, leb, length}
 use Rattle.lists.specs.Lists.{total}
 use Rattle.language.specs.Limits as limit
 use Rattle.language.specs.Values.{Component, Store}
 use Rattle.layout.specs.Bounds.{Each, Ok}
 use Rattle.layout.specs.Memory.{components_held, chars_held, records_held}
 use Rattle.state.specs.Limited.{Limited}
-use Rattle.state.specs.Working.{Stands, char_count}
-use Rattle.instructions.specs.Does.{Ready}
+use Rattle.state.specs.Working.{char_count}
 
 -- so many records, components and characters more are within the limits
 abbrev pub has_places : Store → ℕ → ℕ → ℕ → Bool
@@ -18,8 +17,7 @@ has_places s records parts chars =
 abbrev pub room_of : Store → ℕ → ℕ → ℕ → ℕ → ℕ
 room_of s records parts chars given = cond (has_places s records parts chars) (cond (leb (s.last + given) limit.addresses) 0 60) 59
 
-pub record Growing (p e n : List ℕ) (records parts chars given : ℕ) : Type 0 where
-  pub stands : Stands p e n
+pub record Growing (records parts chars given : ℕ) : Type 0 where
   pub records_most : records ≤ 65536
   pub parts_most : parts ≤ 65536
   pub chars_most : chars ≤ 65536
@@ -44,9 +42,3 @@ pub record Lot (s t : Store) (xs : List (List Component)) (k c d records parts c
   pub chars_then : chars_held t + d ≡ chars_held s + chars
   pub records_then : records_held t + k ≡ records_held s + records
   pub last_is : t.last ≡ s.last
-
--- from file i to expression j; given is for records on the way
-pub record Fetchable (p e n : List ℕ) (scratch hold given i j : ℕ) : Type 0 where
-  pub ready : Ready p e n scratch hold given
-  pub source : i < limit.files
-  pub target : j < limit.expressions

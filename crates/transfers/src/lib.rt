@@ -1,165 +1,130 @@
 // Between expressions and files: WSTAW and POBIERZ; and whether new records have room.
 #![tactic(auto)]
 
-ghost use Rattle.std.specs.Prelude.{◌≡◌, cond, length};
+ghost use Rattle.std.specs.Prelude.{◌≡◌, ◌<◌, cond};
 ghost use Rattle.language.specs.Limits as limit;
 ghost use Rattle.language.specs.Program.Arg.{nothing};
 ghost use Rattle.language.specs.Program.Op.{WSTAW, POBIERZ};
 ghost use Rattle.machine.specs.Effects.{row};
-ghost use Rattle.state.specs.Working.{state_at, nth, reading, filing};
+ghost use Rattle.state.specs.Working.{nth, reading, filing};
+ghost use Rattle.instructions.specs.Questions.{told_by};
 ghost use Rattle.instructions.specs.Does.{DoesFor};
-ghost use Rattle.instructions.specs.Operands.{target, TwoOperands};
-ghost use Rattle.transfers.specs.Places.{room_of, Growing, Fetchable};
+ghost use Rattle.instructions.specs.Operands as letters;
+ghost use Rattle.transfers.specs.Places.{room_of, Growing};
 
+use instructions::{Bench, Question, Source, Target};
 use language::Machine;
 use layout::StatePlaces;
+use state::Working;
 
 // What of `k` is added where it is taken away elsewhere or stays there.
+// Here and no method of `Source`: it is used only where room is asked for.
 pub fn left(removes: bool, k: usize) -> usize
     ensures { result ≡ cond removes 0 k }
 {
-    if removes {
-        return 0;
-    }
-    k
+    if removes { 0 } else { k }
 }
 
-// Whether so many records, components, characters and addresses more are within the limits: 0, or the question answered no.
+// Whether so many records, components, characters and addresses more are within the limits.
+// Four numbers and no struct: each caller has them apart and would build one for this call alone.
 pub fn room_for(
-    pool: &[u8],
-    ends: &[u32],
-    nums: &[u32],
+    state: &Working,
     records: usize,
     parts: usize,
     chars: usize,
     given: usize,
-) -> u8
-    requires { Growing pool.now ends.now nums.now records parts chars given }
-    ensures { result ≡ room_of (state_at pool.now ends.now nums.now).store records parts chars given }
+) -> Result<(), Question>
+    requires { Growing records parts chars given }
+    ensures { told_by result ≡ room_of state.now.store records parts chars given }
 {
-    if !instructions::has_room(pool, ends, nums, parts, chars) {
-        return 59;
+    if !instructions::has_room(state, parts, chars) {
+        return Err(Question::Room);
     }
-    if Machine::RECORDS < state::number(pool, ends, nums, StatePlaces::RECORDS_SCALAR) + records {
-        return 59;
+    if Machine::RECORDS < state.number(StatePlaces::RECORDS_SCALAR) + records {
+        return Err(Question::Room);
     }
-    if Machine::ADDRESSES < state::number(pool, ends, nums, StatePlaces::LAST_SCALAR) + given {
-        return 60;
+    if Machine::ADDRESSES < state.number(StatePlaces::LAST_SCALAR) + given {
+        return Err(Question::Addresses);
     }
-    0
+    Ok(())
 }
 
-// WSTAW of expression `i` to file `j`: 0, or the question answered no.
-pub fn wstaw(
-    pool: &mut [u8],
-    ends: &mut [u32],
-    nums: &mut [u32],
-    scratch: &mut [u8],
-    hold: &mut [u8],
-    removes: bool,
-    i: usize,
-    turned: bool,
-    j: usize,
-) -> u8
-    requires { TwoOperands pool.old ends.old nums.old (length scratch.old) (length hold.old) i limit.expressions j limit.files }
-    ensures { DoesFor pool.old ends.old nums.old result pool.new ends.new nums.new (λ g ins. row g ins (state_at pool.old ends.old nums.old).store (nth (reading removes) i) (nth (filing turned) j) nothing WSTAW) }
+// WSTAW to file `j`.
+pub fn wstaw(bench: &mut Bench, source: Source, turned: bool, j: usize) -> Result<(), Question>
+    requires first { source.i < limit.expressions }
+    requires second { j < limit.files }
+    ensures { DoesFor bench.old.state (told_by result) bench.new.state (λ g ins. row g ins bench.old.state.store (nth (reading source.removes) source.i) (nth (filing turned) j) nothing WSTAW) }
 {
-    let x = state::expr_bytes(pool, ends, nums, i);
+    let x = bench.state.expr_bytes(source.i);
     let n = x.len();
     if n == 0 {
-        state::set_plus(pool, ends, nums, false);
-        return 0;
+        bench.state.set_plus(false);
+        return Ok(());
     }
     let t = matching::count(x, matching::Test::All, x);
     let parts = t.parts;
     let chars = t.chars;
-    let stop = room_for(
-        pool,
-        ends,
-        nums,
+    room_for(
+        &bench.state,
         1,
-        left(removes, parts),
-        left(removes, chars),
+        left(source.removes, parts),
+        left(source.removes, chars),
         1,
-    );
-    if stop != 0 {
-        return stop;
-    }
-    records::put_record(
-        hold,
-        state::number(pool, ends, nums, StatePlaces::LAST_SCALAR) + 1,
-        x,
-    );
-    state::past_parts(pool, ends, nums, i, removes, parts, n, chars);
+    )?;
+    let last = bench.state.number(StatePlaces::LAST_SCALAR);
+    records::put_record(&mut bench.hold, last + 1, x);
+    bench
+        .state
+        .past_parts(source.i, source.removes, parts, n, chars);
     filing::write_records(
-        pool,
-        ends,
-        nums,
-        scratch,
+        &mut bench.state,
         j,
         turned,
-        &hold[..n + 7],
+        &bench.hold[..n + 7],
         1,
         parts,
         chars,
     );
-    0
+    Ok(())
 }
 
-// POBIERZ of file `i` to expression `j`: 0, or the question answered no.
-pub fn pobierz(
-    pool: &mut [u8],
-    ends: &mut [u32],
-    nums: &mut [u32],
-    scratch: &mut [u8],
-    hold: &mut [u8],
-    given: &mut [u8],
-    removes: bool,
-    i: usize,
-    reverses: bool,
-    at_end: bool,
-    j: usize,
-) -> u8
-    requires { Fetchable pool.old ends.old nums.old (length scratch.old) (length hold.old) (length given.old) i j }
-    ensures { DoesFor pool.old ends.old nums.old result pool.new ends.new nums.new (λ g ins. row g ins (state_at pool.old ends.old nums.old).store (nth (filing removes) i) (nth (target reverses at_end) j) nothing POBIERZ) }
+// POBIERZ from a file.
+pub fn pobierz(bench: &mut Bench, source: Source, target: Target) -> Result<(), Question>
+    requires first { source.i < limit.files }
+    requires second { target.j < limit.expressions }
+    ensures { DoesFor bench.old.state (told_by result) bench.new.state (λ g ins. row g ins bench.old.state.store (nth (filing source.removes) source.i) (nth (letters.target target.reverses target.at_end) target.j) nothing POBIERZ) }
 {
-    let f = filing::after_bytes(pool, ends, nums, i);
+    bench.state.stands();
+    let f = filing::after_bytes(&bench.state, source.i);
     if f.len() == 0 {
-        state::set_plus(pool, ends, nums, false);
-        return 0;
+        bench.state.set_plus(false);
+        return Ok(());
     }
     let x = records::contents_at(f, 0);
     let n = x.len();
     let t = matching::count(x, matching::Test::All, x);
     let parts = t.parts;
     let chars = t.chars;
-    if !instructions::has_room(pool, ends, nums, left(removes, parts), left(removes, chars)) {
-        return 59;
+    if !instructions::has_room(
+        &bench.state,
+        left(source.removes, parts),
+        left(source.removes, chars),
+    ) {
+        return Err(Question::Room);
     }
-    components::copy(hold, x, reverses);
+    components::copy(&mut bench.hold, x, target.reverses);
     filing::past_records(
-        pool,
-        ends,
-        nums,
-        scratch,
-        given,
-        i,
-        removes,
+        &mut bench.state,
+        &mut bench.given,
+        source.i,
+        source.removes,
         1,
         n + 7,
         parts,
         chars,
     );
-    state::write_parts(
-        pool,
-        ends,
-        nums,
-        scratch,
-        j,
-        at_end,
-        &hold[..n],
-        parts,
-        chars,
-    );
-    0
+    bench
+        .state
+        .write_parts(target.j, target.at_end, &bench.hold[..n], parts, chars);
+    Ok(())
 }

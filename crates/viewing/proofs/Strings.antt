@@ -76,11 +76,11 @@ unfolding threes_in
 threes-three m = simp (get_or-drop, drop-drop) refl
 
 module _ {m : List ℕ} (pre : Rests m) where
-  open-state : Openable m 65536 layout.lengths_bytes 8
-  open-state = record { long = pre.long; cells = pre.cells; fine = pre.fine; size = refl; bounds = refl; count = refl }
+  open-state : Openable m
+  open-state = record { long = pre.long; cells = pre.cells; fine = pre.fine }
 
   pub outputs-lie : {l : List ℕ} → l ≡ take layout.strings_bytes (drop layout.first_length m) → Stringed l layout.first_output
-  outputs-lie q = record { packed = (unpackable open-state q).packed; below = omega arith }
+  outputs-lie q = record { packed = unpackable open-state q; below = omega arith }
 
   -- the part behind the scalars
   behind : take layout.strings_bytes (drop layout.first_length m) ≡ drop layout.first_length (state_cells (state_of m))

@@ -1,42 +1,29 @@
 -- `arithmetic::dodaj` meets its contract.
-use lib.IntN.{◌+ℤ◌}
-use Rattle.layout.specs.Cells.{uncode}
-use Rattle.arithmetic.proofs.Numbers.{result_fits}
-use Rattle.arithmetic.proofs.Rows.{both_coded, numbered, dodaj-stop, dodaj-done}
+use Rattle.std.proofs.lemmas.Result.{err_from_is_err_and}
+use Rattle.arithmetic.proofs.Rows.{both_coded, numbered, codes_most, dodaj-stop, dodaj-over, dodaj-done}
 use Rattle.arithmetic.proofs.dodaj.Goals as goal
 
-pub two_operands-q-requires : goal.two_operands-q-requires
-two_operands-q-requires c =
-    let preᶜ = c.requires in
-    preᶜ.pair
-
-pub returns-then-stop-ne0 : goal.returns-then-stop-ne0
-returns-then-stop-ne0 c =
-    let preᶜ = c.requires in
-    let argsᶜ = c.args in
-    dodaj-stop preᶜ.pair.operand.stands argsᶜ.i argsᶜ.arg c.two_operands-q.ensures c.if-stop-ne0.true
+pub returns-in_err-p : goal.returns-in_err-p
+returns-in_err-p c =
+    let e = err_from_is_err_and c.from_residual.result c.from_residual.ensures.1 in
+    let o = c.two_operands.ensures in
+    rw (e.1, e.2) (dodaj-stop o.stands c.args.i c.args.arg o.reads c.in_err-p.was)
 
 pub sum-requires : goal.sum-requires
-sum-requires c =
-    let preᶜ = c.requires in
-    let argsᶜ = c.args in
-    let two-operandsᶜ = c.two_operands-q in
-    both_coded preᶜ.pair.operand.stands argsᶜ.i argsᶜ.arg two-operandsᶜ.ensures
+sum-requires c = let o = c.two_operands.ensures in both_coded o.stands c.args.i c.args.arg o.reads c.in_ok-p.was
+
+pub returns-in_err-z : goal.returns-in_err-z
+returns-in_err-z c =
+    let e = err_from_is_err_and c.from_residual-in_err-z.result c.from_residual-in_err-z.ensures.1 in
+    let o = c.two_operands.ensures in
+    rw (e.1, e.2) (dodaj-over o.stands c.args.i c.args.arg o.reads c.in_ok-p.was c.sum.ensures c.in_err-z.was)
 
 pub put_one-requires : goal.put_one-requires
 put_one-requires c =
-    let preᶜ = c.requires in
-    let argsᶜ = c.args in
-    let two-operandsᶜ = c.two_operands-q in
-    let if1ᶜ = c.if-stop-ne0 in
-    record { numbered = numbered preᶜ.pair.operand.stands argsᶜ.i argsᶜ.arg two-operandsᶜ.ensures tt if1ᶜ.false preᶜ.spare preᶜ.room preᶜ.pair.source; most = result_fits (uncode two-operandsᶜ.result.left +ℤ uncode two-operandsᶜ.result.right) c.sum.ensures }
+    let o = c.two_operands.ensures in
+    record { numbered = numbered o.stands c.args.i c.args.arg o.reads c.in_ok-p.was tt c.requires.source; most = codes_most c.sum.ensures c.in_ok-z.was }
 
 pub returns : goal.returns
 returns c =
-    let preᶜ = c.requires in
-    let argsᶜ = c.args in
-    let two-operandsᶜ = c.two_operands-q in
-    let if1ᶜ = c.if-stop-ne0 in
-    let put-oneᶜ = c.put_one in
-    let sumᶜ = c.sum in
-    dodaj-done preᶜ.pair.operand.stands argsᶜ.i argsᶜ.arg two-operandsᶜ.ensures if1ᶜ.false (put-oneᶜ.ensures (uncode two-operandsᶜ.result.left +ℤ uncode two-operandsᶜ.result.right) sumᶜ.ensures)
+    let o = c.two_operands.ensures in
+    dodaj-done o.stands c.args.i c.args.arg o.reads c.in_ok-p.was c.sum.ensures c.in_ok-z.was c.put_one.ensures

@@ -1,57 +1,31 @@
 -- `arithmetic::dziel` meets its contract.
+use Rattle.std.proofs.lemmas.Result.{err_from_is_err_and}
 use Rattle.arithmetic.proofs.Rows.{divisible, numbered, dziel-stops, dziel-zeros, dziel-dones}
 use Rattle.arithmetic.proofs.dziel.Goals as goal
 
-pub two_operands-q-requires : goal.two_operands-q-requires
-two_operands-q-requires c =
-    let preᶜ = c.requires in
-    preᶜ.pair
+pub returns-in_err-p : goal.returns-in_err-p
+returns-in_err-p c =
+    let e = err_from_is_err_and c.from_residual.result c.from_residual.ensures.1 in
+    let o = c.two_operands.ensures in
+    rw (e.1, e.2) (dziel-stops o.stands c.args.i c.args.arg o.reads c.in_err-p.was)
 
-pub returns-then-stop-ne0 : goal.returns-then-stop-ne0
-returns-then-stop-ne0 c =
-    let preᶜ = c.requires in
-    let argsᶜ = c.args in
-    dziel-stops preᶜ.pair.operand.stands argsᶜ.i argsᶜ.arg c.two_operands-q.ensures c.if-stop-ne0.true
-
-pub returns-then-y-eq-ZERO : goal.returns-then-y-eq-ZERO
-returns-then-y-eq-ZERO c =
-    let preᶜ = c.requires in
-    let argsᶜ = c.args in
-    let two-operandsᶜ = c.two_operands-q in
-    dziel-zeros preᶜ.pair.operand.stands argsᶜ.i argsᶜ.arg two-operandsᶜ.ensures c.if-stop-ne0.false c.if-y-eq-ZERO.true
+pub returns-then-p-eq-ZERO : goal.returns-then-p-eq-ZERO
+returns-then-p-eq-ZERO c =
+    let o = c.two_operands.ensures in
+    dziel-zeros o.stands c.args.i c.args.arg o.reads c.in_ok-p.was c.if-p-eq-ZERO.true
 
 pub remainder-left-requires : goal.remainder-left-requires
-remainder-left-requires c =
-    let preᶜ = c.requires in
-    let argsᶜ = c.args in
-    let two-operandsᶜ = c.two_operands-q in
-    divisible preᶜ.pair.operand.stands argsᶜ.i argsᶜ.arg two-operandsᶜ.ensures c.if-y-eq-ZERO.false
+remainder-left-requires c = let o = c.two_operands.ensures in divisible o.stands c.args.i c.args.arg o.reads c.in_ok-p.was c.if-p-eq-ZERO.false
 
 pub quotient-requires : goal.quotient-requires
-quotient-requires c =
-    let preᶜ = c.requires in
-    let argsᶜ = c.args in
-    let two-operandsᶜ = c.two_operands-q in
-    let if2ᶜ = c.if-y-eq-ZERO in
-    divisible preᶜ.pair.operand.stands argsᶜ.i argsᶜ.arg two-operandsᶜ.ensures if2ᶜ.false
+quotient-requires c = let o = c.two_operands.ensures in divisible o.stands c.args.i c.args.arg o.reads c.in_ok-p.was c.if-p-eq-ZERO.false
 
 pub put_two-requires : goal.put_two-requires
 put_two-requires c =
-    let preᶜ = c.requires in
-    let argsᶜ = c.args in
-    let two-operandsᶜ = c.two_operands-q in
-    let if1ᶜ = c.if-stop-ne0 in
-    let remainderᶜ = c.remainder-left in
-    record { numbered = numbered preᶜ.pair.operand.stands argsᶜ.i argsᶜ.arg two-operandsᶜ.ensures tt if1ᶜ.false preᶜ.spare preᶜ.room preᶜ.pair.source; left_most = remainderᶜ.ensures.most; right_most = c.quotient.ensures.most }
+    let o = c.two_operands.ensures in
+    record { numbered = numbered o.stands c.args.i c.args.arg o.reads c.in_ok-p.was tt c.requires.source; left_most = c.remainder-left.ensures.most; right_most = c.quotient.ensures.most }
 
 pub returns : goal.returns
 returns c =
-    let preᶜ = c.requires in
-    let argsᶜ = c.args in
-    let two-operandsᶜ = c.two_operands-q in
-    let if1ᶜ = c.if-stop-ne0 in
-    let if2ᶜ = c.if-y-eq-ZERO in
-    let remainderᶜ = c.remainder-left in
-    let quotientᶜ = c.quotient in
-    let put-twoᶜ = c.put_two in
-    dziel-dones preᶜ.pair.operand.stands argsᶜ.i argsᶜ.arg two-operandsᶜ.ensures if1ᶜ.false if2ᶜ.false remainderᶜ.ensures quotientᶜ.ensures put-twoᶜ.ensures
+    let o = c.two_operands.ensures in
+    dziel-dones o.stands c.args.i c.args.arg o.reads c.in_ok-p.was c.if-p-eq-ZERO.false c.remainder-left.ensures c.quotient.ensures c.put_two.ensures

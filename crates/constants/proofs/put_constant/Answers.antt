@@ -1,36 +1,15 @@
 -- `constants::put_constant` meets its contract.
-use borrow.Enum.Refused.{opened}
 use native.Mathlib.Omega.{arith}
 use Rattle.packed.specs.Packed.{table_of}
-use Rattle.constants.proofs.Rows.{as-put, number_put, no-constant}
+use Rattle.constants.proofs.Rows.{text-long, text_put, as-put, number_put}
 use Rattle.constants.proofs.put_constant.Goals as goal
 
-pub put_text-requires : goal.put_text-requires
-put_text-requires c =
-    let preᶜ = c.requires in
-    record { long = preᶜ.long; good = preᶜ.good.text c.in-Text.v c.in-Text.is; room = preᶜ.room }
-
-pub put_number-requires : goal.put_number-requires
-put_number-requires c =
-    let preᶜ = c.requires in
-    record { room = omega (arith, preᶜ.room); most = omega (arith, preᶜ.good.number c.in-Number.v c.in-Number.is) }
+pub overflow_sub-result : goal.overflow_sub-result
+overflow_sub-result c = omega (arith, text-long c.put_text-n.ensures)
 
 pub returns-in-Text : goal.returns-in-Text
-returns-in-Text c =
-    let argsᶜ = c.args in
-    let put-textᶜ = c.put_text in
-    as-put (table_of argsᶜ.table.now) c.in-Text.is put-textᶜ.ensures
+returns-in-Text c = as-put (table_of c.args.table.now) c.in-Text.is (text_put c.put_text-n.ensures (c.requires.good.text c.in-Text.v c.in-Text.is).short)
 
 pub returns-in-Number : goal.returns-in-Number
 returns-in-Number c =
-    let argsᶜ = c.args in
-    let preᶜ = c.requires in
-    let put-numberᶜ = c.put_number in
-    as-put (table_of argsᶜ.table.now) c.in-Number.is (number_put c.in-Number.v (preᶜ.good.number c.in-Number.v c.in-Number.is) argsᶜ.out.now put-numberᶜ.ensures)
-
-pub returns-in_default : goal.returns-in_default
-returns-in_default c =
-    let argsᶜ = c.args in
-    let preᶜ = c.requires in
-    let matchᶜ = c.in_default.in_default-own in
-    absurd (no-constant argsᶜ.arg preᶜ.form (opened matchᶜ.keys3))
+    as-put (table_of c.args.table.now) c.in-Number.is (number_put c.in-Number.v (c.requires.good.number c.in-Number.v c.in-Number.is) c.args.out.now c.put_number.ensures (omega (arith, c.put_number.array_long)))

@@ -1,16 +1,10 @@
 -- `control::go_to` meets its contract.
-use Rattle.state.proofs.Standing.{numbers-long}
+use Rattle.state.proofs.Standing.{held, stands, becomes}
 use Rattle.control.proofs.Laws.{jumped}
-use native.Mathlib.Omega.{arith}
 use Rattle.control.proofs.go_to.Goals as goal
 
-pub write-requires : goal.write-requires
-write-requires c =
-    let pre = c.requires in
-    omega (arith, numbers-long pre.stands, pre.below)
+pub invariant_of-state : goal.invariant_of-state
+invariant_of-state c = stands (jumped (held c.state.invariant c.state.view_is) c.requires c.write.ensures)
 
 pub returns : goal.returns
-returns c =
-    let pre = c.requires in
-    let write = c.write in
-    jumped pre write.ensures
+returns c = becomes (jumped (held c.state.invariant c.state.view_is) c.requires c.write.ensures)

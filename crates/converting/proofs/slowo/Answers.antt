@@ -1,57 +1,18 @@
 -- `converting::slowo` meets its contract.
-use native.Mathlib.Omega.{arith}
-use Rattle.converting.proofs.Rows.{word-replaceable, front_long, slowo-stop, slowo-done}
+use Rattle.std.proofs.lemmas.Result.{err_from_is_err_and}
+use Rattle.converting.proofs.Rows.{number_ok, word-replaceable, slowo-stop, slowo-done}
 use Rattle.converting.proofs.slowo.Goals as goal
 
-pub first_number-q-requires : goal.first_number-q-requires
-first_number-q-requires c =
-    let preᶜ = c.requires in
-    record { stands = preᶜ.stands; index = preᶜ.index }
-
-pub returns-then-stop-ne0 : goal.returns-then-stop-ne0
-returns-then-stop-ne0 c =
-    let preᶜ = c.requires in
-    let argsᶜ = c.args in
-    slowo-stop preᶜ.stands argsᶜ.removes argsᶜ.i c.first_number-q.ensures c.if-stop-ne0.true
-
-pub put_numeral-n-requires : goal.put_numeral-n-requires
-put_numeral-n-requires c =
-    let preᶜ = c.requires in
-    let first-numberᶜ = c.first_number-q in
-    record { room = preᶜ.room; most = first-numberᶜ.ensures.most }
-
-pub overflow_add-n : goal.overflow_add-n
-overflow_add-n c =
-    let put-numeralᶜ = c.put_numeral-n in
-    omega (arith, put-numeralᶜ.ensures.most)
-
-pub slice_bounds-replace-end : goal.slice_bounds-replace-end
-slice_bounds-replace-end c =
-    let put-numeralᶜ = c.put_numeral-n in
-    let preᶜ = c.requires in
-    omega (arith, put-numeralᶜ.ensures.most, preᶜ.room)
-
-pub slice_bounds-replace-end-2 : goal.slice_bounds-replace-end-2
-slice_bounds-replace-end-2 c =
-    let argsᶜ = c.args in
-    let put-numeralᶜ = c.put_numeral-n in
-    let preᶜ = c.requires in
-    front_long _ argsᶜ.hold.now put-numeralᶜ.new.hold (omega arith) preᶜ.room (omega (arith, put-numeralᶜ.ensures.most))
+pub returns-in_err-code : goal.returns-in_err-code
+returns-in_err-code c =
+    let e = err_from_is_err_and c.from_residual.result c.from_residual.ensures.1 in
+    let o = c.first_number.ensures in
+    rw (e.1, e.2) (slowo-stop o.stands c.args.source.removes c.args.source.i o.reads c.in_err-code.was)
 
 pub replace-requires : goal.replace-requires
-replace-requires c =
-    let preᶜ = c.requires in
-    let first-numberᶜ = c.first_number-q in
-    let if1ᶜ = c.if-stop-ne0 in
-    let put-numeralᶜ = c.put_numeral-n in
-    word-replaceable preᶜ first-numberᶜ.ensures if1ᶜ.false put-numeralᶜ.ensures
+replace-requires c = word-replaceable c.args.bench.now.state c.requires (number_ok c.first_number.ensures.reads c.in_ok-code.was) c.put_numeral-n.ensures
 
 pub returns : goal.returns
 returns c =
-    let preᶜ = c.requires in
-    let argsᶜ = c.args in
-    let first-numberᶜ = c.first_number-q in
-    let if1ᶜ = c.if-stop-ne0 in
-    let put-numeralᶜ = c.put_numeral-n in
-    let replaceᶜ = c.replace in
-    slowo-done preᶜ.stands argsᶜ.removes argsᶜ.i first-numberᶜ.ensures if1ᶜ.false put-numeralᶜ.ensures replaceᶜ.ensures
+    let o = c.first_number.ensures in
+    slowo-done o.stands c.args.source.removes c.args.source.i (number_ok o.reads c.in_ok-code.was) c.put_numeral-n.ensures c.replace.ensures

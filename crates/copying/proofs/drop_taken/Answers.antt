@@ -2,57 +2,19 @@
 use mathlib.Core.Bool.{true}
 use Rattle.layout.proofs.ComponentLaws.{whole-records}
 use Rattle.machine.specs.Changes.{minus_unless, past}
-use Rattle.state.specs.Working.{state_at, nth, filing}
-use Rattle.state.proofs.Standing.{stands}
+use Rattle.state.specs.Working.{nth, filing}
 use Rattle.instructions.proofs.Answers.{one-after}
-use Rattle.copying.proofs.Taking.{front, part-long, droppable, gone}
+use Rattle.copying.proofs.Taking.{front, droppable, gone}
 use Rattle.copying.proofs.drop_taken.Goals as goal
 
-pub after_bytes-f-requires : goal.after_bytes-f-requires
-after_bytes-f-requires c =
-    let preᶜ = c.requires in
-    record { stands = preᶜ.stands; index = preᶜ.source }
-
-pub count-t-requires : goal.count-t-requires
-count-t-requires c =
-    let after-bytesᶜ = c.after_bytes-f in
-    let preᶜ = c.requires in
-    record { whole = after-bytesᶜ.ensures.whole; fitting = preᶜ.fitting }
-
-pub slice_bounds-totals_of-end : goal.slice_bounds-totals_of-end
-slice_bounds-totals_of-end c =
-    let preᶜ = c.requires in
-    let after-bytesᶜ = c.after_bytes-f in
-    let countᶜ = c.count-t in
-    part-long preᶜ.stands preᶜ.source after-bytesᶜ.ensures countᶜ.ensures
-
 pub totals_of-v-requires : goal.totals_of-v-requires
-totals_of-v-requires c =
-    let preᶜ = c.requires in
-    let after-bytesᶜ = c.after_bytes-f in
-    let countᶜ = c.count-t in
-    whole-records (front preᶜ.stands preᶜ.source after-bytesᶜ.ensures countᶜ.ensures)
+totals_of-v-requires c = whole-records (front c.args.state.now c.requires.source c.after_bytes-f.ensures c.count-t.ensures)
 
 pub drop_records-requires : goal.drop_records-requires
-drop_records-requires c =
-    let preᶜ = c.requires in
-    let after-bytesᶜ = c.after_bytes-f in
-    let countᶜ = c.count-t in
-    let totals-ofᶜ = c.totals_of-v in
-    droppable preᶜ.stands preᶜ.source after-bytesᶜ.ensures countᶜ.ensures totals-ofᶜ.ensures
-
-pub minus_unless-requires : goal.minus_unless-requires
-minus_unless-requires c =
-    let drop-recordsᶜ = c.drop_records in
-    stands drop-recordsᶜ.ensures
+drop_records-requires c = droppable c.args.state.now c.requires.source c.after_bytes-f.ensures c.count-t.ensures c.totals_of-v.ensures
 
 pub returns : goal.returns
 returns c =
-    let preᶜ = c.requires in
-    let after-bytesᶜ = c.after_bytes-f in
-    let countᶜ = c.count-t in
-    let argsᶜ = c.args in
-    let drop-recordsᶜ = c.drop_records in
-    let minus-unlessᶜ = c.minus_unless in
-    gone preᶜ.stands preᶜ.source after-bytesᶜ.ensures countᶜ.ensures true
-    (one-after (state_at argsᶜ.pool.now argsᶜ.ends.now argsᶜ.nums.now) (past (nth (filing true) argsᶜ.i) countᶜ.result.records) (minus_unless countᶜ.result.reached) drop-recordsᶜ.ensures minus-unlessᶜ.ensures)
+    let t = c.count-t.result in
+    gone c.args.state.now c.requires.source c.after_bytes-f.ensures c.count-t.ensures true
+    (one-after c.args.state.now (past (nth (filing true) c.args.i) t.records) (minus_unless t.reached) c.drop_records.ensures c.minus_unless.ensures)

@@ -1,35 +1,17 @@
 -- `copying::kopiuj` meets its contract.
-use native.Mathlib.Omega.{arith}
 use Rattle.packed.specs.Packed.{table_of}
+use Rattle.std.proofs.lemmas.Result.{err_from_is_err_and}
 use Rattle.table.specs.Denote.{arg_of}
 use Rattle.copying.proofs.Rows.{kopiuj-stop, kopiuj-done}
 use Rattle.copying.proofs.kopiuj.Goals as goal
 
-pub prepare-q-requires : goal.prepare-q-requires
-prepare-q-requires c =
-    let preᶜ = c.requires in
-    preᶜ.skippable.removable.test
-
-pub returns-then-stop-ne0 : goal.returns-then-stop-ne0
-returns-then-stop-ne0 c =
-    let preᶜ = c.requires in
-    let argsᶜ = c.args in
-    let prepareᶜ = c.prepare-q in
-    let if1ᶜ = c.if-stop-ne0 in
-    kopiuj-stop preᶜ.skippable.removable.test.stands argsᶜ.i (arg_of (table_of argsᶜ.table.now) argsᶜ.arg) prepareᶜ.ensures argsᶜ.removes argsᶜ.reverses argsᶜ.j if1ᶜ.true
-
-pub copy_taken-requires : goal.copy_taken-requires
-copy_taken-requires c =
-    let preᶜ = c.requires in
-    let prepareᶜ = c.prepare-q in
-    let if1ᶜ = c.if-stop-ne0 in
-    record { droppable = record { stands = preᶜ.skippable.removable.test.stands; fitting = prepareᶜ.ensures.fitting if1ᶜ.false; source = preᶜ.skippable.removable.source }; inside = prepareᶜ.ensures.inside; spare = preᶜ.skippable.spare; room = preᶜ.skippable.room; values = omega (arith, preᶜ.skippable.removable.test.room); target = preᶜ.target }
+pub returns-in_err-q : goal.returns-in_err-q
+returns-in_err-q c =
+    let a = c.args in
+    let e = err_from_is_err_and c.from_residual.result c.from_residual.ensures.1 in
+    rw (e.1, e.2) (kopiuj-stop c.stands.ensures a.source.i (arg_of (table_of a.table.now) a.arg) c.prepare.ensures a.source.removes a.reverses a.j c.in_err-q.was)
 
 pub returns : goal.returns
 returns c =
-    let preᶜ = c.requires in
-    let argsᶜ = c.args in
-    let prepareᶜ = c.prepare-q in
-    let if1ᶜ = c.if-stop-ne0 in
-    let copy-takenᶜ = c.copy_taken in
-    kopiuj-done preᶜ.skippable.removable.test.stands argsᶜ.i (arg_of (table_of argsᶜ.table.now) argsᶜ.arg) prepareᶜ.ensures argsᶜ.removes argsᶜ.reverses argsᶜ.j if1ᶜ.false copy-takenᶜ.ensures
+    let a = c.args in
+    kopiuj-done c.stands.ensures a.source.i (arg_of (table_of a.table.now) a.arg) c.prepare.ensures a.source.removes a.reverses a.j c.in_ok-q.was c.copy_taken.ensures

@@ -1,49 +1,33 @@
 -- `equality::settle` meets its contract.
 use Rattle.layout.proofs.ComponentLaws.{whole-components}
-use Rattle.comparands.proofs.Below.Values.{leading}
+use Rattle.tests.proofs.Values.{leading}
 use Rattle.equality.proofs.Meeting.{some-there, first-long, first-whole, first-parts, settled-done, fitting-by}
 use Rattle.equality.proofs.settle.Goals as goal
 
-pub expr_bytes-x-requires : goal.expr_bytes-x-requires
-expr_bytes-x-requires c =
-    let preᶜ = c.requires in
-    record { stands = preᶜ.stands; index = preᶜ.index }
-
 pub slice_bounds-count-end : goal.slice_bounds-count-end
 slice_bounds-count-end c =
-    let expr-bytesᶜ = c.expr_bytes-x in
-    let preᶜ = c.requires in
-    first-long expr-bytesᶜ.ensures (some-there expr-bytesᶜ.ensures preᶜ.some) c.first_size-n.ensures
+    let x = c.expr_bytes-x.ensures in
+    first-long x (some-there x c.requires.some) c.first_size-n.ensures
 
 pub count-t-requires : goal.count-t-requires
 count-t-requires c =
-    let expr-bytesᶜ = c.expr_bytes-x in
-    let preᶜ = c.requires in
-    let first-sizeᶜ = c.first_size-n in
-    let argsᶜ = c.args in
-    record { whole = whole-components (first-whole expr-bytesᶜ.ensures (some-there expr-bytesᶜ.ensures preᶜ.some) first-sizeᶜ.ensures); fitting = fitting-by argsᶜ.arg argsᶜ.given.now c.test_of.ensures preᶜ.whole }
+    let x = c.expr_bytes-x.ensures in
+    record {
+      whole = whole-components (first-whole x (some-there x c.requires.some) c.first_size-n.ensures);
+      fitting = fitting-by c.args.arg c.args.given.now c.test_of.ensures c.requires.whole;
+    }
 
 pub chars_of-letters-requires : goal.chars_of-letters-requires
 chars_of-letters-requires c =
-    let expr-bytesᶜ = c.expr_bytes-x in
-    let preᶜ = c.requires in
-    leading expr-bytesᶜ.ensures.whole (some-there expr-bytesᶜ.ensures preᶜ.some)
+    let x = c.expr_bytes-x.ensures in
+    leading x.whole (some-there x c.requires.some)
 
 pub finish-requires : goal.finish-requires
 finish-requires c =
-    let preᶜ = c.requires in
-    let expr-bytesᶜ = c.expr_bytes-x in
-    let first-sizeᶜ = c.first_size-n in
-    let chars-ofᶜ = c.chars_of-letters in
-    record { stands = preᶜ.stands; index = preᶜ.index; first = first-parts expr-bytesᶜ.ensures (some-there expr-bytesᶜ.ensures preᶜ.some) first-sizeᶜ.ensures chars-ofᶜ.ensures }
+    let x = c.expr_bytes-x.ensures in
+    record { index = c.requires.index; first = first-parts x (some-there x c.requires.some) c.first_size-n.ensures c.chars_of-letters.ensures }
 
 pub returns : goal.returns
 returns c =
-    let expr-bytesᶜ = c.expr_bytes-x in
-    let preᶜ = c.requires in
-    let first-sizeᶜ = c.first_size-n in
-    let argsᶜ = c.args in
-    let test-ofᶜ = c.test_of in
-    let countᶜ = c.count-t in
-    let finishᶜ = c.finish in
-    settled-done expr-bytesᶜ.ensures (some-there expr-bytesᶜ.ensures preᶜ.some) first-sizeᶜ.ensures argsᶜ.arg argsᶜ.given.now test-ofᶜ.ensures countᶜ.ensures argsᶜ.removes finishᶜ.ensures
+    let x = c.expr_bytes-x.ensures in
+    settled-done x (some-there x c.requires.some) c.first_size-n.ensures c.args.arg c.args.given.now c.test_of.ensures c.count-t.ensures c.args.source.removes c.finish.ensures

@@ -1,30 +1,7 @@
 -- `filing::after_bytes` meets its contract.
-use Rattle.state.proofs.Standing.{named}
+use Rattle.state.proofs.Standing.{held}
 use Rattle.filing.proofs.Removed.{after-lent}
-use native.Mathlib.Omega.{arith}
 use Rattle.filing.proofs.after_bytes.Goals as goal
 
-pub overflow_mul-i : goal.overflow_mul-i
-overflow_mul-i c =
-    let pre = c.requires in
-    omega (arith, pre.index)
-
-pub overflow_add-i : goal.overflow_add-i
-overflow_add-i c =
-    let pre = c.requires in
-    omega (arith, pre.index)
-
-pub overflow_add-i-2 : goal.overflow_add-i-2
-overflow_add-i-2 c =
-    let pre = c.requires in
-    omega (arith, pre.index)
-
-pub string_of-requires : goal.string_of-requires
-string_of-requires c =
-    let pre = c.requires in
-    named pre.stands _ (omega (arith, pre.index))
-
 pub returns : goal.returns
-returns c =
-    let pre = c.requires in
-    after-lent pre c.string_of.ensures
+returns c = after-lent (held c.state.invariant c.state.view_is) c.requires c.string_of.ensures.is c.string_of.ensures.most

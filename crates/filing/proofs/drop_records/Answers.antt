@@ -1,43 +1,22 @@
 -- `filing::drop_records` meets its contract.
-use Rattle.filing.proofs.Removed.{records-droppable, records-lowerable, records-fewer, records-dropped}
 use native.Mathlib.Omega.{arith}
+use Rattle.state.proofs.Standing.{held, stands, becomes}
+use Rattle.filing.proofs.Removed.{records-droppable, records-lowerable, records-fewer, records-dropped}
 use Rattle.filing.proofs.drop_records.Goals as goal
 
-pub overflow_mul-i : goal.overflow_mul-i
-overflow_mul-i c =
-    let pre = c.requires in
-    omega (arith, pre.index)
-
-pub overflow_add-i : goal.overflow_add-i
-overflow_add-i c =
-    let pre = c.requires in
-    omega (arith, pre.index)
-
-pub overflow_add-i-2 : goal.overflow_add-i-2
-overflow_add-i-2 c =
-    let pre = c.requires in
-    omega (arith, pre.index)
-
 pub drop_front-requires : goal.drop_front-requires
-drop_front-requires c =
-    let pre = c.requires in
-    records-droppable pre
+drop_front-requires c = records-droppable (held c.state.invariant c.state.view_is) c.requires
 
 pub lower-requires : goal.lower-requires
-lower-requires c =
-    let pre = c.requires in
-    records-lowerable pre
+lower-requires c = records-lowerable (held c.state.invariant c.state.view_is) c.requires
 
-pub fewer-requires : goal.fewer-requires
-fewer-requires c =
-    let pre = c.requires in
-    let lower = c.lower in
-    records-fewer pre lower.ensures
+pub overflow_sub-n : goal.overflow_sub-n
+overflow_sub-n c = omega (arith, c.read-n.ensures, records-fewer (held c.state.invariant c.state.view_is) c.requires c.lower.ensures)
+
+pub invariant_of-state : goal.invariant_of-state
+invariant_of-state c =
+    stands (records-dropped (held c.state.invariant c.state.view_is) c.requires c.drop_front.ensures c.lower.ensures c.read-n.ensures.is c.write.ensures)
 
 pub returns : goal.returns
 returns c =
-    let pre = c.requires in
-    let drop-front = c.drop_front in
-    let lower = c.lower in
-    let fewer = c.fewer in
-    records-dropped pre drop-front.ensures lower.ensures fewer.ensures
+    becomes (records-dropped (held c.state.invariant c.state.view_is) c.requires c.drop_front.ensures c.lower.ensures c.read-n.ensures.is c.write.ensures)

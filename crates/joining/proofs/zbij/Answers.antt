@@ -1,47 +1,14 @@
 -- `joining::zbij` meets its contract.
+use Rattle.std.proofs.lemmas.Result.{err_from_is_err_and}
 use Rattle.packed.specs.Packed.{table_of}
 use Rattle.table.specs.Denote.{arg_of}
-use Rattle.moves.proofs.Rows.{beside_long}
 use Rattle.joining.proofs.Rows.{zbij-stop, zbij-tried}
 use Rattle.joining.proofs.zbij.Goals as goal
 
-pub prepare-q-requires : goal.prepare-q-requires
-prepare-q-requires c =
-    let preᶜ = c.requires in
-    preᶜ.test
-
-pub returns-then-stop-ne0 : goal.returns-then-stop-ne0
-returns-then-stop-ne0 c =
-    let preᶜ = c.requires in
-    let argsᶜ = c.args in
-    let prepareᶜ = c.prepare-q in
-    let if1ᶜ = c.if-stop-ne0 in
-    zbij-stop preᶜ.test.stands argsᶜ.removes argsᶜ.i (arg_of (table_of argsᶜ.table.now) argsᶜ.arg) prepareᶜ.ensures if1ᶜ.true
-
-pub slice_bounds-join_up-end : goal.slice_bounds-join_up-end
-slice_bounds-join_up-end c =
-    let prepareᶜ = c.prepare-q in
-    prepareᶜ.ensures.inside
-
-pub slice_bounds-join_up-end-2 : goal.slice_bounds-join_up-end-2
-slice_bounds-join_up-end-2 c =
-    let preᶜ = c.requires in
-    let argsᶜ = c.args in
-    let prepareᶜ = c.prepare-q in
-    beside_long preᶜ.test.stands argsᶜ.i (arg_of (table_of argsᶜ.table.now) argsᶜ.arg) prepareᶜ.ensures
-
-pub join_up-requires : goal.join_up-requires
-join_up-requires c =
-    let preᶜ = c.requires in
-    let prepareᶜ = c.prepare-q in
-    let if1ᶜ = c.if-stop-ne0 in
-    record { stands = preᶜ.test.stands; spare = preᶜ.spare; room = preᶜ.room; fitting = prepareᶜ.ensures.fitting if1ᶜ.false; source = preᶜ.source }
+pub returns-in_err-test : goal.returns-in_err-test
+returns-in_err-test c =
+    let e = err_from_is_err_and c.from_residual.result c.from_residual.ensures.1 in
+    rw (e.1, e.2) (zbij-stop c.stands.ensures c.args.source.removes c.args.source.i (arg_of (table_of c.args.table.now) c.args.arg) c.prepare.ensures c.in_err-test.was)
 
 pub returns : goal.returns
-returns c =
-    let preᶜ = c.requires in
-    let argsᶜ = c.args in
-    let prepareᶜ = c.prepare-q in
-    let if1ᶜ = c.if-stop-ne0 in
-    let join-upᶜ = c.join_up in
-    zbij-tried preᶜ.test.stands argsᶜ.removes argsᶜ.i (arg_of (table_of argsᶜ.table.now) argsᶜ.arg) prepareᶜ.ensures if1ᶜ.false join-upᶜ.ensures
+returns c = zbij-tried c.stands.ensures c.args.source.removes c.args.source.i (arg_of (table_of c.args.table.now) c.args.arg) c.prepare.ensures c.in_ok-test.was c.join_up.ensures

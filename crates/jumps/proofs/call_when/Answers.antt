@@ -1,61 +1,22 @@
 -- `jumps::call_when` meets its contract.
-use mathlib.Core.Path.{refl}
+use mathlib.Core.Path.{refl, ap}
+use Rattle.std.proofs.lemmas.Result.{err_from_is_err_and}
 use Rattle.machine.specs.Effects.Go.{call}
-use Rattle.state.proofs.Standing.{stands}
-use Rattle.jumps.proofs.Rows.{placed, target_is, callable, if-not, if-gone, if-full}
+use Rattle.instructions.specs.Questions.{told_by}
+use Rattle.instructions.proofs.Asking.{some}
+use Rattle.jumps.proofs.Leading.{led-there}
+use Rattle.jumps.proofs.Rows.{target_is, if-not, if-gone, if-full}
 use Rattle.jumps.proofs.call_when.Goals as goal
 
-pub jump_when-requires : goal.jump_when-requires
-jump_when-requires c =
-    let preᶜ = c.requires in
-    preᶜ.turns
-
 pub returns-then-not-taken : goal.returns-then-not-taken
-returns-then-not-taken c =
-    let preᶜ = c.requires in
-    let argsᶜ = c.args in
-    let if1ᶜ = c.if-not-taken in
-    let jump-whenᶜ = c.jump_when in
-    if-not preᶜ.turns.leads argsᶜ.taken (if1ᶜ.true) jump-whenᶜ.ensures
+returns-then-not-taken c = if-not c.args.table.now c.args.label c.args.taken c.if-not-taken.true c.jump_when.ensures
 
-pub depth-requires : goal.depth-requires
-depth-requires c =
-    let preᶜ = c.requires in
-    preᶜ.turns.leads.stands
-
-pub returns-then-depth-eq-STACK : goal.returns-then-depth-eq-STACK
-returns-then-depth-eq-STACK c =
-    let preᶜ = c.requires in
-    let argsᶜ = c.args in
-    let if1ᶜ = c.if-not-taken in
-    let depthᶜ = c.depth in
-    let if2ᶜ = c.if-depth-eq-STACK in
-    if-full preᶜ.turns.leads argsᶜ.taken (if1ᶜ.false) depthᶜ.ensures if2ᶜ.true
-
-pub target-t-requires : goal.target-t-requires
-target-t-requires c =
-    let preᶜ = c.requires in
-    placed preᶜ.turns.leads
-
-pub call_to-requires : goal.call_to-requires
-call_to-requires c =
-    let preᶜ = c.requires in
-    let targetᶜ = c.target-t in
-    let depthᶜ = c.depth in
-    let if2ᶜ = c.if-depth-eq-STACK in
-    callable preᶜ targetᶜ.ensures depthᶜ.ensures if2ᶜ.false
-
-pub set_plus-requires : goal.set_plus-requires
-set_plus-requires c =
-    let call-toᶜ = c.call_to in
-    stands call-toᶜ.ensures
+pub returns-in_err-call : goal.returns-in_err-call
+returns-in_err-call c =
+    let e = err_from_is_err_and c.from_residual.result c.from_residual.ensures.1 in
+    λ ins. rw (e.1, e.2) (if-full c.stands.ensures c.args.table.now c.args.label c.args.taken c.if-not-taken.false (target_is c.requires.leads c.target.ensures) c.in_err-call.ensures (some c.in_err-call.field-0.0) ins)
 
 pub returns : goal.returns
 returns c =
-    let preᶜ = c.requires in
-    let argsᶜ = c.args in
-    let if1ᶜ = c.if-not-taken in
-    let targetᶜ = c.target-t in
-    let call-toᶜ = c.call_to in
-    let set-plusᶜ = c.set_plus in
-    if-gone preᶜ.turns.leads argsᶜ.taken call (λ t. refl) (if1ᶜ.false) (target_is preᶜ.turns.leads targetᶜ.ensures) call-toᶜ.ensures set-plusᶜ.ensures
+    let there = led-there (call c.target.result) c.call.ensures (ap told_by c.in_ok-call.was) in
+    if-gone c.stands.ensures c.args.table.now c.args.label c.args.taken call (λ t. refl) c.if-not-taken.false (target_is c.requires.leads c.target.ensures) there c.set_plus.ensures

@@ -3,6 +3,4 @@ use Rattle.jumps.proofs.Rows.{stop-stops}
 use Rattle.jumps.proofs.stop.Goals as goal
 
 pub returns : goal.returns
-returns c =
-    let preᶜ = c.requires in
-    stop-stops preᶜ
+returns c = stop-stops c.stands.ensures

@@ -1,59 +1,21 @@
 -- `ordering::pp` meets its contract.
-use mathlib.Core.List.{[]}
-use Rattle.ordering.proofs.Rows.{word-long, pp-stop, pp-done}
+use Rattle.std.proofs.lemmas.Result.{err_from_is_err_and}
+use Rattle.ordering.proofs.Rows.{left_most, right_most, pp-stop, pp-done}
 use Rattle.ordering.proofs.pp.Goals as goal
 
-pub first_word-x-requires : goal.first_word-x-requires
-first_word-x-requires c =
-    let preᶜ = c.requires in
-    record { named = record { stands = preᶜ.other.stands; index = preᶜ.source }; room = preᶜ.room }
+pub returns-in_err-m : goal.returns-in_err-m
+returns-in_err-m c =
+    let e = err_from_is_err_and c.from_residual.result c.from_residual.ensures.1 in
+    let o = c.words_of.ensures in
+    rw (e.1, e.2) (pp-stop o.stands c.args.table.now c.args.i c.args.arg o.reads c.in_err-m.was)
 
-pub other_word-y-requires : goal.other_word-y-requires
-other_word-y-requires c =
-    let preᶜ = c.requires in
-    preᶜ.other
+pub shared_ref_as_front-precedes : goal.shared_ref_as_front-precedes
+shared_ref_as_front-precedes c = let o = c.words_of.ensures in left_most o.stands c.args.table.now c.args.i c.args.arg o.reads c.in_ok-m.was
 
-pub returns-then-stop-ne0 : goal.returns-then-stop-ne0
-returns-then-stop-ne0 c =
-    let preᶜ = c.requires in
-    let argsᶜ = c.args in
-    let first-wordᶜ = c.first_word-x in
-    let other-wordᶜ = c.other_word-y in
-    pp-stop preᶜ.other.stands argsᶜ.table.now argsᶜ.i argsᶜ.arg first-wordᶜ.ensures other-wordᶜ.ensures c.ask_kinds-stop.ensures c.if-stop-ne0.true
-
-pub slice_bounds-precedes-end : goal.slice_bounds-precedes-end
-slice_bounds-precedes-end c =
-    let first-wordᶜ = c.first_word-x in
-    first-wordᶜ.ensures.inside
-
-pub slice_bounds-precedes-end-2 : goal.slice_bounds-precedes-end-2
-slice_bounds-precedes-end-2 c =
-    let first-wordᶜ = c.first_word-x in
-    word-long first-wordᶜ.ensures
-
-pub slice_bounds-precedes-end-3 : goal.slice_bounds-precedes-end-3
-slice_bounds-precedes-end-3 c =
-    let other-wordᶜ = c.other_word-y in
-    (other-wordᶜ.ensures []).inside
-
-pub slice_bounds-precedes-end-4 : goal.slice_bounds-precedes-end-4
-slice_bounds-precedes-end-4 c =
-    let other-wordᶜ = c.other_word-y in
-    word-long (other-wordᶜ.ensures [])
-
-pub minus_unless-requires : goal.minus_unless-requires
-minus_unless-requires c =
-    let preᶜ = c.requires in
-    preᶜ.other.stands
+pub shared_ref_as_front-precedes-2 : goal.shared_ref_as_front-precedes-2
+shared_ref_as_front-precedes-2 c = let o = c.words_of.ensures in right_most o.stands c.args.table.now c.args.i c.args.arg o.reads c.in_ok-m.was
 
 pub returns : goal.returns
 returns c =
-    let preᶜ = c.requires in
-    let argsᶜ = c.args in
-    let first-wordᶜ = c.first_word-x in
-    let other-wordᶜ = c.other_word-y in
-    let ask-kindsᶜ = c.ask_kinds-stop in
-    let if1ᶜ = c.if-stop-ne0 in
-    let precedesᶜ = c.precedes-holds in
-    let minus-unlessᶜ = c.minus_unless in
-    pp-done preᶜ.other.stands argsᶜ.table.now argsᶜ.i argsᶜ.arg first-wordᶜ.ensures other-wordᶜ.ensures ask-kindsᶜ.ensures if1ᶜ.false precedesᶜ.ensures minus-unlessᶜ.ensures
+    let o = c.words_of.ensures in
+    pp-done o.stands c.args.table.now c.args.i c.args.arg o.reads c.in_ok-m.was c.precedes-holds.ensures c.minus_unless.ensures

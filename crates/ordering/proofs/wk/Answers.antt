@@ -1,29 +1,15 @@
 -- `ordering::wk` meets its contract.
+use Rattle.std.proofs.lemmas.Result.{err_from_is_err_and}
 use Rattle.ordering.proofs.Rows.{wk-stop, wk-done}
 use Rattle.ordering.proofs.wk.Goals as goal
 
-pub two_operands-q-requires : goal.two_operands-q-requires
-two_operands-q-requires c =
-    let preᶜ = c.requires in
-    preᶜ
-
-pub returns-then-stop-ne0 : goal.returns-then-stop-ne0
-returns-then-stop-ne0 c =
-    let preᶜ = c.requires in
-    let argsᶜ = c.args in
-    let two-operandsᶜ = c.two_operands-q in
-    wk-stop preᶜ.operand.stands argsᶜ.i argsᶜ.arg two-operandsᶜ.ensures c.if-stop-ne0.true
-
-pub minus_unless-requires : goal.minus_unless-requires
-minus_unless-requires c =
-    let preᶜ = c.requires in
-    preᶜ.operand.stands
+pub returns-in_err-p : goal.returns-in_err-p
+returns-in_err-p c =
+    let e = err_from_is_err_and c.from_residual.result c.from_residual.ensures.1 in
+    let o = c.two_operands.ensures in
+    rw (e.1, e.2) (wk-stop o.stands c.args.i c.args.arg o.reads c.in_err-p.was)
 
 pub returns : goal.returns
 returns c =
-    let preᶜ = c.requires in
-    let argsᶜ = c.args in
-    let two-operandsᶜ = c.two_operands-q in
-    let if1ᶜ = c.if-stop-ne0 in
-    let minus-unlessᶜ = c.minus_unless in
-    wk-done preᶜ.operand.stands argsᶜ.i argsᶜ.arg two-operandsᶜ.ensures if1ᶜ.false minus-unlessᶜ.ensures
+    let o = c.two_operands.ensures in
+    wk-done o.stands c.args.i c.args.arg o.reads c.in_ok-p.was c.minus_unless.ensures

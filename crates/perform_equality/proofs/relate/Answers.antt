@@ -1,42 +1,24 @@
 -- `perform_equality::relate` meets its contract.
-use borrow.Enum.Refused.{opened}
-use Rattle.perform_equality.proofs.Operands.{related-named, input-relatable, input-related, expression-relating}
+use Rattle.perform_equality.proofs.Operands.{related-named, no_others, input-relatable, input-related, expression-relating}
 use Rattle.perform_equality.proofs.relate.Goals as goal
 
 pub index_of-i-requires : goal.index_of-i-requires
-index_of-i-requires c =
-    let preᶜ = c.requires in
-    (related-named preᶜ).lettered
+index_of-i-requires c = (related-named c.requires).lettered
 
 pub variable_of-requires : goal.variable_of-requires
-variable_of-requires c =
-    let preᶜ = c.requires in
-    (related-named preᶜ).lettered
+variable_of-requires c = (related-named c.requires).lettered
 
 pub rw_input-requires : goal.rw_input-requires
-rw_input-requires c =
-    let preᶜ = c.requires in
-    let index-ofᶜ = c.index_of-i in
-    let variable-ofᶜ = c.variable_of in
-    input-relatable preᶜ index-ofᶜ.ensures variable-ofᶜ.ensures c.in-Input.is
+rw_input-requires c = input-relatable c.requires c.index_of-i.ensures c.variable_of.ensures c.in-Input.is
 
 pub relate_expression-requires : goal.relate_expression-requires
-relate_expression-requires c =
-    let preᶜ = c.requires in
-    let variable-ofᶜ = c.variable_of in
-    let matchᶜ = c.in_default.in_default-own in
-    expression-relating preᶜ _ variable-ofᶜ.ensures (opened matchᶜ.keys2)
+relate_expression-requires c = expression-relating c.requires c.variable_of.ensures c.in-Expression.is
 
 pub returns-in-Input : goal.returns-in-Input
-returns-in-Input c =
-    let preᶜ = c.requires in
-    let index-ofᶜ = c.index_of-i in
-    let variable-ofᶜ = c.variable_of in
-    let rw-inputᶜ = c.rw_input in
-    input-related preᶜ index-ofᶜ.ensures variable-ofᶜ.ensures c.in-Input.is rw-inputᶜ.ensures
+returns-in-Input c = input-related c.requires c.index_of-i.ensures c.variable_of.ensures c.in-Input.is c.rw_input.ensures
 
-pub returns-in_default : goal.returns-in_default
-returns-in_default c =
-    let relate-expressionᶜ = c.relate_expression in
-    let argsᶜ = c.args in
-    relate-expressionᶜ.ensures argsᶜ.i1.now argsᶜ.i2.now
+pub returns-in-Expression : goal.returns-in-Expression
+returns-in-Expression c = c.relate_expression.ensures c.args.task.first.now c.args.task.second.now
+
+pub unreachable-requires : goal.unreachable-requires
+unreachable-requires c = no_others c.requires c.variable_of.ensures c.in_default.not-Input c.in_default.not-Expression

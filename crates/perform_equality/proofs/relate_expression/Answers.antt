@@ -3,48 +3,22 @@ use Rattle.perform_equality.proofs.Operands.{one-named, any-relatable, any-relat
 use Rattle.perform_equality.proofs.relate_expression.Goals as goal
 
 pub is_any-requires : goal.is_any-requires
-is_any-requires c =
-    let preᶜ = c.requires in
-    preᶜ.expression.lettered
+is_any-requires c = c.requires.expression.lettered
 
 pub index_of-i-requires : goal.index_of-i-requires
-index_of-i-requires c =
-    let preᶜ = c.requires in
-    preᶜ.expression.lettered
+index_of-i-requires c = c.requires.expression.lettered
 
 pub rw_any-requires : goal.rw_any-requires
-rw_any-requires c =
-    let preᶜ = c.requires in
-    let is-anyᶜ = c.is_any in
-    let if1ᶜ = c.if-is_any in
-    let index-ofᶜ = c.index_of-i in
-    any-relatable preᶜ is-anyᶜ.ensures if1ᶜ.true index-ofᶜ.ensures
+rw_any-requires c = any-relatable c.requires c.is_any.ensures c.if-is_any.true c.index_of-i.ensures
 
 pub returns-then-is_any : goal.returns-then-is_any
-returns-then-is_any c =
-    let preᶜ = c.requires in
-    let is-anyᶜ = c.is_any in
-    let if1ᶜ = c.if-is_any in
-    let index-ofᶜ = c.index_of-i in
-    let rw-anyᶜ = c.rw_any in
-    any-related preᶜ is-anyᶜ.ensures if1ᶜ.true index-ofᶜ.ensures rw-anyᶜ.ensures
+returns-then-is_any c = any-related c.requires c.is_any.ensures c.if-is_any.true c.index_of-i.ensures c.rw_any.ensures
 
-pub source_of-s-requires : goal.source_of-s-requires
-source_of-s-requires c =
-    let preᶜ = c.requires in
-    let is-anyᶜ = c.is_any in
-    let if1ᶜ = c.if-is_any in
-    one-named preᶜ is-anyᶜ.ensures if1ᶜ.false
+pub source_of-source-requires : goal.source_of-source-requires
+source_of-source-requires c = one-named c.requires c.is_any.ensures c.if-is_any.false
 
 pub rw_one-requires : goal.rw_one-requires
-rw_one-requires c =
-    let preᶜ = c.requires in
-    let source-ofᶜ = c.source_of-s in
-    one-relatable preᶜ source-ofᶜ.ensures
+rw_one-requires c = one-relatable c.requires c.source_of-source.ensures
 
 pub returns : goal.returns
-returns c =
-    let preᶜ = c.requires in
-    let source-ofᶜ = c.source_of-s in
-    let rw-oneᶜ = c.rw_one in
-    one-related preᶜ source-ofᶜ.ensures rw-oneᶜ.ensures
+returns c = one-related c.requires c.source_of-source.ensures c.rw_one.ensures

@@ -3,19 +3,10 @@ use Rattle.perform_equality.proofs.Operands.{record-named, record-relatable, rec
 use Rattle.perform_equality.proofs.relate_record.Goals as goal
 
 pub index_of-i-requires : goal.index_of-i-requires
-index_of-i-requires c =
-    let preᶜ = c.requires in
-    (record-named preᶜ).lettered
+index_of-i-requires c = (record-named c.requires).lettered
 
 pub rz-requires : goal.rz-requires
-rz-requires c =
-    let preᶜ = c.requires in
-    let index-ofᶜ = c.index_of-i in
-    record-relatable preᶜ index-ofᶜ.ensures
+rz-requires c = record-relatable c.requires c.index_of-i.ensures
 
 pub returns : goal.returns
-returns c =
-    let preᶜ = c.requires in
-    let index-ofᶜ = c.index_of-i in
-    let rzᶜ = c.rz in
-    record-related preᶜ index-ofᶜ.ensures rzᶜ.ensures
+returns c = record-related c.requires c.index_of-i.ensures c.rz.ensures

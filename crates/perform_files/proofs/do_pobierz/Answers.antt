@@ -3,27 +3,12 @@ use mathlib.Core.Path.{refl}
 use Rattle.perform_pointers.specs.Below.CarryingLaws.{first-named, second-named, third-none, performed}
 use Rattle.perform_files.proofs.do_pobierz.Goals as goal
 
-pub file_of-s-requires : goal.file_of-s-requires
-file_of-s-requires c =
-    let preᶜ = c.requires in
-    first-named preᶜ ("CD", "ABYZ", "-") refl tt
+pub file_of-source-requires : goal.file_of-source-requires
+file_of-source-requires c = first-named c.requires ("CD", "ABYZ", "-") refl tt
 
-pub target_of-t-requires : goal.target_of-t-requires
-target_of-t-requires c =
-    let preᶜ = c.requires in
-    second-named preᶜ ("CD", "ABYZ", "-") refl tt
-
-pub pobierz-requires : goal.pobierz-requires
-pobierz-requires c =
-    let preᶜ = c.requires in
-    let file-ofᶜ = c.file_of-s in
-    let target-ofᶜ = c.target_of-t in
-    record { ready = preᶜ.ready; source = file-ofᶜ.ensures.below; target = target-ofᶜ.ensures.below }
+pub target_of-target-requires : goal.target_of-target-requires
+target_of-target-requires c = second-named c.requires ("CD", "ABYZ", "-") refl tt
 
 pub returns : goal.returns
 returns c =
-    let preᶜ = c.requires in
-    let file-ofᶜ = c.file_of-s in
-    let target-ofᶜ = c.target_of-t in
-    let pobierzᶜ = c.pobierz in
-    performed preᶜ (file-ofᶜ.ensures.is _) (target-ofᶜ.ensures.is _) (third-none preᶜ "CD" "ABYZ" refl) pobierzᶜ.ensures
+    performed c.requires (c.file_of-source.ensures.is _) (c.target_of-target.ensures.is _) (third-none c.requires "CD" "ABYZ" refl) c.pobierz.ensures

@@ -7,19 +7,16 @@ use Rattle.perform_files.proofs.Operands.{removable}
 use Rattle.perform_files.proofs.do_skresl.Goals as goal
 
 pub index_of-i-requires : goal.index_of-i-requires
-index_of-i-requires c =
-    let preᶜ = c.requires in
-    (first-named preᶜ ("C", "-nNtBTE", "-") refl tt).lettered
+index_of-i-requires c = (first-named c.requires ("C", "-nNtBTE", "-") refl tt).lettered
 
 pub skresl-requires : goal.skresl-requires
 skresl-requires c =
-    let preᶜ = c.requires in
-    let index-ofᶜ = c.index_of-i in
-    removable preᶜ preᶜ.operating.read.second (formed preᶜ ("C", "-nNtBTE", "-") refl).second (indexed-below letters.Letter.C (first-named preᶜ ("C", "-nNtBTE", "-") refl tt) index-ofᶜ.ensures)
+    let w = c.requires in
+    removable w w.read.second (formed w ("C", "-nNtBTE", "-") refl).second
+    (indexed-below letters.Letter.C (first-named w ("C", "-nNtBTE", "-") refl tt) c.index_of-i.ensures)
 
 pub returns : goal.returns
 returns c =
-    let preᶜ = c.requires in
-    let index-ofᶜ = c.index_of-i in
-    let skreslᶜ = c.skresl in
-    performed preᶜ (indexed-is letters.Letter.C (first-named preᶜ ("C", "-nNtBTE", "-") refl tt) index-ofᶜ.ensures _) refl (third-none preᶜ "C" "-nNtBTE" refl) skreslᶜ.ensures
+    let w = c.requires in
+    performed w (indexed-is letters.Letter.C (first-named w ("C", "-nNtBTE", "-") refl tt) c.index_of-i.ensures _) refl
+    (third-none w "C" "-nNtBTE" refl) c.skresl.ensures

@@ -1,29 +1,14 @@
 -- `perform_files::do_wstaw` meets its contract.
 use mathlib.Core.Path.{refl}
-use Rattle.perform_pointers.specs.Below.CarryingLaws.{first-named, second-named, third-none, two_operands, performed}
+use Rattle.perform_pointers.specs.Below.CarryingLaws.{first-named, second-named, third-none, performed}
 use Rattle.perform_files.proofs.do_wstaw.Goals as goal
 
-pub source_of-s-requires : goal.source_of-s-requires
-source_of-s-requires c =
-    let preᶜ = c.requires in
-    first-named preᶜ ("AB", "CD", "-") refl tt
+pub source_of-source-requires : goal.source_of-source-requires
+source_of-source-requires c = first-named c.requires ("AB", "CD", "-") refl tt
 
-pub file_of-t-requires : goal.file_of-t-requires
-file_of-t-requires c =
-    let preᶜ = c.requires in
-    second-named preᶜ ("AB", "CD", "-") refl tt
-
-pub wstaw-requires : goal.wstaw-requires
-wstaw-requires c =
-    let preᶜ = c.requires in
-    let source-ofᶜ = c.source_of-s in
-    let file-ofᶜ = c.file_of-t in
-    two_operands preᶜ source-ofᶜ.ensures.below file-ofᶜ.ensures.below
+pub file_of-target-requires : goal.file_of-target-requires
+file_of-target-requires c = second-named c.requires ("AB", "CD", "-") refl tt
 
 pub returns : goal.returns
 returns c =
-    let preᶜ = c.requires in
-    let source-ofᶜ = c.source_of-s in
-    let file-ofᶜ = c.file_of-t in
-    let wstawᶜ = c.wstaw in
-    performed preᶜ (source-ofᶜ.ensures.is _) (file-ofᶜ.ensures.is _) (third-none preᶜ "AB" "CD" refl) wstawᶜ.ensures
+    performed c.requires (c.source_of-source.ensures.is _) (c.file_of-target.ensures.is _) (third-none c.requires "AB" "CD" refl) c.wstaw.ensures

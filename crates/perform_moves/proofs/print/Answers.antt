@@ -2,27 +2,14 @@
 use Rattle.perform_moves.proofs.Operands.{print-from, print-to, printable, printed}
 use Rattle.perform_moves.proofs.print.Goals as goal
 
-pub source_of-s-requires : goal.source_of-s-requires
-source_of-s-requires c =
-    let preᶜ = c.requires in
-    print-from preᶜ
+pub source_of-source-requires : goal.source_of-source-requires
+source_of-source-requires c = print-from c.requires
 
 pub index_of-j-requires : goal.index_of-j-requires
-index_of-j-requires c =
-    let preᶜ = c.requires in
-    (print-to preᶜ).lettered
+index_of-j-requires c = (print-to c.requires).lettered
 
 pub pisz-requires : goal.pisz-requires
-pisz-requires c =
-    let preᶜ = c.requires in
-    let source-ofᶜ = c.source_of-s in
-    let index-ofᶜ = c.index_of-j in
-    printable preᶜ source-ofᶜ.ensures index-ofᶜ.ensures
+pisz-requires c = printable c.requires c.source_of-source.ensures c.index_of-j.ensures
 
 pub returns : goal.returns
-returns c =
-    let preᶜ = c.requires in
-    let source-ofᶜ = c.source_of-s in
-    let index-ofᶜ = c.index_of-j in
-    let piszᶜ = c.pisz in
-    printed preᶜ source-ofᶜ.ensures index-ofᶜ.ensures piszᶜ.ensures
+returns c = printed c.requires c.source_of-source.ensures c.index_of-j.ensures c.pisz.ensures

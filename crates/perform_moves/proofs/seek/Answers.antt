@@ -2,27 +2,14 @@
 use Rattle.perform_moves.proofs.Operands.{seek-from, seek-by, seekable, sought}
 use Rattle.perform_moves.proofs.seek.Goals as goal
 
-pub source_of-s-requires : goal.source_of-s-requires
-source_of-s-requires c =
-    let preᶜ = c.requires in
-    seek-from preᶜ
+pub source_of-source-requires : goal.source_of-source-requires
+source_of-source-requires c = seek-from c.requires
 
-pub switch_of-k-requires : goal.switch_of-k-requires
-switch_of-k-requires c =
-    let preᶜ = c.requires in
-    (seek-by preᶜ).switched
+pub switch_of-switch-requires : goal.switch_of-switch-requires
+switch_of-switch-requires c = (seek-by c.requires).switched
 
 pub szukaj-requires : goal.szukaj-requires
-szukaj-requires c =
-    let preᶜ = c.requires in
-    let source-ofᶜ = c.source_of-s in
-    let switch-ofᶜ = c.switch_of-k in
-    seekable preᶜ source-ofᶜ.ensures switch-ofᶜ.ensures
+szukaj-requires c = seekable c.requires c.source_of-source.ensures c.switch_of-switch.ensures
 
 pub returns : goal.returns
-returns c =
-    let preᶜ = c.requires in
-    let source-ofᶜ = c.source_of-s in
-    let switch-ofᶜ = c.switch_of-k in
-    let szukajᶜ = c.szukaj in
-    sought preᶜ source-ofᶜ.ensures switch-ofᶜ.ensures szukajᶜ.ensures
+returns c = sought c.requires c.source_of-source.ensures c.switch_of-switch.ensures c.szukaj.ensures

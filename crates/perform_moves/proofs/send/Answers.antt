@@ -2,27 +2,14 @@
 use Rattle.perform_moves.proofs.Operands.{send-from, send-to, sendable, sent}
 use Rattle.perform_moves.proofs.send.Goals as goal
 
-pub source_of-s-requires : goal.source_of-s-requires
-source_of-s-requires c =
-    let preᶜ = c.requires in
-    send-from preᶜ
+pub source_of-source-requires : goal.source_of-source-requires
+source_of-source-requires c = send-from c.requires
 
-pub target_of-t-requires : goal.target_of-t-requires
-target_of-t-requires c =
-    let preᶜ = c.requires in
-    send-to preᶜ
+pub target_of-target-requires : goal.target_of-target-requires
+target_of-target-requires c = send-to c.requires
 
 pub przeslij-requires : goal.przeslij-requires
-przeslij-requires c =
-    let preᶜ = c.requires in
-    let source-ofᶜ = c.source_of-s in
-    let target-ofᶜ = c.target_of-t in
-    sendable preᶜ source-ofᶜ.ensures target-ofᶜ.ensures
+przeslij-requires c = sendable c.requires c.source_of-source.ensures c.target_of-target.ensures
 
 pub returns : goal.returns
-returns c =
-    let preᶜ = c.requires in
-    let source-ofᶜ = c.source_of-s in
-    let target-ofᶜ = c.target_of-t in
-    let przeslijᶜ = c.przeslij in
-    sent preᶜ source-ofᶜ.ensures target-ofᶜ.ensures przeslijᶜ.ensures
+returns c = sent c.requires c.source_of-source.ensures c.target_of-target.ensures c.przeslij.ensures

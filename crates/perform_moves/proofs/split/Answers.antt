@@ -3,20 +3,11 @@ use mathlib.Core.Path.{refl}
 use Rattle.perform_moves.proofs.Operands.{pair-from, joinable, pair-done}
 use Rattle.perform_moves.proofs.split.Goals as goal
 
-pub source_of-s-requires : goal.source_of-s-requires
-source_of-s-requires c =
-    let preᶜ = c.requires in
-    pair-from preᶜ refl
+pub source_of-source-requires : goal.source_of-source-requires
+source_of-source-requires c = pair-from c.requires refl
 
 pub rozbij-requires : goal.rozbij-requires
-rozbij-requires c =
-    let preᶜ = c.requires in
-    let source-ofᶜ = c.source_of-s in
-    joinable preᶜ refl source-ofᶜ.ensures
+rozbij-requires c = joinable c.requires refl c.source_of-source.ensures
 
 pub returns : goal.returns
-returns c =
-    let preᶜ = c.requires in
-    let source-ofᶜ = c.source_of-s in
-    let rozbijᶜ = c.rozbij in
-    pair-done preᶜ refl source-ofᶜ.ensures rozbijᶜ.ensures
+returns c = pair-done c.requires refl c.source_of-source.ensures c.rozbij.ensures

@@ -1,31 +1,18 @@
 -- `perform_pointers::do_schowaj` meets its contract.
 use mathlib.Core.Path.{refl}
 use Rattle.language.specs.Letters as letters
-use Rattle.decoding.specs.OperandLaws.{indexed-is, indexed-below}
-use Rattle.performing.specs.CarryingLaws.{first-named, second-named, third-none, two_operands, performed}
+use Rattle.decoding.specs.OperandLaws.{indexed-is}
+use Rattle.performing.specs.CarryingLaws.{first-named, second-named, third-none, performed}
 use Rattle.perform_pointers.proofs.do_schowaj.Goals as goal
 
 pub index_of-i-requires : goal.index_of-i-requires
-index_of-i-requires c =
-    let preᶜ = c.requires in
-    (first-named preᶜ ("P", "ABYZ", "-") refl tt).lettered
+index_of-i-requires c = (first-named c.requires ("P", "ABYZ", "-") refl tt).lettered
 
-pub target_of-t-requires : goal.target_of-t-requires
-target_of-t-requires c =
-    let preᶜ = c.requires in
-    second-named preᶜ ("P", "ABYZ", "-") refl tt
-
-pub schowaj-requires : goal.schowaj-requires
-schowaj-requires c =
-    let preᶜ = c.requires in
-    let index-ofᶜ = c.index_of-i in
-    let target-ofᶜ = c.target_of-t in
-    two_operands preᶜ (indexed-below letters.Letter.P (first-named preᶜ ("P", "ABYZ", "-") refl tt) index-ofᶜ.ensures) target-ofᶜ.ensures.below
+pub target_of-target-requires : goal.target_of-target-requires
+target_of-target-requires c = second-named c.requires ("P", "ABYZ", "-") refl tt
 
 pub returns : goal.returns
 returns c =
-    let preᶜ = c.requires in
-    let index-ofᶜ = c.index_of-i in
-    let target-ofᶜ = c.target_of-t in
-    let schowajᶜ = c.schowaj in
-    performed preᶜ (indexed-is letters.Letter.P (first-named preᶜ ("P", "ABYZ", "-") refl tt) index-ofᶜ.ensures _) (target-ofᶜ.ensures.is _) (third-none preᶜ "P" "ABYZ" refl) (schowajᶜ.ensures target-ofᶜ.result.reverses)
+    let w = c.requires in
+    performed w (indexed-is letters.Letter.P (first-named w ("P", "ABYZ", "-") refl tt) c.index_of-i.ensures _) (c.target_of-target.ensures.is _)
+    (third-none w "P" "ABYZ" refl) (c.schowaj.ensures c.target_of-target.result.reverses)

@@ -1,81 +1,54 @@
 -- `perform_pointers::do_umiesc` meets its contract.
-
 use mathlib.Core.Path.{refl, ap}
 use Rattle.language.specs.Letters as letters
 use Rattle.table.specs.Denote.{arg_of}
 use Rattle.decoding.specs.OperandLaws.{indexed-is, indexed-below}
 use Rattle.performing.specs.CarryingLaws.{performed}
-use Rattle.perform_pointers.proofs.Operands.{placeable, fileable, text-placeable, constant, none-third, put-lettered, to-file, to-output, to-expr}
+use Rattle.perform_pointers.proofs.Operands.{placeable, text-placeable, constant, none-third, put-lettered, to-expr, to-file, to-output, to-other}
 use Rattle.perform_pointers.proofs.do_umiesc.Goals as goal
 
 pub variable_of-requires : goal.variable_of-requires
-variable_of-requires c =
-    let preᶜ = c.requires in
-    put-lettered preᶜ
+variable_of-requires c = put-lettered c.requires
 
-pub file_of-t-requires : goal.file_of-t-requires
-file_of-t-requires c =
-    let preᶜ = c.requires in
-    let variable-ofᶜ = c.variable_of in
-    to-file preᶜ c.in-File.is variable-ofᶜ.ensures
+pub target_of-target-requires : goal.target_of-target-requires
+target_of-target-requires c = to-expr c.requires c.in-Expression.is c.variable_of.ensures
+
+pub umiesc_expr-requires : goal.umiesc_expr-requires
+umiesc_expr-requires c = placeable c.requires (constant c.requires) c.target_of-target.ensures.below
+
+pub file_of-target-requires : goal.file_of-target-requires
+file_of-target-requires c = to-file c.requires c.in-File.is c.variable_of.ensures
 
 pub umiesc_file-requires : goal.umiesc_file-requires
-umiesc_file-requires c =
-    let preᶜ = c.requires in
-    let file-ofᶜ = c.file_of-t in
-    fileable preᶜ (constant preᶜ) file-ofᶜ.ensures.below
+umiesc_file-requires c = placeable c.requires (constant c.requires) c.file_of-target.ensures.below
 
 pub index_of-j-requires : goal.index_of-j-requires
-index_of-j-requires c =
-    let preᶜ = c.requires in
-    put-lettered preᶜ
+index_of-j-requires c = put-lettered c.requires
 
 pub text_of-v-requires : goal.text_of-v-requires
-text_of-v-requires c =
-    let preᶜ = c.requires in
-    let variable-ofᶜ = c.variable_of in
-    (to-output preᶜ c.in-Output.is variable-ofᶜ.ensures).0
+text_of-v-requires c = (to-output c.requires c.in-Output.is c.variable_of.ensures).0
 
 pub umiesc_output-requires : goal.umiesc_output-requires
 umiesc_output-requires c =
-    let preᶜ = c.requires in
-    let text-ofᶜ = c.text_of-v in
-    let variable-ofᶜ = c.variable_of in
-    let index-ofᶜ = c.index_of-j in
-    text-placeable preᶜ text-ofᶜ.ensures (indexed-below letters.Letter.Q (to-output preᶜ c.in-Output.is variable-ofᶜ.ensures).1 index-ofᶜ.ensures)
+    let w = c.requires in
+    text-placeable w c.text_of-v.ensures (indexed-below letters.Letter.Q (to-output w c.in-Output.is c.variable_of.ensures).1 c.index_of-j.ensures)
 
-pub target_of-t-requires : goal.target_of-t-requires
-target_of-t-requires c =
-    let preᶜ = c.requires in
-    let variable-ofᶜ = c.variable_of in
-    let matchᶜ = c.in_default.in_default-own in
-    to-expr preᶜ variable-ofᶜ.result matchᶜ.keys3 variable-ofᶜ.ensures
+pub unreachable-requires : goal.unreachable-requires
+unreachable-requires c =
+    to-other c.requires c.variable_of.result c.in_default.not-Expression c.in_default.not-File c.in_default.not-Output c.variable_of.ensures
 
-pub umiesc_expr-requires : goal.umiesc_expr-requires
-umiesc_expr-requires c =
-    let preᶜ = c.requires in
-    let target-ofᶜ = c.target_of-t in
-    placeable preᶜ (constant preᶜ) target-ofᶜ.ensures.below
+pub returns-in-Expression : goal.returns-in-Expression
+returns-in-Expression c =
+    let w = c.requires in
+    performed w refl (c.target_of-target.ensures.is _) (none-third w) (c.umiesc_expr.ensures c.target_of-target.result.reverses)
 
 pub returns-in-File : goal.returns-in-File
 returns-in-File c =
-    let preᶜ = c.requires in
-    let file-ofᶜ = c.file_of-t in
-    let umiesc-fileᶜ = c.umiesc_file in
-    performed preᶜ refl (file-ofᶜ.ensures.is _) (none-third preᶜ) umiesc-fileᶜ.ensures
+    let w = c.requires in
+    performed w refl (c.file_of-target.ensures.is _) (none-third w) c.umiesc_file.ensures
 
 pub returns-in-Output : goal.returns-in-Output
 returns-in-Output c =
-    let preᶜ = c.requires in
-    let text-ofᶜ = c.text_of-v in
-    let variable-ofᶜ = c.variable_of in
-    let index-ofᶜ = c.index_of-j in
-    let umiesc-outputᶜ = c.umiesc_output in
-    performed preᶜ (ap (arg_of _) text-ofᶜ.ensures) (indexed-is letters.Letter.Q (to-output preᶜ c.in-Output.is variable-ofᶜ.ensures).1 index-ofᶜ.ensures _) (none-third preᶜ) umiesc-outputᶜ.ensures
-
-pub returns-in_default : goal.returns-in_default
-returns-in_default c =
-    let preᶜ = c.requires in
-    let target-ofᶜ = c.target_of-t in
-    let umiesc-exprᶜ = c.umiesc_expr in
-    performed preᶜ refl (target-ofᶜ.ensures.is _) (none-third preᶜ) (umiesc-exprᶜ.ensures target-ofᶜ.result.reverses)
+    let w = c.requires in
+    performed w (ap (arg_of _) c.text_of-v.ensures)
+    (indexed-is letters.Letter.Q (to-output w c.in-Output.is c.variable_of.ensures).1 c.index_of-j.ensures _) (none-third w) c.umiesc_output.ensures

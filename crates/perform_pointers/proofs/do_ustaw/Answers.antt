@@ -1,31 +1,18 @@
 -- `perform_pointers::do_ustaw` meets its contract.
 use mathlib.Core.Path.{refl}
 use Rattle.language.specs.Letters as letters
-use Rattle.decoding.specs.OperandLaws.{indexed-is, indexed-below}
-use Rattle.performing.specs.CarryingLaws.{first-named, second-named, third-none, two_operands, performed}
+use Rattle.decoding.specs.OperandLaws.{indexed-is}
+use Rattle.performing.specs.CarryingLaws.{first-named, second-named, third-none, performed}
 use Rattle.perform_pointers.proofs.do_ustaw.Goals as goal
 
-pub source_of-s-requires : goal.source_of-s-requires
-source_of-s-requires c =
-    let preᶜ = c.requires in
-    first-named preᶜ ("AB", "P", "-") refl tt
+pub source_of-source-requires : goal.source_of-source-requires
+source_of-source-requires c = first-named c.requires ("AB", "P", "-") refl tt
 
 pub index_of-j-requires : goal.index_of-j-requires
-index_of-j-requires c =
-    let preᶜ = c.requires in
-    (second-named preᶜ ("AB", "P", "-") refl tt).lettered
-
-pub ustaw-requires : goal.ustaw-requires
-ustaw-requires c =
-    let preᶜ = c.requires in
-    let source-ofᶜ = c.source_of-s in
-    let index-ofᶜ = c.index_of-j in
-    two_operands preᶜ source-ofᶜ.ensures.below (indexed-below letters.Letter.P (second-named preᶜ ("AB", "P", "-") refl tt) index-ofᶜ.ensures)
+index_of-j-requires c = (second-named c.requires ("AB", "P", "-") refl tt).lettered
 
 pub returns : goal.returns
 returns c =
-    let preᶜ = c.requires in
-    let source-ofᶜ = c.source_of-s in
-    let index-ofᶜ = c.index_of-j in
-    let ustawᶜ = c.ustaw in
-    performed preᶜ (source-ofᶜ.ensures.is _) (indexed-is letters.Letter.P (second-named preᶜ ("AB", "P", "-") refl tt) index-ofᶜ.ensures _) (third-none preᶜ "AB" "P" refl) ustawᶜ.ensures
+    let w = c.requires in
+    performed w (c.source_of-source.ensures.is _) (indexed-is letters.Letter.P (second-named w ("AB", "P", "-") refl tt) c.index_of-j.ensures _)
+    (third-none w "AB" "P" refl) c.ustaw.ensures

@@ -1,49 +1,86 @@
 -- `perform_values::perform_value` meets its contract.
-use Rattle.perform_values.proofs.Operands.{to-numbers, to-words, to-compute, to-convert}
+use mathlib.Core.Path.{◌≡◌, refl, ap}
+use Rattle.language.specs.Operators.{op_by}
+use Rattle.language.specs.declared.Operator.{Operator}
+use Rattle.packed.specs.Packed.{table_of}
+use Rattle.decoding.specs.Operands.{Lettered}
+use Rattle.performing.specs.CarryingLaws.{known}
+use Rattle.perform_values.proofs.Operands.{lettered-a, lettered-b, pair-a, pair-b, comparable, done-a, done-b, sourced, done-one, each-one}
 use Rattle.perform_values.proofs.perform_value.Goals as goal
 
-pub compare_numbers-requires : goal.compare_numbers-requires
-compare_numbers-requires c =
-    let preᶜ = c.requires in
-    let if1ᶜ = c.if-op-le-MN in
-    to-numbers preᶜ if1ᶜ.true
+-- the first argument has a letter
+pub index_of-i-requires : goal.index_of-i-requires
+index_of-i-requires c =
+    let w = c.requires.carrying in
+    each-one (λ (o : Operator). c.args.instruction.op ≡ o → Lettered c.args.instruction.x)
+    (λ q. lettered-b (known w (ap op_by q)) "nB" refl)
+    (λ q. lettered-b (known w (ap op_by q)) "nB" refl)
+    (λ q. lettered-b (known w (ap op_by q)) "tB" refl)
+    (λ q. lettered-b (known w (ap op_by q)) "tB" refl)
+    (λ q. lettered-a (known w (ap op_by q)) "nB" refl)
+    (λ q. lettered-a (known w (ap op_by q)) "nB" refl)
+    (λ q. lettered-a (known w (ap op_by q)) "nB" refl)
+    (λ q. lettered-a (known w (ap op_by q)) "nB" refl)
+    (λ q. (sourced (known w (ap op_by q)) refl).lettered)
+    (λ q. (sourced (known w (ap op_by q)) refl).lettered)
+    c.args.instruction.op c.requires.one_of refl
 
-pub returns-then-op-le-MN : goal.returns-then-op-le-MN
-returns-then-op-le-MN c =
-    let compare-numbersᶜ = c.compare_numbers in
-    compare-numbersᶜ.ensures
+pub wk-requires : goal.wk-requires
+wk-requires c = pair-b (known c.requires.carrying (ap op_by c.in-WK.is)) c.index_of-i.ensures refl
 
-pub compare_words-requires : goal.compare_words-requires
-compare_words-requires c =
-    let preᶜ = c.requires in
-    let if1ᶜ = c.if-op-le-MN in
-    let if2ᶜ = c.if-op-le-NS in
-    to-words preᶜ if1ᶜ.false if2ᶜ.true
+pub mn-requires : goal.mn-requires
+mn-requires c = pair-b (known c.requires.carrying (ap op_by c.in-MN.is)) c.index_of-i.ensures refl
 
-pub returns-then-op-le-NS : goal.returns-then-op-le-NS
-returns-then-op-le-NS c =
-    let compare-wordsᶜ = c.compare_words in
-    compare-wordsᶜ.ensures
+pub pp-requires : goal.pp-requires
+pp-requires c = comparable (known c.requires.carrying (ap op_by c.in-PP.is)) c.index_of-i.ensures refl
 
-pub compute-requires : goal.compute-requires
-compute-requires c =
-    let preᶜ = c.requires in
-    let if2ᶜ = c.if-op-le-NS in
-    let if3ᶜ = c.if-op-le-DZIEL in
-    to-compute preᶜ if2ᶜ.false if3ᶜ.true
+pub ns-requires : goal.ns-requires
+ns-requires c = comparable (known c.requires.carrying (ap op_by c.in-NS.is)) c.index_of-i.ensures refl
 
-pub returns-then-op-le-DZIEL : goal.returns-then-op-le-DZIEL
-returns-then-op-le-DZIEL c =
-    let computeᶜ = c.compute in
-    computeᶜ.ensures
+pub dodaj-requires : goal.dodaj-requires
+dodaj-requires c = pair-a (known c.requires.carrying (ap op_by c.in-DODAJ.is)) c.index_of-i.ensures refl
 
-pub convert-requires : goal.convert-requires
-convert-requires c =
-    let preᶜ = c.requires in
-    let if3ᶜ = c.if-op-le-DZIEL in
-    to-convert preᶜ if3ᶜ.false
+pub odejmij-requires : goal.odejmij-requires
+odejmij-requires c = pair-a (known c.requires.carrying (ap op_by c.in-ODEJMIJ.is)) c.index_of-i.ensures refl
 
-pub returns : goal.returns
-returns c =
-    let convertᶜ = c.convert in
-    convertᶜ.ensures
+pub mnoz-requires : goal.mnoz-requires
+mnoz-requires c = pair-a (known c.requires.carrying (ap op_by c.in-MNOZ.is)) c.index_of-i.ensures refl
+
+pub dziel-requires : goal.dziel-requires
+dziel-requires c = pair-a (known c.requires.carrying (ap op_by c.in-DZIEL.is)) c.index_of-i.ensures refl
+
+pub source_of-requires : goal.source_of-requires
+source_of-requires c = sourced (known c.requires.carrying (ap op_by c.in-SLOWO.is)) refl
+
+pub source_of-requires-in-LICZBA : goal.source_of-requires-in-LICZBA
+source_of-requires-in-LICZBA c = sourced (known c.requires.carrying (ap op_by c.in-LICZBA.is)) refl
+
+pub returns-in-WK : goal.returns-in-WK
+returns-in-WK c = done-b (known c.requires.carrying (ap op_by c.in-WK.is)) c.index_of-i.ensures "nB" refl (c.wk.ensures (table_of c.args.table.now))
+
+pub returns-in-MN : goal.returns-in-MN
+returns-in-MN c = done-b (known c.requires.carrying (ap op_by c.in-MN.is)) c.index_of-i.ensures "nB" refl (c.mn.ensures (table_of c.args.table.now))
+
+pub returns-in-PP : goal.returns-in-PP
+returns-in-PP c = done-b (known c.requires.carrying (ap op_by c.in-PP.is)) c.index_of-i.ensures "tB" refl c.pp.ensures
+
+pub returns-in-NS : goal.returns-in-NS
+returns-in-NS c = done-b (known c.requires.carrying (ap op_by c.in-NS.is)) c.index_of-i.ensures "tB" refl c.ns.ensures
+
+pub returns-in-DODAJ : goal.returns-in-DODAJ
+returns-in-DODAJ c = done-a (known c.requires.carrying (ap op_by c.in-DODAJ.is)) c.index_of-i.ensures "nB" refl (c.dodaj.ensures (table_of c.args.table.now))
+
+pub returns-in-ODEJMIJ : goal.returns-in-ODEJMIJ
+returns-in-ODEJMIJ c = done-a (known c.requires.carrying (ap op_by c.in-ODEJMIJ.is)) c.index_of-i.ensures "nB" refl (c.odejmij.ensures (table_of c.args.table.now))
+
+pub returns-in-MNOZ : goal.returns-in-MNOZ
+returns-in-MNOZ c = done-a (known c.requires.carrying (ap op_by c.in-MNOZ.is)) c.index_of-i.ensures "nB" refl (c.mnoz.ensures (table_of c.args.table.now))
+
+pub returns-in-DZIEL : goal.returns-in-DZIEL
+returns-in-DZIEL c = done-a (known c.requires.carrying (ap op_by c.in-DZIEL.is)) c.index_of-i.ensures "nB" refl (c.dziel.ensures (table_of c.args.table.now))
+
+pub returns-in-SLOWO : goal.returns-in-SLOWO
+returns-in-SLOWO c = done-one (known c.requires.carrying (ap op_by c.in-SLOWO.is)) refl c.source_of.ensures c.slowo.ensures
+
+pub returns-in-LICZBA : goal.returns-in-LICZBA
+returns-in-LICZBA c = done-one (known c.requires.carrying (ap op_by c.in-LICZBA.is)) refl c.source_of-in-LICZBA.ensures c.liczba.ensures

@@ -3,13 +3,7 @@ use Rattle.pointers.proofs.Rows.{front-pointable, cofnij-done}
 use Rattle.pointers.proofs.cofnij.Goals as goal
 
 pub point-requires : goal.point-requires
-point-requires c =
-    let preᶜ = c.requires in
-    front-pointable preᶜ.stands preᶜ.spare preᶜ.room preᶜ.index
+point-requires c = front-pointable c.requires
 
 pub returns : goal.returns
-returns c =
-    let preᶜ = c.requires in
-    let argsᶜ = c.args in
-    let pointᶜ = c.point in
-    cofnij-done preᶜ.stands argsᶜ.i pointᶜ.ensures
+returns c = cofnij-done c.stands.ensures c.args.i c.point.ensures

@@ -1,31 +1,18 @@
 -- `pointers::locate` meets its contract.
+use borrow.Author.Tests.{not-false}
 use Rattle.language.specs.Letters.Letter.{P}
 use Rattle.machine.specs.Arguments.{file_of, records}
-use Rattle.state.specs.Working.{state_at, nth}
+use Rattle.state.specs.Working.{nth}
 use Rattle.pointers.proofs.Searching.{located-front, located-before, located_after}
 use Rattle.pointers.proofs.locate.Goals as goal
 
 pub returns-then-address-eq0 : goal.returns-then-address-eq0
-returns-then-address-eq0 c =
-    let if1ᶜ = c.if-address-eq0 in
-    let argsᶜ = c.args in
-    located-front if1ᶜ.true (records (file_of (state_at argsᶜ.pool.now argsᶜ.ends.now argsᶜ.nums.now).store (nth P argsᶜ.i)))
+returns-then-address-eq0 c = located-front c.if-address-eq0.true (records (file_of c.args.state.now.store (nth P c.args.i)))
 
 pub returns-then-f : goal.returns-then-f
 returns-then-f c =
-    let if1ᶜ = c.if-address-eq0 in
-    let before-bytesᶜ = c.before_bytes in
-    let findᶜ = c.find-f in
-    let argsᶜ = c.args in
-    let if2ᶜ = c.if-f in
-    located-before if1ᶜ.false before-bytesᶜ.ensures findᶜ.ensures (file_of (state_at argsᶜ.pool.now argsᶜ.ends.now argsᶜ.nums.now).store (nth P argsᶜ.i)).after if2ᶜ.true
+    located-before c.if-address-eq0.false c.before_bytes.ensures c.find-f.ensures (file_of c.args.state.now.store (nth P c.args.i)).after c.if-f.true
 
 pub returns : goal.returns
 returns c =
-    let if1ᶜ = c.if-address-eq0 in
-    let before-bytesᶜ = c.before_bytes in
-    let findᶜ = c.find-f in
-    let after-bytesᶜ = c.after_bytes in
-    let find2ᶜ = c.find-g in
-    let if2ᶜ = c.if-f in
-    located_after if1ᶜ.false before-bytesᶜ.ensures findᶜ.ensures after-bytesᶜ.ensures find2ᶜ.ensures if2ᶜ.false
+    located_after c.if-address-eq0.false c.before_bytes.ensures c.find-f.ensures c.after_bytes.ensures c.find-g.ensures c.if-f.false (not-false c.find-g.result.found c.if-not-g.false)

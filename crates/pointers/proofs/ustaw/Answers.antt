@@ -1,98 +1,62 @@
 -- `pointers::ustaw` meets its contract.
-use mathlib.Core.Path.{sym, ◌∙◌}
-use borrow.Author.Tests.{not-true, not-false}
+use mathlib.Core.Path.{sym, ap, ◌∙◌}
+use lib.ListN.{length}
+use borrow.Author.Tests.{true-eqb, false-eqb}
+use Rattle.std.specs.Prelude.{is_some}
 use Rattle.machine.specs.Changes.{past}
-use Rattle.state.specs.Working.{state_at, nth, reading}
+use Rattle.state.specs.Working.{nth, reading}
 use Rattle.filing.specs.Files.{pointed_at}
 use Rattle.instructions.proofs.Answers.{one-after}
 use Rattle.pointers.proofs.Rows.{leading, ustaw-none, ustaw-kind, ustaw-missing, then-pointable, ustaw-done, address-droppable}
 use Rattle.pointers.proofs.ustaw.Goals as goal
 
-pub returns-then-x-eq0 : goal.returns-then-x-eq0
-returns-then-x-eq0 c =
-    let preᶜ = c.requires in
-    let argsᶜ = c.args in
-    let expr-bytesᶜ = c.expr_bytes-x in
-    let if1ᶜ = c.if-x-eq0 in
-    ustaw-none preᶜ.stands argsᶜ.removes preᶜ.first expr-bytesᶜ.ensures preᶜ.second if1ᶜ.true
+pub returns-then-is_empty : goal.returns-then-is_empty
+returns-then-is_empty c =
+    let l = c.expr_bytes-x.ensures in
+    ustaw-none l.stands c.args.source.removes c.requires.expression l c.requires.file (true-eqb (length c.expr_bytes-x.result.now) 0 c.if-is_empty.ensures)
 
 pub kind_of-requires : goal.kind_of-requires
 kind_of-requires c =
-    let preᶜ = c.requires in
-    let argsᶜ = c.args in
-    let expr-bytesᶜ = c.expr_bytes-x in
-    let if1ᶜ = c.if-x-eq0 in
-    leading preᶜ.stands argsᶜ.removes preᶜ.first expr-bytesᶜ.ensures preᶜ.second if1ᶜ.false
+    let l = c.expr_bytes-x.ensures in
+    let z = false-eqb (length c.expr_bytes-x.result.now) 0 c.if-is_empty.ensures in
+    leading l.stands c.args.source.removes c.requires.expression l c.requires.file z
 
 pub returns-then-kind_of-ne2 : goal.returns-then-kind_of-ne2
 returns-then-kind_of-ne2 c =
-    let preᶜ = c.requires in
-    let argsᶜ = c.args in
-    let expr-bytesᶜ = c.expr_bytes-x in
-    let if1ᶜ = c.if-x-eq0 in
-    let kind-ofᶜ = c.kind_of in
-    let if2ᶜ = c.if-kind_of-ne2 in
-    ustaw-kind preᶜ.stands argsᶜ.removes preᶜ.first expr-bytesᶜ.ensures preᶜ.second if1ᶜ.false kind-ofᶜ.ensures if2ᶜ.true
+    let l = c.expr_bytes-x.ensures in
+    let z = false-eqb (length c.expr_bytes-x.result.now) 0 c.if-is_empty.ensures in
+    ustaw-kind l.stands c.args.source.removes c.requires.expression l c.requires.file z c.kind_of.ensures c.if-kind_of-ne2.true
 
 pub address_of-requires : goal.address_of-requires
 address_of-requires c =
-    let preᶜ = c.requires in
-    let argsᶜ = c.args in
-    let expr-bytesᶜ = c.expr_bytes-x in
-    let if1ᶜ = c.if-x-eq0 in
-    let kind-ofᶜ = c.kind_of in
-    let if2ᶜ = c.if-kind_of-ne2 in
-    record { fits = (leading preᶜ.stands argsᶜ.removes preᶜ.first expr-bytesᶜ.ensures preᶜ.second if1ᶜ.false).fits; kind_is = sym kind-ofᶜ.ensures.is ∙ if2ᶜ.false }
+    let l = c.expr_bytes-x.ensures in
+    let z = false-eqb (length c.expr_bytes-x.result.now) 0 c.if-is_empty.ensures in
+    record { fits = (leading l.stands c.args.source.removes c.requires.expression l c.requires.file z).fits; kind_is = sym c.kind_of.ensures.is ∙ c.if-kind_of-ne2.false }
 
-pub returns-then-not-f : goal.returns-then-not-f
-returns-then-not-f c =
-    let preᶜ = c.requires in
-    let argsᶜ = c.args in
-    let expr-bytesᶜ = c.expr_bytes-x in
-    let if1ᶜ = c.if-x-eq0 in
-    let kind-ofᶜ = c.kind_of in
-    let if2ᶜ = c.if-kind_of-ne2 in
-    let address-ofᶜ = c.address_of in
-    let locateᶜ = c.locate-f in
-    let if3ᶜ = c.if-not-f in
-    ustaw-missing preᶜ.stands argsᶜ.removes preᶜ.first expr-bytesᶜ.ensures preᶜ.second if1ᶜ.false (sym kind-ofᶜ.ensures.is ∙ if2ᶜ.false) address-ofᶜ.ensures locateᶜ.ensures (not-true locateᶜ.result.found if3ᶜ.true)
+pub returns-in_default : goal.returns-in_default
+returns-in_default c =
+    let l = c.expr_bytes-x.ensures in
+    let z = false-eqb (length c.expr_bytes-x.result.now) 0 c.if-is_empty.ensures in
+    let k = sym c.kind_of.ensures.is ∙ c.if-kind_of-ne2.false in
+    ustaw-missing l.stands c.args.source.removes c.requires.expression l c.requires.file z k c.address_of.ensures c.locate.ensures (ap is_some c.in_default.is)
 
 pub past_parts-requires : goal.past_parts-requires
 past_parts-requires c =
-    let preᶜ = c.requires in
-    let argsᶜ = c.args in
-    let expr-bytesᶜ = c.expr_bytes-x in
-    let if1ᶜ = c.if-x-eq0 in
-    let kind-ofᶜ = c.kind_of in
-    let if2ᶜ = c.if-kind_of-ne2 in
-    address-droppable preᶜ.stands argsᶜ.removes preᶜ.first expr-bytesᶜ.ensures preᶜ.second if1ᶜ.false (sym kind-ofᶜ.ensures.is ∙ if2ᶜ.false)
+    let l = c.expr_bytes-x.ensures in
+    let z = false-eqb (length c.expr_bytes-x.result.now) 0 c.if-is_empty.ensures in
+    let k = sym c.kind_of.ensures.is ∙ c.if-kind_of-ne2.false in
+    address-droppable l.stands c.args.source.removes c.requires.expression l c.requires.file z k
 
 pub point-requires : goal.point-requires
 point-requires c =
-    let preᶜ = c.requires in
-    let argsᶜ = c.args in
-    let expr-bytesᶜ = c.expr_bytes-x in
-    let if1ᶜ = c.if-x-eq0 in
-    let kind-ofᶜ = c.kind_of in
-    let if2ᶜ = c.if-kind_of-ne2 in
-    let address-ofᶜ = c.address_of in
-    let locateᶜ = c.locate-f in
-    let if3ᶜ = c.if-not-f in
-    let past-partsᶜ = c.past_parts in
-    then-pointable preᶜ.stands argsᶜ.removes preᶜ.first expr-bytesᶜ.ensures preᶜ.second if1ᶜ.false (sym kind-ofᶜ.ensures.is ∙ if2ᶜ.false) address-ofᶜ.ensures locateᶜ.ensures (not-false locateᶜ.result.found if3ᶜ.false) past-partsᶜ.ensures preᶜ.spare preᶜ.room
+    let l = c.expr_bytes-x.ensures in
+    let z = false-eqb (length c.expr_bytes-x.result.now) 0 c.if-is_empty.ensures in
+    let k = sym c.kind_of.ensures.is ∙ c.if-kind_of-ne2.false in
+    then-pointable l.stands c.args.source.removes c.requires.expression l c.requires.file z k c.address_of.ensures c.locate.ensures c.in-Some.is c.past_parts.ensures
 
 pub returns : goal.returns
 returns c =
-    let preᶜ = c.requires in
-    let argsᶜ = c.args in
-    let expr-bytesᶜ = c.expr_bytes-x in
-    let if1ᶜ = c.if-x-eq0 in
-    let kind-ofᶜ = c.kind_of in
-    let if2ᶜ = c.if-kind_of-ne2 in
-    let address-ofᶜ = c.address_of in
-    let locateᶜ = c.locate-f in
-    let if3ᶜ = c.if-not-f in
-    let past-partsᶜ = c.past_parts in
-    let pointᶜ = c.point in
-    ustaw-done preᶜ.stands argsᶜ.removes preᶜ.first expr-bytesᶜ.ensures preᶜ.second if1ᶜ.false (sym kind-ofᶜ.ensures.is ∙ if2ᶜ.false) address-ofᶜ.ensures locateᶜ.ensures (not-false locateᶜ.result.found if3ᶜ.false)
-    (one-after (state_at argsᶜ.pool.now argsᶜ.ends.now argsᶜ.nums.now) (past (nth (reading argsᶜ.removes) argsᶜ.i) 1) (pointed_at argsᶜ.j locateᶜ.result.records) past-partsᶜ.ensures pointᶜ.ensures)
+    let l = c.expr_bytes-x.ensures in
+    let z = false-eqb (length c.expr_bytes-x.result.now) 0 c.if-is_empty.ensures in
+    let k = sym c.kind_of.ensures.is ∙ c.if-kind_of-ne2.false in
+    ustaw-done l.stands c.args.source.removes c.requires.expression l c.requires.file z k c.address_of.ensures c.locate.ensures c.in-Some.is (one-after c.args.bench.now.state (past (nth (reading c.args.source.removes) c.args.source.i) 1) (pointed_at c.args.j c.in-Some.place.records) c.past_parts.ensures c.point.ensures)

@@ -1,36 +1,25 @@
 -- `record_tests::prepare` meets its contract.
+use Rattle.std.proofs.lemmas.Result.{err_from_is_err_and}
 use Rattle.packed.specs.Packed.{table_of}
-use Rattle.record_tests.proofs.Wholes.{whole-readable, whole-told, parts-readable, parts-told}
+use Rattle.record_tests.proofs.Wholes.{whole-from, whole-named, whole-told, parts-readable, parts-refused, parts-told}
 use Rattle.record_tests.proofs.prepare.Goals as goal
 
-pub prepare_whole-requires : goal.prepare_whole-requires
-prepare_whole-requires c =
-    let preᶜ = c.requires in
-    let whole-indexᶜ = c.whole_index-k in
-    let if1ᶜ = c.if-k-ne0 in
-    whole-readable (preᶜ) whole-indexᶜ.ensures if1ᶜ.true
+pub overflow_sub-n : goal.overflow_sub-n
+overflow_sub-n c = whole-from c.requires c.in-Some.ensures
 
-pub returns-then-k-ne0 : goal.returns-then-k-ne0
-returns-then-k-ne0 c =
-    let preᶜ = c.requires in
-    let whole-indexᶜ = c.whole_index-k in
-    let if1ᶜ = c.if-k-ne0 in
-    let argsᶜ = c.args in
-    let prepare-wholeᶜ = c.prepare_whole in
-    whole-told (preᶜ) whole-indexᶜ.ensures if1ᶜ.true (table_of argsᶜ.table.now) prepare-wholeᶜ.ensures
+pub put_all-requires : goal.put_all-requires
+put_all-requires c = whole-named c.requires c.in-Some.ensures
 
-pub prepare-q-requires : goal.prepare-q-requires
-prepare-q-requires c =
-    let preᶜ = c.requires in
-    let whole-indexᶜ = c.whole_index-k in
-    let if1ᶜ = c.if-k-ne0 in
-    parts-readable (preᶜ) whole-indexᶜ.ensures if1ᶜ.false
+pub returns-in-Some : goal.returns-in-Some
+returns-in-Some c = whole-told c.requires c.in-Some.ensures (table_of c.args.table.now) c.args.state.now.store c.put_all.ensures
+
+pub prepare-requires : goal.prepare-requires
+prepare-requires c = parts-readable c.requires c.in_default.ensures
+
+pub returns-in_err-p : goal.returns-in_err-p
+returns-in_err-p c =
+    let e = err_from_is_err_and c.from_residual.result c.from_residual.ensures.1 in
+    rw (e.1, e.2) (parts-refused c.requires c.in_default.ensures (table_of c.args.table.now) c.args.state.now.store c.prepare.ensures c.in_err-p.was)
 
 pub returns : goal.returns
-returns c =
-    let preᶜ = c.requires in
-    let whole-indexᶜ = c.whole_index-k in
-    let if1ᶜ = c.if-k-ne0 in
-    let argsᶜ = c.args in
-    let prepareᶜ = c.prepare-q in
-    parts-told (preᶜ) whole-indexᶜ.ensures if1ᶜ.false (table_of argsᶜ.table.now) prepareᶜ.ensures
+returns c = parts-told c.requires c.in_default.ensures (table_of c.args.table.now) c.args.state.now.store c.prepare.ensures c.in_ok-p.was

@@ -1,35 +1,20 @@
 -- `running::run_steps` meets its contract.
-use native.Mathlib.Omega.{arith}
-use mathlib.Core.Path.{refl, ◌∙◌}
+use mathlib.Core.Path.{refl, sym, ap, ◌∙◌}
+use Rattle.instructions.specs.Questions.{told_by}
+use Rattle.instructions.proofs.Asking.{some}
 use Rattle.running.proofs.Loop.{going-none, going_more, ran-stop, ran-pause}
 use Rattle.running.proofs.run_steps.Goals as goal
 
 pub loop-count-init : goal.loop-count-init
-loop-count-init c = record { going = going-none c.requires _; pool_is = refl; ends_is = refl; nums_is = refl; scratch_is = refl; hold_is = refl; given_is = refl }
+loop-count-init c = going-none c.requires c.args.budget
 
-pub step-stop-requires : goal.step-stop-requires
-step-stop-requires c = c.loop-count.invariant.going.ready
-
-pub returns-then-stop-ne0 : goal.returns-then-stop-ne0
-returns-then-stop-ne0 c =
-    let step = c.step-stop in
-    let loop = c.loop-count in
-    let x = ran-stop loop.invariant.going step.ensures c.loop-count-test.true c.if-stop-ne0.true refl refl in
-    record { tells = x.0; holds = x.1 }
+pub returns-in-Err : goal.returns-in-Err
+returns-in-Err c =
+    let told = ap told_by c.in-Err.is in
+    ran-stop c.loop-count.invariant c.step.ensures c.loop-count-test.true (λ z. some c.in-Err.q (sym told ∙ z)) (c.from.ensures ∙ sym told) refl
 
 pub loop-count-preserved : goal.loop-count-preserved
-loop-count-preserved c =
-    let step = c.step-stop in
-    let loop = c.loop-count in
-    record {
-      going = going_more loop.invariant.going step.ensures c.loop-count-test.true c.if-stop-ne0.false (omega arith) (omega arith) (omega arith);
-      pool_is = (omega arith) ∙ loop.invariant.pool_is;
-      ends_is = (omega arith) ∙ loop.invariant.ends_is;
-      nums_is = (omega arith) ∙ loop.invariant.nums_is;
-      scratch_is = (omega arith) ∙ loop.invariant.scratch_is;
-      hold_is = (omega arith) ∙ loop.invariant.hold_is;
-      given_is = (omega arith) ∙ loop.invariant.given_is;
-    }
+loop-count-preserved c = going_more c.loop-count.invariant c.step.ensures c.loop-count-test.true (ap told_by c.in_default.is)
 
 pub returns : goal.returns
-returns c = let x = ran-pause c.loop-count.invariant.going c.loop-count-test.false refl refl in record { tells = x.0; holds = x.1 }
+returns c = ran-pause c.loop-count.invariant c.loop-count-test.false refl refl

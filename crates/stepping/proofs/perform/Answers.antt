@@ -1,73 +1,54 @@
 -- `stepping::perform` meets its contract.
-use mathlib.Core.Path.{sym, ◌∙◌}
-use Rattle.stepping.proofs.Steps.{an-operator, for-moves, for-values, for-equality, for-files}
+use mathlib.Core.Path.{◌≡◌, sym, subst}
+use mathlib.Core.Logic.{◌⊎◌}
+use lib.Dec.{T}
+use Rattle.std.proofs.Common.{⊎_elim}
+use Rattle.lists.specs.Lists.{among}
+use Rattle.language.specs.Instructions.{number_of}
+use Rattle.language.specs.Operators.{op_by}
+use Rattle.language.specs.declared.Operator.{Operator}
+use Rattle.perform_jumps.specs.Below.OperatingLaws.{carrying}
+use Rattle.perform_values.specs.Valuing.{value_operators}
+use Rattle.perform_equality.specs.Equating.{equality_operators}
+use Rattle.perform_files.specs.Filing.{file_operators}
 use Rattle.stepping.proofs.perform.Goals as goal
 
-pub is_move-requires : goal.is_move-requires
-is_move-requires c =
-    let preᶜ = c.requires in
-    an-operator preᶜ.fetched
+-- what holds of one of several operators, or of each of the rest
+module _ (P : Operator → Type 0) {o k : Operator} where
+  last : P k → o ≡ k → P o
+  last p q = subst P (sym q) p
 
-pub carry_move-requires : goal.carry_move-requires
-carry_move-requires c =
-    let preᶜ = c.requires in
-    let is-moveᶜ = c.is_move in
-    let if1ᶜ = c.if-is_move in
-    for-moves preᶜ is-moveᶜ.ensures if1ᶜ.true
+  either : {R : Type 0} → P k → (R → P o) → o ≡ k ⊎ R → P o
+  either p f = ⊎_elim (last p) f
 
-pub returns-then-is_move : goal.returns-then-is_move
-returns-then-is_move c =
-    let carry-moveᶜ = c.carry_move in
-    carry-moveᶜ.ensures
+abbrev Value : Operator → Type 0
+Value o = T (among (number_of (op_by o)) value_operators)
 
-pub is_value-requires : goal.is_value-requires
-is_value-requires c =
-    let preᶜ = c.requires in
-    an-operator preᶜ.fetched
+abbrev Equal : Operator → Type 0
+Equal o = T (among (number_of (op_by o)) equality_operators)
 
-pub carry_value-requires : goal.carry_value-requires
-carry_value-requires c =
-    let preᶜ = c.requires in
-    let is-valueᶜ = c.is_value in
-    let if2ᶜ = c.if-is_value in
-    for-values preᶜ is-valueᶜ.ensures if2ᶜ.true
+abbrev File : Operator → Type 0
+File o = T (among (number_of (op_by o)) file_operators)
 
-pub returns-then-is_value : goal.returns-then-is_value
-returns-then-is_value c =
-    let argsᶜ = c.args in
-    let carry-valueᶜ = c.carry_value in
-    carry-valueᶜ.ensures argsᶜ.i1.now argsᶜ.i2.now
+-- one of ten
+ten : (P : Operator → Type 0) {a b d e f g h i j k : Operator} → P a → P b → P d → P e → P f → P g → P h → P i → P j → P k → {o : Operator}
+    → o ≡ a ⊎ (o ≡ b ⊎ (o ≡ d ⊎ (o ≡ e ⊎ (o ≡ f ⊎ (o ≡ g ⊎ (o ≡ h ⊎ (o ≡ i ⊎ (o ≡ j ⊎ o ≡ k)))))))) → P o
+ten P a b d e f g h i j k =
+    either P a (either P b (either P d (either P e (either P f (either P g (either P h (either P i (either P j (last P k)))))))))
 
-pub is_equality-requires : goal.is_equality-requires
-is_equality-requires c =
-    let preᶜ = c.requires in
-    an-operator preᶜ.fetched
+pub perform_value-requires : goal.perform_value-requires
+perform_value-requires c =
+    record { carrying = carrying c.requires.performing; one_of = ten Value tt tt tt tt tt tt tt tt tt tt c.in-WK.is }
 
-pub carry_equality-requires : goal.carry_equality-requires
-carry_equality-requires c =
-    let preᶜ = c.requires in
-    let is-equalityᶜ = c.is_equality in
-    let if3ᶜ = c.if-is_equality in
-    for-equality preᶜ is-equalityᶜ.ensures if3ᶜ.true
+pub perform_equality-requires : goal.perform_equality-requires
+perform_equality-requires c = record { performing = c.requires.performing; one_of = either Equal tt (last Equal tt) c.in-RW.is }
 
-pub returns-then-is_equality : goal.returns-then-is_equality
-returns-then-is_equality c =
-    let carry-equalityᶜ = c.carry_equality in
-    carry-equalityᶜ.ensures
+pub perform_file-requires : goal.perform_file-requires
+perform_file-requires c =
+    record { carrying = carrying c.requires.performing; one_of = ten File tt tt tt tt tt tt tt tt tt tt c.in-KOPIUJ.is }
 
-pub carry_file-requires : goal.carry_file-requires
-carry_file-requires c =
-    let preᶜ = c.requires in
-    let is-moveᶜ = c.is_move in
-    let if1ᶜ = c.if-is_move in
-    let is-valueᶜ = c.is_value in
-    let if2ᶜ = c.if-is_value in
-    let is-equalityᶜ = c.is_equality in
-    let if3ᶜ = c.if-is_equality in
-    for-files preᶜ (sym is-moveᶜ.ensures ∙ if1ᶜ.false) (sym is-valueᶜ.ensures ∙ if2ᶜ.false) (sym is-equalityᶜ.ensures ∙ if3ᶜ.false)
+pub returns-in-WK : goal.returns-in-WK
+returns-in-WK c = c.perform_value.ensures c.args.task.first.now c.args.task.second.now
 
-pub returns : goal.returns
-returns c =
-    let argsᶜ = c.args in
-    let carry-fileᶜ = c.carry_file in
-    carry-fileᶜ.ensures argsᶜ.i1.now argsᶜ.i2.now
+pub returns-in-KOPIUJ : goal.returns-in-KOPIUJ
+returns-in-KOPIUJ c = c.perform_file.ensures c.args.task.first.now c.args.task.second.now

@@ -1,40 +1,23 @@
 -- `switches::ask_front` meets its contract.
 use mathlib.Core.Path.{sym, ◌∙◌}
+use lib.ListN.{length}
+use borrow.Author.Tests.{true-eqb, false-eqb}
+use Rattle.switches.specs.Switches.{kind_by}
 use Rattle.switches.proofs.Fronts.{leading, none-there, other-there, right_there}
 use Rattle.switches.proofs.ask_front.Goals as goal
 
-pub expr_bytes-x-requires : goal.expr_bytes-x-requires
-expr_bytes-x-requires c =
-    let preᶜ = c.requires in
-    preᶜ
-
-pub returns-then-x-eq0 : goal.returns-then-x-eq0
-returns-then-x-eq0 c =
-    let expr-bytesᶜ = c.expr_bytes-x in
-    let argsᶜ = c.args in
-    let if1ᶜ = c.if-x-eq0 in
-    none-there expr-bytesᶜ.ensures argsᶜ.kind if1ᶜ.true
+pub returns-then-is_empty : goal.returns-then-is_empty
+returns-then-is_empty c = none-there c.expr_bytes-x.ensures (kind_by c.args.kind) (true-eqb (length c.expr_bytes-x.result.now) 0 c.if-is_empty.ensures)
 
 pub kind_of-requires : goal.kind_of-requires
-kind_of-requires c =
-    let expr-bytesᶜ = c.expr_bytes-x in
-    let if1ᶜ = c.if-x-eq0 in
-    leading expr-bytesᶜ.ensures if1ᶜ.false
+kind_of-requires c = leading c.expr_bytes-x.ensures (false-eqb (length c.expr_bytes-x.result.now) 0 c.if-is_empty.ensures)
 
-pub returns-then-kind_of-kind : goal.returns-then-kind_of-kind
-returns-then-kind_of-kind c =
-    let expr-bytesᶜ = c.expr_bytes-x in
-    let argsᶜ = c.args in
-    let if1ᶜ = c.if-x-eq0 in
-    let if2ᶜ = c.if-kind_of-kind in
-    let kind-ofᶜ = c.kind_of in
-    other-there expr-bytesᶜ.ensures argsᶜ.kind if1ᶜ.false (λ q. if2ᶜ.true (kind-ofᶜ.ensures.is ∙ q))
+pub returns-then-kind_of-from : goal.returns-then-kind_of-from
+returns-then-kind_of-from c =
+    let z = false-eqb (length c.expr_bytes-x.result.now) 0 c.if-is_empty.ensures in
+    other-there c.expr_bytes-x.ensures (kind_by c.args.kind) z (λ q. c.if-kind_of-from.true (c.kind_of.ensures.is ∙ q ∙ sym c.from.ensures))
 
 pub returns : goal.returns
 returns c =
-    let expr-bytesᶜ = c.expr_bytes-x in
-    let argsᶜ = c.args in
-    let if1ᶜ = c.if-x-eq0 in
-    let kind-ofᶜ = c.kind_of in
-    let if2ᶜ = c.if-kind_of-kind in
-    right_there expr-bytesᶜ.ensures argsᶜ.kind if1ᶜ.false (sym kind-ofᶜ.ensures.is ∙ if2ᶜ.false)
+    let z = false-eqb (length c.expr_bytes-x.result.now) 0 c.if-is_empty.ensures in
+    right_there c.expr_bytes-x.ensures (kind_by c.args.kind) z (sym c.kind_of.ensures.is ∙ c.if-kind_of-from.false ∙ c.from.ensures)

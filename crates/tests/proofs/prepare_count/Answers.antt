@@ -3,11 +3,6 @@ use mathlib.Core.Path.{sym, ◌∙◌}
 use Rattle.tests.proofs.Values.{count_none, count-kind, count-told, none-there, one-there, leading}
 use Rattle.tests.proofs.prepare_count.Goals as goal
 
-pub expr_bytes-x-requires : goal.expr_bytes-x-requires
-expr_bytes-x-requires c =
-    let preᶜ = c.requires in
-    preᶜ
-
 pub returns-then-x-eq0 : goal.returns-then-x-eq0
 returns-then-x-eq0 c =
     let argsᶜ = c.args in

@@ -1,43 +1,12 @@
 -- `tests::prepare_first` meets its contract.
-use native.Mathlib.Omega.{arith}
-use lib.ListN.{length-take}
-use Rattle.tests.proofs.Values.{first-none, none-there, front_fits, first-told}
+use Rattle.std.proofs.lemmas.Result.{err_from_is_err_and}
+use Rattle.tests.proofs.Values.{first-refused, first-read}
 use Rattle.tests.proofs.prepare_first.Goals as goal
 
-pub expr_bytes-x-requires : goal.expr_bytes-x-requires
-expr_bytes-x-requires c =
-    let preᶜ = c.requires in
-    preᶜ.named
-
-pub returns-then-x-eq0 : goal.returns-then-x-eq0
-returns-then-x-eq0 c =
-    let argsᶜ = c.args in
-    first-none _ _ argsᶜ.i (none-there c.expr_bytes-x.ensures c.if-x-eq0.true)
-
-pub bounds-x-0 : goal.bounds-x-0
-bounds-x-0 c = omega (arith, c.if-x-eq0.false)
-
-pub slice_bounds-put-end : goal.slice_bounds-put-end
-slice_bounds-put-end c =
-    let expr-bytesᶜ = c.expr_bytes-x in
-    let if1ᶜ = c.if-x-eq0 in
-    let size-byᶜ = c.size_by-n in
-    simp length-take (omega (arith, front_fits expr-bytesᶜ.ensures.whole if1ᶜ.false size-byᶜ.ensures))
-
-pub put-requires : goal.put-requires
-put-requires c =
-    let expr-bytesᶜ = c.expr_bytes-x in
-    let if1ᶜ = c.if-x-eq0 in
-    let size-byᶜ = c.size_by-n in
-    let preᶜ = c.requires in
-    simp length-take (omega (arith, front_fits expr-bytesᶜ.ensures.whole if1ᶜ.false size-byᶜ.ensures, expr-bytesᶜ.ensures.most, preᶜ.room))
+pub returns-in_err-len : goal.returns-in_err-len
+returns-in_err-len c =
+    let e = err_from_is_err_and c.from_residual.result c.from_residual.ensures.1 in
+    rw (e.1, e.2) (first-refused c.args.state.now.store _ c.args.i c.put_first.ensures c.in_err-len.was)
 
 pub returns : goal.returns
-returns c =
-    let expr-bytesᶜ = c.expr_bytes-x in
-    let if1ᶜ = c.if-x-eq0 in
-    let size-byᶜ = c.size_by-n in
-    let argsᶜ = c.args in
-    let putᶜ = c.put in
-    let preᶜ = c.requires in
-    first-told expr-bytesᶜ.ensures if1ᶜ.false size-byᶜ.ensures argsᶜ.given.now putᶜ.ensures preᶜ.room
+returns c = first-read c.args.state.now.store _ c.args.i c.put_first.ensures c.in_ok-len.was

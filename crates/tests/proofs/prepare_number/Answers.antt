@@ -2,8 +2,8 @@
 use Rattle.tests.proofs.Values.{number_low, number-high}
 use Rattle.tests.proofs.prepare_number.Goals as goal
 
-pub returns-then-code-lt8388607 : goal.returns-then-code-lt8388607
-returns-then-code-lt8388607 c = λ s g. number_low s g c.args.code c.if-code-lt8388607.true
+pub returns-then-code-lt-ZERO : goal.returns-then-code-lt-ZERO
+returns-then-code-lt-ZERO c = λ s g. number_low s g c.args.code c.if-code-lt-ZERO.true
 
 pub returns : goal.returns
-returns c = λ s g. number-high s g c.args.code c.if-code-lt8388607.false
+returns c = λ s g. number-high s g c.args.code c.if-code-lt-ZERO.false

@@ -1,0 +1,9 @@
+-- `tests::put_text` meets its contract.
+use native.Mathlib.Omega.{arith}
+use Rattle.tests.proofs.Values.{text-put}
+use Rattle.tests.proofs.put_text.Goals as goal
+
+pub returns : goal.returns
+returns c =
+    let preᶜ = c.requires in
+    text-put c.put_text-n.ensures preᶜ.good.some c.args.given.now c.put_word.ensures (omega arith)
