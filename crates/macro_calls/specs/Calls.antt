@@ -12,8 +12,8 @@ use Rattle.macro_code.specs.Known.{Only, Singles}
 use Rattle.macro_code.specs.Places.{kind_cell, name_cell, typed_kind}
 use Rattle.statements.specs.Faults.{lower}
 use Rattle.statements.specs.StatementAt.{fault_of}
-use Rattle.statements.specs.declared.Fault.{Fault}
-use Rattle.statements.specs.declared.Fault.TheVariants.{Clear}
+use Rattle.statements.specs.Faults.{Fault}
+use Rattle.std.specs.Prelude.{None}
 use Rattle.macro_calls.specs.declared.Faults.{Faults}
 
 -- the macros of a name, from a number on
@@ -62,7 +62,7 @@ pub record FirstsKept (n : ℕ) (xs ys : List ℕ) : Type 0 where
   pub same : (k : ℕ) → k < n → get_or ys k 0 ≡ get_or xs k 0
 
 abbrev pub none_of : Faults
-none_of = record { unknown = Clear; uneven = Clear }
+none_of = record { unknown = None; uneven = None }
 
 abbrev pub both_of : Faults → Faults → Faults
 both_of a b = record { unknown = lower a.unknown b.unknown; uneven = lower a.uneven b.uneven }

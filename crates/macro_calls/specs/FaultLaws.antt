@@ -25,8 +25,8 @@ use Rattle.macro_code.specs.Places.{parameter_cells, kind_cell, name_cell, typed
 use Rattle.statements.specs.FaultLaws.{fault-both}
 use Rattle.statements.specs.Faults.{lower}
 use Rattle.statements.specs.StatementAt.{fault_of}
-use Rattle.statements.specs.declared.Fault.{Fault}
-use Rattle.statements.specs.declared.Fault.TheVariants.{Clear, At}
+use Rattle.statements.specs.Faults.{Fault}
+use Rattle.std.specs.Prelude.{None, Some}
 use Rattle.syntax.specs.Verdict.{lowest}
 use Rattle.macro_code.specs.Bounds.{widest}
 use Rattle.macro_calls.specs.Calls.{is_typed_call, change_faults, Told, none_of, both_of}
@@ -143,7 +143,7 @@ told-both {fs} {gs} {a} {b} h k =
 
 -- a call's faults: its macro is not in the list once; or it is the macro m
 module _ (d : Call) where
-  pub told-unknown : (ms : List Macro) → eqb (length ms) 1 ≡ false → Told (faults_of d ms) (record { unknown = At d.name_at; uneven = Clear })
+  pub told-unknown : (ms : List Macro) → eqb (length ms) 1 ≡ false → Told (faults_of d ms) (record { unknown = Some d.name_at; uneven = None })
   unfolding faults_of lowest
   told-unknown ms e = rw e (record { unknown_is = refl; uneven_is = refl })
 
@@ -159,7 +159,7 @@ module _ (d : Call) where
       go true ps = refl
       go false ps = none ps
 
-  pub told-known : (m : Macro) {f : Fault} → f ≡ fault_of (places_of 65 (argument_faults d m)) → Told (faults_of d (m ∷ [])) (record { unknown = Clear; uneven = f })
+  pub told-known : (m : Macro) {f : Fault} → f ≡ fault_of (places_of 65 (argument_faults d m)) → Told (faults_of d (m ∷ [])) (record { unknown = None; uneven = f })
   unfolding faults_of
   told-known m e = rw (append-nil (argument_faults d m)) (record { unknown_is = sym (ap fault_of (only-uneven m)); uneven_is = e })
 
@@ -178,17 +178,17 @@ module _ (s c : List ℕ) (i m : ℕ) where
   unfolding argument_faults call_in macro_in
   counted = rw (length-tab given (λ j. given_in s c (argument_cell i j)), length-tab taken (λ j. bytes_at s c (m + parameter_cells + j))) refl
 
-  pub too_few : given < taken → At (high c (i + name_cell)) ≡ fault_of (places_of 65 (argument_faults (call_in s c i) (macro_in s c m)))
+  pub too_few : given < taken → Some (high c (i + name_cell)) ≡ fault_of (places_of 65 (argument_faults (call_in s c i) (macro_in s c m)))
   unfolding lowest
   too_few h = rw (counted, lt-ltb given taken h) refl
 
-  pub too_many : taken < given → At (high c (argument_cell i taken)) ≡ fault_of (places_of 65 (argument_faults (call_in s c i) (macro_in s c m)))
+  pub too_many : taken < given → Some (high c (argument_cell i taken)) ≡ fault_of (places_of 65 (argument_faults (call_in s c i) (macro_in s c m)))
   unfolding lowest
   too_many h =
       let l : ltb given taken ≡ false = le-ltb given taken (omega arith) in
       rw (counted, l, drop-next given (λ j. high c (argument_cell i j)) taken h) refl
 
-  pub as_many : given ≡ taken → Clear ≡ fault_of (places_of 65 (argument_faults (call_in s c i) (macro_in s c m)))
+  pub as_many : given ≡ taken → None ≡ fault_of (places_of 65 (argument_faults (call_in s c i) (macro_in s c m)))
   as_many h =
       let l : ltb given taken ≡ false = le-ltb given taken (omega arith) in
       rw (counted, l, drop-end given (λ j. high c (argument_cell i j)) taken (omega arith)) refl

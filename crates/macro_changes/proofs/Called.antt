@@ -9,8 +9,8 @@ use lib.ListN.{length, get_or, set, drop, length-set}
 use lib.Seq.{get_or-set_same, get_or-set_other}
 use Rattle.layout.specs.Cells.{tab}
 use Rattle.lists.specs.Lists.{filled, head_or}
-use Rattle.statements.specs.declared.Fault.{Fault}
-use Rattle.statements.specs.declared.Fault.TheVariants.{Clear, At}
+use Rattle.statements.specs.Faults.{Fault}
+use Rattle.std.specs.Prelude.{None, Some}
 use Rattle.statements.specs.FaultLaws.{no-fault}
 use Rattle.statements.specs.StatementAt.{fault_of}
 use Rattle.macros.specs.Elements as spec
@@ -110,7 +110,7 @@ module _ (s d : List ℕ) (u start stop count : ℕ) (room : u + 2 ≤ length d)
   abbrev the_change : Change
   the_change = record { start = start; stop = stop; pieces = cond (filled (call_faults ps star ts)) [] (called (call_of ps star ts) ∷ []) }
 
-  clear-change : 0 < count → call_faults ps star ts ≡ [] → (change_in s (whole Clear) u ≡ the_change) × (u + size_at (whole Clear) u ≡ used_by u count Clear)
+  clear-change : 0 < count → call_faults ps star ts ≡ [] → (change_in s (whole None) u ≡ the_change) × (u + size_at (whole None) u ≡ used_by u count None)
   clear-change h e = go (count - 1) (omega arith)
     where
       go : (k : ℕ) → count ≡ suc k → (change_in s (cells s d u start stop (paired 1 (count - 1)) room) u ≡ the_change) × (u + size_at (cells s d u start stop (paired 1 (count - 1)) room) u ≡ u + 2 + 2 * count)
@@ -121,13 +121,13 @@ module _ (s d : List ℕ) (u start stop count : ℕ) (room : u + 2 ≤ length d)
             rw o (omega (arith, call-size s d u start stop room low k (omega arith))),
           )
 
-  at-change : (q : ℕ) → fault_of (call_faults ps star ts) ≡ At q → (change_in s (whole (At q)) u ≡ the_change) × (u + size_at (whole (At q)) u ≡ used_by u count (At q))
+  at-change : (q : ℕ) → fault_of (call_faults ps star ts) ≡ Some q → (change_in s (whole (Some q)) u ≡ the_change) × (u + size_at (whole (Some q)) u ≡ used_by u count (Some q))
   at-change q e = (nothing_is s d u start stop room low ∙ ap (λ (b : Bool). record { start = start; stop = stop; pieces = cond b [] (called (call_of ps star ts) ∷ []) }) (sym (some (call_faults ps star ts) e)), rw (nothing-size s d u start stop room low) refl)
     where
-      some : (ns : List ℕ) → fault_of ns ≡ At q → filled ns ≡ true
+      some : (ns : List ℕ) → fault_of ns ≡ Some q → filled ns ≡ true
       some [] y = absurd (let z : ◌≡◌ {A = ℕ} 0 1 = cc in omega arith)
       some (m ∷ ns) y = refl
 
-  pub call-change : (f : Fault) → f ≡ fault_of (call_faults ps star ts) → (f ≡ Clear → 0 < count) → (change_in s (whole f) u ≡ the_change) × (u + size_at (whole f) u ≡ used_by u count f)
-  call-change Clear e h = clear-change (h refl) (no-fault (call_faults ps star ts) (sym e))
-  call-change (At q) e h = at-change q (sym e)
+  pub call-change : (f : Fault) → f ≡ fault_of (call_faults ps star ts) → (f ≡ None → 0 < count) → (change_in s (whole f) u ≡ the_change) × (u + size_at (whole f) u ≡ used_by u count f)
+  call-change None e h = clear-change (h refl) (no-fault (call_faults ps star ts) (sym e))
+  call-change (Some q) e h = at-change q (sym e)

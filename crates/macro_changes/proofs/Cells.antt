@@ -12,7 +12,7 @@ use Rattle.macros.specs.Pieces.{Call, Piece, Change}
 use Rattle.macros.specs.Pieces.Piece.{value, called}
 use Rattle.macro_code.specs.Code.{high, low, paired, bytes_at, given_in, is_value, is_call, argument_count, argument_cell, call_in, change_in, size_at, changes_in, behind_changes}
 use Rattle.macro_changes.specs.Changing.{Kept, parameters_of, given_as}
-use Rattle.macro_changes.specs.declared.Scope.{Scope}
+use Rattle.macro_changes.specs.Changing.{Scope, first_in, count_in}
 
 -- the two numbers of a cell
 pub first_of : (a b : ℕ) → b < 65536 → paired a b / 65536 ≡ a
@@ -75,9 +75,9 @@ module _ {c d : List ℕ} {lo hi : ℕ} (k : Agree c d lo hi) where
   unfolding given_in bytes_at
   given-agree s i l h = let a = k.same i l (omega arith) in let b = k.same (i + 1) (omega arith) h in rw (a, b) refl
 
-  pub parameters-agree : (s : List ℕ) (x : Scope) → lo ≤ x.params → x.params + x.count ≤ hi → parameters_of s d x ≡ parameters_of s c x
+  pub parameters-agree : (s : List ℕ) (x : Scope) → lo ≤ (first_in x) → (first_in x) + (count_in x) ≤ hi → parameters_of s d x ≡ parameters_of s c x
   parameters-agree s x l h =
-      tab-cong x.count (λ j. bytes_at s d (x.params + j)) (λ j. bytes_at s c (x.params + j)) (λ j m. bytes-agree s (x.params + j) (omega arith) (omega arith))
+      tab-cong (count_in x) (λ j. bytes_at s d ((first_in x) + j)) (λ j. bytes_at s c ((first_in x) + j)) (λ j m. bytes-agree s ((first_in x) + j) (omega arith) (omega arith))
 
   kind-agree : (i : ℕ) → lo ≤ i → i + 1 < hi → get_or d (i + 1) 0 ≡ get_or c (i + 1) 0
   kind-agree i l h = k.same (i + 1) (omega arith) h
@@ -121,7 +121,7 @@ module _ {c d : List ℕ} {u : ℕ} (k : Kept c d u) where
   pub given-same : (s : List ℕ) (i : ℕ) → i + 1 < u → given_in s d i ≡ given_in s c i
   given-same s i h = given-agree (kept-agree k) s i (omega arith) h
 
-  pub parameters-same : (s : List ℕ) (x : Scope) → x.params + x.count ≤ u → parameters_of s d x ≡ parameters_of s c x
+  pub parameters-same : (s : List ℕ) (x : Scope) → (first_in x) + (count_in x) ≤ u → parameters_of s d x ≡ parameters_of s c x
   parameters-same s x h = parameters-agree (kept-agree k) s x (omega arith) h
 
 behind-from : (c : List ℕ) (n i : ℕ) → i ≤ behind_changes c i n

@@ -1,34 +1,37 @@
 -- Elements one by one, and what a call gives.
-use mathlib.Core.Path.{◌≡◌, refl, ap, sym, ◌∙◌}
+use mathlib.Core.Path.{◌≡◌, refl, ap, sym, ◌∙◌, subst}
 use mathlib.Core.Bool.{Bool, true, false, cond, not, ◌&&◌, ◌||◌, true≢false}
 use mathlib.Core.List.{List, [], ◌∷◌, ◌++◌, map, append_assoc}
 use Prim.Native.Nat.{ℕ, min, ◌+◌, ◌*◌, ◌-◌, ◌/◌, ◌≤◌, ◌<◌}
 use native.Mathlib.Omega.{arith}
 use Rattle.std.specs.Prelude.{Option, Some, None, IfSome, is_some, unwrap_or}
+use Rattle.std.specs.Bool.{then_some}
+use Rattle.std.proofs.lemmas.Option.{none-some, same_Some}
 use lib.Dec.{eqb, ltb}
 use lib.ListN.{length, set}
-use borrow.Author.Tests.{eq-eqb, ne_eqb, eqb-true, lt-ltb, le-ltb}
+use borrow.Author.Tests.{eq-eqb, ne_eqb, lt-ltb, le-ltb}
 use Rattle.layout.specs.Cells.{tab}
 use Rattle.layout.proofs.CellLaws.{length-tab}
 use Rattle.lexer.specs.Tokens.{part, sort_at}
 use Rattle.lists.specs.Lists.{keep, bytes_equal}
-use Rattle.statements.specs.declared.Fault.{Fault}
-use Rattle.statements.specs.declared.Fault.TheVariants.{Clear, At}
+use Rattle.statements.specs.Faults.{Fault}
+use Rattle.std.specs.Prelude.{None, Some}
 use Rattle.statements.specs.Faults.{lower}
 use Rattle.statements.specs.FaultLaws.{fault-both}
 use Rattle.statements.specs.StatementAt.{fault_of}
+use Rattle.syntax.specs.Verdict.{lowest}
 use Rattle.syntax.specs.Items.{same_sort}
 use Rattle.syntax.specs.Items.Sort.{word, end}
 use Rattle.macros.specs.Elements as spec
 use Rattle.macros.specs.Elements.{is_end, is_identifier, places_in, until, from}
 use Rattle.macros.specs.Pieces.{Given, given_of, is_argument, is_parameter}
 use Rattle.macro_code.specs.Code.{high, paired, bytes_at, given_in}
-use Rattle.macro_elements.specs.ElementAt.{elements_from, argument_value, Held, NextElement}
+use Rattle.macro_elements.specs.ElementAt.{elements_from, argument_value, Held, FirstElement}
 use Rattle.macro_elements.specs.declared.Element.{Element}
 use Rattle.macro_elements.proofs.Tests.{sort-is}
-use Rattle.macro_changes.specs.Changing.{Kept, parameters_of, shuts, inside, behind, given_as, Found, Judged, Reading, given_from, ends_from, argument_faults, Gives}
+use Rattle.macro_changes.specs.Changing.{Kept, parameters_of, shuts, inside, behind, given_as, Found, Judged, Reading, InsideAt, NextInside, GivenAt, NextGiven, given_from, ends_from, argument_faults, Gives}
 use Rattle.macro_changes.specs.declared.Answer.{Answer}
-use Rattle.macro_changes.specs.declared.Scope.{Scope}
+use Rattle.macro_changes.specs.Changing.{Scope, first_in, count_in}
 use Rattle.macro_changes.proofs.Cells.{tab-cong, tab-last, kept-none, kept_on, parameters-same, given-same, given-written, place-written, given-kept}
 use Rattle.macro_changes.proofs.Searching.{any-ahead, until-on, until-off, from_on}
 
@@ -36,17 +39,11 @@ pub neither : (a b : Bool) → (a || b) ≡ false → (a ≡ false) × (b ≡ fa
 neither true b e = absurd (true≢false e)
 neither false b e = (refl, e)
 
-pub closed_by : (z r q : Bool) {o : Bool} → (z || r) ≡ o → r ≡ q → (z || q) ≡ o
-closed_by z r q e f = ap (λ (y : Bool). z || y) (sym f) ∙ e
-
-pub eqb_no : (a b : ℕ) → eqb a b ≡ false → a ≡ b → ⊥
-eqb_no a b e h = true≢false (sym (eq-eqb a b h) ∙ e)
-
 pub lower-assoc : (a b c : Fault) → lower (lower a b) c ≡ lower a (lower b c)
-lower-assoc Clear b c = refl
-lower-assoc (At p) Clear c = refl
-lower-assoc (At p) (At q) Clear = refl
-lower-assoc (At p) (At q) (At r) = let e : min (min p q) r ≡ min p (min q r) = omega arith in ap At e
+lower-assoc None b c = refl
+lower-assoc (Some p) None c = refl
+lower-assoc (Some p) (Some q) None = refl
+lower-assoc (Some p) (Some q) (Some r) = let e : min (min p q) r ≡ min p (min q r) = omega arith in ap Some e
 
 -- one test of an element before those of others
 pub keep-first : (q : spec.Element → Bool) (t : spec.Element) (ts : List spec.Element) → places_in (keep q (t ∷ ts)) ≡ cond (q t) (t.at ∷ []) [] ++ places_in (keep q ts)
@@ -56,73 +53,66 @@ keep-first q t ts = go (q t)
     go true = refl
     go false = refl
 
-module _ {s : List ℕ} {n : ℕ} {t : Element} (k : NextElement s n t) where
-  abbrev v : spec.Element
-  v = argument_value s t
+-- whether something is at fault here
+pub one-fault : (b : Bool) (p : ℕ) → then_some b p ≡ fault_of (cond b (p ∷ []) [])
+unfolding lowest
+one-fault true p = refl
+one-fault false p = refl
 
-  pub some-elements : (t.sort ≡ 0 → ⊥) → elements_from s n ≡ v ∷ elements_from s t.next
-  some-elements z = k.is ∙ rw (ne_eqb t.sort 0 z) refl
+-- one element, and what it shows of the others
+module _ {s : List ℕ} {n : ℕ} {t : Element} (k : FirstElement s n t) where
+  pub first_forward : n < t.next
+  first_forward = let z = k.more in omega (arith, k.from)
 
-  pub no-elements : t.sort ≡ 0 → elements_from s n ≡ []
-  no-elements z = k.is ∙ rw (eq-eqb t.sort 0 z) refl
+  pub inside_shut : (closing : Bool) → shuts closing (argument_value s t) ≡ true → inside s closing n ≡ []
+  inside_shut closing h = ap (until (shuts closing)) k.is ∙ until-off (shuts closing) (argument_value s t) (elements_from s t.next) h
 
-  module _ (closing : Bool) where
-    abbrev closed : Bool
-    closed = eqb t.sort 0 || shuts closing v
+pub inside_at : {s : List ℕ} {closing : Bool} {n : ℕ} {t : Element} → FirstElement s n t → shuts closing (argument_value s t) ≡ false → NextInside s closing n (Some t)
+inside_at {s} {closing} {n} {t} k h =
+    record { none = λ e. absurd (none-some t (sym e)); some = λ x e. subst (λ (u : Element). InsideAt s closing n u) (same_Some t x e) (record { first = k; inner = h }) }
 
-    pub inside-none : closed ≡ true → inside s closing n ≡ []
-    inside-none = go (eqb t.sort 0) refl
-      where
-        go : (z : Bool) → eqb t.sort 0 ≡ z → (z || shuts closing v) ≡ true → inside s closing n ≡ []
-        go true e h = ap (until (shuts closing)) (no-elements (eqb-true t.sort 0 e))
-        go false e h = ap (until (shuts closing)) (some-elements (eqb_no t.sort 0 e)) ∙ until-off (shuts closing) v (elements_from s t.next) h
+pub inside_end : {s : List ℕ} {closing : Bool} {n : ℕ} → inside s closing n ≡ [] → NextInside s closing n None
+inside_end h = record { none = λ e. h; some = λ x e. absurd (none-some x e) }
 
-    pub inside_on : closed ≡ false → inside s closing n ≡ v ∷ inside s closing t.next
-    inside_on h =
-        let p = neither (eqb t.sort 0) (shuts closing v) h in
-        ap (until (shuts closing)) (some-elements (eqb_no t.sort 0 p.0)) ∙ until-on (shuts closing) v (elements_from s t.next) p.1
+module _ {s : List ℕ} {closing : Bool} {n : ℕ} {t : Element} (k : InsideAt s closing n t) where
+  pub inside_on : inside s closing n ≡ argument_value s t ∷ inside s closing t.next
+  inside_on = ap (until (shuts closing)) k.first.is ∙ until-on (shuts closing) (argument_value s t) (elements_from s t.next) k.inner
 
-    pub behind-on : closed ≡ false → behind s closing n ≡ behind s closing t.next
-    behind-on h =
-        let p = neither (eqb t.sort 0) (shuts closing v) h in
-        ap (from (shuts closing)) (some-elements (eqb_no t.sort 0 p.0)) ∙ from_on (shuts closing) v (elements_from s t.next) p.1
+  pub behind-on : behind s closing n ≡ behind s closing t.next
+  behind-on = ap (from (shuts closing)) k.first.is ∙ from_on (shuts closing) (argument_value s t) (elements_from s t.next) k.inner
 
-    end_is : is_end v ≡ eqb t.sort 3
-    end_is = sort-is end t.sort k.held.sorted ∙ go (eqb t.sort 3) refl
-      where
-        go : (b : Bool) → eqb t.sort 3 ≡ b → eqb 3 t.sort ≡ b
-        go true e = eq-eqb 3 t.sort (sym (eqb-true t.sort 3 e))
-        go false e = ne_eqb 3 t.sort (λ y. eqb_no t.sort 3 e (sym y))
+  end_is : is_end (argument_value s t) ≡ eqb 3 t.sort
+  end_is = sort-is end t.sort k.first.held.sorted
 
-    pub given-none : (eqb t.sort 3 || closed) ≡ true → given_from s closing n ≡ []
-    given-none h = go closed refl h
-      where
-        go : (z : Bool) → closed ≡ z → (eqb t.sort 3 || z) ≡ true → given_from s closing n ≡ []
-        go true e y = ap (until is_end) (inside-none e)
-        go false e y = ap (until is_end) (inside_on e) ∙ until-off is_end v (inside s closing t.next) (end_is ∙ alone (eqb t.sort 3) y)
-          where
-            alone : (b : Bool) → (b || false) ≡ true → b ≡ true
-            alone true x = refl
-            alone false x = x
+  pub given-end : t.sort ≡ 3 → NextGiven s closing n None
+  given-end h =
+      record {
+        none = λ e. ap (until is_end) inside_on ∙ until-off is_end (argument_value s t) (inside s closing t.next) (end_is ∙ eq-eqb 3 t.sort (sym h));
+        some = λ x e. absurd (none-some x e);
+      }
 
-    module _ (h : (eqb t.sort 3 || closed) ≡ false) where
-      abbrev apart : (eqb t.sort 3 ≡ false) × (closed ≡ false)
-      apart = neither (eqb t.sort 3) closed h
+  pub given_here : (t.sort ≡ 3 → ⊥) → GivenAt s closing n t
+  given_here h = record { inner = k; plain = end_is ∙ ne_eqb 3 t.sort (λ y. h (sym y)) }
 
-      pub given-on : given_from s closing n ≡ v ∷ given_from s closing t.next
-      given-on = ap (until is_end) (inside_on apart.1) ∙ until-on is_end v (inside s closing t.next) (end_is ∙ apart.0)
+  pub given_at : (t.sort ≡ 3 → ⊥) → NextGiven s closing n (Some t)
+  given_at h =
+      record { none = λ e. absurd (none-some t (sym e)); some = λ x e. subst (λ (u : Element). GivenAt s closing n u) (same_Some t x e) (given_here h) }
 
-      pub ends_on : ends_from s closing n ≡ ends_from s closing t.next
-      ends_on = ap (from is_end) (inside_on apart.1) ∙ from_on is_end v (inside s closing t.next) (end_is ∙ apart.0)
+module _ {s : List ℕ} {closing : Bool} {n : ℕ} {t : Element} (k : GivenAt s closing n t) where
+  pub given-on : given_from s closing n ≡ argument_value s t ∷ given_from s closing t.next
+  given-on = ap (until is_end) (inside_on k.inner) ∙ until-on is_end (argument_value s t) (inside s closing t.next) k.plain
+
+  pub ends_on : ends_from s closing n ≡ ends_from s closing t.next
+  ends_on = ap (from is_end) (inside_on k.inner) ∙ from_on is_end (argument_value s t) (inside s closing t.next) k.plain
 
 -- What an element is as a name or an argument
 module _ (s c : List ℕ) (x : Scope) {t : Element} (held : Held s t) where
   abbrev ps : List (List ℕ)
   ps = parameters_of s c x
 
-  is_found : {at e r : ℕ} → Found s c x at e r → is_parameter ps (part s at e) ≡ ltb r x.count
+  is_found : {at e r : ℕ} → Found s c x at e r → is_parameter ps (part s at e) ≡ ltb r (count_in x)
   is_found {at} {e} {r} f =
-      any-ahead (bytes_equal (part s at e)) ps ∙ rw (length-tab x.count (λ j. bytes_at s c (x.params + j)), ← f.is) refl
+      any-ahead (bytes_equal (part s at e)) ps ∙ rw (length-tab (count_in x) (λ j. bytes_at s c ((first_in x) + j)), ← f.is) refl
 
   and_one : (a : Bool) → (a && true) ≡ a
   and_one true = refl
@@ -132,15 +122,15 @@ module _ (s c : List ℕ) (x : Scope) {t : Element} (held : Held s t) where
   listed-some (Some k) n h = sym (lt-ltb k n h)
   listed-some None n h = sym (le-ltb n n (omega arith))
 
-  pub joined-answer : {i : Bool} {b : ℕ} → t.joined ≡ Some b → x.count < 65536 → (r : Option ℕ) → Found s c x (t.end + 1) b (unwrap_or r x.count) → IfSome r (λ k. k < x.count)
-      → i ≡ is_identifier (argument_value s t) → Judged s c x t (record { kind = 2; number = unwrap_or r x.count; joins = i && is_some r })
+  pub joined-answer : {i : Bool} {b : ℕ} → t.joined ≡ Some b → (count_in x) < 65536 → (r : Option ℕ) → Found s c x (t.end + 1) b (unwrap_or r (count_in x)) → IfSome r (λ k. k < (count_in x))
+      → i ≡ is_identifier (argument_value s t) → Judged s c x t (record { kind = 2; number = unwrap_or r (count_in x); joins = i && is_some r })
   unfolding given_of given_as
   joined-answer {i} z few r f l e =
       record {
         kind_low = omega arith;
         number_low = omega (arith, f.most);
         given_is = rw (z, f.is) refl;
-        joins_is = rw (z, listed-some r x.count l) (rw (is_found f, ← e) (sym (and_one (i && ltb (unwrap_or r x.count) x.count))));
+        joins_is = rw (z, listed-some r (count_in x) l) (rw (is_found f, ← e) (sym (and_one (i && ltb (unwrap_or r (count_in x)) (count_in x)))));
       }
 
   pub other-answer : t.joined ≡ None → (t.sort ≡ 1 → ⊥) → Judged s c x t (record { kind = 0; number = 0; joins = true })
@@ -150,41 +140,36 @@ module _ (s c : List ℕ) (x : Scope) {t : Element} (held : Held s t) where
       record { kind_low = omega arith; number_low = omega arith; given_is = rw (z, n) refl; joins_is = rw z refl }
 
   module _ (z : t.joined ≡ None) (w : t.sort ≡ 1) {r : ℕ} (f : Found s c x t.at t.end r) where
-    pub parameter-answer : r < x.count → x.count < 65536 → Judged s c x t (record { kind = 1; number = r; joins = true })
+    pub parameter-answer : r < (count_in x) → (count_in x) < 65536 → Judged s c x t (record { kind = 1; number = r; joins = true })
     unfolding given_of given_as
     parameter-answer h few =
-        record { kind_low = omega arith; number_low = omega arith; given_is = rw (z, w, is_found f, lt-ltb r x.count h, f.is) refl; joins_is = rw z refl }
+        record { kind_low = omega arith; number_low = omega arith; given_is = rw (z, w, is_found f, lt-ltb r (count_in x) h, f.is) refl; joins_is = rw z refl }
 
-    pub typed-answer : x.count ≤ r → Judged s c x t (record { kind = 0; number = 0; joins = true })
+    pub typed-answer : (count_in x) ≤ r → Judged s c x t (record { kind = 0; number = 0; joins = true })
     unfolding given_of given_as
-    typed-answer h = record { kind_low = omega arith; number_low = omega arith; given_is = rw (z, w, is_found f, le-ltb r x.count h) refl; joins_is = rw z refl }
+    typed-answer h = record { kind_low = omega arith; number_low = omega arith; given_is = rw (z, w, is_found f, le-ltb r (count_in x) h) refl; joins_is = rw z refl }
 
 -- One element more of what a call gives
 module _ {s m c : List ℕ} {x : Scope} {n u : ℕ} (q : Reading s m c x n u) where
-  pub gives_none : Gives s c c x n u n 0 Clear
+  pub gives_none : Gives s c c x n u n 0 None
   unfolding tab
   gives_none = record { from = omega arith; most = q.lent.most; kept = kept-none c u; gives = refl; places = refl; faults = refl; ends = refl; rest = refl }
 
-  module _ {d : List ℕ} {i k : ℕ} {f : Fault} (g : Gives s c d x n u i k f) {t : Element} (e : NextElement s i t)
-      (h : (eqb t.sort 3 || (eqb t.sort 0 || shuts x.closing (argument_value s t))) ≡ false) {a : Answer} (j : Judged s d x t a) where
+  module _ {d : List ℕ} {i k : ℕ} {f : Fault} (g : Gives s c d x n u i k f) {t : Element} (e : GivenAt s (is_some x) i t) {a : Answer} (j : Judged s d x t a) where
     abbrev w : ℕ
     w = u + 2 * k
 
-    pub room-on : w + 1 < length d
-    room-on =
-        let y = e.some (eqb_no t.sort 0 (neither (eqb t.sort 0) (shuts x.closing (argument_value s t)) (neither (eqb t.sort 3) (eqb t.sort 0 || shuts x.closing (argument_value s t)) h).1).0) in
-        omega (arith, g.from, e.from, e.held.most, q.room, g.kept.size)
-
     pub forward : i < t.next
-    forward =
-        let y = e.some (eqb_no t.sort 0 (neither (eqb t.sort 0) (shuts x.closing (argument_value s t)) (neither (eqb t.sort 3) (eqb t.sort 0 || shuts x.closing (argument_value s t)) h).1).0) in
-        omega (arith, e.from)
+    forward = first_forward e.inner.first
+
+    pub room-on : w + 1 < length d
+    room-on = omega (arith, g.from, forward, e.inner.first.held.most, q.room, g.kept.size)
 
     abbrev long : ℕ
     long = t.end - t.at
 
     pub long-low : long < 65536
-    long-low = let y = e.held in omega (arith, y.ends, y.small)
+    long-low = let y = e.inner.first.held in omega (arith, y.ends, y.small)
 
     abbrev written : List ℕ
     written = set (set d w (paired t.at long)) (w + 1) (paired a.kind a.number)
@@ -217,15 +202,15 @@ module _ {s m c : List ℕ} {x : Scope} {n u : ℕ} (q : Reading s m c x n u) wh
         let p = place-written s d w t.at long a.kind a.number room-on long-low j.number_low in
         λ z. b z ++ (p z ∷ []))
 
-    pub gives-on : (b : Bool) → b ≡ not (is_argument (parameters_of s d x) (argument_value s t)) → Gives s c written x n u t.next (k + 1) (lower f (fault_of (cond b (t.at ∷ []) [])))
+    pub gives-on : (b : Bool) → b ≡ not (is_argument (parameters_of s d x) (argument_value s t)) → Gives s c written x n u t.next (k + 1) (lower f (then_some b t.at))
     gives-on b r =
-        let closing = x.closing in
+        let closing = (is_some x) in
         let ps = parameters_of s c x in
-        let on = given-on e closing h in
+        let on = given-on e in
         let rest = given_from s closing t.next in
         record {
           from = omega (arith, g.from, forward);
-          most = e.held.most;
+          most = e.inner.first.held.most;
           kept = kept_on g.kept written-kept (omega arith);
           gives =
               ap (λ (ys : List Given). ys ++ map (given_of ps) rest) givens
@@ -238,20 +223,21 @@ module _ {s m c : List ℕ} {x : Scope} {n u : ℕ} (q : Reading s m c x n u) wh
               ∙ ap (λ (ts : List spec.Element). tab k (λ o. high d (u + 2 * o)) ++ places_in ts) (sym on)
               ∙ g.places;
           faults =
-              lower-assoc f (fault_of (cond b (t.at ∷ []) [])) (fault_of (argument_faults ps rest))
+              ap (λ (y : Fault). lower (lower f y) (fault_of (argument_faults ps rest))) (one-fault b t.at)
+              ∙ lower-assoc f (fault_of (cond b (t.at ∷ []) [])) (fault_of (argument_faults ps rest))
               ∙ ap (lower f) (sym (fault-both (cond b (t.at ∷ []) []) (argument_faults ps rest)))
               ∙ ap (λ (y : List ℕ). lower f (fault_of y)) (one b (r ∙ ap (λ (ps : List (List ℕ)). not (is_argument ps (argument_value s t))) same-parameters))
               ∙ g.faults;
-          ends = sym (ends_on e closing h) ∙ g.ends;
-          rest = sym (behind-on e closing (neither (eqb t.sort 3) (eqb t.sort 0 || shuts closing (argument_value s t)) h).1) ∙ g.rest;
+          ends = sym (ends_on e) ∙ g.ends;
+          rest = sym (behind-on e.inner) ∙ g.rest;
         }
       where
         one : (b : Bool) → b ≡ not (is_argument (parameters_of s c x) (argument_value s t))
-            → cond b (t.at ∷ []) [] ++ argument_faults (parameters_of s c x) (given_from s x.closing t.next) ≡ argument_faults (parameters_of s c x) (given_from s x.closing i)
+            → cond b (t.at ∷ []) [] ++ argument_faults (parameters_of s c x) (given_from s (is_some x) t.next) ≡ argument_faults (parameters_of s c x) (given_from s (is_some x) i)
         one b r =
-            ap (λ (y : Bool). cond y (t.at ∷ []) [] ++ argument_faults (parameters_of s c x) (given_from s x.closing t.next)) r
-            ∙ sym (keep-first (λ y. not (is_argument (parameters_of s c x) y)) (argument_value s t) (given_from s x.closing t.next))
-            ∙ ap (argument_faults (parameters_of s c x)) (sym (given-on e x.closing h))
+            ap (λ (y : Bool). cond y (t.at ∷ []) [] ++ argument_faults (parameters_of s c x) (given_from s (is_some x) t.next)) r
+            ∙ sym (keep-first (λ y. not (is_argument (parameters_of s c x) y)) (argument_value s t) (given_from s (is_some x) t.next))
+            ∙ ap (argument_faults (parameters_of s c x)) (sym (given-on e))
 
 pub argument_is : {s c : List ℕ} {x : Scope} {t : Element} {a : Answer} (j : Judged s c x t a) (b : Bool)
     → b ≡ (spec.is_text (argument_value s t) || (spec.is_listed (argument_value s t) && a.joins)) → not b ≡ not (is_argument (parameters_of s c x) (argument_value s t))

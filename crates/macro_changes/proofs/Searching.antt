@@ -1,5 +1,5 @@
 -- The first of a row that passes a test; and stretches of elements, one by one.
-use mathlib.Core.Path.{◌≡◌, refl, ap, sym, ◌∙◌}
+use mathlib.Core.Path.{◌≡◌, refl, ap, sym, subst, ◌∙◌}
 use mathlib.Core.Bool.{Bool, true, false, ◌||◌}
 use mathlib.Core.List.{List, [], ◌∷◌}
 use Prim.Native.Nat.{ℕ, zero, suc, ◌+◌, ◌<◌}
@@ -11,6 +11,9 @@ use borrow.Author.Tests.{lt-ltb, le-ltb}
 use Rattle.layout.specs.Cells.{tab}
 use Rattle.lists.specs.Lists.{ahead, any}
 use Rattle.macros.specs.Elements.{until, from}
+use Rattle.std.specs.Prelude.{Some, None}
+use Rattle.macro_changes.specs.Changing.{Scope, count_in, Found}
+use Rattle.macro_changes.specs.declared.Parameters.{Parameters}
 
 ltb-suc : (a b : ℕ) → ltb a b ≡ ltb (suc a) (suc b)
 ltb-suc a b = go (dec_lt a b)
@@ -64,3 +67,15 @@ none_more p i h e j l = go (dec_lt j i)
     go : Dec (j < i) → p j ≡ false
     go (yes m) = h j m
     go (no m) = let q : j ≡ i = omega arith in ap p q ∙ e
+
+-- among a body's parameters; the section has none
+module _ {s c : List ℕ} {x : Scope} {at end : ℕ} where
+  pub none-found : x ≡ None → Found s c x at end (count_in x)
+  unfolding tab
+  none-found e = subst (λ (y : Scope). Found s c y at end (count_in y)) (sym e) (record { most = omega arith; is = refl })
+
+  pub found-by : {p : Parameters} {r : ℕ} → x ≡ Some p → Found s c (Some p) at end r → Found s c x at end r
+  found-by {p} {r} e h = subst (λ (y : Scope). Found s c y at end r) (sym e) h
+
+  pub none-by : {p : Parameters} → x ≡ Some p → Found s c (Some p) at end p.count → Found s c x at end (count_in x)
+  none-by {p} e h = subst (λ (y : Scope). Found s c y at end (count_in y)) (sym e) h

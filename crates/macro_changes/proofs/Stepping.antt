@@ -1,5 +1,5 @@
 -- Changes and faults of elements, one after the other, in cells.
-use mathlib.Core.Path.{◌≡◌, refl, ap, sym, ◌∙◌}
+use mathlib.Core.Path.{◌≡◌, refl, ap, sym, ◌∙◌, subst}
 use mathlib.Core.Bool.{Bool, true, false, cond, not, ◌&&◌, ◌||◌, true≢false, false≢true, or-false}
 use mathlib.Core.List.{List, [], ◌∷◌, ◌++◌, map, append_assoc, append-nil}
 use Prim.Native.Nat.{ℕ, zero, suc, ◌+◌, ◌*◌, ◌≤◌, ◌<◌}
@@ -7,12 +7,11 @@ use native.Mathlib.Nat.{le_refl}
 use native.Mathlib.Omega.{arith}
 use lib.Dec.{eqb}
 use lib.ListN.{length, take, drop, length-take, length-drop}
-use borrow.Author.Tests.{ne_eqb}
 use Rattle.layout.specs.Cells.{tab}
 use Rattle.lexer.specs.Tokens.{part}
 use Rattle.lists.specs.Lists.{filled, head_or, if_any}
-use Rattle.statements.specs.declared.Fault.{Fault}
-use Rattle.statements.specs.declared.Fault.TheVariants.{Clear, At}
+use Rattle.statements.specs.Faults.{Fault}
+use Rattle.std.specs.Prelude.{None, Some}
 use Rattle.statements.specs.Faults.{lower}
 use Rattle.statements.specs.FaultLaws.{fault-both, no-fault}
 use Rattle.statements.specs.StatementAt.{fault_of}
@@ -20,30 +19,32 @@ use Rattle.syntax.specs.Items.{Sort, same_sort}
 use Rattle.syntax.specs.Items.Sort.{separator, word, colon, end, text, wrong}
 use Rattle.macros.specs.Elements as spec
 use Rattle.macros.specs.Elements.{is_word, is_end, is_star, is_mark, end_of, places_in, until, from}
-use Rattle.macros.proofs.PlainLaws.{equal}
 use Rattle.macros.specs.Pieces.{Given, Change, given_of, is_parameter, number_of, name_faults, call_of, joins_well, call_faults, word_changes, call_stop, call_changes, section_changes, form_faults}
 use Rattle.macros.specs.Pieces.Given.{typed, parameter, joined}
 use Rattle.macros.specs.Pieces.Piece.{value, called}
 use Rattle.macros.proofs.StepLaws.{at_plain, at-star, call-first, changes-plain, changes-star, form-plain, form-star}
 use Rattle.macro_code.specs.Code.{high, given_in, paired, changes_in, change_in, size_at, behind_changes}
 use Rattle.std.specs.Prelude.{Option, Some, None, IfSome, unwrap_or}
-use Rattle.macro_elements.specs.ElementAt.{joined_at, elements_from, argument_value, NextElement}
+use Rattle.macro_elements.specs.ElementAt.{joined_at, argument_value}
 use Rattle.macro_elements.specs.declared.Element.{Element}
-use Rattle.macro_changes.specs.Changing.{Kept, parameters_of, shuts, inside, stop_of, changes_of, wrong_in, wrong_by, given_as, Judged, Reading, given_from, ends_from, argument_faults, GivenUp, form_in, Stepped, Changed, Named, EndsCall, kind_of, used_by, Written}
+use Rattle.std.specs.Bool.{then_some}
+use Rattle.std.proofs.lemmas.Option.{none-some, same_Some}
+use Rattle.macro_changes.specs.Changing.{Kept, parameters_of, inside, stop_of, changes_of, wrong_in, wrong_by, given_as, replaced, Judged, Reading, InsideAt, Started, ChangedBy, NextChange, given_from, ends_from, argument_faults, GivenUp, form_in, Stepped, Changed, Named, EndsCall, kind_of, used_by, Written}
 use Rattle.macro_changes.specs.declared.Answer.{Answer}
 use Rattle.macro_changes.specs.declared.Ending.{Ending}
-use Rattle.macro_changes.specs.declared.Scope.{Scope}
+use Rattle.std.specs.Prelude.{is_some}
+use Rattle.macro_changes.specs.Changing.{Scope}
 use Rattle.macro_changes.specs.declared.Step.{Step}
 use Rattle.macro_changes.proofs.Cells.{kept-none, kept_on, kept-below, parameters-same, changes-same, changes-more, behind_more}
 use Rattle.macro_changes.proofs.Searching.{from_on, from-off}
-use Rattle.macro_changes.proofs.Giving.{neither, eqb_no, lower-assoc, keep-first, inside_on, behind-on}
+use Rattle.macro_changes.proofs.Giving.{lower-assoc, keep-first, one-fault, first_forward, inside_on, behind-on}
 use Rattle.macro_changes.proofs.Calling.{call_faults-are}
 use Rattle.macro_changes.proofs.Called.{cells, cells-kept, value_is, value-size, call-change}
 
 -- None yet, and some after others
 
 module _ {s m c : List ℕ} {x : Scope} {n u : ℕ} (q : Reading s m c x n u) where
-  pub stepped-none : Stepped s c c x n u n u 0 Clear
+  pub stepped-none : Stepped s c c x n u n u 0 None
   unfolding changes_in behind_changes
   stepped-none =
       record {
@@ -62,7 +63,6 @@ module _ {s m c : List ℕ} {x : Scope} {n u : ℕ} (q : Reading s m c x n u) wh
   reading-on h =
       record {
         lent = record { copy = q.lent.copy; size = q.lent.size; most = h.most };
-        plain = q.plain;
         few = q.few;
         scoped = omega (arith, q.scoped, h.low);
         room = omega (arith, q.room, h.room, h.kept.size);
@@ -73,7 +73,7 @@ module _ {s m c : List ℕ} {x : Scope} {n u : ℕ} (q : Reading s m c x n u) wh
     same-ps : parameters_of s d x ≡ parameters_of s c x
     same-ps = parameters-same a.kept s x q.scoped
 
-    same_stop : stop_of s x.closing i ≡ stop_of s x.closing n
+    same_stop : stop_of s (is_some x) i ≡ stop_of s (is_some x) n
     same_stop = ap (λ (ts : List spec.Element). if_any (length s) (λ t. t.at) ts) a.rest
 
     kept-changes : (changes_in s e u k ≡ changes_in s d u k) × (behind_changes e u k ≡ behind_changes d u k)
@@ -85,7 +85,7 @@ module _ {s m c : List ℕ} {x : Scope} {n u : ℕ} (q : Reading s m c x n u) wh
     pub stepped-on : Stepped s c e x n u j v (k + l) (lower f g)
     stepped-on =
         let ps = parameters_of s c x in
-        let closing = x.closing in
+        let closing = (is_some x) in
         let stop = stop_of s closing n in
         record {
           from = omega (arith, a.from, b.from);
@@ -154,18 +154,14 @@ wrong-is true ps j t e = rw e refl
 wrong-is false ps j t e = or-false (is_mark 40 t || is_mark 41 t || is_mark 39 t || not j) ∙ rw e refl
 
 -- no parameters in the section
-no-parameters : (s c : List ℕ) (x : Scope) → x.count ≡ 0 → parameters_of s c x ≡ []
+no-parameters : (s c : List ℕ) (x : Scope) → is_some x ≡ false → parameters_of s c x ≡ []
 unfolding tab
-no-parameters s c x e = rw e refl
+no-parameters s c None e = refl
+no-parameters s c (Some p) e = absurd (true≢false e)
 
--- A call
-mark-is : (t : spec.Element) (a b : ℕ) → is_mark a t ≡ true → (a ≡ b → ⊥) → is_mark b t ≡ false
-mark-is t a b h d = go (same_sort wrong t.sort) (eqb a t.byte) refl h
-  where
-    go : (w e : Bool) → eqb a t.byte ≡ e → (w && e) ≡ true → (w && eqb b t.byte) ≡ false
-    go true true e k = ne_eqb b t.byte (λ y. d (equal a t.byte e ∙ sym y))
-    go true false e k = absurd (false≢true k)
-    go false e f k = absurd (false≢true k)
+pub turned : (n : Bool) {b : Bool} → b ≡ not n → n ≡ not b
+turned true e = sym (ap not e)
+turned false e = sym (ap not e)
 
 star-sort : (t : spec.Element) → is_star t ≡ true → is_end t ≡ false
 star-sort t h = go t.sort h
@@ -178,17 +174,6 @@ star-sort t h = go t.sort h
     go text e = absurd (false≢true e)
     go wrong e = refl
 
-first_is : {s : List ℕ} {n : ℕ} {t : Element} (k : NextElement s n t) (p : spec.Element → Bool) → if_any false p (elements_from s n) ≡ true → (eqb t.sort 0 ≡ false) × (p (argument_value s t) ≡ true)
-first_is {s} {n} {t} k p h = go (eqb t.sort 0) (ap (λ (ts : List spec.Element). if_any false p ts) (sym k.is) ∙ h)
-  where
-    go : (z : Bool) → if_any false p (cond z [] (argument_value s t ∷ elements_from s t.next)) ≡ true → (z ≡ false) × (p (argument_value s t) ≡ true)
-    go true e = absurd (false≢true e)
-    go false e = (refl, e)
-
-star-open : (closing : Bool) (t : spec.Element) → is_star t ≡ true → shuts closing t ≡ false
-star-open true t h = mark-is t 42 41 h (λ e. omega arith)
-star-open false t h = refl
-
 unnamed : (ps : List (List ℕ)) (t : spec.Element) → call_faults ps t [] ≡ [] → ⊥
 unfolding call_faults name_faults
 unnamed ps t e = true≢false (ap filled e)
@@ -197,12 +182,12 @@ no-tab : (f : ℕ → Given) (h : spec.Element → Given) (y : spec.Element) (ts
 unfolding tab
 no-tab f h y ts e = false≢true (ap filled e)
 
-lower-right : (f : Fault) → lower f Clear ≡ f
-lower-right Clear = refl
-lower-right (At p) = refl
+lower-right : (f : Fault) → lower f None ≡ f
+lower-right None = refl
+lower-right (Some p) = refl
 
-module _ {s m c d : List ℕ} {x : Scope} {n u : ℕ} (q : Reading s m c x n u) {t : Element} (k : NextElement s n t) (star : if_any false is_star (elements_from s n) ≡ true)
-    {r : Step} (g : GivenUp s c d x t.next (u + 2) r) {name : Fault} (nm : Named s x.closing t.at t.next name) where
+module _ {s c d : List ℕ} {x : Scope} {u : ℕ} {t : Element} (q : Started s c x t u) (star : is_star (argument_value s t) ≡ true)
+    {r : Step} (g : GivenUp s c d x t.next (u + 2) r) {name : Fault} (nm : Named s (is_some x) t.at t.next name) where
   abbrev ps : List (List ℕ)
   ps = parameters_of s c x
 
@@ -210,10 +195,7 @@ module _ {s m c d : List ℕ} {x : Scope} {n u : ℕ} (q : Reading s m c x n u) 
   v = argument_value s t
 
   abbrev given : List spec.Element
-  given = given_from s x.closing t.next
-
-  open-star : (eqb t.sort 0 || shuts x.closing v) ≡ false
-  open-star = let f = first_is k is_star star in rw f.0 (star-open x.closing v f.1)
+  given = given_from s (is_some x) t.next
 
   all-given : tab r.count (λ j. given_in s d (u + 2 + 2 * j)) ≡ map (given_of ps) given
   all-given = sym (append-nil (tab r.count (λ j. given_in s d (u + 2 + 2 * j)))) ∙ (rw g.done at g.gives.gives)
@@ -227,7 +209,7 @@ module _ {s m c d : List ℕ} {x : Scope} {n u : ℕ} (q : Reading s m c x n u) 
   pub call-fault : lower name r.fault ≡ fault_of (call_faults ps v given)
   call-fault = (λ i. lower (nm.is v refl i) (given-fault i)) ∙ sym (call_faults-are ps v given)
 
-  pub some-given : lower name r.fault ≡ Clear → 0 < r.count
+  pub some-given : lower name r.fault ≡ None → 0 < r.count
   some-given e = go given refl r.count all-given
     where
       none : call_faults ps v given ≡ []
@@ -238,79 +220,80 @@ module _ {s m c d : List ℕ} {x : Scope} {n u : ℕ} (q : Reading s m c x n u) 
       go (y ∷ ts) h zero z = absurd (no-tab (λ i. given_in s d (u + 2 + 2 * i)) (given_of ps) y ts (z ∙ ap (map (given_of ps)) h))
       go (y ∷ ts) h (suc j) z = omega arith
 
-  module _ {b : Ending} (en : EndsCall s x.closing r.next b) {e : List ℕ} {used : ℕ} (w : Written d e u t.at b.stop r.count (lower name r.fault) used) where
+  module _ {b : Ending} (en : EndsCall s (is_some x) r.next b) {e : List ℕ} {used : ℕ} (w : Written d e u t.at b.stop r.count (lower name r.fault) used) where
     room : u + 2 ≤ length d
-    room =
-        let f = first_is k is_star star in
-        let z = k.some (eqb_no t.sort 0 f.0) in
-        omega (arith, k.from, k.held.most, q.room, g.gives.kept.size)
-
-    forward : n < t.next
-    forward = let f = first_is k is_star star in let z = k.some (eqb_no t.sort 0 f.0) in omega (arith, k.from)
+    room = omega (arith, q.held.most, q.room, g.gives.kept.size)
 
     stop_low : b.stop < 65536
-    stop_low = omega (arith, en.stop_most, q.lent.size)
+    stop_low = omega (arith, en.stop_most, q.held.small)
 
     count_low : r.count < 65536
-    count_low = omega (arith, g.gives.from, g.gives.most, q.lent.size)
-
-    call_stop-same : stop_of s x.closing r.next ≡ stop_of s x.closing n
-    call_stop-same = ap (λ (ts : List spec.Element). if_any (length s) (λ y. y.at) ts) (g.gives.rest ∙ sym (behind-on k x.closing open-star))
-
-    the-stop : b.stop ≡ call_stop (stop_of s x.closing n) (ends_from s x.closing t.next)
-    the-stop = en.stop_is ∙ (λ i. call_stop (call_stop-same i) (g.gives.ends i))
+    count_low = omega (arith, g.gives.from, g.gives.most, q.held.small)
 
     both : (change_in s (cells s d u t.at b.stop (kind_of r.count (lower name r.fault)) room) u ≡ record { start = t.at; stop = b.stop; pieces = cond (filled (call_faults ps v given)) [] (called (call_of ps v given) ∷ []) }) × (u + size_at (cells s d u t.at b.stop (kind_of r.count (lower name r.fault)) room) u ≡ used_by u r.count (lower name r.fault))
     both = call-change s d u t.at b.stop r.count room stop_low count_low ps v refl given all-given all_places (lower name r.fault) call-fault some-given
 
-    inner : inside s x.closing n ≡ v ∷ inside s x.closing t.next
-    inner = inside_on k x.closing open-star
-
-    after : inside s x.closing b.next ≡ drop 1 (ends_from s x.closing t.next)
-    after = en.on ∙ ap (drop 1) g.gives.ends
-
-    none-there : x.closing ≡ false → ps ≡ []
-    none-there h = no-parameters s c x (q.plain h)
-
-    one-change : changes_in s e u 1 ≡ call_changes ps (stop_of s x.closing n) (v ∷ inside s x.closing t.next)
-    unfolding changes_in call_changes
-    one-change = rw w.is (ap (λ (y : Change). y ∷ []) both.0) ∙ ap (λ (y : ℕ). record { start = t.at; stop = y; pieces = cond (filled (call_faults ps v given)) [] (called (call_of ps v given) ∷ []) } ∷ []) the-stop
+    none-there : (is_some x) ≡ false → ps ≡ []
+    none-there h = no-parameters s c x h
 
     used-there : behind_changes e u 1 ≡ used
     unfolding behind_changes
     used-there = rw w.is both.1 ∙ sym w.used
 
-    used-most : (f : Fault) → (u ≤ used_by u r.count f) × (used_by u r.count f + 2 * n ≤ u + 2 * b.next)
-    used-most Clear = (omega arith, omega (arith, forward, g.gives.from, en.from))
-    used-most (At p) = (omega arith, omega (arith, forward, g.gives.from, en.from))
+    module _ {n : ℕ} (k : InsideAt s (is_some x) n t) where
+      forward : n < t.next
+      forward = first_forward k.first
 
-    pub call-stepped : Changed s c e x n u (record { next = b.next; used = used; count = 1; fault = lower name r.fault })
-    call-stepped =
-        let z = used-most (lower name r.fault) in
-        let closing = x.closing in
-        let stop = stop_of s closing n in
-        record {
-          steps =
-              record {
-                from = omega (arith, forward, g.gives.from, en.from);
-                most = en.most;
-                kept = rw w.is (kept_on (kept-below g.gives.kept (omega arith)) (cells-kept s d u t.at b.stop (kind_of r.count (lower name r.fault)) room) (le_refl u));
-                low = rw w.used z.0;
-                room = rw w.used z.1;
-                faults =
-                    (λ i. lower (call-fault i) (fault_of (form_faults (wrong_in closing ps) ps (after i))))
-                    ∙ sym (fault-both (call_faults ps v given) (form_faults (wrong_in closing ps) ps (drop 1 (ends_from s closing t.next))))
-                    ∙ ap fault_of (sym (form-star (wrong_in closing ps) ps v (inside s closing t.next) (first_is k is_star star).1 (star-sort v (first_is k is_star star).1)))
-                    ∙ ap (λ (ts : List spec.Element). fault_of (form_faults (wrong_in closing ps) ps ts)) (sym inner);
-                changes_are =
-                    (λ i. one-change i ++ changes_of closing ps stop (after i))
-                    ∙ sym (of-star closing ps stop v (inside s closing t.next) none-there (first_is k is_star star).1 (star-sort v (first_is k is_star star).1))
-                    ∙ ap (changes_of closing ps stop) (sym inner);
-                used_is = used-there;
-                rest = en.rest ∙ g.gives.rest ∙ sym (behind-on k closing open-star);
-              };
-          more = omega (arith, forward, g.gives.from, en.from);
-        }
+      call_stop-same : stop_of s (is_some x) r.next ≡ stop_of s (is_some x) n
+      call_stop-same = ap (λ (ts : List spec.Element). if_any (length s) (λ y. y.at) ts) (g.gives.rest ∙ sym (behind-on k))
+
+      the-stop : b.stop ≡ call_stop (stop_of s (is_some x) n) (ends_from s (is_some x) t.next)
+      the-stop = en.stop_is ∙ (λ i. call_stop (call_stop-same i) (g.gives.ends i))
+
+      inner : inside s (is_some x) n ≡ v ∷ inside s (is_some x) t.next
+      inner = inside_on k
+
+      after : inside s (is_some x) b.next ≡ drop 1 (ends_from s (is_some x) t.next)
+      after = en.on ∙ ap (drop 1) g.gives.ends
+
+      one-change : changes_in s e u 1 ≡ call_changes ps (stop_of s (is_some x) n) (v ∷ inside s (is_some x) t.next)
+      unfolding changes_in call_changes
+      one-change = rw w.is (ap (λ (y : Change). y ∷ []) both.0) ∙ ap (λ (y : ℕ). record { start = t.at; stop = y; pieces = cond (filled (call_faults ps v given)) [] (called (call_of ps v given) ∷ []) } ∷ []) the-stop
+
+      used-most : (f : Fault) → (u ≤ used_by u r.count f) × (used_by u r.count f + 2 * n ≤ u + 2 * b.next)
+      used-most None = (omega arith, omega (arith, forward, g.gives.from, en.from))
+      used-most (Some p) = (omega arith, omega (arith, forward, g.gives.from, en.from))
+
+      pub call-from : Changed s c e x n u (record { next = b.next; used = used; count = 1; fault = lower name r.fault })
+      call-from =
+          let z = used-most (lower name r.fault) in
+          let closing = (is_some x) in
+          let stop = stop_of s closing n in
+          record {
+            steps =
+                record {
+                  from = omega (arith, forward, g.gives.from, en.from);
+                  most = en.most;
+                  kept = rw w.is (kept_on (kept-below g.gives.kept (omega arith)) (cells-kept s d u t.at b.stop (kind_of r.count (lower name r.fault)) room) (le_refl u));
+                  low = rw w.used z.0;
+                  room = rw w.used z.1;
+                  faults =
+                      (λ i. lower (call-fault i) (fault_of (form_faults (wrong_in closing ps) ps (after i))))
+                      ∙ sym (fault-both (call_faults ps v given) (form_faults (wrong_in closing ps) ps (drop 1 (ends_from s closing t.next))))
+                      ∙ ap fault_of (sym (form-star (wrong_in closing ps) ps v (inside s closing t.next) star (star-sort v star)))
+                      ∙ ap (λ (ts : List spec.Element). fault_of (form_faults (wrong_in closing ps) ps ts)) (sym inner);
+                  changes_are =
+                      (λ i. one-change i ++ changes_of closing ps stop (after i))
+                      ∙ sym (of-star closing ps stop v (inside s closing t.next) none-there star (star-sort v star))
+                      ∙ ap (changes_of closing ps stop) (sym inner);
+                  used_is = used-there;
+                  rest = en.rest ∙ g.gives.rest ∙ sym (behind-on k);
+                };
+            more = omega (arith, forward, g.gives.from, en.from);
+          }
+
+    pub call-stepped : ChangedBy s c e x t u (record { next = b.next; used = used; count = 1; fault = lower name r.fault })
+    call-stepped = record { is = λ n k. call-from k }
 
 -- A word outside calls
 abbrev change_by : spec.Element → Given → List Change
@@ -329,103 +312,70 @@ word_by ps t = go t.joined (is_word t && is_parameter ps t.typed)
     go [] false = refl
     go (w ∷ ws) b = refl
 
--- what begins at a place
-pub first_more : {s : List ℕ} {n : ℕ} {t : Element} (k : NextElement s n t) (p : spec.Element → Bool) → if_any false p (elements_from s n) ≡ true → n < t.next
-first_more {s} {n} {t} k p h = let f = first_is k p h in let z = k.some (eqb_no t.sort 0 f.0) in omega (arith, k.from)
+pub change-some : {s c d : List ℕ} {x : Scope} {n u : ℕ} {t : Element} {r : Step} → InsideAt s (is_some x) n t → ChangedBy s c d x t u r → NextChange s c d x n u (Some r)
+change-some {s} {c} {d} {x} {n} {u} {t} {r} k h =
+    record { none = λ y. absurd (none-some r (sym y)); some = λ z y. subst (λ (v : Step). Changed s c d x n u v) (same_Some r z y) (h.is n k) }
 
-begins : {s : List ℕ} {n : ℕ} {t : Element} (k : NextElement s n t) (p : spec.Element → Bool) → eqb t.sort 0 ≡ false → p (argument_value s t) ≡ true → if_any false p (elements_from s n) ≡ true
-begins {s} {n} {t} k p z h =
-    let e : elements_from s n ≡ argument_value s t ∷ elements_from s t.next = k.is ∙ rw z refl in
-    ap (λ (ts : List spec.Element). if_any false p ts) e ∙ h
+pub started : {s m c : List ℕ} {x : Scope} {n u : ℕ} {t : Element} → Reading s m c x n u → InsideAt s (is_some x) n t → Started s c x t u
+started q k =
+    let z = first_forward k.first in
+    record { held = k.first.held; few = q.few; scoped = q.scoped; room = omega (arith, q.room); wide = q.wide }
 
-module _ {s : List ℕ} {n : ℕ} {t : Element} (k : NextElement s n t) (closing : Bool) (inner : if_any false (λ y. not (shuts closing y)) (elements_from s n) ≡ true) {r : Bool} (e : r ≡ is_star (argument_value s t)) where
-  pub begins-star : r ≡ true → if_any false is_star (elements_from s n) ≡ true
-  begins-star h = begins k is_star (first_is k (λ y. not (shuts closing y)) inner).0 (sym e ∙ h)
-
-  pub begins-word : r ≡ false → if_any false (λ y. not (is_star y) && not (shuts closing y)) (elements_from s n) ≡ true
-  begins-word h =
-      let f = first_is k (λ y. not (shuts closing y)) inner in
-      begins k (λ y. not (is_star y) && not (shuts closing y)) f.0 (rw (sym e ∙ h) f.1)
-
-pub begins-inner : {s : List ℕ} {n : ℕ} {t : Element} (k : NextElement s n t) (closing : Bool) → (eqb t.sort 0 || shuts closing (argument_value s t)) ≡ false
-    → if_any false (λ y. not (shuts closing y)) (elements_from s n) ≡ true
-begins-inner {s} {n} {t} k closing h =
-    let p = neither (eqb t.sort 0) (shuts closing (argument_value s t)) h in
-    begins k (λ y. not (shuts closing y)) p.0 (ap not p.1)
-
-pub record Wordly (s c : List ℕ) (x : Scope) (n : ℕ) (t : Element) (a : Answer) : Type 0 where
-  pub at : NextElement s n t
-  pub plain : if_any false (λ y. not (is_star y) && not (shuts x.closing y)) (elements_from s n) ≡ true
-  pub judged : Judged s c x t a
-
-not-both : (a b : Bool) → (not a && not b) ≡ true → (a ≡ false) × (b ≡ false)
-not-both true b h = absurd (false≢true h)
-not-both false true h = absurd (false≢true h)
-not-both false false h = (refl, refl)
-
-module _ {s m c : List ℕ} {x : Scope} {n u : ℕ} (q : Reading s m c x n u) {t : Element} {a : Answer} (y : Wordly s c x n t a) where
+module _ {s c : List ℕ} {x : Scope} {u : ℕ} {t : Element} (q : Started s c x t u) (no-star : is_star (argument_value s t) ≡ false) {a : Answer} (judged : Judged s c x t a) where
   abbrev ps' : List (List ℕ)
   ps' = parameters_of s c x
 
   abbrev v' : spec.Element
   v' = argument_value s t
 
-  there : (eqb t.sort 0 ≡ false) × ((not (is_star v') && not (shuts x.closing v')) ≡ true)
-  there = first_is y.at (λ z. not (is_star z) && not (shuts x.closing z)) y.plain
+  module _ {n : ℕ} (k : InsideAt s (is_some x) n t) where
+    word-forward : n < t.next
+    word-forward = first_forward k.first
 
-  no-star : is_star v' ≡ false
-  no-star = (not-both (is_star v') (shuts x.closing v') there.1).0
+    word-inner : inside s (is_some x) n ≡ v' ∷ inside s (is_some x) t.next
+    word-inner = inside_on k
 
-  open-word : (eqb t.sort 0 || shuts x.closing v') ≡ false
-  open-word = rw there.0 (not-both (is_star v') (shuts x.closing v') there.1).1
+    word-faults : (b : Bool) → b ≡ wrong_by (is_some x) a.joins v' → {f : Fault} → f ≡ then_some b t.at
+        → lower f (fault_of (form_in s ps' (is_some x) t.next)) ≡ fault_of (form_in s ps' (is_some x) n)
+    word-faults b e {f} g =
+        let closing = (is_some x) in
+        let w = wrong_in closing ps' in
+        let rest = form_in s ps' closing t.next in
+        ap (λ (z : Fault). lower z (fault_of rest)) (g ∙ one-fault b t.at ∙ ap (λ (z : Bool). fault_of (cond z (t.at ∷ []) [])) (e ∙ wrong-is closing ps' a.joins v' judged.joins_is))
+        ∙ sym (fault-both (cond (w v') (t.at ∷ []) []) rest)
+        ∙ ap (λ (ns : List ℕ). fault_of (ns ++ rest)) (sym (keep-first w v' [] ∙ append-nil (cond (w v') (t.at ∷ []) [])))
+        ∙ ap fault_of (sym (form-plain w ps' v' (inside s closing t.next) no-star))
+        ∙ ap (λ (ts : List spec.Element). fault_of (form_faults w ps' ts)) (sym word-inner)
 
-  pub word-forward : n < t.next
-  word-forward = first_more y.at (λ z. not (is_star z) && not (shuts x.closing z)) y.plain
-
-  word-inner : inside s x.closing n ≡ v' ∷ inside s x.closing t.next
-  word-inner = inside_on y.at x.closing open-word
-
-  word-faults : (b : Bool) → b ≡ wrong_by x.closing a.joins v' → {f : Fault} → f ≡ fault_of (cond b (t.at ∷ []) [])
-      → lower f (fault_of (form_in s ps' x.closing t.next)) ≡ fault_of (form_in s ps' x.closing n)
-  word-faults b e {f} g =
-      let closing = x.closing in
-      let w = wrong_in closing ps' in
-      let rest = form_in s ps' closing t.next in
-      ap (λ (z : Fault). lower z (fault_of rest)) (g ∙ ap (λ (z : Bool). fault_of (cond z (t.at ∷ []) [])) (e ∙ wrong-is closing ps' a.joins v' y.judged.joins_is))
-      ∙ sym (fault-both (cond (w v') (t.at ∷ []) []) rest)
-      ∙ ap (λ (ns : List ℕ). fault_of (ns ++ rest)) (sym (keep-first w v' [] ∙ append-nil (cond (w v') (t.at ∷ []) [])))
-      ∙ ap fault_of (sym (form-plain w ps' v' (inside s closing t.next) no-star))
-      ∙ ap (λ (ts : List spec.Element). fault_of (form_faults w ps' ts)) (sym word-inner)
-
-  word-stepped : (d : List ℕ) (count used : ℕ) {f : Fault} → Kept c d u → n + count ≤ t.next → u ≤ used → used + 2 * n ≤ u + 2 * t.next
-      → lower f (fault_of (form_in s ps' x.closing t.next)) ≡ fault_of (form_in s ps' x.closing n)
-      → changes_in s d u count ≡ words_of x.closing ps' v' → behind_changes d u count ≡ used
-      → Changed s c d x n u (record { next = t.next; used = used; count = count; fault = f })
-  word-stepped d count used h l o z f g b =
-      let closing = x.closing in
-      record {
-        steps =
-            record {
-              from = l;
-              most = y.at.held.most;
-              kept = h;
-              low = o;
-              room = z;
-              faults = f;
-              changes_are =
-                  ap (λ (cs : List Change). cs ++ changes_of closing ps' (stop_of s closing n) (inside s closing t.next)) g
-                  ∙ sym (of_plain closing ps' (stop_of s closing n) v' (inside s closing t.next) no-star)
-                  ∙ ap (changes_of closing ps' (stop_of s closing n)) (sym word-inner);
-              used_is = b;
-              rest = sym (behind-on y.at closing open-word);
-            };
-        more = word-forward;
-      }
+    word-stepped : (d : List ℕ) (count used : ℕ) {f : Fault} → Kept c d u → n + count ≤ t.next → u ≤ used → used + 2 * n ≤ u + 2 * t.next
+        → lower f (fault_of (form_in s ps' (is_some x) t.next)) ≡ fault_of (form_in s ps' (is_some x) n)
+        → changes_in s d u count ≡ words_of (is_some x) ps' v' → behind_changes d u count ≡ used
+        → Changed s c d x n u (record { next = t.next; used = used; count = count; fault = f })
+    word-stepped d count used h l o z f g b =
+        let closing = (is_some x) in
+        record {
+          steps =
+              record {
+                from = l;
+                most = q.held.most;
+                kept = h;
+                low = o;
+                room = z;
+                faults = f;
+                changes_are =
+                    ap (λ (cs : List Change). cs ++ changes_of closing ps' (stop_of s closing n) (inside s closing t.next)) g
+                    ∙ sym (of_plain closing ps' (stop_of s closing n) v' (inside s closing t.next) no-star)
+                    ∙ ap (changes_of closing ps' (stop_of s closing n)) (sym word-inner);
+                used_is = b;
+                rest = sym (behind-on k);
+              };
+          more = word-forward;
+        }
 
   typed-none : eqb a.kind 0 ≡ true → word_changes ps' v' ≡ []
   unfolding given_as
   typed-none e =
-      let g : given_of ps' v' ≡ typed (part s t.at t.end) = y.judged.given_is ∙ rw e refl in
+      let g : given_of ps' v' ≡ typed (part s t.at t.end) = judged.given_is ∙ rw e refl in
       word_by ps' v' ∙ ap (change_by v') g
 
   no_words : (closing : Bool) → (not closing || eqb a.kind 0) ≡ true → [] ≡ words_of closing ps' v'
@@ -433,21 +383,21 @@ module _ {s m c : List ℕ} {x : Scope} {n u : ℕ} (q : Reading s m c x n u) {t
   no_words true h = sym (typed-none h)
   no_words false h = refl
 
-  pub word_none : (b : Bool) → b ≡ wrong_by x.closing a.joins v' → {f : Fault} → f ≡ fault_of (cond b (t.at ∷ []) []) → (not x.closing || eqb a.kind 0) ≡ true
-      → Changed s c c x n u (record { next = t.next; used = u; count = 0; fault = f })
+  pub word_none : (b : Bool) → b ≡ wrong_by (is_some x) a.joins v' → {f : Fault} → f ≡ then_some b t.at → (not (is_some x) || eqb a.kind 0) ≡ true
+      → ChangedBy s c c x t u (record { next = t.next; used = u; count = 0; fault = f })
   unfolding changes_in behind_changes
   word_none b e g h =
-      word-stepped c 0 u (kept-none c u) (omega (arith, word-forward)) (le_refl u) (omega (arith, word-forward)) (word-faults b e g) (no_words x.closing h) refl
+      record { is = λ n k. let z = word-forward k in word-stepped k c 0 u (kept-none c u) (omega arith) (le_refl u) (omega arith) (word-faults k b e g) (no_words (is_some x) h) refl }
 
   -- a parameter
   end-is_end : end_of v' ≡ t.end
-  end-is_end = let z = y.at.held in simp (length-take, length-drop) (omega (arith, z.own, z.ends))
+  end-is_end = let z = q.held in simp (length-take, length-drop) (omega (arith, z.own, z.ends))
 
-  abbrev from_place : ℕ
-  from_place = cond (eqb a.kind 1) t.at t.end
+  abbrev pub from_place : ℕ
+  from_place = (replaced t a.kind).0
 
-  abbrev to_place : ℕ
-  to_place = cond (eqb a.kind 1) t.end (unwrap_or t.joined t.end)
+  abbrev pub to_place : ℕ
+  to_place = (replaced t a.kind).1
 
   abbrev value_change : ℕ → ℕ → Change
   value_change b e = record { start = b; stop = e; pieces = value a.number ∷ [] }
@@ -461,15 +411,15 @@ module _ {s m c : List ℕ} {x : Scope} {n u : ℕ} (q : Reading s m c x n u) {t
       go false e = let z : ◌≡◌ {A = ℕ} 0 1 = cc in omega arith
 
   joined_ends : (t.joined ≡ None → ⊥) → end_of v' + 1 + length (head_or [] v'.joined) ≡ unwrap_or t.joined t.end
-  joined_ends z = rw end-is_end (go t.joined y.at.held.joined_ends z)
+  joined_ends z = rw end-is_end (go t.joined q.held.joined_ends z)
     where
       go : (o : Option ℕ) → IfSome o (λ b. (t.end + 1 ≤ b) × (b ≤ t.next)) → (o ≡ None → ⊥) → t.end + 1 + length (head_or [] (joined_at s t.end o)) ≡ unwrap_or o t.end
       go None h x = absurd (x refl)
-      go (Some b) h x = simp (length-take, length-drop) (omega (arith, h.0, h.1, y.at.held.most))
+      go (Some b) h x = simp (length-take, length-drop) (omega (arith, h.0, h.1, q.held.most))
 
   one_word : eqb a.kind 0 ≡ false → word_changes ps' v' ≡ value_change from_place to_place ∷ []
   unfolding given_as
-  one_word e = word_by ps' v' ∙ go (eqb a.kind 1) (y.judged.given_is ∙ rw e refl)
+  one_word e = word_by ps' v' ∙ go (eqb a.kind 1) (judged.given_is ∙ rw e refl)
     where
       go : (b : Bool) → given_of ps' v' ≡ cond b (parameter a.number) (joined (part s t.at t.end) a.number)
           → change_by v' (given_of ps' v') ≡ value_change (cond b t.at t.end) (cond b t.end (unwrap_or t.joined t.end)) ∷ []
@@ -477,31 +427,36 @@ module _ {s m c : List ℕ} {x : Scope} {n u : ℕ} (q : Reading s m c x n u) {t
       go false g = ap (change_by v') g ∙ (let j = joined_ends (joined-not g) in λ i. value_change (end-is_end i) (j i) ∷ [])
 
   pub room_word : u + 2 ≤ length c
-  room_word = omega (arith, word-forward, y.at.held.most, q.room)
+  room_word = omega (arith, q.held.most, q.room)
 
   pub places-low : (from_place < 65536) × (to_place < 65536)
   places-low = go (eqb a.kind 1)
     where
       joined-low : (o : Option ℕ) → IfSome o (λ b. (t.end + 1 ≤ b) × (b ≤ t.next)) → unwrap_or o t.end < 65536
-      joined-low None h = omega (arith, y.at.held.ends, y.at.held.small)
-      joined-low (Some b) h = omega (arith, h.1, y.at.held.most, y.at.held.small)
+      joined-low None h = omega (arith, q.held.ends, q.held.small)
+      joined-low (Some b) h = omega (arith, h.1, q.held.most, q.held.small)
 
       go : (b : Bool) → (cond b t.at t.end < 65536) × (cond b t.end (unwrap_or t.joined t.end) < 65536)
-      go true = let h = y.at.held in (omega (arith, h.own, h.ends, h.small), omega (arith, h.ends, h.small))
-      go false = let h = y.at.held in (omega (arith, h.ends, h.small), joined-low t.joined h.joined_ends)
+      go true = let h = q.held in (omega (arith, h.own, h.ends, h.small), omega (arith, h.ends, h.small))
+      go false = let h = q.held in (omega (arith, h.ends, h.small), joined-low t.joined h.joined_ends)
 
   words-there : (closing : Bool) → (not closing || eqb a.kind 0) ≡ false → words_of closing ps' v' ≡ value_change from_place to_place ∷ []
   unfolding words_of
   words-there true h = one_word h
   words-there false h = absurd (true≢false h)
 
-  pub word-one : (b : Bool) → b ≡ wrong_by x.closing a.joins v' → {f : Fault} → f ≡ fault_of (cond b (t.at ∷ []) []) → (not x.closing || eqb a.kind 0) ≡ false
-      → Changed s c (cells s c u from_place to_place (paired 0 a.number) room_word) x n u (record { next = t.next; used = u + 2; count = 1; fault = f })
+  pub word-one : (b : Bool) → b ≡ wrong_by (is_some x) a.joins v' → {f : Fault} → f ≡ then_some b t.at → (not (is_some x) || eqb a.kind 0) ≡ false
+      → ChangedBy s c (cells s c u from_place to_place (paired 0 a.number) room_word) x t u (record { next = t.next; used = u + 2; count = 1; fault = f })
   unfolding changes_in behind_changes
   word-one b e g h =
       let d = cells s c u from_place to_place (paired 0 a.number) room_word in
       let low = places-low.1 in
-      let few = y.judged.number_low in
-      word-stepped d 1 (u + 2) (cells-kept s c u from_place to_place (paired 0 a.number) room_word) (omega (arith, word-forward)) (omega arith) (omega (arith, word-forward)) (word-faults b e g)
-      (ap (λ (z : Change). z ∷ []) (value_is s c u from_place to_place a.number room_word low few) ∙ sym (words-there x.closing h))
-      (ap (λ (z : ℕ). u + z) (value-size s c u from_place to_place a.number room_word low few))
+      let few = judged.number_low in
+      record {
+        is =
+            λ n k.
+            let z = word-forward k in
+            word-stepped k d 1 (u + 2) (cells-kept s c u from_place to_place (paired 0 a.number) room_word) (omega arith) (omega arith) (omega arith) (word-faults k b e g)
+            (ap (λ (z : Change). z ∷ []) (value_is s c u from_place to_place a.number room_word low few) ∙ sym (words-there (is_some x) h))
+            (ap (λ (z : ℕ). u + z) (value-size s c u from_place to_place a.number room_word low few));
+      }

@@ -4,22 +4,35 @@ use Rattle.language.specs.Limits as limit
 use Rattle.layout.specs.Cells.{tab}
 use Rattle.lexer.specs.Tokens.{part}
 use Rattle.lists.specs.Lists.{if_any, keep}
-use Rattle.statements.specs.declared.Fault.{Fault}
-use Rattle.statements.specs.declared.Fault.TheVariants.{Clear, At}
+use Rattle.statements.specs.Faults.{Fault}
+use Rattle.std.specs.Prelude.{Option, None, Some, is_some, unwrap_or}
 use Rattle.statements.specs.Faults.{lower}
 use Rattle.statements.specs.StatementAt.{fault_of}
 use Rattle.macros.specs.Elements as spec
+use Rattle.macros.specs.Marks.{marked}
 use Rattle.macros.specs.Elements.{is_word, is_end, is_mark, is_star, is_close, is_listed, places_in, until, from}
 use Rattle.macros.specs.Pieces.{Given, Change, given_of, joins_well, is_argument, number_of, name_faults, changes, call_stop, section_changes, is_stray, is_misplaced, form_faults}
 use Rattle.macros.specs.Pieces.Given.{typed, parameter, joined}
 use Rattle.macro_code.specs.Code.{high, paired, bytes_at, given_in, changes_in, behind_changes}
 use Rattle.macro_code.specs.Places as place
-use Rattle.macro_elements.specs.ElementAt.{elements_from, argument_value, Lent, Held}
+use Rattle.macro_elements.specs.ElementAt.{elements_from, argument_value, Lent, Held, FirstElement}
 use Rattle.macro_elements.specs.declared.Element.{Element}
 use Rattle.macro_changes.specs.declared.Answer.{Answer}
 use Rattle.macro_changes.specs.declared.Ending.{Ending}
-use Rattle.macro_changes.specs.declared.Scope.{Scope}
+use Rattle.macro_changes.specs.declared.Parameters.{Parameters}
 use Rattle.macro_changes.specs.declared.Step.{Step}
+
+-- a body with its parameters, or the section, which has none
+abbrev pub Scope : Type 0
+Scope = Option Parameters
+
+abbrev pub first_in : Scope → ℕ
+first_in None = 0
+first_in (Some p) = p.first
+
+abbrev pub count_in : Scope → ℕ
+count_in None = 0
+count_in (Some p) = p.count
 
 -- the cells below u are what they were
 pub record Kept (c d : List ℕ) (u : ℕ) : Type 0 where
@@ -28,7 +41,7 @@ pub record Kept (c d : List ℕ) (u : ℕ) : Type 0 where
 
 -- the parameters of a body
 abbrev pub parameters_of : List ℕ → List ℕ → Scope → List (List ℕ)
-parameters_of s c x = tab x.count (λ j. bytes_at s c (x.params + j))
+parameters_of s c x = tab (count_in x) (λ j. bytes_at s c ((first_in x) + j))
 
 -- a body goes up to its closing bracket, the section to the end
 abbrev pub shuts : Bool → spec.Element → Bool
@@ -60,16 +73,16 @@ pub record Findable (s c : List ℕ) (x : Scope) (at end : ℕ) : Type 0 where
   pub own : at ≤ end
   pub ends : end ≤ length s
   pub small : length s ≤ limit.text
-  pub scoped : x.params + x.count ≤ length c
+  pub scoped : (first_in x) + (count_in x) ≤ length c
 
 pub record Found (s c : List ℕ) (x : Scope) (at end r : ℕ) : Type 0 where
-  pub most : r ≤ x.count
+  pub most : r ≤ (count_in x)
   pub is : r ≡ number_of (parameters_of s c x) (part s at end)
 
 pub record Judging (s c : List ℕ) (x : Scope) (t : Element) : Type 0 where
   pub held : Held s t
-  pub few : x.count < place.half
-  pub scoped : x.params + x.count ≤ length c
+  pub few : (count_in x) < place.half
+  pub scoped : (first_in x) + (count_in x) ≤ length c
 
 pub record Judged (s c : List ℕ) (x : Scope) (t : Element) (r : Answer) : Type 0 where
   pub kind_low : r.kind < place.half
@@ -80,11 +93,19 @@ pub record Judged (s c : List ℕ) (x : Scope) (t : Element) (r : Answer) : Type
 -- From place n on, with cells from u on
 pub record Reading (s m c : List ℕ) (x : Scope) (n u : ℕ) : Type 0 where
   pub lent : Lent s m n
-  pub plain : x.closing ≡ false → x.count ≡ 0
-  pub few : x.count < place.half
-  pub scoped : x.params + x.count ≤ u
+  pub few : (count_in x) < place.half
+  pub scoped : (first_in x) + (count_in x) ≤ u
   pub room : u + 2 * length s ≤ length c + 2 * n
   pub wide : length c ≤ 131072
+
+-- t is the first element inside
+pub record InsideAt (s : List ℕ) (closing : Bool) (n : ℕ) (t : Element) : Type 0 where
+  pub first : FirstElement s n t
+  pub inner : shuts closing (argument_value s t) ≡ false
+
+pub record NextInside (s : List ℕ) (closing : Bool) (n : ℕ) (r : Option Element) : Type 0 where
+  pub none : r ≡ None → inside s closing n ≡ []
+  pub some : (t : Element) → r ≡ Some t → InsideAt s closing n t
 
 -- what a call gives: all elements up to its end
 abbrev pub given_from : List ℕ → Bool → ℕ → List spec.Element
@@ -93,6 +114,15 @@ given_from s closing n = until is_end (inside s closing n)
 abbrev pub ends_from : List ℕ → Bool → ℕ → List spec.Element
 ends_from s closing n = from is_end (inside s closing n)
 
+-- t is the first that a call gives
+pub record GivenAt (s : List ℕ) (closing : Bool) (n : ℕ) (t : Element) : Type 0 where
+  pub inner : InsideAt s closing n t
+  pub plain : is_end (argument_value s t) ≡ false
+
+pub record NextGiven (s : List ℕ) (closing : Bool) (n : ℕ) (r : Option Element) : Type 0 where
+  pub none : r ≡ None → given_from s closing n ≡ []
+  pub some : (t : Element) → r ≡ Some t → GivenAt s closing n t
+
 abbrev pub argument_faults : List (List ℕ) → List spec.Element → List ℕ
 argument_faults ps ts = places_in (keep (λ t. not (is_argument ps t)) ts)
 
@@ -100,15 +130,15 @@ pub record Gives (s c d : List ℕ) (x : Scope) (n u next count : ℕ) (fault : 
   pub from : n + count ≤ next
   pub most : next ≤ length s
   pub kept : Kept c d u
-  pub gives : tab count (λ j. given_in s d (u + place.given_size * j)) ++ map (given_of (parameters_of s c x)) (given_from s x.closing next) ≡ map (given_of (parameters_of s c x)) (given_from s x.closing n)
-  pub places : tab count (λ j. high d (u + place.given_size * j)) ++ places_in (given_from s x.closing next) ≡ places_in (given_from s x.closing n)
-  pub faults : lower fault (fault_of (argument_faults (parameters_of s c x) (given_from s x.closing next))) ≡ fault_of (argument_faults (parameters_of s c x) (given_from s x.closing n))
-  pub ends : ends_from s x.closing next ≡ ends_from s x.closing n
-  pub rest : behind s x.closing next ≡ behind s x.closing n
+  pub gives : tab count (λ j. given_in s d (u + place.given_size * j)) ++ map (given_of (parameters_of s c x)) (given_from s (is_some x) next) ≡ map (given_of (parameters_of s c x)) (given_from s (is_some x) n)
+  pub places : tab count (λ j. high d (u + place.given_size * j)) ++ places_in (given_from s (is_some x) next) ≡ places_in (given_from s (is_some x) n)
+  pub faults : lower fault (fault_of (argument_faults (parameters_of s c x) (given_from s (is_some x) next))) ≡ fault_of (argument_faults (parameters_of s c x) (given_from s (is_some x) n))
+  pub ends : ends_from s (is_some x) next ≡ ends_from s (is_some x) n
+  pub rest : behind s (is_some x) next ≡ behind s (is_some x) n
 
 pub record GivenUp (s c d : List ℕ) (x : Scope) (n u : ℕ) (r : Step) : Type 0 where
   pub gives : Gives s c d x n u r.next r.count r.fault
-  pub done : given_from s x.closing r.next ≡ []
+  pub done : given_from s (is_some x) r.next ≡ []
 
 -- Some changes: those from place n on are in cells, and the others follow from next on
 abbrev pub form_in : List ℕ → List (List ℕ) → Bool → ℕ → List ℕ
@@ -120,10 +150,10 @@ pub record Stepped (s c d : List ℕ) (x : Scope) (n u next used count : ℕ) (f
   pub kept : Kept c d u
   pub low : u ≤ used
   pub room : used + 2 * n ≤ u + 2 * next
-  pub faults : lower fault (fault_of (form_in s (parameters_of s c x) x.closing next)) ≡ fault_of (form_in s (parameters_of s c x) x.closing n)
-  pub changes_are : changes_in s d u count ++ changes_of x.closing (parameters_of s c x) (stop_of s x.closing n) (inside s x.closing next) ≡ changes_of x.closing (parameters_of s c x) (stop_of s x.closing n) (inside s x.closing n)
+  pub faults : lower fault (fault_of (form_in s (parameters_of s c x) (is_some x) next)) ≡ fault_of (form_in s (parameters_of s c x) (is_some x) n)
+  pub changes_are : changes_in s d u count ++ changes_of (is_some x) (parameters_of s c x) (stop_of s (is_some x) n) (inside s (is_some x) next) ≡ changes_of (is_some x) (parameters_of s c x) (stop_of s (is_some x) n) (inside s (is_some x) n)
   pub used_is : behind_changes d u count ≡ used
-  pub rest : behind s x.closing next ≡ behind s x.closing n
+  pub rest : behind s (is_some x) next ≡ behind s (is_some x) n
 
 pub record Changed (s c d : List ℕ) (x : Scope) (n u : ℕ) (r : Step) : Type 0 where
   pub steps : Stepped s c d x n u r.next r.used r.count r.fault
@@ -131,32 +161,36 @@ pub record Changed (s c d : List ℕ) (x : Scope) (n u : ℕ) (r : Step) : Type 
 
 pub record ReadChanges (s c d : List ℕ) (x : Scope) (n u : ℕ) (r : Step) : Type 0 where
   pub steps : Stepped s c d x n u r.next r.used r.count r.fault
-  pub done : inside s x.closing r.next ≡ []
+  pub done : inside s (is_some x) r.next ≡ []
 
--- the first element from place n on
-abbrev pub BeginsWith : (spec.Element → Bool) → List ℕ → ℕ → Type 0
-BeginsWith p s n = if_any false p (elements_from s n) ≡ true
+-- From the element t on, with cells from u on
+pub record Started (s c : List ℕ) (x : Scope) (t : Element) (u : ℕ) : Type 0 where
+  pub held : Held s t
+  pub few : (count_in x) < place.half
+  pub scoped : (first_in x) + (count_in x) ≤ u
+  pub room : u + 2 + 2 * length s ≤ length c + 2 * t.next
+  pub wide : length c ≤ 131072
 
-pub record Starred (s m c : List ℕ) (x : Scope) (n u : ℕ) : Type 0 where
-  pub reading : Reading s m c x n u
-  pub star : BeginsWith is_star s n
+pub record Starred (s m c : List ℕ) (x : Scope) (t : Element) (u : ℕ) : Type 0 where
+  pub copy : m ≡ marked s
+  pub started : Started s c x t u
+  pub star : is_star (argument_value s t) ≡ true
 
-pub record Worded (s m c : List ℕ) (x : Scope) (n u : ℕ) : Type 0 where
-  pub reading : Reading s m c x n u
-  pub plain : BeginsWith (λ t. not (is_star t) && not (shuts x.closing t)) s n
+pub record Worded (s c : List ℕ) (x : Scope) (t : Element) (u : ℕ) : Type 0 where
+  pub started : Started s c x t u
+  pub plain : is_star (argument_value s t) ≡ false
 
-pub record Changeable (s m c : List ℕ) (x : Scope) (n u : ℕ) : Type 0 where
-  pub reading : Reading s m c x n u
-  pub inner : BeginsWith (λ t. not (shuts x.closing t)) s n
+-- the change that begins with the element t, from whatever place it is found
+pub record ChangedBy (s c d : List ℕ) (x : Scope) (t : Element) (u : ℕ) (r : Step) : Type 0 where
+  pub is : (n : ℕ) → InsideAt s (is_some x) n t → Changed s c d x n u r
+
+pub record NextChange (s c d : List ℕ) (x : Scope) (n u : ℕ) (r : Option Step) : Type 0 where
+  pub none : r ≡ None → (d ≡ c) × (inside s (is_some x) n ≡ [])
+  pub some : (y : Step) → r ≡ Some y → Changed s c d x n u y
 
 -- the place at fault of a call without a name, or of a name
 pub record Named (s : List ℕ) (closing : Bool) (star n : ℕ) (r : Fault) : Type 0 where
   pub is : (v : spec.Element) → v.at ≡ star → r ≡ fault_of (name_faults v (given_from s closing n))
-
--- a call ends here
-pub record Ended (s m : List ℕ) (closing : Bool) (n : ℕ) : Type 0 where
-  pub lent : Lent s m n
-  pub done : given_from s closing n ≡ []
 
 pub record EndsCall (s : List ℕ) (closing : Bool) (n : ℕ) (r : Ending) : Type 0 where
   pub from : n ≤ r.next
@@ -166,14 +200,18 @@ pub record EndsCall (s : List ℕ) (closing : Bool) (n : ℕ) (r : Ending) : Typ
   pub on : inside s closing r.next ≡ drop 1 (ends_from s closing n)
   pub rest : behind s closing r.next ≡ behind s closing n
 
+-- a call that gives no more ends here, in a body and in the section alike
+pub record EndsHere (s : List ℕ) (n : ℕ) (r : Ending) : Type 0 where
+  pub is : (closing : Bool) → given_from s closing n ≡ [] → EndsCall s closing n r
+
 -- a call's own cells
 abbrev pub kind_of : ℕ → Fault → ℕ
-kind_of count Clear = paired place.call_kind (count - 1)
-kind_of count (At p) = paired place.nothing_kind 0
+kind_of count None = paired place.call_kind (count - 1)
+kind_of count (Some p) = paired place.nothing_kind 0
 
 abbrev pub used_by : ℕ → ℕ → Fault → ℕ
-used_by u count Clear = u + place.name_cell + place.given_size * count
-used_by u count (At p) = u + place.small_size
+used_by u count None = u + place.name_cell + place.given_size * count
+used_by u count (Some p) = u + place.small_size
 
 pub record Writing (c : List ℕ) (u start stop count : ℕ) (fault : Fault) : Type 0 where
   pub room : u + 2 ≤ length c
@@ -181,7 +219,7 @@ pub record Writing (c : List ℕ) (u start stop count : ℕ) (fault : Fault) : T
   pub start_low : start < place.half
   pub stop_low : stop < place.half
   pub count_low : count < place.half
-  pub named : fault ≡ Clear → 0 < count
+  pub named : fault ≡ None → 0 < count
 
 pub record Written (c d : List ℕ) (u start stop count : ℕ) (fault : Fault) (r : ℕ) : Type 0 where
   pub is : d ≡ set (set c u (paired start stop)) (u + place.kind_cell) (kind_of count fault)
@@ -190,3 +228,7 @@ pub record Written (c d : List ℕ) (u start stop count : ℕ) (fault : Fault) (
 -- an element outside calls that is at fault
 unfoldable pub wrong_by : Bool → Bool → spec.Element → Bool
 wrong_by closing joins t = (is_mark 40 t || is_mark 41 t || is_mark 39 t || not joins) || (closing && (is_word t && not (is_listed t)))
+
+-- the places that a parameter's value takes in a body
+abbrev pub replaced : Element → ℕ → ℕ × ℕ
+replaced t kind = (cond (eqb kind place.parameter_kind) t.at t.end, cond (eqb kind place.parameter_kind) t.end (unwrap_or t.joined t.end))

@@ -1,34 +1,35 @@
 // The changes of a macro's body or of the section, read into cells.
 #![tactic(auto)]
 
-ghost use Rattle.std.specs.Prelude.{◌≡◌, cond, ◌&&◌, ◌||◌, ◌+◌, List, [], ◌∷◌, ℕ, ◌<◌, eqb, length, set, unwrap_or, IfSome};
+ghost use Rattle.std.specs.Option.{is_some};
+ghost use Rattle.std.specs.Prelude.{◌≡◌, ◌&&◌, ◌||◌, ◌+◌, List, ℕ, ◌<◌, length, set, unwrap_or, IfSome};
 ghost use Rattle.lists.specs.Lists.{bytes_equal};
 ghost use Rattle.macros.specs.Elements.{is_text, is_listed};
 ghost use Rattle.macro_code.specs.Code.{paired, bytes_at};
 ghost use Rattle.macro_code.specs.Places.{half, kind_cell};
 ghost use Rattle.macro_elements.specs.ElementAt.{argument_value, Lent, Held};
-ghost use Rattle.statements.specs.StatementAt.{fault_of};
-ghost use Rattle.macro_changes.specs.Changing.{shuts, wrong_by, Named, Ended, EndsCall, Writing, Written, Findable, Found, Judging, Judged, Reading, GivenUp, Changed, ReadChanges, Starred, Worded, Changeable};
+ghost use Rattle.macro_changes.specs.Changing.{count_in, shuts, wrong_by, replaced, NextInside, NextGiven, Named, EndsHere, Writing, Written, Findable, Found, Judging, Judged, Reading, GivenUp, ChangedBy, NextChange, ReadChanges, Starred, Worded};
 
 use macro_code::{CodePlaces, high, low, pair, part};
-use macro_elements::{Element, is_identifier, is_listed, is_mark, next_element};
-use scanner::{END, NOTHING, TEXT, WORD};
+use macro_elements::{Element, Source, is_identifier, is_listed, is_mark, next_element};
+use scanner::{END, TEXT, WORD};
 use statements::{Fault, lower};
 
-// Where changes are read: the first cell and the count of a body's parameters, and whether a bracket closes it. The section has none.
+// A body's parameters: their first cell and their count.
 #[derive(Clone, Copy)]
-pub struct Scope {
-    pub params: usize,
+pub struct Parameters {
+    pub first: usize,
     pub count: usize,
-    pub closing: bool,
 }
 
-// What is read, a text and its marked copy, and where.
-#[derive(Clone, Copy)]
-struct Source<'a> {
-    text: &'a [u8],
-    marked: &'a [u8],
-    scope: Scope,
+// Where changes are read: in a body with these parameters, which a bracket closes, or in the section.
+pub type Scope = Option<Parameters>;
+
+// How many parameters there are.
+fn count_in(x: Scope) -> usize
+    ensures { result ≡ count_in x }
+{
+    x.map_or(0, |p| p.count)
 }
 
 // What was read: the place and the cell behind it, the count of changes or arguments, and the lowest place at fault.
@@ -58,21 +59,6 @@ pub fn put(code: &mut [u32], i: usize, a: usize, b: usize)
     code[i] = pair(a, b);
 }
 
-// The place at fault, where something is.
-#[tactic(auto, unfolding(syntax::specs::Verdict::lowest))]
-pub fn fault_if(wrong: bool, at: usize) -> Fault
-    ensures { result ≡ fault_of (cond wrong (at ∷ []) []) }
-{
-    if wrong { Fault::At(at) } else { Fault::Clear }
-}
-
-// One of two numbers, for code that stays in one way.
-pub fn pick(first: bool, a: usize, b: usize) -> usize
-    ensures { result ≡ cond first a b }
-{
-    if first { a } else { b }
-}
-
 // Two cells: of what is read its place, and what it is.
 fn put_two(code: &mut [u32], u: usize, a: usize, b: usize, kind: usize, number: usize)
     requires room { u + kind_cell < length code.old }
@@ -96,12 +82,13 @@ fn is_name(text: &[u8], code: &[u32], i: usize, name: &[u8]) -> bool
 // The ends are those of an element or of what is joined to it, so they come one by one.
 fn find_parameter(text: &[u8], code: &[u32], x: Scope, at: usize, end: usize) -> Option<usize>
     requires { Findable text.now code.now x at end }
-    ensures found { Found text.now code.now x at end (unwrap_or result x.count) }
-    ensures listed { IfSome result (λ k. k < x.count) }
+    ensures found { Found text.now code.now x at end (unwrap_or result (count_in x)) }
+    ensures listed { IfSome result (λ k. k < count_in x) }
 {
+    let p = x?;
     let name = &text[at..end];
-    for i in 0..x.count {
-        if is_name(text, code, x.params + i, name) {
+    for i in 0..p.count {
+        if is_name(text, code, p.first + i, name) {
             return Some(i);
         }
     }
@@ -123,7 +110,7 @@ fn answer_of(text: &[u8], code: &[u32], x: Scope, t: Element) -> Answer
         let k = find_parameter(text, code, x, t.end + 1, behind);
         return Answer {
             kind: CodePlaces::JOINED,
-            number: k.unwrap_or(x.count),
+            number: k.unwrap_or(count_in(x)),
             joins: is_identifier(text, t) & k.is_some(),
         };
     }
@@ -148,50 +135,72 @@ fn is_argument(text: &[u8], t: Element, joins: bool) -> bool
     TEXT == t.sort || (is_listed(text, t) && joins)
 }
 
-// Whether an element closes the body; none does so too.
-fn closes(closing: bool, t: Element) -> bool
+// Whether an element closes the body.
+fn closes(x: Scope, t: Element) -> bool
     requires { t.sort < 6 }
-    ensures { (s : List ℕ) → result ≡ (eqb t.sort 0 || shuts closing (argument_value s t)) }
+    ensures { (s : List ℕ) → result ≡ shuts (is_some x) (argument_value s t) }
 {
-    t.sort == NOTHING || (closing && is_mark(b')', t))
+    x.is_some() && is_mark(b')', t)
+}
+
+// The next element of a body or the section from place `n` on: none at a body's bracket.
+fn next_inside(source: &Source, x: Scope, n: usize) -> Option<Element>
+    requires { Lent source.now.text.now source.now.marked.now n }
+    ensures { NextInside source.now.text.now (is_some x) n result }
+{
+    let t = next_element(source, n)?;
+    if closes(x, t) {
+        return None;
+    }
+    Some(t)
+}
+
+// The same of what a call gives: none at its end.
+fn next_given(source: &Source, x: Scope, n: usize) -> Option<Element>
+    requires { Lent source.now.text.now source.now.marked.now n }
+    ensures { NextGiven source.now.text.now (is_some x) n result }
+{
+    let t = next_inside(source, x, n)?;
+    if t.sort == END {
+        return None;
+    }
+    Some(t)
 }
 
 // All that follows a star up to the call's end.
-fn read_given(source: &Source, code: &mut [u32], n: usize, u: usize) -> Step
-    requires { Reading source.now.text.now source.now.marked.now code.old source.now.scope n u }
-    ensures { GivenUp source.now.text.now code.old code.new source.now.scope n u result }
+fn read_given(source: &Source, code: &mut [u32], x: Scope, n: usize, u: usize) -> Step
+    requires { Reading source.now.text.now source.now.marked.now code.old x n u }
+    ensures { GivenUp source.now.text.now code.old code.new x n u result }
 {
     let mut i = n;
     let mut k: usize = 0;
-    let mut fault = Fault::Clear;
-    loop {
-        let t = next_element(source.text, source.marked, i);
+    let mut fault = None;
+    while let Some(t) = next_given(source, x, i) {
         let w = u + CodePlaces::GIVEN_SIZE * k;
-        if (t.sort == END) | closes(source.scope.closing, t) {
-            return Step {
-                next: i,
-                used: w,
-                count: k,
-                fault,
-            };
-        }
-        let a = answer_of(source.text, code, source.scope, t);
-        fault = lower(fault, fault_if(!is_argument(source.text, t, a.joins), t.at));
+        let a = answer_of(source.text, code, x, t);
+        let wrong = !is_argument(source.text, t, a.joins);
+        fault = lower(fault, wrong.then_some(t.at));
         put_two(code, w, t.at, t.end - t.at, a.kind, a.number);
         i = t.next;
         k += 1;
     }
+    Step {
+        next: i,
+        used: u + CodePlaces::GIVEN_SIZE * k,
+        count: k,
+        fault,
+    }
 }
 
-fn name_fault(source: &Source, star: usize, n: usize) -> Fault
+fn name_fault(source: &Source, x: Scope, star: usize, n: usize) -> Fault
     requires { Lent source.now.text.now source.now.marked.now n }
-    ensures { Named source.now.text.now source.now.scope.closing star n result }
+    ensures { Named source.now.text.now (is_some x) star n result }
 {
-    let t = next_element(source.text, source.marked, n);
-    if (t.sort == END) | closes(source.scope.closing, t) {
-        return Fault::At(star);
-    }
-    fault_if(!(is_identifier(source.text, t) & t.joined.is_none()), t.at)
+    let Some(t) = next_given(source, x, n) else {
+        return Some(star);
+    };
+    let named = is_identifier(source.text, t) & t.joined.is_none();
+    (!named).then_some(t.at)
 }
 
 // Where a call ends, and the place behind it.
@@ -202,20 +211,19 @@ struct Ending {
 }
 
 fn end_of_call(source: &Source, n: usize) -> Ending
-    requires { Ended source.now.text.now source.now.marked.now source.now.scope.closing n }
-    ensures { EndsCall source.now.text.now source.now.scope.closing n result }
+    requires { Lent source.now.text.now source.now.marked.now n }
+    ensures { EndsHere source.now.text.now n result }
 {
-    let t = next_element(source.text, source.marked, n);
-    if t.sort == END {
-        return Ending {
-            stop: pick(t.byte == b';', t.at + 1, t.at),
-            next: t.next,
-        };
-    }
-    if t.sort == NOTHING {
+    let Some(t) = next_element(source, n) else {
         return Ending {
             stop: source.text.len(),
             next: n,
+        };
+    };
+    if t.sort == END {
+        return Ending {
+            stop: t.at + usize::from(t.byte == b';'),
+            next: t.next,
         };
     }
     Ending {
@@ -237,24 +245,25 @@ fn write_call(
     ensures { Written code.old code.new u start stop count fault result }
 {
     match fault {
-        Fault::Clear => {
+        None => {
             put_two(code, u, start, stop, CodePlaces::CALL, count - 1);
             u + CodePlaces::NAME + CodePlaces::GIVEN_SIZE * count
         }
-        Fault::At(_) => {
+        Some(_) => {
             put_two(code, u, start, stop, CodePlaces::NOTHING, 0);
             u + CodePlaces::SMALL_SIZE
         }
     }
 }
 
-fn read_call(source: &Source, code: &mut [u32], n: usize, u: usize) -> Step
-    requires { Starred source.now.text.now source.now.marked.now code.old source.now.scope n u }
-    ensures { Changed source.now.text.now code.old code.new source.now.scope n u result }
+// The call that begins with this star.
+fn read_call(source: &Source, code: &mut [u32], x: Scope, star: Element, u: usize) -> Step
+    requires { Starred source.now.text.now source.now.marked.now code.old x star u }
+    ensures { ChangedBy source.now.text.now code.old code.new x star u result }
 {
-    let star = next_element(source.text, source.marked, n);
-    let r = read_given(source, code, star.next, u + CodePlaces::NAME);
-    let fault = lower(name_fault(source, star.at, star.next), r.fault);
+    let r = read_given(source, code, x, star.next, u + CodePlaces::NAME);
+    let name = name_fault(source, x, star.at, star.next);
+    let fault = lower(name, r.fault);
     let e = end_of_call(source, r.next);
     let used = write_call(code, u, star.at, e.stop, r.count, fault);
     Step {
@@ -266,26 +275,33 @@ fn read_call(source: &Source, code: &mut [u32], n: usize, u: usize) -> Step
 }
 
 // Whether an element outside calls is at fault.
-fn is_wrong(text: &[u8], closing: bool, t: Element, joins: bool) -> bool
+fn is_wrong(text: &[u8], x: Scope, t: Element, joins: bool) -> bool
     requires { Held text.now t }
-    ensures { result ≡ wrong_by closing joins (argument_value text.now t) }
+    ensures { result ≡ wrong_by (is_some x) joins (argument_value text.now t) }
 {
     let stray = is_mark(b'(', t) | is_mark(b')', t) | is_mark(b'\'', t) | !joins;
-    stray | (closing & ((WORD == t.sort) & !is_listed(text, t)))
+    stray | (x.is_some() & ((WORD == t.sort) & !is_listed(text, t)))
+}
+
+// The places that a parameter's value takes in a body: those of its name, or of the apostrophe with what it joins.
+fn replaced(t: Element, kind: usize) -> (usize, usize)
+    ensures { result ≡ replaced t kind }
+{
+    if kind == CodePlaces::PARAMETER {
+        (t.at, t.end)
+    } else {
+        (t.end, t.joined.unwrap_or(t.end))
+    }
 }
 
 // An element outside calls: in a body a parameter, or an apostrophe with one, is changed.
-fn read_word(source: &Source, code: &mut [u32], n: usize, u: usize) -> Step
-    requires { Worded source.now.text.now source.now.marked.now code.old source.now.scope n u }
-    ensures { Changed source.now.text.now code.old code.new source.now.scope n u result }
+fn read_word(text: &[u8], code: &mut [u32], x: Scope, t: Element, u: usize) -> Step
+    requires { Worded text.now code.old x t u }
+    ensures { ChangedBy text.now code.old code.new x t u result }
 {
-    let t = next_element(source.text, source.marked, n);
-    let a = answer_of(source.text, code, source.scope, t);
-    let fault = fault_if(
-        is_wrong(source.text, source.scope.closing, t, a.joins),
-        t.at,
-    );
-    if !source.scope.closing | (a.kind == CodePlaces::TYPED) {
+    let a = answer_of(text, code, x, t);
+    let fault = is_wrong(text, x, t, a.joins).then_some(t.at);
+    if x.is_none() | (a.kind == CodePlaces::TYPED) {
         return Step {
             next: t.next,
             used: u,
@@ -293,15 +309,8 @@ fn read_word(source: &Source, code: &mut [u32], n: usize, u: usize) -> Step
             fault,
         };
     }
-    let whole = a.kind == CodePlaces::PARAMETER;
-    put_two(
-        code,
-        u,
-        pick(whole, t.at, t.end),
-        pick(whole, t.end, t.joined.unwrap_or(t.end)),
-        CodePlaces::VALUE,
-        a.number,
-    );
+    let (start, stop) = replaced(t, a.kind);
+    put_two(code, u, start, stop, CodePlaces::VALUE, a.number);
     Step {
         next: t.next,
         used: u + CodePlaces::SMALL_SIZE,
@@ -310,52 +319,37 @@ fn read_word(source: &Source, code: &mut [u32], n: usize, u: usize) -> Step
     }
 }
 
-fn read_change(source: &Source, code: &mut [u32], n: usize, u: usize) -> Step
-    requires { Changeable source.now.text.now source.now.marked.now code.old source.now.scope n u }
-    ensures { Changed source.now.text.now code.old code.new source.now.scope n u result }
+// The call or the word that comes next from place `n` on, if there is one inside.
+fn read_change(source: &Source, code: &mut [u32], x: Scope, n: usize, u: usize) -> Option<Step>
+    requires { Reading source.now.text.now source.now.marked.now code.old x n u }
+    ensures { NextChange source.now.text.now code.old code.new x n u result }
 {
-    let t = next_element(source.text, source.marked, n);
+    let t = next_inside(source, x, n)?;
     if is_mark(b'*', t) {
-        return read_call(source, code, n, u);
+        return Some(read_call(source, code, x, t, u));
     }
-    read_word(source, code, n, u)
+    Some(read_word(source.text, code, x, t, u))
 }
 
 // All changes from place `n` on, into the cells from `u` on.
-pub fn read_changes(
-    text: &[u8],
-    marked: &[u8],
-    code: &mut [u32],
-    x: Scope,
-    n: usize,
-    u: usize,
-) -> Step
-    requires { Reading text.now marked.now code.old x n u }
-    ensures { ReadChanges text.now code.old code.new x n u result }
+pub fn read_changes(source: &Source, code: &mut [u32], x: Scope, n: usize, u: usize) -> Step
+    requires { Reading source.now.text.now source.now.marked.now code.old x n u }
+    ensures { ReadChanges source.now.text.now code.old code.new x n u result }
 {
-    let source = Source {
-        text,
-        marked,
-        scope: x,
-    };
     let mut i = n;
     let mut used = u;
     let mut k: usize = 0;
-    let mut fault = Fault::Clear;
-    loop {
-        let t = next_element(text, marked, i);
-        if closes(x.closing, t) {
-            return Step {
-                next: i,
-                used,
-                count: k,
-                fault,
-            };
-        }
-        let r = read_change(&source, code, i, used);
+    let mut fault = None;
+    while let Some(r) = read_change(source, code, x, i, used) {
         i = r.next;
         used = r.used;
         k += r.count;
         fault = lower(fault, r.fault);
+    }
+    Step {
+        next: i,
+        used,
+        count: k,
+        fault,
     }
 }

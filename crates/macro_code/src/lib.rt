@@ -1,11 +1,42 @@
 // The list of macros and the section of a text, in cells of two numbers each.
 #![tactic(auto)]
 
-ghost use Rattle.std.specs.Prelude.{◌≡◌, ◌<◌, get_or, take, drop};
-ghost use Rattle.macro_code.specs.Code.{high, low, paired};
+ghost use Rattle.std.specs.Prelude.{◌≡◌, ◌+◌, ◌<◌, get_or, take, drop};
+ghost use Rattle.macro_code.specs.Bounds.{far};
+ghost use Rattle.macro_code.specs.Code.{high, low, paired, bytes_at};
+ghost use Rattle.macro_code.specs.Kinds.{GivenAt, ChangeAt, parameter_of};
 ghost use Rattle.macro_code.specs.Places.{half, all_places};
 
-// The cells are lent memory, so a value of this type holds nothing, and kinds are numbers; its constants are places of cells, as in specs/Places.antt.
+// What a name or an argument is: as typed; or a parameter, by its number; or what is typed joined with a parameter.
+#[derive(Clone, Copy)]
+pub enum Given {
+    Typed,
+    Parameter(usize),
+    Joined(usize),
+}
+
+impl Given {
+    // The number of the parameter that it names, or is joined with.
+    pub fn parameter(self) -> Option<usize>
+        ensures { result ≡ parameter_of self }
+    {
+        match self {
+            Given::Typed => None,
+            Given::Parameter(k) => Some(k),
+            Given::Joined(k) => Some(k),
+        }
+    }
+}
+
+// What a change is: the value of a parameter, by its number; or a call with so many arguments; or nothing, where a call is ill formed.
+#[derive(Clone, Copy)]
+pub enum Change {
+    Value(usize),
+    Call(usize),
+    Nothing,
+}
+
+// The cells are lent memory, so a value of this type holds nothing, and kinds are numbers there; its constants are places of cells, as in specs/Places.antt.
 #[derive(Clone, Copy)]
 pub struct CodePlaces {}
 
@@ -80,6 +111,62 @@ pub fn part(text: &[u8], at: usize, n: usize) -> &[u8]
     let from = at.min(text.len());
     let to = (at + n).min(text.len());
     &text[from..to]
+}
+
+// A text, and the cells of its list of macros and its section.
+#[derive(Clone, Copy)]
+pub struct Coded<'a> {
+    pub text: &'a [u8],
+    pub code: &'a [u32],
+}
+
+impl<'a> Coded<'a> {
+    // The two numbers of the cell `i`.
+    pub fn high(&self, i: usize) -> usize
+        ensures { (result ≡ high self.now.code.now i) × (result < half) }
+    {
+        high(self.code, i)
+    }
+
+    pub fn low(&self, i: usize) -> usize
+        ensures { (result ≡ low self.now.code.now i) × (result < half) }
+    {
+        low(self.code, i)
+    }
+
+    // The bytes of the cell `i`.
+    #[tactic(auto, unfolding(crate::specs::Code::bytes_at))]
+    pub fn bytes_at(&self, i: usize) -> &'a [u8]
+        ensures { result.now ≡ bytes_at self.now.text.now self.now.code.now i }
+    {
+        part(self.text, self.high(i), self.low(i))
+    }
+
+    // The name or the argument at `g`.
+    pub fn given_at(&self, g: usize) -> Given
+        requires { g < far + far }
+        ensures { GivenAt self.now.code.now g result }
+    {
+        let k = self.low(g + CodePlaces::KIND);
+        match self.high(g + CodePlaces::KIND) {
+            CodePlaces::TYPED => Given::Typed,
+            CodePlaces::PARAMETER => Given::Parameter(k),
+            _ => Given::Joined(k),
+        }
+    }
+
+    // The change at `i`.
+    pub fn change_at(&self, i: usize) -> Change
+        requires { i < far }
+        ensures { ChangeAt self.now.code.now i result }
+    {
+        let k = self.low(i + CodePlaces::KIND);
+        match self.high(i + CodePlaces::KIND) {
+            CodePlaces::VALUE => Change::Value(k),
+            CodePlaces::CALL => Change::Call(k),
+            _ => Change::Nothing,
+        }
+    }
 }
 
 // The constants are the numbers of the specification.

@@ -1,6 +1,7 @@
 -- Elements follow one another, and what an apostrophe joins is one.
-use Rattle.std.specs.Prelude.{Some, None}
-use mathlib.Core.Path.{◌≡◌, refl, ap, sym, ◌∙◌}
+use Rattle.std.specs.Prelude.{Option, Some, None, IfSome, unwrap_or}
+use Rattle.std.proofs.lemmas.Option.{none-some, same_Some}
+use mathlib.Core.Path.{◌≡◌, refl, ap, sym, ◌∙◌, subst}
 use mathlib.Core.Bool.{Bool, true, false, cond, not, ◌&&◌, true≢false, false≢true}
 use mathlib.Core.List.{List, [], ◌∷◌, map}
 use Prim.Native.Nat.{ℕ, suc, ◌+◌, ◌-◌, ◌<◌, ◌≤◌}
@@ -26,7 +27,7 @@ use Rattle.lexer.proofs.Finding.{is-sort, no-chars}
 use Rattle.macros.specs.Elements.{Element, element_of, end_of, is_word, is_mark, is_joined, link, linked}
 use Rattle.macros.specs.Marks.{byte_at, new_reader, marked}
 use Rattle.macros.proofs.PlainLaws.{equal}
-use Rattle.macro_elements.specs.ElementAt.{elements_from, argument_value, Lent, Held, JoinedEnd, TextEnd, NextElement}
+use Rattle.macro_elements.specs.ElementAt.{elements_from, argument_value, Lent, Held, JoinedEnd, TextEnd, FirstElement, NextElement}
 use Rattle.macro_elements.specs.declared.Element as code
 use Rattle.macro_elements.proofs.Bytes.{any-default}
 use Rattle.macro_elements.proofs.Marking.{length_marked, word-marked, bytes-marked, Copied, later, Joined, joined-here, byte-copied}
@@ -243,24 +244,26 @@ module _ {s m : List ℕ} {n : ℕ} {t : Token} (l : Lent s m n) (k : TokenAt m 
       let q : is word (item_of m t) ≡ false = is-sort word k.stands ∙ ne_eqb 1 t.sort (λ y. w (sym y)) in
       some-from z ∙ rw q (λ j. h j ∷ rest_from t.next j)
 
-  plain-next : (b e : ℕ) → t.at ≤ e → e ≤ length s → (t.sort ≡ 1 → ⊥) → element_of s (item_of m t) ≡ argument_value s (plain_element b e) → NextElement s n (plain_element b e)
-  plain-next b e g h w v = record { from = k.from; held = plain-held b e g h; some = some_bytes; is = go (eqb t.sort 0) refl }
-    where
-      go : (z : Bool) → eqb t.sort 0 ≡ z → elements_from s n ≡ cond z [] (argument_value s (plain_element b e) ∷ elements_from s t.next)
-      go true y = none_from (equal t.sort 0 y)
-      go false y = alone b e (λ x. true≢false (sym (eq-eqb t.sort 0 x) ∙ y)) w v
+  pub none_next : t.sort ≡ 0 → NextElement s n None
+  none_next z = record { none = λ y. none_from z; some = λ x y. absurd (none-some x y) }
 
-  pub text-next : (b e : ℕ) → b ≡ get_or s t.at 10 → t.sort ≡ 4 → TextEnd s t.at e → NextElement s n (plain_element b e)
-  unfolding element_of
-  text-next b e f x h = plain-next b e (omega (arith, h.from)) h.most (λ y. omega arith) (rw (x, f, h.is) refl)
+  known : {x : code.Element} → FirstElement s n x → NextElement s n (Some x)
+  known {x} h = record { none = λ y. absurd (none-some x (sym y)); some = λ u y. subst (λ (v : code.Element). FirstElement s n v) (same_Some x u y) h }
 
-  pub mark-next : (b : ℕ) → b ≡ get_or s t.at 10 → (t.sort ≡ 1 → ⊥) → (t.sort ≡ 4 → ⊥) → NextElement s n (plain_element b t.at)
+  plain-next : (b e : ℕ) → (t.sort ≡ 0 → ⊥) → t.at ≤ e → e ≤ length s → (t.sort ≡ 1 → ⊥) → element_of s (item_of m t) ≡ argument_value s (plain_element b e) → NextElement s n (Some (plain_element b e))
+  plain-next b e z g h w v = known (record { from = k.from; held = plain-held b e g h; there = z; more = some_bytes z; is = alone b e z w v })
+
+  pub text-next : (b e : ℕ) → b ≡ get_or s t.at 10 → t.sort ≡ 4 → TextEnd s t.at e → NextElement s n (Some (plain_element b e))
   unfolding element_of
-  mark-next b f w x =
+  text-next b e f x h = plain-next b e (λ y. omega arith) (omega (arith, h.from)) h.most (λ y. omega arith) (rw (x, f, h.is) refl)
+
+  pub mark-next : (b : ℕ) → b ≡ get_or s t.at 10 → (t.sort ≡ 0 → ⊥) → (t.sort ≡ 1 → ⊥) → (t.sort ≡ 4 → ⊥) → NextElement s n (Some (plain_element b t.at))
+  unfolding element_of
+  mark-next b f z w x =
       let y = k.stands in
       let q : is text (item_of m t) ≡ false = is-sort text y ∙ ne_eqb 4 t.sort (λ u. x (sym u)) in
       let o : t.at - t.at ≡ 0 = omega arith in
-      plain-next b t.at (le_refl t.at) (omega (arith, y.own, y.behind, y.most, same_length s m l.copy)) w (rw (q, no-chars m t w x, f, o) refl)
+      plain-next b t.at z (le_refl t.at) (omega (arith, y.own, y.behind, y.most, same_length s m l.copy)) w (rw (q, no-chars m t w x, f, o) refl)
 
   -- a word
   module _ (w : t.sort ≡ 1) where
@@ -281,18 +284,20 @@ module _ {s m : List ℕ} {n : ℕ} {t : Token} (l : Lent s m n) (k : TokenAt m 
         rw (q, word-shape.0, word_typed s m l.copy t.at t.next word-shape.1)
         (simp (length-take, length-drop) (omega (arith, y.own, y.behind, y.most, same_length s m l.copy)))
 
-    pub word_next : (b : ℕ) → b ≡ get_or s t.at 10 → JoinedEnd s m t.next 0 → NextElement s n (plain_element b t.next)
+    pub word_next : (b : ℕ) → b ≡ get_or s t.at 10 → JoinedEnd s m t.next 0 → NextElement s n (Some (plain_element b t.next))
     unfolding link element_of
     word_next b f j =
         let y = k.stands in
         let o : is_joined (end_of (element_of s (item_of m t))) from_next ≡ false = rw word-ends (not-joined s m l.copy t.next (j.none refl)) in
         let q : is word (item_of m t) ≡ true = is-sort word y ∙ eq-eqb 1 t.sort (sym w) in
-        record {
+        known
+        (record {
           from = k.from;
           held = plain-held b t.next (omega (arith, y.own, y.behind)) (omega (arith, y.most, same_length s m l.copy));
-          some = some_bytes;
-          is = some-from (λ z. omega arith) ∙ rw (q, o, ne_eqb t.sort 0 (λ z. omega arith)) (λ i. word_is b f i ∷ rest_from t.next i);
-        }
+          there = λ z. omega arith;
+          more = some_bytes (λ z. omega arith);
+          is = some-from (λ z. omega arith) ∙ rw (q, o) (λ i. word_is b f i ∷ rest_from t.next i);
+        })
 
     -- a word and the parameter that is joined to it
     module _ {e : ℕ} (j : JoinedEnd s m t.next e) (z : e ≡ 0 → ⊥) where
@@ -367,7 +372,7 @@ module _ {s m : List ℕ} {n : ℕ} {t : Token} (l : Lent s m n) (k : TokenAt m 
           ∙ ap (λ (ts : List Element). link (element_of s (a_mark wrong p)) ts) behind
           ∙ apostrophe-alone (parameter_element ∷ elements_from s e)
 
-      pub joined_next : (b : ℕ) → b ≡ get_or s t.at 10 → NextElement s n (joined_element b)
+      pub joined_next : (b : ℕ) → b ≡ get_or s t.at 10 → NextElement s n (Some (joined_element b))
       unfolding element_of
       joined_next b f =
           let y = k.stands in
@@ -376,7 +381,8 @@ module _ {s m : List ℕ} {n : ℕ} {t : Token} (l : Lent s m n) (k : TokenAt m 
           let v : Element = element_of s (item_of m t) in
           let three = joined-three v apostrophe parameter_element (elements_from s e) q near (sym word-ends) refl (ap (λ (i : ℕ). i + 1) (sym word-ends)) refl in
           let size = same_length s m l.copy in
-          record {
+          known
+          (record {
             from = k.from;
             held =
                 record {
@@ -387,10 +393,16 @@ module _ {s m : List ℕ} {n : ℕ} {t : Token} (l : Lent s m n) (k : TokenAt m 
                   joined_ends = (omega (arith, ends), le_refl e);
                   most = omega (arith, j.most, size);
                 };
-            some = λ x. omega (arith, some_bytes x, ends);
+            there = λ x. omega arith;
+            more = let x = some_bytes (λ x. omega arith) in omega (arith, ends);
             is =
                 some-from (λ x. omega arith)
                 ∙ ap (link v) linked-there
                 ∙ three
-                ∙ rw (ne_eqb t.sort 0 (λ x. omega arith)) (ap (λ (u : Element). record { at = u.at; sort = u.sort; byte = u.byte; typed = u.typed; joined = part s (p + 1) e ∷ [] } ∷ elements_from s e) (word_is b f));
-          }
+                ∙ ap (λ (u : Element). record { at = u.at; sort = u.sort; byte = u.byte; typed = u.typed; joined = part s (p + 1) e ∷ [] } ∷ elements_from s e) (word_is b f);
+          })
+
+    pub word-next : (b : ℕ) → b ≡ get_or s t.at 10 → (o : Option ℕ) → JoinedEnd s m t.next (unwrap_or o 0) → IfSome o (λ r. 0 < r)
+        → NextElement s n (Some (record { sort = t.sort; byte = b; at = t.at; end = t.next; next = unwrap_or o t.next; joined = o }))
+    word-next b f None j h = word_next b f j
+    word-next b f (Some e) j h = joined_next j (λ z. omega arith) b f

@@ -1,5 +1,5 @@
 -- Elements as the code tells them, with places of the text s in place of bytes; and what its functions promise.
-use Rattle.std.specs.Prelude.{Option, Some, None, IfSome, ◌≡◌, false, cond, List, [], ◌∷◌, map, ℕ, ◌+◌, ◌≤◌, ◌<◌, eqb, length, get_or, take, drop}
+use Rattle.std.specs.Prelude.{Option, Some, None, IfSome, ◌≡◌, false, List, [], ◌∷◌, map, ℕ, ◌+◌, ◌≤◌, ◌<◌, length, get_or, take, drop}
 use Rattle.language.specs.Limits as limit
 use Rattle.lexer.specs.Tokens.{part, sort_at}
 use Rattle.syntax.specs.Items.{read}
@@ -60,9 +60,15 @@ pub record TextEnd (s : List ℕ) (at r : ℕ) : Type 0 where
   pub most : r ≤ length s
   pub is : part s at r ≡ take (text_length false (drop (at + 1) s) + 2) (drop at s)
 
--- one step from element to element: there is none, or t is the first, and the others follow from t.next on
-pub record NextElement (s : List ℕ) (n : ℕ) (t : Element) : Type 0 where
+-- t is the first element from place n on, and the others follow from t.next on
+pub record FirstElement (s : List ℕ) (n : ℕ) (t : Element) : Type 0 where
   pub from : n ≤ t.at
   pub held : Held s t
-  pub some : (t.sort ≡ 0 → ⊥) → t.at < t.next
-  pub is : elements_from s n ≡ cond (eqb t.sort 0) [] (argument_value s t ∷ elements_from s t.next)
+  pub there : t.sort ≡ 0 → ⊥
+  pub more : t.at < t.next
+  pub is : elements_from s n ≡ argument_value s t ∷ elements_from s t.next
+
+-- one step from element to element: there is none, or the first is found
+pub record NextElement (s : List ℕ) (n : ℕ) (r : Option Element) : Type 0 where
+  pub none : r ≡ None → elements_from s n ≡ []
+  pub some : (t : Element) → r ≡ Some t → FirstElement s n t

@@ -10,10 +10,17 @@ ghost use Rattle.macros.specs.Elements.{is_mark, is_identifier, is_listed};
 ghost use Rattle.macro_elements.specs.ElementAt.{alone, argument_value, Lent, JoinedEnd, TextEnd, NextElement, Held};
 
 use lexer::item_at;
-use scanner::{TEXT, WORD, WRONG, scan_text, word_end};
+use scanner::{NOTHING, TEXT, WORD, WRONG, scan_text, word_end};
+
+// A text, and its copy with a star for each joining apostrophe.
+#[derive(Clone, Copy)]
+pub struct Source<'a> {
+    pub text: &'a [u8],
+    pub marked: &'a [u8],
+}
 
 // An element: its sort and its first byte; the places where it begins, where the bytes that it is known by end, and from which
-// the next one is sought; the place where a parameter that is joined to it ends, which begins behind one apostrophe.
+// the next one is sought; and the place where a parameter ends that an apostrophe at `end` joins to it.
 #[derive(Clone, Copy)]
 pub struct Element {
     pub sort: u8,
@@ -32,11 +39,12 @@ fn byte_at(text: &[u8], i: usize) -> u8
 }
 
 // The place behind the parameter that an apostrophe at `end` joins.
-fn joined_end(text: &[u8], marked: &[u8], end: usize) -> Option<usize>
-    requires { Lent text.now marked.now end }
-    ensures joins { JoinedEnd text.now marked.now end (unwrap_or result 0) }
+fn joined_end(source: &Source, end: usize) -> Option<usize>
+    requires { Lent source.now.text.now source.now.marked.now end }
+    ensures joins { JoinedEnd source.now.text.now source.now.marked.now end (unwrap_or result 0) }
     ensures some { IfSome result (λ r. 0 < r) }
 {
+    let Source { text, marked } = *source;
     if end < text.len() && text[end] == b'\'' && marked[end] == b'*' {
         return Some(word_end(marked, end + 1));
     }
@@ -66,31 +74,32 @@ fn alone(sort: u8, byte: u8, at: usize, end: usize, next: usize) -> Element
     }
 }
 
-// The next element from place `n` on.
-pub fn next_element(text: &[u8], marked: &[u8], n: usize) -> Element
-    requires { Lent text.now marked.now n }
-    ensures { NextElement text.now n result }
+// The next element from place `n` on, if there is one.
+pub fn next_element(source: &Source, n: usize) -> Option<Element>
+    requires { Lent source.now.text.now source.now.marked.now n }
+    ensures { NextElement source.now.text.now n result }
 {
-    let t = item_at(marked, n);
-    let byte = byte_at(text, t.at);
+    let t = item_at(source.marked, n);
+    if t.sort == NOTHING {
+        return None;
+    }
+    let byte = byte_at(source.text, t.at);
     if t.sort == TEXT {
-        return alone(TEXT, byte, t.at, text_end(text, t.at), t.next);
+        let end = text_end(source.text, t.at);
+        return Some(alone(TEXT, byte, t.at, end, t.next));
     }
     if t.sort != WORD {
-        return alone(t.sort, byte, t.at, t.at, t.next);
+        return Some(alone(t.sort, byte, t.at, t.at, t.next));
     }
-    let end = t.next;
-    let Some(behind) = joined_end(text, marked, end) else {
-        return alone(WORD, byte, t.at, end, end);
-    };
-    Element {
+    let joined = joined_end(source, t.next);
+    Some(Element {
         sort: WORD,
         byte,
         at: t.at,
-        end,
-        next: behind,
-        joined: Some(behind),
-    }
+        end: t.next,
+        next: joined.unwrap_or(t.next),
+        joined,
+    })
 }
 
 // Whether an element is this star, bracket or joining apostrophe.

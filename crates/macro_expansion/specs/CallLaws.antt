@@ -20,11 +20,12 @@ use Rattle.macro_code.specs.Code.{bytes_at, given_in, body_in, macro_in, macros_
 use Rattle.macro_code.specs.Known.{Heights}
 use Rattle.statements.specs.Faults.{lower}
 use Rattle.statements.specs.StatementAt.{fault_of}
-use Rattle.statements.specs.declared.Fault.TheVariants.{At}
+use Rattle.std.specs.Prelude.{Some}
 use Rattle.macro_values.specs.declared.Written.{Written}
 use Rattle.macro_values.specs.WritingLaws.{lower-none-right}
 use Rattle.macro_values.specs.Wrote.{is_over, size_of, Wrote}
-use Rattle.macro_expansion.specs.Expanding.{inner, ShortNames}
+use Rattle.macro_expansion.specs.Expanding.{inner}
+use Rattle.macro_expansion.specs.Known.{ShortNames}
 
 -- a name longer than those of the list is not in it
 none_kept : {X : Type 0} (p : X → Bool) (n : ℕ) (g : ℕ → X) → ((k : ℕ) → k < n → p (g k) ≡ false) → keep p (tab n g) ≡ []
@@ -82,7 +83,7 @@ no-uneven c m h = go (ltb (length c.args) (length m.params)) (take 1 (drop (leng
     go false [] e = refl
     go false (p ∷ ps) e = absurd (let z : ◌≡◌ {A = ℕ} 0 1 = cc in omega arith)
 
-pub some-uneven : (fs : List Fault) (p : ℕ) → fault_of (places_of 65 fs) ≡ At p → filled fs ≡ true
+pub some-uneven : (fs : List Fault) (p : ℕ) → fault_of (places_of 65 fs) ≡ Some p → filled fs ≡ true
 some-uneven [] p e = absurd (let z : ◌≡◌ {A = ℕ} 0 1 = cc in omega arith)
 some-uneven (f ∷ fs) p e = refl
 

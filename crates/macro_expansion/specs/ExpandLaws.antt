@@ -41,9 +41,9 @@ pub run-behind : (s c f : List ℕ) (n : ℕ) (calls : List ℕ) (at : Level) (x
     (rest_writes s c f n calls at.left (low c x.cell) (low c (at.cell + place.span_cell)) (x.cell + size_at c x.cell) (x.changes - 1)) v e o p
 run-behind s c f n calls at x r v e o p w h = rw (w.left_is, w.stop_is, w.changes_is, w.from_is, w.cell_is) at h
 
-pub fits-rest : (s c f : List ℕ) (n : ℕ) (h calls : List ℕ) (at : Level) (r : Rest) (v : Written) (o : List ℕ) → r.left ≡ at.left
-    → Fits s c f n h at.left calls v o → Fits s c f n h r.left calls v o
-fits-rest s c f n h calls at r v o e k = rw e k
+pub fits-rest : (s c f : List ℕ) (n : ℕ) (calls : List ℕ) (at : Level) (r : Rest) (v : Written) (o : List ℕ) → r.left ≡ at.left
+    → Fits s c f n at.left calls v o → Fits s c f n r.left calls v o
+fits-rest s c f n calls at r v o e k = rw e k
 
 -- the arguments within a call that is entered
 module _ (s c calls₀ calls calls₁ : List ℕ) (left i : ℕ) (some : 1 ≤ left) (most : left ≤ levels) (room : levels - left < length calls)

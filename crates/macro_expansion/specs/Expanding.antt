@@ -1,15 +1,13 @@
 -- A body written in parts: what a call's body writes with so many levels left, what is left of a body, and what is promised of each part.
-use Rattle.std.specs.Prelude.{Option, Some, None, ◌≡◌, Bool, true, false, List, [], ℕ, zero, suc, ◌+◌, ◌-◌, ◌*◌, ◌≤◌, ◌<◌, length, get_or, take, drop}
-use Rattle.language.specs.Limits as limit
+use Rattle.std.specs.Prelude.{Option, Some, None, is_some, ◌≡◌, Bool, true, List, [], ℕ, zero, suc, ◌+◌, ◌-◌, ◌*◌, ◌≤◌, ◌<◌, length, take}
 use Rattle.macros.specs.Expansion.{Writing, just, too_deep, followed_by, walk, expand, levels}
 use Rattle.macros.specs.Macros.{Macro}
 use Rattle.macros.specs.Pieces.{Piece, pieces_from}
 use Rattle.macro_code.specs.Bounds.{widest}
-use Rattle.macro_code.specs.Code.{high, low, bytes_at, first_change, change_count, size_at, change_in, changes_in, body_in, macros_in, arguments_in}
-use Rattle.macro_code.specs.Known.{Heights, Singles}
+use Rattle.macro_code.specs.Code.{high, low, first_change, change_count, size_at, change_in, changes_in, body_in, macros_in, arguments_in}
 use Rattle.macro_code.specs.Places as place
-use Rattle.statements.specs.declared.Fault as told
-use Rattle.statements.specs.declared.Fault.TheVariants.{Clear, At}
+use Rattle.statements.specs.Faults as told
+use Rattle.std.specs.Prelude.{None, Some}
 use Rattle.macro_memory.specs.Memory.{reach, memory, entered_writes, Absorbed, Remembers}
 use Rattle.macro_values.specs.Wrote.{size_of, Wrote}
 use Rattle.macro_values.specs.declared.Written.{Written}
@@ -18,7 +16,7 @@ use Rattle.macro_expansion.specs.declared.Step.{Step}
 use Rattle.macro_expansion.specs.declared.Rest.{Rest}
 use Rattle.macro_expansion.specs.declared.Pause.{Pause}
 use Rattle.macro_expansion.specs.declared.Paused.{Paused}
-use Rattle.macro_expansion.specs.declared.Macros.{Macros}
+use Rattle.macro_expansion.specs.declared.listing.Macros.{Macros}
 
 -- what the body of a call writes, within a body with so many levels left
 unfoldable pub inner : List Macro → ℕ → List (List ℕ) → List Piece → Writing
@@ -26,30 +24,11 @@ inner ms zero = λ env ps. too_deep
 inner ms (suc l) = expand ms l
 
 abbrev pub is_at : told.Fault → Bool
-is_at Clear = false
-is_at (At p) = true
+is_at f = is_some f
 
 -- the arguments within a body with so many levels left
 abbrev pub arguments_at : List ℕ → List ℕ → List ℕ → ℕ → List (List ℕ)
 arguments_at s c calls left = arguments_in s c calls (levels - left)
-
--- the names of the macros are no longer than an item may be
-abbrev pub ShortNames : List ℕ → List ℕ → List ℕ → ℕ → Type 0
-ShortNames s c f n = (k : ℕ) → k < n → length (bytes_at s c (get_or f k 0)) ≤ limit.item
-
--- what is known of the rows: the text s, the cells c, the first cells f of n macros, and their heights h: the quiet ones, the loose ones, and which
--- macros are the only ones of their names
-pub record Known (s c f : List ℕ) (n : ℕ) (h : List ℕ) : Type 0 where
-  pub text : length s ≤ limit.text
-  pub cells : length c ≤ place.cells
-  pub few : n ≤ place.macros
-  pub names : ShortNames s c f n
-  pub heights : Heights s c f n h (drop n h)
-  pub singles : Singles s c f n (take n (drop (n + n) h))
-
--- the same of a list
-abbrev pub KnownList : Macros → Type 0
-KnownList l = Known l.text.now l.code.now l.names.now l.count l.heights.now
 
 -- the change at the cell, with so many levels left
 abbrev pub change_writes : List ℕ → List ℕ → List ℕ → ℕ → List ℕ → ℕ → ℕ → Writing
@@ -133,15 +112,14 @@ pub record Behind (c : List ℕ) (at : Level) (e : Pause) (r : Rest) : Type 0 wh
   pub near : Near r
 
 -- with so many levels left, in rows that can hold it
-pub record Fits (s c f : List ℕ) (n : ℕ) (h : List ℕ) (left : ℕ) (calls : List ℕ) (v : Written) (o : List ℕ) : Type 0 where
-  pub known : Known s c f n h
+pub record Fits (s c f : List ℕ) (n : ℕ) (left : ℕ) (calls : List ℕ) (v : Written) (o : List ℕ) : Type 0 where
   pub most : left ≤ levels
   pub count : size_of v ≤ length o
   pub room : memory ≤ length calls
   pub remembers : Remembers s c f n calls v
 
 abbrev pub FitsList : Macros → ℕ → List ℕ → Written → List ℕ → Type 0
-FitsList l left calls v o = Fits l.text.now l.code.now l.names.now l.count l.heights.now left calls v o
+FitsList l left calls v o = Fits l.listed.coded.text.now l.listed.coded.code.now l.listed.firsts.now l.listed.count left calls v o
 
 pub record Expands (s c f : List ℕ) (n : ℕ) (calls after : List ℕ) (left m : ℕ) (v r : Written) (o p : List ℕ) : Type 0 where
   pub wrote : Wrote (expand (macros_in s c f n) left (arguments_at s c calls left) (body_in s c m)) v r o p

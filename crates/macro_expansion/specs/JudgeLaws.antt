@@ -12,8 +12,8 @@ use Rattle.macro_code.specs.Places as place
 use Rattle.statements.specs.Faults.{lower}
 use Rattle.statements.specs.FaultLaws.{no-fault}
 use Rattle.statements.specs.StatementAt.{fault_of}
-use Rattle.statements.specs.declared.Fault as told
-use Rattle.statements.specs.declared.Fault.TheVariants.{Clear, At}
+use Rattle.statements.specs.Faults as told
+use Rattle.std.specs.Prelude.{None, Some}
 use Rattle.syntax.specs.Verdict.{lowest}
 use Rattle.macro_memory.specs.Memory.{entered_writes, Found, Remembers}
 use Rattle.macro_memory.specs.MemoryLaws.{absorbed-writes}
@@ -21,7 +21,8 @@ use Rattle.macro_values.specs.declared.Written.{Written}
 use Rattle.macro_values.specs.WritingLaws.{lower-none-right, wrote_none, wrote-over}
 use Rattle.macro_values.specs.Wrote.{is_over, size_of, Wrote}
 use Rattle.macro_expansion.specs.declared.Step.{Step}
-use Rattle.macro_expansion.specs.Expanding.{inner, is_at, arguments_at, change_writes, Known, Judged}
+use Rattle.macro_expansion.specs.Expanding.{inner, is_at, arguments_at, change_writes, Judged}
+use Rattle.macro_expansion.specs.Known.{Known}
 use Rattle.macro_expansion.specs.CallLaws.{unknown-writes, faulty-writes, right-writes, uneven-alone, no-uneven, some-uneven, wrote-faults, wrote-deep, inner-deep, inner-expands, quiet-writes, fixed-writes}
 use Rattle.macro_expansion.specs.WalkLaws.{walk-one}
 
@@ -29,13 +30,13 @@ pub not-zero : (l : ℕ) → (l ≡ 0 → ⊥) → 1 ≤ l
 not-zero zero e = absurd (e refl)
 not-zero (suc l) e = omega arith
 
-at_some : (f : told.Fault) → is_at f ≡ true → (p : ℕ) × (f ≡ At p)
-at_some Clear e = absurd (false≢true e)
-at_some (At p) e = (p, refl)
+at_some : (f : told.Fault) → is_at f ≡ true → (p : ℕ) × (f ≡ Some p)
+at_some None e = absurd (false≢true e)
+at_some (Some p) e = (p, refl)
 
-at_none : (f : told.Fault) → is_at f ≡ false → f ≡ Clear
-at_none Clear e = refl
-at_none (At p) e = absurd (true≢false e)
+at_none : (f : told.Fault) → is_at f ≡ false → f ≡ None
+at_none None e = refl
+at_none (Some p) e = absurd (true≢false e)
 
 both_left : (a b : Bool) → (a && b) ≡ true → a ≡ true
 both_left true b e = refl
@@ -67,7 +68,7 @@ module _ (s c f : List ℕ) (n : ℕ) (calls : List ℕ) (left i : ℕ) (v : Wri
 
     -- its macro is not in the list once
     pub judge-unknown : eqb (length (called_by (macros_in s c f n) wanted)) 1 ≡ false → (r : Step) (u : Written) (p : ℕ) → r.state ≡ u → r.call ≡ None
-        → p ≡ high c (i + place.name_cell) → (size_of u ≡ size_of v) × (is_over u ≡ is_over v) × (u.unknown ≡ lower v.unknown (At p)) × (u.uneven ≡ v.uneven)
+        → p ≡ high c (i + place.name_cell) → (size_of u ≡ size_of v) × (is_over u ≡ is_over v) × (u.unknown ≡ lower v.unknown (Some p)) × (u.uneven ≡ v.uneven)
         → Judged s c f n calls left i v r
     unfolding call_in lowest
     judge-unknown h r u p e z q k =

@@ -1,3 +1,4 @@
+pub mod Known
 pub mod Expanding
 pub mod WalkLaws
 pub mod CallLaws

@@ -19,8 +19,8 @@ use Rattle.macro_code.specs.Places.{kind_cell, name_cell, typed_kind, parameter_
 use Rattle.macro_calls.specs.Calls.{is_typed_call, Finds, Counts}
 use Rattle.statements.specs.StatementAt.{fault_of}
 use Rattle.statements.specs.FaultLaws.{no-fault}
-use Rattle.statements.specs.declared.Fault.{Fault}
-use Rattle.statements.specs.declared.Fault.TheVariants.{Clear, At}
+use Rattle.statements.specs.Faults.{Fault}
+use Rattle.std.specs.Prelude.{None, Some}
 use Rattle.macro_heights.specs.Levels.{Aims}
 
 -- as to the count of arguments
@@ -33,7 +33,7 @@ counts-filled d m = go (ltb (length d.args) (length m.params)) (take 1 (drop (le
     go false [] = refl
     go false (p ∷ ps) = refl
 
-fault-filled : (ps : List ℕ) {p : ℕ} → At p ≡ fault_of ps → filled ps ≡ true
+fault-filled : (ps : List ℕ) {p : ℕ} → Some p ≡ fault_of ps → filled ps ≡ true
 fault-filled [] e = absurd (let y : ◌≡◌ {A = ℕ} 0 1 = cc in omega arith)
 fault-filled (q ∷ ps) e = refl
 
@@ -103,7 +103,7 @@ module _ (s c firsts : List ℕ) (n i : ℕ) where
         fault_is : x ≡ fault_of (places_of 65 (argument_faults d target))
         fault_is = rw at at (counts.is s)
 
-        pub aims-uneven : {p : ℕ} → x ≡ At p → Aims s c firsts n i n
+        pub aims-uneven : {p : ℕ} → x ≡ Some p → Aims s c firsts n i n
         aims-uneven u =
             record {
               is = λ t passes. found_right passes
@@ -111,7 +111,7 @@ module _ (s c firsts : List ℕ) (n i : ℕ) where
                   ∙ none-aimed n (passes (body_in s c (get_or firsts n 0)));
             }
 
-        pub aims-right : x ≡ Clear → Aims s c firsts n i k
+        pub aims-right : x ≡ None → Aims s c firsts n i k
         unfolding macro_in
         aims-right u =
             record {

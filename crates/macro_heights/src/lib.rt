@@ -9,46 +9,37 @@ ghost use Rattle.macro_code.specs.Code.{change_in, body_in};
 ghost use Rattle.macro_code.specs.Known.{Heights, Singles};
 ghost use Rattle.macro_heights.specs.Levels.{Aims, Quiet, Loose, Settled, UpTo, Rises, HeightAt, Findable};
 
-use macro_calls::{change_size, count_fault, find_target, first_change, is_typed_call, number_at};
-use macro_code::{CodePlaces, high, low};
-use statements::Fault;
+use macro_calls::{
+    Listed, change_size, count_fault, find_target, first_change, is_typed_call, number_at,
+};
+use macro_code::{Change, CodePlaces};
 
 // How many levels there are; a macro without a height has this number, since the rows of heights are lent bytes.
 const LEVELS: usize = 16;
 
-// The list of macros of a text: the first cell of each, whether it is the only one of its name, and hints for the calls.
+// A list of macros; whether each is the only one of its name, and hints for the calls.
 #[derive(Clone, Copy)]
-struct Listed<'a> {
-    text: &'a [u8],
-    code: &'a [u32],
-    firsts: &'a [u16],
-    count: usize,
+struct Hinted<'a> {
+    list: Listed<'a>,
     singles: &'a [u8],
     hints: &'a [u16],
-    ghost singles_are: { Singles text.now code.now firsts.now count singles.now },
+    ghost singles_are: { Singles list.coded.text.now list.coded.code.now list.firsts.now list.count singles.now },
 }
 
 // The number of the macro of the call at `i`, where it is a call by a typed name at no fault.
-fn right_macro(list: &Listed, i: usize) -> Option<usize>
+fn right_macro(macros: &Hinted, i: usize) -> Option<usize>
     requires { i < far }
-    ensures aims { Aims list.now.text.now list.now.code.now list.now.firsts.now list.now.count i (unwrap_or result list.now.count) }
-    ensures listed { IfSome result (λ k. k < list.now.count) }
+    ensures aims { Aims macros.now.list.coded.text.now macros.now.list.coded.code.now macros.now.list.firsts.now macros.now.list.count i (unwrap_or result macros.now.list.count) }
+    ensures listed { IfSome result (λ k. k < macros.now.list.count) }
 {
-    if !is_typed_call(list.code, i) {
+    let listed = &macros.list;
+    if !is_typed_call(&listed.coded, i) {
         return None;
     }
-    let number = find_target(
-        list.text,
-        list.code,
-        list.firsts,
-        list.count,
-        list.singles,
-        list.hints,
-        i,
-    )?;
-    match count_fault(list.code, i, number_at(list.firsts, number)) {
-        Fault::Clear => Some(number),
-        Fault::At(_) => None,
+    let number = find_target(listed, macros.singles, macros.hints, i)?;
+    match count_fault(&listed.coded, i, number_at(listed.firsts, number)) {
+        None => Some(number),
+        Some(_) => None,
     }
 }
 
@@ -69,67 +60,70 @@ fn gap_height(text: &[u8], place: usize, stop: usize) -> usize
 }
 
 // The height of the call at `i`, by the heights so far: one more than its macro's, or `refused` where it is at fault.
-fn call_height(list: &Listed, row: &[u8], i: usize, refused: usize) -> usize
+fn call_height(macros: &Hinted, row: &[u8], i: usize, refused: usize) -> usize
     requires { i < far }
-    ensures { (k : _) × Aims list.now.text.now list.now.code.now list.now.firsts.now list.now.count i k × (result ≡ cond (ltb k list.now.count) (get_or row.now k 0 + 1) refused) }
+    ensures { (k : _) × Aims macros.now.list.coded.text.now macros.now.list.coded.code.now macros.now.list.firsts.now macros.now.list.count i k × (result ≡ cond (ltb k macros.now.list.count) (get_or row.now k 0 + 1) refused) }
 {
-    match right_macro(list, i) {
+    match right_macro(macros, i) {
         Some(k) => height_at(row, k) + 1,
         None => refused,
     }
 }
 
 // With how many levels at least a change writes nothing, by the heights so far.
-fn quiet_change(list: &Listed, quiet: &[u8], i: usize) -> usize
+fn quiet_change(macros: &Hinted, quiet: &[u8], i: usize) -> usize
     requires { i < far }
-    ensures { Quiet list.now.text.now list.now.code.now list.now.firsts.now list.now.count quiet.now (change_in list.now.text.now list.now.code.now i).pieces result }
+    ensures { Quiet macros.now.list.coded.text.now macros.now.list.coded.code.now macros.now.list.firsts.now macros.now.list.count quiet.now (change_in macros.now.list.coded.text.now macros.now.list.coded.code.now i).pieces result }
 {
-    match high(list.code, i + CodePlaces::KIND) {
-        CodePlaces::VALUE => LEVELS,
-        CodePlaces::CALL => call_height(list, quiet, i, LEVELS),
-        _ => 0,
+    match macros.list.coded.change_at(i) {
+        Change::Value(_) => LEVELS,
+        Change::Call(_) => call_height(macros, quiet, i, LEVELS),
+        Change::Nothing => 0,
     }
 }
 
 // With how many levels at least a change meets a call by a parameter or a fault.
-fn loose_change(list: &Listed, loose: &[u8], i: usize) -> usize
+fn loose_change(macros: &Hinted, loose: &[u8], i: usize) -> usize
     requires { i < far }
-    ensures { Loose list.now.text.now list.now.code.now list.now.firsts.now list.now.count loose.now (change_in list.now.text.now list.now.code.now i).pieces result }
+    ensures { Loose macros.now.list.coded.text.now macros.now.list.coded.code.now macros.now.list.firsts.now macros.now.list.count loose.now (change_in macros.now.list.coded.text.now macros.now.list.coded.code.now i).pieces result }
 {
-    match high(list.code, i + CodePlaces::KIND) {
-        CodePlaces::CALL => call_height(list, loose, i, 0),
-        _ => LEVELS,
+    match macros.list.coded.change_at(i) {
+        Change::Call(_) => call_height(macros, loose, i, 0),
+        Change::Value(_) => LEVELS,
+        Change::Nothing => LEVELS,
     }
 }
 
 // The same of a body.
-fn quiet_body(list: &Listed, quiet: &[u8], q: usize) -> usize
+fn quiet_body(macros: &Hinted, quiet: &[u8], q: usize) -> usize
     requires { q < near }
-    ensures { Quiet list.now.text.now list.now.code.now list.now.firsts.now list.now.count quiet.now (body_in list.now.text.now list.now.code.now q) result }
+    ensures { Quiet macros.now.list.coded.text.now macros.now.list.coded.code.now macros.now.list.firsts.now macros.now.list.count quiet.now (body_in macros.now.list.coded.text.now macros.now.list.coded.code.now q) result }
 {
-    let mut place = high(list.code, q + CodePlaces::SPAN);
-    let mut i = first_change(list.code, q);
+    let coded = &macros.list.coded;
+    let mut place = coded.high(q + CodePlaces::SPAN);
+    let mut i = first_change(coded, q);
     let mut height: usize = 0;
-    for _k in 0..low(list.code, q + CodePlaces::COUNTS) {
+    for _k in 0..coded.low(q + CodePlaces::COUNTS) {
         height = height
-            .max(gap_height(list.text, place, high(list.code, i)))
-            .max(quiet_change(list, quiet, i));
-        place = low(list.code, i);
-        i += change_size(list.code, i);
+            .max(gap_height(coded.text, place, coded.high(i)))
+            .max(quiet_change(macros, quiet, i));
+        place = coded.low(i);
+        i += change_size(coded, i);
     }
-    height.max(gap_height(list.text, place, low(list.code, q + CodePlaces::SPAN)))
+    height.max(gap_height(coded.text, place, coded.low(q + CodePlaces::SPAN)))
 }
 
 // Apart from the other: bytes between changes do not count, and the least height does.
-fn loose_body(list: &Listed, loose: &[u8], q: usize) -> usize
+fn loose_body(macros: &Hinted, loose: &[u8], q: usize) -> usize
     requires { q < near }
-    ensures { Loose list.now.text.now list.now.code.now list.now.firsts.now list.now.count loose.now (body_in list.now.text.now list.now.code.now q) result }
+    ensures { Loose macros.now.list.coded.text.now macros.now.list.coded.code.now macros.now.list.firsts.now macros.now.list.count loose.now (body_in macros.now.list.coded.text.now macros.now.list.coded.code.now q) result }
 {
-    let mut i = first_change(list.code, q);
+    let coded = &macros.list.coded;
+    let mut i = first_change(coded, q);
     let mut height = LEVELS;
-    for _k in 0..low(list.code, q + CodePlaces::COUNTS) {
-        height = height.min(loose_change(list, loose, i));
-        i += change_size(list.code, i);
+    for _k in 0..coded.low(q + CodePlaces::COUNTS) {
+        height = height.min(loose_change(macros, loose, i));
+        i += change_size(coded, i);
     }
     height
 }
@@ -167,34 +161,29 @@ fn settle_level<F: Fn(&[u8], usize) -> usize>(
 
 // The heights of both kinds, in two rows of lent memory.
 pub fn find_heights(
-    text: &[u8],
-    code: &[u32],
-    firsts: &[u16],
-    count: usize,
+    list: &Listed,
     singles: &[u8],
     hints: &[u16],
     quiet: &mut [u8],
     loose: &mut [u8],
 )
-    requires { Findable text.now code.now firsts.now count singles.now quiet.old loose.old }
-    ensures { Heights text.now code.now firsts.now count quiet.new loose.new }
+    requires { Findable list.now.coded.text.now list.now.coded.code.now list.now.firsts.now list.now.count singles.now quiet.old loose.old }
+    ensures { Heights list.now.coded.text.now list.now.coded.code.now list.now.firsts.now list.now.count quiet.new loose.new }
 {
-    let list = Listed {
-        text,
-        code,
-        firsts,
-        count,
+    let macros = Hinted {
+        list: *list,
         singles,
         hints,
     };
+    let count = list.count;
     quiet[..count].fill(LEVELS as u8);
     loose[..count].fill(LEVELS as u8);
     for level in 0..LEVELS {
         settle_level(quiet, count, level, |row, k| {
-            quiet_body(&list, row, number_at(list.firsts, k))
+            quiet_body(&macros, row, number_at(macros.list.firsts, k))
         });
         settle_level(loose, count, level, |row, k| {
-            loose_body(&list, row, number_at(list.firsts, k))
+            loose_body(&macros, row, number_at(macros.list.firsts, k))
         });
     }
 }

@@ -9,15 +9,16 @@ use native.Mathlib.Omega.{arith}
 use borrow.Author.Tests.{ne_eqb, le-leb, lt-leb, ltb-true, ltb-false}
 use lib.ListN.{length, take, drop, replicate, length-append, length-replicate, take-append-drop}
 use lib.Seq.{take-append_seam, drop-append_seam}
-use Rattle.calls.specs.Calls.{load_number, load_line, table_after}
-use Rattle.calls.proofs.LoadLaws.{text_refusals, Listed, text-listed, loaded-listed, listed-not_40, listed-accepted}
+use Rattle.calls.specs.Calls.{table_after}
+use Rattle.calls.proofs.LoadLaws.{text_refusals, Listed, text-listed, loaded-listed, listed-not_40}
 use Rattle.language.specs.Limits as limit
+use Rattle.language.specs.Program.{Program}
 use Rattle.layout.specs.Table.{table_cells}
 use Rattle.loading.specs.Texts.{Lent, Leaves, Fit}
-use Rattle.loading.specs.declared.Loaded.{Loaded}
+use Rattle.loading.specs.Told.{Loaded, told}
 use Rattle.macro_preparing.specs.Preparing.{made, Prepares}
 use Rattle.macro_preparing.specs.declared.Unfit.{Unfit}
-use Rattle.std.specs.Prelude.{Result, Ok, Err}
+use Rattle.std.specs.Prelude.{Result, Ok, Err, is_ok}
 use Rattle.macros.specs.Load.{loaded, load_in}
 use Rattle.macros.proofs.LoadLaws.{load-asked, plain-loads, prepared-lined, accepted-plain}
 use Rattle.macros.specs.Marks.{has_macros}
@@ -45,9 +46,13 @@ zeros-after : (number line : ℕ) → number ≢ 40 → (c : List ℕ) → table
 unfolding table_after
 zeros-after number line no-40 c = ap (λ (b : Bool). cond b c (replicate limit.table 0 ++ drop limit.table c)) (ne_eqb number 40 no-40)
 
-refused-zeros : (x : spec.Loaded) → Listed text_refusals x → (load_number x ≡ 80 → ⊥) → (c : List ℕ) → table_after x c ≡ replicate limit.table 0 ++ drop limit.table c
-refused-zeros (refused n l) h no-80 c = zeros-after n l (listed-not_40 (refused n l) h n l refl) c
-refused-zeros (accepted p) h no-80 c = absurd (no-80 refl)
+refused-zeros : (x : spec.Loaded) → Listed text_refusals x → is_ok (told x) ≡ false → (c : List ℕ) → table_after x c ≡ replicate limit.table 0 ++ drop limit.table c
+refused-zeros (refused n l) h q c = zeros-after n l (listed-not_40 (refused n l) h n l refl) c
+refused-zeros (accepted p) h q c = absurd (true≢false q)
+
+told-accepted : (x : spec.Loaded) → is_ok (told x) ≡ true → (p : Program) × (x ≡ accepted p)
+told-accepted (refused n l) h = absurd (true≢false (sym h))
+told-accepted (accepted p) h = (p, refl)
 
 -- what load leaves depends on the cells beyond a table alone
 beyond-only : (x : spec.Loaded) → Listed text_refusals x → (c d : List ℕ) → drop limit.table d ≡ drop limit.table c → table_after x d ≡ table_after x c
@@ -61,30 +66,32 @@ beyond-only (accepted p) h c d e = ap (λ (x : List ℕ). table_cells p ++ x) e
 
 module _ (s c : List ℕ) where
   -- "Table long enough, text short enough? 40"; "After 40 the table stays"
-  no-load : load_in (length c) s ≡ refused 40 0 → {r : Loaded} → r.number ≡ 40 → r.line ≡ 0 → Loads s c r c
+  abbrev unasked : Loaded
+  unasked = Err (record { number = 40; line = 0 })
+
+  no-load : load_in (length c) s ≡ refused 40 0 → Loads s c unasked c
   unfolding table_after
-  no-load e x y =
+  no-load e =
       record {
-        number_is = x ∙ sym (ap load_number e);
-        line_is = y ∙ sym (ap load_line e);
+        is = sym (ap told e);
         cells_are = sym (ap (λ t. table_after t c) e);
       }
 
-  pub short-table : length c < limit.table → {r : Loaded} → r.number ≡ 40 → r.line ≡ 0 → Loads s c r c
+  pub short-table : length c < limit.table → Loads s c unasked c
   unfolding load_in
-  short-table l x y = no-load (rw (lt-leb limit.table (length c) l) refl) x y
+  short-table l = no-load (rw (lt-leb limit.table (length c) l) refl)
 
-  pub long_text : limit.table ≤ length c → limit.text < length s → {r : Loaded} → r.number ≡ 40 → r.line ≡ 0 → Loads s c r c
+  pub long_text : limit.table ≤ length c → limit.text < length s → Loads s c unasked c
   unfolding load_in
-  long_text l m x y = no-load (rw (le-leb limit.table (length c) l, lt-leb (length s) limit.text m) refl) x y
+  long_text l m = no-load (rw (le-leb limit.table (length c) l, lt-leb (length s) limit.text m) refl)
 
   -- one of them, or neither
-  pub not-fit : (ltb (length c) limit.table || ltb limit.text (length s)) ≡ true → {r : Loaded} → r.number ≡ 40 → r.line ≡ 0 → Loads s c r c
-  not-fit h {r} x y = go (ltb (length c) limit.table) refl h
+  pub not-fit : (ltb (length c) limit.table || ltb limit.text (length s)) ≡ true → Loads s c unasked c
+  not-fit h = go (ltb (length c) limit.table) refl h
     where
-      go : (b : Bool) → ltb (length c) limit.table ≡ b → (b || ltb limit.text (length s)) ≡ true → Loads s c r c
-      go true e z = short-table (ltb-true (length c) limit.table e) x y
-      go false e z = long_text (ltb-false (length c) limit.table e) (ltb-true limit.text (length s) z) x y
+      go : (b : Bool) → ltb (length c) limit.table ≡ b → (b || ltb limit.text (length s)) ≡ true → Loads s c unasked c
+      go true e z = short-table (ltb-true (length c) limit.table e)
+      go false e z = long_text (ltb-false (length c) limit.table e) (ltb-true limit.text (length s) z)
 
   pub fit_both : (ltb (length c) limit.table || ltb limit.text (length s)) ≡ false → Fit s c
   fit_both h = go (ltb (length c) limit.table) refl h
@@ -99,8 +106,7 @@ module _ {s c : List ℕ} (f : Fit s c) where
   answers : {x : spec.Loaded} → load_in (length c) s ≡ x → {r : Loaded} {d : List ℕ} → Leaves x c r d → Loads s c r d
   answers e k =
       record {
-        number_is = k.number_is ∙ sym (ap load_number e);
-        line_is = k.line_is ∙ sym (ap load_line e);
+        is = k.is ∙ sym (ap told e);
         cells_are = k.cells_are ∙ sym (ap (λ t. table_after t c) e);
       }
 
@@ -113,14 +119,14 @@ module _ {s c : List ℕ} (f : Fit s c) where
     loads-plain h = answers (plain-loads (length c) s f.long f.short h) k
 
     -- and there is none in a text that is accepted as it stands
-    pub loads-accepted : r.number ≡ 80 → Loads s c r d
+    pub loads-accepted : is_ok r ≡ true → Loads s c r d
     loads-accepted h =
-        let a = listed-accepted (load_typed s) typed-listed (sym k.number_is ∙ h) in
+        let a = told-accepted (load_typed s) (ap is_ok (sym k.is) ∙ h) in
         loads-plain (accepted-plain s (lines_of s) (last_place s) a.0 a.1)
 
-    module _ (no-80 : r.number ≡ 80 → ⊥) where
+    module _ (not_ok : is_ok r ≡ false) where
       zeros-left : d ≡ replicate limit.table 0 ++ drop limit.table c
-      zeros-left = k.cells_are ∙ refused-zeros (load_typed s) typed-listed (λ h. no-80 (k.number_is ∙ h)) c
+      zeros-left = k.cells_are ∙ refused-zeros (load_typed s) typed-listed (ap is_ok (sym k.is) ∙ not_ok) c
 
       beyond-left : drop limit.table d ≡ drop limit.table c
       beyond-left = ap (drop limit.table) zeros-left ∙ zeros-dropped limit.table (drop limit.table c)
@@ -137,8 +143,7 @@ module _ {s c : List ℕ} (f : Fit s c) where
       loads-written w =
           answers (load-asked (length c) s f.long f.short)
           (record {
-            number_is = w.number_is;
-            line_is = w.line_is;
+            is = w.is;
             cells_are = w.cells_are ∙ beyond-only (loaded (prepared s)) (loaded-listed s f.short) c d beyond-left;
           })
 
@@ -146,14 +151,13 @@ module _ {s c : List ℕ} (f : Fit s c) where
 
 module _ {s c : List ℕ} (h : Rewritable s c) {p : Result ℕ Unfit} {o ls ms : List ℕ} (k : Prepares s p o ls ms) where
   -- not made ready: the table is zeros already
-  pub unfit-leaves : (u : Unfit) → p ≡ Err u → {r : Loaded} → r.number ≡ u.number → r.line ≡ u.line → Leaves (loaded (prepared s)) c r c
+  pub unfit-leaves : (u : Unfit) → p ≡ Err u → Leaves (loaded (prepared s)) c (Err (record { number = u.number; line = u.line })) c
   unfolding loaded
-  unfit-leaves u e x y =
+  unfit-leaves u e =
       let q : prepared s ≡ unfit u.number u.line = sym k.is ∙ ap (λ t. made t o ls) e in
       let a : loaded (prepared s) ≡ refused u.number u.line = ap loaded q in
       record {
-        number_is = x ∙ sym (ap load_number a);
-        line_is = y ∙ sym (ap load_line a);
+        is = sym (ap told a);
         cells_are =
             sym (take-append-drop limit.table c)
             ∙ ap (λ (x : List ℕ). x ++ drop limit.table c) h.zeros

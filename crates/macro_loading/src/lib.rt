@@ -7,7 +7,7 @@ ghost use Rattle.macros.specs.Load.{loaded};
 ghost use Rattle.macros.specs.Prepared.{prepared};
 
 use language::Machine;
-use loading::Loaded;
+use loading::{Loaded, Rejected};
 use macro_code::CodePlaces;
 
 // A text with macros: its written-out text is loaded, with the lines of the given one. The table's cells are zeros. The row of cells serves for
@@ -19,11 +19,12 @@ fn load_written(text: &[u8], table: &mut [u32]) -> Loaded
     let mut out = [0u8; Machine::TEXT];
     let mut lines = [0u16; Machine::TEXT];
     let mut code = [0u32; CodePlaces::CELLS];
+    // No `?`: the refusals of `macro_preparing` have a type of its own, and `From` would stand in a crate that has neither.
     match macro_preparing::prepare(text, &mut out, &mut lines, &mut code) {
-        Err(unfit) => Loaded {
+        Err(unfit) => Err(Rejected {
             number: unfit.number,
             line: unfit.line,
-        },
+        }),
         Ok(n) => {
             let names = &mut code[..Machine::TEXT];
             loading::load_lined(&out[..n], &lines[..n], names, table)
@@ -36,13 +37,13 @@ pub fn load(text: &[u8], table: &mut [u32]) -> Loaded
     ensures { Loads text.now table.old result table.new }
 {
     if (table.len() < Machine::TABLE) | (Machine::TEXT < text.len()) {
-        return Loaded {
+        return Err(Rejected {
             number: 40,
             line: 0,
-        };
+        });
     }
     let typed = loading::load_typed(text, table);
-    if typed.number == 80 {
+    if typed.is_ok() {
         return typed;
     }
     if !macro_marks::has_macros(text) {

@@ -1,7 +1,9 @@
 -- Whether a text has macros, from item to item.
-use mathlib.Core.Path.{◌≡◌, refl, ap, sym, ◌∙◌}
+use mathlib.Core.Path.{◌≡◌, refl, ap, sym, subst, ◌∙◌}
 use mathlib.Core.Bool.{Bool, true, false, ◌&&◌, ◌||◌}
 use mathlib.Core.List.{List}
+use Rattle.std.specs.Prelude.{Some, None}
+use Rattle.std.proofs.lemmas.Option.{none-some, same_Some}
 use Prim.Native.Nat.{ℕ, ◌≤◌}
 use native.Mathlib.Omega.{arith}
 use lib.Dec.{eqb}
@@ -13,8 +15,16 @@ use Rattle.lists.specs.Lists.{any, among}
 use Rattle.lists.specs.Quoted.{bytes}
 use Rattle.macros.specs.Marks.{byte_at, has_macros}
 use Rattle.syntax.specs.Items.Sort.{wrong}
-use Rattle.macro_marks.specs.Parts.{items_from, is_macros, Plain}
+use Rattle.macro_marks.specs.Parts.{items_from, is_macros, Plain, ItemAt, NextItem}
 use Rattle.macro_marks.specs.ItemLaws.{none_here, item-here}
+
+-- the next item, or none
+pub nothing_next : {s : List ℕ} {n : ℕ} {t : Token} → TokenAt s n t → t.sort ≡ 0 → NextItem s n None
+nothing_next {s} {n} {t} k z = record { none = λ e. record { token = t; found = k; none = z }; some = λ x e. absurd (none-some x e) }
+
+pub item-next : {s : List ℕ} {n : ℕ} {t : Token} → TokenAt s n t → (t.sort ≡ 0 → ⊥) → NextItem s n (Some t)
+item-next {s} {n} {t} k z =
+    record { none = λ e. absurd (none-some t (sym e)); some = λ x e. subst (λ (u : Token). ItemAt s n u) (same_Some t x e) (record { found = k; there = z }) }
 
 -- none stands before place n
 pub record Seeking (s : List ℕ) (n : ℕ) : Type 0 where

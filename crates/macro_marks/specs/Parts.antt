@@ -2,7 +2,7 @@
 use Rattle.std.specs.Prelude.{◌≡◌, Bool, cond, ◌&&◌, ◌||◌, List, [], ◌∷◌, ℕ, ◌+◌, ◌≤◌, Option, Some, None, eqb, length, take, drop}
 use Rattle.language.specs.Program.{identifier}
 use Rattle.lexer.specs.declared.Token.{Token}
-use Rattle.lexer.specs.Tokens.{chars_of, Stands}
+use Rattle.lexer.specs.Tokens.{chars_of, Stands, TokenAt}
 use Rattle.lists.specs.Lists.{any, among, bytes_equal}
 use Rattle.lists.specs.Quoted.{bytes}
 use Rattle.macros.specs.Marks.{byte_at}
@@ -135,3 +135,18 @@ pub record Joinable (s : List ℕ) (h : ℕ) (t : Token) : Type 0 where
 pub record JoinableIn (s : List ℕ) (c : ListPart) (t : Token) : Type 0 where
   pub stands : Stands s t
   pub within : Within s c
+
+-- no item stands from place n on: the token there says so
+pub record NoItem (s : List ℕ) (n : ℕ) : Type 0 where
+  pub token : Token
+  pub found : TokenAt s n token
+  pub none : token.sort ≡ 0
+
+-- the token t of the first item from place n on
+pub record ItemAt (s : List ℕ) (n : ℕ) (t : Token) : Type 0 where
+  pub found : TokenAt s n t
+  pub there : t.sort ≡ 0 → ⊥
+
+pub record NextItem (s : List ℕ) (n : ℕ) (r : Option Token) : Type 0 where
+  pub none : r ≡ None → NoItem s n
+  pub some : (t : Token) → r ≡ Some t → ItemAt s n t

@@ -6,7 +6,7 @@ ghost use Rattle.lexer.specs.Tokens.{chars_of, Stands};
 ghost use Rattle.lists.specs.Lists.{ahead, any, among, bytes_equal};
 ghost use Rattle.lists.specs.Quoted.{bytes};
 ghost use Rattle.macros.specs.Marks.{byte_at, has_macros, marked};
-ghost use Rattle.macro_marks.specs.Parts.{ended, opened, closed, passed, part_behind, begins_mark, Plain, parameters, parameters_of, joined, Joinable, JoinableIn};
+ghost use Rattle.macro_marks.specs.Parts.{ended, opened, closed, passed, part_behind, begins_mark, Plain, parameters, parameters_of, joined, NextItem, Joinable, JoinableIn};
 
 use lexer::{Token, item_at};
 use scanner::{END, NOTHING, WORD, WRONG, word_end};
@@ -74,21 +74,30 @@ fn is_mark(sort: u8, b: u8) -> bool
     sort == WRONG && is_star_or_bracket(b)
 }
 
+// The next item from place `n` on, if there is one.
+pub fn next_item(text: &[u8], n: usize) -> Option<Token>
+    requires { n ≤ length text.now }
+    ensures { NextItem text.now n result }
+{
+    let t = item_at(text, n);
+    if t.sort == NOTHING {
+        return None;
+    }
+    Some(t)
+}
+
 // Whether a star or a round bracket stands outside texts and comments.
 pub fn has_macros(text: &[u8]) -> bool
     ensures { result ≡ has_macros text.now }
 {
     let mut n: usize = 0;
-    loop {
-        let t = item_at(text, plain_end(text, n));
-        if t.sort == NOTHING {
-            return false;
-        }
+    while let Some(t) = next_item(text, plain_end(text, n)) {
         if is_mark(t.sort, byte_at(text, t.at)) {
             return true;
         }
         n = t.next;
     }
+    false
 }
 
 // The part behind the end of a statement,
@@ -169,11 +178,7 @@ fn is_parameter(text: &[u8], header: usize, name: &[u8]) -> bool
 {
     let mut named = false;
     let mut n = header;
-    loop {
-        let t = item_at(text, n);
-        if t.sort == NOTHING {
-            return false;
-        }
+    while let Some(t) = next_item(text, n) {
         if ends_header(t.sort, byte_at(text, t.at)) {
             return false;
         }
@@ -183,6 +188,7 @@ fn is_parameter(text: &[u8], header: usize, name: &[u8]) -> bool
         named |= WORD == t.sort;
         n = t.next;
     }
+    false
 }
 
 // In the body of the macro whose header begins at `header`: the place behind the parameter that an apostrophe joins to a token.
@@ -226,11 +232,7 @@ pub fn mark_joins(text: &[u8], out: &mut [u8])
     out.copy_from_slice(text);
     let mut p = ListPart::Before;
     let mut n = 0;
-    loop {
-        let t = item_at(text, n);
-        if t.sort == NOTHING {
-            return;
-        }
+    while let Some(t) = next_item(text, n) {
         let joined = joined(text, p, t);
         p = part_behind(p, t.sort, byte_at(text, t.at), t.next);
         n = t.next;

@@ -5,22 +5,22 @@ use Rattle.macros.specs.Expansion.{Writing, places_of, filled_in, levels}
 use Rattle.macro_code.specs.Code.{call_in, arguments_in}
 use Rattle.statements.specs.Faults.{lower}
 use Rattle.statements.specs.StatementAt.{fault_of}
-use Rattle.statements.specs.declared.Fault as told
-use Rattle.statements.specs.declared.Fault.TheVariants.{Clear, At}
+use Rattle.statements.specs.Faults as told
+use Rattle.std.specs.Prelude.{None, Some}
 use Rattle.macro_values.specs.declared.Written.{Written}
 use Rattle.macro_values.specs.WritingLaws.{lower-assoc}
 use Rattle.macro_values.specs.Wrote.{is_over, size_of, Wrote}
 use Rattle.macro_memory.specs.Memory.{slot_size, body_cell, around_cells, slot_at, Absorbed, slot_writes, Remembers}
 
 lower-twice : (a : told.Fault) → lower a a ≡ a
-lower-twice Clear = refl
-lower-twice (At p) = ap At (omega arith)
+lower-twice None = refl
+lower-twice (Some p) = ap Some (omega arith)
 
 lower-other : (a b : told.Fault) → lower a b ≡ lower b a
-lower-other Clear Clear = refl
-lower-other Clear (At q) = refl
-lower-other (At p) Clear = refl
-lower-other (At p) (At q) = ap At (omega arith)
+lower-other None None = refl
+lower-other None (Some q) = refl
+lower-other (Some p) None = refl
+lower-other (Some p) (Some q) = ap Some (omega arith)
 
 fault-again : (v r x : told.Fault) → r ≡ lower v x → lower r x ≡ r
 fault-again v r x e = ap (λ y. lower y x) e ∙ lower-assoc v x x ∙ ap (lower v) (lower-twice x) ∙ sym e

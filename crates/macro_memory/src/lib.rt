@@ -8,7 +8,7 @@ ghost use Rattle.macro_code.specs.Places.{half};
 ghost use Rattle.macros.specs.Expansion.{filled_in, levels};
 ghost use Rattle.macro_memory.specs.Memory.{reach, slots, memory, Lookable, Alike, Found, Stored};
 
-use macro_code::CodePlaces;
+use macro_code::{CodePlaces, Coded};
 use macro_values::{Around, Written, argument_cell, cell_at};
 
 // "From level 1 to 16 at most".
@@ -59,7 +59,7 @@ pub struct Entered {
 // Whether two arguments, the other one within other calls, stand for the same bytes. Those that have no room are taken for different ones.
 fn same_given(here: &Around, others: &[u32], pair: Pair, row: &mut [u8]) -> bool
     requires { (pair.one < far) × (pair.other < far) × (length row.old < half) }
-    ensures { result ≡ true → filled_in (arguments_in here.now.text.now here.now.code.now here.now.calls.now here.now.depth) (given_in here.now.text.now here.now.code.now pair.one) ≡ filled_in (arguments_in here.now.text.now here.now.code.now others.now here.now.depth) (given_in here.now.text.now here.now.code.now pair.other) }
+    ensures { result ≡ true → filled_in (arguments_in here.now.coded.text.now here.now.coded.code.now here.now.calls.now here.now.depth) (given_in here.now.coded.text.now here.now.coded.code.now pair.one) ≡ filled_in (arguments_in here.now.coded.text.now here.now.coded.code.now others.now here.now.depth) (given_in here.now.coded.text.now here.now.coded.code.now pair.other) }
 {
     let there = Around {
         calls: others,
@@ -76,10 +76,10 @@ fn same_given(here: &Around, others: &[u32], pair: Pair, row: &mut [u8]) -> bool
 // Whether two calls, the other one within other calls, have the same arguments.
 fn same_arguments(here: &Around, others: &[u32], pair: Pair, row: &mut [u8]) -> bool
     requires { (pair.one < reach) × (pair.other < reach) × (length row.old < half) }
-    ensures { result ≡ true → Alike here.now.text.now here.now.code.now here.now.calls.now others.now here.now.depth pair.one pair.other }
+    ensures { result ≡ true → Alike here.now.coded.text.now here.now.coded.code.now here.now.calls.now others.now here.now.depth pair.one pair.other }
 {
-    let n = macro_code::low(here.code, pair.one + CodePlaces::KIND);
-    if n != macro_code::low(here.code, pair.other + CodePlaces::KIND) {
+    let n = here.coded.low(pair.one + CodePlaces::KIND);
+    if n != here.coded.low(pair.other + CodePlaces::KIND) {
         return false;
     }
     for k in 0..n {
@@ -112,7 +112,7 @@ fn print_of(here: &Around, row: &mut [u8], at: Entered) -> usize
 {
     let mut w = Written::nothing();
     let mut n = 0;
-    for k in 0..macro_code::low(here.code, at.cell + CodePlaces::KIND) {
+    for k in 0..here.coded.low(at.cell + CodePlaces::KIND) {
         w = here.write_given(argument_cell(at.cell, k), row, w);
         n = w.count.unwrap_or(n);
     }
@@ -122,7 +122,7 @@ fn print_of(here: &Around, row: &mut [u8], at: Entered) -> usize
 // Whether a slot has a call of the same macro, levels and arguments.
 fn is_in(here: &Around, row: &mut [u8], at: Entered, slot: usize) -> bool
     requires { Lookable at here.now row.old × (slot < slots) }
-    ensures { result ≡ true → Found here.now.text.now here.now.code.now here.now.calls.now at.left at.cell at.body }
+    ensures { result ≡ true → Found here.now.coded.text.now here.now.coded.code.now here.now.calls.now at.left at.cell at.body }
 {
     let place = LEVELS + SLOT_SIZE * slot;
     if cell_at(here.calls, place) != at.left {
@@ -142,7 +142,7 @@ fn is_in(here: &Around, row: &mut [u8], at: Entered, slot: usize) -> bool
 // Whether a slot of its group has it. A slot with another number is passed over.
 fn look(here: &Around, row: &mut [u8], at: Entered) -> bool
     requires { Lookable at here.now row.old }
-    ensures { result ≡ true → Found here.now.text.now here.now.code.now here.now.calls.now at.left at.cell at.body }
+    ensures { result ≡ true → Found here.now.coded.text.now here.now.coded.code.now here.now.calls.now at.left at.cell at.body }
 {
     let print = print_of(here, row, at);
     let first = GROUP * (print / SHARE);
@@ -159,7 +159,7 @@ fn look(here: &Around, row: &mut [u8], at: Entered) -> bool
 // Whether a call within the nested calls is remembered.
 pub fn is_remembered(here: &Around, at: Entered) -> bool
     requires { (at.cell < reach) × (1 ≤ at.left) × (at.left + here.now.depth ≡ levels) × (at.body < half) × (memory ≤ length here.now.calls.now) }
-    ensures { result ≡ true → Found here.now.text.now here.now.code.now here.now.calls.now at.left at.cell at.body }
+    ensures { result ≡ true → Found here.now.coded.text.now here.now.coded.code.now here.now.calls.now at.left at.cell at.body }
 {
     let mut row = [0u8; ROOM];
     look(here, &mut row, at)
@@ -190,30 +190,29 @@ fn store(calls: &mut [u32], left: usize, body: usize, print: usize)
 }
 
 // The number of the innermost of the nested calls.
-fn innermost_print(text: &[u8], code: &[u32], calls: &[u32], left: usize, body: usize) -> usize
+fn innermost_print(coded: &Coded, calls: &[u32], left: usize, body: usize) -> usize
     requires { (1 ≤ left) × (left ≤ levels) × (body < half) × (memory ≤ length calls.now) }
     ensures { result < half }
 {
     let depth = LEVELS - left;
     let at = Entered {
         cell: cell_at(calls, depth),
-        left: left,
-        body: body,
+        left,
+        body,
     };
     let here = Around {
-        text: text,
-        code: code,
-        calls: calls,
-        depth: depth,
+        coded: *coded,
+        calls,
+        depth,
     };
     print_of(&here, &mut [0u8; ROOM], at)
 }
 
 // Remembers the innermost of the nested calls, with so many levels left around it, and the cell of its macro.
-pub fn remember(text: &[u8], code: &[u32], calls: &mut [u32], left: usize, body: usize)
+pub fn remember(coded: &Coded, calls: &mut [u32], left: usize, body: usize)
     requires { (1 ≤ left) × (left ≤ levels) × (body < half) × (memory ≤ length calls.old) }
     ensures { Stored calls.old calls.new left body }
 {
-    let print = innermost_print(text, code, calls, left, body);
+    let print = innermost_print(coded, calls, left, body);
     store(calls, left, body, print);
 }

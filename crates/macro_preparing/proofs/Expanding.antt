@@ -27,8 +27,7 @@ use Rattle.macro_values.specs.Wrote.{is_over, size_of, Wrote}
 use Rattle.statements.specs.FaultLaws.{first_no-both}
 use Rattle.statements.specs.Faults.{lower, decided, verdict_of, then}
 use Rattle.statements.specs.StatementAt.{fault_of}
-use Rattle.statements.specs.declared.Verdict as told
-use Rattle.statements.specs.declared.Verdict.TheVariants.{Yes}
+use Rattle.statements.specs.Faults as told
 use Rattle.syntax.specs.Items.{line_of}
 use Rattle.syntax.specs.Verdict.{Verdict, first_no}
 use Rattle.syntax.specs.Verdict.Verdict.{yes, refuse}
@@ -131,7 +130,7 @@ module _ {s c f h : List ℕ} {r : Reading} (y : RowsRead s c f h r) {w : Writte
         (none_deep q) (le-ltb (length o) (0 + length (expand (listed s) levels [] (section_of s)).bytes) (omega (arith, l, room)))
 
     module _ (v : told.Verdict) (e : verdict_of v ≡ then (decided 64 (lower r.form (lower r.typed.unknown w.state.unknown))) (then (decided 65 (lower r.typed.uneven w.state.uneven)) (decided 66 w.long))) where
-      pub expands : v ≡ Yes → Expanded s (size_of w.state) p m
+      pub expands : v ≡ Ok tt → Expanded s (size_of w.state) p m
       expands q =
           let y : first_no (macro_questions s) ≡ yes = sym (all_asked v e) ∙ ap verdict_of q in
           record {
@@ -172,10 +171,10 @@ module _ {s o ls c : List ℕ} (p : Preparable s o ls c) (v : told.Verdict) (w :
           code_size = j;
         }
 
-    pub refuses : {u : Unfit} → v ≡ Yes → Refused s (first_no (macro_questions s)) u → Prepares s (Err u) m ms d
+    pub refuses : {u : Unfit} → v ≡ Ok tt → Refused s (first_no (macro_questions s)) u → Prepares s (Err u) m ms d
     refuses y f =
         record { is = written-unfit m ms f ∙ sym (prepared-whole s p.macros (sym w ∙ ap verdict_of y)); fits = omega arith; size = l; lines_size = k; code_size = j }
 
-    pub prepares : {n : ℕ} {ps : List ℕ} → v ≡ Yes → Expanded s n m ps → Lines s ps n ms → Prepares s (Ok n) m ms d
+    pub prepares : {n : ℕ} {ps : List ℕ} → v ≡ Ok tt → Expanded s n m ps → Lines s ps n ms → Prepares s (Ok n) m ms d
     prepares y x f =
         record { is = written-ready x f ∙ sym (prepared-whole s p.macros (sym w ∙ ap verdict_of y)); fits = x.most; size = l; lines_size = k; code_size = j }

@@ -19,7 +19,7 @@ use Rattle.macro_calls.specs.KeptLaws.{macros-kept}
 use Rattle.macro_calls.specs.declared.Faults.{Faults}
 use Rattle.macro_code.specs.Code.{macro_in, macros_in, body_in}
 use Rattle.macro_code.specs.Places as place
-use Rattle.macro_section.specs.Below.Expanding.{ShortNames}
+use Rattle.macro_section.specs.Below.Known.{ShortNames}
 use Rattle.macro_reading.specs.Whole.{MacrosRead}
 use Rattle.macro_reading.specs.declared.Listing.{Listing}
 use Rattle.macro_section.specs.Long.{Steady}

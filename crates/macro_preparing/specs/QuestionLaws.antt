@@ -20,7 +20,7 @@ use Rattle.macro_values.specs.declared.Written.{Written}
 use Rattle.statements.specs.FaultLaws.{fault-both, then-yes}
 use Rattle.statements.specs.Faults.{lower, decided, then}
 use Rattle.statements.specs.StatementAt.{fault_of}
-use Rattle.statements.specs.declared.Fault.{Fault}
+use Rattle.statements.specs.Faults.{Fault}
 use Rattle.syntax.specs.Verdict.{Verdict, decide, first_no}
 use Rattle.syntax.specs.Verdict.Verdict.{yes}
 

@@ -1,6 +1,6 @@
 -- What the functions that fill the rows ask and promise.
 use Rattle.std.specs.Result.{MatchResult}
-use Rattle.std.specs.Prelude.{Result, ◌≡◌, true, List, [], ◌++◌, map, ℕ, ◌+◌, ◌*◌, ◌≤◌, ◌<◌, length, get_or, take, drop}
+use Rattle.std.specs.Prelude.{Result, ◌≡◌, true, List, [], ◌++◌, map, ℕ, ◌+◌, ◌*◌, ◌≤◌, ◌<◌, length, get_or, take, drop, Ok}
 use Rattle.language.specs.Limits as limit
 use Rattle.lists.specs.Lists.{each}
 use Rattle.macros.specs.Elements.{elements}
@@ -13,13 +13,12 @@ use Rattle.macro_calls.specs.Calls.{Told}
 use Rattle.macro_code.specs.Code.{high, change_count, first_change, changes_in, body_in, macros_in}
 use Rattle.macro_code.specs.Known.{Singles, Heights}
 use Rattle.macro_code.specs.Places as place
-use Rattle.macro_section.specs.Below.Expanding.{Known}
+use Rattle.macro_section.specs.Below.Known.{Known}
 use Rattle.macro_section.specs.Long.{Steady}
 use Rattle.statements.specs.Faults.{verdict_of}
 use Rattle.statements.specs.StatementAt.{fault_of}
 use Rattle.syntax.specs.Items.{line_of}
-use Rattle.statements.specs.declared.Verdict as told
-use Rattle.statements.specs.declared.Verdict.TheVariants.{Yes}
+use Rattle.statements.specs.Faults as told
 use Rattle.syntax.specs.Verdict.{Verdict, first_no}
 use Rattle.syntax.specs.Verdict.Verdict.{yes, refuse}
 use Rattle.macro_preparing.specs.declared.Unfit.{Unfit}
@@ -102,7 +101,7 @@ pub record Refused (s : List ℕ) (v : Verdict) (u : Unfit) : Type 0 where
   pub line_is : u.line ≡ line_of s at
 
 abbrev pub Answered : List ℕ → told.Verdict → Result Unit Unfit → Type 0
-Answered s v r = MatchResult r (λ _. v ≡ Yes) (Refused s (verdict_of v))
+Answered s v r = MatchResult r (λ _. v ≡ Ok tt) (Refused s (verdict_of v))
 
 abbrev pub Expands : List ℕ → Result ℕ Unfit → List ℕ → List ℕ → Type 0
 Expands s r o ps = MatchResult r (λ n. Expanded s n o ps) (Refused s (first_no (macro_questions s)))

@@ -11,8 +11,9 @@ ghost use Rattle.macro_preparing.specs.Preparing.{Preparable, Prepares};
 ghost use Rattle.macro_preparing.specs.Rows.{Markable, MarkedRow, Readable, Puttable, Puts, Tabled, Tables, RowsLent, RowsRead, Unexpanded, Expands, Answered, Places, Lines, Unwritten};
 
 use language::Machine;
-use macro_calls::{Faults, find_singles, typed_faults};
-use macro_code::CodePlaces;
+use macro_calls::{Faults, Listed, find_singles, typed_faults};
+use macro_code::{CodePlaces, Coded};
+use macro_elements::Source;
 use macro_heights::find_heights;
 use macro_lines::{find_lines, line_of};
 use macro_marks::mark_joins;
@@ -71,7 +72,7 @@ fn read_marked(text: &[u8], out: &[u8], code: &mut [u32], names: &mut [u16]) -> 
     ensures { MacrosRead text.now code.new names.new result }
 {
     let marked = &out[..text.len()];
-    read_macros(text, marked, code, names)
+    read_macros(&Source { text, marked }, code, names)
 }
 
 // The first `count` numbers of a row, into rows from `at` on.
@@ -84,23 +85,15 @@ fn put_row(rows: &mut [u8], at: usize, row: &[u8], count: usize)
 
 // Of each macro, its heights and whether it is the only one of its name, in one row. What the row `singles` held goes.
 // There is no heap, so a lent row of fixed size holds all three, end to end, and the count stands beside it.
-fn find_tables(
-    text: &[u8],
-    code: &[u32],
-    names: &[u16],
-    count: usize,
-    singles: &mut [u8],
-    heights: &mut [u8],
-)
-    requires { Tabled names.now count singles.old heights.old }
-    ensures { Tables text.now code.now names.now count heights.new }
+fn find_tables(list: &Listed, singles: &mut [u8], heights: &mut [u8])
+    requires { Tabled list.now.firsts.now list.now.count singles.old heights.old }
+    ensures { Tables list.now.coded.text.now list.now.coded.code.now list.now.firsts.now list.now.count heights.new }
 {
+    let count = list.count;
     let mut loose = [0u8; CodePlaces::MACROS];
-    find_singles(text, code, names, count, singles);
-    let hints = &names[count..];
-    find_heights(
-        text, code, names, count, singles, hints, heights, &mut loose,
-    );
+    find_singles(list, singles);
+    let hints = &list.firsts[count..];
+    find_heights(list, singles, hints, heights, &mut loose);
     put_row(heights, count, &loose, count);
     put_row(heights, count + count, singles, count);
 }
@@ -126,13 +119,19 @@ fn read_rows(
     ensures { RowsRead text.now code.new names.new heights.new result }
 {
     let r = read_marked(text, out, code, names);
-    let typed = typed_faults(text, code, names, r.count, r.section);
-    find_tables(text, code, names, r.count, out, heights);
+    let coded = Coded { text, code };
+    let typed = typed_faults(&coded, names, r.count, r.section);
+    let list = Listed {
+        coded,
+        firsts: names,
+        count: r.count,
+    };
+    find_tables(&list, out, heights);
     Reading {
         count: r.count,
         section: r.section,
         form: r.fault,
-        typed: typed,
+        typed,
     }
 }
 
@@ -142,10 +141,10 @@ fn answered(text: &[u8], v: Verdict) -> Result<(), Unfit>
     ensures { Answered text.now v result }
 {
     match v {
-        Verdict::Yes => Ok(()),
-        Verdict::No(number, at) => Err(Unfit {
-            number: number,
-            line: line_of(text, at) as u32,
+        Ok(()) => Ok(()),
+        Err(r) => Err(Unfit {
+            number: r.number,
+            line: line_of(text, r.at) as u32,
         }),
     }
 }
@@ -163,13 +162,12 @@ fn expand_in(
     ensures { Expands text.now result out.new places.new }
 {
     let k = read_rows(text, code, names, heights, out);
-    let list = Macros {
-        text: text,
-        code: code,
-        names: names,
-        heights: heights,
+    let listed = Listed {
+        coded: Coded { text, code },
+        firsts: names,
         count: k.count,
     };
+    let list = Macros { listed, heights };
     let w = write_section(&list, k.section, out, places);
     answered(text, ask_macros(k.form, k.typed, w))?;
     Ok(w.state.count.unwrap_or(0))

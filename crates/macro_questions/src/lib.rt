@@ -9,9 +9,9 @@ ghost use Rattle.statements.specs.Faults.{verdict_of};
 ghost use Rattle.syntax.specs.Verdict.{first_no};
 ghost use Rattle.macro_questions.specs.Whole.{Whole, judged_sort, judged_token};
 
-use lexer::{Token, item_at};
-use macro_marks::byte_at;
-use scanner::{COLON, NOTHING, WRONG};
+use lexer::Token;
+use macro_marks::{byte_at, next_item};
+use scanner::{COLON, WRONG};
 use statements::{CLEAN, Verdict, checked, worse};
 
 // Whether an item of this sort that begins with the byte `b` of the text is a star, a bracket or a joining apostrophe.
@@ -44,12 +44,9 @@ pub fn ask_whole(text: &[u8], marked: &[u8]) -> Verdict
 {
     let mut worst = CLEAN;
     let mut n: usize = 0;
-    loop {
-        let t = item_at(marked, n);
-        if t.sort == NOTHING {
-            return checked(worst);
-        }
+    while let Some(t) = next_item(marked, n) {
         worst = worse(worst, judged(t, byte_at(text, t.at)));
         n = t.next;
     }
+    checked(worst)
 }

@@ -7,45 +7,43 @@ use Rattle.std.proofs.lemmas.Option.{none-some, same_Some}
 use Prim.Native.Nat.{ℕ, zero, suc, ◌+◌, ◌-◌, ◌≤◌, ◌<◌}
 use native.Mathlib.Nat.{le_refl}
 use native.Mathlib.Omega.{arith}
-use lib.Dec.{eqb, ltb}
+use lib.Dec.{ltb}
 use lib.ListN.{length, take, drop}
 use borrow.Author.Tests.{ne_eqb, lt-ltb, ltb-true}
 use Rattle.layout.specs.Cells.{tab}
 use Rattle.lists.specs.Lists.{any, filled, if_any}
-use Rattle.statements.specs.declared.Fault.{Fault}
-use Rattle.statements.specs.declared.Fault.TheVariants.{Clear, At}
+use Rattle.statements.specs.Faults.{Fault}
+use Rattle.std.specs.Prelude.{None, Some}
 use Rattle.statements.specs.Faults.{lower}
 use Rattle.statements.specs.FaultLaws.{fault-both}
 use Rattle.statements.specs.StatementAt.{fault_of}
 use Rattle.macros.specs.Elements as spec
 use Rattle.macros.specs.Elements.{is_open, is_close, is_bracket, places_in, until, from}
 use Rattle.macros.specs.Macros.{Macro, header_words, header_faults, body_of, body_start, body_stop, macro_of, definition_faults}
-use Rattle.macros.proofs.PlainLaws.{equal}
 use Rattle.macros.specs.Pieces.{changes, form_faults, is_misplaced, pieces_from}
 use Rattle.macro_code.specs.Code.{bytes_at, macro_in}
 use Rattle.macro_changes.specs.Changing.{parameters_of, inside, behind, stop_of, changes_of, wrong_in}
-use Rattle.macro_changes.specs.declared.Scope.{Scope}
+use Rattle.macro_changes.specs.Changing.{Scope}
 use Rattle.macro_changes.proofs.Cells.{tab-cong, kept_on, kept-below, kept-agree, bytes-agree}
-use Rattle.macro_changes.proofs.Giving.{eqb_no, some-elements, no-elements}
-use Rattle.macro_changes.proofs.Searching.{from-off}
-use Rattle.macro_elements.specs.ElementAt.{elements_from, argument_value, NextElement}
+use Rattle.macro_changes.proofs.Giving.{first_forward}
+use Rattle.macro_elements.specs.ElementAt.{elements_from, argument_value, FirstElement}
 use Rattle.macro_elements.specs.declared.Element.{Element}
 use Rattle.macro_reading.specs.Bodies.{Bodied, BodyRead}
-use Rattle.macro_reading.specs.Headers.{word_cell, heading, bracketed, words_in, HeaderRead}
-use Rattle.macro_reading.specs.Definitions.{stretch, Definable, Defining, Defined}
+use Rattle.macro_reading.specs.Headers.{word_cell, heading, words_in, HeaderRead}
+use Rattle.macro_reading.specs.Definitions.{OpenAt, NextOpen, stretch, Definable, Defining, Defined}
 use Rattle.macro_reading.specs.declared.Definition.{Definition}
 use Rattle.macro_reading.specs.declared.Body.{Body}
 use Rattle.macro_reading.specs.declared.Header.{Header}
-use Rattle.macro_reading.proofs.Heading.{stretch-on}
+use Rattle.macro_reading.proofs.Heading.{whole-from}
 use Rattle.macro_reading.proofs.Stretching.{Opened, opened, unopened, until-stretch, from-stretch, any_found}
 
 none_left : (ts : List spec.Element) → filled ts ≡ false → filled (drop 1 ts) ≡ true → ⊥
 none_left [] e h = false≢true h
 none_left (t ∷ ts) e h = true≢false e
 
-lower-none : (f : Fault) → lower f Clear ≡ f
-lower-none Clear = refl
-lower-none (At z) = refl
+lower-none : (f : Fault) → lower f None ≡ f
+lower-none None = refl
+lower-none (Some z) = refl
 
 -- the words of a header in cells
 tab-rest : {X : Type 0} (k : ℕ) (f : ℕ → X) → drop 1 (tab k f) ≡ tab (k - 1) (λ j. f (suc j))
@@ -63,73 +61,61 @@ unfolding tab
 tab-filled zero f = refl
 tab-filled (suc k) f = sym (lt-ltb 0 (suc k) (omega arith))
 
+-- an opening bracket, or none
+pub open-on : {s : List ℕ} {n : ℕ} {t : Element} → FirstElement s n t → is_open (argument_value s t) ≡ true → NextOpen s n (Some t)
+open-on {s} {n} {t} k h =
+    record { none = λ e. absurd (none-some t (sym e)); some = λ x e. subst (λ (u : Element). OpenAt s n u) (same_Some t x e) (record { first = k; opens = h }) }
+
+pub open-off : {s : List ℕ} {n : ℕ} {t : Element} → FirstElement s n t → is_open (argument_value s t) ≡ false → NextOpen s n None
+open-off k h = record { none = λ e. ap (λ (ts : List spec.Element). if_any false is_open ts) k.is ∙ h; some = λ x e. absurd (none-some x e) }
+
 module _ {s m c : List ℕ} {n q : ℕ} (p : Definable s m c n q) where
-  module _ {d : List ℕ} {h : Header} (g : HeaderRead s c d n q h) {b : Element} (k : NextElement s h.next b) where
+  module _ {d : List ℕ} {h : Header} (g : HeaderRead s c d n q h) where
     abbrev us : List spec.Element
     us = elements_from s n
 
-    abbrev v : spec.Element
-    v = argument_value s b
-
-    from_is : bracketed s n ≡ from is_bracket (elements_from s h.next)
-    from_is = sym g.heads.rest
+    from_is : from is_bracket us ≡ elements_from s h.next
+    from_is = sym g.heads.rest ∙ whole-from is_bracket (elements_from s h.next) g.done
 
     -- no bracket opens a body
-    not-open : is_open v ≡ false → if_any false is_open (from is_bracket us) ≡ false
-    not-open o = ap (λ (ts : List spec.Element). if_any false is_open ts) from_is ∙ go (eqb b.sort 0) refl
-      where
-        go : (z : Bool) → eqb b.sort 0 ≡ z → if_any false is_open (from is_bracket (elements_from s h.next)) ≡ false
-        go true e = ap (λ (ts : List spec.Element). if_any false is_open (from is_bracket ts)) (no-elements k (equal b.sort 0 e))
-        go false e = goes (is_bracket v) refl
-          where
-            goes : (y : Bool) → is_bracket v ≡ y → if_any false is_open (from is_bracket (elements_from s h.next)) ≡ false
-            goes true f = ap (λ (ts : List spec.Element). if_any false is_open (from is_bracket ts)) (some-elements k (eqb_no b.sort 0 e)) ∙ ap (λ (ts : List spec.Element). if_any false is_open ts) (from-off is_bracket v (elements_from s b.next) f) ∙ o
-            goes false f = absurd (false≢true (ap filled (sym g.done ∙ stretch-on k is_bracket (rw e f))))
-
-    pub not-defined : is_open v ≡ false → Defined s c d n q None
+    pub not-defined : if_any false is_open (elements_from s h.next) ≡ false → Defined s c d n q None
     not-defined o =
         record {
           kept = g.heads.kept;
-          opened_is = sym (unopened us (not-open o)).bodiless_is;
+          opened_is = sym (unopened us (ap (λ (ts : List spec.Element). if_any false is_open ts) from_is ∙ o)).bodiless_is;
           defining = λ x e. absurd (none-some x e);
         }
 
-    module _ (o : is_open v ≡ true) where
-      some-there : b.sort ≡ 0 → ⊥
-      some-there z = false≢true ((rw z at o))
+    module _ {b : Element} (k : OpenAt s h.next b) where
+      abbrev v : spec.Element
+      v = argument_value s b
 
       abbrev rs : List spec.Element
       rs = elements_from s b.next
 
-      bracket-is : from is_bracket us ≡ v ∷ rs
-      bracket-is =
-          let q : is_bracket v ≡ true = rw o refl in
-          from_is ∙ ap (from is_bracket) (some-elements k some-there) ∙ from-off is_bracket v rs q
-
       op : Opened us v rs
-      op = opened us v rs bracket-is o
+      op = opened us v rs (from_is ∙ k.first.is) k.opens
 
       pub forward : h.next < b.next
-      forward = let z = k.some some-there in omega (arith, k.from)
+      forward = first_forward k.first
 
       abbrev X : Scope
-      X = record { params = q + 3; count = h.words - 1; closing = true }
+      X = Some (record { first = q + 3; count = h.words - 1 })
 
       pub bodied : Bodied s m d X q (b.at + 1) b.next
       bodied =
-          let y = k.some some-there in
+          let y = k.first.more in
           record {
             params_at = refl;
             reading =
                 record {
-                  lent = record { copy = p.lent.copy; size = p.lent.size; most = k.held.most };
-                  plain = λ e. absurd (true≢false e);
+                  lent = record { copy = p.lent.copy; size = p.lent.size; most = k.first.held.most };
                   few = omega (arith, g.heads.from, g.heads.most, p.lent.size);
                   scoped = le_refl (q + 3 + (h.words - 1));
                   room = omega (arith, forward, g.heads.from, p.paid, p.room, p.lent.size, g.heads.kept.size);
                   wide = omega (arith, p.wide, g.heads.kept.size);
                 };
-            starts = omega (arith, k.held.most);
+            starts = omega (arith, k.first.held.most);
           }
 
       abbrev W : List (List ℕ)

@@ -12,8 +12,8 @@ use lib.ListN.{length, get_or, set, length-set}
 use lib.Seq.{get_or-set_same, get_or-set_other}
 use Rattle.layout.specs.Cells.{tab}
 use Rattle.lists.specs.Lists.{each, filled}
-use Rattle.statements.specs.declared.Fault.{Fault}
-use Rattle.statements.specs.declared.Fault.TheVariants.{Clear}
+use Rattle.statements.specs.Faults.{Fault}
+use Rattle.std.specs.Prelude.{None}
 use Rattle.statements.specs.Faults.{lower}
 use Rattle.statements.specs.FaultLaws.{fault-both}
 use Rattle.statements.specs.StatementAt.{fault_of}
@@ -72,6 +72,11 @@ one-behind : (c : List ℕ) (i n : ℕ) → i ≤ behind_changes c (i + size_at 
 unfolding behind_changes
 one-behind c i n h = h
 
+-- a definition takes a byte at least, and two where it has a name
+pub step-least : (w : Bool) → 1 ≤ cond w 2 1
+step-least true = omega arith
+step-least false = omega arith
+
 or-true : (b : Bool) → (b || true) ≡ true
 or-true true = refl
 or-true false = refl
@@ -84,7 +89,7 @@ pub lies-on : {c : List ℕ} {a q r : ℕ} → Lies c a q → q ≤ r → Lies c
 lies-on h l = record { own = omega (arith, h.own); all_of_it = omega (arith, h.all_of_it) }
 
 module _ {s m c firsts : List ℕ} {n : ℕ} (p : Listable s m c firsts n) where
-  pub listing_none : Listing s c firsts c firsts n n 0 0 false Clear
+  pub listing_none : Listing s c firsts c firsts n n 0 0 false None
   unfolding macros_in tab
   listing_none =
       record {
@@ -141,11 +146,7 @@ module _ {s m c firsts : List ℕ} {n : ℕ} (p : Listable s m c firsts n) where
       few = h.counted_more (some-there (elements_from s i) with-body)
 
       pub below : k < length f
-      below = omega (arith, few, z.from_here, z.most, least r.named, p.lent.size, p.macros_room, h.firsts_size)
-        where
-          least : (w : Bool) → 1 ≤ cond w 2 1
-          least true = omega arith
-          least false = omega arith
+      below = omega (arith, few, z.from_here, z.most, step-least r.named, p.lent.size, p.macros_room, h.firsts_size)
 
       abbrev f' : List ℕ
       f' = set f k q
@@ -195,18 +196,10 @@ module _ {s m c firsts : List ℕ} {n : ℕ} (p : Listable s m c firsts n) where
 
       paid-now : (w : Bool) → r.named ≡ w → cond w r.used q + 2 ≤ 2 * r.next
       paid-now true x = z.paid x
-      paid-now false x = omega (arith, h.paid, z.from_here, least r.named)
-        where
-          least : (w : Bool) → 1 ≤ cond w 2 1
-          least true = omega arith
-          least false = omega arith
+      paid-now false x = omega (arith, h.paid, z.from_here, step-least r.named)
 
       count-now : (w : Bool) → r.named ≡ w → (3 * (k + cond w 1 0) ≤ r.next + 1) × (filled (elements_from s r.next) ≡ true → 3 * (k + cond w 1 0) ≤ r.next)
-      count-now false x = (omega (arith, few, z.from_here, least r.named), λ c. omega (arith, few, z.from_here, least r.named))
-        where
-          least : (w : Bool) → 1 ≤ cond w 2 1
-          least true = omega arith
-          least false = omega arith
+      count-now false x = (omega (arith, few, z.from_here, step-least r.named), λ c. omega (arith, few, z.from_here, step-least r.named))
       count-now true x = (omega (arith, few, steps), λ c. let m = z.closed_more x c in omega (arith, few))
         where
           steps : i + 2 ≤ r.next

@@ -1,6 +1,6 @@
 -- The section, the list, and the whole text.
 use mathlib.Core.Path.{◌≡◌, refl, ap, sym, ◌∙◌}
-use mathlib.Core.Bool.{Bool, true, false, cond, not, ◌&&◌, ◌||◌, false≢true}
+use mathlib.Core.Bool.{Bool, true, false, cond, not, ◌&&◌, ◌||◌, true≢false, false≢true}
 use mathlib.Core.List.{List, [], ◌∷◌, ◌++◌, map, append-nil}
 use Prim.Native.Nat.{ℕ, ◌+◌, ◌≤◌, ◌<◌}
 use native.Mathlib.Nat.{le_refl}
@@ -8,10 +8,11 @@ use native.Mathlib.Omega.{arith}
 use lib.Dec.{eqb}
 use lib.ListN.{length, get_or, set, take, drop, length-set}
 use lib.Seq.{get_or-set_same, get_or-set_other}
-use borrow.Author.Tests.{eqb-true}
+use borrow.Author.Tests.{eq-eqb, ne_eqb, eqb-true}
+use Rattle.std.specs.Bool.{then_some}
 use Rattle.layout.specs.Cells.{tab}
 use Rattle.lists.specs.Lists.{any, each, filled, if_any, keep}
-use Rattle.statements.specs.declared.Fault.{Fault}
+use Rattle.statements.specs.Faults.{Fault}
 use Rattle.statements.specs.Faults.{lower}
 use Rattle.statements.specs.FaultLaws.{fault-both}
 use Rattle.statements.specs.StatementAt.{fault_of}
@@ -22,21 +23,22 @@ use Rattle.macros.specs.Pieces.{Change, section_changes, is_stray, form_faults}
 use Rattle.macro_code.specs.Code as code
 use Rattle.macro_code.specs.Code.{paired}
 use Rattle.macro_changes.specs.Changing.{ReadChanges, parameters_of, shuts, stop_of, changes_of, wrong_in}
-use Rattle.macro_changes.specs.declared.Scope.{Scope}
+use Rattle.std.specs.Prelude.{None}
+use Rattle.macro_changes.specs.Changing.{Scope}
 use Rattle.macro_changes.specs.declared.Step.{Step}
 use Rattle.macro_changes.proofs.Cells.{first_of, second-of, kept_set, kept_on, kept-below, changes-agree, changes-same, changes-more}
-use Rattle.macro_changes.proofs.Giving.{eqb_no, keep-first, some-elements, no-elements}
+use Rattle.macro_changes.proofs.Giving.{keep-first, one-fault}
 use Rattle.macro_changes.proofs.Searching.{until-on, from_on}
-use Rattle.macro_elements.specs.ElementAt.{elements_from, argument_value, Lent, NextElement}
+use Rattle.macro_elements.specs.ElementAt.{elements_from, argument_value, Lent, FirstElement}
 use Rattle.macro_elements.specs.declared.Element.{Element}
-use Rattle.macro_reading.specs.Definitions.{stretch, defined_in, last_in, after_in, Listable, DefinitionsRead}
+use Rattle.macro_reading.specs.Definitions.{OpenAt, stretch, defined_in, last_in, after_in, Listable, DefinitionsRead}
 use Rattle.macro_reading.specs.Sections.{outer_faults, Skips, FirstRead, Tailed, tail_faults, TailRead}
-use Rattle.macro_reading.specs.Whole.{SectionCells, Sectioned, SectionRead, gone, Puttable, Puts, follow_faults, Bracketed, list_at, list_stop, ListRead, LentRows, MacrosRead}
+use Rattle.macro_reading.specs.Whole.{SectionCells, Sectioned, SectionRead, gone, Puttable, Puts, follow_faults, Bracketed, list_from, list_at, list_stop, ListRead, LentRows, MacrosRead}
 use Rattle.macro_reading.specs.declared.Definitions.{Definitions}
 use Rattle.macro_reading.specs.declared.First.{First}
 use Rattle.macro_reading.specs.declared.Listing.{Listing}
 use Rattle.macro_reading.specs.declared.Tail.{Tail}
-use Rattle.macro_reading.proofs.Ending.{stopped, lower-clear}
+use Rattle.macro_reading.proofs.Ending.{end-sort, lower-clear}
 use Rattle.macro_reading.proofs.Enlisting.{listing-kept}
 use Rattle.macro_reading.proofs.Reading.{all-changes, fault-there, record_cells, span-there, counts-there, record-kept, above-there}
 use Rattle.macro_reading.proofs.Stretching.{defined-none, last-here, after-here}
@@ -52,7 +54,7 @@ none-behind (t ∷ ts) = from_on (shuts false) t ts refl ∙ none-behind ts
 
 module _ {s m c : List ℕ} {q before u n : ℕ} (p : Sectioned s m c q before u n) where
   abbrev X : Scope
-  X = record { params = q + 3; count = 0; closing = false }
+  X = None
 
   no-parameters : parameters_of s c X ≡ []
   unfolding tab
@@ -140,44 +142,25 @@ or-none true = refl
 or-none false = refl
 
 -- what follows the list
-pub follow-is : {s : List ℕ} {n : ℕ} {t : Element} (k : NextElement s n t) {r : Fault} {o : Bool} → o ≡ (eqb t.sort 0 || eqb t.sort 3) → r ≡ fault_of (cond (not o) (t.at ∷ []) [])
-    → r ≡ fault_of (follow_faults (elements_from s n))
-follow-is {s} {n} {t} k {r} {o} e f = f ∙ ap (λ (b : Bool). fault_of (cond (not b) (t.at ∷ []) [])) (e ∙ sym (stopped k refl ∙ refl)) ∙ go (eqb t.sort 0) refl
+pub follow-is : {s : List ℕ} {n : ℕ} {t : Element} → FirstElement s n t → {b : Bool} → b ≡ not (eqb t.sort 3) → then_some b t.at ≡ fault_of (follow_faults (elements_from s n))
+follow-is {s} {n} {t} k {b} e =
+    one-fault b t.at
+    ∙ ap (λ (z : Bool). fault_of (cond z (t.at ∷ []) [])) (e ∙ ap not (go (eqb t.sort 3) refl))
+    ∙ sym (ap (λ (ts : List spec.Element). fault_of (follow_faults ts)) k.is ∙ ap fault_of (keep-first (λ u. not (is_end u)) (argument_value s t) [] ∙ append-nil (cond (not (is_end (argument_value s t))) (t.at ∷ []) [])))
   where
-    v : spec.Element
-    v = argument_value s t
+    go : (z : Bool) → eqb t.sort 3 ≡ z → z ≡ is_end (argument_value s t)
+    go true y = sym (end-sort k ∙ eq-eqb 3 t.sort (sym (eqb-true t.sort 3 y)))
+    go false y = sym (end-sort k ∙ ne_eqb 3 t.sort (λ w. true≢false (sym (eq-eqb t.sort 3 (sym w)) ∙ y)))
 
-    go : (z : Bool) → eqb t.sort 0 ≡ z → fault_of (cond (not (eqb t.sort 0 || is_end (argument_value s t))) (t.at ∷ []) []) ≡ fault_of (follow_faults (elements_from s n))
-    go true y = ap (λ (b : Bool). fault_of (cond (not (b || is_end (argument_value s t))) (t.at ∷ []) [])) y ∙ sym (ap (λ (ts : List spec.Element). fault_of (follow_faults ts)) (no-elements k (eqb-true t.sort 0 y)))
-    go false y =
-        ap (λ (b : Bool). fault_of (cond (not (b || is_end (argument_value s t))) (t.at ∷ []) [])) y
-        ∙ sym (ap (λ (ts : List spec.Element). fault_of (follow_faults ts)) (some-elements k (eqb_no t.sort 0 y)) ∙ ap fault_of (keep-first (λ u. not (is_end u)) (argument_value s t) [] ∙ append-nil (cond (not (is_end (argument_value s t))) (t.at ∷ []) [])))
-
-module _ {s m c firsts : List ℕ} {n : ℕ} (p : Bracketed s m c firsts n) {t : Element} (k : NextElement s n t) where
-  abbrev v : spec.Element
-  v = argument_value s t
-
+module _ {s m c firsts : List ℕ} {t : Element} (p : Bracketed s m c firsts t) where
   abbrev us : List spec.Element
   us = elements_from s t.next
-
-  there : (eqb t.sort 0 ≡ false) × (is_open v ≡ true)
-  there = go (eqb t.sort 0) (ap (λ (ts : List spec.Element). if_any false is_open ts) (sym k.is) ∙ p.begins)
-    where
-      go : (z : Bool) → if_any false is_open (cond z [] (v ∷ us)) ≡ true → (z ≡ false) × (is_open v ≡ true)
-      go true e = absurd (false≢true e)
-      go false e = (refl, e)
-
-  all_there : elements_from s n ≡ v ∷ us
-  all_there = some-elements k (eqb_no t.sort 0 there.0)
-
-  pub list-more : n < t.next
-  list-more = let z = k.some (eqb_no t.sort 0 there.0) in omega (arith, k.from)
 
   pub listable : Listable s m c firsts t.next
   listable =
       record {
-        lent = record { copy = p.lent.copy; size = p.lent.size; most = k.held.most };
-        behind_bracket = omega (arith, list-more);
+        lent = record { copy = p.copy; size = p.held.small; most = p.held.most };
+        behind_bracket = omega (arith, p.more);
         room = p.room;
         wide = p.wide;
         macros_room = p.macros_room;
@@ -189,8 +172,8 @@ module _ {s m c firsts : List ℕ} {n : ℕ} (p : Bracketed s m c firsts n) {t :
         record {
           headable =
               record {
-                lent = record { copy = p.lent.copy; size = p.lent.size; most = a.lists.most };
-                room = omega (arith, a.lists.paid, a.lists.most, p.room, p.lent.size, a.lists.size);
+                lent = record { copy = p.copy; size = p.held.small; most = a.lists.most };
+                room = omega (arith, a.lists.paid, a.lists.most, p.room, p.held.small, a.lists.size);
                 wide = omega (arith, p.wide, a.lists.size);
               };
           bodiless_is = a.done;
@@ -205,16 +188,16 @@ module _ {s m c firsts : List ℕ} {n : ℕ} (p : Bracketed s m c firsts n) {t :
     module _ {e : List ℕ} {w : Tail} (b : TailRead s d e r.next r.used t.at r.defined w) where
       pub puttable : Puttable e (r.used + 3) t.at w.stop
       puttable =
-          let h = k.held in
+          let h = p.held in
           record {
-            room = omega (arith, a.lists.paid, a.lists.most, p.room, p.lent.size, a.lists.size, b.kept.size);
+            room = omega (arith, a.lists.paid, a.lists.most, p.room, p.held.small, a.lists.size, b.kept.size);
             wide = omega (arith, p.wide, a.lists.size, b.kept.size);
             at_low = omega (arith, h.own, h.ends, h.small);
-            stop_low = omega (arith, b.stop_most, p.lent.size);
+            stop_low = omega (arith, b.stop_most, p.held.small);
           }
 
       pub follows : Lent s m w.next
-      follows = record { copy = p.lent.copy; size = p.lent.size; most = b.most }
+      follows = record { copy = p.copy; size = p.held.small; most = b.most }
 
       the_rest : after_in us ≡ elements_from s w.next
       the_rest = sym a.lists.after_is ∙ after-here (elements_from s r.next) a.done ∙ sym b.rest
@@ -227,12 +210,12 @@ module _ {s m c firsts : List ℕ} {n : ℕ} (p : Bracketed s m c firsts n) {t :
               few = omega arith;
               first = omega arith;
               there = x.behind_is;
-              room = omega (arith, a.lists.paid, b.from_here, p.room, p.lent.size, a.lists.size, b.kept.size, x.kept.size);
+              room = omega (arith, a.lists.paid, b.from_here, p.room, p.held.small, a.lists.size, b.kept.size, x.kept.size);
               wide = omega (arith, p.wide, a.lists.size, b.kept.size, x.kept.size);
             }
 
         module _ {g : List ℕ} {h : Fault} (y : SectionRead s e' g r.used 1 w.next h) where
-          section-there : SectionCells s g r.used (gone (list_at (elements_from s n)) (list_stop s (elements_from s n)) ∷ section_changes (length s) (after_in (drop 1 (elements_from s n))))
+          section-there : SectionCells s g r.used (gone (list_at (list_from s t)) (list_stop s (list_from s t)) ∷ section_changes (length s) (after_in (drop 1 (list_from s t))))
           section-there =
               record {
                 starts = y.cells.starts;
@@ -240,25 +223,22 @@ module _ {s m c firsts : List ℕ} {n : ℕ} (p : Bracketed s m c firsts n) {t :
                 changes_are =
                     y.cells.changes_are
                     ∙ (λ i. x.change_is s i ++ section_changes (length s) (sym the_rest i))
-                    ∙ ap (λ (j : ℕ). gone t.at j ∷ section_changes (length s) (after_in us)) (b.stop_is ∙ ap (λ (z : List spec.Element). if_any (length s) (λ u. u.at + 1) (from is_close z)) (sym the_last))
-                    ∙ ap (λ (ts : List spec.Element). gone (list_at ts) (list_stop s ts) ∷ section_changes (length s) (after_in (drop 1 ts))) (sym all_there);
+                    ∙ ap (λ (j : ℕ). gone t.at j ∷ section_changes (length s) (after_in us)) (b.stop_is ∙ ap (λ (z : List spec.Element). if_any (length s) (λ u. u.at + 1) (from is_close z)) (sym the_last));
               }
 
           pub list_done : {first follow : Fault} → follow ≡ fault_of (follow_faults (elements_from s w.next))
-              → ListRead s g f n first (record { count = r.count; section = r.used; fault = lower (lower (lower (lower first follow) r.fault) w.fault) h })
+              → ListRead s g f t first (record { count = r.count; section = r.used; fault = lower (lower (lower (lower first follow) r.fault) w.fault) h })
           list_done {first} {follow} z =
               record {
-                few = omega (arith, a.lists.counted, a.lists.most, p.lent.size);
-                low = omega (arith, a.lists.paid, a.lists.most, p.lent.size);
+                few = omega (arith, a.lists.counted, a.lists.most, p.held.small);
+                low = omega (arith, a.lists.paid, a.lists.most, p.held.small);
                 macros_are =
                     sym (append-nil (code.macros_in s g f r.count))
                     ∙ ap (λ (xs : List (List spec.Element)). code.macros_in s g f r.count ++ each (macro_of s) xs) (sym none_more)
-                    ∙ (listing-kept listable a.lists (kept_on (kept_on b.kept x.kept (omega arith)) y.kept_is (le_refl r.used))).macros_are
-                    ∙ ap (λ (ts : List spec.Element). each (macro_of s) (defined_in (drop 1 ts))) (sym all_there);
+                    ∙ (listing-kept listable a.lists (kept_on (kept_on b.kept x.kept (omega arith)) y.kept_is (le_refl r.used))).macros_are;
                 cells = section-there;
                 fault_is =
-                    (λ i. lower (lower (lower (lower first ((z ∙ ap (λ (ts : List spec.Element). fault_of (follow_faults ts)) (sym the_rest)) i)) (defined-fault i)) (tail-there i)) ((y.fault_is ∙ ap (λ (ts : List spec.Element). fault_of (form_faults (is_stray []) [] ts)) (sym the_rest)) i))
-                    ∙ ap (λ (ts : List spec.Element). lower (lower (lower (lower first (fault_of (follow_faults (after_in (drop 1 ts))))) (fault_of (each definition_faults (defined_in (drop 1 ts))))) (fault_of (tail_faults (list_at ts) (filled (defined_in (drop 1 ts))) (last_in (drop 1 ts))))) (fault_of (form_faults (is_stray []) [] (after_in (drop 1 ts))))) (sym all_there);
+                    (λ i. lower (lower (lower (lower first ((z ∙ ap (λ (ts : List spec.Element). fault_of (follow_faults ts)) (sym the_rest)) i)) (defined-fault i)) (tail-there i)) ((y.fault_is ∙ ap (λ (ts : List spec.Element). fault_of (form_faults (is_stray []) [] ts)) (sym the_rest)) i));
               }
             where
               defined-fault : r.fault ≡ fault_of (each definition_faults (defined_in us))
@@ -302,7 +282,7 @@ faults-are s = refl
 changes-with : (s : List ℕ) (l : List spec.Element) → if_any false is_open l ≡ true
     → changes_by s l ≡ gone (list_at l) (list_stop s l) ∷ section_changes (length s) (after_in (drop 1 l))
 changes-with s [] h = absurd (false≢true h)
-changes-with s (t ∷ us) h = refl
+changes-with s (t ∷ ts) h = refl
 
 faults-with : (s : List ℕ) (l : List spec.Element) → if_any false is_open l ≡ true
     → fault_of (faults_by s l ++ form_faults (is_stray []) [] (rest_by s l))
@@ -323,9 +303,6 @@ module _ {s m c firsts : List ℕ} (p : LentRows s m c firsts) {a : ℕ} (sa : S
   pub start-lent : Lent s m 0
   start-lent = record { copy = p.copy; size = p.size; most = omega arith }
 
-  pub lent_at : Lent s m b
-  lent_at = record { copy = p.copy; size = p.size; most = sb.most }
-
   whole_is : elements s ≡ elements_from s 0
   unfolding elements_from
   whole_is = refl
@@ -336,31 +313,23 @@ module _ {s m c firsts : List ℕ} (p : LentRows s m c firsts) {a : ℕ} (sa : S
   first_is : f.fault ≡ fault_of (outer_faults (first_statement (elements s)))
   first_is = rf.fault_is ∙ ap (λ (ts : List spec.Element). fault_of (outer_faults (until is_end ts))) sa.is ∙ ap (λ (ts : List spec.Element). fault_of (outer_faults (first_statement ts))) (sym whole_is)
 
-  pub opens : {t : Element} (k : NextElement s b t) {r : Bool} → r ≡ is_open (argument_value s t) → r ≡ true → if_any false is_open (elements_from s b) ≡ true
-  opens {t} k e q = ap (λ (ts : List spec.Element). if_any false is_open ts) (some-elements k (λ z. false≢true (sym (not_none z) ∙ sym e ∙ q))) ∙ sym e ∙ q
-    where
-      not_none : t.sort ≡ 0 → is_open (argument_value s t) ≡ false
-      not_none z = rw z refl
+  no-list : if_any false is_open (elements_from s b) ≡ false → from_list (elements s) ≡ []
+  no-list e = ap (λ (z : Bool). cond z (behind_first (elements s)) []) (ap (λ (ts : List spec.Element). if_any false is_open ts) (sym behind_is) ∙ e)
 
-  no-list : {t : Element} (k : NextElement s b t) {r : Bool} → r ≡ is_open (argument_value s t) → r ≡ false → from_list (elements s) ≡ []
-  no-list {t} k e q = ap (λ (z : Bool). cond z (behind_first (elements s)) []) (ap (λ (ts : List spec.Element). if_any false is_open ts) (sym behind_is ∙ k.is) ∙ go (eqb t.sort 0))
-    where
-      go : (z : Bool) → if_any false is_open (cond z [] (argument_value s t ∷ elements_from s t.next)) ≡ false
-      go true = refl
-      go false = sym e ∙ q
-
-  pub bracketed : if_any false is_open (elements_from s b) ≡ true → Bracketed s m c firsts b
-  bracketed h = record { lent = lent_at; room = p.room; wide = p.wide; macros_room = p.macros_room; begins = h }
+  pub bracketed : {t : Element} → OpenAt s b t → Bracketed s m c firsts t
+  bracketed k = record { copy = p.copy; held = k.first.held; more = k.first.more; room = p.room; wide = p.wide; macros_room = p.macros_room }
 
   pub no-list-section : Sectioned s m c 0 0 3 0
   unfolding code.behind_changes
   no-list-section =
       record { lent = start-lent; few = omega arith; first = omega arith; there = refl; room = omega (arith, p.room, p.size); wide = p.wide }
 
-  pub with_list : if_any false is_open (elements_from s b) ≡ true → {d g : List ℕ} {r : Listing} → ListRead s d g b f.fault r → MacrosRead s d g r
+  pub with_list : {t : Element} → OpenAt s b t → {d g : List ℕ} {r : Listing} → ListRead s d g t f.fault r → MacrosRead s d g r
   unfolding macros_in
-  with_list h {d} {g} {r} y =
-      let l : from_list (elements s) ≡ elements_from s b = ap (λ (z : Bool). cond z (behind_first (elements s)) []) (ap (λ (ts : List spec.Element). if_any false is_open ts) (sym behind_is) ∙ h) ∙ sym behind_is in
+  with_list {t} k {d} {g} {r} y =
+      let h = k.opens in
+      let there = k.first.is in
+      let l : from_list (elements s) ≡ (list_from s t) = ap (λ (z : Bool). cond z (behind_first (elements s)) []) (ap (λ (ts : List spec.Element). if_any false is_open ts) (sym behind_is ∙ there) ∙ h) ∙ sym behind_is ∙ there in
       record {
         few = y.few;
         macros_are = y.macros_are ∙ ap (λ (ts : List spec.Element). each (macro_of s) (defined_in (drop 1 ts))) (sym l);
@@ -368,21 +337,21 @@ module _ {s m c firsts : List ℕ} (p : LentRows s m c firsts) {a : ℕ} (sa : S
         cells = record {
           starts = y.cells.starts;
           stops = y.cells.stops;
-          changes_are = y.cells.changes_are ∙ sym (changes-with s (elements_from s b) h) ∙ ap (changes_by s) (sym l) ∙ sym (changes-whole s);
+          changes_are = y.cells.changes_are ∙ sym (changes-with s (list_from s t) h) ∙ ap (changes_by s) (sym l) ∙ sym (changes-whole s);
         };
         fault_is =
             y.fault_is
-            ∙ (λ i. lower (lower (lower (lower (first_is i) (fault_of (follow_faults (after_in (drop 1 (elements_from s b)))))) (fault_of (each definition_faults (defined_in (drop 1 (elements_from s b)))))) (fault_of (tail_faults (list_at (elements_from s b)) (filled (defined_in (drop 1 (elements_from s b)))) (last_in (drop 1 (elements_from s b)))))) (fault_of (form_faults (is_stray []) [] (after_in (drop 1 (elements_from s b))))))
-            ∙ sym (faults-with s (elements_from s b) h)
+            ∙ (λ i. lower (lower (lower (lower (first_is i) (fault_of (follow_faults (after_in (drop 1 (list_from s t)))))) (fault_of (each definition_faults (defined_in (drop 1 (list_from s t)))))) (fault_of (tail_faults (list_at (list_from s t)) (filled (defined_in (drop 1 (list_from s t)))) (last_in (drop 1 (list_from s t)))))) (fault_of (form_faults (is_stray []) [] (after_in (drop 1 (list_from s t))))))
+            ∙ sym (faults-with s (list_from s t) h)
             ∙ ap (λ (ts : List spec.Element). fault_of (faults_by s ts ++ form_faults (is_stray []) [] (rest_by s ts))) (sym l)
             ∙ sym (ap fault_of (faults-are s));
       }
 
-  pub without-list : {t : Element} (k : NextElement s b t) {o : Bool} → o ≡ is_open (argument_value s t) → o ≡ false → {d g : List ℕ} {x : Fault} → SectionRead s c d 0 0 0 x
+  pub without-list : if_any false is_open (elements_from s b) ≡ false → {d g : List ℕ} {x : Fault} → SectionRead s c d 0 0 0 x
       → MacrosRead s d g (record { count = 0; section = 0; fault = x })
   unfolding macros_in code.macros_in code.changes_in tab stretches
-  without-list k e q {d} {g} {x} y =
-      let l = no-list k e q in
+  without-list e {d} {g} {x} y =
+      let l = no-list e in
       record {
         few = omega arith;
         macros_are = sym (ap (λ (ts : List spec.Element). each (macro_of s) (defined_in (drop 1 ts))) l);

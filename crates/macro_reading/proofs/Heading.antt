@@ -1,21 +1,23 @@
 -- A header's elements, one by one.
-use mathlib.Core.Path.{◌≡◌, refl, ap, sym, ◌∙◌}
-use mathlib.Core.Bool.{Bool, true, false, cond, not, ◌||◌, or_assoc}
+use mathlib.Core.Path.{◌≡◌, refl, ap, sym, ◌∙◌, subst}
+use mathlib.Core.Bool.{Bool, true, false, cond, not, ◌||◌, or_assoc, false≢true}
 use mathlib.Core.List.{List, [], ◌∷◌, ◌++◌, map, append_assoc}
 use Rattle.std.specs.Prelude.{Option, Some, None}
 use Rattle.std.specs.Option.{option_or}
+use Rattle.std.specs.Bool.{then_some}
+use Rattle.std.proofs.lemmas.Option.{none-some, same_Some}
 use Prim.Native.Nat.{ℕ, ◌+◌, ◌-◌, ◌≤◌, ◌<◌}
 use native.Mathlib.Nat.{le_refl}
 use native.Mathlib.Omega.{arith}
 use lib.Dec.{eqb}
 use lib.ListN.{length, set, take}
 use lib.Seq.{get_or-set_same}
-use borrow.Author.Tests.{ne_eqb, eqb-true}
+use borrow.Author.Tests.{ne_eqb}
 use Rattle.layout.specs.Cells.{tab}
 use Rattle.lexer.specs.Tokens.{part}
-use Rattle.lists.specs.Lists.{keep}
-use Rattle.statements.specs.declared.Fault.{Fault}
-use Rattle.statements.specs.declared.Fault.TheVariants.{Clear}
+use Rattle.lists.specs.Lists.{filled, keep}
+use Rattle.statements.specs.Faults.{Fault}
+use Rattle.std.specs.Prelude.{None}
 use Rattle.statements.specs.Faults.{lower}
 use Rattle.statements.specs.FaultLaws.{fault-both}
 use Rattle.statements.specs.StatementAt.{fault_of}
@@ -25,33 +27,38 @@ use Rattle.macros.specs.Macros.{header_faults}
 use Rattle.macro_code.specs.Code.{paired, bytes_at}
 use Rattle.macro_changes.specs.Changing.{Kept}
 use Rattle.macro_changes.proofs.Cells.{first_of, second-of, tab-cong, tab-last, kept-none, kept_set, kept_on, kept-agree, bytes-agree}
-use Rattle.macro_changes.proofs.Giving.{neither, eqb_no, lower-assoc, keep-first, some-elements, no-elements}
-use Rattle.macro_changes.proofs.Searching.{until-on, until-off, from_on}
-use Rattle.macro_elements.specs.ElementAt.{elements_from, argument_value, NextElement}
+use Rattle.macro_changes.proofs.Giving.{lower-assoc, keep-first, one-fault, first_forward}
+use Rattle.macro_changes.proofs.Searching.{until-on, until-off, from_on, from-off}
+use Rattle.macro_elements.specs.ElementAt.{elements_from, argument_value, FirstElement}
 use Rattle.macro_elements.specs.declared.Element.{Element}
-use Rattle.macro_reading.specs.Headers.{placed, word_cell, heading, words_in, first_word, any_there, Headable, Heading}
+use Rattle.macro_reading.specs.Headers.{FirstBefore, NextBefore, placed, word_cell, heading, words_in, first_word, any_there, Headable, Heading}
 
 -- one element of a stretch
-module _ {s : List ℕ} {n : ℕ} {t : Element} (k : NextElement s n t) (p : spec.Element → Bool) where
-  pub stretch-none : (eqb t.sort 0 || p (argument_value s t)) ≡ true → until p (elements_from s n) ≡ []
-  stretch-none = go (eqb t.sort 0) refl
-    where
-      go : (z : Bool) → eqb t.sort 0 ≡ z → (z || p (argument_value s t)) ≡ true → until p (elements_from s n) ≡ []
-      go true e h = ap (until p) (no-elements k (eqb-true t.sort 0 e))
-      go false e h = ap (until p) (some-elements k (eqb_no t.sort 0 e)) ∙ until-off p (argument_value s t) (elements_from s t.next) h
+pub before_end : {p : spec.Element → Bool} {s : List ℕ} {n : ℕ} → until p (elements_from s n) ≡ [] → NextBefore p s n None
+before_end h = record { none = λ e. h; some = λ x e. absurd (none-some x e) }
 
-  module _ (h : (eqb t.sort 0 || p (argument_value s t)) ≡ false) where
-    abbrev apart : (eqb t.sort 0 ≡ false) × (p (argument_value s t) ≡ false)
-    apart = neither (eqb t.sort 0) (p (argument_value s t)) h
+pub before-off : {p : spec.Element → Bool} {s : List ℕ} {n : ℕ} {t : Element} → FirstElement s n t → p (argument_value s t) ≡ true → NextBefore p s n None
+before-off {p} {s} {n} {t} k h = before_end (ap (until p) k.is ∙ until-off p (argument_value s t) (elements_from s t.next) h)
 
-    pub stretch-on : until p (elements_from s n) ≡ argument_value s t ∷ until p (elements_from s t.next)
-    stretch-on = ap (until p) (some-elements k (eqb_no t.sort 0 apart.0)) ∙ until-on p (argument_value s t) (elements_from s t.next) apart.1
+pub before-on : {p : spec.Element → Bool} {s : List ℕ} {n : ℕ} {t : Element} → FirstElement s n t → p (argument_value s t) ≡ false → NextBefore p s n (Some t)
+before-on {p} {s} {n} {t} k h =
+    record { none = λ e. absurd (none-some t (sym e)); some = λ x e. subst (λ (u : Element). FirstBefore p s n u) (same_Some t x e) (record { first = k; fails = h }) }
 
-    pub rest-on : from p (elements_from s n) ≡ from p (elements_from s t.next)
-    rest-on = ap (from p) (some-elements k (eqb_no t.sort 0 apart.0)) ∙ from_on p (argument_value s t) (elements_from s t.next) apart.1
+-- where a stretch is empty, what follows it begins there
+pub whole-from : (p : spec.Element → Bool) (ts : List spec.Element) → until p ts ≡ [] → from p ts ≡ ts
+whole-from p [] e = refl
+whole-from p (t ∷ ts) e = go (p t) refl
+  where
+    go : (b : Bool) → p t ≡ b → from p (t ∷ ts) ≡ t ∷ ts
+    go true h = from-off p t ts h
+    go false h = absurd (false≢true (ap filled (sym e ∙ until-on p t ts h)))
 
-    pub stretch-more : n < t.next
-    stretch-more = let z = k.some (eqb_no t.sort 0 apart.0) in omega (arith, k.from)
+module _ {s : List ℕ} {n : ℕ} {t : Element} {p : spec.Element → Bool} (k : FirstBefore p s n t) where
+  pub stretch-on : until p (elements_from s n) ≡ argument_value s t ∷ until p (elements_from s t.next)
+  stretch-on = ap (until p) k.first.is ∙ until-on p (argument_value s t) (elements_from s t.next) k.fails
+
+  pub rest-on : from p (elements_from s n) ≡ from p (elements_from s t.next)
+  rest-on = ap (from p) k.first.is ∙ from_on p (argument_value s t) (elements_from s t.next) k.fails
 
 -- words and their cells
 keep_word : (t : spec.Element) (ts : List spec.Element) (b : Bool) → is_word t ≡ b → keep is_word (t ∷ ts) ≡ cond b (t ∷ keep is_word ts) (keep is_word ts)
@@ -86,13 +93,12 @@ one-first [] = refl
 one-first (t ∷ ts) = refl
 
 module _ {s m c : List ℕ} {n q : ℕ} (p : Headable s m c n q) where
-  pub heading-none : Heading s c c n q n 0 None false Clear
+  pub heading-none : Heading s c c n q n 0 None false None
   unfolding tab
   heading-none =
       record { from = omega arith; most = p.lent.most; kept = kept-none c q; words_are = refl; first_is = one-first (keep is_word (heading s n)); some_is = refl; faults = refl; rest = refl }
 
-  module _ {d : List ℕ} {i k : ℕ} {first : Option ℕ} {some : Bool} {f : Fault} (g : Heading s c d n q i k first some f) {t : Element} (e : NextElement s i t)
-      (h : (eqb t.sort 0 || is_bracket (argument_value s t)) ≡ false) where
+  module _ {d : List ℕ} {i k : ℕ} {first : Option ℕ} {some : Bool} {f : Fault} (g : Heading s c d n q i k first some f) {t : Element} (e : FirstBefore is_bracket s i t) where
     abbrev v : spec.Element
     v = argument_value s t
 
@@ -103,13 +109,13 @@ module _ {s m c : List ℕ} {n q : ℕ} (p : Headable s m c n q) where
     long = t.end - t.at
 
     pub header-forward : i < t.next
-    header-forward = stretch-more e is_bracket h
+    header-forward = first_forward e.first
 
     pub header-room : w < length d
-    header-room = omega (arith, cell-most q k, header-forward, e.held.most, g.from, g.most, p.room, g.kept.size)
+    header-room = omega (arith, cell-most q k, header-forward, e.first.held.most, g.from, g.most, p.room, g.kept.size)
 
     pub header-long : long < 65536
-    header-long = let y = e.held in omega (arith, y.ends, y.small)
+    header-long = let y = e.first.held in omega (arith, y.ends, y.small)
 
     abbrev written : List ℕ
     written = set d w (paired t.at long)
@@ -125,7 +131,7 @@ module _ {s m c : List ℕ} {n q : ℕ} (p : Headable s m c n q) where
     same-words = tab-cong k (λ j. bytes_at s written (word_cell q j)) (λ j. bytes_at s d (word_cell q j)) (λ j l. bytes-agree (kept-agree written-kept) s (word_cell q j) (omega arith) (cell_apart q j k l))
 
     on : heading s i ≡ v ∷ heading s t.next
-    on = stretch-on e is_bracket h
+    on = stretch-on e
 
     abbrev words_now : List (List ℕ)
     words_now = tab k (λ j. bytes_at s d (word_cell q j))
@@ -148,25 +154,26 @@ module _ {s m c : List ℕ} {n q : ℕ} (p : Headable s m c n q) where
     first-now false y None = ap (λ (ts : List spec.Element). take 1 (places_in (take 1 ts))) (sym (keep_word v (heading s t.next) false y))
 
     pub heading-on : (b : Bool) → b ≡ is_word v → {j : ℕ} → j ≡ k + cond b 1 0 → {a : Option ℕ} → a ≡ option_or first (cond b (Some t.at) None) → {i₁ : Bool} → i₁ ≡ is_identifier v → {l : Bool} → l ≡ eqb t.byte 10
-        → Heading s c written n q t.next j a (some || not l) (lower f (fault_of (cond (not (i₁ || l)) (t.at ∷ []) [])))
+        → Heading s c written n q t.next j a (some || not l) (lower f (then_some (not (i₁ || l)) t.at))
     heading-on b y {j} jj {a} aa {i₁} ii {l} ll =
         let ts = heading s t.next in
         record {
           from = rw jj (step b);
-          most = e.held.most;
+          most = e.first.held.most;
           kept = kept_on g.kept written-kept (cell-least q k);
           words_are = rw jj (more-words b (sym y)) ∙ ap (λ (us : List spec.Element). words_now ++ words_in us) (sym on) ∙ g.words_are;
           first_is = rw aa (first-now b (sym y) first) ∙ ap (λ (us : List spec.Element). take 1 (placed first ++ first_word us)) (sym on) ∙ g.first_is;
           some_is = or_assoc some (not l) (any_there ts) ∙ ap (λ (z : Bool). some || (not z || any_there ts)) ll ∙ ap (λ (us : List spec.Element). some || any_there us) (sym on) ∙ g.some_is;
           faults =
-              lower-assoc f (fault_of (cond (not (i₁ || l)) (t.at ∷ []) [])) (fault_of (header_faults ts))
+              ap (λ (y : Fault). lower (lower f y) (fault_of (header_faults ts))) (one-fault (not (i₁ || l)) t.at)
+              ∙ lower-assoc f (fault_of (cond (not (i₁ || l)) (t.at ∷ []) [])) (fault_of (header_faults ts))
               ∙ ap (lower f)
               (sym (fault-both (cond (not (i₁ || l)) (t.at ∷ []) []) (header_faults ts))
               ∙ (λ z. fault_of (cond (not (ii z || ll z)) (t.at ∷ []) [] ++ header_faults ts))
               ∙ ap fault_of (sym (keep-first (λ u. not (is_identifier u || eqb u.byte 10)) v ts))
               ∙ ap (λ (us : List spec.Element). fault_of (header_faults us)) (sym on))
               ∙ g.faults;
-          rest = sym (rest-on e is_bracket h) ∙ g.rest;
+          rest = sym (rest-on e) ∙ g.rest;
         }
       where
         step : (b : Bool) → n + (k + cond b 1 0) ≤ t.next

@@ -1,22 +1,32 @@
 -- Definitions in cells: what the functions that read them promise.
 use Rattle.std.specs.Option.{is_some}
-use Rattle.std.specs.Prelude.{Option, Some, ◌≡◌, Bool, true, false, cond, not, ◌||◌, List, [], ◌∷◌, ◌++◌, ℕ, ◌+◌, ◌*◌, ◌≤◌, ◌<◌, length, get_or, take, drop}
-use Rattle.lists.specs.Lists.{each, filled, head_or, joined}
-use Rattle.statements.specs.declared.Fault.{Fault}
+use Rattle.std.specs.Prelude.{Option, Some, None, ◌≡◌, Bool, true, false, cond, not, ◌||◌, List, [], ◌∷◌, ◌++◌, ℕ, ◌+◌, ◌*◌, ◌≤◌, ◌<◌, length, get_or, take, drop}
+use Rattle.lists.specs.Lists.{each, filled, head_or, if_any, joined}
+use Rattle.statements.specs.Faults.{Fault}
 use Rattle.statements.specs.Faults.{lower}
 use Rattle.statements.specs.StatementAt.{fault_of}
-use Rattle.macros.specs.Elements.{Element, is_close, until, from, stretches}
+use Rattle.macros.specs.Elements.{Element, is_open, is_close, until, from, stretches}
 use Rattle.macros.specs.Macros.{has_body, macro_of, definition_faults}
 use Rattle.macro_changes.specs.Changing.{Kept}
 use Rattle.macro_code.specs.Code.{change_count, first_change, behind_changes, macro_in, macros_in}
 use Rattle.macro_code.specs.Places as place
-use Rattle.macro_elements.specs.ElementAt.{elements_from, Lent}
+use Rattle.macro_elements.specs.ElementAt.{elements_from, argument_value, Lent, FirstElement}
+use Rattle.macro_elements.specs.declared.Element as code
 use Rattle.macro_reading.specs.declared.Definition.{Definition}
 use Rattle.macro_reading.specs.declared.Definitions.{Definitions}
 
 -- the stretch from place n on, up to a closing bracket
 abbrev pub stretch : List Element → List Element
 stretch us = until is_close us ++ take 1 (from is_close us)
+
+-- t is the first element from place n on, and an opening bracket
+pub record OpenAt (s : List ℕ) (n : ℕ) (t : code.Element) : Type 0 where
+  pub first : FirstElement s n t
+  pub opens : is_open (argument_value s t) ≡ true
+
+pub record NextOpen (s : List ℕ) (n : ℕ) (r : Option code.Element) : Type 0 where
+  pub none : r ≡ None → if_any false is_open (elements_from s n) ≡ false
+  pub some : (t : code.Element) → r ≡ Some t → OpenAt s n t
 
 -- from place n on, behind the list's bracket, with cells from q on: those before it are paid for by the bytes before n
 pub record Definable (s m c : List ℕ) (n q : ℕ) : Type 0 where

@@ -1,7 +1,7 @@
 -- The first statement, the list's end and the section: what the functions that read them promise.
 use Rattle.std.specs.Prelude.{◌≡◌, Bool, false, cond, not, ◌&&◌, ◌||◌, List, [], ◌∷◌, ◌++◌, ℕ, ◌+◌, ◌≤◌, eqb, length, take, drop}
 use Rattle.lists.specs.Lists.{any, if_any, keep}
-use Rattle.statements.specs.declared.Fault.{Fault}
+use Rattle.statements.specs.Faults.{Fault}
 use Rattle.statements.specs.Faults.{lower}
 use Rattle.statements.specs.StatementAt.{fault_of}
 use Rattle.macros.specs.Elements.{Element, is_word, is_end, is_star, is_close, places_in, until, from}

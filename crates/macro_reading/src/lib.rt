@@ -2,22 +2,22 @@
 #![tactic(auto)]
 
 ghost use Rattle.std.specs.Option.{option_or};
-ghost use Rattle.std.specs.Prelude.{Some, None, ◌≡◌, cond, not, ◌||◌, List, [], ◌∷◌, ℕ, ◌-◌, ◌<◌, eqb};
-ghost use Rattle.macros.specs.Elements.{is_bracket};
+ghost use Rattle.std.specs.Prelude.{Some, None, ◌≡◌, cond, not, List, [], ◌∷◌, ℕ, ◌-◌, ◌<◌};
+ghost use Rattle.macros.specs.Elements.{is_bracket, is_end};
 ghost use Rattle.macro_elements.specs.ElementAt.{elements_from, argument_value, Lent};
 ghost use Rattle.macro_reading.specs.Whole.{follow_faults, Sectioned, SectionRead, Puttable, Puts, Bracketed, ListRead, LentRows, MacrosRead};
 ghost use Rattle.macro_reading.specs.Sections.{outer, Skips, FirstRead, Tailed, TailRead};
 ghost use Rattle.statements.specs.Faults.{lower};
 ghost use Rattle.statements.specs.StatementAt.{fault_of};
-ghost use Rattle.macro_reading.specs.Definitions.{Definable, Defined, Listable, DefinitionsRead};
+ghost use Rattle.macro_reading.specs.Definitions.{NextOpen, Definable, Defined, Listable, DefinitionsRead};
 ghost use Rattle.macro_reading.specs.Bodies.{Bodied, BodyRead};
-ghost use Rattle.macro_reading.specs.Headers.{placed, word_cell, Headable, HeaderRead};
+ghost use Rattle.macro_reading.specs.Headers.{word_cell, NextBefore, Headable, HeaderRead};
 
-use macro_changes::{Scope, fault_if, pick, put, read_changes};
+use macro_changes::{Parameters, put, read_changes};
 use macro_code::CodePlaces;
-use macro_elements::{Element, is_identifier, is_mark, next_element};
-use scanner::{END, NOTHING, WORD};
-use statements::{Fault, lower, stops};
+use macro_elements::{Element, Source, is_identifier, is_mark, next_element};
+use scanner::{END, WORD};
+use statements::{Fault, lower};
 
 // A body that was read: the place and the cell behind it, whether a bracket closes it, and the lowest place at fault.
 #[derive(Clone, Copy)]
@@ -30,31 +30,25 @@ struct Body {
 
 // A macro's body or the section, from place `n` on, with its record at the cell `q`. Its name and its parameters stand there already.
 fn read_body(
-    text: &[u8],
-    marked: &[u8],
+    source: &Source,
     code: &mut [u32],
-    x: Scope,
+    p: Parameters,
     q: usize,
     start: usize,
     n: usize,
 ) -> Body
-    requires { Bodied text.now marked.now code.old x q start n }
-    ensures { BodyRead text.now code.old code.new x q start n result }
+    requires { Bodied source.now.text.now source.now.marked.now code.old (Some p) q start n }
+    ensures { BodyRead source.now.text.now code.old code.new (Some p) q start n result }
 {
-    let r = read_changes(text, marked, code, x, n, x.params + x.count);
-    let t = next_element(text, marked, r.next);
-    let closed = t.sort != NOTHING;
-    put(
-        code,
-        q + CodePlaces::SPAN,
-        start,
-        pick(closed, t.at, text.len()),
-    );
-    put(code, q + CodePlaces::COUNTS, x.count, r.count);
+    let r = read_changes(source, code, Some(p), n, p.first + p.count);
+    let t = next_element(source, r.next);
+    let stop = t.map_or(source.text.len(), |t| t.at);
+    put(code, q + CodePlaces::SPAN, start, stop);
+    put(code, q + CodePlaces::COUNTS, p.count, r.count);
     Body {
-        next: pick(closed, t.next, r.next),
+        next: t.map_or(r.next, |t| t.next),
         used: r.used,
-        closed: closed,
+        closed: t.is_some(),
         fault: r.fault,
     }
 }
@@ -82,12 +76,24 @@ fn word_cell(q: usize, k: usize) -> usize
     q + CodePlaces::COUNTS + k
 }
 
-// Whether an element ends a header; none does so too.
-fn ends_header(t: Element) -> bool
+// Whether an element is a round bracket.
+fn is_bracket(t: Element) -> bool
     requires { t.sort < 6 }
-    ensures { (s : List ℕ) → result ≡ (eqb t.sort 0 || is_bracket (argument_value s t)) }
+    ensures { (s : List ℕ) → result ≡ is_bracket (argument_value s t) }
 {
-    (t.sort == NOTHING) | (is_mark(b'(', t) | is_mark(b')', t))
+    is_mark(b'(', t) | is_mark(b')', t)
+}
+
+// The next element of a header from place `n` on: none at a bracket.
+fn next_in_header(source: &Source, n: usize) -> Option<Element>
+    requires { Lent source.now.text.now source.now.marked.now n }
+    ensures { NextBefore is_bracket source.now.text.now n result }
+{
+    let t = next_element(source, n)?;
+    if is_bracket(t) {
+        return None;
+    }
+    Some(t)
 }
 
 // The place of the first word, where another one is met, or none.
@@ -98,33 +104,31 @@ fn earlier(first: Option<usize>, word: bool, at: usize) -> Option<usize>
 }
 
 // The name and the parameters of a macro, from place `n` on, into its cells from `q` on.
-fn read_header(text: &[u8], marked: &[u8], code: &mut [u32], n: usize, q: usize) -> Header
-    requires { Headable text.now marked.now code.old n q }
-    ensures { HeaderRead text.now code.old code.new n q result }
+fn read_header(source: &Source, code: &mut [u32], n: usize, q: usize) -> Header
+    requires { Headable source.now.text.now source.now.marked.now code.old n q }
+    ensures { HeaderRead source.now.text.now code.old code.new n q result }
 {
     let mut i = n;
     let mut k: usize = 0;
     let mut first = None;
     let mut some = false;
-    let mut fault = Fault::Clear;
-    loop {
-        let t = next_element(text, marked, i);
-        if ends_header(t) {
-            return Header {
-                next: i,
-                words: k,
-                first: first,
-                some: some,
-                fault: fault,
-            };
-        }
+    let mut fault = None;
+    while let Some(t) = next_in_header(source, i) {
         let line = t.byte == b'\n';
-        fault = lower(fault, fault_if(!(is_identifier(text, t) | line), t.at));
+        let wrong = !(is_identifier(source.text, t) | line);
+        fault = lower(fault, wrong.then_some(t.at));
         some = some | !line;
         first = earlier(first, WORD == t.sort, t.at);
         put(code, word_cell(q, k), t.at, t.end - t.at);
         k += usize::from(WORD == t.sort);
         i = t.next;
+    }
+    Header {
+        next: i,
+        words: k,
+        first: first,
+        some: some,
+        fault: fault,
     }
 }
 
@@ -141,31 +145,33 @@ struct Definition {
 fn definition_fault(header: Fault, sound: bool, at: usize, body: Fault) -> Fault
     ensures { result ≡ lower header (lower (fault_of (cond (not sound) (at ∷ []) [])) body) }
 {
-    lower(header, lower(fault_if(!sound, at), body))
+    lower(header, lower((!sound).then_some(at), body))
+}
+
+// The next element from place `n` on, where it is an opening bracket.
+fn next_open(source: &Source, n: usize) -> Option<Element>
+    requires { Lent source.now.text.now source.now.marked.now n }
+    ensures { NextOpen source.now.text.now n result }
+{
+    let t = next_element(source, n)?;
+    if is_mark(b'(', t) {
+        return Some(t);
+    }
+    None
 }
 
 // The definition that begins at place `n`, with its record at the cell `q`; none, where the header has no body behind it.
-fn read_definition(
-    text: &[u8],
-    marked: &[u8],
-    code: &mut [u32],
-    n: usize,
-    q: usize,
-) -> Option<Definition>
-    requires { Definable text.now marked.now code.old n q }
-    ensures { Defined text.now code.old code.new n q result }
+fn read_definition(source: &Source, code: &mut [u32], n: usize, q: usize) -> Option<Definition>
+    requires { Definable source.now.text.now source.now.marked.now code.old n q }
+    ensures { Defined source.now.text.now code.old code.new n q result }
 {
-    let h = read_header(text, marked, code, n, q);
-    let b = next_element(text, marked, h.next);
-    if !is_mark(b'(', b) {
-        return None;
-    }
-    let x = Scope {
-        params: q + CodePlaces::PARAMETERS,
+    let h = read_header(source, code, n, q);
+    let b = next_open(source, h.next)?;
+    let p = Parameters {
+        first: q + CodePlaces::PARAMETERS,
         count: h.words.saturating_sub(1),
-        closing: true,
     };
-    let r = read_body(text, marked, code, x, q, b.at + 1, b.next);
+    let r = read_body(source, code, p, q, b.at + 1, b.next);
     let named = 0 < h.words;
     Some(Definition {
         named: named,
@@ -188,25 +194,19 @@ struct Definitions {
 
 // All definitions from place `n` on, behind the list's bracket, and the first cell of each macro.
 // The row `firsts` is lent, and its rest holds hints later, so the count `k` stands beside it.
-fn read_definitions(
-    text: &[u8],
-    marked: &[u8],
-    code: &mut [u32],
-    firsts: &mut [u16],
-    n: usize,
-) -> Definitions
-    requires { Listable text.now marked.now code.old firsts.old n }
-    ensures { DefinitionsRead text.now code.old firsts.old code.new firsts.new n result }
+fn read_definitions(source: &Source, code: &mut [u32], firsts: &mut [u16], n: usize) -> Definitions
+    requires { Listable source.now.text.now source.now.marked.now code.old firsts.old n }
+    ensures { DefinitionsRead source.now.text.now code.old firsts.old code.new firsts.new n result }
 {
     let mut i = n;
     let mut q: usize = 0;
     let mut k: usize = 0;
     let mut defined = false;
-    let mut fault = Fault::Clear;
-    while let Some(r) = read_definition(text, marked, code, i, q) {
+    let mut fault = None;
+    while let Some(r) = read_definition(source, code, i, q) {
         firsts[k] = q as u16;
         k += usize::from(r.named);
-        q = pick(r.named, r.used, q);
+        q = if r.named { r.used } else { q };
         fault = lower(fault, r.fault);
         defined = true;
         i = r.next;
@@ -221,18 +221,18 @@ fn read_definitions(
 }
 
 // The place from `n` on where the first element that ends no statement stands, or the end.
-fn skip_ends(text: &[u8], marked: &[u8], n: usize) -> usize
-    requires { Lent text.now marked.now n }
-    ensures { Skips text.now n result }
+fn skip_ends(source: &Source, n: usize) -> usize
+    requires { Lent source.now.text.now source.now.marked.now n }
+    ensures { Skips source.now.text.now n result }
 {
     let mut i = n;
-    loop {
-        let t = next_element(text, marked, i);
+    while let Some(t) = next_element(source, i) {
         if t.sort != END {
             return i;
         }
         i = t.next;
     }
+    i
 }
 
 // The first statement that was read: the place where it ends, and the lowest place at fault.
@@ -247,26 +247,34 @@ fn is_outer(t: Element) -> bool
     requires { t.sort < 6 }
     ensures { (s : List ℕ) → result ≡ outer (argument_value s t) }
 {
-    let bracket = is_mark(b'(', t) | is_mark(b')', t);
-    is_mark(b'*', t) | (bracket | is_mark(b'\'', t) | t.joined.is_some())
+    is_mark(b'*', t) | (is_bracket(t) | is_mark(b'\'', t) | t.joined.is_some())
 }
 
-fn read_first(text: &[u8], marked: &[u8], n: usize) -> First
-    requires { Lent text.now marked.now n }
-    ensures { FirstRead text.now n result }
+// The next element of a statement from place `n` on: none at its end.
+fn next_in_statement(source: &Source, n: usize) -> Option<Element>
+    requires { Lent source.now.text.now source.now.marked.now n }
+    ensures { NextBefore is_end source.now.text.now n result }
+{
+    let t = next_element(source, n)?;
+    if t.sort == END {
+        return None;
+    }
+    Some(t)
+}
+
+fn read_first(source: &Source, n: usize) -> First
+    requires { Lent source.now.text.now source.now.marked.now n }
+    ensures { FirstRead source.now.text.now n result }
 {
     let mut i = n;
-    let mut fault = Fault::Clear;
-    loop {
-        let t = next_element(text, marked, i);
-        if stops(t.sort) {
-            return First {
-                next: i,
-                fault: fault,
-            };
-        }
-        fault = lower(fault, fault_if(is_outer(t), t.at));
+    let mut fault = None;
+    while let Some(t) = next_in_statement(source, i) {
+        fault = lower(fault, is_outer(t).then_some(t.at));
         i = t.next;
+    }
+    First {
+        next: i,
+        fault: fault,
     }
 }
 
@@ -278,45 +286,32 @@ struct Tail {
     fault: Fault,
 }
 
-// The place at fault, if there is one.
-fn fault_at(place: Option<usize>) -> Fault
-    ensures { result ≡ fault_of (placed place) }
-{
-    match place {
-        Some(p) => Fault::At(p),
-        None => Fault::Clear,
-    }
-}
-
 fn read_tail(
-    text: &[u8],
-    marked: &[u8],
+    source: &Source,
     code: &mut [u32],
     n: usize,
     q: usize,
     at: usize,
     defined: bool,
 ) -> Tail
-    requires { Tailed text.now marked.now code.old n q }
-    ensures { TailRead text.now code.old code.new n q at defined result }
+    requires { Tailed source.now.text.now source.now.marked.now code.old n q }
+    ensures { TailRead source.now.text.now code.old code.new n q at defined result }
 {
-    let h = read_header(text, marked, code, n, q);
-    let b = next_element(text, marked, h.next);
-    let closed = b.sort != NOTHING;
-    let word = fault_at(h.first);
-    let bracket = fault_if(!(closed & (defined | h.some)), at);
-    // The two ends differ in two fields, so one return for both would take two choices.
-    if closed {
-        return Tail {
+    let h = read_header(source, code, n, q);
+    let b = next_element(source, h.next);
+    let sound = b.is_some() & (defined | h.some);
+    let fault = lower(h.fault, lower(h.first, (!sound).then_some(at)));
+    match b {
+        Some(b) => Tail {
             stop: b.at + 1,
             next: b.next,
-            fault: lower(h.fault, lower(word, bracket)),
-        };
-    }
-    Tail {
-        stop: text.len(),
-        next: h.next,
-        fault: lower(h.fault, lower(word, bracket)),
+            fault,
+        },
+        None => Tail {
+            stop: source.text.len(),
+            next: h.next,
+            fault,
+        },
     }
 }
 
@@ -330,24 +325,18 @@ pub struct Listing {
 
 // The section from place `n` on, with its record at the cell `q`. So many changes stand there already, before the cell `u`.
 fn read_section(
-    text: &[u8],
-    marked: &[u8],
+    source: &Source,
     code: &mut [u32],
     q: usize,
     before: usize,
     u: usize,
     n: usize,
 ) -> Fault
-    requires { Sectioned text.now marked.now code.old q before u n }
-    ensures { SectionRead text.now code.old code.new q before n result }
+    requires { Sectioned source.now.text.now source.now.marked.now code.old q before u n }
+    ensures { SectionRead source.now.text.now code.old code.new q before n result }
 {
-    let x = Scope {
-        params: q + CodePlaces::PARAMETERS,
-        count: 0,
-        closing: false,
-    };
-    let r = read_changes(text, marked, code, x, n, u);
-    put(code, q + CodePlaces::SPAN, 0, text.len());
+    let r = read_changes(source, code, None, n, u);
+    put(code, q + CodePlaces::SPAN, 0, source.text.len());
     put(code, q + CodePlaces::COUNTS, 0, before + r.count);
     r.fault
 }
@@ -362,34 +351,33 @@ fn put_list(code: &mut [u32], u: usize, at: usize, stop: usize)
 }
 
 // What follows the list, if it ends no statement.
-fn follow_fault(text: &[u8], marked: &[u8], n: usize) -> Fault
-    requires { Lent text.now marked.now n }
-    ensures { result ≡ fault_of (follow_faults (elements_from text.now n)) }
+fn follow_fault(source: &Source, n: usize) -> Fault
+    requires { Lent source.now.text.now source.now.marked.now n }
+    ensures { result ≡ fault_of (follow_faults (elements_from source.now.text.now n)) }
 {
-    let t = next_element(text, marked, n);
-    fault_if(!stops(t.sort), t.at)
+    let t = next_element(source, n)?;
+    (t.sort != END).then_some(t.at)
 }
 
-// The list that begins at place `n`, and the section behind it; `first` is the fault of the first statement.
+// The list that begins with this bracket, and the section behind it; `first` is the fault of the first statement.
 fn read_list(
-    text: &[u8],
-    marked: &[u8],
+    source: &Source,
     code: &mut [u32],
     firsts: &mut [u16],
-    n: usize,
+    bracket: Element,
     first: Fault,
 ) -> Listing
-    requires { Bracketed text.now marked.now code.old firsts.old n }
-    ensures { ListRead text.now code.new firsts.new n first result }
+    requires { Bracketed source.now.text.now source.now.marked.now code.old firsts.old bracket }
+    ensures { ListRead source.now.text.now code.new firsts.new bracket first result }
 {
-    let t = next_element(text, marked, n);
-    let d = read_definitions(text, marked, code, firsts, t.next);
-    let e = read_tail(text, marked, code, d.next, d.used, t.at, d.defined);
-    let before = lower(first, follow_fault(text, marked, e.next));
+    let at = bracket.at;
+    let d = read_definitions(source, code, firsts, bracket.next);
+    let e = read_tail(source, code, d.next, d.used, at, d.defined);
+    let before = lower(first, follow_fault(source, e.next));
     let u = d.used + CodePlaces::PARAMETERS;
-    put_list(code, u, t.at, e.stop);
+    put_list(code, u, at, e.stop);
     let on = u + CodePlaces::SMALL_SIZE;
-    let section = read_section(text, marked, code, d.used, 1, on, e.next);
+    let section = read_section(source, code, d.used, 1, on, e.next);
     Listing {
         count: d.count,
         section: d.used,
@@ -397,19 +385,18 @@ fn read_list(
     }
 }
 
-// The list of macros and the section of a text, by its marked copy: into cells, with the first cell of each macro.
-pub fn read_macros(text: &[u8], marked: &[u8], code: &mut [u32], firsts: &mut [u16]) -> Listing
-    requires { LentRows text.now marked.now code.old firsts.old }
-    ensures { MacrosRead text.now code.new firsts.new result }
+// The list of macros and the section of a text: into cells, with the first cell of each macro.
+pub fn read_macros(source: &Source, code: &mut [u32], firsts: &mut [u16]) -> Listing
+    requires { LentRows source.now.text.now source.now.marked.now code.old firsts.old }
+    ensures { MacrosRead source.now.text.now code.new firsts.new result }
 {
-    let a = skip_ends(text, marked, 0);
-    let f = read_first(text, marked, a);
-    let b = skip_ends(text, marked, f.next);
-    let t = next_element(text, marked, b);
-    if is_mark(b'(', t) {
-        return read_list(text, marked, code, firsts, b, f.fault);
+    let a = skip_ends(source, 0);
+    let f = read_first(source, a);
+    let b = skip_ends(source, f.next);
+    if let Some(bracket) = next_open(source, b) {
+        return read_list(source, code, firsts, bracket, f.fault);
     }
-    let fault = read_section(text, marked, code, 0, 0, CodePlaces::PARAMETERS, 0);
+    let fault = read_section(source, code, 0, 0, CodePlaces::PARAMETERS, 0);
     Listing {
         count: 0,
         section: 0,

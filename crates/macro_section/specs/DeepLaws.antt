@@ -19,8 +19,8 @@ use Rattle.macros.specs.Pieces.{pieces_from}
 use Rattle.macros.specs.Pieces.Piece.{value, called}
 use Rattle.macros.specs.Prepared.{writes, deep_places}
 use Rattle.statements.specs.StatementAt.{fault_of}
-use Rattle.statements.specs.declared.Fault.{Fault}
-use Rattle.statements.specs.declared.Fault.TheVariants.{Clear}
+use Rattle.statements.specs.Faults.{Fault}
+use Rattle.std.specs.Prelude.{None}
 use Rattle.syntax.specs.Items.{up_from}
 use Rattle.macro_section.specs.Long.{Steady, over_at, rest_deeps, Overs}
 use Rattle.macro_section.specs.LongLaws.{long_kept, long-change}
@@ -106,7 +106,7 @@ module _ (s c f : List ℕ) (n stop : ℕ) (all from : List ℕ) (w w' : Written
 -- its beginning
 pub overs-begin : (s c f : List ℕ) (n room q place stop i k : ℕ) (v : Written) → size_of v ≡ 0 → is_over v ≡ false → place ≡ high c (q + cell.span_cell) → stop ≡ low c (q + cell.span_cell)
     → i ≡ first_change c q → k ≡ change_count c q → Steady (high c (q + cell.span_cell)) (changes_in s c (first_change c q) (change_count c q))
-    → Overs s c f n stop room (each (deep_places (macros_in s c f n)) (body_in s c q)) [] v Clear place i k
+    → Overs s c f n stop room (each (deep_places (macros_in s c f n)) (body_in s c q)) [] v None place i k
 unfolding body_in
 overs-begin s c f n room q place stop i k v z y a b d e h =
     record {

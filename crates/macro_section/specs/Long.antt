@@ -7,8 +7,8 @@ use Rattle.macro_values.specs.declared.Written.{Written}
 use Rattle.macros.specs.Pieces.{Change, pieces_from}
 use Rattle.macros.specs.Prepared.{deep_places}
 use Rattle.statements.specs.StatementAt.{fault_of}
-use Rattle.statements.specs.declared.Fault.{Fault}
-use Rattle.statements.specs.declared.Fault.TheVariants.{Clear, At}
+use Rattle.statements.specs.Faults.{Fault}
+use Rattle.std.specs.Prelude.{None, Some}
 
 -- changes that stand in order
 abbrev pub Steady : ℕ → List Change → Type 0
@@ -17,7 +17,7 @@ Steady place (d ∷ ds) = (place ≤ d.start) × (d.start ≤ d.stop) × Steady 
 
 -- the place at which something is over first
 abbrev pub over_at : Fault → Bool → Bool → ℕ → Fault
-over_at long before after place = cond before long (cond after (At place) long)
+over_at long before after place = cond before long (cond after (Some place) long)
 
 abbrev pub rest_deeps : List ℕ → List ℕ → List ℕ → ℕ → ℕ → ℕ → ℕ → ℕ → List ℕ
 rest_deeps s c f n place stop i k = each (deep_places (macros_in s c f n)) (pieces_from s place stop (changes_in s c i k))
@@ -26,8 +26,8 @@ rest_deeps s c f n place stop i k = each (deep_places (macros_in s c f n)) (piec
 pub record Long (room : ℕ) (deeps from : List ℕ) (w : Written) (long : Fault) (place : ℕ) : Type 0 where
   pub long_is : long ≡ fault_of (deeps ++ drop room from)
   pub count : is_over w ≡ false → size_of w ≡ length from
-  pub fine : is_over w ≡ false → long ≡ Clear
-  pub bad : is_over w ≡ true → (p : ℕ) × (long ≡ At p) × (p ≤ place)
+  pub fine : is_over w ≡ false → long ≡ None
+  pub bad : is_over w ≡ true → (p : ℕ) × (long ≡ Some p) × (p ≤ place)
 
 -- the same of the section up to a change, with the calls that are too deep in all of it
 pub record Overs (s c f : List ℕ) (n stop room : ℕ) (all from : List ℕ) (w : Written) (long : Fault) (place i k : ℕ) : Type 0 where

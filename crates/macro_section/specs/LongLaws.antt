@@ -12,17 +12,17 @@ use Rattle.statements.specs.Faults.{lower}
 use Rattle.statements.specs.FaultLaws.{fault-both}
 use Rattle.statements.specs.LowestLaws.{none_before, fault-first}
 use Rattle.statements.specs.StatementAt.{fault_of}
-use Rattle.statements.specs.declared.Fault.{Fault}
-use Rattle.statements.specs.declared.Fault.TheVariants.{Clear, At}
+use Rattle.statements.specs.Faults.{Fault}
+use Rattle.std.specs.Prelude.{None, Some}
 use Rattle.syntax.specs.Items.{up_from}
 use Rattle.syntax.specs.Verdict.{lowest}
 use Rattle.macro_section.specs.Long.{over_at, Long}
 
 lower-comm : (a b : Fault) → lower a b ≡ lower b a
-lower-comm Clear Clear = refl
-lower-comm Clear (At q) = refl
-lower-comm (At p) Clear = refl
-lower-comm (At p) (At q) = ap At (omega arith)
+lower-comm None None = refl
+lower-comm None (Some q) = refl
+lower-comm (Some p) None = refl
+lower-comm (Some p) (Some q) = ap Some (omega arith)
 
 lower-swap : (a b c d : Fault) → lower (lower a b) (lower c d) ≡ lower (lower a c) (lower b d)
 lower-swap a b c d =
@@ -51,7 +51,7 @@ grows room ds es from more long e =
     ∙ ap (λ z. lower z (fault_of (es ++ y))) (sym e)
 
 -- a place that is no later than others
-at_least : (p : ℕ) (xs : List ℕ) → T (none_before p xs) → lower (At p) (fault_of xs) ≡ At p
+at_least : (p : ℕ) (xs : List ℕ) → T (none_before p xs) → lower (Some p) (fault_of xs) ≡ Some p
 unfolding lowest
 at_least p xs h = sym (fault-both (p ∷ []) xs) ∙ fault-first p xs h
 
@@ -67,7 +67,7 @@ drop-ups zero place w = let e : place + 0 ≡ place = omega arith in rw e
 drop-ups (suc j) place [] = refl
 drop-ups (suc j) place (b ∷ w) = let e : place + suc j ≡ suc place + j = omega arith in rw e (drop-ups j (suc place) w)
 
-first-up : (place : ℕ) (w : List ℕ) → 0 < length w → fault_of (up_from place w) ≡ At place
+first-up : (place : ℕ) (w : List ℕ) → 0 < length w → fault_of (up_from place w) ≡ Some place
 unfolding up_from
 first-up place [] l = absurd (omega arith)
 first-up place (b ∷ w) l = fault-first place (up_from (suc place) w) (ups-later place (suc place) w (omega arith))
@@ -82,15 +82,15 @@ drop-sames zero at w = refl
 drop-sames (suc j) at [] = refl
 drop-sames (suc j) at (b ∷ w) = drop-sames j at w
 
-first-same : (at : ℕ) (w : List ℕ) → 0 < length w → fault_of (map (λ b. at) w) ≡ At at
+first-same : (at : ℕ) (w : List ℕ) → 0 < length w → fault_of (map (λ b. at) w) ≡ Some at
 first-same at [] l = absurd (omega arith)
 first-same at (b ∷ w) l = fault-first at (map (λ b. at) w) (sames-later at at w (omega arith))
 
 -- a step: what comes next is no earlier; where it is over first, at q, is the lowest place of it
 pub long-step : (room : ℕ) (ds es from more : List ℕ) (w w' : Written) (long long' : Fault) (place place' q : ℕ) → Long room ds from w long place → (is_over w ≡ true → is_over w' ≡ true)
     → (is_over w' ≡ false → size_of w' ≡ length (from ++ more)) → place ≤ place' → ((p : ℕ) → p ≤ place → T (none_before p (es ++ drop (room - length from) more)))
-    → (is_over w ≡ false → is_over w' ≡ true → (fault_of (es ++ drop (room - length from) more) ≡ At q) × (q ≤ place'))
-    → (is_over w ≡ false → is_over w' ≡ false → fault_of (es ++ drop (room - length from) more) ≡ Clear)
+    → (is_over w ≡ false → is_over w' ≡ true → (fault_of (es ++ drop (room - length from) more) ≡ Some q) × (q ≤ place'))
+    → (is_over w ≡ false → is_over w' ≡ false → fault_of (es ++ drop (room - length from) more) ≡ None)
     → long' ≡ over_at long (is_over w) (is_over w') q → Long room (ds ++ es) (from ++ more) w' long' place'
 long-step room ds es from more w w' long long' place place' q h stays count l later first clear e = go (is_over w) (is_over w') refl refl
   where
@@ -113,7 +113,7 @@ long-step room ds es from more w w' long long' place place' q h stays count l la
           bad = λ u. (k.0, d ∙ k.1, omega arith);
         }
     go false true y z =
-        let d : long' ≡ At q = rw (y, z) at e in
+        let d : long' ≡ Some q = rw (y, z) at e in
         let k = first y z in
         record {
           long_is = d ∙ sym (g ∙ ap (λ u. lower u x) (h.fine y) ∙ k.0);
@@ -166,17 +166,17 @@ long_kept ds from bytes o p w w' long long' place place' h within k l e =
         simp length-append (omega arith)
 
     first : is_over w ≡ false → is_over w' ≡ true
-        → (fault_of ([] ++ drop (length o - length from) (up_from place bytes)) ≡ At (place + (length o - size_of w))) × (place + (length o - size_of w) ≤ place')
+        → (fault_of ([] ++ drop (length o - length from) (up_from place bytes)) ≡ Some (place + (length o - size_of w))) × (place + (length o - size_of w) ≤ place')
     first y z =
         let a = ltb-true (length o) (size_of w + length bytes) (sym (over_none (is_over w) (ltb (length o) (size_of w + length bytes)) (is_over w') k.over y) ∙ z) in
         let b = h.count y in
         let d : length o - length from ≡ length o - (size_of w) = omega arith in (
           rw (drop-ups (length o - length from) place bytes)
-              (first-up (place + (length o - length from)) (drop (length o - length from) bytes) (simp length-drop (omega arith)) ∙ ap (λ u. At (place + u)) d),
+              (first-up (place + (length o - length from)) (drop (length o - length from) bytes) (simp length-drop (omega arith)) ∙ ap (λ u. Some (place + u)) d),
           omega arith,
         )
 
-    clear : is_over w ≡ false → is_over w' ≡ false → fault_of ([] ++ drop (length o - length from) (up_from place bytes)) ≡ Clear
+    clear : is_over w ≡ false → is_over w' ≡ false → fault_of ([] ++ drop (length o - length from) (up_from place bytes)) ≡ None
     clear y z =
         let a = ltb-false (length o) (size_of w + length bytes) (sym (over_none (is_over w) (ltb (length o) (size_of w + length bytes)) (is_over w') k.over y) ∙ z) in
         let b = h.count y in
@@ -219,28 +219,28 @@ long-change ds from o p x w w' long long' place at place' h within k l m e =
         go true = T-both (leb a at) (none_before a (map (λ b. at) (drop (length o - length from) x.bytes))) (le→leb a at (omega arith)) rest
         go false = rest
 
-    first : is_over w ≡ false → is_over w' ≡ true → (fault_of (cond x.deep (at ∷ []) [] ++ drop (length o - length from) (map (λ b. at) x.bytes)) ≡ At at) × (at ≤ place')
+    first : is_over w ≡ false → is_over w' ≡ true → (fault_of (cond x.deep (at ∷ []) [] ++ drop (length o - length from) (map (λ b. at) x.bytes)) ≡ Some at) × (at ≤ place')
     first y z =
         (rw (drop-sames (length o - length from) at x.bytes) (go x.deep (sym (over_none (is_over w) over (is_over w') k.over y) ∙ z)), m)
       where
         rest : List ℕ
         rest = drop (length o - length from) x.bytes
 
-        go : (d : Bool) → (d || ltb (length o) (size_of w + length x.bytes)) ≡ true → fault_of (cond d (at ∷ []) [] ++ map (λ b. at) rest) ≡ At at
+        go : (d : Bool) → (d || ltb (length o) (size_of w + length x.bytes)) ≡ true → fault_of (cond d (at ∷ []) [] ++ map (λ b. at) rest) ≡ Some at
         go true f = fault-first at (map (λ b. at) rest) (sames-later at at rest (omega arith))
         go false f =
             let a = ltb-true (length o) (size_of w + length x.bytes) f in
             let b = h.count y in
             first-same at rest (simp length-drop (omega arith))
 
-    clear : is_over w ≡ false → is_over w' ≡ false → fault_of (cond x.deep (at ∷ []) [] ++ drop (length o - length from) (map (λ b. at) x.bytes)) ≡ Clear
+    clear : is_over w ≡ false → is_over w' ≡ false → fault_of (cond x.deep (at ∷ []) [] ++ drop (length o - length from) (map (λ b. at) x.bytes)) ≡ None
     clear y z =
         rw (drop-sames (length o - length from) at x.bytes) (go x.deep (sym (over_none (is_over w) over (is_over w') k.over y) ∙ z))
       where
         rest : List ℕ
         rest = drop (length o - length from) x.bytes
 
-        go : (d : Bool) → (d || ltb (length o) (size_of w + length x.bytes)) ≡ false → fault_of (cond d (at ∷ []) [] ++ map (λ b. at) rest) ≡ Clear
+        go : (d : Bool) → (d || ltb (length o) (size_of w + length x.bytes)) ≡ false → fault_of (cond d (at ∷ []) [] ++ map (λ b. at) rest) ≡ None
         go true f = absurd (true≢false f)
         go false f =
             let a = ltb-false (length o) (size_of w + length x.bytes) f in

@@ -4,7 +4,7 @@
 ghost use Rattle.std.specs.Prelude.{◌≡◌, false, [], ◌+◌, ◌-◌, ◌≤◌, ◌<◌, length, take, drop, replicate};
 ghost use Rattle.language.specs.Limits as limit;
 ghost use Rattle.macro_code.specs.Places.{half, span_cell};
-ghost use Rattle.macro_expansion.specs.Expanding.{KnownList, change_writes};
+ghost use Rattle.macro_expansion.specs.Expanding.{change_writes};
 ghost use Rattle.macro_memory.specs.Memory.{reach, memory, Remembers};
 ghost use Rattle.macro_values.specs.Wrote.{is_over, size_of, Wrote};
 ghost use Rattle.macros.specs.Expansion.{levels};
@@ -54,8 +54,8 @@ fn section_change(
     cell: usize,
     v: Written,
 ) -> Written
-    requires { (cell < reach) × KnownList list.now × (size_of v ≤ length out.old) × (memory ≤ length calls.old) × Remembers list.now.text.now list.now.code.now list.now.names.now list.now.count calls.old v }
-    ensures { Wrote (change_writes list.now.text.now list.now.code.now list.now.names.now list.now.count [] levels cell) v result out.old out.new × Remembers list.now.text.now list.now.code.now list.now.names.now list.now.count calls.new result }
+    requires { (cell < reach) × (size_of v ≤ length out.old) × (memory ≤ length calls.old) × Remembers list.now.listed.coded.text.now list.now.listed.coded.code.now list.now.listed.firsts.now list.now.listed.count calls.old v }
+    ensures { Wrote (change_writes list.now.listed.coded.text.now list.now.listed.coded.code.now list.now.listed.firsts.now list.now.listed.count [] levels cell) v result out.old out.new × Remembers list.now.listed.coded.text.now list.now.listed.coded.code.now list.now.listed.firsts.now list.now.listed.count calls.new result }
 {
     let level = Level {
         cell: cell,
@@ -87,7 +87,7 @@ fn over_at(long: Fault, before: Written, after: Written, place: usize) -> Fault
     ensures { result ≡ over_at long (is_over before) (is_over after) place }
 {
     if before.count.is_some() & after.count.is_none() {
-        return Fault::At(place);
+        return Some(place);
     }
     long
 }
@@ -100,29 +100,29 @@ fn write_parts(
     places: &mut [u16],
     section: usize,
 ) -> WrittenOut
-    requires { (section < half) × KnownList list.now × Room out.old places.old × Steady (high list.now.code.now (section + span_cell)) (changes_in list.now.text.now list.now.code.now (first_change list.now.code.now section) (change_count list.now.code.now section)) × (memory ≤ length calls.old) × Remembers list.now.text.now list.now.code.now list.now.names.now list.now.count calls.old none }
-    ensures { Sectioned list.now.text.now list.now.code.now list.now.names.now list.now.count section result out.old out.new places.new }
+    requires { (section < half) × Room out.old places.old × Steady (high list.now.listed.coded.code.now (section + span_cell)) (changes_in list.now.listed.coded.text.now list.now.listed.coded.code.now (first_change list.now.listed.coded.code.now section) (change_count list.now.listed.coded.code.now section)) × (memory ≤ length calls.old) × Remembers list.now.listed.coded.text.now list.now.listed.coded.code.now list.now.listed.firsts.now list.now.listed.count calls.old none }
+    ensures { Sectioned list.now.listed.coded.text.now list.now.listed.coded.code.now list.now.listed.firsts.now list.now.listed.count section result out.old out.new places.new }
 {
-    let code = list.code;
-    let stop = macro_code::low(code, section + CodePlaces::SPAN);
-    let changes = macro_code::low(code, section + CodePlaces::COUNTS);
+    let coded = &list.listed.coded;
+    let stop = coded.low(section + CodePlaces::SPAN);
+    let changes = coded.low(section + CodePlaces::COUNTS);
     let room = out.len();
-    let mut place = macro_code::high(code, section + CodePlaces::SPAN);
-    let mut cell = macro_calls::first_change(code, section);
+    let mut place = coded.high(section + CodePlaces::SPAN);
+    let mut cell = macro_calls::first_change(coded, section);
     let mut w = Written::nothing();
-    let mut long = Fault::Clear;
+    let mut long = None;
     for passed in 0..changes {
-        let start = macro_code::high(code, cell);
-        let kept = write_kept(list.text, place, start, out, places, w);
+        let start = coded.high(cell);
+        let kept = write_kept(coded.text, place, start, out, places, w);
         let next = section_change(list, calls, out, cell, kept);
         repeat_place(start as u16, places, kept.count.unwrap_or(0), next);
         let first = over_at(long, w, kept, place + (room - w.count.unwrap_or(0)));
         long = over_at(first, kept, next, start);
         w = next;
-        place = macro_code::low(code, cell);
-        cell += macro_calls::change_size(code, cell);
+        place = coded.low(cell);
+        cell += macro_calls::change_size(coded, cell);
     }
-    let last = write_kept(list.text, place, stop, out, places, w);
+    let last = write_kept(coded.text, place, stop, out, places, w);
     WrittenOut {
         state: last,
         long: over_at(long, w, last, place + (room - w.count.unwrap_or(0))),
@@ -136,8 +136,8 @@ pub fn write_section(
     out: &mut [u8],
     places: &mut [u16],
 ) -> WrittenOut
-    requires { (section < half) × KnownList list.now × Room out.old places.old × Steady (high list.now.code.now (section + span_cell)) (changes_in list.now.text.now list.now.code.now (first_change list.now.code.now section) (change_count list.now.code.now section)) }
-    ensures { Sectioned list.now.text.now list.now.code.now list.now.names.now list.now.count section result out.old out.new places.new }
+    requires { (section < half) × Room out.old places.old × Steady (high list.now.listed.coded.code.now (section + span_cell)) (changes_in list.now.listed.coded.text.now list.now.listed.coded.code.now (first_change list.now.listed.coded.code.now section) (change_count list.now.listed.coded.code.now section)) }
+    ensures { Sectioned list.now.listed.coded.text.now list.now.listed.coded.code.now list.now.listed.firsts.now list.now.listed.count section result out.old out.new places.new }
 {
     let mut calls = [0u32; MEMORY];
     write_parts(list, &mut calls, out, places, section)

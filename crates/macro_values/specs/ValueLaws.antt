@@ -3,16 +3,21 @@ use Rattle.std.specs.Prelude.{◌≡◌, refl, Bool, true, false, cond, T, eqb, 
 use Rattle.std.proofs.Common.{sym, ◌∙◌, arith, ltb-true, ltb-false, ne_eqb, eqb→eq}
 use Rattle.std.proofs.Math.Path.{ap}
 use Rattle.std.proofs.lemmas.Bool.{false≢true}
+use Rattle.std.proofs.lemmas.Option.{none-some, same_Some}
+use Rattle.std.specs.Prelude.{Some, None}
 use mathlib.Core.List.{List, [], ◌++◌, map, append-nil, append_assoc}
 use Prim.Native.Nat.{ℕ, zero, suc, ◌-◌, ◌<◌, ◌≤◌}
 use Rattle.std.proofs.Math.ListN.{length, get_or, length-map, get_or-map, get_or-eq_default}
 use Rattle.layout.specs.Cells.{tab}
 use Rattle.layout.proofs.CellLaws.{length-tab, get_d-tab}
 use Rattle.macros.specs.Expansion.{filled_in}
-use Rattle.macros.specs.Pieces.{Given}
+use Rattle.macros.specs.Pieces as piece
 use Rattle.macros.specs.Pieces.Given.{typed, parameter, joined}
 use Rattle.macro_code.specs.Code.{bytes_at, given_in, call_in, arguments_in, argument_count, argument_cell}
+use Rattle.macro_code.specs.Kinds.{GivenAt, parameter_of}
 use Rattle.macro_code.specs.Places as place
+use Rattle.macro_code.specs.declared.Given.{Given}
+use Rattle.macro_code.specs.declared.Given.TheVariants.{Typed, Parameter, Joined}
 use Rattle.macro_values.specs.Values.{kind_of, number_in, own, goes_up, next_cell}
 
 -- what the parameter stands for
@@ -46,7 +51,7 @@ module _ (s c calls : List ℕ) (d k : ℕ) where
   argument-here l =
       let i = get_or calls d 0 in
       let n = argument_count c i in
-      let f : ℕ → Given = λ j. given_in s c (argument_cell i j) in
+      let f : ℕ → piece.Given = λ j. given_in s c (argument_cell i j) in
       get_or-map (filled_in (arguments_in s c calls d)) (tab n f) k (typed [])
       ∙ ap (filled_in (arguments_in s c calls d)) (get_d-tab n f k (typed []) l)
 
@@ -55,7 +60,7 @@ module _ (s c calls : List ℕ) (d k : ℕ) where
   argument-none l =
       let i = get_or calls d 0 in
       let n = argument_count c i in
-      let f : ℕ → Given = λ j. given_in s c (argument_cell i j) in
+      let f : ℕ → piece.Given = λ j. given_in s c (argument_cell i j) in
       let e : length (map (filled_in (arguments_in s c calls d)) (tab n f)) ≡ n = length-map (tab n f) (filled_in (arguments_in s c calls d)) ∙ length-tab n f in
       get_or-eq_default (map (filled_in (arguments_in s c calls d)) (tab n f)) [] {n = k} (omega (arith, e))
 
@@ -118,6 +123,17 @@ pub up_is : (c calls : List ℕ) (d g : ℕ) → (kind_of c g ≡ place.typed_ki
 unfolding goes_up
 up_is c calls zero g h k = absurd (k refl)
 up_is c calls (suc d) g h k = let e : suc d - 1 ≡ d = omega arith in rw (e, ne_eqb (kind_of c g) place.typed_kind h)
+
+-- what the code reads
+pub without-parameter : (c : List ℕ) (g : ℕ) (r : Given) → GivenAt c g r → parameter_of r ≡ None → kind_of c g ≡ place.typed_kind
+without-parameter c g Typed h e = h
+without-parameter c g (Parameter k) h e = absurd (none-some k (sym e))
+without-parameter c g (Joined k) h e = absurd (none-some k (sym e))
+
+pub with-parameter : (c : List ℕ) (g k : ℕ) (r : Given) → GivenAt c g r → parameter_of r ≡ Some k → (kind_of c g ≡ place.typed_kind → ⊥) × (k ≡ number_in c g) × (k < place.half)
+with-parameter c g k Typed h e = absurd (none-some k e)
+with-parameter c g k (Parameter j) h e = let z : k ≡ j = same_Some k j (sym e) in ((λ y. omega (arith, y, h.0)), z ∙ h.1.0, omega (arith, z, h.1.1))
+with-parameter c g k (Joined j) h e = let z : k ≡ j = same_Some k j (sym e) in (h.0, z ∙ h.2.0, omega (arith, z, h.2.1))
 
 pub climb-told : (s c calls x a b : List ℕ) (d g i : ℕ) → goes_up c calls d g ≡ true → i ≡ next_cell c calls (d - 1) g → b ≡ own s c i
     → x ≡ a ++ up (arguments_in s c calls d) c g → x ≡ (a ++ b) ++ up (arguments_in s c calls (d - 1)) c i

@@ -7,20 +7,20 @@ use Rattle.macros.specs.Expansion.{Fault, Writing, places_of, followed_by, just}
 use Rattle.statements.specs.Faults.{lower}
 use Rattle.statements.specs.FaultLaws.{fault-both}
 use Rattle.statements.specs.StatementAt.{fault_of}
-use Rattle.statements.specs.declared.Fault as told
-use Rattle.statements.specs.declared.Fault.TheVariants.{Clear, At}
+use Rattle.statements.specs.Faults as told
+use Rattle.std.specs.Prelude.{None, Some}
 use Rattle.macro_values.specs.declared.Written.{Written}
 use Rattle.macro_values.specs.Wrote.{is_over, size_of, Wrote}
 
-pub lower-none-right : (a : told.Fault) → a ≡ lower a Clear
-lower-none-right Clear = refl
-lower-none-right (At p) = refl
+pub lower-none-right : (a : told.Fault) → a ≡ lower a None
+lower-none-right None = refl
+lower-none-right (Some p) = refl
 
 pub lower-assoc : (a b c : told.Fault) → lower (lower a b) c ≡ lower a (lower b c)
-lower-assoc Clear b c = refl
-lower-assoc (At p) Clear c = refl
-lower-assoc (At p) (At q) Clear = refl
-lower-assoc (At p) (At q) (At r) = ap At (omega arith)
+lower-assoc None b c = refl
+lower-assoc (Some p) None c = refl
+lower-assoc (Some p) (Some q) None = refl
+lower-assoc (Some p) (Some q) (Some r) = ap Some (omega arith)
 
 -- a fault in two steps
 fault-then : (number : ℕ) (xs ys : List Fault) (v u r : told.Fault)

@@ -4,7 +4,7 @@ use Rattle.std.specs.Option.{is_none, unwrap_or}
 use Rattle.macros.specs.Expansion.{Writing, places_of}
 use Rattle.statements.specs.Faults.{lower}
 use Rattle.statements.specs.StatementAt.{fault_of}
-use Rattle.statements.specs.declared.Fault.TheVariants.{Clear}
+use Rattle.std.specs.Prelude.{None}
 use Rattle.macro_values.specs.declared.Written.{Written}
 
 -- there is no room, or a call is too deep
@@ -17,7 +17,7 @@ size_of v = unwrap_or v.count 0
 
 -- nothing is written yet
 abbrev pub none : Written
-none = record { count = Some 0; unknown = Clear; uneven = Clear }
+none = record { count = Some 0; unknown = None; uneven = None }
 
 -- w is written behind what v tells of the row o: then r tells of the row p. Of a row that is over only the faults are known
 pub record Wrote (w : Writing) (v r : Written) (o p : List ℕ) : Type 0 where

@@ -9,7 +9,7 @@ ghost use Rattle.macros.specs.Expansion.{just, filled_in};
 ghost use Rattle.macro_values.specs.Values.{reach, own, Above};
 ghost use Rattle.macro_values.specs.Wrote.{size_of, none, Wrote};
 
-use macro_code::CodePlaces;
+use macro_code::{CodePlaces, Coded, Given};
 use statements::Fault;
 
 // What is written: how many bytes, none if there is no room for all, or if a call is too deep; and the faults of 64 and of 65 that are met.
@@ -27,8 +27,8 @@ impl Written {
     {
         Written {
             count: Some(0),
-            unknown: Fault::Clear,
-            uneven: Fault::Clear,
+            unknown: None,
+            uneven: None,
         }
     }
 
@@ -76,46 +76,38 @@ pub fn argument_cell(call: usize, k: usize) -> usize
     call + CodePlaces::ARGUMENTS + CodePlaces::GIVEN_SIZE * k
 }
 
-// A text, the cells of its list and its section, and the cells of nested calls, of which so many are around.
+// A text with its cells, and the cells of nested calls, of which so many are around.
 #[derive(Clone, Copy)]
 pub struct Around<'a, 'b> {
-    pub text: &'a [u8],
-    pub code: &'a [u32],
+    pub coded: Coded<'a>,
     pub calls: &'b [u32],
     pub depth: usize,
 }
 
 impl<'a, 'b> Around<'a, 'b> {
     // The bytes of a name or an argument as typed.
-    #[tactic(auto, unfolding(crate::specs::Values::own, macro_code::specs::Code::bytes_at))]
+    #[tactic(auto, unfolding(crate::specs::Values::own))]
     fn own(&self, g: usize) -> &'a [u8]
         requires { g < far }
-        ensures { result.now ≡ own self.now.text.now self.now.code.now g }
+        ensures { result.now ≡ own self.now.coded.text.now self.now.coded.code.now g }
     {
-        if macro_code::high(self.code, g + CodePlaces::KIND) == CodePlaces::PARAMETER {
-            return macro_code::part(self.text, 0, 0);
+        match self.coded.given_at(g) {
+            Given::Parameter(_) => &self.coded.text[..0],
+            Given::Typed | Given::Joined(_) => self.coded.bytes_at(g),
         }
-        macro_code::part(
-            self.text,
-            macro_code::high(self.code, g),
-            macro_code::low(self.code, g),
-        )
     }
 
     // The argument of the last of `d` calls that the parameter of a name or an argument stands for.
     fn above(&self, d: usize, g: usize) -> Option<usize>
         requires { g < far }
-        ensures { Above self.now.code.now self.now.calls.now d g result }
+        ensures { Above self.now.coded.code.now self.now.calls.now d g result }
     {
-        if macro_code::high(self.code, g + CodePlaces::KIND) == CodePlaces::TYPED {
-            return None;
-        }
+        let k = self.coded.given_at(g).parameter()?;
         if d == 0 {
             return None;
         }
-        let k = macro_code::low(self.code, g + CodePlaces::KIND);
         let call = cell_at(self.calls, d - 1);
-        if k >= macro_code::low(self.code, call + CodePlaces::KIND) {
+        if k >= self.coded.low(call + CodePlaces::KIND) {
             return None;
         }
         Some(argument_cell(call, k))
@@ -124,7 +116,7 @@ impl<'a, 'b> Around<'a, 'b> {
     // Writes what a name or an argument stands for.
     pub fn write_given(&self, g: usize, out: &mut [u8], v: Written) -> Written
         requires { (g < far) × (size_of v ≤ length out.old) }
-        ensures { Wrote (just (filled_in (arguments_in self.now.text.now self.now.code.now self.now.calls.now self.now.depth) (given_in self.now.text.now self.now.code.now g))) v result out.old out.new }
+        ensures { Wrote (just (filled_in (arguments_in self.now.coded.text.now self.now.coded.code.now self.now.calls.now self.now.depth) (given_in self.now.coded.text.now self.now.coded.code.now g))) v result out.old out.new }
     {
         let mut w = v.add(self.own(g), out);
         let mut cell = g;
@@ -140,13 +132,13 @@ impl<'a, 'b> Around<'a, 'b> {
     // Writes what a parameter stands for.
     pub fn write_value(&self, k: usize, out: &mut [u8], v: Written) -> Written
         requires { (k < half) × (size_of v ≤ length out.old) }
-        ensures { Wrote (just (get_or (arguments_in self.now.text.now self.now.code.now self.now.calls.now self.now.depth) k [])) v result out.old out.new }
+        ensures { Wrote (just (get_or (arguments_in self.now.coded.text.now self.now.coded.code.now self.now.calls.now self.now.depth) k [])) v result out.old out.new }
     {
         if self.depth == 0 {
             return v;
         }
         let call = cell_at(self.calls, self.depth - 1);
-        if k >= macro_code::low(self.code, call + CodePlaces::KIND) {
+        if k >= self.coded.low(call + CodePlaces::KIND) {
             return v;
         }
         let outer = Around {

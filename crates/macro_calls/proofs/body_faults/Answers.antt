@@ -8,7 +8,7 @@ use Rattle.macro_calls.proofs.body_faults.Goals as goal
 pub loop-k-init : goal.loop-k-init
 loop-k-init c = let a = c.args in
     record {
-      walks = walking-first (macros_in a.text.now a.code.now a.names.now a.count) a.text.now a.code.now a.q c.first_change-i.ensures.0 c.first_change-i.ensures.1;
+      walks = walking-first (macros_in a.coded.now.text.now a.coded.now.code.now a.names.now a.count) a.coded.now.text.now a.coded.now.code.now a.q c.first_change-i.ensures.0 c.first_change-i.ensures.1;
       kept = kept-all a.count a.names.now;
     }
 
@@ -25,10 +25,10 @@ pub loop-k-preserved : goal.loop-k-preserved
 loop-k-preserved c = let a = c.args in
     let l = c.loop-k.invariant in
     record {
-      walks = walking_on (macros_in a.text.now a.code.now a.names.now a.count) a.text.now a.code.now a.q l.walks (rw (macros-kept l.kept a.text.now a.code.now) at c.change_faults.ensures.0) c.both-faults.ensures c.change_size-i.ensures.0;
+      walks = walking_on (macros_in a.coded.now.text.now a.coded.now.code.now a.names.now a.count) a.coded.now.text.now a.coded.now.code.now a.q l.walks (rw (macros-kept l.kept a.coded.now.text.now a.coded.now.code.now) at c.change_faults.ensures.0) c.both-faults.ensures c.change_size-i.ensures.0;
       kept = kept_on l.kept c.change_faults.ensures.1;
     }
 
 pub returns : goal.returns
 returns c = let a = c.args in
-    (walking-end (macros_in a.text.now a.code.now a.names.now a.count) a.text.now a.code.now a.q c.loop-k.invariant.walks (omega arith), c.loop-k.invariant.kept)
+    (walking-end (macros_in a.coded.now.text.now a.coded.now.code.now a.names.now a.count) a.coded.now.text.now a.coded.now.code.now a.q c.loop-k.invariant.walks (omega arith), c.loop-k.invariant.kept)

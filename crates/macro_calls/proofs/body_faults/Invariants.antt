@@ -6,6 +6,6 @@ use Rattle.macro_calls.proofs.body_faults.Given as goal
 
 abbrev pub invariant-loop-k : goal.invariant-loop-k
 invariant-loop-k l = record {
-  walks : Walking (macros_in l.text l.code l.initial.names l.count) l.text l.code l.q l.i l._k l.faults;
+  walks : Walking (macros_in l.coded.text.now l.coded.code.now l.initial.names l.count) l.coded.text.now l.coded.code.now l.q l.i l._k l.faults;
   kept : FirstsKept l.count l.initial.names l.names;
 }

@@ -7,18 +7,18 @@ returns-then-given-taken c =
     let argsᶜ = c.args in
     let lowᶜ = c.low-given in
     let highᶜ = c.high-taken in
-    counts-few argsᶜ.code.now argsᶜ.i argsᶜ.m lowᶜ.ensures.0 highᶜ.ensures.0 c.if-given-taken.true c.high.ensures.0
+    counts-few argsᶜ.coded.now.code.now argsᶜ.i argsᶜ.m lowᶜ.ensures.0 highᶜ.ensures.0 c.if-given-taken.true c.high.ensures.0
 
 pub returns-then-taken-given : goal.returns-then-taken-given
 returns-then-taken-given c =
     let argsᶜ = c.args in
     let lowᶜ = c.low-given in
     let highᶜ = c.high-taken in
-    counts-many argsᶜ.code.now argsᶜ.i argsᶜ.m lowᶜ.ensures.0 highᶜ.ensures.0 c.if-taken-given.true c.high-then-taken-given.ensures.0
+    counts-many argsᶜ.coded.now.code.now argsᶜ.i argsᶜ.m lowᶜ.ensures.0 highᶜ.ensures.0 c.if-taken-given.true c.high-then-taken-given.ensures.0
 
 pub returns : goal.returns
 returns c =
     let argsᶜ = c.args in
     let lowᶜ = c.low-given in
     let highᶜ = c.high-taken in
-    counts-right argsᶜ.code.now argsᶜ.i argsᶜ.m lowᶜ.ensures.0 highᶜ.ensures.0 c.if-given-taken.false c.if-taken-given.false
+    counts-right argsᶜ.coded.now.code.now argsᶜ.i argsᶜ.m lowᶜ.ensures.0 highᶜ.ensures.0 c.if-given-taken.false c.if-taken-given.false

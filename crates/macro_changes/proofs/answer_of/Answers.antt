@@ -8,7 +8,7 @@ find_parameter-k-requires c = let h = c.requires.held in let e = rw c.in-Some.is
 
 pub returns-in-Some : goal.returns-in-Some
 returns-in-Some c = let k = c.find_parameter-k in
-    rw (c.unwrap_or.ensures, c.is_some.ensures) (joined-answer c.args.text.now c.args.code.now c.args.x c.requires.held c.in-Some.is c.requires.few k.result k.ensures.found k.ensures.listed c.is_identifier.ensures)
+    rw (c.unwrap_or.ensures, c.count_in.ensures, c.is_some.ensures) (joined-answer c.args.text.now c.args.code.now c.args.x c.requires.held c.in-Some.is c.requires.few k.result k.ensures.found k.ensures.listed c.is_identifier.ensures)
 
 pub returns-then-t-ne-WORD : goal.returns-then-t-ne-WORD
 returns-then-t-ne-WORD c = other-answer c.args.text.now c.args.code.now c.args.x c.requires.held c.in_default.is c.if-t-ne-WORD.true

@@ -1,6 +1,6 @@
 -- `macro_changes::closes` meets its contract.
-use borrow.Author.Tests.{ne_eqb}
+use mathlib.Core.Path.{sym, ◌∙◌}
 use Rattle.macro_changes.proofs.closes.Goals as goal
 
-pub returns-then-closing : goal.returns-then-closing
-returns-then-closing c = λ s. rw (ne_eqb _ _ c.if-t-eq-NOTHING.false, c.if-closing.true) (c.is_mark.ensures s)
+pub returns-then-is_some : goal.returns-then-is_some
+returns-then-is_some c = λ s. rw (sym c.is_some.ensures ∙ c.if-is_some.true) (c.is_mark.ensures s)

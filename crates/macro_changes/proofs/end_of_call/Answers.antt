@@ -1,19 +1,23 @@
 -- `macro_changes::end_of_call` meets its contract.
+use borrow.Author.Rules.{rules}
 use native.Mathlib.Omega.{arith}
-use Rattle.macro_changes.proofs.Calling.{ends-at_end, ends-at-none, ends-at-close}
+use Rattle.std.proofs.Common.{ap, ◌≡◌, cond, eqb, ◌+◌, ℕ}
+use Rattle.macro_changes.proofs.Calling.{one_most, ends-at_end, ends-at-none, ends-at-close}
 use Rattle.macro_changes.proofs.end_of_call.Goals as goal
 
-pub next_element-t-requires : goal.next_element-t-requires
-next_element-t-requires c = c.requires.lent
+pub returns-in_default : goal.returns-in_default
+returns-in_default c = record { is = λ closing d. ends-at-none c.requires.size c.requires.most (c.next_element.ensures.none c.in_default.is) }
 
-pub overflow_add-t : goal.overflow_add-t
-overflow_add-t c = let h = c.next_element-t.ensures.held in omega (arith, h.own, h.ends, h.small)
+pub overflow_add-result : goal.overflow_add-result
+overflow_add-result c =
+    let h = (c.next_element.ensures.some _ c.in-Some.is).held in
+    let k : c.from.result ≡ cond (eqb c.in-Some.t.byte 59) 1 0 = search rules in
+    omega (arith, k, one_most (eqb c.in-Some.t.byte 59), h.own, h.ends, h.small)
 
 pub returns-then-t-eq-END : goal.returns-then-t-eq-END
-returns-then-t-eq-END c = ends-at_end c.next_element-t.ensures c.args.source.now.scope.closing c.requires.lent.size c.requires.lent.most c.if-t-eq-END.true c.pick.ensures
-
-pub returns-then-t-eq-NOTHING : goal.returns-then-t-eq-NOTHING
-returns-then-t-eq-NOTHING c = ends-at-none c.next_element-t.ensures c.args.source.now.scope.closing c.requires.lent.size c.requires.lent.most c.if-t-eq-NOTHING.true
+returns-then-t-eq-END c =
+    let k : c.from.result ≡ cond (eqb c.in-Some.t.byte 59) 1 0 = search rules in
+    record { is = λ closing d. ends-at_end c.requires.size c.requires.most (c.next_element.ensures.some _ c.in-Some.is) c.if-t-eq-END.true (ap (λ (z : ℕ). c.in-Some.t.at + z) k) }
 
 pub returns : goal.returns
-returns c = ends-at-close c.next_element-t.ensures c.args.source.now.scope.closing c.requires.lent.size c.requires.lent.most c.if-t-eq-END.false c.if-t-eq-NOTHING.false c.requires.done
+returns c = record { is = λ closing d. ends-at-close c.requires.size c.requires.most (c.next_element.ensures.some _ c.in-Some.is) c.if-t-eq-END.false d }

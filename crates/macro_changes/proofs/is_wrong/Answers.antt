@@ -19,4 +19,4 @@ is_listed-requires c = c.requires
 
 pub returns : goal.returns
 unfolding wrong_by
-returns c = rw (c.is_mark.ensures c.args.text.now, c.is_mark-2.ensures c.args.text.now, c.is_mark-3.ensures c.args.text.now, c.is_listed.ensures, sort-is word c.args.t.sort c.requires.sorted) refl
+returns c = rw (c.is_mark.ensures c.args.text.now, c.is_mark-2.ensures c.args.text.now, c.is_mark-3.ensures c.args.text.now, c.is_some.ensures, c.is_listed.ensures, sort-is word c.args.t.sort c.requires.sorted) refl

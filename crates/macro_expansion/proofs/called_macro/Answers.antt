@@ -1,10 +1,9 @@
 -- `macro_expansion::called_macro` meets its contract.
-use mathlib.Core.Path.{sym, ◌∙◌}
 use Prim.Native.Nat.{◌+◌}
 use Rattle.macro_expansion.specs.Expanding.{arguments_at}
 use Rattle.macro_expansion.specs.CallLaws.{typed-given}
 use Rattle.macro_expansion.proofs.called_macro.Goals as goal
 
-pub returns-then-high-eq-TYPED : goal.returns-then-high-eq-TYPED
-returns-then-high-eq-TYPED c = let a = c.args in
-    rw (typed-given a.list.now.text.now a.list.now.code.now (arguments_at a.list.now.text.now a.list.now.code.now a.calls.now a.at.left) (a.at.cell + 2) (sym c.high.ensures.0 ∙ c.if-high-eq-TYPED.true)) c.find_target.ensures
+pub returns-in-Typed : goal.returns-in-Typed
+returns-in-Typed c = let a = c.args in
+    rw (typed-given a.list.now.listed.coded.text.now a.list.now.listed.coded.code.now (arguments_at a.list.now.listed.coded.text.now a.list.now.listed.coded.code.now a.calls.now a.at.left) (a.at.cell + 2) c.in-Typed.ensures) c.find_target.ensures

@@ -9,13 +9,13 @@ use Rattle.macro_expansion.proofs.find_written.Goals as goal
 
 pub returns-in_err-n : goal.returns-in_err-n
 returns-in_err-n c =
-    let l = c.args.list.now in
+    let l = c.args.list.now.listed in
     let x = c.args.around.now in
-    let w = filled_in (arguments_in x.text.now x.code.now x.calls.now x.depth) (given_in x.text.now x.code.now (c.args.cell + 2)) in
+    let w = filled_in (arguments_in x.coded.text.now x.coded.code.now x.calls.now x.depth) (given_in x.coded.text.now x.coded.code.now (c.args.cell + 2)) in
     let k = rw c.nothing.ensures at c.write_given-written.ensures in
     let none : c.write_given-written.result.count ≡ None = search rules in
     rw c.from_residual.ensures
     (record {
-      once_is = long-unknown l.text.now l.code.now l.names.now l.count w c.args.name.now c.requires.1.names c.requires.2 (sym k.over ∙ none-over c.write_given-written.result none);
+      once_is = long-unknown l.coded.text.now l.coded.code.now l.firsts.now l.count w c.args.name.now c.args.list.now.known.names c.requires.1 (sym k.over ∙ none-over c.write_given-written.result none);
       only = tt;
     })

@@ -11,10 +11,10 @@ use Rattle.macro_expansion.proofs.run.Given as goal
 
 abbrev pub invariant-loop-passed : goal.invariant-loop-passed
 invariant-loop-passed l =
-    let s = l.list.text.now in
-    let c = l.list.code.now in
-    let f = l.list.names.now in
-    let n = l.list.count in
+    let s = l.list.listed.coded.text.now in
+    let c = l.list.listed.coded.code.now in
+    let f = l.list.listed.firsts.now in
+    let n = l.list.listed.count in
     (u : Writing) × Wrote u l.initial.w l.w l.initial.out l.out
     × (rest_writes s c f n l.calls l.rest.left l.initial.place l.rest.stop l.initial.cell l.rest.changes
     ≡ followed_by u (rest_writes s c f n l.calls l.rest.left l.place l.rest.stop l.cell (l.rest.changes - l.passed)))

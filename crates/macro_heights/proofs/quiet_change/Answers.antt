@@ -1,16 +1,16 @@
 -- `macro_heights::quiet_change` meets its contract.
 use Rattle.macro_heights.proofs.Measuring.{quiet-value, quiet-nothing, quiet-call}
-use native.Mathlib.Omega.{arith}
+use mathlib.Core.Path.{refl}
 use Rattle.macro_heights.proofs.quiet_change.Goals as goal
 
-pub returns-in-0 : goal.returns-in-0
-returns-in-0 c = let l = c.args.list.now in
-    quiet-value l.text.now l.code.now l.firsts.now l.count c.args.quiet.now c.args.i c.high.ensures.0 c.in-0.is
+pub returns-in-Value : goal.returns-in-Value
+returns-in-Value c = let l = c.args.macros.now.list in
+    quiet-value l.coded.text.now l.coded.code.now l.firsts.now l.count c.args.quiet.now c.args.i refl c.in-Value.ensures.0
 
-pub returns-in-1 : goal.returns-in-1
-returns-in-1 c = let l = c.args.list.now in
-    quiet-call l.text.now l.code.now l.firsts.now l.count c.args.quiet.now c.args.i c.high.ensures.0 c.in-1.is c.call_height.ensures.1 c.call_height.ensures.2
+pub returns-in-Call : goal.returns-in-Call
+returns-in-Call c = let l = c.args.macros.now.list in
+    quiet-call l.coded.text.now l.coded.code.now l.firsts.now l.count c.args.quiet.now c.args.i refl c.in-Call.ensures.0 c.call_height.ensures.1 c.call_height.ensures.2
 
-pub returns-in_default : goal.returns-in_default
-returns-in_default c = let l = c.args.list.now in
-    quiet-nothing l.text.now l.code.now l.firsts.now l.count c.args.quiet.now c.args.i c.high.ensures.0 (λ z. omega arith) (λ z. omega arith)
+pub returns-in-Nothing : goal.returns-in-Nothing
+returns-in-Nothing c = let l = c.args.macros.now.list in
+    quiet-nothing l.coded.text.now l.coded.code.now l.firsts.now l.count c.args.quiet.now c.args.i refl c.in-Nothing.ensures.0 c.in-Nothing.ensures.1

@@ -1,6 +1,6 @@
 -- `macro_loading::load_written` meets its contract.
 use native.Mathlib.Omega.{arith}
-use mathlib.Core.Path.{refl, sym}
+use mathlib.Core.Path.{sym}
 use lib.Seq.{length-take-le}
 use Rattle.macro_loading.proofs.Outcomes.{unfit-leaves, lent, ready-leaves}
 use Rattle.macro_loading.proofs.load_written.Goals as goal
@@ -15,7 +15,7 @@ load_lined-requires c =
 
 pub returns-in-Err : goal.returns-in-Err
 returns-in-Err c =
-    unfit-leaves c.requires c.prepare.ensures c.in-Err.unfit c.in-Err.is refl refl
+    unfit-leaves c.requires c.prepare.ensures c.in-Err.unfit c.in-Err.is
 
 pub returns-in-Ok : goal.returns-in-Ok
 returns-in-Ok c =

@@ -14,7 +14,7 @@ returns c =
     let calls = x.calls.now in
     let place = slot_at c.args.slot + around_cells in
     let d : x.depth ≡ levels - at.left = omega (arith, p.0.levels_are) in
-    λ z. found x.text.now x.code.now x.calls.now _ at.left at.cell at.body c.args.slot _ p.1 refl
+    λ z. found x.coded.text.now x.coded.code.now x.calls.now _ at.left at.cell at.body c.args.slot _ p.1 refl
     (sym c.cell_at.ensures.0 ∙ c.if-cell_at-at.false) (sym c.cell_at-2.ensures.0 ∙ c.if-cell_at-at-2.false) p.0.some (omega (arith, p.0.levels_are))
     (take_all (length calls - place) (drop place calls) (simp length-drop (omega arith)))
     (rw (← d) (rw c.cell_at-3.ensures.0 at (c.same_arguments.ensures z)))

@@ -6,7 +6,7 @@ use Rattle.macro_memory.proofs.same_arguments.Given as goal
 
 abbrev pub invariant-loop-k : goal.invariant-loop-k
 invariant-loop-k l =
-    let s = l.here.text.now in
-    let c = l.here.code.now in
+    let s = l.here.coded.text.now in
+    let c = l.here.coded.code.now in
     (j : ℕ) → j < l.k
     → filled_in (arguments_in s c l.here.calls.now l.here.depth) (given_in s c (argument_cell l.pair.one j)) ≡ filled_in (arguments_in s c l.others l.here.depth) (given_in s c (argument_cell l.pair.other j))

@@ -1,6 +1,7 @@
 -- `macro_reading::follow_fault` meets its contract.
+use mathlib.Core.Path.{refl}
 use Rattle.macro_reading.proofs.Finishing.{follow-is}
 use Rattle.macro_reading.proofs.follow_fault.Goals as goal
 
 pub returns : goal.returns
-returns c = follow-is c.next_element-t.ensures c.stops.ensures c.fault_if.ensures
+returns c = rw c.then_some.ensures (follow-is (c.next_element.ensures.some c.in_ok-t.t c.in_ok-t.was) refl)

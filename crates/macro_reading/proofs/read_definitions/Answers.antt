@@ -1,17 +1,22 @@
 -- `macro_reading::read_definitions` meets its contract. The invariant: the macros so far are in cells, and the others follow from place i on.
+use native.Mathlib.Omega.{arith}
 use borrow.Author.Rules.{rules}
 use Rattle.std.proofs.Common.{sym, ap, ◌∙◌, ◌≡◌, cond}
 use Rattle.std.specs.Option.{is_some}
-use Rattle.macro_reading.proofs.Enlisting.{listing_none, listing-kept, listing-on}
+use Rattle.macro_reading.proofs.Enlisting.{step-least, listing_none, listing-kept, listing-on}
 use Rattle.macro_reading.proofs.read_definitions.Goals as goal
 
 pub loop-r-init : goal.loop-r-init
 loop-r-init c = listing_none c.requires
 
+pub loop-r-smaller : goal.loop-r-smaller
+loop-r-smaller c = let z = c.read_definition.ensures.defining _ c.in-Some.is in omega (arith, z.from_here, z.most, step-least c.in-Some.r.named)
+
 pub loop-r-preserved : goal.loop-r-preserved
 loop-r-preserved c =
     let k : c.from-k.result ≡ cond c.in-Some.r.named 1 0 = search rules in
-    rw (c.pick-q.ensures, c.lower-fault.ensures, k) (listing-on c.requires c.loop-r.invariant c.read_definition.ensures c.in-Some.is)
+    let e : c.if-r.q ≡ cond c.in-Some.r.named c.in-Some.r.used c.loop-r.q = search rules in
+    rw (e, c.lower-fault.ensures, k) (listing-on c.requires c.loop-r.invariant c.read_definition.ensures c.in-Some.is)
 
 pub returns : goal.returns
 returns c =

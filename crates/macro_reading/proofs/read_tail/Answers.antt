@@ -1,9 +1,18 @@
 -- `macro_reading::read_tail` meets its contract.
-use Rattle.macro_reading.proofs.Ending.{tail-fault, tail-closed, tail-open}
+use native.Mathlib.Omega.{arith}
+use mathlib.Core.Path.{refl, ◌∙◌}
+use Rattle.macro_reading.proofs.Ending.{tail-fault, tail-read}
 use Rattle.macro_reading.proofs.read_tail.Goals as goal
 
-pub returns-then-closed : goal.returns-then-closed
-returns-then-closed c = rw (c.lower-then-closed.ensures, c.lower.ensures, c.fault_at-word.ensures, c.fault_if-bracket.ensures) (tail-closed c.requires c.read_header-h.ensures c.next_element-b.ensures c.args.at c.args.defined c.if-closed.true (tail-fault c.requires c.read_header-h.ensures c.next_element-b.ensures c.args.at c.args.defined))
+pub overflow_add-result : goal.overflow_add-result
+overflow_add-result c = let h = (c.next_element-b.ensures.some _ c.in-Some.is).held in omega (arith, h.own, h.ends, h.small)
 
-pub returns : goal.returns
-returns c = rw (c.lower-3.ensures, c.lower-2.ensures, c.fault_at-word.ensures, c.fault_if-bracket.ensures) (tail-open c.requires c.read_header-h.ensures c.next_element-b.ensures c.args.at c.args.defined c.if-closed.false (tail-fault c.requires c.read_header-h.ensures c.next_element-b.ensures c.args.at c.args.defined))
+pub returns-in-Some : goal.returns-in-Some
+returns-in-Some c =
+    let f = (rw (c.lower.ensures, c.then_some.ensures, c.is_some.ensures) at c.lower-fault.ensures) ∙ tail-fault c.requires c.read_header-h.ensures c.next_element-b.result c.next_element-b.ensures c.args.at c.args.defined in
+    tail-read c.requires c.read_header-h.ensures c.next_element-b.result c.next_element-b.ensures c.args.at c.args.defined f (rw c.in-Some.is refl) (rw c.in-Some.is refl)
+
+pub returns-in-None : goal.returns-in-None
+returns-in-None c =
+    let f = (rw (c.lower.ensures, c.then_some.ensures, c.is_some.ensures) at c.lower-fault.ensures) ∙ tail-fault c.requires c.read_header-h.ensures c.next_element-b.result c.next_element-b.ensures c.args.at c.args.defined in
+    tail-read c.requires c.read_header-h.ensures c.next_element-b.result c.next_element-b.ensures c.args.at c.args.defined f (rw c.in-None.is refl) (rw c.in-None.is refl)

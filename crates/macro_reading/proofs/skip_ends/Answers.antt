@@ -2,17 +2,23 @@
 use native.Mathlib.Omega.{arith}
 use mathlib.Core.Path.{refl, sym, ◌∙◌}
 use native.Mathlib.Nat.{le_refl}
-use Rattle.macro_reading.proofs.Ending.{end_on, end-off}
+use Rattle.macro_changes.proofs.Giving.{first_forward}
+use Rattle.macro_reading.proofs.Ending.{end_on, end-off, end-none}
 use Rattle.macro_reading.proofs.skip_ends.Goals as goal
 
 pub loop-t-init : goal.loop-t-init
 loop-t-init c = (le_refl c.args.n, c.requires.most, refl)
 
 pub returns-then-t-ne-END : goal.returns-then-t-ne-END
-returns-then-t-ne-END c = record { from_here = c.loop-t.invariant.0; most = c.loop-t.invariant.1; is = end-off c.next_element-t.ensures c.if-t-ne-END.true ∙ c.loop-t.invariant.2 }
+returns-then-t-ne-END c = record { from_here = c.loop-t.invariant.0; most = c.loop-t.invariant.1; is = end-off (c.next_element.ensures.some _ c.in-Some.is) c.if-t-ne-END.true ∙ c.loop-t.invariant.2 }
 
 pub loop-t-smaller : goal.loop-t-smaller
-loop-t-smaller c = omega (arith, (end_on c.next_element-t.ensures c.if-t-ne-END.false).0, c.next_element-t.ensures.held.most)
+loop-t-smaller c = let k = c.next_element.ensures.some _ c.in-Some.is in omega (arith, first_forward k, k.held.most)
 
 pub loop-t-preserved : goal.loop-t-preserved
-loop-t-preserved c = let e = end_on c.next_element-t.ensures c.if-t-ne-END.false in (omega (arith, e.0, c.loop-t.invariant.0), c.next_element-t.ensures.held.most, sym e.1 ∙ c.loop-t.invariant.2)
+loop-t-preserved c =
+    let k = c.next_element.ensures.some _ c.in-Some.is in
+    (omega (arith, first_forward k, c.loop-t.invariant.0), k.held.most, sym (end_on k c.if-t-ne-END.false) ∙ c.loop-t.invariant.2)
+
+pub returns : goal.returns
+returns c = record { from_here = c.loop-t.invariant.0; most = c.loop-t.invariant.1; is = end-none c.args.source.now.text.now _ (c.next_element.ensures.none c.in_default.is) ∙ c.loop-t.invariant.2 }

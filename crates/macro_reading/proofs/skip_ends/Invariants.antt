@@ -7,7 +7,7 @@ use Rattle.macro_elements.specs.ElementAt.{elements_from}
 use Rattle.macro_reading.proofs.skip_ends.Given as goal
 
 abbrev pub invariant-loop-t : goal.invariant-loop-t
-invariant-loop-t l = (l.n ≤ l.i) × (l.i ≤ length l.text) × (from_statement (elements_from l.text l.i) ≡ from_statement (elements_from l.text l.n))
+invariant-loop-t l = (l.n ≤ l.i) × (l.i ≤ length l.source.text.now) × (from_statement (elements_from l.source.text.now l.i) ≡ from_statement (elements_from l.source.text.now l.n))
 
 abbrev pub decreases-loop-t : goal.decreases-loop-t
-decreases-loop-t l = length l.text - l.i
+decreases-loop-t l = length l.source.text.now - l.i

@@ -4,6 +4,6 @@ use Rattle.macro_section.proofs.section_change.Goals as goal
 
 pub returns : goal.returns
 returns c =
-    let l = c.args.list.now in
+    let l = c.args.list.now.listed in
     let k = c.write_change.ensures in
-    (rw (bare-change l.text.now l.code.now l.names.now l.count c.args.calls.now c.args.cell) at k.0, k.1)
+    (rw (bare-change l.coded.text.now l.coded.code.now l.firsts.now l.count c.args.calls.now c.args.cell) at k.0, k.1)

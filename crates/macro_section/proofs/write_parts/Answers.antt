@@ -9,26 +9,26 @@ use Rattle.macro_section.proofs.write_parts.Goals as goal
 pub loop-passed-init : goal.loop-passed-init
 loop-passed-init c =
     let a = c.args in
-    let x = a.list.now in
+    let x = a.list.now.listed in
     let e : c.low-changes.result - 0 ≡ c.low-changes.result = omega arith in (
       [],
       rw e
-          (section-begins x.text.now x.code.now x.names.now x.count a.section c.high-place.result c.low-stop.result c.first_change-cell.result c.low-changes.result _ a.out.now a.places.now
+          (section-begins x.coded.text.now x.coded.code.now x.firsts.now x.count a.section c.high-place.result c.low-stop.result c.first_change-cell.result c.low-changes.result _ a.out.now a.places.now
           (ap size_of c.nothing-w.ensures) c.high-place.ensures.0 c.low-stop.ensures.0 c.first_change-cell.ensures.0 c.low-changes.ensures.0),
       refl,
       c.high-place.ensures.1,
       omega (arith, c.first_change-cell.ensures.1, c.low-changes.ensures.1),
       rw e
-          (overs-begin x.text.now x.code.now x.names.now x.count (length a.out.now) a.section c.high-place.result c.low-stop.result c.first_change-cell.result c.low-changes.result c.nothing-w.result
-          (ap size_of c.nothing-w.ensures) (ap is_over c.nothing-w.ensures) c.high-place.ensures.0 c.low-stop.ensures.0 c.first_change-cell.ensures.0 c.low-changes.ensures.0 c.requires.3),
-      rw c.nothing-w.ensures c.requires.5,
+          (overs-begin x.coded.text.now x.coded.code.now x.firsts.now x.count (length a.out.now) a.section c.high-place.result c.low-stop.result c.first_change-cell.result c.low-changes.result c.nothing-w.result
+          (ap size_of c.nothing-w.ensures) (ap is_over c.nothing-w.ensures) c.high-place.ensures.0 c.low-stop.ensures.0 c.first_change-cell.ensures.0 c.low-changes.ensures.0 c.requires.2),
+      rw c.nothing-w.ensures c.requires.4,
       refl,
     )
 
 pub loop-passed-preserved : goal.loop-passed-preserved
 loop-passed-preserved c =
     let a = c.args in
-    let x = a.list.now in
+    let x = a.list.now.listed in
     let l = c.loop-passed in
     let i = l.invariant in
     let n = c.low-changes.result - l.passed in
@@ -37,14 +37,14 @@ loop-passed-preserved c =
     let next = c.section_change-next in (
       _,
       rw (sym e) at
-          (section-turn x.text.now x.code.now x.names.now x.count c.low-stop.result _ _ _ l.w c.write_kept-kept.result a.out.now l.out _ l.places _ i.0 l.place l.cell n i.1
+          (section-turn x.coded.text.now x.coded.code.now x.firsts.now x.count c.low-stop.result _ _ _ l.w c.write_kept-kept.result a.out.now l.out _ l.places _ i.0 l.place l.cell n i.1
           next.result _ _ c.low-place.result c.change_size-cell.result c.high-start.result (omega arith) k next.ensures.0 (rw c.unwrap_or.ensures at c.repeat_place.ensures)
           c.high-start.ensures.0 c.low-place.ensures.0 c.change_size-cell.ensures.0),
       c.repeat_place.ensures.size ∙ c.write_kept-kept.ensures.placed.size ∙ i.2,
       c.low-place.ensures.1,
       omega (arith, i.4, c.change_size-cell.ensures.1),
       rw (sym e) at
-          (overs-turn x.text.now x.code.now x.names.now x.count c.low-stop.result _ i.0 l.w c.write_kept-kept.result l.long c.over_at-first.result [] l.out _ (length a.out.now) l.place l.cell n
+          (overs-turn x.coded.text.now x.coded.code.now x.firsts.now x.count c.low-stop.result _ i.0 l.w c.write_kept-kept.result l.long c.over_at-first.result [] l.out _ (length a.out.now) l.place l.cell n
           i.1.wrote.size i.5 (omega (arith, i.1.wrote.most, i.1.wrote.size)) next.result c.over_at-long.result _ c.low-place.result c.change_size-cell.result (omega arith) k.wrote
           (rw c.unwrap_or-in-loop-passed.ensures at c.over_at-first.ensures) next.ensures.0
           (c.over_at-long.ensures ∙ ap (over_at c.over_at-first.result (is_over c.write_kept-kept.result) (is_over next.result)) c.high-start.ensures.0) c.low-place.ensures.0 c.change_size-cell.ensures.0),
@@ -55,11 +55,11 @@ loop-passed-preserved c =
 pub returns : goal.returns
 returns c =
     let a = c.args in
-    let x = a.list.now in
+    let x = a.list.now.listed in
     let l = c.loop-passed in
     let n = c.low-changes.result - l.passed in
-    let t = section-ends x.text.now x.code.now x.names.now x.count c.low-stop.result _ _ _ l.w c.write_kept-last.result a.out.now l.out _ l.places _ l.invariant.0 l.place l.cell n
+    let t = section-ends x.coded.text.now x.coded.code.now x.firsts.now x.count c.low-stop.result _ _ _ l.w c.write_kept-last.result a.out.now l.out _ l.places _ l.invariant.0 l.place l.cell n
     l.invariant.1 (omega arith) c.write_kept-last.ensures in
-    let u = overs-end x.text.now x.code.now x.names.now x.count c.low-stop.result _ l.invariant.0 l.w c.write_kept-last.result l.long c.over_at.result [] l.out _ (length a.out.now) l.place l.cell n
+    let u = overs-end x.coded.text.now x.coded.code.now x.firsts.now x.count c.low-stop.result _ l.invariant.0 l.w c.write_kept-last.result l.long c.over_at.result [] l.out _ (length a.out.now) l.place l.cell n
     l.invariant.1.wrote.size l.invariant.5 (omega (arith, l.invariant.1.wrote.most, l.invariant.1.wrote.size)) (omega arith) c.write_kept-last.ensures.wrote (rw c.unwrap_or-2.ensures at c.over_at.ensures) in
     record { wrote = rw c.nothing-w.ensures at t.0; placed = t.1; long = rw t.2 u }

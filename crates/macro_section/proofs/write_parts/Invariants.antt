@@ -17,8 +17,8 @@ use Rattle.macro_section.proofs.write_parts.Given as goal
 abbrev pub invariant-loop-passed : goal.invariant-loop-passed
 invariant-loop-passed l =
     (from : List ℕ)
-    × Going l.list.text.now l.list.code.now l.list.names.now l.list.count l.stop (expand (macros_in l.list.text.now l.list.code.now l.list.names.now l.list.count) levels [] (body_in l.list.text.now l.list.code.now l.section))
-    (each (origins (macros_in l.list.text.now l.list.code.now l.list.names.now l.list.count)) (body_in l.list.text.now l.list.code.now l.section)) l.initial.w l.w l.initial.out l.out l.places from l.place l.cell (l.changes - l.passed)
+    × Going l.list.listed.coded.text.now l.list.listed.coded.code.now l.list.listed.firsts.now l.list.listed.count l.stop (expand (macros_in l.list.listed.coded.text.now l.list.listed.coded.code.now l.list.listed.firsts.now l.list.listed.count) levels [] (body_in l.list.listed.coded.text.now l.list.listed.coded.code.now l.section))
+    (each (origins (macros_in l.list.listed.coded.text.now l.list.listed.coded.code.now l.list.listed.firsts.now l.list.listed.count)) (body_in l.list.listed.coded.text.now l.list.listed.coded.code.now l.section)) l.initial.w l.w l.initial.out l.out l.places from l.place l.cell (l.changes - l.passed)
     × (length l.places ≡ length l.initial.places) × (l.place < half) × (l.cell + widest * (l.changes - l.passed) < reach)
-    × Overs l.list.text.now l.list.code.now l.list.names.now l.list.count l.stop (length l.initial.out) (each (deep_places (macros_in l.list.text.now l.list.code.now l.list.names.now l.list.count)) (body_in l.list.text.now l.list.code.now l.section)) from l.w l.long l.place l.cell (l.changes - l.passed)
-    × Remembers l.list.text.now l.list.code.now l.list.names.now l.list.count l.calls l.w × (length l.calls ≡ length l.initial.calls)
+    × Overs l.list.listed.coded.text.now l.list.listed.coded.code.now l.list.listed.firsts.now l.list.listed.count l.stop (length l.initial.out) (each (deep_places (macros_in l.list.listed.coded.text.now l.list.listed.coded.code.now l.list.listed.firsts.now l.list.listed.count)) (body_in l.list.listed.coded.text.now l.list.listed.coded.code.now l.section)) from l.w l.long l.place l.cell (l.changes - l.passed)
+    × Remembers l.list.listed.coded.text.now l.list.listed.coded.code.now l.list.listed.firsts.now l.list.listed.count l.calls l.w × (length l.calls ≡ length l.initial.calls)

@@ -9,4 +9,4 @@ pub write_parts-requires : goal.write_parts-requires
 write_parts-requires c =
     let a = c.args in
     let p = c.requires in
-    (p.0, p.1, p.2, p.3, search rules, remembers-none a.list.now.text.now a.list.now.code.now a.list.now.names.now a.list.now.count _ none refl)
+    (p.0, p.1, p.2, search rules, remembers-none a.list.now.listed.coded.text.now a.list.now.listed.coded.code.now a.list.now.listed.firsts.now a.list.now.listed.count _ none refl)

@@ -16,7 +16,7 @@ loop-next-preserved c =
     let e = c.in-Some.ensures in (
       i.0 ++ c.own-in-Some.result.now,
       wrote-more i.0 c.own-in-Some.result.now _ _ _ _ _ _ i.1 c.add-w-in-Some.ensures,
-      climb-told x.text.now x.code.now x.calls.now _ i.0 c.own-in-Some.result.now c.loop-next.d c.loop-next.cell c.in-Some.next e.0 e.2 c.own-in-Some.ensures i.2,
+      climb-told x.coded.text.now x.coded.code.now x.calls.now _ i.0 c.own-in-Some.result.now c.loop-next.d c.loop-next.cell c.in-Some.next e.0 e.2 c.own-in-Some.ensures i.2,
       e.3,
     )
 
@@ -25,6 +25,6 @@ returns c =
     let x = c.args.self.now in
     let i = c.loop-next.invariant in
     let k = wrote-more c.own.result.now i.0 _ _ _ _ _ _ c.add-w.ensures i.1 in
-    let e : c.own.result.now ++ i.0 ≡ filled_in (arguments_in x.text.now x.code.now x.calls.now x.depth) (given_in x.text.now x.code.now c.args.g) =
-    ap (λ l. l ++ i.0) c.own.ensures ∙ climbed x.text.now x.code.now x.calls.now i.0 x.depth c.args.g c.loop-next.d c.loop-next.cell c.in_default.ensures i.2 in
+    let e : c.own.result.now ++ i.0 ≡ filled_in (arguments_in x.coded.text.now x.coded.code.now x.calls.now x.depth) (given_in x.coded.text.now x.coded.code.now c.args.g) =
+    ap (λ l. l ++ i.0) c.own.ensures ∙ climbed x.coded.text.now x.coded.code.now x.calls.now i.0 x.depth c.args.g c.loop-next.d c.loop-next.cell c.in_default.ensures i.2 in
     rw e at k

@@ -9,8 +9,8 @@ use Rattle.macro_values.proofs.Around.write_given.Given as goal
 
 abbrev pub invariant-loop-next : goal.invariant-loop-next
 invariant-loop-next l =
-    let s = l.self.text.now in
-    let c = l.self.code.now in
+    let s = l.self.coded.text.now in
+    let c = l.self.coded.code.now in
     let calls = l.self.calls.now in
     (a : List ℕ) × Wrote (just a) l.initial.w l.w l.initial.out l.out × (up (arguments_in s c calls l.self.depth) c l.g ≡ a ++ up (arguments_in s c calls l.d) c l.cell) × (l.cell < far)
 
