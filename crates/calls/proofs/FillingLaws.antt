@@ -3,13 +3,20 @@ use Rattle.std.specs.Prelude.{◌≡◌, refl, List, ℕ, ◌/◌, ◌%◌, ◌�
 use Rattle.std.proofs.Common.{ap, ◌∙◌, arith, length-append, length-drop, drop_at}
 use Rattle.calls.proofs.AnswerLaws.{packed-number, packed-value}
 use Rattle.calls.specs.Calls.{packed}
-use Rattle.calls.specs.Filling.{Filling, filling_number, filling_count, filling_answer, filled_in, Fills, Gives}
+use Rattle.calls.specs.Filling.{Filling, filling_number, filling_count, filling_answer, filled_in, Fills, Filled, filled_of, filled_number, filled_count, Gives}
 use Rattle.calls.specs.Filling.Filling.{kept, fills}
 
+pub count-of : (x : Filling) → filled_count (filled_of x) ≡ filling_count x
+count-of (kept number) = refl
+count-of (fills number t) = refl
+
 -- number and count, put together
-pub gives-fills : (x : Filling) (number count : ℕ) (b b' : List ℕ) → Gives x number count b b' → Fills x (packed number count) b b'
-gives-fills x number count b b' g =
-    record { answer = ap (λ n. packed n count) g.number_is ∙ ap (packed (filling_number x)) g.count_is; cells = g.cells_are }
+pub gives-fills : (x : Filling) (r : Filled) (b b' : List ℕ) → Gives x r b b' → Fills x (packed (filled_number r) (filled_count r)) b b'
+gives-fills x r b b' g =
+    record {
+      answer = ap (λ n. packed n (filled_count r)) g.number_is ∙ ap (packed (filling_number x)) (ap filled_count g.result_is ∙ count-of x);
+      cells = g.cells_are;
+    }
 
 pub rest-stays : (x : Filling) (b : List ℕ) → drop (filling_count x) (filled_in x b) ≡ drop (filling_count x) b
 unfolding filled_in

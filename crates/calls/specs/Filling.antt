@@ -1,7 +1,8 @@
 -- "Here, in 2.6, 2.7 and 2.13 a call that fills a buffer gives its number, 80 if accepted, and the count of bytes written." What such a call
 -- answers, and what it leaves in the lent buffer.
-use Rattle.std.specs.Prelude.{◌≡◌, List, ◌++◌, ℕ, length, drop}
+use Rattle.std.specs.Prelude.{◌≡◌, Result, Ok, Err, List, ◌++◌, ℕ, length, drop}
 use Rattle.calls.specs.Calls.{packed}
+use Rattle.calls.specs.declared.Refused.{Refused}
 
 -- a number, "with the buffer unchanged"; or a number, and the bytes written
 pub data Filling : Type 0 where
@@ -29,8 +30,25 @@ pub record Fills (x : Filling) (r : ℕ) (b b' : List ℕ) : Type 0 where
   pub answer : r ≡ filling_answer x
   pub cells : b' ≡ filled_in x b
 
--- the same of a number and a count that are not yet one
-pub record Gives (x : Filling) (number count : ℕ) (b b' : List ℕ) : Type 0 where
-  pub number_is : number ≡ filling_number x
-  pub count_is : count ≡ filling_count x
+-- ---- the same as a result: the count of bytes written, or the number of the first no
+
+abbrev pub Filled : Type 0
+Filled = Result ℕ Refused
+
+abbrev pub filled_of : Filling → Filled
+filled_of (kept number) = Err (record { number = number })
+filled_of (fills number t) = Ok (length t)
+
+-- "its number, 80 if accepted"
+abbrev pub filled_number : Filled → ℕ
+filled_number (Ok n) = 80
+filled_number (Err r) = r.number
+
+abbrev pub filled_count : Filled → ℕ
+filled_count (Ok n) = n
+filled_count (Err r) = 0
+
+pub record Gives (x : Filling) (r : Filled) (b b' : List ℕ) : Type 0 where
+  pub result_is : r ≡ filled_of x
+  pub number_is : filled_number r ≡ filling_number x
   pub cells_are : b' ≡ filled_in x b

@@ -1,9 +1,11 @@
-// What the calls answer and leave: definitions and laws; and the number and the count that a call which fills a buffer tells.
+// What the calls answer and leave: definitions and laws; and what a call that fills a buffer tells.
 #![tactic(auto)]
 
-// A number, and how many bytes were written.
+// The number of the first question answered no.
 #[derive(Clone, Copy)]
-pub struct Filled {
+pub struct Refused {
     pub number: u8,
-    pub count: u32,
 }
+
+// How many bytes were written; of a refused call nothing is.
+pub type Filled = Result<u32, Refused>;

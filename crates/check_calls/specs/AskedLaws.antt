@@ -4,7 +4,9 @@ use Rattle.std.proofs.Common.{sym, ◌∙◌, arith}
 use Rattle.language.specs.Values.{Inputs}
 use Rattle.layout.specs.Table.{good_table}
 use Rattle.machine.specs.WellFormed.{good_inputs}
-use Rattle.check_calls.specs.Asked.{first_no}
+use Rattle.check_calls.specs.Asked.{question_number, first_no}
+use Rattle.check_calls.specs.declared.Question.{Question}
+use Rattle.check_calls.specs.declared.Question.TheVariants as code
 
 pub both_yes : (c : List ℕ) (ins : Inputs) {k : ℕ} → k ≡ first_no c ins → k ≡ 0 → (good_table c ≡ true) × (good_inputs ins ≡ true)
 both_yes c ins told none = go (good_table c) (good_inputs ins) refl refl (sym told ∙ none)
@@ -13,3 +15,8 @@ both_yes c ins told none = go (good_table c) (good_inputs ins) refl refl (sym to
     go false b p q h = absurd (omega (arith, h))
     go true false p q h = absurd (omega (arith, h))
     go true true p q h = (p, q)
+
+-- the number of a question is not 0
+pub some : (q : Question) → ◌≡◌ {A = ℕ} (question_number q) 0 → ⊥
+some code.Inputs z = omega (arith, z)
+some code.Table z = omega (arith, z)

@@ -13,9 +13,6 @@ ghost use Rattle.layout.specs.Places.{first_switch};
 use language::{Machine, Operator};
 use layout::{ArgumentKinds, TablePlaces};
 
-// The number of the last operator, as wide as a cell's.
-const LAST_OPERATOR: usize = Operator::STOP as usize;
-
 // How far the index of the letter at a place goes: I and Q to 2, the others to 32.
 fn index_top(place: usize) -> usize
     ensures { result ≡ index_top place }
@@ -116,7 +113,7 @@ fn lists_take(op: u8, a: u32, b: u32, d: u32) -> bool
 fn head_fits(x: usize) -> bool
     ensures { result ≡ head_fits x }
 {
-    (0 < x % 64) & (x % 64 <= LAST_OPERATOR) & (0 < x / 64) & (x / 64 <= Machine::TEXT)
+    Operator::try_from((x % 64) as u8).is_ok() & (0 < x / 64) & (x / 64 <= Machine::TEXT)
 }
 
 #[tactic(auto, unfolding(check_parts::specs::Parts::instr_fits))]

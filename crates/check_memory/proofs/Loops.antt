@@ -38,7 +38,7 @@ use Rattle.records.specs.declared.Sequence.{Sequence}
 use Rattle.records.specs.declared.Totals.{Totals}
 use Rattle.records.specs.Sequences.{part_total, char_total, TookRecords, Totalled}
 use Rattle.check_memory.specs.Passes.{sizes, sum, zeros, laid, all_strings, expressions, halves, expression_parts, expression_chars, distinct}
-use Rattle.check_memory.specs.Reads.{Ended, Readable, Named, StringLent, ExpressionSums, FileSums, Comparable}
+use Rattle.check_memory.specs.Reads.{Ended, StringLent, ExpressionSums, FileSums, Comparable}
 use Rattle.check_memory.proofs.Readings.{length-expressions, length-halves}
 
 -- ---- the cells
@@ -70,9 +70,6 @@ expression-at m i h = get_or-take 32 (all_strings m) i [] h
 
 pub half_at : (m : List ℕ) (i : ℕ) → i < 64 → get_or (halves m) i [] ≡ get_or (all_strings m) (32 + i) []
 half_at m i h = get_or-take 64 (drop 32 (all_strings m)) i [] h ∙ get_or-drop 32 (all_strings m) i []
-
-pub named : {m st : List ℕ} → Readable m st → {k : ℕ} → k < layout.strings_count → Named m st k
-named r h = record { readable = r; index = h }
 
 -- the tests in code: what `(0..n).all(..)` answers of the elements of xs, of a closure that is f
 module _ {X : Type 0} (d : X) (f : ℕ → Bool) (p : X → Bool) where
@@ -231,7 +228,7 @@ pub record Gathering (m d e : List ℕ) (n i : ℕ) : Type 0 where
 pub gathering-none : (m d : List ℕ) → Gathering m d d 0 0
 gathering-none m d = record { upto = omega arith; long = refl; is = refl; count = refl }
 
-module _ {m st d : List ℕ} (c : Comparable m st (length d)) {e : List ℕ} {n i : ℕ} (g : Gathering m d e n i) where
+module _ {m d : List ℕ} (c : Comparable m (length d)) {e : List ℕ} {n i : ℕ} (g : Gathering m d e n i) where
   pub within : n ≤ length e
   within = omega (arith, g.count, total-split (λ v. length (records_in v)) i (halves m), c.room, g.long)
 

@@ -11,7 +11,7 @@ use Rattle.cells.specs.Cells.{Number}
 use Rattle.layout.specs.Cells.{two_at}
 use Rattle.layout.specs.Strings.{lengths_in, cut_by, strings_in}
 use Rattle.check_memory.specs.Passes.{sizes, sum}
-use Rattle.check_memory.specs.Reads.{Started, Named, StringLent}
+use Rattle.check_memory.specs.Reads.{Started, Readable, StringLent}
 use Rattle.layout.proofs.StringLaws.{length-lengths_in}
 use Rattle.layout.specs.Places as layout
 
@@ -93,16 +93,16 @@ cut_at (n ∷ ns) l zero h = refl
 cut_at (n ∷ ns) l (suc k) h =
     cut_at ns (drop n l) k (le_of_suc-le-suc h) ∙ ap (take (get_or ns k 0)) (drop-drop (sum (take k ns)) n l)
 
-module _ {m st : List ℕ} {k : ℕ} (h : Named m st k) {from n : ℕ} (a : Number (get_or st k 0) 4294967296 from) (q : Number (two_at (layout.first_length + 2 * k) m) 65536 n) where
+module _ {m st : List ℕ} {k : ℕ} (h : Readable m st) (b : k < layout.strings_count) {from n : ℕ} (a : Number (get_or st k 0) 4294967296 from) (q : Number (two_at (layout.first_length + 2 * k) m) 65536 n) where
   from_is : from ≡ layout.first_byte + sum (take k (sizes m))
-  from_is = a.is ∙ h.readable.place k h.index
+  from_is = a.is ∙ h.place k b
 
   n-is : n ≡ get_or (sizes m) k 0
-  n-is = q.is ∙ size_at m k h.index
+  n-is = q.is ∙ size_at m k b
 
   pub string_within : from + n ≤ length m
   string_within =
-      omega (arith, from_is, n-is, sum-within (sizes m) k (omega (arith, h.index, length-sizes m)), h.readable.room, h.readable.long)
+      omega (arith, from_is, n-is, sum-within (sizes m) k (omega (arith, b, length-sizes m)), h.room, h.long)
 
   pub string_lent : StringLent m k (take (from + n - from) (drop from m))
   unfolding strings_in
@@ -111,6 +111,6 @@ module _ {m st : List ℕ} {k : ℕ} (h : Named m st k) {from n : ℕ} (a : Numb
       let d : drop from m ≡ drop (sum (take k (sizes m))) (drop layout.lengths_bytes (drop layout.first_length m)) =
       ap (λ o. drop o m) from_is ∙ sym (drop-drop (sum (take k (sizes m))) layout.first_byte m) ∙ ap (drop (sum (take k (sizes m)))) (sym (drop-drop layout.lengths_bytes layout.first_length m)) in
       record {
-        is = ap (λ o. take o (drop from m)) e ∙ ap (take (get_or (sizes m) k 0)) d ∙ sym (cut_at (sizes m) (drop layout.lengths_bytes (drop layout.first_length m)) k (omega (arith, h.index, length-sizes m)));
+        is = ap (λ o. take o (drop from m)) e ∙ ap (take (get_or (sizes m) k 0)) d ∙ sym (cut_at (sizes m) (drop layout.lengths_bytes (drop layout.first_length m)) k (omega (arith, b, length-sizes m)));
         small = simp length-take (omega (arith, q.most));
       }

@@ -2,7 +2,7 @@
 use mathlib.Core.Path.{◌≡◌, sym, ◌∙◌, subst}
 use mathlib.Core.Bool.{Bool, true}
 use mathlib.Core.List.{List}
-use Prim.Native.Nat.{ℕ}
+use Prim.Native.Nat.{ℕ, ◌≤◌}
 use lib.Dec.{T}
 use lib.ListN.{length}
 use Rattle.check_strings.specs.Sound.{Bytes}
@@ -10,7 +10,7 @@ use Rattle.language.specs.Limits as limit
 use Rattle.layout.specs.Cells.{three_at}
 use Rattle.layout.specs.Places as layout
 use Rattle.check_memory.specs.Passes.{laid, sound}
-use Rattle.check_memory.specs.Reads.{Started, Ended, Readable, Walkable, BothWhole}
+use Rattle.check_memory.specs.Reads.{Started, Ended, Readable, BothWhole}
 use Rattle.check_memory.proofs.Facts.{laid-open, sound-open}
 use Rattle.check_memory.proofs.Wholes.{whole-expressions, whole-halves}
 
@@ -25,11 +25,11 @@ module _ {m : List ℕ} (long : length m ≡ limit.state) {st : List ℕ} {end :
     pub readable : Readable m st
     readable = record { long = long; count = g.count; place = g.place; room = (laid-open m (passed e k)).room }
 
-    pub walkable : Walkable m st (three_at layout.last_cell m)
-    walkable = record { readable = readable; last_most = (laid-open m (passed e k)).last_most }
+    pub walkable : three_at layout.last_cell m ≤ limit.addresses
+    walkable = (laid-open m (passed e k)).last_most
 
-    pub both-whole : Bytes m → {u : Bool} → u ≡ sound m → u ≡ true → BothWhole m st
+    pub both-whole : Bytes m → {u : Bool} → u ≡ sound m → u ≡ true → BothWhole m
     both-whole b f h =
         let l = (laid-open m (passed e k)).last_most in
         let s = sound-open m (passed f h) in
-        record { readable = readable; exprs = whole-expressions m b (three_at layout.last_cell m) l s.exprs; files = whole-halves m b (three_at layout.last_cell m) l s.files }
+        record { exprs = whole-expressions m b (three_at layout.last_cell m) l s.exprs; files = whole-halves m b (three_at layout.last_cell m) l s.files }

@@ -32,30 +32,12 @@ pub record Readable (m st : List ℕ) : Type 0 where
   pub place : (k : ℕ) → k < layout.strings_count → get_or st k 0 ≡ layout.first_byte + sum (take k (sizes m))
   pub room : sum (sizes m) ≤ layout.room
 
-pub record Named (m st : List ℕ) (k : ℕ) : Type 0 where
-  pub readable : Readable m st
-  pub index : k < layout.strings_count
-
 pub record StringLent (m : List ℕ) (k : ℕ) (r : List ℕ) : Type 0 where
   pub is : r ≡ get_or (all_strings m) k []
   pub small : length r < 65536
 
--- and compared with the last address given
-pub record Walkable (m st : List ℕ) (l : ℕ) : Type 0 where
-  pub readable : Readable m st
-  pub last_most : l ≤ limit.addresses
-
--- its expressions, its files are whole
-pub record WholeExpressions (m st : List ℕ) : Type 0 where
-  pub readable : Readable m st
-  pub whole : Each WholeComponents (expressions m)
-
-pub record WholeFiles (m st : List ℕ) : Type 0 where
-  pub readable : Readable m st
-  pub whole : Each WholeRecords (halves m)
-
-pub record BothWhole (m st : List ℕ) : Type 0 where
-  pub readable : Readable m st
+-- its expressions and its files are whole
+pub record BothWhole (m : List ℕ) : Type 0 where
   pub exprs : Each WholeComponents (expressions m)
   pub files : Each WholeRecords (halves m)
 
@@ -85,7 +67,6 @@ pub record AllSums (m : List ℕ) (r : Sums) : Type 0 where
   pub records_most : r.records < 16777216
 
 -- the addresses of its records have room among `count` places
-pub record Comparable (m st : List ℕ) (count : ℕ) : Type 0 where
-  pub readable : Readable m st
+pub record Comparable (m : List ℕ) (count : ℕ) : Type 0 where
   pub files : Each WholeRecords (halves m)
   pub room : record_count m ≤ count

@@ -1,7 +1,6 @@
 -- What is asked before question 63, and what its tests are told. c is the table, i and j are the inputs, m is the 40,960 cells.
 use Rattle.std.specs.Prelude.{◌≡◌, Bool, ◌&&◌, List, [], ◌∷◌, ℕ, T, length}
 use Rattle.check_memory.specs.Passes.{laid, sound, counted, distinct, fitting}
-use Rattle.check_memory.specs.Reads.{Readable}
 use Rattle.language.specs.Limits as limit
 use Rattle.layout.specs.Table.{program_of, good_table}
 use Rattle.layout.specs.Places as layout
@@ -18,11 +17,6 @@ pub record Workable (c m : List ℕ) (starts addresses : ℕ) : Type 0 where
   pub long : length m ≡ limit.state
   pub starts_is : starts ≡ layout.strings_count
   pub addresses_is : addresses ≡ limit.records
-
--- the strings of m can be read
-pub record Fittable (c m st : List ℕ) : Type 0 where
-  pub table : T (good_table c)
-  pub readable : Readable m st
 
 abbrev pub passes : List ℕ → List ℕ → List ℕ → List ℕ → Bool
 passes c i j m = laid m && (sound m && (counted m && (distinct m && fitting (program_of c) i j m)))

@@ -7,10 +7,19 @@ ghost use Rattle.layout.specs.Memory.{twos_in, good_memory};
 ghost use Rattle.layout.specs.Table.{program_of, good_table};
 ghost use Rattle.machine.specs.WellFormed.{good_return};
 ghost use Rattle.check_memory.specs.Passes.{sound_stack, sound_output, fitting};
-ghost use Rattle.check_state.specs.Asked.{Asked, Workable, Fittable, passes};
+ghost use Rattle.check_state.specs.Asked.{Asked, Workable, passes};
 
+use check_memory::Memory;
 use language::Machine;
 use layout::StatePlaces;
+
+// A table and the two inputs, which every call is lent.
+#[derive(Clone, Copy)]
+struct Lent<'a> {
+    table: &'a [u32],
+    first: &'a [u8],
+    second: &'a [u8],
+}
 
 // Whether an entry of the stack stands just after a call.
 fn is_return(table: &[u32], n: usize) -> bool
@@ -49,46 +58,39 @@ fn is_output(s: &[u8]) -> bool
 }
 
 // Whether stack, outputs, read places and next instruction fit the program and the inputs.
-fn is_fitting(table: &[u32], i1: &[u8], i2: &[u8], m: &[u8], starts: &[u32]) -> bool
-    requires { Fittable table.now m.now starts.now }
-    ensures { result ≡ fitting (program_of table.now) i1.now i2.now m.now }
+fn is_fitting(lent: Lent, memory: &Memory) -> bool
+    requires { T (good_table lent.table.now) }
+    ensures { result ≡ fitting (program_of lent.entry.table.now) lent.entry.first.now lent.entry.second.now memory.now }
 {
-    is_stack(
-        table,
-        check_memory::string_at(m, starts, StatePlaces::STACK_STRING),
-    ) & (is_output(check_memory::string_at(m, starts, StatePlaces::FIRST_OUTPUT))
-        & is_output(check_memory::string_at(m, starts, StatePlaces::SECOND_OUTPUT)))
-        & ((cells::three_at(m, StatePlaces::FIRST_PLACE_CELL) <= i1.len())
-            & (cells::three_at(m, StatePlaces::SECOND_PLACE_CELL) <= i2.len()))
-        & (cells::three_at(m, StatePlaces::NEXT_CELL) < table::instructions(table))
+    let m = memory.cells();
+    is_stack(lent.table, memory.string(StatePlaces::STACK_STRING))
+        & (is_output(memory.string(StatePlaces::FIRST_OUTPUT))
+            & is_output(memory.string(StatePlaces::SECOND_OUTPUT)))
+        & ((cells::three_at(m, StatePlaces::FIRST_PLACE_CELL) <= lent.first.len())
+            & (cells::three_at(m, StatePlaces::SECOND_PLACE_CELL) <= lent.second.len()))
+        & (cells::three_at(m, StatePlaces::NEXT_CELL) < table::instructions(lent.table))
 }
 
 // The tests in their order. `starts` and `list` are for the starts of the strings and the addresses of the records.
-fn is_passed(
-    table: &[u32],
-    i1: &[u8],
-    i2: &[u8],
-    m: &[u8],
-    starts: &mut [u32],
-    list: &mut [u32],
-) -> bool
-    requires { Workable table.now m.now (length starts.old) (length list.old) }
-    ensures { result ≡ passes table.now i1.now i2.now m.now }
+fn is_passed(lent: Lent, m: &[u8], starts: &mut [u32], list: &mut [u32]) -> bool
+    requires { Workable lent.table.now m.now (length starts.old) (length list.old) }
+    ensures { result ≡ passes lent.entry.table.now lent.entry.first.now lent.entry.second.now m.now }
 {
     let end = check_memory::starts_of(m, starts);
     if !check_memory::is_laid(m, end) {
         return false;
     }
-    if !check_memory::is_sound(m, starts) {
+    let memory = Memory::new(m, starts);
+    if !memory.is_sound() {
         return false;
     }
-    if !check_memory::is_counted(m, starts) {
+    if !memory.is_counted() {
         return false;
     }
-    if !check_memory::is_distinct(m, starts, list) {
+    if !memory.is_distinct(list) {
         return false;
     }
-    is_fitting(table, i1, i2, m, starts)
+    is_fitting(lent, &memory)
 }
 
 pub fn is_state(table: &[u32], i1: &[u8], i2: &[u8], state: &[u8]) -> bool
@@ -100,12 +102,10 @@ pub fn is_state(table: &[u32], i1: &[u8], i2: &[u8], state: &[u8]) -> bool
     }
     let mut starts = [0u32; StatePlaces::STRINGS_COUNT];
     let mut list = [0u32; Machine::RECORDS];
-    is_passed(
+    let lent = Lent {
         table,
-        i1,
-        i2,
-        &state[..Machine::STATE],
-        &mut starts,
-        &mut list,
-    )
+        first: i1,
+        second: i2,
+    };
+    is_passed(lent, &state[..Machine::STATE], &mut starts, &mut list)
 }

@@ -13,13 +13,14 @@ use Rattle.machine.specs.Steps.{refusals}
 use Rattle.layout.specs.Strings.{cut_by}
 use Rattle.layout.specs.Table.{good_table}
 use Rattle.cells.specs.Cells.{pasted}
-use Rattle.class_calls.specs.Class.{lent_of, Pupil, refused_pupil, pupil, Lent, sum, class_fits, pupils, ClassReply, class_of, class_number, result_cells, results_of, results_after, outputs_of, outputs_after}
+use Rattle.class_calls.specs.Class.{lent_of, Pupil, refused_pupil, pupil, Lent, sum, class_fits, pupils, ClassReply, class_of, result_cells, results_of, results_after, outputs_of, outputs_after}
 use Rattle.class_calls.specs.Class.ClassReply.{class_refused, taken}
 use Rattle.class_calls.proofs.ClassLaws.{q1-most}
 use Rattle.class_calls.proofs.FitLaws.{ClassFits, fits-facts}
 use Rattle.class_calls.proofs.UnawareLaws.{pupil-at, length-pupils, length_cut}
 use Rattle.class_calls.proofs.WritingLaws.{sum-next, sum-within, cut_at, results-none, results_next, AllShort, outputs-none, outputs-next}
-use Rattle.class_running.specs.ClassRunning.{Seated, Answered, Classable, Written, Classes}
+use Rattle.std.specs.Prelude.{Ok, Err}
+use Rattle.class_running.specs.ClassRunning.{Seated, Answered, Classable, Written, Taken, taken_by, Classes}
 use Rattle.class_running.specs.declared.Told.{Told}
 
 all_short : (c : List ℕ) → T (good_table c) → (ws : List (List ℕ)) (bs : List ℕ) (k : ℕ) → AllShort (take k (pupils c ws bs))
@@ -150,24 +151,24 @@ module _ (c s ns bs res out : List ℕ) where
       ap (λ (x : Bool). if_any (taken (pupils c (cut_by ns s) bs)) class_refused (refusals ((62, x) ∷ (71, class_fits lent) ∷ []))) e
       ∙ ap (λ (x : Bool). if_any (taken (pupils c (cut_by ns s) bs)) class_refused (refusals ((62, a) ∷ (71, x) ∷ []))) f
 
-  classes : {x : ClassReply} → class_of c lent ≡ x → {r : ℕ} {res' out' : List ℕ} → r ≡ class_number x → res' ≡ results_after x res → out' ≡ outputs_after x out
+  classes : {x : ClassReply} → class_of c lent ≡ x → {r : Taken} {res' out' : List ℕ} → r ≡ taken_by x → res' ≡ results_after x res → out' ≡ outputs_after x out
       → Classes c lent r res' out'
   classes {x} e p q t = record {
-    number_is = p ∙ ap class_number (sym e);
+    is = p ∙ ap taken_by (sym e);
     results_are = q ∙ ap (λ (y : ClassReply). results_after y res) (sym e);
     outputs_are = t ∙ ap (λ (y : ClassReply). outputs_after y out) (sym e);
   }
 
-  pub no_table : {x : Bool} → x ≡ good_table c → x ≡ false → Classes c lent 62 res out
+  pub no_table : {x : Bool} → x ≡ good_table c → x ≡ false → Classes c lent (Err (record { number = 62 })) res out
   no_table e z = classes (by false (class_fits lent) (sym e ∙ z) refl) refl refl refl
 
   module _ {x : Bool} (e : x ≡ good_table c) (z : x ≡ true) where
-    pub no-fit : {y : Bool} → y ≡ class_fits lent → y ≡ false → Classes c lent 71 res out
+    pub no-fit : {y : Bool} → y ≡ class_fits lent → y ≡ false → Classes c lent (Err (record { number = 71 })) res out
     no-fit f w = classes (by true false (sym e ∙ z) (sym f ∙ w)) refl refl refl
 
     module _ {y : Bool} (f : y ≡ class_fits lent) (w : y ≡ true) where
       pub classable : {memory : ℕ} → memory ≡ limit.state → Classable c s ns bs res out memory
       classable l = record { table = subst T (sym z ∙ e) tt; fits = subst T (sym w ∙ f) tt; long = l }
 
-      pub all_done : {res' out' : List ℕ} → Written c s ns bs res out res' out' → Classes c lent 80 res' out'
+      pub all_done : {res' out' : List ℕ} → Written c s ns bs res out res' out' → Classes c lent (Ok tt) res' out'
       all_done h = classes (by true true (sym e ∙ z) (sym f ∙ w)) refl h.results_are h.outputs_are

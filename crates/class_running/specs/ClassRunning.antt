@@ -1,11 +1,13 @@
 -- What the functions of the class ask and promise.
-use Rattle.std.specs.Prelude.{◌≡◌, List, ℕ, ◌+◌, ◌≤◌, T, length}
+use Rattle.std.specs.Prelude.{◌≡◌, Result, Ok, Err, List, ℕ, ◌+◌, ◌≤◌, T, length}
 use Rattle.language.specs.Limits as limit
 use Rattle.layout.specs.Table.{good_table}
 use Rattle.cells.specs.Cells.{pasted}
 use Rattle.viewing.specs.Viewing.{Rests}
-use Rattle.class_calls.specs.Class.{Pupil, shown, Lent, lent_of, class_fits, pupils, class_of, class_number, results_of, results_after, outputs_of, outputs_after}
+use Rattle.class_calls.specs.Class.{Pupil, shown, Lent, lent_of, class_fits, pupils, ClassReply, class_of, results_of, results_after, outputs_of, outputs_after}
 use Rattle.layout.specs.Strings.{cut_by}
+use Rattle.class_calls.specs.Class.ClassReply.{class_refused, taken}
+use Rattle.calls.specs.declared.Refused.{Refused}
 use Rattle.class_running.specs.declared.Told.{Told}
 
 -- a state at rest, and a part of a buffer as long as Q may be
@@ -40,8 +42,21 @@ pub record Written (c s ns bs res out res' out' : List ℕ) : Type 0 where
   pub results_are : res' ≡ results_of (pupils c (cut_by ns s) bs) res
   pub outputs_are : out' ≡ outputs_of (pupils c (cut_by ns s) bs) out
 
--- the whole call
-pub record Classes (c : List ℕ) (x : Lent) (r : ℕ) (res' out' : List ℕ) : Type 0 where
-  pub number_is : r ≡ class_number (class_of c x)
+-- ---- the whole call
+
+-- the class is taken, or the number of the first no
+abbrev pub Taken : Type 0
+Taken = Result (Unit {0}) Refused
+
+abbrev pub taken_by : ClassReply → Taken
+taken_by (class_refused number) = Err (record { number = number })
+taken_by (taken ps) = Ok tt
+
+abbrev pub taken_number : Taken → ℕ
+taken_number (Ok u) = 80
+taken_number (Err e) = e.number
+
+pub record Classes (c : List ℕ) (x : Lent) (r : Taken) (res' out' : List ℕ) : Type 0 where
+  pub is : r ≡ taken_by (class_of c x)
   pub results_are : res' ≡ results_after (class_of c x) x.results
   pub outputs_are : out' ≡ outputs_after (class_of c x) x.out

@@ -6,6 +6,7 @@ ghost use Rattle.cells.specs.Cells.{pasted};
 ghost use Rattle.class_calls.specs.Class.{pupil, sum, fits_by, lent_of};
 ghost use Rattle.class_running.specs.ClassRunning.{Showable, Shown, Seated, Answered, Classable, Written, Classes};
 
+use calls::Refused;
 use language::Machine;
 
 // The most pupils of a class.
@@ -118,7 +119,7 @@ fn run_pupils(
 }
 
 // "One call takes a table and up to 16 inputs for I1, laid end to end with their lengths, and one budget for each."
-// The number is the one that the C call tells: 62, 71 or 80.
+// The class is taken, or 62 or 71 is answered no.
 pub fn run_class(
     table: &[u32],
     inputs: &[u8],
@@ -126,11 +127,11 @@ pub fn run_class(
     budgets: &[u32],
     results: &mut [u32],
     out: &mut [u8],
-) -> u8
+) -> Result<(), Refused>
     ensures { Classes table.now (lent_of inputs.now lengths.now budgets.now results.old out.old) result results.new out.new }
 {
     if !check_table::is_table(table) {
-        return 62;
+        return Err(Refused { number: 62 });
     }
     if !fits(
         lengths,
@@ -139,11 +140,11 @@ pub fn run_class(
         results.len(),
         out.len(),
     ) {
-        return 71;
+        return Err(Refused { number: 71 });
     }
     let mut state = [0u8; Machine::STATE];
     run_pupils(table, inputs, lengths, budgets, &mut state, results, out);
-    80
+    Ok(())
 }
 
 // Of `running`, passed on to the crates above.

@@ -1,1 +1,2 @@
 pub mod Deciding
+pub mod Telling

@@ -4,17 +4,24 @@
 ghost use Rattle.std.specs.Prelude.{◌≡◌, [], ◌∷◌, length};
 ghost use Rattle.class_calls.specs.Class.{lent_of};
 ghost use Rattle.calls.specs.Calls.{packed, start_of, run_of};
-ghost use Rattle.calls.specs.Filling.{Fills};
+ghost use Rattle.calls.specs.Filling.{Fills, filled_number, filled_count};
+ghost use Rattle.class_running.specs.ClassRunning.{taken_number};
 ghost use Rattle.editions.specs.Convert.{convert_of};
 ghost use Rattle.macros.specs.Load.{load_in};
+ghost use Rattle.shortening.specs.Below.Told.{loaded_number, loaded_line};
+ghost use Rattle.shortening.specs.Trying.{shortened_number, shortened_filled};
 ghost use Rattle.state_frames.specs.Keeping.{write_of, read_of, Reads};
 ghost use Rattle.interpreter.specs.Answers.{Answers, AnswersLoad, AnswersShorten, AnswersClass};
 
+use calls::{Filled, Refused};
 use class_running::from_running;
 use language::Machine;
-use shortening::from_macro_loading;
+use shortening::{Shortened, from_macro_loading};
 use state_restoring::from_state_saving;
 use translating::from_loading::Loaded;
+
+// The number of an accepted call.
+const ACCEPTED: u8 = 80;
 
 // Number and value in one. The numbers below are those that C gets.
 fn packed(number: u8, value: u32) -> u64
@@ -23,20 +30,68 @@ fn packed(number: u8, value: u32) -> u64
     u64::from(number) * 4294967296 + u64::from(value)
 }
 
+// The number of a text.
+fn number(loaded: Loaded) -> u8
+    ensures { result ≡ loaded_number loaded }
+{
+    match loaded {
+        Ok(()) => ACCEPTED,
+        Err(r) => r.number,
+    }
+}
+
+// "Accepted is 80 (load: line 0)"
+fn packed_loaded(r: Loaded) -> u64
+    ensures { result ≡ packed (loaded_number r) (loaded_line r) }
+{
+    match r {
+        Ok(()) => packed(ACCEPTED, 0),
+        Err(e) => packed(e.number, e.line),
+    }
+}
+
+// "its number, 80 if accepted, and the count of bytes written"
+fn packed_filled(r: Filled) -> u64
+    ensures { result ≡ packed (filled_number r) (filled_count r) }
+{
+    match r {
+        Ok(count) => packed(ACCEPTED, count),
+        Err(e) => packed(e.number, 0),
+    }
+}
+
+// The same of a part, with the number of its text.
+fn packed_shortened(r: Result<Shortened, Refused>) -> u64
+    ensures { result ≡ packed (shortened_number r) (filled_count (shortened_filled r)) }
+{
+    match r {
+        Ok(part) => packed(number(part.loaded), part.count),
+        Err(e) => packed(e.number, 0),
+    }
+}
+
+// Of a class.
+fn packed_taken(r: Result<(), Refused>) -> u64
+    ensures { result ≡ packed (taken_number r) 0 }
+{
+    match r {
+        Ok(()) => packed(ACCEPTED, 0),
+        Err(e) => packed(e.number, 0),
+    }
+}
+
 // The number and the line of a text: "Accepted is 80 (load: line 0)".
 pub fn eol2_load(text: &[u8], table: &mut [u32]) -> u64
     ensures { AnswersLoad (load_in (length table.old) text.now) table.old result table.new }
 {
-    let r: Loaded = from_macro_loading::load(text, table);
-    packed(r.number, r.line)
+    packed_loaded(from_macro_loading::load(text, table))
 }
 
 // The number, and how many bytes of the buffer are the text in the other edition: "67, with the buffer unchanged; else its rest stays".
 pub fn eol2_convert(text: &[u8], out: &mut [u8]) -> u64
     ensures { Fills (convert_of (length out.old) text.now) result out.old out.new }
 {
-    let r = translating::convert(text, out);
-    packed(r.number, r.count)
+    packed_filled(translating::convert(text, out))
 }
 
 // The number that load gives, and how many bytes of the buffer are a part of the text that it refuses with the same number, or the text that it
@@ -44,8 +99,7 @@ pub fn eol2_convert(text: &[u8], out: &mut [u8]) -> u64
 pub fn eol2_shorten(text: &[u8], table: &mut [u32], out: &mut [u8]) -> u64
     ensures { AnswersShorten text.now table.old out.old result table.new out.new }
 {
-    let r = shortening::shorten(text, table, out);
-    packed(r.number, r.count)
+    packed_shortened(shortening::shorten(text, table, out))
 }
 
 // "Start then makes H plus, all else empty."
@@ -54,24 +108,22 @@ pub fn eol2_shorten(text: &[u8], table: &mut [u32], out: &mut [u8]) -> u64
 pub fn eol2_start(table: &[u32], i1: &[u8], i2: &[u8], state: &mut [u8]) -> u64
     ensures { Answers (start_of table.now (i1.now ∷ i2.now ∷ []) state.old) result state.new }
 {
-    let refused = check_calls::ask(table, i1, i2);
-    if refused != 0 {
-        return packed(refused, 0);
+    if let Err(no) = check_calls::ask(table, i1, i2) {
+        return packed(u8::from(no), 0);
     }
     if state.len() < Machine::STATE {
         return packed(63, 0);
     }
     starting::start(state);
-    packed(80, 0)
+    packed(ACCEPTED, 0)
 }
 
 // Run "takes at most the budget of steps"; the answer has the count of completed instructions.
 pub fn eol2_run(table: &[u32], i1: &[u8], i2: &[u8], state: &mut [u8], budget: u32) -> u64
     ensures { Answers (run_of table.now (i1.now ∷ i2.now ∷ []) budget state.old) result state.new }
 {
-    let refused = check_calls::ask(table, i1, i2);
-    if refused != 0 {
-        return packed(refused, 0);
+    if let Err(no) = check_calls::ask(table, i1, i2) {
+        return packed(u8::from(no), 0);
     }
     if !check_state::is_state(table, i1, i2, state) {
         return packed(63, 0);
@@ -85,8 +137,7 @@ pub fn eol2_run(table: &[u32], i1: &[u8], i2: &[u8], state: &mut [u8], budget: u
 pub fn eol2_write_state(table: &[u32], i1: &[u8], i2: &[u8], state: &[u8], out: &mut [u8]) -> u64
     ensures { Fills (write_of table.now (i1.now ∷ i2.now ∷ []) state.now (length out.old)) result out.old out.new }
 {
-    let r = from_state_saving::write_state(table, i1, i2, state, out);
-    packed(r.number, r.count)
+    packed_filled(from_state_saving::write_state(table, i1, i2, state, out))
 }
 
 // The number; the state is the one that the lines of frames give. "A refused call changes nothing."
@@ -108,8 +159,5 @@ pub fn eol2_class(
 ) -> u64
     ensures { AnswersClass table.now (lent_of inputs.now lengths.now budgets.now results.old out.old) result results.new out.new }
 {
-    packed(
-        class_running::run_class(table, inputs, lengths, budgets, results, out),
-        0,
-    )
+    packed_taken(class_running::run_class(table, inputs, lengths, budgets, results, out))
 }

@@ -7,15 +7,26 @@ use native.Mathlib.Omega.{arith}
 use lib.Dec.{eqb}
 use lib.ListN.{length, take, drop, length-append, length-drop}
 use lib.Seq.{length-take-le, take-take, take_at}
-use borrow.Author.Tests.{eq-eqb, ne_eqb}
+use borrow.Author.Tests.{ne_eqb}
 use Rattle.calls.specs.Calls.{load_number}
-use Rattle.macro_loading.specs.Below.Loaded.{Loaded}
+use Rattle.macro_loading.specs.Below.Told.{Loaded, told, loaded_number}
 use Rattle.macro_loading.specs.Loading.{Loads}
 use Rattle.macros.specs.Load.{load_in}
-use Rattle.shortening.specs.Trying.{Exchangeable, exchanged, cut, cut_number, Cuttable, Tried}
+use Rattle.std.specs.Prelude.{Ok, Err}
+use Rattle.syntax.specs.Load as spec
+use Rattle.shortening.specs.Trying.{Exchangeable, exchanged, cut, cut_number, refused_with, Cuttable, Tried}
 use Rattle.shortening.proofs.Exchanging.{exchanged-back}
 
-module _ {d : List ℕ} {n from to table : ℕ} (h : Cuttable d n from to table) where
+-- the number that load answers
+pub number-told : (x : spec.Loaded) → loaded_number (told x) ≡ load_number x
+number-told (spec.Loaded.refused n l) = refl
+number-told (spec.Loaded.accepted p) = refl
+
+by-number : (l : Loaded) {number : ℕ} → (number ≡ 80 → ⊥) → refused_with number l ≡ eqb (loaded_number l) number
+by-number (Ok u) {number} h = sym (ne_eqb 80 number (λ q. h (sym q)))
+by-number (Err r) h = refl
+
+module _ {d : List ℕ} {n from to number table : ℕ} (h : Cuttable d n from to number table) where
   abbrev p : List ℕ
   p = take n d
 
@@ -40,23 +51,26 @@ module _ {d : List ℕ} {n from to table : ℕ} (h : Cuttable d n from to table)
         ap (take size) (w ∙ ap (λ (l : List ℕ). l ++ (drop to p ++ rest)) e ∙ sym (append_assoc (take from p) (drop to p) rest)) ∙ take_at (cut p from to) rest size length_cut
 
     module _ {c c' : List ℕ} {l : Loaded} (long : length c ≡ table) (k : Loads (take size d₁) c l c') where
-      number-told : l.number ≡ cut_number p from to
-      number-told =
-          k.number_is ∙ ap (λ (x : List ℕ). load_number (load_in (length c) x)) in_front
+      number_is : loaded_number l ≡ cut_number p from to
+      number_is =
+          ap loaded_number k.is ∙ number-told (load_in (length c) (take size d₁)) ∙ ap (λ (x : List ℕ). load_number (load_in (length c) x)) in_front
           ∙ ap (λ (m : ℕ). load_number (load_in m (cut p from to))) (long ∙ h.tryable.long)
 
-      pub dropped : {number : ℕ} → l.number ≡ number → Tried p from to number d₁ size
-      dropped {number} z =
-          let b : eqb (cut_number p from to) number ≡ true = eq-eqb (cut_number p from to) number (sym number-told ∙ z) in
+      stays-by : {t : Bool} → refused_with number l ≡ t → eqb (cut_number p from to) number ≡ t
+      stays-by z = ap (λ (m : ℕ). eqb m number) (sym number_is) ∙ sym (by-number l h.tryable.refused) ∙ z
+
+      pub dropped : refused_with number l ≡ true → Tried p from to number d₁ size
+      dropped z =
+          let b = stays-by z in
           record {
             is = in_front ∙ ap (λ (x : Bool). cond x (cut p from to) p) (sym b);
             size = sym length_cut ∙ ap (λ (x : Bool). length (cond x (cut p from to) p)) (sym b);
           }
 
       -- and is put back
-      pub not-dropped : {number : ℕ} → (l.number ≡ number → ⊥) → {d₂ : List ℕ} → d₂ ≡ exchanged d₁ from size n → Tried p from to number d₂ n
-      not-dropped {number} z {d₂} v =
-          let b : eqb (cut_number p from to) number ≡ false = ne_eqb (cut_number p from to) number (λ q. z (number-told ∙ q)) in
+      pub not-dropped : refused_with number l ≡ false → {d₂ : List ℕ} → d₂ ≡ exchanged d₁ from size n → Tried p from to number d₂ n
+      not-dropped z {d₂} v =
+          let b = stays-by z in
           let e : d₂ ≡ d = v ∙ ap (λ (x : List ℕ). exchanged x from size n) w ∙ exchanged-back exchangeable refl in
           record {
             is = ap (take n) e ∙ ap (λ (x : Bool). cond x (cut p from to) p) (sym b);

@@ -1,7 +1,7 @@
 -- The part is given, and the whole call.
 use mathlib.Core.Path.{◌≡◌, refl, ap, sym, ◌∙◌, subst}
 use mathlib.Core.Logic.{◌≢◌}
-use mathlib.Core.Bool.{Bool, true, false, cond, ◌&&◌, ◌||◌, or-true}
+use mathlib.Core.Bool.{Bool, true, false, cond, ◌&&◌, ◌||◌, or-true, true≢false}
 use mathlib.Core.List.{List, ◌++◌}
 use Prim.Native.Nat.{ℕ, ◌+◌, ◌≤◌, ◌<◌}
 use native.Mathlib.Omega.{arith}
@@ -15,10 +15,12 @@ use Rattle.language.specs.Limits as limit
 use Rattle.layout.specs.Table.{table_cells}
 use Rattle.lists.specs.Lists.{joined}
 use Rattle.calls.specs.Calls.{load_number, table_after}
-use Rattle.calls.specs.Filling.{Filling, filling_number, filling_count, filled_in}
+use Rattle.calls.specs.Filling.{Filling, filling_number, filled_in, filled_of}
 use Rattle.calls.specs.Filling.Filling.{kept, fills}
-use Rattle.calls.specs.declared.Filled.{Filled}
-use Rattle.macro_loading.specs.Below.Loaded as told
+use Rattle.calls.proofs.LoadLaws.{load-accepts}
+use Rattle.macro_loading.specs.Below.Rejected.{Rejected}
+use Rattle.macro_loading.specs.Below.Told as answer
+use Rattle.macro_loading.specs.Below.Told.{told, loaded_number}
 use Rattle.macro_loading.specs.Loading.{Loads}
 use Rattle.macros.specs.Load.{loaded, load_in, load_of}
 use Rattle.macros.specs.Prepared.{prepared}
@@ -31,7 +33,10 @@ use Rattle.shorten_calls.proofs.RoundLaws.{rounds-order}
 use Rattle.shorten_calls.specs.Shortening.{rounds, part, brings_40, shorten_of, table_shortened}
 use Rattle.text_lines.specs.LineLaws.{joined-lines}
 use Rattle.text_lines.specs.Lines.{lines}
-use Rattle.shortening.specs.Trying.{Finished, Givable, Given, Refused, Shortens, Tryable}
+use Rattle.std.specs.Prelude.{Ok, Err, is_ok}
+use Rattle.shortening.proofs.Cutting.{number-told}
+use Rattle.shortening.specs.Trying.{Finished, Givable, Given, RefusedText, Answer, Shortens, Tryable}
+use Rattle.shortening.specs.declared.Shortened.{Shortened}
 
 -- ---- load: what 40 is of, and what the table is afterwards
 
@@ -77,16 +82,16 @@ front-copied {m} {s} b e = let z : length s ≡ 0 + length s = omega arith in λ
 
 -- ---- a part that is given
 
-pub given : {p c c' b b' : List ℕ} {l : told.Loaded} {r : Filled} → Loads p c l c' → b' ≡ pasted b 0 p → r.number ≡ l.number → r.count ≡ length p → Given p c b r c' b'
+pub given : {p c c' b b' : List ℕ} {l : answer.Loaded} {r : Shortened} → Loads p c l c' → b' ≡ pasted b 0 p → r.loaded ≡ l → r.count ≡ length p → Given p c b r c' b'
 given {p} {c} {c'} {b} {b'} {l} {r} h w e f =
-    record { number_is = e ∙ h.number_is; count_is = f; table_is = h.cells_are; cells_are = w ∙ ap (λ (n : ℕ). p ++ drop n b) (zero-add (length p)) }
+    record { loaded_is = e ∙ h.is; count_is = f; table_is = h.cells_are; cells_are = w ∙ ap (λ (n : ℕ). p ++ drop n b) (zero-add (length p)) }
 
 -- on a table whose first cells are others
-given-same : {p c d c' b b' : List ℕ} {r : Filled} → length d ≡ length c → drop limit.table d ≡ drop limit.table c → load_number (load_in (length c) p) ≢ 40
+given-same : {p c d c' b b' : List ℕ} {r : Shortened} → length d ≡ length c → drop limit.table d ≡ drop limit.table c → load_number (load_in (length c) p) ≢ 40
     → Given p d b r c' b' → Given p c b r c' b'
 given-same {p} {c} {d} same e h g =
     record {
-      number_is = g.number_is ∙ ap (λ (n : ℕ). load_number (load_in n p)) same;
+      loaded_is = g.loaded_is ∙ ap (λ (n : ℕ). told (load_in n p)) same;
       count_is = g.count_is;
       table_is = g.table_is ∙ ap (λ (n : ℕ). table_after (load_in n p) d) same ∙ beyond-only (load_in (length c) p) c d h e;
       cells_are = g.cells_are;
@@ -98,69 +103,91 @@ module _ (s c b : List ℕ) where
   abbrev number : ℕ
   number = load_number (load_in (length c) s)
 
-  short-40 : brings_40 (length c) (length b) s ≡ true → {r : Filled} → r.number ≡ 40 → r.count ≡ 0 → Shortens s c b r c b
+  abbrev refused-40 : Answer
+  refused-40 = Err (record { number = 40 })
+
+  short-40 : brings_40 (length c) (length b) s ≡ true → Shortens s c b refused-40 c b
   unfolding shorten_of table_shortened filled_in
-  short-40 e x y =
+  short-40 e =
       let f : shorten_of (length c) (length b) s ≡ kept 40 = ap (λ (t : Bool). cond t (kept 40) (fills number (part (length c) s))) e in
       record {
-        gives = record { number_is = x ∙ ap filling_number (sym f); count_is = y ∙ ap filling_count (sym f); cells_are = ap (λ (t : Filling). filled_in t b) (sym f) };
+        result_is = ap filled_of (sym f);
+        number_is = ap filling_number (sym f);
+        cells_are = ap (λ (t : Filling). filled_in t b) (sym f);
         table_is = ap (λ (t : Bool). cond t c (table_after (load_in (length c) (part (length c) s)) c)) (sym e);
       }
 
   -- "one shorter than the text also brings 40"
-  pub buffer-40 : length b < length s → {r : Filled} → r.number ≡ 40 → r.count ≡ 0 → Shortens s c b r c b
+  pub buffer-40 : length b < length s → Shortens s c b refused-40 c b
   buffer-40 h = short-40 (ap (λ (t : Bool). t || eqb number 40) (lt-ltb (length b) (length s) h))
 
-  module _ {l : told.Loaded} {d : List ℕ} (k : Loads s c l d) where
-    pub load-40 : l.number ≡ 40 → {r : Filled} → r.number ≡ 40 → r.count ≡ 0 → Shortens s c b r d b
-    load-40 h {r} x y =
-        let e : number ≡ 40 = sym k.number_is ∙ h in
-        subst (λ (t : List ℕ). Shortens s c b r t b) (sym (k.cells_are ∙ stays-40 (load_in (length c) s) c e))
-        (short-40 (ap (λ (t : Bool). ltb (length b) (length s) || t) (eq-eqb number 40 e) ∙ or-true (ltb (length b) (length s))) x y)
+  module _ (not_40 : number ≢ 40) where
+    pub text-short : length s ≤ limit.text
+    text-short = (asked (length c) s not_40).short
 
-    module _ (not_40 : l.number ≡ 40 → ⊥) where
-      number-not_40 : number ≢ 40
-      number-not_40 z = not_40 (k.number_is ∙ z)
+    none-40 : length s ≤ length b → brings_40 (length c) (length b) s ≡ false
+    none-40 room = ap (λ (t : Bool). t || eqb number 40) (le-ltb (length b) (length s) room) ∙ ne_eqb number 40 not_40
 
-      pub text-short : length s ≤ limit.text
-      text-short = (asked (length c) s number-not_40).short
+    part-given : length s ≤ length b → {p c' b' : List ℕ} {r : Shortened} → p ≡ part (length c) s → Given p c b r c' b' → Shortens s c b (Ok r) c' b'
+    unfolding shorten_of table_shortened filled_in
+    part-given room {p} e g =
+        let f : shorten_of (length c) (length b) s ≡ fills number (part (length c) s) = ap (λ (t : Bool). cond t (kept 40) (fills number (part (length c) s))) (none-40 room) in
+        record {
+          result_is = ap Ok (g.count_is ∙ ap length e) ∙ ap filled_of (sym f);
+          number_is = ap loaded_number g.loaded_is ∙ number-told (load_in (length c) p) ∙ ap (λ (t : List ℕ). load_number (load_in (length c) t)) e
+              ∙ part-number (length c) s ∙ ap filling_number (sym f);
+          cells_are = g.cells_are ∙ ap (λ (t : List ℕ). t ++ drop (length t) b) e ∙ ap (λ (t : Filling). filled_in t b) (sym f);
+          table_is = g.table_is ∙ ap (λ (t : List ℕ). table_after (load_in (length c) t) c) e
+              ∙ ap (λ (t : Bool). cond t c (table_after (load_in (length c) (part (length c) s)) c)) (sym (none-40 room));
+        }
 
-      module _ (room : length s ≤ length b) where
-        none-40 : brings_40 (length c) (length b) s ≡ false
-        none-40 = ap (λ (t : Bool). t || eqb number 40) (le-ltb (length b) (length s) room) ∙ ne_eqb number 40 number-not_40
+  module _ {l : answer.Loaded} {d : List ℕ} (k : Loads s c l d) where
+    number-of : loaded_number l ≡ number
+    number-of = ap loaded_number k.is ∙ number-told (load_in (length c) s)
 
-        part-given : {p c' b' : List ℕ} {r : Filled} → p ≡ part (length c) s → Given p c b r c' b' → Shortens s c b r c' b'
-        unfolding shorten_of table_shortened filled_in
-        part-given e g =
-            let f : shorten_of (length c) (length b) s ≡ fills number (part (length c) s) = ap (λ (t : Bool). cond t (kept 40) (fills number (part (length c) s))) none-40 in
-            record {
-              gives = record {
-                number_is = g.number_is ∙ ap (λ (t : List ℕ). load_number (load_in (length c) t)) e ∙ part-number (length c) s ∙ ap filling_number (sym f);
-                count_is = g.count_is ∙ ap length e ∙ ap filling_count (sym f);
-                cells_are = g.cells_are ∙ ap (λ (t : List ℕ). t ++ drop (length t) b) e ∙ ap (λ (t : Filling). filled_in t b) (sym f);
-              };
-              table_is = g.table_is ∙ ap (λ (t : List ℕ). table_after (load_in (length c) t) c) e
-                  ∙ ap (λ (t : Bool). cond t c (table_after (load_in (length c) (part (length c) s)) c)) (sym none-40);
-            }
+    module _ (q : l ≡ Ok tt) where
+      number-80 : number ≡ 80
+      number-80 = sym number-of ∙ ap loaded_number q
 
-        -- "A text that loads is given back"
-        pub given_back : l.number ≡ 80 → {b' : List ℕ} {r : Filled} → b' ≡ pasted b 0 s → r.number ≡ 80 → r.count ≡ length s → Shortens s c b r d b'
-        given_back h w x y = part-given (sym (loads-back (length c) s (sym k.number_is ∙ h))) (given k w (x ∙ sym h) y)
+      pub accepted-not_40 : number ≢ 40
+      accepted-not_40 z = absurd (omega (arith, number-80, z))
 
-        module _ (not_80 : l.number ≡ 80 → ⊥) (same : length d ≡ length c) where
-          pub refused-text : Refused s l.number (length d) (length b)
-          refused-text = record {
-            number_is = k.number_is ∙ ap (λ (n : ℕ). load_number (load_in n s)) (sym same);
-            not_40 = not_40;
-            not_80 = not_80;
-            room = room;
-          }
+      -- "A text that loads is given back"
+      pub given_back : length s ≤ length b → {b' : List ℕ} {r : Shortened} → b' ≡ pasted b 0 s → r.loaded ≡ Ok tt → r.count ≡ length s → Shortens s c b (Ok r) d b'
+      given_back room w x y = part-given accepted-not_40 room (sym (loads-back (length c) s number-80)) (given k w (x ∙ sym q) y)
 
-          pub refused-given : {r : Filled} {c' b' : List ℕ} → Given (part (length d) s) d b r c' b' → Shortens s c b r c' b'
-          refused-given {r} {c'} {b'} g =
-              part-given refl
-              (given-same same (ap (drop limit.table) k.cells_are ∙ beyond-stays (load_in (length c) s) c number-not_40 (λ z. not_80 (k.number_is ∙ z)))
-              (λ z. number-not_40 (sym (part-number (length c) s) ∙ z)) (subst (λ (n : ℕ). Given (part n s) d b r c' b') same g))
+    module _ {f : Rejected} (q : l ≡ Err f) where
+      number-f : f.number ≡ number
+      number-f = sym (ap loaded_number q) ∙ number-of
+
+      pub load-40 : f.number ≡ 40 → Shortens s c b refused-40 d b
+      load-40 h =
+          let e : number ≡ 40 = sym number-f ∙ h in
+          subst (λ (t : List ℕ). Shortens s c b refused-40 t b) (sym (k.cells_are ∙ stays-40 (load_in (length c) s) c e))
+          (short-40 (ap (λ (t : Bool). ltb (length b) (length s) || t) (eq-eqb number 40 e) ∙ or-true (ltb (length b) (length s))))
+
+      not_80 : number ≢ 80
+      not_80 z =
+          let a = (load-accepts (length c) s).0 z in
+          true≢false (ap is_ok (sym (ap told a.1) ∙ sym k.is ∙ q))
+
+      module _ (not_40 : f.number ≡ 40 → ⊥) (room : length s ≤ length b) (same : length d ≡ length c) where
+        refused-not_40 : number ≢ 40
+        refused-not_40 z = not_40 (number-f ∙ z)
+
+        pub refused-text : RefusedText s f.number (length d) (length b)
+        refused-text = record {
+          number_is = number-f ∙ ap (λ (n : ℕ). load_number (load_in n s)) (sym same);
+          not_40 = not_40;
+          not_80 = λ z. not_80 (sym number-f ∙ z);
+          room = room;
+        }
+
+        pub refused-given : {r : Shortened} {c' b' : List ℕ} → Given (part (length d) s) d b r c' b' → Shortens s c b (Ok r) c' b'
+        refused-given {r} {c'} {b'} g =
+            part-given refused-not_40 room refl
+            (given-same same (ap (drop limit.table) k.cells_are ∙ beyond-stays (load_in (length c) s) c refused-not_40 not_80)
+            (λ z. refused-not_40 (sym (part-number (length c) s) ∙ z)) (subst (λ (n : ℕ). Given (part n s) d b r c' b') same g))
 
 -- ---- the refused text
 
@@ -181,7 +208,7 @@ module _ (s : List ℕ) {d : List ℕ} (w : d ≡ pasted zeros 0 s) where
   size_small : {number : ℕ} {e : List ℕ} {r : ℕ} → Finished (take (length s) d) number e r → r ≤ length s
   size_small f = omega (arith, finished-small f, ap length text_first)
 
-module _ {s : List ℕ} (c : List ℕ) {number out : ℕ} (h : Refused s number (length c) out) where
+module _ {s : List ℕ} (c : List ℕ) {number out : ℕ} (h : RefusedText s number (length c) out) where
   not_40-of : load_number (load_in (length c) s) ≢ 40
   not_40-of z = h.not_40 (h.number_is ∙ z)
 
@@ -198,8 +225,8 @@ module _ {s : List ℕ} (c : List ℕ) {number out : ℕ} (h : Refused s number 
   fits-row = subst (λ (n : ℕ). 0 + length s ≤ n) (sym (length-replicate {A = ℕ} limit.text 0)) (omega (arith, fits-text))
 
   module _ {d : List ℕ} (same : length d ≡ length zeros) where
-    pub tryable : Tryable d (length s) (length (take limit.table c))
-    tryable = record { within = omega (arith, same, fits-row); long = first-cells }
+    pub tryable : Tryable d (length s) number (length (take limit.table c))
+    tryable = record { within = omega (arith, same, fits-row); refused = h.not_80; long = first-cells }
 
     pub within-row : d ≡ pasted zeros 0 s → {e : List ℕ} {r : ℕ} → Finished (take (length s) d) number e r → length e ≡ length d → r ≤ length e
     within-row w f k = omega (arith, size_small s w f, k, same, fits-row)
@@ -219,7 +246,7 @@ module _ {s : List ℕ} (c : List ℕ) {number out : ℕ} (h : Refused s number 
         ∙ ap joined (sym (part-refused limit.table s (λ z. h.not_80 (same ∙ z)))) ∙ sym (part_same (length c) table-long s)
 
     -- the trials changed the first cells of the table
-    pub part-written : {b : List ℕ} (t : List ℕ) → length t ≡ length (take limit.table c) → {q : Filled} {c' b' : List ℕ}
+    pub part-written : {b : List ℕ} (t : List ℕ) → length t ≡ length (take limit.table c) → {q : Shortened} {c' b' : List ℕ}
         → Given (take r e) (t ++ drop limit.table c) b q c' b' → Given (part (length c) s) c b q c' b'
     part-written {b} t a {q} {c'} {b'} g =
         let long : length t ≡ limit.table = a ∙ first-cells in

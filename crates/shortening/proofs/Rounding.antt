@@ -30,8 +30,8 @@ pub record Trying (d : List ℕ) (size left number : ℕ) (r : List (List ℕ)) 
   pub kept : drop left (take size d) ≡ joined after
   pub leads : round limit.table number after (reverse (lines (take left d))) ≡ r
 
-round-begin : {d : List ℕ} {n table : ℕ} → Tryable d n table → (number : ℕ) → Trying d n n number (round_of limit.table number (lines (take n d)))
-round-begin {d} {n} h number = record {
+round-begin : {d : List ℕ} {n number table : ℕ} → Tryable d n number table → Trying d n n number (round_of limit.table number (lines (take n d)))
+round-begin {d} {n} h = record {
   upto = omega arith;
   within = h.within;
   after = [];
@@ -131,8 +131,8 @@ module _ {d : List ℕ} {size left number : ℕ} {r : List (List ℕ)} (t : Tryi
       leads = ap (λ (x : List ℕ). round limit.table number (cond stays t.after (line ∷ t.after)) (reverse (lines x))) untouched ∙ leads-on;
     }
 
-  cuttable : {table : ℕ} → table ≡ limit.table → Cuttable d size from left table
-  cuttable e = record { tryable = record { within = t.within; long = e }; upto = t.upto; some = omega (arith, l.below) }
+  cuttable : {table : ℕ} → table ≡ limit.table → (number ≡ 80 → ⊥) → Cuttable d size from left number table
+  cuttable e z = record { tryable = record { within = t.within; refused = z; long = e }; upto = t.upto; some = omega (arith, l.below) }
 
 pub ending : {d : List ℕ} {size left number : ℕ} {r : List (List ℕ)} → Trying d size left number r → 0 < left → Ending d left
 ending t h = record { some = h; within = omega (arith, t.upto, t.within) }
@@ -153,13 +153,13 @@ pub record InRound (d₀ : List ℕ) (n number table : ℕ) (d : List ℕ) (tabl
   pub same : length d ≡ length d₀
   pub table_is : table' ≡ table
 
-module _ {d₀ : List ℕ} {n table : ℕ} (pre : Tryable d₀ n table) {number : ℕ} where
+module _ {d₀ : List ℕ} {n number table : ℕ} (pre : Tryable d₀ n number table) where
   pub in-round : InRound d₀ n number table d₀ table n n
-  in-round = record { trying = round-begin pre number; same = refl; table_is = refl }
+  in-round = record { trying = round-begin pre; same = refl; table_is = refl }
 
   module _ {d : List ℕ} {table' size left : ℕ} (i : InRound d₀ n number table d table' size left) {from : ℕ} (l : LineStart d left from) where
-    pub may-cut : Cuttable d size from left table'
-    may-cut = cuttable i.trying l (i.table_is ∙ pre.long)
+    pub may-cut : Cuttable d size from left number table'
+    may-cut = cuttable i.trying l (i.table_is ∙ pre.long) pre.refused
 
     pub on-round : {d' : List ℕ} {table'' size' : ℕ} → Tried (take size d) from left number d' size' → length d' ≡ length d → table'' ≡ table'
         → InRound d₀ n number table d' table'' size' from
@@ -249,13 +249,13 @@ pub record InRounds (d₀ : List ℕ) (n number table : ℕ) (d : List ℕ) (tab
   pub same : length d ≡ length d₀
   pub table_is : table' ≡ table
 
-module _ {d₀ : List ℕ} {n table : ℕ} (pre : Tryable d₀ n table) {number : ℕ} where
+module _ {d₀ : List ℕ} {n number table : ℕ} (pre : Tryable d₀ n number table) where
   pub in-rounds : InRounds d₀ n number table d₀ table n
   in-rounds = record { going = rounds-begin d₀ n number pre.within; same = refl; table_is = refl }
 
   module _ {d : List ℕ} {table' size : ℕ} (i : InRounds d₀ n number table d table' size) where
-    pub may-try : Tryable d size table'
-    may-try = record { within = i.going.within; long = i.table_is ∙ pre.long }
+    pub may-try : Tryable d size number table'
+    may-try = record { within = i.going.within; refused = pre.refused; long = i.table_is ∙ pre.long }
 
     module _ {d' : List ℕ} {left : ℕ} (k : Rounded (take size d) number d' left) (e : length d' ≡ length d) where
       pub on-rounds : (left ≡ size → ⊥) → {table'' : ℕ} → table'' ≡ table' → InRounds d₀ n number table d' table'' left

@@ -1,13 +1,15 @@
 -- What the functions of the rounds ask and promise.
-use Rattle.std.specs.Prelude.{◌≡◌, cond, List, [], ◌∷◌, ◌++◌, ℕ, ◌≤◌, ◌<◌, eqb, length, take, drop}
+use Rattle.std.specs.Prelude.{◌≡◌, Result, Ok, Err, Bool, false, cond, List, [], ◌∷◌, ◌++◌, ℕ, ◌≤◌, ◌<◌, eqb, length, take, drop}
 use Rattle.calls.specs.Calls.{load_number, table_after}
-use Rattle.calls.specs.Filling.{Gives}
-use Rattle.calls.specs.declared.Filled.{Filled}
+use Rattle.calls.specs.Filling.{filling_number, filled_in, Filled, filled_of}
+use Rattle.calls.specs.declared.Refused.{Refused}
 use Rattle.language.specs.Limits as limit
 use Rattle.lists.specs.Lists.{joined}
+use Rattle.macro_loading.specs.Below.Told.{Loaded, told, loaded_number}
 use Rattle.macros.specs.Load.{load_in, load_of}
 use Rattle.shorten_calls.specs.Shortening.{round_of, rounds, shorten_of, table_shortened}
 use Rattle.text_lines.specs.Lines.{lines}
+use Rattle.shortening.specs.declared.Shortened.{Shortened}
 
 -- in the text s a line ends at `end`
 pub record Ending (s : List ℕ) (end : ℕ) : Type 0 where
@@ -37,13 +39,19 @@ cut p from to = take from p ++ drop to p
 abbrev pub cut_number : List ℕ → ℕ → ℕ → ℕ
 cut_number p from to = load_number (load_of (cut p from to))
 
--- the text are the first n bytes of a row; the table has the right length
-pub record Tryable (d : List ℕ) (n table : ℕ) : Type 0 where
+-- load refuses with this number
+abbrev pub refused_with : ℕ → Loaded → Bool
+refused_with number (Ok u) = false
+refused_with number (Err r) = eqb r.number number
+
+-- the text are the first n bytes of a row, refused with a number; the table has the right length
+pub record Tryable (d : List ℕ) (n number table : ℕ) : Type 0 where
   pub within : n ≤ length d
+  pub refused : number ≡ 80 → ⊥
   pub long : table ≡ limit.table
 
-pub record Cuttable (d : List ℕ) (n from to table : ℕ) : Type 0 where
-  pub tryable : Tryable d n table
+pub record Cuttable (d : List ℕ) (n from to number table : ℕ) : Type 0 where
+  pub tryable : Tryable d n number table
   pub upto : to ≤ n
   pub some : from ≤ to
 
@@ -68,20 +76,35 @@ pub record Givable (p : List ℕ) (out : ℕ) : Type 0 where
   pub room : length p ≤ out
 
 -- p is loaded, on the table c, and written to the buffer b
-pub record Given (p c b : List ℕ) (r : Filled) (c' b' : List ℕ) : Type 0 where
-  pub number_is : r.number ≡ load_number (load_in (length c) p)
+pub record Given (p c b : List ℕ) (r : Shortened) (c' b' : List ℕ) : Type 0 where
+  pub loaded_is : r.loaded ≡ told (load_in (length c) p)
   pub count_is : r.count ≡ length p
   pub table_is : c' ≡ table_after (load_in (length c) p) c
   pub cells_are : b' ≡ p ++ drop (length p) b
 
 -- a text that load refuses, not with 40, with room for its part
-pub record Refused (s : List ℕ) (number table out : ℕ) : Type 0 where
+pub record RefusedText (s : List ℕ) (number table out : ℕ) : Type 0 where
   pub number_is : number ≡ load_number (load_in table s)
   pub not_40 : number ≡ 40 → ⊥
   pub not_80 : number ≡ 80 → ⊥
   pub room : length s ≤ out
 
+abbrev pub Answer : Type 0
+Answer = Result Shortened Refused
+
+-- the bytes written
+abbrev pub shortened_filled : Answer → Filled
+shortened_filled (Ok t) = Ok t.count
+shortened_filled (Err e) = Err e
+
+-- load's number, or that of the refused call
+abbrev pub shortened_number : Answer → ℕ
+shortened_number (Ok t) = loaded_number t.loaded
+shortened_number (Err e) = e.number
+
 -- the whole call: the text s, the table c and the buffer b, and what becomes of them
-pub record Shortens (s c b : List ℕ) (r : Filled) (c' b' : List ℕ) : Type 0 where
-  pub gives : Gives (shorten_of (length c) (length b) s) r.number r.count b b'
+pub record Shortens (s c b : List ℕ) (r : Answer) (c' b' : List ℕ) : Type 0 where
+  pub result_is : shortened_filled r ≡ filled_of (shorten_of (length c) (length b) s)
+  pub number_is : shortened_number r ≡ filling_number (shorten_of (length c) (length b) s)
+  pub cells_are : b' ≡ filled_in (shorten_of (length c) (length b) s) b
   pub table_is : c' ≡ table_shortened c (length b) s

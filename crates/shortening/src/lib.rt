@@ -3,11 +3,28 @@
 
 ghost use Rattle.std.specs.Prelude.{◌≡◌, length, take};
 ghost use Rattle.shorten_calls.specs.Shortening.{part};
-ghost use Rattle.shortening.specs.Trying.{Ending, LineStart, Exchangeable, exchanged, Cuttable, Tried, Tryable, Rounded, Finished, Givable, Given, Refused, Shortens};
+ghost use Rattle.shortening.specs.Trying.{Ending, LineStart, Exchangeable, exchanged, refused_with, Cuttable, Tried, Tryable, Rounded, Finished, Givable, Given, RefusedText, Shortens};
 
-use calls::Filled;
+use calls::Refused;
 use language::Machine;
 use macro_loading::from_loading::Loaded;
+
+// "one shorter than the text also brings 40"
+const REFUSED: Refused = Refused { number: 40 };
+
+// What load answers of the part, and how many bytes it has.
+#[derive(Clone, Copy)]
+pub struct Shortened {
+    pub loaded: Loaded,
+    pub count: u32,
+}
+
+// Whether load refuses with this number.
+fn is_refused_with(loaded: Loaded, number: u8) -> bool
+    ensures { result ≡ refused_with number loaded }
+{
+    matches!(loaded, Err(r) if r.number == number)
+}
 
 // The place where the line begins that ends at `end`.
 fn line_start(text: &[u8], end: usize) -> usize
@@ -41,13 +58,13 @@ fn try_without(
     number: u8,
     table: &mut [u32],
 ) -> usize
-    requires { Cuttable part.old n from to (length table.old) }
+    requires { Cuttable part.old n from to number (length table.old) }
     ensures { Tried (take n part.old) from to number part.new result }
 {
     let size = from + (n - to);
     exchange(part, from, to, n);
-    let r: Loaded = macro_loading::load(&part[..size], table);
-    if r.number == number {
+    let loaded = macro_loading::load(&part[..size], table);
+    if is_refused_with(loaded, number) {
         return size;
     }
     exchange(part, from, size, n);
@@ -57,7 +74,7 @@ fn try_without(
 // One round: "from the last to the first, each dropped if the number stays".
 // No range: each turn finds where its line begins, and in `rounds` each round tells whether another follows.
 fn round(part: &mut [u8], n: usize, number: u8, table: &mut [u32]) -> usize
-    requires { Tryable part.old n (length table.old) }
+    requires { Tryable part.old n number (length table.old) }
     ensures { Rounded (take n part.old) number part.new result }
 {
     let mut size = n;
@@ -72,7 +89,7 @@ fn round(part: &mut [u8], n: usize, number: u8, table: &mut [u32]) -> usize
 
 // "until a round drops none"
 fn rounds(part: &mut [u8], n: usize, number: u8, table: &mut [u32]) -> usize
-    requires { Tryable part.old n (length table.old) }
+    requires { Tryable part.old n number (length table.old) }
     ensures { Finished (take n part.old) number part.new result }
 {
     let mut size = n;
@@ -86,22 +103,22 @@ fn rounds(part: &mut [u8], n: usize, number: u8, table: &mut [u32]) -> usize
 }
 
 // "A lent table is left as loading the part leaves it .. The part goes to a lent buffer, whose rest stays".
-fn give(part: &[u8], table: &mut [u32], out: &mut [u8]) -> Filled
+fn give(part: &[u8], table: &mut [u32], out: &mut [u8]) -> Shortened
     requires { Givable part.now (length out.old) }
     ensures { Given part.now table.old out.old result table.new out.new }
 {
-    let r: Loaded = macro_loading::load(part, table);
+    let loaded = macro_loading::load(part, table);
     out[..part.len()].copy_from_slice(part);
-    Filled {
-        number: r.number,
+    Shortened {
+        loaded,
         count: part.len() as u32,
     }
 }
 
 // The part of a refused text. The trials use the lent table.
 // `cells::put` fills the row: `copy_from_slice` on a row of this function leaves goals over all its locals, which did not close.
-fn shorten_refused(text: &[u8], number: u8, table: &mut [u32], out: &mut [u8]) -> Filled
-    requires { Refused text.now number (length table.old) (length out.old) }
+fn shorten_refused(text: &[u8], number: u8, table: &mut [u32], out: &mut [u8]) -> Shortened
+    requires { RefusedText text.now number (length table.old) (length out.old) }
     ensures { Given (part (length table.old) text.now) table.old out.old result table.new out.new }
 {
     let mut part = [0u8; Machine::TEXT];
@@ -111,30 +128,27 @@ fn shorten_refused(text: &[u8], number: u8, table: &mut [u32], out: &mut [u8]) -
 }
 
 // "From a refused text, give a part made of some of its lines .. A text that loads is given back, with 80."
-pub fn shorten(text: &[u8], table: &mut [u32], out: &mut [u8]) -> Filled
+pub fn shorten(text: &[u8], table: &mut [u32], out: &mut [u8]) -> Result<Shortened, Refused>
     ensures { Shortens text.now table.old out.old result table.new out.new }
 {
     if out.len() < text.len() {
-        return Filled {
-            number: 40,
-            count: 0,
-        };
+        return Err(REFUSED);
     }
-    let r: Loaded = macro_loading::load(text, table);
-    if r.number == 40 {
-        return Filled {
-            number: 40,
-            count: 0,
-        };
+    match macro_loading::load(text, table) {
+        Ok(()) => {
+            out[..text.len()].copy_from_slice(text);
+            Ok(Shortened {
+                loaded: Ok(()),
+                count: text.len() as u32,
+            })
+        }
+        Err(r) => {
+            if r.number == 40 {
+                return Err(REFUSED);
+            }
+            Ok(shorten_refused(text, r.number, table, out))
+        }
     }
-    if r.number == 80 {
-        out[..text.len()].copy_from_slice(text);
-        return Filled {
-            number: 80,
-            count: text.len() as u32,
-        };
-    }
-    shorten_refused(text, r.number, table, out)
 }
 
 // Of `macro_loading`, passed on to the crates above.

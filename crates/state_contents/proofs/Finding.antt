@@ -1,5 +1,6 @@
 -- The strings of a state where they stand in a row: whole contents, and the halves of a file's.
-use mathlib.Core.Path.{◌≡◌, refl, sym, ap, ◌∙◌}
+use Rattle.std.specs.Prelude.{Option, Some, None, MatchOption, unwrap_or}
+use mathlib.Core.Path.{◌≡◌, refl, sym, ap, ◌∙◌, subst}
 use mathlib.Core.Bool.{Bool, true, false, cond}
 use mathlib.Core.List.{List, [], ◌∷◌, ◌++◌}
 use Prim.Native.Nat.{ℕ, zero, suc, ◌+◌, ◌*◌, ◌-◌, ◌/◌, ◌%◌, ◌≤◌, ◌<◌}
@@ -18,22 +19,29 @@ use Rattle.layout.specs.Strings.{used}
 use Rattle.layout.proofs.StringLaws.{joined_next, joined-within}
 use Rattle.state_frames.specs.Frames.{Frame, expression, file, output, stack, frames_in}
 use Rattle.state_frames.specs.Saved.{contents_at, contents_of, before_half, after_half, halves, strings_by}
-use Rattle.state_contents.specs.Contents.{Gathered, Standing, half_of, strings_of, Fitting}
+use Rattle.state_contents.specs.Contents.{Stored, Gathered, Standing, half_of, strings_of, Fitting}
 
 -- ---- whole contents
 
-pub whole-none : {c o : List ℕ} {n : ℕ} → Gathered c n o → length o < n → Standing (length c ≤ length o) c o 0 0
-whole-none g h = record { order = omega arith; within = omega arith; is = λ w. absurd (omega (arith, g.count)) }
-
-pub whole-all : {c o : List ℕ} {n : ℕ} → Gathered c n o → n ≤ length o → Standing (length c ≤ length o) c o 0 n
-whole-all {o = o} {n = n} g h = record { order = omega arith; within = h; is = λ w. ap (λ (k : ℕ). take k o) (sub-zero n) ∙ g.bytes h }
+pub whole-all : {c o : List ℕ} {p : Option ℕ} {n : ℕ} → Gathered c p o → n ≡ unwrap_or p 0 → Standing (length c ≤ length o) c o 0 n
+whole-all {c} {o} {p} {n} g e = go p g.told e
+  where
+    go : (p : Option ℕ) → MatchOption p (length o < length c) (λ m. Stored c m o) → n ≡ unwrap_or p 0 → Standing (length c ≤ length o) c o 0 n
+    go None w q = record { order = omega arith; within = omega (arith, q); is = λ h. absurd (omega (arith, w, h)) }
+    go (Some m) w q = rw q (record { order = omega arith; within = w.room; is = λ h. ap (λ (k : ℕ). take k o) (sub-zero m) ∙ w.bytes })
 
 -- ---- the halves of a file's contents c, n bytes in front in the row o
 
-module _ {c o : List ℕ} {n : ℕ} (g : Gathered c n o) where
-  pub half-none : (length o < n) → (b : Bool) → Standing (length c ≤ length o) (half_of b c) o 0 0
-  half-none h b = record { order = omega arith; within = omega arith; is = λ w. absurd (omega (arith, g.count)) }
+pub gathered-none : {c o : List ℕ} {p : Option ℕ} → Gathered c p o → p ≡ None → length o < length c
+gathered-none {c} {o} g e = subst (λ x. MatchOption x (length o < length c) (λ m. Stored c m o)) e g.told
 
+pub gathered-some : {c o : List ℕ} {p : Option ℕ} {n : ℕ} → Gathered c p o → p ≡ Some n → Stored c n o
+gathered-some {c} {o} g e = subst (λ x. MatchOption x (length o < length c) (λ m. Stored c m o)) e g.told
+
+pub half-none : (c o : List ℕ) → length o < length c → (b : Bool) → Standing (length c ≤ length o) (half_of b c) o 0 0
+half-none c o h b = record { order = omega arith; within = omega arith; is = λ w. absurd (omega (arith, h, w)) }
+
+module _ {c o : List ℕ} {n : ℕ} (g : Stored c n o) where
   pub half-short : n < 2 → (b : Bool) → Standing (length c ≤ length o) (half_of b c) o 0 0
   half-short h b = record { order = omega arith; within = omega arith; is = λ w. go b }
     where
@@ -46,9 +54,12 @@ module _ {c o : List ℕ} {n : ℕ} (g : Gathered c n o) where
           let e : drop 2 c ≡ [] = drop_of_length-le c {i = 2} (omega (arith, short)) in
           rw e (sym (take-nil (two_at 0 c)))
 
-  module _ (h : n ≤ length o) (two : 2 ≤ n) (m : ℕ) (e : m ≡ two_at 0 o) where
+  abbrev h : n ≤ length o
+  h = g.room
+
+  module _ (two : 2 ≤ n) (m : ℕ) (e : m ≡ two_at 0 o) where
     front : take n o ≡ c
-    front = g.bytes h
+    front = g.bytes
 
     middle : m ≡ two_at 0 c
     middle =

@@ -1,5 +1,5 @@
 -- The loop over the frames of a text: the first line of a sound text is that of its first frame, and what the frames so far add stands in the row.
-use Rattle.std.specs.Prelude.{Some, None}
+use Rattle.std.specs.Prelude.{Option, Some, None, MatchOption}
 use mathlib.Core.Path.{◌≡◌, refl, sym, ap, ◌∙◌, subst}
 use mathlib.Core.Bool.{Bool, true, false, cond, ◌&&◌}
 use mathlib.Core.List.{List, [], ◌∷◌, ◌++◌, map, append_assoc, append-nil}
@@ -24,7 +24,7 @@ use Rattle.state_frames.proofs.FrameLaws.{frame-of-bytes, line-of-frame}
 use Rattle.state_frames.specs.Saved.{is_at, contents_at}
 use Rattle.hexadecimal.specs.Digits.{byte_of, told_byte, digits_at, Got}
 use Rattle.hexadecimal.proofs.Laws.{byte-yes, two-digit, told-byte-none, told-under, and-false, length-hexadecimal, hexadecimal-append}
-use Rattle.state_contents.specs.Contents.{LineAt, added, Added, Gathered}
+use Rattle.state_contents.specs.Contents.{LineAt, added, Behind, Added, Gathered}
 
 -- ---- a byte and bytes in hexadecimal
 
@@ -152,44 +152,39 @@ nothing k i f e = rw e
 something : (k i : ℕ) (f : Frame) → k ≡ f.kind → i ≡ f.index → added k i f ≡ f.contents
 something k i f e g = rw (eq-eqb k f.kind e, eq-eqb i f.index g)
 
-passed : (k i n : ℕ) (o : List ℕ) (t : List ℕ) (at size : ℕ) → ((f : Frame) → LineAt t at f → is_at k i f ≡ false) → Added t at size k i n o n o
-passed k i n o t at size h = record {
-  count = λ f l e. rw (nothing k i f (h f l)) (omega arith);
-  bytes = λ f l e w. rw (nothing k i f (h f l)) (pasted-none o n);
+passed : (k i n : ℕ) (o : List ℕ) (t : List ℕ) (at size : ℕ) → n ≤ length o → ((f : Frame) → LineAt t at f → is_at k i f ≡ false) → Added t at size k i n o (Some n) o
+passed k i n o t at size w h = record {
+  frame = λ f l e. rw (nothing k i f (h f l)) (record { count = omega arith; room = w; row = pasted-none o n });
 }
 
 -- where two of its digits are none, no frame is there
-missing : (k i n : ℕ) (o : List ℕ) (t : List ℕ) (at size : ℕ) → ((f : Frame) → LineAt t at f → ⊥) → Added t at size k i n o n o
-missing k i n o t at size h = record { count = λ f l e. absurd (h f l); bytes = λ f l e w. absurd (h f l) }
+missing : (k i n : ℕ) (o : List ℕ) (t : List ℕ) (at size : ℕ) → ((f : Frame) → LineAt t at f → ⊥) → Added t at size k i n o (Some n) o
+missing k i n o t at size h = record { frame = λ f l e. absurd (h f l) }
 
-pub no-kind : (t : List ℕ) (at size k i n : ℕ) (o : List ℕ) → told_byte (get_or t at 0) (get_or t (1 + at) 0) ≡ None → Added t at size k i n o n o
+pub no-kind : (t : List ℕ) (at size k i n : ℕ) (o : List ℕ) → told_byte (get_or t at 0) (get_or t (1 + at) 0) ≡ None → Added t at size k i n o (Some n) o
 no-kind t at size k i n o e = missing k i n o t at size (λ f l. kind-told l e)
 
-pub no-index : (t : List ℕ) (at size k i n : ℕ) (o : List ℕ) → told_byte (get_or t (at + 2) 0) (get_or t (1 + (at + 2)) 0) ≡ None → Added t at size k i n o n o
+pub no-index : (t : List ℕ) (at size k i n : ℕ) (o : List ℕ) → told_byte (get_or t (at + 2) 0) (get_or t (1 + (at + 2)) 0) ≡ None → Added t at size k i n o (Some n) o
 no-index t at size k i n o e = missing k i n o t at size (λ f l. index-told l e)
 
 module _ (t : List ℕ) (at size k i n : ℕ) (o : List ℕ) (a : ℕ) (ea : a ≡ byte_of (get_or t at 0) (get_or t (1 + at) 0)) where
-  pub other-kind : (a ≡ k → ⊥) → Added t at size k i n o n o
-  other-kind other = passed k i n o t at size (λ f l. rw (ne_eqb k f.kind (λ q. other (ea ∙ kind-there l ∙ sym q))))
+  pub other-kind : n ≤ length o → (a ≡ k → ⊥) → Added t at size k i n o (Some n) o
+  other-kind w other = passed k i n o t at size w (λ f l. rw (ne_eqb k f.kind (λ q. other (ea ∙ kind-there l ∙ sym q))))
 
   module _ (b : ℕ) (eb : b ≡ byte_of (get_or t (at + 2) 0) (get_or t (1 + (at + 2)) 0)) where
-    pub other-index : (b ≡ i → ⊥) → Added t at size k i n o n o
-    other-index other = passed k i n o t at size (λ f l. rw (ne_eqb i f.index (λ q. other (eb ∙ index-there l ∙ sym q))) (and-false (eqb k f.kind)))
+    pub other-index : n ≤ length o → (b ≡ i → ⊥) → Added t at size k i n o (Some n) o
+    other-index w other = passed k i n o t at size w (λ f l. rw (ne_eqb i f.index (λ q. other (eb ∙ index-there l ∙ sym q))) (and-false (eqb k f.kind)))
 
     module _ (ka : a ≡ k) (kb : b ≡ i) where
       this-one : (f : Frame) → LineAt t at f → added k i f ≡ f.contents
       this-one f l = something k i f (sym ka ∙ ea ∙ kind-there l) (sym kb ∙ eb ∙ index-there l)
 
-      pub no_room : length o < n + size → Added t at size k i n o (n + size) o
-      no_room h = record {
-        count = λ f l e. rw (this-one f l, e);
-        bytes = λ f l e w. absurd (omega arith);
-      }
+      pub no_room : {o' : List ℕ} → length o < n + size → Added t at size k i n o None o'
+      no_room h = record { frame = λ f l e. rw (this-one f l) (omega (arith, e)) }
 
-      pub got-one : {r : Bool} {o' : List ℕ} → Got o n t (at + 8) size r o' → Added t at size k i n o (n + size) o'
-      got-one {r} {o'} g = record {
-        count = λ f l e. rw (this-one f l, e);
-        bytes = λ f l e w. rw (this-one f l) (got-there l (rw e at g));
+      pub got-one : n + size ≤ length o → {r : Bool} {o' : List ℕ} → Got o n t (at + 8) size r o' → Added t at size k i n o (Some (n + size)) o'
+      got-one w {r} {o'} g = record {
+        frame = λ f l e. rw (this-one f l) (record { count = rw e; room = w; row = got-there l (rw e at g) });
       }
 
 -- ---- from frame to frame
@@ -270,21 +265,22 @@ module _ (t : List ℕ) (at : ℕ) (h : at < length t) (s : T (sound_text (drop 
 pub record Gathering (t : List ℕ) (k i : ℕ) (o : List ℕ) (n at : ℕ) : Type 0 where
   pub so_far : List ℕ
   pub count : n ≡ length so_far
-  pub bytes : n ≤ length o → take n o ≡ so_far
+  pub room : n ≤ length o
+  pub bytes : take n o ≡ so_far
   pub within : at ≤ length t
   pub fewer : n ≤ at
   pub sound : T (sound_text (drop at t))
   pub all : contents_at k i (frames_in t) ≡ so_far ++ contents_at k i (frames_in (drop at t))
 
 pub gathering-none : (t : List ℕ) (k i : ℕ) (o : List ℕ) → T (sound_text t) → Gathering t k i o 0 0
-gathering-none t k i o s = record { so_far = []; count = refl; bytes = λ h. refl; within = omega arith; fewer = omega arith; sound = s; all = refl }
+gathering-none t k i o s = record { so_far = []; count = refl; room = omega arith; bytes = refl; within = omega arith; fewer = omega arith; sound = s; all = refl }
 
-pub gathering-all : {t : List ℕ} {k i : ℕ} {o : List ℕ} {n at : ℕ} → Gathering t k i o n at → length t ≤ at → Gathered (contents_at k i (frames_in t)) n o
+pub gathering-all : {t : List ℕ} {k i : ℕ} {o : List ℕ} {n at : ℕ} → Gathering t k i o n at → length t ≤ at → Gathered (contents_at k i (frames_in t)) (Some n) o
 unfolding frames_in lines contents_at
 gathering-all {t} {k} {i} {at = at} g h =
     let none : drop at t ≡ [] = drop_of_length-le t h in
     let e : contents_at k i (frames_in t) ≡ g.so_far = g.all ∙ ap (λ (x : List ℕ). g.so_far ++ contents_at k i (frames_in x)) none ∙ append-nil g.so_far in
-    record { count = g.count ∙ ap length (sym e); bytes = λ w. g.bytes w ∙ sym e }
+    record { told = record { count = g.count ∙ ap length (sym e); room = g.room; bytes = g.bytes ∙ sym e } }
 
 module _ {t : List ℕ} {k i : ℕ} {o : List ℕ} {n at : ℕ} (g : Gathering t k i o n at) (h : at < length t) where
   pub next : Next t at (first_frame (drop at t))
@@ -313,21 +309,31 @@ module _ {t : List ℕ} {k i : ℕ} {o : List ℕ} {n at : ℕ} (g : Gathering t
   unfolding contents_at
   contents-next = ap (contents_at k i) next.frames
 
-  front : (o' : List ℕ) (r : ℕ) → r ≡ n + length C → r ≤ length o → o' ≡ pasted o n C → take r o' ≡ g.so_far ++ C
-  front o' r c b e =
+  front : (o' : List ℕ) (r : ℕ) → r ≡ n + length C → o' ≡ pasted o n C → take r o' ≡ g.so_far ++ C
+  front o' r c e =
       let x : List ℕ = drop (n + length C) o in
+      let w = g.room in
       let l : length (take n o ++ C) ≡ r = simp (length-append, length-take) (omega arith) in
-      ap (take r) (e ∙ sym (append_assoc (take n o) C x)) ∙ take_at (take n o ++ C) x r l ∙ ap (λ (y : List ℕ). y ++ C) (g.bytes (omega arith))
+      ap (take r) (e ∙ sym (append_assoc (take n o) C x)) ∙ take_at (take n o ++ C) x r l ∙ ap (λ (y : List ℕ). y ++ C) g.bytes
 
-  pub gathering-more : {size r m : ℕ} {o' : List ℕ} → size ≡ length G.contents → Added t at size k i n o r o' → length o' ≡ length o → m ≡ 11 + 2 * size → Gathering t k i o' r (at + m)
-  gathering-more {size} {r} {m} {o'} z a l y =
-      let c : r ≡ n + length C = a.count G next.line z in
+  -- where the row has no room for what the frame adds, it has none for all
+  pub gathering-none-more : {size : ℕ} {p : Option ℕ} {o' : List ℕ} → size ≡ length G.contents → Added t at size k i n o p o' → p ≡ None → length o' ≡ length o → Gathered (contents_at k i (frames_in t)) None o'
+  gathering-none-more {o' = o'} z a q l =
+      let w : length o < n + length C = subst (λ x. MatchOption x (length o < n + length C) (λ m. Behind n C o m o')) q (a.frame G next.line z) in
+      let e : contents_at k i (frames_in t) ≡ g.so_far ++ (C ++ contents_at k i (frames_in (drop (at + (11 + 2 * length G.contents)) t))) = g.all ∙ ap (λ (x : List ℕ). g.so_far ++ x) contents-next in
+      record { told = rw e (simp length-append (omega (arith, w, l, g.count))) }
+
+  pub gathering-more : {size r m : ℕ} {p : Option ℕ} {o' : List ℕ} → size ≡ length G.contents → Added t at size k i n o p o' → p ≡ Some r → length o' ≡ length o → m ≡ 11 + 2 * size → Gathering t k i o' r (at + m)
+  gathering-more {size} {r} {m} {p} {o'} z a d l y =
+      let b : Behind n C o r o' = subst (λ x. MatchOption x (length o < n + length C) (λ m. Behind n C o m o')) d (a.frame G next.line z) in
+      let c : r ≡ n + length C = b.count in
       let w = next.within in
       let q : at + (11 + 2 * length G.contents) ≡ at + m = omega arith in
       record {
         so_far = g.so_far ++ C;
         count = simp length-append (omega (arith, c, g.count));
-        bytes = λ b. front o' r c (omega (arith, l)) (a.bytes G next.line z (omega (arith, l)));
+        room = omega (arith, l, b.room);
+        bytes = front o' r c b.row;
         within = omega arith;
         fewer = omega (arith, c, added-most (is_at k i G) G.contents, g.fewer);
         sound = subst (λ (x : ℕ). T (sound_text (drop x t))) q next.sound;

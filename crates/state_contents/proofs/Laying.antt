@@ -1,5 +1,6 @@
 -- A memory laid out: the loop over the strings, and all cells of a saved state but the totals.
-use mathlib.Core.Path.{◌≡◌, refl, sym, ap, ◌∙◌}
+use Rattle.std.specs.Prelude.{Option, Some, None, MatchOption}
+use mathlib.Core.Path.{◌≡◌, refl, sym, ap, ◌∙◌, subst}
 use mathlib.Core.List.{List, [], ◌∷◌, ◌++◌, append_assoc, append-nil}
 use Prim.Native.Nat.{ℕ, zero, suc, ◌+◌, ◌*◌, ◌-◌, ◌≤◌, ◌<◌}
 use native.Mathlib.Nat.{not-suc-le-zero, le_of_suc-le-suc}
@@ -25,7 +26,7 @@ use Rattle.state_frames.specs.Saved.{head_numbers, contents_at, frames_of, strin
 use Rattle.state_frames.proofs.SavedLaws.{head_at, strings-back}
 use Rattle.state_frames.proofs.KeepingLaws.{saved-frames}
 use Rattle.state_frames.specs.MemoryFrames.{untotalled, SavedAs}
-use Rattle.state_contents.specs.Contents.{Gathered, strings_of, Fitting, PutOne, StringsLaid, HeadLaid, Laid}
+use Rattle.state_contents.specs.Contents.{Stored, Gathered, strings_of, Fitting, PutOne, StringsLaid, HeadLaid, Laid}
 use Rattle.state_contents.proofs.Finding.{length-strings_of}
 
 -- ---- one string
@@ -142,11 +143,17 @@ laying-all {t} {m₀} {j = j} u h =
 
 -- ---- the head
 
-pub head-other : {c o m : List ℕ} {n : ℕ} → Gathered c n o → (n ≡ layout.components_cell → ⊥) → HeadLaid c m m
-head-other g h = record { cells = λ l. absurd (h (g.count ∙ l)) }
+pub head-other : {c o m : List ℕ} {p : Option ℕ} → layout.components_cell ≤ length o → Gathered c p o → (p ≡ Some layout.components_cell → ⊥) → HeadLaid c m m
+head-other {c} {o} {m} {p} w g h = record { cells = λ l. absurd (go p g.told h l) }
+  where
+    go : (p : Option ℕ) → MatchOption p (length o < length c) (λ n. Stored c n o) → (p ≡ Some layout.components_cell → ⊥) → length c ≡ layout.components_cell → ⊥
+    go None z h l = omega (arith, z, l, w)
+    go (Some n) z h l = h (ap (λ (k : ℕ). Some k) (z.count ∙ l))
 
-pub head-put : {c o m m' : List ℕ} {n : ℕ} → Gathered c n o → n ≤ length o → m' ≡ pasted m 0 (take n o) → HeadLaid c m m'
-head-put {m = m} g h e = record { cells = λ l. e ∙ ap (pasted m 0) (g.bytes h) }
+pub head-put : {c o m m' : List ℕ} {p : Option ℕ} → Gathered c p o → p ≡ Some layout.components_cell → m' ≡ pasted m 0 (take layout.components_cell o) → HeadLaid c m m'
+head-put {c} {o} {m} g h e =
+    let s : Stored c layout.components_cell o = subst (λ x. MatchOption x (length o < length c) (λ n. Stored c n o)) h g.told in
+    record { cells = λ l. e ∙ ap (pasted m 0) s.bytes }
 
 -- ---- all cells
 

@@ -1,5 +1,5 @@
 -- What is promised of the contents of frames, and of a memory laid out from them.
-use Rattle.std.specs.Prelude.{◌≡◌, Bool, cond, List, [], ◌++◌, ℕ, ◌+◌, ◌*◌, ◌-◌, ◌≤◌, ◌<◌, T, length, take, drop}
+use Rattle.std.specs.Prelude.{◌≡◌, Bool, cond, List, [], ◌++◌, ℕ, ◌+◌, ◌*◌, ◌-◌, ◌≤◌, ◌<◌, T, length, take, drop, Option, MatchOption}
 use Rattle.language.specs.Limits as limit
 use Rattle.language.specs.Values.{State}
 use Rattle.lists.specs.Lists.{joined}
@@ -23,20 +23,31 @@ pub record LineAt (t : List ℕ) (at : ℕ) (f : Frame) : Type 0 where
 abbrev pub added : ℕ → ℕ → Frame → List ℕ
 added k i f = cond (is_at k i f) f.contents []
 
--- of `long` bytes there is a line from `at` on with contents of `size` bytes; n bytes are no more than those before it
-pub record Gatherable (long at size n : ℕ) : Type 0 where
+-- of `long` bytes there is a line from `at` on with contents of `size` bytes; n bytes are no more than those before it, and stand in a row of `room`
+pub record Gatherable (long at size n room : ℕ) : Type 0 where
   pub line : at + (11 + 2 * size) ≤ long
   pub fewer : n ≤ at
+  pub fits : n ≤ room
 
--- r counts what the frame there adds to n bytes; behind them it stands in the row o', if that has room
-pub record Added (t : List ℕ) (at size k i n : ℕ) (o : List ℕ) (r : ℕ) (o' : List ℕ) : Type 0 where
-  pub count : (f : Frame) → LineAt t at f → size ≡ length f.contents → r ≡ n + length (added k i f)
-  pub bytes : (f : Frame) → LineAt t at f → size ≡ length f.contents → r ≤ length o → o' ≡ pasted o n (added k i f)
+-- the bytes c behind n bytes of the row o, r bytes in all
+pub record Behind (n : ℕ) (c o : List ℕ) (r : ℕ) (o' : List ℕ) : Type 0 where
+  pub count : r ≡ n + length c
+  pub room : r ≤ length o
+  pub row : o' ≡ pasted o n c
 
--- r is how many bytes there are in c; they stand in front in the row o, if it has room
-pub record Gathered (c : List ℕ) (r : ℕ) (o : List ℕ) : Type 0 where
-  pub count : r ≡ length c
-  pub bytes : r ≤ length o → take r o ≡ c
+-- what the frame there adds to n bytes stands behind them in the row o'; where the row o has no room for it, r is none
+pub record Added (t : List ℕ) (at size k i n : ℕ) (o : List ℕ) (r : Option ℕ) (o' : List ℕ) : Type 0 where
+  pub frame : (f : Frame) → LineAt t at f → size ≡ length f.contents → MatchOption r (length o < n + length (added k i f)) (λ m. Behind n (added k i f) o m o')
+
+-- the bytes c stand in front in the row o, n of them
+pub record Stored (c : List ℕ) (n : ℕ) (o : List ℕ) : Type 0 where
+  pub count : n ≡ length c
+  pub room : n ≤ length o
+  pub bytes : take n o ≡ c
+
+-- r is how many bytes there are in c, which stand in front in the row o; it is none where they have no room
+pub record Gathered (c : List ℕ) (r : Option ℕ) (o : List ℕ) : Type 0 where
+  pub told : MatchOption r (length o < length c) (λ n. Stored c n o)
 
 -- ---- strings
 

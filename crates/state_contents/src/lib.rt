@@ -9,46 +9,46 @@ ghost use Rattle.state_contents.specs.Contents.{Gatherable, Added, Gathered, Sta
 
 use language::Machine;
 use layout::StatePlaces;
-use state_lines::Kinds;
+use state_lines::{Kind, Slot};
 use std::ops::Range;
 
-// Copies the contents of the frame that begins at `at`, `size` bytes, behind `n` bytes of the row if it is of this kind and index and there is room, and tells how many bytes there are then.
+// Copies the contents of the frame that begins at `at`, `size` bytes, behind `n` bytes of the row if it is the one asked for, and tells how many bytes
+// there are then: none where the row has no room.
 fn gather(
     text: &[u8],
     at: usize,
     size: usize,
-    kind: usize,
-    index: usize,
+    slot: Slot,
     row: &mut [u8],
     n: usize,
-) -> usize
-    requires { Gatherable (length text.now) at size n }
-    ensures { Added text.now at size kind index n row.old result row.new }
+) -> Option<usize>
+    requires { Gatherable (length text.now) at size n (length row.old) }
+    ensures { Added text.now at size slot.kind slot.index n row.old result row.new }
 {
-    let Some(its_kind) = hexadecimal::byte_at(text, at) else {
-        return n;
+    let Some(kind) = hexadecimal::byte_at(text, at) else {
+        return Some(n);
     };
-    if usize::from(its_kind) != kind {
-        return n;
+    if usize::from(kind) != slot.kind {
+        return Some(n);
     }
-    let Some(its_index) = hexadecimal::byte_at(text, at + 2) else {
-        return n;
+    let Some(index) = hexadecimal::byte_at(text, at + 2) else {
+        return Some(n);
     };
-    if usize::from(its_index) != index {
-        return n;
+    if usize::from(index) != slot.index {
+        return Some(n);
     }
     if row.len() < n + size {
-        return n + size;
+        return None;
     }
     hexadecimal::get_bytes(row, n, text, at + state_lines::FRONT, size);
-    n + size
+    Some(n + size)
 }
 
-// The contents of the frames of a kind and an index, end to end: how many bytes they are, and the bytes if the row has room. Each line tells how
+// The contents of the frames asked for, end to end in front in the row: how many bytes they are; none where the row has no room. Each line tells how
 // long it is, so no method of std walks so.
-fn contents(text: &[u8], kind: usize, index: usize, row: &mut [u8]) -> usize
+fn contents(text: &[u8], slot: Slot, row: &mut [u8]) -> Option<usize>
     requires { T (sound_text text.now) }
-    ensures { Gathered (contents_at kind index (frames_in text.now)) result row.new }
+    ensures { Gathered (contents_at slot.kind slot.index (frames_in text.now)) result row.new }
 {
     let mut n = 0;
     let mut at = 0;
@@ -56,22 +56,18 @@ fn contents(text: &[u8], kind: usize, index: usize, row: &mut [u8]) -> usize
         let high = hexadecimal::byte_at(text, at + 4).unwrap();
         let low = hexadecimal::byte_at(text, at + 6).unwrap();
         let size = 256 * usize::from(high) + usize::from(low);
-        n = gather(text, at, size, kind, index, row, n);
+        n = gather(text, at, size, slot, row, n)?;
         at += state_lines::line_length(size);
     }
-    n
+    Some(n)
 }
 
 // A string that is the whole contents.
-fn whole(text: &[u8], kind: usize, index: usize, row: &mut [u8]) -> Range<usize>
+fn whole(text: &[u8], slot: Slot, row: &mut [u8]) -> Range<usize>
     requires { T (sound_text text.now) }
-    ensures { Standing (length (contents_at kind index (frames_in text.now)) ≤ length row.new) (contents_at kind index (frames_in text.now)) row.new result.start result.end }
+    ensures { Standing (length (contents_at slot.kind slot.index (frames_in text.now)) ≤ length row.new) (contents_at slot.kind slot.index (frames_in text.now)) row.new result.start result.end }
 {
-    let n = contents(text, kind, index, row);
-    if row.len() < n {
-        return 0..0;
-    }
-    0..n
+    0..contents(text, slot, row).unwrap_or(0)
 }
 
 // The records of a file before its pointer, or those after it: behind the two bytes that tell how many bytes come before it. The definition takes a
@@ -80,10 +76,13 @@ fn half(text: &[u8], index: usize, after: bool, row: &mut [u8]) -> Range<usize>
     requires { T (sound_text text.now) }
     ensures { Standing (length (contents_at file index (frames_in text.now)) ≤ length row.new) (half_of after (contents_at file index (frames_in text.now))) row.new result.start result.end }
 {
-    let n = contents(text, Kinds::FILE, index, row);
-    if row.len() < n {
+    let slot = Slot {
+        kind: Kind::File as usize,
+        index,
+    };
+    let Some(n) = contents(text, slot, row) else {
         return 0..0;
-    }
+    };
     if n < 2 {
         return 0..0;
     }
@@ -106,16 +105,24 @@ fn string(text: &[u8], j: usize, row: &mut [u8]) -> Range<usize>
     ensures { Standing (Fitting text.now) (get_or (strings_of text.now) j []) row.new result.start result.end }
 {
     if j < StatePlaces::FIRST_FILE {
-        return whole(text, Kinds::EXPRESSION, j + 1, row);
+        let slot = Slot {
+            kind: Kind::Expression as usize,
+            index: j + 1,
+        };
+        return whole(text, slot, row);
     }
     if j < StatePlaces::STACK_STRING {
         let i = j - StatePlaces::FIRST_FILE;
         return half(text, i / 2 + 1, i % 2 == 1, row);
     }
     if j == StatePlaces::STACK_STRING {
-        return whole(text, Kinds::STACK, 0, row);
+        return whole(text, Slot::STACK, row);
     }
-    whole(text, Kinds::OUTPUT, j - StatePlaces::STACK_STRING, row)
+    let slot = Slot {
+        kind: Kind::Output as usize,
+        index: j - StatePlaces::STACK_STRING,
+    };
+    whole(text, slot, row)
 }
 
 // Writes string `j` with its length, if there is room, and tells where the next begins.
@@ -149,9 +156,8 @@ fn lay_head(text: &[u8], m: &mut [u8], row: &mut [u8])
     requires { Layable text.now (length m.old) (length row.old) }
     ensures { HeadLaid (contents_at head 0 (frames_in text.now)) m.old m.new }
 {
-    let n = contents(text, Kinds::HEAD, 0, row);
-    if n == StatePlaces::COMPONENTS_CELL {
-        cells::put(m, 0, &row[..n]);
+    if contents(text, Slot::HEAD, row) == Some(StatePlaces::COMPONENTS_CELL) {
+        cells::put(m, 0, &row[..StatePlaces::COMPONENTS_CELL]);
     }
 }
 

@@ -9,20 +9,45 @@ ghost use Rattle.state_lines.specs.Sums.{told_sum};
 ghost use Rattle.state_lines.specs.Writing.{FrontRoom, FrameRoom, EndRoom, LengthsRoom, FileRoom};
 ghost use Rattle.hexadecimal.specs.Below.Saved.{file_contents};
 
-// The kinds of frames. A value of this type holds nothing.
-#[derive(Clone, Copy)]
-pub struct Kinds {}
+// The kinds of frames, by the numbers that frames have for them.
+#[derive(Clone, Copy, PartialEq, Eq)]
+pub enum Kind {
+    Head = 1,
+    Expression = 2,
+    File = 3,
+    Output = 4,
+    Stack = 5,
+}
 
-impl Kinds {
-    pub const HEAD: usize = 1;
+impl From<Kind> for usize {
+    ghost use Rattle.std.specs.Prelude.{◌≡◌};
+    ghost use Rattle.state_lines.specs.Kinds.{kind_number};
 
-    pub const EXPRESSION: usize = 2;
+    ghost from_gives = { λ k n. n ≡ kind_number k };
 
-    pub const FILE: usize = 3;
+    fn from(k: Kind) -> usize {
+        k as usize
+    }
+}
 
-    pub const OUTPUT: usize = 4;
+// Which frame of a state: the number of its kind, which may be any byte, and its index.
+#[derive(Clone, Copy, PartialEq, Eq)]
+pub struct Slot {
+    pub kind: usize,
+    pub index: usize,
+}
 
-    pub const STACK: usize = 5;
+// Those of which a state has one.
+impl Slot {
+    pub const HEAD: Slot = Slot {
+        kind: Kind::Head as usize,
+        index: 0,
+    };
+
+    pub const STACK: Slot = Slot {
+        kind: Kind::Stack as usize,
+        index: 0,
+    };
 }
 
 // How many digits stand before a frame's contents.
@@ -37,25 +62,25 @@ pub fn line_length(n: usize) -> usize
 }
 
 // Writes a frame's first four bytes: its kind, its index, and the length `n` of its contents, high byte first.
-fn put_front(dst: &mut [u8], at: usize, kind: usize, index: usize, n: usize)
-    requires { FrontRoom (length dst.old) at kind index n }
-    ensures { dst.new ≡ pasted dst.old at (hexadecimal (kind ∷ index ∷ n / 256 ∷ n % 256 ∷ [])) }
+fn put_front(dst: &mut [u8], at: usize, slot: Slot, n: usize)
+    requires { FrontRoom (length dst.old) at slot.kind slot.index n }
+    ensures { dst.new ≡ pasted dst.old at (hexadecimal (slot.kind ∷ slot.index ∷ n / 256 ∷ n % 256 ∷ [])) }
 {
-    hexadecimal::put_byte(dst, at, kind);
-    hexadecimal::put_byte(dst, at + 2, index);
+    hexadecimal::put_byte(dst, at, slot.kind);
+    hexadecimal::put_byte(dst, at + 2, slot.index);
     hexadecimal::put_byte(dst, at + 4, n / 256);
     hexadecimal::put_byte(dst, at + 6, n % 256);
 }
 
 // Writes a frame as a line of 11 bytes and two for each of its contents.
-pub fn put_frame(dst: &mut [u8], at: usize, kind: usize, index: usize, contents: &[u8])
-    requires { FrameRoom (length dst.old) at kind index (length contents.now) }
-    ensures { dst.new ≡ pasted dst.old at (frame_line (framed kind index contents.now)) }
+pub fn put_frame(dst: &mut [u8], at: usize, slot: Slot, contents: &[u8])
+    requires { FrameRoom (length dst.old) at slot.kind slot.index (length contents.now) }
+    ensures { dst.new ≡ pasted dst.old at (frame_line (framed slot.kind slot.index contents.now)) }
 {
     let n = contents.len();
-    let front = (kind + (index + (n / 256 + n % 256))) % 256;
+    let front = (slot.kind + (slot.index + (n / 256 + n % 256))) % 256;
     let sum = hexadecimal::sum_from(front, contents);
-    put_front(dst, at, kind, index, n);
+    put_front(dst, at, slot, n);
     hexadecimal::put_bytes(dst, at + 8, contents);
     hexadecimal::put_byte(dst, at + (8 + 2 * n), (256 - sum) % 256);
     dst[at + (10 + 2 * n)] = 10;
@@ -75,7 +100,11 @@ fn put_lengths(dst: &mut [u8], at: usize, index: usize, n: usize, k: usize)
     requires { LengthsRoom (length dst.old) at index n k }
     ensures { dst.new ≡ pasted dst.old at (hexadecimal (3 ∷ index ∷ n / 256 ∷ n % 256 ∷ k % 256 ∷ k / 256 ∷ [])) }
 {
-    put_front(dst, at, Kinds::FILE, index, n);
+    let slot = Slot {
+        kind: Kind::File as usize,
+        index,
+    };
+    put_front(dst, at, slot, n);
     hexadecimal::put_byte(dst, at + 8, k % 256);
     hexadecimal::put_byte(dst, at + 10, k / 256);
 }
@@ -87,7 +116,7 @@ pub fn put_file(dst: &mut [u8], at: usize, index: usize, before: &[u8], after: &
 {
     let k = before.len();
     let n = 2 + (k + after.len());
-    let front = (Kinds::FILE + (index + (n / 256 + (n % 256 + (k % 256 + k / 256))))) % 256;
+    let front = (Kind::File as usize + (index + (n / 256 + (n % 256 + (k % 256 + k / 256))))) % 256;
     let sum = hexadecimal::sum_from(front, before);
     let all = hexadecimal::sum_from(sum, after);
     put_lengths(dst, at, index, n, k);

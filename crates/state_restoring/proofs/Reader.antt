@@ -132,6 +132,9 @@ module _ {c i j t m : List ℕ} (h : Restorable c i j t m) where
 restores : {x y : Reading} → x ≡ y → {n : ℕ} {m : List ℕ} → n ≡ y.number → m ≡ y.cells → Restores x n m
 restores e a b = record { number_is = rw e a; cells_are = rw e b }
 
+pub restored-as : {x : Reading} {n k : ℕ} {m : List ℕ} → Restores x n m → k ≡ n → Restores x k m
+restored-as r e = record { number_is = e ∙ r.number_is; cells_are = r.cells_are }
+
 module _ (c i j t m : List ℕ) where
   abbrev lent : Inputs
   lent = i ∷ j ∷ []

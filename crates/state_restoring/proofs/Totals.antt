@@ -1,4 +1,5 @@
 -- The cells of a state with zeros for the totals pass the tests that do not look at these, and hold what the state holds.
+use Rattle.std.specs.Prelude.{Option, Some, None, MatchOption}
 use mathlib.Core.Path.{◌≡◌, refl, sym, ap, ◌∙◌, subst}
 use mathlib.Core.Bool.{Bool, false, ◌&&◌}
 use mathlib.Core.List.{List, [], ◌∷◌, append-nil}
@@ -29,7 +30,7 @@ use Rattle.lists.specs.ListLaws.{T-left}
 use Rattle.lists.specs.Lists.{all}
 use Rattle.machine.specs.WellFormed.{good_program, good_inputs, good_state}
 use Rattle.state_frames.specs.MemoryFrames.{untotalled}
-use Rattle.state_restoring.specs.Restoring.{Totalled}
+use Rattle.state_restoring.specs.Restoring.{Summed, Totalled}
 
 -- ---- what stands beside the totals
 
@@ -153,12 +154,20 @@ passing p (i ∷ j ∷ k ∷ more) s gp gi g =
 pub failed : {t b : Bool} → t ≡ b → t ≡ false → T b → ⊥
 failed e k h = subst T (sym e ∙ k) h
 
-module _ {m : List ℕ} (long : length m ≡ limit.state) where
-  pub not-laid : {t : Bool} → t ≡ laid m → t ≡ false → Totalled m m
-  not-laid e k = record { long = long; cells = λ p ins s gp gi g q. absurd (failed e k (subst (λ u. T (laid u)) (sym q) (passing p ins s gp gi g).cells-laid)) }
+pub not-laid : {m : List ℕ} {t : Bool} → t ≡ laid m → t ≡ false → Summed m None
+not-laid e k = record { told = λ x y. failed e k x }
 
-  pub not_sound : {t : Bool} → t ≡ sound m → t ≡ false → Totalled m m
-  not_sound e k = record { long = long; cells = λ p ins s gp gi g q. absurd (failed e k (subst (λ u. T (sound u)) (sym q) (passing p ins s gp gi g).cells-sound)) }
+pub not_sound : {m : List ℕ} {t : Bool} → t ≡ sound m → t ≡ false → Summed m None
+not_sound e k = record { told = λ x y. failed e k y }
+
+pub summed : {m : List ℕ} {r : Option Sums} {t : Sums} → Summed m r → r ≡ Some t → AllSums m t
+summed {m} h e = subst (λ r. MatchOption r (T (laid m) → T (sound m) → ⊥) (λ t. AllSums m t)) e h.told
+
+module _ {m : List ℕ} (long : length m ≡ limit.state) where
+  pub unsummed : {r : Option Sums} → Summed m r → r ≡ None → Totalled m m
+  unsummed {r} h e =
+      let no : T (laid m) → T (sound m) → ⊥ = subst (λ r. MatchOption r (T (laid m) → T (sound m) → ⊥) (λ t. AllSums m t)) e h.told in
+      record { long = long; cells = λ p ins s gp gi g q. absurd (no (subst (λ u. T (laid u)) (sym q) (passing p ins s gp gi g).cells-laid) (subst (λ u. T (sound u)) (sym q) (passing p ins s gp gi g).cells-sound)) }
 
   module _ {t : Sums} (h : AllSums m t) {x y z : List ℕ} (a : x ≡ pasted m layout.components_cell (three t.parts)) (b : y ≡ pasted x layout.characters_cell (three t.chars)) (c : z ≡ pasted y layout.records_cell (three t.records)) where
     long-1 : length x ≡ limit.state

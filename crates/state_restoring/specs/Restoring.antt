@@ -1,5 +1,8 @@
 -- What is asked and promised where a state is read: of a memory whose totals are filled in, and of one made from frames.
-use Rattle.std.specs.Prelude.{◌≡◌, Bool, true, List, [], ◌∷◌, ℕ, T, length, replicate}
+use Rattle.std.specs.Prelude.{◌≡◌, Bool, true, List, [], ◌∷◌, ℕ, T, length, replicate, Option, MatchOption}
+use Rattle.check_memory.specs.Passes.{laid, sound}
+use Rattle.check_memory.specs.Reads.{AllSums}
+use Rattle.check_memory.specs.declared.Sums.{Sums}
 use Rattle.check_state.specs.Asked.{Asked}
 use Rattle.language.specs.Limits as limit
 use Rattle.language.specs.Program.{Program}
@@ -10,6 +13,10 @@ use Rattle.machine.specs.WellFormed.{good_program, good_inputs, good_state}
 use Rattle.state_frames.specs.Frames.{sound_text, frames_in}
 use Rattle.state_frames.specs.MemoryFrames.{untotalled}
 use Rattle.state_frames.specs.Saved.{restored, well_framed}
+
+-- r is what the strings of m hold; it is none only where its cells or its strings are not as those of a state
+pub record Summed (m : List ℕ) (r : Option Sums) : Type 0 where
+  pub told : MatchOption r (T (laid m) → T (sound m) → ⊥) (λ t. AllSums m t)
 
 -- of a well-formed state, all cells
 pub record Totalled (m m' : List ℕ) : Type 0 where

@@ -8,26 +8,38 @@ ghost use Rattle.lists.specs.Lists.{bytes_equal};
 ghost use Rattle.state_frames.specs.Keeping.{read_of, Restores};
 ghost use Rattle.state_frames.specs.MemoryFrames.{Saveable};
 ghost use Rattle.state_frames.specs.Saved.{saved};
-ghost use Rattle.state_restoring.specs.Restoring.{Totalled, Restorable, Restored};
+ghost use Rattle.state_restoring.specs.Restoring.{Summed, Totalled, Restorable, Restored};
 
+use check_memory::{Memory, Sums};
 use language::Machine;
 use layout::StatePlaces;
 use state_saving::SAVED;
 
-// Fills in the totals of a state whose other cells are laid out.
-fn fill_totals(m: &mut [u8])
-    requires { length m.old ≡ limit.state }
-    ensures { Totalled m.old m.new }
+// The totals of a state whose other cells are laid out, if its strings have room and are sound.
+fn totals_of(m: &[u8]) -> Option<Sums>
+    requires { length m.now ≡ limit.state }
+    ensures { Summed m.now result }
 {
     let mut starts = [0u32; StatePlaces::STRINGS_COUNT];
     let end = check_memory::starts_of(m, &mut starts);
     if !check_memory::is_laid(m, end) {
-        return;
+        return None;
     }
-    if !check_memory::is_sound(m, &starts) {
-        return;
+    let memory = Memory::new(m, &starts);
+    if !memory.is_sound() {
+        return None;
     }
-    let t = check_memory::totals(m, &starts);
+    Some(memory.totals())
+}
+
+// Fills them in.
+fn fill_totals(m: &mut [u8])
+    requires { length m.old ≡ limit.state }
+    ensures { Totalled m.old m.new }
+{
+    let Some(t) = totals_of(m) else {
+        return;
+    };
     cells::put_three(m, StatePlaces::COMPONENTS_CELL, t.parts);
     cells::put_three(m, StatePlaces::CHARACTERS_CELL, t.chars);
     cells::put_three(m, StatePlaces::RECORDS_CELL, t.records);
@@ -65,9 +77,8 @@ fn restore(table: &[u32], i1: &[u8], i2: &[u8], text: &[u8], m: &mut [u8]) -> bo
 pub fn read_state(table: &[u32], i1: &[u8], i2: &[u8], text: &[u8], state: &mut [u8]) -> u8
     ensures { Restores (read_of table.now (i1.now ∷ i2.now ∷ []) text.now state.old) result state.new }
 {
-    let no = check_calls::ask(table, i1, i2);
-    if no != 0 {
-        return no;
+    if let Err(no) = check_calls::ask(table, i1, i2) {
+        return u8::from(no);
     }
     if state.len() < Machine::STATE {
         return 63;

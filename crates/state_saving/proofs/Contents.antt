@@ -9,7 +9,7 @@ use lib.Seq.{length-take-le, get_or-take, get_or-drop}
 use Rattle.cells.proofs.Laws.{pasted-none}
 use Rattle.cells.specs.Cells.{pasted}
 use Rattle.check_memory.specs.Passes.{all_strings}
-use Rattle.check_memory.specs.Reads.{Named, StringLent}
+use Rattle.check_memory.specs.Reads.{StringLent}
 use Rattle.language.specs.Limits as limit
 use Rattle.layout.specs.Places as layout
 use Rattle.layout.proofs.StringLaws.{length-strings_in, joined_next, joined-within}
@@ -75,13 +75,13 @@ file-room {i} {at} {long} {b} {a} f h =
 
 -- ---- strings and files, by their index
 
-module _ {m st : List ℕ} {k first count at long : ℕ} (f : StringsFit m st k first count at long) where
+module _ {m : List ℕ} {k first count at long : ℕ} (f : StringsFit m k first count at long) where
   pub length-strings : length (strings_from m first count) ≡ count
   length-strings = length-take-le count (drop first (all_strings m)) (omega (arith, length-drop first (all_strings m), length-strings_in (drop layout.first_length m), f.within))
 
   module _ {i : ℕ} (h : i < count) where
-    pub string-named : Named m st (first + i)
-    string-named = record { readable = f.readable; index = omega (arith, f.within) }
+    pub string-named : first + i < layout.strings_count
+    string-named = omega (arith, f.within)
 
     pub string-met : {v : List ℕ} → StringLent m (first + i) v → v ≡ get_or (strings_from m first count) i []
     string-met s = s.is ∙ sym (get_or-drop first (all_strings m) i []) ∙ sym (get_or-take count (drop first (all_strings m)) i [] h)
@@ -109,13 +109,7 @@ two-short : (vs : List (List ℕ)) (k : ℕ) → k < length vs → length (get_o
 unfolding used
 two-short vs k h = omega (arith, joined_next vs k h, joined-within vs (suc k))
 
-module _ {m st : List ℕ} {at long : ℕ} (f : FilesFit m st at long) {i : ℕ} (h : i < limit.files) where
-  pub before-named : Named m st (layout.first_file + 2 * i)
-  before-named = record { readable = f.readable; index = omega arith }
-
-  pub after-named : Named m st (layout.first_file + 2 * i + 1)
-  after-named = record { readable = f.readable; index = omega arith }
-
+module _ {m : List ℕ} {at long : ℕ} (f : FilesFit m at long) {i : ℕ} (h : i < limit.files) where
   module _ {b a : List ℕ} (p : StringLent m (layout.first_file + 2 * i) b) (q : StringLent m (layout.first_file + 2 * i + 1) a) where
     pub file-met : file_contents b a ≡ get_or (files_from m) i []
     file-met =

@@ -8,7 +8,7 @@ use lib.Dec.{T, leb}
 use lib.ListN.{length, take, drop}
 use lib.Seq.{take_at}
 use borrow.Author.Tests.{le-leb, lt-leb}
-use Rattle.calls.specs.Filling.{Filling, filled_in, Gives}
+use Rattle.calls.specs.Filling.{Filling, filled_in, Filled, Gives}
 use Rattle.calls.specs.Filling.Filling.{kept, fills}
 use Rattle.cells.specs.Cells.{pasted}
 use Rattle.check_calls.specs.Asked.{first_no}
@@ -24,6 +24,7 @@ use Rattle.machine.specs.WellFormed.{good_inputs}
 use Rattle.state_frames.specs.Keeping.{write_of}
 use Rattle.state_frames.specs.MemoryFrames.{Saveable}
 use Rattle.state_frames.specs.Saved.{saved}
+use Rattle.std.specs.Prelude.{Ok, Err}
 use Rattle.state_saving.specs.Saving.{Put}
 
 -- ---- three questions
@@ -57,16 +58,19 @@ module _ (c i j M b : List ℕ) where
   abbrev room : Bool
   room = leb (length (saved (state_of M))) (length b)
 
-  refused-gives : {number n k : ℕ} → W ≡ kept number → (n ≡ number) × (k ≡ 0) → Gives W n k b b
+  abbrev no_by : ℕ → Filled
+  no_by number = Err (record { number = number })
+
+  refused-gives : {number : ℕ} → W ≡ kept number → Gives W (no_by number) b b
   unfolding filled_in
-  refused-gives {number} {n} {k} e r = subst (λ x. Gives x n k b b) (sym e) (record { number_is = r.0; count_is = r.1; cells_are = refl })
+  refused-gives {number} e = subst (λ x. Gives x (no_by number) b b) (sym e) (record { result_is = refl; number_is = refl; cells_are = refl })
 
   module _ {no : ℕ} (q : no ≡ first_no c ins) where
-    pub first_gives : (no ≡ 0 → ⊥) → {n k : ℕ} → (n ≡ no) × (k ≡ 0) → Gives W n k b b
+    pub first_gives : (no ≡ 0 → ⊥) → Gives W (no_by no) b b
     unfolding write_of
-    first_gives h r =
+    first_gives h =
         let e = first-refused (fills 80 (saved (state_of M))) (good_table c) (good_inputs ins) (well && room) (λ z. h (q ∙ z)) in
-        refused-gives (e ∙ ap kept (sym q)) r
+        refused-gives (e ∙ ap kept (sym q))
 
     pub asked : no ≡ 0 → Asked c i j
     asked e = let y = both_yes c ins q e in record { table = subst T (sym y.0) tt; inputs = subst T (sym y.1) tt }
@@ -76,24 +80,24 @@ module _ (c i j M b : List ℕ) where
     unfolding write_of
     decided e q = third (fills 80 (saved (state_of M))) (good_table c) (good_inputs ins) (well && room) e y.table y.inputs q
 
-    pub ill-gives : {t : Bool} → t ≡ well → t ≡ false → {n k : ℕ} → (n ≡ 63) × (k ≡ 0) → Gives W n k b b
-    ill-gives e f r = refused-gives (decided false (ap (λ (u : Bool). u && room) (sym e ∙ f))) r
+    pub ill-gives : {t : Bool} → t ≡ well → t ≡ false → Gives W (no_by 63) b b
+    ill-gives e f = refused-gives (decided false (ap (λ (u : Bool). u && room) (sym e ∙ f)))
 
     module _ {t : Bool} (e : t ≡ well) (f : t ≡ true) where
       pub saveable : Saveable M
       saveable = record { program = program_of c; inputs = ins; good = (table-facts c y.table).good; right = y.inputs; memory = subst T (sym f ∙ e) tt }
 
       module _ {o o' : List ℕ} {n : ℕ} (p : Put (saved (state_of M)) n o o') where
-        pub narrow_gives : length b < n → {m k : ℕ} → (m ≡ 63) × (k ≡ 0) → Gives W m k b b
-        narrow_gives h r =
-            refused-gives (decided false (ap (λ (u : Bool). well && u) (lt-leb (length (saved (state_of M))) (length b) (omega (arith, p.count))) ∙ and-false well)) r
+        pub narrow_gives : length b < n → Gives W (no_by 63) b b
+        narrow_gives h =
+            refused-gives (decided false (ap (λ (u : Bool). well && u) (lt-leb (length (saved (state_of M))) (length b) (omega (arith, p.count))) ∙ and-false well))
 
-        pub fitting-gives : n ≤ length b → {b' : List ℕ} → b' ≡ pasted b 0 (take n o') → Gives W 80 n b b'
+        pub fitting-gives : n ≤ length b → {b' : List ℕ} → b' ≡ pasted b 0 (take n o') → Gives W (Ok n) b b'
         unfolding filled_in
         fitting-gives h {b'} g =
             let x = saved (state_of M) in
             let yes-yes : well && room ≡ true = ap (λ (u : Bool). u && room) (sym e ∙ f) ∙ le-leb (length x) (length b) (omega (arith, p.count)) in
             let held : take n o' ≡ x = ap (take n) p.row ∙ take_at x (drop (length x) o) n (sym p.count) in
             let z : 0 + length x ≡ length x = omega arith in
-            subst (λ w. Gives w 80 n b b') (sym (decided true yes-yes))
-            (record { number_is = refl; count_is = p.count; cells_are = g ∙ ap (pasted b 0) held ∙ ap (λ (k : ℕ). x ++ drop k b) z })
+            subst (λ w. Gives w (Ok n) b b') (sym (decided true yes-yes))
+            (record { result_is = ap Ok p.count; number_is = refl; cells_are = g ∙ ap (pasted b 0) held ∙ ap (λ (k : ℕ). x ++ drop k b) z })

@@ -8,7 +8,7 @@ use lib.Seq.{length-take-le, take_all, take-take, drop_at}
 use Rattle.cells.specs.Cells.{pasted}
 use Rattle.check_memory.proofs.Cells.{sum-lengths}
 use Rattle.check_memory.specs.Passes.{sizes, sum, all_strings}
-use Rattle.check_memory.specs.Reads.{Measurable, Started, StringLent}
+use Rattle.check_memory.specs.Reads.{Measurable, Started, Readable, StringLent}
 use Rattle.language.specs.Limits as limit
 use Rattle.language.specs.Values.{State}
 use Rattle.layout.specs.Bounds.{Fine, AtRest}
@@ -31,7 +31,7 @@ use Rattle.state_saving.proofs.Appending.{length_both, appended-long, appended-b
 
 -- ---- of cells
 
-module _ (m st o : List ℕ) (f : FramesFit m st (length o)) where
+module _ (m o : List ℕ) (f : FramesFit m (length o)) where
   abbrev H : List Frame
   H = framed head 0 (take layout.components_cell m) ∷ []
 
@@ -67,24 +67,34 @@ module _ (m st o : List ℕ) (f : FramesFit m st (length o)) where
       )
 
   pub head-long : length (take layout.components_cell m) ≡ layout.components_cell
-  head-long = length-take-le layout.components_cell m (omega (arith, f.readable.long))
+  head-long = length-take-le layout.components_cell m (omega (arith, f.cells))
 
   pub head_fits : FrameFits (framed head 0 (take layout.components_cell m)) 0 (length o)
   head_fits = record { room = omega (arith, all_room); kind_below = omega arith; index_below = omega arith; short = omega (arith, head-long) }
 
+  -- the same of the cells as they are lent
+  module _ {l : List ℕ} (e : l ≡ m) where
+    pub lent-long : length (take layout.components_cell l) ≡ layout.components_cell
+    lent-long = ap (λ (c : List ℕ). length (take layout.components_cell c)) e ∙ head-long
+
+    pub lent-fits : FrameFits (framed head 0 (take layout.components_cell l)) 0 (length o)
+    lent-fits = subst (λ (c : List ℕ). FrameFits (framed head 0 (take layout.components_cell c)) 0 (length o)) (sym e) head_fits
+
+    pub lent-appended : {a : ℕ} {o₁ : List ℕ} → Appended (framed head 0 (take layout.components_cell l) ∷ []) 0 a o o₁ → Appended H 0 a o o₁
+    lent-appended {a} {o₁} x = subst (λ (c : List ℕ). Appended (framed head 0 (take layout.components_cell c) ∷ []) 0 a o o₁) e x
+
   module _ {a : ℕ} {o₁ : List ℕ} (x : Appended H 0 a o o₁) where
-    pub expressions-fit : StringsFit m st expression 0 limit.expressions a (length o₁)
-    expressions-fit = record { readable = f.readable; kind_below = omega arith; within = omega arith; room = omega (arith, all_room, x.count, appended-long x) }
+    pub expressions-fit : StringsFit m expression 0 limit.expressions a (length o₁)
+    expressions-fit = record { kind_below = omega arith; within = omega arith; room = omega (arith, all_room, x.count, appended-long x) }
 
     module _ {b : ℕ} {o₂ : List ℕ} (y : Appended E a b o₁ o₂) where
-      pub files-fit : FilesFit m st b (length o₂)
-      files-fit = record { readable = f.readable; short = f.short; room = omega (arith, all_room, x.count, y.count, appended-long x, appended-long y) }
+      pub files-fit : FilesFit m b (length o₂)
+      files-fit = record { short = f.short; room = omega (arith, all_room, x.count, y.count, appended-long x, appended-long y) }
 
       module _ {d : ℕ} {o₃ : List ℕ} (z : Appended F b d o₂ o₃) where
-        pub outputs-fit : StringsFit m st output layout.first_output limit.outputs d (length o₃)
+        pub outputs-fit : StringsFit m output layout.first_output limit.outputs d (length o₃)
         outputs-fit =
             record {
-              readable = f.readable;
               kind_below = omega arith;
               within = omega arith;
               room = omega (arith, all_room, x.count, y.count, z.count, appended-long x, appended-long y, appended-long z);
@@ -149,13 +159,11 @@ module _ {M : List ℕ} (h : Saveable M) where
   text-most : length (text_of (memory_frames cells)) ≤ longest
   text-most = omega (arith, ap length text_is, saved-most s fine)
 
-  pub frames-fit : {st : List ℕ} {e long : ℕ} → Started cells st e → longest ≤ long → FramesFit cells st long
-  frames-fit g k =
-      record {
-        readable = record { long = cells-long; count = g.count; place = g.place; room = omega (arith, ap sum sizes-are, sum-lengths (strings s), fine-room s fine) };
-        short = omega (arith, ap used strings-are, fine-room s fine);
-        room = omega (arith, text-most);
-      }
+  pub readable : {st : List ℕ} {e : ℕ} → Started cells st e → Readable cells st
+  readable g = record { long = cells-long; count = g.count; place = g.place; room = omega (arith, ap sum sizes-are, sum-lengths (strings s), fine-room s fine) }
+
+  pub frames-fit : {long : ℕ} → longest ≤ long → FramesFit cells long
+  frames-fit k = record { cells = cells-long; short = omega (arith, ap used strings-are, fine-room s fine); room = omega (arith, text-most) }
 
   pub saved-put : {r : ℕ} {o o' : List ℕ} → Appended (memory_frames cells) 0 r o o' → Put (saved s) r o o'
   saved-put {r} {o} x =

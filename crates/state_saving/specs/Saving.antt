@@ -2,7 +2,6 @@
 use Rattle.std.specs.Prelude.{◌≡◌, List, [], ◌∷◌, ◌++◌, ℕ, ◌+◌, ◌≤◌, ◌<◌, length, take, drop}
 use Rattle.cells.specs.Cells.{pasted}
 use Rattle.check_memory.specs.Passes.{all_strings}
-use Rattle.check_memory.specs.Reads.{Readable}
 use Rattle.language.specs.Limits as limit
 use Rattle.layout.specs.Places as layout
 use Rattle.layout.specs.Strings.{used}
@@ -60,14 +59,12 @@ abbrev pub file_frames : List ℕ → List Frame
 file_frames m = numbered file 1 (files_from m)
 
 -- there is room for them
-pub record StringsFit (m st : List ℕ) (kind first count at long : ℕ) : Type 0 where
-  pub readable : Readable m st
+pub record StringsFit (m : List ℕ) (kind first count at long : ℕ) : Type 0 where
   pub kind_below : kind < 256
   pub within : first + count ≤ layout.strings_count
   pub room : at + length (text_of (string_frames m kind first count)) ≤ long
 
-pub record FilesFit (m st : List ℕ) (at long : ℕ) : Type 0 where
-  pub readable : Readable m st
+pub record FilesFit (m : List ℕ) (at long : ℕ) : Type 0 where
   pub short : used (all_strings m) ≤ layout.room
   pub room : at + length (text_of (file_frames m)) ≤ long
 
@@ -75,7 +72,7 @@ pub record FilesFit (m st : List ℕ) (at long : ℕ) : Type 0 where
 abbrev pub memory_frames : List ℕ → List Frame
 memory_frames m = slots_by (take layout.components_cell m) (all_strings m)
 
-pub record FramesFit (m st : List ℕ) (long : ℕ) : Type 0 where
-  pub readable : Readable m st
+pub record FramesFit (m : List ℕ) (long : ℕ) : Type 0 where
+  pub cells : length m ≡ limit.state
   pub short : used (all_strings m) ≤ layout.room
   pub room : length (text_of (memory_frames m)) ≤ long

@@ -1,33 +1,35 @@
 // The writer: a state as frames, a line each.
 #![tactic(auto)]
 
-ghost use Rattle.std.specs.Prelude.{◌≡◌, [], ◌∷◌, ◌≤◌, length};
+ghost use Rattle.std.specs.Prelude.{[], ◌∷◌, ◌≤◌, length};
 ghost use Rattle.calls.specs.Filling.{Gives};
 ghost use Rattle.layout.specs.Memory.{state_of};
 ghost use Rattle.state_frames.specs.Frames.{framed, file};
 ghost use Rattle.state_frames.specs.Keeping.{write_of};
 ghost use Rattle.state_frames.specs.MemoryFrames.{Saveable};
 ghost use Rattle.state_frames.specs.Saved.{file_contents, saved};
+ghost use Rattle.state_lines.specs.Kinds.{kind_number};
 ghost use Rattle.state_saving.specs.Saving.{longest, Put, Appended, FrameFits, FileFits, string_frames, file_frames, StringsFit, FilesFit, memory_frames, FramesFit};
 
-use calls::Filled;
+use calls::{Filled, Refused};
+use check_memory::Memory;
 use language::Machine;
 use layout::StatePlaces;
-use state_lines::Kinds;
+use state_lines::{Kind, Slot};
 
 // The longest text of a state.
 pub const SAVED: usize = 47754;
 
 // Writes the frame of contents, unless they are empty, and tells where the next begins: the memory is lent, so a place goes in and out.
-fn put_some(out: &mut [u8], at: usize, kind: usize, index: usize, contents: &[u8]) -> usize
-    requires { FrameFits (framed kind index contents.now) at (length out.old) }
-    ensures { Appended (framed kind index contents.now ∷ []) at result out.old out.new }
+fn put_some(out: &mut [u8], at: usize, slot: Slot, contents: &[u8]) -> usize
+    requires { FrameFits (framed slot.kind slot.index contents.now) at (length out.old) }
+    ensures { Appended (framed slot.kind slot.index contents.now ∷ []) at result out.old out.new }
 {
     let n = contents.len();
     if n == 0 {
         return at;
     }
-    state_lines::put_frame(out, at, kind, index, contents);
+    state_lines::put_frame(out, at, slot, contents);
     at + state_lines::line_length(n)
 }
 
@@ -46,67 +48,66 @@ fn put_records(out: &mut [u8], at: usize, index: usize, before: &[u8], after: &[
 
 // Writes the frames of `count` strings, indices from 1 on.
 fn put_strings(
-    m: &[u8],
-    starts: &[u32],
-    kind: usize,
+    memory: &Memory,
+    kind: Kind,
     first: usize,
     count: usize,
     out: &mut [u8],
     from: usize,
 ) -> usize
-    requires { StringsFit m.now starts.now kind first count from (length out.old) }
-    ensures { Appended (string_frames m.now kind first count) from result out.old out.new }
+    requires { StringsFit memory.now (kind_number kind) first count from (length out.old) }
+    ensures { Appended (string_frames memory.now (kind_number kind) first count) from result out.old out.new }
 {
     let mut at = from;
     for i in 0..count {
-        let v = check_memory::string_at(m, starts, first + i);
-        at = put_some(out, at, kind, i + 1, v);
+        let v = memory.string(first + i);
+        let slot = Slot {
+            kind: usize::from(kind),
+            index: i + 1,
+        };
+        at = put_some(out, at, slot, v);
     }
     at
 }
 
 // Writes the frames of the files; a file is two strings, so the body is not that of `put_strings`.
-fn put_files(m: &[u8], starts: &[u32], out: &mut [u8], from: usize) -> usize
-    requires { FilesFit m.now starts.now from (length out.old) }
-    ensures { Appended (file_frames m.now) from result out.old out.new }
+fn put_files(memory: &Memory, out: &mut [u8], from: usize) -> usize
+    requires { FilesFit memory.now from (length out.old) }
+    ensures { Appended (file_frames memory.now) from result out.old out.new }
 {
     let mut at = from;
     for i in 0..Machine::FILES {
         let k = StatePlaces::FIRST_FILE + 2 * i;
-        let before = check_memory::string_at(m, starts, k);
-        let after = check_memory::string_at(m, starts, k + 1);
+        let before = memory.string(k);
+        let after = memory.string(k + 1);
         at = put_records(out, at, i + 1, before, after);
     }
     at
 }
 
 // Writes the frames of a state's cells in their order, and tells how many bytes they take.
-fn put_frames(m: &[u8], starts: &[u32], out: &mut [u8]) -> usize
-    requires { FramesFit m.now starts.now (length out.old) }
-    ensures { Appended (memory_frames m.now) 0 result out.old out.new }
+fn put_frames(memory: &Memory, out: &mut [u8]) -> usize
+    requires { FramesFit memory.now (length out.old) }
+    ensures { Appended (memory_frames memory.now) 0 result out.old out.new }
 {
-    let head = put_some(out, 0, Kinds::HEAD, 0, &m[..StatePlaces::COMPONENTS_CELL]);
-    let expressions = put_strings(
-        m,
-        starts,
-        Kinds::EXPRESSION,
-        0,
-        Machine::EXPRESSIONS,
+    let head = put_some(
         out,
-        head,
+        0,
+        Slot::HEAD,
+        &memory.cells()[..StatePlaces::COMPONENTS_CELL],
     );
-    let files = put_files(m, starts, out, expressions);
+    let expressions = put_strings(memory, Kind::Expression, 0, Machine::EXPRESSIONS, out, head);
+    let files = put_files(memory, out, expressions);
     let outputs = put_strings(
-        m,
-        starts,
-        Kinds::OUTPUT,
+        memory,
+        Kind::Output,
         StatePlaces::FIRST_OUTPUT,
         Machine::OUTPUTS,
         out,
         files,
     );
-    let stack = check_memory::string_at(m, starts, StatePlaces::STACK_STRING);
-    put_some(out, outputs, Kinds::STACK, 0, stack)
+    let stack = memory.string(StatePlaces::STACK_STRING);
+    put_some(out, outputs, Slot::STACK, stack)
 }
 
 // Writes a state at rest, and tells how many bytes it takes.
@@ -117,35 +118,26 @@ pub fn put_saved(state: &[u8], out: &mut [u8]) -> usize
     let m = &state[..Machine::STATE];
     let mut starts = [0u32; StatePlaces::STRINGS_COUNT];
     check_memory::starts_of(m, &mut starts);
-    put_frames(m, &starts, out)
-}
-
-// A refusal.
-fn refused(number: u8) -> Filled
-    ensures { (result.number ≡ number) × (result.count ≡ 0) }
-{
-    Filled { number, count: 0 }
+    put_frames(&Memory::new(m, &starts), out)
 }
 
 // "Write a state as lines of hexadecimal": 62 and 61 first; "An ill-formed state to write, or memory too short, brings 63".
 pub fn write_state(table: &[u32], i1: &[u8], i2: &[u8], state: &[u8], out: &mut [u8]) -> Filled
-    ensures { Gives (write_of table.now (i1.now ∷ i2.now ∷ []) state.now (length out.old)) result.number result.count out.old out.new }
+    ensures { Gives (write_of table.now (i1.now ∷ i2.now ∷ []) state.now (length out.old)) result out.old out.new }
 {
-    let no = check_calls::ask(table, i1, i2);
-    if no != 0 {
-        return refused(no);
+    if let Err(no) = check_calls::ask(table, i1, i2) {
+        return Err(Refused {
+            number: u8::from(no),
+        });
     }
     if !check_state::is_state(table, i1, i2, state) {
-        return refused(63);
+        return Err(Refused { number: 63 });
     }
     let mut made = [0u8; SAVED];
     let n = put_saved(state, &mut made);
     if out.len() < n {
-        return refused(63);
+        return Err(Refused { number: 63 });
     }
     cells::put(out, 0, &made[..n]);
-    Filled {
-        number: 80,
-        count: n as u32,
-    }
+    Ok(n as u32)
 }

@@ -4,64 +4,68 @@ use mathlib.Core.Bool.{Bool, true, false, not, ◌&&◌, and-true, and-false, tr
 use mathlib.Core.List.{List, ◌++◌}
 use Prim.Native.Nat.{ℕ, ◌+◌, ◌≤◌, ◌<◌}
 use native.Mathlib.Omega.{arith}
-use lib.Dec.{eqb}
 use lib.ListN.{length, take, drop}
-use borrow.Author.Tests.{eqb-true, lt-leb}
+use borrow.Author.Tests.{lt-leb}
 use Rattle.appending.specs.Appending.{Written}
 use Rattle.appending.specs.AppendingLaws.{written-beyond, written-within}
-use Rattle.calls.specs.Calls.{load_number}
-use Rattle.calls.specs.Filling.{filled_in, Gives}
+use Rattle.calls.specs.Filling.{filled_in, Filled, Gives}
 use Rattle.calls.specs.Filling.Filling.{kept}
-use Rattle.calls.proofs.LoadLaws.{text-listed, listed-accepted}
 use Rattle.cells.specs.Cells.{pasted}
-use Rattle.editions.proofs.AnswerLaws.{loads-by, unloaded-67, macros-67, narrow-67, long-67, fitting-80}
+use Rattle.editions.proofs.AnswerLaws.{unloaded-67, macros-67, narrow-67, long-67, fitting-80}
 use Rattle.editions.specs.Convert.{respelled, loads, convert_of}
 use Rattle.language.specs.Limits as limit
 use Rattle.loading.specs.Texts.{Leaves}
-use Rattle.loading.specs.declared.Loaded.{Loaded}
+use Rattle.loading.specs.Told.{Loaded, told}
 use Rattle.macros.specs.Load.{load_in, load_of}
 use Rattle.macros.proofs.LoadLaws.{plain-loads, accepted-plain}
 use Rattle.macros.specs.Marks.{has_macros}
 use Rattle.syntax.specs.Ending.{last_place}
 use Rattle.syntax.specs.Items.{lines_of}
-use Rattle.syntax.proofs.LineLaws.{text-lined}
+use Rattle.syntax.specs.Load as spec
 use Rattle.syntax.specs.Load.{load_typed}
+use Rattle.std.specs.Prelude.{Ok, Err, is_ok}
 use Rattle.translating.specs.Translating.{taken}
 
 -- ---- "does the text load, has it no macro list"
 
 -- a text that loads as it stands has no macro list, and one without a macro list loads as it stands
 module _ (s : List ℕ) (short : length s ≤ limit.text) where
-  typed-80 : eqb (load_number (load_typed s)) 80 ≡ taken s
-  typed-80 = go (has_macros s) refl
+  typed-loads : is_ok (told (load_typed s)) ≡ taken s
+  typed-loads = go (has_macros s) refl
     where
-      listed : has_macros s ≡ true → (b : Bool) → eqb (load_number (load_typed s)) 80 ≡ b → b ≡ false
-      listed e true q =
-          let a = listed-accepted (load_typed s) (text-listed (lines_of s) (text-lined s short) s) (eqb-true (load_number (load_typed s)) 80 q) in
-          absurd (true≢false (sym e ∙ accepted-plain s (lines_of s) (last_place s) a.0 a.1))
-      listed e false q = refl
+      loaded : (x : spec.Loaded) → is_ok (told x) ≡ loads x
+      loaded (spec.Loaded.refused n l) = refl
+      loaded (spec.Loaded.accepted p) = refl
 
-      go : (b : Bool) → has_macros s ≡ b → eqb (load_number (load_typed s)) 80 ≡ taken s
-      go true e = listed e (eqb (load_number (load_typed s)) 80) refl ∙ sym (and-false (loads (load_of s))) ∙ ap (λ b. loads (load_of s) && not b) (sym e)
+      unmarked : (x : spec.Loaded) → load_typed s ≡ x → has_macros s ≡ true → loads x ≡ false
+      unmarked (spec.Loaded.refused n l) q e = refl
+      unmarked (spec.Loaded.accepted p) q e = absurd (true≢false (sym e ∙ accepted-plain s (lines_of s) (last_place s) p q))
+
+      go : (b : Bool) → has_macros s ≡ b → is_ok (told (load_typed s)) ≡ taken s
+      go true e =
+          loaded (load_typed s) ∙ unmarked (load_typed s) refl e ∙ sym (and-false (loads (load_of s))) ∙ ap (λ b. loads (load_of s) && not b) (sym e)
       go false e =
-          ap (λ l. eqb (load_number l) 80) (sym (plain-loads limit.table s (omega arith) short e)) ∙ sym (loads-by s) ∙ sym (and-true (loads (load_of s)))
+          loaded (load_typed s) ∙ ap loads (sym (plain-loads limit.table s (omega arith) short e)) ∙ sym (and-true (loads (load_of s)))
           ∙ ap (λ b. loads (load_of s) && not b) (sym e)
 
-  pub taken-by : {c d : List ℕ} {r : Loaded} → Leaves (load_typed s) c r d → eqb r.number 80 ≡ taken s
-  taken-by k = ap (λ n. eqb n 80) k.number_is ∙ typed-80
+  pub taken-by : {c d : List ℕ} {r : Loaded} → Leaves (load_typed s) c r d → is_ok r ≡ taken s
+  taken-by k = ap is_ok k.is ∙ typed-loads
 
 -- ---- 67
 
-module _ (s b : List ℕ) where
-  kept_gives : convert_of (length b) s ≡ kept 67 → Gives (convert_of (length b) s) 67 0 b b
-  unfolding filled_in
-  kept_gives e = subst (λ x. Gives x 67 0 b b) (sym e) (record { number_is = refl; count_is = refl; cells_are = refl })
+abbrev refused : Filled
+refused = Err (record { number = 67 })
 
-  pub long-gives : limit.text < length s → Gives (convert_of (length b) s) 67 0 b b
+module _ (s b : List ℕ) where
+  kept_gives : convert_of (length b) s ≡ kept 67 → Gives (convert_of (length b) s) refused b b
+  unfolding filled_in
+  kept_gives e = subst (λ x. Gives x refused b b) (sym e) (record { result_is = refl; number_is = refl; cells_are = refl })
+
+  pub long-gives : limit.text < length s → Gives (convert_of (length b) s) refused b b
   unfolding load_in
   long-gives h = kept_gives (unloaded-67 (length b) s (rw (lt-leb (length s) limit.text h) refl))
 
-  pub untaken-gives : taken s ≡ false → Gives (convert_of (length b) s) 67 0 b b
+  pub untaken-gives : taken s ≡ false → Gives (convert_of (length b) s) refused b b
   untaken-gives h = kept_gives (go (loads (load_of s)) (has_macros s) refl refl h)
     where
       go : (a m : Bool) → loads (load_of s) ≡ a → has_macros s ≡ m → (a && not m) ≡ false → convert_of (length b) s ≡ kept 67
@@ -76,25 +80,25 @@ front-copied {m} {s} {n} b e l = let z : n ≡ 0 + length s = omega (arith, l) i
 -- ---- a text that is taken, with what was made of it
 
 module _ (s : List ℕ) {made : List ℕ} {n : ℕ} (t : taken s ≡ true) (w : Written (respelled s) n made) (m : length made ≡ limit.text) (b : List ℕ) where
-  pub beyond-gives : limit.text < n → Gives (convert_of (length b) s) 67 0 b b
+  pub beyond-gives : limit.text < n → Gives (convert_of (length b) s) refused b b
   beyond-gives h = kept_gives s b (long-67 (length b) s (omega (arith, m, written-beyond w (omega (arith, m)))))
 
   module _ (h : n ≤ limit.text) where
     within : length (respelled s) ≤ length made
     within = written-within w (omega (arith, m))
 
-    pub narrow_gives : length b < n → Gives (convert_of (length b) s) 67 0 b b
+    pub narrow_gives : length b < n → Gives (convert_of (length b) s) refused b b
     narrow_gives l = kept_gives s b (narrow-67 (length b) s (omega (arith, w.counted within)))
 
-    pub fitting-gives : n ≤ length b → {b' : List ℕ} → b' ≡ pasted b 0 (take n made) → Gives (convert_of (length b) s) 80 n b b'
+    pub fitting-gives : n ≤ length b → {b' : List ℕ} → b' ≡ pasted b 0 (take n made) → Gives (convert_of (length b) s) (Ok n) b b'
     unfolding filled_in
     fitting-gives l {b'} e =
         let q = both (loads (load_of s)) (has_macros s) t in
         let c = w.counted within in
         let f = fitting-80 (length b) s q.0 q.1 (omega (arith, c)) (omega (arith, c, m, within)) in
         let z : 0 + length (respelled s) ≡ length (respelled s) = omega arith in
-        subst (λ x. Gives x 80 n b b') (sym f)
-        (record { number_is = refl; count_is = c; cells_are = e ∙ ap (pasted b 0) (w.held within) ∙ ap (λ k. respelled s ++ drop k b) z })
+        subst (λ x. Gives x (Ok n) b b') (sym f)
+        (record { result_is = ap Ok c; number_is = refl; cells_are = e ∙ ap (pasted b 0) (w.held within) ∙ ap (λ k. respelled s ++ drop k b) z })
       where
         both : (a m : Bool) → (a && not m) ≡ true → (a ≡ true) × (m ≡ false)
         both true false q = (refl, refl)

@@ -11,17 +11,14 @@ ghost use Rattle.syntax.specs.Statements.{is_operator};
 ghost use Rattle.translating.specs.Translating.{taken, Passable, Passed};
 
 use appending::append;
-use calls::Filled;
+use calls::{Filled, Refused};
 use language::Machine;
 use lexer::{Token, next_item};
 use scanner::{COLON, END, NOTHING, WORD};
 use words::append_other;
 
 // Question 67 answered no.
-const REFUSED: Filled = Filled {
-    number: 67,
-    count: 0,
-};
+const REFUSED: Refused = Refused { number: 67 };
 
 // How far a text is read and written: the place from which the next item is sought, whether the operator of the statement there is still to come, the
 // place up to which all is written, and how many bytes were.
@@ -96,39 +93,35 @@ fn is_taken(text: &[u8]) -> bool
     ensures { result ≡ taken text.now }
 {
     let mut table = [0u32; Machine::TABLE];
-    let r = loading::load_typed(text, &mut table);
-    r.number == 80
+    loading::load_typed(text, &mut table).is_ok()
 }
 
 // Of a text that is taken. The buffer is written last: where there is no room it stays.
 fn turn(text: &[u8], out: &mut [u8]) -> Filled
     requires { taken text.now ≡ true }
-    ensures { Gives (convert_of (length out.old) text.now) result.number result.count out.old out.new }
+    ensures { Gives (convert_of (length out.old) text.now) result out.old out.new }
 {
     let mut made = [0u8; Machine::TEXT];
     let n = respell(text, &mut made);
     if Machine::TEXT < n {
-        return REFUSED;
+        return Err(REFUSED);
     }
     if out.len() < n {
-        return REFUSED;
+        return Err(REFUSED);
     }
     out[..n].copy_from_slice(&made[..n]);
-    Filled {
-        number: 80,
-        count: n as u32,
-    }
+    Ok(n as u32)
 }
 
 // "does the text load, has it no macro list, and does the result fit the lent buffer and 32,768 bytes?"
 pub fn convert(text: &[u8], out: &mut [u8]) -> Filled
-    ensures { Gives (convert_of (length out.old) text.now) result.number result.count out.old out.new }
+    ensures { Gives (convert_of (length out.old) text.now) result out.old out.new }
 {
     if Machine::TEXT < text.len() {
-        return REFUSED;
+        return Err(REFUSED);
     }
     if !is_taken(text) {
-        return REFUSED;
+        return Err(REFUSED);
     }
     turn(text, out)
 }

@@ -1,24 +1,20 @@
 -- `check_state::is_fitting` meets its contract.
+use mathlib.Core.Path.{subst}
+use Rattle.cells.specs.Cells.{Number}
+use Rattle.layout.specs.Cells.{three_at}
+use Rattle.layout.specs.Places as layout
 use Rattle.check_state.proofs.Returns.{table-long}
 use Rattle.check_state.proofs.Steps.{fits}
 use Rattle.check_state.proofs.is_fitting.Goals as goal
 
 pub instructions-requires : goal.instructions-requires
-instructions-requires c =
-    let args = c.args in
-    let pre = c.requires in
-    table-long args.table.now pre.table
+instructions-requires c = table-long c.args.lent.table.now c.requires
 
 pub returns : goal.returns
 returns c =
-    let args = c.args in
-    let pre = c.requires in
-    let string-at = c.string_at in
-    let is-stack = c.is_stack in
-    let string-at2 = c.string_at-2 in
-    let is-output = c.is_output in
-    let string-at3 = c.string_at-3 in
-    let is-output2 = c.is_output-2 in
-    let three_at = c.three_at in
-    let three-at2 = c.three_at-2 in
-    fits args.table.now pre.table args.i1.now args.i2.now args.m.now string-at.ensures string-at2.ensures string-at3.ensures three_at.ensures three-at2.ensures c.three_at-3.ensures c.instructions.ensures is-stack.ensures is-output.ensures is-output2.ensures
+    let a = c.args.lent in
+    let e = c.cells-m.ensures.is in
+    let first = subst (λ l. Number (three_at layout.first_place_cell l) 16777216 c.three_at.result) e c.three_at.ensures in
+    let second = subst (λ l. Number (three_at layout.second_place_cell l) 16777216 c.three_at-2.result) e c.three_at-2.ensures in
+    let next = subst (λ l. Number (three_at layout.next_cell l) 16777216 c.three_at-3.result) e c.three_at-3.ensures in
+    fits a.table.now c.requires a.first.now a.second.now c.args.memory.now c.string.ensures c.string-2.ensures c.string-3.ensures first second next c.instructions.ensures c.is_stack.ensures c.is_output.ensures c.is_output-2.ensures

@@ -25,7 +25,6 @@ pub returns : goal.returns
 returns c =
     let args = c.args in
     let pre = c.requires in
-    let shared-slice-known4 = c.shared_slice_known-4-1 in
     let if1 = c.if-state-lt-STATE in
     let is-passed = c.is_passed in
-    answer args.table.now args.i1.now args.i2.now args.state.now pre if1.false (λ j. omega (arith, shared-slice-known4.given j)) is-passed.ensures
+    answer args.table.now args.i1.now args.i2.now args.state.now pre if1.false (λ j. omega (arith, c.type_inv.state j)) is-passed.ensures

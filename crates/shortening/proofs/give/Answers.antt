@@ -4,4 +4,4 @@ use Rattle.shortening.proofs.Giving.{front-copied, given}
 use Rattle.shortening.proofs.give.Goals as goal
 
 pub returns : goal.returns
-returns c = given c.load-r.ensures (front-copied c.args.out.now c.copy_from_slice.ensures.after) refl refl
+returns c = given c.load-loaded.ensures (front-copied c.args.out.now c.copy_from_slice.ensures.after) refl refl

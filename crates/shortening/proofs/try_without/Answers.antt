@@ -1,7 +1,7 @@
 -- `shortening::try_without` meets its contract.
 use native.Mathlib.Omega.{arith}
 use lib.ListN.{length-take}
-use mathlib.Core.Path.{refl}
+use mathlib.Core.Path.{refl, sym, ◌∙◌}
 use Rattle.shortening.proofs.Cutting.{exchangeable-back, dropped, not-dropped}
 use Rattle.shortening.proofs.try_without.Goals as goal
 
@@ -9,9 +9,9 @@ pub slice_bounds-load-end-2 : goal.slice_bounds-load-end-2
 slice_bounds-load-end-2 c =
     simp length-take (omega (arith, c.requires.some, c.requires.upto, c.requires.tryable.within))
 
-pub returns-then-r-number : goal.returns-then-r-number
-returns-then-r-number c =
-    dropped c.requires c.exchange.ensures refl c.load-r.ensures c.if-r-number.true
+pub returns-then-is_refused_with : goal.returns-then-is_refused_with
+returns-then-is_refused_with c =
+    dropped c.requires c.exchange.ensures refl c.load-loaded.ensures (sym c.is_refused_with.ensures ∙ c.if-is_refused_with.true)
 
 pub exchange-requires-2 : goal.exchange-requires-2
 exchange-requires-2 c =
@@ -19,4 +19,4 @@ exchange-requires-2 c =
 
 pub returns : goal.returns
 returns c =
-    not-dropped c.requires c.exchange.ensures refl c.load-r.ensures c.if-r-number.false c.exchange-2.ensures
+    not-dropped c.requires c.exchange.ensures refl c.load-loaded.ensures (sym c.is_refused_with.ensures ∙ c.if-is_refused_with.false) c.exchange-2.ensures

@@ -6,7 +6,7 @@ use Rattle.state_contents.proofs.Gathering.{Gathering}
 use Rattle.state_contents.proofs.contents.Given as goal
 
 abbrev pub invariant-loop-at : goal.invariant-loop-at
-invariant-loop-at l = (length l.row ≡ length l.initial.row) × Gathering l.text l.kind l.index l.row l.n l.at
+invariant-loop-at l = (length l.row ≡ length l.initial.row) × Gathering l.text l.slot.kind l.slot.index l.row l.n l.at
 
 abbrev pub decreases-loop-at : goal.decreases-loop-at
 decreases-loop-at l = length l.text - l.at

@@ -1,12 +1,10 @@
 -- `state_contents::whole` meets its contract.
-use Rattle.state_contents.proofs.Finding.{whole-none, whole-all}
+use Rattle.std.proofs.Common.{rules}
+use Rattle.state_contents.proofs.Finding.{whole-all}
 use Rattle.state_contents.proofs.whole.Goals as goal
 
-pub contents-n-requires : goal.contents-n-requires
-contents-n-requires c = c.requires
-
-pub returns-then-row-n : goal.returns-then-row-n
-returns-then-row-n c = whole-none c.contents-n.ensures c.if-row-n.true
+pub contents-requires : goal.contents-requires
+contents-requires c = c.requires
 
 pub returns : goal.returns
-returns c = whole-all c.contents-n.ensures c.if-row-n.false
+returns c = whole-all c.contents.ensures (search rules)

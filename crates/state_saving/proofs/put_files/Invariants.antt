@@ -5,4 +5,4 @@ use Rattle.state_saving.proofs.Appending.{Writing}
 use Rattle.state_saving.proofs.put_files.Given as goal
 
 abbrev pub invariant-loop-i : goal.invariant-loop-i
-invariant-loop-i l = Writing file (files_from l.m) l.from l.initial.out l.i l.at l.out
+invariant-loop-i l = Writing file (files_from l.memory) l.from l.initial.out l.i l.at l.out

@@ -1,6 +1,0 @@
--- `check_memory::is_distinct` meets its contract.
-use Rattle.check_memory.proofs.Loops.{Gathering}
-use Rattle.check_memory.proofs.is_distinct.Given as goal
-
-abbrev pub invariant-loop-i : goal.invariant-loop-i
-invariant-loop-i l = Gathering l.m l.initial.list l.list l.n l.i

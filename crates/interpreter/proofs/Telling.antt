@@ -1,0 +1,49 @@
+-- The numbers of an answer that is a result.
+use mathlib.Core.Path.{◌≡◌, refl, ap, ◌∙◌}
+use mathlib.Core.List.{List}
+use Prim.Native.Nat.{ℕ}
+use lib.ListN.{length}
+use Rattle.calls.specs.Calls.{packed, load_answer}
+use Rattle.calls.specs.Filling.{Filling, filling_number, filled_number, filled_count, Filled, Fills, Gives}
+use Rattle.calls.proofs.FillingLaws.{count-of, gives-fills}
+use Rattle.class_calls.specs.Class.{Lent, ClassReply, class_of, class_number}
+use Rattle.class_calls.specs.Class.ClassReply.{class_refused, taken}
+use Rattle.class_running.specs.ClassRunning.{Taken, taken_by, taken_number, Classes}
+use Rattle.macros.specs.Load.{load_in}
+use Rattle.shorten_calls.specs.Shortening.{shorten_of}
+use Rattle.shortening.specs.Below.Told.{Loaded, told, loaded_number, loaded_line}
+use Rattle.shortening.specs.Below.Loading.{Loads}
+use Rattle.shortening.specs.Trying.{Answer, shortened_number, shortened_filled, Shortens}
+use Rattle.syntax.specs.Load as spec
+use Rattle.interpreter.specs.Answers.{AnswersLoad, AnswersShorten, AnswersClass}
+
+loaded-told : (x : spec.Loaded) → packed (loaded_number (told x)) (loaded_line (told x)) ≡ load_answer x
+loaded-told (spec.Loaded.refused number line) = refl
+loaded-told (spec.Loaded.accepted p) = refl
+
+pub answers-load : {s c d : List ℕ} {l : Loaded} {r : ℕ} → Loads s c l d → r ≡ packed (loaded_number l) (loaded_line l) → AnswersLoad (load_in (length c) s) c r d
+answers-load {s} {c} k w =
+    record { answer = w ∙ ap (λ t. packed (loaded_number t) (loaded_line t)) k.is ∙ loaded-told (load_in (length c) s); cells = k.cells_are }
+
+pub answers-filled : {x : Filling} {t : Filled} {b b' : List ℕ} {r : ℕ} → Gives x t b b' → r ≡ packed (filled_number t) (filled_count t) → Fills x r b b'
+answers-filled {x} {t} {b} {b'} g w = let f = gives-fills x t b b' g in record { answer = w ∙ f.answer; cells = f.cells }
+
+pub answers-shorten : {s c b d b' : List ℕ} {t : Answer} {r : ℕ} → Shortens s c b t d b' → r ≡ packed (shortened_number t) (filled_count (shortened_filled t))
+    → AnswersShorten s c b r d b'
+answers-shorten {s} {c} {b} {d} {b'} {t} k w =
+    let x = shorten_of (length c) (length b) s in
+    record {
+      fills = record {
+        answer = w ∙ ap (λ n. packed n (filled_count (shortened_filled t))) k.number_is ∙ ap (packed (filling_number x)) (ap filled_count k.result_is ∙ count-of x);
+        cells = k.cells_are;
+      };
+      cells = k.table_is;
+    }
+
+taken-told : (x : ClassReply) → taken_number (taken_by x) ≡ class_number x
+taken-told (class_refused number) = refl
+taken-told (taken ps) = refl
+
+pub answers-class : {c : List ℕ} {x : Lent} {t : Taken} {res out : List ℕ} {r : ℕ} → Classes c x t res out → r ≡ packed (taken_number t) 0 → AnswersClass c x r res out
+answers-class {c} {x} k w =
+    record { answer = w ∙ ap (λ t. packed (taken_number t) 0) k.is ∙ ap (λ n. packed n 0) (taken-told (class_of c x)); results = k.results_are; outputs = k.outputs_are }
