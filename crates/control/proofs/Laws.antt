@@ -1,4 +1,4 @@
--- The working memory after the run goes on: the next instruction, and the return stack, of which each entry has two cells.
+-- The state at work after the run goes on: the next instruction, and the return stack, of which each entry has two cells.
 use mathlib.Core.Path.{◌≡◌, refl, ap, ◌∙◌}
 use mathlib.Core.List.{List, [], ◌∷◌}
 use Prim.Native.Nat.{ℕ, suc, ◌+◌, ◌*◌, ◌/◌, ◌%◌, ◌≤◌, ◌<◌}

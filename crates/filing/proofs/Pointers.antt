@@ -1,4 +1,4 @@
--- The working memory after the pointer of a file moves.
+-- The state at work after the pointer of a file moves.
 use mathlib.Core.Path.{◌≡◌, refl, sym, ap, ◌∙◌, subst}
 use mathlib.Core.Bool.{Bool, true, false, ◌||◌}
 use mathlib.Core.List.{List, [], ◌∷◌, ◌++◌, append_assoc}

@@ -1,4 +1,4 @@
--- The working memory after a file is replaced.
+-- The state at work after a file is replaced.
 use mathlib.Core.Path.{◌≡◌, sym, ◌∙◌}
 use mathlib.Core.List.{List}
 use Prim.Native.Nat.{ℕ, ◌+◌, ◌≤◌, ◌<◌}

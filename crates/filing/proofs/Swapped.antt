@@ -1,4 +1,4 @@
--- The working memory after two files are exchanged.
+-- The state at work after two files are exchanged.
 use mathlib.Core.Path.{◌≡◌, sym, ◌∙◌}
 use mathlib.Core.List.{List, []}
 use Prim.Native.Nat.{ℕ, ◌<◌}

@@ -1,4 +1,4 @@
--- The working memory after a change beside expressions and files: of an output, of H, of a read place.
+-- The state at work after a change beside expressions and files: of an output, of H, of a read place.
 use mathlib.Core.Path.{◌≡◌, refl, sym, ap, ◌∙◌}
 use mathlib.Core.Bool.{Bool, false, cond}
 use mathlib.Core.List.{List, [], ◌∷◌, ◌++◌}

@@ -1,4 +1,4 @@
--- The working memory after two expressions are exchanged.
+-- The state at work after two expressions are exchanged.
 use mathlib.Core.Path.{◌≡◌, sym, ◌∙◌}
 use mathlib.Core.List.{List, []}
 use Prim.Native.Nat.{ℕ, ◌<◌}

@@ -1,4 +1,4 @@
--- The working memory after an expression is changed.
+-- The state at work after an expression is changed.
 use mathlib.Core.Path.{◌≡◌, refl, sym, ap, ◌∙◌}
 use mathlib.Core.Bool.{Bool, true, false}
 use mathlib.Core.List.{List, [], ◌++◌}

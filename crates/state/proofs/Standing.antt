@@ -1,4 +1,4 @@
--- The working memory holds the state that it reads as: a change of what it holds is that change of the state.
+-- The state at work holds the state that it reads as: a change of what it holds is that change of the state.
 use mathlib.Core.Path.{◌≡◌, refl, sym, ap, ◌∙◌, subst}
 use mathlib.Core.Bool.{Bool, true, false, cond}
 use Prim.Native.Nat.{ℕ, zero, suc, ◌+◌, ◌≤◌, ◌<◌}

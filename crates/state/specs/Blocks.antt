@@ -1,5 +1,5 @@
--- What the functions on the working state ask and tell. p, e and n are pool, ends and scalars; scratch and hold are how long the two further
--- buffers are, one for laying the strings out anew and one for bytes on the way.
+-- What the functions on the state at work ask and tell. s is the state, i and j are variables of it, k, bytes and chars are counts of components, of
+-- their cells and of their characters.
 use Rattle.std.specs.Prelude.{◌≡◌, Bool, true, false, List, [], ℕ, ◌+◌, ◌≤◌, ◌<◌, length, get_or, take, set}
 use Rattle.store.specs.Below.Limits as limit
 use Rattle.store.specs.Below.Letters.Letter.{E, I, Q}

@@ -1,4 +1,4 @@
--- The same over lists, as it was said before: p, e and n are pool, ends and scalars.
+-- The same over lists: p, e and n are pool, ends and scalars.
 use Rattle.std.specs.Prelude.{◌≡◌, List, ℕ}
 use Rattle.store.specs.Below.LanguageValues.{State}
 use Rattle.store.specs.Below.LayoutBounds.{Fine}

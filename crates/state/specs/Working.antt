@@ -1,4 +1,4 @@
--- The state at work: the pool and the ends of the store, which hold its strings, and its eight scalars in cells of 32 bits.
+-- The state at work: its strings and its eight scalars, and what a value of it holds.
 use Rattle.std.specs.Prelude.{◌≡◌, Bool, true, false, cond, List, ◌++◌, reverse, ℕ, suc, length}
 use Rattle.store.specs.Below.Lists.{total}
 use Rattle.store.specs.Below.Letters.{Letter}

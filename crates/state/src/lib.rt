@@ -94,8 +94,8 @@ impl Working {
         self.strings.string_of(i)
     }
 
-    #[tactic(auto, using(crate::proofs::Autos::droppable, crate::proofs::Autos::lowerable))]
     // Takes the first components of expression `i` away: how many, their bytes and their characters.
+    #[tactic(auto, using(crate::proofs::Autos::droppable, crate::proofs::Autos::lowerable))]
     pub fn drop_parts(&mut self, i: usize, parts: usize, bytes: usize, chars: usize)
         requires { PartsDroppable self.old i parts bytes chars }
         ensures { HoldsState self.new (on_store (past (nth (reading true) i) parts) self.old) }
