@@ -1,20 +1,16 @@
 // Bytes put behind those that stand in a row already, as long as there is room.
 #![tactic(auto)]
 
-ghost use Rattle.std.specs.Prelude.{◌<◌, length};
 ghost use Rattle.appending.specs.Appending.{Appends};
 
-// Puts bytes from index `at` on, and tells the index behind them. Where they do not fit nothing is put, and the index is one that the row lacks.
-pub fn append(row: &mut [u8], at: usize, bytes: &[u8]) -> usize
-    requires { length row.old < 4294967296 }
+// Puts bytes from index `at` on, and tells the index behind them. Where they do not fit nothing is put, and there is none.
+pub fn append(row: &mut [u8], at: usize, bytes: &[u8]) -> Option<usize>
     ensures { Appends row.old at bytes.now result row.new }
 {
-    if row.len() < at {
-        return at;
-    }
-    if row.len() - at < bytes.len() {
-        return row.len() + 1;
+    let room = row.len().checked_sub(at)?;
+    if room < bytes.len() {
+        return None;
     }
     cells::put(row, at, bytes);
-    at + bytes.len()
+    Some(at + bytes.len())
 }

@@ -1,17 +1,15 @@
 -- The items after an instruction's operator, one by one: what is at fault among them.
-use Rattle.std.specs.Prelude.{◌≡◌, ◌||◌, ℕ, suc, leb, ltb, eqb, length, drop}
+use Rattle.std.specs.Prelude.{◌≡◌, ◌||◌, ◌≤◌, ℕ, suc, leb, ltb, eqb, length, drop}
 use Rattle.std.proofs.Math.Path.{refl, ap}
-use Rattle.std.proofs.Common.{sym, ◌∙◌, arith, le→leb}
+use Rattle.std.proofs.Common.{sym, ◌∙◌, subst, true≢false, arith, le→leb}
 use Rattle.std.proofs.Math.Bool.{Bool, true, false, cond}
 use mathlib.Core.List.{List, [], ◌∷◌, ◌++◌, map, append_assoc, append-nil}
 use Rattle.std.proofs.Math.Dec.{T}
 use borrow.Author.Tests.{eq-eqb, ne_eqb, eqb-true, eqb-false}
-use Rattle.std.proofs.Common.{Some, None}
 use Rattle.forms.specs.declared.Live.{Live}
-use Rattle.forms.specs.declared.Taken.{Taken}
 use Rattle.forms.specs.Kinds.{word_kinds, item_kinds}
 use Rattle.forms.specs.KindLaws.{text-kinds, word_kinds-of}
-use Rattle.forms.specs.Reading.{if_taken, lists_at, taken_at}
+use Rattle.forms.specs.Reading.{Reads, lists_at, taken_at}
 use Rattle.forms.specs.ReadingLaws.{argument-read, lists-first}
 use Rattle.heads.specs.declared.Head.{Head}
 use Rattle.heads.specs.Heads.{Headed}
@@ -19,21 +17,24 @@ use Rattle.heads.specs.HeadLaws.{operator-here, rest-here}
 use Rattle.language.specs.Instructions.{operation}
 use Rattle.language.specs.Program.{Op}
 use Rattle.lexer.specs.declared.Token.{Token}
-use Rattle.lexer.specs.Tokens.{word_of, chars_of, item_of, colon_of, Stands, NextToken}
-use Rattle.lexer.proofs.Finding.{is-sort, word-chars, no-chars}
+use Rattle.std.specs.Option.{option_to_list}
+use Rattle.scanner.specs.Sorts.{sort_in}
+use Rattle.scanner.specs.declared.Sort.{Sort}
+use Rattle.lexer.specs.Tokens.{ColonWithin, word_of, chars_of, item_of, colon_of, Stands, NextToken}
+use Rattle.lexer.proofs.Finding.{is_spelled, one_sort, word-chars, no-chars}
 use Rattle.lists.specs.Lists.{filled, keep}
 use Rattle.lists.specs.ListLaws.{T-left, T-right, T-both, all_head, all_tail, all_cons, all_keep}
 use Rattle.statements.specs.LowestLaws.{none_before, none-before-both, fault-first, fault-within}
 use Rattle.statements.specs.Faults.{Fault}
-use Rattle.std.specs.Prelude.{None, Some}
+use Rattle.std.specs.Prelude.{Option, None, Some, Ok, Err}
 use Rattle.statements.specs.PlaceLaws.{stands_from, all_from, statement-from, places-from}
 use Rattle.statements.specs.StatementAt.{statement_at, stops, fault_of}
 use Rattle.statements.specs.StatementLaws.{at-stop, at_item}
 use Rattle.syntax.specs.ArgumentForms.{accepting, form_in, word_reads, Argument, alternatives, arguments_in, arguments, read_by, of_form, least}
-use Rattle.syntax.specs.Items.{Item, is, places}
-use Rattle.syntax.specs.Items.Sort.{colon, text}
+use Rattle.syntax.specs.Items.{Item, is, same_sort, places}
+use Rattle.syntax.specs.Items.Sort.{word, colon, text}
 use Rattle.syntax.specs.Questions.{instr_faults}
-use Rattle.arguments.specs.Arguments.{colons, read_from, argument_faults, instr_after}
+use Rattle.arguments.specs.Arguments.{colons, read_from, argument_faults, instr_after, or_colon, accepted}
 use Rattle.arguments.specs.CountLaws.{is_argument}
 
 -- the items of arguments that are read
@@ -76,12 +77,15 @@ module _ (p : ℕ) where
       none-before-both p (colons js) (places (of_form "-" (read_from o live place js))) (colons-from js h) (forms-from (lists_at o live place) js h)
 
 -- the turn of a token that is no end
+colon-above : (at e m : ℕ) → at ≤ e → (z : Option ℕ) → ColonWithin e m z → T (none_before at (option_to_list z))
+colon-above at e m h None w = tt
+colon-above at e m h (Some c) w = T-both (leb at c) true (le→leb at c (omega (arith, h, w.0))) tt
+
 pub colon-behind : {s : List ℕ} {t : Token} → Stands s t → T (none_before t.at (colon_of t))
-colon-behind {s} {t} h =
-    elim (eqb t.colon 0) as (λ b. eqb t.colon 0 ≡ b → T (none_before t.at (cond b [] (t.colon ∷ [])))) [
-      | true ↦ λ e. tt
-      | false ↦ λ e. let l = h.colon_from (eqb-false t.colon 0 e) in T-both (leb t.at t.colon) true (le→leb t.at t.colon (omega (arith, h.own))) tt
-    ] refl
+colon-behind {s} {t} h = colon-above t.at t.end t.next (omega (arith, h.own)) t.colon h.colon_within
+
+within-most : (e m : ℕ) {c : ℕ} {z : Option ℕ} → ColonWithin e m z → z ≡ Some c → c ≤ m
+within-most e m w q = (subst (ColonWithin e m) q w).1
 
 module _ (o : Op) (live : Live) (place : ℕ) {s : List ℕ} {n : ℕ} {t : Token} (k : NextToken s n t) where
   pub items-end : stops t.sort ≡ true → fault_of (argument_faults o live place (statement_at s n)) ≡ None
@@ -98,13 +102,13 @@ module _ (o : Op) (live : Live) (place : ℕ) {s : List ℕ} {n : ℕ} {t : Toke
     from_here : T (all_from t.at js)
     from_here = statement-from s t.next t.at (omega (arith, k.stands.own, k.stands.behind))
 
-    pub colon-here : t.sort ≡ 2 → fault_of (argument_faults o live place (statement_at s n)) ≡ Some t.at
+    pub colon-here : is colon i ≡ true → fault_of (argument_faults o live place (statement_at s n)) ≡ Some t.at
     unfolding argument_faults colons
     colon-here e =
-        let f : argument_faults o live place (statement_at s n) ≡ t.at ∷ argument_faults o live place js = rw (at_item k z, is-sort colon k.stands, eq-eqb 2 t.sort (sym e)) in
+        let f : argument_faults o live place (statement_at s n) ≡ t.at ∷ argument_faults o live place js = rw (at_item k z, e) in
         ap fault_of f ∙ fault-first t.at (argument_faults o live place js) (faults-from t.at o live place js from_here)
 
-    module _ (e : t.sort ≡ 2 → ⊥) (b : Taken) (q : b ≡ taken_at (operation o).number live place (item_kinds i)) where
+    module _ (e : is colon i ≡ false) (b : Reads) (q : b ≡ taken_at (operation o).number live place (item_kinds i)) where
       abbrev later : List ℕ
       later = places (of_form "-" (read_from o b.live (suc place) js))
 
@@ -112,7 +116,7 @@ module _ (o : Op) (live : Live) (place : ℕ) {s : List ℕ} {n : ℕ} {t : Toke
       unfolding argument_faults colons
       turn =
           ap (argument_faults o live place) (at_item k z)
-          ∙ rw (is-sort colon k.stands, ne_eqb 2 t.sort (λ y. e (sym y)), argument-read i o place live (arguments_in js), ← q)
+          ∙ rw (e, argument-read i o place live (arguments_in js), ← q)
           (elim (eqb b.form 45) as (λ c. (colon_of t ++ colons js) ++ places (map (λ x. x.item) (cond (c || false) (record { item = i; form = b.form } ∷ keep (λ x. form_in "-" x.form) (read_from o b.live (suc place) js)) (keep (λ x. form_in "-" x.form) (read_from o b.live (suc place) js))))
           ≡ (colon_of t ++ colons js) ++ cond c (t.at ∷ later) later) [ true ↦ refl | false ↦ refl ])
 
@@ -127,49 +131,97 @@ module _ (o : Op) (live : Live) (place : ℕ) {s : List ℕ} {n : ℕ} {t : Toke
         goes_on : argument_faults o live place (statement_at s n) ≡ (colon_of t ++ colons js) ++ later
         goes_on = rw (ne_eqb b.form 45 f) at turn
 
-        pub colon-after-argument : (t.colon ≡ 0 → ⊥) → fault_of (argument_faults o live place (statement_at s n)) ≡ Some t.colon
+        pub colon-after-argument : {c : ℕ} → t.colon ≡ Some c → fault_of (argument_faults o live place (statement_at s n)) ≡ Some c
         unfolding argument_faults
-        colon-after-argument y =
-            ap fault_of (rw (ne_eqb t.colon 0 y) at goes_on)
-            ∙ fault-first t.colon (argument_faults o b.live (suc place) js) (faults-from t.colon o b.live (suc place) js (statement-from s t.next t.colon k.stands.colon_most))
+        colon-after-argument {c} y =
+            ap fault_of (rw y at goes_on)
+            ∙ fault-first c (argument_faults o b.live (suc place) js) (faults-from c o b.live (suc place) js (statement-from s t.next c (within-most t.end t.next k.stands.colon_within y)))
 
-        pub argument_listed : t.colon ≡ 0 → argument_faults o live place (statement_at s n) ≡ argument_faults o b.live (suc place) (statement_at s t.next)
+        pub argument_listed : t.colon ≡ None → argument_faults o live place (statement_at s n) ≡ argument_faults o b.live (suc place) (statement_at s t.next)
         unfolding argument_faults
-        argument_listed y = rw (eq-eqb t.colon 0 y) at goes_on
+        argument_listed y = rw y at goes_on
+
+-- a text is no word
+pub not-both : (k : Option Sort) → same_sort text (sort_in k) ≡ true → same_sort word (sort_in k) ≡ true → ⊥
+not-both None f g = true≢false (sym f)
+not-both (Some Sort.Word) f g = true≢false (sym f)
+not-both (Some Sort.Colon) f g = true≢false (sym f)
+not-both (Some Sort.End) f g = true≢false (sym f)
+not-both (Some Sort.Text) f g = true≢false (sym g)
+not-both (Some Sort.Wrong) f g = true≢false (sym f)
 
 -- the set of forms that a token's item reads as
-module _ {s : List ℕ} {t : Token} (h : Stands s t) where
-  pub kinds-text : t.sort ≡ 4 → item_kinds (item_of s t) ≡ 16384
-  kinds-text e = text-kinds (item_of s t) (is-sort text h ∙ eq-eqb 4 t.sort (sym e))
+module _ (s : List ℕ) (t : Token) where
+  pub kinds-text : is text (item_of s t) ≡ true → item_kinds (item_of s t) ≡ 16384
+  kinds-text e = text-kinds (item_of s t) e
 
-  module _ (e : t.sort ≡ 4 → ⊥) where
+  module _ (e : is text (item_of s t) ≡ false) where
     no_text : item_kinds (item_of s t) ≡ word_kinds (chars_of s t)
-    no_text = word_kinds-of (item_of s t) (is-sort text h ∙ ne_eqb 4 t.sort (λ q. e (sym q)))
+    no_text = word_kinds-of (item_of s t) e
 
-    pub kinds-word : t.sort ≡ 1 → item_kinds (item_of s t) ≡ word_kinds (word_of s t)
-    kinds-word f = no_text ∙ ap word_kinds (word-chars s t f)
+    pub kinds-word : is word (item_of s t) ≡ true → item_kinds (item_of s t) ≡ word_kinds (word_of s t)
+    kinds-word f = no_text ∙ ap word_kinds (word-chars s t (one_sort (Some Sort.Word) t.sort f))
 
-    pub kinds-none : (t.sort ≡ 1 → ⊥) → item_kinds (item_of s t) ≡ 0
+    unspelled : (k : Option Sort) → same_sort text (sort_in k) ≡ false → same_sort word (sort_in k) ≡ false → is_spelled k ≡ false
+    unspelled None f g = refl
+    unspelled (Some Sort.Word) f g = absurd (true≢false g)
+    unspelled (Some Sort.Colon) f g = refl
+    unspelled (Some Sort.End) f g = refl
+    unspelled (Some Sort.Text) f g = absurd (true≢false f)
+    unspelled (Some Sort.Wrong) f g = refl
+
+    pub kinds-none : is word (item_of s t) ≡ false → item_kinds (item_of s t) ≡ 0
     unfolding word_kinds word_reads
-    kinds-none f = no_text ∙ ap word_kinds (no-chars s t f e)
+    kinds-none f = no_text ∙ ap word_kinds (no-chars s t (unspelled t.sort e f))
 
-pub turned : (live : Live) (place : ℕ) {m kinds j : ℕ} {b : Taken} → b ≡ taken_at m live place kinds → kinds ≡ j → (o : Op) → (operation o).number ≡ m → b ≡ taken_at (operation o).number live place j
+pub turned : (live : Live) (place : ℕ) {m kinds j : ℕ} {b : Reads} → b ≡ taken_at m live place kinds → kinds ≡ j → (o : Op) → (operation o).number ≡ m → b ≡ taken_at (operation o).number live place j
 turned live place e f o h = rw (e, f, h)
 
--- what is taken, or is not, by the answer of `take_argument`
-taken-by : {t b : Taken} (z : Bool) → eqb t.form 45 ≡ z → Some b ≡ cond z None (Some t) → (b ≡ t) × (b.form ≡ 45 → ⊥)
-taken-by true e h = cc
-taken-by {t} {b} false e h = let q : b ≡ t = cc in (q, λ f. eqb-false t.form 45 e (sym (ap (λ (x : Taken). x.form) q) ∙ f))
+-- what is taken, by the answer of `accepted`
+pub record TakenBy (t : Token) (b r : Reads) : Type 0 where
+  pub is : r ≡ b
+  pub some : r.form ≡ 45 → ⊥
+  pub bare : t.colon ≡ None
 
-pub taken-some : (t : Taken) {b : Taken} → Some b ≡ if_taken t → (b ≡ t) × (b.form ≡ 45 → ⊥)
-taken-some t h = taken-by (eqb t.form 45) refl h
+module _ (t : Token) (b : Reads) where
+  ok-colon : (z : Option ℕ) {r : Reads} → Ok r ≡ or_colon z b → (r ≡ b) × (z ≡ None)
+  ok-colon None e = (cc, refl)
+  ok-colon (Some c) e = cc
 
-none-by : (t : Taken) (z : Bool) → eqb t.form 45 ≡ z → None ≡ cond z None (Some t) → t.form ≡ 45
-none-by t true e h = eqb-true t.form 45 e
-none-by t false e h = cc
+  err-colon : (z : Option ℕ) {p : ℕ} → Err p ≡ or_colon z b → z ≡ Some p
+  err-colon None e = cc
+  err-colon (Some c) e = cc
 
-pub taken-none : (t : Taken) → None ≡ if_taken t → t.form ≡ 45
-taken-none t h = none-by t (eqb t.form 45) refl h
+  ok-form : (z : Bool) → eqb b.form 45 ≡ z → {r : Reads} → Ok r ≡ cond z (Err t.at) (or_colon t.colon b) → TakenBy t b r
+  ok-form true q e = cc
+  ok-form false q e =
+      let k = ok-colon t.colon e in
+      record { is = k.0; some = λ f. eqb-false b.form 45 q (sym (ap (λ (x : Reads). x.form) k.0) ∙ f); bare = k.1 }
+
+  pub ok-accepted : (z : Bool) {r : Reads} → Ok r ≡ accepted z t b → TakenBy t b r
+  unfolding accepted
+  ok-accepted true e = cc
+  ok-accepted false e = ok-form (eqb b.form 45) refl e
+
+  pub no_colon-accepted : (z : Bool) {r : Reads} → Ok r ≡ accepted z t b → z ≡ false
+  unfolding accepted
+  no_colon-accepted true e = cc
+  no_colon-accepted false e = refl
+
+-- and the place at fault
+module _ (o : Op) (live : Live) (place : ℕ) {s : List ℕ} {n : ℕ} {t : Token} (k : NextToken s n t) (y : stops t.sort ≡ false) (b : Reads)
+    (q : b ≡ taken_at (operation o).number live place (item_kinds (item_of s t))) where
+  abbrev At : ℕ → Type 0
+  At p = fault_of (argument_faults o live place (statement_at s n)) ≡ Some p
+
+  err-form : {p : ℕ} → is colon (item_of s t) ≡ false → (z : Bool) → eqb b.form 45 ≡ z → Err p ≡ cond z (Err t.at) (or_colon t.colon b) → At p
+  err-form c true f e = unlisted-here o live place k y c b q (eqb-true b.form 45 f) ∙ cc
+  err-form c false f e = colon-after-argument o live place k y c b q (eqb-false b.form 45 f) (err-colon t b t.colon e)
+
+  pub err-accepted : {p : ℕ} (z : Bool) → is colon (item_of s t) ≡ z → Err p ≡ accepted z t b → At p
+  unfolding accepted
+  err-accepted true c e = colon-here o live place k y c ∙ cc
+  err-accepted false c e = err-form c (eqb b.form 45) refl e
 
 -- 02 of an instruction: an argument is missing, or what is at fault among them
 pub judged-so : {s : List ℕ} {t : Token} → Stands s t → (o : Op) {f : Fault} → fault_of (argument_faults o Live.Both 0 (statement_at s t.next)) ≡ f

@@ -1,10 +1,12 @@
 -- The arguments of an instruction: what their reader promises.
-use Rattle.std.specs.Prelude.{◌≡◌, Bool, cond, List, [], ◌∷◌, ◌++◌, ℕ, ◌+◌, ◌-◌, ◌≤◌, min, ltb, length, drop}
+use Rattle.std.specs.Prelude.{◌≡◌, Bool, cond, List, [], ◌∷◌, ◌++◌, ℕ, ◌+◌, ◌-◌, ◌≤◌, min, eqb, ltb, length, drop}
 use Rattle.statements.specs.Checks.{clean, worst}
 use Rattle.statements.specs.Faults.{lower}
 use Rattle.forms.specs.declared.Live.{Live}
 use Rattle.forms.specs.Forms.{most_of, least_of}
-use Rattle.forms.specs.Reading.{lists_at}
+use Rattle.forms.specs.declared.Taken.{Taken}
+use Rattle.forms.specs.Reading.{Reads, lists_at, read_as, taken_at}
+use Rattle.scanner.specs.Sorts.{sort_in}
 use Rattle.language.specs.Instructions.{operation, operator_of}
 use Rattle.language.specs.Limits as limit
 use Rattle.language.specs.Program.{Op}
@@ -12,11 +14,11 @@ use Rattle.lexer.specs.declared.Token.{Token}
 use Rattle.lexer.specs.Tokens.{Stands}
 use Rattle.lists.specs.Lists.{each}
 use Rattle.statements.specs.Faults.{Fault}
-use Rattle.std.specs.Prelude.{None, Some}
+use Rattle.std.specs.Prelude.{Option, None, Some, Result, Ok, Err}
 use Rattle.statements.specs.StatementAt.{statement_at, fault_of}
 use Rattle.heads.specs.Heads.{EndedBy}
 use Rattle.syntax.specs.ArgumentForms.{Argument, arguments_in, arguments, read_by, of_form, most, least}
-use Rattle.syntax.specs.Items.{Item, is, places}
+use Rattle.syntax.specs.Items.{Item, is, same_sort, places}
 use Rattle.syntax.specs.Items.Sort.{colon}
 use Rattle.arguments.specs.Valued.{ValuesRead}
 use Rattle.arguments.specs.declared.Arguments.{Arguments}
@@ -49,6 +51,21 @@ missing_or number at count f = cond (ltb count (least_of number)) (Some at) f
 -- the lowest place in excess, with one more where there is one
 abbrev pub with_excess : Fault → Bool → ℕ → Fault
 with_excess over more at = cond more (lower over (Some at)) over
+
+-- what is taken by the item of the token t at a place, by the set of the forms that it reads as; or the place at fault
+abbrev pub or_colon : Option ℕ → Reads → Result Reads ℕ
+or_colon None t = Ok t
+or_colon (Some c) t = Err c
+
+unfoldable pub accepted : Bool → Token → Reads → Result Reads ℕ
+accepted is_colon t b = cond is_colon (Err t.at) (cond (eqb b.form 45) (Err t.at) (or_colon t.colon b))
+
+abbrev pub as_read : Result Taken ℕ → Result Reads ℕ
+as_read (Ok t) = Ok (read_as t)
+as_read (Err p) = Err p
+
+abbrev pub Accepts : ℕ → Live → ℕ → Token → ℕ → Result Taken ℕ → Type 0
+Accepts number live place t kinds r = as_read r ≡ accepted (same_sort colon (sort_in t.sort)) t (taken_at number live place kinds)
 
 -- the items from n on, after others whose questions 14 to 16 are the number w
 pub record Leaves (s : List ℕ) (n w : ℕ) : Type 0 where

@@ -1,5 +1,5 @@
 -- The items of a statement from one to the next: the numbers of questions 14 to 16, the end; and of those that are left on a refusal, the arguments.
-use Rattle.std.specs.Prelude.{◌≡◌, Bool, not, ◌&&◌, eqb, drop}
+use Rattle.std.specs.Prelude.{◌≡◌, Bool, ◌&&◌, drop}
 use Rattle.std.proofs.Math.Path.{refl, ap}
 use Rattle.std.proofs.Common.{sym, ◌∙◌, arith, leb-true, leb-false}
 use Rattle.std.proofs.Math.Bool.{true, false, cond}
@@ -25,7 +25,7 @@ use Rattle.syntax.specs.ArgumentForms.{arguments_in}
 use Rattle.syntax.specs.Items.{Item, places}
 use Rattle.syntax.specs.Verdict.{lowest}
 use Rattle.arguments.specs.Arguments.{with_excess, Leaves, ReadsLeft}
-use Rattle.arguments.specs.CountLaws.{arguments-on}
+use Rattle.arguments.specs.CountLaws.{is_argument, arguments-on}
 
 -- ---- any items
 
@@ -117,7 +117,7 @@ module _ {s : List ℕ} {n skip begun i c w : ℕ} {over : Fault} {t : Token} (l
 
   module _ (z : stops t.sort ≡ false) where
     abbrev b : Bool
-    b = not (eqb 2 t.sort)
+    b = is_argument (item_of s t)
 
     abbrev js : List Item
     js = arguments_in (statement_at s t.next)

@@ -1,6 +1,6 @@
 -- One pass over the items after an instruction's operator: what is known of those before a place.
 use Rattle.std.proofs.Math.Path.{◌≡◌, refl, ap}
-use Rattle.std.proofs.Common.{sym, ◌∙◌, subst, add-one, eqb→eq, leb→le, length-append, eqb-true, ne_eqb, le-ltb}
+use Rattle.std.proofs.Common.{sym, ◌∙◌, subst, add-one, eqb→eq, leb→le, length-append, eqb-true, le-ltb}
 use Rattle.std.specs.Prelude.{Bool, ◌&&◌, ◌||◌, ℕ, zero, suc, ◌+◌, ◌-◌, ◌≤◌, ◌<◌, min, eqb, leb, ltb, drop}
 use Rattle.std.proofs.Math.Bool.{true, false, cond, not}
 use mathlib.Core.List.{List, [], ◌∷◌, ◌++◌, map, map-append, append_assoc, append-nil}
@@ -13,10 +13,9 @@ use Rattle.std.proofs.Math.Seq.{drop-append-add, drop-nil}
 use Rattle.statements.specs.Checks.{token_code}
 use Rattle.heads.proofs.Below.RowLaws.{or_right}
 use Rattle.forms.specs.declared.Live.{Live}
-use Rattle.forms.specs.declared.Taken.{Taken}
 use Rattle.forms.specs.Forms.{listed, set_at, most_of, least_of}
 use Rattle.forms.specs.Kinds.{item_kinds}
-use Rattle.forms.specs.Reading.{lives_first, lives_second, lists_at, shared, taken, taken_at}
+use Rattle.forms.specs.Reading.{Reads, lives_first, lives_second, lists_at, shared, taken, taken_at}
 use Rattle.forms.specs.ReadingLaws.{argument-read, taken-reads, lists-first, set-listed, most-listed, least-listed}
 use Rattle.forms.specs.KindLaws.{item-kind}
 use Rattle.forms.specs.SetLaws.{by-operator, shared-some}
@@ -34,7 +33,7 @@ use Rattle.statements.specs.StatementAt.{statement_at, stops, fault_of}
 use Rattle.statements.specs.StatementLaws.{at-stop, at_item}
 use Rattle.syntax.specs.ArgumentForms.{word_reads, reads, Argument, alternatives, arguments_in, arguments, read_by, most}
 use Rattle.syntax.specs.Items.{Item, is, places}
-use Rattle.syntax.specs.Items.Sort.{text}
+use Rattle.syntax.specs.Items.Sort.{colon, text}
 use Rattle.arguments.specs.declared.Arguments.{Arguments}
 use Rattle.arguments.specs.declared.Left.{Left}
 use Rattle.arguments.specs.declared.Value.{Value}
@@ -167,7 +166,7 @@ module _ {s : List ℕ} {n m begun i : ℕ} {live : Live} {place : ℕ} {v : Lis
         let q : most o ≡ length own + (most_of m - place) = omega (arith, most-here, l.below, own-count) in
         rw (inside, q) (drop-append-add own left (most_of m - place))
 
-  module _ {t : Token} (k : NextToken s i t) (z : stops t.sort ≡ false) (c : t.sort ≡ 2 → ⊥) {kinds : ℕ} {b : Taken} (e : b ≡ taken_at m live place kinds) (f : kinds ≡ item_kinds (item_of s t))
+  module _ {t : Token} (k : NextToken s i t) (z : stops t.sort ≡ false) (c : is colon (item_of s t) ≡ false) {kinds : ℕ} {b : Reads} (e : b ≡ taken_at m live place kinds) (f : kinds ≡ item_kinds (item_of s t))
       (g : b.form ≡ 45 → ⊥) where
     by : (o : Op) → (operation o).number ≡ m → b ≡ taken_at (operation o).number live place (item_kinds (item_of s t))
     by o h = turned live place e f o h
@@ -182,7 +181,7 @@ module _ {s : List ℕ} {n m begun i : ℕ} {live : Live} {place : ℕ} {v : Lis
     pub reads_so : (o : Op) → (operation o).number ≡ m → T (reads (item_of s t) b.form)
     reads_so o h = subst T (sym (taken-reads (item_of s t) o place live (sym (ap (λ x. x.form) (by o h))) g)) tt
 
-    pub gathering-on : (o : Op) → (operation o).number ≡ m → t.colon ≡ 0 → {x : Value} → x.at ≡ t.at → Stood s (argument_of s t b.form) x.argument → {j : ℕ} → j ≡ place → {v' : List Value} → v' ≡ set v j x
+    pub gathering-on : (o : Op) → (operation o).number ≡ m → t.colon ≡ None → {x : Value} → x.at ≡ t.at → Stood s (argument_of s t b.form) x.argument → {j : ℕ} → j ≡ place → {v' : List Value} → v' ≡ set v j x
         → {low' : ℕ} → low' ≡ min low (token_code t) → Gathering s n m begun t.next b.live (place + 1) v' low'
     gathering-on o₁ h₁ y {x} at-is w {j} e₁ {v'} q u =
         record {
@@ -195,7 +194,7 @@ module _ {s : List ℕ} {n m begun i : ℕ} {live : Live} {place : ℕ} {v : Lis
         }
       where
         args : arguments_in (statement_at s i) ≡ item_of s t ∷ arguments_in (statement_at s t.next)
-        args = rw (ne_eqb 2 t.sort (λ d. c (sym d))) at (arguments-on k z)
+        args = rw c at (arguments-on k z)
 
         next : (o : Op) → (operation o).number ≡ m → Before s n o t.next b.live (place + 1) v'
         next o h =

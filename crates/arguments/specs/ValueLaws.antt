@@ -1,14 +1,13 @@
 -- The value of an argument, form by form.
-use Rattle.std.specs.Prelude.{◌≡◌, Bool, true, false, ◌&&◌, ℕ, ◌+◌, ◌*◌, ◌^◌, ◌/◌, ◌%◌, ◌≤◌, ◌<◌, eqb, length, drop, nat_abs}
+use Rattle.std.specs.Prelude.{◌≡◌, Bool, true, false, ◌&&◌, ℕ, ◌+◌, ◌*◌, ◌^◌, ◌≤◌, ◌<◌, eqb, is_some, length, drop, nat_abs}
 use Rattle.std.proofs.Math.Path.{refl, sym, ap}
 use Rattle.std.proofs.Common.{◌∙◌, true≢false, arith, leb→le}
 use Rattle.std.proofs.Math.Bool.{and-false}
 use mathlib.Core.List.{List, []}
 use Rattle.std.proofs.Math.Dec.{T}
-use borrow.Author.Tests.{eqb-true, eqb-false}
+use borrow.Author.Tests.{eqb-false}
 use Rattle.heads.proofs.Below.AcceptanceArgumentLaws.{first_is, number-form}
 use Rattle.heads.proofs.Below.ReadingLaws.{Other, by_form, other-reads, text-reads, as-word}
-use Rattle.cells.specs.Cells as Cells
 use Rattle.heads.specs.Below.Drafting.{draft_arg}
 use Rattle.forms.specs.KindLaws.{indexed-name, indexed-class, class-name, name-number}
 use Rattle.forms.proofs.Readings.{class-kind, letter-kind, name-kind, number-kind, no_kind}
@@ -21,23 +20,25 @@ use Rattle.layout.specs.Cells.{code}
 use Rattle.layout.specs.Table.{letter_place, class_mask}
 use Rattle.lexer.specs.declared.Token.{Token}
 use Rattle.lexer.specs.Tokens.{chars_of, word_of, item_of}
-use Rattle.lexer.proofs.Finding.{is-sort, word-chars, text-token-chars, no-chars}
+use Rattle.lexer.proofs.Finding.{one_sort, is_spelled, word-chars, text-token-chars, no-chars}
 use Rattle.lists.specs.Lists.{head_or}
 use Rattle.lists.specs.ListLaws.{T-left, T-right}
-use Rattle.spelling.specs.Spelling.{text_in}
 use Rattle.syntax.specs.ArgumentForms.{word_reads, reads, is_index, is_indexed, letter_of}
-use Rattle.syntax.specs.Items.{Item, is}
+use Rattle.syntax.specs.Items.{Item, is, same_sort}
 use Rattle.syntax.specs.Items.Sort.{word, text}
 use Rattle.syntax.proofs.LetterLaws.{letter_of-code}
-use Rattle.table.specs.declared.Argument.{Argument}
-use Rattle.table.specs.declared.Argument.TheVariants.{Nothing, Indexed, Label, Switch, Class, Number}
 use Rattle.table.specs.Denote as denote
-use Rattle.words.specs.declared.Lettered as spelt
-use Rattle.words.specs.declared.Numeral.{Numeral}
+use Rattle.words.specs.declared.Lettered.{Lettered}
 use Rattle.words.specs.Words.{is_class, class_of, numeral_of, indexed_of}
 use Rattle.table.specs.declared.Letter.{Letter as Named}
-use Rattle.arguments.specs.Valued.{is_text, is_number, text_to, NamesText, Spells, Drafted, Stood, argument_of, argument_value, LetterValue, OwnValue, WordKind, Found, ItemKind}
+use Rattle.arguments.specs.Valued.{is_text, is_number, quoted_of, NamesText, Spells, Drafted, Stood, argument_of, argument_value, LetterValue, OwnValue, WordKind, Found, ItemKind}
 use Rattle.arguments.specs.declared.Kind.{Kind}
+use Rattle.arguments.specs.declared.ReadArgument.{ReadArgument}
+use Rattle.arguments.specs.declared.ReadArgument.TheVariants.{Nothing, Indexed, Label, Switch, Class, Number}
+use Rattle.forms.specs.declared.Forms.{Forms}
+use Rattle.scanner.specs.Sorts.{sort_in}
+use Rattle.scanner.specs.declared.Sort.{Sort}
+use Rattle.std.specs.Prelude.{Option, None, Some}
 
 -- ---- words
 
@@ -49,7 +50,18 @@ module _ (w : List ℕ) where
   abbrev by_first : Letter
   by_first = letter_of (head_or 0 w)
 
-  number-code : T (numeral w && in_range (value_of w)) → numeral_of w ≡ Numeral.Code (code (value_of w))
+  abbrev lettered_by : ℕ → ℕ → Option Lettered
+  lettered_by k n = Some (record { place = k; index = n })
+
+  abbrev place_in : Option Lettered → ℕ
+  place_in None = 0
+  place_in (Some l) = l.place
+
+  abbrev index_in : Option Lettered → ℕ
+  index_in None = 0
+  index_in (Some l) = l.index
+
+  number-code : T (numeral w && in_range (value_of w)) → numeral_of w ≡ Some (code (value_of w))
   unfolding numeral_of
   number-code h = rw (holds (numeral w && in_range (value_of w)) h)
 
@@ -57,47 +69,51 @@ module _ (w : List ℕ) where
   unfolding class_of
   class-is h = rw (holds (is_class w) h)
 
-  letter_is : T (is_indexed w by_first) → indexed_of w ≡ spelt.Lettered.At (letter_place by_first) (amount 0 (drop 1 w))
+  letter_is : T (is_indexed w by_first) → indexed_of w ≡ lettered_by (letter_place by_first) (amount 0 (drop 1 w))
   unfolding indexed_of
   letter_is h = rw (holds (is_indexed w by_first) h)
 
   -- the own value of a word, by what it is
+  abbrev bits : ℕ → Forms
+  bits n = record { bits = n }
+
   module _ (e : identifier w ≡ true) where
-    own_name : {x : Argument} → (T (is_class w) → x ≡ Class (class_of w)) → (T (is_indexed w by_first) → LetterValue w x) → OwnValue w x
+    own_name : {x : ReadArgument} → (T (is_class w) → x ≡ Class (class_of w)) → (T (is_indexed w by_first) → LetterValue w x) → OwnValue w x
     own_name f g =
         record { number = λ h. absurd (rw (name-number w (rw e tt)) at (T-left (numeral w) (in_range (value_of w)) h)); class = f; letter = g }
 
-    pub class-read : is_class w ≡ true → {m : ℕ} → m ≡ class_of w → WordKind w (record { set = 237568; own = Class m })
+    pub class-read : is_class w ≡ true → {m : ℕ} → m ≡ class_of w → WordKind w (record { set = bits 237568; own = Class m })
     class-read c q = record { set_is = class-kind w e c; own_is = own_name (λ h. ap Class q) (λ h. absurd (indexed-class by_first w h (rw c tt))) }
 
     module _ (c : is_class w ≡ false) where
-      pub name-read : spelt.Lettered.Not ≡ indexed_of w → WordKind w (record { set = 229376; own = Nothing })
+      pub name-read : None ≡ indexed_of w → WordKind w (record { set = bits 229376; own = Nothing })
       name-read q =
           record {
             set_is = name-kind w e c q;
             own_is = own_name (λ h. absurd (rw c at h)) (λ h. absurd (let f = letter_is h in let y : ◌≡◌ {A = ℕ} 0 1 = cc in omega arith));
           }
 
-      pub letter-read : {place n a b bit : ℕ} → spelt.Lettered.At place n ≡ indexed_of w → bit ≡ 2 ^ place → b ≡ place → {l : Named} → denote.letter_of l ≡ denote.letter_at b
-          → Cells.Number n 256 a → WordKind w (record { set = 229376 + bit; own = Indexed l a })
-      letter-read {place} {n} {a} q i p {l} k u =
+      pub letter-read : {place n a b : ℕ} {f : Forms} → n < 256 → lettered_by place n ≡ indexed_of w → f.bits ≡ 229376 + 2 ^ place → b ≡ place → {l : Named} → denote.letter_of l ≡ denote.letter_at b
+          → a ≡ n → WordKind w (record { set = f; own = Indexed l a })
+      letter-read {place} {n} {a} low q i p {l} k u =
           record {
-            set_is = ap (λ (m : ℕ). 229376 + m) i ∙ (letter-kind w e c q).1;
+            set_is = i ∙ (letter-kind w e c q).1;
             own_is = own_name (λ h. absurd (rw c at h)) (λ h.
                 let f = letter_is h in
-                let r : place ≡ letter_place by_first = cc in
-                let m : n ≡ amount 0 (drop 1 w) = cc in
-                record { letter = l; index = a; is = refl; letter_is = k ∙ ap denote.letter_at (p ∙ r) ∙ letter-back by_first; index_is = u.is ∙ m; small = u.most });
+                let same : lettered_by place n ≡ lettered_by (letter_place by_first) (amount 0 (drop 1 w)) = q ∙ f in
+                let r : place ≡ letter_place by_first = ap place_in same in
+                let m : n ≡ amount 0 (drop 1 w) = ap index_in same in
+                record { letter = l; index = a; is = refl; letter_is = k ∙ ap denote.letter_at (p ∙ r) ∙ letter-back by_first; index_is = u ∙ m; small = omega (arith, u, low) });
           }
 
   module _ (e : identifier w ≡ false) where
-    own-other : {x : Argument} → (T (numeral w && in_range (value_of w)) → x ≡ Number (code (value_of w))) → OwnValue w x
+    own-other : {x : ReadArgument} → (T (numeral w && in_range (value_of w)) → x ≡ Number (code (value_of w))) → OwnValue w x
     own-other f = record { number = f; class = λ h. absurd (rw e at (class-name w h)); letter = λ h. absurd (rw e at (indexed-name by_first w h)) }
 
-    pub number_read : {v : ℕ} → Numeral.Code v ≡ numeral_of w → WordKind w (record { set = 4096; own = Number v })
+    pub number_read : {v : ℕ} → Some v ≡ numeral_of w → WordKind w (record { set = bits 4096; own = Number v })
     number_read q = record { set_is = number-kind w e q; own_is = own-other (λ h. let f = number-code h in cc) }
 
-    pub nothing_read : Numeral.Not ≡ numeral_of w → WordKind w (record { set = 0; own = Nothing })
+    pub nothing_read : None ≡ numeral_of w → WordKind w (record { set = bits 0; own = Nothing })
     nothing_read q = record { set_is = no_kind w e q; own_is = own-other (λ h. let f = number-code h in cc) }
 
 -- ---- an argument
@@ -110,10 +126,7 @@ empty-reads =
     (λ f o h. let r = other-reads [] f o h in T-right (eqb 0 (letter_code r.by)) (is_index (indices (use_of r.by).var) []) r.indexed)
 
 module _ {s : List ℕ} {t : Token} (a : Found s t) where
-  -- the marks of a token fit a number
-  pub text-mark-low : t.at * 65536 + t.end ≤ 2147516416
-  text-mark-low = omega (arith, a.stands.own, a.stands.behind, a.stands.most, a.low)
-
+  -- the mark of a token fits a number
   pub mark-low : (t.at ≤ 32768) × (t.len ≤ 32768)
   mark-low = (omega (arith, a.stands.own, a.stands.behind, a.stands.most, a.low), omega (arith, a.stands.own, a.stands.behind, a.stands.most, a.low))
 
@@ -126,15 +139,12 @@ module _ {s : List ℕ} {t : Token} (a : Found s t) where
   abbrev v : List ℕ
   v = word_of s t
 
-  pub names-text : t.sort ≡ 4 → NamesText s (t.at * 65536 + t.end) w
+  pub names-text : t.sort ≡ Some Sort.Text → NamesText s (quoted_of t) w
   names-text e =
-      let m = t.at * 65536 + t.end in
-      let p : m / 65536 ≡ t.at = omega (arith, a.stands.behind, a.stands.most, a.low) in
-      let q : m % 65536 ≡ t.end = omega (arith, a.stands.behind, a.stands.most, a.low) in
-      let some : t.at < t.end = a.stands.some (λ z. omega (arith, z, e)) in
+      let some : t.at < t.end = a.stands.some (ap is_some e) in
       record {
-        between = record { order = omega (arith, p, q, some); most = omega (arith, q, a.stands.behind, a.stands.most) };
-        is = ap (λ (k : ℕ). text_in s (k + 1) (text_to m)) p ∙ ap (text_in s (t.at + 1)) q ∙ sym (text-token-chars s t e);
+        between = record { order = omega (arith, some); most = omega (arith, a.stands.behind, a.stands.most) };
+        is = sym (text-token-chars s t e);
       }
 
   -- what does not read as a text is a word
@@ -142,14 +152,22 @@ module _ {s : List ℕ} {t : Token} (a : Found s t) where
     no-text-here : is text i ≡ false
     no-text-here = text-reads i f r ∙ e
 
-    is_word : t.sort ≡ 1
-    is_word =
-        elim (eqb t.sort 1) as (λ b. eqb t.sort 1 ≡ b → t.sort ≡ 1) [
-          | true ↦ λ q. eqb-true t.sort 1 q
-          | false ↦ λ q.
-              let none : w ≡ [] = no-chars s t (eqb-false t.sort 1 q) (λ d. true≢false (sym (is-sort text a.stands ∙ ap (eqb 4) d) ∙ no-text-here)) in
-              absurd (empty-reads f (rw none at (as-word i f e r)))
-        ] refl
+    spelled_here : is_spelled t.sort ≡ false → ⊥
+    spelled_here q = let none : w ≡ [] = no-chars s t q in empty-reads f (rw none at (as-word i f e r))
+
+    word_by : (k : Option Sort) → t.sort ≡ k → t.sort ≡ Some Sort.Word
+    word_by None q = absurd (spelled_here (ap is_spelled q))
+    word_by (Some Sort.Word) q = q
+    word_by (Some Sort.Colon) q = absurd (spelled_here (ap is_spelled q))
+    word_by (Some Sort.End) q = absurd (spelled_here (ap is_spelled q))
+    word_by (Some Sort.Text) q = absurd (true≢false (sym (ap (λ k. same_sort text (sort_in k)) q) ∙ no-text-here))
+    word_by (Some Sort.Wrong) q = absurd (spelled_here (ap is_spelled q))
+
+    is_word : t.sort ≡ Some Sort.Word
+    is_word = word_by t.sort refl
+
+    word-here : is word i ≡ true
+    word-here = ap (λ k. same_sort word (sort_in k)) is_word
 
     chars-here : w ≡ v
     chars-here = word-chars s t is_word
@@ -157,7 +175,7 @@ module _ {s : List ℕ} {t : Token} (a : Found s t) where
     word-there : T (word_reads v f)
     word-there = rw chars-here at (as-word i f e r)
 
-    plain : (f ≡ 110 → ⊥) → (x : Argument) → is_text x ≡ false → is_number x ≡ false → Spells s w x → (length w ≤ limit.item → Drafted w x (draft_arg (argument_of s t f))) → Stood s (argument_of s t f) x
+    plain : (f ≡ 110 → ⊥) → (x : ReadArgument) → is_text x ≡ false → is_number x ≡ false → Spells s w x → (length w ≤ limit.item → Drafted w x (draft_arg (argument_of s t f))) → Stood s (argument_of s t f) x
     plain n x p q k d =
         let none : (is word i && numeral w) ≡ false =
         elim (numeral w) as (λ b. numeral w ≡ b → (is word i && b) ≡ false) [
@@ -174,9 +192,9 @@ module _ {s : List ℕ} {t : Token} (a : Found s t) where
     text-stood : ValueAs 116
     unfolding draft_arg
     text-stood r =
-        let e : t.sort ≡ 4 = sym (eqb-true 4 t.sort (sym (is-sort text a.stands) ∙ text-reads i 116 r)) in
-        rw (g.text_is e) (record {
-          entered = record { text_is = text-reads i 116 r; number_is = ap (λ (b : Bool). b && numeral w) (is-sort word a.stands ∙ ap (eqb 1) e); spelt = names-text e };
+        let e : t.sort ≡ Some Sort.Text = one_sort (Some Sort.Text) t.sort (text-reads i 116 r) in
+        rw (g.text_is (text-reads i 116 r)) (record {
+          entered = record { text_is = text-reads i 116 r; number_is = ap (λ k. same_sort word (sort_in k) && numeral w) e; spelt = names-text e };
           drafted = λ h. refl;
         })
 
@@ -185,10 +203,10 @@ module _ {s : List ℕ} {t : Token} (a : Found s t) where
     number-stood r =
         let h : T (numeral v && in_range (value_of v)) = word-there 110 refl r in
         let chars = chars-here 110 refl r in
-        rw ((g.word_is (is_word 110 refl r)).number h) (record {
+        rw ((g.word_is (word-here 110 refl r)).number h) (record {
           entered = record {
             text_is = no-text-here 110 refl r;
-            number_is = ap (λ (b : Bool). b && numeral w) (is-sort word a.stands ∙ ap (eqb 1) (is_word 110 refl r)) ∙ ap numeral chars ∙ holds (numeral v) (T-left (numeral v) (in_range (value_of v)) h);
+            number_is = ap (λ k. same_sort word (sort_in k) && numeral w) (is_word 110 refl r) ∙ ap numeral chars ∙ holds (numeral v) (T-left (numeral v) (in_range (value_of v)) h);
             spelt = record {
               is = ap (λ (u : List ℕ). code (value_of u)) (sym chars);
               small = rw chars (leb→le (nat_abs (value_of v)) limit.size (T-right (numeral v) (in_range (value_of v)) h));
@@ -201,7 +219,7 @@ module _ {s : List ℕ} {t : Token} (a : Found s t) where
     unfolding draft_arg word_reads is_class
     class-stood r =
         let h : T (is_class v) = word-there 99 refl r in
-        rw ((g.word_is (is_word 99 refl r)).class h)
+        rw ((g.word_is (word-here 99 refl r)).class h)
         (plain 99 refl r (λ q. omega (arith, q)) (Class (class_of v)) refl refl tt (λ l. (refl, class-is v h ∙ ap (λ (u : List ℕ). class_mask (classes u)) (sym (chars-here 99 refl r)))))
 
     -- a mark is the place 64-fold and the length
@@ -228,11 +246,11 @@ module _ {s : List ℕ} {t : Token} (a : Found s t) where
     letter-stood f o r =
         let l = other-reads v f o (word-there f o.no_t r) in
         let e : letter_of (head_or 0 v) ≡ l.by = ap letter_of (first_is v f l) ∙ letter_of-code l.by in
-        let u = (g.word_is (is_word f o.no_t r)).letter (rw e l.indexed) in
+        let u = (g.word_is (word-here f o.no_t r)).letter (rw e l.indexed) in
         let chars = chars-here f o.no_t r in
         rw (o.no_l, o.no_w, o.no_x, u.is)
         (plain f o.no_t r (λ q. eqb-false f 110 o.no_n q) (Indexed u.letter u.index) refl refl tt
         (λ h. (rw (o.no_t, o.no_n, o.no_c, o.no_l, o.no_w, o.no_x, chars, u.letter_is, u.index_is), u.small)))
 
-    pub value-stood : {form : ℕ} → T (reads i form) → {x : Argument} → x ≡ argument_value t form k.own → Stood s (argument_of s t form) x
+    pub value-stood : {form : ℕ} → T (reads i form) → {x : ReadArgument} → x ≡ argument_value t form k.own → Stood s (argument_of s t form) x
     value-stood {form} r q = rw q (by_form ValueAs text-stood number-stood class-stood label-stood named-stood indexed-stood letter-stood form r)

@@ -1,25 +1,43 @@
 // The arguments of an instruction: one pass over the items after its operator gives its faults and its arguments by value.
 #![tactic(auto)]
 
-ghost use Rattle.std.specs.Prelude.{◌≡◌, ◌≤◌};
-ghost use Rattle.arguments.specs.Arguments.{with_excess, missing_or, Leaves, ReadsLeft, Refusable, Refuses, Operates, ReadsArguments};
+ghost use Rattle.std.specs.Prelude.{◌≡◌, true, ◌≤◌};
+ghost use Rattle.forms.specs.Letters.{letter};
+ghost use Rattle.language.specs.Program.{identifier};
+ghost use Rattle.arguments.specs.Arguments.{with_excess, missing_or, Accepts, Leaves, ReadsLeft, Refusable, Refuses, Operates, ReadsArguments};
 ghost use Rattle.arguments.specs.Valued.{no_value, argument_value, WordKind, Found, ItemKind};
 
-use cells::wide;
-use forms::{Live, least, letter_bit, most, take_argument};
+use forms::{Form, Forms, Live, Taken, least, most, take_argument};
 use heads::following;
 use lexer::{Token, next_item};
-use scanner::{COLON, TEXT, WORD};
+use scanner::Sort;
 use statements::{Fault, lower, stops, worse};
-use table::{Argument, letter_by};
-use words::{Lettered, Numeral};
+use table::{Letter, letter_by};
 
-// An argument and the place of its item. While a text is read, a label or a switch is the mark of its name, its place 64-fold and its length; and a text is
-// the place of its item 65,536-fold and the place of its closing apostrophe.
+// A text: the place of its item and that of its closing apostrophe.
+#[derive(Clone, Copy, Debug, PartialEq, Eq)]
+pub struct Quoted {
+    pub at: usize,
+    pub end: usize,
+}
+
+// An argument while a text is read. A label or a switch is the mark of its name, its place 64-fold and its length, as a draft's cells have it.
+#[derive(Clone, Copy)]
+pub enum ReadArgument {
+    Nothing,
+    Indexed(Letter, usize),
+    Label(usize),
+    Switch(usize),
+    Class(u8),
+    Text(Quoted),
+    Number(u32),
+}
+
+// An argument and the place of its item.
 #[derive(Clone, Copy)]
 pub struct Value {
     pub at: usize,
-    pub argument: Argument,
+    pub argument: ReadArgument,
 }
 
 // An instruction's three arguments, Nothing where there is none, and the lowest places at fault of questions 01 and 02. Where one of them has a fault, the
@@ -43,20 +61,20 @@ struct Left {
 }
 
 // What an item reads as: the set of its forms; and its own value as a text, a number, a class or an indexed letter, otherwise Nothing.
-// No Option around `own`: Argument has Nothing for none, and `value_by` hands `own` on as the argument.
+// No Option around `own`: ReadArgument has Nothing for none, and `value_by` hands `own` on as the argument.
 #[derive(Clone, Copy)]
 struct Kind {
-    set: u32,
-    own: Argument,
+    set: Forms,
+    own: ReadArgument,
 }
 
-// For no argument. No Option: Argument has Nothing for none, as the table has, and an Option would tell it a second time.
+// For no argument. No Option: ReadArgument has Nothing for none, as the table has, and an Option would tell it a second time.
 fn no_value() -> Value
     ensures { result ≡ no_value }
 {
     Value {
         at: 0,
-        argument: Argument::Nothing,
+        argument: ReadArgument::Nothing,
     }
 }
 
@@ -87,10 +105,37 @@ fn read_left(text: &[u8], n: usize, skip: usize, worst: usize) -> Left
                 next: following(t),
             };
         }
-        over = with_excess(over, !(COLON == t.sort) & (skip <= count), t.at);
-        count += usize::from(!(COLON == t.sort));
+        let argument = !t.is(Sort::Colon);
+        over = with_excess(over, argument & (skip <= count), t.at);
+        count += usize::from(argument);
         low = worse(low, t);
         i = t.next;
+    }
+}
+
+// What a word reads as that is a name.
+fn name_kind(w: &[u8]) -> Kind
+    requires { identifier w.now ≡ true }
+    ensures { WordKind w.now result }
+{
+    if words::is_class(w) {
+        return Kind {
+            set: Forms::NAMED_CLASS,
+            own: ReadArgument::Class(words::class_mask(w)),
+        };
+    }
+    match words::indexed(w) {
+        Some(letter) => Kind {
+            set: Forms::letter(letter.place).named(),
+            own: ReadArgument::Indexed(
+                letter_by(u32::from(letter.place)),
+                usize::from(letter.index),
+            ),
+        },
+        None => Kind {
+            set: Forms::NAME,
+            own: ReadArgument::Nothing,
+        },
     }
 }
 
@@ -99,31 +144,16 @@ fn word_kind(w: &[u8]) -> Kind
     ensures { WordKind w.now result }
 {
     if words::identifier(w) {
-        if words::is_class(w) {
-            return Kind {
-                set: forms::NAMED_CLASS,
-                own: Argument::Class(words::class_mask(w)),
-            };
-        }
-        return match words::indexed(w) {
-            Lettered::At(place, n) => Kind {
-                set: forms::NAME + letter_bit(place),
-                own: Argument::Indexed(letter_by(u32::from(place)), wide(n)),
-            },
-            Lettered::Not => Kind {
-                set: forms::NAME,
-                own: Argument::Nothing,
-            },
-        };
+        return name_kind(w);
     }
     match words::number_of(w) {
-        Numeral::Code(code) => Kind {
-            set: forms::NUMBER,
-            own: Argument::Number(code),
+        Some(code) => Kind {
+            set: Forms::NUMBER,
+            own: ReadArgument::Number(code),
         },
-        Numeral::Not => Kind {
-            set: 0,
-            own: Argument::Nothing,
+        None => Kind {
+            set: Forms::EMPTY,
+            own: ReadArgument::Nothing,
         },
     }
 }
@@ -133,29 +163,50 @@ fn item_kind(text: &[u8], t: Token) -> Kind
     requires { Found text.now t }
     ensures { ItemKind text.now t result }
 {
-    match t.sort {
-        TEXT => Kind {
-            set: forms::TEXT,
-            own: Argument::Text(t.at * 65536 + t.end),
-        },
-        WORD => word_kind(&text[t.at..t.end]),
-        _ => Kind {
-            set: 0,
-            own: Argument::Nothing,
-        },
+    if t.is(Sort::Text) {
+        return Kind {
+            set: Forms::TEXT,
+            own: ReadArgument::Text(Quoted {
+                at: t.at,
+                end: t.end,
+            }),
+        };
+    }
+    if t.is(Sort::Word) {
+        return word_kind(&text[t.at..t.end]);
+    }
+    Kind {
+        set: Forms::EMPTY,
+        own: ReadArgument::Nothing,
     }
 }
 
 // The value of an argument by the form that it is read by: the mark of a name, or its own value.
-fn value_by(t: Token, form: u8, own: Argument) -> Argument
+fn value_by(t: Token, form: Form, own: ReadArgument) -> ReadArgument
     requires { (t.at ≤ 32768) × (t.len ≤ 32768) }
-    ensures { result ≡ argument_value t form own }
+    ensures { result ≡ argument_value t (letter form) own }
 {
     let mark = t.at * 64 + t.len;
     match form {
-        b'l' => Argument::Label(mark),
-        b'w' | b'x' => Argument::Switch(mark),
+        Form::Label => ReadArgument::Label(mark),
+        Form::Nazwa | Form::Indeks => ReadArgument::Switch(mark),
         _ => own,
+    }
+}
+
+// What takes an item as an argument at a place, by the forms that it reads as; or the place at fault: that of the item, or of a colon behind it.
+fn accepted(op: u8, live: Live, place: u8, t: Token, kinds: Forms) -> Result<Taken, usize>
+    ensures { Accepts op live place t kinds.bits result }
+{
+    if t.is(Sort::Colon) {
+        return Err(t.at);
+    }
+    let Some(taken) = take_argument(op, live, place, kinds) else {
+        return Err(t.at);
+    };
+    match t.colon {
+        Some(colon) => Err(colon),
+        None => Ok(taken),
     }
 }
 
@@ -163,7 +214,7 @@ fn value_by(t: Token, form: u8, own: Argument) -> Argument
 fn missing_or(op: u8, at: usize, count: usize, fault: Fault) -> Fault
     ensures { result ≡ missing_or op at count fault }
 {
-    if count < wide(least(op)) {
+    if count < usize::from(least(op)) {
         Some(at)
     } else {
         fault
@@ -176,8 +227,8 @@ fn refuse(text: &[u8], at: usize, op: u8, place: u8, i: usize, p: usize, worst: 
     requires { Refusable text.now op place i worst }
     ensures { Refuses text.now at op place i p worst result }
 {
-    let before = wide(place);
-    let left = read_left(text, i, wide(most(op)) - before, worst);
+    let before = usize::from(place);
+    let left = read_left(text, i, usize::from(most(op)) - before, worst);
     Arguments {
         over: left.over,
         fault: missing_or(op, at, before + left.count, Some(p)),
@@ -192,7 +243,6 @@ pub fn read_arguments(text: &[u8], t: Token, op: u8, worst: usize) -> Arguments
     requires { Operates text.now t op worst }
     ensures { ReadsArguments text.now t op worst result }
 {
-    let at = t.at;
     let mut live = Live::Both;
     let mut place: u8 = 0;
     let mut values = [no_value(); 3];
@@ -203,22 +253,17 @@ pub fn read_arguments(text: &[u8], t: Token, op: u8, worst: usize) -> Arguments
         if stops(u.sort) {
             return Arguments {
                 over: None,
-                fault: missing_or(op, at, wide(place), None),
+                fault: missing_or(op, t.at, usize::from(place), None),
                 values,
                 worst: low,
                 next: following(u),
             };
         }
-        if u.sort == COLON {
-            return refuse(text, at, op, place, i, u.at, low);
-        }
         let k = item_kind(text, u);
-        let Some(a) = take_argument(op, live, place, k.set) else {
-            return refuse(text, at, op, place, i, u.at, low);
+        let a = match accepted(op, live, place, u, k.set) {
+            Ok(a) => a,
+            Err(p) => return refuse(text, t.at, op, place, i, p, low),
         };
-        if u.colon != 0 {
-            return refuse(text, at, op, place, i, u.colon, low);
-        }
         values[usize::from(place)] = Value {
             at: u.at,
             argument: value_by(u, a.form, k.own),

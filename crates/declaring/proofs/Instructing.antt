@@ -10,7 +10,6 @@ use lib.ListN.{length, get_or, drop, length-map}
 use Rattle.names.proofs.Below.RowLaws.{append-none, drop-none}
 use Rattle.argument_cells.specs.Below.Valued.{nth, FirstValue, Valued}
 use Rattle.argument_cells.specs.Below.Value.{Value}
-use Rattle.cells.specs.Cells.{Number}
 use Rattle.names.specs.Below.Drafting.{draft_arg}
 use Rattle.names.specs.Below.DraftsMarks.{place_by}
 use Rattle.language.specs.Instructions.{operator_of}
@@ -30,7 +29,7 @@ use Rattle.argument_cells.specs.Below.Entering.{Held, EnterableValues}
 use Rattle.argument_cells.proofs.Below.EnteringRows.{row_at}
 use Rattle.syntax.specs.ArgumentForms.{Argument, arguments}
 use Rattle.syntax.specs.Questions.{beyond}
-use Rattle.table.specs.declared.Argument as table
+use Rattle.argument_cells.specs.Below.ReadArgument as read
 use Rattle.writing.specs.Writing.{HoldsProgram, kept_arg, Changes, Writes, InstrRoom, IsInstr, with_instr}
 use Rattle.writing.proofs.Adding.{kept_same}
 use Rattle.writing.proofs.Held.{code_count, label_count}
@@ -49,7 +48,7 @@ module _ (p : Program) (ls : List Label) where
 abbrev nth_arg : List Argument → ℕ → Arg
 nth_arg args k = get_or (map draft_arg args) k nothing
 
-no-drafts : (s : List ℕ) (x : table.Argument) → x ≡ table.Argument.Nothing → Drafts s x nothing
+no-drafts : (s : List ℕ) (x : read.ReadArgument) → x ≡ read.ReadArgument.Nothing → Drafts s x nothing
 no-drafts s x h = rw h (record { chars = []; short = omega arith; spelt = tt; drafted = refl })
 
 value-drafts : (s : List ℕ) (args : List Argument) (k : ℕ) (x : Value) → Each RightArgument args → FirstValue s (drop k args) x → Drafts s x.argument (nth_arg args k)
@@ -90,13 +89,13 @@ module _ {s : List ℕ} {i : Instruction} {ms c : List ℕ} (pre : Writable s i 
     unfolding with_labels
     code-then = code_count d (labelled pre.held.program) labels-held ∙ sym (code_count c pre.held.program pre.held.holds)
 
-    module _ {o x y z : ℕ} (w : Number number 256 o) (f : CellOf s (nth v 0).argument d x) (g : CellOf s (nth v 1).argument d y) (k : CellOf s (nth v 2).argument d z) where
+    module _ {o x y z : ℕ} (w : o ≡ number) (f : CellOf s (nth v 0).argument d x) (g : CellOf s (nth v 1).argument d y) (k : CellOf s (nth v 2).argument d z) where
       pub instr-room : InstrRoom d o i.line x y z
       instr-room =
           record {
             long = labels-held.long;
             room = omega (arith, code-then, pre.code_room);
-            op_most = omega (arith, w.is, pre.values.numbered, operator-below (operator_of number));
+            op_most = omega (arith, w, pre.values.numbered, operator-below (operator_of number));
             line_most = pre.line_most;
             x_most = omega (arith, (f _ (drafts pre.values 0)).most);
             y_most = omega (arith, (g _ (drafts pre.values 1)).most);
@@ -113,7 +112,7 @@ module _ {s : List ℕ} {i : Instruction} {ms c : List ℕ} (pre : Writable s i 
                 let j = new_instr s n number i.line in
                 let m : HoldsProgram d' (with_instr j (labelled p)) =
                 u.holds j (labelled p) l (record {
-                  op_is = w.is ∙ sym q₁.numbered;
+                  op_is = w ∙ sym q₁.numbered;
                   line_is = refl;
                   first_is = (f _ (drafts q₁ 0)).is (labelled p) l;
                   second_is = (g _ (drafts q₁ 1)).is (labelled p) l;

@@ -5,6 +5,7 @@ use Prim.Native.Nat.{ℕ, suc, ◌-◌, ◌≤◌, ◌<◌}
 use native.Mathlib.Omega.{arith}
 use lib.ListN.{length, take, drop, length-drop}
 use lib.Seq.{drop-nil, take_all}
+use Rattle.std.proofs.Math.ListN.{drop_of_length-le}
 use Rattle.std.proofs.lemmas.List.{drop-map}
 use Rattle.argument_cells.specs.Below.Valued.{Valued}
 use Rattle.argument_cells.specs.Below.Value.{Value}
@@ -34,6 +35,10 @@ take-rest m xs = take_all (length xs - m) (drop m xs) (omega (arith, length-drop
 pub labels-over : {c : List ℕ} (ms : List ℕ) (room : ℕ) {r : Fault} → ((p : Program) → HoldsProgram c p → room ≡ 128 - length p.labels)
     → r ≡ fault_of (map place_by (marks_in ms room (length ms))) → LabelsTold c ms r
 labels-over {c} ms room {r} e f p h = f ∙ rw (← e p h, drop-map place_by room, take-rest room ms)
+
+-- where there is room for all
+pub labels-within : {c : List ℕ} (ms : List ℕ) (room : ℕ) {r : Fault} → ((p : Program) → HoldsProgram c p → room ≡ 128 - length p.labels) → length ms ≤ room → r ≡ None → LabelsTold c ms r
+labels-within ms room e l f p h = f ∙ rw (← e p h, drop-map place_by room, drop_of_length-le ms l)
 
 -- one place more, within a limit and beyond it
 pub one-fits : (k n at : ℕ) → n < k → None ≡ fault_of (beyond k n (at ∷ []))

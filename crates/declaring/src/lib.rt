@@ -1,12 +1,11 @@
 // A judged statement with an instruction comes to the program table: question 11, then its labels, its texts and numbers, and the instruction.
 #![tactic(auto)]
 
-ghost use Rattle.std.specs.Prelude.{◌≡◌, [], ◌∷◌, ◌≤◌, length};
+ghost use Rattle.std.specs.Prelude.{◌≡◌, [], ◌∷◌};
 ghost use Rattle.names.specs.Below.DraftsMarks.{word_by};
 ghost use Rattle.writing.specs.Writing.{Changes, with_label, label_of};
 ghost use Rattle.argument_cells.specs.Below.Entering.{Held, EnterableValues};
 ghost use Rattle.declaring.specs.Declaring.{with_labels, labels_by, Nameable, Labelling, LabelsTold, InstrTold, JudgesValues, Writable, WritesValues, Declarable, DeclaresValues};
-ghost use Rattle.language.specs.Limits as limit;
 ghost use Rattle.statements.specs.StatementAt.{fault_of};
 ghost use Rattle.syntax.specs.Questions.{beyond};
 
@@ -15,6 +14,7 @@ use argument_cells::from_arguments::Value;
 use language::Machine;
 use names::lowest_mark;
 use statements::{Fault, lower};
+use table::Table;
 
 // An instruction: the number of its operator, where that stands and in which line, and its arguments.
 #[derive(Clone, Copy)]
@@ -26,12 +26,12 @@ pub struct Instruction {
 }
 
 // The lowest of the labels in excess.
-fn labels_beyond(table: &[u32], labels: &[u32]) -> Fault
-    requires { Held table.now }
-    ensures { LabelsTold table.now labels.now result }
+fn labels_beyond(table: Table, labels: &[u32]) -> Fault
+    requires { Held table.cells.now }
+    ensures { LabelsTold table.entry.cells.now labels.now result }
 {
-    let room = Machine::LABELS - table::labels(table);
-    lowest_mark(labels, room, labels.len())
+    let room = Machine::LABELS - table.labels();
+    lowest_mark(labels.get(room..)?)
 }
 
 // The place `at`, where `count` are there and there may be no more than `most`.
@@ -42,11 +42,10 @@ pub fn in_excess(count: usize, most: usize, at: usize) -> Fault
 }
 
 // The operator's place, where the instruction is one in excess.
-fn instruction_beyond(table: &[u32], at: usize) -> Fault
-    requires { limit.table ≤ length table.now }
-    ensures { InstrTold table.now at result }
+fn instruction_beyond(table: Table, at: usize) -> Fault
+    ensures { InstrTold table.entry.cells.now at result }
 {
-    in_excess(table::instructions(table), Machine::INSTRUCTIONS, at)
+    in_excess(table.instructions(), Machine::INSTRUCTIONS, at)
 }
 
 // Question 11 of an instruction; the texts and numbers of its arguments come to the table.
@@ -55,8 +54,8 @@ fn judge_instruction(text: &[u8], i: Instruction, labels: &[u32], table: &mut [u
     ensures { JudgesValues text.now i.at i.values labels.now table.old result table.new }
 {
     let values = i.values;
-    let a = instruction_beyond(table, i.at);
-    let b = labels_beyond(table, labels);
+    let a = instruction_beyond(Table { cells: table }, i.at);
+    let b = labels_beyond(Table { cells: table }, labels);
     let c = argument_cells::from_entering::enter_text_values(text, values, table);
     let d = argument_cells::from_entering::enter_number_values(values, table);
     lower(lower(lower(a, b), c), d)
@@ -88,12 +87,15 @@ fn write_instruction(text: &[u8], i: Instruction, labels: &[u32], table: &mut [u
     ensures { WritesValues text.now i labels.now table.old table.new }
 {
     let [first, second, third] = i.values;
-    let target = table::instructions(table);
+    let target = Table { cells: table }.instructions();
     put_labels(text, labels, target, table);
-    let x = argument_cell(text, first.argument, table);
-    let y = argument_cell(text, second.argument, table);
-    let z = argument_cell(text, third.argument, table);
-    writing::put_instruction(table, cells::wide(i.number), i.line, x, y, z);
+    let draft = Table { cells: table };
+    let arguments = [
+        argument_cell(text, first.argument, draft),
+        argument_cell(text, second.argument, draft),
+        argument_cell(text, third.argument, draft),
+    ];
+    writing::put_instruction(table, usize::from(i.number), i.line, arguments);
 }
 
 // Question 11 of an instruction, and where it is answered yes, the instruction with its labels, of which the marks are lent.
@@ -111,6 +113,11 @@ pub fn declare_instruction(text: &[u8], i: Instruction, labels: &[u32], table: &
 // Of `argument_cells`, passed on to the crates above.
 pub mod from_argument_cells {
     pub use argument_cells::text_of;
+}
+
+// Of `arguments`, passed on to the crates above.
+pub mod from_arguments {
+    pub use argument_cells::from_arguments::Quoted;
 }
 
 // Of `entering`, passed on to the crates above.

@@ -6,6 +6,7 @@ use native.Mathlib.Omega.{arith}
 use lib.Dec.{T}
 use lib.ListN.{length, get_or, take, drop, length-append, length-map, length-take}
 use lib.Seq.{take-suc, take_all}
+use Rattle.std.specs.Prelude.{Option, None}
 use Rattle.language.specs.Program.{Entry, Switch, Program}
 use Rattle.layout.proofs.ArgumentLaws.{text_ref-below}
 use Rattle.layout.specs.Bounds.{KeptText}
@@ -17,6 +18,7 @@ use Rattle.lists.specs.ListLaws.{T-right}
 use Rattle.machine.specs.WellFormed.{good_text, kept_text}
 use Rattle.packed.specs.Packed.{table_of}
 use Rattle.statements.specs.StatementAt.{statement_at}
+use Rattle.switch_lists.specs.Below.Quoted.{Quoted}
 use Rattle.switch_lists.specs.Switches.{TextCell}
 use Rattle.syntax.specs.Items.{Item}
 use Rattle.writing.specs.Writing.{HoldsProgram, Writes, IsEntry, EntryRoom, with_entry, with_switches, on_last}
@@ -63,7 +65,7 @@ pub record Filling (s : List ℕ) (d : Declaration) (c e : List ℕ) (k : ℕ) :
   pub holds : (p : Program) → HoldsProgram c p → KeptEntries p (list_entries s d.list) → HoldsProgram e (with_entries (take (k - cell (table_of c) 3) (list_entries s d.list)) p)
   pub beyond_same : drop 8192 e ≡ drop 8192 c
 
-module _ {s : List ℕ} {d : Declaration} {c tx : List ℕ} (pre : Listing s d c tx) where
+module _ {s : List ℕ} {d : Declaration} {c : List ℕ} {tx : List (Option Quoted)} (pre : Listing s d c tx) where
   abbrev p₀ : Program
   p₀ = pre.held.program
 
@@ -106,7 +108,7 @@ module _ {s : List ℕ} {d : Declaration} {c tx : List ℕ} (pre : Listing s d c
     held-now = u.holds p₀ pre.held.holds pre.kept
 
     module _ (more : k < held + d.words) where
-      module _ {m : ℕ} (x : m ≡ get_or tx k 0) where
+      module _ {m : Option Quoted} (x : m ≡ get_or tx k None) where
         here : TextCell s m row
         here = cell-here pre.list u.from more (omega (arith, more, held-is, pre.room)) x
 

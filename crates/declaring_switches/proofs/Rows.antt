@@ -7,8 +7,10 @@ use native.Mathlib.Omega.{arith}
 use lib.Dec.{T, not_T}
 use lib.ListN.{length, get_or, take, drop, length-take, length-drop}
 use lib.Seq.{drop-nil, get_or-take, get_or-drop}
+use lib.Ieee.Bits.{is_true}
 use Rattle.acceptance.proofs.ArgumentLaws.{word-apart}
 use Rattle.acceptance.proofs.RowLaws.{fails, append-none, cond-none}
+use Rattle.switch_lists.specs.Below.Quoted.{Quoted}
 use Rattle.switch_lists.specs.Below.Valued.{Ordered}
 use Rattle.declaring.specs.SpeltLaws.{plain}
 use Rattle.declaring.specs.Below.Entering.{long_text, Held, ShortItem}
@@ -22,7 +24,7 @@ use Rattle.packed.specs.Packed.{table_of}
 use Rattle.statements.specs.LowestLaws.{fault-first}
 use Rattle.statements.specs.PlaceLaws.{stands_from, all_from, places-from}
 use Rattle.statements.specs.StatementAt.{statement_at, fault_of}
-use Rattle.std.specs.Prelude.{Some}
+use Rattle.std.specs.Prelude.{Some, Option, None}
 use Rattle.switch_lists.specs.Switches.{text_first, entry_texts, TextCell}
 use Rattle.syntax.specs.Items.{Item, is, places}
 use Rattle.syntax.specs.Items.Sort.{word, text}
@@ -30,10 +32,6 @@ use Rattle.syntax.specs.Statements.{entry_faults, list_faults, entries_in}
 use Rattle.declaring_switches.specs.declared.Declaration.{Declaration}
 use Rattle.declaring_switches.specs.DeclaringSwitches.{ListedSwitch}
 use Rattle.declaring_switches.specs.Entries.{row_text, RowNamed}
-
-is_true : (b : Bool) → T b → b ≡ true
-is_true true h = refl
-is_true false h = absurd h
 
 -- the texts of all rows
 abbrev pub texts_of : List (List Item) → List Item
@@ -162,14 +160,14 @@ rows_short (j ∷ js) h =
 
 -- ---- the cells of a list
 
-module _ {s : List ℕ} {d : Declaration} {c tx : List ℕ} (l : ListedSwitch s d c tx) where
+module _ {s : List ℕ} {d : Declaration} {c : List ℕ} {tx : List (Option Quoted)} (l : ListedSwitch s d c tx) where
   abbrev pub rows_in : List (List Item)
   rows_in = entry_texts (statement_at s d.list)
 
   pub rows_are : length rows_in ≡ d.words
   rows_are = rows-count (statement_at s d.list) ∙ sym l.words_is
 
-  module _ {k : ℕ} (from : cell (table_of c) 3 ≤ k) (more : k < cell (table_of c) 3 + d.words) (room : k < 128) {m : ℕ} (x : m ≡ get_or tx k 0) where
+  module _ {k : ℕ} (from : cell (table_of c) 3 ≤ k) (more : k < cell (table_of c) 3 + d.words) (room : k < 128) {m : Option Quoted} (x : m ≡ get_or tx k None) where
     pub cell-here : TextCell s m (get_or rows_in (k - cell (table_of c) 3) [])
     cell-here =
         let y : cell (table_of c) 3 + (k - cell (table_of c) 3) ≡ k = omega arith in
@@ -180,13 +178,13 @@ module _ {s : List ℕ} {d : Declaration} {c tx : List ℕ} (l : ListedSwitch s 
 
 -- ---- the part of the cells tx from place h, which is k, up to place e
 
-module _ (tx : List ℕ) {h k : ℕ} (e i : ℕ) (q : h ≡ k) where
+module _ (tx : List (Option Quoted)) {h k : ℕ} (e i : ℕ) (q : h ≡ k) where
   pub part-end : e ≤ length tx → length (take (e - h) (drop h tx)) ≤ i → e ≤ k + i
   part-end m l = omega (arith, m, l, q, length-take (e - h) (drop h tx), length-drop h tx)
 
   pub part-place : i < length (take (e - h) (drop h tx)) → k + i < e
   part-place l = omega (arith, l, q, length-take (e - h) (drop h tx))
 
-  pub part-cell : i < length (take (e - h) (drop h tx)) → get_or (take (e - h) (drop h tx)) i 0 ≡ get_or tx (k + i) 0
+  pub part-cell : i < length (take (e - h) (drop h tx)) → get_or (take (e - h) (drop h tx)) i None ≡ get_or tx (k + i) None
   part-cell l =
-      get_or-take (e - h) (drop h tx) i 0 (omega (arith, l, length-take (e - h) (drop h tx))) ∙ get_or-drop h tx i 0 ∙ ap (λ (j : ℕ). get_or tx (j + i) 0) q
+      get_or-take (e - h) (drop h tx) i None (omega (arith, l, length-take (e - h) (drop h tx))) ∙ get_or-drop h tx i None ∙ ap (λ (j : ℕ). get_or tx (j + i) None) q

@@ -18,7 +18,8 @@ use Rattle.lists.specs.Lists.{keep}
 use Rattle.packed.specs.Packed.{table_of}
 use Rattle.statements.specs.StatementAt.{statement_at}
 use Rattle.statements.specs.Faults.{Fault}
-use Rattle.std.specs.Prelude.{None}
+use Rattle.std.specs.Prelude.{None, Option}
+use Rattle.switch_lists.specs.Below.Quoted.{Quoted}
 use Rattle.syntax.specs.Items.{Item, is, places}
 use Rattle.syntax.specs.Items.Sort.{word}
 use Rattle.syntax.specs.Questions.{beyond}
@@ -40,7 +41,7 @@ unfolding with_switch
 some-switch b p = omega (arith, length-append p.switches (record { goes_by_name = b; entries = [] } ∷ []))
 
 -- the list of a table with as many entries
-same-list : {s : List ℕ} {d : Declaration} {c e tx : List ℕ} → cell (table_of e) 3 ≡ cell (table_of c) 3 → ListedSwitch s d c tx → ListedSwitch s d e tx
+same-list : {s : List ℕ} {d : Declaration} {c e : List ℕ} {tx : List (Option Quoted)} → cell (table_of e) 3 ≡ cell (table_of c) 3 → ListedSwitch s d c tx → ListedSwitch s d e tx
 same-list {s} {d} {c} {e} {tx} q l =
     record {
       inside = l.inside;
@@ -54,7 +55,7 @@ same-list {s} {d} {c} {e} {tx} q l =
       short = l.short;
     }
 
-module _ {s : List ℕ} {d : Declaration} {c sw tx : List ℕ} (pre : WritableSwitch s d c sw tx) where
+module _ {s : List ℕ} {d : Declaration} {c sw : List ℕ} {tx : List (Option Quoted)} (pre : WritableSwitch s d c sw tx) where
   abbrev p₀ : Program
   p₀ = pre.held.program
 
@@ -89,7 +90,7 @@ module _ {s : List ℕ} {d : Declaration} {c sw tx : List ℕ} (pre : WritableSw
           beyond_same = u.beyond_same ∙ h.beyond;
         }
 
-module _ {s : List ℕ} {d : Declaration} {c sw tx : List ℕ} (pre : DeclarableSwitch s d c sw tx) where
+module _ {s : List ℕ} {d : Declaration} {c sw : List ℕ} {tx : List (Option Quoted)} (pre : DeclarableSwitch s d c sw tx) where
   abbrev p : Program
   p = pre.held.program
 

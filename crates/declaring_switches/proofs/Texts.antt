@@ -1,26 +1,26 @@
 -- The texts of a list come to the table, entry by entry: question 11 for them, and for the switch.
-use mathlib.Core.Path.{◌≡◌, refl, sym, ap, ◌∙◌}
-use mathlib.Core.Bool.{Bool, true, false, ◌&&◌, true≢false}
+use mathlib.Core.Path.{◌≡◌, refl, sym, ap, ◌∙◌, subst}
+use mathlib.Core.Bool.{Bool, true, false, true≢false}
 use mathlib.Core.List.{List, [], ◌∷◌, ◌++◌, append-nil, append_assoc}
-use Prim.Native.Nat.{ℕ, zero, suc, ◌+◌, ◌-◌, ◌/◌, ◌≤◌, ◌<◌, min}
+use Prim.Native.Nat.{ℕ, zero, suc, ◌+◌, ◌-◌, ◌≤◌, ◌<◌, min}
 use native.Mathlib.Decide.{dec_lt}
 use native.Mathlib.Omega.{arith}
 use lib.Dec.{T, leb}
 use lib.ListN.{length, get_or, drop, length-map, drop_of_length-le}
 use lib.Seq.{drop-cons, drop-nil}
 use Rattle.acceptance.proofs.RowLaws.{drop-none}
-use Rattle.switch_lists.specs.Below.Valued.{ItemValued, Ordered}
+use Rattle.switch_lists.specs.Below.Valued.{Ordered}
+use Rattle.switch_lists.specs.Below.Quoted.{Quoted}
 use Rattle.declaring.specs.Below.ArgumentCells.{TextNamed, TextTold}
 use Rattle.declaring.specs.Declaring.{texts_excess}
 use Rattle.declaring.specs.SpeltLaws.{statement-plain}
-use Rattle.declaring.specs.Below.Entering.{excess, all_added, long_text, set_texts, ShortItem, EnterableValue, TextEntered}
+use Rattle.declaring.specs.Below.Entering.{excess, all_added, long_text, set_texts, ShortItem, EnterableText, QuotedEntered}
 use Rattle.declaring.specs.Below.EnteringLaws.{goes_on, excess-here, fresh-from}
 use Rattle.declaring.proofs.Below.EnteringAdding.{texts-laws}
 use Rattle.statements.specs.FaultLaws.{fault-both, lower-clear, no-fault}
 use Rattle.statements.specs.Faults.{lower}
 use Rattle.declaring.specs.Below.Finding.{Tells}
 use Rattle.language.specs.Program.{Program}
-use Rattle.language.specs.Values.{numeral}
 use Rattle.layout.specs.Bounds.{Each}
 use Rattle.layout.specs.Cells.{cell}
 use Rattle.layout.specs.Table.{text_ref, all_entries}
@@ -31,59 +31,73 @@ use Rattle.statements.specs.LowestLaws.{none_before, fault-first}
 use Rattle.statements.specs.PlaceLaws.{stands_from, all_from, places-from}
 use Rattle.statements.specs.StatementAt.{statement_at, fault_of}
 use Rattle.statements.specs.Faults.{Fault}
-use Rattle.std.specs.Prelude.{None, Some}
+use Rattle.std.specs.Prelude.{Option, None, Some, Result, Ok, Err, IfErr, is_ok}
+use Rattle.std.proofs.lemmas.Option.{none-some}
 use Rattle.switch_lists.specs.Switches.{entry_texts, NamesItem, TextCell}
 use Rattle.syntax.specs.Items.{Item, is, places}
 use Rattle.syntax.specs.Items.Sort.{word, text}
 use Rattle.syntax.specs.Questions.{beyond}
 use Rattle.syntax.specs.Tables.{fresh}
 use Rattle.syntax.specs.Verdict.{lowest}
-use Rattle.table.specs.declared.Argument.TheVariants.{Text}
 use Rattle.writing.specs.Writing.{HoldsProgram}
 use Rattle.writing.proofs.Held.{entry_count}
 use Rattle.declaring_switches.specs.declared.Declaration.{Declaration}
 use Rattle.declaring_switches.specs.DeclaringSwitches.{ListedSwitch, SwitchTold, switch_excess, with_texts, JudgeableSwitch, EntersTexts, JudgesSwitch}
 use Rattle.declaring_switches.specs.Entries.{row_text, RowNamed, RowTold, RowEnters, RowEntered}
-use Rattle.declaring_switches.proofs.Rows.{texts_of, no_word, texts-behind, long-behind, ordered-keep, ordered-drop, texts-over, rows_in, rows_are, cell-here, row_named}
+use Rattle.declaring_switches.proofs.Rows.{texts_of, texts-behind, long-behind, ordered-keep, ordered-drop, texts-over, rows_in, rows_are, cell-here, row_named}
 
 -- ---- a cell
 
-valued : {s : List ℕ} {m : ℕ} {j : Item} → NamesItem s m j → ItemValued s j (Text m)
-valued {s} {m} {j} h =
-    record { text_is = h.sort; number_is = ap (λ (b : Bool). b && numeral j.chars) (no_word j h.sort); spelt = h.names }
+abbrev quoted-in : Quoted → Option Quoted → Quoted
+quoted-in d None = d
+quoted-in d (Some q) = q
 
-by_row : {s : List ℕ} {m : ℕ} (P : List Item → Type 0) → (m ≡ 0 → P []) → ((j : Item) (js : List Item) → NamesItem s m j → P (j ∷ js)) → (row : List Item) → TextCell s m row → P row
-by_row P a b [] h = a h
-by_row P a b (j ∷ js) h = b j js h
+some-same : {a b : Quoted} → Some a ≡ Some b → a ≡ b
+some-same {a} e = ap (quoted-in a) e
+
+-- an entry with a text, and one with none
+some-row : {s : List ℕ} {q : Quoted} (P : List Item → Type 0) → ((j : Item) (js : List Item) → NamesItem s q j → P (j ∷ js)) → {m : Option Quoted} → m ≡ Some q → (row : List Item) → TextCell s m row → P row
+some-row P b e [] h = absurd (none-some _ (sym h ∙ e))
+some-row {s} P b e (j ∷ js) h = b j js (subst (λ k. NamesItem s k j) (some-same (sym h.1.0 ∙ e)) h.1.1)
+
+none-row : (s : List ℕ) (P : List Item → Type 0) → P [] → {m : Option Quoted} → m ≡ None → (row : List Item) → TextCell s m row → P row
+none-row s P a e [] h = a
+none-row s P a e (j ∷ js) h = absurd (none-some _ (sym e ∙ h.1.0))
 
 abbrev Ref : List ℕ → ℕ → List Item → Type 0
 Ref c r row = Tells c (λ p. text_ref p (row_text row)) 384 r
 
-module _ {s : List ℕ} {m : ℕ} {c : List ℕ} where
-  -- the item of a cell that is not 0
-  item-there : RowNamed s m c → (m ≡ 0 → ⊥) → (j : Item) × (NamesItem s m j × ShortItem j)
-  item-there g f =
-      by_row (λ row. Each ShortItem row → (j : Item) × (NamesItem s m j × ShortItem j)) (λ h. absurd (f h)) (λ j js h k. (j, (h, k.0))) g.row g.named g.short
+module _ {s : List ℕ} {m : Option Quoted} {c : List ℕ} where
+  -- the item of an entry's text
+  item-there : RowNamed s m c → {q : Quoted} → m ≡ Some q → (j : Item) × (NamesItem s q j × ShortItem j)
+  item-there g {q} e =
+      some-row (λ row. Each ShortItem row → (j : Item) × (NamesItem s q j × ShortItem j)) (λ j js h k. (j, (h, k.0))) e g.row g.named g.short
 
-  pub cell-enterable : RowNamed s m c → (m ≡ 0 → ⊥) → EnterableValue s (Text m) c
-  cell-enterable g f = let j = item-there g f in record { item = j.0; valued = valued j.1.0; short = j.1.1; held = g.held }
+  pub entry-enterable : RowNamed s m c → {q : Quoted} → m ≡ Some q → EnterableText s q c
+  entry-enterable g e = let j = item-there g e in record { item = j.0; text_is = j.1.0.sort; names = j.1.0.names; short = j.1.1; held = g.held }
 
-  pub cell-named : RowNamed s m c → (m ≡ 0 → ⊥) → TextNamed s m c
-  cell-named g f = let j = item-there g f in record { chars = j.0.chars; names = j.1.0.names; short = j.1.1; held = g.held }
+  pub entry-named : RowNamed s m c → {q : Quoted} → m ≡ Some q → TextNamed s q c
+  entry-named g e = let j = item-there g e in record { chars = j.0.chars; names = j.1.0.names; short = j.1.1; held = g.held }
 
-  pub none-entered : m ≡ 0 → RowEntered s m c true c
-  none-entered e = record { of = by_row (λ row. RowEnters row c true c) (λ h. (refl, refl)) (λ j js h. absurd (omega (arith, h.some, e))); beyond_same = refl }
+  pub none_told : m ≡ None → RowTold s m c 0
+  none_told e = record { of = none-row s (Ref c 0) (record { is = λ p g. refl; most = omega arith }) e }
 
-  pub none_told : m ≡ 0 → RowTold s m c 0
-  none_told e = record { of = by_row (Ref c 0) (λ h. record { is = λ p g. refl; most = omega arith }) (λ j js h. absurd (omega (arith, h.some, e))) }
+  pub entry-told : {q : Quoted} → m ≡ Some q → {r : ℕ} → TextTold s q c r → RowTold s m c r
+  entry-told e {r} u = record { of = some-row (Ref c r) (λ j js h. u j.chars h.names) e }
 
-  pub cell-told : (m ≡ 0 → ⊥) → {r : ℕ} → TextTold s m c r → RowTold s m c r
-  cell-told f {r} u = record { of = by_row (Ref c r) (λ h. absurd (f h)) (λ j js h. u j.chars h.names) }
+  entry-by : RowNamed s m c → {q : Quoted} → m ≡ Some q → (r : Result (Unit {0}) ℕ) → ((j : Item) → NamesItem s q j → IfErr r (λ p. p ≡ j.at)) → {d : List ℕ} → QuotedEntered s q c (is_ok r) d → RowEntered s m c r d
+  entry-by g e r f {d} u =
+      let i = item-there g e in
+      record {
+        of = some-row (λ row. RowEnters row c r d) (λ j js h. (f j h, u j h.sort h.names)) e;
+        beyond_same = (u i.0 i.1.0.sort i.1.0.names).beyond_same;
+      }
 
-  pub cell-entered : RowNamed s m c → (m ≡ 0 → ⊥) → {r : Bool} {d : List ℕ} → TextEntered s (Text m) c r d → RowEntered s m c r d
-  cell-entered g f {r} {d} u =
-      let i = cell-enterable g f in
-      record { of = by_row (λ row. RowEnters row c r d) (λ h. absurd (f h)) (λ j js h. u j (valued h)); beyond_same = (u i.item i.valued).beyond_same }
+  pub entry-entered : RowNamed s m c → {q : Quoted} → m ≡ Some q → {b : Bool} {d : List ℕ} → QuotedEntered s q c b d → b ≡ true → RowEntered s m c (Ok tt) d
+  entry-entered g {q} e {d = d} u t = entry-by g e (Ok tt) (λ j h. tt) (subst (λ y. QuotedEntered s q c y d) t u)
+
+  pub entry-refused : RowNamed s m c → {q : Quoted} → m ≡ Some q → {b : Bool} {d : List ℕ} → QuotedEntered s q c b d → b ≡ false → RowEntered s m c (Err q.at) d
+  entry-refused g {q} e {d = d} u t = entry-by g e (Err q.at) (λ j h. h.place) (subst (λ y. QuotedEntered s q c y d) t u)
 
 -- ---- the texts of some rows at a table
 
@@ -101,19 +115,19 @@ pub record Entered (all rest : List (List Item)) (p : Program) (d : List ℕ) : 
   pub all_is : with_all p.texts all ≡ with_all table rest
 
 module _ {all : List (List Item)} {p : Program} {d : List ℕ} (rest : List (List Item)) where
-  entered-row : (row : List Item) → Entered all (row ∷ rest) p d → {r : Bool} {e : List ℕ} → RowEnters row d r e → r ≡ true → Entered all rest p e
+  entered-row : (row : List Item) → Entered all (row ∷ rest) p d → {e : List ℕ} → RowEnters row d (Ok tt) e → Entered all rest p e
   unfolding set_texts
-  entered-row [] u k q = record { table = u.table; holds = rw k.1 u.holds; over_is = u.over_is; all_is = u.all_is }
-  entered-row (j ∷ js) u {r} {e} k q =
-      let on = goes_on bytes_equal (λ i. i.chars) long_text j (texts_of rest) u.table (sym (k.told (set_texts u.table p) u.holds) ∙ q) in
-      record { table = _; holds = k.holds q (set_texts u.table p) u.holds; over_is = u.over_is ∙ on.0; all_is = u.all_is ∙ on.1 }
+  entered-row [] u k = record { table = u.table; holds = rw k.1 u.holds; over_is = u.over_is; all_is = u.all_is }
+  entered-row (j ∷ js) u {e} k =
+      let on = goes_on bytes_equal (λ i. i.chars) long_text j (texts_of rest) u.table (sym (k.1.told (set_texts u.table p) u.holds)) in
+      record { table = _; holds = k.1.holds refl (set_texts u.table p) u.holds; over_is = u.over_is ∙ on.0; all_is = u.all_is ∙ on.1 }
 
-  refused-row : (s : List ℕ) (m : ℕ) (row : List Item) → TextCell s m row → Ordered (texts_of (row ∷ rest)) → Entered all (row ∷ rest) p d → {r : Bool} (e : List ℕ) → RowEnters row d r e → r ≡ false
-      → fault_of (over_by p.texts all) ≡ Some (m / 65536)
+  refused-row : (row : List Item) → Ordered (texts_of (row ∷ rest)) → Entered all (row ∷ rest) p d → {at : ℕ} (e : List ℕ) → RowEnters row d (Err at) e
+      → fault_of (over_by p.texts all) ≡ Some at
   unfolding set_texts
-  refused-row s m [] n o u e k q = absurd (true≢false (sym k.0 ∙ q))
-  refused-row s m (j ∷ js) n o u e k q =
-      ap fault_of u.over_is ∙ excess-here bytes_equal (λ i. i.chars) long_text j (texts_of rest) u.table (sym (k.told (set_texts u.table p) u.holds) ∙ q) o.0 ∙ ap Some (sym n.place)
+  refused-row [] o u {at} e k = absurd (true≢false (sym (ap is_ok k.0)))
+  refused-row (j ∷ js) o u {at} e k =
+      ap fault_of u.over_is ∙ excess-here bytes_equal (λ i. i.chars) long_text j (texts_of rest) u.table (sym (k.1.told (set_texts u.table p) u.holds)) o.0 ∙ ap Some (sym k.0)
 
 no_texts : (t : List (List ℕ)) → over_by t [] ≡ []
 unfolding fresh
@@ -145,7 +159,7 @@ pub record Entering (s : List ℕ) (d : Declaration) (c e : List ℕ) (k : ℕ) 
   pub entered : (p : Program) → HoldsProgram c p → Entered (entry_texts (statement_at s d.list)) (drop (k - cell (table_of c) 3) (entry_texts (statement_at s d.list))) p e
   pub beyond_same : drop 8192 e ≡ drop 8192 c
 
-module _ {s : List ℕ} {d : Declaration} {c tx : List ℕ} (pre : JudgeableSwitch s d c tx) where
+module _ {s : List ℕ} {d : Declaration} {c : List ℕ} {tx : List (Option Quoted)} (pre : JudgeableSwitch s d c tx) where
   abbrev js : List Item
   js = statement_at s d.list
 
@@ -195,33 +209,33 @@ module _ {s : List ℕ} {d : Declaration} {c tx : List ℕ} (pre : JudgeableSwit
       rest_is : drop at rows ≡ row ∷ drop (suc at) rows
       rest_is = drop-cons rows at [] (omega (arith, g, more, u.from, rows_are l))
 
-      module _ {m : ℕ} (x : m ≡ get_or tx k 0) where
+      module _ {m : Option Quoted} (x : m ≡ get_or tx k None) where
         here : TextCell s m row
         here = cell-here l u.from (omega (arith, g)) (omega (arith, g)) x
 
         pub row-enterable : RowNamed s m e
         row-enterable = row_named l u.from (omega (arith, g)) (omega (arith, g)) x (record { program = _; holds = (u.entered pre.held.program pre.held.holds).holds })
 
-        module _ {r : Bool} {e' : List ℕ} (h : RowEntered s m e r e') where
+        module _ {r : Result (Unit {0}) ℕ} {e' : List ℕ} (h : RowEntered s m e r e') where
           now : (p : Program) → HoldsProgram c p → Entered rows (row ∷ drop (suc at) rows) p e
           now p q = rw rest_is at (u.entered p q)
 
-          pub entering-more : r ≡ true → {k' : ℕ} → k' ≡ k + 1 → Entering s d c e' k'
+          pub entering-more : r ≡ Ok tt → {k' : ℕ} → k' ≡ k + 1 → Entering s d c e' k'
           entering-more q {k'} f =
               let z : k' - held ≡ suc at = omega (arith, u.from, f) in
               record {
                 from = omega (arith, u.from, f);
                 most = omega (arith, g, more, f);
-                entered = λ p w. rw z (entered-row (drop (suc at) rows) row (now p w) (h.of row here) q);
+                entered = λ p w. rw z (entered-row (drop (suc at) rows) row (now p w) (subst (λ (o : Result (Unit {0}) ℕ). RowEnters row e o e') q (h.of row here)));
                 beyond_same = h.beyond_same ∙ u.beyond_same;
               }
 
-          pub text-refused : r ≡ false → EntersTexts s d c (Some (m / 65536)) e'
+          pub text-refused : {place : ℕ} → r ≡ Err place → EntersTexts s d c (Some place) e'
           text-refused q =
               record {
                 told = λ p w.
                     ap (lower d.over)
-                    (sym (ap fault_of (over-rows p) ∙ refused-row (drop (suc at) rows) s m row here (rw rest_is at (ordered-drop rows rows-ordered at)) (now p w) e' (h.of row here) q));
+                    (sym (ap fault_of (over-rows p) ∙ refused-row (drop (suc at) rows) row (rw rest_is at (ordered-drop rows rows-ordered at)) (now p w) e' (subst (λ (o : Result (Unit {0}) ℕ). RowEnters row e o e') q (h.of row here))));
                 holds = λ o f. absurd (let y : ◌≡◌ {A = ℕ} 0 1 = cc in omega arith);
                 beyond_same = h.beyond_same ∙ u.beyond_same;
               }
@@ -266,7 +280,7 @@ module _ {s : List ℕ} {d : Declaration} {c tx : List ℕ} (pre : JudgeableSwit
 
 -- ---- all of question 11
 
-pub judged-switch : {s : List ℕ} {d : Declaration} {c tx : List ℕ} → JudgeableSwitch s d c tx → {tr : Fault} {e : List ℕ} → EntersTexts s d c tr e → {a x y : Fault}
+pub judged-switch : {s : List ℕ} {d : Declaration} {c : List ℕ} {tx : List (Option Quoted)} → JudgeableSwitch s d c tx → {tr : Fault} {e : List ℕ} → EntersTexts s d c tr e → {a x y : Fault}
     → SwitchTold c d.at a → x ≡ lower d.over tr → y ≡ lower a x → JudgesSwitch s d c y e
 unfolding switch_excess
 judged-switch {s} {d} {c} pre {tr} {e} t {a} {x} {y} h f g =

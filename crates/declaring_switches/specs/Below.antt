@@ -11,3 +11,4 @@ pub use Rattle.switch_lists.specs.Below.CountLaws
 pub use Rattle.switch_lists.specs.SwitchLaws
 pub use Rattle.switch_lists.specs.Switches as SwitchListsSwitches
 pub use Rattle.switch_lists.specs.declared.Listed
+pub use Rattle.switch_lists.specs.Below.Quoted

@@ -13,7 +13,8 @@ use Rattle.lists.specs.Lists.{keep, bytes_equal}
 use Rattle.packed.specs.Packed.{table_of}
 use Rattle.statements.specs.StatementAt.{statement_at, fault_of}
 use Rattle.statements.specs.Faults.{Fault}
-use Rattle.std.specs.Prelude.{None}
+use Rattle.std.specs.Prelude.{Option, None}
+use Rattle.switch_lists.specs.Below.Quoted.{Quoted}
 use Rattle.switch_lists.specs.Switches.{TextsNamed}
 use Rattle.syntax.specs.Items.{is, places}
 use Rattle.syntax.specs.Items.Sort.{word}
@@ -23,7 +24,7 @@ use Rattle.writing.specs.Writing.{HoldsProgram}
 use Rattle.declaring_switches.specs.declared.Declaration.{Declaration}
 
 -- the list of the switch d, of which the questions up to 02 are answered yes: its words, and its texts by cells, as their reader told them
-pub record ListedSwitch (s : List ℕ) (d : Declaration) (c tx : List ℕ) : Type 0 where
+pub record ListedSwitch (s : List ℕ) (d : Declaration) (c : List ℕ) (tx : List (Option Quoted)) : Type 0 where
   pub inside : d.list ≤ length s
   pub words_is : d.words ≡ length (keep (is word) (statement_at s d.list))
   pub few : d.words ≤ limit.text
@@ -49,7 +50,7 @@ switch_excess s at n p =
 unfoldable pub with_texts : List ℕ → ℕ → Program → Program
 with_texts s n p = set_texts (all_added bytes_equal (λ i. i.chars) long_text p.texts (statement_at s n)) p
 
-pub record JudgeableSwitch (s : List ℕ) (d : Declaration) (c tx : List ℕ) : Type 0 where
+pub record JudgeableSwitch (s : List ℕ) (d : Declaration) (c : List ℕ) (tx : List (Option Quoted)) : Type 0 where
   pub list : ListedSwitch s d c tx
   pub held : Held c
 

@@ -1,5 +1,5 @@
 -- The entries of a switch come to the program table one by one.
-use Rattle.std.specs.Prelude.{◌≡◌, Bool, true, List, [], ◌∷◌, ◌++◌, ℕ, ◌+◌, ◌≤◌, ◌<◌, length, drop}
+use Rattle.std.specs.Prelude.{◌≡◌, Option, Result, Ok, IfErr, is_ok, List, [], ◌∷◌, ◌++◌, ℕ, ◌+◌, ◌≤◌, ◌<◌, length, drop}
 use Rattle.declaring.specs.Below.Entering.{Held, ShortItem, EntersOne, long_text, set_texts}
 use Rattle.language.specs.Limits as limit
 use Rattle.language.specs.Program.{Entry, Switch, Program}
@@ -8,6 +8,7 @@ use Rattle.layout.specs.Table.{text_ref, all_entries}
 use Rattle.lists.specs.Lists.{if_any, bytes_equal}
 use Rattle.declaring.specs.Below.Finding.{Tells}
 use Rattle.statements.specs.StatementAt.{statement_at}
+use Rattle.switch_lists.specs.Below.Quoted.{Quoted}
 use Rattle.switch_lists.specs.Switches.{TextCell}
 use Rattle.syntax.specs.Items.{Item}
 use Rattle.syntax.specs.Statements.{entries_in}
@@ -19,22 +20,22 @@ use Rattle.declaring_switches.specs.DeclaringSwitches.{ListedSwitch}
 abbrev pub row_text : List Item → List ℕ
 row_text row = if_any [] (λ j. j.chars) row
 
--- a cell names the text of a row
-pub record RowNamed (s : List ℕ) (m : ℕ) (c : List ℕ) : Type 0 where
+-- m is the text of a row
+pub record RowNamed (s : List ℕ) (m : Option Quoted) (c : List ℕ) : Type 0 where
   pub row : List Item
   pub named : TextCell s m row
   pub short : Each ShortItem row
   pub held : Held c
 
-pub record RowTold (s : List ℕ) (m : ℕ) (c : List ℕ) (r : ℕ) : Type 0 where
+pub record RowTold (s : List ℕ) (m : Option Quoted) (c : List ℕ) (r : ℕ) : Type 0 where
   pub of : (row : List Item) → TextCell s m row → Tells c (λ p. text_ref p (row_text row)) 384 r
 
--- it comes to the table
-abbrev pub RowEnters : List Item → List ℕ → Bool → List ℕ → Type 0
-RowEnters [] c r d = (r ≡ true) × (d ≡ c)
-RowEnters (j ∷ js) c r d = EntersOne bytes_equal (λ i. i.chars) long_text (λ p. p.texts) set_texts j c r d
+-- it comes to the table, or its place is told
+abbrev pub RowEnters : List Item → List ℕ → Result (Unit {0}) ℕ → List ℕ → Type 0
+RowEnters [] c r d = (r ≡ Ok tt) × (d ≡ c)
+RowEnters (j ∷ js) c r d = IfErr r (λ p. p ≡ j.at) × EntersOne bytes_equal (λ i. i.chars) long_text (λ p. p.texts) set_texts j c (is_ok r) d
 
-pub record RowEntered (s : List ℕ) (m : ℕ) (c : List ℕ) (r : Bool) (d : List ℕ) : Type 0 where
+pub record RowEntered (s : List ℕ) (m : Option Quoted) (c : List ℕ) (r : Result (Unit {0}) ℕ) (d : List ℕ) : Type 0 where
   pub of : (row : List Item) → TextCell s m row → RowEnters row c r d
   pub beyond_same : drop limit.table d ≡ drop limit.table c
 
@@ -52,7 +53,7 @@ KeptEntries p es = Each (λ e. KeptText p e.text) es
 abbrev pub list_entries : List ℕ → ℕ → List Entry
 list_entries s n = entries_in (λ w. 0) (statement_at s n)
 
-pub record Listing (s : List ℕ) (d : Declaration) (c tx : List ℕ) : Type 0 where
+pub record Listing (s : List ℕ) (d : Declaration) (c : List ℕ) (tx : List (Option Quoted)) : Type 0 where
   pub list : ListedSwitch s d c tx
   pub held : Held c
   pub some : 0 < length held.program.switches

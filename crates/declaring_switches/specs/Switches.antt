@@ -8,7 +8,8 @@ use Rattle.layout.specs.Table.{all_entries}
 use Rattle.packed.specs.Packed.{table_of}
 use Rattle.statements.specs.StatementAt.{fault_of}
 use Rattle.statements.specs.Faults.{Fault}
-use Rattle.std.specs.Prelude.{None}
+use Rattle.std.specs.Prelude.{Option, None}
+use Rattle.switch_lists.specs.Below.Quoted.{Quoted}
 use Rattle.writing.specs.Writing.{HoldsProgram, with_switch}
 use Rattle.declaring_switches.specs.declared.Declaration.{Declaration}
 use Rattle.declaring_switches.specs.DeclaringSwitches.{switch_excess, with_texts, ListedSwitch}
@@ -18,7 +19,7 @@ use Rattle.declaring_switches.specs.Entries.{with_entries, list_entries, KeptEnt
 unfoldable pub with_list : List ℕ → ℕ → Bool → Program → Program
 with_list s n goes_by_name p = with_entries (list_entries s n) (with_switch goes_by_name p)
 
-pub record WritableSwitch (s : List ℕ) (d : Declaration) (c sw tx : List ℕ) : Type 0 where
+pub record WritableSwitch (s : List ℕ) (d : Declaration) (c sw : List ℕ) (tx : List (Option Quoted)) : Type 0 where
   pub list : ListedSwitch s d c tx
   pub held : Held c
   pub switch_room : length held.program.switches < limit.switches
@@ -32,7 +33,7 @@ pub record WritesSwitch (s : List ℕ) (d : Declaration) (c sw c' sw' : List ℕ
   pub beyond_same : drop limit.table c' ≡ drop limit.table c
 
 -- what the questions up to 02 gave
-pub record DeclarableSwitch (s : List ℕ) (d : Declaration) (c sw tx : List ℕ) : Type 0 where
+pub record DeclarableSwitch (s : List ℕ) (d : Declaration) (c sw : List ℕ) (tx : List (Option Quoted)) : Type 0 where
   pub list : ListedSwitch s d c tx
   pub held : Held c
   pub kept : KeptEntries (with_texts s d.list held.program) (list_entries s d.list)

@@ -7,17 +7,19 @@ use native.Mathlib.Omega.{arith}
 use lib.Dec.{ltb}
 use lib.ListN.{length, take, drop, length-take}
 use borrow.Author.Tests.{lt-ltb, le-ltb, le-leb, lt-leb, ltb-true, ltb-false}
-use Rattle.arguments.specs.Valued.{is_text, text_from, text_to, Spells, ItemValued, is_number}
+use Rattle.arguments.specs.Valued.{is_text, text_from, text_to, NamesText, Spells, ItemValued, is_number}
 use Rattle.language.specs.Limits as limit
 use Rattle.language.specs.Program.{Program}
 use Rattle.lists.specs.Lists.{any, bytes_equal}
 use Rattle.writing.specs.Writing.{HoldsProgram, no_program, IsNumber}
 use Rattle.cells.proofs.Laws.{pasted-front}
 use Rattle.spelling.specs.Spelling.{Put, text_in, FitsText}
-use Rattle.syntax.specs.Items.{Item}
-use Rattle.table.specs.declared.Argument.{Argument}
-use Rattle.table.specs.declared.Argument.TheVariants.{Text, Nothing, Indexed, Label, Switch, Class, Number}
-use Rattle.entering.specs.Entering.{Adds, Addable, EntersOne, EnterableValue, set_texts, set_numbers, long_text, AddsCode, large_number}
+use Rattle.syntax.specs.Items.{Item, is}
+use Rattle.syntax.specs.Items.Sort.{text}
+use Rattle.arguments.specs.declared.Quoted.{Quoted}
+use Rattle.arguments.specs.declared.ReadArgument.{ReadArgument}
+use Rattle.arguments.specs.declared.ReadArgument.TheVariants.{Text, Nothing, Indexed, Label, Switch, Class, Number}
+use Rattle.entering.specs.Entering.{Adds, Addable, EntersOne, EnterableText, EnterableValue, set_texts, set_numbers, long_text, AddsCode, large_number}
 use Rattle.entering.proofs.Rows.{TableOf}
 use Rattle.std.specs.Prelude.{Option, position, is_some}
 use Rattle.finding.proofs.Found.{some_any}
@@ -103,42 +105,46 @@ module _ {d o w : List ℕ} {n : ℕ} (h : Put d 0 w n o) where
   pub put-long : n ≤ length o
   put-long = omega (arith, ap length put_front, length-take n o, h.next)
 
--- the text that a value names
-module _ {s : List ℕ} {i : Item} {x : Argument} (h : ItemValued s i x) where
-  abbrev One : List ℕ → Bool → List ℕ → Type 0
-  One c r d = EntersOne bytes_equal (λ j. j.chars) long_text (λ p. p.texts) set_texts i c r d
+-- a text
+abbrev OneText : Item → List ℕ → Bool → List ℕ → Type 0
+OneText i c r d = EntersOne bytes_equal (λ j. j.chars) long_text (λ p. p.texts) set_texts i c r d
 
-  pub value-past : is_text x ≡ false → {c : List ℕ} → One c true c
-  value-past e = enters-past bytes_equal (λ j. j.chars) long_text (λ p. p.texts) set_texts texts-laws i (ap (λ (b : Bool). b && ltb 1 (length i.chars)) (h.text_is ∙ e))
+module _ {s : List ℕ} (i : Item) (t : is text i ≡ true) {q : Quoted} (h : NamesText s q i.chars) where
+  long_is : long_text i ≡ ltb 1 (length (text_in s (text_from q) (text_to q)))
+  long_is = ap (λ (b : Bool). b && ltb 1 (length i.chars)) t ∙ ap (λ (w : List ℕ). ltb 1 (length w)) (sym h.is)
 
-  module _ {m : ℕ} (e : x ≡ Text m) where
-    named : text_in s (text_from m) (text_to m) ≡ i.chars
-    named = (subst (Spells s i.chars) e h.spelt).is
+  module _ {n : ℕ} {d o : List ℕ} (k : Put d 0 (text_in s (text_from q) (text_to q)) n o) where
+    pub text_small : n < 2 → (c : List ℕ) → OneText i c true c
+    text_small l c = enters-past bytes_equal (λ j. j.chars) long_text (λ p. p.texts) set_texts texts-laws i
+        (long_is ∙ le-ltb 1 (length (text_in s (text_from q) (text_to q))) (omega (arith, k.next, l)))
 
-    long_is : long_text i ≡ ltb 1 (length (text_in s (text_from m) (text_to m)))
-    long_is = ap (λ (b : Bool). b && ltb 1 (length i.chars)) (h.text_is ∙ ap is_text e) ∙ ap (λ (w : List ℕ). ltb 1 (length w)) (sym named)
-
-    module _ {n : ℕ} {d o : List ℕ} (k : Put d 0 (text_in s (text_from m) (text_to m)) n o) where
-      pub value-small : n < 2 → {c : List ℕ} → One c true c
-      value-small l = enters-past bytes_equal (λ j. j.chars) long_text (λ p. p.texts) set_texts texts-laws i
-          (long_is ∙ le-ltb 1 (length (text_in s (text_from m) (text_to m))) (omega (arith, k.next, l)))
-
-      pub value-entered : 2 ≤ n → {c : List ℕ} {a : Bool} {d' : List ℕ} → Adds bytes_equal (λ p. p.texts) set_texts (take n o) c a d' → One c a d'
-      value-entered l q =
-          enters-value bytes_equal (λ j. j.chars) long_text (λ p. p.texts) set_texts texts-laws i
-          (long_is ∙ lt-ltb 1 (length (text_in s (text_from m) (text_to m))) (omega (arith, k.next, l))) (take n o) (put_front k ∙ named) q
+    pub text-entered : 2 ≤ n → {c : List ℕ} {a : Bool} {d' : List ℕ} → Adds bytes_equal (λ p. p.texts) set_texts (take n o) c a d' → OneText i c a d'
+    text-entered l y =
+        enters-value bytes_equal (λ j. j.chars) long_text (λ p. p.texts) set_texts texts-laws i
+        (long_is ∙ lt-ltb 1 (length (text_in s (text_from q) (text_to q))) (omega (arith, k.next, l))) (take n o) (put_front k ∙ h.is) y
 
 -- its characters in front of a buffer
-module _ {s : List ℕ} {x : Argument} {c : List ℕ} (u : EnterableValue s x c) {m : ℕ} (e : x ≡ Text m) where
-  pub value-fits : {d : List ℕ} → length d ≡ 60 → FitsText s (text_from m) (text_to m) d
-  value-fits l =
-      let k = subst (Spells s u.item.chars) e u.valued.spelt in
-      record { between = k.between; room = omega (arith, ap length k.is, u.short, l) }
+module _ {s : List ℕ} {q : Quoted} {c : List ℕ} (u : EnterableText s q c) where
+  pub text-fits : {d : List ℕ} → length d ≡ 60 → FitsText s (text_from q) (text_to q) d
+  text-fits l = record { between = u.names.between; room = omega (arith, ap length u.names.is, u.short, l) }
 
-  pub value-addable : {d o : List ℕ} {n k : ℕ} → Put d 0 (text_in s (text_from m) (text_to m)) n o → k ≡ length (take n o) → Addable c k
-  value-addable {d} {o} {n} h q =
-      let k = subst (Spells s u.item.chars) e u.valued.spelt in
-      record { held = u.held; short = omega (arith, q, ap length (put_front h), ap length k.is, u.short) }
+  pub text-addable : {d o : List ℕ} {n k : ℕ} → Put d 0 (text_in s (text_from q) (text_to q)) n o → k ≡ length (take n o) → Addable c k
+  text-addable {d} {o} {n} h y = record { held = u.held; short = omega (arith, y, ap length (put_front h), ap length u.names.is, u.short) }
+
+-- the text that a value names
+pub value-past : {s : List ℕ} {i : Item} {x : ReadArgument} → ItemValued s i x → is_text x ≡ false → {c : List ℕ}
+    → EntersOne bytes_equal (λ j. j.chars) long_text (λ p. p.texts) set_texts i c true c
+value-past {i = i} h e = enters-past bytes_equal (λ j. j.chars) long_text (λ p. p.texts) set_texts texts-laws i (ap (λ (b : Bool). b && ltb 1 (length i.chars)) (h.text_is ∙ e))
+
+module _ {s : List ℕ} {i : Item} {x : ReadArgument} (h : ItemValued s i x) {q : Quoted} (e : x ≡ Text q) where
+  pub value-is_text : is text i ≡ true
+  value-is_text = h.text_is ∙ ap is_text e
+
+  pub value-names : NamesText s q i.chars
+  value-names = subst (Spells s i.chars) e h.spelt
+
+pub value-text : {s : List ℕ} {x : ReadArgument} {c : List ℕ} → EnterableValue s x c → {q : Quoted} → x ≡ Text q → EnterableText s q c
+value-text u e = record { item = u.item; text_is = value-is_text u.valued e; names = value-names u.valued e; short = u.short; held = u.held }
 
 -- ---- a number, by its code
 large_is : (z : ℤ) → nat_abs z ≤ limit.size → ltb limit.small (nat_abs z) ≡ (ltb (code z) 8388592 || ltb 8388622 (code z))
@@ -150,7 +156,7 @@ large_is z h = go (ltb (code z) 8388592) (ltb 8388622 (code z)) refl refl
     go false false e f = le-ltb limit.small (nat_abs z) (near z h (ltb-false (code z) 8388592 e) (ltb-false 8388622 (code z) f))
 
 -- the number of a value
-module _ {s : List ℕ} {i : Item} {x : Argument} (h : ItemValued s i x) where
+module _ {s : List ℕ} {i : Item} {x : ReadArgument} (h : ItemValued s i x) where
   abbrev OneNumber : List ℕ → Bool → List ℕ → Type 0
   OneNumber c r d = EntersOne same_number number_in large_number (λ p. p.numbers) set_numbers i c r d
 
@@ -178,10 +184,10 @@ module _ {s : List ℕ} {i : Item} {x : Argument} (h : ItemValued s i x) where
       number-entered q k =
           enters-value same_number number_in large_number (λ p. p.numbers) set_numbers numbers-laws i (is-large ∙ q) (number_in i) refl (k (number_in i) coded)
 
-abbrev tag : Argument → ℕ
-tag x = denote.Enum.Declared.tag_of Rattle.table.specs.contracts.Argument.the_type x
+abbrev tag : ReadArgument → ℕ
+tag x = denote.Enum.Declared.tag_of Rattle.arguments.specs.contracts.ReadArgument.the_type x
 
-pub no_number : (x : Argument) → OneOf (0 ∷ 1 ∷ 2 ∷ 3 ∷ 4 ∷ 5 ∷ []) (tag x) → is_number x ≡ false
+pub no_number : (x : ReadArgument) → OneOf (0 ∷ 1 ∷ 2 ∷ 3 ∷ 4 ∷ 5 ∷ []) (tag x) → is_number x ≡ false
 no_number Nothing k = refl
 no_number (Indexed l n) k = refl
 no_number (Label n) k = refl
@@ -190,7 +196,7 @@ no_number (Class m) k = refl
 no_number (Text m) k = refl
 no_number (Number v) k = absurd (miss (0 ∷ 1 ∷ 2 ∷ 3 ∷ 4 ∷ 5 ∷ []) 6 tt k)
 
-pub no_text : (x : Argument) → OneOf (0 ∷ 1 ∷ 2 ∷ 3 ∷ 4 ∷ 6 ∷ []) (tag x) → is_text x ≡ false
+pub no_text : (x : ReadArgument) → OneOf (0 ∷ 1 ∷ 2 ∷ 3 ∷ 4 ∷ 6 ∷ []) (tag x) → is_text x ≡ false
 no_text Nothing k = refl
 no_text (Indexed l n) k = refl
 no_text (Label n) k = refl

@@ -1,6 +1,6 @@
 -- Texts and numbers of a statement that come to the tables: "different texts longer than one character", "different numbers beyond 15 in size".
 use Rattle.std.specs.Prelude.{◌≡◌, Bool, true, false, cond, not, ◌&&◌, List, [], ◌∷◌, ◌++◌, map, ℕ, ◌≤◌, leb, ltb, length, drop, ℤ, nat_abs}
-use Rattle.arguments.specs.Valued.{ItemValued, Valued}
+use Rattle.arguments.specs.Valued.{NamesText, ItemValued, Valued}
 use Rattle.arguments.specs.declared.Value.{Value}
 use Rattle.language.specs.Limits as limit
 use Rattle.language.specs.Program.{Program}
@@ -15,7 +15,8 @@ use Rattle.syntax.specs.Items.{Item, is, places}
 use Rattle.syntax.specs.Items.Sort.{word, text}
 use Rattle.syntax.specs.Questions.{beyond}
 use Rattle.syntax.specs.Tables.{fresh, number_in}
-use Rattle.table.specs.declared.Argument.{Argument}
+use Rattle.arguments.specs.declared.Quoted.{Quoted}
+use Rattle.arguments.specs.declared.ReadArgument.{ReadArgument}
 use Rattle.writing.specs.Writing.{no_program, HoldsProgram, IsNumber}
 
 -- one value at a table of at most 128: the table with it, and whether it has no room
@@ -94,8 +95,16 @@ pub record Addable (c : List ℕ) (n : ℕ) : Type 0 where
 abbrev pub AddsCode : ℕ → List ℕ → Bool → List ℕ → Type 0
 AddsCode n c r d = (z : ℤ) → IsNumber n z no_program → Adds same_number (λ p. p.numbers) set_numbers z c r d
 
+-- a text of some short item
+pub record EnterableText (s : List ℕ) (q : Quoted) (c : List ℕ) : Type 0 where
+  pub item : Item
+  pub text_is : is text item ≡ true
+  pub names : NamesText s q item.chars
+  pub short : ShortItem item
+  pub held : Held c
+
 -- the value x of some short item
-pub record EnterableValue (s : List ℕ) (x : Argument) (c : List ℕ) : Type 0 where
+pub record EnterableValue (s : List ℕ) (x : ReadArgument) (c : List ℕ) : Type 0 where
   pub item : Item
   pub valued : ItemValued s item x
   pub short : ShortItem item
@@ -114,11 +123,15 @@ pub record SomeValues (v : List Value) (c : List ℕ) : Type 0 where
   pub text : List ℕ
   pub enterable : EnterableValues text v c
 
--- whatever item has the value x, and whatever items have the values v
-abbrev pub TextEntered : List ℕ → Argument → List ℕ → Bool → List ℕ → Type 0
+-- whatever item is the text q, or has the value x, and whatever items have the values v
+abbrev pub QuotedEntered : List ℕ → Quoted → List ℕ → Bool → List ℕ → Type 0
+QuotedEntered s q c r d =
+    (i : Item) → is text i ≡ true → NamesText s q i.chars → EntersOne bytes_equal (λ j. j.chars) long_text (λ p. p.texts) set_texts i c r d
+
+abbrev pub TextEntered : List ℕ → ReadArgument → List ℕ → Bool → List ℕ → Type 0
 TextEntered s x c r d = (i : Item) → ItemValued s i x → EntersOne bytes_equal (λ j. j.chars) long_text (λ p. p.texts) set_texts i c r d
 
-abbrev pub NumberEntered : Argument → List ℕ → Bool → List ℕ → Type 0
+abbrev pub NumberEntered : ReadArgument → List ℕ → Bool → List ℕ → Type 0
 NumberEntered x c r d =
     (s : List ℕ) (i : Item) → ItemValued s i x → EntersOne same_number number_in large_number (λ p. p.numbers) set_numbers i c r d
 

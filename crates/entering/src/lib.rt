@@ -3,22 +3,23 @@
 
 ghost use Rattle.std.specs.Prelude.{◌≡◌, ◌||◌, ltb, length};
 ghost use Rattle.lists.specs.Lists.{bytes_equal};
-ghost use Rattle.entering.specs.Entering.{set_texts, Held, AddsCode, Addable, Adds, EnterableValue, EnterableValues, SomeValues, TextEntered, NumberEntered, TextsEntered, NumbersEntered};
+ghost use Rattle.entering.specs.Entering.{set_texts, Held, AddsCode, Addable, Adds, EnterableText, EnterableValue, EnterableValues, SomeValues, QuotedEntered, TextEntered, NumberEntered, TextsEntered, NumbersEntered};
 
-use arguments::Value;
+use arguments::{Quoted, ReadArgument, Value};
 use language::Machine;
 use statements::Fault;
-use table::Argument;
+use table::Table;
 
 // Adds a text, unless it is there; whether it is there then.
 fn add_text(table: &mut [u32], word: &[u8]) -> bool
     requires { Addable table.old (length word.now) }
     ensures { Adds bytes_equal (λ p. p.texts) set_texts word.now table.old result table.new }
 {
-    if finding::find_text(table, word).is_some() {
+    let draft = Table { cells: table };
+    if finding::find_text(draft, word).is_some() {
         return true;
     }
-    if table::texts(table) == Machine::TEXTS {
+    if draft.texts() == Machine::TEXTS {
         return false;
     }
     writing::put_text(table, word);
@@ -31,10 +32,11 @@ fn add_number(table: &mut [u32], code: u32) -> bool
     requires { Held table.old }
     ensures { AddsCode code table.old result table.new }
 {
-    if finding::find_number(table, code).is_some() {
+    let draft = Table { cells: table };
+    if finding::find_number(draft, code).is_some() {
         return true;
     }
-    if table::numbers(table) == Machine::NUMBERS {
+    if draft.numbers() == Machine::NUMBERS {
         return false;
     }
     writing::put_number(table, code);
@@ -48,21 +50,27 @@ fn is_large(code: u32) -> bool
     !(8388592..=8388622).contains(&code)
 }
 
-// Adds the text of a value, unless it has one character or none; whether it is there then.
+// Adds a text, unless it has one character or none; whether it is there then.
 // A bool here and in `enter_number_of`: no value comes with it, and the loops that ask name the place at fault.
-pub fn enter_text_of(text: &[u8], x: Argument, table: &mut [u32]) -> bool
+pub fn enter_text_of(text: &[u8], q: Quoted, table: &mut [u32]) -> bool
+    requires { EnterableText text.now q table.old }
+    ensures { QuotedEntered text.now q table.old result table.new }
+{
+    let mut word = [0u8; 60];
+    let n = spelling::put_text(text, q.at + 1, q.end, &mut word);
+    if n < 2 {
+        return true;
+    }
+    add_text(table, &word[..n])
+}
+
+// Adds the text of a value, if it is one; whether it is there then.
+fn enter_text_in(text: &[u8], x: ReadArgument, table: &mut [u32]) -> bool
     requires { EnterableValue text.now x table.old }
     ensures { TextEntered text.now x table.old result table.new }
 {
     match x {
-        Argument::Text(m) => {
-            let mut word = [0u8; 60];
-            let n = spelling::put_text(text, m / 65536 + 1, m % 65536, &mut word);
-            if n < 2 {
-                return true;
-            }
-            add_text(table, &word[..n])
-        }
+        ReadArgument::Text(q) => enter_text_of(text, q, table),
         _ => true,
     }
 }
@@ -73,7 +81,7 @@ pub fn enter_text_values(text: &[u8], v: [Value; 3], table: &mut [u32]) -> Fault
     ensures { TextsEntered text.now v table.old result table.new }
 {
     for value in v {
-        if !enter_text_of(text, value.argument, table) {
+        if !enter_text_in(text, value.argument, table) {
             return Some(value.at);
         }
     }
@@ -81,12 +89,12 @@ pub fn enter_text_values(text: &[u8], v: [Value; 3], table: &mut [u32]) -> Fault
 }
 
 // Adds the number of a value, unless it is within 15 in size; whether it is there then.
-fn enter_number_of(x: Argument, table: &mut [u32]) -> bool
+fn enter_number_of(x: ReadArgument, table: &mut [u32]) -> bool
     requires { Held table.old }
     ensures { NumberEntered x table.old result table.new }
 {
     match x {
-        Argument::Number(code) => !is_large(code) || add_number(table, code),
+        ReadArgument::Number(code) => !is_large(code) || add_number(table, code),
         _ => true,
     }
 }
@@ -107,7 +115,7 @@ pub fn enter_number_values(v: [Value; 3], table: &mut [u32]) -> Fault
 
 // Of `arguments`, passed on to the crates above.
 pub mod from_arguments {
-    pub use arguments::Value;
+    pub use arguments::{Quoted, ReadArgument, Value};
 }
 
 // Of `finding`, passed on to the crates above.

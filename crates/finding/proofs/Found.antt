@@ -2,7 +2,7 @@
 use mathlib.Core.Path.{◌≡◌, refl, sym, ap, ◌∙◌, subst}
 use mathlib.Core.Bool.{Bool, true, false, ◌||◌}
 use mathlib.Core.List.{List, [], ◌∷◌, ◌++◌, map}
-use Prim.Native.Nat.{ℕ, zero, suc, ◌+◌, ◌*◌, ◌-◌, ◌%◌, ◌≤◌, ◌<◌}
+use Prim.Native.Nat.{ℕ, zero, suc, ◌+◌, ◌*◌, ◌%◌, ◌≤◌, ◌<◌}
 use native.Mathlib.Nat.{not-suc-le-zero, le_of_suc-le-suc}
 use native.Mathlib.Omega.{arith}
 use native.Mathlib.Decide.{dec_lt}
@@ -20,13 +20,13 @@ use Rattle.language.specs.Program.{Label, Program, no_label}
 use Rattle.language.specs.Values.{same_number}
 use Rattle.layout.proofs.CellLaws.{each_in, uncode-code, length-fours, take-unfours, block_at, first_cell, padded-at, get_d-map-at}
 use Rattle.layout.specs.Cells.{cell, fours, code, uncode}
-use Rattle.layout.specs.Table.{label_cells, text_cells, counts, chars_in, text_in, text_by, label_in}
+use Rattle.layout.specs.Table.{label_cells, text_cells, counts, chars_in, text_in, label_in}
 use Rattle.layout.specs.Places as layout
 use Rattle.lists.specs.Lists.{any, ahead, bytes_equal}
 use Rattle.lists.specs.SearchLaws.{ahead-is, position_or_length}
 use Rattle.machine.proofs.ValueLaws.{same_number-eq, same_number-refl}
 use Rattle.packed.specs.Packed.{table_of}
-use Rattle.table.proofs.Keys.{text-many, place-some, place-none}
+use Rattle.table.proofs.Keys.{place-some, place-none}
 use Rattle.writing.proofs.Growing.{code_part, labels_part, texts_part, switches_part, entries_part, numbers_part, parts, in_parts, label-long, text-long, sizes}
 use Rattle.writing.proofs.Held.{text_count, label_count, number_count}
 use Rattle.writing.proofs.Parts.{labels_at, texts-at, numbers-at}
@@ -130,16 +130,13 @@ same_code z y h k = go (same_number z y) refl
 
 module _ (c w : List ℕ) where
   abbrev pub text_hit : ℕ → Bool
-  text_hit j = bytes_equal (text_by (table_of c) (256 + j)) w
+  text_hit j = bytes_equal (text_in (table_of c) j) w
 
   abbrev pub name_hit : ℕ → Bool
   name_hit j = bytes_equal (label_in (table_of c) j).name w
 
   text-tests : (p : Program) → HoldsProgram c p → (j : ℕ) → j < length p.texts → text_hit j ≡ bytes_equal w (get_or p.texts j [])
-  text-tests p h j l =
-      let z : 256 + j - 256 ≡ j = omega arith in
-      ap (λ (t : List ℕ). bytes_equal t w) (text-many (table_of c) (256 + j) (omega arith) ∙ ap (text_in (table_of c)) z ∙ text-read c p h j l)
-      ∙ same_bytes-sym (get_or p.texts j []) w
+  text-tests p h j l = ap (λ (t : List ℕ). bytes_equal t w) (text-read c p h j l) ∙ same_bytes-sym (get_or p.texts j []) w
 
   name-tests : (p : Program) → HoldsProgram c p → (j : ℕ) → j < length p.labels → name_hit j ≡ bytes_equal w (get_or p.labels j no_label).name
   name-tests p h j l = ap (λ (t : List ℕ). bytes_equal t w) (name-read c p h j l) ∙ same_bytes-sym (get_or p.labels j no_label).name w
@@ -238,4 +235,4 @@ some_any {X} q xs e = any_ahead xs ∙ ap (λ (n : ℕ). ltb n (length xs)) (ahe
 
 module _ (c : List ℕ) (p : Program) (h : HoldsProgram c p) where
   pub labels-counted : Counted c 1 128
-  labels-counted = record { long = h.long; most = omega (arith, label_count c p h, h.tabular.labels_most) }
+  labels-counted = record { most = omega (arith, label_count c p h, h.tabular.labels_most) }

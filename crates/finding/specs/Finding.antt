@@ -1,7 +1,6 @@
 -- Searches in a program table while it is written: what they ask and promise.
-use Rattle.std.specs.Prelude.{◌≡◌, Bool, List, Option, ℕ, ◌≤◌, ◌<◌, length, position}
+use Rattle.std.specs.Prelude.{◌≡◌, Bool, List, Option, ℕ, ◌≤◌, ◌<◌, position}
 use Rattle.std.specs.Option.{IfSome}
-use Rattle.language.specs.Limits as limit
 use Rattle.language.specs.Program.{Program}
 use Rattle.layout.specs.Cells.{cell}
 use Rattle.packed.specs.Packed.{table_of}
@@ -9,7 +8,6 @@ use Rattle.writing.specs.Writing.{HoldsProgram}
 
 -- the count in cell k is at most n
 pub record Counted (c : List ℕ) (k n : ℕ) : Type 0 where
-  pub long : limit.table ≤ length c
   pub most : cell (table_of c) k ≤ n
 
 -- r is the place of the first that passes in the list f of whatever program the cells c hold, and a place is less than 128

@@ -4,9 +4,8 @@ use mathlib.Core.Bool.{Bool, true, false, not}
 use mathlib.Core.List.{List, ◌∷◌, map}
 use Prim.Native.Nat.{ℕ, ◌-◌, ◌≤◌}
 use native.Mathlib.Omega.{arith}
-use lib.Dec.{eqb}
 use lib.ListN.{length, take, length-take, length-map}
-use borrow.Author.Tests.{eq-eqb, ne_eqb}
+use Rattle.std.specs.Option.{is_none}
 use Rattle.progress.specs.Closing.{Ends}
 use Rattle.progress.specs.declared.Closing.{Closing}
 use Rattle.drafts.specs.Marks.{marks_in, place_by, word_by}
@@ -61,9 +60,6 @@ module _ {s lines : List ℕ} {d : Draft} {g : Progress} {ms c sw en : List ℕ}
       let e : length (take g.names ms) ≡ g.names = sym (length-map (take g.names ms) (word_by s)) ∙ ap length n.names_are ∙ n.count_is in
       omega (arith, length-take g.names ms, e)
 
-  pub table-long : 8192 ≤ length c
-  table-long = h.tabled.holds.long
-
   pub kept : Kept s c sw en
   kept = record { lines = lines; tables = d.tables; tabled = h.tabled }
 
@@ -81,7 +77,7 @@ module _ {s lines : List ℕ} {d : Draft} {g : Progress} {ms c sw en : List ℕ}
 
 module _ {s : List ℕ} {g : Progress} {ms c sw en : List ℕ} {last : ℕ} (l : last ≡ last_place s) where
   -- 00 is asked of the draft's section
-  asked : {lines : List ℕ} (d : Draft) → Drafted s lines d g ms c sw en → (b : Bool) → eqb g.section 0 ≡ b
+  asked : {lines : List ℕ} (d : Draft) → Drafted s lines d g ms c sw en → (b : Bool) → is_none g.section ≡ b
       → first_no (last_questions (last_place s) d)
       ≡ then (decided 0 (fault_of (absent (not b) (last_place s)))) (then (decided 25 (fault_of (end_faults (last_place s) d))) (first_no (last_two d.tables)))
   unfolding last_questions
@@ -90,16 +86,16 @@ module _ {s : List ℕ} {g : Progress} {ms c sw en : List ℕ} {last : ℕ} (l :
       ∙ ap (λ (x : Bool). then (decided 0 (fault_of (absent (not x) (last_place s)))) (first_no (ask 25 (end_faults (last_place s) d) ∷ last_two d.tables))) (h.tells.section.first_is ∙ e)
       ∙ ap (λ (x : spec.Verdict). then (decided 0 (fault_of (absent (not b) (last_place s)))) x) (question-decides 25 (end_faults (last_place s) d) (last_two d.tables))
 
-  pub no-section : g.section ≡ 0 → (v : Verdict) → verdict_of v ≡ refuse 0 last → Finishes s g ms c sw en v c
+  pub no-section : is_none g.section ≡ true → (v : Verdict) → verdict_of v ≡ refuse 0 last → Finishes s g ms c sw en v c
   unfolding spec.lowest
   no-section z v w =
       record {
-        verdict_is = λ lines d h. w ∙ ap (refuse 0) l ∙ sym (asked d h true (eq-eqb g.section 0 z));
+        verdict_is = λ lines d h. w ∙ ap (refuse 0) l ∙ sym (asked d h true z);
         holds = λ q. absurd (not_yes v w q);
         beyond = refl;
       }
 
-  module _ (n : g.section ≡ 0 → ⊥) {k : Closing} {code : ℕ} {ended waiting f : Fault} (u : Ends last k code ended waiting f)
+  module _ (n : is_none g.section ≡ false) {k : Closing} {code : ℕ} {ended waiting f : Fault} (u : Ends last k code ended waiting f)
       (k-is : k ≡ g.closing) (code_of_lem : code ≡ cell (table_of c) 0) (ended_is : ended ≡ g.ended)
       (waiting-of : waiting ≡ fault_of (map place_by (marks_in ms (g.names - g.waiting) g.names))) where
     fault-here : {lines : List ℕ} (d : Draft) → Drafted s lines d g ms c sw en → f ≡ fault_of (end_faults (last_place s) d)
@@ -109,7 +105,7 @@ module _ {s : List ℕ} {g : Progress} {ms c sw en : List ℕ} {last : ℕ} (l :
     then-asked : {lines : List ℕ} (d : Draft) → Drafted s lines d g ms c sw en
         → first_no (last_questions (last_place s) d) ≡ then (decided 25 f) (first_no (last_two d.tables))
     then-asked d h =
-        asked d h false (ne_eqb g.section 0 n) ∙ ap (λ (x : Fault). then (decided 25 x) (first_no (last_two d.tables))) (sym (fault-here d h))
+        asked d h false n ∙ ap (λ (x : Fault). then (decided 25 x) (first_no (last_two d.tables))) (sym (fault-here d h))
 
     pub not-ended : (at : ℕ) → f ≡ Some at → (v : Verdict) → verdict_of v ≡ refuse 25 at → Finishes s g ms c sw en v c
     not-ended at e v w =

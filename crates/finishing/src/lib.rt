@@ -10,6 +10,7 @@ use linking::Missing;
 use names::lowest_mark;
 use progress::Progress;
 use statements::{Verdict, refused};
+use table::Table;
 
 // The place of the last byte, 0 in an empty text.
 fn last_place(text: &[u8]) -> usize
@@ -43,11 +44,11 @@ pub fn finish(
     ensures { Finishes text.now p names.now table.old switches.now entries.now result table.new }
 {
     let last = last_place(text);
-    if p.section == 0 {
+    if p.section.is_none() {
         return refused(0, last);
     }
-    let waiting = lowest_mark(names, p.first_waiting(), p.names);
-    let code = table::instructions(table);
+    let waiting = lowest_mark(&names[p.first_waiting()..p.names]);
+    let code = Table { cells: table }.instructions();
     let ended = p.ended;
     match progress::end_fault(last, p.closing, code, ended, waiting) {
         Some(at) => refused(25, at),

@@ -15,14 +15,12 @@ use Rattle.lists.specs.Lists.{head_or, keep, among}
 use Rattle.lists.specs.TableLaws.{below, Missed, missed}
 use Rattle.words.specs.Below.ArgumentForms.{is_indexed, letter_of, word_reads}
 use Rattle.words.specs.Words.{is_class, numeral_of, indexed_of}
-use Rattle.words.specs.declared.Lettered as Found
-use Rattle.words.specs.declared.Numeral.{Numeral}
-use Rattle.std.proofs.Common.{Option, None, eqb-true}
+use Rattle.words.specs.declared.Lettered.{Lettered}
+use Rattle.std.proofs.Common.{Option, None, Some, eqb-true}
 use Rattle.std.proofs.lemmas.Bool.{eqb-false}
 use Rattle.forms.specs.Forms.{forms, bits, mask, bit_of, only, set_at}
-use Rattle.forms.specs.Reading.{lives_first, lives_second, if_form, if_taken, shared, taken, taken_at}
+use Rattle.forms.specs.Reading.{Reads, lives_first, lives_second, if_form, if_taken, shared, taken, taken_at}
 use Rattle.forms.specs.declared.Live.{Live}
-use Rattle.forms.specs.declared.Taken.{Taken}
 use Rattle.forms.specs.Kinds.{kind_reads, OfKind, word_kinds}
 use Rattle.forms.specs.KindLaws.{place-small, of_number, of-nothing, of-class, of-name, of-letter}
 
@@ -51,7 +49,7 @@ only_rest s m = go (eqb s 262144) refl
     go false e = sym (ap (λ (fs : List ℕ). if_form (head_or 45 fs)) (none_kept bit_of s forms (missed (map bit_of forms) s (m, eqb-false s 262144 e))))
 
 -- what is taken by the parts that the code makes
-pub taken_parts : (op place kinds : ℕ) (live : Live) {p q : Bool} {a b c d : ℕ} {r : Option Taken} → p ≡ lives_first live → q ≡ lives_second live
+pub taken_parts : (op place kinds : ℕ) (live : Live) {p q : Bool} {a b c d : ℕ} {r : Option Reads} → p ≡ lives_first live → q ≡ lives_second live
     → c ≡ set_at op 0 place → d ≡ set_at op 1 place → a ≡ shared p kinds c → b ≡ shared q kinds d → r ≡ if_taken (taken live a b)
     → r ≡ if_taken (taken_at op live place kinds)
 unfolding taken_at
@@ -86,46 +84,53 @@ module _ (w : List ℕ) where
   abbrev number : Bool
   number = numeral w && in_range (value_of w)
 
-  some_number : {n : ℕ} → Numeral.Code n ≡ numeral_of w → number ≡ true
+  some_number : {n : ℕ} → Some n ≡ numeral_of w → number ≡ true
   unfolding numeral_of
   some_number {n} e = go number e
     where
-      go : (t : Bool) → Numeral.Code n ≡ cond t (Numeral.Code (code (value_of w))) Numeral.Not → t ≡ true
+      go : (t : Bool) → Some n ≡ cond t (Some (code (value_of w))) None → t ≡ true
       go true e = refl
       go false e = cc
 
-  no_number : Numeral.Not ≡ numeral_of w → number ≡ false
+  no_number : None ≡ numeral_of w → number ≡ false
   unfolding numeral_of
   no_number e = go number e
     where
-      go : (t : Bool) → Numeral.Not ≡ cond t (Numeral.Code (code (value_of w))) Numeral.Not → t ≡ false
+      go : (t : Bool) → None ≡ cond t (Some (code (value_of w))) None → t ≡ false
       go true e = cc
       go false e = refl
+
+  abbrev lettered_by : ℕ → ℕ → Option Lettered
+  lettered_by k n = Some (record { place = k; index = n })
+
+  abbrev place_in : Option Lettered → ℕ
+  place_in None = 12
+  place_in (Some l) = l.place
 
   abbrev first : Letter
   first = letter_of (head_or 0 w)
 
-  some-letter : {k n : ℕ} → Found.Lettered.At k n ≡ indexed_of w → (is_indexed w first ≡ true) × (k ≡ letter_place first)
+  some-letter : {k n : ℕ} → lettered_by k n ≡ indexed_of w → (is_indexed w first ≡ true) × (k ≡ letter_place first)
   unfolding indexed_of
   some-letter {k} {n} e = go (is_indexed w first) e
     where
-      go : (t : Bool) → Found.Lettered.At k n ≡ cond t (Found.Lettered.At (letter_place first) (amount 0 (drop 1 w))) Found.Lettered.Not → (t ≡ true) × (k ≡ letter_place first)
-      go true e = (refl, cc)
+      go : (t : Bool) → lettered_by k n ≡ cond t (lettered_by (letter_place first) (amount 0 (drop 1 w))) None → (t ≡ true) × (k ≡ letter_place first)
+      go true e = (refl, ap place_in e)
       go false e = (cc, cc)
 
-  no-letter : Found.Lettered.Not ≡ indexed_of w → is_indexed w first ≡ false
+  no-letter : None ≡ indexed_of w → is_indexed w first ≡ false
   unfolding indexed_of
   no-letter e = go (is_indexed w first) e
     where
-      go : (t : Bool) → Found.Lettered.Not ≡ cond t (Found.Lettered.At (letter_place first) (amount 0 (drop 1 w))) Found.Lettered.Not → t ≡ false
+      go : (t : Bool) → None ≡ cond t (lettered_by (letter_place first) (amount 0 (drop 1 w))) None → t ≡ false
       go true e = cc
       go false e = refl
 
   module _ (e : identifier w ≡ false) where
-    pub number-kind : {n : ℕ} → Numeral.Code n ≡ numeral_of w → 4096 ≡ word_kinds w
+    pub number-kind : {n : ℕ} → Some n ≡ numeral_of w → 4096 ≡ word_kinds w
     number-kind h = kinds_by w (of_number w e (some_number h))
 
-    pub no_kind : Numeral.Not ≡ numeral_of w → 0 ≡ word_kinds w
+    pub no_kind : None ≡ numeral_of w → 0 ≡ word_kinds w
     no_kind h = kinds_by w (of-nothing w e (no_number h))
 
   module _ (e : identifier w ≡ true) where
@@ -133,10 +138,10 @@ module _ (w : List ℕ) where
     class-kind c = kinds_by w (of-class w e c)
 
     module _ (c : is_class w ≡ false) where
-      pub letter-kind : {k n : ℕ} → Found.Lettered.At k n ≡ indexed_of w → (k < 12) × (229376 + 2 ^ k ≡ word_kinds w)
+      pub letter-kind : {k n : ℕ} → lettered_by k n ≡ indexed_of w → (k < 12) × (229376 + 2 ^ k ≡ word_kinds w)
       letter-kind h =
           let s = some-letter h in
           rw s.1 (place-small first, letter-set (letter_place first) (place-small first) ∙ kinds_by w (of-letter w e c s.0))
 
-      pub name-kind : Found.Lettered.Not ≡ indexed_of w → 229376 ≡ word_kinds w
+      pub name-kind : None ≡ indexed_of w → 229376 ≡ word_kinds w
       name-kind h = kinds_by w (of-name w e c (no-letter h))

@@ -11,14 +11,15 @@ use Prim.Native.Nat.{ℕ, zero, suc, ◌≤◌, ◌<◌}
 use native.Mathlib.Omega.{arith}
 use lib.Dec.{ltb, leb, eqb, eqb→eq, leb→le, ltb→lt}
 use lib.ListN.{length, get_or, get_or-eq_default}
-use Rattle.language.specs.Instructions.{Forms, operation, operators, number_of, is_call, is_end}
+use Rattle.language.specs.Instructions.{Forms as Listed, operation, operators, number_of, is_call, is_end}
 use Rattle.language.specs.Program.{Op}
 use Rattle.lists.specs.ListLaws.{T-left, T-right}
 use Rattle.lists.specs.Lists.{if_any, keep}
 use Rattle.lists.specs.Quoted.{bytes}
 use Rattle.lists.specs.TableLaws.{below, below-unless}
 use Rattle.words.specs.Below.ArgumentForms.{alternatives}
-use Rattle.forms.specs.Forms.{Sets, SetsOf, by_number, nothing, set_of, listed, set_at, most_of, least_of, calls, ends}
+use Rattle.forms.specs.Forms.{Sets, SetsOf, sets, by_number, nothing, set_of, listed, set_at, most_of, least_of, calls, ends}
+use Rattle.forms.specs.declared.Forms.{Forms}
 use Rattle.forms.specs.ReadingLaws.{numbered, two-lists}
 
 by-number : {X : Type 0} {n : ℕ} {o : Op} → number_of o ≡ n → (z : X) (f : Op → X) → by_number z f n ≡ f o
@@ -49,12 +50,15 @@ read-none {n = n} {r} h k e z f = ap (if_any z f) (no-operators n h (λ a b. not
     not-ok : (r : Result Operator NoOperator) {w : NoOperator} → r ≡ Err w → is_ok r ≡ true → ⊥
     not-ok r e q = true≢false (sym q ∙ ap is_ok e)
 
+abbrev empty : Forms
+empty = record { bits = 0 }
+
 -- the places of a list
 none-by : (f : Op → ℕ) → ((o : Op) → f o ≡ 0) → (os : List Op) → if_any 0 f os ≡ 0
 none-by f h [] = refl
 none-by f h (o ∷ os) = h o
 
-three-places : (fs : List Forms) (list place : ℕ) → 3 ≤ place → get_or (get_or (map (λ f. bytes f.0 ∷ bytes f.1 ∷ bytes f.2 ∷ []) fs) list []) place [] ≡ []
+three-places : (fs : List Listed) (list place : ℕ) → 3 ≤ place → get_or (get_or (map (λ f. bytes f.0 ∷ bytes f.1 ∷ bytes f.2 ∷ []) fs) list []) place [] ≡ []
 three-places [] list place h = refl
 three-places (f ∷ fs) zero place h = get_or-eq_default (bytes f.0 ∷ bytes f.1 ∷ bytes f.2 ∷ []) [] h
 three-places (f ∷ fs) (suc list) place h = three-places fs list place h
@@ -69,24 +73,24 @@ set-by-place n list (suc zero) = refl
 set-by-place n list (suc (suc zero)) = refl
 set-by-place n list (suc (suc (suc place))) = sym (past-set n list (suc (suc (suc place))) (omega arith))
 
-pub set_in : (n list place : ℕ) {r : ℕ} {p : List ℕ} → Sets n list p → r ≡ get_or p place 0 → r ≡ set_at n list place
-set_in n list place s h = h ∙ ap (λ (q : List ℕ). get_or q place 0) s ∙ set-by-place n list place
+pub set_in : (n list place : ℕ) {r : ℕ} (p : List Forms) → Sets n list p → r ≡ get_or (sets p) place 0 → r ≡ set_at n list place
+set_in n list place p s h = h ∙ ap (λ (q : List ℕ). get_or q place 0) s ∙ set-by-place n list place
 
 -- no instruction has more than two lists
-pub past_list : (o : Op) {list : ℕ} → (list ≡ 0 → ⊥) → (list ≡ 1 → ⊥) → SetsOf o list (0 ∷ 0 ∷ 0 ∷ [])
+pub past_list : (o : Op) {list : ℕ} → (list ≡ 0 → ⊥) → (list ≡ 1 → ⊥) → SetsOf o list (empty ∷ empty ∷ empty ∷ [])
 unfolding SetsOf
 past_list o {list} a b = rw (get_or-eq_default (alternatives o) [] {n = list} (omega (arith, two-lists o))) refl
 
 -- the sets of an operator, by its number
-pub listed_sets : {n : ℕ} {r : Result Operator NoOperator} {o : Operator} (list : ℕ) {p : List ℕ} → Numbers n r → r ≡ Ok o → SetsOf (op_by o) list p → Sets n list p
+pub listed_sets : {n : ℕ} {r : Result Operator NoOperator} {o : Operator} (list : ℕ) (p : List Forms) → Numbers n r → r ≡ Ok o → SetsOf (op_by o) list p → Sets n list p
 unfolding set_at SetsOf
-listed_sets {o = o} list k e s =
+listed_sets {o = o} list p k e s =
     s ∙ same (sym (read-as k e 0 (λ x. set_of (listed x list 0)))) (sym (read-as k e 0 (λ x. set_of (listed x list 1)))) (sym (read-as k e 0 (λ x. set_of (listed x list 2))))
   where
     same : {a b c x y z : ℕ} → a ≡ x → b ≡ y → c ≡ z → ◌≡◌ {A = List ℕ} (a ∷ b ∷ c ∷ []) (x ∷ y ∷ z ∷ [])
     same e f g = rw (e, f, g) refl
 
-pub no_sets : {n : ℕ} {r : Result Operator NoOperator} {w : NoOperator} (list : ℕ) → n < 256 → Numbers n r → r ≡ Err w → Sets n list (0 ∷ 0 ∷ 0 ∷ [])
+pub no_sets : {n : ℕ} {r : Result Operator NoOperator} {w : NoOperator} (list : ℕ) → n < 256 → Numbers n r → r ≡ Err w → Sets n list (empty ∷ empty ∷ empty ∷ [])
 unfolding set_at
 no_sets list h k e = same (sym (read-none h k e 0 (λ x. set_of (listed x list 0)))) (sym (read-none h k e 0 (λ x. set_of (listed x list 1)))) (sym (read-none h k e 0 (λ x. set_of (listed x list 2))))
   where
@@ -94,14 +98,14 @@ no_sets list h k e = same (sym (read-none h k e 0 (λ x. set_of (listed x list 0
     same e f g = rw (← e, ← f, ← g) refl
 
 -- how many arguments an instruction takes, computed for every number
-abbrev pub sets : ℕ → List ℕ
-sets n = set_at n 0 0 ∷ set_at n 0 1 ∷ set_at n 0 2 ∷ []
+abbrev pub sets_by : ℕ → List ℕ
+sets_by n = set_at n 0 0 ∷ set_at n 0 1 ∷ set_at n 0 2 ∷ []
 
 abbrev pub not_empty : ℕ → ℕ
-not_empty n = count_by (λ s. not (eqb s 0) && not (eqb s nothing)) (sets n)
+not_empty n = count_by (λ s. not (eqb s 0) && not (eqb s nothing)) (sets_by n)
 
 abbrev pub needed : ℕ → ℕ
-needed n = count_by (λ s. not (eqb s 0) && ltb s nothing) (sets n)
+needed n = count_by (λ s. not (eqb s 0) && ltb s nothing) (sets_by n)
 
 pub most-counted : (n : ℕ) → n < 256 → (not_empty n ≡ most_of n) × (most_of n ≤ 3)
 unfolding most_of set_at

@@ -5,6 +5,7 @@ use Rattle.language.specs.Program.{Op}
 use Rattle.lists.specs.Lists.{ahead, head_or, if_any, keep, among}
 use Rattle.lists.specs.Quoted.{bytes}
 use Rattle.words.specs.Below.ArgumentForms.{alternatives, most, least}
+use Rattle.forms.specs.declared.Forms.{Forms}
 
 -- the forms, by their bits
 abbrev pub forms : List ℕ
@@ -42,11 +43,14 @@ unfoldable pub set_at : ℕ → ℕ → ℕ → ℕ
 set_at n list place = by_number 0 (λ o. set_of (listed o list place)) n
 
 -- p has the sets of the three places of a list, of an instruction and by the number of an operator
-unfoldable pub SetsOf : Op → ℕ → List ℕ → Type 0
-SetsOf o list p = p ≡ set_of (listed o list 0) ∷ set_of (listed o list 1) ∷ set_of (listed o list 2) ∷ []
+abbrev pub sets : List Forms → List ℕ
+sets p = map (λ f. f.bits) p
 
-abbrev pub Sets : ℕ → ℕ → List ℕ → Type 0
-Sets n list p = p ≡ set_at n list 0 ∷ set_at n list 1 ∷ set_at n list 2 ∷ []
+unfoldable pub SetsOf : Op → ℕ → List Forms → Type 0
+SetsOf o list p = sets p ≡ set_of (listed o list 0) ∷ set_of (listed o list 1) ∷ set_of (listed o list 2) ∷ []
+
+abbrev pub Sets : ℕ → ℕ → List Forms → Type 0
+Sets n list p = sets p ≡ set_at n list 0 ∷ set_at n list 1 ∷ set_at n list 2 ∷ []
 
 -- how many lists an instruction has; how many arguments it takes at most, and at least
 unfoldable pub lists_of : ℕ → ℕ

@@ -1,3 +1,4 @@
+pub mod Letters
 pub mod Forms
 pub mod Kinds
 pub mod KindLaws

@@ -4,6 +4,7 @@ use Rattle.std.specs.Int.Bits.{bit_and}
 use Rattle.language.specs.Program.{Op}
 use Rattle.words.specs.Below.ArgumentForms.{alternatives}
 use Rattle.forms.specs.Forms.{set_at, only}
+use Rattle.forms.specs.Letters.{letter}
 use Rattle.forms.specs.declared.Live.{Live}
 use Rattle.forms.specs.declared.Taken.{Taken}
 
@@ -31,8 +32,13 @@ lists_at o live place = map (drop place) (chosen live (alternatives o))
 unfoldable pub shared : Bool → ℕ → ℕ → ℕ
 shared lives kinds set = cond lives (bit_and kinds set) 0
 
+-- the letter of the form that an argument is read by, - for none, and the lists that are left
+pub record Reads : Type 0 where
+  pub form : ℕ
+  pub live : Live
+
 -- an argument that shares a with the first list and b with the second
-unfoldable pub taken : Live → ℕ → ℕ → Taken
+unfoldable pub taken : Live → ℕ → ℕ → Reads
 taken live a b =
     cond (eqb a 0)
     (cond (eqb b 0) (record { form = 45; live = live }) (record { form = only b; live = Live.Second }))
@@ -42,10 +48,13 @@ taken live a b =
 abbrev pub if_form : ℕ → Option ℕ
 if_form f = cond (eqb f 45) None (Some f)
 
-abbrev pub if_taken : Taken → Option Taken
+abbrev pub read_as : Taken → Reads
+read_as t = record { form = letter t.form; live = t.live }
+
+abbrev pub if_taken : Reads → Option Reads
 if_taken t = cond (eqb t.form 45) None (Some t)
 
 -- an argument at a place of the instruction of a number, by the set of forms that it reads as
-unfoldable pub taken_at : ℕ → Live → ℕ → ℕ → Taken
+unfoldable pub taken_at : ℕ → Live → ℕ → ℕ → Reads
 taken_at n live place kinds =
     taken live (shared (lives_first live) kinds (set_at n 0 place)) (shared (lives_second live) kinds (set_at n 1 place))

@@ -17,10 +17,9 @@ use Rattle.words.specs.Below.Items.{Item}
 use Rattle.forms.specs.Forms.{set_of, by_number, listed, set_at, most_of, least_of, calls, ends, only}
 use Rattle.forms.specs.Kinds.{item_kinds}
 use Rattle.forms.specs.KindLaws.{item-kind}
-use Rattle.forms.specs.Reading.{lives_first, lives_second, chosen, lists_at, shared, taken, taken_at}
+use Rattle.forms.specs.Reading.{Reads, lives_first, lives_second, chosen, lists_at, shared, taken, taken_at}
 use Rattle.forms.specs.SetLaws.{by-operator, shared-form, shared-some}
 use Rattle.forms.specs.declared.Live.{Live}
-use Rattle.forms.specs.declared.Taken.{Taken}
 
 -- an operator by its number
 first-kept : {X Y : Type 0} (z : Y) (f : X → Y) (p : X → Bool) (d : X) (xs : List X) → ahead p xs < length xs → if_any z f (keep p xs) ≡ f (get_or xs (ahead p xs) d)
@@ -81,13 +80,13 @@ module _ (p : ℕ → Bool) where
   form_of ys = form_in (head_or [] (keep takes ys))
 
   -- what is taken where the first list takes it by a, and the second by b
-  abbrev by_tests : Live → Bool → Bool → ℕ → ℕ → Taken
+  abbrev by_tests : Live → Bool → Bool → ℕ → ℕ → Reads
   by_tests live a b f g =
       cond a
       (cond b (record { form = f; live = Live.Both }) (record { form = f; live = Live.First }))
       (cond b (record { form = g; live = Live.Second }) (record { form = 45; live = live }))
 
-  record Step (ys : List (List (List ℕ))) (live : Live) (t : Taken) : Type 0 where
+  record Step (ys : List (List (List ℕ))) (live : Live) (t : Reads) : Type 0 where
     form : form_of (chosen live ys) ≡ t.form
     lists : left (chosen live ys) ≡ chosen t.live ys
 
@@ -198,7 +197,7 @@ module _ (i : Item) (o : Op) (place : ℕ) where
   formed false n e = cc
 
   module _ (live : Live) where
-    abbrev t : Taken
+    abbrev t : Reads
     t = taken_at (operation o).number live place (item_kinds i)
 
     step : Step p ys live t

@@ -1,88 +1,281 @@
 // The argument forms of the 41 instructions as sets of bits.
 #![tactic(auto)]
 
-ghost use Rattle.std.specs.Prelude.{◌≡◌, not, ◌&&◌, ◌^◌, ◌<◌, ◌≤◌, eqb, ltb, count_by, get_or};
-ghost use Rattle.forms.specs.Forms.{Sets, SetsOf, nothing, set_at, most_of, least_of, calls, ends, only};
+ghost use Rattle.std.specs.Prelude.{◌≡◌, not, ◌&&◌, ◌+◌, ◌^◌, ◌<◌, ◌≤◌, eqb, ltb, count_by, get_or};
+ghost use Rattle.std.specs.Int.Bits.{bit_and};
+ghost use Rattle.std.specs.Option.{option_map};
+ghost use Rattle.forms.specs.Forms.{Sets, SetsOf, sets, nothing, set_at, most_of, least_of, calls, ends, only};
+ghost use Rattle.forms.specs.Letters.{letter};
 ghost use Rattle.language.specs.Instructions.{operation, is_call, is_end};
 ghost use Rattle.language.specs.Operators.{op_by};
-ghost use Rattle.forms.specs.Reading.{if_form, if_taken, shared, taken, taken_at};
+ghost use Rattle.forms.specs.Reading.{if_form, if_taken, read_as, shared, taken, taken_at};
 
 use language::Operator;
 
-// A form is a bit: the letters of indexed letters, a number, a class, a text, a label, a NAZWA and an INDEKS switch, nothing.
-pub const A: u32 = 1;
+// What an argument is read as: one of the indexed letters, a number, a class, a text, a label, a switch NAZWA or INDEKS, or nothing.
+#[derive(Clone, Copy, Debug, PartialEq, Eq)]
+pub enum Form {
+    A,
+    B,
+    C,
+    D,
+    E,
+    I,
+    N,
+    P,
+    Q,
+    T,
+    Y,
+    Z,
+    Number,
+    Class,
+    Text,
+    Label,
+    Nazwa,
+    Indeks,
+    Nothing,
+}
 
-pub const B: u32 = 2;
+// A set of forms, a bit for each.
+#[derive(Clone, Copy, Debug, PartialEq, Eq)]
+pub struct Forms {
+    bits: u32,
+}
 
-pub const C: u32 = 4;
+impl Forms {
+    pub const EMPTY: Forms = Forms { bits: 0 };
 
-pub const D: u32 = 8;
+    pub const A: Forms = Forms {
+        bits: 1 << Form::A as u32,
+    };
 
-pub const E: u32 = 16;
+    pub const B: Forms = Forms {
+        bits: 1 << Form::B as u32,
+    };
 
-pub const I: u32 = 32;
+    pub const C: Forms = Forms {
+        bits: 1 << Form::C as u32,
+    };
 
-pub const N: u32 = 64;
+    pub const D: Forms = Forms {
+        bits: 1 << Form::D as u32,
+    };
 
-pub const P: u32 = 128;
+    pub const E: Forms = Forms {
+        bits: 1 << Form::E as u32,
+    };
 
-pub const Q: u32 = 256;
+    pub const I: Forms = Forms {
+        bits: 1 << Form::I as u32,
+    };
 
-pub const T: u32 = 512;
+    pub const N: Forms = Forms {
+        bits: 1 << Form::N as u32,
+    };
 
-pub const Y: u32 = 1024;
+    pub const P: Forms = Forms {
+        bits: 1 << Form::P as u32,
+    };
 
-pub const Z: u32 = 2048;
+    pub const Q: Forms = Forms {
+        bits: 1 << Form::Q as u32,
+    };
 
-pub const NUMBER: u32 = 4096;
+    pub const T: Forms = Forms {
+        bits: 1 << Form::T as u32,
+    };
 
-pub const CLASS: u32 = 8192;
+    pub const Y: Forms = Forms {
+        bits: 1 << Form::Y as u32,
+    };
 
-pub const TEXT: u32 = 16384;
+    pub const Z: Forms = Forms {
+        bits: 1 << Form::Z as u32,
+    };
 
-pub const LABEL: u32 = 32768;
+    pub const NUMBER: Forms = Forms {
+        bits: 1 << Form::Number as u32,
+    };
 
-pub const NAZWA: u32 = 65536;
+    pub const CLASS: Forms = Forms {
+        bits: 1 << Form::Class as u32,
+    };
 
-pub const INDEKS: u32 = 131072;
+    pub const TEXT: Forms = Forms {
+        bits: 1 << Form::Text as u32,
+    };
 
-pub const NOTHING: u32 = 262144;
+    pub const LABEL: Forms = Forms {
+        bits: 1 << Form::Label as u32,
+    };
 
-// The sets that instructions list.
-const AB: u32 = A + B;
+    pub const NAZWA: Forms = Forms {
+        bits: 1 << Form::Nazwa as u32,
+    };
 
-const ABYZ: u32 = A + B + Y + Z;
+    pub const INDEKS: Forms = Forms {
+        bits: 1 << Form::Indeks as u32,
+    };
 
-const TEST: u32 = NOTHING + NUMBER + N + CLASS + TEXT + B + T;
+    pub const NOTHING: Forms = Forms {
+        bits: 1 << Form::Nothing as u32,
+    };
 
-const CD: u32 = C + D;
+    // What an identifier reads as, besides a class or an indexed letter.
+    pub const NAME: Forms = Forms {
+        bits: Self::LABEL.bits + Self::NAZWA.bits + Self::INDEKS.bits,
+    };
 
-const RECORD_TEST: u32 = NOTHING + NUMBER + N + TEXT + B + T + E;
+    pub const NAMED_CLASS: Forms = Forms {
+        bits: Self::NAME.bits + Self::CLASS.bits,
+    };
 
-const NUMBER_TEXT: u32 = NUMBER + TEXT;
+    // The sets that instructions list.
+    const AB: Forms = Forms {
+        bits: Self::A.bits + Self::B.bits,
+    };
 
-const ABYZCD: u32 = A + B + Y + Z + C + D;
+    const ABYZ: Forms = Forms {
+        bits: Self::A.bits + Self::B.bits + Self::Y.bits + Self::Z.bits,
+    };
 
-const AI: u32 = A + I;
+    const TEST: Forms = Forms {
+        bits: Self::NOTHING.bits
+            + Self::NUMBER.bits
+            + Self::N.bits
+            + Self::CLASS.bits
+            + Self::TEXT.bits
+            + Self::B.bits
+            + Self::T.bits,
+    };
 
-const ABT: u32 = A + B + T;
+    const CD: Forms = Forms {
+        bits: Self::C.bits + Self::D.bits,
+    };
 
-const COUNT: u32 = NUMBER + N;
+    const RECORD_TEST: Forms = Forms {
+        bits: Self::NOTHING.bits
+            + Self::NUMBER.bits
+            + Self::N.bits
+            + Self::TEXT.bits
+            + Self::B.bits
+            + Self::T.bits
+            + Self::E.bits,
+    };
 
-const ABTI: u32 = A + B + T + I;
+    const NUMBER_TEXT: Forms = Forms {
+        bits: Self::NUMBER.bits + Self::TEXT.bits,
+    };
 
-const KIND: u32 = TEXT + CLASS + B + T;
+    const ABYZCD: Forms = Forms {
+        bits: Self::A.bits
+            + Self::B.bits
+            + Self::Y.bits
+            + Self::Z.bits
+            + Self::C.bits
+            + Self::D.bits,
+    };
 
-const NUMBER_B: u32 = NUMBER + B;
+    const AI: Forms = Forms {
+        bits: Self::A.bits + Self::I.bits,
+    };
 
-const TEXT_B: u32 = TEXT + B;
+    const ABT: Forms = Forms {
+        bits: Self::A.bits + Self::B.bits + Self::T.bits,
+    };
 
-const RZ_TEST: u32 = NUMBER + TEXT + B + E + N + T;
+    const COUNT: Forms = Forms {
+        bits: Self::NUMBER.bits + Self::N.bits,
+    };
 
-// What an identifier reads as, besides a class or an indexed letter.
-pub const NAME: u32 = LABEL + NAZWA + INDEKS;
+    const ABTI: Forms = Forms {
+        bits: Self::A.bits + Self::B.bits + Self::T.bits + Self::I.bits,
+    };
 
-pub const NAMED_CLASS: u32 = NAME + CLASS;
+    const KIND: Forms = Forms {
+        bits: Self::TEXT.bits + Self::CLASS.bits + Self::B.bits + Self::T.bits,
+    };
+
+    const NUMBER_B: Forms = Forms {
+        bits: Self::NUMBER.bits + Self::B.bits,
+    };
+
+    const TEXT_B: Forms = Forms {
+        bits: Self::TEXT.bits + Self::B.bits,
+    };
+
+    const RZ_TEST: Forms = Forms {
+        bits: Self::NUMBER.bits
+            + Self::TEXT.bits
+            + Self::B.bits
+            + Self::E.bits
+            + Self::N.bits
+            + Self::T.bits,
+    };
+
+    // The set of the letter at a place among the twelve.
+    pub fn letter(place: u8) -> Forms
+        requires { place < 12 }
+        ensures { (result.bits ≡ 2 ^ place) × (result.bits < 4096) }
+    {
+        Forms {
+            bits: 1u32 << place,
+        }
+    }
+
+    // The forms of a name with those of a letter.
+    pub fn named(self) -> Forms
+        requires { self.bits < 4096 }
+        ensures { result.bits ≡ 229376 + self.bits }
+    {
+        Forms {
+            bits: Self::NAME.bits + self.bits,
+        }
+    }
+
+    fn and(self, other: Forms) -> Forms
+        ensures { result.bits ≡ bit_and self.bits other.bits }
+    {
+        Forms {
+            bits: self.bits & other.bits,
+        }
+    }
+
+    // Whether it shares a form with another.
+    pub fn meets(self, other: Forms) -> bool
+        ensures { result ≡ not (eqb (bit_and self.bits other.bits) 0) }
+    {
+        self.bits & other.bits != 0
+    }
+
+    // The form of a set of one, but for nothing.
+    #[tactic(auto, using(crate::proofs::Readings::only_arm, crate::proofs::Readings::only_rest), unfolding(crate::specs::Forms::only))]
+    fn only(self) -> Option<Form>
+        ensures { option_map letter result ≡ if_form (only self.bits) }
+    {
+        Some(match self {
+            Self::A => Form::A,
+            Self::B => Form::B,
+            Self::C => Form::C,
+            Self::D => Form::D,
+            Self::E => Form::E,
+            Self::I => Form::I,
+            Self::N => Form::N,
+            Self::P => Form::P,
+            Self::Q => Form::Q,
+            Self::T => Form::T,
+            Self::Y => Form::Y,
+            Self::Z => Form::Z,
+            Self::NUMBER => Form::Number,
+            Self::CLASS => Form::Class,
+            Self::TEXT => Form::Text,
+            Self::LABEL => Form::Label,
+            Self::NAZWA => Form::Nazwa,
+            Self::INDEKS => Form::Indeks,
+            _ => return None,
+        })
+    }
+}
 
 // Which of an instruction's lists take the arguments so far.
 #[derive(Clone, Copy, PartialEq, Eq)]
@@ -95,12 +288,12 @@ pub enum Live {
 // The form that an argument is read by, and the lists that are left.
 #[derive(Clone, Copy, PartialEq, Eq)]
 pub struct Taken {
-    pub form: u8,
+    pub form: Form,
     pub live: Live,
 }
 
 // The sets of an instruction's three places.
-type Places = [u32; 3];
+type Places = [Forms; 3];
 
 // An instruction's first list.
 #[tactic(auto, unfolding(crate::specs::Forms::SetsOf))]
@@ -108,47 +301,47 @@ fn first_list(op: Operator) -> Places
     ensures { SetsOf (op_by op) 0 result }
 {
     match op {
-        Operator::PRZESLIJ => [AB, ABYZ, TEST],
-        Operator::CZYTAJ => [I, ABYZ, TEST],
-        Operator::PISZ => [AB, Q, TEST],
-        Operator::KOPIUJ => [CD, CD, RECORD_TEST],
-        Operator::WSTAW => [AB, CD, NOTHING],
-        Operator::POBIERZ => [CD, ABYZ, NOTHING],
-        Operator::SCHOWAJ => [P, ABYZ, NOTHING],
-        Operator::USTAW => [AB, P, NOTHING],
-        Operator::ZAMIEN => [E, E, NOTHING],
-        Operator::UMIESC => [NUMBER_TEXT, ABYZCD, NOTHING],
-        Operator::USUN => [AI, TEST, NOTHING],
-        Operator::SKRESL => [C, RECORD_TEST, NOTHING],
-        Operator::RW => [ABT, COUNT, NOTHING],
-        Operator::WK => [B, NUMBER_B, NOTHING],
-        Operator::MN => [B, NUMBER_B, NOTHING],
-        Operator::PP => [B, TEXT_B, NOTHING],
-        Operator::NS => [B, TEXT_B, NOTHING],
-        Operator::RZ => [P, RZ_TEST, NOTHING],
-        Operator::SKOCZ => [LABEL, NOTHING, NOTHING],
-        Operator::WYKONAJ => [LABEL, NOTHING, NOTHING],
-        Operator::SKOMI => [LABEL, NOTHING, NOTHING],
-        Operator::SKOPL => [LABEL, NOTHING, NOTHING],
-        Operator::WYMI => [LABEL, NOTHING, NOTHING],
-        Operator::WYPL => [LABEL, NOTHING, NOTHING],
-        Operator::SKONA => [AB, NAZWA, NOTHING],
-        Operator::SKOIN => [AB, INDEKS, NOTHING],
-        Operator::WYNA => [AB, NAZWA, NOTHING],
-        Operator::WYIN => [AB, INDEKS, NOTHING],
-        Operator::WROC => [NOTHING, NOTHING, NOTHING],
-        Operator::DODAJ => [A, NUMBER_B, NOTHING],
-        Operator::ODEJMIJ => [A, NUMBER_B, NOTHING],
-        Operator::MNOZ => [A, NUMBER_B, NOTHING],
-        Operator::DZIEL => [A, NUMBER_B, NOTHING],
-        Operator::SLOWO => [AB, NOTHING, NOTHING],
-        Operator::LICZBA => [AB, NOTHING, NOTHING],
-        Operator::ZBIJ => [AB, TEST, NOTHING],
-        Operator::ROZBIJ => [AB, TEST, NOTHING],
-        Operator::SZUKAJ => [AB, NAZWA, NOTHING],
-        Operator::OMIN => [P, RECORD_TEST, NOTHING],
-        Operator::COFNIJ => [P, NOTHING, NOTHING],
-        Operator::STOP => [NOTHING, NOTHING, NOTHING],
+        Operator::PRZESLIJ => [Forms::AB, Forms::ABYZ, Forms::TEST],
+        Operator::CZYTAJ => [Forms::I, Forms::ABYZ, Forms::TEST],
+        Operator::PISZ => [Forms::AB, Forms::Q, Forms::TEST],
+        Operator::KOPIUJ => [Forms::CD, Forms::CD, Forms::RECORD_TEST],
+        Operator::WSTAW => [Forms::AB, Forms::CD, Forms::NOTHING],
+        Operator::POBIERZ => [Forms::CD, Forms::ABYZ, Forms::NOTHING],
+        Operator::SCHOWAJ => [Forms::P, Forms::ABYZ, Forms::NOTHING],
+        Operator::USTAW => [Forms::AB, Forms::P, Forms::NOTHING],
+        Operator::ZAMIEN => [Forms::E, Forms::E, Forms::NOTHING],
+        Operator::UMIESC => [Forms::NUMBER_TEXT, Forms::ABYZCD, Forms::NOTHING],
+        Operator::USUN => [Forms::AI, Forms::TEST, Forms::NOTHING],
+        Operator::SKRESL => [Forms::C, Forms::RECORD_TEST, Forms::NOTHING],
+        Operator::RW => [Forms::ABT, Forms::COUNT, Forms::NOTHING],
+        Operator::WK => [Forms::B, Forms::NUMBER_B, Forms::NOTHING],
+        Operator::MN => [Forms::B, Forms::NUMBER_B, Forms::NOTHING],
+        Operator::PP => [Forms::B, Forms::TEXT_B, Forms::NOTHING],
+        Operator::NS => [Forms::B, Forms::TEXT_B, Forms::NOTHING],
+        Operator::RZ => [Forms::P, Forms::RZ_TEST, Forms::NOTHING],
+        Operator::SKOCZ => [Forms::LABEL, Forms::NOTHING, Forms::NOTHING],
+        Operator::WYKONAJ => [Forms::LABEL, Forms::NOTHING, Forms::NOTHING],
+        Operator::SKOMI => [Forms::LABEL, Forms::NOTHING, Forms::NOTHING],
+        Operator::SKOPL => [Forms::LABEL, Forms::NOTHING, Forms::NOTHING],
+        Operator::WYMI => [Forms::LABEL, Forms::NOTHING, Forms::NOTHING],
+        Operator::WYPL => [Forms::LABEL, Forms::NOTHING, Forms::NOTHING],
+        Operator::SKONA => [Forms::AB, Forms::NAZWA, Forms::NOTHING],
+        Operator::SKOIN => [Forms::AB, Forms::INDEKS, Forms::NOTHING],
+        Operator::WYNA => [Forms::AB, Forms::NAZWA, Forms::NOTHING],
+        Operator::WYIN => [Forms::AB, Forms::INDEKS, Forms::NOTHING],
+        Operator::WROC => [Forms::NOTHING, Forms::NOTHING, Forms::NOTHING],
+        Operator::DODAJ => [Forms::A, Forms::NUMBER_B, Forms::NOTHING],
+        Operator::ODEJMIJ => [Forms::A, Forms::NUMBER_B, Forms::NOTHING],
+        Operator::MNOZ => [Forms::A, Forms::NUMBER_B, Forms::NOTHING],
+        Operator::DZIEL => [Forms::A, Forms::NUMBER_B, Forms::NOTHING],
+        Operator::SLOWO => [Forms::AB, Forms::NOTHING, Forms::NOTHING],
+        Operator::LICZBA => [Forms::AB, Forms::NOTHING, Forms::NOTHING],
+        Operator::ZBIJ => [Forms::AB, Forms::TEST, Forms::NOTHING],
+        Operator::ROZBIJ => [Forms::AB, Forms::TEST, Forms::NOTHING],
+        Operator::SZUKAJ => [Forms::AB, Forms::NAZWA, Forms::NOTHING],
+        Operator::OMIN => [Forms::P, Forms::RECORD_TEST, Forms::NOTHING],
+        Operator::COFNIJ => [Forms::P, Forms::NOTHING, Forms::NOTHING],
+        Operator::STOP => [Forms::NOTHING, Forms::NOTHING, Forms::NOTHING],
     }
 }
 
@@ -159,10 +352,10 @@ fn second_list(op: Operator) -> Places
     ensures { SetsOf (op_by op) 1 result }
 {
     match op {
-        Operator::ZAMIEN => [P, P, NOTHING],
-        Operator::UMIESC => [TEXT, Q, NOTHING],
-        Operator::RW => [ABTI, KIND, NOTHING],
-        _ => [0, 0, 0],
+        Operator::ZAMIEN => [Forms::P, Forms::P, Forms::NOTHING],
+        Operator::UMIESC => [Forms::TEXT, Forms::Q, Forms::NOTHING],
+        Operator::RW => [Forms::ABTI, Forms::KIND, Forms::NOTHING],
+        _ => [Forms::EMPTY; 3],
     }
 }
 
@@ -174,7 +367,7 @@ fn list_of(op: Operator, list: u8) -> Places
     match list {
         0 => first_list(op),
         1 => second_list(op),
-        _ => [0, 0, 0],
+        _ => [Forms::EMPTY; 3],
     }
 }
 
@@ -185,42 +378,42 @@ fn sets_by(op: u8, list: u8) -> Places
 {
     match Operator::try_from(op) {
         Ok(o) => list_of(o, list),
-        Err(_) => [0, 0, 0],
+        Err(_) => [Forms::EMPTY; 3],
     }
 }
 
-fn at_place(p: Places, place: u8) -> u32
-    ensures { result ≡ get_or p place 0 }
+fn at_place(p: Places, place: u8) -> Forms
+    ensures { result.bits ≡ get_or (sets p) place 0 }
 {
     match p.get(usize::from(place)) {
         Some(set) => *set,
-        None => 0,
+        None => Forms::EMPTY,
     }
 }
 
 // The set of forms that an instruction's list, 0 or 1, has for a place from 0.
 #[tactic(auto, using(crate::proofs::Tables::set_in))]
-pub fn forms_at(op: u8, list: u8, place: u8) -> u32
-    ensures { result ≡ set_at op list place }
+pub fn forms_at(op: u8, list: u8, place: u8) -> Forms
+    ensures { result.bits ≡ set_at op list place }
 {
     at_place(sets_by(op, list), place)
 }
 
-// Of how many places the set has more than nothing; 0 stands for no set.
+// Of how many places the set has more than nothing; an empty one stands for no set.
 fn not_empty(p: Places) -> usize
-    ensures { result ≡ count_by (λ s. not (eqb s 0) && not (eqb s nothing)) p }
+    ensures { result ≡ count_by (λ s. not (eqb s 0) && not (eqb s nothing)) (sets p) }
 {
     p.iter()
-        .filter(|set| (**set != 0) & (**set != NOTHING))
+        .filter(|set| (set.bits != 0) & (set.bits != Forms::NOTHING.bits))
         .count()
 }
 
 // And of how many it lacks the last of the forms, nothing.
 fn needed(p: Places) -> usize
-    ensures { result ≡ count_by (λ s. not (eqb s 0) && ltb s nothing) p }
+    ensures { result ≡ count_by (λ s. not (eqb s 0) && ltb s nothing) (sets p) }
 {
     p.iter()
-        .filter(|set| (**set != 0) & (**set < NOTHING))
+        .filter(|set| (set.bits != 0) & (set.bits < Forms::NOTHING.bits))
         .count()
 }
 
@@ -276,71 +469,37 @@ pub fn is_end(op: u8) -> bool
     }
 }
 
-pub fn letter_bit(place: u8) -> u32
-    requires { place < 12 }
-    ensures { (result ≡ 2 ^ place) × (result < 4096) }
-{
-    1u32 << place
-}
-
-// The form of a set of one.
-#[tactic(auto, using(crate::proofs::Readings::only_arm, crate::proofs::Readings::only_rest), unfolding(crate::specs::Forms::only))]
-fn only(set: u32) -> Option<u8>
-    ensures { result ≡ if_form (only set) }
-{
-    Some(match set {
-        A => b'A',
-        B => b'B',
-        C => b'C',
-        D => b'D',
-        E => b'E',
-        I => b'I',
-        N => b'N',
-        P => b'P',
-        Q => b'Q',
-        T => b'T',
-        Y => b'Y',
-        Z => b'Z',
-        NUMBER => b'n',
-        CLASS => b'c',
-        TEXT => b't',
-        LABEL => b'l',
-        NAZWA => b'w',
-        INDEKS => b'x',
-        _ => return None,
-    })
-}
-
 // The forms that an argument shares with a set, where its list lives.
-fn shared(lives: bool, kinds: u32, set: u32) -> u32
-    ensures { result ≡ shared lives kinds set }
+#[tactic(auto, unfolding(crate::specs::Reading::shared))]
+fn shared(lives: bool, kinds: Forms, set: Forms) -> Forms
+    ensures { result.bits ≡ shared lives kinds.bits set.bits }
 {
-    if lives { kinds & set } else { 0 }
+    if lives { kinds.and(set) } else { Forms::EMPTY }
 }
 
 // What is taken by the form of a set of one.
-fn taken_as(set: u32, live: Live) -> Option<Taken>
-    ensures { result ≡ if_taken (record { form = only set; live = live }) }
+fn taken_as(set: Forms, live: Live) -> Option<Taken>
+    ensures { option_map read_as result ≡ if_taken (record { form = only set.bits; live = live }) }
 {
-    only(set).map(|form| Taken { form, live })
+    set.only().map(|form| Taken { form, live })
 }
 
 #[tactic(auto, unfolding(crate::specs::Reading::taken))]
-fn taken_by(live: Live, a: u32, b: u32) -> Option<Taken>
-    ensures { result ≡ if_taken (taken live a b) }
+fn taken_by(live: Live, a: Forms, b: Forms) -> Option<Taken>
+    ensures { option_map read_as result ≡ if_taken (taken live a.bits b.bits) }
 {
     match (a, b) {
-        (0, 0) => None,
-        (0, _) => taken_as(b, Live::Second),
-        (_, 0) => taken_as(a, Live::First),
+        (Forms::EMPTY, Forms::EMPTY) => None,
+        (Forms::EMPTY, _) => taken_as(b, Live::Second),
+        (_, Forms::EMPTY) => taken_as(a, Live::First),
         _ => taken_as(a, Live::Both),
     }
 }
 
 // An argument at a place, by the forms that it reads as. It leaves the lists that take it.
 #[tactic(auto, using(crate::proofs::Readings::taken_parts))]
-pub fn take_argument(op: u8, live: Live, place: u8, kinds: u32) -> Option<Taken>
-    ensures { result ≡ if_taken (taken_at op live place kinds) }
+pub fn take_argument(op: u8, live: Live, place: u8, kinds: Forms) -> Option<Taken>
+    ensures { option_map read_as result ≡ if_taken (taken_at op live place kinds.bits) }
 {
     let a = shared(live != Live::Second, kinds, forms_at(op, 0, place));
     let b = shared(live != Live::First, kinds, forms_at(op, 1, place));

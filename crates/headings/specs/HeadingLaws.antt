@@ -11,11 +11,11 @@ use Rattle.statements.specs.Checks.{clean, worst, token_code}
 use Rattle.statements.specs.CheckLaws.{worst-stop, worst-item}
 use Rattle.statements.specs.Faults.{lower}
 use Rattle.statements.specs.FaultLaws.{fault-both}
-use Rattle.heads.specs.Heads.{following, opens, from_token, Headed}
+use Rattle.heads.specs.Heads.{following, opens, head_keyword, Headed}
 use Rattle.heads.specs.HeadLaws.{ended-by, ended-on, lower-clear, lower-assoc, told-asked, told-opens, behind-by, no-keyword}
 use Rattle.heads.specs.declared.Head.{Head}
 use Rattle.language.specs.Program.{identifier}
-use Rattle.lexer.specs.Tokens.{item_of, chars_of, colon_of, NextToken}
+use Rattle.lexer.specs.Tokens.{item_of, colon_of, NextToken}
 use Rattle.lexer.specs.declared.Token.{Token}
 use Rattle.lists.specs.Lists.{filled, if_any, bytes_equal}
 use Rattle.statements.proofs.Ends.{Within, begins-within, still-within, ends-here, ends-then}
@@ -23,6 +23,7 @@ use Rattle.statements.specs.StatementAt.{statement_at, stops, fault_of}
 use Rattle.statements.specs.StatementLaws.{at-stop, at_item}
 use Rattle.statements.specs.Faults.{Fault}
 use Rattle.std.specs.Prelude.{Option, None, Some}
+use Rattle.std.specs.Option.{option_to_list}
 use Rattle.syntax.specs.Items.{Item, is, places}
 use Rattle.syntax.specs.Items.Sort.{word, colon}
 use Rattle.syntax.specs.Questions.{first_faults}
@@ -31,7 +32,7 @@ use Rattle.syntax.specs.Statements as Spec
 use Rattle.syntax.specs.Statements.Keyword.{SEKCJA, KONS, KONP}
 use Rattle.syntax.specs.Verdict.{lowest}
 use Rattle.words.specs.Keywords.{told}
-use Rattle.headings.specs.Headings.{is_kons, is_konp, Tails, follows, no_items, Restable, Rests, name_fault, after_faults, AfterTold}
+use Rattle.headings.specs.Headings.{is_kons, is_konp, Tails, follows, no_items, Restable, from_first, Rests, fault_first, name_fault, right_first, name_by, after_faults, AfterTold}
 use Rattle.headings.specs.declared.Rest.{Rest}
 
 -- ---- places at fault
@@ -39,6 +40,10 @@ use Rattle.headings.specs.declared.Rest.{Rest}
 pub fault-one : (p : ℕ) → Some p ≡ fault_of (p ∷ [])
 unfolding lowest
 fault-one p = refl
+
+fault-colon : (c : Fault) → c ≡ fault_of (option_to_list c)
+fault-colon None = refl
+fault-colon (Some p) = fault-one p
 
 first_place : (p : ℕ) (ps : List ℕ) → fault_of (p ∷ ps) ≡ lower (Some p) (fault_of ps)
 first_place p ps = fault-both (p ∷ []) ps ∙ ap (λ (f : Fault). lower f (fault_of ps)) (sym (fault-one p))
@@ -56,7 +61,7 @@ pub reads_first : {s : List ℕ} {f : Token} {w : ℕ} → Restable s f w → Re
 reads_first h = record { within = begins-within h.stands.most; more_is = refl; worst_is = refl; coded = h.coded }
 
 module _ {s : List ℕ} {f : Token} {w : ℕ} {more : Fault} {v i : ℕ} {t : Token} (r : Reading s f w more v i) (k : NextToken s i t) where
-  pub reads_end : stops t.sort ≡ true → {e : Option ℕ} → e ≡ following t → Tails s f w (record { first = f; more = more; worst = v; next = e })
+  pub reads_end : stops t.sort ≡ true → {e : Option ℕ} → e ≡ following t → Tails s f w (record { first = Some f; more = more; worst = v; next = e })
   reads_end z q =
       let c : v ≡ min v clean = omega (arith, r.coded) in
       record {
@@ -87,10 +92,10 @@ module _ {s : List ℕ} {t : Token} {w : ℕ} (h : Restable s t w) where
   unfolding worst
   rests-alone z =
       record {
-        stands = h.stands;
-        low = omega (arith, h.low, h.stands.own, h.stands.behind, h.stands.most);
+        stands = tt;
+        low = tt;
         items = rw z refl;
-        more_is = λ e. absurd (true≢false (sym z ∙ e));
+        more_is = refl;
         worst_is = rw z (omega (arith, h.coded));
         ends = λ n i w k. ended-by t (ends-here w k z) refl;
       }
@@ -103,10 +108,10 @@ module _ {s : List ℕ} {t : Token} {w : ℕ} (h : Restable s t w) where
     rests-empty z =
         let c : w ≡ min w clean = omega (arith, h.coded) in
         record {
-          stands = k.stands;
-          low = first-low;
-          items = rw (z, o) (sym (at-stop k z));
-          more_is = λ e. absurd (true≢false (sym z ∙ e));
+          stands = tt;
+          low = tt;
+          items = rw o (sym (at-stop k z));
+          more_is = refl;
           worst_is = rw o (c ∙ ap (min w) (sym (worst-stop k z)));
           ends = λ n i w u. ended-by f (ends-then (still-within w u o) (ends-here (begins-within h.stands.most) k z)) refl;
         }
@@ -115,49 +120,42 @@ module _ {s : List ℕ} {t : Token} {w : ℕ} (h : Restable s t w) where
     rests-some z {v} e {r} u =
         let js = statement_at s f.next in
         let a : r.worst ≡ min w (min (token_code f) (worst js)) = omega (arith, e, u.worst_is) in
-        subst (λ (x : Token). Rests s t w (record { first = x; more = r.more; worst = r.worst; next = r.next })) (sym u.first_is)
+        subst (λ (x : Option Token). Rests s t w (record { first = x; more = r.more; worst = r.worst; next = r.next })) (sym u.first_is)
         (record {
           stands = k.stands;
           low = first-low;
-          items = rw (z, o) (sym (at_item k z));
-          more_is = λ _. u.more_is;
+          items = rw o (sym (at_item k z));
+          more_is = u.more_is;
           worst_is = rw o (a ∙ ap (min w) (sym (worst-item k z)));
           ends = λ n i w y. ended-on (λ d b e. ends-then (still-within w y o) (ends-then (still-within (begins-within h.stands.most) k z) e)) u.ends;
         })
 
 -- ---- one name
 
-abbrev right_first : List ℕ → (List ℕ → Bool) → Token → Bool
-right_first s q t = is word (item_of s t) && q (chars_of s t)
-
 module _ {s : List ℕ} {t : Token} {w : ℕ} {r : Rest} (k : Rests s t w r) where
-  abbrev f : Token
-  f = r.first
-
-  abbrev js : List Item
-  js = statement_at s f.next
-
-  pub name-told : (q : List ℕ → Bool) (at : ℕ) {right : Bool} → right ≡ right_first s q f → name_fault r at right ≡ fault_of (one_name q at (follows s t))
+  pub name-told : (q : List ℕ → Bool) (at : ℕ) {right : Bool} → right ≡ right_first s q r.first → name_fault r at right ≡ fault_of (one_name q at (follows s t))
   unfolding one_name
-  name-told q at {right} e = go (stops f.sort) refl ∙ ap (λ (xs : List Item). fault_of (one_name q at xs)) k.items
+  name-told q at {right} e = go r.first k.more_is e ∙ ap (λ (xs : List Item). fault_of (one_name q at xs)) k.items
     where
-      by_name : (b : Bool) → lower (cond b (fault_of (colon_of f)) (Some f.at)) (fault_of (places js)) ≡ fault_of (cond b (colon_of f) (f.at ∷ []) ++ places js)
-      by_name true = sym (fault-both (colon_of f) (places js))
-      by_name false = sym (first_place f.at (places js))
+      by_name : (f : Token) (js : List Item) (b : Bool) → lower (cond b f.colon (Some f.at)) (fault_of (places js)) ≡ fault_of (cond b (colon_of f) (f.at ∷ []) ++ places js)
+      by_name f js true = ap (λ (c : Fault). lower c (fault_of (places js))) (fault-colon f.colon) ∙ sym (fault-both (colon_of f) (places js))
+      by_name f js false = sym (first_place f.at (places js))
 
-      go : (b : Bool) → stops f.sort ≡ b → name_fault r at right ≡ fault_of (one_name q at (from_token s f))
-      go true z = rw z (fault-one at)
-      go false z = rw (z, k.more_is z, e) (by_name (right_first s q f))
-
-  pub follows_by : (b : Bool) → stops f.sort ≡ b → follows s t ≡ cond b [] (item_of s f ∷ js)
-  follows_by b z = sym k.items ∙ ap (λ (c : Bool). cond c [] (item_of s f ∷ js)) z
+      go : (f : Option Token) → r.more ≡ fault_of (places (drop 1 (from_first s f))) → right ≡ right_first s q f
+          → fault_first f r.more at right ≡ fault_of (one_name q at (from_first s f))
+      go None m e = fault-one at
+      go (Some f) m e = rw (m, e) (by_name f (statement_at s f.next) (right_first s q (Some f)))
 
   -- no item is right
-  items-told : (at : ℕ) → stops f.sort ≡ false → name_fault r at false ≡ fault_of (places (follows s t))
-  items-told at z = rw (z, k.more_is z) (sym (ap (λ (xs : List Item). fault_of (places xs)) (follows_by false z) ∙ first_place f.at (places js)))
+  items-told : (f : Option Token) → r.first ≡ f → fault_of (places (from_first s f)) ≡ fault_of (places (follows s t))
+  items-told f e = ap (λ (g : Option Token). fault_of (places (from_first s g))) (sym e) ∙ ap (λ (xs : List Item). fault_of (places xs)) k.items
 
-  none_told : stops f.sort ≡ true → None ≡ fault_of (places (follows s t))
-  none_told z = sym (ap (λ (xs : List Item). fault_of (places xs)) (follows_by true z))
+  some_told : {f : Token} → r.first ≡ Some f → {e : Fault} → e ≡ lower (Some f.at) r.more → e ≡ fault_of (places (follows s t))
+  some_told {f} q l =
+      l
+      ∙ ap (lower (Some f.at)) (k.more_is ∙ ap (λ (g : Option Token). fault_of (places (drop 1 (from_first s g)))) q)
+      ∙ sym (first_place f.at (places (statement_at s f.next)))
+      ∙ items-told (Some f) q
 
 -- ---- the first statement
 
@@ -217,14 +215,14 @@ module _ {s : List ℕ} {n : ℕ} {h : Head} (g : Headed s n h) where
       go true = refl
       go false = refl
 
-  pub kons-told : same_keyword KONS (keyword_in x) ≡ is_kons h.keyword
-  kons-told = sym (ap is_kons g.keyword ∙ told-asked (eqb 3) (keyword_in x))
+  pub kons-told : same_keyword KONS (keyword_in x) ≡ is_kons (head_keyword h)
+  kons-told = sym (ap is_kons g.keyword ∙ told-asked (eqb 3) refl (keyword_in x))
 
-  pub konp-told : same_keyword KONP (keyword_in x) ≡ is_konp h.keyword
-  konp-told = sym (ap is_konp g.keyword ∙ told-asked (eqb 4) (keyword_in x))
+  pub konp-told : same_keyword KONP (keyword_in x) ≡ is_konp (head_keyword h)
+  konp-told = sym (ap is_konp g.keyword ∙ told-asked (eqb 4) refl (keyword_in x))
 
   -- KONP is an operator
-  konp-place : is_konp h.keyword ≡ true → operator_at x ≡ h.op.at
+  konp-place : is_konp (head_keyword h) ≡ true → operator_at x ≡ h.op.at
   konp-place e = go (stops h.op.sort) refl
     where
       go : (b : Bool) → stops h.op.sort ≡ b → operator_at x ≡ h.op.at
@@ -232,28 +230,28 @@ module _ {s : List ℕ} {n : ℕ} {h : Head} (g : Headed s n h) where
       go false z = ap (if_any 0 (λ j. j.at)) (behind-by g false z)
 
   -- nothing is asked of what follows any other operator
-  pub after-other : (section : ℕ) → is_konp h.keyword ≡ false → is_kons h.keyword ≡ false → AfterTold s n section None
+  pub after-other : (section : Option ℕ) → is_konp (head_keyword h) ≡ false → is_kons (head_keyword h) ≡ false → AfterTold s n section None
   after-other section a b = sym (rw (konp-told ∙ a, kons-told ∙ b) refl)
 
   module _ {w : ℕ} {r : Rest} (k : Rests s h.op w r) where
-    pub after-konp : (section : ℕ) {right : Bool} {f : Fault} → is_konp h.keyword ≡ true → right ≡ right_first s (bytes_equal (word_by s section)) r.first
+    pub after-konp : (section : Option ℕ) {right : Bool} {f : Fault} → is_konp (head_keyword h) ≡ true → right ≡ right_first s (bytes_equal (name_by s section)) r.first
         → f ≡ name_fault r h.op.at right → AfterTold s n section f
     after-konp section a e q =
         q
-        ∙ name-told k (bytes_equal (word_by s section)) h.op.at e
-        ∙ ap (λ (js : List Item). fault_of (one_name (bytes_equal (word_by s section)) h.op.at js)) (sym rest-follows)
-        ∙ ap (λ (p : ℕ). fault_of (one_name (bytes_equal (word_by s section)) p (rest x))) (sym (konp-place a))
+        ∙ name-told k (bytes_equal (name_by s section)) h.op.at e
+        ∙ ap (λ (js : List Item). fault_of (one_name (bytes_equal (name_by s section)) h.op.at js)) (sym rest-follows)
+        ∙ ap (λ (p : ℕ). fault_of (one_name (bytes_equal (name_by s section)) p (rest x))) (sym (konp-place a))
         ∙ sym (rw (konp-told ∙ a) refl)
 
-    by-kons : (section : ℕ) → is_konp h.keyword ≡ false → is_kons h.keyword ≡ true → fault_of (places (follows s h.op)) ≡ fault_of (after_faults (word_by s section) x)
+    by-kons : (section : Option ℕ) → is_konp (head_keyword h) ≡ false → is_kons (head_keyword h) ≡ true → fault_of (places (follows s h.op)) ≡ fault_of (after_faults (name_by s section) x)
     by-kons section a b = ap (λ (js : List Item). fault_of (places js)) (sym rest-follows) ∙ sym (rw (konp-told ∙ a, kons-told ∙ b) refl)
 
-    module _ (section : ℕ) (a : is_konp h.keyword ≡ false) (b : is_kons h.keyword ≡ true) where
-      pub after-kons : {f : Fault} → stops r.first.sort ≡ false → f ≡ name_fault r h.op.at false → AfterTold s n section f
-      after-kons z q = q ∙ items-told k h.op.at z ∙ by-kons section a b
+    module _ (section : Option ℕ) (a : is_konp (head_keyword h) ≡ false) (b : is_kons (head_keyword h) ≡ true) where
+      pub after-kons : {t : Token} → r.first ≡ Some t → {f : Fault} → f ≡ lower (Some t.at) r.more → AfterTold s n section f
+      after-kons z q = some_told k z q ∙ by-kons section a b
 
-      pub after_none : stops r.first.sort ≡ true → AfterTold s n section None
-      after_none z = none_told k z ∙ by-kons section a b
+      pub after_none : r.first ≡ None → AfterTold s n section None
+      after_none z = items-told k None z ∙ by-kons section a b
 
   -- ---- the first statement
 
@@ -284,20 +282,20 @@ module _ {s : List ℕ} {n : ℕ} {h : Head} (g : Headed s n h) where
       here : x ≡ i ∷ behind_operator
       here = sym (front-none x no_front) ∙ behind-by g false z
 
-      keyword-here : same_keyword SEKCJA (keyword_of i) ≡ opens h.keyword
+      keyword-here : same_keyword SEKCJA (keyword_of i) ≡ opens (head_keyword h)
       unfolding keyword_in
       keyword-here = sym (told-opens (keyword_of i)) ∙ ap opens (sym (g.keyword ∙ ap (λ (ys : List Item). told (if_any Spec.Keyword.none keyword_of ys)) (behind-by g false z)))
 
-      by_keyword : (b : Bool) → opens h.keyword ≡ b → first_faults x ≡ cond b (one_name identifier h.op.at behind_operator) (h.op.at ∷ [])
+      by_keyword : (b : Bool) → opens (head_keyword h) ≡ b → first_faults x ≡ cond b (one_name identifier h.op.at behind_operator) (h.op.at ∷ [])
       by_keyword b o =
           ap first_faults here
           ∙ first_by i behind_operator false (sym (ap (λ (ys : List Item). filled (front ys)) here) ∙ no_front)
           ∙ ap (λ (c : Bool). cond c (one_name identifier h.op.at behind_operator) (h.op.at ∷ [])) (keyword-here ∙ o)
 
-      pub first-wrong : opens h.keyword ≡ false → Some h.op.at ≡ fault_of (first_faults x)
+      pub first-wrong : opens (head_keyword h) ≡ false → Some h.op.at ≡ fault_of (first_faults x)
       first-wrong o = fault-one h.op.at ∙ sym (ap fault_of (by_keyword false o))
 
-      pub first-named : opens h.keyword ≡ true → {w : ℕ} {r : Rest} → Rests s h.op w r → {right : Bool} {f : Fault} → right ≡ right_first s identifier r.first
+      pub first-named : opens (head_keyword h) ≡ true → {w : ℕ} {r : Rest} → Rests s h.op w r → {right : Bool} {f : Fault} → right ≡ right_first s identifier r.first
           → f ≡ name_fault r h.op.at right → f ≡ fault_of (first_faults x)
       first-named o k u q =
           q

@@ -1,44 +1,39 @@
 // What follows SEKCJA, KONS or KONP, or nothing where a statement is labels alone: read once, and what of it is at fault.
 #![tactic(auto)]
 
-ghost use Rattle.std.specs.Prelude.{◌≡◌, cond, ◌&&◌, ◌+◌, ◌≤◌};
-ghost use Rattle.heads.specs.Below.DraftsMarks.{mark_of, word_by};
-ghost use Rattle.language.specs.Limits as limit;
-ghost use Rattle.lexer.specs.Tokens.{item_of, chars_of, Stands};
+ghost use Rattle.std.specs.Prelude.{◌≡◌};
+ghost use Rattle.language.specs.Program.{identifier};
 ghost use Rattle.lists.specs.Lists.{bytes_equal};
-ghost use Rattle.statements.specs.StatementAt.{stops};
-ghost use Rattle.syntax.specs.Items.{is};
-ghost use Rattle.syntax.specs.Items.Sort.{word};
-ghost use Rattle.headings.specs.Headings.{is_kons, is_konp, Tails, no_items, Restable, Rests, name_fault, Nameable, FirstTold, FollowsTold};
+ghost use Rattle.headings.specs.Headings.{is_kons, is_konp, Tails, no_items, Restable, Rests, name_fault, FirstIn, FirstLow, mark_first, right_first, NameIn, name_by, Nameable, FirstTold, FollowsTold};
 
 use heads::{Head, following, is_name, mark, opens};
 use lexer::{Token, next_item};
-use scanner::WORD;
+use scanner::Sort;
 use statements::{Fault, lower, stops, worse};
 use words::Keyword;
 
-// The first item, or the token that ends the statement; the place of an item after it; questions 14, 15 and 16 of all items so far; where the next
-// statement begins, unless this is the last.
+// The first item, if there is one; the place of an item after it; questions 14, 15 and 16 of all items so far; where the next statement begins, unless
+// this is the last.
 #[derive(Clone, Copy)]
 pub struct Rest {
-    pub first: Token,
+    pub first: Option<Token>,
     pub more: Fault,
     pub worst: usize,
     pub next: Option<usize>,
 }
 
 #[tactic(auto, using(crate::proofs::Keywords::kons_rest))]
-pub fn is_kons(k: Keyword) -> bool
+pub fn is_kons(k: Option<Keyword>) -> bool
     ensures { result ≡ is_kons k }
 {
-    matches!(k, Keyword::Kons)
+    matches!(k, Some(Keyword::Kons))
 }
 
 #[tactic(auto, using(crate::proofs::Keywords::konp_rest))]
-pub fn is_konp(k: Keyword) -> bool
+pub fn is_konp(k: Option<Keyword>) -> bool
     ensures { result ≡ is_konp k }
 {
-    matches!(k, Keyword::Konp)
+    matches!(k, Some(Keyword::Konp))
 }
 
 // The items of a statement from its item `first` on.
@@ -54,7 +49,7 @@ fn read_tail(text: &[u8], first: Token, worst: usize) -> Rest
         let t = next_item(text, i);
         if stops(t.sort) {
             return Rest {
-                first,
+                first: Some(first),
                 more,
                 worst: w,
                 next: following(t),
@@ -71,7 +66,7 @@ fn no_items(t: Token, worst: usize) -> Rest
     ensures { result ≡ no_items t worst }
 {
     Rest {
-        first: t,
+        first: None,
         more: None,
         worst,
         next: following(t),
@@ -98,33 +93,50 @@ pub fn read_rest(text: &[u8], t: Token, worst: usize) -> Rest
 fn name_fault(rest: Rest, at: usize, right: bool) -> Fault
     ensures { result ≡ name_fault rest at right }
 {
-    let first = rest.first;
-    let more = rest.more;
-    if stops(first.sort) {
+    let Some(first) = rest.first else {
         return Some(at);
-    }
-    if !right {
-        return lower(Some(first.at), more);
-    }
-    if first.colon == 0 {
-        return more;
-    }
-    lower(Some(first.colon), more)
+    };
+    lower(if right { first.colon } else { Some(first.at) }, rest.more)
 }
 
-// Whether a token is the name of a mark.
-fn is_named(text: &[u8], t: Token, m: u32) -> bool
-    requires { Nameable text.now t m }
-    ensures { result ≡ is word (item_of text.now t) && bytes_equal (word_by text.now m) (chars_of text.now t) }
+// Whether the first item is a name.
+fn is_name_first(text: &[u8], first: Option<Token>) -> bool
+    requires { FirstIn text.now first }
+    ensures { result ≡ right_first text.now identifier first }
 {
+    match first {
+        Some(t) => is_name(text, t),
+        None => false,
+    }
+}
+
+// The name that has a mark; nothing without one.
+fn name_of(text: &[u8], mark: Option<u32>) -> &[u8]
+    requires { NameIn text.now mark }
+    ensures { result.now ≡ name_by text.now mark }
+{
+    let Some(m) = mark else {
+        return &text[..0];
+    };
     let at = m as usize / 64;
     let len = m as usize % 64;
-    t.sort == WORD && text[at..at + len] == text[t.at..t.end]
+    &text[at..at + len]
+}
+
+// Whether the first item is the name that has a mark.
+fn is_named(text: &[u8], first: Option<Token>, mark: Option<u32>) -> bool
+    requires { Nameable text.now first mark }
+    ensures { result ≡ right_first text.now (bytes_equal (name_by text.now mark)) first }
+{
+    let Some(t) = first else {
+        return false;
+    };
+    t.is(Sort::Word) && name_of(text, mark) == &text[t.at..t.end]
 }
 
 // Question 00, of the first statement.
 pub fn section_fault(text: &[u8], head: Head, rest: Rest) -> Fault
-    requires { Stands text.now rest.first }
+    requires { FirstIn text.now rest.first }
     ensures { FirstTold text.now head rest result }
 {
     let op = head.op;
@@ -134,41 +146,36 @@ pub fn section_fault(text: &[u8], head: Head, rest: Rest) -> Fault
     if stops(op.sort) {
         return None;
     }
-    if opens(head.keyword) {
-        return name_fault(rest, op.at, is_name(text, rest.first));
+    if opens(head.keyword()) {
+        return name_fault(rest, op.at, is_name_first(text, rest.first));
     }
     Some(op.at)
 }
 
 // What follows KONP, which is to be the name of the section, by its mark, or KONS, which is to be nothing.
-pub fn after_fault(text: &[u8], head: Head, rest: Rest, section: u32) -> Fault
+pub fn after_fault(text: &[u8], head: Head, rest: Rest, section: Option<u32>) -> Fault
     requires { Nameable text.now rest.first section }
     ensures { FollowsTold text.now head rest section result }
 {
     let at = head.op.at;
-    if is_konp(head.keyword) {
+    let keyword = head.keyword();
+    if is_konp(keyword) {
         return name_fault(rest, at, is_named(text, rest.first, section));
     }
-    if !is_kons(head.keyword) {
+    if !is_kons(keyword) {
         return None;
     }
-    if stops(rest.first.sort) {
-        return None;
-    }
-    name_fault(rest, at, false)
+    let first = rest.first?;
+    lower(Some(first.at), rest.more)
 }
 
-// The mark of the first item, 0 where there is none.
-pub fn section_mark(rest: Rest) -> u32
-    requires { rest.first.at + rest.first.len ≤ limit.text }
-    ensures { result ≡ cond (stops rest.first.sort) 0 (mark_of rest.first.at rest.first.len) }
+// The mark of the first item, if there is one.
+pub fn section_mark(rest: Rest) -> Option<u32>
+    requires { FirstLow rest.first }
+    ensures { result ≡ mark_first rest.first }
 {
-    let first = rest.first;
-    if stops(first.sort) {
-        0
-    } else {
-        mark(first.at, first.len)
-    }
+    let first = rest.first?;
+    Some(mark(first.at, first.len))
 }
 
 // Of `heads`, passed on to the crates above.

@@ -1,6 +1,6 @@
 -- The head of a statement item by item.
 use mathlib.Core.Path.{◌≡◌, refl, ap, sym, ◌∙◌}
-use mathlib.Core.Bool.{Bool, true, false, cond, not, false≢true}
+use mathlib.Core.Bool.{Bool, true, false, cond, not, ◌&&◌, false≢true}
 use mathlib.Core.List.{List, [], ◌∷◌, ◌++◌}
 use Prim.Native.Nat.{ℕ, ◌≤◌, ◌<◌, min}
 use native.Mathlib.Omega.{arith}
@@ -16,15 +16,20 @@ use Rattle.lexer.specs.declared.Token.{Token}
 use Rattle.lexer.specs.Tokens.{item_of, NextToken}
 use Rattle.statements.proofs.Ends.{Within, begins-within, still-within}
 use Rattle.statements.specs.Faults.{Fault}
-use Rattle.std.specs.Prelude.{None}
+use Rattle.std.specs.Prelude.{Option, None, Some}
 use Rattle.statements.specs.StatementAt.{statement_at, stops, fault_of}
-use Rattle.statements.specs.StatementLaws.{at-stop, at_item, on}
-use Rattle.scanner.specs.Below.Items.{Item, places}
-use Rattle.scanner.specs.Below.Statements.{keyword_of, is_operator, front, behind, operator, keyword_in, is_name}
+use Rattle.statements.specs.StatementLaws.{goes, at-stop, at_item, on}
+use Rattle.scanner.specs.Below.Items.{Item, is, places}
+use Rattle.scanner.specs.Below.Items.Sort.{word}
+use Rattle.scanner.specs.Below.Statements.{keyword_of, is_operator, front, behind, operator, keyword_in, own, is_name}
 use Rattle.scanner.specs.Below.Statements as Spec
 use Rattle.words.specs.declared.Known.{Known}
-use Rattle.words.specs.Keywords.{told}
-use Rattle.heads.specs.Heads.{own_item, known_item, nothing_known, head_with, operates, from_token, Headed}
+use Rattle.words.specs.declared.Edition.{Edition}
+use Rattle.words.specs.declared.Keyword.{Keyword}
+use Rattle.words.specs.Keywords.{keyword_by, told, known_by, known, keyword_known, is_own}
+use Rattle.words.specs.WordLaws.{keyword-item}
+use Rattle.words.proofs.KeywordLaws.{own-known}
+use Rattle.heads.specs.Heads.{own_item, known_item, head_with, operates, from_token, Headed}
 use Rattle.heads.specs.HeadLaws.{lower-clear, lower-assoc, front_goes, behind-goes, front_ends, behind-here, operator_is}
 
 abbrev name_faults : List Item → List ℕ
@@ -43,18 +48,25 @@ name_fault-goes i js = go (is_name i)
     go false = fault-both (i.at ∷ []) (name_faults js)
 
 -- what is known of an operator, or of none
-abbrev own_known : Bool → Known → Bool
-own_known e k = cond e k.english k.polish
+known-keyword : (k : Option Keyword) (e : Edition) → keyword_known (known_by k e) ≡ k
+known-keyword None e = refl
+known-keyword (Some k) e = refl
 
-keyword_of-known : (xs : List Item) → told (if_any Spec.Keyword.none keyword_of xs) ≡ (if_any nothing_known known_item xs).keyword
+keyword_of-known : (xs : List Item) → told (if_any Spec.Keyword.none keyword_of xs) ≡ keyword_known (if_any None known_item xs)
 keyword_of-known [] = refl
-keyword_of-known (i ∷ xs) = refl
+keyword_of-known (i ∷ xs) = go (is word i) refl
+  where
+    go : (b : Bool) → is word i ≡ b → told (keyword_of i) ≡ keyword_known (cond b (known i.chars) None)
+    go true w = ap told (keyword-item i ∙ ap (λ b. cond b (keyword_by i.chars) Spec.Keyword.unknown) w) ∙ sym (known-keyword (told (keyword_by i.chars)) _)
+    go false w = ap told (keyword-item i ∙ ap (λ b. cond b (keyword_by i.chars) Spec.Keyword.unknown) w)
 
-own-of_known : (e : Bool) (xs : List Item) → if_any false (own_item e) xs ≡ own_known e (if_any nothing_known known_item xs)
-own-of_known true [] = refl
-own-of_known false [] = refl
-own-of_known true (i ∷ xs) = refl
-own-of_known false (i ∷ xs) = refl
+own-of_known : (e : Bool) (xs : List Item) → if_any false (own_item e) xs ≡ is_own e (if_any None known_item xs)
+own-of_known e [] = refl
+own-of_known e (i ∷ xs) = go (is word i)
+  where
+    go : (b : Bool) → (b && own e i.chars) ≡ is_own e (cond b (known i.chars) None)
+    go true = sym (own-known i.chars e)
+    go false = refl
 
 -- the first item of the statement at n is in front of the operator, at f, before place i
 record Begun (s : List ℕ) (n i f : ℕ) : Type 0 where
@@ -113,7 +125,7 @@ module _ {s : List ℕ} {n i f w : ℕ} {fault : Fault} {t : Token} (l : Leading
   js = statement_at s t.next
 
   -- nothing more stands in front: the token t is the operator or ends the statement
-  headed : front (statement_at s i) ≡ [] → behind (statement_at s i) ≡ from_token s t → {v : Known} → v ≡ if_any nothing_known known_item (from_token s t)
+  headed : front (statement_at s i) ≡ [] → behind (statement_at s i) ≡ from_token s t → {v : Option Known} → v ≡ if_any None known_item (from_token s t)
       → {c u : ℕ} → u ≡ min w (worst (take 1 (from_token s t)))
       → Headed s n (head_with f' fault c u t v)
   unfolding keyword_in
@@ -125,8 +137,8 @@ module _ {s : List ℕ} {n i f w : ℕ} {fault : Fault} {t : Token} (l : Leading
         within = l.within;
         token = k;
         operator = l.operator_is ∙ own;
-        keyword = ap (λ (k : Known). k.keyword) v-is ∙ sym (ap (λ xs. told (if_any Spec.Keyword.none keyword_of xs)) (l.operator_is ∙ own) ∙ keyword_of-known (from_token s t));
-        owned = λ e. ap (own_known e) v-is ∙ sym (ap (if_any false (own_item e)) (l.operator_is ∙ own) ∙ own-of_known e (from_token s t));
+        keyword = ap keyword_known v-is ∙ sym (ap (λ xs. told (if_any Spec.Keyword.none keyword_of xs)) (l.operator_is ∙ own) ∙ keyword_of-known (from_token s t));
+        owned = λ e. ap (is_own e) v-is ∙ sym (ap (if_any false (own_item e)) (l.operator_is ∙ own) ∙ own-of_known e (from_token s t));
         first_is = (firsts none).0;
         front_is = (firsts none).1;
         fault_is = sym (l.faults ∙ ap (λ y. lower fault (fault_of (name_faults y))) none ∙ lower-clear fault);
@@ -134,7 +146,7 @@ module _ {s : List ℕ} {n i f w : ℕ} {fault : Fault} {t : Token} (l : Leading
       }
 
   pub no-head : {c : ℕ} → stops t.sort ≡ true
-      → Headed s n (head_with f' fault c w t nothing_known)
+      → Headed s n (head_with f' fault c w t None)
   unfolding behind worst
   no-head z = let h = l.low in headed (no_front (at-stop k z)) (rw (at-stop k z, z) refl) (rw z refl) (rw z (omega arith))
 
@@ -142,11 +154,11 @@ module _ {s : List ℕ} {n i f w : ℕ} {fault : Fault} {t : Token} (l : Leading
     abbrev it : Item
     it = item_of s t
 
-    pub head-here : operates t ≡ true → {v : Known} → v ≡ known_item it → {c : ℕ}
+    pub head-here : operates t ≡ true → {v : Option Known} → v ≡ known_item it → {c : ℕ}
         → Headed s n (head_with f' fault c w' t v)
     unfolding worst
     head-here o v-is =
-        let op_is : is_operator it ≡ true = operator_is k.stands ∙ o in
+        let op_is : is_operator it ≡ true = operator_is s t ∙ o in
         let h = l.low in
         let e : min w (token_code t) ≡ min w (min (token_code t) clean) = omega arith in
         headed (ap front (at_item k z) ∙ front_ends it js op_is) (rw z (ap behind (at_item k z) ∙ behind-here it js op_is)) (rw z v-is)
@@ -154,7 +166,7 @@ module _ {s : List ℕ} {n i f w : ℕ} {fault : Fault} {t : Token} (l : Leading
 
     module _ (o : operates t ≡ false) where
       op-no : is_operator it ≡ false
-      op-no = operator_is k.stands ∙ o
+      op-no = operator_is s t ∙ o
 
       front-some : front (statement_at s i) ≡ it ∷ front js
       front-some = ap front (at_item k z) ∙ front_goes it js op-no
@@ -168,7 +180,7 @@ module _ {s : List ℕ} {n i f w : ℕ} {fault : Fault} {t : Token} (l : Leading
           go : (b : Bool) → b ≡ eqb i n → f' ≡ cond b t.at f → Begun s n t.next f'
           go true e g =
               let q = same (eqb-true i n (sym e)) in
-              let m = k.stands.some (λ y. false≢true (sym z ∙ ap stops y)) in
+              let m = k.stands.some (goes t.sort z).0 in
               record { ahead = ap (λ y. filled (front y)) q ∙ ap filled front-some; first = rw g (ap (λ y. take 1 (places y)) (q ∙ at_item k z)); low = omega (arith, g, m, k.stands.behind) }
           go false e g =
               let u = l.begun (eqb-false i n (sym e)) in

@@ -15,20 +15,19 @@ use Rattle.statements.specs.Checks.{clean, token_code}
 use Rattle.statements.specs.Faults.{lower}
 use Rattle.lists.specs.Lists.{keep}
 use Rattle.lexer.specs.declared.Token.{Token}
-use Rattle.lexer.specs.MovedLaws.{shift, item-moved, moved-next}
+use Rattle.lexer.specs.MovedLaws.{shift, colon-most, item-moved, moved-next}
 use Rattle.lexer.specs.Tokens.{item_of, NextToken, Movable, moved}
-use Rattle.lexer.proofs.Finding.{is-sort}
 use Rattle.statements.specs.Faults.{Fault}
-use Rattle.std.specs.Prelude.{None}
+use Rattle.std.specs.Prelude.{Option, None}
 use Rattle.statements.specs.StatementAt.{statement_at, stops, fault_of}
 use Rattle.statements.specs.StatementLaws.{at-stop, at_item, on}
-use Rattle.scanner.specs.Below.Items.{Item, is}
+use Rattle.scanner.specs.Below.Items.{Item, is, same_sort}
 use Rattle.scanner.specs.Below.Items.Sort.{word}
 use Rattle.scanner.specs.Below.Statements.{keyword_of, front, labels_in, is_name}
+use Rattle.scanner.specs.Sorts.{sort_in}
 use Rattle.words.specs.declared.Known.{Known}
-use Rattle.heads.specs.Heads.{known_item, nothing_known, head_with, operates, MarksPut, Headable, Heads}
+use Rattle.heads.specs.Heads.{known_item, head_with, operates, MarksPut, Headable, Heads}
 use Rattle.heads.specs.HeadLaws.{front_goes, front_ends, operator_is}
-use Rattle.heads.specs.declared.Head.{Head}
 use Rattle.heads.proofs.Leading.{Leading, leading-first, no_front, own_fault, no-head, head-here, still-leading}
 
 -- the marks of the labels before place i were put
@@ -50,20 +49,19 @@ module _ {s : List ℕ} {n i count : ℕ} {ms ms' : List ℕ} {c : ℕ} {t : Tok
     js = statement_at s t.next
 
     operator-put : length ms' ≡ length ms → operates t ≡ true → MarksPut s n count ms ms' c
-    operator-put h o = all-put h (ap front (at_item k z) ∙ front_ends it js (operator_is k.stands ∙ o))
+    operator-put h o = all-put h (ap front (at_item k z) ∙ front_ends it js (operator_is s t ∙ o))
 
     module _ (o : operates t ≡ false) {m : ℕ} (m-is : m ≡ mark_of t.at t.len) (room : c < length ms') where
-      labels-are : labels_in (statement_at s i) ≡ cond (eqb 1 t.sort) (it ∷ labels_in js) (labels_in js)
+      labels-are : labels_in (statement_at s i) ≡ cond (same_sort word (sort_in t.sort)) (it ∷ labels_in js) (labels_in js)
       labels-are =
           ap labels_in (at_item k z)
-          ∙ ap (keep (is word)) (front_goes it js (operator_is k.stands ∙ o))
-          ∙ ap (λ b. cond b (it ∷ labels_in js) (labels_in js)) (is-sort word k.stands)
+          ∙ ap (keep (is word)) (front_goes it js (operator_is s t ∙ o))
 
       mark-is : m ≡ mark it
       mark-is = m-is ∙ ap (mark_of t.at) (sym k.stands.count)
 
-      still-putting : {c' : ℕ} → c' ≡ c + cond (eqb 1 t.sort) 1 0 → Putting s n t.next count ms (set ms' c m) c'
-      still-putting {c'} g = go (eqb 1 t.sort) g labels-are
+      still-putting : {c' : ℕ} → c' ≡ c + cond (same_sort word (sort_in t.sort)) 1 0 → Putting s n t.next count ms (set ms' c m) c'
+      still-putting {c'} g = go (same_sort word (sort_in t.sort)) g labels-are
         where
           go : (b : Bool) → c' ≡ c + cond b 1 0 → labels_in (statement_at s i) ≡ cond b (it ∷ labels_in js) (labels_in js)
               → Putting s n t.next count ms (set ms' c m) c'
@@ -119,7 +117,7 @@ module _ {r : List ℕ} {n : ℕ} {ms : List ℕ} {count j f : ℕ} {fault : Fau
       record {
         own = omega (arith, k.stands);
         behind = k.stands.behind;
-        colon_most = k.stands.colon_most;
+        colon_most = colon-most k.stands;
         low = omega (arith, k.stands, u.low);
       }
 
@@ -144,26 +142,24 @@ module _ {r : List ℕ} {n : ℕ} {ms : List ℕ} {count j f : ℕ} {fault : Fau
       item-is = ap (item_of s) g ∙ item-moved s n h t
 
     module _ {f' : ℕ} (f_is : f' ≡ cond (eqb j 0) o.at f) where
-      pub none_read : stops o.sort ≡ true → {q : Head} → q ≡ head_with f' fault c w o nothing_known → Heads r n count ms ms' q
-      none_read z q-is =
-          subst (Heads r n count ms ms') (sym q-is)
-          (λ s le h.
+      pub none_read : stops o.sort ≡ true → Heads r n count ms ms' (head_with f' fault c w o None)
+      none_read z s le h =
           let k' = there s le h in
-          (no-head (u.is s le h).0 k' (same_place n j) f_is z, all-put (u.is s le h).1 k' u.same (no_front (at-stop k' z))))
+          (no-head (u.is s le h).0 k' (same_place n j) f_is z, all-put (u.is s le h).1 k' u.same (no_front (at-stop k' z)))
 
       module _ (z : stops o.sort ≡ false) {w' : ℕ} (w-is : w' ≡ min w (token_code o)) where
-        pub head_read : operates o ≡ true → {v : Known} → v ≡ known_item (item_of r t) → Heads r n count ms ms' (head_with f' fault c w' o v)
+        pub head_read : operates o ≡ true → {v : Option Known} → v ≡ known_item (item_of r t) → Heads r n count ms ms' (head_with f' fault c w' o v)
         head_read y e s le h =
             let k' = there s le h in
             let v-is = e ∙ sym (ap known_item (item-is s le h) ∙ known-shift n (item_of r t)) in
             (head-here (u.is s le h).0 k' (same_place n j) f_is z w-is y v-is, operator-put (u.is s le h).1 k' z u.same y)
 
         pub still-reading : operates o ≡ false → {fault' : Fault} {m c' : ℕ} → fault' ≡ lower fault (fault_of (cond (is_name (item_of r t)) [] (o.at ∷ [])))
-            → m ≡ mark_of o.at o.len → c' ≡ c + cond (eqb 1 o.sort) 1 0 → Reading r n ms count t.next f' fault' w' (set ms' c m) c'
+            → m ≡ mark_of o.at o.len → c' ≡ c + cond (same_sort word (sort_in o.sort)) 1 0 → Reading r n ms count t.next f' fault' w' (set ms' c m) c'
         still-reading y {fault'} {m} {c'} e m-is c_is =
             record {
               most = k.stands.most;
-              few = few-by (eqb 1 o.sort) c_is;
+              few = few-by (same_sort word (sort_in o.sort)) c_is;
               room = length-set ms' c m ∙ u.room;
               low = u.low;
               same = length-set ms' c m ∙ u.same;

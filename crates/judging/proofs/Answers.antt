@@ -12,7 +12,7 @@ use Rattle.drafts.specs.DraftingLaws.{place-back}
 use Rattle.drafts.specs.Marks.{mark, place_by, marks_in}
 use Rattle.statements.specs.FaultLaws.{fault-both}
 use Rattle.statements.specs.Faults.{lower}
-use Rattle.heads.specs.Heads.{own_item, own_by, bars, is_switch, Headed}
+use Rattle.heads.specs.Heads.{own_item, bars, is_switch, head_keyword, Headed}
 use Rattle.heads.specs.HeadLaws.{lower-clear, told-bars, behind-by, no-keyword, no_operator, operator-here}
 use Rattle.heads.specs.declared.Head.{Head}
 use Rattle.language.specs.Limits as limit
@@ -28,7 +28,9 @@ use Rattle.syntax.specs.Questions.{operator_faults, label_faults}
 use Rattle.syntax.specs.Statements.{by_keyword, same_keyword, keyword_of, own, front, operator, keyword_in, is_name}
 use Rattle.syntax.specs.Statements as Spec
 use Rattle.syntax.specs.Verdict.{lowest}
-use Rattle.words.specs.Keywords.{keyword_by, told}
+use Rattle.words.proofs.KeywordLaws.{never-none}
+use Rattle.words.specs.Keywords.{keyword_by, told, is_own}
+use Rattle.judging.specs.Judging.{is_barred}
 use Rattle.words.specs.WordLaws.{keyword-item}
 
 by-switch : (X : List ℕ) (k : Spec.Keyword) → by_keyword (λ op. []) (λ goes_by_name. X) [] k ≡ cond (is_switch (told k)) X []
@@ -69,6 +71,9 @@ or-both false b c = refl
 item-barred : (english : Bool) (i : Item) → barred english i ≡ (bars (told (keyword_of i)) || own_item (not english) i)
 item-barred english i = go (is word i) refl
   where
+    some : is word i ≡ true → same_keyword Spec.Keyword.none (keyword_of i) ≡ false
+    some w = ap (same_keyword Spec.Keyword.none) (keyword-item i ∙ ap (λ b. cond b (keyword_by i.chars) Spec.Keyword.unknown) w) ∙ never-none i.chars
+
     u : Bool
     u = same_keyword Spec.Keyword.unknown (keyword_of i)
 
@@ -76,7 +81,7 @@ item-barred english i = go (is word i) refl
     e = same_keyword Spec.Keyword.SEKCJA (keyword_of i)
 
     go : (b : Bool) → is word i ≡ b → barred english i ≡ (bars (told (keyword_of i)) || own_item (not english) i)
-    go true w = or-both u e (own (not english) i.chars) ∙ rw (told-bars (keyword_of i), w) refl
+    go true w = or-both u e (own (not english) i.chars) ∙ rw (told-bars (keyword_of i) (some w), w) refl
     go false w =
         let k : keyword_of i ≡ Spec.Keyword.unknown = keyword-item i ∙ ap (λ b. cond b (keyword_by i.chars) Spec.Keyword.unknown) w in
         rw k refl
@@ -91,22 +96,18 @@ module _ {s : List ℕ} {n : ℕ} {h : Head} (g : Headed s n h) where
   -- 10
   module _ (english : Bool) where
     abbrev wrong : Bool
-    wrong = bars h.keyword || own_by (not english) h
+    wrong = is_barred english h
 
     own_fault : (b : Bool) → stops h.op.sort ≡ b → fault_of (places (keep (barred english) (operator x))) ≡ cond wrong (Some h.op.at) None
     unfolding keyword_in lowest
-    own_fault true z =
-        ap (λ os. fault_of (places (keep (barred english) os))) (no_operator g z)
-        ∙ sym
-        (ap (λ k. cond (bars k || own_by (not english) h) (Some h.op.at) None) (no-keyword g z)
-        ∙ ap (λ (b : Bool). cond b (Some h.op.at) None) (g.owned (not english) ∙ ap (if_any false (own_item (not english))) (behind-by g true z)))
+    own_fault true z = ap (λ os. fault_of (places (keep (barred english) os))) (no_operator g z) ∙ sym (rw z refl)
     own_fault false z =
-        let k : h.keyword ≡ told (keyword_of it) = g.keyword ∙ ap (λ xs. told (if_any Spec.Keyword.none keyword_of xs)) (behind-by g false z) in
-        let o : own_by (not english) h ≡ own_item (not english) it = g.owned (not english) ∙ ap (if_any false (own_item (not english))) (behind-by g false z) in
+        let k : head_keyword h ≡ told (keyword_of it) = g.keyword ∙ ap (λ xs. told (if_any Spec.Keyword.none keyword_of xs)) (behind-by g false z) in
+        let o : is_own (not english) h.known ≡ own_item (not english) it = g.owned (not english) ∙ ap (if_any false (own_item (not english))) (behind-by g false z) in
         ap (λ os. fault_of (places (keep (barred english) os))) (operator-here g z)
         ∙ ap (λ (b : Bool). fault_of (places (cond b (it ∷ []) [])))
-        (item-barred english it ∙ ap (λ k. bars k || own_item (not english) it) (sym k) ∙ ap (λ (b : Bool). bars h.keyword || b) (sym o))
-        ∙ go wrong
+        (item-barred english it ∙ ap (λ k. bars k || own_item (not english) it) (sym k) ∙ ap (λ (b : Bool). bars (head_keyword h) || b) (sym o))
+        ∙ go (bars (head_keyword h) || is_own (not english) h.known) ∙ sym (rw z refl)
       where
         go : (b : Bool) → fault_of (places (cond b (it ∷ []) [])) ≡ cond b (Some h.op.at) None
         go true = refl
@@ -129,14 +130,14 @@ module _ {s : List ℕ} {n : ℕ} {h : Head} (g : Headed s n h) where
   abbrev asked : List Item → List ℕ
   asked ls = cond (filled ls) (places (drop 1 ls)) (places (operator x))
 
-  by-head : (b : Bool) → is_switch h.keyword ≡ b → (ls : List Item) → label_faults ls x ≡ cond b (asked ls) []
+  by-head : (b : Bool) → is_switch (head_keyword h) ≡ b → (ls : List Item) → label_faults ls x ≡ cond b (asked ls) []
   unfolding label_faults
   by-head b e ls = by-switch (asked ls) (keyword_in x) ∙ ap (λ (c : Bool). cond c (asked ls) []) (ap is_switch (sym g.keyword) ∙ e)
 
-  pub no_switch : is_switch h.keyword ≡ false → (ls : List Item) → None ≡ fault_of (label_faults ls x)
+  pub no_switch : is_switch (head_keyword h) ≡ false → (ls : List Item) → None ≡ fault_of (label_faults ls x)
   no_switch e ls = sym (ap fault_of (by-head false e ls))
 
-  module _ (e : is_switch h.keyword ≡ true) where
+  module _ (e : is_switch (head_keyword h) ≡ true) where
     operator_of : (b : Bool) → stops h.op.sort ≡ b → places (operator x) ≡ h.op.at ∷ []
     operator_of true z = absurd (true≢false (sym e ∙ ap is_switch (no-keyword g z)))
     operator_of false z = ap places (operator-here g z)

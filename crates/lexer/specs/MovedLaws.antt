@@ -1,17 +1,28 @@
 -- The items of a text's rest, counted from place n of the text on: they are those of the rest alone with all places moved by n; and so are its tokens.
 use Rattle.std.specs.Prelude.{◌≡◌, Bool, true, false, cond, ◌&&◌, List, [], ◌∷◌, map, ℕ, ◌+◌, ◌-◌, ◌≤◌, eqb, length, get_or, take, drop}
 use Rattle.std.proofs.Math.Path.{refl}
-use Rattle.std.proofs.Common.{sym, ap, ◌∙◌, length-drop, drop-drop, ne_eqb}
+use Rattle.std.proofs.Common.{sym, ap, ◌∙◌, length-drop, drop-drop}
 use Rattle.std.proofs.lemmas.List.{map-append}
 use native.Mathlib.Omega.{arith}
-use Rattle.std.proofs.lemmas.Bool.{eqb-false}
 use Rattle.scanner.specs.Below.Lists.{if_any}
-use Rattle.scanner.specs.Below.Items.{Sort, sort_of, same_sort, Item, is, places, a_word, a_text, a_mark, ends_text, Mode, opens, begins, itself, mode_after, items_at, left_over, read, attach, named}
+use Rattle.scanner.specs.Below.Items as items
+use Rattle.scanner.specs.Below.Items.{sort_of, same_sort, Item, is, places, a_word, a_text, a_mark, ends_text, Mode, opens, begins, itself, mode_after, items_at, left_over, read, attach, named}
 use Rattle.scanner.specs.Below.Items.Sort.{separator, word, colon, end, text, wrong}
 use Rattle.scanner.specs.Below.Items.Stage.{first-star, inside, last-slash}
 use Rattle.scanner.specs.Below.Items.Mode.{outside, in_word, in_comment, in_text}
+use Rattle.scanner.specs.declared.Sort.{Sort}
+use Rattle.std.specs.Prelude.{Option, None, Some, IfSome}
+use Rattle.std.specs.Option.{is_none, option_to_list}
 use Rattle.lexer.specs.declared.Token.{Token}
-use Rattle.lexer.specs.Tokens.{part, chars_of, colon_of, item_of, items_from, Stands, NextToken, moved}
+use Rattle.lexer.specs.Tokens.{part, chars_by, chars_of, item_of, ColonWithin, moved_colon, items_from, Stands, NextToken, moved}
+
+-- a token's colon stands in front of what is read next
+pub colon-most : {s : List ℕ} {t : Token} → Stands s t → IfSome t.colon (λ c. c ≤ t.next)
+colon-most {s} {t} k = go t.colon k.colon_within
+  where
+    go : (c : Option ℕ) → ColonWithin t.end t.next c → IfSome c (λ p. p ≤ t.next)
+    go None w = tt
+    go (Some c) w = w.1
 
 -- places, an item, and what the reader has begun, moved by n
 abbrev shifted : ℕ → List ℕ → List ℕ
@@ -30,7 +41,7 @@ shift_mode n (in_comment at k) = in_comment (n + at) k
 shift_mode n (in_text at star cs good) = in_text (n + at) star cs good
 
 -- what a byte is by itself, as a function of its place, is nothing or a mark; and it begins one of four modes
-pub itself-case : (P : (ℕ → List Item) → Type 0) → P (λ n. []) → ((k : Sort) → P (λ n. a_mark k n ∷ [])) → (k : Sort) (b next : ℕ) → P (λ n. itself k n b next)
+pub itself-case : (P : (ℕ → List Item) → Type 0) → P (λ n. []) → ((k : items.Sort) → P (λ n. a_mark k n ∷ [])) → (k : items.Sort) (b next : ℕ) → P (λ n. itself k n b next)
 unfolding itself
 itself-case P z f separator b next = z
 itself-case P z f word b next = z
@@ -40,7 +51,7 @@ itself-case P z f text b next = z
 itself-case P z f wrong b next = elim (opens b next) as (λ t. P (λ n. cond t [] (a_mark wrong n ∷ []))) [ true ↦ z | false ↦ f wrong ]
 
 pub begins-case : (P : (ℕ → Mode) → Type 0) → P (λ n. outside) → ((b : ℕ) → P (λ n. in_word n (b ∷ []))) → P (λ n. in_comment n first-star) → P (λ n. in_text n false [] true)
-    → (k : Sort) (b next : ℕ) → P (λ n. begins k n b next)
+    → (k : items.Sort) (b next : ℕ) → P (λ n. begins k n b next)
 unfolding begins
 begins-case P z w c x separator b next = z
 begins-case P z w c x word b next = w b
@@ -49,10 +60,10 @@ begins-case P z w c x end b next = z
 begins-case P z w c x text b next = x
 begins-case P z w c x wrong b next = elim (opens b next) as (λ t. P (λ n. cond t (in_comment n first-star) outside)) [ true ↦ c | false ↦ z ]
 
-itself-shifts : (k : Sort) (n p b next : ℕ) → itself k (n + p) b next ≡ shift_all n (itself k p b next)
+itself-shifts : (k : items.Sort) (n p b next : ℕ) → itself k (n + p) b next ≡ shift_all n (itself k p b next)
 itself-shifts k n p b next = itself-case (λ f. f (n + p) ≡ shift_all n (f p)) refl (λ k. refl) k b next
 
-begins-shifts : (k : Sort) (n p b next : ℕ) → begins k (n + p) b next ≡ shift_mode n (begins k p b next)
+begins-shifts : (k : items.Sort) (n p b next : ℕ) → begins k (n + p) b next ≡ shift_mode n (begins k p b next)
 begins-shifts k n p b next = begins-case (λ f. f (n + p) ≡ shift_mode n (f p)) refl (λ b. refl) refl refl k b next
 
 cond-shifts : (n : ℕ) (t : Bool) (xs ys : List Item) → cond t (shift_all n xs) (shift_all n ys) ≡ shift_all n (cond t xs ys)
@@ -137,45 +148,43 @@ module _ (s : List ℕ) (n : ℕ) {r : List ℕ} (h : drop n s ≡ r) where
       rw (rest_is a, l) refl
 
   -- a token, its item and what it promises
+  chars-moved-by : (k : Option Sort) (t : Token) → chars_by k s (moved n t) ≡ chars_by k r t
+  chars-moved-by None t = refl
+  chars-moved-by (Some Sort.Word) t = part-shifts t.at t.end
+  chars-moved-by (Some Sort.Colon) t = refl
+  chars-moved-by (Some Sort.End) t = refl
+  chars-moved-by (Some Sort.Text) t = let l : n + t.at + 1 ≡ n + (t.at + 1) = omega arith in rw (l, part-shifts (t.at + 1) t.end) refl
+  chars-moved-by (Some Sort.Wrong) t = refl
+
   chars-moved : (t : Token) → chars_of s (moved n t) ≡ chars_of r t
   unfolding chars_of
-  chars-moved t =
-      let l : n + t.at + 1 ≡ n + (t.at + 1) = omega arith in
-      rw (part-shifts t.at t.end, l, part-shifts (t.at + 1) t.end) refl
+  chars-moved t = chars-moved-by t.sort t
+
+  colon-moved : (c : Option ℕ) → option_to_list (moved_colon n c) ≡ shifted n (option_to_list c)
+  colon-moved None = refl
+  colon-moved (Some c) = refl
 
   pub item-moved : (t : Token) → item_of s (moved n t) ≡ shift n (item_of r t)
-  item-moved t = rw (chars-moved t, colon-shifts-by (eqb t.colon 0) refl) refl
-    where
-      colon-shifts-by : (b : Bool) → eqb t.colon 0 ≡ b → colon_of (moved n t) ≡ shifted n (colon_of t)
-      colon-shifts-by true e = rw e refl
-      colon-shifts-by false e =
-          let o : eqb (n + t.colon) 0 ≡ false = ne_eqb (n + t.colon) 0 (λ q. eqb-false t.colon 0 e (omega arith)) in
-          rw (e, o) refl
+  item-moved t = rw (chars-moved t, colon-moved t.colon) refl
+
+  within-moved : (e m : ℕ) (c : Option ℕ) → ColonWithin e m c → ColonWithin (n + e) (n + m) (moved_colon n c)
+  within-moved e m None w = tt
+  within-moved e m (Some c) w = (omega (arith, w.0), omega (arith, w.1))
 
   module _ (le : n ≤ length s) where
     pub moved-stands : {t : Token} → Stands r t → Stands s (moved n t)
     moved-stands {t} k =
         let long : length r ≡ length s - n = sym (ap length h) ∙ length-drop n s in
         record {
-          sorted = k.sorted;
           own = omega (arith, k.own);
           behind = omega (arith, k.behind);
           most = omega (arith, k.most);
-          colon_most = most-by (eqb t.colon 0);
-          colon_from = from-by (eqb t.colon 0) refl;
+          colon_within = within-moved t.end t.next t.colon k.colon_within;
           some = λ z. omega (arith, k.some z);
           ending = λ z. omega (arith, k.ending z);
           fine = k.fine;
           count = ap length (chars-moved t) ∙ k.count;
         }
-      where
-        most-by : (b : Bool) → cond b 0 (n + t.colon) ≤ n + t.next
-        most-by true = omega arith
-        most-by false = omega (arith, k.colon_most)
-
-        from-by : (b : Bool) → eqb t.colon 0 ≡ b → (cond b 0 (n + t.colon) ≡ 0 → ⊥) → n + t.end ≤ cond b 0 (n + t.colon)
-        from-by true e z = absurd (z refl)
-        from-by false e z = omega (arith, k.colon_from (eqb-false t.colon 0 e))
 
     pub moved-next : {i : ℕ} {t : Token} → NextToken r i t → NextToken s (n + i) (moved n t)
     moved-next {i} {t} k =
@@ -183,5 +192,5 @@ module _ (s : List ℕ) (n : ℕ) {r : List ℕ} (h : drop n s ≡ r) where
           from = omega (arith, k.from);
           stands = moved-stands k.stands;
           is = items-shift i ∙ ap (shift_all n) k.is
-              ∙ rw (item-moved t, items-shift t.next) (sym (cond-shifts n (eqb t.sort 0) [] (item_of r t ∷ items_from r t.next)));
+              ∙ rw (item-moved t, items-shift t.next) (sym (cond-shifts n (is_none t.sort) [] (item_of r t ∷ items_from r t.next)));
         }

@@ -1,27 +1,37 @@
 // From a place in a text to the item that stands there and the place behind it.
 #![tactic(auto)]
 
-ghost use Rattle.std.specs.Prelude.{◌≡◌, ◌+◌, ◌≤◌, ◌<◌, length};
-ghost use Rattle.scanner.specs.Below.Items.{line_at};
-ghost use Rattle.lexer.specs.Tokens.{a_token, WordAt, TextAt, TokenAt, ColonAfter, NextToken, Movable, moved, moved_colon};
+ghost use Rattle.std.specs.Prelude.{◌≡◌, Some, ◌+◌, ◌≤◌, ◌<◌, length};
+ghost use Rattle.scanner.specs.Below.Items.{same_sort, line_at};
+ghost use Rattle.scanner.specs.Sorts.{sort_in};
+ghost use Rattle.lexer.specs.Tokens.{a_token, WordAt, TextAt, TokenAt, ColonAfter, NextToken, Movable, moved};
 
-use scanner::{NOTHING, TEXT, Unclosed, WORD, WRONG, scan_text, skip, sort_of, word_end};
+use scanner::{Sort, Unclosed, scan_text, skip, sort_of, word_end};
 
-// An item: its sort; the place where it begins, the place where its own bytes end, which of a text is that of its closing
-// apostrophe, and the place from which the next item is sought; the count of its characters; of a text whether it is closed
-// and allowed; of a word the place of the colon that follows it, or 0.
-#[derive(Clone, Copy, PartialEq, Eq)]
+// An item: its sort, or none where the text has no item left; the place where it begins, the place where its own bytes end, which of a text is that of
+// its closing apostrophe, and the place from which the next item is sought; the count of its characters; of a text whether it is closed and allowed; the
+// place of the colon that follows a word.
+#[derive(Clone, Copy, Debug, PartialEq, Eq)]
 pub struct Token {
-    pub sort: u8,
+    pub sort: Option<Sort>,
     pub at: usize,
     pub end: usize,
     pub next: usize,
     pub len: usize,
     pub good: bool,
-    pub colon: usize,
+    pub colon: Option<usize>,
 }
 
-fn mark(sort: u8, at: usize, end: usize) -> Token
+impl Token {
+    // Whether the item is of a sort.
+    pub fn is(self, sort: Sort) -> bool
+        ensures { result ≡ same_sort (sort_in (Some sort)) (sort_in self.sort) }
+    {
+        self.sort == Some(sort)
+    }
+}
+
+fn mark(sort: Option<Sort>, at: usize, end: usize) -> Token
     ensures { result ≡ a_token sort at end }
 {
     Token {
@@ -31,10 +41,12 @@ fn mark(sort: u8, at: usize, end: usize) -> Token
         next: end,
         len: 0,
         good: true,
-        colon: 0,
+        colon: None,
     }
 }
 
+// Inlined, as `text_at` and `scanner::scan_text` are: as calls, items are read a third slower.
+#[inline(always)]
 fn word_at(text: &[u8], at: usize) -> Token
     requires { at < length text.now }
     ensures { WordAt text.now at result }
@@ -42,20 +54,21 @@ fn word_at(text: &[u8], at: usize) -> Token
     let end = word_end(text, at + 1);
     Token {
         len: end - at,
-        ..mark(WORD, at, end)
+        ..mark(Some(Sort::Word), at, end)
     }
 }
 
+#[inline(always)]
 fn text_at(text: &[u8], at: usize) -> Token
     requires { at < length text.now }
     ensures { TextAt text.now at result }
 {
     let x = scan_text(text, at + 1);
     Token {
-        next: x.end + usize::from(x.closed),
+        next: x.behind.unwrap_or(x.end),
         len: x.count,
-        good: x.good & x.closed,
-        ..mark(TEXT, at, x.end)
+        good: x.good & x.behind.is_some(),
+        ..mark(Some(Sort::Text), at, x.end)
     }
 }
 
@@ -66,27 +79,30 @@ pub fn item_at(text: &[u8], n: usize) -> Token
 {
     let at = match skip(text, n) {
         Ok(at) => at,
-        Err(Unclosed(at)) => return mark(WRONG, at, text.len()),
+        Err(Unclosed(at)) => return mark(Some(Sort::Wrong), at, text.len()),
     };
     if text.len() <= at {
-        return mark(NOTHING, at, at);
+        return mark(None, at, at);
     }
-    match sort_of(text[at]) {
-        WORD => word_at(text, at),
-        TEXT => text_at(text, at),
-        sort => mark(sort, at, at + 1),
+    let Some(sort) = sort_of(text[at]) else {
+        return mark(None, at, at + 1);
+    };
+    match sort {
+        Sort::Word => word_at(text, at),
+        Sort::Text => text_at(text, at),
+        Sort::Colon | Sort::End | Sort::Wrong => mark(Some(sort), at, at + 1),
     }
 }
 
 // What follows a word: the place of a colon, if there is one, and the place from which the next item is sought.
-#[derive(Clone, Copy)]
+#[derive(Clone, Copy, Debug, PartialEq, Eq)]
 struct After {
     colon: Option<usize>,
     next: usize,
 }
 
 fn colon_after(text: &[u8], n: usize) -> After
-    requires { (0 < n) × (n ≤ length text.now) }
+    requires { n ≤ length text.now }
     ensures { ColonAfter text.now n result }
 {
     match skip(text, n) {
@@ -111,13 +127,13 @@ pub fn next_item(text: &[u8], n: usize) -> Token
     ensures { NextToken text.now n result }
 {
     let t = item_at(text, n);
-    if t.sort != WORD {
+    if !t.is(Sort::Word) {
         return t;
     }
     let a = colon_after(text, t.next);
     Token {
         next: a.next,
-        colon: a.colon.unwrap_or(0),
+        colon: a.colon,
         ..t
     }
 }
@@ -131,16 +147,9 @@ pub fn moved(t: Token, n: usize) -> Token
         at: n + t.at,
         end: n + t.end,
         next: n + t.next,
-        colon: moved_colon(t.colon, n),
+        colon: t.colon.map(|colon| n + colon),
         ..t
     }
-}
-
-fn moved_colon(colon: usize, n: usize) -> usize
-    requires { n + colon ≤ 65536 }
-    ensures { result ≡ moved_colon n colon }
-{
-    if colon == 0 { 0 } else { n + colon }
 }
 
 // The line of a place, from the lines of a text's bytes; 1 where no byte stands.
@@ -151,9 +160,4 @@ pub fn line_at(lines: &[u16], at: usize) -> u16
         Some(line) => *line,
         None => 1,
     }
-}
-
-// Of `scanner`, passed on to the crates above.
-pub mod from_scanner {
-    pub use scanner::{END, NOTHING, TEXT, WRONG};
 }

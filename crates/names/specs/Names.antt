@@ -1,4 +1,5 @@
 -- The names of all labels that were met, by their marks, and what the functions on them ask and promise.
+use Rattle.std.specs.List.{All}
 use Rattle.std.specs.Prelude.{cond, List, [], ◌∷◌, ◌++◌, map, ℕ, ◌+◌, ◌≤◌, ◌<◌, length, get_or}
 use Rattle.drafts.specs.Marks.{place_by, word_by, Marked}
 use Rattle.lists.specs.Lists.{any, keep, bytes_equal}
@@ -13,9 +14,12 @@ pub record Fitting (s : List ℕ) (m at len : ℕ) : Type 0 where
 abbrev pub names_of : List ℕ → List ℕ → List (List ℕ)
 names_of s ms = map (word_by s) ms
 
-pub record Sought (s ms : List ℕ) (count at len : ℕ) : Type 0 where
-  pub most : count ≤ length ms
-  pub marked : (k : ℕ) → k < count → Marked s (get_or ms k 0)
+-- the words of some marks are in the text
+abbrev pub Marks : List ℕ → List ℕ → Type 0
+Marks s ms = All (Marked s) ms
+
+pub record Sought (s ms : List ℕ) (at len : ℕ) : Type 0 where
+  pub marked : Marks s ms
   pub inside : at + len ≤ length s
 
 -- 06 of the words of some marks after some names: a mark's place, if its word is one of them; and all that are repeated
@@ -35,5 +39,8 @@ pub record Repeatable (s ms : List ℕ) (count : ℕ) : Type 0 where
   pub most : count ≤ length ms
   pub marked : (k : ℕ) → k < count → Marked s (get_or ms k 0)
 
-abbrev pub Askable : List ℕ → List ℕ → ℕ → Type 0
-Askable s ms k = Repeatable s ms (k + 1)
+-- and those of two rows, and that of the mark m
+pub record Askable (s ms ns : List ℕ) (m : ℕ) : Type 0 where
+  pub before : Marks s ms
+  pub others : Marks s ns
+  pub own : Marked s m

@@ -1,11 +1,11 @@
 // The names of all labels that were met, by their marks: question 06, "Is each label new?", and 70, "is the label none of these?"
 #![tactic(auto)]
 
-ghost use Rattle.std.specs.Prelude.{◌≡◌, [], ◌∷◌, map, ◌≤◌, length, get_or, take, drop};
+ghost use Rattle.std.specs.Prelude.{◌≡◌, [], ◌∷◌, ◌++◌, map, take, drop};
 ghost use Rattle.lists.specs.Lists.{any, bytes_equal};
-ghost use Rattle.drafts.specs.Marks.{place_by, word_by, Marked, marks_in};
+ghost use Rattle.drafts.specs.Marks.{place_by, word_by, Marked};
 ghost use Rattle.statements.specs.StatementAt.{fault_of};
-ghost use Rattle.names.specs.Names.{Fitting, Sought, names_of, Askable, own_repeated, repeated_by, reserved_by, Repeatable};
+ghost use Rattle.names.specs.Names.{Fitting, Marks, Sought, names_of, Askable, own_repeated, repeated_by, reserved_by};
 
 use packed::cell_of;
 use statements::{Fault, lower};
@@ -27,12 +27,12 @@ fn name_is(text: &[u8], m: usize, at: usize, len: usize) -> bool
     spelling::same_word(text, at, from, len)
 }
 
-// Whether one of the first `count` names is the `len` bytes at `at`.
-fn has_name(text: &[u8], names: &[u32], count: usize, at: usize, len: usize) -> bool
-    requires { Sought text.now names.now count at len }
-    ensures { result ≡ any (bytes_equal (take len (drop at text.now))) (names_of text.now (take count names.now)) }
+// Whether one of some names is the `len` bytes at `at`.
+fn has_name(text: &[u8], names: &[u32], at: usize, len: usize) -> bool
+    requires { Sought text.now names.now at len }
+    ensures { result ≡ any (bytes_equal (take len (drop at text.now))) (names_of text.now names.now) }
 {
-    for m in &names[..count] {
+    for m in names {
         if name_is(text, *m as usize, at, len) {
             return true;
         }
@@ -40,26 +40,30 @@ fn has_name(text: &[u8], names: &[u32], count: usize, at: usize, len: usize) -> 
     false
 }
 
-// The place of the name number `k`, if it is one of the names before it.
-fn met_before(text: &[u8], names: &[u32], k: usize) -> Fault
-    requires { Askable text.now names.now k }
-    ensures { result ≡ fault_of (own_repeated text.now (names_of text.now (take k names.now)) (get_or names.now k 0)) }
+// The place of a name, if it is one of those of two rows.
+fn met_before(text: &[u8], before: &[u32], names: &[u32], m: usize) -> Fault
+    requires { Askable text.now before.now names.now m }
+    ensures { result ≡ fault_of (own_repeated text.now (names_of text.now before.now ++ names_of text.now names.now) m) }
 {
-    let m: usize = cells::read(names, k);
-    if has_name(text, names, k, m / 64, m % 64) {
-        return Some(m / 64);
+    let at = m / 64;
+    let len = m % 64;
+    if has_name(text, before, at, len) | has_name(text, names, at, len) {
+        return Some(at);
     }
     None
 }
 
-// Question 06 of the names from index `from` to index `to`.
-pub fn first_repeated(text: &[u8], names: &[u32], from: usize, to: usize) -> Fault
-    requires { Repeatable text.now names.now to }
-    ensures { result ≡ fault_of (repeated_by text.now (names_of text.now (take from names.now)) (marks_in names.now from to)) }
+// Question 06 of some names, which stand behind others.
+pub fn first_repeated(text: &[u8], before: &[u32], names: &[u32]) -> Fault
+    requires { Marks text.now before.now × Marks text.now names.now }
+    ensures { result ≡ fault_of (repeated_by text.now (names_of text.now before.now) names.now) }
 {
     let mut fault = None;
-    for k in from..to {
-        fault = lower(fault, met_before(text, names, k));
+    for k in 0..names.len() {
+        fault = lower(
+            fault,
+            met_before(text, before, &names[..k], cells::read(names, k)),
+        );
     }
     fault
 }
@@ -76,26 +80,21 @@ fn own_reserved(text: &[u8], m: usize) -> Fault
     None
 }
 
-// Question 70 of the names from index `from` to index `to`.
-pub fn first_reserved(text: &[u8], names: &[u32], from: usize, to: usize) -> Fault
-    requires { Repeatable text.now names.now to }
-    ensures { result ≡ fault_of (reserved_by text.now (marks_in names.now from to)) }
+// Question 70 of some names.
+pub fn first_reserved(text: &[u8], names: &[u32]) -> Fault
+    requires { Marks text.now names.now }
+    ensures { result ≡ fault_of (reserved_by text.now names.now) }
 {
-    let mut fault = None;
-    for k in from..to {
-        fault = lower(fault, own_reserved(text, cells::read(names, k)));
-    }
-    fault
+    names
+        .iter()
+        .fold(None, |low, m| lower(low, own_reserved(text, *m as usize)))
 }
 
-// The lowest place of the names of the marks from index `from` to index `to`.
-pub fn lowest_mark(names: &[u32], from: usize, to: usize) -> Fault
-    requires { to ≤ length names.now }
-    ensures { result ≡ fault_of (map place_by (marks_in names.now from to)) }
+// The lowest place of the names of some marks.
+pub fn lowest_mark(marks: &[u32]) -> Fault
+    ensures { result ≡ fault_of (map place_by marks.now) }
 {
-    let mut low = None;
-    for k in from..to {
-        low = lower(low, Some(cells::read(names, k) / 64));
-    }
-    low
+    marks
+        .iter()
+        .fold(None, |low, m| lower(low, Some(*m as usize / 64)))
 }

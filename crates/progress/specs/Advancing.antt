@@ -14,11 +14,12 @@ use Rattle.progress.specs.Progress.{NamesKept, SectionKept, EditionKept, TellsDr
 use Rattle.progress.specs.declared.Progress.{Progress}
 use Rattle.statements.specs.StatementAt.{statement_at, fault_of}
 use Rattle.statements.specs.Faults.{Fault}
+use Rattle.std.specs.Prelude.{Option}
 use Rattle.syntax.specs.Questions.{questions}
 use Rattle.syntax.specs.Tables.{Draft, all_labels, draft_after}
 
 -- the name of the section
-abbrev pub SectionTold : List ℕ → ℕ → ℕ → ℕ → Type 0
+abbrev pub SectionTold : List ℕ → ℕ → Option ℕ → Option ℕ → Type 0
 SectionTold s n section r =
     (d : Draft) → SectionKept s d section → Answered (questions d (statement_at s n)) → SectionKept s (draft_after d (statement_at s n)) r
 
@@ -52,7 +53,7 @@ abbrev pub Advances : List ℕ → ℕ → Progress → List ℕ → ℕ → ℕ
 Advances s n g ms a b r = (d : Draft) → Advancing s n d g ms a b → TellsDraft s (draft_after d (statement_at s n)) r ms
 
 -- whatever the statement is, where its head, the section's name and what follows KONS or KONP are told
-abbrev pub Progresses : Progress → Head → ℕ → Fault → List ℕ → Progress → Type 0
+abbrev pub Progresses : Progress → Head → Option ℕ → Fault → List ℕ → Progress → Type 0
 Progresses g h section after ms r =
     (s : List ℕ) (n : ℕ) → Headed s n h → SectionTold s n g.section section → AfterTold s n g.section after
     → Advances s n g ms (g.names - g.waiting) h.names r

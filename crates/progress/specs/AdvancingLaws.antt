@@ -1,16 +1,16 @@
 -- A draft after a statement without fault: its section and its last instruction; and after an empty one.
-use Rattle.std.specs.Prelude.{◌≡◌, Bool, ◌&&◌, T, eqb, length, drop}
+use Rattle.std.specs.Prelude.{◌≡◌, Bool, ◌&&◌, T, length, drop}
 use Rattle.std.proofs.Math.Path.{refl, sym, ap}
 use Rattle.std.proofs.Common.{◌∙◌, subst, arith, length-append, drop_at}
 use Rattle.std.proofs.Math.Bool.{true, false, cond, not}
 use Rattle.std.proofs.lemmas.Bool.{false≢true}
 use mathlib.Core.List.{List, [], ◌∷◌, ◌++◌, append-nil}
 use Prim.Native.Nat.{ℕ, pred, ◌≤◌, ◌<◌}
-use borrow.Author.Tests.{ne_eqb, not-true}
+use borrow.Author.Tests.{not-true}
 use Rattle.acceptance.proofs.ArgumentLaws.{word-apart}
 use Rattle.acceptance.proofs.StatementLaws.{each-behind}
 use Rattle.headings.specs.Below.HeadLaws.{some-number}
-use Rattle.declaring.specs.Below.CountLaws.{above, this-instruction, has-operator}
+use Rattle.declaring.specs.Below.CountLaws.{above, number-kept, this-instruction, has-operator}
 use Rattle.acceptance.proofs.RowLaws.{Answered, fails, append-none}
 use Rattle.progress.specs.Closing.{unended}
 use Rattle.declaring.specs.SpeltLaws.{statement-spelt}
@@ -19,12 +19,14 @@ use Rattle.headings.specs.Below.DraftsMarks.{mark, mark_of, word_by, Marked}
 use Rattle.headings.specs.Below.Tabled.{Spelt}
 use Rattle.forms.specs.Forms.{ends}
 use Rattle.forms.specs.ReadingLaws.{ends-listed}
-use Rattle.headings.specs.Below.Heads.{own_item, own_in, instr_of, instr_by, Headed}
-use Rattle.headings.specs.Headings.{Rests}
-use Rattle.headings.specs.HeadingLaws.{rest-follows, follows_by}
+use Rattle.headings.specs.Below.Heads.{own_item, own_in, instr_of, instr_by, head_keyword, Headed}
+use Rattle.headings.specs.Headings.{FirstIn, from_first, mark_first, Rests}
+use Rattle.headings.specs.HeadingLaws.{rest-follows}
 use Rattle.headings.specs.declared.Rest.{Rest}
 use Rattle.headings.specs.Below.Head.{Head}
-use Rattle.language.specs.Instructions.{operation, is_end}
+use Rattle.language.specs.Instructions.{operation, number_of, is_end}
+use Rattle.language.specs.Operators.{op_by}
+use Rattle.language.specs.declared.Operator.{Operator}
 use Rattle.language.specs.Limits as limit
 use Rattle.language.specs.Program.{Op, identifier}
 use Rattle.layout.proofs.ArgumentLaws.{operator-range}
@@ -36,9 +38,10 @@ use Rattle.lists.specs.Lists.{filled, head_or, if_any, each, bytes_equal}
 use Rattle.lists.specs.Quoted.{bytes}
 use Rattle.lists.specs.ListLaws.{T-left, T-right}
 use Rattle.progress.specs.Progress.{SectionKept, EditionKept}
-use Rattle.statements.specs.StatementAt.{statement_at, stops, fault_of}
+use Rattle.statements.specs.StatementAt.{statement_at, fault_of}
 use Rattle.statements.specs.Faults.{Fault}
-use Rattle.std.specs.Prelude.{None, Some}
+use Rattle.std.specs.Prelude.{Option, None, Some}
+use Rattle.std.specs.Option.{is_none}
 use Rattle.syntax.specs.Items.{Item, is}
 use Rattle.syntax.specs.Items.Sort.{word, colon}
 use Rattle.syntax.specs.Questions.{first_faults, questions}
@@ -46,7 +49,7 @@ use Rattle.syntax.specs.Statements as Spec
 use Rattle.syntax.specs.Statements.{same_keyword, by_keyword, keyword_of, own, is_operator, front, behind, operator_at, keyword_in, chooses_english, rest, one_name}
 use Rattle.syntax.specs.Tables.{Written, Tables, Draft, is_first, all_labels, contents, with_instr, with_switch, draft_after}
 use Rattle.syntax.specs.Verdict.{lowest}
-use Rattle.words.specs.Keywords.{keyword_by, told}
+use Rattle.words.specs.Keywords.{keyword_by, told, is_own}
 use Rattle.words.specs.WordLaws.{keyword-item}
 use Rattle.words.proofs.KeywordLaws.{chooses-section}
 use Rattle.progress.specs.Advancing.{SectionTold, EndedTold}
@@ -71,7 +74,7 @@ module _ (t : Tables) (ls x : List Item) where
   no_instr Spec.Keyword.KONS e = refl
   no_instr Spec.Keyword.KONP e = refl
   no_instr (Spec.Keyword.switch goes_by_name) e = refl
-  no_instr (Spec.Keyword.instr op) e = absurd (omega (arith, (operator-range op).0))
+  no_instr (Spec.Keyword.instr op) e = absurd (omega (arith, (operator-range op).0, number-kept op, e))
 
   -- an instruction is the last one then
   an-instr : (op : Op) {m at : ℕ} → operator_at x ≡ at → (operation op).number ≡ m → fault_of (unended (with_instr t ls x op).code) ≡ cond (ends m) None (Some at)
@@ -82,7 +85,7 @@ module _ (t : Tables) (ls x : List Item) where
       go true q = ap (λ (c : Bool). cond c None (Some at)) q
       go false q = ap Some p ∙ ap (λ (c : Bool). cond c None (Some at)) q
 
-module _ {s : List ℕ} {n : ℕ} {h : Head} (g : Headed s n h) {m : ℕ} (number : m ≡ instr_of h.keyword) where
+module _ {s : List ℕ} {n : ℕ} {h : Head} (g : Headed s n h) {m : ℕ} (number : m ≡ instr_of (head_keyword h)) where
   abbrev x : List Item
   x = statement_at s n
 
@@ -104,9 +107,9 @@ module _ {s : List ℕ} {n : ℕ} {h : Head} (g : Headed s n h) {m : ℕ} (numbe
     pub ended-then : (b : Bool) → ends m ≡ b → EndedTold s n ended (cond b None (Some h.op.at))
     ended-then b q d e = last-here d ∙ ap (λ (c : Bool). cond c None (Some h.op.at)) q
 
-pub ended-numbered : {s : List ℕ} {n : ℕ} {h : Head} → Headed s n h → {m : ℕ} → Some m ≡ instr_by h.keyword → (ended : Fault) (b : Bool) → ends m ≡ b
+pub ended-numbered : {s : List ℕ} {n : ℕ} {h : Head} → Headed s n h → {o : Operator} → Some o ≡ instr_by (head_keyword h) → {m : ℕ} → m ≡ number_of (op_by o) → (ended : Fault) (b : Bool) → ends m ≡ b
     → EndedTold s n ended (cond b None (Some h.op.at))
-ended-numbered {s} {n} {h} g e = ended-then g (some-number h.keyword e) (above (keyword_in (statement_at s n)) (e ∙ ap instr_by g.keyword))
+ended-numbered {s} {n} {h} g {o} e f = ended-then g (f ∙ some-number (head_keyword h) e) (above o f)
 
 -- ---- the section's name
 
@@ -154,43 +157,40 @@ module _ (s : List ℕ) (n : ℕ) where
   abbrev y : List Item
   y = statement_at s n
 
-  pub section-before : {section : ℕ} → (section ≡ 0 → ⊥) → SectionTold s n section section
+  pub section-before : {section : ℕ} → SectionTold s n (Some section) (Some section)
   unfolding draft_after
-  section-before {section} z d k a =
+  section-before {section} d k a =
       let e : cond (is_first d) (head_or [] (contents (rest y))) d.section ≡ d.section =
-      ap (λ (b : Bool). cond b (head_or [] (contents (rest y))) d.section) (k.first_is ∙ ne_eqb section 0 z) in
+      ap (λ (b : Bool). cond b (head_or [] (contents (rest y))) d.section) k.first_is in
       record { first_is = ap (λ (w : List ℕ). not (filled w)) e ∙ k.first_is; there = k.there; is = k.is ∙ sym e }
 
   module _ {h : Head} {w : ℕ} {r : Rest} (g : Headed s n h) (o : Rests s h.op w r) (inside : n ≤ length s)
       (short : Each (λ i. length i.chars ≤ limit.item) y) where
-    abbrev f : Token
-    f = r.first
-
-    rest_by : (b : Bool) → stops f.sort ≡ b → rest y ≡ cond b [] (item_of s f ∷ statement_at s f.next)
-    rest_by b e = rest-follows g ∙ follows_by o b e
+    rest_by : (f : Option Token) → r.first ≡ f → rest y ≡ from_first s f
+    rest_by f e = rest-follows g ∙ sym o.items ∙ ap (from_first s) e
 
     -- of the first statement: the name is the first item behind the operator
-    pub section-first : SectionTold s n 0 (cond (stops f.sort) 0 (mark_of f.at f.len))
-    unfolding draft_after questions word_by
-    section-first d k a = go (stops f.sort) refl
+    pub section-first : SectionTold s n None (mark_first r.first)
+    unfolding draft_after questions
+    section-first d k a = go r.first refl o.stands
       where
         name-is : (js : List Item) → rest y ≡ js → (draft_after d y).section ≡ head_or [] (contents js)
         name-is js q = ap (λ (b : Bool). cond b (head_or [] (contents (rest y))) d.section) k.first_is ∙ ap (λ (ks : List Item). head_or [] (contents ks)) q
 
-        go : (b : Bool) → stops f.sort ≡ b → SectionKept s (draft_after d y) (cond b 0 (mark_of f.at f.len))
-        go true e = let v = name-is [] (rest_by true e) in record { first_is = ap (λ (u : List ℕ). not (filled u)) v; there = omega arith; is = sym v }
-        go false e =
-            let b = rest_by false e in
+        go : (f : Option Token) → r.first ≡ f → FirstIn s f → SectionKept s (draft_after d y) (mark_first f)
+        go None e t = let v = name-is [] (rest_by None e) in record { first_is = ap (λ (u : List ℕ). not (filled u)) v; there = tt; is = sym v }
+        go (Some f) e stands =
+            let b = rest_by (Some f) e in
             let faultless : first_faults y ≡ [] = sym (ap (λ (c : Bool). cond c (first_faults y) []) k.first_is) ∙ a.1.1.1.0 in
             let (i, (ks, (q, l))) = section-name y faultless (filled-behind (behind y) (rw b tt)) in
             let v = name-is (i ∷ ks) q in
             let j : i ≡ item_of s f = cc in
-            let m : mark_of f.at f.len ≡ mark i = ap (λ (c : ℕ). mark_of f.at c) (sym o.stands.count) ∙ ap mark (sym j) in
+            let m : mark_of f.at f.len ≡ mark i = ap (λ (c : ℕ). mark_of f.at c) (sym stands.count) ∙ ap mark (sym j) in
             let p : Spelt s i = (subst (Each (Spelt s)) q (each-drop (Spelt s) 1 (behind y) (each-behind (Spelt s) y (statement-spelt s n inside short)))).0 in
             let c = name-filled i.chars (T-right (is word i) (identifier i.chars) l) in
             let u = T-left (is word i) (identifier i.chars) l in
             record {
-              first_is = ap (λ (t : List ℕ). not (filled t)) v ∙ ap not c.0 ∙ sym (ne_eqb (mark_of f.at f.len) 0 (λ t. omega (arith, m, c.1)));
+              first_is = ap (λ (t : List ℕ). not (filled t)) v ∙ ap not c.0;
               there = subst (Marked s) (sym m) (p.is_there u);
               is = ap (word_by s) m ∙ p.spells u ∙ sym v;
             }
@@ -228,15 +228,15 @@ module _ {s : List ℕ} {n : ℕ} {h : Head} (g : Headed s n h) where
   abbrev items : List Item
   items = statement_at s n
 
-  pub edition-after : {section : ℕ} {english : Bool} (d : Draft) → SectionKept s d section → EditionKept d english → Answered (questions d items)
-      → EditionKept (draft_after d items) (cond (eqb section 0) h.english english)
+  pub edition-after : {section : Option ℕ} {english : Bool} (d : Draft) → SectionKept s d section → EditionKept d english → Answered (questions d items)
+      → EditionKept (draft_after d items) (cond (is_none section) (is_own true h.known) english)
   unfolding draft_after questions
-  edition-after {section} {english} d k e a = go (eqb section 0) k.first_is
+  edition-after {section} {english} d k e a = go (is_none section) k.first_is
     where
       name : List Item → List ℕ
       name ys = head_or [] (contents (rest ys))
 
-      go : (b : Bool) → is_first d ≡ b → EditionKept (draft_after d items) (cond b h.english english)
+      go : (b : Bool) → is_first d ≡ b → EditionKept (draft_after d items) (cond b (is_own true h.known) english)
       go true q =
           let v = section-edition items (sym (ap (λ (c : Bool). cond c (first_faults items) []) q) ∙ a.1.1.1.0) in
           let chosen : (draft_after d items).english ≡ chooses_english items = ap (λ (c : Bool). cond c (chooses_english items) d.english) q in

@@ -1,15 +1,14 @@
 -- Question 25 as it is kept while a text is read, and what its functions promise.
 use Rattle.std.specs.Prelude.{◌≡◌, cond, List, [], ◌∷◌, ℕ, pred, length, drop}
-use Rattle.headings.specs.Below.DraftsMarks.{word_by}
-use Rattle.headings.specs.Headings.{is_kons, is_konp, AfterTold}
-use Rattle.headings.specs.Below.Heads.{Headed}
+use Rattle.headings.specs.Headings.{is_kons, is_konp, name_by, AfterTold}
+use Rattle.headings.specs.Below.Heads.{head_keyword, Headed}
 use Rattle.headings.specs.Below.Head.{Head}
 use Rattle.language.specs.Instructions.{operation, is_end}
 use Rattle.lists.specs.Lists.{each, filled}
 use Rattle.statements.specs.Faults.{lower}
 use Rattle.statements.specs.StatementAt.{statement_at, stops, fault_of}
 use Rattle.statements.specs.Faults.{Fault}
-use Rattle.std.specs.Prelude.{None, Some}
+use Rattle.std.specs.Prelude.{Option, None, Some}
 use Rattle.syntax.specs.Ending.{end_faults}
 use Rattle.syntax.specs.Items.{Item, places}
 use Rattle.syntax.specs.Statements.{operator}
@@ -30,19 +29,19 @@ fault_by h labels after c =
     let here = lower labels (Some h.op.at) in
     let there = lower labels after in
     cond (stops h.op.sort) None
-    (cond c.konp here (cond (is_konp h.keyword) there (cond c.kons here (cond (is_kons h.keyword) there None))))
+    (cond c.konp here (cond (is_konp (head_keyword h)) there (cond c.kons here (cond (is_kons (head_keyword h)) there None))))
 
 -- "labels alone" change nothing
 abbrev pub closing_then : List ℕ → spec.Closing → List Item → List Item → spec.Closing
 closing_then section k ls x = cond (filled (operator x)) (closing_after section k ls x) k
 
-abbrev pub Closed : List ℕ → ℕ → ℕ → Fault → Closing → Closing → Type 0
+abbrev pub Closed : List ℕ → ℕ → Option ℕ → Fault → Closing → Closing → Type 0
 Closed s n section labels c r =
     (k : spec.Closing) → TellsClosing k c → (ls : List Item) → fault_of (places ls) ≡ labels
-    → TellsClosing (closing_then (word_by s section) k ls (statement_at s n)) r
+    → TellsClosing (closing_then (name_by s section) k ls (statement_at s n)) r
 
 abbrev pub ToldClosing : Head → Fault → Fault → Closing → Closing → Type 0
-ToldClosing h labels after c r = (s : List ℕ) (n section : ℕ) → Headed s n h → AfterTold s n section after → Closed s n section labels c r
+ToldClosing h labels after c r = (s : List ℕ) (n : ℕ) (section : Option ℕ) → Headed s n h → AfterTold s n section after → Closed s n section labels c r
 
 -- "the last of them STOP, SKOCZ or WROC": the place of a last instruction that is none of these
 abbrev pub unended : List Written → List ℕ

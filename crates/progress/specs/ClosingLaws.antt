@@ -5,18 +5,17 @@ use Rattle.std.proofs.Common.{◌∙◌, arith, ne_eqb}
 use Rattle.std.proofs.Math.Bool.{cond, not}
 use Rattle.std.proofs.lemmas.List.{map-append}
 use Rattle.declaring.specs.TabledLaws.{operated}
-use Rattle.headings.specs.Below.DraftsMarks.{word_by}
 use Rattle.statements.specs.Faults.{lower}
 use Rattle.statements.specs.FaultLaws.{fault-both}
-use Rattle.headings.specs.Headings.{is_kons, is_konp, AfterTold}
+use Rattle.headings.specs.Headings.{is_kons, is_konp, name_by, AfterTold}
 use Rattle.headings.specs.HeadingLaws.{fault-one, kons-told, konp-told}
-use Rattle.headings.specs.Below.Heads.{Headed}
+use Rattle.headings.specs.Below.Heads.{head_keyword, Headed}
 use Rattle.headings.specs.Below.Head.{Head}
 use Rattle.lexer.specs.Tokens.{item_of}
 use Rattle.lists.specs.Lists.{filled, bytes_equal}
 use Rattle.statements.specs.StatementAt.{statement_at, stops, fault_of}
 use Rattle.statements.specs.Faults.{Fault}
-use Rattle.std.specs.Prelude.{None, Some}
+use Rattle.std.specs.Prelude.{Option, None, Some}
 use Rattle.syntax.specs.Ending.{end_faults, absent}
 use Rattle.syntax.specs.Items.{Item, places}
 use Rattle.syntax.specs.Statements.{same_keyword, operator, operator_at, keyword_in, rest, one_name}
@@ -37,12 +36,12 @@ fault-places ls js a b e f g = ap fault_of (map-append (λ (i : Item). i.at) ls 
 
 -- ---- a statement
 
-module _ {s : List ℕ} {n : ℕ} {h : Head} (g : Headed s n h) (section : ℕ) where
+module _ {s : List ℕ} {n : ℕ} {h : Head} (g : Headed s n h) (section : Option ℕ) where
   abbrev x : List Item
   x = statement_at s n
 
   abbrev name : List ℕ
-  name = word_by s section
+  name = name_by s section
 
   operator-told : filled (operator x) ≡ not (stops h.op.sort)
   operator-told = ap (λ (ys : List Item). filled (take 1 ys)) g.operator ∙ go (stops h.op.sort)
@@ -60,7 +59,7 @@ module _ {s : List ℕ} {n : ℕ} {h : Head} (g : Headed s n h) (section : ℕ) 
       here = fault-places ls (operator x) labels (Some h.op.at) f (ap fault_of operator-place ∙ sym (fault-one h.op.at)) refl
 
       -- by what was met and the keyword
-      ways : (a b d e : Bool) → is_konp h.keyword ≡ b → is_kons h.keyword ≡ e
+      ways : (a b d e : Bool) → is_konp (head_keyword h) ≡ b → is_kons (head_keyword h) ≡ e
           → fault_of
           (cond a (places (ls ++ operator x))
           (cond b (places ls ++ one_name (bytes_equal name) (operator_at x) (rest x)) (cond d (places (ls ++ operator x)) (cond e (places (ls ++ rest x)) []))))
@@ -74,14 +73,14 @@ module _ {s : List ℕ} {n : ℕ} {h : Head} (g : Headed s n h) (section : ℕ) 
 
       fault-told : fault_of (closing_faults name k ls x) ≡ fault_by h labels after c
       unfolding closing_faults
-      fault-told = rw (z, t.konp_is, konp-told g, t.kons_is, kons-told g) (ways c.konp (is_konp h.keyword) c.kons (is_kons h.keyword) refl refl)
+      fault-told = rw (z, t.konp_is, konp-told g, t.kons_is, kons-told g) (ways c.konp (is_konp (head_keyword h)) c.kons (is_kons (head_keyword h)) refl refl)
 
   -- what is known after it
   pub labels-only : {c : Closing} {labels : Fault} → stops h.op.sort ≡ true → Closed s n section labels c c
   labels-only {c} z k t ls f = subst (λ (b : Bool). TellsClosing (cond b (closing_after name k ls x) k) c) (sym (operator-told ∙ ap not z)) t
 
   module _ (z : stops h.op.sort ≡ false) {labels after : Fault} (told : AfterTold s n section after) {c : Closing} {kons konp : Bool} {e f early fault : Fault} where
-    pub closes : kons ≡ is_kons h.keyword → konp ≡ is_konp h.keyword
+    pub closes : kons ≡ is_kons (head_keyword h) → konp ≡ is_konp (head_keyword h)
         → e ≡ fault_of (cond (konp && not (c.konp || c.kons)) (h.op.at ∷ []) []) → early ≡ lower c.early e
         → f ≡ fault_by h labels after c → fault ≡ lower c.fault f
         → Closed s n section labels c (record { kons = c.kons || kons; konp = c.konp || konp; early = early; fault = fault })

@@ -1,9 +1,12 @@
 -- A text while it is read: how the loader keeps the specification's draft.
-use Rattle.std.specs.Prelude.{◌≡◌, Bool, true, false, List, map, ℕ, ◌-◌, ◌≤◌, ◌<◌, eqb, length, get_or, take}
+use Rattle.std.specs.Prelude.{◌≡◌, Bool, true, false, List, map, ℕ, ◌-◌, ◌≤◌, ◌<◌, length, get_or, take}
 use Rattle.acceptance.specs.Drafts.{SoundDraft}
 use Rattle.progress.specs.Closing.{TellsClosing, unended}
+use Rattle.std.specs.Prelude.{Option}
+use Rattle.std.specs.Option.{is_none}
+use Rattle.headings.specs.Headings.{NameIn, name_by}
 use Rattle.headings.specs.Below.DraftsMarks.{marks_in}
-use Rattle.headings.specs.Below.DraftsMarks.{mark, length_by, word_by, Marked}
+use Rattle.headings.specs.Below.DraftsMarks.{mark, length_by, Marked}
 use Rattle.headings.specs.Below.Tabled.{Spelt, Tabled}
 use Rattle.language.specs.Limits as limit
 use Rattle.layout.specs.Bounds.{Each}
@@ -27,10 +30,10 @@ pub record WaitingKept (s : List ℕ) (d : Draft) (count waiting : ℕ) (ms : Li
   pub marks : marks_in ms (count - waiting) count ≡ map mark d.waiting
   pub spelt : Each (Spelt s) d.waiting
 
-pub record SectionKept (s : List ℕ) (d : Draft) (section : ℕ) : Type 0 where
-  pub first_is : is_first d ≡ eqb section 0
-  pub there : Marked s section
-  pub is : word_by s section ≡ d.section
+pub record SectionKept (s : List ℕ) (d : Draft) (section : Option ℕ) : Type 0 where
+  pub first_is : is_first d ≡ is_none section
+  pub there : NameIn s section
+  pub is : name_by s section ≡ d.section
 
 -- the edition; it is the Polish one as long as none is chosen
 pub record EditionKept (d : Draft) (english : Bool) : Type 0 where

@@ -1,12 +1,14 @@
 -- A text of which nothing was read, and the places of a draft after one more statement.
-use Rattle.std.specs.Prelude.{refl, Bool, true, false, cond, List, [], ◌∷◌, ◌++◌, ℕ, ◌+◌, ◌≤◌, length}
+use Rattle.std.specs.Option.{is_some, is_none}
+use Rattle.std.proofs.Common.{sym}
+use Rattle.std.proofs.lemmas.Bool.{false≢true}
+use Rattle.std.specs.Prelude.{◌≡◌, refl, Bool, true, false, not, cond, Option, Some, List, [], ◌∷◌, ◌++◌, ℕ, ◌+◌, ◌≤◌, length}
 use Rattle.std.proofs.Common.{arith, length-append}
 use Rattle.std.proofs.lemmas.List.{length-map}
 use Rattle.lists.specs.ListLaws.{keep-few}
 use Rattle.acceptance.proofs.RowLaws.{each_map, each_keep}
 use Rattle.acceptance.proofs.DraftLaws.{blank-sound}
 use Rattle.acceptance.proofs.StatementLaws.{each-front}
-use Rattle.headings.specs.Below.DraftsMarks.{word_by}
 use Rattle.layout.specs.Bounds.{Each}
 use Rattle.layout.proofs.CellLaws.{each_append}
 use Rattle.lists.specs.Lists.{filled}
@@ -17,23 +19,29 @@ use Rattle.syntax.specs.Statements.{is_operator, front, labels_in, operator}
 use Rattle.syntax.specs.Tables.{Draft, contents, draft_after}
 use Rattle.progress.specs.Progress.{Before, Begun}
 
+-- whether there is no section yet
+pub none-asked : (r : Bool) (section : Option ℕ) → is_some section ≡ not r → is_none section ≡ r
+none-asked true None e = refl
+none-asked true (Some m) e = absurd (false≢true (sym e))
+none-asked false None e = absurd (false≢true e)
+none-asked false (Some m) e = refl
+
 -- ---- a text of which nothing was read
 
 pub begun : Begun (record {
-  section = 0;
+  section = None;
   english = false;
   names = 0;
   waiting = 0;
   closing = record { kons = false; konp = false; early = None; fault = None };
   ended = None;
 })
-unfolding word_by
 begun s lines ms c sw en room tabled =
     record {
       sound = blank-sound (length s);
       tabled = tabled;
       tells = record {
-        section = record { first_is = refl; there = omega arith; is = refl };
+        section = record { first_is = refl; there = tt; is = refl };
         edition = record { is = refl; unchosen = λ e. refl };
         names = record { room = room; count_is = refl; names_are = refl; marked = λ k h. absurd (omega (arith, h)); short = λ k h. absurd (omega (arith, h)) };
         waiting = record { few = omega arith; size = refl; marks = refl; spelt = tt };

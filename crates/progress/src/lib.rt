@@ -1,7 +1,9 @@
 // How far a text was read: what is known of its statements so far, beside the tables, and after one more of them. Question 25: how the section ends.
 #![tactic(auto)]
 
-ghost use Rattle.std.specs.Prelude.{◌≡◌, cond, [], ◌∷◌, ◌-◌, ◌≤◌, eqb};
+ghost use Rattle.std.specs.Prelude.{◌≡◌, true, cond, [], ◌∷◌, ◌-◌, ◌≤◌};
+ghost use Rattle.std.specs.Option.{is_none};
+ghost use Rattle.words.specs.Keywords.{is_own};
 ghost use Rattle.statements.specs.StatementAt.{stops, fault_of};
 ghost use Rattle.progress.specs.Closing.{fault_by, ToldClosing, Ends};
 ghost use Rattle.progress.specs.Progress.{Begun};
@@ -11,6 +13,7 @@ use declaring::from_names::lowest_mark;
 use forms::is_end;
 use headings::from_heads::{Head, instr_of};
 use headings::{is_konp, is_kons};
+use scanner::Sort;
 use statements::{Fault, lower, rebuilt, stops};
 
 // Whether KONS and KONP were met, the place of a KONP before any KONS, and the lowest place at fault.
@@ -23,11 +26,11 @@ pub struct Closing {
     pub fault: Fault,
 }
 
-// The mark of the section's name, 0 before SEKCJA; whether its edition is the English one; how many labels were met, and how many of them, the last ones, wait for their statement; how the
+// The mark of the section's name, none before SEKCJA; whether its edition is the English one; how many labels were met, and how many of them, the last ones, wait for their statement; how the
 // section ends; and the place of the last instruction, where a text may not end with it.
 #[derive(Clone, Copy)]
 pub struct Progress {
-    pub section: u32,
+    pub section: Option<u32>,
     pub english: bool,
     pub names: usize,
     pub waiting: usize,
@@ -50,7 +53,7 @@ pub fn begin() -> Progress
     ensures { Begun result }
 {
     Progress {
-        section: 0,
+        section: None,
         english: false,
         names: 0,
         waiting: 0,
@@ -92,7 +95,7 @@ fn closing_fault(head: Head, labels: Fault, after: Fault, c: Closing) -> Fault
     ensures { result ≡ fault_by head labels after c }
 {
     let op = head.op;
-    let keyword = head.keyword;
+    let keyword = head.keyword();
     if stops(op.sort) {
         return None;
     }
@@ -115,7 +118,7 @@ fn closing_after(head: Head, labels: Fault, after: Fault, c: Closing) -> Closing
     ensures { ToldClosing head labels after c result }
 {
     let op = head.op;
-    let keyword = head.keyword;
+    let keyword = head.keyword();
     if stops(op.sort) {
         return c;
     }
@@ -133,17 +136,17 @@ fn closing_after(head: Head, labels: Fault, after: Fault, c: Closing) -> Closing
 }
 
 // Whether the edition is the English one: the first statement's operator chooses.
-fn english_after(head: Head, section: u32, english: bool) -> bool
-    ensures { result ≡ cond (eqb section 0) head.english english }
+fn english_after(head: Head, section: Option<u32>, english: bool) -> bool
+    ensures { result ≡ cond (is_none section) (is_own true head.known) english }
 {
-    if section == 0 {
-        return head.english;
+    match section {
+        Some(_) => english,
+        None => head.is_own(true),
     }
-    english
 }
 
 // Labels alone wait.
-fn waiting_after(sort: u8, from: usize, to: usize) -> usize
+fn waiting_after(sort: Option<Sort>, from: usize, to: usize) -> usize
     requires { from ≤ to }
     ensures { result ≡ cond (stops sort) (to - from) 0 }
 {
@@ -157,10 +160,10 @@ fn waiting_after(sort: u8, from: usize, to: usize) -> usize
 fn ended_after(head: Head, ended: Fault) -> Fault
     ensures { ToldEnded head ended result }
 {
-    let Some(number) = instr_of(head.keyword) else {
+    let Some(op) = instr_of(head.keyword()) else {
         return ended;
     };
-    if is_end(number) {
+    if is_end(u8::from(op)) {
         return None;
     }
     Some(head.op.at)
@@ -171,7 +174,7 @@ fn ended_after(head: Head, ended: Fault) -> Fault
 pub fn progress_after(
     p: Progress,
     head: Head,
-    section: u32,
+    section: Option<u32>,
     after: Fault,
     names: &[u32],
 ) -> Progress
@@ -183,7 +186,7 @@ pub fn progress_after(
     let ended = p.ended;
     let from = p.first_waiting();
     let to = head.names;
-    let labels = lowest_mark(names, from, to);
+    let labels = lowest_mark(&names[from..to]);
     Progress {
         section: section,
         english: english_after(head, p.section, p.english),

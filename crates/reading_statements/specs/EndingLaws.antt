@@ -1,10 +1,9 @@
 -- A statement that is neither an instruction nor a switch: SEKCJA, KONS, KONP, or labels alone.
-use Rattle.std.specs.Prelude.{Bool, false, cond, List, [], ◌≡◌, refl, ℕ, ◌≤◌, length, Ok, Err}
+use Rattle.std.specs.Prelude.{Bool, false, List, [], ◌≡◌, refl, ℕ, ◌≤◌, length, Ok, Err}
 use Rattle.std.proofs.Common.{sym, ap, ◌∙◌, subst}
-use Rattle.drafts.specs.Marks.{mark_of}
-use Rattle.progress.specs.Below.Headings.{Restable, Rests, FirstTold, FollowsTold}
+use Rattle.progress.specs.Below.Headings.{Restable, mark_first, Rests, FirstTold, FollowsTold}
 use Rattle.progress.specs.Below.Rest.{Rest}
-use Rattle.heads.specs.Heads.{Headed, instr_of, is_switch}
+use Rattle.heads.specs.Heads.{head_keyword, Headed, instr_of, is_switch}
 use Rattle.heads.specs.declared.Head.{Head}
 use Rattle.language.specs.Limits as limit
 use Rattle.language.specs.Program.{Op}
@@ -15,9 +14,9 @@ use Rattle.statements.specs.Checks.{worst}
 use Rattle.statements.specs.FaultLaws.{then-yes}
 use Rattle.statements.specs.Faults.{verdict_of}
 use Rattle.statements.specs.Groups.{early_questions}
-use Rattle.statements.specs.StatementAt.{statement_at, fault_of, stops}
+use Rattle.statements.specs.StatementAt.{statement_at, fault_of}
 use Rattle.statements.specs.Faults.{Fault}
-use Rattle.std.specs.Prelude.{None}
+use Rattle.std.specs.Prelude.{Option, None, Some}
 use Rattle.statements.specs.Faults as told
 use Rattle.declaring_switches.specs.Below.SwitchLaws.{other}
 use Rattle.syntax.specs.Questions.{instr_beyond, switch_beyond}
@@ -41,7 +40,7 @@ none_last : (u : told.Verdict) → AskedLast (λ f. f ≡ None) u u
 none_last (Ok tt) = (None, (refl, refl))
 none_last (Err w) = refl
 
-module _ {s : List ℕ} {h : Head} (no_number : instr_of h.keyword ≡ 0) (no_switch : is_switch h.keyword ≡ false) {r : Rest} (o : Rests s h.op h.worst r) where
+module _ {s : List ℕ} {h : Head} (no_number : instr_of (head_keyword h) ≡ 0) (no_switch : is_switch (head_keyword h) ≡ false) {r : Rest} (o : Rests s h.op h.worst r) where
   pub whole-rest : {n : ℕ} → Headed s n h → r.worst ≡ worst (statement_at s n)
   whole-rest k = worst-whole k o.worst_is
 
@@ -68,13 +67,11 @@ module _ {s : List ℕ} {h : Head} (no_number : instr_of h.keyword ≡ 0) (no_sw
         (λ n k. o.ends n k.place k.within k.token) u (record { asked = none_last u; beyond = refl }) z
 
 -- the section's name and what follows, as they are told
-module _ {s : List ℕ} {h : Head} {r : Rest} {section : ℕ} {after : Fault} (f : FollowsTold s h r section after) where
-  pub told-first : section ≡ 0 → {m : ℕ} → m ≡ cond (stops r.first.sort) 0 (mark_of r.first.at r.first.len) → EndingTold s h r section (record { section = m; after = after })
-  told-first z {m} e n w k o inside short = (
-    subst (λ (a : ℕ). SectionTold s n a m) (sym z)
-        (subst (λ (a : ℕ). SectionTold s n 0 a) (sym e) (section-first s n k o inside short)),
-    f n w k o,
-  )
+module _ {s : List ℕ} {h : Head} {r : Rest} {after : Fault} where
+  pub told-first : {section : Option ℕ} → FollowsTold s h r section after → section ≡ None → {m : Option ℕ} → m ≡ mark_first r.first
+      → EndingTold s h r section (record { section = m; after = after })
+  told-first f z {m} e n w k o inside short =
+      (subst (λ (a : Option ℕ). SectionTold s n a m) (sym z) (subst (SectionTold s n None) (sym e) (section-first s n k o inside short)), f n w k o)
 
-  pub told-later : (section ≡ 0 → ⊥) → EndingTold s h r section (record { section = section; after = after })
-  told-later z n w k o inside short = (section-before s n z, f n w k o)
+  pub told-later : {section : Option ℕ} → FollowsTold s h r section after → {m : ℕ} → section ≡ Some m → EndingTold s h r section (record { section = section; after = after })
+  told-later f z n w k o inside short = (subst (λ (a : Option ℕ). SectionTold s n a a) (sym z) (section-before s n), f n w k o)

@@ -16,9 +16,13 @@ use Rattle.drafts.specs.Drafting.{draft_program}
 use Rattle.drafts.specs.Marks.{length_by, Marked, marks_in}
 use Rattle.drafts.specs.Tabled.{Tabled}
 use Rattle.declaring_switches.specs.Below.Entering.{ShortItem}
-use Rattle.heads.specs.Heads.{Headed, instr_of}
+use Rattle.heads.specs.Heads.{head_keyword, Headed, instr_of, instr_by}
+use Rattle.heads.specs.HeadLaws.{some-number}
+use Rattle.language.specs.Operators.{op_by}
+use Rattle.language.specs.declared.Operator.{Operator}
+use Rattle.words.specs.declared.Keyword.{Keyword}
 use Rattle.heads.specs.declared.Head.{Head}
-use Rattle.language.specs.Instructions.{operation, operator_of}
+use Rattle.language.specs.Instructions.{operation, operator_of, number_of}
 use Rattle.language.specs.Limits as limit
 use Rattle.language.specs.Program.{Op}
 use Rattle.layout.proofs.ArgumentLaws.{operator-back}
@@ -29,7 +33,7 @@ use Rattle.statements.specs.Faults.{decided, then, verdict_of}
 use Rattle.statements.specs.Groups.{early_questions}
 use Rattle.statements.specs.StatementAt.{statement_at, fault_of}
 use Rattle.statements.specs.Faults.{Fault}
-use Rattle.std.specs.Prelude.{Some, None}
+use Rattle.std.specs.Prelude.{Option, Some, None}
 use Rattle.statements.specs.Faults as told
 use Rattle.declaring_switches.specs.Below.SwitchLaws.{of-instr}
 use Rattle.declaring_switches.specs.Below.SwitchListsSwitches.{argument_question}
@@ -55,7 +59,7 @@ part_have P ms a b f k l =
     subst P (sym (get_or-take (b - a) (drop a ms) k 0 i ∙ get_or-drop a ms k 0)) (f (a + k) (omega (arith, i)))
 
 module _ {s lines : List ℕ} {n : ℕ} {d : Draft} {g : Progress} {h : Head} {ms c sw en : List ℕ} (r : Reading s lines n d g h ms c sw en)
-    (early : Answered (early_questions d (statement_at s n))) {number : ℕ} (number_is : number ≡ instr_of h.keyword) (some : number ≡ 0 → ⊥)
+    (early : Answered (early_questions d (statement_at s n))) {number : ℕ} (number_is : number ≡ instr_of (head_keyword h)) (some : number ≡ 0 → ⊥)
     {a : Arguments} (o : ReadsArguments s h.op number h.worst a) where
   abbrev items : List Item
   items = statement_at s n
@@ -134,7 +138,10 @@ module _ {s lines : List ℕ} {n : ℕ} {d : Draft} {g : Progress} {h : Head} {m
 
 -- ---- it is read
 
-module _ {s : List ℕ} {h : Head} {number : ℕ} (number_is : number ≡ instr_of h.keyword) (some : number ≡ 0 → ⊥) where
+pub number-is : (k : Option Keyword) {o : Operator} {m : ℕ} → m ≡ number_of (op_by o) → Some o ≡ instr_by k → m ≡ instr_of k
+number-is k e f = e ∙ some-number k f
+
+module _ {s : List ℕ} {h : Head} {number : ℕ} (number_is : number ≡ instr_of (head_keyword h)) (some : number ≡ 0 → ⊥) where
   module _ {n : ℕ} (k : Headed s n h) where
     pub operates : length s ≤ limit.text → Operates s h.op number h.worst
     operates low =

@@ -11,13 +11,14 @@ use Rattle.statements.specs.Groups.{argument_questions}
 use Rattle.progress.specs.Below.HeadingLaws.{rest-follows, first-in_front, first-wrong}
 use Rattle.progress.specs.Below.Headings.{is_kons, is_konp, follows}
 use Rattle.heads.specs.HeadLaws.{no-keyword}
-use Rattle.heads.specs.Heads.{EndedBy, by_kind, instr_of, is_switch, is_by_name, opens, Headed}
+use Rattle.heads.specs.Heads.{EndedBy, by_kind, head_keyword, instr_of, is_switch, is_by_name, opens, Headed}
 use Rattle.heads.specs.declared.Head.{Head}
 use Rattle.statements.proofs.Ends.{still-within, ends-then}
 use Rattle.statements.specs.StatementAt.{statement_at, stops, fault_of}
+use Rattle.statements.specs.StatementLaws.{goes}
 use Rattle.heads.specs.HeadLaws.{ended-on}
 use Rattle.statements.specs.Faults.{Fault}
-use Rattle.std.specs.Prelude.{Option, Some}
+use Rattle.std.specs.Prelude.{Option, None, Some}
 use Rattle.declaring_switches.specs.Below.SwitchLaws.{choice, of-instr, of-switch, of-neither}
 use Rattle.declaring_switches.specs.Below.SwitchListsSwitches.{switch_after, argument_question}
 use Rattle.syntax.specs.Items.{Item}
@@ -64,19 +65,18 @@ module _ {s : List ℕ} {n : ℕ} {h : Head} (g : Headed s n h) where
 
 -- ---- an instruction or a switch
 
-abbrev pub acts : Keyword → Bool
-acts k = by_kind false false false false false (λ goes_by_name. true) (λ m. true) k
+abbrev pub acts : Option Keyword → Bool
+acts k = by_kind false false false false (λ goes_by_name. true) (λ o. true) k
 
-pub acts-alone : (k : Keyword) → acts k ≡ true → (opens k ≡ false) × ((is_konp k ≡ false) × (is_kons k ≡ false))
-acts-alone Keyword.None e = absurd (true≢false (sym e))
-acts-alone Keyword.Unknown e = absurd (true≢false (sym e))
-acts-alone Keyword.Sekcja e = absurd (true≢false (sym e))
-acts-alone Keyword.Kons e = absurd (true≢false (sym e))
-acts-alone Keyword.Konp e = absurd (true≢false (sym e))
-acts-alone (Keyword.Switch goes_by_name) e = (refl, (refl, refl))
-acts-alone (Keyword.Instr m) e = (refl, (refl, refl))
+pub acts-alone : (k : Option Keyword) → acts k ≡ true → (opens k ≡ false) × ((is_konp k ≡ false) × (is_kons k ≡ false))
+acts-alone None e = absurd (true≢false (sym e))
+acts-alone (Some Keyword.Sekcja) e = absurd (true≢false (sym e))
+acts-alone (Some Keyword.Kons) e = absurd (true≢false (sym e))
+acts-alone (Some Keyword.Konp) e = absurd (true≢false (sym e))
+acts-alone (Some (Keyword.Switch goes_by_name)) e = (refl, (refl, refl))
+acts-alone (Some (Keyword.Instr o)) e = (refl, (refl, refl))
 
-module _ {s : List ℕ} {n : ℕ} {h : Head} (g : Headed s n h) (a : acts h.keyword ≡ true) where
+module _ {s : List ℕ} {n : ℕ} {h : Head} (g : Headed s n h) (a : acts (head_keyword h) ≡ true) where
   pub there : stops h.op.sort ≡ false
   there = go (stops h.op.sort) refl
     where
@@ -85,7 +85,7 @@ module _ {s : List ℕ} {n : ℕ} {h : Head} (g : Headed s n h) (a : acts h.keyw
       go false z = refl
 
   pub inside : n < length s
-  inside = omega (arith, g.from, g.stands.some (λ z. true≢false (sym (ap stops z) ∙ there)), g.stands.behind, g.stands.most)
+  inside = omega (arith, g.from, g.stands.some (goes h.op.sort there).0, g.stands.behind, g.stands.most)
 
   pub whole : {w : ℕ} → w ≡ min h.worst (worst (statement_at s h.op.next)) → w ≡ worst (statement_at s n)
   whole e = worst-whole g (e ∙ ap (λ (b : Bool). min h.worst (worst (cond b [] (statement_at s h.op.next)))) (sym there))
@@ -95,7 +95,7 @@ module _ {s : List ℕ} {n : ℕ} {h : Head} (g : Headed s n h) (a : acts h.keyw
   zero-here = go (eqb h.first h.op.at) refl
     where
       go : (b : Bool) → eqb h.first h.op.at ≡ b → Some h.first ≡ fault_of (first_faults (statement_at s n))
-      go true e = let q = eqb-true h.first h.op.at e in ap Some q ∙ first-wrong g q there (acts-alone h.keyword a).0
+      go true e = let q = eqb-true h.first h.op.at e in ap Some q ∙ first-wrong g q there (acts-alone (head_keyword h) a).0
       go false e = first-in_front g (λ q. true≢false (sym (eq-eqb h.first h.op.at q) ∙ e))
 
 -- ---- 01 and 02
@@ -108,8 +108,8 @@ module _ {s : List ℕ} {n : ℕ} {h : Head} (g : Headed s n h) where
   abbrev y : List Item
   y = statement_at s n
 
-  module _ {m : ℕ} (e : m ≡ instr_of h.keyword) (z : m ≡ 0 → ⊥) where
-    pub instr-acts : acts h.keyword ≡ true
+  module _ {m : ℕ} (e : m ≡ instr_of (head_keyword h)) (z : m ≡ 0 → ⊥) where
+    pub instr-acts : acts (head_keyword h) ≡ true
     instr-acts = ap acts (g.keyword ∙ ap told (this-instruction g e z).is)
 
     pub instr-asked : {w : ℕ} {a : Arguments} → ReadsArguments s h.op m w a → first_no (argument_questions y) ≡ then (decided 1 a.over) (decided 2 a.fault)
@@ -117,15 +117,15 @@ module _ {s : List ℕ} {n : ℕ} {h : Head} (g : Headed s n h) where
         let i = this-instruction g e z in
         two-asked y (r.counted i.op i.has ∙ sym (ap fault_of (counted g e z))) (of-instr g e z r.judged)
 
-  module _ (e : is_switch h.keyword ≡ true) {b : Bool} (f : b ≡ is_by_name h.keyword) where
+  module _ (e : is_switch (head_keyword h) ≡ true) {b : Bool} (f : b ≡ is_by_name (head_keyword h)) where
     pub chooses : keyword_in y ≡ Spec.Keyword.switch b
     chooses = choice (keyword_in y) (sym (ap is_switch g.keyword) ∙ e) ∙ ap Spec.Keyword.switch (sym (f ∙ ap is_by_name g.keyword))
 
-    pub switch-acts : acts h.keyword ≡ true
+    pub switch-acts : acts (head_keyword h) ≡ true
     switch-acts = ap acts (g.keyword ∙ ap told chooses)
 
     pub switch-asked : {fault : Fault} → fault ≡ fault_of (switch_after s h.op b) → first_no (argument_questions y) ≡ decided 2 fault
     switch-asked q = two-asked y (sym (not-counted g refl (ap instr_of (g.keyword ∙ ap told chooses)))) (q ∙ ap fault_of (sym (of-switch g e f)))
 
-  pub neither-asked : instr_of h.keyword ≡ 0 → is_switch h.keyword ≡ false → first_no (argument_questions y) ≡ yes
+  pub neither-asked : instr_of (head_keyword h) ≡ 0 → is_switch (head_keyword h) ≡ false → first_no (argument_questions y) ≡ yes
   neither-asked e f = two-asked y (sym (not-counted g refl e)) (sym (of-neither g refl e f))

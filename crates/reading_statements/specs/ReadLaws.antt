@@ -1,6 +1,7 @@
 -- A statement is read, whatever its kind: its verdict, and the draft after it.
 use Rattle.std.specs.Prelude.{◌≡◌, refl, Bool, true, cond, List, [], ℕ, length, Ok, Err}
-use Rattle.std.proofs.Common.{sym, ap, ◌∙◌, subst, arith, eq-eqb}
+use Rattle.std.specs.Option.{is_none}
+use Rattle.std.proofs.Common.{sym, ap, ◌∙◌, subst, arith}
 use Rattle.acceptance.proofs.DraftLaws.{draft-sound}
 use Rattle.acceptance.specs.Drafts.{FineItem, SoundTables, SoundName}
 use Rattle.acceptance.proofs.RowLaws.{each_map, answered, Answered, each_both}
@@ -11,7 +12,7 @@ use Rattle.drafts.specs.Tabled.{Spelt, Tabled}
 use Rattle.declaring_switches.specs.Below.Entering.{ShortItem}
 use Rattle.progress.specs.Below.HeadingLaws.{after-other}
 use Rattle.progress.specs.Below.Headings.{AfterTold}
-use Rattle.heads.specs.Heads.{Headed}
+use Rattle.heads.specs.Heads.{head_keyword, Headed}
 use Rattle.heads.specs.declared.Head.{Head}
 use Rattle.layout.specs.Bounds.{Each}
 use Rattle.layout.proofs.CellLaws.{each_append, each_left, each-drop}
@@ -59,18 +60,17 @@ module _ {s lines : List ℕ} {n : ℕ} {d : Draft} {g : Progress} {h : Head} {m
     plain = (early.0, (early.1.0, (early.1.1.0, tt)))
 
     -- an instruction or a switch is not the first statement, and leaves the section and its end as they are
-    pub acting : acts h.keyword ≡ true → SectionTold s n g.section g.section × AfterTold s n g.section None
+    pub acting : acts (head_keyword h) ≡ true → SectionTold s n g.section g.section × AfterTold s n g.section None
     acting a =
-        let o = acts-alone h.keyword a in
-        (section-before s n later, after-other r.judging.headed g.section o.1.0 o.1.1)
+        let o = acts-alone (head_keyword h) a in
+        (later g.section r.judging.tells.section.first_is, after-other r.judging.headed g.section o.1.0 o.1.1)
       where
-        later : g.section ≡ 0 → ⊥
-        later e =
-            let t : is_first d ≡ true = r.judging.tells.section.first_is ∙ eq-eqb g.section 0 e in
+        later : (section : Option ℕ) → is_first d ≡ is_none section → SectionTold s n section section
+        later (Some section) e = section-before s n
+        later None t =
             let q : first_faults x ≡ [] = sym (ap (λ (b : Bool). cond b (first_faults x) []) t) ∙ early.1.1.1.0 in
             let z : Some h.first ≡ None = zero-here r.judging.headed a ∙ ap fault_of q in
-            let y : ◌≡◌ {A = ℕ} 0 1 = cc in
-            omega arith
+            absurd (let y : ◌≡◌ {A = ℕ} 0 1 = cc in omega arith)
 
     abbrev ls : List Item
     ls = all_labels d x
@@ -117,7 +117,7 @@ module _ {s lines : List ℕ} {n : ℕ} {d : Draft} {g : Progress} {h : Head} {m
   before all = each_left (λ q. q.faults ≡ []) (early_questions d x) (table_questions d x) all
 
   -- the draft after it, where all questions are answered yes
-  drafted-then : Answered (questions d x) → {section : ℕ} {after : Fault} {q : Progress} {c' sw' en' : List ℕ} → Progresses g h section after ms q
+  drafted-then : Answered (questions d x) → {section : Option ℕ} {after : Fault} {q : Progress} {c' sw' en' : List ℕ} → Progresses g h section after ms q
       → SectionTold s n g.section section × AfterTold s n g.section after
       → Tabled s lines (tables_after d.tables (all_labels d x) x) c' sw' en' → Drafted s lines (draft_after d x) q ms c' sw' en'
   unfolding draft_after

@@ -1,12 +1,13 @@
 -- What the readers of a statement ask and promise.
-use Rattle.std.specs.Prelude.{◌≡◌, true, false, Result, Ok, Err, List, ℕ, ◌+◌, ◌≤◌, length, drop}
+use Rattle.std.specs.Prelude.{◌≡◌, true, false, Option, Some, Result, Ok, Err, List, ℕ, ◌≤◌, length, drop}
 use Rattle.acceptance.specs.Drafts.{SoundDraft}
 use Rattle.drafts.specs.Tabled.{Tabled}
-use Rattle.progress.specs.Below.Headings.{Rests, Nameable, AfterTold}
+use Rattle.progress.specs.Below.Headings.{FirstLow, Rests, Nameable, AfterTold}
 use Rattle.progress.specs.Below.Rest.{Rest}
-use Rattle.heads.specs.Heads.{EndedBy, Headed, instr_of, is_switch}
+use Rattle.heads.specs.Heads.{EndedBy, head_keyword, Headed, instr_of, instr_by, is_switch}
 use Rattle.heads.specs.declared.Head.{Head}
 use Rattle.language.specs.Limits as limit
+use Rattle.language.specs.declared.Operator.{Operator}
 use Rattle.layout.specs.Bounds.{Each}
 use Rattle.progress.specs.Advancing.{SectionTold, Progresses}
 use Rattle.progress.specs.Progress.{Drafted, Before}
@@ -60,13 +61,12 @@ pub record Met (s lines : List ℕ) (g : Progress) (h : Head) (ms c sw en : List
   pub draft : Draft
   pub reading : Reading s lines place draft g h ms c sw en
 
--- an instruction of a number; a switch; neither
-pub record InstrReadable (s lines : List ℕ) (g : Progress) (h : Head) (number : ℕ) (ms c : List ℕ) : Type 0 where
+-- an instruction of an operator; a switch; neither
+pub record InstrReadable (s lines : List ℕ) (g : Progress) (h : Head) (o : Operator) (ms c : List ℕ) : Type 0 where
   pub switches : List ℕ
   pub entries : List ℕ
   pub met : Met s lines g h ms c switches entries
-  pub number_is : number ≡ instr_of h.keyword
-  pub some : number ≡ 0 → ⊥
+  pub is : Some o ≡ instr_by (head_keyword h)
 
 abbrev pub ReadsInstr : List ℕ → List ℕ → Progress → Head → List ℕ → List ℕ → Answer → List ℕ → Type 0
 ReadsInstr s lines g h ms c r c' = (sw en : List ℕ) → Reads s lines g h ms c sw en r c' sw en
@@ -74,7 +74,7 @@ ReadsInstr s lines g h ms c r c' = (sw en : List ℕ) → Reads s lines g h ms c
 pub record SwitchReadable (s : List ℕ) (g : Progress) (h : Head) (ms c sw en : List ℕ) : Type 0 where
   pub lines : List ℕ
   pub met : Met s lines g h ms c sw en
-  pub some : is_switch h.keyword ≡ true
+  pub some : is_switch (head_keyword h) ≡ true
 
 abbrev pub ReadsSwitch : List ℕ → Progress → Head → List ℕ → List ℕ → List ℕ → List ℕ → Answer → List ℕ → List ℕ → List ℕ → Type 0
 ReadsSwitch s g h ms c sw en r c' sw' en' = (lines : List ℕ) → Reads s lines g h ms c sw en r c' sw' en'
@@ -85,8 +85,8 @@ pub record EndingReadable (s : List ℕ) (g : Progress) (h : Head) (ms : List �
   pub switches : List ℕ
   pub entries : List ℕ
   pub met : Met s lines g h ms table switches entries
-  pub no_number : instr_of h.keyword ≡ 0
-  pub no_switch : is_switch h.keyword ≡ false
+  pub no_number : instr_of (head_keyword h) ≡ 0
+  pub no_switch : is_switch (head_keyword h) ≡ false
 
 abbrev pub ReadsEnding : List ℕ → Progress → Head → List ℕ → Answer → Type 0
 ReadsEnding s g h ms r = (lines c sw en : List ℕ) → Reads s lines g h ms c sw en r c sw en
@@ -111,11 +111,11 @@ Finishes g h e ms (Err f) r = r ≡ Err f
 
 -- ---- what a statement that is neither says
 
-pub record Endable (s : List ℕ) (r : Rest) (section : ℕ) : Type 0 where
+pub record Endable (s : List ℕ) (r : Rest) (section : Option ℕ) : Type 0 where
   pub nameable : Nameable s r.first section
-  pub low : r.first.at + r.first.len ≤ limit.text
+  pub low : FirstLow r.first
 
-abbrev pub EndingTold : List ℕ → Head → Rest → ℕ → Ending → Type 0
+abbrev pub EndingTold : List ℕ → Head → Rest → Option ℕ → Ending → Type 0
 EndingTold s h r section e =
     (n w : ℕ) → Headed s n h → Rests s h.op w r → n ≤ length s → Each (λ i. length i.chars ≤ limit.item) (statement_at s n)
     → SectionTold s n section e.section × AfterTold s n section e.after

@@ -14,9 +14,8 @@ use Rattle.progress.specs.AdvancingLaws.{empty-draft}
 use Rattle.progress.specs.Progress.{TellsDraft, Drafted}
 use Rattle.progress.specs.declared.Progress.{Progress}
 use Rattle.statements.proofs.Ends.{ends-here}
-use Rattle.heads.specs.Heads.{following, instr_by}
-use Rattle.declaring_switches.specs.Below.CountLaws.{above}
-use Rattle.std.specs.Prelude.{Option, Some}
+use Rattle.heads.specs.Heads.{following}
+use Rattle.std.specs.Prelude.{Option}
 use Rattle.heads.specs.HeadLaws.{ended-by}
 use Rattle.statements.specs.StatementAt.{statement_at, stops}
 use Rattle.syntax.specs.Items.{Item}
@@ -125,9 +124,6 @@ module _ {s lines : List ℕ} {n : ℕ} {d : Draft} {g : Progress} {h : Head} {m
     (o : Heads (take (length s - n) (drop n s)) n g.names ms ms' h) where
   k : Headed s n h
   k = (head-here r.inside o).0
-
-  pub number-above : {m : ℕ} → Some m ≡ instr_by h.keyword → m ≡ 0 → ⊥
-  number-above e = above (keyword_in (statement_at s n)) (e ∙ ap instr_by k.keyword)
 
   pub reads_here : {a : Answer} {c' sw' en' : List ℕ} → Reads s lines g h ms' c sw en a c' sw' en' → ReadsStatement s lines n g ms c sw en a ms' c' sw' en'
   reads_here t =

@@ -21,7 +21,7 @@ use Rattle.drafts.specs.DraftingLaws.{entry-words}
 use Rattle.drafts.specs.Marks.{mark, marks_in, word_by}
 use Rattle.drafts.specs.Tabled.{Tabled}
 use Rattle.declaring_switches.specs.Below.Entering.{ShortItem, set_texts}
-use Rattle.heads.specs.Heads.{Headed, is_switch, is_by_name}
+use Rattle.heads.specs.Heads.{head_keyword, Headed, is_switch, is_by_name}
 use Rattle.heads.specs.declared.Head.{Head}
 use Rattle.language.specs.Limits as limit
 use Rattle.language.specs.Program.{Op, Program}
@@ -40,7 +40,8 @@ use Rattle.statements.specs.Faults.{decided, then, verdict_of}
 use Rattle.statements.specs.Groups.{early_questions}
 use Rattle.statements.specs.StatementAt.{statement_at, fault_of, stops}
 use Rattle.statements.specs.Faults.{Fault}
-use Rattle.std.specs.Prelude.{Some, None}
+use Rattle.std.specs.Prelude.{Option, Some, None}
+use Rattle.declaring_switches.specs.Below.Quoted.{Quoted}
 use Rattle.statements.specs.Faults as told
 use Rattle.declaring_switches.specs.Below.SwitchListsSwitches.{ReadsList, Listable}
 use Rattle.declaring_switches.specs.Below.Listed.{Listed}
@@ -88,8 +89,8 @@ held_most {lines = lines} {t = t} {c = c} v =
     omega (arith, entry_count c (draft_program lines t) v.holds, entry-words t.switches, length-each-total (λ (w : Choice). keep (is word) w.list) t.switches, v.sound.entries_few)
 
 module _ {s lines : List ℕ} {n : ℕ} {d : Draft} {g : Progress} {h : Head} {ms c sw en : List ℕ} (r : Reading s lines n d g h ms c sw en)
-    (early : Answered (early_questions d (statement_at s n))) (some : is_switch h.keyword ≡ true) {named : Bool} (named-is : named ≡ is_by_name h.keyword)
-    {w : ℕ} {tx : List ℕ} {l : Listed} {en' tx' : List ℕ} (list : ReadsList s h.op named w (cell (table_of c) 3) en tx l en' tx') where
+    (early : Answered (early_questions d (statement_at s n))) (some : is_switch (head_keyword h) ≡ true) {named : Bool} (named-is : named ≡ is_by_name (head_keyword h))
+    {w : ℕ} {tx : List (Option Quoted)} {l : Listed} {en' : List ℕ} {tx' : List (Option Quoted)} (list : ReadsList s h.op named w (cell (table_of c) 3) en tx l en' tx') where
   abbrev x : List Item
   x = statement_at s n
 
@@ -188,18 +189,18 @@ module _ {s lines : List ℕ} {n : ℕ} {d : Draft} {g : Progress} {h : Head} {m
 
 -- ---- it is read
 
-pub listable : {s : List ℕ} {n : ℕ} {h : Head} → Headed s n h → {held : ℕ} {en tx : List ℕ} → length s ≤ limit.text → held ≤ limit.entries → length en ≡ limit.entries → length tx ≡ limit.entries
+pub listable : {s : List ℕ} {n : ℕ} {h : Head} → Headed s n h → {held : ℕ} {en : List ℕ} {tx : List (Option Quoted)} → length s ≤ limit.text → held ≤ limit.entries → length en ≡ limit.entries → length tx ≡ limit.entries
     → Listable s h.op h.worst held en tx
 listable k low most entries texts =
     record { stands = k.stands; checked = known k; low = low; held_most = most; entry_room = entries; text_room = texts }
 
-module _ {s : List ℕ} {h : Head} (some : is_switch h.keyword ≡ true) {named : Bool} (named-is : named ≡ is_by_name h.keyword) where
+module _ {s : List ℕ} {h : Head} (some : is_switch (head_keyword h) ≡ true) {named : Bool} (named-is : named ≡ is_by_name (head_keyword h)) where
   -- there is room for the mark of its name
   pub name-inside : {n : ℕ} {d : Draft} {g : Progress} {ms : List ℕ} → Judging s n d g h ms → from g < length ms
   name-inside j = omega (arith, inside j.headed (switch-acts j.headed some named-is), j.low, j.before.names_few, j.tells.names.count_is, j.tells.names.room)
 
   -- v is the verdict of all questions before 11, where u is that of the questions of the head
-  module _ {held : ℕ} {en tx : List ℕ} {l : Listed} {en' tx' : List ℕ} (list : ReadsList s h.op named h.worst held en tx l en' tx') where
+  module _ {held : ℕ} {en : List ℕ} {tx : List (Option Quoted)} {l : Listed} {en' : List ℕ} {tx' : List (Option Quoted)} (list : ReadsList s h.op named h.worst held en tx l en' tx') where
     pub whole-list : {n : ℕ} → Headed s n h → l.worst ≡ worst (statement_at s n)
     whole-list k = whole k (switch-acts k some named-is) list.worst_is
 

@@ -1,7 +1,7 @@
 // One statement: read in one pass, its questions in order, its place in the tables, and what is known after it.
 #![tactic(auto)]
 
-ghost use Rattle.std.specs.Prelude.{◌≡◌, ◌&&◌, eqb};
+ghost use Rattle.std.specs.Prelude.{◌≡◌, ◌&&◌, ◌≤◌, eqb};
 ghost use Rattle.statements.specs.Faults.{verdict_of};
 ghost use Rattle.statements.specs.StatementAt.{stops};
 ghost use Rattle.std.specs.Prelude.{Ok};
@@ -13,18 +13,19 @@ ghost use Rattle.reading_statements.specs.Admitting.{declaration, Admits};
 ghost use Rattle.reading_statements.specs.Asking.{OperatorAsked, names_verdict, HeadAskable, HeadAsked};
 ghost use Rattle.reading_statements.specs.ReadingStatements.{Finishes, InstrReadable, ReadsInstr, SwitchReadable, ReadsSwitch, Endable, EndingTold, EndingReadable, ReadsEnding, Readable, ReadsStatement};
 
-use declaring_switches::from_arguments::read_arguments;
+use declaring_switches::from_arguments::{Quoted, read_arguments};
 use declaring_switches::from_declaring::{Instruction, declare_instruction};
 use declaring_switches::from_switch_lists::{Listed, read_list};
 use declaring_switches::{Declaration, declare_switch};
 use heads::{Head, following, instr_of, is_by_name, is_switch, read_head};
 use judging::from_names::{first_repeated, first_reserved};
 use judging::{label_fault, operator_fault};
-use language::Machine;
+use language::{Machine, Operator};
 use lexer::{Token, line_at};
 use progress::from_headings::{Rest, after_fault, read_rest, section_fault, section_mark};
 use progress::{Progress, progress_after};
 use statements::{Fault, Refusal, Verdict, checked, decide, first_of, stops};
+use table::Table;
 
 // What is known after a statement, or its refusal; and where the next statement begins, unless it is the last.
 #[derive(Clone, Copy)]
@@ -36,7 +37,7 @@ pub struct Answer {
 // What a statement without an instruction or a switch says: the mark of the section's name from then on, and the place at fault behind KONS or KONP.
 #[derive(Clone, Copy)]
 pub struct Ending {
-    pub section: u32,
+    pub section: Option<u32>,
     pub after: Fault,
 }
 
@@ -53,11 +54,15 @@ fn ask_operator(head: Head, first: bool, english: bool, zero: Fault) -> Verdict
 // Questions 06 and 70 of the labels whose marks stand from index `from` to index `to`. What is at fault in 70 is found first, which
 // is faster; 06 decides before it.
 fn ask_names(text: &[u8], names: &[u32], from: usize, to: usize) -> Verdict
-    requires { Repeatable text.now names.now to }
+    requires { Repeatable text.now names.now to × (from ≤ to) }
     ensures { verdict_of result ≡ names_verdict text.now names.now from to }
 {
-    let reserved = decide(70, first_reserved(text, names, from, to));
-    first_of(decide(6, first_repeated(text, names, from, to)), reserved)
+    let own = &names[from..to];
+    let reserved = decide(70, first_reserved(text, own));
+    first_of(
+        decide(6, first_repeated(text, &names[..from], own)),
+        reserved,
+    )
 }
 
 // Questions 14, 15 and 16, whose number is `worst`, 00 or 10, 08, 06 and 70.
@@ -73,7 +78,7 @@ fn ask_head(
     ensures { HeadAsked text.now worst p head names.now zero result }
 {
     checked(worst)?;
-    let operator = ask_operator(head, p.section == 0, p.english, zero);
+    let operator = ask_operator(head, p.section.is_none(), p.english, zero);
     let labels = decide(8, label_fault(head, names, p.first_waiting()));
     let named = ask_names(text, names, p.names, head.names);
     first_of(operator, first_of(labels, named))
@@ -103,7 +108,7 @@ fn admit_switch(
     d: Declaration,
     table: &mut [u32],
     switches: &mut [u32],
-    texts: &[u32],
+    texts: &[Option<Quoted>],
 ) -> Verdict
     requires { asked ≡ Ok tt → DeclarableSwitch text.now d table.old switches.old texts.now }
     ensures { Admits (λ f. DeclaresSwitch text.now d table.old switches.old f table.new switches.new) asked result table.old table.new }
@@ -129,20 +134,21 @@ fn finish(
     Ok(progress_after(p, head, e.section, e.after, names))
 }
 
-// A statement with the instruction of a number.
+// A statement with the instruction of an operator.
 fn read_instruction(
     text: &[u8],
     lines: &[u16],
     head: Head,
-    number: u8,
+    operator: Operator,
     p: Progress,
     names: &[u32],
     table: &mut [u32],
 ) -> Answer
-    requires { InstrReadable text.now lines.now p head number names.now table.old }
+    requires { InstrReadable text.now lines.now p head operator names.now table.old }
     ensures { ReadsInstr text.now lines.now p head names.now table.old result table.new }
 {
     let op = head.op;
+    let number = u8::from(operator);
     let a = read_arguments(text, op, number, head.worst);
     let asked = ask_head(text, a.worst, head, Some(head.first), p, names);
     let values = a.values;
@@ -193,10 +199,9 @@ fn read_switch(
     ensures { ReadsSwitch text.now p head names.now table.old switches.old entries.old result table.new switches.new entries.new }
 {
     let op = head.op;
-    let keyword = head.keyword;
-    let named = is_by_name(keyword);
-    let mut texts = [0u32; Machine::ENTRIES];
-    let held = table::entries(table);
+    let named = is_by_name(head.keyword());
+    let mut texts = [None; Machine::ENTRIES];
+    let held = Table { cells: table }.entries();
     let l = read_list(text, op, named, head.worst, held, entries, &mut texts);
     let asked = ask_head(text, l.worst, head, Some(head.first), p, names);
     let d = switch_of(op, named, names[p.first_waiting()], l);
@@ -213,20 +218,17 @@ fn read_switch(
 }
 
 // What a statement that is neither an instruction nor a switch says, where `section` is the mark of the section's name before it.
-fn ending_of(text: &[u8], head: Head, rest: Rest, section: u32) -> Ending
+fn ending_of(text: &[u8], head: Head, rest: Rest, section: Option<u32>) -> Ending
     requires { Endable text.now rest section }
     ensures { EndingTold text.now head rest section result }
 {
     let after = after_fault(text, head, rest, section);
-    if section == 0 {
-        return Ending {
+    match section {
+        Some(_) => Ending { section, after },
+        None => Ending {
             section: section_mark(rest),
-            after: after,
-        };
-    }
-    Ending {
-        section: section,
-        after: after,
+            after,
+        },
     }
 }
 
@@ -269,16 +271,15 @@ pub fn read_statement(
     ensures { ReadsStatement text.now lines.now n p names.old table.old switches.old entries.old result names.new table.new switches.new entries.new }
 {
     let head = read_head(&text[n..], n, names, p.names);
-    let op = head.op;
-    let keyword = head.keyword;
+    let keyword = head.keyword();
     if is_empty(head) {
         return Answer {
             read: Ok(p),
-            next: following(op),
+            next: following(head.op),
         };
     }
-    if let Some(number) = instr_of(keyword) {
-        return read_instruction(text, lines, head, number, p, names, table);
+    if let Some(operator) = instr_of(keyword) {
+        return read_instruction(text, lines, head, operator, p, names, table);
     }
     if is_switch(keyword) {
         return read_switch(text, head, p, names, table, switches, entries);

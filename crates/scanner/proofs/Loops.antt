@@ -23,6 +23,7 @@ use Rattle.syntax.specs.Items.Stage.{first-star, inside, last-slash}
 use Rattle.syntax.specs.Items.Mode.{outside, in_comment}
 use Rattle.syntax.specs.Scan.{word_length, text_length, text_chars, text_allowed, is_closed, passes, in_gap, gap_end, gap_from}
 use Rattle.syntax.specs.Scan.Gap.{clear, unclosed}
+use Rattle.std.specs.Bool.{then_some}
 use Rattle.scanner.specs.Scans.{gap_at, text_bytes, WordEnd, Scanned}
 use Rattle.scanner.proofs.Bytes.{spaces, spaces-separate}
 
@@ -256,7 +257,7 @@ module _ {s : List ℕ} {n i : ℕ} {star : Bool} {count : ℕ} {good : Bool} (c
 
   -- where nothing of the text is left
   scanned : (t : Bool) → (text_length star (drop i s) ≡ 0) × (chars_left star (drop i s) ≡ []) × (allowed_left star (drop i s) ≡ true)
-      → t ≡ is_closed (drop i s) → Scanned s n (record { end = i; count = count; good = good; closed = t })
+      → t ≡ is_closed (drop i s) → Scanned s n (record { end = i; count = count; good = good; behind = then_some t (i + 1) })
   scanned t left q =
       record {
         from = c.from;
@@ -264,12 +265,12 @@ module _ {s : List ℕ} {n i : ℕ} {star : Bool} {count : ℕ} {good : Bool} (c
         is = omega (arith, left.0, c.end);
         counts = omega (arith, rw left.1 at c.chars);
         allowed = sym (and-true good) ∙ rw left.2 at c.allowed;
-        closes = q;
+        closes = ap (λ b. then_some b (i + 1)) q;
       }
 
   pub scan-ends : (t : Bool) → i < length s → ends_text star (get_or s i 0) ≡ true → eqb (get_or s i 0) 39 ≡ t
-      → Scanned s n (record { end = i; count = count; good = good; closed = t })
+      → Scanned s n (record { end = i; count = count; good = good; behind = then_some t (i + 1) })
   scan-ends t h e q = scanned t (rw (drop_here s i h) (left-ends star (get_or s i 0) (drop (i + 1) s) e)) (rw (drop_here s i h) (sym q))
 
-  pub scan-out : length s ≤ i → Scanned s n (record { end = length s; count = count; good = good; closed = false })
+  pub scan-out : length s ≤ i → Scanned s n (record { end = length s; count = count; good = good; behind = None })
   scan-out h = let m = c.most in let e : length s ≡ i = omega arith in rw e (scanned false (rw (drop_of_length-le s h) (left-none star)) (rw (drop_of_length-le s h) refl))

@@ -1,2 +1,3 @@
+pub mod Sorts
 pub mod Scans
 pub mod Below

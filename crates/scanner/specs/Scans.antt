@@ -1,5 +1,6 @@
 -- What each loop over the bytes of a text s promises, from a place n on. The definitions are those of Items.antt and Scan.antt.
 use Rattle.std.specs.Prelude.{◌≡◌, Bool, true, false, cond, List, ℕ, ◌+◌, ◌≤◌, ◌<◌, eqb, length, take, drop, Option, None, Some, Result, Ok, Err}
+use Rattle.std.specs.Bool.{then_some}
 use Rattle.syntax.specs.Items.Stage.{inside}
 use Rattle.syntax.specs.Items.Mode.{outside, in_comment}
 use Rattle.syntax.specs.Scan.{Gap, word_length, text_length, text_chars, text_allowed, is_closed, gap_from}
@@ -58,4 +59,4 @@ pub record Scanned (s : List ℕ) (n : ℕ) (t : Scan) : Type 0 where
   pub is : t.end ≡ n + text_length false (drop n s)
   pub counts : t.count ≡ length (text_chars false (text_bytes (drop n s)))
   pub allowed : t.good ≡ text_allowed false (text_bytes (drop n s))
-  pub closes : t.closed ≡ is_closed (drop t.end s)
+  pub closes : t.behind ≡ then_some (is_closed (drop t.end s)) (t.end + 1)

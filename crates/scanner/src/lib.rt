@@ -3,38 +3,36 @@
 
 ghost use Rattle.std.specs.Prelude.{◌≡◌, not, ◌+◌, ◌≤◌, ◌<◌, length, position};
 ghost use Rattle.syntax.specs.Below.Characters.{known_marks};
-ghost use Rattle.syntax.specs.Items.{sort_of, sort_number, same_sort, pair_of, ends_text, takes_next, allows};
+ghost use Rattle.syntax.specs.Items.{sort_of, same_sort, pair_of, ends_text, takes_next, allows};
 ghost use Rattle.syntax.specs.Items.Sort.{word};
+ghost use Rattle.scanner.specs.Sorts.{sort_in};
 ghost use Rattle.scanner.specs.Scans.{if_pair, Closing, Passed, Skipped, WordEnd, Scanned};
 
 use syntax::from_characters;
 use syntax::from_characters::{is_capital, is_digit, is_known};
 
-// The sorts of items by their numbers. No item is a separator, so 0 is also none.
-pub const NOTHING: u8 = 0;
-
-pub const WORD: u8 = 1;
-
-pub const COLON: u8 = 2;
-
-pub const END: u8 = 3;
-
-pub const TEXT: u8 = 4;
-
-pub const WRONG: u8 = 5;
+// The sorts of items. A separator is no item.
+#[derive(Clone, Copy, Debug, PartialEq, Eq)]
+pub enum Sort {
+    Word,
+    Colon,
+    End,
+    Text,
+    Wrong,
+}
 
 // The place where a comment begins that stays open.
-#[derive(Clone, Copy, PartialEq, Eq)]
+#[derive(Clone, Copy, Debug, PartialEq, Eq)]
 pub struct Unclosed(pub usize);
 
 // The bytes of a text after its apostrophe: the place of its end, the count of its characters, whether all are allowed, and
-// whether an apostrophe closes it.
-#[derive(Clone, Copy, PartialEq, Eq)]
+// the place behind the apostrophe that closes it, if one does.
+#[derive(Clone, Copy, Debug, PartialEq, Eq)]
 pub struct Scan {
     pub end: usize,
     pub count: usize,
     pub good: bool,
-    pub closed: bool,
+    pub behind: Option<usize>,
 }
 
 // Whether a byte is a word's: by ranges and without a branch.
@@ -44,21 +42,21 @@ fn is_word(b: u8) -> bool
     is_capital(b) | is_digit(b) | (b == b'+') | (b == b'-')
 }
 
-// What a byte begins outside texts and comments.
+// What a byte begins outside texts and comments, but for a separator.
 #[tactic(auto, using(crate::proofs::Bytes::word_arm, crate::proofs::Bytes::sort_arm, crate::proofs::Bytes::sort_arm_two, crate::proofs::Bytes::sort_rest), unfolding(syntax::specs::Items::sort_of))]
-pub fn sort_of(b: u8) -> u8
-    ensures { result ≡ sort_number (sort_of b) }
+pub fn sort_of(b: u8) -> Option<Sort>
+    ensures { sort_in result ≡ sort_of b }
 {
     if is_word(b) {
-        return WORD;
+        return Some(Sort::Word);
     }
-    match b {
-        b' ' | b',' => NOTHING,
-        b':' => COLON,
-        b';' | b'\n' => END,
-        b'\'' => TEXT,
-        _ => WRONG,
-    }
+    Some(match b {
+        b' ' | b',' => return None,
+        b':' => Sort::Colon,
+        b';' | b'\n' => Sort::End,
+        b'\'' => Sort::Text,
+        _ => Sort::Wrong,
+    })
 }
 
 // The character of a starred pair by the byte after the star.
@@ -192,7 +190,7 @@ fn scan_by(text: &[u8], n: usize, marks: &[u8]) -> Scan
                 end: i,
                 count,
                 good,
-                closed: b == b'\'',
+                behind: (b == b'\'').then_some(i + 1),
             };
         }
         good &= allows(star, b, marks);
@@ -203,11 +201,12 @@ fn scan_by(text: &[u8], n: usize, marks: &[u8]) -> Scan
         end: text.len(),
         count,
         good,
-        closed: false,
+        behind: None,
     }
 }
 
-// The bytes of a text from `n`, the place after its apostrophe, on.
+// The bytes of a text from `n`, the place after its apostrophe, on. Inlined, as the functions of `lexer` that call it.
+#[inline(always)]
 pub fn scan_text(text: &[u8], n: usize) -> Scan
     requires { n ≤ length text.now }
     ensures { Scanned text.now n result }

@@ -1,12 +1,13 @@
 -- To the end of a statement, from token to token.
 use mathlib.Core.Path.{◌≡◌, refl, ap, sym, ◌∙◌}
-use mathlib.Core.Bool.{Bool, true, false, cond, ◌||◌, true≢false}
+use mathlib.Core.Bool.{Bool, true, false, cond, true≢false}
 use mathlib.Core.List.{List, [], ◌∷◌}
 use Prim.Native.Nat.{ℕ, ◌+◌, ◌≤◌, ◌<◌}
 use native.Mathlib.Omega.{arith}
-use lib.Dec.{eqb}
 use lib.ListN.{length, drop}
-use borrow.Author.Tests.{eqb-true}
+use Rattle.std.proofs.Common.{Option, None, Some}
+use Rattle.std.specs.Option.{is_none}
+use Rattle.scanner.specs.declared.Sort.{Sort}
 use Rattle.lexer.specs.declared.Token.{Token}
 use Rattle.layout.specs.Bounds.{Each}
 use Rattle.lexer.specs.Tokens.{item_of, items_from, NextToken}
@@ -57,17 +58,16 @@ module _ {s : List ℕ} {n i : ℕ} {t : Token} (w : Within s n i) (k : NextToke
         before = w.before t.next le (rw a tt);
       }
 
-  ends_by : (l : Bool) → eqb t.sort 0 ≡ l → (l || eqb t.sort 3) ≡ true → Ended s n t.next l
-  ends_by true e z =
-      let q = no-statement k (eqb-true t.sort 0 e) in
-      ended (ap (λ (b : Bool). b || eqb t.sort 3) e) true (λ f. absurd (true≢false f)) q.1 q.0
-  ends_by false e z =
-      let h = eqb-true t.sort 3 z in
-      let q = statement-ends k h in
-      ended (ap (λ (b : Bool). b || eqb t.sort 3) e ∙ z) false (λ f. omega (arith, k.from, k.stands.ending h)) q.1 q.0
+  ends_by : (k : Option Sort) → t.sort ≡ k → stops k ≡ true → Ended s n t.next (is_none k)
+  ends_by None e z = let q = no-statement k e in ended (ap stops e) true (λ f. absurd (true≢false f)) q.1 q.0
+  ends_by (Some Sort.End) e z = let q = statement-ends k e in ended (ap stops e) false (λ f. omega (arith, k.from, k.stands.ending e)) q.1 q.0
+  ends_by (Some Sort.Word) e z = absurd (true≢false (sym z))
+  ends_by (Some Sort.Colon) e z = absurd (true≢false (sym z))
+  ends_by (Some Sort.Text) e z = absurd (true≢false (sym z))
+  ends_by (Some Sort.Wrong) e z = absurd (true≢false (sym z))
 
-  pub ends-here : stops t.sort ≡ true → Ended s n t.next (eqb t.sort 0)
-  ends-here z = ends_by (eqb t.sort 0) refl z
+  pub ends-here : stops t.sort ≡ true → Ended s n t.next (is_none t.sort)
+  ends-here z = ends_by t.sort refl z
 
 -- the end of what is left of a statement is the statement's
 pub ends-then : {s : List ℕ} {n i next : ℕ} {last : Bool} → Within s n i → Ended s i next last → Ended s n next last

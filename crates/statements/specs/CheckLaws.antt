@@ -1,19 +1,18 @@
 -- The lowest of the items' numbers, from token to token, and that it says the verdict of questions 14, 15 and 16.
-use Rattle.std.specs.Prelude.{◌≡◌, Bool, true, false, cond, not, ◌&&◌, List, [], ◌∷◌, ◌++◌, eqb, ltb, length}
+use Rattle.std.specs.Prelude.{◌≡◌, Bool, true, false, cond, List, [], ◌∷◌, ◌++◌, ltb, length}
 use Rattle.std.proofs.Math.Path.{refl, ap}
 use Rattle.std.proofs.Common.{sym, ◌∙◌, zero-add, arith, lt-ltb, le-ltb}
 use Prim.Native.Nat.{ℕ, ◌+◌, ◌-◌, ◌≤◌, ◌<◌, min}
 use Rattle.layout.specs.Bounds.{Each}
 use Rattle.lexer.specs.declared.Token.{Token}
 use Rattle.lexer.specs.Tokens.{item_of, chars_of, Stands, NextToken}
-use Rattle.lexer.proofs.Finding.{is-sort}
 use Rattle.layout.specs.Below.Lists.{filled, keep}
 use Rattle.statements.specs.StatementAt.{statement_at, stops}
 use Rattle.statements.specs.StatementLaws.{at-stop, at_item}
 use Rattle.lexer.specs.Below.Items.{Item, is, places}
-use Rattle.lexer.specs.Below.Items.Sort.{text, wrong}
+use Rattle.lexer.specs.Below.Items.Sort.{wrong}
 use Rattle.lexer.specs.Below.SyntaxVerdict.{ask, lowest, decide, first_no}
-use Rattle.statements.specs.Checks.{clean, item_code, worst, code_verdict, token_code}
+use Rattle.statements.specs.Checks.{bad_token, clean, item_code, worst, code_verdict, token_code}
 use Rattle.statements.specs.FaultLaws.{lowest-min}
 use Rattle.statements.specs.Groups.{bad_text, too_long, item_questions}
 
@@ -24,14 +23,14 @@ filled-length [] = refl
 filled-length (b ∷ w) = sym (lt-ltb 0 (length (b ∷ w)) (omega arith))
 
 module _ {s : List ℕ} {t : Token} (h : Stands s t) where
-  bad_text-is : bad_text (item_of s t) ≡ (eqb 4 t.sort && not (t.good && ltb 0 t.len))
-  bad_text-is = rw (is-sort text h, filled-length (chars_of s t), h.count) refl
+  bad_text-is : bad_text (item_of s t) ≡ bad_token t
+  bad_text-is = rw (filled-length (chars_of s t), h.count) refl
 
   too-long_is : too_long (item_of s t) ≡ ltb 60 t.len
   too-long_is = rw h.count refl
 
   pub token-coded : token_code t ≡ item_code (item_of s t)
-  token-coded = sym (rw (is-sort wrong h, bad_text-is, too-long_is) refl)
+  token-coded = sym (rw (bad_text-is, too-long_is) refl)
 
 -- from token to token
 module _ {s : List ℕ} {n : ℕ} {t : Token} (k : NextToken s n t) where

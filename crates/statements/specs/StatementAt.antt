@@ -1,5 +1,5 @@
 -- The statement that begins at a place of the text s, the place behind its end, and the places in it that are at fault.
-use Rattle.std.specs.Prelude.{◌≡◌, Bool, false, cond, ◌||◌, List, [], ◌∷◌, ℕ, ◌+◌, ◌≤◌, ◌<◌, eqb, length, drop}
+use Rattle.std.specs.Prelude.{◌≡◌, Bool, true, false, cond, List, [], ◌∷◌, ℕ, ◌+◌, ◌≤◌, ◌<◌, length, drop}
 use Rattle.layout.specs.Bounds.{Each}
 use Rattle.layout.specs.Below.Lists.{head_or}
 use Rattle.lexer.specs.Below.Items.{Item, is, statements_from}
@@ -7,7 +7,8 @@ use Rattle.lexer.specs.Below.Items.Sort.{end}
 use Rattle.lexer.specs.Below.SyntaxVerdict.{lowest}
 use Rattle.lexer.specs.Tokens.{items_from}
 use Rattle.statements.specs.Faults.{Fault}
-use Rattle.std.specs.Prelude.{None, Some}
+use Rattle.std.specs.Prelude.{Option, None, Some}
+use Rattle.scanner.specs.declared.Sort.{Sort}
 
 -- the statements from place n on, and the first of them
 abbrev pub statements_at : List ℕ → ℕ → List (List Item)
@@ -17,8 +18,13 @@ unfoldable pub statement_at : List ℕ → ℕ → List Item
 statement_at s n = head_or [] (statements_at s n)
 
 -- a token's sort that ends a statement: none, or an end
-abbrev pub stops : ℕ → Bool
-stops k = eqb k 0 || eqb k 3
+abbrev pub stops : Option Sort → Bool
+stops None = true
+stops (Some Sort.Word) = false
+stops (Some Sort.Colon) = false
+stops (Some Sort.End) = true
+stops (Some Sort.Text) = false
+stops (Some Sort.Wrong) = false
 
 -- the place behind the first end, if there is one
 unfoldable pub behind_end : List Item → List ℕ

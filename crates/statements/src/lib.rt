@@ -1,15 +1,15 @@
 // A statement's items and what is at fault in them: the token that ends it, the lower of two places at fault, and the verdict that they give.
 #![tactic(auto)]
 
-ghost use Rattle.std.specs.Prelude.{◌≡◌, not, ◌&&◌, eqb, ltb, min, ◌<◌};
-ghost use Rattle.statements.specs.Checks.{token_code, code_verdict};
+ghost use Rattle.std.specs.Prelude.{◌≡◌, min, ◌<◌};
+ghost use Rattle.statements.specs.Checks.{bad_token, token_code, code_verdict};
 ghost use Rattle.statements.specs.Faults.{lower, decided, verdict_of, then};
 ghost use Rattle.statements.specs.StatementAt.{stops};
 ghost use Rattle.lexer.specs.Below.SyntaxVerdict.Verdict.{refuse};
 
 use layout::from_language::Machine;
 use lexer::Token;
-use lexer::from_scanner::{END, NOTHING, TEXT, WRONG};
+use scanner::Sort;
 
 // Questions 14, 15 and 16 of some items in one number: where those of 15 and 16 begin, and that of items without fault.
 const TEXTS: usize = 65536;
@@ -31,11 +31,11 @@ pub struct Refusal {
 // Of some questions: all are answered yes, or the first no.
 pub type Verdict = Result<(), Refusal>;
 
-// Whether a token's sort ends a statement.
-pub fn stops(sort: u8) -> bool
+// Whether a token's sort ends a statement: an end, or no item.
+pub fn stops(sort: Option<Sort>) -> bool
     ensures { result ≡ stops sort }
 {
-    (sort == NOTHING) | (sort == END)
+    matches!(sort, None | Some(Sort::End))
 }
 
 // The same fault, made from its parts: a plain copy takes the unused bytes between them along, and is slower.
@@ -82,10 +82,10 @@ pub fn first_of(v: Verdict, w: Verdict) -> Verdict
     v.and(w)
 }
 
-fn is_bad_text(sort: u8, good: bool, len: usize) -> bool
-    ensures { result ≡ eqb 4 sort && not (good && ltb 0 len) }
+fn is_bad_text(t: Token) -> bool
+    ensures { result ≡ bad_token t }
 {
-    (TEXT == sort) & !(good & (0 < len))
+    t.is(Sort::Text) & !(t.good & (0 < t.len))
 }
 
 // The number of a token's item: by the first of the questions that finds it at fault, and by its place.
@@ -93,10 +93,10 @@ fn token_code(t: Token) -> usize
     requires { t.at < 65536 }
     ensures { result ≡ token_code t }
 {
-    if WRONG == t.sort {
+    if t.is(Sort::Wrong) {
         return t.at;
     }
-    if is_bad_text(t.sort, t.good, t.len) {
+    if is_bad_text(t) {
         return TEXTS + t.at;
     }
     if Machine::ITEM < t.len {

@@ -1,1 +1,2 @@
+pub mod Colons
 pub mod Reading

@@ -3,3 +3,4 @@ pub use Rattle.arguments.specs.Arguments
 pub use Rattle.arguments.specs.CountLaws
 pub use Rattle.arguments.specs.Valued
 pub use Rattle.arguments.specs.declared.Arguments as ArgumentsTypeArguments
+pub use Rattle.arguments.specs.declared.Quoted

@@ -3,12 +3,14 @@
 
 ghost use Rattle.std.specs.Prelude.{◌≡◌, cond};
 ghost use Rattle.std.specs.Prelude.{Some};
-ghost use Rattle.switch_lists.specs.Switches.{PutCell, PuttableItem, PutsItem, Listable, ReadsList};
+ghost use Rattle.statements.specs.StatementAt.{fault_of};
+ghost use Rattle.switch_lists.specs.Switches.{colon_left, PutCell, PuttableItem, PutsItem, Listable, ReadsList};
 
+use arguments::Quoted;
 use heads::{following, is_name, mark};
 use language::Machine;
 use lexer::{Token, next_item};
-use scanner::{TEXT, WORD};
+use scanner::Sort;
 use statements::{Fault, lower, stops, worse};
 
 // A list: the lowest place at fault of question 02, how many words it has, the first of them that is an entry in excess, the questions 14 to 16 with its
@@ -22,12 +24,23 @@ pub struct Listed {
     pub next: Option<usize>,
 }
 
-// An item that another follows: whether it is a word, whether it is a name, and the place of its colon or 0.
+// An item that another follows: whether it is a word, whether it is a name, and the place of its colon.
 #[derive(Clone, Copy)]
 struct Before {
     word: bool,
     name: bool,
-    colon: usize,
+    colon: Option<usize>,
+}
+
+// A name's colon is at fault, unless a text follows that may.
+fn colon_left(before: Before, follows: bool) -> Fault
+    ensures { result ≡ fault_of (colon_left before follows) }
+{
+    if before.name & !follows {
+        before.colon
+    } else {
+        None
+    }
 }
 
 // A list without items is at fault at its operator.
@@ -37,9 +50,9 @@ fn or_empty(empty: bool, at: usize, fault: Fault) -> Fault
     if empty { Some(at) } else { fault }
 }
 
-// Puts a number where there is room for it.
+// Puts a value where there is room for it.
 // By the length and an index: after a write through `get_mut` a proof knows nothing of the elements.
-fn put(cells: &mut [u32], k: usize, v: u32)
+fn put<T: Copy>(cells: &mut [T], k: usize, v: T)
     ensures { PutCell cells.old k v cells.new }
 {
     if k < cells.len() {
@@ -48,21 +61,26 @@ fn put(cells: &mut [u32], k: usize, v: u32)
 }
 
 // A word is entry `k`: its mark, and no text. A text right behind a word belongs to the entry before.
-fn put_item(t: Token, after: bool, k: usize, entries: &mut [u32], texts: &mut [u32])
+fn put_item(t: Token, after: bool, k: usize, entries: &mut [u32], texts: &mut [Option<Quoted>])
     requires { PuttableItem t after k }
     ensures { PutsItem t after k entries.old texts.old entries.new texts.new }
 {
-    if t.sort == WORD {
+    if t.is(Sort::Word) {
         put(entries, k, mark(t.at, t.len));
-        put(texts, k, 0);
+        put(texts, k, None);
         return;
     }
-    if (TEXT == t.sort) & after {
-        put(texts, k - 1, (t.at * 65536 + t.end) as u32);
+    if t.is(Sort::Text) & after {
+        let text = Quoted {
+            at: t.at,
+            end: t.end,
+        };
+        put(texts, k - 1, Some(text));
     }
 }
 
 // The list of a switch with the operator `t`, where `held` entries stand before its own.
+// `entries` and `texts` are no row of pairs: the marks of all lists stay till the second pass, the texts are of this list alone.
 // Each turn goes on behind the item that it read, so there is no range to run over.
 pub fn read_list(
     text: &[u8],
@@ -71,7 +89,7 @@ pub fn read_list(
     worst: usize,
     held: usize,
     entries: &mut [u32],
-    texts: &mut [u32],
+    texts: &mut [Option<Quoted>],
 ) -> Listed
     requires { Listable text.now t worst held entries.old texts.old }
     ensures { ReadsList text.now t named worst held entries.old texts.old result entries.new texts.new }
@@ -84,17 +102,13 @@ pub fn read_list(
     let mut before = Before {
         word: false,
         name: false,
-        colon: 0,
+        colon: None,
     };
     let mut i = first;
     loop {
         let u = next_item(text, i);
-        let follows = named & (TEXT == u.sort);
-        let colon = before.colon;
-        let a = lower(
-            fault,
-            (before.name & (colon != 0) & !follows).then_some(colon),
-        );
+        let follows = named & u.is(Sort::Text);
+        let a = lower(fault, colon_left(before, follows));
         if stops(u.sort) {
             return Listed {
                 fault: or_empty(i == first, t.at, a),
@@ -105,10 +119,11 @@ pub fn read_list(
             };
         }
         let name = is_name(text, u);
-        let word = WORD == u.sort;
+        let word = u.is(Sort::Word);
         let k = held + words;
         put_item(u, before.word, k, entries, texts);
-        fault = lower(a, (!(name | (follows & (colon != 0)))).then_some(u.at));
+        let texted = follows & before.colon.is_some();
+        fault = lower(a, (!(name | texted)).then_some(u.at));
         over = lower(over, (word & (Machine::ENTRIES <= k)).then_some(u.at));
         w = worse(w, u);
         words += usize::from(word);
@@ -123,5 +138,5 @@ pub fn read_list(
 
 // Of `arguments`, passed on to the crates above.
 pub mod from_arguments {
-    pub use arguments::read_arguments;
+    pub use arguments::{Quoted, read_arguments};
 }

@@ -4,10 +4,9 @@ use mathlib.Core.Bool.{Bool, true, false, not, ◌&&◌, and-true, and-false, tr
 use mathlib.Core.List.{List, ◌++◌}
 use Prim.Native.Nat.{ℕ, ◌+◌, ◌≤◌, ◌<◌}
 use native.Mathlib.Omega.{arith}
-use lib.ListN.{length, take, drop}
+use lib.ListN.{length, take, drop, length-take}
 use borrow.Author.Tests.{lt-leb}
-use Rattle.appending.specs.Appending.{Written}
-use Rattle.appending.specs.AppendingLaws.{written-beyond, written-within}
+use Rattle.appending.specs.Appending.{Written, Writes}
 use Rattle.calls.specs.Filling.{filled_in, Filled, Gives}
 use Rattle.calls.specs.Filling.Filling.{kept}
 use Rattle.cells.specs.Cells.{pasted}
@@ -23,7 +22,7 @@ use Rattle.syntax.specs.Ending.{last_place}
 use Rattle.syntax.specs.Items.{lines_of}
 use Rattle.syntax.specs.Load as spec
 use Rattle.syntax.specs.Load.{load_typed}
-use Rattle.std.specs.Prelude.{Ok, Err, is_ok}
+use Rattle.std.specs.Prelude.{Option, Some, None, MatchOption, Ok, Err, is_ok}
 use Rattle.translating.specs.Translating.{taken}
 
 -- ---- "does the text load, has it no macro list"
@@ -79,26 +78,30 @@ front-copied {m} {s} {n} b e l = let z : n ≡ 0 + length s = omega (arith, l) i
 
 -- ---- a text that is taken, with what was made of it
 
-module _ (s : List ℕ) {made : List ℕ} {n : ℕ} (t : taken s ≡ true) (w : Written (respelled s) n made) (m : length made ≡ limit.text) (b : List ℕ) where
-  pub beyond-gives : limit.text < n → Gives (convert_of (length b) s) refused b b
-  beyond-gives h = kept_gives s b (long-67 (length b) s (omega (arith, m, written-beyond w (omega (arith, m)))))
+module _ (s : List ℕ) {made : List ℕ} {r : Option ℕ} (t : taken s ≡ true) (w : Writes (respelled s) r made) (m : length made ≡ limit.text) (b : List ℕ) where
+  pub beyond-gives : r ≡ None → Gives (convert_of (length b) s) refused b b
+  beyond-gives h = kept_gives s b (long-67 (length b) s (omega (arith, m, subst (λ r. MatchOption r (length made < length (respelled s)) (λ n. Written (respelled s) n made)) h w.told)))
 
-  module _ (h : n ≤ limit.text) where
-    within : length (respelled s) ≤ length made
-    within = written-within w (omega (arith, m))
+  module _ {n : ℕ} (h : r ≡ Some n) where
+    fits : Written (respelled s) n made
+    fits = subst (λ r. MatchOption r (length made < length (respelled s)) (λ n. Written (respelled s) n made)) h w.told
+
+    -- so many bytes stand in the row
+    pub counted : n ≤ limit.text
+    counted = omega (arith, m, fits.counted, ap length fits.held, length-take n made)
 
     pub narrow_gives : length b < n → Gives (convert_of (length b) s) refused b b
-    narrow_gives l = kept_gives s b (narrow-67 (length b) s (omega (arith, w.counted within)))
+    narrow_gives l = kept_gives s b (narrow-67 (length b) s (omega (arith, fits.counted)))
 
     pub fitting-gives : n ≤ length b → {b' : List ℕ} → b' ≡ pasted b 0 (take n made) → Gives (convert_of (length b) s) (Ok n) b b'
     unfolding filled_in
     fitting-gives l {b'} e =
         let q = both (loads (load_of s)) (has_macros s) t in
-        let c = w.counted within in
-        let f = fitting-80 (length b) s q.0 q.1 (omega (arith, c)) (omega (arith, c, m, within)) in
+        let c = fits.counted in
+        let f = fitting-80 (length b) s q.0 q.1 (omega (arith, c)) (omega (arith, c, counted)) in
         let z : 0 + length (respelled s) ≡ length (respelled s) = omega arith in
         subst (λ x. Gives x (Ok n) b b') (sym f)
-        (record { result_is = ap Ok c; number_is = refl; cells_are = e ∙ ap (pasted b 0) (w.held within) ∙ ap (λ k. respelled s ++ drop k b) z })
+        (record { result_is = ap Ok c; number_is = refl; cells_are = e ∙ ap (pasted b 0) fits.held ∙ ap (λ k. respelled s ++ drop k b) z })
       where
         both : (a m : Bool) → (a && not m) ≡ true → (a ≡ true) × (m ≡ false)
         both true false q = (refl, refl)

@@ -1,5 +1,5 @@
 -- What the functions of the converter ask and promise.
-use Rattle.std.specs.Prelude.{◌≡◌, Bool, not, ◌&&◌, List, ◌++◌, ℕ, ◌≤◌, ◌<◌, length}
+use Rattle.std.specs.Prelude.{◌≡◌, Option, MatchOption, Bool, true, not, ◌&&◌, List, ◌++◌, ℕ, ◌≤◌, ◌<◌, length, is_some}
 use Rattle.appending.specs.Appending.{Written}
 use Rattle.editions.specs.Convert.{respell, respelled, loads}
 use Rattle.editions.specs.Passing.{remaining, between}
@@ -25,10 +25,13 @@ pub record Reached (s : List ℕ) (p : Pass) (c : List ℕ) : Type 0 where
 pub record Passable (s : List ℕ) (t : Token) (p : Pass) (c : List ℕ) : Type 0 where
   pub reached : Reached s p c
   pub found : NextToken s p.next t
-  pub item : t.sort ≡ 0 → ⊥
-  pub low : length c < 4294967296
+  pub item : is_some t.sort ≡ true
 
 -- and behind it
 pub record Passed (s : List ℕ) (t : Token) (p : Pass) (c : List ℕ) : Type 0 where
   pub reached : Reached s p c
   pub behind : p.next ≡ t.next
+
+-- the same where it fits
+pub record Passes (s : List ℕ) (t : Token) (r : Option Pass) (c : List ℕ) : Type 0 where
+  pub told : MatchOption r (length c < length (respelled s)) (λ p. Passed s t p c)

@@ -2,19 +2,19 @@
 #![tactic(auto)]
 
 ghost use Rattle.std.specs.Prelude.{◌≡◌, [], true, ◌≤◌, ◌<◌, length};
-ghost use Rattle.appending.specs.Appending.{Written};
+ghost use Rattle.appending.specs.Appending.{Writes};
 ghost use Rattle.calls.specs.Filling.{Gives};
 ghost use Rattle.editions.specs.Convert.{respelled, convert_of};
 ghost use Rattle.language.specs.Limits as limit;
 ghost use Rattle.lexer.specs.Tokens.{item_of};
 ghost use Rattle.syntax.specs.Statements.{is_operator};
-ghost use Rattle.translating.specs.Translating.{taken, Passable, Passed};
+ghost use Rattle.translating.specs.Translating.{taken, Passable, Passes};
 
 use appending::append;
 use calls::{Filled, Refused};
 use language::Machine;
 use lexer::{Token, next_item};
-use scanner::{COLON, END, NOTHING, WORD};
+use scanner::Sort;
 use words::append_other;
 
 // Question 67 answered no.
@@ -32,43 +32,43 @@ struct Pass {
 
 // Whether an item is no label and no part of one.
 fn is_operator(t: Token) -> bool
-    requires { t.sort < 6 }
     ensures { result ≡ is_operator (item_of [] t) }
 {
-    (t.sort != COLON) & (t.colon == 0)
+    !t.is(Sort::Colon) & t.colon.is_none()
 }
 
-// An item: the operator that was still to come is written in the other edition, behind the bytes before it. Any other item stays.
-fn passed(text: &[u8], t: Token, p: Pass, made: &mut [u8]) -> Pass
+// An item: the operator that was still to come is written in the other edition, behind the bytes before it. Any other item stays. None where it does not
+// fit.
+fn passed(text: &[u8], t: Token, p: Pass, made: &mut [u8]) -> Option<Pass>
     requires { Passable text.now t p made.old }
-    ensures { Passed text.now t result made.new }
+    ensures { Passes text.now t result made.new }
 {
     let operates = is_operator(t);
-    let is_awaited = p.awaited & operates & (t.sort == WORD);
+    let is_awaited = p.awaited & operates & t.is(Sort::Word);
     if !is_awaited {
-        return Pass {
+        return Some(Pass {
             next: t.next,
-            awaited: (t.sort == END) | (p.awaited & !operates),
+            awaited: t.is(Sort::End) | (p.awaited & !operates),
             from: p.from,
             count: p.count,
-        };
+        });
     }
     let from = p.from;
     let at = t.at;
     let end = t.end;
-    let n = append(made, p.count, &text[from..at]);
-    Pass {
+    let n = append(made, p.count, &text[from..at])?;
+    let count = append_other(&text[at..end], made, n)?;
+    Some(Pass {
         next: t.next,
         awaited: false,
         from: end,
-        count: append_other(&text[at..end], made, n),
-    }
+        count,
+    })
 }
 
-// Writes the text in the other edition, as far as the row reaches.
-fn respell(text: &[u8], made: &mut [u8]) -> usize
-    requires { length made.old < 4294967296 }
-    ensures { Written (respelled text.now) result made.new }
+// Writes the text in the other edition, if it fits, and tells how long it is.
+fn respell(text: &[u8], made: &mut [u8]) -> Option<usize>
+    ensures { Writes (respelled text.now) result made.new }
 {
     let mut p = Pass {
         next: 0,
@@ -79,11 +79,11 @@ fn respell(text: &[u8], made: &mut [u8]) -> usize
     loop {
         let n = p.next;
         let t = next_item(text, n);
-        if t.sort == NOTHING {
+        if t.sort.is_none() {
             let from = p.from;
             return append(made, p.count, &text[from..]);
         }
-        p = passed(text, t, p, made);
+        p = passed(text, t, p, made)?;
     }
 }
 
@@ -102,10 +102,9 @@ fn turn(text: &[u8], out: &mut [u8]) -> Filled
     ensures { Gives (convert_of (length out.old) text.now) result out.old out.new }
 {
     let mut made = [0u8; Machine::TEXT];
-    let n = respell(text, &mut made);
-    if Machine::TEXT < n {
+    let Some(n) = respell(text, &mut made) else {
         return Err(REFUSED);
-    }
+    };
     if out.len() < n {
         return Err(REFUSED);
     }

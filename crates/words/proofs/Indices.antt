@@ -16,6 +16,10 @@ use Rattle.syntax.specs.Below.ListsTableLaws.{beq-eq, below}
 use Rattle.syntax.specs.ArgumentForms.{is_index, letter_of}
 use Rattle.words.specs.Words.{capped, beyond, size_of, letter_at, reach, indexed_of}
 use Rattle.words.specs.declared.Lettered.{Lettered}
+use Rattle.std.specs.Prelude.{Option, Some, None}
+
+abbrev pub found : ℕ → ℕ → Option Lettered
+found k n = Some (record { place = k; index = n })
 
 -- a byte and its letter, computed for every byte
 is-letter : ℕ → Bool
@@ -68,7 +72,7 @@ index-within m v h z l = go (unsigned v) l
     go true k = (rw (lt-ltb 48 (head_or 0 v) z, le-leb (amount 0 v) m (omega arith)), omega arith)
     go false k = absurd (omega arith)
 
-pub indexed-short : (w : List ℕ) → length w < 2 → Lettered.Not ≡ indexed_of w
+pub indexed-short : (w : List ℕ) → length w < 2 → None ≡ indexed_of w
 unfolding indexed_of is_index
 indexed-short [] h = refl
 indexed-short (b ∷ []) h = rw (and-false (eqb b (letter_code (letter_of b))))
@@ -78,27 +82,27 @@ module _ (w : List ℕ) (small : get_or w 0 0 < 256) where
   abbrev place : ℕ
   place = letter_at (get_or w 0 0)
 
-  pub indexed-other : 11 < place → Lettered.Not ≡ indexed_of w
+  pub indexed-other : 11 < place → None ≡ indexed_of w
   unfolding indexed_of
   indexed-other h = rw (first w, (known (get_or w 0 0) small).letter, le-ltb place 12 h)
 
-  indexed-by : place ≤ 11 → indexed_of w ≡ cond (is_index (reach place) (drop 1 w)) (Lettered.At place (amount 0 (drop 1 w))) Lettered.Not
+  indexed-by : place ≤ 11 → indexed_of w ≡ cond (is_index (reach place) (drop 1 w)) (found place (amount 0 (drop 1 w))) None
   unfolding indexed_of
   indexed-by h =
       let k = known (get_or w 0 0) small in
       let l : place < 12 = omega arith in
       rw (first w, k.letter, k.place l, k.most l, lt-ltb place 12 l)
 
-  none_of : place ≤ 11 → is_index (reach place) (drop 1 w) ≡ false → Lettered.Not ≡ indexed_of w
+  none_of : place ≤ 11 → is_index (reach place) (drop 1 w) ≡ false → None ≡ indexed_of w
   none_of h e = sym (indexed-by h ∙ rw e)
 
-  pub indexed-zero : place ≤ 11 → get_or w 1 0 ≤ 48 → Lettered.Not ≡ indexed_of w
+  pub indexed-zero : place ≤ 11 → get_or w 1 0 ≤ 48 → None ≡ indexed_of w
   indexed-zero h l = none_of h (index-zero (reach place) (drop 1 w) (rw (second w) l))
 
-  pub indexed-beyond : place ≤ 11 → reach place ≤ 32 → reach place < size_of (drop 1 w) → Lettered.Not ≡ indexed_of w
+  pub indexed-beyond : place ≤ 11 → reach place ≤ 32 → reach place < size_of (drop 1 w) → None ≡ indexed_of w
   indexed-beyond h m l = none_of h (index-beyond (reach place) (drop 1 w) m l)
 
-  pub indexed-found : place ≤ 11 → reach place ≤ 32 → 48 < get_or w 1 0 → size_of (drop 1 w) ≤ reach place → Lettered.At place (size_of (drop 1 w)) ≡ indexed_of w
+  pub indexed-found : place ≤ 11 → reach place ≤ 32 → 48 < get_or w 1 0 → size_of (drop 1 w) ≤ reach place → found place (size_of (drop 1 w)) ≡ indexed_of w
   indexed-found h m z l =
       let k = index-within (reach place) (drop 1 w) m (rw (second w) z) l in
       sym (indexed-by h ∙ rw (k.0, k.1))

@@ -4,8 +4,9 @@ use mathlib.Core.Bool.{Bool, true, false, not, cond, ◌&&◌, ◌||◌, beq, fa
 use mathlib.Core.List.{List, [], ◌∷◌, ◌++◌, map}
 use Prim.Native.Nat.{ℕ, suc, ◌<◌, ◌+◌, ◌-◌, ◌≤◌}
 use Prim.Native.String.{String}
+use native.Mathlib.Decide.{dec_lt}
 use native.Mathlib.Omega.{arith}
-use lib.Dec.{eqb, eqb→eq, T, leb, leb→le, ltb}
+use lib.Dec.{eqb, eqb→eq, T, leb, leb→le, ltb, ltb→lt}
 use lib.ListN.{get_or, length, get_or-append, get_or-map, get_or-eq_default}
 use lib.Seq.{get_or-append-add}
 use Rattle.syntax.specs.Below.Lists.{any, ahead, bytes_equal}
@@ -13,8 +14,13 @@ use Rattle.syntax.specs.Below.Quoted.{bytes}
 use Rattle.syntax.specs.Below.ListsTableLaws.{below, beq-eq, Missed}
 use Rattle.syntax.specs.Statements as Spec
 use Rattle.syntax.specs.Statements.{editions, words_of, own, reserved, same_keyword}
-use Rattle.words.specs.Keywords.{keyword_by, told, known, word_at, place_in, Placed, other_word, meanings, keyword_at, shared, slot, in_a_row, beginnings, guesses, guess, of_row, InRow, Lent}
+use Rattle.words.specs.Keywords.{keyword_by, told, edition_of, known_by, own_by, is_own, known, word_at, place_in, Placed, other_word, meanings, keyword_at, shared, edition_at, slot, in_a_row, beginnings, guesses, guess, of_row, InRow, Lent}
+use Rattle.words.specs.declared.Edition.{Edition}
 use Rattle.words.specs.declared.Keyword.{Keyword}
+use Rattle.words.proofs.Operators.{same-operator}
+use Rattle.language.specs.Instructions.{number_of}
+use Rattle.language.specs.Operators.{op_by}
+use Rattle.language.specs.declared.Operator.{Operator}
 use Rattle.std.specs.Option.{is_some}
 use Rattle.std.specs.Prelude.{Option, Some, None}
 use borrow.Author.Tests.{lt-ltb, le-ltb}
@@ -192,38 +198,36 @@ module _ (e : Bool) (w : List ℕ) where
 -- ---- keywords by places
 
 -- an instruction's number, 0 for another keyword
-instr-number : Keyword → ℕ
-instr-number Keyword.None = 0
-instr-number Keyword.Unknown = 0
-instr-number Keyword.Sekcja = 0
-instr-number Keyword.Kons = 0
-instr-number Keyword.Konp = 0
-instr-number (Keyword.Switch goes_by_name) = 0
-instr-number (Keyword.Instr n) = n
+instr-number : Option Keyword → ℕ
+instr-number None = 0
+instr-number (Some Keyword.Sekcja) = 0
+instr-number (Some Keyword.Kons) = 0
+instr-number (Some Keyword.Konp) = 0
+instr-number (Some (Keyword.Switch goes_by_name)) = 0
+instr-number (Some (Keyword.Instr o)) = number_of (op_by o)
 
-is-instr : (k : Keyword) (n : ℕ) → 0 < n → instr-number k ≡ n → Keyword.Instr n ≡ k
+is-instr : (k : Option Keyword) (o : Operator) → 0 < number_of (op_by o) → instr-number k ≡ number_of (op_by o) → Some (Keyword.Instr o) ≡ k
 unfolding instr-number
-is-instr Keyword.None n l e = absurd (omega arith)
-is-instr Keyword.Unknown n l e = absurd (omega arith)
-is-instr Keyword.Sekcja n l e = absurd (omega arith)
-is-instr Keyword.Kons n l e = absurd (omega arith)
-is-instr Keyword.Konp n l e = absurd (omega arith)
-is-instr (Keyword.Switch goes_by_name) n l e = absurd (omega arith)
-is-instr (Keyword.Instr m) n l e = ap Keyword.Instr (sym e)
+is-instr None o l e = absurd (omega (arith, l, e))
+is-instr (Some Keyword.Sekcja) o l e = absurd (omega (arith, l, e))
+is-instr (Some Keyword.Kons) o l e = absurd (omega (arith, l, e))
+is-instr (Some Keyword.Konp) o l e = absurd (omega (arith, l, e))
+is-instr (Some (Keyword.Switch goes_by_name)) o l e = absurd (omega (arith, l, e))
+is-instr (Some (Keyword.Instr p)) o l e = ap (λ q. Some (Keyword.Instr q)) (same-operator o p (sym e))
 
 -- each pair behind the fifth is an instruction's
 an-instr : ℕ → Bool
 an-instr i = eqb (instr-number (keyword_at (i + 5))) (i + 1)
 
-instr-placed : (i : ℕ) → i < 41 → Keyword.Instr (i + 1) ≡ keyword_at (i + 5)
+instr-placed : (i : ℕ) → i < 41 → instr-number (keyword_at (i + 5)) ≡ i + 1
 unfolding an-instr instr-number keyword_at
-instr-placed i h = is-instr (keyword_at (i + 5)) (i + 1) (omega arith) (eqb→eq (instr-number (keyword_at (i + 5))) (i + 1) (below an-instr 41 tt i h))
+instr-placed i h = eqb→eq (instr-number (keyword_at (i + 5))) (i + 1) (below an-instr 41 tt i h)
 
-pub keyword-instr : (j : ℕ) → 5 ≤ j → j < 46 → Keyword.Instr (j - 4) ≡ keyword_at j
-keyword-instr j l h =
+pub keyword-instr : (j : ℕ) → 5 ≤ j → j < 46 → {o : Operator} → number_of (op_by o) ≡ j - 4 → Some (Keyword.Instr o) ≡ keyword_at j
+keyword-instr j l h {o} e =
     let a : j - 5 + 1 ≡ j - 4 = omega arith in
     let b : j - 5 + 5 ≡ j = omega arith in
-    rw (a, b) at (instr-placed (j - 5) (omega arith))
+    is-instr (keyword_at j) o (omega (arith, e)) ((rw (a, b) at (instr-placed (j - 5) (omega arith))) ∙ sym e)
 
 -- the arms of a match on a place
 pub keyword-arm : {j k : ℕ} → j ≡ k → keyword_at k ≡ keyword_at j
@@ -232,7 +236,7 @@ keyword-arm e = ap keyword_at (sym e)
 pub behind-arms : (j : ℕ) → Missed (Unit {0}) (0 ∷ 1 ∷ 2 ∷ 3 ∷ 4 ∷ []) j → 5 ≤ j
 behind-arms j m = omega (arith, m.1, m.0.1, m.0.0.1, m.0.0.0.1, m.0.0.0.0.1)
 
-pub keyword-beyond : (j : ℕ) → 46 ≤ j → Keyword.Unknown ≡ keyword_at j
+pub keyword-beyond : (j : ℕ) → 46 ≤ j → None ≡ keyword_at j
 unfolding keyword_at
 keyword-beyond j h = sym (ap told (get_or-eq_default meanings Spec.Keyword.unknown h))
 
@@ -321,36 +325,112 @@ shared-words : (j : ℕ) → j < 46 → any (bytes_equal (word_at false j)) (wor
 unfolding both
 shared-words j h = beq-eq (any (bytes_equal (word_at false j)) (words_of true)) (shared j) (below both 46 tt j h)
 
-and-true : (a : Bool) → (a && true) ≡ a
-and-true true = refl
-and-true false = refl
-
-and-false : (a : Bool) → (a && false) ≡ false
-and-false true = refl
-and-false false = refl
-
 -- what is known of a word
 module _ (w : List ℕ) (j : ℕ) (p : j ≡ place_in false w) where
-  pub known-polish : j < 46 → {k : Keyword} → k ≡ keyword_at j → {b : Bool} → b ≡ shared j → record { keyword = k; polish = not b; english = false } ≡ known w
+  pub known-polish : j < 46 → {k : Keyword} → Some k ≡ keyword_at j → {e : Edition} → e ≡ edition_at j → Some (record { keyword = k; edition = e }) ≡ known w
   unfolding own keyword_at
-  known-polish h {k} k-is {b} b_is = go (case false w)
+  known-polish h {k} k-is {e} e-is = go (case false w)
     where
-      go : Case false w → record { keyword = k; polish = not b; english = false } ≡ known w
+      here : (b : Bool) → Some (record { keyword = k; edition = cond b Edition.Both Edition.Polish }) ≡ known_by (Some k) (edition_of (not b) (b && false))
+      here true = refl
+      here false = refl
+
+      go : Case false w → Some (record { keyword = k; edition = e }) ≡ known w
       go (Case.one i l q) =
           let s : i ≡ j = sym (its-place false w i l q) ∙ sym p in
           let t : any (bytes_equal w) (words_of false) ≡ true = has-place false w ∙ lt-ltb (place_in false w) 46 (omega arith) in
-          let u : any (bytes_equal w) (words_of true) ≡ b = ap (λ (v : List ℕ). any (bytes_equal v) (words_of true)) q ∙ shared-words i l ∙ ap shared s ∙ sym b_is in
-          let v : k ≡ told (keyword_by w) = k-is ∙ ap keyword_at p ∙ sym (ap told (keyword-first w t)) in
-          rw (t, u, v, and-false b) refl
+          let u : any (bytes_equal w) (words_of true) ≡ shared j = ap (λ (v : List ℕ). any (bytes_equal v) (words_of true)) q ∙ shared-words i l ∙ ap shared s in
+          let v : Some k ≡ told (keyword_by w) = k-is ∙ ap keyword_at p ∙ sym (ap told (keyword-first w t)) in
+          ap (λ e. Some (record { keyword = k; edition = e })) e-is ∙ here (shared j) ∙ rw (t, u, ← v) refl
       go (Case.none n) = absurd (omega (arith, no_place false w n))
 
-  pub known-english : 46 ≤ j → {i : ℕ} → i ≡ place_in true w → {k : Keyword} → k ≡ keyword_at i → record { keyword = k; polish = false; english = ltb i 46 } ≡ known w
-  unfolding own keyword_at
-  known-english h {i} i-is {k} k-is =
-      let t : any (bytes_equal w) (words_of false) ≡ false = has-place false w ∙ le-ltb (place_in false w) 46 (omega arith) in
-      let u : any (bytes_equal w) (words_of true) ≡ ltb i 46 = has-place true w ∙ ap (λ (n : ℕ). ltb n 46) (sym i-is) in
-      let v : k ≡ told (keyword_by w) = k-is ∙ ap keyword_at i-is ∙ sym (ap told (keyword-later w t)) in
-      rw (t, u, v, and-true (ltb i 46)) refl
+  module _ (h : 46 ≤ j) {i : ℕ} (i-is : i ≡ place_in true w) where
+    none_first : any (bytes_equal w) (words_of false) ≡ false
+    none_first = has-place false w ∙ le-ltb (place_in false w) 46 (omega arith)
+
+    there : keyword_at i ≡ told (keyword_by w)
+    unfolding keyword_at
+    there = ap keyword_at i-is ∙ sym (ap told (keyword-later w none_first))
+
+    pub known-english : i < 46 → {k : Keyword} → Some k ≡ keyword_at i → Some (record { keyword = k; edition = Edition.English }) ≡ known w
+    unfolding own
+    known-english l {k} k-is =
+        let u : any (bytes_equal w) (words_of true) ≡ true = has-place true w ∙ ap (λ (n : ℕ). ltb n 46) (sym i-is) ∙ lt-ltb i 46 l in
+        let v : Some k ≡ told (keyword_by w) = k-is ∙ there in
+        rw (none_first, u, ← v) refl
+
+    pub known_none : 46 ≤ i → None ≡ known w
+    known_none l = let v : None ≡ told (keyword_by w) = keyword-beyond i l ∙ there in rw (← v) refl
+
+-- a word's keyword is not none, which is for no word
+meaning-some : (j : ℕ) → same_keyword Spec.Keyword.none (get_or meanings j Spec.Keyword.unknown) ≡ false
+meaning-some j = go (dec_lt j 46)
+  where
+    go : Dec (j < 46) → same_keyword Spec.Keyword.none (get_or meanings j Spec.Keyword.unknown) ≡ false
+    go (yes l) = beq-eq (same_keyword Spec.Keyword.none (get_or meanings j Spec.Keyword.unknown)) false (below (λ i. beq (same_keyword Spec.Keyword.none (get_or meanings i Spec.Keyword.unknown)) false) 46 tt j l)
+    go (no l) =
+        let h : 46 ≤ j = omega arith in
+        ap (same_keyword Spec.Keyword.none) (get_or-eq_default meanings Spec.Keyword.unknown h)
+
+pub never-none : (w : List ℕ) → same_keyword Spec.Keyword.none (keyword_by w) ≡ false
+never-none w = go (any (bytes_equal w) (words_of false)) refl
+  where
+    go : (t : Bool) → any (bytes_equal w) (words_of false) ≡ t → same_keyword Spec.Keyword.none (keyword_by w) ≡ false
+    go true h = ap (same_keyword Spec.Keyword.none) (keyword-first w h) ∙ meaning-some (place_in false w)
+    go false h = ap (same_keyword Spec.Keyword.none) (keyword-later w h) ∙ meaning-some (place_in true w)
+
+-- each place is a keyword's
+listed : (j : ℕ) → j < 46 → T (is_some (keyword_at j))
+unfolding keyword_at
+listed j h = below (λ j. is_some (keyword_at j)) 46 tt j h
+
+-- a word is one edition's own as is known of it
+module _ (w : List ℕ) where
+  of-edition : (e : Bool) → (any (bytes_equal w) (words_of e) ≡ true → told (keyword_by w) ≡ keyword_at (place_in e w)) → told (keyword_by w) ≡ None
+      → any (bytes_equal w) (words_of e) ≡ false
+  of-edition e f n = go (any (bytes_equal w) (words_of e)) refl
+    where
+      go : (t : Bool) → any (bytes_equal w) (words_of e) ≡ t → any (bytes_equal w) (words_of e) ≡ false
+      go true h =
+          let l : place_in e w < 46 = ltb→lt (place_in e w) 46 (subst T (sym (sym (has-place e w) ∙ h)) tt) in
+          absurd (subst (λ (k : Option Keyword). T (is_some k)) (sym (f h) ∙ n) (listed (place_in e w) l))
+      go false h = h
+
+  told-first : any (bytes_equal w) (words_of false) ≡ true → told (keyword_by w) ≡ keyword_at (place_in false w)
+  unfolding keyword_at
+  told-first h = ap told (keyword-first w h)
+
+  told-later : any (bytes_equal w) (words_of false) ≡ false → told (keyword_by w) ≡ keyword_at (place_in true w)
+  unfolding keyword_at
+  told-later h = ap told (keyword-later w h)
+
+  own_none : (e : Bool) → told (keyword_by w) ≡ None → false ≡ own e w
+  unfolding own
+  own_none e n =
+      let p = of-edition false told-first n in
+      let q = of-edition true (λ h. told-later p) n in
+      let both-none : (e : Bool) → false ≡ (any (bytes_equal w) (words_of e) && not (any (bytes_equal w) (words_of (not e)))) =
+      λ e. elim e as (λ e. false ≡ (any (bytes_equal w) (words_of e) && not (any (bytes_equal w) (words_of (not e))))) [ true ↦ rw q refl | false ↦ rw p refl ] in
+      both-none e
+
+  own-some : (e a b : Bool) → own_by e (edition_of (a && not b) (b && not a)) ≡ (cond e b a && not (cond e a b))
+  own-some true true true = refl
+  own-some true true false = refl
+  own-some true false true = refl
+  own-some true false false = refl
+  own-some false true true = refl
+  own-some false true false = refl
+  own-some false false true = refl
+  own-some false false false = refl
+
+  pub own-known : (e : Bool) → is_own e (known w) ≡ own e w
+  unfolding own
+  own-known e = go e (told (keyword_by w)) refl
+    where
+      go : (e : Bool) (k : Option Keyword) → told (keyword_by w) ≡ k → is_own e (known_by k (edition_of (own false w) (own true w))) ≡ own e w
+      go e None n = own_none e n
+      go true (Some k) n = own-some true (any (bytes_equal w) (words_of false)) (any (bytes_equal w) (words_of true))
+      go false (Some k) n = own-some false (any (bytes_equal w) (words_of false)) (any (bytes_equal w) (words_of true))
 
 -- a word in the other edition
 module _ (w : List ℕ) {j : ℕ} (p : j ≡ place_in false w) where

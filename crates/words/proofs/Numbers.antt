@@ -16,8 +16,8 @@ use Rattle.syntax.specs.Below.Limits as limit
 use Rattle.syntax.specs.Below.LanguageValues.{amount, unsigned}
 use Rattle.appending.specs.Below.LayoutCells.{code}
 use Rattle.syntax.specs.Below.Lists.{all}
-use Rattle.words.specs.Words.{beyond, capped, size_of, plus, minus, numeral_of}
-use Rattle.words.specs.declared.Numeral.{Numeral}
+use Rattle.words.specs.Words.{beyond, capped, size_of, coded, numeral_of}
+use Rattle.std.specs.Prelude.{Some, None}
 
 amount-most : (n : ℕ) (w : List ℕ) → n ≤ amount n w
 amount-most n [] = omega arith
@@ -62,12 +62,12 @@ rest_of (b ∷ w) = take_all (suc (length w) - 1) w (omega arith)
 -- the code of a size in range, by its sign
 module _ (f : ℕ → ℕ) (g : ℕ → ℕ) where
   in_code : (u : Bool) (a : ℕ) → ((n : ℕ) → n ≤ limit.size → f n ≡ g n)
-      → let n : ℕ = cond u (capped a) beyond in cond (leb n limit.size) (Numeral.Code (f n)) Numeral.Not ≡ cond (u && leb a limit.size) (Numeral.Code (g a)) Numeral.Not
+      → let n : ℕ = cond u (capped a) beyond in cond (leb n limit.size) (Some (f n)) None ≡ cond (u && leb a limit.size) (Some (g a)) None
   in_code false a h = refl
   in_code true a h = go (dec_le a limit.size)
     where
-      go : Dec (a ≤ limit.size) → cond (leb (capped a) limit.size) (Numeral.Code (f (capped a))) Numeral.Not ≡ cond (leb a limit.size) (Numeral.Code (g a)) Numeral.Not
-      go (yes l) = let e : capped a ≡ a = omega arith in rw (e, le-leb a limit.size l) (ap Numeral.Code (h a l))
+      go : Dec (a ≤ limit.size) → cond (leb (capped a) limit.size) (Some (f (capped a))) None ≡ cond (leb a limit.size) (Some (g a)) None
+      go (yes l) = let e : capped a ≡ a = omega arith in rw (e, le-leb a limit.size l) (ap Some (h a l))
       go (no l) = rw (lt-leb (capped a) limit.size (omega arith), lt-leb a limit.size (omega arith))
 
 minus-size : (a : ℕ) → nat_abs (neg_ℤ (pos a)) ≡ a
@@ -79,7 +79,7 @@ unfolding code
 minus-code zero h = refl
 minus-code (suc a) h = omega arith
 
-pub number-none : (w : List ℕ) → length w ≡ 0 → Numeral.Not ≡ numeral_of w
+pub number-none : (w : List ℕ) → length w ≡ 0 → None ≡ numeral_of w
 unfolding numeral_of
 number-none [] h = refl
 number-none (b ∷ w) h = absurd (omega arith)
@@ -90,14 +90,14 @@ plus-code n h = refl
 
 -- a word by its first byte
 module _ (w : List ℕ) (b : ℕ) (v : List ℕ) (is : w ≡ b ∷ v) where
-  pub number-minus : b ≡ 45 → minus (size_of v) ≡ numeral_of w
-  unfolding numeral_of minus size_of
+  pub number-minus : b ≡ 45 → coded (size_of v) true ≡ numeral_of w
+  unfolding numeral_of coded size_of
   number-minus e = rw (is, e, minus-size (amount 0 v)) (in_code (λ n. limit.size - n) (λ n. code (neg_ℤ (pos n))) (unsigned v) (amount 0 v) minus-code)
 
-  pub number-plus : b ≡ 43 → plus (size_of v) ≡ numeral_of w
-  unfolding numeral_of plus size_of
+  pub number-plus : b ≡ 43 → coded (size_of v) false ≡ numeral_of w
+  unfolding numeral_of coded size_of
   number-plus e = rw (is, e) (in_code (λ n. limit.size + n) (λ n. code (pos n)) (unsigned v) (amount 0 v) plus-code)
 
-  pub number-bare : (b ≡ 45 → ⊥) → (b ≡ 43 → ⊥) → plus (size_of w) ≡ numeral_of w
-  unfolding numeral_of plus size_of
+  pub number-bare : (b ≡ 45 → ⊥) → (b ≡ 43 → ⊥) → coded (size_of w) false ≡ numeral_of w
+  unfolding numeral_of coded size_of
   number-bare m p = rw (is, ne_eqb b 45 m, ne_eqb b 43 p) (in_code (λ n. limit.size + n) (λ n. code (pos n)) (unsigned (b ∷ v)) (amount 0 (b ∷ v)) plus-code)

@@ -1,11 +1,13 @@
 -- What the functions on keywords answer.
 use Rattle.std.specs.Option.{MatchOption}
-use Rattle.std.specs.Prelude.{◌≡◌, Option, Bool, true, false, cond, ◌||◌, List, [], ◌∷◌, map, ℕ, ◌+◌, ◌*◌, ◌-◌, ◌%◌, ◌<◌, ◌≤◌, eqb, ltb, length, get_or, take, drop}
-use Rattle.syntax.specs.Below.Instructions.{operation, operator_of}
+use Rattle.std.specs.Prelude.{◌≡◌, Option, None, Some, Bool, true, false, cond, not, ◌||◌, List, [], ◌∷◌, map, ℕ, ◌+◌, ◌*◌, ◌-◌, ◌%◌, ◌<◌, ◌≤◌, eqb, ltb, length, get_or, take, drop}
+use Rattle.language.specs.Operators.{op_by}
 use Rattle.syntax.specs.Below.Lists.{ahead, joined, bytes_equal}
 use Rattle.syntax.specs.Below.Quoted.{bytes}
 use Rattle.syntax.specs.Statements as Spec
 use Rattle.syntax.specs.Statements.{editions, keywords, words_of, own}
+use Rattle.words.specs.Operators.{operator_in}
+use Rattle.words.specs.declared.Edition.{Edition}
 use Rattle.words.specs.declared.Keyword.{Keyword}
 use Rattle.words.specs.declared.Known.{Known}
 
@@ -13,29 +15,52 @@ use Rattle.words.specs.declared.Known.{Known}
 unfoldable pub keyword_by : List ℕ → Spec.Keyword
 keyword_by w = (get_or keywords (ahead (λ k. bytes_equal w (bytes k.0)) keywords) ("", Spec.Keyword.unknown)).1
 
--- each keyword as the code tells it
-abbrev pub told : Spec.Keyword → Keyword
-told Spec.Keyword.none = Keyword.None
-told Spec.Keyword.unknown = Keyword.Unknown
-told Spec.Keyword.SEKCJA = Keyword.Sekcja
-told Spec.Keyword.KONS = Keyword.Kons
-told Spec.Keyword.KONP = Keyword.Konp
-told (Spec.Keyword.switch goes_by_name) = Keyword.Switch goes_by_name
-told (Spec.Keyword.instr op) = Keyword.Instr (operation op).number
+-- each keyword as the code tells it; where there is none, or a word that is no keyword, nothing
+abbrev pub told : Spec.Keyword → Option Keyword
+told Spec.Keyword.none = None
+told Spec.Keyword.unknown = None
+told Spec.Keyword.SEKCJA = Some Keyword.Sekcja
+told Spec.Keyword.KONS = Some Keyword.Kons
+told Spec.Keyword.KONP = Some Keyword.Konp
+told (Spec.Keyword.switch goes_by_name) = Some (Keyword.Switch goes_by_name)
+told (Spec.Keyword.instr op) = Some (Keyword.Instr (operator_in op))
 
 -- and back
-abbrev pub meant : Keyword → Spec.Keyword
-meant Keyword.None = Spec.Keyword.none
-meant Keyword.Unknown = Spec.Keyword.unknown
-meant Keyword.Sekcja = Spec.Keyword.SEKCJA
-meant Keyword.Kons = Spec.Keyword.KONS
-meant Keyword.Konp = Spec.Keyword.KONP
-meant (Keyword.Switch goes_by_name) = Spec.Keyword.switch goes_by_name
-meant (Keyword.Instr n) = Spec.Keyword.instr (operator_of n)
+abbrev pub meant : Option Keyword → Spec.Keyword
+meant None = Spec.Keyword.unknown
+meant (Some Keyword.Sekcja) = Spec.Keyword.SEKCJA
+meant (Some Keyword.Kons) = Spec.Keyword.KONS
+meant (Some Keyword.Konp) = Spec.Keyword.KONP
+meant (Some (Keyword.Switch goes_by_name)) = Spec.Keyword.switch goes_by_name
+meant (Some (Keyword.Instr o)) = Spec.Keyword.instr (op_by o)
 
--- the keyword of a word, and whether the word is one edition's own
-abbrev pub known : List ℕ → Known
-known w = record { keyword = told (keyword_by w); polish = own false w; english = own true w }
+-- the editions that have a word, by whether it is the Polish one's own, and the English one's
+abbrev pub edition_of : Bool → Bool → Edition
+edition_of true e = Edition.Polish
+edition_of false true = Edition.English
+edition_of false false = Edition.Both
+
+abbrev pub known_by : Option Keyword → Edition → Option Known
+known_by None e = None
+known_by (Some k) e = Some (record { keyword = k; edition = e })
+
+-- the keyword of a word, and the editions that have it
+abbrev pub known : List ℕ → Option Known
+known w = known_by (told (keyword_by w)) (edition_of (own false w) (own true w))
+
+abbrev pub keyword_known : Option Known → Option Keyword
+keyword_known None = None
+keyword_known (Some k) = Some k.keyword
+
+-- whether the word is the English edition's own, or the Polish one's
+abbrev pub own_by : Bool → Edition → Bool
+own_by english Edition.Polish = not english
+own_by english Edition.English = english
+own_by english Edition.Both = false
+
+abbrev pub is_own : Bool → Option Known → Bool
+is_own english None = false
+is_own english (Some k) = own_by english k.edition
 
 -- ---- by places: the words of a pair have the same place in the two editions
 
@@ -53,12 +78,16 @@ Placed english w place = MatchOption place (place_in english w ≡ 46) (λ j. (j
 abbrev pub meanings : List Spec.Keyword
 meanings = map (λ r. r.2) editions
 
-unfoldable pub keyword_at : ℕ → Keyword
+unfoldable pub keyword_at : ℕ → Option Keyword
 keyword_at j = told (get_or meanings j Spec.Keyword.unknown)
 
 -- KONP and STOP
 abbrev pub shared : ℕ → Bool
 shared j = eqb j 2 || eqb j 45
+
+-- the editions that have the Polish word of a place
+abbrev pub edition_at : ℕ → Edition
+edition_at j = cond (shared j) Edition.Both Edition.Polish
 
 -- a word in the other edition: that of its place there; a word of no edition is itself
 unfoldable pub other_word : List ℕ → List ℕ

@@ -1,4 +1,5 @@
 pub mod Words
+pub mod Operators
 pub mod Keywords
 pub mod WordLaws
 pub mod Below

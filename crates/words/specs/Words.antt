@@ -1,5 +1,5 @@
 -- What the functions on words answer: classes, numbers and indexed letters.
-use Rattle.std.specs.Prelude.{Bool, cond, ◌&&◌, List, ℕ, ◌+◌, ◌-◌, min, leb, eqb, get_or, drop}
+use Rattle.std.specs.Prelude.{Bool, Option, Some, None, cond, ◌&&◌, List, ℕ, ◌+◌, ◌-◌, min, leb, eqb, get_or, drop}
 use Rattle.syntax.specs.Below.Letters.{letters, letter_code, indices, use_of}
 use Rattle.syntax.specs.Below.Letters.Letter.{A}
 use Rattle.syntax.specs.Below.Limits as limit
@@ -11,7 +11,6 @@ use Rattle.syntax.specs.Below.Lists.{all, ahead, filled, head_or, among}
 use Rattle.syntax.specs.Below.Quoted.{bytes}
 use Rattle.syntax.specs.ArgumentForms.{is_indexed, letter_of}
 use Rattle.words.specs.declared.Lettered.{Lettered}
-use Rattle.words.specs.declared.Numeral.{Numeral}
 
 -- a class, as it is read of a word
 abbrev pub class_letter : ℕ → Bool
@@ -36,16 +35,13 @@ capped n = min n beyond
 unfoldable pub size_of : List ℕ → ℕ
 size_of w = cond (unsigned w) (capped (amount 0 w)) beyond
 
--- a number's code by its sign and size
-unfoldable pub plus : ℕ → Numeral
-plus n = cond (leb n limit.size) (Numeral.Code (limit.size + n)) Numeral.Not
-
-unfoldable pub minus : ℕ → Numeral
-minus n = cond (leb n limit.size) (Numeral.Code (limit.size - n)) Numeral.Not
+-- a number's code by its size and sign
+unfoldable pub coded : ℕ → Bool → Option ℕ
+coded n negative = cond (leb n limit.size) (Some (cond negative (limit.size - n) (limit.size + n))) None
 
 -- the code of the number that a word is
-unfoldable pub numeral_of : List ℕ → Numeral
-numeral_of w = cond (numeral w && in_range (value_of w)) (Numeral.Code (code (value_of w))) Numeral.Not
+unfoldable pub numeral_of : List ℕ → Option ℕ
+numeral_of w = cond (numeral w && in_range (value_of w)) (Some (code (value_of w))) None
 
 -- the place of the letter of a byte among the letters; 12 for a byte of none
 abbrev pub letter_at : ℕ → ℕ
@@ -56,7 +52,7 @@ abbrev pub reach : ℕ → ℕ
 reach k = indices (use_of (get_or letters k A)).var
 
 -- the indexed letter that a word is
-unfoldable pub indexed_of : List ℕ → Lettered
+unfoldable pub indexed_of : List ℕ → Option Lettered
 indexed_of w =
     let l = letter_of (head_or 0 w) in
-    cond (is_indexed w l) (Lettered.At (letter_place l) (amount 0 (drop 1 w))) Lettered.Not
+    cond (is_indexed w l) (Some (record { place = letter_place l; index = amount 0 (drop 1 w) })) None

@@ -1,21 +1,21 @@
 // Words of a text: identifiers, classes, numbers, indexed letters and keywords, by their bytes.
 #![tactic(auto)]
 
-ghost use Rattle.std.specs.Prelude.{◌≡◌, true, false, cond, ◌||◌, ◌+◌, ◌-◌, ◌*◌, ◌≤◌, ◌<◌, length};
+ghost use Rattle.std.specs.Prelude.{◌≡◌, Some, true, false, cond, ◌||◌, ◌+◌, ◌-◌, ◌*◌, ◌≤◌, ◌<◌};
 ghost use Rattle.appending.specs.Appending.{Appends};
 ghost use Rattle.syntax.specs.Below.Characters.{is_capital, is_digit};
 ghost use Rattle.syntax.specs.Below.Program.{identifier};
 ghost use Rattle.syntax.specs.Below.Lists.{all, among};
 ghost use Rattle.syntax.specs.Statements.{reserved};
-ghost use Rattle.words.specs.Words.{class_letter, is_class, class_of, capped, beyond, size_of, plus, minus, numeral_of, letter_at, reach, indexed_of};
-ghost use Rattle.words.specs.Keywords.{known, keyword_at, shared, word_at, Placed, other_word, slot, guess, Lent};
+ghost use Rattle.words.specs.Words.{class_letter, is_class, class_of, capped, beyond, size_of, coded, numeral_of, letter_at, reach, indexed_of};
+ghost use Rattle.words.specs.Keywords.{is_own, known, keyword_at, edition_at, word_at, Placed, other_word, slot, guess, Lent};
 
 use appending::append;
+use language::{Machine, Operator};
 use syntax::from_characters;
-use syntax::from_language::Machine;
 
 // The size of what is no number in range.
-// Sizes stop growing there, so that no Option is plainer.
+// Sizes stop growing there, so that no Option is plainer; and decimals::measure, which is alike, stands on the machine's components, of which words need nothing.
 const BEYOND: usize = Machine::SIZE + 1;
 
 // The words of each edition, one after the other by their pairs; that at place j goes from start j to the next. By slot, `(` plus the place of the word
@@ -44,39 +44,49 @@ const ENGLISH_STARTS: [u8; 47] = [
 const ENGLISH_SLOTS: [u8; 128] =
     *b"(+((((1(((?(((.()*=(I(((((5(((((O((((@(((((20U(((:(((D(((K(((((H(B(((,(8((<F((P6T(((;((SM((LG((((N(Q(J-(ER94(7((C(((((((3(((A>/(";
 
-// A number as the table of a program has it, its value + 8,388,607; or no number in range.
-#[derive(Clone, Copy)]
-pub enum Numeral {
-    Not,
-    Code(u32),
-}
-
 // An indexed letter: the letter's place among the twelve, and the index.
-#[derive(Clone, Copy)]
-pub enum Lettered {
-    Not,
-    At(u8, u8),
+#[derive(Clone, Copy, PartialEq, Eq)]
+pub struct Lettered {
+    pub place: u8,
+    pub index: u8,
 }
 
-#[derive(Clone, Copy)]
+#[derive(Clone, Copy, Debug, PartialEq, Eq)]
 pub enum Keyword {
-    None,
-    Unknown,
     Sekcja,
     Kons,
     Konp,
     // NAZWA or, otherwise, INDEKS
     Switch(bool),
-    // an instruction's number
-    Instr(u8),
+    Instr(Operator),
 }
 
-// The keyword that a word is, and whether the word is the Polish edition's own or the English one's.
-#[derive(Clone, Copy)]
+// The editions that have a word.
+#[derive(Clone, Copy, Debug, PartialEq, Eq)]
+pub enum Edition {
+    Polish,
+    English,
+    Both,
+}
+
+// The keyword that a word is, and the editions that have the word.
+#[derive(Clone, Copy, Debug, PartialEq, Eq)]
 pub struct Known {
     pub keyword: Keyword,
-    pub polish: bool,
-    pub english: bool,
+    pub edition: Edition,
+}
+
+impl Known {
+    // Whether the word is the English edition's own, or the Polish one's.
+    pub fn is_own(self, english: bool) -> bool
+        ensures { result ≡ is_own english (Some self) }
+    {
+        match self.edition {
+            Edition::Polish => !english,
+            Edition::English => english,
+            Edition::Both => false,
+        }
+    }
 }
 
 fn all_continue(w: &[u8]) -> bool
@@ -159,37 +169,32 @@ fn size_of(s: &[u8]) -> usize
     n
 }
 
-fn plus(n: usize) -> Numeral
-    ensures { result ≡ plus n }
+// The code of a number by its size and sign.
+#[tactic(auto, unfolding(crate::specs::Words::coded))]
+fn coded(n: usize, negative: bool) -> Option<u32>
+    ensures { result ≡ coded n negative }
 {
-    if n <= Machine::SIZE {
-        return Numeral::Code((Machine::SIZE + n) as u32);
+    if Machine::SIZE < n {
+        return None;
     }
-    Numeral::Not
+    if negative {
+        return Some((Machine::SIZE - n) as u32);
+    }
+    Some((Machine::SIZE + n) as u32)
 }
 
-fn minus(n: usize) -> Numeral
-    ensures { result ≡ minus n }
-{
-    if n <= Machine::SIZE {
-        return Numeral::Code((Machine::SIZE - n) as u32);
-    }
-    Numeral::Not
-}
-
-pub fn number_of(w: &[u8]) -> Numeral
+// The code of a number in range, as the table of a program has it: its value + 8,388,607.
+pub fn number_of(w: &[u8]) -> Option<u32>
     ensures { result ≡ numeral_of w.now }
 {
-    let Some((sign, digits)) = w.split_first() else {
-        return Numeral::Not;
-    };
+    let (sign, digits) = w.split_first()?;
     if *sign == b'-' {
-        return minus(size_of(digits));
+        return coded(size_of(digits), true);
     }
     if *sign == b'+' {
-        return plus(size_of(digits));
+        return coded(size_of(digits), false);
     }
-    plus(size_of(w))
+    coded(size_of(w), false)
 }
 
 // The place of a letter of arguments among the twelve; 12 for another byte, which no index reaches: an Option would be asked once, in `indexed`.
@@ -226,29 +231,32 @@ fn reach(place: u8) -> usize
     Machine::EXPRESSIONS
 }
 
-pub fn indexed(w: &[u8]) -> Lettered
+pub fn indexed(w: &[u8]) -> Option<Lettered>
     ensures { result ≡ indexed_of w.now }
 {
     if w.len() < 2 {
-        return Lettered::Not;
+        return None;
     }
     let place = letter_at(w[0]);
     if 11 < place {
-        return Lettered::Not;
+        return None;
     }
     if w[1] <= b'0' {
-        return Lettered::Not;
+        return None;
     }
     let n = size_of(&w[1..]);
     if reach(place) < n {
-        return Lettered::Not;
+        return None;
     }
-    Lettered::At(place, n as u8)
+    Some(Lettered {
+        place,
+        index: n as u8,
+    })
 }
 
 // The words of an edition, lent with what finds them.
 #[derive(Clone, Copy)]
-struct Edition<'a> {
+struct Lexicon<'a> {
     english: bool,
     row: &'a [u8],
     starts: &'a [u8],
@@ -256,19 +264,19 @@ struct Edition<'a> {
     ghost lent: { Lent english row.now starts.now slots.now },
 }
 
-impl<'a> Edition<'a> {
+impl<'a> Lexicon<'a> {
     fn of(english: bool) -> Self
         ensures { result.english ≡ english }
     {
         if english {
-            return Edition {
+            return Lexicon {
                 english,
                 row: &ENGLISH,
                 starts: &ENGLISH_STARTS,
                 slots: &ENGLISH_SLOTS,
             };
         }
-        Edition {
+        Lexicon {
             english,
             row: &POLISH,
             starts: &POLISH_STARTS,
@@ -330,7 +338,7 @@ impl<'a> Edition<'a> {
 // The keyword whose words have place j.
 fn keyword_at(j: u8) -> Keyword
     requires { j < 46 }
-    ensures { result ≡ keyword_at j }
+    ensures { Some result ≡ keyword_at j }
 {
     match j {
         0 => Keyword::Sekcja,
@@ -338,61 +346,57 @@ fn keyword_at(j: u8) -> Keyword
         2 => Keyword::Konp,
         3 => Keyword::Switch(false),
         4 => Keyword::Switch(true),
-        _ => Keyword::Instr(j - 4),
+        _ => Keyword::Instr(Operator::try_from(j - 4).unwrap()),
     }
 }
 
-// KONP and STOP, the words of both editions.
-fn is_shared(j: u8) -> bool
-    ensures { result ≡ shared j }
+// The editions that have the Polish word at place j: both have KONP and STOP.
+fn edition_at(j: u8) -> Edition
+    ensures { result ≡ edition_at j }
 {
-    (j == 2) | (j == 45)
+    if (j == 2) | (j == 45) {
+        Edition::Both
+    } else {
+        Edition::Polish
+    }
 }
 
-pub fn keyword_of(w: &[u8]) -> Known
+// What is known of a word, if it is a keyword of either edition.
+pub fn keyword_of(w: &[u8]) -> Option<Known>
     ensures { result ≡ known w.now }
 {
-    if let Some(j) = Edition::of(false).place(w) {
-        return Known {
+    if let Some(j) = Lexicon::of(false).place(w) {
+        return Some(Known {
             keyword: keyword_at(j),
-            polish: !is_shared(j),
-            english: false,
-        };
+            edition: edition_at(j),
+        });
     }
-    if let Some(k) = Edition::of(true).place(w) {
-        return Known {
-            keyword: keyword_at(k),
-            polish: false,
-            english: true,
-        };
-    }
-    Known {
-        keyword: Keyword::Unknown,
-        polish: false,
-        english: false,
-    }
+    let k = Lexicon::of(true).place(w)?;
+    Some(Known {
+        keyword: keyword_at(k),
+        edition: Edition::English,
+    })
 }
 
 // Whether a word is a keyword of either edition.
 pub fn is_reserved(w: &[u8]) -> bool
     ensures { result ≡ reserved w.now }
 {
-    if Edition::of(false).place(w).is_some() {
+    if Lexicon::of(false).place(w).is_some() {
         return true;
     }
-    Edition::of(true).place(w).is_some()
+    Lexicon::of(true).place(w).is_some()
 }
 
 // Appends what a word is in the other edition: the word that has its place there. A word of no edition is itself.
-pub fn append_other(w: &[u8], out: &mut [u8], at: usize) -> usize
-    requires { length out.old < 4294967296 }
+pub fn append_other(w: &[u8], out: &mut [u8], at: usize) -> Option<usize>
     ensures { Appends out.old at (other_word w.now) result out.new }
 {
-    if let Some(j) = Edition::of(false).place(w) {
-        return append(out, at, Edition::of(true).word(j));
+    if let Some(j) = Lexicon::of(false).place(w) {
+        return append(out, at, Lexicon::of(true).word(j));
     }
-    if let Some(k) = Edition::of(true).place(w) {
-        return append(out, at, Edition::of(false).word(k));
+    if let Some(k) = Lexicon::of(true).place(w) {
+        return append(out, at, Lexicon::of(false).word(k));
     }
     append(out, at, w)
 }

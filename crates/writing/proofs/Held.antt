@@ -11,7 +11,7 @@ use Rattle.blocks.proofs.Below.CellsLaws.{length-pasted}
 use Rattle.blocks.specs.Below.Cells.{pasted}
 use Rattle.blocks.specs.Below.Program.{Label, Program}
 use Rattle.blocks.specs.Below.LayoutBounds.{Below}
-use Rattle.blocks.specs.Below.LayoutCells.{cell, code}
+use Rattle.blocks.specs.Below.LayoutCells.{cell}
 use Rattle.blocks.specs.Below.Table.{instr_cells, label_cells, text_cells, all_entries, table_cells}
 use Rattle.blocks.specs.Below.LayoutPlaces as layout
 use Rattle.table.specs.Below.Packed.{table_of}

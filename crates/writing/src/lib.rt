@@ -2,7 +2,7 @@
 // docs/LAYOUT.md has their places. A text or a number goes to its table before the argument that refers to it.
 #![tactic(auto)]
 
-ghost use Rattle.std.specs.Prelude.{◌≤◌, length};
+ghost use Rattle.std.specs.Prelude.{◌≤◌, length, get_or};
 ghost use Rattle.writing.specs.Writing.{with_text, with_number, with_label, with_instr, with_switch, with_entry, with_argument, with_entry_label, label_of, Cleared, Changes, Writes, Room, WordRoom, LabelRoom, InstrRoom, SwitchRoom, EntryRoom, ArgumentAt, EntryAt, IsNumber, IsInstr, IsEntry, IsArg};
 ghost use Rattle.blocks.specs.Below.Limits as limit;
 ghost use Rattle.blocks.specs.Below.LayoutPlaces.{text_count, number_count};
@@ -10,6 +10,7 @@ ghost use Rattle.blocks.specs.Below.LayoutPlaces.{text_count, number_count};
 use blocks::from_cells;
 use blocks::from_language::Machine;
 use blocks::from_layout::TablePlaces;
+use table::Table;
 
 // Sets all cells to 0, which is the empty program.
 pub fn clear_table(table: &mut [u32])
@@ -25,7 +26,7 @@ pub fn put_text(table: &mut [u32], word: &[u8])
     requires { WordRoom table.old text_count limit.texts (length word.now) }
     ensures { Changes (with_text word.now) table.old table.new }
 {
-    let n = table::texts(table);
+    let n = Table { cells: table }.texts();
     blocks::put_named(table, TablePlaces::FIRST_TEXT + 16 * n, word.len(), word);
     from_cells::write(table, TablePlaces::TEXT_COUNT, n + 1);
 }
@@ -35,7 +36,7 @@ pub fn put_number(table: &mut [u32], code: u32)
     requires { Room table.old number_count limit.numbers }
     ensures { Writes (IsNumber code) with_number table.old table.new }
 {
-    let n = table::numbers(table);
+    let n = Table { cells: table }.numbers();
     table[TablePlaces::FIRST_NUMBER + n] = code;
     from_cells::write(table, TablePlaces::NUMBER_COUNT, n + 1);
 }
@@ -45,7 +46,7 @@ pub fn put_label(table: &mut [u32], name: &[u8], target: usize)
     requires { LabelRoom table.old (length name.now) target }
     ensures { Changes (with_label (label_of name.now target)) table.old table.new }
 {
-    let n = table::labels(table);
+    let n = Table { cells: table }.labels();
     blocks::put_named(
         table,
         TablePlaces::FIRST_LABEL + 16 * n,
@@ -56,11 +57,12 @@ pub fn put_label(table: &mut [u32], name: &[u8], target: usize)
 }
 
 // Adds an instruction: its operator's number, its line, and the cells of its three arguments.
-pub fn put_instruction(table: &mut [u32], op: usize, line: usize, x: usize, y: usize, z: usize)
-    requires { InstrRoom table.old op line x y z }
-    ensures { Writes (IsInstr op line x y z) with_instr table.old table.new }
+pub fn put_instruction(table: &mut [u32], op: usize, line: usize, arguments: [usize; 3])
+    requires { InstrRoom table.old op line (get_or arguments 0 0) (get_or arguments 1 0) (get_or arguments 2 0) }
+    ensures { Writes (IsInstr op line (get_or arguments 0 0) (get_or arguments 1 0) (get_or arguments 2 0)) with_instr table.old table.new }
 {
-    let n = table::instructions(table);
+    let [x, y, z] = arguments;
+    let n = Table { cells: table }.instructions();
     blocks::put_four(
         table,
         TablePlaces::FIRST_INSTRUCTION + 4 * n,
@@ -77,8 +79,8 @@ pub fn put_switch(table: &mut [u32], named: bool)
     requires { SwitchRoom table.old }
     ensures { Changes (with_switch named) table.old table.new }
 {
-    let n = table::switches(table);
-    let first = table::entries(table);
+    let n = Table { cells: table }.switches();
+    let first = Table { cells: table }.entries();
     from_cells::write(
         table,
         TablePlaces::FIRST_SWITCH + n,
@@ -92,8 +94,8 @@ pub fn put_entry(table: &mut [u32], label: usize, text: usize)
     requires { EntryRoom table.old label text }
     ensures { Writes (IsEntry label text) with_entry table.old table.new }
 {
-    let n = table::entries(table);
-    let last = TablePlaces::FIRST_SWITCH - 1 + table::switches(table);
+    let n = Table { cells: table }.entries();
+    let last = TablePlaces::FIRST_SWITCH - 1 + Table { cells: table }.switches();
     let switch = from_cells::read(table, last);
     from_cells::write(table, TablePlaces::FIRST_ENTRY + n, label + 128 * text);
     from_cells::write(table, last, switch + 2);
@@ -113,6 +115,6 @@ pub fn set_entry_label(table: &mut [u32], k: usize, label: usize)
     requires { EntryAt table.old k label }
     ensures { Changes (with_entry_label k label) table.old table.new }
 {
-    let text = table::entry_text(table, k);
+    let text = from_cells::read(table, TablePlaces::FIRST_ENTRY + k) / 128;
     from_cells::write(table, TablePlaces::FIRST_ENTRY + k, label + 128 * text);
 }

@@ -1,12 +1,16 @@
 -- `argument_cells::argument_cell` meets its contract.
-use Rattle.argument_cells.proofs.Arguing.{referable, encodable, cell_of}
+use native.Mathlib.Omega.{arith}
+use Rattle.argument_cells.proofs.Arguing.{numbers-counted, text-asked, nothing-cell, text-cell}
 use Rattle.argument_cells.proofs.argument_cell.Goals as goal
 
-pub referred-requires : goal.referred-requires
-referred-requires c = referable c.requires
+pub returns-in-Nothing : goal.returns-in-Nothing
+returns-in-Nothing c = nothing-cell c.in-Nothing.is
 
-pub encode-requires : goal.encode-requires
-encode-requires c = encodable c.requires c.referred.ensures
+pub cell-requires-in-Text : goal.cell-requires-in-Text
+cell-requires-in-Text c = let t = text-asked c.requires c.in-Text.is in omega (arith, (c.text_of.ensures t.chars t.names).most)
 
-pub returns : goal.returns
-returns c = cell_of c.referred.ensures c.encode.ensures
+pub number_ref-requires : goal.number_ref-requires
+number_ref-requires c = numbers-counted c.requires.held
+
+pub returns-in-Text : goal.returns-in-Text
+returns-in-Text c = text-cell c.in-Text.is c.text_of.ensures c.cell-in-Text.ensures.0

@@ -3,10 +3,10 @@ use borrow.Author.Tests.{lt-ltb, le-ltb}
 use Rattle.arguments.specs.Arguments.{missing_or}
 use Rattle.arguments.proofs.missing_or.Goals as goal
 
-pub returns-then-count-wide : goal.returns-then-count-wide
+pub returns-then-count-from : goal.returns-then-count-from
 unfolding missing_or
-returns-then-count-wide c = rw (← c.least.ensures.0, ← c.wide.ensures.is, lt-ltb _ _ c.if-count-wide.true)
+returns-then-count-from c = rw (← c.least.ensures.0, ← c.from.ensures, lt-ltb _ _ c.if-count-from.true)
 
-pub returns-else-count-wide : goal.returns-else-count-wide
+pub returns-else-count-from : goal.returns-else-count-from
 unfolding missing_or
-returns-else-count-wide c = rw (← c.least.ensures.0, ← c.wide.ensures.is, le-ltb _ _ c.if-count-wide.false)
+returns-else-count-from c = rw (← c.least.ensures.0, ← c.from.ensures, le-ltb _ _ c.if-count-from.false)

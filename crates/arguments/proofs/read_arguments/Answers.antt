@@ -6,7 +6,7 @@ use mathlib.Core.List.{[], ◌∷◌}
 use Rattle.arguments.specs.declared.Value.{Value}
 use mathlib.Core.Path.{refl, sym, ap, ◌∙◌}
 use native.Mathlib.Omega.{arith}
-use Rattle.arguments.specs.ArgumentLaws.{turned, taken-some, taken-none, colon-here, unlisted-here, colon-after-argument}
+use Rattle.arguments.specs.ArgumentLaws.{turned, ok-accepted, no_colon-accepted, err-accepted}
 use Rattle.arguments.specs.Arguments.{missing_or}
 use Rattle.forms.specs.Reading.{taken_at}
 use Rattle.arguments.specs.LeftLaws.{place-low}
@@ -25,40 +25,21 @@ next_item-u-requires c = c.loop-live.invariant.passing.within.most
 pub returns-then-stops : goal.returns-then-stops
 returns-then-stops c =
     all_read c.requires c.loop-live.invariant c.next_item-u.ensures (sym c.stops.ensures ∙ c.if-stops.true)
-    (c.missing_or.ensures ∙ ap (λ (k : ℕ). missing_or c.args.op c.args.t.at k None) c.wide.ensures.is) c.following.ensures
-
-pub refuse-requires : goal.refuse-requires
-refuse-requires c = refusable c.requires c.loop-live.invariant
-
-pub returns-then-u-eq-COLON : goal.returns-then-u-eq-COLON
-returns-then-u-eq-COLON c = let l = c.loop-live in
-    let here = sym c.stops.ensures ∙ c.if-stops.false in
-    refused c.requires l.invariant (λ o h. colon-here o l.live l.place c.next_item-u.ensures here c.if-u-eq-COLON.true) c.refuse.ensures
+    (c.missing_or.ensures ∙ ap (λ (k : ℕ). missing_or c.args.op c.args.t.at k None) c.from.ensures) c.following.ensures
 
 pub item_kind-k-requires : goal.item_kind-k-requires
 item_kind-k-requires c = record { stands = c.next_item-u.ensures.stands; low = c.requires.low }
 
-pub refuse-requires-in_default : goal.refuse-requires-in_default
-refuse-requires-in_default c = refusable c.requires c.loop-live.invariant
+pub refuse-requires : goal.refuse-requires
+refuse-requires c = refusable c.requires c.loop-live.invariant
 
-pub returns-in_default : goal.returns-in_default
-returns-in_default c = let l = c.loop-live in
+pub returns-in-Err : goal.returns-in-Err
+returns-in-Err c = let l = c.loop-live in
     let here = sym c.stops.ensures ∙ c.if-stops.false in
-    let a = taken_at c.args.op l.live l.place c.item_kind-k.result.set in
+    let a = taken_at c.args.op l.live l.place c.item_kind-k.result.set.bits in
     refused c.requires l.invariant
-    (λ o h. unlisted-here o l.live l.place c.next_item-u.ensures here c.if-u-eq-COLON.false a (turned l.live l.place refl c.item_kind-k.ensures.set_is o h) (taken-none _ c.in_default.ensures))
-    c.refuse-in_default.ensures
-
-pub refuse-requires-then-u-ne0 : goal.refuse-requires-then-u-ne0
-refuse-requires-then-u-ne0 c = refusable c.requires c.loop-live.invariant
-
-pub returns-then-u-ne0 : goal.returns-then-u-ne0
-returns-then-u-ne0 c = let l = c.loop-live in
-    let here = sym c.stops.ensures ∙ c.if-stops.false in
-    let a = taken-some _ c.in-Some.ensures in
-    refused c.requires l.invariant
-    (λ o h. colon-after-argument o l.live l.place c.next_item-u.ensures here c.if-u-eq-COLON.false c.in-Some.a (turned l.live l.place a.0 c.item_kind-k.ensures.set_is o h) a.1 c.if-u-ne0.true)
-    c.refuse-then-u-ne0.ensures
+    (λ o h. err-accepted o l.live l.place c.next_item-u.ensures here a (turned l.live l.place refl c.item_kind-k.ensures.set_is o h) _ refl c.in-Err.ensures)
+    c.refuse.ensures
 
 pub value_by-requires : goal.value_by-requires
 value_by-requires c = mark-low (record { stands = c.next_item-u.ensures.stands; low = c.requires.low })
@@ -66,9 +47,10 @@ value_by-requires c = mark-low (record { stands = c.next_item-u.ensures.stands; 
 pub bounds-values-from : goal.bounds-values-from
 bounds-values-from c =
     let here = sym c.stops.ensures ∙ c.if-stops.false in
-    let a = taken-some _ c.in-Some.ensures in
-    let l : c.loop-live.place < 3 = placed c.loop-live.invariant c.next_item-u.ensures here c.if-u-eq-COLON.false a.0 c.item_kind-k.ensures.set_is a.1 (operator_of c.args.op) c.requires.numbered in
-    omega (arith, c.from.ensures, l)
+    let a = ok-accepted _ _ _ c.in-Ok.ensures in
+    let b = no_colon-accepted _ _ _ c.in-Ok.ensures in
+    let l : c.loop-live.place < 3 = placed c.loop-live.invariant c.next_item-u.ensures here b a.is c.item_kind-k.ensures.set_is a.some (operator_of c.args.op) c.requires.numbered in
+    omega (arith, c.from-in-loop-live.ensures, l)
 
 pub overflow_add-place : goal.overflow_add-place
 overflow_add-place c = omega (arith, c.loop-live.invariant.few)
@@ -87,7 +69,8 @@ loop-live-preserved c =
     let here = sym c.stops.ensures ∙ c.if-stops.false in
     let kind = c.item_kind-k.ensures in
     let o = operator_of c.args.op in
-    let a = taken-some _ c.in-Some.ensures in
-    let reads = reads_so c.loop-live.invariant k here c.if-u-eq-COLON.false a.0 kind.set_is a.1 o c.requires.numbered in
-    gathering-on c.loop-live.invariant k here c.if-u-eq-COLON.false a.0 kind.set_is a.1 o c.requires.numbered c.if-u-ne0.false refl
-    (value-stood (record { stands = k.stands; low = c.requires.low }) kind reads c.value_by.ensures) c.from.ensures refl c.worse-low.ensures
+    let a = ok-accepted _ _ _ c.in-Ok.ensures in
+    let b = no_colon-accepted _ _ _ c.in-Ok.ensures in
+    let reads = reads_so c.loop-live.invariant k here b a.is kind.set_is a.some o c.requires.numbered in
+    gathering-on c.loop-live.invariant k here b a.is kind.set_is a.some o c.requires.numbered a.bare refl
+    (value-stood (record { stands = k.stands; low = c.requires.low }) kind reads c.value_by.ensures) c.from-in-loop-live.ensures refl c.worse-low.ensures

@@ -4,6 +4,7 @@ use mathlib.Core.Path.{sym, ap, ◌∙◌}
 use Prim.Native.Nat.{◌+◌}
 use native.Mathlib.Omega.{arith}
 use Rattle.arguments.specs.LeftLaws.{leaving-first, left_end, leaving-on, place-low}
+use mathlib.Core.Bool.{cond, not}
 use Rattle.scanner.proofs.Loops.{byte-is}
 use Rattle.arguments.proofs.read_left.Goals as goal
 
@@ -27,5 +28,5 @@ loop-t-smaller c =
 pub loop-t-preserved : goal.loop-t-preserved
 loop-t-preserved c =
     let l = c.loop-t in
-    leaving-on l.invariant c.next_item-t.ensures (sym c.stops.ensures ∙ c.if-stops.false) c.with_excess-over.ensures
-    (ap (λ x. l.count + x) (c.from-count.ensures ∙ byte-is _)) c.worse-low.ensures
+    leaving-on l.invariant c.next_item-t.ensures (sym c.stops.ensures ∙ c.if-stops.false) (rw c.is-argument.ensures at c.with_excess-over.ensures)
+    (ap (λ x. l.count + x) (c.from-count.ensures ∙ byte-is _ ∙ ap (λ b. cond (not b) 1 0) c.is-argument.ensures)) c.worse-low.ensures

@@ -8,4 +8,4 @@ use Rattle.writing.proofs.Held.{code_count}
 use Rattle.declaring.proofs.instruction_beyond.Goals as goal
 
 pub returns : goal.returns
-returns c = λ p h. c.in_excess.ensures ∙ ap (λ (n : ℕ). fault_of (beyond 512 n (c.args.at ∷ []))) (c.instructions.ensures.is ∙ code_count c.args.table.now p h)
+returns c = λ p h. c.in_excess.ensures ∙ ap (λ (n : ℕ). fault_of (beyond 512 n (c.args.at ∷ []))) (c.instructions.ensures.is ∙ code_count c.args.table.cells.now p h)

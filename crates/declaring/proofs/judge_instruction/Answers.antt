@@ -2,9 +2,6 @@
 use Rattle.declaring.proofs.Judging.{numbers-enterable, judged, judged-by}
 use Rattle.declaring.proofs.judge_instruction.Goals as goal
 
-pub instruction_beyond-a-requires : goal.instruction_beyond-a-requires
-instruction_beyond-a-requires c = c.requires.held.holds.long
-
 pub labels_beyond-b-requires : goal.labels_beyond-b-requires
 labels_beyond-b-requires c = c.requires.held
 

@@ -3,9 +3,6 @@ use native.Mathlib.Omega.{arith}
 use Rattle.declaring_switches.proofs.Texts.{judged-switch}
 use Rattle.declaring_switches.proofs.judge_switch.Goals as goal
 
-pub switch_beyond-a-requires : goal.switch_beyond-a-requires
-switch_beyond-a-requires c = c.requires.held.holds.long
-
 pub enter_texts-b-requires : goal.enter_texts-b-requires
 enter_texts-b-requires c = c.requires
 

@@ -8,4 +8,4 @@ use Rattle.writing.proofs.Held.{switch_count}
 use Rattle.declaring_switches.proofs.switch_beyond.Goals as goal
 
 pub returns : goal.returns
-returns c = λ p h. c.in_excess.ensures ∙ ap (λ (n : ℕ). fault_of (beyond 32 n (c.args.at ∷ []))) (c.switches.ensures.is ∙ switch_count c.args.table.now p h)
+returns c = λ p h. c.in_excess.ensures ∙ ap (λ (n : ℕ). fault_of (beyond 32 n (c.args.at ∷ []))) (c.switches.ensures.is ∙ switch_count c.args.table.cells.now p h)

@@ -2,9 +2,6 @@
 use Rattle.declaring_switches.proofs.Switches.{room-for-switch, switch-index, listing, switch-written}
 use Rattle.declaring_switches.proofs.write_switch.Goals as goal
 
-pub switches-n-requires : goal.switches-n-requires
-switches-n-requires c = c.requires.held.holds.long
-
 pub put_switch-requires : goal.put_switch-requires
 put_switch-requires c = room-for-switch c.requires
 

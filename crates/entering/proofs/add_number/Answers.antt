@@ -8,11 +8,11 @@ use Rattle.entering.specs.Entering.{set_numbers}
 use Rattle.entering.proofs.Adding.{numbers-laws, adds-known, adds_none, adds-new}
 use Rattle.entering.proofs.add_number.Goals as goal
 
-pub numbers-requires : goal.numbers-requires
-numbers-requires c = c.requires.holds.long
+pub invariant_of-draft : goal.invariant_of-draft
+invariant_of-draft c = record { long = c.requires.holds.long }
 
 pub find_number-requires : goal.find_number-requires
-find_number-requires c = record { long = c.requires.holds.long; most = omega (arith, number_count c.args.table.now c.requires.program c.requires.holds, c.requires.holds.tabular.numbers_most) }
+find_number-requires c = record { most = omega (arith, number_count c.args.table.now c.requires.program c.requires.holds, c.requires.holds.tabular.numbers_most) }
 
 pub returns-then-is_some : goal.returns-then-is_some
 returns-then-is_some c = λ z i. adds-known same_number (λ y. y.numbers) set_numbers numbers-laws z (λ y g. c.find_number.ensures.is z y g (record { is = i.is; small = i.small })) (sym c.is_some.ensures ∙ c.if-is_some.true)

@@ -8,11 +8,11 @@ use Rattle.entering.specs.Entering.{set_texts}
 use Rattle.entering.proofs.Adding.{texts-laws, adds-known, adds_none, adds-new}
 use Rattle.entering.proofs.add_text.Goals as goal
 
-pub texts-requires : goal.texts-requires
-texts-requires c = c.requires.held.holds.long
+pub invariant_of-draft : goal.invariant_of-draft
+invariant_of-draft c = record { long = c.requires.held.holds.long }
 
 pub find_text-requires : goal.find_text-requires
-find_text-requires c = record { long = c.requires.held.holds.long; most = omega (arith, text_count c.args.table.now c.requires.held.program c.requires.held.holds, c.requires.held.holds.tabular.texts_most) }
+find_text-requires c = record { most = omega (arith, text_count c.args.table.now c.requires.held.program c.requires.held.holds, c.requires.held.holds.tabular.texts_most) }
 
 pub returns-then-is_some : goal.returns-then-is_some
 returns-then-is_some c = adds-known bytes_equal (λ p. p.texts) set_texts texts-laws c.args.word.now c.find_text.ensures.is (sym c.is_some.ensures ∙ c.if-is_some.true)

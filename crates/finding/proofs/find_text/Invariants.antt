@@ -3,4 +3,4 @@ use Rattle.finding.proofs.Found.{Missed, text_hit}
 use Rattle.finding.proofs.find_text.Given as goal
 
 abbrev pub invariant-loop-k : goal.invariant-loop-k
-invariant-loop-k l = Missed (text_hit l.table l.word) l.k
+invariant-loop-k l = Missed (text_hit l.table.cells.now l.word) l.k

@@ -1,13 +1,17 @@
 -- `headings::is_named` meets its contract.
 use mathlib.Core.Path.{sym, ap, ◌∙◌}
-use Rattle.heads.specs.Below.DraftsMarks.{word_by}
 use Rattle.lists.specs.Lists.{bytes_equal}
 use Rattle.heads.specs.HeadLaws.{word-passes}
 use Rattle.lexer.specs.Tokens.{word_of}
-use Rattle.headings.specs.HeadingLaws.{name-part}
+use Rattle.headings.specs.Headings.{name_by, right_first}
 use Rattle.headings.proofs.is_named.Goals as goal
 
-pub returns-then-t-eq-WORD : goal.returns-then-t-eq-WORD
-returns-then-t-eq-WORD c =
+pub returns-then-is : goal.returns-then-is
+returns-then-is c =
     let s = c.args.text.now in
-    c.eq.ensures ∙ ap (λ w. bytes_equal w (word_of s c.args.t)) (name-part s c.args.m) ∙ sym (word-passes c.requires.stands c.if-t-eq-WORD.true (bytes_equal (word_by s c.args.m)))
+    let t = c.in-Some.t in
+    let q = bytes_equal (name_by s c.args.mark) in
+    c.eq.ensures
+    ∙ ap (λ w. bytes_equal w (word_of s t)) c.name_of.ensures
+    ∙ sym (word-passes s t (sym c.is.ensures ∙ c.if-is.true) q)
+    ∙ ap (right_first s q) (sym c.in-Some.is)

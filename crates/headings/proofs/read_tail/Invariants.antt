@@ -4,8 +4,8 @@ use lib.ListN.{length}
 use Rattle.headings.specs.HeadingLaws.{Reading}
 use Rattle.headings.proofs.read_tail.Given as goal
 
-abbrev pub invariant-loop-t : goal.invariant-loop-t
-invariant-loop-t l = Reading l.text l.first l.worst l.more l.w l.i
+abbrev pub invariant-loop-first : goal.invariant-loop-first
+invariant-loop-first l = Reading l.text l.first l.worst l.more l.w l.i
 
-abbrev pub decreases-loop-t : goal.decreases-loop-t
-decreases-loop-t l = length l.text - l.i
+abbrev pub decreases-loop-first : goal.decreases-loop-first
+decreases-loop-first l = length l.text - l.i

@@ -4,5 +4,5 @@ use Rattle.language.specs.Program.{identifier}
 use Rattle.heads.specs.HeadLaws.{word-passes}
 use Rattle.heads.proofs.is_name.Goals as goal
 
-pub returns-then-t-eq-WORD : goal.returns-then-t-eq-WORD
-returns-then-t-eq-WORD c = c.identifier.ensures ∙ sym (word-passes (c.requires) c.if-t-eq-WORD.true identifier)
+pub returns-then-is : goal.returns-then-is
+returns-then-is c = c.identifier.ensures ∙ sym (word-passes c.args.text.now c.args.t (sym c.is.ensures ∙ c.if-is.true) identifier)

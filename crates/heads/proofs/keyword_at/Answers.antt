@@ -1,10 +1,10 @@
 -- `heads::keyword_at` meets its contract.
-use mathlib.Core.Path.{◌∙◌}
+use mathlib.Core.Path.{sym, ◌∙◌}
 use Rattle.heads.specs.HeadLaws.{word-known, other-known}
 use Rattle.heads.proofs.keyword_at.Goals as goal
 
-pub returns-then-t-eq-WORD : goal.returns-then-t-eq-WORD
-returns-then-t-eq-WORD c = c.keyword_of.ensures ∙ word-known c.requires c.if-t-eq-WORD.true
+pub returns-then-is : goal.returns-then-is
+returns-then-is c = c.keyword_of.ensures ∙ word-known c.args.text.now c.args.t (sym c.is.ensures ∙ c.if-is.true)
 
 pub returns : goal.returns
-returns c = other-known c.requires c.if-t-eq-WORD.false
+returns c = other-known c.args.text.now c.args.t (sym c.is.ensures ∙ c.if-is.false)

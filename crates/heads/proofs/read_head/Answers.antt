@@ -2,7 +2,7 @@
 use mathlib.Core.Path.{sym, ap, ◌∙◌}
 use Prim.Native.Nat.{◌+◌}
 use native.Mathlib.Omega.{arith}
-use lib.Dec.{eqb}
+use mathlib.Core.Bool.{Bool, cond}
 use Rattle.statements.specs.Faults.{lower}
 use Rattle.heads.specs.HeadLaws.{one_at_most}
 use Rattle.heads.proofs.Reading.{reading-first, movable, place-low, length-low, none_read, head_read, still-reading, goes_on, room-left}
@@ -22,7 +22,6 @@ pub returns-then-stops : goal.returns-then-stops
 returns-then-stops c =
     let z = sym c.stops.ensures ∙ c.if-stops.true in
     none_read c.loop-t.invariant c.next_item-t.ensures c.moved-o.ensures c.pick-first.ensures z
-    c.without_operator.ensures
 
 pub worse-worst-requires : goal.worse-worst-requires
 worse-worst-requires c = omega (arith, place-low c.loop-t.invariant c.next_item-t.ensures c.moved-o.ensures)
@@ -31,7 +30,7 @@ pub returns-then-is_operator : goal.returns-then-is_operator
 returns-then-is_operator c =
     let z = sym c.stops.ensures ∙ c.if-stops.false in
     head_read c.loop-t.invariant c.next_item-t.ensures c.moved-o.ensures c.pick-first.ensures z
-    c.worse-worst.ensures (sym c.is_operator.ensures ∙ c.if-is_operator.true) c.keyword_at-k.ensures
+    c.worse-worst.ensures (sym c.is_operator.ensures ∙ c.if-is_operator.true) c.keyword_at.ensures
 
 pub mark-requires : goal.mark-requires
 mark-requires c =
@@ -49,7 +48,7 @@ bounds-names-c c =
     room-left c.loop-t.invariant c.next_item-t.ensures c.moved-o.ensures z
 
 pub overflow_add-c : goal.overflow_add-c
-overflow_add-c c = omega (arith, c.loop-t.invariant, one_at_most (eqb 1 c.moved-o.result.sort) (c.from-c.ensures ∙ byte-is _))
+overflow_add-c c = omega (arith, c.loop-t.invariant, one_at_most c.is.result (c.from-c.ensures ∙ byte-is _))
 
 pub loop-t-smaller : goal.loop-t-smaller
 loop-t-smaller c =
@@ -67,4 +66,4 @@ loop-t-preserved c =
     let w = c.worse-worst.ensures in
     let y = sym c.is_operator.ensures ∙ c.if-is_operator.false in
     let e = c.lower-fault.ensures ∙ ap (lower c.loop-t.fault) c.name_fault.ensures in
-    still-reading u k g f z w y e c.mark.ensures (ap (λ m. c.loop-t.c + m) (c.from-c.ensures ∙ byte-is _))
+    still-reading u k g f z w y e c.mark.ensures (ap (λ m. c.loop-t.c + m) (c.from-c.ensures ∙ byte-is _ ∙ ap (λ (b : Bool). cond b 1 0) c.is.ensures))

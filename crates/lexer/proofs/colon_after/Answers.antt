@@ -5,7 +5,7 @@ use Rattle.scanner.proofs.Loops.{one_at}
 use Rattle.lexer.proofs.colon_after.Goals as goal
 
 pub returns-in-Ok : goal.returns-in-Ok
-returns-in-Ok c = colon-here c.in-Ok.ensures c.requires.0 refl (one_at c.args.text.now c.in-Ok.at 57 c.starts_with.ensures.value c.if-starts_with.true)
+returns-in-Ok c = colon-here c.in-Ok.ensures refl (one_at c.args.text.now c.in-Ok.at 57 c.starts_with.ensures.value c.if-starts_with.true)
 
 pub returns-in-Ok-2 : goal.returns-in-Ok-2
 returns-in-Ok-2 c =

@@ -1,7 +1,7 @@
 -- `lexer::item_at` meets its contract.
-use Rattle.std.proofs.Common.{refl, arith, get_or}
-use Rattle.scanner.specs.Below.Items.{sort_of}
-use Rattle.lexer.proofs.Finding.{of_number, mark-begins, open-found, end-found, item-found}
+use Rattle.std.proofs.Common.{◌≡◌, refl, sym, ap, ◌∙◌, Some, None, false, rules}
+use Rattle.scanner.specs.Sorts.{sort_in}
+use Rattle.lexer.proofs.Finding.{is_spelled, other-begins, open-found, end-found, item-found}
 use Rattle.lexer.proofs.item_at.Goals as goal
 
 pub returns-in-Err : goal.returns-in-Err
@@ -10,16 +10,19 @@ returns-in-Err c = rw c.mark.ensures (open-found c.in-Err.ensures refl)
 pub returns-then-text-at : goal.returns-then-text-at
 returns-then-text-at c = rw c.mark-then-text-at.ensures (end-found c.in-Ok.ensures refl c.if-text-at.true)
 
-pub returns-in-1 : goal.returns-in-1
-returns-in-1 c = item-found c.in-Ok.ensures refl c.if-text-at.false (of_number c.sort_of.ensures c.in-1.is) c.word_at.ensures
-
-pub returns-in-4 : goal.returns-in-4
-returns-in-4 c = item-found c.in-Ok.ensures refl c.if-text-at.false (of_number c.sort_of.ensures c.in-4.is) c.text_at.ensures
-
 pub returns-in_default : goal.returns-in_default
 returns-in_default c =
-    let s = c.args.text.now in
-    let at = c.in-Ok.at in
-    let k = sort_of (get_or s at 0) in
-    let it = mark-begins k s at c.if-text-at.false (λ q. omega (arith, q, c.sort_of.ensures)) (λ q. omega (arith, q, c.sort_of.ensures)) in
-    rw (c.mark-in_default.ensures, c.sort_of.ensures) (item-found c.in-Ok.ensures refl c.if-text-at.false refl it)
+    rw c.mark-in_default.ensures
+    (item-found c.in-Ok.ensures refl c.if-text-at.false (sym c.sort_of.ensures ∙ ap sort_in c.in_default.is) (other-begins None c.args.text.now c.in-Ok.at c.if-text-at.false refl))
+
+pub returns-in-Word : goal.returns-in-Word
+returns-in-Word c = item-found c.in-Ok.ensures refl c.if-text-at.false (sym c.sort_of.ensures ∙ ap sort_in c.in-Some.is ∙ ap (λ k. sort_in (Some k)) c.in-Word.is) c.word_at.ensures
+
+pub returns-in-Text : goal.returns-in-Text
+returns-in-Text c = item-found c.in-Ok.ensures refl c.if-text-at.false (sym c.sort_of.ensures ∙ ap sort_in c.in-Some.is ∙ ap (λ k. sort_in (Some k)) c.in-Text.is) c.text_at.ensures
+
+pub returns-in-Colon : goal.returns-in-Colon
+returns-in-Colon c =
+    let bare : is_spelled (Some c.in-Some.sort) ≡ false = search rules in
+    rw c.mark-in-Colon.ensures
+    (item-found c.in-Ok.ensures refl c.if-text-at.false (sym c.sort_of.ensures ∙ ap sort_in c.in-Some.is) (other-begins (Some c.in-Some.sort) c.args.text.now c.in-Ok.at c.if-text-at.false bare))

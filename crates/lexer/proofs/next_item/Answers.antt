@@ -1,12 +1,15 @@
 -- `lexer::next_item` meets its contract.
-use Rattle.std.proofs.Common.{arith}
-use Rattle.lexer.proofs.Naming.{next-other, next_word}
+use Rattle.std.proofs.Common.{sym, ◌∙◌, Some}
+use Rattle.scanner.specs.declared.Sort.{Sort}
+use Rattle.lexer.proofs.Finding.{one_sort}
+use Rattle.lexer.proofs.Naming.{next-other, next_word, fine_word}
 use Rattle.lexer.proofs.next_item.Goals as goal
 
-pub returns-then-t-ne-WORD : goal.returns-then-t-ne-WORD
-returns-then-t-ne-WORD c = next-other c.item_at-t.ensures c.if-t-ne-WORD.true
+pub returns-then-not-is : goal.returns-then-not-is
+returns-then-not-is c = next-other c.item_at-t.ensures (sym c.is.ensures ∙ c.if-not-is.true)
 
 pub returns : goal.returns
 returns c =
-    let h = c.item_at-t.ensures.stands in
-    rw (c.unwrap_or.ensures, c.if-t-ne-WORD.false, h.fine (λ e. omega arith)) (next_word c.item_at-t.ensures c.if-t-ne-WORD.false c.colon_after-a.ensures)
+    let t = c.item_at-t.result in
+    let w = one_sort (Some Sort.Word) t.sort (sym c.is.ensures ∙ c.if-not-is.false) in
+    rw (w, fine_word c.item_at-t.ensures w) (next_word c.item_at-t.ensures w c.colon_after-a.ensures)

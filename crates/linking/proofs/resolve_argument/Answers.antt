@@ -1,6 +1,6 @@
 -- `linking::resolve_argument` meets its contract.
 use native.Mathlib.Omega.{arith}
-use mathlib.Core.Path.{refl, sym}
+use mathlib.Core.Path.{refl, sym, ◌∙◌}
 use lib.Seq.{length-take-le}
 use Rattle.finding.proofs.Found.{labels-counted}
 use Rattle.writing.proofs.Rooms.{argument-place}
@@ -27,35 +27,30 @@ bounds-table-k c = let a = c.requires in omega (arith, a.at.there, a.at.asking.h
 pub label_for-v-requires : goal.label_for-v-requires
 label_for-v-requires c = labels-counted _ _ c.requires.at.asking.holds
 
-pub overflow_mul-v : goal.overflow_mul-v
-overflow_mul-v c = omega (arith, c.label_for-v.ensures.most)
-
-pub overflow_add-v : goal.overflow_add-v
-overflow_add-v c = omega (arith, c.label_for-v.ensures.most)
-
 pub set_argument-requires : goal.set_argument-requires
-set_argument-requires c = argument-place _ _ c.requires.at.asking.holds _ _ _ c.requires.at.there c.requires.place (omega (arith, c.label_for-v.ensures.most))
+set_argument-requires c = argument-place _ _ c.requires.at.asking.holds _ _ _ c.requires.at.there c.requires.place (omega (arith, c.cell.ensures.1))
 
-pub returns-then-x-eq-LABEL : goal.returns-then-x-eq-LABEL
-returns-then-x-eq-LABEL c = label-put c.args.text.now c.args.sw.now c.args.table.now c.args.k c.args.j _ c.requires refl c.label_for-v.result c.if-x-eq-LABEL.true c.label_for-v.ensures c.set_argument.ensures
-
-pub switches-n-requires : goal.switches-n-requires
-switches-n-requires c = c.requires.at.asking.holds.long
+pub returns-then-x-from : goal.returns-then-x-from
+returns-then-x-from c =
+    label-put c.args.text.now c.args.sw.now c.args.table.now c.args.k c.args.j _ c.requires refl c.label_for-v.result (c.if-x-from.true ∙ c.from.ensures) c.label_for-v.ensures
+    (rw c.cell.ensures.0 at c.set_argument.ensures)
 
 pub slice_bounds-switch_place-end : goal.slice_bounds-switch_place-end
 slice_bounds-switch_place-end c = sym (length-take-le _ _ (switches_fit c.switches-n.result c.requires.at.asking c.switches-n.ensures.is))
 
-pub overflow_mul-v-then-x-eq-SWITCH : goal.overflow_mul-v-then-x-eq-SWITCH
-overflow_mul-v-then-x-eq-SWITCH c = omega (arith, switch-low c.args.text.now c.args.sw.now c.switches-n.result _ c.unwrap_or-v.result c.requires.at.asking c.switches-n.ensures.is (place-or c.args.text.now c.args.sw.now _ _ (switches_fit _ c.requires.at.asking c.switches-n.ensures.is) c.switch_place.ensures c.unwrap_or-v.ensures))
+pub cell-requires-then-x-from-2 : goal.cell-requires-then-x-from-2
+cell-requires-then-x-from-2 c = omega (arith, switch-low c.args.text.now c.args.sw.now c.switches-n.result _ c.unwrap_or-v.result c.requires.at.asking c.switches-n.ensures.is (place-or c.args.text.now c.args.sw.now _ _ (switches_fit _ c.requires.at.asking c.switches-n.ensures.is) c.switch_place.ensures c.unwrap_or-v.ensures))
 
-pub overflow_add-v-then-x-eq-SWITCH : goal.overflow_add-v-then-x-eq-SWITCH
-overflow_add-v-then-x-eq-SWITCH c = omega (arith, switch-low c.args.text.now c.args.sw.now c.switches-n.result _ c.unwrap_or-v.result c.requires.at.asking c.switches-n.ensures.is (place-or c.args.text.now c.args.sw.now _ _ (switches_fit _ c.requires.at.asking c.switches-n.ensures.is) c.switch_place.ensures c.unwrap_or-v.ensures))
+pub set_argument-requires-then-x-from-2 : goal.set_argument-requires-then-x-from-2
+set_argument-requires-then-x-from-2 c = argument-place _ _ c.requires.at.asking.holds _ _ _ c.requires.at.there c.requires.place (omega (arith, c.cell-then-x-from-2.ensures.1))
 
-pub set_argument-requires-then-x-eq-SWITCH : goal.set_argument-requires-then-x-eq-SWITCH
-set_argument-requires-then-x-eq-SWITCH c = argument-place _ _ c.requires.at.asking.holds _ _ _ c.requires.at.there c.requires.place (omega (arith, switch-low c.args.text.now c.args.sw.now c.switches-n.result _ c.unwrap_or-v.result c.requires.at.asking c.switches-n.ensures.is (place-or c.args.text.now c.args.sw.now _ _ (switches_fit _ c.requires.at.asking c.switches-n.ensures.is) c.switch_place.ensures c.unwrap_or-v.ensures)))
-
-pub returns-then-x-eq-SWITCH : goal.returns-then-x-eq-SWITCH
-returns-then-x-eq-SWITCH c = switch-put c.args.text.now c.args.sw.now c.args.table.now c.args.k c.args.j _ c.requires refl c.switches-n.result c.unwrap_or-v.result c.if-x-eq-SWITCH.true c.switches-n.ensures.is (place-or c.args.text.now c.args.sw.now _ _ (switches_fit _ c.requires.at.asking c.switches-n.ensures.is) c.switch_place.ensures c.unwrap_or-v.ensures) c.set_argument-then-x-eq-SWITCH.ensures
+pub returns-then-x-from-2 : goal.returns-then-x-from-2
+returns-then-x-from-2 c =
+    switch-put c.args.text.now c.args.sw.now c.args.table.now c.args.k c.args.j _ c.requires refl c.switches-n.result c.unwrap_or-v.result (c.if-x-from-2.true ∙ c.from-2.ensures) c.switches-n.ensures.is
+    (place-or c.args.text.now c.args.sw.now _ _ (switches_fit _ c.requires.at.asking c.switches-n.ensures.is) c.switch_place.ensures c.unwrap_or-v.ensures)
+    (rw c.cell-then-x-from-2.ensures.0 at c.set_argument-then-x-from-2.ensures)
 
 pub returns : goal.returns
-returns c = none-put c.args.text.now c.args.sw.now c.args.table.now c.args.k c.args.j _ c.requires refl c.if-x-eq-LABEL.false c.if-x-eq-SWITCH.false
+returns c =
+    none-put c.args.text.now c.args.sw.now c.args.table.now c.args.k c.args.j _ c.requires refl
+    (λ e. c.if-x-from.false (e ∙ sym c.from.ensures)) (λ e. c.if-x-from-2.false (e ∙ sym c.from-2.ensures))

@@ -8,17 +8,14 @@ use Rattle.linking.proofs.Steps.{asking-after, code-long, all_first, all-next, a
 use Rattle.linking.proofs.Faults.{code-asked}
 use Rattle.linking.proofs.resolve_code.Goals as goal
 
-pub instructions-k-end-requires : goal.instructions-k-end-requires
-instructions-k-end-requires c = c.requires.holds.long
-
 pub loop-k-init : goal.loop-k-init
 loop-k-init c = let a = c.args in all_first (instr_resolved a.text.now a.sw.now) a.table.now
 
 pub resolve_instruction-requires : goal.resolve_instruction-requires
-resolve_instruction-requires c = asking-after (code-long c.args.text.now c.args.sw.now c.loop-k.k) (code-asked c.instructions-k-end.result c.loop-k.k c.requires c.instructions-k-end.ensures.is c.loop-k-test.true) c.loop-k.invariant
+resolve_instruction-requires c = asking-after (code-long c.args.text.now c.args.sw.now c.loop-k.k) (code-asked c.instructions-n.result c.loop-k.k c.requires c.instructions-n.ensures.is c.loop-k-test.true) c.loop-k.invariant
 
 pub loop-k-preserved : goal.loop-k-preserved
 loop-k-preserved c = all-next (instr_resolved c.args.text.now c.args.sw.now) c.loop-k.k c.loop-k.invariant c.resolve_instruction.ensures
 
 pub returns : goal.returns
-returns c = all_done (instr_resolved c.args.text.now c.args.sw.now) (λ p. length p.code) (λ p h. c.instructions-k-end.ensures.is ∙ code_count _ p h) c.loop-k-test.false (omega arith) c.loop-k.invariant
+returns c = all_done (instr_resolved c.args.text.now c.args.sw.now) (λ p. length p.code) (λ p h. c.instructions-n.ensures.is ∙ code_count _ p h) c.loop-k-test.false (omega arith) c.loop-k.invariant

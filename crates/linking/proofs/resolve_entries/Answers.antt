@@ -11,9 +11,6 @@ use Rattle.linking.proofs.Faults.{entries-fit}
 use Rattle.linking.proofs.Steps.{entry_ready, entry-put, all_first, all-next, all_done}
 use Rattle.linking.proofs.resolve_entries.Goals as goal
 
-pub entries-n-requires : goal.entries-n-requires
-entries-n-requires c = c.requires.holds.long
-
 pub slice_bounds-mark-items-end : goal.slice_bounds-mark-items-end
 slice_bounds-mark-items-end c = sym (entries-fit c.args.en.now c.entries-n.ensures.is c.requires.room c.requires.holds)
 

@@ -7,5 +7,5 @@ use Rattle.names.proofs.has_name.Given as goal
 abbrev pub invariant-loop-m : goal.invariant-loop-m
 invariant-loop-m l =
     let q = bytes_equal (take l.len (drop l.at l.text)) in
-    let ms = take l.count l.names in
+    let ms = l.names in
     any q (names_of l.text (drop l.m-index ms)) ≡ any q (names_of l.text ms)

@@ -1,15 +1,12 @@
 -- `names::lowest_mark` meets its contract.
-use mathlib.Core.Path.{refl}
-use mathlib.Core.List.{map}
+use Rattle.std.proofs.Common.{◌≡◌, refl, subst, map, rules}
+use Rattle.std.proofs.lemmas.Fn.{fold_over, slice_gives, fronts}
 use Rattle.drafts.specs.Marks.{place_by}
-use Rattle.names.proofs.Lowest.{walk_first, walk-done, lowest-more}
+use Rattle.statements.specs.StatementAt.{fault_of}
+use Rattle.names.proofs.Lowest.{mark-more}
 use Rattle.names.proofs.lowest_mark.Goals as goal
 
-pub loop-k-init : goal.loop-k-init
-loop-k-init c = walk_first (map place_by) c.args.names.now c.args.from c.args.to c.requires refl
-
-pub loop-k-preserved : goal.loop-k-preserved
-loop-k-preserved c = lowest-more c.args.names.now c.args.from c.args.to (c.requires) c.loop-k.invariant c.loop-k-test.true c.read.ensures.is c.lower-low.ensures
-
 pub returns : goal.returns
-returns c = walk-done (map place_by) c.args.names.now c.args.from c.args.to (c.requires) c.loop-k.invariant c.loop-k-test.false
+returns c = subst (λ ms. c.fold.result ≡ fault_of (map place_by ms)) c.iter.ensures.rest
+    (fold_over fronts (λ y. y.now) _ (λ ms f. f ≡ fault_of (map place_by ms)) _ (λ ms f x r q a k. let more = mark-more ms x.now {r = r} a in search (rules, more))
+    _ _ _ _ (slice_gives c.iter.result) refl c.fold.ensures.ran)

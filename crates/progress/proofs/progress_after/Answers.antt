@@ -7,8 +7,11 @@ use Rattle.progress.proofs.progress_after.Goals as goal
 pub first_waiting-from-requires : goal.first_waiting-from-requires
 first_waiting-from-requires c = c.requires.few
 
-pub lowest_mark-labels-requires : goal.lowest_mark-labels-requires
-lowest_mark-labels-requires c = c.requires.most
+pub slice_bounds-lowest_mark-start : goal.slice_bounds-lowest_mark-start
+slice_bounds-lowest_mark-start c = let a = c.requires in omega (arith, c.first_waiting-from.ensures, a.few, a.order)
+
+pub slice_bounds-lowest_mark-end : goal.slice_bounds-lowest_mark-end
+slice_bounds-lowest_mark-end c = c.requires.most
 
 pub waiting_after-requires : goal.waiting_after-requires
 waiting_after-requires c = let a = c.requires in omega (arith, c.first_waiting-from.ensures, a.few, a.order)

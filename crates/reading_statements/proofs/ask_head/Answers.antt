@@ -6,6 +6,7 @@ use Rattle.acceptance.proofs.RowLaws.{answered}
 use Rattle.statements.specs.Faults.{decided, then, verdict_of}
 use Rattle.reading_statements.specs.GatheringLaws as gathering
 use Rattle.reading_statements.specs.QuestionLaws.{items-told, names-told, opening-told}
+use Rattle.progress.specs.ProgressLaws.{none-asked}
 use Rattle.reading_statements.proofs.ask_head.Goals as goal
 
 pub first_waiting-requires : goal.first_waiting-requires
@@ -15,7 +16,10 @@ pub label_fault-requires : goal.label_fault-requires
 label_fault-requires c = let p = c.requires in rw c.first_waiting.ensures (gathering.labelled p.judging (answered _ (items-told p.judging p.worst_is ∙ (sym c.checked.ensures ∙ ap verdict_of c.in_ok-checked.was))))
 
 pub ask_names-named-requires : goal.ask_names-named-requires
-ask_names-named-requires c = let p = c.requires in gathering.repeatable p.judging (answered _ (items-told p.judging p.worst_is ∙ (sym c.checked.ensures ∙ ap verdict_of c.in_ok-checked.was)))
+ask_names-named-requires c =
+    let p = c.requires in
+    let r = gathering.repeatable p.judging (answered _ (items-told p.judging p.worst_is ∙ (sym c.checked.ensures ∙ ap verdict_of c.in_ok-checked.was))) in
+    (r, (gathering.advanceable p.judging).order)
 
 pub returns-in_err-checked : goal.returns-in_err-checked
 returns-in_err-checked c = λ n d j e z.
@@ -28,7 +32,7 @@ returns c =
     let x = statement_at c.args.text.now n in
     let q = items-told j e ∙ (sym c.checked.ensures ∙ ap verdict_of c.in_ok-checked.was) in
     let plain = answered _ q in
-    let first = j.tells.section.first_is in
+    let first = j.tells.section.first_is ∙ none-asked c.is_none.result c.args.p.section c.is_none.ensures in
     names-told d x first j.tells.edition.is (c.ask_operator-operator.ensures _ n j.headed (λ e. z (first ∙ e)))
     (c.decide-labels.ensures ∙ ap (decided 8) (gathering.labels-told j plain (rw c.first_waiting.ensures at c.label_fault.ensures)))
     (c.ask_names-named.ensures ∙ gathering.names-told j plain)

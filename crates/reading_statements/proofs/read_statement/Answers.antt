@@ -1,7 +1,8 @@
 -- `reading_statements::read_statement` meets its contract.
-use mathlib.Core.Path.{sym, ◌∙◌}
-use Rattle.heads.specs.HeadLaws.{some-number, no-number}
-use Rattle.reading_statements.specs.StandingLaws.{reading-here, number-above, reads_here, reads-empty}
+use mathlib.Core.Path.{sym, ap, ◌∙◌}
+use Rattle.heads.specs.Heads.{instr_by, is_switch}
+use Rattle.heads.specs.HeadLaws.{no-number}
+use Rattle.reading_statements.specs.StandingLaws.{reading-here, reads_here, reads-empty}
 use Rattle.reading_statements.proofs.read_statement.Goals as goal
 
 pub returns-then-is_empty : goal.returns-then-is_empty
@@ -16,8 +17,7 @@ read_instruction-requires c =
       switches = _;
       entries = _;
       met = record { place = _; draft = p.draft; reading = reading-here p.standing c.read_head-head.ensures };
-      number_is = some-number _ c.in-Some.ensures;
-      some = number-above p.standing c.read_head-head.ensures c.in-Some.ensures;
+      is = c.in-Some.ensures ∙ ap instr_by c.keyword-keyword.ensures;
     }
 
 pub returns-in-Some : goal.returns-in-Some
@@ -31,7 +31,7 @@ read_switch-requires c =
     record {
       lines = _;
       met = record { place = _; draft = p.draft; reading = reading-here p.standing c.read_head-head.ensures };
-      some = sym c.is_switch.ensures ∙ c.if-is_switch.true;
+      some = sym (c.is_switch.ensures ∙ ap is_switch c.keyword-keyword.ensures) ∙ c.if-is_switch.true;
     }
 
 pub returns-then-is_switch : goal.returns-then-is_switch
@@ -48,8 +48,8 @@ read_ending-requires c =
       switches = _;
       entries = _;
       met = record { place = _; draft = p.draft; reading = reading-here p.standing c.read_head-head.ensures };
-      no_number = no-number _ c.in_default.ensures;
-      no_switch = sym c.is_switch.ensures ∙ c.if-is_switch.false;
+      no_number = no-number _ (c.in_default.ensures ∙ ap instr_by c.keyword-keyword.ensures);
+      no_switch = sym (c.is_switch.ensures ∙ ap is_switch c.keyword-keyword.ensures) ∙ c.if-is_switch.false;
     }
 
 pub returns : goal.returns

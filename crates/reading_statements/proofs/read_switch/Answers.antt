@@ -2,6 +2,7 @@
 use native.Mathlib.Omega.{arith}
 use mathlib.Core.Path.{refl, ap, ◌∙◌}
 use Rattle.statements.specs.Faults.{then, verdict_of}
+use Rattle.heads.specs.Heads.{is_by_name}
 use Rattle.reading_statements.specs.GatheringLaws.{advanceable}
 use Rattle.reading_statements.specs.SwitchReadLaws.{held_most, listable, name-inside, whole-list, declarable-switch, read-switch}
 use Rattle.reading_statements.proofs.read_switch.Goals as goal
@@ -15,7 +16,7 @@ pub ask_head-asked-requires : goal.ask_head-asked-requires
 ask_head-asked-requires c =
     let p = c.requires in
     let j = p.met.reading.judging in
-    record { place = p.met.place; draft = p.met.draft; judging = j; worst_is = whole-list p.some c.is_by_name-named.ensures c.read_list-l.ensures j.headed }
+    record { place = p.met.place; draft = p.met.draft; judging = j; worst_is = whole-list p.some (c.is_by_name-named.ensures ∙ ap is_by_name c.keyword.ensures) c.read_list-l.ensures j.headed }
 
 pub first_waiting-requires : goal.first_waiting-requires
 first_waiting-requires c = c.requires.met.reading.judging.tells.waiting.few
@@ -24,15 +25,15 @@ pub offset_bounds-names-first_waiting : goal.offset_bounds-names-first_waiting
 offset_bounds-names-first_waiting c =
     let p = c.requires in
     let j = p.met.reading.judging in
-    omega (arith, c.first_waiting.ensures, name-inside p.some c.is_by_name-named.ensures j, j.tells.names.room)
+    omega (arith, c.first_waiting.ensures, name-inside p.some (c.is_by_name-named.ensures ∙ ap is_by_name c.keyword.ensures) j, j.tells.names.room)
 
 pub bounds-names-first_waiting : goal.bounds-names-first_waiting
-bounds-names-first_waiting c = let p = c.requires in omega (arith, c.first_waiting.ensures, name-inside p.some c.is_by_name-named.ensures p.met.reading.judging)
+bounds-names-first_waiting c = let p = c.requires in omega (arith, c.first_waiting.ensures, name-inside p.some (c.is_by_name-named.ensures ∙ ap is_by_name c.keyword.ensures) p.met.reading.judging)
 
 pub admit_switch-verdict-requires : goal.admit_switch-verdict-requires
 admit_switch-verdict-requires c =
     let p = c.requires in
-    declarable-switch p.some c.is_by_name-named.ensures c.read_list-l.ensures c.ask_head-asked.result c.first_of-early.result c.ask_head-asked.ensures (c.first_of-early.ensures ∙ ap (then (verdict_of c.ask_head-asked.result)) c.decide.ensures) c.entries-held.ensures.is (rw c.first_waiting.ensures at c.switch_of-d.ensures) p.met.reading (omega arith)
+    declarable-switch p.some (c.is_by_name-named.ensures ∙ ap is_by_name c.keyword.ensures) c.read_list-l.ensures c.ask_head-asked.result c.first_of-early.result c.ask_head-asked.ensures (c.first_of-early.ensures ∙ ap (then (verdict_of c.ask_head-asked.result)) c.decide.ensures) c.entries-held.ensures.is (rw c.first_waiting.ensures at c.switch_of-d.ensures) p.met.reading (omega arith)
 
 pub finish-requires : goal.finish-requires
 finish-requires c = advanceable c.requires.met.reading.judging
@@ -41,5 +42,5 @@ pub returns : goal.returns
 returns c =
     let p = c.requires in
     λ lines.
-    read-switch p.some c.is_by_name-named.ensures c.read_list-l.ensures c.ask_head-asked.result c.first_of-early.result c.ask_head-asked.ensures (c.first_of-early.ensures ∙ ap (then (verdict_of c.ask_head-asked.result)) c.decide.ensures) c.entries-held.ensures.is (rw c.first_waiting.ensures at c.switch_of-d.ensures) c.admit_switch-verdict.result
+    read-switch p.some (c.is_by_name-named.ensures ∙ ap is_by_name c.keyword.ensures) c.read_list-l.ensures c.ask_head-asked.result c.first_of-early.result c.ask_head-asked.ensures (c.first_of-early.ensures ∙ ap (then (verdict_of c.ask_head-asked.result)) c.decide.ensures) c.entries-held.ensures.is (rw c.first_waiting.ensures at c.switch_of-d.ensures) c.admit_switch-verdict.result
     c.admit_switch-verdict.ensures (omega arith) c.finish.ensures

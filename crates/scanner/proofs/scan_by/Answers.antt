@@ -4,7 +4,7 @@ use Rattle.scanner.proofs.Loops.{byte-is, scan-on, scan-ends, scan-out}
 use Rattle.scanner.proofs.scan_by.Goals as goal
 
 pub returns-then-ends_text : goal.returns-then-ends_text
-returns-then-ends_text c = scan-ends c.loop-i.invariant _ c.loop-i-test.true (sym c.ends_text.ensures ∙ c.if-ends_text.true) refl
+returns-then-ends_text c = rw c.then_some.ensures (scan-ends c.loop-i.invariant _ c.loop-i-test.true (sym c.ends_text.ensures ∙ c.if-ends_text.true) refl)
 
 pub loop-i-preserved : goal.loop-i-preserved
 loop-i-preserved c =

@@ -4,9 +4,9 @@ use Rattle.words.specs.Keywords.{keyword_at}
 use Rattle.words.proofs.KeywordLaws.{keyword-instr, keyword-arm, behind-arms}
 use Rattle.words.proofs.keyword_at.Goals as goal
 
-pub overflow_sub-result : goal.overflow_sub-result
+pub overflow_sub-j : goal.overflow_sub-j
 unfolding keyword_at
-overflow_sub-result c = omega (arith, behind-arms c.args.j c.in_default.in_default-own.rest)
+overflow_sub-j c = omega (arith, behind-arms c.args.j c.in_default.in_default-own.rest)
 
 pub returns-in-0 : goal.returns-in-0
 unfolding keyword_at
@@ -30,4 +30,4 @@ returns-in-4 c = keyword-arm c.in-4.is
 
 pub returns-in_default : goal.returns-in_default
 unfolding keyword_at
-returns-in_default c = keyword-instr c.args.j (behind-arms c.args.j c.in_default.in_default-own.rest) c.requires
+returns-in_default c = keyword-instr c.args.j (behind-arms c.args.j c.in_default.in_default-own.rest) c.requires (rw c.unwrap.ensures at c.try_from.ensures.number)

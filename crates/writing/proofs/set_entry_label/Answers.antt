@@ -1,8 +1,15 @@
 -- `writing::set_entry_label` meets its contract.
+use mathlib.Core.Path.{sym, ap, ◌∙◌}
+use native.Mathlib.Omega.{arith}
+use Prim.Native.Nat.{ℕ, ◌+◌, ◌/◌}
+use Rattle.blocks.specs.Below.LayoutPlaces as layout
+use Rattle.table.proofs.Decode.{cell_in}
 use Rattle.writing.proofs.Settled.{relabelled-done}
 use Rattle.writing.proofs.set_entry_label.Goals as goal
 
 pub returns : goal.returns
 returns c =
-    let entry-text = c.entry_text-text in
-    relabelled-done c.args.table.now c.write.new.cells c.args.k c.args.label entry-text.result c.requires.there c.requires.few c.requires.label_low entry-text.ensures.is c.write.ensures
+    let r = c.requires in
+    let t = c.args.table.now in
+    relabelled-done t c.write.new.cells c.args.k c.args.label (c.read-text.result / 128) r.there r.few r.label_low
+    (ap (λ (x : ℕ). x / 128) (c.read-text.ensures.is ∙ sym (cell_in t (layout.first_entry + c.args.k) (omega (arith, r.there, r.few))))) c.write.ensures

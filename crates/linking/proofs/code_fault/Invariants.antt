@@ -1,7 +1,0 @@
--- `linking::code_fault` meets its contract.
-use Rattle.linking.proofs.Faults.{CodeGoing}
-use Rattle.linking.specs.Lookup.{role_kind, role_named}
-use Rattle.linking.proofs.code_fault.Given as goal
-
-abbrev pub invariant-loop-k : goal.invariant-loop-k
-invariant-loop-k l = CodeGoing l.text l.sw l.table (role_kind l.fn.role) (role_named l.fn.role) l.initial.g l.k l.g

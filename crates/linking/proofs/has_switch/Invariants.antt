@@ -1,7 +1,0 @@
--- `linking::has_switch` meets its contract.
-use Rattle.finding.proofs.Found.{Missed}
-use Rattle.linking.proofs.Switches.{switch_hit}
-use Rattle.linking.proofs.has_switch.Given as goal
-
-abbrev pub invariant-loop-k : goal.invariant-loop-k
-invariant-loop-k l = Missed (switch_hit l.text l.table l.sw l.named l.m) l.k
