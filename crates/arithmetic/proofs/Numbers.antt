@@ -12,7 +12,7 @@ use Rattle.language.specs.Values.{in_range}
 use Rattle.layout.specs.Cells.{code, uncode}
 use Rattle.layout.proofs.CellLaws.{uncode-code}
 use Rattle.operands.proofs.Codes.{code_most, code-back, abs-most}
-use Rattle.operands.proofs.Values.{low, high}
+use Rattle.components.proofs.FirstLaws.{low, high}
 use Rattle.std.specs.Prelude.{Ok, Err}
 use Rattle.instructions.specs.declared.Question.TheVariants.{Range}
 use Rattle.arithmetic.specs.Arithmetic.{negative, differ, signed, Coded, Size, Codes, InRange}

@@ -35,7 +35,7 @@ use Rattle.instructions.proofs.Asking.{some}
 use Rattle.operands.specs.Operands.{Both, ReadsPair, replaced, DoesWith}
 use Rattle.operands.specs.declared.Pair.{Pair}
 use Rattle.operands.proofs.Codes.{abs-most}
-use Rattle.operands.proofs.Values.{high}
+use Rattle.components.proofs.FirstLaws.{high}
 use Rattle.operands.proofs.Reading.{wordless}
 use Rattle.operands.proofs.Replacing.{replaced-last, left-first}
 use Rattle.arithmetic.specs.Arithmetic.{Coded, Divisible, Codes, InRange, Numbered}

@@ -15,10 +15,8 @@ ghost use Rattle.instructions.specs.Does.{Tried};
 ghost use Rattle.operands.specs.Operands.{PairReadable, replaced, DoesWith};
 ghost use Rattle.arithmetic.specs.Arithmetic.{negative, signed, Coded, Divisible, Size, Codes, InRange, OneResult, TwoResults};
 
+use components::ZERO;
 use instructions::{Bench, Question};
-
-// The code of 0.
-const ZERO: usize = 8388607;
 
 fn is_negative(code: usize) -> bool
     ensures { result ≡ negative (uncode code) }

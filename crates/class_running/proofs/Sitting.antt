@@ -12,6 +12,7 @@ use Rattle.language.specs.Limits as limit
 use Rattle.machine.specs.Steps.{refusals}
 use Rattle.layout.specs.Strings.{cut_by}
 use Rattle.layout.specs.Table.{good_table}
+use Rattle.calls.specs.Filling.{Taken}
 use Rattle.cells.specs.Cells.{pasted}
 use Rattle.class_calls.specs.Class.{lent_of, Pupil, refused_pupil, pupil, Lent, sum, class_fits, pupils, ClassReply, class_of, result_cells, results_of, results_after, outputs_of, outputs_after}
 use Rattle.class_calls.specs.Class.ClassReply.{class_refused, taken}
@@ -20,7 +21,7 @@ use Rattle.class_calls.proofs.FitLaws.{ClassFits, fits-facts}
 use Rattle.class_calls.proofs.UnawareLaws.{pupil-at, length-pupils, length_cut}
 use Rattle.class_calls.proofs.WritingLaws.{sum-next, sum-within, cut_at, results-none, results_next, AllShort, outputs-none, outputs-next}
 use Rattle.std.specs.Prelude.{Ok, Err}
-use Rattle.class_running.specs.ClassRunning.{Seated, Answered, Classable, Written, Taken, taken_by, Classes}
+use Rattle.class_running.specs.ClassRunning.{Seated, Answered, Classable, Written, taken_by, Classes}
 use Rattle.class_running.specs.declared.Told.{Told}
 
 all_short : (c : List ℕ) → T (good_table c) → (ws : List (List ℕ)) (bs : List ℕ) (k : ℕ) → AllShort (take k (pupils c ws bs))

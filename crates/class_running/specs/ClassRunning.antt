@@ -1,5 +1,5 @@
 -- What the functions of the class ask and promise.
-use Rattle.std.specs.Prelude.{◌≡◌, Result, Ok, Err, List, ℕ, ◌+◌, ◌≤◌, T, length}
+use Rattle.std.specs.Prelude.{◌≡◌, Ok, Err, List, ℕ, ◌+◌, ◌≤◌, T, length}
 use Rattle.language.specs.Limits as limit
 use Rattle.layout.specs.Table.{good_table}
 use Rattle.cells.specs.Cells.{pasted}
@@ -7,7 +7,7 @@ use Rattle.viewing.specs.Viewing.{Rests}
 use Rattle.class_calls.specs.Class.{Pupil, shown, Lent, lent_of, class_fits, pupils, ClassReply, class_of, results_of, results_after, outputs_of, outputs_after}
 use Rattle.layout.specs.Strings.{cut_by}
 use Rattle.class_calls.specs.Class.ClassReply.{class_refused, taken}
-use Rattle.calls.specs.declared.Refused.{Refused}
+use Rattle.calls.specs.Filling.{Taken}
 use Rattle.class_running.specs.declared.Told.{Told}
 
 -- a state at rest, and a part of a buffer as long as Q may be
@@ -45,16 +45,9 @@ pub record Written (c s ns bs res out res' out' : List ℕ) : Type 0 where
 -- ---- the whole call
 
 -- the class is taken, or the number of the first no
-abbrev pub Taken : Type 0
-Taken = Result (Unit {0}) Refused
-
 abbrev pub taken_by : ClassReply → Taken
 taken_by (class_refused number) = Err (record { number = number })
 taken_by (taken ps) = Ok tt
-
-abbrev pub taken_number : Taken → ℕ
-taken_number (Ok u) = 80
-taken_number (Err e) = e.number
 
 pub record Classes (c : List ℕ) (x : Lent) (r : Taken) (res' out' : List ℕ) : Type 0 where
   pub is : r ≡ taken_by (class_of c x)

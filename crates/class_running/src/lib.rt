@@ -14,7 +14,7 @@ const CLASS: usize = 16;
 
 // Number, count and length of Q1, as the results for C have them: 61, 0 and 0 for a refused input.
 // No `running::Ran` inside: each use would name both, and a refused input has no run.
-#[derive(Clone, Copy)]
+#[derive(Clone, Copy, Debug, PartialEq, Eq)]
 pub struct Told {
     pub number: u8,
     pub count: u32,

@@ -13,6 +13,7 @@ ghost use Rattle.comparands.specs.Offers.{LetterHoldable, Holdable, LetterOffers
 
 use instructions::Question;
 use state::Working;
+use table::Table;
 
 // N: the first component of expression `i`, a number.
 fn put_count(state: &Working, given: &mut [u8; 32768], i: usize) -> Result<usize, Question>
@@ -53,17 +54,17 @@ fn put_letter(
 // Puts the components of a second argument in front of `given`: how many bytes they take; 52 or 53 where it asks for one that is not there. A class
 // has none.
 pub fn put_comparand(
-    table: &[u32],
+    table: Table,
     state: &Working,
     given: &mut [u8; 32768],
     arg: table::Argument,
 ) -> Result<usize, Question>
-    requires { Holdable table.now arg }
-    ensures { ArgumentOffers table.now state.now.store arg given.new result }
+    requires { Holdable table.cells.now arg }
+    ensures { ArgumentOffers table.entry.cells.now state.now.store arg given.new result }
 {
     match arg {
         table::Argument::Indexed(l, n) => put_letter(state, given, l, n),
-        table::Argument::Text(v) => Ok(tests::put_text(table, given, v)),
+        table::Argument::Text(text) => Ok(tests::put_text(table, given, text)),
         // `usize` has no `From<u32>`.
         table::Argument::Number(v) => Ok(put_code(given, v as usize)),
         table::Argument::Class(_)

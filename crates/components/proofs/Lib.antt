@@ -1,4 +1,6 @@
 pub mod Fronts
+pub mod FirstLaws
+pub mod KindLaws
 pub mod Walks
 pub mod Makings
 pub mod Below

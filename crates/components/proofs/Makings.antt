@@ -1,8 +1,7 @@
 -- What the loops that write components have written so far.
 use mathlib.Core.Path.{◌≡◌, refl, ap, ◌∙◌}
 use mathlib.Core.List.{List, [], ◌∷◌, ◌++◌, map, append_assoc, append-nil, reverse, reverse_aux}
-use Prim.Native.Nat.{ℕ, ◌+◌, ◌-◌, ◌*◌, ◌≤◌, ◌<◌}
-use native.Mathlib.Nat.{sub-zero}
+use Prim.Native.Nat.{ℕ, ◌+◌, ◌*◌, ◌≤◌, ◌<◌}
 use native.Mathlib.Numerals.{add-one}
 use native.Mathlib.Omega.{arith}
 use lib.ListN.{length, get_or, take, drop, set, length-append, drop_of_length-le}
@@ -14,61 +13,48 @@ use Rattle.cells.specs.Below.LayoutBounds.{WholeComponents}
 use Rattle.cells.specs.Below.Components.{component_bytes, components_bytes, component_in, components_in}
 use Rattle.cells.specs.Below.Lists.{joined}
 use Rattle.cells.specs.Below.MachineArguments.{char}
-use Rattle.components.specs.Parts.{Written}
-use Rattle.components.proofs.Walks.{Step, none_left, part-long, bytes_at}
+use Rattle.components.specs.Parts.{Front, Written}
+use Rattle.components.proofs.Walks.{none_left, bytes_there, cells-long}
 
 -- ---- the components in reverse order, written from the end to the front
 
-pub record Turning (d₀ l : List ℕ) (n : ℕ) (d : List ℕ) (at : ℕ) : Type 0 where
+pub record Turning (d₀ l d left : List ℕ) : Type 0 where
   pub gone : List Component
-  pub size_is : n ≡ length l
-  pub within : at ≤ length l
   pub long : length d ≡ length d₀
-  pub rest : WholeComponents (drop at l)
-  pub turned : reverse (components_in l) ≡ reverse_aux (components_in (drop at l)) gone
-  pub bytes_is : length (components_bytes gone) ≡ at
-  pub is : drop (length l - at) d ≡ components_bytes gone ++ drop (length l) d₀
+  pub rest : WholeComponents left
+  pub turned : reverse (components_in l) ≡ reverse_aux (components_in left) gone
+  pub bytes_is : length (components_bytes gone) + length left ≡ length l
+  pub is : drop (length left) d ≡ components_bytes gone ++ drop (length l) d₀
 
-pub turning-none : (d l : List ℕ) → WholeComponents l → Turning d l (length l) d 0
+pub turning-none : (d l : List ℕ) → WholeComponents l → Turning d l d l
 unfolding components_bytes
-turning-none d l w =
-    record {
-      gone = [];
-      size_is = refl;
-      within = omega arith;
-      long = refl;
-      rest = w;
-      turned = refl;
-      bytes_is = refl;
-      is = ap (λ n. drop n d) (sub-zero (length l));
-    }
+turning-none d l w = record { gone = []; long = refl; rest = w; turned = refl; bytes_is = omega arith; is = refl }
 
-module _ {d₀ l : List ℕ} {n : ℕ} {d : List ℕ} {at : ℕ} (t : Turning d₀ l n d at) where
-  pub turning-next : {e : ℕ} {d' : List ℕ} → Step l at e → n ≤ length d₀ → length d' ≡ length d → d' ≡ pasted d (n - e) (take (e - at) (drop at l)) → Turning d₀ l n d' e
+module _ {d₀ l d left : List ℕ} (t : Turning d₀ l d left) (m : length l ≤ length d₀) where
+  pub turning-room : {x r : List ℕ} → Front left x r → length r + length x ≤ length d
+  turning-room f = omega (arith, cells-long f, t.bytes_is, t.long)
+
+  pub turning-next : {x r d' : List ℕ} → Front left x r → length d' ≡ length d → d' ≡ pasted d (length r) x → Turning d₀ l d' r
   unfolding components_bytes
-  turning-next {e} {d'} s h k q =
-      let x : Component = component_in (drop at l) in
-      let c : List ℕ = take (e - at) (drop at l) in
-      let p : (length l - e) + length c ≡ length l - at = omega (arith, part-long s, s.fits, s.more) in
-      let a : length (take (length l - e) d) ≡ length l - e = length-take-le (length l - e) d (omega (arith, t.long, t.size_is)) in
-      let f : drop (length l - e) d' ≡ c ++ drop (length l - at) d = rw (q, t.size_is, drop_at (take (length l - e) d) _ (length l - e) a, p) in
+  turning-next {x} {r} {d'} f k q =
+      let p : length r + length x ≡ length left = omega (arith, cells-long f) in
+      let a : length (take (length r) d) ≡ length r = length-take-le (length r) d (omega (arith, turning-room f)) in
+      let g : drop (length r) d' ≡ x ++ drop (length left) d = rw (q, drop_at (take (length r) d) (x ++ drop (length r + length x) d) (length r) a, p) in
       record {
-        gone = x ∷ t.gone;
-        size_is = t.size_is;
-        within = s.fits;
+        gone = component_in left ∷ t.gone;
         long = k ∙ t.long;
-        rest = s.rest;
-        turned = t.turned ∙ rw s.is refl;
-        bytes_is = simp length-append (omega (arith, bytes_at s, t.bytes_is, s.more));
-        is = f ∙ rw (t.is, s.one.is, append_assoc);
+        rest = f.rest;
+        turned = t.turned ∙ rw f.is refl;
+        bytes_is = simp length-append (omega (arith, bytes_there f, t.bytes_is, cells-long f));
+        is = g ∙ rw (t.is, f.one.is, append_assoc);
       }
 
-  pub turning-all : n ≤ at → d ≡ pasted d₀ 0 (components_bytes (reverse (components_in l)))
-  turning-all h =
-      let g : reverse (components_in l) ≡ t.gone = t.turned ∙ rw (none_left l at (omega (arith, t.size_is))) refl in
-      let z : length l - at ≡ 0 = omega (arith, t.size_is) in
-      let e : 0 + length (components_bytes t.gone) ≡ length l = omega (arith, t.bytes_is, t.within, t.size_is) in
-      rw z at t.is ∙ rw (g, e) refl
+  pub turning-all : left ≡ [] → d ≡ pasted d₀ 0 (components_bytes (reverse (components_in l)))
+  turning-all e =
+      let g : reverse (components_in l) ≡ t.gone = t.turned ∙ rw (none_left e) refl in
+      let z : length left ≡ 0 = ap length e in
+      let n : 0 + length (components_bytes t.gone) ≡ length l = omega (arith, t.bytes_is, z) in
+      rw z at t.is ∙ rw (g, n) refl
 
 -- ---- a list written piece by piece
 
@@ -105,32 +91,26 @@ module _ {d₀ whole left d : List ℕ} {n : ℕ} (w : Writing d₀ whole left d
 
 -- ---- what f makes of a string's components
 
-pub record Gathering (f : Component → List ℕ) (d₀ l d : List ℕ) (n at : ℕ) : Type 0 where
-  pub within : at ≤ length l
-  pub rest : WholeComponents (drop at l)
-  pub written : Writing d₀ (joined (map f (components_in l))) (joined (map f (components_in (drop at l)))) d n
+pub record Gathering (f : Component → List ℕ) (d₀ l d : List ℕ) (n : ℕ) (left : List ℕ) : Type 0 where
+  pub rest : WholeComponents left
+  pub written : Writing d₀ (joined (map f (components_in l))) (joined (map f (components_in left))) d n
 
-module _ {f : Component → List ℕ} {d₀ l d : List ℕ} {n at : ℕ} (g : Gathering f d₀ l d n at) (h : length (joined (map f (components_in l))) ≤ length d₀) where
-  module _ {e : ℕ} (s : Step l at e) where
-    abbrev left : List ℕ
-    left = joined (map f (components_in (drop e l)))
+module _ {f : Component → List ℕ} {d₀ l d : List ℕ} {n : ℕ} {left : List ℕ} (g : Gathering f d₀ l d n left) (h : length (joined (map f (components_in l))) ≤ length d₀) where
+  module _ {x r : List ℕ} (s : Front left x r) where
+    abbrev behind : List ℕ
+    behind = joined (map f (components_in r))
 
-    next-is : joined (map f (components_in (drop at l))) ≡ f (component_in (drop at l)) ++ left
+    next-is : joined (map f (components_in left)) ≡ f (component_in left) ++ behind
     next-is = rw s.is
 
-    pub gathering-room : n + length (f (component_in (drop at l))) ≤ length d
-    gathering-room = writing-room g.written h (f (component_in (drop at l))) left next-is
+    pub gathering-room : n + length (f (component_in left)) ≤ length d
+    gathering-room = writing-room g.written h (f (component_in left)) behind next-is
 
-    pub gathering-next : {w d' : List ℕ} → w ≡ f (component_in (drop at l)) → d' ≡ pasted d n w → Gathering f d₀ l d' (n + length w) e
-    gathering-next {w} {d'} c q =
-        record {
-          within = s.fits;
-          rest = s.rest;
-          written = rw c (writing-next g.written h (f (component_in (drop at l))) left next-is (rw c at q));
-        }
+    pub gathering-next : {w d' : List ℕ} → w ≡ f (component_in left) → d' ≡ pasted d n w → Gathering f d₀ l d' (n + length w) r
+    gathering-next {w} {d'} c q = record { rest = s.rest; written = rw c (writing-next g.written h (f (component_in left)) behind next-is (rw c at q)) }
 
-  pub gathering-all : length l ≤ at → Written d₀ (joined (map f (components_in l))) d n
-  gathering-all k = writing-all g.written h (rw (none_left l at k))
+  pub gathering-all : left ≡ [] → Written d₀ (joined (map f (components_in l))) d n
+  gathering-all e = writing-all g.written h (rw (none_left e))
 
 -- ---- a word for each character
 

@@ -1,57 +1,39 @@
--- Walks over the components of a string: the cells from `at` on are whole components.
+-- Walks over the components of a string: what is left of it is whole components.
 use mathlib.Core.Path.{◌≡◌, refl, sym, ap, ◌∙◌}
 use mathlib.Core.Bool.{cond, not}
-use mathlib.Core.List.{List, [], ◌∷◌, ◌++◌}
-use Prim.Native.Nat.{ℕ, zero, suc, ◌+◌, ◌-◌, ◌≤◌, ◌<◌}
-use native.Mathlib.Nat.{add-zero}
+use mathlib.Core.List.{List, [], ◌++◌}
+use Prim.Native.Nat.{ℕ, zero, suc, ◌+◌, ◌≤◌, ◌<◌}
 use native.Mathlib.Omega.{arith}
 use lib.Dec.{eqb}
-use lib.ListN.{length, get_or, take, drop, length-drop, take-append-drop}
-use lib.Seq.{get_or-drop, get_or-take, drop-drop, length-take-le, take-append_seam, drop-append_seam}
+use lib.ListN.{length, take, drop, length-append, take-append-drop}
+use lib.Seq.{length-take-le, take-append_seam, drop-append_seam}
 use borrow.Author.Tests.{ne_eqb}
 use Rattle.cells.specs.Cells.{Number}
 use Rattle.cells.specs.Below.LanguageValues.{Component, chars, kind}
 use Rattle.cells.specs.Below.LanguageValues.Component.{word, address}
-use Rattle.cells.specs.Below.LayoutBounds.{Each, Ok, EncodedOne, Encoded, WholeComponents}
+use Rattle.cells.specs.Below.LayoutBounds.{Each, Ok, Encoded, WholeComponents}
 use Rattle.cells.proofs.Below.LayoutCellLaws.{each_left, each_right}
 use Rattle.cells.specs.Below.LayoutCells.{cell}
 use Rattle.cells.specs.Below.Components.{component_bytes, components_bytes, component_size, component_in, components_in}
-use Rattle.cells.proofs.Below.ComponentLaws.{next-component, components-none, components_bytes-append, components_bytes-one}
-use Rattle.cells.specs.Below.MachineArguments.{first}
-use Rattle.components.specs.Parts.{first_size}
+use Rattle.cells.proofs.Below.ComponentLaws.{next-component, component-some, one_of, components-none, components_bytes-append, components_bytes-one}
+use Rattle.components.specs.Parts.{first_size, Front}
 
--- the step of a walk, in the places that the code has: `at`, and e behind the component there
-pub record Step (l : List ℕ) (at e : ℕ) : Type 0 where
-  pub fits : e ≤ length l
-  pub more : at < e
-  pub one : EncodedOne (take (e - at) (drop at l)) (component_in (drop at l))
-  pub is : components_in (drop at l) ≡ component_in (drop at l) ∷ components_in (drop e l)
-  pub rest : WholeComponents (drop e l)
-
-first_cell : (l : List ℕ) (at : ℕ) → cell (drop at l) 0 ≡ cell l at
-first_cell l at = get_or-drop at l 0 0 ∙ ap (λ i. get_or l i 0) (add-zero at)
-
-step-to : {l : List ℕ} {at e : ℕ} → WholeComponents (drop at l) → at < length l → e ≡ at + component_size (cell l at) → Step l at e
-step-to {l} {at} {e} w h q =
-    let n = next-component w (rw length-drop (omega arith)) in
-    let s : ℕ = component_size (cell (drop at l) 0) in
-    let k : s ≡ e - at = rw (first_cell l at) (omega arith) in
-    let i : at + s ≡ e = omega (arith, n.some, k) in
-    let d : drop s (drop at l) ≡ drop e l = drop-drop s at l ∙ rw i in
-    record {
-      fits = omega (arith, n.fits, length-drop at l, n.some);
-      more = omega (arith, n.some);
-      one = record { is = rw (← k) n.first; its_ok = n.first_ok };
-      is = n.is ∙ ap (λ u. component_in (drop at l) ∷ components_in u) d;
-      rest = rw d at n.rest;
+-- the first component, where n is what the code was told of its size
+pub front : {l : List ℕ} → WholeComponents l → 0 < length l → {n : ℕ} → Number (component_size (cell l 0)) 257 n → Front l (take n l) (drop n l)
+front {l} w h {n} q =
+    let k = next-component w h in
+    rw q.is record {
+      one = record { is = k.first; its_ok = k.first_ok };
+      cells = sym (take-append-drop (component_size (cell l 0)) l);
+      is = k.is;
+      rest = k.rest;
     }
 
--- n is what the code was told of the component's size
-pub step : {l : List ℕ} {at : ℕ} → WholeComponents (drop at l) → at < length l → {n : ℕ} → Number (component_size (cell l at)) 257 n → Step l at (at + n)
-step {l} {at} w h {n} q = step-to w h (omega (arith, q.is))
+pub front-size : {l : List ℕ} → WholeComponents l → 0 < length l → {n : ℕ} → Number (component_size (cell l 0)) 257 n → n ≤ length l
+front-size w h q = omega (arith, (next-component w h).fits, q.is)
 
-pub none_left : (l : List ℕ) (at : ℕ) → length l ≤ at → components_in (drop at l) ≡ []
-none_left l at h = components-none (drop at l) (rw length-drop (omega arith))
+pub none_left : {l : List ℕ} → l ≡ [] → components_in l ≡ []
+none_left {l} e = components-none l (ap length e)
 
 -- what the first cell of a component tells: how many characters it has, and whether it is a word
 first-tells : (x : Component) (l : List ℕ) → l ≡ component_bytes x → Ok x → (cell l 0 ≡ length (chars x)) × (eqb (kind x) 0 ≡ not (eqb (cell l 0) 0))
@@ -60,21 +42,24 @@ first-tells (word w) l e k = (rw e refl, rw (e, ne_eqb (length w) 0 (λ q. omega
 first-tells (Component.number z) l e k = (rw e refl, rw e refl)
 first-tells (address n) l e k = (rw e refl, rw e refl)
 
-module _ {l : List ℕ} {at e : ℕ} (s : Step l at e) where
-  part-cell : cell (take (e - at) (drop at l)) 0 ≡ cell l at
-  part-cell = get_or-take (e - at) (drop at l) 0 0 (omega (arith, s.more)) ∙ first_cell l at
+module _ {l x r : List ℕ} (f : Front l x r) where
+  pub front_one : component_in x ≡ component_in l
+  front_one = one_of f.one
 
-  pub chars-at : cell l at ≡ length (chars (component_in (drop at l)))
-  chars-at = sym part-cell ∙ (first-tells (component_in (drop at l)) _ s.one.is s.one.its_ok).0
+  pub chars-there : cell x 0 ≡ length (chars (component_in l))
+  chars-there = (first-tells (component_in l) x f.one.is f.one.its_ok).0
 
-  pub word_at : eqb (kind (component_in (drop at l))) 0 ≡ not (eqb (cell l at) 0)
-  word_at = (first-tells (component_in (drop at l)) _ s.one.is s.one.its_ok).1 ∙ ap (λ b. not (eqb b 0)) part-cell
+  pub word_there : eqb (kind (component_in l)) 0 ≡ not (eqb (cell x 0) 0)
+  word_there = (first-tells (component_in l) x f.one.is f.one.its_ok).1
 
-  pub part-long : length (take (e - at) (drop at l)) ≡ e - at
-  part-long = length-take-le (e - at) (drop at l) (rw length-drop (omega (arith, s.fits)))
+  pub bytes_there : length (component_bytes (component_in l)) ≡ length x
+  bytes_there = sym (ap length f.one.is)
 
-  pub bytes_at : length (component_bytes (component_in (drop at l))) ≡ e - at
-  bytes_at = sym (ap length s.one.is) ∙ part-long
+  pub cells-long : length l ≡ length x + length r
+  cells-long = ap length f.cells ∙ length-append x r
+
+  pub front_some : 0 < length x
+  front_some = omega (arith, component-some (component_in l), bytes_there)
 
 -- the cells of the first k components, which are n, and of the others
 pub record Cut (l : List ℕ) (xs : List Component) (k n : ℕ) : Type 0 where

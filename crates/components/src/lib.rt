@@ -5,10 +5,24 @@ ghost use Rattle.std.specs.Prelude.{◌≡◌, ◌∷◌, cond, map, reverse, �
 ghost use Rattle.cells.specs.Below.LanguageValues.{value, kind, link};
 ghost use Rattle.cells.specs.Below.LanguageValues.Component.{word, number, address};
 ghost use Rattle.cells.specs.Below.MachineArguments.{char};
+ghost use Rattle.cells.specs.Below.LayoutBounds.{WholeComponents};
 ghost use Rattle.cells.specs.Below.LayoutCells.{three, code, uncode};
 ghost use Rattle.cells.specs.Below.Components.{component_bytes, components_bytes, component_size, component_in, components_in};
 ghost use Rattle.cells.specs.Cells.{pasted, Number, Writable};
-ghost use Rattle.components.specs.Parts.{first_size, spelled, Leading, LeadingKind, LentChars, WordRoom, CopyRoom, JoinRoom, Written};
+ghost use Rattle.components.specs.Parts.{first_size, kind_number, spelled, SplitFirst, Leading, LeadingKind, LentChars, WordRoom, CopyRoom, JoinRoom, Written};
+
+use cells::from_language::Machine;
+
+// The kinds of components. A number and an address have theirs in their second cell.
+#[derive(Clone, Copy, Debug, PartialEq, Eq)]
+pub enum Kind {
+    Word = 0,
+    Number = 1,
+    Address = 2,
+}
+
+// The code of 0: a number travels as its value with this added, which is the greatest size of one.
+pub const ZERO: usize = Machine::SIZE;
 
 // How many cells a component takes, by its first cell.
 pub fn size_by(b: u8) -> usize
@@ -28,18 +42,30 @@ pub fn first_size(s: &[u8]) -> usize
     s.first().map_or(0, |b| size_by(*b))
 }
 
-// The kind of the component in front: 0 a word, 1 a number, 2 an address.
-pub fn kind_of(x: &[u8]) -> u8
+// The first component of a sequence and what is behind it; none where there is none.
+// A function and no iterator: that would be a struct whose invariant says what is asked here, and its loops would ask for a proof of what comes out.
+pub fn split_first(s: &[u8]) -> Option<(&[u8], &[u8])>
+    requires { WholeComponents s.now }
+    ensures { SplitFirst s.now result }
+{
+    if s.is_empty() {
+        return None;
+    }
+    Some(s.split_at(size_by(s[0])))
+}
+
+// The kind of the component in front.
+pub fn kind_of(x: &[u8]) -> Kind
     requires { Leading x.now }
-    ensures { Number (kind (component_in x.now)) 3 result }
+    ensures { kind_number result ≡ kind (component_in x.now) }
 {
     if x[0] != 0 {
-        return 0;
+        return Kind::Word;
     }
     if x[1] == 1 {
-        return 1;
+        return Kind::Number;
     }
-    2
+    Kind::Address
 }
 
 // The value of the number in front, with 8,388,607 added.
@@ -76,13 +102,13 @@ pub fn put_word(out: &mut [u8], at: usize, w: &[u8])
     cells::put(out, at + 1, w);
 }
 
-// Writes 0, a kind, 1 a number and 2 an address, and a number of three cells from index `at` on.
-fn put_short(out: &mut [u8], at: usize, kind: u8, n: usize)
+// Writes 0, the kind and a number of three cells from index `at` on.
+fn put_short(out: &mut [u8], at: usize, kind: Kind, n: usize)
     requires { Writable at 5 (length out.old) n 16777216 }
-    ensures { out.new ≡ pasted out.old at (0 ∷ kind ∷ three n) }
+    ensures { out.new ≡ pasted out.old at (0 ∷ kind_number kind ∷ three n) }
 {
     out[at] = 0;
-    out[at + 1] = kind;
+    out[at + 1] = kind as u8;
     cells::put_three(out, at + 2, n);
 }
 
@@ -91,7 +117,7 @@ pub fn put_number(out: &mut [u8], at: usize, code: usize)
     requires { Writable at 5 (length out.old) code 16777216 }
     ensures { out.new ≡ pasted out.old at (component_bytes (number (uncode code))) }
 {
-    put_short(out, at, 1, code);
+    put_short(out, at, Kind::Number, code);
 }
 
 // Writes an address from index `at` on.
@@ -99,21 +125,18 @@ pub fn put_address(out: &mut [u8], at: usize, n: usize)
     requires { Writable at 5 (length out.old) n 16777216 }
     ensures { out.new ≡ pasted out.old at (component_bytes (address n)) }
 {
-    put_short(out, at, 2, n);
+    put_short(out, at, Kind::Address, n);
 }
 
 // Writes the components of `src` at the front of `out`, the last one first.
-// By index, here and in `join`: the laws of the loops tell what is done of the sequence up to a place in it.
 fn turn(out: &mut [u8], src: &[u8])
     requires { CopyRoom (length out.old) src.now }
     ensures { out.new ≡ pasted out.old 0 (components_bytes (reverse (components_in src.now))) }
 {
-    let n = src.len();
-    let mut at = 0;
-    while at < n {
-        let e = at + size_by(src[at]);
-        cells::put(out, n - e, &src[at..e]);
-        at = e;
+    let mut left = src;
+    while let Some((x, rest)) = split_first(left) {
+        cells::put(out, rest.len(), x);
+        left = rest;
     }
 }
 
@@ -135,13 +158,12 @@ pub fn join(out: &mut [u8], src: &[u8]) -> usize
     ensures { Written out.old (spelled (components_in src.now)) out.new result }
 {
     let mut n = 0;
-    let mut at = 0;
-    while at < src.len() {
-        let e = at + size_by(src[at]);
-        let w = chars_of(&src[at..e]);
+    let mut left = src;
+    while let Some((x, rest)) = split_first(left) {
+        let w = chars_of(x);
         cells::put(out, n, w);
         n += w.len();
-        at = e;
+        left = rest;
     }
     n
 }

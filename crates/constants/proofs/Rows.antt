@@ -40,7 +40,8 @@ use Rattle.instructions.specs.Operands.{target}
 use Rattle.instructions.proofs.Storing.{quiet_none, plain_done, plain-full}
 use Rattle.instructions.proofs.Written.{into_one, fits-written, writable}
 use Rattle.tests.specs.Prepares.{Beside}
-use Rattle.tests.proofs.Values.{copied_is, copied-front}
+use Rattle.tests.proofs.Values.{copied_is}
+use Rattle.components.proofs.FirstLaws.{copied-front}
 use Rattle.transfers.specs.Places.{room_of, Roomy, Lot}
 use Rattle.transfers.proofs.Inserting.{one-encoded, plus-same}
 use Rattle.transfers.proofs.Rooms.{room-stop, has_room, lot-fits, lot-last, lot-writable, lot-stored}

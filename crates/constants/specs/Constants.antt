@@ -10,6 +10,7 @@ use Rattle.table.specs.Denote.{arg_of}
 use Rattle.table.specs.Good.{GoodText, GoodArgument}
 use Rattle.table.specs.declared.Argument.{Argument}
 use Rattle.table.specs.declared.Argument.TheVariants.{Nothing, Indexed, Label, Switch, Class, Text, Number}
+use Rattle.table.specs.declared.TextRef.{TextRef}
 use Rattle.constants.specs.declared.Constant.{Constant}
 
 -- a text or a number
@@ -23,7 +24,6 @@ IsConstant (Text v) = Unit {0}
 IsConstant (Number v) = Unit {0}
 
 pub record Puttable (c : List ℕ) (a : Argument) : Type 0 where
-  pub long : limit.table ≤ length c
   pub good : GoodArgument c (arg_of (table_of c) a) a
   pub form : IsConstant a
 
@@ -37,14 +37,12 @@ pub record Put (a : Arg) (o : List ℕ) (r : Constant) : Type 0 where
   pub bytes_most : r.bytes ≤ 61
   pub chars_most : r.chars ≤ 60
 
--- UMIESC of the constant a, and of the text v, to variable j of `most`
+-- UMIESC of the constant a, and of the text of r, to variable j of `most`
 pub record Placeable (c : List ℕ) (a : Argument) (j most : ℕ) : Type 0 where
-  pub long : limit.table ≤ length c
   pub good : GoodArgument c (arg_of (table_of c) a) a
   pub form : IsConstant a
   pub index : j < most
 
-pub record TextPlaceable (c : List ℕ) (v j : ℕ) : Type 0 where
-  pub long : limit.table ≤ length c
-  pub good : GoodText c v
+pub record TextPlaceable (c : List ℕ) (r : TextRef) (j : ℕ) : Type 0 where
+  pub good : GoodText c r
   pub index : j < limit.outputs

@@ -4,13 +4,13 @@
 ghost use Rattle.std.specs.Prelude.{Bool};
 ghost use Rattle.language.specs.Limits as limit;
 ghost use Rattle.language.specs.Letters.Letter.{Q};
-ghost use Rattle.language.specs.Program.Arg.{nothing, text};
+ghost use Rattle.language.specs.Program.{Arg as argument};
+ghost use Rattle.language.specs.Program.Arg.{nothing};
 ghost use Rattle.language.specs.Program.Op.{UMIESC};
-ghost use Rattle.layout.specs.Table.{text_by};
 ghost use Rattle.machine.specs.Effects.{row};
 ghost use Rattle.packed.specs.Packed.{table_of};
 ghost use Rattle.state.specs.Working.{nth, filing};
-ghost use Rattle.table.specs.Denote.{arg_of};
+ghost use Rattle.table.specs.Denote.{arg_of, text_of};
 ghost use Rattle.instructions.specs.Questions.{told_by};
 ghost use Rattle.instructions.specs.Does.{DoesFor};
 ghost use Rattle.instructions.specs.Operands as letters;
@@ -19,22 +19,23 @@ ghost use Rattle.constants.specs.Constants.{Puttable, Put, Placeable, TextPlacea
 use instructions::{Bench, Question, Target};
 use language::Machine;
 use layout::StatePlaces;
+use table::{Table, TextRef};
 
 // A component that was written: how many bytes and characters it has.
-#[derive(Clone, Copy)]
+#[derive(Clone, Copy, Debug, PartialEq, Eq)]
 pub struct Constant {
     pub bytes: usize,
     pub chars: usize,
 }
 
 // Writes a text or number argument as a component at the front of `out`.
-fn put_constant(table: &[u32], out: &mut [u8; 32768], arg: table::Argument) -> Constant
-    requires { Puttable table.now arg }
-    ensures { Put (arg_of (table_of table.now) arg) out.new result }
+fn put_constant(table: Table, out: &mut [u8; 32768], arg: table::Argument) -> Constant
+    requires { Puttable table.cells.now arg }
+    ensures { Put (arg_of (table_of table.entry.cells.now) arg) out.new result }
 {
     match arg {
-        table::Argument::Text(v) => {
-            let n = tests::put_text(table, out, v);
+        table::Argument::Text(text) => {
+            let n = tests::put_text(table, out, text);
             Constant {
                 bytes: n,
                 chars: n - 1,
@@ -50,13 +51,13 @@ fn put_constant(table: &[u32], out: &mut [u8; 32768], arg: table::Argument) -> C
 
 // UMIESC to an expression. One component is the same turned round.
 pub fn umiesc_expr(
-    table: &[u32],
+    table: Table,
     bench: &mut Bench,
     target: Target,
     arg: table::Argument,
 ) -> Result<(), Question>
-    requires { Placeable table.now arg target.j limit.expressions }
-    ensures { (reverses : Bool) → DoesFor bench.old.state (told_by result) bench.new.state (λ g ins. row g ins bench.old.state.store (arg_of (table_of table.now) arg) (nth (letters.target reverses target.at_end) target.j) nothing UMIESC) }
+    requires { Placeable table.cells.now arg target.j limit.expressions }
+    ensures { (reverses : Bool) → DoesFor bench.old.state (told_by result) bench.new.state (λ g ins. row g ins bench.old.state.store (arg_of (table_of table.entry.cells.now) arg) (nth (letters.target reverses target.at_end) target.j) nothing UMIESC) }
 {
     bench.state.stands();
     let c = put_constant(table, &mut bench.hold, arg);
@@ -73,14 +74,14 @@ pub fn umiesc_expr(
 
 // UMIESC to file `j`, as a record.
 pub fn umiesc_file(
-    table: &[u32],
+    table: Table,
     bench: &mut Bench,
     turned: bool,
     j: usize,
     arg: table::Argument,
 ) -> Result<(), Question>
-    requires { Placeable table.now arg j limit.files }
-    ensures { DoesFor bench.old.state (told_by result) bench.new.state (λ g ins. row g ins bench.old.state.store (arg_of (table_of table.now) arg) (nth (filing turned) j) nothing UMIESC) }
+    requires { Placeable table.cells.now arg j limit.files }
+    ensures { DoesFor bench.old.state (told_by result) bench.new.state (λ g ins. row g ins bench.old.state.store (arg_of (table_of table.entry.cells.now) arg) (nth (filing turned) j) nothing UMIESC) }
 {
     bench.state.stands();
     let c = put_constant(table, &mut bench.given, arg);
@@ -102,12 +103,17 @@ pub fn umiesc_file(
 }
 
 // UMIESC of a text to output `j`.
-pub fn umiesc_output(table: &[u32], bench: &mut Bench, j: usize, v: usize) -> Result<(), Question>
-    requires { TextPlaceable table.now v j }
-    ensures { DoesFor bench.old.state (told_by result) bench.new.state (λ g ins. row g ins bench.old.state.store (text (text_by (table_of table.now) v)) (nth Q j) nothing UMIESC) }
+pub fn umiesc_output(
+    table: Table,
+    bench: &mut Bench,
+    j: usize,
+    text: TextRef,
+) -> Result<(), Question>
+    requires { TextPlaceable table.cells.now text j }
+    ensures { DoesFor bench.old.state (told_by result) bench.new.state (λ g ins. row g ins bench.old.state.store (argument.text (text_of (table_of table.entry.cells.now) text)) (nth Q j) nothing UMIESC) }
 {
     let mut w = [0u8; 60];
-    let n = table::put_text(table, v, &mut w);
+    let n = table.put_text(text, &mut w);
     if Machine::OUTPUT < bench.state.output_len(j) + n {
         return Err(Question::Room);
     }

@@ -23,7 +23,8 @@ use Rattle.decimals.specs.declared.Numeral.TheVariants.{NotNumeral, OutOfRange, 
 use Rattle.state.specs.Working.{nth}
 use Rattle.state.specs.Blocks.{FirstParts, ExprLent}
 use Rattle.operands.proofs.Codes.{code_most}
-use Rattle.operands.proofs.Values.{none-there, one-there, copied-front}
+use Rattle.components.proofs.FirstLaws.{copied-front}
+use Rattle.state.proofs.Fronts.{none-there, one-there}
 use Rattle.converting.specs.Converting.{NumeralPut, ReadsNumeral}
 use Rattle.std.specs.Prelude.{Ok, Err}
 use Rattle.instructions.specs.declared.Question.TheVariants.{Missing, Kind, Range}

@@ -13,11 +13,12 @@ ghost use Rattle.instructions.specs.Questions.{told_by};
 ghost use Rattle.instructions.specs.Does.{DoesFor};
 ghost use Rattle.converting.specs.Converting.{NumeralPut, ReadsNumeral};
 
+use components::Kind;
 use instructions::{Bench, Question, Source};
 use state::Working;
 
 // The number that a word writes, with 8,388,607 added; and how many letters the word has.
-#[derive(Clone, Copy)]
+#[derive(Clone, Copy, Debug, PartialEq, Eq)]
 pub struct Spelled {
     pub code: usize,
     pub letters: usize,
@@ -44,7 +45,7 @@ fn first_numeral(state: &Working, i: usize) -> Result<Spelled, Question>
     if x.is_empty() {
         return Err(Question::Missing);
     }
-    if components::kind_of(x) != 0 {
+    if components::kind_of(x) != Kind::Word {
         return Err(Question::Kind);
     }
     let w = components::chars_of(x);

@@ -3,7 +3,6 @@ use mathlib.Core.Path.{◌≡◌, refl, sym, ap, ◌∙◌}
 use mathlib.Core.Bool.{Bool, true, false}
 use mathlib.Core.List.{List}
 use Prim.Native.Nat.{ℕ}
-use lib.ListN.{take}
 use Rattle.std.specs.Prelude.{Result, Ok, Err}
 use Rattle.std.proofs.lemmas.Result.{IfOk-at_ok}
 use Rattle.language.specs.Letters.Letter.{P}
@@ -15,7 +14,6 @@ use Rattle.machine.specs.Arguments.{Asks, Until, test_asks, on_records}
 use Rattle.machine.specs.Changes.{put_file, past_file, past_by, past}
 use Rattle.machine.specs.Effects.{Row, moved, row}
 use Rattle.machine.specs.Effects.Go.{on}
-use Rattle.records.specs.Sequences.{until_records}
 use Rattle.state.specs.Working.{HoldsState, Stands, on_store, nth, filing}
 use Rattle.instructions.specs.Does.{Does, DoesFor, stop_of}
 use Rattle.instructions.specs.Questions.{question_number, told_by}
@@ -24,7 +22,7 @@ use Rattle.instructions.proofs.Answers.{quiet-stop}
 use Rattle.instructions.proofs.Asking.{some}
 use Rattle.instructions.proofs.Storing.{storing-done}
 use Rattle.tests.proofs.Asked.{quiet-test}
-use Rattle.record_tests.specs.RecordPrepares.{ReadRecordTest, PreparesRecords}
+use Rattle.record_tests.specs.RecordPrepares.{ReadRecordTest, PreparesRecords, until_records_in}
 use Rattle.record_tests.specs.declared.RecordsPrepared.{RecordsPrepared}
 use Rattle.copying.specs.Copies.{passed, copied, Storing}
 
@@ -51,7 +49,7 @@ module _ {σ : State} (h : Stands σ) (i : ℕ) (c : Arg) {x : List ℕ} {r : Re
   asks ins = test_asks ins s c
 
   abbrev u : RecordsPrepared → Until Record
-  u p = until_records p.test (take p.len x)
+  u p = until_records_in p x
 
   -- a question of the test is answered no
   stopped : {q : Question} → r ≡ Err q → (t : Store) (ins : Inputs) → Does σ (question_number q) σ (asks ins, t, on)

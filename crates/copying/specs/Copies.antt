@@ -11,7 +11,8 @@ use Rattle.records.specs.declared.RecordTest.{RecordTest}
 use Rattle.state.specs.Working.{nth, filing}
 use Rattle.table.specs.declared.Argument.{Argument}
 use Rattle.instructions.specs.Does.{Does, Quiet, stop_of}
-use Rattle.record_tests.specs.RecordPrepares.{RecordTestReadable}
+use Rattle.record_tests.specs.RecordPrepares.{RecordTestReadable, FittingRecordsIn, records_size}
+use Rattle.record_tests.specs.declared.RecordsPrepared.{RecordsPrepared}
 
 -- the sequence that u takes of file i is removed or passed; and it is written to file j
 unfoldable pub passed : Until Record → Bool → ℕ → Store → Store
@@ -25,14 +26,15 @@ copied u removes i reverses j s =
 
 -- ---- what is asked
 
-pub record Droppable (given : List ℕ) (test : RecordTest) (i : ℕ) : Type 0 where
-  pub fitting : FittingRecords test given
+pub record Droppable (test : RecordTest) (i : ℕ) : Type 0 where
+  pub fitting : FittingRecords test
   pub source : i < limit.files
 
--- the first len of the cells given are beside the test
-pub record Duplicable (given : List ℕ) (len : ℕ) (test : RecordTest) (i j : ℕ) : Type 0 where
-  pub droppable : Droppable (take len given) test i
-  pub inside : len ≤ length given
+-- the bytes of the test stand in front of the row g
+pub record Duplicable (g : List ℕ) (test : RecordsPrepared) (i j : ℕ) : Type 0 where
+  pub fitting : FittingRecordsIn test g
+  pub source : i < limit.files
+  pub inside : records_size test ≤ length g
   pub target : j < limit.files
 
 -- the instructions: of file i, and from file i to file j, with the test of argument a

@@ -1,7 +1,7 @@
 // Moves of records: KOPIUJ, SKRESL and OMIN.
 #![tactic(auto)]
 
-ghost use Rattle.std.specs.Prelude.{◌≡◌, true, false, map, take};
+ghost use Rattle.std.specs.Prelude.{◌≡◌, true, false, map};
 ghost use Rattle.language.specs.Letters.Letter.{P};
 ghost use Rattle.language.specs.Program.Arg.{nothing};
 ghost use Rattle.language.specs.Program.Op.{KOPIUJ, SKRESL, OMIN};
@@ -14,6 +14,7 @@ ghost use Rattle.records.specs.Sequences.{until_records};
 ghost use Rattle.packed.specs.Packed.{table_of};
 ghost use Rattle.state.specs.Working.{HoldsState, on_store, nth, filing, turned};
 ghost use Rattle.filing.specs.Files.{bodies, RecordsWritable};
+ghost use Rattle.record_tests.specs.RecordPrepares.{until_records_in};
 ghost use Rattle.table.specs.Denote.{arg_of};
 ghost use Rattle.instructions.specs.Questions.{told_by};
 ghost use Rattle.instructions.specs.Does.{DoesFor};
@@ -22,33 +23,28 @@ ghost use Rattle.copying.specs.Copies.{passed, copied, Droppable, Duplicable, Re
 use instructions::{Bench, Question, Source};
 use layout::StatePlaces;
 use record_tests::RecordsPrepared;
-use records::Totals;
+use records::{RecordTest, Totals};
 use state::Working;
+use table::Table;
 
 // Moves the pointer of file `i` past what a test takes.
-fn pass_taken(
-    state: &mut Working,
-    hold: &mut [u8; 32768],
-    given: &[u8],
-    test: records::RecordTest,
-    i: usize,
-)
-    requires { Droppable given.now test i }
-    ensures { HoldsState state.new (on_store (passed (until_records test given.now) false i) state.old) }
+fn pass_taken(state: &mut Working, hold: &mut [u8; 32768], test: RecordTest, i: usize)
+    requires { Droppable test i }
+    ensures { HoldsState state.new (on_store (passed (until_records test.entry) false i) state.old) }
 {
-    let t = records::count(filing::after_bytes(state, i), test, given);
+    let t = records::count(filing::after_bytes(state, i), test);
     filing::pass_records(state, hold, i, t.records, t.bytes);
     state.minus_unless(t.reached);
 }
 
 // Takes away what a test takes after the pointer of file `i`.
 // Not one with `pass_taken`: that moves bytes between two strings and keeps the totals; this lowers the totals.
-fn drop_taken(state: &mut Working, given: &[u8], test: records::RecordTest, i: usize)
-    requires { Droppable given.now test i }
-    ensures { HoldsState state.new (on_store (passed (until_records test given.now) true i) state.old) }
+fn drop_taken(state: &mut Working, test: RecordTest, i: usize)
+    requires { Droppable test i }
+    ensures { HoldsState state.new (on_store (passed (until_records test.entry) true i) state.old) }
 {
     let f = filing::after_bytes(state, i);
-    let t = records::count(f, test, given);
+    let t = records::count(f, test);
     let bytes = t.bytes;
     let v = records::totals_of(&f[..bytes]);
     filing::drop_records(state, i, t.records, bytes, v.parts, v.chars);
@@ -56,42 +52,29 @@ fn drop_taken(state: &mut Working, given: &[u8], test: records::RecordTest, i: u
 }
 
 // OMIN of file `i`.
-pub fn omin(
-    table: &[u32],
-    bench: &mut Bench,
-    i: usize,
-    arg: table::Argument,
-) -> Result<(), Question>
-    requires { RecordsRemovable table.now i arg }
-    ensures { DoesFor bench.old.state (told_by result) bench.new.state (λ g ins. row g ins bench.old.state.store (nth P i) (arg_of (table_of table.now) arg) nothing OMIN) }
+pub fn omin(table: Table, bench: &mut Bench, i: usize, arg: table::Argument) -> Result<(), Question>
+    requires { RecordsRemovable table.cells.now i arg }
+    ensures { DoesFor bench.old.state (told_by result) bench.new.state (λ g ins. row g ins bench.old.state.store (nth P i) (arg_of (table_of table.entry.cells.now) arg) nothing OMIN) }
 {
     bench.state.stands();
     let q = record_tests::prepare(table, &bench.state, &mut bench.given, arg)?;
-    let len = q.len;
-    pass_taken(
-        &mut bench.state,
-        &mut bench.hold,
-        &bench.given[..len],
-        q.test,
-        i,
-    );
+    pass_taken(&mut bench.state, &mut bench.hold, q.with(&bench.given), i);
     Ok(())
 }
 
 // SKRESL of file `i`.
 pub fn skresl(
-    table: &[u32],
+    table: Table,
     bench: &mut Bench,
     i: usize,
     arg: table::Argument,
 ) -> Result<(), Question>
-    requires { RecordsRemovable table.now i arg }
-    ensures { DoesFor bench.old.state (told_by result) bench.new.state (λ g ins. row g ins bench.old.state.store (nth (filing true) i) (arg_of (table_of table.now) arg) nothing SKRESL) }
+    requires { RecordsRemovable table.cells.now i arg }
+    ensures { DoesFor bench.old.state (told_by result) bench.new.state (λ g ins. row g ins bench.old.state.store (nth (filing true) i) (arg_of (table_of table.entry.cells.now) arg) nothing SKRESL) }
 {
     bench.state.stands();
     let q = record_tests::prepare(table, &bench.state, &mut bench.given, arg)?;
-    let len = q.len;
-    drop_taken(&mut bench.state, &bench.given[..len], q.test, i);
+    drop_taken(&mut bench.state, q.with(&bench.given), i);
     Ok(())
 }
 
@@ -133,13 +116,12 @@ fn copy_taken(
     reverses: bool,
     j: usize,
 ) -> Result<(), Question>
-    requires { Duplicable bench.old.given prepared.len prepared.test source.i j }
-    ensures { Storing bench.old.state (told_by result) bench.new.state (copied (until_records prepared.test (take prepared.len bench.old.given)) source.removes source.i reverses j bench.old.state.store) }
+    requires { Duplicable bench.old.given prepared source.i j }
+    ensures { Storing bench.old.state (told_by result) bench.new.state (copied (until_records_in prepared bench.old.given) source.removes source.i reverses j bench.old.state.store) }
 {
     bench.state.stands();
     let f = filing::after_bytes(&bench.state, source.i);
-    let len = prepared.len;
-    let t = records::count(f, prepared.test, &bench.given[..len]);
+    let t = records::count(f, prepared.with(&bench.given));
     let k = t.records;
     let bytes = t.bytes;
     let v = records::totals_of(&f[..bytes]);
@@ -169,15 +151,15 @@ fn copy_taken(
 
 // KOPIUJ from a file to file `j`.
 pub fn kopiuj(
-    table: &[u32],
+    table: Table,
     bench: &mut Bench,
     source: Source,
     reverses: bool,
     j: usize,
     arg: table::Argument,
 ) -> Result<(), Question>
-    requires { RecordsMovable table.now source.i j arg }
-    ensures { DoesFor bench.old.state (told_by result) bench.new.state (λ g ins. row g ins bench.old.state.store (nth (filing source.removes) source.i) (nth (filing reverses) j) (arg_of (table_of table.now) arg) KOPIUJ) }
+    requires { RecordsMovable table.cells.now source.i j arg }
+    ensures { DoesFor bench.old.state (told_by result) bench.new.state (λ g ins. row g ins bench.old.state.store (nth (filing source.removes) source.i) (nth (filing reverses) j) (arg_of (table_of table.entry.cells.now) arg) KOPIUJ) }
 {
     bench.state.stands();
     let q = record_tests::prepare(table, &bench.state, &mut bench.given, arg)?;

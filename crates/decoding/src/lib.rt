@@ -11,7 +11,7 @@ ghost use Rattle.decoding.specs.Operands.{Lettered, Named, Labelled, Switched, I
 use instructions::{Source, Target};
 
 // A letter and the index of its variable, from 0.
-#[derive(Clone, Copy)]
+#[derive(Clone, Copy, Debug, PartialEq, Eq)]
 pub struct Opened {
     pub letter: table::Letter,
     pub i: usize,

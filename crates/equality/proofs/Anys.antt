@@ -17,9 +17,8 @@ use Rattle.machine.specs.Effects.{relation, equality, row}
 use Rattle.machine.specs.Effects.Go.{on}
 use Rattle.layout.specs.Components.{components_in}
 use Rattle.layout.proofs.ComponentLaws.{components-of}
-use Rattle.matching.specs.Tests.{until, Took}
+use Rattle.matching.specs.Tests.{Took}
 use Rattle.matching.specs.declared.Taken.{Taken}
-use Rattle.matching.specs.declared.Test.{Test}
 use Rattle.comparands.proofs.Below.Signs.{kept-or-minus}
 use Rattle.packed.specs.Packed.{table_of}
 use Rattle.state.specs.Working.{HoldsState, Stands, on_store, nth}
@@ -32,7 +31,7 @@ use Rattle.instructions.proofs.Asking.{some}
 use Rattle.instructions.specs.Does.{DoesFor, Quiet, stop_of}
 use Rattle.instructions.proofs.Answers.{quiet-stop, quiet-done}
 use Rattle.comparands.specs.Offers.{ArgumentOffers}
-use Rattle.equality.specs.Equality.{test_of}
+use Rattle.equality.specs.Equality.{until_by}
 use Rattle.equality.proofs.Meeting.{met}
 use Rattle.equality.proofs.Questions.{beside, offer_by, numeric}
 
@@ -85,14 +84,13 @@ module _ {σ : State} (h : Stands σ) (i : ℕ) (c : List ℕ) (a : Argument) {g
       rw (row_any f ins s i b)
       (quiet-stop h (q f ins s i b) (minus_unless (holds f ins s i b) s) (quiet f ins) (stop_is f ins (ap told_by e)) (some k))
 
-  pub any-done : {n : ℕ} → r ≡ Ok n → {x : List ℕ} → ExprLent σ i x → {v : Test} {t : Taken} → v ≡ test_of a → Took (until v (take n g)) (components_in x) t → {σ' : State}
+  pub any-done : {n : ℕ} → r ≡ Ok n → {x : List ℕ} → ExprLent σ i x → {t : Taken} → Took (until_by a (take n g)) (components_in x) t → {σ' : State}
       → HoldsState σ' (on_store (minus_unless t.reached) σ) → does 0 σ'
   unfolding on_store
-  any-done {n} e {x} l {v} {t} w k d f ins =
+  any-done {n} e {x} l {t} k d f ins =
       let y : t.reached ≡ holds f ins s i b =
       sym (ap (λ (u : ℕ × Bool). u.1) k.is)
-      ∙ ap (λ (u : Test). (taken (until u (take n g)) (components_in x)).1) w
-      ∙ ap (λ (ys : List Component). (taken (until (test_of a) (take n g)) ys).1) l.is
+      ∙ ap (λ (ys : List Component). (taken (until_by a (take n g)) ys).1) l.is
       ∙ met (table_of c) a ins s (take n g) (expr s (nth letters.Letter.E i)) (components-of (beside (o ins) e).encoded) in
       rw (row_any f ins s i b)
       (quiet-done h (q f ins s i b) (minus_unless (holds f ins s i b) s) (quiet f ins) (sym (stop_is f ins (ap told_by e))) (rw y at d))

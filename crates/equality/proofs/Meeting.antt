@@ -10,23 +10,22 @@ use Rattle.lists.specs.Lists.{any, filled}
 use Rattle.language.specs.Letters.Letter.{E}
 use Rattle.language.specs.Values.{Component, Store, State, Inputs, same}
 use Rattle.machine.specs.Arguments.{expr, side, matches, taken}
-use Rattle.layout.specs.Bounds.{Encoded, WholeComponents}
+use Rattle.layout.specs.Bounds.{Encoded}
 use Rattle.layout.specs.Cells.{cell, uncode}
 use Rattle.layout.proofs.ComponentLaws.{next-component, component-some, whole-components, components-of}
 use Rattle.layout.specs.Components.{component_in, component_size, components_bytes, components_in}
-use Rattle.layout.specs.Table.{text_by}
 use Rattle.cells.specs.Cells.{Number}
 use Rattle.components.specs.Parts.{first_size, Leading, LentChars}
-use Rattle.matching.specs.Tests.{until, Fitting, Took}
-use Rattle.matching.specs.declared.Test.{Test}
+use Rattle.matching.specs.Tests.{Took}
 use Rattle.matching.specs.declared.Taken.{Taken}
 use Rattle.state.specs.Working.{HoldsState, on_store, nth}
 use Rattle.state.specs.Blocks.{ExprLent, FirstParts}
-use Rattle.table.specs.Denote.{arg_of}
+use Rattle.table.specs.Denote.{arg_of, text_of}
 use Rattle.table.specs.declared.Argument.{Argument}
 use Rattle.table.specs.declared.Argument.TheVariants as argument
-use Rattle.tests.proofs.Values.{front_fits, front-encoded, none-there, one-there}
-use Rattle.equality.specs.Equality.{test_of, related, settled}
+use Rattle.tests.proofs.Values.{front_fits, front-encoded}
+use Rattle.state.proofs.Fronts.{none-there, one-there}
+use Rattle.equality.specs.Equality.{until_by, related, settled}
 
 pub false-true : false ≡ true → ⊥
 false-true r = subst (λ (u : Bool). cond u ⊥ (Unit {0})) r tt
@@ -41,7 +40,7 @@ or-false false = refl
 
 -- whether one of xs is met
 pub met : (c : List ℕ) (a : Argument) (ins : Inputs) (s : Store) (g : List ℕ) (xs : List Component) → components_in g ≡ side ins s (arg_of c a)
-    → (taken (until (test_of a) g) xs).1 ≡ any (matches (λ x. x) ins s (arg_of c a)) xs
+    → (taken (until_by a g) xs).1 ≡ any (matches (λ x. x) ins s (arg_of c a)) xs
 met c argument.Nothing ins s g xs e = rw e refl
 met c (argument.Indexed l n) ins s g xs e =
     ap (λ (ys : List Component). any (λ x. any (same x) ys) xs) (e ∙ sym (map_same (side ins s (arg_of c (argument.Indexed l n)))))
@@ -50,7 +49,7 @@ met c (argument.Switch k) ins s g xs e = rw e refl
 met c (argument.Class m) ins s g xs e = refl
 met c (argument.Text v) ins s g xs e =
     ap (λ (ys : List Component). any (λ x. any (same x) ys) xs) e
-    ∙ ap (λ (p : Component → Bool). any p xs) (fun_ext (λ x. or-false (same x (Component.word (text_by c v)))))
+    ∙ ap (λ (p : Component → Bool). any p xs) (fun_ext (λ x. or-false (same x (Component.word (text_of c v)))))
 met c (argument.Number v) ins s g xs e =
     ap (λ (ys : List Component). any (λ x. any (same x) ys) xs) e
     ∙ ap (λ (p : Component → Bool). any p xs) (fun_ext (λ x. or-false (same x (Component.number (uncode v)))))
@@ -89,28 +88,14 @@ module _ {σ : State} {i : ℕ} {x : List ℕ} (l : ExprLent σ i x) where
         }
 
     -- what the end makes is what is settled
-    pub settled-done : (a : Argument) (g : List ℕ) {v : Test} {t : Taken} → v ≡ test_of a → Took (until v g) (components_in (take k x)) t → (removes : Bool) {σ' : State}
+    pub settled-done : (a : Argument) (g : List ℕ) {t : Taken} → Took (until_by a g) (components_in (take k x)) t → (removes : Bool) {σ' : State}
         → HoldsState σ' (on_store (related t.reached removes i) σ) → HoldsState σ' (on_store (settled a g removes i) σ)
     unfolding on_store settled
-    settled-done a g {v} {t} f w removes d =
-        let q : (taken (until (test_of a) g) (take 1 es)).1 ≡ t.reached =
-        ap (λ (ys : List Component). (taken (until (test_of a) g) ys).1) (sym (components-of first-whole))
-        ∙ ap (λ (u : Test). (taken (until u g) (components_in (take k x))).1) (sym f)
+    settled-done a g {t} w removes d =
+        let q : (taken (until_by a g) (take 1 es)).1 ≡ t.reached =
+        ap (λ (ys : List Component). (taken (until_by a g) ys).1) (sym (components-of first-whole))
         ∙ ap (λ (r : ℕ × Bool). r.1) w.is in
         rw q d
-
--- the components beside fit
-fitting-of : (a : Argument) (g : List ℕ) → WholeComponents g → Fitting (test_of a) g
-fitting-of argument.Nothing g h = h
-fitting-of (argument.Indexed l n) g h = h
-fitting-of (argument.Label k) g h = h
-fitting-of (argument.Switch k) g h = h
-fitting-of (argument.Class m) g h = tt
-fitting-of (argument.Text v) g h = h
-fitting-of (argument.Number v) g h = h
-
-pub fitting-by : (a : Argument) (g : List ℕ) {v : Test} → v ≡ test_of a → WholeComponents g → Fitting v g
-fitting-by a g e h = subst (λ (v : Test). Fitting v g) (sym e) (fitting-of a g h)
 
 -- what is settled, by what the argument means
 pub settled-met : (c : List ℕ) (a : Argument) (ins : Inputs) (s : Store) (i : ℕ) {g : List ℕ} (removes : Bool) → Encoded g (side ins s (arg_of c a))

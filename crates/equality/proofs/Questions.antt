@@ -22,7 +22,7 @@ use Rattle.packed.specs.Packed.{table_of}
 use Rattle.state.specs.Working.{HoldsState, Stands}
 use Rattle.table.specs.Denote.{arg_of}
 use Rattle.table.specs.declared.Argument.{Argument}
-use Rattle.tests.proofs.Values.{front_is}
+use Rattle.components.proofs.FirstLaws.{front_is}
 use Rattle.instructions.specs.Questions.{question_number, told_by}
 use Rattle.instructions.specs.declared.Question.{Question}
 use Rattle.instructions.proofs.Asking.{some}

@@ -1,17 +1,17 @@
 -- What RW asks, and what is told of its arguments.
-use Rattle.std.specs.Prelude.{◌≡◌, Bool, true, false, cond, List, ℕ, ◌<◌, eqb, take}
+use Rattle.std.specs.Prelude.{◌≡◌, Bool, true, false, cond, List, [], ℕ, ◌≤◌, ◌<◌, eqb, length, take}
 use Rattle.language.specs.Limits as limit
 use Rattle.language.specs.Letters.Letter.{E}
-use Rattle.language.specs.Values.{Store, State, kind}
-use Rattle.machine.specs.Arguments.{expr, single, taken}
+use Rattle.language.specs.Values.{Component, Store, State, kind, same, of_class}
+use Rattle.machine.specs.Arguments.{Until, up_to, expr, single, taken}
 use Rattle.machine.specs.Changes.{minus, used}
 use Rattle.layout.specs.Bounds.{WholeComponents}
-use Rattle.layout.specs.Components.{component_in}
-use Rattle.lists.specs.Lists.{filled}
+use Rattle.layout.specs.Components.{component_in, components_in}
+use Rattle.layout.specs.Table.{class_by}
+use Rattle.lists.specs.Lists.{any, among, filled}
 use Rattle.components.specs.Parts.{Leading}
-use Rattle.matching.specs.Tests.{until}
+use Rattle.matching.specs.Tests.{in_class, first_chars, until, until_firsts, compared, Fitting}
 use Rattle.matching.specs.declared.Test.{Test}
-use Rattle.matching.specs.declared.Test.TheVariants as test
 use Rattle.state.specs.Working.{nth, reading}
 use Rattle.state.specs.Blocks.{FirstParts}
 use Rattle.table.specs.Denote.{arg_of}
@@ -21,15 +21,37 @@ use Rattle.table.specs.declared.Argument.TheVariants.{Nothing, Indexed, Label, S
 use Rattle.comparands.specs.Offers.{Holdable}
 use Rattle.tests.specs.Prepares.{OtherLetter}
 
--- what a component is compared by: a class, or the components that the argument offers
-abbrev pub test_of : Argument → Test
-test_of Nothing = test.Among
-test_of (Indexed l n) = test.Among
-test_of (Label k) = test.Among
-test_of (Switch k) = test.Among
-test_of (Class m) = test.Class m
-test_of (Text v) = test.Among
-test_of (Number v) = test.Among
+-- what a component is compared by: a class, or the components that the argument offers, which are in g; and a character
+abbrev met_by : List ℕ → Until Component
+met_by g = up_to (λ x. any (same x) (components_in g))
+
+abbrev begun_by : List ℕ → Until ℕ
+begun_by g = up_to (λ b. among b (first_chars (components_in g)))
+
+abbrev pub until_by : Argument → List ℕ → Until Component
+until_by Nothing g = met_by g
+until_by (Indexed l n) g = met_by g
+until_by (Label k) g = met_by g
+until_by (Switch k) g = met_by g
+until_by (Class m) g = up_to (of_class (class_by [] m))
+until_by (Text v) g = met_by g
+until_by (Number v) g = met_by g
+
+abbrev pub firsts_by : Argument → List ℕ → Until ℕ
+firsts_by Nothing g = begun_by g
+firsts_by (Indexed l n) g = begun_by g
+firsts_by (Label k) g = begun_by g
+firsts_by (Switch k) g = begun_by g
+firsts_by (Class m) g = up_to (in_class m)
+firsts_by (Text v) g = begun_by g
+firsts_by (Number v) g = begun_by g
+
+-- t is that test
+pub record TestBy (a : Argument) (g : List ℕ) (t : Test) : Type 0 where
+  pub parts : until t ≡ until_by a g
+  pub firsts : until_firsts t ≡ firsts_by a g
+  pub fitting : WholeComponents g → Fitting t
+  pub long : compared t ≤ length g
 
 -- its letter, if it has one, is one of a relation's
 abbrev pub OtherArgument : Argument → Type 0
@@ -54,7 +76,7 @@ related holds removes i s = cond holds (used (nth (reading removes) i) s) (minus
 
 -- by what the first component is compared with: the argument, and the components in g
 unfoldable pub settled : Argument → List ℕ → Bool → ℕ → Store → Store
-settled a g removes i s = related (taken (until (test_of a) g) (take 1 (expr s (nth E i)))).1 removes i s
+settled a g removes i s = related (taken (until_by a g) (take 1 (expr s (nth E i)))).1 removes i s
 
 -- expression i has a first component
 pub record Settleable (σ : State) (g : List ℕ) (i : ℕ) : Type 0 where

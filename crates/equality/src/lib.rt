@@ -14,18 +14,20 @@ ghost use Rattle.table.specs.Denote.{letter_of, arg_of};
 ghost use Rattle.instructions.specs.Questions.{told_by};
 ghost use Rattle.instructions.specs.Does.{DoesFor};
 ghost use Rattle.tests.specs.Prepares.{OtherLetter};
-ghost use Rattle.equality.specs.Equality.{test_of, OtherArgument, Singles, Alikeable, Unlike, related, settled, Finishable, Settleable, Relatable};
+ghost use Rattle.equality.specs.Equality.{TestBy, OtherArgument, Singles, Alikeable, Unlike, related, settled, Finishable, Settleable, Relatable};
 
 use instructions::{Bench, Question, Source};
+use matching::Test;
 use state::Working;
+use table::Table;
 
-// What a component is compared by: a class, or the components beside.
-pub fn test_of(arg: table::Argument) -> matching::Test
-    ensures { result ≡ test_of arg }
+// What a component is compared by: a class, or the components that the argument offers, which are in `given`.
+pub fn test_of(arg: table::Argument, given: &[u8]) -> Test<'_>
+    ensures { TestBy arg given.now result }
 {
     match arg {
-        table::Argument::Class(mask) => matching::Test::Class(mask),
-        _ => matching::Test::Among,
+        table::Argument::Class(mask) => Test::Class(mask),
+        _ => Test::Among(given),
     }
 }
 
@@ -59,7 +61,6 @@ pub fn unlike(x: &[u8], given: &[u8], arg: table::Argument) -> bool
     if !is_single(arg) {
         return false;
     }
-    // Kinds are numbers here as in `components`.
     components::kind_of(x) != components::kind_of(given)
 }
 
@@ -82,20 +83,20 @@ fn settle(state: &mut Working, given: &[u8], source: Source, arg: table::Argumen
 {
     let x = state.expr_bytes(source.i);
     let n = components::first_size(x);
-    let t = matching::count(&x[..n], test_of(arg), given);
+    let t = matching::count(&x[..n], test_of(arg, given));
     let letters = components::chars_of(x).len();
     finish(state, source, n, letters, t.reached);
 }
 
 // RW of an expression, by A or B.
 pub fn rw_one(
-    table: &[u32],
+    table: Table,
     bench: &mut Bench,
     source: Source,
     arg: table::Argument,
 ) -> Result<(), Question>
-    requires { Relatable table.now source.i arg }
-    ensures { DoesFor bench.old.state (told_by result) bench.new.state (λ g ins. row g ins bench.old.state.store (nth (reading source.removes) source.i) (arg_of (table_of table.now) arg) nothing RW) }
+    requires { Relatable table.cells.now source.i arg }
+    ensures { DoesFor bench.old.state (told_by result) bench.new.state (λ g ins. row g ins bench.old.state.store (nth (reading source.removes) source.i) (arg_of (table_of table.entry.cells.now) arg) nothing RW) }
 {
     let held = comparands::put_comparand(table, &bench.state, &mut bench.given, arg);
     let x = bench.state.expr_bytes(source.i);
@@ -112,18 +113,18 @@ pub fn rw_one(
 
 // RW of expression `i`, by T: whether one of its components is equal.
 pub fn rw_any(
-    table: &[u32],
+    table: Table,
     bench: &mut Bench,
     i: usize,
     arg: table::Argument,
 ) -> Result<(), Question>
-    requires { Relatable table.now i arg }
-    ensures { DoesFor bench.old.state (told_by result) bench.new.state (λ g ins. row g ins bench.old.state.store (nth letters.Letter.T i) (arg_of (table_of table.now) arg) nothing RW) }
+    requires { Relatable table.cells.now i arg }
+    ensures { DoesFor bench.old.state (told_by result) bench.new.state (λ g ins. row g ins bench.old.state.store (nth letters.Letter.T i) (arg_of (table_of table.entry.cells.now) arg) nothing RW) }
 {
     bench.state.stands();
     let len = comparands::put_comparand(table, &bench.state, &mut bench.given, arg)?;
     let x = bench.state.expr_bytes(i);
-    let t = matching::count(x, test_of(arg), &bench.given[..len]);
+    let t = matching::count(x, test_of(arg, &bench.given[..len]));
     bench.state.minus_unless(t.reached);
     Ok(())
 }

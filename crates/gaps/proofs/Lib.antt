@@ -3,3 +3,4 @@ pub mod Parts
 pub mod Laws
 pub mod Spread
 pub mod Below
+pub mod Rows

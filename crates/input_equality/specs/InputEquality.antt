@@ -4,13 +4,12 @@ use Rattle.language.specs.Values.{Store, State, kind}
 use Rattle.machine.specs.Arguments.{single, taken}
 use Rattle.machine.specs.Changes.{minus_unless}
 use Rattle.layout.specs.Bounds.{WholeComponents}
-use Rattle.layout.specs.Components.{component_in, components_in}
+use Rattle.layout.specs.Components.{component_in}
 use Rattle.components.specs.Parts.{Leading}
-use Rattle.matching.specs.Tests.{first_chars, until_chars}
 use Rattle.table.specs.Denote.{arg_of}
 use Rattle.table.specs.declared.Argument.{Argument}
 use Rattle.comparands.specs.Offers.{Holdable}
-use Rattle.equality.specs.Equality.{test_of, OtherArgument}
+use Rattle.equality.specs.Equality.{firsts_by, OtherArgument}
 use Rattle.readings.specs.Readings.{read_place, input_of, Unread}
 
 -- where there is a single component, g begins with it
@@ -24,7 +23,7 @@ NotWord g a r = (c : List ℕ) → r ≡ cond (single (arg_of c a)) (cond (eqb (
 
 -- H turns minus where the next character of the input is not what the argument means, with the components in g beside
 unfoldable pub compared : Argument → List ℕ → List ℕ → ℕ → Store → Store
-compared a g input i s = minus_unless (taken (until_chars (test_of a) (first_chars (components_in g))) (take 1 (drop (read_place s i) input))).1 s
+compared a g input i s = minus_unless (taken (firsts_by a g) (take 1 (drop (read_place s i) input))).1 s
 
 pub record InputComparable (σ : State) (input g : List ℕ) (i : ℕ) : Type 0 where
   pub unread : Unread σ input i

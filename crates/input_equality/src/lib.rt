@@ -24,8 +24,7 @@ fn not_word(given: &[u8], arg: table::Argument) -> bool
     if !equality::is_single(arg) {
         return false;
     }
-    // 0 is the kind of words, a number here as in `components`.
-    components::kind_of(given) != 0
+    components::kind_of(given) != components::Kind::Word
 }
 
 // Compares the next character of input `i`; of the words beside only the first characters count. Nothing is read.
@@ -42,7 +41,7 @@ fn compare(
 {
     let rest = readings::unread(state, i, input);
     let n = rest.len().min(1);
-    let t = readings::take_chars(hold, &rest[..n], equality::test_of(arg), given);
+    let t = readings::take_chars(hold, &rest[..n], equality::test_of(arg, given));
     state.minus_unless(t.reached);
 }
 
@@ -53,8 +52,8 @@ pub fn rw_input(
     i: usize,
     arg: table::Argument,
 ) -> Result<(), Question>
-    requires { InputRelatable task.table.now bench.old.state task.first.now task.second.now i arg }
-    ensures { DoesPassing bench.old.state (told_by result) bench.new.state (λ g. row g (task.entry.first.now ∷ task.entry.second.now ∷ []) bench.old.state.store (nth I i) (arg_of (table_of task.entry.table.now) arg) nothing RW) }
+    requires { InputRelatable task.table.cells.now bench.old.state task.first.now task.second.now i arg }
+    ensures { DoesPassing bench.old.state (told_by result) bench.new.state (λ g. row g (task.entry.first.now ∷ task.entry.second.now ∷ []) bench.old.state.store (nth I i) (arg_of (table_of task.entry.table.cells.now) arg) nothing RW) }
 {
     bench.state.stands();
     let len = comparands::put_comparand(task.table, &bench.state, &mut bench.given, arg)?;

@@ -10,6 +10,7 @@ ghost use Rattle.instructions.specs.Operands.{input_at};
 use language::Machine;
 use layout::StatePlaces;
 use state::Working;
+use table::Table;
 
 // The questions that an instruction may answer no, by their numbers.
 #[derive(Clone, Copy, PartialEq, Eq, Debug)]
@@ -46,9 +47,9 @@ pub struct Bench {
 }
 
 // What an instruction reads and leaves as it is: the table and both inputs.
-#[derive(Clone, Copy)]
+#[derive(Clone, Copy, Debug, PartialEq, Eq)]
 pub struct Task<'a> {
-    pub table: &'a [u32],
+    pub table: Table<'a>,
     pub first: &'a [u8],
     pub second: &'a [u8],
 }
@@ -63,14 +64,14 @@ impl<'a> Task<'a> {
 }
 
 // What components or records are read from, and whether they are removed there.
-#[derive(Clone, Copy)]
+#[derive(Clone, Copy, Debug, PartialEq, Eq)]
 pub struct Source {
     pub removes: bool,
     pub i: usize,
 }
 
 // What components are written to: turned round or not, at the end or in front.
-#[derive(Clone, Copy)]
+#[derive(Clone, Copy, Debug, PartialEq, Eq)]
 pub struct Target {
     pub reverses: bool,
     pub at_end: bool,

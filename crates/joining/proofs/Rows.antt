@@ -3,7 +3,6 @@ use mathlib.Core.Path.{◌≡◌, refl, ap, ◌∙◌}
 use mathlib.Core.Bool.{Bool, true, false}
 use mathlib.Core.List.{List}
 use Prim.Native.Nat.{ℕ}
-use lib.ListN.{take}
 use Rattle.std.specs.Prelude.{Result, Ok, Err}
 use Rattle.language.specs.Program.{Arg, Program}
 use Rattle.language.specs.Program.Arg.{nothing}
@@ -13,12 +12,11 @@ use Rattle.machine.specs.Arguments.{ask, ◌&◌, Until, test_asks, on_parts}
 use Rattle.machine.specs.Changes.{put_expr, placed, into, front, past_by, past}
 use Rattle.machine.specs.Effects.{Row, moved, row}
 use Rattle.machine.specs.Effects.Go.{on}
-use Rattle.matching.specs.Tests.{until}
 use Rattle.state.specs.Working.{Stands, nth, reading}
 use Rattle.instructions.specs.Questions.{question_number, told_by}
 use Rattle.instructions.specs.declared.Question.{Question}
 use Rattle.instructions.specs.Does.{DoesFor, Tried}
-use Rattle.tests.specs.Prepares.{Prepares}
+use Rattle.tests.specs.Prepares.{Prepares, until_in}
 use Rattle.tests.specs.declared.Prepared.{Prepared}
 use Rattle.tests.proofs.Asked.{test-read, words-stop, words-tried}
 use Rattle.moves.specs.Moves.{all_taken_words}
@@ -47,8 +45,8 @@ module _ {σ : State} (h : Stands σ) (removes : Bool) (i : ℕ) (c : Arg) {g : 
       (λ z. ap (λ (v : Until Component). all_taken_words v i s) (w.negative (ap told_by e ∙ z) ins) ∙ none-words i s) e)
 
   pub zbij-tried : {p : Prepared} → r ≡ Ok p → {k : ℕ} {σ' : State}
-      → Tried σ k σ' (all_taken_words (until p.test (take p.len g)) i s) (joined_up (until p.test (take p.len g)) removes i s)
+      → Tried σ k σ' (all_taken_words (until_in p g) i s) (joined_up (until_in p g) removes i s)
       → DoesFor σ k σ' by
   zbij-tried {p} e k f ins =
-      let u = until p.test (take p.len g) in
+      let u = until_in p g in
       rw (row-zbij f ins s i c removes, (test-read w e).parts ins) (words-tried h c w ins (joined_up u removes i s) (all_taken_words u i s) e k)

@@ -1,14 +1,14 @@
 // Joining words: ZBIJ, and characters made one word.
 #![tactic(auto)]
 
-ghost use Rattle.std.specs.Prelude.{◌≡◌, ◌<◌, ◌≤◌, length, take};
+ghost use Rattle.std.specs.Prelude.{◌≡◌, ◌<◌, ◌≤◌, length};
 ghost use Rattle.language.specs.Limits as limit;
 ghost use Rattle.language.specs.Program.Arg.{nothing};
 ghost use Rattle.language.specs.Program.Op.{ZBIJ};
 ghost use Rattle.layout.specs.Components.{components_bytes, components_in};
 ghost use Rattle.machine.specs.Effects.{row};
 ghost use Rattle.components.specs.Parts.{spelled, Written};
-ghost use Rattle.matching.specs.Tests.{until};
+ghost use Rattle.tests.specs.Prepares.{until_in};
 ghost use Rattle.packed.specs.Packed.{table_of};
 ghost use Rattle.state.specs.Working.{nth, reading};
 ghost use Rattle.table.specs.Denote.{arg_of};
@@ -21,6 +21,7 @@ use instructions::{Bench, Question, Source};
 use language::Machine;
 use moves::New;
 use state::Working;
+use table::Table;
 use tests::Prepared;
 
 // How many words `k` characters make: one, or none where there are none.
@@ -65,10 +66,10 @@ fn join_word(row: &mut [u8; 32768], out: &mut [u8; 32768], src: &[u8]) -> usize
 fn join_up(bench: &mut Bench, test: Prepared, source: Source) -> Result<(), Question>
     requires beside { TestBeside bench.old.given test }
     requires source { source.i < limit.expressions }
-    ensures { Tried bench.old.state (told_by result) bench.new.state (all_taken_words (until test.test (take test.len bench.old.given)) source.i bench.old.state.store) (joined_up (until test.test (take test.len bench.old.given)) source.removes source.i bench.old.state.store) }
+    ensures { Tried bench.old.state (told_by result) bench.new.state (all_taken_words (until_in test bench.old.given) source.i bench.old.state.store) (joined_up (until_in test bench.old.given) source.removes source.i bench.old.state.store) }
 {
     let x = bench.state.expr_bytes(source.i);
-    let t = matching::count(x, test.test, &bench.given[..test.len]);
+    let t = matching::count(x, test.with(&bench.given));
     if !t.words {
         return Err(Question::Kind);
     }
@@ -90,13 +91,13 @@ fn join_up(bench: &mut Bench, test: Prepared, source: Source) -> Result<(), Ques
 
 // ZBIJ.
 pub fn zbij(
-    table: &[u32],
+    table: Table,
     bench: &mut Bench,
     source: Source,
     arg: table::Argument,
 ) -> Result<(), Question>
-    requires { WordsJoinable table.now source.i arg }
-    ensures { DoesFor bench.old.state (told_by result) bench.new.state (λ g ins. row g ins bench.old.state.store (nth (reading source.removes) source.i) (arg_of (table_of table.now) arg) nothing ZBIJ) }
+    requires { WordsJoinable table.cells.now source.i arg }
+    ensures { DoesFor bench.old.state (told_by result) bench.new.state (λ g ins. row g ins bench.old.state.store (nth (reading source.removes) source.i) (arg_of (table_of table.entry.cells.now) arg) nothing ZBIJ) }
 {
     bench.state.stands();
     let test = tests::prepare(table, &bench.state, &mut bench.given, arg)?;

@@ -25,15 +25,16 @@ use Rattle.control.proofs.Laws.{made-going, made_after}
 use Rattle.instructions.specs.Does.{Goes, GoesFor, GoesIn}
 use Rattle.instructions.proofs.Answers.{answer-no, goes-stop}
 use Rattle.instructions.proofs.Goings.{none-yes, goes-made}
-use Rattle.jumps.specs.Jumps.{Leads, Led, led_to}
+use Rattle.table.specs.Good.{GoodLabel}
+use Rattle.jumps.specs.Jumps.{Led, led_to}
 use Rattle.jumps.proofs.Leading.{led-goes, led-full}
 
 -- ---- from what is asked to what the parts ask
 
-module _ {c : List ℕ} {k : ℕ} (w : Leads c k) where
+module _ {c : List ℕ} {k : ℕ} (w : GoodLabel c k) where
   module _ {t : ℕ} (q : Number (label_in (table_of c) k).target 67108864 t) where
     pub target_is : t ≡ led_to c k
-    target_is = q.is ∙ sym (ap (λ (l : Label). l.target) w.label.is)
+    target_is = q.is ∙ sym (ap (λ (l : Label). l.target) w.is)
 
 -- ---- the rows
 

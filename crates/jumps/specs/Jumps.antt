@@ -1,5 +1,5 @@
 -- What jumps and calls by a label ask and tell. c is the table, k the label's place.
-use Rattle.std.specs.Prelude.{◌≡◌, cond, List, ℕ, suc, ◌≤◌, ◌<◌, leb, length}
+use Rattle.std.specs.Prelude.{◌≡◌, cond, List, ℕ, suc, ◌<◌, leb, length}
 use Rattle.language.specs.Limits as limit
 use Rattle.language.specs.Program.{label_at}
 use Rattle.language.specs.Values.{State}
@@ -10,14 +10,9 @@ use Rattle.state.specs.Working.{HoldsState}
 use Rattle.control.specs.Going.{going}
 use Rattle.table.specs.Good.{GoodLabel}
 
--- a jump
-pub record Leads (c : List ℕ) (k : ℕ) : Type 0 where
-  pub long : limit.table ≤ length c
-  pub label : GoodLabel c k
-
--- one that may go on with the following instruction instead, and a call
+-- a jump that may go on with the following instruction instead, and a call
 pub record Turns (c : List ℕ) (s : State) (k : ℕ) : Type 0 where
-  pub leads : Leads c k
+  pub label : GoodLabel c k
   pub following : suc s.next < limit.instructions
 
 -- the instruction that label k of the table stands at

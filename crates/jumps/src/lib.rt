@@ -10,11 +10,13 @@ ghost use Rattle.machine.specs.Effects.{row, jump_if};
 ghost use Rattle.machine.specs.Effects.Go.{jump, call};
 ghost use Rattle.instructions.specs.Questions.{told_by};
 ghost use Rattle.instructions.specs.Does.{GoesFor, GoesIn};
-ghost use Rattle.jumps.specs.Jumps.{Leads, Turns, Led, led_to};
+ghost use Rattle.table.specs.Good.{GoodLabel};
+ghost use Rattle.jumps.specs.Jumps.{Turns, Led, led_to};
 
 use instructions::Question;
 use language::Machine;
 use state::Working;
+use table::Table;
 
 // Calls instruction `t`, where the return stack has room.
 pub fn call(state: &mut Working, t: usize) -> Result<(), Question>
@@ -31,13 +33,13 @@ pub fn call(state: &mut Working, t: usize) -> Result<(), Question>
 
 // Goes to a label where `taken` says so and otherwise on, and leaves H plus. SKOMI and SKOPL are this by H.
 pub fn jump_when(
-    table: &[u32],
+    table: Table,
     state: &mut Working,
     taken: bool,
     label: usize,
 ) -> Result<(), Question>
-    requires { Turns table.now state.old label }
-    ensures { GoesIn state.old (told_by result) state.new (λ ins. jump_if (program_of table.now) ins state.old.store taken (jump (led_to table.now label))) }
+    requires { Turns table.cells.now state.old label }
+    ensures { GoesIn state.old (told_by result) state.new (λ ins. jump_if (program_of table.entry.cells.now) ins state.old.store taken (jump (led_to table.entry.cells.now label))) }
 {
     state.stands();
     if !taken {
@@ -45,45 +47,45 @@ pub fn jump_when(
         state.set_plus(true);
         return Ok(());
     }
-    control::go_to(state, table::target(table, label));
+    control::go_to(state, table.target(label));
     state.set_plus(true);
     Ok(())
 }
 
 // Calls the instruction at a label where `taken` says so and otherwise goes on, and leaves H plus. WYMI and WYPL are this by H.
 pub fn call_when(
-    table: &[u32],
+    table: Table,
     state: &mut Working,
     taken: bool,
     label: usize,
 ) -> Result<(), Question>
-    requires { Turns table.now state.old label }
-    ensures { GoesIn state.old (told_by result) state.new (λ ins. jump_if (program_of table.now) ins state.old.store taken (call (led_to table.now label))) }
+    requires { Turns table.cells.now state.old label }
+    ensures { GoesIn state.old (told_by result) state.new (λ ins. jump_if (program_of table.entry.cells.now) ins state.old.store taken (call (led_to table.entry.cells.now label))) }
 {
     state.stands();
     if !taken {
         return jump_when(table, state, taken, label);
     }
-    call(state, table::target(table, label))?;
+    call(state, table.target(label))?;
     state.set_plus(true);
     Ok(())
 }
 
-pub fn skocz(table: &[u32], state: &mut Working, label: usize) -> Result<(), Question>
-    requires { Leads table.now label }
-    ensures { GoesIn state.old (told_by result) state.new (λ ins. row (program_of table.now) ins state.old.store (by-label label) nothing nothing SKOCZ) }
+pub fn skocz(table: Table, state: &mut Working, label: usize) -> Result<(), Question>
+    requires { GoodLabel table.cells.now label }
+    ensures { GoesIn state.old (told_by result) state.new (λ ins. row (program_of table.entry.cells.now) ins state.old.store (by-label label) nothing nothing SKOCZ) }
 {
     state.stands();
-    control::go_to(state, table::target(table, label));
+    control::go_to(state, table.target(label));
     Ok(())
 }
 
-pub fn wykonaj(table: &[u32], state: &mut Working, label: usize) -> Result<(), Question>
-    requires { Turns table.now state.old label }
-    ensures { GoesIn state.old (told_by result) state.new (λ ins. row (program_of table.now) ins state.old.store (by-label label) nothing nothing WYKONAJ) }
+pub fn wykonaj(table: Table, state: &mut Working, label: usize) -> Result<(), Question>
+    requires { Turns table.cells.now state.old label }
+    ensures { GoesIn state.old (told_by result) state.new (λ ins. row (program_of table.entry.cells.now) ins state.old.store (by-label label) nothing nothing WYKONAJ) }
 {
     state.stands();
-    call(state, table::target(table, label))
+    call(state, table.target(label))
 }
 
 pub fn wroc(state: &mut Working) -> Result<(), Question>

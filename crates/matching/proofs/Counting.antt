@@ -12,13 +12,14 @@ use Rattle.std.specs.Option.{is_some}
 use Rattle.std.specs.Prelude.{Option, Some, None, position, unwrap_or}
 use Rattle.lists.specs.SearchLaws.{ahead-is, position_or_length}
 use borrow.Author.Tests.{le-leb, leb-true, leb-false}
-use Rattle.components.proofs.Walks.{Step, none_left, chars-at, word_at, bytes_at}
+use Rattle.components.specs.Parts.{Front}
+use Rattle.components.proofs.Walks.{none_left, front_one, chars-there, word_there, bytes_there, cells-long, front_some}
 use Rattle.components.specs.Below.LanguageValues.{Component, chars}
 use Rattle.components.specs.Below.LanguageValues.Component.{word, address}
 use Rattle.components.specs.Below.LayoutBounds.{WholeComponents}
 use Rattle.components.specs.Below.LayoutCells.{cell}
 use Rattle.components.specs.Below.Components.{component_bytes, components_bytes, component_in, components_in}
-use Rattle.components.proofs.Below.ComponentLaws.{components_bytes-append, components_bytes-one, one_of}
+use Rattle.components.proofs.Below.ComponentLaws.{components_bytes-append, components_bytes-one}
 use Rattle.characters.specs.Below.Lists.{any, ahead}
 use Rattle.characters.specs.Below.ListLaws.{ahead-le, total-append}
 use Rattle.components.specs.Below.MachineArguments.{Until, everything, number_of, up_to, taken}
@@ -71,12 +72,12 @@ module _ {X : Type 0} where
       walked-count n 0 xs (omega arith) ∙ rw (e, f)
   walked-taken (up_to p) xs = walked-up-to p 0 xs ∙ ap (λ n. (n, any p xs)) (omega arith)
 
--- whether it is reached does not depend on the bytes beside it
-pub ends-reached : (t : Test) (g : List ℕ) (k : ℕ) → ends (until t g) k ≡ reached_by t k
-ends-reached All g k = refl
-ends-reached (Count n) g k = refl
-ends-reached (Class mask) g k = refl
-ends-reached Among g k = refl
+-- whether it is reached where no element is left
+pub ends-reached : (t : Test) (k : ℕ) → ends (until t) k ≡ reached_by t k
+ends-reached All k = refl
+ends-reached (Count n) k = refl
+ends-reached (Class mask) k = refl
+ends-reached (Among g) k = refl
 
 chars-least : (x : Component) → length (chars x) ≤ length (component_bytes x)
 unfolding component_bytes
@@ -84,90 +85,87 @@ chars-least (word w) = omega arith
 chars-least (Component.number z) = omega arith
 chars-least (address n) = omega arith
 
--- the walk under a test u: k components of l are passed, up to cell `at`, with n characters, all of them words or not
-pub record Going (l : List ℕ) (u : Until Component) (at k n : ℕ) (w : Bool) : Type 0 where
-  pub within : at ≤ length l
-  pub rest : WholeComponents (drop at l)
-  pub left_is : drop k (components_in l) ≡ components_in (drop at l)
+-- the walk under a test u: k components of l are passed, with n characters, all of them words or not, and `left` is left
+pub record Going (l : List ℕ) (u : Until Component) (left : List ℕ) (k n : ℕ) (w : Bool) : Type 0 where
+  pub rest : WholeComponents left
+  pub left_is : drop k (components_in l) ≡ components_in left
   pub most : k ≤ length (components_in l)
-  pub count : k ≤ at
-  pub bytes_is : at ≡ length (components_bytes (take k (components_in l)))
+  pub count : k + length left ≤ length l
+  pub bytes_is : length l ≡ length (components_bytes (take k (components_in l))) + length left
   pub chars_is : n ≡ char_count (take k (components_in l))
-  pub chars_most : n ≤ at
+  pub chars_most : n + length left ≤ length l
   pub words_is : w ≡ all_word (take k (components_in l))
-  pub walk : walked u 0 (components_in l) ≡ walked u k (components_in (drop at l))
+  pub walk : walked u 0 (components_in l) ≡ walked u k (components_in left)
 
-pub going-none : (l : List ℕ) (u : Until Component) → WholeComponents l → Going l u 0 0 0 true
+pub going-none : (l : List ℕ) (u : Until Component) → WholeComponents l → Going l u l 0 0 true
 unfolding components_bytes
 going-none l u w =
     record {
-      within = omega arith;
       rest = w;
       left_is = refl;
       most = omega arith;
       count = omega arith;
-      bytes_is = refl;
+      bytes_is = omega arith;
       chars_is = refl;
       chars_most = omega arith;
       words_is = refl;
       walk = refl;
     }
 
-module _ {l : List ℕ} {u : Until Component} {at k n : ℕ} {w : Bool} (g : Going l u at k n w) where
+module _ {l : List ℕ} {u : Until Component} {left : List ℕ} {k n : ℕ} {w : Bool} (g : Going l u left k n w) where
   -- the test ends it here
-  took : (b : Bool) → walked u k (components_in (drop at l)) ≡ (k, b) → WholeComponents l → (r : Taken) → r ≡ record { parts = k; bytes = at; chars = n; reached = b; words = w } → Took u (components_in l) r
+  took : (b : Bool) → walked u k (components_in left) ≡ (k, b) → WholeComponents l → (r : Taken) → r ≡ record { parts = k; bytes = length l - length left; chars = n; reached = b; words = w }
+      → Took u (components_in l) r
   took b e h r q =
       rw q record {
         is = sym (walked-taken u (components_in l)) ∙ g.walk ∙ e;
         parts_most = g.most;
-        bytes_is = g.bytes_is;
+        bytes_is = omega (arith, g.bytes_is);
         chars_is = g.chars_is;
         words_is = g.words_is;
-        bytes_most = rw (← h.is) g.within;
-        chars_most = g.chars_most;
+        bytes_most = rw (← h.is) (omega arith);
+        chars_most = omega (arith, g.chars_most);
       }
 
-  module _ {e : ℕ} (s : Step l at e) where
-    walked_stop : stops_before u k (component_in (drop at l)) ≡ true → walked u k (components_in (drop at l)) ≡ (k, true)
+  module _ {x r : List ℕ} (f : Front left x r) where
+    walked_stop : stops_before u k (component_in left) ≡ true → walked u k (components_in left) ≡ (k, true)
     unfolding walked
-    walked_stop q = rw (s.is, q)
+    walked_stop q = rw (f.is, q)
 
-    walked_next : stops_before u k (component_in (drop at l)) ≡ false → walked u k (components_in (drop at l)) ≡ walked u (suc k) (components_in (drop e l))
+    walked_next : stops_before u k (component_in left) ≡ false → walked u k (components_in left) ≡ walked u (suc k) (components_in r)
     unfolding walked
-    walked_next q = rw (s.is, q)
+    walked_next q = rw (f.is, q)
 
     -- `b` is what the code was told of the component there, `t` what it is
-    told : {b : Bool} (t : Bool) → b ≡ stops_before u k (component_in (take (e - at) (drop at l))) → b ≡ t → stops_before u k (component_in (drop at l)) ≡ t
-    told {b} t f q = ap (stops_before u k) (sym (one_of s.one)) ∙ sym f ∙ q
+    told : {b : Bool} (t : Bool) → b ≡ stops_before u k (component_in x) → b ≡ t → stops_before u k (component_in left) ≡ t
+    told {b} t e q = ap (stops_before u k) (sym (front_one f)) ∙ sym e ∙ q
 
-    pub going-stop : WholeComponents l → {b : Bool} → b ≡ stops_before u k (component_in (take (e - at) (drop at l))) → b ≡ true → Took u (components_in l) (record { parts = k; bytes = at; chars = n; reached = true; words = w })
-    going-stop h f q = took true (walked_stop (told true f q)) h _ refl
+    pub going-stop : WholeComponents l → {b : Bool} → b ≡ stops_before u k (component_in x) → b ≡ true → Took u (components_in l) (record { parts = k; bytes = length l - length left; chars = n; reached = true; words = w })
+    going-stop h e q = took true (walked_stop (told true e q)) h _ refl
 
-    pub going_next : {b : Bool} → b ≡ stops_before u k (component_in (take (e - at) (drop at l))) → b ≡ false → Going l u e (k + 1) (n + cell l at) (w && not (eqb (cell l at) 0))
+    pub going_next : {b : Bool} → b ≡ stops_before u k (component_in x) → b ≡ false → Going l u r (k + 1) (n + cell x 0) (w && not (eqb (cell x 0) 0))
     unfolding components_bytes
-    going_next f q =
-        let x : Component = component_in (drop at l) in
+    going_next e q =
+        let y : Component = component_in left in
         let xs : List Component = components_in l in
-        let d = split k xs (components_in (drop e l)) x (g.left_is ∙ s.is) in
+        let d = split k xs (components_in r) y (g.left_is ∙ f.is) in
         rw add-one record {
-          within = s.fits;
-          rest = s.rest;
+          rest = f.rest;
           left_is = d.left_is;
           most = d.most;
-          count = omega (arith, g.count, s.more);
-          bytes_is = rw (d.taken_is, components_bytes-append, components_bytes-one) (simp length-append (omega (arith, g.bytes_is, bytes_at s, s.more)));
-          chars_is = rw d.taken_is (omega (arith, total-append (λ y. length (chars y)) (take k xs) (x ∷ []), g.chars_is, chars-at s));
-          chars_most = omega (arith, g.chars_most, chars-at s, bytes_at s, chars-least x, s.more);
-          words_is = rw (d.taken_is, all_append, ← g.words_is, word_at s);
-          walk = g.walk ∙ walked_next (told false f q);
+          count = omega (arith, g.count, cells-long f, front_some f);
+          bytes_is = rw (d.taken_is, components_bytes-append, components_bytes-one) (simp length-append (omega (arith, g.bytes_is, bytes_there f, cells-long f)));
+          chars_is = rw d.taken_is (omega (arith, total-append (λ z. length (chars z)) (take k xs) (y ∷ []), g.chars_is, chars-there f));
+          chars_most = omega (arith, g.chars_most, chars-there f, bytes_there f, chars-least y, cells-long f);
+          words_is = rw (d.taken_is, all_append, ← g.words_is, word_there f);
+          walk = g.walk ∙ walked_next (told false e q);
         }
 
-  walked_end : length l ≤ at → walked u k (components_in (drop at l)) ≡ (k, ends u k)
+  pub going_end : WholeComponents l → left ≡ [] → Took u (components_in l) (record { parts = k; bytes = length l; chars = n; reached = ends u k; words = w })
   unfolding walked
-  walked_end h = rw (none_left l at h)
-
-  pub going_end : WholeComponents l → length l ≤ at → Took u (components_in l) (record { parts = k; bytes = at; chars = n; reached = ends u k; words = w })
-  going_end h e = took (ends u k) (walked_end e) h _ refl
+  going_end h e =
+      let z : length l - length left ≡ length l = omega (arith, ap length e) in
+      took (ends u k) (rw (none_left e)) h _ (rw z)
 
 -- ---- characters
 

@@ -2,14 +2,13 @@
 use mathlib.Core.Path.{◌≡◌, refl, sym, ap, ◌∙◌, subst}
 use mathlib.Core.Bool.{Bool, true, false}
 use mathlib.Core.List.{List}
-use Prim.Native.Nat.{ℕ, ◌-◌}
+use Prim.Native.Nat.{ℕ}
 use lib.Dec.{T}
-use lib.ListN.{take, drop}
-use Rattle.components.proofs.Walks.{Step}
+use Rattle.components.specs.Parts.{Front}
+use Rattle.components.proofs.Walks.{front_one}
 use Rattle.components.specs.Below.LanguageValues.{Component, same}
 use Rattle.components.specs.Below.LayoutBounds.{OneComponent}
 use Rattle.components.specs.Below.Components.{component_bytes, component_in, components_in}
-use Rattle.components.proofs.Below.ComponentLaws.{one_of}
 use Rattle.characters.specs.Below.Lists.{any}
 use Rattle.components.proofs.Below.ValueLaws.{same-eq, same_refl}
 
@@ -27,18 +26,14 @@ same_not x y n = go (same x y) refl
     go true e = absurd (n (same-eq x y (subst T (sym e) tt)))
     go false e = refl
 
--- `r` is what a comparison of x with the component at `at` told
-module _ (x : List ℕ) (o : OneComponent x) {l : List ℕ} {at e : ℕ} (s : Step l at e) where
-  abbrev part : List ℕ
-  part = take (e - at) (drop at l)
-
-  pub any_same : x ≡ part → any (same (component_in x)) (components_in (drop at l)) ≡ true
+-- `r` is what a comparison of x with the first component of l told
+module _ (x : List ℕ) (o : OneComponent x) {l y t : List ℕ} (f : Front l y t) where
+  pub any_same : x ≡ y → any (same (component_in x)) (components_in l) ≡ true
   any_same q =
-      let d : component_in x ≡ component_in (drop at l) = ap component_in q ∙ one_of s.one in
-      rw (s.is, d, same_self (component_in (drop at l)))
+      let d : component_in x ≡ component_in l = ap component_in q ∙ front_one f in
+      rw (f.is, d, same_self (component_in l))
 
-  pub any-other : (r : Bool) → r ≡ false → (x ≡ part → r ≡ true) → any (same (component_in x)) (components_in (drop at l)) ≡ any (same (component_in x)) (components_in (drop e l))
-  any-other r f n =
-      let differ : component_in x ≡ component_in (drop at l) → ⊥ =
-      λ d. subst T (sym (n (o.is ∙ ap component_bytes d ∙ sym s.one.is)) ∙ f) tt in
-      rw (s.is, same_not (component_in x) (component_in (drop at l)) differ)
+  pub any-other : (r : Bool) → r ≡ false → (x ≡ y → r ≡ true) → any (same (component_in x)) (components_in l) ≡ any (same (component_in x)) (components_in t)
+  any-other r e n =
+      let differ : component_in x ≡ component_in l → ⊥ = λ d. subst T (sym (n (o.is ∙ ap component_bytes d ∙ sym f.one.is)) ∙ e) tt in
+      rw (f.is, same_not (component_in x) (component_in l) differ)

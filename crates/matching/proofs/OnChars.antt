@@ -14,8 +14,7 @@ use Rattle.components.specs.Below.LanguageValues.Component.{word, address}
 use Rattle.components.specs.Below.Table.{class_by}
 use Rattle.characters.specs.Below.Lists.{any, among}
 use Rattle.components.specs.Below.MachineArguments.{char, side, Until, up_to, by_reading, cut, on_chars}
-use Rattle.matching.specs.Tests.{in_class, first_chars, until_chars}
-use Rattle.matching.specs.declared.Test.TheVariants.{Class, Among}
+use Rattle.matching.specs.Tests.{in_class, first_chars}
 
 and-true : (b : Bool) → (b && true) ≡ b
 and-true true = refl
@@ -50,10 +49,10 @@ class-met mask b = and-true (in_class mask b)
 
 module _ (ins : Inputs) (s : Store) where
   -- the tests of characters, as the code has them
-  pub chars-class : (mask : ℕ) (g : List ℕ) → on_chars ins s (class (class_by [] mask)) ≡ until_chars (Class mask) g
-  chars-class mask g = ap up_to (fun_ext (class-met mask))
+  pub chars-class : (mask : ℕ) → on_chars ins s (class (class_by [] mask)) ≡ up_to (in_class mask)
+  chars-class mask = ap up_to (fun_ext (class-met mask))
 
-  pub chars-text : (t : List ℕ) → on_chars ins s (text t) ≡ until_chars Among (take 1 t)
+  pub chars-text : (t : List ℕ) → on_chars ins s (text t) ≡ up_to (λ b. among b (take 1 t))
   chars-text t = ap up_to (fun_ext (λ b. same-cut b (word t)))
 
   module _ (l : Letter) (n : ℕ) where
@@ -64,10 +63,10 @@ module _ (ins : Inputs) (s : Store) where
     by r = by_reading char cut (λ x. char x ∷ []) ins s r (letter l n)
 
     -- where the letter reads one component, and where it reads any of several
-    pub chars-one : by one ≡ until_chars Among given
+    pub chars-one : by one ≡ up_to (λ b. among b given)
     chars-one = ap up_to (fun_ext (λ b. first_met b (side ins s (letter l n))))
 
-    pub chars-any : by any_of ≡ until_chars Among given
+    pub chars-any : by any_of ≡ up_to (λ b. among b given)
     chars-any = chars-one
 
 -- there are no more first characters than components

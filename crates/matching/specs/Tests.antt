@@ -22,28 +22,35 @@ in_class mask b = among (class_of b) (class_by [] mask)
 abbrev pub first_chars : List Component → List ℕ
 first_chars xs = joined (map (λ x. take 1 (chars x)) xs)
 
--- ---- what a test means, with the bytes beside it
+-- ---- what a test means
 
 -- on components: those of which one is to be met
-abbrev pub until : Test → List ℕ → Until Component
-until All g = everything
-until (Count n) g = number_of n
-until (Class mask) g = up_to (of_class (class_by [] mask))
-until Among g = up_to (λ x. any (same x) (components_in g))
+abbrev pub until : Test → Until Component
+until All = everything
+until (Count n) = number_of n
+until (Class mask) = up_to (of_class (class_by [] mask))
+until (Among g) = up_to (λ x. any (same x) (components_in g.now))
 
 -- on characters: the characters themselves
-abbrev pub until_chars : Test → List ℕ → Until ℕ
-until_chars All g = everything
-until_chars (Count n) g = number_of n
-until_chars (Class mask) g = up_to (in_class mask)
-until_chars Among g = up_to (λ b. among b g)
+abbrev pub until_chars : Test → Until ℕ
+until_chars All = everything
+until_chars (Count n) = number_of n
+until_chars (Class mask) = up_to (in_class mask)
+until_chars (Among g) = up_to (λ b. among b g.now)
+
+-- on the characters of an input: of the components only the first characters count
+abbrev pub until_firsts : Test → Until ℕ
+until_firsts All = everything
+until_firsts (Count n) = number_of n
+until_firsts (Class mask) = up_to (in_class mask)
+until_firsts (Among g) = up_to (λ b. among b (first_chars (components_in g.now)))
 
 -- whether a test that met no end is reached after k elements
 abbrev pub reached_by : Test → ℕ → Bool
 reached_by All k = true
 reached_by (Count n) k = leb n k
 reached_by (Class mask) k = false
-reached_by Among k = false
+reached_by (Among g) k = false
 
 -- ---- a test, element by element: whether it ends the sequence before element k, and whether it is reached where there is none
 
@@ -64,24 +71,31 @@ module _ {X : Type 0} where
 
 -- ---- what the functions ask
 
--- what the bytes beside a test have to be
-abbrev pub Fitting : Test → List ℕ → Type 0
-Fitting All g = Unit {0}
-Fitting (Count n) g = Unit {0}
-Fitting (Class mask) g = Unit {0}
-Fitting Among g = WholeComponents g
+-- how many cells a test compares with
+abbrev pub compared : Test → ℕ
+compared All = 0
+compared (Count n) = 0
+compared (Class mask) = 0
+compared (Among g) = length g.now
+
+-- what a test compares with are components
+abbrev pub Fitting : Test → Type 0
+Fitting All = Unit {0}
+Fitting (Count n) = Unit {0}
+Fitting (Class mask) = Unit {0}
+Fitting (Among g) = WholeComponents g.now
 
 pub record Comparable (x g : List ℕ) : Type 0 where
   pub one : OneComponent x
   pub whole : WholeComponents g
 
-pub record Stoppable (t : Test) (x g : List ℕ) : Type 0 where
+pub record Stoppable (t : Test) (x : List ℕ) : Type 0 where
   pub one : OneComponent x
-  pub fitting : Fitting t g
+  pub fitting : Fitting t
 
-pub record Countable (l : List ℕ) (t : Test) (g : List ℕ) : Type 0 where
+pub record Countable (l : List ℕ) (t : Test) : Type 0 where
   pub whole : WholeComponents l
-  pub fitting : Fitting t g
+  pub fitting : Fitting t
 
 -- among `long` cells there is room from index n on for the first character in front of x; for those of l
 pub record FirstRoom (long n : ℕ) (x : List ℕ) : Type 0 where

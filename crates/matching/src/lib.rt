@@ -11,17 +11,17 @@ ghost use Rattle.components.specs.Below.Table.{class_by};
 ghost use Rattle.components.specs.Parts.{Leading, Written};
 ghost use Rattle.matching.specs.Tests.{in_class, first_chars, until, until_chars, reached_by, stops_before, Comparable, Stoppable, Countable, FirstRoom, FirstPut, FirstsRoom, Took, TookChars};
 
-// A test of a move. `Class` has the mask of its class: L 1, D 2, B 4, R 8; what `Among` compares with stands beside it.
-#[derive(Clone, Copy)]
-pub enum Test {
+// A test of a move. `Class` has the mask of its class: L 1, D 2, B 4, R 8; `Among` has what it compares with.
+#[derive(Clone, Copy, Debug, PartialEq, Eq)]
+pub enum Test<'a> {
     All,
     Count(usize),
     Class(u8),
-    Among,
+    Among(&'a [u8]),
 }
 
 // How much a test takes: components, cells, characters; whether it was reached, and whether all that is taken are words.
-#[derive(Clone, Copy)]
+#[derive(Clone, Copy, Debug, PartialEq, Eq)]
 pub struct Taken {
     pub parts: usize,
     pub bytes: usize,
@@ -32,7 +32,7 @@ pub struct Taken {
 
 // How many characters a test takes, and whether it was reached.
 // Not one with `Taken`: of characters there are no components, cells or words to tell.
-#[derive(Clone, Copy)]
+#[derive(Clone, Copy, Debug, PartialEq, Eq)]
 pub struct CharsTaken {
     pub taken: usize,
     pub reached: bool,
@@ -66,75 +66,71 @@ fn of_class(x: &[u8], mask: u8) -> bool
 }
 
 // Whether a component is one of those in `given`.
-// By index, here, in `count` and in `first_chars`: the laws of the loops speak of the sequence and a place in it.
 fn among(x: &[u8], given: &[u8]) -> bool
     requires { Comparable x.now given.now }
     ensures { result ≡ any (same (component_in x.now)) (components_in given.now) }
 {
-    let mut at = 0;
-    while at < given.len() {
-        let e = at + components::size_by(given[at]);
-        if x == &given[at..e] {
+    let mut left = given;
+    while let Some((y, rest)) = components::split_first(left) {
+        if x == y {
             return true;
         }
-        at = e;
+        left = rest;
     }
     false
 }
 
 // Whether a test ends the sequence before component `x`, which stands at place `k`.
-pub fn stops(test: Test, k: usize, x: &[u8], given: &[u8]) -> bool
-    requires { Stoppable test x.now given.now }
-    ensures { result ≡ stops_before (until test given.now) k (component_in x.now) }
+pub fn stops(test: Test, k: usize, x: &[u8]) -> bool
+    requires { Stoppable test x.now }
+    ensures { result ≡ stops_before (until test.entry) k (component_in x.now) }
 {
     match test {
         Test::All => false,
         Test::Count(n) => n <= k,
         Test::Class(mask) => of_class(x, mask),
-        Test::Among => among(x, given),
+        Test::Among(given) => among(x, given),
     }
 }
 
 // Whether a test that met no end is reached after `k` components.
 pub fn reached(test: Test, k: usize) -> bool
-    ensures { result ≡ reached_by test k }
+    ensures { result ≡ reached_by test.entry k }
 {
     match test {
         Test::All => true,
         Test::Count(n) => n <= k,
-        Test::Class(_) | Test::Among => false,
+        Test::Class(_) | Test::Among(_) => false,
     }
 }
 
 // How much of the components of `s` a test takes.
-pub fn count(s: &[u8], test: Test, given: &[u8]) -> Taken
-    requires { Countable s.now test given.now }
-    ensures { Took (until test given.now) (components_in s.now) result }
+pub fn count(s: &[u8], test: Test) -> Taken
+    requires { Countable s.now test }
+    ensures { Took (until test.entry) (components_in s.now) result }
 {
-    let mut at = 0;
+    let mut left = s;
     let mut k = 0;
     let mut chars = 0;
     let mut words = true;
-    while at < s.len() {
-        let b = s[at];
-        let e = at + components::size_by(b);
-        if stops(test, k, &s[at..e], given) {
+    while let Some((x, rest)) = components::split_first(left) {
+        if stops(test, k, x) {
             return Taken {
                 parts: k,
-                bytes: at,
+                bytes: s.len() - left.len(),
                 chars,
                 reached: true,
                 words,
             };
         }
-        chars += usize::from(b);
-        words &= b != 0;
-        at = e;
+        chars += usize::from(x[0]);
+        words &= x[0] != 0;
+        left = rest;
         k += 1;
     }
     Taken {
         parts: k,
-        bytes: at,
+        bytes: s.len(),
         chars,
         reached: reached(test, k),
         words,
@@ -159,11 +155,10 @@ pub fn first_chars(out: &mut [u8], given: &[u8]) -> usize
     ensures { Written out.old (first_chars (components_in given.now)) out.new result }
 {
     let mut n = 0;
-    let mut at = 0;
-    while at < given.len() {
-        let e = at + components::size_by(given[at]);
-        n = put_first(out, n, &given[at..e]);
-        at = e;
+    let mut left = given;
+    while let Some((x, rest)) = components::split_first(left) {
+        n = put_first(out, n, x);
+        left = rest;
     }
     n
 }
@@ -193,9 +188,9 @@ fn taken_to(place: Option<usize>, n: usize) -> CharsTaken
     }
 }
 
-// How many of the characters of `s` a test takes; what `Among` compares with are the characters in `given`.
-pub fn count_chars(s: &[u8], test: Test, given: &[u8]) -> CharsTaken
-    ensures { TookChars (until_chars test given.now) s.now result }
+// How many of the characters of `s` a test takes; what `Among` compares with are characters here.
+pub fn count_chars(s: &[u8], test: Test) -> CharsTaken
+    ensures { TookChars (until_chars test.entry) s.now result }
 {
     let n = s.len();
     match test {
@@ -208,7 +203,7 @@ pub fn count_chars(s: &[u8], test: Test, given: &[u8]) -> CharsTaken
             reached: k <= n,
         },
         Test::Class(mask) => taken_to(place_of_class(s, mask, &characters::PLACES), n),
-        Test::Among => taken_to(place_of(s, given), n),
+        Test::Among(given) => taken_to(place_of(s, given), n),
     }
 }
 
@@ -219,5 +214,5 @@ pub mod from_cells {
 
 // Of `components`, passed on to the crates above.
 pub mod from_components {
-    pub use components::{kind_of, number_of, put_word, size_by};
+    pub use components::{Kind, kind_of, number_of, put_word, size_by};
 }

@@ -13,14 +13,13 @@ use Rattle.machine.specs.Arguments.{expr, test_asks, on_parts}
 use Rattle.machine.specs.Changes.{put_expr, placed, into, past_by, past}
 use Rattle.machine.specs.Effects.{Row, moved, row}
 use Rattle.machine.specs.Effects.Go.{on}
-use Rattle.matching.specs.Tests.{until}
 use Rattle.state.specs.Working.{HoldsState, Stands, on_store, nth, reading}
 use Rattle.instructions.specs.Does.{DoesFor, Tried}
 use Rattle.instructions.specs.Operands.{target}
 use Rattle.instructions.proofs.Answers.{tried-done}
 use Rattle.instructions.specs.Questions.{question_number}
 use Rattle.instructions.specs.declared.Question.{Question}
-use Rattle.tests.specs.Prepares.{Prepares}
+use Rattle.tests.specs.Prepares.{Prepares, until_in}
 use Rattle.tests.specs.declared.Prepared.{Prepared}
 use Rattle.tests.proofs.Asked.{test-read, test-stop, test-tried}
 use Rattle.moves.specs.Moves.{sent, cut_off}
@@ -79,10 +78,10 @@ module _ {σ : State} (h : Stands σ) (i : ℕ) (c : Arg) {g : List ℕ} {r : Re
         rw (row-przeslij f ins s i c removes reverses at_end j) (test-stop h c w ins (sent (on_parts ins s c) removes i reverses at_end j s) e)
 
     pub przeslij-tried : {p : Prepared} → r ≡ Ok p → {k : ℕ} {σ' : State}
-        → Tried σ k σ' true (sent (until p.test (take p.len g)) removes i reverses at_end j s) → DoesFor σ k σ' by
+        → Tried σ k σ' true (sent (until_in p g) removes i reverses at_end j s) → DoesFor σ k σ' by
     przeslij-tried {p} e k f ins =
         rw (row-przeslij f ins s i c removes reverses at_end j, (test-read w e).parts ins)
-        (test-tried h c w ins (sent (until p.test (take p.len g)) removes i reverses at_end j s) e k)
+        (test-tried h c w ins (sent (until_in p g) removes i reverses at_end j s) e k)
 
   abbrev gone : Program → Inputs → Row
   gone h ins = row h ins s (nth (reading true) i) c nothing USUN
@@ -90,7 +89,7 @@ module _ {σ : State} (h : Stands σ) (i : ℕ) (c : Arg) {g : List ℕ} {r : Re
   pub usun-stop : {q : Question} → r ≡ Err q → DoesFor σ (question_number q) σ gone
   usun-stop e f ins = rw (row-usun f ins s i c) (test-stop h c w ins (cut_off (on_parts ins s c) i s) e)
 
-  pub usun-done : {p : Prepared} → r ≡ Ok p → {σ' : State} → HoldsState σ' (on_store (cut_off (until p.test (take p.len g)) i) σ) → DoesFor σ 0 σ' gone
+  pub usun-done : {p : Prepared} → r ≡ Ok p → {σ' : State} → HoldsState σ' (on_store (cut_off (until_in p g) i) σ) → DoesFor σ 0 σ' gone
   usun-done {p} e k f ins =
-      let u = until p.test (take p.len g) in
+      let u = until_in p g in
       rw (row-usun f ins s i c, (test-read w e).parts ins) (test-tried h c w ins (cut_off u i s) e (done h (cut_off u i) k))

@@ -5,11 +5,11 @@ use Rattle.language.specs.Letters.Letter.{E}
 use Rattle.language.specs.Values.{Component, Store}
 use Rattle.machine.specs.Arguments.{expr, Until, taken}
 use Rattle.machine.specs.Changes.{minus_unless, into, past}
-use Rattle.matching.specs.Tests.{Fitting, all_word}
+use Rattle.matching.specs.Tests.{all_word}
 use Rattle.layout.specs.Memory.{components_held, chars_held}
 use Rattle.state.specs.Working.{nth, reading, writing, turned}
 use Rattle.table.specs.declared.Argument.{Argument}
-use Rattle.tests.specs.Prepares.{TestReadable}
+use Rattle.tests.specs.Prepares.{TestReadable, FittingIn, beside_size}
 use Rattle.tests.specs.declared.Prepared.{Prepared}
 
 -- the sequence that u takes of expression i is written to expression j; has words alone; is gone
@@ -33,8 +33,8 @@ room_beside removes parts chars s = removes || (leb (components_held s + parts) 
 
 -- the bytes beside a test stand in front of the row g
 pub record TestBeside (g : List ℕ) (test : Prepared) : Type 0 where
-  pub fitting : Fitting test.test (take test.len g)
-  pub inside : test.len ≤ length g
+  pub fitting : FittingIn test g
+  pub inside : beside_size test ≤ length g
 
 -- the instructions: from expression i to expression or output j with the test of argument a; of expression i
 pub record Movable (c : List ℕ) (i j most : ℕ) (a : Argument) : Type 0 where

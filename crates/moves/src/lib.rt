@@ -1,14 +1,14 @@
 // Moves of components: PRZESLIJ and USUN A.
 #![tactic(auto)]
 
-ghost use Rattle.std.specs.Prelude.{◌≡◌, true, ◌<◌, take};
+ghost use Rattle.std.specs.Prelude.{◌≡◌, true, ◌<◌};
 ghost use Rattle.language.specs.Limits as limit;
 ghost use Rattle.language.specs.Program.Arg.{nothing};
 ghost use Rattle.language.specs.Program.Op.{PRZESLIJ, USUN};
 ghost use Rattle.layout.specs.Components.{components_in};
 ghost use Rattle.machine.specs.Changes.{minus_unless, into};
 ghost use Rattle.machine.specs.Effects.{row};
-ghost use Rattle.matching.specs.Tests.{until};
+ghost use Rattle.tests.specs.Prepares.{until_in};
 ghost use Rattle.table.specs.Below.Packed.{table_of};
 ghost use Rattle.state.specs.Working.{HoldsState, on_store, nth, reading, writing};
 ghost use Rattle.state.specs.Blocks.{PartsWritable};
@@ -20,10 +20,11 @@ ghost use Rattle.moves.specs.Moves.{room_beside, sent, cut_off, TestBeside, Mova
 
 use instructions::{Bench, Question, Source, Target};
 use state::Working;
+use table::Table;
 use tests::Prepared;
 
 // Components that are written: their bytes, how many they are, and their characters.
-#[derive(Clone, Copy)]
+#[derive(Clone, Copy, Debug, PartialEq, Eq)]
 pub struct New<'a> {
     pub bytes: &'a [u8],
     pub parts: usize,
@@ -56,10 +57,10 @@ fn send(bench: &mut Bench, test: Prepared, source: Source, target: Target) -> Re
     requires beside { TestBeside bench.old.given test }
     requires source { source.i < limit.expressions }
     requires target { target.j < limit.expressions }
-    ensures { Tried bench.old.state (told_by result) bench.new.state true (sent (until test.test (take test.len bench.old.given)) source.removes source.i target.reverses target.at_end target.j bench.old.state.store) }
+    ensures { Tried bench.old.state (told_by result) bench.new.state true (sent (until_in test bench.old.given) source.removes source.i target.reverses target.at_end target.j bench.old.state.store) }
 {
     let x = bench.state.expr_bytes(source.i);
-    let t = matching::count(x, test.test, &bench.given[..test.len]);
+    let t = matching::count(x, test.with(&bench.given));
     if !has_room(&bench.state, source.removes, t.parts, t.chars) {
         return Err(Question::Room);
     }
@@ -78,14 +79,14 @@ fn send(bench: &mut Bench, test: Prepared, source: Source, target: Target) -> Re
 
 // PRZESLIJ.
 pub fn przeslij(
-    table: &[u32],
+    table: Table,
     bench: &mut Bench,
     source: Source,
     target: Target,
     arg: table::Argument,
 ) -> Result<(), Question>
-    requires { Movable table.now source.i target.j limit.expressions arg }
-    ensures { DoesFor bench.old.state (told_by result) bench.new.state (λ g ins. row g ins bench.old.state.store (nth (reading source.removes) source.i) (nth (target_letter target.reverses target.at_end) target.j) (arg_of (table_of table.now) arg) PRZESLIJ) }
+    requires { Movable table.cells.now source.i target.j limit.expressions arg }
+    ensures { DoesFor bench.old.state (told_by result) bench.new.state (λ g ins. row g ins bench.old.state.store (nth (reading source.removes) source.i) (nth (target_letter target.reverses target.at_end) target.j) (arg_of (table_of table.entry.cells.now) arg) PRZESLIJ) }
 {
     bench.state.stands();
     let test = tests::prepare(table, &bench.state, &mut bench.given, arg)?;
@@ -96,23 +97,18 @@ pub fn przeslij(
 fn cut_off(bench: &mut Bench, test: Prepared, i: usize)
     requires beside { TestBeside bench.old.given test }
     requires source { i < limit.expressions }
-    ensures { HoldsState bench.new.state (on_store (cut_off (until test.test (take test.len bench.old.given)) i) bench.old.state) }
+    ensures { HoldsState bench.new.state (on_store (cut_off (until_in test bench.old.given) i) bench.old.state) }
 {
     let x = bench.state.expr_bytes(i);
-    let t = matching::count(x, test.test, &bench.given[..test.len]);
+    let t = matching::count(x, test.with(&bench.given));
     bench.state.drop_parts(i, t.parts, t.bytes, t.chars);
     bench.state.minus_unless(t.reached);
 }
 
 // USUN of expression `i`.
-pub fn usun(
-    table: &[u32],
-    bench: &mut Bench,
-    i: usize,
-    arg: table::Argument,
-) -> Result<(), Question>
-    requires { Removable table.now i arg }
-    ensures { DoesFor bench.old.state (told_by result) bench.new.state (λ g ins. row g ins bench.old.state.store (nth (reading true) i) (arg_of (table_of table.now) arg) nothing USUN) }
+pub fn usun(table: Table, bench: &mut Bench, i: usize, arg: table::Argument) -> Result<(), Question>
+    requires { Removable table.cells.now i arg }
+    ensures { DoesFor bench.old.state (told_by result) bench.new.state (λ g ins. row g ins bench.old.state.store (nth (reading true) i) (arg_of (table_of table.entry.cells.now) arg) nothing USUN) }
 {
     bench.state.stands();
     let test = tests::prepare(table, &bench.state, &mut bench.given, arg)?;

@@ -8,7 +8,7 @@ use lib.IntN.{ℤ, pos, negsuc, nat_abs}
 use lib.Signed.{lt_z}
 use borrow.Author.Tests.{leb-true, leb-false, ltb-true, ltb-false, lt-ltb, le-ltb}
 use Rattle.layout.specs.Cells.{code, uncode}
-use Rattle.operands.proofs.Values.{low, high}
+use Rattle.components.proofs.FirstLaws.{low, high}
 
 pub code_most : (z : ℤ) → nat_abs z ≤ 8388607 → code z ≤ 16777214
 unfolding code

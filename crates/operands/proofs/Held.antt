@@ -9,7 +9,7 @@ use Rattle.layout.specs.Cells.{uncode}
 use Rattle.layout.proofs.ComponentLaws.{components_bytes-one}
 use Rattle.layout.specs.Components.{component_bytes}
 use Rattle.cells.specs.Cells.{pasted}
-use Rattle.operands.proofs.Values.{copied-front}
+use Rattle.components.proofs.FirstLaws.{copied-front}
 use Rattle.operands.proofs.Codes.{abs-most}
 
 pub number-held : (c : ℕ) → c ≤ 16777214 → (o : List ℕ) {o' : List ℕ} → o' ≡ pasted o 0 (component_bytes (Component.number (uncode c)))

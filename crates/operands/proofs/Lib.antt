@@ -1,4 +1,3 @@
-pub mod Values
 pub mod Codes
 pub mod Held
 pub mod Reading

@@ -27,10 +27,13 @@ use Rattle.table.specs.Denote.{letter_of}
 use Rattle.table.specs.declared.Letter.{Letter}
 use Rattle.table.specs.declared.Letter.TheVariants.{B}
 use Rattle.table.specs.declared.Argument.{Argument}
+use Rattle.table.specs.declared.TextRef.{TextRef}
 use Rattle.table.specs.declared.Argument.TheVariants as argument
 use Rattle.instructions.specs.Does.{stop_of}
 use Rattle.instructions.proofs.Answers.{unstopped}
-use Rattle.operands.proofs.Values.{high, none-there, one-there, front-value, index_back}
+use Rattle.components.proofs.FirstLaws.{high, front-value}
+use Rattle.state.proofs.Fronts.{none-there, one-there}
+use Rattle.table.specs.GoodLaws.{index_back}
 use Rattle.language.specs.Limits as limit
 use Rattle.std.specs.Prelude.{Ok, Err}
 use Rattle.instructions.specs.Questions.{question_number}
@@ -102,7 +105,7 @@ module _ (s : Store) where
   pub number-told : (v : ℕ) → v ≤ 16777214 → ReadsOperand s (argument.Number v) (offers 1 v)
   number-told v m c ins = record { kind_is = refl; value_is = refl; most = m }
 
-  pub text-told : (v : ℕ) → ReadsOperand s (argument.Text v) (offers 0 8388607)
+  pub text-told : (v : TextRef) → ReadsOperand s (argument.Text v) (offers 0 8388607)
   text-told v c ins = record { kind_is = refl; value_is = zero_is; most = omega arith }
 
   -- the others offer none

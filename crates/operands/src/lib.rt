@@ -11,13 +11,14 @@ ghost use Rattle.instructions.specs.Questions.{told_by};
 ghost use Rattle.instructions.specs.Does.{Tried};
 ghost use Rattle.operands.specs.Operands.{kinds_by, kinds_stop, OperandReadable, PairReadable, ReadsNumber, ReadsOffered, ReadsOperand, ReadsPair, replaced, Replaceable};
 
+use components::{Kind, ZERO};
 use instructions::Question;
 use language::Machine;
 use layout::StatePlaces;
 use state::Working;
 
 // The pairs of kinds that two operands may have.
-#[derive(Clone, Copy)]
+#[derive(Clone, Copy, Debug, PartialEq, Eq)]
 pub enum Kinds {
     Words,
     Numbers,
@@ -27,18 +28,15 @@ pub enum Kinds {
 // kind of either.
 pub const ABSENT: u8 = 255;
 
-// The code of 0.
-const ZERO: usize = 8388607;
-
 // The kind of a component, and the code of its value: of a number, the value with 8,388,607 added, of others that of 0.
-#[derive(Clone, Copy)]
+#[derive(Clone, Copy, Debug, PartialEq, Eq)]
 pub struct Offered {
     pub kind: u8,
     pub code: usize,
 }
 
 // The codes of two values.
-#[derive(Clone, Copy)]
+#[derive(Clone, Copy, Debug, PartialEq, Eq)]
 pub struct Pair {
     pub left: usize,
     pub right: usize,
@@ -83,16 +81,19 @@ fn first_offered(state: &Working, i: usize) -> Offered
             code: ZERO,
         };
     }
-    let kind = components::kind_of(x);
-    if kind != 1 {
-        return Offered {
-            kind: kind,
+    match components::kind_of(x) {
+        Kind::Word => Offered {
+            kind: 0,
             code: ZERO,
-        };
-    }
-    Offered {
-        kind: 1,
-        code: components::number_of(x),
+        },
+        Kind::Address => Offered {
+            kind: 2,
+            code: ZERO,
+        },
+        Kind::Number => Offered {
+            kind: 1,
+            code: components::number_of(x),
+        },
     }
 }
 

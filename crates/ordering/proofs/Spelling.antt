@@ -23,7 +23,7 @@ use Rattle.table.specs.declared.Argument.TheVariants as argument
 use Rattle.instructions.specs.Questions.{question_number}
 use Rattle.instructions.specs.declared.Question.{Question}
 use Rattle.operands.specs.Operands.{kinds_stop}
-use Rattle.operands.proofs.Values.{none-there, one-there}
+use Rattle.state.proofs.Fronts.{none-there, one-there}
 use Rattle.operands.proofs.Reading.{kinds-told}
 use Rattle.ordering.specs.Ordering.{OtherReadable, ReadsWord, ReadsTwo}
 use Rattle.ordering.specs.declared.Worded.{Worded}

@@ -8,7 +8,7 @@ use Rattle.machine.specs.Arguments.{expr, first, side, of_kinds}
 use Rattle.packed.specs.Packed.{table_of}
 use Rattle.state.specs.Working.{nth}
 use Rattle.table.specs.Denote.{arg_of}
-use Rattle.table.specs.Good.{GoodArgument, GoodText}
+use Rattle.table.specs.Good.{GoodArgument}
 use Rattle.table.specs.declared.Letter.{Letter}
 use Rattle.table.specs.declared.Letter.TheVariants.{B}
 use Rattle.table.specs.declared.Argument.{Argument}
@@ -19,14 +19,8 @@ use Rattle.instructions.specs.Does.{stop_of}
 use Rattle.operands.specs.Operands.{kind_offered}
 use Rattle.ordering.specs.declared.Worded.{Worded}
 
--- text v of a well-formed table
-pub record TextHeld (c : List ℕ) (v : ℕ) : Type 0 where
-  pub long : limit.table ≤ length c
-  pub good : GoodText c v
-
 -- a second argument of a well-formed table; its letter, if it has one, is B
 pub record OtherReadable (c : List ℕ) (a : Argument) : Type 0 where
-  pub long : limit.table ≤ length c
   pub good : GoodArgument c (arg_of (table_of c) a) a
   pub form : (l : Letter) (k : ℕ) → a ≡ Indexed l k → l ≡ B
 

@@ -10,19 +10,22 @@ ghost use Rattle.machine.specs.Arguments.{expr};
 ghost use Rattle.machine.specs.Effects.{row};
 ghost use Rattle.packed.specs.Packed.{table_of};
 ghost use Rattle.state.specs.Working.{Stands, nth, reading};
+ghost use Rattle.table.specs.Good.{GoodText};
 ghost use Rattle.table.specs.Denote.{arg_of};
 ghost use Rattle.instructions.specs.Questions.{told_by};
 ghost use Rattle.instructions.specs.Does.{DoesFor};
 ghost use Rattle.operands.specs.Operands.{PairReadable, DoesWith};
-ghost use Rattle.layout.specs.Table.{text_by};
-ghost use Rattle.ordering.specs.Ordering.{TextIs, TextHeld, OtherReadable, Comparable, ReadsWord, ReadsOther, ReadsWords};
+ghost use Rattle.table.specs.Denote.{text_of};
+ghost use Rattle.ordering.specs.Ordering.{TextIs, OtherReadable, Comparable, ReadsWord, ReadsOther, ReadsWords};
 
+use components::Kind;
 use instructions::{Bench, Question};
 use state::Working;
+use table::Table;
 
 // The kind of a component, and how many characters it has.
 // No `Option`: `operands::ask_kinds` asks whether both are there before it asks the kind of either, and takes kinds, 255 for none.
-#[derive(Clone, Copy)]
+#[derive(Clone, Copy, Debug, PartialEq, Eq)]
 pub struct Worded {
     pub kind: u8,
     pub len: usize,
@@ -41,40 +44,42 @@ fn first_word(state: &Working, out: &mut [u8; 32768], i: usize) -> Worded
             len: 0,
         };
     }
-    let kind = components::kind_of(x);
-    if kind != 0 {
-        return Worded { kind, len: 0 };
-    }
-    let w = components::chars_of(x);
-    cells::put(out, 0, w);
-    Worded {
-        kind: 0,
-        len: w.len(),
+    match components::kind_of(x) {
+        Kind::Number => Worded { kind: 1, len: 0 },
+        Kind::Address => Worded { kind: 2, len: 0 },
+        Kind::Word => {
+            let w = components::chars_of(x);
+            cells::put(out, 0, w);
+            Worded {
+                kind: 0,
+                len: w.len(),
+            }
+        }
     }
 }
 
 // A text in front of `given`.
-fn text_word(table: &[u32], given: &mut [u8; 32768], v: usize) -> Worded
-    requires { TextHeld table.now v }
-    ensures { TextIs (text_by (table_of table.now) v) given.new result }
+fn text_word(table: Table, given: &mut [u8; 32768], text: table::TextRef) -> Worded
+    requires { GoodText table.cells.now text }
+    ensures { TextIs (text_of (table_of table.entry.cells.now) text) given.new result }
 {
-    let n = table::put_text(table, v, given);
+    let n = table.put_text(text, given);
     Worded { kind: 0, len: n }
 }
 
 // Puts the characters of a second argument, B or a text, in front of `given`.
 fn other_word(
-    table: &[u32],
+    table: Table,
     state: &Working,
     given: &mut [u8; 32768],
     arg: table::Argument,
 ) -> Worded
-    requires { OtherReadable table.now arg }
-    ensures { ReadsOther table.now state.now.store arg given.new result }
+    requires { OtherReadable table.cells.now arg }
+    ensures { ReadsOther table.entry.cells.now state.now.store arg given.new result }
 {
     match arg {
         table::Argument::Indexed(_, n) => first_word(state, given, n - 1),
-        table::Argument::Text(v) => text_word(table, given, v),
+        table::Argument::Text(text) => text_word(table, given, text),
         table::Argument::Number(_) => Worded { kind: 1, len: 0 },
         table::Argument::Class(_)
         | table::Argument::Nothing
@@ -109,15 +114,15 @@ pub fn mn(state: &mut Working, i: usize, arg: table::Argument) -> Result<(), Que
 
 // The first word of expression `i` in front of `hold` and the other one in front of `given`: how long they are.
 fn words_of(
-    table: &[u32],
+    table: Table,
     state: &Working,
     hold: &mut [u8; 32768],
     given: &mut [u8; 32768],
     i: usize,
     arg: table::Argument,
 ) -> Result<(usize, usize), Question>
-    requires { Comparable table.now i arg }
-    ensures reads { ReadsWords table.now state.now.store i arg hold.new given.new result }
+    requires { Comparable table.cells.now i arg }
+    ensures reads { ReadsWords table.entry.cells.now state.now.store i arg hold.new given.new result }
     ensures stands { Stands state.now }
 {
     let x = first_word(state, hold, i);
@@ -127,9 +132,9 @@ fn words_of(
 }
 
 // PP of expression `i`: whether its first word comes before the other.
-pub fn pp(table: &[u32], bench: &mut Bench, i: usize, arg: table::Argument) -> Result<(), Question>
-    requires { Comparable table.now i arg }
-    ensures { DoesFor bench.old.state (told_by result) bench.new.state (λ g ins. row g ins bench.old.state.store (nth (reading false) i) (arg_of (table_of table.now) arg) nothing PP) }
+pub fn pp(table: Table, bench: &mut Bench, i: usize, arg: table::Argument) -> Result<(), Question>
+    requires { Comparable table.cells.now i arg }
+    ensures { DoesFor bench.old.state (told_by result) bench.new.state (λ g ins. row g ins bench.old.state.store (nth (reading false) i) (arg_of (table_of table.entry.cells.now) arg) nothing PP) }
 {
     let (m, n) = words_of(
         table,
@@ -145,9 +150,9 @@ pub fn pp(table: &[u32], bench: &mut Bench, i: usize, arg: table::Argument) -> R
 }
 
 // NS of expression `i`: whether its first word comes after the other.
-pub fn ns(table: &[u32], bench: &mut Bench, i: usize, arg: table::Argument) -> Result<(), Question>
-    requires { Comparable table.now i arg }
-    ensures { DoesFor bench.old.state (told_by result) bench.new.state (λ g ins. row g ins bench.old.state.store (nth (reading false) i) (arg_of (table_of table.now) arg) nothing NS) }
+pub fn ns(table: Table, bench: &mut Bench, i: usize, arg: table::Argument) -> Result<(), Question>
+    requires { Comparable table.cells.now i arg }
+    ensures { DoesFor bench.old.state (told_by result) bench.new.state (λ g ins. row g ins bench.old.state.store (nth (reading false) i) (arg_of (table_of table.entry.cells.now) arg) nothing NS) }
 {
     let (m, n) = words_of(
         table,

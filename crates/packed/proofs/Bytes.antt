@@ -9,7 +9,7 @@ use native.Mathlib.Decide.{ℕ_discrete, dec_le}
 use native.Mathlib.Omega.{arith}
 use lib.Dec.{eqb}
 use lib.ListN.{length, get_or, take, drop, drop_of_length-le, length-take, length-drop}
-use lib.Seq.{take_all, take_at, take-add, drop_at, drop-nil, drop-drop, drop-cons, get_or-take, get_or-drop, take-append-le, length-take-le}
+use lib.Seq.{take_all, take_at, take-add, drop_at, drop-nil, drop-drop, drop-cons, take-append-le, length-take-le}
 use borrow.Author.Tests.{eq-eqb, ne_eqb}
 use Rattle.std.specs.Int.{w32, to_le_bytes}
 use lib.Pointwise.{pointwise}
@@ -17,8 +17,7 @@ use Rattle.cells.specs.Cells.{pasted}
 use Rattle.cells.specs.Below.Lists.{bytes_equal}
 use Rattle.cells.specs.Below.ListLaws.{other_length}
 use Rattle.cells.specs.Below.LayoutCells.{four, unfours}
-use Rattle.cells.specs.Below.Table.{chars_in}
-use Rattle.packed.specs.Packed.{table_of, Copied}
+use Rattle.packed.specs.Packed.{row_chars, Copied}
 
 -- ---- a cell and bytes
 
@@ -137,49 +136,26 @@ module _ (l w : List ℕ) (bytes : (j : ℕ) → get_or w j 0 < 256) where
   pub same_end : (q : ℕ) → 4 * q ≡ length w → left_same l w q ≡ true
   same_end q e = let z : length w - 4 * q ≡ 0 = omega arith in rw (z, last-bytes w (4 * q) (omega arith))
 
--- ---- the 15 cells from cell at of a table on
-
-abbrev pub fifteen : List ℕ → ℕ → List ℕ
-fifteen c at = take 15 (drop at (table_of c))
-
-module _ (c : List ℕ) (at : ℕ) (inside : at + 15 ≤ 8192) where
-  pub fifteen-long : 8192 ≤ length c → length (fifteen c at) ≡ 15
-  fifteen-long h = simp (length-take, length-drop) (omega arith)
-
-  pub fifteen-cell : (q : ℕ) → q < 15 → get_or (fifteen c at) q 0 ≡ get_or c (at + q) 0
-  fifteen-cell q h = get_or-take 15 (drop at (table_of c)) q 0 h ∙ get_or-drop at (table_of c) q 0 ∙ get_or-take 8192 c (at + q) 0 (omega arith)
-
--- a word compared with them from its end on
-module _ (c : List ℕ) (at : ℕ) (inside : at + 15 ≤ 8192) (long : 8192 ≤ length c) (cells : (j : ℕ) → get_or c j 0 < 4294967296)
-    (w : List ℕ) (bytes : (j : ℕ) → get_or w j 0 < 256) (short : length w ≤ 60) where
+-- ---- a word compared with a row of 15 cells, from its end on
+module _ (r : List ℕ) (long : length r ≡ 15) (cells : (j : ℕ) → get_or r j 0 < 4294967296) (w : List ℕ) (bytes : (j : ℕ) → get_or w j 0 < 256) (short : length w ≤ 60) where
   abbrev whole : Bool
-  whole = bytes_equal (take (length w) (unfours (fifteen c at))) w
+  whole = bytes_equal (row_chars r (length w)) w
 
-  cell-fits : (j : ℕ) → j < length (fifteen c at) → get_or (fifteen c at) j 0 < 4294967296
-  cell-fits j h =
-      let l = fifteen-long c at inside long in
-      rw (fifteen-cell c at inside j (omega (arith, l))) (cells (at + j))
+  pub end-wrong : (q : ℕ) → 4 * q ≤ length w → left_same r w q ≡ false → false ≡ whole
+  end-wrong q h e = sym (same_start r w ∙ same-wrong r w bytes q (omega (arith, long)) h (λ j l. cells j) e)
 
-  pub end-wrong : (q : ℕ) → 4 * q ≤ length w → left_same (fifteen c at) w q ≡ false → false ≡ whole
-  end-wrong q h e =
-      let l = fifteen-long c at inside long in
-      sym (same_start (fifteen c at) w ∙ same-wrong (fifteen c at) w bytes q (omega (arith, l)) h cell-fits e)
-
-  pub end-right : (q : ℕ) → q ≡ 0 → left_same (fifteen c at) w q ≡ true → true ≡ whole
-  end-right q z e = sym (same_start (fifteen c at) w ∙ ap (left_same (fifteen c at) w) (sym z) ∙ e)
+  pub end-right : (q : ℕ) → q ≡ 0 → left_same r w q ≡ true → true ≡ whole
+  end-right q z e = sym (same_start r w ∙ ap (left_same r w) (sym z) ∙ e)
 
   module _ (q : ℕ) (h : 4 * q + 4 ≤ length w) (x : ℕ) (is : x ≡ four (drop (4 * q) w)) where
-    there : q < length (fifteen c at)
-    there = let l = fifteen-long c at inside long in omega (arith, l)
+    there : q < length r
+    there = omega (arith, long)
 
-    cell_is : get_or (fifteen c at) q 0 ≡ get_or c (at + q) 0
-    cell_is = fifteen-cell c at inside q (omega arith)
+    pub cell-wrong : (get_or r q 0 ≡ x → ⊥) → false ≡ whole
+    cell-wrong e = end-wrong q (omega arith) (same-off r w bytes q there (cells q) h (λ z. e (z ∙ sym is)))
 
-    pub cell-wrong : (get_or c (at + q) 0 ≡ x → ⊥) → false ≡ whole
-    cell-wrong e = end-wrong q (omega arith) (same-off (fifteen c at) w bytes q there (cell-fits q there) h (λ z. e (sym cell_is ∙ z ∙ sym is)))
-
-    pub cell-right : get_or c (at + q) 0 ≡ x → left_same (fifteen c at) w (q + 1) ≡ true → left_same (fifteen c at) w q ≡ true
-    cell-right e f = same-on (fifteen c at) w bytes q there (cell-fits q there) h (cell_is ∙ e ∙ is) ∙ f
+    pub cell-right : get_or r q 0 ≡ x → left_same r w (q + 1) ≡ true → left_same r w q ≡ true
+    cell-right e f = same-on r w bytes q there (cells q) h (e ∙ is) ∙ f
 
 -- ---- characters, cut to those that there are
 
@@ -195,22 +171,21 @@ take_min n l = go (dec_le n (length l))
     go (yes h) = let e : n ≡ min n (length l) = omega arith in ap (λ (k : ℕ). take k l) e
     go (no h) = take_all n l (omega arith) ∙ sym (take_all (min n (length l)) l (omega arith))
 
-module _ (c : List ℕ) (at : ℕ) (inside : at + 15 ≤ 8192) (long : 8192 ≤ length c) where
-  pub sixty : length (unfours (fifteen c at)) ≡ 60
-  sixty = length-unfours (fifteen c at) ∙ ap (λ (n : ℕ). 4 * n) (fifteen-long c at inside long)
+module _ (r : List ℕ) (long : length r ≡ 15) where
+  sixty : length (unfours r) ≡ 60
+  sixty = length-unfours r ∙ ap (λ (n : ℕ). 4 * n) long
 
-  pub chars-length : (n : ℕ) → length (chars_in (table_of c) n at) ≡ min n 60
-  chars-length n = length-take n (unfours (fifteen c at)) ∙ ap (min n) sixty
+  pub chars-length : (n : ℕ) → length (row_chars r n) ≡ min n 60
+  chars-length n = length-take n (unfours r) ∙ ap (min n) sixty
 
-  pub chars-cut : (n : ℕ) → chars_in (table_of c) n at ≡ chars_in (table_of c) (min n 60) at
-  chars-cut n = take_min n (unfours (fifteen c at)) ∙ ap (λ (k : ℕ). chars_in (table_of c) (min n k) at) sixty
+  pub chars-cut : (n : ℕ) → row_chars r n ≡ row_chars r (min n 60)
+  chars-cut n = take_min n (unfours r) ∙ ap (λ (k : ℕ). row_chars r (min n k)) sixty
 
-  pub spells-other : (n m : ℕ) (w : List ℕ) → m ≡ min n 60 → (m ≡ length w → ⊥) → false ≡ bytes_equal (chars_in (table_of c) n at) w
-  spells-other n m w e h = sym (other_length (chars_in (table_of c) n at) w (λ z. h (e ∙ sym (chars-length n) ∙ z)))
+  pub spells-other : (n m : ℕ) (w : List ℕ) → m ≡ min n 60 → (m ≡ length w → ⊥) → false ≡ bytes_equal (row_chars r n) w
+  spells-other n m w e h = sym (other_length (row_chars r n) w (λ z. h (e ∙ sym (chars-length n) ∙ z)))
 
-  pub spells-same : (n m : ℕ) (w : List ℕ) → m ≡ min n 60 → m ≡ length w
-      → bytes_equal (chars_in (table_of c) (length w) at) w ≡ bytes_equal (chars_in (table_of c) n at) w
-  spells-same n m w e h = ap (λ (l : List ℕ). bytes_equal l w) (ap (λ (k : ℕ). chars_in (table_of c) k at) (sym h ∙ e) ∙ sym (chars-cut n))
+  pub spells-same : (n m : ℕ) (w : List ℕ) → m ≡ min n 60 → m ≡ length w → bytes_equal (row_chars r (length w)) w ≡ bytes_equal (row_chars r n) w
+  spells-same n m w e h = ap (λ (l : List ℕ). bytes_equal l w) (ap (row_chars r) (sym h ∙ e) ∙ sym (chars-cut n))
 
 -- ---- a word copied from cells
 
@@ -275,14 +250,12 @@ module _ (l o : List ℕ) (q : ℕ) (h : q < length l) (x : ℕ) (is : get_or l 
   copy_rest z y n m k e f =
       f ∙ rw (e, ← is, bytes_at l q n h m) (grown (unfours l) o (4 * q) n (rw (length-unfours l) (omega arith)) k)
 
-pub copied : (c : List ℕ) (at : ℕ) → at + 15 ≤ 8192 → 8192 ≤ length c → (n m k : ℕ) (o z : List ℕ) → m ≡ min n 60 → k ≡ m
-    → z ≡ fronted (unfours (fifteen c at)) o k → Copied (chars_in (table_of c) n at) o z m
-copied c at inside long n m k o z e f g =
-    let l : m ≡ length (chars_in (table_of c) n at) = e ∙ sym (chars-length c at inside long n) in
-    let v : take m (unfours (fifteen c at)) ≡ chars_in (table_of c) n at =
-    ap (λ (j : ℕ). chars_in (table_of c) j at) e ∙ sym (chars-cut c at inside long n) in
+pub copied : (r : List ℕ) → length r ≡ 15 → (n m k : ℕ) (o z : List ℕ) → m ≡ min n 60 → k ≡ m → z ≡ fronted (unfours r) o k → Copied (row_chars r n) o z m
+copied r long n m k o z e f g =
+    let l : m ≡ length (row_chars r n) = e ∙ sym (chars-length r long n) in
+    let v : take m (unfours r) ≡ row_chars r n = ap (row_chars r) e ∙ sym (chars-cut r long n) in
     record {
       count = l;
       short = omega arith;
-      is = g ∙ ap (fronted (unfours (fifteen c at)) o) f ∙ ap₂ ◌++◌ v (ap (λ (j : ℕ). drop j o) l);
+      is = g ∙ ap (fronted (unfours r) o) f ∙ ap₂ ◌++◌ v (ap (λ (j : ℕ). drop j o) l);
     }

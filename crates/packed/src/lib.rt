@@ -3,9 +3,8 @@
 
 ghost use Rattle.std.specs.Prelude.{◌≡◌, [], ◌∷◌, ◌++◌, ◌+◌, ◌-◌, ◌*◌, ◌≤◌, ◌<◌, min, length, take, drop};
 ghost use Rattle.cells.specs.Below.LayoutCells.{four, unfours};
-ghost use Rattle.cells.specs.Below.Table.{chars_in};
 ghost use Rattle.cells.specs.Below.Lists.{bytes_equal};
-ghost use Rattle.packed.specs.Packed.{table_of, Fifteen, Spelling, Rest, Copyable, RestRoom, Copied};
+ghost use Rattle.packed.specs.Packed.{row_chars, Rest, RestRoom, Copied};
 
 use cells::from_language::Machine;
 
@@ -25,45 +24,6 @@ fn rest_is(x: u32, word: &[u8], k: usize) -> bool
     x.to_le_bytes()[..word.len() - k] == word[k..]
 }
 
-// Whether the characters of `word` behind its first `q` fours, fewer than four, are the first in cell `q` from `at` on.
-fn end_is(table: &[u32], at: usize, q: usize, word: &[u8]) -> bool
-    requires { Spelling table.now at (length word.now) × Rest (4 * q) (length word.now) }
-    ensures { result ≡ bytes_equal (take (length word.now - 4 * q) (unfours (drop q (take 15 (drop at (table_of table.now)))))) (drop (4 * q) word.now) }
-{
-    if 4 * q == word.len() {
-        return true;
-    }
-    rest_is(table[at + q], word, 4 * q)
-}
-
-// Whether the first characters from cell `at` on, as many as `word` has, are those of `word`: from the last ones on, in which most words differ.
-fn chars_are(table: &[u32], at: usize, word: &[u8]) -> bool
-    requires { Spelling table.now at (length word.now) }
-    ensures { result ≡ bytes_equal (chars_in (table_of table.now) (length word.now) at) word.now }
-{
-    let fours = word.len() / 4;
-    if !end_is(table, at, fours, word) {
-        return false;
-    }
-    for q in (0..fours).rev() {
-        if table[at + q] != cell_of(word, 4 * q) {
-            return false;
-        }
-    }
-    true
-}
-
-// Whether the `n` characters from cell `at` on are `word`.
-pub fn spells(table: &[u32], at: usize, n: usize, word: &[u8]) -> bool
-    requires { Fifteen table.now at }
-    ensures { result ≡ bytes_equal (chars_in (table_of table.now) n at) word.now }
-{
-    if n.min(Machine::ITEM) != word.len() {
-        return false;
-    }
-    chars_are(table, at, word)
-}
-
 // Writes the four bytes of the cell `x` from index `k` on.
 fn put_four(out: &mut [u8], k: usize, x: u32)
     requires { k + 4 ≤ length out.old }
@@ -80,18 +40,56 @@ fn put_rest(out: &mut [u8], k: usize, n: usize, x: u32)
     cells::put(out, k, &x.to_le_bytes()[..n]);
 }
 
-// Copies the `n` characters from cell `at` on to the front of `out`, and tells how many there are.
-pub fn put_chars(table: &[u32], at: usize, n: usize, out: &mut [u8]) -> usize
-    requires { Copyable table.now at (length out.old) }
-    ensures { Copied (chars_in (table_of table.now) n at) out.old out.new result }
+// Whether the characters of `word` behind its first `q` fours, fewer than four, are the first in cell `q` of a row.
+fn end_is(row: &[u32; 15], q: usize, word: &[u8]) -> bool
+    requires { (length word.now ≤ 60) × Rest (4 * q) (length word.now) }
+    ensures { result ≡ bytes_equal (take (length word.now - 4 * q) (unfours (drop q row.now))) (drop (4 * q) word.now) }
+{
+    if 4 * q == word.len() {
+        return true;
+    }
+    rest_is(row[q], word, 4 * q)
+}
+
+// Whether the first characters in a row of cells, as many as `word` has, are those of `word`: from the last ones on, in which most words differ.
+fn chars_are(row: &[u32; 15], word: &[u8]) -> bool
+    requires { length word.now ≤ 60 }
+    ensures { result ≡ bytes_equal (row_chars row.now (length word.now)) word.now }
+{
+    let fours = word.len() / 4;
+    if !end_is(row, fours, word) {
+        return false;
+    }
+    for q in (0..fours).rev() {
+        if row[q] != cell_of(word, 4 * q) {
+            return false;
+        }
+    }
+    true
+}
+
+// Whether the first `n` characters in a row of cells are `word`.
+pub fn spells(row: &[u32; 15], n: usize, word: &[u8]) -> bool
+    ensures { result ≡ bytes_equal (row_chars row.now n) word.now }
+{
+    if n.min(Machine::ITEM) != word.len() {
+        return false;
+    }
+    chars_are(row, word)
+}
+
+// Copies the first `n` characters in a row of cells to the front of `out`, and tells how many there are.
+pub fn put_chars(row: &[u32; 15], n: usize, out: &mut [u8]) -> usize
+    requires { 60 ≤ length out.old }
+    ensures { Copied (row_chars row.now n) out.old out.new result }
 {
     let m = n.min(Machine::ITEM);
     let fours = m / 4;
     for q in 0..fours {
-        put_four(out, 4 * q, table[at + q]);
+        put_four(out, 4 * q, row[q]);
     }
     if 4 * fours < m {
-        put_rest(out, 4 * fours, m - 4 * fours, table[at + fours]);
+        put_rest(out, 4 * fours, m - 4 * fours, row[fours]);
     }
     m
 }

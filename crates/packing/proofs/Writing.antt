@@ -1,33 +1,24 @@
 -- The laws of writing the strings at rest: the loops that write lengths and strings, and the zeros behind them.
 use mathlib.Core.Path.{◌≡◌, refl, ap, ◌∙◌}
-use mathlib.Core.List.{List, [], ◌∷◌, ◌++◌, append_assoc, append-nil}
-use Prim.Native.Nat.{ℕ, zero, suc, ◌+◌, ◌-◌, ◌*◌, ◌≤◌, ◌<◌}
-use native.Mathlib.Nat.{le_of_suc-le-suc, not-suc-le-zero}
+use mathlib.Core.List.{List, ◌++◌, append_assoc}
+use Prim.Native.Nat.{ℕ, ◌+◌, ◌-◌, ◌*◌, ◌≤◌, ◌<◌}
 use native.Mathlib.Numerals.{add-one}
 use native.Mathlib.Omega.{arith}
-use lib.ListN.{length, take, get_or, replicate, length-append, length-replicate}
-use lib.Seq.{take-suc, take-length, length-take-le}
+use lib.ListN.{length, take, replicate, length-append, length-replicate}
+use lib.Seq.{take-length, length-take-le}
 use Rattle.lists.specs.Lists.{joined}
 use Rattle.layout.specs.Cells.{two}
 use Rattle.layout.specs.Strings.{lengths, used, string_cells}
-use Rattle.layout.proofs.StringLaws.{joined-append, length-lengths}
+use Rattle.layout.proofs.StringLaws.{length-lengths}
 use Rattle.layout.specs.Places as layout
 use Rattle.cells.specs.Cells.{pasted, cleared}
 use Rattle.cells.proofs.Laws.{cleared-is, pasted-none, pasted-pasted, pasted-whole}
 use Rattle.gaps.specs.Pool.{abs, string, offset}
 use Rattle.gaps.proofs.Index.{offset-zero, offset-next, offset-within, offset-all}
 use Rattle.gaps.proofs.Laws.{length-abs}
+use Rattle.gaps.proofs.Rows.{lengths-next, strings-next}
 use Rattle.store.specs.Store.{Long, Whole}
 use Rattle.packing.specs.Packing.{Packable, Stringed}
-
-lengths-next : (s : List (List ℕ)) (j : ℕ) → j < length s → lengths (take (suc j) s) ≡ lengths (take j s) ++ two (length (get_or s j []))
-unfolding lengths
-lengths-next [] j h = absurd (not-suc-le-zero h)
-lengths-next (v ∷ s) zero h = refl
-lengths-next (v ∷ s) (suc j) h = rw (lengths-next s j (le_of_suc-le-suc h))
-
-strings-next : (s : List (List ℕ)) (j : ℕ) → j < length s → joined (take (suc j) s) ≡ joined (take j s) ++ get_or s j []
-strings-next s j h = rw (take-suc s j [] h, joined-append (take j s) (get_or s j [] ∷ []), append-nil)
 
 take-upto : (s : List (List ℕ)) (j : ℕ) → length s ≡ layout.strings_count → j ≤ layout.strings_count → layout.strings_count ≤ j → take j s ≡ s
 take-upto s j l h k = let q : j ≡ length s = omega arith in rw q (take-length s)

@@ -1,7 +1,7 @@
 -- From the arguments of a relation of equality to its operands, and from what the families promise to its meaning.
-use mathlib.Core.Path.{◌≡◌, refl, sym, ◌∙◌, subst}
-use mathlib.Core.Bool.{Bool, true, false, not, ◌||◌}
-use mathlib.Core.List.{List, []}
+use mathlib.Core.Path.{◌≡◌, refl, sym, ◌∙◌}
+use mathlib.Core.Bool.{Bool, true, false, ◌||◌}
+use mathlib.Core.List.{List}
 use mathlib.Core.Logic.{◌⊎◌, inl, inr}
 use Prim.Native.Nat.{ℕ}
 use lib.Dec.{T, eqb}
@@ -19,10 +19,10 @@ use Rattle.layout.specs.Table.{program_of}
 use Rattle.machine.specs.Effects.{row}
 use Rattle.machine.specs.WellFormed.{form}
 use Rattle.packed.specs.Packed.{table_of}
-use Rattle.decoding.specs.Operands.{var_of, letters_of, Named, IsSource, IsIndex, IsVariable, Listed, Read, Shaped}
-use Rattle.decoding.specs.OperandLaws.{good_of, listed_of, named, narrowed, no-argument, form-letter, indexed-is, indexed-below, shapes}
+use Rattle.decoding.specs.Operands.{Named, IsSource, IsIndex, IsVariable, Listed, Read, Shaped}
+use Rattle.decoding.specs.OperandLaws.{good_of, listed_of, named, no-argument, form-letter, indexed-is, indexed-below, shapes}
 use Rattle.decoding.specs.declared.Variable.{Variable}
-use Rattle.decoding.specs.declared.Variable.TheVariants.{Expression, Input, Output, File}
+use Rattle.decoding.specs.declared.Variable.TheVariants.{Expression, Input}
 use Rattle.record_equality.specs.Below.Offers.{Holdable}
 use Rattle.tests.specs.Prepares.{OtherLetter}
 use Rattle.record_equality.specs.Below.Equality.{Relatable}
@@ -38,9 +38,9 @@ use Rattle.table.specs.declared.Argument.{Argument}
 use Rattle.perform_moves.specs.Below.Stepping.{inputs}
 use Rattle.perform_moves.specs.Below.Performing.{Performing, Performs}
 use Rattle.perform_moves.specs.Below.Operating.{Carrying, PerformsFor}
-use Rattle.perform_moves.specs.Below.OperatingLaws.{carrying, long, performs}
+use Rattle.perform_moves.specs.Below.OperatingLaws.{carrying, performs}
 use Rattle.performing.specs.CarryingLaws.{good-itself, formed, first-named, third-none, performed}
-use Rattle.perform_moves.proofs.Operands.{unread}
+use Rattle.perform_moves.proofs.Operands.{named-of, no_others, unread}
 use Rattle.perform_equality.specs.Equating.{any_letter, IsAny, RelatingExpression}
 
 -- ---- the second argument
@@ -54,7 +54,6 @@ wider c a fs gs h m = all_among (λ n. among n gs) fs h (form (program_of c) (ar
 holdable : {c : List ℕ} {σ : State} {op : Op} {x y z : Argument} → Carrying c σ op x y z → Listed c others y → Holdable c y
 holdable {c} w m =
     record {
-      long = long w;
       good = good-itself w.read.second;
       form = form-letter c others (listed-letter OtherLetter others tt tt tt tt) m;
     }
@@ -146,24 +145,13 @@ module _ {c i j : List ℕ} {σ : State} {x y z : Argument} (w : Performing c i 
   pub related-named : Named (bytes "ABTI") x
   related-named = named c w.read.first (bytes "ABTI") tt (forms w.read).first
 
-  of-one : {v : Variable} (gs : List ℕ) → IsVariable x v → (u : Variable) → T (all (λ n. not (among n (letters_of (var_of u))) || among n gs) (bytes "ABTI")) → v ≡ u
-      → Named gs x
-  of-one gs which u h q = narrowed (bytes "ABTI") gs u h related-named (subst (λ (w : Variable). IsVariable x w) q which)
-
-  -- of nothing else
-  pub no_others : {v : Variable} → IsVariable x v → (v ≡ Input → ⊥) → (v ≡ Expression → ⊥) → ⊥
-  no_others {v} which a b = go v refl
-    where
-      go : (u : Variable) → v ≡ u → ⊥
-      go Expression q = b q
-      go Input q = a q
-      go Output q = (of-one [] which Output tt q).listed
-      go File q = (of-one [] which File tt q).listed
+  pub related-others : {v : Variable} → IsVariable x v → (v ≡ Input → ⊥) → (v ≡ Expression → ⊥) → ⊥
+  related-others which = no_others (bytes "ABTI") related-named which tt tt
 
   -- of an input
   module _ {k : ℕ} {v : Variable} (at : IsIndex x k) (which : IsVariable x v) (q : v ≡ Input) where
     of-input : Named (bytes "I") x
-    of-input = of-one (bytes "I") which Input tt q
+    of-input = named-of (bytes "ABTI") related-named which (bytes "I") Input tt q
 
     pub input-relatable : InputRelatable c σ i j k y
     input-relatable = record { unread = unread w k (indexed-below letters.Letter.I of-input at); other = holdable (carrying w) (forms w.read).second }
@@ -177,4 +165,4 @@ module _ {c i j : List ℕ} {σ : State} {x y z : Argument} (w : Performing c i 
 
   -- of an expression
   pub expression-relating : {v : Variable} → IsVariable x v → v ≡ Expression → RelatingExpression c σ x y z
-  expression-relating which q = record { carrying = carrying w; expression = of-one (bytes "ABT") which Expression tt q }
+  expression-relating which q = record { carrying = carrying w; expression = named-of (bytes "ABTI") related-named which (bytes "ABT") Expression tt q }

@@ -12,7 +12,7 @@ ghost use Rattle.perform_equality.specs.Equating.{any_letter, IsAny, RelatingExp
 
 use instructions::{Bench, Question, Task};
 use language::Operator;
-use table::Instruction;
+use table::{Instruction, Table};
 
 // Whether a letter, an argument stands for any component (T).
 fn any_letter(l: table::Letter) -> bool
@@ -33,12 +33,12 @@ fn is_any(a: table::Argument) -> bool
 
 // RW of an expression.
 fn relate_expression(
-    table: &[u32],
+    table: Table,
     bench: &mut Bench,
     instruction: Instruction,
 ) -> Result<(), Question>
-    requires { RelatingExpression table.now bench.old.state instruction.x instruction.y instruction.z }
-    ensures { PerformsFor table.now bench.old.state (told_by result) bench.new.state }
+    requires { RelatingExpression table.cells.now bench.old.state instruction.x instruction.y instruction.z }
+    ensures { PerformsFor table.entry.cells.now bench.old.state (told_by result) bench.new.state }
 {
     if is_any(instruction.x) {
         let i = decoding::index_of(instruction.x);
@@ -50,8 +50,8 @@ fn relate_expression(
 
 // RW, of an expression or an input.
 fn relate(task: Task, bench: &mut Bench, instruction: Instruction) -> Result<(), Question>
-    requires { Performing task.table.now task.first.now task.second.now bench.old.state RW instruction.x instruction.y instruction.z }
-    ensures { Performs task.entry.table.now task.entry.first.now task.entry.second.now bench.old.state (told_by result) bench.new.state }
+    requires { Performing task.table.cells.now task.first.now task.second.now bench.old.state RW instruction.x instruction.y instruction.z }
+    ensures { Performs task.entry.table.cells.now task.entry.first.now task.entry.second.now bench.old.state (told_by result) bench.new.state }
 {
     let i = decoding::index_of(instruction.x);
     match decoding::variable_of(instruction.x) {
@@ -62,9 +62,9 @@ fn relate(task: Task, bench: &mut Bench, instruction: Instruction) -> Result<(),
 }
 
 // RZ.
-fn relate_record(table: &[u32], bench: &mut Bench, instruction: Instruction) -> Result<(), Question>
-    requires { Carrying table.now bench.old.state RZ instruction.x instruction.y instruction.z }
-    ensures { PerformsFor table.now bench.old.state (told_by result) bench.new.state }
+fn relate_record(table: Table, bench: &mut Bench, instruction: Instruction) -> Result<(), Question>
+    requires { Carrying table.cells.now bench.old.state RZ instruction.x instruction.y instruction.z }
+    ensures { PerformsFor table.entry.cells.now bench.old.state (told_by result) bench.new.state }
 {
     let i = decoding::index_of(instruction.x);
     record_equality::rz(table, bench, i, instruction.y)
@@ -75,8 +75,8 @@ pub fn perform_equality(
     bench: &mut Bench,
     instruction: Instruction,
 ) -> Result<(), Question>
-    requires { Equating task.table.now task.first.now task.second.now bench.old.state (op_by instruction.op) instruction.x instruction.y instruction.z }
-    ensures { Performs task.entry.table.now task.entry.first.now task.entry.second.now bench.old.state (told_by result) bench.new.state }
+    requires { Equating task.table.cells.now task.first.now task.second.now bench.old.state (op_by instruction.op) instruction.x instruction.y instruction.z }
+    ensures { Performs task.entry.table.cells.now task.entry.first.now task.entry.second.now bench.old.state (told_by result) bench.new.state }
 {
     match instruction.op {
         Operator::RW => relate(task, bench, instruction),

@@ -13,14 +13,14 @@ use Rattle.table.specs.LetterLaws.{listed-letter}
 use Rattle.copying.specs.Copies.{RecordsRemovable, RecordsMovable}
 use Rattle.tests.specs.Prepares.{OtherLetter}
 use Rattle.perform_pointers.specs.Below.Operating.{Carrying}
-use Rattle.perform_pointers.specs.Below.CarryingLaws.{good-itself, table-long}
+use Rattle.perform_pointers.specs.Below.CarryingLaws.{good-itself}
 
 module _ {c : List ℕ} {σ : State} {op : Op} {x y z : Argument} (w : Carrying c σ op x y z) {a : Arg} {t : Argument} (g : GoodArgument c a t)
     (m : Listed c (bytes "-nNtBTE") t) where
   pub removable : {i : ℕ} → i < limit.files → RecordsRemovable c i t
   removable h =
       record {
-        test = record { long = table-long w; good = good-itself g; form = form-letter c (bytes "-nNtBTE") (listed-letter OtherLetter (bytes "-nNtBTE") tt tt tt tt) m };
+        test = record { good = good-itself g; form = form-letter c (bytes "-nNtBTE") (listed-letter OtherLetter (bytes "-nNtBTE") tt tt tt tt) m };
         source = h;
       }
 

@@ -10,12 +10,12 @@ ghost use Rattle.perform_files.specs.Filing.{Filing};
 use instructions::{Bench, Question};
 use language::Operator;
 use perform_pointers::{do_cofnij, do_schowaj, do_umiesc, do_ustaw, do_zamien};
-use table::Instruction;
+use table::{Instruction, Table};
 
 // KOPIUJ.
-fn do_kopiuj(table: &[u32], bench: &mut Bench, instruction: Instruction) -> Result<(), Question>
-    requires { Carrying table.now bench.old.state KOPIUJ instruction.x instruction.y instruction.z }
-    ensures { PerformsFor table.now bench.old.state (told_by result) bench.new.state }
+fn do_kopiuj(table: Table, bench: &mut Bench, instruction: Instruction) -> Result<(), Question>
+    requires { Carrying table.cells.now bench.old.state KOPIUJ instruction.x instruction.y instruction.z }
+    ensures { PerformsFor table.entry.cells.now bench.old.state (told_by result) bench.new.state }
 {
     let source = decoding::file_of(instruction.x);
     let target = decoding::file_of(instruction.y);
@@ -30,9 +30,9 @@ fn do_kopiuj(table: &[u32], bench: &mut Bench, instruction: Instruction) -> Resu
 }
 
 // WSTAW.
-fn do_wstaw(table: &[u32], bench: &mut Bench, instruction: Instruction) -> Result<(), Question>
-    requires { Carrying table.now bench.old.state WSTAW instruction.x instruction.y instruction.z }
-    ensures { PerformsFor table.now bench.old.state (told_by result) bench.new.state }
+fn do_wstaw(table: Table, bench: &mut Bench, instruction: Instruction) -> Result<(), Question>
+    requires { Carrying table.cells.now bench.old.state WSTAW instruction.x instruction.y instruction.z }
+    ensures { PerformsFor table.entry.cells.now bench.old.state (told_by result) bench.new.state }
 {
     let source = decoding::source_of(instruction.x);
     let target = decoding::file_of(instruction.y);
@@ -40,9 +40,9 @@ fn do_wstaw(table: &[u32], bench: &mut Bench, instruction: Instruction) -> Resul
 }
 
 // POBIERZ.
-fn do_pobierz(table: &[u32], bench: &mut Bench, instruction: Instruction) -> Result<(), Question>
-    requires { Carrying table.now bench.old.state POBIERZ instruction.x instruction.y instruction.z }
-    ensures { PerformsFor table.now bench.old.state (told_by result) bench.new.state }
+fn do_pobierz(table: Table, bench: &mut Bench, instruction: Instruction) -> Result<(), Question>
+    requires { Carrying table.cells.now bench.old.state POBIERZ instruction.x instruction.y instruction.z }
+    ensures { PerformsFor table.entry.cells.now bench.old.state (told_by result) bench.new.state }
 {
     let source = decoding::file_of(instruction.x);
     let target = decoding::target_of(instruction.y);
@@ -50,18 +50,18 @@ fn do_pobierz(table: &[u32], bench: &mut Bench, instruction: Instruction) -> Res
 }
 
 // SKRESL.
-fn do_skresl(table: &[u32], bench: &mut Bench, instruction: Instruction) -> Result<(), Question>
-    requires { Carrying table.now bench.old.state SKRESL instruction.x instruction.y instruction.z }
-    ensures { PerformsFor table.now bench.old.state (told_by result) bench.new.state }
+fn do_skresl(table: Table, bench: &mut Bench, instruction: Instruction) -> Result<(), Question>
+    requires { Carrying table.cells.now bench.old.state SKRESL instruction.x instruction.y instruction.z }
+    ensures { PerformsFor table.entry.cells.now bench.old.state (told_by result) bench.new.state }
 {
     let i = decoding::index_of(instruction.x);
     copying::skresl(table, bench, i, instruction.y)
 }
 
 // OMIN.
-fn do_omin(table: &[u32], bench: &mut Bench, instruction: Instruction) -> Result<(), Question>
-    requires { Carrying table.now bench.old.state OMIN instruction.x instruction.y instruction.z }
-    ensures { PerformsFor table.now bench.old.state (told_by result) bench.new.state }
+fn do_omin(table: Table, bench: &mut Bench, instruction: Instruction) -> Result<(), Question>
+    requires { Carrying table.cells.now bench.old.state OMIN instruction.x instruction.y instruction.z }
+    ensures { PerformsFor table.entry.cells.now bench.old.state (told_by result) bench.new.state }
 {
     let i = decoding::index_of(instruction.x);
     copying::omin(table, bench, i, instruction.y)
@@ -69,12 +69,12 @@ fn do_omin(table: &[u32], bench: &mut Bench, instruction: Instruction) -> Result
 
 // The instruction of an operator.
 pub fn perform_file(
-    table: &[u32],
+    table: Table,
     bench: &mut Bench,
     instruction: Instruction,
 ) -> Result<(), Question>
-    requires { Filing table.now bench.old.state (op_by instruction.op) instruction.x instruction.y instruction.z }
-    ensures { PerformsFor table.now bench.old.state (told_by result) bench.new.state }
+    requires { Filing table.cells.now bench.old.state (op_by instruction.op) instruction.x instruction.y instruction.z }
+    ensures { PerformsFor table.entry.cells.now bench.old.state (told_by result) bench.new.state }
 {
     match instruction.op {
         Operator::KOPIUJ => do_kopiuj(table, bench, instruction),

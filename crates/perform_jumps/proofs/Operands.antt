@@ -22,11 +22,12 @@ use Rattle.state.specs.Working.{nth, reading}
 use Rattle.switches.specs.Switches.{word_op, number_op, Switches}
 use Rattle.switches.specs.declared.Way.{Way}
 use Rattle.switches.specs.declared.Way.TheVariants.{Jump, Call}
+use Rattle.table.specs.Good.{GoodLabel}
 use Rattle.table.specs.Denote.{arg_of}
 use Rattle.table.specs.declared.Argument.{Argument}
 use Rattle.table.specs.declared.Argument.TheVariants.{Label, Switch}
 use Rattle.performing.specs.Operating.{Carrying, LeadsFor}
-use Rattle.performing.specs.OperatingLaws.{long, following, led}
+use Rattle.performing.specs.OperatingLaws.{following, led}
 use Rattle.performing.specs.CarryingLaws.{formed, first-named, third-none}
 use Rattle.perform_jumps.specs.Jumping.{jump_by, call_by}
 
@@ -40,11 +41,11 @@ module _ {c : List ℕ} {σ : State} {op : Op} {x y z : Argument} (w : Carrying 
   label-asked = labelled c w.read.first labels.first
 
   module _ {k : ℕ} (q : x ≡ Label k) where
-    pub leading : jumps.Leads c k
-    leading = record { long = long w; label = label-asked.good k q }
+    pub leading : GoodLabel c k
+    leading = label-asked.good k q
 
     pub turning : T (not (is_end (operation op).flow)) → jumps.Turns c σ k
-    turning h = record { leads = leading; following = following w h }
+    turning h = record { label = leading; following = following w h }
 
     pub label-led : {told : ℕ} {σ' : State} → GoesIn σ told σ' (λ ins. row (program_of c) ins σ.store (label k) nothing nothing op) → LeadsFor c σ told σ'
     label-led g i j =

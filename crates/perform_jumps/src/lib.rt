@@ -12,21 +12,21 @@ use instructions::Question;
 use language::Operator;
 use state::Working;
 use switches::Way;
-use table::Instruction;
+use table::{Instruction, Table};
 
 // SKOCZ.
-fn jump(table: &[u32], state: &mut Working, instruction: Instruction) -> Result<(), Question>
-    requires { Carrying table.now state.old SKOCZ instruction.x instruction.y instruction.z }
-    ensures { LeadsFor table.now state.old (told_by result) state.new }
+fn jump(table: Table, state: &mut Working, instruction: Instruction) -> Result<(), Question>
+    requires { Carrying table.cells.now state.old SKOCZ instruction.x instruction.y instruction.z }
+    ensures { LeadsFor table.entry.cells.now state.old (told_by result) state.new }
 {
     let label = decoding::label_of(instruction.x);
     jumps::skocz(table, state, label)
 }
 
 // WYKONAJ.
-fn call(table: &[u32], state: &mut Working, instruction: Instruction) -> Result<(), Question>
-    requires { Carrying table.now state.old WYKONAJ instruction.x instruction.y instruction.z }
-    ensures { LeadsFor table.now state.old (told_by result) state.new }
+fn call(table: Table, state: &mut Working, instruction: Instruction) -> Result<(), Question>
+    requires { Carrying table.cells.now state.old WYKONAJ instruction.x instruction.y instruction.z }
+    ensures { LeadsFor table.entry.cells.now state.old (told_by result) state.new }
 {
     let label = decoding::label_of(instruction.x);
     jumps::wykonaj(table, state, label)
@@ -34,13 +34,13 @@ fn call(table: &[u32], state: &mut Working, instruction: Instruction) -> Result<
 
 // SKOPL where `plus`, and otherwise SKOMI.
 fn jump_by(
-    table: &[u32],
+    table: Table,
     state: &mut Working,
     instruction: Instruction,
     plus: bool,
 ) -> Result<(), Question>
-    requires { Carrying table.now state.old (jump_by plus) instruction.x instruction.y instruction.z }
-    ensures { LeadsFor table.now state.old (told_by result) state.new }
+    requires { Carrying table.cells.now state.old (jump_by plus) instruction.x instruction.y instruction.z }
+    ensures { LeadsFor table.entry.cells.now state.old (told_by result) state.new }
 {
     let label = decoding::label_of(instruction.x);
     let taken = state.is_plus() == plus;
@@ -49,13 +49,13 @@ fn jump_by(
 
 // WYPL where `plus`, and otherwise WYMI.
 fn call_by(
-    table: &[u32],
+    table: Table,
     state: &mut Working,
     instruction: Instruction,
     plus: bool,
 ) -> Result<(), Question>
-    requires { Carrying table.now state.old (call_by plus) instruction.x instruction.y instruction.z }
-    ensures { LeadsFor table.now state.old (told_by result) state.new }
+    requires { Carrying table.cells.now state.old (call_by plus) instruction.x instruction.y instruction.z }
+    ensures { LeadsFor table.entry.cells.now state.old (told_by result) state.new }
 {
     let label = decoding::label_of(instruction.x);
     let taken = state.is_plus() == plus;
@@ -64,13 +64,13 @@ fn call_by(
 
 // SKONA and WYNA.
 fn by_word(
-    table: &[u32],
+    table: Table,
     state: &mut Working,
     instruction: Instruction,
     way: Way,
 ) -> Result<(), Question>
-    requires { Carrying table.now state.old (word_op way) instruction.x instruction.y instruction.z }
-    ensures { LeadsFor table.now state.old (told_by result) state.new }
+    requires { Carrying table.cells.now state.old (word_op way) instruction.x instruction.y instruction.z }
+    ensures { LeadsFor table.entry.cells.now state.old (told_by result) state.new }
 {
     let source = decoding::source_of(instruction.x);
     let switch = decoding::switch_of(instruction.y);
@@ -79,13 +79,13 @@ fn by_word(
 
 // SKOIN and WYIN.
 fn by_number(
-    table: &[u32],
+    table: Table,
     state: &mut Working,
     instruction: Instruction,
     way: Way,
 ) -> Result<(), Question>
-    requires { Carrying table.now state.old (number_op way) instruction.x instruction.y instruction.z }
-    ensures { LeadsFor table.now state.old (told_by result) state.new }
+    requires { Carrying table.cells.now state.old (number_op way) instruction.x instruction.y instruction.z }
+    ensures { LeadsFor table.entry.cells.now state.old (told_by result) state.new }
 {
     let source = decoding::source_of(instruction.x);
     let switch = decoding::switch_of(instruction.y);
@@ -94,12 +94,12 @@ fn by_number(
 
 // An instruction that does not always go on to the following one.
 pub fn perform_jump(
-    table: &[u32],
+    table: Table,
     state: &mut Working,
     instruction: Instruction,
 ) -> Result<(), Question>
-    requires { Jumping table.now state.old (op_by instruction.op) instruction.x instruction.y instruction.z }
-    ensures { LeadsFor table.now state.old (told_by result) state.new }
+    requires { Jumping table.cells.now state.old (op_by instruction.op) instruction.x instruction.y instruction.z }
+    ensures { LeadsFor table.entry.cells.now state.old (told_by result) state.new }
 {
     match instruction.op {
         Operator::SKOCZ => jump(table, state, instruction),

@@ -46,7 +46,7 @@ use Rattle.tests.specs.Prepares.{TestLetter, TestReadable}
 use Rattle.performing.specs.Stepping.{inputs}
 use Rattle.performing.specs.Performing.{Performing, Performs}
 use Rattle.performing.specs.Operating.{Carrying, PerformsFor}
-use Rattle.performing.specs.OperatingLaws.{carrying, long, performs}
+use Rattle.performing.specs.OperatingLaws.{carrying, performs}
 use Rattle.performing.specs.CarryingLaws.{good-itself, formed, first-named, second-named, third-none, performed}
 
 -- ---- what all of them share
@@ -58,10 +58,26 @@ module _ {c : List ℕ} {σ : State} {op : Op} {x y z : Argument} (w : Carrying 
   test_of : {v : Arg} {a : Argument} → GoodArgument c v a → Listed c tests a → TestReadable c a
   test_of g m =
       record {
-        long = long w;
         good = good-itself g;
         form = form-letter c tests (listed-letter TestLetter tests tt tt tt) m;
       }
+
+-- ---- the first argument, with the letters fs, by what it is of
+
+module _ (fs : List ℕ) {x : Argument} (n : Named fs x) {v : Variable} (which : IsVariable x v) where
+  pub named-of : (gs : List ℕ) (u : Variable) → T (all (λ k. not (among k (letters_of (var_of u))) || among k gs) fs) → v ≡ u → Named gs x
+  named-of gs u h q = narrowed fs gs u h n (subst (λ (w : Variable). IsVariable x w) q which)
+
+  -- an input or an expression, and nothing else
+  pub no_others : T (all (λ k. not (among k (letters_of (var_of Output))) || among k []) fs) → T (all (λ k. not (among k (letters_of (var_of File))) || among k []) fs)
+      → (v ≡ Input → ⊥) → (v ≡ Expression → ⊥) → ⊥
+  no_others o f a b = go v refl
+    where
+      go : (u : Variable) → v ≡ u → ⊥
+      go Expression q = b q
+      go Input q = a q
+      go Output q = (named-of [] Output o q).listed
+      go File q = (named-of [] File f q).listed
 
 -- ---- PRZESLIJ
 
@@ -213,24 +229,13 @@ module _ {c i j : List ℕ} {σ : State} {x y z : Argument} (w : Performing c i 
   drop-none : arg_of (table_of c) z ≡ nothing
   drop-none = third-none (carrying w) "AI" "-nNctBT" refl
 
-  of-one : {v : Variable} (gs : List ℕ) → IsVariable x v → (u : Variable) → T (all (λ n. not (among n (letters_of (var_of u))) || among n gs) (bytes "AI")) → v ≡ u
-      → Named gs x
-  of-one gs which u h q = narrowed (bytes "AI") gs u h drop-from (subst (λ (w : Variable). IsVariable x w) q which)
-
-  -- of nothing else
-  pub no_others : {v : Variable} → IsVariable x v → (v ≡ Input → ⊥) → (v ≡ Expression → ⊥) → ⊥
-  no_others {v} which a b = go v refl
-    where
-      go : (u : Variable) → v ≡ u → ⊥
-      go Expression q = b q
-      go Input q = a q
-      go Output q = (of-one [] which Output tt q).listed
-      go File q = (of-one [] which File tt q).listed
+  pub drop-others : {v : Variable} → IsVariable x v → (v ≡ Input → ⊥) → (v ≡ Expression → ⊥) → ⊥
+  drop-others which = no_others (bytes "AI") drop-from which tt tt
 
   -- of an input
   module _ {k : ℕ} {v : Variable} (at : IsIndex x k) (which : IsVariable x v) (q : v ≡ Input) where
     of-input : Named (bytes "I") x
-    of-input = of-one (bytes "I") which Input tt q
+    of-input = named-of (bytes "AI") drop-from which (bytes "I") Input tt q
 
     pub passable : InputPassable c σ i j k y
     passable = record { unread = unread w k (indexed-below I of-input at); test = drop-test }
@@ -245,7 +250,7 @@ module _ {c i j : List ℕ} {σ : State} {x y z : Argument} (w : Performing c i 
   -- of an expression
   module _ {k : ℕ} {v : Variable} (at : IsIndex x k) (which : IsVariable x v) (q : v ≡ Expression) where
     of-expression : Named (bytes "A") x
-    of-expression = of-one (bytes "A") which Expression tt q
+    of-expression = named-of (bytes "AI") drop-from which (bytes "A") Expression tt q
 
     pub removable : Removable c k y
     removable = record { test = drop-test; source = indexed-below A of-expression at }

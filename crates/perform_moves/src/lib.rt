@@ -11,12 +11,12 @@ ghost use Rattle.perform_moves.specs.Moving.{Moving};
 use instructions::{Bench, Question, Task};
 use language::Operator;
 use splitting::{from_joining, from_readings};
-use table::Instruction;
+use table::{Instruction, Table};
 
 // PRZESLIJ.
-fn send(table: &[u32], bench: &mut Bench, instruction: Instruction) -> Result<(), Question>
-    requires { Carrying table.now bench.old.state PRZESLIJ instruction.x instruction.y instruction.z }
-    ensures { PerformsFor table.now bench.old.state (told_by result) bench.new.state }
+fn send(table: Table, bench: &mut Bench, instruction: Instruction) -> Result<(), Question>
+    requires { Carrying table.cells.now bench.old.state PRZESLIJ instruction.x instruction.y instruction.z }
+    ensures { PerformsFor table.entry.cells.now bench.old.state (told_by result) bench.new.state }
 {
     let source = decoding::source_of(instruction.x);
     let target = decoding::target_of(instruction.y);
@@ -25,8 +25,8 @@ fn send(table: &[u32], bench: &mut Bench, instruction: Instruction) -> Result<()
 
 // CZYTAJ.
 fn read(task: Task, bench: &mut Bench, instruction: Instruction) -> Result<(), Question>
-    requires { Performing task.table.now task.first.now task.second.now bench.old.state CZYTAJ instruction.x instruction.y instruction.z }
-    ensures { Performs task.entry.table.now task.entry.first.now task.entry.second.now bench.old.state (told_by result) bench.new.state }
+    requires { Performing task.table.cells.now task.first.now task.second.now bench.old.state CZYTAJ instruction.x instruction.y instruction.z }
+    ensures { Performs task.entry.table.cells.now task.entry.first.now task.entry.second.now bench.old.state (told_by result) bench.new.state }
 {
     let i = decoding::index_of(instruction.x);
     let target = decoding::target_of(instruction.y);
@@ -34,9 +34,9 @@ fn read(task: Task, bench: &mut Bench, instruction: Instruction) -> Result<(), Q
 }
 
 // PISZ.
-fn print(table: &[u32], bench: &mut Bench, instruction: Instruction) -> Result<(), Question>
-    requires { Carrying table.now bench.old.state PISZ instruction.x instruction.y instruction.z }
-    ensures { PerformsFor table.now bench.old.state (told_by result) bench.new.state }
+fn print(table: Table, bench: &mut Bench, instruction: Instruction) -> Result<(), Question>
+    requires { Carrying table.cells.now bench.old.state PISZ instruction.x instruction.y instruction.z }
+    ensures { PerformsFor table.entry.cells.now bench.old.state (told_by result) bench.new.state }
 {
     let source = decoding::source_of(instruction.x);
     let j = decoding::index_of(instruction.y);
@@ -45,8 +45,8 @@ fn print(table: &[u32], bench: &mut Bench, instruction: Instruction) -> Result<(
 
 // USUN, of an expression or an input.
 fn remove(task: Task, bench: &mut Bench, instruction: Instruction) -> Result<(), Question>
-    requires { Performing task.table.now task.first.now task.second.now bench.old.state USUN instruction.x instruction.y instruction.z }
-    ensures { Performs task.entry.table.now task.entry.first.now task.entry.second.now bench.old.state (told_by result) bench.new.state }
+    requires { Performing task.table.cells.now task.first.now task.second.now bench.old.state USUN instruction.x instruction.y instruction.z }
+    ensures { Performs task.entry.table.cells.now task.entry.first.now task.entry.second.now bench.old.state (told_by result) bench.new.state }
 {
     let i = decoding::index_of(instruction.x);
     match decoding::variable_of(instruction.x) {
@@ -57,27 +57,27 @@ fn remove(task: Task, bench: &mut Bench, instruction: Instruction) -> Result<(),
 }
 
 // ZBIJ.
-fn join(table: &[u32], bench: &mut Bench, instruction: Instruction) -> Result<(), Question>
-    requires { Carrying table.now bench.old.state ZBIJ instruction.x instruction.y instruction.z }
-    ensures { PerformsFor table.now bench.old.state (told_by result) bench.new.state }
+fn join(table: Table, bench: &mut Bench, instruction: Instruction) -> Result<(), Question>
+    requires { Carrying table.cells.now bench.old.state ZBIJ instruction.x instruction.y instruction.z }
+    ensures { PerformsFor table.entry.cells.now bench.old.state (told_by result) bench.new.state }
 {
     let source = decoding::source_of(instruction.x);
     from_joining::zbij(table, bench, source, instruction.y)
 }
 
 // ROZBIJ.
-fn split(table: &[u32], bench: &mut Bench, instruction: Instruction) -> Result<(), Question>
-    requires { Carrying table.now bench.old.state ROZBIJ instruction.x instruction.y instruction.z }
-    ensures { PerformsFor table.now bench.old.state (told_by result) bench.new.state }
+fn split(table: Table, bench: &mut Bench, instruction: Instruction) -> Result<(), Question>
+    requires { Carrying table.cells.now bench.old.state ROZBIJ instruction.x instruction.y instruction.z }
+    ensures { PerformsFor table.entry.cells.now bench.old.state (told_by result) bench.new.state }
 {
     let source = decoding::source_of(instruction.x);
     splitting::rozbij(table, bench, source, instruction.y)
 }
 
 // SZUKAJ.
-fn seek(table: &[u32], bench: &mut Bench, instruction: Instruction) -> Result<(), Question>
-    requires { Carrying table.now bench.old.state SZUKAJ instruction.x instruction.y instruction.z }
-    ensures { PerformsFor table.now bench.old.state (told_by result) bench.new.state }
+fn seek(table: Table, bench: &mut Bench, instruction: Instruction) -> Result<(), Question>
+    requires { Carrying table.cells.now bench.old.state SZUKAJ instruction.x instruction.y instruction.z }
+    ensures { PerformsFor table.entry.cells.now bench.old.state (told_by result) bench.new.state }
 {
     let source = decoding::source_of(instruction.x);
     let switch = decoding::switch_of(instruction.y);
@@ -86,8 +86,8 @@ fn seek(table: &[u32], bench: &mut Bench, instruction: Instruction) -> Result<()
 
 #[tactic(auto, using(crate::proofs::Operands::for_inputs))]
 pub fn perform_move(task: Task, bench: &mut Bench, instruction: Instruction) -> Result<(), Question>
-    requires { Moving task.table.now task.first.now task.second.now bench.old.state (op_by instruction.op) instruction.x instruction.y instruction.z }
-    ensures { Performs task.entry.table.now task.entry.first.now task.entry.second.now bench.old.state (told_by result) bench.new.state }
+    requires { Moving task.table.cells.now task.first.now task.second.now bench.old.state (op_by instruction.op) instruction.x instruction.y instruction.z }
+    ensures { Performs task.entry.table.cells.now task.entry.first.now task.entry.second.now bench.old.state (told_by result) bench.new.state }
 {
     match instruction.op {
         Operator::PRZESLIJ => send(task.table, bench, instruction),

@@ -22,9 +22,10 @@ use Rattle.table.specs.Denote.{arg_of, kind, kind_of_form}
 use Rattle.table.specs.FormLaws.{kind-told}
 use Rattle.table.specs.declared.Argument.{Argument}
 use Rattle.table.specs.declared.Argument.TheVariants.{Nothing, Indexed, Label, Switch, Class, Text, Number}
+use Rattle.table.specs.declared.TextRef.{TextRef}
 use Rattle.constants.specs.Constants.{IsConstant, Placeable, TextPlaceable}
 use Rattle.performing.specs.Operating.{Carrying}
-use Rattle.performing.specs.CarryingLaws.{good-itself, table-long}
+use Rattle.performing.specs.CarryingLaws.{good-itself}
 use Rattle.perform_pointers.specs.Texts.{IsText}
 
 -- ---- arguments by their forms
@@ -64,10 +65,10 @@ no-form w = w.listed
 
 module _ {c : List ℕ} {σ : State} {op : Op} {x y z : Argument} (w : Carrying c σ op x y z) where
   pub placeable : IsConstant x → {j most : ℕ} → j < most → Placeable c x j most
-  placeable k h = record { long = table-long w; good = good-itself w.read.first; form = k; index = h }
+  placeable k h = record { good = good-itself w.read.first; form = k; index = h }
 
-  pub text-placeable : {v j : ℕ} → x ≡ Text v → j < limit.outputs → TextPlaceable c v j
-  text-placeable {v} q h = record { long = table-long w; good = w.read.first.text v q; index = h }
+  pub text-placeable : {v : TextRef} {j : ℕ} → x ≡ Text v → j < limit.outputs → TextPlaceable c v j
+  text-placeable {v} q h = record { good = w.read.first.text v q; index = h }
 
 -- ---- the two lists of ZAMIEN
 

@@ -9,16 +9,12 @@ ghost use Rattle.performing.specs.Operating.{Carrying, PerformsFor};
 ghost use Rattle.perform_pointers.specs.Texts.{IsText};
 
 use instructions::{Bench, Question};
-use table::Instruction;
+use table::{Instruction, Table, TextRef};
 
 // SCHOWAJ.
-pub fn do_schowaj(
-    table: &[u32],
-    bench: &mut Bench,
-    instruction: Instruction,
-) -> Result<(), Question>
-    requires { Carrying table.now bench.old.state SCHOWAJ instruction.x instruction.y instruction.z }
-    ensures { PerformsFor table.now bench.old.state (told_by result) bench.new.state }
+pub fn do_schowaj(table: Table, bench: &mut Bench, instruction: Instruction) -> Result<(), Question>
+    requires { Carrying table.cells.now bench.old.state SCHOWAJ instruction.x instruction.y instruction.z }
+    ensures { PerformsFor table.entry.cells.now bench.old.state (told_by result) bench.new.state }
 {
     let i = decoding::index_of(instruction.x);
     let target = decoding::target_of(instruction.y);
@@ -26,9 +22,9 @@ pub fn do_schowaj(
 }
 
 // USTAW.
-pub fn do_ustaw(table: &[u32], bench: &mut Bench, instruction: Instruction) -> Result<(), Question>
-    requires { Carrying table.now bench.old.state USTAW instruction.x instruction.y instruction.z }
-    ensures { PerformsFor table.now bench.old.state (told_by result) bench.new.state }
+pub fn do_ustaw(table: Table, bench: &mut Bench, instruction: Instruction) -> Result<(), Question>
+    requires { Carrying table.cells.now bench.old.state USTAW instruction.x instruction.y instruction.z }
+    ensures { PerformsFor table.entry.cells.now bench.old.state (told_by result) bench.new.state }
 {
     let source = decoding::source_of(instruction.x);
     let j = decoding::index_of(instruction.y);
@@ -36,9 +32,9 @@ pub fn do_ustaw(table: &[u32], bench: &mut Bench, instruction: Instruction) -> R
 }
 
 // ZAMIEN of expressions or of files.
-pub fn do_zamien(table: &[u32], bench: &mut Bench, instruction: Instruction) -> Result<(), Question>
-    requires { Carrying table.now bench.old.state ZAMIEN instruction.x instruction.y instruction.z }
-    ensures { PerformsFor table.now bench.old.state (told_by result) bench.new.state }
+pub fn do_zamien(table: Table, bench: &mut Bench, instruction: Instruction) -> Result<(), Question>
+    requires { Carrying table.cells.now bench.old.state ZAMIEN instruction.x instruction.y instruction.z }
+    ensures { PerformsFor table.entry.cells.now bench.old.state (told_by result) bench.new.state }
 {
     let i = decoding::index_of(instruction.x);
     let j = decoding::index_of(instruction.y);
@@ -49,21 +45,21 @@ pub fn do_zamien(table: &[u32], bench: &mut Bench, instruction: Instruction) -> 
     }
 }
 
-// The reference of a text.
-fn text_of(a: table::Argument) -> usize
+// What an argument that is a text refers to.
+fn text_of(a: table::Argument) -> TextRef
     requires { IsText a }
     ensures { a ≡ Text result }
 {
     match a {
-        table::Argument::Text(v) => v,
+        table::Argument::Text(text) => text,
         _ => unreachable!(),
     }
 }
 
 // UMIESC to a file, an output or an expression.
-pub fn do_umiesc(table: &[u32], bench: &mut Bench, instruction: Instruction) -> Result<(), Question>
-    requires { Carrying table.now bench.old.state UMIESC instruction.x instruction.y instruction.z }
-    ensures { PerformsFor table.now bench.old.state (told_by result) bench.new.state }
+pub fn do_umiesc(table: Table, bench: &mut Bench, instruction: Instruction) -> Result<(), Question>
+    requires { Carrying table.cells.now bench.old.state UMIESC instruction.x instruction.y instruction.z }
+    ensures { PerformsFor table.entry.cells.now bench.old.state (told_by result) bench.new.state }
 {
     match decoding::variable_of(instruction.y) {
         decoding::Variable::File => {
@@ -72,8 +68,8 @@ pub fn do_umiesc(table: &[u32], bench: &mut Bench, instruction: Instruction) -> 
         }
         decoding::Variable::Output => {
             let j = decoding::index_of(instruction.y);
-            let v = text_of(instruction.x);
-            constants::umiesc_output(table, bench, j, v)
+            let text = text_of(instruction.x);
+            constants::umiesc_output(table, bench, j, text)
         }
         decoding::Variable::Expression => {
             let target = decoding::target_of(instruction.y);
@@ -84,9 +80,9 @@ pub fn do_umiesc(table: &[u32], bench: &mut Bench, instruction: Instruction) -> 
 }
 
 // COFNIJ.
-pub fn do_cofnij(table: &[u32], bench: &mut Bench, instruction: Instruction) -> Result<(), Question>
-    requires { Carrying table.now bench.old.state COFNIJ instruction.x instruction.y instruction.z }
-    ensures { PerformsFor table.now bench.old.state (told_by result) bench.new.state }
+pub fn do_cofnij(table: Table, bench: &mut Bench, instruction: Instruction) -> Result<(), Question>
+    requires { Carrying table.cells.now bench.old.state COFNIJ instruction.x instruction.y instruction.z }
+    ensures { PerformsFor table.entry.cells.now bench.old.state (told_by result) bench.new.state }
 {
     let i = decoding::index_of(instruction.x);
     pointers::cofnij(bench, i)

@@ -29,7 +29,7 @@ use Rattle.table.specs.LetterLaws.{listed-letter}
 use Rattle.table.specs.declared.Letter.TheVariants as letter
 use Rattle.table.specs.declared.Argument.{Argument}
 use Rattle.performing.specs.Operating.{Carrying, PerformsFor}
-use Rattle.performing.specs.CarryingLaws.{good-itself, table-long, formed, first-named, second_none, third-none, performed}
+use Rattle.performing.specs.CarryingLaws.{good-itself, formed, first-named, second_none, third-none, performed}
 use Rattle.perform_values.specs.Valuing.{value_operators}
 
 module _ {c : List ℕ} {σ : State} {op : Op} {x y z : Argument} (w : Carrying c σ op x y z) where
@@ -67,7 +67,6 @@ module _ {c : List ℕ} {σ : State} {op : Op} {x y z : Argument} (w : Carrying 
         record {
           other =
               record {
-                long = table-long w;
                 good = good-itself w.read.second;
                 form = form-letter c (bytes "tB") (listed-letter (λ l. l ≡ letter.B) (bytes "tB") refl) (formed w ("B", "tB", "-") f).second;
               };

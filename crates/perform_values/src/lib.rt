@@ -8,16 +8,16 @@ ghost use Rattle.perform_values.specs.Valuing.{Valuing};
 
 use instructions::{Bench, Question};
 use language::Operator;
-use table::Instruction;
+use table::{Instruction, Table};
 
 // The instruction of an operator.
 pub fn perform_value(
-    table: &[u32],
+    table: Table,
     bench: &mut Bench,
     instruction: Instruction,
 ) -> Result<(), Question>
-    requires { Valuing table.now bench.old.state (op_by instruction.op) instruction.x instruction.y instruction.z }
-    ensures { PerformsFor table.now bench.old.state (told_by result) bench.new.state }
+    requires { Valuing table.cells.now bench.old.state (op_by instruction.op) instruction.x instruction.y instruction.z }
+    ensures { PerformsFor table.entry.cells.now bench.old.state (told_by result) bench.new.state }
 {
     let i = decoding::index_of(instruction.x);
     match instruction.op {

@@ -7,7 +7,8 @@ use native.Mathlib.Omega.{arith}
 use lib.Dec.{leb, eqb}
 use lib.ListN.{length, take}
 use borrow.Author.Tests.{ne_eqb}
-use Rattle.std.specs.Prelude.{Option, Some, is_some, IfSome}
+use Rattle.std.specs.Prelude.{Option, Some, is_some, IfSome, unwrap_or}
+use Rattle.records.specs.Places.{LastAddress}
 use Rattle.language.specs.Limits as limit
 use Rattle.language.specs.Letters.Letter.{E, P}
 use Rattle.language.specs.Program.{Program}
@@ -25,7 +26,7 @@ use Rattle.cells.proofs.Laws.{pasted-front}
 use Rattle.components.specs.Parts.{Leading}
 use Rattle.layout.specs.Bounds.{Encoded}
 use Rattle.layout.proofs.ComponentLaws.{next-component, components-none, components-of, components_bytes-one}
-use Rattle.layout.specs.Components.{component_bytes, records_bytes, component_in, components_in, records_in}
+use Rattle.layout.specs.Components.{component_bytes, records_bytes, component_in, components_in}
 use Rattle.layout.specs.Memory.{components_held, chars_held}
 use Rattle.state.specs.Blocks.{ExprLent, PartsDroppable, PartsWritable, exprs_exchanged}
 use Rattle.state.specs.Working.{HoldsState, Stands, on_store, nth, reading, writing}
@@ -37,10 +38,10 @@ use Rattle.instructions.proofs.Answers.{answer-no, does-stop, quiet-done}
 use Rattle.instructions.proofs.Storing.{plain_done, plain-full}
 use Rattle.instructions.proofs.Written.{into_one, fits-written, writable}
 use Rattle.pointers.specs.Located.{PlaceOf, Located}
-use Rattle.pointers.specs.declared.Place.{Place}
+use Rattle.records.specs.declared.Place.{Place}
 
-pub last-told : {rs : List Record} {x : List ℕ} {a : ℕ} → RecordsLent rs x → Number (address_of_last 0 (records_in x)) 8388608 a → Number (address_of_last 0 rs) 8388608 a
-last-told {a = a} l v = subst (λ (ts : List Record). Number (address_of_last 0 ts) 8388608 a) l.is v
+pub last-told : {rs : List Record} {x : List ℕ} {o : Option ℕ} {a : ℕ} → RecordsLent rs x → LastAddress x o → a ≡ unwrap_or o 0 → Number (address_of_last 0 rs) 8388608 a
+last-told {a = a} l v e = subst (λ (ts : List Record). Number (address_of_last 0 ts) 8388608 a) l.is (rw e v.is)
 
 pub front-pointable : {σ : State} {i : ℕ} → i < limit.files → Pointable σ i 0 0
 unfolding records_bytes
@@ -150,10 +151,10 @@ module _ {σ : State} (h : Stands σ) (removes : Bool) {i : ℕ} (b : i < limit.
     abbrev y : Component
     y = component_in x
 
-    pub ustaw-kind : {k : ℕ} → Number (kind y) 3 k → (k ≡ 2 → ⊥) → DoesFor σ 53 σ by
-    ustaw-kind v w g ins =
+    pub ustaw-kind : (kind y ≡ 2 → ⊥) → DoesFor σ 53 σ by
+    ustaw-kind w g ins =
         let r : Row = (asks (y ∷ []), makes (y ∷ []), on) in
-        let t : answered r σ 53 ≡ false = rw (ne_eqb (kind y) 2 (λ q. w (v.is ∙ q))) refl in
+        let t : answered r σ 53 ≡ false = rw (ne_eqb (kind y) 2 w) refl in
         rw (row-ustaw g ins (y ∷ []) one-there)
         (does-stop h r (answer-no r σ (50 ∷ 52 ∷ []) 53 (54 ∷ 55 ∷ 56 ∷ 57 ∷ 58 ∷ 59 ∷ 60 ∷ []) refl (refl, (refl, tt)) t) (λ q. omega (arith, q)))
 

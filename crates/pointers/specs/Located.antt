@@ -5,7 +5,7 @@ use Rattle.layout.specs.Components.{records_bytes}
 use Rattle.lists.specs.Lists.{any}
 use Rattle.machine.specs.Changes.{records_to}
 use Rattle.records.specs.Places.{of_address}
-use Rattle.pointers.specs.declared.Place.{Place}
+use Rattle.records.specs.declared.Place.{Place}
 
 -- how many of the records rs stand up to the one of address n, and their bytes
 pub record PlaceOf (n : ℕ) (rs : List Record) (p : Place) : Type 0 where

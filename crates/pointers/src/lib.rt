@@ -14,15 +14,10 @@ ghost use Rattle.instructions.specs.Does.{DoesFor};
 ghost use Rattle.instructions.specs.Operands.{target as letter_by};
 ghost use Rattle.pointers.specs.Located.{Located};
 
+use components::Kind;
 use instructions::{Bench, Question, Source, Target};
+use records::Place;
 use state::Working;
-
-// How many records stand up to a place in a file, and their cells.
-#[derive(Clone, Copy)]
-pub struct Place {
-    pub records: usize,
-    pub bytes: usize,
-}
 
 // COFNIJ of file `i`.
 pub fn cofnij(bench: &mut Bench, i: usize) -> Result<(), Question>
@@ -41,7 +36,7 @@ pub fn schowaj(bench: &mut Bench, i: usize, target: Target) -> Result<(), Questi
     ensures { (reverses : Bool) → DoesFor bench.old.state (told_by result) bench.new.state (λ g ins. row g ins bench.old.state.store (nth P i) (nth (letter_by reverses target.at_end) target.j) nothing SCHOWAJ) }
 {
     bench.state.stands();
-    let a = records::last_address(filing::before_bytes(&bench.state, i));
+    let a = records::last_address(filing::before_bytes(&bench.state, i)).unwrap_or(0);
     if !instructions::has_room(&bench.state, 1, 0) {
         return Err(Question::Room);
     }
@@ -63,20 +58,14 @@ fn locate(state: &Working, i: usize, address: usize) -> Option<Place>
             bytes: 0,
         });
     }
-    let f = records::find(filing::before_bytes(state, i), address);
-    if f.found {
-        return Some(Place {
-            records: f.records,
-            bytes: f.bytes,
-        });
-    }
-    let g = records::find(filing::after_bytes(state, i), address);
-    if !g.found {
-        return None;
-    }
+    let before = match records::find(filing::before_bytes(state, i), address) {
+        Ok(place) => return Some(place),
+        Err(end) => end,
+    };
+    let place = records::find(filing::after_bytes(state, i), address).ok()?;
     Some(Place {
-        records: f.records + g.records,
-        bytes: f.bytes + g.bytes,
+        records: before.records + place.records,
+        bytes: before.bytes + place.bytes,
     })
 }
 
@@ -90,7 +79,7 @@ pub fn ustaw(bench: &mut Bench, source: Source, j: usize) -> Result<(), Question
     if x.is_empty() {
         return Err(Question::Missing);
     }
-    if components::kind_of(x) != 2 {
+    if components::kind_of(x) != Kind::Address {
         return Err(Question::Kind);
     }
     let Some(place) = locate(&bench.state, j, components::address_of(x)) else {

@@ -1,13 +1,13 @@
 // Writing words to outputs: PISZ.
 #![tactic(auto)]
 
-ghost use Rattle.std.specs.Prelude.{◌<◌, length, take};
+ghost use Rattle.std.specs.Prelude.{◌<◌, length};
 ghost use Rattle.language.specs.Limits as limit;
 ghost use Rattle.language.specs.Letters.Letter.{Q};
 ghost use Rattle.language.specs.Program.Op.{PISZ};
 ghost use Rattle.machine.specs.Changes.{minus_unless, printed};
 ghost use Rattle.machine.specs.Effects.{row};
-ghost use Rattle.matching.specs.Tests.{until};
+ghost use Rattle.tests.specs.Prepares.{until_in};
 ghost use Rattle.packed.specs.Packed.{table_of};
 ghost use Rattle.state.specs.Working.{HoldsState, on_store, nth, reading};
 ghost use Rattle.state.specs.Blocks.{Printable};
@@ -20,6 +20,7 @@ ghost use Rattle.printing.specs.Printing.{spelled_out};
 use instructions::{Bench, Question, Source};
 use language::Machine;
 use state::Working;
+use table::Table;
 use tests::Prepared;
 
 // Writes characters to output `j`, and turns H minus unless the test was reached.
@@ -36,10 +37,10 @@ fn spell(bench: &mut Bench, test: Prepared, source: Source, j: usize) -> Result<
     requires beside { TestBeside bench.old.given test }
     requires source { source.i < limit.expressions }
     requires target { j < limit.outputs }
-    ensures { Tried bench.old.state (told_by result) bench.new.state (all_taken_words (until test.test (take test.len bench.old.given)) source.i bench.old.state.store) (spelled_out (until test.test (take test.len bench.old.given)) source.removes source.i j bench.old.state.store) }
+    ensures { Tried bench.old.state (told_by result) bench.new.state (all_taken_words (until_in test bench.old.given) source.i bench.old.state.store) (spelled_out (until_in test bench.old.given) source.removes source.i j bench.old.state.store) }
 {
     let x = bench.state.expr_bytes(source.i);
-    let t = matching::count(x, test.test, &bench.given[..test.len]);
+    let t = matching::count(x, test.with(&bench.given));
     if !t.words {
         return Err(Question::Kind);
     }
@@ -56,14 +57,14 @@ fn spell(bench: &mut Bench, test: Prepared, source: Source, j: usize) -> Result<
 
 // PISZ to output `j`.
 pub fn pisz(
-    table: &[u32],
+    table: Table,
     bench: &mut Bench,
     source: Source,
     j: usize,
     arg: table::Argument,
 ) -> Result<(), Question>
-    requires { Movable table.now source.i j limit.outputs arg }
-    ensures { DoesFor bench.old.state (told_by result) bench.new.state (λ g ins. row g ins bench.old.state.store (nth (reading source.removes) source.i) (nth Q j) (arg_of (table_of table.now) arg) PISZ) }
+    requires { Movable table.cells.now source.i j limit.outputs arg }
+    ensures { DoesFor bench.old.state (told_by result) bench.new.state (λ g ins. row g ins bench.old.state.store (nth (reading source.removes) source.i) (nth Q j) (arg_of (table_of table.entry.cells.now) arg) PISZ) }
 {
     bench.state.stands();
     let test = tests::prepare(table, &bench.state, &mut bench.given, arg)?;

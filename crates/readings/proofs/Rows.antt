@@ -16,14 +16,12 @@ use Rattle.machine.specs.Arguments.{at, unread, taken, test_asks, on_chars}
 use Rattle.machine.specs.Changes.{put_expr, minus_unless, placed, into, past}
 use Rattle.machine.specs.Effects.{Row, moved, row}
 use Rattle.machine.specs.Effects.Go.{on}
-use Rattle.layout.specs.Components.{components_in}
-use Rattle.matching.specs.Tests.{first_chars, until_chars}
 use Rattle.state.specs.Working.{HoldsState, Stands, on_store, nth, writing}
 use Rattle.instructions.specs.Questions.{question_number}
 use Rattle.instructions.specs.declared.Question.{Question}
 use Rattle.instructions.specs.Does.{Tried}
 use Rattle.instructions.specs.Operands.{target, input_at}
-use Rattle.tests.specs.Prepares.{Prepares}
+use Rattle.tests.specs.Prepares.{Prepares, until_firsts_in}
 use Rattle.tests.specs.declared.Prepared.{Prepared}
 use Rattle.tests.proofs.Asked.{test-read, test-stop, test-tried}
 use Rattle.moves.proofs.Rows.{done}
@@ -86,9 +84,9 @@ module _ {σ : State} (h : Stands σ) (a b : List ℕ) (i : ℕ) (l : i < limit.
         rw (row-czytaj g ins s i c reverses at_end j) (test-stop h c w ins (read_up (on_chars ins s c) (input_of a b i) i at_end j s) e)
 
     pub czytaj-tried : {p : Prepared} → r ≡ Ok p → {o : List ℕ} → o ≡ input_at a b i → {k : ℕ} {σ' : State}
-        → Tried σ k σ' true (read_up (until_chars p.test (first_chars (components_in (take p.len x)))) o i at_end j s) → DoesReading σ k σ' by
+        → Tried σ k σ' true (read_up (until_firsts_in p x) o i at_end j s) → DoesReading σ k σ' by
     czytaj-tried {p} e {o} q {k} {σ'} y g reverses =
-        let u = until_chars p.test (first_chars (components_in (take p.len x))) in
+        let u = until_firsts_in p x in
         let t = subst (λ (z : List ℕ). Tried σ k σ' true (read_up u z i at_end j s)) (input-is a b i l q) y in
         rw (row-czytaj g ins s i c reverses at_end j, (test-read w e).chars ins) (test-tried h c w ins (read_up u (input_of a b i) i at_end j s) e t)
 
@@ -99,8 +97,8 @@ module _ {σ : State} (h : Stands σ) (a b : List ℕ) (i : ℕ) (l : i < limit.
   usun-stop e g = rw (row-usun g ins s i c) (test-stop h c w ins (passed (on_chars ins s c) (input_of a b i) i s) e)
 
   pub usun-done : {p : Prepared} → r ≡ Ok p → {o : List ℕ} → o ≡ input_at a b i → {σ' : State}
-      → HoldsState σ' (on_store (passed (until_chars p.test (first_chars (components_in (take p.len x)))) o i) σ) → DoesPassing σ 0 σ' gone
+      → HoldsState σ' (on_store (passed (until_firsts_in p x) o i) σ) → DoesPassing σ 0 σ' gone
   usun-done {p} e {o} q {σ'} k g =
-      let u = until_chars p.test (first_chars (components_in (take p.len x))) in
+      let u = until_firsts_in p x in
       let t = subst (λ (z : List ℕ). HoldsState σ' (on_store (passed u z i) σ)) (input-is a b i l q) k in
       rw (row-usun g ins s i c, (test-read w e).chars ins) (test-tried h c w ins (passed u (input_of a b i) i s) e (done h (passed u (input_of a b i) i) t))

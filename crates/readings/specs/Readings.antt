@@ -7,7 +7,7 @@ use Rattle.language.specs.Values.{Store, State}
 use Rattle.machine.specs.Arguments.{at, Until, taken}
 use Rattle.machine.specs.Changes.{minus_unless, into, past}
 use Rattle.machine.specs.Effects.{Row}
-use Rattle.matching.specs.Tests.{Fitting}
+use Rattle.matching.specs.Tests.{compared, Fitting}
 use Rattle.matching.specs.declared.Test.{Test}
 use Rattle.state.specs.Working.{Stands, nth, writing}
 use Rattle.table.specs.declared.Argument.{Argument}
@@ -43,10 +43,10 @@ DoesPassing σ told σ' r = (g : Program) → Does σ told σ' (r g)
 
 -- ---- what is asked
 
--- the bytes beside a test, of whose first characters a row has room for
-pub record CharsTakeable (test : Test) (given : List ℕ) : Type 0 where
-  pub fitting : Fitting test given
-  pub room : length given ≤ 32768
+-- a test of components, of whose first characters a row has room for
+pub record CharsTakeable (test : Test) : Type 0 where
+  pub fitting : Fitting test
+  pub room : compared test ≤ 32768
 
 -- input i is read up to a place within it
 pub record Unread (σ : State) (input : List ℕ) (i : ℕ) : Type 0 where

@@ -1,13 +1,13 @@
 // Reading inputs: CZYTAJ, and USUN of an input.
 #![tactic(auto)]
 
-ghost use Rattle.std.specs.Prelude.{true, [], ◌∷◌, take};
+ghost use Rattle.std.specs.Prelude.{true, [], ◌∷◌};
 ghost use Rattle.language.specs.Letters.Letter.{I};
 ghost use Rattle.language.specs.Program.Arg.{nothing};
 ghost use Rattle.language.specs.Program.Op.{CZYTAJ, USUN};
-ghost use Rattle.layout.specs.Components.{components_in};
 ghost use Rattle.machine.specs.Effects.{row};
-ghost use Rattle.matching.specs.Tests.{first_chars, until_chars, TookChars};
+ghost use Rattle.matching.specs.Tests.{until_firsts, TookChars};
+ghost use Rattle.tests.specs.Prepares.{until_firsts_in};
 ghost use Rattle.packed.specs.Packed.{table_of};
 ghost use Rattle.state.specs.Working.{HoldsState, on_store, nth};
 ghost use Rattle.table.specs.Denote.{arg_of};
@@ -31,22 +31,17 @@ pub fn unread<'a>(state: &Working, i: usize, input: &'a [u8]) -> &'a [u8]
     &input[from..]
 }
 
-// How many of the characters of `s` a test takes; what `Among` compares with are the first characters of the words in `given`.
-pub fn take_chars(
-    hold: &mut [u8; 32768],
-    s: &[u8],
-    test: Test,
-    given: &[u8],
-) -> matching::CharsTaken
-    requires { CharsTakeable test given.now }
-    ensures { TookChars (until_chars test (first_chars (components_in given.now))) s.now result }
+// How many of the characters of `s` a test takes; of the words that `Among` compares with only the first characters count.
+pub fn take_chars(hold: &mut [u8; 32768], s: &[u8], test: Test) -> matching::CharsTaken
+    requires { CharsTakeable test }
+    ensures { TookChars (until_firsts test.entry) s.now result }
 {
     match test {
-        Test::Among => {
+        Test::Among(given) => {
             let n = matching::first_chars(hold, given);
-            matching::count_chars(s, test, &hold[..n])
+            matching::count_chars(s, Test::Among(&hold[..n]))
         }
-        Test::All | Test::Count(_) | Test::Class(_) => matching::count_chars(s, test, given),
+        Test::All | Test::Count(_) | Test::Class(_) => matching::count_chars(s, test),
     }
 }
 
@@ -59,10 +54,10 @@ fn read_word(
     target: Target,
 ) -> Result<(), Question>
     requires { WordReadable bench.old.state input.now bench.old.given test i target.j }
-    ensures { Tried bench.old.state (told_by result) bench.new.state true (read_up (until_chars test.test (first_chars (components_in (take test.len bench.old.given)))) input.now i target.at_end target.j bench.old.state.store) }
+    ensures { Tried bench.old.state (told_by result) bench.new.state true (read_up (until_firsts_in test bench.old.given) input.now i target.at_end target.j bench.old.state.store) }
 {
     let rest = unread(&bench.state, i, input);
-    let t = take_chars(&mut bench.hold, rest, test.test, &bench.given[..test.len]);
+    let t = take_chars(&mut bench.hold, rest, test.with(&bench.given));
     let k = t.taken;
     if !joining::has_word_room(&bench.state, false, k) {
         return Err(Question::Room);
@@ -86,8 +81,8 @@ pub fn czytaj(
     target: Target,
     arg: table::Argument,
 ) -> Result<(), Question>
-    requires { InputReadable task.table.now bench.old.state task.first.now task.second.now i target.j arg }
-    ensures { DoesReading bench.old.state (told_by result) bench.new.state (λ g reverses. row g (task.entry.first.now ∷ task.entry.second.now ∷ []) bench.old.state.store (nth I i) (nth (target_letter reverses target.at_end) target.j) (arg_of (table_of task.entry.table.now) arg) CZYTAJ) }
+    requires { InputReadable task.table.cells.now bench.old.state task.first.now task.second.now i target.j arg }
+    ensures { DoesReading bench.old.state (told_by result) bench.new.state (λ g reverses. row g (task.entry.first.now ∷ task.entry.second.now ∷ []) bench.old.state.store (nth I i) (nth (target_letter reverses target.at_end) target.j) (arg_of (table_of task.entry.table.cells.now) arg) CZYTAJ) }
 {
     bench.state.stands();
     let test = tests::prepare(task.table, &bench.state, &mut bench.given, arg)?;
@@ -98,10 +93,10 @@ pub fn czytaj(
 // Not one with `moves::cut_off`, for USUN of an expression: that removes components, this moves the place in an input past characters.
 fn pass(bench: &mut Bench, test: Prepared, input: &[u8], i: usize)
     requires { Passable bench.old.state input.now bench.old.given test i }
-    ensures { HoldsState bench.new.state (on_store (passed (until_chars test.test (first_chars (components_in (take test.len bench.old.given)))) input.now i) bench.old.state) }
+    ensures { HoldsState bench.new.state (on_store (passed (until_firsts_in test bench.old.given) input.now i) bench.old.state) }
 {
     let rest = unread(&bench.state, i, input);
-    let t = take_chars(&mut bench.hold, rest, test.test, &bench.given[..test.len]);
+    let t = take_chars(&mut bench.hold, rest, test.with(&bench.given));
     bench.state.read_past(i, t.taken);
     bench.state.minus_unless(t.reached);
 }
@@ -113,8 +108,8 @@ pub fn usun_input(
     i: usize,
     arg: table::Argument,
 ) -> Result<(), Question>
-    requires { InputPassable task.table.now bench.old.state task.first.now task.second.now i arg }
-    ensures { DoesPassing bench.old.state (told_by result) bench.new.state (λ g. row g (task.entry.first.now ∷ task.entry.second.now ∷ []) bench.old.state.store (nth I i) (arg_of (table_of task.entry.table.now) arg) nothing USUN) }
+    requires { InputPassable task.table.cells.now bench.old.state task.first.now task.second.now i arg }
+    ensures { DoesPassing bench.old.state (told_by result) bench.new.state (λ g. row g (task.entry.first.now ∷ task.entry.second.now ∷ []) bench.old.state.store (nth I i) (arg_of (table_of task.entry.table.cells.now) arg) nothing USUN) }
 {
     bench.state.stands();
     let test = tests::prepare(task.table, &bench.state, &mut bench.given, arg)?;

@@ -19,9 +19,8 @@ use Rattle.layout.specs.Bounds.{Encoded}
 use Rattle.layout.proofs.ComponentLaws.{components-of, whole-components}
 use Rattle.layout.specs.Components.{components_in, records_in}
 use Rattle.filing.specs.Files.{RecordsLent}
-use Rattle.matching.specs.Tests.{until, Took}
+use Rattle.matching.specs.Tests.{Took}
 use Rattle.matching.specs.declared.Taken.{Taken}
-use Rattle.matching.specs.declared.Test.{Test}
 use Rattle.packed.specs.Packed.{table_of}
 use Rattle.records.specs.Places.{Part, next_contents}
 use Rattle.state.specs.Working.{HoldsState, Stands, on_store, nth}
@@ -31,7 +30,7 @@ use Rattle.instructions.specs.Questions.{question_number}
 use Rattle.instructions.specs.declared.Question.{Question}
 use Rattle.instructions.specs.Does.{DoesFor}
 use Rattle.comparands.specs.Offers.{ArgumentOffers}
-use Rattle.equality.specs.Equality.{test_of, OtherArgument, Unlike}
+use Rattle.equality.specs.Equality.{until_by, OtherArgument, Unlike}
 use Rattle.equality.proofs.Meeting.{met}
 use Rattle.equality.proofs.Questions.{equal_by, kinds_alike, numeric, beside, related-none, related-stop, related-unlike, related-done}
 use Rattle.comparands.proofs.Below.Signs.{kept-or-minus}
@@ -45,12 +44,11 @@ next-lent s i l k =
     record { whole = whole-components k.cells; is = components-of k.cells ∙ ap (λ (rs : List Record). next_contents rs) l.is }
 
 -- by the first component of the record
-pub meets-first : (a : Argument) (x g : List ℕ) {y : List ℕ} {w : Bool} {v : Test} {t : Taken} → ((c : List ℕ) → w ≡ is_whole (use_by (arg_of c a)).reading) → w ≡ false
-    → Part x (take 1 (components_in x)) y → v ≡ test_of a → Took (until v g) (components_in y) t → Meets x g a t.reached
-meets-first a x g {y} {t = t} h f k e m c =
-    let q : (taken (until (test_of a) g) (take 1 (components_in x))).1 ≡ t.reached =
-    ap (λ (ys : List Component). (taken (until (test_of a) g) ys).1) (sym (components-of k.cells))
-    ∙ ap (λ (u : Test). (taken (until u g) (components_in y)).1) (sym e)
+pub meets-first : (a : Argument) (x g : List ℕ) {y : List ℕ} {w : Bool} {t : Taken} → ((c : List ℕ) → w ≡ is_whole (use_by (arg_of c a)).reading) → w ≡ false
+    → Part x (take 1 (components_in x)) y → Took (until_by a g) (components_in y) t → Meets x g a t.reached
+meets-first a x g {y} {t = t} h f k m c =
+    let q : (taken (until_by a g) (take 1 (components_in x))).1 ≡ t.reached =
+    ap (λ (ys : List Component). (taken (until_by a g) ys).1) (sym (components-of k.cells))
     ∙ ap (λ (u : ℕ × Bool). u.1) m.is in
     rw (sym (h c) ∙ f) (sym q)
 
@@ -112,7 +110,7 @@ module _ {σ : State} (h : Stands σ) (i : ℕ) (c : List ℕ) (a : Argument) {g
           e = (beside (o ins) y).encoded
 
           go : (v : Bool) → is_whole (use_by b).reading ≡ v
-              → cond (is_whole (use_by b).reading) (same_list same (components_in x) (components_in (take n g))) (taken (until (test_of a) (take n g)) (take 1 (components_in x))).1
+              → cond (is_whole (use_by b).reading) (same_list same (components_in x) (components_in (take n g))) (taken (until_by a (take n g)) (take 1 (components_in x))).1
               ≡ holds f ins s i b
           go true v = rw (v, l.is, components-of e, all-offered (table_of c) a ins s k v) refl
           go false v = rw (v, ← front) (met (table_of c) a ins s (take n g) (take 1 (next_parts (file_of s (nth P i)))) (components-of e))

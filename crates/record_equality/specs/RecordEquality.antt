@@ -7,12 +7,11 @@ use Rattle.language.specs.Values.{Store, same}
 use Rattle.machine.specs.Arguments.{use_by, file_of, next_parts, is_whole, taken}
 use Rattle.layout.specs.Bounds.{WholeComponents}
 use Rattle.layout.specs.Components.{components_in}
-use Rattle.matching.specs.Tests.{until}
 use Rattle.state.specs.Working.{nth}
 use Rattle.table.specs.Denote.{arg_of}
 use Rattle.table.specs.declared.Argument.{Argument}
 use Rattle.comparands.specs.Offers.{Holdable}
-use Rattle.equality.specs.Equality.{test_of, OtherArgument}
+use Rattle.equality.specs.Equality.{until_by, OtherArgument}
 
 -- the bytes x are the record after the pointer of file i
 pub record NextLent (s : Store) (i : ℕ) (x : List ℕ) : Type 0 where
@@ -34,7 +33,7 @@ abbrev pub Meets : List ℕ → List ℕ → Argument → Bool → Type 0
 Meets x g a r =
     (c : List ℕ)
     → r
-    ≡ cond (is_whole (use_by (arg_of c a)).reading) (same_list same (components_in x) (components_in g)) (taken (until (test_of a) g) (take 1 (components_in x))).1
+    ≡ cond (is_whole (use_by (arg_of c a)).reading) (same_list same (components_in x) (components_in g)) (taken (until_by a g) (take 1 (components_in x))).1
 
 pub record RecordRelatable (c : List ℕ) (i : ℕ) (a : Argument) : Type 0 where
   pub other : Holdable c a

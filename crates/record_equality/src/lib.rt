@@ -20,6 +20,7 @@ ghost use Rattle.record_equality.specs.RecordEquality.{NextLent, Wholes, Meetabl
 
 use instructions::{Bench, Question};
 use state::Working;
+use table::Table;
 
 // The components of the record after the pointer of file `i`, none at the file's end.
 fn next_record(state: &Working, i: usize) -> &[u8]
@@ -55,14 +56,14 @@ fn meets(x: &[u8], given: &[u8], arg: table::Argument) -> bool
     if is_whole(arg) {
         return records::same_contents(x, given);
     }
-    let t = matching::count(records::first_of(x), equality::test_of(arg), given);
+    let t = matching::count(records::first_of(x), equality::test_of(arg, given));
     t.reached
 }
 
 // RZ of file `i`: whether a component is missing at the file's end is asked before the questions of the argument.
-pub fn rz(table: &[u32], bench: &mut Bench, i: usize, arg: table::Argument) -> Result<(), Question>
-    requires { RecordRelatable table.now i arg }
-    ensures { DoesFor bench.old.state (told_by result) bench.new.state (λ g ins. row g ins bench.old.state.store (nth letters.Letter.P i) (arg_of (table_of table.now) arg) nothing RZ) }
+pub fn rz(table: Table, bench: &mut Bench, i: usize, arg: table::Argument) -> Result<(), Question>
+    requires { RecordRelatable table.cells.now i arg }
+    ensures { DoesFor bench.old.state (told_by result) bench.new.state (λ g ins. row g ins bench.old.state.store (nth letters.Letter.P i) (arg_of (table_of table.entry.cells.now) arg) nothing RZ) }
 {
     bench.state.stands();
     let held = comparands::put_comparand(table, &bench.state, &mut bench.given, arg);

@@ -15,7 +15,7 @@ use Rattle.lists.specs.Quoted.{bytes}
 use Rattle.machine.specs.Arguments.{use_by, is_whole, expr, up_to}
 use Rattle.layout.proofs.ComponentLaws.{components-of, whole-components}
 use Rattle.records.specs.Sequences.{on_first}
-use Rattle.records.specs.declared.RecordTest.TheVariants.{First, Whole}
+use Rattle.record_tests.specs.declared.RecordsPrepared.TheVariants.{First, Whole}
 use Rattle.records.proofs.Arguments.{on_records-first}
 use Rattle.state.specs.Working.{nth}
 use Rattle.table.specs.Denote.{letter_of, arg_of}
@@ -49,11 +49,11 @@ module _ {c : List ℕ} {a : Argument} (h : RecordTestReadable c a) where
 
     -- it stands for the record of all components of the expression
     pub whole-told : (t : List ℕ) (s : Store) {g : List ℕ} {k : ℕ} → Beside (expr s (nth letters.Letter.E (n - 1))) g k
-        → PreparesRecords s (arg_of t a) g (Ok (record { test = Whole; len = k }))
+        → PreparesRecords s (arg_of t a) g (Ok (Whole k))
     whole-told t s {g} {k} b =
         let i : suc (n - 1) ≡ n = omega (arith, whole-from) in
-        subst (λ (x : Argument). PreparesRecords s (arg_of t x) g (Ok (record { test = Whole; len = k }))) (sym w)
-        (subst (λ (m : ℕ). PreparesRecords s (Arg.letter letters.Letter.E m) g (Ok (record { test = Whole; len = k }))) i
+        subst (λ (x : Argument). PreparesRecords s (arg_of t x) g (Ok (Whole k))) (sym w)
+        (subst (λ (m : ℕ). PreparesRecords s (Arg.letter letters.Letter.E m) g (Ok (Whole k))) i
         record {
           stop_is = λ ins. refl;
           is =
@@ -71,7 +71,7 @@ module _ {c : List ℕ} {a : Argument} (h : RecordTestReadable c a) where
     parts-form l m w = letter-parts l m (h.form l m w) (h.good.index l m w).from (sym (ap whole_index w) ∙ z)
 
     pub parts-readable : TestReadable c a
-    parts-readable = record { long = h.long; good = h.good; form = parts-form }
+    parts-readable = record { good = h.good; form = parts-form }
 
     reads-parts : (t : List ℕ) (b : Argument) → a ≡ b → is_whole (use_by (arg_of t b)).reading ≡ false
     reads-parts t Nothing w = refl
@@ -86,7 +86,7 @@ module _ {c : List ℕ} {a : Argument} (h : RecordTestReadable c a) where
       pub parts-refused : {q : Question} → r ≡ Err q → PreparesRecords s (arg_of t a) g (Err q)
       parts-refused e = record { stop_is = test-refused w e; is = tt }
 
-      pub parts-told : {p : Prepared} → r ≡ Ok p → PreparesRecords s (arg_of t a) g (Ok (record { test = First p.test; len = p.len }))
+      pub parts-told : {p : Prepared} → r ≡ Ok p → PreparesRecords s (arg_of t a) g (Ok (First p))
       parts-told e =
           let p = test-read w e in
           record {

@@ -1,19 +1,35 @@
 // Reading the values of a test of records, for KOPIUJ, SKRESL and OMIN.
 #![tactic(auto)]
 
+ghost use Rattle.std.specs.Prelude.{◌≤◌, length};
 ghost use Rattle.packed.specs.Packed.{table_of};
 ghost use Rattle.table.specs.Denote.{arg_of};
-ghost use Rattle.record_tests.specs.RecordPrepares.{WholeOf, RecordTestReadable, PreparesRecords};
+ghost use Rattle.record_tests.specs.RecordPrepares.{WholeOf, RecordTestReadable, PreparesRecords, records_size, RecordTestOf};
 
 use instructions::Question;
 use records::RecordTest;
 use state::Working;
+use table::Table;
+use tests::Prepared;
 
-// A test, with the first `len` bytes of the row `given` beside it.
-#[derive(Clone, Copy)]
-pub struct RecordsPrepared {
-    pub test: RecordTest,
-    pub len: usize,
+// A test of records as its argument makes it. What `Whole` compares with are the components in the first bytes of the row `given`, so many.
+#[derive(Clone, Copy, Debug, PartialEq, Eq)]
+pub enum RecordsPrepared {
+    First(Prepared),
+    Whole(usize),
+}
+
+impl RecordsPrepared {
+    // The test, with the row that its bytes stand in.
+    pub fn with(self, given: &[u8]) -> RecordTest<'_>
+        requires { records_size self ≤ length given.now }
+        ensures { RecordTestOf self given.now result }
+    {
+        match self {
+            RecordsPrepared::First(p) => RecordTest::First(p.with(given)),
+            RecordsPrepared::Whole(n) => RecordTest::Whole(&given[..n]),
+        }
+    }
 }
 
 // The index of E, if the argument is that.
@@ -28,23 +44,17 @@ fn whole(arg: table::Argument) -> Option<usize>
 
 // What the argument of a test of records asks (52, 53, 54), and the test that it makes. The bytes beside it are put in front of `given`.
 pub fn prepare(
-    table: &[u32],
+    table: Table,
     state: &Working,
     given: &mut [u8; 32768],
     arg: table::Argument,
 ) -> Result<RecordsPrepared, Question>
-    requires { RecordTestReadable table.now arg }
-    ensures { PreparesRecords state.now.store (arg_of (table_of table.now) arg) given.new result }
+    requires { RecordTestReadable table.cells.now arg }
+    ensures { PreparesRecords state.now.store (arg_of (table_of table.entry.cells.now) arg) given.new result }
 {
     if let Some(n) = whole(arg) {
-        return Ok(RecordsPrepared {
-            test: RecordTest::Whole,
-            len: tests::put_all(state, given, n - 1),
-        });
+        return Ok(RecordsPrepared::Whole(tests::put_all(state, given, n - 1)));
     }
     let p = tests::prepare(table, state, given, arg)?;
-    Ok(RecordsPrepared {
-        test: RecordTest::First(p.test),
-        len: p.len,
-    })
+    Ok(RecordsPrepared::First(p))
 }

@@ -2,11 +2,12 @@
 use mathlib.Core.Path.{◌≡◌, refl, sym, ap, ◌∙◌}
 use mathlib.Core.Bool.{true, false}
 use mathlib.Core.List.{List, [], ◌∷◌, ◌++◌}
-use Prim.Native.Nat.{ℕ, ◌+◌, ◌-◌, ◌≤◌, ◌<◌}
+use Prim.Native.Nat.{ℕ, ◌+◌, ◌-◌, ◌≤◌}
 use native.Mathlib.Numerals.{add-one}
 use native.Mathlib.Omega.{arith}
 use lib.ListN.{length, take, drop, length-drop}
 use lib.Seq.{take-add, length-take-le}
+use Rattle.std.specs.Prelude.{Ok, Err}
 use Rattle.language.specs.Values.{Record}
 use Rattle.cells.specs.Below.LayoutBounds.{RecordOk, WholeRecords}
 use Rattle.cells.proofs.Below.LayoutCellLaws.{each_append}
@@ -15,8 +16,8 @@ use Rattle.cells.specs.Below.Components.{record_bytes, records_bytes, record_in,
 use Rattle.lists.specs.Lists.{any, ahead}
 use Rattle.matching.proofs.Loops.{Split, split}
 use Rattle.records.proofs.Searches.{ahead-here, ahead-next}
-use Rattle.records.proofs.Steps.{ends-cells}
-use Rattle.records.specs.Places.{Starts, Ends, Cut, of_address, Sought}
+use Rattle.records.proofs.Steps.{EndsAt, Left, left_starts, ends-cells}
+use Rattle.records.specs.Places.{Cut, of_address, Sought}
 
 -- ---- a cut
 
@@ -29,13 +30,13 @@ module _ {s : List ℕ} {at k : ℕ} (c : Cut s at k) where
   pub cut_left : records_in (drop at s) ≡ drop k (records_in s)
   cut_left = records-of c.rest
 
-  pub cut-starts : at < length s → Starts s at
-  cut-starts h = record { more = h; whole = whole-records c.rest }
+  pub cut-whole : {left : List ℕ} → Left s left at → WholeRecords left
+  cut-whole l = left_starts l (whole-records c.rest)
 
-  pub cut-split : {e : ℕ} → Ends s at e → Split k (records_in s) (records_in (drop e s)) (record_in (drop at s))
+  pub cut-split : {e : ℕ} → EndsAt s at e → Split k (records_in s) (records_in (drop e s)) (record_in (drop at s))
   cut-split {e} h = split k (records_in s) (records_in (drop e s)) (record_in (drop at s)) (sym cut_left ∙ h.first)
 
-  pub cut-next : {e : ℕ} → Ends s at e → Cut s e (k + 1)
+  pub cut-next : {e : ℕ} → EndsAt s at e → Cut s e (k + 1)
   cut-next {e} h =
       let rs : List Record = records_in s in
       let r : Record = record_in (drop at s) in
@@ -75,7 +76,7 @@ pub seeking-none : (n : ℕ) {s : List ℕ} → WholeRecords s → Seeking n s 0
 seeking-none n {s} w = record { cut = cut-none w; any_is = refl; ahead_is = omega arith }
 
 module _ {n : ℕ} {s : List ℕ} {at k : ℕ} (g : Seeking n s at k) where
-  pub seeking-next : {e : ℕ} → Ends s at e → of_address n (record_in (drop at s)) ≡ false → Seeking n s e (k + 1)
+  pub seeking-next : {e : ℕ} → EndsAt s at e → of_address n (record_in (drop at s)) ≡ false → Seeking n s e (k + 1)
   seeking-next {e} h q =
       record {
         cut = cut-next g.cut h;
@@ -83,7 +84,7 @@ module _ {n : ℕ} {s : List ℕ} {at k : ℕ} (g : Seeking n s at k) where
         ahead_is = g.ahead_is ∙ rw (h.first, ahead-next (of_address n) (record_in (drop at s)) (records_in (drop e s)) q) (omega arith);
       }
 
-  pub seeking-here : {e : ℕ} → Ends s at e → of_address n (record_in (drop at s)) ≡ true → Sought n s (record { found = true; records = k + 1; bytes = e })
+  pub seeking-here : {e : ℕ} → EndsAt s at e → of_address n (record_in (drop at s)) ≡ true → Sought n s (Ok (record { records = k + 1; bytes = e }))
   seeking-here {e} h q =
       let a : ahead (of_address n) (records_in (drop at s)) ≡ 0 = rw h.first (ahead-here (of_address n) (record_in (drop at s)) (records_in (drop e s)) q) in
       record {
@@ -92,10 +93,11 @@ module _ {n : ℕ} {s : List ℕ} {at k : ℕ} (g : Seeking n s at k) where
         cut = cut-next g.cut h;
       }
 
-  pub seeking-end : length s ≤ at → Sought n s (record { found = false; records = k; bytes = at })
+  pub seeking-end : length s ≡ at → Sought n s (Err (record { records = k; bytes = length s }))
   seeking-end h =
+      let m : length s ≤ at = omega arith in
       record {
-        is = sym (g.any_is ∙ rw (cut-end g.cut h));
-        count = cut_all g.cut h;
-        cut = g.cut;
+        is = sym (g.any_is ∙ rw (cut-end g.cut m));
+        count = cut_all g.cut m;
+        cut = rw h g.cut;
       }

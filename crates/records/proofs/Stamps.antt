@@ -17,8 +17,8 @@ use Rattle.cells.specs.Below.Changes.{stamped}
 use Rattle.lists.specs.Lists.{total}
 use Rattle.lists.specs.ListLaws.{total-reverse}
 use Rattle.records.proofs.Cuts.{cut-none, cut-split, cut-next, cut_all, cut-long}
-use Rattle.records.proofs.Steps.{ends-cells}
-use Rattle.records.specs.Places.{Ends, Cut, Recordable, Copyable}
+use Rattle.records.proofs.Steps.{EndsAt, ends-cells}
+use Rattle.records.specs.Places.{Cut, Recordable, Copyable}
 
 -- the record of an address and of components
 abbrev pub record_of : ℕ → List Component → Record
@@ -65,7 +65,7 @@ unfolding record_bytes
 restamped n r t = refl
 
 -- one more record passed, with the next address
-stamped-next : (last : ℕ) {s : List ℕ} {at k e : ℕ} → Cut s at k → Ends s at e
+stamped-next : (last : ℕ) {s : List ℕ} {at k e : ℕ} → Cut s at k → EndsAt s at e
     → stamped last (contents (take (k + 1) (records_in s))) ≡ stamped last (contents (take k (records_in s))) ++ (record_of (last + k + 1) (record_in (drop at s)).parts ∷ [])
 unfolding stamped
 stamped-next last {s} {at} {k} {e} c h =
@@ -108,7 +108,7 @@ module _ {d₁ s : List ℕ} {last : ℕ} {d₀ : List ℕ} (h : Copyable d₁ s
       g.is ∙ rw (stamped-all last g.cut l, drop_of_length-le s l, put-behind, front-pasted d₁ new (length s) n)
 
 module _ {d₀ s : List ℕ} {last : ℕ} {d : List ℕ} {at k : ℕ} (g : Stamping d₀ s last d at k) where
-  pub stamping-next : {e : ℕ} {d' : List ℕ} → Ends s at e → length d' ≡ length d → d' ≡ pasted d at (three k) → Stamping d₀ s last d' e (k + 1)
+  pub stamping-next : {e : ℕ} {d' : List ℕ} → EndsAt s at e → length d' ≡ length d → d' ≡ pasted d at (three k) → Stamping d₀ s last d' e (k + 1)
   stamping-next {e} {d'} h l q =
       let t : List ℕ = drop (length s) d₀ in
       let r : Record = record_in (drop at s) in
@@ -158,7 +158,7 @@ turning-none {d} {s} {last} h =
     record { done = 0; count = omega arith; size_is = refl; cut = cut-none h.whole; long = refl; is = ap (λ n. drop n d) (sub-zero (length s)) }
 
 module _ {d₀ s : List ℕ} {last n : ℕ} {d : List ℕ} {at k : ℕ} (c : Copyable d₀ s last) (g : Turning d₀ s last n d at k) where
-  pub turning-next : {e : ℕ} {d₁ d₂ : List ℕ} → Ends s at e → length d₁ ≡ length d → length d₂ ≡ length d₁ → d₁ ≡ pasted d (n - e) (take (e - at) (drop at s)) → d₂ ≡ pasted d₁ (n - e) (three k)
+  pub turning-next : {e : ℕ} {d₁ d₂ : List ℕ} → EndsAt s at e → length d₁ ≡ length d → length d₂ ≡ length d₁ → d₁ ≡ pasted d (n - e) (take (e - at) (drop at s)) → d₂ ≡ pasted d₁ (n - e) (three k)
       → Turning d₀ s last n d₂ e (k + 1)
   turning-next {e} {d₁} {d₂} h l₁ l₂ q₁ q₂ =
       let r : Record = record_in (drop at s) in

@@ -22,10 +22,10 @@ use Rattle.matching.specs.Tests.{stops_before, ends, walked, until, Fitting, Too
 use Rattle.matching.proofs.Counting.{walked-taken, ends-reached}
 use Rattle.records.proofs.Contents.{void-none}
 use Rattle.records.proofs.Cuts.{cut-none, cut-split, cut-next, cut-end, cut_all}
-use Rattle.records.proofs.Steps.{next-at}
+use Rattle.records.proofs.Steps.{EndsAt}
 use Rattle.records.specs.declared.RecordTest.{RecordTest}
 use Rattle.records.specs.declared.RecordTest.TheVariants.{First, Whole}
-use Rattle.records.specs.Places.{Starts, Ends, Part, Cut}
+use Rattle.records.specs.Places.{Part, Cut}
 use Rattle.records.specs.Sequences.{on_first, until_records, stops_void, reached_records, FirstStoppable, TookRecords, part_total, char_total, Totalled}
 
 -- ---- a test of the first component
@@ -40,15 +40,15 @@ on_first-ends everything k = refl
 on_first-ends (number_of n) k = refl
 on_first-ends (up_to p) k = refl
 
-pub reached-is : (t : RecordTest) (g : List ℕ) (k : ℕ) → ends (until_records t g) k ≡ reached_records t k
-reached-is (First t) g k = on_first-ends (until t g) k ∙ ends-reached t g k
-reached-is Whole g k = refl
+pub reached-is : (t : RecordTest) (k : ℕ) → ends (until_records t) k ≡ reached_records t k
+reached-is (First t) k = on_first-ends (until t) k ∙ ends-reached t k
+reached-is (Whole g) k = refl
 
-pub void-is : (t : Test) (g : List ℕ) (k : ℕ) → Fitting t g → stops_before (until t g) k (word []) ≡ stops_void t k
-void-is All g k h = refl
-void-is (Count n) g k h = refl
-void-is (Class mask) g k h = refl
-void-is Among g k h = void-none (components_in g) h.all_ok
+pub void-is : (t : Test) (k : ℕ) → Fitting t → stops_before (until t) k (word []) ≡ stops_void t k
+void-is All k h = refl
+void-is (Count n) k h = refl
+void-is (Class mask) k h = refl
+void-is (Among g) k h = void-none (components_in g.now) h.all_ok
 
 -- the first of no component is the empty word
 pub first-none : (x : List ℕ) → length x ≡ 0 → first (components_in x) ≡ word []
@@ -61,7 +61,7 @@ first_one x [] e h k = absurd (omega (arith, ap length e.is))
 first_one x (y ∷ []) e h k = record { is = e.is ∙ components_bytes-one y; its_ok = e.all_ok.0 }
 first_one x (y ∷ z ∷ xs) e h k = absurd (omega (arith, h))
 
-module _ {t : Test} {x g : List ℕ} (h : FirstStoppable t x g) (k : 0 < length x) where
+module _ {t : Test} {x : List ℕ} (h : FirstStoppable t x) (k : 0 < length x) where
   pub first-single : OneComponent x
   first-single = one-component (first_one x (components_in x) h.whole h.single k)
 
@@ -69,8 +69,8 @@ module _ {t : Test} {x g : List ℕ} (h : FirstStoppable t x g) (k : 0 < length 
   first_is = one_of (first_one x (components_in x) h.whole h.single k)
 
 -- a part that is the first of some components, as a test asks of it
-pub first-stoppable : {s : List ℕ} (xs : List Component) {x : List ℕ} {t : Test} {g : List ℕ} → Part s (take 1 xs) x → Fitting t g → FirstStoppable t x g
-first-stoppable {s} xs {x} {t} {g} p h =
+pub first-stoppable : {s : List ℕ} (xs : List Component) {x : List ℕ} {t : Test} → Part s (take 1 xs) x → Fitting t → FirstStoppable t x
+first-stoppable {s} xs {x} {t} p h =
     record { whole = whole-components p.cells; single = rw (components-of p.cells) (simp length-take (omega arith)); fitting = h }
 
 first-take : (xs : List Component) → first (take 1 xs) ≡ first xs
@@ -97,19 +97,19 @@ module _ {s : List ℕ} {u : Until Record} {at k : ℕ} (g : Going s u at k) whe
   took : (b : Bool) → walked u k (records_in (drop at s)) ≡ (k, b) → TookRecords u s (record { records = k; bytes = at; reached = b })
   took b e = record { is = sym (walked-taken u (records_in s)) ∙ g.walk ∙ e; cut = g.cut }
 
-  pub going-stop : {b : Bool} → Starts s at → b ≡ stops_before u k (record_in (drop at s)) → b ≡ true → TookRecords u s (record { records = k; bytes = at; reached = true })
+  pub going-stop : {e : ℕ} {b : Bool} → EndsAt s at e → b ≡ stops_before u k (record_in (drop at s)) → b ≡ true → TookRecords u s (record { records = k; bytes = at; reached = true })
   unfolding walked
-  going-stop h e t = let q : stops_before u k (record_in (drop at s)) ≡ true = sym e ∙ t in took true (rw ((next-at h).is, q))
+  going-stop h e t = let q : stops_before u k (record_in (drop at s)) ≡ true = sym e ∙ t in took true (rw (h.first, q))
 
-  pub going_next : {e : ℕ} {b : Bool} → Ends s at e → b ≡ stops_before u k (record_in (drop at s)) → b ≡ false → Going s u e (k + 1)
+  pub going_next : {e : ℕ} {b : Bool} → EndsAt s at e → b ≡ stops_before u k (record_in (drop at s)) → b ≡ false → Going s u e (k + 1)
   unfolding walked
   going_next {e} h q t =
       let f : stops_before u k (record_in (drop at s)) ≡ false = sym q ∙ t in
       record { cut = cut-next g.cut h; walk = g.walk ∙ rw (h.first, f, add-one k) }
 
-  pub going_end : length s ≤ at → TookRecords u s (record { records = k; bytes = at; reached = ends u k })
+  pub going_end : length s ≡ at → TookRecords u s (record { records = k; bytes = length s; reached = ends u k })
   unfolding walked
-  going_end h = took (ends u k) (rw (cut-end g.cut h))
+  going_end h = rw h (took (ends u k) (rw (cut-end g.cut (omega arith))))
 
 -- ---- sums: the first k records, which end before cell `at`, have n components and m characters
 
@@ -158,7 +158,7 @@ all-taken {s} {xs} {c} {r} p h =
     }
 
 module _ {s : List ℕ} {at n m : ℕ} (g : Summing s at n m) where
-  pub summing-next : {e : ℕ} {r : Taken} → Ends s at e → AllTaken (length s) (record_in (drop at s)).parts r → Summing s e (n + r.parts) (m + r.chars)
+  pub summing-next : {e : ℕ} {r : Taken} → EndsAt s at e → AllTaken (length s) (record_in (drop at s)).parts r → Summing s e (n + r.parts) (m + r.chars)
   summing-next {e} {r} h a =
       let x : Record = record_in (drop at s) in
       let rs : List Record = take g.done (records_in s) in
@@ -172,9 +172,9 @@ module _ {s : List ℕ} {at n m : ℕ} (g : Summing s at n m) where
         chars_most = omega (arith, g.chars_most, a.chars_most, record-length x, h.is);
       }
 
-  pub summing-end : length s ≤ at → Totalled s (record { parts = n; chars = m })
+  pub summing-end : length s ≡ at → Totalled s (record { parts = n; chars = m })
   summing-end h =
-      let all : take g.done (records_in s) ≡ records_in s = rw (cut_all g.cut h, take-length) in
+      let all : take g.done (records_in s) ≡ records_in s = rw (cut_all g.cut (omega arith), take-length) in
       record {
         parts_is = rw all at g.parts_is;
         chars_is = rw all at g.chars_is;

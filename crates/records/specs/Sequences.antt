@@ -20,39 +20,39 @@ on_first everything = everything
 on_first (number_of n) = number_of n
 on_first (up_to p) = up_to (λ r. p (first r.parts))
 
-abbrev pub until_records : RecordTest → List ℕ → Until Record
-until_records (First t) g = on_first (until t g)
-until_records Whole g = up_to (λ r. same_list same r.parts (components_in g))
+abbrev pub until_records : RecordTest → Until Record
+until_records (First t) = on_first (until t)
+until_records (Whole g) = up_to (λ r. same_list same r.parts (components_in g.now))
 
 -- whether a test ends the sequence before a record without components, which stands at place k; whether one that met no end is reached there
 abbrev pub stops_void : Test → ℕ → Bool
 stops_void All k = false
 stops_void (Count n) k = leb n k
 stops_void (Class mask) k = true
-stops_void Among k = false
+stops_void (Among g) k = false
 
 abbrev pub reached_records : RecordTest → ℕ → Bool
 reached_records (First t) k = reached_by t k
-reached_records Whole k = false
+reached_records (Whole g) k = false
 
--- what the bytes beside a test have to be
-abbrev pub FittingRecords : RecordTest → List ℕ → Type 0
-FittingRecords (First t) g = Fitting t g
-FittingRecords Whole g = WholeComponents g
+-- what a test compares with are components
+abbrev pub FittingRecords : RecordTest → Type 0
+FittingRecords (First t) = Fitting t
+FittingRecords (Whole g) = WholeComponents g.now
 
--- a test can be asked of one component or none, of the record at a place, of records
-pub record FirstStoppable (t : Test) (x g : List ℕ) : Type 0 where
+-- a test can be asked of one component or none, of the record in front, of records
+pub record FirstStoppable (t : Test) (x : List ℕ) : Type 0 where
   pub whole : WholeComponents x
   pub single : length (components_in x) ≤ 1
-  pub fitting : Fitting t g
+  pub fitting : Fitting t
 
-pub record RecordStoppable (t : RecordTest) (s : List ℕ) (at : ℕ) (g : List ℕ) : Type 0 where
-  pub starts : Starts s at
-  pub fitting : FittingRecords t g
+pub record RecordStoppable (t : RecordTest) (s : List ℕ) : Type 0 where
+  pub starts : Starts s
+  pub fitting : FittingRecords t
 
-pub record RecordsCountable (t : RecordTest) (s g : List ℕ) : Type 0 where
+pub record RecordsCountable (t : RecordTest) (s : List ℕ) : Type 0 where
   pub whole : WholeRecords s
-  pub fitting : FittingRecords t g
+  pub fitting : FittingRecords t
 
 -- what `taken` is of the records of s, with their cells
 pub record TookRecords (u : Until Record) (s : List ℕ) (r : Sequence) : Type 0 where

@@ -1,35 +1,36 @@
 // Records in cells: where one ends, its address and contents, the record of an address, what a test takes, totals, and new records.
 #![tactic(auto)]
 
-ghost use Rattle.std.specs.Prelude.{◌≡◌, map, reverse, ◌+◌, take, drop};
+ghost use Rattle.std.specs.Prelude.{◌≡◌, map, reverse, take};
 ghost use Rattle.language.specs.Values.{same};
 ghost use Rattle.cells.specs.Below.Components.{components_in, record_bytes, records_bytes, record_in, records_in};
 ghost use Rattle.cells.specs.Below.LayoutBounds.{WholeComponents, WholeRecords};
 ghost use Rattle.lists.specs.Lists.{same_list};
-ghost use Rattle.cells.specs.Below.Changes.{stamped, address_of_last};
+ghost use Rattle.cells.specs.Below.Changes.{stamped};
 ghost use Rattle.cells.specs.Below.MachineArguments.{first};
 ghost use Rattle.matching.specs.Tests.{until, stops_before};
 ghost use Rattle.cells.specs.Cells.{pasted, Number};
-ghost use Rattle.records.specs.Places.{Starts, Ends, Part, next_contents, BothWhole, Sought, Recordable, Copyable};
+ghost use Rattle.records.specs.Places.{Starts, Ends, SplitRecord, Part, LastAddress, next_contents, BothWhole, Sought, Recordable, Copyable};
 ghost use Rattle.records.specs.Sequences.{until_records, stops_void, reached_records, FirstStoppable, RecordStoppable, RecordsCountable, TookRecords, Totalled};
 
-// Where a search ended: whether the record was there, and the records up to it, it included, with their cells.
-#[derive(Clone, Copy)]
-pub struct Found {
-    pub found: bool,
+use matching::Test;
+
+// How many records stand up to a place, and their cells.
+#[derive(Clone, Copy, Debug, PartialEq, Eq)]
+pub struct Place {
     pub records: usize,
     pub bytes: usize,
 }
 
-// A test of records: of their first components, or whether all components of one are those in the bytes beside it.
-#[derive(Clone, Copy)]
-pub enum RecordTest {
-    First(matching::Test),
-    Whole,
+// A test of records: of their first components, or whether all components of one are these.
+#[derive(Clone, Copy, Debug, PartialEq, Eq)]
+pub enum RecordTest<'a> {
+    First(Test<'a>),
+    Whole(&'a [u8]),
 }
 
 // How many records a test takes, with their cells; whether it was reached.
-#[derive(Clone, Copy)]
+#[derive(Clone, Copy, Debug, PartialEq, Eq)]
 pub struct Sequence {
     pub records: usize,
     pub bytes: usize,
@@ -37,35 +38,45 @@ pub struct Sequence {
 }
 
 // How many components and characters records have.
-#[derive(Clone, Copy)]
+#[derive(Clone, Copy, Debug, PartialEq, Eq)]
 pub struct Totals {
     pub parts: usize,
     pub chars: usize,
 }
 
-// Where the record at `at` ends.
-pub fn end_of(s: &[u8], at: usize) -> usize
-    requires { Starts s.now at }
-    ensures { Ends s.now at result }
+// How many cells the record in front takes.
+fn size_of(s: &[u8]) -> usize
+    requires { Starts s.now }
+    ensures { Ends s.now result }
 {
-    at + 7 + cells::two_at(s, at + 3)
+    7 + cells::two_at(s, 3)
 }
 
-// The address of the record at `at`.
-pub fn address_at(s: &[u8], at: usize) -> usize
-    requires { Starts s.now at }
-    ensures { Number (record_in (drop at s.now)).addr 8388608 result }
+// The first record and what is behind it; none where there is none.
+pub fn split_record(s: &[u8]) -> Option<(&[u8], &[u8])>
+    requires { WholeRecords s.now }
+    ensures { SplitRecord s.now result }
 {
-    cells::three_at(s, at)
+    if s.is_empty() {
+        return None;
+    }
+    Some(s.split_at(size_of(s)))
 }
 
-// The components of the record at `at`.
-pub fn contents_at(s: &[u8], at: usize) -> &[u8]
-    requires { Starts s.now at }
-    ensures { Part s.now (record_in (drop at s.now)).parts result.now }
+// The address of the record in front.
+pub fn address_of(s: &[u8]) -> usize
+    requires { Starts s.now }
+    ensures { Number (record_in s.now).addr 8388608 result }
 {
-    let a = at + 5;
-    &s[a..a + cells::two_at(s, at + 3)]
+    cells::three_at(s, 0)
+}
+
+// The components of the record in front.
+pub fn contents_of(s: &[u8]) -> &[u8]
+    requires { Starts s.now }
+    ensures { Part s.now (record_in s.now).parts result.now }
+{
+    &s[5..5 + cells::two_at(s, 3)]
 }
 
 // The components of the first record, none where there is no record.
@@ -76,7 +87,7 @@ pub fn next_contents(s: &[u8]) -> &[u8]
     if s.is_empty() {
         return &s[..0];
     }
-    contents_at(s, 0)
+    contents_of(s)
 }
 
 // The first of some components, none where there is none.
@@ -95,111 +106,107 @@ pub fn same_contents(a: &[u8], b: &[u8]) -> bool
     a == b
 }
 
-// The address of the last record, 0 where there is none.
-pub fn last_address(s: &[u8]) -> usize
+// The address of the last record.
+pub fn last_address(s: &[u8]) -> Option<usize>
     requires { WholeRecords s.now }
-    ensures { Number (address_of_last 0 (records_in s.now)) 8388608 result }
+    ensures { LastAddress s.now result }
 {
-    let n = s.len();
-    if n == 0 {
-        return 0;
+    if s.is_empty() {
+        return None;
     }
+    let n = s.len();
     let k = cells::two_at(s, n - 2);
-    address_at(s, n - 7 - k)
+    Some(address_of(&s[n - 7 - k..]))
 }
 
-// The record of an address.
-// By index, as in all loops here: their laws speak of the sequence and a place in it.
-pub fn find(s: &[u8], address: usize) -> Found
+// The place behind the record of an address; where there is none, the place behind all, by which a second string is searched on.
+pub fn find(s: &[u8], address: usize) -> Result<Place, Place>
     requires { WholeRecords s.now }
     ensures { Sought address s.now result }
 {
-    let mut at = 0;
+    let mut left = s;
     let mut k = 0;
-    while at < s.len() {
-        let e = end_of(s, at);
+    while let Some((r, rest)) = split_record(left) {
+        left = rest;
         k += 1;
-        if address_at(s, at) == address {
-            return Found {
-                found: true,
+        if address_of(r) == address {
+            return Ok(Place {
                 records: k,
-                bytes: e,
-            };
+                bytes: s.len() - left.len(),
+            });
         }
-        at = e;
     }
-    Found {
-        found: false,
+    Err(Place {
         records: k,
-        bytes: at,
-    }
+        bytes: s.len(),
+    })
 }
 
 // Whether a test ends the sequence before a record without components, which stands at place `k`.
-fn stops_void(test: matching::Test, k: usize) -> bool
-    ensures { result ≡ stops_void test k }
+fn stops_void(test: Test, k: usize) -> bool
+    ensures { result ≡ stops_void test.entry k }
 {
     match test {
-        matching::Test::All | matching::Test::Among => false,
-        matching::Test::Count(n) => n <= k,
-        matching::Test::Class(_) => true,
+        Test::All | Test::Among(_) => false,
+        Test::Count(n) => n <= k,
+        Test::Class(_) => true,
     }
 }
 
 // Whether a test ends the sequence before a record of which `x` is the first component, or nothing, and which stands at place `k`.
-fn stops_first(test: matching::Test, k: usize, x: &[u8], given: &[u8]) -> bool
-    requires { FirstStoppable test x.now given.now }
-    ensures { result ≡ stops_before (until test given.now) k (first (components_in x.now)) }
+fn stops_first(test: Test, k: usize, x: &[u8]) -> bool
+    requires { FirstStoppable test x.now }
+    ensures { result ≡ stops_before (until test.entry) k (first (components_in x.now)) }
 {
     if x.is_empty() {
         return stops_void(test, k);
     }
-    matching::stops(test, k, x, given)
+    matching::stops(test, k, x)
 }
 
-// Whether a test ends the sequence before the record at `at`, which stands at place `k`.
-fn stops_at(test: RecordTest, k: usize, s: &[u8], at: usize, given: &[u8]) -> bool
-    requires { RecordStoppable test s.now at given.now }
-    ensures { result ≡ stops_before (until_records test given.now) k (record_in (drop at s.now)) }
+// Whether a test ends the sequence before the record in front, which stands at place `k`.
+fn stops_at(test: RecordTest, k: usize, s: &[u8]) -> bool
+    requires { RecordStoppable test s.now }
+    ensures { result ≡ stops_before (until_records test.entry) k (record_in s.now) }
 {
-    let contents = contents_at(s, at);
+    let contents = contents_of(s);
     match test {
-        RecordTest::First(t) => stops_first(t, k, first_of(contents), given),
-        RecordTest::Whole => same_contents(contents, given),
+        RecordTest::First(t) => stops_first(t, k, first_of(contents)),
+        RecordTest::Whole(given) => same_contents(contents, given),
     }
 }
 
 // Whether a test that met no end is reached after `k` records.
 fn reached_at(test: RecordTest, k: usize) -> bool
-    ensures { result ≡ reached_records test k }
+    ensures { result ≡ reached_records test.entry k }
 {
     match test {
         RecordTest::First(t) => matching::reached(t, k),
-        RecordTest::Whole => false,
+        RecordTest::Whole(_) => false,
     }
 }
 
 // How many of the records of `s` a test takes.
-pub fn count(s: &[u8], test: RecordTest, given: &[u8]) -> Sequence
-    requires { RecordsCountable test s.now given.now }
-    ensures { TookRecords (until_records test given.now) s.now result }
+pub fn count(s: &[u8], test: RecordTest) -> Sequence
+    requires { RecordsCountable test s.now }
+    ensures { TookRecords (until_records test.entry) s.now result }
 {
-    let mut at = 0;
+    let mut left = s;
     let mut k = 0;
-    while at < s.len() {
-        if stops_at(test, k, s, at, given) {
+    while let Some((r, rest)) = split_record(left) {
+        if stops_at(test, k, r) {
             return Sequence {
                 records: k,
-                bytes: at,
+                bytes: s.len() - left.len(),
                 reached: true,
             };
         }
-        at = end_of(s, at);
+        left = rest;
         k += 1;
     }
     Sequence {
         records: k,
-        bytes: at,
+        bytes: s.len(),
         reached: reached_at(test, k),
     }
 }
@@ -209,14 +216,14 @@ pub fn totals_of(s: &[u8]) -> Totals
     requires { WholeRecords s.now }
     ensures { Totalled s.now result }
 {
-    let mut at = 0;
+    let mut left = s;
     let mut parts = 0;
     let mut chars = 0;
-    while at < s.len() {
-        let t = matching::count(contents_at(s, at), matching::Test::All, s);
+    while let Some((r, rest)) = split_record(left) {
+        let t = matching::count(contents_of(r), Test::All);
         parts += t.parts;
         chars += t.chars;
-        at = end_of(s, at);
+        left = rest;
     }
     Totals { parts, chars }
 }
@@ -239,11 +246,11 @@ pub fn stamp(dst: &mut [u8], src: &[u8], last: usize)
     ensures { dst.new ≡ pasted dst.old 0 (records_bytes (stamped last (map (λ r. r.parts) (records_in src.now)))) }
 {
     cells::put(dst, 0, src);
-    let mut at = 0;
+    let mut left = src;
     let mut next = last + 1;
-    while at < src.len() {
-        cells::put_three(dst, at, next);
-        at = end_of(src, at);
+    while let Some((_, rest)) = split_record(left) {
+        cells::put_three(dst, src.len() - left.len(), next);
+        left = rest;
         next += 1;
     }
 }
@@ -254,15 +261,12 @@ pub fn stamp_reversed(dst: &mut [u8], src: &[u8], last: usize)
     requires { Copyable dst.old src.now last }
     ensures { dst.new ≡ pasted dst.old 0 (records_bytes (reverse (stamped last (map (λ r. r.parts) (records_in src.now))))) }
 {
-    let n = src.len();
-    let mut at = 0;
+    let mut left = src;
     let mut address = last + 1;
-    while at < n {
-        let e = end_of(src, at);
-        let to = n - e;
-        cells::put(dst, to, &src[at..e]);
-        cells::put_three(dst, to, address);
-        at = e;
+    while let Some((r, rest)) = split_record(left) {
+        cells::put(dst, rest.len(), r);
+        cells::put_three(dst, rest.len(), address);
+        left = rest;
         address += 1;
     }
 }

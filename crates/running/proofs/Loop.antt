@@ -80,6 +80,9 @@ module _ {c i j m : List ℕ} (pre : Runnable c i j m) where
   abbrev program_good : T (good_program (program_of c))
   program_good = (table-facts c pre.table).good
 
+  pub table-long : limit.table ≤ length c
+  table-long = (table-facts c pre.table).long
+
   pub openable : Openable m
   openable =
       let rest = memory-facts (program_of c) (inputs i j) m pre.memory in

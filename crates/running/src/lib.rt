@@ -8,12 +8,13 @@ use instructions::{Bench, Task};
 use layout::StatePlaces;
 use state::Working;
 use strings::Strings;
+use table::Table;
 
 // The number of a pause.
 const PAUSE: u8 = 81;
 
 // The answer of a run, as the C call tells it: 81 for a pause, or the number of a stop; and how many instructions were completed.
-#[derive(Clone, Copy)]
+#[derive(Clone, Copy, Debug, PartialEq, Eq)]
 pub struct Ran {
     pub number: u8,
     pub count: u32,
@@ -21,8 +22,8 @@ pub struct Ran {
 
 // Steps until the count equals the budget, or an instruction stops.
 fn run_steps(task: Task, bench: &mut Bench, budget: u32) -> Ran
-    requires { Steppable task.table.now task.first.now task.second.now bench.old.state }
-    ensures { RanTo task.entry.table.now task.entry.first.now task.entry.second.now budget bench.old.state result bench.new.state }
+    requires { Steppable task.table.cells.now task.first.now task.second.now bench.old.state }
+    ensures { RanTo task.entry.table.cells.now task.entry.first.now task.entry.second.now budget bench.old.state result bench.new.state }
 {
     for count in 0..budget {
         if let Err(q) = stepping::step(task, bench) {
@@ -39,7 +40,7 @@ fn run_steps(task: Task, bench: &mut Bench, budget: u32) -> Ran
 }
 
 // Runs the program of a well-formed table on a well-formed state.
-pub fn run(table: &[u32], i1: &[u8], i2: &[u8], state: &mut [u8], budget: u32) -> Ran
+pub fn run<'a>(table: &'a [u32], i1: &'a [u8], i2: &'a [u8], state: &mut [u8], budget: u32) -> Ran
     requires { Runnable table.now i1.now i2.now state.old }
     ensures { RanOn table.now i1.now i2.now budget state.old result state.new }
 {
@@ -54,7 +55,7 @@ pub fn run(table: &[u32], i1: &[u8], i2: &[u8], state: &mut [u8], budget: u32) -
     };
     resting::open(&mut bench.state, state);
     let task = Task {
-        table,
+        table: Table { cells: table },
         first: i1,
         second: i2,
     };

@@ -3,7 +3,6 @@ use mathlib.Core.Path.{◌≡◌, refl, sym, ap, ◌∙◌}
 use mathlib.Core.Bool.{Bool, true, false}
 use mathlib.Core.List.{List}
 use Prim.Native.Nat.{ℕ}
-use lib.ListN.{take}
 use Rattle.std.specs.Prelude.{Result, Ok, Err}
 use Rattle.std.proofs.lemmas.Result.{IfOk-at_ok}
 use Rattle.language.specs.Program.{Arg, Program}
@@ -14,15 +13,13 @@ use Rattle.machine.specs.Arguments.{Asks, ◌&◌, needs, test_asks, on_chars}
 use Rattle.machine.specs.Changes.{put_expr, placed, into, front, past_by, past, used_by, used}
 use Rattle.machine.specs.Effects.{Row, row}
 use Rattle.machine.specs.Effects.Go.{on}
-use Rattle.layout.specs.Components.{components_in}
-use Rattle.matching.specs.Tests.{first_chars, until_chars}
 use Rattle.state.specs.Working.{Stands, nth, reading}
 use Rattle.instructions.specs.Does.{DoesFor, Quiet, Tried}
 use Rattle.instructions.specs.Questions.{question_number, told_by}
 use Rattle.instructions.specs.declared.Question.{Question}
 use Rattle.instructions.proofs.Asking.{some}
 use Rattle.instructions.proofs.Answers.{unstopped, quiet-stop, quiet-tried}
-use Rattle.tests.specs.Prepares.{Prepares}
+use Rattle.tests.specs.Prepares.{Prepares, until_firsts_in}
 use Rattle.tests.specs.declared.Prepared.{Prepared}
 use Rattle.tests.proofs.Asked.{quiet-and, quiet-test, test-read}
 use Rattle.splitting.specs.Splitting.{front_part, split_up, WordAsked}
@@ -61,9 +58,9 @@ module _ {σ : State} (h : Stands σ) (removes : Bool) (i : ℕ) (c : Arg) {x : 
     prepared = IfOk-at_ok (λ t. r ≡ Ok t) e y.is
 
     pub rozbij-tried : {k : ℕ} {σ' : State}
-        → Tried σ k σ' true (split_up (until_chars p.test (first_chars (components_in (take p.len x)))) removes i s) → DoesFor σ k σ' by
+        → Tried σ k σ' true (split_up (until_firsts_in p x) removes i s) → DoesFor σ k σ' by
     rozbij-tried k g ins =
-        let u = until_chars p.test (first_chars (components_in (take p.len x))) in
+        let u = until_firsts_in p x in
         let a = unstopped (asks ins) (sym (y.told (test_asks ins s c) (w.stop_is ins)) ∙ ap told_by e) in
         rw (row-rozbij g ins s i c removes, (test-read w prepared).chars ins)
         (quiet-tried h (split_up u removes i s) (asks ins) (quiet ins) a.0 a.1 a.2 k)

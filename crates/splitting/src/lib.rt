@@ -1,13 +1,12 @@
 // Splitting a word: ROZBIJ.
 #![tactic(auto)]
 
-ghost use Rattle.std.specs.Prelude.{◌≡◌, ◌<◌, ◌≤◌, true, eqb, take};
+ghost use Rattle.std.specs.Prelude.{◌≡◌, ◌<◌, ◌≤◌, true, eqb};
 ghost use Rattle.language.specs.Limits as limit;
 ghost use Rattle.language.specs.Program.Arg.{nothing};
 ghost use Rattle.language.specs.Program.Op.{ROZBIJ};
-ghost use Rattle.layout.specs.Components.{components_in};
 ghost use Rattle.machine.specs.Effects.{row};
-ghost use Rattle.matching.specs.Tests.{first_chars, until_chars};
+ghost use Rattle.tests.specs.Prepares.{until_firsts_in};
 ghost use Rattle.packed.specs.Packed.{table_of};
 ghost use Rattle.state.specs.Working.{Stands, nth, reading};
 ghost use Rattle.table.specs.Denote.{arg_of};
@@ -15,8 +14,10 @@ ghost use Rattle.instructions.specs.Questions.{told_by};
 ghost use Rattle.instructions.specs.Does.{Tried, DoesFor};
 ghost use Rattle.splitting.specs.Splitting.{split_up, split_room, WordAsked, Splittable, WordSplittable};
 
+use components::Kind;
 use instructions::{Bench, Question, Source};
 use state::Working;
+use table::Table;
 use tests::Prepared;
 
 // Whether a test's question of a component is answered no.
@@ -44,7 +45,7 @@ fn word_of(
     if is_missing(prepared) {
         return prepared;
     }
-    if components::kind_of(x) != 0 {
+    if components::kind_of(x) != Kind::Word {
         return Err(Question::Kind);
     }
     prepared
@@ -65,12 +66,12 @@ fn has_split_room(state: &Working, removes: bool, k: usize) -> bool
 // Not one with `joining::join_up`, `printing::spell` or `moves::send`: each asks another room and makes other bytes of what it takes.
 fn split_up(bench: &mut Bench, test: Prepared, source: Source) -> Result<(), Question>
     requires { Splittable bench.old.state bench.old.given test source.i }
-    ensures { Tried bench.old.state (told_by result) bench.new.state true (split_up (until_chars test.test (first_chars (components_in (take test.len bench.old.given)))) source.removes source.i bench.old.state.store) }
+    ensures { Tried bench.old.state (told_by result) bench.new.state true (split_up (until_firsts_in test bench.old.given) source.removes source.i bench.old.state.store) }
 {
     let x = bench.state.expr_bytes(source.i);
     let w = components::chars_of(x);
     let m = w.len();
-    let t = readings::take_chars(&mut bench.hold, w, test.test, &bench.given[..test.len]);
+    let t = readings::take_chars(&mut bench.hold, w, test.with(&bench.given));
     let k = t.taken;
     if !has_split_room(&bench.state, source.removes, k) {
         return Err(Question::Room);
@@ -90,13 +91,13 @@ fn split_up(bench: &mut Bench, test: Prepared, source: Source) -> Result<(), Que
 
 // ROZBIJ.
 pub fn rozbij(
-    table: &[u32],
+    table: Table,
     bench: &mut Bench,
     source: Source,
     arg: table::Argument,
 ) -> Result<(), Question>
-    requires { WordSplittable table.now source.i arg }
-    ensures { DoesFor bench.old.state (told_by result) bench.new.state (λ g ins. row g ins bench.old.state.store (nth (reading source.removes) source.i) (arg_of (table_of table.now) arg) nothing ROZBIJ) }
+    requires { WordSplittable table.cells.now source.i arg }
+    ensures { DoesFor bench.old.state (told_by result) bench.new.state (λ g ins. row g ins bench.old.state.store (nth (reading source.removes) source.i) (arg_of (table_of table.entry.cells.now) arg) nothing ROZBIJ) }
 {
     let prepared = tests::prepare(table, &bench.state, &mut bench.given, arg);
     let test = word_of(&bench.state, source.i, prepared)?;

@@ -11,4 +11,5 @@ pub mod Lists
 pub mod Ties
 pub mod Fits
 pub mod Freed
+pub mod Fronts
 pub mod Below

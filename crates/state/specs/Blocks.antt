@@ -54,6 +54,11 @@ pub record Lowerable (n : List ℕ) (parts chars : ℕ) : Type 0 where
   pub components : parts ≤ get_or n layout.components_scalar 0
   pub characters : chars ≤ get_or n layout.characters_scalar 0
 
+pub record Totals (n : List ℕ) (parts chars : ℕ) : Type 0 where
+  pub long : length n ≡ 8
+  pub components : parts < 4294967296
+  pub characters : chars < 4294967296
+
 -- ---- parts of an expression
 
 pub record FirstParts (xs : List Component) (k bytes chars : ℕ) : Type 0 where

@@ -9,13 +9,15 @@ ghost use Rattle.store.specs.Below.Limits as limit;
 ghost use Rattle.store.specs.Below.LayoutPlaces.{components_scalar, characters_scalar};
 ghost use Rattle.strings.specs.Strings.{Pushable};
 ghost use Rattle.state.specs.Working.{HoldsState, Stands, on_store, nth, reading, writing};
-ghost use Rattle.state.specs.Blocks.{Told, ReadTo, ExprLent, OutputLong, Readable, exprs_exchanged, pushed, totalled, Raisable, Lowerable, PartsDroppable, PartsWritable, Printable};
+ghost use Rattle.state.specs.Blocks.{Told, ReadTo, ExprLent, OutputLong, Readable, exprs_exchanged, pushed, totalled, Raisable, Lowerable, Totals, PartsDroppable, PartsWritable, Printable};
 
 use gaps::from_cells;
 use layout::StatePlaces;
 use std::marker::Model;
 use strings::Strings;
 
+// The strings, and eight numbers: H, how much of the inputs is read, the next instruction, the last number of a record, and the totals. A row and no
+// struct of eight: the specification has them as one list, at rest too, and `number` reads any of them.
 #[derive(Drop)]
 pub struct Working {
     pub strings: Strings,
@@ -34,6 +36,16 @@ impl Model for Working {
     ghost invariant = { λ w. LiesSo w.strings w.nums };
 }
 
+// Sets the totals of components and characters.
+#[tactic(auto, unfolding(crate::specs::Blocks::totalled))]
+fn set_totals(nums: &mut [u32], parts: usize, chars: usize)
+    requires { Totals nums.old parts chars }
+    ensures { nums.new ≡ totalled parts chars nums.old }
+{
+    from_cells::write(nums, StatePlaces::COMPONENTS_SCALAR, parts);
+    from_cells::write(nums, StatePlaces::CHARACTERS_SCALAR, chars);
+}
+
 // Adds to the totals of components and characters.
 pub fn raise(nums: &mut [u32], parts: usize, chars: usize)
     requires { Raisable nums.old parts chars }
@@ -41,8 +53,7 @@ pub fn raise(nums: &mut [u32], parts: usize, chars: usize)
 {
     let c = from_cells::read(nums, StatePlaces::COMPONENTS_SCALAR);
     let d = from_cells::read(nums, StatePlaces::CHARACTERS_SCALAR);
-    from_cells::write(nums, StatePlaces::COMPONENTS_SCALAR, c + parts);
-    from_cells::write(nums, StatePlaces::CHARACTERS_SCALAR, d + chars);
+    set_totals(nums, c + parts, d + chars);
 }
 
 // Takes from the totals of components and characters.
@@ -52,11 +63,10 @@ pub fn lower(nums: &mut [u32], parts: usize, chars: usize)
 {
     let c = from_cells::read(nums, StatePlaces::COMPONENTS_SCALAR);
     let d = from_cells::read(nums, StatePlaces::CHARACTERS_SCALAR);
-    from_cells::write(nums, StatePlaces::COMPONENTS_SCALAR, c - parts);
-    from_cells::write(nums, StatePlaces::CHARACTERS_SCALAR, d - chars);
+    set_totals(nums, c - parts, d - chars);
 }
 
-// Puts bytes behind string `i` or before it.
+// Puts bytes behind string `i` or before it. A bool, here and in `write_parts`: `pushed` and `writing` of the specification take one.
 #[tactic(auto, unfolding(crate::specs::Blocks::pushed))]
 fn push(strings: &mut Strings, i: usize, at_end: bool, bytes: &[u8])
     requires { Pushable strings.old i (length bytes.now) }
@@ -95,6 +105,7 @@ impl Working {
     }
 
     // Takes the first components of expression `i` away: how many, their bytes and their characters.
+    // Three numbers, here and below: callers count them apart, and a struct of them would be filled for each call.
     #[tactic(auto, using(crate::proofs::Autos::droppable, crate::proofs::Autos::lowerable))]
     pub fn drop_parts(&mut self, i: usize, parts: usize, bytes: usize, chars: usize)
         requires { PartsDroppable self.old i parts bytes chars }
@@ -104,7 +115,7 @@ impl Working {
         lower(&mut self.nums, parts, chars);
     }
 
-    // Reads past the first components of expression `i`: removes them, or leaves all as it is.
+    // Reads past the first components of expression `i`: removes them, or leaves all as it is. A bool: `reading` of the specification takes one.
     pub fn past_parts(&mut self, i: usize, removes: bool, parts: usize, bytes: usize, chars: usize)
         requires { PartsDroppable self.old i parts bytes chars }
         ensures { HoldsState self.new (on_store (past (nth (reading removes) i) parts) self.old) }

@@ -51,7 +51,7 @@ module _ {c i j : List ℕ} {σ : State} {k : ℕ} (w : Steppable c i j σ) (q :
       let f : ProgramFacts (program_of c) = (program-ok (program_of c) (table-facts c w.table).good).facts in
       let g = good-instruction c w.table k code_in (operator_number (table_of c) k) refl in
       record {
-        place = record { long = (table-facts c w.table).long; below = let h = code_in in let m = f.code_short in omega (arith, h, m) };
+        place = let h = code_in in let m = f.code_short in omega (arith, h, m);
         from = g.from;
         to = g.to;
       }

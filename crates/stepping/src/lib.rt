@@ -39,8 +39,8 @@ fn leading(op: Operator) -> bool
 // Inlined into `step`, its only caller: that is faster by a tenth.
 #[inline(always)]
 fn perform(task: Task, bench: &mut Bench, instruction: Instruction) -> Result<(), Question>
-    requires { GoingOn task.table.now task.first.now task.second.now bench.old.state (op_by instruction.op) instruction.x instruction.y instruction.z }
-    ensures { Performs task.entry.table.now task.entry.first.now task.entry.second.now bench.old.state (told_by result) bench.new.state }
+    requires { GoingOn task.table.cells.now task.first.now task.second.now bench.old.state (op_by instruction.op) instruction.x instruction.y instruction.z }
+    ensures { Performs task.entry.table.cells.now task.entry.first.now task.entry.second.now bench.old.state (told_by result) bench.new.state }
 {
     match instruction.op {
         Operator::PRZESLIJ
@@ -79,11 +79,11 @@ fn perform(task: Task, bench: &mut Bench, instruction: Instruction) -> Result<()
 // Inlined into the loop of `running::run_steps`, its only caller: no call, and no registers saved, at each step.
 #[inline(always)]
 pub fn step(task: Task, bench: &mut Bench) -> Result<(), Question>
-    requires { Steppable task.table.now task.first.now task.second.now bench.old.state }
-    ensures { Stepped task.entry.table.now task.entry.first.now task.entry.second.now bench.old.state (told_by result) bench.new.state }
+    requires { Steppable task.table.cells.now task.first.now task.second.now bench.old.state }
+    ensures { Stepped task.entry.table.cells.now task.entry.first.now task.entry.second.now bench.old.state (told_by result) bench.new.state }
 {
     let i = bench.state.number(StatePlaces::NEXT_SCALAR);
-    let instruction = table::instruction_at(task.table, i);
+    let instruction = task.table.instruction_at(i);
     if leading(instruction.op) {
         return perform_jumps::perform_jump(task.table, &mut bench.state, instruction);
     }

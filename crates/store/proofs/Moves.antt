@@ -23,42 +23,45 @@ module _ {p e : List ℕ} {i j n sc hd : ℕ} (pre : Movable p e i j n sc hd) wh
   source_in : i < length (abs p e)
   source_in = rw (length-abs p e) pre.source
 
-  pub front-copyable : Copyable p e i 0 n hd
-  front-copyable = record { within = record { fine = pre.fine; index = pre.source; within = omega (arith, pre.within) }; room = omega (arith, n-most, pre.room) }
+  pub front_copyable : Copyable p e i 0 n hd
+  front_copyable = record { within = record { fine = pre.fine; index = pre.source; within = omega (arith, pre.within) }; room = omega (arith, n-most, pre.room) }
 
-  pub back-copyable : {len : ℕ} → Long p e i len → Copyable p e i (len - n) n hd
-  back-copyable l = record { within = record { fine = pre.fine; index = pre.source; within = omega (arith, pre.within, l.is) }; room = omega (arith, n-most, pre.room) }
+  pub back_copyable : {len : ℕ} → Long p e i len → Copyable p e i (len - n) n hd
+  back_copyable l = record { within = record { fine = pre.fine; index = pre.source; within = omega (arith, pre.within, l.is) }; room = omega (arith, n-most, pre.room) }
 
   -- what was taken away may be pushed
-  pushable : {e₁ : List ℕ} {s : List (List ℕ)} {k sc' : ℕ} → Holds p e₁ s → used s + n ≡ used (abs p e) → k ≤ n → 65536 ≤ sc' → Pushable p e₁ j k sc'
-  pushable h u q b = record { fine = h.fine; index = pre.target; total = omega (arith, ap used h.is, u, pre.fine.fits); spare = b }
+  pushable : {e₁ : List ℕ} {s : List (List ℕ)} (h : List ℕ) → Holds p e₁ s → used s + n ≡ used (abs p e) → Pushable p e₁ j (length (take n h)) sc
+  pushable h k u =
+      let l : length (take n h) ≤ n = simp length-take (omega arith) in
+      record { fine = k.fine; index = pre.target; total = omega (arith, ap used k.is, u, pre.fine.fits, l); spare = pre.spare }
 
-  pub front-pushable : {e₁ : List ℕ} {k sc' : ℕ} → Holds p e₁ (dropped_front i n (abs p e)) → k ≤ n → 65536 ≤ sc' → Pushable p e₁ j k sc'
-  front-pushable h q b = pushable h (used-dropped-front (abs p e) i source_in n pre.within) q b
+  pub front_pushable : {e₁ : List ℕ} (h : List ℕ) → Holds p e₁ (dropped_front i n (abs p e)) → Pushable p e₁ j (length (take n h)) sc
+  front_pushable h k = pushable h k (used-dropped-front (abs p e) i source_in n pre.within)
 
-  pub back-pushable : {e₁ : List ℕ} {k sc' : ℕ} → Holds p e₁ (dropped_back i n (abs p e)) → k ≤ n → 65536 ≤ sc' → Pushable p e₁ j k sc'
-  back-pushable h q b = pushable h (used-dropped-back (abs p e) i source_in n pre.within) q b
+  pub back_pushable : {e₁ : List ℕ} (h : List ℕ) → Holds p e₁ (dropped_back i n (abs p e)) → Pushable p e₁ j (length (take n h)) sc
+  back_pushable h k = pushable h k (used-dropped-back (abs p e) i source_in n pre.within)
 
-  -- the bytes that wait, pushed in whichever way
-  front_length : length (take n (string i (abs p e))) ≡ n
-  front_length = simp length-take (omega (arith, pre.within))
+  -- the buffer has room for the bytes that wait
+  pub roomy : n ≤ hd
+  roomy = omega (arith, n-most, pre.room)
 
-  pub front-moved : {e₁ p₂ e₂ hold' : List ℕ} (hold : List ℕ) (f : List ℕ → List (List ℕ) → List (List ℕ)) → Holds p e₁ (dropped_front i n (abs p e))
+  -- the bytes v wait, s is what was left without them, and f pushes them
+  moved : {v : List ℕ} {s : List (List ℕ)} {e₁ p₂ e₂ hold' : List ℕ} (hold : List ℕ) (f : List ℕ → List (List ℕ) → List (List ℕ)) → length v ≡ n → Holds p e₁ s
+      → hold' ≡ pasted hold 0 v → Holds p₂ e₂ (f (take n hold') (abs p e₁)) → Holds p₂ e₂ (f v s)
+  moved {v} {hold' = hold'} hold f l h q k = let x : take n hold' ≡ v = rw q (pasted-front hold v n l) in rw x at (after h (f (take n hold')) k)
+
+  pub front_moved : {e₁ p₂ e₂ hold' : List ℕ} (hold : List ℕ) (f : List ℕ → List (List ℕ) → List (List ℕ)) → Holds p e₁ (dropped_front i n (abs p e))
       → hold' ≡ pasted hold 0 (take n (drop 0 (string i (abs p e)))) → Holds p₂ e₂ (f (take n hold') (abs p e₁)) → Holds p₂ e₂ (f (take n (string i (abs p e))) (dropped_front i n (abs p e)))
-  front-moved {hold' = hold'} hold f h q k =
-      let x : take n hold' ≡ take n (string i (abs p e)) = rw q (pasted-front hold (take n (string i (abs p e))) n front_length) in
-      rw x at (after h (f (take n hold')) k)
+  front_moved hold f h q k = moved hold f (simp length-take (omega (arith, pre.within))) h q k
 
-  pub back-moved : {len : ℕ} {e₁ p₂ e₂ hold' : List ℕ} (hold : List ℕ) (f : List ℕ → List (List ℕ) → List (List ℕ)) → Long p e i len → Holds p e₁ (dropped_back i n (abs p e))
+  pub back_moved : {len : ℕ} {e₁ p₂ e₂ hold' : List ℕ} (hold : List ℕ) (f : List ℕ → List (List ℕ) → List (List ℕ)) → Long p e i len → Holds p e₁ (dropped_back i n (abs p e))
       → hold' ≡ pasted hold 0 (take n (drop (len - n) (string i (abs p e)))) → Holds p₂ e₂ (f (take n hold') (abs p e₁))
       → Holds p₂ e₂ (f (drop (length (string i (abs p e)) - n) (string i (abs p e))) (dropped_back i n (abs p e)))
-  back-moved {len} {hold' = hold'} hold f l h q k =
+  back_moved {len} hold f l h q k =
       let v : List ℕ = string i (abs p e) in
       let d : List ℕ = drop (length v - n) v in
-      let ld : length d ≡ n = rw length-drop (omega (arith, pre.within)) in
-      let w : take n (drop (len - n) v) ≡ d = rw l.is (take_all n d (omega arith)) in
-      let x : take n hold' ≡ d = rw (q, w) (pasted-front hold d n ld) in
-      rw x at (after h (f (take n hold')) k)
+      let w : take n (drop (len - n) v) ≡ d = rw l.is (take_all n d (rw length-drop (omega (arith, pre.within)))) in
+      moved hold f (rw length-drop (omega (arith, pre.within))) h (q ∙ ap (pasted hold 0) w) k
 
 -- exchanging: all of i goes before j, and what was j back to i
 

@@ -19,15 +19,8 @@ use Rattle.table.specs.Reads.{switch_size}
 use Rattle.instructions.specs.Does.{stop_of}
 use Rattle.instructions.specs.Questions.{told_by}
 use Rattle.instructions.specs.declared.Question.{Question}
-use Rattle.switches.specs.declared.Kind.{Kind}
-use Rattle.switches.specs.declared.Kind.TheVariants.{Word, Number}
 use Rattle.switches.specs.declared.Way.{Way}
 use Rattle.switches.specs.declared.Way.TheVariants.{Jump, Call}
-
--- a kind by its number
-abbrev pub kind_by : Kind → ℕ
-kind_by Word = 0
-kind_by Number = 1
 
 -- jumps and calls: how they go on, what the store is where none is met, and the operators by a word and by a number
 abbrev pub going_by : Way → ℕ → Go

@@ -10,36 +10,21 @@ ghost use Rattle.machine.specs.Arguments.{needs};
 ghost use Rattle.machine.specs.Changes.{used};
 ghost use Rattle.machine.specs.Effects.{row};
 ghost use Rattle.machine.specs.Effects.Go.{on};
+ghost use Rattle.components.specs.Parts.{kind_number};
 ghost use Rattle.state.specs.Working.{HoldsState, on_store, nth, reading};
 ghost use Rattle.control.specs.Going.{going};
 ghost use Rattle.instructions.specs.Questions.{told_by};
 ghost use Rattle.instructions.specs.Does.{stop_of, Goes, DoesIn, GoesIn};
 ghost use Rattle.jumps.specs.Jumps.{Led};
-ghost use Rattle.switches.specs.Switches.{kind_by, going_by, word_op, number_op, front, entry_row, Fronted, Entered, EntryGo, Looks, Switches, FindsEntry, NumbersEntry, missing, Goal};
+ghost use Rattle.switches.specs.Switches.{going_by, word_op, number_op, front, entry_row, Fronted, Entered, EntryGo, Looks, Switches, FindsEntry, NumbersEntry, missing, Goal};
 
+use components::{Kind, ZERO};
 use instructions::{Question, Source};
 use state::Working;
+use table::Table;
 
 // The code of 1, the number of the first entry.
-const FIRST: usize = 8388608;
-
-// The kinds of components that an entry is chosen by.
-#[derive(Clone, Copy, PartialEq, Eq, Debug)]
-enum Kind {
-    Word = 0,
-    Number = 1,
-}
-
-impl From<Kind> for u8 {
-    ghost use Rattle.std.specs.Prelude.{◌≡◌};
-    ghost use Rattle.switches.specs.Switches.{kind_by};
-
-    ghost from_gives = { λ k n. n ≡ kind_by k };
-
-    fn from(k: Kind) -> u8 {
-        k as u8
-    }
-}
+const FIRST: usize = ZERO + 1;
 
 // How an instruction goes to an entry.
 #[derive(Clone, Copy, PartialEq, Eq, Debug)]
@@ -51,13 +36,13 @@ pub enum Way {
 // Whether expression `i` has a component (52), and in front one of this kind (53).
 fn ask_front(state: &Working, i: usize, kind: Kind) -> Result<(), Question>
     requires { i < limit.expressions }
-    ensures { told_by result ≡ stop_of (needs (kind_by kind) (front state.now.store i)) }
+    ensures { told_by result ≡ stop_of (needs (kind_number kind) (front state.now.store i)) }
 {
     let x = state.expr_bytes(i);
     if x.is_empty() {
         return Err(Question::Missing);
     }
-    if components::kind_of(x) != u8::from(kind) {
+    if components::kind_of(x) != kind {
         return Err(Question::Kind);
     }
     Ok(())
@@ -75,26 +60,26 @@ fn use_front(state: &mut Working, source: Source)
 }
 
 // The first entry of a switch that is met by the word in front of expression `i`.
-fn find(table: &[u32], state: &Working, i: usize, switch: usize) -> Result<Option<usize>, Question>
-    requires { Looks table.now i switch }
-    ensures { FindsEntry table.now switch state.now.store i result }
+fn find(table: Table, state: &Working, i: usize, switch: usize) -> Result<Option<usize>, Question>
+    requires { Looks table.cells.now i switch }
+    ensures { FindsEntry table.entry.cells.now switch state.now.store i result }
 {
     ask_front(state, i, Kind::Word)?;
     let w = components::chars_of(state.expr_bytes(i));
-    let first = table::switch_first(table, switch);
-    let count = table::switch_count(table, switch);
-    Ok(table::find_entry(table, first, count, w))
+    let first = table.switch_first(switch);
+    let count = table.switch_count(switch);
+    Ok(table.find_entry(first, count, w))
 }
 
 // The entry of a switch by the number in front of expression `i`.
 fn entry_by(
-    table: &[u32],
+    table: Table,
     state: &Working,
     i: usize,
     switch: usize,
 ) -> Result<Option<usize>, Question>
-    requires { Looks table.now i switch }
-    ensures { NumbersEntry table.now switch state.now.store i result }
+    requires { Looks table.cells.now i switch }
+    ensures { NumbersEntry table.entry.cells.now switch state.now.store i result }
 {
     ask_front(state, i, Kind::Number)?;
     let v = components::number_of(state.expr_bytes(i));
@@ -102,19 +87,19 @@ fn entry_by(
         return Ok(None);
     }
     let j = v - FIRST;
-    if table::switch_count(table, switch) <= j {
+    if table.switch_count(switch) <= j {
         return Ok(None);
     }
     Ok(Some(j))
 }
 
 // The instruction that entry `j` of a switch leads to.
-fn goal(table: &[u32], switch: usize, j: usize) -> usize
-    requires { Entered table.now switch j }
-    ensures { Goal table.now switch j result }
+fn goal(table: Table, switch: usize, j: usize) -> usize
+    requires { Entered table.cells.now switch j }
+    ensures { Goal table.entry.cells.now switch j result }
 {
-    let e = table::switch_first(table, switch) + j;
-    table::target(table, table::entry_label(table, e))
+    let e = table.switch_first(switch) + j;
+    table.target(table.entry_label(e))
 }
 
 // Jumps to instruction `t`, or calls it.
@@ -134,15 +119,15 @@ fn lead(state: &mut Working, way: Way, t: usize) -> Result<(), Question>
 
 // Goes by entry `j`.
 fn go_by(
-    table: &[u32],
+    table: Table,
     state: &mut Working,
     source: Source,
     switch: usize,
     j: usize,
     way: Way,
 ) -> Result<(), Question>
-    requires { EntryGo table.now state.old source.i switch j }
-    ensures { Goes state.old (told_by result) state.new (entry_row (going_by way) table.now switch j state.old.store source.removes source.i) }
+    requires { EntryGo table.cells.now state.old source.i switch j }
+    ensures { Goes state.old (told_by result) state.new (entry_row (going_by way) table.entry.cells.now switch j state.old.store source.removes source.i) }
 {
     state.stands();
     lead(state, way, goal(table, switch, j))?;
@@ -166,14 +151,14 @@ fn go_past(state: &mut Working, way: Way)
 
 // SKONA and WYNA.
 pub fn by_word(
-    table: &[u32],
+    table: Table,
     state: &mut Working,
     source: Source,
     switch: usize,
     way: Way,
 ) -> Result<(), Question>
-    requires { Switches table.now state.old source.i switch }
-    ensures { GoesIn state.old (told_by result) state.new (λ ins. row (program_of table.now) ins state.old.store (nth (reading source.removes) source.i) (by-switch switch) nothing (word_op way)) }
+    requires { Switches table.cells.now state.old source.i switch }
+    ensures { GoesIn state.old (told_by result) state.new (λ ins. row (program_of table.entry.cells.now) ins state.old.store (nth (reading source.removes) source.i) (by-switch switch) nothing (word_op way)) }
 {
     state.stands();
     let met = find(table, state, source.i, switch)?;
@@ -188,14 +173,14 @@ pub fn by_word(
 
 // SKOIN and WYIN.
 pub fn by_number(
-    table: &[u32],
+    table: Table,
     state: &mut Working,
     source: Source,
     switch: usize,
     way: Way,
 ) -> Result<(), Question>
-    requires { Switches table.now state.old source.i switch }
-    ensures { GoesIn state.old (told_by result) state.new (λ ins. row (program_of table.now) ins state.old.store (nth (reading source.removes) source.i) (by-switch switch) nothing (number_op way)) }
+    requires { Switches table.cells.now state.old source.i switch }
+    ensures { GoesIn state.old (told_by result) state.new (λ ins. row (program_of table.entry.cells.now) ins state.old.store (nth (reading source.removes) source.i) (by-switch switch) nothing (number_op way)) }
 {
     state.stands();
     let met = entry_by(table, state, source.i, switch)?;
@@ -206,13 +191,13 @@ pub fn by_number(
 }
 
 pub fn szukaj(
-    table: &[u32],
+    table: Table,
     state: &mut Working,
     source: Source,
     switch: usize,
 ) -> Result<(), Question>
-    requires { Looks table.now source.i switch }
-    ensures { DoesIn state.old (told_by result) state.new (λ ins. row (program_of table.now) ins state.old.store (nth (reading source.removes) source.i) (by-switch switch) nothing SZUKAJ) }
+    requires { Looks table.cells.now source.i switch }
+    ensures { DoesIn state.old (told_by result) state.new (λ ins. row (program_of table.entry.cells.now) ins state.old.store (nth (reading source.removes) source.i) (by-switch switch) nothing SZUKAJ) }
 {
     state.stands();
     let met = find(table, state, source.i, switch)?;

@@ -4,24 +4,33 @@ use mathlib.Core.List.{List}
 use Prim.Native.Nat.{ℕ, zero, suc, ◌+◌, ◌-◌, ◌*◌, ◌/◌, ◌%◌, ◌≤◌, ◌<◌}
 use native.Mathlib.Nat.{add-mul-div_left, add-mul-mod_self_left}
 use native.Mathlib.Omega.{arith}
-use lib.ListN.{get_or, get_or-eq_default, length-take}
+use lib.ListN.{get_or, get_or-eq_default, length, take, drop, length-take}
 use lib.Seq.{get_or-take}
 use borrow.Author.Tests.{lt-ltb, le-ltb, ne_eqb}
 use Rattle.packed.specs.Below.Letters as letters
 use Rattle.packed.specs.Below.Program.{Arg}
 use Rattle.packed.specs.Below.Program.Arg.{nothing, letter, label, switch, class, text}
 use Rattle.packed.specs.Below.LayoutCells.{cell, uncode}
-use Rattle.packed.specs.Below.Table.{arg_in, arg_by, class_by, text_by, number_by}
+use Rattle.packed.specs.Below.Table.{arg_in, arg_by, class_by, number_by}
 use Rattle.packed.specs.Below.LayoutPlaces as layout
+use Rattle.std.proofs.lemmas.List.{drop-take, take-take, take_rest}
 use Rattle.packed.specs.Packed.{table_of}
-use Rattle.table.specs.Denote.{letter_of, letter_at}
+use Rattle.table.specs.Denote.{letter_of, letter_at, ref_by, text_of}
 use Rattle.table.specs.Reads.{IsArgument}
+use Rattle.table.specs.ReadLaws.{text-referred}
 use Rattle.table.specs.declared.Letter.{Letter}
+use Rattle.table.specs.declared.TextRef.{TextRef}
 use Rattle.table.specs.declared.Argument.TheVariants.{Nothing, Indexed, Label, Switch, Class, Text, Number}
 
 -- a cell within the table, and past it
 pub cell_in : (c : List ℕ) (k : ℕ) → k < 8192 → cell (table_of c) k ≡ get_or c k 0
 cell_in c k h = get_or-take 8192 c k 0 h
+
+-- a row of 15 cells that lies in the table
+pub row_in : (c : List ℕ) (at : ℕ) → at + 15 ≤ 8192 → take 15 (take (length c - at) (drop at c)) ≡ take 15 (drop at (table_of c))
+row_in c at h =
+    let e : at + (8192 - at) ≡ 8192 = omega arith in
+    ap (take 15) (take_rest c at) ∙ sym (ap (take 15) (ap (λ n. drop at (take n c)) (sym e) ∙ drop-take at (8192 - at) c) ∙ take-take 15 (8192 - at) (drop at c) (omega arith))
 
 pub cell-past : (c : List ℕ) (k : ℕ) → 8192 ≤ k → cell (table_of c) k ≡ 0
 cell-past c k h = get_or-eq_default (table_of c) 0 {n = k} (rw length-take (omega arith))
@@ -84,8 +93,12 @@ module _ (t : List ℕ) (k x : ℕ) (e : cell t k ≡ x) where
   pub classed : (n : ℕ) → x % 8 ≡ 4 → n ≡ x / 8 % 16 → IsArgument t k (Class n)
   classed n h g = record { is = ap (λ (m : ℕ). class (class_by t m)) g ∙ ap class (mask t (x / 8)) ∙ sym (by 4 h); small = omega arith }
 
-  pub texted : (n : ℕ) → x < 4294967296 → x % 8 ≡ 5 → n ≡ x / 8 → IsArgument t k (Text n)
-  texted n l h g = record { is = ap (λ (m : ℕ). text (text_by t m)) g ∙ sym (by 5 h); small = (omega arith, g ∙ ap (λ (y : ℕ). y / 8) (sym e)) }
+  pub texted : (s : TextRef) → x < 4294967296 → x % 8 ≡ 5 → s ≡ ref_by (x / 8) → IsArgument t k (Text s)
+  texted s l h g =
+      record {
+        is = ap (λ (u : TextRef). text (text_of t u)) g ∙ ap text (text-referred t (x / 8)) ∙ sym (by 5 h);
+        small = record { is = g ∙ ap (λ (y : ℕ). ref_by (y / 8)) (sym e); most = rw e (omega (arith, l)) };
+      }
 
   pub numbered : (n : ℕ) → n < 4294967296 → x % 8 ≡ 6 → uncode n ≡ number_by t (x / 8) → IsArgument t k (Number n)
   numbered n l h g = record { is = ap Arg.number g ∙ sym (by 6 h); small = l }

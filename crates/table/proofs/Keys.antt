@@ -1,84 +1,53 @@
--- Names, texts by their references, and entries that are met by a word.
-use mathlib.Core.Path.{◌≡◌, refl, sym, ap, ◌∙◌, subst}
+-- Entries that are met by a word.
+use mathlib.Core.Path.{◌≡◌, refl, sym, ap, ◌∙◌}
 use mathlib.Core.Bool.{Bool, true, false, ◌&&◌, ◌||◌}
 use mathlib.Core.List.{List, [], ◌∷◌}
-use Prim.Native.Nat.{ℕ, suc, ◌+◌, ◌-◌, ◌*◌, ◌/◌, ◌%◌, ◌≤◌, ◌<◌}
+use Prim.Native.Nat.{ℕ, suc, ◌+◌, ◌≤◌, ◌<◌}
 use native.Mathlib.Omega.{arith}
 use native.Mathlib.Numerals.{add-one}
-use lib.Dec.{T, eqb, ltb}
+use lib.Dec.{ltb}
 use lib.ListN.{length, get_or, drop, drop_of_length-le}
 use lib.Seq.{drop-cons}
-use borrow.Author.Tests.{eq-eqb, ne_eqb, lt-ltb, le-ltb, ltb-false}
+use lib.Ieee.Bits.{is_true}
+use borrow.Author.Tests.{lt-ltb, le-ltb, ltb-false}
 use Rattle.std.specs.List.{position_or_len}
 use Rattle.std.specs.Prelude.{Option, Some, None, cond, not, position, unwrap_or}
 use Rattle.packed.specs.Below.ListLaws.{ahead-le}
 use Rattle.packed.specs.Below.Lists.{ahead, filled, bytes_equal}
 use Rattle.packed.specs.Below.Program.{Label, Entry, no_entry, label_at, meets}
 use Rattle.packed.proofs.Below.LayoutCellLaws.{length-tab, get_d-tab}
-use Rattle.packed.specs.Below.LayoutCells.{cell}
-use Rattle.packed.specs.Below.Table.{chars_in, text_in, text_by, label_in, entry_in, program_of}
-use Rattle.packed.specs.Below.LayoutPlaces as layout
-use Rattle.packed.specs.Packed.{table_of, Copied}
-use Rattle.table.specs.Reads.{Keyed, entries_from, met}
-use Rattle.table.specs.ReadLaws.{label_is}
+use Rattle.packed.specs.Below.Table.{label_in, entry_in, program_of}
+use Rattle.packed.specs.Packed.{table_of}
+use Rattle.table.specs.Denote.{ref_by, text_of}
+use Rattle.table.specs.Reads.{entry_ref, Keyed, entries_from, met}
+use Rattle.table.specs.ReadLaws.{text-referred, label_is}
+use Rattle.table.specs.declared.TextRef.{TextRef}
+use Rattle.table.specs.declared.TextRef.TheVariants.{Empty}
 
--- a text by its reference
-module _ (t : List ℕ) (v : ℕ) where
-  pub text-none : v ≡ 0 → text_by t v ≡ []
-  text-none e = rw (eq-eqb v 0 e)
+-- an entry compared with a word: l is its label, s its text, and named is whether its label's name is the word
+module _ (c w : List ℕ) (e : ℕ) (keyed : Keyed c e) {l : ℕ} {s : TextRef} {named : Bool} (label-is : l ≡ (entry_in (table_of c) e).label) (text-is : s ≡ ref_by (entry_ref (table_of c) e))
+    (named-is : named ≡ bytes_equal (label_in (table_of c) l).name w) where
+  abbrev x : Entry
+  x = entry_in (table_of c) e
 
-  pub text-one : (v ≡ 0 → ⊥) → v < 256 → text_by t v ≡ v ∷ []
-  text-one e h = rw (ne_eqb v 0 e, lt-ltb v 256 h)
+  abbrev label_met : Bool
+  label_met = bytes_equal (label_at (program_of c) x.label).name w
 
-  pub text-many : 256 ≤ v → text_by t v ≡ text_in t (v - 256)
-  text-many h = rw (ne_eqb v 0 (λ e. omega (arith, e)), le-ltb v 256 h)
+  text_same : text_of (table_of c) s ≡ x.text
+  text_same = ap (text_of (table_of c)) text-is ∙ text-referred (table_of c) (entry_ref (table_of c) e)
 
--- and copied: x is what was read where the length stands
-module _ (c o z : List ℕ) (x r : ℕ) where
-  pub text-copied : (v : ℕ) → 256 ≤ v → x ≡ cell (table_of c) (layout.first_text + 16 * (v - 256)) → Copied (chars_in (table_of c) x (layout.first_characters + 16 * (v - 256))) o z r
-      → Copied (text_by (table_of c) v) o z r
-  text-copied v k e h =
-      subst (λ (l : List ℕ). Copied l o z r) (sym (text-many (table_of c) v k)) (subst (λ (y : ℕ). Copied (chars_in (table_of c) y (layout.first_characters + 16 * (v - 256))) o z r) e h)
+  by_name : named ≡ label_met
+  by_name = named-is ∙ ap (λ (k : ℕ). bytes_equal (label_in (table_of c) k).name w) label-is ∙ ap (λ (k : Label). bytes_equal k.name w) (sym (label_is c x.label keyed.label))
 
--- a word of no character
-pub none-same : (w : List ℕ) → eqb (length w) 0 ≡ bytes_equal [] w
-none-same [] = refl
-none-same (x ∷ w) = ne_eqb (suc (length w)) 0 (λ e. omega (arith, e))
-
-is_true : (b : Bool) → T b → b ≡ true
-is_true true h = refl
-is_true false h = absurd h
-
--- an entry compared with a word: x is what was read in its cell, and named is whether its label's name is the word
-module _ (c w : List ℕ) (e x : ℕ) (is : x ≡ cell (table_of c) (layout.first_entry + e)) (keyed : Keyed c e) {named : Bool}
-    (named-is : named ≡ bytes_equal (label_in (table_of c) (x % 128)).name w) where
-  -- the entry of a cell's number
-  abbrev by_cell : ℕ → Bool
-  by_cell y = meets (program_of c) (record { label = y % 128; text = text_by (table_of c) (y / 128) }) w
-
-  -- by a text l, or by the label's name
-  abbrev met_by : List ℕ → Bool
-  met_by l = (filled l && bytes_equal l w) || bytes_equal (label_at (program_of c) (x % 128)).name w
-
-  below : x % 128 < cell (table_of c) layout.label_count
-  below = rw is keyed.label
-
-  by_name : named ≡ bytes_equal (label_at (program_of c) (x % 128)).name w
-  by_name = named-is ∙ ap (λ (l : Label). bytes_equal l.name w) (sym (label_is c (x % 128) below))
-
-  pub met-by-name : x / 128 ≡ 0 → named ≡ meets (program_of c) (entry_in (table_of c) e) w
+  pub met-by-name : s ≡ Empty → named ≡ meets (program_of c) x w
   unfolding meets
-  met-by-name z = by_name ∙ ap met_by (sym (text-none (table_of c) (x / 128) z)) ∙ ap by_cell is
+  met-by-name z = by_name ∙ ap (λ (y : List ℕ). (filled y && bytes_equal y w) || label_met) (sym (ap (text_of (table_of c)) z) ∙ text_same)
 
-  has-text : (x / 128 ≡ 0 → ⊥) → T (filled (text_by (table_of c) (x / 128)))
-  has-text z = rw is (keyed.some (λ y. z (rw is y)))
-
-  pub met-by-either : {spelled : Bool} → spelled ≡ bytes_equal (text_by (table_of c) (x / 128)) w → (x / 128 ≡ 0 → ⊥) → spelled || named ≡ meets (program_of c) (entry_in (table_of c) e) w
+  pub met-by-either : {spelled : Bool} → (s ≡ Empty → ⊥) → spelled ≡ bytes_equal (text_of (table_of c) s) w → spelled || named ≡ meets (program_of c) x w
   unfolding meets
-  met-by-either q z =
-      let l = text_by (table_of c) (x / 128) in
-      ap (λ (b : Bool). b || named) q ∙ ap (λ (b : Bool). bytes_equal l w || b) by_name
-      ∙ ap (λ (b : Bool). b && bytes_equal l w || bytes_equal (label_at (program_of c) (x % 128)).name w) (sym (is_true (filled l) (has-text z))) ∙ ap by_cell is
+  met-by-either z q =
+      ap (λ (b : Bool). b || named) (q ∙ ap (λ (y : List ℕ). bytes_equal y w) text_same) ∙ ap (λ (b : Bool). bytes_equal x.text w || b) by_name
+      ∙ ap (λ (b : Bool). (b && bytes_equal x.text w) || label_met) (sym (is_true (filled x.text) (keyed.some (λ y. z (text-is ∙ ap ref_by y)))))
 
 -- the first entry that is met: one turn of the search, its success and its end
 module _ {X : Type 0} (q : X → Bool) (d : X) (xs : List X) (k : ℕ) where

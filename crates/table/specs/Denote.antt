@@ -1,15 +1,17 @@
 -- What the enums of the program table stand for: a letter, and an argument of the program that the cells c read as.
-use Rattle.std.specs.Prelude.{cond, ◌||◌, List, ℕ, eqb, get_or}
+use Rattle.std.specs.Prelude.{cond, ◌||◌, List, [], ◌∷◌, ℕ, ◌-◌, eqb, ltb, get_or}
 use Rattle.packed.specs.Below.Characters.{is_capital}
 use Rattle.packed.specs.Below.Letters as letters
 use Rattle.packed.specs.Below.Program.{Arg}
 use Rattle.packed.specs.Below.Program.Arg.{nothing, letter, label, switch, class, text}
 use Rattle.packed.specs.Below.LayoutCells.{uncode}
-use Rattle.packed.specs.Below.Table.{class_by, text_by}
+use Rattle.packed.specs.Below.Table.{class_by, text_in}
 use Rattle.table.specs.declared.Letter.{Letter}
 use Rattle.table.specs.declared.Letter.TheVariants.{A, B, C, D, E, I, N, P, Q, T, Y, Z}
 use Rattle.table.specs.declared.Argument.{Argument}
 use Rattle.table.specs.declared.Argument.TheVariants.{Nothing, Indexed, Label, Switch, Class, Text, Number}
+use Rattle.table.specs.declared.TextRef.{TextRef}
+use Rattle.table.specs.declared.TextRef.TheVariants.{Empty, Byte, Place}
 
 abbrev pub letter_of : Letter → letters.Letter
 letter_of A = letters.Letter.A
@@ -29,6 +31,15 @@ letter_of Z = letters.Letter.Z
 abbrev pub letter_at : ℕ → letters.Letter
 letter_at n = get_or letters.letters n letters.Letter.A
 
+-- what a number in a cell refers to, and the text of a reference
+abbrev pub ref_by : ℕ → TextRef
+ref_by v = cond (eqb v 0) Empty (cond (ltb v 256) (Byte v) (Place (v - 256)))
+
+abbrev pub text_of : List ℕ → TextRef → List ℕ
+text_of c Empty = []
+text_of c (Byte b) = b ∷ []
+text_of c (Place k) = text_in c k
+
 -- a class by its mask, a text by its reference, a number by its code
 abbrev pub arg_of : List ℕ → Argument → Arg
 arg_of c Nothing = nothing
@@ -36,7 +47,7 @@ arg_of c (Indexed l n) = letter (letter_of l) n
 arg_of c (Label k) = label k
 arg_of c (Switch k) = switch k
 arg_of c (Class m) = class (class_by c m)
-arg_of c (Text v) = text (text_by c v)
+arg_of c (Text r) = text (text_of c r)
 arg_of c (Number v) = Arg.number (uncode v)
 
 -- the case of an argument, and that of an argument of a form (a character, as in the table of instructions)
@@ -46,7 +57,7 @@ kind (Indexed l n) = 1
 kind (Label k) = 2
 kind (Switch k) = 3
 kind (Class m) = 4
-kind (Text v) = 5
+kind (Text r) = 5
 kind (Number v) = 6
 
 abbrev pub kind_of_form : ℕ → ℕ

@@ -9,13 +9,14 @@ use Rattle.packed.specs.Below.Program.{Arg, Instr, Program, instr_at, label_at, 
 use Rattle.packed.specs.Below.Facts.{InstrFacts}
 use Rattle.packed.specs.Below.WellFormed.{form}
 use Rattle.packed.specs.Below.LayoutCells.{cell}
-use Rattle.packed.specs.Below.Table.{text_by, instr_in, label_in, switch_in, program_of}
+use Rattle.packed.specs.Below.Table.{instr_in, label_in, switch_in, program_of}
 use Rattle.packed.specs.Packed.{table_of}
-use Rattle.table.specs.Denote.{letter_of, arg_of}
-use Rattle.table.specs.Reads.{switch_first, switch_size, Entries}
+use Rattle.table.specs.Denote.{letter_of, arg_of, text_of}
+use Rattle.table.specs.Reads.{Placed, switch_first, switch_size, Entries}
 use Rattle.table.specs.declared.Letter.{Letter}
 use Rattle.table.specs.declared.Argument.{Argument}
 use Rattle.table.specs.declared.Argument.TheVariants.{Indexed, Label, Switch, Class, Text, Number}
+use Rattle.table.specs.declared.TextRef.{TextRef}
 
 -- an index of an indexed letter
 pub record GoodIndex (l : Letter) (n : ℕ) : Type 0 where
@@ -37,11 +38,11 @@ pub record GoodSwitch (c : List ℕ) (k : ℕ) : Type 0 where
   pub some : 0 < switch_size (table_of c) k
   pub entries : Entries c (switch_first (table_of c) k) (switch_size (table_of c) k)
 
-pub record GoodText (c : List ℕ) (v : ℕ) : Type 0 where
-  pub below : v < 384
-  pub some : 0 < length (text_by (table_of c) v)
-  pub short : length (text_by (table_of c) v) ≤ 60
-  pub chars : T (all known (text_by (table_of c) v))
+pub record GoodText (c : List ℕ) (r : TextRef) : Type 0 where
+  pub placed : Placed r
+  pub some : 0 < length (text_of (table_of c) r)
+  pub short : length (text_of (table_of c) r) ≤ 60
+  pub chars : T (all known (text_of (table_of c) r))
 
 -- r, read from a well-formed table, stands for the argument a
 pub record GoodArgument (c : List ℕ) (a : Arg) (r : Argument) : Type 0 where
@@ -50,7 +51,7 @@ pub record GoodArgument (c : List ℕ) (a : Arg) (r : Argument) : Type 0 where
   pub label : (k : ℕ) → r ≡ Label k → GoodLabel c k
   pub switch : (k : ℕ) → r ≡ Switch k → GoodSwitch c k
   pub class : (m : ℕ) → r ≡ Class m → (0 < m) × (m < 16)
-  pub text : (v : ℕ) → r ≡ Text v → GoodText c v
+  pub text : (t : TextRef) → r ≡ Text t → GoodText c t
   pub number : (v : ℕ) → r ≡ Number v → v ≤ 16777214
 
 -- instruction i, and n, its operator's number

@@ -7,6 +7,7 @@ use Rattle.packed.specs.Below.Characters.{known}
 use Rattle.packed.specs.Below.Limits as limit
 use Rattle.packed.specs.Below.Instructions.{operation, operator_of}
 use Rattle.packed.specs.Below.Letters.{indices, use_of}
+use Rattle.packed.specs.Below.Program.Arg.{text}
 use Rattle.packed.specs.Below.Program.{Arg, Instr, Label as LabelOf, Switch as SwitchOf, Entry, Program, no_instr, no_label, no_switch, no_entry, classes, instr_at, label_at, switch_at, target_of}
 use Rattle.packed.specs.Below.LanguageValues.{in_range}
 use Rattle.packed.specs.Below.Facts.{InstrFacts, LabelFacts}
@@ -20,17 +21,22 @@ use Rattle.packed.specs.Below.Table.{text_ref, arg_cell, instr_cells, switch_cel
 use Rattle.packed.proofs.Below.TableLaws.{table-facts, instr_at-cell, arg-at-cell, entry-at-cell, switch_at-cell, switch-parts}
 use Rattle.packed.specs.Below.LayoutPlaces as layout
 use Rattle.packed.specs.Packed.{table_of}
-use Rattle.table.specs.Denote.{letter_of, arg_of}
+use Rattle.table.specs.Denote.{letter_of, arg_of, ref_by, text_of}
 use Rattle.table.specs.Good.{GoodIndex, GoodLabel, GoodSwitch, GoodText, GoodArgument, GoodInstruction}
-use Rattle.table.specs.ReadLaws.{code_count, label_count, switch_count, instr-is, label_is, switch-is}
-use Rattle.table.specs.Reads.{Small, IsArgument, switch_first, switch_size, entry_ref, Keyed, entries_from}
+use Rattle.table.specs.ReadLaws.{text-referred, placed-by, code_count, label_count, switch_count, instr-is, label_is, switch-is}
+use Rattle.table.specs.Reads.{Small, RefersTo, IsArgument, switch_first, switch_size, entry_ref, Keyed, entries_from}
 use Rattle.table.specs.declared.Letter.{Letter}
 use Rattle.table.specs.declared.Argument.{Argument}
 use Rattle.table.specs.declared.Argument.TheVariants.{Indexed, Label, Switch, Class, Text, Number}
+use Rattle.table.specs.declared.TextRef.{TextRef}
 
 filled-some : {X : Type 0} (w : List X) → T (filled w) → 0 < length w
 filled-some [] z = absurd z
 filled-some (x ∷ w) z = omega arith
+
+-- the place of an index, counted from 0, and the index again
+pub index_back : {l : Letter} {k : ℕ} → GoodIndex l k → suc (k - 1) ≡ k
+index_back h = omega (arith, h.from)
 
 -- ---- the entries of a switch, one by one
 
@@ -103,15 +109,16 @@ module _ (c : List ℕ) (good : T (good_table c)) where
 
   -- ---- texts
 
-  pub good_text-at : (v : ℕ) → T (good_text (text_by t v)) → v < 384 → GoodText c v
+  pub good_text-at : (v : ℕ) → T (good_text (text_by t v)) → v < 384 → GoodText c (ref_by v)
   good_text-at v h b =
       let w : List ℕ = text_by t v in
       let g = T-left (good_word w) (leb (length w) limit.item) h in
+      let e = text-referred t v in
       record {
-        below = b;
-        some = filled-some w (T-left (filled w) (all known w) g);
-        short = leb→le (length w) limit.item (T-right (good_word w) (leb (length w) limit.item) h);
-        chars = T-right (filled w) (all known w) g;
+        placed = placed-by v b;
+        some = rw e (filled-some w (T-left (filled w) (all known w) g));
+        short = rw e (leb→le (length w) limit.item (T-right (good_word w) (leb (length w) limit.item) h));
+        chars = rw e (T-right (filled w) (all known w) g);
       }
 
   -- ---- switches
@@ -176,7 +183,6 @@ module _ (c : List ℕ) (good : T (good_table c)) where
 
       keyed : Keyed c (n + j)
       keyed = record {
-        long = table-long;
         entry = omega (arith, inside, ok.entries_most);
         label = subst (λ (m : ℕ). (entry_in t (n + j)).label < m) (label_count c) entry-facts.label_below;
         text = omega (arith, ref_is, text_ref-below p (text_by t (entry_ref t (n + j))) entry-facts.text_kept, ok.facts.texts_few);
@@ -192,7 +198,6 @@ module _ (c : List ℕ) (good : T (good_table c)) where
           is = is;
           some = rw size_is some;
           entries = record {
-            long = table-long;
             inside = rw (size_is, first_is) (omega (arith, inside (len - 1) (omega arith), ok.entries_most));
             keyed = λ j b. subst (λ (m : ℕ). Keyed c (m + j)) (sym first_is) (keyed j (rw size_is at b));
           };
@@ -220,14 +225,17 @@ module _ (c : List ℕ) (good : T (good_table c)) where
       subst (Small (cell t k)) e q.small,
     )
 
-    text_of : (v : ℕ) → r ≡ Text v → GoodText c v
-    text_of v e =
-        let h = range-of (Text v) e in
+    text-good : (s : TextRef) → r ≡ Text s → GoodText c s
+    text-good s e =
+        let v : ℕ = cell t k / 8 in
         let w : List ℕ = text_by t v in
-        let s : (v < 536870912) × (v ≡ cell t k / 8) = subst (Small (cell t k)) e q.small in
-        let z : cell t k ≡ 5 + 8 * text_ref p w = written_as ∙ ap (arg_cell p) (sym stands ∙ ap (arg_of t) e) in
+        let small : RefersTo v 536870912 s = subst (Small (cell t k)) e q.small in
+        let f : text_of t s ≡ w = ap (text_of t) small.is ∙ text-referred t v in
+        let h = subst (λ (x : List ℕ). T (ranged p (text x))) f (range-of (Text s) e) in
+        let z : cell t k ≡ 5 + 8 * text_ref p w = written_as ∙ ap (arg_cell p) (sym stands ∙ ap (arg_of t) e ∙ ap text f) in
         let g = T-left (good_text w) (kept_text p w) h in
-        good_text-at v g (omega (arith, s.1, text_ref-below p w (T-or (not (filled w)) (good_text w && kept_text p w) h), ok.facts.texts_few))
+        subst (GoodText c) (sym small.is)
+        (good_text-at v g (omega (arith, z, text_ref-below p w (T-or (not (filled w)) (good_text w && kept_text p w) h), ok.facts.texts_few)))
 
     argument-good : GoodArgument c a r
     argument-good = record {
@@ -236,7 +244,7 @@ module _ (c : List ℕ) (good : T (good_table c)) where
       label = λ n e. good_label n (ltb→lt n (length p.labels) (range-of (Label n) e));
       switch = λ n e. good_switch-at n (ltb→lt n (length p.switches) (range-of (Switch n) e));
       class = class_of;
-      text = text_of;
+      text = text-good;
       number = λ v e. number_most v (T-left (in_range (uncode v)) (kept_number p (uncode v)) (range-of (Number v) e));
     }
 

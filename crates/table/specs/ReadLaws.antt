@@ -1,10 +1,31 @@
 -- The program of a lent table, part by part: what stands in its lists is what the readers read.
-use Rattle.std.specs.Prelude.{◌≡◌, List, ℕ, ◌<◌, length}
+use Rattle.std.specs.Prelude.{◌≡◌, refl, Bool, true, false, cond, List, [], ◌∷◌, ℕ, ◌-◌, ◌<◌, eqb, ltb, length}
+use Rattle.std.proofs.Common.{arith}
 use Rattle.packed.specs.Below.Program.{no_instr, no_label, no_switch, instr_at, label_at, switch_at}
 use Rattle.packed.proofs.Below.LayoutCellLaws.{length-tab, get_d-tab}
 use Rattle.packed.specs.Below.LayoutCells.{cell}
-use Rattle.packed.specs.Below.Table.{instr_in, label_in, switch_in, program_in, program_of}
+use Rattle.packed.specs.Below.Table.{text_in, text_by, instr_in, label_in, switch_in, program_in, program_of}
 use Rattle.packed.specs.Packed.{table_of}
+use Rattle.table.specs.Denote.{ref_by, text_of}
+use Rattle.table.specs.Reads.{Placed}
+use Rattle.table.specs.declared.TextRef.TheVariants.{Empty, Byte, Place}
+
+-- the text that a number refers to, and where it stands
+pub text-referred : (t : List ℕ) (v : ℕ) → text_of t (ref_by v) ≡ text_by t v
+text-referred t v = go (eqb v 0) (ltb v 256)
+  where
+    go : (a b : Bool) → text_of t (cond a Empty (cond b (Byte v) (Place (v - 256)))) ≡ cond a [] (cond b (v ∷ []) (text_in t (v - 256)))
+    go true b = refl
+    go false true = refl
+    go false false = refl
+
+pub placed-by : (v : ℕ) → v < 384 → Placed (ref_by v)
+placed-by v h = go (eqb v 0) (ltb v 256)
+  where
+    go : (a b : Bool) → Placed (cond a Empty (cond b (Byte v) (Place (v - 256))))
+    go true b = tt
+    go false true = tt
+    go false false = omega (arith, h)
 
 module _ (c : List ℕ) where
   pub code_count : length (program_of c).code ≡ cell (table_of c) 0

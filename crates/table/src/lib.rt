@@ -1,15 +1,15 @@
 // Reading a program table, "a table of 8,192 numbers of 32 bits": the only code that reads its cells. docs/LAYOUT.md has their places.
 #![tactic(auto)]
 
-ghost use Rattle.std.specs.Prelude.{◌≡◌, ◌+◌, ◌*◌, ◌%◌, ◌≤◌, ◌<◌, length, position};
+ghost use Rattle.std.specs.Prelude.{◌≡◌, ◌+◌, ◌*◌, ◌%◌, ◌≤◌, ◌<◌, length, position, take, drop};
 ghost use Rattle.packed.specs.Below.Lists.{bytes_equal};
 ghost use Rattle.packed.specs.Below.Program.{meets};
 ghost use Rattle.packed.specs.Below.Cells.{Number};
 ghost use Rattle.packed.specs.Below.LayoutCells.{cell, uncode};
-ghost use Rattle.packed.specs.Below.Table.{number_by, text_by, instr_in, label_in, switch_in, entry_in, program_of};
+ghost use Rattle.packed.specs.Below.Table.{number_by, instr_in, label_in, switch_in, entry_in, program_of};
 ghost use Rattle.packed.specs.Packed.{table_of, Copied};
-ghost use Rattle.table.specs.Denote.{letter_of, letter_at};
-ghost use Rattle.table.specs.Reads.{Place, IsArgument, Operated, IsInstruction, Into, switch_first, switch_size, entry_ref, Keyed, Entries, entries_from};
+ghost use Rattle.table.specs.Denote.{letter_of, letter_at, ref_by, text_of};
+ghost use Rattle.table.specs.Reads.{Placed, Into, RefersTo, IsArgument, Operated, IsInstruction, switch_first, switch_size, entry_ref, Keyed, Entries, entries_from};
 ghost use Rattle.packed.specs.Below.Limits as limit;
 ghost use Rattle.packed.specs.Below.LayoutPlaces.{instruction_count, label_count, switch_count, entry_count, text_count, number_count, first_instruction};
 
@@ -18,7 +18,7 @@ use packed::from_cells;
 use packed::from_language::Machine;
 use packed::from_layout::TablePlaces;
 
-#[derive(Clone, Copy)]
+#[derive(Clone, Copy, Debug, PartialEq, Eq)]
 pub enum Letter {
     A,
     B,
@@ -34,22 +34,29 @@ pub enum Letter {
     Z,
 }
 
+// A text that an argument or an entry refers to: that of no character, one character, or a place in the table of texts.
+#[derive(Clone, Copy, Debug, PartialEq, Eq)]
+pub enum TextRef {
+    Empty,
+    Byte(u8),
+    Place(usize),
+}
+
 // "An argument is an indexed letter, a label, a class, a text, a number or nothing." A label and a switch are their places, a class is its
-// mask (L 1, D 2, B 4, R 8), and a number its value + 8,388,607. A text is its reference: 0 for none, its byte for one character, otherwise 256 and
-// its place in the table of texts.
-#[derive(Clone, Copy)]
+// mask (L 1, D 2, B 4, R 8), and a number its value + 8,388,607.
+#[derive(Clone, Copy, Debug, PartialEq, Eq)]
 pub enum Argument {
     Nothing,
     Indexed(Letter, usize),
     Label(usize),
     Switch(usize),
     Class(u8),
-    Text(usize),
+    Text(TextRef),
     Number(u32),
 }
 
 // What an instruction does, and its three arguments.
-#[derive(Clone, Copy)]
+#[derive(Clone, Copy, Debug, PartialEq, Eq)]
 pub struct Instruction {
     pub op: Operator,
     pub x: Argument,
@@ -57,12 +64,11 @@ pub struct Instruction {
     pub z: Argument,
 }
 
-// Cell `k`, and 0 past the table.
-fn cell_at(table: &[u32], k: usize) -> u32
-    requires { limit.table ≤ length table.now }
-    ensures { result ≡ cell (table_of table.now) k }
-{
-    table[..Machine::TABLE].get(k).copied().unwrap_or(0)
+// A table that is lent: its first 8,192 cells are read, others never.
+#[derive(Clone, Copy, Debug, PartialEq, Eq)]
+pub struct Table<'a> {
+    pub cells: &'a [u32],
+    ghost long: { limit.table ≤ length cells.now },
 }
 
 // The letter at a place among the twelve.
@@ -85,259 +91,282 @@ pub fn letter_by(n: u32) -> Letter
     }
 }
 
-// The value + 8,388,607 of a number that an argument refers to.
-fn number_by(table: &[u32], v: u32) -> u32
-    requires { limit.table ≤ length table.now }
-    ensures { uncode result ≡ number_by (table_of table.now) v }
-{
-    if v < 31 {
-        return v + 8388592;
-    }
-    cell_at(table, TablePlaces::FIRST_NUMBER + (v - 31) as usize)
-}
-
-// The argument in cell `k`.
-fn argument_at(table: &[u32], k: usize) -> Argument
-    requires { Place table.now k limit.table }
-    ensures { IsArgument (table_of table.now) k result }
-{
-    let x = table[k];
-    let v = x / 8;
-    match x % 8 {
-        1 => Argument::Indexed(letter_by(v / 64), (v % 64) as usize),
-        2 => Argument::Label(v as usize),
-        3 => Argument::Switch(v as usize),
-        4 => Argument::Class((v % 16) as u8),
-        5 => Argument::Text(v as usize),
-        6 => Argument::Number(number_by(table, v)),
-        _ => Argument::Nothing,
-    }
-}
-
-// A number in cell `k`.
-fn read(table: &[u32], k: usize) -> usize
-    requires { Place table.now k limit.table }
-    ensures { Number (cell (table_of table.now) k) 4294967296 result }
-{
-    from_cells::read(table, k)
-}
-
-// How many instructions, labels, switches, entries, texts and numbers the program has.
-// One reader each, of one line: a number for which count is wanted would be no plainer.
-pub fn instructions(table: &[u32]) -> usize
-    requires { limit.table ≤ length table.now }
-    ensures { Number (cell (table_of table.now) instruction_count) 4294967296 result }
-{
-    read(table, TablePlaces::INSTRUCTION_COUNT)
-}
-
-pub fn labels(table: &[u32]) -> usize
-    requires { limit.table ≤ length table.now }
-    ensures { Number (cell (table_of table.now) label_count) 4294967296 result }
-{
-    read(table, TablePlaces::LABEL_COUNT)
-}
-
-pub fn switches(table: &[u32]) -> usize
-    requires { limit.table ≤ length table.now }
-    ensures { Number (cell (table_of table.now) switch_count) 4294967296 result }
-{
-    read(table, TablePlaces::SWITCH_COUNT)
-}
-
-pub fn entries(table: &[u32]) -> usize
-    requires { limit.table ≤ length table.now }
-    ensures { Number (cell (table_of table.now) entry_count) 4294967296 result }
-{
-    read(table, TablePlaces::ENTRY_COUNT)
-}
-
-pub fn texts(table: &[u32]) -> usize
-    requires { limit.table ≤ length table.now }
-    ensures { Number (cell (table_of table.now) text_count) 4294967296 result }
-{
-    read(table, TablePlaces::TEXT_COUNT)
-}
-
-pub fn numbers(table: &[u32]) -> usize
-    requires { limit.table ≤ length table.now }
-    ensures { Number (cell (table_of table.now) number_count) 4294967296 result }
-{
-    read(table, TablePlaces::NUMBER_COUNT)
-}
-
-// The number of instruction `i`'s operator.
-pub fn operator(table: &[u32], i: usize) -> u8
-    requires { Place table.now i 512 }
-    ensures { Number (cell (table_of table.now) (first_instruction + 4 * i) % 64) 64 result }
-{
-    (read(table, TablePlaces::FIRST_INSTRUCTION + 4 * i) % 64) as u8
-}
-
-// The line of instruction `i`.
-pub fn line(table: &[u32], i: usize) -> usize
-    requires { Place table.now i 512 }
-    ensures { Number (instr_in (table_of table.now) i).line 67108864 result }
-{
-    read(table, TablePlaces::FIRST_INSTRUCTION + 4 * i) / 64
-}
-
-// The arguments of instruction `i`.
-// One reader each, of one line: a number for which argument is wanted would be no plainer.
-pub fn first(table: &[u32], i: usize) -> Argument
-    requires { Place table.now i 512 }
-    ensures { IsArgument (table_of table.now) (1 + (first_instruction + 4 * i)) result }
-{
-    argument_at(table, 1 + (TablePlaces::FIRST_INSTRUCTION + 4 * i))
-}
-
-fn second(table: &[u32], i: usize) -> Argument
-    requires { Place table.now i 512 }
-    ensures { IsArgument (table_of table.now) (2 + (first_instruction + 4 * i)) result }
-{
-    argument_at(table, 2 + (TablePlaces::FIRST_INSTRUCTION + 4 * i))
-}
-
-fn third(table: &[u32], i: usize) -> Argument
-    requires { Place table.now i 512 }
-    ensures { IsArgument (table_of table.now) (3 + (first_instruction + 4 * i)) result }
-{
-    argument_at(table, 3 + (TablePlaces::FIRST_INSTRUCTION + 4 * i))
-}
-
-// Instruction `i`, its operator and its arguments.
-pub fn instruction_at(table: &[u32], i: usize) -> Instruction
-    requires { Operated table.now i }
-    ensures { IsInstruction (table_of table.now) i result }
-{
-    Instruction {
-        op: Operator::try_from(operator(table, i)).unwrap(),
-        x: first(table, i),
-        y: second(table, i),
-        z: third(table, i),
-    }
-}
-
-// The instruction that label `k` stands at.
-pub fn target(table: &[u32], k: usize) -> usize
-    requires { Place table.now k 128 }
-    ensures { Number (label_in (table_of table.now) k).target 67108864 result }
-{
-    read(table, TablePlaces::FIRST_LABEL + 16 * k) / 64
-}
-
-// Whether the name of label `k` is `word`.
-// All that this and `text_is` share is a call of `packed::spells`: the first cell of a label has its instruction too.
-pub fn name_is(table: &[u32], k: usize, word: &[u8]) -> bool
-    requires { Place table.now k 128 }
-    ensures { result ≡ bytes_equal (label_in (table_of table.now) k).name word.now }
-{
-    let at = TablePlaces::FIRST_LABEL + 16 * k;
-    packed::spells(table, 1 + at, read(table, at) % 64, word)
-}
-
-// Whether a text is `word`.
-// The three ways of a reference stand here and in `put_text`, since each does something else with a text.
-pub fn text_is(table: &[u32], v: usize, word: &[u8]) -> bool
-    requires { Place table.now v 384 }
-    ensures { result ≡ bytes_equal (text_by (table_of table.now) v) word.now }
+// The text that a number in a cell refers to: 0 is none, a byte its character, and 256 and more a place.
+fn text_ref(v: u32) -> TextRef
+    ensures { result ≡ ref_by v }
 {
     if v == 0 {
-        return word.is_empty();
+        return TextRef::Empty;
     }
     if v < 256 {
-        return [v as u8].as_slice() == word;
+        return TextRef::Byte(v as u8);
     }
-    let k = v - 256;
-    packed::spells(
-        table,
-        TablePlaces::FIRST_TEXT + 1 + 16 * k,
-        read(table, TablePlaces::FIRST_TEXT + 16 * k),
-        word,
-    )
+    TextRef::Place((v - 256) as usize)
 }
 
-// Copies a text to the front of `out`.
-pub fn put_text(table: &[u32], v: usize, out: &mut [u8]) -> usize
-    requires { Into table.now v 384 (length out.old) }
-    ensures { Copied (text_by (table_of table.now) v) out.old out.new result }
-{
-    if v == 0 {
-        return 0;
+impl<'a> Table<'a> {
+    // Cell `k`, and 0 past the table.
+    fn cell_at(self, k: usize) -> u32
+        ensures { result ≡ cell (table_of self.entry.cells.now) k }
+    {
+        self.cells[..Machine::TABLE].get(k).copied().unwrap_or(0)
     }
-    if v < 256 {
-        out[0] = v as u8;
-        return 1;
+
+    // Cell `k` of the table.
+    fn cell(self, k: usize) -> u32
+        requires { k < limit.table }
+        ensures { result ≡ cell (table_of self.entry.cells.now) k }
+    {
+        self.cells[k]
     }
-    let k = v - 256;
-    packed::put_chars(
-        table,
-        TablePlaces::FIRST_TEXT + 1 + 16 * k,
-        read(table, TablePlaces::FIRST_TEXT + 16 * k),
-        out,
-    )
-}
 
-// Whether switch `k` is a NAZWA, the first of its entries, and how many it has.
-pub fn switch_by_name(table: &[u32], k: usize) -> bool
-    requires { Place table.now k 32 }
-    ensures { result ≡ (switch_in (table_of table.now) k).goes_by_name }
-{
-    read(table, TablePlaces::FIRST_SWITCH + k) % 2 == 1
-}
-
-pub fn switch_first(table: &[u32], k: usize) -> usize
-    requires { Place table.now k 32 }
-    ensures { Number (switch_first (table_of table.now) k) 8388608 result }
-{
-    read(table, TablePlaces::FIRST_SWITCH + k) / 512
-}
-
-pub fn switch_count(table: &[u32], k: usize) -> usize
-    requires { Place table.now k 32 }
-    ensures { Number (switch_size (table_of table.now) k) 256 result }
-{
-    read(table, TablePlaces::FIRST_SWITCH + k) / 2 % 256
-}
-
-// The label of entry `e`, and the reference of its text.
-pub fn entry_label(table: &[u32], e: usize) -> usize
-    requires { Place table.now e 128 }
-    ensures { Number (entry_in (table_of table.now) e).label 128 result }
-{
-    read(table, TablePlaces::FIRST_ENTRY + e) % 128
-}
-
-pub fn entry_text(table: &[u32], e: usize) -> usize
-    requires { Place table.now e 128 }
-    ensures { Number (entry_ref (table_of table.now) e) 33554432 result }
-{
-    read(table, TablePlaces::FIRST_ENTRY + e) / 128
-}
-
-// Whether entry `e` is met by `word`: by its label's name, or where it has a text by that.
-fn meets(table: &[u32], e: usize, word: &[u8]) -> bool
-    requires { Keyed table.now e }
-    ensures { result ≡ meets (program_of table.now) (entry_in (table_of table.now) e) word.now }
-{
-    let x = read(table, TablePlaces::FIRST_ENTRY + e);
-    let v = x / 128;
-    let named = name_is(table, x % 128, word);
-    if v == 0 {
-        return named;
+    // The 15 cells from cell `at` on, which have the characters of a name or a text.
+    fn row(self, at: usize) -> &'a [u32; 15]
+        requires { at + 15 ≤ limit.table }
+        ensures { result.now ≡ take 15 (drop at (table_of self.entry.cells.now)) }
+    {
+        self.cells[at..].first_chunk::<15>().unwrap()
     }
-    text_is(table, v, word) | named
-}
 
-// The first of the `count` entries from entry `first` on that is met by `word`, counted from `first`.
-pub fn find_entry(table: &[u32], first: usize, count: usize, word: &[u8]) -> Option<usize>
-    requires { Entries table.now first count }
-    ensures { result ≡ position (λ x. meets (program_of table.now) x word.now) (entries_from (table_of table.now) first count) }
-{
-    for k in 0..count {
-        if meets(table, first + k, word) {
-            return Some(k);
+    // The value + 8,388,607 of a number that an argument refers to.
+    fn number_by(self, v: u32) -> u32
+        ensures { uncode result ≡ number_by (table_of self.entry.cells.now) v }
+    {
+        if v < 31 {
+            return v + (Machine::SIZE - Machine::SMALL) as u32;
+        }
+        self.cell_at(TablePlaces::FIRST_NUMBER + (v - 31) as usize)
+    }
+
+    // The argument in cell `k`.
+    fn argument_at(self, k: usize) -> Argument
+        requires { k < limit.table }
+        ensures { IsArgument (table_of self.entry.cells.now) k result }
+    {
+        let x = self.cell(k);
+        let v = x / 8;
+        match x % 8 {
+            1 => Argument::Indexed(letter_by(v / 64), (v % 64) as usize),
+            2 => Argument::Label(v as usize),
+            3 => Argument::Switch(v as usize),
+            4 => Argument::Class((v % 16) as u8),
+            5 => Argument::Text(text_ref(v)),
+            6 => Argument::Number(self.number_by(v)),
+            _ => Argument::Nothing,
         }
     }
-    None
+
+    // A number in cell `k`.
+    fn read(self, k: usize) -> usize
+        requires { k < limit.table }
+        ensures { Number (cell (table_of self.entry.cells.now) k) 4294967296 result }
+    {
+        from_cells::read(self.cells, k)
+    }
+
+    // How many instructions, labels, switches, entries, texts and numbers the program has.
+    // One reader each, of one line: a number for which count is wanted would be no plainer.
+    pub fn instructions(self) -> usize
+        ensures { Number (cell (table_of self.entry.cells.now) instruction_count) 4294967296 result }
+    {
+        self.read(TablePlaces::INSTRUCTION_COUNT)
+    }
+
+    pub fn labels(self) -> usize
+        ensures { Number (cell (table_of self.entry.cells.now) label_count) 4294967296 result }
+    {
+        self.read(TablePlaces::LABEL_COUNT)
+    }
+
+    pub fn switches(self) -> usize
+        ensures { Number (cell (table_of self.entry.cells.now) switch_count) 4294967296 result }
+    {
+        self.read(TablePlaces::SWITCH_COUNT)
+    }
+
+    pub fn entries(self) -> usize
+        ensures { Number (cell (table_of self.entry.cells.now) entry_count) 4294967296 result }
+    {
+        self.read(TablePlaces::ENTRY_COUNT)
+    }
+
+    pub fn texts(self) -> usize
+        ensures { Number (cell (table_of self.entry.cells.now) text_count) 4294967296 result }
+    {
+        self.read(TablePlaces::TEXT_COUNT)
+    }
+
+    pub fn numbers(self) -> usize
+        ensures { Number (cell (table_of self.entry.cells.now) number_count) 4294967296 result }
+    {
+        self.read(TablePlaces::NUMBER_COUNT)
+    }
+
+    // The number of instruction `i`'s operator.
+    pub fn operator(self, i: usize) -> u8
+        requires { i < 512 }
+        ensures { Number (cell (table_of self.entry.cells.now) (first_instruction + 4 * i) % 64) 64 result }
+    {
+        (self.read(TablePlaces::FIRST_INSTRUCTION + 4 * i) % 64) as u8
+    }
+
+    // The line of instruction `i`.
+    pub fn line(self, i: usize) -> usize
+        requires { i < 512 }
+        ensures { Number (instr_in (table_of self.entry.cells.now) i).line 67108864 result }
+    {
+        self.read(TablePlaces::FIRST_INSTRUCTION + 4 * i) / 64
+    }
+
+    // The arguments of instruction `i`.
+    // One reader each, of one line: a number for which argument is wanted would be no plainer.
+    pub fn first(self, i: usize) -> Argument
+        requires { i < 512 }
+        ensures { IsArgument (table_of self.entry.cells.now) (1 + (first_instruction + 4 * i)) result }
+    {
+        self.argument_at(1 + (TablePlaces::FIRST_INSTRUCTION + 4 * i))
+    }
+
+    pub fn second(self, i: usize) -> Argument
+        requires { i < 512 }
+        ensures { IsArgument (table_of self.entry.cells.now) (2 + (first_instruction + 4 * i)) result }
+    {
+        self.argument_at(2 + (TablePlaces::FIRST_INSTRUCTION + 4 * i))
+    }
+
+    pub fn third(self, i: usize) -> Argument
+        requires { i < 512 }
+        ensures { IsArgument (table_of self.entry.cells.now) (3 + (first_instruction + 4 * i)) result }
+    {
+        self.argument_at(3 + (TablePlaces::FIRST_INSTRUCTION + 4 * i))
+    }
+
+    // Instruction `i`, its operator and its arguments.
+    pub fn instruction_at(self, i: usize) -> Instruction
+        requires { Operated self.cells.now i }
+        ensures { IsInstruction (table_of self.entry.cells.now) i result }
+    {
+        Instruction {
+            op: Operator::try_from(self.operator(i)).unwrap(),
+            x: self.first(i),
+            y: self.second(i),
+            z: self.third(i),
+        }
+    }
+
+    // The instruction that label `k` stands at.
+    pub fn target(self, k: usize) -> usize
+        requires { k < 128 }
+        ensures { Number (label_in (table_of self.entry.cells.now) k).target 67108864 result }
+    {
+        self.read(TablePlaces::FIRST_LABEL + 16 * k) / 64
+    }
+
+    // Whether the name of label `k` is `word`.
+    // All that this and `text_is` share is a call of `packed::spells`: the first cell of a label has its instruction too.
+    pub fn name_is(self, k: usize, word: &[u8]) -> bool
+        requires { k < 128 }
+        ensures { result ≡ bytes_equal (label_in (table_of self.entry.cells.now) k).name word.now }
+    {
+        let at = TablePlaces::FIRST_LABEL + 16 * k;
+        packed::spells(self.row(1 + at), self.read(at) % 64, word)
+    }
+
+    // Whether a text is `word`.
+    // The three ways of a reference stand here and in `put_text`, since each does something else with a text.
+    pub fn text_is(self, text: TextRef, word: &[u8]) -> bool
+        requires { Placed text }
+        ensures { result ≡ bytes_equal (text_of (table_of self.entry.cells.now) text) word.now }
+    {
+        match text {
+            TextRef::Empty => word.is_empty(),
+            TextRef::Byte(b) => [b].as_slice() == word,
+            TextRef::Place(k) => packed::spells(
+                self.row(TablePlaces::FIRST_TEXT + 1 + 16 * k),
+                self.read(TablePlaces::FIRST_TEXT + 16 * k),
+                word,
+            ),
+        }
+    }
+
+    // Copies a text to the front of `out`.
+    pub fn put_text(self, text: TextRef, out: &mut [u8]) -> usize
+        requires { Into text (length out.old) }
+        ensures { Copied (text_of (table_of self.entry.cells.now) text) out.old out.new result }
+    {
+        match text {
+            TextRef::Empty => 0,
+            TextRef::Byte(b) => {
+                out[0] = b;
+                1
+            }
+            TextRef::Place(k) => packed::put_chars(
+                self.row(TablePlaces::FIRST_TEXT + 1 + 16 * k),
+                self.read(TablePlaces::FIRST_TEXT + 16 * k),
+                out,
+            ),
+        }
+    }
+
+    // Whether switch `k` is a NAZWA, the first of its entries, and how many it has.
+    pub fn switch_by_name(self, k: usize) -> bool
+        requires { k < 32 }
+        ensures { result ≡ (switch_in (table_of self.entry.cells.now) k).goes_by_name }
+    {
+        self.read(TablePlaces::FIRST_SWITCH + k) % 2 == 1
+    }
+
+    pub fn switch_first(self, k: usize) -> usize
+        requires { k < 32 }
+        ensures { Number (switch_first (table_of self.entry.cells.now) k) 8388608 result }
+    {
+        self.read(TablePlaces::FIRST_SWITCH + k) / 512
+    }
+
+    pub fn switch_count(self, k: usize) -> usize
+        requires { k < 32 }
+        ensures { Number (switch_size (table_of self.entry.cells.now) k) 256 result }
+    {
+        self.read(TablePlaces::FIRST_SWITCH + k) / 2 % 256
+    }
+
+    // The label of entry `e`, and its text.
+    pub fn entry_label(self, e: usize) -> usize
+        requires { e < 128 }
+        ensures { Number (entry_in (table_of self.entry.cells.now) e).label 128 result }
+    {
+        self.read(TablePlaces::FIRST_ENTRY + e) % 128
+    }
+
+    pub fn entry_text(self, e: usize) -> TextRef
+        requires { e < 128 }
+        ensures { RefersTo (entry_ref (table_of self.entry.cells.now) e) 33554432 result }
+    {
+        text_ref(self.cell_at(TablePlaces::FIRST_ENTRY + e) / 128)
+    }
+
+    // Whether entry `e` is met by `word`: by its label's name, or where it has a text by that.
+    fn meets(self, e: usize, word: &[u8]) -> bool
+        requires { Keyed self.cells.now e }
+        ensures { result ≡ meets (program_of self.entry.cells.now) (entry_in (table_of self.entry.cells.now) e) word.now }
+    {
+        let named = self.name_is(self.entry_label(e), word);
+        match self.entry_text(e) {
+            TextRef::Empty => named,
+            text => self.text_is(text, word) | named,
+        }
+    }
+
+    // The first of the `count` entries from entry `first` on that is met by `word`, counted from `first`.
+    pub fn find_entry(self, first: usize, count: usize, word: &[u8]) -> Option<usize>
+        requires { Entries self.cells.now first count }
+        ensures { result ≡ position (λ x. meets (program_of self.entry.cells.now) x word.now) (entries_from (table_of self.entry.cells.now) first count) }
+    {
+        for k in 0..count {
+            if self.meets(first + k, word) {
+                return Some(k);
+            }
+        }
+        None
+    }
 }

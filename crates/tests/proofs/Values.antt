@@ -4,40 +4,39 @@ use mathlib.Core.Bool.{Bool, true, false, ◌||◌}
 use mathlib.Core.List.{List, [], ◌∷◌, map, append-nil}
 use Prim.Native.Nat.{ℕ, suc, ◌+◌, ◌-◌, ◌≤◌, ◌<◌}
 use native.Mathlib.Omega.{arith}
-use lib.IntN.{ℤ, pos, negsuc}
+use lib.IntN.{ℤ}
 use lib.ListN.{length, take, drop, length-take}
 use lib.Seq.{take_at}
-use borrow.Author.Tests.{le-leb, lt-leb, ne_eqb}
+use borrow.Author.Tests.{ne_eqb}
 use Rattle.std.specs.Prelude.{Result, Ok, Err}
 use Rattle.std.proofs.lemmas.Result.{IfOk-at_ok, IfOk-weaker}
-use Rattle.lists.specs.Lists.{any}
+use Rattle.lists.specs.Lists.{any, among}
 use Rattle.language.specs.Letters.Letter.{B, E, N, T}
 use Rattle.language.specs.Program.{Arg}
 use Rattle.language.specs.Program.Arg.{letter, class, text}
 use Rattle.language.specs.Values.{Component, Store, State, Inputs, value, kind, same}
-use Rattle.language.specs.Values.Component.{word, address}
+use Rattle.language.specs.Values.Component.{word}
 use Rattle.machine.specs.Arguments.{expr, none, present, ◌&◌, test_asks, number_of, up_to, on_parts}
-use Rattle.layout.specs.Bounds as bounds
 use Rattle.layout.specs.Bounds.{Encoded, WholeComponents}
-use Rattle.layout.proofs.CellLaws.{uncode-code}
 use Rattle.layout.specs.Cells.{cell, code, uncode}
-use Rattle.layout.proofs.ComponentLaws.{components_bytes-one, components-of, whole-components, components-none, next-component}
+use Rattle.layout.proofs.ComponentLaws.{components_bytes-one, components-of, whole-components, next-component}
 use Rattle.layout.specs.Components.{component_bytes, component_size, component_in, components_in}
 use Rattle.layout.specs.Table.{class_by}
 use Rattle.cells.specs.Cells.{pasted, Number}
-use Rattle.cells.proofs.Laws.{pasted-front, length-pasted}
+use Rattle.cells.proofs.Laws.{length-pasted}
 use Rattle.table.specs.Below.Packed.{Copied}
 use Rattle.state.specs.Working.{nth}
 use Rattle.state.specs.Blocks.{ExprLent}
-use Rattle.matching.specs.Tests.{first_chars, until_chars}
-use Rattle.matching.specs.declared.Test.{Test}
-use Rattle.matching.specs.declared.Test.TheVariants.{Count, Class, Among}
+use Rattle.matching.specs.Tests.{first_chars}
+use Rattle.tests.specs.declared.Prepared.TheVariants.{Count, Class, Among}
 use Rattle.matching.proofs.OnChars.{chars-class, chars-text, chars-one, chars-any}
 use Rattle.instructions.specs.Questions.{question_number, told_by}
 use Rattle.instructions.specs.declared.Question.{Question}
 use Rattle.instructions.specs.declared.Question.TheVariants.{Missing, Kind, Range}
 use Rattle.instructions.specs.Does.{stop_of}
-use Rattle.components.specs.Parts.{Leading}
+use Rattle.components.proofs.FirstLaws.{copied-front, low, high, front-value}
+use Rattle.state.proofs.Fronts.{none-there, one-there}
+use Rattle.table.specs.GoodLaws.{index_back}
 use Rattle.table.specs.Denote.{letter_of, arg_of}
 use Rattle.table.specs.Good.{GoodIndex}
 use Rattle.table.specs.declared.Argument.{Argument}
@@ -46,17 +45,11 @@ use Rattle.table.specs.declared.Letter.{Letter}
 use Rattle.tests.specs.Prepares.{LetterReadable, TestReadable, Beside, PutBeside, ReadTest, Prepares, NumberPrepares, CountPrepares}
 use Rattle.tests.specs.declared.Prepared.{Prepared}
 
-abbrev with_len : Test → ℕ → Prepared
-with_len t n = record { test = t; len = n }
-
 -- ---- the bytes beside a test
 
 -- the component in front of whole components
 pub front_fits : {l : List ℕ} {n : ℕ} → WholeComponents l → (length l ≡ 0 → ⊥) → Number (component_size (cell l 0)) 257 n → n ≤ length l
 front_fits {l} w z h = rw h.is (next-component w (omega (arith, z))).fits
-
-pub front_is : {l : List ℕ} → WholeComponents l → (length l ≡ 0 → ⊥) → components_in l ≡ component_in l ∷ components_in (drop (component_size (cell l 0)) l)
-front_is w z = (next-component w (omega (arith, z))).is
 
 pub front-encoded : {l : List ℕ} {n : ℕ} → WholeComponents l → (length l ≡ 0 → ⊥) → Number (component_size (cell l 0)) 257 n
     → Encoded (take n l) (take 1 (components_in l))
@@ -64,22 +57,8 @@ front-encoded {l} {n} w z h =
     let k = next-component w (omega (arith, z)) in
     rw (h.is, k.is) record { is = k.first ∙ sym (components_bytes-one (component_in l)); all_ok = (k.first_ok, tt) }
 
--- bytes copied to the front
-pub copied-front : (d : List ℕ) {d' v : List ℕ} {xs : List Component} (n : ℕ) → d' ≡ pasted d 0 v → length v ≡ n → Encoded v xs → Encoded (take n d') xs
-copied-front d {d'} {v} n e l c = rw (e, pasted-front d v n l) c
-
 pub word-encoded : (w : List ℕ) → 0 < length w → length w ≤ 60 → Encoded (component_bytes (word w)) (word w ∷ [])
 word-encoded w a b = record { is = sym (components_bytes-one (word w)); all_ok = ((a, omega arith), tt) }
-
--- ---- codes of numbers
-
-pub low : (n : ℕ) → n < 8388607 → uncode n ≡ negsuc (8388606 - n)
-unfolding uncode
-low n h = rw (lt-leb 8388607 n h) refl
-
-pub high : (n : ℕ) → 8388607 ≤ n → uncode n ≡ pos (n - 8388607)
-unfolding uncode
-high n h = rw (le-leb 8388607 n h) refl
 
 -- ---- the forms
 
@@ -124,28 +103,28 @@ module _ (s : Store) (g : List ℕ) where
           let a : question_number q ≡ stop_of (present (take 1 es)) = sym (ap told_by e) ∙ w.told in
           refused (nth B i) q (λ ins. a ∙ asks-first ins) (λ m. absurd (first-missing a m))
 
-      pub first-read : {n : ℕ} → r ≡ Ok n → Prepares s (nth B i) g (Ok (with_len Among n))
+      pub first-read : {n : ℕ} → r ≡ Ok n → Prepares s (nth B i) g (Ok (Among n))
       first-read {n} e =
           let h : Beside (take 1 es) g n = IfOk-at_ok (λ n. Beside (take 1 es) g n) e w.is in
           let c = h.encoded in
-          read (nth B i) (with_len Among n) (λ ins. sym (ap told_by e) ∙ w.told ∙ asks-first ins)
+          read (nth B i) (Among n) (λ ins. sym (ap told_by e) ∙ w.told ∙ asks-first ins)
           record {
             fitting = whole-components c;
             parts = λ ins. ap (λ ys. up_to (λ x. any (same x) ys)) (map_same (take 1 es) ∙ sym (components-of c));
-            chars = λ ins. chars-one ins s B (suc i) ∙ ap (λ ys. until_chars Among (first_chars ys)) (sym (components-of c));
+            chars = λ ins. chars-one ins s B (suc i) ∙ ap (λ ys. up_to (λ b. among b (first_chars ys))) (sym (components-of c));
             most = h.most;
             inside = h.inside;
           }
 
     -- T
-    pub any-read : {n : ℕ} → Beside es g n → Prepares s (nth T i) g (Ok (with_len Among n))
+    pub any-read : {n : ℕ} → Beside es g n → Prepares s (nth T i) g (Ok (Among n))
     any-read {n} h =
         let c = h.encoded in
-        read (nth T i) (with_len Among n) (λ ins. refl)
+        read (nth T i) (Among n) (λ ins. refl)
         record {
           fitting = whole-components c;
           parts = λ ins. ap (λ ys. up_to (λ x. any (same x) ys)) (map_same es ∙ sym (components-of c));
-          chars = λ ins. chars-any ins s T (suc i) ∙ ap (λ ys. until_chars Among (first_chars ys)) (sym (components-of c));
+          chars = λ ins. chars-any ins s T (suc i) ∙ ap (λ ys. up_to (λ b. among b (first_chars ys))) (sym (components-of c));
           most = h.most;
           inside = h.inside;
         }
@@ -173,31 +152,31 @@ module _ (s : Store) (g : List ℕ) where
   pub number_low : (n : ℕ) → n < 8388607 → Prepares s (Arg.number (uncode n)) g (Err Range)
   number_low n h = refused (Arg.number (uncode n)) Range (λ ins. rw (low n h) refl) (λ z ins. rw (low n h) refl)
 
-  pub number-high : (n : ℕ) → 8388607 ≤ n → Prepares s (Arg.number (uncode n)) g (Ok (with_len (Count (n - 8388607)) 0))
+  pub number-high : (n : ℕ) → 8388607 ≤ n → Prepares s (Arg.number (uncode n)) g (Ok (Count (n - 8388607)))
   number-high n h =
-      read (Arg.number (uncode n)) (with_len (Count (n - 8388607)) 0) (λ ins. rw (high n h) refl)
+      read (Arg.number (uncode n)) (Count (n - 8388607)) (λ ins. rw (high n h) refl)
       record { fitting = tt; parts = λ ins. rw (high n h) refl; chars = λ ins. rw (high n h) refl; most = omega arith; inside = omega arith }
 
   -- a class and a text
-  pub class-met : (c : List ℕ) (m : ℕ) → Prepares s (class (class_by c m)) g (Ok (with_len (Class m) 0))
+  pub class-met : (c : List ℕ) (m : ℕ) → Prepares s (class (class_by c m)) g (Ok (Class m))
   class-met c m =
-      read (class (class_by c m)) (with_len (Class m) 0) (λ ins. refl)
+      read (class (class_by c m)) (Class m) (λ ins. refl)
       record {
         fitting = tt;
         parts = λ ins. refl;
-        chars = λ ins. chars-class ins s m (first_chars (components_in (take 0 g)));
+        chars = λ ins. chars-class ins s m;
         most = omega arith;
         inside = omega arith;
       }
 
-  pub text-read : (w : List ℕ) {n : ℕ} → Beside (word w ∷ []) g n → Prepares s (text w) g (Ok (with_len Among n))
+  pub text-read : (w : List ℕ) {n : ℕ} → Beside (word w ∷ []) g n → Prepares s (text w) g (Ok (Among n))
   text-read w {n} h =
       let c = h.encoded in
-      read (text w) (with_len Among n) (λ ins. refl)
+      read (text w) (Among n) (λ ins. refl)
       record {
         fitting = whole-components c;
         parts = λ ins. ap up_to (fun_ext (λ x. or-false (same x (word w)))) ∙ ap (λ ys. up_to (λ x. any (same x) ys)) (sym (components-of c));
-        chars = λ ins. chars-text ins s w ∙ ap (λ ys. until_chars Among ys) (sym (append-nil (take 1 w)) ∙ ap first_chars (sym (components-of c)));
+        chars = λ ins. chars-text ins s w ∙ ap (λ ys. up_to (λ b. among b ys)) (sym (append-nil (take 1 w)) ∙ ap first_chars (sym (components-of c)));
         most = h.most;
         inside = h.inside;
       }
@@ -208,14 +187,8 @@ module _ {σ : State} {i : ℕ} {x : List ℕ} (l : ExprLent σ i x) where
   abbrev store : Store
   store = σ.store
 
-  pub none-there : length x ≡ 0 → expr store (nth E i) ≡ []
-  none-there z = sym l.is ∙ components-none x z
-
-  pub one-there : (length x ≡ 0 → ⊥) → expr store (nth E i) ≡ component_in x ∷ components_in (drop (component_size (cell x 0)) x)
-  one-there z = sym l.is ∙ front_is l.whole z
-
   pub first-none : {g : List ℕ} → length x ≡ 0 → PutBeside (present (take 1 (expr store (nth E i)))) (take 1 (expr store (nth E i))) g (Err Missing)
-  first-none z = record { told = rw (none-there z) refl; is = tt }
+  first-none z = record { told = rw (none-there l z) refl; is = tt }
 
   pub first-put : (length x ≡ 0 → ⊥) → {k : ℕ} → Number (component_size (cell x 0)) 257 k → (d : List ℕ) {d' : List ℕ} → d' ≡ pasted d 0 (take k x) → 32768 ≤ length d
       → PutBeside (present (take 1 (expr store (nth E i)))) (take 1 (expr store (nth E i))) d' (Ok k)
@@ -224,7 +197,7 @@ module _ {σ : State} {i : ℕ} {x : List ℕ} (l : ExprLent σ i x) where
       let v : length (take k x) ≡ k = simp length-take (omega (arith, f)) in
       let c : Encoded (take k x) (take 1 (expr store (nth E i))) = subst (λ (ys : List Component). Encoded (take k x) (take 1 ys)) l.is (front-encoded l.whole z h) in
       record {
-        told = rw (one-there z) refl;
+        told = rw (one-there l z) refl;
         is =
             record {
               encoded = copied-front d k q v c;
@@ -252,29 +225,12 @@ module _ {v o z : List ℕ} {r : ℕ} (h : Copied v o z r) where
         most = omega (arith, h.short);
       }
 
--- ---- the number in front
-
-value-back : (x : Component) → bounds.Ok x → kind x ≡ 1 → uncode (code (value x)) ≡ value x
-value-back (word w) h k = absurd (omega (arith, k))
-value-back (Component.number z) h k = uncode-code z h
-value-back (address n) h k = absurd (omega (arith, k))
-
-pub front-value : {l : List ℕ} {n : ℕ} → WholeComponents l → (length l ≡ 0 → ⊥) → kind (component_in l) ≡ 1
-    → Number (code (value (component_in l))) 16777216 n → uncode n ≡ value (component_in l)
-front-value {l} w z k h = rw h.is (value-back (component_in l) (next-component w (omega (arith, z))).first_ok k)
-
-pub leading : {l : List ℕ} → WholeComponents l → (length l ≡ 0 → ⊥) → Leading l
-leading w z = record { fits = (next-component w (omega (arith, z))).fits }
-
 pub count-told : {σ : State} {i : ℕ} {x : List ℕ} → ExprLent σ i x → (length x ≡ 0 → ⊥) → kind (component_in x) ≡ 1 → {k : ℕ}
     → Number (code (value (component_in x))) 16777216 k → {r : Result Prepared Question} → NumberPrepares k r → CountPrepares σ.store i r
 count-told {σ} {i} {x} l z q {k} h {r} w g =
     count-number σ.store g i (one-there l z) q (subst (λ (v : ℤ). Prepares σ.store (Arg.number v) g r) (front-value l.whole z q h) (w σ.store g))
 
 -- ---- letters
-
-pub index_back : {l : Letter} {k : ℕ} → GoodIndex l k → suc (k - 1) ≡ k
-index_back h = omega (arith, h.from)
 
 pub letter-told : {s : Store} {g : List ℕ} {r : Result Prepared Question} {l m : Letter} {k : ℕ} → l ≡ m → GoodIndex l k → Prepares s (nth (letter_of m) (k - 1)) g r
     → Prepares s (letter (letter_of l) k) g r

@@ -1,31 +1,47 @@
 // Reading the values of a test: "A move first reads its test's values".
 #![tactic(auto)]
 
-ghost use Rattle.std.specs.Prelude.{[], ◌∷◌, ◌<◌, take};
+ghost use Rattle.std.specs.Prelude.{[], ◌∷◌, ◌<◌, ◌≤◌, length, take};
 ghost use Rattle.language.specs.Letters as letters;
 ghost use Rattle.language.specs.Limits as limit;
 ghost use Rattle.language.specs.Program.Arg.{letter};
 ghost use Rattle.language.specs.Values as values;
 ghost use Rattle.machine.specs.Arguments.{expr, present};
-ghost use Rattle.layout.specs.Table.{text_by};
 ghost use Rattle.table.specs.Below.Packed.{table_of};
 ghost use Rattle.state.specs.Working.{nth};
-ghost use Rattle.table.specs.Denote.{letter_of, arg_of};
-ghost use Rattle.tests.specs.Prepares.{LetterReadable, TextReadable, TestReadable, Beside, PutBeside, Prepares, NumberPrepares, CountPrepares};
+ghost use Rattle.table.specs.Good.{GoodText};
+ghost use Rattle.table.specs.Denote.{letter_of, arg_of, text_of};
+ghost use Rattle.tests.specs.Prepares.{LetterReadable, TestReadable, Beside, PutBeside, Prepares, beside_size, TestOf, NumberPrepares, CountPrepares};
 
+use components::{Kind, ZERO};
 use instructions::Question;
 use matching::Test;
 use state::Working;
+use table::{Table, TextRef};
 
-// The code of 0.
-const ZERO: usize = 8388607;
+// A test as its argument makes it. What `Among` compares with are the components in the first bytes of the row `given`, so many.
+// A count and no slice: the row is a field of the bench, which the caller keeps.
+#[derive(Clone, Copy, Debug, PartialEq, Eq)]
+pub enum Prepared {
+    All,
+    Count(usize),
+    Class(u8),
+    Among(usize),
+}
 
-// A test, with the first `len` bytes of the row `given` beside it.
-// A length, not a slice: the row is a field of the bench, which the caller keeps.
-#[derive(Clone, Copy)]
-pub struct Prepared {
-    pub test: Test,
-    pub len: usize,
+impl Prepared {
+    // The test, with the row that its bytes stand in.
+    pub fn with(self, given: &[u8]) -> Test<'_>
+        requires { beside_size self ≤ length given.now }
+        ensures { TestOf self given.now result }
+    {
+        match self {
+            Prepared::All => Test::All,
+            Prepared::Count(n) => Test::Count(n),
+            Prepared::Class(mask) => Test::Class(mask),
+            Prepared::Among(n) => Test::Among(&given[..n]),
+        }
+    }
 }
 
 // Puts the first component of expression `i` in front of `given`.
@@ -53,12 +69,12 @@ pub fn put_all(state: &Working, given: &mut [u8; 32768], i: usize) -> usize
 }
 
 // Puts a text as a word in front of `given`.
-pub fn put_text(table: &[u32], given: &mut [u8; 32768], v: usize) -> usize
-    requires { TextReadable table.now v }
-    ensures { Beside (values.Component.word (text_by (table_of table.now) v) ∷ []) given.new result }
+pub fn put_text(table: Table, given: &mut [u8; 32768], text: TextRef) -> usize
+    requires { GoodText table.cells.now text }
+    ensures { Beside (values.Component.word (text_of (table_of table.entry.cells.now) text) ∷ []) given.new result }
 {
     let mut w = [0u8; 60];
-    let n = table::put_text(table, v, &mut w);
+    let n = table.put_text(text, &mut w);
     components::put_word(given, 0, &w[..n]);
     1 + n
 }
@@ -69,10 +85,7 @@ fn prepare_first(state: &Working, given: &mut [u8; 32768], i: usize) -> Result<P
     ensures { Prepares state.now.store (nth letters.Letter.B i) given.new result }
 {
     let len = put_first(state, given, i)?;
-    Ok(Prepared {
-        test: Test::Among,
-        len,
-    })
+    Ok(Prepared::Among(len))
 }
 
 // The number of this code as a count.
@@ -82,10 +95,7 @@ fn prepare_number(code: usize) -> Result<Prepared, Question>
     if code < ZERO {
         return Err(Question::Range);
     }
-    Ok(Prepared {
-        test: Test::Count(code - ZERO),
-        len: 0,
-    })
+    Ok(Prepared::Count(code - ZERO))
 }
 
 // N: the first component of expression `i` as a count.
@@ -97,7 +107,7 @@ fn prepare_count(state: &Working, i: usize) -> Result<Prepared, Question>
     if x.len() == 0 {
         return Err(Question::Missing);
     }
-    if components::kind_of(x) != 1 {
+    if components::kind_of(x) != Kind::Number {
         return Err(Question::Kind);
     }
     prepare_number(components::number_of(x))
@@ -116,41 +126,29 @@ fn prepare_letter(
     let i = n - 1;
     match l {
         table::Letter::N => prepare_count(state, i),
-        table::Letter::T => Ok(Prepared {
-            test: Test::Among,
-            len: put_all(state, given, i),
-        }),
+        table::Letter::T => Ok(Prepared::Among(put_all(state, given, i))),
         _ => prepare_first(state, given, i),
     }
 }
 
 // What a test's argument asks (52, 53, 54), and the test that it makes. The bytes beside it are put in front of `given`.
 pub fn prepare(
-    table: &[u32],
+    table: Table,
     state: &Working,
     given: &mut [u8; 32768],
     arg: table::Argument,
 ) -> Result<Prepared, Question>
-    requires { TestReadable table.now arg }
-    ensures { Prepares state.now.store (arg_of (table_of table.now) arg) given.new result }
+    requires { TestReadable table.cells.now arg }
+    ensures { Prepares state.now.store (arg_of (table_of table.entry.cells.now) arg) given.new result }
 {
     match arg {
         table::Argument::Indexed(l, n) => prepare_letter(state, given, l, n),
-        table::Argument::Class(mask) => Ok(Prepared {
-            test: Test::Class(mask),
-            len: 0,
-        }),
-        table::Argument::Text(v) => Ok(Prepared {
-            test: Test::Among,
-            len: put_text(table, given, v),
-        }),
+        table::Argument::Class(mask) => Ok(Prepared::Class(mask)),
+        table::Argument::Text(text) => Ok(Prepared::Among(put_text(table, given, text))),
         // From does not turn a u32 into a usize.
         table::Argument::Number(v) => prepare_number(v as usize),
         table::Argument::Nothing | table::Argument::Label(_) | table::Argument::Switch(_) => {
-            Ok(Prepared {
-                test: Test::All,
-                len: 0,
-            })
+            Ok(Prepared::All)
         }
     }
 }

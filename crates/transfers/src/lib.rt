@@ -61,7 +61,7 @@ pub fn wstaw(bench: &mut Bench, source: Source, turned: bool, j: usize) -> Resul
         bench.state.set_plus(false);
         return Ok(());
     }
-    let t = matching::count(x, matching::Test::All, x);
+    let t = matching::count(x, matching::Test::All);
     let parts = t.parts;
     let chars = t.chars;
     room_for(
@@ -100,9 +100,9 @@ pub fn pobierz(bench: &mut Bench, source: Source, target: Target) -> Result<(), 
         bench.state.set_plus(false);
         return Ok(());
     }
-    let x = records::contents_at(f, 0);
+    let x = records::contents_of(f);
     let n = x.len();
-    let t = matching::count(x, matching::Test::All, x);
+    let t = matching::count(x, matching::Test::All);
     let parts = t.parts;
     let chars = t.chars;
     if !instructions::has_room(

@@ -3,27 +3,23 @@ use mathlib.Core.Path.{ap, ◌∙◌}
 use native.Mathlib.Omega.{arith}
 use lib.ListN.{length}
 use Rattle.cells.specs.Below.LanguageValues.{chars}
-use Rattle.cells.proofs.Below.ComponentLaws.{one_of}
-use Rattle.components.proofs.Walks.{step}
+use Rattle.components.proofs.Fronts.{leading-one}
+use Rattle.components.proofs.Walks.{front_one, cells-long, front_some}
 use Rattle.components.proofs.Makings.{gathering-room, gathering-next, gathering-all}
 use Rattle.components.proofs.join.Goals as goal
 
-pub slice_bounds-chars_of-end : goal.slice_bounds-chars_of-end
-slice_bounds-chars_of-end c =
-    let s = step c.loop-at.invariant.rest c.loop-at-test.true c.size_by.ensures in
-    s.fits
+pub chars_of-w-requires : goal.chars_of-w-requires
+chars_of-w-requires c = let f = c.in-Some.ensures in leading-one f.one
 
 pub put-requires : goal.put-requires
 put-requires c =
-    let h = c.loop-at in
-    let s = step h.invariant.rest c.loop-at-test.true c.size_by.ensures in
-    omega (arith, gathering-room h.invariant c.requires.room s, ap length (c.chars_of-w.ensures.is ∙ ap chars (one_of s.one)))
+    omega (arith, gathering-room c.loop-x.invariant c.requires.room c.in-Some.ensures, ap length (c.chars_of-w.ensures.is ∙ ap chars (front_one c.in-Some.ensures)))
 
-pub loop-at-preserved : goal.loop-at-preserved
-loop-at-preserved c =
-    let h = c.loop-at in
-    let s = step h.invariant.rest c.loop-at-test.true c.size_by.ensures in
-    gathering-next h.invariant c.requires.room s (c.chars_of-w.ensures.is ∙ ap chars (one_of s.one)) c.put.ensures
+pub loop-x-smaller : goal.loop-x-smaller
+loop-x-smaller c = omega (arith, cells-long c.in-Some.ensures, front_some c.in-Some.ensures)
+
+pub loop-x-preserved : goal.loop-x-preserved
+loop-x-preserved c = gathering-next c.loop-x.invariant c.requires.room c.in-Some.ensures (c.chars_of-w.ensures.is ∙ ap chars (front_one c.in-Some.ensures)) c.put.ensures
 
 pub returns : goal.returns
-returns c = gathering-all c.loop-at.invariant c.requires.room c.loop-at-test.false
+returns c = gathering-all c.loop-x.invariant c.requires.room c.in_default.ensures

@@ -1,12 +1,11 @@
 -- `components::join` meets its contract.
-use Prim.Native.Nat.{◌-◌}
 use lib.ListN.{length}
 use Rattle.cells.specs.Below.LanguageValues.{chars}
 use Rattle.components.proofs.Makings.{Gathering}
 use Rattle.components.proofs.join.Given as goal
 
-abbrev pub invariant-loop-at : goal.invariant-loop-at
-invariant-loop-at l = Gathering chars l.initial.out l.src l.out l.n l.at
+abbrev pub invariant-loop-x : goal.invariant-loop-x
+invariant-loop-x l = Gathering chars l.initial.out l.src l.out l.n l.left
 
-abbrev pub decreases-loop-at : goal.decreases-loop-at
-decreases-loop-at l = length l.src - l.at
+abbrev pub decreases-loop-x : goal.decreases-loop-x
+decreases-loop-x l = length l.left

@@ -1,15 +1,14 @@
 -- `components::kind_of` meets its contract.
 use mathlib.Core.Path.{refl, sym, ◌∙◌}
-use native.Mathlib.Omega.{arith}
 use borrow.Author.Tests.{eq-eqb, ne_eqb}
 use Rattle.components.proofs.Fronts.{front-kind}
 use Rattle.components.proofs.kind_of.Goals as goal
 
 pub returns-then-x-ne0 : goal.returns-then-x-ne0
-returns-then-x-ne0 c = record { is = sym (front-kind c.args.x.now ∙ rw (ne_eqb _ _ c.if-x-ne0.true) refl); most = omega arith }
+returns-then-x-ne0 c = sym (front-kind c.args.x.now ∙ rw (ne_eqb _ _ c.if-x-ne0.true) refl)
 
 pub returns-then-x-eq1 : goal.returns-then-x-eq1
-returns-then-x-eq1 c = record { is = sym (front-kind c.args.x.now ∙ rw (eq-eqb _ _ c.if-x-ne0.false, eq-eqb _ _ c.if-x-eq1.true) refl); most = omega arith }
+returns-then-x-eq1 c = sym (front-kind c.args.x.now ∙ rw (eq-eqb _ _ c.if-x-ne0.false, eq-eqb _ _ c.if-x-eq1.true) refl)
 
 pub returns : goal.returns
-returns c = record { is = sym (front-kind c.args.x.now ∙ rw (eq-eqb _ _ c.if-x-ne0.false, ne_eqb _ _ c.if-x-eq1.false) refl); most = omega arith }
+returns c = sym (front-kind c.args.x.now ∙ rw (eq-eqb _ _ c.if-x-ne0.false, ne_eqb _ _ c.if-x-eq1.false) refl)

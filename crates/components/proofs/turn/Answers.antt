@@ -1,29 +1,17 @@
 -- `components::turn` meets its contract.
 use native.Mathlib.Omega.{arith}
-use Rattle.components.proofs.Walks.{step}
+use Rattle.components.proofs.Walks.{cells-long, front_some}
 use Rattle.components.proofs.Makings.{turning-none, turning-next, turning-all}
 use Rattle.components.proofs.turn.Goals as goal
 
-pub loop-at-init : goal.loop-at-init
-loop-at-init c =
-    let a = c.args in
-    turning-none a.out.now a.src.now c.requires.whole
+pub loop-x-init : goal.loop-x-init
+loop-x-init c = turning-none c.args.out.now c.args.src.now c.requires.whole
 
-pub overflow_sub-n : goal.overflow_sub-n
-overflow_sub-n c =
-    let s = step c.loop-at.invariant.rest c.loop-at-test.true c.size_by.ensures in
-    omega (arith, s.fits)
+pub loop-x-smaller : goal.loop-x-smaller
+loop-x-smaller c = omega (arith, cells-long c.in-Some.ensures, front_some c.in-Some.ensures)
 
-pub slice_bounds-put-end : goal.slice_bounds-put-end
-slice_bounds-put-end c =
-    let s = step c.loop-at.invariant.rest c.loop-at-test.true c.size_by.ensures in
-    omega (arith, s.fits)
-
-pub loop-at-preserved : goal.loop-at-preserved
-loop-at-preserved c =
-    let h = c.loop-at in
-    let s = step h.invariant.rest c.loop-at-test.true c.size_by.ensures in
-    turning-next h.invariant s c.requires.room (omega arith) c.put.ensures
+pub loop-x-preserved : goal.loop-x-preserved
+loop-x-preserved c = turning-next c.loop-x.invariant c.requires.room c.in-Some.ensures (omega arith) c.put.ensures
 
 pub returns : goal.returns
-returns c = turning-all c.loop-at.invariant c.loop-at-test.false
+returns c = turning-all c.loop-x.invariant c.requires.room c.in_default.ensures

@@ -1,10 +1,10 @@
 -- `components::turn` meets its contract.
-use Prim.Native.Nat.{◌-◌}
+use lib.ListN.{length}
 use Rattle.components.proofs.Makings.{Turning}
 use Rattle.components.proofs.turn.Given as goal
 
-abbrev pub invariant-loop-at : goal.invariant-loop-at
-invariant-loop-at l = Turning l.initial.out l.src l.n l.out l.at
+abbrev pub invariant-loop-x : goal.invariant-loop-x
+invariant-loop-x l = Turning l.initial.out l.src l.out l.left
 
-abbrev pub decreases-loop-at : goal.decreases-loop-at
-decreases-loop-at l = l.n - l.at
+abbrev pub decreases-loop-x : goal.decreases-loop-x
+decreases-loop-x l = length l.left

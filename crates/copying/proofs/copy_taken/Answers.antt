@@ -5,34 +5,37 @@ use Rattle.instructions.proofs.Asking.{some}
 use Rattle.copying.proofs.Taking.{front, droppable, copy-stop, copyable, copy-writable, copy_done}
 use Rattle.copying.proofs.copy_taken.Goals as goal
 
+pub count-t-requires : goal.count-t-requires
+count-t-requires c = record { whole = c.after_bytes-f.ensures.whole; fitting = c.with.ensures.fitting c.requires.fitting }
+
 pub totals_of-v-requires : goal.totals_of-v-requires
-totals_of-v-requires c = whole-records (front c.args.bench.now.state c.requires.droppable.source c.after_bytes-f.ensures c.count-t.ensures)
+totals_of-v-requires c = whole-records (front c.args.bench.now.state c.requires.source c.after_bytes-f.ensures (rw c.with.ensures.records at c.count-t.ensures))
 
 pub returns-in_err-room_for : goal.returns-in_err-room_for
 returns-in_err-room_for c =
     let a = c.args in
     let e = err_from_is_err_and c.from_residual.result c.from_residual.ensures.1 in
     rw (e.1, e.2)
-    (copy-stop a.bench.now.state c.requires.droppable.source c.after_bytes-f.ensures c.count-t.ensures c.totals_of-v.ensures c.stands.ensures a.source.removes a.reverses c.requires.target
+    (copy-stop a.bench.now.state c.requires.source c.after_bytes-f.ensures (rw c.with.ensures.records at c.count-t.ensures) c.totals_of-v.ensures c.stands.ensures a.source.removes a.reverses c.requires.target
     c.left.ensures c.left-2.ensures c.left-3.ensures c.in_err-room_for.ensures (some _))
 
 pub restamp-requires : goal.restamp-requires
 restamp-requires c =
     let a = c.args in
-    copyable a.bench.now.state c.requires.droppable.source c.after_bytes-f.ensures c.count-t.ensures c.totals_of-v.ensures c.stands.ensures a.source.removes a.reverses c.requires.target
+    copyable a.bench.now.state c.requires.source c.after_bytes-f.ensures (rw c.with.ensures.records at c.count-t.ensures) c.totals_of-v.ensures c.stands.ensures a.source.removes a.reverses c.requires.target
     c.left.ensures c.left-2.ensures c.left-3.ensures c.in_ok-room_for.ensures c.number-last.ensures.is (search)
 
 pub past_records-requires : goal.past_records-requires
-past_records-requires c = droppable c.args.bench.now.state c.requires.droppable.source c.after_bytes-f.ensures c.count-t.ensures c.totals_of-v.ensures
+past_records-requires c = droppable c.args.bench.now.state c.requires.source c.after_bytes-f.ensures (rw c.with.ensures.records at c.count-t.ensures) c.totals_of-v.ensures
 
 pub file_copies-requires : goal.file_copies-requires
 file_copies-requires c =
     let a = c.args in
-    copy-writable a.bench.now.state c.requires.droppable.source c.after_bytes-f.ensures c.count-t.ensures c.totals_of-v.ensures c.stands.ensures a.source.removes a.reverses c.requires.target
+    copy-writable a.bench.now.state c.requires.source c.after_bytes-f.ensures (rw c.with.ensures.records at c.count-t.ensures) c.totals_of-v.ensures c.stands.ensures a.source.removes a.reverses c.requires.target
     c.left.ensures c.left-2.ensures c.left-3.ensures c.in_ok-room_for.ensures c.number-last.ensures.is a.bench.now.hold c.restamp.ensures c.past_records.ensures
 
 pub returns : goal.returns
 returns c =
     let a = c.args in
-    copy_done a.bench.now.state c.requires.droppable.source c.after_bytes-f.ensures c.count-t.ensures c.totals_of-v.ensures c.stands.ensures a.source.removes a.reverses c.requires.target
+    copy_done a.bench.now.state c.requires.source c.after_bytes-f.ensures (rw c.with.ensures.records at c.count-t.ensures) c.totals_of-v.ensures c.stands.ensures a.source.removes a.reverses c.requires.target
     c.left.ensures c.left-2.ensures c.left-3.ensures c.in_ok-room_for.ensures c.number-last.ensures.is a.bench.now.hold c.restamp.ensures c.past_records.ensures c.file_copies.ensures

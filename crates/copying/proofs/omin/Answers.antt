@@ -8,7 +8,7 @@ use Rattle.copying.proofs.omin.Goals as goal
 pub returns-in_err-q : goal.returns-in_err-q
 returns-in_err-q c =
     let e = err_from_is_err_and c.from_residual.result c.from_residual.ensures.1 in
-    rw (e.1, e.2) (omin-stop c.stands.ensures c.args.i (arg_of (table_of c.args.table.now) c.args.arg) c.prepare.ensures c.in_err-q.was)
+    rw (e.1, e.2) (omin-stop c.stands.ensures c.args.i (arg_of (table_of c.args.table.cells.now) c.args.arg) c.prepare.ensures c.in_err-q.was)
 
 pub returns : goal.returns
-returns c = omin-done c.stands.ensures c.args.i (arg_of (table_of c.args.table.now) c.args.arg) c.prepare.ensures c.in_ok-q.was c.pass_taken.ensures
+returns c = omin-done c.stands.ensures c.args.i (arg_of (table_of c.args.table.cells.now) c.args.arg) c.prepare.ensures c.in_ok-q.was (rw c.with.ensures.records at c.pass_taken.ensures)

@@ -3,7 +3,7 @@ use mathlib.Core.List.{[]}
 use Rattle.std.proofs.lemmas.Result.{err_from_is_err_and}
 use Rattle.layout.proofs.ComponentLaws.{whole-components}
 use Rattle.packed.specs.Packed.{table_of}
-use Rattle.tests.proofs.Values.{leading}
+use Rattle.components.proofs.FirstLaws.{leading}
 use Rattle.equality.proofs.Meeting.{filled-there}
 use Rattle.equality.proofs.Questions.{beside, leading-other}
 use Rattle.equality.proofs.Rows.{rw_none, rw-stop, rw-unlike, rw-done}
@@ -12,13 +12,13 @@ use Rattle.equality.proofs.rw_one.Goals as goal
 pub returns-then-x-eq0 : goal.returns-then-x-eq0
 returns-then-x-eq0 c =
     let x = c.expr_bytes-x.ensures in
-    rw_none x.stands c.args.source.removes c.args.source.i c.args.table.now c.args.arg c.put_comparand-held.ensures x c.if-x-eq0.true
+    rw_none x.stands c.args.source.removes c.args.source.i c.args.table.cells.now c.args.arg c.put_comparand-held.ensures x c.if-x-eq0.true
 
 pub returns-in_err-len : goal.returns-in_err-len
 returns-in_err-len c =
     let e = err_from_is_err_and c.from_residual.result c.from_residual.ensures.1 in
     let x = c.expr_bytes-x.ensures in
-    rw (e.1, e.2) (rw-stop x.stands c.args.source.removes c.args.source.i c.args.table.now c.args.arg c.put_comparand-held.ensures x c.if-x-eq0.false c.in_err-len.was)
+    rw (e.1, e.2) (rw-stop x.stands c.args.source.removes c.args.source.i c.args.table.cells.now c.args.arg c.put_comparand-held.ensures x c.if-x-eq0.false c.in_err-len.was)
 
 pub shared_ref_as_front-unlike : goal.shared_ref_as_front-unlike
 shared_ref_as_front-unlike c = (beside (c.put_comparand-held.ensures []) c.in_ok-len.was).most
@@ -28,14 +28,14 @@ unlike-requires c =
     let argsᶜ = c.args in
     record {
       left = leading c.expr_bytes-x.ensures.whole c.if-x-eq0.false;
-      right = λ m. leading-other argsᶜ.table.now argsᶜ.bench.now.state.store argsᶜ.arg c.put_comparand-held.ensures c.in_ok-len.was [] (m (table_of argsᶜ.table.now));
+      right = λ m. leading-other argsᶜ.table.cells.now argsᶜ.bench.now.state.store argsᶜ.arg c.put_comparand-held.ensures c.in_ok-len.was [] (m (table_of argsᶜ.table.cells.now));
       form = c.requires.other.form;
     }
 
 pub returns-then-unlike : goal.returns-then-unlike
 returns-then-unlike c =
     let x = c.expr_bytes-x.ensures in
-    rw-unlike x.stands c.args.source.removes c.args.source.i c.args.table.now c.args.arg c.put_comparand-held.ensures x c.if-x-eq0.false c.in_ok-len.was c.unlike.ensures c.if-unlike.true
+    rw-unlike x.stands c.args.source.removes c.args.source.i c.args.table.cells.now c.args.arg c.put_comparand-held.ensures x c.if-x-eq0.false c.in_ok-len.was c.unlike.ensures c.if-unlike.true
 
 pub shared_ref_as_front-settle : goal.shared_ref_as_front-settle
 shared_ref_as_front-settle c = (beside (c.put_comparand-held.ensures []) c.in_ok-len.was).most
@@ -51,4 +51,4 @@ settle-requires c =
 pub returns : goal.returns
 returns c =
     let x = c.expr_bytes-x.ensures in
-    rw-done x.stands c.args.source.removes c.args.source.i c.args.table.now c.args.arg c.put_comparand-held.ensures x c.if-x-eq0.false c.in_ok-len.was c.unlike.ensures c.if-unlike.false c.settle.ensures
+    rw-done x.stands c.args.source.removes c.args.source.i c.args.table.cells.now c.args.arg c.put_comparand-held.ensures x c.if-x-eq0.false c.in_ok-len.was c.unlike.ensures c.if-unlike.false c.settle.ensures

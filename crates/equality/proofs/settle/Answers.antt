@@ -1,7 +1,7 @@
 -- `equality::settle` meets its contract.
 use Rattle.layout.proofs.ComponentLaws.{whole-components}
-use Rattle.tests.proofs.Values.{leading}
-use Rattle.equality.proofs.Meeting.{some-there, first-long, first-whole, first-parts, settled-done, fitting-by}
+use Rattle.components.proofs.FirstLaws.{leading}
+use Rattle.equality.proofs.Meeting.{some-there, first-long, first-whole, first-parts, settled-done}
 use Rattle.equality.proofs.settle.Goals as goal
 
 pub slice_bounds-count-end : goal.slice_bounds-count-end
@@ -14,7 +14,7 @@ count-t-requires c =
     let x = c.expr_bytes-x.ensures in
     record {
       whole = whole-components (first-whole x (some-there x c.requires.some) c.first_size-n.ensures);
-      fitting = fitting-by c.args.arg c.args.given.now c.test_of.ensures c.requires.whole;
+      fitting = c.test_of.ensures.fitting c.requires.whole;
     }
 
 pub chars_of-letters-requires : goal.chars_of-letters-requires
@@ -30,4 +30,4 @@ finish-requires c =
 pub returns : goal.returns
 returns c =
     let x = c.expr_bytes-x.ensures in
-    settled-done x (some-there x c.requires.some) c.first_size-n.ensures c.args.arg c.args.given.now c.test_of.ensures c.count-t.ensures c.args.source.removes c.finish.ensures
+    settled-done x (some-there x c.requires.some) c.first_size-n.ensures c.args.arg c.args.given.now (rw c.test_of.ensures.parts at c.count-t.ensures) c.args.source.removes c.finish.ensures

@@ -8,7 +8,7 @@ use Rattle.joining.proofs.zbij.Goals as goal
 pub returns-in_err-test : goal.returns-in_err-test
 returns-in_err-test c =
     let e = err_from_is_err_and c.from_residual.result c.from_residual.ensures.1 in
-    rw (e.1, e.2) (zbij-stop c.stands.ensures c.args.source.removes c.args.source.i (arg_of (table_of c.args.table.now) c.args.arg) c.prepare.ensures c.in_err-test.was)
+    rw (e.1, e.2) (zbij-stop c.stands.ensures c.args.source.removes c.args.source.i (arg_of (table_of c.args.table.cells.now) c.args.arg) c.prepare.ensures c.in_err-test.was)
 
 pub returns : goal.returns
-returns c = zbij-tried c.stands.ensures c.args.source.removes c.args.source.i (arg_of (table_of c.args.table.now) c.args.arg) c.prepare.ensures c.in_ok-test.was c.join_up.ensures
+returns c = zbij-tried c.stands.ensures c.args.source.removes c.args.source.i (arg_of (table_of c.args.table.cells.now) c.args.arg) c.prepare.ensures c.in_ok-test.was c.join_up.ensures

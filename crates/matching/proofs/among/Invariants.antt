@@ -1,15 +1,14 @@
 -- `matching::among` meets its contract.
 use mathlib.Core.Path.{◌≡◌}
-use Prim.Native.Nat.{◌≤◌, ◌-◌}
-use lib.ListN.{length, drop}
+use lib.ListN.{length}
 use Rattle.characters.specs.Below.Lists.{any}
 use Rattle.components.specs.Below.LanguageValues.{same}
 use Rattle.components.specs.Below.LayoutBounds.{WholeComponents}
 use Rattle.components.specs.Below.Components.{component_in, components_in}
 use Rattle.matching.proofs.among.Given as goal
 
-abbrev pub invariant-loop-at : goal.invariant-loop-at
-invariant-loop-at l = (l.at ≤ length l.given) × WholeComponents (drop l.at l.given) × (any (same (component_in l.x)) (components_in l.given) ≡ any (same (component_in l.x)) (components_in (drop l.at l.given)))
+abbrev pub invariant-loop-y : goal.invariant-loop-y
+invariant-loop-y l = WholeComponents l.left × (any (same (component_in l.x)) (components_in l.given) ≡ any (same (component_in l.x)) (components_in l.left))
 
-abbrev pub decreases-loop-at : goal.decreases-loop-at
-decreases-loop-at l = length l.given - l.at
+abbrev pub decreases-loop-y : goal.decreases-loop-y
+decreases-loop-y l = length l.left

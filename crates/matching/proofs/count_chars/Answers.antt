@@ -15,4 +15,4 @@ returns-in-Class c = rw (c.in-Class.is, c.taken_to.ensures) (chars-met c.args.s.
 
 pub returns-in-Among : goal.returns-in-Among
 returns-in-Among c =
-    rw (c.in-Among.is, c.taken_to-in-Among.ensures) (chars-met c.args.s.now _ (λ b. among b c.args.given.now) c.place_of.ensures)
+    rw (c.in-Among.is, c.taken_to-in-Among.ensures) (chars-met c.args.s.now _ (λ b. among b c.in-Among.given.now) c.place_of.ensures)

@@ -10,10 +10,10 @@ returns-in_err-test c =
     let e = err_from_is_err_and c.from_residual.result c.from_residual.ensures.1 in
     let from = c.args.source in
     let to = c.args.target in
-    rw (e.1, e.2) (przeslij-stop c.stands.ensures from.i (arg_of (table_of c.args.table.now) c.args.arg) c.prepare.ensures from.removes to.reverses to.at_end to.j c.in_err-test.was)
+    rw (e.1, e.2) (przeslij-stop c.stands.ensures from.i (arg_of (table_of c.args.table.cells.now) c.args.arg) c.prepare.ensures from.removes to.reverses to.at_end to.j c.in_err-test.was)
 
 pub returns : goal.returns
 returns c =
     let from = c.args.source in
     let to = c.args.target in
-    przeslij-tried c.stands.ensures from.i (arg_of (table_of c.args.table.now) c.args.arg) c.prepare.ensures from.removes to.reverses to.at_end to.j c.in_ok-test.was c.send.ensures
+    przeslij-tried c.stands.ensures from.i (arg_of (table_of c.args.table.cells.now) c.args.arg) c.prepare.ensures from.removes to.reverses to.at_end to.j c.in_ok-test.was c.send.ensures

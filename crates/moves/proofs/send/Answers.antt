@@ -4,7 +4,7 @@ use mathlib.Core.Path.{refl, sym, ◌∙◌}
 use lib.ListN.{take}
 use Rattle.machine.specs.Changes.{minus_unless, into, past}
 use Rattle.layout.specs.Components.{components_in}
-use Rattle.matching.specs.Tests.{until}
+use Rattle.tests.specs.Prepares.{until_in}
 use Rattle.state.specs.Working.{nth, reading, writing}
 use Rattle.instructions.proofs.Answers.{one-after, tried-full}
 use Rattle.moves.specs.Moves.{sent}
@@ -12,22 +12,25 @@ use Rattle.moves.proofs.Rows.{done}
 use Rattle.moves.proofs.Taking.{taken-part, took, more, copy-room, held-turned, fits-sent, writable, sent-done}
 use Rattle.moves.proofs.send.Goals as goal
 
+pub count-t-requires : goal.count-t-requires
+count-t-requires c = record { whole = c.expr_bytes-x.ensures.whole; fitting = c.with.ensures.fitting c.requires.beside.fitting }
+
 pub has_room-requires : goal.has_room-requires
 has_room-requires c =
     let x = c.expr_bytes-x.ensures in
-    more x.stands c.requires.source x c.count-t.ensures
+    more x.stands c.requires.source x (rw c.with.ensures.parts at c.count-t.ensures)
 
 pub returns-then-not-has_room : goal.returns-then-not-has_room
 returns-then-not-has_room c =
     let x = c.expr_bytes-x.ensures in
     let from = c.args.source in
     let to = c.args.target in
-    tried-full x.stands _ refl (fits-sent x.stands c.requires.source x c.count-t.ensures from.removes to.j c.requires.target to.reverses to.at_end ∙ sym c.has_room.ensures ∙ c.if-not-has_room.true)
+    tried-full x.stands _ refl (fits-sent x.stands c.requires.source x (rw c.with.ensures.parts at c.count-t.ensures) from.removes to.j c.requires.target to.reverses to.at_end ∙ sym c.has_room.ensures ∙ c.if-not-has_room.true)
 
 pub copy-requires : goal.copy-requires
 copy-requires c =
     let x = c.expr_bytes-x.ensures in
-    copy-room x.stands c.requires.source x c.count-t.ensures _ (omega arith)
+    copy-room x.stands c.requires.source x (rw c.with.ensures.parts at c.count-t.ensures) _ (omega arith)
 
 pub deliver-requires : goal.deliver-requires
 deliver-requires c =
@@ -35,8 +38,8 @@ deliver-requires c =
     let t = c.count-t in
     let from = c.args.source in
     let to = c.args.target in
-    let held = held-turned c.args.bench.now.hold to.reverses t.result.bytes c.copy.ensures (taken-part x.stands c.requires.source x t.ensures) (took x.stands c.requires.source x t.ensures).bytes_is in
-    writable x.stands c.requires.source x t.ensures from.removes to.j c.requires.target to.reverses to.at_end held (sym c.has_room.ensures ∙ c.if-not-has_room.false) c.past_parts.ensures
+    let held = held-turned c.args.bench.now.hold to.reverses t.result.bytes c.copy.ensures (taken-part x.stands c.requires.source x (rw c.with.ensures.parts at c.count-t.ensures)) (took x.stands c.requires.source x (rw c.with.ensures.parts at c.count-t.ensures)).bytes_is in
+    writable x.stands c.requires.source x (rw c.with.ensures.parts at c.count-t.ensures) from.removes to.j c.requires.target to.reverses to.at_end held (sym c.has_room.ensures ∙ c.if-not-has_room.false) c.past_parts.ensures
 
 pub returns : goal.returns
 returns c =
@@ -45,7 +48,7 @@ returns c =
     let argsᶜ = c.args in
     let from = argsᶜ.source in
     let to = argsᶜ.target in
-    let held = held-turned argsᶜ.bench.now.hold to.reverses t.result.bytes c.copy.ensures (taken-part x.stands c.requires.source x t.ensures) (took x.stands c.requires.source x t.ensures).bytes_is in
-    done x.stands (sent (until argsᶜ.test.test (take argsᶜ.test.len argsᶜ.bench.now.given)) from.removes from.i to.reverses to.at_end to.j)
-    (sent-done x.stands c.requires.source x t.ensures from.removes to.j c.requires.target to.reverses to.at_end held
+    let held = held-turned argsᶜ.bench.now.hold to.reverses t.result.bytes c.copy.ensures (taken-part x.stands c.requires.source x (rw c.with.ensures.parts at c.count-t.ensures)) (took x.stands c.requires.source x (rw c.with.ensures.parts at c.count-t.ensures)).bytes_is in
+    done x.stands (sent (until_in argsᶜ.test argsᶜ.bench.now.given) from.removes from.i to.reverses to.at_end to.j)
+    (sent-done x.stands c.requires.source x (rw c.with.ensures.parts at c.count-t.ensures) from.removes to.j c.requires.target to.reverses to.at_end held
     (one-after argsᶜ.bench.now.state (past (nth (reading from.removes) from.i) t.result.parts) (λ z. minus_unless t.result.reached (into (nth (writing to.at_end) to.j) (components_in (take t.result.bytes c.copy.new.out)) z)) c.past_parts.ensures c.deliver.ensures))

@@ -8,7 +8,7 @@ use Rattle.moves.proofs.usun.Goals as goal
 pub returns-in_err-test : goal.returns-in_err-test
 returns-in_err-test c =
     let e = err_from_is_err_and c.from_residual.result c.from_residual.ensures.1 in
-    rw (e.1, e.2) (usun-stop c.stands.ensures c.args.i (arg_of (table_of c.args.table.now) c.args.arg) c.prepare.ensures c.in_err-test.was)
+    rw (e.1, e.2) (usun-stop c.stands.ensures c.args.i (arg_of (table_of c.args.table.cells.now) c.args.arg) c.prepare.ensures c.in_err-test.was)
 
 pub returns : goal.returns
-returns c = usun-done c.stands.ensures c.args.i (arg_of (table_of c.args.table.now) c.args.arg) c.prepare.ensures c.in_ok-test.was c.cut_off.ensures
+returns c = usun-done c.stands.ensures c.args.i (arg_of (table_of c.args.table.cells.now) c.args.arg) c.prepare.ensures c.in_ok-test.was c.cut_off.ensures

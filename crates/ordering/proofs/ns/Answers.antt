@@ -7,15 +7,15 @@ pub returns-in_err-m : goal.returns-in_err-m
 returns-in_err-m c =
     let e = err_from_is_err_and c.from_residual.result c.from_residual.ensures.1 in
     let o = c.words_of.ensures in
-    rw (e.1, e.2) (ns-stop o.stands c.args.table.now c.args.i c.args.arg o.reads c.in_err-m.was)
+    rw (e.1, e.2) (ns-stop o.stands c.args.table.cells.now c.args.i c.args.arg o.reads c.in_err-m.was)
 
 pub shared_ref_as_front-precedes : goal.shared_ref_as_front-precedes
-shared_ref_as_front-precedes c = let o = c.words_of.ensures in right_most o.stands c.args.table.now c.args.i c.args.arg o.reads c.in_ok-m.was
+shared_ref_as_front-precedes c = let o = c.words_of.ensures in right_most o.stands c.args.table.cells.now c.args.i c.args.arg o.reads c.in_ok-m.was
 
 pub shared_ref_as_front-precedes-2 : goal.shared_ref_as_front-precedes-2
-shared_ref_as_front-precedes-2 c = let o = c.words_of.ensures in left_most o.stands c.args.table.now c.args.i c.args.arg o.reads c.in_ok-m.was
+shared_ref_as_front-precedes-2 c = let o = c.words_of.ensures in left_most o.stands c.args.table.cells.now c.args.i c.args.arg o.reads c.in_ok-m.was
 
 pub returns : goal.returns
 returns c =
     let o = c.words_of.ensures in
-    ns-done o.stands c.args.table.now c.args.i c.args.arg o.reads c.in_ok-m.was c.precedes-holds.ensures c.minus_unless.ensures
+    ns-done o.stands c.args.table.cells.now c.args.i c.args.arg o.reads c.in_ok-m.was c.precedes-holds.ensures c.minus_unless.ensures

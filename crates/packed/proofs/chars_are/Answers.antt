@@ -1,5 +1,4 @@
 -- `packed::chars_are` meets its contract.
-use mathlib.Core.Bool.{true}
 use mathlib.Core.Path.{◌≡◌, sym, ◌∙◌}
 use Prim.Native.Nat.{ℕ, ◌+◌, ◌-◌, ◌/◌, ◌<◌}
 use native.Mathlib.Omega.{arith}
@@ -10,29 +9,21 @@ use Rattle.packed.proofs.chars_are.Goals as goal
 pub returns-then-not-end_is : goal.returns-then-not-end_is
 returns-then-not-end_is c =
     let b : (j : ℕ) → get_or c.args.word.now j 0 < 256 = λ j. omega (arith, c.type_inv.word j) in
-    let f : (j : ℕ) → get_or c.args.table.now j 0 < 4294967296 = λ j. omega (arith, c.type_inv.table j) in
-    end-wrong c.args.table.now c.args.at c.requires.inside c.requires.long f c.args.word.now b c.requires.short (length c.args.word.now / 4) (omega arith)
-    (sym c.end_is.ensures ∙ c.if-not-end_is.true)
+    end-wrong c.args.row.now c.told-row c.fits-row c.args.word.now b c.requires (length c.args.word.now / 4) (omega arith) (sym c.end_is.ensures ∙ c.if-not-end_is.true)
 
-pub returns-then-table-at : goal.returns-then-table-at
-returns-then-table-at c =
+pub returns-then-row-q : goal.returns-then-row-q
+returns-then-row-q c =
     let b : (j : ℕ) → get_or c.args.word.now j 0 < 256 = λ j. omega (arith, c.type_inv.word j) in
-    let f : (j : ℕ) → get_or c.args.table.now j 0 < 4294967296 = λ j. omega (arith, c.type_inv.table j) in
-    let l = c.loop-q in
-    cell-wrong c.args.table.now c.args.at c.requires.inside c.requires.long f c.args.word.now b c.requires.short (l.q - 1) (omega arith) c.cell_of.result
-    c.cell_of.ensures c.if-table-at.true
+    cell-wrong c.args.row.now c.told-row c.fits-row c.args.word.now b c.requires (c.loop-q.q - 1) (omega arith) c.cell_of.result c.cell_of.ensures c.if-row-q.true
 
 pub loop-q-preserved : goal.loop-q-preserved
 loop-q-preserved c =
     let b : (j : ℕ) → get_or c.args.word.now j 0 < 256 = λ j. omega (arith, c.type_inv.word j) in
-    let f : (j : ℕ) → get_or c.args.table.now j 0 < 4294967296 = λ j. omega (arith, c.type_inv.table j) in
     let l = c.loop-q in
     let e : l.q - 1 + 1 ≡ l.q = omega arith in
-    cell-right c.args.table.now c.args.at c.requires.inside c.requires.long f c.args.word.now b c.requires.short (l.q - 1) (omega arith) c.cell_of.result
-    c.cell_of.ensures c.if-table-at.false (rw e l.invariant)
+    cell-right c.args.row.now c.told-row c.fits-row c.args.word.now b c.requires (l.q - 1) (omega arith) c.cell_of.result c.cell_of.ensures c.if-row-q.false (rw e l.invariant)
 
 pub returns : goal.returns
 returns c =
     let b : (j : ℕ) → get_or c.args.word.now j 0 < 256 = λ j. omega (arith, c.type_inv.word j) in
-    let f : (j : ℕ) → get_or c.args.table.now j 0 < 4294967296 = λ j. omega (arith, c.type_inv.table j) in
-    end-right c.args.table.now c.args.at c.requires.inside c.requires.long f c.args.word.now b c.requires.short c.loop-q.q (omega arith) c.loop-q.invariant
+    end-right c.args.row.now c.told-row c.fits-row c.args.word.now b c.requires c.loop-q.q (omega arith) c.loop-q.invariant

@@ -1,5 +1,5 @@
 -- `perform_equality::relate` meets its contract.
-use Rattle.perform_equality.proofs.Operands.{related-named, no_others, input-relatable, input-related, expression-relating}
+use Rattle.perform_equality.proofs.Operands.{related-named, related-others, input-relatable, input-related, expression-relating}
 use Rattle.perform_equality.proofs.relate.Goals as goal
 
 pub index_of-i-requires : goal.index_of-i-requires
@@ -21,4 +21,4 @@ pub returns-in-Expression : goal.returns-in-Expression
 returns-in-Expression c = c.relate_expression.ensures c.args.task.first.now c.args.task.second.now
 
 pub unreachable-requires : goal.unreachable-requires
-unreachable-requires c = no_others c.requires c.variable_of.ensures c.in_default.not-Input c.in_default.not-Expression
+unreachable-requires c = related-others c.requires c.variable_of.ensures c.in_default.not-Input c.in_default.not-Expression

@@ -1,5 +1,5 @@
 -- `perform_moves::remove` meets its contract.
-use Rattle.perform_moves.proofs.Operands.{drop-from, no_others, passable, passed_by, removable, removed}
+use Rattle.perform_moves.proofs.Operands.{drop-from, drop-others, passable, passed_by, removable, removed}
 use Rattle.perform_moves.proofs.remove.Goals as goal
 
 pub index_of-i-requires : goal.index_of-i-requires
@@ -21,4 +21,4 @@ pub returns-in-Expression : goal.returns-in-Expression
 returns-in-Expression c = removed c.requires c.index_of-i.ensures c.variable_of.ensures c.in-Expression.is c.usun.ensures
 
 pub unreachable-requires : goal.unreachable-requires
-unreachable-requires c = no_others c.requires c.variable_of.ensures c.in_default.not-Input c.in_default.not-Expression
+unreachable-requires c = drop-others c.requires c.variable_of.ensures c.in_default.not-Input c.in_default.not-Expression

@@ -25,13 +25,13 @@ umiesc_file-requires c = placeable c.requires (constant c.requires) c.file_of-ta
 pub index_of-j-requires : goal.index_of-j-requires
 index_of-j-requires c = put-lettered c.requires
 
-pub text_of-v-requires : goal.text_of-v-requires
-text_of-v-requires c = (to-output c.requires c.in-Output.is c.variable_of.ensures).0
+pub text_of-text-requires : goal.text_of-text-requires
+text_of-text-requires c = (to-output c.requires c.in-Output.is c.variable_of.ensures).0
 
 pub umiesc_output-requires : goal.umiesc_output-requires
 umiesc_output-requires c =
     let w = c.requires in
-    text-placeable w c.text_of-v.ensures (indexed-below letters.Letter.Q (to-output w c.in-Output.is c.variable_of.ensures).1 c.index_of-j.ensures)
+    text-placeable w c.text_of-text.ensures (indexed-below letters.Letter.Q (to-output w c.in-Output.is c.variable_of.ensures).1 c.index_of-j.ensures)
 
 pub unreachable-requires : goal.unreachable-requires
 unreachable-requires c =
@@ -50,5 +50,5 @@ returns-in-File c =
 pub returns-in-Output : goal.returns-in-Output
 returns-in-Output c =
     let w = c.requires in
-    performed w (ap (arg_of _) c.text_of-v.ensures)
+    performed w (ap (arg_of _) c.text_of-text.ensures)
     (indexed-is letters.Letter.Q (to-output w c.in-Output.is c.variable_of.ensures).1 c.index_of-j.ensures _) (none-third w) c.umiesc_output.ensures

@@ -10,9 +10,9 @@ returns-in_err-test c =
     let e = err_from_is_err_and c.from_residual.result c.from_residual.ensures.1 in
     let argsᶜ = c.args in
     rw (e.1, e.2)
-    (czytaj-stop c.stands.ensures argsᶜ.task.first.now argsᶜ.task.second.now argsᶜ.i c.requires.unread.index (arg_of (table_of argsᶜ.task.table.now) argsᶜ.arg) c.prepare.ensures argsᶜ.target.at_end argsᶜ.target.j c.in_err-test.was)
+    (czytaj-stop c.stands.ensures argsᶜ.task.first.now argsᶜ.task.second.now argsᶜ.i c.requires.unread.index (arg_of (table_of argsᶜ.task.table.cells.now) argsᶜ.arg) c.prepare.ensures argsᶜ.target.at_end argsᶜ.target.j c.in_err-test.was)
 
 pub returns : goal.returns
 returns c =
     let argsᶜ = c.args in
-    czytaj-tried c.stands.ensures argsᶜ.task.first.now argsᶜ.task.second.now argsᶜ.i c.requires.unread.index (arg_of (table_of argsᶜ.task.table.now) argsᶜ.arg) c.prepare.ensures argsᶜ.target.at_end argsᶜ.target.j c.in_ok-test.was c.input.ensures c.read_word.ensures
+    czytaj-tried c.stands.ensures argsᶜ.task.first.now argsᶜ.task.second.now argsᶜ.i c.requires.unread.index (arg_of (table_of argsᶜ.task.table.cells.now) argsᶜ.arg) c.prepare.ensures argsᶜ.target.at_end argsᶜ.target.j c.in_ok-test.was c.input.ensures c.read_word.ensures

@@ -1,7 +1,11 @@
 -- `readings::take_chars` meets its contract.
+use mathlib.Core.Path.{subst}
 use native.Mathlib.Omega.{arith}
+use Rattle.readings.specs.Readings.{CharsTakeable}
 use Rattle.readings.proofs.Beside.{firsts-room}
 use Rattle.readings.proofs.take_chars.Goals as goal
 
 pub first_chars-n-requires : goal.first_chars-n-requires
-first_chars-n-requires c = firsts-room c.args.test c.args.given.now c.requires (omega arith) c.in-Among.is
+first_chars-n-requires c =
+    let h = subst CharsTakeable c.in-Among.is c.requires in
+    firsts-room h.fitting h.room (omega arith)

@@ -1,40 +1,46 @@
--- `records::count` meets its contract. The invariant: the test takes the first k records, which end before cell `at`.
+-- `records::count` meets its contract.
+use mathlib.Core.Path.{ap, ◌∙◌}
+use Prim.Native.Nat.{◌+◌}
+use native.Mathlib.Omega.{arith}
+use lib.ListN.{length}
+use Rattle.matching.specs.Tests.{stops_before}
 use Rattle.records.specs.Sequences.{until_records}
-use Rattle.records.proofs.Cuts.{cut-starts}
+use Rattle.records.proofs.Cuts.{cut-whole}
+use Rattle.records.proofs.Steps.{left-all, left_place, left_within, left-end, left_next, ends_here, here, record-starts, record-cells, record-some}
 use Rattle.records.proofs.Walking.{going-none, going-stop, going_next, going_end, reached-is}
 use Rattle.records.proofs.count.Goals as goal
 
-pub loop-at-init : goal.loop-at-init
-loop-at-init c =
-    let args = c.args in
-    let pre = c.requires in
-    going-none (until_records args.test args.given.now) pre.whole
+pub loop-r-init : goal.loop-r-init
+loop-r-init c = (0, left-all c.args.s.now, going-none (until_records c.args.test) c.requires.whole)
+
+pub split_record-requires : goal.split_record-requires
+split_record-requires c = let (at, l, g) = c.loop-r.invariant in cut-whole g.cut l
 
 pub stops_at-requires : goal.stops_at-requires
-stops_at-requires c =
-    let pre = c.requires in
-    record { starts = cut-starts c.loop-at.invariant.cut c.loop-at-test.true; fitting = pre.fitting }
+stops_at-requires c = let f = c.in-Some.ensures in record { starts = record-starts f; fitting = c.requires.fitting }
+
+pub overflow_sub-result : goal.overflow_sub-result
+overflow_sub-result c = let (at, l, g) = c.loop-r.invariant in left_within l
 
 pub returns-then-stops_at : goal.returns-then-stops_at
 returns-then-stops_at c =
-    let loop = c.loop-at in
-    let loop-test = c.loop-at-test in
-    going-stop loop.invariant (cut-starts loop.invariant.cut loop-test.true) c.stops_at.ensures c.if-stops_at.true
+    let (at, l, g) = c.loop-r.invariant in
+    let f = c.in-Some.ensures in
+    rw (left_place l) (going-stop g (ends_here l f) (c.stops_at.ensures ∙ ap (stops_before (until_records c.args.test) c.loop-r.k) (here l f)) c.if-stops_at.true)
 
-pub end_of-at-requires : goal.end_of-at-requires
-end_of-at-requires c =
-    let loop = c.loop-at in
-    let loop-test = c.loop-at-test in
-    cut-starts loop.invariant.cut loop-test.true
+pub overflow_add-k : goal.overflow_add-k
+overflow_add-k c = let (at, l, g) = c.loop-r.invariant in omega (arith, g.cut.small, g.cut.within)
 
-pub loop-at-preserved : goal.loop-at-preserved
-loop-at-preserved c =
-    let loop = c.loop-at in
-    let stops_at = c.stops_at in
-    going_next loop.invariant c.end_of-at.ensures stops_at.ensures c.if-stops_at.false
+pub loop-r-smaller : goal.loop-r-smaller
+loop-r-smaller c = let f = c.in-Some.ensures in omega (arith, record-cells f, record-some f)
+
+pub loop-r-preserved : goal.loop-r-preserved
+loop-r-preserved c =
+    let (at, l, g) = c.loop-r.invariant in
+    let f = c.in-Some.ensures in
+    (at + length c.in-Some.r.now, left_next l f, going_next g (ends_here l f) (c.stops_at.ensures ∙ ap (stops_before (until_records c.args.test) c.loop-r.k) (here l f)) c.if-stops_at.false)
 
 pub returns : goal.returns
 returns c =
-    let args = c.args in
-    let loop = c.loop-at in
-    rw (c.reached_at.ensures, ← reached-is args.test args.given.now loop.k) (going_end loop.invariant c.loop-at-test.false)
+    let (at, l, g) = c.loop-r.invariant in
+    rw (c.reached_at.ensures, ← reached-is c.args.test c.loop-r.k) (going_end g (left-end l c.in_default.ensures))

@@ -1,31 +1,42 @@
--- `records::find` meets its contract. The invariant: the address is not among the first k records, which end before cell `at`.
+-- `records::find` meets its contract.
+use mathlib.Core.Path.{ap, sym, ◌∙◌}
+use Prim.Native.Nat.{◌+◌}
+use native.Mathlib.Omega.{arith}
 use borrow.Author.Tests.{eq-eqb, ne_eqb}
-use mathlib.Core.Path.{sym, ◌∙◌}
-use Rattle.records.proofs.Cuts.{seeking-none, seeking-next, seeking-here, seeking-end, cut-starts}
+use lib.ListN.{length}
+use Rattle.records.proofs.Cuts.{seeking-none, seeking-next, seeking-here, seeking-end, cut-whole}
+use Rattle.records.proofs.Steps.{left-all, left_place, left_within, left-end, left_next, ends_here, here, record-starts, record-cells, record-some}
 use Rattle.records.proofs.find.Goals as goal
 
-pub loop-at-init : goal.loop-at-init
-loop-at-init c = seeking-none c.args.address (c.requires)
+pub loop-r-init : goal.loop-r-init
+loop-r-init c = (0, left-all c.args.s.now, seeking-none c.args.address c.requires)
 
-pub end_of-e-requires : goal.end_of-e-requires
-end_of-e-requires c = cut-starts c.loop-at.invariant.cut c.loop-at-test.true
+pub split_record-requires : goal.split_record-requires
+split_record-requires c = let (at, l, g) = c.loop-r.invariant in cut-whole g.cut l
 
-pub address_at-requires : goal.address_at-requires
-address_at-requires c =
-    let loop = c.loop-at in
-    cut-starts loop.invariant.cut c.loop-at-test.true
+pub overflow_add-k : goal.overflow_add-k
+overflow_add-k c = let (at, l, g) = c.loop-r.invariant in omega (arith, g.cut.small, g.cut.within)
 
-pub returns-then-address_at-address : goal.returns-then-address_at-address
-returns-then-address_at-address c =
-    let loop = c.loop-at in
-    let end_of = c.end_of-e in
-    seeking-here loop.invariant end_of.ensures (eq-eqb _ _ (sym c.address_at.ensures.is ∙ c.if-address_at-address.true))
+pub address_of-requires : goal.address_of-requires
+address_of-requires c = let f = c.in-Some.ensures in record-starts f
 
-pub loop-at-preserved : goal.loop-at-preserved
-loop-at-preserved c =
-    let loop = c.loop-at in
-    let end_of = c.end_of-e in
-    seeking-next loop.invariant end_of.ensures (ne_eqb _ _ (λ q. c.if-address_at-address.false (c.address_at.ensures.is ∙ q)))
+pub overflow_sub-result : goal.overflow_sub-result
+overflow_sub-result c = let (at, l, g) = c.loop-r.invariant in left_within (left_next l c.in-Some.ensures)
+
+pub returns-then-address_of-address : goal.returns-then-address_of-address
+returns-then-address_of-address c =
+    let (at, l, g) = c.loop-r.invariant in
+    let f = c.in-Some.ensures in
+    rw (left_place (left_next l f)) (seeking-here g (ends_here l f) (eq-eqb _ _ (ap (λ r. r.addr) (sym (here l f)) ∙ sym c.address_of.ensures.is ∙ c.if-address_of-address.true)))
+
+pub loop-r-smaller : goal.loop-r-smaller
+loop-r-smaller c = let f = c.in-Some.ensures in omega (arith, record-cells f, record-some f)
+
+pub loop-r-preserved : goal.loop-r-preserved
+loop-r-preserved c =
+    let (at, l, g) = c.loop-r.invariant in
+    let f = c.in-Some.ensures in
+    (at + length c.in-Some.r.now, left_next l f, seeking-next g (ends_here l f) (ne_eqb _ _ (λ q. c.if-address_of-address.false (c.address_of.ensures.is ∙ ap (λ r. r.addr) (here l f) ∙ q))))
 
 pub returns : goal.returns
-returns c = seeking-end c.loop-at.invariant c.loop-at-test.false
+returns c = let (at, l, g) = c.loop-r.invariant in seeking-end g (left-end l c.in_default.ensures)

@@ -1,40 +1,40 @@
 -- `records::last_address` meets its contract.
-use mathlib.Core.Path.{sym, ◌∙◌}
-use Rattle.records.proofs.Lasts.{last_none, last-at, two-room}
+use Prim.Native.Nat.{◌-◌}
 use native.Mathlib.Omega.{arith}
+use lib.ListN.{length}
+use borrow.Author.Tests.{true-eqb, false-eqb}
+use Rattle.records.proofs.Lasts.{last-at, last-some, no_last, tail_is, two-room}
 use Rattle.records.proofs.last_address.Goals as goal
 
-pub returns-then-n-eq0 : goal.returns-then-n-eq0
-returns-then-n-eq0 c =
-    let args = c.args in
-    record { is = sym (last_none args.s.now c.if-n-eq0.true); most = omega arith }
+pub returns-then-is_empty : goal.returns-then-is_empty
+returns-then-is_empty c = no_last c.args.s.now (true-eqb (length c.args.s.now) 0 c.if-is_empty.ensures)
 
 pub overflow_sub-n : goal.overflow_sub-n
 overflow_sub-n c =
-    let pre = c.requires in
-    omega (arith, two-room (pre) (omega arith))
+    let z = false-eqb (length c.args.s.now) 0 c.if-is_empty.ensures in
+    omega (arith, two-room c.requires (omega (arith, z)))
 
 pub two_at-k-requires : goal.two_at-k-requires
 two_at-k-requires c =
-    let pre = c.requires in
-    omega (arith, two-room (pre) (omega arith))
+    let z = false-eqb (length c.args.s.now) 0 c.if-is_empty.ensures in
+    omega (arith, two-room c.requires (omega (arith, z)))
 
 pub overflow_sub-n-2 : goal.overflow_sub-n-2
 overflow_sub-n-2 c =
-    let pre = c.requires in
-    omega (arith, two-room (pre) (omega arith))
+    let z = false-eqb (length c.args.s.now) 0 c.if-is_empty.ensures in
+    two-room c.requires (omega (arith, z))
 
 pub overflow_sub-n-3 : goal.overflow_sub-n-3
 overflow_sub-n-3 c =
-    let pre = c.requires in
-    omega (arith, (last-at (pre) (omega arith) c.two_at-k.ensures.is).fits)
+    let z = false-eqb (length c.args.s.now) 0 c.if-is_empty.ensures in
+    omega (arith, (last-at c.requires (omega (arith, z)) c.two_at-k.ensures.is).fits)
 
-pub address_at-requires : goal.address_at-requires
-address_at-requires c =
-    let pre = c.requires in
-    (last-at (pre) (omega arith) c.two_at-k.ensures.is).starts
+pub address_of-requires : goal.address_of-requires
+address_of-requires c =
+    let z = false-eqb (length c.args.s.now) 0 c.if-is_empty.ensures in
+    rw (tail_is (length c.args.s.now - 7 - c.two_at-k.result) c.args.s.now) (last-at c.requires (omega (arith, z)) c.two_at-k.ensures.is).starts
 
 pub returns : goal.returns
 returns c =
-    let pre = c.requires in
-    record { is = c.address_at.ensures.is ∙ sym (last-at (pre) (omega arith) c.two_at-k.ensures.is).is; most = c.address_at.ensures.most }
+    let z = false-eqb (length c.args.s.now) 0 c.if-is_empty.ensures in
+    last-some c.requires (omega (arith, z)) c.two_at-k.ensures.is (rw (tail_is (length c.args.s.now - 7 - c.two_at-k.result) c.args.s.now) at c.address_of.ensures)

@@ -14,4 +14,4 @@ returns-then-is_empty c =
 pub returns : goal.returns
 returns c =
     let pre = c.requires in
-    rw (next-some (pre) (omega (arith, eqb-false (length c.args.s.now) 0 (sym c.is_empty.ensures ∙ c.if-is_empty.false)))) c.contents_at.ensures
+    rw (next-some (pre) (omega (arith, eqb-false (length c.args.s.now) 0 (sym c.is_empty.ensures ∙ c.if-is_empty.false)))) c.contents_of.ensures

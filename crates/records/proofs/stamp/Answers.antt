@@ -1,36 +1,44 @@
--- `records::stamp` meets its contract. The invariant: `dst` has the records up to cell `at` with new addresses, and behind them the rest as it was.
-use Rattle.records.proofs.Cuts.{cut-starts}
-use Rattle.records.proofs.Steps.{start-room}
-use Rattle.records.proofs.Stamps.{stamping-none, stamping-next, stamping-end}
+-- `records::stamp` meets its contract.
+use Prim.Native.Nat.{◌+◌}
 use native.Mathlib.Omega.{arith}
+use lib.ListN.{length}
+use Rattle.records.proofs.Cuts.{cut-whole}
+use Rattle.records.proofs.Steps.{left-all, left_place, left_within, left-end, left_next, ends_here, record-cells, record-some}
+use Rattle.records.proofs.Stamps.{stamping-none, stamping-next, stamping-end}
 use Rattle.records.proofs.stamp.Goals as goal
 
-pub loop-at-init : goal.loop-at-init
-loop-at-init c =
-    let pre = c.requires in
-    let put = c.put in
-    stamping-none (pre) put.ensures
+pub put-requires : goal.put-requires
+put-requires c = omega (arith, c.requires.room)
+
+pub overflow_add-next : goal.overflow_add-next
+overflow_add-next c = omega (arith, c.requires.given)
+
+pub loop-rest-init : goal.loop-rest-init
+loop-rest-init c = (0, left-all c.args.src.now, stamping-none c.requires c.put.ensures)
+
+pub split_record-requires : goal.split_record-requires
+split_record-requires c = let (at, l, g) = c.loop-rest.invariant in cut-whole g.cut l
+
+pub overflow_sub-src : goal.overflow_sub-src
+overflow_sub-src c = let (at, l, g) = c.loop-rest.invariant in left_within l
 
 pub put_three-requires : goal.put_three-requires
 put_three-requires c =
-    let loop = c.loop-at in
-    let pre = c.requires in
-    let i = loop.invariant in omega (arith, i.count, i.cut.most, pre.given, i.long, start-room (cut-starts i.cut c.loop-at-test.true), pre.room)
+    let (at, l, g) = c.loop-rest.invariant in
+    let f = c.in-Some.ensures in
+    rw (left_place l) (omega (arith, g.count, g.cut.most, c.requires.given, g.long, (ends_here l f).more, (ends_here l f).within, c.requires.room))
 
-pub end_of-at-requires : goal.end_of-at-requires
-end_of-at-requires c =
-    let loop = c.loop-at in
-    let loop-test = c.loop-at-test in
-    cut-starts loop.invariant.cut loop-test.true
+pub overflow_add-next-in-Some : goal.overflow_add-next-in-Some
+overflow_add-next-in-Some c = let (at, l, g) = c.loop-rest.invariant in omega (arith, g.count, g.cut.most, c.requires.given)
 
-pub loop-at-preserved : goal.loop-at-preserved
-loop-at-preserved c =
-    let loop = c.loop-at in
-    let put_three = c.put_three in
-    stamping-next loop.invariant c.end_of-at.ensures (omega arith) put_three.ensures
+pub loop-rest-smaller : goal.loop-rest-smaller
+loop-rest-smaller c = let f = c.in-Some.ensures in omega (arith, record-cells f, record-some f)
+
+pub loop-rest-preserved : goal.loop-rest-preserved
+loop-rest-preserved c =
+    let (at, l, g) = c.loop-rest.invariant in
+    let f = c.in-Some.ensures in
+    (at + length c.in-Some.field-0-0.now, left_next l f, stamping-next g (ends_here l f) (omega arith) (rw (left_place l) at c.put_three.ensures))
 
 pub returns : goal.returns
-returns c =
-    let pre = c.requires in
-    let put = c.put in
-    stamping-end (pre) put.ensures c.loop-at.invariant c.loop-at-test.false
+returns c = let (at, l, g) = c.loop-rest.invariant in stamping-end c.requires c.put.ensures g (omega (arith, left-end l c.in_default.ensures))

@@ -11,7 +11,7 @@ pub returns-then-is_empty : goal.returns-then-is_empty
 returns-then-is_empty c =
     let args = c.args in
     let pre = c.requires in
-    rw (first-none args.x.now (eqb-true _ _ (sym c.is_empty.ensures ∙ c.if-is_empty.true))) (c.stops_void.ensures ∙ sym (void-is args.test args.given.now args.k pre.fitting))
+    rw (first-none args.x.now (eqb-true _ _ (sym c.is_empty.ensures ∙ c.if-is_empty.true))) (c.stops_void.ensures ∙ sym (void-is args.test args.k pre.fitting))
 
 pub stops-requires : goal.stops-requires
 stops-requires c =
@@ -22,4 +22,4 @@ pub returns : goal.returns
 returns c =
     let args = c.args in
     let pre = c.requires in
-    c.stops.ensures ∙ ap (stops_before (until args.test args.given.now) args.k) (first_is (pre) (omega (arith, eqb-false (length c.args.x.now) 0 (sym c.is_empty.ensures ∙ c.if-is_empty.false))))
+    c.stops.ensures ∙ ap (stops_before (until args.test) args.k) (first_is (pre) (omega (arith, eqb-false (length c.args.x.now) 0 (sym c.is_empty.ensures ∙ c.if-is_empty.false))))

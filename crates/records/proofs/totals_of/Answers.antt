@@ -1,44 +1,43 @@
--- `records::totals_of` meets its contract. The invariant: `parts` and `chars` are the sums over the records that end before cell `at`.
-use Rattle.cells.proofs.Below.ComponentLaws.{whole-components}
-use Rattle.records.proofs.Cuts.{cut-starts}
-use Rattle.records.proofs.Walking.{summing-none, summing-next, summing-end, all-taken}
+-- `records::totals_of` meets its contract.
+use Prim.Native.Nat.{◌+◌}
 use native.Mathlib.Omega.{arith}
+use lib.ListN.{length}
+use Rattle.cells.proofs.Below.ComponentLaws.{whole-components}
+use Rattle.records.proofs.Cuts.{cut-whole}
+use Rattle.records.proofs.Steps.{left-all, left-end, left_next, ends_here, contents-here, record-starts, record-cells, record-some}
+use Rattle.records.proofs.Walking.{summing-none, summing-next, summing-end, all-taken}
 use Rattle.records.proofs.totals_of.Goals as goal
 
-pub loop-at-init : goal.loop-at-init
-loop-at-init c = summing-none (c.requires)
+pub loop-r-init : goal.loop-r-init
+loop-r-init c = (0, left-all c.args.s.now, summing-none c.requires)
 
-pub contents_at-requires : goal.contents_at-requires
-contents_at-requires c = cut-starts c.loop-at.invariant.cut c.loop-at-test.true
+pub split_record-requires : goal.split_record-requires
+split_record-requires c = let (at, l, g) = c.loop-r.invariant in cut-whole g.cut l
+
+pub contents_of-requires : goal.contents_of-requires
+contents_of-requires c = let f = c.in-Some.ensures in record-starts f
 
 pub count-t-requires : goal.count-t-requires
-count-t-requires c = record { whole = whole-components c.contents_at.ensures.cells; fitting = tt }
+count-t-requires c = record { whole = whole-components c.contents_of.ensures.cells; fitting = tt }
 
 pub overflow_add-parts : goal.overflow_add-parts
 overflow_add-parts c =
-    let loop = c.loop-at in
-    let contents_at = c.contents_at in
-    omega (arith, loop.invariant.parts_most, loop.invariant.cut.within, all-taken contents_at.ensures c.count-t.ensures)
+    let (at, l, g) = c.loop-r.invariant in
+    omega (arith, g.parts_most, g.cut.within, all-taken (contents-here l c.in-Some.ensures c.contents_of.ensures) c.count-t.ensures)
 
 pub overflow_add-chars : goal.overflow_add-chars
 overflow_add-chars c =
-    let loop = c.loop-at in
-    let contents_at = c.contents_at in
-    let count = c.count-t in
-    omega (arith, loop.invariant.chars_most, loop.invariant.cut.within, all-taken contents_at.ensures count.ensures)
+    let (at, l, g) = c.loop-r.invariant in
+    omega (arith, g.chars_most, g.cut.within, all-taken (contents-here l c.in-Some.ensures c.contents_of.ensures) c.count-t.ensures)
 
-pub end_of-at-requires : goal.end_of-at-requires
-end_of-at-requires c =
-    let loop = c.loop-at in
-    let loop-test = c.loop-at-test in
-    cut-starts loop.invariant.cut loop-test.true
+pub loop-r-smaller : goal.loop-r-smaller
+loop-r-smaller c = let f = c.in-Some.ensures in omega (arith, record-cells f, record-some f)
 
-pub loop-at-preserved : goal.loop-at-preserved
-loop-at-preserved c =
-    let loop = c.loop-at in
-    let contents_at = c.contents_at in
-    let count = c.count-t in
-    summing-next loop.invariant c.end_of-at.ensures (all-taken contents_at.ensures count.ensures)
+pub loop-r-preserved : goal.loop-r-preserved
+loop-r-preserved c =
+    let (at, l, g) = c.loop-r.invariant in
+    let f = c.in-Some.ensures in
+    (at + length c.in-Some.r.now, left_next l f, summing-next g (ends_here l f) (all-taken (contents-here l f c.contents_of.ensures) c.count-t.ensures))
 
 pub returns : goal.returns
-returns c = summing-end c.loop-at.invariant c.loop-at-test.false
+returns c = let (at, l, g) = c.loop-r.invariant in summing-end g (left-end l c.in_default.ensures)

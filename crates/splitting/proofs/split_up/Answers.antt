@@ -1,10 +1,11 @@
 -- `splitting::split_up` meets its contract.
+use native.Mathlib.Omega.{arith}
 use mathlib.Core.Path.{refl, sym, ◌∙◌}
 use mathlib.Core.Bool.{false}
 use lib.ListN.{take}
 use Rattle.machine.specs.Changes.{minus_unless, into, past}
 use Rattle.layout.specs.Components.{components_in}
-use Rattle.matching.specs.Tests.{first_chars, until_chars}
+use Rattle.tests.specs.Prepares.{until_firsts_in}
 use Rattle.state.specs.Working.{nth, reading, writing}
 use Rattle.instructions.proofs.Answers.{one-after, tried-full}
 use Rattle.moves.proofs.Rows.{done}
@@ -12,6 +13,11 @@ use Rattle.splitting.specs.Splitting.{split_up}
 use Rattle.splitting.proofs.Asking.{leading}
 use Rattle.splitting.proofs.Splits.{some_bytes, droppable, fits-split, writable, split_done}
 use Rattle.splitting.proofs.split_up.Goals as goal
+
+pub take_chars-t-requires : goal.take_chars-t-requires
+take_chars-t-requires c =
+    let k = c.with.ensures in
+    record { fitting = k.fitting c.requires.beside.fitting; room = omega (arith, k.long, c.requires.beside.inside) }
 
 pub chars_of-w-requires : goal.chars_of-w-requires
 chars_of-w-requires c =
@@ -22,14 +28,14 @@ pub returns-then-not-has_split_room : goal.returns-then-not-has_split_room
 returns-then-not-has_split_room c =
     let x = c.expr_bytes-x.ensures in
     tried-full x.stands _ refl
-    (fits-split c.requires.source x c.requires.first_word c.chars_of-w.ensures c.take_chars-t.ensures c.args.source.removes ∙ sym c.has_split_room.ensures ∙ c.if-not-has_split_room.true)
+    (fits-split c.requires.source x c.requires.first_word c.chars_of-w.ensures (rw c.with.ensures.firsts at c.take_chars-t.ensures) c.args.source.removes ∙ sym c.has_split_room.ensures ∙ c.if-not-has_split_room.true)
 
 pub past_parts-requires : goal.past_parts-requires
 past_parts-requires c = droppable c.requires.source c.expr_bytes-x.ensures c.requires.first_word c.chars_of-w.ensures
 
 pub deliver-requires : goal.deliver-requires
 deliver-requires c =
-    writable c.requires.source c.expr_bytes-x.ensures c.requires.first_word c.chars_of-w.ensures c.take_chars-t.ensures c.args.source.removes c.split-n.ensures
+    writable c.requires.source c.expr_bytes-x.ensures c.requires.first_word c.chars_of-w.ensures (rw c.with.ensures.firsts at c.take_chars-t.ensures) c.args.source.removes c.split-n.ensures
     (sym c.has_split_room.ensures ∙ c.if-not-has_split_room.false) c.past_parts.ensures
 
 pub returns : goal.returns
@@ -39,6 +45,6 @@ returns c =
     let x = c.expr_bytes-x.ensures in
     let t = c.take_chars-t in
     let n = c.split-n in
-    done x.stands (split_up (until_chars argsᶜ.test.test (first_chars (components_in (take argsᶜ.test.len argsᶜ.bench.now.given)))) from.removes from.i)
-    (split_done c.requires.source x c.requires.first_word c.chars_of-w.ensures t.ensures from.removes n.ensures
+    done x.stands (split_up (until_firsts_in argsᶜ.test argsᶜ.bench.now.given) from.removes from.i)
+    (split_done c.requires.source x c.requires.first_word c.chars_of-w.ensures (rw c.with.ensures.firsts at c.take_chars-t.ensures) from.removes n.ensures
     (one-after argsᶜ.bench.now.state (past (nth (reading from.removes) from.i) 1) (λ z. minus_unless t.result.reached (into (nth (writing false) from.i) (components_in (take n.result n.new.out)) z)) c.past_parts.ensures c.deliver.ensures))

@@ -1,4 +1,6 @@
 -- `splitting::word_of` meets its contract.
+use Rattle.components.specs.declared.Kind.TheVariants.{Word}
+use Rattle.components.proofs.KindLaws.{other_kind, right_kind}
 use native.Mathlib.Omega.{arith}
 use borrow.Author.Tests.{eqb-true, eqb-false}
 use mathlib.Core.Path.{sym, ◌∙◌}
@@ -16,13 +18,13 @@ returns-then-is_missing-clause-asked c =
 pub kind_of-requires : goal.kind_of-requires
 kind_of-requires c = leading c.expr_bytes-x.ensures (omega (arith, eqb-false _ _ (sym c.is_empty.ensures ∙ c.if-is_empty.false)))
 
-pub returns-then-kind_of-ne0-clause-asked : goal.returns-then-kind_of-ne0-clause-asked
-returns-then-kind_of-ne0-clause-asked c =
+pub returns-then-ne-clause-asked : goal.returns-then-ne-clause-asked
+returns-then-ne-clause-asked c =
     let some = eqb-false _ _ (sym c.is_empty.ensures ∙ c.if-is_empty.false) in
     asked-wrong (first-in c.expr_bytes-x.ensures (omega (arith, some))) c.args.prepared (eqb-false _ _ (sym c.is_missing.ensures ∙ c.if-is_missing.false))
-    (λ z. c.if-kind_of-ne0.true (c.kind_of.ensures.is ∙ z))
+    (other_kind _ Word c.kind_of.ensures c.ne.ensures c.if-ne.true)
 
 pub returns-clause-asked : goal.returns-clause-asked
 returns-clause-asked c =
     let some = eqb-false _ _ (sym c.is_empty.ensures ∙ c.if-is_empty.false) in
-    asked-word (first-in c.expr_bytes-x.ensures (omega (arith, some))) c.args.prepared (sym c.kind_of.ensures.is ∙ c.if-kind_of-ne0.false)
+    asked-word (first-in c.expr_bytes-x.ensures (omega (arith, some))) c.args.prepared (right_kind _ Word c.kind_of.ensures c.ne.ensures c.if-ne.false)

@@ -9,6 +9,7 @@ use Rattle.language.specs.Operators.{op_by}
 use Rattle.language.specs.declared.Operator.{Operator}
 use Rattle.perform_jumps.specs.Below.OperatingLaws.{carrying}
 use Rattle.perform_values.specs.Valuing.{value_operators}
+use Rattle.perform_equality.specs.Below.Moving.{movers}
 use Rattle.perform_equality.specs.Equating.{equality_operators}
 use Rattle.perform_files.specs.Filing.{file_operators}
 use Rattle.stepping.proofs.perform.Goals as goal
@@ -20,6 +21,9 @@ module _ (P : Operator → Type 0) {o k : Operator} where
 
   either : {R : Type 0} → P k → (R → P o) → o ≡ k ⊎ R → P o
   either p f = ⊎_elim (last p) f
+
+abbrev Move : Operator → Type 0
+Move o = T (among (number_of (op_by o)) movers)
 
 abbrev Value : Operator → Type 0
 Value o = T (among (number_of (op_by o)) value_operators)
@@ -35,6 +39,11 @@ ten : (P : Operator → Type 0) {a b d e f g h i j k : Operator} → P a → P b
     → o ≡ a ⊎ (o ≡ b ⊎ (o ≡ d ⊎ (o ≡ e ⊎ (o ≡ f ⊎ (o ≡ g ⊎ (o ≡ h ⊎ (o ≡ i ⊎ (o ≡ j ⊎ o ≡ k)))))))) → P o
 ten P a b d e f g h i j k =
     either P a (either P b (either P d (either P e (either P f (either P g (either P h (either P i (either P j (last P k)))))))))
+
+pub perform_move-requires : goal.perform_move-requires
+perform_move-requires c =
+    let seven = either Move tt (either Move tt (either Move tt (either Move tt (either Move tt (either Move tt (last Move tt)))))) in
+    record { performing = c.requires.performing; mover = seven c.in-PRZESLIJ.is }
 
 pub perform_value-requires : goal.perform_value-requires
 perform_value-requires c =

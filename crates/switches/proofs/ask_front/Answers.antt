@@ -1,23 +1,23 @@
 -- `switches::ask_front` meets its contract.
-use mathlib.Core.Path.{sym, ◌∙◌}
+use Rattle.components.proofs.KindLaws.{other_kind, right_kind}
 use lib.ListN.{length}
 use borrow.Author.Tests.{true-eqb, false-eqb}
-use Rattle.switches.specs.Switches.{kind_by}
+use Rattle.components.specs.Parts.{kind_number}
 use Rattle.switches.proofs.Fronts.{leading, none-there, other-there, right_there}
 use Rattle.switches.proofs.ask_front.Goals as goal
 
 pub returns-then-is_empty : goal.returns-then-is_empty
-returns-then-is_empty c = none-there c.expr_bytes-x.ensures (kind_by c.args.kind) (true-eqb (length c.expr_bytes-x.result.now) 0 c.if-is_empty.ensures)
+returns-then-is_empty c = none-there c.expr_bytes-x.ensures (kind_number c.args.kind) (true-eqb (length c.expr_bytes-x.result.now) 0 c.if-is_empty.ensures)
 
 pub kind_of-requires : goal.kind_of-requires
 kind_of-requires c = leading c.expr_bytes-x.ensures (false-eqb (length c.expr_bytes-x.result.now) 0 c.if-is_empty.ensures)
 
-pub returns-then-kind_of-from : goal.returns-then-kind_of-from
-returns-then-kind_of-from c =
+pub returns-then-ne : goal.returns-then-ne
+returns-then-ne c =
     let z = false-eqb (length c.expr_bytes-x.result.now) 0 c.if-is_empty.ensures in
-    other-there c.expr_bytes-x.ensures (kind_by c.args.kind) z (λ q. c.if-kind_of-from.true (c.kind_of.ensures.is ∙ q ∙ sym c.from.ensures))
+    other-there c.expr_bytes-x.ensures (kind_number c.args.kind) z (other_kind _ c.args.kind c.kind_of.ensures c.ne.ensures c.if-ne.true)
 
 pub returns : goal.returns
 returns c =
     let z = false-eqb (length c.expr_bytes-x.result.now) 0 c.if-is_empty.ensures in
-    right_there c.expr_bytes-x.ensures (kind_by c.args.kind) z (sym c.kind_of.ensures.is ∙ c.if-kind_of-from.false ∙ c.from.ensures)
+    right_there c.expr_bytes-x.ensures (kind_number c.args.kind) z (right_kind _ c.args.kind c.kind_of.ensures c.ne.ensures c.if-ne.false)

@@ -5,5 +5,4 @@ use Rattle.tests.proofs.put_text.Goals as goal
 
 pub returns : goal.returns
 returns c =
-    let preᶜ = c.requires in
-    text-put c.put_text-n.ensures preᶜ.good.some c.args.given.now c.put_word.ensures (omega arith)
+    text-put c.put_text-n.ensures c.requires.some c.args.given.now c.put_word.ensures (omega arith)

@@ -12,29 +12,29 @@ returns-then-f-eq0 c =
     pobierz-none c.stands.ensures s.removes c.requires.first c.after_bytes-f.ensures t.reverses t.at_end c.requires.second c.if-f-eq0.true c.set_plus.ensures
 
 pub count-t-requires : goal.count-t-requires
-count-t-requires c = record { whole = whole-components c.contents_at-x.ensures.cells; fitting = tt }
+count-t-requires c = record { whole = whole-components c.contents_of-x.ensures.cells; fitting = tt }
 
 pub has_room-requires : goal.has_room-requires
 has_room-requires c =
     let s = c.args.source in
     let t = c.args.target in
     record {
-      parts_most = left_most s.removes c.left.ensures (parts_most c.stands.ensures s.removes c.requires.first c.after_bytes-f.ensures t.reverses t.at_end c.requires.second c.if-f-eq0.false c.contents_at-x.ensures c.count-t.ensures);
-      chars_most = left_most s.removes c.left-2.ensures (chars_most c.stands.ensures s.removes c.requires.first c.after_bytes-f.ensures t.reverses t.at_end c.requires.second c.if-f-eq0.false c.contents_at-x.ensures c.count-t.ensures);
+      parts_most = left_most s.removes c.left.ensures (parts_most c.stands.ensures s.removes c.requires.first c.after_bytes-f.ensures t.reverses t.at_end c.requires.second c.if-f-eq0.false c.contents_of-x.ensures c.count-t.ensures);
+      chars_most = left_most s.removes c.left-2.ensures (chars_most c.stands.ensures s.removes c.requires.first c.after_bytes-f.ensures t.reverses t.at_end c.requires.second c.if-f-eq0.false c.contents_of-x.ensures c.count-t.ensures);
     }
 
 pub returns-then-not-has_room : goal.returns-then-not-has_room
 returns-then-not-has_room c =
     let s = c.args.source in
     let t = c.args.target in
-    pobierz-full c.stands.ensures s.removes c.requires.first c.after_bytes-f.ensures t.reverses t.at_end c.requires.second c.if-f-eq0.false c.contents_at-x.ensures c.count-t.ensures
+    pobierz-full c.stands.ensures s.removes c.requires.first c.after_bytes-f.ensures t.reverses t.at_end c.requires.second c.if-f-eq0.false c.contents_of-x.ensures c.count-t.ensures
     c.left.ensures c.left-2.ensures c.has_room.ensures c.if-not-has_room.true
 
 pub copy-requires : goal.copy-requires
 copy-requires c =
     record {
-      whole = whole-components c.contents_at-x.ensures.cells;
-      room = omega (arith, c.contents_at-x.ensures.most, c.after_bytes-f.ensures.most);
+      whole = whole-components c.contents_of-x.ensures.cells;
+      room = omega (arith, c.contents_of-x.ensures.most, c.after_bytes-f.ensures.most);
     }
 
 pub past_records-requires : goal.past_records-requires
@@ -43,19 +43,19 @@ past_records-requires c =
     let t = c.args.target in
     record {
       index = c.requires.first;
-      first = first c.stands.ensures s.removes c.requires.first c.after_bytes-f.ensures t.reverses t.at_end c.requires.second c.if-f-eq0.false c.contents_at-x.ensures c.count-t.ensures;
+      first = first c.stands.ensures s.removes c.requires.first c.after_bytes-f.ensures t.reverses t.at_end c.requires.second c.if-f-eq0.false c.contents_of-x.ensures c.count-t.ensures;
     }
 
 pub write_parts-requires : goal.write_parts-requires
 write_parts-requires c =
     let s = c.args.source in
     let t = c.args.target in
-    pobierz-writable c.stands.ensures s.removes c.requires.first c.after_bytes-f.ensures t.reverses t.at_end c.requires.second c.if-f-eq0.false c.contents_at-x.ensures c.count-t.ensures
+    pobierz-writable c.stands.ensures s.removes c.requires.first c.after_bytes-f.ensures t.reverses t.at_end c.requires.second c.if-f-eq0.false c.contents_of-x.ensures c.count-t.ensures
     c.left.ensures c.left-2.ensures c.has_room.ensures c.if-not-has_room.false c.args.bench.now.hold c.copy.ensures c.past_records.ensures
 
 pub returns : goal.returns
 returns c =
     let s = c.args.source in
     let t = c.args.target in
-    pobierz-done c.stands.ensures s.removes c.requires.first c.after_bytes-f.ensures t.reverses t.at_end c.requires.second c.if-f-eq0.false c.contents_at-x.ensures c.count-t.ensures
+    pobierz-done c.stands.ensures s.removes c.requires.first c.after_bytes-f.ensures t.reverses t.at_end c.requires.second c.if-f-eq0.false c.contents_of-x.ensures c.count-t.ensures
     c.left.ensures c.left-2.ensures c.has_room.ensures c.if-not-has_room.false c.args.bench.now.hold c.copy.ensures c.past_records.ensures c.write_parts.ensures

@@ -1,8 +1,0 @@
--- `table::read` meets its contract.
-use mathlib.Core.Path.{sym, ◌∙◌}
-use Rattle.table.proofs.Decode.{cell_in}
-use Rattle.table.proofs.read.Goals as goal
-
-pub returns : goal.returns
-returns c =
-    record { is = c.read.ensures.is ∙ sym (cell_in c.args.table.now c.args.k c.requires.below); most = c.read.ensures.most }
