@@ -7,7 +7,6 @@ use native.Mathlib.Nat.{le_refl}
 use native.Mathlib.Omega.{arith}
 use lib.Dec.{eqb}
 use lib.ListN.{length, drop}
-use borrow.Author.Tests.{eq-eqb}
 use Rattle.lists.specs.Lists.{all, filled, if_any}
 use Rattle.statements.specs.Faults.{Fault}
 use Rattle.std.specs.Prelude.{None, Some}
@@ -23,7 +22,9 @@ use Rattle.std.specs.Prelude.{Option, is_some}
 use Rattle.std.specs.Bool.{then_some}
 use Rattle.macro_elements.specs.ElementAt.{joined_at, elements_from, argument_value, FirstElement}
 use Rattle.macro_elements.specs.declared.Element.{Element}
-use Rattle.macro_elements.proofs.Tests.{sort-is}
+use Rattle.scanner.specs.declared.Sort.{Sort}
+use Rattle.scanner.specs.Sorts.{sort_in}
+use Rattle.lexer.proofs.Finding.{one_sort}
 use Rattle.macro_changes.specs.Changing.{shuts, inside, stop_of, InsideAt, GivenAt, given_from, ends_from, argument_faults, Named, EndsCall}
 use Rattle.macro_changes.proofs.Searching.{from-off}
 use Rattle.macro_changes.proofs.Giving.{keep-first, one-fault, inside_shut, inside_on, behind-on, given_here, given-on}
@@ -81,14 +82,14 @@ module _ {s : List ℕ} {closing : Bool} {n : ℕ} (size : length s ≤ 32768) (
   ends-at-none e = shut-here (ap (until (shuts closing)) e) (le_refl (length s)) (rw e refl)
 
   module _ {t : Element} (k : FirstElement s n t) where
-    pub ends-at_end : {r : ℕ} → t.sort ≡ 3 → r ≡ t.at + cond (eqb t.byte 59) 1 0 → EndsCall s closing n (record { stop = r; next = t.next })
+    pub ends-at_end : {r : ℕ} → is_end (argument_value s t) ≡ true → r ≡ t.at + cond (eqb t.byte 59) 1 0 → EndsCall s closing n (record { stop = r; next = t.next })
     unfolding call_stop
     ends-at_end {r} e f =
-        let i : InsideAt s closing n t = (record { first = k; inner = end-open closing (argument_value s t) (rw e refl) }) in
+        let i : InsideAt s closing n t = (record { first = k; inner = end-open closing (argument_value s t) (ap sort_in (one_sort (Some Sort.End) (Some t.sort) e)) }) in
         let on = inside_on i in
         let z = k.more in
         let g : r ≡ cond (eqb t.byte 59) (t.at + 1) t.at = f ∙ added (eqb t.byte 59) in
-        let ends : ends_from s closing n ≡ argument_value s t ∷ inside s closing t.next = ap (from is_end) on ∙ from-off is_end (argument_value s t) (inside s closing t.next) (sort-is end t.sort k.held.sorted ∙ eq-eqb 3 t.sort (sym e)) in
+        let ends : ends_from s closing n ≡ argument_value s t ∷ inside s closing t.next = ap (from is_end) on ∙ from-off is_end (argument_value s t) (inside s closing t.next) e in
         record {
           from = omega (arith, k.from);
           most = k.held.most;
@@ -106,7 +107,7 @@ module _ {s : List ℕ} {closing : Bool} {n : ℕ} (size : length s ≤ 32768) (
         most_of true e l m = omega arith
         most_of false e l m = omega arith
 
-    pub ends-at-close : (t.sort ≡ 3 → ⊥) → given_from s closing n ≡ [] → EndsCall s closing n (record { stop = t.at; next = n })
+    pub ends-at-close : is_end (argument_value s t) ≡ false → given_from s closing n ≡ [] → EndsCall s closing n (record { stop = t.at; next = n })
     ends-at-close a d = go (shuts closing (argument_value s t)) refl
       where
         go : (o : Bool) → shuts closing (argument_value s t) ≡ o → EndsCall s closing n (record { stop = t.at; next = n })

@@ -5,14 +5,17 @@ use mathlib.Core.List.{List, [], ◌∷◌, ◌++◌}
 use Prim.Native.Nat.{ℕ, zero, suc, ◌+◌, ◌*◌, ◌/◌, ◌%◌, ◌≤◌, ◌<◌}
 use native.Mathlib.Nat.{le_refl}
 use native.Mathlib.Omega.{arith}
+use lib.Dec.{eqb}
 use lib.ListN.{length, get_or, set, take, drop, length-set}
 use lib.Seq.{get_or-set_same, get_or-set_other}
 use Rattle.layout.specs.Cells.{tab}
 use Rattle.macros.specs.Pieces.{Call, Piece, Change}
+use Rattle.macros.specs.Pieces.Given.{typed, parameter, joined}
 use Rattle.macros.specs.Pieces.Piece.{value, called}
 use Rattle.macro_code.specs.Code.{high, low, paired, bytes_at, given_in, is_value, is_call, argument_count, argument_cell, call_in, change_in, size_at, changes_in, behind_changes}
-use Rattle.macro_changes.specs.Changing.{Kept, parameters_of, given_as}
-use Rattle.macro_changes.specs.Changing.{Scope, first_in, count_in}
+use Rattle.macro_code.specs.declared.Given as held
+use Rattle.macro_code.specs.declared.Given.TheVariants.{Typed, Parameter, Joined}
+use Rattle.macro_changes.specs.Changing.{Scope, first_in, count_in, Kept, parameters_of, given_as, kind_in, number_in}
 
 -- the two numbers of a cell
 pub first_of : (a b : ℕ) → b < 65536 → paired a b / 65536 ≡ a
@@ -174,22 +177,28 @@ behind_more c zero n i = let e : zero + n ≡ n = omega arith in ap (behind_chan
 behind_more c (suc m) n i = let e : suc m + n ≡ suc (m + n) = omega arith in ap (behind_changes c i) e ∙ behind-one c m n i (behind_more c m n (i + size_at c i))
 
 -- a name or an argument that is written
-module _ (s c : List ℕ) (w a b kind k : ℕ) (room : w + 1 < length c) (lb : b < 65536) (lk : k < 65536) where
-  abbrev given_cells : List ℕ
-  given_cells = set (set c w (paired a b)) (w + 1) (paired kind k)
+as-kind : (w : List ℕ) (g : held.Given) → cond (eqb (kind_in g) 0) (typed w) (cond (eqb (kind_in g) 1) (parameter (number_in g)) (joined w (number_in g))) ≡ given_as g w
+unfolding given_as
+as-kind w Typed = refl
+as-kind w (Parameter k) = refl
+as-kind w (Joined k) = refl
 
-  kind_cell-is : get_or given_cells (w + 1) 0 ≡ paired kind k
-  kind_cell-is = get_or-set_same (set c w (paired a b)) (w + 1) (paired kind k) 0 (simp length-set (omega arith))
+module _ (s c : List ℕ) (w a b : ℕ) (g : held.Given) (room : w + 1 < length c) (lb : b < 65536) (lk : number_in g < 65536) where
+  abbrev given_cells : List ℕ
+  given_cells = set (set c w (paired a b)) (w + 1) (paired (kind_in g) (number_in g))
+
+  kind_cell-is : get_or given_cells (w + 1) 0 ≡ paired (kind_in g) (number_in g)
+  kind_cell-is = get_or-set_same (set c w (paired a b)) (w + 1) (paired (kind_in g) (number_in g)) 0 (simp length-set (omega arith))
 
   first-cell_is : get_or given_cells w 0 ≡ paired a b
-  first-cell_is = get_or-set_other (set c w (paired a b)) (w + 1) w (paired kind k) 0 (λ e. omega arith) ∙ get_or-set_same c w (paired a b) 0 (omega arith)
+  first-cell_is = get_or-set_other (set c w (paired a b)) (w + 1) w (paired (kind_in g) (number_in g)) 0 (λ e. omega arith) ∙ get_or-set_same c w (paired a b) 0 (omega arith)
 
-  pub given-written : given_in s given_cells w ≡ given_as kind (take b (drop a s)) k
-  unfolding given_in bytes_at given_as
-  given-written = rw (kind_cell-is, first-cell_is, first_of a b lb, second-of a b lb, first_of kind k lk, second-of kind k lk) refl
+  pub given-written : given_in s given_cells w ≡ given_as g (take b (drop a s))
+  unfolding given_in bytes_at
+  given-written = rw (kind_cell-is, first-cell_is, first_of a b lb, second-of a b lb, first_of (kind_in g) (number_in g) lk, second-of (kind_in g) (number_in g) lk) (as-kind (take b (drop a s)) g)
 
   pub place-written : high given_cells w ≡ a
   place-written = rw first-cell_is (first_of a b lb)
 
   pub given-kept : Kept c given_cells w
-  given-kept = kept_on (kept_set c w (paired a b) w (le_refl w)) (kept_set (set c w (paired a b)) (w + 1) (paired kind k) w (omega arith)) (le_refl w)
+  given-kept = kept_on (kept_set c w (paired a b) w (le_refl w)) (kept_set (set c w (paired a b)) (w + 1) (paired (kind_in g) (number_in g)) w (omega arith)) (le_refl w)

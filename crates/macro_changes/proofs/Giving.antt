@@ -7,12 +7,12 @@ use native.Mathlib.Omega.{arith}
 use Rattle.std.specs.Prelude.{Option, Some, None, IfSome, is_some, unwrap_or}
 use Rattle.std.specs.Bool.{then_some}
 use Rattle.std.proofs.lemmas.Option.{none-some, same_Some}
-use lib.Dec.{eqb, ltb}
+use lib.Dec.{ltb}
 use lib.ListN.{length, set}
-use borrow.Author.Tests.{eq-eqb, ne_eqb, lt-ltb, le-ltb}
+use borrow.Author.Tests.{lt-ltb, le-ltb}
 use Rattle.layout.specs.Cells.{tab}
 use Rattle.layout.proofs.CellLaws.{length-tab}
-use Rattle.lexer.specs.Tokens.{part, sort_at}
+use Rattle.lexer.specs.Tokens.{part}
 use Rattle.lists.specs.Lists.{keep, bytes_equal}
 use Rattle.statements.specs.Faults.{Fault}
 use Rattle.std.specs.Prelude.{None, Some}
@@ -20,16 +20,14 @@ use Rattle.statements.specs.Faults.{lower}
 use Rattle.statements.specs.FaultLaws.{fault-both}
 use Rattle.statements.specs.StatementAt.{fault_of}
 use Rattle.syntax.specs.Verdict.{lowest}
-use Rattle.syntax.specs.Items.{same_sort}
-use Rattle.syntax.specs.Items.Sort.{word, end}
 use Rattle.macros.specs.Elements as spec
-use Rattle.macros.specs.Elements.{is_end, is_identifier, places_in, until, from}
+use Rattle.macros.specs.Elements.{is_word, is_end, is_identifier, places_in, until, from}
 use Rattle.macros.specs.Pieces.{Given, given_of, is_argument, is_parameter}
 use Rattle.macro_code.specs.Code.{high, paired, bytes_at, given_in}
+use Rattle.macro_code.specs.declared.Given.TheVariants.{Typed, Parameter, Joined}
 use Rattle.macro_elements.specs.ElementAt.{elements_from, argument_value, Held, FirstElement}
 use Rattle.macro_elements.specs.declared.Element.{Element}
-use Rattle.macro_elements.proofs.Tests.{sort-is}
-use Rattle.macro_changes.specs.Changing.{Kept, parameters_of, shuts, inside, behind, given_as, Found, Judged, Reading, InsideAt, NextInside, GivenAt, NextGiven, given_from, ends_from, argument_faults, Gives}
+use Rattle.macro_changes.specs.Changing.{Kept, parameters_of, shuts, inside, behind, given_as, kind_in, number_in, Found, Judged, Reading, InsideAt, NextInside, GivenAt, NextGiven, given_from, ends_from, argument_faults, Gives}
 use Rattle.macro_changes.specs.declared.Answer.{Answer}
 use Rattle.macro_changes.specs.Changing.{Scope, first_in, count_in}
 use Rattle.macro_changes.proofs.Cells.{tab-cong, tab-last, kept-none, kept_on, parameters-same, given-same, given-written, place-written, given-kept}
@@ -81,20 +79,17 @@ module _ {s : List ℕ} {closing : Bool} {n : ℕ} {t : Element} (k : InsideAt s
   pub behind-on : behind s closing n ≡ behind s closing t.next
   behind-on = ap (from (shuts closing)) k.first.is ∙ from_on (shuts closing) (argument_value s t) (elements_from s t.next) k.inner
 
-  end_is : is_end (argument_value s t) ≡ eqb 3 t.sort
-  end_is = sort-is end t.sort k.first.held.sorted
-
-  pub given-end : t.sort ≡ 3 → NextGiven s closing n None
+  pub given-end : is_end (argument_value s t) ≡ true → NextGiven s closing n None
   given-end h =
       record {
-        none = λ e. ap (until is_end) inside_on ∙ until-off is_end (argument_value s t) (inside s closing t.next) (end_is ∙ eq-eqb 3 t.sort (sym h));
+        none = λ e. ap (until is_end) inside_on ∙ until-off is_end (argument_value s t) (inside s closing t.next) h;
         some = λ x e. absurd (none-some x e);
       }
 
-  pub given_here : (t.sort ≡ 3 → ⊥) → GivenAt s closing n t
-  given_here h = record { inner = k; plain = end_is ∙ ne_eqb 3 t.sort (λ y. h (sym y)) }
+  pub given_here : is_end (argument_value s t) ≡ false → GivenAt s closing n t
+  given_here h = record { inner = k; plain = h }
 
-  pub given_at : (t.sort ≡ 3 → ⊥) → NextGiven s closing n (Some t)
+  pub given_at : is_end (argument_value s t) ≡ false → NextGiven s closing n (Some t)
   given_at h =
       record { none = λ e. absurd (none-some t (sym e)); some = λ x e. subst (λ (u : Element). GivenAt s closing n u) (same_Some t x e) (given_here h) }
 
@@ -123,31 +118,28 @@ module _ (s c : List ℕ) (x : Scope) {t : Element} (held : Held s t) where
   listed-some None n h = sym (le-ltb n n (omega arith))
 
   pub joined-answer : {i : Bool} {b : ℕ} → t.joined ≡ Some b → (count_in x) < 65536 → (r : Option ℕ) → Found s c x (t.end + 1) b (unwrap_or r (count_in x)) → IfSome r (λ k. k < (count_in x))
-      → i ≡ is_identifier (argument_value s t) → Judged s c x t (record { kind = 2; number = unwrap_or r (count_in x); joins = i && is_some r })
+      → i ≡ is_identifier (argument_value s t) → Judged s c x t (record { given = Joined (unwrap_or r (count_in x)); joins = i && is_some r })
   unfolding given_of given_as
   joined-answer {i} z few r f l e =
       record {
-        kind_low = omega arith;
         number_low = omega (arith, f.most);
         given_is = rw (z, f.is) refl;
         joins_is = rw (z, listed-some r (count_in x) l) (rw (is_found f, ← e) (sym (and_one (i && ltb (unwrap_or r (count_in x)) (count_in x)))));
       }
 
-  pub other-answer : t.joined ≡ None → (t.sort ≡ 1 → ⊥) → Judged s c x t (record { kind = 0; number = 0; joins = true })
+  pub other-answer : t.joined ≡ None → is_word (argument_value s t) ≡ false → Judged s c x t (record { given = Typed; joins = true })
   unfolding given_of given_as
-  other-answer z w =
-      let n : same_sort word (sort_at t.sort) ≡ false = sort-is word t.sort held.sorted ∙ ne_eqb 1 t.sort (λ y. w (sym y)) in
-      record { kind_low = omega arith; number_low = omega arith; given_is = rw (z, n) refl; joins_is = rw z refl }
+  other-answer z w = record { number_low = omega arith; given_is = rw (z, w) refl; joins_is = rw z refl }
 
-  module _ (z : t.joined ≡ None) (w : t.sort ≡ 1) {r : ℕ} (f : Found s c x t.at t.end r) where
-    pub parameter-answer : r < (count_in x) → (count_in x) < 65536 → Judged s c x t (record { kind = 1; number = r; joins = true })
+  module _ (z : t.joined ≡ None) (w : is_word (argument_value s t) ≡ true) {r : ℕ} (f : Found s c x t.at t.end r) where
+    pub parameter-answer : r < (count_in x) → (count_in x) < 65536 → Judged s c x t (record { given = Parameter r; joins = true })
     unfolding given_of given_as
     parameter-answer h few =
-        record { kind_low = omega arith; number_low = omega arith; given_is = rw (z, w, is_found f, lt-ltb r (count_in x) h, f.is) refl; joins_is = rw z refl }
+        record { number_low = omega arith; given_is = rw (z, w, is_found f, lt-ltb r (count_in x) h, f.is) refl; joins_is = rw z refl }
 
-    pub typed-answer : (count_in x) ≤ r → Judged s c x t (record { kind = 0; number = 0; joins = true })
+    pub typed-answer : (count_in x) ≤ r → Judged s c x t (record { given = Typed; joins = true })
     unfolding given_of given_as
-    typed-answer h = record { kind_low = omega arith; number_low = omega arith; given_is = rw (z, w, is_found f, le-ltb r (count_in x) h) refl; joins_is = rw z refl }
+    typed-answer h = record { number_low = omega arith; given_is = rw (z, w, is_found f, le-ltb r (count_in x) h) refl; joins_is = rw z refl }
 
 -- One element more of what a call gives
 module _ {s m c : List ℕ} {x : Scope} {n u : ℕ} (q : Reading s m c x n u) where
@@ -172,10 +164,10 @@ module _ {s m c : List ℕ} {x : Scope} {n u : ℕ} (q : Reading s m c x n u) wh
     long-low = let y = e.inner.first.held in omega (arith, y.ends, y.small)
 
     abbrev written : List ℕ
-    written = set (set d w (paired t.at long)) (w + 1) (paired a.kind a.number)
+    written = set (set d w (paired t.at long)) (w + 1) (paired (kind_in a.given) (number_in a.given))
 
     written-kept : Kept d written w
-    written-kept = given-kept s d w t.at long a.kind a.number room-on long-low j.number_low
+    written-kept = given-kept s d w t.at long a.given room-on long-low j.number_low
 
     abbrev given_there : Given
     given_there = given_of (parameters_of s c x) (argument_value s t)
@@ -185,7 +177,7 @@ module _ {s m c : List ℕ} {x : Scope} {n u : ℕ} (q : Reading s m c x n u) wh
 
     given-here : given_in s written w ≡ given_there
     given-here =
-        given-written s d w t.at long a.kind a.number room-on long-low j.number_low
+        given-written s d w t.at long a.given room-on long-low j.number_low
         ∙ sym j.given_is
         ∙ ap (λ (ps : List (List ℕ)). given_of ps (argument_value s t)) same-parameters
 
@@ -199,7 +191,7 @@ module _ {s m c : List ℕ} {x : Scope} {n u : ℕ} (q : Reading s m c x n u) wh
     placings =
         tab-last k (λ o. high written (u + 2 * o))
         ∙ (let b = tab-cong k (λ o. high written (u + 2 * o)) (λ o. high d (u + 2 * o)) (λ o l. ap (λ (y : ℕ). y / 65536) (written-kept.same (u + 2 * o) (omega arith))) in
-        let p = place-written s d w t.at long a.kind a.number room-on long-low j.number_low in
+        let p = place-written s d w t.at long a.given room-on long-low j.number_low in
         λ z. b z ++ (p z ∷ []))
 
     pub gives-on : (b : Bool) → b ≡ not (is_argument (parameters_of s d x) (argument_value s t)) → Gives s c written x n u t.next (k + 1) (lower f (then_some b t.at))

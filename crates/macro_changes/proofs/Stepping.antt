@@ -25,11 +25,14 @@ use Rattle.macros.specs.Pieces.Piece.{value, called}
 use Rattle.macros.proofs.StepLaws.{at_plain, at-star, call-first, changes-plain, changes-star, form-plain, form-star}
 use Rattle.macro_code.specs.Code.{high, given_in, paired, changes_in, change_in, size_at, behind_changes}
 use Rattle.std.specs.Prelude.{Option, Some, None, IfSome, unwrap_or}
+use Rattle.macro_code.specs.Kinds.{parameter_of}
+use Rattle.macro_code.specs.declared.Given as held
+use Rattle.macro_code.specs.declared.Given.TheVariants.{Typed, Parameter, Joined}
 use Rattle.macro_elements.specs.ElementAt.{joined_at, argument_value}
 use Rattle.macro_elements.specs.declared.Element.{Element}
 use Rattle.std.specs.Bool.{then_some}
 use Rattle.std.proofs.lemmas.Option.{none-some, same_Some}
-use Rattle.macro_changes.specs.Changing.{Kept, parameters_of, inside, stop_of, changes_of, wrong_in, wrong_by, given_as, replaced, Judged, Reading, InsideAt, Started, ChangedBy, NextChange, given_from, ends_from, argument_faults, GivenUp, form_in, Stepped, Changed, Named, EndsCall, kind_of, used_by, Written}
+use Rattle.macro_changes.specs.Changing.{Kept, parameters_of, inside, stop_of, changes_of, wrong_in, wrong_by, given_as, value_in, replaced, Judged, Reading, InsideAt, Started, ChangedBy, NextChange, given_from, ends_from, argument_faults, GivenUp, form_in, Stepped, Changed, Named, EndsCall, kind_of, used_by, Written}
 use Rattle.macro_changes.specs.declared.Answer.{Answer}
 use Rattle.macro_changes.specs.declared.Ending.{Ending}
 use Rattle.std.specs.Prelude.{is_some}
@@ -159,10 +162,6 @@ unfolding tab
 no-parameters s c None e = refl
 no-parameters s c (Some p) e = absurd (true≢false e)
 
-pub turned : (n : Bool) {b : Bool} → b ≡ not n → n ≡ not b
-turned true e = sym (ap not e)
-turned false e = sym (ap not e)
-
 star-sort : (t : spec.Element) → is_star t ≡ true → is_end t ≡ false
 star-sort t h = go t.sort h
   where
@@ -203,13 +202,13 @@ module _ {s c d : List ℕ} {x : Scope} {u : ℕ} {t : Element} (q : Started s c
   all_places : tab r.count (λ j. high d (u + 2 + 2 * j)) ≡ places_in given
   all_places = sym (append-nil (tab r.count (λ j. high d (u + 2 + 2 * j)))) ∙ (rw g.done at g.gives.places)
 
-  given-fault : r.fault ≡ fault_of (argument_faults ps given)
-  given-fault = sym (lower-right r.fault) ∙ (rw g.done at g.gives.faults)
+  given-fault : r.passed.fault ≡ fault_of (argument_faults ps given)
+  given-fault = sym (lower-right r.passed.fault) ∙ (rw g.done at g.gives.faults)
 
-  pub call-fault : lower name r.fault ≡ fault_of (call_faults ps v given)
+  pub call-fault : lower name r.passed.fault ≡ fault_of (call_faults ps v given)
   call-fault = (λ i. lower (nm.is v refl i) (given-fault i)) ∙ sym (call_faults-are ps v given)
 
-  pub some-given : lower name r.fault ≡ None → 0 < r.count
+  pub some-given : lower name r.passed.fault ≡ None → 0 < r.count
   some-given e = go given refl r.count all-given
     where
       none : call_faults ps v given ≡ []
@@ -220,7 +219,7 @@ module _ {s c d : List ℕ} {x : Scope} {u : ℕ} {t : Element} (q : Started s c
       go (y ∷ ts) h zero z = absurd (no-tab (λ i. given_in s d (u + 2 + 2 * i)) (given_of ps) y ts (z ∙ ap (map (given_of ps)) h))
       go (y ∷ ts) h (suc j) z = omega arith
 
-  module _ {b : Ending} (en : EndsCall s (is_some x) r.next b) {e : List ℕ} {used : ℕ} (w : Written d e u t.at b.stop r.count (lower name r.fault) used) where
+  module _ {b : Ending} (en : EndsCall s (is_some x) r.passed.next b) {e : List ℕ} {used : ℕ} (w : Written d e u t.at b.stop r.count (lower name r.passed.fault) used) where
     room : u + 2 ≤ length d
     room = omega (arith, q.held.most, q.room, g.gives.kept.size)
 
@@ -230,8 +229,8 @@ module _ {s c d : List ℕ} {x : Scope} {u : ℕ} {t : Element} (q : Started s c
     count_low : r.count < 65536
     count_low = omega (arith, g.gives.from, g.gives.most, q.held.small)
 
-    both : (change_in s (cells s d u t.at b.stop (kind_of r.count (lower name r.fault)) room) u ≡ record { start = t.at; stop = b.stop; pieces = cond (filled (call_faults ps v given)) [] (called (call_of ps v given) ∷ []) }) × (u + size_at (cells s d u t.at b.stop (kind_of r.count (lower name r.fault)) room) u ≡ used_by u r.count (lower name r.fault))
-    both = call-change s d u t.at b.stop r.count room stop_low count_low ps v refl given all-given all_places (lower name r.fault) call-fault some-given
+    both : (change_in s (cells s d u t.at b.stop (kind_of r.count (lower name r.passed.fault)) room) u ≡ record { start = t.at; stop = b.stop; pieces = cond (filled (call_faults ps v given)) [] (called (call_of ps v given) ∷ []) }) × (u + size_at (cells s d u t.at b.stop (kind_of r.count (lower name r.passed.fault)) room) u ≡ used_by u r.count (lower name r.passed.fault))
+    both = call-change s d u t.at b.stop r.count room stop_low count_low ps v refl given all-given all_places (lower name r.passed.fault) call-fault some-given
 
     none-there : (is_some x) ≡ false → ps ≡ []
     none-there h = no-parameters s c x h
@@ -244,7 +243,7 @@ module _ {s c d : List ℕ} {x : Scope} {u : ℕ} {t : Element} (q : Started s c
       forward : n < t.next
       forward = first_forward k.first
 
-      call_stop-same : stop_of s (is_some x) r.next ≡ stop_of s (is_some x) n
+      call_stop-same : stop_of s (is_some x) r.passed.next ≡ stop_of s (is_some x) n
       call_stop-same = ap (λ (ts : List spec.Element). if_any (length s) (λ y. y.at) ts) (g.gives.rest ∙ sym (behind-on k))
 
       the-stop : b.stop ≡ call_stop (stop_of s (is_some x) n) (ends_from s (is_some x) t.next)
@@ -264,9 +263,9 @@ module _ {s c d : List ℕ} {x : Scope} {u : ℕ} {t : Element} (q : Started s c
       used-most None = (omega arith, omega (arith, forward, g.gives.from, en.from))
       used-most (Some p) = (omega arith, omega (arith, forward, g.gives.from, en.from))
 
-      pub call-from : Changed s c e x n u (record { next = b.next; used = used; count = 1; fault = lower name r.fault })
+      pub call-from : Changed s c e x n u (record { passed = record { next = b.next; fault = lower name r.passed.fault }; used = used; count = 1 })
       call-from =
-          let z = used-most (lower name r.fault) in
+          let z = used-most (lower name r.passed.fault) in
           let closing = (is_some x) in
           let stop = stop_of s closing n in
           record {
@@ -274,7 +273,7 @@ module _ {s c d : List ℕ} {x : Scope} {u : ℕ} {t : Element} (q : Started s c
                 record {
                   from = omega (arith, forward, g.gives.from, en.from);
                   most = en.most;
-                  kept = rw w.is (kept_on (kept-below g.gives.kept (omega arith)) (cells-kept s d u t.at b.stop (kind_of r.count (lower name r.fault)) room) (le_refl u));
+                  kept = rw w.is (kept_on (kept-below g.gives.kept (omega arith)) (cells-kept s d u t.at b.stop (kind_of r.count (lower name r.passed.fault)) room) (le_refl u));
                   low = rw w.used z.0;
                   room = rw w.used z.1;
                   faults =
@@ -292,7 +291,7 @@ module _ {s c d : List ℕ} {x : Scope} {u : ℕ} {t : Element} (q : Started s c
             more = omega (arith, forward, g.gives.from, en.from);
           }
 
-    pub call-stepped : ChangedBy s c e x t u (record { next = b.next; used = used; count = 1; fault = lower name r.fault })
+    pub call-stepped : ChangedBy s c e x t u (record { passed = record { next = b.next; fault = lower name r.passed.fault }; used = used; count = 1 })
     call-stepped = record { is = λ n k. call-from k }
 
 -- A word outside calls
@@ -311,6 +310,12 @@ word_by ps t = go t.joined (is_word t && is_parameter ps t.typed)
     go [] true = refl
     go [] false = refl
     go (w ∷ ws) b = refl
+
+typed-nothing : (v : spec.Element) (w : List ℕ) (g : held.Given) → parameter_of g ≡ None → change_by v (given_as g w) ≡ []
+unfolding given_as
+typed-nothing v w Typed e = refl
+typed-nothing v w (Parameter k) e = absurd (none-some k (sym e))
+typed-nothing v w (Joined k) e = absurd (none-some k (sym e))
 
 pub change-some : {s c d : List ℕ} {x : Scope} {n u : ℕ} {t : Element} {r : Step} → InsideAt s (is_some x) n t → ChangedBy s c d x t u r → NextChange s c d x n u (Some r)
 change-some {s} {c} {d} {x} {n} {u} {t} {r} k h =
@@ -350,7 +355,7 @@ module _ {s c : List ℕ} {x : Scope} {u : ℕ} {t : Element} (q : Started s c x
     word-stepped : (d : List ℕ) (count used : ℕ) {f : Fault} → Kept c d u → n + count ≤ t.next → u ≤ used → used + 2 * n ≤ u + 2 * t.next
         → lower f (fault_of (form_in s ps' (is_some x) t.next)) ≡ fault_of (form_in s ps' (is_some x) n)
         → changes_in s d u count ≡ words_of (is_some x) ps' v' → behind_changes d u count ≡ used
-        → Changed s c d x n u (record { next = t.next; used = used; count = count; fault = f })
+        → Changed s c d x n u (record { passed = record { next = t.next; fault = f }; used = used; count = count })
     word-stepped d count used h l o z f g b =
         let closing = (is_some x) in
         record {
@@ -372,41 +377,38 @@ module _ {s c : List ℕ} {x : Scope} {u : ℕ} {t : Element} (q : Started s c x
           more = word-forward;
         }
 
-  typed-none : eqb a.kind 0 ≡ true → word_changes ps' v' ≡ []
-  unfolding given_as
-  typed-none e =
-      let g : given_of ps' v' ≡ typed (part s t.at t.end) = judged.given_is ∙ rw e refl in
-      word_by ps' v' ∙ ap (change_by v') g
+  typed-none : parameter_of a.given ≡ None → word_changes ps' v' ≡ []
+  typed-none e = word_by ps' v' ∙ ap (change_by v') judged.given_is ∙ typed-nothing v' (part s t.at t.end) a.given e
 
-  no_words : (closing : Bool) → (not closing || eqb a.kind 0) ≡ true → [] ≡ words_of closing ps' v'
+  no_words : (y : Scope) → value_in y a.given ≡ None → [] ≡ words_of (is_some y) ps' v'
   unfolding words_of
-  no_words true h = sym (typed-none h)
-  no_words false h = refl
+  no_words (Some p) h = sym (typed-none h)
+  no_words None h = refl
 
-  pub word_none : (b : Bool) → b ≡ wrong_by (is_some x) a.joins v' → {f : Fault} → f ≡ then_some b t.at → (not (is_some x) || eqb a.kind 0) ≡ true
-      → ChangedBy s c c x t u (record { next = t.next; used = u; count = 0; fault = f })
+  pub word_none : (b : Bool) → b ≡ wrong_by (is_some x) a.joins v' → {f : Fault} → f ≡ then_some b t.at → value_in x a.given ≡ None
+      → ChangedBy s c c x t u (record { passed = record { next = t.next; fault = f }; used = u; count = 0 })
   unfolding changes_in behind_changes
   word_none b e g h =
-      record { is = λ n k. let z = word-forward k in word-stepped k c 0 u (kept-none c u) (omega arith) (le_refl u) (omega arith) (word-faults k b e g) (no_words (is_some x) h) refl }
+      record { is = λ n k. let z = word-forward k in word-stepped k c 0 u (kept-none c u) (omega arith) (le_refl u) (omega arith) (word-faults k b e g) (no_words x h) refl }
 
   -- a parameter
   end-is_end : end_of v' ≡ t.end
   end-is_end = let z = q.held in simp (length-take, length-drop) (omega (arith, z.own, z.ends))
 
   abbrev pub from_place : ℕ
-  from_place = (replaced t a.kind).0
+  from_place = (replaced t a.given).0
 
   abbrev pub to_place : ℕ
-  to_place = (replaced t a.kind).1
+  to_place = (replaced t a.given).1
 
-  abbrev value_change : ℕ → ℕ → Change
-  value_change b e = record { start = b; stop = e; pieces = value a.number ∷ [] }
+  abbrev value_change : ℕ → ℕ → ℕ → Change
+  value_change k b e = record { start = b; stop = e; pieces = value k ∷ [] }
 
-  joined-not : given_of ps' v' ≡ joined (part s t.at t.end) a.number → t.joined ≡ None → ⊥
+  joined-not : {k : ℕ} → given_of ps' v' ≡ joined (part s t.at t.end) k → t.joined ≡ None → ⊥
   unfolding given_of
-  joined-not e z = go (is_word v' && is_parameter ps' v'.typed) (rw z at e)
+  joined-not {k} e z = go (is_word v' && is_parameter ps' v'.typed) (rw z at e)
     where
-      go : (b : Bool) → cond b (parameter (number_of ps' v'.typed)) (typed v'.typed) ≡ joined (part s t.at t.end) a.number → ⊥
+      go : (b : Bool) → cond b (parameter (number_of ps' v'.typed)) (typed v'.typed) ≡ joined (part s t.at t.end) k → ⊥
       go true e = let z : ◌≡◌ {A = ℕ} 0 1 = cc in omega arith
       go false e = let z : ◌≡◌ {A = ℕ} 0 1 = cc in omega arith
 
@@ -417,46 +419,58 @@ module _ {s c : List ℕ} {x : Scope} {u : ℕ} {t : Element} (q : Started s c x
       go None h x = absurd (x refl)
       go (Some b) h x = simp (length-take, length-drop) (omega (arith, h.0, h.1, q.held.most))
 
-  one_word : eqb a.kind 0 ≡ false → word_changes ps' v' ≡ value_change from_place to_place ∷ []
+  one_word : {k : ℕ} → parameter_of a.given ≡ Some k → word_changes ps' v' ≡ value_change k from_place to_place ∷ []
   unfolding given_as
-  one_word e = word_by ps' v' ∙ go (eqb a.kind 1) (judged.given_is ∙ rw e refl)
+  one_word {k} e = word_by ps' v' ∙ go a.given judged.given_is e
     where
-      go : (b : Bool) → given_of ps' v' ≡ cond b (parameter a.number) (joined (part s t.at t.end) a.number)
-          → change_by v' (given_of ps' v') ≡ value_change (cond b t.at t.end) (cond b t.end (unwrap_or t.joined t.end)) ∷ []
-      go true g = ap (change_by v') g ∙ (λ i. value_change t.at (end-is_end i) ∷ [])
-      go false g = ap (change_by v') g ∙ (let j = joined_ends (joined-not g) in λ i. value_change (end-is_end i) (j i) ∷ [])
+      go : (g : held.Given) → given_of ps' v' ≡ given_as g (part s t.at t.end) → parameter_of g ≡ Some k
+          → change_by v' (given_of ps' v') ≡ value_change k (replaced t g).0 (replaced t g).1 ∷ []
+      go Typed g e = absurd (none-some k e)
+      go (Parameter j) g e = ap (change_by v') g ∙ (λ i. value_change (same_Some j k e i) t.at (end-is_end i) ∷ [])
+      go (Joined j) g e = ap (change_by v') g ∙ (let z = joined_ends (joined-not g) in λ i. value_change (same_Some j k e i) (end-is_end i) (z i) ∷ [])
 
   pub room_word : u + 2 ≤ length c
   room_word = omega (arith, q.held.most, q.room)
 
   pub places-low : (from_place < 65536) × (to_place < 65536)
-  places-low = go (eqb a.kind 1)
+  places-low = go a.given
     where
       joined-low : (o : Option ℕ) → IfSome o (λ b. (t.end + 1 ≤ b) × (b ≤ t.next)) → unwrap_or o t.end < 65536
       joined-low None h = omega (arith, q.held.ends, q.held.small)
       joined-low (Some b) h = omega (arith, h.1, q.held.most, q.held.small)
 
-      go : (b : Bool) → (cond b t.at t.end < 65536) × (cond b t.end (unwrap_or t.joined t.end) < 65536)
-      go true = let h = q.held in (omega (arith, h.own, h.ends, h.small), omega (arith, h.ends, h.small))
-      go false = let h = q.held in (omega (arith, h.ends, h.small), joined-low t.joined h.joined_ends)
+      behind : (t.end < 65536) × (unwrap_or t.joined t.end < 65536)
+      behind = let h = q.held in (omega (arith, h.ends, h.small), joined-low t.joined h.joined_ends)
 
-  words-there : (closing : Bool) → (not closing || eqb a.kind 0) ≡ false → words_of closing ps' v' ≡ value_change from_place to_place ∷ []
+      go : (g : held.Given) → ((replaced t g).0 < 65536) × ((replaced t g).1 < 65536)
+      go Typed = behind
+      go (Parameter k) = let h = q.held in (omega (arith, h.own, h.ends, h.small), omega (arith, h.ends, h.small))
+      go (Joined k) = behind
+
+  in-body : (y : Scope) {k : ℕ} → value_in y a.given ≡ Some k → parameter_of a.given ≡ Some k
+  in-body (Some p) h = h
+  in-body None {k} h = absurd (none-some k h)
+
+  pub value_low : {k : ℕ} → value_in x a.given ≡ Some k → k < 65536
+  value_low {k} h = rw (in-body x h) at judged.number_low
+
+  words-there : (y : Scope) {k : ℕ} → value_in y a.given ≡ Some k → words_of (is_some y) ps' v' ≡ value_change k from_place to_place ∷ []
   unfolding words_of
-  words-there true h = one_word h
-  words-there false h = absurd (true≢false h)
+  words-there (Some p) h = one_word h
+  words-there None {k} h = absurd (none-some k h)
 
-  pub word-one : (b : Bool) → b ≡ wrong_by (is_some x) a.joins v' → {f : Fault} → f ≡ then_some b t.at → (not (is_some x) || eqb a.kind 0) ≡ false
-      → ChangedBy s c (cells s c u from_place to_place (paired 0 a.number) room_word) x t u (record { next = t.next; used = u + 2; count = 1; fault = f })
+  pub word-one : {k : ℕ} → value_in x a.given ≡ Some k → (b : Bool) → b ≡ wrong_by (is_some x) a.joins v' → {f : Fault} → f ≡ then_some b t.at
+      → ChangedBy s c (cells s c u from_place to_place (paired 0 k) room_word) x t u (record { passed = record { next = t.next; fault = f }; used = u + 2; count = 1 })
   unfolding changes_in behind_changes
-  word-one b e g h =
-      let d = cells s c u from_place to_place (paired 0 a.number) room_word in
+  word-one {k} h b e g =
+      let d = cells s c u from_place to_place (paired 0 k) room_word in
       let low = places-low.1 in
-      let few = judged.number_low in
+      let few = value_low h in
       record {
         is =
-            λ n k.
-            let z = word-forward k in
-            word-stepped k d 1 (u + 2) (cells-kept s c u from_place to_place (paired 0 a.number) room_word) (omega arith) (omega arith) (omega arith) (word-faults k b e g)
-            (ap (λ (z : Change). z ∷ []) (value_is s c u from_place to_place a.number room_word low few) ∙ sym (words-there (is_some x) h))
-            (ap (λ (z : ℕ). u + z) (value-size s c u from_place to_place a.number room_word low few));
+            λ n y.
+            let z = word-forward y in
+            word-stepped y d 1 (u + 2) (cells-kept s c u from_place to_place (paired 0 k) room_word) (omega arith) (omega arith) (omega arith) (word-faults y b e g)
+            (ap (λ (z : Change). z ∷ []) (value_is s c u from_place to_place k room_word low few) ∙ sym (words-there x h))
+            (ap (λ (z : ℕ). u + z) (value-size s c u from_place to_place k room_word low few));
       }

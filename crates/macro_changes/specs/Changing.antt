@@ -1,10 +1,11 @@
 -- The changes of a body or of the section in cells: what the functions that read them promise.
-use Rattle.std.specs.Prelude.{◌≡◌, Bool, true, false, cond, not, ◌&&◌, ◌||◌, List, [], ◌++◌, map, ℕ, ◌+◌, ◌*◌, ◌-◌, ◌≤◌, ◌<◌, eqb, length, get_or, set, drop}
+use Rattle.std.specs.Prelude.{◌≡◌, Bool, true, false, cond, not, ◌&&◌, ◌||◌, List, [], ◌++◌, map, ℕ, ◌+◌, ◌*◌, ◌-◌, ◌≤◌, ◌<◌, length, get_or, set, drop}
 use Rattle.language.specs.Limits as limit
 use Rattle.layout.specs.Cells.{tab}
 use Rattle.lexer.specs.Tokens.{part}
 use Rattle.lists.specs.Lists.{if_any, keep}
 use Rattle.statements.specs.Faults.{Fault}
+use Rattle.std.specs.Bool.{then_some}
 use Rattle.std.specs.Prelude.{Option, None, Some, is_some, unwrap_or}
 use Rattle.statements.specs.Faults.{lower}
 use Rattle.statements.specs.StatementAt.{fault_of}
@@ -14,12 +15,16 @@ use Rattle.macros.specs.Elements.{is_word, is_end, is_mark, is_star, is_close, i
 use Rattle.macros.specs.Pieces.{Given, Change, given_of, joins_well, is_argument, number_of, name_faults, changes, call_stop, section_changes, is_stray, is_misplaced, form_faults}
 use Rattle.macros.specs.Pieces.Given.{typed, parameter, joined}
 use Rattle.macro_code.specs.Code.{high, paired, bytes_at, given_in, changes_in, behind_changes}
+use Rattle.macro_code.specs.Kinds.{parameter_of}
 use Rattle.macro_code.specs.Places as place
+use Rattle.macro_code.specs.declared.Given as held
+use Rattle.macro_code.specs.declared.Given.TheVariants.{Typed, Parameter, Joined}
 use Rattle.macro_elements.specs.ElementAt.{elements_from, argument_value, Lent, Held, FirstElement}
 use Rattle.macro_elements.specs.declared.Element.{Element}
 use Rattle.macro_changes.specs.declared.Answer.{Answer}
 use Rattle.macro_changes.specs.declared.Ending.{Ending}
 use Rattle.macro_changes.specs.declared.Parameters.{Parameters}
+use Rattle.macro_changes.specs.declared.Passed.{Passed}
 use Rattle.macro_changes.specs.declared.Step.{Step}
 
 -- a body with its parameters, or the section, which has none
@@ -65,9 +70,19 @@ unfoldable pub wrong_in : Bool → List (List ℕ) → spec.Element → Bool
 wrong_in true ps t = is_misplaced ps t
 wrong_in false ps t = is_stray ps t
 
--- a name or an argument by its kind, its bytes and a parameter's number
-unfoldable pub given_as : ℕ → List ℕ → ℕ → Given
-given_as kind w k = cond (eqb kind place.typed_kind) (typed w) (cond (eqb kind place.parameter_kind) (parameter k) (joined w k))
+-- a name or an argument as code holds it, with its bytes; and the numbers that go into its cell, its kind and a parameter's number
+unfoldable pub given_as : held.Given → List ℕ → Given
+given_as Typed w = typed w
+given_as (Parameter k) w = parameter k
+given_as (Joined k) w = joined w k
+
+abbrev pub kind_in : held.Given → ℕ
+kind_in Typed = place.typed_kind
+kind_in (Parameter k) = place.parameter_kind
+kind_in (Joined k) = place.joined_kind
+
+abbrev pub number_in : held.Given → ℕ
+number_in g = unwrap_or (parameter_of g) 0
 
 pub record Findable (s c : List ℕ) (x : Scope) (at end : ℕ) : Type 0 where
   pub own : at ≤ end
@@ -85,9 +100,8 @@ pub record Judging (s c : List ℕ) (x : Scope) (t : Element) : Type 0 where
   pub scoped : (first_in x) + (count_in x) ≤ length c
 
 pub record Judged (s c : List ℕ) (x : Scope) (t : Element) (r : Answer) : Type 0 where
-  pub kind_low : r.kind < place.half
-  pub number_low : r.number < place.half
-  pub given_is : given_of (parameters_of s c x) (argument_value s t) ≡ given_as r.kind (part s t.at t.end) r.number
+  pub number_low : number_in r.given < place.half
+  pub given_is : given_of (parameters_of s c x) (argument_value s t) ≡ given_as r.given (part s t.at t.end)
   pub joins_is : r.joins ≡ joins_well (parameters_of s c x) (argument_value s t)
 
 -- From place n on, with cells from u on
@@ -106,6 +120,16 @@ pub record InsideAt (s : List ℕ) (closing : Bool) (n : ℕ) (t : Element) : Ty
 pub record NextInside (s : List ℕ) (closing : Bool) (n : ℕ) (r : Option Element) : Type 0 where
   pub none : r ≡ None → inside s closing n ≡ []
   pub some : (t : Element) → r ≡ Some t → InsideAt s closing n t
+
+-- what is passed: nothing yet, an element more, and two stretches
+abbrev pub none_passed : ℕ → Passed
+none_passed n = record { next = n; fault = None }
+
+abbrev pub passed_over : Passed → Element → Bool → Passed
+passed_over p t wrong = record { next = t.next; fault = lower p.fault (then_some wrong t.at) }
+
+abbrev pub passed_both : Passed → Passed → Passed
+passed_both p q = record { next = q.next; fault = lower p.fault q.fault }
 
 -- what a call gives: all elements up to its end
 abbrev pub given_from : List ℕ → Bool → ℕ → List spec.Element
@@ -137,8 +161,8 @@ pub record Gives (s c d : List ℕ) (x : Scope) (n u next count : ℕ) (fault : 
   pub rest : behind s (is_some x) next ≡ behind s (is_some x) n
 
 pub record GivenUp (s c d : List ℕ) (x : Scope) (n u : ℕ) (r : Step) : Type 0 where
-  pub gives : Gives s c d x n u r.next r.count r.fault
-  pub done : given_from s (is_some x) r.next ≡ []
+  pub gives : Gives s c d x n u r.passed.next r.count r.passed.fault
+  pub done : given_from s (is_some x) r.passed.next ≡ []
 
 -- Some changes: those from place n on are in cells, and the others follow from next on
 abbrev pub form_in : List ℕ → List (List ℕ) → Bool → ℕ → List ℕ
@@ -156,12 +180,12 @@ pub record Stepped (s c d : List ℕ) (x : Scope) (n u next used count : ℕ) (f
   pub rest : behind s (is_some x) next ≡ behind s (is_some x) n
 
 pub record Changed (s c d : List ℕ) (x : Scope) (n u : ℕ) (r : Step) : Type 0 where
-  pub steps : Stepped s c d x n u r.next r.used r.count r.fault
-  pub more : n < r.next
+  pub steps : Stepped s c d x n u r.passed.next r.used r.count r.passed.fault
+  pub more : n < r.passed.next
 
 pub record ReadChanges (s c d : List ℕ) (x : Scope) (n u : ℕ) (r : Step) : Type 0 where
-  pub steps : Stepped s c d x n u r.next r.used r.count r.fault
-  pub done : inside s (is_some x) r.next ≡ []
+  pub steps : Stepped s c d x n u r.passed.next r.used r.count r.passed.fault
+  pub done : inside s (is_some x) r.passed.next ≡ []
 
 -- From the element t on, with cells from u on
 pub record Started (s c : List ℕ) (x : Scope) (t : Element) (u : ℕ) : Type 0 where
@@ -229,6 +253,13 @@ pub record Written (c d : List ℕ) (u start stop count : ℕ) (fault : Fault) (
 unfoldable pub wrong_by : Bool → Bool → spec.Element → Bool
 wrong_by closing joins t = (is_mark 40 t || is_mark 41 t || is_mark 39 t || not joins) || (closing && (is_word t && not (is_listed t)))
 
+-- the parameter whose value is put in the place of one: the section has none
+abbrev pub value_in : Scope → held.Given → Option ℕ
+value_in None g = None
+value_in (Some p) g = parameter_of g
+
 -- the places that a parameter's value takes in a body
-abbrev pub replaced : Element → ℕ → ℕ × ℕ
-replaced t kind = (cond (eqb kind place.parameter_kind) t.at t.end, cond (eqb kind place.parameter_kind) t.end (unwrap_or t.joined t.end))
+abbrev pub replaced : Element → held.Given → ℕ × ℕ
+replaced t Typed = (t.end, unwrap_or t.joined t.end)
+replaced t (Parameter k) = (t.at, t.end)
+replaced t (Joined k) = (t.end, unwrap_or t.joined t.end)

@@ -8,11 +8,11 @@ ghost use Rattle.macros.specs.Elements.{is_text, is_listed};
 ghost use Rattle.macro_code.specs.Code.{paired, bytes_at};
 ghost use Rattle.macro_code.specs.Places.{half, kind_cell};
 ghost use Rattle.macro_elements.specs.ElementAt.{argument_value, Lent, Held};
-ghost use Rattle.macro_changes.specs.Changing.{count_in, shuts, wrong_by, replaced, NextInside, NextGiven, Named, EndsHere, Writing, Written, Findable, Found, Judging, Judged, Reading, GivenUp, ChangedBy, NextChange, ReadChanges, Starred, Worded};
+ghost use Rattle.macro_changes.specs.Changing.{count_in, shuts, wrong_by, kind_in, number_in, value_in, none_passed, passed_over, passed_both, replaced, NextInside, NextGiven, Named, EndsHere, Writing, Written, Findable, Found, Judging, Judged, Reading, GivenUp, ChangedBy, NextChange, ReadChanges, Starred, Worded};
 
-use macro_code::{CodePlaces, high, low, pair, part};
+use macro_code::{CodePlaces, Coded, Given, pair};
 use macro_elements::{Element, Source, is_identifier, is_listed, is_mark, next_element};
-use scanner::{END, TEXT, WORD};
+use scanner::Sort;
 use statements::{Fault, lower};
 
 // A body's parameters: their first cell and their count.
@@ -32,22 +32,58 @@ fn count_in(x: Scope) -> usize
     x.map_or(0, |p| p.count)
 }
 
-// What was read: the place and the cell behind it, the count of changes or arguments, and the lowest place at fault.
-// The place and the cell go in as two numbers: a type for the two would be taken apart at each step.
+// What is passed of a text: the place behind it, and the lowest place at fault.
 #[derive(Clone, Copy)]
-pub struct Step {
+pub struct Passed {
     pub next: usize,
-    pub used: usize,
-    pub count: usize,
     pub fault: Fault,
 }
 
-// What an element is as a name or an argument, by the numbers that go into cells, with a parameter's number; and whether what is joined to it may be.
-// The kind of what is joined does not tell whether it may be, so `joins` stands beside it.
+impl Passed {
+    // Nothing yet, from place `n` on.
+    pub fn nothing(n: usize) -> Passed
+        ensures { result ≡ none_passed n }
+    {
+        Passed {
+            next: n,
+            fault: None,
+        }
+    }
+
+    // The next element too, which is at fault or not.
+    pub fn over(self, t: Element, wrong: bool) -> Passed
+        ensures { result ≡ passed_over self t wrong }
+    {
+        Passed {
+            next: t.next,
+            fault: lower(self.fault, wrong.then_some(t.at)),
+        }
+    }
+
+    // And what is passed behind it.
+    pub fn and(self, more: Passed) -> Passed
+        ensures { result ≡ passed_both self more }
+    {
+        Passed {
+            next: more.next,
+            fault: lower(self.fault, more.fault),
+        }
+    }
+}
+
+// What was read: what is passed, the cell behind it, and the count of changes or arguments.
+// The place and the cell go in as two numbers: a type for the two would be taken apart at each step.
+#[derive(Clone, Copy)]
+pub struct Step {
+    pub passed: Passed,
+    pub used: usize,
+    pub count: usize,
+}
+
+// What an element is as a name or an argument, and whether what is joined to it may be: what it is does not tell that.
 #[derive(Clone, Copy)]
 struct Answer {
-    kind: usize,
-    number: usize,
+    given: Given,
     joins: bool,
 }
 
@@ -70,12 +106,27 @@ fn put_two(code: &mut [u32], u: usize, a: usize, b: usize, kind: usize, number: 
     put(code, u + CodePlaces::KIND, kind, number);
 }
 
+// The same of a name or an argument.
+fn put_given(code: &mut [u32], u: usize, at: usize, size: usize, given: Given)
+    requires room { u + kind_cell < length code.old }
+    requires place { (at < half) × (size < half) }
+    requires what { number_in given < half }
+    ensures { code.new ≡ set (set code.old u (paired at size)) (u + kind_cell) (paired (kind_in given) (number_in given)) }
+{
+    let (kind, number) = match given {
+        Given::Typed => (CodePlaces::TYPED, 0),
+        Given::Parameter(k) => (CodePlaces::PARAMETER, k),
+        Given::Joined(k) => (CodePlaces::JOINED, k),
+    };
+    put_two(code, u, at, size, kind, number);
+}
+
 // Whether the bytes of the cell `i` are the name.
-#[tactic(auto, unfolding(macro_code::specs::Code::bytes_at))]
 fn is_name(text: &[u8], code: &[u32], i: usize, name: &[u8]) -> bool
     ensures { result ≡ bytes_equal name.now (bytes_at text.now code.now i) }
 {
-    name == part(text, high(code, i), low(code, i))
+    let coded = Coded { text, code };
+    name == coded.bytes_at(i)
 }
 
 // The number of the parameter with these bytes.
@@ -97,8 +148,7 @@ fn find_parameter(text: &[u8], code: &[u32], x: Scope, at: usize, end: usize) ->
 
 // What is typed as itself.
 const TYPED: Answer = Answer {
-    kind: CodePlaces::TYPED,
-    number: 0,
+    given: Given::Typed,
     joins: true,
 };
 
@@ -109,18 +159,16 @@ fn answer_of(text: &[u8], code: &[u32], x: Scope, t: Element) -> Answer
     if let Some(behind) = t.joined {
         let k = find_parameter(text, code, x, t.end + 1, behind);
         return Answer {
-            kind: CodePlaces::JOINED,
-            number: k.unwrap_or(count_in(x)),
+            given: Given::Joined(k.unwrap_or(count_in(x))),
             joins: is_identifier(text, t) & k.is_some(),
         };
     }
-    if t.sort != WORD {
+    if !t.is(Sort::Word) {
         return TYPED;
     }
     match find_parameter(text, code, x, t.at, t.end) {
         Some(k) => Answer {
-            kind: CodePlaces::PARAMETER,
-            number: k,
+            given: Given::Parameter(k),
             joins: true,
         },
         None => TYPED,
@@ -132,12 +180,11 @@ fn is_argument(text: &[u8], t: Element, joins: bool) -> bool
     requires { Held text.now t }
     ensures { result ≡ (is_text (argument_value text.now t) || (is_listed (argument_value text.now t) && joins)) }
 {
-    TEXT == t.sort || (is_listed(text, t) && joins)
+    t.is(Sort::Text) || (is_listed(text, t) && joins)
 }
 
 // Whether an element closes the body.
 fn closes(x: Scope, t: Element) -> bool
-    requires { t.sort < 6 }
     ensures { (s : List ℕ) → result ≡ shuts (is_some x) (argument_value s t) }
 {
     x.is_some() && is_mark(b')', t)
@@ -161,7 +208,7 @@ fn next_given(source: &Source, x: Scope, n: usize) -> Option<Element>
     ensures { NextGiven source.now.text.now (is_some x) n result }
 {
     let t = next_inside(source, x, n)?;
-    if t.sort == END {
+    if t.is(Sort::End) {
         return None;
     }
     Some(t)
@@ -172,23 +219,19 @@ fn read_given(source: &Source, code: &mut [u32], x: Scope, n: usize, u: usize) -
     requires { Reading source.now.text.now source.now.marked.now code.old x n u }
     ensures { GivenUp source.now.text.now code.old code.new x n u result }
 {
-    let mut i = n;
+    let mut passed = Passed::nothing(n);
     let mut k: usize = 0;
-    let mut fault = None;
-    while let Some(t) = next_given(source, x, i) {
+    while let Some(t) = next_given(source, x, passed.next) {
         let w = u + CodePlaces::GIVEN_SIZE * k;
         let a = answer_of(source.text, code, x, t);
-        let wrong = !is_argument(source.text, t, a.joins);
-        fault = lower(fault, wrong.then_some(t.at));
-        put_two(code, w, t.at, t.end - t.at, a.kind, a.number);
-        i = t.next;
+        put_given(code, w, t.at, t.end - t.at, a.given);
+        passed = passed.over(t, !is_argument(source.text, t, a.joins));
         k += 1;
     }
     Step {
-        next: i,
+        passed,
         used: u + CodePlaces::GIVEN_SIZE * k,
         count: k,
-        fault,
     }
 }
 
@@ -220,7 +263,7 @@ fn end_of_call(source: &Source, n: usize) -> Ending
             next: n,
         };
     };
-    if t.sort == END {
+    if t.is(Sort::End) {
         return Ending {
             stop: t.at + usize::from(t.byte == b';'),
             next: t.next,
@@ -263,14 +306,17 @@ fn read_call(source: &Source, code: &mut [u32], x: Scope, star: Element, u: usiz
 {
     let r = read_given(source, code, x, star.next, u + CodePlaces::NAME);
     let name = name_fault(source, x, star.at, star.next);
-    let fault = lower(name, r.fault);
-    let e = end_of_call(source, r.next);
+    let fault = lower(name, r.passed.fault);
+    let e = end_of_call(source, r.passed.next);
     let used = write_call(code, u, star.at, e.stop, r.count, fault);
-    Step {
+    let passed = Passed {
         next: e.next,
+        fault,
+    };
+    Step {
+        passed,
         used,
         count: 1,
-        fault,
     }
 }
 
@@ -280,17 +326,24 @@ fn is_wrong(text: &[u8], x: Scope, t: Element, joins: bool) -> bool
     ensures { result ≡ wrong_by (is_some x) joins (argument_value text.now t) }
 {
     let stray = is_mark(b'(', t) | is_mark(b')', t) | is_mark(b'\'', t) | !joins;
-    stray | (x.is_some() & ((WORD == t.sort) & !is_listed(text, t)))
+    stray | (x.is_some() & (t.is(Sort::Word) & !is_listed(text, t)))
+}
+
+// The number of the parameter whose value is put in an element's place: in the section there is none.
+fn value_in(x: Scope, given: Given) -> Option<usize>
+    ensures { result ≡ value_in x given }
+{
+    x?;
+    given.parameter()
 }
 
 // The places that a parameter's value takes in a body: those of its name, or of the apostrophe with what it joins.
-fn replaced(t: Element, kind: usize) -> (usize, usize)
-    ensures { result ≡ replaced t kind }
+fn replaced(t: Element, given: Given) -> (usize, usize)
+    ensures { result ≡ replaced t given }
 {
-    if kind == CodePlaces::PARAMETER {
-        (t.at, t.end)
-    } else {
-        (t.end, t.joined.unwrap_or(t.end))
+    match given {
+        Given::Parameter(_) => (t.at, t.end),
+        Given::Typed | Given::Joined(_) => (t.end, t.joined.unwrap_or(t.end)),
     }
 }
 
@@ -300,22 +353,23 @@ fn read_word(text: &[u8], code: &mut [u32], x: Scope, t: Element, u: usize) -> S
     ensures { ChangedBy text.now code.old code.new x t u result }
 {
     let a = answer_of(text, code, x, t);
-    let fault = is_wrong(text, x, t, a.joins).then_some(t.at);
-    if x.is_none() | (a.kind == CodePlaces::TYPED) {
+    let passed = Passed {
+        next: t.next,
+        fault: is_wrong(text, x, t, a.joins).then_some(t.at),
+    };
+    let Some(k) = value_in(x, a.given) else {
         return Step {
-            next: t.next,
+            passed,
             used: u,
             count: 0,
-            fault,
         };
-    }
-    let (start, stop) = replaced(t, a.kind);
-    put_two(code, u, start, stop, CodePlaces::VALUE, a.number);
+    };
+    let (start, stop) = replaced(t, a.given);
+    put_two(code, u, start, stop, CodePlaces::VALUE, k);
     Step {
-        next: t.next,
+        passed,
         used: u + CodePlaces::SMALL_SIZE,
         count: 1,
-        fault,
     }
 }
 
@@ -336,20 +390,17 @@ pub fn read_changes(source: &Source, code: &mut [u32], x: Scope, n: usize, u: us
     requires { Reading source.now.text.now source.now.marked.now code.old x n u }
     ensures { ReadChanges source.now.text.now code.old code.new x n u result }
 {
-    let mut i = n;
+    let mut passed = Passed::nothing(n);
     let mut used = u;
-    let mut k: usize = 0;
-    let mut fault = None;
-    while let Some(r) = read_change(source, code, x, i, used) {
-        i = r.next;
+    let mut count: usize = 0;
+    while let Some(r) = read_change(source, code, x, passed.next, used) {
+        passed = passed.and(r.passed);
         used = r.used;
-        k += r.count;
-        fault = lower(fault, r.fault);
+        count += r.count;
     }
     Step {
-        next: i,
+        passed,
         used,
-        count: k,
-        fault,
+        count,
     }
 }

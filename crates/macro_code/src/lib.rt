@@ -83,13 +83,13 @@ fn cell(code: &[u32], i: usize) -> u32
 }
 
 // The two numbers of a cell, by a cast, since there is no From<u32> for usize; both are 0 past the end.
-pub fn high(code: &[u32], i: usize) -> usize
+fn high(code: &[u32], i: usize) -> usize
     ensures { (result ≡ high code.now i) × (result < half) }
 {
     (cell(code, i) / CodePlaces::HALF) as usize
 }
 
-pub fn low(code: &[u32], i: usize) -> usize
+fn low(code: &[u32], i: usize) -> usize
     ensures { (result ≡ low code.now i) × (result < half) }
 {
     (cell(code, i) % CodePlaces::HALF) as usize

@@ -1,4 +1,3 @@
 pub mod Bytes
 pub mod Marking
 pub mod Linking
-pub mod Tests

@@ -1,5 +1,6 @@
 -- Elements follow one another, and what an apostrophe joins is one.
-use Rattle.std.specs.Prelude.{Option, Some, None, IfSome, unwrap_or}
+use Rattle.std.specs.Prelude.{Option, Some, None, IfSome, unwrap_or, is_some}
+use Rattle.std.specs.Option.{is_none}
 use Rattle.std.proofs.lemmas.Option.{none-some, same_Some}
 use mathlib.Core.Path.{◌≡◌, refl, ap, sym, ◌∙◌, subst}
 use mathlib.Core.Bool.{Bool, true, false, cond, not, ◌&&◌, true≢false, false≢true}
@@ -13,7 +14,10 @@ use lib.ListN.{length, get_or, take, drop, length-take, length-drop, drop_of_len
 use lib.Seq.{drop-drop, get_or-drop}
 use borrow.Author.Tests.{eq-eqb, ne_eqb}
 use Rattle.lists.specs.Lists.{filled, if_any}
-use Rattle.syntax.specs.Items.{Sort, sort_of, same_sort, Item, is, a_word, a_mark, begins, itself, mode_after, items_at, left_over, read}
+use Rattle.scanner.specs.declared.Sort.{Sort}
+use Rattle.scanner.specs.Sorts.{sort_in}
+use Rattle.syntax.specs.Items as items
+use Rattle.syntax.specs.Items.{sort_of, same_sort, Item, is, a_word, a_mark, begins, itself, mode_after, items_at, left_over, read}
 use Rattle.syntax.specs.Items.Sort.{separator, word, colon, end, text, wrong}
 use Rattle.syntax.specs.Items.Mode.{outside}
 use Rattle.syntax.proofs.ItemLaws.{reads_word, items-found}
@@ -23,7 +27,7 @@ use Rattle.syntax.specs.Scan.Found.{no_item, found}
 use Rattle.scanner.proofs.Loops.{drop_here, get_d-here}
 use Rattle.lexer.specs.declared.Token.{Token}
 use Rattle.lexer.specs.Tokens.{part, chars_of, item_of, found_by, TokenAt}
-use Rattle.lexer.proofs.Finding.{is-sort, no-chars}
+use Rattle.lexer.proofs.Finding.{is_spelled, no-chars}
 use Rattle.macros.specs.Elements.{Element, element_of, end_of, is_word, is_mark, is_joined, link, linked}
 use Rattle.macros.specs.Marks.{byte_at, new_reader, marked}
 use Rattle.macros.proofs.PlainLaws.{equal}
@@ -42,7 +46,7 @@ word_first : (b : ℕ) (r : List ℕ) → sort_of b ≡ word → word_length (b 
 unfolding word_length
 word_first b r e = rw e refl
 
-wordly-here : (k : Sort) (m : List ℕ) (n b : ℕ) (r : List ℕ) → drop n m ≡ b ∷ r → sort_of b ≡ k → Wordly m (found_here k n b r)
+wordly-here : (k : items.Sort) (m : List ℕ) (n b : ℕ) (r : List ℕ) → drop n m ≡ b ∷ r → sort_of b ≡ k → Wordly m (found_here k n b r)
 unfolding found_here text_found
 wordly-here separator m n b r e z = tt
 wordly-here word m n b r e z = λ h. (rw (e, word_first b r z) refl, rw (e, word_first b r z) (omega arith))
@@ -65,7 +69,7 @@ wordly : {m : List ℕ} {n : ℕ} {t : Token} → TokenAt m n t → Wordly m (fo
 wordly {m} {n} {t} k = rw k.is at (wordly-after m (gap_from outside n (drop n m)))
 
 -- a word that stands at a place
-word-sort : (k : Sort) → same_sort word k ≡ true → k ≡ word
+word-sort : (k : items.Sort) → same_sort word k ≡ true → k ≡ word
 word-sort separator h = absurd (false≢true h)
 word-sort word h = refl
 word-sort colon h = absurd (false≢true h)
@@ -196,6 +200,14 @@ joined-three : (v u x : Element) (ts : List Element) → is_word v ≡ true → 
 unfolding link is_joined
 joined-three v u x ts a b c d e f = rw (a, b, c, d, e, f, eq-eqb (end_of v) (end_of v) refl, eq-eqb (end_of v + 1) (end_of v + 1) refl) refl
 
+-- what is neither a word nor a text is none of them
+unspelled : (q : Sort) → is_spelled (Some q) ≡ false → (same_sort word (sort_in (Some q)) ≡ false) × (same_sort text (sort_in (Some q)) ≡ false)
+unspelled Sort.Word e = absurd (true≢false e)
+unspelled Sort.Colon e = (refl, refl)
+unspelled Sort.End e = (refl, refl)
+unspelled Sort.Text e = absurd (true≢false e)
+unspelled Sort.Wrong e = (refl, refl)
+
 -- What an element of the copy is
 module _ {s m : List ℕ} {n : ℕ} {t : Token} (l : Lent s m n) (k : TokenAt m n t) where
   abbrev from_next : List Element
@@ -208,24 +220,23 @@ module _ {s m : List ℕ} {n : ℕ} {t : Token} (l : Lent s m n) (k : TokenAt m 
   read_found : read outside n (drop n m) ≡ items_then m (found_by m t)
   read_found = items-found m n ∙ ap (items_then m) k.is
 
-  none_from : t.sort ≡ 0 → elements_from s n ≡ []
+  none_from : t.sort ≡ None → elements_from s n ≡ []
   unfolding items_then linked
   none_from z = let e : read outside n (drop n m) ≡ [] = read_found ∙ rw z refl in sym (rest_from n) ∙ ap (elements_of s) e
 
-  some-from : (t.sort ≡ 0 → ⊥) → elements_from s n ≡ link (element_of s (item_of m t)) from_next
+  some-from : is_some t.sort ≡ true → elements_from s n ≡ link (element_of s (item_of m t)) from_next
   unfolding items_then linked
   some-from z =
-      let e : read outside n (drop n m) ≡ item_of m t ∷ read outside t.next (drop t.next m) = read_found ∙ rw (ne_eqb t.sort 0 z) refl in
+      let e : read outside n (drop n m) ≡ item_of m t ∷ read outside t.next (drop t.next m) = read_found ∙ rw z refl in
       sym (rest_from n) ∙ ap (elements_of s) e
 
-  abbrev plain_element : ℕ → ℕ → code.Element
-  plain_element b e = record { sort = t.sort; byte = b; at = t.at; end = e; next = t.next; joined = None }
+  abbrev plain_element : Sort → ℕ → ℕ → code.Element
+  plain_element q b e = record { sort = q; byte = b; at = t.at; end = e; next = t.next; joined = None }
 
-  plain-held : (b e : ℕ) → t.at ≤ e → e ≤ length s → Held s (plain_element b e)
-  plain-held b e g h =
+  plain-held : (q : Sort) (b e : ℕ) → t.at ≤ e → e ≤ length s → Held s (plain_element q b e)
+  plain-held q b e g h =
       let y = k.stands in
       record {
-        sorted = y.sorted;
         own = g;
         ends = h;
         small = l.size;
@@ -233,70 +244,64 @@ module _ {s m : List ℕ} {n : ℕ} {t : Token} (l : Lent s m n) (k : TokenAt m 
         most = omega (arith, y.most, same_length s m l.copy);
       }
 
-  some_bytes : (t.sort ≡ 0 → ⊥) → t.at < t.next
+  some_bytes : is_some t.sort ≡ true → t.at < t.next
   some_bytes z = let y = k.stands.some z in omega (arith, k.stands.behind)
 
   -- an element that is no word
-  alone : (b e : ℕ) → (t.sort ≡ 0 → ⊥) → (t.sort ≡ 1 → ⊥) → element_of s (item_of m t) ≡ argument_value s (plain_element b e)
-      → elements_from s n ≡ argument_value s (plain_element b e) ∷ elements_from s t.next
+  alone : (q : Sort) (b e : ℕ) → t.sort ≡ Some q → is word (item_of m t) ≡ false → element_of s (item_of m t) ≡ argument_value s (plain_element q b e)
+      → elements_from s n ≡ argument_value s (plain_element q b e) ∷ elements_from s t.next
   unfolding link element_of
-  alone b e z w h =
-      let q : is word (item_of m t) ≡ false = is-sort word k.stands ∙ ne_eqb 1 t.sort (λ y. w (sym y)) in
-      some-from z ∙ rw q (λ j. h j ∷ rest_from t.next j)
+  alone q b e z w h = some-from (ap is_some z) ∙ rw w (λ j. h j ∷ rest_from t.next j)
 
-  pub none_next : t.sort ≡ 0 → NextElement s n None
+  pub none_next : t.sort ≡ None → NextElement s n None
   none_next z = record { none = λ y. none_from z; some = λ x y. absurd (none-some x y) }
 
   known : {x : code.Element} → FirstElement s n x → NextElement s n (Some x)
   known {x} h = record { none = λ y. absurd (none-some x (sym y)); some = λ u y. subst (λ (v : code.Element). FirstElement s n v) (same_Some x u y) h }
 
-  plain-next : (b e : ℕ) → (t.sort ≡ 0 → ⊥) → t.at ≤ e → e ≤ length s → (t.sort ≡ 1 → ⊥) → element_of s (item_of m t) ≡ argument_value s (plain_element b e) → NextElement s n (Some (plain_element b e))
-  plain-next b e z g h w v = known (record { from = k.from; held = plain-held b e g h; there = z; more = some_bytes z; is = alone b e z w v })
+  plain-next : (q : Sort) (b e : ℕ) → t.sort ≡ Some q → t.at ≤ e → e ≤ length s → is word (item_of m t) ≡ false → element_of s (item_of m t) ≡ argument_value s (plain_element q b e) → NextElement s n (Some (plain_element q b e))
+  plain-next q b e z g h w v = known (record { from = k.from; held = plain-held q b e g h; more = some_bytes (ap is_some z); is = alone q b e z w v })
 
-  pub text-next : (b e : ℕ) → b ≡ get_or s t.at 10 → t.sort ≡ 4 → TextEnd s t.at e → NextElement s n (Some (plain_element b e))
+  pub text-next : (b e : ℕ) → b ≡ get_or s t.at 10 → t.sort ≡ Some Sort.Text → TextEnd s t.at e → NextElement s n (Some (plain_element Sort.Text b e))
   unfolding element_of
-  text-next b e f x h = plain-next b e (λ y. omega arith) (omega (arith, h.from)) h.most (λ y. omega arith) (rw (x, f, h.is) refl)
+  text-next b e f x h = plain-next Sort.Text b e x (omega (arith, h.from)) h.most (rw x refl) (rw (x, f, h.is) refl)
 
-  pub mark-next : (b : ℕ) → b ≡ get_or s t.at 10 → (t.sort ≡ 0 → ⊥) → (t.sort ≡ 1 → ⊥) → (t.sort ≡ 4 → ⊥) → NextElement s n (Some (plain_element b t.at))
+  pub mark-next : (q : Sort) (b : ℕ) → b ≡ get_or s t.at 10 → t.sort ≡ Some q → is_spelled (Some q) ≡ false → NextElement s n (Some (plain_element q b t.at))
   unfolding element_of
-  mark-next b f z w x =
+  mark-next q b f x p =
       let y = k.stands in
-      let q : is text (item_of m t) ≡ false = is-sort text y ∙ ne_eqb 4 t.sort (λ u. x (sym u)) in
       let o : t.at - t.at ≡ 0 = omega arith in
-      plain-next b t.at z (le_refl t.at) (omega (arith, y.own, y.behind, y.most, same_length s m l.copy)) w (rw (q, no-chars m t w x, f, o) refl)
+      let u = unspelled q p in
+      plain-next q b t.at x (le_refl t.at) (omega (arith, y.own, y.behind, y.most, same_length s m l.copy)) (rw x u.0) (rw (no-chars m t (ap is_spelled x ∙ p), x, u.1, f, o) refl)
 
   -- a word
-  module _ (w : t.sort ≡ 1) where
+  module _ (w : t.sort ≡ Some Sort.Word) where
     word-shape : (chars_of m t ≡ take (word_length (drop t.at m)) (drop t.at m)) × (t.next ≡ t.at + word_length (drop t.at m))
-    word-shape = (rw (ne_eqb t.sort 0 (λ y. omega arith)) at (wordly k)) (is-sort word k.stands ∙ eq-eqb 1 t.sort (sym w))
+    word-shape = let q : is_none t.sort ≡ false = rw w refl in (rw q at (wordly k)) (rw w refl)
 
-    word_is : (b : ℕ) → b ≡ get_or s t.at 10 → element_of s (item_of m t) ≡ argument_value s (plain_element b t.next)
+    word_is : (b : ℕ) → b ≡ get_or s t.at 10 → element_of s (item_of m t) ≡ argument_value s (plain_element Sort.Word b t.next)
     unfolding element_of
-    word_is b f =
-        let q : is text (item_of m t) ≡ false = is-sort text k.stands ∙ ne_eqb 4 t.sort (λ y. omega arith) in
-        rw (q, word-shape.0, word_typed s m l.copy t.at t.next word-shape.1, f) refl
+    word_is b f = rw (word-shape.0, word_typed s m l.copy t.at t.next word-shape.1, w, f) refl
 
     word-ends : end_of (element_of s (item_of m t)) ≡ t.next
     unfolding element_of
     word-ends =
-        let q : is text (item_of m t) ≡ false = is-sort text k.stands ∙ ne_eqb 4 t.sort (λ y. omega arith) in
         let y = k.stands in
-        rw (q, word-shape.0, word_typed s m l.copy t.at t.next word-shape.1)
+        rw (word-shape.0, word_typed s m l.copy t.at t.next word-shape.1, w)
         (simp (length-take, length-drop) (omega (arith, y.own, y.behind, y.most, same_length s m l.copy)))
 
-    pub word_next : (b : ℕ) → b ≡ get_or s t.at 10 → JoinedEnd s m t.next 0 → NextElement s n (Some (plain_element b t.next))
+    pub word_next : (b : ℕ) → b ≡ get_or s t.at 10 → JoinedEnd s m t.next 0 → NextElement s n (Some (plain_element Sort.Word b t.next))
     unfolding link element_of
     word_next b f j =
         let y = k.stands in
         let o : is_joined (end_of (element_of s (item_of m t))) from_next ≡ false = rw word-ends (not-joined s m l.copy t.next (j.none refl)) in
-        let q : is word (item_of m t) ≡ true = is-sort word y ∙ eq-eqb 1 t.sort (sym w) in
+        let q : is word (item_of m t) ≡ true = rw w refl in
         known
         (record {
           from = k.from;
-          held = plain-held b t.next (omega (arith, y.own, y.behind)) (omega (arith, y.most, same_length s m l.copy));
-          there = λ z. omega arith;
-          more = some_bytes (λ z. omega arith);
-          is = some-from (λ z. omega arith) ∙ rw (q, o) (λ i. word_is b f i ∷ rest_from t.next i);
+          held = plain-held Sort.Word b t.next (omega (arith, y.own, y.behind)) (omega (arith, y.most, same_length s m l.copy));
+          more = some_bytes (ap is_some w);
+          is = some-from (ap is_some w) ∙ rw (q, o) (λ i. word_is b f i ∷ rest_from t.next i);
         })
 
     -- a word and the parameter that is joined to it
@@ -305,7 +310,7 @@ module _ {s m : List ℕ} {n : ℕ} {t : Token} (l : Lent s m n) (k : TokenAt m 
       p = t.next
 
       abbrev joined_element : ℕ → code.Element
-      joined_element b = record { sort = t.sort; byte = b; at = t.at; end = p; next = e; joined = Some e }
+      joined_element b = record { sort = Sort.Word; byte = b; at = t.at; end = p; next = e; joined = Some e }
 
       bytes-there : (get_or (drop p s) 0 0 ≡ 39) × (get_or (drop p m) 0 0 ≡ 42)
       bytes-there = (get_d-here s p 0 ∙ (j.joins z).0, get_d-here m p 0 ∙ (j.joins z).1)
@@ -376,7 +381,7 @@ module _ {s m : List ℕ} {n : ℕ} {t : Token} (l : Lent s m n) (k : TokenAt m 
       unfolding element_of
       joined_next b f =
           let y = k.stands in
-          let q : is word (item_of m t) ≡ true = is-sort word y ∙ eq-eqb 1 t.sort (sym w) in
+          let q : is word (item_of m t) ≡ true = rw w refl in
           let near : eqb 39 (byte_at s p) ≡ true = eq-eqb 39 (byte_at s p) (sym (sym (any-default s p (j.within z)) ∙ (j.joins z).0)) in
           let v : Element = element_of s (item_of m t) in
           let three = joined-three v apostrophe parameter_element (elements_from s e) q near (sym word-ends) refl (ap (λ (i : ℕ). i + 1) (sym word-ends)) refl in
@@ -386,23 +391,21 @@ module _ {s m : List ℕ} {n : ℕ} {t : Token} (l : Lent s m n) (k : TokenAt m 
             from = k.from;
             held =
                 record {
-                  sorted = y.sorted;
                   own = omega (arith, y.own, y.behind);
                   ends = omega (arith, y.most, size);
                   small = l.size;
                   joined_ends = (omega (arith, ends), le_refl e);
                   most = omega (arith, j.most, size);
                 };
-            there = λ x. omega arith;
-            more = let x = some_bytes (λ x. omega arith) in omega (arith, ends);
+            more = let x = some_bytes (ap is_some w) in omega (arith, ends);
             is =
-                some-from (λ x. omega arith)
+                some-from (ap is_some w)
                 ∙ ap (link v) linked-there
                 ∙ three
                 ∙ ap (λ (u : Element). record { at = u.at; sort = u.sort; byte = u.byte; typed = u.typed; joined = part s (p + 1) e ∷ [] } ∷ elements_from s e) (word_is b f);
           })
 
     pub word-next : (b : ℕ) → b ≡ get_or s t.at 10 → (o : Option ℕ) → JoinedEnd s m t.next (unwrap_or o 0) → IfSome o (λ r. 0 < r)
-        → NextElement s n (Some (record { sort = t.sort; byte = b; at = t.at; end = t.next; next = unwrap_or o t.next; joined = o }))
+        → NextElement s n (Some (record { sort = Sort.Word; byte = b; at = t.at; end = t.next; next = unwrap_or o t.next; joined = o }))
     word-next b f None j h = word_next b f j
     word-next b f (Some e) j h = joined_next j (λ z. omega arith) b f

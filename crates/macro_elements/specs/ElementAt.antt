@@ -1,7 +1,9 @@
 -- Elements as the code tells them, with places of the text s in place of bytes; and what its functions promise.
 use Rattle.std.specs.Prelude.{Option, Some, None, IfSome, ◌≡◌, false, List, [], ◌∷◌, map, ℕ, ◌+◌, ◌≤◌, ◌<◌, length, get_or, take, drop}
 use Rattle.language.specs.Limits as limit
-use Rattle.lexer.specs.Tokens.{part, sort_at}
+use Rattle.lexer.specs.Tokens.{part}
+use Rattle.scanner.specs.declared.Sort.{Sort}
+use Rattle.scanner.specs.Sorts.{sort_in}
 use Rattle.syntax.specs.Items.{read}
 use Rattle.syntax.specs.Items.Mode.{outside}
 use Rattle.syntax.specs.Scan.{word_length, text_length}
@@ -14,7 +16,7 @@ unfoldable pub elements_from : List ℕ → ℕ → List spec.Element
 elements_from s n = spec.linked (map (spec.element_of s) (read outside n (drop n (marked s))))
 
 -- an element that nothing is joined to
-abbrev pub alone : ℕ → ℕ → ℕ → ℕ → ℕ → Element
+abbrev pub alone : Sort → ℕ → ℕ → ℕ → ℕ → Element
 alone sort byte at end next = record { sort = sort; byte = byte; at = at; end = end; next = next; joined = None }
 
 -- a parameter that is joined behind an apostrophe at place e
@@ -27,7 +29,7 @@ abbrev pub argument_value : List ℕ → Element → spec.Element
 argument_value s t =
     record {
       at = t.at;
-      sort = sort_at t.sort;
+      sort = sort_in (Some t.sort);
       byte = t.byte;
       typed = part s t.at t.end;
       joined = joined_at s t.end t.joined;
@@ -41,7 +43,6 @@ pub record Lent (s m : List ℕ) (n : ℕ) : Type 0 where
 
 -- an element's places
 pub record Held (s : List ℕ) (t : Element) : Type 0 where
-  pub sorted : t.sort < 6
   pub own : t.at ≤ t.end
   pub ends : t.end ≤ length s
   pub small : length s ≤ limit.text
@@ -64,7 +65,6 @@ pub record TextEnd (s : List ℕ) (at r : ℕ) : Type 0 where
 pub record FirstElement (s : List ℕ) (n : ℕ) (t : Element) : Type 0 where
   pub from : n ≤ t.at
   pub held : Held s t
-  pub there : t.sort ≡ 0 → ⊥
   pub more : t.at < t.next
   pub is : elements_from s n ≡ argument_value s t ∷ elements_from s t.next
 

@@ -1,19 +1,21 @@
 // From a place in a text to the element that stands there and the place behind it.
 #![tactic(auto)]
 
-ghost use Rattle.std.specs.Prelude.{◌≡◌, List, ℕ, ◌<◌, length, get_or, unwrap_or, IfSome};
+ghost use Rattle.std.specs.Prelude.{◌≡◌, List, ℕ, Some, ◌<◌, length, get_or, unwrap_or, IfSome};
 ghost use Rattle.characters.specs.Characters.{is_digit};
 ghost use Rattle.language.specs.Values.{unsigned, numeral};
 ghost use Rattle.lexer.specs.Tokens.{part};
 ghost use Rattle.lists.specs.Lists.{all};
 ghost use Rattle.macros.specs.Elements.{is_mark, is_identifier, is_listed};
+ghost use Rattle.scanner.specs.Sorts.{sort_in};
+ghost use Rattle.syntax.specs.Items.{same_sort};
 ghost use Rattle.macro_elements.specs.ElementAt.{alone, argument_value, Lent, JoinedEnd, TextEnd, NextElement, Held};
 
 use lexer::item_at;
-use scanner::{NOTHING, TEXT, WORD, WRONG, scan_text, word_end};
+use scanner::{Sort, scan_text, word_end};
 
 // A text, and its copy with a star for each joining apostrophe.
-#[derive(Clone, Copy)]
+#[derive(Clone, Copy, Debug, PartialEq, Eq)]
 pub struct Source<'a> {
     pub text: &'a [u8],
     pub marked: &'a [u8],
@@ -21,14 +23,23 @@ pub struct Source<'a> {
 
 // An element: its sort and its first byte; the places where it begins, where the bytes that it is known by end, and from which
 // the next one is sought; and the place where a parameter ends that an apostrophe at `end` joins to it.
-#[derive(Clone, Copy)]
+#[derive(Clone, Copy, Debug, PartialEq, Eq)]
 pub struct Element {
-    pub sort: u8,
+    pub sort: Sort,
     pub byte: u8,
     pub at: usize,
     pub end: usize,
     pub next: usize,
     pub joined: Option<usize>,
+}
+
+impl Element {
+    // Whether the element is of a sort.
+    pub fn is(self, sort: Sort) -> bool
+        ensures { result ≡ same_sort (sort_in (Some sort)) (sort_in (Some self.sort)) }
+    {
+        self.sort == sort
+    }
 }
 
 // The byte at a place, or a new line past the end; one line, as in the other crate that reads marked texts.
@@ -61,7 +72,7 @@ fn text_end(text: &[u8], at: usize) -> usize
 }
 
 // An element that nothing is joined to.
-fn alone(sort: u8, byte: u8, at: usize, end: usize, next: usize) -> Element
+fn alone(sort: Sort, byte: u8, at: usize, end: usize, next: usize) -> Element
     ensures { result ≡ alone sort byte at end next }
 {
     Element {
@@ -80,34 +91,30 @@ pub fn next_element(source: &Source, n: usize) -> Option<Element>
     ensures { NextElement source.now.text.now n result }
 {
     let t = item_at(source.marked, n);
-    if t.sort == NOTHING {
-        return None;
-    }
+    let sort = t.sort?;
     let byte = byte_at(source.text, t.at);
-    if t.sort == TEXT {
-        let end = text_end(source.text, t.at);
-        return Some(alone(TEXT, byte, t.at, end, t.next));
-    }
-    if t.sort != WORD {
-        return Some(alone(t.sort, byte, t.at, t.at, t.next));
-    }
-    let joined = joined_end(source, t.next);
-    Some(Element {
-        sort: WORD,
-        byte,
-        at: t.at,
-        end: t.next,
-        next: joined.unwrap_or(t.next),
-        joined,
+    Some(match sort {
+        Sort::Word => {
+            let joined = joined_end(source, t.next);
+            Element {
+                sort,
+                byte,
+                at: t.at,
+                end: t.next,
+                next: joined.unwrap_or(t.next),
+                joined,
+            }
+        }
+        Sort::Text => alone(sort, byte, t.at, text_end(source.text, t.at), t.next),
+        Sort::Colon | Sort::End | Sort::Wrong => alone(sort, byte, t.at, t.at, t.next),
     })
 }
 
 // Whether an element is this star, bracket or joining apostrophe.
 pub fn is_mark(b: u8, t: Element) -> bool
-    requires { t.sort < 6 }
     ensures { (s : List ℕ) → result ≡ is_mark b (argument_value s t) }
 {
-    WRONG == t.sort && b == t.byte
+    t.is(Sort::Wrong) && b == t.byte
 }
 
 // The bytes that an element is known by.
@@ -122,7 +129,7 @@ pub fn is_identifier(text: &[u8], t: Element) -> bool
     requires { Held text.now t }
     ensures { result ≡ is_identifier (argument_value text.now t) }
 {
-    t.sort == WORD && words::identifier(typed(text, t))
+    t.is(Sort::Word) && words::identifier(typed(text, t))
 }
 
 fn digits(w: &[u8]) -> bool
@@ -153,5 +160,5 @@ pub fn is_listed(text: &[u8], t: Element) -> bool
     requires { Held text.now t }
     ensures { result ≡ is_listed (argument_value text.now t) }
 {
-    t.sort == WORD && (words::identifier(typed(text, t)) || numeral(typed(text, t)))
+    t.is(Sort::Word) && (words::identifier(typed(text, t)) || numeral(typed(text, t)))
 }

@@ -11,6 +11,8 @@ use Rattle.macro_code.specs.Code.{high, low, size_at, call_in, body_in, macros_i
 use Rattle.macro_code.specs.Places as place
 use Rattle.macro_memory.specs.Memory.{entered_writes, Remembers, Stored}
 use Rattle.macro_memory.specs.MemoryLaws.{absorbed-after}
+use Rattle.macro_memory.specs.declared.Memory.{Memory}
+use Rattle.macro_memory.specs.declared.Slot.{Slot}
 use Rattle.macro_values.specs.declared.Written.{Written}
 use Rattle.macro_values.specs.WritingLaws.{wrote-both}
 use Rattle.macro_values.specs.Wrote.{is_over, size_of, Wrote}
@@ -41,9 +43,9 @@ pub run-behind : (s c f : List ℕ) (n : ℕ) (calls : List ℕ) (at : Level) (x
     (rest_writes s c f n calls at.left (low c x.cell) (low c (at.cell + place.span_cell)) (x.cell + size_at c x.cell) (x.changes - 1)) v e o p
 run-behind s c f n calls at x r v e o p w h = rw (w.left_is, w.stop_is, w.changes_is, w.from_is, w.cell_is) at h
 
-pub fits-rest : (s c f : List ℕ) (n : ℕ) (calls : List ℕ) (at : Level) (r : Rest) (v : Written) (o : List ℕ) → r.left ≡ at.left
-    → Fits s c f n at.left calls v o → Fits s c f n r.left calls v o
-fits-rest s c f n calls at r v o e k = rw e k
+pub fits-rest : (s c f : List ℕ) (n : ℕ) (slots : List Slot) (at : Level) (r : Rest) (v : Written) (o : List ℕ) → r.left ≡ at.left
+    → Fits s c f n at.left slots v o → Fits s c f n r.left slots v o
+fits-rest s c f n slots at r v o e k = rw e k
 
 -- the arguments within a call that is entered
 module _ (s c calls₀ calls calls₁ : List ℕ) (left i : ℕ) (some : 1 ≤ left) (most : left ≤ levels) (room : levels - left < length calls)
@@ -88,14 +90,14 @@ unfolding pause_writes
 pause-over s c f n calls left stop r e = rw e
 
 -- a call is entered, and the body goes on behind it
-pub expand-turn : (s c f : List ℕ) (n : ℕ) (calls₀ calls calls₁ calls₂ : List ℕ) (left stop : ℕ) (x u : Writing) (v w w' : Written) (o q p r : List ℕ) (e e' : Paused) (b : Pause)
-    → 1 ≤ left → left ≤ levels → levels - left < length calls → take (levels - left) calls ≡ take (levels - left) calls₀ → calls₁ ≡ set calls (levels - left) b.cell
-    → Wrote u v w o q → x ≡ followed_by u (pause_writes s c f n calls₀ left stop e.call) → e.call ≡ Some b → Expands s c f n calls₁ calls₂ (left - 1) b.body w w' q p
-    → Ran s c f n calls₂ left stop (b.changes - 1) (rest_writes s c f n calls₂ left (low c b.cell) stop (b.cell + size_at c b.cell) (b.changes - 1)) w' e' p r
-    → (y : Writing) × Wrote y v e'.state o r × (x ≡ followed_by y (pause_writes s c f n calls₀ left stop e'.call)) × (take (levels - left) calls₂ ≡ take (levels - left) calls₀)
-expand-turn s c f n calls₀ calls calls₁ calls₂ left stop x u v w w' o q p r e e' b some most room same stored wrote is enters inside run =
-    let after = calls-after s c calls₀ calls calls₁ left b.cell some most room same stored calls₂ inside.calls_stay in
-    let a = inner-arguments s c calls₀ calls calls₁ left b.cell some most room same stored in
+pub expand-turn : (s c f : List ℕ) (n : ℕ) (calls₀ calls : List ℕ) (m₁ m₂ : Memory) (left stop : ℕ) (x u : Writing) (v w w' : Written) (o q p r : List ℕ) (e e' : Paused) (b : Pause)
+    → 1 ≤ left → left ≤ levels → levels - left < length calls → take (levels - left) calls ≡ take (levels - left) calls₀ → m₁.calls ≡ set calls (levels - left) b.cell
+    → Wrote u v w o q → x ≡ followed_by u (pause_writes s c f n calls₀ left stop e.call) → e.call ≡ Some b → Expands s c f n m₁ m₂ (left - 1) b.body w w' q p
+    → Ran s c f n m₂.calls left stop (b.changes - 1) (rest_writes s c f n m₂.calls left (low c b.cell) stop (b.cell + size_at c b.cell) (b.changes - 1)) w' e' p r
+    → (y : Writing) × Wrote y v e'.state o r × (x ≡ followed_by y (pause_writes s c f n calls₀ left stop e'.call)) × (take (levels - left) m₂.calls ≡ take (levels - left) calls₀)
+expand-turn s c f n calls₀ calls m₁ m₂ left stop x u v w w' o q p r e e' b some most room same stored wrote is enters inside run =
+    let after = calls-after s c calls₀ calls m₁.calls left b.cell some most room same stored m₂.calls inside.calls_stay in
+    let a = inner-arguments s c calls₀ calls m₁.calls left b.cell some most room same stored in
     let E = entered_writes s c f n calls₀ left b.cell b.body in
     let B = run.behind in
     let P = pause_writes s c f n calls₀ left stop e'.call in
@@ -106,52 +108,52 @@ expand-turn s c f n calls₀ calls calls₁ calls₂ left stop x u v w w' o q p 
           ∙ ap (followed_by u)
           (pause-enters s c f n calls₀ left stop e.call b enters
           ∙ ap (followed_by E)
-          (sym (rest_same s c f n calls₀ calls₂ left (low c b.cell) stop (b.cell + size_at c b.cell) (b.changes - 1) after)
+          (sym (rest_same s c f n calls₀ m₂.calls left (low c b.cell) stop (b.cell + size_at c b.cell) (b.changes - 1) after)
           ∙ run.is
-          ∙ ap (followed_by B) (pause-same s c f n calls₀ calls₂ left stop e'.call after)))
+          ∙ ap (followed_by B) (pause-same s c f n calls₀ m₂.calls left stop e'.call after)))
           ∙ sym (followed-assoc u E (followed_by B P))
           ∙ sym (followed-assoc (followed_by u E) B P),
       after,
     )
 
 -- the body ends, and is remembered
-module _ (s c f : List ℕ) (n : ℕ) (calls calls₁ calls₂ : List ℕ) (left stop k m : ℕ) (u : Writing) (v : Written) (e e' : Paused) (o q p : List ℕ) (steady : Bool)
-    (run : Ran s c f n calls left stop k (expand (macros_in s c f n) left (arguments_at s c calls left) (body_in s c m)) v e o q) (wrote : Wrote u e.state e'.state q p)
-    (is : pause_writes s c f n calls left stop e.call ≡ followed_by u (pause_writes s c f n calls left stop e'.call)) (over : e'.call ≡ None)
-    (stay : take (levels - left) calls₁ ≡ take (levels - left) calls) where
+module _ (s c f : List ℕ) (n : ℕ) (m₀ m₁ m₂ : Memory) (left stop k m : ℕ) (u : Writing) (v : Written) (e e' : Paused) (o q p : List ℕ) (steady : Bool)
+    (run : Ran s c f n m₀.calls left stop k (expand (macros_in s c f n) left (arguments_at s c m₀.calls left) (body_in s c m)) v e o q) (wrote : Wrote u e.state e'.state q p)
+    (is : pause_writes s c f n m₀.calls left stop e.call ≡ followed_by u (pause_writes s c f n m₀.calls left stop e'.call)) (over : e'.call ≡ None)
+    (stay : take (levels - left) m₁.calls ≡ take (levels - left) m₀.calls) where
   abbrev written : List ℕ → Writing
   written l = expand (macros_in s c f n) left (arguments_at s c l left) (body_in s c m)
 
-  all-written : Wrote (written calls) v e'.state o p
+  all-written : Wrote (written m₀.calls) v e'.state o p
   all-written =
-      let a : written calls ≡ followed_by run.behind u =
-      run.is ∙ ap (followed_by run.behind) (is ∙ ap (followed_by u) (pause-over s c f n calls left stop e'.call over) ∙ followed-none u) in
+      let a : written m₀.calls ≡ followed_by run.behind u =
+      run.is ∙ ap (followed_by run.behind) (is ∙ ap (followed_by u) (pause-over s c f n m₀.calls left stop e'.call over) ∙ followed-none u) in
       rw a (wrote-both run.behind u v e.state e'.state o q p run.wrote wrote)
 
-  pub expand-ends : Remembers s c f n calls₁ e'.state → (steady ≡ true → is_over e'.state ≡ false → size_of e'.state ≡ size_of v) → Keeps s c calls₁ calls₂ left m steady
-      → Expands s c f n calls calls₂ left m v e'.state o p
+  pub expand-ends : Remembers s c f n m₁.slots e'.state → (steady ≡ true → is_over e'.state ≡ false → size_of e'.state ≡ size_of v) → Keeps s c m₁ m₂ left m steady
+      → Expands s c f n m₀ m₂ left m v e'.state o p
   expand-ends h same keeps =
-      let a : arguments_at s c calls₁ left ≡ arguments_at s c calls left = arguments-same s c calls calls₁ (levels - left) stay in
+      let a : arguments_at s c m₁.calls left ≡ arguments_at s c m₀.calls left = arguments-same s c m₀.calls m₁.calls (levels - left) stay in
       record {
         wrote = all-written;
-        calls_stay = sym (take-take (levels - left) levels calls₂ (omega arith)) ∙ ap (take (levels - left)) keeps.calls_stay ∙ take-take (levels - left) levels calls₁ (omega arith) ∙ stay;
-        remembers = keeps.remembers f n e'.state h (λ z. rw a (absorbed-after (written calls) v e'.state o p all-written (same z)));
+        calls_stay = ap (take (levels - left)) keeps.calls_stay ∙ stay;
+        remembers = keeps.remembers f n e'.state h (λ z. rw a (absorbed-after (written m₀.calls) v e'.state o p all-written (same z)));
       }
 
-pub keeps-none : (s c calls : List ℕ) (left m : ℕ) (steady : Bool) → Keeps s c calls calls left m steady
-keeps-none s c calls left m steady = record { calls_stay = refl; remembers = λ f n v h k. h }
+pub keeps-none : (s c : List ℕ) (same : Memory) (left m : ℕ) (steady : Bool) → Keeps s c same same left m steady
+keeps-none s c same left m steady = record { calls_stay = refl; remembers = λ f n v h k. h }
 
-pub keeps-stored : (s c calls after : List ℕ) (left m : ℕ) (steady : Bool) → steady ≡ true → Stored calls after (left + 1) m → Keeps s c calls after left m steady
-keeps-stored s c calls after left m steady e h =
+pub keeps-stored : (s c : List ℕ) (before after : Memory) (left m : ℕ) (steady : Bool) → steady ≡ true → Stored before after (left + 1) m → Keeps s c before after left m steady
+keeps-stored s c before after left m steady e h =
     let g : left + 1 - 1 ≡ left = omega arith in
     record { calls_stay = h.nested; remembers = λ f n v r k. h.remembers s c f n v r (rw g (k e)) }
 
 -- a call alone
-pub change-enters : (s c f : List ℕ) (n : ℕ) (calls calls₁ calls₂ : List ℕ) (left i m : ℕ) (v w w' : Written) (o q p : List ℕ) → left ≤ levels → levels - left < length calls
-    → calls₁ ≡ set calls (levels - left) i → Enters s c f n calls left i m → Wrote (just []) v w o q → Expands s c f n calls₁ calls₂ (left - 1) m w w' q p
+pub change-enters : (s c f : List ℕ) (n : ℕ) (calls : List ℕ) (m₁ m₂ : Memory) (left i m : ℕ) (v w w' : Written) (o q p : List ℕ) → left ≤ levels → levels - left < length calls
+    → m₁.calls ≡ set calls (levels - left) i → Enters s c f n calls left i m → Wrote (just []) v w o q → Expands s c f n m₁ m₂ (left - 1) m w w' q p
     → Wrote (change_writes s c f n calls left i) v w' o p
-change-enters s c f n calls calls₁ calls₂ left i m v w w' o q p most room stored enters waits inside =
-    let a = inner-arguments s c calls calls calls₁ left i enters.deeper most room refl stored in
+change-enters s c f n calls m₁ m₂ left i m v w w' o q p most room stored enters waits inside =
+    let a = inner-arguments s c calls calls m₁.calls left i enters.deeper most room refl stored in
     let E = entered_writes s c f n calls left i m in
     let k : Wrote E w w' q p = rw a at inside.wrote in
     rw enters.writes (rw (none-followed E) at (wrote-both (just []) E v w w' o q p waits k))

@@ -8,7 +8,9 @@ use Rattle.macro_code.specs.Code.{high, low, first_change, change_count, size_at
 use Rattle.macro_code.specs.Places as place
 use Rattle.statements.specs.Faults as told
 use Rattle.std.specs.Prelude.{None, Some}
-use Rattle.macro_memory.specs.Memory.{reach, memory, entered_writes, Absorbed, Remembers}
+use Rattle.macro_memory.specs.Memory.{reach, entered_writes, Absorbed, Remembers}
+use Rattle.macro_memory.specs.declared.Memory.{Memory}
+use Rattle.macro_memory.specs.declared.Slot.{Slot}
 use Rattle.macro_values.specs.Wrote.{size_of, Wrote}
 use Rattle.macro_values.specs.declared.Written.{Written}
 use Rattle.macro_expansion.specs.declared.Level.{Level}
@@ -112,22 +114,21 @@ pub record Behind (c : List ℕ) (at : Level) (e : Pause) (r : Rest) : Type 0 wh
   pub near : Near r
 
 -- with so many levels left, in rows that can hold it
-pub record Fits (s c f : List ℕ) (n : ℕ) (left : ℕ) (calls : List ℕ) (v : Written) (o : List ℕ) : Type 0 where
+pub record Fits (s c f : List ℕ) (n : ℕ) (left : ℕ) (slots : List Slot) (v : Written) (o : List ℕ) : Type 0 where
   pub most : left ≤ levels
   pub count : size_of v ≤ length o
-  pub room : memory ≤ length calls
-  pub remembers : Remembers s c f n calls v
+  pub remembers : Remembers s c f n slots v
 
-abbrev pub FitsList : Macros → ℕ → List ℕ → Written → List ℕ → Type 0
-FitsList l left calls v o = Fits l.listed.coded.text.now l.listed.coded.code.now l.listed.firsts.now l.listed.count left calls v o
+abbrev pub FitsList : Macros → ℕ → List Slot → Written → List ℕ → Type 0
+FitsList l left slots v o = Fits l.listed.coded.text.now l.listed.coded.code.now l.listed.firsts.now l.listed.count left slots v o
 
-pub record Expands (s c f : List ℕ) (n : ℕ) (calls after : List ℕ) (left m : ℕ) (v r : Written) (o p : List ℕ) : Type 0 where
-  pub wrote : Wrote (expand (macros_in s c f n) left (arguments_at s c calls left) (body_in s c m)) v r o p
-  pub calls_stay : take (levels - left) after ≡ take (levels - left) calls
-  pub remembers : Remembers s c f n after r
+pub record Expands (s c f : List ℕ) (n : ℕ) (before after : Memory) (left m : ℕ) (v r : Written) (o p : List ℕ) : Type 0 where
+  pub wrote : Wrote (expand (macros_in s c f n) left (arguments_at s c before.calls left) (body_in s c m)) v r o p
+  pub calls_stay : take (levels - left) after.calls ≡ take (levels - left) before.calls
+  pub remembers : Remembers s c f n after.slots r
 
 -- a body is remembered, if it left the row as it was, or over
-pub record Keeps (s c calls after : List ℕ) (left m : ℕ) (steady : Bool) : Type 0 where
-  pub calls_stay : take levels after ≡ take levels calls
-  pub remembers : (f : List ℕ) (n : ℕ) (v : Written) → Remembers s c f n calls v
-      → (steady ≡ true → Absorbed (expand (macros_in s c f n) left (arguments_at s c calls left) (body_in s c m)) v) → Remembers s c f n after v
+pub record Keeps (s c : List ℕ) (before after : Memory) (left m : ℕ) (steady : Bool) : Type 0 where
+  pub calls_stay : after.calls ≡ before.calls
+  pub remembers : (f : List ℕ) (n : ℕ) (v : Written) → Remembers s c f n before.slots v
+      → (steady ≡ true → Absorbed (expand (macros_in s c f n) left (arguments_at s c before.calls left) (body_in s c m)) v) → Remembers s c f n after.slots v

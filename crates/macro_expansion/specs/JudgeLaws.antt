@@ -17,6 +17,7 @@ use Rattle.std.specs.Prelude.{None, Some}
 use Rattle.syntax.specs.Verdict.{lowest}
 use Rattle.macro_memory.specs.Memory.{entered_writes, Found, Remembers}
 use Rattle.macro_memory.specs.MemoryLaws.{absorbed-writes}
+use Rattle.macro_memory.specs.declared.Slot.{Slot}
 use Rattle.macro_values.specs.declared.Written.{Written}
 use Rattle.macro_values.specs.WritingLaws.{lower-none-right, wrote_none, wrote-over}
 use Rattle.macro_values.specs.Wrote.{is_over, size_of, Wrote}
@@ -140,8 +141,8 @@ module _ (s c f : List ℕ) (n : ℕ) (calls : List ℕ) (left i : ℕ) (v : Wri
               (fixed-writes s c f n h (drop n h) known.heights k (left - 1) only.listed given below (omega arith))))
 
           -- it is remembered
-          pub judge-found : Found s c calls left i m → Remembers s c f n calls v → (r : Step) → r.state ≡ v → r.call ≡ None → Judged s c f n calls left i v r
-          judge-found y q r e z =
+          pub judge-found : (slots : List Slot) → Found s c slots calls left i m → Remembers s c f n slots v → (r : Step) → r.state ≡ v → r.call ≡ None → Judged s c f n calls left i v r
+          judge-found slots y q r e z =
               judged-stay (entered_writes s c f n calls left i m) (right ∙ inner-expands (macros_in s c f n) left given (body_in s c m) some) r z
               (λ o l. rw e (absorbed-writes (entered_writes s c f n calls left i m) v o (y.changes_nothing f n v q) l))
 

@@ -8,7 +8,7 @@ ghost use Rattle.macro_code.specs.Code.{given_in, arguments_in, change_in, call_
 ghost use Rattle.macro_code.specs.Places.{half, cells, name_cell};
 ghost use Rattle.macros.specs.Expansion.{filled_in, levels};
 ghost use Rattle.macros.specs.Pieces.Piece.{called};
-ghost use Rattle.macro_memory.specs.Memory.{reach, memory, Found, Remembers};
+ghost use Rattle.macro_memory.specs.Memory.{reach, Found, Remembers};
 ghost use Rattle.macro_values.specs.Wrote.{is_over, size_of, Wrote};
 ghost use Rattle.macro_expansion.specs.Expanding.{arguments_at, FitsList, Judged, Met, Near, Whole, Behind, Ran, Expands, Keeps, change_writes, rest_writes};
 
@@ -16,7 +16,7 @@ mod listing;
 
 pub use listing::Macros;
 use macro_code::{Change, CodePlaces, Coded, Given};
-use macro_memory::{Entered, LEVELS};
+use macro_memory::{Entered, LEVELS, Memory};
 use macro_values::{Around, Written};
 use statements::lower;
 
@@ -108,29 +108,24 @@ fn is_settled(list: &Macros, k: usize, left: usize, v: Written) -> bool
 }
 
 // Whether a call is remembered as one that changes nothing. It is looked up only if the macro, whose loose height is at `k`, meets a call by a parameter.
-fn is_done(list: &Macros, calls: &[u32], k: usize, at: Entered) -> bool
-    requires { (at.cell < reach) × (1 ≤ at.left) × (at.left ≤ levels) × (at.body < half) × (memory ≤ length calls.now) }
-    ensures { result ≡ true → Found list.now.listed.coded.text.now list.now.listed.coded.code.now calls.now at.left at.cell at.body }
+fn is_done(list: &Macros, memory: &Memory, k: usize, at: Entered) -> bool
+    requires { (at.cell < reach) × (1 ≤ at.left) × (at.left ≤ levels) × (at.body < half) }
+    ensures { result ≡ true → Found list.now.listed.coded.text.now list.now.listed.coded.code.now memory.now.slots memory.now.calls at.left at.cell at.body }
 {
     if at.left <= list.height(k) {
         return false;
     }
-    let around = Around {
-        coded: list.listed.coded,
-        calls,
-        depth: LEVELS - at.left,
-    };
-    macro_memory::is_remembered(&around, at)
+    memory.has(&list.listed.coded, at)
 }
 
 // Passes a call, unless it is to be entered: "each called macro in the list once? 64. Are there as many arguments as parameters? 65."
-fn meet_call(list: &Macros, calls: &[u32], at: Level, v: Written) -> Step
-    requires { (at.cell < reach) × (at.left ≤ levels) × ((change_in list.now.listed.coded.text.now list.now.listed.coded.code.now at.cell).pieces ≡ called (call_in list.now.listed.coded.text.now list.now.listed.coded.code.now at.cell) ∷ []) × (memory ≤ length calls.now) × Remembers list.now.listed.coded.text.now list.now.listed.coded.code.now list.now.listed.firsts.now list.now.listed.count calls.now v }
-    ensures { Judged list.now.listed.coded.text.now list.now.listed.coded.code.now list.now.listed.firsts.now list.now.listed.count calls.now at.left at.cell v result }
+fn meet_call(list: &Macros, memory: &Memory, at: Level, v: Written) -> Step
+    requires { (at.cell < reach) × (at.left ≤ levels) × ((change_in list.now.listed.coded.text.now list.now.listed.coded.code.now at.cell).pieces ≡ called (call_in list.now.listed.coded.text.now list.now.listed.coded.code.now at.cell) ∷ []) × Remembers list.now.listed.coded.text.now list.now.listed.coded.code.now list.now.listed.firsts.now list.now.listed.count memory.now.slots v }
+    ensures { Judged list.now.listed.coded.text.now list.now.listed.coded.code.now list.now.listed.firsts.now list.now.listed.count memory.now.calls at.left at.cell v result }
 {
     let cell = at.cell;
     let left = at.left;
-    let Some(k) = called_macro(list, calls, at) else {
+    let Some(k) = called_macro(list, &memory.calls, at) else {
         let place = list.listed.coded.high(cell + CodePlaces::NAME);
         return stay(Written {
             unknown: lower(v.unknown, Some(place)),
@@ -159,7 +154,7 @@ fn meet_call(list: &Macros, calls: &[u32], at: Level, v: Written) -> Step
         left: left,
         body: body,
     };
-    if is_done(list, calls, list.listed.count + k, entered) {
+    if is_done(list, memory, list.listed.count + k, entered) {
         return stay(v);
     }
     Step {
@@ -169,28 +164,28 @@ fn meet_call(list: &Macros, calls: &[u32], at: Level, v: Written) -> Step
 }
 
 // Passes a change, unless it is a call that is to be entered.
-fn meet(list: &Macros, calls: &[u32], out: &mut [u8], at: Level, v: Written) -> Step
-    requires { (at.cell < reach) × FitsList list.now at.left calls.now v out.old }
-    ensures { Met list.now.listed.coded.text.now list.now.listed.coded.code.now list.now.listed.firsts.now list.now.listed.count calls.now at.left at.cell v result out.old out.new }
+fn meet(list: &Macros, memory: &Memory, out: &mut [u8], at: Level, v: Written) -> Step
+    requires { (at.cell < reach) × FitsList list.now at.left memory.now.slots v out.old }
+    ensures { Met list.now.listed.coded.text.now list.now.listed.coded.code.now list.now.listed.firsts.now list.now.listed.count memory.now.calls at.left at.cell v result out.old out.new }
 {
     match list.listed.coded.change_at(at.cell) {
         Change::Value(k) => {
             let around = Around {
                 coded: list.listed.coded,
-                calls,
+                calls: &memory.calls,
                 depth: LEVELS - at.left,
             };
             stay(around.write_value(k, out, v))
         }
-        Change::Call(_) => meet_call(list, calls, at, v),
+        Change::Call(_) => meet_call(list, memory, at, v),
         Change::Nothing => stay(v),
     }
 }
 
 // Writes the rest of a body up to the next call that is to be entered.
-fn run(list: &Macros, calls: &[u32], out: &mut [u8], rest: Rest, v: Written) -> Paused
-    requires { Near rest × FitsList list.now rest.left calls.now v out.old }
-    ensures { Ran list.now.listed.coded.text.now list.now.listed.coded.code.now list.now.listed.firsts.now list.now.listed.count calls.now rest.left rest.stop rest.changes (rest_writes list.now.listed.coded.text.now list.now.listed.coded.code.now list.now.listed.firsts.now list.now.listed.count calls.now rest.left rest.place rest.stop rest.cell rest.changes) v result out.old out.new }
+fn run(list: &Macros, memory: &Memory, out: &mut [u8], rest: Rest, v: Written) -> Paused
+    requires { Near rest × FitsList list.now rest.left memory.now.slots v out.old }
+    ensures { Ran list.now.listed.coded.text.now list.now.listed.coded.code.now list.now.listed.firsts.now list.now.listed.count memory.now.calls rest.left rest.stop rest.changes (rest_writes list.now.listed.coded.text.now list.now.listed.coded.code.now list.now.listed.firsts.now list.now.listed.count memory.now.calls rest.left rest.place rest.stop rest.cell rest.changes) v result out.old out.new }
 {
     let coded = &list.listed.coded;
     let mut place = rest.place;
@@ -202,7 +197,7 @@ fn run(list: &Macros, calls: &[u32], out: &mut [u8], rest: Rest, v: Written) -> 
             cell: cell,
             left: rest.left,
         };
-        let step = meet(list, calls, out, here, kept);
+        let step = meet(list, memory, out, here, kept);
         if let Some(body) = step.call {
             return Paused {
                 state: step.state,
@@ -255,11 +250,11 @@ fn behind(coded: &Coded, at: Level, pause: Pause) -> Rest
 
 // Stores the cell of a call.
 // An index and a cast are plainer here than a call of `cells`, which this crate does not name.
-fn keep_call(calls: &mut [u32], d: usize, cell: usize)
-    requires { (d < length calls.old) × (cell < cells) }
-    ensures { calls.new ≡ set calls.old d cell }
+fn keep_call(memory: &mut Memory, d: usize, cell: usize)
+    requires { (d < levels) × (cell < cells) }
+    ensures { (memory.new.calls ≡ set memory.old.calls d cell) × (d < length memory.old.calls) × (memory.new.slots ≡ memory.old.slots) }
 {
-    calls[d] = cell as u32;
+    memory.calls[d] = cell as u32;
 }
 
 // Whether the row is over, or as long as it was.
@@ -270,62 +265,62 @@ fn is_steady(v: Written, r: Written) -> bool
 }
 
 // Remembers the body of the innermost call, if it left the row as it was, or over.
-fn keep_body(list: &Macros, calls: &mut [u32], at: Level, steady: bool)
-    requires { (at.cell < half) × (at.left < levels) × (memory ≤ length calls.old) }
-    ensures { Keeps list.now.listed.coded.text.now list.now.listed.coded.code.now calls.old calls.new at.left at.cell steady }
+fn keep_body(list: &Macros, memory: &mut Memory, at: Level, steady: bool)
+    requires { (at.cell < half) × (at.left < levels) }
+    ensures { Keeps list.now.listed.coded.text.now list.now.listed.coded.code.now memory.old memory.new at.left at.cell steady }
 {
     if !steady {
         return;
     }
-    macro_memory::remember(&list.listed.coded, calls, at.left + 1, at.cell);
+    memory.remember(&list.listed.coded, at.left + 1, at.cell);
 }
 
 // Writes a body: recursive expansion; the levels left, 16 at first, fall at each call.
-fn expand_body(list: &Macros, calls: &mut [u32], out: &mut [u8], at: Level, v: Written) -> Written
-    requires { (at.cell < half) × (at.left < levels) × FitsList list.now at.left calls.old v out.old }
-    ensures { Expands list.now.listed.coded.text.now list.now.listed.coded.code.now list.now.listed.firsts.now list.now.listed.count calls.old calls.new at.left at.cell v result out.old out.new }
+fn expand_body(list: &Macros, memory: &mut Memory, out: &mut [u8], at: Level, v: Written) -> Written
+    requires { (at.cell < half) × (at.left < levels) × FitsList list.now at.left memory.old.slots v out.old }
+    ensures { Expands list.now.listed.coded.text.now list.now.listed.coded.code.now list.now.listed.firsts.now list.now.listed.count memory.old memory.new at.left at.cell v result out.old out.new }
 {
-    let mut paused = run(list, calls, out, whole(&list.listed.coded, at), v);
+    let mut paused = run(list, memory, out, whole(&list.listed.coded, at), v);
     while let Some(pause) = paused.call {
-        keep_call(calls, LEVELS - at.left, pause.cell);
+        keep_call(memory, LEVELS - at.left, pause.cell);
         let inner = Level {
             cell: pause.body,
             left: at.left - 1,
         };
-        let written = expand_body(list, calls, out, inner, paused.state);
+        let written = expand_body(list, memory, out, inner, paused.state);
         paused = run(
             list,
-            calls,
+            memory,
             out,
             behind(&list.listed.coded, at, pause),
             written,
         );
     }
     let last = paused.state;
-    keep_body(list, calls, at, is_steady(v, last));
+    keep_body(list, memory, at, is_steady(v, last));
     last
 }
 
 // Writes a change, with so many levels left around it.
 pub fn write_change(
     list: &Macros,
-    calls: &mut [u32],
+    memory: &mut Memory,
     out: &mut [u8],
     at: Level,
     v: Written,
 ) -> Written
-    requires { (at.cell < reach) × FitsList list.now at.left calls.old v out.old }
-    ensures { Wrote (change_writes list.now.listed.coded.text.now list.now.listed.coded.code.now list.now.listed.firsts.now list.now.listed.count calls.old at.left at.cell) v result out.old out.new × Remembers list.now.listed.coded.text.now list.now.listed.coded.code.now list.now.listed.firsts.now list.now.listed.count calls.new result }
+    requires { (at.cell < reach) × FitsList list.now at.left memory.old.slots v out.old }
+    ensures { Wrote (change_writes list.now.listed.coded.text.now list.now.listed.coded.code.now list.now.listed.firsts.now list.now.listed.count memory.old.calls at.left at.cell) v result out.old out.new × Remembers list.now.listed.coded.text.now list.now.listed.coded.code.now list.now.listed.firsts.now list.now.listed.count memory.new.slots result }
 {
-    let step = meet(list, calls, out, at, v);
+    let step = meet(list, memory, out, at, v);
     let Some(body) = step.call else {
         return step.state
     };
-    keep_call(calls, LEVELS - at.left, at.cell);
+    keep_call(memory, LEVELS - at.left, at.cell);
     let left = at.left - 1;
     let inner = Level {
         cell: body,
         left: left,
     };
-    expand_body(list, calls, out, inner, step.state)
+    expand_body(list, memory, out, inner, step.state)
 }

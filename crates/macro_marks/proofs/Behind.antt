@@ -8,7 +8,7 @@ use native.Mathlib.Omega.{arith}
 use lib.Dec.{eqb}
 use lib.ListN.{length, get_or, drop, length-drop}
 use lib.Seq.{drop-drop, get_or-drop}
-use borrow.Author.Tests.{ne_eqb, eq-eqb}
+use Rattle.std.specs.Prelude.{None, is_some}
 use Rattle.language.specs.Program.{identifier}
 use Rattle.lexer.specs.declared.Token.{Token}
 use Rattle.lexer.specs.Tokens.{item_of, chars_of, found_by, TokenAt}
@@ -94,13 +94,13 @@ module _ {s : List ℕ} {n : ℕ} {t : Token} (k : TokenAt s n t) (l : n ≤ len
   by_token : FoundLeads s p n (found_by s t)
   by_token = subst (λ (x : Found). FoundLeads s p n x) k.is (item-leads s p n l)
 
-  pub none-leads : t.sort ≡ 0 → (e : ℕ) × (drop e s ≡ []) × Leads s (reader outside p false) n (reader outside p false) e
-  none-leads z = rw (eq-eqb t.sort 0 z) at by_token
+  pub none-leads : t.sort ≡ None → (e : ℕ) × (drop e s ≡ []) × Leads s (reader outside p false) n (reader outside p false) e
+  none-leads z = rw z at by_token
 
-  pub by-item : (t.sort ≡ 0 → ⊥) → FoundLeads s p n (found item t.next)
-  by-item z = rw (ne_eqb t.sort 0 z) at by_token
+  pub by-item : is_some t.sort ≡ true → FoundLeads s p n (found item t.next)
+  by-item z = rw z at by_token
 
-  pub passes_on : (t.sort ≡ 0 → ⊥) → (is word item && word_joins s (chars_of s t) (parameters_in p) t.next) ≡ false
+  pub passes_on : is_some t.sort ≡ true → (is word item && word_joins s (chars_of s t) (parameters_in p) t.next) ≡ false
       → Leads s (reader outside p false) n (reader outside (item_passed p (byte_at s t.at) item) false) t.next
   passes_on z h = go (is word item) refl h (by-item z).0 (by-item z).1
     where

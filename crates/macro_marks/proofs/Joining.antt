@@ -7,6 +7,7 @@ use lib.Dec.{eqb}
 use lib.ListN.{length, take, drop}
 use lib.Seq.{drop-drop}
 use Rattle.language.specs.Program.{identifier}
+use Rattle.std.specs.Prelude.{is_some}
 use Rattle.lexer.specs.declared.Token.{Token}
 use Rattle.lexer.specs.Tokens.{item_of, chars_of, TokenAt}
 use Rattle.lists.specs.Lists.{any, bytes_equal}
@@ -77,7 +78,7 @@ module _ (s : List ℕ) (ps : List (List ℕ)) where
       (word_out s body true m (word_from s m) f (drop f s) refl (subst WordStops (drop-drop (word_length r) m s) (word-stops r)) (joined-none st (drop f s) refl))
 
   module _ {n : ℕ} {t : Token} (k : TokenAt s n t) (l : n ≤ length s) where
-    pub joined-on : (t.sort ≡ 0 → ⊥) → is word (item_of s t) ≡ true → word_joins s (chars_of s t) ps t.next ≡ true
+    pub joined-on : is_some t.sort ≡ true → is word (item_of s t) ≡ true → word_joins s (chars_of s t) ps t.next ≡ true
         → Joined s body n t.next (t.next + 1 + word_length (drop (t.next + 1) s))
     unfolding parameters_in
     joined-on z w h = go (drop e s) refl

@@ -3,19 +3,20 @@ use mathlib.Core.Path.{◌≡◌, refl, ap, sym, subst, ◌∙◌}
 use mathlib.Core.Bool.{Bool, true, false, cond, ◌&&◌, and-false, false≢true}
 use mathlib.Core.List.{List, [], ◌∷◌, ◌++◌, append_assoc}
 use Prim.Native.Nat.{ℕ, ◌+◌, ◌≤◌, ◌<◌}
-use Rattle.std.specs.Prelude.{Option, Some, None}
+use Rattle.std.specs.Prelude.{Option, Some, None, is_some}
 use native.Mathlib.Omega.{arith}
 use lib.Dec.{eqb}
 use lib.ListN.{length, drop, set, length-append, length-drop, length-set}
 use lib.Seq.{set_at}
-use borrow.Author.Tests.{eqb-true}
 use Rattle.language.specs.Program.{identifier}
 use Rattle.lexer.specs.declared.Token.{Token}
 use Rattle.lexer.specs.Tokens.{item_of, chars_of, TokenAt}
-use Rattle.lexer.proofs.Finding.{is-sort}
+use Rattle.lexer.proofs.Finding.{one_sort}
+use Rattle.scanner.specs.declared.Sort.{Sort}
+use Rattle.scanner.specs.Sorts.{sort_in}
 use Rattle.macros.specs.Marks.{byte_at, Part, item_passed, parameters_in, marked_from, marked}
 use Rattle.macros.specs.Marks.Part.{before, in_body}
-use Rattle.syntax.specs.Items.{is}
+use Rattle.syntax.specs.Items.{is, same_sort}
 use Rattle.syntax.specs.Items.Sort.{word}
 use Rattle.syntax.specs.Items.Mode.{outside}
 use Rattle.syntax.specs.Scan.{word_length}
@@ -53,14 +54,14 @@ marking-first {s} {m} h = record { most = omega arith; same = ap length h; where
 nothing-joins : (s w : List ℕ) (e : ℕ) (b : Bool) → (b && word_joins s w [] e) ≡ false
 nothing-joins s w e b = rw (and-false (eqb (byte_at s e) 39 && identifier w && identifier (word_from s (e + 1))), and-false b) refl
 
-word-stays : (h k b e : ℕ) → eqb 1 k ≡ true → part_behind (Body h) k b e ≡ Body h
-word-stays h k b e q = rw (sym (eqb-true 1 k q)) refl
+word-stays : (h : ℕ) (k : Option Sort) (b e : ℕ) → same_sort word (sort_in k) ≡ true → part_behind (Body h) k b e ≡ Body h
+word-stays h k b e q = rw (one_sort (Some Sort.Word) k q) refl
 
 module _ {s m : List ℕ} {c : ListPart} {n : ℕ} {t : Token} (u : Marking s m c n) (k : TokenAt s n t) where
   pub joinable : JoinableIn s c t
   joinable = record { stands = k.stands; within = known-within s n c u.where-in u.known }
 
-  pub all-marked : t.sort ≡ 0 → m ≡ marked s
+  pub all-marked : t.sort ≡ None → m ≡ marked s
   unfolding marked_from
   all-marked z =
       let g = none-leads k u.most u.where-in z in
@@ -68,9 +69,9 @@ module _ {s m : List ℕ} {c : ListPart} {n : ℕ} {t : Token} (u : Marking s m 
       let q : marked s ≡ u.done ++ (g.2.bytes ++ []) = u.is ∙ ap (λ (w : List ℕ). u.done ++ w) (g.2.gives ∙ rw g.1 refl) in
       p ∙ sym q
 
-  module _ (z : t.sort ≡ 0 → ⊥) where
+  module _ (z : is_some t.sort ≡ true) where
     abbrev test : ListPart → Bool
-    test d = eqb 1 t.sort && word_joins s (chars_of s t) (parameters_of s d) t.next
+    test d = same_sort word (sort_in t.sort) && word_joins s (chars_of s t) (parameters_of s d) t.next
 
     abbrev far : ℕ
     far = t.next + 1 + word_length (drop (t.next + 1) s)
@@ -79,7 +80,7 @@ module _ {s m : List ℕ} {c : ListPart} {n : ℕ} {t : Token} (u : Marking s m 
     over : test c ≡ false → Marking s m (part_behind c t.sort (byte_at s t.at) t.next) t.next
     over e =
         let p = known-parameters s n c u.where-in u.known in
-        let f : (is word (item_of s t) && word_joins s (chars_of s t) (parameters_in u.where-in) t.next) ≡ false = rw (is-sort word k.stands, sym p) e in
+        let f : (is word (item_of s t) && word_joins s (chars_of s t) (parameters_in u.where-in) t.next) ≡ false = rw (sym p) e in
         let g = passes_on k u.most u.where-in z f in
         record {
           most = k.stands.most;
@@ -123,14 +124,14 @@ module _ {s m : List ℕ} {c : ListPart} {n : ℕ} {t : Token} (u : Marking s m 
 
     -- only in a body
     crossed : (d : ListPart) → d ≡ c → test d ≡ true → Known s n d u.where-in → Crossed
-    crossed Before q e h = absurd (false≢true (sym (nothing-joins s (chars_of s t) t.next (eqb 1 t.sort)) ∙ e))
-    crossed First q e h = absurd (false≢true (sym (nothing-joins s (chars_of s t) t.next (eqb 1 t.sort)) ∙ e))
-    crossed AtList q e h = absurd (false≢true (sym (nothing-joins s (chars_of s t) t.next (eqb 1 t.sort)) ∙ e))
-    crossed After q e h = absurd (false≢true (sym (nothing-joins s (chars_of s t) t.next (eqb 1 t.sort)) ∙ e))
-    crossed (Header y) q e h = absurd (false≢true (sym (nothing-joins s (chars_of s t) t.next (eqb 1 t.sort)) ∙ e))
+    crossed Before q e h = absurd (false≢true (sym (nothing-joins s (chars_of s t) t.next (same_sort word (sort_in t.sort))) ∙ e))
+    crossed First q e h = absurd (false≢true (sym (nothing-joins s (chars_of s t) t.next (same_sort word (sort_in t.sort))) ∙ e))
+    crossed AtList q e h = absurd (false≢true (sym (nothing-joins s (chars_of s t) t.next (same_sort word (sort_in t.sort))) ∙ e))
+    crossed After q e h = absurd (false≢true (sym (nothing-joins s (chars_of s t) t.next (same_sort word (sort_in t.sort))) ∙ e))
+    crossed (Header y) q e h = absurd (false≢true (sym (nothing-joins s (chars_of s t) t.next (same_sort word (sort_in t.sort))) ∙ e))
     crossed (Body y) q e h =
-        let parts = both (eqb 1 t.sort) (word_joins s (chars_of s t) (parameters s y) t.next) e in
-        let j = joined-on s (parameters s y) k u.most z (is-sort word k.stands ∙ parts.0) parts.1 in
+        let parts = both (same_sort word (sort_in t.sort)) (word_joins s (chars_of s t) (parameters s y) t.next) e in
+        let j = joined-on s (parameters s y) k u.most z parts.0 parts.1 in
         let a = across y h.0 h.1 j in
         let same-part : Body y ≡ part_behind c t.sort (byte_at s t.at) t.next =
         sym (word-stays y t.sort (byte_at s t.at) t.next parts.0) ∙ ap (λ (x : ListPart). part_behind x t.sort (byte_at s t.at) t.next) q in

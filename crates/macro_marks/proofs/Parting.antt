@@ -1,19 +1,21 @@
 -- The part of the code is that of the reader of joining apostrophes.
-use mathlib.Core.Path.{◌≡◌, refl, ap, sym, subst, ◌∙◌}
+use mathlib.Core.Path.{◌≡◌, refl, ap, sym, ◌∙◌}
 use mathlib.Core.Bool.{Bool, true, false, cond, ◌&&◌, ◌||◌}
 use mathlib.Core.List.{List, [], ◌∷◌, ◌++◌, append_assoc, append-nil}
 use Prim.Native.Nat.{ℕ, ◌≤◌}
 use lib.Dec.{eqb}
 use lib.ListN.{length, drop}
 use Rattle.lexer.specs.declared.Token.{Token}
-use Rattle.lexer.specs.Tokens.{sort_at, item_of, chars_of, TokenAt}
-use Rattle.lexer.proofs.Finding.{number-of-sort}
+use Rattle.lexer.specs.Tokens.{item_of, chars_of, TokenAt}
+use Rattle.std.specs.Prelude.{Option, None, Some, is_some}
+use Rattle.scanner.specs.declared.Sort.{Sort}
+use Rattle.scanner.specs.Sorts.{sort_in}
 use Rattle.lists.specs.Lists.{among}
 use Rattle.lists.specs.Quoted.{bytes}
 use Rattle.macros.specs.Marks.{byte_at, Part, ended_by, opened_by, closed_by, passed_by, item_passed, parameters_in}
 use Rattle.macros.specs.Marks.Part.{before, in-first, at-list, after, in_header, in_body}
-use Rattle.syntax.specs.Items.{Sort, sort_number, same_sort}
-use Rattle.syntax.specs.Items.Sort.{separator, word, colon, end, text, wrong}
+use Rattle.syntax.specs.Items.{same_sort}
+use Rattle.syntax.specs.Items.Sort.{word, end, wrong}
 use Rattle.macro_marks.specs.declared.ListPart.{ListPart}
 use Rattle.macro_marks.specs.declared.ListPart.TheVariants.{Before, First, AtList, After, Header, Body}
 use Rattle.macro_marks.specs.Parts.{items_from, ended, opened, closed, passed, part_behind, header_words, parameters, parameters_of, Within}
@@ -89,18 +91,18 @@ module _ (s : List ℕ) (n e : ℕ) (l : e ≤ length s) where
       (h.0 ++ vs, ap (λ (q : Part). passed_by q vs) h.1, h.2 ∙ ap (λ (us : List (List ℕ)). h.0 ++ us) w ∙ sym (append_assoc h.0 vs (words_from s e)), h.3)
   known-passed (Body m) p vs w h = (ap (λ (q : Part). passed_by q vs) h.0, h.1)
 
-  -- an item of the sort q with the characters cs and the byte b
-  known_by : (q : Sort) (b : ℕ) (cs : List ℕ) (c : ListPart) (p : Part) → Known s n c p
-      → words_from s n ≡ cond (same_sort wrong q && among b (bytes "()")) [] (cond (same_sort word q) (cs ∷ words_from s e) (words_from s e))
-      → Known s e (part_behind c (sort_number q) b e)
-      (cond (same_sort end q) (ended_by p)
-      (cond (same_sort wrong q && eqb b 40) (opened_by p) (cond (same_sort wrong q && eqb b 41) (closed_by p) (passed_by p (cond (same_sort word q) (cs ∷ []) [])))))
-  known_by separator b cs c p h w = known-passed c p [] w h
-  known_by word b cs c p h w = known-passed c p (cs ∷ []) w h
-  known_by colon b cs c p h w = known-passed c p [] w h
-  known_by end b cs c p h w = known-ended c p w h
-  known_by text b cs c p h w = known-passed c p [] w h
-  known_by wrong b cs c p h w = go (eqb b 40) (eqb b 41) w
+  -- an item of the sort that q means, with the characters cs and the byte b
+  known_by : (q : Option Sort) (b : ℕ) (cs : List ℕ) (c : ListPart) (p : Part) → Known s n c p
+      → words_from s n ≡ cond (same_sort wrong (sort_in q) && among b (bytes "()")) [] (cond (same_sort word (sort_in q)) (cs ∷ words_from s e) (words_from s e))
+      → Known s e (part_behind c q b e)
+      (cond (same_sort end (sort_in q)) (ended_by p)
+      (cond (same_sort wrong (sort_in q) && eqb b 40) (opened_by p) (cond (same_sort wrong (sort_in q) && eqb b 41) (closed_by p) (passed_by p (cond (same_sort word (sort_in q)) (cs ∷ []) [])))))
+  known_by None b cs c p h w = known-passed c p [] w h
+  known_by (Some Sort.Word) b cs c p h w = known-passed c p (cs ∷ []) w h
+  known_by (Some Sort.Colon) b cs c p h w = known-passed c p [] w h
+  known_by (Some Sort.End) b cs c p h w = known-ended c p w h
+  known_by (Some Sort.Text) b cs c p h w = known-passed c p [] w h
+  known_by (Some Sort.Wrong) b cs c p h w = go (eqb b 40) (eqb b 41) w
     where
       go : (x y : Bool) → words_from s n ≡ cond (x || (y || false)) [] (words_from s e)
           → Known s e (cond x (opened c e) (cond y (closed c e) (passed c))) (cond x (opened_by p) (cond y (closed_by p) (passed_by p [])))
@@ -108,10 +110,6 @@ module _ (s : List ℕ) (n e : ℕ) (l : e ≤ length s) where
       go false true v = known-closed c p h
       go false false v = known-passed c p [] v h
 
-module _ {s : List ℕ} {n : ℕ} {t : Token} (k : TokenAt s n t) (z : t.sort ≡ 0 → ⊥) (c : ListPart) (p : Part) where
+module _ {s : List ℕ} {n : ℕ} {t : Token} (k : TokenAt s n t) (z : is_some t.sort ≡ true) (c : ListPart) (p : Part) where
   pub known_on : Known s n c p → Known s t.next (part_behind c t.sort (byte_at s t.at) t.next) (item_passed p (byte_at s t.at) (item_of s t))
-  known_on h =
-      let m : sort_number (sort_at t.sort) ≡ t.sort = number-of-sort t.sort k.stands.sorted in
-      subst (λ (j : ℕ). Known s t.next (part_behind c j (byte_at s t.at) t.next) (item_passed p (byte_at s t.at) (item_of s t))) m
-      (known_by s n t.next k.stands.most (sort_at t.sort) (byte_at s t.at) (chars_of s t) c p h
-      (words-here k z refl ∙ rw m refl))
+  known_on h = known_by s n t.next k.stands.most t.sort (byte_at s t.at) (chars_of s t) c p h (words-here k z refl)

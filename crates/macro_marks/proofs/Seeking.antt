@@ -2,29 +2,32 @@
 use mathlib.Core.Path.{◌≡◌, refl, ap, sym, subst, ◌∙◌}
 use mathlib.Core.Bool.{Bool, true, false, ◌&&◌, ◌||◌}
 use mathlib.Core.List.{List}
-use Rattle.std.specs.Prelude.{Some, None}
+use Rattle.std.specs.Prelude.{Option, Some, None, is_some}
 use Rattle.std.proofs.lemmas.Option.{none-some, same_Some}
 use Prim.Native.Nat.{ℕ, ◌≤◌}
 use native.Mathlib.Omega.{arith}
-use lib.Dec.{eqb}
 use lib.ListN.{length}
 use Rattle.lexer.specs.declared.Token.{Token}
 use Rattle.lexer.specs.Tokens.{TokenAt}
-use Rattle.lexer.proofs.Finding.{is-sort}
+use Rattle.scanner.specs.declared.Sort.{Sort}
+use Rattle.scanner.specs.Sorts.{sort_in}
 use Rattle.lists.specs.Lists.{any, among}
 use Rattle.lists.specs.Quoted.{bytes}
 use Rattle.macros.specs.Marks.{byte_at, has_macros}
+use Rattle.std.specs.Bool.{then_some}
+use Rattle.syntax.specs.Items.{same_sort}
 use Rattle.syntax.specs.Items.Sort.{wrong}
 use Rattle.macro_marks.specs.Parts.{items_from, is_macros, Plain, ItemAt, NextItem}
 use Rattle.macro_marks.specs.ItemLaws.{none_here, item-here}
 
 -- the next item, or none
-pub nothing_next : {s : List ℕ} {n : ℕ} {t : Token} → TokenAt s n t → t.sort ≡ 0 → NextItem s n None
-nothing_next {s} {n} {t} k z = record { none = λ e. record { token = t; found = k; none = z }; some = λ x e. absurd (none-some x e) }
-
-pub item-next : {s : List ℕ} {n : ℕ} {t : Token} → TokenAt s n t → (t.sort ≡ 0 → ⊥) → NextItem s n (Some t)
-item-next {s} {n} {t} k z =
-    record { none = λ e. absurd (none-some t (sym e)); some = λ x e. subst (λ (u : Token). ItemAt s n u) (same_Some t x e) (record { found = k; there = z }) }
+pub item-next : {s : List ℕ} {n : ℕ} {t : Token} → TokenAt s n t → NextItem s n (then_some (is_some t.sort) t)
+item-next {s} {n} {t} k = go t.sort refl
+  where
+    go : (q : Option Sort) → t.sort ≡ q → NextItem s n (then_some (is_some q) t)
+    go None z = record { none = λ e. record { token = t; found = k; none = z }; some = λ x e. absurd (none-some x e) }
+    go (Some q) z =
+        record { none = λ e. absurd (none-some t (sym e)); some = λ x e. subst (λ (u : Token). ItemAt s n u) (same_Some t x e) (record { found = k; there = ap is_some z }) }
 
 -- none stands before place n
 pub record Seeking (s : List ℕ) (n : ℕ) : Type 0 where
@@ -39,15 +42,14 @@ pub seeking-past : {s : List ℕ} {n e : ℕ} → Seeking s n → Plain s n e �
 seeking-past u p = record { most = p.most; is = u.is ∙ p.is }
 
 module _ {s : List ℕ} {n : ℕ} {t : Token} (u : Seeking s n) (k : TokenAt s n t) where
-  pub none_left : t.sort ≡ 0 → false ≡ has_macros s
+  pub none_left : t.sort ≡ None → false ≡ has_macros s
   none_left e = sym (u.is ∙ ap (any (is_macros s)) (none_here k e))
 
-  module _ (e : t.sort ≡ 0 → ⊥) {b : ℕ} (d : b ≡ byte_at s t.at) {r : Bool} (f : r ≡ (eqb 5 t.sort && among b (bytes "*()"))) where
+  module _ (e : is_some t.sort ≡ true) {b : ℕ} (d : b ≡ byte_at s t.at) {r : Bool} (f : r ≡ (same_sort wrong (sort_in t.sort) && among b (bytes "*()"))) where
     by-item : has_macros s ≡ (r || any (is_macros s) (items_from s t.next))
     by-item =
         u.is ∙ ap (any (is_macros s)) (item-here k e)
-        ∙ ap (λ (a : Bool). (a && among (byte_at s t.at) (bytes "*()")) || any (is_macros s) (items_from s t.next)) (is-sort wrong k.stands)
-        ∙ ap (λ (a : Bool). a || any (is_macros s) (items_from s t.next)) (sym (f ∙ ap (λ (a : ℕ). eqb 5 t.sort && among a (bytes "*()")) d))
+        ∙ ap (λ (a : Bool). a || any (is_macros s) (items_from s t.next)) (sym (f ∙ ap (λ (a : ℕ). same_sort wrong (sort_in t.sort) && among a (bytes "*()")) d))
 
     pub one-here : r ≡ true → true ≡ has_macros s
     one-here g = sym (by-item ∙ rw g refl)

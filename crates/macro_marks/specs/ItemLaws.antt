@@ -1,7 +1,7 @@
 -- From one item of a text to the next, as a loop over tokens meets them.
-use Rattle.std.specs.Prelude.{◌≡◌, List, [], ◌∷◌, ℕ, ◌≤◌, ◌<◌, length, get_or}
+use Rattle.std.specs.Prelude.{◌≡◌, true, List, [], ◌∷◌, ℕ, ◌≤◌, ◌<◌, length, get_or, None, is_some}
 use Rattle.std.proofs.Math.Path.{refl}
-use Rattle.std.proofs.Common.{ap, sym, ◌∙◌, arith, drop-cons, ne_eqb}
+use Rattle.std.proofs.Common.{ap, sym, ◌∙◌, arith, drop-cons}
 use Rattle.std.proofs.Math.ListN.{get_or-eq_default}
 use Rattle.lexer.specs.declared.Token.{Token}
 use Rattle.lexer.specs.Tokens.{item_of, found_by, TokenAt}
@@ -14,16 +14,16 @@ module _ {s : List ℕ} {n : ℕ} {t : Token} (k : TokenAt s n t) where
   by_token : items_from s n ≡ items_then s (found_by s t)
   by_token = items-found s n ∙ ap (items_then s) k.is
 
-  pub none_here : t.sort ≡ 0 → items_from s n ≡ []
+  pub none_here : t.sort ≡ None → items_from s n ≡ []
   unfolding items_then
   none_here e = by_token ∙ rw e refl
 
-  pub item-here : (t.sort ≡ 0 → ⊥) → items_from s n ≡ item_of s t ∷ items_from s t.next
+  pub item-here : is_some t.sort ≡ true → items_from s n ≡ item_of s t ∷ items_from s t.next
   unfolding items_then
-  item-here e = by_token ∙ rw (ne_eqb t.sort 0 e) refl
+  item-here e = by_token ∙ rw e refl
 
   -- the next place is further on
-  pub further : (t.sort ≡ 0 → ⊥) → n < t.next
+  pub further : is_some t.sort ≡ true → n < t.next
   further e = omega (arith, k.from, k.stands.some e, k.stands.behind)
 
 -- a byte of a text

@@ -1,12 +1,14 @@
 -- What the search for macros and the marking of joining apostrophes know: where it stands in the list of macros, the words of a header, and the word behind an apostrophe.
-use Rattle.std.specs.Prelude.{◌≡◌, Bool, cond, ◌&&◌, ◌||◌, List, [], ◌∷◌, ℕ, ◌+◌, ◌≤◌, Option, Some, None, eqb, length, take, drop}
+use Rattle.std.specs.Prelude.{◌≡◌, Bool, true, cond, ◌&&◌, ◌||◌, List, [], ◌∷◌, ℕ, ◌+◌, ◌≤◌, Option, Some, None, is_some, eqb, length, take, drop}
 use Rattle.language.specs.Program.{identifier}
 use Rattle.lexer.specs.declared.Token.{Token}
 use Rattle.lexer.specs.Tokens.{chars_of, Stands, TokenAt}
 use Rattle.lists.specs.Lists.{any, among, bytes_equal}
 use Rattle.lists.specs.Quoted.{bytes}
 use Rattle.macros.specs.Marks.{byte_at}
-use Rattle.syntax.specs.Items.{Item, is, read}
+use Rattle.scanner.specs.declared.Sort.{Sort}
+use Rattle.scanner.specs.Sorts.{sort_in}
+use Rattle.syntax.specs.Items.{Item, is, same_sort, read}
 use Rattle.syntax.specs.Items.Sort.{word, wrong}
 use Rattle.syntax.specs.Items.Mode.{outside}
 use Rattle.syntax.specs.Scan.{word_length}
@@ -65,9 +67,13 @@ passed (Header h) = Header h
 passed (Body h) = Body h
 
 -- an item of the sort k that begins with the byte b and ends before place e
-abbrev pub part_behind : ListPart → ℕ → ℕ → ℕ → ListPart
-part_behind c k b e =
-    cond (eqb 3 k) (ended c) (cond (eqb 5 k && eqb b 40) (opened c e) (cond (eqb 5 k && eqb b 41) (closed c e) (passed c)))
+abbrev pub part_behind : ListPart → Option Sort → ℕ → ℕ → ListPart
+part_behind c None b e = passed c
+part_behind c (Some Sort.Word) b e = passed c
+part_behind c (Some Sort.Colon) b e = passed c
+part_behind c (Some Sort.End) b e = ended c
+part_behind c (Some Sort.Text) b e = passed c
+part_behind c (Some Sort.Wrong) b e = cond (eqb b 40) (opened c e) (cond (eqb b 41) (closed c e) (passed c))
 
 -- the words of the items before the bracket that ends a header
 unfoldable pub header_words : List ℕ → List Item → List (List ℕ)
@@ -120,12 +126,12 @@ word_joins s w ps e =
 -- the place behind a token and what is joined to it
 abbrev pub joined_end : List ℕ → List (List ℕ) → Token → ℕ
 joined_end s ps t =
-    cond (eqb 1 t.sort && word_joins s (chars_of s t) ps t.next) (t.next + 1 + word_length (drop (t.next + 1) s)) t.next
+    cond (same_sort word (sort_in t.sort) && word_joins s (chars_of s t) ps t.next) (t.next + 1 + word_length (drop (t.next + 1) s)) t.next
 
 -- the place behind what is joined to a token, where something is
 abbrev pub joined : List ℕ → List (List ℕ) → Token → Option ℕ
 joined s ps t =
-    cond (eqb 1 t.sort && word_joins s (chars_of s t) ps t.next) (Some (t.next + 1 + word_length (drop (t.next + 1) s))) None
+    cond (same_sort word (sort_in t.sort) && word_joins s (chars_of s t) ps t.next) (Some (t.next + 1 + word_length (drop (t.next + 1) s))) None
 
 -- a token of the text s, in a body whose header begins at place h, and in the part c
 pub record Joinable (s : List ℕ) (h : ℕ) (t : Token) : Type 0 where
@@ -140,12 +146,12 @@ pub record JoinableIn (s : List ℕ) (c : ListPart) (t : Token) : Type 0 where
 pub record NoItem (s : List ℕ) (n : ℕ) : Type 0 where
   pub token : Token
   pub found : TokenAt s n token
-  pub none : token.sort ≡ 0
+  pub none : token.sort ≡ None
 
 -- the token t of the first item from place n on
 pub record ItemAt (s : List ℕ) (n : ℕ) (t : Token) : Type 0 where
   pub found : TokenAt s n t
-  pub there : t.sort ≡ 0 → ⊥
+  pub there : is_some t.sort ≡ true
 
 pub record NextItem (s : List ℕ) (n : ℕ) (r : Option Token) : Type 0 where
   pub none : r ≡ None → NoItem s n

@@ -1,20 +1,23 @@
 // Which texts have macros, and where their joining apostrophes stand.
 #![tactic(auto)]
 
-ghost use Rattle.std.specs.Prelude.{◌≡◌, ◌&&◌, ◌≤◌, eqb, length, position};
+ghost use Rattle.std.specs.Prelude.{◌≡◌, ◌&&◌, ◌≤◌, length, position};
 ghost use Rattle.lexer.specs.Tokens.{chars_of, Stands};
 ghost use Rattle.lists.specs.Lists.{ahead, any, among, bytes_equal};
 ghost use Rattle.lists.specs.Quoted.{bytes};
 ghost use Rattle.macros.specs.Marks.{byte_at, has_macros, marked};
+ghost use Rattle.scanner.specs.Sorts.{sort_in};
+ghost use Rattle.syntax.specs.Items.{same_sort};
+ghost use Rattle.syntax.specs.Items.Sort.{word, wrong};
 ghost use Rattle.macro_marks.specs.Parts.{ended, opened, closed, passed, part_behind, begins_mark, Plain, parameters, parameters_of, joined, NextItem, Joinable, JoinableIn};
 
 use lexer::{Token, item_at};
-use scanner::{END, NOTHING, WORD, WRONG, word_end};
+use scanner::{Sort, word_end};
 
 // Where the reader stands in the list of macros: before the first statement; in it; behind it, where the list may begin; after the
 // list, or where there is none; in the list but in no body, and in a body, each with the place where the macro's header begins.
 // There are six parts, and two of them have a place, so an Option does not tell them apart.
-#[derive(Clone, Copy)]
+#[derive(Clone, Copy, Debug, PartialEq, Eq)]
 enum ListPart {
     Before,
     First,
@@ -67,11 +70,11 @@ fn plain_end(text: &[u8], n: usize) -> usize
     n + ordinary(&text[n..])
 }
 
-// Whether an item of this sort that begins with the byte `b` is a star or a round bracket of macros.
-fn is_mark(sort: u8, b: u8) -> bool
-    ensures { result ≡ eqb 5 sort && among b (bytes "*()") }
+// Whether an item that begins with the byte `b` is a star or a round bracket of macros.
+fn is_mark(t: Token, b: u8) -> bool
+    ensures { result ≡ same_sort wrong (sort_in t.sort) && among b (bytes "*()") }
 {
-    sort == WRONG && is_star_or_bracket(b)
+    t.is(Sort::Wrong) && is_star_or_bracket(b)
 }
 
 // The next item from place `n` on, if there is one.
@@ -80,10 +83,7 @@ pub fn next_item(text: &[u8], n: usize) -> Option<Token>
     ensures { NextItem text.now n result }
 {
     let t = item_at(text, n);
-    if t.sort == NOTHING {
-        return None;
-    }
-    Some(t)
+    t.sort.is_some().then_some(t)
 }
 
 // Whether a star or a round bracket stands outside texts and comments.
@@ -92,7 +92,7 @@ pub fn has_macros(text: &[u8]) -> bool
 {
     let mut n: usize = 0;
     while let Some(t) = next_item(text, plain_end(text, n)) {
-        if is_mark(t.sort, byte_at(text, t.at)) {
+        if is_mark(t, byte_at(text, t.at)) {
             return true;
         }
         n = t.next;
@@ -144,31 +144,31 @@ fn passed(p: ListPart) -> ListPart
     }
 }
 
-// The part behind an item of this sort that begins with the byte `b`.
-fn part_behind(p: ListPart, sort: u8, b: u8, next: usize) -> ListPart
-    ensures { result ≡ part_behind p sort b next }
+// The part behind an item that begins with the byte `b`.
+fn part_behind(p: ListPart, t: Token, b: u8) -> ListPart
+    ensures { result ≡ part_behind p t.sort b t.next }
 {
-    match (sort, b) {
-        (END, _) => ended(p),
-        (WRONG, b'(') => opened(p, next),
-        (WRONG, b')') => closed(p, next),
+    match (t.sort, b) {
+        (Some(Sort::End), _) => ended(p),
+        (Some(Sort::Wrong), b'(') => opened(p, t.next),
+        (Some(Sort::Wrong), b')') => closed(p, t.next),
         _ => passed(p),
     }
 }
 
-// Whether an item of this sort that begins with the byte `b` ends a header.
-fn ends_header(sort: u8, b: u8) -> bool
-    ensures { result ≡ eqb 5 sort && among b (bytes "()") }
+// Whether an item that begins with the byte `b` ends a header.
+fn ends_header(t: Token, b: u8) -> bool
+    ensures { result ≡ same_sort wrong (sort_in t.sort) && among b (bytes "()") }
 {
-    sort == WRONG && b"()".contains(&b)
+    t.is(Sort::Wrong) && b"()".contains(&b)
 }
 
-// Whether a token is this word.
-fn is_word(text: &[u8], t: Token, word: &[u8]) -> bool
+// Whether a token is this name.
+fn is_word(text: &[u8], t: Token, name: &[u8]) -> bool
     requires { Stands text.now t }
-    ensures { result ≡ eqb 1 t.sort && bytes_equal word.now (chars_of text.now t) }
+    ensures { result ≡ same_sort word (sort_in t.sort) && bytes_equal name.now (chars_of text.now t) }
 {
-    t.sort == WORD && word == &text[t.at..t.end]
+    t.is(Sort::Word) && name == &text[t.at..t.end]
 }
 
 // Whether a name is a parameter of the macro whose header begins at `header`.
@@ -179,13 +179,13 @@ fn is_parameter(text: &[u8], header: usize, name: &[u8]) -> bool
     let mut named = false;
     let mut n = header;
     while let Some(t) = next_item(text, n) {
-        if ends_header(t.sort, byte_at(text, t.at)) {
+        if ends_header(t, byte_at(text, t.at)) {
             return false;
         }
         if named && is_word(text, t, name) {
             return true;
         }
-        named |= WORD == t.sort;
+        named |= t.is(Sort::Word);
         n = t.next;
     }
     false
@@ -196,7 +196,7 @@ fn joined_in_body(text: &[u8], header: usize, t: Token) -> Option<usize>
     requires { Joinable text.now header t }
     ensures { result ≡ joined text.now (parameters text.now header) t }
 {
-    if t.sort != WORD {
+    if !t.is(Sort::Word) {
         return None;
     }
     if byte_at(text, t.next) != b'\'' {
@@ -234,7 +234,7 @@ pub fn mark_joins(text: &[u8], out: &mut [u8])
     let mut n = 0;
     while let Some(t) = next_item(text, n) {
         let joined = joined(text, p, t);
-        p = part_behind(p, t.sort, byte_at(text, t.at), t.next);
+        p = part_behind(p, t, byte_at(text, t.at));
         n = t.next;
         if let Some(end) = joined {
             out[t.next] = b'*';

@@ -1,6 +1,6 @@
--- Calls that change nothing any more, and the row that has them: the cells of the nested calls, then slots, each with the levels left around a call, or 0,
--- the cell of its macro, and the cells of the calls around it and of the call itself; then a number for each group of slots, and one for each slot.
-use Rattle.std.specs.Prelude.{◌≡◌, false, List, [], map, ℕ, ◌+◌, ◌-◌, ◌*◌, ◌≤◌, ◌<◌, length, get_or, take, drop}
+-- Calls that change nothing any more, in slots, each with the levels left around a call, or 0, the cell of its macro, and the cells of the calls around
+-- it and of the call itself.
+use Rattle.std.specs.Prelude.{◌≡◌, false, List, [], map, ℕ, ◌+◌, ◌-◌, ◌≤◌, ◌<◌, length, get_or}
 use Rattle.macros.specs.Expansion.{Writing, places_of, filled_in, expand, levels}
 use Rattle.macro_code.specs.Code.{call_in, body_in, macros_in, arguments_in}
 use Rattle.macro_code.specs.Places.{half}
@@ -11,30 +11,15 @@ use Rattle.macro_values.specs.declared.Written.{Written}
 pub use Rattle.macro_values.specs.Values.{reach}
 use Rattle.macro_values.specs.Wrote.{is_over}
 use Rattle.macro_memory.specs.declared.Entered.{Entered}
+use Rattle.macro_memory.specs.declared.Memory.{Memory}
+use Rattle.macro_memory.specs.declared.Slot.{Slot}
 
-abbrev pub slots : ℕ
-slots = 128
+-- the slot at an index, and a free one past the end
+abbrev pub free_slot : Slot
+free_slot = record { left = 0; body = 0; calls = [] }
 
-abbrev pub groups : ℕ
-groups = 16
-
-abbrev pub slot_size : ℕ
-slot_size = 18
-
-abbrev pub body_cell : ℕ
-body_cell = 1
-
-abbrev pub around_cells : ℕ
-around_cells = 2
-
-abbrev pub turns : ℕ
-turns = levels + slot_size * slots
-
-abbrev pub memory : ℕ
-memory = turns + groups + slots
-
-abbrev pub slot_at : ℕ → ℕ
-slot_at k = levels + slot_size * k
+abbrev pub slot_at : List Slot → ℕ → Slot
+slot_at slots k = get_or slots k free_slot
 
 -- written again behind v, it changes nothing
 pub record Absorbed (x : Writing) (v : Written) : Type 0 where
@@ -52,21 +37,20 @@ entered_writes s c f n calls left i m =
 abbrev pub innermost_writes : List ℕ → List ℕ → List ℕ → ℕ → List ℕ → ℕ → ℕ → Writing
 innermost_writes s c f n calls left m = expand (macros_in s c f n) (left - 1) (arguments_in s c calls (levels - (left - 1))) (body_in s c m)
 
--- of the call in the slot at a place
-abbrev pub slot_writes : List ℕ → List ℕ → List ℕ → ℕ → List ℕ → ℕ → Writing
-slot_writes s c f n calls e = innermost_writes s c f n (drop (e + around_cells) calls) (get_or calls e 0) (get_or calls (e + body_cell) 0)
+-- of the call in a slot
+abbrev pub slot_writes : List ℕ → List ℕ → List ℕ → ℕ → Slot → Writing
+slot_writes s c f n x = innermost_writes s c f n x.calls x.left x.body
 
 -- no call that is remembered would change anything
-pub record Remembers (s c f : List ℕ) (n : ℕ) (calls : List ℕ) (v : Written) : Type 0 where
-  pub absorbed : (k : ℕ) → k < slots → (get_or calls (slot_at k) 0 ≡ 0 → ⊥) → Absorbed (slot_writes s c f n calls (slot_at k)) v
+pub record Remembers (s c f : List ℕ) (n : ℕ) (slots : List Slot) (v : Written) : Type 0 where
+  pub absorbed : (k : ℕ) → ((slot_at slots k).left ≡ 0 → ⊥) → Absorbed (slot_writes s c f n (slot_at slots k)) v
 
--- a call that can be looked up, in rows that can hold it
+-- a call that can be looked up
 pub record Lookable (at : Entered) (here : Around) (row : List ℕ) : Type 0 where
   pub near : at.cell < reach
   pub some : 1 ≤ at.left
   pub levels_are : at.left + here.depth ≡ levels
   pub body : at.body < half
-  pub room : memory ≤ length here.calls.now
   pub short : length row < half
 
 -- the arguments of two calls, within as many nested calls, are the same
@@ -74,18 +58,17 @@ abbrev pub Alike : List ℕ → List ℕ → List ℕ → List ℕ → ℕ → �
 Alike s c calls others depth i j =
     map (filled_in (arguments_in s c calls depth)) (call_in s c i).args ≡ map (filled_in (arguments_in s c others depth)) (call_in s c j).args
 
--- a call that is found among those that are remembered
-pub record Found (s c calls : List ℕ) (left i m : ℕ) : Type 0 where
-  pub changes_nothing : (f : List ℕ) (n : ℕ) (v : Written) → Remembers s c f n calls v → Absorbed (entered_writes s c f n calls left i m) v
+-- the call in a slot writes what a call writes
+pub record Like (s c calls : List ℕ) (at : Entered) (x : Slot) : Type 0 where
+  pub some : x.left ≡ 0 → ⊥
+  pub writes_are : (f : List ℕ) (n : ℕ) → slot_writes s c f n x ≡ entered_writes s c f n calls at.left at.cell at.body
 
--- the nested calls are in the cells from a place on too, and the cells elsewhere stay
-pub record Copied (calls after : List ℕ) (to count : ℕ) : Type 0 where
-  pub there : (j : ℕ) → j < count → get_or after (to + j) 0 ≡ get_or calls j 0
-  pub below : (j : ℕ) → j < to → get_or after j 0 ≡ get_or calls j 0
-  pub above : (j : ℕ) → to + count ≤ j → get_or after j 0 ≡ get_or calls j 0
-  pub nested : take levels after ≡ take levels calls
+-- a call that is found among those that are remembered
+pub record Found (s c : List ℕ) (slots : List Slot) (calls : List ℕ) (left i m : ℕ) : Type 0 where
+  pub changes_nothing : (f : List ℕ) (n : ℕ) (v : Written) → Remembers s c f n slots v → Absorbed (entered_writes s c f n calls left i m) v
 
 -- the innermost of the nested calls is remembered
-pub record Stored (calls after : List ℕ) (left m : ℕ) : Type 0 where
-  pub nested : take levels after ≡ take levels calls
-  pub remembers : (s c f : List ℕ) (n : ℕ) (v : Written) → Remembers s c f n calls v → Absorbed (innermost_writes s c f n calls left m) v → Remembers s c f n after v
+pub record Stored (before after : Memory) (left m : ℕ) : Type 0 where
+  pub nested : after.calls ≡ before.calls
+  pub remembers : (s c f : List ℕ) (n : ℕ) (v : Written) → Remembers s c f n before.slots v → Absorbed (innermost_writes s c f n before.calls left m) v
+      → Remembers s c f n after.slots v

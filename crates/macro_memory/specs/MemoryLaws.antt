@@ -1,8 +1,7 @@
--- What was written changes nothing the next time; what changes nothing never does later; and a row whose cells stay remembers the same.
-use Rattle.std.specs.Prelude.{◌≡◌, refl, Bool, true, false, ◌||◌, List, [], ◌∷◌, ◌++◌, map, ℕ, zero, suc, ◌+◌, ◌-◌, ◌≤◌, ◌<◌, ltb, length, get_or, take, drop, set}
-use Rattle.std.proofs.Common.{sym, ap, ◌∙◌, true≢false, append-nil, arith, le-ltb, get_or-drop, get_or-set_other}
-use Rattle.macros.specs.Expansion.{Writing, places_of, filled_in, levels}
-use Rattle.macro_code.specs.Code.{call_in, arguments_in}
+-- What was written changes nothing the next time; what changes nothing never does later; and nothing is remembered in free slots.
+use Rattle.std.specs.Prelude.{◌≡◌, refl, Bool, true, false, ◌||◌, List, [], ◌∷◌, ◌++◌, ℕ, zero, suc, ◌+◌, ◌≤◌, ltb, length, take, replicate}
+use Rattle.std.proofs.Common.{sym, ap, ◌∙◌, true≢false, append-nil, arith, le-ltb}
+use Rattle.macros.specs.Expansion.{Writing, places_of}
 use Rattle.statements.specs.Faults.{lower}
 use Rattle.statements.specs.StatementAt.{fault_of}
 use Rattle.statements.specs.Faults as told
@@ -10,7 +9,8 @@ use Rattle.std.specs.Prelude.{None, Some}
 use Rattle.macro_values.specs.declared.Written.{Written}
 use Rattle.macro_values.specs.WritingLaws.{lower-assoc}
 use Rattle.macro_values.specs.Wrote.{is_over, size_of, Wrote}
-use Rattle.macro_memory.specs.Memory.{slot_size, body_cell, around_cells, slot_at, Absorbed, slot_writes, Remembers}
+use Rattle.macro_memory.specs.Memory.{slot_at, Absorbed, slot_writes, Remembers}
+use Rattle.macro_memory.specs.declared.Slot.{Slot}
 
 lower-twice : (a : told.Fault) → lower a a ≡ a
 lower-twice None = refl
@@ -88,39 +88,15 @@ absorbed-writes x v o a l =
         rw (e, d, w) (sym (le-ltb (length o) (size_of v + 0) (omega arith)))
 
 -- what is remembered, behind more that is written
-pub remembers-stays : (s c f : List ℕ) (n : ℕ) (calls : List ℕ) (y : Writing) (v r : Written) (o p : List ℕ) → Remembers s c f n calls v → Wrote y v r o p → Remembers s c f n calls r
-remembers-stays s c f n calls y v r o p h w =
-    record { absorbed = λ k l z. absorbed-stays (slot_writes s c f n calls (slot_at k)) y v r o p (h.absorbed k l z) w }
+pub remembers-stays : (s c f : List ℕ) (n : ℕ) (slots : List Slot) (y : Writing) (v r : Written) (o p : List ℕ) → Remembers s c f n slots v → Wrote y v r o p → Remembers s c f n slots r
+remembers-stays s c f n slots y v r o p h w =
+    record { absorbed = λ k z. absorbed-stays (slot_writes s c f n (slot_at slots k)) y v r o p (h.absorbed k z) w }
 
--- only the calls around are looked at
-pub arguments-like : (s c calls others : List ℕ) (d : ℕ) → ((j : ℕ) → j < d → get_or others j 0 ≡ get_or calls j 0) → arguments_in s c others d ≡ arguments_in s c calls d
-unfolding arguments_in
-arguments-like s c calls others zero e = refl
-arguments-like s c calls others (suc d) e =
-    let a : arguments_in s c others d ≡ arguments_in s c calls d = arguments-like s c calls others d (λ j l. e j (omega (arith, l))) in
-    let g : get_or others d 0 ≡ get_or calls d 0 = e d (omega arith) in
-    λ i. map (filled_in (a i)) (call_in s c (g i)).args
-
--- the call in a slot whose cells stay
-pub slot_same : (s c f : List ℕ) (n : ℕ) (calls others : List ℕ) (e : ℕ) → ((j : ℕ) → e ≤ j → j < e + slot_size → get_or others j 0 ≡ get_or calls j 0)
-    → slot_writes s c f n others e ≡ slot_writes s c f n calls e
-slot_same s c f n calls others e same =
-    let a : get_or others e 0 ≡ get_or calls e 0 = same e (omega arith) (omega arith) in
-    let b : get_or others (e + body_cell) 0 ≡ get_or calls (e + body_cell) 0 = same (e + body_cell) (omega arith) (omega arith) in
-    let l = get_or calls e 0 in
-    let g : arguments_in s c (drop (e + around_cells) others) (levels - (l - 1)) ≡ arguments_in s c (drop (e + around_cells) calls) (levels - (l - 1)) =
-    arguments-like s c (drop (e + around_cells) calls) (drop (e + around_cells) others) (levels - (l - 1))
-    (λ j m. get_or-drop (e + around_cells) others j 0 ∙ same (e + around_cells + j) (omega arith) (omega (arith, m)) ∙ sym (get_or-drop (e + around_cells) calls j 0)) in
-    rw (a, b, g)
-
--- a call is put among the nested ones
-pub remembers-nested : (s c f : List ℕ) (n : ℕ) (calls others : List ℕ) (d i : ℕ) (v : Written) → d < levels → others ≡ set calls d i → Remembers s c f n calls v
-    → Remembers s c f n others v
-remembers-nested s c f n calls others d i v l e h =
-    let same : (j : ℕ) → levels ≤ j → get_or others j 0 ≡ get_or calls j 0 = λ j m. rw e (get_or-set_other calls d j i 0 (λ z. omega (arith, z, m))) in
-    record {
-      absorbed = λ k q z.
-          let a = same (slot_at k) (omega arith) in
-          rw (slot_same s c f n calls others (slot_at k) (λ j m r. same j (omega (arith, m))))
-          (h.absorbed k q (λ y. z (a ∙ y)));
-    }
+-- nothing is remembered in slots that are free
+pub remembers-none : (s c f : List ℕ) (n m : ℕ) (x : Slot) (v : Written) → x.left ≡ 0 → Remembers s c f n (replicate m x) v
+remembers-none s c f n m x v e = record { absorbed = λ k z. absurd (z (free m k)) }
+  where
+    free : (m k : ℕ) → (slot_at (replicate m x) k).left ≡ 0
+    free zero k = refl
+    free (suc m) zero = e
+    free (suc m) (suc k) = free m k

@@ -1,12 +1,13 @@
-// Calls that change nothing any more, remembered behind the cells of the nested calls.
+// Calls that change nothing any more, remembered beside the cells of the nested calls.
 #![tactic(auto)]
 
-ghost use Rattle.std.specs.Prelude.{◌≡◌, true, ◌+◌, ◌-◌, ◌≤◌, ◌<◌, length};
+ghost use Rattle.std.specs.Prelude.{◌≡◌, true, List, ℕ, ◌≤◌, ◌<◌, length};
+ghost use Rattle.macro_values.specs.declared.Written.{Written};
 ghost use Rattle.macro_code.specs.Bounds.{far};
 ghost use Rattle.macro_code.specs.Code.{given_in, arguments_in};
 ghost use Rattle.macro_code.specs.Places.{half};
 ghost use Rattle.macros.specs.Expansion.{filled_in, levels};
-ghost use Rattle.macro_memory.specs.Memory.{reach, slots, memory, Lookable, Alike, Found, Stored};
+ghost use Rattle.macro_memory.specs.Memory.{reach, Lookable, Like, Alike, Found, Remembers, Stored};
 
 use macro_code::{CodePlaces, Coded};
 use macro_values::{Around, Written, argument_cell, cell_at};
@@ -14,14 +15,8 @@ use macro_values::{Around, Written, argument_cell, cell_at};
 // "From level 1 to 16 at most".
 pub const LEVELS: usize = 16;
 
-// How many calls are remembered at most. Each has a slot: the levels left around it, its macro, and the calls around it with itself.
+// How many calls are remembered at most.
 const SLOTS: usize = 128;
-
-const SLOT_SIZE: usize = 18;
-
-const BODY: usize = 1;
-
-const AROUND: usize = 2;
 
 // The slots are in groups, and the numbers of calls, below 65,536, are shared out to these.
 const GROUP: usize = 8;
@@ -30,16 +25,26 @@ const GROUPS: usize = 16;
 
 const SHARE: usize = 4096;
 
-// Behind the nested calls and the slots: which slot of each group is taken next, and for each slot a number by its macro, levels and arguments.
-const TURNS: usize = LEVELS + SLOT_SIZE * SLOTS;
-
-const PRINTS: usize = TURNS + GROUPS;
-
-// All of these.
-pub const MEMORY: usize = PRINTS + SLOTS;
-
 // Room for what two arguments stand for.
 const ROOM: usize = 128;
+
+// A call that is remembered: the levels left around it, 0 in a slot that is free; the cell of its macro; and the calls around it with itself.
+#[derive(Clone, Copy)]
+pub struct Slot {
+    pub left: usize,
+    pub body: usize,
+    pub calls: [u32; LEVELS],
+}
+
+// The cells of the nested calls, and the calls that are remembered; for each group which of its slots is taken next, and for each slot a number by
+// its macro, levels and arguments.
+#[derive(Drop)]
+pub struct Memory {
+    pub calls: [u32; LEVELS],
+    pub slots: [Slot; SLOTS],
+    pub turns: [usize; GROUPS],
+    pub prints: [usize; SLOTS],
+}
 
 // Two calls, or an argument of each.
 #[derive(Clone, Copy)]
@@ -119,100 +124,111 @@ fn print_of(here: &Around, row: &mut [u8], at: Entered) -> usize
     mix(&row[..n], at.body * 16 + here.depth)
 }
 
-// Whether a slot has a call of the same macro, levels and arguments.
-fn is_in(here: &Around, row: &mut [u8], at: Entered, slot: usize) -> bool
-    requires { Lookable at here.now row.old × (slot < slots) }
-    ensures { result ≡ true → Found here.now.coded.text.now here.now.coded.code.now here.now.calls.now at.left at.cell at.body }
-{
-    let place = LEVELS + SLOT_SIZE * slot;
-    if cell_at(here.calls, place) != at.left {
-        return false;
+impl Slot {
+    // Whether it has a call of the same macro, levels and arguments.
+    fn is_like(&self, here: &Around, row: &mut [u8], at: Entered) -> bool
+        requires { Lookable at here.now row.old }
+        ensures { result ≡ true → Like here.now.coded.text.now here.now.coded.code.now here.now.calls.now at self.now }
+    {
+        if self.left != at.left {
+            return false;
+        }
+        if self.body != at.body {
+            return false;
+        }
+        let pair = Pair {
+            one: at.cell,
+            other: cell_at(&self.calls, here.depth),
+        };
+        same_arguments(here, &self.calls, pair, row)
     }
-    if cell_at(here.calls, place + BODY) != at.body {
-        return false;
-    }
-    let others = &here.calls[place + AROUND..];
-    let pair = Pair {
-        one: at.cell,
-        other: cell_at(others, here.depth),
-    };
-    same_arguments(here, others, pair, row)
 }
 
-// Whether a slot of its group has it. A slot with another number is passed over.
-fn look(here: &Around, row: &mut [u8], at: Entered) -> bool
-    requires { Lookable at here.now row.old }
-    ensures { result ≡ true → Found here.now.coded.text.now here.now.coded.code.now here.now.calls.now at.left at.cell at.body }
-{
-    let print = print_of(here, row, at);
-    let first = GROUP * (print / SHARE);
-    for slot in first..first + GROUP {
-        if cell_at(here.calls, PRINTS + slot) == print {
-            if is_in(here, row, at, slot) {
+impl Memory {
+    // Nothing is remembered.
+    pub fn new() -> Memory
+        ensures { (s c f : List ℕ) (n : ℕ) (v : Written) → Remembers s c f n result.slots v }
+    {
+        let free = Slot {
+            left: 0,
+            body: 0,
+            calls: [0; LEVELS],
+        };
+        Memory {
+            calls: [0; LEVELS],
+            slots: [free; SLOTS],
+            turns: [0; GROUPS],
+            prints: [0; SLOTS],
+        }
+    }
+
+    // Whether a slot of its group has a call. A slot with another number is passed over.
+    fn look(&self, here: &Around, row: &mut [u8], at: Entered) -> bool
+        requires { Lookable at here.now row.old }
+        ensures { result ≡ true → Found here.now.coded.text.now here.now.coded.code.now self.now.slots here.now.calls.now at.left at.cell at.body }
+    {
+        let print = print_of(here, row, at);
+        let first = GROUP * (print / SHARE);
+        for k in first..first + GROUP {
+            if self.prints[k] == print && self.slots[k].is_like(here, row, at) {
                 return true;
             }
         }
+        false
     }
-    false
-}
 
-// Whether a call within the nested calls is remembered.
-pub fn is_remembered(here: &Around, at: Entered) -> bool
-    requires { (at.cell < reach) × (1 ≤ at.left) × (at.left + here.now.depth ≡ levels) × (at.body < half) × (memory ≤ length here.now.calls.now) }
-    ensures { result ≡ true → Found here.now.coded.text.now here.now.coded.code.now here.now.calls.now at.left at.cell at.body }
-{
-    let mut row = [0u8; ROOM];
-    look(here, &mut row, at)
-}
+    // Whether a call within the nested calls is remembered.
+    pub fn has(&self, coded: &Coded, at: Entered) -> bool
+        requires { (at.cell < reach) × (1 ≤ at.left) × (at.left ≤ levels) × (at.body < half) }
+        ensures { result ≡ true → Found coded.now.text.now coded.now.code.now self.now.slots self.now.calls at.left at.cell at.body }
+    {
+        let here = Around {
+            coded: *coded,
+            calls: &self.calls,
+            depth: LEVELS - at.left,
+        };
+        self.look(&here, &mut [0u8; ROOM], at)
+    }
 
-// Puts the innermost of the nested calls into a slot.
-fn put_slot(calls: &mut [u32], slot: usize, left: usize, body: usize)
-    requires { (slot < slots) × (1 ≤ left) × (left ≤ levels) × (body < half) × (memory ≤ length calls.old) }
-    ensures { Stored calls.old calls.new left body }
-{
-    let place = LEVELS + SLOT_SIZE * slot;
-    calls.copy_within(..LEVELS, place + AROUND);
-    cells::write(calls, place, left);
-    cells::write(calls, place + BODY, body);
-}
+    // Puts the innermost of the nested calls into its group, in place of the one that came first.
+    fn store(&mut self, left: usize, body: usize, print: usize)
+        requires { (1 ≤ left) × (print < half) }
+        ensures { Stored self.old self.new left body }
+    {
+        let group = print / SHARE;
+        let turn = self.turns[group] % GROUP;
+        let k = GROUP * group + turn;
+        let calls = self.calls;
+        self.slots[k] = Slot { left, body, calls };
+        self.turns[group] = turn + 1;
+        self.prints[k] = print;
+    }
 
-// Puts it into its group, in place of the one that came first.
-fn store(calls: &mut [u32], left: usize, body: usize, print: usize)
-    requires { (1 ≤ left) × (left ≤ levels) × (body < half) × (print < half) × (memory ≤ length calls.old) }
-    ensures { Stored calls.old calls.new left body }
-{
-    let group = print / SHARE;
-    let turn = cell_at(calls, TURNS + group) % GROUP;
-    let slot = GROUP * group + turn;
-    put_slot(calls, slot, left, body);
-    cells::write(calls, TURNS + group, turn + 1);
-    cells::write(calls, PRINTS + slot, print);
-}
+    // The number of the innermost of the nested calls.
+    fn innermost_print(&self, coded: &Coded, left: usize, body: usize) -> usize
+        requires { (1 ≤ left) × (left ≤ levels) × (body < half) }
+        ensures { result < half }
+    {
+        let depth = LEVELS - left;
+        let at = Entered {
+            cell: cell_at(&self.calls, depth),
+            left,
+            body,
+        };
+        let here = Around {
+            coded: *coded,
+            calls: &self.calls,
+            depth,
+        };
+        print_of(&here, &mut [0u8; ROOM], at)
+    }
 
-// The number of the innermost of the nested calls.
-fn innermost_print(coded: &Coded, calls: &[u32], left: usize, body: usize) -> usize
-    requires { (1 ≤ left) × (left ≤ levels) × (body < half) × (memory ≤ length calls.now) }
-    ensures { result < half }
-{
-    let depth = LEVELS - left;
-    let at = Entered {
-        cell: cell_at(calls, depth),
-        left,
-        body,
-    };
-    let here = Around {
-        coded: *coded,
-        calls,
-        depth,
-    };
-    print_of(&here, &mut [0u8; ROOM], at)
-}
-
-// Remembers the innermost of the nested calls, with so many levels left around it, and the cell of its macro.
-pub fn remember(coded: &Coded, calls: &mut [u32], left: usize, body: usize)
-    requires { (1 ≤ left) × (left ≤ levels) × (body < half) × (memory ≤ length calls.old) }
-    ensures { Stored calls.old calls.new left body }
-{
-    let print = innermost_print(coded, calls, left, body);
-    store(calls, left, body, print);
+    // Remembers the innermost of the nested calls, with so many levels left around it, and the cell of its macro.
+    pub fn remember(&mut self, coded: &Coded, left: usize, body: usize)
+        requires { (1 ≤ left) × (left ≤ levels) × (body < half) }
+        ensures { Stored self.old self.new left body }
+    {
+        let print = self.innermost_print(coded, left, body);
+        self.store(left, body, print);
+    }
 }

@@ -1,6 +1,6 @@
 -- What the functions that fill the rows ask and promise.
 use Rattle.std.specs.Result.{MatchResult}
-use Rattle.std.specs.Prelude.{Result, ◌≡◌, true, List, [], ◌++◌, map, ℕ, ◌+◌, ◌*◌, ◌≤◌, ◌<◌, length, get_or, take, drop, Ok}
+use Rattle.std.specs.Prelude.{Result, ◌≡◌, true, List, [], ◌++◌, map, ℕ, ◌+◌, ◌≤◌, ◌<◌, length, get_or, take, drop, Ok}
 use Rattle.language.specs.Limits as limit
 use Rattle.lists.specs.Lists.{each}
 use Rattle.macros.specs.Elements.{elements}
@@ -68,11 +68,9 @@ pub record Passed (s o : List ℕ) : Type 0 where
   pub room : length o ≡ limit.text
   pub whole : first_no (whole_questions s) ≡ yes
 
-pub record RowsLent (s c f h o : List ℕ) : Type 0 where
+pub record RowsLent (s c o : List ℕ) : Type 0 where
   pub passed : Passed s o
   pub cells : length c ≡ place.cells
-  pub names : place.macros ≤ length f
-  pub heights : 3 * place.macros ≤ length h
 
 pub record RowsRead (s c f h : List ℕ) (r : Reading) : Type 0 where
   pub known : Known s c f r.count h
@@ -84,10 +82,6 @@ pub record RowsRead (s c f h : List ℕ) (r : Reading) : Type 0 where
   pub typed_is : Told (each (piece_faults (listed s)) (each (λ m. m.body) (listed s) ++ section_of s)) r.typed
 
 -- the section is written out, with the place that each byte comes from
-pub record Unexpanded (s c f h o ps : List ℕ) : Type 0 where
-  pub lent : RowsLent s c f h o
-  pub places : length ps ≡ limit.text
-
 pub record Expanded (s : List ℕ) (n : ℕ) (o ps : List ℕ) : Type 0 where
   pub most : n ≤ limit.text
   pub yes_is : first_no (macro_questions s) ≡ yes

@@ -8,7 +8,7 @@ ghost use Rattle.macro_reading.specs.Whole.{MacrosRead};
 ghost use Rattle.statements.specs.Faults.{lower, decided, verdict_of, then};
 ghost use Rattle.syntax.specs.Verdict.{first_no};
 ghost use Rattle.macro_preparing.specs.Preparing.{Preparable, Prepares};
-ghost use Rattle.macro_preparing.specs.Rows.{Markable, MarkedRow, Readable, Puttable, Puts, Tabled, Tables, RowsLent, RowsRead, Unexpanded, Expands, Answered, Places, Lines, Unwritten};
+ghost use Rattle.macro_preparing.specs.Rows.{Markable, MarkedRow, Readable, Puttable, Puts, Tabled, Tables, RowsLent, RowsRead, Expands, Answered, Places, Lines, Unwritten};
 
 use language::Machine;
 use macro_calls::{Faults, Listed, find_singles, typed_faults};
@@ -29,7 +29,16 @@ const NAMES: usize = CodePlaces::MACROS + Machine::TEXT / 2;
 // Three numbers of each macro.
 const HEIGHTS: usize = 3 * CodePlaces::MACROS;
 
-// The number and the line of the first question answered no.
+// The rows that are filled beside the cells of a list of macros, which are lent: the first cell of each macro, with the hints for calls behind them;
+// and three numbers of each macro.
+#[derive(Drop)]
+struct Rows {
+    names: [u16; NAMES],
+    heights: [u8; HEIGHTS],
+}
+
+// The number and the line of the first question answered no. The number is that of `statements::Refusal`, in which all of loading refuses: an enum of
+// 14 to 16 and 64 to 66 would be made out of it here, and made into it again in `macro_loading`.
 #[derive(Clone, Copy)]
 pub struct Unfit {
     pub number: u8,
@@ -108,25 +117,19 @@ fn ask_macros(form: Fault, typed: Faults, w: WrittenOut) -> Verdict
 }
 
 // Reads the marked text into the rows. The row `out` is for use here alone.
-fn read_rows(
-    text: &[u8],
-    code: &mut [u32],
-    names: &mut [u16],
-    heights: &mut [u8],
-    out: &mut [u8],
-) -> Reading
-    requires { RowsLent text.now code.old names.old heights.old out.old }
-    ensures { RowsRead text.now code.new names.new heights.new result }
+fn read_rows(text: &[u8], code: &mut [u32], rows: &mut Rows, out: &mut [u8]) -> Reading
+    requires { RowsLent text.now code.old out.old }
+    ensures { RowsRead text.now code.new rows.new.names rows.new.heights result }
 {
-    let r = read_marked(text, out, code, names);
+    let r = read_marked(text, out, code, &mut rows.names);
     let coded = Coded { text, code };
-    let typed = typed_faults(&coded, names, r.count, r.section);
+    let typed = typed_faults(&coded, &mut rows.names, r.count, r.section);
     let list = Listed {
         coded,
-        firsts: names,
+        firsts: &rows.names,
         count: r.count,
     };
-    find_tables(&list, out, heights);
+    find_tables(&list, out, &mut rows.heights);
     Reading {
         count: r.count,
         section: r.section,
@@ -153,21 +156,23 @@ fn answered(text: &[u8], v: Verdict) -> Result<(), Unfit>
 fn expand_in(
     text: &[u8],
     code: &mut [u32],
-    names: &mut [u16],
-    heights: &mut [u8],
+    rows: &mut Rows,
     out: &mut [u8],
     places: &mut [u16],
 ) -> Result<usize, Unfit>
-    requires { Unexpanded text.now code.old names.old heights.old out.old places.old }
+    requires { Unwritten text.now out.old places.old code.old }
     ensures { Expands text.now result out.new places.new }
 {
-    let k = read_rows(text, code, names, heights, out);
+    let k = read_rows(text, code, rows, out);
     let listed = Listed {
         coded: Coded { text, code },
-        firsts: names,
+        firsts: &rows.names,
         count: k.count,
     };
-    let list = Macros { listed, heights };
+    let list = Macros {
+        listed,
+        heights: &rows.heights,
+    };
     let w = write_section(&list, k.section, out, places);
     answered(text, ask_macros(k.form, k.typed, w))?;
     Ok(w.state.count.unwrap_or(0))
@@ -178,9 +183,11 @@ fn expand(text: &[u8], out: &mut [u8], places: &mut [u16], code: &mut [u32]) -> 
     requires { Unwritten text.now out.old places.old code.old }
     ensures { Expands text.now result out.new places.new }
 {
-    let mut names = [0u16; NAMES];
-    let mut heights = [0u8; HEIGHTS];
-    expand_in(text, code, &mut names, &mut heights, out, places)
+    let mut rows = Rows {
+        names: [0u16; NAMES],
+        heights: [0u8; HEIGHTS],
+    };
+    expand_in(text, code, &mut rows, out, places)
 }
 
 // The places of so many bytes become their lines.

@@ -1,5 +1,7 @@
 -- The lowest number of a marked text's items, from item to item.
 use mathlib.Core.Path.{◌≡◌, ap, sym, ◌∙◌}
+use mathlib.Core.Bool.{true}
+use Rattle.std.specs.Prelude.{None, is_some}
 use mathlib.Core.List.{List, [], ◌∷◌, map}
 use Prim.Native.Nat.{ℕ, ◌≤◌, ◌<◌, min}
 use native.Mathlib.Omega.{arith}
@@ -46,7 +48,7 @@ module _ {s m : List ℕ} {n w : ℕ} {t : Token} (u : Asking s m n w) (k : Toke
   pub place-low : t.at < 65536
   place-low = omega (arith, k.stands.own, k.stands.behind, k.stands.most, u.short)
 
-  pub all_asked : Whole s m → t.sort ≡ 0 → code_verdict w ≡ first_no (whole_questions s)
+  pub all_asked : Whole s m → t.sort ≡ None → code_verdict w ≡ first_no (whole_questions s)
   unfolding worst
   all_asked p e =
       let none : judged_from s m n ≡ [] = ap (map (judged s)) (none_here k e) in
@@ -56,7 +58,7 @@ module _ {s m : List ℕ} {n w : ℕ} {t : Token} (u : Asking s m n w) (k : Toke
       sym
       (ap first_no (whole-judged s) ∙ ap (λ (l : List ℕ). first_no (item_questions (judged_from s l 0))) (sym p.is) ∙ worst-decides (judged_from s m 0) low ∙ ap code_verdict v)
 
-  pub asking-on : (t.sort ≡ 0 → ⊥) → {b v : ℕ} → b ≡ byte_at s t.at → v ≡ min w (token_code (judged_token t b)) → Asking s m t.next v
+  pub asking-on : is_some t.sort ≡ true → {b v : ℕ} → b ≡ byte_at s t.at → v ≡ min w (token_code (judged_token t b)) → Asking s m t.next v
   unfolding worst
   asking-on e {b} {v} d f =
       let one : judged_from s m n ≡ judged s (item_of m t) ∷ judged_from s m t.next = ap (map (judged s)) (item-here k e) in

@@ -1,11 +1,13 @@
 -- Questions 14, 15 and 16 of a text with macros, as those of items of which none that may stand there is wrong.
-use Rattle.std.specs.Prelude.{◌≡◌, cond, ◌&&◌, List, ℕ, ◌≤◌, eqb, length}
+use Rattle.std.specs.Prelude.{◌≡◌, cond, ◌&&◌, List, ℕ, ◌≤◌, length, Option, Some}
 use Rattle.language.specs.Limits as limit
 use Rattle.lexer.specs.declared.Token.{Token}
 use Rattle.lists.specs.Lists.{among}
 use Rattle.lists.specs.Quoted.{bytes}
 use Rattle.macros.specs.Marks.{byte_at, marked}
-use Rattle.syntax.specs.Items.{Item, is}
+use Rattle.scanner.specs.declared.Sort.{Sort}
+use Rattle.scanner.specs.Sorts.{sort_in}
+use Rattle.syntax.specs.Items.{Item, is, same_sort}
 use Rattle.syntax.specs.Items.Sort.{colon, wrong}
 
 -- a text and its marked text
@@ -25,8 +27,8 @@ judged s i =
     }
 
 -- and its token, which begins with the byte b
-abbrev pub judged_sort : ℕ → ℕ → ℕ
-judged_sort k b = cond (eqb 5 k && among b (bytes "*()'")) 2 k
+abbrev pub judged_sort : Option Sort → ℕ → Option Sort
+judged_sort k b = cond (same_sort wrong (sort_in k) && among b (bytes "*()'")) (Some Sort.Colon) k
 
 abbrev pub judged_token : Token → ℕ → Token
 judged_token t b =

@@ -1,5 +1,5 @@
 -- The questions of a text with macros are those of its judged items, and the number of a judged token is that of its item.
-use Rattle.std.specs.Prelude.{◌≡◌, Bool, true, false, cond, ◌&&◌, List, [], ◌∷◌, map, ℕ, suc, ◌+◌, eqb, length}
+use Rattle.std.specs.Prelude.{◌≡◌, Bool, true, false, cond, ◌&&◌, List, [], ◌∷◌, map, ℕ, suc, ◌+◌, length, Some}
 use Rattle.std.proofs.Math.Path.{refl}
 use Rattle.std.proofs.Common.{ap, sym, ◌∙◌}
 use Rattle.std.proofs.Math.Bool.{not}
@@ -8,12 +8,13 @@ use Rattle.lexer.specs.declared.Token.{Token}
 use Rattle.lexer.specs.Tokens.{item_of, Stands}
 use Rattle.lists.specs.Lists.{among, filled, keep}
 use Rattle.lists.specs.Quoted.{bytes}
-use Rattle.lexer.proofs.Finding.{is-sort}
 use Rattle.macros.specs.Marks.{Reader, byte_at, items_in, marked_from, reader_after, whole_questions}
 use Rattle.statements.specs.Checks.{item_code, token_code}
 use Rattle.statements.specs.CheckLaws.{token-coded}
 use Rattle.statements.specs.Groups.{bad_text, too_long, item_questions}
-use Rattle.syntax.specs.Items.{Sort, Item, is, places, same_sort}
+use Rattle.scanner.specs.declared.Sort.{Sort}
+use Rattle.syntax.specs.Items as items
+use Rattle.syntax.specs.Items.{Item, is, places, same_sort}
 use Rattle.syntax.specs.Items.Sort.{separator, word, colon, end, text, wrong}
 use Rattle.macro_questions.specs.Whole.{judged, judged_token}
 
@@ -25,7 +26,7 @@ marked-length st n (b ∷ r) = ap (λ (k : ℕ). suc k) (marked-length (reader_a
 
 -- ---- the questions
 
-sort-judged : (k : Sort) (a : Bool) → (same_sort wrong (cond (same_sort wrong k && a) colon k) ≡ (same_sort wrong k && not a))
+sort-judged : (k : items.Sort) (a : Bool) → (same_sort wrong (cond (same_sort wrong k && a) colon k) ≡ (same_sort wrong k && not a))
     × (same_sort text (cond (same_sort wrong k && a) colon k) ≡ same_sort text k)
 sort-judged separator a = (refl, refl)
 sort-judged word a = (refl, refl)
@@ -71,7 +72,7 @@ module _ (s : List ℕ) {m : List ℕ} {t : Token} (h : Stands m t) where
 
   abbrev token_as_colon : Bool → Token
   token_as_colon a =
-      record { sort = cond a 2 t.sort; at = t.at; end = t.end; next = t.next; len = t.len; good = t.good; colon = t.colon }
+      record { sort = cond a (Some Sort.Colon) t.sort; at = t.at; end = t.end; next = t.next; len = t.len; good = t.good; colon = t.colon }
 
   either-coded : (a : Bool) → token_code (token_as_colon a) ≡ item_code (as_colon a)
   either-coded true = rw h.count refl
@@ -80,5 +81,4 @@ module _ (s : List ℕ) {m : List ℕ} {t : Token} (h : Stands m t) where
   pub judged-coded : {b : ℕ} → b ≡ byte_at s t.at → token_code (judged_token t b) ≡ item_code (judged s (item_of m t))
   judged-coded {b} e =
       ap (λ (c : ℕ). token_code (judged_token t c)) e
-      ∙ either-coded (eqb 5 t.sort && among (byte_at s t.at) (bytes "*()'"))
-      ∙ ap (λ (a : Bool). item_code (as_colon (a && among (byte_at s t.at) (bytes "*()'")))) (sym (is-sort wrong h))
+      ∙ either-coded (is wrong (item_of m t) && among (byte_at s t.at) (bytes "*()'"))

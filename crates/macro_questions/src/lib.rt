@@ -1,40 +1,40 @@
 // Questions 14, 15 and 16 of a text with macros, "as a whole".
 #![tactic(auto)]
 
-ghost use Rattle.std.specs.Prelude.{◌≡◌, ◌&&◌, eqb};
+ghost use Rattle.std.specs.Prelude.{◌≡◌, ◌&&◌};
 ghost use Rattle.lists.specs.Lists.{among};
 ghost use Rattle.lists.specs.Quoted.{bytes};
 ghost use Rattle.macros.specs.Marks.{whole_questions};
+ghost use Rattle.scanner.specs.Sorts.{sort_in};
 ghost use Rattle.statements.specs.Faults.{verdict_of};
+ghost use Rattle.syntax.specs.Items.{same_sort};
+ghost use Rattle.syntax.specs.Items.Sort.{wrong};
 ghost use Rattle.syntax.specs.Verdict.{first_no};
-ghost use Rattle.macro_questions.specs.Whole.{Whole, judged_sort, judged_token};
+ghost use Rattle.macro_questions.specs.Whole.{Whole, judged_token};
 
 use lexer::Token;
 use macro_marks::{byte_at, next_item};
-use scanner::{COLON, WRONG};
+use scanner::Sort;
 use statements::{CLEAN, Verdict, checked, worse};
 
-// Whether an item of this sort that begins with the byte `b` of the text is a star, a bracket or a joining apostrophe.
-fn may_stand(sort: u8, b: u8) -> bool
-    ensures { result ≡ eqb 5 sort && among b (bytes "*()'") }
+// Whether an item that begins with the byte `b` of the text is a star, a bracket or a joining apostrophe.
+fn may_stand(t: Token, b: u8) -> bool
+    ensures { result ≡ same_sort wrong (sort_in t.sort) && among b (bytes "*()'") }
 {
-    sort == WRONG && b"*()'".contains(&b)
+    t.is(Sort::Wrong) && b"*()'".contains(&b)
 }
 
-// Its sort, where those are colons.
-fn judged_sort(sort: u8, b: u8) -> u8
-    ensures { result ≡ judged_sort sort b }
-{
-    if may_stand(sort, b) { COLON } else { sort }
-}
-
+// The item, where those are colons.
 fn judged(t: Token, b: u8) -> Token
     ensures { result ≡ judged_token t b }
 {
-    Token {
-        sort: judged_sort(t.sort, b),
-        ..t
+    if may_stand(t, b) {
+        return Token {
+            sort: Some(Sort::Colon),
+            ..t
+        };
     }
+    t
 }
 
 // The verdict of the three questions. `marked` is the text with a star for each joining apostrophe.

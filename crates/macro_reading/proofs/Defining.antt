@@ -74,11 +74,11 @@ module _ {s m c : List ℕ} {n q : ℕ} (p : Definable s m c n q) where
     abbrev us : List spec.Element
     us = elements_from s n
 
-    from_is : from is_bracket us ≡ elements_from s h.next
-    from_is = sym g.heads.rest ∙ whole-from is_bracket (elements_from s h.next) g.done
+    from_is : from is_bracket us ≡ elements_from s h.passed.next
+    from_is = sym g.heads.rest ∙ whole-from is_bracket (elements_from s h.passed.next) g.done
 
     -- no bracket opens a body
-    pub not-defined : if_any false is_open (elements_from s h.next) ≡ false → Defined s c d n q None
+    pub not-defined : if_any false is_open (elements_from s h.passed.next) ≡ false → Defined s c d n q None
     not-defined o =
         record {
           kept = g.heads.kept;
@@ -86,7 +86,7 @@ module _ {s m c : List ℕ} {n q : ℕ} (p : Definable s m c n q) where
           defining = λ x e. absurd (none-some x e);
         }
 
-    module _ {b : Element} (k : OpenAt s h.next b) where
+    module _ {b : Element} (k : OpenAt s h.passed.next b) where
       abbrev v : spec.Element
       v = argument_value s b
 
@@ -96,7 +96,7 @@ module _ {s m c : List ℕ} {n q : ℕ} (p : Definable s m c n q) where
       op : Opened us v rs
       op = opened us v rs (from_is ∙ k.first.is) k.opens
 
-      pub forward : h.next < b.next
+      pub forward : h.passed.next < b.next
       forward = first_forward k.first
 
       abbrev X : Scope
@@ -186,7 +186,7 @@ module _ {s m c : List ℕ} {n q : ℕ} (p : Definable s m c n q) where
         turned true = refl
         turned false = refl
 
-        faults-done : lower h.fault (lower (fault_of (cond (not (named && r.closed)) (b.at ∷ []) [])) r.fault) ≡ fault_of (definition_faults (stretch us))
+        faults-done : lower h.passed.fault (lower (fault_of (cond (not (named && r.closed)) (b.at ∷ []) [])) r.passed.fault) ≡ fault_of (definition_faults (stretch us))
         unfolding definition_faults wrong_in
         faults-done =
             let ps = parameters_of s d X in
@@ -199,8 +199,8 @@ module _ {s m c : List ℕ} {n q : ℕ} (p : Definable s m c n q) where
             ∙ ap fault_of (sym (append_assoc one two three))
             ∙ sym (λ i. fault_of ((header_faults (op.header_is i) ++ cond (filled_is i && closed_is i) [] (places_in (take 1 (op.body_is i)))) ++ form_faults (is_misplaced (parameters-are i)) (parameters-are i) (body-are i)))
           where
-            head-fault : h.fault ≡ fault_of (header_faults (heading s n))
-            head-fault = sym (lower-none h.fault) ∙ ap (λ (ts : List spec.Element). lower h.fault (fault_of (header_faults ts))) (sym g.done) ∙ g.heads.faults
+            head-fault : h.passed.fault ≡ fault_of (header_faults (heading s n))
+            head-fault = sym (lower-none h.passed.fault) ∙ ap (λ (ts : List spec.Element). lower h.passed.fault (fault_of (header_faults ts))) (sym g.done) ∙ g.heads.faults
 
             filled_is : filled (header_words (stretch us)) ≡ named
             filled_is = ap filled words_are ∙ tab-filled h.words (λ j. bytes_at s d (word_cell q j))
@@ -208,27 +208,27 @@ module _ {s m c : List ℕ} {n q : ℕ} (p : Definable s m c n q) where
         extra : (z : Bool) → 0 ≤ cond z 2 0
         extra z = omega arith
 
-        after_open : b.next ≤ r.next
+        after_open : b.next ≤ r.passed.next
         after_open = go r.closed y.from
           where
-            go : (z : Bool) → b.next + cond z 1 0 ≤ r.next → b.next ≤ r.next
+            go : (z : Bool) → b.next + cond z 1 0 ≤ r.passed.next → b.next ≤ r.passed.next
             go true l = omega arith
             go false l = omega arith
 
         -- where something follows, the body is closed
-        more-there : 0 < h.words → filled (elements_from s r.next) ≡ true → n + 3 ≤ r.next
+        more-there : 0 < h.words → filled (elements_from s r.passed.next) ≡ true → n + 3 ≤ r.passed.next
         more-there x c = go r.closed refl y.from
           where
-            go : (z : Bool) → r.closed ≡ z → b.next + cond z 1 0 ≤ r.next → n + 3 ≤ r.next
+            go : (z : Bool) → r.closed ≡ z → b.next + cond z 1 0 ≤ r.passed.next → n + 3 ≤ r.passed.next
             go true e w = omega (arith, forward, g.heads.from)
             go false e w = absurd (none_left (behind s true b.next) (sym y.closed_is ∙ e) (sym (ap filled y.rest) ∙ c))
 
-        steps : (z : Bool) → ltb 0 h.words ≡ z → n + cond z 2 1 ≤ r.next
+        steps : (z : Bool) → ltb 0 h.words ≡ z → n + cond z 2 1 ≤ r.passed.next
         steps true e = let l : 0 < h.words = ltb-true 0 h.words e in omega (arith, forward, g.heads.from, after_open)
         steps false e = omega (arith, forward, g.heads.from, after_open)
 
         abbrev whole : Definition
-        whole = record { named = named; next = r.next; used = r.used; fault = lower h.fault (lower (fault_of (cond (not (named && r.closed)) (b.at ∷ []) [])) r.fault) }
+        whole = record { passed = record { next = r.passed.next; fault = lower h.passed.fault (lower (fault_of (cond (not (named && r.closed)) (b.at ∷ []) [])) r.passed.fault) }; named = named; used = r.used }
 
         defining-whole : Defining s e n q whole
         defining-whole =

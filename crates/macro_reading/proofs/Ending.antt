@@ -10,7 +10,6 @@ use native.Mathlib.Nat.{le_refl}
 use native.Mathlib.Omega.{arith}
 use lib.Dec.{eqb}
 use lib.ListN.{length, take, drop}
-use borrow.Author.Tests.{eq-eqb, ne_eqb}
 use Rattle.lists.specs.Lists.{all, any, filled, head_or, if_any, keep}
 use Rattle.statements.specs.Faults.{Fault}
 use Rattle.statements.specs.Faults.{lower}
@@ -27,12 +26,11 @@ use Rattle.macro_changes.proofs.Giving.{lower-assoc, keep-first, neither, one-fa
 use Rattle.macro_changes.proofs.Searching.{until-on, until-off, from_on, from-off}
 use Rattle.macro_elements.specs.ElementAt.{joined_at, elements_from, argument_value, Lent, FirstElement, NextElement}
 use Rattle.macro_elements.specs.declared.Element.{Element}
-use Rattle.macro_elements.proofs.Tests.{sort-is}
 use Rattle.macro_reading.specs.Definitions.{stretch}
-use Rattle.macro_reading.specs.Headers.{FirstBefore, NextBefore, placed, heading, first_word, any_there, HeaderRead}
+use Rattle.macro_reading.specs.Headers.{FirstBefore, placed, heading, first_word, any_there, HeaderRead}
 use Rattle.macro_reading.specs.Sections.{outer, outer_faults, Firsts, FirstRead, Tailed, tail_faults, TailRead}
 use Rattle.macro_reading.specs.declared.Header.{Header}
-use Rattle.macro_reading.proofs.Heading.{before-on, before-off, whole-from, stretch-on, rest-on}
+use Rattle.macro_reading.proofs.Heading.{whole-from, stretch-on, rest-on}
 use Rattle.macro_reading.proofs.Stretching.{opened, Unopened, unopened, until-stretch, from-stretch, any_found}
 
 abbrev plain : spec.Element → Bool
@@ -42,24 +40,15 @@ module _ {s : List ℕ} {n : ℕ} {t : Element} (k : FirstElement s n t) where
   abbrev v : spec.Element
   v = argument_value s t
 
-  pub end-sort : is_end v ≡ eqb 3 t.sort
-  end-sort = sort-is end t.sort k.held.sorted
-
-  pub end_on : t.sort ≡ 3 → from_statement (elements_from s n) ≡ from_statement (elements_from s t.next)
+  pub end_on : is_end v ≡ true → from_statement (elements_from s n) ≡ from_statement (elements_from s t.next)
   end_on e =
-      let o : plain v ≡ false = ap not (end-sort ∙ eq-eqb 3 t.sort (sym e)) in
+      let o : plain v ≡ false = ap not e in
       ap from_statement k.is ∙ from_on plain v (elements_from s t.next) o
 
-  pub end-off : (t.sort ≡ 3 → ⊥) → elements_from s n ≡ from_statement (elements_from s n)
+  pub end-off : is_end v ≡ false → elements_from s n ≡ from_statement (elements_from s n)
   end-off e =
-      let o : plain v ≡ true = ap not (end-sort ∙ ne_eqb 3 t.sort (λ w. e (sym w))) in
+      let o : plain v ≡ true = ap not e in
       k.is ∙ sym (ap from_statement k.is ∙ from-off plain v (elements_from s t.next) o)
-
-  pub statement-off : t.sort ≡ 3 → NextBefore is_end s n None
-  statement-off e = before-off k (end-sort ∙ eq-eqb 3 t.sort (sym e))
-
-  pub statement-on : (t.sort ≡ 3 → ⊥) → NextBefore is_end s n (Some t)
-  statement-on e = before-on k (end-sort ∙ ne_eqb 3 t.sort (λ w. e (sym w)))
 
 pub end-none : (s : List ℕ) (n : ℕ) → elements_from s n ≡ [] → elements_from s n ≡ from_statement (elements_from s n)
 end-none s n x = x ∙ sym (ap from_statement x)
@@ -167,7 +156,7 @@ or-none : (b : Bool) → (b || false) ≡ b
 or-none true = refl
 or-none false = refl
 
-module _ {s m c : List ℕ} {n q : ℕ} (p : Tailed s m c n q) {d : List ℕ} {h : Header} (g : HeaderRead s c d n q h) (o : Option Element) (k : NextElement s h.next o) where
+module _ {s m c : List ℕ} {n q : ℕ} (p : Tailed s m c n q) {d : List ℕ} {h : Header} (g : HeaderRead s c d n q h) (o : Option Element) (k : NextElement s h.passed.next o) where
   abbrev us : List spec.Element
   us = elements_from s n
 
@@ -189,7 +178,7 @@ module _ {s m c : List ℕ} {n q : ℕ} (p : Tailed s m c n q) {d : List ℕ} {h
           goes false o = unopened us (ap (λ (ys : List spec.Element). if_any false is_open ys) e ∙ o)
 
   from-close : from is_close us ≡ found_from s o
-  from-close = un.rest_is ∙ sym g.heads.rest ∙ whole-from is_bracket (elements_from s h.next) g.done ∙ found_is o k
+  from-close = un.rest_is ∙ sym g.heads.rest ∙ whole-from is_bracket (elements_from s h.passed.next) g.done ∙ found_is o k
 
   first-close : (b : Element) → o ≡ Some b → is_close (argument_value s b) ≡ true
   first-close b e = from_first is_close us (argument_value s b) (elements_from s b.next) (from-close ∙ ap (found_from s) e)
@@ -237,27 +226,27 @@ module _ {s m c : List ℕ} {n q : ℕ} (p : Tailed s m c n q) {d : List ℕ} {h
       go (Some b) = refl
 
   pub tail-fault : (at : ℕ) (defined : Bool)
-      → lower h.fault (lower h.first (then_some (not (closed && (defined || h.some))) at)) ≡ fault_of (tail_faults at defined x)
+      → lower h.passed.fault (lower h.first (then_some (not (closed && (defined || h.some))) at)) ≡ fault_of (tail_faults at defined x)
   tail-fault at defined =
       let one = header_faults (heading s n) in
       let two = placed h.first in
       let three = cond (closed && (defined || h.some)) [] (at ∷ []) in
-      (λ i. lower h.fault (lower (first-fault h.first i) (one-fault (not (closed && (defined || h.some))) at i)))
+      (λ i. lower h.passed.fault (lower (first-fault h.first i) (one-fault (not (closed && (defined || h.some))) at i)))
       ∙ (λ i. lower (head-fault i) (lower (fault_of two) (turned₁ (closed && (defined || h.some)) i)))
       ∙ ap (lower (fault_of one)) (sym (fault-both two three))
       ∙ sym (fault-both one (two ++ three))
       ∙ ap fault_of (sym (append_assoc one two three))
       ∙ sym (λ i. fault_of ((header_faults (un.header_is i) ++ words-there i) ++ cond (closed-there i && (defined || some-there i)) [] (at ∷ [])))
     where
-      head-fault : h.fault ≡ fault_of (header_faults (heading s n))
-      head-fault = sym (lower-clear h.fault) ∙ ap (λ (ts : List spec.Element). lower h.fault (fault_of (header_faults ts))) (sym g.done) ∙ g.heads.faults
+      head-fault : h.passed.fault ≡ fault_of (header_faults (heading s n))
+      head-fault = sym (lower-clear h.passed.fault) ∙ ap (λ (ts : List spec.Element). lower h.passed.fault (fault_of (header_faults ts))) (sym g.done) ∙ g.heads.faults
 
       turned₁ : (z : Bool) → fault_of (cond (not z) (at ∷ []) []) ≡ fault_of (cond z [] (at ∷ []))
       turned₁ true = refl
       turned₁ false = refl
 
-  pub tail-read : (at : ℕ) (defined : Bool) {f : Fault} → f ≡ fault_of (tail_faults at defined x) → {stop next : ℕ} → stop ≡ stop_or (length s) o → next ≡ next_or h.next o
-      → TailRead s c d n q at defined (record { stop = stop; next = next; fault = f })
+  pub tail-read : (at : ℕ) (defined : Bool) {f : Fault} → f ≡ fault_of (tail_faults at defined x) → {stop next : ℕ} → stop ≡ stop_or (length s) o → next ≡ next_or h.passed.next o
+      → TailRead s c d n q at defined (record { passed = record { next = next; fault = f }; stop = stop })
   tail-read at defined e {stop} {next} ss nn =
       record {
         from_here = rw nn ahead.0;
@@ -273,13 +262,13 @@ module _ {s m c : List ℕ} {n q : ℕ} (p : Tailed s m c n q) {d : List ℕ} {h
       stops None = refl
       stops (Some b) = refl
 
-      goes : (z : Option Element) → elements_from s h.next ≡ found_from s z → elements_from s (next_or h.next z) ≡ drop 1 (found_from s z)
+      goes : (z : Option Element) → elements_from s h.passed.next ≡ found_from s z → elements_from s (next_or h.passed.next z) ≡ drop 1 (found_from s z)
       goes None y = y
       goes (Some b) y = refl
 
-      go : (z : Option Element) → NextElement s h.next z → (n ≤ next_or h.next z) × (next_or h.next z ≤ length s) × (stop_or (length s) z ≤ length s)
+      go : (z : Option Element) → NextElement s h.passed.next z → (n ≤ next_or h.passed.next z) × (next_or h.passed.next z ≤ length s) × (stop_or (length s) z ≤ length s)
       go None y = (omega (arith, g.heads.from), g.heads.most, le_refl (length s))
       go (Some b) y = let e = y.some b refl in let z = first_forward e in let m = e.more in (omega (arith, g.heads.from), e.held.most, omega (arith, e.held.most))
 
-      ahead : (n ≤ next_or h.next o) × (next_or h.next o ≤ length s) × (stop_or (length s) o ≤ length s)
+      ahead : (n ≤ next_or h.passed.next o) × (next_or h.passed.next o ≤ length s) × (stop_or (length s) o ≤ length s)
       ahead = go o k

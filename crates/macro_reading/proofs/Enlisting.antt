@@ -191,23 +191,23 @@ module _ {s m c firsts : List ℕ} {n : ℕ} (p : Listable s m c firsts n) where
       abbrev us : List spec.Element
       us = elements_from s i
 
-      more : defined_in us ≡ stretch us ∷ defined_in (elements_from s r.next)
+      more : defined_in us ≡ stretch us ∷ defined_in (elements_from s r.passed.next)
       more = defined-on us with-body ∙ ap (λ (ts : List spec.Element). stretch us ∷ defined_in ts) (sym z.rest)
 
-      paid-now : (w : Bool) → r.named ≡ w → cond w r.used q + 2 ≤ 2 * r.next
+      paid-now : (w : Bool) → r.named ≡ w → cond w r.used q + 2 ≤ 2 * r.passed.next
       paid-now true x = z.paid x
       paid-now false x = omega (arith, h.paid, z.from_here, step-least r.named)
 
-      count-now : (w : Bool) → r.named ≡ w → (3 * (k + cond w 1 0) ≤ r.next + 1) × (filled (elements_from s r.next) ≡ true → 3 * (k + cond w 1 0) ≤ r.next)
+      count-now : (w : Bool) → r.named ≡ w → (3 * (k + cond w 1 0) ≤ r.passed.next + 1) × (filled (elements_from s r.passed.next) ≡ true → 3 * (k + cond w 1 0) ≤ r.passed.next)
       count-now false x = (omega (arith, few, z.from_here, step-least r.named), λ c. omega (arith, few, z.from_here, step-least r.named))
       count-now true x = (omega (arith, few, steps), λ c. let m = z.closed_more x c in omega (arith, few))
         where
-          steps : i + 2 ≤ r.next
+          steps : i + 2 ≤ r.passed.next
           steps = rw x at z.from_here
 
-      pub listing-on : Listing s c firsts e f' n r.next q' k' true (lower g r.fault)
+      pub listing-on : Listing s c firsts e f' n r.passed.next q' k' true (lower g r.passed.fault)
       listing-on =
-          let rest = defined_in (elements_from s r.next) in
+          let rest = defined_in (elements_from s r.passed.next) in
           record {
             from_here = omega (arith, h.from_here, z.from_here);
             most = z.most;
@@ -224,7 +224,7 @@ module _ {s m c firsts : List ℕ} {n : ℕ} (p : Listable s m c firsts n) where
                 ∙ ap (λ (xs : List (List spec.Element)). macros_in s d f k ++ each (macro_of s) xs) (sym more)
                 ∙ h.macros_are;
             faults =
-                lower-assoc g r.fault (fault_of (each definition_faults rest))
+                lower-assoc g r.passed.fault (fault_of (each definition_faults rest))
                 ∙ ap (lower g)
                 (ap (λ (x : Fault). lower x (fault_of (each definition_faults rest))) z.fault_is
                 ∙ sym (fault-both (definition_faults (stretch us)) (each definition_faults rest))

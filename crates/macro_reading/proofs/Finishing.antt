@@ -1,6 +1,6 @@
 -- The section, the list, and the whole text.
 use mathlib.Core.Path.{◌≡◌, refl, ap, sym, ◌∙◌}
-use mathlib.Core.Bool.{Bool, true, false, cond, not, ◌&&◌, ◌||◌, true≢false, false≢true}
+use mathlib.Core.Bool.{Bool, true, false, cond, not, ◌&&◌, ◌||◌, false≢true}
 use mathlib.Core.List.{List, [], ◌∷◌, ◌++◌, map, append-nil}
 use Prim.Native.Nat.{ℕ, ◌+◌, ◌≤◌, ◌<◌}
 use native.Mathlib.Nat.{le_refl}
@@ -8,7 +8,6 @@ use native.Mathlib.Omega.{arith}
 use lib.Dec.{eqb}
 use lib.ListN.{length, get_or, set, take, drop, length-set}
 use lib.Seq.{get_or-set_same, get_or-set_other}
-use borrow.Author.Tests.{eq-eqb, ne_eqb, eqb-true}
 use Rattle.std.specs.Bool.{then_some}
 use Rattle.layout.specs.Cells.{tab}
 use Rattle.lists.specs.Lists.{any, each, filled, if_any, keep}
@@ -25,6 +24,7 @@ use Rattle.macro_code.specs.Code.{paired}
 use Rattle.macro_changes.specs.Changing.{ReadChanges, parameters_of, shuts, stop_of, changes_of, wrong_in}
 use Rattle.std.specs.Prelude.{None}
 use Rattle.macro_changes.specs.Changing.{Scope}
+use Rattle.macro_changes.specs.declared.Passed.{Passed}
 use Rattle.macro_changes.specs.declared.Step.{Step}
 use Rattle.macro_changes.proofs.Cells.{first_of, second-of, kept_set, kept_on, kept-below, changes-agree, changes-same, changes-more}
 use Rattle.macro_changes.proofs.Giving.{keep-first, one-fault}
@@ -35,10 +35,9 @@ use Rattle.macro_reading.specs.Definitions.{OpenAt, stretch, defined_in, last_in
 use Rattle.macro_reading.specs.Sections.{outer_faults, Skips, FirstRead, Tailed, tail_faults, TailRead}
 use Rattle.macro_reading.specs.Whole.{SectionCells, Sectioned, SectionRead, gone, Puttable, Puts, follow_faults, Bracketed, list_from, list_at, list_stop, ListRead, LentRows, MacrosRead}
 use Rattle.macro_reading.specs.declared.Definitions.{Definitions}
-use Rattle.macro_reading.specs.declared.First.{First}
 use Rattle.macro_reading.specs.declared.Listing.{Listing}
 use Rattle.macro_reading.specs.declared.Tail.{Tail}
-use Rattle.macro_reading.proofs.Ending.{end-sort, lower-clear}
+use Rattle.macro_reading.proofs.Ending.{lower-clear}
 use Rattle.macro_reading.proofs.Enlisting.{listing-kept}
 use Rattle.macro_reading.proofs.Reading.{all-changes, fault-there, record_cells, span-there, counts-there, record-kept, above-there}
 use Rattle.macro_reading.proofs.Stretching.{defined-none, last-here, after-here}
@@ -101,7 +100,7 @@ module _ {s m c : List ℕ} {q before u n : ℕ} (p : Sectioned s m c q before u
         ∙ ap (λ (cs : List Change). code.changes_in s c (q + 3) before ++ cs)
         (all-changes g ∙ (λ i. section_changes (stop-there i) (all-inside (elements_from s n) i)))
 
-    pub section-done : SectionRead s c own_cells q before n r.fault
+    pub section-done : SectionRead s c own_cells q before n r.passed.fault
     unfolding wrong_in
     section-done =
         record {
@@ -142,15 +141,11 @@ or-none true = refl
 or-none false = refl
 
 -- what follows the list
-pub follow-is : {s : List ℕ} {n : ℕ} {t : Element} → FirstElement s n t → {b : Bool} → b ≡ not (eqb t.sort 3) → then_some b t.at ≡ fault_of (follow_faults (elements_from s n))
+pub follow-is : {s : List ℕ} {n : ℕ} {t : Element} → FirstElement s n t → {b : Bool} → b ≡ not (is_end (argument_value s t)) → then_some b t.at ≡ fault_of (follow_faults (elements_from s n))
 follow-is {s} {n} {t} k {b} e =
     one-fault b t.at
-    ∙ ap (λ (z : Bool). fault_of (cond z (t.at ∷ []) [])) (e ∙ ap not (go (eqb t.sort 3) refl))
+    ∙ ap (λ (z : Bool). fault_of (cond z (t.at ∷ []) [])) e
     ∙ sym (ap (λ (ts : List spec.Element). fault_of (follow_faults ts)) k.is ∙ ap fault_of (keep-first (λ u. not (is_end u)) (argument_value s t) [] ∙ append-nil (cond (not (is_end (argument_value s t))) (t.at ∷ []) [])))
-  where
-    go : (z : Bool) → eqb t.sort 3 ≡ z → z ≡ is_end (argument_value s t)
-    go true y = sym (end-sort k ∙ eq-eqb 3 t.sort (sym (eqb-true t.sort 3 y)))
-    go false y = sym (end-sort k ∙ ne_eqb 3 t.sort (λ w. true≢false (sym (eq-eqb t.sort 3 (sym w)) ∙ y)))
 
 module _ {s m c firsts : List ℕ} {t : Element} (p : Bracketed s m c firsts t) where
   abbrev us : List spec.Element
@@ -167,7 +162,7 @@ module _ {s m c firsts : List ℕ} {t : Element} (p : Bracketed s m c firsts t) 
       }
 
   module _ {d f : List ℕ} {r : Definitions} (a : DefinitionsRead s c firsts d f t.next r) where
-    pub tailed : Tailed s m d r.next r.used
+    pub tailed : Tailed s m d r.passed.next r.used
     tailed =
         record {
           headable =
@@ -179,13 +174,13 @@ module _ {s m c firsts : List ℕ} {t : Element} (p : Bracketed s m c firsts t) 
           bodiless_is = a.done;
         }
 
-    none_more : defined_in (elements_from s r.next) ≡ []
-    none_more = defined-none (elements_from s r.next) a.done
+    none_more : defined_in (elements_from s r.passed.next) ≡ []
+    none_more = defined-none (elements_from s r.passed.next) a.done
 
-    the_last : last_in us ≡ stretch (elements_from s r.next)
-    the_last = sym a.lists.last_is ∙ last-here (elements_from s r.next) a.done
+    the_last : last_in us ≡ stretch (elements_from s r.passed.next)
+    the_last = sym a.lists.last_is ∙ last-here (elements_from s r.passed.next) a.done
 
-    module _ {e : List ℕ} {w : Tail} (b : TailRead s d e r.next r.used t.at r.defined w) where
+    module _ {e : List ℕ} {w : Tail} (b : TailRead s d e r.passed.next r.used t.at r.defined w) where
       pub puttable : Puttable e (r.used + 3) t.at w.stop
       puttable =
           let h = p.held in
@@ -196,14 +191,14 @@ module _ {s m c firsts : List ℕ} {t : Element} (p : Bracketed s m c firsts t) 
             stop_low = omega (arith, b.stop_most, p.held.small);
           }
 
-      pub follows : Lent s m w.next
+      pub follows : Lent s m w.passed.next
       follows = record { copy = p.copy; size = p.held.small; most = b.most }
 
-      the_rest : after_in us ≡ elements_from s w.next
-      the_rest = sym a.lists.after_is ∙ after-here (elements_from s r.next) a.done ∙ sym b.rest
+      the_rest : after_in us ≡ elements_from s w.passed.next
+      the_rest = sym a.lists.after_is ∙ after-here (elements_from s r.passed.next) a.done ∙ sym b.rest
 
       module _ {e' : List ℕ} (x : Puts e e' (r.used + 3) t.at w.stop) where
-        pub sectioned : Sectioned s m e' r.used 1 (r.used + 3 + 2) w.next
+        pub sectioned : Sectioned s m e' r.used 1 (r.used + 3 + 2) w.passed.next
         sectioned =
             record {
               lent = follows;
@@ -214,7 +209,7 @@ module _ {s m c firsts : List ℕ} {t : Element} (p : Bracketed s m c firsts t) 
               wide = omega (arith, p.wide, a.lists.size, b.kept.size, x.kept.size);
             }
 
-        module _ {g : List ℕ} {h : Fault} (y : SectionRead s e' g r.used 1 w.next h) where
+        module _ {g : List ℕ} {h : Fault} (y : SectionRead s e' g r.used 1 w.passed.next h) where
           section-there : SectionCells s g r.used (gone (list_at (list_from s t)) (list_stop s (list_from s t)) ∷ section_changes (length s) (after_in (drop 1 (list_from s t))))
           section-there =
               record {
@@ -226,8 +221,8 @@ module _ {s m c firsts : List ℕ} {t : Element} (p : Bracketed s m c firsts t) 
                     ∙ ap (λ (j : ℕ). gone t.at j ∷ section_changes (length s) (after_in us)) (b.stop_is ∙ ap (λ (z : List spec.Element). if_any (length s) (λ u. u.at + 1) (from is_close z)) (sym the_last));
               }
 
-          pub list_done : {first follow : Fault} → follow ≡ fault_of (follow_faults (elements_from s w.next))
-              → ListRead s g f t first (record { count = r.count; section = r.used; fault = lower (lower (lower (lower first follow) r.fault) w.fault) h })
+          pub list_done : {first follow : Fault} → follow ≡ fault_of (follow_faults (elements_from s w.passed.next))
+              → ListRead s g f t first (record { count = r.count; section = r.used; fault = lower (lower (lower (lower first follow) r.passed.fault) w.passed.fault) h })
           list_done {first} {follow} z =
               record {
                 few = omega (arith, a.lists.counted, a.lists.most, p.held.small);
@@ -241,16 +236,16 @@ module _ {s m c firsts : List ℕ} {t : Element} (p : Bracketed s m c firsts t) 
                     (λ i. lower (lower (lower (lower first ((z ∙ ap (λ (ts : List spec.Element). fault_of (follow_faults ts)) (sym the_rest)) i)) (defined-fault i)) (tail-there i)) ((y.fault_is ∙ ap (λ (ts : List spec.Element). fault_of (form_faults (is_stray []) [] ts)) (sym the_rest)) i));
               }
             where
-              defined-fault : r.fault ≡ fault_of (each definition_faults (defined_in us))
+              defined-fault : r.passed.fault ≡ fault_of (each definition_faults (defined_in us))
               defined-fault =
-                  sym (lower-clear r.fault)
-                  ∙ ap (λ (xs : List (List spec.Element)). lower r.fault (fault_of (each definition_faults xs))) (sym none_more)
+                  sym (lower-clear r.passed.fault)
+                  ∙ ap (λ (xs : List (List spec.Element)). lower r.passed.fault (fault_of (each definition_faults xs))) (sym none_more)
                   ∙ a.lists.faults
 
               defined-there : r.defined ≡ filled (defined_in us)
               defined-there = sym (or-none r.defined) ∙ ap (λ (xs : List (List spec.Element)). r.defined || filled xs) (sym none_more) ∙ a.lists.defined_is
 
-              tail-there : w.fault ≡ fault_of (tail_faults t.at (filled (defined_in us)) (last_in us))
+              tail-there : w.passed.fault ≡ fault_of (tail_faults t.at (filled (defined_in us)) (last_in us))
               tail-there = b.fault_is ∙ (λ i. fault_of (tail_faults t.at (defined-there i) (sym the_last i)))
 
 -- The whole text, by what stands from its list on
@@ -299,7 +294,7 @@ faults-with s (t ∷ us) h =
     ∙ ap (λ (y : Fault). lower y (fault_of x))
     (fault-both ((o ++ fo) ++ d) e ∙ ap (λ (y : Fault). lower y (fault_of e)) (fault-both (o ++ fo) d ∙ ap (λ (y : Fault). lower y (fault_of d)) (fault-both o fo)))
 
-module _ {s m c firsts : List ℕ} (p : LentRows s m c firsts) {a : ℕ} (sa : Skips s 0 a) {f : First} (rf : FirstRead s a f) {b : ℕ} (sb : Skips s f.next b) where
+module _ {s m c firsts : List ℕ} (p : LentRows s m c firsts) {a : ℕ} (sa : Skips s 0 a) {f : Passed} (rf : FirstRead s a f) {b : ℕ} (sb : Skips s f.next b) where
   pub start-lent : Lent s m 0
   start-lent = record { copy = p.copy; size = p.size; most = omega arith }
 

@@ -88,14 +88,14 @@ module _ {s c d : List ℕ} {x : Scope} {n u : ℕ} {r : Step} (g : ReadChanges 
       ∙ ap (λ (cs : List Change). changes_in s d u r.count ++ cs) (sym (ap (changes_of (is_some x) (parameters_of s c x) (stop_of s (is_some x) n)) g.done ∙ none-changed (is_some x) (parameters_of s c x) (stop_of s (is_some x) n)))
       ∙ g.steps.changes_are
 
-  pub fault-there : r.fault ≡ fault_of (form_in s (parameters_of s c x) (is_some x) n)
+  pub fault-there : r.passed.fault ≡ fault_of (form_in s (parameters_of s c x) (is_some x) n)
   fault-there =
-      sym (lower-right r.fault)
-      ∙ ap (λ (ns : List ℕ). lower r.fault (fault_of ns)) (sym (ap (form_faults (wrong_in (is_some x) (parameters_of s c x)) (parameters_of s c x)) g.done ∙ none-wrong (wrong_in (is_some x) (parameters_of s c x)) (parameters_of s c x)))
+      sym (lower-right r.passed.fault)
+      ∙ ap (λ (ns : List ℕ). lower r.passed.fault (fault_of ns)) (sym (ap (form_faults (wrong_in (is_some x) (parameters_of s c x)) (parameters_of s c x)) g.done ∙ none-wrong (wrong_in (is_some x) (parameters_of s c x)) (parameters_of s c x)))
       ∙ g.steps.faults
 
 module _ {s m c d : List ℕ} {x : Scope} {q start n : ℕ} (p : Bodied s m c x q start n) {r : Step} (g : ReadChanges s c d x n ((first_in x) + (count_in x)) r)
-    (o : Option Element) (k : NextElement s r.next o) where
+    (o : Option Element) (k : NextElement s r.passed.next o) where
   abbrev closed : Bool
   closed = is_some o
 
@@ -103,7 +103,7 @@ module _ {s m c d : List ℕ} {x : Scope} {q start n : ℕ} (p : Bodied s m c x 
   stop = at_or (length s) o
 
   abbrev past : ℕ
-  past = next_or r.next o
+  past = next_or r.passed.next o
 
   abbrev first : ℕ
   first = (first_in x) + (count_in x)
@@ -114,7 +114,7 @@ module _ {s m c d : List ℕ} {x : Scope} {q start n : ℕ} (p : Bodied s m c x 
   pub stop_low : stop < 65536
   stop_low = go o k
     where
-      go : (o : Option Element) → NextElement s r.next o → at_or (length s) o < 65536
+      go : (o : Option Element) → NextElement s r.passed.next o → at_or (length s) o < 65536
       go None k = omega (arith, p.reading.lent.size)
       go (Some t) k = let h = (k.some t refl).held in omega (arith, h.own, h.ends, h.small)
 
@@ -127,11 +127,11 @@ module _ {s m c d : List ℕ} {x : Scope} {q start n : ℕ} (p : Bodied s m c x 
   start_low : start < 65536
   start_low = omega (arith, p.starts, p.reading.lent.size)
 
-  none_after : elements_from s r.next ≡ found_from s o
+  none_after : elements_from s r.passed.next ≡ found_from s o
   none_after = found_is o k
 
   rest_is : behind s (is_some x) n ≡ found_from s o
-  rest_is = sym g.steps.rest ∙ whole-from (shuts (is_some x)) (elements_from s r.next) g.done ∙ none_after
+  rest_is = sym g.steps.rest ∙ whole-from (shuts (is_some x)) (elements_from s r.passed.next) g.done ∙ none_after
 
   span-is : (high written (q + 1) ≡ start) × (low written (q + 1) ≡ stop)
   span-is = (rw (span-there d q start stop (count_in x) r.count record-room) (first_of start stop stop_low), rw (span-there d q start stop (count_in x) r.count record-room) (second-of start stop stop_low))
@@ -155,15 +155,15 @@ module _ {s m c d : List ℕ} {x : Scope} {q start n : ℕ} (p : Bodied s m c x 
   forward : (n + cond closed 1 0 ≤ past) × (past ≤ length s) × (r.used + 2 * n + cond closed 2 0 ≤ first + 2 * past)
   forward = go o k
     where
-      go : (o : Option Element) → NextElement s r.next o → (n + cond (is_some o) 1 0 ≤ next_or r.next o) × (next_or r.next o ≤ length s)
-          × (r.used + 2 * n + cond (is_some o) 2 0 ≤ first + 2 * next_or r.next o)
+      go : (o : Option Element) → NextElement s r.passed.next o → (n + cond (is_some o) 1 0 ≤ next_or r.passed.next o) × (next_or r.passed.next o ≤ length s)
+          × (r.used + 2 * n + cond (is_some o) 2 0 ≤ first + 2 * next_or r.passed.next o)
       go None k = (omega (arith, g.steps.from), g.steps.most, omega (arith, g.steps.room))
       go (Some t) k = let e = k.some t refl in let z = first_forward e in (omega (arith, g.steps.from), e.held.most, omega (arith, g.steps.room))
 
   after_is : elements_from s past ≡ drop 1 (behind s (is_some x) n)
   after_is = go o none_after ∙ sym (ap (drop 1) rest_is)
     where
-      go : (o : Option Element) → elements_from s r.next ≡ found_from s o → elements_from s (next_or r.next o) ≡ drop 1 (found_from s o)
+      go : (o : Option Element) → elements_from s r.passed.next ≡ found_from s o → elements_from s (next_or r.passed.next o) ≡ drop 1 (found_from s o)
       go None e = e
       go (Some t) e = refl
 
@@ -174,7 +174,7 @@ module _ {s m c d : List ℕ} {x : Scope} {q start n : ℕ} (p : Bodied s m c x 
       go None = refl
       go (Some t) = refl
 
-  pub body-done : BodyRead s c written x q start n (record { next = past; used = r.used; closed = closed; fault = r.fault })
+  pub body-done : BodyRead s c written x q start n (record { passed = record { next = past; fault = r.passed.fault }; used = r.used; closed = closed })
   unfolding body_in
   body-done =
       record {

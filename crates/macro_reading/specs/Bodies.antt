@@ -18,15 +18,15 @@ pub record Bodied (s m c : List ℕ) (x : Scope) (q start n : ℕ) : Type 0 wher
   pub starts : start ≤ length s
 
 pub record BodyRead (s c d : List ℕ) (x : Scope) (q start n : ℕ) (r : Body) : Type 0 where
-  pub from : n + cond r.closed 1 0 ≤ r.next
-  pub most : r.next ≤ length s
+  pub from : n + cond r.closed 1 0 ≤ r.passed.next
+  pub most : r.passed.next ≤ length s
   pub kept : Kept c d (q + place.span_cell)
   pub names : parameters_of s d x ≡ parameters_of s c x
   pub count_is : parameter_count d q ≡ (count_in x)
   pub low : (first_in x) + (count_in x) ≤ r.used
-  pub room : r.used + 2 * n + cond r.closed 2 0 ≤ (first_in x) + (count_in x) + 2 * r.next
+  pub room : r.used + 2 * n + cond r.closed 2 0 ≤ (first_in x) + (count_in x) + 2 * r.passed.next
   pub used_is : behind_changes d (first_change d q) (change_count d q) ≡ r.used
   pub body_is : body_in s d q ≡ pieces_from s start (stop_of s (is_some x) n) (changes_of (is_some x) (parameters_of s c x) (stop_of s (is_some x) n) (inside s (is_some x) n))
-  pub fault_is : r.fault ≡ fault_of (form_in s (parameters_of s c x) (is_some x) n)
+  pub fault_is : r.passed.fault ≡ fault_of (form_in s (parameters_of s c x) (is_some x) n)
   pub closed_is : r.closed ≡ filled (behind s (is_some x) n)
-  pub rest : elements_from s r.next ≡ drop 1 (behind s (is_some x) n)
+  pub rest : elements_from s r.passed.next ≡ drop 1 (behind s (is_some x) n)

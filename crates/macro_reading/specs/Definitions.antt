@@ -37,12 +37,12 @@ pub record Definable (s m c : List ℕ) (n q : ℕ) : Type 0 where
 
 pub record Defining (s d : List ℕ) (n q : ℕ) (r : Definition) : Type 0 where
   pub macro_is : macro_of s (stretch (elements_from s n)) ≡ cond r.named (macro_in s d q ∷ []) []
-  pub fault_is : r.fault ≡ fault_of (definition_faults (stretch (elements_from s n)))
-  pub rest : elements_from s r.next ≡ drop 1 (from is_close (elements_from s n))
-  pub from_here : n + cond r.named 2 1 ≤ r.next
-  pub closed_more : r.named ≡ true → filled (elements_from s r.next) ≡ true → n + 3 ≤ r.next
-  pub most : r.next ≤ length s
-  pub paid : r.named ≡ true → r.used + 2 ≤ 2 * r.next
+  pub fault_is : r.passed.fault ≡ fault_of (definition_faults (stretch (elements_from s n)))
+  pub rest : elements_from s r.passed.next ≡ drop 1 (from is_close (elements_from s n))
+  pub from_here : n + cond r.named 2 1 ≤ r.passed.next
+  pub closed_more : r.named ≡ true → filled (elements_from s r.passed.next) ≡ true → n + 3 ≤ r.passed.next
+  pub most : r.passed.next ≤ length s
+  pub paid : r.named ≡ true → r.used + 2 ≤ 2 * r.passed.next
   pub low : q + 3 ≤ r.used
   pub used_is : behind_changes d (first_change d q) (change_count d q) ≡ r.used
 
@@ -92,5 +92,5 @@ pub record Listing (s c firsts d now-firsts : List ℕ) (n next used count : ℕ
   pub after_is : after_in (elements_from s next) ≡ after_in (elements_from s n)
 
 pub record DefinitionsRead (s c firsts d now-firsts : List ℕ) (n : ℕ) (r : Definitions) : Type 0 where
-  pub lists : Listing s c firsts d now-firsts n r.next r.used r.count r.defined r.fault
-  pub done : has_body (stretch (elements_from s r.next)) ≡ false
+  pub lists : Listing s c firsts d now-firsts n r.passed.next r.used r.count r.defined r.passed.fault
+  pub done : has_body (stretch (elements_from s r.passed.next)) ≡ false

@@ -65,5 +65,5 @@ pub record Heading (s c d : List ℕ) (n q next words : ℕ) (first : Option ℕ
   pub rest : bracketed s next ≡ bracketed s n
 
 pub record HeaderRead (s c d : List ℕ) (n q : ℕ) (r : Header) : Type 0 where
-  pub heads : Heading s c d n q r.next r.words r.first r.some r.fault
-  pub done : heading s r.next ≡ []
+  pub heads : Heading s c d n q r.passed.next r.words r.first r.some r.passed.fault
+  pub done : heading s r.passed.next ≡ []

@@ -8,10 +8,10 @@ use Rattle.macros.specs.Elements.{Element, is_word, is_end, is_star, is_close, p
 use Rattle.macros.specs.Macros.{has_body, from_statement, header_faults}
 use Rattle.macros.specs.Pieces.{is_stray}
 use Rattle.macro_changes.specs.Changing.{Kept}
+use Rattle.macro_changes.specs.declared.Passed.{Passed}
 use Rattle.macro_elements.specs.ElementAt.{elements_from}
 use Rattle.macro_reading.specs.Definitions.{stretch}
 use Rattle.macro_reading.specs.Headers.{Headable}
-use Rattle.macro_reading.specs.declared.First.{First}
 use Rattle.macro_reading.specs.declared.Tail.{Tail}
 
 pub record Skips (s : List ℕ) (n r : ℕ) : Type 0 where
@@ -32,7 +32,7 @@ pub record Firsts (s : List ℕ) (n next : ℕ) (fault : Fault) : Type 0 where
   pub faults : lower fault (fault_of (outer_faults (until is_end (elements_from s next)))) ≡ fault_of (outer_faults (until is_end (elements_from s n)))
   pub rest : from is_end (elements_from s next) ≡ from is_end (elements_from s n)
 
-pub record FirstRead (s : List ℕ) (n : ℕ) (r : First) : Type 0 where
+pub record FirstRead (s : List ℕ) (n : ℕ) (r : Passed) : Type 0 where
   pub from_here : n ≤ r.next
   pub most : r.next ≤ length s
   pub fault_is : r.fault ≡ fault_of (outer_faults (until is_end (elements_from s n)))
@@ -49,10 +49,10 @@ tail_faults at defined x =
     ++ cond (any is_close x && (defined || any (λ t. not (is_close t || eqb t.byte 10)) x)) [] (at ∷ [])
 
 pub record TailRead (s c d : List ℕ) (n q at : ℕ) (defined : Bool) (r : Tail) : Type 0 where
-  pub from_here : n ≤ r.next
-  pub most : r.next ≤ length s
+  pub from_here : n ≤ r.passed.next
+  pub most : r.passed.next ≤ length s
   pub kept : Kept c d q
   pub stop_most : r.stop ≤ length s
   pub stop_is : r.stop ≡ if_any (length s) (λ t. t.at + 1) (from is_close (stretch (elements_from s n)))
-  pub rest : elements_from s r.next ≡ drop 1 (from is_close (elements_from s n))
-  pub fault_is : r.fault ≡ fault_of (tail_faults at defined (stretch (elements_from s n)))
+  pub rest : elements_from s r.passed.next ≡ drop 1 (from is_close (elements_from s n))
+  pub fault_is : r.passed.fault ≡ fault_of (tail_faults at defined (stretch (elements_from s n)))

@@ -13,19 +13,18 @@ ghost use Rattle.macro_reading.specs.Definitions.{NextOpen, Definable, Defined, 
 ghost use Rattle.macro_reading.specs.Bodies.{Bodied, BodyRead};
 ghost use Rattle.macro_reading.specs.Headers.{word_cell, NextBefore, Headable, HeaderRead};
 
-use macro_changes::{Parameters, put, read_changes};
+use macro_changes::{Parameters, Passed, put, read_changes};
 use macro_code::CodePlaces;
 use macro_elements::{Element, Source, is_identifier, is_mark, next_element};
-use scanner::{END, WORD};
+use scanner::Sort;
 use statements::{Fault, lower};
 
-// A body that was read: the place and the cell behind it, whether a bracket closes it, and the lowest place at fault.
+// A body that was read: what is passed, the cell behind it, and whether a bracket closes it.
 #[derive(Clone, Copy)]
 struct Body {
-    next: usize,
+    passed: Passed,
     used: usize,
     closed: bool,
-    fault: Fault,
 }
 
 // A macro's body or the section, from place `n` on, with its record at the cell `q`. Its name and its parameters stand there already.
@@ -41,27 +40,29 @@ fn read_body(
     ensures { BodyRead source.now.text.now code.old code.new (Some p) q start n result }
 {
     let r = read_changes(source, code, Some(p), n, p.first + p.count);
-    let t = next_element(source, r.next);
+    let t = next_element(source, r.passed.next);
     let stop = t.map_or(source.text.len(), |t| t.at);
     put(code, q + CodePlaces::SPAN, start, stop);
     put(code, q + CodePlaces::COUNTS, p.count, r.count);
+    let passed = Passed {
+        next: t.map_or(r.passed.next, |t| t.next),
+        ..r.passed
+    };
     Body {
-        next: t.map_or(r.next, |t| t.next),
+        passed,
         used: r.used,
         closed: t.is_some(),
-        fault: r.fault,
     }
 }
 
-// A header that was read: the place where it ends; the count of its words, and the place of the first, if there is one; whether anything but new
-// lines stands in it; and the lowest place at fault.
+// A header that was read: what is passed; the count of its words, and the place of the first, if there is one; and whether anything but new lines
+// stands in it.
 #[derive(Clone, Copy)]
 struct Header {
-    next: usize,
+    passed: Passed,
     words: usize,
     first: Option<usize>,
     some: bool,
-    fault: Fault,
 }
 
 // The cell of a header's word: the name's own, or a parameter's.
@@ -78,7 +79,6 @@ fn word_cell(q: usize, k: usize) -> usize
 
 // Whether an element is a round bracket.
 fn is_bracket(t: Element) -> bool
-    requires { t.sort < 6 }
     ensures { (s : List ℕ) → result ≡ is_bracket (argument_value s t) }
 {
     is_mark(b'(', t) | is_mark(b')', t)
@@ -108,37 +108,33 @@ fn read_header(source: &Source, code: &mut [u32], n: usize, q: usize) -> Header
     requires { Headable source.now.text.now source.now.marked.now code.old n q }
     ensures { HeaderRead source.now.text.now code.old code.new n q result }
 {
-    let mut i = n;
-    let mut k: usize = 0;
+    let mut passed = Passed::nothing(n);
+    let mut words: usize = 0;
     let mut first = None;
     let mut some = false;
-    let mut fault = None;
-    while let Some(t) = next_in_header(source, i) {
+    while let Some(t) = next_in_header(source, passed.next) {
         let line = t.byte == b'\n';
-        let wrong = !(is_identifier(source.text, t) | line);
-        fault = lower(fault, wrong.then_some(t.at));
+        passed = passed.over(t, !(is_identifier(source.text, t) | line));
         some = some | !line;
-        first = earlier(first, WORD == t.sort, t.at);
-        put(code, word_cell(q, k), t.at, t.end - t.at);
-        k += usize::from(WORD == t.sort);
-        i = t.next;
+        let word = t.is(Sort::Word);
+        first = earlier(first, word, t.at);
+        put(code, word_cell(q, words), t.at, t.end - t.at);
+        words += usize::from(word);
     }
     Header {
-        next: i,
-        words: k,
-        first: first,
-        some: some,
-        fault: fault,
+        passed,
+        words,
+        first,
+        some,
     }
 }
 
-// A definition that was read: whether it has a name; the place and the cell behind it, and the lowest place at fault.
+// A definition that was read: what is passed; whether it has a name; and the cell behind it.
 #[derive(Clone, Copy)]
 struct Definition {
+    passed: Passed,
     named: bool,
-    next: usize,
     used: usize,
-    fault: Fault,
 }
 
 // The faults of a header and of a body, and of the bracket between them, where there is no name or the body is not closed.
@@ -166,30 +162,32 @@ fn read_definition(source: &Source, code: &mut [u32], n: usize, q: usize) -> Opt
     ensures { Defined source.now.text.now code.old code.new n q result }
 {
     let h = read_header(source, code, n, q);
-    let b = next_open(source, h.next)?;
+    let b = next_open(source, h.passed.next)?;
     let p = Parameters {
         first: q + CodePlaces::PARAMETERS,
         count: h.words.saturating_sub(1),
     };
     let r = read_body(source, code, p, q, b.at + 1, b.next);
     let named = 0 < h.words;
+    let passed = Passed {
+        next: r.passed.next,
+        fault: definition_fault(h.passed.fault, named & r.closed, b.at, r.passed.fault),
+    };
     Some(Definition {
-        named: named,
-        next: r.next,
+        passed,
+        named,
         used: r.used,
-        fault: definition_fault(h.fault, named & r.closed, b.at, r.fault),
     })
 }
 
-// The definitions that were read: the place where the stretch behind them begins, the cell behind them, the count of macros, whether there is a
-// definition, and the lowest place at fault.
+// The definitions that were read: what is passed, up to the stretch behind them; the cell behind them; the count of macros; and whether there is a
+// definition.
 #[derive(Clone, Copy)]
 struct Definitions {
-    next: usize,
+    passed: Passed,
     used: usize,
     count: usize,
     defined: bool,
-    fault: Fault,
 }
 
 // All definitions from place `n` on, behind the list's bracket, and the first cell of each macro.
@@ -198,25 +196,22 @@ fn read_definitions(source: &Source, code: &mut [u32], firsts: &mut [u16], n: us
     requires { Listable source.now.text.now source.now.marked.now code.old firsts.old n }
     ensures { DefinitionsRead source.now.text.now code.old firsts.old code.new firsts.new n result }
 {
-    let mut i = n;
+    let mut passed = Passed::nothing(n);
     let mut q: usize = 0;
     let mut k: usize = 0;
     let mut defined = false;
-    let mut fault = None;
-    while let Some(r) = read_definition(source, code, i, q) {
+    while let Some(r) = read_definition(source, code, passed.next, q) {
         firsts[k] = q as u16;
         k += usize::from(r.named);
         q = if r.named { r.used } else { q };
-        fault = lower(fault, r.fault);
+        passed = passed.and(r.passed);
         defined = true;
-        i = r.next;
     }
     Definitions {
-        next: i,
+        passed,
         used: q,
         count: k,
-        defined: defined,
-        fault: fault,
+        defined,
     }
 }
 
@@ -227,7 +222,7 @@ fn skip_ends(source: &Source, n: usize) -> usize
 {
     let mut i = n;
     while let Some(t) = next_element(source, i) {
-        if t.sort != END {
+        if !t.is(Sort::End) {
             return i;
         }
         i = t.next;
@@ -235,16 +230,8 @@ fn skip_ends(source: &Source, n: usize) -> usize
     i
 }
 
-// The first statement that was read: the place where it ends, and the lowest place at fault.
-#[derive(Clone, Copy)]
-struct First {
-    next: usize,
-    fault: Fault,
-}
-
 // Whether an element may not stand before the list.
 fn is_outer(t: Element) -> bool
-    requires { t.sort < 6 }
     ensures { (s : List ℕ) → result ≡ outer (argument_value s t) }
 {
     is_mark(b'*', t) | (is_bracket(t) | is_mark(b'\'', t) | t.joined.is_some())
@@ -256,34 +243,29 @@ fn next_in_statement(source: &Source, n: usize) -> Option<Element>
     ensures { NextBefore is_end source.now.text.now n result }
 {
     let t = next_element(source, n)?;
-    if t.sort == END {
+    if t.is(Sort::End) {
         return None;
     }
     Some(t)
 }
 
-fn read_first(source: &Source, n: usize) -> First
+// The first statement, from place `n` on.
+fn read_first(source: &Source, n: usize) -> Passed
     requires { Lent source.now.text.now source.now.marked.now n }
     ensures { FirstRead source.now.text.now n result }
 {
-    let mut i = n;
-    let mut fault = None;
-    while let Some(t) = next_in_statement(source, i) {
-        fault = lower(fault, is_outer(t).then_some(t.at));
-        i = t.next;
+    let mut passed = Passed::nothing(n);
+    while let Some(t) = next_in_statement(source, passed.next) {
+        passed = passed.over(t, is_outer(t));
     }
-    First {
-        next: i,
-        fault: fault,
-    }
+    passed
 }
 
-// The stretch that ends the list: the places where the list stops and where the section goes on, and the lowest place at fault.
+// The stretch that ends the list: what is passed, up to where the section goes on; and the place where the list stops.
 #[derive(Clone, Copy)]
 struct Tail {
+    passed: Passed,
     stop: usize,
-    next: usize,
-    fault: Fault,
 }
 
 fn read_tail(
@@ -298,19 +280,20 @@ fn read_tail(
     ensures { TailRead source.now.text.now code.old code.new n q at defined result }
 {
     let h = read_header(source, code, n, q);
-    let b = next_element(source, h.next);
+    let b = next_element(source, h.passed.next);
     let sound = b.is_some() & (defined | h.some);
-    let fault = lower(h.fault, lower(h.first, (!sound).then_some(at)));
+    let fault = lower(h.passed.fault, lower(h.first, (!sound).then_some(at)));
     match b {
         Some(b) => Tail {
+            passed: Passed {
+                next: b.next,
+                fault,
+            },
             stop: b.at + 1,
-            next: b.next,
-            fault,
         },
         None => Tail {
+            passed: Passed { fault, ..h.passed },
             stop: source.text.len(),
-            next: h.next,
-            fault,
         },
     }
 }
@@ -338,7 +321,7 @@ fn read_section(
     let r = read_changes(source, code, None, n, u);
     put(code, q + CodePlaces::SPAN, 0, source.text.len());
     put(code, q + CodePlaces::COUNTS, 0, before + r.count);
-    r.fault
+    r.passed.fault
 }
 
 // The list itself is a change of the section, the first: it goes with its brackets.
@@ -356,7 +339,7 @@ fn follow_fault(source: &Source, n: usize) -> Fault
     ensures { result ≡ fault_of (follow_faults (elements_from source.now.text.now n)) }
 {
     let t = next_element(source, n)?;
-    (t.sort != END).then_some(t.at)
+    (!t.is(Sort::End)).then_some(t.at)
 }
 
 // The list that begins with this bracket, and the section behind it; `first` is the fault of the first statement.
@@ -372,16 +355,20 @@ fn read_list(
 {
     let at = bracket.at;
     let d = read_definitions(source, code, firsts, bracket.next);
-    let e = read_tail(source, code, d.next, d.used, at, d.defined);
-    let before = lower(first, follow_fault(source, e.next));
+    let e = read_tail(source, code, d.passed.next, d.used, at, d.defined);
+    let next = e.passed.next;
+    let before = lower(first, follow_fault(source, next));
     let u = d.used + CodePlaces::PARAMETERS;
     put_list(code, u, at, e.stop);
     let on = u + CodePlaces::SMALL_SIZE;
-    let section = read_section(source, code, d.used, 1, on, e.next);
+    let section = read_section(source, code, d.used, 1, on, next);
     Listing {
         count: d.count,
         section: d.used,
-        fault: lower(lower(lower(before, d.fault), e.fault), section),
+        fault: lower(
+            lower(lower(before, d.passed.fault), e.passed.fault),
+            section,
+        ),
     }
 }
 

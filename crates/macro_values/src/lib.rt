@@ -13,6 +13,7 @@ use macro_code::{CodePlaces, Coded, Given};
 use statements::Fault;
 
 // What is written: how many bytes, none if there is no room for all, or if a call is too deep; and the faults of 64 and of 65 that are met.
+// The row of bytes is lent beside it: of a struct with a `&mut` to the row, each function and each loop would have to say that it is still that row.
 #[derive(Clone, Copy)]
 pub struct Written {
     pub count: Option<usize>,

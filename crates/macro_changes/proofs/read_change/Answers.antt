@@ -3,9 +3,6 @@ use mathlib.Core.Path.{sym, ◌∙◌}
 use Rattle.macro_changes.proofs.Stepping.{change-some, started}
 use Rattle.macro_changes.proofs.read_change.Goals as goal
 
-pub is_mark-requires : goal.is_mark-requires
-is_mark-requires c = (c.next_inside.ensures.some c.in_ok-t.t c.in_ok-t.was).first.held.sorted
-
 pub read_call-requires : goal.read_call-requires
 read_call-requires c =
     record {

@@ -4,7 +4,7 @@ use Rattle.macro_changes.proofs.Giving.{gives_none, room-on, forward, long-low, 
 use Rattle.macro_changes.proofs.read_given.Goals as goal
 
 pub loop-t-init : goal.loop-t-init
-loop-t-init c = gives_none c.requires
+loop-t-init c = rw c.nothing-passed.ensures (gives_none c.requires)
 
 pub next_given-requires : goal.next_given-requires
 next_given-requires c = record { copy = c.requires.lent.copy; size = c.requires.lent.size; most = c.loop-t.invariant.most }
@@ -18,20 +18,20 @@ overflow_add-w c = omega (arith, c.loop-t.invariant.from, c.loop-t.invariant.mos
 pub answer_of-a-requires : goal.answer_of-a-requires
 answer_of-a-requires c = record { held = (c.next_given.ensures.some _ c.in-Some.is).inner.first.held; few = c.requires.few; scoped = omega (arith, c.requires.scoped, c.requires.room, c.requires.lent.most, c.loop-t.invariant.kept.size) }
 
-pub is_argument-wrong-requires : goal.is_argument-wrong-requires
-is_argument-wrong-requires c = (c.next_given.ensures.some _ c.in-Some.is).inner.first.held
+pub is_argument-requires : goal.is_argument-requires
+is_argument-requires c = (c.next_given.ensures.some _ c.in-Some.is).inner.first.held
 
 pub overflow_sub-t : goal.overflow_sub-t
 overflow_sub-t c = (c.next_given.ensures.some _ c.in-Some.is).inner.first.held.own
 
-pub put_two-requires : goal.put_two-requires
-put_two-requires c =
+pub put_given-requires : goal.put_given-requires
+put_given-requires c =
     let e = c.next_given.ensures.some _ c.in-Some.is in
     let h = e.inner.first.held in
     record {
       room = room-on c.requires c.loop-t.invariant e c.answer_of-a.ensures;
       place = (omega (arith, h.own, h.ends, h.small), long-low c.requires c.loop-t.invariant e c.answer_of-a.ensures);
-      what = (c.answer_of-a.ensures.kind_low, c.answer_of-a.ensures.number_low);
+      what = c.answer_of-a.ensures.number_low;
     }
 
 pub overflow_add-k : goal.overflow_add-k
@@ -40,12 +40,12 @@ overflow_add-k c = omega (arith, c.loop-t.invariant.from, c.loop-t.invariant.mos
 pub loop-t-smaller : goal.loop-t-smaller
 loop-t-smaller c =
     let e = c.next_given.ensures.some _ c.in-Some.is in
-    omega (arith, forward c.requires c.loop-t.invariant e c.answer_of-a.ensures, e.inner.first.held.most)
+    rw c.over-passed.ensures (omega (arith, forward c.requires c.loop-t.invariant e c.answer_of-a.ensures, e.inner.first.held.most))
 
 pub loop-t-preserved : goal.loop-t-preserved
 loop-t-preserved c =
-    rw (c.put_two.ensures, c.lower-fault.ensures, c.then_some.ensures)
-    (gives-on c.requires c.loop-t.invariant (c.next_given.ensures.some _ c.in-Some.is) c.answer_of-a.ensures _ (argument_is c.answer_of-a.ensures _ c.is_argument-wrong.ensures))
+    rw (c.put_given.ensures, c.over-passed.ensures)
+    (gives-on c.requires c.loop-t.invariant (c.next_given.ensures.some _ c.in-Some.is) c.answer_of-a.ensures _ (argument_is c.answer_of-a.ensures _ c.is_argument.ensures))
 
 pub overflow_mul-result : goal.overflow_mul-result
 overflow_mul-result c = omega (arith, c.loop-t.invariant.from, c.loop-t.invariant.most, c.requires.lent.size)

@@ -5,7 +5,7 @@ use Rattle.macro_changes.specs.Changing.{Gives}
 use Rattle.macro_changes.proofs.read_given.Given as goal
 
 abbrev pub invariant-loop-t : goal.invariant-loop-t
-invariant-loop-t l = Gives l.source.text.now l.initial.code l.code l.x l.n l.u l.i l.k l.fault
+invariant-loop-t l = Gives l.source.text.now l.initial.code l.code l.x l.n l.u l.passed.next l.k l.passed.fault
 
 abbrev pub decreases-loop-t : goal.decreases-loop-t
-decreases-loop-t l = length l.source.text.now - l.i
+decreases-loop-t l = length l.source.text.now - l.passed.next

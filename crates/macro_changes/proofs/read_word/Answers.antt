@@ -1,6 +1,7 @@
 -- `macro_changes::read_word` meets its contract.
 use native.Mathlib.Omega.{arith}
-use Rattle.macro_changes.proofs.Stepping.{turned, word_none, word-one, room_word, places-low}
+use mathlib.Core.Path.{sym, ◌∙◌}
+use Rattle.macro_changes.proofs.Stepping.{word_none, word-one, value_low, room_word, places-low}
 use Rattle.macro_changes.proofs.read_word.Goals as goal
 
 pub answer_of-a-requires : goal.answer_of-a-requires
@@ -9,8 +10,8 @@ answer_of-a-requires c = let q = c.requires.started in record { held = q.held; f
 pub is_wrong-requires : goal.is_wrong-requires
 is_wrong-requires c = c.requires.started.held
 
-pub returns-then-is_none-a : goal.returns-then-is_none-a
-returns-then-is_none-a c = word_none c.requires.started c.requires.plain c.answer_of-a.ensures _ c.is_wrong.ensures c.then_some-fault.ensures (rw (turned c.is_none.result c.is_none.ensures) at c.if-is_none-a.true)
+pub returns-in_default : goal.returns-in_default
+returns-in_default c = word_none c.requires.started c.requires.plain c.answer_of-a.ensures _ c.is_wrong.ensures c.then_some.ensures (sym c.value_in.ensures ∙ c.in_default.is)
 
 pub put_two-requires : goal.put_two-requires
 put_two-requires c =
@@ -18,7 +19,7 @@ put_two-requires c =
     record {
       room = omega (arith, room_word c.requires.started c.requires.plain c.answer_of-a.ensures);
       place = (rw c.replaced-start.ensures l.0, rw c.replaced-start.ensures l.1);
-      what = (omega arith, c.answer_of-a.ensures.number_low);
+      what = (omega arith, value_low c.requires.started c.requires.plain c.answer_of-a.ensures (sym c.value_in.ensures ∙ c.in-Some.is));
     }
 
 pub overflow_add-result : goal.overflow_add-result
@@ -27,4 +28,4 @@ overflow_add-result c = omega (arith, room_word c.requires.started c.requires.pl
 pub returns : goal.returns
 returns c =
     rw (c.put_two.ensures, c.replaced-start.ensures)
-    (word-one c.requires.started c.requires.plain c.answer_of-a.ensures _ c.is_wrong.ensures c.then_some-fault.ensures (rw (turned c.is_none.result c.is_none.ensures) at c.if-is_none-a.false))
+    (word-one c.requires.started c.requires.plain c.answer_of-a.ensures (sym c.value_in.ensures ∙ c.in-Some.is) _ c.is_wrong.ensures c.then_some.ensures)

@@ -24,9 +24,8 @@ meet-step-requires c =
       record {
         most = p.most;
         count = omega (arith, k.ensures.most, k.ensures.size);
-        room = p.room;
-        remembers = remembers-stays x.coded.text.now x.coded.code.now x.firsts.now x.count a.calls.now _ l.w k.result _ _
-            (remembers-stays x.coded.text.now x.coded.code.now x.firsts.now x.count a.calls.now _ a.v l.w _ _ p.remembers l.invariant.1) k.ensures;
+        remembers = remembers-stays x.coded.text.now x.coded.code.now x.firsts.now x.count a.memory.now.slots _ l.w k.result _ _
+            (remembers-stays x.coded.text.now x.coded.code.now x.firsts.now x.count a.memory.now.slots _ a.v l.w _ _ p.remembers l.invariant.1) k.ensures;
       },
     )
 
@@ -36,7 +35,7 @@ returns-in-Some c =
     let x = a.list.now.listed in
     let l = c.loop-passed in
     let m = c.meet-step.ensures in
-    run-pauses x.coded.text.now x.coded.code.now x.firsts.now x.count a.calls.now a.rest.left a.rest.stop _ l.invariant.0 _ _ _ _ _ _ _ _ l.place l.cell (a.rest.changes - l.passed)
+    run-pauses x.coded.text.now x.coded.code.now x.firsts.now x.count a.memory.now.calls a.rest.left a.rest.stop _ l.invariant.0 _ _ _ _ _ _ _ _ l.place l.cell (a.rest.changes - l.passed)
     l.invariant.1 l.invariant.2 _ _ _ (omega arith) (omega arith) (omega (arith, c.requires.0.changes)) (rw c.high.ensures.0 at c.append-kept.ensures) (m.waits _ c.in-Some.is) (m.enters _ c.in-Some.is)
     (m.there _ c.in-Some.is) refl refl refl refl
 
@@ -47,14 +46,14 @@ loop-passed-preserved c =
     let l = c.loop-passed in
     let k = a.rest.changes - l.passed in
     let e : a.rest.changes - (l.passed + 1) ≡ k - 1 = omega arith in
-    let t = run-turn x.coded.text.now x.coded.code.now x.firsts.now x.count a.calls.now a.rest.left a.rest.stop _ l.invariant.0 _ _ _ _ _ _ _ _ l.place l.cell k
+    let t = run-turn x.coded.text.now x.coded.code.now x.firsts.now x.count a.memory.now.calls a.rest.left a.rest.stop _ l.invariant.0 _ _ _ _ _ _ _ _ l.place l.cell k
     l.invariant.1 l.invariant.2 c.low-place.result c.change_size-cell.result (omega arith) (rw c.high.ensures.0 at c.append-kept.ensures) (c.meet-step.ensures.passed c.in_default.is) c.low-place.ensures.0 c.change_size-cell.ensures.0 in
-    (t.0, t.1, t.2 ∙ ap (λ j. followed_by t.0 (rest_writes x.coded.text.now x.coded.code.now x.firsts.now x.count a.calls.now a.rest.left c.low-place.result a.rest.stop (l.cell + c.change_size-cell.result) j)) (sym e), c.low-place.ensures.1, omega (arith, l.invariant.4, c.change_size-cell.ensures.1))
+    (t.0, t.1, t.2 ∙ ap (λ j. followed_by t.0 (rest_writes x.coded.text.now x.coded.code.now x.firsts.now x.count a.memory.now.calls a.rest.left c.low-place.result a.rest.stop (l.cell + c.change_size-cell.result) j)) (sym e), c.low-place.ensures.1, omega (arith, l.invariant.4, c.change_size-cell.ensures.1))
 
 pub returns : goal.returns
 returns c =
     let a = c.args in
     let x = a.list.now.listed in
     let l = c.loop-passed in
-    run_ends x.coded.text.now x.coded.code.now x.firsts.now x.count a.calls.now a.rest.left a.rest.stop _ l.invariant.0 _ _ _ l.w _ _ _ [] l.place l.cell (a.rest.changes - l.passed)
+    run_ends x.coded.text.now x.coded.code.now x.firsts.now x.count a.memory.now.calls a.rest.left a.rest.stop _ l.invariant.0 _ _ _ l.w _ _ _ [] l.place l.cell (a.rest.changes - l.passed)
     l.invariant.1 l.invariant.2 _ _ (omega arith) c.append.ensures refl refl

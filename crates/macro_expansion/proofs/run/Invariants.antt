@@ -16,6 +16,6 @@ invariant-loop-passed l =
     let f = l.list.listed.firsts.now in
     let n = l.list.listed.count in
     (u : Writing) × Wrote u l.initial.w l.w l.initial.out l.out
-    × (rest_writes s c f n l.calls l.rest.left l.initial.place l.rest.stop l.initial.cell l.rest.changes
-    ≡ followed_by u (rest_writes s c f n l.calls l.rest.left l.place l.rest.stop l.cell (l.rest.changes - l.passed)))
+    × (rest_writes s c f n l.memory.calls l.rest.left l.initial.place l.rest.stop l.initial.cell l.rest.changes
+    ≡ followed_by u (rest_writes s c f n l.memory.calls l.rest.left l.place l.rest.stop l.cell (l.rest.changes - l.passed)))
     × (l.place < half) × (l.cell + widest * (l.rest.changes - l.passed) < reach)

@@ -1,8 +1,6 @@
 -- `macro_expansion::write_change` meets its contract.
 use native.Mathlib.Omega.{arith}
-use Prim.Native.Nat.{◌-◌}
-use Rattle.macros.specs.Expansion.{levels}
-use Rattle.macro_memory.specs.MemoryLaws.{remembers-stays, remembers-nested}
+use Rattle.macro_memory.specs.MemoryLaws.{remembers-stays}
 use Rattle.macro_expansion.specs.ExpandLaws.{change-enters}
 use Rattle.macro_expansion.proofs.write_change.Goals as goal
 
@@ -10,10 +8,16 @@ pub returns-in_default : goal.returns-in_default
 returns-in_default c =
     let a = c.args in
     let k = c.meet-step.ensures.passed c.in_default.is in
-    (k, remembers-stays a.list.now.listed.coded.text.now a.list.now.listed.coded.code.now a.list.now.listed.firsts.now a.list.now.listed.count a.calls.now _ a.v c.meet-step.result.state _ _ c.requires.1.remembers k)
+    (k, remembers-stays a.list.now.listed.coded.text.now a.list.now.listed.coded.code.now a.list.now.listed.firsts.now a.list.now.listed.count a.memory.now.slots _ a.v c.meet-step.result.state _ _ c.requires.1.remembers k)
 
 pub overflow_sub-left : goal.overflow_sub-left
 overflow_sub-left c = (c.meet-step.ensures.enters _ c.in-Some.is).deeper
+
+pub keep_call-requires : goal.keep_call-requires
+keep_call-requires c =
+    let e = c.meet-step.ensures.enters _ c.in-Some.is in
+    let t = c.meet-step.ensures.there _ c.in-Some.is in
+    (omega (arith, e.deeper, c.requires.1.most), omega (arith, t, c.args.list.now.known.cells))
 
 pub expand_body-requires : goal.expand_body-requires
 expand_body-requires c =
@@ -26,10 +30,7 @@ expand_body-requires c =
       record {
         most = omega (arith, p.most);
         count = omega (arith, k.most, k.size);
-        room = omega (arith, p.room);
-        remembers = remembers-nested a.list.now.listed.coded.text.now a.list.now.listed.coded.code.now a.list.now.listed.firsts.now a.list.now.listed.count a.calls.now _ (levels - a.at.left) a.at.cell c.meet-step.result.state
-            (omega (arith, e.deeper, p.most)) c.keep_call.ensures
-            (remembers-stays a.list.now.listed.coded.text.now a.list.now.listed.coded.code.now a.list.now.listed.firsts.now a.list.now.listed.count a.calls.now _ a.v c.meet-step.result.state _ _ p.remembers k);
+        remembers = rw c.keep_call.ensures.2 (remembers-stays a.list.now.listed.coded.text.now a.list.now.listed.coded.code.now a.list.now.listed.firsts.now a.list.now.listed.count a.memory.now.slots _ a.v c.meet-step.result.state _ _ p.remembers k);
       },
     )
 
@@ -38,7 +39,7 @@ returns c =
     let a = c.args in
     let p = c.requires.1 in
     let e = c.meet-step.ensures.enters _ c.in-Some.is in (
-      change-enters a.list.now.listed.coded.text.now a.list.now.listed.coded.code.now a.list.now.listed.firsts.now a.list.now.listed.count a.calls.now _ _ a.at.left a.at.cell c.in-Some.body a.v c.meet-step.result.state
-          c.expand_body.result _ _ _ p.most (omega (arith, e.deeper, p.room, p.most)) c.keep_call.ensures e (c.meet-step.ensures.waits _ c.in-Some.is) c.expand_body.ensures,
+      change-enters a.list.now.listed.coded.text.now a.list.now.listed.coded.code.now a.list.now.listed.firsts.now a.list.now.listed.count a.memory.now.calls _ _ a.at.left a.at.cell c.in-Some.body a.v c.meet-step.result.state
+          c.expand_body.result _ _ _ p.most c.keep_call.ensures.1 c.keep_call.ensures.0 e (c.meet-step.ensures.waits _ c.in-Some.is) c.expand_body.ensures,
       c.expand_body.ensures.remembers,
     )

@@ -27,10 +27,10 @@ loop-t-smaller c = let k = c.next_item.ensures.some _ c.in-Some.is in omega (ari
 
 pub loop-t-preserved : goal.loop-t-preserved
 loop-t-preserved c = let k = c.next_item.ensures.some _ c.in-Some.is in
-    elim c.else-named.branch [
+    rw c.is-named.ensures (elim c.else-named.branch [
       | else-named-via-then-named+else-is_word w ↦ comparing-on c.loop-t.invariant k.found k.there c.byte_at.ensures c.ends_header.ensures c.if-ends_header.false w.is_word.ensures (rw (w.if-named.true, w.if-is_word.false) refl)
       | else-named-via-else-named w ↦ comparing-on c.loop-t.invariant k.found k.there c.byte_at.ensures c.ends_header.ensures c.if-ends_header.false refl (rw w.if-named.false refl)
-    ]
+    ])
 
 pub returns : goal.returns
 returns c = let k = c.next_item.ensures.none c.in_default.is in compared-none c.loop-t.invariant k.found k.none

@@ -1,8 +1,11 @@
 -- `macro_marks::is_word` meets its contract.
-use mathlib.Core.Path.{sym}
-use borrow.Author.Tests.{eq-eqb}
-use Rattle.lexer.proofs.Finding.{word-chars}
+use mathlib.Core.Path.{sym, ◌∙◌}
+use Rattle.lexer.proofs.Finding.{word-chars, one_sort}
+use Rattle.std.specs.Prelude.{Some}
+use Rattle.scanner.specs.declared.Sort.{Sort}
 use Rattle.macro_marks.proofs.is_word.Goals as goal
 
-pub returns-then-t-eq-WORD : goal.returns-then-t-eq-WORD
-returns-then-t-eq-WORD c = rw (eq-eqb _ _ (sym c.if-t-eq-WORD.true), word-chars c.args.text.now c.args.t c.if-t-eq-WORD.true) c.eq.ensures
+pub returns-then-is : goal.returns-then-is
+returns-then-is c =
+    let e = sym c.is.ensures ∙ c.if-is.true in
+    rw (e, word-chars c.args.text.now c.args.t (one_sort (Some Sort.Word) c.args.t.sort e)) c.eq.ensures

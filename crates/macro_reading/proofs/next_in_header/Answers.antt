@@ -3,9 +3,6 @@ use mathlib.Core.Path.{sym, ◌∙◌}
 use Rattle.macro_reading.proofs.Heading.{before-off, before-on}
 use Rattle.macro_reading.proofs.next_in_header.Goals as goal
 
-pub is_bracket-requires : goal.is_bracket-requires
-is_bracket-requires c = (c.next_element.ensures.some c.in_ok-t.t c.in_ok-t.was).held.sorted
-
 pub returns-then-is_bracket : goal.returns-then-is_bracket
 returns-then-is_bracket c = before-off (c.next_element.ensures.some c.in_ok-t.t c.in_ok-t.was) (sym (c.is_bracket.ensures c.args.source.now.text.now) ∙ c.if-is_bracket.true)
 

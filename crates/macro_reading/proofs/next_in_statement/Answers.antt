@@ -1,9 +1,10 @@
 -- `macro_reading::next_in_statement` meets its contract.
-use Rattle.macro_reading.proofs.Ending.{statement-off, statement-on}
+use mathlib.Core.Path.{sym, ◌∙◌}
+use Rattle.macro_reading.proofs.Heading.{before-off, before-on}
 use Rattle.macro_reading.proofs.next_in_statement.Goals as goal
 
-pub returns-then-t-eq-END : goal.returns-then-t-eq-END
-returns-then-t-eq-END c = statement-off (c.next_element.ensures.some c.in_ok-t.t c.in_ok-t.was) c.if-t-eq-END.true
+pub returns-then-is : goal.returns-then-is
+returns-then-is c = before-off (c.next_element.ensures.some c.in_ok-t.t c.in_ok-t.was) (sym c.is.ensures ∙ c.if-is.true)
 
 pub returns : goal.returns
-returns c = statement-on (c.next_element.ensures.some c.in_ok-t.t c.in_ok-t.was) c.if-t-eq-END.false
+returns c = before-on (c.next_element.ensures.some c.in_ok-t.t c.in_ok-t.was) (sym c.is.ensures ∙ c.if-is.false)

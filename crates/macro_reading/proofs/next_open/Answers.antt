@@ -3,9 +3,6 @@ use mathlib.Core.Path.{sym, ◌∙◌}
 use Rattle.macro_reading.proofs.Defining.{open-on, open-off}
 use Rattle.macro_reading.proofs.next_open.Goals as goal
 
-pub is_mark-requires : goal.is_mark-requires
-is_mark-requires c = (c.next_element.ensures.some c.in_ok-t.t c.in_ok-t.was).held.sorted
-
 pub returns-then-is_mark : goal.returns-then-is_mark
 returns-then-is_mark c = open-on (c.next_element.ensures.some c.in_ok-t.t c.in_ok-t.was) (sym (c.is_mark.ensures c.args.source.now.text.now) ∙ c.if-is_mark.true)
 

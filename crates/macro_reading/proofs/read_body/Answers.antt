@@ -14,5 +14,5 @@ put-requires c =
 pub returns : goal.returns
 returns c =
     let e : c.map_or-stop.result ≡ at_or (length c.args.source.now.text.now) c.next_element-t.result = search rules in
-    let f : c.map_or.result ≡ next_or c.read_changes-r.result.next c.next_element-t.result = search rules in
+    let f : c.map_or.result ≡ next_or c.read_changes-r.result.passed.next c.next_element-t.result = search rules in
     rw (c.put-2.ensures, c.put.ensures, e, f, c.is_some.ensures) (body-done c.requires c.read_changes-r.ensures c.next_element-t.result c.next_element-t.ensures)

@@ -7,16 +7,16 @@ use Rattle.macro_reading.proofs.Enlisting.{step-least, listing_none, listing-kep
 use Rattle.macro_reading.proofs.read_definitions.Goals as goal
 
 pub loop-r-init : goal.loop-r-init
-loop-r-init c = listing_none c.requires
+loop-r-init c = rw c.nothing-passed.ensures (listing_none c.requires)
 
 pub loop-r-smaller : goal.loop-r-smaller
-loop-r-smaller c = let z = c.read_definition.ensures.defining _ c.in-Some.is in omega (arith, z.from_here, z.most, step-least c.in-Some.r.named)
+loop-r-smaller c = let z = c.read_definition.ensures.defining _ c.in-Some.is in rw c.and-passed.ensures (omega (arith, z.from_here, z.most, step-least c.in-Some.r.named))
 
 pub loop-r-preserved : goal.loop-r-preserved
 loop-r-preserved c =
     let k : c.from-k.result ≡ cond c.in-Some.r.named 1 0 = search rules in
     let e : c.if-r.q ≡ cond c.in-Some.r.named c.in-Some.r.used c.loop-r.q = search rules in
-    rw (e, c.lower-fault.ensures, k) (listing-on c.requires c.loop-r.invariant c.read_definition.ensures c.in-Some.is)
+    rw (e, c.and-passed.ensures, k) (listing-on c.requires c.loop-r.invariant c.read_definition.ensures c.in-Some.is)
 
 pub returns : goal.returns
 returns c =

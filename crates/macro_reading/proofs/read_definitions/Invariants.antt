@@ -5,7 +5,7 @@ use Rattle.macro_reading.specs.Definitions.{Listing}
 use Rattle.macro_reading.proofs.read_definitions.Given as goal
 
 abbrev pub invariant-loop-r : goal.invariant-loop-r
-invariant-loop-r l = Listing l.source.text.now l.initial.code l.initial.firsts l.code l.firsts l.n l.i l.q l.k l.defined l.fault
+invariant-loop-r l = Listing l.source.text.now l.initial.code l.initial.firsts l.code l.firsts l.n l.passed.next l.q l.k l.defined l.passed.fault
 
 abbrev pub decreases-loop-r : goal.decreases-loop-r
-decreases-loop-r l = length l.source.text.now - l.i
+decreases-loop-r l = length l.source.text.now - l.passed.next

@@ -5,7 +5,7 @@ use Rattle.macro_reading.specs.Sections.{Firsts}
 use Rattle.macro_reading.proofs.read_first.Given as goal
 
 abbrev pub invariant-loop-t : goal.invariant-loop-t
-invariant-loop-t l = Firsts l.source.text.now l.n l.i l.fault
+invariant-loop-t l = Firsts l.source.text.now l.n l.passed.next l.passed.fault
 
 abbrev pub decreases-loop-t : goal.decreases-loop-t
-decreases-loop-t l = length l.source.text.now - l.i
+decreases-loop-t l = length l.source.text.now - l.passed.next

@@ -5,7 +5,7 @@ use Rattle.macro_reading.specs.Headers.{Heading}
 use Rattle.macro_reading.proofs.read_header.Given as goal
 
 abbrev pub invariant-loop-t : goal.invariant-loop-t
-invariant-loop-t l = Heading l.source.text.now l.initial.code l.code l.n l.q l.i l.k l.first l.some l.fault
+invariant-loop-t l = Heading l.source.text.now l.initial.code l.code l.n l.q l.passed.next l.words l.first l.some l.passed.fault
 
 abbrev pub decreases-loop-t : goal.decreases-loop-t
-decreases-loop-t l = length l.source.text.now - l.i
+decreases-loop-t l = length l.source.text.now - l.passed.next

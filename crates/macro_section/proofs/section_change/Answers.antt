@@ -6,4 +6,4 @@ pub returns : goal.returns
 returns c =
     let l = c.args.list.now.listed in
     let k = c.write_change.ensures in
-    (rw (bare-change l.coded.text.now l.coded.code.now l.firsts.now l.count c.args.calls.now c.args.cell) at k.0, k.1)
+    (rw (bare-change l.coded.text.now l.coded.code.now l.firsts.now l.count c.args.memory.now.calls c.args.cell) at k.0, k.1)

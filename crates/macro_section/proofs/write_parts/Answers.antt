@@ -21,8 +21,7 @@ loop-passed-init c =
       rw e
           (overs-begin x.coded.text.now x.coded.code.now x.firsts.now x.count (length a.out.now) a.section c.high-place.result c.low-stop.result c.first_change-cell.result c.low-changes.result c.nothing-w.result
           (ap size_of c.nothing-w.ensures) (ap is_over c.nothing-w.ensures) c.high-place.ensures.0 c.low-stop.ensures.0 c.first_change-cell.ensures.0 c.low-changes.ensures.0 c.requires.2),
-      rw c.nothing-w.ensures c.requires.4,
-      refl,
+      rw c.nothing-w.ensures c.requires.3,
     )
 
 pub loop-passed-preserved : goal.loop-passed-preserved
@@ -49,7 +48,6 @@ loop-passed-preserved c =
           (rw c.unwrap_or-in-loop-passed.ensures at c.over_at-first.ensures) next.ensures.0
           (c.over_at-long.ensures ∙ ap (over_at c.over_at-first.result (is_over c.write_kept-kept.result) (is_over next.result)) c.high-start.ensures.0) c.low-place.ensures.0 c.change_size-cell.ensures.0),
       next.ensures.1,
-      (omega arith) ∙ i.7,
     )
 
 pub returns : goal.returns

@@ -21,4 +21,4 @@ invariant-loop-passed l =
     (each (origins (macros_in l.list.listed.coded.text.now l.list.listed.coded.code.now l.list.listed.firsts.now l.list.listed.count)) (body_in l.list.listed.coded.text.now l.list.listed.coded.code.now l.section)) l.initial.w l.w l.initial.out l.out l.places from l.place l.cell (l.changes - l.passed)
     × (length l.places ≡ length l.initial.places) × (l.place < half) × (l.cell + widest * (l.changes - l.passed) < reach)
     × Overs l.list.listed.coded.text.now l.list.listed.coded.code.now l.list.listed.firsts.now l.list.listed.count l.stop (length l.initial.out) (each (deep_places (macros_in l.list.listed.coded.text.now l.list.listed.coded.code.now l.list.listed.firsts.now l.list.listed.count)) (body_in l.list.listed.coded.text.now l.list.listed.coded.code.now l.section)) from l.w l.long l.place l.cell (l.changes - l.passed)
-    × Remembers l.list.listed.coded.text.now l.list.listed.coded.code.now l.list.listed.firsts.now l.list.listed.count l.calls l.w × (length l.calls ≡ length l.initial.calls)
+    × Remembers l.list.listed.coded.text.now l.list.listed.coded.code.now l.list.listed.firsts.now l.list.listed.count l.memory.slots l.w
