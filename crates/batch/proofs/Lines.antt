@@ -1,7 +1,7 @@
 -- The line of the current instruction, and how much is printed.
 use mathlib.Core.Path.{◌≡◌, refl, ap, sym, ◌∙◌}
 use mathlib.Core.List.{List, [], ◌∷◌}
-use Prim.Native.Nat.{ℕ, ◌+◌, ◌*◌, ◌%◌, ◌≤◌}
+use Prim.Native.Nat.{ℕ, ◌+◌, ◌*◌, ◌%◌, ◌≤◌, ◌<◌}
 use native.Mathlib.Omega.{arith}
 use lib.ListN.{length}
 use Rattle.language.specs.Limits as limit
@@ -14,7 +14,6 @@ use Rattle.layout.proofs.TableLaws.{table-facts}
 use Rattle.packed.specs.Packed.{table_of}
 use Rattle.table.specs.Good.{GoodInstruction}
 use Rattle.table.specs.GoodLaws.{good-instruction}
-use Rattle.table.specs.Reads.{Place}
 use Rattle.machine.specs.Runs.{ran}
 use Rattle.console.specs.Console.{end_line, ran_bytes}
 use Rattle.console.specs.Parts.{Put, EndRoom, answer_by}
@@ -26,8 +25,11 @@ module _ {c m : List ℕ} {number count long : ℕ} (e : Ended c m number count 
   current : GoodInstruction c k (cell (table_of c) (8 + 4 * k) % 64)
   current = good-instruction c e.good k (rw n.is e.next) (cell (table_of c) (8 + 4 * k) % 64) refl
 
-  pub line-place : Place c k 512
-  line-place = record { long = (table-facts c e.good).long; below = current.few }
+  pub table-long : limit.table ≤ length c
+  table-long = (table-facts c e.good).long
+
+  pub line-place : k < 512
+  line-place = current.few
 
   module _ {l : ℕ} (r : Number (instr_in (table_of c) k).line 67108864 l) where
     pub line_is : l ≡ (instr_at (program_of c) (state_of m).next).line

@@ -10,6 +10,7 @@ ghost use Rattle.console.specs.Parts.{Put, answer_by};
 ghost use Rattle.batch.specs.Printed.{Ended, table_bytes};
 
 use language::Machine;
+use table::Table;
 
 // "It runs 100,000 steps."
 const BUDGET: u32 = 100_000;
@@ -39,7 +40,7 @@ fn print_run(table: &[u32], state: &[u8], number: usize, count: usize, out: &mut
 {
     let a = console::put(out, 0, viewing::output(state));
     let b = console::put(out, a, b"\n");
-    let line = table::line(table, viewing::next(state));
+    let line = Table { cells: table }.line(viewing::next(state));
     console::put_end(out, b, number, line, count)
 }
 

@@ -1,6 +1,6 @@
 -- "Here, in 2.6, 2.7 and 2.13 a call that fills a buffer gives its number, 80 if accepted, and the count of bytes written." What such a call
 -- answers, and what it leaves in the lent buffer.
-use Rattle.std.specs.Prelude.{◌≡◌, Result, Ok, Err, List, ◌++◌, ℕ, length, drop}
+use Rattle.std.specs.Prelude.{◌≡◌, Result, Ok, Err, cond, List, ◌++◌, ℕ, eqb, length, drop}
 use Rattle.calls.specs.Calls.{packed}
 use Rattle.calls.specs.declared.Refused.{Refused}
 
@@ -52,3 +52,16 @@ pub record Gives (x : Filling) (r : Filled) (b b' : List ℕ) : Type 0 where
   pub result_is : r ≡ filled_of x
   pub number_is : filled_number r ≡ filling_number x
   pub cells_are : b' ≡ filled_in x b
+
+-- ---- the same of a call that fills none
+
+abbrev pub Taken : Type 0
+Taken = Result (Unit {0}) Refused
+
+abbrev pub taken_number : Taken → ℕ
+taken_number (Ok u) = 80
+taken_number (Err r) = r.number
+
+-- what is told by a number, 80 if accepted
+abbrev pub taken_with : ℕ → Taken
+taken_with n = cond (eqb n 80) (Ok tt) (Err (record { number = n }))

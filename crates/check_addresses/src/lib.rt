@@ -1,7 +1,7 @@
 // Addresses of records: collected from the strings of files, and all different. "Records' addresses from 1 and distinct".
 #![tactic(auto)]
 
-ghost use Rattle.std.specs.Prelude.{◌≡◌, ◌<◌, eqb, length};
+ghost use Rattle.std.specs.Prelude.{◌≡◌, eqb, length};
 ghost use Rattle.lists.specs.Lists.{any};
 ghost use Rattle.machine.specs.WellFormed.{different};
 ghost use Rattle.check_addresses.specs.Collected.{Collectable, Collected};
@@ -31,18 +31,17 @@ pub fn are_different(list: &[u32]) -> bool
 }
 
 // Writes the addresses of the records of `b` into `list` behind the first `n`, and tells how many there are then. The memory is lent, so the count
-// stands beside it; `records` tells where a record ends, and no method of std walks so.
+// stands beside it.
 pub fn collect(b: &[u8], list: &mut [u32], n: usize) -> usize
     requires { Collectable b.now (length list.old) n }
     ensures { Collected b.now list.old n list.new result }
 {
     let mut k = n;
-    let mut at = 0;
-    while at < b.len() {
-        let e = records::end_of(b, at);
-        list[k] = records::address_at(b, at) as u32;
+    let mut left = b;
+    while let Some((r, rest)) = records::split_record(left) {
+        list[k] = records::address_of(r) as u32;
         k += 1;
-        at = e;
+        left = rest;
     }
     k
 }

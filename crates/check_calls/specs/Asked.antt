@@ -3,6 +3,7 @@ use Rattle.std.specs.Prelude.{cond, List, ℕ, Result, Ok, Err}
 use Rattle.language.specs.Values.{Inputs}
 use Rattle.layout.specs.Table.{good_table}
 use Rattle.machine.specs.WellFormed.{good_inputs}
+use Rattle.calls.specs.declared.Refused.{Refused}
 use Rattle.check_calls.specs.declared.Question.{Question}
 use Rattle.check_calls.specs.declared.Question.TheVariants as code
 
@@ -14,6 +15,10 @@ question_number code.Table = 62
 abbrev pub told_by : {X : Type 0} → Result X Question → ℕ
 told_by (Ok u) = 0
 told_by (Err q) = question_number q
+
+-- what a call tells of the question answered no
+abbrev pub refused_by : Question → Refused
+refused_by q = record { number = question_number q }
 
 -- the number of the first that is answered no: 62 of the table, then 61 of the inputs; 0 where there is none
 abbrev pub first_no : List ℕ → Inputs → ℕ

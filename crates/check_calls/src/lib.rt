@@ -4,6 +4,8 @@
 ghost use Rattle.std.specs.Prelude.{◌≡◌, [], ◌∷◌};
 ghost use Rattle.check_calls.specs.Asked.{told_by, first_no};
 
+use calls::Refused;
+
 // The questions, by the numbers that the C interface has for them.
 #[derive(Clone, Copy, PartialEq, Eq)]
 pub enum Question {
@@ -19,6 +21,20 @@ impl From<Question> for u8 {
 
     fn from(q: Question) -> u8 {
         q as u8
+    }
+}
+
+// What a call tells of it.
+impl From<Question> for Refused {
+    ghost use Rattle.std.specs.Prelude.{◌≡◌};
+    ghost use Rattle.check_calls.specs.Asked.{refused_by};
+
+    ghost from_gives = { λ q r. r ≡ refused_by q };
+
+    fn from(q: Question) -> Refused {
+        Refused {
+            number: u8::from(q),
+        }
     }
 }
 

@@ -5,13 +5,14 @@ ghost use Rattle.std.specs.Prelude.{◌≡◌, cond, ◌+◌, ◌*◌, ◌%◌, 
 ghost use Rattle.forms.specs.Forms.{ends};
 ghost use Rattle.layout.specs.Cells.{cell};
 ghost use Rattle.packed.specs.Packed.{table_of};
-ghost use Rattle.table.specs.Reads.{Place};
+ghost use Rattle.check_parts.specs.Places.{Place};
 ghost use Rattle.check_parts.specs.Parts.{passes, index_top, letter_fits, takes, list_takes, lists_take, head_fits, arg_fits, form_bit, instr_fits};
 ghost use Rattle.language.specs.Limits as limit;
 ghost use Rattle.layout.specs.Places.{first_switch};
 
+use forms::Forms;
 use language::{Machine, Operator};
-use layout::{ArgumentKinds, TablePlaces};
+use layout::{ArgumentKind, TablePlaces};
 
 // How far the index of the letter at a place goes: I and Q to 2, the others to 32.
 fn index_top(place: usize) -> usize
@@ -31,79 +32,79 @@ fn letter_fits(v: usize) -> bool
 }
 
 // Whether the argument in a cell `x` is in range.
-#[tactic(auto, unfolding(check_parts::specs::Parts::arg_fits))]
+#[tactic(auto, using(crate::proofs::ByKind::arg_by), unfolding(check_parts::specs::Parts::arg_fits))]
 fn arg_fits(table: &[u32], x: usize) -> bool
     requires { limit.table ≤ length table.now }
     ensures { result ≡ arg_fits (table_of table.now) x }
 {
     let v = x / 8;
-    match x % 8 {
-        ArgumentKinds::LETTER => letter_fits(v),
-        ArgumentKinds::LABEL => v < check_parts::read(table, TablePlaces::LABEL_COUNT),
-        ArgumentKinds::SWITCH => v < check_parts::read(table, TablePlaces::SWITCH_COUNT),
-        ArgumentKinds::CLASS => (0 < v) & (v < 16),
-        ArgumentKinds::TEXT => check_parts::ref_fits(table, v),
-        ArgumentKinds::NUMBER => v < 31 + check_parts::read(table, TablePlaces::NUMBER_COUNT),
-        _ => x == 0,
+    match ArgumentKind::try_from(x % 8) {
+        Ok(ArgumentKind::Letter) => letter_fits(v),
+        Ok(ArgumentKind::Label) => v < check_parts::read(table, TablePlaces::LABEL_COUNT),
+        Ok(ArgumentKind::Switch) => v < check_parts::read(table, TablePlaces::SWITCH_COUNT),
+        Ok(ArgumentKind::Class) => (0 < v) & (v < 16),
+        Ok(ArgumentKind::Text) => check_parts::ref_fits(table, v),
+        Ok(ArgumentKind::Number) => v < 31 + check_parts::read(table, TablePlaces::NUMBER_COUNT),
+        Ok(ArgumentKind::Nothing) | Err(_) => x == 0,
     }
 }
 
-// The set of the letter at a place; the empty set, 0, where there is none.
-fn letter_bit(place: usize) -> u32
-    ensures { result ≡ cond (ltb place 12) (2 ^ place) 0 }
+// The set of the letter at a place, empty where there is none.
+fn letter_form(place: usize) -> Forms
+    ensures { result.bits ≡ cond (ltb place 12) (2 ^ place) 0 }
 {
     if place < 12 {
-        return forms::letter_bit(place as u8);
+        return Forms::letter(place as u8);
     }
-    0
+    Forms::EMPTY
 }
 
-fn switch_bit(table: &[u32], v: usize) -> u32
+fn switch_form(table: &[u32], v: usize) -> Forms
     requires { Place table.now v 536870912 }
-    ensures { result ≡ cond (eqb (cell (table_of table.now) (first_switch + v) % 2) 1) 65536 131072 }
+    ensures { result.bits ≡ cond (eqb (cell (table_of table.now) (first_switch + v) % 2) 1) 65536 131072 }
 {
     if check_parts::read(table, TablePlaces::FIRST_SWITCH + v) % 2 == 1 {
-        return forms::NAZWA;
+        return Forms::NAZWA;
     }
-    forms::INDEKS
+    Forms::INDEKS
 }
 
 // The set of the form of the argument in a cell `x`.
-#[tactic(auto, unfolding(check_parts::specs::Parts::form_bit))]
-fn form_bit(table: &[u32], x: usize) -> u32
+#[tactic(auto, using(crate::proofs::ByKind::form_by), unfolding(check_parts::specs::Parts::form_bit))]
+fn form_of(table: &[u32], x: usize) -> Forms
     requires { Place table.now x 4294967296 }
-    ensures { result ≡ form_bit (table_of table.now) x }
+    ensures { result.bits ≡ form_bit (table_of table.now) x }
 {
     let v = x / 8;
-    match x % 8 {
-        ArgumentKinds::LETTER => letter_bit(v / 64),
-        ArgumentKinds::LABEL => forms::LABEL,
-        ArgumentKinds::SWITCH => switch_bit(table, v),
-        ArgumentKinds::CLASS => forms::CLASS,
-        ArgumentKinds::TEXT => forms::TEXT,
-        ArgumentKinds::NUMBER => forms::NUMBER,
-        _ => forms::NOTHING,
+    match ArgumentKind::try_from(x % 8) {
+        Ok(ArgumentKind::Letter) => letter_form(v / 64),
+        Ok(ArgumentKind::Label) => Forms::LABEL,
+        Ok(ArgumentKind::Switch) => switch_form(table, v),
+        Ok(ArgumentKind::Class) => Forms::CLASS,
+        Ok(ArgumentKind::Text) => Forms::TEXT,
+        Ok(ArgumentKind::Number) => Forms::NUMBER,
+        Ok(ArgumentKind::Nothing) | Err(_) => Forms::NOTHING,
     }
 }
 
 // Whether a set of forms has one that an instruction's list has at a place.
 #[tactic(auto, unfolding(check_parts::specs::Parts::takes))]
-fn takes(set: u32, op: u8, list: u8, place: u8) -> bool
-    ensures { result ≡ takes set op list place }
+fn takes(set: Forms, op: u8, list: u8, place: u8) -> bool
+    ensures { result ≡ takes set.bits op list place }
 {
-    set & forms::forms_at(op, list, place) != 0
+    set.meets(forms::forms_at(op, list, place))
 }
 
 // Three sets, a line each: an array would add a loop.
-fn list_takes(op: u8, a: u32, b: u32, d: u32, list: u8) -> bool
-    ensures { result ≡ list_takes op a b d list }
+fn list_takes(op: u8, a: Forms, b: Forms, d: Forms, list: u8) -> bool
+    ensures { result ≡ list_takes op a.bits b.bits d.bits list }
 {
     takes(a, op, list, 0) & takes(b, op, list, 1) & takes(d, op, list, 2)
 }
 
 #[tactic(auto, unfolding(check_parts::specs::Parts::lists_take))]
-fn lists_take(op: u8, a: u32, b: u32, d: u32) -> bool
-    ensures { result ≡ lists_take op a b d }
+fn lists_take(op: u8, a: Forms, b: Forms, d: Forms) -> bool
+    ensures { result ≡ lists_take op a.bits b.bits d.bits }
 {
     list_takes(op, a, b, d, 0) | list_takes(op, a, b, d, 1)
 }
@@ -131,9 +132,9 @@ fn instr_fits(table: &[u32], i: usize) -> bool
         & arg_fits(table, d)
         & lists_take(
             (x % 64) as u8,
-            form_bit(table, a),
-            form_bit(table, b),
-            form_bit(table, d),
+            form_of(table, a),
+            form_of(table, b),
+            form_of(table, d),
         )
 }
 

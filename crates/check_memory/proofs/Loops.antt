@@ -1,14 +1,7 @@
 -- The turns of the loops over the strings of expressions and files.
 use Rattle.std.specs.declared.ops.Range.{Range}
 use denote.Param.Members.{Mut}
-use Rattle.std.specs.List.{list_all, range_with_len, FoldsTo}
-use Rattle.std.specs.Fn.{Called}
-use Rattle.std.specs.Iterator.{YieldsThen}
-use Rattle.std.specs.Option.{MatchOption}
-use Rattle.std.specs.Prelude.{Option}
-use Rattle.std.proofs.iter.Yields.{nat_range_steps}
-use Rattle.std.proofs.lemmas.Iterator.{YieldsList-from_range}
-use Rattle.std.proofs.lemmas.Iterator.Search.{all_from_yields_List}
+use Rattle.std.specs.List.{list_all, range_with_len}
 use mathlib.Core.Path.{◌≡◌, refl, sym, ap, ◌∙◌, subst}
 use mathlib.Core.Bool.{Bool, true, false, ◌&&◌, and-true, and-false}
 use mathlib.Core.List.{List, [], ◌∷◌, ◌++◌, append-nil, append_assoc}
@@ -29,6 +22,7 @@ use Rattle.layout.specs.Components.{components_in, records_in, addresses_in}
 use Rattle.layout.specs.Places as layout
 use Rattle.lists.specs.ListLaws.{total-split}
 use Rattle.lists.specs.Lists.{total, all, each}
+use Rattle.lists.specs.RangeLaws.{AllRan, TestsBy, all_in_range}
 use Rattle.machine.specs.Arguments.{everything}
 use Rattle.machine.specs.WellFormed.{different}
 use Rattle.matching.specs.declared.Taken.{Taken}
@@ -88,11 +82,8 @@ module _ {X : Type 0} (d : X) (f : ℕ → Bool) (p : X → Bool) where
         let e : list_all f (range_with_len 0 (length xs)) ≡ all p xs = all_from xs 0 (λ i h. let z : 0 + i ≡ i = omega arith in ap f z ∙ same i (omega (arith, h, long))) in
         ap (λ k. list_all f (range_with_len 0 k)) (sym long) ∙ e
 
-    pub tests_all : {F : Type 0} {g : Mut F (ℕ × Unit {0}) Bool} (u : Range ℕ) (closure : F) (r : Bool)
-        → (ys : List ℕ) × (o : Option ℕ) × (j : F) × YieldsThen nat_range_steps (record { start = 0; end = n }) ys o u × FoldsTo (λ q x k. Called g q (x, tt) true k) closure ys j × MatchOption o (r ≡ true) (λ x. (r ≡ false) × ((h : F) × Called g j (x, tt) false h))
-        → ((x : ℕ) (b : Bool) (q : F) → Called g closure (x, tt) b q → (q ≡ closure) × (b ≡ f x))
-        → r ≡ all p xs
-    tests_all u closure r ran is = all_from_yields_List f u closure r ran (YieldsList-from_range 0 n n refl (omega arith)) is ∙ tests
+    pub tests_all : {F : Type 0} {g : Mut F (ℕ × Unit {0}) Bool} (u : Range ℕ) (closure : F) (r : Bool) → AllRan g closure 0 n u r → TestsBy g closure f → r ≡ all p xs
+    tests_all u closure r ran is = all_in_range f 0 n n (omega arith) u closure r ran is ∙ tests
 
 module _ {m : List ℕ} {i : ℕ} {r : List ℕ} where
   pub lent-expression : i < 32 → StringLent m i r → r ≡ get_or (expressions m) i []

@@ -1,14 +1,8 @@
 -- Laws of tests that pass for all numbers of a run: the turns of a loop, and the same tests of a list by its index.
 use Rattle.std.specs.declared.ops.Range.{Range}
 use denote.Param.Members.{Mut}
-use Rattle.std.specs.List.{list_all, range_with_len, FoldsTo}
-use Rattle.std.specs.Fn.{Called}
-use Rattle.std.specs.Iterator.{YieldsThen}
-use Rattle.std.specs.Option.{MatchOption}
-use Rattle.std.proofs.iter.Yields.{nat_range_steps}
-use Rattle.std.proofs.lemmas.Iterator.{YieldsList-from_range}
-use Rattle.std.proofs.lemmas.Iterator.Search.{all_from_yields_List}
-use Rattle.std.specs.Prelude.{◌≡◌, Bool, ◌&&◌, ◌||◌, List, Option}
+use Rattle.std.specs.List.{list_all, range_with_len}
+use Rattle.std.specs.Prelude.{◌≡◌, Bool, ◌&&◌, ◌||◌}
 use Rattle.std.proofs.Math.Path.{refl, subst}
 use Rattle.std.proofs.Common.{sym, ap, ◌∙◌}
 use Rattle.std.proofs.Math.Bool.{true, false, not}
@@ -18,6 +12,7 @@ use native.Mathlib.Omega.{arith}
 use Rattle.std.proofs.Math.Dec.{T}
 use Rattle.lists.specs.ListLaws.{T-left, T-right, T-both}
 use Rattle.lists.specs.Lists.{all, any}
+use Rattle.lists.specs.RangeLaws.{AllRan, TestsBy, all_in_range}
 use Rattle.machine.specs.WellFormed.{different}
 use Rattle.layout.specs.Cells.{tab}
 use Rattle.check_parts.specs.Parts.{passes}
@@ -58,10 +53,8 @@ passes_range f zero k = refl
 passes_range f (suc n) k = let e : k + 1 ≡ suc k = omega arith in rw (e, passes_range f n (suc k))
 
 pub passes_all : {F : Type 0} {g : Mut F (ℕ × Unit {0}) Bool} (f : ℕ → Bool) (k m n : ℕ) → m - k ≡ n → (u : Range ℕ) (closure : F) (r : Bool)
-    → (xs : List ℕ) × (o : Option ℕ) × (j : F) × YieldsThen nat_range_steps (record { start = k; end = m }) xs o u × FoldsTo (λ p x q. Called g p (x, tt) true q) closure xs j × MatchOption o (r ≡ true) (λ x. (r ≡ false) × ((h : F) × Called g j (x, tt) false h))
-    → ((x : ℕ) (b : Bool) (q : F) → Called g closure (x, tt) b q → (q ≡ closure) × (b ≡ f x))
-    → r ≡ passes f n k
-passes_all f k m n e u closure r ran is = all_from_yields_List f u closure r ran (YieldsList-from_range k m n refl e) is ∙ passes_range f n k
+    → AllRan g closure k m u r → TestsBy g closure f → r ≡ passes f n k
+passes_all f k m n e u closure r ran is = all_in_range f k m n e u closure r ran is ∙ passes_range f n k
 
 -- ---- what passes for all passes for each
 

@@ -7,7 +7,7 @@ ghost use Rattle.cells.specs.Cells.{Number};
 ghost use Rattle.characters.specs.Characters.{known_marks};
 ghost use Rattle.layout.specs.Cells.{cell};
 ghost use Rattle.packed.specs.Packed.{table_of};
-ghost use Rattle.table.specs.Reads.{Place};
+ghost use Rattle.check_parts.specs.Places.{Place};
 ghost use Rattle.check_parts.specs.Parts.{zeros, char, char_fits, chars_fit, text_fits, texts_same, number_fits, label_fits, ref_fits, entry_fits};
 ghost use Rattle.language.specs.Limits as limit;
 

@@ -22,7 +22,6 @@ use Rattle.machine.proofs.WellFormedLaws.{open-program}
 use Rattle.packed.specs.Packed.{table_of}
 use Rattle.table.specs.GoodLaws.{good-instruction}
 use Rattle.table.specs.ReadLaws.{code_count}
-use Rattle.table.specs.Reads.{Place}
 
 pred-is : (n : ℕ) → pred n ≡ n - 1
 pred-is zero = refl
@@ -55,8 +54,8 @@ module _ (c : List ℕ) (good : T (good_table c)) where
         let e : instr_at p (n - 1) ≡ no_instr = get_or-eq_default p.code no_instr {n = n - 1} (omega (arith, code_is q)) in
         sym (is-return ∙ ap (λ (x : Instr). is_call (operation x.op).flow) e)
 
-    pub place : n - 1 < k → Place c (n - 1) 512
-    place h = record { long = table-long; below = omega (arith, code_is q, (open-program p (table-facts c good).good).code_short) }
+    pub place : n - 1 < k → n - 1 < 512
+    place h = omega (arith, code_is q, (open-program p (table-facts c good).good).code_short)
 
     pub return-is : n - 1 < k → {o : ℕ} → Number (cell (table_of c) (layout.first_instruction + 4 * (n - 1)) % 64) 64 o → {r : Bool} → r ≡ calls o → r ≡ good_return p n
     return-is h {o} w {r} x =

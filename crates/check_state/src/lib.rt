@@ -12,41 +12,42 @@ ghost use Rattle.check_state.specs.Asked.{Asked, Workable, passes};
 use check_memory::Memory;
 use language::Machine;
 use layout::StatePlaces;
+use table::Table;
 
 // A table and the two inputs, which every call is lent.
 #[derive(Clone, Copy)]
 struct Lent<'a> {
-    table: &'a [u32],
+    table: Table<'a>,
     first: &'a [u8],
     second: &'a [u8],
 }
 
 // Whether an entry of the stack stands just after a call.
-fn is_return(table: &[u32], n: usize) -> bool
-    requires { T (good_table table.now) }
-    ensures { result ≡ good_return (program_of table.now) n }
+fn is_return(table: Table, n: usize) -> bool
+    requires { T (good_table table.cells.now) }
+    ensures { result ≡ good_return (program_of table.entry.cells.now) n }
 {
     if n == 0 {
         return false;
     }
     let i = n - 1;
-    if table::instructions(table) <= i {
+    if table.instructions() <= i {
         return false;
     }
-    forms::is_call(table::operator(table, i))
+    forms::is_call(table.operator(i))
 }
 
-fn are_returns(table: &[u32], s: &[u8]) -> bool
-    requires { T (good_table table.now) }
-    ensures { result ≡ all (good_return (program_of table.now)) (twos_in s.now) }
+fn are_returns(table: Table, s: &[u8]) -> bool
+    requires { T (good_table table.cells.now) }
+    ensures { result ≡ all (good_return (program_of table.entry.cells.now)) (twos_in s.now) }
 {
     (0..s.len() / 2).all(|k| is_return(table, cells::two_at(s, 2 * k)))
 }
 
 // An even count of cells, at most two for each place of the stack.
-fn is_stack(table: &[u32], s: &[u8]) -> bool
-    requires { T (good_table table.now) }
-    ensures { result ≡ sound_stack (program_of table.now) s.now }
+fn is_stack(table: Table, s: &[u8]) -> bool
+    requires { T (good_table table.cells.now) }
+    ensures { result ≡ sound_stack (program_of table.entry.cells.now) s.now }
 {
     (s.len() % 2 == 0) & (s.len() <= 2 * Machine::STACK) & are_returns(table, s)
 }
@@ -59,8 +60,8 @@ fn is_output(s: &[u8]) -> bool
 
 // Whether stack, outputs, read places and next instruction fit the program and the inputs.
 fn is_fitting(lent: Lent, memory: &Memory) -> bool
-    requires { T (good_table lent.table.now) }
-    ensures { result ≡ fitting (program_of lent.entry.table.now) lent.entry.first.now lent.entry.second.now memory.now }
+    requires { T (good_table lent.table.cells.now) }
+    ensures { result ≡ fitting (program_of lent.entry.table.cells.now) lent.entry.first.now lent.entry.second.now memory.now }
 {
     let m = memory.cells();
     is_stack(lent.table, memory.string(StatePlaces::STACK_STRING))
@@ -68,13 +69,13 @@ fn is_fitting(lent: Lent, memory: &Memory) -> bool
             & is_output(memory.string(StatePlaces::SECOND_OUTPUT)))
         & ((cells::three_at(m, StatePlaces::FIRST_PLACE_CELL) <= lent.first.len())
             & (cells::three_at(m, StatePlaces::SECOND_PLACE_CELL) <= lent.second.len()))
-        & (cells::three_at(m, StatePlaces::NEXT_CELL) < table::instructions(lent.table))
+        & (cells::three_at(m, StatePlaces::NEXT_CELL) < lent.table.instructions())
 }
 
 // The tests in their order. `starts` and `list` are for the starts of the strings and the addresses of the records.
 fn is_passed(lent: Lent, m: &[u8], starts: &mut [u32], list: &mut [u32]) -> bool
-    requires { Workable lent.table.now m.now (length starts.old) (length list.old) }
-    ensures { result ≡ passes lent.entry.table.now lent.entry.first.now lent.entry.second.now m.now }
+    requires { Workable lent.table.cells.now m.now (length starts.old) (length list.old) }
+    ensures { result ≡ passes lent.entry.table.cells.now lent.entry.first.now lent.entry.second.now m.now }
 {
     let end = check_memory::starts_of(m, starts);
     if !check_memory::is_laid(m, end) {
@@ -93,7 +94,7 @@ fn is_passed(lent: Lent, m: &[u8], starts: &mut [u32], list: &mut [u32]) -> bool
     is_fitting(lent, &memory)
 }
 
-pub fn is_state(table: &[u32], i1: &[u8], i2: &[u8], state: &[u8]) -> bool
+pub fn is_state<'a>(table: &'a [u32], i1: &'a [u8], i2: &'a [u8], state: &[u8]) -> bool
     requires { Asked table.now i1.now i2.now }
     ensures { result ≡ good_memory (program_of table.now) (i1.now ∷ i2.now ∷ []) state.now }
 {
@@ -103,7 +104,7 @@ pub fn is_state(table: &[u32], i1: &[u8], i2: &[u8], state: &[u8]) -> bool
     let mut starts = [0u32; StatePlaces::STRINGS_COUNT];
     let mut list = [0u32; Machine::RECORDS];
     let lent = Lent {
-        table,
+        table: Table { cells: table },
         first: i1,
         second: i2,
     };

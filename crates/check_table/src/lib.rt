@@ -5,7 +5,8 @@ ghost use Rattle.std.specs.Prelude.{◌≡◌, ◌+◌, ◌*◌, ◌-◌, ◌<�
 ghost use Rattle.cells.specs.Cells.{Number};
 ghost use Rattle.layout.specs.Table.{good_table};
 ghost use Rattle.packed.specs.Packed.{table_of};
-ghost use Rattle.table.specs.Reads.{Place, switch_size};
+ghost use Rattle.check_parts.specs.Places.{Place};
+ghost use Rattle.table.specs.Reads.{switch_size};
 ghost use Rattle.check_parts.specs.Parts.{passes, label_fits, entry_fits};
 ghost use Rattle.check_table.specs.Checks.{Counted, counts_fit, rest_zero, text_stays, number_stays, switch_fits, switches_fit, parts_fit};
 ghost use Rattle.language.specs.Limits as limit;

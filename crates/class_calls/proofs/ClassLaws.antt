@@ -24,14 +24,7 @@ use Rattle.calls.specs.Calls.Reply.{start_accepted}
 use Rattle.calls.specs.Calls.Call.{start_on, run_on}
 use Rattle.calls.proofs.OrderLaws.{is-61, is-accepted}
 use Rattle.class_calls.specs.Class.{Pupil, inputs_of, refused_pupil, ran_pupil, told_of, empty_memory, separately, pupil}
-
-pub is_true : (b : Bool) → T b → b ≡ true
-is_true true h = refl
-is_true false h = absurd h
-
-is_false : (b : Bool) → T (not b) → b ≡ false
-is_false true h = absurd h
-is_false false h = refl
+use lib.Ieee.Bits.{is_true, is_false}
 
 true_of : {b : Bool} → b ≡ true → T b
 true_of e = subst T (sym e) tt

@@ -9,6 +9,7 @@ use native.Mathlib.Omega.{arith}
 use lib.Dec.{T, eqb, leb, ltb, eqb→eq, ltb→lt, leb-suc-suc, leb-zero}
 use lib.ListN.{length, get_or, take, drop, set, length-take, length-drop}
 use lib.Seq.{set_split, take-suc, take-add, take-take, drop-cons, get_or-drop}
+use lib.Ieee.Bits.{is_true, is_false}
 use borrow.Author.Tests.{lt-ltb, le-ltb, le-leb, lt-leb}
 use Rattle.lists.specs.ListLaws.{T-left, T-right, T-both, all_head, all_tail, total-append}
 use Rattle.lists.specs.Lists.{all, any, ahead}
@@ -38,14 +39,6 @@ digit-high n k h = rw (le-ltb n 10 h) at (digit-by n k)
 pub and-false : (b : Bool) → b && false ≡ false
 and-false true = refl
 and-false false = refl
-
-is_true : (b : Bool) → T b → b ≡ true
-is_true true h = refl
-is_true false h = absurd h
-
-is_false : (b : Bool) → T (not b) → b ≡ false
-is_false true h = absurd h
-is_false false h = refl
 
 -- the number of a character, by one computed test of all
 abbrev right_by : ℕ → Bool

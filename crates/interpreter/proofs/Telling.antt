@@ -4,16 +4,17 @@ use mathlib.Core.List.{List}
 use Prim.Native.Nat.{ℕ}
 use lib.ListN.{length}
 use Rattle.calls.specs.Calls.{packed, load_answer}
-use Rattle.calls.specs.Filling.{Filling, filling_number, filled_number, filled_count, Filled, Fills, Gives}
+use Rattle.calls.specs.Filling.{Filling, filling_number, filled_number, filled_count, Filled, Fills, Gives, Taken, taken_number}
 use Rattle.calls.proofs.FillingLaws.{count-of, gives-fills}
 use Rattle.class_calls.specs.Class.{Lent, ClassReply, class_of, class_number}
 use Rattle.class_calls.specs.Class.ClassReply.{class_refused, taken}
-use Rattle.class_running.specs.ClassRunning.{Taken, taken_by, taken_number, Classes}
+use Rattle.class_running.specs.ClassRunning.{taken_by, Classes}
 use Rattle.macros.specs.Load.{load_in}
 use Rattle.shorten_calls.specs.Shortening.{shorten_of}
 use Rattle.shortening.specs.Below.Told.{Loaded, told, loaded_number, loaded_line}
 use Rattle.shortening.specs.Below.Loading.{Loads}
 use Rattle.shortening.specs.Trying.{Answer, shortened_number, shortened_filled, Shortens}
+use Rattle.state_frames.specs.Keeping.{Reading, Reads, Restores}
 use Rattle.syntax.specs.Load as spec
 use Rattle.interpreter.specs.Answers.{AnswersLoad, AnswersShorten, AnswersClass}
 
@@ -39,6 +40,9 @@ answers-shorten {s} {c} {b} {d} {b'} {t} k w =
       };
       cells = k.table_is;
     }
+
+pub answers-reading : {x : Reading} {t : Taken} {m : List ℕ} {r : ℕ} → Restores x t m → r ≡ packed (taken_number t) 0 → Reads x r m
+answers-reading g w = record { answer = w ∙ ap (λ n. packed n 0) g.number_is; cells = g.cells_are }
 
 taken-told : (x : ClassReply) → taken_number (taken_by x) ≡ class_number x
 taken-told (class_refused number) = refl

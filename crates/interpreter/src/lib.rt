@@ -4,8 +4,7 @@
 ghost use Rattle.std.specs.Prelude.{◌≡◌, [], ◌∷◌, length};
 ghost use Rattle.class_calls.specs.Class.{lent_of};
 ghost use Rattle.calls.specs.Calls.{packed, start_of, run_of};
-ghost use Rattle.calls.specs.Filling.{Fills, filled_number, filled_count};
-ghost use Rattle.class_running.specs.ClassRunning.{taken_number};
+ghost use Rattle.calls.specs.Filling.{Fills, filled_number, filled_count, taken_number};
 ghost use Rattle.editions.specs.Convert.{convert_of};
 ghost use Rattle.macros.specs.Load.{load_in};
 ghost use Rattle.shortening.specs.Below.Told.{loaded_number, loaded_line};
@@ -70,7 +69,7 @@ fn packed_shortened(r: Result<Shortened, Refused>) -> u64
     }
 }
 
-// Of a class.
+// Of a class, or of a state that is read.
 fn packed_taken(r: Result<(), Refused>) -> u64
     ensures { result ≡ packed (taken_number r) 0 }
 {
@@ -144,7 +143,7 @@ pub fn eol2_write_state(table: &[u32], i1: &[u8], i2: &[u8], state: &[u8], out: 
 pub fn eol2_read_state(table: &[u32], i1: &[u8], i2: &[u8], saved: &[u8], state: &mut [u8]) -> u64
     ensures { Reads (read_of table.now (i1.now ∷ i2.now ∷ []) saved.now state.old) result state.new }
 {
-    packed(state_restoring::read_state(table, i1, i2, saved, state), 0)
+    packed_taken(state_restoring::read_state(table, i1, i2, saved, state))
 }
 
 // The number; for each pupil of a class three numbers of the results and a part of the buffer: "the answer, count, Q1 and its length that a separate

@@ -96,10 +96,10 @@ module _ (s : State) (f : Fine s) where
   abbrev R : List (List ℕ)
   R = each two s.stack ∷ s.store.outputs
 
-  length-E : length E ≡ 32
+  pub length-E : length E ≡ 32
   length-E = length-map s.store.exprs components_bytes ∙ f.exprs_is
 
-  length-F : length F ≡ 64
+  pub length-F : length F ≡ 64
   length-F = rw (length-file_strings, f.files_is)
 
   pub length-strings : length (strings s) ≡ layout.strings_count

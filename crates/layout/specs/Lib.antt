@@ -1,3 +1,4 @@
+pub mod ArgumentKinds
 pub mod Places
 pub mod Cells
 pub mod Table

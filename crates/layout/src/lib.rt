@@ -1,7 +1,8 @@
-// The places of a program table and of a state at rest and the kinds of arguments, as constants of three types; the layouts themselves are definitions and laws.
+// The places of a program table and of a state at rest as constants of two types, and the kinds of arguments; the layouts themselves are definitions and laws.
 #![tactic(auto)]
 
-ghost use Rattle.std.specs.Prelude.{◌≡◌, ◌++◌};
+ghost use Rattle.std.specs.Prelude.{◌≡◌, ◌+◌, ◌*◌, ◌<◌, ◌++◌};
+ghost use Rattle.layout.specs.ArgumentKinds.{number};
 ghost use Rattle.layout.specs.Kinds.{kinds};
 ghost use Rattle.layout.specs.Places.{listed};
 
@@ -115,22 +116,61 @@ impl StatePlaces {
     pub const ROOM: usize = 40738;
 }
 
-// An argument's cell, kind + 8 · value: the kinds, as in specs/Kinds.antt.
-#[derive(Clone, Copy)]
-pub struct ArgumentKinds {}
+// The kinds of arguments, as in specs/Kinds.antt. An argument's cell is the number of its kind + 8 · its value; that of nothing is 0.
+#[derive(Clone, Copy, Debug, PartialEq, Eq)]
+pub enum ArgumentKind {
+    Nothing,
+    Letter,
+    Label,
+    Switch,
+    Class,
+    Text,
+    Number,
+}
 
-impl ArgumentKinds {
-    pub const LETTER: usize = 1;
+// For a number that is no kind's.
+#[derive(Clone, Copy, Debug, PartialEq, Eq)]
+pub struct NoKind;
 
-    pub const LABEL: usize = 2;
+impl From<ArgumentKind> for usize {
+    ghost use Rattle.layout.specs.ArgumentKinds.{IsNumber};
 
-    pub const SWITCH: usize = 3;
+    ghost from_gives = { IsNumber };
 
-    pub const CLASS: usize = 4;
+    fn from(kind: ArgumentKind) -> usize {
+        kind as usize
+    }
+}
 
-    pub const TEXT: usize = 5;
+impl TryFrom<usize> for ArgumentKind {
+    ghost use Rattle.layout.specs.ArgumentKinds.{IsKind};
 
-    pub const NUMBER: usize = 6;
+    type Error = NoKind;
+
+    ghost try_from_gives = { IsKind };
+
+    fn try_from(n: usize) -> Result<ArgumentKind, NoKind> {
+        match n {
+            0 => Ok(ArgumentKind::Nothing),
+            1 => Ok(ArgumentKind::Letter),
+            2 => Ok(ArgumentKind::Label),
+            3 => Ok(ArgumentKind::Switch),
+            4 => Ok(ArgumentKind::Class),
+            5 => Ok(ArgumentKind::Text),
+            6 => Ok(ArgumentKind::Number),
+            _ => Err(NoKind),
+        }
+    }
+}
+
+impl ArgumentKind {
+    // The cell of an argument of the kind.
+    pub fn cell(self, value: usize) -> usize
+        requires { value < 536870912 }
+        ensures { (result ≡ number self + 8 * value) × (result < 4294967296) }
+    {
+        usize::from(self) + 8 * value
+    }
 }
 
 // The types' numbers are those of the definitions, each of them.
@@ -186,12 +226,12 @@ pub fn places() -> [usize; 54]
         StatePlaces::LENGTHS_BYTES,
         StatePlaces::STRINGS_BYTES,
         StatePlaces::ROOM,
-        ArgumentKinds::LETTER,
-        ArgumentKinds::LABEL,
-        ArgumentKinds::SWITCH,
-        ArgumentKinds::CLASS,
-        ArgumentKinds::TEXT,
-        ArgumentKinds::NUMBER,
+        ArgumentKind::Letter as usize,
+        ArgumentKind::Label as usize,
+        ArgumentKind::Switch as usize,
+        ArgumentKind::Class as usize,
+        ArgumentKind::Text as usize,
+        ArgumentKind::Number as usize,
     ]
 }
 

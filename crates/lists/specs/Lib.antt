@@ -4,3 +4,4 @@ pub mod Quoted
 pub mod ListLaws
 pub mod LoopLaws
 pub mod SearchLaws
+pub mod RangeLaws

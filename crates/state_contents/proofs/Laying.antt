@@ -1,13 +1,12 @@
 -- A memory laid out: the loop over the strings, and all cells of a saved state but the totals.
 use Rattle.std.specs.Prelude.{Option, Some, None, MatchOption}
 use mathlib.Core.Path.{◌≡◌, refl, sym, ap, ◌∙◌, subst}
-use mathlib.Core.List.{List, [], ◌∷◌, ◌++◌, append_assoc, append-nil}
-use Prim.Native.Nat.{ℕ, zero, suc, ◌+◌, ◌*◌, ◌-◌, ◌≤◌, ◌<◌}
-use native.Mathlib.Nat.{not-suc-le-zero, le_of_suc-le-suc}
+use mathlib.Core.List.{List, [], ◌++◌, append_assoc, append-nil}
+use Prim.Native.Nat.{ℕ, ◌+◌, ◌*◌, ◌-◌, ◌≤◌, ◌<◌}
 use native.Mathlib.Numerals.{add-one}
 use native.Mathlib.Omega.{arith}
 use lib.ListN.{length, get_or, take, drop, replicate, length-append, length-drop, length-replicate, replicate-append-replicate, take-append-drop}
-use lib.Seq.{take_at, drop_at, take-suc, take_all, length-take-le}
+use lib.Seq.{take_at, drop_at, take_all, length-take-le}
 use Rattle.language.specs.Limits as limit
 use Rattle.language.specs.Values.{State}
 use Rattle.lists.specs.Lists.{each, joined}
@@ -17,10 +16,11 @@ use Rattle.layout.specs.Memory.{strings}
 use Rattle.layout.proofs.MemoryLaws.{length-strings}
 use Rattle.layout.specs.Places as layout
 use Rattle.layout.specs.Strings.{lengths, used, string_cells}
-use Rattle.layout.proofs.StringLaws.{joined-append, joined-within, length-lengths}
+use Rattle.layout.proofs.StringLaws.{joined-within, length-lengths}
 use Rattle.cells.specs.Cells.{pasted}
 use Rattle.cells.proofs.Laws.{pasted-none, pasted-pasted, length-pasted, drop_past}
 use Rattle.writing.proofs.Parts.{pasted-left, pasted-right}
+use Rattle.gaps.proofs.Rows.{lengths-next, strings-next}
 use Rattle.state_frames.specs.Frames.{head, frames_in}
 use Rattle.state_frames.specs.Saved.{head_numbers, contents_at, frames_of, strings_by}
 use Rattle.state_frames.proofs.SavedLaws.{head_at, strings-back}
@@ -39,15 +39,6 @@ pub put_one : {m m₁ m₂ : List ℕ} {j at : ℕ} {v : List ℕ} → at + leng
 put_one {at = at} {v = v} h e f = record { most = h; next = λ w. refl; cells = λ w. f ∙ ap (λ (x : List ℕ). pasted x at v) e }
 
 -- ---- all strings
-
-lengths-next : (s : List (List ℕ)) (j : ℕ) → j < length s → lengths (take (suc j) s) ≡ lengths (take j s) ++ two (length (get_or s j []))
-unfolding lengths
-lengths-next [] j h = absurd (not-suc-le-zero h)
-lengths-next (v ∷ s) zero h = refl
-lengths-next (v ∷ s) (suc j) h = rw (lengths-next s j (le_of_suc-le-suc h))
-
-strings-next : (s : List (List ℕ)) (j : ℕ) → j < length s → joined (take (suc j) s) ≡ joined (take j s) ++ get_or s j []
-strings-next s j h = rw (take-suc s j [] h, joined-append (take j s) (get_or s j [] ∷ []), append-nil)
 
 -- lengths in the first part of a memory, and bytes in the second
 abbrev placed : List ℕ → List ℕ → List ℕ → List ℕ

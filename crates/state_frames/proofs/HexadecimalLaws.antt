@@ -1,5 +1,5 @@
 -- Laws of hexadecimal and of lines: what is written is read back, and what is read has one form only.
-use Rattle.std.specs.Prelude.{◌≡◌, refl, Bool, true, false, not, ◌&&◌, List, [], ◌∷◌, ◌++◌, ℕ, ◌+◌, ◌*◌, ◌/◌, ◌%◌, ◌<◌, T, eqb, ltb}
+use Rattle.std.specs.Prelude.{◌≡◌, refl, Bool, false, not, ◌&&◌, List, [], ◌∷◌, ◌++◌, ℕ, ◌+◌, ◌*◌, ◌/◌, ◌%◌, ◌<◌, T, eqb, ltb}
 use Rattle.std.proofs.Common.{ap, arith, eqb→eq, ltb→lt}
 use Rattle.std.proofs.lemmas.Bool.{not-true}
 use Rattle.lists.specs.ListLaws.{T-left, T-right, T-both, all_among}
@@ -7,12 +7,9 @@ use Rattle.lists.specs.TableLaws.{below}
 use Rattle.layout.specs.Bounds.{Below}
 use Rattle.text_lines.specs.Lines.{onto, lines}
 use Rattle.state_frames.specs.Hexadecimal.{digits, digit, digit_value, is_digit, hexadecimal, line, is_line, bytes_in}
+use lib.Ieee.Bits.{is_true}
 
 -- ---- digits, by one computed test each way
-
-pub is_true : (b : Bool) → T b → b ≡ true
-is_true true h = refl
-is_true false h = absurd h
 
 -- a number below 16 is that of its digit, which is a digit and no LF
 abbrev written_right : ℕ → Bool

@@ -4,7 +4,6 @@ use Rattle.std.proofs.Math.Path.{refl, ap}
 use Rattle.std.proofs.Common.{sym, ◌∙◌, arith, drop_at, drop-drop, get_or-drop, take-take}
 use mathlib.Core.List.{List, [], ◌∷◌, ◌++◌, map, append_assoc}
 use Rattle.std.proofs.Math.ListN.{length-append}
-use Rattle.std.proofs.lemmas.List.{length-map}
 use Rattle.std.proofs.Math.Seq.{take_at}
 use Rattle.language.specs.Limits as limit
 use Rattle.lists.specs.Lists.{each}
@@ -15,7 +14,7 @@ use Rattle.layout.specs.Bounds.{Fine}
 use Rattle.layout.specs.Cells.{two, three}
 use Rattle.layout.specs.Components.{components_bytes}
 use Rattle.layout.specs.Memory.{file_strings, strings, state_cells, state_of, good_memory}
-use Rattle.layout.proofs.MemoryLaws.{length-file_strings, memory-facts, memory-fine, memory-strings}
+use Rattle.layout.proofs.MemoryLaws.{length-E, length-F, memory-facts, memory-fine, memory-strings}
 use Rattle.state_frames.specs.Frames.{framed}
 use Rattle.state_frames.specs.Saved.{head_count, head_numbers, file_bytes, numbered, slots}
 use Rattle.state_frames.specs.MemoryFrames.{files_by, slots_by, slots_in}
@@ -35,24 +34,18 @@ module _ (s : State) (f : Fine s) where
   abbrev R : List (List ℕ)
   R = each two s.stack ∷ s.store.outputs
 
-  length-E : length E ≡ 32
-  length-E = length-map s.store.exprs components_bytes ∙ f.exprs_is
-
-  length-F : length F ≡ 64
-  length-F = rw (length-file_strings, f.files_is)
-
   exprs-are : take limit.expressions (strings s) ≡ E
   unfolding strings
-  exprs-are = take_at E (F ++ R) 32 length-E
+  exprs-are = take_at E (F ++ R) 32 (length-E s f)
 
   files-are : files_by limit.files (drop 32 (strings s)) ≡ map file_bytes s.store.files
   unfolding strings
   files-are =
-      ap (files_by limit.files) (drop_at E (F ++ R) 32 length-E) ∙ ap (λ (n : ℕ). files_by n (F ++ R)) (sym f.files_is) ∙ files_by-strings s.store.files R
+      ap (files_by limit.files) (drop_at E (F ++ R) 32 (length-E s f)) ∙ ap (λ (n : ℕ). files_by n (F ++ R)) (sym f.files_is) ∙ files_by-strings s.store.files R
 
   rest_is : drop 96 (strings s) ≡ R
   unfolding strings
-  rest_is = rw (← append_assoc E F R) (drop_at (E ++ F) R 96 (simp length-append (omega (arith, length-E, length-F))))
+  rest_is = rw (← append_assoc E F R) (drop_at (E ++ F) R 96 (simp length-append (omega (arith, length-E s f, length-F s f))))
 
   outputs_are : drop 97 (strings s) ≡ s.store.outputs
   outputs_are = sym (drop-drop 1 96 (strings s)) ∙ ap (drop 1) rest_is

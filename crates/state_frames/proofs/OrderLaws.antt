@@ -18,7 +18,7 @@ use Rattle.machine.proofs.WellFormedLaws.{open-store, open-state}
 use Rattle.layout.specs.Bounds.{Each}
 use Rattle.layout.specs.Cells.{two, three}
 use Rattle.layout.specs.Components.{components_bytes}
-use Rattle.state_frames.proofs.HexadecimalLaws.{is_true}
+use lib.Ieee.Bits.{is_true}
 use Rattle.state_frames.specs.Frames.{Frame, framed, same_frames}
 use Rattle.state_frames.proofs.FrameLaws.{each-path, same_frames-eq, same_frames-refl}
 use Rattle.state_frames.specs.Saved.{head_numbers, file_bytes, numbered, slots, nonempty, frames_of, is_at, contents_at, restored, well_framed}

@@ -7,7 +7,7 @@ use Rattle.machine.specs.WellFormed.{good_inputs}
 use Rattle.layout.specs.Memory.{state_of, long_enough, good_memory, written}
 use Rattle.layout.specs.Table.{program_of, good_table}
 use Rattle.calls.specs.Calls.{packed}
-use Rattle.calls.specs.Filling.{Filling}
+use Rattle.calls.specs.Filling.{Filling, Taken, taken_number, taken_with}
 use Rattle.calls.specs.Filling.Filling.{kept, fills}
 use Rattle.state_frames.specs.Frames.{sound_text, frames_in}
 use Rattle.state_frames.specs.Saved.{saved, restored, well_framed}
@@ -51,7 +51,8 @@ pub record Reads (x : Reading) (r : ℕ) (m' : List ℕ) : Type 0 where
   pub answer : r ≡ reading_answer x
   pub cells : m' ≡ x.cells
 
--- the same of a number alone
-pub record Restores (x : Reading) (number : ℕ) (m' : List ℕ) : Type 0 where
-  pub number_is : number ≡ x.number
+-- the same of the result r, taken or the number of the first no
+pub record Restores (x : Reading) (r : Taken) (m' : List ℕ) : Type 0 where
+  pub result_is : r ≡ taken_with x.number
+  pub number_is : taken_number r ≡ x.number
   pub cells_are : m' ≡ x.cells

@@ -8,6 +8,7 @@ use native.Mathlib.Omega.{arith}
 use lib.Dec.{T, eqb}
 use lib.ListN.{length, get_or, take, length-take}
 use lib.Seq.{get_or-take}
+use lib.Ieee.Bits.{is_true}
 use borrow.Author.Tests.{eq-eqb, ne_eqb}
 use Rattle.lists.specs.ListLaws.{T-both, all-at, total-append}
 use Rattle.lists.specs.Lists.{all}
@@ -26,10 +27,6 @@ and_assoc false b c = refl
 and_right : (b : Bool) → b && true ≡ b
 and_right true = refl
 and_right false = refl
-
-is_true : (b : Bool) → T b → b ≡ true
-is_true true h = refl
-is_true false h = absurd h
 
 -- ---- the sum
 

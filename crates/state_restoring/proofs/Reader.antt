@@ -1,5 +1,6 @@
 -- Frames are well framed where the state laid out from them is well formed and is written as their text; and what the reader answers, question by
 -- question.
+use Rattle.std.specs.Prelude.{Result, Ok, Err}
 use mathlib.Core.Path.{◌≡◌, refl, sym, ap, ◌∙◌, subst}
 use mathlib.Core.Bool.{Bool, true, false, cond}
 use mathlib.Core.List.{List, [], ◌∷◌, ◌++◌}
@@ -9,9 +10,11 @@ use lib.Dec.{T, le→leb}
 use lib.ListN.{length, drop, replicate, length-replicate}
 use lib.Seq.{take_all}
 use borrow.Author.Tests.{le-leb, lt-leb}
+use Rattle.calls.specs.Filling.{Taken, taken_number, taken_with}
 use Rattle.cells.specs.Cells.{pasted}
-use Rattle.check_calls.specs.Asked.{first_no}
-use Rattle.check_calls.specs.AskedLaws.{both_yes}
+use Rattle.check_calls.specs.Asked.{question_number, told_by, refused_by, first_no}
+use Rattle.check_calls.specs.AskedLaws.{both_yes, some}
+use Rattle.check_calls.specs.declared.Question.{Question}
 use Rattle.check_memory.proofs.Steps.{passed}
 use Rattle.check_state.specs.Asked.{Asked}
 use Rattle.check_strings.proofs.ComponentWalks.{same_test}
@@ -129,11 +132,11 @@ module _ {c i j t m : List ℕ} (h : Restorable c i j t m) where
 
 -- ---- the reader
 
-restores : {x y : Reading} → x ≡ y → {n : ℕ} {m : List ℕ} → n ≡ y.number → m ≡ y.cells → Restores x n m
-restores e a b = record { number_is = rw e a; cells_are = rw e b }
+restores : {x y : Reading} → x ≡ y → {r : Taken} {m : List ℕ} → r ≡ taken_with y.number → taken_number r ≡ y.number → m ≡ y.cells → Restores x r m
+restores e a n b = record { result_is = rw e a; number_is = rw e n; cells_are = rw e b }
 
-pub restored-as : {x : Reading} {n k : ℕ} {m : List ℕ} → Restores x n m → k ≡ n → Restores x k m
-restored-as r e = record { number_is = e ∙ r.number_is; cells_are = r.cells_are }
+abbrev refusal : ℕ → Taken
+refusal n = Err (record { number = n })
 
 module _ (c i j t m : List ℕ) where
   abbrev lent : Inputs
@@ -150,44 +153,44 @@ module _ (c i j t m : List ℕ) where
   unfolding read_of
   is-61 a b = rw (a, b) refl
 
-  module _ {k : ℕ} (told : k ≡ first_no c lent) where
-    -- it is 62 or 61, or there is none
-    pub refused-early : (k ≡ 0 → ⊥) → Restores readings k m
-    refused-early n = go (good_table c) (good_inputs lent) refl refl told
+  module _ {o : Result (Unit {0}) Question} (told : told_by o ≡ first_no c lent) where
+    -- it is 62 or 61
+    pub refused-early : {q : Question} → o ≡ Err q → {r : Taken} → r ≡ Err (refused_by q) → Restores readings r m
+    refused-early {q} is {r} w = go (good_table c) (good_inputs lent) refl refl (ap told_by (sym is) ∙ told)
       where
-        go : (a b : Bool) → good_table c ≡ a → good_inputs lent ≡ b → k ≡ cond a (cond b 0 61) 62 → Restores readings k m
-        go false b x y h = restores (is-62 x) h refl
-        go true false x y h = restores (is-61 x y) h refl
-        go true true x y h = absurd (n h)
+        go : (a b : Bool) → good_table c ≡ a → good_inputs lent ≡ b → question_number q ≡ cond a (cond b 0 61) 62 → Restores readings r m
+        go false b x y h = restores (is-62 x) (w ∙ ap refusal h) (ap taken_number w ∙ h) refl
+        go true false x y h = restores (is-61 x y) (w ∙ ap refusal h) (ap taken_number w ∙ h) refl
+        go true true x y h = absurd (some q h)
 
-    module _ (none : k ≡ 0) where
+    module _ {u : Unit {0}} (none : o ≡ Ok u) where
       yes-yes : (good_table c ≡ true) × (good_inputs lent ≡ true)
-      yes-yes = both_yes c lent told none
+      yes-yes = both_yes c lent told (ap told_by none)
 
       pub asked : Asked c i j
       asked = record { table = subst T (sym yes-yes.0) tt; inputs = subst T (sym yes-yes.1) tt }
 
-      pub refused-63 : length m < limit.state → Restores readings 63 m
+      pub refused-63 : length m < limit.state → Restores readings (refusal 63) m
       unfolding read_of
-      refused-63 h = restores (rw (yes-yes.0, yes-yes.1, lt-leb limit.state (length m) h) refl) refl refl
+      refused-63 h = restores (rw (yes-yes.0, yes-yes.1, lt-leb limit.state (length m) h) refl) refl refl refl
 
       module _ (h : limit.state ≤ length m) {f : Bool} (e : f ≡ sound_text t) where
-        pub refused-68 : f ≡ false → Restores readings 68 m
+        pub refused-68 : f ≡ false → Restores readings (refusal 68) m
         unfolding read_of
-        refused-68 k = restores (rw (yes-yes.0, yes-yes.1, le-leb limit.state (length m) h, sym e ∙ k) refl) refl refl
+        refused-68 k = restores (rw (yes-yes.0, yes-yes.1, le-leb limit.state (length m) h, sym e ∙ k) refl) refl refl refl
 
         module _ (y : f ≡ true) where
           pub restorable : {z : List ℕ} → z ≡ replicate limit.state 0 → Restorable c i j t z
           restorable z = record { asked = asked; sound = passed e y; zeros = z }
 
           module _ {r : Bool} {n : List ℕ} (q : Restored c i j t r n) where
-            pub refused-69 : r ≡ false → Restores readings 69 m
+            pub refused-69 : r ≡ false → Restores readings (refusal 69) m
             unfolding read_of
-            refused-69 z = restores (rw (yes-yes.0, yes-yes.1, le-leb limit.state (length m) h, sym e ∙ y, sym q.answer ∙ z) refl) refl refl
+            refused-69 z = restores (rw (yes-yes.0, yes-yes.1, le-leb limit.state (length m) h, sym e ∙ y, sym q.answer ∙ z) refl) refl refl refl
 
-            pub accepted : r ≡ true → {o : List ℕ} → o ≡ pasted m 0 n → Restores readings 80 o
+            pub accepted : r ≡ true → {o : List ℕ} → o ≡ pasted m 0 n → Restores readings (Ok tt) o
             unfolding read_of written
             accepted z a =
                 let x : readings ≡ read_accepted (restored (frames_in t)) m = rw (yes-yes.0, yes-yes.1, le-leb limit.state (length m) h, sym e ∙ y, sym q.answer ∙ z) refl in
                 let w : 0 + length n ≡ limit.state = omega (arith, q.long) in
-                restores x refl (a ∙ ap (λ o. n ++ drop o m) w ∙ ap (λ v. v ++ drop limit.state m) (q.cells z))
+                restores x refl refl (a ∙ ap (λ o. n ++ drop o m) w ∙ ap (λ v. v ++ drop limit.state m) (q.cells z))

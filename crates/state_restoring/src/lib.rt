@@ -10,6 +10,7 @@ ghost use Rattle.state_frames.specs.MemoryFrames.{Saveable};
 ghost use Rattle.state_frames.specs.Saved.{saved};
 ghost use Rattle.state_restoring.specs.Restoring.{Summed, Totalled, Restorable, Restored};
 
+use calls::Refused;
 use check_memory::{Memory, Sums};
 use language::Machine;
 use layout::StatePlaces;
@@ -74,24 +75,28 @@ fn restore(table: &[u32], i1: &[u8], i2: &[u8], text: &[u8], m: &mut [u8]) -> bo
 
 // "is every line hexadecimal with its length and sum right? 68. Are the frames in order, once each, the head there, none empty, and the state well
 // formed? 69. A refused call changes nothing."
-pub fn read_state(table: &[u32], i1: &[u8], i2: &[u8], text: &[u8], state: &mut [u8]) -> u8
+pub fn read_state(
+    table: &[u32],
+    i1: &[u8],
+    i2: &[u8],
+    text: &[u8],
+    state: &mut [u8],
+) -> Result<(), Refused>
     ensures { Restores (read_of table.now (i1.now ∷ i2.now ∷ []) text.now state.old) result state.new }
 {
-    if let Err(no) = check_calls::ask(table, i1, i2) {
-        return u8::from(no);
-    }
+    check_calls::ask(table, i1, i2)?;
     if state.len() < Machine::STATE {
-        return 63;
+        return Err(Refused { number: 63 });
     }
     if !state_lines::is_sound_text(text) {
-        return 68;
+        return Err(Refused { number: 68 });
     }
     let mut m = [0u8; Machine::STATE];
     if !restore(table, i1, i2, text, &mut m) {
-        return 69;
+        return Err(Refused { number: 69 });
     }
     cells::put(state, 0, &m);
-    80
+    Ok(())
 }
 
 // Of `state_saving`, passed on to the crates above.

@@ -11,8 +11,9 @@ use borrow.Author.Tests.{le-leb, lt-leb}
 use Rattle.calls.specs.Filling.{Filling, filled_in, Filled, Gives}
 use Rattle.calls.specs.Filling.Filling.{kept, fills}
 use Rattle.cells.specs.Cells.{pasted}
-use Rattle.check_calls.specs.Asked.{first_no}
-use Rattle.check_calls.specs.AskedLaws.{both_yes}
+use Rattle.check_calls.specs.Asked.{question_number, told_by, refused_by, first_no}
+use Rattle.check_calls.specs.AskedLaws.{both_yes, some}
+use Rattle.check_calls.specs.declared.Question.{Question}
 use Rattle.check_state.specs.Asked.{Asked}
 use Rattle.language.specs.Values.{Inputs}
 use Rattle.layout.specs.Memory.{state_of, good_memory}
@@ -24,7 +25,7 @@ use Rattle.machine.specs.WellFormed.{good_inputs}
 use Rattle.state_frames.specs.Keeping.{write_of}
 use Rattle.state_frames.specs.MemoryFrames.{Saveable}
 use Rattle.state_frames.specs.Saved.{saved}
-use Rattle.std.specs.Prelude.{Ok, Err}
+use Rattle.std.specs.Prelude.{Result, Ok, Err}
 use Rattle.state_saving.specs.Saving.{Put}
 
 -- ---- three questions
@@ -65,15 +66,16 @@ module _ (c i j M b : List ℕ) where
   unfolding filled_in
   refused-gives {number} e = subst (λ x. Gives x (no_by number) b b) (sym e) (record { result_is = refl; number_is = refl; cells_are = refl })
 
-  module _ {no : ℕ} (q : no ≡ first_no c ins) where
-    pub first_gives : (no ≡ 0 → ⊥) → Gives W (no_by no) b b
+  module _ {o : Result (Unit {0}) Question} (told : told_by o ≡ first_no c ins) where
+    pub first_gives : {q : Question} → o ≡ Err q → {r : Filled} → r ≡ Err (refused_by q) → Gives W r b b
     unfolding write_of
-    first_gives h =
-        let e = first-refused (fills 80 (saved (state_of M))) (good_table c) (good_inputs ins) (well && room) (λ z. h (q ∙ z)) in
-        refused-gives (e ∙ ap kept (sym q))
+    first_gives {q} is {r} w =
+        let n : question_number q ≡ first_no c ins = ap told_by (sym is) ∙ told in
+        let e = first-refused (fills 80 (saved (state_of M))) (good_table c) (good_inputs ins) (well && room) (λ z. some q (n ∙ z)) in
+        subst (λ r. Gives W r b b) (sym w) (refused-gives (e ∙ ap kept (sym n)))
 
-    pub asked : no ≡ 0 → Asked c i j
-    asked e = let y = both_yes c ins q e in record { table = subst T (sym y.0) tt; inputs = subst T (sym y.1) tt }
+    pub asked : {u : Unit {0}} → o ≡ Ok u → Asked c i j
+    asked is = let y = both_yes c ins told (ap told_by is) in record { table = subst T (sym y.0) tt; inputs = subst T (sym y.1) tt }
 
   module _ (y : Asked c i j) where
     decided : (e : Bool) → well && room ≡ e → W ≡ cond e (fills 80 (saved (state_of M))) (kept 63)

@@ -125,11 +125,7 @@ pub fn put_saved(state: &[u8], out: &mut [u8]) -> usize
 pub fn write_state(table: &[u32], i1: &[u8], i2: &[u8], state: &[u8], out: &mut [u8]) -> Filled
     ensures { Gives (write_of table.now (i1.now ∷ i2.now ∷ []) state.now (length out.old)) result out.old out.new }
 {
-    if let Err(no) = check_calls::ask(table, i1, i2) {
-        return Err(Refused {
-            number: u8::from(no),
-        });
-    }
+    check_calls::ask(table, i1, i2)?;
     if !check_state::is_state(table, i1, i2, state) {
         return Err(Refused { number: 63 });
     }

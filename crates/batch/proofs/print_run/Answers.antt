@@ -1,7 +1,10 @@
 -- `batch::print_run` meets its contract.
 use mathlib.Core.Path.{refl}
-use Rattle.batch.proofs.Lines.{line-place, end-room, all-printed}
+use Rattle.batch.proofs.Lines.{table-long, line-place, end-room, all-printed}
 use Rattle.batch.proofs.print_run.Goals as goal
+
+pub invariant_of-line : goal.invariant_of-line
+invariant_of-line c = record { long = table-long c.requires c.next.ensures }
 
 pub line-line-requires : goal.line-line-requires
 line-line-requires c = line-place c.requires c.next.ensures

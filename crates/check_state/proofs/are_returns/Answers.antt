@@ -12,5 +12,5 @@ use Rattle.check_state.proofs.are_returns.Goals as goal
 pub returns : goal.returns
 returns c =
     let s = c.args.s.now in
-    let p = good_return (program_of c.args.table.now) in
+    let p = good_return (program_of c.args.table.cells.now) in
     tests_all 0 (λ i. p (two_at (2 * i) s)) p (twos_in s) _ (length-twos s) (λ i h. ap p (sym (entry_at s i h))) _ _ _ c.all.ensures.ran (λ x b q k. search (rules, tests))

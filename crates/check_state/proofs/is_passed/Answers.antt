@@ -19,7 +19,7 @@ is_laid-requires c = ended c.requires.long c.starts_of-end.ensures
 pub returns-then-not-is_laid : goal.returns-then-not-is_laid
 returns-then-not-is_laid c =
     let args = c.args in
-    fails-1 args.lent.table.now args.lent.first.now args.lent.second.now args.m.now c.is_laid.ensures (c.if-not-is_laid.true)
+    fails-1 args.lent.table.cells.now args.lent.first.now args.lent.second.now args.m.now c.is_laid.ensures (c.if-not-is_laid.true)
 
 pub is_sound-requires : goal.is_sound-requires
 is_sound-requires c =
@@ -33,7 +33,7 @@ returns-then-not-is_sound c =
     let args = c.args in
     let is-laid = c.is_laid in
     let if1 = c.if-not-is_laid in
-    fails-2 args.lent.table.now args.lent.first.now args.lent.second.now args.m.now is-laid.ensures (if1.false) (c.is_sound.ensures ∙ ap sound c.new-memory.ensures) (c.if-not-is_sound.true)
+    fails-2 args.lent.table.cells.now args.lent.first.now args.lent.second.now args.m.now is-laid.ensures (if1.false) (c.is_sound.ensures ∙ ap sound c.new-memory.ensures) (c.if-not-is_sound.true)
 
 pub is_counted-requires : goal.is_counted-requires
 is_counted-requires c =
@@ -51,7 +51,7 @@ returns-then-not-is_counted c =
     let if1 = c.if-not-is_laid in
     let sounds = c.is_sound.ensures ∙ ap sound c.new-memory.ensures in
     let if2 = c.if-not-is_sound in
-    fails-3 args.lent.table.now args.lent.first.now args.lent.second.now args.m.now is-laid.ensures (if1.false) sounds (if2.false) (c.is_counted.ensures ∙ ap counted c.new-memory.ensures) (c.if-not-is_counted.true)
+    fails-3 args.lent.table.cells.now args.lent.first.now args.lent.second.now args.m.now is-laid.ensures (if1.false) sounds (if2.false) (c.is_counted.ensures ∙ ap counted c.new-memory.ensures) (c.if-not-is_counted.true)
 
 pub is_distinct-requires : goal.is_distinct-requires
 is_distinct-requires c =
@@ -75,7 +75,7 @@ returns-then-not-is_distinct c =
     let counts = c.is_counted.ensures ∙ ap counted c.new-memory.ensures in
     let if3 = c.if-not-is_counted in
     let differ = c.is_distinct.ensures ∙ ap distinct c.new-memory.ensures in
-    fails-4 args.lent.table.now args.lent.first.now args.lent.second.now args.m.now is-laid.ensures (if1.false) sounds (if2.false) counts (if3.false) differ (c.if-not-is_distinct.true)
+    fails-4 args.lent.table.cells.now args.lent.first.now args.lent.second.now args.m.now is-laid.ensures (if1.false) sounds (if2.false) counts (if3.false) differ (c.if-not-is_distinct.true)
 
 pub new-memory-requires : goal.new-memory-requires
 new-memory-requires c = readable c.requires.long c.starts_of-end.ensures c.is_laid.ensures (c.if-not-is_laid.false)
@@ -94,4 +94,4 @@ returns c =
     let if3 = c.if-not-is_counted in
     let differ = c.is_distinct.ensures ∙ ap distinct c.new-memory.ensures in
     let if4 = c.if-not-is_distinct in
-    last args.lent.table.now args.lent.first.now args.lent.second.now args.m.now is-laid.ensures (if1.false) sounds (if2.false) counts (if3.false) differ (if4.false) (c.is_fitting.ensures ∙ ap (fitting (program_of args.lent.table.now) args.lent.first.now args.lent.second.now) c.new-memory.ensures)
+    last args.lent.table.cells.now args.lent.first.now args.lent.second.now args.m.now is-laid.ensures (if1.false) sounds (if2.false) counts (if3.false) differ (if4.false) (c.is_fitting.ensures ∙ ap (fitting (program_of args.lent.table.cells.now) args.lent.first.now args.lent.second.now) c.new-memory.ensures)

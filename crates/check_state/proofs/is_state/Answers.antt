@@ -2,6 +2,7 @@
 use native.Mathlib.Omega.{arith}
 use mathlib.Core.Path.{refl, sym}
 use lib.Seq.{length-take-le}
+use Rattle.check_state.proofs.Returns.{table-long}
 use Rattle.check_state.proofs.Steps.{short-answer, answer}
 use Rattle.language.specs.Limits as limit
 use Rattle.check_state.proofs.is_state.Goals as goal
@@ -13,6 +14,9 @@ returns-then-state-lt-STATE c =
 
 pub slice_bounds-is_passed-end : goal.slice_bounds-is_passed-end
 slice_bounds-is_passed-end c = sym (length-take-le limit.state c.args.state.now c.if-state-lt-STATE.false)
+
+pub invariant_of-lent : goal.invariant_of-lent
+invariant_of-lent c = record { long = table-long c.args.table.now c.requires.table }
 
 pub is_passed-requires : goal.is_passed-requires
 is_passed-requires c =
