@@ -44,10 +44,12 @@ pasted-two d v w {d'} {d''} a b p q =
     rw g (take_at (v ++ w) (drop (5 + length w) d') 10 (simp length-append (omega (arith, a, b))))
 
 module _ {new : List ℕ} {xs : List Component} (c : Encoded new xs) where
-  replaceable : {σ : State} {i k : ℕ} → Numbered σ i → k ≡ length xs → k ≤ 2 → 0 ≡ char_count xs → Replaceable σ i 5 0 new k 0
+  replaceable : {σ : State} {i k b : ℕ} → Numbered σ i → k ≡ length xs → k ≤ 2 → 0 ≡ char_count xs
+      → Replaceable σ i (record { parts = 1; bytes = 5; chars = 0 }) new (record { parts = k; bytes = b; chars = 0 })
   replaceable h q l r =
       record {
         index = h.index;
+        single = refl;
         first = h.first;
         letters_most = omega arith;
         whole = whole-components c;
@@ -67,7 +69,7 @@ module _ {c : ℕ} (d : List ℕ) {d' : List ℕ} (q : d' ≡ pasted d 0 (compon
   held_one : Encoded (take 5 d') (Component.number (uncode c) ∷ [])
   held_one = number-held c h.most d q
 
-  pub one-replaceable : Replaceable σ i 5 0 (take 5 d') 1 0
+  pub one-replaceable : Replaceable σ i (record { parts = 1; bytes = 5; chars = 0 }) (take 5 d') (record { parts = 1; bytes = 5; chars = 0 })
   one-replaceable = replaceable held_one h.numbered refl (omega arith) refl
 
   pub one-tried : {k : ℕ} {σ' : State} → Tried σ k σ' true (replaced true i (components_in (take 5 d')) σ.store)
@@ -84,7 +86,7 @@ module _ {a b : ℕ} (d : List ℕ) {d' d'' : List ℕ} (q : d' ≡ pasted d 0 (
       (sym (pasted-two d (component_bytes (Component.number (uncode a))) (component_bytes (Component.number (uncode b))) (number-long (uncode a)) (number-long (uncode b)) q r))
       (two-encoded a b h.left_most h.right_most)
 
-  pub two-replaceable : Replaceable σ i 5 0 (take 10 d'') 2 0
+  pub two-replaceable : Replaceable σ i (record { parts = 1; bytes = 5; chars = 0 }) (take 10 d'') (record { parts = 2; bytes = 10; chars = 0 })
   two-replaceable = replaceable held_two h.numbered refl (omega arith) refl
 
   pub two-tried : {k : ℕ} {σ' : State} → Tried σ k σ' true (replaced true i (components_in (take 10 d'')) σ.store)

@@ -6,16 +6,16 @@ use Prim.Native.Nat.{ℕ, ◌≤◌, ◌<◌}
 use native.Mathlib.Omega.{arith}
 use lib.Dec.{T, eqb}
 use lib.ListN.{length}
-use lib.IntN.{ℤ, nat_abs, ◌+ℤ◌, ◌-ℤ◌, ◌*ℤ◌}
+use lib.IntN.{ℤ, nat_abs}
 use lib.Signed.{quot_z, rem_z}
 use borrow.Author.Tests.{le-leb, ne_eqb}
 use Rattle.lists.specs.Lists.{all}
-use Rattle.language.specs.Instructions.{kinds_of}
+use Rattle.language.specs.Instructions.{two_numbers, kinds_of}
 use Rattle.language.specs.Limits as limit
 use Rattle.language.specs.Letters.Letter.{E}
 use Rattle.language.specs.Program.{Arg, Op, Program}
 use Rattle.language.specs.Program.Arg.{nothing}
-use Rattle.language.specs.Program.Op.{DODAJ, ODEJMIJ, MNOZ, DZIEL}
+use Rattle.language.specs.Program.Op.{DZIEL}
 use Rattle.language.specs.Values.{Component, Store, State, Inputs, value, in_range}
 use Rattle.machine.specs.Arguments.{Asks, expr, first, side, ask, of_kinds, ◌&◌}
 use Rattle.machine.specs.Changes.{fits}
@@ -38,7 +38,9 @@ use Rattle.operands.proofs.Codes.{abs-most}
 use Rattle.components.proofs.FirstLaws.{high}
 use Rattle.operands.proofs.Reading.{wordless}
 use Rattle.operands.proofs.Replacing.{replaced-last, left-first}
-use Rattle.arithmetic.specs.Arithmetic.{Coded, Divisible, Codes, InRange, Numbered}
+use Rattle.arithmetic.specs.Arithmetic.{Coded, Divisible, Codes, InRange, Numbered, op_of, value_of}
+use Rattle.arithmetic.specs.declared.Computed.{Computed}
+use Rattle.arithmetic.specs.declared.Computed.TheVariants.{Sum, Difference, Product}
 use Rattle.arithmetic.proofs.Numbers.{divided-in, size_is, size-some}
 
 -- all is answered yes but, maybe, 59
@@ -79,17 +81,11 @@ module _ (g : Program) (ins : Inputs) (s : Store) (i : ℕ) (a : Arg) where
   abbrev of_values : (ℤ → ℤ → Row) → Row
   of_values r = r (value (first xs)) (value (first ys))
 
-  pub row-dodaj : row g ins s (nth (reading true) i) a nothing DODAJ ≡ of_values (row_of (kinds_of DODAJ) (λ x y. (x +ℤ y) ∷ []) i s xs ys)
+  row-computed : (w : Computed) → row g ins s (nth (reading true) i) a nothing (op_of w) ≡ of_values (row_of two_numbers (λ x y. value_of w x y ∷ []) i s xs ys)
   unfolding row computed replaced
-  row-dodaj = refl
-
-  pub row-odejmij : row g ins s (nth (reading true) i) a nothing ODEJMIJ ≡ of_values (row_of (kinds_of ODEJMIJ) (λ x y. (x -ℤ y) ∷ []) i s xs ys)
-  unfolding row computed replaced
-  row-odejmij = refl
-
-  pub row-mnoz : row g ins s (nth (reading true) i) a nothing MNOZ ≡ of_values (row_of (kinds_of MNOZ) (λ x y. (x *ℤ y) ∷ []) i s xs ys)
-  unfolding row computed replaced
-  row-mnoz = refl
+  row-computed Sum = refl
+  row-computed Difference = refl
+  row-computed Product = refl
 
   pub row-dziel : row g ins s (nth (reading true) i) a nothing DZIEL ≡ of_values (divided (kinds_of DZIEL) i s xs ys)
   unfolding row computed replaced
@@ -266,66 +262,30 @@ module _ {σ : State} (h : Stands σ) (i : ℕ) (a : Argument) where
     numbered k x = record { index = x; first = left-first ks k (expr store (nth E i)) (right [] []) (sym (none-stops [] [])) }
 
   -- an instruction with one result
-  module _ (o : Op) (f : ℤ → ℤ → ℤ)
-      (is : (g : Program) (ins : Inputs) (b : Arg) → row g ins store (nth (reading true) i) b nothing o ≡ of_values g ins store i b (row_of (kinds_of o) (λ x y. f x y ∷ []) i store (xs g ins store i b) (ys g ins store i b)))
-      {r : Result Pair Question} (w : ReadsPair (kinds_of o) store i a r) where
+  module _ (o : Computed) {r : Result Pair Question} (w : ReadsPair two_numbers store i a r) where
     abbrev one_row : List ℕ → Inputs → ℤ → ℤ → Row
-    one_row c ins = row_of (kinds_of o) (λ x y. f x y ∷ []) i store (left ins) (right c ins)
+    one_row c ins = row_of two_numbers (λ x y. value_of o x y ∷ []) i store (left ins) (right c ins)
 
-    one-stop : {q : Question} → r ≡ Err q → DoesWith σ (question_number q) σ (rows o)
+    pub one-stop : {q : Question} → r ≡ Err q → DoesWith σ (question_number q) σ (rows (op_of o))
     one-stop {q} e c g ins =
-        rw (is g ins (arg_of c a))
-        (two-stop h i (kinds_of o) (left ins) (right c ins) (λ x y. f x y ∷ []) (value (first (left ins))) (value (first (right c ins)))
+        rw (row-computed g ins store i (arg_of c a) o)
+        (two-stop h i two_numbers (left ins) (right c ins) (λ x y. value_of o x y ∷ []) (value (first (left ins))) (value (first (right c ins)))
         (sym (ap told_by e) ∙ (w true c ins).told) (some q))
 
-    module _ {p : Pair} (e : r ≡ Ok p) {m : Result ℕ Question} (u : InRange (f (uncode p.left) (uncode p.right)) m) where
+    module _ {p : Pair} (e : r ≡ Ok p) {m : Result ℕ Question} (u : InRange (value_of o (uncode p.left) (uncode p.right)) m) where
       abbrev v : ℤ
-      v = f (uncode p.left) (uncode p.right)
+      v = value_of o (uncode p.left) (uncode p.right)
 
-      one-over : {q : Question} → m ≡ Err q → DoesWith σ (question_number q) σ (rows o)
+      pub one-over : {q : Question} → m ≡ Err q → DoesWith σ (question_number q) σ (rows (op_of o))
       one-over d c g ins =
-          rw (is g ins (arg_of c a)) (by_values w e c ins (one_row c ins) (over-told h i (kinds_of o) (left ins) (right c ins) (none-stops w e c ins) v u d))
+          rw (row-computed g ins store i (arg_of c a) o)
+          (by_values w e c ins (one_row c ins) (over-told h i two_numbers (left ins) (right c ins) (none-stops w e c ins) v u d))
 
-      one-result : {z : ℕ} → m ≡ Ok z → {k : ℕ} {σ' : State} → Tried σ k σ' true (replaced true i (Component.number (uncode z) ∷ []) store)
-          → DoesWith σ k σ' (rows o)
-      one-result d t c g ins =
-          rw (is g ins (arg_of c a)) (by_values w e c ins (one_row c ins) (code-told h i (kinds_of o) (left ins) (right c ins) (none-stops w e c ins) v u d t))
-
-  module _ {r : Result Pair Question} (w : ReadsPair (kinds_of DODAJ) store i a r) where
-    pub dodaj-stop : {q : Question} → r ≡ Err q → DoesWith σ (question_number q) σ (rows DODAJ)
-    dodaj-stop = one-stop DODAJ (λ x y. x +ℤ y) (λ g ins. row-dodaj g ins store i) w
-
-    module _ {p : Pair} (e : r ≡ Ok p) {m : Result ℕ Question} (u : InRange (uncode p.left +ℤ uncode p.right) m) where
-      pub dodaj-over : {q : Question} → m ≡ Err q → DoesWith σ (question_number q) σ (rows DODAJ)
-      dodaj-over = one-over DODAJ (λ x y. x +ℤ y) (λ g ins. row-dodaj g ins store i) w e u
-
-      pub dodaj-done : {z : ℕ} → m ≡ Ok z → {k : ℕ} {σ' : State} → Tried σ k σ' true (replaced true i (Component.number (uncode z) ∷ []) store)
-          → DoesWith σ k σ' (rows DODAJ)
-      dodaj-done = one-result DODAJ (λ x y. x +ℤ y) (λ g ins. row-dodaj g ins store i) w e u
-
-  module _ {r : Result Pair Question} (w : ReadsPair (kinds_of ODEJMIJ) store i a r) where
-    pub odejmij-stop : {q : Question} → r ≡ Err q → DoesWith σ (question_number q) σ (rows ODEJMIJ)
-    odejmij-stop = one-stop ODEJMIJ (λ x y. x -ℤ y) (λ g ins. row-odejmij g ins store i) w
-
-    module _ {p : Pair} (e : r ≡ Ok p) {m : Result ℕ Question} (u : InRange (uncode p.left -ℤ uncode p.right) m) where
-      pub odejmij-over : {q : Question} → m ≡ Err q → DoesWith σ (question_number q) σ (rows ODEJMIJ)
-      odejmij-over = one-over ODEJMIJ (λ x y. x -ℤ y) (λ g ins. row-odejmij g ins store i) w e u
-
-      pub odejmij-done : {z : ℕ} → m ≡ Ok z → {k : ℕ} {σ' : State} → Tried σ k σ' true (replaced true i (Component.number (uncode z) ∷ []) store)
-          → DoesWith σ k σ' (rows ODEJMIJ)
-      odejmij-done = one-result ODEJMIJ (λ x y. x -ℤ y) (λ g ins. row-odejmij g ins store i) w e u
-
-  module _ {r : Result Pair Question} (w : ReadsPair (kinds_of MNOZ) store i a r) where
-    pub mnoz-stop : {q : Question} → r ≡ Err q → DoesWith σ (question_number q) σ (rows MNOZ)
-    mnoz-stop = one-stop MNOZ (λ x y. x *ℤ y) (λ g ins. row-mnoz g ins store i) w
-
-    module _ {p : Pair} (e : r ≡ Ok p) {m : Result ℕ Question} (u : InRange (uncode p.left *ℤ uncode p.right) m) where
-      pub mnoz-over : {q : Question} → m ≡ Err q → DoesWith σ (question_number q) σ (rows MNOZ)
-      mnoz-over = one-over MNOZ (λ x y. x *ℤ y) (λ g ins. row-mnoz g ins store i) w e u
-
-      pub mnoz-done : {z : ℕ} → m ≡ Ok z → {k : ℕ} {σ' : State} → Tried σ k σ' true (replaced true i (Component.number (uncode z) ∷ []) store)
-          → DoesWith σ k σ' (rows MNOZ)
-      mnoz-done = one-result MNOZ (λ x y. x *ℤ y) (λ g ins. row-mnoz g ins store i) w e u
+      pub one-done : {z : ℕ} → m ≡ Ok z → {k : ℕ} {σ' : State} → Tried σ k σ' true (replaced true i (Component.number (uncode z) ∷ []) store)
+          → DoesWith σ k σ' (rows (op_of o))
+      one-done d t c g ins =
+          rw (row-computed g ins store i (arg_of c a) o)
+          (by_values w e c ins (one_row c ins) (code-told h i two_numbers (left ins) (right c ins) (none-stops w e c ins) v u d t))
 
   module _ {r : Result Pair Question} (w : ReadsPair (kinds_of DZIEL) store i a r) where
     abbrev two_row : List ℕ → Inputs → ℤ → ℤ → Row

@@ -1,8 +1,10 @@
 -- What the functions of arithmetic ask and tell. Numbers are their codes, the value with 8,388,607 added.
-use Rattle.std.specs.Prelude.{◌≡◌, Bool, true, false, not, cond, ℕ, ◌≤◌, ◌<◌, ℤ, pos, neg_ℤ, nat_abs, Result, IfOk}
+use Rattle.std.specs.Prelude.{◌≡◌, Bool, true, false, not, cond, ℕ, ◌≤◌, ◌<◌, ℤ, pos, neg_ℤ, nat_abs, ◌+ℤ◌, ◌-ℤ◌, ◌*ℤ◌, Result, IfOk}
 use Rattle.std.specs.Int.Signed.{non_neg}
 use Rattle.language.specs.Limits as limit
 use Rattle.language.specs.Letters.Letter.{E}
+use Rattle.language.specs.Program.{Op}
+use Rattle.language.specs.Program.Op.{DODAJ, ODEJMIJ, MNOZ}
 use Rattle.language.specs.Values.{State, in_range}
 use Rattle.machine.specs.Arguments.{expr}
 use Rattle.layout.specs.Cells.{uncode}
@@ -10,6 +12,8 @@ use Rattle.state.specs.Working.{nth}
 use Rattle.state.specs.Blocks.{FirstParts}
 use Rattle.instructions.specs.Questions.{told_by}
 use Rattle.instructions.specs.declared.Question.{Question}
+use Rattle.arithmetic.specs.declared.Computed.{Computed}
+use Rattle.arithmetic.specs.declared.Computed.TheVariants.{Sum, Difference, Product}
 
 abbrev pub negative : ℤ → Bool
 negative z = not (non_neg z)
@@ -48,6 +52,16 @@ pub record InRange (z : ℤ) (r : Result ℕ Question) : Type 0 where
   pub is : IfOk r (λ c. Codes z c)
 
 -- ---- instructions
+
+abbrev pub op_of : Computed → Op
+op_of Sum = DODAJ
+op_of Difference = ODEJMIJ
+op_of Product = MNOZ
+
+abbrev pub value_of : Computed → ℤ → ℤ → ℤ
+value_of Sum x y = x +ℤ y
+value_of Difference x y = x -ℤ y
+value_of Product x y = x *ℤ y
 
 -- expression i begins with a number
 pub record Numbered (σ : State) (i : ℕ) : Type 0 where

@@ -4,7 +4,7 @@
 ghost use Rattle.std.specs.Prelude.{◌≡◌, true, [], ◌∷◌, ◌+ℤ◌, ◌-ℤ◌, ◌*ℤ◌, ◌≤◌};
 ghost use Rattle.std.specs.Int.Signed.{quot_z, rem_z};
 ghost use Rattle.language.specs.Program.Arg.{nothing};
-ghost use Rattle.language.specs.Program.Op.{DODAJ, ODEJMIJ, MNOZ, DZIEL};
+ghost use Rattle.language.specs.Program.Op.{DZIEL};
 ghost use Rattle.language.specs.Values as values;
 ghost use Rattle.layout.specs.Cells.{uncode};
 ghost use Rattle.machine.specs.Effects.{row};
@@ -13,10 +13,18 @@ ghost use Rattle.table.specs.Denote.{arg_of};
 ghost use Rattle.instructions.specs.Questions.{told_by};
 ghost use Rattle.instructions.specs.Does.{Tried};
 ghost use Rattle.operands.specs.Operands.{PairReadable, replaced, DoesWith};
-ghost use Rattle.arithmetic.specs.Arithmetic.{negative, signed, Coded, Divisible, Size, Codes, InRange, OneResult, TwoResults};
+ghost use Rattle.arithmetic.specs.Arithmetic.{negative, signed, Coded, Divisible, Size, Codes, InRange, OneResult, TwoResults, op_of, value_of};
 
-use components::ZERO;
-use instructions::{Bench, Question};
+use components::{Amount, ZERO};
+use instructions::{Bench, Question, Source};
+
+// What an instruction with one result makes of two numbers.
+#[derive(Clone, Copy, Debug, PartialEq, Eq)]
+pub enum Computed {
+    Sum,
+    Difference,
+    Product,
+}
 
 fn is_negative(code: usize) -> bool
     ensures { result ≡ negative (uncode code) }
@@ -75,6 +83,17 @@ fn product(a: usize, b: usize) -> Result<usize, Question>
     Ok(with_sign(is_negative(a) != is_negative(b), n))
 }
 
+fn result_of(what: Computed, a: usize, b: usize) -> Result<usize, Question>
+    requires { Coded a b }
+    ensures { InRange (value_of what (uncode a) (uncode b)) result }
+{
+    match what {
+        Computed::Sum => sum(a, b),
+        Computed::Difference => difference(a, b),
+        Computed::Product => product(a, b),
+    }
+}
+
 // "DZIEL cuts toward zero."
 fn quotient(a: usize, b: usize) -> usize
     requires { Divisible a b }
@@ -97,7 +116,14 @@ fn put_one(bench: &mut Bench, i: usize, code: usize) -> Result<(), Question>
     ensures { Tried bench.old.state (told_by result) bench.new.state true (replaced true i (values.Component.number (uncode code) ∷ []) bench.old.state.store) }
 {
     components::put_number(&mut bench.hold, 0, code);
-    operands::replace(&mut bench.state, true, i, 5, 0, &bench.hold[..5], 1, 0)
+    let source = Source { removes: true, i };
+    operands::replace(
+        &mut bench.state,
+        source,
+        operands::NUMBER,
+        &bench.hold[..5],
+        operands::NUMBER,
+    )
 }
 
 // Puts two numbers in the place of the first component of expression `i`, which is a number.
@@ -108,37 +134,33 @@ fn put_two(bench: &mut Bench, i: usize, first: usize, second: usize) -> Result<(
 {
     components::put_number(&mut bench.hold, 0, first);
     components::put_number(&mut bench.hold, 5, second);
-    operands::replace(&mut bench.state, true, i, 5, 0, &bench.hold[..10], 2, 0)
+    let source = Source { removes: true, i };
+    let two = Amount {
+        parts: 2,
+        bytes: 10,
+        chars: 0,
+    };
+    operands::replace(
+        &mut bench.state,
+        source,
+        operands::NUMBER,
+        &bench.hold[..10],
+        two,
+    )
 }
 
-// DODAJ of expression `i`.
-// This, ODEJMIJ and MNOZ are three functions: a closure for what differs would need a contract of its own.
-pub fn dodaj(bench: &mut Bench, i: usize, arg: table::Argument) -> Result<(), Question>
+// DODAJ, ODEJMIJ or MNOZ of expression `i`.
+pub fn compute(
+    bench: &mut Bench,
+    i: usize,
+    arg: table::Argument,
+    what: Computed,
+) -> Result<(), Question>
     requires { PairReadable i arg }
-    ensures { DoesWith bench.old.state (told_by result) bench.new.state (λ c g ins. row g ins bench.old.state.store (nth (reading true) i) (arg_of c arg) nothing DODAJ) }
+    ensures { DoesWith bench.old.state (told_by result) bench.new.state (λ c g ins. row g ins bench.old.state.store (nth (reading true) i) (arg_of c arg) nothing (op_of what)) }
 {
     let p = operands::two_operands(&bench.state, i, arg, operands::Kinds::Numbers)?;
-    let z = sum(p.left, p.right)?;
-    put_one(bench, i, z)
-}
-
-// ODEJMIJ of expression `i`.
-pub fn odejmij(bench: &mut Bench, i: usize, arg: table::Argument) -> Result<(), Question>
-    requires { PairReadable i arg }
-    ensures { DoesWith bench.old.state (told_by result) bench.new.state (λ c g ins. row g ins bench.old.state.store (nth (reading true) i) (arg_of c arg) nothing ODEJMIJ) }
-{
-    let p = operands::two_operands(&bench.state, i, arg, operands::Kinds::Numbers)?;
-    let z = difference(p.left, p.right)?;
-    put_one(bench, i, z)
-}
-
-// MNOZ of expression `i`.
-pub fn mnoz(bench: &mut Bench, i: usize, arg: table::Argument) -> Result<(), Question>
-    requires { PairReadable i arg }
-    ensures { DoesWith bench.old.state (told_by result) bench.new.state (λ c g ins. row g ins bench.old.state.store (nth (reading true) i) (arg_of c arg) nothing MNOZ) }
-{
-    let p = operands::two_operands(&bench.state, i, arg, operands::Kinds::Numbers)?;
-    let z = product(p.left, p.right)?;
+    let z = result_of(what, p.left, p.right)?;
     put_one(bench, i, z)
 }
 

@@ -20,23 +20,12 @@ pub fn clear(dst: &mut [u8], at: usize, n: usize)
     dst[at..at + n].fill(0);
 }
 
-// A byte as a number.
-pub fn wide(b: u8) -> usize
-    ensures { Number b 256 result }
-{
-    usize::from(b)
-}
-
-// Two and three cells byte by byte: `from_le_bytes` takes two, four or eight, so three have no other form.
-
 // The number in the two cells from `at` on.
 pub fn two_at(cells: &[u8], at: usize) -> usize
     requires { at + 2 ≤ length cells.now }
     ensures { Number (two_at at cells.now) 65536 result }
 {
-    let low = usize::from(cells[at]);
-    let high = usize::from(cells[1 + at]);
-    low + 256 * high
+    usize::from(u16::from_le_bytes([cells[at], cells[1 + at]]))
 }
 
 // The number in the three cells from `at` on.
@@ -44,10 +33,7 @@ pub fn three_at(cells: &[u8], at: usize) -> usize
     requires { at + 3 ≤ length cells.now }
     ensures { Number (three_at at cells.now) 16777216 result }
 {
-    let low = usize::from(cells[at]);
-    let middle = usize::from(cells[1 + at]);
-    let high = usize::from(cells[2 + at]);
-    low + 256 * middle + 65536 * high
+    u32::from_le_bytes([cells[at], cells[1 + at], cells[2 + at], 0]) as usize
 }
 
 // Writes `n` into the two cells from `at` on.
@@ -55,8 +41,7 @@ pub fn put_two(dst: &mut [u8], at: usize, n: usize)
     requires { Writable at 2 (length dst.old) n 65536 }
     ensures { dst.new ≡ pasted dst.old at (two n) }
 {
-    dst[at] = (n % 256) as u8;
-    dst[at + 1] = (n / 256) as u8;
+    put(dst, at, &(n as u16).to_le_bytes());
 }
 
 // Writes `n` into the three cells from `at` on.
@@ -64,9 +49,7 @@ pub fn put_three(dst: &mut [u8], at: usize, n: usize)
     requires { Writable at 3 (length dst.old) n 16777216 }
     ensures { dst.new ≡ pasted dst.old at (three n) }
 {
-    dst[at] = (n % 256) as u8;
-    dst[at + 1] = (n / 256 % 256) as u8;
-    dst[at + 2] = (n / 65536) as u8;
+    put(dst, at, &(n as u32).to_le_bytes()[..3]);
 }
 
 // The number in cell `k` of 32 bits.

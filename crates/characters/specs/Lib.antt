@@ -1,2 +1,3 @@
 pub mod Characters
 pub mod Below
+pub mod Classes

@@ -3,49 +3,81 @@
 
 ghost use Rattle.std.specs.Prelude.{◌≡◌, ◌<◌, eqb, position};
 ghost use Rattle.lists.specs.Lists.{all};
-ghost use Rattle.characters.specs.Characters.{rank, byte_of, known, between, is_capital, is_digit, class_of, class_place, class_places, known_marks, precedes};
+ghost use Rattle.characters.specs.Characters.{rank, byte_of, known, between, is_capital, is_digit, class_of, precedes};
+ghost use Rattle.characters.specs.Classes.{letter_of, place_of};
 
 pub const COUNT: usize = 87;
 
-// The characters by rank: that of rank k at k - 1, and its class at the same place of `CLASSES`.
-pub const CHARACTERS: [u8; COUNT] =
+// The characters by rank: that of rank k at k - 1.
+const CHARACTERS: [u8; COUNT] =
     *b" .(+*);-/,:'=[]<>?\x1b\x0eABCDEFGHIJKLMNOPQRSTUVWXYZabcdefghijklmnopqrstuvwxyz\x0f0123456789\n\x0c\r\x7f";
 
-pub const CLASSES: [u8; COUNT] =
-    *b"BRRRRRRRRRRRRRRRRRRRLLLLLLLLLLLLLLLLLLLLLLLLLLLLLLLLLLLLLLLLLLLLLLLLLLLLRDDDDDDDDDDRRRR";
-
-// The same by byte, to be lent to loops: 1 for a character and 0 for any other byte,
-pub const MARKS: [u8; 256] =
+// By byte: 1 for a character and 0 for any other. A table, since a match over ranges takes three to five times as long a byte; a static, since a
+// constant would be copied at each use.
+static MARKS: [u8; 256] =
     *b"0000000000101111000000000001000010000001111111111111111111111111011111111111111111111111111101000111111111111111111111111110000100000000000000000000000000000000000000000000000000000000000000000000000000000000000000000000000000000000000000000000000000000000";
 
-// and the place of its class in LDBR.
-pub const PLACES: [u8; 256] =
-    *b"3333333333333333333333333333333323333333333333331111111111333333300000000000000000000000000333333000000000000000000000000003333333333333333333333333333333333333333333333333333333333333333333333333333333333333333333333333333333333333333333333333333333333333";
+// "Classes: L letters, D digits, B space, R the rest"
+#[derive(Clone, Copy, Debug, PartialEq, Eq)]
+pub enum Class {
+    Letter,
+    Digit,
+    Space,
+    Rest,
+}
 
-// Both bounds are tested by hand, here and in `class_at`: a `get` would hide that rank 0 has no place.
+impl Class {
+    // The class of a byte.
+    pub fn of(b: u8) -> Self
+        ensures { letter_of result ≡ class_of b }
+    {
+        match b {
+            b'A'..=b'Z' | b'a'..=b'z' => Class::Letter,
+            b'0'..=b'9' => Class::Digit,
+            b' ' => Class::Space,
+            _ => Class::Rest,
+        }
+    }
+
+    pub fn letter(self) -> u8
+        ensures { result ≡ letter_of self }
+    {
+        match self {
+            Class::Letter => b'L',
+            Class::Digit => b'D',
+            Class::Space => b'B',
+            Class::Rest => b'R',
+        }
+    }
+
+    // The place of the letter in LDBR.
+    pub fn place(self) -> u8
+        ensures { (result ≡ place_of self) × (result < 4) }
+    {
+        match self {
+            Class::Letter => 0,
+            Class::Digit => 1,
+            Class::Space => 2,
+            Class::Rest => 3,
+        }
+    }
+}
+
+// The character of a rank, and 0 for a number that is none.
 pub fn byte_of(r: usize) -> u8
     ensures { result ≡ byte_of r }
 {
-    if r == 0 {
+    let Some(k) = r.checked_sub(1) else {
         return 0;
-    }
-    if COUNT < r {
-        return 0;
-    }
-    CHARACTERS[r - 1]
+    };
+    CHARACTERS.get(k).copied().unwrap_or(0)
 }
 
-// The class of the character of a rank.
+// The letter of the class of the character of a rank.
 pub fn class_at(r: usize) -> u8
     ensures { result ≡ class_of (byte_of r) }
 {
-    if r == 0 {
-        return b'R';
-    }
-    if COUNT < r {
-        return b'R';
-    }
-    CLASSES[r - 1]
+    Class::of(byte_of(r)).letter()
 }
 
 pub fn between(a: u8, z: u8, b: u8) -> bool
@@ -89,33 +121,17 @@ fn rank(b: u8) -> usize
     place_in(b, &CHARACTERS).unwrap_or(COUNT) + 1
 }
 
-// Whether a byte is a character, by the table lent.
-pub fn is_known(b: u8, marks: &[u8]) -> bool
-    requires { marks.now ≡ known_marks }
+// Whether a byte is a character.
+pub fn is_known(b: u8) -> bool
     ensures { result ≡ known b }
 {
-    marks[usize::from(b)] == b'1'
-}
-
-// The class of a byte, by its place in LDBR and by the table lent.
-pub fn class_of(b: u8, places: &[u8]) -> u8
-    requires { places.now ≡ class_places }
-    ensures { (result ≡ class_place b) × (result < 4) }
-{
-    places[usize::from(b)] % 4
-}
-
-pub fn are_known(s: &[u8], marks: &[u8]) -> bool
-    requires { marks.now ≡ known_marks }
-    ensures { result ≡ all known s.now }
-{
-    s.iter().all(|b| is_known(*b, marks))
+    MARKS[usize::from(b)] == b'1'
 }
 
 pub fn all_known(s: &[u8]) -> bool
     ensures { result ≡ all known s.now }
 {
-    are_known(s, &MARKS)
+    s.iter().all(|b| is_known(*b))
 }
 
 // The first place where the words differ decides, and where there is none their lengths.

@@ -21,6 +21,14 @@ pub enum Kind {
     Address = 2,
 }
 
+// How much components are: how many, their bytes and their characters.
+#[derive(Clone, Copy, Debug, PartialEq, Eq)]
+pub struct Amount {
+    pub parts: usize,
+    pub bytes: usize,
+    pub chars: usize,
+}
+
 // The code of 0: a number travels as its value with this added, which is the greatest size of one.
 pub const ZERO: usize = Machine::SIZE;
 
@@ -182,5 +190,5 @@ pub fn split(out: &mut [u8], w: &[u8]) -> usize
 
 // Of `cells`, passed on to the crates above.
 pub mod from_cells {
-    pub use cells::{put, wide};
+    pub use cells::put;
 }

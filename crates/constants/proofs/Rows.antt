@@ -46,7 +46,7 @@ use Rattle.transfers.specs.Places.{room_of, Roomy, Lot}
 use Rattle.transfers.proofs.Inserting.{one-encoded, plus-same}
 use Rattle.transfers.proofs.Rooms.{room-stop, has_room, lot-fits, lot-last, lot-writable, lot-stored}
 use Rattle.constants.specs.Constants.{Put}
-use Rattle.constants.specs.declared.Constant.{Constant}
+use Rattle.components.specs.declared.Amount.{Amount}
 
 -- ---- constants
 
@@ -57,10 +57,11 @@ word-long v = omega arith
 pub text-long : {v g : List ℕ} {n : ℕ} → Beside (word v ∷ []) g n → n ≡ 1 + length v
 text-long {v} {g} {n} h = sym (length-take-le n g h.inside) ∙ ap length h.encoded.is ∙ ap length (components_bytes-one (word v)) ∙ word-long v
 
-pub text_put : {v g : List ℕ} {n : ℕ} → Beside (word v ∷ []) g n → length v ≤ 60 → Put (text v) g (record { bytes = n; chars = n - 1 })
+pub text_put : {v g : List ℕ} {n : ℕ} → Beside (word v ∷ []) g n → length v ≤ 60 → Put (text v) g (record { parts = 1; bytes = n; chars = n - 1 })
 text_put {v} h l =
     record {
       part = word v;
+      single = refl;
       is = λ ins s. refl;
       encoded = h.encoded;
       inside = h.inside;
@@ -78,12 +79,13 @@ code_ok : (v : ℕ) → v ≤ 16777214 → nat_abs (uncode v) ≤ limit.size
 code_ok v h = code_by (leb 8388607 v) v refl h
 
 pub number_put : (v : ℕ) → v ≤ 16777214 → (d : List ℕ) {d' : List ℕ} → d' ≡ pasted d 0 (component_bytes (Component.number (uncode v)))
-    → 5 ≤ length d' → Put (Arg.number (uncode v)) d' (record { bytes = 5; chars = 0 })
+    → 5 ≤ length d' → Put (Arg.number (uncode v)) d' (record { parts = 1; bytes = 5; chars = 0 })
 unfolding component_bytes
 number_put v h d q l =
     let x : Component = Component.number (uncode v) in
     record {
       part = x;
+      single = refl;
       is = λ ins s. refl;
       encoded = copied-front d 5 q refl (record { is = sym (components_bytes-one x); all_ok = (code_ok v h, tt) });
       inside = l;
@@ -92,12 +94,12 @@ number_put v h d q l =
       chars_most = omega arith;
     }
 
-pub as-put : (t : List ℕ) {o : List ℕ} {r : Constant} {a b : Argument} → a ≡ b → Put (arg_of t b) o r → Put (arg_of t a) o r
+pub as-put : (t : List ℕ) {o : List ℕ} {r : Amount} {a b : Argument} → a ≡ b → Put (arg_of t b) o r → Put (arg_of t a) o r
 as-put t {o} {r} e w = subst (λ (x : Argument). Put (arg_of t x) o r) (sym e) w
 
 -- ---- to an expression and to a file
 
-module _ {σ : State} (h : Stands σ) {a : Arg} {o : List ℕ} {bytes size : ℕ} (w : Put a o (record { bytes = bytes; chars = size })) where
+module _ {σ : State} (h : Stands σ) {a : Arg} {o : List ℕ} {parts bytes size : ℕ} (w : Put a o (record { parts = parts; bytes = bytes; chars = size })) where
   abbrev s : Store
   s = σ.store
 
@@ -125,12 +127,12 @@ module _ {σ : State} (h : Stands σ) {a : Arg} {o : List ℕ} {bytes size : ℕ
     row_is : (g : Program) (ins : Inputs) (reverses : Bool) → placed g ins reverses ≡ (none, put s, on)
     row_is g ins reverses = row_by g ins reverses at_end ∙ ap (λ (t : Store). (none, t, on)) (into_one reverses at_end j x s)
 
-    module _ {b : Bool} (q : b ≡ (leb (components_held s + 1) limit.components && leb (chars_held s + size) limit.characters)) where
+    module _ {b : Bool} (q : b ≡ (leb (components_held s + parts) limit.components && leb (chars_held s + size) limit.characters)) where
       pub expr-full : b ≡ false → (reverses : Bool) → DoesFor σ 59 σ (λ g ins. placed g ins reverses)
-      expr-full z reverses g ins = rw (row_is g ins reverses) (plain-full h (put s) (fits-written h w.encoded d refl size_is at_end ∙ sym q ∙ z))
+      expr-full z reverses g ins = rw (row_is g ins reverses) (plain-full h (put s) (fits-written h w.encoded d refl size_is at_end ∙ sym (rw w.single at q) ∙ z))
 
-      pub expr-writable : b ≡ true → PartsWritable σ j (take bytes o) 1 size
-      expr-writable z = writable h w.encoded d refl size_is (sym q ∙ z)
+      pub expr-writable : b ≡ true → PartsWritable σ j (take bytes o) parts size
+      expr-writable z = rw w.single (writable h w.encoded d refl size_is (sym (rw w.single at q) ∙ z))
 
     pub expr-done : {σ' : State} → HoldsState σ' (on_store (into (nth (writing at_end) j) (components_in (take bytes o))) σ)
         → (reverses : Bool) → DoesFor σ 0 σ' (λ g ins. placed g ins reverses)
@@ -164,14 +166,14 @@ module _ {σ : State} (h : Stands σ) {a : Arg} {o : List ℕ} {bytes size : ℕ
           last_is = refl;
         }
 
-    pub file-stop : {r : ℕ} → r ≡ room_of s 1 1 size 1 → (r ≡ 0 → ⊥) → DoesFor σ r σ filed
+    pub file-stop : {r : ℕ} → r ≡ room_of s 1 parts size 1 → (r ≡ 0 → ⊥) → DoesFor σ r σ filed
     file-stop v z g ins =
         rw (file-by g ins b, ← plus-same (kept s))
-        (room-stop h none quiet_none refl (minus_unless true (kept s)) 1 1 size 1 (lot-fits lot b d true) (lot-last lot b d true) v z)
+        (room-stop h none quiet_none refl (minus_unless true (kept s)) 1 1 size 1 (lot-fits lot b d true) (lot-last lot b d true) (rw w.single at v) z)
 
-    module _ (v : 0 ≡ room_of s 1 1 size 1) where
+    module _ (v : 0 ≡ room_of s 1 parts size 1) where
       roomy : Roomy s 1 1 size 1
-      roomy = has_room s 1 1 size 1 v
+      roomy = has_room s 1 1 size 1 (rw w.single at v)
 
       part-long : bytes ≡ length (take bytes o)
       part-long = sym (length-take-le bytes o w.inside)
@@ -199,8 +201,8 @@ module _ {σ : State} (h : Stands σ) {a : Arg} {o : List ℕ} {bytes size : ℕ
         unfolding on_store
         same_store = h
 
-        pub file-writable : RecordsWritable σ j b (take (bytes + 7) new) 1 1 size
-        file-writable = lot-writable lot b d σ (λ t. t) refl same_store new-record roomy
+        pub file-writable : RecordsWritable σ j b (take (bytes + 7) new) 1 parts size
+        file-writable = rw w.single (lot-writable lot b d σ (λ t. t) refl same_store new-record roomy)
 
         pub file-done : {σ' : State} → HoldsState σ' (on_store (stored (nth (filing b) j) (bodies b (take (bytes + 7) new))) σ)
             → DoesFor σ 0 σ' filed

@@ -11,7 +11,7 @@ use Rattle.table.specs.Good.{GoodText, GoodArgument}
 use Rattle.table.specs.declared.Argument.{Argument}
 use Rattle.table.specs.declared.Argument.TheVariants.{Nothing, Indexed, Label, Switch, Class, Text, Number}
 use Rattle.table.specs.declared.TextRef.{TextRef}
-use Rattle.constants.specs.declared.Constant.{Constant}
+use Rattle.components.specs.declared.Amount.{Amount}
 
 -- a text or a number
 abbrev pub IsConstant : Argument → Type 0
@@ -28,8 +28,9 @@ pub record Puttable (c : List ℕ) (a : Argument) : Type 0 where
   pub form : IsConstant a
 
 -- the component that the argument a offers stands in front of o
-pub record Put (a : Arg) (o : List ℕ) (r : Constant) : Type 0 where
+pub record Put (a : Arg) (o : List ℕ) (r : Amount) : Type 0 where
   pub part : Component
+  pub single : r.parts ≡ 1
   pub is : (ins : Inputs) (s : Store) → side ins s a ≡ part ∷ []
   pub encoded : Encoded (take r.bytes o) (part ∷ [])
   pub inside : r.bytes ≤ length o

@@ -16,34 +16,33 @@ ghost use Rattle.instructions.specs.Does.{DoesFor};
 ghost use Rattle.instructions.specs.Operands as letters;
 ghost use Rattle.constants.specs.Constants.{Puttable, Put, Placeable, TextPlaceable};
 
-use instructions::{Bench, Question, Target};
+use components::Amount;
+use instructions::{Bench, FileTarget, Question, Target};
 use language::Machine;
 use layout::StatePlaces;
 use table::{Table, TextRef};
 
-// A component that was written: how many bytes and characters it has.
-#[derive(Clone, Copy, Debug, PartialEq, Eq)]
-pub struct Constant {
-    pub bytes: usize,
-    pub chars: usize,
-}
-
-// Writes a text or number argument as a component at the front of `out`.
-fn put_constant(table: Table, out: &mut [u8; 32768], arg: table::Argument) -> Constant
+// Writes a text or number argument as a component at the front of `out`, and tells how much it is.
+fn put_constant(table: Table, out: &mut [u8; 32768], arg: table::Argument) -> Amount
     requires { Puttable table.cells.now arg }
     ensures { Put (arg_of (table_of table.entry.cells.now) arg) out.new result }
 {
     match arg {
         table::Argument::Text(text) => {
             let n = tests::put_text(table, out, text);
-            Constant {
+            Amount {
+                parts: 1,
                 bytes: n,
                 chars: n - 1,
             }
         }
         table::Argument::Number(v) => {
             components::put_number(out, 0, v as usize);
-            Constant { bytes: 5, chars: 0 }
+            Amount {
+                parts: 1,
+                bytes: 5,
+                chars: 0,
+            }
         }
         _ => unreachable!(),
     }
@@ -61,44 +60,35 @@ pub fn umiesc_expr(
 {
     bench.state.stands();
     let c = put_constant(table, &mut bench.hold, arg);
-    let bytes = c.bytes;
-    let chars = c.chars;
-    if !instructions::has_room(&bench.state, 1, chars) {
+    if !instructions::has_room(&bench.state, c) {
         return Err(Question::Room);
     }
-    bench
-        .state
-        .write_parts(target.j, target.at_end, &bench.hold[..bytes], 1, chars);
+    bench.state.write_parts(target, &bench.hold[..c.bytes], c);
     Ok(())
 }
 
-// UMIESC to file `j`, as a record.
+// UMIESC to a file, as a record.
 pub fn umiesc_file(
     table: Table,
     bench: &mut Bench,
-    turned: bool,
-    j: usize,
+    target: FileTarget,
     arg: table::Argument,
 ) -> Result<(), Question>
-    requires { Placeable table.cells.now arg j limit.files }
-    ensures { DoesFor bench.old.state (told_by result) bench.new.state (λ g ins. row g ins bench.old.state.store (arg_of (table_of table.entry.cells.now) arg) (nth (filing turned) j) nothing UMIESC) }
+    requires { Placeable table.cells.now arg target.j limit.files }
+    ensures { DoesFor bench.old.state (told_by result) bench.new.state (λ g ins. row g ins bench.old.state.store (arg_of (table_of table.entry.cells.now) arg) (nth (filing target.reverses) target.j) nothing UMIESC) }
 {
     bench.state.stands();
     let c = put_constant(table, &mut bench.given, arg);
-    let bytes = c.bytes;
-    let chars = c.chars;
-    transfers::room_for(&bench.state, 1, 1, chars, 1)?;
+    transfers::room_for(&bench.state, 1, c, 1)?;
     let last = bench.state.number(StatePlaces::LAST_SCALAR);
-    records::put_record(&mut bench.hold, last + 1, &bench.given[..bytes]);
-    filing::write_records(
-        &mut bench.state,
-        j,
-        turned,
-        &bench.hold[..bytes + 7],
-        1,
-        1,
-        chars,
-    );
+    records::put_record(&mut bench.hold, last + 1, &bench.given[..c.bytes]);
+    let bytes = c.bytes + 7;
+    let record = Amount {
+        parts: c.parts,
+        bytes,
+        chars: c.chars,
+    };
+    filing::write_records(&mut bench.state, target, &bench.hold[..bytes], 1, record);
     Ok(())
 }
 

@@ -55,11 +55,12 @@ module _ (σ : State) {i : ℕ} (h : i < limit.expressions) where
   abbrev es : List Component
   es = expr σ.store (nth E i)
 
-  pub word-replaceable : {c : ℕ} → OneNumber (take 1 es) c → {o o' : List ℕ} {m : ℕ} → NumeralPut o c o' m → Replaceable σ i 5 0 (take (1 + m) o') 1 m
+  pub word-replaceable : {c : ℕ} → OneNumber (take 1 es) c → {o o' : List ℕ} {m : ℕ} → NumeralPut o c o' m → Replaceable σ i (record { parts = 1; bytes = 5; chars = 0 }) (take (1 + m) o') (record { parts = 1; bytes = 1 + m; chars = m })
   word-replaceable {c} w u =
       let d = numeral-encoded u in
       record {
         index = h;
+        single = refl;
         first = number-first es (uncode c) w.is;
         letters_most = omega arith;
         whole = whole-components d;
@@ -70,11 +71,12 @@ module _ (σ : State) {i : ℕ} (h : i < limit.expressions) where
       }
 
   pub number-replaceable : {w : Spelled} → Spells es w → (o : List ℕ) {o' : List ℕ} → o' ≡ pasted o 0 (component_bytes (Component.number (uncode w.code)))
-      → Replaceable σ i (1 + w.letters) w.letters (take 5 o') 1 0
+      → Replaceable σ i (record { parts = 1; bytes = 1 + w.letters; chars = w.letters }) (take 5 o') (record { parts = 1; bytes = 5; chars = 0 })
   number-replaceable {w} v o q =
       let d = number-held w.code v.most o q in
       record {
         index = h;
+        single = refl;
         first = v.first_is;
         letters_most = omega (arith, v.letters_most);
         whole = whole-components d;

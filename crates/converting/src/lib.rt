@@ -13,8 +13,9 @@ ghost use Rattle.instructions.specs.Questions.{told_by};
 ghost use Rattle.instructions.specs.Does.{DoesFor};
 ghost use Rattle.converting.specs.Converting.{NumeralPut, ReadsNumeral};
 
-use components::Kind;
+use components::{Amount, Kind};
 use instructions::{Bench, Question, Source};
+use numerals::NoNumber;
 use state::Working;
 
 // The number that a word writes, with 8,388,607 added; and how many letters the word has.
@@ -41,22 +42,16 @@ fn first_numeral(state: &Working, i: usize) -> Result<Spelled, Question>
     ensures reads { ReadsNumeral (expr state.now.store (nth E i)) result }
     ensures stands { Stands state.now }
 {
-    let x = state.expr_bytes(i);
-    if x.is_empty() {
-        return Err(Question::Missing);
-    }
-    if components::kind_of(x) != Kind::Word {
-        return Err(Question::Kind);
-    }
+    let x = instructions::front_of(state, i, Kind::Word)?;
     let w = components::chars_of(x);
-    // A match and no `?` after a `From`: such a `From` would make `decimals` or `instructions` use the other for this place alone.
-    match decimals::read_decimal(w) {
-        decimals::Numeral::NotNumeral => Err(Question::Kind),
-        decimals::Numeral::OutOfRange => Err(Question::Range),
-        decimals::Numeral::Code(c) => Ok(Spelled {
-            code: c,
+    // A match and no `?` after a `From`: such a `From` would make `numerals` or `instructions` use the other for this place alone.
+    match numerals::read_decimal(w) {
+        Ok(code) => Ok(Spelled {
+            code: code as usize,
             letters: w.len(),
         }),
+        Err(NoNumber::NotNumeral) => Err(Question::Kind),
+        Err(NoNumber::OutOfRange) => Err(Question::Range),
     }
 }
 
@@ -67,15 +62,17 @@ pub fn slowo(bench: &mut Bench, source: Source) -> Result<(), Question>
 {
     let code = operands::first_number(&bench.state, source.i)?;
     let n = put_numeral(&mut bench.hold, code);
+    let word = Amount {
+        parts: 1,
+        bytes: 1 + n,
+        chars: n,
+    };
     operands::replace(
         &mut bench.state,
-        source.removes,
-        source.i,
-        5,
-        0,
+        source,
+        operands::NUMBER,
         &bench.hold[..1 + n],
-        1,
-        n,
+        word,
     )
 }
 
@@ -86,14 +83,16 @@ pub fn liczba(bench: &mut Bench, source: Source) -> Result<(), Question>
 {
     let w = first_numeral(&bench.state, source.i)?;
     components::put_number(&mut bench.hold, 0, w.code);
+    let word = Amount {
+        parts: 1,
+        bytes: 1 + w.letters,
+        chars: w.letters,
+    };
     operands::replace(
         &mut bench.state,
-        source.removes,
-        source.i,
-        1 + w.letters,
-        w.letters,
+        source,
+        word,
         &bench.hold[..5],
-        1,
-        0,
+        operands::NUMBER,
     )
 }

@@ -20,10 +20,11 @@ ghost use Rattle.instructions.specs.Questions.{told_by};
 ghost use Rattle.instructions.specs.Does.{DoesFor};
 ghost use Rattle.copying.specs.Copies.{passed, copied, Droppable, Duplicable, RecordsRemovable, RecordsMovable, Storing};
 
-use instructions::{Bench, Question, Source};
+use components::Amount;
+use instructions::{Bench, FileTarget, Question, Source};
 use layout::StatePlaces;
 use record_tests::RecordsPrepared;
-use records::{RecordTest, Totals};
+use records::RecordTest;
 use state::Working;
 use table::Table;
 
@@ -33,7 +34,7 @@ fn pass_taken(state: &mut Working, hold: &mut [u8; 32768], test: RecordTest, i: 
     ensures { HoldsState state.new (on_store (passed (until_records test.entry) false i) state.old) }
 {
     let t = records::count(filing::after_bytes(state, i), test);
-    filing::pass_records(state, hold, i, t.records, t.bytes);
+    filing::pass_records(state, hold, i, t.end);
     state.minus_unless(t.reached);
 }
 
@@ -45,9 +46,8 @@ fn drop_taken(state: &mut Working, test: RecordTest, i: usize)
 {
     let f = filing::after_bytes(state, i);
     let t = records::count(f, test);
-    let bytes = t.bytes;
-    let v = records::totals_of(&f[..bytes]);
-    filing::drop_records(state, i, t.records, bytes, v.parts, v.chars);
+    let v = records::totals_of(&f[..t.end.bytes]);
+    filing::drop_records(state, i, t.end.records, v);
     state.minus_unless(t.reached);
 }
 
@@ -91,77 +91,59 @@ fn restamp(dst: &mut [u8], src: &[u8], last: usize, reverses: bool)
     }
 }
 
-// Writes new records to file `j`, and turns H minus unless the test was reached.
+// Writes new records, how many and how much they are, to a file, and turns H minus unless the test was reached.
 fn file_copies(
     state: &mut Working,
-    j: usize,
-    reverses: bool,
+    target: FileTarget,
     new: &[u8],
     records: usize,
-    totals: Totals,
+    amount: Amount,
     reached: bool,
 )
-    requires { RecordsWritable state.old j reverses new.now records totals.parts totals.chars }
-    ensures { HoldsState state.new (on_store (λ t. minus_unless reached (stored (nth (filing reverses) j) (bodies reverses new.now) t)) state.old) }
+    requires { RecordsWritable state.old target.j target.reverses new.now records amount.parts amount.chars }
+    ensures { HoldsState state.new (on_store (λ t. minus_unless reached (stored (nth (filing target.reverses) target.j) (bodies target.reverses new.now) t)) state.old) }
 {
-    filing::write_records(state, j, reverses, new, records, totals.parts, totals.chars);
+    filing::write_records(state, target, new, records, amount);
     state.minus_unless(reached);
 }
 
-// Copies what a test takes after the pointer of a file to file `j`. Moving the pointer writes over the bytes beside the test.
+// Copies what a test takes after the pointer of a file to another. Moving the pointer writes over the bytes beside the test.
 fn copy_taken(
     bench: &mut Bench,
     prepared: RecordsPrepared,
     source: Source,
-    reverses: bool,
-    j: usize,
+    target: FileTarget,
 ) -> Result<(), Question>
-    requires { Duplicable bench.old.given prepared source.i j }
-    ensures { Storing bench.old.state (told_by result) bench.new.state (copied (until_records_in prepared bench.old.given) source.removes source.i reverses j bench.old.state.store) }
+    requires { Duplicable bench.old.given prepared source.i target.j }
+    ensures { Storing bench.old.state (told_by result) bench.new.state (copied (until_records_in prepared bench.old.given) source.removes source.i target.reverses target.j bench.old.state.store) }
 {
     bench.state.stands();
     let f = filing::after_bytes(&bench.state, source.i);
     let t = records::count(f, prepared.with(&bench.given));
-    let k = t.records;
-    let bytes = t.bytes;
+    let k = t.end.records;
+    let bytes = t.end.bytes;
     let v = records::totals_of(&f[..bytes]);
-    transfers::room_for(
-        &bench.state,
-        transfers::left(source.removes, k),
-        transfers::left(source.removes, v.parts),
-        transfers::left(source.removes, v.chars),
-        k,
-    )?;
+    transfers::room_for(&bench.state, source.left(k), source.amount_left(v), k)?;
     let last = bench.state.number(StatePlaces::LAST_SCALAR);
-    restamp(&mut bench.hold, &f[..bytes], last, reverses);
-    filing::past_records(
-        &mut bench.state,
-        &mut bench.given,
-        source.i,
-        source.removes,
-        k,
-        bytes,
-        v.parts,
-        v.chars,
-    );
+    restamp(&mut bench.hold, &f[..bytes], last, target.reverses);
+    filing::past_records(&mut bench.state, &mut bench.given, source, k, v);
     let new = &bench.hold[..bytes];
-    file_copies(&mut bench.state, j, reverses, new, k, v, t.reached);
+    file_copies(&mut bench.state, target, new, k, v, t.reached);
     Ok(())
 }
 
-// KOPIUJ from a file to file `j`.
+// KOPIUJ from a file to a file.
 pub fn kopiuj(
     table: Table,
     bench: &mut Bench,
     source: Source,
-    reverses: bool,
-    j: usize,
+    target: FileTarget,
     arg: table::Argument,
 ) -> Result<(), Question>
-    requires { RecordsMovable table.cells.now source.i j arg }
-    ensures { DoesFor bench.old.state (told_by result) bench.new.state (λ g ins. row g ins bench.old.state.store (nth (filing source.removes) source.i) (nth (filing reverses) j) (arg_of (table_of table.entry.cells.now) arg) KOPIUJ) }
+    requires { RecordsMovable table.cells.now source.i target.j arg }
+    ensures { DoesFor bench.old.state (told_by result) bench.new.state (λ g ins. row g ins bench.old.state.store (nth (filing source.removes) source.i) (nth (filing target.reverses) target.j) (arg_of (table_of table.entry.cells.now) arg) KOPIUJ) }
 {
     bench.state.stands();
     let q = record_tests::prepare(table, &bench.state, &mut bench.given, arg)?;
-    copy_taken(bench, q, source, reverses, j)
+    copy_taken(bench, q, source, target)
 }

@@ -4,6 +4,8 @@ use mathlib.Core.Bool.{Bool, true, false}
 use mathlib.Core.List.{List, [], ◌∷◌, ◌++◌, append_assoc, append-nil}
 use Prim.Native.Nat.{ℕ, zero, suc, ◌+◌, ◌-◌, ◌*◌, ◌/◌, ◌%◌, ◌^◌, ◌≤◌, ◌<◌}
 use native.Mathlib.Nat.{pow-suc, one-le-pow}
+use native.Mathlib.Decide.{dec_le}
+use Rattle.std.proofs.Math.Nat.{pow-le-pow_right}
 use native.Mathlib.Omega.{arith}
 use lib.Dec.{ltb}
 use lib.ListN.{length, take, drop, set, length-append, length-take, length-set}
@@ -15,7 +17,7 @@ use Rattle.components.proofs.Makings.{behind-one}
 use Rattle.components.specs.Parts.{Written}
 use Rattle.language.specs.Values.{digits, decimal}
 use Rattle.layout.specs.Cells.{uncode}
-use Rattle.decimals.specs.Numerals.{DigitsPut}
+use Rattle.decimals.specs.Numerals.{Width, DigitsPut}
 
 module _ (k n : ℕ) where
   one-digit : n < 10 → digits (suc k) n ≡ (48 + n) ∷ []
@@ -116,3 +118,16 @@ module _ (d : List ℕ) (v : ℕ) where
   plus-put h {e} {r} p =
       let word : decimal (uncode v) ≡ digits 7 (v - 8388607) = rw (le-leb 8388607 v h) in
       record { is = rw word p.is; count = rw word (omega (arith, p.count)); fits = p.fits }
+
+-- the digits of n are one more than the power of ten below it
+pub width_none : (n : ℕ) → n ≡ 0 → Width n 1
+width_none n h = rw h record { is = refl; some = omega arith; most = omega arith }
+
+pub width_some : (n k : ℕ) → n < 10000000 → 10 ^ k ≤ n → n < 10 * 10 ^ k → Width n (1 + k)
+width_some n k m l u = go (dec_le 7 k)
+  where
+    go : Dec (7 ≤ k) → Width n (1 + k)
+    go (yes h) = let p : 10 ^ 7 ≤ 10 ^ k = pow-le-pow_right (omega arith) h in absurd (omega (arith, p, l, m))
+    go (no h) =
+        let s : 10 ^ suc k ≡ 10 ^ k * 10 = pow-suc 10 k in
+        record { is = omega (arith, wide 7 k n (omega (arith, h)) l (omega (arith, s, u))); some = omega arith; most = omega (arith, h) }

@@ -17,8 +17,9 @@ use Rattle.table.specs.declared.Letter.{Letter}
 use Rattle.table.specs.declared.Argument.{Argument}
 use Rattle.table.specs.declared.Argument.TheVariants.{Indexed, Label, Switch}
 use Rattle.decoding.specs.declared.Opened.{Opened}
-use Rattle.instructions.specs.declared.Source.{Source}
-use Rattle.instructions.specs.declared.Target.{Target}
+use Rattle.instructions.specs.Below.FileTarget.{FileTarget}
+use Rattle.instructions.specs.Below.Source.{Source}
+use Rattle.instructions.specs.Below.Target.{Target}
 use Rattle.decoding.specs.declared.Variable.{Variable}
 use Rattle.decoding.specs.declared.Variable.TheVariants.{Expression, Input, Output, File}
 
@@ -64,7 +65,14 @@ pub record IsOpened (a : Argument) (r : Opened) : Type 0 where
   pub is : a ≡ Indexed r.letter (suc r.i)
   pub good : GoodIndex r.letter (suc r.i)
 
--- an expression that components are read from, one that they are written to; a file that records are read from or written to
+-- a variable of a letter, and whether the letter removes what it reads
+pub record IsRead (a : Argument) (r : Source) : Type 0 where
+  pub letter : Letter
+  pub is : a ≡ Indexed letter (suc r.i)
+  pub good : GoodIndex letter (suc r.i)
+  pub removes_is : r.removes ≡ (use_of (letter_of letter)).removes
+
+-- an expression that components are read from, one that they are written to; a file that records are read from, one that they are written to
 pub record IsSource (a : Argument) (r : Source) : Type 0 where
   pub is : (t : List ℕ) → arg_of t a ≡ nth (reading r.removes) r.i
   pub below : r.i < limit.expressions
@@ -76,6 +84,10 @@ pub record IsTarget (a : Argument) (r : Target) : Type 0 where
 pub record IsFile (a : Argument) (r : Source) : Type 0 where
   pub is : (t : List ℕ) → arg_of t a ≡ nth (filing r.removes) r.i
   pub below : r.i < limit.files
+
+pub record IsFileTarget (a : Argument) (r : FileTarget) : Type 0 where
+  pub is : (t : List ℕ) → arg_of t a ≡ nth (filing r.reverses) r.j
+  pub below : r.j < limit.files
 
 -- a variable by its index from 0
 pub record IsIndex (a : Argument) (r : ℕ) : Type 0 where

@@ -6,9 +6,9 @@ ghost use Rattle.language.specs.Letters.{use_of};
 ghost use Rattle.lists.specs.Quoted.{bytes};
 ghost use Rattle.table.specs.Denote.{letter_of};
 ghost use Rattle.table.specs.declared.Argument.TheVariants.{Label, Switch};
-ghost use Rattle.decoding.specs.Operands.{Lettered, Named, Labelled, Switched, IsOpened, IsSource, IsTarget, IsFile, IsIndex, IsVariable, var_of};
+ghost use Rattle.decoding.specs.Operands.{Lettered, Named, Labelled, Switched, IsOpened, IsRead, IsSource, IsTarget, IsFile, IsFileTarget, IsIndex, IsVariable, var_of};
 
-use instructions::{Source, Target};
+use instructions::{FileTarget, Source, Target};
 
 // A letter and the index of its variable, from 0.
 #[derive(Clone, Copy, Debug, PartialEq, Eq)]
@@ -71,16 +71,24 @@ fn indexed(a: table::Argument) -> Opened
     }
 }
 
-// A or B.
-pub fn source_of(a: table::Argument) -> Source
-    requires { Named (bytes "AB") a }
-    ensures { IsSource a result }
+// The letter of an argument as it is read.
+fn read_by(a: table::Argument) -> Source
+    requires { Lettered a }
+    ensures { IsRead a result }
 {
     let Opened { letter, i } = indexed(a);
     Source {
         removes: removes(letter),
         i,
     }
+}
+
+// A or B.
+pub fn source_of(a: table::Argument) -> Source
+    requires { Named (bytes "AB") a }
+    ensures { IsSource a result }
+{
+    read_by(a)
 }
 
 // A, B, Y or Z.
@@ -96,16 +104,22 @@ pub fn target_of(a: table::Argument) -> Target
     }
 }
 
-// C or D. Not one with `source_of`: its promise is of a file.
+// C or D, read.
 pub fn file_of(a: table::Argument) -> Source
     requires { Named (bytes "CD") a }
     ensures { IsFile a result }
 {
+    read_by(a)
+}
+
+// C or D, written to.
+pub fn file_target_of(a: table::Argument) -> FileTarget
+    requires { Named (bytes "CD") a }
+    ensures { IsFileTarget a result }
+{
     let Opened { letter, i } = indexed(a);
-    Source {
-        removes: removes(letter),
-        i,
-    }
+    let reverses = reverses(letter);
+    FileTarget { reverses, j: i }
 }
 
 // The index of any letter.

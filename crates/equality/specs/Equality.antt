@@ -13,6 +13,7 @@ use Rattle.components.specs.Parts.{Leading}
 use Rattle.matching.specs.Tests.{in_class, first_chars, until, until_firsts, compared, Fitting}
 use Rattle.matching.specs.declared.Test.{Test}
 use Rattle.state.specs.Working.{nth, reading}
+use Rattle.components.specs.declared.Amount.{Amount}
 use Rattle.state.specs.Blocks.{FirstParts}
 use Rattle.table.specs.Denote.{arg_of}
 use Rattle.table.specs.declared.Letter.{Letter}
@@ -84,9 +85,11 @@ pub record Settleable (σ : State) (g : List ℕ) (i : ℕ) : Type 0 where
   pub some : filled (expr σ.store (nth E i)) ≡ true
   pub whole : WholeComponents g
 
-pub record Finishable (σ : State) (i bytes letters : ℕ) : Type 0 where
+-- its first component is so much
+pub record Finishable (σ : State) (i : ℕ) (f : Amount) : Type 0 where
   pub index : i < limit.expressions
-  pub first : FirstParts (expr σ.store (nth E i)) 1 bytes letters
+  pub single : f.parts ≡ 1
+  pub first : FirstParts (expr σ.store (nth E i)) 1 f.bytes f.chars
 
 pub record Relatable (c : List ℕ) (i : ℕ) (a : Argument) : Type 0 where
   pub other : Holdable c a

@@ -16,6 +16,7 @@ ghost use Rattle.instructions.specs.Does.{DoesFor};
 ghost use Rattle.tests.specs.Prepares.{OtherLetter};
 ghost use Rattle.equality.specs.Equality.{TestBy, OtherArgument, Singles, Alikeable, Unlike, related, settled, Finishable, Settleable, Relatable};
 
+use components::Amount;
 use instructions::{Bench, Question, Source};
 use matching::Test;
 use state::Working;
@@ -64,13 +65,13 @@ pub fn unlike(x: &[u8], given: &[u8], arg: table::Argument) -> bool
     components::kind_of(x) != components::kind_of(given)
 }
 
-// Removes the first component of the source or not, where the relation holds; else H turns minus.
-fn finish(state: &mut Working, source: Source, bytes: usize, letters: usize, holds: bool)
-    requires { Finishable state.old source.i bytes letters }
+// Removes the first component of the source, which is so much, or not, where the relation holds; else H turns minus.
+fn finish(state: &mut Working, source: Source, first: Amount, holds: bool)
+    requires { Finishable state.old source.i first }
     ensures { HoldsState state.new (on_store (related holds source.removes source.i) state.old) }
 {
     if holds {
-        state.past_parts(source.i, source.removes, 1, bytes, letters);
+        state.past_parts(source, first);
         return;
     }
     state.minus_unless(false);
@@ -82,10 +83,15 @@ fn settle(state: &mut Working, given: &[u8], source: Source, arg: table::Argumen
     ensures { HoldsState state.new (on_store (settled arg given.now source.removes source.i) state.old) }
 {
     let x = state.expr_bytes(source.i);
-    let n = components::first_size(x);
-    let t = matching::count(&x[..n], test_of(arg, given));
-    let letters = components::chars_of(x).len();
-    finish(state, source, n, letters, t.reached);
+    let bytes = components::first_size(x);
+    let t = matching::count(&x[..bytes], test_of(arg, given));
+    let chars = components::chars_of(x).len();
+    let first = Amount {
+        parts: 1,
+        bytes,
+        chars,
+    };
+    finish(state, source, first, t.reached);
 }
 
 // RW of an expression, by A or B.

@@ -9,8 +9,10 @@ ghost use Rattle.machine.specs.Changes.{past, stored};
 ghost use Rattle.state.specs.Working.{HoldsState, on_store, nth, filing};
 ghost use Rattle.filing.specs.Files.{RecordsLent, RecordsDroppable, Passable, Pointable, pointed_at, bodies, RecordsWritable, Insertable, inserted, files_exchanged};
 
+use components::Amount;
 use layout::StatePlaces;
-use state::Working;
+use records::Place;
+use state::{FileTarget, Source, Working};
 use strings::Strings;
 
 // The bytes of the records before the pointer of file `i`.
@@ -32,74 +34,58 @@ pub fn after_bytes(state: &Working, i: usize) -> &[u8]
         .string_of(StatePlaces::FIRST_FILE + (2 * i + 1))
 }
 
-// Takes the first records after the pointer of file `i` away: how many, their bytes, their components and characters.
-// The four counts are no struct: callers have them from two structs of `records`, or one by one.
+// Takes the first records after the pointer of file `i` away: how many, and how much they are.
 // Not one with `pass_records`: that moves bytes to the other side of the pointer and keeps the totals.
-pub fn drop_records(
-    state: &mut Working,
-    i: usize,
-    records: usize,
-    bytes: usize,
-    parts: usize,
-    chars: usize,
-)
-    requires { RecordsDroppable state.old i records bytes parts chars }
+pub fn drop_records(state: &mut Working, i: usize, records: usize, amount: Amount)
+    requires { RecordsDroppable state.old i records amount.bytes amount.parts amount.chars }
     ensures { HoldsState state.new (on_store (past (nth (filing true) i) records) state.old) }
 {
     state
         .strings
-        .drop_front(StatePlaces::FIRST_FILE + (2 * i + 1), bytes);
-    state::lower(&mut state.nums, parts, chars);
+        .drop_front(StatePlaces::FIRST_FILE + (2 * i + 1), amount.bytes);
+    state::lower(&mut state.nums, amount);
     let n = cells::read(&state.nums, StatePlaces::RECORDS_SCALAR);
     cells::write(&mut state.nums, StatePlaces::RECORDS_SCALAR, n - records);
 }
 
-// Moves the pointer of file `i` past the first records after it: how many, and their bytes.
-pub fn pass_records(
-    state: &mut Working,
-    hold: &mut [u8; 32768],
-    i: usize,
-    records: usize,
-    bytes: usize,
-)
-    requires { Passable state.old i records bytes }
-    ensures { HoldsState state.new (on_store (past (nth (filing false) i) records) state.old) }
+// Moves the pointer of file `i` past the records after it that stand up to a place.
+pub fn pass_records(state: &mut Working, hold: &mut [u8; 32768], i: usize, end: Place)
+    requires { Passable state.old i end.records end.bytes }
+    ensures { HoldsState state.new (on_store (past (nth (filing false) i) end.records) state.old) }
 {
     state.strings.move_front_to_back(
         hold,
         StatePlaces::FIRST_FILE + (2 * i + 1),
         StatePlaces::FIRST_FILE + 2 * i,
-        bytes,
+        end.bytes,
     );
 }
 
-// Reads past the first records after the pointer of file `i`: removes them, or moves the pointer.
-// A Bool, as decoding tells it of a letter: it is the argument of `filing` in the promise.
+// Reads past the first records after the pointer of a file, how many and how much they are: removes them, or moves the pointer.
 pub fn past_records(
     state: &mut Working,
     hold: &mut [u8; 32768],
-    i: usize,
-    removes: bool,
+    source: Source,
     records: usize,
-    bytes: usize,
-    parts: usize,
-    chars: usize,
+    amount: Amount,
 )
-    requires { RecordsDroppable state.old i records bytes parts chars }
-    ensures { HoldsState state.new (on_store (past (nth (filing removes) i) records) state.old) }
+    requires { RecordsDroppable state.old source.i records amount.bytes amount.parts amount.chars }
+    ensures { HoldsState state.new (on_store (past (nth (filing source.removes) source.i) records) state.old) }
 {
-    if removes {
-        drop_records(state, i, records, bytes, parts, chars);
+    if source.removes {
+        drop_records(state, source.i, records, amount);
     } else {
-        pass_records(state, hold, i, records, bytes);
+        let bytes = amount.bytes;
+        pass_records(state, hold, source.i, Place { records, bytes });
     }
 }
 
-// Moves the pointer of file `i` behind the first records of the file: how many, and their bytes.
-pub fn point(state: &mut Working, hold: &mut [u8; 32768], i: usize, records: usize, bytes: usize)
-    requires { Pointable state.old i records bytes }
-    ensures { HoldsState state.new (on_store (pointed_at i records) state.old) }
+// Moves the pointer of file `i` behind the records of the file that stand up to a place.
+pub fn point(state: &mut Working, hold: &mut [u8; 32768], i: usize, place: Place)
+    requires { Pointable state.old i place.records place.bytes }
+    ensures { HoldsState state.new (on_store (pointed_at i place.records) state.old) }
 {
+    let bytes = place.bytes;
     let before = StatePlaces::FIRST_FILE + 2 * i;
     let after = StatePlaces::FIRST_FILE + (2 * i + 1);
     let n = state.strings.len_of(before);
@@ -114,35 +100,33 @@ pub fn point(state: &mut Working, hold: &mut [u8; 32768], i: usize, records: usi
         .move_front_to_back(hold, after, before, bytes - n);
 }
 
-// Puts bytes right after the pointer of file `i`, or right before it.
+// Puts bytes right after the pointer of a file, or right before it.
 #[tactic(auto, unfolding(crate::specs::Files::inserted))]
-fn insert(strings: &mut Strings, i: usize, turned: bool, bytes: &[u8])
-    requires { Insertable strings.old i (length bytes.now) }
-    ensures { strings.new ≡ inserted turned i bytes.now strings.old }
+fn insert(strings: &mut Strings, target: FileTarget, bytes: &[u8])
+    requires { Insertable strings.old target.j (length bytes.now) }
+    ensures { strings.new ≡ inserted target.reverses target.j bytes.now strings.old }
 {
-    if turned {
-        strings.push_front(StatePlaces::FIRST_FILE + (2 * i + 1), bytes);
+    if target.reverses {
+        strings.push_front(StatePlaces::FIRST_FILE + (2 * target.j + 1), bytes);
     } else {
-        strings.push_back(StatePlaces::FIRST_FILE + 2 * i, bytes);
+        strings.push_back(StatePlaces::FIRST_FILE + 2 * target.j, bytes);
     }
 }
 
-// Writes the records in `new`, which have the next addresses, to file `i`: turned round and right after the pointer, or in their order, and then
-// the pointer stands behind them. How many they are, their components and characters.
+// Writes the records in `new`, which have the next addresses, to a file: turned round and right after the pointer, or in their order, and then the
+// pointer stands behind them. How many they are, and how much.
 pub fn write_records(
     state: &mut Working,
-    i: usize,
-    turned: bool,
+    target: FileTarget,
     new: &[u8],
     records: usize,
-    parts: usize,
-    chars: usize,
+    amount: Amount,
 )
-    requires { RecordsWritable state.old i turned new.now records parts chars }
-    ensures { HoldsState state.new (on_store (stored (nth (filing turned) i) (bodies turned new.now)) state.old) }
+    requires { RecordsWritable state.old target.j target.reverses new.now records amount.parts amount.chars }
+    ensures { HoldsState state.new (on_store (stored (nth (filing target.reverses) target.j) (bodies target.reverses new.now)) state.old) }
 {
-    insert(&mut state.strings, i, turned, new);
-    state::raise(&mut state.nums, parts, chars);
+    insert(&mut state.strings, target, new);
+    state::raise(&mut state.nums, amount);
     let n = cells::read(&state.nums, StatePlaces::RECORDS_SCALAR);
     let last = cells::read(&state.nums, StatePlaces::LAST_SCALAR);
     cells::write(&mut state.nums, StatePlaces::RECORDS_SCALAR, n + records);

@@ -2,17 +2,16 @@
 use mathlib.Core.Path.{◌≡◌, refl, sym, ap, ◌∙◌, subst}
 use mathlib.Core.Bool.{Bool, true, false, ◌||◌}
 use mathlib.Core.List.{List, [], ◌∷◌, ◌++◌, map}
-use Prim.Native.Nat.{ℕ, zero, suc, ◌+◌, ◌*◌, ◌%◌, ◌≤◌, ◌<◌}
-use native.Mathlib.Nat.{not-suc-le-zero, le_of_suc-le-suc}
+use Prim.Native.Nat.{ℕ, suc, ◌+◌, ◌*◌, ◌%◌, ◌≤◌, ◌<◌}
 use native.Mathlib.Omega.{arith}
-use native.Mathlib.Decide.{dec_lt}
 use lib.Dec.{T, eqb, ltb, leb-suc-suc}
-use lib.ListN.{length, get_or, drop, replicate, length-map}
+use lib.ListN.{length, get_or, take, drop, replicate, length-map, length-drop}
 use lib.IntN.{ℤ, pos, nat_abs}
-use lib.Seq.{take_at, drop-drop, get_or-take}
+use lib.Seq.{take_at, drop-drop, get_or-take, get_or-drop, length-take-le}
 use borrow.Author.Tests.{eq-eqb, ne_eqb, lt-ltb}
 use Rattle.std.specs.Option.{IfSome}
-use Rattle.std.specs.Prelude.{Option, Some, None, cond, position, unwrap_or, is_some}
+use Rattle.std.specs.Prelude.{Option, Some, None, cond, not, position, unwrap_or, is_some}
+use Rattle.std.proofs.lemmas.List.Quantifiers.{position-Some}
 use Rattle.std.specs.List.{position_or_len}
 use Rattle.acceptance.proofs.StatementLaws.{same_bytes-sym}
 use Rattle.language.specs.Limits as limit
@@ -26,50 +25,12 @@ use Rattle.lists.specs.Lists.{any, ahead, bytes_equal}
 use Rattle.lists.specs.SearchLaws.{ahead-is, position_or_length}
 use Rattle.machine.proofs.ValueLaws.{same_number-eq, same_number-refl}
 use Rattle.packed.specs.Packed.{table_of}
-use Rattle.table.proofs.Keys.{place-some, place-none}
+use Rattle.table.proofs.Keys.{Missed, FirstHit, found_at, found_none}
 use Rattle.writing.proofs.Growing.{code_part, labels_part, texts_part, switches_part, entries_part, numbers_part, parts, in_parts, label-long, text-long, sizes}
 use Rattle.writing.proofs.Held.{text_count, label_count, number_count}
 use Rattle.writing.proofs.Parts.{labels_at, texts-at, numbers-at}
 use Rattle.writing.specs.Writing.{Short, HoldsProgram, IsNumber}
 use Rattle.finding.specs.Finding.{Counted, Locates, LocatesFor, Tells, TellsFor}
-
--- ---- a search by its index
-
--- none of the first k passes
-abbrev pub Missed : (ℕ → Bool) → ℕ → Type 0
-Missed hit k = (j : ℕ) → j < k → hit j ≡ false
-
-pub missed_more : (hit : ℕ → Bool) (k : ℕ) → Missed hit k → hit k ≡ false → Missed hit (k + 1)
-missed_more hit k m e j h = go (dec_lt j k)
-  where
-    go : Dec (j < k) → hit j ≡ false
-    go (yes l) = m j l
-    go (no l) = let q : j ≡ k = omega arith in rw q e
-
-module _ {X : Type 0} (q : X → Bool) (d : X) where
-  here : (x : X) (xs : List X) → q x ≡ true → ahead q (x ∷ xs) ≡ 0
-  here x xs e = ap (λ (b : Bool). elim b as (λ y. ℕ) [ true ↦ 0 | false ↦ suc (ahead q xs) ]) e
-
-  later : (x : X) (xs : List X) → q x ≡ false → ahead q (x ∷ xs) ≡ suc (ahead q xs)
-  later x xs e = ap (λ (b : Bool). elim b as (λ y. ℕ) [ true ↦ 0 | false ↦ suc (ahead q xs) ]) e
-
-  pub ahead-at : (xs : List X) (k : ℕ) → k < length xs → Missed (λ j. q (get_or xs j d)) k → q (get_or xs k d) ≡ true → k ≡ ahead q xs
-  ahead-at [] k h m e = absurd (not-suc-le-zero h)
-  ahead-at (x ∷ xs) zero h m e = sym (here x xs e)
-  ahead-at (x ∷ xs) (suc k) h m e =
-      ap suc (ahead-at xs k (le_of_suc-le-suc h) (λ j l. m (suc j) (omega arith)) e) ∙ sym (later x xs (m 0 (omega arith)))
-
-  pub ahead_past : (xs : List X) → Missed (λ j. q (get_or xs j d)) (length xs) → length xs ≡ ahead q xs
-  ahead_past [] m = refl
-  ahead_past (x ∷ xs) m = ap suc (ahead_past xs (λ j l. m (suc j) (omega arith))) ∙ sym (later x xs (m 0 (omega arith)))
-
-  -- hit j is the test of element j
-  module _ (xs : List X) (hit : ℕ → Bool) (tests : (j : ℕ) → j < length xs → hit j ≡ q (get_or xs j d)) where
-    found_at : (k : ℕ) → k < length xs → Missed hit k → hit k ≡ true → Some k ≡ position q xs
-    found_at k h m e = place-some q xs k h (ahead-at xs k h (λ j l. sym (tests j (omega arith)) ∙ m j l) (sym (tests k h) ∙ e))
-
-    found_none : (n : ℕ) → n ≡ length xs → Missed hit n → None ≡ position q xs
-    found_none n e m = place-none q xs (ahead_past xs (λ j l. sym (tests j l) ∙ m j (omega (arith, e))))
 
 -- ---- names and texts as they stand in the table
 
@@ -126,6 +87,20 @@ same_code z y h k = go (same_number z y) refl
         let q : z ≡ y = sym (uncode-code z h) ∙ ap uncode (sym f) ∙ uncode-code y k in
         subst T (ap (same_number z) q ∙ e) (same_number-refl z))
 
+-- ---- the place of the first that passes, in rows that pass alike
+
+module _ {X Y : Type 0} (q : X → Bool) (t : Y → Bool) (d : X) (e : Y) where
+  position-alike : (xs : List X) (ys : List Y) → length xs ≡ length ys → ((j : ℕ) → j < length xs → q (get_or xs j d) ≡ t (get_or ys j e)) → position_or_len q xs ≡ position_or_len t ys
+  position-alike [] [] l h = refl
+  position-alike [] (y ∷ ys) l h = absurd (omega (arith, l))
+  position-alike (x ∷ xs) [] l h = absurd (omega (arith, l))
+  position-alike (x ∷ xs) (y ∷ ys) l h =
+      let r = position-alike xs ys (omega (arith, l)) (λ j b. h (suc j) (omega (arith, b))) in
+      λ i. cond (not (h 0 (omega arith) i)) (1 + r i) 0
+
+  position-same : (xs : List X) (ys : List Y) → length xs ≡ length ys → ((j : ℕ) → j < length xs → q (get_or xs j d) ≡ t (get_or ys j e)) → position q xs ≡ position t ys
+  position-same xs ys l h = let r = position-alike xs ys l h in λ i. cond (ltb (r i) (l i)) (Some (r i)) None
+
 -- ---- the three searches
 
 module _ (c w : List ℕ) where
@@ -141,27 +116,35 @@ module _ (c w : List ℕ) where
   name-tests : (p : Program) → HoldsProgram c p → (j : ℕ) → j < length p.labels → name_hit j ≡ bytes_equal w (get_or p.labels j no_label).name
   name-tests p h j l = ap (λ (t : List ℕ). bytes_equal t w) (name-read c p h j l) ∙ same_bytes-sym (get_or p.labels j no_label).name w
 
-  pub text_found : (n k : ℕ) → n ≡ cell (table_of c) 4 → n ≤ 128 → Missed text_hit k → k < n → text_hit k ≡ true → Locates c (λ p. p.texts) (bytes_equal w) (Some k)
+  text_found : (n k : ℕ) → n ≡ cell (table_of c) 4 → n ≤ 128 → Missed text_hit k → k < n → text_hit k ≡ true → Locates c (λ p. p.texts) (bytes_equal w) (Some k)
   text_found n k is top m l e =
       record {
         is = λ p h. found_at (bytes_equal w) [] p.texts text_hit (text-tests p h) k (omega (arith, is, text_count c p h)) m e;
         most = omega arith;
       }
 
-  pub text-none : (n : ℕ) → n ≡ cell (table_of c) 4 → Missed text_hit n → Locates c (λ p. p.texts) (bytes_equal w) None
+  text-none : (n : ℕ) → n ≡ cell (table_of c) 4 → Missed text_hit n → Locates c (λ p. p.texts) (bytes_equal w) None
   text-none n is m =
       record { is = λ p h. found_none (bytes_equal w) [] p.texts text_hit (text-tests p h) n (is ∙ text_count c p h) m; most = tt }
 
-  pub name-found : (n k : ℕ) → n ≡ cell (table_of c) 1 → n ≤ 128 → Missed name_hit k → k < n → name_hit k ≡ true → Locates c (λ p. p.labels) (λ l. bytes_equal w l.name) (Some k)
+  name-found : (n k : ℕ) → n ≡ cell (table_of c) 1 → n ≤ 128 → Missed name_hit k → k < n → name_hit k ≡ true → Locates c (λ p. p.labels) (λ l. bytes_equal w l.name) (Some k)
   name-found n k is top m l e =
       record {
         is = λ p h. found_at (λ x. bytes_equal w x.name) no_label p.labels name_hit (name-tests p h) k (omega (arith, is, label_count c p h)) m e;
         most = omega arith;
       }
 
-  pub name-none : (n : ℕ) → n ≡ cell (table_of c) 1 → Missed name_hit n → Locates c (λ p. p.labels) (λ l. bytes_equal w l.name) None
+  name-none : (n : ℕ) → n ≡ cell (table_of c) 1 → Missed name_hit n → Locates c (λ p. p.labels) (λ l. bytes_equal w l.name) None
   name-none n is m =
       record { is = λ p h. found_none (λ x. bytes_equal w x.name) no_label p.labels name_hit (name-tests p h) n (is ∙ label_count c p h) m; most = tt }
+
+  pub text-located : {n : ℕ} (r : Option ℕ) → n ≡ cell (table_of c) 4 → n ≤ 128 → FirstHit text_hit n r → Locates c (λ p. p.texts) (bytes_equal w) r
+  text-located None is top h = text-none _ is h
+  text-located (Some k) is top h = text_found _ k is top h.2 h.0 h.1
+
+  pub name-located : {n : ℕ} (r : Option ℕ) → n ≡ cell (table_of c) 1 → n ≤ 128 → FirstHit name_hit n r → Locates c (λ p. p.labels) (λ l. bytes_equal w l.name) r
+  name-located None is top h = name-none _ is h
+  name-located (Some k) is top h = name-found _ k is top h.2 h.0 h.1
 
 module _ (c : List ℕ) (v : ℕ) where
   abbrev pub number_hit : ℕ → Bool
@@ -172,21 +155,28 @@ module _ (c : List ℕ) (v : ℕ) where
       let r : get_or c (layout.first_number + j) 0 ≡ code (get_or p.numbers j (pos 0)) = sym (get_or-take 8192 c (layout.first_number + j) 0 (omega (arith, h.tabular.numbers_most))) ∙ number_read c p h j l in
       (λ i. eqb (r i) (a.is i)) ∙ same_code z (get_or p.numbers j (pos 0)) a.small (each_in (λ y. nat_abs y ≤ limit.size) p.numbers h.tabular.numbers_small j (pos 0) l)
 
-  pub number-found : (n k : ℕ) → n ≡ cell (table_of c) 5 → n ≤ 128 → Missed number_hit k → k < n → number_hit k ≡ true
-      → LocatesFor c (IsNumber v) (λ p. p.numbers) same_number (Some k)
-  number-found n k is top m l e =
-      record {
-        is = λ z p h a. let x : n ≡ length p.numbers = is ∙ number_count c p h in
-            found_at (same_number z) (pos 0) p.numbers number_hit (number-tests z p h a) k (omega arith) m e;
-        most = omega arith;
-      }
+  -- the numbers as they stand in the table
+  abbrev codes : ℕ → List ℕ
+  codes n = take n (drop layout.first_number c)
 
-  pub number-none : (n : ℕ) → n ≡ cell (table_of c) 5 → Missed number_hit n → LocatesFor c (IsNumber v) (λ p. p.numbers) same_number None
-  number-none n is m =
+  pub number-located : {n : ℕ} {r : Option ℕ} → n ≡ cell (table_of c) 5 → n ≤ 128 → layout.first_number + n ≤ length c → r ≡ position (λ x. eqb x v) (codes n)
+      → LocatesFor c (IsNumber v) (λ p. p.numbers) same_number r
+  number-located {n} {r} is top room e =
       record {
-        is = λ z p h a. let x : n ≡ length p.numbers = is ∙ number_count c p h in found_none (same_number z) (pos 0) p.numbers number_hit (number-tests z p h a) n x m;
-        most = tt;
+        is = λ z p h a.
+            let x : n ≡ length p.numbers = is ∙ number_count c p h in
+            e ∙ position-same (λ y. eqb y v) (same_number z) 0 (pos 0) (codes n) p.numbers (size ∙ x)
+            (λ j l. let b : j < n = omega (arith, l, size) in
+            ap (λ y. eqb y v) (get_or-take n (drop layout.first_number c) j 0 b ∙ get_or-drop layout.first_number c j 0) ∙ number-tests z p h a j (omega (arith, b, x)));
+        most = few r e;
       }
+    where
+      size : length (codes n) ≡ n
+      size = length-take-le n (drop layout.first_number c) (omega (arith, length-drop layout.first_number c, room))
+
+      few : (o : Option ℕ) → o ≡ position (λ x. eqb x v) (codes n) → IfSome o (λ k. k < 128)
+      few None q = tt
+      few (Some k) q = omega (arith, (position-Some (λ x. eqb x v) (codes n) k 0 (sym q)).0, size, top)
 
 -- ---- a place, or the count where there is none
 

@@ -1,5 +1,6 @@
 pub mod Answers
 pub mod Asking
+pub mod Fronts
 pub mod Room
 pub mod Storing
 pub mod Written

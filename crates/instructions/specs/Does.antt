@@ -1,7 +1,9 @@
 -- What the function of an instruction promises: the number of the first question answered no, or 0, and the state that is held then.
-use Rattle.std.specs.Prelude.{◌≡◌, Bool, true, cond, ◌&&◌, List, map, ℕ, ◌≤◌}
+use Rattle.std.specs.Prelude.{◌≡◌, Bool, true, cond, ◌&&◌, List, map, ℕ, ◌+◌, ◌≤◌, leb}
+use Rattle.state.specs.Below.Limits as limit
 use Rattle.state.specs.Below.Program.{Program}
 use Rattle.state.specs.Below.LanguageValues.{Store, State, Inputs}
+use Rattle.state.specs.Below.LayoutMemory.{components_held, chars_held}
 use Rattle.state.specs.Below.Lists.{head_or, if_any}
 use Rattle.state.specs.Below.MachineArguments.{Asks}
 use Rattle.state.specs.Below.Changes.{fits}
@@ -74,6 +76,11 @@ DoesIn σ told σ' r = (ins : Inputs) → Does σ told σ' (r ins)
 
 abbrev pub GoesIn : State → ℕ → State → (Inputs → Row) → Type 0
 GoesIn σ told σ' r = (ins : Inputs) → Goes σ told σ' (r ins)
+
+-- whether so many components and characters have room, where so many are freed before
+abbrev pub room_after : Store → ℕ → ℕ → ℕ → ℕ → Bool
+room_after s freed_parts freed_chars parts chars =
+    leb (components_held s + parts) (limit.components + freed_parts) && leb (chars_held s + chars) (limit.characters + freed_chars)
 
 -- so many components and characters more are asked about
 pub record More (parts chars : ℕ) : Type 0 where

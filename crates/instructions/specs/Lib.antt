@@ -1,4 +1,5 @@
 pub mod Questions
 pub mod Does
+pub mod Fronts
 pub mod Operands
 pub mod Below

@@ -1,16 +1,19 @@
 // What the function of an instruction promises, and whether what one writes has room.
 #![tactic(auto)]
 
-ghost use Rattle.std.specs.Prelude.{◌≡◌, ◌&&◌, ◌+◌, leb};
+ghost use Rattle.std.specs.Prelude.{◌≡◌, ◌<◌, ◌&&◌, ◌+◌, leb};
+ghost use Rattle.components.specs.Parts.{kind_number};
 ghost use Rattle.state.specs.Below.Limits as limit;
 ghost use Rattle.state.specs.Below.LayoutMemory.{components_held, chars_held};
-ghost use Rattle.instructions.specs.Does.{More};
-ghost use Rattle.instructions.specs.Operands.{input_at};
+ghost use Rattle.instructions.specs.Does.{More, room_after};
+ghost use Rattle.instructions.specs.Fronts.{FrontOf};
 
+use components::{Amount, Kind};
 use language::Machine;
 use layout::StatePlaces;
 use state::Working;
-use table::Table;
+pub use state::{FileTarget, Source, Target};
+pub use tasks::Task;
 
 // The questions that an instruction may answer no, by their numbers.
 #[derive(Clone, Copy, PartialEq, Eq, Debug)]
@@ -46,45 +49,44 @@ pub struct Bench {
     pub given: [u8; 32768],
 }
 
-// What an instruction reads and leaves as it is: the table and both inputs.
-#[derive(Clone, Copy, Debug, PartialEq, Eq)]
-pub struct Task<'a> {
-    pub table: Table<'a>,
-    pub first: &'a [u8],
-    pub second: &'a [u8],
-}
-
-impl<'a> Task<'a> {
-    // Input `i`.
-    pub fn input(self, i: usize) -> &'a [u8]
-        ensures { result.now ≡ input_at self.entry.first.now self.entry.second.now i }
-    {
-        if i == 0 { self.first } else { self.second }
-    }
-}
-
-// What components or records are read from, and whether they are removed there.
-#[derive(Clone, Copy, Debug, PartialEq, Eq)]
-pub struct Source {
-    pub removes: bool,
-    pub i: usize,
-}
-
-// What components are written to: turned round or not, at the end or in front.
-#[derive(Clone, Copy, Debug, PartialEq, Eq)]
-pub struct Target {
-    pub reverses: bool,
-    pub at_end: bool,
-    pub j: usize,
-}
-
-// Whether so many components and characters more are within the limits.
-pub fn has_room(state: &Working, parts: usize, chars: usize) -> bool
-    requires { More parts chars }
-    ensures { result ≡ leb (components_held state.now.store + parts) limit.components && leb (chars_held state.now.store + chars) limit.characters }
+// Whether so much new is within the limits, where so much is freed before.
+pub fn has_room_after(state: &Working, freed: Amount, new: Amount) -> bool
+    requires freed { More freed.parts freed.chars }
+    requires new { More new.parts new.chars }
+    ensures { result ≡ room_after state.now.store freed.parts freed.chars new.parts new.chars }
 {
-    if Machine::COMPONENTS < state.number(StatePlaces::COMPONENTS_SCALAR) + parts {
+    let parts = state.number(StatePlaces::COMPONENTS_SCALAR) + new.parts;
+    if Machine::COMPONENTS + freed.parts < parts {
         return false;
     }
-    state.number(StatePlaces::CHARACTERS_SCALAR) + chars <= Machine::CHARACTERS
+    let chars = state.number(StatePlaces::CHARACTERS_SCALAR) + new.chars;
+    chars <= Machine::CHARACTERS + freed.chars
+}
+
+// Whether so much more is within the limits.
+pub fn has_room(state: &Working, more: Amount) -> bool
+    requires { More more.parts more.chars }
+    ensures { result ≡ leb (components_held state.now.store + more.parts) limit.components && leb (chars_held state.now.store + more.chars) limit.characters }
+{
+    let freed = Amount {
+        parts: 0,
+        bytes: 0,
+        chars: 0,
+    };
+    has_room_after(state, freed, more)
+}
+
+// The bytes of expression `i`, which has a component (52), and in front one of this kind (53).
+pub fn front_of(state: &Working, i: usize, kind: Kind) -> Result<&[u8], Question>
+    requires { i < limit.expressions }
+    ensures { FrontOf state.now i (kind_number kind) result }
+{
+    let x = state.expr_bytes(i);
+    if x.is_empty() {
+        return Err(Question::Missing);
+    }
+    if components::kind_of(x) != kind {
+        return Err(Question::Kind);
+    }
+    Ok(x)
 }

@@ -41,50 +41,50 @@ module _ {σ : State} {i : ℕ} {x : List ℕ} {u : Until Component} {t : Taken}
   xs = expr s (nth E i)
 
   abbrev w : List ℕ
-  w = spelled (take t.parts xs)
+  w = spelled (take t.amount.parts xs)
 
-  long : length w ≡ t.chars
+  long : length w ≡ t.amount.chars
   long = chars-long h b l k
 
-  few : some (length w) ≤ t.parts
+  few : some (length w) ≤ t.amount.parts
   few =
       rw long
-      (omega (arith, some-least t.chars (take t.parts xs) (took h b l k).chars_is, length-take t.parts xs, (took h b l k).parts_most))
+      (omega (arith, some-least t.amount.chars (take t.amount.parts xs) (took h b l k).chars_is, length-take t.amount.parts xs, (took h b l k).parts_most))
 
   within : i < length s.exprs
   within = rw h.fine.exprs_is b
 
   module _ (removes : Bool) where
     abbrev z : Store
-    z = past (nth (reading removes) i) t.parts s
+    z = past (nth (reading removes) i) t.amount.parts s
 
-    parts-off : components_held z + cond removes t.parts 0 ≡ components_held s
-    parts-off = components-past s i t.parts within (droppable h b l k).first removes
+    parts-off : components_held z + cond removes t.amount.parts 0 ≡ components_held s
+    parts-off = components-past s i t.amount.parts within (droppable h b l k).first removes
 
     chars-off : chars_held z + cond removes (length w) 0 ≡ chars_held s
-    chars-off = rw long (chars-past s i t.parts within (droppable h b l k).first removes)
+    chars-off = rw long (chars-past s i t.amount.parts within (droppable h b l k).first removes)
 
     -- the limits
-    pub fits-joined : fits (joined_up u removes i s) ≡ word_room removes t.chars s
+    pub fits-joined : fits (joined_up u removes i s) ≡ word_room removes t.amount.chars s
     unfolding joined_up
     fits-joined =
-        let m : Limited z = limited-past s (fine-limited σ h.fine) (nth (reading removes) i) t.parts in
+        let m : Limited z = limited-past s (fine-limited σ h.fine) (nth (reading removes) i) t.amount.parts in
         let q : (i < length z.exprs) = rw m.exprs_is b in
         rw ((took h b l k).is, ← long)
         (fits-minus_unless t.reached (into (nth (writing false) i) (word_if w) z)
         ∙ fits-into (nth (writing false) i) z q (word_if w) m
-        ∙ room_of w t.parts (components_held s) (chars_held s) (components_held z) (chars_held z) h.fine.components_most h.fine.chars_most few removes parts-off chars-off)
+        ∙ room_of w t.amount.parts (components_held s) (chars_held s) (components_held z) (chars_held z) h.fine.components_most h.fine.chars_most few removes parts-off chars-off)
 
-    module _ (r : word_room removes t.chars s ≡ true) where
+    module _ (r : word_room removes t.amount.chars s ≡ true) where
       have : (length w ≤ limit.word) × (components_held z + some (length w) ≤ limit.components) × (chars_held z + length w ≤ limit.characters)
       have =
-          room-have w t.parts (components_held s) (chars_held s) (components_held z) (chars_held z) h.fine.components_most h.fine.chars_most few removes parts-off chars-off
+          room-have w t.amount.parts (components_held s) (chars_held s) (components_held z) (chars_held z) h.fine.components_most h.fine.chars_most few removes parts-off chars-off
           (rw long r)
 
-      pub makeable : WordsMakeable (take t.bytes x)
+      pub makeable : WordsMakeable (take t.amount.bytes x)
       makeable = record { whole = whole-components (taken-part h b l k); most = rw (part-is h b l k) have.0 }
 
-      module _ {d d' : List ℕ} {m : ℕ} (v : Written d (components_bytes (word_if (spelled (components_in (take t.bytes x))))) d' m) where
+      module _ {d d' : List ℕ} {m : ℕ} (v : Written d (components_bytes (word_if (spelled (components_in (take t.amount.bytes x))))) d' m) where
         joined_word : Written d (components_bytes (word_if w)) d' m
         joined_word = subst (λ (ys : List Component). Written d (components_bytes (word_if (spelled ys))) d' m) (part-is h b l k) v
 
@@ -94,8 +94,8 @@ module _ {σ : State} {i : ℕ} {x : List ℕ} {u : Until Component} {t : Taken}
         new_is : components_in (take m d') ≡ word_if w
         new_is = components-of encoded
 
-        pub writable : {o : ℕ} → o ≡ some t.chars → {σ' : State} → HoldsState σ' (on_store (past (nth (reading removes) i) t.parts) σ)
-            → PartsWritable σ' i (take m d') o t.chars
+        pub writable : {o : ℕ} → o ≡ some t.amount.chars → {σ' : State} → HoldsState σ' (on_store (past (nth (reading removes) i) t.amount.parts) σ)
+            → PartsWritable σ' i (take m d') o t.amount.chars
         unfolding on_store
         writable o g =
             record {
@@ -108,7 +108,7 @@ module _ {σ : State} {i : ℕ} {x : List ℕ} {u : Until Component} {t : Taken}
             }
 
         pub joined-done : {σ' : State}
-            → HoldsState σ' (on_store (λ y. minus_unless t.reached (into (nth (writing false) i) (components_in (take m d')) (past (nth (reading removes) i) t.parts y))) σ)
+            → HoldsState σ' (on_store (λ y. minus_unless t.reached (into (nth (writing false) i) (components_in (take m d')) (past (nth (reading removes) i) t.amount.parts y))) σ)
             → HoldsState σ' (on_store (joined_up u removes i) σ)
         unfolding on_store joined_up
         joined-done g = rw ((took h b l k).is, ← new_is) g

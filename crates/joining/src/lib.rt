@@ -17,9 +17,9 @@ ghost use Rattle.instructions.specs.Does.{Tried, DoesFor};
 ghost use Rattle.moves.specs.Moves.{all_taken_words, TestBeside};
 ghost use Rattle.joining.specs.Joining.{word_if, some, word_room, joined_up, WordsMakeable, WordsJoinable};
 
+use components::Amount;
 use instructions::{Bench, Question, Source};
 use language::Machine;
-use moves::New;
 use state::Working;
 use table::Table;
 use tests::Prepared;
@@ -38,7 +38,12 @@ pub fn has_word_room(state: &Working, removes: bool, k: usize) -> bool
     if Machine::WORD < k {
         return false;
     }
-    moves::has_room(state, removes, some(k), k)
+    let word = Amount {
+        parts: some(k),
+        bytes: some(k) + k,
+        chars: k,
+    };
+    moves::has_room(state, removes, word)
 }
 
 // Writes the word of these characters, if there are any, at the front of `out`, and tells how many cells it takes.
@@ -73,19 +78,24 @@ fn join_up(bench: &mut Bench, test: Prepared, source: Source) -> Result<(), Ques
     if !t.words {
         return Err(Question::Kind);
     }
-    if !has_word_room(&bench.state, source.removes, t.chars) {
+    let chars = t.amount.chars;
+    if !has_word_room(&bench.state, source.removes, chars) {
         return Err(Question::Room);
     }
-    let n = join_word(&mut bench.given, &mut bench.hold, &x[..t.bytes]);
-    bench
-        .state
-        .past_parts(source.i, source.removes, t.parts, t.bytes, t.chars);
-    let new = New {
-        bytes: &bench.hold[..n],
-        parts: some(t.chars),
-        chars: t.chars,
+    let n = join_word(&mut bench.given, &mut bench.hold, &x[..t.amount.bytes]);
+    bench.state.past_parts(source, t.amount);
+    let word = Amount {
+        parts: some(chars),
+        bytes: n,
+        chars,
     };
-    moves::deliver(&mut bench.state, source.i, false, new, t.reached);
+    moves::deliver(
+        &mut bench.state,
+        source.front(),
+        &bench.hold[..n],
+        word,
+        t.reached,
+    );
     Ok(())
 }
 
@@ -106,5 +116,6 @@ pub fn zbij(
 
 // Of `moves`, passed on to the crates above.
 pub mod from_moves {
-    pub use moves::{New, deliver};
+    pub use components::Amount;
+    pub use moves::deliver;
 }

@@ -1,21 +1,36 @@
 -- To go on as an instruction says, or 59 where the return stack is full: what that does for a row that asks nothing of its own.
 use mathlib.Core.Path.{◌≡◌, refl, sym, subst}
 use mathlib.Core.Bool.{Bool, true, false, cond}
+use mathlib.Core.List.{List}
 use Prim.Native.Nat.{ℕ}
 use native.Mathlib.Omega.{arith}
 use lib.Dec.{leb}
 use lib.ListN.{length}
+use borrow.Author.Tests.{le-leb}
 use Rattle.language.specs.Limits as limit
 use Rattle.language.specs.Values.{Store, State}
 use Rattle.machine.specs.Arguments.{none}
 use Rattle.machine.specs.Effects.{Go}
+use Rattle.machine.specs.Effects.Go.{jump}
 use Rattle.machine.specs.Steps.{can_go, gone}
 use Rattle.state.specs.Working.{HoldsState, Stands}
 use Rattle.control.specs.Going.{going}
 use Rattle.control.proofs.Laws.{made-going}
 use Rattle.instructions.specs.Does.{Goes}
 use Rattle.instructions.proofs.Goings.{none-yes, goes-made, goes-full}
-use Rattle.jumps.specs.Jumps.{Led}
+use Rattle.jumps.specs.Jumps.{Led, going_by}
+use Rattle.jumps.specs.declared.Way.{Way}
+use Rattle.jumps.specs.declared.Way.TheVariants.{Jump, Call}
+
+-- a jump or a call can be made on any stack
+pub can_lead : (way : Way) (t : ℕ) (st : List ℕ) → can_go (going_by way t) st ≡ true
+can_lead Jump t st = refl
+can_lead Call t st = refl
+
+-- a jump is always made
+pub led-jump : {σ σ' : State} {t : ℕ} → HoldsState σ' (going (jump t) σ) → Led σ (jump t) 0 σ'
+unfolding going
+led-jump {σ} h = let q = le-leb (length σ.stack) limit.stack h.fine.stack_most in record { is = rw q refl; holds = rw q h }
 
 -- the stack that g makes of the state σ is short enough
 abbrev room : State → Go → Bool

@@ -1,5 +1,5 @@
 -- The rows of jumps and calls by a label, of the return and of STOP: that their functions do what they say.
-use mathlib.Core.Path.{◌≡◌, refl, sym, ap, ◌∙◌, subst}
+use mathlib.Core.Path.{◌≡◌, refl, sym, ap, ◌∙◌}
 use mathlib.Core.Bool.{Bool, true, false, not}
 use mathlib.Core.List.{List, [], ◌∷◌}
 use Prim.Native.Nat.{ℕ, ◌<◌}
@@ -14,7 +14,6 @@ use Rattle.machine.specs.Arguments.{none}
 use Rattle.machine.specs.Changes.{with_plus}
 use Rattle.machine.specs.Effects.{Go, Row, jump_if, row}
 use Rattle.machine.specs.Effects.Go.{on, jump, call, back}
-use Rattle.machine.specs.Steps.{can_go}
 use Rattle.cells.specs.Cells.{Number}
 use Rattle.layout.specs.Table.{label_in, program_of}
 use Rattle.packed.specs.Packed.{table_of}
@@ -22,12 +21,13 @@ use Rattle.state.specs.Working.{HoldsState, Stands, on_store}
 use Rattle.state.proofs.Standing.{after-state}
 use Rattle.control.specs.Going.{going, Deep}
 use Rattle.control.proofs.Laws.{made-going, made_after}
-use Rattle.instructions.specs.Does.{Goes, GoesFor, GoesIn}
+use Rattle.instructions.specs.Does.{GoesFor, GoesIn}
 use Rattle.instructions.proofs.Answers.{answer-no, goes-stop}
 use Rattle.instructions.proofs.Goings.{none-yes, goes-made}
 use Rattle.table.specs.Good.{GoodLabel}
-use Rattle.jumps.specs.Jumps.{Led, led_to}
-use Rattle.jumps.proofs.Leading.{led-goes, led-full}
+use Rattle.jumps.specs.Jumps.{Led, led_to, going_by}
+use Rattle.jumps.specs.declared.Way.{Way}
+use Rattle.jumps.proofs.Leading.{can_lead, led-goes, led-full}
 
 -- ---- from what is asked to what the parts ask
 
@@ -102,28 +102,19 @@ module _ {σ : State} (h : Stands σ) (c : List ℕ) (k : ℕ) where
         (goes-made h (none, with_plus true σ.store, on) none-yes refl
         (rw (made_after none (with_plus true) on σ) (after-state w (on_store (with_plus true)) j)))
 
-    pub if-gone : (to : ℕ → Go) → ((t : ℕ) → can_go (to t) σ.stack ≡ true) → {t : ℕ} {σ' σ'' : State} → b ≡ true → t ≡ led_to c k
-        → HoldsState σ' (going (to t) σ) → HoldsState σ'' (on_store (with_plus true) σ')
-        → GoesIn σ 0 σ'' (λ ins. jump_if (program_of c) ins σ.store b (to (led_to c k)))
-    if-gone to can q x w j ins =
-        let g = to (led_to c k) in
+    pub if-gone : (way : Way) {t : ℕ} {σ' σ'' : State} → b ≡ true → t ≡ led_to c k → HoldsState σ' (going (going_by way t) σ)
+        → HoldsState σ'' (on_store (with_plus true) σ') → GoesIn σ 0 σ'' (λ ins. jump_if (program_of c) ins σ.store b (going_by way (led_to c k)))
+    if-gone way q x w j ins =
+        let g = going_by way (led_to c k) in
         rw (if-taken c ins σ.store k b g q)
-        (goes-made h (none, with_plus true σ.store, g) none-yes (can (led_to c k))
+        (goes-made h (none, with_plus true σ.store, g) none-yes (can_lead way (led_to c k) σ.stack)
         (rw (made_after none (with_plus true) g σ) (after-state (rw x at w) (on_store (with_plus true)) j)))
 
-    pub if-full : {t x : ℕ} {σ' : State} → b ≡ true → t ≡ led_to c k → Led σ (call t) x σ' → (x ≡ 0 → ⊥)
-        → GoesIn σ x σ' (λ ins. jump_if (program_of c) ins σ.store b (call (led_to c k)))
-    if-full q y w z ins =
-        let g = call (led_to c k) in
-        rw (if-taken c ins σ.store k b g q) (led-full h g refl (rw y at w) (with_plus true σ.store) z)
-
--- not taken, a call is a jump
-pub if-not : {σ : State} (c : List ℕ) (k : ℕ) (b : Bool) {x : ℕ} {σ' : State} → b ≡ false
-    → GoesIn σ x σ' (λ ins. jump_if (program_of c) ins σ.store b (jump (led_to c k)))
-    → GoesIn σ x σ' (λ ins. jump_if (program_of c) ins σ.store b (call (led_to c k)))
-if-not {σ} c k b {x} {σ'} q h ins =
-    subst (λ (r : Row). Goes σ x σ' r)
-    (if-left c ins σ.store k b (jump (led_to c k)) q ∙ sym (if-left c ins σ.store k b (call (led_to c k)) q)) (h ins)
+    pub if-full : (way : Way) {t x : ℕ} {σ' : State} → b ≡ true → t ≡ led_to c k → Led σ (going_by way t) x σ' → (x ≡ 0 → ⊥)
+        → GoesIn σ x σ' (λ ins. jump_if (program_of c) ins σ.store b (going_by way (led_to c k)))
+    if-full way {t} q y w z ins =
+        rw (if-taken c ins σ.store k b (going_by way (led_to c k)) q)
+        (led-full h (going_by way (led_to c k)) (can_lead way (led_to c k) σ.stack) (rw y at w) (with_plus true σ.store) z)
 
 -- ---- the return and STOP
 

@@ -7,16 +7,23 @@ ghost use Rattle.language.specs.Program.Arg.{nothing, label as by-label};
 ghost use Rattle.language.specs.Program.Op.{SKOCZ, WYKONAJ, WROC, STOP};
 ghost use Rattle.layout.specs.Table.{program_of};
 ghost use Rattle.machine.specs.Effects.{row, jump_if};
-ghost use Rattle.machine.specs.Effects.Go.{jump, call};
+ghost use Rattle.machine.specs.Effects.Go.{call};
 ghost use Rattle.instructions.specs.Questions.{told_by};
 ghost use Rattle.instructions.specs.Does.{GoesFor, GoesIn};
 ghost use Rattle.table.specs.Good.{GoodLabel};
-ghost use Rattle.jumps.specs.Jumps.{Turns, Led, led_to};
+ghost use Rattle.jumps.specs.Jumps.{Turns, Led, led_to, going_by};
 
 use instructions::Question;
 use language::Machine;
 use state::Working;
 use table::Table;
+
+// How an instruction goes to a label or to an entry of a switch.
+#[derive(Clone, Copy, PartialEq, Eq, Debug)]
+pub enum Way {
+    Jump,
+    Call,
+}
 
 // Calls instruction `t`, where the return stack has room.
 pub fn call(state: &mut Working, t: usize) -> Result<(), Question>
@@ -31,15 +38,31 @@ pub fn call(state: &mut Working, t: usize) -> Result<(), Question>
     Ok(())
 }
 
-// Goes to a label where `taken` says so and otherwise on, and leaves H plus. SKOMI and SKOPL are this by H.
-pub fn jump_when(
+// Jumps to instruction `t`, or calls it.
+pub fn lead(state: &mut Working, way: Way, t: usize) -> Result<(), Question>
+    requires following { suc state.old.next < limit.instructions }
+    requires below { t < limit.instructions }
+    ensures { Led state.old (going_by way t) (told_by result) state.new }
+{
+    match way {
+        Way::Jump => {
+            control::go_to(state, t);
+            Ok(())
+        }
+        Way::Call => call(state, t),
+    }
+}
+
+// Goes to a label where `taken` says so and otherwise on, and leaves H plus. SKOMI, SKOPL, WYMI and WYPL are this by H.
+pub fn lead_when(
     table: Table,
     state: &mut Working,
+    way: Way,
     taken: bool,
     label: usize,
 ) -> Result<(), Question>
     requires { Turns table.cells.now state.old label }
-    ensures { GoesIn state.old (told_by result) state.new (λ ins. jump_if (program_of table.entry.cells.now) ins state.old.store taken (jump (led_to table.entry.cells.now label))) }
+    ensures { GoesIn state.old (told_by result) state.new (λ ins. jump_if (program_of table.entry.cells.now) ins state.old.store taken (going_by way (led_to table.entry.cells.now label))) }
 {
     state.stands();
     if !taken {
@@ -47,26 +70,7 @@ pub fn jump_when(
         state.set_plus(true);
         return Ok(());
     }
-    control::go_to(state, table.target(label));
-    state.set_plus(true);
-    Ok(())
-}
-
-// Calls the instruction at a label where `taken` says so and otherwise goes on, and leaves H plus. WYMI and WYPL are this by H.
-pub fn call_when(
-    table: Table,
-    state: &mut Working,
-    taken: bool,
-    label: usize,
-) -> Result<(), Question>
-    requires { Turns table.cells.now state.old label }
-    ensures { GoesIn state.old (told_by result) state.new (λ ins. jump_if (program_of table.entry.cells.now) ins state.old.store taken (call (led_to table.entry.cells.now label))) }
-{
-    state.stands();
-    if !taken {
-        return jump_when(table, state, taken, label);
-    }
-    call(state, table.target(label))?;
+    lead(state, way, table.target(label))?;
     state.set_plus(true);
     Ok(())
 }

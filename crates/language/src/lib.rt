@@ -260,5 +260,5 @@ pub fn operators() -> [u8; 41]
 
 // Of `characters`, passed on to the crates above.
 pub mod from_characters {
-    pub use characters::{MARKS, is_capital, is_digit, is_known};
+    pub use characters::{is_capital, is_digit, is_known};
 }

@@ -114,7 +114,7 @@ going-none l u w =
 
 module _ {l : List ℕ} {u : Until Component} {left : List ℕ} {k n : ℕ} {w : Bool} (g : Going l u left k n w) where
   -- the test ends it here
-  took : (b : Bool) → walked u k (components_in left) ≡ (k, b) → WholeComponents l → (r : Taken) → r ≡ record { parts = k; bytes = length l - length left; chars = n; reached = b; words = w }
+  took : (b : Bool) → walked u k (components_in left) ≡ (k, b) → WholeComponents l → (r : Taken) → r ≡ record { amount = record { parts = k; bytes = length l - length left; chars = n }; reached = b; words = w }
       → Took u (components_in l) r
   took b e h r q =
       rw q record {
@@ -140,7 +140,7 @@ module _ {l : List ℕ} {u : Until Component} {left : List ℕ} {k n : ℕ} {w :
     told : {b : Bool} (t : Bool) → b ≡ stops_before u k (component_in x) → b ≡ t → stops_before u k (component_in left) ≡ t
     told {b} t e q = ap (stops_before u k) (sym (front_one f)) ∙ sym e ∙ q
 
-    pub going-stop : WholeComponents l → {b : Bool} → b ≡ stops_before u k (component_in x) → b ≡ true → Took u (components_in l) (record { parts = k; bytes = length l - length left; chars = n; reached = true; words = w })
+    pub going-stop : WholeComponents l → {b : Bool} → b ≡ stops_before u k (component_in x) → b ≡ true → Took u (components_in l) (record { amount = record { parts = k; bytes = length l - length left; chars = n }; reached = true; words = w })
     going-stop h e q = took true (walked_stop (told true e q)) h _ refl
 
     pub going_next : {b : Bool} → b ≡ stops_before u k (component_in x) → b ≡ false → Going l u r (k + 1) (n + cell x 0) (w && not (eqb (cell x 0) 0))
@@ -161,7 +161,7 @@ module _ {l : List ℕ} {u : Until Component} {left : List ℕ} {k n : ℕ} {w :
           walk = g.walk ∙ walked_next (told false e q);
         }
 
-  pub going_end : WholeComponents l → left ≡ [] → Took u (components_in l) (record { parts = k; bytes = length l; chars = n; reached = ends u k; words = w })
+  pub going_end : WholeComponents l → left ≡ [] → Took u (components_in l) (record { amount = record { parts = k; bytes = length l; chars = n }; reached = ends u k; words = w })
   unfolding walked
   going_end h e =
       let z : length l - length left ≡ length l = omega (arith, ap length e) in

@@ -122,13 +122,13 @@ all_word xs = all (λ x. eqb (kind x) 0) xs
 
 -- what `taken` is of the components xs, with the cells and characters of what is taken
 pub record Took (u : Until Component) (xs : List Component) (r : Taken) : Type 0 where
-  pub is : taken u xs ≡ (r.parts, r.reached)
-  pub parts_most : r.parts ≤ length xs
-  pub bytes_is : r.bytes ≡ length (components_bytes (take r.parts xs))
-  pub chars_is : r.chars ≡ char_count (take r.parts xs)
-  pub words_is : r.words ≡ all_word (take r.parts xs)
-  pub bytes_most : r.bytes ≤ length (components_bytes xs)
-  pub chars_most : r.chars ≤ r.bytes
+  pub is : taken u xs ≡ (r.amount.parts, r.reached)
+  pub parts_most : r.amount.parts ≤ length xs
+  pub bytes_is : r.amount.bytes ≡ length (components_bytes (take r.amount.parts xs))
+  pub chars_is : r.amount.chars ≡ char_count (take r.amount.parts xs)
+  pub words_is : r.words ≡ all_word (take r.amount.parts xs)
+  pub bytes_most : r.amount.bytes ≤ length (components_bytes xs)
+  pub chars_most : r.amount.chars ≤ r.amount.bytes
 
 pub record TookChars (u : Until ℕ) (s : List ℕ) (r : CharsTaken) : Type 0 where
   pub is : taken u s ≡ (r.taken, r.reached)

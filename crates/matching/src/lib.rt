@@ -4,12 +4,14 @@
 ghost use Rattle.std.specs.Prelude.{◌≡◌, [], length, position, unwrap_or};
 ghost use Rattle.std.specs.Option.{is_some};
 ghost use Rattle.characters.specs.Below.Lists.{all, any, among};
-ghost use Rattle.characters.specs.Characters.{class_places};
 ghost use Rattle.components.specs.Below.LanguageValues.{same, of_class};
 ghost use Rattle.components.specs.Below.Components.{component_in, components_in};
 ghost use Rattle.components.specs.Below.Table.{class_by};
 ghost use Rattle.components.specs.Parts.{Leading, Written};
 ghost use Rattle.matching.specs.Tests.{in_class, first_chars, until, until_chars, reached_by, stops_before, Comparable, Stoppable, Countable, FirstRoom, FirstPut, FirstsRoom, Took, TookChars};
+
+use characters::Class;
+use components::Amount;
 
 // A test of a move. `Class` has the mask of its class: L 1, D 2, B 4, R 8; `Among` has what it compares with.
 #[derive(Clone, Copy, Debug, PartialEq, Eq)]
@@ -20,12 +22,10 @@ pub enum Test<'a> {
     Among(&'a [u8]),
 }
 
-// How much a test takes: components, cells, characters; whether it was reached, and whether all that is taken are words.
+// How much a test takes; whether it was reached, and whether all that is taken are words.
 #[derive(Clone, Copy, Debug, PartialEq, Eq)]
 pub struct Taken {
-    pub parts: usize,
-    pub bytes: usize,
-    pub chars: usize,
+    pub amount: Amount,
     pub reached: bool,
     pub words: bool,
 }
@@ -38,20 +38,18 @@ pub struct CharsTaken {
     pub reached: bool,
 }
 
-// Whether a character is of a class. `places` is the table of classes by byte.
-fn in_class(b: u8, mask: u8, places: &[u8]) -> bool
-    requires { places.now ≡ class_places }
+// Whether a character is of a class.
+fn in_class(b: u8, mask: u8) -> bool
     ensures { result ≡ in_class mask b }
 {
-    (mask >> characters::class_of(b, places)) % 2 == 1
+    (mask >> Class::of(b).place()) % 2 == 1
 }
 
 // Whether all characters are of a class.
-fn all_in_class(w: &[u8], mask: u8, places: &[u8]) -> bool
-    requires { places.now ≡ class_places }
+fn all_in_class(w: &[u8], mask: u8) -> bool
     ensures { result ≡ all (in_class mask) w.now }
 {
-    w.iter().all(|b| in_class(*b, mask, places))
+    w.iter().all(|b| in_class(*b, mask))
 }
 
 // Whether the component in front is of a class.
@@ -62,7 +60,7 @@ fn of_class(x: &[u8], mask: u8) -> bool
     if x[0] == 0 {
         return false;
     }
-    all_in_class(components::chars_of(x), mask, &characters::PLACES)
+    all_in_class(components::chars_of(x), mask)
 }
 
 // Whether a component is one of those in `given`.
@@ -116,9 +114,11 @@ pub fn count(s: &[u8], test: Test) -> Taken
     while let Some((x, rest)) = components::split_first(left) {
         if stops(test, k, x) {
             return Taken {
-                parts: k,
-                bytes: s.len() - left.len(),
-                chars,
+                amount: Amount {
+                    parts: k,
+                    bytes: s.len() - left.len(),
+                    chars,
+                },
                 reached: true,
                 words,
             };
@@ -129,9 +129,11 @@ pub fn count(s: &[u8], test: Test) -> Taken
         k += 1;
     }
     Taken {
-        parts: k,
-        bytes: s.len(),
-        chars,
+        amount: Amount {
+            parts: k,
+            bytes: s.len(),
+            chars,
+        },
         reached: reached(test, k),
         words,
     }
@@ -164,11 +166,10 @@ pub fn first_chars(out: &mut [u8], given: &[u8]) -> usize
 }
 
 // The place of the first character of a class.
-fn place_of_class(s: &[u8], mask: u8, places: &[u8]) -> Option<usize>
-    requires { places.now ≡ class_places }
+fn place_of_class(s: &[u8], mask: u8) -> Option<usize>
     ensures { result ≡ position (in_class mask) s.now }
 {
-    s.iter().position(|b| in_class(*b, mask, places))
+    s.iter().position(|b| in_class(*b, mask))
 }
 
 // The place of the first character that is in `given`.
@@ -202,7 +203,7 @@ pub fn count_chars(s: &[u8], test: Test) -> CharsTaken
             taken: k.min(n),
             reached: k <= n,
         },
-        Test::Class(mask) => taken_to(place_of_class(s, mask, &characters::PLACES), n),
+        Test::Class(mask) => taken_to(place_of_class(s, mask), n),
         Test::Among(given) => taken_to(place_of(s, given), n),
     }
 }
@@ -214,5 +215,5 @@ pub mod from_cells {
 
 // Of `components`, passed on to the crates above.
 pub mod from_components {
-    pub use components::{Kind, kind_of, number_of, put_word, size_by};
+    pub use components::{Amount, Kind, kind_of, number_of, put_word, size_by};
 }

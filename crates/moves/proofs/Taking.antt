@@ -99,29 +99,29 @@ module _ {σ : State} {i : ℕ} {x : List ℕ} {u : Until Component} {t : Taken}
   pub took : Took u xs t
   took = subst (λ (ys : List Component). Took u ys t) l.is k
 
-  bytes_inside : t.bytes ≤ length x
+  bytes_inside : t.amount.bytes ≤ length x
   bytes_inside = omega (arith, took.bytes_most, ap length l.encoded.is)
 
-  pub taken-part : Encoded (take t.bytes x) (take t.parts xs)
-  taken-part = (cut l.encoded t.parts t.bytes took.bytes_is).front
+  pub taken-part : Encoded (take t.amount.bytes x) (take t.amount.parts xs)
+  taken-part = (cut l.encoded t.amount.parts t.amount.bytes took.bytes_is).front
 
-  pub bytes-few : t.bytes ≤ 32768
+  pub bytes-few : t.amount.bytes ≤ 32768
   bytes-few = omega (arith, bytes_inside, l.most)
 
-  part-long : t.bytes ≡ length (take t.bytes x)
+  part-long : t.amount.bytes ≡ length (take t.amount.bytes x)
   part-long = simp length-take (omega (arith, bytes_inside))
 
-  pub copy-room : (m : ℕ) → 32768 ≤ m → CopyRoom m (take t.bytes x)
+  pub copy-room : (m : ℕ) → 32768 ≤ m → CopyRoom m (take t.amount.bytes x)
   copy-room m r = record { whole = whole-components taken-part; room = omega (arith, part-long, bytes-few) }
 
-  pub more : More t.parts t.chars
+  pub more : More t.amount.parts t.amount.chars
   more =
       record {
         parts_most = omega (arith, took.parts_most, parts-least xs, ap length l.encoded.is, l.most);
         chars_most = omega (arith, took.chars_most, bytes_inside, l.most);
       }
 
-  pub droppable : PartsDroppable σ i t.parts t.bytes t.chars
+  pub droppable : PartsDroppable σ i t.amount.parts t.amount.bytes t.amount.chars
   droppable =
       record {
         index = b;
@@ -135,44 +135,44 @@ module _ {σ : State} {i : ℕ} {x : List ℕ} {u : Until Component} {t : Taken}
 
   module _ (removes : Bool) where
     abbrev z : Store
-    z = past (nth (reading removes) i) t.parts s
+    z = past (nth (reading removes) i) t.amount.parts s
 
-    parts-off : components_held z + cond removes t.parts 0 ≡ components_held s
-    parts-off = components-past s i t.parts within droppable.first removes
+    parts-off : components_held z + cond removes t.amount.parts 0 ≡ components_held s
+    parts-off = components-past s i t.amount.parts within droppable.first removes
 
-    chars-off : chars_held z + cond removes t.chars 0 ≡ chars_held s
-    chars-off = chars-past s i t.parts within droppable.first removes
+    chars-off : chars_held z + cond removes t.amount.chars 0 ≡ chars_held s
+    chars-off = chars-past s i t.amount.parts within droppable.first removes
 
     module _ (j : ℕ) (d : j < limit.expressions) (reverses at_end : Bool) where
       abbrev ys : List Component
-      ys = turned reverses (take t.parts xs)
+      ys = turned reverses (take t.amount.parts xs)
 
-      count_is : t.parts ≡ length ys
-      count_is = rw (turned-length reverses (take t.parts xs)) (simp length-take (omega (arith, took.parts_most)))
+      count_is : t.amount.parts ≡ length ys
+      count_is = rw (turned-length reverses (take t.amount.parts xs)) (simp length-take (omega (arith, took.parts_most)))
 
-      chars-are : t.chars ≡ char_count ys
-      chars-are = took.chars_is ∙ sym (turned-total (λ y. length (chars y)) reverses (take t.parts xs))
+      chars-are : t.amount.chars ≡ char_count ys
+      chars-are = took.chars_is ∙ sym (turned-total (λ y. length (chars y)) reverses (take t.amount.parts xs))
 
       -- the limits
-      pub fits-sent : fits (sent u removes i reverses at_end j s) ≡ room_beside removes t.parts t.chars s
+      pub fits-sent : fits (sent u removes i reverses at_end j s) ≡ room_beside removes t.amount.parts t.amount.chars s
       unfolding sent
       fits-sent =
-          let m : Limited z = limited-past s (fine-limited σ h.fine) (nth (reading removes) i) t.parts in
+          let m : Limited z = limited-past s (fine-limited σ h.fine) (nth (reading removes) i) t.amount.parts in
           let q : (j < length z.exprs) = rw m.exprs_is d in
           rw took.is
           (fits-minus_unless t.reached (into (nth (writing at_end) j) ys z)
-          ∙ fits-into-ok (nth (writing at_end) j) z q ys m (each-turned reverses (take t.parts xs) taken-part.all_ok)
-          ∙ rw (← count_is, ← chars-are) (room-after t.parts t.chars (components_held z) (chars_held z) removes h.fine.components_most h.fine.chars_most parts-off chars-off))
+          ∙ fits-into-ok (nth (writing at_end) j) z q ys m (each-turned reverses (take t.amount.parts xs) taken-part.all_ok)
+          ∙ rw (← count_is, ← chars-are) (room-after t.amount.parts t.amount.chars (components_held z) (chars_held z) removes h.fine.components_most h.fine.chars_most parts-off chars-off))
 
       module _ {new : List ℕ} (c : Encoded new ys) where
         new_is : components_in new ≡ ys
         new_is = components-of c
 
-        pub writable : room_beside removes t.parts t.chars s ≡ true → {σ' : State} → HoldsState σ' (on_store (past (nth (reading removes) i) t.parts) σ)
-            → PartsWritable σ' j new t.parts t.chars
+        pub writable : room_beside removes t.amount.parts t.amount.chars s ≡ true → {σ' : State} → HoldsState σ' (on_store (past (nth (reading removes) i) t.amount.parts) σ)
+            → PartsWritable σ' j new t.amount.parts t.amount.chars
         unfolding on_store
         writable r g =
-            let w = room-had t.parts t.chars (components_held z) (chars_held z) removes h.fine.components_most h.fine.chars_most parts-off chars-off r in
+            let w = room-had t.amount.parts t.amount.chars (components_held z) (chars_held z) removes h.fine.components_most h.fine.chars_most parts-off chars-off r in
             record {
               index = d;
               whole = whole-components c;
@@ -184,14 +184,14 @@ module _ {σ : State} {i : ℕ} {x : List ℕ} {u : Until Component} {t : Taken}
 
         -- what is held then
         pub sent-done : {σ' : State}
-            → HoldsState σ' (on_store (λ y. minus_unless t.reached (into (nth (writing at_end) j) (components_in new) (past (nth (reading removes) i) t.parts y))) σ)
+            → HoldsState σ' (on_store (λ y. minus_unless t.reached (into (nth (writing at_end) j) (components_in new) (past (nth (reading removes) i) t.amount.parts y))) σ)
             → HoldsState σ' (on_store (sent u removes i reverses at_end j) σ)
         unfolding on_store sent
         sent-done g = rw (took.is, ← new_is) g
 
   -- ---- taken away
 
-  pub gone-off : {σ' : State} → HoldsState σ' (on_store (λ z. minus_unless t.reached (past (nth (reading true) i) t.parts z)) σ)
+  pub gone-off : {σ' : State} → HoldsState σ' (on_store (λ z. minus_unless t.reached (past (nth (reading true) i) t.amount.parts z)) σ)
       → HoldsState σ' (on_store (cut_off u i) σ)
   unfolding on_store cut_off
   gone-off g = rw took.is g

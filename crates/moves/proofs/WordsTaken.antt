@@ -37,11 +37,11 @@ module _ {σ : State} {i : ℕ} {x : List ℕ} {u : Until Component} {t : Taken}
   abbrev xs : List Component
   xs = expr s (nth E i)
 
-  pub part-is : components_in (take t.bytes x) ≡ take t.parts xs
+  pub part-is : components_in (take t.amount.bytes x) ≡ take t.amount.parts xs
   part-is = components-of (taken-part h b l k)
 
-  pub chars-long : length (spelled (take t.parts xs)) ≡ t.chars
-  chars-long = spelled-long (take t.parts xs) ∙ sym (took h b l k).chars_is
+  pub chars-long : length (spelled (take t.amount.parts xs)) ≡ t.amount.chars
+  chars-long = spelled-long (take t.amount.parts xs) ∙ sym (took h b l k).chars_is
 
   pub words_right : all_taken_words u i s ≡ t.words
   unfolding all_taken_words

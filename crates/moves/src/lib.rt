@@ -18,38 +18,31 @@ ghost use Rattle.instructions.specs.Does.{Tried, DoesFor, More};
 ghost use Rattle.instructions.specs.Operands.{target as target_letter};
 ghost use Rattle.moves.specs.Moves.{room_beside, sent, cut_off, TestBeside, Movable, Removable};
 
+use components::Amount;
 use instructions::{Bench, Question, Source, Target};
 use state::Working;
 use table::Table;
 use tests::Prepared;
 
-// Components that are written: their bytes, how many they are, and their characters.
-#[derive(Clone, Copy, Debug, PartialEq, Eq)]
-pub struct New<'a> {
-    pub bytes: &'a [u8],
-    pub parts: usize,
-    pub chars: usize,
-}
-
-// Writes components to expression `j`, and turns H minus unless the test was reached.
-// The index and the end, not a `Target`: the components are turned round already.
-pub fn deliver(state: &mut Working, j: usize, at_end: bool, new: New, reached: bool)
-    requires { PartsWritable state.old j new.bytes.now new.parts new.chars }
-    ensures { HoldsState state.new (on_store (λ t. minus_unless reached (into (nth (writing at_end) j) (components_in new.entry.bytes.now) t)) state.old) }
+// Writes the components in `new`, which are so much and already turned round where they are to be, and turns H minus unless the test was reached.
+pub fn deliver(state: &mut Working, target: Target, new: &[u8], amount: Amount, reached: bool)
+    requires { PartsWritable state.old target.j new.now amount.parts amount.chars }
+    ensures { HoldsState state.new (on_store (λ t. minus_unless reached (into (nth (writing target.at_end) target.j) (components_in new.now) t)) state.old) }
 {
-    state.write_parts(j, at_end, new.bytes, new.parts, new.chars);
+    state.write_parts(target, new, amount);
     state.minus_unless(reached);
 }
 
-// Whether so many components and characters are within the limits; `removes`: as many at least are taken away before.
-pub fn has_room(state: &Working, removes: bool, parts: usize, chars: usize) -> bool
-    requires { More parts chars }
-    ensures { result ≡ room_beside removes parts chars state.now.store }
+// Whether so much is within the limits; `removes`: as much at least is taken away before.
+// Not `has_room_after` with that freed: where as much goes as comes there is room, whatever it is.
+pub fn has_room(state: &Working, removes: bool, amount: Amount) -> bool
+    requires { More amount.parts amount.chars }
+    ensures { result ≡ room_beside removes amount.parts amount.chars state.now.store }
 {
     if removes {
         return true;
     }
-    instructions::has_room(state, parts, chars)
+    instructions::has_room(state, amount)
 }
 
 // Writes what a test takes of an expression to another, where it has room.
@@ -61,19 +54,14 @@ fn send(bench: &mut Bench, test: Prepared, source: Source, target: Target) -> Re
 {
     let x = bench.state.expr_bytes(source.i);
     let t = matching::count(x, test.with(&bench.given));
-    if !has_room(&bench.state, source.removes, t.parts, t.chars) {
+    let amount = t.amount;
+    if !has_room(&bench.state, source.removes, amount) {
         return Err(Question::Room);
     }
-    components::copy(&mut bench.hold, &x[..t.bytes], target.reverses);
-    bench
-        .state
-        .past_parts(source.i, source.removes, t.parts, t.bytes, t.chars);
-    let new = New {
-        bytes: &bench.hold[..t.bytes],
-        parts: t.parts,
-        chars: t.chars,
-    };
-    deliver(&mut bench.state, target.j, target.at_end, new, t.reached);
+    components::copy(&mut bench.hold, &x[..amount.bytes], target.reverses);
+    bench.state.past_parts(source, amount);
+    let new = &bench.hold[..amount.bytes];
+    deliver(&mut bench.state, target, new, amount, t.reached);
     Ok(())
 }
 
@@ -101,7 +89,7 @@ fn cut_off(bench: &mut Bench, test: Prepared, i: usize)
 {
     let x = bench.state.expr_bytes(i);
     let t = matching::count(x, test.with(&bench.given));
-    bench.state.drop_parts(i, t.parts, t.bytes, t.chars);
+    bench.state.drop_parts(i, t.amount);
     bench.state.minus_unless(t.reached);
 }
 

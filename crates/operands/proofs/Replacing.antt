@@ -2,13 +2,12 @@
 use mathlib.Core.Path.{◌≡◌, refl, sym, ap, ◌∙◌}
 use mathlib.Core.Bool.{Bool, true, false, cond, ◌&&◌}
 use mathlib.Core.List.{List, [], ◌∷◌}
-use Prim.Native.Nat.{ℕ, ◌+◌, ◌≤◌, ◌<◌}
+use Prim.Native.Nat.{ℕ, ◌+◌, ◌<◌}
 use native.Mathlib.Omega.{arith}
 use lib.Dec.{T, leb}
 use lib.ListN.{length, take}
 use lib.IntN.{ℤ}
-use mir.Val.{bool_byte}
-use borrow.Author.Tests.{lt-leb}
+use borrow.Author.Tests.{leb-true}
 use Rattle.language.specs.Limits as limit
 use Rattle.language.specs.Values.{Component, Store, State, kind}
 use Rattle.language.specs.Values.Component.{word, address}
@@ -22,7 +21,10 @@ use Rattle.state.specs.Blocks.{FirstParts, PartsWritable}
 use Rattle.state.specs.Limited.{Limited}
 use Rattle.state.proofs.Fits.{fine-limited, fits-into-ok}
 use Rattle.state.proofs.Freed.{limited-past, components-past, chars-past}
-use Rattle.instructions.specs.Does.{Tried, stop_of}
+use Rattle.components.specs.declared.Amount.{Amount}
+use Rattle.instructions.specs.Does.{Tried, stop_of, room_after}
+use Rattle.instructions.proofs.Room.{room-freed}
+use Rattle.instructions.proofs.Written.{both}
 use Rattle.instructions.proofs.Answers.{tried-full, tried-done}
 use Rattle.operands.specs.Operands.{replaced, Replaceable}
 use Rattle.operands.proofs.Reading.{wordless, left-kind}
@@ -55,16 +57,7 @@ number-first es z e = short-first es (λ k. omega (arith, sym (ap (λ (xs : List
 pub left-first : (ks : List (ℕ × ℕ)) → T (wordless ks) → (es ys : List Component) → stop_of (of_kinds ks (take 1 es) ys) ≡ 0 → FirstParts es 1 5 0
 left-first ks h es ys z = short-first es (left-kind ks (take 1 es) ys h z)
 
--- one, or none
-pub one-freed : {x : ℕ} (t : Bool) → x ≡ bool_byte t → x ≡ cond t 1 0
-one-freed true q = q
-one-freed false q = q
-
-and-false : (b : Bool) → (b && false) ≡ false
-and-false true = refl
-and-false false = refl
-
-module _ {σ : State} (st : Stands σ) {i bytes letters : ℕ} {new : List ℕ} {parts chars : ℕ} (h : Replaceable σ i bytes letters new parts chars)
+module _ {σ : State} (st : Stands σ) {i : ℕ} {f : Amount} {new : List ℕ} {a : Amount} (h : Replaceable σ i f new a)
     (removes : Bool) where
   abbrev s : Store
   s = σ.store
@@ -84,41 +77,46 @@ module _ {σ : State} (st : Stands σ) {i bytes letters : ℕ} {new : List ℕ} 
   parts-left : components_held t + cond removes 1 0 ≡ components_held s
   parts-left = components-past s i 1 inside h.first removes
 
-  chars_left : chars_held t + cond removes letters 0 ≡ chars_held s
+  chars_left : chars_held t + cond removes f.chars 0 ≡ chars_held s
   chars_left = chars-past s i 1 inside h.first removes
 
   fits_replaced : fits (replaced removes i ys s) ≡ (leb (components_held t + length ys) limit.components && leb (chars_held t + char_count ys) limit.characters)
   fits_replaced =
       rw (replaced-is removes i ys s) (fits-into-ok (nth (writing false) i) t (rw left.exprs_is h.index) ys left h.whole.all_ok)
 
-  pub full-parts : {f x : ℕ} → f ≡ cond removes 1 0 → x ≡ components_held s → limit.components + f < x + parts
-      → Tried σ 59 σ true (replaced removes i ys s)
-  full-parts {f} {x} a b c =
-      tried-full st (replaced removes i ys s) refl
-      (fits_replaced ∙ rw (lt-leb (components_held t + length ys) limit.components (omega (arith, a, b, c, parts-left, h.count))) refl)
+  -- what is freed
+  module _ {r : Amount} (q : r ≡ record { parts = cond removes f.parts 0; bytes = cond removes f.bytes 0; chars = cond removes f.chars 0 }) where
+    parts-freed : components_held t + r.parts ≡ components_held s
+    parts-freed = rw (q, h.single) parts-left
 
-  pub full-chars : {f x : ℕ} → f ≡ cond removes letters 0 → x ≡ chars_held s → limit.characters + f < x + chars
-      → Tried σ 59 σ true (replaced removes i ys s)
-  full-chars {f} {x} a b c =
-      tried-full st (replaced removes i ys s) refl
-      (fits_replaced ∙ rw (lt-leb (chars_held t + char_count ys) limit.characters (omega (arith, a, b, c, chars_left, h.chars_is))) (and-false (leb (components_held t + length ys) limit.components)))
+    chars-freed : chars_held t + r.chars ≡ chars_held s
+    chars-freed = rw q chars_left
 
-  pub writable : {f x f' x' : ℕ} {σ' : State} → f ≡ cond removes 1 0 → x ≡ components_held s → x + parts ≤ limit.components + f
-      → f' ≡ cond removes letters 0 → x' ≡ chars_held s → x' + chars ≤ limit.characters + f'
-      → HoldsState σ' (on_store (past (nth (reading removes) i) 1) σ) → PartsWritable σ' i new parts chars
-  unfolding on_store
-  writable a b c a' b' c' g =
-      let q = g.is in
-      record {
-        index = h.index;
-        whole = h.whole;
-        count = h.count;
-        chars_is = h.chars_is;
-        components_room = rw q (omega (arith, a, b, c, parts-left));
-        chars_room = rw q (omega (arith, a', b', c', chars_left));
-      }
+    pub fits_after : fits (replaced removes i ys s) ≡ room_after s r.parts r.chars a.parts a.chars
+    fits_after =
+        fits_replaced
+        ∙ rw (room-freed (components_held t) (components_held s) r.parts a.parts limit.components parts-freed, room-freed (chars_held t) (chars_held s) r.chars a.chars limit.characters chars-freed, ← h.count, ← h.chars_is) refl
 
-  pub replaced-done : {σ' : State} → HoldsState σ' (on_store (λ z. into (nth (writing false) i) ys (past (nth (reading removes) i) 1 z)) σ)
+    pub full-after : {b : Bool} → b ≡ room_after s r.parts r.chars a.parts a.chars → b ≡ false → Tried σ 59 σ true (replaced removes i ys s)
+    full-after e z = tried-full st (replaced removes i ys s) refl (fits_after ∙ sym e ∙ z)
+
+    pub writable : {b : Bool} → b ≡ room_after s r.parts r.chars a.parts a.chars → b ≡ true → {σ' : State}
+        → HoldsState σ' (on_store (past (nth (reading removes) i) f.parts) σ) → PartsWritable σ' i new a.parts a.chars
+    unfolding on_store
+    writable e z g =
+        let w = both (leb (components_held s + a.parts) (limit.components + r.parts)) (leb (chars_held s + a.chars) (limit.characters + r.chars)) (sym e ∙ z) in
+        let p = leb-true (components_held s + a.parts) (limit.components + r.parts) w.0 in
+        let k = leb-true (chars_held s + a.chars) (limit.characters + r.chars) w.1 in
+        record {
+          index = h.index;
+          whole = h.whole;
+          count = h.count;
+          chars_is = h.chars_is;
+          components_room = rw (g.is, h.single) (omega (arith, p, parts-freed));
+          chars_room = rw (g.is, h.single) (omega (arith, k, chars-freed));
+        }
+
+  pub replaced-done : {σ' : State} → HoldsState σ' (on_store (λ z. into (nth (writing false) i) ys (past (nth (reading removes) i) f.parts z)) σ)
       → Tried σ 0 σ' true (replaced removes i ys s)
   unfolding on_store
-  replaced-done g = tried-done st (replaced removes i ys s) refl (rw (replaced-is removes i ys s) g)
+  replaced-done g = tried-done st (replaced removes i ys s) refl (rw (replaced-is removes i ys s) (rw h.single at g))

@@ -1,5 +1,5 @@
 -- What reading the operands of an instruction asks and tells, and what putting components in the place of the first makes of a store.
-use Rattle.std.specs.Prelude.{◌≡◌, Bool, cond, List, [], ◌∷◌, ℕ, ◌≤◌, ◌<◌, eqb, length, Result, IfOk}
+use Rattle.std.specs.Prelude.{◌≡◌, Bool, cond, List, [], ◌∷◌, ℕ, ◌≤◌, ◌<◌, eqb, length, Option, Some, None, IfSome, Result, IfOk}
 use Rattle.language.specs.Limits as limit
 use Rattle.language.specs.Instructions.{two_words, two_numbers}
 use Rattle.language.specs.Letters.Letter.{E}
@@ -11,6 +11,8 @@ use Rattle.machine.specs.Effects.{Row}
 use Rattle.layout.specs.Bounds.{WholeComponents}
 use Rattle.layout.specs.Cells.{uncode}
 use Rattle.layout.specs.Components.{components_in}
+use Rattle.components.specs.Parts.{kind_number}
+use Rattle.components.specs.declared.Amount.{Amount}
 use Rattle.state.specs.Working.{nth, reading, char_count}
 use Rattle.state.specs.Blocks.{FirstParts}
 use Rattle.table.specs.Denote.{arg_of}
@@ -35,6 +37,11 @@ kinds_by Numbers = two_numbers
 abbrev pub kind_offered : List Component → ℕ
 kind_offered [] = 255
 kind_offered (x ∷ xs) = kind x
+
+-- the kind of what is offered; 255 of nothing
+abbrev pub kind_in : Option Offered → ℕ
+kind_in None = 255
+kind_in (Some x) = kind_number x.kind
 
 -- what is asked of two such kinds: 52, 53, or 0 where both are answered yes
 abbrev pub kinds_stop : List (ℕ × ℕ) → ℕ → ℕ → ℕ
@@ -64,15 +71,29 @@ pub record ReadsNumber (xs : List Component) (r : Result ℕ Question) : Type 0 
   pub told : told_by r ≡ stop_of (needs 1 xs)
   pub is : IfOk r (λ n. OneNumber xs n)
 
+-- the value that xs offers
+pub record Offers (xs : List Component) (x : Offered) : Type 0 where
+  pub value_is : uncode x.number ≡ value (first xs)
+  pub most : x.number ≤ 16777214
+
 -- the kind and the value that xs offers
-pub record ReadsOffered (xs : List Component) (r : Offered) : Type 0 where
-  pub kind_is : r.kind ≡ kind_offered xs
-  pub value_is : uncode r.code ≡ value (first xs)
-  pub most : r.code ≤ 16777214
+pub record ReadsOffered (xs : List Component) (r : Option Offered) : Type 0 where
+  pub kind_is : kind_in r ≡ kind_offered xs
+  pub is : IfSome r (λ x. Offers xs x)
 
 -- whatever the table and the inputs are
-abbrev pub ReadsOperand : Store → Argument → Offered → Type 0
+abbrev pub ReadsOperand : Store → Argument → Option Offered → Type 0
 ReadsOperand s a r = (c : List ℕ) (ins : Inputs) → ReadsOffered (side ins s (arg_of c a)) r
+
+-- the numbers of both, which are there
+abbrev pub NumbersOf : Option Offered → Option Offered → Pair → Type 0
+NumbersOf (Some x) (Some y) p = p ≡ record { left = x.number; right = y.number }
+NumbersOf (Some x) None p = ⊥
+NumbersOf None y p = ⊥
+
+pub record AsksKinds (ks : List (ℕ × ℕ)) (x y : Option Offered) (r : Result Pair Question) : Type 0 where
+  pub told : told_by r ≡ kinds_stop ks (kind_in x) (kind_in y)
+  pub is : IfOk r (λ p. NumbersOf x y p)
 
 -- two values
 pub record Both (xs ys : List Component) (p : Pair) : Type 0 where
@@ -95,16 +116,17 @@ ReadsPair ks s i a r = (removes : Bool) (c : List ℕ) (ins : Inputs) → ReadsO
 unfoldable pub replaced : Bool → ℕ → List Component → Store → Store
 replaced removes i ys s = front (nth (reading removes) i) ys (used (nth (reading removes) i) s)
 
--- expression i has a first component of so many bytes and letters, and the components in `new` are so many, of so many characters
-pub record Replaceable (σ : State) (i bytes letters : ℕ) (new : List ℕ) (parts chars : ℕ) : Type 0 where
+-- expression i has a first component, which is so much, and so much are the components in `new`
+pub record Replaceable (σ : State) (i : ℕ) (f : Amount) (new : List ℕ) (a : Amount) : Type 0 where
   pub index : i < limit.expressions
-  pub first : FirstParts (expr σ.store (nth E i)) 1 bytes letters
-  pub letters_most : letters ≤ 65536
+  pub single : f.parts ≡ 1
+  pub first : FirstParts (expr σ.store (nth E i)) 1 f.bytes f.chars
+  pub letters_most : f.chars ≤ 65536
   pub whole : WholeComponents new
-  pub count : parts ≡ length (components_in new)
-  pub chars_is : chars ≡ char_count (components_in new)
-  pub parts_most : parts ≤ 65536
-  pub chars_most : chars ≤ 65536
+  pub count : a.parts ≡ length (components_in new)
+  pub chars_is : a.chars ≡ char_count (components_in new)
+  pub parts_most : a.parts ≤ 65536
+  pub chars_most : a.chars ≤ 65536
 
 -- ---- instructions that read no table: what they do is said for every one
 

@@ -7,14 +7,13 @@ ghost use Rattle.language.specs.Limits as limit;
 ghost use Rattle.machine.specs.Arguments.{expr, listed_pair};
 ghost use Rattle.layout.specs.Components.{components_in};
 ghost use Rattle.state.specs.Working.{Stands, nth};
+ghost use Rattle.components.specs.Parts.{kind_number};
 ghost use Rattle.instructions.specs.Questions.{told_by};
 ghost use Rattle.instructions.specs.Does.{Tried};
-ghost use Rattle.operands.specs.Operands.{kinds_by, kinds_stop, OperandReadable, PairReadable, ReadsNumber, ReadsOffered, ReadsOperand, ReadsPair, replaced, Replaceable};
+ghost use Rattle.operands.specs.Operands.{kinds_by, AsksKinds, OperandReadable, PairReadable, ReadsNumber, ReadsOffered, ReadsOperand, ReadsPair, replaced, Replaceable};
 
-use components::{Kind, ZERO};
-use instructions::Question;
-use language::Machine;
-use layout::StatePlaces;
+use components::{Amount, Kind, ZERO};
+use instructions::{Question, Source};
 use state::Working;
 
 // The pairs of kinds that two operands may have.
@@ -24,18 +23,14 @@ pub enum Kinds {
     Numbers,
 }
 
-// What stands for the kind of a component that is not there: a number and no `Option`, since `ask_kinds` asks of both whether they are there before the
-// kind of either.
-pub const ABSENT: u8 = 255;
-
-// The kind of a component, and the code of its value: of a number, the value with 8,388,607 added, of others that of 0.
+// The kind of a component, and a number that goes with it: the code of its value, that of 0 where it is no number; or how many characters it has.
 #[derive(Clone, Copy, Debug, PartialEq, Eq)]
 pub struct Offered {
-    pub kind: u8,
-    pub code: usize,
+    pub kind: Kind,
+    pub number: usize,
 }
 
-// The codes of two values.
+// The numbers that go with two components.
 #[derive(Clone, Copy, Debug, PartialEq, Eq)]
 pub struct Pair {
     pub left: usize,
@@ -43,58 +38,49 @@ pub struct Pair {
 }
 
 // Whether kinds `j` and `k` are one of the pairs.
-fn takes(kinds: Kinds, j: u8, k: u8) -> bool
-    ensures { result ≡ listed_pair (kinds_by kinds) j k }
+fn takes(kinds: Kinds, j: Kind, k: Kind) -> bool
+    ensures { result ≡ listed_pair (kinds_by kinds) (kind_number j) (kind_number k) }
 {
-    match kinds {
-        Kinds::Words => (j == 0) & (k == 0),
-        Kinds::Numbers => (j == 1) & (k == 1),
-    }
+    let wanted = match kinds {
+        Kinds::Words => Kind::Word,
+        Kinds::Numbers => Kind::Number,
+    };
+    (j == wanted) & (k == wanted)
 }
 
-// Whether two components are there (52), and of kinds that are taken (53).
-pub fn ask_kinds(kinds: Kinds, j: u8, k: u8) -> Result<(), Question>
-    ensures { told_by result ≡ kinds_stop (kinds_by kinds) j k }
+// Whether two components are there (52), and of kinds that are taken (53): the numbers that go with them.
+pub fn ask_kinds(kinds: Kinds, x: Option<Offered>, y: Option<Offered>) -> Result<Pair, Question>
+    ensures { AsksKinds (kinds_by kinds) x y result }
 {
-    if j == ABSENT {
+    let (Some(x), Some(y)) = (x, y) else {
         return Err(Question::Missing);
-    }
-    if k == ABSENT {
-        return Err(Question::Missing);
-    }
-    if takes(kinds, j, k) {
-        return Ok(());
+    };
+    if takes(kinds, x.kind, y.kind) {
+        return Ok(Pair {
+            left: x.number,
+            right: y.number,
+        });
     }
     Err(Question::Kind)
 }
 
 // The first component of expression `i`.
-fn first_offered(state: &Working, i: usize) -> Offered
+fn first_offered(state: &Working, i: usize) -> Option<Offered>
     requires { i < limit.expressions }
     ensures reads { ReadsOffered (take 1 (expr state.now.store (nth E i))) result }
     ensures stands { Stands state.now }
 {
     let x = state.expr_bytes(i);
-    if x.len() == 0 {
-        return Offered {
-            kind: ABSENT,
-            code: ZERO,
-        };
+    if x.is_empty() {
+        return None;
     }
-    match components::kind_of(x) {
-        Kind::Word => Offered {
-            kind: 0,
-            code: ZERO,
-        },
-        Kind::Address => Offered {
-            kind: 2,
-            code: ZERO,
-        },
-        Kind::Number => Offered {
-            kind: 1,
-            code: components::number_of(x),
-        },
-    }
+    let kind = components::kind_of(x);
+    let number = if kind == Kind::Number {
+        components::number_of(x)
+    } else {
+        ZERO
+    };
+    Some(Offered { kind, number })
 }
 
 // The first component of expression `i` as a number: its code.
@@ -103,39 +89,30 @@ pub fn first_number(state: &Working, i: usize) -> Result<usize, Question>
     ensures reads { ReadsNumber (take 1 (expr state.now.store (nth E i))) result }
     ensures stands { Stands state.now }
 {
-    let x = first_offered(state, i);
-    if x.kind == ABSENT {
-        return Err(Question::Missing);
-    }
-    if x.kind != 1 {
-        return Err(Question::Kind);
-    }
-    Ok(x.code)
+    let x = instructions::front_of(state, i, Kind::Number)?;
+    Ok(components::number_of(x))
 }
 
 // A second argument: B, a number or a text.
-fn second_offered(state: &Working, arg: table::Argument) -> Offered
+fn second_offered(state: &Working, arg: table::Argument) -> Option<Offered>
     requires { OperandReadable arg }
     ensures { ReadsOperand state.now.store arg result }
 {
     match arg {
         table::Argument::Indexed(_, n) => first_offered(state, n - 1),
-        table::Argument::Number(v) => Offered {
-            kind: 1,
+        table::Argument::Number(v) => Some(Offered {
+            kind: Kind::Number,
             // `usize` has no `From<u32>`.
-            code: v as usize,
-        },
-        table::Argument::Text(_) => Offered {
-            kind: 0,
-            code: ZERO,
-        },
+            number: v as usize,
+        }),
+        table::Argument::Text(_) => Some(Offered {
+            kind: Kind::Word,
+            number: ZERO,
+        }),
         table::Argument::Class(_)
         | table::Argument::Nothing
         | table::Argument::Label(_)
-        | table::Argument::Switch(_) => Offered {
-            kind: ABSENT,
-            code: ZERO,
-        },
+        | table::Argument::Switch(_) => None,
     }
 }
 
@@ -152,37 +129,33 @@ pub fn two_operands(
 {
     let x = first_offered(state, i);
     let y = second_offered(state, arg);
-    ask_kinds(kinds, x.kind, y.kind)?;
-    Ok(Pair {
-        left: x.code,
-        right: y.code,
-    })
+    ask_kinds(kinds, x, y)
 }
 
-// Puts the components in `new` in front of expression `i`, where they have room, and removes the first component or not. The first takes
-// `bytes` cells and has so many letters; the new ones are so many parts and characters: single counts, since each caller has them apart.
+// How much one number is.
+pub const NUMBER: Amount = Amount {
+    parts: 1,
+    bytes: 5,
+    chars: 0,
+};
+
+// Puts the components in `new`, which are so much, in front of an expression, where they have room, and removes the first component, which is `first`, or
+// not.
 pub fn replace(
     state: &mut Working,
-    removes: bool,
-    i: usize,
-    bytes: usize,
-    letters: usize,
+    source: Source,
+    first: Amount,
     new: &[u8],
-    parts: usize,
-    chars: usize,
+    amount: Amount,
 ) -> Result<(), Question>
-    requires { Replaceable state.old i bytes letters new.now parts chars }
-    ensures { Tried state.old (told_by result) state.new true (replaced removes i (components_in new.now) state.old.store) }
+    requires { Replaceable state.old source.i first new.now amount }
+    ensures { Tried state.old (told_by result) state.new true (replaced source.removes source.i (components_in new.now) state.old.store) }
 {
-    let freed = usize::from(removes);
-    let freed_letters = if removes { letters } else { 0 };
-    if Machine::COMPONENTS + freed < state.number(StatePlaces::COMPONENTS_SCALAR) + parts {
+    state.stands();
+    if !instructions::has_room_after(state, source.freed(first), amount) {
         return Err(Question::Room);
     }
-    if Machine::CHARACTERS + freed_letters < state.number(StatePlaces::CHARACTERS_SCALAR) + chars {
-        return Err(Question::Room);
-    }
-    state.past_parts(i, removes, 1, bytes, letters);
-    state.write_parts(i, false, new, parts, chars);
+    state.past_parts(source, first);
+    state.write_parts(source.front(), new, amount);
     Ok(())
 }

@@ -1,11 +1,10 @@
 // Order: WK and MN of numbers, PP and NS of words.
 #![tactic(auto)]
 
-ghost use Rattle.std.specs.Prelude.{◌<◌, take, false};
+ghost use Rattle.std.specs.Prelude.{◌≡◌, ◌<◌, false, take};
 ghost use Rattle.language.specs.Letters.Letter.{E};
 ghost use Rattle.language.specs.Limits as limit;
 ghost use Rattle.language.specs.Program.Arg.{nothing};
-ghost use Rattle.language.specs.Program.Op.{WK, MN, PP, NS};
 ghost use Rattle.machine.specs.Arguments.{expr};
 ghost use Rattle.machine.specs.Effects.{row};
 ghost use Rattle.packed.specs.Packed.{table_of};
@@ -16,55 +15,49 @@ ghost use Rattle.instructions.specs.Questions.{told_by};
 ghost use Rattle.instructions.specs.Does.{DoesFor};
 ghost use Rattle.operands.specs.Operands.{PairReadable, DoesWith};
 ghost use Rattle.table.specs.Denote.{text_of};
-ghost use Rattle.ordering.specs.Ordering.{TextIs, OtherReadable, Comparable, ReadsWord, ReadsOther, ReadsWords};
+ghost use Rattle.ordering.specs.Ordering.{TextIs, OtherReadable, Comparable, ReadsWord, ReadsOther, ReadsWords, number_op, word_op, words_by};
 
 use components::Kind;
 use instructions::{Bench, Question};
+use operands::{Offered, Pair};
 use state::Working;
 use table::Table;
 
-// The kind of a component, and how many characters it has.
-// No `Option`: `operands::ask_kinds` asks whether both are there before it asks the kind of either, and takes kinds, 255 for none.
+// Which of two components is asked to come first: the one of the expression, or the other.
 #[derive(Clone, Copy, Debug, PartialEq, Eq)]
-pub struct Worded {
-    pub kind: u8,
-    pub len: usize,
+pub enum Order {
+    Before,
+    After,
 }
 
-// Puts the characters of the first component of expression `i` in front of `out`.
-fn first_word(state: &Working, out: &mut [u8; 32768], i: usize) -> Worded
+// Puts the characters of the first component of expression `i` in front of `out`, none of a number or an address: how many they are.
+fn first_word(state: &Working, out: &mut [u8; 32768], i: usize) -> Option<Offered>
     requires { i < limit.expressions }
     ensures reads { ReadsWord (take 1 (expr state.now.store (nth E i))) out.new result }
     ensures stands { Stands state.now }
 {
     let x = state.expr_bytes(i);
     if x.is_empty() {
-        return Worded {
-            kind: operands::ABSENT,
-            len: 0,
-        };
+        return None;
     }
-    match components::kind_of(x) {
-        Kind::Number => Worded { kind: 1, len: 0 },
-        Kind::Address => Worded { kind: 2, len: 0 },
-        Kind::Word => {
-            let w = components::chars_of(x);
-            cells::put(out, 0, w);
-            Worded {
-                kind: 0,
-                len: w.len(),
-            }
-        }
-    }
+    let w = components::chars_of(x);
+    cells::put(out, 0, w);
+    Some(Offered {
+        kind: components::kind_of(x),
+        number: w.len(),
+    })
 }
 
 // A text in front of `given`.
-fn text_word(table: Table, given: &mut [u8; 32768], text: table::TextRef) -> Worded
+fn text_word(table: Table, given: &mut [u8; 32768], text: table::TextRef) -> Option<Offered>
     requires { GoodText table.cells.now text }
     ensures { TextIs (text_of (table_of table.entry.cells.now) text) given.new result }
 {
-    let n = table.put_text(text, given);
-    Worded { kind: 0, len: n }
+    let number = table.put_text(text, given);
+    Some(Offered {
+        kind: Kind::Word,
+        number,
+    })
 }
 
 // Puts the characters of a second argument, B or a text, in front of `given`.
@@ -73,42 +66,40 @@ fn other_word(
     state: &Working,
     given: &mut [u8; 32768],
     arg: table::Argument,
-) -> Worded
+) -> Option<Offered>
     requires { OtherReadable table.cells.now arg }
     ensures { ReadsOther table.entry.cells.now state.now.store arg given.new result }
 {
     match arg {
         table::Argument::Indexed(_, n) => first_word(state, given, n - 1),
         table::Argument::Text(text) => text_word(table, given, text),
-        table::Argument::Number(_) => Worded { kind: 1, len: 0 },
+        table::Argument::Number(_) => Some(Offered {
+            kind: Kind::Number,
+            number: 0,
+        }),
         table::Argument::Class(_)
         | table::Argument::Nothing
         | table::Argument::Label(_)
-        | table::Argument::Switch(_) => Worded {
-            kind: operands::ABSENT,
-            len: 0,
-        },
+        | table::Argument::Switch(_) => None,
     }
 }
 
-// WK of expression `i`: whether its first number is the greater one.
-// This and MN are two functions: a closure for the order would need a contract of its own.
-pub fn wk(state: &mut Working, i: usize, arg: table::Argument) -> Result<(), Question>
+// WK or MN of expression `i`: whether its first number comes after the other one, or before it.
+pub fn compare_numbers(
+    state: &mut Working,
+    i: usize,
+    arg: table::Argument,
+    order: Order,
+) -> Result<(), Question>
     requires { PairReadable i arg }
-    ensures { DoesWith state.old (told_by result) state.new (λ c g ins. row g ins state.old.store (nth (reading false) i) (arg_of c arg) nothing WK) }
+    ensures { DoesWith state.old (told_by result) state.new (λ c g ins. row g ins state.old.store (nth (reading false) i) (arg_of c arg) nothing (number_op order)) }
 {
     let p = operands::two_operands(state, i, arg, operands::Kinds::Numbers)?;
-    state.minus_unless(p.right < p.left);
-    Ok(())
-}
-
-// MN of expression `i`: whether its first number is the smaller one.
-pub fn mn(state: &mut Working, i: usize, arg: table::Argument) -> Result<(), Question>
-    requires { PairReadable i arg }
-    ensures { DoesWith state.old (told_by result) state.new (λ c g ins. row g ins state.old.store (nth (reading false) i) (arg_of c arg) nothing MN) }
-{
-    let p = operands::two_operands(state, i, arg, operands::Kinds::Numbers)?;
-    state.minus_unless(p.left < p.right);
+    let holds = match order {
+        Order::Before => p.left < p.right,
+        Order::After => p.right < p.left,
+    };
+    state.minus_unless(holds);
     Ok(())
 }
 
@@ -120,23 +111,38 @@ fn words_of(
     given: &mut [u8; 32768],
     i: usize,
     arg: table::Argument,
-) -> Result<(usize, usize), Question>
+) -> Result<Pair, Question>
     requires { Comparable table.cells.now i arg }
     ensures reads { ReadsWords table.entry.cells.now state.now.store i arg hold.new given.new result }
     ensures stands { Stands state.now }
 {
     let x = first_word(state, hold, i);
     let y = other_word(table, state, given, arg);
-    operands::ask_kinds(operands::Kinds::Words, x.kind, y.kind)?;
-    Ok((x.len, y.len))
+    operands::ask_kinds(operands::Kinds::Words, x, y)
 }
 
-// PP of expression `i`: whether its first word comes before the other.
-pub fn pp(table: Table, bench: &mut Bench, i: usize, arg: table::Argument) -> Result<(), Question>
-    requires { Comparable table.cells.now i arg }
-    ensures { DoesFor bench.old.state (told_by result) bench.new.state (λ g ins. row g ins bench.old.state.store (nth (reading false) i) (arg_of (table_of table.entry.cells.now) arg) nothing PP) }
+// Whether the words `v` and `w` stand so.
+fn are_in_order(order: Order, v: &[u8], w: &[u8]) -> bool
+    ensures { result ≡ words_by order v.now w.now }
 {
-    let (m, n) = words_of(
+    match order {
+        Order::Before => characters::precedes(v, w),
+        Order::After => characters::precedes(w, v),
+    }
+}
+
+// PP or NS of expression `i`: whether its first word comes before the other one, or after it.
+pub fn compare_words(
+    table: Table,
+    bench: &mut Bench,
+    i: usize,
+    arg: table::Argument,
+    order: Order,
+) -> Result<(), Question>
+    requires { Comparable table.cells.now i arg }
+    ensures { DoesFor bench.old.state (told_by result) bench.new.state (λ g ins. row g ins bench.old.state.store (nth (reading false) i) (arg_of (table_of table.entry.cells.now) arg) nothing (word_op order)) }
+{
+    let p = words_of(
         table,
         &bench.state,
         &mut bench.hold,
@@ -144,25 +150,7 @@ pub fn pp(table: Table, bench: &mut Bench, i: usize, arg: table::Argument) -> Re
         i,
         arg,
     )?;
-    let holds = characters::precedes(&bench.hold[..m], &bench.given[..n]);
-    bench.state.minus_unless(holds);
-    Ok(())
-}
-
-// NS of expression `i`: whether its first word comes after the other.
-pub fn ns(table: Table, bench: &mut Bench, i: usize, arg: table::Argument) -> Result<(), Question>
-    requires { Comparable table.cells.now i arg }
-    ensures { DoesFor bench.old.state (told_by result) bench.new.state (λ g ins. row g ins bench.old.state.store (nth (reading false) i) (arg_of (table_of table.entry.cells.now) arg) nothing NS) }
-{
-    let (m, n) = words_of(
-        table,
-        &bench.state,
-        &mut bench.hold,
-        &mut bench.given,
-        i,
-        arg,
-    )?;
-    let holds = characters::precedes(&bench.given[..n], &bench.hold[..m]);
+    let holds = are_in_order(order, &bench.hold[..p.left], &bench.given[..p.right]);
     bench.state.minus_unless(holds);
     Ok(())
 }

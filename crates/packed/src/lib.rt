@@ -52,6 +52,7 @@ fn end_is(row: &[u32; 15], q: usize, word: &[u8]) -> bool
 }
 
 // Whether the first characters in a row of cells, as many as `word` has, are those of `word`: from the last ones on, in which most words differ.
+// A loop: `(0..fours).rev().all(..)` leaves open what a range yields from its end on, of which std has no lemma.
 fn chars_are(row: &[u32; 15], word: &[u8]) -> bool
     requires { length word.now ≤ 60 }
     ensures { result ≡ bytes_equal (row_chars row.now (length word.now)) word.now }

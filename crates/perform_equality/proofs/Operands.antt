@@ -30,7 +30,7 @@ use Rattle.record_equality.specs.RecordEquality.{RecordRelatable}
 use Rattle.input_equality.specs.InputEquality.{InputRelatable}
 use Rattle.input_equality.specs.Below.Readings.{DoesPassing}
 use Rattle.instructions.specs.Does.{DoesFor}
-use Rattle.instructions.specs.declared.Source.{Source}
+use Rattle.instructions.specs.Below.Source.{Source}
 use Rattle.state.specs.Working.{nth, reading}
 use Rattle.table.specs.Denote.{letter_of, arg_of}
 use Rattle.table.specs.LetterLaws.{listed-letter}

@@ -18,15 +18,8 @@ fn do_kopiuj(table: Table, bench: &mut Bench, instruction: Instruction) -> Resul
     ensures { PerformsFor table.entry.cells.now bench.old.state (told_by result) bench.new.state }
 {
     let source = decoding::file_of(instruction.x);
-    let target = decoding::file_of(instruction.y);
-    copying::kopiuj(
-        table,
-        bench,
-        source,
-        target.removes,
-        target.i,
-        instruction.z,
-    )
+    let target = decoding::file_target_of(instruction.y);
+    copying::kopiuj(table, bench, source, target, instruction.z)
 }
 
 // WSTAW.
@@ -35,8 +28,8 @@ fn do_wstaw(table: Table, bench: &mut Bench, instruction: Instruction) -> Result
     ensures { PerformsFor table.entry.cells.now bench.old.state (told_by result) bench.new.state }
 {
     let source = decoding::source_of(instruction.x);
-    let target = decoding::file_of(instruction.y);
-    transfers::wstaw(bench, source, target.removes, target.i)
+    let target = decoding::file_target_of(instruction.y);
+    transfers::wstaw(bench, source, target)
 }
 
 // POBIERZ.

@@ -11,17 +11,16 @@ use Rattle.language.specs.Program.Arg.{nothing, label, switch}
 use Rattle.language.specs.Values.{Store, State, Inputs}
 use Rattle.layout.specs.Table.{program_of}
 use Rattle.machine.specs.Effects.{Row, row, jump_if}
-use Rattle.machine.specs.Effects.Go.{jump, call}
 use Rattle.packed.specs.Packed.{table_of}
 use Rattle.decoding.specs.Operands.{Named, IsSource, Shaped, LabelOf, SwitchOf}
 use Rattle.decoding.specs.OperandLaws.{labelled, switched-by-name, switched-by-index, no-argument}
 use Rattle.instructions.specs.Does.{Goes, GoesIn, GoesFor}
-use Rattle.instructions.specs.declared.Source.{Source}
+use Rattle.instructions.specs.Below.Source.{Source}
 use Rattle.jumps.specs.Jumps as jumps
 use Rattle.state.specs.Working.{nth, reading}
 use Rattle.switches.specs.Switches.{word_op, number_op, Switches}
-use Rattle.switches.specs.declared.Way.{Way}
-use Rattle.switches.specs.declared.Way.TheVariants.{Jump, Call}
+use Rattle.jumps.specs.declared.Way.{Way}
+use Rattle.jumps.specs.declared.Way.TheVariants.{Jump, Call}
 use Rattle.table.specs.Good.{GoodLabel}
 use Rattle.table.specs.Denote.{arg_of}
 use Rattle.table.specs.declared.Argument.{Argument}
@@ -29,7 +28,7 @@ use Rattle.table.specs.declared.Argument.TheVariants.{Label, Switch}
 use Rattle.performing.specs.Operating.{Carrying, LeadsFor}
 use Rattle.performing.specs.OperatingLaws.{following, led}
 use Rattle.performing.specs.CarryingLaws.{formed, first-named, third-none}
-use Rattle.perform_jumps.specs.Jumping.{jump_by, call_by}
+use Rattle.perform_jumps.specs.Jumping.{sign_op}
 
 -- ---- labels
 
@@ -73,54 +72,36 @@ bare-led {c} {x = x} {y = y} {z = z} w f g a b =
 
 -- ---- SKOMI, SKOPL, WYMI and WYPL
 
-pub jump-forms : (b : Bool) → (operation (jump_by b)).forms ≡ ("l", "-", "-") ∷ []
-jump-forms true = refl
-jump-forms false = refl
+pub sign-forms : (way : Way) (b : Bool) → (operation (sign_op way b)).forms ≡ ("l", "-", "-") ∷ []
+sign-forms Jump true = refl
+sign-forms Jump false = refl
+sign-forms Call true = refl
+sign-forms Call false = refl
 
-pub jump-goes : (b : Bool) → T (not (is_end (operation (jump_by b)).flow))
-jump-goes true = tt
-jump-goes false = tt
-
-pub call-forms : (b : Bool) → (operation (call_by b)).forms ≡ ("l", "-", "-") ∷ []
-call-forms true = refl
-call-forms false = refl
-
-pub call-goes : (b : Bool) → T (not (is_end (operation (call_by b)).flow))
-call-goes true = tt
-call-goes false = tt
+pub sign-goes : (way : Way) (b : Bool) → T (not (is_end (operation (sign_op way b)).flow))
+sign-goes Jump true = tt
+sign-goes Jump false = tt
+sign-goes Call true = tt
+sign-goes Call false = tt
 
 -- where H is as they ask, they lead to the label
-module _ (g : Program) (ins : Inputs) (s : Store) (k : ℕ) (p b : Bool) (q : p ≡ s.plus) where
-  jump-row : row g ins s (label k) nothing nothing (jump_by b) ≡ jump_if g ins s (beq p b) (jump (label_at g k).target)
-  unfolding row
-  jump-row = go p b q
-    where
-      go : (p b : Bool) → p ≡ s.plus → row g ins s (label k) nothing nothing (jump_by b) ≡ jump_if g ins s (beq p b) (jump (label_at g k).target)
-      go true true q = rw (← q) refl
-      go true false q = rw (← q) refl
-      go false true q = rw (← q) refl
-      go false false q = rw (← q) refl
+sign-row : (g : Program) (ins : Inputs) (s : Store) (k : ℕ) (way : Way) (p b : Bool) → p ≡ s.plus
+    → row g ins s (label k) nothing nothing (sign_op way b) ≡ jump_if g ins s (beq p b) (jumps.going_by way (label_at g k).target)
+unfolding row
+sign-row g ins s k Jump true true q = rw (← q) refl
+sign-row g ins s k Jump true false q = rw (← q) refl
+sign-row g ins s k Jump false true q = rw (← q) refl
+sign-row g ins s k Jump false false q = rw (← q) refl
+sign-row g ins s k Call true true q = rw (← q) refl
+sign-row g ins s k Call true false q = rw (← q) refl
+sign-row g ins s k Call false true q = rw (← q) refl
+sign-row g ins s k Call false false q = rw (← q) refl
 
-  call-row : row g ins s (label k) nothing nothing (call_by b) ≡ jump_if g ins s (beq p b) (call (label_at g k).target)
-  unfolding row
-  call-row = go p b q
-    where
-      go : (p b : Bool) → p ≡ s.plus → row g ins s (label k) nothing nothing (call_by b) ≡ jump_if g ins s (beq p b) (call (label_at g k).target)
-      go true true q = rw (← q) refl
-      go true false q = rw (← q) refl
-      go false true q = rw (← q) refl
-      go false false q = rw (← q) refl
-
-module _ {c : List ℕ} {σ : State} (b : Bool) {x y z : Argument} {k : ℕ} {p : Bool} {told : ℕ} {σ' : State} where
-  pub jump-led : Carrying c σ (jump_by b) x y z → x ≡ Label k → p ≡ σ.store.plus
-      → GoesIn σ told σ' (λ ins. jump_if (program_of c) ins σ.store (beq p b) (jump (jumps.led_to c k))) → LeadsFor c σ told σ'
-  jump-led w q e g =
-      label-led w (jump-forms b) q (λ ins. subst (λ (r : Row). Goes σ told σ' r) (sym (jump-row (program_of c) ins σ.store k p b e)) (g ins))
-
-  pub call-led : Carrying c σ (call_by b) x y z → x ≡ Label k → p ≡ σ.store.plus
-      → GoesIn σ told σ' (λ ins. jump_if (program_of c) ins σ.store (beq p b) (call (jumps.led_to c k))) → LeadsFor c σ told σ'
-  call-led w q e g =
-      label-led w (call-forms b) q (λ ins. subst (λ (r : Row). Goes σ told σ' r) (sym (call-row (program_of c) ins σ.store k p b e)) (g ins))
+pub sign-led : {c : List ℕ} {σ : State} (way : Way) (b : Bool) {x y z : Argument} {k : ℕ} {p : Bool} {told : ℕ} {σ' : State}
+    → Carrying c σ (sign_op way b) x y z → x ≡ Label k → p ≡ σ.store.plus
+    → GoesIn σ told σ' (λ ins. jump_if (program_of c) ins σ.store (beq p b) (jumps.going_by way (jumps.led_to c k))) → LeadsFor c σ told σ'
+sign-led {c} {σ} way b {k = k} {p = p} {told = told} {σ' = σ'} w q e g =
+    label-led w (sign-forms way b) q (λ ins. subst (λ (r : Row). Goes σ told σ' r) (sym (sign-row (program_of c) ins σ.store k way p b e)) (g ins))
 
 -- ---- SKONA, WYNA, SKOIN and WYIN
 

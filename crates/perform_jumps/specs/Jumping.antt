@@ -3,18 +3,18 @@ use Rattle.std.specs.Prelude.{Bool, true, false, List, ℕ, T}
 use Rattle.language.specs.Program.{Op}
 use Rattle.language.specs.Program.Op.{SKOMI, SKOPL, WYMI, WYPL}
 use Rattle.language.specs.Values.{State}
+use Rattle.jumps.specs.declared.Way.{Way}
+use Rattle.jumps.specs.declared.Way.TheVariants.{Jump, Call}
 use Rattle.table.specs.declared.Argument.{Argument}
 use Rattle.performing.specs.Performing.{leads}
 use Rattle.performing.specs.Operating.{Carrying}
 
--- the jump and the call where H is plus, and where it is minus
-abbrev pub jump_by : Bool → Op
-jump_by true = SKOPL
-jump_by false = SKOMI
-
-abbrev pub call_by : Bool → Op
-call_by true = WYPL
-call_by false = WYMI
+-- the jump or the call where H is plus, and where it is minus
+abbrev pub sign_op : Way → Bool → Op
+sign_op Jump true = SKOPL
+sign_op Jump false = SKOMI
+sign_op Call true = WYPL
+sign_op Call false = WYMI
 
 -- any of them
 pub record Jumping (c : List ℕ) (σ : State) (op : Op) (x y z : Argument) : Type 0 where

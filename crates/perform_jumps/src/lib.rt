@@ -6,12 +6,12 @@ ghost use Rattle.language.specs.Program.Op.{SKOCZ, WYKONAJ};
 ghost use Rattle.instructions.specs.Questions.{told_by};
 ghost use Rattle.switches.specs.Switches.{word_op, number_op};
 ghost use Rattle.performing.specs.Operating.{Carrying, LeadsFor};
-ghost use Rattle.perform_jumps.specs.Jumping.{jump_by, call_by, Jumping};
+ghost use Rattle.perform_jumps.specs.Jumping.{sign_op, Jumping};
 
 use instructions::Question;
+use jumps::Way;
 use language::Operator;
 use state::Working;
-use switches::Way;
 use table::{Instruction, Table};
 
 // SKOCZ.
@@ -32,34 +32,20 @@ fn call(table: Table, state: &mut Working, instruction: Instruction) -> Result<(
     jumps::wykonaj(table, state, label)
 }
 
-// SKOPL where `plus`, and otherwise SKOMI.
-fn jump_by(
+// SKOPL or WYPL where `plus`, and otherwise SKOMI or WYMI.
+fn by_sign(
     table: Table,
     state: &mut Working,
     instruction: Instruction,
+    way: Way,
     plus: bool,
 ) -> Result<(), Question>
-    requires { Carrying table.cells.now state.old (jump_by plus) instruction.x instruction.y instruction.z }
+    requires { Carrying table.cells.now state.old (sign_op way plus) instruction.x instruction.y instruction.z }
     ensures { LeadsFor table.entry.cells.now state.old (told_by result) state.new }
 {
     let label = decoding::label_of(instruction.x);
     let taken = state.is_plus() == plus;
-    jumps::jump_when(table, state, taken, label)
-}
-
-// WYPL where `plus`, and otherwise WYMI.
-fn call_by(
-    table: Table,
-    state: &mut Working,
-    instruction: Instruction,
-    plus: bool,
-) -> Result<(), Question>
-    requires { Carrying table.cells.now state.old (call_by plus) instruction.x instruction.y instruction.z }
-    ensures { LeadsFor table.entry.cells.now state.old (told_by result) state.new }
-{
-    let label = decoding::label_of(instruction.x);
-    let taken = state.is_plus() == plus;
-    jumps::call_when(table, state, taken, label)
+    jumps::lead_when(table, state, way, taken, label)
 }
 
 // SKONA and WYNA.
@@ -104,10 +90,10 @@ pub fn perform_jump(
     match instruction.op {
         Operator::SKOCZ => jump(table, state, instruction),
         Operator::WYKONAJ => call(table, state, instruction),
-        Operator::SKOMI => jump_by(table, state, instruction, false),
-        Operator::SKOPL => jump_by(table, state, instruction, true),
-        Operator::WYMI => call_by(table, state, instruction, false),
-        Operator::WYPL => call_by(table, state, instruction, true),
+        Operator::SKOMI => by_sign(table, state, instruction, Way::Jump, false),
+        Operator::SKOPL => by_sign(table, state, instruction, Way::Jump, true),
+        Operator::WYMI => by_sign(table, state, instruction, Way::Call, false),
+        Operator::WYPL => by_sign(table, state, instruction, Way::Call, true),
         Operator::SKONA => by_word(table, state, instruction, Way::Jump),
         Operator::SKOIN => by_number(table, state, instruction, Way::Jump),
         Operator::WYNA => by_word(table, state, instruction, Way::Call),

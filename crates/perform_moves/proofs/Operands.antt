@@ -30,8 +30,8 @@ use Rattle.decoding.specs.declared.Variable.{Variable}
 use Rattle.decoding.specs.declared.Variable.TheVariants.{Expression, Input, Output, File}
 use Rattle.instructions.specs.Does.{DoesIn, DoesFor}
 use Rattle.instructions.specs.Operands.{target}
-use Rattle.instructions.specs.declared.Source.{Source}
-use Rattle.instructions.specs.declared.Target.{Target}
+use Rattle.instructions.specs.Below.Source.{Source}
+use Rattle.instructions.specs.Below.Target.{Target}
 use Rattle.moves.specs.Moves.{Movable, Removable}
 use Rattle.splitting.specs.Below.Joining.{WordsJoinable}
 use Rattle.splitting.specs.Below.Readings.{input_of, Unread, InputPassable, InputReadable, DoesReading, DoesPassing}

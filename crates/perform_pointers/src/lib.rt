@@ -63,8 +63,8 @@ pub fn do_umiesc(table: Table, bench: &mut Bench, instruction: Instruction) -> R
 {
     match decoding::variable_of(instruction.y) {
         decoding::Variable::File => {
-            let target = decoding::file_of(instruction.y);
-            constants::umiesc_file(table, bench, target.removes, target.i, instruction.x)
+            let target = decoding::file_target_of(instruction.y);
+            constants::umiesc_file(table, bench, target, instruction.x)
         }
         decoding::Variable::Output => {
             let j = decoding::index_of(instruction.y);

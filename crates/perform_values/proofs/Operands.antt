@@ -20,7 +20,7 @@ use Rattle.packed.specs.Packed.{table_of}
 use Rattle.decoding.specs.Operands.{Lettered, Named, Listed, IsIndex, IsSource}
 use Rattle.decoding.specs.OperandLaws.{form-letter, indexed-is, indexed-below}
 use Rattle.instructions.specs.Does.{DoesFor}
-use Rattle.instructions.specs.declared.Source.{Source}
+use Rattle.instructions.specs.Below.Source.{Source}
 use Rattle.operands.specs.Operands.{PairReadable}
 use Rattle.ordering.specs.Ordering.{Comparable}
 use Rattle.state.specs.Working.{nth, reading}

@@ -6,8 +6,10 @@ ghost use Rattle.instructions.specs.Questions.{told_by};
 ghost use Rattle.performing.specs.Operating.{PerformsFor};
 ghost use Rattle.perform_values.specs.Valuing.{Valuing};
 
+use arithmetic::Computed;
 use instructions::{Bench, Question};
 use language::Operator;
+use ordering::Order;
 use table::{Instruction, Table};
 
 // The instruction of an operator.
@@ -21,13 +23,18 @@ pub fn perform_value(
 {
     let i = decoding::index_of(instruction.x);
     match instruction.op {
-        Operator::WK => ordering::wk(&mut bench.state, i, instruction.y),
-        Operator::MN => ordering::mn(&mut bench.state, i, instruction.y),
-        Operator::PP => ordering::pp(table, bench, i, instruction.y),
-        Operator::NS => ordering::ns(table, bench, i, instruction.y),
-        Operator::DODAJ => arithmetic::dodaj(bench, i, instruction.y),
-        Operator::ODEJMIJ => arithmetic::odejmij(bench, i, instruction.y),
-        Operator::MNOZ => arithmetic::mnoz(bench, i, instruction.y),
+        Operator::WK => ordering::compare_numbers(&mut bench.state, i, instruction.y, Order::After),
+        Operator::MN => ordering::compare_numbers(
+            &mut bench.state,
+            i,
+            instruction.y,
+            Order::Before,
+        ),
+        Operator::PP => ordering::compare_words(table, bench, i, instruction.y, Order::Before),
+        Operator::NS => ordering::compare_words(table, bench, i, instruction.y, Order::After),
+        Operator::DODAJ => arithmetic::compute(bench, i, instruction.y, Computed::Sum),
+        Operator::ODEJMIJ => arithmetic::compute(bench, i, instruction.y, Computed::Difference),
+        Operator::MNOZ => arithmetic::compute(bench, i, instruction.y, Computed::Product),
         Operator::DZIEL => arithmetic::dziel(bench, i, instruction.y),
         Operator::SLOWO => converting::slowo(bench, decoding::source_of(instruction.x)),
         Operator::LICZBA => converting::liczba(bench, decoding::source_of(instruction.x)),

@@ -5,8 +5,7 @@ use mathlib.Core.List.{List, [], ◌∷◌}
 use Prim.Native.Nat.{ℕ, ◌+◌, ◌<◌}
 use native.Mathlib.Omega.{arith}
 use lib.Dec.{leb, eqb}
-use lib.ListN.{length, take}
-use borrow.Author.Tests.{ne_eqb}
+use lib.ListN.{length, take, drop}
 use Rattle.std.specs.Prelude.{Option, Some, is_some, IfSome, unwrap_or}
 use Rattle.records.specs.Places.{LastAddress}
 use Rattle.language.specs.Limits as limit
@@ -23,16 +22,22 @@ use Rattle.machine.specs.Effects.{Row, exchanged, row}
 use Rattle.machine.specs.Effects.Go.{on}
 use Rattle.cells.specs.Cells.{Number, pasted}
 use Rattle.cells.proofs.Laws.{pasted-front}
-use Rattle.components.specs.Parts.{Leading}
 use Rattle.layout.specs.Bounds.{Encoded}
-use Rattle.layout.proofs.ComponentLaws.{next-component, components-none, components-of, components_bytes-one}
-use Rattle.layout.specs.Components.{component_bytes, records_bytes, component_in, components_in}
+use Rattle.layout.proofs.ComponentLaws.{components-of, components_bytes-one}
+use Rattle.layout.specs.Cells.{cell}
+use Rattle.layout.specs.Components.{component_bytes, component_size, records_bytes, component_in, components_in}
 use Rattle.layout.specs.Memory.{components_held, chars_held}
-use Rattle.state.specs.Blocks.{ExprLent, PartsDroppable, PartsWritable, exprs_exchanged}
+use Rattle.state.specs.Blocks.{PartsDroppable, PartsWritable, exprs_exchanged}
 use Rattle.state.specs.Working.{HoldsState, Stands, on_store, nth, reading, writing}
 use Rattle.filing.specs.Files.{RecordsLent, Pointable, pointed_at, files_exchanged}
 use Rattle.filing.proofs.Pointers.{pointed-is}
-use Rattle.instructions.specs.Does.{answered, DoesFor, Quiet, stop_of}
+use Rattle.state.proofs.Fronts as fronts
+use Rattle.instructions.specs.Questions.{question_number}
+use Rattle.instructions.specs.declared.Question.{Question}
+use Rattle.instructions.specs.Does.{answered, Does, DoesFor, Quiet, stop_of}
+use Rattle.instructions.specs.Fronts.{FrontLent}
+use Rattle.instructions.proofs.Asking.{some}
+use Rattle.instructions.proofs.Fronts.{there}
 use Rattle.instructions.specs.Operands.{target}
 use Rattle.instructions.proofs.Answers.{answer-no, does-stop, quiet-done}
 use Rattle.instructions.proofs.Storing.{plain_done, plain-full}
@@ -109,7 +114,7 @@ module _ {σ : State} (h : Stands σ) where
 
 -- ---- USTAW
 
-module _ {σ : State} (h : Stands σ) (removes : Bool) {i : ℕ} (b : i < limit.expressions) {x : List ℕ} (l : ExprLent σ i x) {j : ℕ} (d : j < limit.files) where
+module _ {σ : State} (h : Stands σ) (removes : Bool) {i : ℕ} (b : i < limit.expressions) {j : ℕ} (d : j < limit.files) where
   abbrev store : Store
   store = σ.store
 
@@ -135,30 +140,37 @@ module _ {σ : State} (h : Stands σ) (removes : Bool) {i : ℕ} (b : i < limit.
   row-ustaw : (g : Program) (ins : Inputs) (ys : List Component) → take 1 (expr store (nth E i)) ≡ ys → by g ins ≡ (asks ys, makes ys, on)
   row-ustaw g ins ys q = row_by removes g ins ys q
 
-  pub ustaw-none : length x ≡ 0 → DoesFor σ 52 σ by
-  ustaw-none z g ins =
-      let q : expr store (nth E i) ≡ [] = sym l.is ∙ components-none x z in
-      rw (row-ustaw g ins [] (ap (take 1) q))
-      (does-stop h (asks [], makes [], on) (answer-no (asks [], makes [], on) σ (50 ∷ []) 52 (53 ∷ 54 ∷ 55 ∷ 56 ∷ 57 ∷ 58 ∷ 59 ∷ 60 ∷ []) refl (refl, tt) refl) (λ y. omega (arith, y)))
+  -- 52 and 53, where no address stands in front
+  pub ustaw-stop : (q : Question) → question_number q ≡ stop_of (needs 2 (take 1 (expr store (nth E i)))) → DoesFor σ (question_number q) σ by
+  ustaw-stop q e g ins = go (take 1 (expr store (nth E i))) refl
+    where
+      go : (ys : List Component) → take 1 (expr store (nth E i)) ≡ ys → Does σ (question_number q) σ (by g ins)
+      go [] o =
+          let m : question_number q ≡ 52 = e ∙ rw o refl in
+          rw (row-ustaw g ins [] o, m)
+          (does-stop h (asks [], makes [], on) (answer-no (asks [], makes [], on) σ (50 ∷ []) 52 (53 ∷ 54 ∷ 55 ∷ 56 ∷ 57 ∷ 58 ∷ 59 ∷ 60 ∷ []) refl (refl, tt) refl) (λ y. omega (arith, y)))
+      go (y ∷ ys) o = by_kind (eqb (kind y) 2) refl
+        where
+          by_kind : (t : Bool) → eqb (kind y) 2 ≡ t → Does σ (question_number q) σ (by g ins)
+          by_kind true k = absurd (some q (e ∙ rw (o, k) refl))
+          by_kind false k =
+              let r : Row = (asks (y ∷ ys), makes (y ∷ ys), on) in
+              let m : question_number q ≡ 53 = e ∙ rw (o, k) refl in
+              let t : answered r σ 53 ≡ false = rw k refl in
+              rw (row-ustaw g ins (y ∷ ys) o, m)
+              (does-stop h r (answer-no r σ (50 ∷ 52 ∷ []) 53 (54 ∷ 55 ∷ 56 ∷ 57 ∷ 58 ∷ 59 ∷ 60 ∷ []) refl (refl, (refl, tt)) t) (λ z. omega (arith, z)))
 
-  module _ (z : length x ≡ 0 → ⊥) where
-    one-there : take 1 (expr store (nth E i)) ≡ component_in x ∷ []
-    one-there = ap (take 1) (sym l.is ∙ (next-component l.whole (omega (arith, z))).is)
-
-    pub leading : Leading x
-    leading = record { fits = (next-component l.whole (omega (arith, z))).fits }
-
+  module _ {x : List ℕ} (front : FrontLent σ i 2 x) where
     abbrev y : Component
     y = component_in x
 
-    pub ustaw-kind : (kind y ≡ 2 → ⊥) → DoesFor σ 53 σ by
-    ustaw-kind w g ins =
-        let r : Row = (asks (y ∷ []), makes (y ∷ []), on) in
-        let t : answered r σ 53 ≡ false = rw (ne_eqb (kind y) 2 w) refl in
-        rw (row-ustaw g ins (y ∷ []) one-there)
-        (does-stop h r (answer-no r σ (50 ∷ 52 ∷ []) 53 (54 ∷ 55 ∷ 56 ∷ 57 ∷ 58 ∷ 59 ∷ 60 ∷ []) refl (refl, (refl, tt)) t) (λ q. omega (arith, q)))
+    first-there : expr store (nth E i) ≡ y ∷ components_in (drop (component_size (cell x 0)) x)
+    first-there = fronts.one-there front.lent (there front)
 
-    module _ (w : kind y ≡ 2) {a : ℕ} (v : Number (link y) 16777216 a) {o : Option Place} (u : Located a rs o) where
+    one-there : take 1 (expr store (nth E i)) ≡ y ∷ []
+    one-there = ap (take 1) first-there
+
+    module _ {a : ℕ} (v : Number (link y) 16777216 a) {o : Option Place} (u : Located a rs o) where
       asked-58 : (t : Bool) → is_some o ≡ t → (eqb (link y) 0 || any (λ r. eqb r.addr (link y)) rs) ≡ t
       asked-58 t q = rw (← v.is) (sym u.is ∙ q)
 
@@ -166,7 +178,7 @@ module _ {σ : State} (h : Stands σ) (removes : Bool) {i : ℕ} (b : i < limit.
       ustaw-missing q g ins =
           let r : Row = (asks (y ∷ []), makes (y ∷ []), on) in
           let t : answered r σ 58 ≡ false = rw (asked-58 false q) refl in
-          let k : answered r σ 53 ≡ true = rw w refl in
+          let k : answered r σ 53 ≡ true = rw front.kind_is refl in
           rw (row-ustaw g ins (y ∷ []) one-there)
           (does-stop h r
           (answer-no r σ (50 ∷ 52 ∷ 53 ∷ 54 ∷ 55 ∷ 56 ∷ 57 ∷ []) 58 (59 ∷ 60 ∷ []) refl (refl, (refl, (k, (refl, (refl, (refl, (refl, tt))))))) t)
@@ -192,7 +204,7 @@ module _ {σ : State} (h : Stands σ) (removes : Bool) {i : ℕ} (b : i < limit.
         quiet = record { is_50 = refl; is_55 = refl; is_56 = refl; is_57 = refl; is_58 = rw (asked-58 true found) refl; is_59 = refl; is_60 = refl }
 
         answered-all : stop_of (asks (y ∷ [])) ≡ 0
-        answered-all = rw w refl
+        answered-all = rw front.kind_is refl
 
         made-is : makes (y ∷ []) ≡ pointed_at j f.records (past (nth (reading removes) i) 1 store)
         made-is =
@@ -211,14 +223,14 @@ module _ {σ : State} (h : Stands σ) (removes : Bool) {i : ℕ} (b : i < limit.
     address-front (Component.number u) q = absurd (omega (arith, q))
     address-front (address u) q = (refl, refl)
 
-    pub address-droppable : kind y ≡ 2 → PartsDroppable σ i 1 5 0
-    address-droppable w =
+    pub address-droppable : PartsDroppable σ i 1 5 0
+    address-droppable =
         let o = one-there in
-        let c = address-front y w in
+        let c = address-front y front.kind_is in
         record {
           index = b;
           first = record {
-            most = rw (sym l.is ∙ (next-component l.whole (omega (arith, z))).is) (omega arith);
+            most = rw first-there (omega arith);
             bytes_is = rw (o, components_bytes-one y) (sym c.0);
             chars_is = rw o (omega (arith, c.1));
           };

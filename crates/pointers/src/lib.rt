@@ -14,10 +14,23 @@ ghost use Rattle.instructions.specs.Does.{DoesFor};
 ghost use Rattle.instructions.specs.Operands.{target as letter_by};
 ghost use Rattle.pointers.specs.Located.{Located};
 
-use components::Kind;
+use components::{Amount, Kind};
 use instructions::{Bench, Question, Source, Target};
 use records::Place;
 use state::Working;
+
+// The front of every file.
+const FRONT: Place = Place {
+    records: 0,
+    bytes: 0,
+};
+
+// How much one address is.
+const ADDRESS: Amount = Amount {
+    parts: 1,
+    bytes: 5,
+    chars: 0,
+};
 
 // COFNIJ of file `i`.
 pub fn cofnij(bench: &mut Bench, i: usize) -> Result<(), Question>
@@ -25,7 +38,7 @@ pub fn cofnij(bench: &mut Bench, i: usize) -> Result<(), Question>
     ensures { DoesFor bench.old.state (told_by result) bench.new.state (λ g ins. row g ins bench.old.state.store (nth P i) nothing nothing COFNIJ) }
 {
     bench.state.stands();
-    filing::point(&mut bench.state, &mut bench.hold, i, 0, 0);
+    filing::point(&mut bench.state, &mut bench.hold, i, FRONT);
     Ok(())
 }
 
@@ -37,13 +50,11 @@ pub fn schowaj(bench: &mut Bench, i: usize, target: Target) -> Result<(), Questi
 {
     bench.state.stands();
     let a = records::last_address(filing::before_bytes(&bench.state, i)).unwrap_or(0);
-    if !instructions::has_room(&bench.state, 1, 0) {
+    if !instructions::has_room(&bench.state, ADDRESS) {
         return Err(Question::Room);
     }
     components::put_address(&mut bench.hold, 0, a);
-    bench
-        .state
-        .write_parts(target.j, target.at_end, &bench.hold[..5], 1, 0);
+    bench.state.write_parts(target, &bench.hold[..5], ADDRESS);
     Ok(())
 }
 
@@ -53,10 +64,7 @@ fn locate(state: &Working, i: usize, address: usize) -> Option<Place>
     ensures { Located address (records (file_of state.now.store (nth P i))) result }
 {
     if address == 0 {
-        return Some(Place {
-            records: 0,
-            bytes: 0,
-        });
+        return Some(FRONT);
     }
     let before = match records::find(filing::before_bytes(state, i), address) {
         Ok(place) => return Some(place),
@@ -75,24 +83,12 @@ pub fn ustaw(bench: &mut Bench, source: Source, j: usize) -> Result<(), Question
     requires file { j < limit.files }
     ensures { DoesFor bench.old.state (told_by result) bench.new.state (λ g ins. row g ins bench.old.state.store (nth (reading source.removes) source.i) (nth P j) nothing USTAW) }
 {
-    let x = bench.state.expr_bytes(source.i);
-    if x.is_empty() {
-        return Err(Question::Missing);
-    }
-    if components::kind_of(x) != Kind::Address {
-        return Err(Question::Kind);
-    }
+    let x = instructions::front_of(&bench.state, source.i, Kind::Address)?;
     let Some(place) = locate(&bench.state, j, components::address_of(x)) else {
         return Err(Question::NoRecord);
     };
-    bench.state.past_parts(source.i, source.removes, 1, 5, 0);
-    filing::point(
-        &mut bench.state,
-        &mut bench.hold,
-        j,
-        place.records,
-        place.bytes,
-    );
+    bench.state.past_parts(source, ADDRESS);
+    filing::point(&mut bench.state, &mut bench.hold, j, place);
     Ok(())
 }
 

@@ -41,40 +41,40 @@ module _ {σ : State} {i : ℕ} {x : List ℕ} {u : Until Component} {t : Taken}
   abbrev xs : List Component
   xs = expr s (nth E i)
 
-  chars-few : t.chars ≤ 32768
+  chars-few : t.amount.chars ≤ 32768
   chars-few = omega (arith, (took h b l k).chars_most, bytes-few h b l k)
 
-  pub join-room : (m : ℕ) → 32768 ≤ m → JoinRoom m (take t.bytes x)
+  pub join-room : (m : ℕ) → 32768 ≤ m → JoinRoom m (take t.amount.bytes x)
   join-room m r = record { whole = whole-components (taken-part h b l k); room = rw (part-is h b l k) (omega (arith, chars-long h b l k, chars-few)) }
 
-  module _ {d d' : List ℕ} {m : ℕ} (w : Written d (spelled (components_in (take t.bytes x))) d' m) where
-    joined_is : take m d' ≡ spelled (take t.parts xs)
-    joined_is = rw w.is (pasted-front d (spelled (components_in (take t.bytes x))) m (sym w.count)) ∙ ap spelled (part-is h b l k)
+  module _ {d d' : List ℕ} {m : ℕ} (w : Written d (spelled (components_in (take t.amount.bytes x))) d' m) where
+    joined_is : take m d' ≡ spelled (take t.amount.parts xs)
+    joined_is = rw w.is (pasted-front d (spelled (components_in (take t.amount.bytes x))) m (sym w.count)) ∙ ap spelled (part-is h b l k)
 
-    joined-long : length (take m d') ≡ t.chars
+    joined-long : length (take m d') ≡ t.amount.chars
     joined-long = ap length joined_is ∙ chars-long h b l k
 
-    pub printable : (j : ℕ) → j < limit.outputs → (removes : Bool) {σ' : State} → HoldsState σ' (on_store (past (nth (reading removes) i) t.parts) σ)
-        → length (at [] s.outputs (nth Q j)) + t.chars ≤ limit.output → Printable σ' j (length (take m d'))
+    pub printable : (j : ℕ) → j < limit.outputs → (removes : Bool) {σ' : State} → HoldsState σ' (on_store (past (nth (reading removes) i) t.amount.parts) σ)
+        → length (at [] s.outputs (nth Q j)) + t.amount.chars ≤ limit.output → Printable σ' j (length (take m d'))
     unfolding on_store
-    printable j c removes g r = record { index = c; room = rw (g.is, outputs-left removes i t.parts s, joined-long) r }
+    printable j c removes g r = record { index = c; room = rw (g.is, outputs-left removes i t.amount.parts s, joined-long) r }
 
     pub spelled-done : (removes : Bool) (j : ℕ) {σ' : State}
-        → HoldsState σ' (on_store (λ z. minus_unless t.reached (printed (nth Q j) (take m d') (past (nth (reading removes) i) t.parts z))) σ)
+        → HoldsState σ' (on_store (λ z. minus_unless t.reached (printed (nth Q j) (take m d') (past (nth (reading removes) i) t.amount.parts z))) σ)
         → HoldsState σ' (on_store (spelled_out u removes i j) σ)
     unfolding on_store spelled_out
     spelled-done removes j g = rw ((took h b l k).is, ← joined_is) g
 
-  pub fits-spelled : (removes : Bool) (j : ℕ) → j < limit.outputs → fits (spelled_out u removes i j s) ≡ leb (length (at [] s.outputs (nth Q j)) + t.chars) limit.output
+  pub fits-spelled : (removes : Bool) (j : ℕ) → j < limit.outputs → fits (spelled_out u removes i j s) ≡ leb (length (at [] s.outputs (nth Q j)) + t.amount.chars) limit.output
   unfolding spelled_out
   fits-spelled removes j c =
-      let ys = take t.parts xs in
-      let o = outputs-left removes i t.parts s in
+      let ys = take t.amount.parts xs in
+      let o = outputs-left removes i t.amount.parts s in
       rw (took h b l k).is
-      (fits-minus_unless t.reached (printed (nth Q j) (spelled ys) (past (nth (reading removes) i) t.parts s))
-      ∙ fits-printed (nth Q j) (past (nth (reading removes) i) t.parts s) (rw (o, h.fine.outputs_is) c) (spelled ys) (limited-past s (fine-limited σ h.fine) (nth (reading removes) i) t.parts)
+      (fits-minus_unless t.reached (printed (nth Q j) (spelled ys) (past (nth (reading removes) i) t.amount.parts s))
+      ∙ fits-printed (nth Q j) (past (nth (reading removes) i) t.amount.parts s) (rw (o, h.fine.outputs_is) c) (spelled ys) (limited-past s (fine-limited σ h.fine) (nth (reading removes) i) t.amount.parts)
       ∙ rw (o, chars-long h b l k) refl)
 
-  pub spelled-full : (removes : Bool) (j : ℕ) → j < limit.outputs → {o : ℕ} → o ≡ length (at [] s.outputs (nth Q j)) → limit.output < o + t.chars
+  pub spelled-full : (removes : Bool) (j : ℕ) → j < limit.outputs → {o : ℕ} → o ≡ length (at [] s.outputs (nth Q j)) → limit.output < o + t.amount.chars
       → fits (spelled_out u removes i j s) ≡ false
-  spelled-full removes j c {o} q f = fits-spelled removes j c ∙ rw (← q) (lt-leb (o + t.chars) limit.output f)
+  spelled-full removes j c {o} q f = fits-spelled removes j c ∙ rw (← q) (lt-leb (o + t.amount.chars) limit.output f)

@@ -44,13 +44,11 @@ fn spell(bench: &mut Bench, test: Prepared, source: Source, j: usize) -> Result<
     if !t.words {
         return Err(Question::Kind);
     }
-    if Machine::OUTPUT < bench.state.output_len(j) + t.chars {
+    if Machine::OUTPUT < bench.state.output_len(j) + t.amount.chars {
         return Err(Question::Room);
     }
-    let n = components::join(&mut bench.hold, &x[..t.bytes]);
-    bench
-        .state
-        .past_parts(source.i, source.removes, t.parts, t.bytes, t.chars);
+    let n = components::join(&mut bench.hold, &x[..t.amount.bytes]);
+    bench.state.past_parts(source, t.amount);
     put_out(&mut bench.state, j, &bench.hold[..n], t.reached);
     Ok(())
 }

@@ -64,12 +64,12 @@ fn read_word(
     }
     let n = joining::make_word(&mut bench.hold, &rest[..k]);
     bench.state.read_past(i, k);
-    let new = from_moves::New {
-        bytes: &bench.hold[..n],
+    let word = from_moves::Amount {
         parts: joining::some(k),
+        bytes: n,
         chars: k,
     };
-    from_moves::deliver(&mut bench.state, target.j, target.at_end, new, t.reached);
+    from_moves::deliver(&mut bench.state, target, &bench.hold[..n], word, t.reached);
     Ok(())
 }
 

@@ -94,10 +94,10 @@ pub going-none : {s : List ℕ} (u : Until Record) → WholeRecords s → Going 
 going-none u w = record { cut = cut-none w; walk = refl }
 
 module _ {s : List ℕ} {u : Until Record} {at k : ℕ} (g : Going s u at k) where
-  took : (b : Bool) → walked u k (records_in (drop at s)) ≡ (k, b) → TookRecords u s (record { records = k; bytes = at; reached = b })
+  took : (b : Bool) → walked u k (records_in (drop at s)) ≡ (k, b) → TookRecords u s (record { end = record { records = k; bytes = at }; reached = b })
   took b e = record { is = sym (walked-taken u (records_in s)) ∙ g.walk ∙ e; cut = g.cut }
 
-  pub going-stop : {e : ℕ} {b : Bool} → EndsAt s at e → b ≡ stops_before u k (record_in (drop at s)) → b ≡ true → TookRecords u s (record { records = k; bytes = at; reached = true })
+  pub going-stop : {e : ℕ} {b : Bool} → EndsAt s at e → b ≡ stops_before u k (record_in (drop at s)) → b ≡ true → TookRecords u s (record { end = record { records = k; bytes = at }; reached = true })
   unfolding walked
   going-stop h e t = let q : stops_before u k (record_in (drop at s)) ≡ true = sym e ∙ t in took true (rw (h.first, q))
 
@@ -107,7 +107,7 @@ module _ {s : List ℕ} {u : Until Record} {at k : ℕ} (g : Going s u at k) whe
       let f : stops_before u k (record_in (drop at s)) ≡ false = sym q ∙ t in
       record { cut = cut-next g.cut h; walk = g.walk ∙ rw (h.first, f, add-one k) }
 
-  pub going_end : length s ≡ at → TookRecords u s (record { records = k; bytes = length s; reached = ends u k })
+  pub going_end : length s ≡ at → TookRecords u s (record { end = record { records = k; bytes = length s }; reached = ends u k })
   unfolding walked
   going_end h = rw h (took (ends u k) (rw (cut-end g.cut (omega arith))))
 
@@ -137,18 +137,18 @@ total-ones (x ∷ xs) = omega (arith, total-ones xs)
 
 -- what a count of all components in a part of `long` cells tells
 pub record AllTaken (long : ℕ) (xs : List Component) (r : Taken) : Type 0 where
-  pub parts_is : r.parts ≡ total (λ x. 1) xs
-  pub chars_is : r.chars ≡ total (λ x. length (chars x)) xs
-  pub parts_most : r.parts ≤ length (components_bytes xs)
-  pub chars_most : r.chars ≤ length (components_bytes xs)
+  pub parts_is : r.amount.parts ≡ total (λ x. 1) xs
+  pub chars_is : r.amount.chars ≡ total (λ x. length (chars x)) xs
+  pub parts_most : r.amount.parts ≤ length (components_bytes xs)
+  pub chars_most : r.amount.chars ≤ length (components_bytes xs)
   pub bytes_most : length (components_bytes xs) ≤ long
 
 pub all-taken : {s : List ℕ} {xs : List Component} {c : List ℕ} {r : Taken} → Part s xs c → Took everything (components_in c) r → AllTaken (length s) xs r
 all-taken {s} {xs} {c} {r} p h =
     let e : components_in c ≡ xs = components-of p.cells in
     let k : Took everything xs r = rw e at h in
-    let n : r.parts ≡ length xs = sym (ap (λ q. q.0) k.is) in
-    let t : take r.parts xs ≡ xs = rw (n, take-length) in
+    let n : r.amount.parts ≡ length xs = sym (ap (λ q. q.0) k.is) in
+    let t : take r.amount.parts xs ≡ xs = rw (n, take-length) in
     record {
       parts_is = omega (arith, total-ones xs);
       chars_is = rw t at k.chars_is;
@@ -158,7 +158,7 @@ all-taken {s} {xs} {c} {r} p h =
     }
 
 module _ {s : List ℕ} {at n m : ℕ} (g : Summing s at n m) where
-  pub summing-next : {e : ℕ} {r : Taken} → EndsAt s at e → AllTaken (length s) (record_in (drop at s)).parts r → Summing s e (n + r.parts) (m + r.chars)
+  pub summing-next : {e : ℕ} {r : Taken} → EndsAt s at e → AllTaken (length s) (record_in (drop at s)).parts r → Summing s e (n + r.amount.parts) (m + r.amount.chars)
   summing-next {e} {r} h a =
       let x : Record = record_in (drop at s) in
       let rs : List Record = take g.done (records_in s) in
@@ -172,11 +172,12 @@ module _ {s : List ℕ} {at n m : ℕ} (g : Summing s at n m) where
         chars_most = omega (arith, g.chars_most, a.chars_most, record-length x, h.is);
       }
 
-  pub summing-end : length s ≡ at → Totalled s (record { parts = n; chars = m })
+  pub summing-end : length s ≡ at → Totalled s (record { parts = n; bytes = length s; chars = m })
   summing-end h =
       let all : take g.done (records_in s) ≡ records_in s = rw (cut_all g.cut (omega arith), take-length) in
       record {
         parts_is = rw all at g.parts_is;
+        bytes_is = refl;
         chars_is = rw all at g.chars_is;
         parts_most = omega (arith, g.parts_most, g.cut.within);
         chars_most = omega (arith, g.chars_most, g.cut.within);

@@ -11,7 +11,7 @@ use Rattle.matching.specs.Tests.{until, reached_by, Fitting}
 use Rattle.records.specs.declared.RecordTest.{RecordTest}
 use Rattle.records.specs.declared.RecordTest.TheVariants.{First, Whole}
 use Rattle.records.specs.declared.Sequence.{Sequence}
-use Rattle.records.specs.declared.Totals.{Totals}
+use Rattle.components.specs.declared.Amount.{Amount}
 use Rattle.records.specs.Places.{Starts, Cut}
 
 -- "Tests of KOPIUJ, SKRESL and OMIN compare a record's first component, with E the whole record."
@@ -56,8 +56,8 @@ pub record RecordsCountable (t : RecordTest) (s : List ℕ) : Type 0 where
 
 -- what `taken` is of the records of s, with their cells
 pub record TookRecords (u : Until Record) (s : List ℕ) (r : Sequence) : Type 0 where
-  pub is : taken u (records_in s) ≡ (r.records, r.reached)
-  pub cut : Cut s r.bytes r.records
+  pub is : taken u (records_in s) ≡ (r.end.records, r.reached)
+  pub cut : Cut s r.end.bytes r.end.records
 
 -- how many components and characters records have; each has a cell of its own
 abbrev pub part_total : List Record → ℕ
@@ -66,8 +66,9 @@ part_total rs = total (λ r. total (λ x. 1) r.parts) rs
 abbrev pub char_total : List Record → ℕ
 char_total rs = total (λ r. total (λ x. length (chars x)) r.parts) rs
 
-pub record Totalled (s : List ℕ) (r : Totals) : Type 0 where
+pub record Totalled (s : List ℕ) (r : Amount) : Type 0 where
   pub parts_is : r.parts ≡ part_total (records_in s)
+  pub bytes_is : r.bytes ≡ length s
   pub chars_is : r.chars ≡ char_total (records_in s)
   pub parts_most : r.parts ≤ length s
   pub chars_most : r.chars ≤ length s

@@ -13,6 +13,7 @@ ghost use Rattle.cells.specs.Cells.{pasted, Number};
 ghost use Rattle.records.specs.Places.{Starts, Ends, SplitRecord, Part, LastAddress, next_contents, BothWhole, Sought, Recordable, Copyable};
 ghost use Rattle.records.specs.Sequences.{until_records, stops_void, reached_records, FirstStoppable, RecordStoppable, RecordsCountable, TookRecords, Totalled};
 
+use components::Amount;
 use matching::Test;
 
 // How many records stand up to a place, and their cells.
@@ -29,19 +30,11 @@ pub enum RecordTest<'a> {
     Whole(&'a [u8]),
 }
 
-// How many records a test takes, with their cells; whether it was reached.
+// Where what a test takes of records ends; whether it was reached.
 #[derive(Clone, Copy, Debug, PartialEq, Eq)]
 pub struct Sequence {
-    pub records: usize,
-    pub bytes: usize,
+    pub end: Place,
     pub reached: bool,
-}
-
-// How many components and characters records have.
-#[derive(Clone, Copy, Debug, PartialEq, Eq)]
-pub struct Totals {
-    pub parts: usize,
-    pub chars: usize,
 }
 
 // How many cells the record in front takes.
@@ -196,8 +189,10 @@ pub fn count(s: &[u8], test: RecordTest) -> Sequence
     while let Some((r, rest)) = split_record(left) {
         if stops_at(test, k, r) {
             return Sequence {
-                records: k,
-                bytes: s.len() - left.len(),
+                end: Place {
+                    records: k,
+                    bytes: s.len() - left.len(),
+                },
                 reached: true,
             };
         }
@@ -205,14 +200,16 @@ pub fn count(s: &[u8], test: RecordTest) -> Sequence
         k += 1;
     }
     Sequence {
-        records: k,
-        bytes: s.len(),
+        end: Place {
+            records: k,
+            bytes: s.len(),
+        },
         reached: reached_at(test, k),
     }
 }
 
-// How many components and characters the records of `s` have.
-pub fn totals_of(s: &[u8]) -> Totals
+// How many components and characters the records of `s` have, and their bytes.
+pub fn totals_of(s: &[u8]) -> Amount
     requires { WholeRecords s.now }
     ensures { Totalled s.now result }
 {
@@ -220,12 +217,16 @@ pub fn totals_of(s: &[u8]) -> Totals
     let mut parts = 0;
     let mut chars = 0;
     while let Some((r, rest)) = split_record(left) {
-        let t = matching::count(contents_of(r), Test::All);
+        let t = matching::count(contents_of(r), Test::All).amount;
         parts += t.parts;
         chars += t.chars;
         left = rest;
     }
-    Totals { parts, chars }
+    Amount {
+        parts,
+        bytes: s.len(),
+        chars,
+    }
 }
 
 // Writes the record of an address and components at the front of `dst`.

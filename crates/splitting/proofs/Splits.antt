@@ -2,11 +2,11 @@
 use mathlib.Core.Path.{◌≡◌, refl, sym, ap, ◌∙◌, subst}
 use mathlib.Core.Bool.{Bool, true, false, cond, ◌&&◌}
 use mathlib.Core.List.{List, [], ◌∷◌, map}
-use Prim.Native.Nat.{ℕ, zero, suc, pred, ◌+◌, ◌≤◌, ◌<◌}
+use Prim.Native.Nat.{ℕ, suc, ◌+◌, ◌<◌}
 use native.Mathlib.Omega.{arith}
 use lib.Dec.{leb}
 use lib.ListN.{length, take, length-take}
-use borrow.Author.Tests.{le-leb, leb-true}
+use borrow.Author.Tests.{leb-true}
 use Rattle.language.specs.Limits as limit
 use Rattle.language.specs.Letters.Letter.{E}
 use Rattle.language.specs.Values.{Component, Store, State, chars}
@@ -25,10 +25,12 @@ use Rattle.state.specs.Blocks.{ExprLent, FirstParts, PartsDroppable, PartsWritab
 use Rattle.state.specs.Limited.{Limited}
 use Rattle.state.proofs.Fits.{fine-limited, fits-minus_unless, fits-into-ok}
 use Rattle.state.proofs.Freed.{limited-past, components-past, chars-past}
+use Rattle.instructions.specs.Does.{room_after}
+use Rattle.instructions.proofs.Room.{room-freed}
 use Rattle.instructions.proofs.Written.{both}
 use Rattle.moves.proofs.Taking.{parts-least}
 use Rattle.readings.proofs.Below.Words.{written_is}
-use Rattle.splitting.specs.Splitting.{front_part, split_up, split_room, FirstWord}
+use Rattle.splitting.specs.Splitting.{front_part, split_up, FirstWord}
 use Rattle.splitting.proofs.Asking.{first-in}
 
 -- ---- words of one character
@@ -56,22 +58,6 @@ first-parts [] f m q = absurd (omega (arith, f.some))
 first-parts (word w ∷ xs) f m q = record { most = omega arith; bytes_is = word_bytes w m q; chars_is = omega (arith, q) }
 first-parts (Component.number z ∷ xs) f m q = absurd (omega (arith, f.word))
 first-parts (address n ∷ xs) f m q = absurd (omega (arith, f.word))
-
--- ---- their room
-
-one-off : (k c c' : ℕ) → c ≤ limit.components → c' + 1 ≡ c → leb (c' + k) limit.components ≡ leb (c + pred k) limit.components
-one-off zero c c' a x = le-leb (c' + 0) limit.components (omega (arith, a, x)) ∙ sym (le-leb (c + 0) limit.components (omega (arith, a)))
-one-off (suc k) c c' a x = let e : c' + suc k ≡ c + k = omega (arith, x) in ap (λ (m : ℕ). leb m limit.components) e
-
-split_room-of : (removes : Bool) (k m c h c' h' : ℕ) → c ≤ limit.components → h ≤ limit.characters → k ≤ m → c' + cond removes 1 0 ≡ c → h' + cond removes m 0 ≡ h
-    → (leb (c' + k) limit.components && leb (h' + k) limit.characters)
-    ≡ (leb (c + cond removes (pred k) k) limit.components && leb (h + cond removes 0 k) limit.characters)
-split_room-of true k m c h c' h' a b l x y =
-    rw (one-off k c c' a x, le-leb (h' + k) limit.characters (omega (arith, y, b, l)), le-leb (h + 0) limit.characters (omega (arith, b))) refl
-split_room-of false k m c h c' h' a b l x y =
-    let p : c' ≡ c = omega (arith, x) in
-    let q : h' ≡ h = omega (arith, y) in
-    rw (p, q) refl
 
 -- ---- the expression
 
@@ -119,13 +105,22 @@ module _ {σ : State} {i : ℕ} {x : List ℕ} (b : i < limit.expressions) (l : 
         abbrev z : Store
         z = past (nth (reading removes) i) 1 s
 
-        room-is : (leb (components_held z + t.taken) limit.components && leb (chars_held z + t.taken) limit.characters) ≡ split_room removes t.taken s
+        parts-off : components_held z + cond removes 1 0 ≡ components_held s
+        parts-off = components-past s i 1 within parts removes
+
+        chars-off : chars_held z + cond removes (length cs) 0 ≡ chars_held s
+        chars-off = chars-past s i 1 within parts removes
+
+        -- the word is freed
+        abbrev room : Bool
+        room = room_after s (cond removes 1 0) (cond removes (length cs) 0) t.taken t.taken
+
+        room-is : room ≡ (leb (components_held z + t.taken) limit.components && leb (chars_held z + t.taken) limit.characters)
         room-is =
-            split_room-of removes t.taken (length cs) (components_held s) (chars_held s) (components_held z) (chars_held z) l.stands.fine.components_most l.stands.fine.chars_most k.most
-            (components-past s i 1 within parts removes) (chars-past s i 1 within parts removes)
+            rw (room-freed (components_held z) (components_held s) (cond removes 1 0) t.taken limit.components parts-off, room-freed (chars_held z) (chars_held s) (cond removes (length cs) 0) t.taken limit.characters chars-off) refl
 
         -- the limits
-        pub fits-split : fits (split_up u removes i s) ≡ split_room removes t.taken s
+        pub fits-split : fits (split_up u removes i s) ≡ room
         unfolding split_up
         fits-split =
             let m : Limited z = limited-past s (fine-limited σ l.stands.fine) (nth (reading removes) i) 1 in
@@ -137,7 +132,7 @@ module _ {σ : State} {i : ℕ} {x : List ℕ} (b : i < limit.expressions) (l : 
             ∙ fits-into-ok (nth (writing false) i) z q (map char v) m (chars-ok v)
             ∙ ap (λ (y : ℕ). leb (components_held z + y) limit.components && leb (chars_held z + char_count (map char v)) limit.characters) o
             ∙ ap (λ (y : ℕ). leb (components_held z + t.taken) limit.components && leb (chars_held z + y) limit.characters) r
-            ∙ room-is)
+            ∙ sym room-is)
 
         module _ {o o' : List ℕ} {m : ℕ} (y : Written o (components_bytes (map char (take t.taken cs))) o' m) where
           encoded : Encoded (take m o') (map char v)
@@ -146,11 +141,11 @@ module _ {σ : State} {i : ℕ} {x : List ℕ} (b : i < limit.expressions) (l : 
           new_is : components_in (take m o') ≡ map char v
           new_is = components-of encoded
 
-          pub writable : split_room removes t.taken s ≡ true → {σ' : State}
+          pub writable : room ≡ true → {σ' : State}
               → HoldsState σ' (on_store (past (nth (reading removes) i) 1) σ) → PartsWritable σ' i (take m o') t.taken t.taken
           unfolding on_store
           writable r g =
-              let d = both (leb (components_held z + t.taken) limit.components) (leb (chars_held z + t.taken) limit.characters) (room-is ∙ r) in
+              let d = both (leb (components_held z + t.taken) limit.components) (leb (chars_held z + t.taken) limit.characters) (sym room-is ∙ r) in
               record {
                 index = b;
                 whole = whole-components encoded;

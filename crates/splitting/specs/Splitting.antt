@@ -1,11 +1,10 @@
 -- Splitting a word: what ROZBIJ makes of a store, and what its functions ask and tell.
-use Rattle.std.specs.Prelude.{◌≡◌, Bool, false, cond, ◌&&◌, List, map, ℕ, pred, ◌+◌, ◌<◌, leb, length, take, Result, Ok, IfOk}
+use Rattle.std.specs.Prelude.{◌≡◌, Bool, false, List, map, ℕ, ◌<◌, length, take, Result, Ok, IfOk}
 use Rattle.language.specs.Limits as limit
 use Rattle.language.specs.Letters.Letter.{E}
 use Rattle.language.specs.Values.{Component, Store, State, chars, kind}
 use Rattle.machine.specs.Arguments.{expr, first, char, Asks, ◌&◌, needs, Until, taken}
 use Rattle.machine.specs.Changes.{minus_unless, into, past}
-use Rattle.layout.specs.Memory.{components_held, chars_held}
 use Rattle.state.specs.Working.{nth, reading, writing}
 use Rattle.table.specs.declared.Argument.{Argument}
 use Rattle.instructions.specs.Questions.{told_by}
@@ -25,11 +24,6 @@ split_up u removes i s =
     let w = chars (first (front_part s i)) in
     let r = taken u w in
     minus_unless r.1 (into (nth (writing false) i) (map char (take r.0 w)) (past (nth (reading removes) i) 1 s))
-
--- whether k words of one character have room, where a longer word is taken away before or not
-abbrev pub split_room : Bool → ℕ → Store → Bool
-split_room removes k s =
-    leb (components_held s + cond removes (pred k) k) limit.components && leb (chars_held s + cond removes 0 k) limit.characters
 
 -- ---- what is asked and told
 

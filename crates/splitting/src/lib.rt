@@ -1,7 +1,7 @@
 // Splitting a word: ROZBIJ.
 #![tactic(auto)]
 
-ghost use Rattle.std.specs.Prelude.{◌≡◌, ◌<◌, ◌≤◌, true, eqb};
+ghost use Rattle.std.specs.Prelude.{◌≡◌, ◌<◌, true, eqb};
 ghost use Rattle.language.specs.Limits as limit;
 ghost use Rattle.language.specs.Program.Arg.{nothing};
 ghost use Rattle.language.specs.Program.Op.{ROZBIJ};
@@ -12,9 +12,9 @@ ghost use Rattle.state.specs.Working.{Stands, nth, reading};
 ghost use Rattle.table.specs.Denote.{arg_of};
 ghost use Rattle.instructions.specs.Questions.{told_by};
 ghost use Rattle.instructions.specs.Does.{Tried, DoesFor};
-ghost use Rattle.splitting.specs.Splitting.{split_up, split_room, WordAsked, Splittable, WordSplittable};
+ghost use Rattle.splitting.specs.Splitting.{split_up, WordAsked, Splittable, WordSplittable};
 
-use components::Kind;
+use components::{Amount, Kind};
 use instructions::{Bench, Question, Source};
 use state::Working;
 use table::Table;
@@ -51,41 +51,38 @@ fn word_of(
     prepared
 }
 
-// Whether `k` words of one character are within the limits; `removes`: their word is taken away before.
-fn has_split_room(state: &Working, removes: bool, k: usize) -> bool
-    requires { k ≤ limit.word }
-    ensures { result ≡ split_room removes k state.now.store }
-{
-    if removes {
-        return instructions::has_room(state, k.saturating_sub(1), 0);
-    }
-    instructions::has_room(state, k, k)
-}
-
 // Puts the characters that a test takes of the first word of an expression in front of it as words.
 // Not one with `joining::join_up`, `printing::spell` or `moves::send`: each asks another room and makes other bytes of what it takes.
 fn split_up(bench: &mut Bench, test: Prepared, source: Source) -> Result<(), Question>
     requires { Splittable bench.old.state bench.old.given test source.i }
     ensures { Tried bench.old.state (told_by result) bench.new.state true (split_up (until_firsts_in test bench.old.given) source.removes source.i bench.old.state.store) }
 {
-    let x = bench.state.expr_bytes(source.i);
-    let w = components::chars_of(x);
+    let w = components::chars_of(bench.state.expr_bytes(source.i));
     let m = w.len();
+    let word = Amount {
+        parts: 1,
+        bytes: 1 + m,
+        chars: m,
+    };
     let t = readings::take_chars(&mut bench.hold, w, test.with(&bench.given));
     let k = t.taken;
-    if !has_split_room(&bench.state, source.removes, k) {
-        return Err(Question::Room);
-    }
     let n = components::split(&mut bench.hold, &w[..k]);
-    bench
-        .state
-        .past_parts(source.i, source.removes, 1, 1 + m, m);
-    let new = moves::New {
-        bytes: &bench.hold[..n],
+    let new = Amount {
         parts: k,
+        bytes: n,
         chars: k,
     };
-    moves::deliver(&mut bench.state, source.i, false, new, t.reached);
+    if !instructions::has_room_after(&bench.state, source.freed(word), new) {
+        return Err(Question::Room);
+    }
+    bench.state.past_parts(source, word);
+    moves::deliver(
+        &mut bench.state,
+        source.front(),
+        &bench.hold[..n],
+        new,
+        t.reached,
+    );
     Ok(())
 }
 

@@ -1,7 +1,7 @@
 // The state at work, as one value: what contracts see of it is the machine's state.
 #![tactic(auto)]
 
-ghost use Rattle.std.specs.Prelude.{◌≡◌, ◌<◌, ◌+◌, ◌-◌, true, length, get_or};
+ghost use Rattle.std.specs.Prelude.{◌≡◌, ◌<◌, ◌+◌, ◌-◌, true, false, cond, length, get_or};
 ghost use Rattle.store.specs.Below.Letters.Letter.{I, Q};
 ghost use Rattle.store.specs.Below.Changes.{with_plus, minus_unless, into, printed, past};
 ghost use Rattle.store.specs.Below.Components.{components_in};
@@ -11,10 +11,79 @@ ghost use Rattle.strings.specs.Strings.{Pushable};
 ghost use Rattle.state.specs.Working.{HoldsState, Stands, on_store, nth, reading, writing};
 ghost use Rattle.state.specs.Blocks.{Told, ReadTo, ExprLent, OutputLong, Readable, exprs_exchanged, pushed, totalled, Raisable, Lowerable, Totals, PartsDroppable, PartsWritable, Printable};
 
+use components::Amount;
 use gaps::from_cells;
 use layout::StatePlaces;
 use std::marker::Model;
 use strings::Strings;
+
+// What components or records are read from, and whether they are removed there. A bool, as in the two targets: the letters of the specification are
+// told by one, `reading`, `filing : Bool -> Letter`, and so are the ends by `writing`.
+#[derive(Clone, Copy, Debug, PartialEq, Eq)]
+pub struct Source {
+    pub removes: bool,
+    pub i: usize,
+}
+
+// What components are written to: turned round or not, at the end or in front.
+#[derive(Clone, Copy, Debug, PartialEq, Eq)]
+pub struct Target {
+    pub reverses: bool,
+    pub at_end: bool,
+    pub j: usize,
+}
+
+// What records are written to: turned round and right after the pointer of a file, or in their order and right before it.
+#[derive(Clone, Copy, Debug, PartialEq, Eq)]
+pub struct FileTarget {
+    pub reverses: bool,
+    pub j: usize,
+}
+
+impl Source {
+    // The front of what is read, where what becomes of it is put in its order.
+    pub fn front(self) -> Target
+        ensures { result ≡ record { reverses = false; at_end = false; j = self.i } }
+    {
+        Target {
+            reverses: false,
+            at_end: false,
+            j: self.i,
+        }
+    }
+
+    // What is freed where so much is read: all of it where it is removed here, else nothing.
+    pub fn freed(self, amount: Amount) -> Amount
+        ensures { result ≡ record { parts = cond self.removes amount.parts 0; bytes = cond self.removes amount.bytes 0; chars = cond self.removes amount.chars 0 } }
+    {
+        if self.removes {
+            return amount;
+        }
+        Amount {
+            parts: 0,
+            bytes: 0,
+            chars: 0,
+        }
+    }
+
+    // How many of `k` are added, where they are written elsewhere: none where they are removed here.
+    pub fn left(self, k: usize) -> usize
+        ensures { result ≡ cond self.removes 0 k }
+    {
+        if self.removes { 0 } else { k }
+    }
+
+    // How much of an amount is added in the same way.
+    pub fn amount_left(self, amount: Amount) -> Amount
+        ensures { result ≡ record { parts = cond self.removes 0 amount.parts; bytes = cond self.removes 0 amount.bytes; chars = cond self.removes 0 amount.chars } }
+    {
+        Amount {
+            parts: self.left(amount.parts),
+            bytes: self.left(amount.bytes),
+            chars: self.left(amount.chars),
+        }
+    }
+}
 
 // The strings, and eight numbers: H, how much of the inputs is read, the next instruction, the last number of a record, and the totals. A row and no
 // struct of eight: the specification has them as one list, at rest too, and `number` reads any of them.
@@ -47,26 +116,27 @@ fn set_totals(nums: &mut [u32], parts: usize, chars: usize)
 }
 
 // Adds to the totals of components and characters.
-pub fn raise(nums: &mut [u32], parts: usize, chars: usize)
-    requires { Raisable nums.old parts chars }
-    ensures { nums.new ≡ totalled (get_or nums.old components_scalar 0 + parts) (get_or nums.old characters_scalar 0 + chars) nums.old }
+pub fn raise(nums: &mut [u32], amount: Amount)
+    requires { Raisable nums.old amount.parts amount.chars }
+    ensures { nums.new ≡ totalled (get_or nums.old components_scalar 0 + amount.parts) (get_or nums.old characters_scalar 0 + amount.chars) nums.old }
 {
     let c = from_cells::read(nums, StatePlaces::COMPONENTS_SCALAR);
     let d = from_cells::read(nums, StatePlaces::CHARACTERS_SCALAR);
-    set_totals(nums, c + parts, d + chars);
+    set_totals(nums, c + amount.parts, d + amount.chars);
 }
 
 // Takes from the totals of components and characters.
-pub fn lower(nums: &mut [u32], parts: usize, chars: usize)
-    requires { Lowerable nums.old parts chars }
-    ensures { nums.new ≡ totalled (get_or nums.old components_scalar 0 - parts) (get_or nums.old characters_scalar 0 - chars) nums.old }
+pub fn lower(nums: &mut [u32], amount: Amount)
+    requires { Lowerable nums.old amount.parts amount.chars }
+    ensures { nums.new ≡ totalled (get_or nums.old components_scalar 0 - amount.parts) (get_or nums.old characters_scalar 0 - amount.chars) nums.old }
 {
     let c = from_cells::read(nums, StatePlaces::COMPONENTS_SCALAR);
     let d = from_cells::read(nums, StatePlaces::CHARACTERS_SCALAR);
-    set_totals(nums, c - parts, d - chars);
+    set_totals(nums, c - amount.parts, d - amount.chars);
 }
 
-// Puts bytes behind string `i` or before it. A bool, here and in `write_parts`: `pushed` and `writing` of the specification take one.
+// Puts bytes behind string `i` or before it. A bool chooses the end, and there are no two functions: what is promised is said over it, `pushed : Bool -> ..`,
+// as `writing at_end` is for `write_parts`.
 #[tactic(auto, unfolding(crate::specs::Blocks::pushed))]
 fn push(strings: &mut Strings, i: usize, at_end: bool, bytes: &[u8])
     requires { Pushable strings.old i (length bytes.now) }
@@ -104,35 +174,34 @@ impl Working {
         self.strings.string_of(i)
     }
 
-    // Takes the first components of expression `i` away: how many, their bytes and their characters.
-    // Three numbers, here and below: callers count them apart, and a struct of them would be filled for each call.
+    // Takes the first components of expression `i` away, which are so much.
     #[tactic(auto, using(crate::proofs::Autos::droppable, crate::proofs::Autos::lowerable))]
-    pub fn drop_parts(&mut self, i: usize, parts: usize, bytes: usize, chars: usize)
-        requires { PartsDroppable self.old i parts bytes chars }
-        ensures { HoldsState self.new (on_store (past (nth (reading true) i) parts) self.old) }
+    pub fn drop_parts(&mut self, i: usize, amount: Amount)
+        requires { PartsDroppable self.old i amount.parts amount.bytes amount.chars }
+        ensures { HoldsState self.new (on_store (past (nth (reading true) i) amount.parts) self.old) }
     {
-        self.strings.drop_front(i, bytes);
-        lower(&mut self.nums, parts, chars);
+        self.strings.drop_front(i, amount.bytes);
+        lower(&mut self.nums, amount);
     }
 
-    // Reads past the first components of expression `i`: removes them, or leaves all as it is. A bool: `reading` of the specification takes one.
-    pub fn past_parts(&mut self, i: usize, removes: bool, parts: usize, bytes: usize, chars: usize)
-        requires { PartsDroppable self.old i parts bytes chars }
-        ensures { HoldsState self.new (on_store (past (nth (reading removes) i) parts) self.old) }
+    // Reads past the first components of an expression, which are so much: removes them, or leaves all as it is.
+    pub fn past_parts(&mut self, source: Source, amount: Amount)
+        requires { PartsDroppable self.old source.i amount.parts amount.bytes amount.chars }
+        ensures { HoldsState self.new (on_store (past (nth (reading source.removes) source.i) amount.parts) self.old) }
     {
         let _ = &self.nums;
-        if removes {
-            self.drop_parts(i, parts, bytes, chars);
+        if source.removes {
+            self.drop_parts(source.i, amount);
         }
     }
 
-    // Writes the components in `new` at the end of expression `i` or in front: how many they are, and their characters.
-    pub fn write_parts(&mut self, i: usize, at_end: bool, new: &[u8], parts: usize, chars: usize)
-        requires { PartsWritable self.old i new.now parts chars }
-        ensures { HoldsState self.new (on_store (into (nth (writing at_end) i) (components_in new.now)) self.old) }
+    // Writes the components in `new`, which are so much and already turned round where they are to be, at the end of an expression or in front.
+    pub fn write_parts(&mut self, target: Target, new: &[u8], amount: Amount)
+        requires { PartsWritable self.old target.j new.now amount.parts amount.chars }
+        ensures { HoldsState self.new (on_store (into (nth (writing target.at_end) target.j) (components_in new.now)) self.old) }
     {
-        push(&mut self.strings, i, at_end, new);
-        raise(&mut self.nums, parts, chars);
+        push(&mut self.strings, target.j, target.at_end, new);
+        raise(&mut self.nums, amount);
     }
 
     // Turns H minus, unless the test was reached.

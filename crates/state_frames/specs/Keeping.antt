@@ -9,6 +9,7 @@ use Rattle.layout.specs.Table.{program_of, good_table}
 use Rattle.calls.specs.Calls.{packed}
 use Rattle.calls.specs.Filling.{Filling, Taken, taken_number, taken_with}
 use Rattle.calls.specs.Filling.Filling.{kept, fills}
+use Rattle.calls.specs.Questions.{numbered}
 use Rattle.state_frames.specs.Frames.{sound_text, frames_in}
 use Rattle.state_frames.specs.Saved.{saved, restored, well_framed}
 
@@ -51,8 +52,8 @@ pub record Reads (x : Reading) (r : ℕ) (m' : List ℕ) : Type 0 where
   pub answer : r ≡ reading_answer x
   pub cells : m' ≡ x.cells
 
--- the same of the result r, taken or the number of the first no
+-- the same of the result r, taken or the first question answered no
 pub record Restores (x : Reading) (r : Taken) (m' : List ℕ) : Type 0 where
-  pub result_is : r ≡ taken_with x.number
+  pub result_is : numbered r ≡ taken_with x.number
   pub number_is : taken_number r ≡ x.number
   pub cells_are : m' ≡ x.cells

@@ -15,6 +15,7 @@ use perform_equality::from_perform_moves;
 use table::Instruction;
 
 // Whether an operator is a jump, call or return, or STOP.
+// The family is named here as the others are in `perform`; what each of its operators does is matched in `perform_jumps` alone.
 fn leading(op: Operator) -> bool
     ensures { result ≡ leads (op_by op) }
 {

@@ -4,18 +4,18 @@ use mathlib.Core.Bool.{Bool, true, false, ◌&&◌}
 use mathlib.Core.List.{List, [], ◌∷◌}
 use Prim.Native.Nat.{ℕ, zero, suc, pred, ◌+◌, ◌-◌, ◌≤◌, ◌<◌}
 use native.Mathlib.Omega.{arith}
-use lib.Dec.{T, eqb, leb}
+use lib.Dec.{T, leb}
 use lib.IntN.{ℤ, pos, negsuc, nat_abs}
 use lib.ListN.{length, take, drop}
 use lib.Signed.{lt_z}
-use borrow.Author.Tests.{le-leb, lt-leb, lt-ltb, eq-eqb, ne_eqb, eqb-true}
+use borrow.Author.Tests.{le-leb, lt-leb, lt-ltb}
 use Rattle.std.specs.Prelude.{Option, Some, None, position}
 use Rattle.lists.specs.Lists.{filled}
 use Rattle.lists.specs.SearchLaws.{ahead-is}
 use Rattle.language.specs.Limits as limit
 use Rattle.language.specs.Letters.Letter.{E}
 use Rattle.language.specs.Program.{Entry, target_of, meets}
-use Rattle.language.specs.Values.{Component, Store, State, chars, value, kind}
+use Rattle.language.specs.Values.{Component, Store, State, chars, value}
 use Rattle.machine.specs.Arguments.{expr, first, needs}
 use Rattle.machine.specs.Changes.{past, used, used_by}
 use Rattle.cells.specs.Cells.{Number}
@@ -41,15 +41,8 @@ and-true : (a : Bool) → (a && true) ≡ true → a ≡ true
 and-true true q = refl
 and-true false q = q
 
-kind_of-first : (xs : List Component) → filled xs ≡ true → needs 1 xs 53 ≡ true → kind (first xs) ≡ 1
-kind_of-first [] f q = absurd (subst T (sym f) tt)
-kind_of-first (x ∷ xs) f q = eqb-true (kind x) 1 (and-true (eqb (kind x) 1) q)
-
 pub some-front : (s : Store) (i k : ℕ) → 0 ≡ stop_of (needs k (front s i)) → filled (front s i) ≡ true
 some-front s i k q = and-true (filled (front s i)) (unstopped (needs k (front s i)) (sym q)).0
-
-pub number-front : (s : Store) (i : ℕ) → 0 ≡ stop_of (needs 1 (front s i)) → kind (first (front s i)) ≡ 1
-number-front s i q = kind_of-first (front s i) (some-front s i 1 q) (unstopped (needs 1 (front s i)) (sym q)).1
 
 -- ---- the bytes of an expression
 
@@ -68,16 +61,6 @@ module _ {σ : State} {i : ℕ} {x : List ℕ} (l : ExprLent σ i x) where
 
   pub leading : (length x ≡ 0 → ⊥) → Leading x
   leading z = record { fits = (next-component l.whole (omega (arith, z))).fits }
-
-  -- 52 and 53
-  pub none-there : (k : ℕ) → length x ≡ 0 → 52 ≡ stop_of (needs k (front s i))
-  none-there k z = rw (front-none z) refl
-
-  pub other-there : (k : ℕ) → (length x ≡ 0 → ⊥) → (kind (component_in x) ≡ k → ⊥) → 53 ≡ stop_of (needs k (front s i))
-  other-there k z w = rw (front-one z, ne_eqb (kind (component_in x)) k w) refl
-
-  pub right_there : (k : ℕ) → (length x ≡ 0 → ⊥) → kind (component_in x) ≡ k → 0 ≡ stop_of (needs k (front s i))
-  right_there k z w = rw (front-one z, eq-eqb (kind (component_in x)) k w) refl
 
   -- where there is a component
   module _ (f : filled (front s i) ≡ true) where

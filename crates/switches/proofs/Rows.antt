@@ -8,13 +8,11 @@ use lib.Dec.{leb, leb→le, T}
 use lib.IntN.{ℤ, pos, negsuc, nat_abs}
 use lib.ListN.{length}
 use lib.Signed.{lt_z}
-use borrow.Author.Tests.{le-leb}
 use Rattle.std.specs.Prelude.{Option, Some, None}
 use Rattle.std.proofs.Common.{ltb-true}
 use Rattle.std.proofs.lemmas.Option.{none-some, cond_some}
 use Rattle.lists.specs.ListLaws.{T-right}
 use Rattle.lists.specs.Lists.{filled}
-use Rattle.language.specs.Limits as limit
 use Rattle.language.specs.Program.{Entry, no_entry, target_of, meets}
 use Rattle.language.specs.Program.Arg.{nothing, switch}
 use Rattle.language.specs.Program.Op.{SZUKAJ}
@@ -22,8 +20,7 @@ use Rattle.language.specs.Values.{Component, Store, State, Inputs, chars, value}
 use Rattle.machine.specs.Arguments.{first, none, ask, ◌&◌, needs}
 use Rattle.machine.specs.Changes.{with_plus, minus, used}
 use Rattle.machine.specs.Effects.{Go, Row, relation, by_name, by_index, row}
-use Rattle.machine.specs.Effects.Go.{on, jump}
-use Rattle.machine.specs.Steps.{can_go}
+use Rattle.machine.specs.Effects.Go.{on}
 use Rattle.layout.specs.Table.{program_of}
 use Rattle.state.specs.Working.{HoldsState, Stands, on_store, nth, reading}
 use Rattle.state.proofs.Standing.{after-state}
@@ -33,23 +30,14 @@ use Rattle.table.specs.MetLaws.{keep-first, keep-filled}
 use Rattle.instructions.specs.Does.{Quiet, stop_of, Goes, DoesIn, GoesIn}
 use Rattle.instructions.proofs.Answers.{stop_by, unstopped, goes-stop, quiet-stop, quiet-done}
 use Rattle.instructions.proofs.Goings.{Yes, none-yes, answer-first, answer-outside, goes-made, goes-yes}
-use Rattle.jumps.specs.Jumps.{Led}
-use Rattle.jumps.proofs.Leading.{led-full}
-use Rattle.switches.specs.declared.Way.{Way}
-use Rattle.switches.specs.declared.Way.TheVariants.{Jump, Call}
-use Rattle.switches.specs.Switches.{going_by, missing, word_op, number_op, front, entries_at, first_met, is_met, met_entry, is_inside, numbered_entry, entry_goal, entry_row, Fronted, EntryGo, Switches, Goal}
+use Rattle.jumps.specs.Jumps.{Led, going_by}
+use Rattle.jumps.proofs.Leading.{can_lead, led-full}
+use Rattle.jumps.specs.declared.Way.{Way}
+use Rattle.jumps.specs.declared.Way.TheVariants.{Jump, Call}
+use Rattle.switches.specs.Switches.{missing, word_op, number_op, front, entries_at, first_met, is_met, met_entry, is_inside, numbered_entry, entry_goal, entry_row, Fronted, EntryGo, Switches, Goal}
 use Rattle.switches.proofs.Fronts.{some-front, many}
 
 -- ---- going by an entry
-
-can_lead : (way : Way) (t : ℕ) (st : List ℕ) → can_go (going_by way t) st ≡ true
-can_lead Jump t st = refl
-can_lead Call t st = refl
-
--- a jump is always made, and leaves the store as it is
-pub led-jump : {σ σ' : State} {t : ℕ} → HoldsState σ' (going (jump t) σ) → Led σ (jump t) 0 σ'
-unfolding going
-led-jump {σ} h = let q = le-leb (length σ.stack) limit.stack h.fine.stack_most in record { is = rw q refl; holds = rw q h }
 
 pub kept-store : {σ' s : State} → HoldsState σ' s → HoldsState σ' (on_store (missing Jump) s)
 unfolding on_store

@@ -11,7 +11,6 @@ use Rattle.layout.specs.Table.{program_of, good_table}
 use Rattle.machine.specs.Arguments.{expr, first, none, needs}
 use Rattle.machine.specs.Changes.{used, with_plus}
 use Rattle.machine.specs.Effects.{Go, Row}
-use Rattle.machine.specs.Effects.Go.{jump, call}
 use Rattle.packed.specs.Packed.{table_of}
 use Rattle.state.specs.Working.{nth, reading}
 use Rattle.table.specs.Good.{GoodSwitch}
@@ -19,14 +18,10 @@ use Rattle.table.specs.Reads.{switch_size}
 use Rattle.instructions.specs.Does.{stop_of}
 use Rattle.instructions.specs.Questions.{told_by}
 use Rattle.instructions.specs.declared.Question.{Question}
-use Rattle.switches.specs.declared.Way.{Way}
-use Rattle.switches.specs.declared.Way.TheVariants.{Jump, Call}
+use Rattle.jumps.specs.declared.Way.{Way}
+use Rattle.jumps.specs.declared.Way.TheVariants.{Jump, Call}
 
--- jumps and calls: how they go on, what the store is where none is met, and the operators by a word and by a number
-abbrev pub going_by : Way → ℕ → Go
-going_by Jump = jump
-going_by Call = call
-
+-- jumps and calls: what the store is where none is met, and the operators by a word and by a number
 abbrev pub missing : Way → Store → Store
 missing Jump s = s
 missing Call s = with_plus false s

@@ -1,52 +1,29 @@
 // Instructions with a switch: jumps and calls by a word or a number, and SZUKAJ.
 #![tactic(auto)]
 
-ghost use Rattle.std.specs.Prelude.{◌≡◌, ◌<◌, suc};
+ghost use Rattle.std.specs.Prelude.{◌<◌, suc};
 ghost use Rattle.language.specs.Limits as limit;
 ghost use Rattle.language.specs.Program.Arg.{nothing, switch as by-switch};
 ghost use Rattle.language.specs.Program.Op.{SZUKAJ};
 ghost use Rattle.layout.specs.Table.{program_of};
-ghost use Rattle.machine.specs.Arguments.{needs};
 ghost use Rattle.machine.specs.Changes.{used};
 ghost use Rattle.machine.specs.Effects.{row};
 ghost use Rattle.machine.specs.Effects.Go.{on};
-ghost use Rattle.components.specs.Parts.{kind_number};
 ghost use Rattle.state.specs.Working.{HoldsState, on_store, nth, reading};
 ghost use Rattle.control.specs.Going.{going};
 ghost use Rattle.instructions.specs.Questions.{told_by};
-ghost use Rattle.instructions.specs.Does.{stop_of, Goes, DoesIn, GoesIn};
-ghost use Rattle.jumps.specs.Jumps.{Led};
-ghost use Rattle.switches.specs.Switches.{going_by, word_op, number_op, front, entry_row, Fronted, Entered, EntryGo, Looks, Switches, FindsEntry, NumbersEntry, missing, Goal};
+ghost use Rattle.instructions.specs.Does.{Goes, DoesIn, GoesIn};
+ghost use Rattle.jumps.specs.Jumps.{going_by};
+ghost use Rattle.switches.specs.Switches.{word_op, number_op, entry_row, Fronted, Entered, EntryGo, Looks, Switches, FindsEntry, NumbersEntry, missing, Goal};
 
-use components::{Kind, ZERO};
+use components::{Amount, Kind, ZERO};
 use instructions::{Question, Source};
+use jumps::Way;
 use state::Working;
 use table::Table;
 
 // The code of 1, the number of the first entry.
 const FIRST: usize = ZERO + 1;
-
-// How an instruction goes to an entry.
-#[derive(Clone, Copy, PartialEq, Eq, Debug)]
-pub enum Way {
-    Jump,
-    Call,
-}
-
-// Whether expression `i` has a component (52), and in front one of this kind (53).
-fn ask_front(state: &Working, i: usize, kind: Kind) -> Result<(), Question>
-    requires { i < limit.expressions }
-    ensures { told_by result ≡ stop_of (needs (kind_number kind) (front state.now.store i)) }
-{
-    let x = state.expr_bytes(i);
-    if x.is_empty() {
-        return Err(Question::Missing);
-    }
-    if components::kind_of(x) != kind {
-        return Err(Question::Kind);
-    }
-    Ok(())
-}
 
 // Uses the component in front of an expression.
 fn use_front(state: &mut Working, source: Source)
@@ -54,9 +31,14 @@ fn use_front(state: &mut Working, source: Source)
     ensures { HoldsState state.new (on_store (used (nth (reading source.removes) source.i)) state.old) }
 {
     let x = state.expr_bytes(source.i);
-    let size = components::first_size(x);
+    let bytes = components::first_size(x);
     let chars = components::chars_of(x).len();
-    state.past_parts(source.i, source.removes, 1, size, chars);
+    let first = Amount {
+        parts: 1,
+        bytes,
+        chars,
+    };
+    state.past_parts(source, first);
 }
 
 // The first entry of a switch that is met by the word in front of expression `i`.
@@ -64,8 +46,8 @@ fn find(table: Table, state: &Working, i: usize, switch: usize) -> Result<Option
     requires { Looks table.cells.now i switch }
     ensures { FindsEntry table.entry.cells.now switch state.now.store i result }
 {
-    ask_front(state, i, Kind::Word)?;
-    let w = components::chars_of(state.expr_bytes(i));
+    let x = instructions::front_of(state, i, Kind::Word)?;
+    let w = components::chars_of(x);
     let first = table.switch_first(switch);
     let count = table.switch_count(switch);
     Ok(table.find_entry(first, count, w))
@@ -81,8 +63,8 @@ fn entry_by(
     requires { Looks table.cells.now i switch }
     ensures { NumbersEntry table.entry.cells.now switch state.now.store i result }
 {
-    ask_front(state, i, Kind::Number)?;
-    let v = components::number_of(state.expr_bytes(i));
+    let x = instructions::front_of(state, i, Kind::Number)?;
+    let v = components::number_of(x);
     if v < FIRST {
         return Ok(None);
     }
@@ -102,21 +84,6 @@ fn goal(table: Table, switch: usize, j: usize) -> usize
     table.target(table.entry_label(e))
 }
 
-// Jumps to instruction `t`, or calls it.
-fn lead(state: &mut Working, way: Way, t: usize) -> Result<(), Question>
-    requires following { suc state.old.next < limit.instructions }
-    requires below { t < limit.instructions }
-    ensures { Led state.old (going_by way t) (told_by result) state.new }
-{
-    match way {
-        Way::Jump => {
-            control::go_to(state, t);
-            Ok(())
-        }
-        Way::Call => jumps::call(state, t),
-    }
-}
-
 // Goes by entry `j`.
 fn go_by(
     table: Table,
@@ -130,7 +97,7 @@ fn go_by(
     ensures { Goes state.old (told_by result) state.new (entry_row (going_by way) table.entry.cells.now switch j state.old.store source.removes source.i) }
 {
     state.stands();
-    lead(state, way, goal(table, switch, j))?;
+    jumps::lead(state, way, goal(table, switch, j))?;
     use_front(state, source);
     Ok(())
 }

@@ -3,7 +3,7 @@
 
 // Of `characters`, passed on to the crates above.
 pub mod from_characters {
-    pub use language::from_characters::{MARKS, is_capital, is_digit, is_known};
+    pub use language::from_characters::{is_capital, is_digit, is_known};
 }
 
 // Of `language`, passed on to the crates above.

@@ -1,24 +1,28 @@
 -- What the cell of an argument says, for each kind.
 use mathlib.Core.Path.{◌≡◌, refl, sym, ap, ◌∙◌}
 use mathlib.Core.List.{List}
-use Prim.Native.Nat.{ℕ, zero, suc, ◌+◌, ◌-◌, ◌*◌, ◌/◌, ◌%◌, ◌≤◌, ◌<◌}
+use Prim.Native.Nat.{ℕ, ◌+◌, ◌-◌, ◌*◌, ◌/◌, ◌%◌, ◌≤◌, ◌<◌}
 use native.Mathlib.Nat.{add-mul-div_left, add-mul-mod_self_left}
 use native.Mathlib.Omega.{arith}
-use lib.ListN.{get_or, get_or-eq_default, length, take, drop, length-take}
+use lib.ListN.{get_or, get_or-eq_default, length, take, drop}
 use lib.Seq.{get_or-take}
 use borrow.Author.Tests.{lt-ltb, le-ltb, ne_eqb}
 use Rattle.packed.specs.Below.Letters as letters
 use Rattle.packed.specs.Below.Program.{Arg}
 use Rattle.packed.specs.Below.Program.Arg.{nothing, letter, label, switch, class, text}
 use Rattle.packed.specs.Below.LayoutCells.{cell, uncode}
-use Rattle.packed.specs.Below.Table.{arg_in, arg_by, class_by, number_by}
+use Rattle.std.specs.Prelude.{Result, Ok, Err}
+use Rattle.std.specs.Result.{result_unwrap_or}
+use Rattle.packed.specs.Below.Table.{letter_place, arg_in, arg_by, class_by, number_by}
 use Rattle.packed.specs.Below.LayoutPlaces as layout
 use Rattle.std.proofs.lemmas.List.{drop-take, take-take, take_rest}
 use Rattle.packed.specs.Packed.{table_of}
 use Rattle.table.specs.Denote.{letter_of, letter_at, ref_by, text_of}
 use Rattle.table.specs.Reads.{IsArgument}
 use Rattle.table.specs.ReadLaws.{text-referred}
+use Rattle.table.specs.LetterPlaces.{AtPlace}
 use Rattle.table.specs.declared.Letter.{Letter}
+use Rattle.table.specs.declared.NoLetter.{NoLetter}
 use Rattle.table.specs.declared.TextRef.{TextRef}
 use Rattle.table.specs.declared.Argument.TheVariants.{Nothing, Indexed, Label, Switch, Class, Text, Number}
 
@@ -32,24 +36,25 @@ row_in c at h =
     let e : at + (8192 - at) ≡ 8192 = omega arith in
     ap (take 15) (take_rest c at) ∙ sym (ap (take 15) (ap (λ n. drop at (take n c)) (sym e) ∙ drop-take at (8192 - at) c) ∙ take-take 15 (8192 - at) (drop at c) (omega arith))
 
-pub cell-past : (c : List ℕ) (k : ℕ) → 8192 ≤ k → cell (table_of c) k ≡ 0
-cell-past c k h = get_or-eq_default (table_of c) 0 {n = k} (rw length-take (omega arith))
+-- a letter at its place
+place-letter : (l : letters.Letter) → letter_at (letter_place l) ≡ l
+place-letter letters.Letter.A = refl
+place-letter letters.Letter.B = refl
+place-letter letters.Letter.C = refl
+place-letter letters.Letter.D = refl
+place-letter letters.Letter.E = refl
+place-letter letters.Letter.I = refl
+place-letter letters.Letter.N = refl
+place-letter letters.Letter.P = refl
+place-letter letters.Letter.Q = refl
+place-letter letters.Letter.T = refl
+place-letter letters.Letter.Y = refl
+place-letter letters.Letter.Z = refl
 
--- a place that has no letter of its own
-pub first-letter : (n : ℕ) → (n ≡ 1 → ⊥) → (n ≡ 2 → ⊥) → (n ≡ 3 → ⊥) → (n ≡ 4 → ⊥) → (n ≡ 5 → ⊥) → (n ≡ 6 → ⊥) → (n ≡ 7 → ⊥) → (n ≡ 8 → ⊥) → (n ≡ 9 → ⊥) → (n ≡ 10 → ⊥) → (n ≡ 11 → ⊥) → letter_at n ≡ letters.Letter.A
-first-letter zero a b c d e f g h i j k = refl
-first-letter (suc zero) a b c d e f g h i j k = absurd (a refl)
-first-letter (suc (suc zero)) a b c d e f g h i j k = absurd (b refl)
-first-letter (suc (suc (suc zero))) a b c d e f g h i j k = absurd (c refl)
-first-letter (suc (suc (suc (suc zero)))) a b c d e f g h i j k = absurd (d refl)
-first-letter (suc (suc (suc (suc (suc zero))))) a b c d e f g h i j k = absurd (e refl)
-first-letter (suc (suc (suc (suc (suc (suc zero)))))) a b c d e f g h i j k = absurd (f refl)
-first-letter (suc (suc (suc (suc (suc (suc (suc zero))))))) a b c d e f g h i j k = absurd (g refl)
-first-letter (suc (suc (suc (suc (suc (suc (suc (suc zero)))))))) a b c d e f g h i j k = absurd (h refl)
-first-letter (suc (suc (suc (suc (suc (suc (suc (suc (suc zero))))))))) a b c d e f g h i j k = absurd (i refl)
-first-letter (suc (suc (suc (suc (suc (suc (suc (suc (suc (suc zero)))))))))) a b c d e f g h i j k = absurd (j refl)
-first-letter (suc (suc (suc (suc (suc (suc (suc (suc (suc (suc (suc zero))))))))))) a b c d e f g h i j k = absurd (k refl)
-first-letter (suc (suc (suc (suc (suc (suc (suc (suc (suc (suc (suc (suc n)))))))))))) a b c d e f g h i j k = refl
+-- the letter at a place, and A where there is none
+pub placed_letter : (n : ℕ) (d : Letter) (r : Result Letter NoLetter) → AtPlace n r → letter_of d ≡ letters.Letter.A → letter_of (result_unwrap_or r d) ≡ letter_at n
+placed_letter n d (Ok l) h a = sym (place-letter (letter_of l)) ∙ ap letter_at h
+placed_letter n d (Err e) h a = a ∙ sym (get_or-eq_default letters.letters letters.Letter.A h)
 
 -- the numbers of the table's own, and those beyond
 pub small-number : (c : List ℕ) (v : ℕ) → v < 31 → uncode (v + 8388592) ≡ number_by c v

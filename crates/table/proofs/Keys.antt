@@ -1,25 +1,31 @@
 -- Entries that are met by a word.
+use Rattle.std.specs.declared.ops.Range.{Range}
+use denote.Param.Members.{Mut}
+use denote.Ref.{Bor}
+use Rattle.std.specs.Fn.{CalledAt}
+use Rattle.std.specs.Iterator.{YieldsThen}
+use Rattle.std.specs.List.{FoldsTo}
+use Rattle.std.specs.Option.{MatchOption}
+use Rattle.std.proofs.iter.Yields.{nat_range_steps}
+use Rattle.std.proofs.lemmas.Iterator.{first_from_Range}
 use mathlib.Core.Path.{◌≡◌, refl, sym, ap, ◌∙◌}
 use mathlib.Core.Bool.{Bool, true, false, ◌&&◌, ◌||◌}
 use mathlib.Core.List.{List, [], ◌∷◌}
-use Prim.Native.Nat.{ℕ, suc, ◌+◌, ◌≤◌, ◌<◌}
+use Prim.Native.Nat.{ℕ, zero, suc, ◌+◌, ◌≤◌, ◌<◌}
+use native.Mathlib.Nat.{not-suc-le-zero, le_of_suc-le-suc}
 use native.Mathlib.Omega.{arith}
-use native.Mathlib.Numerals.{add-one}
-use lib.Dec.{ltb}
-use lib.ListN.{length, get_or, drop, drop_of_length-le}
-use lib.Seq.{drop-cons}
+use lib.ListN.{length, get_or}
 use lib.Ieee.Bits.{is_true}
-use borrow.Author.Tests.{lt-ltb, le-ltb, ltb-false}
+use borrow.Author.Tests.{lt-ltb, le-ltb}
 use Rattle.std.specs.List.{position_or_len}
-use Rattle.std.specs.Prelude.{Option, Some, None, cond, not, position, unwrap_or}
-use Rattle.packed.specs.Below.ListLaws.{ahead-le}
+use Rattle.std.specs.Prelude.{⊤, Option, Some, None, cond, not, position}
 use Rattle.packed.specs.Below.Lists.{ahead, filled, bytes_equal}
 use Rattle.packed.specs.Below.Program.{Label, Entry, no_entry, label_at, meets}
 use Rattle.packed.proofs.Below.LayoutCellLaws.{length-tab, get_d-tab}
 use Rattle.packed.specs.Below.Table.{label_in, entry_in, program_of}
 use Rattle.packed.specs.Packed.{table_of}
 use Rattle.table.specs.Denote.{ref_by, text_of}
-use Rattle.table.specs.Reads.{entry_ref, Keyed, entries_from, met}
+use Rattle.table.specs.Reads.{entry_ref, Keyed, entries_from}
 use Rattle.table.specs.ReadLaws.{text-referred, label_is}
 use Rattle.table.specs.declared.TextRef.{TextRef}
 use Rattle.table.specs.declared.TextRef.TheVariants.{Empty}
@@ -49,23 +55,6 @@ module _ (c w : List ℕ) (e : ℕ) (keyed : Keyed c e) {l : ℕ} {s : TextRef} 
       ap (λ (b : Bool). b || named) (q ∙ ap (λ (y : List ℕ). bytes_equal y w) text_same) ∙ ap (λ (b : Bool). bytes_equal x.text w || b) by_name
       ∙ ap (λ (b : Bool). (b && bytes_equal x.text w) || label_met) (sym (is_true (filled x.text) (keyed.some (λ y. z (text-is ∙ ap ref_by y)))))
 
--- the first entry that is met: one turn of the search, its success and its end
-module _ {X : Type 0} (q : X → Bool) (d : X) (xs : List X) (k : ℕ) where
-  abbrev at_or_after : ℕ
-  at_or_after = k + ahead q (drop k xs)
-
-  ahead-by : (b : Bool) → k < length xs → q (get_or xs k d) ≡ b → ahead q (drop k xs) ≡ elim b [ true ↦ 0 | false ↦ suc (ahead q (drop (suc k) xs)) ]
-  ahead-by b h e = ap (ahead q) (drop-cons xs k d h) ∙ ap (λ (z : Bool). elim z as (λ y. ℕ) [ true ↦ 0 | false ↦ suc (ahead q (drop (suc k) xs)) ]) e
-
-  ahead-here : k < length xs → q (get_or xs k d) ≡ true → at_or_after ≡ k
-  ahead-here h e = omega (arith, ahead-by true h e)
-
-  ahead-later : k < length xs → q (get_or xs k d) ≡ false → at_or_after ≡ k + 1 + ahead q (drop (k + 1) xs)
-  ahead-later h e = omega (arith, ahead-by false h e, ap (λ (n : ℕ). ahead q (drop n xs)) (add-one k))
-
-  ahead-last : length xs ≤ k → at_or_after ≡ k
-  ahead-last h = rw (drop_of_length-le xs h) (omega arith)
-
 -- the place of the first that passes, by how many stand before it
 module _ {X : Type 0} (q : X → Bool) where
   ahead-place : (xs : List X) → ahead q xs ≡ position_or_len q xs
@@ -85,42 +74,73 @@ module _ {X : Type 0} (q : X → Bool) where
   pub place-none : (xs : List X) → length xs ≡ ahead q xs → None ≡ position q xs
   place-none xs e = sym (ap (λ (b : Bool). cond b (Some (position_or_len q xs)) None) (le-ltb (position_or_len q xs) (length xs) (omega (arith, e, ahead-place xs))))
 
-  place-or : (xs : List X) → unwrap_or (position q xs) (length xs) ≡ ahead q xs
-  place-or xs = go (ltb (position_or_len q xs) (length xs)) refl
-    where
-      go : (b : Bool) → ltb (position_or_len q xs) (length xs) ≡ b → unwrap_or (cond b (Some (position_or_len q xs)) None) (length xs) ≡ ahead q xs
-      go true e = sym (ahead-place xs)
-      go false e = omega (arith, ahead-place xs, ahead-le q xs, ltb-false _ _ e)
+-- none of the first k passes
+abbrev pub Missed : (ℕ → Bool) → ℕ → Type 0
+Missed hit k = (j : ℕ) → j < k → hit j ≡ false
 
-module _ (c w : List ℕ) (e n k : ℕ) where
+module _ {X : Type 0} (q : X → Bool) (d : X) where
+  here : (x : X) (xs : List X) → q x ≡ true → ahead q (x ∷ xs) ≡ 0
+  here x xs e = ap (λ (b : Bool). elim b as (λ y. ℕ) [ true ↦ 0 | false ↦ suc (ahead q xs) ]) e
+
+  later : (x : X) (xs : List X) → q x ≡ false → ahead q (x ∷ xs) ≡ suc (ahead q xs)
+  later x xs e = ap (λ (b : Bool). elim b as (λ y. ℕ) [ true ↦ 0 | false ↦ suc (ahead q xs) ]) e
+
+  ahead-at : (xs : List X) (k : ℕ) → k < length xs → Missed (λ j. q (get_or xs j d)) k → q (get_or xs k d) ≡ true → k ≡ ahead q xs
+  ahead-at [] k h m e = absurd (not-suc-le-zero h)
+  ahead-at (x ∷ xs) zero h m e = sym (here x xs e)
+  ahead-at (x ∷ xs) (suc k) h m e =
+      ap suc (ahead-at xs k (le_of_suc-le-suc h) (λ j l. m (suc j) (omega arith)) e) ∙ sym (later x xs (m 0 (omega arith)))
+
+  ahead_past : (xs : List X) → Missed (λ j. q (get_or xs j d)) (length xs) → length xs ≡ ahead q xs
+  ahead_past [] m = refl
+  ahead_past (x ∷ xs) m = ap suc (ahead_past xs (λ j l. m (suc j) (omega arith))) ∙ sym (later x xs (m 0 (omega arith)))
+
+  -- hit j is the test of element j
+  module _ (xs : List X) (hit : ℕ → Bool) (tests : (j : ℕ) → j < length xs → hit j ≡ q (get_or xs j d)) where
+    pub found_at : (k : ℕ) → k < length xs → Missed hit k → hit k ≡ true → Some k ≡ position q xs
+    found_at k h m e = place-some q xs k h (ahead-at xs k h (λ j l. sym (tests j (omega arith)) ∙ m j l) (sym (tests k h) ∙ e))
+
+    pub found_none : (n : ℕ) → n ≡ length xs → Missed hit n → None ≡ position q xs
+    found_none n e m = place-none q xs (ahead_past xs (λ j l. sym (tests j l) ∙ m j (omega (arith, e))))
+
+-- what `(0..n).find(..)` answers, of a closure that answers at k what is hit
+module _ {F : Type 0} (g : Mut F (Bor ℕ × Unit {0}) Bool) (closure : F) where
+  abbrev pub FindRan : ℕ → Range ℕ → Option ℕ → Type 0
+  FindRan n u r =
+      (xs : List ℕ) × (j : F) × YieldsThen nat_range_steps (record { start = 0; end = n }) xs r u × FoldsTo (λ p x q. CalledAt g p x false q) closure xs j
+      × MatchOption r ⊤ (λ x. (h : F) × CalledAt g j x true h)
+
+  abbrev pub FindsBy : (ℕ → Bool) → Type 0
+  FindsBy hit = (x : ℕ) (b : Bool) (q : F) → CalledAt g closure x b q → (q ≡ closure) × (b ≡ hit x)
+
+-- r is the first of the numbers below n that is hit
+abbrev pub FirstHit : (ℕ → Bool) → ℕ → Option ℕ → Type 0
+FirstHit hit n r = MatchOption r (Missed hit n) (λ k. (k < n) × (hit k ≡ true) × Missed hit k)
+
+pub first_hit : {F : Type 0} {g : Mut F (Bor ℕ × Unit {0}) Bool} (hit : ℕ → Bool) (n : ℕ) (closure : F) (u : Range ℕ) (r : Option ℕ) → FindRan g closure n u r → FindsBy g closure hit → FirstHit hit n r
+first_hit hit n closure u r ran tests =
+    go r (first_from_Range _ u closure r (λ k. hit k ≡ true) (λ k. hit k ≡ false) ran (λ x q e. sym (tests x true q e).1) (λ x q e. ((tests x false q e).0, sym (tests x false q e).1)))
+  where
+    go : (o : Option ℕ) → MatchOption o ((k : ℕ) → 0 ≤ k → k < n → hit k ≡ false) (λ i. (0 ≤ i) × (i < n) × (hit i ≡ true) × ((k : ℕ) → 0 ≤ k → k < i → hit k ≡ false)) → FirstHit hit n o
+    go None h = λ k l. h k (omega arith) l
+    go (Some i) h = (h.1, h.2, λ k l. h.3 k (omega arith) l)
+
+module _ (c w : List ℕ) (e n : ℕ) where
   abbrev entries : List Entry
   entries = entries_from (table_of c) e n
 
   abbrev is_met : Entry → Bool
   is_met x = meets (program_of c) x w
 
-  -- where the search stands before entry k
-  abbrev pub Searched : Type 0
-  Searched = met c w entries ≡ k + ahead is_met (drop k entries)
+  abbrev pub entry_hit : ℕ → Bool
+  entry_hit k = is_met (entry_in (table_of c) (e + k))
 
   long_enough : length entries ≡ n
   long_enough = length-tab n (λ j. entry_in (table_of c) (e + j))
 
-  met-here : k < n → (b : Bool) → b ≡ is_met (entry_in (table_of c) (e + k)) → is_met (get_or entries k no_entry) ≡ b
-  met-here h b f = ap is_met (get_d-tab n (λ j. entry_in (table_of c) (e + j)) k no_entry h) ∙ sym f
+  entry-tests : (k : ℕ) → k < length entries → entry_hit k ≡ is_met (get_or entries k no_entry)
+  entry-tests k l = ap is_met (sym (get_d-tab n (λ j. entry_in (table_of c) (e + j)) k no_entry (omega (arith, l, long_enough))))
 
-  pub search-found : Searched → k < n → true ≡ is_met (entry_in (table_of c) (e + k)) → Some k ≡ position is_met entries
-  search-found s h f = place-some is_met entries k (rw long_enough h) (sym (s ∙ ahead-here is_met no_entry entries k (rw long_enough h) (met-here h true f)))
-
-  pub search-end : Searched → k ≡ n → None ≡ position is_met entries
-  search-end s h = place-none is_met entries (long_enough ∙ sym h ∙ sym (s ∙ ahead-last is_met no_entry entries k (omega (arith, long_enough))))
-
--- the entry met, or the count where there is none
-pub met_or : (c w : List ℕ) (e n : ℕ) {o : Option ℕ} {v : ℕ} → o ≡ position (λ x. meets (program_of c) x w) (entries_from (table_of c) e n) → v ≡ unwrap_or o n
-    → v ≡ met c w (entries_from (table_of c) e n)
-met_or c w e n {o} {v} f g =
-    g ∙ ap (λ (p : Option ℕ). unwrap_or p n) f ∙ ap (unwrap_or (position (is_met c w e n 0) (entries c w e n 0))) (sym (long_enough c w e n 0)) ∙ place-or (is_met c w e n 0) (entries c w e n 0)
-
-pub search-on : (c w : List ℕ) (e n k : ℕ) → Searched c w e n k → k < n → false ≡ meets (program_of c) (entry_in (table_of c) (e + k)) w → Searched c w e n (k + 1)
-search-on c w e n k s h f =
-    s ∙ ahead-later (is_met c w e n k) no_entry (entries c w e n k) k (rw (long_enough c w e n k) h) (met-here c w e n k h false f)
+  pub entry_found : (r : Option ℕ) → FirstHit entry_hit n r → r ≡ position is_met entries
+  entry_found None h = found_none is_met no_entry entries entry_hit entry-tests n (sym long_enough) h
+  entry_found (Some k) h = found_at is_met no_entry entries entry_hit entry-tests k (omega (arith, h.0, long_enough)) h.2 h.1

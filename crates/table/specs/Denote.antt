@@ -1,5 +1,5 @@
 -- What the enums of the program table stand for: a letter, and an argument of the program that the cells c read as.
-use Rattle.std.specs.Prelude.{cond, ◌||◌, List, [], ◌∷◌, ℕ, ◌-◌, eqb, ltb, get_or}
+use Rattle.std.specs.Prelude.{Bool, cond, ◌&&◌, ◌||◌, List, [], ◌∷◌, ℕ, ◌+◌, ◌-◌, eqb, leb, ltb, get_or}
 use Rattle.packed.specs.Below.Characters.{is_capital}
 use Rattle.packed.specs.Below.Letters as letters
 use Rattle.packed.specs.Below.Program.{Arg}
@@ -31,9 +31,19 @@ letter_of Z = letters.Letter.Z
 abbrev pub letter_at : ℕ → letters.Letter
 letter_at n = get_or letters.letters n letters.Letter.A
 
+-- whether the number of a code is within 15 in size
+abbrev pub is_small : ℕ → Bool
+is_small v = leb 8388592 v && leb v 8388622
+
 -- what a number in a cell refers to, and the text of a reference
 abbrev pub ref_by : ℕ → TextRef
 ref_by v = cond (eqb v 0) Empty (cond (ltb v 256) (Byte v) (Place (v - 256)))
+
+-- the number that refers to a text
+abbrev pub ref_number : TextRef → ℕ
+ref_number Empty = 0
+ref_number (Byte b) = b
+ref_number (Place k) = 256 + k
 
 abbrev pub text_of : List ℕ → TextRef → List ℕ
 text_of c Empty = []

@@ -7,3 +7,4 @@ pub mod LetterLaws
 pub mod FormLaws
 pub mod MetLaws
 pub mod Below
+pub mod LetterPlaces

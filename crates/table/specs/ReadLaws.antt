@@ -1,14 +1,24 @@
 -- The program of a lent table, part by part: what stands in its lists is what the readers read.
-use Rattle.std.specs.Prelude.{◌≡◌, refl, Bool, true, false, cond, List, [], ◌∷◌, ℕ, ◌-◌, ◌<◌, eqb, ltb, length}
-use Rattle.std.proofs.Common.{arith}
+use Rattle.std.specs.Prelude.{◌≡◌, refl, Bool, true, false, not, ◌&&◌, ◌||◌, cond, List, [], ◌∷◌, ℕ, ◌-◌, ◌<◌, eqb, leb, ltb, length}
+use Rattle.std.proofs.Common.{sym, arith}
+use borrow.Author.Tests.{le-ltb, lt-ltb, leb-true, leb-false}
 use Rattle.packed.specs.Below.Program.{no_instr, no_label, no_switch, instr_at, label_at, switch_at}
 use Rattle.packed.proofs.Below.LayoutCellLaws.{length-tab, get_d-tab}
 use Rattle.packed.specs.Below.LayoutCells.{cell}
 use Rattle.packed.specs.Below.Table.{text_in, text_by, instr_in, label_in, switch_in, program_in, program_of}
 use Rattle.packed.specs.Packed.{table_of}
-use Rattle.table.specs.Denote.{ref_by, text_of}
+use Rattle.table.specs.Denote.{is_small, ref_by, text_of}
 use Rattle.table.specs.Reads.{Placed}
 use Rattle.table.specs.declared.TextRef.TheVariants.{Empty, Byte, Place}
+
+-- a number that is not small is beyond 15 in size, on either side
+pub not_small : (v : ℕ) → not (is_small v) ≡ (ltb v 8388592 || ltb 8388622 v)
+not_small v = go (leb 8388592 v) (leb v 8388622) refl refl
+  where
+    go : (a b : Bool) → leb 8388592 v ≡ a → leb v 8388622 ≡ b → not (a && b) ≡ (ltb v 8388592 || ltb 8388622 v)
+    go true true e f = sym (rw (le-ltb v 8388592 (leb-true _ _ e), le-ltb 8388622 v (leb-true _ _ f)) refl)
+    go true false e f = sym (rw (le-ltb v 8388592 (leb-true _ _ e), lt-ltb 8388622 v (leb-false _ _ f)) refl)
+    go false b e f = sym (rw (lt-ltb v 8388592 (leb-false _ _ e)) refl)
 
 -- the text that a number refers to, and where it stands
 pub text-referred : (t : List ℕ) (v : ℕ) → text_of t (ref_by v) ≡ text_by t v

@@ -5,10 +5,11 @@ ghost use Rattle.std.specs.Prelude.{◌≡◌, ◌+◌, ◌*◌, ◌%◌, ◌≤
 ghost use Rattle.packed.specs.Below.Lists.{bytes_equal};
 ghost use Rattle.packed.specs.Below.Program.{meets};
 ghost use Rattle.packed.specs.Below.Cells.{Number};
+ghost use Rattle.packed.specs.Below.Letters.{indices, use_of};
 ghost use Rattle.packed.specs.Below.LayoutCells.{cell, uncode};
 ghost use Rattle.packed.specs.Below.Table.{number_by, instr_in, label_in, switch_in, entry_in, program_of};
 ghost use Rattle.packed.specs.Packed.{table_of, Copied};
-ghost use Rattle.table.specs.Denote.{letter_of, letter_at, ref_by, text_of};
+ghost use Rattle.table.specs.Denote.{letter_of, letter_at, ref_by, ref_number, is_small, text_of};
 ghost use Rattle.table.specs.Reads.{Placed, Into, RefersTo, IsArgument, Operated, IsInstruction, switch_first, switch_size, entry_ref, Keyed, Entries, entries_from};
 ghost use Rattle.packed.specs.Below.Limits as limit;
 ghost use Rattle.packed.specs.Below.LayoutPlaces.{instruction_count, label_count, switch_count, entry_count, text_count, number_count, first_instruction};
@@ -71,24 +72,64 @@ pub struct Table<'a> {
     ghost long: { limit.table ≤ length cells.now },
 }
 
+// A number that is the place of no letter.
+#[derive(Clone, Copy, Debug, PartialEq, Eq)]
+pub struct NoLetter;
+
 // The letter at a place among the twelve.
+impl TryFrom<usize> for Letter {
+    ghost use Rattle.table.specs.LetterPlaces.{AtPlace};
+
+    type Error = NoLetter;
+
+    ghost try_from_gives = { AtPlace };
+
+    fn try_from(n: usize) -> Result<Letter, NoLetter> {
+        Ok(match n {
+            0 => Letter::A,
+            1 => Letter::B,
+            2 => Letter::C,
+            3 => Letter::D,
+            4 => Letter::E,
+            5 => Letter::I,
+            6 => Letter::N,
+            7 => Letter::P,
+            8 => Letter::Q,
+            9 => Letter::T,
+            10 => Letter::Y,
+            11 => Letter::Z,
+            _ => return Err(NoLetter),
+        })
+    }
+}
+
+impl Letter {
+    // How far the indices of a letter go.
+    pub fn reach(self) -> usize
+        ensures { (result ≡ indices (use_of (letter_of self)).var) × (result ≤ 32) }
+    {
+        match self {
+            Letter::I => Machine::INPUTS,
+            Letter::Q => Machine::OUTPUTS,
+            Letter::C | Letter::D | Letter::P => Machine::FILES,
+            Letter::A | Letter::B | Letter::E | Letter::N | Letter::T | Letter::Y | Letter::Z =>
+                Machine::EXPRESSIONS,
+        }
+    }
+}
+
+// The letter at a place, and A past the twelve.
 pub fn letter_by(n: u32) -> Letter
     ensures { letter_of result ≡ letter_at n }
 {
-    match n {
-        1 => Letter::B,
-        2 => Letter::C,
-        3 => Letter::D,
-        4 => Letter::E,
-        5 => Letter::I,
-        6 => Letter::N,
-        7 => Letter::P,
-        8 => Letter::Q,
-        9 => Letter::T,
-        10 => Letter::Y,
-        11 => Letter::Z,
-        _ => Letter::A,
-    }
+    Letter::try_from(n as usize).unwrap_or(Letter::A)
+}
+
+// Whether the number whose value + 8,388,607 is `code` is within ±15. Such a one stands in an argument's cell itself, any other in the table of numbers.
+pub fn is_small(code: u32) -> bool
+    ensures { result ≡ is_small code }
+{
+    (Machine::SIZE - Machine::SMALL..=Machine::SIZE + Machine::SMALL).contains(&(code as usize))
 }
 
 // The text that a number in a cell refers to: 0 is none, a byte its character, and 256 and more a place.
@@ -104,9 +145,23 @@ fn text_ref(v: u32) -> TextRef
     TextRef::Place((v - 256) as usize)
 }
 
+impl TextRef {
+    // The number that refers to the text in the cell of an argument or an entry.
+    pub fn number(self) -> usize
+        requires { ref_number self ≤ 384 }
+        ensures { result ≡ ref_number self }
+    {
+        match self {
+            TextRef::Empty => 0,
+            TextRef::Byte(b) => usize::from(b),
+            TextRef::Place(k) => 256 + k,
+        }
+    }
+}
+
 impl<'a> Table<'a> {
     // Cell `k`, and 0 past the table.
-    fn cell_at(self, k: usize) -> u32
+    pub fn cell_at(self, k: usize) -> u32
         ensures { result ≡ cell (table_of self.entry.cells.now) k }
     {
         self.cells[..Machine::TABLE].get(k).copied().unwrap_or(0)
@@ -362,11 +417,6 @@ impl<'a> Table<'a> {
         requires { Entries self.cells.now first count }
         ensures { result ≡ position (λ x. meets (program_of self.entry.cells.now) x word.now) (entries_from (table_of self.entry.cells.now) first count) }
     {
-        for k in 0..count {
-            if self.meets(first + k, word) {
-                return Some(k);
-            }
-        }
-        None
+        (0..count).find(|k| self.meets(first + *k, word))
     }
 }

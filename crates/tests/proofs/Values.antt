@@ -5,9 +5,9 @@ use mathlib.Core.List.{List, [], ◌∷◌, map, append-nil}
 use Prim.Native.Nat.{ℕ, suc, ◌+◌, ◌-◌, ◌≤◌, ◌<◌}
 use native.Mathlib.Omega.{arith}
 use lib.IntN.{ℤ}
+use lib.Dec.{eqb}
 use lib.ListN.{length, take, drop, length-take}
 use lib.Seq.{take_at}
-use borrow.Author.Tests.{ne_eqb}
 use Rattle.std.specs.Prelude.{Result, Ok, Err}
 use Rattle.std.proofs.lemmas.Result.{IfOk-at_ok, IfOk-weaker}
 use Rattle.lists.specs.Lists.{any, among}
@@ -16,7 +16,7 @@ use Rattle.language.specs.Program.{Arg}
 use Rattle.language.specs.Program.Arg.{letter, class, text}
 use Rattle.language.specs.Values.{Component, Store, State, Inputs, value, kind, same}
 use Rattle.language.specs.Values.Component.{word}
-use Rattle.machine.specs.Arguments.{expr, none, present, ◌&◌, test_asks, number_of, up_to, on_parts}
+use Rattle.machine.specs.Arguments.{expr, none, present, needs, ◌&◌, test_asks, number_of, up_to, on_parts}
 use Rattle.layout.specs.Bounds.{Encoded, WholeComponents}
 use Rattle.layout.specs.Cells.{cell, code, uncode}
 use Rattle.layout.proofs.ComponentLaws.{components_bytes-one, components-of, whole-components, next-component}
@@ -31,8 +31,9 @@ use Rattle.matching.specs.Tests.{first_chars}
 use Rattle.tests.specs.declared.Prepared.TheVariants.{Count, Class, Among}
 use Rattle.matching.proofs.OnChars.{chars-class, chars-text, chars-one, chars-any}
 use Rattle.instructions.specs.Questions.{question_number, told_by}
+use Rattle.instructions.proofs.Asking.{some}
 use Rattle.instructions.specs.declared.Question.{Question}
-use Rattle.instructions.specs.declared.Question.TheVariants.{Missing, Kind, Range}
+use Rattle.instructions.specs.declared.Question.TheVariants.{Missing, Range}
 use Rattle.instructions.specs.Does.{stop_of}
 use Rattle.components.proofs.FirstLaws.{copied-front, low, high, front-value}
 use Rattle.state.proofs.Fronts.{none-there, one-there}
@@ -130,11 +131,20 @@ module _ (s : Store) (g : List ℕ) where
         }
 
     -- N
-    pub count_none : es ≡ [] → Prepares s (nth N i) g (Err Missing)
-    count_none e = refused (nth N i) Missing (λ ins. rw e refl) (λ z. absurd (omega (arith, z)))
-
-    pub count-kind : {x : Component} {xs : List Component} → es ≡ x ∷ xs → (kind x ≡ 1 → ⊥) → Prepares s (nth N i) g (Err Kind)
-    count-kind {x} o k = refused (nth N i) Kind (λ ins. rw (o, ne_eqb (kind x) 1 k) refl) (λ z. absurd (omega (arith, z)))
+    pub count-refused : {q : Question} → question_number q ≡ stop_of (needs 1 (take 1 es)) → Prepares s (nth N i) g (Err q)
+    count-refused {q} e = go es refl
+      where
+        go : (xs : List Component) → es ≡ xs → Prepares s (nth N i) g (Err q)
+        go [] o =
+            let m : question_number q ≡ 52 = e ∙ rw o refl in
+            refused (nth N i) q (λ ins. m ∙ rw o refl) (λ z. absurd (omega (arith, z, m)))
+        go (x ∷ xs) o = by_kind (eqb (kind x) 1) refl
+          where
+            by_kind : (t : Bool) → eqb (kind x) 1 ≡ t → Prepares s (nth N i) g (Err q)
+            by_kind true k = absurd (some q (e ∙ rw (o, k) refl))
+            by_kind false k =
+                let m : question_number q ≡ 53 = e ∙ rw (o, k) refl in
+                refused (nth N i) q (λ ins. m ∙ rw (o, k) refl) (λ z. absurd (omega (arith, z, m)))
 
     pub count-number : {x : Component} {xs : List Component} {r : Result Prepared Question} → es ≡ x ∷ xs → kind x ≡ 1 → Prepares s (Arg.number (value x)) g r
         → Prepares s (nth N i) g r

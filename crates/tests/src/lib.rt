@@ -103,13 +103,7 @@ fn prepare_count(state: &Working, i: usize) -> Result<Prepared, Question>
     requires { i < limit.expressions }
     ensures { CountPrepares state.now.store i result }
 {
-    let x = state.expr_bytes(i);
-    if x.len() == 0 {
-        return Err(Question::Missing);
-    }
-    if components::kind_of(x) != Kind::Number {
-        return Err(Question::Kind);
-    }
+    let x = instructions::front_of(state, i, Kind::Number)?;
     prepare_number(components::number_of(x))
 }
 

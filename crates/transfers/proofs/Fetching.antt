@@ -105,19 +105,19 @@ module _ {σ : State} (h : Stands σ) (removes : Bool) {i : ℕ} (a : i < limit.
         (first_is rs r ts rs-is s (nth (filing removes) i) (nth (target reverses at_end) j) ∙ into-target reverses at_end j r.parts (then s))
 
     module _ {x : List ℕ} (y : Part f r.parts x) {t : Taken} (k : Took everything (components_in x) t) where
-      parts_is : t.parts ≡ total (λ c. 1) r.parts
+      parts_is : t.amount.parts ≡ total (λ c. 1) r.parts
       parts_is = (all-taken y k).parts_is
 
-      chars_is : t.chars ≡ char_count r.parts
+      chars_is : t.amount.chars ≡ char_count r.parts
       chars_is = (all-taken y k).chars_is
 
-      pub parts_most : t.parts ≤ 65536
+      pub parts_most : t.amount.parts ≤ 65536
       parts_most = omega (arith, (all-taken y k).parts_most, (all-taken y k).bytes_most, l.most)
 
-      pub chars_most : t.chars ≤ 65536
+      pub chars_most : t.amount.chars ≤ 65536
       chars_most = omega (arith, (all-taken y k).chars_most, (all-taken y k).bytes_most, l.most)
 
-      pub first : FirstRecords rs 1 (length x + 7) t.parts t.chars
+      pub first : FirstRecords rs 1 (length x + 7) t.amount.parts t.amount.chars
       first =
           rw rs-is
           (record {
@@ -136,19 +136,19 @@ module _ {σ : State} (h : Stands σ) (removes : Bool) {i : ℕ} (a : i < limit.
       abbrev ys : List Component
       ys = turned reverses r.parts
 
-      count_is : t.parts ≡ length ys
+      count_is : t.amount.parts ≡ length ys
       count_is = parts_is ∙ total-ones r.parts ∙ sym (turned-length reverses r.parts)
 
-      chars-are : t.chars ≡ char_count ys
+      chars-are : t.amount.chars ≡ char_count ys
       chars-are = chars_is ∙ sym (turned-total (λ c. length (chars c)) reverses r.parts)
 
-      components_then : components_held (then s) + t.parts ≡ components_held s + cond removes 0 t.parts
-      components_then = omega (arith, components-past s i 1 within first removes, removed-or-left removes t.parts)
+      components_then : components_held (then s) + t.amount.parts ≡ components_held s + cond removes 0 t.amount.parts
+      components_then = omega (arith, components-past s i 1 within first removes, removed-or-left removes t.amount.parts)
 
-      chars_then : chars_held (then s) + t.chars ≡ chars_held s + cond removes 0 t.chars
-      chars_then = omega (arith, chars-past s i 1 within first removes, removed-or-left removes t.chars)
+      chars_then : chars_held (then s) + t.amount.chars ≡ chars_held s + cond removes 0 t.amount.chars
+      chars_then = omega (arith, chars-past s i 1 within first removes, removed-or-left removes t.amount.chars)
 
-      module _ {c m : ℕ} (u : c ≡ cond removes 0 t.parts) (v : m ≡ cond removes 0 t.chars) where
+      module _ {c m : ℕ} (u : c ≡ cond removes 0 t.amount.parts) (v : m ≡ cond removes 0 t.amount.chars) where
         abbrev roomy : Bool
         roomy = leb (components_held s + c) limit.components && leb (chars_held s + m) limit.characters
 
@@ -169,7 +169,7 @@ module _ {σ : State} (h : Stands σ) (removes : Bool) {i : ℕ} (a : i < limit.
               }
 
           module _ {σ' : State} (g : HoldsState σ' (on_store then σ)) where
-            pub pobierz-writable : PartsWritable σ' j (take (length x) new) t.parts t.chars
+            pub pobierz-writable : PartsWritable σ' j (take (length x) new) t.amount.parts t.amount.chars
             unfolding on_store
             pobierz-writable =
                 let st = g.is in

@@ -101,20 +101,20 @@ module _ {σ : State} (h : Stands σ) (removes : Bool) {i : ℕ} (a : i < limit.
     took : Took everything xs t
     took = subst (λ (ys : List Component). Took everything ys t) l.is k
 
-    all_parts : length xs ≡ t.parts
+    all_parts : length xs ≡ t.amount.parts
     all_parts = ap (λ y. y.0) took.is
 
     some-there : filled xs ≡ true
     some-there = rw (sym l.is ∙ (next-component l.whole (omega (arith, z))).is) refl
 
-    all-taken : take t.parts xs ≡ xs
+    all-taken : take t.amount.parts xs ≡ xs
     all-taken = rw (← all_parts) (take-length xs)
 
-    pub first : FirstParts xs t.parts (length x) t.chars
-    first = record { most = omega (arith, all_parts); bytes_is = rw all-taken (ap length l.encoded.is); chars_is = took.chars_is }
+    pub first : FirstParts xs t.amount.parts t.amount.bytes t.amount.chars
+    first = record { most = omega (arith, all_parts); bytes_is = took.bytes_is; chars_is = took.chars_is }
 
     abbrev inserted : Store → Store
-    inserted u = stored (nth (filing b) j) (xs ∷ []) (then t.parts u)
+    inserted u = stored (nth (filing b) j) (xs ∷ []) (then t.amount.parts u)
 
     row_is : (g : Program) (ins : Inputs) → by g ins ≡ (none, minus_unless true (inserted s), on)
     row_is g ins = row_by removes g ins ∙ rw (some-there, all_parts) refl
@@ -122,32 +122,32 @@ module _ {σ : State} (h : Stands σ) (removes : Bool) {i : ℕ} (a : i < limit.
     within : i < length s.exprs
     within = rw h.fine.exprs_is a
 
-    records-stay : (r : Bool) → records_held (past (nth (reading r) i) t.parts s) ≡ records_held s
+    records-stay : (r : Bool) → records_held (past (nth (reading r) i) t.amount.parts s) ≡ records_held s
     unfolding past past_by
-    records-stay true = recorded-off s i t.parts within (λ r. 1)
+    records-stay true = recorded-off s i t.amount.parts within (λ r. 1)
     records-stay false = refl
 
-    last-stays : (r : Bool) → (past (nth (reading r) i) t.parts s).last ≡ s.last
+    last-stays : (r : Bool) → (past (nth (reading r) i) t.amount.parts s).last ≡ s.last
     unfolding past past_by put_expr with_exprs
     last-stays true = refl
     last-stays false = refl
 
-    pub lot : Lot s (then t.parts s) (xs ∷ []) 1 t.parts t.chars 1 (cond removes 0 t.parts) (cond removes 0 t.chars)
+    pub lot : Lot s (then t.amount.parts s) (xs ∷ []) 1 t.amount.parts t.amount.chars 1 (cond removes 0 t.amount.parts) (cond removes 0 t.amount.chars)
     lot =
         record {
           count = refl;
           parts_is = omega (arith, all_parts);
           chars_is = omega (arith, took.chars_is, ap char_count all-taken);
           all_ok = (l.encoded.all_ok, tt);
-          limited = limited-past s (fine-limited σ h.fine) (nth (reading removes) i) t.parts;
-          components_then = omega (arith, components-past s i t.parts within first removes, removed-or-left removes t.parts);
-          chars_then = omega (arith, chars-past s i t.parts within first removes, removed-or-left removes t.chars);
+          limited = limited-past s (fine-limited σ h.fine) (nth (reading removes) i) t.amount.parts;
+          components_then = omega (arith, components-past s i t.amount.parts within first removes, removed-or-left removes t.amount.parts);
+          chars_then = omega (arith, chars-past s i t.amount.parts within first removes, removed-or-left removes t.amount.chars);
           records_then = omega (arith, records-stay removes);
           last_is = last-stays removes;
         }
 
     total-held : (g : Component → ℕ) → total g xs ≤ held g s
-    total-held g = omega (arith, held-off s i t.parts within g, ap (total g) all-taken)
+    total-held g = omega (arith, held-off s i t.amount.parts within g, ap (total g) all-taken)
 
     pub few_bytes : length x ≤ 13312
     few_bytes =
@@ -161,21 +161,21 @@ module _ {σ : State} (h : Stands σ) (removes : Bool) {i : ℕ} (a : i < limit.
           h.fine.chars_most,
         )
 
-    pub parts-few : t.parts ≤ 65536
+    pub parts-few : t.amount.parts ≤ 65536
     parts-few = omega (arith, all_parts, total-ones xs, total-held (λ y. 1), h.fine.components_most)
 
-    pub chars-few : t.chars ≤ 65536
+    pub chars-few : t.amount.chars ≤ 65536
     chars-few = omega (arith, took.chars_most, took.bytes_most, ap length l.encoded.is, few_bytes)
 
-    module _ {c d' : ℕ} (u : c ≡ cond removes 0 t.parts) (v : d' ≡ cond removes 0 t.chars) where
+    module _ {c d' : ℕ} (u : c ≡ cond removes 0 t.amount.parts) (v : d' ≡ cond removes 0 t.amount.chars) where
       pub wstaw-stop : {r : ℕ} → r ≡ room_of s 1 c d' 1 → (r ≡ 0 → ⊥) → DoesFor σ r σ by
       wstaw-stop w y g ins =
           rw (row_is g ins)
-          (room-stop h none quiet_none refl (minus_unless true (inserted s)) 1 (cond removes 0 t.parts) (cond removes 0 t.chars) 1 (lot-fits lot b d true) (lot-last lot b d true) (rw (← u, ← v) w) y)
+          (room-stop h none quiet_none refl (minus_unless true (inserted s)) 1 (cond removes 0 t.amount.parts) (cond removes 0 t.amount.chars) 1 (lot-fits lot b d true) (lot-last lot b d true) (rw (← u, ← v) w) y)
 
       module _ (w : 0 ≡ room_of s 1 c d' 1) where
-        pub roomy : Roomy s 1 (cond removes 0 t.parts) (cond removes 0 t.chars) 1
-        roomy = has_room s 1 (cond removes 0 t.parts) (cond removes 0 t.chars) 1 (rw (← u, ← v) w)
+        pub roomy : Roomy s 1 (cond removes 0 t.amount.parts) (cond removes 0 t.amount.chars) 1
+        roomy = has_room s 1 (cond removes 0 t.amount.parts) (cond removes 0 t.amount.chars) 1 (rw (← u, ← v) w)
 
         pub recordable : {o : List ℕ} → length o ≡ 32768 → {m : ℕ} → m ≡ s.last → Recordable o (m + 1) x
         recordable ro q = record { room = omega (arith, few_bytes, ro); small = omega (arith, few_bytes); given = omega (arith, roomy.addresses, q); whole = l.whole }
@@ -186,11 +186,11 @@ module _ {σ : State} (h : Stands σ) (removes : Bool) {i : ℕ} (a : i < limit.
               one-encoded b s.last xs l.encoded.all_ok (omega (arith, few_bytes, ap length l.encoded.is)) roomy.addresses o
               (rw (← q, ← l.is) put) (ap length l.encoded.is)
 
-          module _ {σ' : State} (g : HoldsState σ' (on_store (then t.parts) σ)) where
-            pub wstaw-writable : RecordsWritable σ' j b (take (length x + 7) o') 1 t.parts t.chars
-            wstaw-writable = lot-writable lot b d σ (then t.parts) refl g new-record roomy
+          module _ {σ' : State} (g : HoldsState σ' (on_store (then t.amount.parts) σ)) where
+            pub wstaw-writable : RecordsWritable σ' j b (take (length x + 7) o') 1 t.amount.parts t.amount.chars
+            wstaw-writable = lot-writable lot b d σ (then t.amount.parts) refl g new-record roomy
 
             pub wstaw-done : {σ'' : State} → HoldsState σ'' (on_store (stored (nth (filing b) j) (bodies b (take (length x + 7) o'))) σ')
                 → DoesFor σ 0 σ'' by
             wstaw-done f g' ins =
-                rw (row_is g' ins, plus-same (inserted s)) (plain_done h inserted (lot-stored lot b d σ (then t.parts) refl g new-record f))
+                rw (row_is g' ins, plus-same (inserted s)) (plain_done h inserted (lot-stored lot b d σ (then t.amount.parts) refl g new-record f))

@@ -1,7 +1,7 @@
 // Between expressions and files: WSTAW and POBIERZ; and whether new records have room.
 #![tactic(auto)]
 
-ghost use Rattle.std.specs.Prelude.{◌≡◌, ◌<◌, cond};
+ghost use Rattle.std.specs.Prelude.{◌≡◌, ◌<◌};
 ghost use Rattle.language.specs.Limits as limit;
 ghost use Rattle.language.specs.Program.Arg.{nothing};
 ghost use Rattle.language.specs.Program.Op.{WSTAW, POBIERZ};
@@ -12,32 +12,19 @@ ghost use Rattle.instructions.specs.Does.{DoesFor};
 ghost use Rattle.instructions.specs.Operands as letters;
 ghost use Rattle.transfers.specs.Places.{room_of, Growing};
 
-use instructions::{Bench, Question, Source, Target};
+use components::Amount;
+use instructions::{Bench, FileTarget, Question, Source, Target};
 use language::Machine;
 use layout::StatePlaces;
 use state::Working;
 
-// What of `k` is added where it is taken away elsewhere or stays there.
-// Here and no method of `Source`: it is used only where room is asked for.
-pub fn left(removes: bool, k: usize) -> usize
-    ensures { result ≡ cond removes 0 k }
+// Whether so many records, so much in them and so many addresses more are within the limits.
+// Not `has_room_after` alone: records and addresses have limits of their own, and too many addresses are another question.
+pub fn room_for(state: &Working, records: usize, more: Amount, given: usize) -> Result<(), Question>
+    requires { Growing records more.parts more.chars given }
+    ensures { told_by result ≡ room_of state.now.store records more.parts more.chars given }
 {
-    if removes { 0 } else { k }
-}
-
-// Whether so many records, components, characters and addresses more are within the limits.
-// Four numbers and no struct: each caller has them apart and would build one for this call alone.
-pub fn room_for(
-    state: &Working,
-    records: usize,
-    parts: usize,
-    chars: usize,
-    given: usize,
-) -> Result<(), Question>
-    requires { Growing records parts chars given }
-    ensures { told_by result ≡ room_of state.now.store records parts chars given }
-{
-    if !instructions::has_room(state, parts, chars) {
+    if !instructions::has_room(state, more) {
         return Err(Question::Room);
     }
     if Machine::RECORDS < state.number(StatePlaces::RECORDS_SCALAR) + records {
@@ -49,11 +36,11 @@ pub fn room_for(
     Ok(())
 }
 
-// WSTAW to file `j`.
-pub fn wstaw(bench: &mut Bench, source: Source, turned: bool, j: usize) -> Result<(), Question>
+// WSTAW to a file.
+pub fn wstaw(bench: &mut Bench, source: Source, target: FileTarget) -> Result<(), Question>
     requires first { source.i < limit.expressions }
-    requires second { j < limit.files }
-    ensures { DoesFor bench.old.state (told_by result) bench.new.state (λ g ins. row g ins bench.old.state.store (nth (reading source.removes) source.i) (nth (filing turned) j) nothing WSTAW) }
+    requires second { target.j < limit.files }
+    ensures { DoesFor bench.old.state (told_by result) bench.new.state (λ g ins. row g ins bench.old.state.store (nth (reading source.removes) source.i) (nth (filing target.reverses) target.j) nothing WSTAW) }
 {
     let x = bench.state.expr_bytes(source.i);
     let n = x.len();
@@ -62,29 +49,17 @@ pub fn wstaw(bench: &mut Bench, source: Source, turned: bool, j: usize) -> Resul
         return Ok(());
     }
     let t = matching::count(x, matching::Test::All);
-    let parts = t.parts;
-    let chars = t.chars;
-    room_for(
-        &bench.state,
-        1,
-        left(source.removes, parts),
-        left(source.removes, chars),
-        1,
-    )?;
+    let amount = t.amount;
+    room_for(&bench.state, 1, source.amount_left(amount), 1)?;
     let last = bench.state.number(StatePlaces::LAST_SCALAR);
     records::put_record(&mut bench.hold, last + 1, x);
-    bench
-        .state
-        .past_parts(source.i, source.removes, parts, n, chars);
-    filing::write_records(
-        &mut bench.state,
-        j,
-        turned,
-        &bench.hold[..n + 7],
-        1,
-        parts,
-        chars,
-    );
+    bench.state.past_parts(source, amount);
+    let record = Amount {
+        parts: amount.parts,
+        bytes: n + 7,
+        chars: amount.chars,
+    };
+    filing::write_records(&mut bench.state, target, &bench.hold[..n + 7], 1, record);
     Ok(())
 }
 
@@ -103,28 +78,17 @@ pub fn pobierz(bench: &mut Bench, source: Source, target: Target) -> Result<(), 
     let x = records::contents_of(f);
     let n = x.len();
     let t = matching::count(x, matching::Test::All);
-    let parts = t.parts;
-    let chars = t.chars;
-    if !instructions::has_room(
-        &bench.state,
-        left(source.removes, parts),
-        left(source.removes, chars),
-    ) {
+    let amount = t.amount;
+    if !instructions::has_room(&bench.state, source.amount_left(amount)) {
         return Err(Question::Room);
     }
     components::copy(&mut bench.hold, x, target.reverses);
-    filing::past_records(
-        &mut bench.state,
-        &mut bench.given,
-        source.i,
-        source.removes,
-        1,
-        n + 7,
-        parts,
-        chars,
-    );
-    bench
-        .state
-        .write_parts(target.j, target.at_end, &bench.hold[..n], parts, chars);
+    let record = Amount {
+        parts: amount.parts,
+        bytes: n + 7,
+        chars: amount.chars,
+    };
+    filing::past_records(&mut bench.state, &mut bench.given, source, 1, record);
+    bench.state.write_parts(target, &bench.hold[..n], amount);
     Ok(())
 }

@@ -1,16 +1,18 @@
 // Writing a program table, "a table of 8,192 numbers of 32 bits", cell by cell while a text is read: the only code that writes its cells.
 // docs/LAYOUT.md has their places. A text or a number goes to its table before the argument that refers to it.
+// All take the lent slice and ask for its length: of a struct around a `&mut` it is not known, once that is let go, what the slice holds.
 #![tactic(auto)]
 
 ghost use Rattle.std.specs.Prelude.{◌≤◌, length, get_or};
 ghost use Rattle.writing.specs.Writing.{with_text, with_number, with_label, with_instr, with_switch, with_entry, with_argument, with_entry_label, label_of, Cleared, Changes, Writes, Room, WordRoom, LabelRoom, InstrRoom, SwitchRoom, EntryRoom, ArgumentAt, EntryAt, IsNumber, IsInstr, IsEntry, IsArg};
+ghost use Rattle.table.specs.Denote.{ref_number};
 ghost use Rattle.blocks.specs.Below.Limits as limit;
 ghost use Rattle.blocks.specs.Below.LayoutPlaces.{text_count, number_count};
 
 use blocks::from_cells;
 use blocks::from_language::Machine;
 use blocks::from_layout::TablePlaces;
-use table::Table;
+use table::{Table, TextRef};
 
 // Sets all cells to 0, which is the empty program.
 pub fn clear_table(table: &mut [u32])
@@ -74,7 +76,7 @@ pub fn put_instruction(table: &mut [u32], op: usize, line: usize, arguments: [us
     from_cells::write(table, TablePlaces::INSTRUCTION_COUNT, n + 1);
 }
 
-// Adds a switch, NAZWA or INDEKS, that has no entries yet.
+// Adds a switch, NAZWA or INDEKS, that has no entries yet. `named` is the program's `goes_by_name`, a Bool, so an enum would add a mapping.
 pub fn put_switch(table: &mut [u32], named: bool)
     requires { SwitchRoom table.old }
     ensures { Changes (with_switch named) table.old table.new }
@@ -89,15 +91,19 @@ pub fn put_switch(table: &mut [u32], named: bool)
     from_cells::write(table, TablePlaces::SWITCH_COUNT, n + 1);
 }
 
-// Adds an entry to the last switch: its label, and the reference of its text.
-pub fn put_entry(table: &mut [u32], label: usize, text: usize)
-    requires { EntryRoom table.old label text }
-    ensures { Writes (IsEntry label text) with_entry table.old table.new }
+// Adds an entry to the last switch: its label, and its text.
+pub fn put_entry(table: &mut [u32], label: usize, text: TextRef)
+    requires { EntryRoom table.old label (ref_number text) }
+    ensures { Writes (IsEntry label (ref_number text)) with_entry table.old table.new }
 {
     let n = Table { cells: table }.entries();
     let last = TablePlaces::FIRST_SWITCH - 1 + Table { cells: table }.switches();
     let switch = from_cells::read(table, last);
-    from_cells::write(table, TablePlaces::FIRST_ENTRY + n, label + 128 * text);
+    from_cells::write(
+        table,
+        TablePlaces::FIRST_ENTRY + n,
+        label + 128 * text.number(),
+    );
     from_cells::write(table, last, switch + 2);
     from_cells::write(table, TablePlaces::ENTRY_COUNT, n + 1);
 }

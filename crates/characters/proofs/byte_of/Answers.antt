@@ -1,10 +1,11 @@
 -- `characters::byte_of` meets its contract: the constant is the list of the definition.
-use mathlib.Core.Path.{sym}
-use Rattle.characters.proofs.Tables.{past, by_rank}
+use Rattle.std.proofs.Common.{rules, ◌≡◌, get_or}
+use Rattle.characters.specs.Characters.{ranked}
+use Rattle.characters.proofs.Tables.{by_rank}
 use Rattle.characters.proofs.byte_of.Goals as goal
 
-pub returns-then-r-gt-COUNT : goal.returns-then-r-gt-COUNT
-returns-then-r-gt-COUNT c = sym (past c.args.r c.if-r-gt-COUNT.true)
-
 pub returns : goal.returns
-returns c = by_rank c.args.r c.if-r-eq0.false
+returns c =
+    let k = c.in-Some.k in
+    let e : c.unwrap_or.result ≡ get_or ranked k 0 = search rules in
+    rw (by_rank c.args.r k c.in-Some.ensures.0 c.in-Some.ensures.1) e

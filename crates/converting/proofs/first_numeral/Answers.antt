@@ -1,35 +1,27 @@
 -- `converting::first_numeral` meets its contract.
-use Rattle.components.specs.declared.Kind.TheVariants.{Word}
-use Rattle.components.proofs.KindLaws.{other_kind, right_kind}
-use mathlib.Core.Path.{sym, ◌∙◌}
-use borrow.Author.Tests.{eqb-true, eqb-false}
-use Rattle.components.proofs.FirstLaws.{leading}
-use Rattle.converting.proofs.Numerals.{none_told, kind-told, wrong-told, over-told, code-told}
+use mathlib.Core.Path.{sym, ap, ◌∙◌}
+use Rattle.std.proofs.lemmas.Result.{err_from_is_err_and, IfOk-at_ok}
+use Rattle.instructions.specs.Questions.{told_by}
+use Rattle.instructions.proofs.Fronts.{leading}
+use Rattle.converting.proofs.Numerals.{front-refused, wrong-told, over-told, code-told}
 use Rattle.converting.proofs.first_numeral.Goals as goal
 
-pub returns-then-is_empty-clause-reads : goal.returns-then-is_empty-clause-reads
-returns-then-is_empty-clause-reads c = none_told c.expr_bytes-x.ensures (eqb-true _ _ (sym c.is_empty.ensures ∙ c.if-is_empty.true))
-
-pub kind_of-requires : goal.kind_of-requires
-kind_of-requires c = leading c.expr_bytes-x.ensures.whole (eqb-false _ _ (sym c.is_empty.ensures ∙ c.if-is_empty.false))
-
-pub returns-then-ne-clause-reads : goal.returns-then-ne-clause-reads
-returns-then-ne-clause-reads c = kind-told c.expr_bytes-x.ensures (eqb-false _ _ (sym c.is_empty.ensures ∙ c.if-is_empty.false)) (other_kind _ Word c.kind_of.ensures c.ne.ensures c.if-ne.true)
+pub returns-in_err-x : goal.returns-in_err-x
+returns-in_err-x c =
+    let e = err_from_is_err_and c.from_residual.result c.from_residual.ensures.1 in
+    let f = c.front_of.ensures in
+    rw (e.1, e.2) record { reads = front-refused _ (sym (ap told_by c.in_err-x.was) ∙ f.told); stands = f.stands }
 
 pub chars_of-w-requires : goal.chars_of-w-requires
-chars_of-w-requires c = leading c.expr_bytes-x.ensures.whole (eqb-false _ _ (sym c.is_empty.ensures ∙ c.if-is_empty.false))
+chars_of-w-requires c = leading (IfOk-at_ok _ c.in_ok-x.was c.front_of.ensures.is)
 
-pub returns-in-NotNumeral-clause-reads : goal.returns-in-NotNumeral-clause-reads
-returns-in-NotNumeral-clause-reads c =
-    wrong-told c.expr_bytes-x.ensures (eqb-false _ _ (sym c.is_empty.ensures ∙ c.if-is_empty.false)) (right_kind _ Word c.kind_of.ensures c.ne.ensures c.if-ne.false) c.chars_of-w.ensures
-    (sym c.read_decimal.ensures ∙ c.in-NotNumeral.is)
+pub returns-in-Err-NotNumeral-clause-reads : goal.returns-in-Err-NotNumeral-clause-reads
+returns-in-Err-NotNumeral-clause-reads c =
+    wrong-told (IfOk-at_ok _ c.in_ok-x.was c.front_of.ensures.is) c.chars_of-w.ensures (sym c.read_decimal.ensures ∙ rw c.in-Err-NotNumeral.field-0-is at c.in-Err-NotNumeral.is)
 
-pub returns-in-OutOfRange-clause-reads : goal.returns-in-OutOfRange-clause-reads
-returns-in-OutOfRange-clause-reads c =
-    over-told c.expr_bytes-x.ensures (eqb-false _ _ (sym c.is_empty.ensures ∙ c.if-is_empty.false)) (right_kind _ Word c.kind_of.ensures c.ne.ensures c.if-ne.false) c.chars_of-w.ensures
-    (sym c.read_decimal.ensures ∙ c.in-OutOfRange.is)
+pub returns-in-Err-OutOfRange-clause-reads : goal.returns-in-Err-OutOfRange-clause-reads
+returns-in-Err-OutOfRange-clause-reads c =
+    over-told (IfOk-at_ok _ c.in_ok-x.was c.front_of.ensures.is) c.chars_of-w.ensures (sym c.read_decimal.ensures ∙ rw c.in-Err-OutOfRange.field-0-is at c.in-Err-OutOfRange.is)
 
-pub returns-in-Code-clause-reads : goal.returns-in-Code-clause-reads
-returns-in-Code-clause-reads c =
-    code-told c.expr_bytes-x.ensures (eqb-false _ _ (sym c.is_empty.ensures ∙ c.if-is_empty.false)) (right_kind _ Word c.kind_of.ensures c.ne.ensures c.if-ne.false) c.chars_of-w.ensures
-    (sym c.read_decimal.ensures ∙ c.in-Code.is)
+pub returns-in-Ok-clause-reads : goal.returns-in-Ok-clause-reads
+returns-in-Ok-clause-reads c = code-told (IfOk-at_ok _ c.in_ok-x.was c.front_of.ensures.is) c.chars_of-w.ensures (sym c.read_decimal.ensures ∙ c.in-Ok.is)

@@ -1,4 +1,6 @@
 -- `copying::copy_taken` meets its contract.
+use mathlib.Core.Path.{ap}
+use Rattle.components.specs.declared.Amount.{Amount}
 use Rattle.layout.proofs.ComponentLaws.{whole-records}
 use Rattle.std.proofs.lemmas.Result.{err_from_is_err_and}
 use Rattle.instructions.proofs.Asking.{some}
@@ -16,14 +18,14 @@ returns-in_err-room_for c =
     let a = c.args in
     let e = err_from_is_err_and c.from_residual.result c.from_residual.ensures.1 in
     rw (e.1, e.2)
-    (copy-stop a.bench.now.state c.requires.source c.after_bytes-f.ensures (rw c.with.ensures.records at c.count-t.ensures) c.totals_of-v.ensures c.stands.ensures a.source.removes a.reverses c.requires.target
-    c.left.ensures c.left-2.ensures c.left-3.ensures c.in_err-room_for.ensures (some _))
+    (copy-stop a.bench.now.state c.requires.source c.after_bytes-f.ensures (rw c.with.ensures.records at c.count-t.ensures) c.totals_of-v.ensures c.stands.ensures a.source.removes a.target.reverses c.requires.target
+    c.left.ensures (ap (λ (r : Amount). r.parts) c.amount_left.ensures) (ap (λ (r : Amount). r.chars) c.amount_left.ensures) c.in_err-room_for.ensures (some _))
 
 pub restamp-requires : goal.restamp-requires
 restamp-requires c =
     let a = c.args in
-    copyable a.bench.now.state c.requires.source c.after_bytes-f.ensures (rw c.with.ensures.records at c.count-t.ensures) c.totals_of-v.ensures c.stands.ensures a.source.removes a.reverses c.requires.target
-    c.left.ensures c.left-2.ensures c.left-3.ensures c.in_ok-room_for.ensures c.number-last.ensures.is (search)
+    copyable a.bench.now.state c.requires.source c.after_bytes-f.ensures (rw c.with.ensures.records at c.count-t.ensures) c.totals_of-v.ensures c.stands.ensures a.source.removes a.target.reverses c.requires.target
+    c.left.ensures (ap (λ (r : Amount). r.parts) c.amount_left.ensures) (ap (λ (r : Amount). r.chars) c.amount_left.ensures) c.in_ok-room_for.ensures c.number-last.ensures.is (search)
 
 pub past_records-requires : goal.past_records-requires
 past_records-requires c = droppable c.args.bench.now.state c.requires.source c.after_bytes-f.ensures (rw c.with.ensures.records at c.count-t.ensures) c.totals_of-v.ensures
@@ -31,11 +33,11 @@ past_records-requires c = droppable c.args.bench.now.state c.requires.source c.a
 pub file_copies-requires : goal.file_copies-requires
 file_copies-requires c =
     let a = c.args in
-    copy-writable a.bench.now.state c.requires.source c.after_bytes-f.ensures (rw c.with.ensures.records at c.count-t.ensures) c.totals_of-v.ensures c.stands.ensures a.source.removes a.reverses c.requires.target
-    c.left.ensures c.left-2.ensures c.left-3.ensures c.in_ok-room_for.ensures c.number-last.ensures.is a.bench.now.hold c.restamp.ensures c.past_records.ensures
+    copy-writable a.bench.now.state c.requires.source c.after_bytes-f.ensures (rw c.with.ensures.records at c.count-t.ensures) c.totals_of-v.ensures c.stands.ensures a.source.removes a.target.reverses c.requires.target
+    c.left.ensures (ap (λ (r : Amount). r.parts) c.amount_left.ensures) (ap (λ (r : Amount). r.chars) c.amount_left.ensures) c.in_ok-room_for.ensures c.number-last.ensures.is a.bench.now.hold c.restamp.ensures c.past_records.ensures
 
 pub returns : goal.returns
 returns c =
     let a = c.args in
-    copy_done a.bench.now.state c.requires.source c.after_bytes-f.ensures (rw c.with.ensures.records at c.count-t.ensures) c.totals_of-v.ensures c.stands.ensures a.source.removes a.reverses c.requires.target
-    c.left.ensures c.left-2.ensures c.left-3.ensures c.in_ok-room_for.ensures c.number-last.ensures.is a.bench.now.hold c.restamp.ensures c.past_records.ensures c.file_copies.ensures
+    copy_done a.bench.now.state c.requires.source c.after_bytes-f.ensures (rw c.with.ensures.records at c.count-t.ensures) c.totals_of-v.ensures c.stands.ensures a.source.removes a.target.reverses c.requires.target
+    c.left.ensures (ap (λ (r : Amount). r.parts) c.amount_left.ensures) (ap (λ (r : Amount). r.chars) c.amount_left.ensures) c.in_ok-room_for.ensures c.number-last.ensures.is a.bench.now.hold c.restamp.ensures c.past_records.ensures c.file_copies.ensures

@@ -17,4 +17,4 @@ pub returns : goal.returns
 returns c =
     let t = c.count-t.result in
     gone c.args.state.now c.requires.source c.after_bytes-f.ensures c.count-t.ensures true
-    (one-after c.args.state.now (past (nth (filing true) c.args.i) t.records) (minus_unless t.reached) c.drop_records.ensures c.minus_unless.ensures)
+    (one-after c.args.state.now (past (nth (filing true) c.args.i) t.end.records) (minus_unless t.reached) c.drop_records.ensures c.minus_unless.ensures)

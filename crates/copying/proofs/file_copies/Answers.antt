@@ -8,4 +8,4 @@ use Rattle.copying.proofs.file_copies.Goals as goal
 pub returns : goal.returns
 returns c =
     let a = c.args in
-    one-after a.state.now (stored (nth (filing a.reverses) a.j) (bodies a.reverses a.new.now)) (minus_unless a.reached) c.write_records.ensures c.minus_unless.ensures
+    one-after a.state.now (stored (nth (filing a.target.reverses) a.target.j) (bodies a.target.reverses a.new.now)) (minus_unless a.reached) c.write_records.ensures c.minus_unless.ensures

@@ -13,4 +13,4 @@ pub returns : goal.returns
 returns c =
     let t = c.count-t.result in
     gone c.args.state.now c.requires.source c.after_bytes.ensures c.count-t.ensures false
-    (one-after c.args.state.now (past (nth (filing false) c.args.i) t.records) (minus_unless t.reached) c.pass_records.ensures c.minus_unless.ensures)
+    (one-after c.args.state.now (past (nth (filing false) c.args.i) t.end.records) (minus_unless t.reached) c.pass_records.ensures c.minus_unless.ensures)

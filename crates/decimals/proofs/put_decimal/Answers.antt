@@ -2,12 +2,12 @@
 use Rattle.decimals.proofs.Digits.{minus-put, plus-put}
 use Rattle.decimals.proofs.put_decimal.Goals as goal
 
-pub returns-then-code-lt8388607 : goal.returns-then-code-lt8388607
-returns-then-code-lt8388607 c =
+pub returns-then-code-lt-SIZE : goal.returns-then-code-lt-SIZE
+returns-then-code-lt-SIZE c =
     let a = c.args in
-    minus-put a.out.now a.code c.if-code-lt8388607.true c.requires.room c.put_digits.ensures
+    minus-put a.out.now a.code c.if-code-lt-SIZE.true c.requires.room c.put_digits.ensures
 
 pub returns : goal.returns
 returns c =
     let a = c.args in
-    plus-put a.out.now a.code c.if-code-lt8388607.false c.put_digits-2.ensures
+    plus-put a.out.now a.code c.if-code-lt-SIZE.false c.put_digits-2.ensures

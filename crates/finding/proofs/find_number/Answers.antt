@@ -1,29 +1,23 @@
 -- `finding::find_number` meets its contract.
 use native.Mathlib.Omega.{arith}
-use mathlib.Core.Path.{◌≡◌}
-use Prim.Native.Nat.{◌+◌}
-use lib.ListN.{get_or}
-use borrow.Author.Tests.{eq-eqb, ne_eqb}
-use Rattle.finding.proofs.Found.{missed_more, number_hit, number-found, number-none}
-use Rattle.layout.specs.Places as layout
+use borrow.Author.Tests.{tests}
+use lib.Dec.{eqb}
+use lib.ListN.{take, drop}
+use mathlib.Core.Path.{◌≡◌, ap, ◌∙◌}
+use Prim.Native.Nat.{ℕ, ◌+◌, ◌-◌}
+use Rattle.std.proofs.Common.{rules}
+use Rattle.std.specs.Prelude.{position}
+use Rattle.std.proofs.lemmas.Iterator.{YieldsList-from_slice}
+use Rattle.std.proofs.lemmas.Iterator.Search.{position_from_yields_List}
+use Rattle.layout.specs.Places.{first_number}
+use Rattle.finding.proofs.Found.{number-located}
 use Rattle.finding.proofs.find_number.Goals as goal
-
-pub bounds-table-k : goal.bounds-table-k
-bounds-table-k c =
-    omega (arith, c.numbers-k-end.ensures.is, c.requires.most, c.args.table.long)
-
-pub returns-then-table-k : goal.returns-then-table-k
-returns-then-table-k c =
-    let numbers = c.numbers-k-end in
-    let loop = c.loop-k in
-    number-found c.args.table.cells.now c.args.code numbers.result loop.k numbers.ensures.is (omega (arith, numbers.ensures.is, c.requires.most)) loop.invariant c.loop-k-test.true (eq-eqb (get_or c.args.table.cells.now (layout.first_number + loop.k) 0) c.args.code c.if-table-k.true)
-
-pub loop-k-preserved : goal.loop-k-preserved
-loop-k-preserved c =
-    let loop = c.loop-k in
-    missed_more (number_hit c.args.table.cells.now c.args.code) loop.k loop.invariant (ne_eqb (get_or c.args.table.cells.now (layout.first_number + loop.k) 0) c.args.code c.if-table-k.false)
 
 pub returns : goal.returns
 returns c =
-    let e : c.loop-k.k ≡ c.numbers-k-end.result = omega arith in
-    number-none c.args.table.cells.now c.args.code c.numbers-k-end.result c.numbers-k-end.ensures.is (rw e at c.loop-k.invariant)
+    let n : ℕ = c.numbers.result in
+    let z : first_number + n - first_number ≡ n = omega arith in
+    let e = position_from_yields_List (λ x. eqb x c.args.code) _ _ c.position.result c.position.ensures.ran (YieldsList-from_slice _ c.iter.ensures.rest) (λ x b q k. search (rules, tests)) in
+    number-located c.args.table.cells.now c.args.code c.numbers.ensures.is (omega (arith, c.numbers.ensures.is, c.requires.most))
+    (omega (arith, c.numbers.ensures.is, c.requires.most, c.args.table.long))
+    (e ∙ ap (λ (m : ℕ). position (λ x. eqb x c.args.code) (take m (drop first_number c.args.table.cells.now))) z)

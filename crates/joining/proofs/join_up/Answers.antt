@@ -39,7 +39,7 @@ pub deliver-requires : goal.deliver-requires
 deliver-requires c =
     let x = c.expr_bytes-x.ensures in
     let r = sym c.has_word_room.ensures ∙ c.if-not-has_word_room.false in
-    writable x.stands c.requires.source x (rw c.with.ensures.parts at c.count-t.ensures) c.args.source.removes r c.join_word-n.ensures c.some.ensures c.past_parts.ensures
+    rw c.front.ensures (writable x.stands c.requires.source x (rw c.with.ensures.parts at c.count-t.ensures) c.args.source.removes r c.join_word-n.ensures c.some.ensures c.past_parts.ensures)
 
 pub returns : goal.returns
 returns c =
@@ -50,4 +50,4 @@ returns c =
     let n = c.join_word-n in
     done-right x.stands (joined_up (until_in argsᶜ.test argsᶜ.bench.now.given) from.removes from.i) (words_right x.stands c.requires.source x (rw c.with.ensures.parts at c.count-t.ensures) ∙ not-false t.result.words c.if-not-t.false)
     (joined-done x.stands c.requires.source x (rw c.with.ensures.parts at c.count-t.ensures) from.removes (sym c.has_word_room.ensures ∙ c.if-not-has_word_room.false) n.ensures
-    (one-after argsᶜ.bench.now.state (past (nth (reading from.removes) from.i) t.result.parts) (λ z. minus_unless t.result.reached (into (nth (writing false) from.i) (components_in (take n.result n.new.out)) z)) c.past_parts.ensures c.deliver.ensures))
+    (one-after argsᶜ.bench.now.state (past (nth (reading from.removes) from.i) t.result.amount.parts) (λ z. minus_unless t.result.reached (into (nth (writing false) from.i) (components_in (take n.result n.new.out)) z)) c.past_parts.ensures (rw c.front.ensures at c.deliver.ensures)))

@@ -1,14 +1,8 @@
 -- `matching::count_chars` meets its contract.
-use mathlib.Core.Path.{refl}
-use Rattle.characters.specs.Characters.{class_places}
 use Rattle.characters.specs.Below.Lists.{among}
 use Rattle.matching.specs.Tests.{in_class}
 use Rattle.matching.proofs.Counting.{chars-met}
 use Rattle.matching.proofs.count_chars.Goals as goal
-
-pub place_of_class-requires : goal.place_of_class-requires
-unfolding class_places
-place_of_class-requires c = refl
 
 pub returns-in-Class : goal.returns-in-Class
 returns-in-Class c = rw (c.in-Class.is, c.taken_to.ensures) (chars-met c.args.s.now _ (in_class c.in-Class.mask) c.place_of_class.ensures)

@@ -1,7 +1,6 @@
 -- `matching::of_class` meets its contract.
-use mathlib.Core.Path.{refl, sym, ap, ◌∙◌}
+use mathlib.Core.Path.{sym, ap, ◌∙◌}
 use mathlib.Core.List.{[]}
-use Rattle.characters.specs.Characters.{class_places}
 use Rattle.characters.specs.Below.Lists.{all}
 use Rattle.components.specs.Below.Table.{class_by}
 use Rattle.matching.specs.Tests.{in_class}
@@ -12,10 +11,6 @@ pub returns-then-x-eq0 : goal.returns-then-x-eq0
 returns-then-x-eq0 c =
     let a = c.args in
     sym (class-none (class_by [] a.mask) a.x.now c.if-x-eq0.true)
-
-pub all_in_class-requires : goal.all_in_class-requires
-unfolding class_places
-all_in_class-requires c = refl
 
 pub returns : goal.returns
 returns c =

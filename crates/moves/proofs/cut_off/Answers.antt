@@ -15,4 +15,4 @@ returns c =
     let x = c.expr_bytes-x.ensures in
     let t = c.count-t in
     gone-off x.stands c.requires.source x (rw c.with.ensures.parts at c.count-t.ensures)
-    (one-after argsᶜ.bench.now.state (past (nth (reading true) argsᶜ.i) t.result.parts) (minus_unless t.result.reached) c.drop_parts.ensures c.minus_unless.ensures)
+    (one-after argsᶜ.bench.now.state (past (nth (reading true) argsᶜ.i) t.result.amount.parts) (minus_unless t.result.reached) c.drop_parts.ensures c.minus_unless.ensures)

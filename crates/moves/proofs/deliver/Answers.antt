@@ -8,4 +8,4 @@ use Rattle.moves.proofs.deliver.Goals as goal
 pub returns : goal.returns
 returns c =
     let argsᶜ = c.args in
-    one-after argsᶜ.state.now (into (nth (writing argsᶜ.at_end) argsᶜ.j) (components_in argsᶜ.new.bytes.now)) (minus_unless argsᶜ.reached) c.write_parts.ensures c.minus_unless.ensures
+    one-after argsᶜ.state.now (into (nth (writing argsᶜ.target.at_end) argsᶜ.target.j) (components_in argsᶜ.new.now)) (minus_unless argsᶜ.reached) c.write_parts.ensures c.minus_unless.ensures

@@ -38,7 +38,7 @@ deliver-requires c =
     let t = c.count-t in
     let from = c.args.source in
     let to = c.args.target in
-    let held = held-turned c.args.bench.now.hold to.reverses t.result.bytes c.copy.ensures (taken-part x.stands c.requires.source x (rw c.with.ensures.parts at c.count-t.ensures)) (took x.stands c.requires.source x (rw c.with.ensures.parts at c.count-t.ensures)).bytes_is in
+    let held = held-turned c.args.bench.now.hold to.reverses t.result.amount.bytes c.copy.ensures (taken-part x.stands c.requires.source x (rw c.with.ensures.parts at c.count-t.ensures)) (took x.stands c.requires.source x (rw c.with.ensures.parts at c.count-t.ensures)).bytes_is in
     writable x.stands c.requires.source x (rw c.with.ensures.parts at c.count-t.ensures) from.removes to.j c.requires.target to.reverses to.at_end held (sym c.has_room.ensures ∙ c.if-not-has_room.false) c.past_parts.ensures
 
 pub returns : goal.returns
@@ -48,7 +48,7 @@ returns c =
     let argsᶜ = c.args in
     let from = argsᶜ.source in
     let to = argsᶜ.target in
-    let held = held-turned argsᶜ.bench.now.hold to.reverses t.result.bytes c.copy.ensures (taken-part x.stands c.requires.source x (rw c.with.ensures.parts at c.count-t.ensures)) (took x.stands c.requires.source x (rw c.with.ensures.parts at c.count-t.ensures)).bytes_is in
+    let held = held-turned argsᶜ.bench.now.hold to.reverses t.result.amount.bytes c.copy.ensures (taken-part x.stands c.requires.source x (rw c.with.ensures.parts at c.count-t.ensures)) (took x.stands c.requires.source x (rw c.with.ensures.parts at c.count-t.ensures)).bytes_is in
     done x.stands (sent (until_in argsᶜ.test argsᶜ.bench.now.given) from.removes from.i to.reverses to.at_end to.j)
     (sent-done x.stands c.requires.source x (rw c.with.ensures.parts at c.count-t.ensures) from.removes to.j c.requires.target to.reverses to.at_end held
-    (one-after argsᶜ.bench.now.state (past (nth (reading from.removes) from.i) t.result.parts) (λ z. minus_unless t.result.reached (into (nth (writing to.at_end) to.j) (components_in (take t.result.bytes c.copy.new.out)) z)) c.past_parts.ensures c.deliver.ensures))
+    (one-after argsᶜ.bench.now.state (past (nth (reading from.removes) from.i) t.result.amount.parts) (λ z. minus_unless t.result.reached (into (nth (writing to.at_end) to.j) (components_in (take t.result.amount.bytes c.copy.new.out)) z)) c.past_parts.ensures c.deliver.ensures))

@@ -1,33 +1,35 @@
 -- `operands::replace` meets its contract.
-use mathlib.Core.Path.{◌≡◌}
-use mathlib.Core.Bool.{false, cond}
+use native.Mathlib.Omega.{arith}
+use mathlib.Core.Bool.{false}
 use Rattle.layout.specs.Components.{components_in}
 use Rattle.machine.specs.Changes.{into, past}
 use Rattle.state.specs.Working.{nth, reading, writing}
 use Rattle.instructions.proofs.Answers.{one-after}
-use Rattle.operands.proofs.Replacing.{one-freed, full-parts, full-chars, writable, replaced-done}
+use Rattle.instructions.proofs.Room.{freed-few}
+use Rattle.operands.proofs.Replacing.{full-after, writable, replaced-done}
 use Rattle.operands.proofs.replace.Goals as goal
-use Rattle.operands.proofs.replace.Goals.{then-removes, else-removes}
 
-pub returns-then-freed-number : goal.returns-then-freed-number
-returns-then-freed-number c =
-    full-parts c.number.ensures.stands c.requires c.args.removes (one-freed c.args.removes c.from-freed.ensures) c.number.ensures.is c.if-freed-number.true
+pub returns-then-not-has_room_after : goal.returns-then-not-has_room_after
+returns-then-not-has_room_after c = full-after c.stands.ensures c.requires c.args.source.removes c.freed.ensures c.has_room_after.ensures c.if-not-has_room_after.true
 
-pub returns-then-freed_letters-number : goal.returns-then-freed_letters-number
-returns-then-freed_letters-number c =
-    let k : c.if-removes.freed_letters ≡ cond c.args.removes c.args.letters 0 =
-    elim c.if-removes.branch [ then-removes w ↦ rw w.if-removes.true w.freed_letters-is | else-removes w ↦ rw w.if-removes.false w.freed_letters-is ] in
-    full-chars c.number.ensures.stands c.requires c.args.removes k c.number-2.ensures.is c.if-freed_letters-number.true
+pub has_room_after-requires : goal.has_room_after-requires
+has_room_after-requires c =
+    record {
+      freed = freed-few c.args.first c.args.source.removes c.freed.ensures (record { parts_most = rw c.requires.single (omega arith); chars_most = c.requires.letters_most });
+      new = record { parts_most = c.requires.parts_most; chars_most = c.requires.chars_most };
+    }
+
+pub past_parts-requires : goal.past_parts-requires
+past_parts-requires c = record { index = c.requires.index; first = rw c.requires.single c.requires.first }
 
 pub write_parts-requires : goal.write_parts-requires
 write_parts-requires c =
-    let k : c.if-removes.freed_letters ≡ cond c.args.removes c.args.letters 0 =
-    elim c.if-removes.branch [ then-removes w ↦ rw w.if-removes.true w.freed_letters-is | else-removes w ↦ rw w.if-removes.false w.freed_letters-is ] in
-    let number = c.number.ensures in
-    writable number.stands c.requires c.args.removes (one-freed c.args.removes c.from-freed.ensures) number.is c.if-freed-number.false k c.number-2.ensures.is c.if-freed_letters-number.false c.past_parts.ensures
+    rw c.front.ensures
+    (writable c.stands.ensures c.requires c.args.source.removes c.freed.ensures c.has_room_after.ensures c.if-not-has_room_after.false c.past_parts.ensures)
 
 pub returns : goal.returns
 returns c =
-    let argsᶜ = c.args in
-    replaced-done c.number.ensures.stands c.requires argsᶜ.removes
-    (one-after argsᶜ.state.now (past (nth (reading argsᶜ.removes) argsᶜ.i) 1) (into (nth (writing false) argsᶜ.i) (components_in argsᶜ.new.now)) c.past_parts.ensures c.write_parts.ensures)
+    let a = c.args in
+    replaced-done c.stands.ensures c.requires a.source.removes
+    (one-after a.state.now (past (nth (reading a.source.removes) a.source.i) a.first.parts) (into (nth (writing false) a.source.i) (components_in a.new.now)) c.past_parts.ensures
+    (rw c.front.ensures at c.write_parts.ensures))

@@ -6,9 +6,9 @@ use Rattle.perform_files.proofs.do_wstaw.Goals as goal
 pub source_of-source-requires : goal.source_of-source-requires
 source_of-source-requires c = first-named c.requires ("AB", "CD", "-") refl tt
 
-pub file_of-target-requires : goal.file_of-target-requires
-file_of-target-requires c = second-named c.requires ("AB", "CD", "-") refl tt
+pub file_target_of-target-requires : goal.file_target_of-target-requires
+file_target_of-target-requires c = second-named c.requires ("AB", "CD", "-") refl tt
 
 pub returns : goal.returns
 returns c =
-    performed c.requires (c.source_of-source.ensures.is _) (c.file_of-target.ensures.is _) (third-none c.requires "AB" "CD" refl) c.wstaw.ensures
+    performed c.requires (c.source_of-source.ensures.is _) (c.file_target_of-target.ensures.is _) (third-none c.requires "AB" "CD" refl) c.wstaw.ensures

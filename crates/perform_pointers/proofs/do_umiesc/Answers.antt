@@ -16,11 +16,11 @@ target_of-target-requires c = to-expr c.requires c.in-Expression.is c.variable_o
 pub umiesc_expr-requires : goal.umiesc_expr-requires
 umiesc_expr-requires c = placeable c.requires (constant c.requires) c.target_of-target.ensures.below
 
-pub file_of-target-requires : goal.file_of-target-requires
-file_of-target-requires c = to-file c.requires c.in-File.is c.variable_of.ensures
+pub file_target_of-target-requires : goal.file_target_of-target-requires
+file_target_of-target-requires c = to-file c.requires c.in-File.is c.variable_of.ensures
 
 pub umiesc_file-requires : goal.umiesc_file-requires
-umiesc_file-requires c = placeable c.requires (constant c.requires) c.file_of-target.ensures.below
+umiesc_file-requires c = placeable c.requires (constant c.requires) c.file_target_of-target.ensures.below
 
 pub index_of-j-requires : goal.index_of-j-requires
 index_of-j-requires c = put-lettered c.requires
@@ -45,7 +45,7 @@ returns-in-Expression c =
 pub returns-in-File : goal.returns-in-File
 returns-in-File c =
     let w = c.requires in
-    performed w refl (c.file_of-target.ensures.is _) (none-third w) c.umiesc_file.ensures
+    performed w refl (c.file_target_of-target.ensures.is _) (none-third w) c.umiesc_file.ensures
 
 pub returns-in-Output : goal.returns-in-Output
 returns-in-Output c =

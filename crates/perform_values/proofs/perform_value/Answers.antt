@@ -25,26 +25,26 @@ index_of-i-requires c =
     (λ q. (sourced (known w (ap op_by q)) refl).lettered)
     c.args.instruction.op c.requires.one_of refl
 
-pub wk-requires : goal.wk-requires
-wk-requires c = pair-b (known c.requires.carrying (ap op_by c.in-WK.is)) c.index_of-i.ensures refl
+pub compare_numbers-requires : goal.compare_numbers-requires
+compare_numbers-requires c = pair-b (known c.requires.carrying (ap op_by c.in-WK.is)) c.index_of-i.ensures refl
 
-pub mn-requires : goal.mn-requires
-mn-requires c = pair-b (known c.requires.carrying (ap op_by c.in-MN.is)) c.index_of-i.ensures refl
+pub compare_numbers-requires-in-MN : goal.compare_numbers-requires-in-MN
+compare_numbers-requires-in-MN c = pair-b (known c.requires.carrying (ap op_by c.in-MN.is)) c.index_of-i.ensures refl
 
-pub pp-requires : goal.pp-requires
-pp-requires c = comparable (known c.requires.carrying (ap op_by c.in-PP.is)) c.index_of-i.ensures refl
+pub compare_words-requires : goal.compare_words-requires
+compare_words-requires c = comparable (known c.requires.carrying (ap op_by c.in-PP.is)) c.index_of-i.ensures refl
 
-pub ns-requires : goal.ns-requires
-ns-requires c = comparable (known c.requires.carrying (ap op_by c.in-NS.is)) c.index_of-i.ensures refl
+pub compare_words-requires-in-NS : goal.compare_words-requires-in-NS
+compare_words-requires-in-NS c = comparable (known c.requires.carrying (ap op_by c.in-NS.is)) c.index_of-i.ensures refl
 
-pub dodaj-requires : goal.dodaj-requires
-dodaj-requires c = pair-a (known c.requires.carrying (ap op_by c.in-DODAJ.is)) c.index_of-i.ensures refl
+pub compute-requires : goal.compute-requires
+compute-requires c = pair-a (known c.requires.carrying (ap op_by c.in-DODAJ.is)) c.index_of-i.ensures refl
 
-pub odejmij-requires : goal.odejmij-requires
-odejmij-requires c = pair-a (known c.requires.carrying (ap op_by c.in-ODEJMIJ.is)) c.index_of-i.ensures refl
+pub compute-requires-in-ODEJMIJ : goal.compute-requires-in-ODEJMIJ
+compute-requires-in-ODEJMIJ c = pair-a (known c.requires.carrying (ap op_by c.in-ODEJMIJ.is)) c.index_of-i.ensures refl
 
-pub mnoz-requires : goal.mnoz-requires
-mnoz-requires c = pair-a (known c.requires.carrying (ap op_by c.in-MNOZ.is)) c.index_of-i.ensures refl
+pub compute-requires-in-MNOZ : goal.compute-requires-in-MNOZ
+compute-requires-in-MNOZ c = pair-a (known c.requires.carrying (ap op_by c.in-MNOZ.is)) c.index_of-i.ensures refl
 
 pub dziel-requires : goal.dziel-requires
 dziel-requires c = pair-a (known c.requires.carrying (ap op_by c.in-DZIEL.is)) c.index_of-i.ensures refl
@@ -56,25 +56,25 @@ pub source_of-requires-in-LICZBA : goal.source_of-requires-in-LICZBA
 source_of-requires-in-LICZBA c = sourced (known c.requires.carrying (ap op_by c.in-LICZBA.is)) refl
 
 pub returns-in-WK : goal.returns-in-WK
-returns-in-WK c = done-b (known c.requires.carrying (ap op_by c.in-WK.is)) c.index_of-i.ensures "nB" refl (c.wk.ensures (table_of c.args.table.cells.now))
+returns-in-WK c = done-b (known c.requires.carrying (ap op_by c.in-WK.is)) c.index_of-i.ensures "nB" refl (c.compare_numbers.ensures (table_of c.args.table.cells.now))
 
 pub returns-in-MN : goal.returns-in-MN
-returns-in-MN c = done-b (known c.requires.carrying (ap op_by c.in-MN.is)) c.index_of-i.ensures "nB" refl (c.mn.ensures (table_of c.args.table.cells.now))
+returns-in-MN c = done-b (known c.requires.carrying (ap op_by c.in-MN.is)) c.index_of-i.ensures "nB" refl (c.compare_numbers-in-MN.ensures (table_of c.args.table.cells.now))
 
 pub returns-in-PP : goal.returns-in-PP
-returns-in-PP c = done-b (known c.requires.carrying (ap op_by c.in-PP.is)) c.index_of-i.ensures "tB" refl c.pp.ensures
+returns-in-PP c = done-b (known c.requires.carrying (ap op_by c.in-PP.is)) c.index_of-i.ensures "tB" refl c.compare_words.ensures
 
 pub returns-in-NS : goal.returns-in-NS
-returns-in-NS c = done-b (known c.requires.carrying (ap op_by c.in-NS.is)) c.index_of-i.ensures "tB" refl c.ns.ensures
+returns-in-NS c = done-b (known c.requires.carrying (ap op_by c.in-NS.is)) c.index_of-i.ensures "tB" refl c.compare_words-in-NS.ensures
 
 pub returns-in-DODAJ : goal.returns-in-DODAJ
-returns-in-DODAJ c = done-a (known c.requires.carrying (ap op_by c.in-DODAJ.is)) c.index_of-i.ensures "nB" refl (c.dodaj.ensures (table_of c.args.table.cells.now))
+returns-in-DODAJ c = done-a (known c.requires.carrying (ap op_by c.in-DODAJ.is)) c.index_of-i.ensures "nB" refl (c.compute.ensures (table_of c.args.table.cells.now))
 
 pub returns-in-ODEJMIJ : goal.returns-in-ODEJMIJ
-returns-in-ODEJMIJ c = done-a (known c.requires.carrying (ap op_by c.in-ODEJMIJ.is)) c.index_of-i.ensures "nB" refl (c.odejmij.ensures (table_of c.args.table.cells.now))
+returns-in-ODEJMIJ c = done-a (known c.requires.carrying (ap op_by c.in-ODEJMIJ.is)) c.index_of-i.ensures "nB" refl (c.compute-in-ODEJMIJ.ensures (table_of c.args.table.cells.now))
 
 pub returns-in-MNOZ : goal.returns-in-MNOZ
-returns-in-MNOZ c = done-a (known c.requires.carrying (ap op_by c.in-MNOZ.is)) c.index_of-i.ensures "nB" refl (c.mnoz.ensures (table_of c.args.table.cells.now))
+returns-in-MNOZ c = done-a (known c.requires.carrying (ap op_by c.in-MNOZ.is)) c.index_of-i.ensures "nB" refl (c.compute-in-MNOZ.ensures (table_of c.args.table.cells.now))
 
 pub returns-in-DZIEL : goal.returns-in-DZIEL
 returns-in-DZIEL c = done-a (known c.requires.carrying (ap op_by c.in-DZIEL.is)) c.index_of-i.ensures "nB" refl (c.dziel.ensures (table_of c.args.table.cells.now))

@@ -50,4 +50,4 @@ returns c =
     let n = c.join-n in
     done-right x.stands (spelled_out (until_in argsᶜ.test argsᶜ.bench.now.given) from.removes from.i argsᶜ.j) (words_right x.stands c.requires.source x (rw c.with.ensures.parts at c.count-t.ensures) ∙ not-false t.result.words c.if-not-t.false)
     (spelled-done x.stands c.requires.source x (rw c.with.ensures.parts at c.count-t.ensures) n.ensures from.removes argsᶜ.j
-    (one-after argsᶜ.bench.now.state (past (nth (reading from.removes) from.i) t.result.parts) (λ z. minus_unless t.result.reached (printed (nth Q argsᶜ.j) (take n.result n.new.out) z)) c.past_parts.ensures c.put_out.ensures))
+    (one-after argsᶜ.bench.now.state (past (nth (reading from.removes) from.i) t.result.amount.parts) (λ z. minus_unless t.result.reached (printed (nth Q argsᶜ.j) (take n.result n.new.out) z)) c.past_parts.ensures c.put_out.ensures))

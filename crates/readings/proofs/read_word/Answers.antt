@@ -12,8 +12,8 @@ pub returns-then-not-has_word_room : goal.returns-then-not-has_word_room
 returns-then-not-has_word_room c =
     word-full c.unread-rest.ensures (rw c.with.ensures.firsts at c.take_chars-t.ensures) c.requires.target c.args.target.at_end c.has_word_room.ensures c.if-not-has_word_room.true
 
-pub shared_ref_as_front-new : goal.shared_ref_as_front-new
-shared_ref_as_front-new c = word-inside c.unread-rest.ensures (rw c.with.ensures.firsts at c.take_chars-t.ensures) c.requires.target c.has_word_room.ensures c.if-not-has_word_room.false c.make_word-n.ensures
+pub shared_ref_as_front-deliver : goal.shared_ref_as_front-deliver
+shared_ref_as_front-deliver c = word-inside c.unread-rest.ensures (rw c.with.ensures.firsts at c.take_chars-t.ensures) c.requires.target c.has_word_room.ensures c.if-not-has_word_room.false c.make_word-n.ensures
 
 pub deliver-requires : goal.deliver-requires
 deliver-requires c =

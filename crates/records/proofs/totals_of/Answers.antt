@@ -17,18 +17,18 @@ split_record-requires c = let (at, l, g) = c.loop-r.invariant in cut-whole g.cut
 pub contents_of-requires : goal.contents_of-requires
 contents_of-requires c = let f = c.in-Some.ensures in record-starts f
 
-pub count-t-requires : goal.count-t-requires
-count-t-requires c = record { whole = whole-components c.contents_of.ensures.cells; fitting = tt }
+pub count-requires : goal.count-requires
+count-requires c = record { whole = whole-components c.contents_of.ensures.cells; fitting = tt }
 
 pub overflow_add-parts : goal.overflow_add-parts
 overflow_add-parts c =
     let (at, l, g) = c.loop-r.invariant in
-    omega (arith, g.parts_most, g.cut.within, all-taken (contents-here l c.in-Some.ensures c.contents_of.ensures) c.count-t.ensures)
+    omega (arith, g.parts_most, g.cut.within, all-taken (contents-here l c.in-Some.ensures c.contents_of.ensures) c.count.ensures)
 
 pub overflow_add-chars : goal.overflow_add-chars
 overflow_add-chars c =
     let (at, l, g) = c.loop-r.invariant in
-    omega (arith, g.chars_most, g.cut.within, all-taken (contents-here l c.in-Some.ensures c.contents_of.ensures) c.count-t.ensures)
+    omega (arith, g.chars_most, g.cut.within, all-taken (contents-here l c.in-Some.ensures c.contents_of.ensures) c.count.ensures)
 
 pub loop-r-smaller : goal.loop-r-smaller
 loop-r-smaller c = let f = c.in-Some.ensures in omega (arith, record-cells f, record-some f)
@@ -37,7 +37,7 @@ pub loop-r-preserved : goal.loop-r-preserved
 loop-r-preserved c =
     let (at, l, g) = c.loop-r.invariant in
     let f = c.in-Some.ensures in
-    (at + length c.in-Some.r.now, left_next l f, summing-next g (ends_here l f) (all-taken (contents-here l f c.contents_of.ensures) c.count-t.ensures))
+    (at + length c.in-Some.r.now, left_next l f, summing-next g (ends_here l f) (all-taken (contents-here l f c.contents_of.ensures) c.count.ensures))
 
 pub returns : goal.returns
 returns c = let (at, l, g) = c.loop-r.invariant in summing-end g (left-end l c.in_default.ensures)

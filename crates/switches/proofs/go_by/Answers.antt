@@ -4,7 +4,7 @@ use Rattle.std.proofs.lemmas.Result.{err_from_is_err_and}
 use Rattle.instructions.specs.Questions.{told_by}
 use Rattle.instructions.proofs.Asking.{some}
 use Rattle.jumps.proofs.Leading.{led-there}
-use Rattle.switches.specs.Switches.{going_by}
+use Rattle.jumps.specs.Jumps.{going_by}
 use Rattle.switches.proofs.Rows.{fronted-after, went-by, went-full}
 use Rattle.switches.proofs.go_by.Goals as goal
 

@@ -1,6 +1,8 @@
 -- `transfers::pobierz` meets its contract.
+use mathlib.Core.Path.{ap}
 use native.Mathlib.Omega.{arith}
 use Rattle.layout.proofs.ComponentLaws.{whole-components}
+use Rattle.components.specs.declared.Amount.{Amount}
 use Rattle.transfers.proofs.Rooms.{left_most}
 use Rattle.transfers.proofs.Fetching.{pobierz-none, parts_most, chars_most, first, pobierz-full, pobierz-writable, pobierz-done}
 use Rattle.transfers.proofs.pobierz.Goals as goal
@@ -19,8 +21,8 @@ has_room-requires c =
     let s = c.args.source in
     let t = c.args.target in
     record {
-      parts_most = left_most s.removes c.left.ensures (parts_most c.stands.ensures s.removes c.requires.first c.after_bytes-f.ensures t.reverses t.at_end c.requires.second c.if-f-eq0.false c.contents_of-x.ensures c.count-t.ensures);
-      chars_most = left_most s.removes c.left-2.ensures (chars_most c.stands.ensures s.removes c.requires.first c.after_bytes-f.ensures t.reverses t.at_end c.requires.second c.if-f-eq0.false c.contents_of-x.ensures c.count-t.ensures);
+      parts_most = left_most s.removes (ap (λ (r : Amount). r.parts) c.amount_left.ensures) (parts_most c.stands.ensures s.removes c.requires.first c.after_bytes-f.ensures t.reverses t.at_end c.requires.second c.if-f-eq0.false c.contents_of-x.ensures c.count-t.ensures);
+      chars_most = left_most s.removes (ap (λ (r : Amount). r.chars) c.amount_left.ensures) (chars_most c.stands.ensures s.removes c.requires.first c.after_bytes-f.ensures t.reverses t.at_end c.requires.second c.if-f-eq0.false c.contents_of-x.ensures c.count-t.ensures);
     }
 
 pub returns-then-not-has_room : goal.returns-then-not-has_room
@@ -28,7 +30,7 @@ returns-then-not-has_room c =
     let s = c.args.source in
     let t = c.args.target in
     pobierz-full c.stands.ensures s.removes c.requires.first c.after_bytes-f.ensures t.reverses t.at_end c.requires.second c.if-f-eq0.false c.contents_of-x.ensures c.count-t.ensures
-    c.left.ensures c.left-2.ensures c.has_room.ensures c.if-not-has_room.true
+    (ap (λ (r : Amount). r.parts) c.amount_left.ensures) (ap (λ (r : Amount). r.chars) c.amount_left.ensures) c.has_room.ensures c.if-not-has_room.true
 
 pub copy-requires : goal.copy-requires
 copy-requires c =
@@ -51,11 +53,11 @@ write_parts-requires c =
     let s = c.args.source in
     let t = c.args.target in
     pobierz-writable c.stands.ensures s.removes c.requires.first c.after_bytes-f.ensures t.reverses t.at_end c.requires.second c.if-f-eq0.false c.contents_of-x.ensures c.count-t.ensures
-    c.left.ensures c.left-2.ensures c.has_room.ensures c.if-not-has_room.false c.args.bench.now.hold c.copy.ensures c.past_records.ensures
+    (ap (λ (r : Amount). r.parts) c.amount_left.ensures) (ap (λ (r : Amount). r.chars) c.amount_left.ensures) c.has_room.ensures c.if-not-has_room.false c.args.bench.now.hold c.copy.ensures c.past_records.ensures
 
 pub returns : goal.returns
 returns c =
     let s = c.args.source in
     let t = c.args.target in
     pobierz-done c.stands.ensures s.removes c.requires.first c.after_bytes-f.ensures t.reverses t.at_end c.requires.second c.if-f-eq0.false c.contents_of-x.ensures c.count-t.ensures
-    c.left.ensures c.left-2.ensures c.has_room.ensures c.if-not-has_room.false c.args.bench.now.hold c.copy.ensures c.past_records.ensures c.write_parts.ensures
+    (ap (λ (r : Amount). r.parts) c.amount_left.ensures) (ap (λ (r : Amount). r.chars) c.amount_left.ensures) c.has_room.ensures c.if-not-has_room.false c.args.bench.now.hold c.copy.ensures c.past_records.ensures c.write_parts.ensures

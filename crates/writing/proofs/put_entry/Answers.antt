@@ -29,4 +29,5 @@ returns c =
     let entries = c.entries-n in
     let switches = c.switches in
     let read = c.read-switch in
-    entry_done c.args.table.now write.new.cells write2.new.cells c.write-3.new.cells entries.result switches.result read.result c.args.label c.args.text c.requires.long entries.ensures.is (omega (arith, entries.ensures.is, c.requires.room)) switches.ensures.is (omega (arith, switches.ensures.is, c.requires.some)) (omega (arith, switches.ensures.is, c.requires.few)) c.requires.label_low read.ensures.is write.ensures write2.ensures c.write-3.ensures
+    rw (← c.number.ensures)
+    (entry_done c.args.table.now write.new.cells write2.new.cells c.write-3.new.cells entries.result switches.result read.result c.args.label c.number.result c.requires.long entries.ensures.is (omega (arith, entries.ensures.is, c.requires.room)) switches.ensures.is (omega (arith, switches.ensures.is, c.requires.some)) (omega (arith, switches.ensures.is, c.requires.few)) c.requires.label_low read.ensures.is write.ensures write2.ensures c.write-3.ensures)

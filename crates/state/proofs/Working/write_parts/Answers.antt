@@ -11,7 +11,7 @@ pub raise-requires : goal.raise-requires
 raise-requires c = parts-raisable (held c.self.invariant c.self.view_is) c.requires true
 
 pub invariant_of-self : goal.invariant_of-self
-invariant_of-self c = stands (parts-written (held c.self.invariant c.self.view_is) c.requires c.args.at_end c.push.ensures c.raise.ensures)
+invariant_of-self c = stands (parts-written (held c.self.invariant c.self.view_is) c.requires c.args.target.at_end c.push.ensures c.raise.ensures)
 
 pub returns : goal.returns
-returns c = becomes (parts-written (held c.self.invariant c.self.view_is) c.requires c.args.at_end c.push.ensures c.raise.ensures)
+returns c = becomes (parts-written (held c.self.invariant c.self.view_is) c.requires c.args.target.at_end c.push.ensures c.raise.ensures)

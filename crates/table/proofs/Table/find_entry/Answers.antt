@@ -1,20 +1,20 @@
 -- `table::Table::find_entry` meets its contract.
-use mathlib.Core.Path.{sym, ◌∙◌}
 use native.Mathlib.Omega.{arith}
-use Rattle.table.proofs.Keys.{search-on, search-found, search-end}
+use borrow.Author.Tests.{tests}
+use Rattle.std.proofs.Common.{rules}
+use Rattle.std.proofs.lemmas.Iterator.{serves_from_Range}
+use Prim.Native.Nat.{◌+◌}
+use Rattle.table.specs.Reads.{Keyed}
+use Rattle.table.proofs.Keys.{entry_hit, first_hit, entry_found}
 use Rattle.table.proofs.Table.find_entry.Goals as goal
 
-pub returns-then-meets : goal.returns-then-meets
-returns-then-meets c =
-    let h = c.loop-k in
-    search-found c.args.self.cells.now c.args.word.now c.args.first c.args.count h.k h.invariant c.loop-k-test.true (sym c.if-meets.true ∙ c.meets.ensures)
-
-pub loop-k-preserved : goal.loop-k-preserved
-loop-k-preserved c =
-    let h = c.loop-k in
-    search-on c.args.self.cells.now c.args.word.now c.args.first c.args.count h.k h.invariant c.loop-k-test.true (sym c.if-meets.false ∙ c.meets.ensures)
+pub find-requires-clause-callable : goal.find-requires-clause-callable
+find-requires-clause-callable c =
+    serves_from_Range (λ x q k. (search (rules, tests))) (λ x a b y e.
+    let k : Keyed c.args.self.cells.now (c.args.first + y.now) = rw e (c.requires.keyed x b) in
+    (λ l p n w v u t f g. omega (arith, e, b, c.requires.inside), λ l p n w v u t f g h. k))
 
 pub returns : goal.returns
 returns c =
-    let h = c.loop-k in
-    search-end c.args.self.cells.now c.args.word.now c.args.first c.args.count h.k h.invariant (omega arith)
+    entry_found c.args.self.cells.now c.args.word.now c.args.first c.args.count _
+    (first_hit (entry_hit c.args.self.cells.now c.args.word.now c.args.first c.args.count) _ _ _ _ c.find.ensures.ran (λ x b q k. search (rules, tests)))

@@ -1,0 +1,9 @@
+-- `instructions::has_room_after` meets its contract.
+use Rattle.instructions.proofs.Room.{no_room, room-left}
+use Rattle.instructions.proofs.has_room_after.Goals as goal
+
+pub returns-then-freed-parts : goal.returns-then-freed-parts
+returns-then-freed-parts c = no_room c.args.freed.parts c.args.new.parts _ c.number.ensures.is c.if-freed-parts.true
+
+pub returns : goal.returns
+returns c = room-left c.args.freed.parts c.args.freed.chars c.args.new.parts c.args.new.chars c.number.ensures.is c.if-freed-parts.false c.number-2.ensures.is
